@@ -1,0 +1,4 @@
+pub mod Names
+pub mod Transactions
+pub mod Snapshots
+pub mod Stored

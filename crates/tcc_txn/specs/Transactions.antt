@@ -1,0 +1,22 @@
+-- Operations and transactions.
+use Rattle.std.specs.Prelude.{ℕ, ◌+◌, Bool, false, ◌==◌, nat_lt, if◌then◌else◌, List, length, Option, None, Some, position}
+use Rattle.std.specs.Option.{option_map_or}
+use Rattle.tcc_txn.specs.declared.op.Op.{Op}
+use Rattle.tcc_txn.specs.declared.op.Op.TheVariants.{Get, Put}
+use Rattle.tcc_txn.specs.declared.txn.TxnFault.{TxnFault}
+use Rattle.tcc_txn.specs.declared.txn.TxnFault.TheVariants.{WriteOfZero, TooManyOps}
+
+-- what a session did between a begin and its end, and whether it was committed
+pub record Transaction : Type 0 where
+  pub ops : List Op
+  pub committed : Bool
+
+-- writes the initial value
+abbrev pub writes_zero : Op → Bool
+writes_zero (Get key value) = false
+writes_zero (Put key value) = value == 0
+
+-- why the operations make no transaction: one at a place, counted from 1, writes 0, or there are more than 256
+abbrev pub txn_fault : List Op → Option TxnFault
+txn_fault ops =
+    option_map_or (λ i. Some (WriteOfZero (i + 1))) (position writes_zero ops) (if nat_lt 256 (length ops) then Some TooManyOps else None)

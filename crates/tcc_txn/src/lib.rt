@@ -1,0 +1,12 @@
+//! Records of sessions to transactions: names, operations, transactions and snapshots.
+#![tactic(auto)]
+
+mod memory;
+mod name;
+mod op;
+mod txn;
+
+pub use memory::NoMemory;
+pub use name::{Name, NameFault};
+pub use op::Op;
+pub use txn::{Txn, TxnFault};

@@ -1,0 +1,170 @@
+//! Names of sessions and keys.
+ghost use Rattle.std.specs.Prelude.{◌≡◌, ◌≤◌, ◌<◌, ℕ, List, length, refl, Some, Ok, nat_eq, slice_index, position, not};
+ghost use Rattle.std.specs.Ordering.{nat_cmp};
+ghost use Rattle.std.specs.Hash as fed;
+ghost use Rattle.std.specs.Cmp.Lexicographic.{pointwise, slice_cmp, nat_list_eq_equiv, nat_list_cmp_total, texts_ties, texts_po};
+ghost use Rattle.std.specs.Cmp.{partial_equiv_from_equiv};
+ghost use Rattle.std.specs.Cmp.Rules.{hashing};
+ghost use Rattle.std.proofs.Common.{rules};
+ghost use Rattle.tcc_txn.specs.Names.{is_name_byte, name_fault, name_of};
+
+use crate::NoMemory;
+use std::cmp::Ordering;
+use std::hash::{Hash, Hasher};
+use std::marker::Model;
+use thiserror::Error;
+
+/// Why some bytes are no name.
+#[derive(Clone, Copy, Debug, PartialEq, Eq, Error)]
+pub enum NameFault {
+    /// There are no bytes.
+    #[error("a name has at least one byte")]
+    Empty,
+    /// There are more than 32 bytes.
+    #[error("a name has at most 32 bytes")]
+    TooLong,
+    /// The first byte that no name has, counted from 1.
+    #[error("byte {at} cannot stand in a name")]
+    BadByte { at: usize },
+    /// Want of memory; never answered, since a name lies in itself.
+    #[error("out of memory")]
+    NoMemory,
+}
+
+/// The name of a session or a key: 1 to 32 bytes out of `A-Z`, `a-z`, `0-9`, `_`, `.` and `-`.
+pub struct Name {
+    len: u8,
+    buffer: [u8; 32],
+}
+
+impl Model for Name {
+    ghost use Rattle.std.specs.Prelude.{ℕ, List, length, take};
+    ghost use Rattle.tcc_txn.specs.Names.{padded, IsStored};
+
+    ghost Value = { List ℕ };
+
+    ghost view = { λ n. take n.len n.buffer };
+
+    ghost invariant = { λ n. IsStored n.len n.buffer };
+
+    ghost inverse = { λ bytes. record { len = length bytes; buffer = padded bytes } };
+
+    ghost use Rattle.tcc_txn.specs.Stored.{stored_again};
+
+    ghost inverse_ok = { stored_again };
+}
+
+impl Clone for Name {
+    fn clone(&self) -> Result<Name, std::alloc::AllocError> {
+        Ok(*self)
+    }
+}
+
+impl Copy for Name {}
+
+fn is_name_byte(byte: u8) -> bool
+    ensures { result ≡ is_name_byte byte }
+{
+    byte.is_ascii_alphanumeric() || byte == b'_' || byte == b'.' || byte == b'-'
+}
+
+/// The first byte that stands in no name.
+fn first_bad_byte(bytes: &[u8]) -> Option<usize>
+    ensures { result ≡ position (λ b. not (is_name_byte b)) bytes.now }
+{
+    bytes.iter().position(|byte| !is_name_byte(*byte))
+}
+
+fn fault_of(bytes: &[u8]) -> Option<NameFault>
+    ensures { result ≡ name_fault bytes.now }
+{
+    if bytes.is_empty() {
+        return Some(NameFault::Empty);
+    }
+    if bytes.len() > 32 {
+        return Some(NameFault::TooLong);
+    }
+    let before = first_bad_byte(bytes)?;
+    Some(NameFault::BadByte { at: before + 1 })
+}
+
+impl Name {
+    /// The name that the bytes are.
+    pub fn read(bytes: &[u8]) -> Result<Name, NameFault>
+        ensures { result ≡ name_of bytes.now }
+    {
+        if let Some(fault) = fault_of(bytes) {
+            return Err(fault);
+        }
+        let mut buffer = [0; 32];
+        buffer[..bytes.len()].copy_from_slice(bytes);
+        Ok(Name {
+            len: bytes.len() as u8,
+            buffer,
+        })
+    }
+
+    /// The bytes of the name.
+    pub fn bytes(&self) -> &[u8]
+        ensures value { result.now ≡ self.now }
+        ensures some { 0 < length result.now }
+        ensures short { length result.now ≤ 32 }
+    {
+        &self.buffer[..self.len as usize]
+    }
+
+    /// An equal name.
+    pub fn copy(&self) -> Result<Name, NoMemory>
+        ensures { result ≡ Ok self.now }
+    {
+        Ok(*self)
+    }
+}
+
+impl PartialEq for Name {
+    ghost eq = { pointwise nat_eq };
+
+    ghost laws = { partial_equiv_from_equiv nat_list_eq_equiv };
+
+    fn eq(&self, other: &Name) -> bool {
+        self.bytes() == other.bytes()
+    }
+}
+
+impl Eq for Name {
+    ghost laws = { nat_list_eq_equiv };
+}
+
+impl PartialOrd for Name {
+    ghost partial_cmp = { λ a b. Some (slice_cmp nat_cmp a b) };
+
+    ghost laws = { texts_po };
+
+    fn partial_cmp(&self, other: &Name) -> Option<Ordering> {
+        Some(self.cmp(other))
+    }
+}
+
+impl Ord for Name {
+    ghost cmp = { slice_cmp nat_cmp };
+
+    ghost total = { nat_list_cmp_total };
+
+    ghost matches_partial_cmp = { λ a b. refl };
+
+    ghost matches_eq = { texts_ties };
+
+    fn cmp(&self, other: &Name) -> Ordering {
+        self.bytes().cmp(other.bytes())
+    }
+}
+
+impl Hash for Name {
+    ghost hash_input = { fed.slice fed.u8 };
+
+    ghost respects_eq = { Prim.search (hashing, rules) };
+
+    fn hash<H: Hasher>(&self, state: &mut H) {
+        self.bytes().hash(state);
+    }
+}

@@ -1,0 +1,87 @@
+//! Finished transactions.
+ghost use Rattle.std.specs.Prelude.{◌≡◌, ◌≤◌, ℕ, length, None, Some, IfOk, MatchResult, position};
+ghost use Rattle.tcc_txn.specs.Transactions.{writes_zero, txn_fault};
+
+use crate::{NoMemory, Op};
+use std::alloc::Global;
+use std::marker::Model;
+use thiserror::Error;
+
+/// Why some operations make no transaction.
+#[derive(Clone, Copy, Debug, PartialEq, Eq, Error)]
+pub enum TxnFault {
+    /// The first operation that writes 0, counted from 1.
+    #[error("operation {at} writes 0")]
+    WriteOfZero { at: usize },
+    /// There are more than 256 operations.
+    #[error("a transaction has at most 256 operations")]
+    TooManyOps,
+}
+
+/// A finished transaction: up to 256 operations, of which none writes 0, and how it ended.
+#[derive(Drop)]
+pub struct Txn {
+    ops: Vec<Op>,
+    committed: bool,
+}
+
+impl Model for Txn {
+    ghost use Rattle.std.specs.Prelude.{◌≡◌, None};
+    ghost use Rattle.tcc_txn.specs.Transactions.{Transaction, txn_fault};
+
+    ghost Value = { Transaction };
+
+    ghost view = { λ t. record { ops = t.ops.items; committed = t.committed } };
+
+    ghost invariant = { λ t. txn_fault t.ops.items ≡ None };
+}
+
+/// The first operation that writes 0.
+fn first_write_of_zero(ops: &[Op]) -> Option<usize>
+    ensures { result ≡ position writes_zero ops.now }
+{
+    ops.iter()
+        .position(|op| matches!(op, Op::Put { value: 0, .. }))
+}
+
+impl Txn {
+    /// The transaction of these operations.
+    pub fn new(ops: Vec<Op>, committed: bool) -> Result<Txn, (TxnFault, Vec<Op>)>
+        ensures { MatchResult result
+            (λ t. (txn_fault ops.items ≡ None) × (t.ops ≡ ops.items) × (t.committed ≡ committed))
+            (λ e. (txn_fault ops.items ≡ Some e.0) × (e.1.items ≡ ops.items)) }
+    {
+        if let Some(before) = first_write_of_zero(&ops) {
+            return Err((TxnFault::WriteOfZero { at: before + 1 }, ops));
+        }
+        if ops.len() > 256 {
+            return Err((TxnFault::TooManyOps, ops));
+        }
+        Ok(Txn { ops, committed })
+    }
+
+    /// Its operations, in order.
+    pub fn ops(&self) -> &[Op]
+        ensures value { result.now ≡ self.now.ops }
+        ensures few { length result.now ≤ 256 }
+    {
+        &self.ops
+    }
+
+    /// Whether it was committed.
+    pub fn committed(&self) -> bool
+        ensures { result ≡ self.now.committed }
+    {
+        self.committed
+    }
+
+    /// An equal transaction.
+    pub fn copy(&self, alloc: Global) -> Result<Txn, NoMemory>
+        ensures { IfOk result (λ copy. copy ≡ self.now) }
+    {
+        Ok(Txn {
+            ops: self.ops.as_slice().to_vec(alloc)?,
+            committed: self.committed,
+        })
+    }
+}
