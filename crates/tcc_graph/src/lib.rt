@@ -1,0 +1,2 @@
+//! The two relations of a resolved history, as tables.
+#![tactic(auto)]
