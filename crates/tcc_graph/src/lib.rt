@@ -1,2 +1,10 @@
-//! The two relations of a resolved history, as tables.
+//! The two relations of a resolved history, and the steps and links that answers are made of.
 #![tactic(auto)]
+
+mod link;
+mod step;
+mod walk;
+
+pub use link::Link;
+pub use step::Step;
+pub use walk::Walk;
