@@ -1,12 +1,12 @@
 -- Small histories, worked out by hand, that the definitions have to agree with.
-use Rattle.std.proofs.Common.{ℕ, ◌≡◌, ◌≢◌, ◌<◌, List, [], ◌∷◌, length, refl, arith, true, false}
+use Rattle.std.proofs.Common.{ℕ, ◌≡◌, List, [], ◌∷◌, length, refl, arith}
 use Rattle.std.specs.Prelude.{codes}
 use Rattle.std.specs.declared.cmp.Ordering.TheVariants.{Less, Greater}
 use Rattle.tcc_reads.specs.History.{Entry, History, initial, count}
-use Rattle.tcc_graph.specs.Relations.{session_pair, reads_from, causal_pair}
-use Rattle.tcc_graph.specs.Keys.{keys, writers, readers}
+use Rattle.tcc_graph.specs.Relations.{reads_from}
+use Rattle.tcc_graph.specs.Keys.{writers, readers}
 use Rattle.tcc_graph.specs.Walks.{IsWalk}
-use Rattle.tcc_graph.specs.Links.{IsReason, IsLink, cost, link_cost}
+use Rattle.tcc_graph.specs.Links.{IsLink, cost, link_cost}
 use Rattle.tcc_graph.specs.Routes.{IsCycle}
 use Rattle.tcc_graph.specs.Ties.{walk_cmp, link_cmp, cycle_cmp}
 use Rattle.tcc_graph.specs.declared.step.Step.{Step}

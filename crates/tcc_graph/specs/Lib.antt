@@ -6,3 +6,4 @@ pub mod Routes
 pub mod Orders
 pub mod Ties
 pub mod Answers
+pub mod Grouped

@@ -1,8 +1,10 @@
 //! The two relations of a resolved history, and the steps and links that answers are made of.
 #![tactic(auto)]
 
+mod grouped;
 mod link;
 mod step;
+mod transaction;
 mod walk;
 
 pub use link::Link;
