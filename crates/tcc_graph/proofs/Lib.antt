@@ -1,2 +1,3 @@
 pub mod GroupedLemmas
+pub mod TableLemmas
 pub mod Worked

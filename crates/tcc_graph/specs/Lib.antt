@@ -7,3 +7,4 @@ pub mod Orders
 pub mod Ties
 pub mod Answers
 pub mod Grouped
+pub mod Tables

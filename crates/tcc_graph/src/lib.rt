@@ -4,6 +4,7 @@
 mod grouped;
 mod link;
 mod step;
+mod tables;
 mod transaction;
 mod walk;
 
