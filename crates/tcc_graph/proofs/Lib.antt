@@ -1,3 +1,4 @@
 pub mod GroupedLemmas
+pub mod LastLemmas
 pub mod TableLemmas
 pub mod Worked

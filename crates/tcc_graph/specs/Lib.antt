@@ -8,3 +8,4 @@ pub mod Ties
 pub mod Answers
 pub mod Grouped
 pub mod Tables
+pub mod KeyRows

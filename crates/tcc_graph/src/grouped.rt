@@ -2,6 +2,7 @@
 ghost use Rattle.std.specs.Prelude.{◌≡◌, ◌≤◌, ◌++◌, [], ◌∷◌, All, OnOk};
 ghost use Rattle.std.specs.List.Sorted.{IsNonDecreasing};
 ghost use Rattle.tcc_graph.specs.Grouped.{of_group, IsSpan};
+ghost use Rattle.tcc_graph.specs.KeyRows.{is_last, is_last_pair};
 
 use std::alloc::Global;
 use std::marker::Model;
@@ -65,5 +66,24 @@ impl<T: Copy> Grouped<T> {
     {
         let (start, end) = span(&self.groups, group);
         &self.values[start..end]
+    }
+}
+
+/// Whether the number is the last one.
+pub(crate) fn is_last(numbers: &[u32], number: u32) -> bool
+    ensures { result ≡ is_last numbers.now number }
+{
+    match numbers.last() {
+        Some(last) => *last == number,
+        None => false,
+    }
+}
+
+impl Grouped<u32> {
+    /// Whether the value, in this group, is the last one.
+    pub(crate) fn is_last(&self, group: u32, value: u32) -> bool
+        ensures { result ≡ is_last_pair self.now group value }
+    {
+        is_last(&self.groups, group) && is_last(&self.values, value)
     }
 }

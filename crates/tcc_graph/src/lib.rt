@@ -2,6 +2,7 @@
 #![tactic(auto)]
 
 mod grouped;
+mod key_row;
 mod link;
 mod step;
 mod tables;
