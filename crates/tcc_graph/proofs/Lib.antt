@@ -1,4 +1,6 @@
 pub mod GroupedLemmas
+pub mod KeyRowLemmas
 pub mod LastLemmas
+pub mod NameLemmas
 pub mod TableLemmas
 pub mod Worked

@@ -3,6 +3,7 @@
 
 mod grouped;
 mod key_row;
+mod key_table;
 mod link;
 mod step;
 mod tables;
