@@ -1,5 +1,6 @@
 pub mod GroupedLemmas
 pub mod KeyRowLemmas
+pub mod KeyTableLemmas
 pub mod LastLemmas
 pub mod NameLemmas
 pub mod TableLemmas
