@@ -1,9 +1,9 @@
 -- The keys of a history, and who writes and who reads them.
-use Rattle.std.specs.Prelude.{ℕ, ◌<◌, ◌≡◌, Bool, true, ◌||◌, ◌==◌, List, [], ◌++◌, map, filter, flat_map, if◌then◌else◌, bytes_eq}
+use Rattle.std.specs.Prelude.{ℕ, ◌<◌, ◌≡◌, Bool, true, ◌||◌, ◌==◌, List, [], ◌++◌, map, filter, flat_map, fold, if◌then◌else◌, bytes_eq}
 use Rattle.std.specs.List.{list_any, range_with_len}
 use Rattle.std.specs.Ordering.{nat_cmp}
 use Rattle.std.specs.Cmp.Lexicographic.{slice_cmp}
-use Rattle.std.specs.FinSet.{from_list, items}
+use Rattle.std.specs.BTreeSet.{insert_key}
 use Rattle.tcc_reads.specs.History.{Entry, History, count, entry_at}
 use Rattle.tcc_graph.specs.Relations.{reads_from}
 
@@ -16,9 +16,13 @@ has_name names x = list_any (bytes_eq x) names
 abbrev pub keys_of : Entry → List (List ℕ)
 keys_of e = e.writes ++ map (λ read. read.0) e.reads
 
+-- the names, each put at its place in byte order unless it is there already
+abbrev pub with_names : List (List ℕ) → List (List ℕ) → List (List ℕ)
+with_names sorted names = fold (insert_key (slice_cmp nat_cmp)) sorted names
+
 -- the keys in operations of committed transactions, in byte order, each once
 abbrev pub keys : History → List (List ℕ)
-keys h = items (from_list {R = slice_cmp nat_cmp} (flat_map keys_of h.entries))
+keys h = with_names [] (flat_map keys_of h.entries)
 
 abbrev pub is_key : History → List ℕ → Bool
 is_key h x = list_any (λ e. has_name (keys_of e) x) h.entries

@@ -4,6 +4,7 @@
 mod grouped;
 mod key_row;
 mod key_table;
+mod keys;
 mod link;
 mod step;
 mod tables;
