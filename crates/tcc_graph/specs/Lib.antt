@@ -9,3 +9,5 @@ pub mod Answers
 pub mod Grouped
 pub mod Tables
 pub mod KeyRows
+pub mod Numbers
+pub mod Graphs
