@@ -1,6 +1,6 @@
 -- The tables of a graph.
 use Rattle.std.specs.Prelude.{ℕ, ◌<◌, ◌≤◌, ◌≡◌, ◌==◌, Bool, List, [], ◌∷◌, ◌++◌, length, map, filter, slice_index_or, All}
-use Rattle.tcc_reads.specs.History.{Entry, History}
+use Rattle.tcc_reads.specs.History.{Entry, History, initial}
 use Rattle.tcc_graph.specs.Relations.{reads_from}
 use Rattle.tcc_graph.specs.Grouped.{as_group, groups}
 
@@ -26,6 +26,14 @@ pub record IsReadTable (entries : List Entry) (n : ℕ) (table : List (List (ℕ
   pub long : length table ≡ length entries
   pub rows : (a : ℕ) → a < length entries → row_of table a ≡ groups (reads_from (over entries) a) n
 
--- each transaction's reads have sources among the transactions
-pub record HasSources (entries : List Entry) : Type 0 where
-  pub sources : All (λ e. All (λ read. read.1 < length entries) e.reads) entries
+-- each read of a transaction has its source among n transactions
+abbrev pub HasSources : ℕ → Entry → Type 0
+HasSources n e = All (λ read. read.1 < n) e.reads
+
+-- the transactions of a history, which are few, have sessions and read from one another
+pub record IsListOf (h : History) (entries : List Entry) : Type 0 where
+  pub is : entries ≡ h.entries
+  pub some : 0 < length entries
+  pub few : length entries ≤ 1024
+  pub owners : (n : ℕ) → 0 < n → n < length entries → (slice_index_or entries n initial).owner < length h.sessions
+  pub sources : All (HasSources (length entries)) entries
