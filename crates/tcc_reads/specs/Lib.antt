@@ -1,1 +1,4 @@
 pub mod History
+pub mod Sites
+pub mod Sources
+pub mod Faults

@@ -1,0 +1,15 @@
+//! Transactions, where they stand in a snapshot.
+use tcc_txn::{Name, Txn};
+
+/// A transaction, where it stands.
+pub(crate) struct Standing<'a> {
+    /// The index of its session, in byte order of the names.
+    pub session: u32,
+    /// The name of its session.
+    pub name: Name,
+    /// Its place in the session, from 1, aborted ones counted.
+    pub place: u32,
+    /// One more than the committed transactions before it: its number, if it was committed.
+    pub number: u32,
+    pub txn: &'a Txn,
+}
