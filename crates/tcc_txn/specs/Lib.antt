@@ -2,3 +2,4 @@ pub mod Names
 pub mod Transactions
 pub mod Snapshots
 pub mod Stored
+pub mod SnapshotStorage

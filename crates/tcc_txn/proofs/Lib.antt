@@ -1,0 +1,4 @@
+pub mod Parts
+pub mod SortedParts
+pub mod SnapshotFaults
+pub mod StoredSnapshot
