@@ -2,3 +2,4 @@ pub mod Parts
 pub mod SortedParts
 pub mod SnapshotFaults
 pub mod StoredSnapshot
+mod LimitFacts

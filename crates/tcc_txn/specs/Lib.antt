@@ -1,3 +1,4 @@
+pub mod ByteLimit
 pub mod Names
 pub mod Transactions
 pub mod Snapshots
