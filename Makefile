@@ -5,7 +5,6 @@
 # The toolchain's `rt` has to be on the path, and Python 3; nothing else is needed, and nothing to be done before.
 
 PREFIX ?= /usr/local
-MAKEFLAGS += --no-print-directory
 
 .PHONY: run test install
 
