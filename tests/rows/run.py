@@ -18,7 +18,7 @@ import tempfile
 HERE = pathlib.Path(__file__).resolve().parent
 TOP = HERE.parent.parent
 NEEDED = {"about", "arguments", "status"}
-FIELDS = NEEDED | {"input", "cut", "files", "output", "output_to", "errors", "certificate"}
+FIELDS = NEEDED | {"input", "input_from", "cut", "files", "output", "output_to", "errors", "certificate"}
 
 
 def text(parts):
@@ -84,16 +84,26 @@ def shown(line):
     return "no such line" if line is None else repr(line[:120].decode(errors="backslashreplace"))
 
 
+def finished(words, run, output, seconds):
+    with open(run.get("output_to", output), "wb") as out:
+        streams = {"stdout": out, "stderr": subprocess.PIPE, "timeout": seconds}
+        if "input_from" not in run:
+            return subprocess.run(words, input=text(run.get("input", []))[: run.get("cut")], **streams)
+        given = os.open(run["input_from"], os.O_RDONLY)
+        try:
+            return subprocess.run(words, stdin=given, **streams)
+        finally:
+            os.close(given)
+
+
 def difference(tcc, run, seconds):
     """What the program did otherwise than wanted, or None."""
     with tempfile.TemporaryDirectory() as folder:
         for name, parts in run.get("files", {}).items():
             pathlib.Path(folder, name).write_bytes(text(parts))
         words = [os.fsencode(word) for word in tcc] + [argument(word, folder) for word in run["arguments"]]
-        given = text(run.get("input", []))[: run.get("cut")]
         try:
-            with open(run.get("output_to", os.path.join(folder, "standard-output")), "wb") as out:
-                done = subprocess.run(words, input=given, stdout=out, stderr=subprocess.PIPE, timeout=seconds)
+            done = finished(words, run, os.path.join(folder, "standard-output"), seconds)
         except subprocess.TimeoutExpired:
             return "no end after %g seconds" % seconds
         except OSError as error:
