@@ -1,5 +1,5 @@
 #!/usr/bin/env python3
-"""All tests: the merge gate, which proves, tests and builds everything from nothing, and then the rows on the built program.
+"""All tests: the merge gate, which proves everything from nothing, and then the rows on the program that it built.
 
 The last line is `N passed, M failed`, the sum of both; the status is 0 only where both passed.
 """
