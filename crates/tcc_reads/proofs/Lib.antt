@@ -1,1 +1,3 @@
 pub mod WorkedRows
+pub mod Ties
+pub mod Tables

@@ -1,5 +1,5 @@
 -- The faults of reads and writes: operations that no source explains.
-use Rattle.std.specs.Prelude.{ℕ, Bool, false, not, ◌&&◌, ◌==◌, if◌then◌else◌, List, [], find, filter_map, length, Option, None, Some, option_map, is_some}
+use Rattle.std.specs.Prelude.{ℕ, Bool, false, not, ◌&&◌, ◌==◌, if◌then◌else◌, List, [], find, filter_map, length, Option, None, Some, option_map}
 use Rattle.std.specs.List.{list_any}
 use Rattle.std.specs.Str.{bytes_eq}
 use Rattle.tcc_txn.specs.Snapshots.{Sessions}
@@ -9,7 +9,7 @@ use Rattle.tcc_reads.specs.declared.fault.ReadFault.{ReadFault}
 use Rattle.tcc_reads.specs.declared.fault.ReadFaultKind.{ReadFaultKind}
 use Rattle.tcc_reads.specs.declared.fault.ReadFaultKind.TheVariants.{Duplicate, BrokenInternal, ThinAir, Aborted, Intermediate, Future}
 use Rattle.tcc_reads.specs.Sites.{Stand, stands, Site, at, sites}
-use Rattle.tcc_reads.specs.Sources.{value_put, visible_write}
+use Rattle.tcc_reads.specs.Sources.{puts_at, visible_write}
 
 abbrev pub op_key : Op → List ℕ
 op_key (Get key value) = key
@@ -37,7 +37,7 @@ is_same_site a b = is_same_transaction a.stand b.stand && (at a == at b)
 
 -- whether no later operation of its transaction writes the key of this one
 abbrev pub is_last_at_key : Site → Bool
-is_last_at_key write = not (list_any (λ op. is_some (value_put (op_key write.op) op)) write.after)
+is_last_at_key write = not (list_any (puts_at (op_key write.op)) write.after)
 
 -- a write, by the writer of its value
 abbrev pub write_kind : Site → Option Site → Option ReadFaultKind

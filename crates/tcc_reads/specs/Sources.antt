@@ -13,6 +13,11 @@ use Rattle.tcc_txn.specs.declared.op.Op.TheVariants.{Get, Put}
 use Rattle.tcc_reads.specs.History.{Entry, History, initial}
 use Rattle.tcc_reads.specs.Sites.{Stand, is_committed, stands, committed, Site, sites_of}
 
+-- whether an operation writes a key
+abbrev pub puts_at : List ℕ → Op → Bool
+puts_at x (Get key value) = false
+puts_at x (Put key value) = bytes_eq key x
+
 -- the value that an operation writes at a key
 abbrev pub value_put : List ℕ → Op → Option ℕ
 value_put x (Get key value) = None
@@ -49,9 +54,9 @@ source all x value = if value == 0 then 0 else option_map_or (λ i. i + 1) (posi
 abbrev pub name_cmp : List ℕ → List ℕ → Ordering
 name_cmp = slice_cmp nat_cmp
 
--- by key in byte order, then by number
-abbrev pub read_cmp : List ℕ × ℕ → List ℕ × ℕ → Ordering
-read_cmp a b = ordering_then (name_cmp a.0 b.0) (nat_cmp a.1 b.1)
+-- by name, then by number
+abbrev pub pair_cmp : List ℕ × ℕ → List ℕ × ℕ → Ordering
+pair_cmp a b = ordering_then (name_cmp a.0 b.0) (nat_cmp a.1 b.1)
 
 -- the items in order, each once
 abbrev pub sorted_once : {K : Type 0} → (K → K → Ordering) → List K → List K
@@ -68,7 +73,7 @@ external_reads stand = filter_map external_read (sites_of stand)
 
 -- and as key and source
 abbrev pub reads_of : List Stand → Stand → List (List ℕ × ℕ)
-reads_of all stand = sorted_once read_cmp (map (λ r. (r.0, source all r.0 r.1)) (external_reads stand))
+reads_of all stand = sorted_once pair_cmp (map (λ r. (r.0, source all r.0 r.1)) (external_reads stand))
 
 -- a committed transaction, as the graph sees it
 abbrev pub entry_of : List Stand → Stand → Entry
