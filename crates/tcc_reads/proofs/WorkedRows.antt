@@ -66,9 +66,9 @@ written_again = refl
 
 -- two faults of every kind
 pub every_kind_twice : faults (
-      (a, committed (Put x 1 ∷ Put x 2 ∷ []) ∷ aborted (Put y 1 ∷ Get z 9 ∷ Put x 1 ∷ []) ∷ []) ∷
-      (b, committed (Get x 1 ∷ Get y 1 ∷ Get z 5 ∷ Put z 5 ∷ Get z 6 ∷ Get z 0 ∷ []) ∷ []) ∷
-      (c, committed (Put z 5 ∷ Get z 5 ∷ Get x 3 ∷ Get y 3 ∷ Get y 1 ∷ Get x 1 ∷ []) ∷ committed (Get y 2 ∷ Put y 2 ∷ Get z 0 ∷ []) ∷ []) ∷ [])
+    (a, committed (Put x 1 ∷ Put x 2 ∷ []) ∷ aborted (Put y 1 ∷ Get z 9 ∷ Put x 1 ∷ []) ∷ []) ∷
+    (b, committed (Get x 1 ∷ Get y 1 ∷ Get z 5 ∷ Put z 5 ∷ Get z 6 ∷ Get z 0 ∷ []) ∷ []) ∷
+    (c, committed (Put z 5 ∷ Get z 5 ∷ Get x 3 ∷ Get y 3 ∷ Get y 1 ∷ Get x 1 ∷ []) ∷ committed (Get y 2 ∷ Put y 2 ∷ Get z 0 ∷ []) ∷ []) ∷ [])
     ≡ fault a 2 3 x 1 Duplicate
     ∷ fault b 1 1 x 1 Intermediate
     ∷ fault b 1 2 y 1 Aborted
@@ -89,8 +89,8 @@ entry owner place writes reads = record { owner = owner; place = place; writes =
 
 -- an aborted transaction has a place and no number; each pair stands once, in order; an internal read gives none
 pub numbers_and_sources : history_of (a ∷ b ∷ c ∷ []) (stands_from 0 (
-      (a, aborted (Put x 9 ∷ []) ∷ committed (Put y 1 ∷ Put x 1 ∷ Put x 2 ∷ Get x 2 ∷ []) ∷ []) ∷
-      (b, []) ∷
-      (c, committed (Get y 1 ∷ Get x 2 ∷ Get z 0 ∷ Get y 1 ∷ Get y 0 ∷ []) ∷ committed [] ∷ []) ∷ []))
+    (a, aborted (Put x 9 ∷ []) ∷ committed (Put y 1 ∷ Put x 1 ∷ Put x 2 ∷ Get x 2 ∷ []) ∷ []) ∷
+    (b, []) ∷
+    (c, committed (Get y 1 ∷ Get x 2 ∷ Get z 0 ∷ Get y 1 ∷ Get y 0 ∷ []) ∷ committed [] ∷ []) ∷ []))
     ≡ record { sessions = a ∷ b ∷ c ∷ []; entries = initial ∷ entry 0 2 (x ∷ y ∷ []) [] ∷ entry 2 1 [] ((x, 1) ∷ (y, 0) ∷ (y, 1) ∷ (z, 0) ∷ []) ∷ entry 2 2 [] [] ∷ [] }
 numbers_and_sources = refl

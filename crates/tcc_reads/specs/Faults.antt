@@ -67,7 +67,7 @@ kind_at all site (Get key value) =
 abbrev pub fault_at : List Stand → Site → Option ReadFault
 fault_at all site =
     option_map (λ kind. record { session = site.stand.name; place = site.stand.place; op = at site; key = op_key site.op; value = op_value site.op; kind = kind })
-      (kind_at all site site.op)
+    (kind_at all site site.op)
 
 abbrev pub faults_of : List Stand → List ReadFault
 faults_of all = filter_map (fault_at all) (sites all)

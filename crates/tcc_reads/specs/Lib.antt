@@ -4,3 +4,5 @@ pub mod Numbers
 pub mod Sources
 pub mod Faults
 pub mod Verdicts
+pub mod Stored
+pub mod Refusals

@@ -20,7 +20,7 @@ numbered_from number (stand ∷ later) = record { number = number; stand = stand
 abbrev pub numbered_code : Coded Numbered
 numbered_code =
     code_by ((ℕ × ℕ) × (List ℕ × (ℕ × Transaction)))
-      (coded× (coded× coded_ℕ coded_ℕ) (coded× (coded_list coded_ℕ) (coded× coded_ℕ transaction_code)))
-      (λ n. ((n.number, n.stand.session), (n.stand.name, (n.stand.place, n.stand.txn))))
-      (λ p. record { number = p.0.0; stand = record { session = p.0.1; name = p.1.0; place = p.1.1.0; txn = p.1.1.1 } })
-      (λ _. refl)
+    (coded× (coded× coded_ℕ coded_ℕ) (coded× (coded_list coded_ℕ) (coded× coded_ℕ transaction_code)))
+    (λ n. ((n.number, n.stand.session), (n.stand.name, (n.stand.place, n.stand.txn))))
+    (λ p. record { number = p.0.0; stand = record { session = p.0.1; name = p.1.0; place = p.1.1.0; txn = p.1.1.1 } })
+    (λ _. refl)

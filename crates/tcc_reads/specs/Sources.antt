@@ -1,6 +1,7 @@
 -- Visible writes, external reads and their sources: the history of a snapshot.
-use Rattle.std.specs.Prelude.{ℕ, ◌+◌, Bool, false, ◌&&◌, ◌==◌, if◌then◌else◌, List, [], ◌∷◌, map, position, filter_map, Option, None, Some, is_none}
-use Rattle.std.specs.Option.{option_or, option_eq, option_map_or}
+use Rattle.std.specs.Prelude.{ℕ, Bool, false, ◌==◌, if◌then◌else◌, List, [], ◌∷◌, map, filter_map, unwrap_or, Option, None, Some, is_none}
+use Rattle.std.specs.Option.{option_or, option_eq}
+use Rattle.std.specs.List.{position_from}
 use Rattle.std.specs.declared.cmp.Ordering.{Ordering}
 use Rattle.std.specs.Ordering.{nat_cmp, ordering_then}
 use Rattle.std.specs.Cmp.Lexicographic.{slice_cmp}
@@ -49,7 +50,7 @@ shows x value stand = option_eq ◌==◌ (visible_write x stand.txn.ops) (Some v
 -- the source of an external read: the initial transaction for 0, else the number of the committed transaction that
 -- shows the value
 abbrev pub source : List Stand → List ℕ → ℕ → ℕ
-source all x value = if value == 0 then 0 else option_map_or (λ i. i + 1) (position (shows x value) (committed all)) 0
+source all x value = if value == 0 then 0 else unwrap_or (position_from (shows x value) 1 (committed all)) 0
 
 abbrev pub name_cmp : List ℕ → List ℕ → Ordering
 name_cmp = slice_cmp nat_cmp

@@ -1,4 +1,7 @@
 //! Why a snapshot's reads have no sources.
+ghost use Rattle.std.specs.Prelude.{◌≡◌};
+ghost use Rattle.tcc_reads.specs.declared.fault.ResolveFault.TheVariants.{NoMemory};
+
 use std::alloc::{AllocError, AllocFailed};
 use tcc_txn::Name;
 use thiserror::Error;
@@ -55,12 +58,16 @@ pub enum ResolveFault {
 }
 
 impl From<AllocError> for ResolveFault {
+    ghost from_gives = { λ _ e. e ≡ NoMemory };
+
     fn from(_error: AllocError) -> ResolveFault {
         ResolveFault::NoMemory
     }
 }
 
 impl<T: Drop> From<AllocFailed<T>> for ResolveFault {
+    ghost from_gives = { λ _ e. e ≡ NoMemory };
+
     fn from(_error: AllocFailed<T>) -> ResolveFault {
         ResolveFault::NoMemory
     }

@@ -3,8 +3,16 @@
 
 mod fault;
 mod judging;
+mod numbering;
+mod resolved;
+mod resolver;
 mod sorting;
 mod standing;
 mod writers;
 
 pub use fault::{ReadFault, ReadFaultKind, ResolveFault};
+pub use resolved::Resolved;
+pub use resolver::resolve;
+
+#[cfg(test)]
+mod tests;

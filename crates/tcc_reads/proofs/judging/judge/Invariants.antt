@@ -10,5 +10,5 @@ invariant-loop-before l =
     record {
       own : AreVisibleWrites l.own (take l.before l.ops);
       faults : l.faults.items ++ filter_map (fault_found (held l.writers) l.standing) ahead ≡ l.initial.faults.items ++ faults_found (held l.writers) l.standing;
-      reads : l.reads.items ++ filter_map (source_found (held l.writers) l.standing) ahead ≡ sources_found (held l.writers) l.standing
+      reads : l.reads.items ++ filter_map (source_found (held l.writers) l.standing) ahead ≡ sources_found (held l.writers) l.standing;
     }
