@@ -35,7 +35,7 @@ few_bytes bytes found = (grind (arith, nat_tests, found), grind (arith, nat_test
 pub stored_in_front : (bytes : List ℕ) → name_fault bytes ≡ None → IsStored (length bytes) (bytes ++ drop (length bytes) (replicate 32 0))
 stored_in_front bytes found =
     let front : take (length bytes) (bytes ++ drop (length bytes) (replicate 32 0)) ≡ bytes
-      = take_at bytes (drop (length bytes) (replicate 32 0)) (length bytes) refl in
+    = take_at bytes (drop (length bytes) (replicate 32 0)) (length bytes) refl in
     record {
       short = (few_bytes bytes found).1;
       whole = rw front (ap (λ rest. bytes ++ rest) (drop-replicate (length bytes) 32 0));

@@ -22,5 +22,5 @@ returns c =
     let bytes : List ℕ = c.args.bytes.now in
     let none : name_fault bytes ≡ None = sym c.fault_of.ensures ∙ c.in_default.is in
     rw (c.copy_from_slice.ensures.after)
-      (ap Ok (take_at bytes (drop (length bytes) (replicate 32 0)) (length bytes) refl)
-      ∙ sym (ap (λ fault. option_map_or Err fault (Ok bytes)) none))
+    (ap Ok (take_at bytes (drop (length bytes) (replicate 32 0)) (length bytes) refl)
+    ∙ sym (ap (λ fault. option_map_or Err fault (Ok bytes)) none))

@@ -1,0 +1,5 @@
+pub mod Parts
+pub mod SortedParts
+pub mod SnapshotFaults
+pub mod StoredSnapshot
+mod LimitFacts
