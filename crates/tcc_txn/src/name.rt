@@ -118,7 +118,8 @@ impl Name {
     pub fn copy(&self) -> Result<Name, NoMemory>
         ensures { result ≡ Ok self.now }
     {
-        Ok(*self)
+        let name = *self;
+        Ok(name)
     }
 }
 
