@@ -1,0 +1,118 @@
+//! The bound and its steps.
+ghost use Rattle.std.specs.Prelude.{◌≡◌, ℕ, ◌<◌, ◌≤◌, ◌^◌, [], IfOk};
+ghost use Rattle.tcc_bound.specs.Holding.{newcomer, told, offered, split_off, joined, IsAtMostAll};
+ghost use Rattle.tcc_bound.specs.Rule.{IsNamed};
+ghost use Rattle.tcc_bound.specs.declared.known.View.TheVariants.{Unnamed};
+
+use crate::NoMemory;
+use crate::known::View;
+use crate::rule::{AtMostAll, Floor, Joining, Looking, Naming, Offering, Splitting};
+use crate::seat::Seat;
+use atomic_table::{Seat as Token, Shared, Table};
+use std::alloc::Global;
+use std::marker::{Brand, Model};
+
+/// The least cost that was offered, in one word that all threads share; `u64::MAX` where there is none.
+#[derive(Drop)]
+pub struct Bound {
+    table: Table<(), View, (), AtMostAll, Global>,
+}
+
+impl Model for Bound {
+    ghost use Rattle.std.specs.Prelude.{◌≡◌};
+    ghost use Rattle.atomic_table.specs.Seated.{TableId, table_id_coded};
+
+    ghost Value = { TableId };
+
+    ghost coded = { table_id_coded };
+
+    ghost view = { λ b. b.table.shared.table_id };
+
+    ghost invariant = { λ b. (b.table.shared.table_id.words ≡ 1) × (b.table.shared.table_id.slots ≡ 0) };
+}
+
+fn name<F: Floor>(shared: &Shared<(), View, (), AtMostAll>, token: &mut Token<(), View>)
+    requires table { (token.old.table_id ≡ shared.now.table_id) × (shared.now.table_id.words ≡ 1) }
+    requires first { token.old.me ≡ (Unnamed, []) }
+    requires floor { F.number < 2 ^ 64 }
+    ensures table { token.new.table_id ≡ token.old.table_id }
+    ensures named { IsNamed F.number token.new.me }
+{
+    shared.load::<Naming<F>>(token, 0);
+}
+
+impl Bound {
+    /// A bound to which nothing was offered, and its first seat. The caller names the floor, for contracts alone: no offer may be below it.
+    pub fn new(alloc: Global) -> Result<(Bound, Seat), NoMemory>
+        ghost floor: { ℕ }
+        requires { floor < 2 ^ 64 }
+        ensures { IfOk result (λ made. made.1 ≡ newcomer made.0 floor) }
+    {
+        let (table, mut token) = Table::of_words(alloc, &[u64::MAX], &())?;
+        name::<Brand>(&table.shared, &mut token);
+        Ok((Bound { table }, Seat { token }))
+    }
+
+    /// Another seat, for another thread. It begins with what the seat saw, and with no offers.
+    pub fn split(&self, seat: &mut Seat) -> Seat
+        requires { seat.old.bound ≡ self.now }
+        ensures same { seat.new ≡ seat.old }
+        ensures new { result ≡ split_off seat.old }
+    {
+        Seat {
+            token: self.table.shared.split_seat::<Splitting>(&mut seat.token),
+        }
+    }
+
+    /// Takes in another seat: its offers count as the seat's own from now on, and the lower sight is kept.
+    pub fn join(&self, seat: &mut Seat, other: Seat)
+        requires seat { seat.old.bound ≡ self.now }
+        requires other { other.bound ≡ self.now }
+        ensures { seat.new ≡ joined seat.old other }
+    {
+        let Seat { token } = other;
+        self.table
+            .shared
+            .join_seat::<Joining>(&mut seat.token, token);
+    }
+
+    /// The word as it is: at most all that the seat offered or saw, and not below the floor.
+    pub fn look(&self, seat: &mut Seat) -> u64
+        requires { seat.old.bound ≡ self.now }
+        ensures least { IsAtMostAll result seat.old }
+        ensures floor { seat.old.floor ≤ result }
+        ensures seat { seat.new ≡ told seat.old result }
+    {
+        self.table.shared.load::<Looking>(&mut seat.token, 0)
+    }
+
+    /// Lowers the word to the cost, unless it is lower already, and answers it as it then is.
+    pub fn offer(&self, seat: &mut Seat, cost: u64) -> u64
+        requires bound { seat.old.bound ≡ self.now }
+        requires cost { (seat.old.floor ≤ cost) × (cost < u64.MAX) }
+        ensures cost { result ≤ cost }
+        ensures least { IsAtMostAll result seat.old }
+        ensures floor { seat.old.floor ≤ result }
+        ensures seat { seat.new ≡ told (offered seat.old cost) result }
+    {
+        let found = self
+            .table
+            .shared
+            .fetch_min::<Offering>(&mut seat.token, 0, cost);
+        found.min(cost)
+    }
+
+    /// The word as the bound ends: at most all that the seat, and each that was joined into it, offered or saw, and not below the floor.
+    pub fn close(self, seat: Seat) -> u64
+        requires { seat.bound ≡ self }
+        ensures least { IsAtMostAll result seat }
+        ensures floor { seat.floor ≤ result }
+    {
+        let Bound { table } = self;
+        let Seat { token } = seat;
+        let closed = table.close_with(token);
+        let word = closed.word(0);
+        closed.free();
+        word
+    }
+}
