@@ -9,34 +9,34 @@ use Rattle.atomic_table.proofs.Lists.{at_set, at_snoc, set_again, set_else, set_
 use Rattle.tcc_bound.specs.declared.known.Known.{Known}
 use Rattle.tcc_bound.specs.declared.known.View.{View}
 use Rattle.tcc_bound.specs.declared.known.View.TheVariants.{Unnamed, Live, Spent}
-use Rattle.tcc_bound.specs.Holding.{no_cost}
-use Rattle.tcc_bound.specs.Rule.{IsBelow, Fits, IsKept, IsNew, Holds, known_of, Own, live, IsLive, IsNamed, Looks, Offers, without_offers, both_of}
+use Rattle.tcc_bound.specs.Knowing.{no_cost, IsAtMostAll, newcomer, told, offered, split_off, joined}
+use Rattle.tcc_bound.specs.Rule.{Agrees, IsKept, IsNew, Holds, known_of, Own, live, IsLive, Looks, Offers, cut, glued}
 
 -- the rule, of a table without slots
 abbrev pub Ruled : State (Unit {0}) View → Type 0
 Ruled s = Holds s.words s.views
 
 -- what fits a word fits a lower one
-lowered : (low word floor : ℕ) (view : View) → low ≤ word → Fits word floor view → Fits low floor view
+lowered : (low word floor : ℕ) (view : View) → low ≤ word → Agrees word floor view → Agrees low floor view
 lowered low word floor Unnamed le fits = fits
 lowered low word floor (Live known) le fits = ((le_trans le fits.0.0, λ i d lt. le_trans le (fits.0.1 i d lt)), fits.1)
 lowered low word floor Spent le fits = tt
 
 -- the word falls or stays, and one view changes: the others fit as before
-falls : (views : List View) (seat low word floor : ℕ) (new : View) → low ≤ word → Fits low floor new
-    → ((i : ℕ) (view : View) → get_elem? views i ≡ some view → Fits word floor view)
-    → (i : ℕ) (view : View) → get_elem? (set views seat new) i ≡ some view → Fits low floor view
+falls : (views : List View) (seat low word floor : ℕ) (new : View) → low ≤ word → Agrees low floor new
+    → ((i : ℕ) (view : View) → get_elem? views i ≡ some view → Agrees word floor view)
+    → (i : ℕ) (view : View) → get_elem? (set views seat new) i ≡ some view → Agrees low floor view
 falls views seat low word floor new le fits others i view at =
-    ⊎_elim (λ (t : (i ≡ seat) × (new ≡ view)). subst (Fits low floor) t.1 fits)
+    ⊎_elim (λ (t : (i ≡ seat) × (new ≡ view)). subst (Agrees low floor) t.1 fits)
     (λ (t : (i ≢ seat) × (get_elem? views i ≡ some view)). lowered low word floor view le (others i view t.1))
     (at_set views seat i new view at)
 
 -- one view more
-grows : (views : List View) (word floor : ℕ) (new : View) → Fits word floor new
-    → ((i : ℕ) (view : View) → get_elem? views i ≡ some view → Fits word floor view)
-    → (i : ℕ) (view : View) → get_elem? (views ++ new ∷ []) i ≡ some view → Fits word floor view
+grows : (views : List View) (word floor : ℕ) (new : View) → Agrees word floor new
+    → ((i : ℕ) (view : View) → get_elem? views i ≡ some view → Agrees word floor view)
+    → (i : ℕ) (view : View) → get_elem? (views ++ new ∷ []) i ≡ some view → Agrees word floor view
 grows views word floor new fits others i view at =
-    ⊎_elim (λ (was : get_elem? views i ≡ some view). others i view was) (λ (same : new ≡ view). subst (Fits word floor) same fits) (at_snoc views new view i at)
+    ⊎_elim (λ (was : get_elem? views i ≡ some view). others i view was) (λ (same : new ≡ view). subst (Agrees word floor) same fits) (at_snoc views new view i at)
 
 only_unnamed : (seat : ℕ) (known : Known) → get_elem? (Unnamed ∷ []) seat ≡ some (Live known) → ⊥
 only_unnamed zero known at = let e : Unnamed ≡ Live known = some-injective _ _ at in cc
@@ -48,19 +48,19 @@ kept_of words views seat known (inl new) at = absurd (only_unnamed seat known (s
 kept_of words views seat known (inr kept) at = kept
 
 -- what is below some number is below all that it is below
-under : (low word : ℕ) (known : Known) → low ≤ word → IsBelow word known → IsBelow low known
+under : (low word : ℕ) (known : Known) → low ≤ word → IsAtMostAll word known → IsAtMostAll low known
 under low word known le below = (le_trans le below.0, λ i d lt. le_trans le (below.1 i d lt))
 
 -- a step that leaves the word at `low`, no higher than it was
 turned : (words : List ℕ) (views : List View) (kept : IsKept words views) (seat low : ℕ) (new : View)
-    → low ≤ kept.word → kept.floor ≤ low → Fits low kept.floor new → Holds (slice_set words 0 low) (set views seat new)
+    → low ≤ kept.word → kept.floor ≤ low → Agrees low kept.floor new → Holds (slice_set words 0 low) (set views seat new)
 turned words views kept seat low new le above fits =
     inr record {
       word = low;
       floor = kept.floor;
       one_word = ap (λ (ws : List ℕ). slice_set ws 0 low) kept.one_word;
       above = above;
-      fits = falls views seat low kept.word kept.floor new le fits kept.fits;
+      agree = falls views seat low kept.word kept.floor new le fits kept.agree;
     }
 
 looks_as : (slots seat : ℕ) (known : Known) → Allows Ruled slots seat (Live known, []) 0 (λ n. n) (Looks (Live known, []))
@@ -68,16 +68,16 @@ looks_as slots seat known s holds homes at small =
     let kept = kept_of s.words s.views seat known holds at in
     let n : ℕ = slice_index s.words 0 in
     let found : n ≡ kept.word = ap (λ (ws : List ℕ). slice_index ws 0) kept.one_word in
-    let fits : Fits kept.word kept.floor (Live known) = kept.fits seat (Live known) at in
+    let fits : Agrees kept.word kept.floor (Live known) = kept.agree seat (Live known) at in
     let one_floor : known.floor ≡ kept.floor = fits.1 in
     let above : kept.floor ≤ kept.word = kept.above in
-    let below : IsBelow n known = under n kept.word known (omega arith) fits.0 in
-    let new : View = Live record { floor = known.floor; sight = n; offers = known.offers } in (
+    let below : IsAtMostAll n known = under n kept.word known (omega arith) fits.0 in
+    let new : View = Live (told known n) in (
       new,
       keeps,
       tt,
       turned s.words s.views kept seat n new (omega arith) (omega arith) ((le_refl n, below.1), one_floor),
-      (refl, below, omega arith),
+      (below, (refl, omega arith)),
     )
 
 -- a load tells its seat the word
@@ -90,65 +90,65 @@ offers_as slots seat cost known dear s holds homes at small =
     let n : ℕ = slice_index s.words 0 in
     let low : ℕ = min n cost in
     let found : n ≡ kept.word = ap (λ (ws : List ℕ). slice_index ws 0) kept.one_word in
-    let fits : Fits kept.word kept.floor (Live known) = kept.fits seat (Live known) at in
+    let fits : Agrees kept.word kept.floor (Live known) = kept.agree seat (Live known) at in
     let one_floor : known.floor ≡ kept.floor = fits.1 in
     let above : kept.floor ≤ kept.word = kept.above in
     let left : low ≤ n = min-le_left n cost in
     let right : low ≤ cost = min-le_right n cost in
     let over : known.floor ≤ low = le-min (omega arith) dear in
-    let below : IsBelow low known = under low kept.word known (omega arith) fits.0 in
-    let new : View = Live record { floor = known.floor; sight = low; offers = known.offers ++ cost ∷ [] } in (
+    let below : IsAtMostAll low known = under low kept.word known (omega arith) fits.0 in
+    let new : View = Live (told (offered known cost) low) in (
       new,
       keeps,
       tt,
       turned s.words s.views kept seat low new (omega arith) (omega arith) ((le_refl low, All-push (λ (c : ℕ). low ≤ c) known.offers cost below.1 right), one_floor),
-      (refl, below, over),
+      (below, (refl, over)),
     )
 
 -- a `fetch_min` tells its seat what the word has become, and notes the cost
 pub offers : (slots seat cost : ℕ) (me : Own) → IsLive me → (known_of me.0).floor ≤ cost → Allows Ruled slots seat me 0 (λ n. min n cost) (Offers cost me)
 offers slots seat cost me is dear = subst (λ (m : Own). Allows Ruled slots seat m 0 (λ n. min n cost) (Offers cost m)) (sym is) (offers_as slots seat cost (known_of me.0) dear)
 
-splits_as : (seat : ℕ) (known : Known) → Splits Ruled seat (Live known) (Live known) (without_offers (Live known))
+splits_as : (seat : ℕ) (known : Known) → Splits Ruled seat (Live known) (Live known) (cut (Live known))
 splits_as seat known s holds at =
     let kept = kept_of s.words s.views seat known holds at in
-    let fits : Fits kept.word kept.floor (Live known) = kept.fits seat (Live known) at in
-    let new : View = without_offers (Live known) in
+    let fits : Agrees kept.word kept.floor (Live known) = kept.agree seat (Live known) at in
+    let new : View = cut (Live known) in
     let views : List View = set s.views seat (Live known) in
     inr record {
       word = kept.word;
       floor = kept.floor;
       one_word = kept.one_word;
       above = kept.above;
-      fits = grows views kept.word kept.floor new ((fits.0.0, All-nil (λ (c : ℕ). kept.word ≤ c)), fits.1)
-          (falls s.views seat kept.word kept.word kept.floor (Live known) (le_refl kept.word) fits kept.fits);
+      agree = grows views kept.word kept.floor new ((fits.0.0, All-nil (λ (c : ℕ). kept.word ≤ c)), fits.1)
+          (falls s.views seat kept.word kept.word kept.floor (Live known) (le_refl kept.word) fits kept.agree);
     }
 
 -- a seat that is split off has the sight and no offers
-pub splits : (seat : ℕ) (me : Own) → IsLive me → Splits Ruled seat me.0 me.0 (without_offers me.0)
-splits seat me is = subst (λ (m : Own). Splits Ruled seat m.0 m.0 (without_offers m.0)) (sym is) (splits_as seat (known_of me.0))
+pub splits : (seat : ℕ) (me : Own) → IsLive me → Splits Ruled seat me.0 me.0 (cut me.0)
+splits seat me is = subst (λ (m : Own). Splits Ruled seat m.0 m.0 (cut m.0)) (sym is) (splits_as seat (known_of me.0))
 
-joins_as : (seat other : ℕ) (known more : Known) → Joins Ruled seat (Live known) other (Live more) (both_of (Live known) (Live more)) Spent
+joins_as : (seat other : ℕ) (known more : Known) → Joins Ruled seat (Live known) other (Live more) (glued (Live known) (Live more)) Spent
 joins_as seat other known more s holds at apart there =
     let kept = kept_of s.words s.views seat known holds at in
-    let both : View = both_of (Live known) (Live more) in
-    let fits : Fits kept.word kept.floor (Live known) = kept.fits seat (Live known) at in
-    let theirs : Fits kept.word kept.floor (Live more) = kept.fits other (Live more) (sym (set_else s.views seat other both apart) ∙ there) in
-    let new : Fits kept.word kept.floor both = ((le-min fits.0.0 theirs.0.0, All-append (λ (c : ℕ). kept.word ≤ c) known.offers more.offers fits.0.1 theirs.0.1), fits.1) in
+    let both : View = glued (Live known) (Live more) in
+    let fits : Agrees kept.word kept.floor (Live known) = kept.agree seat (Live known) at in
+    let theirs : Agrees kept.word kept.floor (Live more) = kept.agree other (Live more) (sym (set_else s.views seat other both apart) ∙ there) in
+    let new : Agrees kept.word kept.floor both = ((le-min fits.0.0 theirs.0.0, All-append (λ (c : ℕ). kept.word ≤ c) known.offers more.offers fits.0.1 theirs.0.1), fits.1) in
     inr record {
       word = kept.word;
       floor = kept.floor;
       one_word = kept.one_word;
       above = kept.above;
-      fits = falls (set s.views seat both) other kept.word kept.word kept.floor Spent (le_refl kept.word) tt
-          (falls s.views seat kept.word kept.word kept.floor both (le_refl kept.word) new kept.fits);
+      agree = falls (set s.views seat both) other kept.word kept.word kept.floor Spent (le_refl kept.word) tt
+          (falls s.views seat kept.word kept.word kept.floor both (le_refl kept.word) new kept.agree);
     }
 
 -- a seat that takes in another has the offers of both and the lower sight, and the other counts no more
-pub joins : (seat other : ℕ) (me them : Own) → IsLive me → IsLive them → Joins Ruled seat me.0 other them.0 (both_of me.0 them.0) Spent
+pub joins : (seat other : ℕ) (me them : Own) → IsLive me → IsLive them → Joins Ruled seat me.0 other them.0 (glued me.0 them.0) Spent
 joins seat other me them is theirs =
-    subst (λ (m : Own). Joins Ruled seat m.0 other them.0 (both_of m.0 them.0) Spent) (sym is)
-    (subst (λ (m : Own). Joins Ruled seat (Live (known_of me.0)) other m.0 (both_of (Live (known_of me.0)) m.0) Spent) (sym theirs) (joins_as seat other (known_of me.0) (known_of them.0)))
+    subst (λ (m : Own). Joins Ruled seat m.0 other them.0 (glued m.0 them.0) Spent) (sym is)
+    (subst (λ (m : Own). Joins Ruled seat (Live (known_of me.0)) other m.0 (glued (Live (known_of me.0)) m.0) Spent) (sym theirs) (joins_as seat other (known_of me.0) (known_of them.0)))
 
 first_alone : (seat : ℕ) → get_elem? (Unnamed ∷ []) seat ≡ some Unnamed → seat ≡ 0
 first_alone zero at = refl
@@ -160,38 +160,38 @@ one_live known P holds (suc i) view at = absurd (some-ne-none view (sym at))
 
 -- the first seat is named while it is alone
 names_as : (seat number : ℕ) → number ≤ no_cost → (words : List ℕ) (views : List View) → IsNew words views → get_elem? views seat ≡ some Unnamed
-    → Holds (slice_set words 0 (slice_index words 0)) (set views seat (live number no_cost []).0)
+    → Holds (slice_set words 0 (slice_index words 0)) (set views seat (Live (newcomer number)))
 names_as seat number fits words views new at =
     let here : seat ≡ 0 = first_alone seat (subst (λ (vs : List View). get_elem? vs seat ≡ some Unnamed) new.one_seat at) in
-    let known : Known = record { floor = number; sight = no_cost; offers = [] } in
+    let known : Known = newcomer number in
     let named : IsKept (no_cost ∷ []) (Live known ∷ []) = record {
       word = no_cost;
       floor = number;
       one_word = refl;
       above = fits;
-      fits = one_live known (Fits no_cost number) ((le_refl no_cost, All-nil (λ (c : ℕ). no_cost ≤ c)), refl);
+      agree = one_live known (Agrees no_cost number) ((le_refl no_cost, All-nil (λ (c : ℕ). no_cost ≤ c)), refl);
     } in
     let one_word : slice_set words 0 (slice_index words 0) ≡ no_cost ∷ [] = ap (λ (ws : List ℕ). slice_set ws 0 (slice_index ws 0)) new.one_word in
     let one_view : set views seat (Live known) ≡ Live known ∷ [] = rw (new.one_seat, here) refl in
     inr (subst (λ (ws : List ℕ). IsKept ws (set views seat (Live known))) (sym one_word) (subst (λ (vs : List View). IsKept (no_cost ∷ []) vs) (sym one_view) named))
 
-names_from : (slots seat number : ℕ) → number ≤ no_cost → Allows Ruled slots seat (Unnamed, []) 0 (λ n. n) (λ found after. IsNamed number after)
-names_from slots seat number fits s (inl new) homes at small = ((live number no_cost []).0, keeps, tt, names_as seat number fits s.words s.views new at, refl)
-names_from slots seat number fits s (inr kept) homes at small = absurd (kept.fits seat Unnamed at)
+names_from : (slots seat number : ℕ) → number ≤ no_cost → Allows Ruled slots seat (Unnamed, []) 0 (λ n. n) (λ found after. after ≡ live (newcomer number))
+names_from slots seat number fits s (inl new) homes at small = (Live (newcomer number), keeps, tt, names_as seat number fits s.words s.views new at, refl)
+names_from slots seat number fits s (inr kept) homes at small = absurd (kept.agree seat Unnamed at)
 
 -- the load that names the floor
-pub names : (slots seat number : ℕ) (me : Own) → me ≡ (Unnamed, []) → number ≤ no_cost → Allows Ruled slots seat me 0 (λ n. n) (λ found after. IsNamed number after)
-names slots seat number me is fits = subst (λ (m : Own). Allows Ruled slots seat m 0 (λ n. n) (λ found after. IsNamed number after)) (sym is) (names_from slots seat number fits)
+pub names : (slots seat number : ℕ) (me : Own) → me ≡ (Unnamed, []) → number ≤ no_cost → Allows Ruled slots seat me 0 (λ n. n) (λ found after. after ≡ live (newcomer number))
+names slots seat number me is fits = subst (λ (m : Own). Allows Ruled slots seat m 0 (λ n. n) (λ found after. after ≡ live (newcomer number))) (sym is) (names_from slots seat number fits)
 
 -- a bound begins with nothing offered
 pub begins : Holds (no_cost ∷ []) (Unnamed ∷ [])
 begins = inl record { one_word = refl; one_seat = refl }
 
 ends_as : (seat word : ℕ) (known : Known) (s : State (Unit {0}) View) → Holds s.words s.views → get_elem? s.views seat ≡ some (Live known) → get_elem? s.words 0 ≡ some word
-    → IsBelow word known × (known.floor ≤ word)
+    → IsAtMostAll word known × (known.floor ≤ word)
 ends_as seat word known s holds at read =
     let kept = kept_of s.words s.views seat known holds at in
-    let fits : Fits kept.word kept.floor (Live known) = kept.fits seat (Live known) at in
+    let fits : Agrees kept.word kept.floor (Live known) = kept.agree seat (Live known) at in
     let one_floor : known.floor ≡ kept.floor = fits.1 in
     let above : kept.floor ≤ kept.word = kept.above in
     let same : kept.word ≡ word = some-injective _ _ (sym (ap (λ (ws : List ℕ). get_elem? ws 0) kept.one_word) ∙ read) in
@@ -199,7 +199,7 @@ ends_as seat word known s holds at read =
 
 -- the word of a bound that is closed
 pub ends : (seat word : ℕ) (me : Own) (words : List ℕ) (slots : List (Unit {0})) → IsLive me → Final (Seen Ruled seat me.0) words slots → get_elem? words 0 ≡ some word
-    → IsBelow word (known_of me.0) × ((known_of me.0).floor ≤ word)
+    → IsAtMostAll word (known_of me.0) × ((known_of me.0).floor ≤ word)
 ends seat word me words slots is last read =
     let s : State (Unit {0}) View = last.0 in
     let same : s.words ≡ words = last.2 in

@@ -1,2 +1,3 @@
-pub mod Holding
+pub mod Knowing
+pub mod Seated
 pub mod Rule

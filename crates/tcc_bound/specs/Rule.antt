@@ -1,21 +1,17 @@
 -- The rule that the word and the views of all seats keep between any two steps, and what each step tells its seat.
-use Rattle.std.specs.Prelude.{◌≡◌, ℕ, ◌≤◌, ◌++◌, ◌⊎◌, List, [], ◌∷◌, All, min}
+use Rattle.std.specs.Prelude.{◌≡◌, ℕ, ◌≤◌, ◌⊎◌, List, [], ◌∷◌, min}
 use mathlib.Core.Option.{some}
 use lib.ListN.{get_elem?}
 use Rattle.tcc_bound.specs.declared.known.Known.{Known}
 use Rattle.tcc_bound.specs.declared.known.View.{View}
 use Rattle.tcc_bound.specs.declared.known.View.TheVariants.{Unnamed, Live, Spent}
-use Rattle.tcc_bound.specs.Holding.{no_cost}
+use Rattle.tcc_bound.specs.Knowing.{no_cost, IsAtMostAll, newcomer, told, offered, split_off, joined}
 
--- at most every offer and sight of a seat
-abbrev pub IsBelow : ℕ → Known → Type 0
-IsBelow word known = (word ≤ known.sight) × All (λ cost. word ≤ cost) known.offers
-
--- a view agrees with the word and the floor. A spent view counts for nothing
-abbrev pub Fits : ℕ → ℕ → View → Type 0
-Fits word floor Unnamed = ⊥
-Fits word floor (Live known) = IsBelow word known × (known.floor ≡ floor)
-Fits word floor Spent = Unit {0}
+-- a view agrees with the word and the floor. A spent one counts for nothing
+abbrev pub Agrees : ℕ → ℕ → View → Type 0
+Agrees word floor Unnamed = ⊥
+Agrees word floor (Live known) = IsAtMostAll word known × (known.floor ≡ floor)
+Agrees word floor Spent = Unit {0}
 
 -- the word is at most every offer and every sight; all seats have one floor, and the word is not below it
 pub record IsKept (words : List ℕ) (views : List View) : Type 0 where
@@ -23,9 +19,9 @@ pub record IsKept (words : List ℕ) (views : List View) : Type 0 where
   pub floor : ℕ
   pub one_word : words ≡ word ∷ []
   pub above : floor ≤ word
-  pub fits : (seat : ℕ) (view : View) → get_elem? views seat ≡ some view → Fits word floor view
+  pub agree : (seat : ℕ) (view : View) → get_elem? views seat ≡ some view → Agrees word floor view
 
--- before the floor is named there is one seat, and nothing was offered
+-- until the floor is named there is one seat, and nothing was offered
 pub record IsNew (words : List ℕ) (views : List View) : Type 0 where
   pub one_word : words ≡ no_cost ∷ []
   pub one_seat : views ≡ Unnamed ∷ []
@@ -33,42 +29,38 @@ pub record IsNew (words : List ℕ) (views : List View) : Type 0 where
 abbrev pub Holds : List ℕ → List View → Type 0
 Holds words views = IsNew words views ⊎ IsKept words views
 
--- what a seat that was handed out knows
-abbrev pub known_of : View → Known
-known_of Unnamed = record { floor = 0; sight = no_cost; offers = [] }
-known_of (Live known) = known
-known_of Spent = record { floor = 0; sight = no_cost; offers = [] }
-
--- a view, and no slot
+-- a view, and the slots that are out with it
 abbrev pub Own : Type 0
 Own = View × List (ℕ × Unit {0})
 
--- a seat that knows this
-abbrev pub live : ℕ → ℕ → List ℕ → Own
-live floor sight offers = (Live record { floor = floor; sight = sight; offers = offers }, [])
+-- a seat that was handed out
+abbrev pub live : Known → Own
+live known = (Live known, [])
 
--- it is the seat of one that was handed out
+-- what it knows
+abbrev pub known_of : View → Known
+known_of Unnamed = newcomer 0
+known_of (Live known) = known
+known_of Spent = newcomer 0
+
 abbrev pub IsLive : Own → Type 0
-IsLive me = let known = known_of me.0 in me ≡ live known.floor known.sight known.offers
+IsLive me = me ≡ live (known_of me.0)
 
-abbrev pub IsNamed : ℕ → Own → Type 0
-IsNamed floor after = after ≡ live floor no_cost []
+-- the seat was told this word
+abbrev pub IsTold : Known → ℕ → Own → Type 0
+IsTold known word after = (after ≡ live (told known word)) × (known.floor ≤ word)
 
--- the word that was found is the new sight
+-- it is told the word that was found, which is at most all that it knew
 abbrev pub Looks : Own → ℕ → Own → Type 0
-Looks before found after =
-    let known = known_of before.0 in
-    (after ≡ live known.floor found known.offers) × IsBelow found known × (known.floor ≤ found)
+Looks before found after = IsAtMostAll found (known_of before.0) × IsTold (known_of before.0) found after
 
--- the lesser of the word and the cost is the new sight, and the cost is one more offer
+-- its offer is noted, and it is told the word that the offer leaves, which is at most all that it knew
 abbrev pub Offers : ℕ → Own → ℕ → Own → Type 0
 Offers cost before found after =
-    let known = known_of before.0 in
-    (after ≡ live known.floor (min found cost) (known.offers ++ cost ∷ [])) × IsBelow (min found cost) known × (known.floor ≤ min found cost)
+    IsAtMostAll (min found cost) (known_of before.0) × IsTold (offered (known_of before.0) cost) (min found cost) after
 
-abbrev pub without_offers : View → View
-without_offers view = Live record { floor = (known_of view).floor; sight = (known_of view).sight; offers = [] }
+abbrev pub cut : View → View
+cut view = Live (split_off (known_of view))
 
-abbrev pub both_of : View → View → View
-both_of one other =
-    Live record { floor = (known_of one).floor; sight = min (known_of one).sight (known_of other).sight; offers = (known_of one).offers ++ (known_of other).offers }
+abbrev pub glued : View → View → View
+glued one other = Live (joined (known_of one) (known_of other))

@@ -1,7 +1,7 @@
 //! The bound and its steps.
 ghost use Rattle.std.specs.Prelude.{◌≡◌, ℕ, ◌<◌, ◌≤◌, ◌^◌, [], IfOk};
-ghost use Rattle.tcc_bound.specs.Holding.{newcomer, told, offered, split_off, joined, IsAtMostAll};
-ghost use Rattle.tcc_bound.specs.Rule.{IsNamed};
+ghost use Rattle.tcc_bound.specs.Knowing.{newcomer, told, offered, split_off, joined, IsAtMostAll};
+ghost use Rattle.tcc_bound.specs.Rule.{live};
 ghost use Rattle.tcc_bound.specs.declared.known.View.TheVariants.{Unnamed};
 
 use crate::NoMemory;
@@ -20,9 +20,10 @@ pub struct Bound {
 
 impl Model for Bound {
     ghost use Rattle.std.specs.Prelude.{◌≡◌};
-    ghost use Rattle.atomic_table.specs.Seated.{TableId, table_id_coded};
+    ghost use Rattle.atomic_table.specs.Seated.{table_id_coded};
+    ghost use Rattle.tcc_bound.specs.Seated.{BoundId};
 
-    ghost Value = { TableId };
+    ghost Value = { BoundId };
 
     ghost coded = { table_id_coded };
 
@@ -36,7 +37,7 @@ fn name<F: Floor>(shared: &Shared<(), View, (), AtMostAll>, token: &mut Token<()
     requires first { token.old.me ≡ (Unnamed, []) }
     requires floor { F.number < 2 ^ 64 }
     ensures table { token.new.table_id ≡ token.old.table_id }
-    ensures named { IsNamed F.number token.new.me }
+    ensures named { token.new.me ≡ live (newcomer F.number) }
 {
     shared.load::<Naming<F>>(token, 0);
 }
@@ -46,7 +47,7 @@ impl Bound {
     pub fn new(alloc: Global) -> Result<(Bound, Seat), NoMemory>
         ghost floor: { ℕ }
         requires { floor < 2 ^ 64 }
-        ensures { IfOk result (λ made. made.1 ≡ newcomer made.0 floor) }
+        ensures { IfOk result (λ made. made.1 ≡ record { bound = made.0; known = newcomer floor }) }
     {
         let (table, mut token) = Table::of_words(alloc, &[u64::MAX], &())?;
         name::<Brand>(&table.shared, &mut token);
@@ -54,10 +55,11 @@ impl Bound {
     }
 
     /// Another seat, for another thread. It begins with what the seat saw, and with no offers.
+    #[tactic(auto, using(crate::proofs::Keeping::splits))]
     pub fn split(&self, seat: &mut Seat) -> Seat
         requires { seat.old.bound ≡ self.now }
         ensures same { seat.new ≡ seat.old }
-        ensures new { result ≡ split_off seat.old }
+        ensures new { result ≡ record seat.old { known = split_off seat.old.known } }
     {
         Seat {
             token: self.table.shared.split_seat::<Splitting>(&mut seat.token),
@@ -65,10 +67,11 @@ impl Bound {
     }
 
     /// Takes in another seat: its offers count as the seat's own from now on, and the lower sight is kept.
+    #[tactic(auto, using(crate::proofs::Keeping::joins))]
     pub fn join(&self, seat: &mut Seat, other: Seat)
         requires seat { seat.old.bound ≡ self.now }
         requires other { other.bound ≡ self.now }
-        ensures { seat.new ≡ joined seat.old other }
+        ensures { seat.new ≡ record seat.old { known = joined seat.old.known other.known } }
     {
         let Seat { token } = other;
         self.table
@@ -79,9 +82,9 @@ impl Bound {
     /// The word as it is: at most all that the seat offered or saw, and not below the floor.
     pub fn look(&self, seat: &mut Seat) -> u64
         requires { seat.old.bound ≡ self.now }
-        ensures least { IsAtMostAll result seat.old }
-        ensures floor { seat.old.floor ≤ result }
-        ensures seat { seat.new ≡ told seat.old result }
+        ensures least { IsAtMostAll result seat.old.known }
+        ensures floor { seat.old.known.floor ≤ result }
+        ensures seat { seat.new ≡ record seat.old { known = told seat.old.known result } }
     {
         self.table.shared.load::<Looking>(&mut seat.token, 0)
     }
@@ -89,11 +92,11 @@ impl Bound {
     /// Lowers the word to the cost, unless it is lower already, and answers it as it then is.
     pub fn offer(&self, seat: &mut Seat, cost: u64) -> u64
         requires bound { seat.old.bound ≡ self.now }
-        requires cost { (seat.old.floor ≤ cost) × (cost < u64.MAX) }
+        requires cost { (seat.old.known.floor ≤ cost) × (cost < u64.MAX) }
         ensures cost { result ≤ cost }
-        ensures least { IsAtMostAll result seat.old }
-        ensures floor { seat.old.floor ≤ result }
-        ensures seat { seat.new ≡ told (offered seat.old cost) result }
+        ensures least { IsAtMostAll result seat.old.known }
+        ensures floor { seat.old.known.floor ≤ result }
+        ensures seat { seat.new ≡ record seat.old { known = told (offered seat.old.known cost) result } }
     {
         let found = self
             .table
@@ -105,8 +108,8 @@ impl Bound {
     /// The word as the bound ends: at most all that the seat, and each that was joined into it, offered or saw, and not below the floor.
     pub fn close(self, seat: Seat) -> u64
         requires { seat.bound ≡ self }
-        ensures least { IsAtMostAll result seat }
-        ensures floor { seat.floor ≤ result }
+        ensures least { IsAtMostAll result seat.known }
+        ensures floor { seat.known.floor ≤ result }
     {
         let Bound { table } = self;
         let Seat { token } = seat;

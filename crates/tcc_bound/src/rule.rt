@@ -32,9 +32,11 @@ pub struct Naming<F: Floor> {
 }
 
 impl<F: Floor> Play<(), View> for Naming<F> {
-    ghost use Rattle.tcc_bound.specs.Rule.{IsNamed};
+    ghost use Rattle.std.specs.Prelude.{◌≡◌};
+    ghost use Rattle.tcc_bound.specs.Knowing.{newcomer};
+    ghost use Rattle.tcc_bound.specs.Rule.{live};
 
-    ghost then = { λ _ _ _ after. IsNamed F.number after };
+    ghost then = { λ _ _ _ after. after ≡ live (newcomer F.number) };
 }
 
 /// The load of a look.
@@ -59,11 +61,11 @@ impl Play<(), View> for Offering {
 pub struct Splitting;
 
 impl Split<View> for Splitting {
-    ghost use Rattle.tcc_bound.specs.Rule.{without_offers};
+    ghost use Rattle.tcc_bound.specs.Rule.{cut};
 
     ghost left = { λ view. view };
 
-    ghost right = { without_offers };
+    ghost right = { cut };
 }
 
 /// The load that makes one seat of two.
@@ -71,9 +73,9 @@ pub struct Joining;
 
 impl Join<View> for Joining {
     ghost use Rattle.tcc_bound.specs.declared.known.View.TheVariants.{Spent};
-    ghost use Rattle.tcc_bound.specs.Rule.{both_of};
+    ghost use Rattle.tcc_bound.specs.Rule.{glued};
 
-    ghost both = { both_of };
+    ghost both = { glued };
 
     ghost spent = { Spent };
 }

@@ -13,12 +13,12 @@ pub struct Seat {
 }
 
 impl Model for Seat {
-    ghost use Rattle.tcc_bound.specs.Holding.{Holding};
+    ghost use Rattle.tcc_bound.specs.Seated.{Seated};
     ghost use Rattle.tcc_bound.specs.Rule.{known_of, IsLive};
 
-    ghost Value = { Holding };
+    ghost Value = { Seated };
 
-    ghost view = { λ s. record { bound = s.token.table_id; floor = (known_of s.token.me.0).floor; sight = (known_of s.token.me.0).sight; offers = (known_of s.token.me.0).offers } };
+    ghost view = { λ s. record { bound = s.token.table_id; known = known_of s.token.me.0 } };
 
     ghost invariant = { λ s. IsLive s.token.me };
 }
