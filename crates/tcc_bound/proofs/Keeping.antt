@@ -1,15 +1,15 @@
 -- Each step keeps the rule, and what it tells follows from the rule.
-use Rattle.std.proofs.Common.{◌≡◌, ℕ, zero, suc, ◌<◌, ◌≤◌, ◌≢◌, ◌⊎◌, ◌++◌, List, [], ◌∷◌, All, length, min, set, slice_index, slice_set, inl, inr, refl, sym, subst, ap, ◌∙◌, ⊎_elim, le_trans, le_refl, arith}
+use Rattle.std.proofs.Common.{◌≡◌, ℕ, zero, suc, ◌≤◌, ◌≢◌, ◌++◌, List, [], ◌∷◌, min, set, slice_index, slice_set, inl, inr, refl, sym, subst, ap, ◌∙◌, ⊎_elim, le_trans, le_refl, arith}
 use Rattle.std.proofs.lemmas.List.Elements.{All-append, All-push, All-nil}
 use Rattle.std.proofs.Math.Nat.{min-le_left, min-le_right, le-min}
 use mathlib.Core.Option.{some, some-injective, some-ne-none}
 use lib.ListN.{get_elem?}
-use Rattle.atomic_table.specs.Table.{State, Allows, Splits, Joins, keeps, Act, Final, Seen}
-use Rattle.atomic_table.proofs.Lists.{at_set, at_snoc, set_again, set_else, set_here}
+use Rattle.atomic_table.specs.Table.{State, Allows, Splits, Joins, keeps, Final, Seen}
+use Rattle.atomic_table.proofs.Lists.{at_set, at_snoc, set_else}
 use Rattle.tcc_bound.specs.declared.known.Known.{Known}
 use Rattle.tcc_bound.specs.declared.known.View.{View}
 use Rattle.tcc_bound.specs.declared.known.View.TheVariants.{Unnamed, Live, Spent}
-use Rattle.tcc_bound.specs.Knowing.{no_cost, IsAtMostAll, newcomer, told, offered, split_off, joined}
+use Rattle.tcc_bound.specs.Knowing.{no_cost, IsAtMostAll, newcomer, told, offered}
 use Rattle.tcc_bound.specs.Rule.{Agrees, IsKept, IsNew, Holds, known_of, Own, live, IsLive, Looks, Offers, cut, glued}
 
 -- the rule, of a table without slots

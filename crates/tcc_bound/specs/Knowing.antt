@@ -1,5 +1,5 @@
 -- What a seat knows, and what the steps on the bound make of it.
-use Rattle.std.specs.Prelude.{ℕ, ◌≤◌, ◌++◌, List, [], ◌∷◌, All, min}
+use Rattle.std.specs.Prelude.{ℕ, ◌≤◌, ◌++◌, [], ◌∷◌, All, min}
 use Rattle.tcc_bound.specs.declared.known.Known.{Known}
 
 -- the word where nothing was offered

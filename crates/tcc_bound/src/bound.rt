@@ -61,9 +61,8 @@ impl Bound {
         ensures same { seat.new ≡ seat.old }
         ensures new { result ≡ record seat.old { known = split_off seat.old.known } }
     {
-        Seat {
-            token: self.table.shared.split_seat::<Splitting>(&mut seat.token),
-        }
+        let token = self.table.shared.split_seat::<Splitting>(&mut seat.token);
+        Seat { token }
     }
 
     /// Takes in another seat: its offers count as the seat's own from now on, and the lower sight is kept.
@@ -73,10 +72,8 @@ impl Bound {
         requires other { other.bound ≡ self.now }
         ensures { seat.new ≡ record seat.old { known = joined seat.old.known other.known } }
     {
-        let Seat { token } = other;
-        self.table
-            .shared
-            .join_seat::<Joining>(&mut seat.token, token);
+        let shared = &self.table.shared;
+        shared.join_seat::<Joining>(&mut seat.token, other.token);
     }
 
     /// The word as it is: at most all that the seat offered or saw, and not below the floor.
@@ -98,10 +95,8 @@ impl Bound {
         ensures floor { seat.old.known.floor ≤ result }
         ensures seat { seat.new ≡ record seat.old { known = told (offered seat.old.known cost) result } }
     {
-        let found = self
-            .table
-            .shared
-            .fetch_min::<Offering>(&mut seat.token, 0, cost);
+        let shared = &self.table.shared;
+        let found = shared.fetch_min::<Offering>(&mut seat.token, 0, cost);
         found.min(cost)
     }
 
@@ -111,9 +106,7 @@ impl Bound {
         ensures least { IsAtMostAll result seat.known }
         ensures floor { seat.known.floor ≤ result }
     {
-        let Bound { table } = self;
-        let Seat { token } = seat;
-        let closed = table.close_with(token);
+        let closed = self.table.close_with(seat.token);
         let word = closed.word(0);
         closed.free();
         word
