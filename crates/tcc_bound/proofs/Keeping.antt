@@ -9,8 +9,8 @@ use Rattle.atomic_table.proofs.Lists.{at_set, at_snoc, set_else}
 use Rattle.tcc_bound.specs.declared.known.Known.{Known}
 use Rattle.tcc_bound.specs.declared.known.View.{View}
 use Rattle.tcc_bound.specs.declared.known.View.TheVariants.{Unnamed, Live, Spent}
-use Rattle.tcc_bound.specs.Knowing.{no_cost, IsAtMostAll, newcomer, told, offered}
-use Rattle.tcc_bound.specs.Rule.{Agrees, IsKept, IsNew, Holds, known_of, Own, live, IsLive, Looks, Offers, cut, glued}
+use Rattle.tcc_bound.specs.Knowing.{no_cost, IsAtMostAll, newcomer, with_sight, with_offer}
+use Rattle.tcc_bound.specs.Rule.{Agrees, IsKept, IsNew, Holds, known_of, Own, own_of, IsLive, Looks, Offers, split_view, joint_view}
 
 -- the rule, of a table without slots
 abbrev pub Ruled : State (Unit {0}) View → Type 0
@@ -72,7 +72,7 @@ looks_as slots seat known s holds homes at small =
     let one_floor : known.floor ≡ kept.floor = fits.1 in
     let above : kept.floor ≤ kept.word = kept.above in
     let below : IsAtMostAll n known = under n kept.word known (omega arith) fits.0 in
-    let new : View = Live (told known n) in (
+    let new : View = Live (with_sight known n) in (
       new,
       keeps,
       tt,
@@ -97,7 +97,7 @@ offers_as slots seat cost known dear s holds homes at small =
     let right : low ≤ cost = min-le_right n cost in
     let over : known.floor ≤ low = le-min (omega arith) dear in
     let below : IsAtMostAll low known = under low kept.word known (omega arith) fits.0 in
-    let new : View = Live (told (offered known cost) low) in (
+    let new : View = Live (with_sight (with_offer known cost) low) in (
       new,
       keeps,
       tt,
@@ -109,11 +109,11 @@ offers_as slots seat cost known dear s holds homes at small =
 pub offers : (slots seat cost : ℕ) (me : Own) → IsLive me → (known_of me.0).floor ≤ cost → Allows Ruled slots seat me 0 (λ n. min n cost) (Offers cost me)
 offers slots seat cost me is dear = subst (λ (m : Own). Allows Ruled slots seat m 0 (λ n. min n cost) (Offers cost m)) (sym is) (offers_as slots seat cost (known_of me.0) dear)
 
-splits_as : (seat : ℕ) (known : Known) → Splits Ruled seat (Live known) (Live known) (cut (Live known))
+splits_as : (seat : ℕ) (known : Known) → Splits Ruled seat (Live known) (Live known) (split_view (Live known))
 splits_as seat known s holds at =
     let kept = kept_of s.words s.views seat known holds at in
     let fits : Agrees kept.word kept.floor (Live known) = kept.agree seat (Live known) at in
-    let new : View = cut (Live known) in
+    let new : View = split_view (Live known) in
     let views : List View = set s.views seat (Live known) in
     inr record {
       word = kept.word;
@@ -125,13 +125,13 @@ splits_as seat known s holds at =
     }
 
 -- a seat that is split off has the sight and no offers
-pub splits : (seat : ℕ) (me : Own) → IsLive me → Splits Ruled seat me.0 me.0 (cut me.0)
-splits seat me is = subst (λ (m : Own). Splits Ruled seat m.0 m.0 (cut m.0)) (sym is) (splits_as seat (known_of me.0))
+pub splits : (seat : ℕ) (me : Own) → IsLive me → Splits Ruled seat me.0 me.0 (split_view me.0)
+splits seat me is = subst (λ (m : Own). Splits Ruled seat m.0 m.0 (split_view m.0)) (sym is) (splits_as seat (known_of me.0))
 
-joins_as : (seat other : ℕ) (known more : Known) → Joins Ruled seat (Live known) other (Live more) (glued (Live known) (Live more)) Spent
+joins_as : (seat other : ℕ) (known more : Known) → Joins Ruled seat (Live known) other (Live more) (joint_view (Live known) (Live more)) Spent
 joins_as seat other known more s holds at apart there =
     let kept = kept_of s.words s.views seat known holds at in
-    let both : View = glued (Live known) (Live more) in
+    let both : View = joint_view (Live known) (Live more) in
     let fits : Agrees kept.word kept.floor (Live known) = kept.agree seat (Live known) at in
     let theirs : Agrees kept.word kept.floor (Live more) = kept.agree other (Live more) (sym (set_else s.views seat other both apart) ∙ there) in
     let new : Agrees kept.word kept.floor both = ((le-min fits.0.0 theirs.0.0, All-append (λ (c : ℕ). kept.word ≤ c) known.offers more.offers fits.0.1 theirs.0.1), fits.1) in
@@ -145,10 +145,10 @@ joins_as seat other known more s holds at apart there =
     }
 
 -- a seat that takes in another has the offers of both and the lower sight, and the other counts no more
-pub joins : (seat other : ℕ) (me them : Own) → IsLive me → IsLive them → Joins Ruled seat me.0 other them.0 (glued me.0 them.0) Spent
+pub joins : (seat other : ℕ) (me them : Own) → IsLive me → IsLive them → Joins Ruled seat me.0 other them.0 (joint_view me.0 them.0) Spent
 joins seat other me them is theirs =
-    subst (λ (m : Own). Joins Ruled seat m.0 other them.0 (glued m.0 them.0) Spent) (sym is)
-    (subst (λ (m : Own). Joins Ruled seat (Live (known_of me.0)) other m.0 (glued (Live (known_of me.0)) m.0) Spent) (sym theirs) (joins_as seat other (known_of me.0) (known_of them.0)))
+    subst (λ (m : Own). Joins Ruled seat m.0 other them.0 (joint_view m.0 them.0) Spent) (sym is)
+    (subst (λ (m : Own). Joins Ruled seat (Live (known_of me.0)) other m.0 (joint_view (Live (known_of me.0)) m.0) Spent) (sym theirs) (joins_as seat other (known_of me.0) (known_of them.0)))
 
 first_alone : (seat : ℕ) → get_elem? (Unnamed ∷ []) seat ≡ some Unnamed → seat ≡ 0
 first_alone zero at = refl
@@ -175,13 +175,13 @@ names_as seat number fits words views new at =
     let one_view : set views seat (Live known) ≡ Live known ∷ [] = rw (new.one_seat, here) refl in
     inr (subst (λ (ws : List ℕ). IsKept ws (set views seat (Live known))) (sym one_word) (subst (λ (vs : List View). IsKept (no_cost ∷ []) vs) (sym one_view) named))
 
-names_from : (slots seat number : ℕ) → number ≤ no_cost → Allows Ruled slots seat (Unnamed, []) 0 (λ n. n) (λ found after. after ≡ live (newcomer number))
+names_from : (slots seat number : ℕ) → number ≤ no_cost → Allows Ruled slots seat (Unnamed, []) 0 (λ n. n) (λ found after. after ≡ own_of (newcomer number))
 names_from slots seat number fits s (inl new) homes at small = (Live (newcomer number), keeps, tt, names_as seat number fits s.words s.views new at, refl)
 names_from slots seat number fits s (inr kept) homes at small = absurd (kept.agree seat Unnamed at)
 
 -- the load that names the floor
-pub names : (slots seat number : ℕ) (me : Own) → me ≡ (Unnamed, []) → number ≤ no_cost → Allows Ruled slots seat me 0 (λ n. n) (λ found after. after ≡ live (newcomer number))
-names slots seat number me is fits = subst (λ (m : Own). Allows Ruled slots seat m 0 (λ n. n) (λ found after. after ≡ live (newcomer number))) (sym is) (names_from slots seat number fits)
+pub names : (slots seat number : ℕ) (me : Own) → me ≡ (Unnamed, []) → number ≤ no_cost → Allows Ruled slots seat me 0 (λ n. n) (λ found after. after ≡ own_of (newcomer number))
+names slots seat number me is fits = subst (λ (m : Own). Allows Ruled slots seat m 0 (λ n. n) (λ found after. after ≡ own_of (newcomer number))) (sym is) (names_from slots seat number fits)
 
 -- a bound begins with nothing offered
 pub begins : Holds (no_cost ∷ []) (Unnamed ∷ [])

@@ -6,24 +6,24 @@ use lib.ListN.{get_elem?}
 use Rattle.tcc_bound.specs.declared.known.Known.{Known}
 use Rattle.tcc_bound.specs.declared.known.View.{View}
 use Rattle.tcc_bound.specs.declared.known.View.TheVariants.{Live, Spent}
-use Rattle.tcc_bound.specs.Knowing.{IsAtMostAll, newcomer, told, offered, split_off, joined}
+use Rattle.tcc_bound.specs.Knowing.{IsAtMostAll, newcomer, with_sight, with_offer, without_offers, both_of}
 use Rattle.tcc_bound.specs.Rule.{Agrees, IsKept}
 
 abbrev known : ℕ → ℕ → List ℕ → Known
 known floor sight offers = record { floor = floor; sight = sight; offers = offers }
 
 -- the first offer, of 7, at a bound whose floor is 3
-first_offer : told (offered (newcomer 3) 7) 7 ≡ known 3 7 (7 ∷ [])
+first_offer : with_sight (with_offer (newcomer 3) 7) 7 ≡ known 3 7 (7 ∷ [])
 first_offer = refl
 
 -- then one of 9, where another seat offered 5
-higher_offer : told (offered (known 3 7 (7 ∷ [])) 9) 5 ≡ known 3 5 (7 ∷ 9 ∷ [])
+higher_offer : with_sight (with_offer (known 3 7 (7 ∷ [])) 9) 5 ≡ known 3 5 (7 ∷ 9 ∷ [])
 higher_offer = refl
 
-seat_split : split_off (known 3 7 (7 ∷ [])) ≡ known 3 7 []
+seat_split : without_offers (known 3 7 (7 ∷ [])) ≡ known 3 7 []
 seat_split = refl
 
-seats_joined : joined (known 3 7 (7 ∷ [])) (known 3 5 (9 ∷ 5 ∷ [])) ≡ known 3 5 (7 ∷ 9 ∷ 5 ∷ [])
+seats_joined : both_of (known 3 7 (7 ∷ [])) (known 3 5 (9 ∷ 5 ∷ [])) ≡ known 3 5 (7 ∷ 9 ∷ 5 ∷ [])
 seats_joined = refl
 
 five_is_at_most_all : IsAtMostAll 5 (known 3 6 (9 ∷ 5 ∷ []))

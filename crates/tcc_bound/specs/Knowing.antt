@@ -2,7 +2,7 @@
 use Rattle.std.specs.Prelude.{ℕ, ◌≤◌, ◌++◌, [], ◌∷◌, All, min}
 use Rattle.tcc_bound.specs.declared.known.Known.{Known}
 
--- the word where nothing was offered
+-- the word where nothing was offered, and the sight of a seat that saw nothing: `u64::MAX`
 abbrev pub no_cost : ℕ
 no_cost = 18446744073709551615
 
@@ -15,17 +15,17 @@ abbrev pub newcomer : ℕ → Known
 newcomer floor = record { floor = floor; sight = no_cost; offers = [] }
 
 -- the seat, once it was told the word
-abbrev pub told : Known → ℕ → Known
-told known word = record { floor = known.floor; sight = word; offers = known.offers }
+abbrev pub with_sight : Known → ℕ → Known
+with_sight known word = record known { sight = word }
 
 -- the seat, once it offered a cost
-abbrev pub offered : Known → ℕ → Known
-offered known cost = record { floor = known.floor; sight = known.sight; offers = known.offers ++ cost ∷ [] }
+abbrev pub with_offer : Known → ℕ → Known
+with_offer known cost = record known { offers = known.offers ++ cost ∷ [] }
 
 -- a seat that is split off: it has seen as much, and offered nothing
-abbrev pub split_off : Known → Known
-split_off known = record { floor = known.floor; sight = known.sight; offers = [] }
+abbrev pub without_offers : Known → Known
+without_offers known = record known { offers = [] }
 
 -- one seat of two: the offers of both, and the lower sight
-abbrev pub joined : Known → Known → Known
-joined known other = record { floor = known.floor; sight = min known.sight other.sight; offers = known.offers ++ other.offers }
+abbrev pub both_of : Known → Known → Known
+both_of known other = record known { sight = min known.sight other.sight; offers = known.offers ++ other.offers }

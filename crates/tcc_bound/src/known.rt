@@ -3,8 +3,11 @@ use std::collections::LinkedList;
 
 /// What a seat knows.
 pub struct Known {
+    /// No cost that is offered is below it.
     pub floor: u64,
+    /// The word as the seat was last told; `u64::MAX` before.
     pub sight: u64,
+    /// The costs that it, and the seats joined into it, offered.
     pub offers: LinkedList<u64>,
 }
 

@@ -34,9 +34,9 @@ pub struct Naming<F: Floor> {
 impl<F: Floor> Play<(), View> for Naming<F> {
     ghost use Rattle.std.specs.Prelude.{◌≡◌};
     ghost use Rattle.tcc_bound.specs.Knowing.{newcomer};
-    ghost use Rattle.tcc_bound.specs.Rule.{live};
+    ghost use Rattle.tcc_bound.specs.Rule.{own_of};
 
-    ghost then = { λ _ _ _ after. after ≡ live (newcomer F.number) };
+    ghost then = { λ _ _ _ after. after ≡ own_of (newcomer F.number) };
 }
 
 /// The load of a look.
@@ -61,11 +61,11 @@ impl Play<(), View> for Offering {
 pub struct Splitting;
 
 impl Split<View> for Splitting {
-    ghost use Rattle.tcc_bound.specs.Rule.{cut};
+    ghost use Rattle.tcc_bound.specs.Rule.{split_view};
 
     ghost left = { λ view. view };
 
-    ghost right = { cut };
+    ghost right = { split_view };
 }
 
 /// The load that makes one seat of two.
@@ -73,9 +73,9 @@ pub struct Joining;
 
 impl Join<View> for Joining {
     ghost use Rattle.tcc_bound.specs.declared.known.View.TheVariants.{Spent};
-    ghost use Rattle.tcc_bound.specs.Rule.{glued};
+    ghost use Rattle.tcc_bound.specs.Rule.{joint_view};
 
-    ghost both = { glued };
+    ghost both = { joint_view };
 
     ghost spent = { Spent };
 }

@@ -77,6 +77,7 @@ fn offer_down_to(bound: &Bound, seat: &mut Seat, cost: u32)
 }
 
 // Each cost in a thread of its own.
+#[cycle(halving)]
 fn offer_all<R: Threads + Sync>(rt: &R, bound: &Bound, mut seat: Seat, costs: &[u32]) -> Seat
     requires { (seat.bound ≡ bound.now) × (seat.known.floor ≡ 0) }
     ensures { (result.bound ≡ bound.now) × (result.known.floor ≡ 0) }
