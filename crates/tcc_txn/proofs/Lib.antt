@@ -1,1 +1,2 @@
+mod WorkedTexts
 mod LimitFacts
