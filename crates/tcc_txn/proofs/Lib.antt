@@ -1,2 +1,4 @@
+mod FieldBytes
+mod RecordSteps
 mod WorkedTexts
 mod LimitFacts
