@@ -1,3 +1,4 @@
+mod LineFacts
 mod FieldBytes
 mod RecordSteps
 mod WorkedTexts
