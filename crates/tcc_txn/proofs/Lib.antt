@@ -1,3 +1,5 @@
+mod StandingFacts
+mod PastFacts
 mod LineFacts
 mod FieldBytes
 mod RecordSteps

@@ -1,12 +1,13 @@
 //! Transactions and seals as they come out of records.
 
+mod draft;
 mod limited;
 mod line;
 mod progress;
 mod records;
 
 use crate::{Name, NoMemory, Txn};
-use line::read_line;
+use line::{Line, read_line};
 use progress::Progress;
 use records::Records;
 use std::alloc::{AllocFailed, Global};
@@ -150,7 +151,7 @@ impl<R: Read + Drop> Rows<R> {
             Err(kind) => return Err(self.fault_at_next(kind)),
         }
         let passed = match read_line(self.records.record()) {
-            Ok(line) => self.progress.pass(alloc, line),
+            Ok(line) => self.pass(alloc, line),
             Err(kind) => Err(kind),
         };
         match passed {
@@ -159,6 +160,28 @@ impl<R: Read + Drop> Rows<R> {
                 Ok(item)
             }
             Err(kind) => Err(self.fault_at_next(kind)),
+        }
+    }
+
+    /// Goes past the line, which may finish something.
+    fn pass(&mut self, alloc: Global, line: Line) -> Result<Option<Item>, RowFaultKind> {
+        match line {
+            Line::Seal => {
+                self.progress.seal()?;
+                Ok(Some(Item::Seal))
+            }
+            Line::Begin { session } => {
+                self.progress.begin(alloc, session)?;
+                Ok(None)
+            }
+            Line::Finish { session, committed } => {
+                let txn = self.progress.finish(session, committed)?;
+                Ok(Some(Item::Finished(session, txn)))
+            }
+            Line::Operation { session, op } => {
+                self.progress.operate(session, op)?;
+                Ok(None)
+            }
         }
     }
 
