@@ -1,3 +1,4 @@
+mod LeastOpen
 mod StandingFacts
 mod PastFacts
 mod LineFacts
