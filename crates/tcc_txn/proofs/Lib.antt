@@ -1,3 +1,4 @@
+mod AheadFacts
 mod LeastOpen
 mod StandingFacts
 mod PastFacts

@@ -6,9 +6,10 @@ use Rattle.std.specs.Cmp.Lexicographic.{slice_cmp}
 use Rattle.std.specs.BTreeMap.{BTreeMap, btree_map_len, get}
 use Rattle.std.specs.BTreeSet.{BTreeSet, btree_set_len, contains}
 use Rattle.tcc_txn.specs.Lines.{same}
-use Rattle.tcc_txn.specs.Past.{begin_count, fault_of, is_begun, keys, ops_since, seal_count, sessions, with_name}
+use Rattle.tcc_txn.specs.Past.{begin_count, fault_of, is_begun, item_of, keys, ops_since, seal_count, sessions, with_name}
 use Rattle.tcc_txn.specs.Transactions.{Transaction, writes_zero}
 use Rattle.tcc_txn.specs.declared.op.Op.{Op}
+use Rattle.tcc_txn.specs.declared.rows.Item.{Item}
 use Rattle.tcc_txn.specs.declared.rows.RowFaultKind.{RowFaultKind}
 use Rattle.tcc_txn.specs.declared.rows.RowFaultKind.TheVariants as kind
 use Rattle.tcc_txn.specs.declared.rows.line.Line.{Line}
@@ -59,6 +60,11 @@ pub record IsAfter (past : List Line) (p : Progress) : Type 0 where
 abbrev pub PassesLine : {U : Type 0} → List Line → Line → Result U RowFaultKind → Progress → Type 0
 PassesLine past last (Ok done) new = (fault_of past last ≡ None) × IsAfter (last ∷ past) new
 PassesLine past last (Err k) new = (fault_of past last ≡ Some k) ⊎ (k ≡ kind.NoMemory)
+
+-- the same, with what the line finishes or the answer that it wants
+abbrev pub TakesLine : List Line → Line → Result (Option Item) RowFaultKind → Progress → Type 0
+TakesLine past last (Ok given) new = (fault_of past last ≡ None) × (given ≡ item_of past last) × IsAfter (last ∷ past) new
+TakesLine past last (Err k) new = (fault_of past last ≡ Some k) ⊎ (k ≡ kind.NoMemory)
 
 -- the line writes no 0
 abbrev pub writes_no_zero : Line → Type 0

@@ -5,13 +5,16 @@ ghost use Rattle.std.specs.Cmp.Lexicographic.{slice_cmp};
 ghost use Rattle.std.specs.BTreeMap.{IsOrdered};
 ghost use Rattle.tcc_txn.specs.Lines.{line_of};
 ghost use Rattle.tcc_txn.specs.Past.{key_of, least, open_sessions, ops_since};
-ghost use Rattle.tcc_txn.specs.Standing.{HoldsNames, HoldsSeats, IsAfter, MayBegin, NotesName, PassesLine};
+ghost use Rattle.tcc_txn.specs.Standing.{HoldsNames, HoldsSeats, IsAfter, MayBegin, NotesName, PassesLine, TakesLine, writes_no_zero};
 ghost use Rattle.tcc_txn.specs.Transactions.{writes_zero};
+ghost use Rattle.tcc_txn.specs.Phases.{phase_after_step};
+ghost use Rattle.tcc_txn.specs.declared.rows.Phase.TheVariants as phase;
 ghost use Rattle.tcc_txn.specs.declared.rows.line.Line.{Line};
 ghost use Rattle.tcc_txn.specs.declared.rows.line.Line.TheVariants as line;
 
-use super::RowFaultKind;
 use super::draft::{Draft, add_operation};
+use super::line::Line;
+use super::{Item, RowFaultKind};
 use crate::{Name, Op, Txn};
 use std::alloc::Global;
 use std::collections::{BTreeMap, BTreeSet};
@@ -104,7 +107,7 @@ impl Progress {
     }
 
     /// An answer is wanted.
-    pub(crate) fn seal(&mut self) -> Result<(), RowFaultKind>
+    fn seal(&mut self) -> Result<(), RowFaultKind>
         ensures { (past : List Line) → IsAfter past self.old → PassesLine past line.Seal result self.new }
     {
         if self.seals >= MOST_SEALS {
@@ -115,7 +118,7 @@ impl Progress {
     }
 
     /// A transaction of the session begins.
-    pub(crate) fn begin(&mut self, alloc: Global, session: Name) -> Result<(), RowFaultKind>
+    fn begin(&mut self, alloc: Global, session: Name) -> Result<(), RowFaultKind>
         ensures { (past : List Line) → IsAfter past self.old → PassesLine past (line.Begin session) result self.new }
     {
         may_begin(&self.sessions, &session)?;
@@ -132,7 +135,7 @@ impl Progress {
     }
 
     /// The session's transaction is finished.
-    pub(crate) fn finish(&mut self, session: Name, committed: bool) -> Result<Txn, RowFaultKind>
+    fn finish(&mut self, session: Name, committed: bool) -> Result<Txn, RowFaultKind>
         ensures passed { (past : List Line) → IsAfter past self.old → PassesLine past (line.Finish session committed) result self.new }
         ensures finished { (past : List Line) → IsAfter past self.old
             → IfOk result (λ txn. txn ≡ record { ops = ops_since session past; committed = committed }) }
@@ -147,7 +150,7 @@ impl Progress {
     }
 
     /// The session's transaction reads or writes.
-    pub(crate) fn operate(&mut self, session: Name, op: Op) -> Result<(), RowFaultKind>
+    fn operate(&mut self, session: Name, op: Op) -> Result<(), RowFaultKind>
         requires { writes_zero op ≡ false }
         ensures { (past : List Line) → IsAfter past self.old → PassesLine past (line.Operation session op) result self.new }
     {
@@ -161,6 +164,32 @@ impl Progress {
             None => return Err(RowFaultKind::NotBegun),
         }
         note_key(&mut self.keys, key)
+    }
+
+    /// Goes past the line, which may finish something.
+    pub(crate) fn pass(&mut self, alloc: Global, line: Line) -> Result<Option<Item>, RowFaultKind>
+        requires { writes_no_zero line }
+        ensures passed { (past : List Line) → IsAfter past self.old → TakesLine past line result self.new }
+        ensures going { IfOk result (λ given. phase_after_step given ≡ phase.Reading) }
+    {
+        match line {
+            Line::Seal => match self.seal() {
+                Ok(()) => Ok(Some(Item::Seal)),
+                Err(kind) => Err(kind),
+            },
+            Line::Begin { session } => match self.begin(alloc, session) {
+                Ok(()) => Ok(None),
+                Err(kind) => Err(kind),
+            },
+            Line::Finish { session, committed } => match self.finish(session, committed) {
+                Ok(txn) => Ok(Some(Item::Finished(session, txn))),
+                Err(kind) => Err(kind),
+            },
+            Line::Operation { session, op } => match self.operate(session, op) {
+                Ok(()) => Ok(None),
+                Err(kind) => Err(kind),
+            },
+        }
     }
 
     /// The least session whose transaction is not finished.
