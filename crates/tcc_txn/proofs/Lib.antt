@@ -1,9 +1,13 @@
 mod AheadFacts
-mod LeastOpen
-mod StandingFacts
-mod PastFacts
-mod LineFacts
 mod FieldBytes
-mod RecordSteps
-mod WorkedTexts
+mod LeastOpen
 mod LimitFacts
+mod LineFacts
+mod PastFacts
+mod RecordSteps
+mod StandingFacts
+mod WorkedTexts
+pub mod Parts
+pub mod SnapshotFaults
+pub mod SortedParts
+pub mod StoredSnapshot

@@ -11,3 +11,4 @@ pub mod Standing
 pub mod Transactions
 pub mod Snapshots
 pub mod Stored
+pub mod SnapshotStorage

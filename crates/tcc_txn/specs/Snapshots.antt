@@ -1,10 +1,33 @@
 -- Snapshots: what the sessions had finished at one moment.
-use Rattle.std.specs.Prelude.{ℕ, List}
+use Rattle.std.specs.Prelude.{ℕ, nat_lt, nat_eq, if◌then◌else◌, List, [], ◌∷◌, ◌++◌, map, length, sum_by, Option, None, Some}
+use Rattle.std.specs.List.{list_any}
+use Rattle.std.specs.Option.{option_map_or}
 use Rattle.std.specs.Ordering.{nat_cmp}
-use Rattle.std.specs.Cmp.Lexicographic.{slice_cmp}
+use Rattle.std.specs.Cmp.Lexicographic.{slice_cmp, pointwise}
 use Rattle.std.specs.FinMap.{FinMap}
+use Rattle.std.specs.Global.{Vec}
 use Rattle.tcc_txn.specs.Transactions.{Transaction}
+use Rattle.tcc_txn.specs.declared.snapshot.SnapshotFault.{SnapshotFault}
+use Rattle.tcc_txn.specs.declared.snapshot.SnapshotFault.TheVariants.{Repeated, TooManySessions, TooManyTransactions}
 
 -- a finite map from the names of sessions to their finished transactions, in byte order of the names
 abbrev pub Sessions : Type 0
 Sessions = FinMap (slice_cmp nat_cmp) (List Transaction)
+
+-- the sessions' names with their transactions, whatever the memory in which these lie
+abbrev pub parts_of : List (List ℕ × Vec Transaction) → List (List ℕ × List Transaction)
+parts_of parts = map (λ part. (part.0, part.1.items)) parts
+
+-- the first of the later names that equals one before it
+abbrev pub first_repeated : List (List ℕ) → List (List ℕ) → Option (List ℕ)
+first_repeated earlier [] = None
+first_repeated earlier (name ∷ later) =
+    if list_any (pointwise nat_eq name) earlier then Some name else first_repeated (earlier ++ name ∷ []) later
+
+-- why the parts make no snapshot: two have one name, or there are more than 64 sessions or 1,023 transactions
+abbrev pub snapshot_fault : List (List ℕ × List Transaction) → Option SnapshotFault
+snapshot_fault parts =
+    option_map_or (λ name. Some (Repeated name)) (first_repeated [] (map (λ part. part.0) parts))
+    (if nat_lt 64 (length parts) then Some TooManySessions
+    else if nat_lt 1023 (sum_by (λ part. length part.1) parts) then Some TooManyTransactions
+    else None)

@@ -10,6 +10,7 @@ ghost use Rattle.tcc_txn.specs.Names.{is_name_byte, name_fault, name_of};
 
 use crate::NoMemory;
 use std::cmp::Ordering;
+use std::fmt;
 use std::hash::{Hash, Hasher};
 use std::marker::Model;
 use thiserror::Error;
@@ -117,7 +118,8 @@ impl Name {
     pub fn copy(&self) -> Result<Name, NoMemory>
         ensures { result ≡ Ok self.now }
     {
-        Ok(*self)
+        let name = *self;
+        Ok(name)
     }
 }
 
@@ -166,5 +168,22 @@ impl Hash for Name {
 
     fn hash<H: Hasher>(&self, state: &mut H) {
         self.bytes().hash(state);
+    }
+}
+
+impl fmt::Display for Name {
+    ghost output = { λ name. Some name };
+
+    fn fmt<W: fmt::Write>(&self, f: &mut fmt::Formatter<W>) -> fmt::Result {
+        match std::str::from_utf8(self.bytes()) {
+            Ok(text) => f.pad(text),
+            Err(_) => Err(fmt::Error),
+        }
+    }
+}
+
+impl fmt::Debug for Name {
+    fn fmt<W: fmt::Write>(&self, f: &mut fmt::Formatter<W>) -> fmt::Result {
+        fmt::Display::fmt(self, f)
     }
 }

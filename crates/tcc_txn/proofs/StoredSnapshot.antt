@@ -1,0 +1,88 @@
+-- A snapshot as it lies in memory.
+use Rattle.std.proofs.Common.{◌≡◌, ℕ, ◌+◌, ◌<◌, ◌≤◌, Bool, true, false, List, [], length, sum_by, map, refl, ap, sym, ◌∙◌, subst, arith, Option, None, Some, T, slice_get, option_map, ◌∷◌, ◌&&◌}
+use Rattle.std.specs.List.{IsDistinct}
+use Rattle.std.specs.FinMap.Entries.{below_all}
+use Rattle.std.specs.Ordering.{is_lt}
+use Rattle.std.proofs.lemmas.List.Sums.{sum_by-cons}
+use Rattle.std.proofs.lemmas.Option.{slice_get-map}
+use Rattle.std.proofs.lemmas.List.Sorted.{length_permutation, sum_by-IsPermutation, IsPermutation-map}
+use Rattle.std.specs.List.Sorted.{IsPermutation, IsSortedByKey}
+use Rattle.std.specs.Ordering.{nat_cmp}
+use Rattle.std.specs.Cmp.Lexicographic.{slice_cmp}
+use Rattle.std.specs.FinMap as finite
+use Rattle.std.specs.Global.{Vec}
+use Rattle.tcc_txn.specs.Transactions.{Transaction}
+use Rattle.tcc_txn.specs.Snapshots.{first_repeated, parts_of, snapshot_fault, Sessions}
+use Rattle.tcc_txn.specs.SnapshotStorage.{shown, IsStored}
+use Rattle.tcc_txn.proofs.Parts.{names_of, names_of-parts_of, length-parts_of}
+use Rattle.tcc_txn.proofs.SnapshotFaults.{snapshot_fault-parts_of, faultless}
+use Rattle.tcc_txn.proofs.SortedParts.{distinct_names, distinct_IsPermutation, rising_names, shown_sorted, same_name}
+
+-- the entries of a snapshot are its parts
+pub entries-shown : (parts : List (List ℕ × Vec Transaction)) → IsStored parts → finite.entries (shown parts) ≡ parts_of parts
+entries-shown parts stored = finite.entries-from_sorted (slice_cmp nat_cmp) (parts_of parts) stored.sorted
+
+pub slice_get-shown : (parts : List (List ℕ × Vec Transaction)) (i : ℕ) → IsStored parts
+    → slice_get (finite.entries (shown parts)) i ≡ option_map (λ part. (part.0, part.1.items)) (slice_get parts i)
+slice_get-shown parts i stored =
+    ap (λ es. slice_get es i) (entries-shown parts stored) ∙ slice_get-map (λ part. (part.0, part.1.items)) parts i
+
+pub len-shown : (parts : List (List ℕ × Vec Transaction)) → IsStored parts → finite.len (shown parts) ≡ length parts
+len-shown parts stored = finite.len-entries (shown parts) ∙ ap length (entries-shown parts stored) ∙ length-parts_of parts
+
+sum_by-parts_of : (parts : List (List ℕ × Vec Transaction))
+    → sum_by (λ part. length part.1) (parts_of parts) ≡ sum_by (λ part. length part.1.items) parts
+sum_by-parts_of [] = refl
+sum_by-parts_of (part ∷ parts) =
+    sum_by-cons (λ p. length p.1) (part.0, part.1.items) (parts_of parts)
+    ∙ ap (λ n. length part.1.items + n) (sum_by-parts_of parts)
+    ∙ sym (sum_by-cons (λ p. length p.1.items) part parts)
+
+-- the sessions of a snapshot have at most 1,023 transactions in all
+pub short-shown : (parts : List (List ℕ × Vec Transaction)) → IsStored parts → sum_by (λ part. length part.1) (finite.entries (shown parts)) ≤ 1023
+short-shown parts stored =
+    let total : sum_by (λ part. length part.1) (finite.entries (shown parts)) ≡ sum_by (λ part. length part.1.items) parts
+    = ap (sum_by (λ part. length part.1)) (entries-shown parts stored) ∙ sum_by-parts_of parts in
+    omega (arith, total, stored.short)
+
+below_all-parts_of : (name : List ℕ) (parts : List (List ℕ × Vec Transaction))
+    → below_all (slice_cmp nat_cmp) name (parts_of parts) ≡ below_all (slice_cmp nat_cmp) name parts
+below_all-parts_of name [] = refl
+below_all-parts_of name (part ∷ parts) = ap (λ b. is_lt (slice_cmp nat_cmp name part.0) && b) (below_all-parts_of name parts)
+
+is_sorted-parts_of : (parts : List (List ℕ × Vec Transaction))
+    → finite.is_sorted (slice_cmp nat_cmp) (parts_of parts) ≡ finite.is_sorted (slice_cmp nat_cmp) parts
+is_sorted-parts_of [] = refl
+is_sorted-parts_of (part ∷ parts) = λ i. below_all-parts_of part.0 parts i && is_sorted-parts_of parts i
+
+distinct_none : IsDistinct same_name []
+unfolding IsDistinct
+distinct_none = tt
+
+-- parts with names that do not fall and differ show names that rise
+rising_parts : (sorted : List (List ℕ × Vec Transaction)) → IsDistinct same_name (names_of sorted)
+    → IsSortedByKey (λ part. part.0) (slice_cmp nat_cmp) sorted → finite.is_sorted (slice_cmp nat_cmp) (parts_of sorted) ≡ true
+rising_parts sorted distinct rising = is_sorted-parts_of sorted ∙ rising_names sorted distinct rising
+
+-- parts without a fault, sorted by name, are stored as a snapshot
+pub stored_sorted : (parts sorted : List (List ℕ × Vec Transaction)) → snapshot_fault (parts_of parts) ≡ None → IsPermutation parts sorted
+    → IsSortedByKey (λ part. part.0) (slice_cmp nat_cmp) sorted → IsStored sorted
+stored_sorted parts sorted none moved rising =
+    let facts = faultless (first_repeated [] (names_of parts)) (length parts) (sum_by (λ part. length part.1.items) parts) (sym (snapshot_fault-parts_of parts) ∙ none) in
+    let distinct : IsDistinct same_name (names_of parts) = distinct_names [] (names_of parts) facts.distinct distinct_none in
+    record {
+      sorted = subst T (sym (rising_parts sorted (distinct_IsPermutation parts sorted distinct moved) rising)) tt;
+      few = omega (arith, facts.few, length_permutation parts sorted moved);
+      short = omega (arith, facts.short, sum_by-IsPermutation (λ part. length part.1.items) parts sorted moved);
+    }
+
+-- and show the map that the parts make
+pub shown_parts : (parts sorted : List (List ℕ × Vec Transaction)) → snapshot_fault (parts_of parts) ≡ None → IsPermutation parts sorted
+    → IsSortedByKey (λ part. part.0) (slice_cmp nat_cmp) sorted → shown sorted ≡ finite.from_entries (parts_of parts)
+shown_parts parts sorted none moved rising =
+    let facts = faultless (first_repeated [] (names_of parts)) (length parts) (sum_by (λ part. length part.1.items) parts) (sym (snapshot_fault-parts_of parts) ∙ none) in
+    let distinct : IsDistinct same_name (names_of parts) = distinct_names [] (names_of parts) facts.distinct distinct_none in
+    let parts_distinct : IsDistinct same_name (names_of (parts_of parts)) = subst (IsDistinct same_name) (sym (names_of-parts_of parts)) distinct in
+    shown_sorted (parts_of parts) (parts_of sorted) parts_distinct
+    (IsPermutation-map (λ part. (part.0, part.1.items)) parts sorted moved)
+    (rising_parts sorted (distinct_IsPermutation parts sorted distinct moved) rising)

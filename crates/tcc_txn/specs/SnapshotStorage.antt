@@ -1,0 +1,45 @@
+-- How a snapshot lies in memory.
+use Rattle.std.proofs.Common.{◌≡◌, ℕ, ◌≤◌, Bool, true, false, List, length, T, refl}
+use Rattle.std.specs.Prelude.{sum_by}
+use Rattle.std.specs.Ordering.{nat_cmp}
+use Rattle.std.specs.Cmp.Lexicographic.{slice_cmp}
+use Rattle.std.specs.Coded.{Coded, code_by, coded×, coded_list, coded_ℕ, coded_bool}
+use Rattle.std.specs.FinMap as map
+use Rattle.std.specs.Global.{Vec}
+use Rattle.tcc_txn.specs.Transactions.{Transaction}
+use Rattle.tcc_txn.specs.Snapshots.{Sessions, parts_of}
+use Rattle.tcc_txn.specs.declared.op.Op.{Op}
+use Rattle.tcc_txn.specs.declared.op.Op.TheVariants.{Get, Put}
+
+-- an operation is stored as whether it writes, its key and its value
+abbrev pub op_parts : Op → Bool × (List ℕ × ℕ)
+op_parts (Get key value) = (false, (key, value))
+op_parts (Put key value) = (true, (key, value))
+
+abbrev pub op_of_parts : Bool × (List ℕ × ℕ) → Op
+op_of_parts (false, parts) = Get parts.0 parts.1
+op_of_parts (true, parts) = Put parts.0 parts.1
+
+pub op-parts : (op : Op) → op_of_parts (op_parts op) ≡ op
+op-parts (Get key value) = refl
+op-parts (Put key value) = refl
+
+abbrev pub op_code : Coded Op
+op_code = code_by (Bool × (List ℕ × ℕ)) (coded× coded_bool (coded× (coded_list coded_ℕ) coded_ℕ)) op_parts op_of_parts op-parts
+
+abbrev pub transaction_code : Coded Transaction
+transaction_code =
+    code_by (List Op × Bool) (coded× (coded_list op_code) coded_bool) (λ t. (t.ops, t.committed)) (λ p. record { ops = p.0; committed = p.1 }) (λ _. refl)
+
+abbrev pub sessions_code : Coded Sessions
+sessions_code = map.code (coded_list coded_ℕ) (coded_list transaction_code)
+
+-- the map that sorted parts show
+abbrev pub shown : List (List ℕ × Vec Transaction) → Sessions
+shown parts = map.from_sorted (parts_of parts)
+
+-- the names strictly rise; there are at most 64, with at most 1,023 transactions in all
+pub record IsStored (parts : List (List ℕ × Vec Transaction)) : Type 0 where
+  pub sorted : T (map.is_sorted (slice_cmp nat_cmp) (parts_of parts))
+  pub few : length parts ≤ 64
+  pub short : sum_by (λ part. length part.1.items) parts ≤ 1023

@@ -1,0 +1,51 @@
+#!/usr/bin/env python3
+"""All tests: the merge gate, which proves everything from nothing, and then the rows on the program that it built.
+
+The last line is `N passed, M failed`, the sum of both; the status is 0 only where both passed.
+"""
+import pathlib
+import re
+import subprocess
+import sys
+
+TOP = pathlib.Path(__file__).resolve().parent.parent
+CLOSING = re.compile(r"(\d+) passed, (\d+) failed$")
+
+
+def counts(command):
+    """Runs a command, shows what it prints, and gives the two numbers of its closing line.
+
+    A command that can't be run, ends with a status other than 0, or has no such line has failed at least once.
+    """
+    last = ""
+    try:
+        with subprocess.Popen(command, cwd=TOP, stdout=subprocess.PIPE, text=True, errors="replace") as running:
+            for line in running.stdout:
+                sys.stdout.write(line)
+                sys.stdout.flush()
+                last = line.strip() or last
+        status = running.returncode
+    except OSError as error:
+        print("%s: %s" % (command[0], error.strerror))
+        status = 127
+    closing = CLOSING.search(last)
+    passed, failed = map(int, closing.groups()) if closing else (0, 0)
+    if failed == 0 and (status != 0 or not closing):
+        print("%s: no success: status %d" % (" ".join(command), status))
+        failed = 1
+    return passed, failed
+
+
+def main():
+    passed, failed = counts(["rt", "ci"])
+    if failed:
+        print("the rows were not run: the gate comes first")
+    else:
+        more, failed = counts([sys.executable, "tests/rows/run.py"])
+        passed += more
+    print("%d passed, %d failed" % (passed, failed), flush=True)
+    return 1 if failed else 0
+
+
+if __name__ == "__main__":
+    sys.exit(main())
