@@ -83,7 +83,10 @@ fn refuses<R: Read + Drop>(
     let (count, end) = run_out(rt, alloc, &mut rows);
     assert_eq!(rt; count, items);
     for _ in 0..2 {
-        assert!(rt; is_fault(&rows.next(alloc).err(), row, kind), "not {kind} at {row}");
+        assert!(rt;
+            is_fault(&rows.next(alloc).err(), row, kind),
+            "not {kind} at {row}"
+        );
     }
     assert!(rt; end.is_err());
 }
@@ -107,7 +110,10 @@ fn leaves_open(rt: &impl Abort, alloc: Global, text: &[u8], row: u64, session: &
         return;
     };
     let (_, end) = run_out(rt, alloc, &mut rows);
-    assert!(rt; is_unfinished(&end.err(), row, session), "nothing is unfinished at {row}");
+    assert!(rt;
+        is_unfinished(&end.err(), row, session),
+        "nothing is unfinished at {row}"
+    );
 }
 
 #[test]
