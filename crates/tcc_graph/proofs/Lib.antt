@@ -6,5 +6,4 @@ pub mod KeysLemmas
 pub mod LastLemmas
 pub mod NameLemmas
 pub mod TableLemmas
-pub mod TextLemmas
 pub mod Worked

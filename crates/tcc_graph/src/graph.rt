@@ -10,7 +10,6 @@ use crate::key_row::KeyRow;
 use crate::key_table::{key_table, place_of};
 use crate::keys::sorted_keys;
 use crate::tables::{read_table, transactions_of};
-use crate::text::label_of;
 use crate::transaction::Transaction;
 use std::alloc::Global;
 use std::marker::Model;
@@ -152,15 +151,11 @@ impl Graph {
         ensures { IfOk result (λ text. string_bytes text ≡ label self.now n) }
     {
         if n == 0 {
-            let mut text = String::new(alloc);
-            text.push_str("init")?;
-            return Ok(text);
+            return Ok(format!(in alloc; "init")?);
         }
         let transaction = &self.transactions[n as usize];
-        label_of(
-            alloc,
-            &self.sessions[transaction.owner() as usize],
-            transaction.place(),
-        )
+        let session = self.sessions[transaction.owner() as usize];
+        let place = transaction.place();
+        Ok(format!(in alloc; "{session}/{place}")?)
     }
 }

@@ -9,7 +9,6 @@ mod keys;
 mod link;
 mod step;
 mod tables;
-mod text;
 mod transaction;
 mod walk;
 

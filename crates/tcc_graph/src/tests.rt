@@ -172,10 +172,10 @@ fn readers_of_two_values(rt: HostRuntime) -> Result<(), Fail> {
     )?;
     let graph = graph(&rt, alloc, vec![in alloc; a, b, c]?)?;
     let x = name(&rt, "x");
-    assert!(rt; graph.readers(1, &x) == [3]);
-    assert!(rt; graph.readers(2, &x) == [3]);
+    assert!(rt; graph.readers(1, &x) == [3].as_slice());
+    assert!(rt; graph.readers(2, &x) == [3].as_slice());
     assert!(rt; graph.readers(0, &x).is_empty());
-    assert!(rt; graph.writers(&x) == [0, 1, 2]);
+    assert!(rt; graph.writers(&x) == [0, 1, 2].as_slice());
     assert!(rt; graph.writers(&name(&rt, "y")).is_empty());
     Ok(())
 }
@@ -203,11 +203,11 @@ fn keys_writers_and_readers(rt: HostRuntime) -> Result<(), Fail> {
     assert_eq!(rt; graph.keys().len(), 2);
     assert!(rt; graph.keys()[0] == name(&rt, "Y"));
     assert!(rt; graph.keys()[1] == name(&rt, "x"));
-    assert!(rt; graph.readers(0, &name(&rt, "x")) == [1]);
-    assert!(rt; graph.readers(1, &name(&rt, "x")) == [2]);
-    assert!(rt; graph.readers(2, &name(&rt, "Y")) == [1]);
-    assert!(rt; graph.writers(&name(&rt, "x")) == [0, 1]);
-    assert!(rt; graph.writers(&name(&rt, "Y")) == [0, 2]);
+    assert!(rt; graph.readers(0, &name(&rt, "x")) == [1].as_slice());
+    assert!(rt; graph.readers(1, &name(&rt, "x")) == [2].as_slice());
+    assert!(rt; graph.readers(2, &name(&rt, "Y")) == [1].as_slice());
+    assert!(rt; graph.writers(&name(&rt, "x")) == [0, 1].as_slice());
+    assert!(rt; graph.writers(&name(&rt, "Y")) == [0, 2].as_slice());
     Ok(())
 }
 
