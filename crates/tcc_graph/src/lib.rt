@@ -7,6 +7,7 @@ mod key_row;
 mod key_table;
 mod keys;
 mod link;
+mod marks;
 mod step;
 mod tables;
 mod transaction;
