@@ -64,6 +64,7 @@ fn graph(
 
 /// The label of a number.
 fn assert_label(rt: &impl Abort, alloc: Global, graph: &Graph, n: u32, wanted: &str) {
+    assert!(rt; n < graph.count());
     match graph.label(alloc, n) {
         Ok(label) => assert_eq!(rt; label.as_str(), wanted),
         Err(_) => panic!(rt; "out of memory"),
@@ -108,10 +109,7 @@ fn label_with_an_aborted_transaction(rt: HostRuntime) -> Result<(), Fail> {
         &rt,
         alloc,
         "B.1-b",
-        &[
-            (&[put(&rt, "z", 9)], false),
-            (&[put(&rt, "x", 1)], true),
-        ],
+        &[(&[put(&rt, "z", 9)], false), (&[put(&rt, "x", 1)], true)],
     )?;
     let a = session(&rt, alloc, "a", &[(&[get(&rt, "x", 1)], true)])?;
     let graph = graph(&rt, alloc, vec![in alloc; a, b]?)?;
@@ -138,6 +136,7 @@ fn session_pairs(rt: HostRuntime) -> Result<(), Fail> {
     )?;
     let b = session(&rt, alloc, "b", &[(&[get(&rt, "x", 1)], true)])?;
     let graph = graph(&rt, alloc, vec![in alloc; a, b]?)?;
+    assert!(rt; graph.count() == 5);
     assert!(rt; !graph.session(0, 0));
     assert!(rt; graph.session(0, 1));
     assert!(rt; graph.session(0, 4));
@@ -171,6 +170,7 @@ fn readers_of_two_values(rt: HostRuntime) -> Result<(), Fail> {
         &[(&[get(&rt, "x", 1), get(&rt, "x", 2)], true)],
     )?;
     let graph = graph(&rt, alloc, vec![in alloc; a, b, c]?)?;
+    assert!(rt; graph.count() == 4);
     let x = name(&rt, "x");
     assert!(rt; graph.readers(1, &x) == [3].as_slice());
     assert!(rt; graph.readers(2, &x) == [3].as_slice());
@@ -200,6 +200,7 @@ fn keys_writers_and_readers(rt: HostRuntime) -> Result<(), Fail> {
         &[(&[get(&rt, "x", 1), put(&rt, "Y", 1)], true)],
     )?;
     let graph = graph(&rt, alloc, vec![in alloc; a, b]?)?;
+    assert!(rt; graph.count() == 3);
     assert_eq!(rt; graph.keys().len(), 2);
     assert!(rt; graph.keys()[0] == name(&rt, "Y"));
     assert!(rt; graph.keys()[1] == name(&rt, "x"));
@@ -214,7 +215,10 @@ fn keys_writers_and_readers(rt: HostRuntime) -> Result<(), Fail> {
 #[test]
 fn walks_keep_their_steps(rt: HostRuntime) -> Result<(), Fail> {
     let alloc = rt.alloc();
-    let walk = Walk::new(vec![in alloc; Step::Session { from: 1, to: 2 }, Step::Session { from: 2, to: 3 }]?);
+    let walk = Walk::new(vec![in alloc;
+        Step::Session { from: 1, to: 2 },
+        Step::Session { from: 2, to: 3 },
+    ]?);
     assert_eq!(rt; walk.steps().len(), 2);
     let Ok(copy) = walk.copy(alloc) else {
         panic!(rt; "out of memory")
