@@ -6,6 +6,7 @@ use std::alloc::Global;
 use std::env;
 use std::io::Read;
 use std::process::ExitCode;
+use tcc_graph::Graph;
 use tcc_reads::resolve;
 use tcc_txn::{Item, Name, Rows, Snapshot, Txn};
 
@@ -58,7 +59,7 @@ fn run<R: Read + Drop>(alloc: Global, reader: R, stage: Stage) -> Option<u32> {
     if stage == Stage::Resolve {
         return u32::try_from(resolved.places().len()).ok();
     }
-    None
+    Some(Graph::build(alloc, &resolved).ok()?.count())
 }
 
 fn stage_of(rt: &HostRuntime) -> Option<Stage> {
