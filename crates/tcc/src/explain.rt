@@ -1,25 +1,12 @@
 //! From the bytes of an input to its answer.
-ghost use Rattle.std.specs.Prelude.{◌≡◌};
-ghost use Rattle.tcc.specs.Statuses.{row_status};
-
-use crate::commit_order::commit_order;
-use crate::finished::Finished;
+use crate::answer::Answer;
+use crate::answers::{fault_answer, fixed_answer, snapshot_answer};
+use crate::finished::Gathered;
 use crate::status::Status;
-use crate::text::Text;
-use crate::texts;
 use crate::write::write_text;
 use std::alloc::Global;
 use std::io::{Read, Write};
-use tcc_graph::Graph;
-use tcc_reads::{ResolveFault, resolve};
-use tcc_txn::{Item, NoMemory, RowFault, RowFaultKind, Rows, Snapshot};
-
-/// What is printed, and how the run then ends.
-#[derive(Drop)]
-pub struct Answer {
-    pub text: Text,
-    pub status: Status,
-}
+use tcc_txn::{Item, NoMemory, RowFault, Rows, Snapshot};
 
 /// Why an input has no snapshot.
 enum Halt {
@@ -38,9 +25,9 @@ impl From<NoMemory> for Halt {
 }
 
 /// What the sessions finished up to the end of the input.
-fn gather<R: Read + Drop>(alloc: Global, reader: R) -> Result<Finished, Halt> {
+fn gather<R: Read + Drop>(alloc: Global, reader: R) -> Result<Gathered, Halt> {
     let mut rows = Rows::new(alloc, reader)?;
-    let mut finished = Finished::new(alloc);
+    let mut finished = Gathered::new(alloc);
     for _ in 0..u64::MAX {
         match next_item(alloc, &mut rows)? {
             Item::Finished(session, txn) => finished.add(alloc, session, txn)?,
@@ -59,73 +46,8 @@ fn next_item<R: Read + Drop>(alloc: Global, rows: &mut Rows<R>) -> Result<Item, 
     }
 }
 
-fn row_status(kind: &RowFaultKind) -> Status
-    ensures { result ≡ row_status kind.now }
-{
-    match kind {
-        RowFaultKind::TooManyOps
-        | RowFaultKind::TooManySessions
-        | RowFaultKind::TooManyTransactions
-        | RowFaultKind::TooManyKeys
-        | RowFaultKind::TooManySeals => Status::Limit,
-        RowFaultKind::Read => Status::Device,
-        RowFaultKind::NoMemory => Status::Memory,
-        _ => Status::RowFault,
-    }
-}
-
-/// The line of a row fault.
-fn fault_answer(alloc: Global, fault: &RowFault) -> Result<Answer, NoMemory> {
-    if let RowFaultKind::NoMemory = fault.kind {
-        return Err(NoMemory);
-    }
-    Ok(Answer {
-        text: texts::row_fault(alloc, fault)?,
-        status: row_status(&fault.kind),
-    })
-}
-
-/// A line that is always the same.
-fn fixed_answer(alloc: Global, line: &[u8], status: Status) -> Result<Answer, NoMemory> {
-    let mut text = Text::new(alloc);
-    text.push(&[line])?;
-    Ok(Answer { text, status })
-}
-
-/// The text of an order's graph.
-fn consistent_answer(alloc: Global, graph: &Graph, order: &[u32]) -> Result<Answer, NoMemory> {
-    let mut labels = Vec::new(alloc);
-    for number in order {
-        labels.push(graph.label(alloc, *number)?)?;
-    }
-    let text = texts::consistent(alloc, graph.count() - 1, graph.sessions().len(), &labels)?;
-    Ok(Answer {
-        text,
-        status: Status::Success,
-    })
-}
-
-/// The answer for a snapshot: its read faults, a commit order, or that there is none.
-fn snapshot_answer(alloc: Global, snapshot: &Snapshot) -> Result<Answer, NoMemory> {
-    let resolved = match resolve(alloc, snapshot) {
-        Ok(resolved) => resolved,
-        Err(ResolveFault::Reads(faults)) => {
-            return Ok(Answer {
-                text: texts::unresolved(alloc, &faults)?,
-                status: Status::ReadFaults,
-            });
-        }
-        Err(ResolveFault::NoMemory) => return Err(NoMemory),
-    };
-    let graph = Graph::build(alloc, &resolved)?;
-    match commit_order(alloc, &graph)? {
-        Some(order) => consistent_answer(alloc, &graph, &order),
-        None => fixed_answer(alloc, b"inconsistent\n", Status::Anomaly),
-    }
-}
-
 /// The answer for all that the sessions finished.
-fn finished_answer(alloc: Global, finished: Finished) -> Result<Answer, NoMemory> {
+fn finished_answer(alloc: Global, finished: Gathered) -> Result<Answer, NoMemory> {
     match Snapshot::new(finished.into_parts(alloc)?) {
         Ok(snapshot) => snapshot_answer(alloc, &snapshot),
         // The rows keep the limits of a snapshot, so only memory was refused.

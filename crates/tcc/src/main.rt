@@ -1,6 +1,8 @@
 //! `tcc explain`: reads the records of a history and says whether it is causally consistent.
 #![tactic(auto)]
 
+mod answer;
+mod answers;
 mod command_line;
 mod commit_order;
 mod explain;
