@@ -3,17 +3,14 @@
 mod limited;
 mod line;
 mod progress;
+mod records;
 
 use crate::{Name, NoMemory, Txn};
-use csv::{ByteRecord, Reader, ReaderBuilder};
-use limited::Limited;
 use line::read_line;
 use progress::Progress;
+use records::Records;
 use std::alloc::{AllocFailed, Global};
 use std::io::Read;
-
-/// A reader is given up past so many bytes.
-const MOST_BYTES: usize = 67_108_864;
 
 /// What the records give, in the order of their last records.
 #[derive(Drop)]
@@ -93,8 +90,7 @@ enum Phase {
 /// The transactions and seals of a reader's records.
 #[derive(Drop)]
 pub struct Rows<R> {
-    reader: Reader<Limited<R>>,
-    record: ByteRecord,
+    records: Records<R>,
     row: u64,
     progress: Progress,
     phase: Phase,
@@ -103,13 +99,8 @@ pub struct Rows<R> {
 impl<R: Read + Drop> Rows<R> {
     /// The rows of what the reader gives; it is gone where memory is refused.
     pub fn new(alloc: Global, reader: R) -> Result<Rows<R>, NoMemory> {
-        let reader = ReaderBuilder::new()
-            .has_headers(false)
-            .flexible(true)
-            .from_reader(alloc, Limited::new(reader, MOST_BYTES));
         Ok(Rows {
-            reader,
-            record: ByteRecord::new(alloc),
+            records: Records::new(alloc, reader),
             row: 0,
             progress: Progress::new(alloc),
             phase: Phase::Reading,
@@ -153,12 +144,12 @@ impl<R: Read + Drop> Rows<R> {
 
     /// Goes past one record, or to the end.
     fn step(&mut self, alloc: Global) -> Result<Option<Item>, RowFault> {
-        match self.fetch() {
+        match self.records.read() {
             Ok(true) => {}
             Ok(false) => return self.finish().map(Some),
             Err(kind) => return Err(self.fault_at_next(kind)),
         }
-        let passed = match read_line(&self.record) {
+        let passed = match read_line(self.records.record()) {
             Ok(line) => self.progress.pass(alloc, line),
             Err(kind) => Err(kind),
         };
@@ -181,20 +172,6 @@ impl<R: Read + Drop> Rows<R> {
             None => {
                 self.phase = Phase::Ended;
                 Ok(Item::End)
-            }
-        }
-    }
-
-    /// Reads the next record, if there is one.
-    fn fetch(&mut self) -> Result<bool, RowFaultKind> {
-        match self.reader.read_byte_record(&mut self.record) {
-            Ok(found) => Ok(found),
-            Err(error) => {
-                if error.is_io_error() {
-                    Err(RowFaultKind::Read)
-                } else {
-                    Err(RowFaultKind::NoMemory)
-                }
             }
         }
     }

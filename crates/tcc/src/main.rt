@@ -1,0 +1,35 @@
+//! `tcc explain`: reads the records of a history and says whether it is causally consistent.
+#![tactic(auto)]
+
+mod answer;
+mod answers;
+mod command_line;
+mod commit_order;
+mod explain;
+mod finished;
+mod status;
+mod text;
+mod texts;
+mod write;
+
+use command_line::Request;
+use explain::run_explain;
+use status::Status;
+use std::io;
+use std::process::ExitCode;
+
+fn explain_input(rt: &HostRuntime) -> u8 {
+    let status = run_explain(rt.alloc(), rt.stdin(), &mut io::writer(rt));
+    if status == Status::Device.code() {
+        let _ = eprintln!(rt; "device");
+    }
+    status
+}
+
+fn main(rt: HostRuntime) -> ExitCode {
+    let status = match command_line::read(&rt) {
+        Ok(Request::Explain) => explain_input(&rt),
+        Err(status) => status.code(),
+    };
+    ExitCode::from(status)
+}

@@ -1,0 +1,80 @@
+-- Texts and their answers, worked out by the definitions alone.
+use Rattle.std.proofs.Common.{◌≡◌, ℕ, List, [], ◌∷◌, ◌++◌, true, false, None, Some, refl}
+use Rattle.std.specs.Prelude.{codes}
+use Rattle.csv.specs.Machine.{next_record}
+use Rattle.csv.specs.Reading.{records_from, strip_bom}
+use Rattle.tcc_txn.specs.Answers.{Answers, answers_of, ending}
+use Rattle.tcc_txn.specs.ByteLimit.{marked}
+use Rattle.tcc_txn.specs.declared.op.Op.TheVariants.{Get, Put}
+use Rattle.tcc_txn.specs.declared.rows.Item.{Item}
+use Rattle.tcc_txn.specs.declared.rows.Item.TheVariants as item
+use Rattle.tcc_txn.specs.declared.rows.RowFaultKind.{RowFaultKind}
+use Rattle.tcc_txn.specs.declared.rows.RowFaultKind.TheVariants as kind
+
+-- some items, and then a fault at a row
+faulty : List Item → ℕ → RowFaultKind → Answers
+faulty items row k = record { items = items; fault = Some (record { row = row; kind = k }) }
+
+-- some items, and then the end
+whole : List Item → Answers
+whole items = record { items = items; fault = None }
+
+nothing : answers_of [] ≡ whole []
+unfolding next_record records_from strip_bom marked whole
+nothing = refl
+
+-- the input ends inside a transaction
+open_at_end : answers_of (codes "a,begin\na,r,x,0\n") ≡ faulty [] 2 (kind.Unfinished (codes "a"))
+unfolding next_record records_from strip_bom marked faulty
+open_at_end = refl
+
+-- the least of two open sessions
+least_open : answers_of (codes "b,begin\na.,begin\na-,begin") ≡ faulty [] 3 (kind.Unfinished (codes "a-"))
+unfolding next_record records_from strip_bom marked faulty
+least_open = refl
+
+-- 0 is written in the second record
+zero_written : answers_of (codes "a,begin\na,w,x,0\n") ≡ faulty [] 2 kind.WriteOfZero
+unfolding next_record records_from strip_bom marked faulty
+zero_written = refl
+
+-- the same record alone is no operation outside a transaction, since the lower kind comes first
+zero_written_outside : answers_of (codes "a,w,x,0\n") ≡ faulty [] 1 kind.WriteOfZero
+unfolding next_record records_from strip_bom marked faulty
+zero_written_outside = refl
+
+outside : answers_of (codes "a,r,x,0\n") ≡ faulty [] 1 kind.NotBegun
+unfolding next_record records_from strip_bom marked faulty
+outside = refl
+
+begun_twice : answers_of (codes "a,begin\na,begin\n") ≡ faulty [] 2 kind.AlreadyBegun
+unfolding next_record records_from strip_bom marked faulty
+begun_twice = refl
+
+-- a seal inside a transaction, which is finished after it
+sealed_inside : answers_of (codes "a,begin\na,w,x,7\nseal\na,commit\n")
+    ≡ whole (item.Seal ∷ item.Finished (codes "a") (record { ops = Put (codes "x") 7 ∷ []; committed = true }) ∷ [])
+unfolding next_record records_from strip_bom marked whole
+sealed_inside = refl
+
+-- two sessions, one within the other, the inner one aborted; and then a word that is none
+interleaved : answers_of (codes "a,begin\nb,begin\na,r,x,0\nb,w,x,1\nb,abort\na,r,y,18446744073709551615\na,commit\nstop")
+    ≡ faulty (item.Finished (codes "b") (record { ops = Put (codes "x") 1 ∷ []; committed = false })
+    ∷ item.Finished (codes "a") (record { ops = Get (codes "x") 0 ∷ Get (codes "y") 18446744073709551615 ∷ []; committed = true }) ∷ []) 8 kind.UnknownWord
+unfolding next_record records_from strip_bom marked faulty
+interleaved = refl
+
+-- a value of more than 64 bits, and one with a leading zero
+too_great : answers_of (codes "a,begin\na,w,x,18446744073709551616\n") ≡ faulty [] 2 kind.BadValue
+unfolding next_record records_from strip_bom marked faulty
+too_great = refl
+
+zero_led : answers_of (codes "a,begin\na,r,x,01\n") ≡ faulty [] 2 kind.BadValue
+unfolding next_record records_from strip_bom marked faulty
+zero_led = refl
+
+-- quotes, blank lines, carriage returns and a byte order mark are the records' business
+quoted : answers_of (239 ∷ 187 ∷ 191 ∷ codes "\"a\",begin\r\n\r\n\na,\"commit\"")
+    ≡ whole (item.Finished (codes "a") (record { ops = []; committed = true }) ∷ [])
+unfolding next_record records_from strip_bom marked whole
+quoted = refl
