@@ -1,1 +1,7 @@
 pub mod Gathering
+pub mod Closure
+pub mod Greedy
+pub mod Written
+pub mod Filters
+pub mod Reached
+pub mod Kept
