@@ -66,3 +66,33 @@ pub fn first_numbering(alloc: Global, table: &Precedence) -> Result<Option<Vec<u
     }
     Ok(Some(order))
 }
+
+#[cfg(test)]
+mod tests {
+    use super::*;
+    use std::test::Fail;
+
+    #[test]
+    fn the_least_ready_number_is_next(rt: HostRuntime) -> Result<(), Fail> {
+        let mut pairs = Precedence::none(rt.alloc(), 4)?;
+        assert_eq!(rt; pairs.count(), 4);
+        pairs.add(3, 1);
+        let order = first_numbering(rt.alloc(), &pairs)?.ok_or("no order")?;
+        assert_eq!(rt; order.as_slice(), [0, 2, 3, 1].as_slice());
+        Ok(())
+    }
+
+    #[test]
+    fn nothing_has_an_order_and_a_cycle_none(rt: HostRuntime) -> Result<(), Fail> {
+        let nothing = Precedence::none(rt.alloc(), 0)?;
+        let order = first_numbering(rt.alloc(), &nothing)?.ok_or("no order")?;
+        assert!(rt; order.is_empty());
+        let mut pairs = Precedence::none(rt.alloc(), 3)?;
+        assert_eq!(rt; pairs.count(), 3);
+        pairs.add(1, 2);
+        assert_eq!(rt; pairs.count(), 3);
+        pairs.add(2, 1);
+        assert!(rt; first_numbering(rt.alloc(), &pairs)?.is_none());
+        Ok(())
+    }
+}

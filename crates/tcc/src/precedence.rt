@@ -154,3 +154,49 @@ impl Precedence {
         Ok(())
     }
 }
+
+#[cfg(test)]
+mod tests {
+    use super::*;
+    use std::test::Fail;
+
+    #[test]
+    fn chains_are_joined(rt: HostRuntime) -> Result<(), Fail> {
+        let mut pairs = Precedence::none(rt.alloc(), 4)?;
+        assert_eq!(rt; pairs.count(), 4);
+        pairs.add(0, 3);
+        assert_eq!(rt; pairs.count(), 4);
+        pairs.add(3, 1);
+        pairs.close(rt.alloc())?;
+        assert_eq!(rt; pairs.count(), 4);
+        for (earlier, later, want) in [
+            (0, 3, true),
+            (3, 1, true),
+            (0, 1, true),
+            (1, 0, false),
+            (0, 0, false),
+            (0, 2, false),
+        ] {
+            assert_eq!(rt;
+                pairs.precedes(earlier, later),
+                want,
+                "from {earlier} to {later}"
+            );
+        }
+        Ok(())
+    }
+
+    #[test]
+    fn a_cycle_reaches_itself(rt: HostRuntime) -> Result<(), Fail> {
+        let mut pairs = Precedence::none(rt.alloc(), 2)?;
+        assert_eq!(rt; pairs.count(), 2);
+        pairs.add(0, 1);
+        assert_eq!(rt; pairs.count(), 2);
+        pairs.add(1, 0);
+        pairs.close(rt.alloc())?;
+        assert_eq!(rt; pairs.count(), 2);
+        assert!(rt; pairs.precedes(0, 0));
+        assert!(rt; pairs.before(1)[1]);
+        Ok(())
+    }
+}
