@@ -5,3 +5,4 @@ pub mod Written
 pub mod Filters
 pub mod Reached
 pub mod Kept
+pub mod WorkedTables
