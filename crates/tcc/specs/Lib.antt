@@ -2,3 +2,4 @@ pub mod Statuses
 pub mod Texts
 pub mod Gathered
 pub mod Answers
+pub mod Halts

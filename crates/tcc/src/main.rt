@@ -7,6 +7,7 @@ mod command_line;
 mod commit_order;
 mod explain;
 mod finished;
+mod halt;
 mod status;
 mod text;
 mod texts;
