@@ -5,7 +5,7 @@
 
 For each history of histories.py: medians of the wall time and the peak memory of `tcc explain`, and the median
 wall time of `csv_count`, which reads the same records by csv and only counts them. The two take turns. Builds
-what isn't built. Peak memory is never below that of this script, about 10 MB.
+what isn't built. Peak memory is never below that of this script, about 15 MB.
 """
 import argparse
 import os

@@ -14,3 +14,6 @@ pub use op::Op;
 pub use snapshot::{Snapshot, SnapshotFault};
 pub use rows::{Item, RowFault, RowFaultKind, Rows};
 pub use txn::{Txn, TxnFault};
+
+#[cfg(test)]
+mod tests;

@@ -118,7 +118,8 @@ impl Name {
     pub fn copy(&self) -> Result<Name, NoMemory>
         ensures { result ≡ Ok self.now }
     {
-        Ok(*self)
+        let name = *self;
+        Ok(name)
     }
 }
 
@@ -171,6 +172,8 @@ impl Hash for Name {
 }
 
 impl fmt::Display for Name {
+    ghost output = { λ name. Some name };
+
     fn fmt<W: fmt::Write>(&self, f: &mut fmt::Formatter<W>) -> fmt::Result {
         match std::str::from_utf8(self.bytes()) {
             Ok(text) => f.pad(text),

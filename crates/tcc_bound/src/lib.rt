@@ -1,0 +1,19 @@
+//! The bound that searches in many threads share: one word, the least cost that any of them has offered.
+//!
+//! Each thread works with a seat of its own, through a `&Bound`. `look` reads the word, `offer` lowers it to a cost, and both answer the
+//! word as it then is. No call waits for another thread.
+#![tactic(auto)]
+
+mod bound;
+mod known;
+mod rule;
+mod seat;
+#[cfg(test)]
+mod tests;
+
+pub use bound::Bound;
+pub use seat::Seat;
+use std::alloc::AllocError;
+
+/// There was no memory. It is std's own error, so `?` turns it into whatever error a caller has for that.
+pub type NoMemory = AllocError;

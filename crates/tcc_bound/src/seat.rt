@@ -1,0 +1,24 @@
+//! The seat that a thread works with.
+use crate::known::View;
+use atomic_table::Seat as Token;
+use std::marker::Model;
+
+/// A place at a bound. It has no bytes, and may go to another thread.
+///
+/// Contracts see which bound it is of, the floor of that bound, the word as the seat was last told (its sight), and the costs that it and
+/// all seats joined into it offered. The offers and the sight of a seat that is dropped still count.
+#[derive(Drop)]
+pub struct Seat {
+    pub(crate) token: Token<(), View>,
+}
+
+impl Model for Seat {
+    ghost use Rattle.tcc_bound.specs.Seated.{Seated};
+    ghost use Rattle.tcc_bound.specs.Rule.{known_of, IsLive};
+
+    ghost Value = { Seated };
+
+    ghost view = { λ s. record { bound = s.token.table_id; known = known_of s.token.me.0 } };
+
+    ghost invariant = { λ s. IsLive s.token.me };
+}
