@@ -75,3 +75,6 @@ pub fn run_explain<R: Read + Drop, W: Write>(alloc: Global, reader: R, out: &mut
         Err(NoMemory) => print(out, b"memory\n", Status::Memory),
     }
 }
+
+#[cfg(test)]
+mod tests;
