@@ -1,4 +1,5 @@
 pub mod Gathering
+pub mod UnderWay
 pub mod Closure
 pub mod Greedy
 pub mod Written

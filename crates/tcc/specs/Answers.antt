@@ -1,10 +1,8 @@
 -- What is printed for an input, and how the run then ends.
-use Rattle.std.specs.Prelude.{ℕ, ◌≡◌, ◌≢◌, ◌-◌, ◌⊎◌, Bool, true, false, List, [], ◌∷◌, map, filter_map, length, Option, None, Some, if◌then◌else◌, codes, MatchBool}
+use Rattle.std.specs.Prelude.{ℕ, ◌≡◌, ◌≢◌, ◌-◌, ◌⊎◌, Bool, true, false, List, [], ◌∷◌, map, length, take, Option, None, Some, codes}
 use Rattle.std.specs.List.{list_any}
-use Rattle.std.specs.Str.{bytes_eq}
-use Rattle.std.specs.FinMap as sessions
+use Rattle.std.specs.Io.KnownBytes.{Appends}
 use Rattle.tcc_txn.specs.Snapshots.{Sessions}
-use Rattle.tcc_txn.specs.Transactions.{Transaction}
 use Rattle.tcc_txn.specs.Answers as rows
 use Rattle.tcc_txn.specs.declared.rows.Item.{Item}
 use Rattle.tcc_txn.specs.declared.rows.Item.TheVariants.{Finished, Seal, End}
@@ -19,7 +17,8 @@ use Rattle.tcc_graph.specs.Orders.{IsCommitOrder, IsFirstOrder}
 use Rattle.tcc.specs.declared.answer.Answer.{Answer}
 use Rattle.tcc.specs.declared.status.Status.{Status}
 use Rattle.tcc.specs.declared.status.Status.TheVariants as status
-use Rattle.tcc.specs.Statuses.{row_status}
+use Rattle.tcc.specs.Statuses.{code_of, row_status}
+use Rattle.tcc.specs.Gathered.{IsSnapshotOf}
 use Rattle.tcc.specs.Texts.{row_fault_text, unresolved_text, consistent_text}
 
 -- the line of a row fault
@@ -64,3 +63,39 @@ abbrev pub IsSnapshotAnswer : Sessions → Answer → Type 0
 IsSnapshotAnswer s a =
     ((read_faults s ≡ []) × IsHistoryAnswer (history s) a)
     ⊎ ((read_faults s ≢ []) × (a ≡ unresolved_answer (read_faults s)))
+
+-- an item that wants an answer for what was finished before it
+abbrev pub is_seal : Item → Bool
+is_seal (Finished session txn) = false
+is_seal Seal = true
+is_seal End = false
+
+-- the answer after all items: that of a fault, else that for the snapshot of all that was finished
+abbrev pub IsEndAnswer : List Item → Option RowFault → Answer → Type 0
+IsEndAnswer items None a = (s : Sessions) × IsSnapshotOf items s × IsSnapshotAnswer s a
+IsEndAnswer items (Some fault) a = a ≡ fault_answer fault
+
+-- the answer for what the records give
+abbrev pub IsInputAnswer : rows.Answers → Answer → Type 0
+IsInputAnswer all a =
+    ((list_any is_seal all.items ≡ true) × (a ≡ refused_answer))
+    ⊎ ((list_any is_seal all.items ≡ false) × IsEndAnswer all.items all.fault a)
+
+-- the line of a reader that failed
+abbrev pub IsReadFailure : Answer → Type 0
+IsReadFailure a = (row : ℕ) × (a ≡ fault_answer (record { row = row; kind = kind.Read }))
+
+-- what a run may mean to print for the bytes: their answer; with a reader that fails the line of that; without memory
+-- the line of that
+abbrev pub MayAnswer : List ℕ → Answer → Type 0
+MayAnswer text a = (IsInputAnswer (rows.answers_of text) a ⊎ IsReadFailure a) ⊎ (a ≡ memory_answer)
+
+-- the answer went out whole and gave the status; or a write failed, and a part of it, from its front, went out
+abbrev pub Prints : Option (List ℕ) → Option (List ℕ) → Answer → ℕ → Type 0
+Prints before after a code =
+    (Appends before after a.text × (code ≡ code_of a.status))
+    ⊎ (((n : ℕ) × Appends before after (take n a.text)) × (code ≡ code_of status.Device))
+
+-- what a run does with the bytes
+abbrev pub IsRun : List ℕ → Option (List ℕ) → Option (List ℕ) → ℕ → Type 0
+IsRun text before after code = (a : Answer) × MayAnswer text a × Prints before after a code

@@ -2,6 +2,7 @@ pub mod Statuses
 pub mod Texts
 pub mod Gathered
 pub mod Answers
+pub mod Halts
 pub mod Precedence
 pub mod Numbering
 pub mod Reachability

@@ -1,8 +1,9 @@
 -- A snapshot as it lies in memory.
-use Rattle.std.proofs.Common.{◌≡◌, ℕ, ◌<◌, ◌≤◌, Bool, true, false, List, [], length, sum_by, map, refl, ap, sym, ◌∙◌, subst, arith, Option, None, Some, T, slice_get, option_map, ◌∷◌, ◌&&◌}
+use Rattle.std.proofs.Common.{◌≡◌, ℕ, ◌+◌, ◌<◌, ◌≤◌, Bool, true, false, List, [], length, sum_by, map, refl, ap, sym, ◌∙◌, subst, arith, Option, None, Some, T, slice_get, option_map, ◌∷◌, ◌&&◌}
 use Rattle.std.specs.List.{IsDistinct}
 use Rattle.std.specs.FinMap.Entries.{below_all}
 use Rattle.std.specs.Ordering.{is_lt}
+use Rattle.std.proofs.lemmas.List.Sums.{sum_by-cons}
 use Rattle.std.proofs.lemmas.Option.{slice_get-map}
 use Rattle.std.proofs.lemmas.List.Sorted.{length_permutation, sum_by-IsPermutation, IsPermutation-map}
 use Rattle.std.specs.List.Sorted.{IsPermutation, IsSortedByKey}
@@ -28,6 +29,21 @@ slice_get-shown parts i stored =
 
 pub len-shown : (parts : List (List ℕ × Vec Transaction)) → IsStored parts → finite.len (shown parts) ≡ length parts
 len-shown parts stored = finite.len-entries (shown parts) ∙ ap length (entries-shown parts stored) ∙ length-parts_of parts
+
+sum_by-parts_of : (parts : List (List ℕ × Vec Transaction))
+    → sum_by (λ part. length part.1) (parts_of parts) ≡ sum_by (λ part. length part.1.items) parts
+sum_by-parts_of [] = refl
+sum_by-parts_of (part ∷ parts) =
+    sum_by-cons (λ p. length p.1) (part.0, part.1.items) (parts_of parts)
+    ∙ ap (λ n. length part.1.items + n) (sum_by-parts_of parts)
+    ∙ sym (sum_by-cons (λ p. length p.1.items) part parts)
+
+-- the sessions of a snapshot have at most 1,023 transactions in all
+pub short-shown : (parts : List (List ℕ × Vec Transaction)) → IsStored parts → sum_by (λ part. length part.1) (finite.entries (shown parts)) ≤ 1023
+short-shown parts stored =
+    let total : sum_by (λ part. length part.1) (finite.entries (shown parts)) ≡ sum_by (λ part. length part.1.items) parts
+    = ap (sum_by (λ part. length part.1)) (entries-shown parts stored) ∙ sum_by-parts_of parts in
+    omega (arith, total, stored.short)
 
 below_all-parts_of : (name : List ℕ) (parts : List (List ℕ × Vec Transaction))
     → below_all (slice_cmp nat_cmp) name (parts_of parts) ≡ below_all (slice_cmp nat_cmp) name parts

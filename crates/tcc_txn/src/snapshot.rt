@@ -123,6 +123,7 @@ impl Snapshot {
     pub fn sessions(&self) -> u32
         ensures value { result ≡ sessions.len self.now }
         ensures few { result ≤ 64 }
+        ensures few_transactions { sum_by (λ named. length named.1) (sessions.entries self.now) ≤ 1023 }
     {
         self.sessions.len() as u32
     }

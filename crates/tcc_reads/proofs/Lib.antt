@@ -1,0 +1,7 @@
+pub mod WorkedRows
+pub mod Ties
+pub mod Tables
+pub mod Counting
+pub mod Agreement
+pub mod Sourcing
+pub mod Findings

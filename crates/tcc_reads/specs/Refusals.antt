@@ -1,0 +1,11 @@
+-- Why a snapshot isn't resolved.
+use Rattle.std.specs.Prelude.{◌≡◌, ◌≢◌, []}
+use Rattle.tcc_txn.specs.Snapshots.{Sessions}
+use Rattle.tcc_reads.specs.declared.fault.ResolveFault.{ResolveFault}
+use Rattle.tcc_reads.specs.declared.fault.ResolveFault.TheVariants.{Reads, NoMemory}
+use Rattle.tcc_reads.specs.Faults.{read_faults}
+
+-- the list has exactly the faults of the snapshot, of which there is one at least; or memory was wanting
+abbrev pub IsRefusal : Sessions → ResolveFault → Type 0
+IsRefusal s (Reads faults) = (faults.items ≡ read_faults s) × (faults.items ≢ [])
+IsRefusal s NoMemory = Unit {0}

@@ -1,0 +1,190 @@
+//! What each operation of a transaction is: a fault, an external read with its source, or neither.
+ghost use Rattle.std.specs.Prelude.{◌≡◌, ◌∷◌, [], ◌++◌, List, IfOk, OnOk, option_to_list};
+ghost use Rattle.std.specs.Option.{option_copied};
+ghost use Rattle.tcc_txn.specs.declared.op.Op.{Op};
+ghost use Rattle.tcc_reads.specs.Faults.{op_key, op_value};
+ghost use Rattle.tcc_reads.specs.Verdicts.{held, is_in, write_judgement, read_judgement, op_judgement, fault_in, source_in, AreVisibleWrites, faults_found, sources_found};
+
+use crate::standing::Standing;
+use crate::writers::{Writer, Writers};
+use crate::{ReadFault, ReadFaultKind};
+use std::alloc::{AllocError, Global};
+use std::collections::BTreeMap;
+use tcc_txn::{Name, Op};
+
+/// What an operation is.
+#[derive(Clone, Copy)]
+enum Judgement {
+    /// It has a fault.
+    Faulty(ReadFaultKind),
+    /// It is an external read from the transaction of this number.
+    ReadsFrom(u32),
+    /// It says nothing about other transactions.
+    Silent,
+}
+
+/// Whether a write stands in this transaction.
+fn is_in(standing: &Standing<'_>, first: &Writer) -> bool
+    ensures { result ≡ is_in standing.now first.now }
+{
+    first.session == standing.session && first.place == standing.place
+}
+
+/// Of a write at a place of its transaction, from 1, by the first write of its value.
+fn write_judgement(standing: &Standing<'_>, place: u32, writer: Option<&Writer>) -> Judgement
+    ensures { result ≡ write_judgement standing.now place (option_copied writer.entry) }
+{
+    match writer {
+        None => Judgement::Faulty(ReadFaultKind::Duplicate),
+        Some(first) => {
+            if is_in(standing, first) && first.op == place {
+                Judgement::Silent
+            } else {
+                Judgement::Faulty(ReadFaultKind::Duplicate)
+            }
+        }
+    }
+}
+
+/// Of an external read of a value other than 0, by the first write of the value.
+fn read_judgement(standing: &Standing<'_>, writer: Option<&Writer>) -> Judgement
+    ensures { result ≡ read_judgement standing.now (option_copied writer.entry) }
+{
+    let Some(first) = writer else {
+        return Judgement::Faulty(ReadFaultKind::ThinAir);
+    };
+    let Some(number) = first.number else {
+        return Judgement::Faulty(ReadFaultKind::Aborted);
+    };
+    if is_in(standing, first) {
+        return Judgement::Faulty(ReadFaultKind::Future);
+    }
+    if first.last {
+        Judgement::ReadsFrom(number)
+    } else {
+        Judgement::Faulty(ReadFaultKind::Intermediate)
+    }
+}
+
+/// Of an operation at a place of its transaction, from 1, where `own` is the latest own write of its key.
+fn judgement_of(
+    writers: &Writers,
+    standing: &Standing<'_>,
+    place: u32,
+    op: Op,
+    own: Option<u64>,
+) -> Judgement
+    ensures { result ≡ op_judgement (held writers.now) standing.now place op own }
+{
+    match op {
+        Op::Put { key, value } => write_judgement(standing, place, writers.get(&(key, value))),
+        Op::Get { key, value } => {
+            if !standing.txn.committed() {
+                return Judgement::Silent;
+            }
+            match own {
+                Some(written) => {
+                    if written == value {
+                        Judgement::Silent
+                    } else {
+                        Judgement::Faulty(ReadFaultKind::BrokenInternal)
+                    }
+                }
+                None => {
+                    if value == 0 {
+                        Judgement::ReadsFrom(0)
+                    } else {
+                        read_judgement(standing, writers.get(&(key, value)))
+                    }
+                }
+            }
+        }
+    }
+}
+
+fn key_of(op: &Op) -> Name
+    ensures { result ≡ op_key op.now }
+{
+    match op {
+        Op::Get { key, .. } => *key,
+        Op::Put { key, .. } => *key,
+    }
+}
+
+fn value_of(op: &Op) -> u64
+    ensures { result ≡ op_value op.now }
+{
+    match op {
+        Op::Get { value, .. } => *value,
+        Op::Put { value, .. } => *value,
+    }
+}
+
+/// Adds what was found out about an operation at a place of its transaction, from 1.
+fn note(
+    standing: &Standing<'_>,
+    place: u32,
+    op: &Op,
+    judgement: Judgement,
+    faults: &mut Vec<ReadFault>,
+    reads: &mut Vec<(Name, u32)>,
+) -> Result<(), AllocError>
+    ensures fault { OnOk result (faults.new.items ≡ faults.old.items ++ option_to_list (fault_in standing.now.stand place op.now judgement)) }
+    ensures read { OnOk result (reads.new.items ≡ reads.old.items ++ option_to_list (source_in op.now judgement)) }
+{
+    match judgement {
+        Judgement::Faulty(kind) => {
+            let fault = ReadFault {
+                session: standing.name,
+                place: standing.place,
+                op: place,
+                key: key_of(op),
+                value: value_of(op),
+                kind,
+            };
+            faults.push(fault)?;
+            Ok(())
+        }
+        Judgement::ReadsFrom(source) => {
+            reads.push((key_of(op), source))?;
+            Ok(())
+        }
+        Judgement::Silent => Ok(()),
+    }
+}
+
+/// Takes in an operation as the latest one of its transaction.
+fn put_own(own: &mut BTreeMap<Name, u64>, op: Op) -> Result<(), AllocError>
+    ensures { OnOk result ((before : List Op) → AreVisibleWrites own.old before → AreVisibleWrites own.new (before ++ op ∷ [])) }
+{
+    match op {
+        Op::Put { key, value } => {
+            own.insert(key, value)?;
+            Ok(())
+        }
+        Op::Get { .. } => Ok(()),
+    }
+}
+
+/// Judges the operations of a transaction: adds its faults, and gives its external reads with their sources.
+pub(crate) fn judge(
+    alloc: Global,
+    writers: &Writers,
+    standing: &Standing<'_>,
+    faults: &mut Vec<ReadFault>,
+) -> Result<Vec<(Name, u32)>, AllocError>
+    ensures faults { IfOk result (λ _. faults.new.items ≡ faults.old.items ++ faults_found (held writers.now) standing.now) }
+    ensures sources { IfOk result (λ reads. reads.items ≡ sources_found (held writers.now) standing.now) }
+{
+    let ops = standing.txn.ops();
+    let mut own = BTreeMap::new(alloc);
+    let mut reads = Vec::new(alloc);
+    for (before, op) in ops.iter().enumerate() {
+        let place = before as u32 + 1;
+        let written = own.get(&key_of(op)).copied();
+        let judgement = judgement_of(writers, standing, place, *op, written);
+        note(standing, place, op, judgement, faults, &mut reads)?;
+        put_own(&mut own, *op)?;
+    }
+    Ok(reads)
+}

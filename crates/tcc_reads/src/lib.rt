@@ -1,0 +1,18 @@
+//! Who read from whom: each external read of a snapshot gets its source, or every fault is named.
+#![tactic(auto)]
+
+mod fault;
+mod judging;
+mod numbering;
+mod resolved;
+mod resolver;
+mod sorting;
+mod standing;
+mod writers;
+
+pub use fault::{ReadFault, ReadFaultKind, ResolveFault};
+pub use resolved::Resolved;
+pub use resolver::resolve;
+
+#[cfg(test)]
+mod tests;

@@ -1,0 +1,86 @@
+//! Histories whose reads are resolved.
+ghost use Rattle.std.specs.Prelude.{◌≡◌, ◌<◌, ◌≤◌, ◌+◌, length, All};
+ghost use Rattle.tcc_reads.specs.History.{count, entry_at};
+ghost use Rattle.tcc_reads.specs.Stored.{places_of};
+
+use std::marker::Model;
+use tcc_txn::Name;
+
+/// A committed transaction, or the initial one.
+#[derive(Drop)]
+pub(crate) struct Node {
+    /// The index of its session.
+    pub owner: u32,
+    /// Its place in the session, from 1.
+    pub place: u32,
+    /// The keys that it writes visibly, in byte order.
+    pub writes: Vec<Name>,
+    /// Key and source of its external reads, by key, then by number.
+    pub reads: Vec<(Name, u32)>,
+}
+
+impl Model for Node {
+    ghost use Rattle.tcc_reads.specs.History.{Entry};
+
+    ghost Value = { Entry };
+
+    ghost view = { λ n. record { owner = n.owner; place = n.place; writes = n.writes.items; reads = n.reads.items } };
+}
+
+/// A snapshot of which each external read has its source. The committed transactions are numbered from 1 by session
+/// name in byte order and by place; number 0 is the initial transaction, which writes 0 at every key.
+#[derive(Drop)]
+pub struct Resolved {
+    pub(crate) sessions: Vec<Name>,
+    pub(crate) places: Vec<(u32, u32)>,
+    pub(crate) nodes: Vec<Node>,
+}
+
+impl Model for Resolved {
+    ghost use Rattle.tcc_reads.specs.History.{History};
+    ghost use Rattle.tcc_reads.specs.Stored.{IsStored};
+
+    ghost Value = { History };
+
+    ghost view = { λ r. record { sessions = r.sessions.items; entries = r.nodes.items } };
+
+    ghost invariant = { λ r. IsStored r.sessions.items r.places.items r.nodes.items };
+}
+
+impl Resolved {
+    /// The names of all sessions in byte order, also of those without committed transactions.
+    pub fn sessions(&self) -> &[Name]
+        ensures value { result.now ≡ self.now.sessions }
+        ensures few { length result.now ≤ 64 }
+    {
+        &self.sessions
+    }
+
+    /// The session's index and the place of each committed transaction, from number 1 on. Places count aborted ones.
+    pub fn places(&self) -> &[(u32, u32)]
+        ensures value { result.now ≡ places_of self.now.entries }
+        ensures count { length result.now + 1 ≡ count self.now }
+        ensures few { count self.now ≤ 1024 }
+        ensures owners { All (λ p. p.0 < length self.now.sessions) result.now }
+    {
+        &self.places
+    }
+
+    /// The keys that the transaction of this number writes visibly, in byte order; none for the initial one, which
+    /// writes every key.
+    pub fn writes(&self, t: u32) -> &[Name]
+        requires { t < count self.now }
+        ensures { result.now ≡ (entry_at self.now t).writes }
+    {
+        &self.nodes[t as usize].writes
+    }
+
+    /// Key and source of the external reads of this transaction, by key in byte order, then by number, each pair once.
+    pub fn reads(&self, t: u32) -> &[(Name, u32)]
+        requires { t < count self.now }
+        ensures value { result.now ≡ (entry_at self.now t).reads }
+        ensures sources { All (λ r. r.1 < count self.now) result.now }
+    {
+        &self.nodes[t as usize].reads
+    }
+}

@@ -1,0 +1,128 @@
+//! The resolver.
+ghost use Rattle.std.specs.Prelude.{◌≡◌, [], ◌∷◌, ◌++◌, filter_map, flat_map, IfOk, OnOk, MatchResult};
+ghost use Rattle.tcc_reads.specs.History.{initial};
+ghost use Rattle.tcc_reads.specs.Sources.{name_cmp, pair_cmp, key_put, sorted_once, writes_of, history};
+ghost use Rattle.tcc_reads.specs.Faults.{read_faults};
+ghost use Rattle.tcc_reads.specs.Refusals.{IsRefusal};
+ghost use Rattle.tcc_reads.specs.Stored.{places_of};
+ghost use Rattle.tcc_reads.specs.Verdicts.{held, faults_found, entries_found};
+
+use crate::judging::judge;
+use crate::numbering::{session_names, standings};
+use crate::resolved::{Node, Resolved};
+use crate::sorting::sorted_once;
+use crate::standing::Standing;
+use crate::writers::{Writers, first_writers};
+use crate::{ReadFault, ResolveFault};
+use std::alloc::{AllocError, Global};
+use tcc_txn::{Name, Op, Snapshot};
+
+/// The keys that some operations write, in order, each once.
+fn written_keys(alloc: Global, ops: &[Op]) -> Result<Vec<Name>, AllocError>
+    ensures { IfOk result (λ keys. keys.items ≡ sorted_once name_cmp (filter_map key_put ops.now)) }
+{
+    let mut keys = Vec::new(alloc);
+    for op in ops {
+        if let Op::Put { key, .. } = op {
+            keys.push(*key)?;
+        }
+    }
+    sorted_once(alloc, &keys)
+}
+
+/// A committed transaction with its external reads.
+fn node(alloc: Global, standing: &Standing<'_>, reads: &[(Name, u32)]) -> Result<Node, AllocError>
+    ensures { IfOk result (λ node. node ≡ record {
+      owner = standing.now.stand.session;
+      place = standing.now.stand.place;
+      writes = writes_of standing.now.stand;
+      reads = sorted_once pair_cmp reads.now;
+    }) }
+{
+    Ok(Node {
+        owner: standing.session,
+        place: standing.place,
+        writes: written_keys(alloc, standing.txn.ops())?,
+        reads: sorted_once(alloc, reads)?,
+    })
+}
+
+/// Adds a transaction's node, if it was committed, and its faults.
+fn examine_one(
+    alloc: Global,
+    writers: &Writers,
+    standing: &Standing<'_>,
+    nodes: &mut Vec<Node>,
+    faults: &mut Vec<ReadFault>,
+) -> Result<(), AllocError>
+    ensures nodes { OnOk result (nodes.new.items ≡ nodes.old.items ++ entries_found (held writers.now) (standing.now ∷ [])) }
+    ensures faults { OnOk result (faults.new.items ≡ faults.old.items ++ faults_found (held writers.now) standing.now) }
+{
+    let reads = judge(alloc, writers, standing, faults)?;
+    if standing.txn.committed() {
+        nodes.push(node(alloc, standing, &reads)?)?;
+    }
+    Ok(())
+}
+
+/// The nodes of the initial and of the committed transactions, and all faults.
+#[derive(Drop)]
+struct Findings {
+    nodes: Vec<Node>,
+    faults: Vec<ReadFault>,
+}
+
+fn examine(
+    alloc: Global,
+    writers: &Writers,
+    standings: &[Standing<'_>],
+) -> Result<Findings, AllocError>
+    ensures nodes { IfOk result (λ found. found.nodes.items ≡ initial ∷ entries_found (held writers.now) standings.now) }
+    ensures faults { IfOk result (λ found. found.faults.items ≡ flat_map (faults_found (held writers.now)) standings.now) }
+{
+    let mut nodes = Vec::new(alloc);
+    let mut faults = Vec::new(alloc);
+    nodes.push(Node {
+        owner: 0,
+        place: 0,
+        writes: Vec::new(alloc),
+        reads: Vec::new(alloc),
+    })?;
+    for standing in standings {
+        examine_one(alloc, writers, standing, &mut nodes, &mut faults)?;
+    }
+    Ok(Findings { nodes, faults })
+}
+
+/// Session's index and place from number 1 on.
+fn places(alloc: Global, nodes: &[Node]) -> Result<Vec<(u32, u32)>, AllocError>
+    ensures { IfOk result (λ places. places.items ≡ places_of nodes.now) }
+{
+    nodes
+        .iter()
+        .skip(1)
+        .map(|node| (node.owner, node.place))
+        .collect(alloc)
+}
+
+/// Finds the source of each external read of the snapshot's committed transactions, or else all faults.
+pub fn resolve(alloc: Global, snapshot: &Snapshot) -> Result<Resolved, ResolveFault>
+    ensures { MatchResult result
+        (λ resolved. (read_faults snapshot.now ≡ []) × (resolved ≡ history snapshot.now))
+        (IsRefusal snapshot.now) }
+{
+    let sessions = session_names(alloc, snapshot)?;
+    let standings = standings(alloc, snapshot)?;
+    let writers = first_writers(alloc, &standings)?;
+    let Findings { nodes, faults } = examine(alloc, &writers, &standings)?;
+    if faults.is_empty() {
+        let places = places(alloc, &nodes)?;
+        Ok(Resolved {
+            sessions,
+            places,
+            nodes,
+        })
+    } else {
+        Err(ResolveFault::Reads(faults))
+    }
+}

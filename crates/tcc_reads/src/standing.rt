@@ -1,0 +1,27 @@
+//! Transactions, where they stand in a snapshot.
+use std::marker::Model;
+use tcc_txn::{Name, Txn};
+
+/// A transaction, where it stands.
+#[derive(Drop)]
+pub(crate) struct Standing<'a> {
+    /// The index of its session, in byte order of the names.
+    pub session: u32,
+    /// The name of its session.
+    pub name: Name,
+    /// Its place in the session, from 1, aborted ones counted.
+    pub place: u32,
+    /// One more than the committed transactions before it: its number, if it was committed.
+    pub number: u32,
+    pub txn: &'a Txn,
+}
+
+impl<'a> Model for Standing<'a> {
+    ghost use Rattle.tcc_reads.specs.Numbers.{Numbered, numbered_code};
+
+    ghost Value = { Numbered };
+
+    ghost coded = { numbered_code };
+
+    ghost view = { λ s. record { number = s.number; stand = record { session = s.session; name = s.name; place = s.place; txn = s.txn.now } } };
+}
