@@ -1,7 +1,7 @@
 -- What every commit order keeps, as a table and as links: the orders of the one are those of the other.
 use Rattle.std.proofs.Common.{◌≡◌, ◌≢◌, ◌<◌, ◌+◌, ◌==◌, ℕ, Bool, true, false, ◌⊎◌, inl, inr, List, [], cond, map, length, slice_index_or, refl, sym, ◌∙◌, arith, subst, bytes_eq, zero-add}
 use Rattle.std.specs.List.{All, Contains, filter, list_any}
-use Rattle.std.proofs.lemmas.Bool.{or_right, cond-true, cases_eq}
+use Rattle.std.proofs.lemmas.Bool.{or_right, cond-true, cases_eq, false≢true}
 use Rattle.std.proofs.lemmas.List.{get_or_default}
 use Rattle.std.proofs.lemmas.List.Elements.{All-filter, All-contains, All-nil, filter_passes}
 use Rattle.std.proofs.lemmas.List.Folds.{list_any_at, list_any-append}
@@ -148,3 +148,7 @@ reasons_all h table a c keys is all b x walk r = go (subst (λ (ks : List (List 
   where
     go : Contains keys x → precedes table b a ≡ true
     go (k, within, e) = all k within b walk (subst (λ (y : List ℕ). IsReason h b a y c walk) (sym (get_or_default keys k [] x within ∙ e)) r)
+
+-- without a pair there is nothing read, and so no reason
+pub reasons_none : (h : History) (table : List (List Bool)) (a c : ℕ) → IsJustified h table → precedes table a c ≡ false → HasReasonsOf h table a c
+reasons_none h table a c justified none b x walk r = absurd (false≢true (sym none ∙ justified.causal a c (pair_from_reads h a c x r.0.1)))

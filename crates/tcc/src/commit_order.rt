@@ -64,7 +64,10 @@ fn add_reasons(pairs: &mut Precedence, graph: &Graph, reach: &Precedence, reader
     ensures added { (a : ℕ) → a < count graph.now → HasReasonsOf graph.now pairs.new a reader }
 {
     for source in 0..graph.count() {
-        add_contradicted(pairs, graph, reach, source, reader);
+        // The pairs have all reads already, so that where there is none, nothing is read.
+        if pairs.precedes(source as usize, reader as usize) {
+            add_contradicted(pairs, graph, reach, source, reader);
+        }
     }
 }
 
