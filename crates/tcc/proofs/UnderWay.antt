@@ -111,8 +111,8 @@ module _ {R : Type 0} {remaining : R → Option (List ℕ)} {rows : Rows R} {gat
   pub stops_at_end : (under : IsUnderWay remaining rows gathered all) (rows' : Rows R)
       → TakesAnswer remaining under.ahead (Ok End) rows' → IsGathering all (Ok gathered)
   stops_at_end under rows' takes =
-      let whole : all.items ≡ under.past = under.items ∙ ap (λ ahead. under.past ++ ahead.items) takes ∙ append-nil under.past in
-      (ap (list_any is_seal) whole ∙ under.unsealed, under.fault ∙ ap (λ (ahead : Answers). ahead.fault) takes,
+      let whole : all.items ≡ under.past = under.items ∙ ap (λ ahead. under.past ++ ahead.items) takes.0 ∙ append-nil under.past in
+      (ap (list_any is_seal) whole ∙ under.unsealed, under.fault ∙ ap (λ (ahead : Answers). ahead.fault) takes.0,
         λ session. under.holds session ∙ ap (λ items. some_of (finished_of session items)) (sym whole))
 
   -- the fault of the records, a reader that fails, or want of memory
@@ -127,9 +127,9 @@ module _ {R : Type 0} {remaining : R → Option (List ℕ)} {rows : Rows R} {gat
     whole same = under.items ∙ ap (λ ahead. under.past ++ ahead.items) same ∙ append-nil under.past
     by_test : (b : Bool) → is_memory fault.kind ≡ b → IsGathering all (Err (cond b halt.NoMemory (halt.Fault fault)))
     by_test true e = tt
-    by_test false e = elim takes [
+    by_test false e = elim takes.0 [
       | inl same ↦ inl (ap (list_any is_seal) (whole same) ∙ under.unsealed, under.fault ∙ ap (λ (ahead : Answers). ahead.fault) same)
-      | inr failure ↦ elim failure [
+      | inr fails ↦ elim fails.0 [
         | inl read ↦ inr read
         | inr memory ↦ absurd (no_memory (sym (ap is_memory memory) ∙ e))
       ]

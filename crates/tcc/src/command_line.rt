@@ -51,8 +51,13 @@ pub fn read(rt: &HostRuntime) -> Result<Request, Status> {
     match parse(rt.alloc(), &words) {
         Ok(request) => Ok(request),
         Err(error) => {
-            let _ = error.print(rt);
-            Err(status_of(error.kind()))
+            let status = status_of(error.kind());
+            match error.print(rt) {
+                Ok(()) => Err(status),
+                // Help that does not go out; what standard error takes changes nothing.
+                Err(_) if status == Status::Success => Err(Status::Device),
+                Err(_) => Err(status),
+            }
         }
     }
 }

@@ -22,18 +22,13 @@ use status::Status;
 use std::io;
 use std::process::ExitCode;
 
-fn explain_input(rt: &HostRuntime) -> u8 {
-    let status = run_explain(rt.alloc(), rt.stdin(), &mut io::writer(rt));
-    if status == Status::Device.code() {
-        let _ = eprintln!(rt; "device");
-    }
-    status
-}
-
 fn main(rt: HostRuntime) -> ExitCode {
-    let status = match command_line::read(&rt) {
-        Ok(Request::Explain) => explain_input(&rt),
+    let code = match command_line::read(&rt) {
+        Ok(Request::Explain) => run_explain(rt.alloc(), rt.stdin(), &mut io::writer(&rt)),
         Err(status) => status.code(),
     };
-    ExitCode::from(status)
+    if code == Status::Device.code() {
+        let _ = eprintln!(rt; "device");
+    }
+    ExitCode::from(code)
 }

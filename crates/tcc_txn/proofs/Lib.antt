@@ -1,8 +1,13 @@
-pub mod Parts
-pub mod SortedParts
-pub mod SnapshotFaults
-pub mod StoredSnapshot
+mod AheadFacts
 mod FieldBytes
-mod RecordSteps
-mod WorkedTexts
+mod LeastOpen
 mod LimitFacts
+mod LineFacts
+mod PastFacts
+mod RecordSteps
+mod StandingFacts
+mod WorkedTexts
+pub mod Parts
+pub mod SnapshotFaults
+pub mod SortedParts
+pub mod StoredSnapshot

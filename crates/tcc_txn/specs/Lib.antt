@@ -1,9 +1,13 @@
+pub mod Ahead
 pub mod Answers
 pub mod ByteLimit
+pub mod Drafts
 pub mod Lines
 pub mod Names
 pub mod Past
+pub mod Phases
 pub mod RecordsLeft
+pub mod Standing
 pub mod Transactions
 pub mod Snapshots
 pub mod Stored

@@ -28,12 +28,15 @@ has_no_leading_zero [] = true
 has_no_leading_zero (digit ∷ []) = true
 has_no_leading_zero (digit ∷ next ∷ rest) = not (digit == 48)
 
--- the number of at most 64 bits that some digits write, without a sign and without leading zeros
+-- the number of at most 64 bits that some digits write
+abbrev pub digits_of : List ℕ → Option ℕ
+digits_of [] = None
+digits_of (digit ∷ rest) =
+    if all_ascii_digits (digit ∷ rest) && nat_lt (digits_value 10 (digit ∷ rest)) (2 ^ 64) then Some (digits_value 10 (digit ∷ rest)) else None
+
+-- the same of digits without leading zeros
 abbrev pub value_of : List ℕ → Option ℕ
-value_of [] = None
-value_of (digit ∷ rest) =
-    if all_ascii_digits (digit ∷ rest) && has_no_leading_zero (digit ∷ rest) && nat_lt (digits_value 10 (digit ∷ rest)) (2 ^ 64)
-    then Some (digits_value 10 (digit ∷ rest)) else None
+value_of text = if has_no_leading_zero text then digits_of text else None
 
 -- what comes of a field that is to be a name
 abbrev pub named : {T : Type 0} → List ℕ → RowFaultKind → Result T RowFaultKind → Result T RowFaultKind

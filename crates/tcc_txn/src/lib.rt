@@ -4,15 +4,15 @@
 mod memory;
 mod name;
 mod op;
-mod snapshot;
 mod rows;
+mod snapshot;
 mod txn;
 
 pub use memory::NoMemory;
 pub use name::{Name, NameFault};
 pub use op::Op;
-pub use snapshot::{Snapshot, SnapshotFault};
 pub use rows::{Item, RowFault, RowFaultKind, Rows};
+pub use snapshot::{Snapshot, SnapshotFault};
 pub use txn::{Txn, TxnFault};
 
 #[cfg(test)]

@@ -1,5 +1,10 @@
 //! Transactions and seals as they come out of records.
+ghost use Rattle.std.specs.Prelude.{◌≡◌, ◌+◌, ◌^◌, ◌<◌, List, length, true, IfOk, IfErr, IfSome, OnOk, None, Some};
+ghost use Rattle.tcc_txn.specs.Answers.{Answers, answers_of, fault_at_end};
+ghost use Rattle.tcc_txn.specs.Standing.{IsAfter};
+ghost use Rattle.tcc_txn.specs.declared.rows.line.Line.{Line};
 
+mod draft;
 mod limited;
 mod line;
 mod progress;
@@ -97,8 +102,14 @@ pub struct Rows<R> {
 }
 
 impl<R: Read + Drop> Rows<R> {
+    ghost use Rattle.tcc_txn.specs.Ahead.{FaultsIn, IsAhead, IsReading, TakesAnswer, TakesFields, TakesItem, TakesStep, fault_met, has_ended};
+    ghost use Rattle.tcc_txn.specs.Phases.{phase_after, phase_after_step};
+    ghost use Rattle.tcc_txn.specs.RecordsLeft.{record_of};
+
     /// The rows of what the reader gives; it is gone where memory is refused.
-    pub fn new(alloc: Global, reader: R) -> Result<Rows<R>, NoMemory> {
+    pub fn new(alloc: Global, reader: R) -> Result<Rows<R>, NoMemory>
+        ensures { IfOk result (λ rows. IfSome (R.remaining reader) (λ text. IsAhead R.remaining rows (answers_of text))) }
+    {
         Ok(Rows {
             records: Records::new(alloc, reader),
             row: 0,
@@ -108,34 +119,58 @@ impl<R: Read + Drop> Rows<R> {
     }
 
     /// The next item, or the first fault; after `End` there is `End`, after a fault that fault.
-    pub fn next(&mut self, alloc: Global) -> Result<Item, RowFault> {
+    pub fn next(&mut self, alloc: Global) -> Result<Item, RowFault>
+        ensures answers { (ahead : Answers) → IsAhead R.remaining self.old ahead → TakesAnswer R.remaining ahead result self.new }
+
+        // A fault stays, and so does the end, whatever is known of the bytes.
+        ensures stops { IfErr result (λ fault. fault_met self.new ≡ Some fault) }
+        ensures stays_stopped { IfSome (fault_met self.old) (λ fault. result ≡ Err fault) }
+        ensures ends { result ≡ Ok Item.End → has_ended self.new ≡ true }
+        ensures stays_ended { has_ended self.old ≡ true → result ≡ Ok Item.End }
+    {
         match self.phase {
             Phase::Reading => {}
             Phase::Ended => return Ok(Item::End),
             Phase::Stopped(fault) => return Err(fault),
         }
-        for _ in 0..u64::MAX {
-            match self.step(alloc) {
-                Ok(Some(item)) => return Ok(item),
-                Ok(None) => {}
-                Err(fault) => {
-                    self.stop(&fault);
-                    return Err(fault);
-                }
+        match self.advance(alloc) {
+            Ok(item) => Ok(item),
+            Err(fault) => {
+                self.stop(&fault);
+                Err(fault)
             }
         }
-        let fault = self.fault_at_next(RowFaultKind::Read);
-        self.stop(&fault);
-        Err(fault)
     }
 
     /// Keeps the fault for all later answers.
-    fn stop(&mut self, fault: &RowFault) {
+    fn stop(&mut self, fault: &RowFault)
+        ensures { self.new ≡ record self.old { phase = Phase.Stopped fault.now } }
+    {
         self.phase = Phase::Stopped(*fault);
     }
 
+    /// Goes past records up to the next item.
+    fn advance(&mut self, alloc: Global) -> Result<Item, RowFault>
+        requires { self.old.phase ≡ Phase.Reading }
+        ensures item { IfOk result (λ given. (ahead : Answers) → IsReading R.remaining self.old ahead → TakesItem R.remaining ahead given self.new) }
+        ensures phase { IfOk result (λ given. self.new.phase ≡ phase_after given) }
+        ensures fault { IfErr result (λ fault. (ahead : Answers) → IsReading R.remaining self.old ahead → FaultsIn ahead fault) }
+    {
+        'records: for _ in 0..u64::MAX {
+            match self.step(alloc) {
+                Ok(Some(item)) => return Ok(item),
+                Ok(None) => {}
+                Err(fault) => return Err(fault),
+            }
+        }
+        Err(self.fault_at_next(RowFaultKind::Read))
+    }
+
     /// A fault at the record after those that were read.
-    fn fault_at_next(&self, kind: RowFaultKind) -> RowFault {
+    fn fault_at_next(&self, kind: RowFaultKind) -> RowFault
+        ensures row { self.now.row + 1 < 2 ^ 64 → result.row ≡ self.now.row + 1 }
+        ensures kind { result.kind ≡ kind }
+    {
         RowFault {
             row: self.row.saturating_add(1),
             kind,
@@ -143,17 +178,30 @@ impl<R: Read + Drop> Rows<R> {
     }
 
     /// Goes past one record, or to the end.
-    fn step(&mut self, alloc: Global) -> Result<Option<Item>, RowFault> {
+    fn step(&mut self, alloc: Global) -> Result<Option<Item>, RowFault>
+        requires { self.old.phase ≡ Phase.Reading }
+        ensures step { (ahead : Answers) → IsReading R.remaining self.old ahead → TakesStep R.remaining ahead result self.new }
+        ensures phase { IfOk result (λ given. self.new.phase ≡ phase_after_step given) }
+    {
         match self.records.read() {
-            Ok(true) => {}
-            Ok(false) => return self.finish().map(Some),
-            Err(kind) => return Err(self.fault_at_next(kind)),
+            Ok(true) => self.take_record(alloc),
+            Ok(false) => self.finish(),
+            Err(kind) => Err(self.fault_at_next(kind)),
         }
-        let passed = match read_line(self.records.record()) {
-            Ok(line) => self.progress.pass(alloc, line),
-            Err(kind) => Err(kind),
+    }
+
+    /// Goes past the record that was read last.
+    fn take_record(&mut self, alloc: Global) -> Result<Option<Item>, RowFault>
+        ensures fields { (past : List Line) → IsAfter past self.old.progress → self.old.row ≡ length past → length past + 1 < 2 ^ 64
+            → TakesFields past (record_of self.old.records) result self.new }
+        ensures records { self.new.records ≡ self.old.records }
+        ensures phase { self.old.phase ≡ Phase.Reading → IfOk result (λ given. self.new.phase ≡ phase_after_step given) }
+    {
+        let line = match read_line(self.records.record()) {
+            Ok(line) => line,
+            Err(kind) => return Err(self.fault_at_next(kind)),
         };
-        match passed {
+        match self.progress.pass(alloc, line) {
             Ok(item) => {
                 self.row = self.row.saturating_add(1);
                 Ok(item)
@@ -163,7 +211,12 @@ impl<R: Read + Drop> Rows<R> {
     }
 
     /// The end of the records.
-    fn finish(&mut self) -> Result<Item, RowFault> {
+    fn finish(&mut self) -> Result<Option<Item>, RowFault>
+        ensures unfinished { IfErr result (λ fault. (past : List Line) → IsAfter past self.old.progress → self.old.row ≡ length past → fault_at_end past ≡ Some fault) }
+        ensures closed { OnOk result ((past : List Line) → IsAfter past self.old.progress → fault_at_end past ≡ None) }
+        ensures end { IfOk result (λ given. given ≡ Some Item.End) }
+        ensures phase { OnOk result (self.new.phase ≡ Phase.Ended) }
+    {
         match self.progress.unfinished() {
             Some(session) => Err(RowFault {
                 row: self.row,
@@ -171,7 +224,7 @@ impl<R: Read + Drop> Rows<R> {
             }),
             None => {
                 self.phase = Phase::Ended;
-                Ok(Item::End)
+                Ok(Some(Item::End))
             }
         }
     }

@@ -49,7 +49,10 @@ fn refuses_names(rt: HostRuntime) {
         ("z{", NameFault::BadByte { at: 2 }),
         ("9:", NameFault::BadByte { at: 2 }),
     ] {
-        assert!(rt; Name::read(text.as_bytes()).is_err_and(|fault| fault == want), "{text}");
+        assert!(rt;
+            Name::read(text.as_bytes()).is_err_and(|fault| fault == want),
+            "{text}"
+        );
     }
 }
 

@@ -1,8 +1,12 @@
 //! What one record says by itself.
+ghost use Rattle.std.specs.Prelude.{◌≡◌, ◌≢◌, ◌<◌, ◌∷◌, [], length, slice_index};
+ghost use Rattle.csv.specs.Records.{field_at, fields_of};
+ghost use Rattle.tcc_txn.specs.Lines.{digits_of, line_of, op_of, value_of};
 
 use super::RowFaultKind;
 use crate::{Name, Op};
 use csv::ByteRecord;
+use std::str;
 
 /// What a lawful record says.
 #[derive(Clone, Copy)]
@@ -17,16 +21,31 @@ pub(crate) enum Line {
     Operation { session: Name, op: Op },
 }
 
-/// The number that the digits write, without sign and without leading zeros.
-fn read_value(digits: &[u8]) -> Option<u64> {
+/// The number of 64 bits that the digits write.
+fn parse_digits(digits: &[u8]) -> Option<u64>
+    requires { slice_index digits.now 0 ≢ 43 }
+    ensures { result ≡ digits_of digits.now }
+{
+    match str::from_utf8(digits) {
+        Ok(text) => text.parse::<u64>().ok(),
+        Err(_) => None,
+    }
+}
+
+/// The number of 64 bits that the digits write, without sign and without leading zeros.
+fn read_value(digits: &[u8]) -> Option<u64>
+    ensures { result ≡ value_of digits.now }
+{
     match digits {
-        [] | [b'+', ..] | [b'0', _, ..] => None,
-        _ => std::str::from_utf8(digits).ok()?.parse::<u64>().ok(),
+        [b'+', ..] | [b'0', _, ..] => None,
+        _ => parse_digits(digits),
     }
 }
 
 /// A record of one field.
-fn read_seal(word: &[u8]) -> Result<Line, RowFaultKind> {
+fn read_seal(word: &[u8]) -> Result<Line, RowFaultKind>
+    ensures { result ≡ line_of (word.now ∷ []) }
+{
     if word == b"seal".as_slice() {
         Ok(Line::Seal)
     } else {
@@ -35,26 +54,33 @@ fn read_seal(word: &[u8]) -> Result<Line, RowFaultKind> {
 }
 
 /// A record of two fields.
-fn read_turn(session: &[u8], word: &[u8]) -> Result<Line, RowFaultKind> {
+fn read_turn(session: &[u8], word: &[u8]) -> Result<Line, RowFaultKind>
+    ensures { result ≡ line_of (session.now ∷ word.now ∷ []) }
+{
     let Ok(session) = Name::read(session) else {
         return Err(RowFaultKind::BadSession);
     };
-    match word {
-        b"begin" => Ok(Line::Begin { session }),
-        b"commit" => Ok(Line::Finish {
+    if word == b"begin".as_slice() {
+        Ok(Line::Begin { session })
+    } else if word == b"commit".as_slice() {
+        Ok(Line::Finish {
             session,
             committed: true,
-        }),
-        b"abort" => Ok(Line::Finish {
+        })
+    } else if word == b"abort".as_slice() {
+        Ok(Line::Finish {
             session,
             committed: false,
-        }),
-        _ => Err(RowFaultKind::UnknownWord),
+        })
+    } else {
+        Err(RowFaultKind::UnknownWord)
     }
 }
 
 /// A read or a write of the key.
-fn read_key_value(writes: bool, key: &[u8], value: &[u8]) -> Result<Op, RowFaultKind> {
+fn read_op(writes: bool, key: &[u8], value: &[u8]) -> Result<Op, RowFaultKind>
+    ensures { result ≡ op_of writes key.now value.now }
+{
     let Ok(key) = Name::read(key) else {
         return Err(RowFaultKind::BadKey);
     };
@@ -62,12 +88,12 @@ fn read_key_value(writes: bool, key: &[u8], value: &[u8]) -> Result<Op, RowFault
         return Err(RowFaultKind::BadValue);
     };
     if !writes {
-        return Ok(Op::Get { key, value });
+        Ok(Op::Get { key, value })
+    } else if value == 0 {
+        Err(RowFaultKind::WriteOfZero)
+    } else {
+        Ok(Op::Put { key, value })
     }
-    if value == 0 {
-        return Err(RowFaultKind::WriteOfZero);
-    }
-    Ok(Op::Put { key, value })
 }
 
 /// A record of four fields.
@@ -76,27 +102,43 @@ fn read_operation(
     word: &[u8],
     key: &[u8],
     value: &[u8],
-) -> Result<Line, RowFaultKind> {
+) -> Result<Line, RowFaultKind>
+    ensures { result ≡ line_of (session.now ∷ word.now ∷ key.now ∷ value.now ∷ []) }
+{
     let Ok(session) = Name::read(session) else {
         return Err(RowFaultKind::BadSession);
     };
-    let op = match word {
-        b"r" => read_key_value(false, key, value)?,
-        b"w" => read_key_value(true, key, value)?,
-        _ => return Err(RowFaultKind::UnknownWord),
-    };
-    Ok(Line::Operation { session, op })
+    let writes = word == b"w".as_slice();
+    if !writes && word != b"r".as_slice() {
+        return Err(RowFaultKind::UnknownWord);
+    }
+    match read_op(writes, key, value) {
+        Ok(op) => Ok(Line::Operation { session, op }),
+        Err(kind) => Err(kind),
+    }
 }
 
-/// The line that the record is.
-pub(crate) fn read_line(record: &ByteRecord) -> Result<Line, RowFaultKind> {
-    let fields = (record.get(0), record.get(1), record.get(2), record.get(3));
-    match (record.len(), fields) {
-        (1, (Some(word), _, _, _)) => read_seal(word),
-        (2, (Some(session), Some(word), _, _)) => read_turn(session, word),
-        (4, (Some(session), Some(word), Some(key), Some(value))) => {
-            read_operation(session, word, key, value)
-        }
+/// The field at the place.
+fn field(record: &ByteRecord, place: usize) -> &[u8]
+    requires { place < length (fields_of record.now) }
+    ensures { Some result.now ≡ field_at (fields_of record.now) place }
+{
+    record.get(place).unwrap()
+}
+
+/// The line that the record is, or what is wrong with the record by itself.
+pub(crate) fn read_line(record: &ByteRecord) -> Result<Line, RowFaultKind>
+    ensures { result ≡ line_of (fields_of record.now) }
+{
+    match record.len() {
+        1 => read_seal(field(record, 0)),
+        2 => read_turn(field(record, 0), field(record, 1)),
+        4 => read_operation(
+            field(record, 0),
+            field(record, 1),
+            field(record, 2),
+            field(record, 3),
+        ),
         _ => Err(RowFaultKind::FieldCount),
     }
 }

@@ -1,5 +1,18 @@
 //! What the lines so far have begun, finished and named.
+ghost use Rattle.std.specs.Prelude.{◌≡◌, ℕ, ◌∷◌, [], false, List, IfOk, find, is_some, option_map};
+ghost use Rattle.std.specs.Ordering.{nat_cmp};
+ghost use Rattle.std.specs.Cmp.Lexicographic.{slice_cmp};
+ghost use Rattle.std.specs.BTreeMap.{IsOrdered};
+ghost use Rattle.tcc_txn.specs.Lines.{line_of};
+ghost use Rattle.tcc_txn.specs.Past.{key_of, least, open_sessions, ops_since};
+ghost use Rattle.tcc_txn.specs.Standing.{HoldsNames, HoldsSeats, IsAfter, MayBegin, NotesName, PassesLine, TakesLine, writes_no_zero};
+ghost use Rattle.tcc_txn.specs.Transactions.{writes_zero};
+ghost use Rattle.tcc_txn.specs.Phases.{phase_after_step};
+ghost use Rattle.tcc_txn.specs.declared.rows.Phase.TheVariants as phase;
+ghost use Rattle.tcc_txn.specs.declared.rows.line.Line.{Line};
+ghost use Rattle.tcc_txn.specs.declared.rows.line.Line.TheVariants as line;
 
+use super::draft::{Draft, add_operation};
 use super::line::Line;
 use super::{Item, RowFaultKind};
 use crate::{Name, Op, Txn};
@@ -7,48 +20,84 @@ use std::alloc::Global;
 use std::collections::{BTreeMap, BTreeSet};
 
 /// The sessions of an input.
-pub(crate) const MOST_SESSIONS: usize = 64;
+const MOST_SESSIONS: usize = 64;
 /// The transactions of an input, aborted ones among them.
-pub(crate) const MOST_TRANSACTIONS: u32 = 1023;
-/// The operations of a transaction.
-pub(crate) const MOST_OPERATIONS: usize = 256;
+const MOST_TRANSACTIONS: u32 = 1023;
 /// The keys of an input.
-pub(crate) const MOST_KEYS: usize = 1024;
+const MOST_KEYS: usize = 1024;
 /// The seals of an input.
-pub(crate) const MOST_SEALS: u32 = 256;
+const MOST_SEALS: u32 = 256;
 
 /// Each session with the operations of the transaction that it has begun; the keys so far; how
 /// many transactions were begun and how many seals there were.
 #[derive(Drop)]
 pub(crate) struct Progress {
-    sessions: BTreeMap<Name, Option<Vec<Op>>>,
+    sessions: BTreeMap<Name, Option<Draft>>,
     keys: BTreeSet<Name>,
     begun: u32,
     seals: u32,
 }
 
 /// The key that the operation reads or writes.
-fn key_of(op: &Op) -> Name {
+fn key_of(op: &Op) -> Name
+    ensures { result ≡ key_of op.now }
+{
     match op {
         Op::Get { key, .. } => *key,
         Op::Put { key, .. } => *key,
     }
 }
 
-/// Adds an operation to the transaction that is begun.
-fn add_operation(begun: &mut Option<Vec<Op>>, op: Op) -> Result<(), RowFaultKind> {
-    let Some(ops) = begun else {
-        return Err(RowFaultKind::NotBegun);
-    };
-    if ops.len() >= MOST_OPERATIONS {
-        return Err(RowFaultKind::TooManyOps);
+/// The key is one of those so far, of which there are not too many.
+fn note_key(keys: &mut BTreeSet<Name>, key: Name) -> Result<(), RowFaultKind>
+    ensures { (names : List (List ℕ)) → HoldsNames names keys.old → NotesName names key result keys.new }
+{
+    if keys.contains(&key) {
+        return Ok(());
     }
-    ops.push(op)?;
-    Ok(())
+    if keys.len() >= MOST_KEYS {
+        return Err(RowFaultKind::TooManyKeys);
+    }
+    match keys.insert(key) {
+        Ok(_) => Ok(()),
+        Err(_) => Err(RowFaultKind::NoMemory),
+    }
+}
+
+/// Whether the session can begin a transaction, as far as the sessions go.
+fn may_begin(sessions: &BTreeMap<Name, Option<Draft>>, session: &Name) -> Result<(), RowFaultKind>
+    ensures { (past : List Line) → HoldsSeats past sessions.now → MayBegin past session.now result }
+{
+    match sessions.get(session) {
+        Some(Some(_)) => Err(RowFaultKind::AlreadyBegun),
+        Some(None) => Ok(()),
+        None => {
+            if sessions.len() >= MOST_SESSIONS {
+                Err(RowFaultKind::TooManySessions)
+            } else {
+                Ok(())
+            }
+        }
+    }
+}
+
+/// The first session that has begun a transaction, in byte order.
+fn first_begun(sessions: &BTreeMap<Name, Option<Draft>>) -> Option<Name>
+    ensures first { result ≡ option_map (λ e. e.0) (find (λ e. is_some e.1) sessions.now.entries) }
+    ensures ordered { IsOrdered (slice_cmp nat_cmp) sessions.now }
+{
+    for (session, begun) in sessions {
+        if begun.is_some() {
+            return Some(*session);
+        }
+    }
+    None
 }
 
 impl Progress {
-    pub(crate) fn new(alloc: Global) -> Progress {
+    pub(crate) fn new(alloc: Global) -> Progress
+        ensures { IsAfter [] result }
+    {
         Progress {
             sessions: BTreeMap::new(alloc),
             keys: BTreeSet::new(alloc),
@@ -58,7 +107,9 @@ impl Progress {
     }
 
     /// An answer is wanted.
-    fn seal(&mut self) -> Result<(), RowFaultKind> {
+    fn seal(&mut self) -> Result<(), RowFaultKind>
+        ensures { (past : List Line) → IsAfter past self.old → PassesLine past line.Seal result self.new }
+    {
         if self.seals >= MOST_SEALS {
             return Err(RowFaultKind::TooManySeals);
         }
@@ -67,89 +118,84 @@ impl Progress {
     }
 
     /// A transaction of the session begins.
-    fn begin(&mut self, alloc: Global, session: Name) -> Result<(), RowFaultKind> {
-        match self.sessions.get(&session) {
-            Some(Some(_)) => return Err(RowFaultKind::AlreadyBegun),
-            Some(None) => {}
-            None => {
-                if self.sessions.len() >= MOST_SESSIONS {
-                    return Err(RowFaultKind::TooManySessions);
-                }
-            }
-        }
+    fn begin(&mut self, alloc: Global, session: Name) -> Result<(), RowFaultKind>
+        ensures { (past : List Line) → IsAfter past self.old → PassesLine past (line.Begin session) result self.new }
+    {
+        may_begin(&self.sessions, &session)?;
         if self.begun >= MOST_TRANSACTIONS {
             return Err(RowFaultKind::TooManyTransactions);
         }
-        self.sessions.insert(session, Some(Vec::new(alloc)))?;
-        self.begun += 1;
-        Ok(())
+        match self.sessions.insert(session, Some(Draft::new(alloc))) {
+            Ok(_) => {
+                self.begun += 1;
+                Ok(())
+            }
+            Err(_) => Err(RowFaultKind::NoMemory),
+        }
     }
 
     /// The session's transaction is finished.
-    fn finish(&mut self, session: Name, committed: bool) -> Result<Txn, RowFaultKind> {
+    fn finish(&mut self, session: Name, committed: bool) -> Result<Txn, RowFaultKind>
+        ensures passed { (past : List Line) → IsAfter past self.old → PassesLine past (line.Finish session committed) result self.new }
+        ensures finished { (past : List Line) → IsAfter past self.old
+            → IfOk result (λ txn. txn ≡ record { ops = ops_since session past; committed = committed }) }
+    {
         let Some(Some(_)) = self.sessions.get(&session) else {
             return Err(RowFaultKind::NotBegun);
         };
-        let Some(Some(ops)) = self.sessions.insert(session, None)? else {
-            return Err(RowFaultKind::NotBegun);
-        };
-        match Txn::new(ops, committed) {
-            Ok(txn) => Ok(txn),
-            Err(_) => Err(RowFaultKind::TooManyOps),
+        match self.sessions.insert(session, None) {
+            Ok(Some(Some(draft))) => Ok(draft.finish(committed)),
+            _ => Err(RowFaultKind::NoMemory),
         }
-    }
-
-    /// The key is one of those so far, of which there are not too many.
-    fn note_key(&mut self, key: Name) -> Result<(), RowFaultKind> {
-        if self.keys.contains(&key) {
-            return Ok(());
-        }
-        if self.keys.len() >= MOST_KEYS {
-            return Err(RowFaultKind::TooManyKeys);
-        }
-        self.keys.insert(key)?;
-        Ok(())
     }
 
     /// The session's transaction reads or writes.
-    fn operate(&mut self, session: Name, op: Op) -> Result<(), RowFaultKind> {
+    fn operate(&mut self, session: Name, op: Op) -> Result<(), RowFaultKind>
+        requires { writes_zero op ≡ false }
+        ensures { (past : List Line) → IsAfter past self.old → PassesLine past (line.Operation session op) result self.new }
+    {
         let key = key_of(&op);
         match self.sessions.get_mut(&session) {
-            Some(begun) => add_operation(begun, op)?,
+            Some(begun) => {
+                if let Err(kind) = add_operation(begun, op) {
+                    return Err(kind);
+                }
+            }
             None => return Err(RowFaultKind::NotBegun),
         }
-        self.note_key(key)
+        note_key(&mut self.keys, key)
     }
 
     /// Goes past the line, which may finish something.
-    pub(crate) fn pass(&mut self, alloc: Global, line: Line) -> Result<Option<Item>, RowFaultKind> {
+    pub(crate) fn pass(&mut self, alloc: Global, line: Line) -> Result<Option<Item>, RowFaultKind>
+        requires { writes_no_zero line }
+        ensures passed { (past : List Line) → IsAfter past self.old → TakesLine past line result self.new }
+        ensures going { IfOk result (λ given. phase_after_step given ≡ phase.Reading) }
+    {
         match line {
-            Line::Seal => {
-                self.seal()?;
-                Ok(Some(Item::Seal))
-            }
-            Line::Begin { session } => {
-                self.begin(alloc, session)?;
-                Ok(None)
-            }
-            Line::Finish { session, committed } => {
-                let txn = self.finish(session, committed)?;
-                Ok(Some(Item::Finished(session, txn)))
-            }
-            Line::Operation { session, op } => {
-                self.operate(session, op)?;
-                Ok(None)
-            }
+            Line::Seal => match self.seal() {
+                Ok(()) => Ok(Some(Item::Seal)),
+                Err(kind) => Err(kind),
+            },
+            Line::Begin { session } => match self.begin(alloc, session) {
+                Ok(()) => Ok(None),
+                Err(kind) => Err(kind),
+            },
+            Line::Finish { session, committed } => match self.finish(session, committed) {
+                Ok(txn) => Ok(Some(Item::Finished(session, txn))),
+                Err(kind) => Err(kind),
+            },
+            Line::Operation { session, op } => match self.operate(session, op) {
+                Ok(()) => Ok(None),
+                Err(kind) => Err(kind),
+            },
         }
     }
 
     /// The least session whose transaction is not finished.
-    pub(crate) fn unfinished(&self) -> Option<Name> {
-        for (session, ops) in &self.sessions {
-            if ops.is_some() {
-                return Some(*session);
-            }
-        }
-        None
+    pub(crate) fn unfinished(&self) -> Option<Name>
+        ensures { (past : List Line) → IsAfter past self.now → result ≡ least (open_sessions past) }
+    {
+        first_begun(&self.sessions)
     }
 }

@@ -24,6 +24,31 @@ fn kind_text(kind: RowFaultKind) -> &'static str {
     }
 }
 
+// The session that a fault names as unfinished.
+fn unfinished_session(kind: RowFaultKind) -> Option<Name> {
+    match kind {
+        RowFaultKind::Unfinished { session } => Some(session),
+        _ => None,
+    }
+}
+
+fn is_fault(fault: &Option<RowFault>, row: u64, kind: &'static str) -> bool {
+    match fault {
+        Some(fault) => fault.row == row && kind_text(fault.kind) == kind,
+        None => false,
+    }
+}
+
+fn is_unfinished(fault: &Option<RowFault>, row: u64, session: &[u8]) -> bool {
+    let Some(fault) = fault else {
+        return false;
+    };
+    match unfinished_session(fault.kind) {
+        Some(name) => fault.row == row && name.bytes() == session,
+        None => false,
+    }
+}
+
 // Takes every item off, and gives how many there were before the end or the fault.
 fn run_out<R: Read + Drop>(
     rt: &impl Abort,
@@ -49,7 +74,7 @@ fn refuses<R: Read + Drop>(
     reader: R,
     items: u64,
     row: u64,
-    kind: &str,
+    kind: &'static str,
 ) {
     let Ok(mut rows) = Rows::new(alloc, reader) else {
         assert!(rt; false, "no memory");
@@ -58,13 +83,10 @@ fn refuses<R: Read + Drop>(
     let (count, end) = run_out(rt, alloc, &mut rows);
     assert_eq!(rt; count, items);
     for _ in 0..2 {
-        match rows.next(alloc) {
-            Ok(_) => assert!(rt; false, "{kind} is not met"),
-            Err(fault) => {
-                assert_eq!(rt; fault.row, row);
-                assert_eq!(rt; kind_text(fault.kind), kind);
-            }
-        }
+        assert!(rt;
+            is_fault(&rows.next(alloc).err(), row, kind),
+            "not {kind} at {row}"
+        );
     }
     assert!(rt; end.is_err());
 }
@@ -88,18 +110,10 @@ fn leaves_open(rt: &impl Abort, alloc: Global, text: &[u8], row: u64, session: &
         return;
     };
     let (_, end) = run_out(rt, alloc, &mut rows);
-    match end {
-        Err(
-            RowFault {
-                row: at,
-                kind: RowFaultKind::Unfinished { session: name },
-            },
-        ) => {
-            assert_eq!(rt; at, row);
-            assert_eq!(rt; name.bytes(), session);
-        }
-        _ => assert!(rt; false, "nothing is unfinished"),
-    }
+    assert!(rt;
+        is_unfinished(&end.err(), row, session),
+        "nothing is unfinished at {row}"
+    );
 }
 
 #[test]

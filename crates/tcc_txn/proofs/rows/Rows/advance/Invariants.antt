@@ -1,0 +1,12 @@
+use Rattle.std.proofs.Common.{◌≡◌}
+use Rattle.tcc_txn.specs.Ahead.{IsReading}
+use Rattle.tcc_txn.specs.Answers.{Answers}
+use Rattle.tcc_txn.specs.declared.rows.Phase.TheVariants as phase
+use Rattle.tcc_txn.proofs.rows.Rows.advance.Given as goal
+
+abbrev pub invariant-records : goal.invariant-records
+invariant-records g l =
+    record {
+      phase : l.self.phase ≡ phase.Reading;
+      reading : (ahead : Answers) → IsReading g.R.Read.remaining l.initial.self ahead → IsReading g.R.Read.remaining l.self ahead;
+    }

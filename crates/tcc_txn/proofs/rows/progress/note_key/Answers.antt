@@ -1,0 +1,9 @@
+use Rattle.std.proofs.Common.{rules, sym, refl, ◌∙◌, arith}
+use Rattle.tcc_txn.proofs.StandingFacts.{names-noted}
+use Rattle.tcc_txn.proofs.rows.progress.note_key.Goals as goal
+
+pub returns-in-Ok : goal.returns-in-Ok
+returns-in-Ok c names holds =
+    let absent = sym c.if-contains.ensures in
+    let added = rw absent at c.in-Ok.ensures.added in
+    names-noted names c.args.key _ _ holds absent (omega (arith, c.if-len-ge-MOST_KEYS.false, c.len.ensures.len)) c.in-Ok.ensures.updates (rw added at c.in-Ok.ensures.len)

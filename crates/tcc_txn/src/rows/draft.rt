@@ -1,0 +1,74 @@
+//! The operations of a transaction that is not finished.
+ghost use Rattle.std.specs.Prelude.{◌≡◌, ◌≤◌, ◌<◌, ◌⊎◌, ◌++◌, ◌∷◌, [], false, length, OnOk, IfErr};
+ghost use Rattle.tcc_txn.specs.Drafts.{AddsOp};
+ghost use Rattle.tcc_txn.specs.Transactions.{writes_zero};
+
+use super::RowFaultKind;
+use crate::{Op, Txn};
+use std::alloc::Global;
+use std::marker::Model;
+
+/// The operations of a transaction.
+const MOST_OPERATIONS: usize = 256;
+
+/// Up to 256 operations, of which none writes 0.
+#[derive(Drop)]
+pub(crate) struct Draft {
+    ops: Vec<Op>,
+}
+
+impl Model for Draft {
+    ghost use Rattle.std.specs.Prelude.{◌≡◌, List, None};
+    ghost use Rattle.tcc_txn.specs.Transactions.{txn_fault};
+    ghost use Rattle.tcc_txn.specs.declared.op.Op.{Op};
+
+    ghost Value = { List Op };
+
+    ghost view = { λ d. d.ops.items };
+
+    ghost invariant = { λ d. txn_fault d.ops.items ≡ None };
+}
+
+impl Draft {
+    pub(crate) fn new(alloc: Global) -> Draft
+        ensures { result ≡ [] }
+    {
+        Draft {
+            ops: Vec::new(alloc),
+        }
+    }
+
+    /// One more operation.
+    fn push(&mut self, op: Op) -> Result<(), RowFaultKind>
+        requires { writes_zero op ≡ false }
+        ensures room { OnOk result (length self.old < 256) }
+        ensures pushed { OnOk result (self.new ≡ self.old ++ op ∷ []) }
+        ensures refused { IfErr result (λ k. ((k ≡ RowFaultKind.TooManyOps) × (256 ≤ length self.old)) ⊎ (k ≡ RowFaultKind.NoMemory)) }
+    {
+        if self.ops.len() >= MOST_OPERATIONS {
+            return Err(RowFaultKind::TooManyOps);
+        }
+        if self.ops.push(op).is_err() {
+            return Err(RowFaultKind::NoMemory);
+        }
+        Ok(())
+    }
+
+    /// The transaction of the operations.
+    pub(crate) fn finish(self, committed: bool) -> Txn
+        ensures { result ≡ record { ops = self; committed = committed } }
+    {
+        Txn::new(self.ops, committed).unwrap()
+    }
+}
+
+/// One more operation of a transaction, if one is begun.
+pub(crate) fn add_operation(begun: &mut Option<Draft>, op: Op) -> Result<(), RowFaultKind>
+    requires { writes_zero op ≡ false }
+    ensures { AddsOp op begun.old result begun.new }
+{
+    match begun {
+        Some(draft) => draft.push(op),
+        None => Err(RowFaultKind::NotBegun),
+    }
+}
