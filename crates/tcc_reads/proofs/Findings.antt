@@ -150,6 +150,7 @@ module _ (s : Sessions) (names : List (List ℕ)) (table : BTreeMap (List ℕ ×
         places_again = are;
         few_sessions = found.few_names;
         some = omega (arith, count);
+        first = ap (λ (es : List Entry). get_or es 0 initial) (nodes_of_findings none);
         few = omega (arith, count, length-filter is_committed (stands s), length-numbered_from 1 (stands s), found.few);
         owners = subst AreOwners (sym (are ∙ ap places_of (nodes_of_findings none))) (owners_stored (length names) (omega (arith, named)));
         sources = subst AreIn (sym (nodes_of_findings none)) (entries_stored (length nodes) count);

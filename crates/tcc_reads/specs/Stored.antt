@@ -1,6 +1,6 @@
 -- How a resolved history lies in memory.
-use Rattle.std.specs.Prelude.{ℕ, ◌≡◌, ◌<◌, ◌≤◌, List, length, map, drop, All}
-use Rattle.tcc_reads.specs.History.{Entry}
+use Rattle.std.specs.Prelude.{ℕ, ◌≡◌, ◌<◌, ◌≤◌, List, length, map, drop, All, slice_index_or}
+use Rattle.tcc_reads.specs.History.{Entry, initial}
 
 -- index of the session and place of the transactions from number 1 on
 abbrev pub places_of : List Entry → List (ℕ × ℕ)
@@ -10,6 +10,7 @@ pub record IsStored (sessions : List (List ℕ)) (places : List (ℕ × ℕ)) (e
   pub places_again : places ≡ places_of entries
   pub few_sessions : length sessions ≤ 64
   pub some : 0 < length entries
+  pub first : slice_index_or entries 0 initial ≡ initial
   pub few : length entries ≤ 1024
   pub owners : All (λ p. p.0 < length sessions) places
   pub sources : All (λ e. All (λ r. r.1 < length entries) e.reads) entries

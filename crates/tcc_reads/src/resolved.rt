@@ -1,6 +1,6 @@
 //! Histories whose reads are resolved.
 ghost use Rattle.std.specs.Prelude.{◌≡◌, ◌<◌, ◌≤◌, ◌+◌, length, All};
-ghost use Rattle.tcc_reads.specs.History.{count, entry_at};
+ghost use Rattle.tcc_reads.specs.History.{count, entry_at, initial};
 ghost use Rattle.tcc_reads.specs.Stored.{places_of};
 
 use std::marker::Model;
@@ -61,6 +61,7 @@ impl Resolved {
         ensures value { result.now ≡ places_of self.now.entries }
         ensures count { length result.now + 1 ≡ count self.now }
         ensures few { count self.now ≤ 1024 }
+        ensures initial { entry_at self.now 0 ≡ initial }
         ensures owners { All (λ p. p.0 < length self.now.sessions) result.now }
     {
         &self.places

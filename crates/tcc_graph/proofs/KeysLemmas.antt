@@ -1,0 +1,112 @@
+-- Which names are keys.
+use Rattle.std.proofs.Common.{ℕ, zero, suc, ◌+◌, ◌<◌, ◌≡◌, ◌≢◌, Bool, true, false, List, [], ◌∷◌, ◌++◌, length, get_or, refl, sym, ap, ◌∙◌, arith, inl, inr}
+use Rattle.std.specs.Prelude.{All, map, filter, flat_map, bytes_eq, ◌||◌, ◌==◌}
+use Rattle.std.specs.Ordering.{nat_cmp}
+use Rattle.std.specs.declared.cmp.Ordering.{Ordering}
+use Rattle.std.specs.declared.cmp.Ordering.TheVariants.{Less, Equal, Greater}
+use Rattle.std.specs.Cmp.Lexicographic.{slice_cmp}
+use Rattle.std.specs.BTreeSet.{insert_key}
+use Rattle.std.specs.List.{list_any, range_with_len}
+use Rattle.std.proofs.lemmas.Bool.{or_parts, cases_Bool, cases_lt}
+use Rattle.std.proofs.lemmas.Map.Lookups.{exact_bytes}
+use Rattle.std.proofs.lemmas.List.{get_or_past, get_or_default}
+use Rattle.std.proofs.lemmas.List.Folds.{list_any-append, list_any_none, list_any-from_Any}
+use Rattle.tcc_reads.specs.History.{Entry, History, entry_at, initial}
+use Rattle.tcc_graph.specs.Relations.{reads_from}
+use Rattle.tcc_graph.specs.Keys.{has_name, with_names, keys_of, keys, is_key, readers, numbers}
+use Rattle.tcc_graph.specs.KeyRows.{IsAbsent, StandsAt, name_of}
+use Rattle.tcc_graph.proofs.NameLemmas.{bytes_eq-true, bytes_eq-same, bytes_eq-other}
+
+abbrev name_cmp : List ℕ → List ℕ → Ordering
+name_cmp = slice_cmp nat_cmp
+
+or_again : (a : Bool) (b : Bool) → (a || b) ≡ (a || (a || b))
+or_again true b = refl
+or_again false b = refl
+
+or_swap : (a : Bool) (b : Bool) (c : Bool) → (a || (b || c)) ≡ (b || (a || c))
+or_swap true true c = refl
+or_swap true false c = refl
+or_swap false b c = refl
+
+or_false : (a : Bool) → (a || false) ≡ a
+or_false true = refl
+or_false false = refl
+
+or_pairs : (a : Bool) (b : Bool) (c : Bool) → ((a || b) || c) ≡ (b || (a || c))
+or_pairs true true c = refl
+or_pairs true false c = refl
+or_pairs false b c = refl
+
+or_joined : (a : Bool) (b : Bool) (c : Bool) → ((a || b) || c) ≡ (a || (b || c))
+or_joined true b c = refl
+or_joined false b c = refl
+
+-- a name more
+has_name-insert : (names : List (List ℕ)) (n : List ℕ) (x : List ℕ) → has_name (insert_key name_cmp names n) x ≡ (bytes_eq x n || has_name names x)
+has_name-insert [] n x = refl
+has_name-insert (y ∷ ys) n x = go (has_name-insert ys n x) (name_cmp n y) refl
+  where
+    go : has_name (insert_key name_cmp ys n) x ≡ (bytes_eq x n || has_name ys x) → (o : Ordering) → name_cmp n y ≡ o → has_name (insert_key name_cmp (y ∷ ys) n) x ≡ (bytes_eq x n || has_name (y ∷ ys) x)
+    go rest Less e = rw e refl
+    go rest Equal e = let same : n ≡ y = exact_bytes n y e in rw e (rw same (or_again (bytes_eq x y) (has_name ys x)))
+    go rest Greater e = rw e (ap (λ b. bytes_eq x y || b) rest ∙ or_swap (bytes_eq x y) (bytes_eq x n) (has_name ys x))
+
+has_name-with : (sorted : List (List ℕ)) (names : List (List ℕ)) (x : List ℕ) → has_name (with_names sorted names) x ≡ (has_name sorted x || has_name names x)
+has_name-with sorted [] x = sym (or_false (has_name sorted x))
+has_name-with sorted (n ∷ names) x =
+    has_name-with (insert_key name_cmp sorted n) names x
+    ∙ ap (λ b. b || has_name names x) (has_name-insert sorted n x)
+    ∙ or_pairs (bytes_eq x n) (has_name sorted x) (has_name names x)
+
+has_name-flat_map : (entries : List Entry) (x : List ℕ) → has_name (flat_map keys_of entries) x ≡ list_any (λ e. has_name (keys_of e) x) entries
+has_name-flat_map [] x = refl
+has_name-flat_map (e ∷ entries) x =
+    list_any-append (bytes_eq x) (keys_of e) (flat_map keys_of entries) ∙ ap (λ b. has_name (keys_of e) x || b) (has_name-flat_map entries x)
+
+-- the keys of a history are the names that its transactions write or read
+pub has_name-keys : (h : History) (x : List ℕ) → has_name (keys h) x ≡ is_key h x
+has_name-keys h x = has_name-with [] (flat_map keys_of h.entries) x ∙ has_name-flat_map h.entries x
+
+pub present : (names : List (List ℕ)) (x : List ℕ) (i : ℕ) → StandsAt names x i → has_name names x ≡ true
+present names x i at = list_any-from_Any (bytes_eq x) names (i, x, at.within, get_or_default names i x [] at.within ∙ at.here, bytes_eq-same x x refl)
+
+pub absent : (names : List (List ℕ)) (x : List ℕ) → IsAbsent names x → has_name names x ≡ false
+absent names x none = list_any_none (bytes_eq x) names (λ k d h. bytes_eq-other x _ (λ same.
+    let yes : bytes_eq (name_of names k) x ≡ true = bytes_eq-same (name_of names k) x (get_or_default names k [] d h ∙ sym same) in
+    let no : bytes_eq (name_of names k) x ≡ false = none k h in
+    cc))
+
+list_any-at : {X : Type 0} (p : X → Bool) (xs : List X) → list_any p xs ≡ false → (k : ℕ) (d : X) → k < length xs → p (get_or xs k d) ≡ false
+list_any-at p [] none k d h = absurd (omega arith)
+list_any-at p (x ∷ xs) none zero d h = (or_parts (p x) (list_any p xs) none).0
+list_any-at p (x ∷ xs) none (suc k) d h = list_any-at p xs (or_parts (p x) (list_any p xs) none).1 k d (omega arith)
+
+-- some of the reads read no key that all of them don't read
+has_name-filter : (p : List ℕ × ℕ → Bool) (reads : List (List ℕ × ℕ)) (x : List ℕ) → has_name (map (λ read. read.0) reads) x ≡ false → has_name (map (λ read. read.0) (filter p reads)) x ≡ false
+has_name-filter p [] x none = refl
+has_name-filter p (r ∷ reads) x none =
+    let parts = or_parts (bytes_eq x r.0) (has_name (map (λ read. read.0) reads) x) none in
+    go (has_name-filter p reads x parts.1) parts.0 (p r) refl
+  where
+    go : has_name (map (λ read. read.0) (filter p reads)) x ≡ false → bytes_eq x r.0 ≡ false → (b : Bool) → p r ≡ b → has_name (map (λ read. read.0) (filter p (r ∷ reads))) x ≡ false
+    go rest other true e = rw e (rw (other, rest) refl)
+    go rest other false e = rw e rest
+
+-- nobody reads a name that is no key
+no_reads : (h : History) (x : List ℕ) (a : ℕ) (b : ℕ) → is_key h x ≡ false → has_name (reads_from h a b) x ≡ false
+no_reads h x a b none = elim (cases_lt b (length h.entries)) [
+    | inl below ↦ (
+      let no : has_name (keys_of (entry_at h b)) x ≡ false = list_any-at (λ e. has_name (keys_of e) x) h.entries none b initial below in
+      let parts = or_parts (has_name (entry_at h b).writes x) (has_name (map (λ read. read.0) (entry_at h b).reads) x)
+        (sym (list_any-append (bytes_eq x) (entry_at h b).writes (map (λ read. read.0) (entry_at h b).reads)) ∙ no) in
+      has_name-filter (λ read. read.1 == a) (entry_at h b).reads x parts.1)
+    | inr above ↦ rw (get_or_past h.entries b initial above) refl
+  ]
+
+filter_none : {X : Type 0} (p : X → Bool) (xs : List X) → ((x : X) → p x ≡ false) → filter p xs ≡ []
+filter_none p [] none = refl
+filter_none p (x ∷ xs) none = rw (none x) (filter_none p xs none)
+
+pub no_readers : (h : History) (x : List ℕ) (a : ℕ) → is_key h x ≡ false → readers h a x ≡ []
+no_readers h x a none = filter_none (λ b. has_name (reads_from h a b) x) (numbers h) (λ b. no_reads h x a b none)

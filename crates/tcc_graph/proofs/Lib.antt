@@ -1,0 +1,9 @@
+pub mod GraphLemmas
+pub mod GroupedLemmas
+pub mod KeyRowLemmas
+pub mod KeyTableLemmas
+pub mod KeysLemmas
+pub mod LastLemmas
+pub mod NameLemmas
+pub mod TableLemmas
+pub mod Worked

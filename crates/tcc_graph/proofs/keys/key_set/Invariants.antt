@@ -1,0 +1,8 @@
+use Rattle.std.proofs.Common.{◌≡◌, take}
+use Rattle.std.specs.Prelude.{map}
+use Rattle.tcc_graph.specs.Keys.{with_names, keys}
+use Rattle.tcc_graph.specs.Tables.{over}
+use Rattle.tcc_graph.proofs.keys.key_set.Given as goal
+
+abbrev pub invariant-loop-transaction : goal.invariant-loop-transaction
+invariant-loop-transaction l = l.set.keys ≡ keys (over (take l.transaction-index l.transactions))

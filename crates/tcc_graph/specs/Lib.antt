@@ -1,0 +1,13 @@
+pub mod Relations
+pub mod Keys
+pub mod Walks
+pub mod Links
+pub mod Routes
+pub mod Orders
+pub mod Ties
+pub mod Answers
+pub mod Grouped
+pub mod Tables
+pub mod KeyRows
+pub mod Numbers
+pub mod Graphs

@@ -1,0 +1,47 @@
+-- Reasons, links, and what they cost.
+use Rattle.std.specs.Prelude.{ℕ, ◌≢◌, List, [], ◌∷◌, ◌++◌, length, flat_map}
+use Rattle.tcc_reads.specs.History.{History}
+use Rattle.tcc_graph.specs.Relations.{IsSessionPair, IsReadsPair}
+use Rattle.tcc_graph.specs.Keys.{IsWriter}
+use Rattle.tcc_graph.specs.Walks.{IsWalk}
+use Rattle.tcc_graph.specs.declared.step.Step.{Step}
+use Rattle.tcc_graph.specs.declared.step.Step.TheVariants as step
+use Rattle.tcc_graph.specs.declared.link.Link.{Link}
+use Rattle.tcc_graph.specs.declared.link.Link.TheVariants as link
+
+-- c reads the key x from a, and b, another transaction, writes x too: if b reaches c, then b has to stand before a
+abbrev pub MayContradict : History → ℕ → ℕ → List ℕ → ℕ → Type 0
+MayContradict h b a x c = (b ≢ a) × IsReadsPair h a c x × IsWriter h b x
+
+-- the reason why b stands before a: a key x, a reader c of x from a, and a walk by which b, a writer of x, reaches c
+abbrev pub IsReason : History → ℕ → ℕ → List ℕ → ℕ → List Step → Type 0
+IsReason h b a x c walk = MayContradict h b a x c × IsWalk h b c walk
+
+abbrev pub link_from : Link → ℕ
+link_from (link.Session a b) = a
+link_from (link.Reads a b x) = a
+link_from (link.Derived b a x c walk) = b
+
+abbrev pub link_to : Link → ℕ
+link_to (link.Session a b) = b
+link_to (link.Reads a b x) = b
+link_to (link.Derived b a x c walk) = a
+
+-- a session pair, a reads-from pair by the key, or a derived pair with its reason
+abbrev pub IsLink : History → Link → Type 0
+IsLink h (link.Session a b) = IsSessionPair h a b
+IsLink h (link.Reads a b x) = IsReadsPair h a b x
+IsLink h (link.Derived b a x c walk) = IsReason h b a x c walk
+
+-- the steps of a link: itself, or its walk and then the read that it contradicts
+abbrev pub unfolding_of : Link → List Step
+unfolding_of (link.Session a b) = step.Session a b ∷ []
+unfolding_of (link.Reads a b x) = step.Reads a b x ∷ []
+unfolding_of (link.Derived b a x c walk) = walk ++ step.Reads a c x ∷ []
+
+abbrev pub link_cost : Link → ℕ
+link_cost l = length (unfolding_of l)
+
+-- the number of steps in the joined unfoldings, every use counted
+abbrev pub cost : List Link → ℕ
+cost links = length (flat_map unfolding_of links)

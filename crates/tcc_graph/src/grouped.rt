@@ -1,0 +1,89 @@
+//! Values in groups that are numbered.
+ghost use Rattle.std.specs.Prelude.{◌≡◌, ◌≤◌, ◌++◌, [], ◌∷◌, All, OnOk};
+ghost use Rattle.std.specs.List.Sorted.{IsNonDecreasing};
+ghost use Rattle.tcc_graph.specs.Grouped.{of_group, IsSpan};
+ghost use Rattle.tcc_graph.specs.KeyRows.{is_last, is_last_pair};
+
+use std::alloc::Global;
+use std::marker::Model;
+use tcc_txn::NoMemory;
+
+/// Values, each with the number of its group, by ascending groups.
+#[derive(Drop)]
+pub(crate) struct Grouped<T: Copy> {
+    groups: Vec<u32>,
+    values: Vec<T>,
+}
+
+impl<T: Copy> Model for Grouped<T> {
+    ghost use Rattle.std.specs.Prelude.{◌≡◌, ℕ, List, length, zip};
+    ghost use Rattle.std.specs.List.Sorted.{IsNonDecreasing};
+
+    ghost Value = { List (ℕ × T) };
+
+    ghost view = { λ g. zip g.groups.items g.values.items };
+
+    ghost invariant = { λ g. (length g.values.items ≡ length g.groups.items) × IsNonDecreasing g.groups.items };
+}
+
+/// Where the numbers of a group begin and end.
+fn span(numbers: &[u32], group: u32) -> (usize, usize)
+    requires { IsNonDecreasing numbers.now }
+    ensures { IsSpan numbers.now group result.0 result.1 }
+{
+    let start = numbers.partition_point(|number| *number < group);
+    let end = numbers.partition_point(|number| *number <= group);
+    (start, end)
+}
+
+impl<T: Copy> Grouped<T> {
+    /// No values.
+    pub(crate) fn new(alloc: Global) -> Grouped<T>
+        ensures { result ≡ [] }
+    {
+        Grouped {
+            groups: Vec::new(alloc),
+            values: Vec::new(alloc),
+        }
+    }
+
+    /// One more value of the last group, or of a later one.
+    pub(crate) fn push(&mut self, group: u32, value: T) -> Result<(), NoMemory>
+        requires { All (λ p. p.0 ≤ group) self.old }
+        ensures { OnOk result (self.new ≡ self.old ++ (group, value) ∷ []) }
+    {
+        self.groups.push(group)?;
+        if self.values.push(value).is_err() {
+            self.groups.pop();
+            return Err(NoMemory);
+        }
+        Ok(())
+    }
+
+    /// The values of a group, in the order in which they came.
+    pub(crate) fn get(&self, group: u32) -> &[T]
+        ensures { result.now ≡ of_group self.now group }
+    {
+        let (start, end) = span(&self.groups, group);
+        &self.values[start..end]
+    }
+}
+
+/// Whether the number is the last one.
+pub(crate) fn is_last(numbers: &[u32], number: u32) -> bool
+    ensures { result ≡ is_last numbers.now number }
+{
+    match numbers.last() {
+        Some(last) => *last == number,
+        None => false,
+    }
+}
+
+impl Grouped<u32> {
+    /// Whether the value, in this group, is the last one.
+    pub(crate) fn is_last(&self, group: u32, value: u32) -> bool
+        ensures { result ≡ is_last_pair self.now group value }
+    {
+        is_last(&self.groups, group) && is_last(&self.values, value)
+    }
+}
