@@ -1,9 +1,9 @@
 -- Texts and their answers, worked out by the definitions alone.
-use Rattle.std.proofs.Common.{◌≡◌, ℕ, List, [], ◌∷◌, ◌++◌, true, false, None, Some, refl}
+use Rattle.std.proofs.Common.{◌≡◌, ℕ, List, [], ◌∷◌, true, false, None, Some, refl}
 use Rattle.std.specs.Prelude.{codes}
 use Rattle.csv.specs.Machine.{next_record}
 use Rattle.csv.specs.Reading.{records_from, strip_bom}
-use Rattle.tcc_txn.specs.Answers.{Answers, answers_of, ending}
+use Rattle.tcc_txn.specs.Answers.{Answers, answers_of}
 use Rattle.tcc_txn.specs.ByteLimit.{marked}
 use Rattle.tcc_txn.specs.declared.op.Op.TheVariants.{Get, Put}
 use Rattle.tcc_txn.specs.declared.rows.Item.{Item}

@@ -180,22 +180,36 @@ fn records_after_others(rt: HostRuntime) {
     }
 }
 
-// The next item is a transaction of this session, with so many operations.
+// The transaction of this session, if the item is one.
+fn transaction_of(item: Item, session: &str) -> Option<Txn> {
+    match item {
+        Item::Finished(name, txn) => {
+            let found = name;
+            if found.bytes() == session.as_bytes() {
+                Some(txn)
+            } else {
+                None
+            }
+        }
+        Item::Seal => None,
+        Item::End => None,
+    }
+}
+
+// The next item is a transaction of this session.
 fn finishes<R: Read + Drop>(
     rt: &impl Abort,
     alloc: Global,
     rows: &mut Rows<R>,
     session: &str,
-    committed: bool,
 ) -> Txn {
-    match rows.next(alloc) {
-        Ok(Item::Finished(name, txn)) => {
-            assert_eq!(rt; name.bytes(), session.as_bytes());
-            assert_eq!(rt; txn.committed(), committed);
-            txn
-        }
-        _ => panic!(rt; "no transaction of {session} is finished"),
-    }
+    let Ok(item) = rows.next(alloc) else {
+        panic!(rt; "there is a fault");
+    };
+    let Some(txn) = transaction_of(item, session) else {
+        panic!(rt; "no transaction of {session} is finished");
+    };
+    txn
 }
 
 // Whether the operation is a write, and its value.
@@ -212,9 +226,10 @@ fn gives_what_was_finished(rt: HostRuntime) -> Result<(), Fail> {
     let text = "\"b\",begin\r\na,begin\nb,w,x,7\nseal\na,abort\nb,r,y,0\nb,commit";
     let mut rows = Rows::new(alloc, text.as_bytes())?;
     assert!(rt; matches!(rows.next(alloc), Ok(Item::Seal)));
-    let aborted = finishes(&rt, alloc, &mut rows, "a", false);
-    assert!(rt; aborted.ops().is_empty());
-    let committed = finishes(&rt, alloc, &mut rows, "b", true);
+    let aborted = finishes(&rt, alloc, &mut rows, "a");
+    assert!(rt; aborted.ops().is_empty() && !aborted.committed());
+    let committed = finishes(&rt, alloc, &mut rows, "b");
+    assert!(rt; committed.committed());
     assert_eq!(rt; committed.ops().len(), 2);
     assert_eq!(rt; shown(&committed.ops()[0]), (true, 7));
     assert_eq!(rt; shown(&committed.ops()[1]), (false, 0));
