@@ -1,16 +1,16 @@
 -- What is kept of the lines, after one more of them.
-use Rattle.std.proofs.Common.{◌≡◌, ℕ, ◌+◌, ◌<◌, ◌≤◌, ◌⊎◌, Bool, true, false, List, [], ◌∷◌, ◌++◌, length, Option, None, Some, Ok, Err, Result, length-append, refl, sym, ap, ◌∙◌, subst, rules, arith, cond, nat_lt, inl, inr}
+use Rattle.std.proofs.Common.{◌≡◌, ℕ, ◌+◌, ◌<◌, ◌≤◌, ◌⊎◌, Bool, true, false, List, [], ◌∷◌, ◌++◌, length, Option, None, Some, Ok, Err, Result, length-append, refl, sym, ap, ◌∙◌, rules, arith, cond, nat_lt, inl, inr}
 use Rattle.std.specs.Prelude.{IsSome, is_some}
 use Rattle.std.specs.List.{list_any}
 use Rattle.std.specs.Ordering.{nat_cmp}
 use Rattle.std.specs.Cmp.Lexicographic.{slice_cmp}
-use Rattle.std.specs.BTreeMap.{BTreeMap, btree_map_len, get, is_at, Updates}
+use Rattle.std.specs.BTreeMap.{BTreeMap, btree_map_len, get, Updates}
 use Rattle.std.specs.BTreeSet as set
 use Rattle.std.specs.BTreeSet.{BTreeSet, btree_set_len, contains}
 use Rattle.std.proofs.lemmas.Bool.Decides.{nat_tests}
 use Rattle.tcc_txn.specs.Lines.{same}
-use Rattle.tcc_txn.specs.Past.{begin_count, fault_of, is_begun, keys, key_of, ops_since, seal_count, sessions, with_name}
-use Rattle.tcc_txn.specs.Standing.{HoldsNames, HoldsSeats, IsAfter, NotesName, PassesLine, seat, seat_of}
+use Rattle.tcc_txn.specs.Past.{begin_count, fault_of, is_begun, keys, key_of, ops_since, sessions, with_name}
+use Rattle.tcc_txn.specs.Standing.{HoldsNames, HoldsSeats, IsAfter, NotesName, PassesLine, seat}
 use Rattle.tcc_txn.specs.declared.op.Op.{Op}
 use Rattle.tcc_txn.specs.Drafts.{AddsOp}
 use Rattle.tcc_txn.specs.declared.rows.RowFaultKind.{RowFaultKind}
@@ -18,7 +18,7 @@ use Rattle.tcc_txn.specs.declared.rows.RowFaultKind.TheVariants as kind
 use Rattle.tcc_txn.specs.declared.rows.line.Line.{Line}
 use Rattle.tcc_txn.specs.declared.rows.line.Line.TheVariants as line
 use Rattle.tcc_txn.specs.declared.rows.progress.Progress.{Progress}
-use Rattle.tcc_txn.proofs.PastFacts.{at-same, begun-seen, same-swap, seat-begun, seat-finished, seat-free, seat-none, seat-taken, same-itself, seat-operated, seen-noted, seen-other, with_name-new, with_name-seen}
+use Rattle.tcc_txn.proofs.PastFacts.{at-same, seat-begun, seat-finished, seat-free, seat-none, seat-taken, same-itself, seat-operated, seen-noted, seen-other, with_name-new, with_name-seen}
 
 within : (m n : ℕ) → m ≤ n → nat_lt n m ≡ false
 within m n h = grind (arith, nat_tests)

@@ -7,7 +7,7 @@ use Rattle.std.specs.BTreeMap.{BTreeMap, btree_map_len, get}
 use Rattle.std.specs.BTreeSet.{BTreeSet, btree_set_len, contains}
 use Rattle.tcc_txn.specs.Lines.{same}
 use Rattle.tcc_txn.specs.Past.{begin_count, fault_of, is_begun, item_of, keys, ops_since, seal_count, sessions, with_name}
-use Rattle.tcc_txn.specs.Transactions.{Transaction, writes_zero}
+use Rattle.tcc_txn.specs.Transactions.{writes_zero}
 use Rattle.tcc_txn.specs.declared.op.Op.{Op}
 use Rattle.tcc_txn.specs.declared.rows.Item.{Item}
 use Rattle.tcc_txn.specs.declared.rows.RowFaultKind.{RowFaultKind}
