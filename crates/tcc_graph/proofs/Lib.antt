@@ -4,7 +4,7 @@ pub mod KeyRowLemmas
 pub mod KeyTableLemmas
 pub mod KeysLemmas
 pub mod LastLemmas
+pub mod MarkLemmas
 pub mod NameLemmas
 pub mod TableLemmas
-pub mod TextLemmas
 pub mod Worked

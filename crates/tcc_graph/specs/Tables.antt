@@ -1,7 +1,8 @@
 -- The tables of a graph.
-use Rattle.std.specs.Prelude.{ℕ, ◌<◌, ◌≤◌, ◌≡◌, ◌==◌, Bool, List, [], ◌∷◌, ◌++◌, length, map, filter, slice_index_or, All}
+use Rattle.std.specs.Prelude.{ℕ, ◌<◌, ◌≤◌, ◌≡◌, ◌==◌, List, [], ◌++◌, length, map, filter, slice_index_or, All, Bool, false}
+use Rattle.std.specs.List.{list_any}
 use Rattle.tcc_reads.specs.History.{Entry, History, initial}
-use Rattle.tcc_graph.specs.Relations.{reads_from}
+use Rattle.tcc_graph.specs.Relations.{reads_from, has_items}
 use Rattle.tcc_graph.specs.Grouped.{as_group, groups}
 
 -- the keys read from a, of reads with their sources
@@ -37,3 +38,13 @@ pub record IsListOf (h : History) (entries : List Entry) : Type 0 where
   pub few : length entries ≤ 1024
   pub owners : (n : ℕ) → 0 < n → n < length entries → (slice_index_or entries n initial).owner < length h.sessions
   pub sources : All (HasSources (length entries)) entries
+
+-- of the first n rows, each has the marks of the groups in the row of the other table
+pub record MarksGroups (table : List (List (ℕ × List ℕ))) (n : ℕ) (marks : List (List Bool)) : Type 0 where
+  pub long : length marks ≡ n
+  pub rows : (a : ℕ) (b : ℕ) → a < n → slice_index_or (row_of marks a) b false ≡ list_any (λ m. m == b) (map (λ p. p.0) (row_of table a))
+
+-- marked are the transactions that read some key from each transaction
+pub record IsMarkTable (entries : List Entry) (marks : List (List Bool)) : Type 0 where
+  pub long : length marks ≡ length entries
+  pub rows : (a : ℕ) (b : ℕ) → a < length entries → b < length entries → slice_index_or (row_of marks a) b false ≡ has_items (reads_from (over entries) a b)

@@ -9,8 +9,8 @@ use crate::grouped::Grouped;
 use crate::key_row::KeyRow;
 use crate::key_table::{key_table, place_of};
 use crate::keys::sorted_keys;
-use crate::tables::{read_table, transactions_of};
-use crate::text::label_of;
+use crate::marks::Marks;
+use crate::tables::{mark_table, read_table, transactions_of};
 use crate::transaction::Transaction;
 use std::alloc::Global;
 use std::marker::Model;
@@ -24,6 +24,7 @@ pub struct Graph {
     sessions: Vec<Name>,
     transactions: Vec<Transaction>,
     reads: Vec<Grouped<Name>>,
+    marks: Vec<Marks>,
     keys: Vec<Name>,
     rows: Vec<KeyRow>,
 }
@@ -36,7 +37,7 @@ impl Model for Graph {
 
     ghost view = { λ g. record { sessions = g.sessions.items; entries = g.transactions.items } };
 
-    ghost invariant = { λ g. IsGraph g.sessions.items g.transactions.items g.reads.items g.keys.items g.rows.items };
+    ghost invariant = { λ g. IsGraph g.sessions.items g.transactions.items g.reads.items g.marks.items g.keys.items g.rows.items };
 }
 
 impl Graph {
@@ -46,13 +47,15 @@ impl Graph {
     {
         let transactions = transactions_of(alloc, resolved)?;
         let reads = read_table(alloc, &transactions)?;
+        let marks = mark_table(alloc, &transactions, &reads)?;
         let keys = sorted_keys(alloc, &transactions)?;
-        let rows = key_table(alloc, &keys, &transactions, &reads)?;
+        let rows = key_table(alloc, &keys, &transactions, &reads, &marks)?;
         let sessions = resolved.sessions().iter().copied().collect(alloc)?;
         Ok(Graph {
             sessions,
             transactions,
             reads,
+            marks,
             keys,
             rows,
         })
@@ -115,7 +118,7 @@ impl Graph {
         requires to { b < count self.now }
         ensures { result ≡ causal_pair self.now a b }
     {
-        self.session(a, b) || !self.reads_from(a, b).is_empty()
+        self.session(a, b) || self.marks[a as usize].has(b)
     }
 
     /// The keys in operations of committed transactions, in byte order, each once.
@@ -152,15 +155,11 @@ impl Graph {
         ensures { IfOk result (λ text. string_bytes text ≡ label self.now n) }
     {
         if n == 0 {
-            let mut text = String::new(alloc);
-            text.push_str("init")?;
-            return Ok(text);
+            return Ok(format!(in alloc; "init")?);
         }
         let transaction = &self.transactions[n as usize];
-        label_of(
-            alloc,
-            &self.sessions[transaction.owner() as usize],
-            transaction.place(),
-        )
+        let session = self.sessions[transaction.owner() as usize];
+        let place = transaction.place();
+        Ok(format!(in alloc; "{session}/{place}")?)
     }
 }

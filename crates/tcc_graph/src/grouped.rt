@@ -1,5 +1,5 @@
 //! Values in groups that are numbered.
-ghost use Rattle.std.specs.Prelude.{◌≡◌, ◌≤◌, ◌++◌, [], ◌∷◌, All, OnOk};
+ghost use Rattle.std.specs.Prelude.{◌≡◌, ◌≤◌, ◌++◌, [], ◌∷◌, map, All, OnOk};
 ghost use Rattle.std.specs.List.Sorted.{IsNonDecreasing};
 ghost use Rattle.tcc_graph.specs.Grouped.{of_group, IsSpan};
 ghost use Rattle.tcc_graph.specs.KeyRows.{is_last, is_last_pair};
@@ -58,6 +58,13 @@ impl<T: Copy> Grouped<T> {
             return Err(NoMemory);
         }
         Ok(())
+    }
+
+    /// The group of each value.
+    pub(crate) fn groups(&self) -> &[u32]
+        ensures { result.now ≡ map (λ p. p.0) self.now }
+    {
+        &self.groups
     }
 
     /// The values of a group, in the order in which they came.

@@ -7,9 +7,9 @@ mod key_row;
 mod key_table;
 mod keys;
 mod link;
+mod marks;
 mod step;
 mod tables;
-mod text;
 mod transaction;
 mod walk;
 
@@ -17,3 +17,6 @@ pub use graph::Graph;
 pub use link::Link;
 pub use step::Step;
 pub use walk::Walk;
+
+#[cfg(test)]
+mod tests;

