@@ -12,7 +12,7 @@ use Rattle.tcc_reads.specs.declared.fault.ReadFault.{ReadFault}
 use Rattle.tcc_reads.specs.Faults.{read_faults}
 use Rattle.tcc_reads.specs.Sources.{history}
 use Rattle.tcc_reads.specs.History.{History, count}
-use Rattle.tcc_graph.specs.Labels.{label}
+use Rattle.tcc_graph.specs.Numbers.{label}
 use Rattle.tcc_graph.specs.Orders.{IsCommitOrder, IsFirstOrder}
 use Rattle.tcc.specs.declared.answer.Answer.{Answer}
 use Rattle.tcc.specs.declared.status.Status.{Status}

@@ -2,7 +2,7 @@
 ghost use Rattle.std.specs.Prelude.{◌≡◌, ◌<◌, All, IfOk, length, map};
 ghost use Rattle.std.specs.String.{string_bytes};
 ghost use Rattle.tcc_reads.specs.History.{count};
-ghost use Rattle.tcc_graph.specs.Labels.{label};
+ghost use Rattle.tcc_graph.specs.Numbers.{label};
 ghost use Rattle.tcc.specs.Statuses.{row_status};
 ghost use Rattle.tcc.specs.Answers.{fault_answer, unresolved_answer, consistent_answer, IsHistoryAnswer, IsSnapshotAnswer, fixed_answer};
 

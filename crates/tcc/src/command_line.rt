@@ -52,6 +52,9 @@ pub fn read(rt: &HostRuntime) -> Result<Request, Status> {
         Ok(request) => Ok(request),
         Err(error) => {
             let status = status_of(error.kind());
+            if status == Status::Memory {
+                return Err(status);
+            }
             match error.print(rt) {
                 Ok(()) => Err(status),
                 // Help that does not go out; what standard error takes changes nothing.

@@ -57,7 +57,7 @@ fn input_answer<R: Read + Drop>(alloc: Global, reader: R) -> Result<Answer, NoMe
 }
 
 /// Writes the text, and gives the status of the run: the one that the text has, or that of a writer that failed.
-fn print<W: Write>(out: &mut W, text: &[u8], status: Status) -> u8
+pub fn print<W: Write>(out: &mut W, text: &[u8], status: Status) -> u8
     ensures { Prints (W.contents out.old) (W.contents out.new) (fixed_answer text.now status) result }
 {
     match write_text(out, text) {

@@ -17,14 +17,16 @@ mod texts;
 mod write;
 
 use command_line::Request;
-use explain::run_explain;
+use explain::{print, run_explain};
 use status::Status;
 use std::io;
 use std::process::ExitCode;
 
 fn main(rt: HostRuntime) -> ExitCode {
+    let mut out = io::writer(&rt);
     let code = match command_line::read(&rt) {
-        Ok(Request::Explain) => run_explain(rt.alloc(), rt.stdin(), &mut io::writer(&rt)),
+        Ok(Request::Explain) => run_explain(rt.alloc(), rt.stdin(), &mut out),
+        Err(Status::Memory) => print(&mut out, b"memory\n", Status::Memory),
         Err(status) => status.code(),
     };
     if code == Status::Device.code() {

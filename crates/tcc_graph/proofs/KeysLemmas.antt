@@ -96,13 +96,13 @@ has_name-filter p (r ∷ reads) x none =
 -- nobody reads a name that is no key
 no_reads : (h : History) (x : List ℕ) (a : ℕ) (b : ℕ) → is_key h x ≡ false → has_name (reads_from h a b) x ≡ false
 no_reads h x a b none = elim (cases_lt b (length h.entries)) [
-    | inl below ↦ (
+  | inl below ↦ (
       let no : has_name (keys_of (entry_at h b)) x ≡ false = list_any-at (λ e. has_name (keys_of e) x) h.entries none b initial below in
       let parts = or_parts (has_name (entry_at h b).writes x) (has_name (map (λ read. read.0) (entry_at h b).reads) x)
-        (sym (list_any-append (bytes_eq x) (entry_at h b).writes (map (λ read. read.0) (entry_at h b).reads)) ∙ no) in
+      (sym (list_any-append (bytes_eq x) (entry_at h b).writes (map (λ read. read.0) (entry_at h b).reads)) ∙ no) in
       has_name-filter (λ read. read.1 == a) (entry_at h b).reads x parts.1)
-    | inr above ↦ rw (get_or_past h.entries b initial above) refl
-  ]
+  | inr above ↦ rw (get_or_past h.entries b initial above) refl
+]
 
 filter_none : {X : Type 0} (p : X → Bool) (xs : List X) → ((x : X) → p x ≡ false) → filter p xs ≡ []
 filter_none p [] none = refl

@@ -62,8 +62,8 @@ place_found names x (Ok i) sorted range found =
       only = λ k h. elim (cases_order k i) [
         | inl e ↦ rw (e, here, bytes_eq-same x x refl, eq-eqb i i refl) refl
         | inr differ ↦
-          (let ne : k ≢ i = λ e. elim differ [ inl p ↦ absurd (omega arith) | inr p ↦ absurd (omega arith) ] in
-          rw (bytes_eq-other (name_of names k) x (λ same. places_differ names k i sorted h range ne (same ∙ sym here)), ne_eqb k i ne) refl)
+            (let ne : k ≢ i = λ e. elim differ [ inl p ↦ absurd (omega arith) | inr p ↦ absurd (omega arith) ] in
+            rw (bytes_eq-other (name_of names k) x (λ same. places_differ names k i sorted h range ne (same ∙ sym here)), ne_eqb k i ne) refl)
       ];
       here = here;
     }

@@ -9,6 +9,7 @@ mod keys;
 mod link;
 mod step;
 mod tables;
+mod text;
 mod transaction;
 mod walk;
 

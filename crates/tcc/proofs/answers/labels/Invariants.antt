@@ -2,7 +2,7 @@
 use Rattle.std.proofs.Common.{◌≡◌, take}
 use Rattle.std.specs.Prelude.{map}
 use Rattle.std.specs.String.{string_bytes}
-use Rattle.tcc_graph.specs.Labels.{label}
+use Rattle.tcc_graph.specs.Numbers.{label}
 use Rattle.tcc.proofs.answers.labels.Given as goal
 
 abbrev pub invariant-loop-number : goal.invariant-loop-number
