@@ -6,4 +6,5 @@ pub mod KeysLemmas
 pub mod LastLemmas
 pub mod NameLemmas
 pub mod TableLemmas
+pub mod TextLemmas
 pub mod Worked

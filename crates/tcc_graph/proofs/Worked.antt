@@ -27,9 +27,9 @@ entry owner place writes reads = record { owner = owner; place = place; writes =
 -- a/1 writes x, and a/2 reads the initial value of x
 abbrev stale_read : History
 stale_read = record {
-    sessions = codes "a" ∷ [];
-    entries = initial ∷ entry 0 1 (x ∷ []) [] ∷ entry 0 2 [] ((x, 0) ∷ []) ∷ [];
-  }
+  sessions = codes "a" ∷ [];
+  entries = initial ∷ entry 0 1 (x ∷ []) [] ∷ entry 0 2 [] ((x, 0) ∷ []) ∷ [];
+}
 
 stale_read-count : count stale_read ≡ 3
 stale_read-count = refl
@@ -54,13 +54,21 @@ abbrev stale_cycle : List Link
 stale_cycle = link.Session 0 1 ∷ link.Derived 1 0 x 2 (step.Session 1 2 ∷ []) ∷ []
 
 stale_read-cycle : IsCycle stale_read 0 stale_cycle
-stale_read-cycle =
-    (omega arith,
-      (refl, refl,
-        (refl,
-          (((λ e. absurd (omega arith)), (omega arith, omega arith, (0, omega arith, refl)), (omega arith, refl)),
-            (omega arith, (refl, refl, refl))),
-          refl)))
+stale_read-cycle = (
+  omega arith,
+  (
+    refl,
+    refl,
+    (
+      refl,
+      (
+        ((λ e. absurd (omega arith)), (omega arith, omega arith, (0, omega arith, refl)), (omega arith, refl)),
+        (omega arith, (refl, refl, refl)),
+      ),
+      refl,
+    ),
+  ),
+)
 
 stale_read-cost : cost stale_cycle ≡ 3
 stale_read-cost = refl
@@ -68,9 +76,9 @@ stale_read-cost = refl
 -- a/1 writes x; b/1 reads it and writes y; c/1 reads y, and c/2 the initial value of x
 abbrev long_chain : History
 long_chain = record {
-    sessions = codes "a" ∷ codes "b" ∷ codes "c" ∷ [];
-    entries = initial ∷ entry 0 1 (x ∷ []) [] ∷ entry 1 1 (y ∷ []) ((x, 1) ∷ []) ∷ entry 2 1 [] ((y, 2) ∷ []) ∷ entry 2 2 [] ((x, 0) ∷ []) ∷ [];
-  }
+  sessions = codes "a" ∷ codes "b" ∷ codes "c" ∷ [];
+  entries = initial ∷ entry 0 1 (x ∷ []) [] ∷ entry 1 1 (y ∷ []) ((x, 1) ∷ []) ∷ entry 2 1 [] ((y, 2) ∷ []) ∷ entry 2 2 [] ((x, 0) ∷ []) ∷ [];
+}
 
 long_chain-count : count long_chain ≡ 5
 long_chain-count = refl
@@ -88,11 +96,17 @@ abbrev chain_link : Link
 chain_link = link.Derived 1 0 x 4 (step.Reads 1 2 x ∷ step.Reads 2 3 y ∷ step.Session 3 4 ∷ [])
 
 long_chain-link : IsLink long_chain chain_link
-long_chain-link =
-    (((λ e. absurd (omega arith)), (omega arith, omega arith, (0, omega arith, refl)), (omega arith, refl)),
-      (omega arith,
-        (refl, (omega arith, omega arith, (0, omega arith, refl)),
-          (refl, (omega arith, omega arith, (0, omega arith, refl)), (refl, refl, refl)))))
+long_chain-link = (
+  ((λ e. absurd (omega arith)), (omega arith, omega arith, (0, omega arith, refl)), (omega arith, refl)),
+  (
+    omega arith,
+    (
+      refl,
+      (omega arith, omega arith, (0, omega arith, refl)),
+      (refl, (omega arith, omega arith, (0, omega arith, refl)), (refl, refl, refl)),
+    ),
+  ),
+)
 
 long_chain-cost : link_cost chain_link ≡ 4
 long_chain-cost = refl
@@ -100,9 +114,9 @@ long_chain-cost = refl
 -- a/1 and b/1 write x, and c/1 reads both values
 abbrev two_values : History
 two_values = record {
-    sessions = codes "a" ∷ codes "b" ∷ codes "c" ∷ [];
-    entries = initial ∷ entry 0 1 (x ∷ []) [] ∷ entry 1 1 (x ∷ []) [] ∷ entry 2 1 [] ((x, 1) ∷ (x, 2) ∷ []) ∷ [];
-  }
+  sessions = codes "a" ∷ codes "b" ∷ codes "c" ∷ [];
+  entries = initial ∷ entry 0 1 (x ∷ []) [] ∷ entry 1 1 (x ∷ []) [] ∷ entry 2 1 [] ((x, 1) ∷ (x, 2) ∷ []) ∷ [];
+}
 
 two_values-count : count two_values ≡ 4
 two_values-count = refl
@@ -120,15 +134,24 @@ abbrev conflict_cycle : List Link
 conflict_cycle = link.Derived 1 2 x 3 (step.Reads 1 3 x ∷ []) ∷ link.Derived 2 1 x 3 (step.Reads 2 3 x ∷ []) ∷ []
 
 two_values-cycle : IsCycle two_values 1 conflict_cycle
-two_values-cycle =
-    (omega arith,
-      (refl,
-        (((λ e. absurd (omega arith)), (omega arith, omega arith, (0, omega arith, refl)), (omega arith, refl)),
-          (omega arith, (refl, (omega arith, omega arith, (0, omega arith, refl)), refl))),
-        (refl,
-          (((λ e. absurd (omega arith)), (omega arith, omega arith, (0, omega arith, refl)), (omega arith, refl)),
-            (omega arith, (refl, (omega arith, omega arith, (0, omega arith, refl)), refl))),
-          refl)))
+two_values-cycle = (
+  omega arith,
+  (
+    refl,
+    (
+      ((λ e. absurd (omega arith)), (omega arith, omega arith, (0, omega arith, refl)), (omega arith, refl)),
+      (omega arith, (refl, (omega arith, omega arith, (0, omega arith, refl)), refl)),
+    ),
+    (
+      refl,
+      (
+        ((λ e. absurd (omega arith)), (omega arith, omega arith, (0, omega arith, refl)), (omega arith, refl)),
+        (omega arith, (refl, (omega arith, omega arith, (0, omega arith, refl)), refl)),
+      ),
+      refl,
+    ),
+  ),
+)
 
 -- both reads are used twice, and counted twice
 two_values-cost : cost conflict_cycle ≡ 4
@@ -137,9 +160,9 @@ two_values-cost = refl
 -- a/1 reads the initial value of x and b/1's y, and writes x; b/1 reads that x and writes y
 abbrev each_other : History
 each_other = record {
-    sessions = codes "a" ∷ codes "b" ∷ [];
-    entries = initial ∷ entry 0 1 (x ∷ []) ((x, 0) ∷ (y, 2) ∷ []) ∷ entry 1 1 (y ∷ []) ((x, 1) ∷ []) ∷ [];
-  }
+  sessions = codes "a" ∷ codes "b" ∷ [];
+  entries = initial ∷ entry 0 1 (x ∷ []) ((x, 0) ∷ (y, 2) ∷ []) ∷ entry 1 1 (y ∷ []) ((x, 1) ∷ []) ∷ [];
+}
 
 each_other-count : count each_other ≡ 3
 each_other-count = refl
@@ -159,10 +182,14 @@ abbrev round_walk : List Step
 round_walk = step.Reads 1 2 x ∷ step.Reads 2 1 y ∷ []
 
 each_other-walk : IsWalk each_other 1 1 round_walk
-each_other-walk =
-    (omega arith,
-      (refl, (omega arith, omega arith, (0, omega arith, refl)),
-        (refl, (omega arith, omega arith, (0, omega arith, refl)), refl)))
+each_other-walk = (
+  omega arith,
+  (
+    refl,
+    (omega arith, omega arith, (0, omega arith, refl)),
+    (refl, (omega arith, omega arith, (0, omega arith, refl)), refl),
+  ),
+)
 
 each_other-length : length round_walk ≡ 2
 each_other-length = refl

@@ -1,5 +1,5 @@
 //! The graph of a resolved history.
-ghost use Rattle.std.specs.Prelude.{◌≡◌, ◌≤◌, ◌<◌, ◌++◌, length, IfOk, OnOk};
+ghost use Rattle.std.specs.Prelude.{◌≡◌, ◌≤◌, ◌<◌, ◌++◌, length, IfOk, string_bytes};
 ghost use Rattle.tcc_reads.specs.History.{History, count};
 ghost use Rattle.tcc_graph.specs.Relations.{session_pair, reads_from, causal_pair};
 ghost use Rattle.tcc_graph.specs.Keys.{keys, writers, readers};
@@ -10,6 +10,7 @@ use crate::key_row::KeyRow;
 use crate::key_table::{key_table, place_of};
 use crate::keys::sorted_keys;
 use crate::tables::{read_table, transactions_of};
+use crate::text::label_of;
 use crate::transaction::Transaction;
 use std::alloc::Global;
 use std::marker::Model;
@@ -143,5 +144,23 @@ impl Graph {
             Some(place) => self.rows[place].readers(a),
             None => &[],
         }
+    }
+
+    /// `init` for number 0, else the name of the session, a slash and the place.
+    pub fn label(&self, alloc: Global, n: u32) -> Result<String, NoMemory>
+        requires { n < count self.now }
+        ensures { IfOk result (λ text. string_bytes text ≡ label self.now n) }
+    {
+        if n == 0 {
+            let mut text = String::new(alloc);
+            text.push_str("init")?;
+            return Ok(text);
+        }
+        let transaction = &self.transactions[n as usize];
+        label_of(
+            alloc,
+            &self.sessions[transaction.owner() as usize],
+            transaction.place(),
+        )
     }
 }

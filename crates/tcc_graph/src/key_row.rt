@@ -39,8 +39,9 @@ impl KeyRow {
     /// Adds the writer, unless it is the last one.
     pub(crate) fn add_writer(&mut self, writer: u32) -> Result<(), NoMemory>
         ensures { OnOk result (self.new ≡ record {
-            writers = with_last (is_last self.old.writers writer) self.old.writers writer;
-            readers = self.old.readers }) }
+          writers = with_last (is_last self.old.writers writer) self.old.writers writer;
+          readers = self.old.readers;
+        }) }
     {
         if !is_last(&self.writers, writer) {
             self.writers.push(writer)?;
@@ -52,8 +53,9 @@ impl KeyRow {
     pub(crate) fn add_reader(&mut self, source: u32, reader: u32) -> Result<(), NoMemory>
         requires { All (λ p. p.0 ≤ source) self.old.readers }
         ensures { OnOk result (self.new ≡ record {
-            writers = self.old.writers;
-            readers = with_last (is_last_pair self.old.readers source reader) self.old.readers (source, reader) }) }
+          writers = self.old.writers;
+          readers = with_last (is_last_pair self.old.readers source reader) self.old.readers (source, reader);
+        }) }
     {
         if !self.readers.is_last(source, reader) {
             self.readers.push(source, reader)?;

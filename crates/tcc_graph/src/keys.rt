@@ -44,7 +44,10 @@ fn key_set(alloc: Global, transactions: &[Transaction]) -> Result<BTreeSet<Name>
 }
 
 /// The keys that the transactions write and read, in byte order, each once.
-pub(crate) fn sorted_keys(alloc: Global, transactions: &[Transaction]) -> Result<Vec<Name>, NoMemory>
+pub(crate) fn sorted_keys(
+    alloc: Global,
+    transactions: &[Transaction],
+) -> Result<Vec<Name>, NoMemory>
     ensures { IfOk result (λ names. (names.items ≡ keys (over transactions.now)) × IsStrictlySortedBy (slice_cmp nat_cmp) names.items) }
 {
     let set = key_set(alloc, transactions)?;

@@ -9,6 +9,7 @@ mod keys;
 mod link;
 mod step;
 mod tables;
+mod text;
 mod transaction;
 mod walk;
 
@@ -16,3 +17,6 @@ pub use graph::Graph;
 pub use link::Link;
 pub use step::Step;
 pub use walk::Walk;
+
+#[cfg(test)]
+mod tests;

@@ -9,8 +9,8 @@ returns c =
     let ns : List ℕ = c.args.numbers.now in
     let group : ℕ = c.args.group in
     span_from_points ns group c.partition_point-start.result c.partition_point-end.result
-      c.partition_point-start.ensures.bound c.partition_point-end.ensures.bound
-      (IsPartitionPoint-from_clause (λ y. nat_lt y group) ns _ c.partition_point-start.ensures.partitioned
-        (IsPartitionedBy-ltb (λ x. x) ns group c.requires) (λ a r f' k. search rules))
-      (IsPartitionPoint-from_clause (λ y. nat_le y group) ns _ c.partition_point-end.ensures.partitioned
-        (IsPartitionedBy-leb (λ x. x) ns group c.requires) (λ a r f' k. search rules))
+    c.partition_point-start.ensures.bound c.partition_point-end.ensures.bound
+    (IsPartitionPoint-from_clause (λ y. nat_lt y group) ns _ c.partition_point-start.ensures.partitioned
+    (IsPartitionedBy-ltb (λ x. x) ns group c.requires) (λ a r f' k. search rules))
+    (IsPartitionPoint-from_clause (λ y. nat_le y group) ns _ c.partition_point-end.ensures.partitioned
+    (IsPartitionedBy-leb (λ x. x) ns group c.requires) (λ a r f' k. search rules))
