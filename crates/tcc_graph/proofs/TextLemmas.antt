@@ -1,11 +1,10 @@
 -- The bytes of names are ASCII.
-use Rattle.std.proofs.Common.{ℕ, zero, suc, ◌+◌, ◌<◌, ◌≤◌, ◌≡◌, Bool, true, false, List, [], ◌∷◌, length, get_or, refl, sym, ap, ◌∙◌, arith, Some, None, Option}
-use Rattle.std.specs.Prelude.{position, not, option_map, nat_lt, nat_le, ◌==◌, ◌+◌, if◌then◌else◌}
+use Rattle.std.proofs.Common.{ℕ, zero, suc, ◌+◌, ◌<◌, ◌≤◌, ◌≡◌, Bool, true, false, List, [], ◌∷◌, length, get_or, refl, arith, Some, None, Option}
+use Rattle.std.specs.Prelude.{position, not, option_map, nat_lt, ◌==◌, ◌+◌, if◌then◌else◌}
 use Rattle.std.specs.List.{prefix_len}
 use Rattle.std.proofs.lemmas.Bool.{ltb-false}
 use Rattle.std.proofs.lemmas.Bool.Decides.{nat_tests}
 use Rattle.tcc_txn.specs.Names.{name_fault, is_name_byte}
-use Rattle.tcc_txn.specs.declared.name.NameFault.{NameFault}
 use Rattle.tcc_txn.specs.declared.name.NameFault.TheVariants.{Empty, TooLong, BadByte}
 
 is_name_byte-ascii : (b : ℕ) → is_name_byte b ≡ true → b < 128

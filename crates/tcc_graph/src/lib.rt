@@ -17,3 +17,6 @@ pub use graph::Graph;
 pub use link::Link;
 pub use step::Step;
 pub use walk::Walk;
+
+#[cfg(test)]
+mod tests;

@@ -1,5 +1,5 @@
 -- The resolver's table and judgements agree with the definitions.
-use Rattle.std.proofs.Common.{◌≡◌, ℕ, ◌+◌, Bool, true, false, cond, not, ◌&&◌, List, [], ◌∷◌, ◌++◌, length, find, filter_map, flat_map, Option, None, Some, option_map, refl, ap, sym, ◌∙◌, subst, is_some}
+use Rattle.std.proofs.Common.{◌≡◌, ℕ, Bool, true, false, cond, ◌&&◌, List, [], ◌∷◌, ◌++◌, find, filter_map, flat_map, Option, None, Some, option_map, refl, ap, sym, ◌∙◌, is_some}
 use Rattle.std.specs.Prelude.{◌==◌}
 use Rattle.std.specs.List.{cons_option}
 use Rattle.std.proofs.lemmas.List.Elements.{filter_map-append}
@@ -8,14 +8,14 @@ use Rattle.tcc_txn.specs.declared.op.Op.TheVariants.{Get, Put}
 use Rattle.tcc_reads.specs.declared.fault.ReadFault.{ReadFault}
 use Rattle.tcc_reads.specs.declared.writers.Writer.{Writer}
 use Rattle.tcc_reads.specs.declared.fault.ReadFaultKind.{ReadFaultKind}
-use Rattle.tcc_reads.specs.declared.fault.ReadFaultKind.TheVariants.{Duplicate, BrokenInternal, ThinAir, Aborted, Intermediate, Future}
+use Rattle.tcc_reads.specs.declared.fault.ReadFaultKind.TheVariants.{Duplicate, BrokenInternal, Intermediate, Future}
 use Rattle.tcc_reads.specs.declared.judging.Judgement.{Judgement}
 use Rattle.tcc_reads.specs.declared.judging.Judgement.TheVariants.{Faulty, ReadsFrom, Silent}
 use Rattle.tcc_reads.specs.Sites.{Stand, Site, at, sites_from, sites_of, sites}
 use Rattle.tcc_reads.specs.Numbers.{Numbered, next_number, numbered_from}
 use Rattle.tcc_reads.specs.Sources.{visible_write}
-use Rattle.tcc_reads.specs.Faults.{op_key, op_value, puts, writer, is_last_at_key, is_same_transaction, is_same_site, write_kind, external_kind, read_kind, kind_at, fault_at, faults_of}
-use Rattle.tcc_reads.specs.Verdicts.{writer_at, first_in, first_writer, is_in, write_judgement, judgement_from, read_judgement, own_judgement, op_judgement, site_judgement, fault_in, fault_found, faults_found}
+use Rattle.tcc_reads.specs.Faults.{op_key, op_value, puts, writer, is_last_at_key, is_same_transaction, is_same_site, write_kind, external_kind, read_kind, kind_at, fault_at}
+use Rattle.tcc_reads.specs.Verdicts.{writer_at, first_in, first_writer, is_in, write_judgement, judgement_from, read_judgement, own_judgement, site_judgement, fault_in, fault_found, faults_found}
 
 -- the table's record of a write is right
 pub record Records (first : Writer) (site : Site) : Type 0 where

@@ -1,11 +1,11 @@
 -- How many transactions a snapshot has, and which sessions they are of.
-use Rattle.std.proofs.Common.{◌≡◌, ℕ, zero, suc, ◌+◌, ◌<◌, ◌≤◌, Bool, true, false, cond, List, [], ◌∷◌, ◌++◌, length, drop, map, filter, All, sum_by, Option, None, Some, IsSome, refl, ap, sym, ◌∙◌, subst, arith, length-append, is_some, option_map, slice_get}
+use Rattle.std.proofs.Common.{◌≡◌, ℕ, zero, suc, ◌+◌, ◌<◌, ◌≤◌, List, [], ◌∷◌, length, drop, All, sum_by, Option, None, Some, IsSome, refl, ap, sym, ◌∙◌, arith, length-append, is_some, option_map, slice_get}
 use Rattle.std.proofs.lemmas.List.Sums.{sum_by-cons}
-use Rattle.std.proofs.lemmas.List.Elements.{All-nil, All-cons, All-append, All-map, All-filter}
+use Rattle.std.proofs.lemmas.List.Elements.{All-nil, All-cons, All-append}
 use Rattle.std.proofs.lemmas.Option.{slice_get-get_or}
 use Rattle.tcc_txn.specs.Transactions.{Transaction}
-use Rattle.tcc_reads.specs.Sites.{Stand, is_committed, stands_in, stands_from}
-use Rattle.tcc_reads.specs.Numbers.{Numbered, next_number, numbered_from}
+use Rattle.tcc_reads.specs.Sites.{Stand, stands_in, stands_from}
+use Rattle.tcc_reads.specs.Numbers.{next_number, numbered_from}
 
 -- a list from a place on, where an item stands there
 pub drop_found : {A : Type 0} (xs : List A) (i : ℕ) (x : A) → slice_get xs i ≡ Some x → drop i xs ≡ x ∷ drop (i + 1) xs

@@ -1,5 +1,5 @@
 -- What the resolver finds is the history of the snapshot, or its faults.
-use Rattle.std.proofs.Common.{◌≡◌, ℕ, zero, suc, ◌+◌, ◌<◌, ◌≤◌, Bool, true, false, cond, List, [], ◌∷◌, ◌++◌, length, drop, map, filter, filter_map, flat_map, All, Option, None, Some, unwrap_or, refl, ap, sym, ◌∙◌, subst, arith, get_or}
+use Rattle.std.proofs.Common.{◌≡◌, ℕ, zero, suc, ◌+◌, ◌<◌, ◌≤◌, Bool, true, false, cond, List, [], ◌∷◌, length, map, filter, flat_map, All, Some, unwrap_or, ap, sym, ◌∙◌, subst, arith, get_or}
 use Rattle.std.specs.Prelude.{◌==◌}
 use Rattle.std.specs.List.{position_from}
 use Rattle.std.specs.BTreeMap.{BTreeMap}
@@ -17,7 +17,7 @@ use Rattle.tcc_reads.specs.declared.writers.Writer.{Writer}
 use Rattle.tcc_reads.specs.History.{Entry, History, initial}
 use Rattle.tcc_reads.specs.Sites.{Stand, is_committed, stands, committed}
 use Rattle.tcc_reads.specs.Numbers.{Numbered, numbered_from}
-use Rattle.tcc_reads.specs.Sources.{shows, source, external_reads, sorted_once, pair_cmp, reads_of, entry_of, history}
+use Rattle.tcc_reads.specs.Sources.{shows, source, external_reads, sorted_once, pair_cmp, entry_of, history}
 use Rattle.tcc_reads.specs.Faults.{writer, read_faults}
 use Rattle.tcc_reads.specs.Stored.{places_of, IsStored}
 use Rattle.tcc_reads.specs.Verdicts.{held, AreFirstWriters, faults_found, entries_found}

@@ -1,5 +1,5 @@
 -- Where nothing is faulty, the sources found are the sources.
-use Rattle.std.proofs.Common.{◌≡◌, ℕ, ◌+◌, Bool, true, false, cond, not, ◌&&◌, ◌||◌, List, [], ◌∷◌, ◌++◌, length, map, filter, filter_map, flat_map, Option, None, Some, option_map, unwrap_or, refl, ap, sym, ◌∙◌, subst, is_some, is_none, nat_eq}
+use Rattle.std.proofs.Common.{◌≡◌, ℕ, ◌+◌, Bool, true, false, cond, not, ◌&&◌, ◌||◌, List, [], ◌∷◌, ◌++◌, length, map, filter, filter_map, flat_map, Option, None, Some, option_map, unwrap_or, refl, ap, sym, ◌∙◌, is_none, nat_eq}
 use Rattle.std.specs.Prelude.{◌==◌}
 use Rattle.std.specs.List.{list_any, cons_option, position_from}
 use Rattle.std.specs.Option.{option_or, option_eq}
@@ -10,17 +10,15 @@ use Rattle.std.specs.declared.cmp.Ordering.TheVariants.{Less, Equal, Greater}
 use Rattle.std.proofs.lemmas.Map.Lookups.{exact_bytes}
 use Rattle.tcc_txn.specs.declared.op.Op.{Op}
 use Rattle.tcc_txn.specs.declared.op.Op.TheVariants.{Get, Put}
-use Rattle.tcc_reads.specs.declared.fault.ReadFaultKind.{ReadFaultKind}
-use Rattle.tcc_reads.specs.declared.fault.ReadFaultKind.TheVariants.{Duplicate, BrokenInternal, ThinAir, Aborted, Intermediate, Future}
+use Rattle.tcc_reads.specs.declared.fault.ReadFaultKind.TheVariants.{Duplicate, BrokenInternal, Intermediate, Future}
 use Rattle.tcc_reads.specs.declared.writers.Writer.{Writer}
 use Rattle.tcc_reads.specs.declared.judging.Judgement.{Judgement}
 use Rattle.tcc_reads.specs.declared.judging.Judgement.TheVariants.{Faulty, ReadsFrom, Silent}
-use Rattle.tcc_reads.specs.History.{Entry}
-use Rattle.tcc_reads.specs.Sites.{Stand, Site, at, sites_from, sites_of, is_committed, committed}
+use Rattle.tcc_reads.specs.Sites.{Stand, Site, at, sites_from, committed}
 use Rattle.tcc_reads.specs.Numbers.{Numbered, next_number, numbered_from}
-use Rattle.tcc_reads.specs.Sources.{puts_at, value_put, visible_write, shows, source, external_read, external_reads, sorted_once, pair_cmp, writes_of, reads_of, entry_of, name_cmp}
+use Rattle.tcc_reads.specs.Sources.{puts_at, value_put, visible_write, shows, source, external_read, external_reads, sorted_once, pair_cmp, writes_of, entry_of, name_cmp}
 use Rattle.tcc_reads.specs.Faults.{op_key, puts}
-use Rattle.tcc_reads.specs.Verdicts.{write_at, writer_at, first_in, first_writer, is_in, write_judgement, judgement_from, read_judgement, own_judgement, site_judgement, fault_in, source_in, fault_found, source_found, faults_found, sources_found, entry_found, entries_found}
+use Rattle.tcc_reads.specs.Verdicts.{writer_at, first_in, first_writer, is_in, write_judgement, judgement_from, read_judgement, own_judgement, site_judgement, fault_in, source_in, fault_found, source_found, faults_found, sources_found, entry_found, entries_found}
 use Rattle.tcc_reads.proofs.Ties.{names_tie}
 use Rattle.tcc_reads.proofs.Agreement.{kind_in}
 

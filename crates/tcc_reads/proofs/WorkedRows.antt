@@ -1,5 +1,5 @@
 -- Worked snapshots: the faults and histories that the definitions give them.
-use Rattle.std.proofs.Common.{◌≡◌, ℕ, Bool, true, false, List, [], ◌∷◌, refl}
+use Rattle.std.proofs.Common.{◌≡◌, ℕ, true, false, List, [], ◌∷◌, refl}
 use Rattle.std.specs.Prelude.{codes}
 use Rattle.tcc_txn.specs.Transactions.{Transaction}
 use Rattle.tcc_txn.specs.declared.op.Op.{Op}
@@ -7,7 +7,7 @@ use Rattle.tcc_txn.specs.declared.op.Op.TheVariants.{Get, Put}
 use Rattle.tcc_reads.specs.declared.fault.ReadFault.{ReadFault}
 use Rattle.tcc_reads.specs.declared.fault.ReadFaultKind.{ReadFaultKind}
 use Rattle.tcc_reads.specs.declared.fault.ReadFaultKind.TheVariants.{Duplicate, BrokenInternal, ThinAir, Aborted, Intermediate, Future}
-use Rattle.tcc_reads.specs.History.{Entry, History, initial}
+use Rattle.tcc_reads.specs.History.{Entry, initial}
 use Rattle.tcc_reads.specs.Sites.{stands_from}
 use Rattle.tcc_reads.specs.Sources.{history_of}
 use Rattle.tcc_reads.specs.Faults.{faults_of}

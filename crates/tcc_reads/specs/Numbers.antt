@@ -1,5 +1,5 @@
 -- Transactions with their numbers.
-use Rattle.std.specs.Prelude.{ℕ, ◌+◌, Bool, List, [], ◌∷◌, if◌then◌else◌, refl}
+use Rattle.std.specs.Prelude.{ℕ, ◌+◌, List, [], ◌∷◌, if◌then◌else◌, refl}
 use Rattle.std.specs.Coded.{Coded, code_by, coded×, coded_list, coded_ℕ}
 use Rattle.tcc_txn.specs.SnapshotStorage.{transaction_code}
 use Rattle.tcc_txn.specs.Transactions.{Transaction}

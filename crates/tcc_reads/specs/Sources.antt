@@ -12,7 +12,7 @@ use Rattle.tcc_txn.specs.Snapshots.{Sessions}
 use Rattle.tcc_txn.specs.declared.op.Op.{Op}
 use Rattle.tcc_txn.specs.declared.op.Op.TheVariants.{Get, Put}
 use Rattle.tcc_reads.specs.History.{Entry, History, initial}
-use Rattle.tcc_reads.specs.Sites.{Stand, is_committed, stands, committed, Site, sites_of}
+use Rattle.tcc_reads.specs.Sites.{Stand, stands, committed, Site, sites_of}
 
 -- whether an operation writes a key
 abbrev pub puts_at : List ℕ → Op → Bool

@@ -1,7 +1,6 @@
 use Rattle.std.proofs.Common.{◌≡◌, take}
 use Rattle.std.specs.Prelude.{map}
-use Rattle.tcc_graph.specs.Keys.{with_names, keys}
-use Rattle.tcc_graph.specs.Tables.{over}
+use Rattle.tcc_graph.specs.Keys.{with_names}
 use Rattle.tcc_graph.proofs.keys.add_keys_read.Given as goal
 
 abbrev pub invariant-loop-key : goal.invariant-loop-key

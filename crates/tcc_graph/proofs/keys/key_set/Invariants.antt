@@ -1,6 +1,5 @@
 use Rattle.std.proofs.Common.{◌≡◌, take}
-use Rattle.std.specs.Prelude.{map}
-use Rattle.tcc_graph.specs.Keys.{with_names, keys}
+use Rattle.tcc_graph.specs.Keys.{keys}
 use Rattle.tcc_graph.specs.Tables.{over}
 use Rattle.tcc_graph.proofs.keys.key_set.Given as goal
 

@@ -1,4 +1,4 @@
-use Rattle.std.proofs.Common.{◌≡◌, ℕ, ◌<◌, length, subst}
+use Rattle.std.proofs.Common.{◌<◌, subst}
 use Rattle.std.specs.FinMap as finite
 use Rattle.tcc_reads.proofs.Counting.{some_within}
 use Rattle.tcc_reads.proofs.numbering.session_at.Goals as goal

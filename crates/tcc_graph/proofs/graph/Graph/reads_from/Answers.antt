@@ -1,4 +1,4 @@
-use Rattle.std.proofs.Common.{ℕ, ◌<◌, length, sym, subst, ◌∙◌}
+use Rattle.std.proofs.Common.{◌<◌, length, sym, subst, ◌∙◌}
 use Rattle.tcc_reads.specs.History.{History}
 use Rattle.tcc_graph.proofs.GraphLemmas.{reads_at}
 use Rattle.tcc_graph.proofs.graph.Graph.reads_from.Goals as goal

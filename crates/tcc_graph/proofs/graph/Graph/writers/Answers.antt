@@ -1,5 +1,4 @@
 use Rattle.std.proofs.Common.{◌∙◌}
-use Rattle.tcc_graph.specs.KeyRows.{IsAbsent, StandsAt}
 use Rattle.tcc_graph.proofs.GraphLemmas.{writers_at, writers_absent}
 use Rattle.tcc_graph.proofs.graph.Graph.writers.Goals as goal
 
