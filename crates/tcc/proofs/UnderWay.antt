@@ -1,6 +1,6 @@
 -- The items of an input, of which some are held already and the others are ahead.
 use Rattle.std.proofs.Common.{◌≡◌, ℕ, Bool, true, false, List, [], ◌∷◌, ◌++◌, refl, sym, ap, subst, ◌∙◌, cond, Some, None, Option, Ok, Err, inl, inr, append_assoc, append-nil}
-use Rattle.std.specs.Prelude.{unwrap_or, if◌then◌else◌, ◌||◌, ◌⊎◌, filter_map, Result, IsErrAnd}
+use Rattle.std.specs.Prelude.{unwrap_or, ◌||◌, filter_map, Result, IsErrAnd}
 use Rattle.std.specs.List.{list_any}
 use Rattle.std.specs.Str.{bytes_eq}
 use Rattle.std.proofs.lemmas.List.Folds.{list_any-append}
@@ -13,8 +13,6 @@ use Rattle.tcc_txn.specs.declared.rows.Rows.{Rows}
 use Rattle.tcc_txn.specs.declared.rows.Item.{Item}
 use Rattle.tcc_txn.specs.declared.rows.Item.TheVariants.{Finished, Seal, End}
 use Rattle.tcc_txn.specs.declared.rows.RowFault.{RowFault}
-use Rattle.tcc_txn.specs.declared.rows.RowFaultKind.{RowFaultKind}
-use Rattle.tcc_txn.specs.declared.rows.RowFaultKind.TheVariants as kind
 use Rattle.tcc.specs.declared.finished.Gathered.{Gathered}
 use Rattle.tcc.specs.declared.halt.Halt.{Halt}
 use Rattle.tcc.specs.declared.halt.Halt.TheVariants as halt
@@ -40,12 +38,13 @@ pub finished_of-push : (session name : List ℕ) (txn : Transaction) (items : Li
 finished_of-push session name txn items =
     filter_map-append (txn_of session) items (Finished name txn ∷ []) ∙ by_test (bytes_eq name session)
   where
-  list : List Transaction
-  list = finished_of session items
-  by_test : (b : Bool)
-      → list ++ filter_map (λ (item : Item). cond b (Some txn) None) (Finished name txn ∷ []) ≡ cond b (list ++ txn ∷ []) list
-  by_test true = refl
-  by_test false = append-nil list
+    list : List Transaction
+    list = finished_of session items
+
+    by_test : (b : Bool)
+        → list ++ filter_map (λ (item : Item). cond b (Some txn) None) (Finished name txn ∷ []) ≡ cond b (list ++ txn ∷ []) list
+    by_test true = refl
+    by_test false = append-nil list
 
 pub some_of-push : {T : Type 0} (xs : List T) (x : T) → some_of (xs ++ x ∷ []) ≡ Some (xs ++ x ∷ [])
 some_of-push [] x = refl
@@ -61,22 +60,25 @@ pub holds_more : (old new : Gathered) (name : List ℕ) (txn : Transaction) (ite
 holds_more old new name txn items holds adds session =
     adds session ∙ by_test (bytes_eq name session) ∙ ap some_of (sym (finished_of-push session name txn items))
   where
-  list : List Transaction
-  list = finished_of session items
-  by_test : (b : Bool)
-      → cond b (Some (unwrap_or (held old session) [] ++ txn ∷ [])) (held old session) ≡ some_of (cond b (list ++ txn ∷ []) list)
-  by_test true =
-      ap (λ found. Some (unwrap_or found [] ++ txn ∷ [])) (holds session)
-      ∙ ap (λ xs. Some (xs ++ txn ∷ [])) (unwrap_or-some_of list) ∙ sym (some_of-push list txn)
-  by_test false = holds session
+    list : List Transaction
+    list = finished_of session items
+
+    by_test : (b : Bool)
+        → cond b (Some (unwrap_or (held old session) [] ++ txn ∷ [])) (held old session) ≡ some_of (cond b (list ++ txn ∷ []) list)
+    by_test true =
+        ap (λ found. Some (unwrap_or found [] ++ txn ∷ [])) (holds session)
+        ∙ ap (λ xs. Some (xs ++ txn ∷ [])) (unwrap_or-some_of list) ∙ sym (some_of-push list txn)
+    by_test false = holds session
 
 -- the answer for the snapshot of all that was gathered is that of the input
 pub ended : (all : Answers) (gathered : Gathered) (s : Sessions) (a : Answer) → IsGathering all (Ok gathered)
     → AreParts gathered s → IsSnapshotAnswer s a → IsInputAnswer all a
 ended all gathered s a gathering parts answer =
-    inr (gathering.0,
+    inr (
+      gathering.0,
       subst (λ fault. IsEndAnswer all.items fault a) (sym gathering.1)
-        (s, (λ session. parts session ∙ gathering.2 session), answer))
+          (s, (λ session. parts session ∙ gathering.2 session), answer),
+    )
 
 module _ {R : Type 0} (remaining : R → Option (List ℕ)) where
   pub begins : (rows : Rows R) (gathered : Gathered) (all : Answers) → IsAhead remaining rows all
@@ -111,9 +113,11 @@ module _ {R : Type 0} {remaining : R → Option (List ℕ)} {rows : Rows R} {gat
   pub stops_at_end : (under : IsUnderWay remaining rows gathered all) (rows' : Rows R)
       → TakesAnswer remaining under.ahead (Ok End) rows' → IsGathering all (Ok gathered)
   stops_at_end under rows' takes =
-      let whole : all.items ≡ under.past = under.items ∙ ap (λ ahead. under.past ++ ahead.items) takes.0 ∙ append-nil under.past in
-      (ap (list_any is_seal) whole ∙ under.unsealed, under.fault ∙ ap (λ (ahead : Answers). ahead.fault) takes.0,
-        λ session. under.holds session ∙ ap (λ items. some_of (finished_of session items)) (sym whole))
+      let whole : all.items ≡ under.past = under.items ∙ ap (λ ahead. under.past ++ ahead.items) takes.0 ∙ append-nil under.past in (
+        ap (list_any is_seal) whole ∙ under.unsealed,
+        under.fault ∙ ap (λ (ahead : Answers). ahead.fault) takes.0,
+        λ session. under.holds session ∙ ap (λ items. some_of (finished_of session items)) (sym whole),
+      )
 
   -- the fault of the records, a reader that fails, or want of memory
   pub stops_at_fault : (under : IsUnderWay remaining rows gathered all) (rows' : Rows R) (fault : RowFault) (why : Halt)
@@ -121,19 +125,21 @@ module _ {R : Type 0} {remaining : R → Option (List ℕ)} {rows : Rows R} {gat
   stops_at_fault under rows' fault why takes is =
       subst (λ h. IsGathering all (Err h)) (sym is) (by_test (is_memory fault.kind) refl)
     where
-    no_memory : true ≡ false → ⊥
-    no_memory h = cc
-    whole : under.ahead ≡ ending (Some fault) → all.items ≡ under.past
-    whole same = under.items ∙ ap (λ ahead. under.past ++ ahead.items) same ∙ append-nil under.past
-    by_test : (b : Bool) → is_memory fault.kind ≡ b → IsGathering all (Err (cond b halt.NoMemory (halt.Fault fault)))
-    by_test true e = tt
-    by_test false e = elim takes.0 [
-      | inl same ↦ inl (ap (list_any is_seal) (whole same) ∙ under.unsealed, under.fault ∙ ap (λ (ahead : Answers). ahead.fault) same)
-      | inr fails ↦ elim fails.0 [
-        | inl read ↦ inr read
-        | inr memory ↦ absurd (no_memory (sym (ap is_memory memory) ∙ e))
+      no_memory : true ≡ false → ⊥
+      no_memory h = cc
+
+      whole : under.ahead ≡ ending (Some fault) → all.items ≡ under.past
+      whole same = under.items ∙ ap (λ ahead. under.past ++ ahead.items) same ∙ append-nil under.past
+
+      by_test : (b : Bool) → is_memory fault.kind ≡ b → IsGathering all (Err (cond b halt.NoMemory (halt.Fault fault)))
+      by_test true e = tt
+      by_test false e = elim takes.0 [
+        | inl same ↦ inl (ap (list_any is_seal) (whole same) ∙ under.unsealed, under.fault ∙ ap (λ (ahead : Answers). ahead.fault) same)
+        | inr fails ↦ elim fails.0 [
+          | inl read ↦ inr read
+          | inr memory ↦ absurd (no_memory (sym (ap is_memory memory) ∙ e))
+        ]
       ]
-    ]
 
   pub stops_with : (under : IsUnderWay remaining rows gathered all) (rows' : Rows R) (fault : RowFault) (result : Result Gathered Halt)
       → TakesAnswer remaining under.ahead (Err fault) rows' → IsErrAnd result (λ why. why ≡ halt_of fault) → IsGathering all result

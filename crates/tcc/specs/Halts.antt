@@ -1,5 +1,5 @@
 -- Why an input has no snapshot of all that was finished.
-use Rattle.std.specs.Prelude.{ℕ, ◌≡◌, ◌⊎◌, Bool, true, false, List, Option, None, Some, Result, Ok, Err, if◌then◌else◌}
+use Rattle.std.specs.Prelude.{ℕ, ◌≡◌, ◌⊎◌, Bool, true, false, List, None, Some, Result, Ok, Err, if◌then◌else◌}
 use Rattle.std.specs.List.{list_any}
 use Rattle.tcc_txn.specs.Answers as rows
 use Rattle.tcc_txn.specs.declared.rows.Item.{Item}

@@ -4,8 +4,7 @@ use crate::status::Status;
 use clap::error::ErrorKind;
 use clap::{Command, Error};
 use std::alloc::Global;
-use std::env;
-use std::io;
+use std::{env, io};
 
 /// What the program is asked to do.
 #[derive(Clone, Copy, Debug, PartialEq, Eq)]
@@ -15,8 +14,9 @@ pub enum Request {
 }
 
 fn parse(alloc: Global, words: &[String]) -> Result<Request, Error> {
-    let explain = Command::new(alloc, "explain")
-        .about("Reads records from standard input and says whether the history is causally consistent");
+    let explain = Command::new(alloc, "explain").about(
+        "Reads records from standard input and says whether the history is causally consistent",
+    );
     let command = Command::new(alloc, "tcc")
         .about("Checks and explains causal consistency of transaction histories")
         .subcommand_required(true)

@@ -68,7 +68,7 @@ impl Row {
             ≡ (slice_index_or self.old k false || slice_index_or other.now k false) }
     {
         for (place, cell) in self.cells.iter_mut().enumerate() {
-            *cell = *cell | other[place];
+            *cell |= other[place];
         }
     }
 }

@@ -5,11 +5,14 @@ use std::test::Fail;
 
 const LONG_FORK: &str = "a,begin\na,w,x,1\na,commit\nb,begin\nb,w,y,1\nb,commit\n\
     c,begin\nc,r,x,1\nc,r,y,0\nc,commit\nd,begin\nd,r,x,0\nd,r,y,1\nd,commit\n";
+
 const LONG_FORK_TEXT: &str =
     "consistent: 4 transactions, 4 sessions\norder: init a/1 b/1 c/1 d/1\n";
+
 const STALE: &str = "a,begin\na,w,x,1\na,commit\na,begin\na,r,x,0\na,commit\n";
-const ABORTED_READ: &str =
-    "a,begin\na,w,x,1\na,abort\nb,begin\nb,r,x,1\nb,r,z,7\nb,commit\n";
+
+const ABORTED_READ: &str = "a,begin\na,w,x,1\na,abort\nb,begin\nb,r,x,1\nb,r,z,7\nb,commit\n";
+
 const ABORTED_READ_TEXT: &str =
     "unresolved: 2 faults\nAborted b/1 op 1 x 1\nThinAir b/1 op 2 z 7\n";
 
@@ -24,10 +27,15 @@ fn answers(rt: &impl Abort, alloc: Global, records: &str, text: &str, status: u8
 #[test]
 fn consistent_histories(rt: HostRuntime) -> Result<(), Fail> {
     let alloc = rt.alloc();
-    answers(&rt, alloc, "", "consistent: 0 transactions, 0 sessions\norder: init\n", 0);
+    answers(
+        &rt,
+        alloc,
+        "",
+        "consistent: 0 transactions, 0 sessions\norder: init\n",
+        0,
+    );
     answers(&rt, alloc, LONG_FORK, LONG_FORK_TEXT, 0);
-    let lost_update =
-        "a,begin\na,r,x,0\na,w,x,1\na,commit\nb,begin\nb,r,x,0\nb,w,x,2\nb,commit\n";
+    let lost_update = "a,begin\na,r,x,0\na,w,x,1\na,commit\nb,begin\nb,r,x,0\nb,w,x,2\nb,commit\n";
     let text = "consistent: 2 transactions, 2 sessions\norder: init a/1 b/1\n";
     answers(&rt, alloc, lost_update, text, 0);
     let after_abort = "a,begin\na,w,x,9\na,abort\na,begin\na,w,x,1\na,commit\n";
@@ -62,8 +70,7 @@ fn order_of_a_reason(rt: HostRuntime) -> Result<(), Fail> {
 fn inconsistent_histories(rt: HostRuntime) -> Result<(), Fail> {
     let alloc = rt.alloc();
     answers(&rt, alloc, STALE, "inconsistent\n", 1);
-    let circle =
-        "a,begin\na,w,x,1\na,r,y,1\na,commit\nb,begin\nb,w,y,1\nb,r,x,1\nb,commit\n";
+    let circle = "a,begin\na,w,x,1\na,r,y,1\na,commit\nb,begin\nb,w,y,1\nb,r,x,1\nb,commit\n";
     answers(&rt, alloc, circle, "inconsistent\n", 1);
     let conflict = "a,begin\na,w,x,1\na,commit\nb,begin\nb,w,x,2\nb,commit\n\
         c,begin\nc,r,x,1\nc,r,x,2\nc,commit\n";
@@ -82,7 +89,13 @@ fn read_faults(rt: HostRuntime) -> Result<(), Fail> {
     let text = "unresolved: 2 faults\nFuture a/1 op 1 x 1\nBrokenInternal a/1 op 3 x 2\n";
     answers(&rt, alloc, future, text, 2);
     let twice = "a,begin\na,w,x,1\na,commit\nb,begin\nb,w,x,1\nb,abort\n";
-    answers(&rt, alloc, twice, "unresolved: 1 faults\nDuplicate b/1 op 1 x 1\n", 2);
+    answers(
+        &rt,
+        alloc,
+        twice,
+        "unresolved: 1 faults\nDuplicate b/1 op 1 x 1\n",
+        2,
+    );
     Ok(())
 }
 
@@ -97,7 +110,13 @@ fn row_faults(rt: HostRuntime) -> Result<(), Fail> {
     answers(&rt, alloc, "a,begin\na,w,x,0\n", "row 2: WriteOfZero\n", 3);
     answers(&rt, alloc, "a,r,x,0\n", "row 1: NotBegun\n", 3);
     answers(&rt, alloc, "a,begin\na,begin\n", "row 2: AlreadyBegun\n", 3);
-    answers(&rt, alloc, "b,begin\na,begin\na,r,x,0\n", "row 3: Unfinished a\n", 3);
+    answers(
+        &rt,
+        alloc,
+        "b,begin\na,begin\na,r,x,0\n",
+        "row 3: Unfinished a\n",
+        3,
+    );
     Ok(())
 }
 
@@ -107,42 +126,56 @@ fn seals_are_refused(rt: HostRuntime) -> Result<(), Fail> {
     let alloc = rt.alloc();
     answers(&rt, alloc, "seal\n", "refused\n", 3);
     answers(&rt, alloc, "a,begin\nseal\nstop\n", "refused\n", 3);
-    answers(&rt, alloc, "a,begin\nstop\nseal\n", "row 2: UnknownWord\n", 3);
+    answers(
+        &rt,
+        alloc,
+        "a,begin\nstop\nseal\n",
+        "row 2: UnknownWord\n",
+        3,
+    );
     Ok(())
 }
 
-// What is answered for each front of the stale read: up to so many bytes, this text, this status.
+// What is answered for each front of the stale read: below so many bytes, this text, this status.
 #[test]
 fn each_front_of_an_input(rt: HostRuntime) -> Result<(), Fail> {
     let alloc = rt.alloc();
     let fronts = [
-        (0, "consistent: 0 transactions, 0 sessions\norder: init\n", 0),
-        (6, "row 1: UnknownWord\n", 3),
-        (8, "row 1: Unfinished a\n", 3),
-        (11, "row 2: UnknownWord\n", 3),
-        (13, "row 2: FieldCount\n", 3),
-        (14, "row 2: BadValue\n", 3),
-        (16, "row 2: Unfinished a\n", 3),
-        (23, "row 3: UnknownWord\n", 3),
-        (25, "consistent: 1 transactions, 1 sessions\norder: init a/1\n", 0),
-        (31, "row 4: UnknownWord\n", 3),
-        (33, "row 4: Unfinished a\n", 3),
-        (36, "row 5: UnknownWord\n", 3),
-        (38, "row 5: FieldCount\n", 3),
-        (39, "row 5: BadValue\n", 3),
-        (41, "row 5: Unfinished a\n", 3),
-        (48, "row 6: UnknownWord\n", 3),
-        (50, "inconsistent\n", 1),
+        (
+            1,
+            "consistent: 0 transactions, 0 sessions\norder: init\n",
+            0,
+        ),
+        (7, "row 1: UnknownWord\n", 3),
+        (9, "row 1: Unfinished a\n", 3),
+        (12, "row 2: UnknownWord\n", 3),
+        (14, "row 2: FieldCount\n", 3),
+        (15, "row 2: BadValue\n", 3),
+        (17, "row 2: Unfinished a\n", 3),
+        (24, "row 3: UnknownWord\n", 3),
+        (
+            26,
+            "consistent: 1 transactions, 1 sessions\norder: init a/1\n",
+            0,
+        ),
+        (32, "row 4: UnknownWord\n", 3),
+        (34, "row 4: Unfinished a\n", 3),
+        (37, "row 5: UnknownWord\n", 3),
+        (39, "row 5: FieldCount\n", 3),
+        (40, "row 5: BadValue\n", 3),
+        (42, "row 5: Unfinished a\n", 3),
+        (49, "row 6: UnknownWord\n", 3),
+        (51, "inconsistent\n", 1),
     ];
-    let mut bytes = 0;
-    for (last, text, status) in fronts {
-        while bytes <= last {
+    let mut reached = 0;
+    for (after, text, status) in fronts {
+        for bytes in reached..after {
             let records = STALE.get(..bytes).ok_or("the input is shorter")?;
             answers(&rt, alloc, records, text, status);
-            bytes += 1;
         }
+        reached = after;
     }
-    assert_eq!(rt; bytes, STALE.len() + 1);
+    assert_eq!(rt; reached, STALE.len() + 1);
     Ok(())
 }
 
