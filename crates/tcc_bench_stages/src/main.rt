@@ -19,12 +19,7 @@ enum Stage {
 }
 
 /// Adds a transaction to those of its session.
-fn add(
-    alloc: Global,
-    parts: &mut Vec<(Name, Vec<Txn>)>,
-    session: Name,
-    txn: Txn,
-) -> Option<()> {
+fn add(alloc: Global, parts: &mut Vec<(Name, Vec<Txn>)>, session: Name, txn: Txn) -> Option<()> {
     for part in parts.iter_mut() {
         if part.0 == session {
             return part.1.push(txn).ok();

@@ -108,10 +108,7 @@ fn label_with_an_aborted_transaction(rt: HostRuntime) -> Result<(), Fail> {
         &rt,
         alloc,
         "B.1-b",
-        &[
-            (&[put(&rt, "z", 9)], false),
-            (&[put(&rt, "x", 1)], true),
-        ],
+        &[(&[put(&rt, "z", 9)], false), (&[put(&rt, "x", 1)], true)],
     )?;
     let a = session(&rt, alloc, "a", &[(&[get(&rt, "x", 1)], true)])?;
     let graph = graph(&rt, alloc, vec![in alloc; a, b]?)?;
@@ -214,7 +211,10 @@ fn keys_writers_and_readers(rt: HostRuntime) -> Result<(), Fail> {
 #[test]
 fn walks_keep_their_steps(rt: HostRuntime) -> Result<(), Fail> {
     let alloc = rt.alloc();
-    let walk = Walk::new(vec![in alloc; Step::Session { from: 1, to: 2 }, Step::Session { from: 2, to: 3 }]?);
+    let walk = Walk::new(vec![in alloc;
+        Step::Session { from: 1, to: 2 },
+        Step::Session { from: 2, to: 3 },
+    ]?);
     assert_eq!(rt; walk.steps().len(), 2);
     let Ok(copy) = walk.copy(alloc) else {
         panic!(rt; "out of memory")
