@@ -1,5 +1,5 @@
 -- The order of names is that of their padded bytes, eight by eight, read as numbers.
-use Rattle.std.proofs.Common.{◌≡◌, ℕ, zero, suc, ◌+◌, ◌-◌, ◌*◌, ◌≤◌, ◌<◌, Bool, true, false, cond, List, [], ◌∷◌, ◌++◌, length, take, drop, get_or, refl, sym, ap, subst, ◌∙◌, rules, arith, None, Ordering, Less, Equal, Greater}
+use Rattle.std.proofs.Common.{◌≡◌, ℕ, zero, suc, ◌+◌, ◌-◌, ◌*◌, ◌≤◌, ◌<◌, true, List, [], ◌∷◌, ◌++◌, length, take, drop, get_or, refl, sym, ap, subst, ◌∙◌, arith, None, Ordering, Less, Equal, Greater}
 use Rattle.std.proofs.lemmas.Bool.Decides.{nat_tests}
 use Rattle.std.proofs.lemmas.List.{get_or-drop, drop-drop, drop_all, length-take, length-drop, take_all}
 use Rattle.std.proofs.lemmas.List.Sums.{prefix_len_passes}
@@ -10,6 +10,8 @@ use Rattle.tcc_txn.specs.Stored.{few_bytes}
 use Rattle.std.proofs.Math.Seq.{drop-cons}
 use Rattle.std.specs.Ordering.{nat_cmp, ordering_then, MatchOrdering}
 use Rattle.std.specs.Cmp.Lexicographic.{slice_cmp}
+use Rattle.std.specs.Cmp.{nat_cmp_is}
+use Rattle.std.proofs.lemmas.Cmp.{ranked}
 use Rattle.std.specs.Int.{w64, from_be_bytes}
 
 then_assoc : (a b c : Ordering) → ordering_then a (ordering_then b c) ≡ ordering_then (ordering_then a b) c
@@ -106,6 +108,37 @@ small-take (suc n) (x ∷ xs) p (suc k) = small-take n xs (λ k. p (suc k)) k
 
 pub small-word : (at : ℕ) (bytes : List ℕ) → ((k : ℕ) → get_or bytes k 0 < 256) → (k : ℕ) → get_or (take 8 (drop at bytes)) k 0 < 256
 small-word at bytes p = small-take 8 (drop at bytes) (λ k. omega (arith, get_or-drop at bytes k 0, p (at + k)))
+
+-- the first word of some bytes, as the code reads it
+abbrev pub first_word : List ℕ → ℕ
+first_word bytes = from_be_bytes w64 (take 8 bytes)
+
+cmp-first_words : (xs ys : List ℕ) → length xs ≡ 32 → length ys ≡ 32
+    → ((k : ℕ) → get_or xs k 0 < 256) → ((k : ℕ) → get_or ys k 0 < 256)
+    → nat_cmp (first_word xs) (first_word ys) ≡ word_cmp 0 xs ys
+cmp-first_words xs ys e f p q =
+    cmp-words (take 8 xs) (take 8 ys) (length-word 0 xs (omega (arith, e))) (length-word 0 ys (omega (arith, f))) (small-take 8 xs p) (small-take 8 ys q)
+
+-- equal first words are of equal bytes
+pub same-words : (xs ys : List ℕ) → length xs ≡ 32 → length ys ≡ 32
+    → ((k : ℕ) → get_or xs k 0 < 256) → ((k : ℕ) → get_or ys k 0 < 256)
+    → first_word xs ≡ first_word ys → word_cmp 0 xs ys ≡ Equal
+same-words xs ys e f p q same =
+    sym (cmp-first_words xs ys e f p q) ∙ sym (nat_cmp_is (first_word xs) (first_word ys) Equal same)
+
+then_decided : (o next : Ordering) → (o ≡ Equal → ⊥) → ordering_then o next ≡ o
+then_decided Less next h = refl
+then_decided Equal next h = absurd (h refl)
+then_decided Greater next h = refl
+
+-- where the first words differ, they decide
+pub cmp-differing : (xs ys : List ℕ) → length xs ≡ 32 → length ys ≡ 32
+    → ((k : ℕ) → get_or xs k 0 < 256) → ((k : ℕ) → get_or ys k 0 < 256)
+    → (first_word xs ≡ first_word ys → ⊥) → slice_cmp nat_cmp xs ys ≡ word_cmp 0 xs ys
+cmp-differing xs ys e f p q differ =
+    cmp-from Equal 0 xs ys
+    ∙ then_decided (word_cmp 0 xs ys) _
+    (λ tie. differ (ranked (first_word xs) (first_word ys) Equal (sym tie ∙ sym (cmp-first_words xs ys e f p q))))
 
 name_byte-some : (b : ℕ) → not (not (is_name_byte b)) ≡ true → 0 < b
 name_byte-some zero e = cc e

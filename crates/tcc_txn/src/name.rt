@@ -115,12 +115,15 @@ fn cmp_word(one: &[u8; 32], other: &[u8; 32], at: usize) -> Ordering
     word(one, at).cmp(&word(other, at))
 }
 
-/// The order of two names by their padded bytes, which is theirs since no name has a zero.
+/// The order of two buffers, eight bytes at a time.
 fn cmp_padded(one: &[u8; 32], other: &[u8; 32]) -> Ordering
     ensures { result ≡ slice_cmp nat_cmp one.now other.now }
 {
-    cmp_word(one, other, 0)
-        .then_with(|| cmp_word(one, other, 8))
+    // Most names differ here, and this test is quicker than a three-way comparison.
+    if word(one, 0) != word(other, 0) {
+        return cmp_word(one, other, 0);
+    }
+    cmp_word(one, other, 8)
         .then_with(|| cmp_word(one, other, 16))
         .then_with(|| cmp_word(one, other, 24))
 }
@@ -193,6 +196,7 @@ impl Ord for Name {
     ghost matches_eq = { texts_ties };
 
     fn cmp(&self, other: &Name) -> Ordering {
+        // The zeros behind a name leave the order as it is, since no name has a zero.
         cmp_padded(&self.buffer, &other.buffer)
     }
 }
