@@ -1,10 +1,11 @@
 -- Small histories, worked out by hand, that the definitions have to agree with.
-use Rattle.std.proofs.Common.{ℕ, ◌≡◌, List, [], ◌∷◌, length, refl, arith}
-use Rattle.std.specs.Prelude.{codes}
+use Rattle.std.proofs.Common.{ℕ, ◌≡◌, List, [], ◌∷◌, length, refl, arith, true, false, Some, None}
+use Rattle.std.specs.Prelude.{codes, decimal, ◌++◌}
 use Rattle.std.specs.declared.cmp.Ordering.TheVariants.{Less, Greater}
 use Rattle.tcc_reads.specs.History.{Entry, History, initial, count}
-use Rattle.tcc_graph.specs.Relations.{reads_from}
-use Rattle.tcc_graph.specs.Keys.{writers, readers}
+use Rattle.tcc_graph.specs.Relations.{session_pair, reads_from, causal_pair}
+use Rattle.tcc_graph.specs.Numbers.{at, label}
+use Rattle.tcc_graph.specs.Keys.{keys, writers, readers}
 use Rattle.tcc_graph.specs.Walks.{IsWalk}
 use Rattle.tcc_graph.specs.Links.{IsLink, cost, link_cost}
 use Rattle.tcc_graph.specs.Routes.{IsCycle}
@@ -50,6 +51,20 @@ stale_read-readers = refl
 stale_read-writers-y : writers stale_read y ≡ []
 stale_read-writers-y = refl
 
+stale_read-keys : keys stale_read ≡ x ∷ []
+stale_read-keys = refl
+
+-- `init` before the others, the lower place first, and none with itself
+stale_read-session : (session_pair stale_read 0 2 ≡ true) × (session_pair stale_read 1 2 ≡ true) × (session_pair stale_read 2 1 ≡ false)
+    × (session_pair stale_read 0 0 ≡ false) × (session_pair stale_read 1 1 ≡ false) × (session_pair stale_read 1 3 ≡ false)
+stale_read-session = (refl, refl, refl, refl, refl, refl)
+
+stale_read-numbers : (at stale_read 0 ≡ None) × (at stale_read 2 ≡ Some (0, 2)) × (at stale_read 3 ≡ None)
+stale_read-numbers = (refl, refl, refl)
+
+stale_read-labels : (label stale_read 0 ≡ codes "init") × (label stale_read 2 ≡ codes "a" ++ 47 ∷ decimal 2)
+stale_read-labels = (refl, refl)
+
 abbrev stale_cycle : List Link
 stale_cycle = link.Session 0 1 ∷ link.Derived 1 0 x 2 (step.Session 1 2 ∷ []) ∷ []
 
@@ -82,6 +97,13 @@ long_chain = record {
 
 long_chain-count : count long_chain ≡ 5
 long_chain-count = refl
+
+long_chain-keys : keys long_chain ≡ x ∷ y ∷ []
+long_chain-keys = refl
+
+-- by session order, by a read, and by neither
+long_chain-causal : (causal_pair long_chain 3 4 ≡ true) × (causal_pair long_chain 1 2 ≡ true) × (causal_pair long_chain 1 4 ≡ false)
+long_chain-causal = (refl, refl, refl)
 
 long_chain-reads : (reads_from long_chain 1 2 ≡ x ∷ []) × (reads_from long_chain 2 3 ≡ y ∷ []) × (reads_from long_chain 0 4 ≡ x ∷ [])
 long_chain-reads = (refl, refl, refl)
