@@ -3,9 +3,10 @@
 
     run.py [--runs N] [--tcc PATH] [--keep FOLDER]
 
-For each history of histories.py: medians of the wall time and the peak memory of `tcc explain`, and the median
-wall time of `csv_count`, which reads the same records by csv and only counts them. The two take turns. Builds
-what isn't built. Peak memory is never below that of this script, about 15 MB.
+For each history of histories.py: medians of the wall time and the peak memory of `tcc explain`, beside the time
+that csv alone needs for the same records (`csv_count`), and that of the first stages (`tcc_bench_stages`): reading
+the records, resolving what they hold, building its graph, each without the stages before it and beside the one
+before it. All take turns. Builds what isn't built. Peak memory is never below that of this script, about 15 MB.
 """
 import argparse
 import os
@@ -42,19 +43,27 @@ def measured(words, history, answer):
     return seconds, used.ru_maxrss / 1000, os.waitstatus_to_exitcode(status)
 
 
-def row(tcc, csv_count, history, runs, answer):
-    explained, counted = [], []
+def row(programs, history, runs, answer):
+    """The cells of one history's line: medians over the runs, each program in turn."""
+    stages = [[programs["csv_count"]]]
+    stages += [[programs["tcc_bench_stages"], stage] for stage in ("rows", "resolve", "graph")]
+    times, explained = [[] for _ in stages], []
     for _ in range(runs):
-        counted.append(measured([csv_count], history, answer))
-        records = int(answer.read_text())
-        explained.append(measured([tcc, "explain"], history, answer))
+        for stage, seconds in zip(stages, times):
+            seconds.append(measured(stage, history, answer)[0])
+            if stage is stages[0]:
+                records = int(answer.read_text())
+        explained.append(measured([programs["tcc"], "explain"], history, answer))
     with open(answer) as text:
         first = text.readline().strip()
+    alone, rows, resolved, built_graph = map(statistics.median, times)
+    resolving, building = max(resolved - rows, 0), max(built_graph - resolved, 0)
     wall, peak = (statistics.median(run[i] for run in explained) for i in (0, 1))
-    alone = statistics.median(run[0] for run in counted)
     statuses = sorted({run[2] for run in explained})
-    return (history.stem, records, "%.1f" % (wall * 1000), "%.1f" % peak, "%.1f" % (alone * 1000),
-            "%.1f" % (wall / alone), "/".join(map(str, statuses)), first[:60])
+    milliseconds = ["%.1f" % (seconds * 1000) for seconds in (alone, rows, resolving, building, wall)]
+    return (history.stem, records, milliseconds[0], milliseconds[1], "%.1f" % (rows / alone), milliseconds[2],
+            "%.1f" % (resolving / rows), milliseconds[3], "%.1f" % (building / max(resolving, 1e-9)),
+            milliseconds[4], "%.1f" % peak, "/".join(map(str, statuses)), first[:40])
 
 
 def main():
@@ -63,15 +72,17 @@ def main():
     ask.add_argument("--tcc", help="another program than the built one")
     ask.add_argument("--keep", type=pathlib.Path, help="a folder for the histories, which stay there")
     asked = ask.parse_args()
-    tcc, csv_count = os.path.abspath(asked.tcc) if asked.tcc else built("tcc"), built("csv_count")
-    table = [("history", "records", "tcc ms", "peak MB", "csv ms", "tcc/csv", "status", "answer")]
+    programs = {crate: built(crate) for crate in ("csv_count", "tcc_bench_stages")}
+    programs["tcc"] = os.path.abspath(asked.tcc) if asked.tcc else built("tcc")
+    table = [("history", "records", "csv ms", "rows ms", "/csv", "resolve ms", "/rows", "graph ms", "/resolve",
+              "tcc ms", "peak MB", "status", "answer")]
     with tempfile.TemporaryDirectory() as temporary:
         folder = asked.keep or pathlib.Path(temporary)
         folder.mkdir(parents=True, exist_ok=True)
         # in a process of its own: what this script holds would count as memory of what it starts
         subprocess.run([sys.executable, HERE / "histories.py", folder], check=True)
         for history in sorted(folder.glob("*.csv")):
-            table.append(row(tcc, csv_count, history, asked.runs, pathlib.Path(temporary, "answer")))
+            table.append(row(programs, history, asked.runs, pathlib.Path(temporary, "answer")))
     widths = [max(len(str(line[i])) for line in table) for i in range(len(table[0]))]
     for line in table:
         cells = [str(cell).rjust(width) for cell, width in zip(line, widths)]

@@ -26,7 +26,7 @@ use Rattle.tcc_reads.proofs.Agreement.{Agree, agree_on, faults_agree}
 use Rattle.tcc_reads.proofs.Sourcing.{sourced, entries_agree}
 
 -- names, table, nodes and faults are as the resolver makes them
-pub record AreFindings (s : Sessions) (names : List (List ℕ)) (table : BTreeMap (List ℕ × ℕ) Writer) (nodes : List Entry) (faults : List ReadFault) : Type 0 where
+pub record AreFindings (s : Sessions) (names : List (List ℕ)) (table : BTreeMap (List ℕ) (BTreeMap ℕ Writer)) (nodes : List Entry) (faults : List ReadFault) : Type 0 where
   pub names_are : names ≡ map (λ named. named.0) (entries s)
   pub few_names : length names ≤ 64
   pub table_is : AreFirstWriters table (numbered_from 1 (stands s))
@@ -34,7 +34,7 @@ pub record AreFindings (s : Sessions) (names : List (List ℕ)) (table : BTreeMa
   pub nodes_are : nodes ≡ initial ∷ entries_found (held table) (numbered_from 1 (stands s))
   pub faults_are : faults ≡ flat_map (faults_found (held table)) (numbered_from 1 (stands s))
 
-pub findings : (s : Sessions) (names : List (List ℕ)) (table : BTreeMap (List ℕ × ℕ) Writer) (nodes : List Entry) (faults : List ReadFault)
+pub findings : (s : Sessions) (names : List (List ℕ)) (table : BTreeMap (List ℕ) (BTreeMap ℕ Writer)) (nodes : List Entry) (faults : List ReadFault)
     (all first second : List Numbered)
     → names ≡ map (λ named. named.0) (entries s) → length names ≤ 64
     → all ≡ numbered_from 1 (stands s) → length all ≤ 1023
@@ -94,7 +94,7 @@ length-filter p (x ∷ xs) =
     let later : length (filter p xs) ≤ length xs = length-filter p xs in
     elim (p x) as (λ b. length (cond b (x ∷ filter p xs) (filter p xs)) ≤ suc (length xs)) [ true ↦ omega arith | false ↦ omega arith ]
 
-module _ (s : Sessions) (names : List (List ℕ)) (table : BTreeMap (List ℕ × ℕ) Writer) (nodes : List Entry) (faults : List ReadFault)
+module _ (s : Sessions) (names : List (List ℕ)) (table : BTreeMap (List ℕ) (BTreeMap ℕ Writer)) (nodes : List Entry) (faults : List ReadFault)
     (found : AreFindings s names table nodes faults) where
   agrees : (x : List ℕ) (v : ℕ) → Agree (held table x v) (writer (stands s) x v)
   agrees x v = subst (λ o. Agree o (writer (stands s) x v)) (sym (found.table_is x v)) (agree_on 1 (stands s) x v)

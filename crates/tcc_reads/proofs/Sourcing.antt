@@ -3,11 +3,7 @@ use Rattle.std.proofs.Common.{◌≡◌, ℕ, ◌+◌, Bool, true, false, cond, 
 use Rattle.std.specs.Prelude.{◌==◌}
 use Rattle.std.specs.List.{list_any, cons_option, position_from}
 use Rattle.std.specs.Option.{option_or, option_eq}
-use Rattle.std.specs.Ordering.{is_eq}
 use Rattle.std.specs.Str.{bytes_eq}
-use Rattle.std.specs.declared.cmp.Ordering.{Ordering}
-use Rattle.std.specs.declared.cmp.Ordering.TheVariants.{Less, Equal, Greater}
-use Rattle.std.proofs.lemmas.Map.Lookups.{exact_bytes}
 use Rattle.tcc_txn.specs.declared.op.Op.{Op}
 use Rattle.tcc_txn.specs.declared.op.Op.TheVariants.{Get, Put}
 use Rattle.tcc_reads.specs.declared.fault.ReadFaultKind.TheVariants.{Duplicate, BrokenInternal, Intermediate, Future}
@@ -16,19 +12,11 @@ use Rattle.tcc_reads.specs.declared.judging.Judgement.{Judgement}
 use Rattle.tcc_reads.specs.declared.judging.Judgement.TheVariants.{Faulty, ReadsFrom, Silent}
 use Rattle.tcc_reads.specs.Sites.{Stand, Site, at, sites_from, committed}
 use Rattle.tcc_reads.specs.Numbers.{Numbered, next_number, numbered_from}
-use Rattle.tcc_reads.specs.Sources.{puts_at, value_put, visible_write, shows, source, external_read, external_reads, sorted_once, pair_cmp, writes_of, entry_of, name_cmp}
+use Rattle.tcc_reads.specs.Sources.{puts_at, value_put, visible_write, shows, source, external_read, external_reads, sorted_once, pair_cmp, writes_of, entry_of}
 use Rattle.tcc_reads.specs.Faults.{op_key, puts}
 use Rattle.tcc_reads.specs.Verdicts.{writer_at, first_in, first_writer, is_in, write_judgement, judgement_from, read_judgement, own_judgement, site_judgement, fault_in, source_in, fault_found, source_found, faults_found, sources_found, entry_found, entries_found}
-use Rattle.tcc_reads.proofs.Ties.{names_tie}
+use Rattle.tcc_reads.proofs.Ties.{same_name}
 use Rattle.tcc_reads.proofs.Agreement.{kind_in}
-
-tied : (r : Ordering) → is_eq r ≡ true → r ≡ Equal
-tied Less e = cc
-tied Equal e = refl
-tied Greater e = cc
-
-same_name : (a b : List ℕ) → bytes_eq a b ≡ true → a ≡ b
-same_name a b e = exact_bytes a b (tied (name_cmp a b) (names_tie a b ∙ e))
 
 both_true : (a b : Bool) → (a && b) ≡ true → (a ≡ true) × (b ≡ true)
 both_true true b e = (refl, e)

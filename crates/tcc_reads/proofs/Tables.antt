@@ -1,9 +1,10 @@
 -- The resolver's look-ups, one operation at a time.
-use Rattle.std.proofs.Common.{◌≡◌, ℕ, ◌+◌, Bool, true, false, cond, not, List, [], ◌∷◌, ◌++◌, length, Option, None, Some, refl, ap, sym, ◌∙◌}
+use Rattle.std.proofs.Common.{◌≡◌, ℕ, ◌+◌, Bool, true, false, cond, not, ◌&&◌, List, [], ◌∷◌, ◌++◌, length, Option, None, Some, refl, ap, sym, ◌∙◌}
+use Rattle.std.specs.Prelude.{◌==◌, option_and_then}
 use Rattle.std.specs.Option.{option_or}
 use Rattle.std.specs.List.{list_any}
 use Rattle.std.specs.Str.{bytes_eq}
-use Rattle.std.specs.Ordering.{is_eq}
+use Rattle.std.specs.Ordering.{is_eq, nat_cmp}
 use Rattle.std.specs.BTreeMap as tree
 use Rattle.std.specs.BTreeMap.{BTreeMap}
 use Rattle.std.specs.BTreeSet as set
@@ -12,9 +13,9 @@ use Rattle.tcc_txn.specs.declared.op.Op.{Op}
 use Rattle.tcc_txn.specs.declared.op.Op.TheVariants.{Put}
 use Rattle.tcc_reads.specs.declared.writers.Writer.{Writer}
 use Rattle.tcc_reads.specs.Numbers.{Numbered}
-use Rattle.tcc_reads.specs.Sources.{name_cmp, pair_cmp, puts_at, value_put, visible_write}
-use Rattle.tcc_reads.specs.Verdicts.{AreWrittenKeys, AreVisibleWrites, write_at, first_in}
-use Rattle.tcc_reads.proofs.Ties.{names_tie, pairs_tie, cond_or}
+use Rattle.tcc_reads.specs.Sources.{name_cmp, puts_at, value_put, visible_write}
+use Rattle.tcc_reads.specs.Verdicts.{held, AreWrittenKeys, AreVisibleWrites, write_at, first_in}
+use Rattle.tcc_reads.proofs.Ties.{names_tie, numbers_tie, same_name, cond_or}
 
 -- one more key
 pub put_key : (old new : BTreeSet (List ℕ)) (key : List ℕ) (value : ℕ) (ops : List Op)
@@ -23,16 +24,32 @@ pub put_key : (old new : BTreeSet (List ℕ)) (key : List ℕ) (value : ℕ) (op
 put_key old new key value ops updates keys x =
     updates x ∙ (λ i. cond (names_tie key x i) true (keys x i)) ∙ cond_or (bytes_eq key x) (list_any (puts_at x) ops)
 
+-- one more write in the table of its key
+pub put_held : (old new : BTreeMap (List ℕ) (BTreeMap ℕ Writer)) (before after : BTreeMap ℕ Writer) (key : List ℕ) (value : ℕ) (write : Writer)
+    → ((x : List ℕ) → tree.get name_cmp new x ≡ cond (is_eq (name_cmp key x)) (Some after) (tree.get name_cmp old x))
+    → ((v : ℕ) → tree.get nat_cmp after v ≡ cond (is_eq (nat_cmp value v)) (Some write) (tree.get nat_cmp before v))
+    → ((v : ℕ) → tree.get nat_cmp before v ≡ held old key v)
+    → (x : List ℕ) (v : ℕ) → held new x v ≡ cond (bytes_eq key x && (value == v)) (Some write) (held old x v)
+put_held old new before after key value write outer inner was x v =
+    ap (option_and_then (λ values. tree.get nat_cmp values v)) (outer x ∙ ap (λ b. cond b (Some after) (tree.get name_cmp old x)) (names_tie key x))
+    ∙ by_name (bytes_eq key x) refl
+  where
+    by_name : (b : Bool) → bytes_eq key x ≡ b
+        → option_and_then (λ values. tree.get nat_cmp values v) (cond b (Some after) (tree.get name_cmp old x)) ≡ cond (b && (value == v)) (Some write) (held old x v)
+    by_name true same =
+        inner v ∙ (λ i. cond (numbers_tie value v i) (Some write) ((was v ∙ ap (λ k. held old k v) (same_name key x same)) i))
+    by_name false apart = refl
+
 -- one more write, before those in the table
 pub put_first : (n : Numbered) (before after : List Op) (key : List ℕ) (value place : ℕ) (last : Bool)
-    (old new : BTreeMap (List ℕ × ℕ) Writer) (otherwise : List ℕ → ℕ → Option Writer)
-    → ((q : List ℕ × ℕ) → tree.get pair_cmp new q ≡ cond (is_eq (pair_cmp (key, value) q)) (Some (write_at n place last)) (tree.get pair_cmp old q))
+    (old new : BTreeMap (List ℕ) (BTreeMap ℕ Writer)) (otherwise : List ℕ → ℕ → Option Writer)
+    → ((x : List ℕ) (v : ℕ) → held new x v ≡ cond (bytes_eq key x && (value == v)) (Some (write_at n place last)) (held old x v))
     → length before + 1 ≡ place → last ≡ not (list_any (puts_at key) after)
-    → ((x : List ℕ) (v : ℕ) → tree.get pair_cmp old (x, v) ≡ first_in n (before ++ Put key value ∷ []) after x v (otherwise x v))
-    → (x : List ℕ) (v : ℕ) → tree.get pair_cmp new (x, v) ≡ first_in n before (Put key value ∷ after) x v (otherwise x v)
+    → ((x : List ℕ) (v : ℕ) → held old x v ≡ first_in n (before ++ Put key value ∷ []) after x v (otherwise x v))
+    → (x : List ℕ) (v : ℕ) → held new x v ≡ first_in n before (Put key value ∷ after) x v (otherwise x v)
 put_first n before after key value place last old new otherwise updates counted is_last has x v =
-    updates (x, v)
-    ∙ (λ i. cond (pairs_tie key x value v i) (Some (write_at n (sym counted i) (is_last i))) (has x v i))
+    updates x v
+    ∙ (λ i. cond (bytes_eq key x && (value == v)) (Some (write_at n (sym counted i) (is_last i))) (has x v i))
 
 option_or-none : (o : Option ℕ) → option_or None o ≡ option_or o None
 option_or-none None = refl

@@ -1,25 +1,30 @@
 -- Names and pairs that tie, and lists that are read at a place.
-use Rattle.std.proofs.Common.{◌≡◌, ℕ, ◌+◌, ◌-◌, ◌<◌, ◌≤◌, Bool, true, false, cond, ◌&&◌, ◌||◌, List, [], ◌∷◌, ◌++◌, length, get_or, take, drop, refl, ap, sym, ◌∙◌, arith}
+use Rattle.std.proofs.Common.{◌≡◌, ℕ, ◌+◌, ◌-◌, ◌<◌, ◌≤◌, Bool, true, false, cond, ◌||◌, List, [], ◌∷◌, ◌++◌, length, get_or, take, drop, refl, ap, sym, ◌∙◌, arith}
 use Rattle.std.proofs.lemmas.List.{drop_more, take_more, length-take}
 use Rattle.std.specs.Prelude.{◌==◌}
+use Rattle.std.proofs.lemmas.Map.Lookups.{exact_bytes}
 use Rattle.std.specs.Str.{bytes_eq}
-use Rattle.std.specs.Ordering.{nat_cmp, is_eq, ordering_then}
+use Rattle.std.specs.Ordering.{nat_cmp, is_eq}
 use Rattle.std.specs.Cmp.{unsigned_tied}
 use Rattle.std.specs.Cmp.Lexicographic.{texts_ties}
 use Rattle.std.specs.declared.cmp.Ordering.{Ordering}
 use Rattle.std.specs.declared.cmp.Ordering.TheVariants.{Less, Equal, Greater}
-use Rattle.tcc_reads.specs.Sources.{name_cmp, pair_cmp}
+use Rattle.tcc_reads.specs.Sources.{name_cmp}
 
 pub names_tie : (a b : List ℕ) → is_eq (name_cmp a b) ≡ bytes_eq a b
 names_tie a b = sym (texts_ties a b)
 
-both_tie : (r s : Ordering) → is_eq (ordering_then r s) ≡ (is_eq r && is_eq s)
-both_tie Less s = refl
-both_tie Equal s = refl
-both_tie Greater s = refl
+tied : (r : Ordering) → is_eq r ≡ true → r ≡ Equal
+tied Less e = cc
+tied Equal e = refl
+tied Greater e = cc
 
-pub pairs_tie : (a b : List ℕ) (v w : ℕ) → is_eq (pair_cmp (a, v) (b, w)) ≡ (bytes_eq a b && (v == w))
-pairs_tie a b v w = both_tie (name_cmp a b) (nat_cmp v w) ∙ (λ i. names_tie a b i && unsigned_tied v w i)
+-- names of the same bytes are one
+pub same_name : (a b : List ℕ) → bytes_eq a b ≡ true → a ≡ b
+same_name a b e = exact_bytes a b (tied (name_cmp a b) (names_tie a b ∙ e))
+
+pub numbers_tie : (v w : ℕ) → is_eq (nat_cmp v w) ≡ (v == w)
+numbers_tie v w = unsigned_tied v w
 
 pub cond_or : (b c : Bool) → cond b true c ≡ (b || c)
 cond_or true c = refl

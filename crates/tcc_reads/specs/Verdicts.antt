@@ -1,6 +1,7 @@
 -- What the resolver finds out about the operations, in the terms of its table of first writes.
-use Rattle.std.specs.Prelude.{ℕ, ◌≡◌, Bool, ◌&&◌, ◌==◌, not, if◌then◌else◌, List, [], ◌∷◌, ◌++◌, map, filter, filter_map, length, ◌+◌, Option, None, Some}
+use Rattle.std.specs.Prelude.{ℕ, ◌≡◌, Bool, ◌&&◌, ◌==◌, not, if◌then◌else◌, List, [], ◌∷◌, ◌++◌, map, filter, filter_map, length, ◌+◌, Option, None, Some, option_and_then}
 use Rattle.std.specs.List.{list_any}
+use Rattle.std.specs.Ordering.{nat_cmp}
 use Rattle.std.specs.BTreeMap as tree
 use Rattle.std.specs.BTreeMap.{BTreeMap}
 use Rattle.std.specs.BTreeSet as set
@@ -44,11 +45,11 @@ first_writer [] x v = None
 first_writer (n ∷ later) x v = first_in n [] n.stand.txn.ops x v (first_writer later x v)
 
 -- what the table has for a value at a key
-abbrev pub held : BTreeMap (List ℕ × ℕ) Writer → List ℕ → ℕ → Option Writer
-held table x v = tree.get pair_cmp table (x, v)
+abbrev pub held : BTreeMap (List ℕ) (BTreeMap ℕ Writer) → List ℕ → ℕ → Option Writer
+held table x v = option_and_then (λ values. tree.get nat_cmp values v) (tree.get name_cmp table x)
 
 -- the table has the first writes of these transactions
-abbrev pub AreFirstWriters : BTreeMap (List ℕ × ℕ) Writer → List Numbered → Type 0
+abbrev pub AreFirstWriters : BTreeMap (List ℕ) (BTreeMap ℕ Writer) → List Numbered → Type 0
 AreFirstWriters table ns = (x : List ℕ) (v : ℕ) → held table x v ≡ first_writer ns x v
 
 -- the set has the keys that these operations write

@@ -6,7 +6,7 @@ ghost use Rattle.tcc_reads.specs.Faults.{op_key, op_value};
 ghost use Rattle.tcc_reads.specs.Verdicts.{held, is_in, write_judgement, read_judgement, op_judgement, fault_in, source_in, AreVisibleWrites, faults_found, sources_found};
 
 use crate::standing::Standing;
-use crate::writers::{Writer, Writers};
+use crate::writers::{Writer, Writers, first_writer};
 use crate::{ReadFault, ReadFaultKind};
 use std::alloc::{AllocError, Global};
 use std::collections::BTreeMap;
@@ -77,7 +77,11 @@ fn judgement_of(
     ensures { result ≡ op_judgement (held writers.now) standing.now place op own }
 {
     match op {
-        Op::Put { key, value } => write_judgement(standing, place, writers.get(&(key, value))),
+        Op::Put { key, value } => write_judgement(
+            standing,
+            place,
+            first_writer(writers, &key, value),
+        ),
         Op::Get { key, value } => {
             if !standing.txn.committed() {
                 return Judgement::Silent;
@@ -94,7 +98,7 @@ fn judgement_of(
                     if value == 0 {
                         Judgement::ReadsFrom(0)
                     } else {
-                        read_judgement(standing, writers.get(&(key, value)))
+                        read_judgement(standing, first_writer(writers, &key, value))
                     }
                 }
             }

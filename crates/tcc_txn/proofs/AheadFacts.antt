@@ -1,5 +1,5 @@
 -- The answers that are still to come, after one more record.
-use Rattle.std.proofs.Common.{◌≡◌, ◌≢◌, ℕ, zero, suc, ◌+◌, ◌^◌, ◌<◌, ◌≤◌, ◌⊎◌, List, [], ◌∷◌, ◌++◌, length, take, Option, None, Some, Result, Ok, Err, refl, sym, ap, ◌∙◌, arith, inl, inr, length-append, length-take, true, false, Bool, cond}
+use Rattle.std.proofs.Common.{◌≡◌, ℕ, zero, suc, ◌+◌, ◌^◌, ◌<◌, ◌≤◌, List, [], ◌∷◌, length, take, Option, None, Some, Result, Ok, Err, refl, sym, ap, ◌∙◌, arith, inl, inr, length-append, length-take, true, false, Bool, cond}
 use Rattle.std.specs.Prelude.{IfErr, IfOk, IfSome, OnOk}
 use Rattle.std.proofs.lemmas.Bool.{cases_lt}
 use Rattle.std.proofs.Math.Logic.{⊎_elim}
@@ -8,19 +8,17 @@ use Rattle.csv.specs.Reading.{default_config, is_bom, records, records_from, rec
 use Rattle.csv.specs.declared.parser.Config.{Config}
 use Rattle.csv.specs.declared.parser.State.{State}
 use Rattle.csv.specs.declared.parser.State.TheVariants as st
-use Rattle.tcc_txn.specs.Ahead.{FailsIn, FaultsIn, IsReading, TakesFields, TakesItem, TakesStep}
-use Rattle.tcc_txn.specs.Answers.{Answers, after_item, answers_after, answers_of, ending, fault_at_end, go_on, judged, records_of}
+use Rattle.tcc_txn.specs.Ahead.{IsReading, TakesFields, TakesStep}
+use Rattle.tcc_txn.specs.Answers.{Answers, after_item, answers_after, answers_of, ending, fault_at_end, judged, records_of}
 use Rattle.tcc_txn.specs.ByteLimit.{marked, past_limit}
 use Rattle.tcc_txn.specs.Lines.{Record}
 use Rattle.tcc_txn.specs.Past.{item_of}
-use Rattle.tcc_txn.specs.RecordsLeft.{HasLeft, IsFailure, TakesRecord, record_of}
+use Rattle.tcc_txn.specs.RecordsLeft.{HasLeft, TakesRecord, record_of}
 use Rattle.tcc_txn.specs.Standing.{IsAfter}
 use Rattle.tcc_txn.specs.declared.rows.Item.{Item}
 use Rattle.tcc_txn.specs.declared.rows.Item.TheVariants as item
-use Rattle.tcc_txn.specs.declared.rows.Phase.TheVariants as phase
 use Rattle.tcc_txn.specs.declared.rows.RowFault.{RowFault}
 use Rattle.tcc_txn.specs.declared.rows.RowFaultKind.{RowFaultKind}
-use Rattle.tcc_txn.specs.declared.rows.RowFaultKind.TheVariants as kind
 use Rattle.tcc_txn.specs.declared.rows.Rows.{Rows}
 use Rattle.tcc_txn.specs.declared.rows.line.Line.{Line}
 use Rattle.tcc_txn.specs.declared.rows.line.Line.TheVariants as line

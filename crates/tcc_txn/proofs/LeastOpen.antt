@@ -1,5 +1,5 @@
 -- The first session of a map in order that has begun a transaction is the least one that has.
-use Rattle.std.proofs.Common.{◌≡◌, ◌≢◌, ℕ, Bool, true, false, List, [], ◌∷◌, Option, option_map, None, Some, refl, sym, ap, ◌∙◌, cond, subst, rules}
+use Rattle.std.proofs.Common.{◌≡◌, ◌≢◌, ℕ, Bool, true, false, List, [], ◌∷◌, Option, option_map, None, Some, refl, sym, ap, ◌∙◌, cond}
 use Rattle.std.specs.Prelude.{filter, find, is_some, ◌||◌}
 use Rattle.std.specs.List.{AllByRecursion, list_any}
 use Rattle.std.specs.List.Sorted.{IsStrictlySortedBy}
@@ -13,7 +13,7 @@ use Rattle.std.specs.FinMap.{nat_cmp-IsAntisymmetric, slice_cmp-IsAntisymmetric}
 use Rattle.std.specs.BTreeMap.{BTreeMap, IsOrdered, get, is_at}
 use Rattle.tcc_txn.specs.Lines.{same}
 use Rattle.tcc_txn.specs.Past.{is_begun, least, lesser, open_sessions, ops_since, sessions}
-use Rattle.tcc_txn.specs.Standing.{HoldsSeats, seat, seat_of}
+use Rattle.tcc_txn.specs.Standing.{HoldsSeats}
 use Rattle.tcc_txn.specs.declared.op.Op.{Op}
 use Rattle.tcc_txn.specs.declared.rows.line.Line.{Line}
 use Rattle.tcc_txn.proofs.PastFacts.{at-same, begun-seen, same-itself, same-name, seat-taken}

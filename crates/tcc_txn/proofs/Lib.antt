@@ -6,6 +6,7 @@ mod LineFacts
 mod PastFacts
 mod RecordSteps
 mod StandingFacts
+mod WordOrder
 mod WorkedTexts
 pub mod Parts
 pub mod SnapshotFaults

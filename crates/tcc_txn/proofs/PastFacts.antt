@@ -1,23 +1,20 @@
 -- What one more line changes for a session and for the names so far.
-use Rattle.std.proofs.Common.{◌≡◌, ℕ, ◌+◌, ◌<◌, ◌≤◌, ◌⊎◌, Bool, true, false, List, [], ◌∷◌, ◌++◌, length, Option, None, Some, refl, sym, ap, ◌∙◌, subst, rules, arith, cond, nat_lt, inl, inr}
-use Rattle.std.specs.Prelude.{if◌then◌else◌, nat_eq, ◌||◌, is_some}
+use Rattle.std.proofs.Common.{◌≡◌, ℕ, Bool, true, false, List, [], ◌∷◌, ◌++◌, None, Some, refl, sym, ◌∙◌, cond}
 use Rattle.std.specs.List.{list_any}
 use Rattle.std.specs.Ordering.{is_eq, nat_cmp}
 use Rattle.std.specs.declared.cmp.Ordering.{Ordering}
 use Rattle.std.specs.declared.cmp.Ordering.TheVariants.{Less, Equal, Greater}
 use Rattle.std.specs.FinMap.{nat_cmp-IsAntisymmetric, slice_cmp-IsAntisymmetric}
 use Rattle.std.specs.Cmp.Lexicographic.{slice_cmp, nat_list_eq_equiv, texts_ties}
-use Rattle.std.specs.BTreeMap.{BTreeMap, btree_map_len, get, is_at, Updates}
-use Rattle.std.proofs.lemmas.Bool.Decides.{nat_tests}
+use Rattle.std.specs.BTreeMap.{is_at}
 use Rattle.std.proofs.lemmas.List.{append-nil}
 use Rattle.std.proofs.lemmas.Map.Steps.{list_any_congr}
 use Rattle.tcc_txn.specs.Lines.{same}
-use Rattle.tcc_txn.specs.Past.{begin_count, fault_of, is_begun, keys, ops_since, seal_count, sessions, with_name}
-use Rattle.tcc_txn.specs.Standing.{HoldsNames, HoldsSeats, IsAfter, seat, seat_of}
+use Rattle.tcc_txn.specs.Past.{is_begun, ops_since, sessions, with_name}
+use Rattle.tcc_txn.specs.Standing.{seat, seat_of}
 use Rattle.tcc_txn.specs.declared.op.Op.{Op}
 use Rattle.tcc_txn.specs.declared.rows.line.Line.{Line}
 use Rattle.tcc_txn.specs.declared.rows.line.Line.TheVariants as line
-use Rattle.tcc_txn.specs.declared.rows.progress.Progress.{Progress}
 
 -- the order of names ties where they are the same
 pub at-same : (a b : List ℕ) → is_at (slice_cmp nat_cmp a) b ≡ same a b

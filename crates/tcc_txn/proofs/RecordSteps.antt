@@ -1,20 +1,17 @@
 -- One record taken off what a reader has left.
-use Rattle.std.proofs.Common.{◌≡◌, ◌≢◌, ◌⊎◌, ℕ, zero, suc, ◌+◌, ◌<◌, ◌≤◌, Bool, true, false, List, [], ◌∷◌, ◌++◌, length, Option, option_map, None, Some, refl, sym, ap, ◌∙◌, arith, inl, inr, cond, add-one}
+use Rattle.std.proofs.Common.{◌≡◌, ℕ, zero, suc, ◌+◌, ◌<◌, ◌≤◌, Bool, true, false, List, [], ◌∷◌, ◌++◌, length, Option, option_map, None, Some, refl, sym, ap, ◌∙◌, arith, cond, add-one}
 use Rattle.std.specs.Prelude.{◌==◌}
 use Rattle.csv.specs.Machine.{Read, step, next_record, ends_at_end, is_end, fields_after, field_after, in_field, start_field, start_record, after_end, ends_with}
-use Rattle.csv.specs.Reading.{Ready, ReadRecord, Reached, ReadsNext, NextIs, default_config, has_failed, is_flexible, pending_of, reader_config, reader_state, reader_trim, records_from, records_next, source_of, strip_bom}
-use Rattle.csv.specs.declared.parser.Config.{Config}
+use Rattle.csv.specs.Reading.{ReadRecord, Reached, default_config, reader_state, records_from, records_next}
 use Rattle.csv.specs.declared.parser.State.{State}
 use Rattle.csv.specs.declared.parser.State.TheVariants as st
 use Rattle.csv.specs.declared.parser.Action.{Action}
 use Rattle.csv.specs.declared.parser.Action.TheVariants as act
 use Rattle.csv.specs.declared.parser.Terminator.TheVariants as term
-use Rattle.csv.specs.declared.reader.Reader.{Reader}
-use Rattle.csv.specs.declared.reader.Trim.TheVariants as trim
 use Rattle.csv.proofs.ReadFacts.{rows-end, rows-more}
 use Rattle.tcc_txn.specs.Lines.{Record}
 use Rattle.tcc_txn.specs.ByteLimit.{limited_remaining}
-use Rattle.tcc_txn.specs.RecordsLeft.{HasLeft, HasRecords, IsPlain, TakesRecord, record_of, records_after}
+use Rattle.tcc_txn.specs.RecordsLeft.{HasLeft, IsPlain, TakesRecord, record_of, records_after}
 use Rattle.tcc_txn.specs.declared.rows.records.Records.{Records}
 
 -- a step of the machine that ends a record leaves a state between two records

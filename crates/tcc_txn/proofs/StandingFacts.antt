@@ -1,16 +1,16 @@
 -- What is kept of the lines, after one more of them.
-use Rattle.std.proofs.Common.{◌≡◌, ℕ, ◌+◌, ◌<◌, ◌≤◌, ◌⊎◌, Bool, true, false, List, [], ◌∷◌, ◌++◌, length, Option, None, Some, Ok, Err, Result, length-append, refl, sym, ap, ◌∙◌, subst, rules, arith, cond, nat_lt, inl, inr}
+use Rattle.std.proofs.Common.{◌≡◌, ℕ, ◌+◌, ◌<◌, ◌≤◌, ◌⊎◌, Bool, true, false, List, [], ◌∷◌, ◌++◌, length, Option, None, Some, Ok, Err, Result, length-append, refl, sym, ap, ◌∙◌, rules, arith, cond, nat_lt, inl, inr}
 use Rattle.std.specs.Prelude.{IsSome, is_some}
 use Rattle.std.specs.List.{list_any}
 use Rattle.std.specs.Ordering.{nat_cmp}
 use Rattle.std.specs.Cmp.Lexicographic.{slice_cmp}
-use Rattle.std.specs.BTreeMap.{BTreeMap, btree_map_len, get, is_at, Updates}
-use Rattle.std.specs.BTreeSet as set
-use Rattle.std.specs.BTreeSet.{BTreeSet, btree_set_len, contains}
+use Rattle.std.specs.BTreeMap.{BTreeMap, btree_map_len, get, Updates}
+use Rattle.std.specs.HashSet as set
+use Rattle.std.specs.HashSet.{contains, hash_set_len}
 use Rattle.std.proofs.lemmas.Bool.Decides.{nat_tests}
 use Rattle.tcc_txn.specs.Lines.{same}
-use Rattle.tcc_txn.specs.Past.{begin_count, fault_of, is_begun, keys, key_of, ops_since, seal_count, sessions, with_name}
-use Rattle.tcc_txn.specs.Standing.{HoldsNames, HoldsSeats, IsAfter, NotesName, PassesLine, seat, seat_of}
+use Rattle.tcc_txn.specs.Past.{begin_count, fault_of, is_begun, keys, key_of, ops_since, sessions, with_name}
+use Rattle.tcc_txn.specs.Standing.{NameSet, HoldsNames, HoldsSeats, IsAfter, NotesName, PassesLine, seat}
 use Rattle.tcc_txn.specs.declared.op.Op.{Op}
 use Rattle.tcc_txn.specs.Drafts.{AddsOp}
 use Rattle.tcc_txn.specs.declared.rows.RowFaultKind.{RowFaultKind}
@@ -18,7 +18,7 @@ use Rattle.tcc_txn.specs.declared.rows.RowFaultKind.TheVariants as kind
 use Rattle.tcc_txn.specs.declared.rows.line.Line.{Line}
 use Rattle.tcc_txn.specs.declared.rows.line.Line.TheVariants as line
 use Rattle.tcc_txn.specs.declared.rows.progress.Progress.{Progress}
-use Rattle.tcc_txn.proofs.PastFacts.{at-same, begun-seen, same-swap, seat-begun, seat-finished, seat-free, seat-none, seat-taken, same-itself, seat-operated, seen-noted, seen-other, with_name-new, with_name-seen}
+use Rattle.tcc_txn.proofs.PastFacts.{at-same, seat-begun, seat-finished, seat-free, seat-none, seat-taken, same-itself, seat-operated, seen-noted, seen-other, with_name-new, with_name-seen}
 
 within : (m n : ℕ) → m ≤ n → nat_lt n m ≡ false
 within m n h = grind (arith, nat_tests)
@@ -32,22 +32,22 @@ noted key q names = by (same key q) refl
     by false e = sym (seen-other key q names e)
 
 -- a name that is new, and now held
-pub names-noted : (names : List (List ℕ)) (key : List ℕ) (old new : BTreeSet (List ℕ)) → HoldsNames names old
-    → contains (slice_cmp nat_cmp) old key ≡ false → btree_set_len old < 1024
-    → set.Updates (slice_cmp nat_cmp) old new key true → btree_set_len new ≡ btree_set_len old + 1
+pub names-noted : (names : List (List ℕ)) (key : List ℕ) (old new : NameSet) → HoldsNames names old
+    → contains same old key ≡ false → hash_set_len old < 1024
+    → set.Updates same old new key true → hash_set_len new ≡ hash_set_len old + 1
     → HoldsNames (with_name key names) new
 names-noted names key old new holds absent room updates more =
     let fresh : list_any (same key) names ≡ false = sym (holds.each key) ∙ absent in
     let longer : with_name key names ≡ key ∷ names = with_name-new key names fresh in
     record {
-      each = λ q. updates.0 q ∙ rw (at-same key q, holds.each q) (noted key q names);
+      each = λ q. updates.0 q ∙ rw (holds.each q) (noted key q names);
       count = rw longer (omega (arith, more, holds.count));
       few = rw longer (omega (arith, room, holds.count));
     }
 
 -- a name that was held before
-pub names-kept : (names : List (List ℕ)) (key : List ℕ) (set : BTreeSet (List ℕ)) → HoldsNames names set
-    → contains (slice_cmp nat_cmp) set key ≡ true → HoldsNames (with_name key names) set
+pub names-kept : (names : List (List ℕ)) (key : List ℕ) (set : NameSet) → HoldsNames names set
+    → contains same set key ≡ true → HoldsNames (with_name key names) set
 names-kept names key set holds there = rw (with_name-seen key names (sym (holds.each key) ∙ there)) holds
 
 -- what a look at the place of a session says of a begin
@@ -169,7 +169,7 @@ fault-of-key past s op begun room =
     rw (begun, few) refl
 
 -- what comes of an operation that has its place, by whether its key can be noted
-pub after-operation : {U : Type 0} (past : List Line) (s : List ℕ) (op : Op) (old : Progress) (seats : BTreeMap (List ℕ) (Option (List Op))) (names : BTreeSet (List ℕ)) (result : Result U RowFaultKind)
+pub after-operation : {U : Type 0} (past : List Line) (s : List ℕ) (op : Op) (old : Progress) (seats : BTreeMap (List ℕ) (Option (List Op))) (names : NameSet) (result : Result U RowFaultKind)
     → IsAfter past old → Placed past s op old seats → NotesName (keys past) (key_of op) result names
     → PassesLine past (line.Operation s op) result (record { sessions = seats; keys = names; begun = old.begun; seals = old.seals })
 after-operation past s op old seats names (Ok done) is placed noted =

@@ -1,5 +1,5 @@
 -- A snapshot as it lies in memory.
-use Rattle.std.proofs.Common.{◌≡◌, ℕ, ◌+◌, ◌<◌, ◌≤◌, Bool, true, false, List, [], length, sum_by, map, refl, ap, sym, ◌∙◌, subst, arith, Option, None, Some, T, slice_get, option_map, ◌∷◌, ◌&&◌}
+use Rattle.std.proofs.Common.{◌≡◌, ℕ, ◌+◌, ◌≤◌, true, List, [], length, sum_by, refl, ap, sym, ◌∙◌, subst, arith, None, T, slice_get, option_map, ◌∷◌, ◌&&◌}
 use Rattle.std.specs.List.{IsDistinct}
 use Rattle.std.specs.FinMap.Entries.{below_all}
 use Rattle.std.specs.Ordering.{is_lt}
@@ -12,7 +12,7 @@ use Rattle.std.specs.Cmp.Lexicographic.{slice_cmp}
 use Rattle.std.specs.FinMap as finite
 use Rattle.std.specs.Global.{Vec}
 use Rattle.tcc_txn.specs.Transactions.{Transaction}
-use Rattle.tcc_txn.specs.Snapshots.{first_repeated, parts_of, snapshot_fault, Sessions}
+use Rattle.tcc_txn.specs.Snapshots.{first_repeated, parts_of, snapshot_fault}
 use Rattle.tcc_txn.specs.SnapshotStorage.{shown, IsStored}
 use Rattle.tcc_txn.proofs.Parts.{names_of, names_of-parts_of, length-parts_of}
 use Rattle.tcc_txn.proofs.SnapshotFaults.{snapshot_fault-parts_of, faultless}

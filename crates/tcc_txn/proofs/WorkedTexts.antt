@@ -1,15 +1,18 @@
 -- Texts and their answers, worked out by the definitions alone.
-use Rattle.std.proofs.Common.{◌≡◌, ℕ, List, [], ◌∷◌, ◌++◌, true, false, None, Some, refl}
-use Rattle.std.specs.Prelude.{codes}
+use Rattle.std.proofs.Common.{◌≡◌, ℕ, zero, suc, List, [], ◌∷◌, true, false, None, Some, refl}
+use Rattle.std.specs.Prelude.{codes, replicate}
 use Rattle.csv.specs.Machine.{next_record}
-use Rattle.csv.specs.Reading.{records_from, strip_bom}
-use Rattle.tcc_txn.specs.Answers.{Answers, answers_of, ending}
+use Rattle.csv.specs.Reading.{default_config, records, records_from, strip_bom}
+use Rattle.tcc_txn.specs.Answers.{Answers, answers_after, answers_of}
 use Rattle.tcc_txn.specs.ByteLimit.{marked}
+use Rattle.tcc_txn.specs.Past.{fault_of}
 use Rattle.tcc_txn.specs.declared.op.Op.TheVariants.{Get, Put}
 use Rattle.tcc_txn.specs.declared.rows.Item.{Item}
 use Rattle.tcc_txn.specs.declared.rows.Item.TheVariants as item
 use Rattle.tcc_txn.specs.declared.rows.RowFaultKind.{RowFaultKind}
 use Rattle.tcc_txn.specs.declared.rows.RowFaultKind.TheVariants as kind
+use Rattle.tcc_txn.specs.declared.rows.line.Line.{Line}
+use Rattle.tcc_txn.specs.declared.rows.line.Line.TheVariants as line
 
 -- some items, and then a fault at a row
 faulty : List Item → ℕ → RowFaultKind → Answers
@@ -78,3 +81,59 @@ quoted : answers_of (239 ∷ 187 ∷ 191 ∷ codes "\"a\",begin\r\n\r\n\na,\"com
     ≡ whole (item.Finished (codes "a") (record { ops = []; committed = true }) ∷ [])
 unfolding next_record records_from strip_bom marked whole
 quoted = refl
+
+-- the answers to a text under a small limit on bytes
+under : ℕ → List ℕ → Answers
+under limit text = answers_after [] (records default_config (strip_bom (marked limit text)))
+
+-- a record that ends within the limit is given, and the next one is the reader's fault
+past_the_limit : under 5 (codes "seal\nseal\n") ≡ faulty (item.Seal ∷ []) 2 kind.Read
+unfolding next_record records_from strip_bom marked faulty under
+past_the_limit = refl
+
+-- also where only blank lines follow
+blank_past_the_limit : under 5 (codes "seal\n\n") ≡ faulty (item.Seal ∷ []) 2 kind.Read
+unfolding next_record records_from strip_bom marked faulty under
+blank_past_the_limit = refl
+
+-- and where a record that the limit cuts would be lawful
+cut_by_the_limit : under 9 (codes "seal\nseal\n") ≡ faulty (item.Seal ∷ []) 2 kind.Read
+unfolding next_record records_from strip_bom marked faulty under
+cut_by_the_limit = refl
+
+within_the_limit : under 10 (codes "seal\nseal\n") ≡ whole (item.Seal ∷ item.Seal ∷ [])
+unfolding next_record records_from strip_bom marked whole under
+within_the_limit = refl
+
+-- the seal after 256 others
+seal_257 : fault_of (replicate 256 line.Seal) line.Seal ≡ Some kind.TooManySeals
+seal_257 = refl
+
+seal_256 : fault_of (replicate 255 line.Seal) line.Seal ≡ None
+seal_256 = refl
+
+-- so many transactions of one session, all aborted
+aborted : ℕ → List Line
+aborted zero = []
+aborted (suc n) = line.Finish (codes "a") false ∷ line.Begin (codes "a") ∷ aborted n
+
+transaction_1024 : fault_of (aborted 1023) (line.Begin (codes "a")) ≡ Some kind.TooManyTransactions
+unfolding aborted
+transaction_1024 = refl
+
+transaction_1023 : fault_of (aborted 1022) (line.Begin (codes "a")) ≡ None
+unfolding aborted
+transaction_1023 = refl
+
+-- so many operations of one transaction
+operations : ℕ → List Line
+operations zero = line.Begin (codes "a") ∷ []
+operations (suc n) = line.Operation (codes "a") (Get (codes "x") 0) ∷ operations n
+
+operation_257 : fault_of (operations 256) (line.Operation (codes "a") (Get (codes "x") 0)) ≡ Some kind.TooManyOps
+unfolding operations
+operation_257 = refl
+
+operation_256 : fault_of (operations 255) (line.Operation (codes "a") (Get (codes "x") 0)) ≡ None
+unfolding operations
+operation_256 = refl

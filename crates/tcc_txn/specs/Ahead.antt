@@ -1,5 +1,5 @@
 -- The answers that a reader of rows has still to give.
-use Rattle.std.specs.Prelude.{ℕ, ◌+◌, ◌^◌, ◌<◌, ◌≡◌, ◌⊎◌, Bool, true, false, List, [], ◌∷◌, length, Option, None, Some, Result, Ok, Err}
+use Rattle.std.specs.Prelude.{ℕ, ◌+◌, ◌^◌, ◌<◌, ◌≡◌, ◌⊎◌, Bool, true, false, List, ◌∷◌, length, Option, None, Some, Result, Ok, Err}
 use Rattle.tcc_txn.specs.Answers.{Answers, after_item, answers_after, ending, judged}
 use Rattle.tcc_txn.specs.Lines.{Record}
 use Rattle.tcc_txn.specs.Past.{item_of}
@@ -10,7 +10,6 @@ use Rattle.tcc_txn.specs.declared.rows.Item.TheVariants as item
 use Rattle.tcc_txn.specs.declared.rows.Phase.{Phase}
 use Rattle.tcc_txn.specs.declared.rows.Phase.TheVariants as phase
 use Rattle.tcc_txn.specs.declared.rows.RowFault.{RowFault}
-use Rattle.tcc_txn.specs.declared.rows.RowFaultKind.{RowFaultKind}
 use Rattle.tcc_txn.specs.declared.rows.RowFaultKind.TheVariants as kind
 use Rattle.tcc_txn.specs.declared.rows.Rows.{Rows}
 use Rattle.tcc_txn.specs.declared.rows.line.Line.{Line}

@@ -7,7 +7,6 @@ use Rattle.std.specs.Cmp.Lexicographic.{slice_cmp}
 use Rattle.std.specs.declared.cmp.Ordering.{Ordering}
 use Rattle.std.specs.declared.cmp.Ordering.TheVariants.{Less, Equal, Greater}
 use Rattle.tcc_txn.specs.Lines.{same}
-use Rattle.tcc_txn.specs.Transactions.{Transaction}
 use Rattle.tcc_txn.specs.declared.op.Op.{Op}
 use Rattle.tcc_txn.specs.declared.op.Op.TheVariants.{Get, Put}
 use Rattle.tcc_txn.specs.declared.rows.Item.{Item}

@@ -7,7 +7,7 @@ use Rattle.csv.specs.declared.parser.State.{State}
 use Rattle.csv.specs.declared.reader.Reader.{Reader}
 use Rattle.csv.specs.declared.reader.Trim.TheVariants as trim
 use Rattle.tcc_txn.specs.ByteLimit.{limited_remaining}
-use Rattle.tcc_txn.specs.Lines.{Record, is_cut}
+use Rattle.tcc_txn.specs.Lines.{Record}
 use Rattle.tcc_txn.specs.declared.rows.RowFaultKind.{RowFaultKind}
 use Rattle.tcc_txn.specs.declared.rows.RowFaultKind.TheVariants as kind
 use Rattle.tcc_txn.specs.declared.rows.records.Records.{Records}

@@ -4,10 +4,12 @@ use Rattle.std.specs.List.{list_any}
 use Rattle.std.specs.Ordering.{nat_cmp}
 use Rattle.std.specs.Cmp.Lexicographic.{slice_cmp}
 use Rattle.std.specs.BTreeMap.{BTreeMap, btree_map_len, get}
-use Rattle.std.specs.BTreeSet.{BTreeSet, btree_set_len, contains}
+use Rattle.std.specs.HashSet.{HashSet, contains, hash_set_len}
+use Rattle.std.specs.declared.hash.BuildHasherDefault.{BuildHasherDefault}
+use Rattle.std.specs.declared.hash.FoldHasher.{FoldHasher}
 use Rattle.tcc_txn.specs.Lines.{same}
 use Rattle.tcc_txn.specs.Past.{begin_count, fault_of, is_begun, item_of, keys, ops_since, seal_count, sessions, with_name}
-use Rattle.tcc_txn.specs.Transactions.{Transaction, writes_zero}
+use Rattle.tcc_txn.specs.Transactions.{writes_zero}
 use Rattle.tcc_txn.specs.declared.op.Op.{Op}
 use Rattle.tcc_txn.specs.declared.rows.Item.{Item}
 use Rattle.tcc_txn.specs.declared.rows.RowFaultKind.{RowFaultKind}
@@ -29,10 +31,14 @@ pub record HoldsSeats (past : List Line) (seats : BTreeMap (List ℕ) (Option (L
   pub count : btree_map_len seats ≡ length (sessions past)
   pub few : length (sessions past) ≤ 64
 
+-- a set of names
+abbrev pub NameSet : Type 0
+NameSet = HashSet (List ℕ) (BuildHasherDefault FoldHasher)
+
 -- the set has these names, each of which stands once in the list, and there are not too many
-pub record HoldsNames (names : List (List ℕ)) (set : BTreeSet (List ℕ)) : Type 0 where
-  pub each : (name : List ℕ) → contains (slice_cmp nat_cmp) set name ≡ list_any (same name) names
-  pub count : btree_set_len set ≡ length names
+pub record HoldsNames (names : List (List ℕ)) (set : NameSet) : Type 0 where
+  pub each : (name : List ℕ) → contains same set name ≡ list_any (same name) names
+  pub count : hash_set_len set ≡ length names
   pub few : length names ≤ 1024
 
 -- the session can begin a transaction after these lines, or it has begun one, or it is one session too many
@@ -43,7 +49,7 @@ MayBegin past name (Err k) =
     ⊎ ((k ≡ kind.TooManySessions) × (is_begun name past ≡ false) × (64 < length (sessions (line.Begin name ∷ past))))
 
 -- one more name is held, or it is one too many
-abbrev pub NotesName : {U : Type 0} → List (List ℕ) → List ℕ → Result U RowFaultKind → BTreeSet (List ℕ) → Type 0
+abbrev pub NotesName : {U : Type 0} → List (List ℕ) → List ℕ → Result U RowFaultKind → NameSet → Type 0
 NotesName names name (Ok done) new = HoldsNames (with_name name names) new
 NotesName names name (Err k) new = ((k ≡ kind.TooManyKeys) × (1024 < length (with_name name names))) ⊎ (k ≡ kind.NoMemory)
 

@@ -1,5 +1,5 @@
 -- How a name lies in memory.
-use Rattle.std.proofs.Common.{◌≡◌, ℕ, ◌+◌, ◌-◌, ◌≤◌, ◌<◌, ◌++◌, List, length, take, drop, ap, sym, ◌∙◌, refl, subst, arith, rules, length-append, None}
+use Rattle.std.proofs.Common.{◌≡◌, ℕ, ◌-◌, ◌≤◌, ◌<◌, ◌++◌, List, length, take, drop, ap, sym, ◌∙◌, refl, arith, length-append, None}
 use Rattle.std.proofs.lemmas.Bool.Decides.{nat_tests}
 use Rattle.std.proofs.lemmas.List.{length-take, length-replicate, drop-replicate, take_at}
 use Rattle.std.specs.Prelude.{replicate}

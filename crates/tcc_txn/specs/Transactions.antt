@@ -1,5 +1,5 @@
 -- Operations and transactions.
-use Rattle.std.specs.Prelude.{ℕ, ◌+◌, Bool, false, ◌==◌, nat_lt, if◌then◌else◌, List, length, Option, None, Some, position}
+use Rattle.std.specs.Prelude.{◌+◌, Bool, false, ◌==◌, nat_lt, if◌then◌else◌, List, length, Option, None, Some, position}
 use Rattle.std.specs.Option.{option_map_or}
 use Rattle.tcc_txn.specs.declared.op.Op.{Op}
 use Rattle.tcc_txn.specs.declared.op.Op.TheVariants.{Get, Put}

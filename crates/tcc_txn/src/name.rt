@@ -1,5 +1,6 @@
 //! Names of sessions and keys.
-ghost use Rattle.std.specs.Prelude.{◌≡◌, ◌≤◌, ◌<◌, ℕ, List, length, refl, Some, Ok, nat_eq, slice_index, position, not};
+ghost use Rattle.std.specs.Prelude.{◌≡◌, ◌≤◌, ◌<◌, ◌+◌, ℕ, List, length, take, drop, refl, None, Some, Ok, nat_eq, slice_index, position, not};
+ghost use Rattle.std.specs.Int.{w64, from_be_bytes};
 ghost use Rattle.std.specs.Ordering.{nat_cmp};
 ghost use Rattle.std.specs.Hash as fed;
 ghost use Rattle.std.specs.Cmp.Lexicographic.{pointwise, slice_cmp, nat_list_eq_equiv, nat_list_cmp_total, texts_ties, texts_po};
@@ -89,6 +90,44 @@ fn fault_of(bytes: &[u8]) -> Option<NameFault>
     Some(NameFault::BadByte { at: before + 1 })
 }
 
+/// The eight bytes from a place on as a number, the first of them highest.
+fn word(buffer: &[u8; 32], at: usize) -> u64
+    requires { at + 8 ≤ 32 }
+    ensures { result ≡ from_be_bytes w64 (take 8 (drop at buffer.now)) }
+{
+    u64::from_be_bytes([
+        buffer[at],
+        buffer[at + 1],
+        buffer[at + 2],
+        buffer[at + 3],
+        buffer[at + 4],
+        buffer[at + 5],
+        buffer[at + 6],
+        buffer[at + 7],
+    ])
+}
+
+/// The order of the eight bytes from a place on.
+fn cmp_word(one: &[u8; 32], other: &[u8; 32], at: usize) -> Ordering
+    requires { at + 8 ≤ 32 }
+    ensures { result ≡ slice_cmp nat_cmp (take 8 (drop at one.now)) (take 8 (drop at other.now)) }
+{
+    word(one, at).cmp(&word(other, at))
+}
+
+/// The order of two buffers, eight bytes at a time.
+fn cmp_padded(one: &[u8; 32], other: &[u8; 32]) -> Ordering
+    ensures { result ≡ slice_cmp nat_cmp one.now other.now }
+{
+    // Most names differ here, and this test is quicker than a three-way comparison.
+    if word(one, 0) != word(other, 0) {
+        return cmp_word(one, other, 0);
+    }
+    cmp_word(one, other, 8)
+        .then_with(|| cmp_word(one, other, 16))
+        .then_with(|| cmp_word(one, other, 24))
+}
+
 impl Name {
     /// The name that the bytes are.
     pub fn read(bytes: &[u8]) -> Result<Name, NameFault>
@@ -129,7 +168,7 @@ impl PartialEq for Name {
     ghost laws = { partial_equiv_from_equiv nat_list_eq_equiv };
 
     fn eq(&self, other: &Name) -> bool {
-        self.bytes() == other.bytes()
+        self.cmp(other).is_eq()
     }
 }
 
@@ -157,7 +196,8 @@ impl Ord for Name {
     ghost matches_eq = { texts_ties };
 
     fn cmp(&self, other: &Name) -> Ordering {
-        self.bytes().cmp(other.bytes())
+        // The zeros behind a name leave the order as it is, since no name has a zero.
+        cmp_padded(&self.buffer, &other.buffer)
     }
 }
 

@@ -14,8 +14,9 @@ use crate::{Name, NoMemory, Txn};
 use line::read_line;
 use progress::Progress;
 use records::Records;
-use std::alloc::{AllocFailed, Global};
+use std::alloc::Global;
 use std::io::Read;
+use thiserror::Error;
 
 /// What the records give, in the order of their last records.
 #[derive(Drop)]
@@ -29,53 +30,64 @@ pub enum Item {
 }
 
 /// What is wrong with a record, in the order of checking.
-#[derive(Clone, Copy)]
+#[derive(Clone, Copy, Debug, PartialEq, Eq, Error)]
 pub enum RowFaultKind {
     /// A record has 1, 2 or 4 fields.
+    #[error("a record has 1, 2 or 4 fields")]
     FieldCount,
     /// Of 2 or 4 fields the first is a name.
+    #[error("the session is no name")]
     BadSession,
     /// The one field is `seal`; of two the second is `begin`, `commit` or `abort`; of four the
     /// second is `r` or `w`.
+    #[error("the word is unknown")]
     UnknownWord,
     /// The key is a name.
+    #[error("the key is no name")]
     BadKey,
     /// The value is decimal digits without sign and without leading zeros, at most
     /// 18446744073709551615.
+    #[error("the value is no number of 64 bits")]
     BadValue,
     /// The value 0 is never written.
+    #[error("0 is written")]
     WriteOfZero,
     /// No transaction of the session is begun.
+    #[error("no transaction of the session is begun")]
     NotBegun,
     /// A transaction of the session is begun already.
+    #[error("a transaction of the session is begun already")]
     AlreadyBegun,
     /// A transaction has at most 256 operations.
+    #[error("a transaction has at most 256 operations")]
     TooManyOps,
     /// An input has at most 64 sessions.
+    #[error("there are at most 64 sessions")]
     TooManySessions,
     /// An input has at most 1,023 transactions, aborted ones among them.
+    #[error("there are at most 1023 transactions")]
     TooManyTransactions,
     /// An input has at most 1,024 keys.
+    #[error("there are at most 1024 keys")]
     TooManyKeys,
     /// An input has at most 256 seals.
+    #[error("there are at most 256 seals")]
     TooManySeals,
     /// The input ended inside a transaction; of several sessions this is the least.
+    #[error("the transaction of {session} has no end")]
     Unfinished { session: Name },
     /// The reader failed, or gave more than 67,108,864 bytes.
+    #[error("the reader failed")]
     Read,
     /// Want of memory.
+    #[error("out of memory")]
     NoMemory,
 }
 
-impl<T: Drop> From<AllocFailed<T>> for RowFaultKind {
-    fn from(_failed: AllocFailed<T>) -> RowFaultKind {
-        RowFaultKind::NoMemory
-    }
-}
-
-/// The record, counted from 1, and what is wrong with it. `Unfinished` names the last record,
-/// `Read` the one after the last that was read.
-#[derive(Clone, Copy)]
+/// The record, counted from 1, and what is wrong with it. `Unfinished` stands at the last record,
+/// `Read` at the one after the last that was read.
+#[derive(Clone, Copy, Debug, PartialEq, Eq, Error)]
+#[error("row {row}: {kind}")]
 pub struct RowFault {
     pub row: u64,
     pub kind: RowFaultKind,

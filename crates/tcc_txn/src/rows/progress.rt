@@ -17,7 +17,7 @@ use super::line::Line;
 use super::{Item, RowFaultKind};
 use crate::{Name, Op, Txn};
 use std::alloc::Global;
-use std::collections::{BTreeMap, BTreeSet};
+use std::collections::{BTreeMap, HashSet};
 
 /// The sessions of an input.
 const MOST_SESSIONS: usize = 64;
@@ -33,7 +33,7 @@ const MOST_SEALS: u32 = 256;
 #[derive(Drop)]
 pub(crate) struct Progress {
     sessions: BTreeMap<Name, Option<Draft>>,
-    keys: BTreeSet<Name>,
+    keys: HashSet<Name>,
     begun: u32,
     seals: u32,
 }
@@ -49,7 +49,7 @@ fn key_of(op: &Op) -> Name
 }
 
 /// The key is one of those so far, of which there are not too many.
-fn note_key(keys: &mut BTreeSet<Name>, key: Name) -> Result<(), RowFaultKind>
+fn note_key(keys: &mut HashSet<Name>, key: Name) -> Result<(), RowFaultKind>
     ensures { (names : List (List ℕ)) → HoldsNames names keys.old → NotesName names key result keys.new }
 {
     if keys.contains(&key) {
@@ -100,7 +100,7 @@ impl Progress {
     {
         Progress {
             sessions: BTreeMap::new(alloc),
-            keys: BTreeSet::new(alloc),
+            keys: HashSet::new(alloc),
             begun: 0,
             seals: 0,
         }

@@ -1,287 +1,373 @@
+//! What no clause says of `Rows`: that memory and readers that do not fail lead to the answers, and
+//! how readers that fail are met.
 use super::*;
+use crate::Op;
+use RowFaultKind as Kind;
+use std::alloc::AllocError;
+use std::fmt::Write;
+use std::io;
+use std::io::ErrorKind;
 use std::process::Abort;
 use std::test::Fail;
 
-// The kinds of fault, without what they name.
-fn kind_text(kind: RowFaultKind) -> &'static str {
-    match kind {
-        RowFaultKind::FieldCount => "FieldCount",
-        RowFaultKind::BadSession => "BadSession",
-        RowFaultKind::UnknownWord => "UnknownWord",
-        RowFaultKind::BadKey => "BadKey",
-        RowFaultKind::BadValue => "BadValue",
-        RowFaultKind::WriteOfZero => "WriteOfZero",
-        RowFaultKind::NotBegun => "NotBegun",
-        RowFaultKind::AlreadyBegun => "AlreadyBegun",
-        RowFaultKind::TooManyOps => "TooManyOps",
-        RowFaultKind::TooManySessions => "TooManySessions",
-        RowFaultKind::TooManyTransactions => "TooManyTransactions",
-        RowFaultKind::TooManyKeys => "TooManyKeys",
-        RowFaultKind::TooManySeals => "TooManySeals",
-        RowFaultKind::Unfinished { .. } => "Unfinished",
-        RowFaultKind::Read => "Read",
-        RowFaultKind::NoMemory => "NoMemory",
-    }
-}
-
-// The session that a fault names as unfinished.
-fn unfinished_session(kind: RowFaultKind) -> Option<Name> {
-    match kind {
-        RowFaultKind::Unfinished { session } => Some(session),
-        _ => None,
-    }
-}
-
-fn is_fault(fault: &Option<RowFault>, row: u64, kind: &'static str) -> bool {
-    match fault {
-        Some(fault) => fault.row == row && kind_text(fault.kind) == kind,
-        None => false,
-    }
-}
-
-fn is_unfinished(fault: &Option<RowFault>, row: u64, session: &[u8]) -> bool {
-    let Some(fault) = fault else {
-        return false;
-    };
-    match unfinished_session(fault.kind) {
-        Some(name) => fault.row == row && name.bytes() == session,
-        None => false,
-    }
-}
-
-// Takes every item off, and gives how many there were before the end or the fault.
+// Takes every item off: how many there were before the end or the fault, and the fault.
 fn run_out<R: Read + Drop>(
     rt: &impl Abort,
     alloc: Global,
     rows: &mut Rows<R>,
-) -> (u64, Result<(), RowFault>) {
+) -> (u64, Option<RowFault>) {
     let mut items = 0u64;
     for _ in 0..u64::MAX {
         match rows.next(alloc) {
-            Ok(Item::End) => return (items, Ok(())),
+            Ok(Item::End) => return (items, None),
             Ok(_) => items = items.saturating_add(1),
-            Err(fault) => return (items, Err(fault)),
+            Err(fault) => return (items, Some(fault)),
         }
     }
     assert!(rt; false, "the rows have no end");
-    (items, Ok(()))
+    (items, None)
 }
 
-// The records end in this fault, at this row, after so many items; and the fault comes again.
+// Takes every item off, and looks for this fault at this row.
+fn meets<R: Read + Drop>(
+    rt: &impl Abort,
+    alloc: Global,
+    rows: &mut Rows<R>,
+    items: u64,
+    row: u64,
+    kind: &Kind,
+) {
+    let (count, end) = run_out(rt, alloc, rows);
+    assert_eq!(rt; count, items);
+    let Some(fault) = end else {
+        panic!(rt; "no fault, where {kind} is wanted at row {row}");
+    };
+    assert_eq!(rt; fault.row, row);
+    assert!(rt; fault.kind == *kind, "{kind} is wanted at row {row}");
+}
+
+// The records give so many items, and then this fault at this row, again and again.
 fn refuses<R: Read + Drop>(
     rt: &impl Abort,
     alloc: Global,
     reader: R,
     items: u64,
     row: u64,
-    kind: &'static str,
+    kind: Kind,
 ) {
     let Ok(mut rows) = Rows::new(alloc, reader) else {
-        assert!(rt; false, "no memory");
-        return;
+        panic!(rt; "no memory");
     };
-    let (count, end) = run_out(rt, alloc, &mut rows);
-    assert_eq!(rt; count, items);
-    for _ in 0..2 {
-        assert!(rt;
-            is_fault(&rows.next(alloc).err(), row, kind),
-            "not {kind} at {row}"
-        );
-    }
-    assert!(rt; end.is_err());
+    meets(rt, alloc, &mut rows, items, row, &kind);
+    meets(rt, alloc, &mut rows, 0, row, &kind);
 }
 
-// The records end well, after so many items.
+// The records give so many items, and then the end, again and again.
 fn ends<R: Read + Drop>(rt: &impl Abort, alloc: Global, reader: R, items: u64) {
     let Ok(mut rows) = Rows::new(alloc, reader) else {
-        assert!(rt; false, "no memory");
-        return;
+        panic!(rt; "no memory");
     };
-    let (count, end) = run_out(rt, alloc, &mut rows);
-    assert!(rt; end.is_ok());
-    assert_eq!(rt; count, items);
+    assert_eq!(rt; run_out(rt, alloc, &mut rows), (items, None));
+    assert_eq!(rt; run_out(rt, alloc, &mut rows), (0, None));
+}
+
+fn name(rt: &impl Abort, text: &str) -> Name {
+    match Name::read(text.as_bytes()) {
+        Ok(name) => name,
+        Err(_) => panic!(rt; "no name"),
+    }
+}
+
+// The bytes, so many at a time, and then an error, where there is one.
+#[derive(Drop)]
+struct Pieces<'a> {
+    bytes: &'a [u8],
+    most: usize,
+    error: Option<ErrorKind>,
+}
+
+impl Read for Pieces<'_> {
+    fn read(&mut self, buf: &mut [u8]) -> io::Result<usize> {
+        if self.bytes.is_empty() {
+            if let Some(kind) = self.error {
+                return Err(io::Error::from(kind));
+            }
+        }
+        let count = self.bytes.len().min(buf.len()).min(self.most);
+        buf[..count].copy_from_slice(&self.bytes[..count]);
+        self.bytes = &self.bytes[count..];
+        Ok(count)
+    }
+}
+
+// The same byte without end.
+#[derive(Drop)]
+struct Endless {
+    byte: u8,
+}
+
+impl Read for Endless {
+    fn read(&mut self, buf: &mut [u8]) -> io::Result<usize> {
+        buf.fill(self.byte);
+        Ok(buf.len())
+    }
+}
+
+// A text, and then others so many times.
+fn repeated(alloc: Global, head: &str, line: &str, times: usize) -> Result<Vec<u8>, AllocError> {
+    let mut text = Vec::new(alloc);
+    text.extend_from_slice(head.as_bytes())?;
+    for _ in 0..times {
+        text.extend_from_slice(line.as_bytes())?;
+    }
+    Ok(text)
+}
+
+#[test]
+fn each_record_by_itself(rt: HostRuntime) {
+    let alloc = rt.alloc();
+    for (text, row, kind) in [
+        ("a,begin,x\n", 1, Kind::FieldCount),
+        ("a,r,x,1,1\n", 1, Kind::FieldCount),
+        ("a b,begin\n", 1, Kind::BadSession),
+        (",begin\n", 1, Kind::BadSession),
+        ("a b,q,,01\n", 1, Kind::BadSession),
+        ("stop\n", 1, Kind::UnknownWord),
+        ("\"\"\n", 1, Kind::UnknownWord),
+        ("a,seal\n", 1, Kind::UnknownWord),
+        ("a,begin\na,q,x,01\n", 2, Kind::UnknownWord),
+        ("a,begin\na,r,,1\n", 2, Kind::BadKey),
+        ("a,begin\na,r,,01\n", 2, Kind::BadKey),
+        ("a,begin\na,r,x,01\n", 2, Kind::BadValue),
+        ("a,begin\na,r,x,\n", 2, Kind::BadValue),
+        ("a,begin\na,r,x,+1\n", 2, Kind::BadValue),
+        ("a,begin\na,r,x,-0\n", 2, Kind::BadValue),
+        ("a,begin\na,r,x,1 \n", 2, Kind::BadValue),
+        ("a,begin\na,w,x,00\n", 2, Kind::BadValue),
+        ("a,begin\na,w,x,18446744073709551616\n", 2, Kind::BadValue),
+        ("a,begin\na,w,x,0\n", 2, Kind::WriteOfZero),
+        ("a,w,x,0\n", 1, Kind::WriteOfZero),
+    ] {
+        refuses(&rt, alloc, text.as_bytes(), 0, row, kind);
+    }
+}
+
+#[test]
+fn records_after_others(rt: HostRuntime) {
+    let alloc = rt.alloc();
+    for (text, items, row, kind) in [
+        ("a,r,x,0\n", 0, 1, Kind::NotBegun),
+        ("a,begin\na,commit\na,abort\n", 1, 3, Kind::NotBegun),
+        ("a,begin\nb,commit\n", 0, 2, Kind::NotBegun),
+        ("a,begin\na,begin\n", 0, 2, Kind::AlreadyBegun),
+        (
+            "a,begin\nseal\nb,begin\na,begin\n",
+            1,
+            4,
+            Kind::AlreadyBegun,
+        ),
+    ] {
+        refuses(&rt, alloc, text.as_bytes(), items, row, kind);
+    }
+    for (text, items) in [
+        ("", 0),
+        ("\r\n\n", 0),
+        ("seal\na,begin\nseal\na,commit\nseal", 4),
+        ("a,begin\nb,begin\na,r,x,0\nb,w,x,1\nb,abort\na,commit\n", 2),
+        ("a,begin\na,w,x,18446744073709551615\na,commit\n", 1),
+    ] {
+        ends(&rt, alloc, text.as_bytes(), items);
+    }
+}
+
+// The transaction of this session, if the item is one.
+fn transaction_of(item: Item, session: &str) -> Option<Txn> {
+    match item {
+        Item::Finished(name, txn) => {
+            let found = name;
+            if found.bytes() == session.as_bytes() {
+                Some(txn)
+            } else {
+                None
+            }
+        }
+        Item::Seal => None,
+        Item::End => None,
+    }
+}
+
+// The next item is a transaction of this session.
+fn finishes<R: Read + Drop>(
+    rt: &impl Abort,
+    alloc: Global,
+    rows: &mut Rows<R>,
+    session: &str,
+) -> Txn {
+    let Ok(item) = rows.next(alloc) else {
+        panic!(rt; "there is a fault");
+    };
+    let Some(txn) = transaction_of(item, session) else {
+        panic!(rt; "no transaction of {session} is finished");
+    };
+    txn
+}
+
+// Whether the operation is a write, and its value.
+fn shown(op: &Op) -> (bool, u64) {
+    match op {
+        Op::Get { value, .. } => (false, *value),
+        Op::Put { value, .. } => (true, *value),
+    }
+}
+
+#[test]
+fn gives_what_was_finished(rt: HostRuntime) -> Result<(), Fail> {
+    let alloc = rt.alloc();
+    let text = "\"b\",begin\r\na,begin\nb,w,x,7\nseal\na,abort\nb,r,y,0\nb,commit";
+    let mut rows = Rows::new(alloc, text.as_bytes())?;
+    assert!(rt; matches!(rows.next(alloc), Ok(Item::Seal)));
+    let aborted = finishes(&rt, alloc, &mut rows, "a");
+    assert!(rt; aborted.ops().is_empty() && !aborted.committed());
+    let committed = finishes(&rt, alloc, &mut rows, "b");
+    assert!(rt; committed.committed());
+    assert_eq!(rt; committed.ops().len(), 2);
+    assert_eq!(rt; shown(&committed.ops()[0]), (true, 7));
+    assert_eq!(rt; shown(&committed.ops()[1]), (false, 0));
     assert!(rt; matches!(rows.next(alloc), Ok(Item::End)));
+    Ok(())
 }
 
-// The fault names this session as unfinished.
-fn leaves_open(rt: &impl Abort, alloc: Global, text: &[u8], row: u64, session: &[u8]) {
+#[test]
+fn limits_of_an_input(rt: HostRuntime) -> Result<(), Fail> {
+    let alloc = rt.alloc();
+    let seals = repeated(alloc, "", "seal\n", 257)?;
+    refuses(&rt, alloc, seals.as_slice(), 256, 257, Kind::TooManySeals);
+    let operations = repeated(alloc, "a,begin\n", "a,r,x,0\n", 257)?;
+    refuses(&rt, alloc, operations.as_slice(), 0, 258, Kind::TooManyOps);
+    let mut transactions = repeated(alloc, "", "a,begin\na,abort\n", 1023)?;
+    ends(&rt, alloc, transactions.as_slice(), 1023);
+    transactions.extend_from_slice("a,begin\n".as_bytes())?;
+    refuses(
+        &rt,
+        alloc,
+        transactions.as_slice(),
+        1023,
+        2047,
+        Kind::TooManyTransactions,
+    );
+    let mut sessions = String::new(alloc);
+    for number in 1..65u32 {
+        write!(sessions, "s{number:02},begin\ns{number:02},commit\n")?;
+    }
+    ends(&rt, alloc, sessions.as_str().as_bytes(), 64);
+    sessions.push_str("s64,begin\ns64,abort\ns65,begin\n")?;
+    refuses(
+        &rt,
+        alloc,
+        sessions.as_str().as_bytes(),
+        65,
+        131,
+        Kind::TooManySessions,
+    );
+    let mut keys = String::new(alloc);
+    for number in 0..4u32 {
+        keys.push_str("a,begin\n")?;
+        for key in 0..256u32 {
+            write!(keys, "a,r,k{number}.{key},0\n")?;
+        }
+        keys.push_str("a,commit\n")?;
+    }
+    keys.push_str("a,begin\na,r,k0.0,0\na,r,one-more,0\n")?;
+    refuses(
+        &rt,
+        alloc,
+        keys.as_str().as_bytes(),
+        4,
+        1035,
+        Kind::TooManyKeys,
+    );
+    Ok(())
+}
+
+#[test]
+fn cut_inputs(rt: HostRuntime) {
+    let alloc = rt.alloc();
+    let text = "a,begin\na,w,x,1\na,commit\na,begin\na,r,x,0\na,commit\n".as_bytes();
+    assert_eq!(rt; text.len(), 50);
+    let a = name(&rt, "a");
+    for (length, items) in [(0, 0), (24, 1), (25, 1), (49, 2), (50, 2)] {
+        ends(&rt, alloc, &text[..length], items);
+    }
+    for (length, row, kind) in [
+        (1, 1, Kind::UnknownWord),
+        (2, 1, Kind::UnknownWord),
+        (6, 1, Kind::UnknownWord),
+        (7, 1, Kind::Unfinished { session: a }),
+        (8, 1, Kind::Unfinished { session: a }),
+        (12, 2, Kind::FieldCount),
+        (14, 2, Kind::BadValue),
+        (15, 2, Kind::Unfinished { session: a }),
+        (23, 3, Kind::UnknownWord),
+    ] {
+        refuses(&rt, alloc, &text[..length], 0, row, kind);
+    }
+    let least = Kind::Unfinished {
+        session: name(&rt, "a-"),
+    };
+    refuses(
+        &rt,
+        alloc,
+        "b,begin\na.,begin\na-,begin\n".as_bytes(),
+        0,
+        3,
+        least,
+    );
+}
+
+#[test]
+fn readers_that_fail(rt: HostRuntime) {
+    let alloc = rt.alloc();
+    let bytes = "a,begin\na,w,x,1\na,commit\nseal\n".as_bytes();
+    for (length, items, row) in [(0, 0, 1), (8, 0, 2), (12, 0, 2), (25, 1, 4), (30, 2, 5)] {
+        for kind in [ErrorKind::Other, ErrorKind::Interrupted] {
+            let reader = Pieces {
+                bytes: &bytes[..length],
+                most: 7,
+                error: Some(kind),
+            };
+            refuses(&rt, alloc, reader, items, row, Kind::Read);
+        }
+    }
+    for most in 1..9 {
+        let reader = Pieces {
+            bytes,
+            most,
+            error: None,
+        };
+        ends(&rt, alloc, reader, 2);
+    }
+}
+
+#[test]
+fn readers_without_end(rt: HostRuntime) {
+    let alloc = rt.alloc();
+    refuses(&rt, alloc, Endless { byte: b'a' }, 0, 1, Kind::Read);
+}
+
+// Whatever allocation is refused, there is the end, or want of memory at a row that was reached.
+#[test]
+fn memory_refused(rt: HostRuntime) {
+    let alloc = rt.alloc();
+    let text = "a,begin\nb,begin\na,w,x,1\nb,r,y,0\na,commit\nseal\nb,abort\n".as_bytes();
     let Ok(mut rows) = Rows::new(alloc, text) else {
-        assert!(rt; false, "no memory");
         return;
     };
-    let (_, end) = run_out(rt, alloc, &mut rows);
-    assert!(rt;
-        is_unfinished(&end.err(), row, session),
-        "nothing is unfinished at {row}"
-    );
-}
-
-#[test]
-fn empty_input(rt: HostRuntime) -> Result<(), Fail> {
-    let alloc = rt.alloc();
-    ends(&rt, alloc, b"".as_slice(), 0);
-    Ok(())
-}
-
-#[test]
-fn each_record_by_itself(rt: HostRuntime) -> Result<(), Fail> {
-    let alloc = rt.alloc();
-    refuses(&rt, alloc, b"a,begin,x\n".as_slice(), 0, 1, "FieldCount");
-    refuses(&rt, alloc, b"a,r,x,1,1\n".as_slice(), 0, 1, "FieldCount");
-    refuses(&rt, alloc, b"a b,begin\n".as_slice(), 0, 1, "BadSession");
-    refuses(&rt, alloc, b",begin\n".as_slice(), 0, 1, "BadSession");
-    refuses(&rt, alloc, b"a b,q,,01\n".as_slice(), 0, 1, "BadSession");
-    refuses(&rt, alloc, b"stop\n".as_slice(), 0, 1, "UnknownWord");
-    refuses(&rt, alloc, b"\"\"\n".as_slice(), 0, 1, "UnknownWord");
-    refuses(
-        &rt,
-        alloc,
-        b"a,begin\na,q,x,01\n".as_slice(),
-        0,
-        2,
-        "UnknownWord",
-    );
-    refuses(&rt, alloc, b"a,seal\n".as_slice(), 0, 1, "UnknownWord");
-    refuses(&rt, alloc, b"a,begin\na,r,,1\n".as_slice(), 0, 2, "BadKey");
-    refuses(&rt, alloc, b"a,begin\na,r,,01\n".as_slice(), 0, 2, "BadKey");
-    refuses(
-        &rt,
-        alloc,
-        b"a,begin\na,r,x,01\n".as_slice(),
-        0,
-        2,
-        "BadValue",
-    );
-    refuses(
-        &rt,
-        alloc,
-        b"a,begin\na,r,x,\n".as_slice(),
-        0,
-        2,
-        "BadValue",
-    );
-    refuses(
-        &rt,
-        alloc,
-        b"a,begin\na,r,x,+1\n".as_slice(),
-        0,
-        2,
-        "BadValue",
-    );
-    refuses(
-        &rt,
-        alloc,
-        b"a,begin\na,r,x,-0\n".as_slice(),
-        0,
-        2,
-        "BadValue",
-    );
-    refuses(
-        &rt,
-        alloc,
-        b"a,begin\na,w,x,00\n".as_slice(),
-        0,
-        2,
-        "BadValue",
-    );
-    refuses(
-        &rt,
-        alloc,
-        b"a,begin\na,w,x,18446744073709551616\n".as_slice(),
-        0,
-        2,
-        "BadValue",
-    );
-    refuses(
-        &rt,
-        alloc,
-        b"a,begin\na,w,x,0\n".as_slice(),
-        0,
-        2,
-        "WriteOfZero",
-    );
-    refuses(&rt, alloc, b"a,w,x,0\n".as_slice(), 0, 1, "WriteOfZero");
-    Ok(())
-}
-
-#[test]
-fn records_after_others(rt: HostRuntime) -> Result<(), Fail> {
-    let alloc = rt.alloc();
-    refuses(&rt, alloc, b"a,r,x,0\n".as_slice(), 0, 1, "NotBegun");
-    refuses(
-        &rt,
-        alloc,
-        b"a,begin\na,commit\na,abort\n".as_slice(),
-        1,
-        3,
-        "NotBegun",
-    );
-    refuses(
-        &rt,
-        alloc,
-        b"a,begin\nb,commit\n".as_slice(),
-        0,
-        2,
-        "NotBegun",
-    );
-    refuses(
-        &rt,
-        alloc,
-        b"a,begin\na,begin\n".as_slice(),
-        0,
-        2,
-        "AlreadyBegun",
-    );
-    refuses(
-        &rt,
-        alloc,
-        b"a,begin\nseal\nb,begin\na,begin\n".as_slice(),
-        1,
-        4,
-        "AlreadyBegun",
-    );
-    ends(
-        &rt,
-        alloc,
-        b"seal\na,begin\nseal\na,commit\nseal\n".as_slice(),
-        4,
-    );
-    ends(
-        &rt,
-        alloc,
-        b"a,begin\nb,begin\na,r,x,0\nb,w,x,1\nb,abort\na,commit\n".as_slice(),
-        2,
-    );
-    Ok(())
-}
-
-#[test]
-fn cut_inputs(rt: HostRuntime) -> Result<(), Fail> {
-    let alloc = rt.alloc();
-    leaves_open(&rt, alloc, b"a,begin\na,r,x,0\n", 2, b"a");
-    leaves_open(
-        &rt,
-        alloc,
-        b"b,begin\na,begin\nb,commit\nb,begin\n",
-        4,
-        b"a",
-    );
-    leaves_open(&rt, alloc, b"b,begin\na.,begin\na-,begin\n", 3, b"a-");
-    let row = b"a,begin\na,w,x,1\na,commit\na,begin\na,r,x,0\na,commit\n".as_slice();
-    assert_eq!(rt; row.len(), 50);
-    ends(&rt, alloc, row, 2);
-    ends(&rt, alloc, &row[..49], 2);
-    ends(&rt, alloc, &row[..0], 0);
-    ends(&rt, alloc, &row[..24], 1);
-    ends(&rt, alloc, &row[..25], 1);
-    refuses(&rt, alloc, &row[..1], 0, 1, "UnknownWord");
-    refuses(&rt, alloc, &row[..2], 0, 1, "UnknownWord");
-    refuses(&rt, alloc, &row[..6], 0, 1, "UnknownWord");
-    refuses(&rt, alloc, &row[..12], 0, 2, "FieldCount");
-    refuses(&rt, alloc, &row[..14], 0, 2, "BadValue");
-    refuses(&rt, alloc, &row[..23], 0, 3, "UnknownWord");
-    leaves_open(&rt, alloc, &row[..7], 1, b"a");
-    leaves_open(&rt, alloc, &row[..8], 1, b"a");
-    leaves_open(&rt, alloc, &row[..15], 2, b"a");
-    Ok(())
+    let (items, end) = run_out(&rt, alloc, &mut rows);
+    let Some(fault) = end else {
+        assert_eq!(rt; items, 3);
+        return;
+    };
+    assert!(rt; items <= 3 && fault.row <= 7);
+    assert!(rt; fault.kind == Kind::NoMemory);
+    meets(&rt, alloc, &mut rows, 0, fault.row, &Kind::NoMemory);
 }

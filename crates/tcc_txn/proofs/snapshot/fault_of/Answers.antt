@@ -1,4 +1,4 @@
-use Rattle.std.proofs.Common.{◌≡◌, ℕ, List, ap, sym, ◌∙◌, Option, Some, None, length, sum_by}
+use Rattle.std.proofs.Common.{ℕ, List, ap, sym, ◌∙◌, length, sum_by}
 use Rattle.std.specs.Global.{Vec}
 use Rattle.tcc_txn.specs.Transactions.{Transaction}
 use Rattle.tcc_txn.proofs.SnapshotFaults.{fault_by, snapshot_fault-parts_of, sessions_fault, transactions_fault, no_fault}

@@ -1,4 +1,4 @@
-use Rattle.std.proofs.Common.{◌≡◌, ap, sym, ◌∙◌, Option, Some, ℕ, List, cond, Bool, true, false, take, drop, ◌+◌, get_or}
+use Rattle.std.proofs.Common.{◌≡◌, ap, sym, ◌∙◌, Some, ℕ, List, cond, Bool, true, false, take, drop, ◌+◌, get_or}
 use Rattle.std.specs.Global.{Vec}
 use Rattle.tcc_txn.specs.Transactions.{Transaction}
 use Rattle.tcc_txn.specs.Snapshots.{first_repeated}

@@ -1,8 +1,8 @@
-use Rattle.std.proofs.Common.{◌≡◌, ℕ, List, ◌++◌, length, take, drop, refl, ap, sym, ◌∙◌, subst, None, Some, Ok}
+use Rattle.std.proofs.Common.{◌≡◌, ℕ, List, length, drop, refl, ap, sym, ◌∙◌, None, Some, Ok}
 use Rattle.std.proofs.lemmas.List.{take_at}
 use Rattle.std.specs.Prelude.{replicate, Err}
 use Rattle.std.specs.Option.{option_map_or}
-use Rattle.tcc_txn.specs.Names.{name_fault, IsStored}
+use Rattle.tcc_txn.specs.Names.{name_fault}
 use Rattle.tcc_txn.specs.Stored.{stored_in_front}
 use Rattle.tcc_txn.proofs.name.Name.read.Goals as goal
 

@@ -1,4 +1,4 @@
-use Rattle.std.proofs.Common.{rules, sym, ◌∙◌}
+use Rattle.std.proofs.Common.{sym, ◌∙◌}
 use Rattle.tcc_txn.proofs.LineFacts.{digits_of-no_text, digits_of-parsed}
 use Rattle.tcc_txn.proofs.rows.line.parse_digits.Goals as goal
 

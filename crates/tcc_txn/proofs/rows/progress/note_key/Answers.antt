@@ -1,4 +1,4 @@
-use Rattle.std.proofs.Common.{rules, sym, refl, ◌∙◌, arith}
+use Rattle.std.proofs.Common.{sym, arith}
 use Rattle.tcc_txn.proofs.StandingFacts.{names-noted}
 use Rattle.tcc_txn.proofs.rows.progress.note_key.Goals as goal
 

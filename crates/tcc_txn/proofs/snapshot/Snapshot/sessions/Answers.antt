@@ -1,4 +1,4 @@
-use Rattle.std.proofs.Common.{◌≡◌, ◌≤◌, ap, sym, ◌∙◌, subst, sum_by, length}
+use Rattle.std.proofs.Common.{◌≤◌, ap, sym, ◌∙◌, subst, sum_by, length}
 use Rattle.std.specs.FinMap as finite
 use Rattle.tcc_txn.specs.Snapshots.{Sessions}
 use Rattle.tcc_txn.proofs.StoredSnapshot.{len-shown, short-shown}

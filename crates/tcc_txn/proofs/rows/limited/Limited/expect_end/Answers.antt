@@ -1,4 +1,4 @@
-use Rattle.std.proofs.Common.{rules, arith, ◌<◌, ◌≡◌, length, length-take-le, take}
+use Rattle.std.proofs.Common.{arith, ◌<◌, ◌≡◌, length, length-take-le, take}
 use Rattle.tcc_txn.proofs.LimitFacts.{at-end, keeps-refl, past-limit-kept}
 use Rattle.tcc_txn.proofs.rows.limited.Limited.expect_end.Goals as goal
 use Rattle.tcc_txn.proofs.rows.limited.Limited.expect_end.Goals.{then-not-self+in_ok-read+else-branch-eq0, else-not-self}

@@ -1,4 +1,4 @@
-use Rattle.std.proofs.Common.{rules, arith}
+use Rattle.std.proofs.Common.{rules}
 use Rattle.tcc_txn.proofs.LimitFacts.{limit-consumes}
 use Rattle.tcc_txn.proofs.rows.limited.LimitedRead.read.Goals as goal
 

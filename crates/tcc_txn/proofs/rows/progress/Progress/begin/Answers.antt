@@ -1,4 +1,4 @@
-use Rattle.std.proofs.Common.{rules, refl, arith, sym, ◌∙◌}
+use Rattle.std.proofs.Common.{refl}
 use Rattle.tcc_txn.proofs.StandingFacts.{after-begin}
 use Rattle.tcc_txn.proofs.rows.progress.Progress.begin.Goals as goal
 

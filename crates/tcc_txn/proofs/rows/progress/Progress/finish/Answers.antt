@@ -1,4 +1,4 @@
-use Rattle.std.proofs.Common.{rules, sym, refl, ◌∙◌, arith, ap, Some}
+use Rattle.std.proofs.Common.{sym, refl, ◌∙◌, arith, ap, Some}
 use Rattle.tcc_txn.proofs.StandingFacts.{after-finish}
 use Rattle.tcc_txn.proofs.rows.progress.Progress.finish.Goals as goal
 

@@ -1,4 +1,4 @@
-use Rattle.std.proofs.Common.{rules, inl, ◌∙◌}
+use Rattle.std.proofs.Common.{inl, ◌∙◌}
 use Rattle.tcc_txn.specs.RecordsLeft.{IsPlain}
 use Rattle.tcc_txn.proofs.RecordSteps.{takes-record}
 use Rattle.tcc_txn.proofs.rows.records.Records.read.Goals as goal

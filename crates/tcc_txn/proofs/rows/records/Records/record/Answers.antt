@@ -1,4 +1,3 @@
-use Rattle.std.proofs.Common.{rules}
 use Rattle.tcc_txn.proofs.FieldBytes.{none-cut}
 use Rattle.tcc_txn.proofs.rows.records.Records.record.Goals as goal
 

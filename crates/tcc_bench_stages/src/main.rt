@@ -1,0 +1,81 @@
+//! Runs the first stages of an explanation alone, so that a script can time each of them: `rows` reads the records
+//! of standard input, `resolve` resolves their snapshot too, and `graph` builds its graph too.
+#![tactic(auto)]
+
+use std::alloc::Global;
+use std::env;
+use std::io::Read;
+use std::process::ExitCode;
+use tcc_graph::Graph;
+use tcc_reads::resolve;
+use tcc_txn::{Item, Name, Rows, Snapshot, Txn};
+
+/// How far a run goes.
+#[derive(Clone, Copy, PartialEq, Eq)]
+enum Stage {
+    Rows,
+    Resolve,
+    Graph,
+}
+
+/// Adds a transaction to those of its session.
+fn add(alloc: Global, parts: &mut Vec<(Name, Vec<Txn>)>, session: Name, txn: Txn) -> Option<()> {
+    for part in parts.iter_mut() {
+        if part.0 == session {
+            return part.1.push(txn).ok();
+        }
+    }
+    let mut txns = Vec::new(alloc);
+    txns.push(txn).ok()?;
+    parts.push((session, txns)).ok()
+}
+
+/// The finished transactions of each session; none after a fault or a seal.
+fn gather<R: Read + Drop>(alloc: Global, reader: R) -> Option<Vec<(Name, Vec<Txn>)>> {
+    let mut rows = Rows::new(alloc, reader).ok()?;
+    let mut parts = Vec::new(alloc);
+    for _ in 0..u64::MAX {
+        match rows.next(alloc).ok()? {
+            Item::Finished(session, txn) => add(alloc, &mut parts, session, txn)?,
+            Item::Seal => return None,
+            Item::End => break,
+        }
+    }
+    Some(parts)
+}
+
+/// Goes as far as asked, and says how many transactions there are at the end.
+fn run<R: Read + Drop>(alloc: Global, reader: R, stage: Stage) -> Option<u32> {
+    let snapshot = Snapshot::new(gather(alloc, reader)?).ok()?;
+    if stage == Stage::Rows {
+        return Some(snapshot.sessions());
+    }
+    let resolved = resolve(alloc, &snapshot).ok()?;
+    if stage == Stage::Resolve {
+        return u32::try_from(resolved.places().len()).ok();
+    }
+    Some(Graph::build(alloc, &resolved).ok()?.count())
+}
+
+fn stage_of(rt: &HostRuntime) -> Option<Stage> {
+    let word = env::args(rt).ok()?.nth(1)?;
+    match word.as_str() {
+        "rows" => Some(Stage::Rows),
+        "resolve" => Some(Stage::Resolve),
+        "graph" => Some(Stage::Graph),
+        _ => None,
+    }
+}
+
+fn main(rt: HostRuntime) -> ExitCode {
+    let Some(stage) = stage_of(&rt) else {
+        return ExitCode::from(64);
+    };
+    let Some(count) = run(rt.alloc(), rt.stdin(), stage) else {
+        return ExitCode::from(1);
+    };
+    match println!(rt; "{count}") {
+        Ok(()) => ExitCode::SUCCESS,
+        Err(_) => ExitCode::from(6),
+    }
+}
