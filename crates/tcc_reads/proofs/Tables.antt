@@ -1,6 +1,7 @@
 -- The resolver's look-ups, one operation at a time.
 use Rattle.std.proofs.Common.{◌≡◌, ℕ, ◌+◌, Bool, true, false, cond, not, ◌&&◌, List, [], ◌∷◌, ◌++◌, length, Option, None, Some, refl, ap, sym, ◌∙◌}
 use Rattle.std.specs.Prelude.{◌==◌, option_and_then}
+use Rattle.std.proofs.lemmas.Bool.{eqb-true}
 use Rattle.std.specs.Option.{option_or}
 use Rattle.std.specs.List.{list_any}
 use Rattle.std.specs.Str.{bytes_eq}
@@ -10,12 +11,14 @@ use Rattle.std.specs.BTreeMap.{BTreeMap}
 use Rattle.std.specs.BTreeSet as set
 use Rattle.std.specs.BTreeSet.{BTreeSet}
 use Rattle.tcc_txn.specs.declared.op.Op.{Op}
-use Rattle.tcc_txn.specs.declared.op.Op.TheVariants.{Put}
+use Rattle.tcc_txn.specs.declared.op.Op.TheVariants.{Get, Put}
 use Rattle.tcc_reads.specs.declared.writers.Writer.{Writer}
+use Rattle.tcc_reads.specs.declared.fault.ReadFaultKind.TheVariants.{Duplicate}
+use Rattle.tcc_reads.specs.declared.judging.Judgement.TheVariants.{Faulty, Silent}
 use Rattle.tcc_reads.specs.Numbers.{Numbered}
 use Rattle.tcc_reads.specs.Sources.{name_cmp, puts_at, value_put, visible_write}
-use Rattle.tcc_reads.specs.Verdicts.{held, AreWrittenKeys, AreVisibleWrites, write_at, first_in}
-use Rattle.tcc_reads.proofs.Ties.{names_tie, numbers_tie, same_name, cond_or}
+use Rattle.tcc_reads.specs.Verdicts.{held, AreOwnIn, AreOwn, IsOwn, AreWrittenKeys, AreVisibleWrites, write_at, writer_at, write_judgement, first_in}
+use Rattle.tcc_reads.proofs.Ties.{names_tie, numbers_tie, same_name, numbers_same, itself, both_true, cond_or}
 
 -- one more key
 pub put_key : (old new : BTreeSet (List ℕ)) (key : List ℕ) (value : ℕ) (ops : List Op)
@@ -77,3 +80,51 @@ put_visible old new key value before updates own x =
     updates x ∙ (λ i. cond (names_tie key x i) (Some value) (own x i))
     ∙ chosen (bytes_eq key x) value (visible_write x before)
     ∙ sym (visible_write-push x before (Put key value))
+
+module _ (old new : BTreeMap (List ℕ) (BTreeMap ℕ Writer)) (key : List ℕ) (value : ℕ) (write : Writer)
+    (updates : (x : List ℕ) (v : ℕ) → held new x v ≡ cond (bytes_eq key x && (value == v)) (Some write) (held old x v))
+    (fresh : held old key value ≡ None) where
+  kept : (x : List ℕ) (v : ℕ) (w : Writer) → held old x v ≡ Some w → held new x v ≡ Some w
+  kept x v w was = updates x v ∙ by_key (bytes_eq key x && (value == v)) refl
+    where
+      by_key : (b : Bool) → (bytes_eq key x && (value == v)) ≡ b → cond b (Some write) (held old x v) ≡ Some w
+      by_key true same =
+          let parts = both_true (bytes_eq key x) (value == v) same in
+          let none : held old x v ≡ None = sym (λ i. held old (same_name key x parts.0 i) (eqb-true value v parts.1 i)) ∙ fresh in
+          cc
+      by_key false apart = was
+
+  pub own_kept_in : (n : Numbered) (before ops : List Op) → AreOwnIn old n before ops → AreOwnIn new n before ops
+  own_kept_in n before [] own = tt
+  own_kept_in n before (Get k v ∷ after) own = own_kept_in n (before ++ Get k v ∷ []) after own
+  own_kept_in n before (Put k v ∷ after) own = (kept k v (writer_at n before k after) own.0, own_kept_in n (before ++ Put k v ∷ []) after own.1)
+
+  pub own_kept : (ns : List Numbered) → AreOwn old ns → AreOwn new ns
+  own_kept [] own = tt
+  own_kept (n ∷ later) own = (own_kept_in n [] n.stand.txn.ops own.0, own_kept later own.1)
+
+  pub own_put : held new key value ≡ Some write
+  own_put = updates key value ∙ (λ i. cond (itself key i && numbers_same value i) (Some write) (held old key value))
+
+-- an own write is silent
+pub own_is_silent : (table : BTreeMap (List ℕ) (BTreeMap ℕ Writer)) (n : Numbered) (before after : List Op) (op : Op) (place : ℕ)
+    → length before + 1 ≡ place → AreOwnIn table n before (op ∷ after) → IsOwn table n place op
+own_is_silent table n before after (Get key value) place counted own = tt
+own_is_silent table n before after (Put key value) place counted own =
+    ap (write_judgement n place) own.0
+    ∙ (λ i. cond ((numbers_same n.stand.session i && numbers_same n.stand.place i) && ((ap (λ k. k == place) counted ∙ numbers_same place) i)) Silent (Faulty Duplicate))
+
+pub own_after : (table : BTreeMap (List ℕ) (BTreeMap ℕ Writer)) (n : Numbered) (before after : List Op) (op : Op)
+    → AreOwnIn table n before (op ∷ after) → AreOwnIn table n (before ++ op ∷ []) after
+own_after table n before after (Get key value) own = own
+own_after table n before after (Put key value) own = own.1
+
+-- one more write of a new value is the table's own
+pub put_own : (n : Numbered) (before after : List Op) (key : List ℕ) (value place : ℕ) (last : Bool) (old new : BTreeMap (List ℕ) (BTreeMap ℕ Writer))
+    → ((x : List ℕ) (v : ℕ) → held new x v ≡ cond (bytes_eq key x && (value == v)) (Some (write_at n place last)) (held old x v))
+    → held old key value ≡ None → length before + 1 ≡ place → last ≡ not (list_any (puts_at key) after)
+    → AreOwnIn old n (before ++ Put key value ∷ []) after → AreOwnIn new n before (Put key value ∷ after)
+put_own n before after key value place last old new updates fresh counted is_last own = (
+  own_put old new key value (write_at n place last) updates fresh ∙ (λ i. Some (write_at n (sym counted i) (is_last i))),
+  own_kept_in old new key value (write_at n place last) updates fresh n (before ++ Put key value ∷ []) after own,
+)

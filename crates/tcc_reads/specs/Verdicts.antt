@@ -52,6 +52,18 @@ held table x v = option_and_then (λ values. tree.get nat_cmp values v) (tree.ge
 abbrev pub AreFirstWriters : BTreeMap (List ℕ) (BTreeMap ℕ Writer) → List Numbered → Type 0
 AreFirstWriters table ns = (x : List ℕ) (v : ℕ) → held table x v ≡ first_writer ns x v
 
+-- each of these writes is the one that the table has for its value at its key
+abbrev pub AreOwnIn : BTreeMap (List ℕ) (BTreeMap ℕ Writer) → Numbered → List Op → List Op → Type 0
+AreOwnIn table n before [] = Unit {0}
+AreOwnIn table n before (Get key value ∷ after) = AreOwnIn table n (before ++ Get key value ∷ []) after
+AreOwnIn table n before (Put key value ∷ after) =
+    (held table key value ≡ Some (writer_at n before key after)) × AreOwnIn table n (before ++ Put key value ∷ []) after
+
+-- no value is written twice at a key in these transactions
+abbrev pub AreOwn : BTreeMap (List ℕ) (BTreeMap ℕ Writer) → List Numbered → Type 0
+AreOwn table [] = Unit {0}
+AreOwn table (n ∷ later) = AreOwnIn table n [] n.stand.txn.ops × AreOwn table later
+
 -- the set has the keys that these operations write
 abbrev pub AreWrittenKeys : BTreeSet (List ℕ) → List Op → Type 0
 AreWrittenKeys keys ops = (x : List ℕ) → set.contains name_cmp keys x ≡ list_any (puts_at x) ops
@@ -67,6 +79,11 @@ is_in n first = (first.session == n.stand.session) && (first.place == n.stand.pl
 abbrev pub write_judgement : Numbered → ℕ → Option Writer → Judgement
 write_judgement n place None = Faulty Duplicate
 write_judgement n place (Some first) = if is_in n first && (first.op == place) then Silent else Faulty Duplicate
+
+-- an operation at this place is no write, or the one that the table has for its value at its key
+abbrev pub IsOwn : BTreeMap (List ℕ) (BTreeMap ℕ Writer) → Numbered → ℕ → Op → Type 0
+IsOwn table n place (Get key value) = Unit {0}
+IsOwn table n place (Put key value) = write_judgement n place (held table key value) ≡ Silent
 
 abbrev pub judgement_from : Numbered → Writer → Option ℕ → Judgement
 judgement_from n first None = Faulty Aborted

@@ -1,9 +1,9 @@
 //! What each operation of a transaction is: a fault, an external read with its source, or neither.
-ghost use Rattle.std.specs.Prelude.{◌≡◌, ◌∷◌, [], ◌++◌, List, IfOk, OnOk, option_to_list};
+ghost use Rattle.std.specs.Prelude.{◌≡◌, true, ◌∷◌, [], ◌++◌, List, IfOk, OnOk, option_to_list};
 ghost use Rattle.std.specs.Option.{option_copied};
 ghost use Rattle.tcc_txn.specs.declared.op.Op.{Op};
 ghost use Rattle.tcc_reads.specs.Faults.{op_key, op_value};
-ghost use Rattle.tcc_reads.specs.Verdicts.{held, is_in, write_judgement, read_judgement, op_judgement, fault_in, source_in, AreVisibleWrites, faults_found, sources_found};
+ghost use Rattle.tcc_reads.specs.Verdicts.{held, is_in, write_judgement, read_judgement, op_judgement, fault_in, source_in, IsOwn, AreOwnIn, AreVisibleWrites, faults_found, sources_found};
 
 use crate::standing::Standing;
 use crate::writers::{Writer, Writers, first_writer};
@@ -66,22 +66,27 @@ fn read_judgement(standing: &Standing<'_>, writer: Option<&Writer>) -> Judgement
     }
 }
 
-/// Of an operation at a place of its transaction, from 1, where `own` is the latest own write of its key.
+/// Of an operation at a place of its transaction, from 1, where `own` is the latest own write of its key. Where no value
+/// was written twice, writes need no look-up.
 fn judgement_of(
     writers: &Writers,
+    distinct: bool,
     standing: &Standing<'_>,
     place: u32,
     op: Op,
     own: Option<u64>,
 ) -> Judgement
+    requires { distinct ≡ true → IsOwn writers.now standing.now place op }
     ensures { result ≡ op_judgement (held writers.now) standing.now place op own }
 {
     match op {
-        Op::Put { key, value } => write_judgement(
-            standing,
-            place,
-            first_writer(writers, &key, value),
-        ),
+        Op::Put { key, value } => {
+            if distinct {
+                Judgement::Silent
+            } else {
+                write_judgement(standing, place, first_writer(writers, &key, value))
+            }
+        }
         Op::Get { key, value } => {
             if !standing.txn.committed() {
                 return Judgement::Silent;
@@ -174,9 +179,11 @@ fn put_own(own: &mut BTreeMap<Name, u64>, op: Op) -> Result<(), AllocError>
 pub(crate) fn judge(
     alloc: Global,
     writers: &Writers,
+    distinct: bool,
     standing: &Standing<'_>,
     faults: &mut Vec<ReadFault>,
 ) -> Result<Vec<(Name, u32)>, AllocError>
+    requires { distinct ≡ true → AreOwnIn writers.now standing.now [] standing.now.stand.txn.ops }
     ensures faults { IfOk result (λ _. faults.new.items ≡ faults.old.items ++ faults_found (held writers.now) standing.now) }
     ensures sources { IfOk result (λ reads. reads.items ≡ sources_found (held writers.now) standing.now) }
 {
@@ -186,7 +193,7 @@ pub(crate) fn judge(
     for (before, op) in ops.iter().enumerate() {
         let place = before as u32 + 1;
         let written = own.get(&key_of(op)).copied();
-        let judgement = judgement_of(writers, standing, place, *op, written);
+        let judgement = judgement_of(writers, distinct, standing, place, *op, written);
         note(standing, place, op, judgement, faults, &mut reads)?;
         put_own(&mut own, *op)?;
     }

@@ -1,18 +1,18 @@
 //! The resolver.
-ghost use Rattle.std.specs.Prelude.{◌≡◌, [], ◌∷◌, ◌++◌, filter_map, flat_map, IfOk, OnOk, MatchResult};
+ghost use Rattle.std.specs.Prelude.{◌≡◌, true, [], ◌∷◌, ◌++◌, filter_map, flat_map, IfOk, OnOk, MatchResult};
 ghost use Rattle.tcc_reads.specs.History.{initial};
 ghost use Rattle.tcc_reads.specs.Sources.{name_cmp, pair_cmp, key_put, sorted_once, writes_of, history};
 ghost use Rattle.tcc_reads.specs.Faults.{read_faults};
 ghost use Rattle.tcc_reads.specs.Refusals.{IsRefusal};
 ghost use Rattle.tcc_reads.specs.Stored.{places_of};
-ghost use Rattle.tcc_reads.specs.Verdicts.{held, faults_found, entries_found};
+ghost use Rattle.tcc_reads.specs.Verdicts.{held, AreOwn, AreOwnIn, faults_found, entries_found};
 
 use crate::judging::judge;
 use crate::numbering::{session_names, standings};
 use crate::resolved::{Node, Resolved};
 use crate::sorting::sorted_once;
 use crate::standing::Standing;
-use crate::writers::{Writers, first_writers};
+use crate::writers::{FirstWrites, first_writes};
 use crate::{ReadFault, ResolveFault};
 use std::alloc::{AllocError, Global};
 use tcc_txn::{Name, Op, Snapshot};
@@ -50,15 +50,16 @@ fn node(alloc: Global, standing: &Standing<'_>, reads: &[(Name, u32)]) -> Result
 /// Adds a transaction's node, if it was committed, and its faults.
 fn examine_one(
     alloc: Global,
-    writers: &Writers,
+    first: &FirstWrites,
     standing: &Standing<'_>,
     nodes: &mut Vec<Node>,
     faults: &mut Vec<ReadFault>,
 ) -> Result<(), AllocError>
-    ensures nodes { OnOk result (nodes.new.items ≡ nodes.old.items ++ entries_found (held writers.now) (standing.now ∷ [])) }
-    ensures faults { OnOk result (faults.new.items ≡ faults.old.items ++ faults_found (held writers.now) standing.now) }
+    requires { first.now.distinct ≡ true → AreOwnIn first.now.writers standing.now [] standing.now.stand.txn.ops }
+    ensures nodes { OnOk result (nodes.new.items ≡ nodes.old.items ++ entries_found (held first.now.writers) (standing.now ∷ [])) }
+    ensures faults { OnOk result (faults.new.items ≡ faults.old.items ++ faults_found (held first.now.writers) standing.now) }
 {
-    let reads = judge(alloc, writers, standing, faults)?;
+    let reads = judge(alloc, &first.writers, first.distinct, standing, faults)?;
     if standing.txn.committed() {
         nodes.push(node(alloc, standing, &reads)?)?;
     }
@@ -74,11 +75,12 @@ struct Findings {
 
 fn examine(
     alloc: Global,
-    writers: &Writers,
+    first: &FirstWrites,
     standings: &[Standing<'_>],
 ) -> Result<Findings, AllocError>
-    ensures nodes { IfOk result (λ found. found.nodes.items ≡ initial ∷ entries_found (held writers.now) standings.now) }
-    ensures faults { IfOk result (λ found. found.faults.items ≡ flat_map (faults_found (held writers.now)) standings.now) }
+    requires { first.now.distinct ≡ true → AreOwn first.now.writers standings.now }
+    ensures nodes { IfOk result (λ found. found.nodes.items ≡ initial ∷ entries_found (held first.now.writers) standings.now) }
+    ensures faults { IfOk result (λ found. found.faults.items ≡ flat_map (faults_found (held first.now.writers)) standings.now) }
 {
     let mut nodes = Vec::new(alloc);
     let mut faults = Vec::new(alloc);
@@ -89,7 +91,7 @@ fn examine(
         reads: Vec::new(alloc),
     })?;
     for standing in standings {
-        examine_one(alloc, writers, standing, &mut nodes, &mut faults)?;
+        examine_one(alloc, first, standing, &mut nodes, &mut faults)?;
     }
     Ok(Findings { nodes, faults })
 }
@@ -113,8 +115,8 @@ pub fn resolve(alloc: Global, snapshot: &Snapshot) -> Result<Resolved, ResolveFa
 {
     let sessions = session_names(alloc, snapshot)?;
     let standings = standings(alloc, snapshot)?;
-    let writers = first_writers(alloc, &standings)?;
-    let Findings { nodes, faults } = examine(alloc, &writers, &standings)?;
+    let first = first_writes(alloc, &standings)?;
+    let Findings { nodes, faults } = examine(alloc, &first, &standings)?;
     if faults.is_empty() {
         let places = places(alloc, &nodes)?;
         Ok(Resolved {

@@ -1,11 +1,12 @@
-use Rattle.std.proofs.Common.{◌≡◌, ◌∷◌, ◌++◌, drop}
+use Rattle.std.proofs.Common.{◌≡◌, true, ◌∷◌, ◌++◌, drop}
 use Rattle.std.specs.Prelude.{flat_map}
 use Rattle.tcc_reads.specs.History.{initial}
-use Rattle.tcc_reads.specs.Verdicts.{held, faults_found, entries_found}
+use Rattle.tcc_reads.specs.Verdicts.{held, AreOwn, faults_found, entries_found}
 use Rattle.tcc_reads.proofs.resolver.examine.Given as goal
 
 abbrev pub invariant-loop-standing : goal.invariant-loop-standing
 invariant-loop-standing l = record {
-  nodes : l.nodes.items ++ entries_found (held l.writers) (drop l.standing-index l.standings) ≡ initial ∷ entries_found (held l.writers) l.standings;
-  faults : l.faults.items ++ flat_map (faults_found (held l.writers)) (drop l.standing-index l.standings) ≡ flat_map (faults_found (held l.writers)) l.standings;
+  own : l.first.distinct ≡ true → AreOwn l.first.writers (drop l.standing-index l.standings);
+  nodes : l.nodes.items ++ entries_found (held l.first.writers) (drop l.standing-index l.standings) ≡ initial ∷ entries_found (held l.first.writers) l.standings;
+  faults : l.faults.items ++ flat_map (faults_found (held l.first.writers)) (drop l.standing-index l.standings) ≡ flat_map (faults_found (held l.first.writers)) l.standings;
 }
