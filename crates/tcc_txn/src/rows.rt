@@ -228,6 +228,7 @@ impl<R: Read + Drop> Rows<R> {
         ensures closed { OnOk result ((past : List Line) → IsAfter past self.old.progress → fault_at_end past ≡ None) }
         ensures end { IfOk result (λ given. given ≡ Some Item.End) }
         ensures phase { OnOk result (self.new.phase ≡ Phase.Ended) }
+        ensures row { self.new.row ≡ self.old.row }
     {
         match self.progress.unfinished() {
             Some(session) => Err(RowFault {
