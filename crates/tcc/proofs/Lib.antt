@@ -7,3 +7,4 @@ pub mod Filters
 pub mod Reached
 pub mod Kept
 pub mod WorkedTables
+mod WorkedTexts
