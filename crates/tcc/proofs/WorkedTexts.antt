@@ -23,7 +23,7 @@ bad_value = rw (decimal_digit 2 (lit< tt)) refl
 
 -- reads of an aborted write and of a value that nobody wrote
 two_faults : unresolved_text (
-        record { session = codes "b"; place = 1; op = 1; key = codes "x"; value = 1; kind = Aborted }
-        ∷ record { session = codes "b"; place = 1; op = 2; key = codes "z"; value = 7; kind = ThinAir } ∷ [])
+    record { session = codes "b"; place = 1; op = 1; key = codes "x"; value = 1; kind = Aborted }
+    ∷ record { session = codes "b"; place = 1; op = 2; key = codes "z"; value = 7; kind = ThinAir } ∷ [])
     ≡ codes "unresolved: 2 faults\nAborted b/1 op 1 x 1\nThinAir b/1 op 2 z 7\n"
 two_faults = rw (decimal_digit 1 (lit< tt), decimal_digit 2 (lit< tt), decimal_digit 7 (lit< tt)) refl
