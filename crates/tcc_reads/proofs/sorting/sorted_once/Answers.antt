@@ -1,6 +1,5 @@
 use Rattle.std.proofs.Common.{◌∙◌}
 use Rattle.std.proofs.lemmas.List.Filters.{dedup_is}
-use Rattle.std.specs.Cmp.{ties}
 use Rattle.tcc_reads.proofs.SortedOnce.{sorted_deduped}
 use Rattle.tcc_reads.proofs.sorting.sorted_once.Goals as goal
 
