@@ -5,3 +5,4 @@ pub mod Counting
 pub mod Agreement
 pub mod Sourcing
 pub mod Findings
+pub mod SortedOnce

@@ -1,8 +1,10 @@
 //! What each operation of a transaction is: a fault, an external read with its source, or neither.
 ghost use Rattle.std.specs.Prelude.{◌≡◌, true, ◌∷◌, [], ◌++◌, List, IfOk, OnOk, option_to_list};
+ghost use Rattle.std.specs.BTreeMap as tree;
 ghost use Rattle.std.specs.Option.{option_copied};
 ghost use Rattle.tcc_txn.specs.declared.op.Op.{Op};
 ghost use Rattle.tcc_reads.specs.Faults.{op_key, op_value};
+ghost use Rattle.tcc_reads.specs.Sources.{name_cmp};
 ghost use Rattle.tcc_reads.specs.Verdicts.{held, is_in, write_judgement, read_judgement, op_judgement, fault_in, source_in, IsOwn, AreOwnIn, AreVisibleWrites, faults_found, sources_found};
 
 use crate::standing::Standing;
@@ -66,18 +68,18 @@ fn read_judgement(standing: &Standing<'_>, writer: Option<&Writer>) -> Judgement
     }
 }
 
-/// Of an operation at a place of its transaction, from 1, where `own` is the latest own write of its key. Where no value
-/// was written twice, writes need no look-up.
+/// Of an operation at a place of its transaction, from 1, where `own` has the latest own write of each key. Where no
+/// value was written twice, writes need no look-up.
 fn judgement_of(
     writers: &Writers,
     distinct: bool,
     standing: &Standing<'_>,
     place: u32,
     op: Op,
-    own: Option<u64>,
+    own: &BTreeMap<Name, u64>,
 ) -> Judgement
     requires { distinct ≡ true → IsOwn writers.now standing.now place op }
-    ensures { result ≡ op_judgement (held writers.now) standing.now place op own }
+    ensures { result ≡ op_judgement (held writers.now) standing.now place op (tree.get name_cmp own.now (op_key op)) }
 {
     match op {
         Op::Put { key, value } => {
@@ -91,9 +93,9 @@ fn judgement_of(
             if !standing.txn.committed() {
                 return Judgement::Silent;
             }
-            match own {
+            match own.get(&key) {
                 Some(written) => {
-                    if written == value {
+                    if *written == value {
                         Judgement::Silent
                     } else {
                         Judgement::Faulty(ReadFaultKind::BrokenInternal)
@@ -192,8 +194,7 @@ pub(crate) fn judge(
     let mut reads = Vec::new(alloc);
     for (before, op) in ops.iter().enumerate() {
         let place = before as u32 + 1;
-        let written = own.get(&key_of(op)).copied();
-        let judgement = judgement_of(writers, distinct, standing, place, *op, written);
+        let judgement = judgement_of(writers, distinct, standing, place, *op, &own);
         note(standing, place, op, judgement, faults, &mut reads)?;
         put_own(&mut own, *op)?;
     }

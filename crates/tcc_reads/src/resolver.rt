@@ -27,23 +27,23 @@ fn written_keys(alloc: Global, ops: &[Op]) -> Result<Vec<Name>, AllocError>
             keys.push(*key)?;
         }
     }
-    sorted_once(alloc, &keys)
+    Ok(sorted_once(keys))
 }
 
 /// A committed transaction with its external reads.
-fn node(alloc: Global, standing: &Standing<'_>, reads: &[(Name, u32)]) -> Result<Node, AllocError>
+fn node(alloc: Global, standing: &Standing<'_>, reads: Vec<(Name, u32)>) -> Result<Node, AllocError>
     ensures { IfOk result (λ node. node ≡ record {
       owner = standing.now.stand.session;
       place = standing.now.stand.place;
       writes = writes_of standing.now.stand;
-      reads = sorted_once pair_cmp reads.now;
+      reads = sorted_once pair_cmp reads.items;
     }) }
 {
     Ok(Node {
         owner: standing.session,
         place: standing.place,
         writes: written_keys(alloc, standing.txn.ops())?,
-        reads: sorted_once(alloc, reads)?,
+        reads: sorted_once(reads),
     })
 }
 
@@ -61,7 +61,7 @@ fn examine_one(
 {
     let reads = judge(alloc, &first.writers, first.distinct, standing, faults)?;
     if standing.txn.committed() {
-        nodes.push(node(alloc, standing, &reads)?)?;
+        nodes.push(node(alloc, standing, reads)?)?;
     }
     Ok(())
 }
