@@ -1,7 +1,8 @@
 #!/usr/bin/env python3
-"""All tests: the merge gate, which proves everything from nothing, and then the rows on the program that it built.
+"""All tests: the merge gate, which proves everything from nothing, and then the rows and the refused allocations on
+the program that it built.
 
-The last line is `N passed, M failed`, the sum of both; the status is 0 only where both passed.
+The last line is `N passed, M failed`, the sum of all; the status is 0 only where all passed.
 """
 import pathlib
 import re
@@ -41,8 +42,9 @@ def main():
     if failed:
         print("the rows were not run: the gate comes first")
     else:
-        more, failed = counts([sys.executable, "tests/rows/run.py"])
-        passed += more
+        for test in ("tests/rows/run.py", "tests/memory/run.py"):
+            more, less = counts([sys.executable, test])
+            passed, failed = passed + more, failed + less
     print("%d passed, %d failed" % (passed, failed), flush=True)
     return 1 if failed else 0
 
