@@ -3,7 +3,3 @@ pub mod Texts
 pub mod Gathered
 pub mod Answers
 pub mod Halts
-pub mod Precedence
-pub mod Numbering
-pub mod Reachability
-pub mod CommitOrder

@@ -12,6 +12,7 @@ use crate::status::Status;
 use crate::text::Text;
 use crate::texts;
 use std::alloc::Global;
+use std::thread::Threads;
 use tcc_graph::Graph;
 use tcc_reads::{ReadFault, ResolveFault, resolve};
 use tcc_txn::{NoMemory, RowFault, RowFaultKind, Snapshot};
@@ -83,21 +84,29 @@ fn consistent_answer(alloc: Global, graph: &Graph, order: &[u32]) -> Result<Answ
     })
 }
 
-fn history_answer(alloc: Global, graph: &Graph) -> Result<Answer, NoMemory>
+fn history_answer(
+    rt: &(impl Threads + Sync),
+    alloc: Global,
+    graph: &Graph,
+) -> Result<Answer, NoMemory>
     ensures { IfOk result (λ a. IsHistoryAnswer graph.now a) }
 {
-    match commit_order(alloc, graph)? {
+    match commit_order(rt, alloc, graph)? {
         Some(order) => consistent_answer(alloc, graph, &order),
         None => fixed_answer(alloc, b"inconsistent\n", Status::Anomaly),
     }
 }
 
 /// The answer for a snapshot: its read faults, a commit order, or that there is none.
-pub fn snapshot_answer(alloc: Global, snapshot: &Snapshot) -> Result<Answer, NoMemory>
+pub fn snapshot_answer(
+    rt: &(impl Threads + Sync),
+    alloc: Global,
+    snapshot: &Snapshot,
+) -> Result<Answer, NoMemory>
     ensures { IfOk result (λ a. IsSnapshotAnswer snapshot.now a) }
 {
     match resolve(alloc, snapshot) {
-        Ok(resolved) => history_answer(alloc, &Graph::build(alloc, &resolved)?),
+        Ok(resolved) => history_answer(rt, alloc, &Graph::build(alloc, &resolved)?),
         Err(ResolveFault::Reads(faults)) => unresolved_answer(alloc, &faults),
         Err(ResolveFault::NoMemory) => Err(NoMemory),
     }

@@ -14,6 +14,7 @@ use crate::status::Status;
 use crate::write::write_text;
 use std::alloc::Global;
 use std::io::{Read, Write};
+use std::thread::Threads;
 use tcc_txn::{Item, NoMemory, Rows, Snapshot};
 
 /// What the sessions finished up to the end of the input.
@@ -34,22 +35,30 @@ fn gather<R: Read + Drop>(alloc: Global, reader: R) -> Result<Gathered, Halt>
 }
 
 /// The answer for all that the sessions finished.
-fn gathered_answer(alloc: Global, gathered: Gathered) -> Result<Answer, NoMemory>
+fn gathered_answer(
+    rt: &(impl Threads + Sync),
+    alloc: Global,
+    gathered: Gathered,
+) -> Result<Answer, NoMemory>
     ensures { IfOk result (λ a. (s : Sessions) × AreParts gathered s × IsSnapshotAnswer s a) }
 {
     match Snapshot::new(gathered.into_parts(alloc)?) {
-        Ok(snapshot) => snapshot_answer(alloc, &snapshot),
+        Ok(snapshot) => snapshot_answer(rt, alloc, &snapshot),
         // The rows keep the limits of a snapshot, so only memory can be wanting.
         Err(_) => Err(NoMemory),
     }
 }
 
 /// The answer for the bytes of the reader.
-fn input_answer<R: Read + Drop>(alloc: Global, reader: R) -> Result<Answer, NoMemory>
+fn input_answer<R: Read + Drop>(
+    rt: &(impl Threads + Sync),
+    alloc: Global,
+    reader: R,
+) -> Result<Answer, NoMemory>
     ensures { IfSome (R.remaining reader) (λ text. IfOk result (λ a. IsInputAnswer (answers_of text) a ⊎ IsReadFailure a)) }
 {
     match gather(alloc, reader) {
-        Ok(gathered) => gathered_answer(alloc, gathered),
+        Ok(gathered) => gathered_answer(rt, alloc, gathered),
         Err(Halt::Seal) => fixed_answer(alloc, b"refused\n", Status::RowFault),
         Err(Halt::Fault(fault)) => fault_answer(alloc, &fault),
         Err(Halt::NoMemory) => Err(NoMemory),
@@ -67,10 +76,15 @@ pub fn print<W: Write>(out: &mut W, text: &[u8], status: Status) -> u8
 }
 
 /// Writes the answer for the bytes of the reader, and gives the status of the run.
-pub fn run_explain<R: Read + Drop, W: Write>(alloc: Global, reader: R, out: &mut W) -> u8
+pub fn run_explain<R: Read + Drop, W: Write>(
+    rt: &(impl Threads + Sync),
+    alloc: Global,
+    reader: R,
+    out: &mut W,
+) -> u8
     ensures { IfSome (R.remaining reader) (λ text. IsRun text (W.contents out.old) (W.contents out.new) result) }
 {
-    match input_answer(alloc, reader) {
+    match input_answer(rt, alloc, reader) {
         Ok(answer) => print(out, answer.text.bytes(), answer.status),
         Err(NoMemory) => print(out, b"memory\n", Status::Memory),
     }

@@ -8,9 +8,6 @@ mod commit_order;
 mod explain;
 mod finished;
 mod halt;
-mod numbering;
-mod precedence;
-mod reachability;
 mod status;
 mod text;
 mod texts;
@@ -25,7 +22,7 @@ use std::process::ExitCode;
 fn main(rt: HostRuntime) -> ExitCode {
     let mut out = io::writer(&rt);
     let code = match command_line::read(&rt) {
-        Ok(Request::Explain) => run_explain(rt.alloc(), rt.stdin(), &mut out),
+        Ok(Request::Explain) => run_explain(&rt, rt.alloc(), rt.stdin(), &mut out),
         Err(Status::Memory) => print(&mut out, b"memory\n", Status::Memory),
         Err(status) => status.code(),
     };

@@ -2,6 +2,7 @@ use super::*;
 use std::io::{self, ErrorKind};
 use std::process::Abort;
 use std::test::Fail;
+use std::thread::Threads;
 
 const LONG_FORK: &str = "a,begin\na,w,x,1\na,commit\nb,begin\nb,w,y,1\nb,commit\n\
     c,begin\nc,r,x,1\nc,r,y,0\nc,commit\nd,begin\nd,r,x,0\nd,r,y,1\nd,commit\n";
@@ -17,9 +18,15 @@ const ABORTED_READ_TEXT: &str =
     "unresolved: 2 faults\nAborted b/1 op 1 x 1\nThinAir b/1 op 2 z 7\n";
 
 // The records give this text and this status.
-fn answers(rt: &impl Abort, alloc: Global, records: &str, text: &str, status: u8) {
+fn answers(
+    rt: &(impl Abort + Threads + Sync),
+    alloc: Global,
+    records: &str,
+    text: &str,
+    status: u8,
+) {
     let mut out = Vec::new(alloc);
-    let code = run_explain(alloc, records.as_bytes(), &mut out);
+    let code = run_explain(rt, alloc, records.as_bytes(), &mut out);
     assert_eq!(rt; out.as_slice(), text.as_bytes(), "for {records:?}");
     assert_eq!(rt; code, status, "for {records:?}");
 }
@@ -201,7 +208,7 @@ fn reader_fails(rt: HostRuntime) -> Result<(), Fail> {
     let reader = Broken {
         bytes: &STALE.as_bytes()[..12],
     };
-    let code = run_explain(alloc, reader, &mut out);
+    let code = run_explain(&rt, alloc, reader, &mut out);
     assert_eq!(rt; out.as_slice(), b"row 2: Read\n".as_slice());
     assert_eq!(rt; code, 6);
     Ok(())
@@ -237,7 +244,7 @@ impl Write for Full {
 
 // The answer goes out up to the byte that is refused, whatever the refusal is.
 fn fails_at_each_write(
-    rt: &impl Abort,
+    rt: &(impl Abort + Threads + Sync),
     alloc: Global,
     records: &str,
     text: &str,
@@ -250,7 +257,7 @@ fn fails_at_each_write(
             room,
             kind,
         };
-        let code = run_explain(alloc, records.as_bytes(), &mut out);
+        let code = run_explain(rt, alloc, records.as_bytes(), &mut out);
         assert_eq!(rt; out.taken.as_slice(), &text.as_bytes()[..room]);
         let wanted = if room < text.len() { 6 } else { status };
         assert_eq!(rt; code, wanted);
