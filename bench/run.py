@@ -4,9 +4,10 @@
     run.py [--runs N] [--tcc PATH] [--keep FOLDER]
 
 For each history of histories.py: medians of the wall time and the peak memory of `tcc explain`, beside the time
-that csv alone needs for the same records (`csv_count`), and that of the first stages (`tcc_bench_stages`): reading
-the records, resolving what they hold, building its graph, each without the stages before it and beside the one
-before it. All take turns. Builds what isn't built. Peak memory is never below that of this script, about 15 MB.
+that csv alone needs for the same records (`csv_count`), and that of the stages (`tcc_bench_stages`): reading the
+records, resolving what they hold, building its graph, working out distances, prices and the order, each without the
+stages before it, the first three beside the one before it. All take turns. Builds what isn't built. Peak memory is
+never below that of this script, about 15 MB.
 """
 import argparse
 import os
@@ -19,6 +20,7 @@ import time
 
 HERE = pathlib.Path(__file__).resolve().parent
 TOP = HERE.parent
+STAGES = ("rows", "resolve", "graph", "near", "derive", "order")
 
 
 def built(crate):
@@ -43,10 +45,14 @@ def measured(words, history, answer):
     return seconds, used.ru_maxrss / 1000, os.waitstatus_to_exitcode(status)
 
 
+def milliseconds(seconds):
+    return "%.1f" % (seconds * 1000)
+
+
 def row(programs, history, runs, answer):
     """The cells of one history's line: medians over the runs, each program in turn."""
     stages = [[programs["csv_count"]]]
-    stages += [[programs["tcc_bench_stages"], stage] for stage in ("rows", "resolve", "graph")]
+    stages += [[programs["tcc_bench_stages"], stage] for stage in STAGES]
     times, explained = [[] for _ in stages], []
     for _ in range(runs):
         for stage, seconds in zip(stages, times):
@@ -56,14 +62,15 @@ def row(programs, history, runs, answer):
         explained.append(measured([programs["tcc"], "explain"], history, answer))
     with open(answer) as text:
         first = text.readline().strip()
-    alone, rows, resolved, built_graph = map(statistics.median, times)
-    resolving, building = max(resolved - rows, 0), max(built_graph - resolved, 0)
+    alone, rows, *later = map(statistics.median, times)
+    resolving, building, *searching = [max(now - before, 0) for before, now in zip([rows] + later, later)]
     wall, peak = (statistics.median(run[i] for run in explained) for i in (0, 1))
     statuses = sorted({run[2] for run in explained})
-    milliseconds = ["%.1f" % (seconds * 1000) for seconds in (alone, rows, resolving, building, wall)]
-    return (history.stem, records, milliseconds[0], milliseconds[1], "%.1f" % (rows / alone), milliseconds[2],
-            "%.1f" % (resolving / rows), milliseconds[3], "%.1f" % (building / max(resolving, 1e-9)),
-            milliseconds[4], "%.1f" % peak, "/".join(map(str, statuses)), first[:40])
+    cells = [history.stem, records, milliseconds(alone), milliseconds(rows), "%.1f" % (rows / alone)]
+    cells += [milliseconds(resolving), "%.1f" % (resolving / rows)]
+    cells += [milliseconds(building), "%.1f" % (building / max(resolving, 1e-9))]
+    cells += [milliseconds(seconds) for seconds in searching + [wall]]
+    return cells + ["%.1f" % peak, "/".join(map(str, statuses)), first[:40]]
 
 
 def main():
@@ -75,7 +82,7 @@ def main():
     programs = {crate: built(crate) for crate in ("csv_count", "tcc_bench_stages")}
     programs["tcc"] = os.path.abspath(asked.tcc) if asked.tcc else built("tcc")
     table = [("history", "records", "csv ms", "rows ms", "/csv", "resolve ms", "/rows", "graph ms", "/resolve",
-              "tcc ms", "peak MB", "status", "answer")]
+              "near ms", "derive ms", "order ms", "tcc ms", "peak MB", "status", "answer")]
     with tempfile.TemporaryDirectory() as temporary:
         folder = asked.keep or pathlib.Path(temporary)
         folder.mkdir(parents=True, exist_ok=True)

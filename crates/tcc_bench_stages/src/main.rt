@@ -1,12 +1,17 @@
 //! Runs the first stages of an explanation alone, so that a script can time each of them: `rows` reads the records
-//! of standard input, `resolve` resolves their snapshot too, and `graph` builds its graph too.
+//! of standard input, `resolve` resolves their snapshot too, `graph` builds its graph too, `near` works out its
+//! distances too, `derive` its prices, and `order` its first commit order.
 #![tactic(auto)]
 
 use std::alloc::Global;
 use std::env;
 use std::io::Read;
 use std::process::ExitCode;
+use std::thread::Threads;
+use tcc_derive::derive;
 use tcc_graph::Graph;
+use tcc_near::near;
+use tcc_order::order;
 use tcc_reads::resolve;
 use tcc_txn::{Item, Name, Rows, Snapshot, Txn};
 
@@ -16,6 +21,9 @@ enum Stage {
     Rows,
     Resolve,
     Graph,
+    Near,
+    Derive,
+    Order,
 }
 
 /// Adds a transaction to those of its session.
@@ -44,8 +52,30 @@ fn gather<R: Read + Drop>(alloc: Global, reader: R) -> Option<Vec<(Name, Vec<Txn
     Some(parts)
 }
 
+/// Goes as far as asked beyond the graph, and says how many transactions there are, or how many were ordered.
+fn search(rt: &(impl Threads + Sync), alloc: Global, graph: &Graph, stage: Stage) -> Option<u32> {
+    if stage == Stage::Graph {
+        return Some(graph.count());
+    }
+    let near = near(rt, alloc, graph).ok()?;
+    if stage == Stage::Near {
+        return Some(graph.count());
+    }
+    let prices = derive(rt, alloc, graph, &near).ok()?;
+    if stage == Stage::Derive {
+        return Some(prices.count());
+    }
+    let ordered = order(alloc, &prices).ok()?;
+    u32::try_from(ordered.map_or(0, |numbers| numbers.len())).ok()
+}
+
 /// Goes as far as asked, and says how many transactions there are at the end.
-fn run<R: Read + Drop>(alloc: Global, reader: R, stage: Stage) -> Option<u32> {
+fn run<R: Read + Drop>(
+    rt: &(impl Threads + Sync),
+    alloc: Global,
+    reader: R,
+    stage: Stage,
+) -> Option<u32> {
     let snapshot = Snapshot::new(gather(alloc, reader)?).ok()?;
     if stage == Stage::Rows {
         return Some(snapshot.sessions());
@@ -54,7 +84,8 @@ fn run<R: Read + Drop>(alloc: Global, reader: R, stage: Stage) -> Option<u32> {
     if stage == Stage::Resolve {
         return u32::try_from(resolved.places().len()).ok();
     }
-    Some(Graph::build(alloc, &resolved).ok()?.count())
+    let graph = Graph::build(alloc, &resolved).ok()?;
+    search(rt, alloc, &graph, stage)
 }
 
 fn stage_of(rt: &HostRuntime) -> Option<Stage> {
@@ -63,6 +94,9 @@ fn stage_of(rt: &HostRuntime) -> Option<Stage> {
         "rows" => Some(Stage::Rows),
         "resolve" => Some(Stage::Resolve),
         "graph" => Some(Stage::Graph),
+        "near" => Some(Stage::Near),
+        "derive" => Some(Stage::Derive),
+        "order" => Some(Stage::Order),
         _ => None,
     }
 }
@@ -71,7 +105,7 @@ fn main(rt: HostRuntime) -> ExitCode {
     let Some(stage) = stage_of(&rt) else {
         return ExitCode::from(64);
     };
-    let Some(count) = run(rt.alloc(), rt.stdin(), stage) else {
+    let Some(count) = run(&rt, rt.alloc(), rt.stdin(), stage) else {
         return ExitCode::from(1);
     };
     match println!(rt; "{count}") {
