@@ -42,15 +42,15 @@ impl Marks {
         &self.marks
     }
 
-    /// Marks what is marked in the other marks of the same count too.
-    pub(crate) fn merge(&mut self, other: &Marks)
+    /// Marks what these marks of the same count have too.
+    pub(crate) fn merge(&mut self, other: &[bool])
         requires { length self.old ≡ length other.now }
         ensures same { length self.new ≡ length self.old }
         ensures each { (k : ℕ) → slice_index_or self.new k false
             ≡ (slice_index_or self.old k false || slice_index_or other.now k false) }
     {
         for (place, mark) in self.marks.iter_mut().enumerate() {
-            *mark |= other.marks[place];
+            *mark |= other[place];
         }
     }
 }

@@ -39,7 +39,7 @@ fn spread(marks: &mut Marks, table: &[Marks], steps: &[u16], distance: u16)
 {
     for (place, step) in steps.iter().enumerate() {
         if *step == distance {
-            marks.merge(&table[place]);
+            marks.merge(table[place].as_slice());
         }
     }
 }
