@@ -1,0 +1,6 @@
+pub mod PairLemmas
+pub mod Walks
+pub mod LevelLemmas
+pub mod RowLemmas
+pub mod Written
+pub mod ClockLemmas

@@ -1,16 +1,83 @@
-//! The search for what stands behind each transaction.
-ghost use Rattle.std.specs.Prelude.{IfOk};
-ghost use Rattle.tcc_near.specs.Clocks.{IsClocksOf};
+//! What stands behind each transaction: the clocks, from the distances.
+ghost use Rattle.std.specs.Prelude.{◌≡◌, ◌<◌, IfOk, MatchOption, max, slice_index, slice_set};
+ghost use Rattle.tcc_reads.specs.History.{count, owner, place};
+ghost use Rattle.tcc_graph.specs.Walks.{IsReached};
+ghost use Rattle.tcc_near.specs.Distances.{IsNearOf};
+ghost use Rattle.tcc_near.specs.Clocks.{IsClock, IsClocksOf};
 
-use crate::Clocks;
-use std::alloc::Global;
+use crate::clock::Clock;
+use crate::{Clocks, Near, near};
+use rayon::prelude::*;
+use std::alloc::{AllocError, Global};
 use std::thread::Threads;
 use tcc_graph::Graph;
 use tcc_txn::NoMemory;
+
+/// The session and the place of `b`, where `t` is reached from it.
+fn behind(graph: &Graph, near: &Near, t: u32, b: u32) -> Option<(u32, u32)>
+    requires near { IsNearOf graph.now near.now }
+    requires transaction { t < count graph.now }
+    requires committed { 0 < b }
+    requires below { b < count graph.now }
+    ensures { MatchOption result (IsReached graph.now b t → ⊥)
+        (λ at. IsReached graph.now b t × (at.0 ≡ owner graph.now b) × (at.1 ≡ place graph.now b)) }
+{
+    near.least(b, t)?;
+    graph.at(b)
+}
+
+/// Raises the last place of a session to this one.
+fn raise(places: &mut [u32], session: u32, place: u32)
+    ensures { places.new ≡ slice_set places.old session (max place (slice_index places.old session)) }
+{
+    let session = session as usize;
+    if session < places.len() {
+        places[session] = place.max(places[session]);
+    }
+}
+
+/// The last place of each session behind one transaction.
+fn clock(alloc: Global, graph: &Graph, near: &Near, t: u32) -> Result<Clock, AllocError>
+    requires near { IsNearOf graph.now near.now }
+    requires transaction { t < count graph.now }
+    ensures { IfOk result (IsClock graph.now t) }
+{
+    let mut places = vec![in alloc; 0; graph.sessions().len()]?;
+    for b in 1..graph.count() {
+        if let Some((session, place)) = behind(graph, near, t, b) {
+            raise(&mut places, session, place);
+        }
+    }
+    Ok(Clock::new(places))
+}
+
+/// The last places behind each transaction.
+fn rows(
+    rt: &(impl Threads + Sync),
+    alloc: Global,
+    graph: &Graph,
+    near: &Near,
+) -> Result<Vec<Clock>, AllocError>
+    requires { IsNearOf graph.now near.now }
+    ensures { IfOk result (λ rows. IsClocksOf graph.now rows.items) }
+{
+    (0..graph.count())
+        .into_par_iter()
+        .map(
+            |t: u32| -> Result<Clock, AllocError>
+                requires { (t < count graph.now) × IsNearOf graph.now near.now }
+                ensures { IfOk result (IsClock graph.entry.now t) }
+            { clock(alloc, graph, near, t) },
+        )
+        .with_min_len(1)
+        .collect::<Result<Vec<Clock>, AllocError>>(rt, alloc)?
+}
 
 /// The clocks of a graph.
 pub fn clocks(rt: &(impl Threads + Sync), alloc: Global, graph: &Graph) -> Result<Clocks, NoMemory>
     ensures { IfOk result (IsClocksOf graph.now) }
 {
-    Err(NoMemory)
+    let near = near(rt, alloc, graph)?;
+    let rows = rows(rt, alloc, graph, &near)?;
+    Ok(Clocks::new(rows))
 }

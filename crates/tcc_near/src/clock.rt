@@ -18,6 +18,15 @@ impl Model for Clock {
     ghost view = { λ c. c.places.items };
 }
 
+impl Clock {
+    /// The clock with these places.
+    pub(crate) fn new(places: Vec<u32>) -> Clock
+        ensures { result ≡ places.items }
+    {
+        Clock { places }
+    }
+}
+
 /// Of each transaction of a graph and each session, the last place from which the transaction is reached.
 #[derive(Drop)]
 pub struct Clocks {
@@ -33,6 +42,13 @@ impl Model for Clocks {
 }
 
 impl Clocks {
+    /// The clocks with these rows.
+    pub(crate) fn new(rows: Vec<Clock>) -> Clocks
+        ensures { result ≡ rows.items }
+    {
+        Clocks { rows }
+    }
+
     /// The greatest place of a transaction of the session from which `t` is reached, 0 for none.
     pub fn last(&self, t: u32, session: u32) -> u32
         requires transaction { t < length self.now }

@@ -1,6 +1,6 @@
 //! The least number of steps of a causal walk from each transaction to each.
 ghost use Rattle.std.specs.Prelude.{◌≡◌, ◌<◌, length};
-ghost use Rattle.tcc_near.specs.Distances.{least, row_of};
+ghost use Rattle.tcc_near.specs.Distances.{IsSquare, least, row_of};
 
 use std::marker::Model;
 
@@ -21,6 +21,15 @@ impl Model for Row {
     ghost view = { λ r. r.steps.items };
 }
 
+impl Row {
+    /// The row with these numbers of steps.
+    pub(crate) fn new(steps: Vec<u16>) -> Row
+        ensures { result ≡ steps.items }
+    {
+        Row { steps }
+    }
+}
+
 /// The least number of steps of a causal walk from each transaction of a graph to each, itself among them.
 #[derive(Drop)]
 pub struct Near {
@@ -39,6 +48,14 @@ impl Model for Near {
 }
 
 impl Near {
+    /// The table with these rows.
+    pub(crate) fn new(rows: Vec<Row>) -> Near
+        requires { IsSquare (length rows.items) rows.items }
+        ensures { result ≡ rows.items }
+    {
+        Near { rows }
+    }
+
     /// The least number of steps of a walk from `a` to `b`, of one step at least; none where no walk leads there.
     pub fn least(&self, a: u32, b: u32) -> Option<u32>
         requires from { a < length self.now }

@@ -5,9 +5,14 @@
 mod behind;
 mod clock;
 mod distances;
+mod marks;
+mod pairs;
 mod search;
 
 pub use behind::clocks;
 pub use clock::Clocks;
 pub use distances::{NO_WALK, Near};
 pub use search::near;
+
+#[cfg(test)]
+mod tests;

@@ -1,0 +1,56 @@
+-- Causal pairs and the steps that they are made of.
+use Rattle.std.proofs.Common.{◌≡◌, ◌<◌, ◌==◌, ℕ, Bool, true, ◌&&◌, ◌||◌, ◌⊎◌, inl, inr, List, [], ◌∷◌, refl, arith, nat_lt}
+use Rattle.std.specs.List.{Contains}
+use Rattle.std.proofs.lemmas.Bool.{or_cases, and_parts, and_from, or_left, or_right, ltb-true, lt-ltb, false≢true}
+use Rattle.tcc_reads.specs.History.{History, count, owner, place}
+use Rattle.tcc_graph.specs.Relations.{session_pair, IsSessionPair, reads_from, IsReadsPair, has_items, causal_pair, IsCausalPair}
+use Rattle.tcc_graph.specs.Walks.{step_from, step_to, IsStep}
+use Rattle.tcc_graph.specs.declared.step.Step.{Step}
+use Rattle.tcc_graph.specs.declared.step.Step.TheVariants as step
+
+-- the first of some items
+first_item : {X : Type 0} (xs : List X) → has_items xs ≡ true → (x : X) × Contains xs x
+first_item [] h = absurd (false≢true h)
+first_item (x ∷ xs) h = (x, (0, omega arith, refl))
+
+some_items : {X : Type 0} (xs : List X) (x : X) → Contains xs x → has_items xs ≡ true
+some_items [] x (k, l, e) = absurd (omega arith)
+some_items (y ∷ xs) x h = refl
+
+pair_kinds : (h : History) (a b : ℕ) → causal_pair h a b ≡ true → IsCausalPair h a b
+pair_kinds h a b p = go (or_cases (session_pair h a b) (nat_lt a (count h) && nat_lt b (count h) && has_items (reads_from h a b)) p)
+  where
+    reads : ((nat_lt a (count h) && nat_lt b (count h)) ≡ true) × (has_items (reads_from h a b) ≡ true) → IsCausalPair h a b
+    reads w =
+        let bounds = and_parts (nat_lt a (count h)) (nat_lt b (count h)) w.0 in
+        let first = first_item (reads_from h a b) w.1 in
+        inr (first.0, (ltb-true a (count h) bounds.0, ltb-true b (count h) bounds.1, first.1))
+
+    go : (session_pair h a b ≡ true) ⊎ ((nat_lt a (count h) && nat_lt b (count h) && has_items (reads_from h a b)) ≡ true) → IsCausalPair h a b
+    go (inl session) = inl session
+    go (inr r) = reads (and_parts (nat_lt a (count h) && nat_lt b (count h)) (has_items (reads_from h a b)) r)
+
+step_of_kind : (h : History) (a b : ℕ) → IsCausalPair h a b → (s : Step) × (step_from s ≡ a) × (step_to s ≡ b) × IsStep h s
+step_of_kind h a b (inl session) = (step.Session a b, refl, refl, session)
+step_of_kind h a b (inr (x, reads)) = (step.Reads a b x, refl, refl, reads)
+
+-- a causal pair is a step
+pub step_from_pair : (h : History) (a b : ℕ) → causal_pair h a b ≡ true → (s : Step) × (step_from s ≡ a) × (step_to s ≡ b) × IsStep h s
+step_from_pair h a b p = step_of_kind h a b (pair_kinds h a b p)
+
+-- a step is a causal pair
+pub pair_from_step : (h : History) (s : Step) → IsStep h s → causal_pair h (step_from s) (step_to s) ≡ true
+pair_from_step h (step.Session a b) p = or_left _ _ p
+pair_from_step h (step.Reads a b x) (from, to, there) =
+    or_right _ _ (and_from _ _ (and_from _ _ (lt-ltb a (count h) from) (lt-ltb b (count h) to)) (some_items (reads_from h a b) x there))
+
+-- the ends of a causal pair are transactions
+pub pair_below : (h : History) (a b : ℕ) → causal_pair h a b ≡ true → (a < count h) × (b < count h)
+pair_below h a b p = go (pair_kinds h a b p)
+  where
+    bounds : ((nat_lt a (count h) && nat_lt b (count h)) ≡ true) × ((((a == 0) && nat_lt 0 b) || (nat_lt 0 a && nat_lt 0 b && (owner h a == owner h b) && nat_lt (place h a) (place h b))) ≡ true) → (a < count h) × (b < count h)
+    bounds w = let both = and_parts (nat_lt a (count h)) (nat_lt b (count h)) w.0 in (ltb-true a (count h) both.0, ltb-true b (count h) both.1)
+
+    go : IsCausalPair h a b → (a < count h) × (b < count h)
+    go (inl session) = bounds (and_parts _ _ session)
+    go (inr (x, reads)) = (reads.0, reads.1)

@@ -1,0 +1,41 @@
+-- Rows worked out one by one.
+use Rattle.std.proofs.Common.{◌≡◌, ◌<◌, ◌+◌, ℕ, zero, suc, List, [], ◌∷◌, length, map, get_or, refl, sym, ◌∙◌, ap, arith, subst, zero-add}
+use Rattle.std.specs.Prelude.{Ok, Err, IfOk, MatchResult}
+use Rattle.std.specs.declared.result.Result.{Result}
+use Rattle.std.specs.List.{AllZip, range_with_len}
+use Rattle.std.proofs.lemmas.List.{length-map}
+use Rattle.std.proofs.lemmas.List.FromFn.{get_or-range_with_len, length-range_with_len}
+use Rattle.std.proofs.lemmas.Slice.Zip.{AllZip-long}
+
+module _ {V : Type 0} (E : Type 0) (P : ℕ → V → Type 0) where
+  abbrev values : List V → List (Result V E)
+  values ys = map Ok ys
+
+  zipped : (xs : List ℕ) (ys : List V) (i : ℕ) (d : V) → AllZip (λ x r. IfOk r (P x)) xs (values ys) → i < length ys → P (get_or xs i 0) (get_or ys i d)
+  zipped [] [] i d h l = absurd (omega arith)
+  zipped [] (y ∷ ys) i d h l = absurd h
+  zipped (x ∷ xs) [] i d h l = absurd (omega arith)
+  zipped (x ∷ xs) (y ∷ ys) zero d h l = h.0
+  zipped (x ∷ xs) (y ∷ ys) (suc i) d h l = zipped xs ys i d h.1 (omega arith)
+
+  -- what a call gave for each number below n, where each call gave a value
+  pub each_given : (n : ℕ) (xs : List ℕ) (results : List (Result V E)) (items : List V) → xs ≡ range_with_len 0 n → AllZip (λ x r. IfOk r (P x)) xs results
+      → ((ys : List V) × (results ≡ map Ok ys) × (items ≡ ys)) → (length items ≡ n) × ((i : ℕ) (d : V) → i < n → P i (get_or items i d))
+  each_given n xs results items numbers given (ys, all, same) = (long, at)
+    where
+      zip : AllZip (λ x r. IfOk r (P x)) xs (values ys)
+      zip = subst (λ (rs : List (Result V E)). AllZip (λ x r. IfOk r (P x)) xs rs) all given
+
+      long : length items ≡ n
+      long = ap length same ∙ (sym (length-map ys Ok) ∙ (AllZip-long (λ x r. IfOk r (P x)) xs (values ys) zip ∙ (ap length numbers ∙ length-range_with_len 0 n)))
+
+      at : (i : ℕ) (d : V) → i < n → P i (get_or items i d)
+      at i d l =
+          let number : get_or xs i 0 ≡ i = ap (λ ns. get_or ns i 0) numbers ∙ (get_or-range_with_len 0 n i 0 l ∙ zero-add i) in
+          let is = zipped xs ys i d zip (omega (arith, ap length same, long)) in
+          subst (λ (j : ℕ). P j (get_or items i d)) number (subst (λ (zs : List V). P (get_or xs i 0) (get_or zs i d)) (sym same) is)
+
+-- what follows of a value where there is one
+pub where_ok : {T E : Type 0} (r : Result T E) (P Q : T → Type 0) (R : E → Type 0) → MatchResult r P R → ((v : T) → P v → Q v) → IfOk r Q
+where_ok (Ok v) P Q R h f = f v h
+where_ok (Err e) P Q R h f = tt

@@ -1,0 +1,11 @@
+use Rattle.std.proofs.Common.{◌≡◌, ◌≤◌, ◌+◌, length}
+use Rattle.tcc_reads.specs.History.{History}
+use Rattle.tcc_near.specs.Levels.{IsPairTable, IsSearched, IsMarked, unnumbered}
+use Rattle.tcc_near.proofs.search.row.Given as goal
+
+abbrev pub invariant-loop-before : goal.invariant-loop-before
+invariant-loop-before l =
+    (length l.steps.items ≡ length l.table)
+    × (length l.marks ≡ length l.table)
+    × (unnumbered l.steps.items + l.before ≤ length l.table)
+    × ((h : History) → IsPairTable h l.table → IsSearched h l.source l.before l.steps.items × IsMarked h l.source (l.before + 1) l.marks)

@@ -1,0 +1,30 @@
+use Rattle.std.proofs.Common.{◌≡◌, ◌<◌, ◌≤◌, ◌-◌, ℕ, List, [], length, refl, sym, ◌∙◌, ap, arith, subst}
+use Rattle.std.specs.List.{All, range_with_len}
+use Rattle.rayon.specs.Numbers.{nat_range}
+use Rattle.rayon.proofs.ToStd.{nat_range-All}
+use Rattle.std.specs.declared.alloc.AllocError.{AllocError}
+use Rattle.tcc_reads.specs.History.{History, count}
+use Rattle.tcc_near.specs.Distances.{IsNearOf}
+use Rattle.tcc_near.specs.Levels.{IsPairTable, IsRow}
+use Rattle.tcc_near.proofs.LevelLemmas.{near_from_rows}
+use Rattle.tcc_near.proofs.RowLemmas.{each_given, where_ok}
+use Rattle.tcc_near.proofs.search.rows.Goals as goal
+
+pub collect-requires-clause-ready : goal.collect-requires-clause-ready
+collect-requires-clause-ready g c κs within =
+    let ends = c.into_par_iter.ensures in
+    let pairs = c.args.table.now in
+    let inside = nat_range-All (λ i. (i < length pairs) × All (λ marks. length marks ≡ length pairs) pairs × (length pairs ≤ 1024)) 0 (length pairs) (λ i low high. (high, c.requires.wide, c.requires.few)) in
+    rw (c.with_min_len.ensures.base, c.map.ensures.base, c.map.ensures.f, ends.0, ends.1) (λ k d lt. (inside k d lt, λ y p. tt))
+
+pub returns : goal.returns
+returns g c =
+    let ends = c.into_par_iter.ensures in
+    let pairs = c.args.table.now in
+    let n = length pairs in
+    let gave = c.in_ok-collect.ensures in
+    let chain = rw (c.with_min_len.ensures.base, c.map.ensures.base, c.map.ensures.f) at gave.1 in
+    let whole : n - 0 ≡ n = omega arith in
+    let numbers = chain.1 ∙ (λ i. nat_range (ends.0 i) (ends.1 i)) ∙ ap (range_with_len 0) whole in
+    where_ok c.in_ok-collect.field-0 _ _ _ gave.2 (λ v made h is.
+    near_from_rows h pairs v.items is (each_given AllocError (λ a row. (h : History) → IsPairTable h pairs → IsRow h a row) n chain.0 gave.0 v.items numbers chain.2 made))
