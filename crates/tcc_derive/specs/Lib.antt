@@ -1,2 +1,6 @@
 pub mod Prices
 pub mod Reasons
+pub mod Buckets
+pub mod KeyTables
+pub mod Lowering
+pub mod Rows

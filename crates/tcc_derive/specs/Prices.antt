@@ -1,5 +1,5 @@
 -- What derived links and links of all kinds cost, and tables of it.
-use Rattle.std.specs.Prelude.{ℕ, ◌<◌, ◌≤◌, ◌≡◌, ◌+◌, List, length, Option, None, Some}
+use Rattle.std.specs.Prelude.{ℕ, ◌<◌, ◌≤◌, ◌≡◌, ◌+◌, List, Option, None, Some}
 use Rattle.tcc_reads.specs.History.{History, count}
 use Rattle.tcc_graph.specs.Links.{IsReason, IsLink, link_from, link_to, link_cost}
 use Rattle.tcc_graph.specs.declared.step.Step.{Step}

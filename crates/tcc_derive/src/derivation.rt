@@ -4,6 +4,10 @@ ghost use Rattle.tcc_near.specs.Distances.{IsNearOf};
 ghost use Rattle.tcc_derive.specs.Prices.{IsPricesOf};
 
 use crate::Prices;
+use crate::costing::cost_rows;
+use crate::pricing::price_rows;
+use crate::read_table::read_table;
+use crate::write_table::write_table;
 use std::alloc::Global;
 use std::thread::Threads;
 use tcc_graph::Graph;
@@ -20,5 +24,9 @@ pub fn derive(
     requires { IsNearOf graph.now near.now }
     ensures { IfOk result (IsPricesOf graph.now) }
 {
-    Err(NoMemory)
+    let reads = read_table(alloc, graph)?;
+    let written = write_table(alloc, graph)?;
+    let prices = price_rows(rt, alloc, graph, near, &reads, &written)?;
+    let costs = cost_rows(rt, alloc, graph, &prices)?;
+    Ok(Prices::new(prices, costs))
 }

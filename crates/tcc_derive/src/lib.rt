@@ -1,9 +1,15 @@
 //! What each pair of transactions costs as a link, and the first of the cheapest reasons.
 #![tactic(auto)]
 
+mod bucket;
+mod costing;
 mod derivation;
+mod pricing;
+mod read;
+mod read_table;
 mod reasons;
 mod tables;
+mod write_table;
 
 pub use derivation::derive;
 pub use reasons::reason;

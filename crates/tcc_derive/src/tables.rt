@@ -1,6 +1,6 @@
 //! The least costs of links between transactions.
-ghost use Rattle.std.specs.Prelude.{◌≡◌, ◌<◌, ◌∷◌, [], length};
-ghost use Rattle.tcc_near.specs.Distances.{row_of, least_in};
+ghost use Rattle.std.specs.Prelude.{◌≡◌, ◌<◌, ◌≤◌, ◌∷◌, [], length};
+ghost use Rattle.tcc_near.specs.Distances.{row_of, least_in, IsSquare};
 ghost use Rattle.tcc_derive.specs.Prices.{price_at, cost_at};
 
 use std::marker::Model;
@@ -20,6 +20,22 @@ impl Model for Row {
     ghost Value = { List ℕ };
 
     ghost view = { λ r. r.costs.items };
+}
+
+impl Row {
+    /// The row of these costs.
+    pub(crate) fn new(costs: Vec<u16>) -> Row
+        ensures { result ≡ costs.items }
+    {
+        Row { costs }
+    }
+
+    /// The costs.
+    pub(crate) fn costs(&self) -> &[u16]
+        ensures { result.now ≡ self.now }
+    {
+        &self.costs
+    }
 }
 
 /// What derived links, and links of all kinds, cost at least between the transactions of a graph.
@@ -42,6 +58,16 @@ impl Model for Prices {
 }
 
 impl Prices {
+    /// The tables of these rows.
+    pub(crate) fn new(prices: Vec<Row>, costs: Vec<Row>) -> Prices
+        requires prices { IsSquare (length prices.items) prices.items }
+        requires costs { IsSquare (length prices.items) costs.items }
+        requires few { length prices.items ≤ 1024 }
+        ensures { result ≡ record { prices = prices.items; costs = costs.items } }
+    {
+        Prices { prices, costs }
+    }
+
     /// How many transactions there are, `init` among them.
     pub fn count(&self) -> u32
         ensures { result ≡ length self.now.prices }

@@ -1,0 +1,59 @@
+-- What links of all kinds cost, by the prices and the causal pairs; and tables of rows.
+use Rattle.std.proofs.Common.{ℕ, ◌<◌, ◌≤◌, ◌≡◌, inl, inr, Bool, true, false, List, get_or, Option, None, Some, refl, sym, ◌∙◌, arith}
+use Rattle.std.proofs.lemmas.Bool.{false≢true}
+use Rattle.tcc_reads.specs.History.{History, count}
+use Rattle.tcc_graph.specs.Relations.{IsSessionPair, IsReadsPair, causal_pair, IsCausalPair}
+use Rattle.tcc_graph.specs.Links.{IsReason, link_cost}
+use Rattle.tcc_graph.specs.declared.link.Link.{Link}
+use Rattle.tcc_graph.specs.declared.link.Link.TheVariants as link
+use Rattle.tcc_near.specs.Distances.{least_in}
+use Rattle.tcc_derive.specs.Prices.{IsDerived, IsLinkOf, IsPrice, IsCost}
+use Rattle.tcc_derive.specs.Lowering.{HasPairs}
+use Rattle.tcc_derive.specs.Rows.{IsPriceRow, IsCostRow}
+use Rattle.tcc_derive.proofs.Pairs.{pair_kinds, pair_from_session, pair_from_reads}
+use Rattle.tcc_derive.proofs.PriceLemmas.{derived_cost}
+
+some_cost : (l : Link) → 1 ≤ link_cost l
+some_cost (link.Session a b) = omega arith
+some_cost (link.Reads a b x) = omega arith
+some_cost (link.Derived b a x c walk) = rw (derived_cost b a x c walk) (omega arith)
+
+pair_link : (h : History) (u v : ℕ) → IsCausalPair h u v → (l : Link) × IsLinkOf h u v l × (link_cost l ≡ 1)
+pair_link h u v (inl session) = (link.Session u v, record { from = refl; to = refl; link = session }, refl)
+pair_link h u v (inr (x, reads)) = (link.Reads u v x, record { from = refl; to = refl; link = reads }, refl)
+
+link_of : (h : History) (u v : ℕ) (l : Link) → IsDerived h u v l → IsLinkOf h u v l
+link_of h u v l (x, c, walk, is, reason) = rw is (record { from = refl; to = refl; link = reason })
+
+-- where there is no causal pair, a link is derived
+derived_of : (h : History) (u v : ℕ) → causal_pair h u v ≡ false → (l : Link) → IsLinkOf h u v l → IsDerived h u v l
+derived_of h u v none (link.Session a b) w =
+    let pair : IsSessionPair h u v = rw (w.from, w.to) at w.link in
+    absurd (false≢true (sym none ∙ pair_from_session h u v pair))
+derived_of h u v none (link.Reads a b x) w =
+    let pair : IsReadsPair h u v x = rw (w.from, w.to) at w.link in
+    absurd (false≢true (sym none ∙ pair_from_reads h u v x pair))
+derived_of h u v none (link.Derived b a x c walk) w =
+    let reason : IsReason h u v x c walk = rw (w.from, w.to) at w.link in
+    (x, c, walk, rw (w.from, w.to) refl, reason)
+
+cost_from_price : (h : History) (u v : ℕ) → causal_pair h u v ≡ false → (o : Option ℕ) → IsPrice h u v o → IsCost h u v o
+cost_from_price h u v none None p = λ l w. p l (derived_of h u v none l w)
+cost_from_price h u v none (Some n) p = record {
+  attained = (p.attained.0, link_of h u v p.attained.0 p.attained.1, p.attained.2);
+  least = λ l w. p.least l (derived_of h u v none l w);
+}
+
+pub cost_row_of : (h : History) (u : ℕ) (prices costs : List ℕ) → IsPriceRow h u prices → HasPairs h u prices costs → IsCostRow h u costs
+cost_row_of h u prices costs priced pairs = record {
+  long = pairs.long ∙ priced.long;
+  costed = λ v to. go v to (causal_pair h u v) refl;
+}
+  where
+    go : (v : ℕ) → v < count h → (t : Bool) → causal_pair h u v ≡ t → IsCost h u v (least_in costs v)
+    go v to true e =
+        let one : get_or costs v 0 ≡ 1 = rw e at (pairs.each v (omega (arith, priced.long))) in
+        rw one (record { attained = pair_link h u v (pair_kinds h u v e); least = λ l w. some_cost l })
+    go v to false e =
+        let same : get_or costs v 0 ≡ get_or prices v 0 = rw e at (pairs.each v (omega (arith, priced.long))) in
+        rw same (cost_from_price h u v e (least_in prices v) (priced.priced v to))

@@ -1,0 +1,39 @@
+use Rattle.std.proofs.Common.{ℕ, ◌-◌, ◌<◌, ◌≤◌, ◌≡◌, List, length, ap, ◌∙◌, arith, map, Ok}
+use Rattle.std.specs.List.{range_with_len}
+use Rattle.rayon.specs.Numbers.{nat_range}
+use Rattle.rayon.proofs.ToStd.{nat_range-All}
+use Rattle.tcc_reads.specs.History.{count}
+use Rattle.tcc_near.specs.Distances.{row_of}
+use Rattle.tcc_txn.specs.declared.memory.NoMemory.{NoMemory}
+use Rattle.tcc_derive.specs.Lowering.{HasPairs}
+use Rattle.tcc_derive.proofs.Given.{matched, given, given_at}
+use Rattle.tcc_derive.proofs.CostLemmas.{cost_row_of}
+use Rattle.tcc_derive.proofs.costing.cost_rows.Goals as goal
+
+pub collect-requires-clause-ready : goal.collect-requires-clause-ready
+collect-requires-clause-ready g c κs within =
+    let h = c.args.graph.now in
+    let prices = c.args.prices.now in
+    let ends = c.into_par_iter.ensures in
+    let ready = nat_range-All (λ u. (u < length prices) × (length prices ≡ count h) × (count h ≤ 1024) × (length (row_of prices u) ≡ count h)) 0 c.count.result
+    (λ u low high.
+    let from : u < count h = omega (arith, c.count.ensures.value) in
+    (omega (arith, c.requires.long), c.requires.long, omega (arith, c.count.ensures.value, c.count.ensures.few), (c.requires.each u from).long)) in
+    rw (c.with_min_len.ensures.base, c.map.ensures.base, c.map.ensures.f, ends.0, ends.1) (λ k d lt. (ready k d lt, λ y p. tt))
+
+pub returns : goal.returns
+returns g c =
+    let h = c.args.graph.now in
+    let prices = c.args.prices.now in
+    let ends = c.into_par_iter.ensures in
+    let n = c.count.result in
+    let got = c.in_ok-collect.ensures in
+    let whole : n - 0 ≡ n = omega arith in
+    let chain = rw (c.with_min_len.ensures.base, c.map.ensures.base, c.map.ensures.f) at got.1 in
+    let places : chain.0 ≡ range_with_len 0 n = chain.1 ∙ (λ i. nat_range (ends.0 i) (ends.1 i)) ∙ ap (range_with_len 0) whole in
+    let IsPaired : ℕ → List ℕ → Type 0 = λ u row. HasPairs h u (row_of prices u) row in
+    let all = λ (ys : List (List ℕ)) (is : got.0 ≡ map Ok ys). given NoMemory IsPaired 0 n ys (rw (places, is) at chain.2) in
+    matched c.in_ok-collect.field-0 _ _ _ got.2 (λ rows w. rw w.2 (record {
+      long = (all w.0 w.1).long ∙ c.count.ensures.value;
+      each = λ u from. cost_row_of h u (row_of prices u) (row_of w.0 u) (c.requires.each u from) (given_at IsPaired n w.0 (all w.0 w.1) u (omega (arith, c.count.ensures.value)));
+    }))

@@ -1,0 +1,52 @@
+use Rattle.std.proofs.Common.{ℕ, ◌-◌, ◌<◌, ◌≤◌, ◌≡◌, List, length, flat_map, replicate, sym, ap, ◌∙◌, arith, map, Ok}
+use Rattle.std.specs.List.{range_with_len}
+use Rattle.rayon.specs.Numbers.{nat_range}
+use Rattle.rayon.proofs.ToStd.{nat_range-All}
+use Rattle.tcc_reads.specs.History.{count}
+use Rattle.tcc_near.specs.Distances.{row_of}
+use Rattle.tcc_txn.specs.declared.memory.NoMemory.{NoMemory}
+use Rattle.tcc_derive.specs.Buckets.{bucket}
+use Rattle.tcc_derive.specs.Lowering.{Lowers, HaveReads}
+use Rattle.tcc_derive.proofs.Given.{matched, given, given_at}
+use Rattle.tcc_derive.proofs.PriceLemmas.{price_row_of}
+use Rattle.tcc_derive.proofs.TableLemmas.{have_reads}
+use Rattle.tcc_derive.proofs.pricing.price_rows.Goals as goal
+
+pub collect-requires-clause-ready : goal.collect-requires-clause-ready
+collect-requires-clause-ready g c κs within =
+    let h = c.args.graph.now in
+    let near = c.args.near.now in
+    let reads = c.args.reads.now in
+    let written = c.args.written.now in
+    let ends = c.into_par_iter.ensures in
+    let square : length near ≡ count h = c.requires.near.square.long in
+    let ready = nat_range-All (λ b. (b < length near) × (length near ≤ 1024) × (length written ≡ length near) × HaveReads (length near) reads (bucket written b)) 0 c.count.result
+    (λ b low high.
+    let from : b < count h = omega (arith, c.count.ensures.value) in
+    (omega arith, omega (arith, c.count.ensures.value, c.count.ensures.few), c.requires.written.long ∙ sym square, have_reads h (length near) reads written b square c.requires.reads c.requires.written from)) in
+    rw (c.with_min_len.ensures.base, c.map.ensures.base, c.map.ensures.f, ends.0, ends.1) (λ k d lt. (ready k d lt, λ y p. tt))
+
+pub returns : goal.returns
+returns g c =
+    let h = c.args.graph.now in
+    let near = c.args.near.now in
+    let reads = c.args.reads.now in
+    let written = c.args.written.now in
+    let ends = c.into_par_iter.ensures in
+    let n = c.count.result in
+    let got = c.in_ok-collect.ensures in
+    let small : count h ≤ 1024 = omega (arith, c.count.ensures.value, c.count.ensures.few) in
+    let whole : n - 0 ≡ n = omega arith in
+    let chain = rw (c.with_min_len.ensures.base, c.map.ensures.base, c.map.ensures.f) at got.1 in
+    let places : chain.0 ≡ range_with_len 0 n = chain.1 ∙ (λ i. nat_range (ends.0 i) (ends.1 i)) ∙ ap (range_with_len 0) whole in
+    let IsLowered : ℕ → List ℕ → Type 0 = λ b row. Lowers (flat_map (bucket reads) (bucket written b)) (row_of near b) b (replicate (length near) 65535) row in
+    let all = λ (ys : List (List ℕ)) (is : got.0 ≡ map Ok ys). given NoMemory IsLowered 0 n ys (rw (places, is) at chain.2) in
+    record {
+      rows = matched c.in_ok-collect.field-0 _ _ _ got.2 (λ rows w. rw w.2 (record {
+        long = (all w.0 w.1).long ∙ c.count.ensures.value;
+        each = λ b from.
+            price_row_of h near reads written b (row_of w.0 b) small from c.requires.near c.requires.reads c.requires.written
+            (given_at IsLowered n w.0 (all w.0 w.1) b (omega (arith, c.count.ensures.value)));
+      }));
+      few = matched c.in_ok-collect.field-0 _ _ _ got.2 (λ rows w. rw w.2 (omega (arith, (all w.0 w.1).long, c.count.ensures.few)));
+    }

@@ -1,0 +1,84 @@
+//! Rows of prices, worked out side by side.
+ghost use Rattle.std.specs.Prelude.{◌≡◌, ◌<◌, ◌≤◌, ℕ, length, All, IfOk, flat_map, replicate};
+ghost use Rattle.tcc_reads.specs.History.{count};
+ghost use Rattle.tcc_near.specs.Distances.{row_of, IsNearOf};
+ghost use Rattle.tcc_derive.specs.Buckets.{bucket};
+ghost use Rattle.tcc_derive.specs.KeyTables.{IsReadsOf, IsWritesOf};
+ghost use Rattle.tcc_derive.specs.Lowering.{HaveReads, Lowers};
+ghost use Rattle.tcc_derive.specs.Rows.{IsPriceRow, HasRows};
+
+use crate::bucket::Bucket;
+use crate::read::Read;
+use crate::tables::{NO_LINK, Row};
+use rayon::prelude::*;
+use std::alloc::Global;
+use std::thread::Threads;
+use tcc_graph::Graph;
+use tcc_near::Near;
+use tcc_txn::NoMemory;
+
+/// Lowers what links from `b` cost by the reads of one key that `b` writes: a step more than the way to the reader.
+fn lower(costs: &mut [u16], reads: &[Read], steps: &[u16], b: u32)
+    requires sources { All (λ r. r.source < length costs.old) reads.now }
+    requires readers { All (λ r. r.reader < length steps.now) reads.now }
+    ensures { Lowers reads.now steps.now b costs.old costs.new }
+{
+    for read in reads {
+        if read.source != b {
+            let price = steps[read.reader as usize].saturating_add(1);
+            let cost = &mut costs[read.source as usize];
+            *cost = (*cost).min(price);
+        }
+    }
+}
+
+/// What derived links from `b` cost, by the keys that it writes and the distances from it.
+fn price_row(
+    alloc: Global,
+    reads: &[Bucket<Read>],
+    written: &[usize],
+    steps: &[u16],
+    b: u32,
+) -> Result<Row, NoMemory>
+    requires { HaveReads (length steps.now) reads.now written.now }
+    ensures { IfOk result (Lowers (flat_map (bucket reads.now) written.now) steps.now b (replicate (length steps.now) 65535)) }
+{
+    let mut costs = vec![in alloc; NO_LINK; steps.len()]?;
+    for place in written {
+        lower(&mut costs, reads[*place].values(), steps, b);
+    }
+    Ok(Row::new(costs))
+}
+
+/// What derived links cost, a row for each transaction that they lead from, by the reads of each key and the keys that
+/// each transaction writes.
+pub(crate) fn price_rows(
+    rt: &(impl Threads + Sync),
+    alloc: Global,
+    graph: &Graph,
+    near: &Near,
+    reads: &[Bucket<Read>],
+    written: &[Bucket<usize>],
+) -> Result<Vec<Row>, NoMemory>
+    requires near { IsNearOf graph.now near.now }
+    requires reads { IsReadsOf graph.now reads.now }
+    requires written { IsWritesOf graph.now written.now }
+    ensures rows { IfOk result (λ rows. HasRows graph.now (IsPriceRow graph.now) rows.items) }
+    ensures few { IfOk result (λ rows. length rows.items ≤ 1024) }
+{
+    (0..graph.count() as usize)
+        .into_par_iter()
+        .map(
+            |b: usize| -> Result<Row, NoMemory>
+                requires { (b < length near.now) × (length near.now ≤ 1024) × (length written.now ≡ length near.now)
+                    × HaveReads (length near.now) reads.now (bucket written.now b) }
+                ensures { IfOk result (Lowers (flat_map (bucket reads.entry.now) (bucket written.entry.now b)) (row_of near.entry.now b) b
+                    (replicate (length near.entry.now) 65535)) }
+            {
+                let keys = written[b].values();
+                price_row(alloc, reads, keys, near.row(b as u32), b as u32)
+            },
+        )
+        .with_min_len(1)
+        .collect::<Result<Vec<Row>, NoMemory>>(rt, alloc)?
+}
