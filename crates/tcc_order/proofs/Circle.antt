@@ -91,16 +91,16 @@ back precedes n done prior (suc fuel) x xs enough trail = step (prior x (first_b
     step : (a : ℕ) × (a < n) × (precedes a x ≡ true) × (has done a ≡ false) → ((a : ℕ) → IsTrail precedes n done a (x ∷ xs) → HasCircle precedes) → HasCircle precedes
     step (a, l, p, left) rest = go a l p left (rest a) (cases_Bool (has (x ∷ xs) a))
 
-not_true : (b : Bool) → not b ≡ true → b ≡ false
+pub not_true : (b : Bool) → not b ≡ true → b ≡ false
 not_true true h = absurd (false≢true h)
 not_true false h = refl
 
-not_false : (b : Bool) → not b ≡ false → b ≡ true
+pub not_false : (b : Bool) → not b ≡ false → b ≡ true
 not_false true h = refl
 not_false false h = absurd (false≢true (sym h))
 
 -- a number before x that is left
-abbrev lacks : (ℕ → ℕ → Bool) → List ℕ → ℕ → ℕ → Bool
+abbrev pub lacks : (ℕ → ℕ → Bool) → List ℕ → ℕ → ℕ → Bool
 lacks precedes done x a = precedes a x && not (has done a)
 
 prior_of : (precedes : ℕ → ℕ → Bool) (n : ℕ) (done : List ℕ) → IsBelow precedes n → ((x : ℕ) → IsFree precedes n done x → ⊥) → HasBefore precedes n done

@@ -65,7 +65,7 @@ below_in h i l = h.below i 0 l
 place_in : {n : ℕ} {order : List ℕ} → IsNumbering n order → (x : ℕ) → x < n → (i : ℕ) × (i < length order) × (slice_index order i ≡ x)
 place_in {n} {order} h x l = let w = h.each x l in (w.0, w.1, get_or_default order w.0 0 x w.1 ∙ w.2)
 
-one_place : {n : ℕ} {order : List ℕ} → IsNumbering n order → (i j : ℕ) → i < length order → j < length order → slice_index order i ≡ slice_index order j → i ≡ j
+pub one_place : {n : ℕ} {order : List ℕ} → IsNumbering n order → (i j : ℕ) → i < length order → j < length order → slice_index order i ≡ slice_index order j → i ≡ j
 one_place {n} {order} h i j l m e = go (cases_order i j)
   where
     go : (i ≡ j) ⊎ ((i < j) ⊎ (j < i)) → i ≡ j

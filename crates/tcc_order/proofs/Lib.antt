@@ -3,3 +3,7 @@ pub mod Circle
 pub mod Leading
 pub mod Written
 pub mod Kept
+pub mod Within
+pub mod Reached
+pub mod Linked
+pub mod OrderOrCycle

@@ -1,6 +1,7 @@
 //! The first commit order of a history, and the law that there is one exactly where there is no cycle.
 #![tactic(auto)]
 
+pub mod laws;
 mod numbering;
 mod ordering;
 
