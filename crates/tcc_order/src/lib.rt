@@ -6,3 +6,6 @@ mod numbering;
 mod ordering;
 
 pub use ordering::order;
+
+#[cfg(test)]
+mod tests;
