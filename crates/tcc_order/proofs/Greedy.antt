@@ -1,17 +1,17 @@
 -- Orders that are picked from the front, always the least number all of whose predecessors were picked: each is a numbering with all pairs in order, and none comes before it.
-use Rattle.std.proofs.Common.{◌≡◌, ◌<◌, ◌≢◌, ℕ, zero, suc, Bool, true, false, ◌||◌, ◌⊎◌, inl, inr, List, [], ◌∷◌, ◌++◌, length, take, get_or, slice_index, slice_index_or, slice_set, eqb, refl, sym, ◌∙◌, append_assoc, append-nil, length-append, arith, subst}
+use Rattle.std.proofs.Common.{◌≡◌, ◌<◌, ◌≢◌, ℕ, zero, suc, Bool, true, false, ◌⊎◌, inl, inr, List, [], ◌∷◌, ◌++◌, length, take, get_or, slice_index, eqb, refl, sym, ◌∙◌, append_assoc, append-nil, length-append, arith, subst}
 use Rattle.std.specs.List.{list_any, IsDistinct, Contains}
 use Rattle.std.specs.Cmp.Lexicographic.{slice_cmp}
 use Rattle.std.specs.Ordering.{nat_cmp}
 use Rattle.std.specs.declared.cmp.Ordering.TheVariants.{Greater}
-use Rattle.std.proofs.lemmas.Bool.{or_cases, cases_Bool, cases_eq, cases_order, false≢true, eqb-true, eq-eqb, lt-ltb, le-ltb, ne_eqb}
-use Rattle.std.proofs.lemmas.List.{get_or_default, get_or-take, length-take-le, get_or_at, get_or_append_left, get_or-set_same, get_or-set_other}
+use Rattle.std.proofs.lemmas.Bool.{or_cases, cases_Bool, cases_order, false≢true, eqb-true, eq-eqb, lt-ltb, le-ltb}
+use Rattle.std.proofs.lemmas.List.{get_or_default, get_or-take, length-take-le, get_or_at, get_or_append_left}
 use Rattle.std.proofs.lemmas.List.Folds.{list_any_at, list_any-append}
 use Rattle.std.proofs.lemmas.Map.Keys.{IsDistinct-push}
 use Rattle.std.proofs.lemmas.Map.Steps.{length-le_from_distinct_below}
 use Rattle.std.specs.Cmp.{nat_eq_equiv}
 use Rattle.tcc_graph.specs.Orders.{Before, IsNumbering}
-use Rattle.tcc_order.specs.Numbering.{IsReady, IsLeastReady, IsPassed, IsOrderOf}
+use Rattle.tcc_order.specs.Numbering.{IsOrderOf}
 
 -- whether x is in the list
 abbrev pub has : List ℕ → ℕ → Bool
@@ -186,38 +186,3 @@ Picks-order precedes n order bounds p full = record {
     ordered : (a b : ℕ) → precedes a b ≡ true → (j : ℕ) × (j < length order) × (slice_index order j ≡ b) → Before order a b
     ordered a b h (j, within, at_b) =
         placed a b j within at_b (place_of (take j order) a ((Picks-at precedes n [] order j p within).free.ready a (rw at_b h)))
-
--- the tests of what was placed say what was picked
-abbrev pub Says : List Bool → List ℕ → Type 0
-Says placed done = (x : ℕ) → slice_index_or placed x false ≡ has done x
-
-pub ready_from_free : (precedes : ℕ → ℕ → Bool) (n : ℕ) (placed : List Bool) (done : List ℕ) (x : ℕ) → Says placed done → IsFree precedes n done x → IsReady precedes n placed x
-ready_from_free precedes n placed done x says free = record { below = free.below; unplaced = says x ∙ free.new; ready = λ a p. says a ∙ free.ready a p }
-
-pub free_from_ready : (precedes : ℕ → ℕ → Bool) (n : ℕ) (placed : List Bool) (done : List ℕ) (x : ℕ) → Says placed done → IsReady precedes n placed x → IsFree precedes n done x
-free_from_ready precedes n placed done x says ready = record { below = ready.below; new = sym (says x) ∙ ready.unplaced; ready = λ a p. sym (says a) ∙ ready.ready a p }
-
-pub next_from_least : (precedes : ℕ → ℕ → Bool) (n : ℕ) (placed : List Bool) (done : List ℕ) (x : ℕ) → Says placed done → IsLeastReady precedes n placed x → IsNext precedes n done x
-next_from_least precedes n placed done x says least = record {
-  free = free_from_ready precedes n placed done x says least.is_ready;
-  least = λ y l free. least.least y l (ready_from_free precedes n placed done y says free);
-}
-
-or_false : (t : Bool) → (t || false) ≡ t
-or_false true = refl
-or_false false = refl
-
--- one more is placed
-pub says_more : (placed : List Bool) (done : List ℕ) (x : ℕ) → x < length placed → Says placed done → Says (slice_set placed x true) (done ++ x ∷ [])
-says_more placed done x within says q = go (cases_eq q x)
-  where
-    go : (q ≡ x) ⊎ (q ≡ x → ⊥) → slice_index_or (slice_set placed x true) q false ≡ has (done ++ x ∷ []) q
-    go (inl same) = rw same (get_or-set_same placed x true false within ∙ sym (has_at (done ++ x ∷ []) (length done) x (rw length-append (omega arith)) (get_or_at done x [] 0 (length done) refl)))
-    go (inr other) = get_or-set_other placed x q true false other ∙ says q ∙ sym (list_any-append (eqb q) done (x ∷ []) ∙ rw (ne_eqb q x other) (or_false (has done q)))
-
-pub passed_more : (precedes : ℕ → ℕ → Bool) (n : ℕ) (placed : List Bool) (cursors : List ℕ) (x : ℕ) → x < length placed → IsPassed precedes n placed cursors → IsPassed precedes n (slice_set placed x true) cursors
-passed_more precedes n placed cursors x within passed = record { within = passed.within; passed = λ a y l m p. go a (passed.passed a y l m p) (cases_eq a x) }
-  where
-    go : (a : ℕ) → slice_index_or placed a false ≡ true → (a ≡ x) ⊎ (a ≡ x → ⊥) → slice_index_or (slice_set placed x true) a false ≡ true
-    go a old (inl same) = rw same (get_or-set_same placed x true false within)
-    go a old (inr other) = get_or-set_other placed x a true false other ∙ old

@@ -1,9 +1,11 @@
 pub mod Greedy
 pub mod Circle
 pub mod Leading
-pub mod Written
 pub mod Kept
 pub mod Within
 pub mod Reached
 pub mod Linked
 pub mod OrderOrCycle
+pub mod Written
+pub mod Passing
+pub mod Waiting

@@ -1,5 +1,5 @@
 -- Orders of the numbers below a count, by a relation that says which stands before which.
-use Rattle.std.specs.Prelude.{◌≡◌, ◌<◌, ◌≤◌, ◌≢◌, ℕ, Bool, true, false, List, [], ◌∷◌, length, slice_index, slice_index_or}
+use Rattle.std.specs.Prelude.{◌≡◌, ◌<◌, ◌≢◌, ◌+◌, ◌&&◌, ℕ, zero, suc, Bool, true, false, not, if◌then◌else◌, List, [], ◌∷◌, length, slice_index, slice_index_or}
 use Rattle.std.specs.declared.cmp.Ordering.TheVariants.{Greater}
 use Rattle.std.specs.Ordering.{nat_cmp}
 use Rattle.std.specs.Cmp.Lexicographic.{slice_cmp}
@@ -24,18 +24,27 @@ Joins precedes a b (m ∷ between) = (precedes a m ≡ true) × Joins precedes m
 abbrev pub HasCircle : (ℕ → ℕ → Bool) → Type 0
 HasCircle precedes = (a : ℕ) × (between : List ℕ) × Joins precedes a a between
 
--- x was not placed, and each number that stands before it was
-pub record IsReady (precedes : ℕ → ℕ → Bool) (n : ℕ) (placed : List Bool) (x : ℕ) : Type 0 where
-  pub below : x < n
+-- how many numbers below n pass the test
+unfoldable pub passing : (ℕ → Bool) → ℕ → ℕ
+passing test zero = 0
+passing test (suc n) = passing test n + (if test n then 1 else 0)
+
+-- a stands before x and was not placed
+abbrev pub holds_back : (ℕ → ℕ → Bool) → List Bool → ℕ → ℕ → Bool
+holds_back precedes placed x a = precedes a x && not (slice_index_or placed a false)
+
+-- of each number, how many hold it back
+pub record IsWaiting (precedes : ℕ → ℕ → Bool) (n : ℕ) (placed : List Bool) (waiting : List ℕ) : Type 0 where
+  pub long : length waiting ≡ n
+  pub each : (x : ℕ) → x < n → slice_index waiting x ≡ passing (holds_back precedes placed x) n
+
+-- x was not placed, and nothing holds it back
+pub record IsReady (placed : List Bool) (waiting : List ℕ) (x : ℕ) : Type 0 where
+  pub below : x < length waiting
   pub unplaced : slice_index_or placed x false ≡ false
-  pub ready : (a : ℕ) → precedes a x ≡ true → slice_index_or placed a false ≡ true
+  pub free : slice_index waiting x ≡ 0
 
 -- the least number that is ready
-pub record IsLeastReady (precedes : ℕ → ℕ → Bool) (n : ℕ) (placed : List Bool) (x : ℕ) : Type 0 where
-  pub is_ready : IsReady precedes n placed x
-  pub least : (y : ℕ) → y < x → IsReady precedes n placed y → ⊥
-
--- of what stands before each number, those below its cursor were placed
-pub record IsPassed (precedes : ℕ → ℕ → Bool) (n : ℕ) (placed : List Bool) (cursors : List ℕ) : Type 0 where
-  pub within : (x : ℕ) → x < length cursors → slice_index cursors x ≤ n
-  pub passed : (a x : ℕ) → x < length cursors → a < slice_index cursors x → precedes a x ≡ true → slice_index_or placed a false ≡ true
+pub record IsLeastReady (placed : List Bool) (waiting : List ℕ) (x : ℕ) : Type 0 where
+  pub ready : IsReady placed waiting x
+  pub least : (y : ℕ) → y < x → IsReady placed waiting y → ⊥

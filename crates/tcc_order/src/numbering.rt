@@ -1,48 +1,57 @@
 //! The first order of numbers in which each stands behind all that a link leads from.
-ghost use Rattle.std.specs.Prelude.{◌≡◌, ◌<◌, ◌≤◌, ℕ, true, false, length, slice_index_or, IfOk, IfNone, IfSome, MatchOption};
-ghost use Rattle.tcc_order.specs.Numbering.{IsFirstOf, IsLeastReady, IsReady, IsPassed, HasCircle};
-ghost use Rattle.tcc_order.specs.Leads.{leads};
+ghost use Rattle.std.specs.Prelude.{◌≡◌, ◌+◌, ◌<◌, ◌≤◌, ◌^◌, ℕ, length, slice_index, IfOk, IfNone, IfSome, MatchOption};
+ghost use Rattle.tcc_order.specs.Numbering.{IsFirstOf, IsLeastReady, IsReady, HasCircle, passing};
+ghost use Rattle.tcc_order.specs.Leads.{leads, link_in, AddsLinks};
 
 use std::alloc::Global;
-use tcc_derive::Prices;
+use tcc_derive::{NO_LINK, Prices};
 use tcc_txn::NoMemory;
 
-/// The first number from `from` on that was not placed and that some link leads from to `number`, or the count.
-fn first_unplaced(prices: &Prices, placed: &[bool], number: u32, from: u32) -> u32
-    requires placed { length placed.now ≡ length prices.now.prices }
-    requires number { number < length prices.now.prices }
-    requires from { from ≤ length prices.now.prices }
-    ensures within { result ≤ length prices.now.prices }
-    ensures passed { (a : ℕ) → from ≤ a → a < result → leads prices.now a number ≡ true
-        → slice_index_or placed.now a false ≡ true }
-    ensures found { result < length prices.now.prices → (leads prices.now result number ≡ true)
-        × (slice_index_or placed.now result false ≡ false) }
+/// Adds one to each number that a link of the row leads to.
+fn add_links(waiting: &mut [u32], costs: &[u16])
+    requires long { length costs.now ≡ length waiting.old }
+    requires fits { (v : ℕ) → v < length waiting.old → slice_index waiting.old v + 1 < 2 ^ 32 }
+    ensures { AddsLinks costs.now waiting.old waiting.new }
 {
-    for earlier in from..prices.count() {
-        if !placed[earlier as usize] && prices.cost(earlier, number).is_some() {
-            return earlier;
-        }
+    for (place, count) in waiting.iter_mut().enumerate() {
+        *count += u32::from(costs[place] != NO_LINK);
     }
-    prices.count()
 }
 
-/// The least number that was not placed and whose predecessors all were. The cursors, one for each number, keep how far
-/// its predecessors were seen to be placed, so that over a whole order each pair is looked at once.
-fn first_ready(prices: &Prices, placed: &[bool], cursors: &mut [u32]) -> Option<u32>
-    requires placed { length placed.now ≡ length prices.now.prices }
-    requires cursors { length cursors.old ≡ length prices.now.prices }
-    requires passed { IsPassed (leads prices.now) (length prices.now.prices) placed.now cursors.old }
-    ensures passed { IsPassed (leads prices.now) (length prices.now.prices) placed.now cursors.new }
-    ensures least { IfSome result (λ x. IsLeastReady (leads prices.now) (length prices.now.prices) placed.now x) }
-    ensures none { IfNone result ((x : ℕ) → IsReady (leads prices.now) (length prices.now.prices) placed.now x → ⊥) }
+/// Takes one from each number that a link of the row leads to.
+fn remove_links(waiting: &mut [u32], costs: &[u16])
+    requires long { length costs.now ≡ length waiting.old }
+    requires counted { (v : ℕ) → v < length waiting.old → link_in costs.now v ≤ slice_index waiting.old v }
+    ensures { AddsLinks costs.now waiting.new waiting.old }
 {
+    for (place, count) in waiting.iter_mut().enumerate() {
+        *count -= u32::from(costs[place] != NO_LINK);
+    }
+}
+
+/// Of each number, from how many numbers some link leads to it.
+fn count_links(alloc: Global, prices: &Prices) -> Result<Vec<u32>, NoMemory>
+    ensures long { IfOk result (λ waiting. length waiting.items ≡ length prices.now.prices) }
+    ensures each { IfOk result (λ waiting. (x : ℕ) → x < length prices.now.prices
+        → slice_index waiting.items x ≡ passing (λ a. leads prices.now a x) (length prices.now.prices)) }
+{
+    let mut waiting = vec![in alloc; 0u32; prices.count() as usize]?;
     for number in 0..prices.count() {
-        if !placed[number as usize] {
-            let open = first_unplaced(prices, placed, number, cursors[number as usize]);
-            cursors[number as usize] = open;
-            if open == prices.count() {
-                return Some(number);
-            }
+        add_links(&mut waiting, prices.costs(number));
+    }
+    Ok(waiting)
+}
+
+/// The least number that was not placed and that nothing holds back.
+fn first_ready(waiting: &[u32], placed: &[bool]) -> Option<u32>
+    requires placed { length placed.now ≡ length waiting.now }
+    requires few { length waiting.now ≤ 2 ^ 32 }
+    ensures least { IfSome result (λ x. IsLeastReady placed.now waiting.now x) }
+    ensures none { IfNone result ((x : ℕ) → IsReady placed.now waiting.now x → ⊥) }
+{
+    for (number, count) in waiting.iter().enumerate() {
+        if *count == 0 && !placed[number] {
+            return Some(number as u32);
         }
     }
     None
@@ -54,15 +63,15 @@ pub(crate) fn first_numbering(alloc: Global, prices: &Prices) -> Result<Option<V
         (HasCircle (leads prices.now))
         (λ order. IsFirstOf (leads prices.now) (length prices.now.prices) order.items)) }
 {
-    let count = prices.count() as usize;
-    let mut placed = vec![in alloc; false; count]?;
-    let mut cursors = vec![in alloc; 0u32; count]?;
+    let mut waiting = count_links(alloc, prices)?;
+    let mut placed = vec![in alloc; false; waiting.len()]?;
     let mut order = Vec::new(alloc);
-    for _ in 0..count {
-        let Some(next) = first_ready(prices, &placed, &mut cursors) else {
+    for _ in 0..prices.count() {
+        let Some(next) = first_ready(&waiting, &placed) else {
             return Ok(None);
         };
         placed[next as usize] = true;
+        remove_links(&mut waiting, prices.costs(next));
         order.push(next)?;
     }
     Ok(Some(order))
