@@ -7,7 +7,8 @@ use std::thread::Threads;
 use tcc_derive::derive;
 use tcc_graph::Graph;
 use tcc_near::near;
-use tcc_order::{order, order_or_cycle};
+use tcc_order::laws::order_or_cycle;
+use tcc_order::order;
 use tcc_txn::NoMemory;
 
 /// The first commit order of a history, compared as lists of numbers, or none where it has no commit order at all.

@@ -1,1 +1,11 @@
-pub mod Apart
+pub mod Greedy
+pub mod Circle
+pub mod Leading
+pub mod Kept
+pub mod Within
+pub mod Reached
+pub mod Linked
+pub mod OrderOrCycle
+pub mod Written
+pub mod Passing
+pub mod Waiting

@@ -1,8 +1,11 @@
 //! The first commit order of a history, and the law that there is one exactly where there is no cycle.
 #![tactic(auto)]
 
-mod laws;
+pub mod laws;
+mod numbering;
 mod ordering;
 
-pub use laws::order_or_cycle;
 pub use ordering::order;
+
+#[cfg(test)]
+mod tests;

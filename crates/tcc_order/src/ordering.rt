@@ -5,6 +5,7 @@ ghost use Rattle.tcc_graph.specs.Orders.{IsFirstOrder};
 ghost use Rattle.tcc_graph.specs.Routes.{HasCycle};
 ghost use Rattle.tcc_derive.specs.Prices.{IsPricesOf};
 
+use crate::numbering::first_numbering;
 use std::alloc::Global;
 use tcc_derive::Prices;
 use tcc_txn::NoMemory;
@@ -15,5 +16,5 @@ pub fn order(alloc: Global, prices: &Prices) -> Result<Option<Vec<u32>>, NoMemor
         (HasCycle h)
         (λ order. IsFirstOrder h order.items)) }
 {
-    Err(NoMemory)
+    first_numbering(alloc, prices)
 }

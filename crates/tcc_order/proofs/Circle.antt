@@ -1,0 +1,141 @@
+-- Where each number that is left has one before it that is left too, going back meets a number twice: there is a circle.
+use Rattle.std.proofs.Common.{◌≡◌, ◌<◌, ◌≤◌, ℕ, zero, suc, ◌+◌, Bool, true, false, ◌||◌, ◌&&◌, ◌⊎◌, inl, inr, List, [], ◌∷◌, length, not, eqb, refl, sym, arith}
+use Rattle.std.specs.List.{IsDistinct, AllByRecursion}
+use Rattle.std.proofs.lemmas.Bool.{or_cases, and_parts, cases_Bool, cases_eq, false≢true, eqb-true, eq-eqb}
+use Rattle.std.proofs.lemmas.Map.Steps.{length-le_from_distinct_below, le-length_from_below}
+use Rattle.tcc_order.specs.Numbering.{Joins, HasCircle}
+use Rattle.tcc_order.proofs.Greedy.{has, IsFree, IsBelow}
+
+-- the least number below a count that passes a test
+pub record IsLeastPassing (test : ℕ → Bool) (n : ℕ) (x : ℕ) : Type 0 where
+  pub below : x < n
+  pub passes : test x ≡ true
+  pub least : (y : ℕ) → y < x → test y ≡ false
+
+abbrev pub Search : (ℕ → Bool) → ℕ → Type 0
+Search test n = ((x : ℕ) × IsLeastPassing test n x) ⊎ ((y : ℕ) → y < n → test y ≡ false)
+
+pub search_below : (test : ℕ → Bool) (n : ℕ) → Search test n
+search_below test zero = inr (λ y l. absurd (omega arith))
+search_below test (suc n) = go (search_below test n) (cases_Bool (test n))
+  where
+    last : ((y : ℕ) → y < n → test y ≡ false) → test n ≡ false → (y : ℕ) → y < suc n → (y ≡ n) ⊎ (y ≡ n → ⊥) → test y ≡ false
+    last none f y l (inl same) = rw same f
+    last none f y l (inr other) = none y (omega arith)
+
+    go : Search test n → (test n ≡ true) ⊎ (test n ≡ false) → Search test (suc n)
+    go (inl found) t = inl (found.0, record { below = omega (arith, found.1.below); passes = found.1.passes; least = found.1.least })
+    go (inr none) (inl t) = inl (n, record { below = omega arith; passes = t; least = none })
+    go (inr none) (inr f) = inr (λ y l. last none f y l (cases_eq y n))
+
+-- each number leads to the next
+abbrev Chain : (ℕ → ℕ → Bool) → ℕ → List ℕ → Type 0
+Chain precedes x [] = Unit {0}
+Chain precedes x (y ∷ ys) = (precedes x y ≡ true) × Chain precedes y ys
+
+to_member : (precedes : ℕ → ℕ → Bool) (x : ℕ) (ys : List ℕ) (z : ℕ) → Chain precedes x ys → has ys z ≡ true → (between : List ℕ) × Joins precedes x z between
+to_member precedes x [] z chain h = absurd (false≢true h)
+to_member precedes x (y ∷ ys) z chain h = go (or_cases (eqb z y) (has ys z) h) (λ t. to_member precedes y ys z chain.1 t)
+  where
+    go : (eqb z y ≡ true) ⊎ (has ys z ≡ true) → (has ys z ≡ true → (between : List ℕ) × Joins precedes y z between) → (between : List ℕ) × Joins precedes x z between
+    go (inl same) rest = ([], rw (eqb-true z y same) chain.0)
+    go (inr later) rest = let w = rest later in (y ∷ w.0, (chain.0, w.1))
+
+neither : (a b : Bool) → (a || b) ≡ false → (a ≡ false) × (b ≡ false)
+neither true b h = absurd (false≢true (sym h))
+neither false b h = (refl, h)
+
+fresh_all : (x : ℕ) (xs : List ℕ) → has xs x ≡ false → AllByRecursion (λ y. eqb x y ≡ false) xs
+fresh_all x [] h = tt
+fresh_all x (y ∷ xs) h = let w = neither (eqb x y) (has xs x) h in (w.0, fresh_all x xs w.1)
+
+distinct_cons : (x : ℕ) (xs : List ℕ) → has xs x ≡ false → IsDistinct eqb xs → IsDistinct eqb (x ∷ xs)
+unfolding IsDistinct
+distinct_cons x xs h d = (fresh_all x xs h, d)
+
+distinct_one : (x : ℕ) → IsDistinct eqb (x ∷ [])
+unfolding IsDistinct
+distinct_one x = (tt, tt)
+
+-- each number that is left has one before it that is left
+abbrev pub HasBefore : (ℕ → ℕ → Bool) → ℕ → List ℕ → Type 0
+HasBefore precedes n done = (x : ℕ) → x < n → has done x ≡ false → (a : ℕ) × (a < n) × (precedes a x ≡ true) × (has done a ≡ false)
+
+-- what was met going back
+record IsTrail (precedes : ℕ → ℕ → Bool) (n : ℕ) (done : List ℕ) (x : ℕ) (xs : List ℕ) : Type 0 where
+  left : has done x ≡ false
+  below : (q : ℕ) → has (x ∷ xs) q ≡ true → q < n
+  chain : Chain precedes x xs
+  distinct : IsDistinct eqb (x ∷ xs)
+
+first_below : (precedes : ℕ → ℕ → Bool) (n : ℕ) (done : List ℕ) (x : ℕ) (xs : List ℕ) → IsTrail precedes n done x xs → x < n
+first_below precedes n done x xs trail = trail.below x (rw (eq-eqb x x refl) refl)
+
+back : (precedes : ℕ → ℕ → Bool) (n : ℕ) (done : List ℕ) → HasBefore precedes n done → (fuel : ℕ) (x : ℕ) (xs : List ℕ) → n ≤ fuel + length xs → IsTrail precedes n done x xs → HasCircle precedes
+back precedes n done prior zero x xs enough trail = absurd (omega (arith, length-le_from_distinct_below (x ∷ xs) n trail.distinct trail.below))
+back precedes n done prior (suc fuel) x xs enough trail = step (prior x (first_below precedes n done x xs trail) trail.left) (λ a t. back precedes n done prior fuel a (x ∷ xs) (omega arith) t)
+  where
+    below : (a : ℕ) → a < n → (q : ℕ) → (eqb q a ≡ true) ⊎ (has (x ∷ xs) q ≡ true) → q < n
+    below a l q (inl same) = rw (eqb-true q a same) l
+    below a l q (inr old) = trail.below q old
+
+    go : (a : ℕ) → a < n → precedes a x ≡ true → has done a ≡ false → (IsTrail precedes n done a (x ∷ xs) → HasCircle precedes) → (has (x ∷ xs) a ≡ true) ⊎ (has (x ∷ xs) a ≡ false) → HasCircle precedes
+    go a l p left rest (inl met) = let w = to_member precedes a (x ∷ xs) a (p, trail.chain) met in (a, w.0, w.1)
+    go a l p left rest (inr new) = rest (record {
+      left = left;
+      below = λ q h. below a l q (or_cases (eqb q a) (has (x ∷ xs) q) h);
+      chain = (p, trail.chain);
+      distinct = distinct_cons a (x ∷ xs) new trail.distinct;
+    })
+
+    step : (a : ℕ) × (a < n) × (precedes a x ≡ true) × (has done a ≡ false) → ((a : ℕ) → IsTrail precedes n done a (x ∷ xs) → HasCircle precedes) → HasCircle precedes
+    step (a, l, p, left) rest = go a l p left (rest a) (cases_Bool (has (x ∷ xs) a))
+
+pub not_true : (b : Bool) → not b ≡ true → b ≡ false
+not_true true h = absurd (false≢true h)
+not_true false h = refl
+
+pub not_false : (b : Bool) → not b ≡ false → b ≡ true
+not_false true h = refl
+not_false false h = absurd (false≢true (sym h))
+
+-- a number before x that is left
+abbrev pub lacks : (ℕ → ℕ → Bool) → List ℕ → ℕ → ℕ → Bool
+lacks precedes done x a = precedes a x && not (has done a)
+
+prior_of : (precedes : ℕ → ℕ → Bool) (n : ℕ) (done : List ℕ) → IsBelow precedes n → ((x : ℕ) → IsFree precedes n done x → ⊥) → HasBefore precedes n done
+prior_of precedes n done bounds stuck x l left = go (search_below (lacks precedes done x) n)
+  where
+    seen : ((y : ℕ) → y < n → lacks precedes done x y ≡ false) → (a : ℕ) → precedes a x ≡ true → has done a ≡ true
+    seen none a p = not_false (has done a) (rw p at (none a (bounds a x p).0))
+
+    go : Search (lacks precedes done x) n → (a : ℕ) × (a < n) × (precedes a x ≡ true) × (has done a ≡ false)
+    go (inl found) = let w = and_parts (precedes found.0 x) (not (has done found.0)) found.1.passes in (found.0, found.1.below, w.0, not_true (has done found.0) w.1)
+    go (inr none) = absurd (stuck x (record { below = l; new = left; ready = seen none }))
+
+-- where some number is left and none can be picked, there is a circle
+pub stuck_circle : (precedes : ℕ → ℕ → Bool) (n : ℕ) (done : List ℕ) → IsBelow precedes n → ((x : ℕ) → IsFree precedes n done x → ⊥) → (x : ℕ) → x < n → has done x ≡ false → HasCircle precedes
+stuck_circle precedes n done bounds stuck x l left =
+    back precedes n done (prior_of precedes n done bounds stuck) n x [] (omega arith) (record {
+      left = left;
+      below = λ q h. here q (or_cases (eqb q x) false h);
+      chain = tt;
+      distinct = distinct_one x;
+    })
+  where
+    here : (q : ℕ) → (eqb q x ≡ true) ⊎ (false ≡ true) → q < n
+    here q (inl same) = rw (eqb-true q x same) l
+    here q (inr no_more) = absurd (false≢true no_more)
+
+-- where less than all were picked, some number is left
+pub some_left : (n : ℕ) (done : List ℕ) → length done < n → (x : ℕ) × (x < n) × (has done x ≡ false)
+some_left n done short = go (search_below (λ x. not (has done x)) n)
+  where
+    go : Search (λ x. not (has done x)) n → (x : ℕ) × (x < n) × (has done x ≡ false)
+    go (inl found) = (found.0, found.1.below, not_true (has done found.0) found.1.passes)
+    go (inr none) = absurd (omega (arith, le-length_from_below done n (λ q l. not_false (has done q) (none q l))))
+
+pub short_circle : (precedes : ℕ → ℕ → Bool) (n : ℕ) (done : List ℕ) → IsBelow precedes n → ((x : ℕ) → IsFree precedes n done x → ⊥) → length done < n → HasCircle precedes
+short_circle precedes n done bounds stuck short =
+    let w = some_left n done short in
+    stuck_circle precedes n done bounds stuck w.0 w.1 w.2
