@@ -4,7 +4,7 @@ ghost use Rattle.std.specs.Ordering.{nat_cmp};
 ghost use Rattle.std.specs.Cmp.Lexicographic.{slice_cmp};
 ghost use Rattle.std.specs.BTreeMap.{IsOrdered};
 ghost use Rattle.tcc_txn.specs.Lines.{line_of};
-ghost use Rattle.tcc_txn.specs.Past.{key_of, least, open_sessions, ops_since};
+ghost use Rattle.tcc_txn.specs.Past.{least, open_sessions, ops_since};
 ghost use Rattle.tcc_txn.specs.Standing.{HoldsNames, HoldsSeats, IsAfter, MayBegin, NotesName, PassesLine, TakesLine, writes_no_zero};
 ghost use Rattle.tcc_txn.specs.Transactions.{writes_zero};
 ghost use Rattle.tcc_txn.specs.Phases.{phase_after_step};
@@ -36,16 +36,6 @@ pub(crate) struct Progress {
     keys: HashSet<Name>,
     begun: u32,
     seals: u32,
-}
-
-/// The key that the operation reads or writes.
-fn key_of(op: &Op) -> Name
-    ensures { result ≡ key_of op.now }
-{
-    match op {
-        Op::Get { key, .. } => *key,
-        Op::Put { key, .. } => *key,
-    }
 }
 
 /// The key is one of those so far, of which there are not too many.
@@ -154,7 +144,7 @@ impl Progress {
         requires { writes_zero op ≡ false }
         ensures { (past : List Line) → IsAfter past self.old → PassesLine past (line.Operation session op) result self.new }
     {
-        let key = key_of(&op);
+        let key = op.key();
         match self.sessions.get_mut(&session) {
             Some(begun) => {
                 if let Err(kind) = add_operation(begun, op) {
