@@ -54,6 +54,11 @@ abbrev pub in_session : List ℕ → Result Op RowFaultKind → Result Line RowF
 in_session session (Ok op) = Ok (line.Operation session op)
 in_session session (Err k) = Err k
 
+-- what a session does, as a line
+abbrev pub operation : Result (List ℕ × Op) RowFaultKind → Result Line RowFaultKind
+operation (Ok read) = Ok (line.Operation read.0 read.1)
+operation (Err k) = Err k
+
 -- the line of a record, or the least kind of fault that the record shows by itself
 abbrev pub line_of : Record → Result Line RowFaultKind
 line_of (word ∷ []) = if same word (codes "seal") then Ok line.Seal else Err kind.UnknownWord

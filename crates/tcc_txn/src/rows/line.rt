@@ -1,7 +1,7 @@
 //! What one record says by itself.
 ghost use Rattle.std.specs.Prelude.{◌≡◌, ◌≢◌, ◌<◌, ◌∷◌, [], length, slice_index};
 ghost use Rattle.csv.specs.Records.{field_at, fields_of};
-ghost use Rattle.tcc_txn.specs.Lines.{digits_of, line_of, op_of, value_of};
+ghost use Rattle.tcc_txn.specs.Lines.{digits_of, line_of, op_of, operation, value_of};
 
 use super::RowFaultKind;
 use crate::{Name, Op};
@@ -96,14 +96,14 @@ fn read_op(writes: bool, key: &[u8], value: &[u8]) -> Result<Op, RowFaultKind>
     }
 }
 
-/// A record of four fields.
+/// The session of four fields, and what it does.
 fn read_operation(
     session: &[u8],
     word: &[u8],
     key: &[u8],
     value: &[u8],
-) -> Result<Line, RowFaultKind>
-    ensures { result ≡ line_of (session.now ∷ word.now ∷ key.now ∷ value.now ∷ []) }
+) -> Result<(Name, Op), RowFaultKind>
+    ensures { operation result ≡ line_of (session.now ∷ word.now ∷ key.now ∷ value.now ∷ []) }
 {
     let Ok(session) = Name::read(session) else {
         return Err(RowFaultKind::BadSession);
@@ -113,7 +113,7 @@ fn read_operation(
         return Err(RowFaultKind::UnknownWord);
     }
     match read_op(writes, key, value) {
-        Ok(op) => Ok(Line::Operation { session, op }),
+        Ok(op) => Ok((session, op)),
         Err(kind) => Err(kind),
     }
 }
@@ -126,6 +126,19 @@ fn field(record: &ByteRecord, place: usize) -> &[u8]
     record.get(place).unwrap()
 }
 
+/// The session of a record of four fields, and what it does.
+pub(crate) fn operation_of(record: &ByteRecord) -> Result<(Name, Op), RowFaultKind>
+    requires { length (fields_of record.now) ≡ 4 }
+    ensures { operation result ≡ line_of (fields_of record.now) }
+{
+    read_operation(
+        field(record, 0),
+        field(record, 1),
+        field(record, 2),
+        field(record, 3),
+    )
+}
+
 /// The line that the record is, or what is wrong with the record by itself.
 pub(crate) fn read_line(record: &ByteRecord) -> Result<Line, RowFaultKind>
     ensures { result ≡ line_of (fields_of record.now) }
@@ -133,12 +146,10 @@ pub(crate) fn read_line(record: &ByteRecord) -> Result<Line, RowFaultKind>
     match record.len() {
         1 => read_seal(field(record, 0)),
         2 => read_turn(field(record, 0), field(record, 1)),
-        4 => read_operation(
-            field(record, 0),
-            field(record, 1),
-            field(record, 2),
-            field(record, 3),
-        ),
+        4 => match operation_of(record) {
+            Ok((session, op)) => Ok(Line::Operation { session, op }),
+            Err(kind) => Err(kind),
+        },
         _ => Err(RowFaultKind::FieldCount),
     }
 }

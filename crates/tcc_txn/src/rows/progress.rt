@@ -1,11 +1,12 @@
 //! What the lines so far have begun, finished and named.
-ghost use Rattle.std.specs.Prelude.{◌≡◌, ℕ, ◌∷◌, [], false, List, IfOk, find, is_some, option_map};
+ghost use Rattle.std.specs.Prelude.{◌≡◌, ℕ, ◌∷◌, [], false, List, IfOk, find, is_some, option_map, length};
 ghost use Rattle.std.specs.Ordering.{nat_cmp};
 ghost use Rattle.std.specs.Cmp.Lexicographic.{slice_cmp};
 ghost use Rattle.std.specs.BTreeMap.{IsOrdered};
+ghost use Rattle.csv.specs.Records.{fields_of};
 ghost use Rattle.tcc_txn.specs.Lines.{line_of};
 ghost use Rattle.tcc_txn.specs.Past.{least, open_sessions, ops_since};
-ghost use Rattle.tcc_txn.specs.Standing.{HoldsNames, HoldsSeats, IsAfter, MayBegin, NotesName, PassesLine, TakesLine, writes_no_zero};
+ghost use Rattle.tcc_txn.specs.Standing.{HoldsNames, HoldsSeats, IsAfter, MayBegin, NotesName, PassesLine, PassesOperation, TakesLine, writes_no_zero};
 ghost use Rattle.tcc_txn.specs.Transactions.{writes_zero};
 ghost use Rattle.tcc_txn.specs.Phases.{phase_after_step};
 ghost use Rattle.tcc_txn.specs.declared.rows.Phase.TheVariants as phase;
@@ -13,9 +14,10 @@ ghost use Rattle.tcc_txn.specs.declared.rows.line.Line.{Line};
 ghost use Rattle.tcc_txn.specs.declared.rows.line.Line.TheVariants as line;
 
 use super::draft::{Draft, add_operation};
-use super::line::Line;
+use super::line::{Line, operation_of};
 use super::{Item, RowFaultKind};
 use crate::{Name, Op, Txn};
+use csv::ByteRecord;
 use std::alloc::Global;
 use std::collections::{BTreeMap, HashSet};
 
@@ -154,6 +156,17 @@ impl Progress {
             None => return Err(RowFaultKind::NotBegun),
         }
         note_key(&mut self.keys, key)
+    }
+
+    /// Goes past a record of four fields, if it is a lawful operation.
+    pub(crate) fn pass_operation(&mut self, record: &ByteRecord) -> Result<(), RowFaultKind>
+        requires { length (fields_of record.now) ≡ 4 }
+        ensures { (past : List Line) → IsAfter past self.old → PassesOperation past (fields_of record.now) result self.new }
+    {
+        match operation_of(record) {
+            Ok((session, op)) => self.operate(session, op),
+            Err(kind) => Err(kind),
+        }
     }
 
     /// Goes past the line, which may finish something.
