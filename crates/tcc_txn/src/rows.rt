@@ -110,6 +110,8 @@ pub struct Rows<R> {
     records: Records<R>,
     row: u64,
     progress: Progress,
+    /// The session of the last operation.
+    session: Option<Name>,
     phase: Phase,
 }
 
@@ -126,6 +128,7 @@ impl<R: Read + Drop> Rows<R> {
             records: Records::new(alloc, reader),
             row: 0,
             progress: Progress::new(alloc),
+            session: None,
             phase: Phase::Reading,
         })
     }
@@ -220,7 +223,10 @@ impl<R: Read + Drop> Rows<R> {
                     Err(kind) => Err(kind),
                 };
             }
-            if let Err(kind) = self.progress.pass_operation(self.records.record()) {
+            if let Err(kind) = self
+                .progress
+                .pass_operation(&mut self.session, self.records.record())
+            {
                 return Err(kind);
             }
             self.row = self.row.saturating_add(1);

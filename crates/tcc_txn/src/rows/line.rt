@@ -1,7 +1,7 @@
 //! What one record says by itself.
 ghost use Rattle.std.specs.Prelude.{◌≡◌, ◌≢◌, ◌<◌, ◌∷◌, [], length, slice_index};
 ghost use Rattle.csv.specs.Records.{field_at, fields_of};
-ghost use Rattle.tcc_txn.specs.Lines.{digits_of, line_of, op_of, operation, value_of};
+ghost use Rattle.tcc_txn.specs.Lines.{access_of, digits_of, line_of, op_of, session_of, value_of};
 
 use super::RowFaultKind;
 use crate::{Name, Op};
@@ -78,7 +78,7 @@ fn read_turn(session: &[u8], word: &[u8]) -> Result<Line, RowFaultKind>
 }
 
 /// A read or a write of the key.
-fn read_op(writes: bool, key: &[u8], value: &[u8]) -> Result<Op, RowFaultKind>
+pub(crate) fn read_op(writes: bool, key: &[u8], value: &[u8]) -> Result<Op, RowFaultKind>
     ensures { result ≡ op_of writes key.now value.now }
 {
     let Ok(key) = Name::read(key) else {
@@ -96,14 +96,43 @@ fn read_op(writes: bool, key: &[u8], value: &[u8]) -> Result<Op, RowFaultKind>
     }
 }
 
-/// The session of four fields, and what it does.
+/// The session of an operation, which is mostly that of the one before.
+pub(crate) fn read_session(last: &mut Option<Name>, session: &[u8]) -> Result<Name, RowFaultKind>
+    ensures { result ≡ session_of session.now }
+{
+    if let Some(name) = last {
+        if name.is(session) {
+            return Ok(*name);
+        }
+    }
+    let Ok(name) = Name::read(session) else {
+        return Err(RowFaultKind::BadSession);
+    };
+    *last = Some(name);
+    Ok(name)
+}
+
+/// Whether the operation is a write.
+pub(crate) fn read_access(word: &[u8]) -> Result<bool, RowFaultKind>
+    ensures { result ≡ access_of word.now }
+{
+    if word == b"r".as_slice() {
+        Ok(false)
+    } else if word == b"w".as_slice() {
+        Ok(true)
+    } else {
+        Err(RowFaultKind::UnknownWord)
+    }
+}
+
+/// A record of four fields.
 fn read_operation(
     session: &[u8],
     word: &[u8],
     key: &[u8],
     value: &[u8],
-) -> Result<(Name, Op), RowFaultKind>
-    ensures { operation result ≡ line_of (session.now ∷ word.now ∷ key.now ∷ value.now ∷ []) }
+) -> Result<Line, RowFaultKind>
+    ensures { result ≡ line_of (session.now ∷ word.now ∷ key.now ∷ value.now ∷ []) }
 {
     let Ok(session) = Name::read(session) else {
         return Err(RowFaultKind::BadSession);
@@ -113,30 +142,17 @@ fn read_operation(
         return Err(RowFaultKind::UnknownWord);
     }
     match read_op(writes, key, value) {
-        Ok(op) => Ok((session, op)),
+        Ok(op) => Ok(Line::Operation { session, op }),
         Err(kind) => Err(kind),
     }
 }
 
 /// The field at the place.
-fn field(record: &ByteRecord, place: usize) -> &[u8]
+pub(crate) fn field(record: &ByteRecord, place: usize) -> &[u8]
     requires { place < length (fields_of record.now) }
     ensures { Some result.now ≡ field_at (fields_of record.now) place }
 {
     record.get(place).unwrap()
-}
-
-/// The session of a record of four fields, and what it does.
-pub(crate) fn operation_of(record: &ByteRecord) -> Result<(Name, Op), RowFaultKind>
-    requires { length (fields_of record.now) ≡ 4 }
-    ensures { operation result ≡ line_of (fields_of record.now) }
-{
-    read_operation(
-        field(record, 0),
-        field(record, 1),
-        field(record, 2),
-        field(record, 3),
-    )
 }
 
 /// The line that the record is, or what is wrong with the record by itself.
@@ -146,10 +162,12 @@ pub(crate) fn read_line(record: &ByteRecord) -> Result<Line, RowFaultKind>
     match record.len() {
         1 => read_seal(field(record, 0)),
         2 => read_turn(field(record, 0), field(record, 1)),
-        4 => match operation_of(record) {
-            Ok((session, op)) => Ok(Line::Operation { session, op }),
-            Err(kind) => Err(kind),
-        },
+        4 => read_operation(
+            field(record, 0),
+            field(record, 1),
+            field(record, 2),
+            field(record, 3),
+        ),
         _ => Err(RowFaultKind::FieldCount),
     }
 }

@@ -14,7 +14,7 @@ ghost use Rattle.tcc_txn.specs.declared.rows.line.Line.{Line};
 ghost use Rattle.tcc_txn.specs.declared.rows.line.Line.TheVariants as line;
 
 use super::draft::{Draft, add_operation};
-use super::line::{Line, operation_of};
+use super::line::{Line, field, read_access, read_op, read_session};
 use super::{Item, RowFaultKind};
 use crate::{Name, Op, Txn};
 use csv::ByteRecord;
@@ -158,15 +158,49 @@ impl Progress {
         note_key(&mut self.keys, key)
     }
 
-    /// Goes past a record of four fields, if it is a lawful operation.
-    pub(crate) fn pass_operation(&mut self, record: &ByteRecord) -> Result<(), RowFaultKind>
+    /// Goes past an operation, where four fields are one; `last` is the session of the one before.
+    fn pass_fields(
+        &mut self,
+        last: &mut Option<Name>,
+        session: &[u8],
+        word: &[u8],
+        key: &[u8],
+        value: &[u8],
+    ) -> Result<(), RowFaultKind>
+        ensures { (past : List Line) → IsAfter past self.old
+            → PassesOperation past (session.now ∷ word.now ∷ key.now ∷ value.now ∷ []) result self.new }
+    {
+        let session = match read_session(last, session) {
+            Ok(session) => session,
+            Err(kind) => return Err(kind),
+        };
+        let writes = match read_access(word) {
+            Ok(writes) => writes,
+            Err(kind) => return Err(kind),
+        };
+        let op = match read_op(writes, key, value) {
+            Ok(op) => op,
+            Err(kind) => return Err(kind),
+        };
+        self.operate(session, op)
+    }
+
+    /// Goes past a record of four fields, where it is an operation.
+    pub(crate) fn pass_operation(
+        &mut self,
+        last: &mut Option<Name>,
+        record: &ByteRecord,
+    ) -> Result<(), RowFaultKind>
         requires { length (fields_of record.now) ≡ 4 }
         ensures { (past : List Line) → IsAfter past self.old → PassesOperation past (fields_of record.now) result self.new }
     {
-        match operation_of(record) {
-            Ok((session, op)) => self.operate(session, op),
-            Err(kind) => Err(kind),
-        }
+        self.pass_fields(
+            last,
+            field(record, 0),
+            field(record, 1),
+            field(record, 2),
+            field(record, 3),
+        )
     }
 
     /// Goes past the line, which may finish something.
