@@ -1,5 +1,5 @@
 -- The answers that are still to come, after one more record.
-use Rattle.std.proofs.Common.{◌≡◌, ℕ, zero, suc, ◌+◌, ◌^◌, ◌<◌, ◌≤◌, List, [], ◌∷◌, length, take, Option, None, Some, Result, Ok, Err, refl, sym, ap, ◌∙◌, arith, inl, inr, length-append, length-take, true, false, Bool, cond}
+use Rattle.std.proofs.Common.{◌≡◌, ℕ, zero, suc, ◌+◌, ◌^◌, ◌<◌, ◌≤◌, ◌⊎◌, List, [], ◌∷◌, length, take, Option, None, Some, Result, Ok, Err, refl, sym, ap, ◌∙◌, arith, inl, inr, length-append, length-take, true, false, Bool, cond}
 use Rattle.std.specs.Prelude.{IfErr, IfOk, IfSome, OnOk}
 use Rattle.std.proofs.lemmas.Bool.{cases_lt}
 use Rattle.std.proofs.Math.Logic.{⊎_elim}
@@ -8,17 +8,18 @@ use Rattle.csv.specs.Reading.{default_config, is_bom, records, records_from, rec
 use Rattle.csv.specs.declared.parser.Config.{Config}
 use Rattle.csv.specs.declared.parser.State.{State}
 use Rattle.csv.specs.declared.parser.State.TheVariants as st
-use Rattle.tcc_txn.specs.Ahead.{IsReading, TakesFields, TakesStep}
+use Rattle.tcc_txn.specs.Ahead.{FaultsIn, IsAtLine, IsReading, TakesFields, TakesStep}
 use Rattle.tcc_txn.specs.Answers.{Answers, after_item, answers_after, answers_of, ending, fault_at_end, judged, records_of}
 use Rattle.tcc_txn.specs.ByteLimit.{marked, past_limit}
-use Rattle.tcc_txn.specs.Lines.{Record}
-use Rattle.tcc_txn.specs.Past.{item_of}
-use Rattle.tcc_txn.specs.RecordsLeft.{HasLeft, TakesRecord, record_of}
-use Rattle.tcc_txn.specs.Standing.{IsAfter}
+use Rattle.tcc_txn.specs.Lines.{Record, is_cut, line_of}
+use Rattle.tcc_txn.specs.Past.{fault_of, item_of}
+use Rattle.tcc_txn.specs.RecordsLeft.{HasLeft, IsFailure, TakesRecord, record_of}
+use Rattle.tcc_txn.specs.Standing.{IsAfter, PassesOperation}
 use Rattle.tcc_txn.specs.declared.rows.Item.{Item}
 use Rattle.tcc_txn.specs.declared.rows.Item.TheVariants as item
 use Rattle.tcc_txn.specs.declared.rows.RowFault.{RowFault}
 use Rattle.tcc_txn.specs.declared.rows.RowFaultKind.{RowFaultKind}
+use Rattle.tcc_txn.specs.declared.rows.RowFaultKind.TheVariants as kind
 use Rattle.tcc_txn.specs.declared.rows.Rows.{Rows}
 use Rattle.tcc_txn.specs.declared.rows.line.Line.{Line}
 use Rattle.tcc_txn.specs.declared.rows.line.Line.TheVariants as line
@@ -98,68 +99,138 @@ no-end past (line.Finish session committed) e = cc e
 no-end past (line.Operation session op) e = cc e
 
 -- one more lawful record
-going-on : {R : Type 0} (remaining : R → Option (List ℕ)) (old new : Rows R) (ahead : Answers) (reading : IsReading remaining old ahead)
-    (fields : Record) (rest : List Record) (last : Line) → reading.left ≡ fields ∷ rest → HasLeft remaining new.records rest
-    → IsAfter (last ∷ reading.past) new.progress → new.row ≡ length reading.past + 1
-    → IsReading remaining new (answers_after (last ∷ reading.past) rest)
-going-on remaining old new ahead reading fields rest last left has progress row =
+going-on : {R : Type 0} (remaining : R → Option (List ℕ)) (new : Rows R) (past : List Line) (left : List Record) (last : Line)
+    → HasLeft remaining new.records left → IsAfter (last ∷ past) new.progress → new.row ≡ length past + 1 → length past + length left + 2 < 2 ^ 64
+    → IsReading remaining new (answers_after (last ∷ past) left)
+going-on remaining new past left last has progress row fits =
     record {
-      past = last ∷ reading.past;
-      left = rest;
+      past = last ∷ past;
+      left = left;
       records = has;
       progress = progress;
       counted = row ∙ omega arith;
-      fits = omega (arith, reading.fits, ap length left);
+      fits = omega (arith, fits);
       answers = refl;
     }
 
--- one more record, whatever comes of it
-pub record-taken : {R : Type 0} (remaining : R → Option (List ℕ)) (old new : Rows R) (records : Records R) (ahead : Answers) (reading : IsReading remaining old ahead)
-    → TakesRecord remaining reading.left true records → new.records ≡ records
-    → (result : Result (Option Item) RowFault) → TakesFields reading.past (record_of records) result new
+-- what is judged of a record that the limit does not cut, by its line
+judged-lawful : (past : List Line) (fields : Record) (last : Line) → is_cut fields ≡ false → line_of fields ≡ Ok last → fault_of past last ≡ None
+    → judged past fields ≡ Ok last
+judged-lawful past fields last whole e free = rw (whole, e, free) refl
+
+pub judged-faulty : (past : List Line) (fields : Record) (last : Line) (k : RowFaultKind) → is_cut fields ≡ false → line_of fields ≡ Ok last → fault_of past last ≡ Some k
+    → judged past fields ≡ Err k
+judged-faulty past fields last k whole e fault = rw (whole, e, fault) refl
+
+pub judged-unlawful : (past : List Line) (fields : Record) (k : RowFaultKind) → is_cut fields ≡ false → line_of fields ≡ Err k → judged past fields ≡ Err k
+judged-unlawful past fields k whole e = rw (whole, e) refl
+
+-- what is judged of a record that is no operation that can be passed
+pub judged-refused : (past : List Line) (fields : Record) (k : RowFaultKind) (p : Progress) → is_cut fields ≡ false → PassesOperation {U = Unit {0}} past fields (Err k) p
+    → (judged past fields ≡ Err k) ⊎ (k ≡ kind.NoMemory)
+judged-refused past fields k p whole (inl unlawful) = inl (judged-unlawful past fields k whole unlawful)
+judged-refused past fields k p whole (inr (inl fault)) = inl (judged-faulty past fields fault.0 k whole fault.1 fault.2)
+judged-refused past fields k p whole (inr (inr want)) = inr want
+
+-- a fault at the next row
+pub same-fault : (ahead : Answers) (row : ℕ) (k : RowFaultKind) (fault : RowFault) → fault.row ≡ row + 1 → fault.kind ≡ k
+    → FaultsIn ahead (record { row = row + 1; kind = k }) → FaultsIn ahead fault
+same-fault ahead row k fault at_row of_kind (inl e) =
+    let same : ◌≡◌ {A = RowFault} (record { row = row + 1; kind = k }) fault = rw (← at_row, ← of_kind) refl in
+    inl (e ∙ ap (λ f. ending (Some f)) same)
+same-fault ahead row k fault at_row of_kind (inr (failure, past, left, answers, counted)) = inr (rw of_kind failure, past, left, answers, at_row ∙ counted)
+
+-- the answers to the records that were left, once the first of them is read
+answers-read : {R : Type 0} (remaining : R → Option (List ℕ)) (old : Rows R) (records : Records R) (ahead : Answers) (reading : IsReading remaining old ahead)
+    (taken : TakesRecord remaining reading.left true records) → ahead ≡ answers_after reading.past (record_of records ∷ taken.0)
+answers-read remaining old records ahead reading taken = reading.answers ∙ ap (answers_after reading.past) taken.1
+
+-- an operation was passed
+pub operation-passed : {R : Type 0} {U : Type 0} (remaining : R → Option (List ℕ)) (old new : Rows R) (records : Records R) (ahead : Answers) (reading : IsReading remaining old ahead)
+    → TakesRecord remaining reading.left true records → new.records ≡ records → is_cut (record_of records) ≡ false
+    → (done : U) → PassesOperation reading.past (record_of records) (Ok done) new.progress → new.row ≡ length reading.past + 1
+    → IsReading remaining new ahead
+operation-passed remaining old new records ahead reading taken kept whole done (session, op, e, free, progress) row =
+    let last = line.Operation session op in
+    let judgement : judged reading.past (record_of records) ≡ Ok last = judged-lawful reading.past (record_of records) last whole e free in
+    let answers : ahead ≡ answers_after (last ∷ reading.past) taken.0 =
+    answers-read remaining old records ahead reading taken ∙ lawful reading.past (record_of records) taken.0 last judgement in
+    rw answers (going-on remaining new reading.past taken.0 last (rw kept taken.2) progress row (omega (arith, reading.fits, ap length taken.1)))
+
+-- a record was met that has a fault, or memory was refused
+pub record-refused : {R : Type 0} (remaining : R → Option (List ℕ)) (old : Rows R) (records : Records R) (ahead : Answers) (reading : IsReading remaining old ahead)
+    → TakesRecord remaining reading.left true records
+    → (k : RowFaultKind) (row : ℕ) → (judged reading.past (record_of records) ≡ Err k) ⊎ (k ≡ kind.NoMemory) → row ≡ length reading.past
+    → (row + 1 < 2 ^ 64) × FaultsIn ahead (record { row = row + 1; kind = k })
+record-refused remaining old records ahead reading taken k row (inl wrong) counted = (
+  omega (arith, reading.fits, counted),
+  rw counted (inl (answers-read remaining old records ahead reading taken ∙ faulty reading.past (record_of records) taken.0 k wrong)),
+)
+record-refused remaining old records ahead reading taken k row (inr want) counted =
+    (omega (arith, reading.fits, counted), inr (inr want, reading.past, reading.left, reading.answers, ap (λ n. n + 1) counted))
+
+-- the reader failed
+pub reading-failed : {R : Type 0} (remaining : R → Option (List ℕ)) (old : Rows R) (ahead : Answers) (reading : IsReading remaining old ahead)
+    → (k : RowFaultKind) (row : ℕ) → IsFailure k → row ≡ length reading.past
+    → (row + 1 < 2 ^ 64) × FaultsIn ahead (record { row = row + 1; kind = k })
+reading-failed remaining old ahead reading k row failure counted =
+    (omega (arith, reading.fits, counted), inr (failure, reading.past, reading.left, reading.answers, ap (λ n. n + 1) counted))
+
+-- the line was met of the record that was read
+pub line-met : {R : Type 0} (remaining : R → Option (List ℕ)) (old new : Rows R) (records : Records R) (ahead : Answers) (reading : IsReading remaining old ahead)
+    → TakesRecord remaining reading.left true records → new.records ≡ records → new.progress ≡ old.progress → new.row ≡ old.row → is_cut (record_of records) ≡ false
+    → (last : Line) → line_of (record_of records) ≡ Ok last → IsAtLine remaining new ahead last
+line-met remaining old new records ahead reading taken kept same_progress same_row whole last e =
+    record {
+      past = reading.past;
+      fields = record_of records;
+      left = taken.0;
+      records = rw kept taken.2;
+      progress = rw same_progress reading.progress;
+      counted = same_row ∙ reading.counted;
+      fits = omega (arith, reading.fits, ap length taken.1);
+      whole = whole;
+      lawful = e;
+      answers = answers-read remaining old records ahead reading taken;
+    }
+
+-- one more line, whatever comes of it
+pub line-taken : {R : Type 0} (remaining : R → Option (List ℕ)) (at new : Rows R) (ahead : Answers) (last : Line) (here : IsAtLine remaining at ahead last)
+    → new.records ≡ at.records → (result : Result (Option Item) RowFault) → TakesFields here.past here.fields result new
     → TakesStep remaining ahead result new
-record-taken {R = R} remaining old new records ahead reading taken kept result fields = by result fields
+line-taken {R = R} remaining at new ahead last here kept result fields = by result fields
   where
-    rest : List Record
-    rest = taken.0
+    has : HasLeft remaining new.records here.left
+    has = rw kept here.records
 
-    has : HasLeft remaining new.records rest
-    has = rw kept taken.2
-
-    answers : ahead ≡ answers_after reading.past (record_of records ∷ rest)
-    answers = reading.answers ∙ ap (answers_after reading.past) taken.1
-
-    by : (result : Result (Option Item) RowFault) → TakesFields reading.past (record_of records) result new → TakesStep remaining ahead result new
+    by : (result : Result (Option Item) RowFault) → TakesFields here.past here.fields result new → TakesStep remaining ahead result new
     by (Ok None) f =
-        let e : ahead ≡ answers_after (f.0 ∷ reading.past) rest = answers ∙ lawful reading.past (record_of records) rest f.0 f.1 ∙ ap (λ o. after_item o (answers_after (f.0 ∷ reading.past) rest)) (sym f.2) in
-        rw e (going-on remaining old new ahead reading (record_of records) rest f.0 taken.1 has f.3 f.4)
-    by (Ok (Some item.End)) f = absurd (no-end reading.past f.0 f.2)
+        let e : ahead ≡ answers_after (f.0 ∷ here.past) here.left = here.answers ∙ lawful here.past here.fields here.left f.0 f.1 ∙ ap (λ o. after_item o (answers_after (f.0 ∷ here.past) here.left)) (sym f.2) in
+        rw e (going-on remaining new here.past here.left f.0 has f.3 f.4 here.fits)
+    by (Ok (Some item.End)) f = absurd (no-end here.past f.0 f.2)
     by (Ok (Some item.Seal)) f = (
-      answers_after (f.0 ∷ reading.past) rest,
-      answers ∙ lawful reading.past (record_of records) rest f.0 f.1 ∙ ap (λ o. after_item o (answers_after (f.0 ∷ reading.past) rest)) (sym f.2),
-      going-on remaining old new ahead reading (record_of records) rest f.0 taken.1 has f.3 f.4,
+      answers_after (f.0 ∷ here.past) here.left,
+      here.answers ∙ lawful here.past here.fields here.left f.0 f.1 ∙ ap (λ o. after_item o (answers_after (f.0 ∷ here.past) here.left)) (sym f.2),
+      going-on remaining new here.past here.left f.0 has f.3 f.4 here.fits,
     )
     by (Ok (Some (item.Finished name txn))) f = (
-      answers_after (f.0 ∷ reading.past) rest,
-      answers ∙ lawful reading.past (record_of records) rest f.0 f.1 ∙ ap (λ o. after_item o (answers_after (f.0 ∷ reading.past) rest)) (sym f.2),
-      going-on remaining old new ahead reading (record_of records) rest f.0 taken.1 has f.3 f.4,
+      answers_after (f.0 ∷ here.past) here.left,
+      here.answers ∙ lawful here.past here.fields here.left f.0 f.1 ∙ ap (λ o. after_item o (answers_after (f.0 ∷ here.past) here.left)) (sym f.2),
+      going-on remaining new here.past here.left f.0 has f.3 f.4 here.fits,
     )
     by (Err fault) (inl wrong, row) =
-        let same_fault : ◌≡◌ {A = RowFault} (record { row = length reading.past + 1; kind = fault.kind }) fault = rw (← row) refl in
-        inl (answers ∙ faulty reading.past (record_of records) rest fault.kind wrong ∙ ap (λ f. ending (Some f)) same_fault)
-    by (Err fault) (inr want, row) = inr (inr want, reading.past, reading.left, reading.answers, row)
+        let same_fault : ◌≡◌ {A = RowFault} (record { row = length here.past + 1; kind = fault.kind }) fault = rw (← row) refl in
+        inl (here.answers ∙ faulty here.past here.fields here.left fault.kind wrong ∙ ap (λ f. ending (Some f)) same_fault)
+    by (Err fault) (inr want, row) = inr (inr want, here.past, here.fields ∷ here.left, here.answers, row)
 
 -- the end of the records, whatever comes of it
-pub end-taken : {R : Type 0} (remaining : R → Option (List ℕ)) (old new : Rows R) (ahead : Answers) (reading : IsReading remaining old ahead)
-    → reading.left ≡ [] → (result : Result (Option Item) RowFault)
-    → IfErr result (λ fault. fault_at_end reading.past ≡ Some fault) → OnOk result (fault_at_end reading.past ≡ None) → IfOk result (λ given. given ≡ Some item.End)
+pub end-taken : {R : Type 0} (remaining : R → Option (List ℕ)) (new : Rows R) (ahead : Answers) (past : List Line)
+    → ahead ≡ answers_after past [] → (result : Result (Option Item) RowFault)
+    → IfErr result (λ fault. fault_at_end past ≡ Some fault) → OnOk result (fault_at_end past ≡ None) → IfOk result (λ given. given ≡ Some item.End)
     → TakesStep remaining ahead result new
-end-taken remaining old new ahead reading none result = by result
+end-taken remaining new ahead past answers result = by result
   where
-    answers : ahead ≡ ending (fault_at_end reading.past)
-    answers = reading.answers ∙ ap (answers_after reading.past) none
-
-    by : (result : Result (Option Item) RowFault) → IfErr result (λ fault. fault_at_end reading.past ≡ Some fault) → OnOk result (fault_at_end reading.past ≡ None)
+    by : (result : Result (Option Item) RowFault) → IfErr result (λ fault. fault_at_end past ≡ Some fault) → OnOk result (fault_at_end past ≡ None)
         → IfOk result (λ given. given ≡ Some item.End) → TakesStep remaining ahead result new
     by (Ok given) unfinished closed end = rw end (answers ∙ ap ending closed)
     by (Err fault) unfinished closed end = inl (answers ∙ ap ending unfinished)

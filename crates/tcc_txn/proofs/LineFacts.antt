@@ -1,5 +1,5 @@
 -- The fields of a record, and the number that a field writes.
-use Rattle.std.proofs.Common.{◌≡◌, ◌≢◌, ℕ, zero, suc, ◌<◌, ◌^◌, Bool, true, false, List, [], ◌∷◌, length, get_or, refl, sym, ap, rules, arith, cond, nat_lt}
+use Rattle.std.proofs.Common.{◌≡◌, ◌≢◌, ℕ, zero, suc, ◌<◌, ◌^◌, Bool, true, false, List, [], ◌∷◌, length, get_or, refl, sym, ap, rules, arith, cond, nat_lt, inl, inr, ◌∙◌}
 use Rattle.std.specs.Prelude.{IsSome, option_map, Option, None, Some, Result, Ok, Err, IsUtf8, ◌&&◌, ◌==◌, is_some, codes}
 use Rattle.std.specs.Result.{result_ok, OkIff}
 use Rattle.std.specs.Str.{all_ascii_digits}
@@ -9,9 +9,9 @@ use Rattle.std.proofs.lemmas.Str.{IsUtf8-from_ascii}
 use Rattle.std.proofs.lemmas.Str.Parse.{numerals_by_value, parse_plain, tells_all_ascii_digits}
 use Rattle.csv.specs.Records.{field_at}
 use Rattle.std.specs.Option.{option_map_or}
-use Rattle.tcc_txn.specs.Lines.{Record, accessed, digits_of, in_session, line_of, op_of, same, value_of}
+use Rattle.tcc_txn.specs.Lines.{Record, access_of, accessed, digits_of, in_session, line_of, op_of, same, session_of, value_of}
 use Rattle.tcc_txn.specs.Names.{name_fault}
-use Rattle.tcc_txn.specs.Standing.{writes_no_zero}
+use Rattle.tcc_txn.specs.Standing.{PassesLine, PassesOperation, writes_no_zero}
 use Rattle.tcc_txn.specs.Transactions.{writes_zero}
 use Rattle.tcc_txn.specs.declared.op.Op.{Op}
 use Rattle.tcc_txn.specs.declared.op.Op.TheVariants.{Get, Put}
@@ -19,6 +19,7 @@ use Rattle.tcc_txn.specs.declared.rows.RowFaultKind.{RowFaultKind}
 use Rattle.tcc_txn.specs.declared.rows.line.Line.{Line}
 use Rattle.tcc_txn.specs.declared.rows.line.Line.TheVariants as line
 use Rattle.tcc_txn.specs.declared.rows.RowFaultKind.TheVariants as kind
+use Rattle.tcc_txn.specs.declared.rows.progress.Progress.{Progress}
 
 -- digits are text
 ascii-digits : (bytes : List ℕ) → all_ascii_digits bytes ≡ true → (i : ℕ) → get_or bytes i 0 < 128
@@ -133,3 +134,54 @@ line_of-no_zero (session ∷ word ∷ key ∷ value ∷ []) l e =
     by false false true e = in_session-no_zero session _ l (op_of-no_zero true key value) e
     by false false false e = cc e
 line_of-no_zero (a ∷ b ∷ c ∷ d ∷ f ∷ more) l e = cc e
+
+-- the line of four fields, by what each of them is read as
+pub refused-session : (a b c d : List ℕ) (k : RowFaultKind) → session_of a ≡ Err k → line_of (a ∷ b ∷ c ∷ d ∷ []) ≡ Err k
+refused-session a b c d k e = by (is_some (name_fault a)) _ e
+  where
+    by : (n : Bool) (rest : Result Line RowFaultKind) → cond n (Err kind.BadSession) (Ok a) ≡ Err k → cond n (Err kind.BadSession) rest ≡ Err k
+    by true rest e = let same_kind : kind.BadSession ≡ k = cc e in ap Err same_kind
+    by false rest e = cc e
+
+named-session : (a s : List ℕ) → session_of a ≡ Ok s → (is_some (name_fault a) ≡ false) × (a ≡ s)
+named-session a s e = by (is_some (name_fault a)) refl e
+  where
+    by : (n : Bool) → is_some (name_fault a) ≡ n → cond n (Err kind.BadSession) (Ok a) ≡ Ok s → (is_some (name_fault a) ≡ false) × (a ≡ s)
+    by true is e = cc e
+    by false is e = (is, cc e)
+
+pub refused-word : (a b c d s : List ℕ) (k : RowFaultKind) → session_of a ≡ Ok s → access_of b ≡ Err k → line_of (a ∷ b ∷ c ∷ d ∷ []) ≡ Err k
+refused-word a b c d s k session e = let is = (named-session a s session).0 in rw is (by (same b (codes "r")) (same b (codes "w")) _ _ e)
+  where
+    by : (r w : Bool) (x y : Result Line RowFaultKind) → cond r (Ok false) (cond w (Ok true) (Err kind.UnknownWord)) ≡ Err k
+        → cond r x (cond w y (Err kind.UnknownWord)) ≡ Err k
+    by true w x y e = cc e
+    by false true x y e = cc e
+    by false false x y e = let same_kind : kind.UnknownWord ≡ k = cc e in ap Err same_kind
+
+accessed-line : (a b c d s : List ℕ) (writes : Bool) → session_of a ≡ Ok s → access_of b ≡ Ok writes
+    → line_of (a ∷ b ∷ c ∷ d ∷ []) ≡ in_session s (op_of writes c d)
+accessed-line a b c d s writes session e =
+    let is = named-session a s session in
+    rw (is.0, ← is.1) (by (same b (codes "r")) (same b (codes "w")) e)
+  where
+    by : (r w : Bool) → cond r (Ok false) (cond w (Ok true) (Err kind.UnknownWord)) ≡ Ok writes
+        → cond r (in_session a (op_of false c d)) (cond w (in_session a (op_of true c d)) (Err kind.UnknownWord)) ≡ in_session a (op_of writes c d)
+    by true w e = let at : false ≡ writes = cc e in ap (λ it. in_session a (op_of it c d)) at
+    by false true e = let at : true ≡ writes = cc e in ap (λ it. in_session a (op_of it c d)) at
+    by false false e = cc e
+
+pub refused-op : (a b c d s : List ℕ) (writes : Bool) (k : RowFaultKind) → session_of a ≡ Ok s → access_of b ≡ Ok writes → op_of writes c d ≡ Err k
+    → line_of (a ∷ b ∷ c ∷ d ∷ []) ≡ Err k
+refused-op a b c d s writes k session access e = accessed-line a b c d s writes session access ∙ ap (in_session s) e
+
+pub operation-line : (a b c d s : List ℕ) (writes : Bool) (op : Op) → session_of a ≡ Ok s → access_of b ≡ Ok writes → op_of writes c d ≡ Ok op
+    → line_of (a ∷ b ∷ c ∷ d ∷ []) ≡ Ok (line.Operation s op)
+operation-line a b c d s writes op session access e = accessed-line a b c d s writes session access ∙ ap (in_session s) e
+
+-- what comes of an operation, of its line
+pub operation-passes : {U : Type 0} (past : List Line) (fields : Record) (session : List ℕ) (op : Op) (result : Result U RowFaultKind) (p : Progress)
+    → line_of fields ≡ Ok (line.Operation session op) → PassesLine past (line.Operation session op) result p → PassesOperation past fields result p
+operation-passes past fields session op (Ok done) p lawful (free, is) = (session, op, lawful, free, is)
+operation-passes past fields session op (Err k) p lawful (inl fault) = inr (inl (line.Operation session op, lawful, fault))
+operation-passes past fields session op (Err k) p lawful (inr want) = inr (inr want)

@@ -9,8 +9,9 @@ use Rattle.std.specs.HashSet as set
 use Rattle.std.specs.HashSet.{contains, hash_set_len}
 use Rattle.std.proofs.lemmas.Bool.Decides.{nat_tests}
 use Rattle.tcc_txn.specs.Lines.{same}
-use Rattle.tcc_txn.specs.Past.{begin_count, fault_of, is_begun, keys, key_of, ops_since, sessions, with_name}
+use Rattle.tcc_txn.specs.Past.{begin_count, fault_of, is_begun, keys, ops_since, sessions, with_name}
 use Rattle.tcc_txn.specs.Standing.{NameSet, HoldsNames, HoldsSeats, IsAfter, NotesName, PassesLine, seat}
+use Rattle.tcc_txn.specs.Transactions.{op_key}
 use Rattle.tcc_txn.specs.declared.op.Op.{Op}
 use Rattle.tcc_txn.specs.Drafts.{AddsOp}
 use Rattle.tcc_txn.specs.declared.rows.RowFaultKind.{RowFaultKind}
@@ -163,17 +164,17 @@ pub record Placed (past : List Line) (s : List ℕ) (op : Op) (old : Progress) (
   pub count : btree_map_len seats ≡ btree_map_len old.sessions
 
 fault-of-key : (past : List Line) (s : List ℕ) (op : Op) → is_begun s past ≡ true → length (ops_since s past) < 256
-    → fault_of past (line.Operation s op) ≡ cond (nat_lt 1024 (length (with_name (key_of op) (keys past)))) (Some kind.TooManyKeys) None
+    → fault_of past (line.Operation s op) ≡ cond (nat_lt 1024 (length (with_name (op_key op) (keys past)))) (Some kind.TooManyKeys) None
 fault-of-key past s op begun room =
     let few : nat_lt 256 (length (ops_since s (line.Operation s op ∷ past))) ≡ false = within _ _ (omega (arith, more-ops past s op)) in
     rw (begun, few) refl
 
 -- what comes of an operation that has its place, by whether its key can be noted
 pub after-operation : {U : Type 0} (past : List Line) (s : List ℕ) (op : Op) (old : Progress) (seats : BTreeMap (List ℕ) (Option (List Op))) (names : NameSet) (result : Result U RowFaultKind)
-    → IsAfter past old → Placed past s op old seats → NotesName (keys past) (key_of op) result names
+    → IsAfter past old → Placed past s op old seats → NotesName (keys past) (op_key op) result names
     → PassesLine past (line.Operation s op) result (record { sessions = seats; keys = names; begun = old.begun; seals = old.seals })
 after-operation past s op old seats names (Ok done) is placed noted =
-    let few : nat_lt 1024 (length (with_name (key_of op) (keys past))) ≡ false = within _ _ noted.few in (
+    let few : nat_lt 1024 (length (with_name (op_key op) (keys past))) ≡ false = within _ _ noted.few in (
       fault-of-key past s op placed.begun placed.room ∙ rw few refl,
       record {
         seats = record {
@@ -189,7 +190,7 @@ after-operation past s op old seats names (Ok done) is placed noted =
       },
     )
 after-operation past s op old seats names (Err k) is placed (inl many) =
-    let over : nat_lt 1024 (length (with_name (key_of op) (keys past))) ≡ true = above _ _ many.1 in
+    let over : nat_lt 1024 (length (with_name (op_key op) (keys past))) ≡ true = above _ _ many.1 in
     inl (fault-of-key past s op placed.begun placed.room ∙ rw (over, many.0) refl)
 after-operation past s op old seats names (Err k) is placed (inr want) = inr want
 

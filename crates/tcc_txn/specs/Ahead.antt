@@ -1,7 +1,7 @@
 -- The answers that a reader of rows has still to give.
-use Rattle.std.specs.Prelude.{ℕ, ◌+◌, ◌^◌, ◌<◌, ◌≡◌, ◌⊎◌, Bool, true, false, List, ◌∷◌, length, Option, None, Some, Result, Ok, Err}
+use Rattle.std.specs.Prelude.{ℕ, ◌+◌, ◌^◌, ◌<◌, ◌≡◌, ◌⊎◌, Bool, true, false, List, [], ◌∷◌, length, Option, None, Some, Result, Ok, Err}
 use Rattle.tcc_txn.specs.Answers.{Answers, after_item, answers_after, ending, judged}
-use Rattle.tcc_txn.specs.Lines.{Record}
+use Rattle.tcc_txn.specs.Lines.{Record, is_cut, line_of}
 use Rattle.tcc_txn.specs.Past.{item_of}
 use Rattle.tcc_txn.specs.RecordsLeft.{HasLeft, IsFailure}
 use Rattle.tcc_txn.specs.Standing.{IsAfter}
@@ -10,6 +10,7 @@ use Rattle.tcc_txn.specs.declared.rows.Item.TheVariants as item
 use Rattle.tcc_txn.specs.declared.rows.Phase.{Phase}
 use Rattle.tcc_txn.specs.declared.rows.Phase.TheVariants as phase
 use Rattle.tcc_txn.specs.declared.rows.RowFault.{RowFault}
+use Rattle.tcc_txn.specs.declared.rows.RowFaultKind.{RowFaultKind}
 use Rattle.tcc_txn.specs.declared.rows.RowFaultKind.TheVariants as kind
 use Rattle.tcc_txn.specs.declared.rows.Rows.{Rows}
 use Rattle.tcc_txn.specs.declared.rows.line.Line.{Line}
@@ -78,6 +79,26 @@ TakesAnswer remaining ahead (Ok item.Seal) new = (rest : Answers) × (ahead ≡ 
 TakesAnswer remaining ahead (Ok (item.Finished name txn)) new =
     (rest : Answers) × (ahead ≡ after_item (Some (item.Finished name txn)) rest) × IsAhead remaining new rest
 TakesAnswer remaining ahead (Err fault) new = FaultsIn ahead fault × IsAhead remaining new (ending (Some fault))
+
+-- the line of the record that was read last, the first of those that are left: these are the answers from there on, after the lawful lines so far
+pub record IsAtLine {R : Type 0} (remaining : R → Option (List ℕ)) (rows : Rows R) (ahead : Answers) (line : Line) : Type 0 where
+  pub past : List Line
+  pub fields : Record
+  pub left : List Record
+  pub records : HasLeft remaining rows.records left
+  pub progress : IsAfter past rows.progress
+  pub counted : rows.row ≡ length past
+  pub fits : length past + length left + 2 < 2 ^ 64
+  pub whole : is_cut fields ≡ false
+  pub lawful : line_of fields ≡ Ok line
+  pub answers : ahead ≡ answers_after past (fields ∷ left)
+
+-- the operations before it were passed: a line, the end of the records, or a fault in place of the first answer
+abbrev pub MeetsLine : {R : Type 0} → (R → Option (List ℕ)) → Answers → Result (Option Line) RowFaultKind → Rows R → Type 0
+MeetsLine remaining ahead (Ok (Some line)) new = IsAtLine remaining new ahead line
+MeetsLine remaining ahead (Ok None) new =
+    (past : List Line) × IsAfter past new.progress × (new.row ≡ length past) × (ahead ≡ answers_after past [])
+MeetsLine remaining ahead (Err k) new = (new.row + 1 < 2 ^ 64) × FaultsIn ahead (record { row = new.row + 1; kind = k })
 
 -- the record after lawful lines: the item of its line, or the fault of the record unless memory was refused
 abbrev pub TakesFields : {R : Type 0} → List Line → Record → Result (Option Item) RowFault → Rows R → Type 0

@@ -7,8 +7,8 @@ use Rattle.std.specs.Cmp.Lexicographic.{slice_cmp}
 use Rattle.std.specs.declared.cmp.Ordering.{Ordering}
 use Rattle.std.specs.declared.cmp.Ordering.TheVariants.{Less, Equal, Greater}
 use Rattle.tcc_txn.specs.Lines.{same}
+use Rattle.tcc_txn.specs.Transactions.{op_key}
 use Rattle.tcc_txn.specs.declared.op.Op.{Op}
-use Rattle.tcc_txn.specs.declared.op.Op.TheVariants.{Get, Put}
 use Rattle.tcc_txn.specs.declared.rows.Item.{Item}
 use Rattle.tcc_txn.specs.declared.rows.Item.TheVariants as item
 use Rattle.tcc_txn.specs.declared.rows.RowFaultKind.{RowFaultKind}
@@ -58,17 +58,13 @@ sessions (line.Begin session ∷ past) = with_name session (sessions past)
 sessions (line.Finish session committed ∷ past) = sessions past
 sessions (line.Operation session op ∷ past) = sessions past
 
-abbrev pub key_of : Op → List ℕ
-key_of (Get key value) = key
-key_of (Put key value) = key
-
 -- the keys so far, each once
 abbrev pub keys : List Line → List (List ℕ)
 keys [] = []
 keys (line.Seal ∷ past) = keys past
 keys (line.Begin session ∷ past) = keys past
 keys (line.Finish session committed ∷ past) = keys past
-keys (line.Operation session op ∷ past) = with_name (key_of op) (keys past)
+keys (line.Operation session op ∷ past) = with_name (op_key op) (keys past)
 
 -- how many transactions were begun
 abbrev pub begin_count : List Line → ℕ

@@ -7,7 +7,7 @@ use Rattle.std.specs.BTreeMap.{BTreeMap, btree_map_len, get}
 use Rattle.std.specs.HashSet.{HashSet, contains, hash_set_len}
 use Rattle.std.specs.declared.hash.BuildHasherDefault.{BuildHasherDefault}
 use Rattle.std.specs.declared.hash.FoldHasher.{FoldHasher}
-use Rattle.tcc_txn.specs.Lines.{same}
+use Rattle.tcc_txn.specs.Lines.{Record, line_of, same}
 use Rattle.tcc_txn.specs.Past.{begin_count, fault_of, is_begun, item_of, keys, ops_since, seal_count, sessions, with_name}
 use Rattle.tcc_txn.specs.Transactions.{writes_zero}
 use Rattle.tcc_txn.specs.declared.op.Op.{Op}
@@ -67,7 +67,15 @@ abbrev pub PassesLine : {U : Type 0} → List Line → Line → Result U RowFaul
 PassesLine past last (Ok done) new = (fault_of past last ≡ None) × IsAfter (last ∷ past) new
 PassesLine past last (Err k) new = (fault_of past last ≡ Some k) ⊎ (k ≡ kind.NoMemory)
 
--- the same, with what the line finishes or the answer that it wants
+-- the record is an operation, is lawful after the others and is one of them now, or it has this kind of fault
+abbrev pub PassesOperation : {U : Type 0} → List Line → Record → Result U RowFaultKind → Progress → Type 0
+PassesOperation past fields (Ok done) new =
+    (session : List ℕ) × (op : Op) × (line_of fields ≡ Ok (line.Operation session op))
+    × (fault_of past (line.Operation session op) ≡ None) × IsAfter (line.Operation session op ∷ past) new
+PassesOperation past fields (Err k) new =
+    (line_of fields ≡ Err k) ⊎ ((last : Line) × (line_of fields ≡ Ok last) × (fault_of past last ≡ Some k)) ⊎ (k ≡ kind.NoMemory)
+
+-- the line is lawful after the others and is one of them now, with what it finishes or the answer that it wants
 abbrev pub TakesLine : List Line → Line → Result (Option Item) RowFaultKind → Progress → Type 0
 TakesLine past last (Ok given) new = (fault_of past last ≡ None) × (given ≡ item_of past last) × IsAfter (last ∷ past) new
 TakesLine past last (Err k) new = (fault_of past last ≡ Some k) ⊎ (k ≡ kind.NoMemory)

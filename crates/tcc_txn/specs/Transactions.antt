@@ -1,5 +1,5 @@
 -- Operations and transactions.
-use Rattle.std.specs.Prelude.{◌+◌, Bool, false, ◌==◌, nat_lt, if◌then◌else◌, List, length, Option, None, Some, position}
+use Rattle.std.specs.Prelude.{ℕ, ◌+◌, Bool, false, ◌==◌, nat_lt, if◌then◌else◌, List, length, Option, None, Some, position}
 use Rattle.std.specs.Option.{option_map_or}
 use Rattle.tcc_txn.specs.declared.op.Op.{Op}
 use Rattle.tcc_txn.specs.declared.op.Op.TheVariants.{Get, Put}
@@ -10,6 +10,16 @@ use Rattle.tcc_txn.specs.declared.txn.TxnFault.TheVariants.{WriteOfZero, TooMany
 pub record Transaction : Type 0 where
   pub ops : List Op
   pub committed : Bool
+
+-- the key that the operation reads or writes
+abbrev pub op_key : Op → List ℕ
+op_key (Get key value) = key
+op_key (Put key value) = key
+
+-- the value that it reads or writes there
+abbrev pub op_value : Op → ℕ
+op_value (Get key value) = value
+op_value (Put key value) = value
 
 -- writes the initial value
 abbrev pub writes_zero : Op → Bool

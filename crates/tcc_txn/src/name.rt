@@ -153,6 +153,14 @@ impl Name {
         &self.buffer[..self.len as usize]
     }
 
+    /// Whether the bytes are this name.
+    pub(crate) fn is(&self, bytes: &[u8]) -> bool
+        ensures equal { result ≡ pointwise nat_eq bytes.now self.now }
+        ensures named { name_fault self.now ≡ None }
+    {
+        bytes == &self.buffer[..self.len as usize]
+    }
+
     /// An equal name.
     pub fn copy(&self) -> Result<Name, NoMemory>
         ensures { result ≡ Ok self.now }

@@ -1,7 +1,7 @@
 //! Transactions and seals as they come out of records.
-ghost use Rattle.std.specs.Prelude.{◌≡◌, ◌+◌, ◌^◌, ◌<◌, List, length, true, IfOk, IfErr, IfSome, OnOk, None, Some};
+ghost use Rattle.std.specs.Prelude.{◌≡◌, ◌+◌, ◌^◌, ◌<◌, List, length, true, IfOk, IfErr, IfSome, OnOk, None, Some, false, Ok};
 ghost use Rattle.tcc_txn.specs.Answers.{Answers, answers_of, fault_at_end};
-ghost use Rattle.tcc_txn.specs.Standing.{IsAfter};
+ghost use Rattle.tcc_txn.specs.Standing.{IsAfter, writes_no_zero};
 ghost use Rattle.tcc_txn.specs.declared.rows.line.Line.{Line};
 
 mod draft;
@@ -11,7 +11,7 @@ mod progress;
 mod records;
 
 use crate::{Name, NoMemory, Txn};
-use line::read_line;
+use line::{Line, read_line};
 use progress::Progress;
 use records::Records;
 use std::alloc::Global;
@@ -110,13 +110,15 @@ pub struct Rows<R> {
     records: Records<R>,
     row: u64,
     progress: Progress,
+    /// The session of the last operation.
+    session: Option<Name>,
     phase: Phase,
 }
 
 impl<R: Read + Drop> Rows<R> {
-    ghost use Rattle.tcc_txn.specs.Ahead.{FaultsIn, IsAhead, IsReading, TakesAnswer, TakesFields, TakesItem, TakesStep, fault_met, has_ended};
+    ghost use Rattle.tcc_txn.specs.Ahead.{FaultsIn, IsAhead, IsReading, MeetsLine, TakesAnswer, TakesFields, TakesItem, TakesStep, fault_met, has_ended};
+    ghost use Rattle.tcc_txn.specs.Lines.{Record, is_cut, line_of};
     ghost use Rattle.tcc_txn.specs.Phases.{phase_after, phase_after_step};
-    ghost use Rattle.tcc_txn.specs.RecordsLeft.{record_of};
 
     /// The rows of what the reader gives; it is gone where memory is refused.
     pub fn new(alloc: Global, reader: R) -> Result<Rows<R>, NoMemory>
@@ -126,6 +128,7 @@ impl<R: Read + Drop> Rows<R> {
             records: Records::new(alloc, reader),
             row: 0,
             progress: Progress::new(alloc),
+            session: None,
             phase: Phase::Reading,
         })
     }
@@ -189,30 +192,56 @@ impl<R: Read + Drop> Rows<R> {
         }
     }
 
-    /// Goes past one record, or to the end.
+    /// Goes past one line that is no operation, or to the end.
     fn step(&mut self, alloc: Global) -> Result<Option<Item>, RowFault>
         requires { self.old.phase ≡ Phase.Reading }
         ensures step { (ahead : Answers) → IsReading R.remaining self.old ahead → TakesStep R.remaining ahead result self.new }
         ensures phase { IfOk result (λ given. self.new.phase ≡ phase_after_step given) }
     {
-        match self.records.read() {
-            Ok(true) => self.take_record(alloc),
-            Ok(false) => self.finish(),
+        match self.next_line() {
+            Ok(Some(line)) => self.take_line(alloc, line),
+            Ok(None) => self.finish(),
             Err(kind) => Err(self.fault_at_next(kind)),
         }
     }
 
-    /// Goes past the record that was read last.
-    fn take_record(&mut self, alloc: Global) -> Result<Option<Item>, RowFault>
-        ensures fields { (past : List Line) → IsAfter past self.old.progress → self.old.row ≡ length past → length past + 1 < 2 ^ 64
-            → TakesFields past (record_of self.old.records) result self.new }
+    /// Goes past operations, and gives the line after them, if there is one.
+    fn next_line(&mut self) -> Result<Option<Line>, RowFaultKind>
+        ensures line { (ahead : Answers) → IsReading R.remaining self.old ahead → MeetsLine R.remaining ahead result self.new }
+        ensures phase { self.new.phase ≡ self.old.phase }
+        ensures no_zero { IfOk result (λ found. IfSome found writes_no_zero) }
+    {
+        'records: for _ in 0..u64::MAX {
+            match self.records.read() {
+                Ok(true) => {}
+                Ok(false) => return Ok(None),
+                Err(kind) => return Err(kind),
+            }
+            if self.records.record().len() != 4 {
+                return match read_line(self.records.record()) {
+                    Ok(line) => Ok(Some(line)),
+                    Err(kind) => Err(kind),
+                };
+            }
+            if let Err(kind) = self
+                .progress
+                .pass_operation(&mut self.session, self.records.record())
+            {
+                return Err(kind);
+            }
+            self.row = self.row.saturating_add(1);
+        }
+        Err(RowFaultKind::Read)
+    }
+
+    /// Goes past the line that the record read last is.
+    fn take_line(&mut self, alloc: Global, line: Line) -> Result<Option<Item>, RowFault>
+        requires { writes_no_zero line }
+        ensures fields { (past : List Line) (fields : Record) → IsAfter past self.old.progress → self.old.row ≡ length past → length past + 1 < 2 ^ 64
+            → is_cut fields ≡ false → line_of fields ≡ Ok line → TakesFields past fields result self.new }
         ensures records { self.new.records ≡ self.old.records }
         ensures phase { self.old.phase ≡ Phase.Reading → IfOk result (λ given. self.new.phase ≡ phase_after_step given) }
     {
-        let line = match read_line(self.records.record()) {
-            Ok(line) => line,
-            Err(kind) => return Err(self.fault_at_next(kind)),
-        };
         match self.progress.pass(alloc, line) {
             Ok(item) => {
                 self.row = self.row.saturating_add(1);

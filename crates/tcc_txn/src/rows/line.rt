@@ -1,7 +1,7 @@
 //! What one record says by itself.
 ghost use Rattle.std.specs.Prelude.{◌≡◌, ◌≢◌, ◌<◌, ◌∷◌, [], length, slice_index};
 ghost use Rattle.csv.specs.Records.{field_at, fields_of};
-ghost use Rattle.tcc_txn.specs.Lines.{digits_of, line_of, op_of, value_of};
+ghost use Rattle.tcc_txn.specs.Lines.{access_of, digits_of, line_of, op_of, session_of, value_of};
 
 use super::RowFaultKind;
 use crate::{Name, Op};
@@ -78,7 +78,7 @@ fn read_turn(session: &[u8], word: &[u8]) -> Result<Line, RowFaultKind>
 }
 
 /// A read or a write of the key.
-fn read_op(writes: bool, key: &[u8], value: &[u8]) -> Result<Op, RowFaultKind>
+pub(crate) fn read_op(writes: bool, key: &[u8], value: &[u8]) -> Result<Op, RowFaultKind>
     ensures { result ≡ op_of writes key.now value.now }
 {
     let Ok(key) = Name::read(key) else {
@@ -93,6 +93,35 @@ fn read_op(writes: bool, key: &[u8], value: &[u8]) -> Result<Op, RowFaultKind>
         Err(RowFaultKind::WriteOfZero)
     } else {
         Ok(Op::Put { key, value })
+    }
+}
+
+/// The session of an operation, which is mostly that of the one before.
+pub(crate) fn read_session(last: &mut Option<Name>, session: &[u8]) -> Result<Name, RowFaultKind>
+    ensures { result ≡ session_of session.now }
+{
+    if let Some(name) = last {
+        if name.is(session) {
+            return Ok(*name);
+        }
+    }
+    let Ok(name) = Name::read(session) else {
+        return Err(RowFaultKind::BadSession);
+    };
+    *last = Some(name);
+    Ok(name)
+}
+
+/// Whether the operation is a write.
+pub(crate) fn read_access(word: &[u8]) -> Result<bool, RowFaultKind>
+    ensures { result ≡ access_of word.now }
+{
+    if word == b"r".as_slice() {
+        Ok(false)
+    } else if word == b"w".as_slice() {
+        Ok(true)
+    } else {
+        Err(RowFaultKind::UnknownWord)
     }
 }
 
@@ -119,7 +148,7 @@ fn read_operation(
 }
 
 /// The field at the place.
-fn field(record: &ByteRecord, place: usize) -> &[u8]
+pub(crate) fn field(record: &ByteRecord, place: usize) -> &[u8]
     requires { place < length (fields_of record.now) }
     ensures { Some result.now ≡ field_at (fields_of record.now) place }
 {

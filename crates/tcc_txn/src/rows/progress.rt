@@ -1,11 +1,12 @@
 //! What the lines so far have begun, finished and named.
-ghost use Rattle.std.specs.Prelude.{◌≡◌, ℕ, ◌∷◌, [], false, List, IfOk, find, is_some, option_map};
+ghost use Rattle.std.specs.Prelude.{◌≡◌, ℕ, ◌∷◌, [], false, List, IfOk, find, is_some, option_map, length};
 ghost use Rattle.std.specs.Ordering.{nat_cmp};
 ghost use Rattle.std.specs.Cmp.Lexicographic.{slice_cmp};
 ghost use Rattle.std.specs.BTreeMap.{IsOrdered};
+ghost use Rattle.csv.specs.Records.{fields_of};
 ghost use Rattle.tcc_txn.specs.Lines.{line_of};
-ghost use Rattle.tcc_txn.specs.Past.{key_of, least, open_sessions, ops_since};
-ghost use Rattle.tcc_txn.specs.Standing.{HoldsNames, HoldsSeats, IsAfter, MayBegin, NotesName, PassesLine, TakesLine, writes_no_zero};
+ghost use Rattle.tcc_txn.specs.Past.{least, open_sessions, ops_since};
+ghost use Rattle.tcc_txn.specs.Standing.{HoldsNames, HoldsSeats, IsAfter, MayBegin, NotesName, PassesLine, PassesOperation, TakesLine, writes_no_zero};
 ghost use Rattle.tcc_txn.specs.Transactions.{writes_zero};
 ghost use Rattle.tcc_txn.specs.Phases.{phase_after_step};
 ghost use Rattle.tcc_txn.specs.declared.rows.Phase.TheVariants as phase;
@@ -13,9 +14,10 @@ ghost use Rattle.tcc_txn.specs.declared.rows.line.Line.{Line};
 ghost use Rattle.tcc_txn.specs.declared.rows.line.Line.TheVariants as line;
 
 use super::draft::{Draft, add_operation};
-use super::line::Line;
+use super::line::{Line, field, read_access, read_op, read_session};
 use super::{Item, RowFaultKind};
 use crate::{Name, Op, Txn};
+use csv::ByteRecord;
 use std::alloc::Global;
 use std::collections::{BTreeMap, HashSet};
 
@@ -36,16 +38,6 @@ pub(crate) struct Progress {
     keys: HashSet<Name>,
     begun: u32,
     seals: u32,
-}
-
-/// The key that the operation reads or writes.
-fn key_of(op: &Op) -> Name
-    ensures { result ≡ key_of op.now }
-{
-    match op {
-        Op::Get { key, .. } => *key,
-        Op::Put { key, .. } => *key,
-    }
 }
 
 /// The key is one of those so far, of which there are not too many.
@@ -154,7 +146,7 @@ impl Progress {
         requires { writes_zero op ≡ false }
         ensures { (past : List Line) → IsAfter past self.old → PassesLine past (line.Operation session op) result self.new }
     {
-        let key = key_of(&op);
+        let key = op.key();
         match self.sessions.get_mut(&session) {
             Some(begun) => {
                 if let Err(kind) = add_operation(begun, op) {
@@ -164,6 +156,51 @@ impl Progress {
             None => return Err(RowFaultKind::NotBegun),
         }
         note_key(&mut self.keys, key)
+    }
+
+    /// Goes past an operation, where four fields are one; `last` is the session of the one before.
+    fn pass_fields(
+        &mut self,
+        last: &mut Option<Name>,
+        session: &[u8],
+        word: &[u8],
+        key: &[u8],
+        value: &[u8],
+    ) -> Result<(), RowFaultKind>
+        ensures { (past : List Line) → IsAfter past self.old
+            → PassesOperation past (session.now ∷ word.now ∷ key.now ∷ value.now ∷ []) result self.new }
+    {
+        let session = match read_session(last, session) {
+            Ok(session) => session,
+            Err(kind) => return Err(kind),
+        };
+        let writes = match read_access(word) {
+            Ok(writes) => writes,
+            Err(kind) => return Err(kind),
+        };
+        let op = match read_op(writes, key, value) {
+            Ok(op) => op,
+            Err(kind) => return Err(kind),
+        };
+        self.operate(session, op)
+    }
+
+    /// Goes past a record of four fields, where it is an operation.
+    pub(crate) fn pass_operation(
+        &mut self,
+        last: &mut Option<Name>,
+        record: &ByteRecord,
+    ) -> Result<(), RowFaultKind>
+        requires { length (fields_of record.now) ≡ 4 }
+        ensures { (past : List Line) → IsAfter past self.old → PassesOperation past (fields_of record.now) result self.new }
+    {
+        self.pass_fields(
+            last,
+            field(record, 0),
+            field(record, 1),
+            field(record, 2),
+            field(record, 3),
+        )
     }
 
     /// Goes past the line, which may finish something.

@@ -212,12 +212,16 @@ fn finishes<R: Read + Drop>(
     txn
 }
 
-// Whether the operation is a write, and its value.
-fn shown(op: &Op) -> (bool, u64) {
-    match op {
-        Op::Get { value, .. } => (false, *value),
-        Op::Put { value, .. } => (true, *value),
-    }
+// Whether the operation is a write of the value at the key.
+fn writes(op: &Op, key: &str, value: u64) -> bool {
+    let name = op.key();
+    matches!(op, Op::Put { .. }) && name.bytes() == key.as_bytes() && op.value() == value
+}
+
+// Whether the operation is a read of the value at the key.
+fn reads(op: &Op, key: &str, value: u64) -> bool {
+    let name = op.key();
+    matches!(op, Op::Get { .. }) && name.bytes() == key.as_bytes() && op.value() == value
 }
 
 #[test]
@@ -231,8 +235,8 @@ fn gives_what_was_finished(rt: HostRuntime) -> Result<(), Fail> {
     let committed = finishes(&rt, alloc, &mut rows, "b");
     assert!(rt; committed.committed());
     assert_eq!(rt; committed.ops().len(), 2);
-    assert_eq!(rt; shown(&committed.ops()[0]), (true, 7));
-    assert_eq!(rt; shown(&committed.ops()[1]), (false, 0));
+    assert!(rt; writes(&committed.ops()[0], "x", 7));
+    assert!(rt; reads(&committed.ops()[1], "y", 0));
     assert!(rt; matches!(rows.next(alloc), Ok(Item::End)));
     Ok(())
 }

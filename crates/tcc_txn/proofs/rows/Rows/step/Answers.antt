@@ -1,18 +1,23 @@
 use Rattle.std.proofs.Common.{arith}
-use Rattle.tcc_txn.proofs.AheadFacts.{end-taken, unfinished-after, closed-after, record-taken}
+use Rattle.tcc_txn.proofs.AheadFacts.{end-taken, unfinished-after, closed-after, line-taken, same-fault}
 use Rattle.tcc_txn.proofs.rows.Rows.step.Goals as goal
 
-pub returns-in-Ok-true-clause-step : goal.returns-in-Ok-true-clause-step
-returns-in-Ok-true-clause-step g c ahead reading =
-    let taken = rw c.in-Ok-true.field-0-test at (c.in-Ok-true.ensures.taken reading.left reading.records) in
-    let fields = c.take_record.ensures.fields reading.past reading.progress reading.counted (omega (arith, reading.fits)) in
-    record-taken g.R.Read.remaining c.args.self.now c.take_record.new.self c.read.new.self ahead reading taken c.take_record.ensures.records c.take_record.result fields
+pub returns-in-Ok-Some-clause-step : goal.returns-in-Ok-Some-clause-step
+returns-in-Ok-Some-clause-step g c ahead reading =
+    let here = rw c.in-Ok-Some.field-0-is at (c.in-Ok-Some.ensures.line ahead reading) in
+    let fields = c.take_line.ensures.fields here.past here.fields here.progress here.counted (omega (arith, here.fits)) here.whole here.lawful in
+    line-taken g.R.Read.remaining c.next_line.new.self c.take_line.new.self ahead c.in-Ok-Some.line here c.take_line.ensures.records c.take_line.result fields
 
-pub returns-in-Ok-false-clause-step : goal.returns-in-Ok-false-clause-step
-returns-in-Ok-false-clause-step g c ahead reading =
-    let none = rw c.in-Ok-false.field-0-test at (c.in-Ok-false.ensures.taken reading.left reading.records) in
+pub returns-in-Ok-None-clause-step : goal.returns-in-Ok-None-clause-step
+returns-in-Ok-None-clause-step g c ahead reading =
+    let (past, is, counted, answers) = rw c.in-Ok-None.field-0-is at (c.in-Ok-None.ensures.line ahead reading) in
     let end = c.finish.ensures in
-    end-taken g.R.Read.remaining c.args.self.now c.finish.new.self ahead reading none c.finish.result
-    (unfinished-after c.finish.result _ _ reading.past reading.progress reading.counted end.unfinished)
-    (closed-after c.finish.result _ reading.past reading.progress end.closed)
+    end-taken g.R.Read.remaining c.finish.new.self ahead past answers c.finish.result
+    (unfinished-after c.finish.result _ _ past is counted end.unfinished)
+    (closed-after c.finish.result _ past is end.closed)
     end.end
+
+pub returns-in-Err-clause-step : goal.returns-in-Err-clause-step
+returns-in-Err-clause-step g c ahead reading =
+    let (fits, faults) = c.in-Err.ensures.line ahead reading in
+    same-fault ahead c.next_line.new.self.row c.in-Err.kind c.fault_at_next.result (c.fault_at_next.ensures.row fits) c.fault_at_next.ensures.kind faults

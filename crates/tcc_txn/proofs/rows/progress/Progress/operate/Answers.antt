@@ -12,4 +12,4 @@ returns c past is =
     let held = c.get_mut.follows.holds c.add_operation.new.begun in
     let placed =
     placed-added past c.args.session c.args.op c.args.self.now (c.get_mut.follows.lender c.add_operation.new.begun) c.in-Some.begun.now c.add_operation.new.begun c.in_default.field-0 is (sym c.in-Some.ensures.value) c.in_default.ensures held.3 held.2 in
-    after-operation past c.args.session c.args.op c.args.self.now (c.get_mut.follows.lender c.add_operation.new.begun) c.note_key.new.keys c.note_key.result is placed (rw c.key_of-key.ensures at (c.note_key.ensures (keys past) is.names))
+    after-operation past c.args.session c.args.op c.args.self.now (c.get_mut.follows.lender c.add_operation.new.begun) c.note_key.new.keys c.note_key.result is placed (rw c.key-key.ensures at (c.note_key.ensures (keys past) is.names))
