@@ -2,7 +2,6 @@
 use Rattle.std.proofs.Common.{◌≡◌, ℕ, zero, suc, ◌+◌, ◌<◌, ◌≤◌, Bool, true, false, cond, List, [], ◌∷◌, length, map, filter, flat_map, All, Some, unwrap_or, ap, sym, ◌∙◌, subst, arith, get_or}
 use Rattle.std.specs.Prelude.{◌==◌}
 use Rattle.std.specs.List.{position_from}
-use Rattle.std.specs.BTreeMap.{BTreeMap}
 use Rattle.std.specs.BTreeSet.{insert_key}
 use Rattle.std.specs.FinMap.{entries}
 use Rattle.std.specs.declared.cmp.Ordering.{Ordering}
@@ -13,41 +12,40 @@ use Rattle.std.proofs.lemmas.List.{length-map, nil_from_length}
 use Rattle.std.proofs.lemmas.List.Elements.{All-nil, All-cons, All-head, All-tail, All-map, All-filter}
 use Rattle.tcc_txn.specs.Snapshots.{Sessions}
 use Rattle.tcc_reads.specs.declared.fault.ReadFault.{ReadFault}
-use Rattle.tcc_reads.specs.declared.writers.Writer.{Writer}
 use Rattle.tcc_reads.specs.History.{Entry, History, initial}
 use Rattle.tcc_reads.specs.Sites.{Stand, is_committed, stands, committed}
 use Rattle.tcc_reads.specs.Numbers.{Numbered, numbered_from}
 use Rattle.tcc_reads.specs.Sources.{shows, source, external_reads, sorted_once, pair_cmp, entry_of, history}
 use Rattle.tcc_reads.specs.Faults.{writer, read_faults}
 use Rattle.tcc_reads.specs.Stored.{places_of, IsStored}
-use Rattle.tcc_reads.specs.Verdicts.{held, AreFirstWriters, faults_found, entries_found}
+use Rattle.tcc_reads.specs.Verdicts.{Writes, AreFirstWriters, faults_found, entries_found}
 use Rattle.tcc_reads.proofs.Counting.{length-numbered_from, stands_from-session}
 use Rattle.tcc_reads.proofs.Agreement.{Agree, agree_on, faults_agree}
 use Rattle.tcc_reads.proofs.Sourcing.{sourced, entries_agree}
 
 -- names, table, nodes and faults are as the resolver makes them
-pub record AreFindings (s : Sessions) (names : List (List ℕ)) (table : BTreeMap (List ℕ) (BTreeMap ℕ Writer)) (nodes : List Entry) (faults : List ReadFault) : Type 0 where
+pub record AreFindings (s : Sessions) (names : List (List ℕ)) (table : Writes) (nodes : List Entry) (faults : List ReadFault) : Type 0 where
   pub names_are : names ≡ map (λ named. named.0) (entries s)
   pub few_names : length names ≤ 64
   pub table_is : AreFirstWriters table (numbered_from 1 (stands s))
   pub few : length (numbered_from 1 (stands s)) ≤ 1023
-  pub nodes_are : nodes ≡ initial ∷ entries_found (held table) (numbered_from 1 (stands s))
-  pub faults_are : faults ≡ flat_map (faults_found (held table)) (numbered_from 1 (stands s))
+  pub nodes_are : nodes ≡ initial ∷ entries_found table (numbered_from 1 (stands s))
+  pub faults_are : faults ≡ flat_map (faults_found table) (numbered_from 1 (stands s))
 
-pub findings : (s : Sessions) (names : List (List ℕ)) (table : BTreeMap (List ℕ) (BTreeMap ℕ Writer)) (nodes : List Entry) (faults : List ReadFault)
+pub findings : (s : Sessions) (names : List (List ℕ)) (table : Writes) (nodes : List Entry) (faults : List ReadFault)
     (all first second : List Numbered)
     → names ≡ map (λ named. named.0) (entries s) → length names ≤ 64
     → all ≡ numbered_from 1 (stands s) → length all ≤ 1023
     → first ≡ all → AreFirstWriters table first
-    → second ≡ all → nodes ≡ initial ∷ entries_found (held table) second → faults ≡ flat_map (faults_found (held table)) second
+    → second ≡ all → nodes ≡ initial ∷ entries_found table second → faults ≡ flat_map (faults_found table) second
     → AreFindings s names table nodes faults
 findings s names table nodes faults all first second names_are few_names all_are few first_is table_is second_is nodes_are faults_are = record {
   names_are = names_are;
   few_names = few_names;
   table_is = subst (AreFirstWriters table) (first_is ∙ all_are) table_is;
   few = omega (arith, few, ap length all_are);
-  nodes_are = nodes_are ∙ ap (λ ns. initial ∷ entries_found (held table) ns) (second_is ∙ all_are);
-  faults_are = faults_are ∙ ap (λ ns. flat_map (faults_found (held table)) ns) (second_is ∙ all_are);
+  nodes_are = nodes_are ∙ ap (λ ns. initial ∷ entries_found table ns) (second_is ∙ all_are);
+  faults_are = faults_are ∙ ap (λ ns. flat_map (faults_found table) ns) (second_is ∙ all_are);
 }
 
 pub none_left : {A : Type 0} (n : ℕ) (xs : List A) → n ≡ length xs → true ≡ (n == 0) → xs ≡ []
@@ -94,18 +92,18 @@ length-filter p (x ∷ xs) =
     let later : length (filter p xs) ≤ length xs = length-filter p xs in
     elim (p x) as (λ b. length (cond b (x ∷ filter p xs) (filter p xs)) ≤ suc (length xs)) [ true ↦ omega arith | false ↦ omega arith ]
 
-module _ (s : Sessions) (names : List (List ℕ)) (table : BTreeMap (List ℕ) (BTreeMap ℕ Writer)) (nodes : List Entry) (faults : List ReadFault)
+module _ (s : Sessions) (names : List (List ℕ)) (table : Writes) (nodes : List Entry) (faults : List ReadFault)
     (found : AreFindings s names table nodes faults) where
-  agrees : (x : List ℕ) (v : ℕ) → Agree (held table x v) (writer (stands s) x v)
+  agrees : (x : List ℕ) (v : ℕ) → Agree (table x v) (writer (stands s) x v)
   agrees x v = subst (λ o. Agree o (writer (stands s) x v)) (sym (found.table_is x v)) (agree_on 1 (stands s) x v)
 
   pub faults_of_findings : faults ≡ read_faults s
-  faults_of_findings = found.faults_are ∙ faults_agree (stands s) (held table) agrees 1 (stands s)
+  faults_of_findings = found.faults_are ∙ faults_agree (stands s) table agrees 1 (stands s)
 
   pub nodes_of_findings : faults ≡ [] → nodes ≡ initial ∷ map (entry_of (stands s)) (committed (stands s))
   nodes_of_findings none =
       found.nodes_are
-      ∙ ap (λ es. initial ∷ es) (entries_agree (stands s) (held table)
+      ∙ ap (λ es. initial ∷ es) (entries_agree (stands s) table
       (λ x v first m held_there is last. sourced 1 (stands s) x v first m (sym (found.table_is x v) ∙ held_there) is last)
       1 (stands s) (sym found.faults_are ∙ none))
 

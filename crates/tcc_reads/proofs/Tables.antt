@@ -1,55 +1,53 @@
 -- The resolver's look-ups, one operation at a time.
-use Rattle.std.proofs.Common.{◌≡◌, ℕ, ◌+◌, Bool, true, false, cond, not, ◌&&◌, List, [], ◌∷◌, ◌++◌, length, Option, None, Some, refl, ap, sym, ◌∙◌}
-use Rattle.std.specs.Prelude.{◌==◌, option_and_then}
+use Rattle.std.proofs.Common.{◌≡◌, ◌<◌, ℕ, ◌+◌, Bool, true, false, cond, not, ◌&&◌, List, [], ◌∷◌, ◌++◌, length, Option, None, Some, refl, ap, sym, ◌∙◌, arith}
+use Rattle.std.specs.Prelude.{◌==◌}
 use Rattle.std.proofs.lemmas.Bool.{eqb-true}
 use Rattle.std.specs.Option.{option_or}
 use Rattle.std.specs.List.{list_any}
 use Rattle.std.specs.Str.{bytes_eq}
-use Rattle.std.specs.Ordering.{is_eq, nat_cmp}
-use Rattle.std.specs.BTreeMap as tree
-use Rattle.std.specs.BTreeMap.{BTreeMap}
-use Rattle.std.specs.BTreeSet as set
-use Rattle.std.specs.BTreeSet.{BTreeSet}
+use Rattle.std.specs.HashMap as hash
+use Rattle.std.specs.HashMap.{HashMap}
 use Rattle.tcc_txn.specs.declared.op.Op.{Op}
 use Rattle.tcc_txn.specs.declared.op.Op.TheVariants.{Get, Put}
 use Rattle.tcc_reads.specs.declared.writers.Writer.{Writer}
+use Rattle.tcc_reads.specs.declared.writers.KeyWrites.{KeyWrites}
 use Rattle.tcc_reads.specs.declared.fault.ReadFaultKind.TheVariants.{Duplicate}
 use Rattle.tcc_reads.specs.declared.judging.Judgement.TheVariants.{Faulty, Silent}
 use Rattle.tcc_reads.specs.Numbers.{Numbered}
-use Rattle.tcc_reads.specs.Sources.{name_cmp, puts_at, value_put, visible_write}
-use Rattle.tcc_reads.specs.Verdicts.{held, AreOwnIn, AreOwn, IsOwn, AreWrittenKeys, AreVisibleWrites, write_at, writer_at, write_judgement, first_in}
-use Rattle.tcc_reads.proofs.Ties.{names_tie, numbers_tie, same_name, numbers_same, itself, both_true, cond_or}
+use Rattle.tcc_reads.specs.Sources.{puts_at, value_put, visible_write}
+use Rattle.tcc_reads.specs.Verdicts.{Writes, is_latest, AreFrom, AreOwnIn, AreOwn, IsOwn, AreVisibleWrites, write_at, writer_at, write_judgement, first_in}
+use Rattle.tcc_reads.proofs.Ties.{same_name, numbers_same, itself, both_true, cond_or}
 
--- one more key
-pub put_key : (old new : BTreeSet (List ℕ)) (key : List ℕ) (value : ℕ) (ops : List Op)
-    → ((x : List ℕ) → set.contains name_cmp new x ≡ cond (is_eq (name_cmp key x)) true (set.contains name_cmp old x))
-    → AreWrittenKeys old ops → AreWrittenKeys new (Put key value ∷ ops)
-put_key old new key value ops updates keys x =
-    updates x ∙ (λ i. cond (names_tie key x i) true (keys x i)) ∙ cond_or (bytes_eq key x) (list_any (puts_at x) ops)
+-- one more key that the transaction writes
+pub put_key : {S : Type 0} (t : ℕ) (old new : HashMap (List ℕ) KeyWrites S) (key : List ℕ) (value : ℕ) (ops : List Op)
+    → ((x : List ℕ) → is_latest new t x ≡ cond (bytes_eq key x) (t == t) (is_latest old t x))
+    → ((x : List ℕ) → is_latest old t x ≡ list_any (puts_at x) ops)
+    → (x : List ℕ) → is_latest new t x ≡ list_any (puts_at x) (Put key value ∷ ops)
+put_key t old new key value ops updates keys x =
+    updates x ∙ (λ i. cond (bytes_eq key x) (numbers_same t i) (keys x i)) ∙ cond_or (bytes_eq key x) (list_any (puts_at x) ops)
 
--- one more write in the table of its key
-pub put_held : (old new : BTreeMap (List ℕ) (BTreeMap ℕ Writer)) (before after : BTreeMap ℕ Writer) (key : List ℕ) (value : ℕ) (write : Writer)
-    → ((x : List ℕ) → tree.get name_cmp new x ≡ cond (is_eq (name_cmp key x)) (Some after) (tree.get name_cmp old x))
-    → ((v : ℕ) → tree.get nat_cmp after v ≡ cond (is_eq (nat_cmp value v)) (Some write) (tree.get nat_cmp before v))
-    → ((v : ℕ) → tree.get nat_cmp before v ≡ held old key v)
-    → (x : List ℕ) (v : ℕ) → held new x v ≡ cond (bytes_eq key x && (value == v)) (Some write) (held old x v)
-put_held old new before after key value write outer inner was x v =
-    ap (option_and_then (λ values. tree.get nat_cmp values v)) (outer x ∙ ap (λ b. cond b (Some after) (tree.get name_cmp old x)) (names_tie key x))
-    ∙ by_name (bytes_eq key x) refl
+apart : (t s : ℕ) → s < t → (t == s) ≡ false
+apart t s below = by (t == s) refl
   where
-    by_name : (b : Bool) → bytes_eq key x ≡ b
-        → option_and_then (λ values. tree.get nat_cmp values v) (cond b (Some after) (tree.get name_cmp old x)) ≡ cond (b && (value == v)) (Some write) (held old x v)
-    by_name true same =
-        inner v ∙ (λ i. cond (numbers_tie value v i) (Some write) ((was v ∙ ap (λ k. held old k v) (same_name key x same)) i))
-    by_name false apart = refl
+    by : (b : Bool) → (t == s) ≡ b → b ≡ false
+    by true same = let is : t ≡ s = eqb-true t s same in absurd (omega arith)
+    by false other = refl
+
+-- a write of this transaction is of none before it
+pub put_from : {S : Type 0} (t : ℕ) (old new : HashMap (List ℕ) KeyWrites S) (key : List ℕ)
+    → ((s : ℕ) (x : List ℕ) → is_latest new s x ≡ cond (bytes_eq key x) (t == s) (is_latest old s x))
+    → AreFrom t old → AreFrom t new
+put_from t old new key updates from s below x =
+    updates s x ∙ (λ i. cond (bytes_eq key x) (apart t s below i) (from s below x i))
+    ∙ elim (bytes_eq key x) as (λ b. cond b false false ≡ false) [ true ↦ refl | false ↦ refl ]
 
 -- one more write, before those in the table
 pub put_first : (n : Numbered) (before after : List Op) (key : List ℕ) (value place : ℕ) (last : Bool)
-    (old new : BTreeMap (List ℕ) (BTreeMap ℕ Writer)) (otherwise : List ℕ → ℕ → Option Writer)
-    → ((x : List ℕ) (v : ℕ) → held new x v ≡ cond (bytes_eq key x && (value == v)) (Some (write_at n place last)) (held old x v))
+    (old new otherwise : Writes)
+    → ((x : List ℕ) (v : ℕ) → new x v ≡ cond (bytes_eq key x && (value == v)) (Some (write_at n place last)) (old x v))
     → length before + 1 ≡ place → last ≡ not (list_any (puts_at key) after)
-    → ((x : List ℕ) (v : ℕ) → held old x v ≡ first_in n (before ++ Put key value ∷ []) after x v (otherwise x v))
-    → (x : List ℕ) (v : ℕ) → held new x v ≡ first_in n before (Put key value ∷ after) x v (otherwise x v)
+    → ((x : List ℕ) (v : ℕ) → old x v ≡ first_in n (before ++ Put key value ∷ []) after x v (otherwise x v))
+    → (x : List ℕ) (v : ℕ) → new x v ≡ first_in n before (Put key value ∷ after) x v (otherwise x v)
 put_first n before after key value place last old new otherwise updates counted is_last has x v =
     updates x v
     ∙ (λ i. cond (bytes_eq key x && (value == v)) (Some (write_at n (sym counted i) (is_last i))) (has x v i))
@@ -73,24 +71,24 @@ chosen : (b : Bool) (value : ℕ) (o : Option ℕ) → cond b (Some value) o ≡
 chosen true value o = refl
 chosen false value o = refl
 
-pub put_visible : (old new : BTreeMap (List ℕ) ℕ) (key : List ℕ) (value : ℕ) (before : List Op)
-    → ((x : List ℕ) → tree.get name_cmp new x ≡ cond (is_eq (name_cmp key x)) (Some value) (tree.get name_cmp old x))
+pub put_visible : {S : Type 0} (old new : HashMap (List ℕ) ℕ S) (key : List ℕ) (value : ℕ) (before : List Op)
+    → ((x : List ℕ) → hash.get bytes_eq new x ≡ cond (bytes_eq key x) (Some value) (hash.get bytes_eq old x))
     → AreVisibleWrites old before → AreVisibleWrites new (before ++ Put key value ∷ [])
 put_visible old new key value before updates own x =
-    updates x ∙ (λ i. cond (names_tie key x i) (Some value) (own x i))
+    updates x ∙ ap (λ o. cond (bytes_eq key x) (Some value) o) (own x)
     ∙ chosen (bytes_eq key x) value (visible_write x before)
     ∙ sym (visible_write-push x before (Put key value))
 
-module _ (old new : BTreeMap (List ℕ) (BTreeMap ℕ Writer)) (key : List ℕ) (value : ℕ) (write : Writer)
-    (updates : (x : List ℕ) (v : ℕ) → held new x v ≡ cond (bytes_eq key x && (value == v)) (Some write) (held old x v))
-    (fresh : held old key value ≡ None) where
-  kept : (x : List ℕ) (v : ℕ) (w : Writer) → held old x v ≡ Some w → held new x v ≡ Some w
+module _ (old new : Writes) (key : List ℕ) (value : ℕ) (write : Writer)
+    (updates : (x : List ℕ) (v : ℕ) → new x v ≡ cond (bytes_eq key x && (value == v)) (Some write) (old x v))
+    (fresh : old key value ≡ None) where
+  kept : (x : List ℕ) (v : ℕ) (w : Writer) → old x v ≡ Some w → new x v ≡ Some w
   kept x v w was = updates x v ∙ by_key (bytes_eq key x && (value == v)) refl
     where
-      by_key : (b : Bool) → (bytes_eq key x && (value == v)) ≡ b → cond b (Some write) (held old x v) ≡ Some w
+      by_key : (b : Bool) → (bytes_eq key x && (value == v)) ≡ b → cond b (Some write) (old x v) ≡ Some w
       by_key true same =
           let parts = both_true (bytes_eq key x) (value == v) same in
-          let none : held old x v ≡ None = sym (λ i. held old (same_name key x parts.0 i) (eqb-true value v parts.1 i)) ∙ fresh in
+          let none : old x v ≡ None = sym (λ i. old (same_name key x parts.0 i) (eqb-true value v parts.1 i)) ∙ fresh in
           cc
       by_key false apart = was
 
@@ -103,26 +101,26 @@ module _ (old new : BTreeMap (List ℕ) (BTreeMap ℕ Writer)) (key : List ℕ) 
   own_kept [] own = tt
   own_kept (n ∷ later) own = (own_kept_in n [] n.stand.txn.ops own.0, own_kept later own.1)
 
-  pub own_put : held new key value ≡ Some write
-  own_put = updates key value ∙ (λ i. cond (itself key i && numbers_same value i) (Some write) (held old key value))
+  pub own_put : new key value ≡ Some write
+  own_put = updates key value ∙ (λ i. cond (itself key i && numbers_same value i) (Some write) (old key value))
 
 -- an own write is silent
-pub own_is_silent : (table : BTreeMap (List ℕ) (BTreeMap ℕ Writer)) (n : Numbered) (before after : List Op) (op : Op) (place : ℕ)
+pub own_is_silent : (table : Writes) (n : Numbered) (before after : List Op) (op : Op) (place : ℕ)
     → length before + 1 ≡ place → AreOwnIn table n before (op ∷ after) → IsOwn table n place op
 own_is_silent table n before after (Get key value) place counted own = tt
 own_is_silent table n before after (Put key value) place counted own =
     ap (write_judgement n place) own.0
     ∙ (λ i. cond ((numbers_same n.stand.session i && numbers_same n.stand.place i) && ((ap (λ k. k == place) counted ∙ numbers_same place) i)) Silent (Faulty Duplicate))
 
-pub own_after : (table : BTreeMap (List ℕ) (BTreeMap ℕ Writer)) (n : Numbered) (before after : List Op) (op : Op)
+pub own_after : (table : Writes) (n : Numbered) (before after : List Op) (op : Op)
     → AreOwnIn table n before (op ∷ after) → AreOwnIn table n (before ++ op ∷ []) after
 own_after table n before after (Get key value) own = own
 own_after table n before after (Put key value) own = own.1
 
 -- one more write of a new value is the table's own
-pub put_own : (n : Numbered) (before after : List Op) (key : List ℕ) (value place : ℕ) (last : Bool) (old new : BTreeMap (List ℕ) (BTreeMap ℕ Writer))
-    → ((x : List ℕ) (v : ℕ) → held new x v ≡ cond (bytes_eq key x && (value == v)) (Some (write_at n place last)) (held old x v))
-    → held old key value ≡ None → length before + 1 ≡ place → last ≡ not (list_any (puts_at key) after)
+pub put_own : (n : Numbered) (before after : List Op) (key : List ℕ) (value place : ℕ) (last : Bool) (old new : Writes)
+    → ((x : List ℕ) (v : ℕ) → new x v ≡ cond (bytes_eq key x && (value == v)) (Some (write_at n place last)) (old x v))
+    → old key value ≡ None → length before + 1 ≡ place → last ≡ not (list_any (puts_at key) after)
     → AreOwnIn old n (before ++ Put key value ∷ []) after → AreOwnIn new n before (Put key value ∷ after)
 put_own n before after key value place last old new updates fresh counted is_last own = (
   own_put old new key value (write_at n place last) updates fresh ∙ (λ i. Some (write_at n (sym counted i) (is_last i))),

@@ -1,17 +1,17 @@
 //! What each operation of a transaction is: a fault, an external read with its source, or neither.
 ghost use Rattle.std.specs.Prelude.{◌≡◌, true, ◌∷◌, [], ◌++◌, List, IfOk, OnOk, option_to_list};
-ghost use Rattle.std.specs.BTreeMap as tree;
+ghost use Rattle.std.specs.HashMap as hash;
 ghost use Rattle.std.specs.Option.{option_copied};
+ghost use Rattle.std.specs.Str.{bytes_eq};
 ghost use Rattle.tcc_txn.specs.declared.op.Op.{Op};
 ghost use Rattle.tcc_reads.specs.Faults.{op_key, op_value};
-ghost use Rattle.tcc_reads.specs.Sources.{name_cmp};
 ghost use Rattle.tcc_reads.specs.Verdicts.{held, is_in, write_judgement, read_judgement, op_judgement, fault_in, source_in, IsOwn, AreOwnIn, AreVisibleWrites, faults_found, sources_found};
 
 use crate::standing::Standing;
 use crate::writers::{Writer, Writers, first_writer};
 use crate::{ReadFault, ReadFaultKind};
 use std::alloc::{AllocError, Global};
-use std::collections::BTreeMap;
+use std::collections::HashMap;
 use tcc_txn::{Name, Op};
 
 /// What an operation is.
@@ -33,7 +33,7 @@ fn is_in(standing: &Standing<'_>, first: &Writer) -> bool
 }
 
 /// Of a write at a place of its transaction, from 1, by the first write of its value.
-fn write_judgement(standing: &Standing<'_>, place: u32, writer: Option<&Writer>) -> Judgement
+fn write_judgement(standing: &Standing<'_>, place: u16, writer: Option<&Writer>) -> Judgement
     ensures { result ≡ write_judgement standing.now place (option_copied writer.entry) }
 {
     match writer {
@@ -62,7 +62,7 @@ fn read_judgement(standing: &Standing<'_>, writer: Option<&Writer>) -> Judgement
         return Judgement::Faulty(ReadFaultKind::Future);
     }
     if first.last {
-        Judgement::ReadsFrom(number)
+        Judgement::ReadsFrom(u32::from(number))
     } else {
         Judgement::Faulty(ReadFaultKind::Intermediate)
     }
@@ -74,12 +74,12 @@ fn judgement_of(
     writers: &Writers,
     distinct: bool,
     standing: &Standing<'_>,
-    place: u32,
+    place: u16,
     op: Op,
-    own: &BTreeMap<Name, u64>,
+    own: &HashMap<Name, u64>,
 ) -> Judgement
-    requires { distinct ≡ true → IsOwn writers.now standing.now place op }
-    ensures { result ≡ op_judgement (held writers.now) standing.now place op (tree.get name_cmp own.now (op_key op)) }
+    requires { distinct ≡ true → IsOwn (held writers.now) standing.now place op }
+    ensures { result ≡ op_judgement (held writers.now) standing.now place op (hash.get bytes_eq own.now (op_key op)) }
 {
     match op {
         Op::Put { key, value } => {
@@ -134,7 +134,7 @@ fn value_of(op: &Op) -> u64
 /// Adds what was found out about an operation at a place of its transaction, from 1.
 fn note(
     standing: &Standing<'_>,
-    place: u32,
+    place: u16,
     op: &Op,
     judgement: Judgement,
     faults: &mut Vec<ReadFault>,
@@ -147,8 +147,8 @@ fn note(
         Judgement::Faulty(kind) => {
             let fault = ReadFault {
                 session: standing.name,
-                place: standing.place,
-                op: place,
+                place: u32::from(standing.place),
+                op: u32::from(place),
                 key: key_of(op),
                 value: value_of(op),
                 kind,
@@ -165,7 +165,7 @@ fn note(
 }
 
 /// Takes in an operation as the latest one of its transaction.
-fn put_own(own: &mut BTreeMap<Name, u64>, op: Op) -> Result<(), AllocError>
+fn put_own(own: &mut HashMap<Name, u64>, op: Op) -> Result<(), AllocError>
     ensures { OnOk result ((before : List Op) → AreVisibleWrites own.old before → AreVisibleWrites own.new (before ++ op ∷ [])) }
 {
     match op {
@@ -177,26 +177,28 @@ fn put_own(own: &mut BTreeMap<Name, u64>, op: Op) -> Result<(), AllocError>
     }
 }
 
-/// Judges the operations of a transaction: adds its faults, and gives its external reads with their sources.
+/// Judges the operations of a transaction: adds its faults, and gives its external reads with their sources. What `own`
+/// held is forgotten.
 pub(crate) fn judge(
     alloc: Global,
     writers: &Writers,
     distinct: bool,
     standing: &Standing<'_>,
+    own: &mut HashMap<Name, u64>,
     faults: &mut Vec<ReadFault>,
 ) -> Result<Vec<(Name, u32)>, AllocError>
-    requires { distinct ≡ true → AreOwnIn writers.now standing.now [] standing.now.stand.txn.ops }
+    requires { distinct ≡ true → AreOwnIn (held writers.now) standing.now [] standing.now.stand.txn.ops }
     ensures faults { IfOk result (λ _. faults.new.items ≡ faults.old.items ++ faults_found (held writers.now) standing.now) }
     ensures sources { IfOk result (λ reads. reads.items ≡ sources_found (held writers.now) standing.now) }
 {
     let ops = standing.txn.ops();
-    let mut own = BTreeMap::new(alloc);
+    own.clear();
     let mut reads = Vec::new(alloc);
     for (before, op) in ops.iter().enumerate() {
-        let place = before as u32 + 1;
-        let judgement = judgement_of(writers, distinct, standing, place, *op, &own);
+        let place = before as u16 + 1;
+        let judgement = judgement_of(writers, distinct, standing, place, *op, own);
         note(standing, place, op, judgement, faults, &mut reads)?;
-        put_own(&mut own, *op)?;
+        put_own(own, *op)?;
     }
     Ok(reads)
 }

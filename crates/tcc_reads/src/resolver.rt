@@ -15,6 +15,7 @@ use crate::standing::Standing;
 use crate::writers::{FirstWrites, first_writes};
 use crate::{ReadFault, ResolveFault};
 use std::alloc::{AllocError, Global};
+use std::collections::HashMap;
 use tcc_txn::{Name, Op, Snapshot};
 
 /// The keys that some operations write, in order, each once.
@@ -40,26 +41,27 @@ fn node(alloc: Global, standing: &Standing<'_>, reads: Vec<(Name, u32)>) -> Resu
     }) }
 {
     Ok(Node {
-        owner: standing.session,
-        place: standing.place,
+        owner: u32::from(standing.session),
+        place: u32::from(standing.place),
         writes: written_keys(alloc, standing.txn.ops())?,
         reads: sorted_once(reads),
     })
 }
 
-/// Adds a transaction's node, if it was committed, and its faults.
+/// Adds a transaction's node, if it was committed, and its faults. What `own` held is forgotten.
 fn examine_one(
     alloc: Global,
     first: &FirstWrites,
     standing: &Standing<'_>,
+    own: &mut HashMap<Name, u64>,
     nodes: &mut Vec<Node>,
     faults: &mut Vec<ReadFault>,
 ) -> Result<(), AllocError>
-    requires { first.now.distinct ≡ true → AreOwnIn first.now.writers standing.now [] standing.now.stand.txn.ops }
+    requires { first.now.distinct ≡ true → AreOwnIn (held first.now.writers) standing.now [] standing.now.stand.txn.ops }
     ensures nodes { OnOk result (nodes.new.items ≡ nodes.old.items ++ entries_found (held first.now.writers) (standing.now ∷ [])) }
     ensures faults { OnOk result (faults.new.items ≡ faults.old.items ++ faults_found (held first.now.writers) standing.now) }
 {
-    let reads = judge(alloc, &first.writers, first.distinct, standing, faults)?;
+    let reads = judge(alloc, &first.writers, first.distinct, standing, own, faults)?;
     if standing.txn.committed() {
         nodes.push(node(alloc, standing, reads)?)?;
     }
@@ -78,12 +80,13 @@ fn examine(
     first: &FirstWrites,
     standings: &[Standing<'_>],
 ) -> Result<Findings, AllocError>
-    requires { first.now.distinct ≡ true → AreOwn first.now.writers standings.now }
+    requires { first.now.distinct ≡ true → AreOwn (held first.now.writers) standings.now }
     ensures nodes { IfOk result (λ found. found.nodes.items ≡ initial ∷ entries_found (held first.now.writers) standings.now) }
     ensures faults { IfOk result (λ found. found.faults.items ≡ flat_map (faults_found (held first.now.writers)) standings.now) }
 {
     let mut nodes = Vec::new(alloc);
     let mut faults = Vec::new(alloc);
+    let mut own = HashMap::new(alloc);
     nodes.push(Node {
         owner: 0,
         place: 0,
@@ -91,7 +94,7 @@ fn examine(
         reads: Vec::new(alloc),
     })?;
     for standing in standings {
-        examine_one(alloc, first, standing, &mut nodes, &mut faults)?;
+        examine_one(alloc, first, standing, &mut own, &mut nodes, &mut faults)?;
     }
     Ok(Findings { nodes, faults })
 }

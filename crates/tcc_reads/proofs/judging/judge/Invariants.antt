@@ -9,7 +9,7 @@ invariant-loop-before l =
     let ahead : List Site = sites_from l.standing.stand (take l.before l.ops) (drop l.before l.ops) in
     record {
       own : AreVisibleWrites l.own (take l.before l.ops);
-      writes : l.distinct ≡ true → AreOwnIn l.writers l.standing (take l.before l.ops) (drop l.before l.ops);
+      writes : l.distinct ≡ true → AreOwnIn (held l.writers) l.standing (take l.before l.ops) (drop l.before l.ops);
       faults : l.faults.items ++ filter_map (fault_found (held l.writers) l.standing) ahead ≡ l.initial.faults.items ++ faults_found (held l.writers) l.standing;
       reads : l.reads.items ++ filter_map (source_found (held l.writers) l.standing) ahead ≡ sources_found (held l.writers) l.standing;
     }

@@ -6,7 +6,7 @@ use Rattle.tcc_reads.proofs.resolver.examine.Given as goal
 
 abbrev pub invariant-loop-standing : goal.invariant-loop-standing
 invariant-loop-standing l = record {
-  own : l.first.distinct ≡ true → AreOwn l.first.writers (drop l.standing-index l.standings);
+  own : l.first.distinct ≡ true → AreOwn (held l.first.writers) (drop l.standing-index l.standings);
   nodes : l.nodes.items ++ entries_found (held l.first.writers) (drop l.standing-index l.standings) ≡ initial ∷ entries_found (held l.first.writers) l.standings;
   faults : l.faults.items ++ flat_map (faults_found (held l.first.writers)) (drop l.standing-index l.standings) ≡ flat_map (faults_found (held l.first.writers)) l.standings;
 }
