@@ -54,9 +54,9 @@ pub(crate) fn choice(graph: &Graph, steps: &[u16], b: u32, a: u32) -> Option<(Na
     let mut best = None;
     for key in graph.keys() {
         if let Some(reader) = nearest_reader(graph, steps, b, a, key) {
-            let count = steps[reader as usize];
-            if count < least {
-                least = count;
+            let distance = steps[reader as usize];
+            if distance < least {
+                least = distance;
                 best = Some((*key, reader));
             }
         }

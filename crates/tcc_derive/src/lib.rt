@@ -16,3 +16,6 @@ mod write_table;
 pub use derivation::derive;
 pub use reasons::reason;
 pub use tables::{NO_LINK, Prices};
+
+#[cfg(test)]
+mod tests;
