@@ -74,7 +74,7 @@ list_any_kept test f p (y ∷ ys) h = go (p y) (list_any_kept test f p ys) h
     go true rest h = first rest (or_cases (test (f y)) (list_any test (map f (filter p ys))) h)
     go false rest h = or_right _ _ (rest h)
 
-read_is_key : (h : History) (a c : ℕ) (x : List ℕ) → IsReadsPair h a c x → is_key h x ≡ true
+pub read_is_key : (h : History) (a c : ℕ) (x : List ℕ) → IsReadsPair h a c x → is_key h x ≡ true
 read_is_key h a c x (from, to, (k, within, e)) =
     let named : list_any (bytes_eq x) (reads_from h a c) ≡ true = list_any_at (bytes_eq x) (reads_from h a c) k x within ((bytes_eq-Decides x (get_or (reads_from h a c) k x)).1 (sym e)) in
     let read : list_any (bytes_eq x) (map (λ read. read.0) (entry_at h c).reads) ≡ true = list_any_kept (bytes_eq x) (λ read. read.0) (λ read. read.1 == a) (entry_at h c).reads named in
@@ -91,10 +91,10 @@ key_at h k within = sym (has_name-keys h (name_of (keys h) k)) ∙ list_any_at (
 
 -- ---- writers
 
-numbers_below : (h : History) → All (λ b. b < count h) (numbers h)
+pub numbers_below : (h : History) → All (λ b. b < count h) (numbers h)
 numbers_below h = λ k d l. subst (λ (z : ℕ). z < count h) (sym (get_or-range_with_len 0 (count h) k d (omega (arith, length-range_with_len 0 (count h))))) (omega (arith, length-range_with_len 0 (count h)))
 
-number_in : (h : History) (b : ℕ) → b < count h → Contains (numbers h) b
+pub number_in : (h : History) (b : ℕ) → b < count h → Contains (numbers h) b
 number_in h b l = (b, omega (arith, length-range_with_len 0 (count h)), get_or-range_with_len 0 (count h) b b l ∙ zero-add b)
 
 -- of a key or of no key

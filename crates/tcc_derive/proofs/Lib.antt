@@ -1,8 +1,12 @@
+pub mod BackLemmas
 pub mod BucketLemmas
+pub mod ChoiceLemmas
 pub mod CostLemmas
 pub mod Given
 pub mod KeyLemmas
 pub mod LoweringLemmas
 pub mod Pairs
 pub mod PriceLemmas
+pub mod ReasonLemmas
+pub mod StepLemmas
 pub mod TableLemmas

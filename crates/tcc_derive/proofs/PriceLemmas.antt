@@ -12,7 +12,7 @@ use Rattle.tcc_graph.specs.declared.step.Step.{Step}
 use Rattle.tcc_graph.specs.declared.step.Step.TheVariants as step
 use Rattle.tcc_graph.specs.declared.link.Link.{Link}
 use Rattle.tcc_graph.specs.declared.link.Link.TheVariants as link
-use Rattle.tcc_near.specs.Distances.{IsShortest, IsDistance, IsNearOf, row_of}
+use Rattle.tcc_near.specs.Distances.{IsShortest, IsDistance, IsNearOf, row_of, least_in}
 use Rattle.tcc_derive.specs.Prices.{IsDerived, IsPrice}
 use Rattle.tcc_derive.specs.Buckets.{bucket}
 use Rattle.tcc_derive.specs.KeyTables.{IsReadsOf, IsWritesOf}
@@ -40,12 +40,18 @@ distance_cases h near b c nears from to = go (get_or (row_of near b) c 0 == 6553
     go true d s = inl d
     go false d s = inr (record { shortest = d; few = s _ refl })
 
-pub no_distance : (h : History) (near : List (List ℕ)) (b c : ℕ) → IsNearOf h near → b < count h → c < count h → count h ≤ 1024 → (IsReached h b c → ⊥) → get_or (row_of near b) c 0 ≡ 65535
-no_distance h near b c nears from to small none = go (get_or (row_of near b) c 0 == 65535) refl (nears.exact b c from to)
+pub no_distance : (h : History) (near : List (List ℕ)) (b c : ℕ) → IsNearOf h near → b < count h → c < count h → (IsReached h b c → ⊥) → get_or (row_of near b) c 0 ≡ 65535
+no_distance h near b c nears from to none = go (get_or (row_of near b) c 0 == 65535) refl (nears.exact b c from to)
   where
     go : (t : Bool) → (get_or (row_of near b) c 0 == 65535) ≡ t → IsDistance h b c (if t then None else Some (get_or (row_of near b) c 0)) → get_or (row_of near b) c 0 ≡ 65535
     go true e d = eqb-true (get_or (row_of near b) c 0) 65535 e
     go false e d = absurd (none (d.attained.0, d.attained.1))
+
+pub out_of_reach : (h : History) (near : List (List ℕ)) (b c : ℕ) → IsNearOf h near → b < count h → c < count h → get_or (row_of near b) c 0 ≡ 65535 → IsReached h b c → ⊥
+out_of_reach h near b c nears from to none = go (nears.exact b c from to)
+  where
+    go : IsDistance h b c (least_in (row_of near b) c) → IsReached h b c → ⊥
+    go d = rw none at d
 
 module _ (h : History) (near : List (List ℕ)) (reads : List (List Read)) (written : List (List ℕ)) (b : ℕ) (row : List ℕ)
     (small : count h ≤ 1024) (from : b < count h) (nears : IsNearOf h near) (read : IsReadsOf h reads) (wrote : IsWritesOf h written)
@@ -94,7 +100,7 @@ module _ (h : History) (near : List (List ℕ)) (reads : List (List Read)) (writ
     where
       by : (r : Read) → Contains (flat_map (bucket reads) (bucket written b)) r → r.source ≡ a → a ≢ b → get_or row a 0 ≡ price_by (row_of near b) r
           → (IsReached h b r.reader → ⊥) ⊎ IsNearby h b r.reader (get_or (row_of near b) r.reader 0) → r.reader < count h → (get_or row a 0 ≡ 65535) ⊎ ((s : Read) × IsFrom a s)
-      by r there source other cost (inl none) below = inl (omega (arith, no_distance h near b r.reader nears from below small none))
+      by r there source other cost (inl none) below = inl (omega (arith, no_distance h near b r.reader nears from below none))
       by r there source other cost (inr near') below = inr (r, record { there = there; source = source; other = other; near' = near'; cost = omega (arith, near'.few) })
 
       go : (get_or row a 0 ≡ get_or (replicate (length near) 65535) a 0) ⊎ ((r : Read) × Contains (flat_map (bucket reads) (bucket written b)) r × (r.source ≡ a) × (a ≢ b) × (get_or row a 0 ≡ price_by (row_of near b) r))

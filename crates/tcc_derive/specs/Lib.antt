@@ -4,3 +4,5 @@ pub mod Buckets
 pub mod KeyTables
 pub mod Lowering
 pub mod Rows
+pub mod Choices
+pub mod Backwards

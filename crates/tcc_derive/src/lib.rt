@@ -2,6 +2,7 @@
 #![tactic(auto)]
 
 mod bucket;
+mod choices;
 mod costing;
 mod derivation;
 mod pricing;
@@ -9,8 +10,12 @@ mod read;
 mod read_table;
 mod reasons;
 mod tables;
+mod walking;
 mod write_table;
 
 pub use derivation::derive;
 pub use reasons::reason;
 pub use tables::{NO_LINK, Prices};
+
+#[cfg(test)]
+mod tests;

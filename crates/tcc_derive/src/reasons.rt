@@ -6,6 +6,8 @@ ghost use Rattle.tcc_graph.specs.declared.link.Link.{Link};
 ghost use Rattle.tcc_derive.specs.Prices.{IsDerived};
 ghost use Rattle.tcc_derive.specs.Reasons.{IsFirstReason};
 
+use crate::choices::choice;
+use crate::walking::first_walk;
 use std::alloc::Global;
 use tcc_graph::{Graph, Link};
 use tcc_near::Near;
@@ -25,5 +27,16 @@ pub fn reason(
     requires to { a < count graph.now }
     ensures { IfOk result (λ found. MatchOption found ((l : Link) → IsDerived graph.now b a l → ⊥) (IsFirstReason graph.now b a)) }
 {
-    Err(NoMemory)
+    let Some(found) = choice(graph, near.row(b), b, a) else {
+        return Ok(None);
+    };
+    let (key, reader) = found;
+    let walk = first_walk(alloc, graph, near, b, reader)?;
+    Ok(Some(Link::Derived {
+        from: b,
+        to: a,
+        key,
+        reader,
+        walk,
+    }))
 }

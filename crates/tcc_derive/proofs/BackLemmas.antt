@@ -1,0 +1,145 @@
+-- Walks from the last step backwards, and the first of them.
+use Rattle.std.proofs.Common.{ℕ, ◌+◌, ◌<◌, ◌≡◌, ◌≢◌, ◌⊎◌, inl, inr, true, List, [], ◌∷◌, ◌++◌, length, length-append, get_or, reverse, refl, sym, ◌∙◌, subst, arith}
+use Rattle.std.specs.Cmp.Lexicographic.{slice_cmp}
+use Rattle.std.specs.declared.cmp.Ordering.TheVariants.{Greater}
+use Rattle.std.proofs.lemmas.Bool.{eqb-true, eq-eqb, ne_eqb, cases_eq}
+use Rattle.std.proofs.lemmas.List.{reverse-append, reverse-reverse, length-reverse}
+use Rattle.tcc_reads.specs.History.{History, count}
+use Rattle.tcc_graph.specs.Walks.{step_from, step_to, IsStep, Leads, IsWalk, IsReached}
+use Rattle.tcc_graph.specs.Ties.{step_cmp}
+use Rattle.tcc_graph.specs.declared.step.Step.{Step}
+use Rattle.tcc_near.specs.Distances.{IsShortest, IsNearOf, row_of}
+use Rattle.tcc_derive.specs.Backwards.{IsUpTo, IsLastStep, stands_at, LeadsBack, Ahead, IsLeft, IsTakenBack, IsFirstWalk}
+use Rattle.tcc_derive.proofs.PriceLemmas.{IsNearby, distance_cases, no_distance}
+use Rattle.tcc_derive.proofs.StepLemmas.{step_itself, step_below}
+
+module _ (h : History) where
+  back_join : (b m v : ℕ) (ss ts : List Step) → LeadsBack h m v ss → LeadsBack h b m ts → LeadsBack h b v (ss ++ ts)
+  back_join b m v [] ts e second = subst (λ (z : ℕ). LeadsBack h b z ts) e second
+  back_join b m v (s ∷ ss) ts first second = (first.0, first.1, back_join b m (step_from s) ss ts first.2 second)
+
+  leads_join : (a m c : ℕ) (ss ts : List Step) → Leads h a m ss → Leads h m c ts → Leads h a c (ss ++ ts)
+  leads_join a m c [] ts e second = subst (λ (z : ℕ). Leads h z c ts) (sym e) second
+  leads_join a m c (s ∷ ss) ts first second = (first.0, first.1, leads_join (step_to s) m c ss ts first.2 second)
+
+  pub back_of_leads : (a c : ℕ) (walk : List Step) → Leads h a c walk → LeadsBack h a c (reverse walk)
+  back_of_leads a c [] e = e
+  back_of_leads a c (s ∷ walk) w =
+      subst (λ (ss : List Step). LeadsBack h a c ss) (sym (reverse-append (s ∷ []) walk))
+      (back_join a (step_to s) c (reverse walk) (s ∷ []) (back_of_leads (step_to s) c walk w.2) (refl, w.1, sym w.0))
+
+  pub leads_of_back : (a c : ℕ) (ss : List Step) → LeadsBack h a c ss → Leads h a c (reverse ss)
+  leads_of_back a c [] e = e
+  leads_of_back a c (s ∷ ss) w =
+      subst (λ (ts : List Step). Leads h a c ts) (sym (reverse-append (s ∷ []) ss))
+      (leads_join a (step_from s) c (reverse ss) (s ∷ []) (leads_of_back a (step_from s) ss w.2) (refl, w.1, w.0))
+
+  -- one step more keeps the steps first
+  ahead_more : (b c v : ℕ) (taken others : List Step) (s : Step) (n : ℕ) → Ahead taken others → LeadsBack h v c taken → LeadsBack h b c others → length others ≡ length taken + (n + 1)
+      → ((o : Step) (os : List Step) → LeadsBack h b v (o ∷ os) → length os ≡ n → IsUpTo s o) → Ahead (taken ++ s ∷ []) others
+  ahead_more b c v [] [] s n ahead back other long pick = absurd (omega (arith, long))
+  ahead_more b c v [] (o ∷ os) s n ahead back other long pick = go (pick o os (subst (λ (z : ℕ). LeadsBack h b z (o ∷ os)) (sym back) other) (omega (arith, long)))
+    where
+      go : IsUpTo s o → Ahead (s ∷ []) (o ∷ os)
+      go (inl less) = inl less
+      go (inr same) = inr (same, tt)
+  ahead_more b c v (t ∷ taken) [] s n ahead back other long pick = absurd ahead
+  ahead_more b c v (t ∷ taken) (o ∷ os) s n (inl less) back other long pick = inl less
+  ahead_more b c v (t ∷ taken) (o ∷ os) s n (inr (same, ahead)) back other long pick =
+      inr (same, ahead_more b (step_from o) v taken os s n ahead (subst (λ (z : Step). LeadsBack h v (step_from z) taken) same back.2) other.2 (omega (arith, long)) pick)
+
+  ahead_cmp : (ss os : List Step) → Ahead ss os → length os ≡ length ss → slice_cmp step_cmp ss os ≢ Greater
+  ahead_cmp [] [] ahead long e = absurd cc
+  ahead_cmp [] (o ∷ os) ahead long e = absurd cc
+  ahead_cmp (s ∷ ss) [] ahead long e = absurd ahead
+  ahead_cmp (s ∷ ss) (o ∷ os) (inl less) long e = let e' = rw less at e in absurd cc
+  ahead_cmp (s ∷ ss) (o ∷ os) (inr (same, ahead)) long e =
+      let e' = rw (same, step_itself o) at e in
+      ahead_cmp ss os ahead (omega (arith, long)) e'
+
+  some_step : (b c : ℕ) (walk : List Step) → IsWalk h b c walk → 0 < length (reverse walk)
+  some_step b c walk w = omega (arith, w.0, length-reverse walk)
+
+  -- the way back to the start
+  module _ (near : List (List ℕ)) (b : ℕ) (nears : IsNearOf h near) (from : b < count h) where
+    no_steps : (u : ℕ) (os : List Step) → length os ≡ 0 → LeadsBack h b u os → b ≡ u
+    no_steps u [] long back = back
+    no_steps u (o ∷ os) long back = absurd (omega (arith, long))
+
+    stands_nearby : (v n : ℕ) (o : Step) (os : List Step) → IsShortest h b v (n + 1) → LeadsBack h b v (o ∷ os) → length os ≡ n → 0 < n
+        → (IsReached h b (step_from o) → ⊥) ⊎ IsNearby h b (step_from o) (get_or (row_of near b) (step_from o) 0) → get_or (row_of near b) (step_from o) 0 ≡ n
+    stands_nearby v n o os shortest back long some (inl none) =
+        absurd (none (reverse os, (omega (arith, length-reverse os), leads_of_back b (step_from o) os back.2)))
+    stands_nearby v n o os shortest back long some (inr near') =
+        let at_most = near'.shortest.least (reverse os) (omega (arith, length-reverse os), leads_of_back b (step_from o) os back.2) in
+        let walk = near'.shortest.attained in
+        let longer = shortest.least (walk.0 ++ o ∷ []) (omega (arith, length-append walk.0 (o ∷ [])), leads_join b (step_from o) v walk.0 (o ∷ []) walk.1.1 (refl, back.1, back.0)) in
+        omega (arith, at_most, longer, walk.2, length-append walk.0 (o ∷ []), length-reverse os, long)
+
+    pub stands_of : (v n : ℕ) (o : Step) (os : List Step) → IsLeft h b v (n + 1) → LeadsBack h b v (o ∷ os) → length os ≡ n → stands_at (row_of near b) b (step_from o) n ≡ true
+    stands_of v n o os left back long = go (cases_eq n 0)
+      where
+        go : (n ≡ 0) ⊎ (n ≡ 0 → ⊥) → stands_at (row_of near b) b (step_from o) n ≡ true
+        go (inl none) = rw none (eq-eqb (step_from o) b (sym (no_steps (step_from o) os (long ∙ none) back.2)))
+        go (inr some) =
+            let at : get_or (row_of near b) (step_from o) 0 ≡ n
+            = stands_nearby v n o os (left.some (omega arith)) back long (omega arith) (distance_cases h near b (step_from o) nears from (step_below h o back.1).0) in
+            rw (ne_eqb n 0 some) (eq-eqb (get_or (row_of near b) (step_from o) 0) n at)
+
+    pub left_of : (u n : ℕ) → u < count h → n < 65535 → stands_at (row_of near b) b u n ≡ true → IsLeft h b u n
+    left_of u n below few stands = go (cases_eq n 0)
+      where
+        shortest : get_or (row_of near b) u 0 ≡ n → (IsReached h b u → ⊥) ⊎ IsNearby h b u (get_or (row_of near b) u 0) → IsShortest h b u n
+        shortest at (inl none) = absurd (omega (arith, no_distance h near b u nears from below none))
+        shortest at (inr near') = rw at at near'.shortest
+
+        go : (n ≡ 0) ⊎ (n ≡ 0 → ⊥) → IsLeft h b u n
+        go (inl none) = record { some = λ l. absurd (omega arith); none = λ e. sym (eqb-true u b (rw none at stands)) }
+        go (inr some) = record {
+          some = λ l. shortest (eqb-true (get_or (row_of near b) u 0) n (rw (ne_eqb n 0 some) at stands)) (distance_cases h near b u nears from below);
+          none = λ e. absurd (some e);
+        }
+
+    -- at the end of the walk
+    pub at_end : (c : ℕ) → c < count h → get_or (row_of near b) c 0 < 65535 → IsShortest h b c (get_or (row_of near b) c 0)
+    at_end c to reached = go (distance_cases h near b c nears from to)
+      where
+        go : (IsReached h b c → ⊥) ⊎ IsNearby h b c (get_or (row_of near b) c 0) → IsShortest h b c (get_or (row_of near b) c 0)
+        go (inl none) = absurd (omega (arith, no_distance h near b c nears from to none))
+        go (inr near') = near'.shortest
+
+    some_left : (c n : ℕ) → IsShortest h b c n → 0 < n
+    some_left c n shortest = omega (arith, shortest.attained.1.0, shortest.attained.2)
+
+    pub left_at_end : (c n : ℕ) → IsShortest h b c n → IsLeft h b c n
+    left_at_end c n shortest = record { some = λ l. shortest; none = λ e. absurd (omega (arith, some_left c n shortest)) }
+
+    pub nothing_taken : (c n : ℕ) → IsTakenBack h b c n c []
+    nothing_taken c n = record { back = refl; first = λ others back long. tt }
+
+    -- there is a step to take
+    pub never_stuck : (v n : ℕ) → IsLeft h b v (n + 1) → ((o : Step) → IsStep h o → step_to o ≡ v → stands_at (row_of near b) b (step_from o) n ≡ true → ⊥) → ⊥
+    never_stuck v n left none =
+        let walk = (left.some (omega arith)).attained in
+        go (reverse walk.0) (back_of_leads b v walk.0 walk.1.1) (omega (arith, walk.2, length-reverse walk.0))
+      where
+        go : (ss : List Step) → LeadsBack h b v ss → length ss ≡ n + 1 → ⊥
+        go [] back long = omega (arith, long)
+        go (o ∷ os) back long = none o back.1 back.0 (stands_of v n o os left back (omega (arith, long)))
+
+    pub taken_more : (c total v n : ℕ) (taken : List Step) (s : Step) → IsTakenBack h b c total v taken → IsLeft h b v (n + 1) → IsLastStep h (row_of near b) b v n s → total ≡ length taken + (n + 1)
+        → IsTakenBack h b c total (step_from s) (taken ++ s ∷ [])
+    taken_more c total v n taken s before left last long = record {
+      back = back_join (step_from s) v c taken (s ∷ []) before.back (last.to, last.step, refl);
+      first = λ others back same. ahead_more b c v taken others s n (before.first others back same) before.back back (same ∙ long)
+          (λ o os steps m. last.first o steps.1 steps.0 (stands_of v n o os left steps m));
+    }
+
+    pub walk_of : (c n : ℕ) (taken : List Step) → IsTakenBack h b c n b taken → length taken ≡ n → IsShortest h b c n → IsFirstWalk h b c (reverse taken)
+    walk_of c n taken back long shortest = record {
+      leads = (omega (arith, length-reverse taken, some_left c n shortest), leads_of_back b c taken back.back);
+      least = λ others walk. let low = shortest.least others walk in omega (arith, length-reverse taken);
+      first = λ others walk same.
+          let ahead = back.first (reverse others) (back_of_leads b c others walk.1) (length-reverse others ∙ same ∙ length-reverse taken ∙ long) in
+          rw (reverse-reverse taken) (ahead_cmp taken (reverse others) ahead (length-reverse others ∙ same ∙ length-reverse taken));
+    }

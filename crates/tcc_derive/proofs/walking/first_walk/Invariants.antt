@@ -1,0 +1,11 @@
+use Rattle.std.proofs.Common.{◌<◌, ◌≡◌, ◌-◌, length}
+use Rattle.tcc_reads.specs.History.{count}
+use Rattle.tcc_derive.specs.Backwards.{IsTakenBack, IsLeft}
+use Rattle.tcc_derive.proofs.walking.first_walk.Given as goal
+
+abbrev pub invariant-loop-done : goal.invariant-loop-done
+invariant-loop-done l =
+    IsTakenBack l.graph l.b l.c l.total l.end l.taken.items
+    × (length l.taken.items ≡ l.done)
+    × IsLeft l.graph l.b l.end (l.total - l.done)
+    × (l.end < count l.graph)

@@ -1,0 +1,65 @@
+//! The choice of a key and a reader for a reason.
+ghost use Rattle.std.specs.Prelude.{◌≡◌, ◌<◌, ℕ, List, length, All, Contains, MatchOption, slice_index};
+ghost use Rattle.std.specs.List.Sorted.{IsStrictlySortedBy};
+ghost use Rattle.std.specs.Ordering.{nat_cmp};
+ghost use Rattle.tcc_reads.specs.History.{count};
+ghost use Rattle.tcc_graph.specs.Links.{MayContradict};
+ghost use Rattle.tcc_derive.specs.Choices.{IsNearest, IsNearestReader, IsChoice};
+
+use tcc_graph::Graph;
+use tcc_near::NO_WALK;
+use tcc_txn::Name;
+
+/// Of the readers, which ascend, the first that the fewest steps lead to; none where no steps lead to any.
+fn nearest(readers: &[u32], steps: &[u16]) -> Option<u32>
+    requires order { IsStrictlySortedBy nat_cmp readers.now }
+    requires below { All (λ c. c < length steps.now) readers.now }
+    ensures { MatchOption result ((d : ℕ) → Contains readers.now d → slice_index steps.now d ≡ 65535) (IsNearest readers.now steps.now) }
+{
+    let mut least = NO_WALK;
+    let mut best = None;
+    for reader in readers {
+        let count = steps[*reader as usize];
+        if count < least {
+            least = count;
+            best = Some(*reader);
+        }
+    }
+    best
+}
+
+/// Of the readers of the key that `b` may contradict, the first that the fewest steps lead to.
+fn nearest_reader(graph: &Graph, steps: &[u16], b: u32, a: u32, key: &Name) -> Option<u32>
+    requires from { b < count graph.now }
+    requires to { a < count graph.now }
+    requires long { length steps.now ≡ count graph.now }
+    ensures { MatchOption result ((d : ℕ) → MayContradict graph.now b a key.now d → slice_index steps.now d ≡ 65535)
+        (IsNearestReader graph.now steps.now b a key.now) }
+{
+    if b == a || !graph.writers(key).contains(&b) {
+        return None;
+    }
+    nearest(graph.readers(a, key), steps)
+}
+
+/// Of all keys and readers that `b` may contradict, the first that the fewest steps lead to, by key and by reader.
+pub(crate) fn choice(graph: &Graph, steps: &[u16], b: u32, a: u32) -> Option<(Name, u32)>
+    requires from { b < count graph.now }
+    requires to { a < count graph.now }
+    requires long { length steps.now ≡ count graph.now }
+    ensures { MatchOption result ((x : List ℕ) (d : ℕ) → MayContradict graph.now b a x d → slice_index steps.now d ≡ 65535)
+        (λ found. IsChoice graph.now steps.now b a found.0 found.1) }
+{
+    let mut least = NO_WALK;
+    let mut best = None;
+    for key in graph.keys() {
+        if let Some(reader) = nearest_reader(graph, steps, b, a, key) {
+            let distance = steps[reader as usize];
+            if distance < least {
+                least = distance;
+                best = Some((*key, reader));
+            }
+        }
+    }
+    best
+}
