@@ -1,4 +1,5 @@
--- Orders that are picked from the front, always the least number all of whose predecessors were picked: each is a numbering with all pairs in order, and none comes before it.
+-- Orders that are picked from the front, always the least number all of whose predecessors were picked: each is a
+-- numbering with all pairs in order, and none comes before it.
 use Rattle.std.proofs.Common.{◌≡◌, ◌<◌, ◌≢◌, ℕ, zero, suc, Bool, true, false, ◌⊎◌, inl, inr, List, [], ◌∷◌, ◌++◌, length, take, get_or, slice_index, eqb, refl, sym, ◌∙◌, append_assoc, append-nil, length-append, arith, subst}
 use Rattle.std.specs.List.{list_any, IsDistinct, Contains}
 use Rattle.std.specs.Cmp.Lexicographic.{slice_cmp}

@@ -9,3 +9,4 @@ pub mod OrderOrCycle
 pub mod Written
 pub mod Passing
 pub mod Waiting
+mod Worked

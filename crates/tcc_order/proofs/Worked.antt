@@ -1,0 +1,118 @@
+-- Small histories and tables worked out by hand, that the definitions have to agree with.
+use Rattle.std.proofs.Common.{ℕ, zero, suc, ◌≡◌, List, [], ◌∷◌, slice_index, refl, arith, true, false}
+use Rattle.std.specs.Prelude.{codes}
+use Rattle.tcc_reads.specs.History.{Entry, History, initial}
+use Rattle.tcc_graph.specs.Links.{IsReason}
+use Rattle.tcc_graph.specs.Orders.{IsCommitOrder}
+use Rattle.tcc_graph.specs.Routes.{IsCycle}
+use Rattle.tcc_graph.specs.declared.step.Step.TheVariants as step
+use Rattle.tcc_graph.specs.declared.link.Link.{Link}
+use Rattle.tcc_graph.specs.declared.link.Link.TheVariants as link
+use Rattle.tcc_derive.specs.Prices.{Tables}
+use Rattle.tcc_order.specs.Numbering.{Joins, HasCircle, passing}
+use Rattle.tcc_order.specs.Leads.{leads}
+use Rattle.tcc_order.proofs.OrderOrCycle.{no_cycle}
+
+abbrev x : List ℕ
+x = codes "x"
+
+abbrev y : List ℕ
+y = codes "y"
+
+-- a transaction of a session at a place, with what it writes and reads
+abbrev entry : ℕ → ℕ → List (List ℕ) → List (List ℕ × ℕ) → Entry
+entry owner place writes reads = record { owner = owner; place = place; writes = writes; reads = reads }
+
+-- ---- a/1 writes x, and a/2 reads the initial value of x: there is a cycle, and so no order
+
+abbrev stale_read : History
+stale_read = record {
+  sessions = codes "a" ∷ [];
+  entries = initial ∷ entry 0 1 (x ∷ []) [] ∷ entry 0 2 [] ((x, 0) ∷ []) ∷ [];
+}
+
+abbrev stale_cycle : List Link
+stale_cycle = link.Session 0 1 ∷ link.Derived 1 0 x 2 (step.Session 1 2 ∷ []) ∷ []
+
+stale_read-cycle : IsCycle stale_read 0 stale_cycle
+stale_read-cycle = (
+  omega arith,
+  (
+    refl,
+    refl,
+    (
+      refl,
+      (
+        ((λ e. absurd (omega arith)), (omega arith, omega arith, (0, omega arith, refl)), (omega arith, refl)),
+        (omega arith, (refl, refl, refl)),
+      ),
+      refl,
+    ),
+  ),
+)
+
+stale_read-no_order : (order : List ℕ) → IsCommitOrder stale_read order → ⊥
+stale_read-no_order order o = no_cycle stale_read order o (0, stale_cycle, stale_read-cycle)
+
+-- ---- a/1 writes x; b/1 writes x and y; c/1 reads y from b/1, and x from a/1: b/1 stands before a/1
+
+abbrev later_writer : History
+later_writer = record {
+  sessions = codes "a" ∷ codes "b" ∷ codes "c" ∷ [];
+  entries = initial ∷ entry 0 1 (x ∷ []) [] ∷ entry 1 1 (x ∷ y ∷ []) [] ∷ entry 2 1 [] ((x, 1) ∷ (y, 2) ∷ []) ∷ [];
+}
+
+later_writer-reason : IsReason later_writer 2 1 x 3 (step.Reads 2 3 y ∷ [])
+later_writer-reason = (
+  ((λ e. absurd (omega arith)), (omega arith, omega arith, (0, omega arith, refl)), (omega arith, refl)),
+  (omega arith, (refl, (omega arith, omega arith, (0, omega arith, refl)), refl)),
+)
+
+-- in 0, 1, 2, 3 the number 1 stands at place 1 alone, and 2 at place 2 alone
+one_at : (i : ℕ) → slice_index (0 ∷ 1 ∷ 2 ∷ 3 ∷ []) i ≡ 1 → i ≡ 1
+one_at zero e = absurd (omega (arith, e))
+one_at (suc zero) e = refl
+one_at (suc (suc zero)) e = absurd (omega (arith, e))
+one_at (suc (suc (suc zero))) e = absurd (omega (arith, e))
+one_at (suc (suc (suc (suc i)))) e = absurd (omega (arith, e))
+
+two_at : (i : ℕ) → slice_index (0 ∷ 1 ∷ 2 ∷ 3 ∷ []) i ≡ 2 → i ≡ 2
+two_at zero e = absurd (omega (arith, e))
+two_at (suc zero) e = absurd (omega (arith, e))
+two_at (suc (suc zero)) e = refl
+two_at (suc (suc (suc zero))) e = absurd (omega (arith, e))
+two_at (suc (suc (suc (suc i)))) e = absurd (omega (arith, e))
+
+later_writer-not_by_number : IsCommitOrder later_writer (0 ∷ 1 ∷ 2 ∷ 3 ∷ []) → ⊥
+later_writer-not_by_number o =
+    let w = o.causal 2 1 x 3 (step.Reads 2 3 y ∷ []) later_writer-reason in
+    absurd (omega (arith, w.2, two_at w.0 w.4, one_at w.1 w.5))
+
+-- ---- a table of costs: a link from 0 to 1 and one from 1 to 2, one of them derived
+
+abbrev onward : Tables
+onward = record {
+  prices = (65535 ∷ 65535 ∷ 65535 ∷ []) ∷ (65535 ∷ 65535 ∷ 3 ∷ []) ∷ (65535 ∷ 65535 ∷ 65535 ∷ []) ∷ [];
+  costs = (65535 ∷ 1 ∷ 65535 ∷ []) ∷ (65535 ∷ 65535 ∷ 3 ∷ []) ∷ (65535 ∷ 65535 ∷ 65535 ∷ []) ∷ [];
+}
+
+onward-leads : (leads onward 0 1 ≡ true) × (leads onward 1 2 ≡ true) × (leads onward 1 0 ≡ false) × (leads onward 0 2 ≡ false) × (leads onward 2 3 ≡ false)
+onward-leads = (refl, refl, refl, refl, refl)
+
+-- one number leads to 2, by its column and not by its row
+onward-counted : (passing (λ a. leads onward a 2) 3 ≡ 1) × (passing (λ a. leads onward a 0) 3 ≡ 0)
+unfolding passing
+onward-counted = (refl, refl)
+
+onward-joins : Joins (leads onward) 0 2 (1 ∷ [])
+onward-joins = (refl, refl)
+
+-- two numbers with links both ways lead in a circle
+abbrev crossed : Tables
+crossed = record {
+  prices = (65535 ∷ 65535 ∷ []) ∷ (2 ∷ 65535 ∷ []) ∷ [];
+  costs = (65535 ∷ 1 ∷ []) ∷ (2 ∷ 65535 ∷ []) ∷ [];
+}
+
+crossed-circle : HasCircle (leads crossed)
+crossed-circle = (0, 1 ∷ [], (refl, refl))
