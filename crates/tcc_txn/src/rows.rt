@@ -217,16 +217,14 @@ impl<R: Read + Drop> Rows<R> {
                 Ok(false) => return Ok(None),
                 Err(kind) => return Err(kind),
             }
-            if self.records.record().len() != 4 {
-                return match read_line(self.records.record()) {
+            let record = self.records.record();
+            if record.len() != 4 {
+                return match read_line(record) {
                     Ok(line) => Ok(Some(line)),
                     Err(kind) => Err(kind),
                 };
             }
-            if let Err(kind) = self
-                .progress
-                .pass_operation(&mut self.session, self.records.record())
-            {
+            if let Err(kind) = self.progress.pass_operation(&mut self.session, record) {
                 return Err(kind);
             }
             self.row = self.row.saturating_add(1);

@@ -125,28 +125,6 @@ pub(crate) fn read_access(word: &[u8]) -> Result<bool, RowFaultKind>
     }
 }
 
-/// A record of four fields.
-fn read_operation(
-    session: &[u8],
-    word: &[u8],
-    key: &[u8],
-    value: &[u8],
-) -> Result<Line, RowFaultKind>
-    ensures { result ≡ line_of (session.now ∷ word.now ∷ key.now ∷ value.now ∷ []) }
-{
-    let Ok(session) = Name::read(session) else {
-        return Err(RowFaultKind::BadSession);
-    };
-    let writes = word == b"w".as_slice();
-    if !writes && word != b"r".as_slice() {
-        return Err(RowFaultKind::UnknownWord);
-    }
-    match read_op(writes, key, value) {
-        Ok(op) => Ok(Line::Operation { session, op }),
-        Err(kind) => Err(kind),
-    }
-}
-
 /// The field at the place.
 pub(crate) fn field(record: &ByteRecord, place: usize) -> &[u8]
     requires { place < length (fields_of record.now) }
@@ -155,19 +133,14 @@ pub(crate) fn field(record: &ByteRecord, place: usize) -> &[u8]
     record.get(place).unwrap()
 }
 
-/// The line that the record is, or what is wrong with the record by itself.
+/// The line that a record of other than four fields is, or what is wrong with the record by itself.
 pub(crate) fn read_line(record: &ByteRecord) -> Result<Line, RowFaultKind>
+    requires { length (fields_of record.now) ≢ 4 }
     ensures { result ≡ line_of (fields_of record.now) }
 {
     match record.len() {
         1 => read_seal(field(record, 0)),
         2 => read_turn(field(record, 0), field(record, 1)),
-        4 => read_operation(
-            field(record, 0),
-            field(record, 1),
-            field(record, 2),
-            field(record, 3),
-        ),
         _ => Err(RowFaultKind::FieldCount),
     }
 }

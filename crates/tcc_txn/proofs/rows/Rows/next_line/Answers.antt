@@ -20,24 +20,24 @@ pub returns-in-Ok-clause-line : goal.returns-in-Ok-clause-line
 returns-in-Ok-clause-line g c ahead reading =
     let now = c.records.invariant.reading ahead reading in
     let taken = rw c.in-Ok-true.field-0-test at (c.in-Ok-true.ensures.taken now.left now.records) in
-    let whole = rw c.record.ensures.value at c.record.ensures.whole in
-    let lawful = rw c.record-then-len-ne4.ensures.value at (sym c.in-Ok.ensures) in
+    let whole = rw c.record-record.ensures.value at c.record-record.ensures.whole in
+    let lawful = rw c.record-record.ensures.value at (sym c.in-Ok.ensures) in
     line-met g.R.Read.remaining c.records.self _ c.read.new.self ahead now taken refl refl refl whole c.in-Ok.line lawful
 
 pub returns-in-Err-read_line-clause-line : goal.returns-in-Err-read_line-clause-line
 returns-in-Err-read_line-clause-line g c ahead reading =
     let now = c.records.invariant.reading ahead reading in
     let taken = rw c.in-Ok-true.field-0-test at (c.in-Ok-true.ensures.taken now.left now.records) in
-    let whole = rw c.record.ensures.value at c.record.ensures.whole in
-    let unlawful = rw c.record-then-len-ne4.ensures.value at (sym c.in-Err-read_line.ensures) in
+    let whole = rw c.record-record.ensures.value at c.record-record.ensures.whole in
+    let unlawful = rw c.record-record.ensures.value at (sym c.in-Err-read_line.ensures) in
     record-refused g.R.Read.remaining c.records.self c.read.new.self ahead now taken c.in-Err-read_line.kind c.records.self.row (inl (judged-unlawful now.past (record_of c.read.new.self) c.in-Err-read_line.kind whole unlawful)) now.counted
 
 pub returns-in-Err-pass_operation-clause-line : goal.returns-in-Err-pass_operation-clause-line
 returns-in-Err-pass_operation-clause-line g c ahead reading =
     let now = c.records.invariant.reading ahead reading in
     let taken = rw c.in-Ok-true.field-0-test at (c.in-Ok-true.ensures.taken now.left now.records) in
-    let whole = rw c.record.ensures.value at c.record.ensures.whole in
-    let refused = rw c.record-in-records.ensures.value at (c.in-Err-pass_operation.ensures now.past now.progress) in
+    let whole = rw c.record-record.ensures.value at c.record-record.ensures.whole in
+    let refused = rw c.record-record.ensures.value at (c.in-Err-pass_operation.ensures now.past now.progress) in
     record-refused g.R.Read.remaining c.records.self c.read.new.self ahead now taken c.in-Err-pass_operation.kind c.records.self.row
     (judged-refused now.past (record_of c.read.new.self) c.in-Err-pass_operation.kind c.pass_operation.new.self whole refused) now.counted
 
@@ -48,8 +48,8 @@ records-preserved g c =
       reading = λ ahead reading.
           let now = c.records.invariant.reading ahead reading in
           let taken = rw c.in-Ok-true.field-0-test at (c.in-Ok-true.ensures.taken now.left now.records) in
-          let whole = rw c.record.ensures.value at c.record.ensures.whole in
-          let passed = rw c.record-in-records.ensures.value at (c.in_default.ensures now.past now.progress) in
+          let whole = rw c.record-record.ensures.value at c.record-record.ensures.whole in
+          let passed = rw c.record-record.ensures.value at (c.in_default.ensures now.past now.progress) in
           operation-passed g.R.Read.remaining c.records.self _ c.read.new.self ahead now taken refl whole c.in_default.field-0 passed (omega (arith, c.saturating_add-self.ensures, now.counted, now.fits));
     }
 
