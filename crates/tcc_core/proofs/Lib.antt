@@ -1,0 +1,5 @@
+pub mod LinkLemmas
+pub mod Settlement
+pub mod Frontier
+pub mod Lowering
+pub mod Steps
