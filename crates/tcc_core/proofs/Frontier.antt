@@ -1,12 +1,12 @@
 -- The frontier of a search: no route to anything outside the row costs less than the least way there.
-use Rattle.std.proofs.Common.{◌≡◌, ◌≢◌, ◌<◌, ◌≤◌, ◌+◌, ℕ, zero, suc, ◌⊎◌, inl, inr, List, [], ◌∷◌, ◌++◌, length, length-append, Option, None, Some, get_or, refl, sym, ◌∙◌, ap, subst, arith}
+use Rattle.std.proofs.Common.{◌≡◌, ◌<◌, ◌≤◌, ◌+◌, ℕ, inl, inr, List, [], ◌∷◌, ◌++◌, length-append, Option, None, Some, refl, sym, ◌∙◌, arith}
 use Rattle.tcc_reads.specs.History.{History, count}
-use Rattle.tcc_graph.specs.Links.{IsLink, link_from, link_to, link_cost, cost}
-use Rattle.tcc_graph.specs.Routes.{LinksLead, IsRoute, IsDistance}
+use Rattle.tcc_graph.specs.Links.{link_to, link_cost, cost}
+use Rattle.tcc_graph.specs.Routes.{LinksLead, IsRoute}
 use Rattle.tcc_graph.specs.declared.link.Link.{Link}
 use Rattle.tcc_derive.specs.Prices.{IsLinkOf}
 use Rattle.tcc_core.specs.Rows.{in_row, IsRow}
-use Rattle.tcc_core.specs.Searches.{HasCome, IsWay, IsFrontier, no_way}
+use Rattle.tcc_core.specs.Searches.{HasCome, IsWay}
 use Rattle.tcc_core.proofs.LinkLemmas.{link_below, cost_cons, cost_append, lead_append}
 
 -- ---- ways are routes

@@ -1,5 +1,5 @@
 -- Links and routes: where they end, and what they cost.
-use Rattle.std.proofs.Common.{◌≡◌, ◌<◌, ◌≤◌, ◌+◌, ◌==◌, ℕ, ◌&&◌, ◌||◌, List, [], ◌∷◌, ◌++◌, length, length-append, flat_map, refl, sym, ◌∙◌, subst, arith, nat_lt}
+use Rattle.std.proofs.Common.{◌≡◌, ◌<◌, ◌+◌, ◌==◌, ℕ, ◌&&◌, ◌||◌, List, [], ◌∷◌, ◌++◌, length-append, flat_map, sym, subst, arith, nat_lt}
 use Rattle.std.proofs.lemmas.Bool.{and_parts, ltb-true}
 use Rattle.std.proofs.lemmas.Grind.{flat_map-append}
 use Rattle.tcc_reads.specs.History.{History, count, owner, place}

@@ -1,11 +1,13 @@
 -- Costs lowered by links, and what the table of links' costs says.
-use Rattle.std.proofs.Common.{◌≡◌, ◌≢◌, ◌<◌, ◌≤◌, ◌+◌, ◌*◌, ◌==◌, ℕ, zero, suc, true, false, ◌⊎◌, inl, inr, List, [], ◌∷◌, length, Option, None, Some, get_or, set, refl, sym, ◌∙◌, ap, arith, nat_lt}
-use Rattle.std.proofs.lemmas.Bool.{cases_cond, cond_both, cond-true, cond-false, ltb-true, ltb-false}
+use Rattle.std.proofs.Common.{◌≡◌, ◌≢◌, ◌<◌, ◌≤◌, ◌+◌, ◌==◌, ℕ, zero, suc, true, false, ◌⊎◌, inl, inr, List, [], ◌∷◌, ◌++◌, length, take, drop, All, Option, None, Some, get_or, set, refl, ◌∙◌, ap, arith, nat_lt}
+use Rattle.std.proofs.Math.ListN.{get_or-eq_default}
+use Rattle.std.proofs.lemmas.Grind.{common_steps}
+use Rattle.std.proofs.lemmas.Bool.{cases_lt, cases_cond, cond_both, ltb-true, ltb-false}
 use Rattle.std.proofs.lemmas.Bool.Decides.{eqb_tells, nat_tests}
 use Rattle.tcc_reads.specs.History.{History, count}
 use Rattle.tcc_graph.specs.Links.{link_cost}
 use Rattle.tcc_graph.specs.declared.link.Link.{Link}
-use Rattle.tcc_near.specs.Distances.{no_walk, row_of, least_in}
+use Rattle.tcc_near.specs.Distances.{no_walk, row_of}
 use Rattle.tcc_derive.specs.Prices.{Tables, cost_at, IsLinkOf, IsCost, IsPricesOf}
 use Rattle.tcc_core.specs.Rows.{in_row}
 use Rattle.tcc_core.specs.Searches.{held, no_way}
@@ -87,3 +89,15 @@ held_below [] v within out = absurd (omega arith)
 held_below (None ∷ row) v within out = omega (arith, held_most row)
 held_below (Some c ∷ row) zero within out = cc
 held_below (Some c ∷ row) (suc v) within out = omega (arith, held_below row v (omega arith) out)
+
+-- ---- a slice that a call wrote to, in its vector again, and links' costs as numbers of 16 bits
+
+pub whole : {X : Type 0} (xs ys : List X) (n : ℕ) → length xs ≡ length ys → n ≡ length ys → take n (xs ++ drop (length xs) ys) ≡ xs
+whole xs ys n same long = grind (arith, common_steps)
+
+pub fits : (links : List ℕ) → All (λ link. link < 65536) links → (v : ℕ) → get_or links v 0 < 65536
+fits links all v = go (cases_lt v (length links))
+  where
+    go : (v < length links) ⊎ (length links ≤ v) → get_or links v 0 < 65536
+    go (inl within) = all v 0 within
+    go (inr past) = omega (arith, get_or-eq_default links 0 past)

@@ -2,12 +2,12 @@
 use Rattle.std.proofs.Common.{◌≡◌, ◌<◌, ◌≤◌, ℕ, zero, suc, ◌⊎◌, inl, inr, List, [], ◌∷◌, length, map, Option, None, Some, All, Contains, flat_map, get_or, refl, sym, ◌∙◌, ap, subst, arith, nat_lt}
 use Rattle.std.proofs.lemmas.Bool.{cond_both, ltb-true, ltb-false}
 use Rattle.std.proofs.lemmas.List.Elements.{All-contains, Contains-append_cases}
-use Rattle.tcc_reads.specs.History.{History, count}
+use Rattle.tcc_reads.specs.History.{History}
 use Rattle.tcc_graph.specs.Links.{cost}
-use Rattle.tcc_graph.specs.Routes.{LinksLead, IsRoute, IsCycle, IsLeastCycle, HasCycle, IsDistance}
+use Rattle.tcc_graph.specs.Routes.{IsRoute, IsCycle, IsLeastCycle, HasCycle, IsDistance}
 use Rattle.tcc_graph.specs.declared.link.Link.{Link}
-use Rattle.tcc_core.specs.Rows.{in_row, IsRow, IsWithin, IsCutOff}
-use Rattle.tcc_core.specs.Shares.{Share, Finished, Stop, Returned, Cut, IsNotAbove, IsStopped, IsFinished, IsCycleCost, IsNotBelowLeast, starts_of, EachFinished, SettleAt, capped, IsCappedDistance}
+use Rattle.tcc_core.specs.Rows.{in_row, IsRow, IsWithin}
+use Rattle.tcc_core.specs.Shares.{Share, Finished, Stop, Returned, Cut, IsNotAbove, IsStopped, IsFinished, IsNotBelowLeast, starts_of, EachFinished, SettleAt, capped, IsCappedDistance}
 use Rattle.tcc_core.proofs.LinkLemmas.{route_below}
 
 -- ---- each start has a search

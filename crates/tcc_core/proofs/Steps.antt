@@ -1,17 +1,17 @@
 -- One step of a search: the nearest outside the row joins it, and the frontier moves on.
-use Rattle.std.proofs.Common.{◌≡◌, ◌≢◌, ◌<◌, ◌≤◌, ◌+◌, ◌*◌, ℕ, ◌⊎◌, inl, inr, List, length, Option, None, Some, get_or, set, get_or-set_same, get_or-set_other, length-set, refl, sym, ◌∙◌, ap, subst, arith, nat_lt}
-use Rattle.std.proofs.lemmas.Bool.{cases_eq}
+use Rattle.std.proofs.Common.{◌≡◌, ◌≢◌, ◌<◌, ◌≤◌, ◌+◌, ◌*◌, ◌==◌, ℕ, ◌⊎◌, inl, inr, List, length, Option, None, Some, get_or, set, get_or-set_same, get_or-set_other, length-set, refl, sym, ◌∙◌, subst, arith}
+use Rattle.std.proofs.lemmas.Bool.{cases_eq, cond_both, cond-false, ne_eqb}
 use Rattle.tcc_reads.specs.History.{History, count}
-use Rattle.tcc_graph.specs.Links.{link_cost, cost}
+use Rattle.tcc_graph.specs.Links.{cost}
 use Rattle.tcc_graph.specs.Routes.{IsRoute, IsDistance}
 use Rattle.tcc_graph.specs.declared.link.Link.{Link}
 use Rattle.tcc_near.specs.Distances.{no_walk, row_of}
 use Rattle.tcc_derive.specs.Prices.{Tables, IsLinkOf, IsPricesOf}
-use Rattle.tcc_core.specs.Rows.{in_row, IsRow, IsEmptyRow, IsWithin, IsCutOff, JoinsNearest}
+use Rattle.tcc_core.specs.Rows.{in_row, IsRow, IsEmptyRow, cap_of, IsWithin, IsCutOff, JoinsNearest}
 use Rattle.tcc_core.specs.Searches.{HasCome, IsWay, IsFrontier, IsSearchOf, IsBounded, Search, held, no_way}
 use Rattle.tcc_core.specs.Relaxing.{IsNearest}
 use Rattle.tcc_core.proofs.Lowering.{IsLowered, lowered_cases, lowered_old, lowered_way, entry_of_link, link_of_entry, held_set, held_below}
-use Rattle.tcc_core.proofs.Frontier.{route_of_way, way_within, way_below, HasWayWithin}
+use Rattle.tcc_core.proofs.Frontier.{route_of_way, way_within, way_below}
 
 -- ---- a row that one more transaction has joined
 
@@ -78,6 +78,28 @@ nothing_near h s search cap is none v links out route within =
 pub nearest_past : (h : History) (s : ℕ) (search : Search) (v cap : ℕ) → IsSearchOf h s search → IsNearest search.row search.costs v → cap < get_or search.costs v 0 → IsCutOff h s search.row (Some cap)
 nearest_past h s search v cap is near past u links out route within =
     omega (arith, nearest_least h s search v is near u links out route, past)
+
+-- ---- what the step answers
+
+within_cap : (cap d : ℕ) → d ≤ cap → IsWithin (cap_of cap) d
+within_cap cap d low = cond_both (cap == 18446744073709551615) None (Some cap) (λ o. IsWithin o d) (λ e. tt) (λ e. low)
+
+pub settles_cut : (h : History) (s : ℕ) (search : Search) (v cap : ℕ) → IsSearchOf h s search → IsNearest search.row search.costs v → get_or search.costs v 0 ≤ 4294967295 → cap < get_or search.costs v 0 → IsCutOff h s search.row (cap_of cap)
+settles_cut h s search v cap is near most past =
+    let some : cap_of cap ≡ Some cap = cond-false (cap == 18446744073709551615) None (Some cap) (ne_eqb cap 18446744073709551615 (omega arith)) in
+    rw some (nearest_past h s search v cap is near past)
+
+pub settles_returned : (h : History) (s : ℕ) (search : Search) (v cap d : ℕ) → IsSearchOf h s search → IsNearest search.row search.costs v → d ≡ get_or search.costs v 0 → d ≤ cap → v ≡ search.start → JoinsNearest h s (cap_of cap) search.row (set search.row v (Some d)) s d
+settles_returned h s search v cap d is near same low start =
+    let joins = nearest_joins h s search v (cap_of cap) is near (within_cap cap (get_or search.costs v 0) (omega arith)) in
+    let here : v ≡ s = start ∙ is.start in
+    let moved = subst (λ (z : ℕ). JoinsNearest h s (cap_of cap) search.row (set search.row v (Some (get_or search.costs v 0))) z (get_or search.costs v 0)) here joins in
+    rw same moved
+
+pub settles_more : (h : History) (s : ℕ) (search : Search) (v cap d : ℕ) → IsSearchOf h s search → IsNearest search.row search.costs v → d ≡ get_or search.costs v 0 → d ≤ cap → v ≢ search.start → (w : ℕ) × (c : ℕ) × (w ≢ s) × JoinsNearest h s (cap_of cap) search.row (set search.row v (Some d)) w c
+settles_more h s search v cap d is near same low other =
+    let joins = nearest_joins h s search v (cap_of cap) is near (within_cap cap (get_or search.costs v 0) (omega arith)) in
+    (v, get_or search.costs v 0, λ here. other (here ∙ sym is.start), rw same joins)
 
 -- ---- the row and the frontier after it
 

@@ -1,5 +1,5 @@
 -- Costs of ways, and how links lower them.
-use Rattle.std.specs.Prelude.{ℕ, ◌<◌, ◌≤◌, ◌≡◌, ◌≢◌, ◌+◌, ◌==◌, List, length, Option, None, nat_lt, if◌then◌else◌, slice_index}
+use Rattle.std.specs.Prelude.{ℕ, ◌<◌, ◌≤◌, ◌≡◌, ◌+◌, ◌==◌, List, length, Option, None, nat_lt, if◌then◌else◌, slice_index}
 use Rattle.tcc_near.specs.Distances.{no_walk}
 use Rattle.tcc_core.specs.Rows.{in_row}
 use Rattle.tcc_core.specs.Searches.{no_way}

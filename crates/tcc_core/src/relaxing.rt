@@ -1,5 +1,5 @@
 //! The frontier of a search: what the ways to the transactions outside its row cost.
-ghost use Rattle.std.specs.Prelude.{◌≡◌, ◌<◌, ◌≤◌, ◌^◌, ℕ, length, slice_index, IfNone, IfSome};
+ghost use Rattle.std.specs.Prelude.{◌≡◌, ◌<◌, ◌≤◌, ◌^◌, ℕ, length, slice_index, All, IfNone, IfSome};
 ghost use Rattle.tcc_core.specs.Rows.{in_row};
 ghost use Rattle.tcc_core.specs.Searches.{no_way};
 ghost use Rattle.tcc_core.specs.Relaxing.{IsNearest, way_by, lesser};
@@ -43,7 +43,8 @@ fn way_by(so_far: u32, link: u16) -> u32
 pub(crate) fn relax(costs: &mut [u32], so_far: u32, links: &[u16])
     requires small { so_far < 2 ^ 31 }
     requires long { length links.now ≡ length costs.old }
-    ensures { (v : ℕ) → v < length costs.old → slice_index costs.new v ≡ lesser (slice_index costs.old v) (way_by so_far (slice_index links.now v)) }
+    ensures links { All (λ link. link < 2 ^ 16) links.now }
+    ensures lowered { (v : ℕ) → v < length costs.old → slice_index costs.new v ≡ lesser (slice_index costs.old v) (way_by so_far (slice_index links.now v)) }
 {
     for (v, link) in links.iter().enumerate() {
         costs[v] = costs[v].min(way_by(so_far, *link));
