@@ -9,3 +9,6 @@ mod settled;
 
 pub use search::Search;
 pub use settled::Settled;
+
+#[cfg(test)]
+mod tests;

@@ -1,5 +1,5 @@
 //! The least costs of links between transactions.
-ghost use Rattle.std.specs.Prelude.{◌≡◌, ◌≤◌, ◌<◌, ◌∷◌, [], length};
+ghost use Rattle.std.specs.Prelude.{◌≡◌, ◌<◌, ◌≤◌, ◌∷◌, [], length};
 ghost use Rattle.tcc_near.specs.Distances.{row_of, least_in};
 ghost use Rattle.tcc_derive.specs.Prices.{price_at, cost_at};
 
@@ -44,8 +44,7 @@ impl Model for Prices {
 impl Prices {
     /// How many transactions there are, `init` among them.
     pub fn count(&self) -> u32
-        ensures value { result ≡ length self.now.prices }
-        ensures few { result ≤ 1024 }
+        ensures { result ≡ length self.now.prices }
     {
         self.prices.len() as u32
     }
@@ -73,6 +72,7 @@ impl Prices {
         requires { u < length self.now.prices }
         ensures value { result.now ≡ row_of self.now.costs u }
         ensures long { length result.now ≡ length self.now.prices }
+        ensures few { length result.now ≤ 1024 }
     {
         &self.costs[u as usize].costs
     }

@@ -14,7 +14,7 @@ invariant_of-result c =
     let n = length c.args.prices.now.prices in
     let old = c.in_ok-costs.costs.items in
     let new = c.relax.new.costs in
-    let counted : c.count-count.result ≡ n = c.count-count.ensures.value in
+    let counted : c.count-count.result ≡ n = c.count-count.ensures in
     let empty : IsEmptyRow n c.in_ok-row.row.items = record { long = grind (arith, common_steps); empty = λ v. grind (arith, common_steps) } in
     let all : old ≡ replicate n no_way = rw counted at (c.in_ok-costs.ensures.items_if_clones_equal (λ y e. e)) in
     let many : length old ≡ n = rw all (length-replicate n no_way) in
@@ -22,7 +22,7 @@ invariant_of-result c =
     let same : length new ≡ length old = search rules in
     let long : c.in_ok-costs.costs.len ≡ length old = search rules in
     let lowered : IsLowered old new 0 c.costs.result.now = record { long = same; each = rw c.deref_mut.ensures.value at c.relax.ensures.lowered } in
-    rw (whole new old c.in_ok-costs.costs.len same long) (bounded_begun c.args.start n c.in_ok-row.row.items old new c.costs.result.now c.requires (omega (arith, c.count-count.ensures.few)) empty many none (fits c.costs.result.now c.relax.ensures.links) lowered)
+    rw (whole new old c.in_ok-costs.costs.len same long) (bounded_begun c.args.start n c.in_ok-row.row.items old new c.costs.result.now c.requires (omega (arith, c.costs.ensures.few, c.costs.ensures.long)) empty many none (fits c.costs.result.now c.relax.ensures.links) lowered)
 
 pub returns-clause-search : goal.returns-clause-search
 returns-clause-search c =
@@ -30,7 +30,7 @@ returns-clause-search c =
     let old = c.in_ok-costs.costs.items in
     let new = c.relax.new.costs in
     let t = c.args.prices.now in
-    let counted : c.count-count.result ≡ n = c.count-count.ensures.value in
+    let counted : c.count-count.result ≡ n = c.count-count.ensures in
     let empty : IsEmptyRow n c.in_ok-row.row.items = record { long = grind (arith, common_steps); empty = λ v. grind (arith, common_steps) } in
     let all : old ≡ replicate n no_way = rw counted at (c.in_ok-costs.ensures.items_if_clones_equal (λ y e. e)) in
     let many : length old ≡ n = rw all (length-replicate n no_way) in
