@@ -223,7 +223,7 @@ fn writers_before_each_other(rt: HostRuntime) -> Result<(), Fail> {
     Ok(())
 }
 
-/// a/1 has one reader, and from `init` the link to it costs less than the way over a/1.
+/// The link from `init` to the reader of a/1 costs less than the way over a/1, which joins first.
 #[test]
 fn two_ways_to_one(rt: HostRuntime) -> Result<(), Fail> {
     let alloc = rt.alloc();
