@@ -3,3 +3,4 @@ pub mod Settlement
 pub mod Frontier
 pub mod Lowering
 pub mod Steps
+pub mod Worked
