@@ -1,5 +1,5 @@
 -- Shares that settle: the word undercuts no cycle, and the rows are exact up to it.
-use Rattle.std.proofs.Common.{◌≡◌, ◌<◌, ◌≤◌, ℕ, zero, suc, ◌⊎◌, inl, inr, List, [], ◌∷◌, length, map, Option, None, Some, All, Contains, flat_map, get_or, refl, sym, ◌∙◌, ap, subst, arith, nat_lt}
+use Rattle.std.proofs.Common.{◌≡◌, ◌<◌, ◌≤◌, ℕ, zero, suc, ◌⊎◌, inl, inr, List, [], ◌∷◌, length, map, Option, None, Some, All, Contains, flat_map, get_or, refl, sym, ap, subst, arith, nat_lt}
 use Rattle.std.proofs.lemmas.Bool.{cond_both, ltb-true, ltb-false}
 use Rattle.std.proofs.lemmas.List.Elements.{All-contains, Contains-append_cases}
 use Rattle.tcc_reads.specs.History.{History}
@@ -126,14 +126,14 @@ pub capped_rows : (h : History) (shares : List Share) (word : Option ℕ) → Se
 capped_rows h shares word settle =
     each_finished h shares word (λ f. (v : ℕ) → IsCappedDistance h f.start v word (capped word (in_row f.row v))) settle (λ share f at finished. λ v. capped_row h word share f.start f.row f.stop at finished.row finished.stopped v (in_row f.row v) refl)
 
-has_returned : (h : History) (b : ℕ) (share : Share) (s : ℕ) (row : List (Option ℕ)) (stop : Stop) → IsShareAt h (Some b) share → IsRow h s row → IsStopped h share s row stop → IsDistance h s s b → in_row row s ≡ Some b
+has_returned : (h : History) (b : ℕ) (share : Share) (s : ℕ) (row : List (Option ℕ)) (stop : Stop) → IsShareAt h (Some b) share → IsRow h s row → IsStopped h share s row stop → IsDistance h s s b → stop ≡ Returned b
 has_returned h b share s row (Returned c) at exact stopped distance =
     let (links, route, costs) = distance.attained in
     let (others, other, paid) = (exact.exact s c stopped.0).attained in
     let low : b ≤ cost others = distance.least others other in
     let most : c ≤ cost links = (exact.exact s c stopped.0).least links route in
     let same : c ≡ b = omega arith in
-    stopped.0 ∙ ap (λ x. Some x) same
+    ap (λ x. Returned x) same
 has_returned h b share s row (Cut cap) at exact stopped distance =
     let (links, route, costs) = distance.attained in
     let w = past_cap (Some b) cap (cost links) (not_above_join (Some b) share.sight cap at.below_sight stopped.0) (stopped.2 s links stopped.1 route) in
@@ -141,6 +141,6 @@ has_returned h b share s row (Cut cap) at exact stopped distance =
     let equal : b ≡ w.0 = cc in
     absurd (omega (arith, w.2))
 
-pub returned_starts : (h : History) (shares : List Share) (b : ℕ) → SettleAt h shares (Some b) → EachFinished shares (λ f. IsDistance h f.start f.start b → in_row f.row f.start ≡ Some b)
+pub returned_starts : (h : History) (shares : List Share) (b : ℕ) → SettleAt h shares (Some b) → EachFinished shares (λ f. IsDistance h f.start f.start b → f.stop ≡ Returned b)
 returned_starts h shares b settle =
-    each_finished h shares (Some b) (λ f. IsDistance h f.start f.start b → in_row f.row f.start ≡ Some b) settle (λ share f at finished. has_returned h b share f.start f.row f.stop at finished.row finished.stopped)
+    each_finished h shares (Some b) (λ f. IsDistance h f.start f.start b → f.stop ≡ Returned b) settle (λ share f at finished. has_returned h b share f.start f.row f.stop at finished.row finished.stopped)
