@@ -98,6 +98,7 @@ impl Prices {
         requires { u < length self.now.prices }
         ensures value { result.now ≡ row_of self.now.costs u }
         ensures long { length result.now ≡ length self.now.prices }
+        ensures few { length result.now ≤ 1024 }
     {
         &self.costs[u as usize].costs
     }

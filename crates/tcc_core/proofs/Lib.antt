@@ -1,0 +1,7 @@
+pub mod LinkLemmas
+pub mod Settlement
+pub mod Frontier
+pub mod Lowering
+pub mod Steps
+pub mod Ending
+pub mod Worked

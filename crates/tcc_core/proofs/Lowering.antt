@@ -1,0 +1,103 @@
+-- Costs lowered by links, and what the table of links' costs says.
+use Rattle.std.proofs.Common.{◌≡◌, ◌≢◌, ◌<◌, ◌≤◌, ◌+◌, ◌==◌, ℕ, zero, suc, true, false, ◌⊎◌, inl, inr, List, [], ◌∷◌, ◌++◌, length, take, drop, All, Option, None, Some, get_or, set, refl, ◌∙◌, ap, arith, nat_lt}
+use Rattle.std.proofs.Math.ListN.{get_or-eq_default}
+use Rattle.std.proofs.lemmas.Grind.{common_steps}
+use Rattle.std.proofs.lemmas.Bool.{cases_lt, cases_cond, cond_both, ltb-true, ltb-false}
+use Rattle.std.proofs.lemmas.Bool.Decides.{eqb_tells, nat_tests}
+use Rattle.tcc_reads.specs.History.{History, count}
+use Rattle.tcc_graph.specs.Links.{link_cost}
+use Rattle.tcc_graph.specs.declared.link.Link.{Link}
+use Rattle.tcc_near.specs.Distances.{no_walk, row_of}
+use Rattle.tcc_derive.specs.Prices.{Tables, cost_at, IsLinkOf, IsCost, IsPricesOf}
+use Rattle.tcc_core.specs.Rows.{in_row}
+use Rattle.tcc_core.specs.Searches.{held, no_way}
+use Rattle.tcc_core.specs.Relaxing.{way_by, lesser}
+
+-- ---- what a table says of a link
+
+-- what the table of links' costs has from u to v
+abbrev pub entry : Tables → ℕ → ℕ → ℕ
+entry t u v = get_or (row_of t.costs u) v 0
+
+pub entry_of_link : (h : History) (t : Tables) (u v : ℕ) (l : Link) → IsPricesOf h t → u < count h → v < count h → IsLinkOf h u v l → (entry t u v ≢ no_walk) × (entry t u v ≤ link_cost l)
+entry_of_link h t u v l priced from to leads = go (eqb_tells (entry t u v) no_walk) (priced.costed u v from to)
+  where
+    go : (((entry t u v == no_walk) ≡ true) × (entry t u v ≡ no_walk)) ⊎ (((entry t u v == no_walk) ≡ false) × (entry t u v ≢ no_walk)) → IsCost h u v (cost_at t u v) → (entry t u v ≢ no_walk) × (entry t u v ≤ link_cost l)
+    go (inl (test, same)) cost = let none = rw test at cost in absurd (none l leads)
+    go (inr (test, other)) cost = let some = rw test at cost in (other, some.least l leads)
+
+pub link_of_entry : (h : History) (t : Tables) (u v : ℕ) → IsPricesOf h t → u < count h → v < count h → entry t u v ≢ no_walk → (l : Link) × IsLinkOf h u v l × (link_cost l ≡ entry t u v)
+link_of_entry h t u v priced from to there = go (eqb_tells (entry t u v) no_walk) (priced.costed u v from to)
+  where
+    go : (((entry t u v == no_walk) ≡ true) × (entry t u v ≡ no_walk)) ⊎ (((entry t u v == no_walk) ≡ false) × (entry t u v ≢ no_walk)) → IsCost h u v (cost_at t u v) → (l : Link) × IsLinkOf h u v l × (link_cost l ≡ entry t u v)
+    go (inl (test, same)) cost = absurd (there same)
+    go (inr (test, other)) cost = let some = rw test at cost in some.attained
+
+-- ---- the lesser of two costs, and ways by a link
+
+pub lesser_left : (a b : ℕ) → lesser a b ≤ a
+lesser_left a b = cond_both (nat_lt b a) b a (λ x. x ≤ a) (λ e. omega (arith, ltb-true b a e)) (λ e. omega arith)
+
+pub lesser_right : (a b : ℕ) → lesser a b ≤ b
+lesser_right a b = cond_both (nat_lt b a) b a (λ x. x ≤ b) (λ e. omega arith) (λ e. omega (arith, ltb-false b a e))
+
+pub lesser_cases : (a b : ℕ) → (lesser a b ≡ b) ⊎ (lesser a b ≡ a)
+lesser_cases a b = cases_cond (nat_lt b a) b a (lesser a b) refl
+
+pub way_by_link : (d link : ℕ) → link ≢ no_walk → way_by d link ≡ d + link
+way_by_link d link there = grind (arith, nat_tests)
+
+pub way_by_none : (d link : ℕ) → link ≡ no_walk → way_by d link ≡ no_way
+way_by_none d link same = grind (arith, nat_tests)
+
+-- each cost is the lesser of what it was and of a way by these links from where d was spent
+pub record IsLowered (old : List ℕ) (new : List ℕ) (d : ℕ) (links : List ℕ) : Type 0 where
+  pub long : length new ≡ length old
+  pub each : (v : ℕ) → v < length old → get_or new v 0 ≡ lesser (get_or old v 0) (way_by d (get_or links v 0))
+
+-- a lowered cost is what it was, or that of a way by a link
+pub lowered_cases : (old new : List ℕ) (d : ℕ) (links : List ℕ) (v : ℕ) → IsLowered old new d links → v < length old → get_or new v 0 ≢ no_way → (get_or new v 0 ≡ get_or old v 0) ⊎ ((get_or links v 0 ≢ no_walk) × (get_or new v 0 ≡ d + get_or links v 0))
+lowered_cases old new d links v is within some = go (lesser_cases (get_or old v 0) (way_by d (get_or links v 0))) (eqb_tells (get_or links v 0) no_walk)
+  where
+    go : (lesser (get_or old v 0) (way_by d (get_or links v 0)) ≡ way_by d (get_or links v 0)) ⊎ (lesser (get_or old v 0) (way_by d (get_or links v 0)) ≡ get_or old v 0) → (((get_or links v 0 == no_walk) ≡ true) × (get_or links v 0 ≡ no_walk)) ⊎ (((get_or links v 0 == no_walk) ≡ false) × (get_or links v 0 ≢ no_walk)) → (get_or new v 0 ≡ get_or old v 0) ⊎ ((get_or links v 0 ≢ no_walk) × (get_or new v 0 ≡ d + get_or links v 0))
+    go (inr kept) w = inl (is.each v within ∙ kept)
+    go (inl by) (inl (test, same)) = absurd (some (is.each v within ∙ by ∙ way_by_none d (get_or links v 0) same))
+    go (inl by) (inr (test, other)) = inr (other, is.each v within ∙ by ∙ way_by_link d (get_or links v 0) other)
+
+pub lowered_old : (old new : List ℕ) (d : ℕ) (links : List ℕ) (v : ℕ) → IsLowered old new d links → v < length old → get_or new v 0 ≤ get_or old v 0
+lowered_old old new d links v is within = omega (arith, is.each v within, lesser_left (get_or old v 0) (way_by d (get_or links v 0)))
+
+pub lowered_way : (old new : List ℕ) (d : ℕ) (links : List ℕ) (v : ℕ) → IsLowered old new d links → v < length old → get_or links v 0 ≢ no_walk → get_or new v 0 ≤ d + get_or links v 0
+lowered_way old new d links v is within there = omega (arith, is.each v within, lesser_right (get_or old v 0) (way_by d (get_or links v 0)), way_by_link d (get_or links v 0) there)
+
+-- ---- how many a row has
+
+pub held_set : (row : List (Option ℕ)) (v d : ℕ) → v < length row → in_row row v ≡ None → held (set row v (Some d)) ≡ held row + 1
+held_set [] v d within out = absurd (omega arith)
+held_set (None ∷ row) zero d within out = refl
+held_set (Some c ∷ row) zero d within out = cc
+held_set (None ∷ row) (suc v) d within out = held_set row v d (omega arith) out
+held_set (Some c ∷ row) (suc v) d within out = ap (λ n. n + 1) (held_set row v d (omega arith) out)
+
+held_most : (row : List (Option ℕ)) → held row ≤ length row
+held_most [] = omega arith
+held_most (None ∷ row) = omega (arith, held_most row)
+held_most (Some c ∷ row) = omega (arith, held_most row)
+
+pub held_below : (row : List (Option ℕ)) (v : ℕ) → v < length row → in_row row v ≡ None → held row < length row
+held_below [] v within out = absurd (omega arith)
+held_below (None ∷ row) v within out = omega (arith, held_most row)
+held_below (Some c ∷ row) zero within out = cc
+held_below (Some c ∷ row) (suc v) within out = omega (arith, held_below row v (omega arith) out)
+
+-- ---- a slice that a call wrote to, in its vector again, and links' costs as numbers of 16 bits
+
+pub whole : {X : Type 0} (xs ys : List X) (n : ℕ) → length xs ≡ length ys → n ≡ length ys → take n (xs ++ drop (length xs) ys) ≡ xs
+whole xs ys n same long = grind (arith, common_steps)
+
+pub fits : (links : List ℕ) → All (λ link. link < 65536) links → (v : ℕ) → get_or links v 0 < 65536
+fits links all v = go (cases_lt v (length links))
+  where
+    go : (v < length links) ⊎ (length links ≤ v) → get_or links v 0 < 65536
+    go (inl within) = all v 0 within
+    go (inr past) = omega (arith, get_or-eq_default links 0 past)

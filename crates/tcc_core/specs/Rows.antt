@@ -1,0 +1,44 @@
+-- Rows of distances from one start.
+use Rattle.std.specs.Prelude.{ℕ, ◌≤◌, ◌≡◌, ◌==◌, List, length, Option, None, Some, if◌then◌else◌, slice_index_or, slice_set}
+use Rattle.tcc_reads.specs.History.{History, count}
+use Rattle.tcc_graph.specs.Links.{cost}
+use Rattle.tcc_graph.specs.Routes.{IsRoute, IsDistance}
+use Rattle.tcc_graph.specs.declared.link.Link.{Link}
+
+-- what the row has of a transaction: its distance from the start; none where it stands outside
+abbrev pub in_row : List (Option ℕ) → ℕ → Option ℕ
+in_row row v = slice_index_or row v None
+
+-- a place for each transaction: what the row has is the distance, and nothing outside is nearer than anything inside
+pub record IsRow (h : History) (s : ℕ) (row : List (Option ℕ)) : Type 0 where
+  pub long : length row ≡ count h
+  pub exact : (v : ℕ) (distance : ℕ) → in_row row v ≡ Some distance → IsDistance h s v distance
+  pub closed : (v : ℕ) (u : ℕ) (distance : ℕ) (links : List Link) → in_row row v ≡ Some distance → in_row row u ≡ None → IsRoute h s u links → distance ≤ cost links
+
+-- a place for each of n transactions, and all of them outside
+pub record IsEmptyRow (n : ℕ) (row : List (Option ℕ)) : Type 0 where
+  pub long : length row ≡ n
+  pub empty : (v : ℕ) → in_row row v ≡ None
+
+-- a cap as a number of 64 bits, the greatest of which is none
+abbrev pub cap_of : ℕ → Option ℕ
+cap_of cap = if cap == 18446744073709551615 then None else Some cap
+
+-- a cost is at most the cap; without a cap every cost is
+abbrev pub IsWithin : Option ℕ → ℕ → Type 0
+IsWithin None c = Unit {0}
+IsWithin (Some cap) c = c ≤ cap
+
+-- no route to anything outside the row is within the cap
+abbrev pub IsCutOff : History → ℕ → List (Option ℕ) → Option ℕ → Type 0
+IsCutOff h s row cap =
+    (v : ℕ) (links : List Link) → in_row row v ≡ None → IsRoute h s v links → IsWithin cap (cost links) → ⊥
+
+-- v, one of the nearest of those outside the row, is within the cap and joins the row with its distance from s; what
+-- else the row has stays
+pub record JoinsNearest (h : History) (s : ℕ) (cap : Option ℕ) (old : List (Option ℕ)) (new : List (Option ℕ)) (v : ℕ) (distance : ℕ) : Type 0 where
+  pub outside : in_row old v ≡ None
+  pub exact : IsDistance h s v distance
+  pub nearest : (u : ℕ) (links : List Link) → in_row old u ≡ None → IsRoute h s u links → distance ≤ cost links
+  pub within : IsWithin cap distance
+  pub joined : new ≡ slice_set old v (Some distance)

@@ -1,0 +1,52 @@
+//! The frontier of a search: what the ways to the transactions outside its row cost.
+ghost use Rattle.std.specs.Prelude.{◌≡◌, ◌<◌, ◌≤◌, ◌^◌, ℕ, length, slice_index, All, IfNone, IfSome};
+ghost use Rattle.tcc_core.specs.Rows.{in_row};
+ghost use Rattle.tcc_core.specs.Searches.{no_way};
+ghost use Rattle.tcc_core.specs.Relaxing.{IsNearest, way_by, lesser};
+
+use tcc_derive::NO_LINK;
+
+/// What the costs have where no way leads.
+pub(crate) const NO_WAY: u32 = u32::MAX;
+
+/// One of the nearest of the transactions outside the row; none where no way leads to any of them.
+pub(crate) fn nearest(row: &[Option<u32>], costs: &[u32]) -> Option<u32>
+    requires long { length costs.now ≡ length row.now }
+    requires few { length row.now ≤ 1024 }
+    ensures found { IfSome result (IsNearest row.now costs.now) }
+    ensures none { IfNone result ((v : ℕ) → v < length row.now → in_row row.now v ≡ None → slice_index costs.now v ≡ no_way) }
+{
+    let mut found = None;
+    let mut least = NO_WAY;
+    for (v, cost) in costs.iter().enumerate() {
+        if *cost < least && row[v].is_none() {
+            least = *cost;
+            found = Some(v as u32);
+        }
+    }
+    found
+}
+
+/// What a way costs that leads on by one link; `NO_WAY` where there is no link.
+fn way_by(so_far: u32, link: u16) -> u32
+    requires { so_far < 2 ^ 31 }
+    ensures { result ≡ way_by so_far link }
+{
+    if link == NO_LINK {
+        NO_WAY
+    } else {
+        so_far + link as u32
+    }
+}
+
+/// Lowers the costs to those of the ways that lead on by these links from where so much was spent.
+pub(crate) fn relax(costs: &mut [u32], so_far: u32, links: &[u16])
+    requires small { so_far < 2 ^ 31 }
+    requires long { length links.now ≡ length costs.old }
+    ensures links { All (λ link. link < 2 ^ 16) links.now }
+    ensures lowered { (v : ℕ) → v < length costs.old → slice_index costs.new v ≡ lesser (slice_index costs.old v) (way_by so_far (slice_index links.now v)) }
+{
+    for (v, link) in links.iter().enumerate() {
+        costs[v] = costs[v].min(way_by(so_far, *link));
+    }
+}

@@ -1,0 +1,91 @@
+//! One search for the distances from a start.
+ghost use Rattle.std.specs.Prelude.{◌≡◌, ◌<◌, ◌≤◌, ℕ, length, slice_index, IfOk};
+ghost use Rattle.tcc_reads.specs.History.{History};
+ghost use Rattle.tcc_derive.specs.Prices.{IsPricesOf};
+ghost use Rattle.tcc_near.specs.Distances.{row_of};
+
+use crate::Settled;
+use crate::relaxing::{NO_WAY, nearest, relax};
+use std::alloc::Global;
+use std::marker::Model;
+use tcc_derive::Prices;
+use tcc_txn::NoMemory;
+
+/// A search for the distances from one start. Its row has the distance of each transaction that has joined it.
+#[derive(Drop)]
+pub struct Search {
+    start: u32,
+    row: Vec<Option<u32>>,
+    costs: Vec<u32>,
+}
+
+impl Model for Search {
+    ghost use Rattle.tcc_core.specs.Searches.{IsBounded};
+    ghost use Rattle.tcc_core.specs.Searches as searches;
+
+    ghost Value = { searches.Search };
+
+    ghost view = { λ s. record { start = s.start; row = s.row.items; costs = s.costs.items } };
+
+    ghost invariant = { λ s. IsBounded (record { start = s.start; row = s.row.items; costs = s.costs.items }) };
+}
+
+impl Search {
+    ghost use Rattle.tcc_core.specs.Rows.{IsEmptyRow};
+    ghost use Rattle.tcc_core.specs.Searches.{IsSearchOf, Settles};
+
+    /// A search from this start with an empty row: the start is not in it, since its distance to itself is that of a
+    /// cycle through it.
+    pub fn begin(alloc: Global, prices: &Prices, start: u32) -> Result<Search, NoMemory>
+        requires { start < length prices.now.prices }
+        ensures start { IfOk result (λ search. search.start ≡ start) }
+        ensures empty { IfOk result (λ search. IsEmptyRow (length prices.now.prices) search.row) }
+        ensures search { (h : History) → IsPricesOf h prices.now → IfOk result (IsSearchOf h start) }
+    {
+        let count = prices.count() as usize;
+        let mut costs = vec![in alloc; NO_WAY; count]?;
+        relax(&mut costs, 0, prices.costs(start));
+        let row = vec![in alloc; None; count]?;
+        Ok(Search { start, row, costs })
+    }
+
+    /// Takes one of the nearest transactions outside the row into it, if its distance is at most the cap. A cap of
+    /// `u64::MAX` is none. The prices are those that the search began with.
+    pub fn settle(&mut self, prices: &Prices, cap: u64) -> Settled
+        requires { length self.old.row ≡ length prices.now.prices }
+        ensures start { self.new.start ≡ self.old.start }
+        ensures long { length self.new.row ≡ length self.old.row }
+        ensures search { (h : History) (s : ℕ) → IsPricesOf h prices.now → IsSearchOf h s self.old → IsSearchOf h s self.new }
+        ensures settled { (h : History) (s : ℕ) → IsPricesOf h prices.now → IsSearchOf h s self.old
+            → Settles h s cap self.old.row self.new.row result }
+    {
+        let Some(next) = nearest(&self.row, &self.costs) else {
+            return Settled::Cut(cap);
+        };
+        let distance = self.costs[next as usize];
+        if distance as u64 > cap {
+            return Settled::Cut(cap);
+        }
+        self.row[next as usize] = Some(distance);
+        relax(&mut self.costs, distance, prices.costs(next));
+        if next == self.start {
+            Settled::Returned(distance)
+        } else {
+            Settled::More
+        }
+    }
+
+    /// The start.
+    pub fn start(&self) -> u32
+        ensures { result ≡ self.now.start }
+    {
+        self.start
+    }
+
+    /// The distance from the start to each transaction that has joined, none for those outside.
+    pub fn row(&self) -> &[Option<u32>]
+        ensures { result.now ≡ self.now.row }
+    {
+        &self.row
+    }
+}

@@ -1,0 +1,12 @@
+//! What one step of a search answers.
+
+/// What became of one step of a search.
+#[derive(Clone, Copy, Debug, PartialEq, Eq)]
+pub enum Settled {
+    /// A transaction other than the start has joined the row.
+    More,
+    /// The start itself has joined the row: a least cycle through it costs so much.
+    Returned(u32),
+    /// Nothing outside the row has a distance of at most this cap.
+    Cut(u64),
+}
