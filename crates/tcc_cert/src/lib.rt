@@ -16,3 +16,6 @@ pub use links::Links;
 pub use numbers::Numbers;
 pub use table::Table;
 pub use writing::write;
+
+#[cfg(test)]
+mod tests;
