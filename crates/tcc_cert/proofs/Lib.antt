@@ -1,0 +1,3 @@
+pub mod WorkedTexts
+pub mod Sending
+pub mod Items

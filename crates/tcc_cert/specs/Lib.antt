@@ -2,3 +2,5 @@ pub mod Tables
 pub mod CycleRules
 pub mod OrderRules
 pub mod Rules
+pub mod Texts
+pub mod Writing

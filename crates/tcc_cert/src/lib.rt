@@ -2,11 +2,20 @@
 #![tactic(auto)]
 
 mod certificate;
+mod fault;
+mod gathered;
+mod lines;
 mod links;
 mod numbers;
 mod table;
+mod writing;
 
 pub use certificate::Certificate;
+pub use fault::WriteFault;
 pub use links::Links;
 pub use numbers::Numbers;
 pub use table::Table;
+pub use writing::write;
+
+#[cfg(test)]
+mod tests;

@@ -1,0 +1,8 @@
+-- the words so far are on their way
+use Rattle.std.proofs.Common.{◌++◌, take, flat_map, codes}
+use Rattle.tcc_cert.specs.Writing.{Sends}
+use Rattle.tcc_cert.proofs.lines.later_words.Given as goal
+
+abbrev pub invariant-loop-word : goal.invariant-loop-word
+invariant-loop-word g l =
+    Sends (g.W.Write.contents l.initial.out) l.initial.gathered (g.W.Write.contents l.out) l.gathered (flat_map (λ word. codes " " ++ word.now) (take l.word-index l.words))

@@ -1,0 +1,9 @@
+-- the links so far are on their way
+use Rattle.std.proofs.Common.{take, flat_map}
+use Rattle.tcc_cert.specs.Writing.{Sends}
+use Rattle.tcc_cert.specs.Texts.{lines_text, link_lines}
+use Rattle.tcc_cert.proofs.writing.links.Given as goal
+
+abbrev pub invariant-loop-one : goal.invariant-loop-one
+invariant-loop-one g l =
+    Sends (g.W.Write.contents l.initial.out) l.initial.gathered (g.W.Write.contents l.out) l.gathered (flat_map (λ link. lines_text (link_lines link)) (take l.one-index l.one-items))
