@@ -1,14 +1,12 @@
 -- Last places, one transaction after another.
-use Rattle.std.proofs.Common.{◌≡◌, ◌≢◌, ◌<◌, ◌≤◌, ◌+◌, ℕ, zero, suc, ◌⊎◌, inl, inr, List, [], length, get_or, set, refl, sym, ◌∙◌, ap, arith, subst, Option, Some, None, Bool, true, false, replicate, slice_index}
+use Rattle.std.proofs.Common.{◌≡◌, ◌≢◌, ◌<◌, ◌≤◌, ◌+◌, ℕ, ◌⊎◌, inl, inr, List, [], length, get_or, set, sym, arith, subst, replicate, slice_index}
 use Rattle.std.specs.Prelude.{max}
-use Rattle.std.proofs.lemmas.Bool.{cases_lt, cases_eq, lt-ltb, true≢false, false≢true}
+use Rattle.std.proofs.lemmas.Bool.{cases_lt, cases_eq}
 use Rattle.std.proofs.lemmas.List.{get_or-replicate, get_or-set_same, get_or-set_other}
-use Rattle.std.specs.Option.{is_some}
 use Rattle.tcc_reads.specs.History.{History, count, owner, place}
 use Rattle.tcc_graph.specs.Numbers.{at}
 use Rattle.tcc_graph.specs.Walks.{IsReached}
-use Rattle.tcc_near.specs.Distances.{IsShortest, IsDistance, IsNearOf, least, row_of}
-use Rattle.tcc_near.specs.Clocks.{IsBehind, IsLast, IsLastBelow, IsClock, IsClocksOf}
+use Rattle.tcc_near.specs.Clocks.{IsBehind, IsLastBelow, IsClock, IsClocksOf}
 
 -- clocks that are right one by one are the table
 pub clocks_from_rows : (h : History) (rows : List (List ℕ)) → (length rows ≡ count h) × ((t : ℕ) (d : List ℕ) → t < count h → IsClock h t (get_or rows t d)) → IsClocksOf h rows

@@ -1,13 +1,12 @@
 -- One level of a search after another.
-use Rattle.std.proofs.Common.{◌≡◌, ◌≢◌, ◌<◌, ◌≤◌, ◌+◌, ◌*◌, ◌==◌, ◌&&◌, ◌↔◌, ◌⊎◌, ℕ, zero, suc, inl, inr, Bool, true, false, cond, if◌then◌else◌, List, [], ◌∷◌, length, replicate, get_or, slice_index, slice_index_or, Option, Some, None, refl, sym, ◌∙◌, ap, subst, arith, eqb}
-use Rattle.std.proofs.lemmas.Bool.{cases_lt, cases_eq, and_parts, false≢true, true≢false, ne_eqb, eqb-true}
+use Rattle.std.proofs.Common.{◌≡◌, ◌≢◌, ◌<◌, ◌≤◌, ◌+◌, ◌==◌, ◌&&◌, ◌↔◌, ◌⊎◌, ℕ, inl, inr, Bool, true, false, cond, if◌then◌else◌, List, [], length, replicate, get_or, slice_index, Option, Some, None, refl, sym, ◌∙◌, ap, subst, arith, eqb}
+use Rattle.std.proofs.lemmas.Bool.{cases_lt, cases_eq, false≢true, ne_eqb}
 use Rattle.std.proofs.lemmas.List.{length-replicate, get_or-replicate}
 use Rattle.std.proofs.lemmas.List.Sums.{sum_by-set}
 use Rattle.std.proofs.lemmas.List.Folds.{sum_by-replicate}
 use Rattle.tcc_reads.specs.History.{History, count}
 use Rattle.tcc_graph.specs.Relations.{causal_pair}
-use Rattle.tcc_graph.specs.Walks.{IsWalk, IsReached}
-use Rattle.tcc_graph.specs.declared.step.Step.{Step}
+use Rattle.tcc_graph.specs.Walks.{IsReached}
 use Rattle.tcc_near.specs.Distances.{IsShortest, IsDistance, IsNearOf, least_in, no_walk}
 use Rattle.tcc_near.specs.Levels.{is_marked, marks_of, IsPairTable, IsWithin, IsMarked, IsDistanceWithin, IsSearched, IsRow, IsSpread, numbered, unnumbered}
 use Rattle.tcc_near.proofs.Walks.{within_more, within_one, within_one_from, within_pair, IsStepAfter, last_step, within_closed, within_below, shortest_at}

@@ -4,3 +4,4 @@ pub mod LevelLemmas
 pub mod RowLemmas
 pub mod Written
 pub mod ClockLemmas
+pub mod Worked

@@ -1,7 +1,7 @@
-use Rattle.std.proofs.Common.{◌≡◌, ◌<◌, ◌∙◌, ℕ, length, set, max, replicate, slice_index, refl, ap, arith, rules}
-use Rattle.std.proofs.lemmas.List.{length-set, length-replicate}
-use Rattle.tcc_reads.specs.History.{History, count, owner, place}
-use Rattle.tcc_near.proofs.ClockLemmas.{lasts_at_start, lasts_unreached, lasts_raised}
+use Rattle.std.proofs.Common.{◌≡◌, ◌∙◌, length, set, max, slice_index, ap, arith, rules}
+use Rattle.std.proofs.lemmas.List.{length-set}
+use Rattle.tcc_reads.specs.History.{owner, place}
+use Rattle.tcc_near.proofs.ClockLemmas.{lasts_unreached, lasts_raised}
 use Rattle.tcc_near.proofs.Written.{whole}
 use Rattle.tcc_near.proofs.behind.clock.Goals as goal
 use Rattle.tcc_near.proofs.behind.clock.Goals.{in-Some, in_default}

@@ -1,8 +1,7 @@
-use Rattle.std.proofs.Common.{rules, ◌≡◌, ◌≢◌, ◌<◌, ◌≤◌, ◌+◌, ℕ, true, false, List, [], slice_index, length, replicate, refl, sym, ◌∙◌, ap, arith}
+use Rattle.std.proofs.Common.{rules, ◌≡◌, ◌≢◌, ◌<◌, ◌+◌, ℕ, true, [], slice_index, length, replicate, ◌∙◌, ap, arith}
 use Rattle.std.proofs.lemmas.List.{get_or_read, length-replicate}
-use Rattle.tcc_reads.specs.History.{History, count}
 use Rattle.tcc_near.specs.Distances.{no_walk}
-use Rattle.tcc_near.specs.Levels.{is_marked, marks_of, IsPairTable, numbered, unnumbered}
+use Rattle.tcc_near.specs.Levels.{is_marked, marks_of, numbered, unnumbered}
 use Rattle.tcc_near.proofs.LevelLemmas.{searched_at_start, marked_at_start, unnumbered_at_start, searched_more, marked_more, row_at_end, row_full, all_numbered}
 use Rattle.tcc_near.proofs.Written.{whole}
 use Rattle.tcc_near.proofs.search.row.Goals as goal

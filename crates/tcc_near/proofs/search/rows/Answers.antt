@@ -1,10 +1,9 @@
-use Rattle.std.proofs.Common.{◌≡◌, ◌<◌, ◌≤◌, ◌-◌, ℕ, List, [], length, refl, sym, ◌∙◌, ap, arith, subst}
+use Rattle.std.proofs.Common.{◌≡◌, ◌<◌, ◌≤◌, ◌-◌, length, ◌∙◌, ap, arith}
 use Rattle.std.specs.List.{All, range_with_len}
 use Rattle.rayon.specs.Numbers.{nat_range}
 use Rattle.rayon.proofs.ToStd.{nat_range-All}
 use Rattle.std.specs.declared.alloc.AllocError.{AllocError}
-use Rattle.tcc_reads.specs.History.{History, count}
-use Rattle.tcc_near.specs.Distances.{IsNearOf}
+use Rattle.tcc_reads.specs.History.{History}
 use Rattle.tcc_near.specs.Levels.{IsPairTable, IsRow}
 use Rattle.tcc_near.proofs.LevelLemmas.{near_from_rows}
 use Rattle.tcc_near.proofs.RowLemmas.{each_given, where_ok}

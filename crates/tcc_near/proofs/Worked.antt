@@ -1,0 +1,140 @@
+-- Small histories, worked out by hand, that the definitions have to agree with.
+use Rattle.std.proofs.Common.{ℕ, ◌≡◌, ◌≤◌, zero, suc, List, [], ◌∷◌, length, true, inl, inr, refl, subst, arith, lit<, lit≤}
+use Rattle.std.specs.Prelude.{codes}
+use Rattle.std.proofs.lemmas.Bool.{false≢true}
+use Rattle.tcc_reads.specs.History.{Entry, History, initial, place}
+use Rattle.tcc_graph.specs.Relations.{causal_pair}
+use Rattle.tcc_graph.specs.Walks.{step_to, Leads, IsWalk, IsReached}
+use Rattle.tcc_graph.specs.declared.step.Step.{Step}
+use Rattle.tcc_graph.specs.declared.step.Step.TheVariants as step
+use Rattle.tcc_near.specs.Distances.{IsShortest}
+use Rattle.tcc_near.specs.Clocks.{IsBehind, IsLast}
+use Rattle.tcc_near.proofs.PairLemmas.{pair_from_step, pair_below}
+
+abbrev x : List ℕ
+x = codes "x"
+
+abbrev y : List ℕ
+y = codes "y"
+
+-- a transaction of a session at a place, with what it writes and reads
+abbrev entry : ℕ → ℕ → List (List ℕ) → List (List ℕ × ℕ) → Entry
+entry owner place writes reads = record { owner = owner; place = place; writes = writes; reads = reads }
+
+-- the pair of the first step of a walk
+first_pair : (h : History) (a b : ℕ) (s : Step) (steps : List Step) → Leads h a b (s ∷ steps) → causal_pair h a (step_to s) ≡ true
+first_pair h a b s steps w = subst (λ (u : ℕ). causal_pair h u (step_to s) ≡ true) w.0 (pair_from_step h s w.1)
+
+-- a/1 writes x, and a/2 reads the initial value of x
+abbrev stale_read : History
+stale_read = record {
+  sessions = codes "a" ∷ [];
+  entries = initial ∷ entry 0 1 (x ∷ []) [] ∷ entry 0 2 [] ((x, 0) ∷ []) ∷ [];
+}
+
+stale_read-onwards : IsShortest stale_read 1 2 1
+stale_read-onwards = record {
+  attained = (step.Session 1 2 ∷ [], (omega arith, (refl, refl, refl)), refl);
+  least = λ walk is. omega (arith, is.0);
+}
+
+nothing_from_last : (b : ℕ) → causal_pair stale_read 2 b ≡ true → ⊥
+nothing_from_last zero p = false≢true p
+nothing_from_last (suc zero) p = false≢true p
+nothing_from_last (suc (suc zero)) p = false≢true p
+nothing_from_last (suc (suc (suc b))) p = let below = pair_below stale_read 2 (suc (suc (suc b))) p in omega (arith, below.1)
+
+stale_read-back : IsReached stale_read 2 1 → ⊥
+stale_read-back ([], w) = absurd (omega (arith, w.0))
+stale_read-back (s ∷ steps, w) = nothing_from_last (step_to s) (first_pair stale_read 2 1 s steps w.1)
+
+-- a/1 writes x, b/1 reads it and writes y, c/1 reads that, and c/2 reads the initial value of x
+abbrev chain : History
+chain = record {
+  sessions = codes "a" ∷ codes "b" ∷ codes "c" ∷ [];
+  entries = initial ∷ entry 0 1 (x ∷ []) [] ∷ entry 1 1 (y ∷ []) ((x, 1) ∷ []) ∷ entry 2 1 [] ((y, 2) ∷ []) ∷ entry 2 2 [] ((x, 0) ∷ []) ∷ [];
+}
+
+nothing_between : (m : ℕ) → causal_pair chain 1 m ≡ true → causal_pair chain m 4 ≡ true → ⊥
+nothing_between zero p q = false≢true p
+nothing_between (suc zero) p q = false≢true p
+nothing_between (suc (suc zero)) p q = false≢true q
+nothing_between (suc (suc (suc zero))) p q = false≢true p
+nothing_between (suc (suc (suc (suc zero)))) p q = false≢true p
+nothing_between (suc (suc (suc (suc (suc m))))) p q = let below = pair_below chain 1 (suc (suc (suc (suc (suc m))))) p in omega (arith, below.1)
+
+-- two reads and a session step
+chain-onwards : IsShortest chain 1 4 3
+chain-onwards = record {
+  attained = (step.Reads 1 2 x ∷ step.Reads 2 3 y ∷ step.Session 3 4 ∷ [], (omega arith, (refl, (lit< tt, lit< tt, (0, omega arith, refl)), (refl, (lit< tt, lit< tt, (0, omega arith, refl)), (refl, refl, refl)))), refl);
+  least = none_shorter;
+}
+  where
+    none_shorter : (walk : List Step) → IsWalk chain 1 4 walk → 3 ≤ length walk
+    none_shorter [] w = absurd (omega (arith, w.0))
+    none_shorter (s ∷ []) w = absurd (false≢true (subst (λ (u : ℕ). causal_pair chain 1 u ≡ true) w.1.2 (first_pair chain 1 4 s [] w.1)))
+    none_shorter (s ∷ t ∷ []) w =
+        let last = first_pair chain (step_to s) 4 t [] w.1.2 in
+        absurd (nothing_between (step_to s) (first_pair chain 1 4 s (t ∷ []) w.1) (subst (λ (u : ℕ). causal_pair chain (step_to s) u ≡ true) w.1.2.2 last))
+    none_shorter (s ∷ t ∷ u ∷ steps) w = omega arith
+
+-- a/1 and b/1 read from each other
+abbrev circle : History
+circle = record {
+  sessions = codes "a" ∷ codes "b" ∷ [];
+  entries = initial ∷ entry 0 1 (x ∷ []) ((x, 0) ∷ (y, 2) ∷ []) ∷ entry 1 1 (y ∷ []) ((x, 1) ∷ []) ∷ [];
+}
+
+-- from a transaction to itself at least one step is taken
+circle-round : IsShortest circle 1 1 2
+circle-round = record {
+  attained = (step.Reads 1 2 x ∷ step.Reads 2 1 y ∷ [], (omega arith, (refl, (lit< tt, lit< tt, (0, omega arith, refl)), (refl, (lit< tt, lit< tt, (0, omega arith, refl)), refl))), refl);
+  least = none_shorter;
+}
+  where
+    none_shorter : (walk : List Step) → IsWalk circle 1 1 walk → 2 ≤ length walk
+    none_shorter [] w = absurd (omega (arith, w.0))
+    none_shorter (s ∷ []) w = absurd (false≢true (subst (λ (u : ℕ). causal_pair circle 1 u ≡ true) w.1.2 (first_pair circle 1 1 s [] w.1)))
+    none_shorter (s ∷ t ∷ steps) w = omega arith
+
+-- a/1 and b/1 write x and y, c/1 reads a/1 at x and not b/1 at y, and d/1 the other way round
+abbrev fork : History
+fork = record {
+  sessions = codes "a" ∷ codes "b" ∷ codes "c" ∷ codes "d" ∷ [];
+  entries = initial ∷ entry 0 1 (x ∷ []) [] ∷ entry 1 1 (y ∷ []) [] ∷ entry 2 1 [] ((x, 1) ∷ (y, 0) ∷ []) ∷ entry 3 1 [] ((x, 0) ∷ (y, 2) ∷ []) ∷ [];
+}
+
+-- a/1 stands behind c/1
+fork-behind : IsLast fork 3 0 1
+fork-behind = record {
+  attained = inr (1, record { committed = omega arith; below = lit< tt; owned = refl; reached = (step.Reads 1 3 x ∷ [], (omega arith, (refl, (lit< tt, lit< tt, (0, omega arith, refl)), refl))) }, refl);
+  greatest = places;
+}
+  where
+    places : (b : ℕ) → IsBehind fork 3 0 b → place fork b ≤ 1
+    places zero behind = lit≤ tt
+    places (suc zero) behind = lit≤ tt
+    places (suc (suc zero)) behind = lit≤ tt
+    places (suc (suc (suc zero))) behind = lit≤ tt
+    places (suc (suc (suc (suc zero)))) behind = lit≤ tt
+    places (suc (suc (suc (suc (suc b))))) behind = absurd (omega (arith, behind.below))
+
+-- nothing stands behind `init`
+fork-init : IsLast fork 0 0 0
+fork-init = record { attained = inl refl; greatest = λ b behind. absurd (not_reached b behind.reached) }
+  where
+    into_init : (b : ℕ) → causal_pair fork b 0 ≡ true → ⊥
+    into_init zero p = false≢true p
+    into_init (suc zero) p = false≢true p
+    into_init (suc (suc zero)) p = false≢true p
+    into_init (suc (suc (suc zero))) p = false≢true p
+    into_init (suc (suc (suc (suc zero)))) p = false≢true p
+    into_init (suc (suc (suc (suc (suc b))))) p = let below = pair_below fork (suc (suc (suc (suc (suc b))))) 0 p in omega (arith, below.0)
+
+    leads : (b : ℕ) (s : Step) (steps : List Step) → Leads fork b 0 (s ∷ steps) → ⊥
+    leads b s [] w = into_init b (subst (λ (u : ℕ). causal_pair fork b u ≡ true) w.2 (first_pair fork b 0 s [] w))
+    leads b s (t ∷ steps) w = leads (step_to s) t steps w.2
+
+    not_reached : (b : ℕ) → IsReached fork b 0 → ⊥
+    not_reached b ([], w) = omega (arith, w.0)
+    not_reached b (s ∷ steps, w) = leads b s steps w.1
