@@ -2,6 +2,7 @@
 #![tactic(auto)]
 
 mod judging;
+pub mod laws;
 mod verdict;
 
 pub use judging::check;
