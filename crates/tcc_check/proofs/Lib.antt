@@ -2,6 +2,14 @@ pub mod Names
 pub mod Pairs
 pub mod Ends
 pub mod Places
+pub mod Lowering
+pub mod Seen
+pub mod Causal
+pub mod Writers
+pub mod Keyed
+pub mod Rows
+pub mod First
+pub mod Written
 pub mod Entries
 pub mod Decisions
 pub mod CertifiedCycle

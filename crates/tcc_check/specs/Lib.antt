@@ -1,1 +1,3 @@
+pub mod Weights
+pub mod Searches
 pub mod Verdicts

@@ -3,7 +3,11 @@
 
 mod judging;
 pub mod laws;
+mod searching;
+mod sizes;
+mod starts;
 mod verdict;
+mod weights;
 
 pub use judging::check;
 pub use verdict::Verdict;
