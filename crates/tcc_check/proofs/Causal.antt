@@ -1,9 +1,9 @@
 -- Causal pairs, by the test and by their kinds.
-use Rattle.std.proofs.Common.{◌≡◌, ◌<◌, ℕ, Bool, true, false, ◌&&◌, ◌||◌, ◌⊎◌, inl, inr, List, [], ◌∷◌, length, nat_lt, arith, refl, sym, ◌∙◌}
+use Rattle.std.proofs.Common.{◌≡◌, ℕ, true, ◌&&◌, ◌⊎◌, inl, inr, List, [], ◌∷◌, nat_lt, arith, refl}
 use Rattle.std.specs.List.{Contains}
 use Rattle.std.proofs.lemmas.Bool.{or_cases, or_left, or_right, and_parts, and_from, lt-ltb, ltb-true, false≢true}
 use Rattle.tcc_reads.specs.History.{History, count}
-use Rattle.tcc_graph.specs.Relations.{session_pair, IsSessionPair, reads_from, IsReadsPair, has_items, causal_pair, IsCausalPair}
+use Rattle.tcc_graph.specs.Relations.{session_pair, reads_from, IsReadsPair, has_items, causal_pair, IsCausalPair}
 
 first_item : {X : Type 0} (xs : List X) → has_items xs ≡ true → (x : X) × Contains xs x
 first_item [] h = absurd (false≢true h)

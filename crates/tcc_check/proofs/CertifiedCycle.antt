@@ -4,15 +4,15 @@ use Rattle.std.specs.Prelude.{flat_map}
 use Rattle.std.proofs.lemmas.Bool.{cases_lt}
 use Rattle.tcc_reads.specs.History.{History, count}
 use Rattle.tcc_graph.specs.Relations.{IsCausalPair}
-use Rattle.tcc_graph.specs.Walks.{step_from, step_to, IsStep, Leads, IsWalk}
-use Rattle.tcc_graph.specs.Links.{MayContradict, IsReason, IsLink, link_from, link_to, unfolding_of, link_cost, cost}
-use Rattle.tcc_graph.specs.Routes.{LinksLead, IsRoute, IsCycle, IsLeastCycle}
+use Rattle.tcc_graph.specs.Walks.{step_to, Leads, IsWalk}
+use Rattle.tcc_graph.specs.Links.{IsLink, link_from, link_to, unfolding_of, link_cost, cost}
+use Rattle.tcc_graph.specs.Routes.{LinksLead, IsRoute, IsLeastCycle}
 use Rattle.tcc_graph.specs.declared.step.Step.{Step}
 use Rattle.tcc_graph.specs.declared.step.Step.TheVariants as step
 use Rattle.tcc_graph.specs.declared.link.Link.{Link}
 use Rattle.tcc_graph.specs.declared.link.Link.TheVariants as link
 use Rattle.tcc_cert.specs.Tables.{entry}
-use Rattle.tcc_cert.specs.CycleRules.{CycleClaim, IsLinkRight, ends_at, IsLinkWrong}
+use Rattle.tcc_cert.specs.CycleRules.{CycleClaim, IsLinkRight, ends_at}
 use Rattle.tcc_cert.specs.Rules.{CertifiesCycle}
 use Rattle.tcc_check.proofs.Decisions.{true_at_last, link_right}
 use Rattle.tcc_check.proofs.Ends.{ends_at-push, ends_at_some}
@@ -85,8 +85,13 @@ module _ (h : History) (k : CycleClaim) (good : CertifiesCycle h k) where
 
   pub least_cycle : ((s : ℕ) × IsLeastCycle h s k.links) × (cost k.links ≡ k.least)
   least_cycle =
-      let s = ends_at 0 k.links in
-      ((s, record {
-        cycle = (good.cycle.some, subst (λ (z : ℕ). LinksLead h s z k.links) (ends_at_some s 0 k.links good.cycle.some) (lead [] k.links s refl refl));
-        least = λ t others w. let back : k.least ≤ entry k.far t t = not_above _ _ (λ m. good.returns (t, t) (route_from t t others w, (refl, m))) in omega (arith, back, far_route t t others w, good.cycle.costs);
-      }), good.cycle.costs)
+      let s = ends_at 0 k.links in (
+        (
+          s,
+          record {
+            cycle = (good.cycle.some, subst (λ (z : ℕ). LinksLead h s z k.links) (ends_at_some s 0 k.links good.cycle.some) (lead [] k.links s refl refl));
+            least = λ t others w. let back : k.least ≤ entry k.far t t = not_above _ _ (λ m. good.returns (t, t) (route_from t t others w, (refl, m))) in omega (arith, back, far_route t t others w, good.cycle.costs);
+          },
+        ),
+        good.cycle.costs,
+      )

@@ -1,21 +1,18 @@
 -- A certified order is a commit order: the clocks bound from above how much of each session reaches a transaction, so each reason is one that the rule on the axiom asks about.
-use Rattle.std.proofs.Common.{◌≡◌, ◌≢◌, ◌<◌, ◌≤◌, ℕ, ◌⊎◌, inl, inr, List, [], ◌∷◌, length, get_or, arith, refl, sym, subst, ◌∙◌}
-use Rattle.std.specs.List.{Contains}
+use Rattle.std.proofs.Common.{◌≡◌, ◌<◌, ◌≤◌, ℕ, ◌⊎◌, inl, inr, List, [], ◌∷◌, length, arith, subst}
 use Rattle.std.proofs.lemmas.Bool.{cases_eq, cases_lt}
-use Rattle.std.proofs.lemmas.List.{get_or_default}
-use Rattle.tcc_reads.specs.History.{History, count, owner, place}
+use Rattle.tcc_reads.specs.History.{History, count, owner}
 use Rattle.tcc_graph.specs.Relations.{IsCausalPair}
-use Rattle.tcc_graph.specs.Walks.{step_from, step_to, IsStep, Leads, IsWalk}
+use Rattle.tcc_graph.specs.Walks.{step_to, Leads, IsWalk}
 use Rattle.tcc_graph.specs.Links.{IsReason}
-use Rattle.tcc_graph.specs.Orders.{Before, IsNumbering, IsCommitOrder}
+use Rattle.tcc_graph.specs.Orders.{Before, IsCommitOrder}
 use Rattle.tcc_graph.specs.declared.step.Step.{Step}
-use Rattle.tcc_graph.specs.declared.step.Step.TheVariants as step
 use Rattle.tcc_cert.specs.Tables.{entry}
-use Rattle.tcc_cert.specs.OrderRules.{OrderClaim, HasInClock, MayReach}
+use Rattle.tcc_cert.specs.OrderRules.{OrderClaim, MayReach}
 use Rattle.tcc_cert.specs.Rules.{CertifiesOrder}
 use Rattle.tcc_check.proofs.Pairs.{step_pair}
 use Rattle.tcc_check.proofs.Entries.{entry_past}
-use Rattle.tcc_check.proofs.Places.{has_place, one_place, order_of_two}
+use Rattle.tcc_check.proofs.Numbering.{order_of_two}
 
 module _ (h : History) (k : OrderClaim) (good : CertifiesOrder h k) where
   -- past the last session every clock has nothing

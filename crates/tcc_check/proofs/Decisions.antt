@@ -1,13 +1,12 @@
 -- What can be told of steps, walks and links: each is right, or it is not.
 use Rattle.std.proofs.Common.{◌≡◌, ◌≢◌, ◌<◌, ◌≤◌, ℕ, Bool, true, false, ◌⊎◌, inl, inr, List, [], ◌∷◌, length, arith}
-use Rattle.std.specs.Prelude.{bytes_eq}
-use Rattle.std.specs.List.{Contains, list_any}
+use Rattle.std.specs.List.{Contains}
 use Rattle.std.proofs.lemmas.Bool.{cases_lt, cases_eq, cases_Bool, both_ways}
 use Rattle.tcc_reads.specs.History.{History, count}
-use Rattle.tcc_graph.specs.Relations.{session_pair, IsSessionPair, reads_from, IsReadsPair}
-use Rattle.tcc_graph.specs.Keys.{has_name, writes, IsWriter}
-use Rattle.tcc_graph.specs.Walks.{step_from, step_to, IsStep, Leads, IsWalk}
-use Rattle.tcc_graph.specs.Links.{MayContradict, IsReason, IsLink, link_from}
+use Rattle.tcc_graph.specs.Relations.{session_pair, reads_from, IsReadsPair}
+use Rattle.tcc_graph.specs.Keys.{has_name, writes}
+use Rattle.tcc_graph.specs.Walks.{step_from, step_to, IsStep, Leads}
+use Rattle.tcc_graph.specs.Links.{MayContradict, IsLink, link_from}
 use Rattle.tcc_graph.specs.declared.step.Step.{Step}
 use Rattle.tcc_graph.specs.declared.step.Step.TheVariants as step
 use Rattle.tcc_graph.specs.declared.link.Link.{Link}

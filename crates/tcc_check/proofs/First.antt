@@ -1,9 +1,8 @@
 -- First places, row by row.
-use Rattle.std.proofs.Common.{◌≡◌, ◌<◌, ◌≤◌, ◌+◌, ℕ, ◌⊎◌, inl, inr, arith, refl, sym, subst}
+use Rattle.std.proofs.Common.{◌≡◌, ◌<◌, ◌+◌, ℕ, ◌⊎◌, inl, inr, arith, subst}
 use Rattle.std.proofs.lemmas.Bool.{cases_eq}
 use Rattle.tcc_cert.specs.Tables.{IsEarlier, IsFirstPlace}
 use Rattle.tcc_cert.specs.Rules.{HoldsEverywhere}
-use Rattle.tcc_check.specs.Searches.{HoldsBelow, IsFirstBelow}
 
 -- in the first i rows nothing is broken
 abbrev pub HoldsAbove : ℕ → (ℕ × ℕ → Type 0) → Type 0

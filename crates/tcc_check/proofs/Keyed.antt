@@ -1,11 +1,10 @@
 -- What the first keys and the first readers lower.
-use Rattle.std.proofs.Common.{◌≡◌, ◌≢◌, ◌<◌, ◌≤◌, ◌+◌, ℕ, false, true, ◌⊎◌, inl, inr, List, [], length, get_or, arith, refl, sym, ap, subst, ◌∙◌}
-use Rattle.std.specs.List.{Contains}
+use Rattle.std.proofs.Common.{◌≡◌, ◌<◌, ◌+◌, ℕ, false, ◌⊎◌, inl, inr, List, [], length, get_or, arith, sym, ap, subst, ◌∙◌}
 use Rattle.std.proofs.lemmas.Bool.{cases_eq, both_ways}
 use Rattle.std.proofs.lemmas.List.{get_or_default}
 use Rattle.tcc_reads.specs.History.{History, count}
 use Rattle.tcc_graph.specs.Relations.{reads_from, causal_pair}
-use Rattle.tcc_graph.specs.Keys.{writers, IsWriter}
+use Rattle.tcc_graph.specs.Keys.{writers}
 use Rattle.tcc_graph.specs.Links.{MayContradict}
 use Rattle.tcc_cert.specs.Tables.{entry}
 use Rattle.tcc_check.specs.Weights.{IsLowered, WriterWeighs, KeyWeighs, ContradictionWeighs}
@@ -27,9 +26,9 @@ module _ (h : History) (keys : List (List ℕ)) (table : List (List ℕ)) (v c :
 
   pub all_keys : IsLowered (SeenKey (length keys) h keys table v c) old new → IsLowered (KeyWeighs h keys table v c) old new
   all_keys lowered = lowered_as _ _ old new
-    (λ u w s. (get_or keys s.0 [], (s.0, s.1, get_or_default keys s.0 _ [] s.1), s.2))
-    (λ u w s. (s.1.0, s.1.1, subst (λ x. WriterWeighs (writers h x) table v c u w) (sym (get_or_default keys s.1.0 [] s.0 s.1.1 ∙ s.1.2)) s.2))
-    lowered
+      (λ u w s. (get_or keys s.0 [], (s.0, s.1, get_or_default keys s.0 _ [] s.1), s.2))
+      (λ u w s. (s.1.0, s.1.1, subst (λ x. WriterWeighs (writers h x) table v c u w) (sym (get_or_default keys s.1.0 [] s.0 s.1.1 ∙ s.1.2)) s.2))
+      lowered
 
   pub key_lowered : (i : ℕ) (newer : List ℕ) → IsLowered (SeenKey i h keys table v c) old new → IsLowered (WriterWeighs (writers h (get_or keys i [])) table v c) new newer → IsLowered (SeenKey (i + 1) h keys table v c) old newer
   key_lowered i newer before more = lowered_as _ _ old newer to back (lowered_then _ _ old new newer before more)

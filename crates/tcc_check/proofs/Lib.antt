@@ -1,7 +1,7 @@
 pub mod Names
 pub mod Pairs
 pub mod Ends
-pub mod Places
+pub mod Numbering
 pub mod Lowering
 pub mod Seen
 pub mod Causal
@@ -9,6 +9,12 @@ pub mod Writers
 pub mod Keyed
 pub mod Rows
 pub mod First
+pub mod Linked
+pub mod Placed
+pub mod Gaps
+pub mod Bounds
+pub mod Rules
+pub mod Ordered
 pub mod Written
 pub mod Entries
 pub mod Decisions

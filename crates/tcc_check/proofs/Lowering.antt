@@ -1,10 +1,8 @@
 -- Rows whose numbers are lowered, by one relation after another.
-use Rattle.std.proofs.Common.{◌≡◌, ◌≢◌, ◌<◌, ◌≤◌, ◌+◌, ℕ, ◌⊎◌, inl, inr, List, length, get_or, set, min, arith, refl, sym, ap, subst, ◌∙◌}
-use Rattle.std.specs.List.{Contains}
+use Rattle.std.proofs.Common.{◌≡◌, ◌<◌, ◌≤◌, ℕ, ◌⊎◌, inl, inr, List, length, get_or, set, min, arith, refl, sym, ap, subst, ◌∙◌}
 use Rattle.std.proofs.lemmas.Bool.{cases_eq, cases_lt}
-use Rattle.std.proofs.lemmas.List.{get_or-set_same, get_or-set_other, length-set, get_or_default}
-use Rattle.tcc_cert.specs.Tables.{entry}
-use Rattle.tcc_check.specs.Weights.{IsLowered, WriterWeighs}
+use Rattle.std.proofs.lemmas.List.{get_or-set_same, get_or-set_other, length-set}
+use Rattle.tcc_check.specs.Weights.{IsLowered}
 
 -- nothing was lowered
 pub lowered_none : (P : ℕ → ℕ → Type 0) (row : List ℕ) → ((u w : ℕ) → P u w → ⊥) → IsLowered P row row
@@ -53,7 +51,6 @@ lowered_one row u w below = record {
   from = λ t l. from t (cases_eq t u);
 }
   where
-
     here : (t : ℕ) → t ≡ u → get_or (set row u (min (get_or row u 0) w)) t 0 ≡ min (get_or row u 0) w
     here t e = rw e (get_or-set_same row u (min (get_or row u 0) w) 0 below)
 

@@ -1,5 +1,5 @@
 -- The ends of pairs and links are numbers of transactions.
-use Rattle.std.proofs.Common.{◌≡◌, ◌<◌, ◌==◌, ℕ, Bool, true, ◌&&◌, ◌||◌, ◌⊎◌, inl, inr, nat_lt}
+use Rattle.std.proofs.Common.{◌<◌, ◌==◌, ℕ, ◌&&◌, ◌||◌, inl, inr, nat_lt}
 use Rattle.std.proofs.lemmas.Bool.{and_parts, ltb-true}
 use Rattle.tcc_reads.specs.History.{History, count, owner, place}
 use Rattle.tcc_graph.specs.Relations.{IsSessionPair, IsCausalPair}

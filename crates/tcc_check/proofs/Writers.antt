@@ -1,11 +1,12 @@
 -- Who writes a key, by the list of writers.
-use Rattle.std.proofs.Common.{◌≡◌, ◌<◌, ◌+◌, ℕ, zero, suc, Bool, true, false, ◌⊎◌, inl, inr, List, [], ◌∷◌, length, get_or, cond, arith, refl, sym, ap, ◌∙◌, zero-add}
-use Rattle.std.specs.Prelude.{filter, All, ◌||◌}
-use Rattle.std.specs.List.{Contains, range_with_len}
-use Rattle.std.proofs.lemmas.Bool.{cases_Bool, false≢true}
-use Rattle.tcc_reads.specs.History.{History, count}
+use Rattle.std.proofs.Common.{◌≡◌, ◌↔◌, eqb, ◌<◌, ℕ, zero, suc, Bool, true, false, ◌⊎◌, inl, inr, List, [], ◌∷◌, length, get_or, cond, arith, refl, ap, ◌∙◌, zero-add}
+use Rattle.std.specs.Prelude.{filter, map, All, bytes_eq}
+use Rattle.std.specs.List.{Contains, range_with_len, list_any}
+use Rattle.std.proofs.lemmas.Bool.{cases_Bool, false≢true, or_cases, or_left, or_right, eqb-true, eq-eqb}
+use Rattle.std.proofs.lemmas.List.Folds.{list_any-append, list_any_at}
+use Rattle.tcc_reads.specs.History.{History, count, entry_at, initial}
 use Rattle.tcc_graph.specs.Relations.{reads_from, IsReadsPair}
-use Rattle.tcc_graph.specs.Keys.{has_name, is_key, writes, IsWriter, writers, readers, numbers}
+use Rattle.tcc_graph.specs.Keys.{has_name, keys_of, is_key, writes, IsWriter, writers, readers, numbers}
 use Rattle.tcc_graph.proofs.KeysLemmas.{no_readers}
 use Rattle.tcc_graph.proofs.KeyTableLemmas.{All-filter_range}
 use Rattle.std.proofs.lemmas.List.{get_or_default}
@@ -71,3 +72,32 @@ module _ (h : History) (x : List ℕ) where
   -- the writers of a key that somebody reads are in the list
   pub writer_listed : (a c b : ℕ) → IsReadsPair h a c x → IsWriter h b x → Contains (writers h x) b
   writer_listed a c b r w = rw (read_key a c r) (kept_filter (λ u. writes h u x) (numbers h) b (in_range (count h) b w.0) w.1)
+
+-- the writers of any name, `init` aside, are in the list, which has writers alone
+
+pub writer_keyed : (h : History) (x : List ℕ) (b : ℕ) → (b ≡ 0 → ⊥) → IsWriter h b x → Contains (writers h x) b
+writer_keyed h x b other w = rw key (kept_filter (λ u. writes h u x) (numbers h) b (in_range (count h) b w.0) w.1)
+  where
+    written : (eqb b 0 ≡ true) ⊎ (has_name (entry_at h b).writes x ≡ true) → has_name (keys_of (entry_at h b)) x ≡ true
+    written (inl e) = absurd (other (eqb-true b 0 e))
+    written (inr e) = list_any-append (bytes_eq x) (entry_at h b).writes (map (λ read. read.0) (entry_at h b).reads) ∙ or_left _ _ e
+
+    key : is_key h x ≡ true
+    key = list_any_at (λ e. has_name (keys_of e) x) h.entries b initial w.0 (written (or_cases (eqb b 0) (has_name (entry_at h b).writes x) w.1))
+
+find : (xs : List ℕ) (x : ℕ) → list_any (λ y. eqb y x) xs ≡ true → Contains xs x
+find [] x h = absurd (false≢true h)
+find (y ∷ xs) x h = go (find xs x) (or_cases (eqb y x) (list_any (λ z. eqb z x) xs) h)
+  where
+    go : (list_any (λ z. eqb z x) xs ≡ true → Contains xs x) → (eqb y x ≡ true) ⊎ (list_any (λ z. eqb z x) xs ≡ true) → Contains (y ∷ xs) x
+    go rest (inl e) = (0, omega arith, eqb-true y x e)
+    go rest (inr r) = let w = rest r in (suc w.0, omega (arith, w.1), w.2)
+
+found : (xs : List ℕ) (x : ℕ) → Contains xs x → list_any (λ y. eqb y x) xs ≡ true
+found [] x (k, l, e) = absurd (omega arith)
+found (y ∷ xs) x (zero, l, e) = or_left _ _ (eq-eqb y x e)
+found (y ∷ xs) x (suc k, l, e) = or_right _ _ (found xs x (k, omega arith, e))
+
+-- a search of the list tells who writes
+pub searched : (h : History) (x : List ℕ) (b : ℕ) → (b ≡ 0 → ⊥) → (list_any (λ y. eqb y b) (writers h x) ≡ true) ↔ IsWriter h b x
+searched h x b other = (λ e. listed_writer h x b (find (writers h x) b e), λ w. found (writers h x) b (writer_keyed h x b other w))

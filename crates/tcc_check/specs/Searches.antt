@@ -1,5 +1,5 @@
 -- What a search for the first broken place answers.
-use Rattle.std.specs.Prelude.{ℕ, ◌<◌, ◌≤◌, ◌≡◌, ◌+◌, List, [], length, slice_index, slice_index_or, Contains}
+use Rattle.std.specs.Prelude.{ℕ, ◌<◌, ◌≡◌, ◌+◌, List, [], length, slice_index, slice_index_or, Contains}
 use Rattle.tcc_cert.specs.Tables.{entry, row_of}
 use Rattle.tcc_check.specs.Weights.{AreStarts}
 

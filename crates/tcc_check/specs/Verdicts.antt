@@ -1,5 +1,5 @@
 -- What is answered of a certificate: it is accepted, or the first rule that is broken and the first place where it is.
-use Rattle.std.specs.Prelude.{ℕ, ◌<◌, ◌≡◌, ◌⊎◌, List, [], ◌∷◌, length}
+use Rattle.std.specs.Prelude.{ℕ, ◌<◌, ◌≡◌, ◌⊎◌, List}
 use Rattle.tcc_reads.specs.History.{History}
 use Rattle.tcc_cert.specs.Tables.{IsFirstPlace}
 use Rattle.tcc_cert.specs.CycleRules.{CycleClaim, HasRightSizes, IsLinkWrong, BreaksNearPair, BreaksNearStep, BreaksFarLink, BreaksFarStep, BreaksReturn}

@@ -1,5 +1,4 @@
 use Rattle.tcc_check.specs.Weights.{IsLongLink}
-use Rattle.tcc_check.specs.Searches.{IsLongStartFrom}
 use Rattle.tcc_check.proofs.First.{HoldsAbove}
 use Rattle.tcc_check.proofs.searching.first_long_link.Given as goal
 

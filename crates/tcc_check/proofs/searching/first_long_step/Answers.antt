@@ -1,4 +1,4 @@
-use Rattle.std.proofs.Common.{◌≡◌, ◌<◌, ℕ, [], List, length, get_or, arith, subst, sym, ◌∙◌}
+use Rattle.std.proofs.Common.{◌≡◌, ℕ, [], List, length, get_or, arith, subst, ◌∙◌}
 use Rattle.std.proofs.lemmas.List.{get_or_read}
 use Rattle.tcc_check.specs.Searches.{HoldsBelow, IsFirstBelow, IsLongStart, IsLongStartFrom}
 use Rattle.tcc_check.proofs.First.{holds_more, first_in_row, nowhere}

@@ -1,4 +1,4 @@
-use Rattle.std.proofs.Common.{◌<◌, ℕ, [], List, below_more, get_or, arith, subst, sym, ◌∙◌}
+use Rattle.std.proofs.Common.{ℕ, [], List, below_more, get_or, arith, subst, sym, ◌∙◌}
 use Rattle.std.proofs.lemmas.List.{get_or_read}
 use Rattle.std.proofs.lemmas.Bool.{iff_false}
 use Rattle.tcc_check.specs.Searches.{IsOvershot, IsLongStart}

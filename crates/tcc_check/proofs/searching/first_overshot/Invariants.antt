@@ -1,4 +1,4 @@
-use Rattle.tcc_check.specs.Searches.{HoldsBelow, IsLongEnd, IsLongStart, IsShortReturn}
+use Rattle.tcc_check.specs.Searches.{HoldsBelow, IsLongStart}
 use Rattle.tcc_check.proofs.searching.first_overshot.Given as goal
 
 abbrev pub invariant-loop-end : goal.invariant-loop-end

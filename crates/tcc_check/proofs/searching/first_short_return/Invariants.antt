@@ -1,4 +1,4 @@
-use Rattle.tcc_check.specs.Searches.{HoldsBelow, IsLongEnd, IsLongStart, IsShortReturn}
+use Rattle.tcc_check.specs.Searches.{HoldsBelow, IsShortReturn}
 use Rattle.tcc_check.proofs.searching.first_short_return.Given as goal
 
 abbrev pub invariant-loop-start : goal.invariant-loop-start

@@ -1,7 +1,6 @@
-use Rattle.std.proofs.Common.{◌≡◌, ◌<◌, ℕ, [], List, length, get_or, ap, subst, arith, ◌∙◌}
+use Rattle.std.proofs.Common.{◌≡◌, ◌<◌, ℕ, [], List, length, ap, subst, arith, ◌∙◌}
 use Rattle.std.specs.Prelude.{All}
 use Rattle.std.proofs.lemmas.List.{get_or_read}
-use Rattle.tcc_cert.specs.Tables.{HasSize}
 use Rattle.tcc_graph.specs.Keys.{writers}
 use Rattle.tcc_check.specs.Weights.{IsLowered, WriterWeighs}
 use Rattle.tcc_check.proofs.Writers.{writers_below}

@@ -1,4 +1,4 @@
-use Rattle.std.proofs.Common.{◌≡◌, ◌<◌, ℕ, List, length, sym, subst, arith, ◌∙◌}
+use Rattle.std.proofs.Common.{◌≡◌, ◌<◌, ℕ, List, sym, subst, arith, ◌∙◌}
 use Rattle.tcc_reads.specs.History.{count}
 use Rattle.tcc_check.specs.Weights.{IsLowered, KeyWeighs}
 use Rattle.tcc_check.proofs.Keyed.{SeenReader, no_reader, all_readers, reader_skipped, reader_lowered}

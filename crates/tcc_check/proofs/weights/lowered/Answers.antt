@@ -1,8 +1,8 @@
-use Rattle.std.proofs.Common.{◌≡◌, ◌<◌, ℕ, List, [], ◌∷◌, ◌++◌, length, get_or, arith, rules, sym, subst, ◌∙◌}
+use Rattle.std.proofs.Common.{◌≡◌, ◌<◌, ℕ, List, [], ◌∷◌, ◌++◌, arith, rules, subst, ◌∙◌}
 use Rattle.std.proofs.lemmas.List.{get_or_read}
 use Rattle.tcc_reads.specs.History.{count}
 use Rattle.tcc_cert.specs.Tables.{row_of}
-use Rattle.tcc_check.specs.Weights.{ContradictionWeighs, IsLowered, AreLowered}
+use Rattle.tcc_check.specs.Weights.{ContradictionWeighs, IsLowered}
 use Rattle.tcc_check.proofs.Rows.{no_rows, one_more_row, all_lowered}
 use Rattle.tcc_check.proofs.Written.{whole}
 use Rattle.tcc_check.proofs.weights.lowered.Goals as goal

@@ -1,4 +1,4 @@
-use Rattle.std.proofs.Common.{◌≡◌, ◌<◌, ℕ, List, length, set, replicate, arith, rules, sym, ◌∙◌}
+use Rattle.std.proofs.Common.{◌≡◌, ◌<◌, replicate, arith, rules, sym, ◌∙◌}
 use Rattle.tcc_reads.specs.History.{count}
 use Rattle.tcc_check.specs.Weights.{unlinked}
 use Rattle.tcc_check.proofs.Rows.{pair_row_none, pair_row_skipped, pair_row_marked, pair_row_least}

@@ -1,4 +1,4 @@
-use Rattle.std.proofs.Common.{◌≡◌, ◌<◌, ℕ, List, [], ◌∷◌, ◌++◌, length, arith, rules, sym, subst, ◌∙◌}
+use Rattle.std.proofs.Common.{◌≡◌, [], ◌∷◌, ◌++◌, arith, rules}
 use Rattle.tcc_reads.specs.History.{count}
 use Rattle.tcc_check.specs.Weights.{PairWeighs, IsLeastRow}
 use Rattle.tcc_check.proofs.Rows.{no_rows, one_more_row, all_pair_rows}

@@ -1,4 +1,4 @@
-use Rattle.std.proofs.Common.{◌≡◌, ◌<◌, ℕ, List, [], ◌∷◌, ◌++◌, length, get_or, arith, rules, sym, ◌∙◌}
+use Rattle.std.proofs.Common.{◌≡◌, [], ◌∷◌, ◌++◌, get_or, rules}
 use Rattle.tcc_check.proofs.Rows.{no_starts, start_skipped, start_added, all_starts}
 use Rattle.tcc_check.proofs.weights.starts_in.Goals as goal
 use Rattle.tcc_check.proofs.weights.starts_in.Goals.{then-weight+in_ok-push, else-weight}
