@@ -1,1 +1,5 @@
+pub mod Weights
+pub mod Searches
+pub mod Links
+pub mod Places
 pub mod Verdicts

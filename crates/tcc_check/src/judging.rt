@@ -3,6 +3,8 @@ ghost use Rattle.std.specs.Prelude.{IfOk};
 ghost use Rattle.tcc_check.specs.Verdicts.{IsVerdict};
 
 use crate::Verdict;
+use crate::cycle::cycle_verdict;
+use crate::order::order_verdict;
 use std::alloc::Global;
 use tcc_cert::Certificate;
 use tcc_graph::Graph;
@@ -12,5 +14,22 @@ use tcc_txn::NoMemory;
 pub fn check(alloc: Global, graph: &Graph, certificate: &Certificate) -> Result<Verdict, NoMemory>
     ensures { IfOk result (IsVerdict graph.now certificate.now) }
 {
-    Err(NoMemory)
+    match certificate {
+        Certificate::Order { order, clocks } => {
+            order_verdict(alloc, graph, order.as_slice(), clocks.rows())
+        }
+        Certificate::Cycle {
+            links,
+            least,
+            near,
+            far,
+        } => cycle_verdict(
+            alloc,
+            graph,
+            links.as_slice(),
+            *least,
+            near.rows(),
+            far.rows(),
+        ),
+    }
 }

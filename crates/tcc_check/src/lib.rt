@@ -1,8 +1,17 @@
 //! The independent checker: judges a certificate of anybody's by the rules alone.
 #![tactic(auto)]
 
+mod cycle;
 mod judging;
+pub mod laws;
+mod links;
+mod order;
+mod places;
+mod searching;
+mod sizes;
+mod starts;
 mod verdict;
+mod weights;
 
 pub use judging::check;
 pub use verdict::Verdict;

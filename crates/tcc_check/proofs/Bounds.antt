@@ -1,0 +1,98 @@
+-- The rules on the tables, by weights and starts.
+use Rattle.std.proofs.Common.{◌≡◌, ◌≢◌, ◌<◌, ◌≤◌, ◌+◌, ℕ, ◌⊎◌, inl, inr, List, [], length, get_or, arith, sym, subst, ◌∙◌}
+use Rattle.std.specs.List.{Contains}
+use Rattle.std.proofs.lemmas.Bool.{cases_lt}
+use Rattle.std.proofs.lemmas.List.{get_or_past}
+use Rattle.tcc_reads.specs.History.{History, count}
+use Rattle.tcc_cert.specs.Tables.{entry, row_of, HasSize, IsCapped}
+use Rattle.tcc_check.specs.Weights.{unlinked, PairWeighs, ContradictionWeighs, LinkWeighs, IsLeastRow, IsLeastTable, IsLowered, AreLowered, IsLongLink}
+use Rattle.tcc_check.specs.Searches.{AreStartRows, starts_of, IsLongStartFrom}
+
+-- a capped table has nothing above the limit, past its ends neither
+pub entry_capped : (most : ℕ) (table : List (List ℕ)) (a b : ℕ) → IsCapped most table → entry table a b ≤ most
+entry_capped most table a b cap = go (cases_lt a (length table))
+  where
+    inside : a < length table → (b < length (row_of table a)) ⊎ (length (row_of table a) ≤ b) → entry table a b ≤ most
+    inside l (inl m) = cap a [] l b 0 m
+    inside l (inr m) = omega (arith, get_or_past (row_of table a) b 0 m)
+
+    go : (a < length table) ⊎ (length table ≤ a) → entry table a b ≤ most
+    go (inl l) = inside l (cases_lt b (length (row_of table a)))
+    go (inr l) = rw (get_or_past table a [] l) (omega arith)
+
+-- ---- rows lowered
+
+lowered_row : (P Q : ℕ → ℕ → Type 0) (old new : List ℕ) → IsLeastRow P old → IsLowered Q old new → IsLeastRow (λ u w. P u w ⊎ Q u w) new
+lowered_row P Q old new was h = record {
+  low = λ u w l e. low u w (omega (arith, h.long)) e;
+  from = λ u l. from u (h.from u (omega (arith, h.long))) (was.from u (omega (arith, h.long)));
+}
+  where
+    low : (u w : ℕ) → u < length old → P u w ⊎ Q u w → get_or new u 0 ≤ w
+    low u w l (inl p) = omega (arith, was.low u w l p, h.kept u l)
+    low u w l (inr q) = h.low u w l q
+
+    from : (u : ℕ) → (get_or new u 0 ≡ get_or old u 0) ⊎ Q u (get_or new u 0) → (get_or old u 0 ≡ unlinked) ⊎ P u (get_or old u 0) → (get_or new u 0 ≡ unlinked) ⊎ (P u (get_or new u 0) ⊎ Q u (get_or new u 0))
+    from u (inr q) older = inr (inr q)
+    from u (inl same) (inl none) = inl (same ∙ none)
+    from u (inl same) (inr p) = inr (inl (subst (λ z. P u z) (sym same) p))
+
+-- causal pairs, and then what is contradicted
+pub link_table : (h : History) (table pairs links : List (List ℕ)) → IsLeastTable (count h) (PairWeighs h) pairs → AreLowered h table pairs links → IsLeastTable (count h) (LinkWeighs h table) links
+link_table h table pairs links was lowered = record {
+  size = lowered.size;
+  rows = λ v l. lowered_row (PairWeighs h v) (ContradictionWeighs h table v) (row_of pairs v) (row_of links v) (was.rows v l) (lowered.rows v l);
+}
+
+-- what is contradicted alone
+pub contradiction_table : (h : History) (table none weights : List (List ℕ)) → HasSize (count h) (count h) none → ((a b : ℕ) → a < count h → b < count h → entry none a b ≡ unlinked) → AreLowered h table none weights → IsLeastTable (count h) (ContradictionWeighs h table) weights
+contradiction_table h table none weights size empty lowered = record {
+  size = lowered.size;
+  rows = λ v l. only v (lowered_row (λ u w. ⊥) (ContradictionWeighs h table v) (row_of none v) (row_of weights v) (bare v l) (lowered.rows v l));
+}
+  where
+    bare : (v : ℕ) → v < count h → IsLeastRow (λ u w. ⊥) (row_of none v)
+    bare v l = record { low = λ u w m p. absurd p; from = λ u m. inl (empty v u l (omega (arith, size.wide v [] (omega (arith, size.long))))) }
+
+    only : (v : ℕ) → IsLeastRow (λ u w. ⊥ ⊎ ContradictionWeighs h table v u w) (row_of weights v) → IsLeastRow (ContradictionWeighs h table v) (row_of weights v)
+    only v row = record { low = λ u w m p. row.low u w m (inr p); from = λ u m. strip u (row.from u m) }
+      where
+        strip : (u : ℕ) → (get_or (row_of weights v) u 0 ≡ unlinked) ⊎ (⊥ ⊎ ContradictionWeighs h table v u (get_or (row_of weights v) u 0)) → (get_or (row_of weights v) u 0 ≡ unlinked) ⊎ ContradictionWeighs h table v u (get_or (row_of weights v) u 0)
+        strip u (inl e) = inl e
+        strip u (inr (inl p)) = absurd p
+        strip u (inr (inr p)) = inr p
+
+-- ---- long links and long steps
+
+module _ (n : ℕ) (weighs : ℕ → ℕ → ℕ → Type 0) (weights table : List (List ℕ)) (least : IsLeastTable n weighs weights) (long : length table ≡ n) (cap : (a b : ℕ) → entry table a b ≤ unlinked) where
+  width : (v : ℕ) → v < n → length (row_of weights v) ≡ n
+  width v l = least.size.wide v [] (omega (arith, least.size.long))
+
+  pub long_link : (s v : ℕ) → IsLongLink weights table (s, v) → (w : ℕ) × weighs v s w × (1 + w < entry table s v)
+  long_link s v (l, (m, more)) = go ((least.rows v (omega arith)).from s (omega (arith, width v (omega arith))))
+    where
+      go : (entry weights v s ≡ unlinked) ⊎ weighs v s (entry weights v s) → (w : ℕ) × weighs v s w × (1 + w < entry table s v)
+      go (inl none) = absurd (omega (arith, cap s v))
+      go (inr p) = (entry weights v s, p, more)
+
+  pub link_long : (s v w : ℕ) → s < n → v < n → weighs v s w → 1 + w < entry table s v → IsLongLink weights table (s, v)
+  link_long s v w l m p more = let low = (least.rows v m).low s w (omega (arith, width v m)) p in (omega arith, (omega arith, omega arith))
+
+  pub long_step : (starts : List (List (ℕ × ℕ))) → AreStartRows weights starts → (s v : ℕ) → IsLongStartFrom starts table (s, v) → (u w : ℕ) × weighs v u w × (entry table s u + 1 + w < entry table s v)
+  long_step starts rows s v (l, (m, (link, there, more))) =
+      let here = (rows.rows v (omega (arith, least.size.long))).only link there in
+      go here.1 ((least.rows v (omega arith)).from link.0 here.0)
+    where
+      go : entry weights v link.0 ≡ link.1 → (entry weights v link.0 ≡ unlinked) ⊎ weighs v link.0 (entry weights v link.0) → (u w : ℕ) × weighs v u w × (entry table s u + 1 + w < entry table s v)
+      go same (inl none) = absurd (omega (arith, cap s v))
+      go same (inr p) = (link.0, link.1, subst (λ z. weighs v link.0 z) same p, more)
+
+  pub step_long : (starts : List (List (ℕ × ℕ))) → AreStartRows weights starts → (s v u w : ℕ) → s < n → v < n → u < n → weighs v u w → entry table s u + 1 + w < entry table s v → IsLongStartFrom starts table (s, v)
+  step_long starts rows s v u w l m k p more =
+      let low = (least.rows v m).low u w (omega (arith, width v m)) p in
+      let linked : entry weights v u ≢ unlinked = λ e. absurd (omega (arith, cap s v)) in
+      let there = (rows.rows v (omega (arith, least.size.long))).each u (omega (arith, width v m)) linked in
+      (omega arith, (omega arith, ((u, entry weights v u), there, omega arith)))
+
+  pub starts_inside : (starts : List (List (ℕ × ℕ))) → AreStartRows weights starts → (v : ℕ) → v < n → (link : ℕ × ℕ) → Contains (starts_of starts v) link → link.0 < length table
+  starts_inside starts rows v l link there = omega (arith, ((rows.rows v (omega (arith, least.size.long))).only link there).0, width v l)

@@ -1,0 +1,86 @@
+-- What can be told of steps, walks and links: each is right, or it is not.
+use Rattle.std.proofs.Common.{◌≡◌, ◌≢◌, ◌<◌, ◌≤◌, ℕ, Bool, true, false, ◌⊎◌, inl, inr, List, [], ◌∷◌, length, arith}
+use Rattle.std.specs.List.{Contains}
+use Rattle.std.proofs.lemmas.Bool.{cases_lt, cases_eq, cases_Bool, both_ways}
+use Rattle.tcc_reads.specs.History.{History, count}
+use Rattle.tcc_graph.specs.Relations.{session_pair, reads_from, IsReadsPair}
+use Rattle.tcc_graph.specs.Keys.{has_name, writes}
+use Rattle.tcc_graph.specs.Walks.{step_from, step_to, IsStep, Leads}
+use Rattle.tcc_graph.specs.Links.{MayContradict, IsLink, link_from}
+use Rattle.tcc_graph.specs.declared.step.Step.{Step}
+use Rattle.tcc_graph.specs.declared.step.Step.TheVariants as step
+use Rattle.tcc_graph.specs.declared.link.Link.{Link}
+use Rattle.tcc_graph.specs.declared.link.Link.TheVariants as link
+use Rattle.tcc_cert.specs.CycleRules.{IsLinkRight}
+use Rattle.tcc_check.proofs.Names.{has_name-contains, contains-has_name}
+
+-- a fact holds, or it does not
+abbrev pub IsDecided : Type 0 → Type 0
+IsDecided P = P ⊎ (P → ⊥)
+
+-- what is not untrue is true
+pub true_at_last : {P : Type 0} → IsDecided P → ((P → ⊥) → ⊥) → P
+true_at_last (inl p) h = p
+true_at_last (inr n) h = absurd (h n)
+
+pub decided_by : {P Q : Type 0} → (P → Q) → (Q → P) → IsDecided P → IsDecided Q
+decided_by to back (inl p) = inl (to p)
+decided_by to back (inr n) = inr (λ q. n (back q))
+
+both : {P Q : Type 0} → IsDecided P → IsDecided Q → IsDecided (P × Q)
+both (inl p) (inl q) = inl (p, q)
+both (inl p) (inr n) = inr (λ w. n w.1)
+both (inr n) d = inr (λ w. n w.0)
+
+all_three : {P Q R : Type 0} → IsDecided P → IsDecided Q → IsDecided R → IsDecided (P × Q × R)
+all_three (inl p) (inl q) (inl r) = inl (p, q, r)
+all_three (inl p) (inl q) (inr n) = inr (λ w. n w.2)
+all_three (inl p) (inr n) d = inr (λ w. n w.1)
+all_three (inr n) d e = inr (λ w. n w.0)
+
+less : (m n : ℕ) → IsDecided (m < n)
+less m n = go (cases_lt m n)
+  where
+    go : (m < n) ⊎ (n ≤ m) → IsDecided (m < n)
+    go (inl l) = inl l
+    go (inr g) = inr (λ l. absurd (omega arith))
+
+holds : (b : Bool) → IsDecided (b ≡ true)
+holds b = go (cases_Bool b)
+  where
+    go : (b ≡ true) ⊎ (b ≡ false) → IsDecided (b ≡ true)
+    go (inl t) = inl t
+    go (inr f) = inr (λ t. both_ways b f t)
+
+apart : (m n : ℕ) → IsDecided (m ≢ n)
+apart m n = go (cases_eq m n)
+  where
+    go : (m ≡ n) ⊎ (m ≡ n → ⊥) → IsDecided (m ≢ n)
+    go (inl e) = inr (λ h. h e)
+    go (inr n) = inl n
+
+contained : (names : List (List ℕ)) (x : List ℕ) → IsDecided (Contains names x)
+contained names x = decided_by (has_name-contains names x) (contains-has_name names x) (holds (has_name names x))
+
+reads_pair : (h : History) (a b : ℕ) (x : List ℕ) → IsDecided (IsReadsPair h a b x)
+reads_pair h a b x = all_three (less a (count h)) (less b (count h)) (contained (reads_from h a b) x)
+
+is_step : (h : History) (s : Step) → IsDecided (IsStep h s)
+is_step h (step.Session a b) = holds (session_pair h a b)
+is_step h (step.Reads a b x) = reads_pair h a b x
+
+leads : (h : History) (a b : ℕ) (steps : List Step) → IsDecided (Leads h a b steps)
+leads h a b [] = cases_eq a b
+leads h a b (s ∷ steps) = all_three (cases_eq (step_from s) a) (is_step h s) (leads h (step_to s) b steps)
+
+may_contradict : (h : History) (b a : ℕ) (x : List ℕ) (c : ℕ) → IsDecided (MayContradict h b a x c)
+may_contradict h b a x c = all_three (apart b a) (reads_pair h a c x) (both (less b (count h)) (holds (writes h b x)))
+
+is_link : (h : History) (l : Link) → IsDecided (IsLink h l)
+is_link h (link.Session a b) = holds (session_pair h a b)
+is_link h (link.Reads a b x) = reads_pair h a b x
+is_link h (link.Derived b a x c walk) = both (may_contradict h b a x c) (both (less 0 (length walk)) (leads h b c walk))
+
+-- a link is right, or it is not
+pub link_right : (h : History) (at : ℕ) (l : Link) → IsDecided (IsLinkRight h at l)
+link_right h at l = both (cases_eq (link_from l) at) (is_link h l)

@@ -1,0 +1,93 @@
+-- Walks and links, one after the other.
+use Rattle.std.proofs.Common.{◌≡◌, ◌<◌, ◌≤◌, ◌+◌, ℕ, ◌⊎◌, inl, inr, List, ◌∷◌, ◌++◌, length, get_or, take, drop, arith, sym, ap, subst, ◌∙◌, length-append}
+use Rattle.std.specs.Prelude.{flat_map}
+use Rattle.std.proofs.lemmas.Bool.{cases_eq}
+use Rattle.std.proofs.lemmas.List.{drop_more, drop_all, take_more, take_at, get_or_at, take-append-drop, length-take-le}
+use Rattle.tcc_reads.specs.History.{History}
+use Rattle.tcc_graph.specs.Walks.{step_from, step_to, IsStep, Leads}
+use Rattle.tcc_graph.specs.Links.{link_to, unfolding_of, link_cost, cost}
+use Rattle.tcc_graph.specs.declared.step.Step.{Step}
+use Rattle.tcc_graph.specs.declared.link.Link.{Link}
+use Rattle.tcc_cert.specs.CycleRules.{IsLinkRight, ends_at, IsLinkWrong}
+use Rattle.tcc_check.specs.Links.{AreLinksRight, IsFirstWrong}
+use Rattle.tcc_check.proofs.Ends.{ends_at-push}
+
+-- the steps lead from the start exactly where those after the first i lead from here
+pub record IsRestOf (h : History) (from at to i : ℕ) (steps : List Step) : Type 0 where
+  pub forth : Leads h from to steps → Leads h at to (drop i steps)
+  pub back : Leads h at to (drop i steps) → Leads h from to steps
+
+pub whole_rest : (h : History) (from to : ℕ) (steps : List Step) → IsRestOf h from from to 0 steps
+whole_rest h from to steps = record { forth = λ w. w; back = λ w. w }
+
+pub rest_more : (h : History) (from at to i : ℕ) (steps : List Step) (s : Step) → i < length steps → s ≡ get_or steps i s → step_from s ≡ at → IsStep h s → IsRestOf h from at to i steps → IsRestOf h from (step_to s) to (i + 1) steps
+rest_more h from at to i steps s inside is begins right w = record {
+  forth = λ all. (subst (λ (z : List Step). Leads h at to z) split (w.forth all)).2;
+  back = λ rest. w.back (subst (λ (z : List Step). Leads h at to z) (sym split) (begins, right, rest));
+}
+  where
+    split : drop i steps ≡ s ∷ drop (i + 1) steps
+    split = drop_more steps i s inside ∙ ap (λ z. z ∷ drop (i + 1) steps) (sym is)
+
+pub not_led : (h : History) (from at to i : ℕ) (steps : List Step) (s : Step) → i < length steps → s ≡ get_or steps i s → IsRestOf h from at to i steps → (step_from s ≡ at → IsStep h s → ⊥) → Leads h from to steps → ⊥
+not_led h from at to i steps s inside is w wrong all =
+    let split = drop_more steps i s inside ∙ ap (λ z. z ∷ drop (i + 1) steps) (sym is) in
+    let led = subst (λ (z : List Step). Leads h at to z) split (w.forth all) in
+    wrong led.0 led.1
+
+pub led : (h : History) (from at to i : ℕ) (steps : List Step) → length steps ≤ i → IsRestOf h from at to i steps → at ≡ to → Leads h from to steps
+led h from at to i steps all w e = w.back (subst (λ (z : List Step). Leads h at to z) (sym (drop_all i steps all)) e)
+
+pub led_back : (h : History) (from at to i : ℕ) (steps : List Step) → length steps ≤ i → IsRestOf h from at to i steps → Leads h from to steps → at ≡ to
+led_back h from at to i steps all w l = subst (λ (z : List Step). Leads h at to z) (drop_all i steps all) (w.forth l)
+
+-- ---- costs
+
+pub cost_more : (links : List Link) (i : ℕ) (l : Link) → i < length links → l ≡ get_or links i l → cost (drop i links) ≡ link_cost l + cost (drop (i + 1) links)
+cost_more links i l inside is = ap cost (drop_more links i l inside ∙ ap (λ z. z ∷ drop (i + 1) links) (sym is)) ∙ length-append (unfolding_of l) (flat_map unfolding_of (drop (i + 1) links))
+
+pub cost_end : (links : List Link) (i : ℕ) → length links ≤ i → cost (drop i links) ≡ 0
+cost_end links i all = ap cost (drop_all i links all)
+
+-- ---- the first wrong link
+
+-- the first i links are right, and end here
+pub record AreRightTo (h : History) (links : List Link) (i : ℕ) (at : ℕ) : Type 0 where
+  pub ends : at ≡ ends_at (ends_at 0 links) (take i links)
+  pub right : (n : ℕ) → n ≤ i → IsLinkWrong h links n → ⊥
+
+pub none_right : (h : History) (links : List Link) (at : ℕ) → at ≡ ends_at 0 links → AreRightTo h links 0 at
+none_right h links at is = record { ends = is; right = λ n l w. absurd (omega (arith, w.place)) }
+
+wrong_here : (h : History) (links : List Link) (i : ℕ) (l : Link) (w : IsLinkWrong h links (i + 1)) → l ≡ get_or links i l → IsLinkRight h (ends_at (ends_at 0 links) (take i links)) l → ⊥
+wrong_here h links i l w is right =
+    let long : length w.before ≡ i = omega (arith, w.place) in
+    let same : l ≡ w.link = is ∙ ap (λ z. get_or z i l) w.split ∙ get_or_at w.before w.link w.after l i long in
+    let front : take i links ≡ w.before = ap (take i) w.split ∙ take_at w.before (w.link ∷ w.after) i long in
+    w.wrong (subst (λ (z : Link). IsLinkRight h (ends_at (ends_at 0 links) w.before) z) same (subst (λ (z : List Link). IsLinkRight h (ends_at (ends_at 0 links) z) l) front right))
+
+pub right_more : (h : History) (links : List Link) (i at : ℕ) (l : Link) → i < length links → l ≡ get_or links i l → IsLinkRight h at l → AreRightTo h links i at → AreRightTo h links (i + 1) (link_to l)
+right_more h links i at l inside is right w = record {
+  ends = sym (ap (ends_at (ends_at 0 links)) (take_more links i l inside) ∙ ends_at-push (ends_at 0 links) (take i links) (get_or links i l) ∙ ap link_to (sym is));
+  right = λ n le wrong. go n le wrong (cases_eq n (i + 1));
+}
+  where
+    go : (n : ℕ) → n ≤ i + 1 → IsLinkWrong h links n → (n ≡ i + 1) ⊎ (n ≡ i + 1 → ⊥) → ⊥
+    go n le wrong (inl same) = wrong_here h links i l (subst (λ (z : ℕ). IsLinkWrong h links z) same wrong) is (subst (λ (z : ℕ). IsLinkRight h z l) w.ends right)
+    go n le wrong (inr apart) = w.right n (omega arith) wrong
+
+pub all_right : (h : History) (links : List Link) (i at : ℕ) → length links ≤ i → AreRightTo h links i at → AreLinksRight h links
+all_right h links i at all w n wrong = w.right n (omega (arith, wrong.place, ap length wrong.split, length-append wrong.before (wrong.link ∷ wrong.after))) wrong
+
+pub wrong_found : (h : History) (links : List Link) (i at : ℕ) (l : Link) → i < length links → l ≡ get_or links i l → (IsLinkRight h at l → ⊥) → AreRightTo h links i at → IsFirstWrong h links (i + 1)
+wrong_found h links i at l inside is wrong w = record {
+  wrong = record {
+    before = take i links;
+    link = l;
+    after = drop (i + 1) links;
+    split = sym (take-append-drop i links) ∙ ap (λ z. take i links ++ z) (drop_more links i l inside ∙ ap (λ z. z ∷ drop (i + 1) links) (sym is));
+    place = omega (arith, length-take-le i links (omega arith));
+    wrong = subst (λ (z : ℕ). IsLinkRight h z l → ⊥) w.ends wrong;
+  };
+  first = λ n l other. w.right n (omega arith) other;
+}

@@ -1,0 +1,19 @@
+//! The law that what a certificate claims is true where it keeps the rules.
+ghost use Rattle.std.specs.Prelude.{ℕ, ◌≡◌};
+ghost use Rattle.tcc_reads.specs.History.{History};
+ghost use Rattle.tcc_graph.specs.Links.{cost};
+ghost use Rattle.tcc_graph.specs.Routes.{IsLeastCycle};
+ghost use Rattle.tcc_graph.specs.Orders.{IsCommitOrder};
+ghost use Rattle.tcc_cert.specs.CycleRules.{CycleClaim};
+ghost use Rattle.tcc_cert.specs.OrderRules.{OrderClaim};
+ghost use Rattle.tcc_cert.specs.Rules.{CertifiesCycle, CertifiesOrder};
+
+/// The links of a certified cycle are a least cycle, and cost what is claimed.
+pub fn certified_cycle()
+    ensures { (h : History) (k : CycleClaim) → CertifiesCycle h k → ((s : ℕ) × IsLeastCycle h s k.links) × (cost k.links ≡ k.least) }
+{}
+
+/// A certified order is a commit order.
+pub fn certified_order()
+    ensures { (h : History) (k : OrderClaim) → CertifiesOrder h k → IsCommitOrder h k.order }
+{}

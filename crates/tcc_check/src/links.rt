@@ -1,0 +1,172 @@
+//! The rule on the links of a cycle.
+ghost use Rattle.std.specs.Prelude.{◌≡◌, ◌<◌, ◌+◌, ◌↔◌, length, All, IsTrue, MatchOption};
+ghost use Rattle.tcc_reads.specs.History.{count};
+ghost use Rattle.tcc_graph.specs.Relations.{IsReadsPair};
+ghost use Rattle.tcc_graph.specs.Keys.{IsWriter};
+ghost use Rattle.tcc_graph.specs.Walks.{step_from, step_to, IsStep, Leads, IsWalk};
+ghost use Rattle.tcc_graph.specs.Links.{IsReason, link_to, link_cost, cost};
+ghost use Rattle.tcc_cert.specs.CycleRules.{IsStepBelow, IsLinkBelow, IsLinkRight, ends_at};
+ghost use Rattle.tcc_check.specs.Links.{AreLinksRight, IsFirstWrong};
+
+use tcc_graph::{Graph, Link, Step};
+use tcc_txn::Name;
+
+/// Whether `to` reads the key from `from`.
+fn is_read(graph: &Graph, from: u32, to: u32, key: &Name) -> bool
+    requires from { from < count graph.now }
+    requires to { to < count graph.now }
+    ensures { IsTrue result ↔ IsReadsPair graph.now from to key.now }
+{
+    graph.reads_from(from, to).contains(key)
+}
+
+/// Whether the transaction writes the key: `init` writes each, also one that nobody uses.
+fn is_writer(graph: &Graph, writer: u32, key: &Name) -> bool
+    requires { writer < count graph.now }
+    ensures { IsTrue result ↔ IsWriter graph.now writer key.now }
+{
+    writer == 0 || graph.writers(key).contains(&writer)
+}
+
+/// Where a step begins.
+fn step_from(step: &Step) -> u32
+    ensures { result ≡ step_from step.now }
+{
+    match step {
+        Step::Session { from, .. } => *from,
+        Step::Reads { from, .. } => *from,
+    }
+}
+
+/// Where a step ends.
+fn step_to(step: &Step) -> u32
+    ensures { result ≡ step_to step.now }
+{
+    match step {
+        Step::Session { to, .. } => *to,
+        Step::Reads { to, .. } => *to,
+    }
+}
+
+/// Whether the step is a pair of the history.
+fn is_step(graph: &Graph, step: &Step) -> bool
+    requires { IsStepBelow (count graph.now) step.now }
+    ensures { IsTrue result ↔ IsStep graph.now step.now }
+{
+    match step {
+        Step::Session { from, to } => graph.session(*from, *to),
+        Step::Reads { from, to, key } => is_read(graph, *from, *to, key),
+    }
+}
+
+/// Whether the steps, each a pair of the history, lead from one transaction to the other.
+fn leads(graph: &Graph, from: u32, to: u32, steps: &[Step]) -> bool
+    requires { All (IsStepBelow (count graph.now)) steps.now }
+    ensures { IsTrue result ↔ Leads graph.now from to steps.now }
+{
+    let mut at = from;
+    for step in steps {
+        if step_from(step) != at || !is_step(graph, step) {
+            return false;
+        }
+        at = step_to(step);
+    }
+    at == to
+}
+
+/// Whether `reader` reads the key from `to`, and `from`, another writer of it, reaches `reader` by the walk.
+fn is_reason(graph: &Graph, from: u32, to: u32, key: &Name, reader: u32, walk: &[Step]) -> bool
+    requires from { from < count graph.now }
+    requires to { to < count graph.now }
+    requires reader { reader < count graph.now }
+    requires walk { All (IsStepBelow (count graph.now)) walk.now }
+    ensures { IsTrue result ↔ IsReason graph.now from to key.now reader walk.now }
+{
+    from != to
+        && is_read(graph, to, reader, key)
+        && is_writer(graph, from, key)
+        && !walk.is_empty()
+        && leads(graph, from, reader, walk)
+}
+
+/// Whether the link begins there and is one of the history.
+fn is_link_right(graph: &Graph, at: u32, link: &Link) -> bool
+    requires { IsLinkBelow (count graph.now) link.now }
+    ensures { IsTrue result ↔ IsLinkRight graph.now at link.now }
+{
+    match link {
+        Link::Session { from, to } => *from == at && graph.session(*from, *to),
+        Link::Reads { from, to, key } => *from == at && is_read(graph, *from, *to, key),
+        Link::Derived {
+            from,
+            to,
+            key,
+            reader,
+            walk,
+        } => *from == at && is_reason(graph, *from, *to, key, *reader, walk.steps()),
+    }
+}
+
+/// Where a link ends.
+fn link_to(link: &Link) -> u32
+    ensures { result ≡ link_to link.now }
+{
+    match link {
+        Link::Session { to, .. } => *to,
+        Link::Reads { to, .. } => *to,
+        Link::Derived { to, .. } => *to,
+    }
+}
+
+/// Where the last link ends.
+fn end_of(links: &[Link]) -> u32
+    ensures { result ≡ ends_at 0 links.now }
+{
+    let mut at = 0;
+    for link in links {
+        at = link_to(link);
+    }
+    at
+}
+
+/// The first link, from 1, that is not right: that does not begin where the one before it ends, the first where the
+/// last ends, or is none of the history.
+pub(crate) fn first_wrong_link(graph: &Graph, links: &[Link]) -> Option<usize>
+    requires { All (IsLinkBelow (count graph.now)) links.now }
+    ensures { MatchOption result (AreLinksRight graph.now links.now) (IsFirstWrong graph.now links.now) }
+{
+    let mut at = end_of(links);
+    for (before, link) in links.iter().enumerate() {
+        if !is_link_right(graph, at, link) {
+            return Some(before + 1);
+        }
+        at = link_to(link);
+    }
+    None
+}
+
+/// The number of steps of a link.
+fn link_cost(link: &Link) -> usize
+    ensures { result ≡ link_cost link.now }
+{
+    match link {
+        Link::Session { .. } => 1,
+        Link::Reads { .. } => 1,
+        Link::Derived { walk, .. } => walk.steps().len() + 1,
+    }
+}
+
+/// Whether the links cost that much.
+pub(crate) fn costs(links: &[Link], least: u32) -> bool
+    ensures { IsTrue result ↔ (cost links.now ≡ least) }
+{
+    let mut left = least as usize;
+    for link in links {
+        let cost = link_cost(link);
+        if left < cost {
+            return false;
+        }
+        left -= cost;
+    }
+    left == 0
+}

@@ -1,0 +1,210 @@
+//! The rules on a claim that a list is a commit order.
+ghost use Rattle.std.specs.Prelude.{ℕ, ◌≡◌, ◌<◌, ◌≤◌, ◌↔◌, ◌^◌, length, slice_index, IsTrue, IfOk, MatchOption};
+ghost use Rattle.tcc_reads.specs.History.{count};
+ghost use Rattle.tcc_graph.specs.Relations.{IsCausalPair};
+ghost use Rattle.tcc_cert.specs.Tables.{entry, HasSize, IsFirstPlace};
+ghost use Rattle.tcc_cert.specs.OrderRules.{MayReach, KeepsPairs, BreaksAxiom};
+ghost use Rattle.tcc_cert.specs.Rules.{HoldsEverywhere};
+ghost use Rattle.tcc_check.specs.Searches.{HoldsBelow, IsFirstBelow};
+ghost use Rattle.tcc_check.specs.Places.{ArePlaces, IsKept, AreGaps, IsUnordered};
+ghost use Rattle.tcc_check.specs.Verdicts.{IsOrderVerdict};
+
+use crate::Verdict;
+use crate::places::places_of;
+use crate::sizes::has_size;
+use crate::weights::{lowered, no_weights};
+use std::alloc::Global;
+use tcc_cert::{Numbers, Table};
+use tcc_graph::Graph;
+use tcc_txn::NoMemory;
+
+/// How far a session got by a clock.
+fn clock_at(clocks: &[Numbers], number: u32, session: u32) -> u32
+    requires { number < length clocks.now }
+    ensures { result ≡ entry clocks.now number session }
+{
+    let clock = clocks[number as usize].as_slice();
+    clock.get(session as usize).copied().unwrap_or(0)
+}
+
+/// How much the clock of `c` lacks to have `b`: nothing where, by the clock, `b` may reach `c`.
+fn gap(graph: &Graph, clocks: &[Numbers], b: u32, c: u32) -> u32
+    requires b { b < count graph.now }
+    requires c { c < length clocks.now }
+    ensures { (result ≡ 0) ↔ MayReach graph.now clocks.now b c }
+{
+    match graph.at(b) {
+        None => 0,
+        Some((session, place)) => place.saturating_sub(clock_at(clocks, c, session)),
+    }
+}
+
+/// Whether no number of the one clock is above that of the other.
+fn is_clock_below(one: &[u32], other: &[u32]) -> bool
+    requires { length one.now ≡ length other.now }
+    ensures { IsTrue result ↔ ((session : ℕ) → session < length one.now → slice_index one.now session ≤ slice_index other.now session) }
+{
+    for (session, number) in one.iter().enumerate() {
+        if other[session] < *number {
+            return false;
+        }
+    }
+    true
+}
+
+/// Whether `b` stands before `c`, and the clock of `c` has that of `b` and `b` itself.
+fn is_kept(graph: &Graph, places: &[u32], clocks: &[Numbers], b: u32, c: u32) -> bool
+    requires places { length places.now ≡ count graph.now }
+    requires clocks { HasSize (count graph.now) (length graph.now.sessions) clocks.now }
+    requires b { b < count graph.now }
+    requires c { c < count graph.now }
+    ensures { IsTrue result ↔ IsKept graph.now places.now clocks.now b c }
+{
+    places[b as usize] < places[c as usize]
+        && is_clock_below(clocks[b as usize].as_slice(), clocks[c as usize].as_slice())
+        && gap(graph, clocks, b, c) == 0
+}
+
+/// Whether all causal pairs that end at `c` are kept.
+fn keeps_pairs_to(graph: &Graph, places: &[u32], clocks: &[Numbers], c: u32) -> bool
+    requires places { length places.now ≡ count graph.now }
+    requires clocks { HasSize (count graph.now) (length graph.now.sessions) clocks.now }
+    requires c { c < count graph.now }
+    ensures { IsTrue result ↔ ((b : ℕ) → IsCausalPair graph.now b c → IsKept graph.now places.now clocks.now b c) }
+{
+    for b in 0..graph.count() {
+        if graph.causal(b, c) && !is_kept(graph, places, clocks, b, c) {
+            return false;
+        }
+    }
+    true
+}
+
+/// Whether all causal pairs are kept.
+fn keeps_pairs(graph: &Graph, places: &[u32], clocks: &[Numbers]) -> bool
+    requires places { length places.now ≡ count graph.now }
+    requires clocks { HasSize (count graph.now) (length graph.now.sessions) clocks.now }
+    ensures { IsTrue result ↔ ((b : ℕ) (c : ℕ) → IsCausalPair graph.now b c → IsKept graph.now places.now clocks.now b c) }
+{
+    for c in 0..graph.count() {
+        if !keeps_pairs_to(graph, places, clocks, c) {
+            return false;
+        }
+    }
+    true
+}
+
+/// The gaps from one transaction to each.
+fn gap_row(alloc: Global, graph: &Graph, clocks: &[Numbers], b: u32) -> Result<Vec<u32>, NoMemory>
+    requires b { b < count graph.now }
+    requires clocks { length clocks.now ≡ count graph.now }
+    ensures long { IfOk result (λ row. length row.items ≡ count graph.now) }
+    ensures none { IfOk result (λ row. (c : ℕ) → c < count graph.now → (slice_index row.items c ≡ 0) ↔ MayReach graph.now clocks.now b c) }
+{
+    let mut row = Vec::new(alloc);
+    for c in 0..graph.count() {
+        row.push(gap(graph, clocks, b, c))?;
+    }
+    Ok(row)
+}
+
+/// The gaps from each transaction to each.
+fn gaps(alloc: Global, graph: &Graph, clocks: &[Numbers]) -> Result<Table, NoMemory>
+    requires { length clocks.now ≡ count graph.now }
+    ensures { IfOk result (λ gaps. AreGaps graph.now clocks.now gaps) }
+{
+    let mut rows = Vec::new(alloc);
+    for b in 0..graph.count() {
+        rows.push(Numbers::new(gap_row(alloc, graph, clocks, b)?))?;
+    }
+    Ok(Table::new(rows))
+}
+
+/// The first transaction that `b` contradicts and does not stand before.
+fn first_behind(places: &[u32], weights: &[Numbers], b: u32) -> Option<u32>
+    requires size { HasSize (length places.now) (length places.now) weights.now }
+    requires b { b < length places.now }
+    requires few { length places.now < 2 ^ 32 }
+    ensures { MatchOption result
+        (HoldsBelow (length places.now) (λ a. IsUnordered weights.now places.now (b, a)))
+        (IsFirstBelow (length places.now) (λ a. IsUnordered weights.now places.now (b, a))) }
+{
+    for (a, place) in places.iter().enumerate() {
+        if weights[a].as_slice()[b as usize] == 0 && *place <= places[b as usize] {
+            return Some(a as u32);
+        }
+    }
+    None
+}
+
+/// The first two transactions of which the one contradicts the other and does not stand before it.
+fn first_unordered(places: &[u32], weights: &[Numbers]) -> Option<(u32, u32)>
+    requires size { HasSize (length places.now) (length places.now) weights.now }
+    requires few { length places.now < 2 ^ 32 }
+    ensures { MatchOption result
+        (HoldsEverywhere (IsUnordered weights.now places.now))
+        (IsFirstPlace (IsUnordered weights.now places.now)) }
+{
+    for b in 0..places.len() {
+        if let Some(a) = first_behind(places, weights, b as u32) {
+            return Some((b as u32, a));
+        }
+    }
+    None
+}
+
+/// The first place at which the axiom is broken.
+fn broken_axiom(
+    alloc: Global,
+    graph: &Graph,
+    order: &[u32],
+    places: &[u32],
+    clocks: &[Numbers],
+) -> Result<Option<(u32, u32)>, NoMemory>
+    requires few { count graph.now ≤ 1024 }
+    requires order { length order.now ≡ count graph.now }
+    requires places { ArePlaces order.now places.now }
+    requires clocks { length clocks.now ≡ count graph.now }
+    ensures { IfOk result (λ found. MatchOption found
+        (HoldsEverywhere (BreaksAxiom graph.now (record { order = order.now; clocks = clocks.now })))
+        (IsFirstPlace (BreaksAxiom graph.now (record { order = order.now; clocks = clocks.now })))) }
+{
+    let gaps = gaps(alloc, graph, clocks)?;
+    let none = no_weights(alloc, order.len())?;
+    let weights = lowered(alloc, graph, gaps.rows(), none.rows())?;
+    Ok(first_unordered(places, weights.rows()))
+}
+
+/// Judges a claim that a list is a commit order.
+pub(crate) fn order_verdict(
+    alloc: Global,
+    graph: &Graph,
+    order: &[u32],
+    clocks: &[Numbers],
+) -> Result<Verdict, NoMemory>
+    ensures { IfOk result (IsOrderVerdict graph.now (record { order = order.now; clocks = clocks.now })) }
+{
+    let count = graph.count() as usize;
+    if order.len() != count || !has_size(clocks, count, graph.sessions().len()) {
+        return Ok(Verdict::Rejected {
+            rule: 1,
+            at: (0, 0),
+        });
+    }
+    let Some(places) = places_of(alloc, order)? else {
+        return Ok(Verdict::Rejected {
+            rule: 8,
+            at: (0, 0),
+        });
+    };
+    if !keeps_pairs(graph, &places, clocks) {
+        return Ok(Verdict::Rejected {
+            rule: 8,
+            at: (0, 0),
+        });
+    }
+    match broken_axiom(alloc, graph, order, &places, clocks)? {
+        Some(at) => Ok(Verdict::Rejected { rule: 9, at }),
+        None => Ok(Verdict::Accepted),
+    }
+}

@@ -1,0 +1,149 @@
+//! Weights of links: how many steps a link takes before its last one.
+ghost use Rattle.std.specs.Prelude.{ℕ, ◌≡◌, ◌<◌, ◌^◌, length, All, IfOk};
+ghost use Rattle.tcc_reads.specs.History.{count};
+ghost use Rattle.tcc_cert.specs.Tables.{entry, HasSize};
+ghost use Rattle.tcc_check.specs.Weights.{unlinked, PairWeighs, ContradictionWeighs, WriterWeighs, KeyWeighs, IsLeastRow, IsLeastTable, IsLowered, AreLowered, AreStarts};
+ghost use Rattle.tcc_check.specs.Searches.{AreStartRows};
+
+use crate::starts::Starts;
+use std::alloc::Global;
+use tcc_cert::{Numbers, Table};
+use tcc_graph::Graph;
+use tcc_txn::{Name, NoMemory};
+
+/// Stands where there is no link.
+const UNLINKED: u32 = u32::MAX;
+
+/// For each start the weight of its pair with `end`.
+fn pair_row(alloc: Global, graph: &Graph, end: u32) -> Result<Vec<u32>, NoMemory>
+    requires { end < count graph.now }
+    ensures long { IfOk result (λ row. length row.items ≡ count graph.now) }
+    ensures least { IfOk result (λ row. IsLeastRow (PairWeighs graph.now end) row.items) }
+{
+    let mut row = vec![in alloc; UNLINKED; graph.count() as usize]?;
+    for start in 0..graph.count() {
+        if graph.causal(start, end) {
+            row[start as usize] = 0;
+        }
+    }
+    Ok(row)
+}
+
+/// The weights of causal pairs, a row for each end.
+pub(crate) fn pair_weights(alloc: Global, graph: &Graph) -> Result<Table, NoMemory>
+    ensures { IfOk result (λ weights. IsLeastTable (count graph.now) (PairWeighs graph.now) weights) }
+{
+    let mut rows = Vec::new(alloc);
+    for end in 0..graph.count() {
+        rows.push(Numbers::new(pair_row(alloc, graph, end)?))?;
+    }
+    Ok(Table::new(rows))
+}
+
+/// Lowers the numbers of these writers to those that the table has for them and the reader.
+fn lower_writers(row: &mut [u32], writers: &[u32], table: &[Numbers], end: u32, reader: u32)
+    requires size { HasSize (length row.old) (length row.old) table.now }
+    requires writers { All (λ u. u < length row.old) writers.now }
+    requires reader { reader < length row.old }
+    ensures { IsLowered (WriterWeighs writers.now table.now end reader) row.old row.new }
+{
+    for writer in writers {
+        if *writer != end {
+            let number = table[*writer as usize].as_slice()[reader as usize];
+            row[*writer as usize] = row[*writer as usize].min(number);
+        }
+    }
+}
+
+/// Does so for each of these keys, which the reader reads from `end`.
+fn lower_keys(
+    row: &mut [u32],
+    graph: &Graph,
+    keys: &[Name],
+    table: &[Numbers],
+    end: u32,
+    reader: u32,
+)
+    requires long { length row.old ≡ count graph.now }
+    requires size { HasSize (count graph.now) (count graph.now) table.now }
+    requires reader { reader < count graph.now }
+    ensures { IsLowered (KeyWeighs graph.now keys.now table.now end reader) row.old row.new }
+{
+    for key in keys {
+        lower_writers(row, graph.writers(key), table, end, reader);
+    }
+}
+
+/// Does so for each reader from `end`.
+fn lower_readers(row: &mut [u32], graph: &Graph, table: &[Numbers], end: u32)
+    requires long { length row.old ≡ count graph.now }
+    requires size { HasSize (count graph.now) (count graph.now) table.now }
+    requires end { end < count graph.now }
+    ensures { IsLowered (ContradictionWeighs graph.now table.now end) row.old row.new }
+{
+    for reader in 0..graph.count() {
+        if graph.causal(end, reader) {
+            let keys = graph.reads_from(end, reader);
+            lower_keys(row, graph, keys, table, end, reader);
+        }
+    }
+}
+
+/// The weights, each lowered to what the table has for its start and a reader that it contradicts.
+pub(crate) fn lowered(
+    alloc: Global,
+    graph: &Graph,
+    table: &[Numbers],
+    weights: &[Numbers],
+) -> Result<Table, NoMemory>
+    requires weights { HasSize (count graph.now) (count graph.now) weights.now }
+    requires table { HasSize (count graph.now) (count graph.now) table.now }
+    ensures { IfOk result (λ lowered. AreLowered graph.now table.now weights.now lowered) }
+{
+    let mut rows = Vec::new(alloc);
+    for end in 0..graph.count() {
+        let mut row = weights[end as usize].as_slice().to_vec(alloc)?;
+        lower_readers(&mut row, graph, table, end);
+        rows.push(Numbers::new(row))?;
+    }
+    Ok(Table::new(rows))
+}
+
+/// The weights where nothing is linked.
+pub(crate) fn no_weights(alloc: Global, count: usize) -> Result<Table, NoMemory>
+    ensures size { IfOk result (λ weights. HasSize count count weights) }
+    ensures none { IfOk result (λ weights. (a b : ℕ) → a < count → b < count → entry weights a b ≡ unlinked) }
+{
+    let mut rows = Vec::new(alloc);
+    for _row in 0..count {
+        rows.push(Numbers::new(vec![in alloc; UNLINKED; count]?))?;
+    }
+    Ok(Table::new(rows))
+}
+
+/// The starts of links in a row, with their weights.
+fn starts_in(alloc: Global, row: &[u32]) -> Result<Starts, NoMemory>
+    requires { length row.now < 2 ^ 32 }
+    ensures { IfOk result (λ starts. AreStarts row.now starts) }
+{
+    let mut starts = Vec::new(alloc);
+    for (start, weight) in row.iter().enumerate() {
+        if *weight != UNLINKED {
+            starts.push((start as u32, *weight))?;
+        }
+    }
+    Ok(Starts::new(starts))
+}
+
+/// The starts of the links to each end.
+pub(crate) fn start_rows(alloc: Global, weights: &[Numbers]) -> Result<Vec<Starts>, NoMemory>
+    requires size { HasSize (length weights.now) (length weights.now) weights.now }
+    requires few { length weights.now < 2 ^ 32 }
+    ensures { IfOk result (λ starts. AreStartRows weights.now starts.items) }
+{
+    let mut starts = Vec::new(alloc);
+    for row in weights {
+        starts.push(starts_in(alloc, row.as_slice())?)?;
+    }
+    Ok(starts)
+}
