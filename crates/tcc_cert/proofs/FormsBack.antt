@@ -1,17 +1,12 @@
 -- Each line of a certificate's text is read as what it was written of.
-use Rattle.std.proofs.Common.{◌≡◌, ℕ, zero, suc, ◌+◌, ◌*◌, ◌<◌, ◌≤◌, ◌^◌, Bool, true, false, eqb, List, [], ◌∷◌, ◌++◌, length, map, flat_map, All, None, Result, Ok, Err, refl, sym, ap, subst, ◌∙◌, arith, append_assoc, codes, decimal, lit≤, lit<}
+use Rattle.std.proofs.Common.{◌≡◌, ℕ, ◌*◌, ◌<◌, ◌≤◌, ◌^◌, true, eqb, List, [], ◌∷◌, length, Ok, refl, arith, decimal, lit≤, lit<}
 use Rattle.std.specs.List.{AllByRecursion}
 use Rattle.std.proofs.lemmas.Bool.Decides.{nat_tests}
 use Rattle.std.proofs.lemmas.List.{length-append, length-map}
 use Rattle.std.proofs.lemmas.Fmt.{length-decimal-le, decimal_nonempty}
-use Rattle.tcc_txn.specs.Names.{name_fault}
-use Rattle.tcc_graph.specs.declared.step.Step.{Step}
 use Rattle.tcc_graph.specs.declared.step.Step.TheVariants as step
-use Rattle.tcc_graph.specs.declared.link.Link.{Link}
-use Rattle.tcc_graph.specs.declared.link.Link.TheVariants as link
-use Rattle.tcc_cert.specs.declared.fault.CertFaultKind.{CertFaultKind}
-use Rattle.tcc_cert.specs.Texts.{Words, words_text, numbers_words, step_words, most_cost, IsNumber, IsCount, IsKey, HasStepText}
-use Rattle.tcc_cert.specs.Reading.{number_of, transaction_of, numbers_of, numbers_line, key_of, step_line}
+use Rattle.tcc_cert.specs.Texts.{words_text, numbers_words, step_words, most_cost, IsNumber, HasStepText}
+use Rattle.tcc_cert.specs.Reading.{numbers_of, numbers_line, step_line}
 use Rattle.tcc_cert.proofs.ReadingFacts.{IsAbove, AreWords, later, decimal-above, number_of-decimal}
 use Rattle.tcc_cert.proofs.LinesBack.{IsReadBack}
 
@@ -50,12 +45,12 @@ at_most-less most more (n ∷ numbers) le all = (omega (arith, all.0), at_most-l
 pub row-back : (columns most : ℕ) (row : List ℕ) → most ≤ most_cost → columns ≤ 1024 → length row ≡ columns → AreAtMost most row
     → IsReadBack (numbers_line columns most) numbers_words row
 row-back columns most row le few long all = record {
-    are = numbers-words most row (omega (arith, le)) all;
-    short = numbers-short row (at_most-less most most_cost row le all) (omega arith);
-    back =
-    let same : eqb (length (numbers_words row)) columns ≡ true = grind (arith, nat_tests, length-map row decimal) in
-    rw same (numbers-back most row (omega (arith, le)) all);
-  }
+  are = numbers-words most row (omega (arith, le)) all;
+  short = numbers-short row (at_most-less most most_cost row le all) (omega arith);
+  back =
+      let same : eqb (length (numbers_words row)) columns ≡ true = grind (arith, nat_tests, length-map row decimal) in
+      rw same (numbers-back most row (omega (arith, le)) all);
+}
 
 -- ---- keys
 
@@ -65,16 +60,16 @@ IsPlainKey key = (0 < length key) × (length key ≤ 32) × IsAbove 32 key
 
 -- ---- steps
 
-numbers-two : (u v : ℕ) → IsNumber u → IsNumber v → AreWords (decimal u ∷ decimal v ∷ [])
+pub numbers-two : (u v : ℕ) → IsNumber u → IsNumber v → AreWords (decimal u ∷ decimal v ∷ [])
 numbers-two u v hu hv =
     (decimal_nonempty u (omega (arith, hu)), decimal-above u (omega (arith, hu)), (decimal_nonempty v (omega (arith, hv)), decimal-above v (omega (arith, hv)), tt))
 
-four_digits : (n : ℕ) → IsNumber n → length (decimal n) ≤ 4
+pub four_digits : (n : ℕ) → IsNumber n → length (decimal n) ≤ 4
 four_digits n h = length-decimal-le 4 n (lit< tt) (omega (arith, h)) (omega (arith, h))
 
 pub session-back : (u v : ℕ) → HasStepText (step.Session u v) → IsReadBack step_line step_words (step.Session u v)
 session-back u v h = record {
-    are = (lit< tt, (lit< tt, tt), numbers-two u v h.0 h.1);
-    short = omega (arith, length-append (decimal u) (later (decimal v ∷ [])), length-append (decimal v) [], four_digits u h.0, four_digits v h.1);
-    back = rw (number_of-decimal 0 1023 u (omega arith) h.0 (omega (arith, h.0)), number_of-decimal 0 1023 v (omega arith) h.1 (omega (arith, h.1))) refl;
-  }
+  are = (lit< tt, (lit< tt, tt), numbers-two u v h.0 h.1);
+  short = omega (arith, length-append (decimal u) (later (decimal v ∷ [])), length-append (decimal v) [], four_digits u h.0, four_digits v h.1);
+  back = rw (number_of-decimal 0 1023 u (omega arith) h.0 (omega (arith, h.0)), number_of-decimal 0 1023 v (omega arith) h.1 (omega (arith, h.1))) refl;
+}

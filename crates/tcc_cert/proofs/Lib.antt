@@ -5,3 +5,5 @@ pub mod WorkedReading
 pub mod ReadingFacts
 pub mod LinesBack
 pub mod FormsBack
+pub mod LinksBack
+pub mod ClaimsBack

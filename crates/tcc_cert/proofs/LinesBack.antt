@@ -1,11 +1,15 @@
 -- Lines are read one after the other as they were written.
-use Rattle.std.proofs.Common.{◌≡◌, ℕ, zero, suc, ◌+◌, ◌*◌, ◌<◌, ◌≤◌, ◌^◌, List, [], ◌∷◌, ◌++◌, length, drop, map, flat_map, Result, Ok, Err, refl, sym, ap, subst, ◌∙◌, arith, append_assoc, lit≤}
+use Rattle.std.proofs.Common.{◌≡◌, ℕ, ◌+◌, ◌≤◌, List, [], ◌∷◌, ◌++◌, length, drop, flat_map, Result, Ok, refl, sym, ap, ◌∙◌, append_assoc, lit≤}
 use Rattle.std.specs.List.{AllByRecursion}
 use Rattle.std.proofs.lemmas.List.{drop_at, length-append}
 use Rattle.tcc_cert.specs.declared.fault.CertFaultKind.{CertFaultKind}
 use Rattle.tcc_cert.specs.Texts.{Words, words_text, line_text}
-use Rattle.tcc_cert.specs.Reading.{◌>>=◌, words_of, Place, Reads, judged, line_of, behind, next, words, repeated}
+use Rattle.tcc_cert.specs.Reading.{◌>>=◌, words_of, Place, Reads, judged, next, words, repeated}
 use Rattle.tcc_cert.proofs.ReadingFacts.{IsAbove, IsAbove-append, IsAbove-less, AreWords, later, line_of-line, words_of-words}
+
+-- what comes after a step that was read
+pub then_ok : {A B E : Type 0} {r : Result A E} {x : A} (f : A → Result B E) → r ≡ Ok x → (r >>= f) ≡ f x
+then_ok f e = ap (λ s. s >>= f) e
 
 -- the place before these bytes
 abbrev pub at : ℕ → List ℕ → Place
@@ -42,12 +46,19 @@ pub record IsReadBack {X : Type 0} (form : Words → Result X CertFaultKind) (sp
   pub short : length (words_text (spelled x)) ≤ 8191
   pub back : form (spelled x) ≡ Ok x
 
--- values that are read back, each from its own text, one after the other
-pub repeated-back : {X : Type 0} (read : Place → Reads X) (text : X → List ℕ) (lines : X → ℕ) (xs : List X)
-    → AllByRecursion (λ x. (n : ℕ) (rest : List ℕ) → read (at n (text x ++ rest)) ≡ Ok (x, at (n + lines x) rest)) xs
+-- a value whose text is read as it, wherever it stands
+abbrev pub IsReadAt : {X : Type 0} → (Place → Reads X) → (X → List ℕ) → X → Type 0
+IsReadAt read text x = (n : ℕ) (rest : List ℕ) → (end : ℕ) × (read (at n (text x ++ rest)) ≡ Ok (x, at end rest))
+
+pub line-at : {X : Type 0} (form : Words → Result X CertFaultKind) (spelled : X → Words) (x : X) → IsReadBack form spelled x → IsReadAt (words form) (λ y. line_text (spelled y)) x
+line-at form spelled x back n rest = (n + 1, words-line form n (spelled x) rest back.are back.short x back.back)
+
+-- values that are read, one after the other
+pub repeated-back : {X : Type 0} (read : Place → Reads X) (text : X → List ℕ) (xs : List X) → AllByRecursion (IsReadAt read text) xs
     → (n : ℕ) (rest : List ℕ) → (end : ℕ) × (repeated read (length xs) (at n (flat_map text xs ++ rest)) ≡ Ok (xs, at end rest))
-repeated-back read text lines [] back n rest = (n, refl)
-repeated-back read text lines (x ∷ xs) back n rest =
-    let others = repeated-back read text lines xs back.1 (n + lines x) rest in
+repeated-back read text [] back n rest = (n, refl)
+repeated-back read text (x ∷ xs) back n rest =
+    let first = back.0 n (flat_map text xs ++ rest) in
+    let others = repeated-back read text xs back.1 first.0 rest in
     let split : flat_map text (x ∷ xs) ++ rest ≡ text x ++ (flat_map text xs ++ rest) = append_assoc (text x) (flat_map text xs) rest in
-    (others.0, rw (split, back.0 n (flat_map text xs ++ rest), others.1) refl)
+    (others.0, rw (split, first.1, others.1) refl)

@@ -1,17 +1,14 @@
 -- Lines and words of a text are read as they were written.
-use Rattle.std.proofs.Common.{◌≡◌, ℕ, zero, suc, ◌+◌, ◌-◌, ◌*◌, ◌/◌, ◌%◌, ◌^◌, ◌<◌, ◌≤◌, Bool, true, false, not, cond, eqb, ltb, ◌&&◌, List, [], ◌∷◌, ◌++◌, length, get_or, take, drop, Some, Ok, Err, refl, sym, ap, subst, ◌∙◌, arith, append_assoc, append-nil, inl, inr, codes, decimal, lit<, lit≤}
+use Rattle.std.proofs.Common.{◌≡◌, ℕ, zero, suc, ◌+◌, ◌^◌, ◌<◌, ◌≤◌, true, false, eqb, ltb, List, [], ◌∷◌, ◌++◌, length, get_or, Ok, refl, ap, ◌∙◌, arith, append-nil, decimal, lit<, lit≤}
 use Rattle.std.specs.Prelude.{flat_map}
-use Rattle.std.specs.List.{join_by}
 use Rattle.std.specs.Str.{all_ascii_digits}
-use Rattle.std.specs.Str.Parse.{digits_value}
-use Rattle.std.proofs.lemmas.Bool.{cases_lt, cases_eq}
 use Rattle.std.proofs.lemmas.Bool.Decides.{nat_tests}
 use Rattle.std.proofs.lemmas.List.{take_at, length-append}
 use Rattle.std.proofs.lemmas.Fmt.{decimal_digit, decimal_by_steps, decimal_is_IsNumeral, digits_decimal, first_decimal}
 use Rattle.std.proofs.lemmas.Str.Parse.{numerals_by_value, tells_all_ascii_digits}
 use Rattle.tcc_txn.specs.Lines.{has_no_leading_zero}
-use Rattle.tcc_cert.specs.Texts.{Words, words_text, line_text}
-use Rattle.tcc_cert.specs.Reading.{parted, before_space, words_of, is_decimal, number_of, Place, line_length, line_of}
+use Rattle.tcc_cert.specs.Texts.{Words, words_text}
+use Rattle.tcc_cert.specs.Reading.{parted, words_of, number_of, line_length, line_of}
 
 -- all bytes are above this one
 abbrev pub IsAbove : ℕ → List ℕ → Type 0

@@ -1,5 +1,5 @@
 -- How a certificate's text is read: line by line, up to the first fault. What the next line has to be follows from the lines before it.
-use Rattle.std.specs.Prelude.{ℕ, zero, suc, ◌+◌, ◌≡◌, Bool, not, ◌&&◌, ◌||◌, ◌==◌, nat_lt, if◌then◌else◌, List, [], ◌∷◌, length, take, drop, is_some, Result, Ok, Err, codes}
+use Rattle.std.specs.Prelude.{ℕ, zero, suc, ◌+◌, Bool, not, ◌&&◌, ◌||◌, ◌==◌, nat_lt, if◌then◌else◌, List, [], ◌∷◌, length, take, drop, is_some, Result, Ok, Err, codes}
 use Rattle.std.specs.List.{position_or_len}
 use Rattle.std.specs.Str.{all_ascii_digits}
 use Rattle.std.specs.Str.Parse.{digits_value}
@@ -210,12 +210,14 @@ repeated read (suc n) at = do
 abbrev pub header_line : List ℕ → Result (List ℕ) CertFaultKind
 header_line line = if same line (codes "tcc-certificate 1") then Ok line else Err Header
 
--- a link, and the steps of its walk
-abbrev pub link_at : Place → Reads Link
-link_at at = do
-  head ← words head_line at
+-- the link of this head, and the steps of its walk
+abbrev pub walk_of : Head × Place → Reads Link
+walk_of head = do
   walk ← repeated (words step_line) head.0.steps head.1
   Ok (with_walk head.0.link walk.0, walk.1)
+
+abbrev pub link_at : Place → Reads Link
+link_at at = words head_line at >>= walk_of
 
 -- so many lines of so many numbers
 abbrev pub table_at : ℕ → ℕ → ℕ → Place → Reads (List (List ℕ))

@@ -4,7 +4,10 @@
 #[derive(Clone, Copy)]
 pub(crate) enum Sizes {
     /// How many transactions and sessions there are.
-    Order { transactions: u32, sessions: u32 },
+    Order {
+        transactions: u32,
+        sessions: u32,
+    },
     /// How many transactions and links there are, and what the cycle costs.
     Cycle {
         transactions: u32,
