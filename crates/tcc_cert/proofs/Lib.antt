@@ -1,3 +1,9 @@
 pub mod WorkedTexts
 pub mod Sending
 pub mod Items
+pub mod WorkedReading
+pub mod ReadingFacts
+pub mod LinesBack
+pub mod FormsBack
+pub mod LinksBack
+pub mod ClaimsBack

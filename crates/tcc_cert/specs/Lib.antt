@@ -4,3 +4,4 @@ pub mod OrderRules
 pub mod Rules
 pub mod Texts
 pub mod Writing
+pub mod Reading

@@ -15,3 +15,44 @@ impl From<io::Error> for WriteFault {
         WriteFault::Device
     }
 }
+
+/// What is wrong with a line of a certificate's text.
+#[derive(Clone, Copy, Debug, PartialEq, Eq, Error)]
+pub enum CertFaultKind {
+    /// The first line is not `tcc-certificate 1`.
+    #[error("the first line is not `tcc-certificate 1`")]
+    Header,
+    /// The first word is none that the line may begin with, or a key is no name.
+    #[error("a word that cannot stand there")]
+    Word,
+    /// A word is no decimal number without leading zeros, or 0 where there has to be one at least.
+    #[error("no number")]
+    Number,
+    /// There are more words than the line has, or fewer.
+    #[error("another number of words")]
+    Count,
+    /// A number is above its range, or the line has more than 8,191 bytes.
+    #[error("too large")]
+    TooLarge,
+    /// The input ended before the line feed.
+    #[error("the text is cut")]
+    Truncated,
+    /// The text goes on after its end.
+    #[error("the text goes on after its end")]
+    Trailing,
+    /// The reader failed.
+    #[error("the reader failed")]
+    Read,
+    /// Want of memory.
+    #[error("out of memory")]
+    NoMemory,
+}
+
+/// The first line of a certificate's text with a fault.
+#[derive(Clone, Copy, Debug, PartialEq, Eq, Error)]
+#[error("line {line}: {kind}")]
+pub struct CertFault {
+    /// Counted from 1.
+    pub line: u64,
+    pub kind: CertFaultKind,
+}

@@ -7,11 +7,12 @@ mod gathered;
 mod lines;
 mod links;
 mod numbers;
+mod sizes;
 mod table;
 mod writing;
 
 pub use certificate::Certificate;
-pub use fault::WriteFault;
+pub use fault::{CertFault, CertFaultKind, WriteFault};
 pub use links::Links;
 pub use numbers::Numbers;
 pub use table::Table;

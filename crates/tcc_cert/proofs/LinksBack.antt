@@ -1,0 +1,158 @@
+-- Keys, steps and links are read as they were written.
+use Rattle.std.proofs.Common.{◌≡◌, ℕ, ◌+◌, ◌<◌, ◌≤◌, Bool, true, false, not, cond, eqb, ltb, List, [], ◌∷◌, ◌++◌, length, map, All, Option, Some, None, Ok, refl, ap, ◌∙◌, arith, append_assoc, append-nil, inl, inr, codes, decimal, lit<}
+use Rattle.std.specs.Prelude.{nat_le, position, option_map}
+use Rattle.std.specs.List.{AllByRecursion, prefix_len}
+use Rattle.std.proofs.lemmas.Bool.{cases_lt}
+use Rattle.std.proofs.lemmas.Bool.Decides.{nat_tests}
+use Rattle.std.proofs.lemmas.List.{length-append}
+use Rattle.std.proofs.lemmas.List.Elements.{recursion_from_All}
+use Rattle.std.proofs.lemmas.Fmt.{decimal_nonempty, length-decimal-le}
+use Rattle.tcc_txn.specs.Names.{is_name_byte}
+use Rattle.tcc_txn.specs.declared.name.NameFault.TheVariants.{Empty, TooLong, BadByte}
+use Rattle.tcc_graph.specs.declared.step.Step.{Step}
+use Rattle.tcc_graph.specs.declared.step.Step.TheVariants as step
+use Rattle.tcc_graph.specs.declared.link.Link.{Link}
+use Rattle.tcc_graph.specs.declared.link.Link.TheVariants as link
+use Rattle.tcc_cert.specs.Texts.{Words, words_text, line_text, lines_text, step_words, link_lines, IsNumber, IsCount, IsKey, HasStepText, HasLinkText}
+use Rattle.tcc_cert.specs.Reading.{head_of_step, step_line, head_line, words, repeated, with_walk, walk_of, link_at}
+use Rattle.tcc_cert.proofs.Items.{flat_map-map}
+use Rattle.tcc_cert.proofs.ReadingFacts.{IsAbove, AreWords, later, decimal-above, number_of-decimal}
+use Rattle.tcc_cert.proofs.LinesBack.{at, then_ok, words-line, line-at, IsReadBack, IsReadAt, repeated-back}
+use Rattle.tcc_cert.proofs.FormsBack.{IsPlainKey, four_digits, session-back}
+
+-- ---- keys
+
+no_fault : (empty long : Bool) (o : Option ℕ) → cond empty (Some Empty) (cond long (Some TooLong) (option_map (λ i. BadByte (i + 1)) o)) ≡ None
+    → (empty ≡ false) × (long ≡ false) × (o ≡ None)
+no_fault true long o e = absurd cc
+no_fault false true o e = absurd cc
+no_fault false false None e = (refl, refl, refl)
+no_fault false false (Some i) e = absurd cc
+
+no_position : (t : Bool) (i : ℕ) → cond t (Some i) None ≡ None → t ≡ false
+no_position true i e = absurd cc
+no_position false i e = refl
+
+above_space : (b : ℕ) → is_name_byte b ≡ true → 32 < b
+above_space b e =
+    elim (cases_lt 32 b) [
+      | inl lt ↦ lt
+      | inr le ↦
+          let upper : nat_le 65 b ≡ false = grind (arith, nat_tests) in
+          let lower : nat_le 97 b ≡ false = grind (arith, nat_tests) in
+          let digit : nat_le 48 b ≡ false = grind (arith, nat_tests) in
+          let line : eqb b 95 ≡ false = grind (arith, nat_tests) in
+          let stop : eqb b 46 ≡ false = grind (arith, nat_tests) in
+          let hyphen : eqb b 45 ≡ false = grind (arith, nat_tests) in
+          let none : is_name_byte b ≡ false = rw (upper, lower, digit, line, stop, hyphen) refl in
+          absurd cc
+    ]
+
+first_named : (t : Bool) (n p : ℕ) → n + 1 ≤ cond (not (not t)) (1 + p) 0 → (t ≡ true) × (n ≤ p)
+first_named true n p le = (refl, omega arith)
+first_named false n p le = absurd (omega arith)
+
+all_named : (key : List ℕ) → length key ≤ prefix_len (λ b. not (not (is_name_byte b))) key → IsAbove 32 key
+all_named [] le = tt
+all_named (b ∷ key) le =
+    let first = first_named (is_name_byte b) (length key) (prefix_len (λ c. not (not (is_name_byte c))) key) (omega arith) in
+    (above_space b first.0, all_named key first.1)
+
+pub key-parts : (key : List ℕ) → IsKey key → IsPlainKey key
+key-parts key h =
+    let p = no_fault (eqb (length key) 0) (ltb 32 (length key)) (position (λ b. not (is_name_byte b)) key) h in
+    let all = no_position (ltb (prefix_len (λ b. not (not (is_name_byte b))) key) (length key)) _ p.2 in
+    (grind (arith, nat_tests, p.0), grind (arith, nat_tests, p.1), all_named key (grind (arith, nat_tests, all)))
+
+-- ---- steps
+
+pub reads-back : (u v : ℕ) (key : List ℕ) → HasStepText (step.Reads u v key) → IsReadBack step_line step_words (step.Reads u v key)
+reads-back u v key h =
+    let k = key-parts key h.2 in
+    record {
+      are = (lit< tt, (lit< tt, tt), (decimal_nonempty u (omega (arith, h.0)), decimal-above u (omega (arith, h.0)), (decimal_nonempty v (omega (arith, h.1)), decimal-above v (omega (arith, h.1)), (k.0, k.2, tt))));
+      short = omega (arith, length-append (decimal u) (later (decimal v ∷ key ∷ [])), length-append (decimal v) (later (key ∷ [])), length-append key [], four_digits u h.0, four_digits v h.1, k.1);
+      back = rw (number_of-decimal 0 1023 u (omega arith) h.0 (omega (arith, h.0)), number_of-decimal 0 1023 v (omega arith) h.1 (omega (arith, h.1)), h.2) refl;
+    }
+
+pub step-back : (s : Step) → HasStepText s → IsReadBack step_line step_words s
+step-back (step.Session u v) h = session-back u v h
+step-back (step.Reads u v key) h = reads-back u v key h
+
+-- ---- links
+
+pub each : {X : Type 0} {P Q : X → Type 0} (xs : List X) → ((x : X) → P x → Q x) → AllByRecursion P xs → AllByRecursion Q xs
+each [] f all = tt
+each (x ∷ xs) f all = (f x all.0, each xs f all.1)
+
+pub walk-at : (walk : List Step) → All HasStepText walk → (n : ℕ) (rest : List ℕ)
+    → (end : ℕ) × (repeated (words step_line) (length walk) (at n (lines_text (map step_words walk) ++ rest)) ≡ Ok (walk, at end rest))
+walk-at walk h n rest =
+    rw (flat_map-map line_text step_words walk)
+    (repeated-back (words step_line) (λ s. line_text (step_words s)) walk (each walk (λ s t. line-at step_line step_words s (step-back s t)) (recursion_from_All HasStepText walk h)) n rest)
+
+session-head : (u v : ℕ) → HasStepText (step.Session u v) → head_line (step_words (step.Session u v)) ≡ Ok (head_of_step (step.Session u v))
+session-head u v h = rw (number_of-decimal 0 1023 u (omega arith) h.0 (omega (arith, h.0)), number_of-decimal 0 1023 v (omega arith) h.1 (omega (arith, h.1))) refl
+
+reads-head : (u v : ℕ) (key : List ℕ) → HasStepText (step.Reads u v key) → head_line (step_words (step.Reads u v key)) ≡ Ok (head_of_step (step.Reads u v key))
+reads-head u v key h = rw (number_of-decimal 0 1023 u (omega arith) h.0 (omega (arith, h.0)), number_of-decimal 0 1023 v (omega arith) h.1 (omega (arith, h.1)), h.2) refl
+
+abbrev derived_words : ℕ → ℕ → List ℕ → ℕ → ℕ → Words
+derived_words b a key c w = codes "D" ∷ decimal b ∷ decimal a ∷ key ∷ decimal c ∷ decimal w ∷ []
+
+derived-are : (b a : ℕ) (key : List ℕ) (c w : ℕ) → IsNumber b → IsNumber a → IsKey key → IsNumber c → IsCount w → AreWords (derived_words b a key c w)
+derived-are b a key c w hb ha hk hc hw =
+    let k = key-parts key hk in
+    (lit< tt, (lit< tt, tt), (decimal_nonempty b (omega (arith, hb)), decimal-above b (omega (arith, hb)), (decimal_nonempty a (omega (arith, ha)), decimal-above a (omega (arith, ha)), (k.0, k.2, (decimal_nonempty c (omega (arith, hc)), decimal-above c (omega (arith, hc)), (decimal_nonempty w (omega (arith, hw.limit)), decimal-above w (omega (arith, hw.limit)), tt))))))
+
+derived-short : (b a : ℕ) (key : List ℕ) (c w : ℕ) → IsNumber b → IsNumber a → IsKey key → IsNumber c → IsCount w → length (words_text (derived_words b a key c w)) ≤ 8191
+derived-short b a key c w hb ha hk hc hw =
+    let k = key-parts key hk in
+    omega (
+      arith,
+      length-append (decimal b) (later (decimal a ∷ key ∷ decimal c ∷ decimal w ∷ [])),
+      length-append (decimal a) (later (key ∷ decimal c ∷ decimal w ∷ [])),
+      length-append key (later (decimal c ∷ decimal w ∷ [])),
+      length-append (decimal c) (later (decimal w ∷ [])),
+      length-append (decimal w) [],
+      four_digits b hb,
+      four_digits a ha,
+      four_digits c hc,
+      length-decimal-le 4 w (lit< tt) (omega (arith, hw.limit)) (omega (arith, hw.limit)),
+      k.1,
+    )
+
+derived-head : (b a : ℕ) (key : List ℕ) (c w : ℕ) → IsNumber b → IsNumber a → IsKey key → IsNumber c → IsCount w
+    → head_line (derived_words b a key c w) ≡ Ok (record { link = link.Derived b a key c []; steps = w })
+derived-head b a key c w hb ha hk hc hw =
+    rw (
+      number_of-decimal 0 1023 b (omega arith) hb (omega (arith, hb)),
+      number_of-decimal 0 1023 a (omega arith) ha (omega (arith, ha)),
+      hk,
+      number_of-decimal 0 1023 c (omega arith) hc (omega (arith, hc)),
+      number_of-decimal 1 1024 w hw.some hw.limit (omega (arith, hw.limit)),
+    ) refl
+
+one_line : (line rest : List ℕ) → (line ++ []) ++ rest ≡ line ++ rest
+one_line line rest = ap (λ l. l ++ rest) (append-nil line)
+
+pub link-back : (l : Link) → HasLinkText l → IsReadAt link_at (λ m. lines_text (link_lines m)) l
+link-back (link.Session u v) h n rest =
+    let b = session-back u v h in
+    let head = words-line head_line n (step_words (step.Session u v)) rest b.are b.short (head_of_step (step.Session u v)) (session-head u v h) in
+    (n + 1, ap (λ bytes. link_at (at n bytes)) (one_line (line_text (step_words (step.Session u v))) rest) ∙ then_ok walk_of head)
+link-back (link.Reads u v key) h n rest =
+    let b = reads-back u v key h in
+    let head = words-line head_line n (step_words (step.Reads u v key)) rest b.are b.short (head_of_step (step.Reads u v key)) (reads-head u v key h) in
+    (n + 1, ap (λ bytes. link_at (at n bytes)) (one_line (line_text (step_words (step.Reads u v key))) rest) ∙ then_ok walk_of head)
+link-back (link.Derived b a key c walk) h n rest =
+    let later_lines = lines_text (map step_words walk) ++ rest in
+    let head = words-line head_line n (derived_words b a key c (length walk)) later_lines (derived-are b a key c (length walk) h.0 h.1 h.2 h.3 h.4)
+    (derived-short b a key c (length walk) h.0 h.1 h.2 h.3 h.4) (record { link = link.Derived b a key c []; steps = length walk })
+    (derived-head b a key c (length walk) h.0 h.1 h.2 h.3 h.4) in
+    let steps = walk-at walk h.5 (n + 1) rest in (
+      steps.0,
+      ap (λ bytes. link_at (at n bytes)) (append_assoc (line_text (derived_words b a key c (length walk))) (lines_text (map step_words walk)) rest)
+          ∙ then_ok walk_of head
+          ∙ then_ok (λ read. Ok (with_walk (link.Derived b a key c []) read.0, read.1)) steps.1,
+    )

@@ -1,0 +1,258 @@
+-- How a certificate's text is read: line by line, up to the first fault. What the next line has to be follows from the lines before it.
+use Rattle.std.specs.Prelude.{ℕ, zero, suc, ◌+◌, Bool, not, ◌&&◌, ◌||◌, ◌==◌, nat_lt, if◌then◌else◌, List, [], ◌∷◌, length, take, drop, is_some, Result, Ok, Err, codes}
+use Rattle.std.specs.List.{position_or_len}
+use Rattle.std.specs.Str.{all_ascii_digits}
+use Rattle.std.specs.Str.Parse.{digits_value}
+use Rattle.tcc_txn.specs.Names.{name_fault}
+use Rattle.tcc_txn.specs.Lines.{same, has_no_leading_zero}
+use Rattle.tcc_graph.specs.declared.step.Step.{Step}
+use Rattle.tcc_graph.specs.declared.step.Step.TheVariants as step
+use Rattle.tcc_graph.specs.declared.link.Link.{Link}
+use Rattle.tcc_graph.specs.declared.link.Link.TheVariants as link
+use Rattle.tcc_cert.specs.declared.fault.CertFault.{CertFault}
+use Rattle.tcc_cert.specs.declared.fault.CertFaultKind.{CertFaultKind}
+use Rattle.tcc_cert.specs.declared.fault.CertFaultKind.TheVariants.{Header, Word, Number, Count, TooLarge, Truncated, Trailing}
+use Rattle.tcc_cert.specs.declared.certificate.Certificate.{Certificate}
+use Rattle.tcc_cert.specs.declared.certificate.Certificate.TheVariants as claim
+use Rattle.tcc_cert.specs.declared.sizes.Sizes.{Sizes}
+use Rattle.tcc_cert.specs.declared.sizes.Sizes.TheVariants.{Order, Cycle}
+use Rattle.tcc_cert.specs.Texts.{Words, most_cost}
+
+-- what comes next, or the fault that was met before
+infixl 10 ◌>>=◌
+abbrev pub ◌>>=◌ : {A B E : Type 0} → Result A E → (A → Result B E) → Result B E
+(Ok x) >>= f = f x
+(Err e) >>= f = Err e
+
+-- ---- words
+
+-- one more byte in front of words
+abbrev pub before_space : ℕ → Words → Words
+before_space byte [] = (byte ∷ []) ∷ []
+before_space byte (word ∷ words) = if byte == 32 then [] ∷ word ∷ words else (byte ∷ word) ∷ words
+
+-- what stands between spaces; n spaces part n + 1 words, some of them empty
+abbrev pub parted : List ℕ → Words
+parted [] = [] ∷ []
+parted (byte ∷ bytes) = before_space byte (parted bytes)
+
+-- the words of a line; an empty line has none
+abbrev pub words_of : List ℕ → Words
+words_of [] = []
+words_of (byte ∷ bytes) = parted (byte ∷ bytes)
+
+-- decimal digits without leading zeros
+abbrev pub is_decimal : List ℕ → Bool
+is_decimal word = nat_lt 0 (length word) && all_ascii_digits word && has_no_leading_zero word
+
+-- a number from least, which is 0 or 1, to most
+abbrev pub number_of : ℕ → ℕ → List ℕ → Result ℕ CertFaultKind
+number_of least most word =
+    if not (is_decimal word) || nat_lt (digits_value 10 word) least then Err Number
+    else if nat_lt most (digits_value 10 word) then Err TooLarge
+    else Ok (digits_value 10 word)
+
+-- a number of a transaction, or a place in a clock
+abbrev pub transaction_of : List ℕ → Result ℕ CertFaultKind
+transaction_of word = number_of 0 1023 word
+
+-- how many transactions, links or steps
+abbrev pub count_of : List ℕ → Result ℕ CertFaultKind
+count_of word = number_of 1 1024 word
+
+abbrev pub key_of : List ℕ → Result (List ℕ) CertFaultKind
+key_of word = if is_some (name_fault word) then Err Word else Ok word
+
+-- ---- the forms of lines
+
+-- a line of this word alone
+abbrev pub word_line : List ℕ → Words → Result (List ℕ) CertFaultKind
+word_line wanted [] = Err Word
+word_line wanted (word ∷ fields) = if same word wanted then if length fields == 0 then Ok word else Err Count else Err Word
+
+-- numbers up to most, judged from left to right
+abbrev pub numbers_of : ℕ → Words → Result (List ℕ) CertFaultKind
+numbers_of most [] = Ok []
+numbers_of most (word ∷ words) = do
+  number ← number_of 0 most word
+  numbers ← numbers_of most words
+  Ok (number ∷ numbers)
+
+-- a line of so many numbers
+abbrev pub numbers_line : ℕ → ℕ → Words → Result (List ℕ) CertFaultKind
+numbers_line count most words = if length words == count then numbers_of most words else Err Count
+
+abbrev pub session_fields : Words → Result Step CertFaultKind
+session_fields (u ∷ v ∷ []) = do
+  from ← transaction_of u
+  to ← transaction_of v
+  Ok (step.Session from to)
+session_fields _ = Err Count
+
+abbrev pub reads_fields : Words → Result Step CertFaultKind
+reads_fields (u ∷ v ∷ name ∷ []) = do
+  from ← transaction_of u
+  to ← transaction_of v
+  key ← key_of name
+  Ok (step.Reads from to key)
+reads_fields _ = Err Count
+
+-- a step of a walk
+abbrev pub step_line : Words → Result Step CertFaultKind
+step_line [] = Err Word
+step_line (word ∷ fields) =
+    if same word (codes "S") then session_fields fields
+    else if same word (codes "R") then reads_fields fields
+    else Err Word
+
+-- a link without its walk, and how many steps that has
+pub record Head : Type 0 where
+  pub link : Link
+  pub steps : ℕ
+
+abbrev pub with_walk : Link → List Step → Link
+with_walk (link.Session u v) walk = link.Session u v
+with_walk (link.Reads u v key) walk = link.Reads u v key
+with_walk (link.Derived b a key c _) walk = link.Derived b a key c walk
+
+abbrev pub head_of_step : Step → Head
+head_of_step (step.Session u v) = record { link = link.Session u v; steps = 0 }
+head_of_step (step.Reads u v key) = record { link = link.Reads u v key; steps = 0 }
+
+abbrev pub derived_fields : Words → Result Head CertFaultKind
+derived_fields (b ∷ a ∷ name ∷ c ∷ w ∷ []) = do
+  from ← transaction_of b
+  to ← transaction_of a
+  key ← key_of name
+  reader ← transaction_of c
+  steps ← count_of w
+  Ok (record { link = link.Derived from to key reader []; steps = steps })
+derived_fields _ = Err Count
+
+-- the line that a link begins with
+abbrev pub head_line : Words → Result Head CertFaultKind
+head_line [] = Err Word
+head_line (word ∷ fields) =
+    if same word (codes "D") then derived_fields fields
+    else step_line (word ∷ fields) >>= λ step. Ok (head_of_step step)
+
+abbrev pub order_fields : Words → Result Sizes CertFaultKind
+order_fields (n ∷ s ∷ []) = do
+  transactions ← count_of n
+  sessions ← number_of 0 64 s
+  Ok (Order transactions sessions)
+order_fields _ = Err Count
+
+abbrev pub cycle_fields : Words → Result Sizes CertFaultKind
+cycle_fields (n ∷ m ∷ l ∷ []) = do
+  transactions ← count_of n
+  links ← count_of m
+  least ← number_of 0 most_cost l
+  Ok (Cycle transactions links least)
+cycle_fields _ = Err Count
+
+-- the line that says how long the parts of a claim are
+abbrev pub sizes_line : Words → Result Sizes CertFaultKind
+sizes_line [] = Err Word
+sizes_line (word ∷ fields) =
+    if same word (codes "order") then order_fields fields
+    else if same word (codes "cycle") then cycle_fields fields
+    else Err Word
+
+-- ---- lines
+
+-- the number of the next line, and the bytes from it on
+pub record Place : Type 0 where
+  pub line : ℕ
+  pub bytes : List ℕ
+
+-- what was read, and where the next line begins
+abbrev pub Reads : Type 0 → Type 0
+Reads X = Result (X × Place) CertFault
+
+-- what the next line shows, or its fault
+abbrev pub judged : {X : Type 0} → Place → Place → Result X CertFaultKind → Reads X
+judged at after (Ok x) = Ok (x, after)
+judged at after (Err kind) = Err (record { line = at.line; kind = kind })
+
+-- how many bytes stand before the first line feed, or in all
+abbrev pub line_length : List ℕ → ℕ
+line_length bytes = position_or_len (λ byte. byte == 10) bytes
+
+-- the next line: at most 8,191 bytes and a line feed
+abbrev pub line_of : List ℕ → Result (List ℕ) CertFaultKind
+line_of bytes =
+    if nat_lt 8191 (line_length bytes) then Err TooLarge
+    else if nat_lt (line_length bytes) (length bytes) then Ok (take (line_length bytes) bytes)
+    else Err Truncated
+
+-- the place behind a line of this length
+abbrev pub behind : Place → List ℕ → Place
+behind at line = record { line = at.line + 1; bytes = drop (length line + 1) at.bytes }
+
+-- the next line, judged by its form
+abbrev pub next : {X : Type 0} → (List ℕ → Result X CertFaultKind) → Place → Reads X
+next form at = do
+  line ← judged at at (line_of at.bytes)
+  judged at (behind at line.0) (form line.0)
+
+abbrev pub words : {X : Type 0} → (Words → Result X CertFaultKind) → Place → Reads X
+words form at = next (λ line. form (words_of line)) at
+
+-- the same so many times
+abbrev pub repeated : {X : Type 0} → (Place → Reads X) → ℕ → Place → Reads (List X)
+repeated read zero at = Ok ([], at)
+repeated read (suc n) at = do
+  first ← read at
+  others ← repeated read n first.1
+  Ok (first.0 ∷ others.0, others.1)
+
+abbrev pub header_line : List ℕ → Result (List ℕ) CertFaultKind
+header_line line = if same line (codes "tcc-certificate 1") then Ok line else Err Header
+
+-- the link of this head, and the steps of its walk
+abbrev pub walk_of : Head × Place → Reads Link
+walk_of head = do
+  walk ← repeated (words step_line) head.0.steps head.1
+  Ok (with_walk head.0.link walk.0, walk.1)
+
+abbrev pub link_at : Place → Reads Link
+link_at at = words head_line at >>= walk_of
+
+-- so many lines of so many numbers
+abbrev pub table_at : ℕ → ℕ → ℕ → Place → Reads (List (List ℕ))
+table_at rows columns most at = repeated (words (numbers_line columns most)) rows at
+
+abbrev pub order_at : ℕ → ℕ → Place → Reads Certificate
+order_at transactions sessions at = do
+  order ← words (numbers_line transactions 1023) at
+  mark ← words (word_line (codes "clocks")) order.1
+  clocks ← table_at transactions sessions 1023 mark.1
+  end ← words (word_line (codes "end")) clocks.1
+  Ok (claim.Order order.0 clocks.0, end.1)
+
+abbrev pub cycle_at : ℕ → ℕ → ℕ → Place → Reads Certificate
+cycle_at transactions count least at = do
+  links ← repeated link_at count at
+  near_mark ← words (word_line (codes "near")) links.1
+  near ← table_at transactions transactions most_cost near_mark.1
+  far_mark ← words (word_line (codes "far")) near.1
+  far ← table_at transactions transactions most_cost far_mark.1
+  end ← words (word_line (codes "end")) far.1
+  Ok (claim.Cycle links.0 least near.0 far.0, end.1)
+
+abbrev pub claim_at : Sizes → Place → Reads Certificate
+claim_at (Order transactions sessions) at = order_at transactions sessions at
+claim_at (Cycle transactions links least) at = cycle_at transactions links least at
+
+-- nothing stands behind the last line
+abbrev pub ended : Certificate → Place → Result Certificate CertFault
+ended certificate at = if length at.bytes == 0 then Ok certificate else Err (record { line = at.line; kind = Trailing })
+
+-- the certificate whose text the bytes are, or the first fault
+abbrev pub certificate_of : List ℕ → Result Certificate CertFault
+certificate_of bytes = do
+  header ← next header_line (record { line = 1; bytes = bytes })
+  sizes ← words sizes_line header.1
+  certificate ← claim_at sizes.0 sizes.1
+  ended certificate.0 certificate.1
