@@ -14,8 +14,6 @@ use Rattle.tcc_cert.specs.declared.fault.CertFaultKind.{CertFaultKind}
 use Rattle.tcc_cert.specs.declared.fault.CertFaultKind.TheVariants.{Header, Word, Number, Count, TooLarge, Truncated, Trailing}
 use Rattle.tcc_cert.specs.declared.certificate.Certificate.{Certificate}
 use Rattle.tcc_cert.specs.declared.certificate.Certificate.TheVariants as claim
-use Rattle.tcc_cert.specs.declared.sizes.Sizes.{Sizes}
-use Rattle.tcc_cert.specs.declared.sizes.Sizes.TheVariants.{Order, Cycle}
 use Rattle.tcc_cert.specs.Texts.{Words, most_cost}
 
 -- what comes next, or the fault that was met before
@@ -135,6 +133,12 @@ head_line [] = Err Word
 head_line (word ∷ fields) =
     if same word (codes "D") then derived_fields fields
     else step_line (word ∷ fields) >>= λ step. Ok (head_of_step step)
+
+-- how long the parts of a claim are: how many transactions and sessions; or how many transactions and links, and what
+-- the cycle costs
+pub data Sizes : Type 0 where
+  Order : ℕ → ℕ → Sizes
+  Cycle : ℕ → ℕ → ℕ → Sizes
 
 abbrev pub order_fields : Words → Result Sizes CertFaultKind
 order_fields (n ∷ s ∷ []) = do

@@ -4,10 +4,10 @@
 mod certificate;
 mod fault;
 mod gathered;
+pub mod laws;
 mod lines;
 mod links;
 mod numbers;
-mod sizes;
 mod table;
 mod writing;
 
