@@ -10,3 +10,4 @@ pub mod PriceLemmas
 pub mod ReasonLemmas
 pub mod StepLemmas
 pub mod TableLemmas
+pub mod Worked

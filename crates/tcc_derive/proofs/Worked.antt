@@ -1,0 +1,45 @@
+-- Worked rows of the definitions.
+use Rattle.std.proofs.Common.{◌≡◌, [], ◌∷◌, true, false, None, Some, refl, inl, inr}
+use Rattle.tcc_graph.specs.declared.step.Step.TheVariants as step
+use Rattle.tcc_derive.specs.Prices.{price_at, cost_at}
+use Rattle.tcc_derive.specs.Lowering.{price_by}
+use Rattle.tcc_derive.specs.Backwards.{stands_at, Ahead}
+
+-- a step more than the way to the reader; no way stays no way
+one_more : price_by (2 ∷ 65535 ∷ []) (record { source = 1; reader = 0 }) ≡ 3
+one_more = refl
+
+out_of_reach : price_by (2 ∷ 65535 ∷ []) (record { source = 0; reader = 1 }) ≡ 65535
+out_of_reach = refl
+
+-- of two transactions, 1 contradicts a read from 0 by a walk of three steps
+price_of_four : price_at (record { prices = (65535 ∷ 65535 ∷ []) ∷ (4 ∷ 65535 ∷ []) ∷ []; costs = (65535 ∷ 1 ∷ []) ∷ (4 ∷ 65535 ∷ []) ∷ [] }) 1 0 ≡ Some 4
+price_of_four = refl
+
+no_price : price_at (record { prices = (65535 ∷ 65535 ∷ []) ∷ (4 ∷ 65535 ∷ []) ∷ []; costs = (65535 ∷ 1 ∷ []) ∷ (4 ∷ 65535 ∷ []) ∷ [] }) 0 1 ≡ None
+no_price = refl
+
+cost_of_a_pair : cost_at (record { prices = (65535 ∷ 65535 ∷ []) ∷ (4 ∷ 65535 ∷ []) ∷ []; costs = (65535 ∷ 1 ∷ []) ∷ (4 ∷ 65535 ∷ []) ∷ [] }) 0 1 ≡ Some 1
+cost_of_a_pair = refl
+
+-- no steps lead to the start alone, some lead where the row says so
+at_start : stands_at (2 ∷ 1 ∷ []) 1 1 0 ≡ true
+at_start = refl
+
+not_at_start : stands_at (2 ∷ 1 ∷ []) 1 0 0 ≡ false
+not_at_start = refl
+
+two_steps : stands_at (2 ∷ 1 ∷ []) 1 0 2 ≡ true
+two_steps = refl
+
+-- the last step from the lower start comes first, whatever the steps before it
+lower_start : Ahead (step.Session 1 4 ∷ step.Session 3 1 ∷ []) (step.Session 2 4 ∷ step.Session 0 2 ∷ [])
+lower_start = inl refl
+
+-- and of two with one start the session step
+session_first : Ahead (step.Session 1 4 ∷ []) (step.Reads 1 4 (120 ∷ []) ∷ [])
+session_first = inl refl
+
+-- and of two reads that of the first key
+key_first : Ahead (step.Reads 1 4 (109 ∷ []) ∷ []) (step.Reads 1 4 (114 ∷ []) ∷ [])
+key_first = inl refl
