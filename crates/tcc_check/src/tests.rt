@@ -172,11 +172,12 @@ fn a_stale_read(rt: HostRuntime) {
 fn a_number_out_of_range(rt: HostRuntime) {
     let alloc = rt.alloc();
     let near: &[&[u32]] = &[&[1, 1], &[1, 1]];
+    let far: &[&[u32]] = &[&[1, 1], &[1, 1]];
     let links = vec![in alloc; Link::Session { from: 0, to: 2 }];
     let Ok(links) = links else {
         panic!(&rt; "no memory");
     };
-    let certificate = cycle(alloc, links, 1, near, near);
+    let certificate = cycle(alloc, links, 1, near, far);
     let one = "a,begin\na,commit\n";
     assert_verdict(&rt, alloc, one, certificate, rejected(1, 0, 0));
 }
@@ -198,13 +199,14 @@ fn crossed_links(rt: &impl Abort, alloc: Global) -> Result<Vec<Link>, NoMemory> 
 fn crossed_reads(rt: HostRuntime) {
     let alloc = rt.alloc();
     let records = "a,begin\na,w,x,1\na,r,y,1\na,commit\nb,begin\nb,w,y,1\nb,r,x,1\nb,commit\n";
-    let rows: &[&[u32]] = &[&[2, 1, 1], &[2, 2, 1], &[2, 1, 2]];
+    let near: &[&[u32]] = &[&[2, 1, 1], &[2, 2, 1], &[2, 1, 2]];
+    let far: &[&[u32]] = &[&[2, 1, 1], &[2, 2, 1], &[2, 1, 2]];
     let Ok(links) = crossed_links(&rt, alloc) else {
         panic!(&rt; "no memory");
     };
-    let good = cycle(alloc, links, 2, rows, rows);
+    let good = cycle(alloc, links, 2, near, far);
     assert_verdict(&rt, alloc, records, good, Verdict::Accepted);
-    let none = cycle(alloc, Vec::new(alloc), 2, rows, rows);
+    let none = cycle(alloc, Vec::new(alloc), 2, near, far);
     assert_verdict(&rt, alloc, records, none, rejected(2, 0, 0));
 }
 
