@@ -20,3 +20,4 @@ pub mod Entries
 pub mod Decisions
 pub mod CertifiedCycle
 pub mod CertifiedOrder
+pub mod Claims

@@ -76,6 +76,10 @@ abbrev pub IsVerdict : History → Certificate → Verdict → Type 0
 IsVerdict h (claim.Order order clocks) answer = IsOrderVerdict h (record { order = order; clocks = clocks }) answer
 IsVerdict h (claim.Cycle links least near far) answer = IsCycleVerdict h (record { links = links; least = least; near = near; far = far }) answer
 
+-- the certificate is rejected by this rule, at this place
+abbrev pub IsRejected : History → Certificate → ℕ → ℕ × ℕ → Type 0
+IsRejected h k rule at = IsVerdict h k (verdict.Rejected rule at)
+
 -- what the certificate claims is true
 abbrev pub IsTrueClaim : History → Certificate → Type 0
 IsTrueClaim h (claim.Order order clocks) = IsCommitOrder h order

@@ -6,7 +6,9 @@ ghost use Rattle.tcc_graph.specs.Routes.{IsLeastCycle};
 ghost use Rattle.tcc_graph.specs.Orders.{IsCommitOrder};
 ghost use Rattle.tcc_cert.specs.CycleRules.{CycleClaim};
 ghost use Rattle.tcc_cert.specs.OrderRules.{OrderClaim};
-ghost use Rattle.tcc_cert.specs.Rules.{CertifiesCycle, CertifiesOrder};
+ghost use Rattle.tcc_cert.specs.Rules.{CertifiesCycle, CertifiesOrder, Certifies};
+ghost use Rattle.tcc_cert.specs.declared.certificate.Certificate.{Certificate};
+ghost use Rattle.tcc_check.specs.Verdicts.{IsRejected, IsTrueClaim};
 
 /// The links of a certified cycle are a least cycle, and cost what is claimed.
 pub fn certified_cycle()
@@ -16,4 +18,14 @@ pub fn certified_cycle()
 /// A certified order is a commit order.
 pub fn certified_order()
     ensures { (h : History) (k : OrderClaim) → CertifiesOrder h k → IsCommitOrder h k.order }
+{}
+
+/// What a certificate claims is true where it keeps the rules.
+pub fn certified()
+    ensures { (h : History) (k : Certificate) → Certifies h k → IsTrueClaim h k }
+{}
+
+/// A certificate of which a rule is named as broken does not keep them all.
+pub fn rejected()
+    ensures { (h : History) (k : Certificate) (rule : ℕ) (at : ℕ × ℕ) → IsRejected h k rule at → Certifies h k → ⊥ }
 {}

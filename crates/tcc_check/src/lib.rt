@@ -15,3 +15,6 @@ mod weights;
 
 pub use judging::check;
 pub use verdict::Verdict;
+
+#[cfg(test)]
+mod tests;
