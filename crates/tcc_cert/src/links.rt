@@ -33,11 +33,4 @@ impl Links {
     {
         &self.links
     }
-
-    /// Gives the links back.
-    pub fn into_vec(self) -> Vec<Link>
-        ensures { result.items ≡ self }
-    {
-        self.links
-    }
 }

@@ -31,11 +31,4 @@ impl Numbers {
     {
         &self.numbers
     }
-
-    /// Gives the numbers back.
-    pub fn into_vec(self) -> Vec<u32>
-        ensures { result.items ≡ self }
-    {
-        self.numbers
-    }
 }

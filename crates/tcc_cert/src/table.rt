@@ -32,11 +32,4 @@ impl Table {
     {
         &self.rows
     }
-
-    /// Gives the rows back.
-    pub fn into_rows(self) -> Vec<Numbers>
-        ensures { result.items ≡ self }
-    {
-        self.rows
-    }
 }

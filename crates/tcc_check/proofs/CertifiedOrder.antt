@@ -10,7 +10,7 @@ use Rattle.tcc_graph.specs.declared.step.Step.{Step}
 use Rattle.tcc_cert.specs.Tables.{entry}
 use Rattle.tcc_cert.specs.OrderRules.{OrderClaim, MayReach}
 use Rattle.tcc_cert.specs.Rules.{CertifiesOrder}
-use Rattle.tcc_check.proofs.Pairs.{step_pair}
+use Rattle.tcc_graph.proofs.Pairs.{step_pair}
 use Rattle.tcc_check.proofs.Entries.{entry_past}
 use Rattle.tcc_check.proofs.Numbering.{order_of_two}
 

@@ -8,7 +8,7 @@ use Rattle.tcc_graph.specs.Keys.{writers}
 use Rattle.tcc_graph.specs.Links.{MayContradict}
 use Rattle.tcc_cert.specs.Tables.{entry}
 use Rattle.tcc_check.specs.Weights.{IsLowered, WriterWeighs, KeyWeighs, ContradictionWeighs}
-use Rattle.tcc_check.proofs.Causal.{reads_causal}
+use Rattle.tcc_graph.proofs.Pairs.{pair_from_reads}
 use Rattle.tcc_check.proofs.Writers.{listed_writer, writer_listed}
 use Rattle.tcc_check.proofs.Lowering.{lowered_none, lowered_as, lowered_then}
 
@@ -63,7 +63,7 @@ module _ (h : History) (table : List (List ℕ)) (v : ℕ) (old new : List ℕ) 
     where
       back : (u w : ℕ) → SeenReader i h table v u w ⊎ ((x : List ℕ) × MayContradict h u v x i × (w ≡ entry table u i)) → SeenReader i h table v u w
       back u w (inl s) = s
-      back u w (inr s) = absurd (both_ways _ none (reads_causal h v i s.0 s.1.1))
+      back u w (inr s) = absurd (both_ways _ none (pair_from_reads h v i s.0 s.1.1))
 
   pub reader_lowered : (i : ℕ) (newer : List ℕ) → v < count h → i < count h → IsLowered (SeenReader i h table v) old new → IsLowered (KeyWeighs h (reads_from h v i) table v i) new newer → IsLowered (SeenReader (i + 1) h table v) old newer
   reader_lowered i newer from below before more = lowered_as _ _ old newer to (λ u w s. back u w (reader_cases i u w s (cases_eq s.1 i))) (lowered_then _ _ old new newer before more)

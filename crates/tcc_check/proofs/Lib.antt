@@ -1,10 +1,8 @@
 pub mod Names
-pub mod Pairs
 pub mod Ends
 pub mod Numbering
 pub mod Lowering
 pub mod Seen
-pub mod Causal
 pub mod Writers
 pub mod Keyed
 pub mod Rows

@@ -10,7 +10,7 @@ use Rattle.tcc_cert.specs.Rules.{HoldsEverywhere}
 use Rattle.tcc_check.specs.Weights.{unlinked, ContradictionWeighs, IsLeastTable}
 use Rattle.tcc_check.specs.Places.{ArePlaces, IsKept, AreGaps, IsUnordered}
 use Rattle.tcc_check.proofs.Numbering.{one_place}
-use Rattle.tcc_check.proofs.Pairs.{pair_below}
+use Rattle.tcc_graph.proofs.Pairs.{pair_below}
 use Rattle.tcc_check.proofs.First.{first_as, nowhere_as}
 
 module _ (order places : List ℕ) (are : ArePlaces order places) where

@@ -10,7 +10,7 @@ use Rattle.tcc_graph.specs.Relations.{causal_pair}
 use Rattle.tcc_cert.specs.Tables.{entry, row_of, HasSize}
 use Rattle.tcc_check.specs.Weights.{unlinked, PairWeighs, ContradictionWeighs, IsLeastRow, IsLeastTable, IsLowered, AreLowered, AreStarts}
 use Rattle.tcc_check.specs.Searches.{starts_of, AreStartRows}
-use Rattle.tcc_check.proofs.Causal.{pair_kinds, kinds_pair}
+use Rattle.tcc_graph.proofs.Pairs.{pair_kinds, pair_from_kinds}
 
 -- the first starts are marked
 pub record IsPairRowTo (i : ℕ) (h : History) (v : ℕ) (row : List ℕ) : Type 0 where
@@ -53,7 +53,7 @@ pair_row_marked i h v row pair below w = record {
 
 pub pair_row_least : (i : ℕ) (h : History) (v : ℕ) (row : List ℕ) → count h ≤ i → IsPairRowTo i h v row → IsLeastRow (PairWeighs h v) row
 pair_row_least i h v row all w = record {
-  low = λ u z l p. omega (arith, w.low u (omega (arith, w.long)) (kinds_pair h u v p.0), p.1);
+  low = λ u z l p. omega (arith, w.low u (omega (arith, w.long)) (pair_from_kinds h u v p.0), p.1);
   from = λ u l. go u (w.from u l);
 }
   where

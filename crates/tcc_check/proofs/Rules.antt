@@ -8,7 +8,7 @@ use Rattle.tcc_cert.specs.CycleRules.{BreaksNearPair, BreaksNearStep, BreaksFarL
 use Rattle.tcc_cert.specs.Rules.{HoldsEverywhere}
 use Rattle.tcc_check.specs.Weights.{unlinked, PairWeighs, LinkWeighs, IsLeastTable, IsLongLink}
 use Rattle.tcc_check.specs.Searches.{AreStartRows, IsLongStartFrom, HoldsBelow, IsFirstBelow, IsShortReturn}
-use Rattle.tcc_check.proofs.Pairs.{pair_below}
+use Rattle.tcc_graph.proofs.Pairs.{pair_below}
 use Rattle.tcc_check.proofs.First.{first_as, nowhere_as}
 use Rattle.tcc_check.proofs.Bounds.{long_link, link_long, long_step, step_long}
 

@@ -6,18 +6,9 @@ use Rattle.tcc_reads.specs.History.{History, count, owner, place}
 use Rattle.tcc_graph.specs.Relations.{IsSessionPair}
 use Rattle.tcc_graph.specs.Links.{IsLink, link_from, link_to, link_cost, unfolding_of, cost}
 use Rattle.tcc_graph.specs.Routes.{LinksLead, IsRoute}
+use Rattle.tcc_graph.proofs.Pairs.{link_below}
 use Rattle.tcc_graph.specs.declared.link.Link.{Link}
 use Rattle.tcc_graph.specs.declared.link.Link.TheVariants as link
-
-session_below : (h : History) (a b : ℕ) → IsSessionPair h a b → (a < count h) × (b < count h)
-session_below h a b p =
-    let both = and_parts (nat_lt a (count h)) (nat_lt b (count h)) (and_parts (nat_lt a (count h) && nat_lt b (count h)) (((a == 0) && nat_lt 0 b) || (nat_lt 0 a && nat_lt 0 b && (owner h a == owner h b) && nat_lt (place h a) (place h b))) p).0 in
-    (ltb-true a (count h) both.0, ltb-true b (count h) both.1)
-
-pub link_below : (h : History) (l : Link) → IsLink h l → (link_from l < count h) × (link_to l < count h)
-link_below h (link.Session a b) p = session_below h a b p
-link_below h (link.Reads a b x) p = (p.0, p.1)
-link_below h (link.Derived b a x c walk) p = (p.0.2.0, p.0.1.0)
 
 -- a route starts at a transaction
 pub route_below : (h : History) (s v : ℕ) (links : List Link) → IsRoute h s v links → s < count h

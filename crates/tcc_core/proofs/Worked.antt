@@ -15,7 +15,8 @@ use Rattle.tcc_core.specs.Searches.{held, Settles}
 use Rattle.tcc_core.specs.Relaxing.{way_by, lesser}
 use Rattle.tcc_core.specs.Shares.{Share, Finished, Returned, Cut, IsNotAbove, IsStopped, IsFinished, IsCycleCost, starts_of, SettleAt, capped}
 use Rattle.tcc_core.specs.declared.settled.Settled.TheVariants as settled
-use Rattle.tcc_core.proofs.LinkLemmas.{link_below, cost_cons}
+use Rattle.tcc_core.proofs.LinkLemmas.{cost_cons}
+use Rattle.tcc_graph.proofs.Pairs.{link_below}
 
 -- ---- rows, caps and words
 

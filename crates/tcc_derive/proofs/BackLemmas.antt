@@ -11,7 +11,8 @@ use Rattle.tcc_graph.specs.declared.step.Step.{Step}
 use Rattle.tcc_near.specs.Distances.{IsShortest, IsNearOf, row_of}
 use Rattle.tcc_derive.specs.Backwards.{IsUpTo, IsLastStep, stands_at, LeadsBack, Ahead, IsLeft, IsTakenBack, IsFirstWalk}
 use Rattle.tcc_derive.proofs.PriceLemmas.{IsNearby, distance_cases, no_distance}
-use Rattle.tcc_derive.proofs.StepLemmas.{step_itself, step_below}
+use Rattle.tcc_derive.proofs.StepLemmas.{step_itself}
+use Rattle.tcc_graph.proofs.Pairs.{step_below}
 
 module _ (h : History) where
   back_join : (b m v : ℕ) (ss ts : List Step) → LeadsBack h m v ss → LeadsBack h b m ts → LeadsBack h b v (ss ++ ts)

@@ -17,7 +17,7 @@ use Rattle.tcc_reads.specs.History.{History, count}
 use Rattle.tcc_graph.specs.Relations.{reads_from, IsReadsPair}
 use Rattle.tcc_graph.specs.Keys.{has_name, keys, numbers, writers, readers}
 use Rattle.tcc_graph.specs.Links.{MayContradict}
-use Rattle.tcc_graph.specs.Ties.{name_cmp}
+use Rattle.tcc_reads.specs.Sources.{name_cmp}
 use Rattle.tcc_derive.specs.Choices.{IsNearest, IsNearestReader, IsChoice}
 use Rattle.tcc_derive.proofs.BucketLemmas.{Contains-taken, Contains-still, Contains-last}
 use Rattle.tcc_derive.proofs.KeyLemmas.{read_place, read_is_key, numbers_below, number_in, Contains-filter, writer_writes, writer_in}

@@ -10,7 +10,7 @@ use Rattle.tcc_near.specs.Distances.{least_in}
 use Rattle.tcc_derive.specs.Prices.{IsDerived, IsLinkOf, IsPrice, IsCost}
 use Rattle.tcc_derive.specs.Lowering.{HasPairs}
 use Rattle.tcc_derive.specs.Rows.{IsPriceRow, IsCostRow}
-use Rattle.tcc_derive.proofs.Pairs.{pair_kinds, pair_from_session, pair_from_reads}
+use Rattle.tcc_graph.proofs.Pairs.{pair_kinds, pair_from_session, pair_from_reads}
 use Rattle.tcc_derive.proofs.PriceLemmas.{derived_cost}
 
 some_cost : (l : Link) → 1 ≤ link_cost l

@@ -5,7 +5,6 @@ pub mod CostLemmas
 pub mod Given
 pub mod KeyLemmas
 pub mod LoweringLemmas
-pub mod Pairs
 pub mod PriceLemmas
 pub mod ReasonLemmas
 pub mod StepLemmas

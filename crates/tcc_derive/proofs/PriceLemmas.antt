@@ -12,7 +12,7 @@ use Rattle.tcc_graph.specs.declared.step.Step.{Step}
 use Rattle.tcc_graph.specs.declared.step.Step.TheVariants as step
 use Rattle.tcc_graph.specs.declared.link.Link.{Link}
 use Rattle.tcc_graph.specs.declared.link.Link.TheVariants as link
-use Rattle.tcc_near.specs.Distances.{IsShortest, IsDistance, IsNearOf, row_of, least_in}
+use Rattle.tcc_near.specs.Distances.{IsShortest, IsWalkDistance, IsNearOf, row_of, least_in}
 use Rattle.tcc_derive.specs.Prices.{IsDerived, IsPrice}
 use Rattle.tcc_derive.specs.Buckets.{bucket}
 use Rattle.tcc_derive.specs.KeyTables.{IsReadsOf, IsWritesOf}
@@ -35,7 +35,7 @@ pub distance_cases : (h : History) (near : List (List ℕ)) (b c : ℕ) → IsNe
     → (IsReached h b c → ⊥) ⊎ IsNearby h b c (get_or (row_of near b) c 0)
 distance_cases h near b c nears from to = go (get_or (row_of near b) c 0 == 65535) (nears.exact b c from to) (λ n. nears.short b c n from to)
   where
-    go : (t : Bool) → IsDistance h b c (if t then None else Some (get_or (row_of near b) c 0)) → ((n : ℕ) → (if t then None else Some (get_or (row_of near b) c 0)) ≡ Some n → n ≤ count h)
+    go : (t : Bool) → IsWalkDistance h b c (if t then None else Some (get_or (row_of near b) c 0)) → ((n : ℕ) → (if t then None else Some (get_or (row_of near b) c 0)) ≡ Some n → n ≤ count h)
         → (IsReached h b c → ⊥) ⊎ IsNearby h b c (get_or (row_of near b) c 0)
     go true d s = inl d
     go false d s = inr (record { shortest = d; few = s _ refl })
@@ -43,14 +43,14 @@ distance_cases h near b c nears from to = go (get_or (row_of near b) c 0 == 6553
 pub no_distance : (h : History) (near : List (List ℕ)) (b c : ℕ) → IsNearOf h near → b < count h → c < count h → (IsReached h b c → ⊥) → get_or (row_of near b) c 0 ≡ 65535
 no_distance h near b c nears from to none = go (get_or (row_of near b) c 0 == 65535) refl (nears.exact b c from to)
   where
-    go : (t : Bool) → (get_or (row_of near b) c 0 == 65535) ≡ t → IsDistance h b c (if t then None else Some (get_or (row_of near b) c 0)) → get_or (row_of near b) c 0 ≡ 65535
+    go : (t : Bool) → (get_or (row_of near b) c 0 == 65535) ≡ t → IsWalkDistance h b c (if t then None else Some (get_or (row_of near b) c 0)) → get_or (row_of near b) c 0 ≡ 65535
     go true e d = eqb-true (get_or (row_of near b) c 0) 65535 e
     go false e d = absurd (none (d.attained.0, d.attained.1))
 
 pub out_of_reach : (h : History) (near : List (List ℕ)) (b c : ℕ) → IsNearOf h near → b < count h → c < count h → get_or (row_of near b) c 0 ≡ 65535 → IsReached h b c → ⊥
 out_of_reach h near b c nears from to none = go (nears.exact b c from to)
   where
-    go : IsDistance h b c (least_in (row_of near b) c) → IsReached h b c → ⊥
+    go : IsWalkDistance h b c (least_in (row_of near b) c) → IsReached h b c → ⊥
     go d = rw none at d
 
 module _ (h : History) (near : List (List ℕ)) (reads : List (List Read)) (written : List (List ℕ)) (b : ℕ) (row : List ℕ)

@@ -8,7 +8,8 @@ use Rattle.std.proofs.lemmas.Map.Lookups.{exact_bytes}
 use Rattle.tcc_reads.specs.History.{History, count}
 use Rattle.tcc_graph.specs.Walks.{IsWalk, IsReached}
 use Rattle.tcc_graph.specs.Links.{MayContradict, link_cost}
-use Rattle.tcc_graph.specs.Ties.{name_cmp, walk_cmp, link_cmp}
+use Rattle.tcc_graph.specs.Ties.{walk_cmp, link_cmp}
+use Rattle.tcc_reads.specs.Sources.{name_cmp}
 use Rattle.tcc_graph.specs.declared.step.Step.{Step}
 use Rattle.tcc_graph.specs.declared.link.Link.{Link}
 use Rattle.tcc_graph.specs.declared.link.Link.TheVariants as link

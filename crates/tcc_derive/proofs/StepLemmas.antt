@@ -12,7 +12,8 @@ use Rattle.std.proofs.lemmas.Map.Lookups.{exact_bytes}
 use Rattle.tcc_reads.specs.History.{History, count, owner, place}
 use Rattle.tcc_graph.specs.Relations.{session_pair, IsSessionPair, reads_from, IsReadsPair}
 use Rattle.tcc_graph.specs.Walks.{step_from, step_to, IsStep}
-use Rattle.tcc_graph.specs.Ties.{name_cmp, step_kind, step_key, step_cmp}
+use Rattle.tcc_graph.specs.Ties.{step_kind, step_key, step_cmp}
+use Rattle.tcc_reads.specs.Sources.{name_cmp}
 use Rattle.tcc_graph.specs.declared.step.Step.{Step}
 use Rattle.tcc_graph.specs.declared.step.Step.TheVariants as step
 use Rattle.tcc_derive.specs.Backwards.{IsFirstName, IsUpTo, IsFirstStep}
@@ -22,17 +23,6 @@ step_total = then_total (on_total step_from nat_cmp_total) (then_total (on_total
 
 pub step_itself : (s : Step) → step_cmp s s ≡ Equal
 step_itself s = tied_itself step_total s
-
-pub session_below : (h : History) (a b : ℕ) → IsSessionPair h a b → (a < count h) × (b < count h)
-session_below h a b p =
-    let both = and_parts (nat_lt a (count h) && nat_lt b (count h))
-    (((a == 0) && nat_lt 0 b) || (nat_lt 0 a && nat_lt 0 b && (owner h a == owner h b) && nat_lt (place h a) (place h b))) p in
-    let bounds = and_parts (nat_lt a (count h)) (nat_lt b (count h)) both.0 in
-    (ltb-true a (count h) bounds.0, ltb-true b (count h) bounds.1)
-
-pub step_below : (h : History) (s : Step) → IsStep h s → (step_from s < count h) × (step_to s < count h)
-step_below h (step.Session a b) p = session_below h a b p
-step_below h (step.Reads a b x) p = (p.0, p.1)
 
 -- a session step comes before every other
 pub session_step : (h : History) (u v : ℕ) → IsSessionPair h u v → IsFirstStep h u v (step.Session u v)

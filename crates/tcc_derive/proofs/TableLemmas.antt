@@ -13,7 +13,7 @@ use Rattle.tcc_derive.specs.Buckets.{bucket, Puts}
 use Rattle.tcc_derive.specs.KeyTables.{HasReads, IsReadsOf, HasWrites, IsWritesOf}
 use Rattle.tcc_derive.specs.Lowering.{HaveReads}
 use Rattle.tcc_derive.specs.declared.read.Read.{Read}
-use Rattle.tcc_derive.proofs.Pairs.{pair_from_reads}
+use Rattle.tcc_graph.proofs.Pairs.{pair_from_reads}
 use Rattle.tcc_derive.proofs.KeyLemmas.{key_at, writer_writes, writer_in}
 
 -- two names at one place

@@ -4,7 +4,8 @@ use Rattle.std.specs.Ordering.{is_lt}
 use Rattle.std.specs.declared.cmp.Ordering.TheVariants.{Less, Greater}
 use Rattle.tcc_reads.specs.History.{History}
 use Rattle.tcc_graph.specs.Walks.{step_from, step_to, IsStep, IsWalk}
-use Rattle.tcc_graph.specs.Ties.{name_cmp, step_cmp, walk_cmp}
+use Rattle.tcc_graph.specs.Ties.{step_cmp, walk_cmp}
+use Rattle.tcc_reads.specs.Sources.{name_cmp}
 use Rattle.tcc_near.specs.Distances.{IsShortest}
 use Rattle.tcc_graph.specs.declared.step.Step.{Step}
 

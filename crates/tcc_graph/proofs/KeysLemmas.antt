@@ -11,14 +11,12 @@ use Rattle.std.proofs.lemmas.Bool.{or_parts, cases_lt}
 use Rattle.std.proofs.lemmas.Map.Lookups.{exact_bytes}
 use Rattle.std.proofs.lemmas.List.{get_or_past, get_or_default}
 use Rattle.std.proofs.lemmas.List.Folds.{list_any-append, list_any_none, list_any-from_Any}
+use Rattle.tcc_reads.specs.Sources.{name_cmp}
 use Rattle.tcc_reads.specs.History.{Entry, History, entry_at, initial}
 use Rattle.tcc_graph.specs.Relations.{reads_from}
 use Rattle.tcc_graph.specs.Keys.{has_name, with_names, keys_of, keys, is_key, readers, numbers}
 use Rattle.tcc_graph.specs.KeyRows.{IsAbsent, StandsAt, name_of}
 use Rattle.tcc_graph.proofs.NameLemmas.{bytes_eq-same, bytes_eq-other}
-
-abbrev name_cmp : List ℕ → List ℕ → Ordering
-name_cmp = slice_cmp nat_cmp
 
 or_again : (a : Bool) (b : Bool) → (a || b) ≡ (a || (a || b))
 or_again true b = refl

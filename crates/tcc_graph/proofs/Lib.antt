@@ -6,5 +6,6 @@ pub mod KeysLemmas
 pub mod LastLemmas
 pub mod MarkLemmas
 pub mod NameLemmas
+pub mod Pairs
 pub mod TableLemmas
 pub mod Worked

@@ -16,11 +16,9 @@ use Rattle.std.proofs.lemmas.Map.Lookups.{exact_bytes}
 use Rattle.std.proofs.lemmas.List.{take_more}
 use Rattle.std.proofs.lemmas.List.Folds.{list_any-append}
 use Rattle.std.proofs.lemmas.List.Sorted.{searchable_from_sorted}
+use Rattle.tcc_reads.specs.Sources.{name_cmp}
 use Rattle.tcc_graph.specs.Keys.{has_name}
 use Rattle.tcc_graph.specs.KeyRows.{IsAbsent, StandsAt, name_of}
-
-abbrev name_cmp : List ℕ → List ℕ → Ordering
-name_cmp = slice_cmp nat_cmp
 
 pub bytes_eq-true : (x : List ℕ) (y : List ℕ) → bytes_eq x y ≡ true → x ≡ y
 bytes_eq-true x y = (bytes_eq-Decides x y).0

@@ -7,7 +7,7 @@ use Rattle.std.proofs.lemmas.List.Folds.{sum_by-replicate}
 use Rattle.tcc_reads.specs.History.{History, count}
 use Rattle.tcc_graph.specs.Relations.{causal_pair}
 use Rattle.tcc_graph.specs.Walks.{IsReached}
-use Rattle.tcc_near.specs.Distances.{IsShortest, IsDistance, IsNearOf, least_in, no_walk}
+use Rattle.tcc_near.specs.Distances.{IsShortest, IsWalkDistance, IsNearOf, least_in, no_walk}
 use Rattle.tcc_near.specs.Levels.{is_marked, marks_of, IsPairTable, IsWithin, IsMarked, IsDistanceWithin, IsSearched, IsRow, IsSpread, numbered, unnumbered}
 use Rattle.tcc_near.proofs.Walks.{within_more, within_one, within_one_from, within_pair, IsStepAfter, last_step, within_closed, within_below, shortest_at}
 
@@ -135,7 +135,7 @@ row_done h a n row searched few near = record {
   short = λ b d below is. short b d below is (read row b);
 }
   where
-    go : (b : ℕ) → b < count h → Read row b → IsDistance h a b (least_in row b)
+    go : (b : ℕ) → b < count h → Read row b → IsWalkDistance h a b (least_in row b)
     go b below (inl r) = rw r.1 (λ reached. further h a n row b searched below r.0 (near b reached))
     go b below (inr r) = rw r.1 ((known h a n row b searched below r.0).1)
 

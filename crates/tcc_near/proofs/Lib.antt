@@ -1,4 +1,3 @@
-pub mod PairLemmas
 pub mod Walks
 pub mod LevelLemmas
 pub mod RowLemmas

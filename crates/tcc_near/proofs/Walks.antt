@@ -7,7 +7,7 @@ use Rattle.tcc_graph.specs.Walks.{step_from, step_to, IsStep, Leads, IsWalk}
 use Rattle.tcc_graph.specs.declared.step.Step.{Step}
 use Rattle.tcc_near.specs.Distances.{IsShortest}
 use Rattle.tcc_near.specs.Levels.{IsWithin}
-use Rattle.tcc_near.proofs.PairLemmas.{step_from_pair, pair_from_step, pair_below}
+use Rattle.tcc_graph.proofs.Pairs.{pair_kinds, step_from_pair, pair_from_step, pair_below}
 
 -- all steps but the last lead to some u, from which the last step goes
 abbrev Split : History → ℕ → ℕ → ℕ → Type 0
@@ -80,7 +80,7 @@ pub within_below : (h : History) (a n b : ℕ) → IsWithin h a n b → b < coun
 within_below h a n b ([], w, l) = absurd (omega (arith, w.0))
 within_below h a n b (s ∷ steps, w, l) =
     let split = split_last h a b s steps w.1 in
-    (pair_below h split.0 b split.3).1
+    (pair_below h split.0 b (pair_kinds h split.0 b split.3)).1
 
 -- what is within n steps and not within fewer is n steps away
 pub shortest_at : (h : History) (a n b : ℕ) → (IsWithin h a n b → ⊥) → IsWithin h a (n + 1) b → IsShortest h a b (n + 1)

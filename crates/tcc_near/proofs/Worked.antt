@@ -9,7 +9,7 @@ use Rattle.tcc_graph.specs.declared.step.Step.{Step}
 use Rattle.tcc_graph.specs.declared.step.Step.TheVariants as step
 use Rattle.tcc_near.specs.Distances.{IsShortest}
 use Rattle.tcc_near.specs.Clocks.{IsBehind, IsLast}
-use Rattle.tcc_near.proofs.PairLemmas.{pair_from_step, pair_below}
+use Rattle.tcc_graph.proofs.Pairs.{pair_kinds, pair_from_step, pair_below}
 
 abbrev x : List ℕ
 x = codes "x"
@@ -42,7 +42,7 @@ nothing_from_last : (b : ℕ) → causal_pair stale_read 2 b ≡ true → ⊥
 nothing_from_last zero p = false≢true p
 nothing_from_last (suc zero) p = false≢true p
 nothing_from_last (suc (suc zero)) p = false≢true p
-nothing_from_last (suc (suc (suc b))) p = let below = pair_below stale_read 2 (suc (suc (suc b))) p in omega (arith, below.1)
+nothing_from_last (suc (suc (suc b))) p = let below = pair_below stale_read 2 (suc (suc (suc b))) (pair_kinds stale_read 2 (suc (suc (suc b))) p) in omega (arith, below.1)
 
 stale_read-back : IsReached stale_read 2 1 → ⊥
 stale_read-back ([], w) = absurd (omega (arith, w.0))
@@ -61,7 +61,7 @@ nothing_between (suc zero) p q = false≢true p
 nothing_between (suc (suc zero)) p q = false≢true q
 nothing_between (suc (suc (suc zero))) p q = false≢true p
 nothing_between (suc (suc (suc (suc zero)))) p q = false≢true p
-nothing_between (suc (suc (suc (suc (suc m))))) p q = let below = pair_below chain 1 (suc (suc (suc (suc (suc m))))) p in omega (arith, below.1)
+nothing_between (suc (suc (suc (suc (suc m))))) p q = let below = pair_below chain 1 (suc (suc (suc (suc (suc m))))) (pair_kinds chain 1 (suc (suc (suc (suc (suc m))))) p) in omega (arith, below.1)
 
 -- two reads and a session step
 chain-onwards : IsShortest chain 1 4 3
@@ -129,7 +129,7 @@ fork-init = record { attained = inl refl; greatest = λ b behind. absurd (not_re
     into_init (suc (suc zero)) p = false≢true p
     into_init (suc (suc (suc zero))) p = false≢true p
     into_init (suc (suc (suc (suc zero)))) p = false≢true p
-    into_init (suc (suc (suc (suc (suc b))))) p = let below = pair_below fork (suc (suc (suc (suc (suc b))))) 0 p in omega (arith, below.0)
+    into_init (suc (suc (suc (suc (suc b))))) p = let below = pair_below fork (suc (suc (suc (suc (suc b))))) 0 (pair_kinds fork (suc (suc (suc (suc (suc b))))) 0 p) in omega (arith, below.0)
 
     leads : (b : ℕ) (s : Step) (steps : List Step) → Leads fork b 0 (s ∷ steps) → ⊥
     leads b s [] w = into_init b (subst (λ (u : ℕ). causal_pair fork b u ≡ true) w.2 (first_pair fork b 0 s [] w))

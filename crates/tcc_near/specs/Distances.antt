@@ -10,9 +10,9 @@ pub record IsShortest (h : History) (a : ℕ) (b : ℕ) (n : ℕ) : Type 0 where
   pub least : (walk : List Step) → IsWalk h a b walk → n ≤ length walk
 
 -- the least number of steps of a causal walk from a to b; none where no walk leads there
-abbrev pub IsDistance : History → ℕ → ℕ → Option ℕ → Type 0
-IsDistance h a b None = IsReached h a b → ⊥
-IsDistance h a b (Some n) = IsShortest h a b n
+abbrev pub IsWalkDistance : History → ℕ → ℕ → Option ℕ → Type 0
+IsWalkDistance h a b None = IsReached h a b → ⊥
+IsWalkDistance h a b (Some n) = IsShortest h a b n
 
 -- what a table has where there is no walk
 abbrev pub no_walk : ℕ
@@ -38,6 +38,6 @@ pub record IsSquare (n : ℕ) (table : List (List ℕ)) : Type 0 where
 -- the table has the distance from each transaction to each, itself among them
 pub record IsNearOf (h : History) (table : List (List ℕ)) : Type 0 where
   pub square : IsSquare (count h) table
-  pub exact : (a : ℕ) (b : ℕ) → a < count h → b < count h → IsDistance h a b (least table a b)
+  pub exact : (a : ℕ) (b : ℕ) → a < count h → b < count h → IsWalkDistance h a b (least table a b)
   -- no shortest walk visits a transaction twice, but for its start at its end
   pub short : (a : ℕ) (b : ℕ) (n : ℕ) → a < count h → b < count h → least table a b ≡ Some n → n ≤ count h

@@ -4,7 +4,7 @@ use Rattle.tcc_reads.specs.History.{History, count}
 use Rattle.tcc_graph.specs.Relations.{causal_pair}
 use Rattle.tcc_graph.specs.Walks.{IsWalk}
 use Rattle.tcc_graph.specs.declared.step.Step.{Step}
-use Rattle.tcc_near.specs.Distances.{IsShortest, IsDistance, least_in, no_walk}
+use Rattle.tcc_near.specs.Distances.{IsShortest, IsWalkDistance, least_in, no_walk}
 
 -- whether a number is marked
 abbrev pub is_marked : List Bool → ℕ → Bool
@@ -42,7 +42,7 @@ pub record IsSearched (h : History) (a : ℕ) (n : ℕ) (row : List ℕ) : Type 
 -- the row has each distance
 pub record IsRow (h : History) (a : ℕ) (row : List ℕ) : Type 0 where
   pub long : length row ≡ count h
-  pub exact : (b : ℕ) → b < count h → IsDistance h a b (least_in row b)
+  pub exact : (b : ℕ) → b < count h → IsWalkDistance h a b (least_in row b)
   pub short : (b : ℕ) (n : ℕ) → b < count h → least_in row b ≡ Some n → n ≤ count h
 
 -- b is marked, or marked by one of the first n numbers that have the distance

@@ -9,6 +9,7 @@ use Rattle.tcc_graph.specs.Routes.{LinksLead, IsRoute, HasCycle}
 use Rattle.tcc_graph.specs.declared.link.Link.{Link}
 use Rattle.tcc_graph.specs.declared.link.Link.TheVariants as link
 use Rattle.tcc_derive.specs.Prices.{IsLinkOf}
+use Rattle.tcc_graph.proofs.Pairs.{link_below}
 use Rattle.tcc_order.specs.Numbering.{IsOrderOf, IsFirstOf, Joins, HasCircle}
 use Rattle.tcc_order.proofs.Greedy.{IsBelow}
 
@@ -21,16 +22,6 @@ abbrev pub IsPrecedence : History → (ℕ → ℕ → Bool) → Type 0
 IsPrecedence h precedes = (a b : ℕ) → (precedes a b ≡ true) ↔ IsLinked h a b
 
 -- ---- the ends of a link
-
-pub session_below : (h : History) (a b : ℕ) → IsSessionPair h a b → (a < count h) × (b < count h)
-session_below h a b p =
-    let both = and_parts (nat_lt a (count h)) (nat_lt b (count h)) (and_parts (nat_lt a (count h) && nat_lt b (count h)) (((a == 0) && nat_lt 0 b) || (nat_lt 0 a && nat_lt 0 b && (owner h a == owner h b) && nat_lt (place h a) (place h b))) p).0 in
-    (ltb-true a (count h) both.0, ltb-true b (count h) both.1)
-
-link_below : (h : History) (l : Link) → IsLink h l → (link_from l < count h) × (link_to l < count h)
-link_below h (link.Session a b) p = session_below h a b p
-link_below h (link.Reads a b x) p = (p.0, p.1)
-link_below h (link.Derived b a x c walk) p = (p.0.2.0, p.0.1.0)
 
 pub linked_below : (h : History) (a b : ℕ) → IsLinked h a b → (a < count h) × (b < count h)
 linked_below h a b w = rw (← w.1.from, ← w.1.to) (link_below h w.0 w.1.link)

@@ -11,7 +11,8 @@ use Rattle.tcc_graph.specs.declared.step.Step.{Step}
 use Rattle.tcc_graph.specs.declared.link.Link.{Link}
 use Rattle.tcc_graph.specs.declared.link.Link.TheVariants as link
 use Rattle.tcc_order.proofs.Kept.{IsLinked, IsPrecedence, has_link}
-use Rattle.tcc_order.proofs.Reached.{pair_kinds, pair_from_session, pair_from_reads, reaches, walk_of_reaches, reaches_of_walk}
+use Rattle.tcc_graph.proofs.Pairs.{pair_kinds, pair_from_session, pair_from_reads}
+use Rattle.tcc_order.proofs.Reached.{reaches, walk_of_reaches, reaches_of_walk}
 
 -- some number below a count passes a test
 pub any_below : (ℕ → Bool) → ℕ → Bool

@@ -14,7 +14,8 @@ use Rattle.tcc_reads.specs.declared.judging.Judgement.TheVariants.{Faulty, Reads
 use Rattle.tcc_reads.specs.Sites.{Stand, Site, at, sites_from, sites_of, sites}
 use Rattle.tcc_reads.specs.Numbers.{Numbered, next_number, numbered_from}
 use Rattle.tcc_reads.specs.Sources.{visible_write}
-use Rattle.tcc_reads.specs.Faults.{op_key, op_value, puts, writer, is_last_at_key, is_same_transaction, is_same_site, write_kind, external_kind, read_kind, kind_at, fault_at}
+use Rattle.tcc_reads.specs.Faults.{puts, writer, is_last_at_key, is_same_transaction, is_same_site, write_kind, external_kind, read_kind, kind_at, fault_at}
+use Rattle.tcc_txn.specs.Transactions.{op_key, op_value}
 use Rattle.tcc_reads.specs.Verdicts.{writer_at, first_in, first_writer, is_in, write_judgement, judgement_from, read_judgement, own_judgement, site_judgement, fault_in, fault_found, faults_found}
 
 -- the table's record of a write is right

@@ -3,6 +3,7 @@ use Rattle.std.specs.Prelude.{ℕ, Bool, false, not, ◌&&◌, ◌==◌, if◌th
 use Rattle.std.specs.List.{list_any}
 use Rattle.std.specs.Str.{bytes_eq}
 use Rattle.tcc_txn.specs.Snapshots.{Sessions}
+use Rattle.tcc_txn.specs.Transactions.{op_key, op_value}
 use Rattle.tcc_txn.specs.declared.op.Op.{Op}
 use Rattle.tcc_txn.specs.declared.op.Op.TheVariants.{Get, Put}
 use Rattle.tcc_reads.specs.declared.fault.ReadFault.{ReadFault}
@@ -10,14 +11,6 @@ use Rattle.tcc_reads.specs.declared.fault.ReadFaultKind.{ReadFaultKind}
 use Rattle.tcc_reads.specs.declared.fault.ReadFaultKind.TheVariants.{Duplicate, BrokenInternal, ThinAir, Aborted, Intermediate, Future}
 use Rattle.tcc_reads.specs.Sites.{Stand, stands, Site, at, sites}
 use Rattle.tcc_reads.specs.Sources.{puts_at, visible_write}
-
-abbrev pub op_key : Op → List ℕ
-op_key (Get key value) = key
-op_key (Put key value) = key
-
-abbrev pub op_value : Op → ℕ
-op_value (Get key value) = value
-op_value (Put key value) = value
 
 -- whether an operation writes this value at this key
 abbrev pub puts : List ℕ → ℕ → Op → Bool

@@ -18,7 +18,8 @@ use Rattle.tcc_reads.specs.History.{Entry}
 use Rattle.tcc_reads.specs.Sites.{Stand, Site, at, sites_of}
 use Rattle.tcc_reads.specs.Numbers.{Numbered}
 use Rattle.tcc_reads.specs.Sources.{puts_at, visible_write, pair_cmp, sorted_once, writes_of}
-use Rattle.tcc_reads.specs.Faults.{op_key, op_value, puts}
+use Rattle.tcc_reads.specs.Faults.{puts}
+use Rattle.tcc_txn.specs.Transactions.{op_key, op_value}
 
 -- what the table keeps of a write at this place of its transaction
 abbrev pub write_at : Numbered → ℕ → Bool → Writer

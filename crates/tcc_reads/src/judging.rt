@@ -4,7 +4,7 @@ ghost use Rattle.std.specs.HashMap as hash;
 ghost use Rattle.std.specs.Option.{option_copied};
 ghost use Rattle.std.specs.Str.{bytes_eq};
 ghost use Rattle.tcc_txn.specs.declared.op.Op.{Op};
-ghost use Rattle.tcc_reads.specs.Faults.{op_key, op_value};
+ghost use Rattle.tcc_txn.specs.Transactions.{op_key, op_value};
 ghost use Rattle.tcc_reads.specs.Verdicts.{held, is_in, write_judgement, read_judgement, op_judgement, fault_in, source_in, IsOwn, AreOwnIn, AreVisibleWrites, faults_found, sources_found};
 
 use crate::standing::Standing;
@@ -113,24 +113,6 @@ fn judgement_of(
     }
 }
 
-fn key_of(op: &Op) -> Name
-    ensures { result ≡ op_key op.now }
-{
-    match op {
-        Op::Get { key, .. } => *key,
-        Op::Put { key, .. } => *key,
-    }
-}
-
-fn value_of(op: &Op) -> u64
-    ensures { result ≡ op_value op.now }
-{
-    match op {
-        Op::Get { value, .. } => *value,
-        Op::Put { value, .. } => *value,
-    }
-}
-
 /// Adds what was found out about an operation at a place of its transaction, from 1.
 fn note(
     standing: &Standing<'_>,
@@ -149,15 +131,15 @@ fn note(
                 session: standing.name,
                 place: u32::from(standing.place),
                 op: u32::from(place),
-                key: key_of(op),
-                value: value_of(op),
+                key: op.key(),
+                value: op.value(),
                 kind,
             };
             faults.push(fault)?;
             Ok(())
         }
         Judgement::ReadsFrom(source) => {
-            reads.push((key_of(op), source))?;
+            reads.push((op.key(), source))?;
             Ok(())
         }
         Judgement::Silent => Ok(()),

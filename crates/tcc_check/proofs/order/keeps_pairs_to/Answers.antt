@@ -2,8 +2,8 @@ use Rattle.std.proofs.Common.{below_more, arith, refl, sym, ◌∙◌}
 use Rattle.std.proofs.lemmas.Bool.{false≢true, iff_false, both_ways}
 use Rattle.tcc_graph.specs.Relations.{IsCausalPair, causal_pair}
 use Rattle.tcc_check.specs.Places.{IsKept}
-use Rattle.tcc_check.proofs.Causal.{pair_kinds, kinds_pair}
-use Rattle.tcc_check.proofs.Pairs.{pair_below}
+use Rattle.tcc_graph.proofs.Pairs.{pair_kinds, pair_from_kinds}
+use Rattle.tcc_graph.proofs.Pairs.{pair_below}
 use Rattle.tcc_check.proofs.order.keeps_pairs_to.Goals as goal
 use Rattle.tcc_check.proofs.order.keeps_pairs_to.Goals.{else-causal-via-then-causal+else-not-is_kept, else-causal-via-else-causal}
 
@@ -17,7 +17,7 @@ loop-b-preserved c =
     below_more (λ b. IsCausalPair h b c.args.c → IsKept h c.args.places.now c.args.clocks.now b c.args.c) c.loop-b.b c.loop-b.invariant
     (elim c.else-causal.branch [
       | else-causal-via-then-causal+else-not-is_kept w ↦ (λ p. w.is_kept.ensures.0 w.if-not-is_kept.false)
-      | else-causal-via-else-causal w ↦ (λ p. absurd (both_ways (causal_pair h c.loop-b.b c.args.c) (sym c.causal.ensures ∙ w.if-causal.false) (kinds_pair h c.loop-b.b c.args.c p)))
+      | else-causal-via-else-causal w ↦ (λ p. absurd (both_ways (causal_pair h c.loop-b.b c.args.c) (sym c.causal.ensures ∙ w.if-causal.false) (pair_from_kinds h c.loop-b.b c.args.c p)))
     ])
 
 pub returns : goal.returns

@@ -3,7 +3,7 @@ use Rattle.tcc_graph.specs.Walks.{step_from}
 use Rattle.tcc_near.specs.Distances.{row_of}
 use Rattle.tcc_derive.specs.Backwards.{IsLeft, IsTakenBack}
 use Rattle.tcc_derive.proofs.BackLemmas.{never_stuck, taken_more, left_of, at_end, walk_of}
-use Rattle.tcc_derive.proofs.StepLemmas.{step_below}
+use Rattle.tcc_graph.proofs.Pairs.{step_below}
 use Rattle.tcc_derive.proofs.walking.first_walk.Goals as goal
 
 pub unreachable-requires : goal.unreachable-requires

@@ -1,0 +1,80 @@
+-- Causal pairs, by their test and by their kinds; steps and links, and where they end.
+use Rattle.std.proofs.Common.{◌≡◌, ◌<◌, ◌==◌, ℕ, true, ◌&&◌, ◌||◌, ◌⊎◌, inl, inr, List, [], ◌∷◌, refl, arith, nat_lt}
+use Rattle.std.specs.List.{Contains}
+use Rattle.std.proofs.lemmas.Bool.{or_cases, and_parts, and_from, or_left, or_right, ltb-true, lt-ltb, false≢true}
+use Rattle.tcc_reads.specs.History.{History, count, owner, place}
+use Rattle.tcc_graph.specs.Relations.{session_pair, IsSessionPair, reads_from, IsReadsPair, has_items, causal_pair, IsCausalPair}
+use Rattle.tcc_graph.specs.Walks.{step_from, step_to, IsStep}
+use Rattle.tcc_graph.specs.Links.{IsLink, link_from, link_to}
+use Rattle.tcc_graph.specs.declared.step.Step.{Step}
+use Rattle.tcc_graph.specs.declared.step.Step.TheVariants as step
+use Rattle.tcc_graph.specs.declared.link.Link.{Link}
+use Rattle.tcc_graph.specs.declared.link.Link.TheVariants as link
+
+-- the first of some items
+first_item : {X : Type 0} (xs : List X) → has_items xs ≡ true → (x : X) × Contains xs x
+first_item [] h = absurd (false≢true h)
+first_item (x ∷ xs) h = (x, (0, omega arith, refl))
+
+some_items : {X : Type 0} (xs : List X) (x : X) → Contains xs x → has_items xs ≡ true
+some_items [] x (k, l, e) = absurd (omega arith)
+some_items (y ∷ xs) x h = refl
+
+-- what passes the test is a pair of one kind or the other
+pub pair_kinds : (h : History) (a b : ℕ) → causal_pair h a b ≡ true → IsCausalPair h a b
+pair_kinds h a b p = go (or_cases (session_pair h a b) (nat_lt a (count h) && nat_lt b (count h) && has_items (reads_from h a b)) p)
+  where
+    reads : ((nat_lt a (count h) && nat_lt b (count h)) ≡ true) × (has_items (reads_from h a b) ≡ true) → IsCausalPair h a b
+    reads w =
+        let bounds = and_parts (nat_lt a (count h)) (nat_lt b (count h)) w.0 in
+        let first = first_item (reads_from h a b) w.1 in
+        inr (first.0, (ltb-true a (count h) bounds.0, ltb-true b (count h) bounds.1, first.1))
+
+    go : (session_pair h a b ≡ true) ⊎ ((nat_lt a (count h) && nat_lt b (count h) && has_items (reads_from h a b)) ≡ true) → IsCausalPair h a b
+    go (inl session) = inl session
+    go (inr r) = reads (and_parts (nat_lt a (count h) && nat_lt b (count h)) (has_items (reads_from h a b)) r)
+
+pub pair_from_session : (h : History) (a b : ℕ) → IsSessionPair h a b → causal_pair h a b ≡ true
+pair_from_session h a b p = or_left _ _ p
+
+pub pair_from_reads : (h : History) (a b : ℕ) (x : List ℕ) → IsReadsPair h a b x → causal_pair h a b ≡ true
+pair_from_reads h a b x (from, to, there) = or_right _ _ (and_from _ _ (and_from _ _ (lt-ltb a (count h) from) (lt-ltb b (count h) to)) (some_items (reads_from h a b) x there))
+
+-- a pair of either kind passes the test
+pub pair_from_kinds : (h : History) (a b : ℕ) → IsCausalPair h a b → causal_pair h a b ≡ true
+pair_from_kinds h a b (inl session) = pair_from_session h a b session
+pair_from_kinds h a b (inr (x, reads)) = pair_from_reads h a b x reads
+
+-- a step is a causal pair
+pub step_pair : (h : History) (s : Step) → IsStep h s → IsCausalPair h (step_from s) (step_to s)
+step_pair h (step.Session a b) p = inl p
+step_pair h (step.Reads a b x) p = inr (x, p)
+
+pub pair_from_step : (h : History) (s : Step) → IsStep h s → causal_pair h (step_from s) (step_to s) ≡ true
+pair_from_step h s p = pair_from_kinds h (step_from s) (step_to s) (step_pair h s p)
+
+-- a causal pair is a step
+step_of_kind : (h : History) (a b : ℕ) → IsCausalPair h a b → (s : Step) × (step_from s ≡ a) × (step_to s ≡ b) × IsStep h s
+step_of_kind h a b (inl session) = (step.Session a b, refl, refl, session)
+step_of_kind h a b (inr (x, reads)) = (step.Reads a b x, refl, refl, reads)
+
+pub step_from_pair : (h : History) (a b : ℕ) → causal_pair h a b ≡ true → (s : Step) × (step_from s ≡ a) × (step_to s ≡ b) × IsStep h s
+step_from_pair h a b p = step_of_kind h a b (pair_kinds h a b p)
+
+-- the ends of pairs, steps and links are numbers of transactions
+pub session_below : (h : History) (a b : ℕ) → IsSessionPair h a b → (a < count h) × (b < count h)
+session_below h a b p =
+    let both = and_parts (nat_lt a (count h)) (nat_lt b (count h)) (and_parts (nat_lt a (count h) && nat_lt b (count h)) (((a == 0) && nat_lt 0 b) || (nat_lt 0 a && nat_lt 0 b && (owner h a == owner h b) && nat_lt (place h a) (place h b))) p).0 in
+    (ltb-true a (count h) both.0, ltb-true b (count h) both.1)
+
+pub pair_below : (h : History) (a b : ℕ) → IsCausalPair h a b → (a < count h) × (b < count h)
+pair_below h a b (inl p) = session_below h a b p
+pair_below h a b (inr p) = (p.1.0, p.1.1)
+
+pub step_below : (h : History) (s : Step) → IsStep h s → (step_from s < count h) × (step_to s < count h)
+step_below h s p = pair_below h (step_from s) (step_to s) (step_pair h s p)
+
+pub link_below : (h : History) (l : Link) → IsLink h l → (link_from l < count h) × (link_to l < count h)
+link_below h (link.Session a b) p = session_below h a b p
+link_below h (link.Reads a b x) p = (p.0, p.1)
+link_below h (link.Derived b a x c walk) p = (p.0.2.0, p.0.1.0)
