@@ -1,22 +1,22 @@
--- The first session of a map in order that has begun a transaction is the least one that has.
-use Rattle.std.proofs.Common.{◌≡◌, ◌≢◌, ℕ, Bool, true, false, List, [], ◌∷◌, Option, option_map, None, Some, refl, sym, ap, ◌∙◌, cond}
-use Rattle.std.specs.Prelude.{filter, find, is_some, ◌||◌}
-use Rattle.std.specs.List.{AllByRecursion, list_any}
-use Rattle.std.specs.List.Sorted.{IsStrictlySortedBy}
-use Rattle.std.specs.Map.{keys_of, lookup}
+-- The least session of a map that has begun a transaction is the least one that has.
+use Rattle.std.proofs.Common.{◌≡◌, ◌≢◌, ℕ, Bool, true, false, List, [], ◌∷◌, Option, None, Some, refl, sym, ap, ◌∙◌, cond}
+use Rattle.std.specs.Prelude.{All, filter, fold, is_some, ◌||◌}
+use Rattle.std.specs.List.{list_any}
+use Rattle.std.specs.Map.{lookup}
 use Rattle.std.specs.Option.{option_map_or}
 use Rattle.std.specs.Ordering.{nat_cmp, ordering_reverse}
 use Rattle.std.specs.declared.cmp.Ordering.{Ordering}
 use Rattle.std.specs.declared.cmp.Ordering.TheVariants.{Less, Equal, Greater}
 use Rattle.std.specs.Cmp.Lexicographic.{slice_cmp, nat_list_cmp_total}
 use Rattle.std.specs.FinMap.{nat_cmp-IsAntisymmetric, slice_cmp-IsAntisymmetric}
-use Rattle.std.specs.BTreeMap.{BTreeMap, IsOrdered, get, is_at}
+use Rattle.std.specs.HashMap.{get}
+use Rattle.std.proofs.lemmas.List.Elements.{All-head, All-tail}
 use Rattle.tcc_txn.specs.Lines.{same}
 use Rattle.tcc_txn.specs.Past.{is_begun, least, lesser, open_sessions, ops_since, sessions}
-use Rattle.tcc_txn.specs.Standing.{HoldsSeats}
+use Rattle.tcc_txn.specs.Standing.{HoldsSeats, Seats, lower}
 use Rattle.tcc_txn.specs.declared.op.Op.{Op}
 use Rattle.tcc_txn.specs.declared.rows.line.Line.{Line}
-use Rattle.tcc_txn.proofs.PastFacts.{at-same, begun-seen, same-itself, same-name, seat-taken}
+use Rattle.tcc_txn.proofs.PastFacts.{begun-seen, same-name, seat-taken}
 
 abbrev name_cmp : List ℕ → List ℕ → Ordering
 name_cmp a b = slice_cmp nat_cmp a b
@@ -104,110 +104,112 @@ none-open test (n ∷ ns) none = by (test n) refl (none-open test ns none)
 abbrev Entry : Type 0
 Entry = List ℕ × Option (List Op)
 
-abbrev is_open : Entry → Bool
-is_open e = is_some e.1
+-- not above the other
+abbrev IsUpTo : List ℕ → List ℕ → Type 0
+IsUpTo a b = name_cmp a b ≢ Greater
 
-tied : (a b : List ℕ) → is_at (slice_cmp nat_cmp a) b ≡ true → a ≡ b
-tied a b e = same-name a b (sym (at-same a b) ∙ e)
+up-to-itself : (a : List ℕ) → IsUpTo a a
+up-to-itself a above = let equal = name_cmp-itself a in cc (equal, above)
 
--- what is found among entries above a name is above it
-found-above : (k : List ℕ) (es : List Entry) (e : Entry) → AllByRecursion (λ y. name_cmp k y ≡ Less) (keys_of es) → find is_open es ≡ Some e → name_cmp k e.0 ≡ Less
-found-above k [] e above f = cc f
-found-above k (x ∷ xs) e above f = by (is_open x) f (found-above k xs e above.1)
+up-to-less : (a b : List ℕ) → name_cmp a b ≡ Less → IsUpTo a b
+up-to-less a b less above = cc (less, above)
+
+up-to-trans : (a b c : List ℕ) → IsUpTo a b → IsUpTo b c → IsUpTo a c
+up-to-trans a b c first second = by (name_cmp a b) (name_cmp b c) refl refl
   where
-    by : (b : Bool) → cond b (Some x) (find is_open xs) ≡ Some e → (find is_open xs ≡ Some e → name_cmp k e.0 ≡ Less) → name_cmp k e.0 ≡ Less
-    by true f more = let at : x ≡ e = cc f in rw (ap (λ (y : Entry). y.0) at) at above.0
-    by false f more = more f
+    by : (p q : Ordering) → name_cmp a b ≡ p → name_cmp b c ≡ q → IsUpTo a c
+    by Equal q e f = rw (slice_cmp-IsAntisymmetric nat_cmp-IsAntisymmetric a b e) second
+    by Less Equal e f = rw (← slice_cmp-IsAntisymmetric nat_cmp-IsAntisymmetric b c f) first
+    by Less Less e f = up-to-less a c (nat_list_cmp_total.trans a b c e f)
+    by Greater q e f = absurd (first e)
+    by Less Greater e f = absurd (second f)
 
-looked-above : (k : List ℕ) (es : List Entry) (t : List ℕ) (v : Option (List Op)) → AllByRecursion (λ y. name_cmp k y ≡ Less) (keys_of es)
-    → lookup (is_at (slice_cmp nat_cmp t)) es ≡ Some v → name_cmp k t ≡ Less
-looked-above k [] t v above f = cc f
-looked-above k (x ∷ xs) t v above f = by (is_at (slice_cmp nat_cmp t) x.0) refl f (looked-above k xs t v above.1)
+-- the lesser of two is not above either
+lesser-up-to : (a b : List ℕ) → IsUpTo (lesser a b) a × IsUpTo (lesser a b) b
+lesser-up-to a b = by (name_cmp a b) refl
   where
-    by : (b : Bool) → is_at (slice_cmp nat_cmp t) x.0 ≡ b → cond b (Some x.1) (lookup (is_at (slice_cmp nat_cmp t)) xs) ≡ Some v
-        → (lookup (is_at (slice_cmp nat_cmp t)) xs ≡ Some v → name_cmp k t ≡ Less) → name_cmp k t ≡ Less
-    by true here f more = rw (tied t x.0 here) above.0
-    by false here f more = more f
+    by : (r : Ordering) → name_cmp a b ≡ r → IsUpTo (lesser a b) a × IsUpTo (lesser a b) b
+    by Less e = rw e (up-to-itself a, up-to-less a b e)
+    by Equal e = rw e (up-to-itself a, λ above. cc (e, above))
+    by Greater e = rw e (up-to-less b a (nat_list_cmp_total.antisymm b a ∙ ap ordering_reverse e), up-to-itself b)
 
--- the first open entry, as a look at its name finds it
-found-there : (es : List Entry) (e : Entry) → IsStrictlySortedBy (slice_cmp nat_cmp) (keys_of es) → find is_open es ≡ Some e
-    → (lookup (is_at (slice_cmp nat_cmp e.0)) es ≡ Some e.1) × (is_open e ≡ true)
-unfolding IsStrictlySortedBy
-found-there [] e sorted f = cc f
-found-there (x ∷ xs) e sorted f = by (is_open x) refl f (found-there xs e sorted.1)
+-- whatever was least is still there to be under
+stays : (es : List Entry) (a : List ℕ) → (m : List ℕ) × (fold lower (Some a) es ≡ Some m) × IsUpTo m a
+stays [] a = (a, refl, up-to-itself a)
+stays ((name, None) ∷ es) a = stays es a
+stays ((name, Some ops) ∷ es) a =
+    let (m, found, under) = stays es (lesser a name) in
+    (m, found, up-to-trans m (lesser a name) a under (lesser-up-to a name).0)
+
+-- one that has begun is not below the least
+least-under : (es : List Entry) (before : Option (List ℕ)) (t : List ℕ) (ops : List Op) → lookup (same t) es ≡ Some (Some ops)
+    → (m : List ℕ) × (fold lower before es ≡ Some m) × IsUpTo m t
+least-under [] before t ops look = cc look
+least-under ((name, begun) ∷ es) before t ops look = by (same t name) begun refl look (λ next. least-under es next t ops)
   where
-    here : (y : Entry) → is_at (slice_cmp nat_cmp y.0) y.0 ≡ true
-    here y = at-same y.0 y.0 ∙ same-itself y.0
+    here : (before : Option (List ℕ)) → t ≡ name → (m : List ℕ) × (fold lower (lower before (name, Some ops)) es ≡ Some m) × IsUpTo m t
+    here None at = let (m, found, under) = stays es name in (m, found, rw at under)
+    here (Some a) at =
+        let (m, found, under) = stays es (lesser a name) in
+        (m, found, rw at (up-to-trans m (lesser a name) name under (lesser-up-to a name).1))
 
-    apart : (y : Entry) → name_cmp x.0 y.0 ≡ Less → is_at (slice_cmp nat_cmp y.0) x.0 ≡ false
-    apart y less = rw (nat_list_cmp_total.antisymm y.0 x.0, less) refl
+    by : (b : Bool) (begun : Option (List Op)) → same t name ≡ b → cond b (Some begun) (lookup (same t) es) ≡ Some (Some ops)
+        → ((next : Option (List ℕ)) → lookup (same t) es ≡ Some (Some ops) → (m : List ℕ) × (fold lower next es ≡ Some m) × IsUpTo m t)
+        → (m : List ℕ) × (fold lower (lower before (name, begun)) es ≡ Some m) × IsUpTo m t
+    by true None at look more = cc look
+    by true (Some begun) at look more = here before (same-name t name at)
+    by false begun apart look more = more (lower before (name, begun)) look
 
-    by : (b : Bool) → is_open x ≡ b → cond b (Some x) (find is_open xs) ≡ Some e
-        → (find is_open xs ≡ Some e → (lookup (is_at (slice_cmp nat_cmp e.0)) xs ≡ Some e.1) × (is_open e ≡ true))
-        → (cond (is_at (slice_cmp nat_cmp e.0) x.0) (Some x.1) (lookup (is_at (slice_cmp nat_cmp e.0)) xs) ≡ Some e.1) × (is_open e ≡ true)
-    by true begun f more = let at : x ≡ e = cc f in rw (← at) (rw (here x) refl, begun)
-    by false begun f more = (rw (apart e (found-above x.0 xs e sorted.0 f)) (more f).0, (more f).1)
+-- where the entry has begun, its session is such
+abbrev BegunIs : (List ℕ → Type 0) → Entry → Type 0
+BegunIs P e = is_some e.1 ≡ true → P e.0
 
--- no open entry is below the first one
-found-least : (es : List Entry) (e : Entry) → IsStrictlySortedBy (slice_cmp nat_cmp) (keys_of es) → find is_open es ≡ Some e
-    → (t : List ℕ) (ops : List Op) → lookup (is_at (slice_cmp nat_cmp t)) es ≡ Some (Some ops) → name_cmp e.0 t ≢ Greater
-unfolding IsStrictlySortedBy
-found-least [] e sorted f t ops look = cc f
-found-least (x ∷ xs) e sorted f t ops look =
-    by (is_open x) (is_at (slice_cmp nat_cmp t) x.0) refl refl f look (λ g. found-least xs e sorted.1 g t ops)
-  where
-    by : (a b : Bool) → is_open x ≡ a → is_at (slice_cmp nat_cmp t) x.0 ≡ b → cond a (Some x) (find is_open xs) ≡ Some e
-        → cond b (Some x.1) (lookup (is_at (slice_cmp nat_cmp t)) xs) ≡ Some (Some ops)
-        → (find is_open xs ≡ Some e → lookup (is_at (slice_cmp nat_cmp t)) xs ≡ Some (Some ops) → name_cmp e.0 t ≢ Greater)
-        → name_cmp e.0 t ≢ Greater
-    by true true begun here f look more above =
-        let at : x ≡ e = cc f in
-        let same_place : name_cmp e.0 t ≡ Equal = rw (tied t x.0 here, ap (λ (y : Entry). y.0) at) (name_cmp-itself e.0) in
-        cc (same_place, above)
-    by true false begun here f look more above =
-        let at : x ≡ e = cc f in
-        let less : name_cmp e.0 t ≡ Less = rw (ap (λ (y : Entry). y.0) at) at (looked-above x.0 xs t (Some ops) sorted.0 look) in
-        cc (less, above)
-    by false true begun here f look more above =
-        let place : x.1 ≡ Some ops = cc look in
-        let opened : is_open x ≡ true = rw place refl in
-        cc (begun, opened)
-    by false false begun here f look more above = more f look above
-
--- where no entry is open, no look finds one
-found-none : (es : List Entry) → find is_open es ≡ None → (t : List ℕ) (ops : List Op) → lookup (is_at (slice_cmp nat_cmp t)) es ≡ Some (Some ops) → ⊥
-found-none [] f t ops look = cc look
-found-none (x ∷ xs) f t ops look = by (is_open x) (is_at (slice_cmp nat_cmp t) x.0) refl f look (λ g. found-none xs g t ops)
-  where
-    by : (a b : Bool) → is_open x ≡ a → cond a (Some x) (find is_open xs) ≡ None → cond b (Some x.1) (lookup (is_at (slice_cmp nat_cmp t)) xs) ≡ Some (Some ops)
-        → (find is_open xs ≡ None → lookup (is_at (slice_cmp nat_cmp t)) xs ≡ Some (Some ops) → ⊥) → ⊥
-    by true b begun f look more = cc f
-    by false true begun f look more =
-        let place : x.1 ≡ Some ops = cc look in
-        let opened : is_open x ≡ true = rw place refl in
-        cc (begun, opened)
-    by false false begun f look more = more f look
+-- the least one is the one from before, or has begun
+least-begun : (P : List ℕ → Type 0) (es : List Entry) (before : Option (List ℕ)) (m : List ℕ)
+    → ((a : List ℕ) → before ≡ Some a → P a) → All (BegunIs P) es → fold lower before es ≡ Some m → P m
+least-begun P [] before m was each e = was m e
+least-begun P ((name, None) ∷ es) before m was each e = least-begun P es before m was (All-tail (BegunIs P) (name, None) es each) e
+least-begun P ((name, Some ops) ∷ es) None m was each e =
+    let here : P name = All-head (BegunIs P) (name, Some ops) es each refl in
+    least-begun P es (Some name) m (λ a at. let one : name ≡ a = cc at in rw (← one) here) (All-tail (BegunIs P) (name, Some ops) es each) e
+least-begun P ((name, Some ops) ∷ es) (Some b) m was each e =
+    let here : P (lesser b name) = lesser-one P b name (was b refl) (All-head (BegunIs P) (name, Some ops) es each refl) in
+    least-begun P es (Some (lesser b name)) m (λ a at. let one : lesser b name ≡ a = cc at in rw (← one) here) (All-tail (BegunIs P) (name, Some ops) es each) e
 
 -- a session that has begun a transaction has the place of one
-begun-place : (t : List ℕ) (past : List Line) (seats : BTreeMap (List ℕ) (Option (List Op))) → HoldsSeats past seats → is_begun t past ≡ true
-    → get (slice_cmp nat_cmp) seats t ≡ Some (Some (ops_since t past))
+begun-place : (t : List ℕ) (past : List Line) (seats : Seats) → HoldsSeats past seats → is_begun t past ≡ true
+    → get same seats t ≡ Some (Some (ops_since t past))
 begun-place t past seats holds begun = holds.each t ∙ rw begun refl
 
 open-taken : (o : Option (List Op)) → is_some o ≡ true → (ops : List Op) × (o ≡ Some ops)
 open-taken None e = cc e
 open-taken (Some ops) e = (ops, refl)
 
--- the first session in order that has begun a transaction is the least one
-pub first-is-least : (past : List Line) (seats : BTreeMap (List ℕ) (Option (List Op))) → HoldsSeats past seats → IsOrdered (slice_cmp nat_cmp) seats
-    → option_map (λ (e : Entry). e.0) (find (λ (e : Entry). is_some e.1) seats.entries) ≡ least (open_sessions past)
-first-is-least past seats holds ordered = by (find is_open seats.entries) refl
+-- an entry of one that has begun
+entry-begun : (past : List Line) (seats : Seats) → HoldsSeats past seats → (e : Entry) → get same seats e.0 ≡ Some e.1 → is_some e.1 ≡ true → is_begun e.0 past ≡ true
+entry-begun past seats holds e there is_open =
+    let (ops, taken) = open-taken e.1 is_open in
+    (seat-taken _ _ _ ops (sym (holds.each e.0) ∙ there ∙ ap Some taken)).0
+
+-- the least session of the map that has begun a transaction is the least one that has
+pub fold-is-least : (past : List Line) (seats : Seats) → HoldsSeats past seats → All (λ (e : Entry). get same seats e.0 ≡ Some e.1) seats.entries
+    → fold lower None seats.entries ≡ least (open_sessions past)
+fold-is-least past seats holds found = by (fold lower None seats.entries) refl
   where
-    by : (o : Option Entry) → find is_open seats.entries ≡ o → option_map (λ (e : Entry). e.0) o ≡ least (open_sessions past)
-    by None f =
-        rw (none-open (λ t. is_begun t past) (sessions past) (λ t begun. found-none seats.entries f t (ops_since t past) (begun-place t past seats holds begun))) refl
-    by (Some e) f =
-        let there = found-there seats.entries e ordered f in
-        let (ops, taken) = open-taken e.1 there.1 in
-        let begun = (seat-taken _ _ _ ops (sym (holds.each e.0) ∙ there.0 ∙ ap Some taken)).0 in
-        sym (least-is (λ t. is_begun t past) e.0 (sessions past) begun (begun-seen e.0 past begun)
-        (λ t too. found-least seats.entries e ordered f t (ops_since t past) (begun-place t past seats holds too)))
+    under : (t : List ℕ) → is_begun t past ≡ true → (m : List ℕ) × (fold lower None seats.entries ≡ Some m) × IsUpTo m t
+    under t begun = least-under seats.entries None t (ops_since t past) (begun-place t past seats holds begun)
+
+    none : fold lower None seats.entries ≡ None → (t : List ℕ) → is_begun t past ≡ true → ⊥
+    none f t begun = let (m, there, up_to) = under t begun in cc (f, there)
+
+    below : (s : List ℕ) → fold lower None seats.entries ≡ Some s → (t : List ℕ) → is_begun t past ≡ true → IsUpTo s t
+    below s f t begun =
+        let (m, there, up_to) = under t begun in
+        let one : m ≡ s = cc (f, there) in
+        rw (← one) up_to
+
+    by : (o : Option (List ℕ)) → fold lower None seats.entries ≡ o → o ≡ least (open_sessions past)
+    by None f = rw (none-open (λ t. is_begun t past) (sessions past) (none f)) refl
+    by (Some s) f =
+        let begun : is_begun s past ≡ true = least-begun (λ t. is_begun t past ≡ true) seats.entries None s (λ a at. cc at) (λ k d inside. entry-begun past seats holds _ (found k d inside)) f in
+        sym (least-is (λ t. is_begun t past) s (sessions past) begun (begun-seen s past begun) (below s f))

@@ -2,15 +2,13 @@
 use Rattle.std.proofs.Common.{◌≡◌, ℕ, ◌+◌, ◌<◌, ◌≤◌, ◌⊎◌, Bool, true, false, List, [], ◌∷◌, ◌++◌, length, Option, None, Some, Ok, Err, Result, length-append, refl, sym, ap, ◌∙◌, rules, arith, cond, nat_lt, inl, inr}
 use Rattle.std.specs.Prelude.{IsSome, is_some}
 use Rattle.std.specs.List.{list_any}
-use Rattle.std.specs.Ordering.{nat_cmp}
-use Rattle.std.specs.Cmp.Lexicographic.{slice_cmp}
-use Rattle.std.specs.BTreeMap.{BTreeMap, btree_map_len, get, Updates}
+use Rattle.std.specs.HashMap.{get, hash_map_len, Updates}
 use Rattle.std.specs.HashSet as set
 use Rattle.std.specs.HashSet.{contains, hash_set_len}
 use Rattle.std.proofs.lemmas.Bool.Decides.{nat_tests}
 use Rattle.tcc_txn.specs.Lines.{same}
 use Rattle.tcc_txn.specs.Past.{begin_count, fault_of, is_begun, keys, ops_since, sessions, with_name}
-use Rattle.tcc_txn.specs.Standing.{NameSet, HoldsNames, HoldsSeats, IsAfter, NotesName, PassesLine, seat}
+use Rattle.tcc_txn.specs.Standing.{NameSet, Seats, HoldsNames, HoldsSeats, IsAfter, NotesName, PassesLine, seat}
 use Rattle.tcc_txn.specs.Transactions.{op_key}
 use Rattle.tcc_txn.specs.declared.op.Op.{Op}
 use Rattle.tcc_txn.specs.Drafts.{AddsOp}
@@ -19,7 +17,7 @@ use Rattle.tcc_txn.specs.declared.rows.RowFaultKind.TheVariants as kind
 use Rattle.tcc_txn.specs.declared.rows.line.Line.{Line}
 use Rattle.tcc_txn.specs.declared.rows.line.Line.TheVariants as line
 use Rattle.tcc_txn.specs.declared.rows.progress.Progress.{Progress}
-use Rattle.tcc_txn.proofs.PastFacts.{at-same, seat-begun, seat-finished, seat-free, seat-none, seat-taken, same-itself, seat-operated, seen-noted, seen-other, with_name-new, with_name-seen}
+use Rattle.tcc_txn.proofs.PastFacts.{seat-begun, seat-finished, seat-free, seat-none, seat-taken, same-itself, seat-operated, seen-noted, seen-other, with_name-new, with_name-seen}
 
 within : (m n : ℕ) → m ≤ n → nat_lt n m ≡ false
 within m n h = grind (arith, nat_tests)
@@ -52,20 +50,20 @@ pub names-kept : (names : List (List ℕ)) (key : List ℕ) (set : NameSet) → 
 names-kept names key set holds there = rw (with_name-seen key names (sym (holds.each key) ∙ there)) holds
 
 -- what a look at the place of a session says of a begin
-pub begins-again : (past : List Line) (s : List ℕ) (seats : BTreeMap (List ℕ) (Option (List Op))) → HoldsSeats past seats
-    → get (slice_cmp nat_cmp) seats s ≡ Some None → (is_begun s past ≡ false) × (length (with_name s (sessions past)) ≤ 64)
+pub begins-again : (past : List Line) (s : List ℕ) (seats : Seats) → HoldsSeats past seats
+    → get same seats s ≡ Some None → (is_begun s past ≡ false) × (length (with_name s (sessions past)) ≤ 64)
 begins-again past s seats holds there =
     let place = seat-free _ _ _ (sym (holds.each s) ∙ there) in
     (place.0, rw (with_name-seen s (sessions past) place.1) holds.few)
 
-pub begins-first : (past : List Line) (s : List ℕ) (seats : BTreeMap (List ℕ) (Option (List Op))) → HoldsSeats past seats
-    → get (slice_cmp nat_cmp) seats s ≡ None → (is_begun s past ≡ false) × (length (with_name s (sessions past)) ≡ btree_map_len seats + 1)
+pub begins-first : (past : List Line) (s : List ℕ) (seats : Seats) → HoldsSeats past seats
+    → get same seats s ≡ None → (is_begun s past ≡ false) × (length (with_name s (sessions past)) ≡ hash_map_len seats + 1)
 begins-first past s seats holds absent =
     let place = seat-none _ _ _ (sym (holds.each s) ∙ absent) in
     (place.0, rw (with_name-new s (sessions past) place.1) (omega (arith, holds.count)))
 
-pub begun-there : (past : List Line) (s : List ℕ) (seats : BTreeMap (List ℕ) (Option (List Op))) (ops : List Op) → HoldsSeats past seats
-    → get (slice_cmp nat_cmp) seats s ≡ Some (Some ops) → (is_begun s past ≡ true) × (ops_since s past ≡ ops)
+pub begun-there : (past : List Line) (s : List ℕ) (seats : Seats) (ops : List Op) → HoldsSeats past seats
+    → get same seats s ≡ Some (Some ops) → (is_begun s past ≡ true) × (ops_since s past ≡ ops)
 begun-there past s seats ops holds there = seat-taken _ _ _ _ (sym (holds.each s) ∙ there)
 
 -- how many sessions there are, by whether one was there
@@ -73,15 +71,15 @@ is_some-seat : (ops : List Op) (seen : Bool) → is_some (seat false ops seen) �
 is_some-seat ops true = refl
 is_some-seat ops false = refl
 
-one-more-session : (past : List Line) (s : List ℕ) (seats : BTreeMap (List ℕ) (Option (List Op))) → HoldsSeats past seats → is_begun s past ≡ false
-    → btree_map_len seats + cond (is_some (get (slice_cmp nat_cmp) seats s)) 0 1 ≡ length (with_name s (sessions past))
+one-more-session : (past : List Line) (s : List ℕ) (seats : Seats) → HoldsSeats past seats → is_begun s past ≡ false
+    → hash_map_len seats + cond (is_some (get same seats s)) 0 1 ≡ length (with_name s (sessions past))
 one-more-session past s seats holds free = by (list_any (same s) (sessions past)) refl
   where
-    at : is_some (get (slice_cmp nat_cmp) seats s) ≡ list_any (same s) (sessions past)
+    at : is_some (get same seats s) ≡ list_any (same s) (sessions past)
     at = ap is_some (holds.each s) ∙ rw free (is_some-seat (ops_since s past) _)
 
     by : (b : Bool) → list_any (same s) (sessions past) ≡ b
-        → btree_map_len seats + cond (is_some (get (slice_cmp nat_cmp) seats s)) 0 1 ≡ length (with_name s (sessions past))
+        → hash_map_len seats + cond (is_some (get same seats s)) 0 1 ≡ length (with_name s (sessions past))
     by true seen = rw (at, seen) (omega (arith, holds.count))
     by false new = rw (at, new) (omega (arith, holds.count))
 
@@ -89,8 +87,8 @@ one-more-session past s seats holds free = by (list_any (same s) (sessions past)
 pub after-begin : (past : List Line) (s : List ℕ) (old new : Progress) → IsAfter past old
     → is_begun s past ≡ false → length (with_name s (sessions past)) ≤ 64
     → old.begun < 1023
-    → Updates (slice_cmp nat_cmp) old.sessions new.sessions s (Some (Some []))
-    → btree_map_len new.sessions ≡ btree_map_len old.sessions + cond (is_some (get (slice_cmp nat_cmp) old.sessions s)) 0 1
+    → Updates same old.sessions new.sessions s (Some (Some []))
+    → hash_map_len new.sessions ≡ hash_map_len old.sessions + cond (is_some (get same old.sessions s)) 0 1
     → new.keys ≡ old.keys → new.begun ≡ old.begun + 1 → new.seals ≡ old.seals
     → (fault_of past (line.Begin s) ≡ None) × IsAfter (line.Begin s ∷ past) new
 after-begin past s old new is free few room updates more keys_kept one_more seals_kept =
@@ -100,7 +98,7 @@ after-begin past s old new is free few room updates more keys_kept one_more seal
       rw (free, sessions_fit, begins_fit) refl,
       record {
         seats = record {
-          each = λ q. updates.0 q ∙ rw (at-same s q, is.seats.each q) (sym (seat-begun s q past));
+          each = λ q. updates.0 q ∙ rw (is.seats.each q) (sym (seat-begun s q past));
           count = more ∙ one-more-session past s old.sessions is.seats free;
           few = few;
         };
@@ -114,9 +112,9 @@ after-begin past s old new is free few room updates more keys_kept one_more seal
 
 -- a transaction is finished
 pub after-finish : (past : List Line) (s : List ℕ) (committed : Bool) (ops : List Op) (old new : Progress) → IsAfter past old
-    → get (slice_cmp nat_cmp) old.sessions s ≡ Some (Some ops)
-    → Updates (slice_cmp nat_cmp) old.sessions new.sessions s (Some None)
-    → btree_map_len new.sessions ≡ btree_map_len old.sessions
+    → get same old.sessions s ≡ Some (Some ops)
+    → Updates same old.sessions new.sessions s (Some None)
+    → hash_map_len new.sessions ≡ hash_map_len old.sessions
     → new.keys ≡ old.keys → new.begun ≡ old.begun → new.seals ≡ old.seals
     → (fault_of past (line.Finish s committed) ≡ None) × IsAfter (line.Finish s committed ∷ past) new
 after-finish past s committed ops old new is place updates same_number keys_kept begun_kept seals_kept =
@@ -124,7 +122,7 @@ after-finish past s committed ops old new is place updates same_number keys_kept
       rw taken.0 refl,
       record {
         seats = record {
-          each = λ q. updates.0 q ∙ rw (at-same s q, is.seats.each q) (sym (seat-finished s q committed past taken.0));
+          each = λ q. updates.0 q ∙ rw (is.seats.each q) (sym (seat-finished s q committed past taken.0));
           count = same_number ∙ is.seats.count;
           few = is.seats.few;
         };
@@ -144,8 +142,8 @@ above : (m n : ℕ) → m < n → nat_lt m n ≡ true
 above m n h = grind (arith, nat_tests)
 
 -- an operation that is refused
-pub operation-refused : (past : List Line) (s : List ℕ) (op : Op) (k : RowFaultKind) (begun : Option (List Op)) (seats : BTreeMap (List ℕ) (Option (List Op))) (new : Option (List Op))
-    → HoldsSeats past seats → get (slice_cmp nat_cmp) seats s ≡ Some begun → AddsOp {U = Unit {0}} op begun (Err k) new
+pub operation-refused : (past : List Line) (s : List ℕ) (op : Op) (k : RowFaultKind) (begun : Option (List Op)) (seats : Seats) (new : Option (List Op))
+    → HoldsSeats past seats → get same seats s ≡ Some begun → AddsOp {U = Unit {0}} op begun (Err k) new
     → (fault_of past (line.Operation s op) ≡ Some k) ⊎ (k ≡ kind.NoMemory)
 operation-refused past s op k None seats new holds place refused =
     let free = seat-free _ _ _ (sym (holds.each s) ∙ place) in
@@ -157,11 +155,11 @@ operation-refused past s op k (Some ops) seats new holds place (inl full) =
 operation-refused past s op k (Some ops) seats new holds place (inr want) = inr want
 
 -- an operation that has its place
-pub record Placed (past : List Line) (s : List ℕ) (op : Op) (old : Progress) (seats : BTreeMap (List ℕ) (Option (List Op))) : Type 0 where
+pub record Placed (past : List Line) (s : List ℕ) (op : Op) (old : Progress) (seats : Seats) : Type 0 where
   pub begun : is_begun s past ≡ true
   pub room : length (ops_since s past) < 256
-  pub updates : Updates (slice_cmp nat_cmp) old.sessions seats s (Some (Some (ops_since s past ++ op ∷ [])))
-  pub count : btree_map_len seats ≡ btree_map_len old.sessions
+  pub updates : Updates same old.sessions seats s (Some (Some (ops_since s past ++ op ∷ [])))
+  pub count : hash_map_len seats ≡ hash_map_len old.sessions
 
 fault-of-key : (past : List Line) (s : List ℕ) (op : Op) → is_begun s past ≡ true → length (ops_since s past) < 256
     → fault_of past (line.Operation s op) ≡ cond (nat_lt 1024 (length (with_name (op_key op) (keys past)))) (Some kind.TooManyKeys) None
@@ -170,7 +168,7 @@ fault-of-key past s op begun room =
     rw (begun, few) refl
 
 -- what comes of an operation that has its place, by whether its key can be noted
-pub after-operation : {U : Type 0} (past : List Line) (s : List ℕ) (op : Op) (old : Progress) (seats : BTreeMap (List ℕ) (Option (List Op))) (names : NameSet) (result : Result U RowFaultKind)
+pub after-operation : {U : Type 0} (past : List Line) (s : List ℕ) (op : Op) (old : Progress) (seats : Seats) (names : NameSet) (result : Result U RowFaultKind)
     → IsAfter past old → Placed past s op old seats → NotesName (keys past) (op_key op) result names
     → PassesLine past (line.Operation s op) result (record { sessions = seats; keys = names; begun = old.begun; seals = old.seals })
 after-operation past s op old seats names (Ok done) is placed noted =
@@ -178,7 +176,7 @@ after-operation past s op old seats names (Ok done) is placed noted =
       fault-of-key past s op placed.begun placed.room ∙ rw few refl,
       record {
         seats = record {
-          each = λ q. placed.updates.0 q ∙ rw (at-same s q, is.seats.each q) (sym (seat-operated s q op past placed.begun));
+          each = λ q. placed.updates.0 q ∙ rw (is.seats.each q) (sym (seat-operated s q op past placed.begun));
           count = placed.count ∙ is.seats.count;
           few = is.seats.few;
         };
@@ -195,14 +193,14 @@ after-operation past s op old seats names (Err k) is placed (inl many) =
 after-operation past s op old seats names (Err k) is placed (inr want) = inr want
 
 -- an operation that was added has its place
-pub placed-added : {U : Type 0} (past : List Line) (s : List ℕ) (op : Op) (old : Progress) (seats : BTreeMap (List ℕ) (Option (List Op))) (begun new : Option (List Op)) (done : U)
-    → IsAfter past old → get (slice_cmp nat_cmp) old.sessions s ≡ Some begun → AddsOp op begun (Ok done) new
-    → (IsSome (get (slice_cmp nat_cmp) old.sessions s) → Updates (slice_cmp nat_cmp) old.sessions seats s (Some new)) → btree_map_len seats ≡ btree_map_len old.sessions
+pub placed-added : {U : Type 0} (past : List Line) (s : List ℕ) (op : Op) (old : Progress) (seats : Seats) (begun new : Option (List Op)) (done : U)
+    → IsAfter past old → get same old.sessions s ≡ Some begun → AddsOp op begun (Ok done) new
+    → (IsSome (get same old.sessions s) → Updates same old.sessions seats s (Some new)) → hash_map_len seats ≡ hash_map_len old.sessions
     → Placed past s op old seats
 placed-added past s op old seats None new done is place added updates count = absurd added
 placed-added past s op old seats (Some ops) new done is place added updates count =
     let there = begun-there past s old.sessions ops is.seats place in
-    let found : IsSome (get (slice_cmp nat_cmp) old.sessions s) = rw place (search rules) in
+    let found : IsSome (get same old.sessions s) = rw place (search rules) in
     record {
       begun = there.0;
       room = rw there.1 added.0;

@@ -1,14 +1,13 @@
 -- What is kept of the lines so far: how it stands to them.
 use Rattle.std.specs.Prelude.{ℕ, ◌≡◌, ◌≤◌, ◌<◌, ◌⊎◌, Bool, true, false, if◌then◌else◌, List, ◌∷◌, length, Option, None, Some, Result, Ok, Err}
 use Rattle.std.specs.List.{list_any}
-use Rattle.std.specs.Ordering.{nat_cmp}
-use Rattle.std.specs.Cmp.Lexicographic.{slice_cmp}
-use Rattle.std.specs.BTreeMap.{BTreeMap, btree_map_len, get}
+use Rattle.std.specs.Option.{option_map_or}
+use Rattle.std.specs.HashMap.{HashMap, hash_map_len, get}
 use Rattle.std.specs.HashSet.{HashSet, contains, hash_set_len}
 use Rattle.std.specs.declared.hash.BuildHasherDefault.{BuildHasherDefault}
 use Rattle.std.specs.declared.hash.FoldHasher.{FoldHasher}
 use Rattle.tcc_txn.specs.Lines.{Record, line_of, same}
-use Rattle.tcc_txn.specs.Past.{begin_count, fault_of, is_begun, item_of, keys, ops_since, seal_count, sessions, with_name}
+use Rattle.tcc_txn.specs.Past.{begin_count, fault_of, is_begun, item_of, keys, lesser, ops_since, seal_count, sessions, with_name}
 use Rattle.tcc_txn.specs.Transactions.{writes_zero}
 use Rattle.tcc_txn.specs.declared.op.Op.{Op}
 use Rattle.tcc_txn.specs.declared.rows.Item.{Item}
@@ -25,11 +24,20 @@ seat begun ops seen = if begun then Some (Some ops) else if seen then Some None 
 abbrev pub seat_of : List ℕ → List Line → Option (Option (List Op))
 seat_of name past = seat (is_begun name past) (ops_since name past) (list_any (same name) (sessions past))
 
+-- a place for each of some sessions
+abbrev pub Seats : Type 0
+Seats = HashMap (List ℕ) (Option (List Op)) (BuildHasherDefault FoldHasher)
+
 -- the map has a place for each session so far, of which there are not too many
-pub record HoldsSeats (past : List Line) (seats : BTreeMap (List ℕ) (Option (List Op))) : Type 0 where
-  pub each : (name : List ℕ) → get (slice_cmp nat_cmp) seats name ≡ seat_of name past
-  pub count : btree_map_len seats ≡ length (sessions past)
+pub record HoldsSeats (past : List Line) (seats : Seats) : Type 0 where
+  pub each : (name : List ℕ) → get same seats name ≡ seat_of name past
+  pub count : hash_map_len seats ≡ length (sessions past)
   pub few : length (sessions past) ≤ 64
+
+-- the least of the sessions so far that have begun a transaction, and one more
+abbrev pub lower : Option (List ℕ) → List ℕ × Option (List Op) → Option (List ℕ)
+lower least (name, None) = least
+lower least (name, Some ops) = Some (option_map_or (λ other. lesser other name) least name)
 
 -- a set of names
 abbrev pub NameSet : Type 0

@@ -1,12 +1,11 @@
 //! What the lines so far have begun, finished and named.
-ghost use Rattle.std.specs.Prelude.{◌≡◌, ℕ, ◌∷◌, [], false, List, IfOk, find, is_some, option_map, length};
-ghost use Rattle.std.specs.Ordering.{nat_cmp};
-ghost use Rattle.std.specs.Cmp.Lexicographic.{slice_cmp};
-ghost use Rattle.std.specs.BTreeMap.{IsOrdered};
+ghost use Rattle.std.specs.Prelude.{◌≡◌, ℕ, ◌∷◌, [], false, List, IfOk, Some, None, All, fold, length};
+ghost use Rattle.std.specs.HashMap.{get};
+ghost use Rattle.std.specs.Option.{option_map_or};
 ghost use Rattle.csv.specs.Records.{fields_of};
-ghost use Rattle.tcc_txn.specs.Lines.{line_of};
-ghost use Rattle.tcc_txn.specs.Past.{least, open_sessions, ops_since};
-ghost use Rattle.tcc_txn.specs.Standing.{HoldsNames, HoldsSeats, IsAfter, MayBegin, NotesName, PassesLine, PassesOperation, TakesLine, writes_no_zero};
+ghost use Rattle.tcc_txn.specs.Lines.{line_of, same};
+ghost use Rattle.tcc_txn.specs.Past.{least, lesser, open_sessions, ops_since};
+ghost use Rattle.tcc_txn.specs.Standing.{HoldsNames, HoldsSeats, IsAfter, MayBegin, NotesName, PassesLine, PassesOperation, TakesLine, lower, writes_no_zero};
 ghost use Rattle.tcc_txn.specs.Transactions.{writes_zero};
 ghost use Rattle.tcc_txn.specs.Phases.{phase_after_step};
 ghost use Rattle.tcc_txn.specs.declared.rows.Phase.TheVariants as phase;
@@ -19,7 +18,7 @@ use super::{Item, RowFaultKind};
 use crate::{Name, Op, Txn};
 use csv::ByteRecord;
 use std::alloc::Global;
-use std::collections::{BTreeMap, HashSet};
+use std::collections::{HashMap, HashSet};
 
 /// The sessions of an input.
 const MOST_SESSIONS: usize = 64;
@@ -34,7 +33,7 @@ const MOST_SEALS: u32 = 256;
 /// many transactions were begun and how many seals there were.
 #[derive(Drop)]
 pub(crate) struct Progress {
-    sessions: BTreeMap<Name, Option<Draft>>,
+    sessions: HashMap<Name, Option<Draft>>,
     keys: HashSet<Name>,
     begun: u32,
     seals: u32,
@@ -57,7 +56,7 @@ fn note_key(keys: &mut HashSet<Name>, key: Name) -> Result<(), RowFaultKind>
 }
 
 /// Whether the session can begin a transaction, as far as the sessions go.
-fn may_begin(sessions: &BTreeMap<Name, Option<Draft>>, session: &Name) -> Result<(), RowFaultKind>
+fn may_begin(sessions: &HashMap<Name, Option<Draft>>, session: &Name) -> Result<(), RowFaultKind>
     ensures { (past : List Line) → HoldsSeats past sessions.now → MayBegin past session.now result }
 {
     match sessions.get(session) {
@@ -73,17 +72,28 @@ fn may_begin(sessions: &BTreeMap<Name, Option<Draft>>, session: &Name) -> Result
     }
 }
 
-/// The first session that has begun a transaction, in byte order.
-fn first_begun(sessions: &BTreeMap<Name, Option<Draft>>) -> Option<Name>
-    ensures first { result ≡ option_map (λ e. e.0) (find (λ e. is_some e.1) sessions.now.entries) }
-    ensures ordered { IsOrdered (slice_cmp nat_cmp) sessions.now }
+/// The lesser of the two names, where there is another.
+fn lesser_of(name: Option<Name>, session: &Name) -> Name
+    ensures { result ≡ option_map_or (λ other. lesser other session.now) name session.now }
 {
-    for (session, begun) in sessions {
+    match name {
+        Some(other) if other <= *session => other,
+        _ => *session,
+    }
+}
+
+/// The least session that has begun a transaction, in byte order.
+fn least_begun(sessions: &HashMap<Name, Option<Draft>>) -> Option<Name>
+    ensures least { result ≡ fold lower None sessions.now.entries }
+    ensures found { All (λ e. get same sessions.now e.0 ≡ Some e.1) sessions.now.entries }
+{
+    let mut least = None;
+    for (session, begun) in sessions.iter() {
         if begun.is_some() {
-            return Some(*session);
+            least = Some(lesser_of(least, session));
         }
     }
-    None
+    least
 }
 
 impl Progress {
@@ -91,7 +101,7 @@ impl Progress {
         ensures { IsAfter [] result }
     {
         Progress {
-            sessions: BTreeMap::new(alloc),
+            sessions: HashMap::new(alloc),
             keys: HashSet::new(alloc),
             begun: 0,
             seals: 0,
@@ -233,6 +243,6 @@ impl Progress {
     pub(crate) fn unfinished(&self) -> Option<Name>
         ensures { (past : List Line) → IsAfter past self.now → result ≡ least (open_sessions past) }
     {
-        first_begun(&self.sessions)
+        least_begun(&self.sessions)
     }
 }
