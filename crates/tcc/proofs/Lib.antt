@@ -2,3 +2,4 @@ pub mod Gathering
 pub mod UnderWay
 pub mod Written
 mod WorkedTexts
+mod WorkedCommandLines

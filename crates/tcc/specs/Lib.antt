@@ -3,3 +3,4 @@ pub mod Texts
 pub mod Gathered
 pub mod Answers
 pub mod Halts
+pub mod CommandLines

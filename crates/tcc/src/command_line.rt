@@ -1,9 +1,13 @@
 //! What the command line asks for.
+ghost use Rattle.std.specs.Prelude.{◌≡◌, IfErr, IfOk, map};
+ghost use Rattle.std.specs.String.{string_bytes};
+ghost use Rattle.clap.specs.Words.{FailsBy, app_of, fault_of};
+ghost use Rattle.tcc.specs.CommandLines.{EndsUnasked, IsReading, end_of, tcc_command};
 
 use crate::status::Status;
 use clap::error::ErrorKind;
 use clap::{Command, Error};
-use std::alloc::Global;
+use std::alloc::{AllocError, Global};
 use std::{env, io};
 
 /// What the program is asked to do.
@@ -13,30 +17,59 @@ pub enum Request {
     Explain,
 }
 
-fn parse(alloc: Global, words: &[String]) -> Result<Request, Error> {
+/// The command by which words are read.
+fn command<'a>(alloc: Global) -> Result<Command<'a>, AllocError>
+    ensures { IfOk result (λ made. app_of made ≡ tcc_command) }
+{
     let explain = Command::new(alloc, "explain").about(
         "Reads records from standard input and says whether the history is causally consistent",
     );
-    let command = Command::new(alloc, "tcc")
+    Command::new(alloc, "tcc")
         .about("Checks and explains causal consistency of transaction histories")
         .subcommand_required(true)
-        .subcommand(explain)?;
-    let _matches = command.try_get_matches_from(words)?;
+        .subcommand(explain)
+}
+
+fn parse(alloc: Global, words: &[String]) -> Result<Request, Error>
+    ensures { FailsBy (fault_of tcc_command (map string_bytes words.now)) result }
+{
+    let _matches = command(alloc)?.try_get_matches_from(words)?;
     Ok(Request::Explain)
 }
 
-/// The status of a command line that asks for no run.
-fn status_of(kind: ErrorKind) -> Status {
+/// How a run ends that asked for help, or was refused, by whether the text of that went out.
+fn end_of(kind: ErrorKind, went_out: bool) -> Status
+    ensures { result ≡ end_of kind went_out }
+{
     match kind {
+        // What standard error takes changes nothing, but help has to go out.
+        ErrorKind::DisplayHelp | ErrorKind::DisplayVersion if !went_out => Status::Device,
         ErrorKind::DisplayHelp | ErrorKind::DisplayVersion => Status::Success,
         ErrorKind::OutOfMemory => Status::Memory,
         _ => Status::Usage,
     }
 }
 
-/// What the process was asked for. Help is printed on standard output and a fault on standard error; then the
-/// status is answered.
-pub fn read(rt: &HostRuntime) -> Result<Request, Status> {
+/// What the words ask for. Help is printed on standard output and a fault on standard error; then the status is
+/// answered.
+fn read_words(rt: &HostRuntime, words: &[String]) -> Result<Request, Status>
+    ensures { IsReading (map string_bytes words.now) result }
+{
+    let error = match parse(rt.alloc(), words) {
+        Ok(request) => return Ok(request),
+        Err(error) => error,
+    };
+    if error.kind() == ErrorKind::OutOfMemory {
+        return Err(Status::Memory);
+    }
+    let went_out = error.print(rt).is_ok();
+    Err(end_of(error.kind(), went_out))
+}
+
+/// What the process was asked for, as `read_words` has it. Of the words of a process nothing is known.
+pub fn read(rt: &HostRuntime) -> Result<Request, Status>
+    ensures { IfErr result EndsUnasked }
+{
     let args = match env::args(rt) {
         Ok(args) => args,
         Err(error) if error.kind() == io::ErrorKind::OutOfMemory => return Err(Status::Memory),
@@ -48,19 +81,5 @@ pub fn read(rt: &HostRuntime) -> Result<Request, Status> {
     let Ok(words) = args.collect::<Vec<String>>(rt.alloc()) else {
         return Err(Status::Memory);
     };
-    match parse(rt.alloc(), &words) {
-        Ok(request) => Ok(request),
-        Err(error) => {
-            let status = status_of(error.kind());
-            if status == Status::Memory {
-                return Err(status);
-            }
-            match error.print(rt) {
-                Ok(()) => Err(status),
-                // Help that does not go out; what standard error takes changes nothing.
-                Err(_) if status == Status::Success => Err(Status::Device),
-                Err(_) => Err(status),
-            }
-        }
-    }
+    read_words(rt, &words)
 }

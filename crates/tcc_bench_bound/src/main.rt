@@ -4,7 +4,7 @@
 //! standard error the time.
 #![tactic(auto)]
 
-ghost use Rattle.std.specs.Prelude.{◌≡◌, ◌<◌, IfOk};
+ghost use Rattle.std.specs.Prelude.{◌≡◌, ◌<◌, Contains, IfOk};
 ghost use denote.Param.Send.{IsSync};
 
 use std::alloc::{Alloc, Global};
@@ -37,10 +37,11 @@ fn open(alloc: Global) -> Result<(Bound, Seat), NoMemory>
     Ok(made)
 }
 
-// Each offer is lower than the one before.
+// Each offer is lower than the one before, and the last one is 0.
 fn call_often(bound: &Bound, seat: &mut Seat, call: Call, times: u32)
     requires { (seat.old.bound ≡ bound.now) × (seat.old.known.floor ≡ 0) }
-    ensures { (seat.new.bound ≡ bound.now) × (seat.new.known.floor ≡ 0) }
+    ensures seat { (seat.new.bound ≡ bound.now) × (seat.new.known.floor ≡ 0) }
+    ensures last { call ≡ Call.Offer → 0 < times → Contains seat.new.known.offers 0 }
 {
     for cost in (0..times).rev() {
         match call {
@@ -60,7 +61,8 @@ fn call_in_threads<R: Threads + Sync>(
     threads: u32,
 ) -> Seat
     requires { (seat.bound ≡ bound.now) × (seat.known.floor ≡ 0) }
-    ensures { (result.bound ≡ bound.now) × (result.known.floor ≡ 0) }
+    ensures seat { (result.bound ≡ bound.now) × (result.known.floor ≡ 0) }
+    ensures last { call ≡ Call.Offer → 0 < times → Contains result.known.offers 0 }
 {
     if threads < 2 {
         call_often(bound, &mut seat, call, times);
@@ -73,15 +75,32 @@ fn call_in_threads<R: Threads + Sync>(
         rt,
         move || -> Seat
             requires { IsSync R.row × (seat.bound ≡ bound.now) × (seat.known.floor ≡ 0) }
-            ensures { (result.bound ≡ bound.entry.now) × (result.known.floor ≡ 0) }
+            ensures seat { (result.bound ≡ bound.entry.now) × (result.known.floor ≡ 0) }
+            ensures last { call ≡ Call.Offer → 0 < times → Contains result.known.offers 0 }
         { call_in_threads(rt, bound, seat, call, times, half) },
         move || -> Seat
             requires { IsSync R.row × (other.bound ≡ bound.now) × (other.known.floor ≡ 0) }
-            ensures { (result.bound ≡ bound.entry.now) × (result.known.floor ≡ 0) }
+            ensures seat { (result.bound ≡ bound.entry.now) × (result.known.floor ≡ 0) }
         { call_in_threads(rt, bound, other, call, times, rest) },
     );
     bound.join(&mut seat, other);
     seat
+}
+
+// The last word of a bound at which the threads made their calls: as offers come down to 0, it is 0 then.
+fn last_word<R: Threads + Sync>(
+    rt: &R,
+    bound: Bound,
+    seat: Seat,
+    call: Call,
+    times: u32,
+    threads: u32,
+) -> u64
+    requires { (seat.bound ≡ bound) × (seat.known.floor ≡ 0) }
+    ensures { call ≡ Call.Offer → 0 < times → result ≡ 0 }
+{
+    let seat = call_in_threads(rt, &bound, seat, call, times, threads);
+    bound.close(seat)
 }
 
 fn measure<R: Threads + Clock + Print + Eprint + Alloc<A = Global> + Sync>(
@@ -92,9 +111,8 @@ fn measure<R: Threads + Clock + Print + Eprint + Alloc<A = Global> + Sync>(
 ) -> io::Result<()> {
     let (bound, seat) = open(rt.alloc())?;
     let start = Instant::now(rt)?;
-    let seat = call_in_threads(rt, &bound, seat, call, times, threads);
+    let word = last_word(rt, bound, seat, call, times, threads);
     let spent = start.elapsed(rt)?;
-    let word = bound.close(seat);
     println!(rt; "threads: {threads}, calls of {call} in each: {times}, word: {word}")?;
     let nanoseconds = spent.as_secs_f64() * 1e9 / f64::from(times.max(1));
     eprintln!(rt; "threads: {threads}, {nanoseconds:.1} ns for each {call} of a thread")

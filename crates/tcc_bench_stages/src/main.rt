@@ -3,6 +3,9 @@
 //! distances too, `derive` its prices, and `order` its first commit order.
 #![tactic(auto)]
 
+ghost use Rattle.std.specs.Prelude.{◌≡◌, ◌≢◌, IfNone, IfSome};
+ghost use Rattle.tcc_bench_stages.specs.Stages.{word_of};
+
 use std::alloc::Global;
 use std::env;
 use std::io::Read;
@@ -88,9 +91,12 @@ fn run<R: Read + Drop>(
     search(rt, alloc, &graph, stage)
 }
 
-fn stage_of(rt: &HostRuntime) -> Option<Stage> {
-    let word = env::args(rt).ok()?.nth(1)?;
-    match word.as_str() {
+/// The stage that a word asks for.
+fn stage_of(word: &str) -> Option<Stage>
+    ensures asked { IfSome result (λ stage. word_of stage ≡ word.now) }
+    ensures unknown { IfNone result ((stage : Stage) → word_of stage ≢ word.now) }
+{
+    match word {
         "rows" => Some(Stage::Rows),
         "resolve" => Some(Stage::Resolve),
         "graph" => Some(Stage::Graph),
@@ -101,8 +107,14 @@ fn stage_of(rt: &HostRuntime) -> Option<Stage> {
     }
 }
 
+/// The stage that the first argument asks for.
+fn asked_stage(rt: &HostRuntime) -> Option<Stage> {
+    let word = env::args(rt).ok()?.nth(1)?;
+    stage_of(word.as_str())
+}
+
 fn main(rt: HostRuntime) -> ExitCode {
-    let Some(stage) = stage_of(&rt) else {
+    let Some(stage) = asked_stage(&rt) else {
         return ExitCode::from(64);
     };
     let Some(count) = run(&rt, rt.alloc(), rt.stdin(), stage) else {

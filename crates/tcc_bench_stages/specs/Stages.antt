@@ -1,0 +1,12 @@
+-- The words by which stages are asked for.
+use Rattle.std.specs.Prelude.{ℕ, List, codes}
+use Rattle.tcc_bench_stages.specs.declared.Stage.{Stage}
+use Rattle.tcc_bench_stages.specs.declared.Stage.TheVariants.{Rows, Resolve, Graph, Near, Derive, Order}
+
+abbrev pub word_of : Stage → List ℕ
+word_of Rows = codes "rows"
+word_of Resolve = codes "resolve"
+word_of Graph = codes "graph"
+word_of Near = codes "near"
+word_of Derive = codes "derive"
+word_of Order = codes "order"
