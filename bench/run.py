@@ -5,9 +5,9 @@
 
 For each history of histories.py: medians of the wall time and the peak memory of `tcc explain`, beside the time
 that csv alone needs for the same records (`csv_count`), and that of the stages (`tcc_bench_stages`): reading the
-records, resolving what they hold, building its graph, working out distances, prices and the order, each without the
-stages before it, the first three beside the one before it. All take turns. Builds what isn't built. Peak memory is
-never below that of this script, about 15 MB.
+records, and reading them into a snapshot, both beside csv alone; then, each without the stages before it, resolving the
+snapshot, beside reading it; building its graph, beside resolving; working out distances, prices and the order. All take
+turns. Builds what isn't built. Peak memory is never below that of this script, about 15 MB.
 """
 import argparse
 import os
@@ -20,7 +20,7 @@ import time
 
 HERE = pathlib.Path(__file__).resolve().parent
 TOP = HERE.parent
-STAGES = ("rows", "resolve", "graph", "near", "derive", "order")
+STAGES = ("rows", "snapshot", "resolve", "graph", "near", "derive", "order")
 
 
 def built(crate):
@@ -62,12 +62,13 @@ def row(programs, history, runs, answer):
         explained.append(measured([programs["tcc"], "explain"], history, answer))
     with open(answer) as text:
         first = text.readline().strip()
-    alone, rows, *later = map(statistics.median, times)
-    resolving, building, *searching = [max(now - before, 0) for before, now in zip([rows] + later, later)]
+    alone, rows, snapshot, *later = map(statistics.median, times)
+    resolving, building, *searching = [max(now - before, 0) for before, now in zip([snapshot] + later, later)]
     wall, peak = (statistics.median(run[i] for run in explained) for i in (0, 1))
     statuses = sorted({run[2] for run in explained})
     cells = [history.stem, records, milliseconds(alone), milliseconds(rows), "%.1f" % (rows / alone)]
-    cells += [milliseconds(resolving), "%.1f" % (resolving / rows)]
+    cells += [milliseconds(snapshot), "%.1f" % (snapshot / alone)]
+    cells += [milliseconds(resolving), "%.1f" % (resolving / snapshot)]
     cells += [milliseconds(building), "%.1f" % (building / max(resolving, 1e-9))]
     cells += [milliseconds(seconds) for seconds in searching + [wall]]
     return cells + ["%.1f" % peak, "/".join(map(str, statuses)), first[:40]]
@@ -81,7 +82,7 @@ def main():
     asked = ask.parse_args()
     programs = {crate: built(crate) for crate in ("csv_count", "tcc_bench_stages")}
     programs["tcc"] = os.path.abspath(asked.tcc) if asked.tcc else built("tcc")
-    table = [("history", "records", "csv ms", "rows ms", "/csv", "resolve ms", "/rows", "graph ms", "/resolve",
+    table = [("history", "records", "csv ms", "rows ms", "/csv", "snapshot ms", "/csv", "resolve ms", "/snapshot", "graph ms", "/resolve",
               "near ms", "derive ms", "order ms", "tcc ms", "peak MB", "status", "answer")]
     with tempfile.TemporaryDirectory() as temporary:
         folder = asked.keep or pathlib.Path(temporary)

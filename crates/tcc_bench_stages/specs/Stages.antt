@@ -1,10 +1,11 @@
 -- The words by which stages are asked for.
 use Rattle.std.specs.Prelude.{ℕ, List, codes}
 use Rattle.tcc_bench_stages.specs.declared.Stage.{Stage}
-use Rattle.tcc_bench_stages.specs.declared.Stage.TheVariants.{Rows, Resolve, Graph, Near, Derive, Order}
+use Rattle.tcc_bench_stages.specs.declared.Stage.TheVariants.{Rows, Snapshot, Resolve, Graph, Near, Derive, Order}
 
 abbrev pub word_of : Stage → List ℕ
 word_of Rows = codes "rows"
+word_of Snapshot = codes "snapshot"
 word_of Resolve = codes "resolve"
 word_of Graph = codes "graph"
 word_of Near = codes "near"

@@ -1,6 +1,7 @@
 //! Runs the first stages of an explanation alone, so that a script can time each of them: `rows` reads the records
-//! of standard input, `resolve` resolves their snapshot too, `graph` builds its graph too, `near` works out its
-//! distances too, `derive` its prices, and `order` its first commit order.
+//! of standard input and keeps nothing, `snapshot` makes a snapshot of what they finish, `resolve` resolves it too,
+//! `graph` builds its graph too, `near` works out its distances too, `derive` its prices, and `order` its first commit
+//! order.
 #![tactic(auto)]
 
 ghost use Rattle.std.specs.Prelude.{◌≡◌, ◌≢◌, IfNone, IfSome};
@@ -22,11 +23,25 @@ use tcc_txn::{Item, Name, Rows, Snapshot, Txn};
 #[derive(Clone, Copy, PartialEq, Eq)]
 enum Stage {
     Rows,
+    Snapshot,
     Resolve,
     Graph,
     Near,
     Derive,
     Order,
+}
+
+/// How many transactions the records finish; none after a fault or a seal.
+fn count_finished<R: Read + Drop>(alloc: Global, reader: R) -> Option<u32> {
+    let mut rows = Rows::new(alloc, reader).ok()?;
+    for count in 0..u32::MAX {
+        match rows.next(alloc).ok()? {
+            Item::Finished(_, _) => {}
+            Item::Seal => return None,
+            Item::End => return Some(count),
+        }
+    }
+    None
 }
 
 /// Adds a transaction to those of its session.
@@ -79,8 +94,11 @@ fn run<R: Read + Drop>(
     reader: R,
     stage: Stage,
 ) -> Option<u32> {
-    let snapshot = Snapshot::new(gather(alloc, reader)?).ok()?;
     if stage == Stage::Rows {
+        return count_finished(alloc, reader);
+    }
+    let snapshot = Snapshot::new(gather(alloc, reader)?).ok()?;
+    if stage == Stage::Snapshot {
         return Some(snapshot.sessions());
     }
     let resolved = resolve(alloc, &snapshot).ok()?;
@@ -98,6 +116,7 @@ fn stage_of(word: &str) -> Option<Stage>
 {
     match word {
         "rows" => Some(Stage::Rows),
+        "snapshot" => Some(Stage::Snapshot),
         "resolve" => Some(Stage::Resolve),
         "graph" => Some(Stage::Graph),
         "near" => Some(Stage::Near),
