@@ -1,5 +1,5 @@
 //! What the command line asks for.
-ghost use Rattle.std.specs.Prelude.{◌≡◌, IfErr, IfOk, map};
+ghost use Rattle.std.specs.Prelude.{◌≡◌, ◌⊎◌, IfErr, IfOk, map};
 ghost use Rattle.std.specs.String.{string_bytes};
 ghost use Rattle.clap.specs.Words.{FailsBy, app_of, fault_of};
 ghost use Rattle.tcc.specs.CommandLines.{EndsUnasked, IsReading, end_of, tcc_command};
@@ -66,9 +66,9 @@ fn read_words(rt: &HostRuntime, words: &[String]) -> Result<Request, Status>
     Err(end_of(error.kind(), went_out))
 }
 
-/// What the process was asked for, as `read_words` has it. Of the words of a process nothing is known.
-pub fn read(rt: &HostRuntime) -> Result<Request, Status>
-    ensures { IfErr result EndsUnasked }
+/// The words of the process, of which nothing is known.
+fn words(rt: &HostRuntime) -> Result<Vec<String>, Status>
+    ensures { IfErr result (λ status. (status ≡ Status.Memory) ⊎ (status ≡ Status.Usage)) }
 {
     let args = match env::args(rt) {
         Ok(args) => args,
@@ -78,8 +78,12 @@ pub fn read(rt: &HostRuntime) -> Result<Request, Status>
             return Err(Status::Usage);
         }
     };
-    let Ok(words) = args.collect::<Vec<String>>(rt.alloc()) else {
-        return Err(Status::Memory);
-    };
-    read_words(rt, &words)
+    args.collect(rt.alloc()).map_err(|_| Status::Memory)
+}
+
+/// What the process was asked for, as `read_words` has it.
+pub fn read(rt: &HostRuntime) -> Result<Request, Status>
+    ensures { IfErr result EndsUnasked }
+{
+    read_words(rt, &words(rt)?)
 }
