@@ -12,7 +12,8 @@ use Rattle.tcc_cert.specs.Tables.{row_of}
 use Rattle.tcc_cert.specs.CycleRules.{CycleClaim}
 use Rattle.tcc_cert.specs.OrderRules.{OrderClaim}
 use Rattle.tcc_cert.specs.Texts.{Words, words_text, line_text, lines_text, numbers_words, table_lines, link_lines, header_words, claim_lines, certificate_text, most_cost, IsNumber, IsCount, HasTableText, HasOrderText, HasCycleText, HasText, HasLinkText}
-use Rattle.tcc_cert.specs.Reading.{words, repeated, next, header_line, ended, numbers_line, word_line, sizes_line, link_at, table_at, order_at, cycle_at, certificate_of, Order, Cycle}
+use Rattle.tcc_cert.specs.Reading.{words, repeated, next, header_line, ended, numbers_line, word_line, sizes_line, link_at, table_at, order_at, cycle_at, certificate_of}
+use Rattle.tcc_cert.specs.declared.reading.forms.Sizes.TheVariants.{Order, Cycle}
 use Rattle.tcc_cert.proofs.ReadingFacts.{IsAbove, later, decimal-above, number_of-decimal}
 use Rattle.tcc_cert.proofs.Items.{flat_map-map, flat_map-flat_map}
 use Rattle.tcc_cert.proofs.LinesBack.{at, then_ok, next-line, words-line, line-at, repeated-back}

@@ -7,3 +7,5 @@ pub mod LinesBack
 pub mod FormsBack
 pub mod LinksBack
 pub mod ClaimsBack
+pub mod HeldFacts
+pub mod InputFacts

@@ -5,3 +5,5 @@ pub mod Rules
 pub mod Texts
 pub mod Writing
 pub mod Reading
+pub mod HeldBytes
+pub mod Inputs

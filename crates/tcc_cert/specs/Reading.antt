@@ -1,6 +1,6 @@
 -- How a certificate's text is read: line by line, up to the first fault. What the next line has to be follows from the lines before it.
 use Rattle.std.specs.Prelude.{ℕ, zero, suc, ◌+◌, Bool, not, ◌&&◌, ◌||◌, ◌==◌, nat_lt, if◌then◌else◌, List, [], ◌∷◌, length, take, drop, is_some, Result, Ok, Err, codes}
-use Rattle.std.specs.List.{position_or_len}
+use Rattle.std.specs.List.{position_or_len, slice_split}
 use Rattle.std.specs.Str.{all_ascii_digits}
 use Rattle.std.specs.Str.Parse.{digits_value}
 use Rattle.tcc_txn.specs.Names.{name_fault}
@@ -14,6 +14,9 @@ use Rattle.tcc_cert.specs.declared.fault.CertFaultKind.{CertFaultKind}
 use Rattle.tcc_cert.specs.declared.fault.CertFaultKind.TheVariants.{Header, Word, Number, Count, TooLarge, Truncated, Trailing}
 use Rattle.tcc_cert.specs.declared.certificate.Certificate.{Certificate}
 use Rattle.tcc_cert.specs.declared.certificate.Certificate.TheVariants as claim
+use Rattle.tcc_cert.specs.declared.reading.forms.Head.{Head}
+use Rattle.tcc_cert.specs.declared.reading.forms.Sizes.{Sizes}
+use Rattle.tcc_cert.specs.declared.reading.forms.Sizes.TheVariants.{Order, Cycle}
 use Rattle.tcc_cert.specs.Texts.{Words, most_cost}
 
 -- what comes next, or the fault that was met before
@@ -24,15 +27,9 @@ abbrev pub ◌>>=◌ : {A B E : Type 0} → Result A E → (A → Result B E) �
 
 -- ---- words
 
--- one more byte in front of words
-abbrev pub before_space : ℕ → Words → Words
-before_space byte [] = (byte ∷ []) ∷ []
-before_space byte (word ∷ words) = if byte == 32 then [] ∷ word ∷ words else (byte ∷ word) ∷ words
-
 -- what stands between spaces; n spaces part n + 1 words, some of them empty
 abbrev pub parted : List ℕ → Words
-parted [] = [] ∷ []
-parted (byte ∷ bytes) = before_space byte (parted bytes)
+parted bytes = slice_split (λ byte. byte == 32) bytes
 
 -- the words of a line; an empty line has none
 abbrev pub words_of : List ℕ → Words
@@ -103,11 +100,6 @@ step_line (word ∷ fields) =
     else if same word (codes "R") then reads_fields fields
     else Err Word
 
--- a link without its walk, and how many steps that has
-pub record Head : Type 0 where
-  pub link : Link
-  pub steps : ℕ
-
 abbrev pub with_walk : Link → List Step → Link
 with_walk (link.Session u v) walk = link.Session u v
 with_walk (link.Reads u v key) walk = link.Reads u v key
@@ -133,12 +125,6 @@ head_line [] = Err Word
 head_line (word ∷ fields) =
     if same word (codes "D") then derived_fields fields
     else step_line (word ∷ fields) >>= λ step. Ok (head_of_step step)
-
--- how long the parts of a claim are: how many transactions and sessions; or how many transactions and links, and what
--- the cycle costs
-pub data Sizes : Type 0 where
-  Order : ℕ → ℕ → Sizes
-  Cycle : ℕ → ℕ → ℕ → Sizes
 
 abbrev pub order_fields : Words → Result Sizes CertFaultKind
 order_fields (n ∷ s ∷ []) = do

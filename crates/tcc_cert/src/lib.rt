@@ -8,6 +8,7 @@ pub mod laws;
 mod lines;
 mod links;
 mod numbers;
+mod reading;
 mod table;
 mod writing;
 

@@ -1,0 +1,6 @@
+//! How a certificate's text is read.
+mod decimals;
+mod forms;
+mod held;
+mod input;
+mod words;
