@@ -9,3 +9,4 @@ pub mod LinksBack
 pub mod ClaimsBack
 pub mod HeldFacts
 pub mod InputFacts
+pub mod WordFacts

@@ -77,27 +77,38 @@ numbers_of most (word ∷ words) = do
 abbrev pub numbers_line : ℕ → ℕ → Words → Result (List ℕ) CertFaultKind
 numbers_line count most words = if length words == count then numbers_of most words else Err Count
 
-abbrev pub session_fields : Words → Result Step CertFaultKind
-session_fields (u ∷ v ∷ []) = do
+-- two words, three or five
+abbrev pub two_words : {X : Type 0} → (List ℕ → List ℕ → Result X CertFaultKind) → Words → Result X CertFaultKind
+two_words form (first ∷ second ∷ []) = form first second
+two_words form _ = Err Count
+
+abbrev pub three_words : {X : Type 0} → (List ℕ → List ℕ → List ℕ → Result X CertFaultKind) → Words → Result X CertFaultKind
+three_words form (first ∷ second ∷ third ∷ []) = form first second third
+three_words form _ = Err Count
+
+abbrev pub five_words : {X : Type 0} → (List ℕ → List ℕ → List ℕ → List ℕ → List ℕ → Result X CertFaultKind) → Words → Result X CertFaultKind
+five_words form (first ∷ second ∷ third ∷ fourth ∷ fifth ∷ []) = form first second third fourth fifth
+five_words form _ = Err Count
+
+abbrev pub session_of : List ℕ → List ℕ → Result Step CertFaultKind
+session_of u v = do
   from ← transaction_of u
   to ← transaction_of v
   Ok (step.Session from to)
-session_fields _ = Err Count
 
-abbrev pub reads_fields : Words → Result Step CertFaultKind
-reads_fields (u ∷ v ∷ name ∷ []) = do
+abbrev pub reads_of : List ℕ → List ℕ → List ℕ → Result Step CertFaultKind
+reads_of u v name = do
   from ← transaction_of u
   to ← transaction_of v
   key ← key_of name
   Ok (step.Reads from to key)
-reads_fields _ = Err Count
 
 -- a step of a walk
 abbrev pub step_line : Words → Result Step CertFaultKind
 step_line [] = Err Word
 step_line (word ∷ fields) =
-    if same word (codes "S") then session_fields fields
-    else if same word (codes "R") then reads_fields fields
+    if same word (codes "S") then two_words session_of fields
+    else if same word (codes "R") then three_words reads_of fields
     else Err Word
 
 abbrev pub with_walk : Link → List Step → Link
@@ -109,44 +120,41 @@ abbrev pub head_of_step : Step → Head
 head_of_step (step.Session u v) = record { link = link.Session u v; steps = 0 }
 head_of_step (step.Reads u v key) = record { link = link.Reads u v key; steps = 0 }
 
-abbrev pub derived_fields : Words → Result Head CertFaultKind
-derived_fields (b ∷ a ∷ name ∷ c ∷ w ∷ []) = do
+abbrev pub derived_of : List ℕ → List ℕ → List ℕ → List ℕ → List ℕ → Result Head CertFaultKind
+derived_of b a name c w = do
   from ← transaction_of b
   to ← transaction_of a
   key ← key_of name
   reader ← transaction_of c
   steps ← count_of w
   Ok (record { link = link.Derived from to key reader []; steps = steps })
-derived_fields _ = Err Count
 
 -- the line that a link begins with
 abbrev pub head_line : Words → Result Head CertFaultKind
 head_line [] = Err Word
 head_line (word ∷ fields) =
-    if same word (codes "D") then derived_fields fields
+    if same word (codes "D") then five_words derived_of fields
     else step_line (word ∷ fields) >>= λ step. Ok (head_of_step step)
 
-abbrev pub order_fields : Words → Result Sizes CertFaultKind
-order_fields (n ∷ s ∷ []) = do
+abbrev pub order_sizes : List ℕ → List ℕ → Result Sizes CertFaultKind
+order_sizes n s = do
   transactions ← count_of n
   sessions ← number_of 0 64 s
   Ok (Order transactions sessions)
-order_fields _ = Err Count
 
-abbrev pub cycle_fields : Words → Result Sizes CertFaultKind
-cycle_fields (n ∷ m ∷ l ∷ []) = do
+abbrev pub cycle_sizes : List ℕ → List ℕ → List ℕ → Result Sizes CertFaultKind
+cycle_sizes n m l = do
   transactions ← count_of n
   links ← count_of m
   least ← number_of 0 most_cost l
   Ok (Cycle transactions links least)
-cycle_fields _ = Err Count
 
 -- the line that says how long the parts of a claim are
 abbrev pub sizes_line : Words → Result Sizes CertFaultKind
 sizes_line [] = Err Word
 sizes_line (word ∷ fields) =
-    if same word (codes "order") then order_fields fields
-    else if same word (codes "cycle") then cycle_fields fields
+    if same word (codes "order") then two_words order_sizes fields
+    else if same word (codes "cycle") then three_words cycle_sizes fields
     else Err Word
 
 -- ---- lines
