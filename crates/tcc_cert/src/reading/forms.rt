@@ -1,6 +1,6 @@
 //! What one line of words says.
 ghost use Rattle.std.specs.Prelude.{◌≡◌, map};
-ghost use Rattle.tcc_cert.specs.Reading.{count_of, cycle_sizes, derived_of, head_line, head_of_step, key_of, order_sizes, reads_of, session_of, sizes_line, step_line, transaction_of};
+ghost use Rattle.tcc_cert.specs.Reading.{count_of, cycle_sizes, derived_of, five_words, head_line, head_of_step, key_of, order_sizes, reads_of, session_of, sizes_line, step_line, three_words, transaction_of, two_words};
 
 use super::decimals::number_of;
 use crate::CertFaultKind;
@@ -85,6 +85,26 @@ fn reads_of(from: &[u8], to: &[u8], key: &[u8]) -> Result<Step, CertFaultKind>
     })
 }
 
+/// What stands behind `S`.
+fn session_fields(fields: &[&[u8]]) -> Result<Step, CertFaultKind>
+    ensures { result ≡ two_words session_of (map (λ word. word.now) fields.now) }
+{
+    match fields {
+        [from, to] => session_of(from, to),
+        _ => Err(CertFaultKind::Count),
+    }
+}
+
+/// What stands behind `R`.
+fn reads_fields(fields: &[&[u8]]) -> Result<Step, CertFaultKind>
+    ensures { result ≡ three_words reads_of (map (λ word. word.now) fields.now) }
+{
+    match fields {
+        [from, to, key] => reads_of(from, to, key),
+        _ => Err(CertFaultKind::Count),
+    }
+}
+
 /// The line of a step.
 pub(crate) fn step_line(words: &[&[u8]]) -> Result<Step, CertFaultKind>
     ensures { result ≡ step_line (map (λ word. word.now) words.now) }
@@ -93,15 +113,9 @@ pub(crate) fn step_line(words: &[&[u8]]) -> Result<Step, CertFaultKind>
         return Err(CertFaultKind::Word);
     };
     if *word == b"S".as_slice() {
-        match fields {
-            [from, to] => session_of(from, to),
-            _ => Err(CertFaultKind::Count),
-        }
+        session_fields(fields)
     } else if *word == b"R".as_slice() {
-        match fields {
-            [from, to, key] => reads_of(from, to, key),
-            _ => Err(CertFaultKind::Count),
-        }
+        reads_fields(fields)
     } else {
         Err(CertFaultKind::Word)
     }
@@ -131,6 +145,16 @@ fn derived_of(
     })
 }
 
+/// What stands behind `D`.
+fn derived_fields(alloc: Global, fields: &[&[u8]]) -> Result<Head, CertFaultKind>
+    ensures { result ≡ five_words derived_of (map (λ word. word.now) fields.now) }
+{
+    match fields {
+        [from, to, key, reader, steps] => derived_of(alloc, from, to, key, reader, steps),
+        _ => Err(CertFaultKind::Count),
+    }
+}
+
 /// A link of one step.
 fn head_of_step(step: Step) -> Head
     ensures { result ≡ head_of_step step }
@@ -150,10 +174,7 @@ pub(crate) fn head_line(alloc: Global, words: &[&[u8]]) -> Result<Head, CertFaul
         return Err(CertFaultKind::Word);
     };
     if *word == b"D".as_slice() {
-        match fields {
-            [from, to, key, reader, steps] => derived_of(alloc, from, to, key, reader, steps),
-            _ => Err(CertFaultKind::Count),
-        }
+        derived_fields(alloc, fields)
     } else {
         Ok(head_of_step(step_line(words)?))
     }
@@ -180,6 +201,26 @@ fn cycle_sizes(transactions: &[u8], links: &[u8], least: &[u8]) -> Result<Sizes,
     })
 }
 
+/// What stands behind `order`.
+fn order_fields(fields: &[&[u8]]) -> Result<Sizes, CertFaultKind>
+    ensures { result ≡ two_words order_sizes (map (λ word. word.now) fields.now) }
+{
+    match fields {
+        [transactions, sessions] => order_sizes(transactions, sessions),
+        _ => Err(CertFaultKind::Count),
+    }
+}
+
+/// What stands behind `cycle`.
+fn cycle_fields(fields: &[&[u8]]) -> Result<Sizes, CertFaultKind>
+    ensures { result ≡ three_words cycle_sizes (map (λ word. word.now) fields.now) }
+{
+    match fields {
+        [transactions, links, least] => cycle_sizes(transactions, links, least),
+        _ => Err(CertFaultKind::Count),
+    }
+}
+
 /// The line that says how long the parts of a claim are.
 pub(crate) fn sizes_line(words: &[&[u8]]) -> Result<Sizes, CertFaultKind>
     ensures { result ≡ sizes_line (map (λ word. word.now) words.now) }
@@ -188,15 +229,9 @@ pub(crate) fn sizes_line(words: &[&[u8]]) -> Result<Sizes, CertFaultKind>
         return Err(CertFaultKind::Word);
     };
     if *word == b"order".as_slice() {
-        match fields {
-            [transactions, sessions] => order_sizes(transactions, sessions),
-            _ => Err(CertFaultKind::Count),
-        }
+        order_fields(fields)
     } else if *word == b"cycle".as_slice() {
-        match fields {
-            [transactions, links, least] => cycle_sizes(transactions, links, least),
-            _ => Err(CertFaultKind::Count),
-        }
+        cycle_fields(fields)
     } else {
         Err(CertFaultKind::Word)
     }
