@@ -187,14 +187,10 @@ text-back (claim.Order order clocks) h =
     let body = lines_text (numbers_words order ∷ (codes "clocks" ∷ []) ∷ (table_lines clocks ++ (codes "end" ∷ []) ∷ [])) in
     let sizes = order_sizes-at (length order) (length (row_of clocks 0)) 2 body h.count h.sessions in
     let claim_read = order-back k h 3 in
-    then_ok _ (header-at (lines_text (claim_lines (claim.Order order clocks))))
-    ∙ then_ok _ sizes
-    ∙ then_ok (λ read. ended read.0 read.1) claim_read.1
+    then_ok (λ read. ended read.0 read.1) (then_ok _ (header-at (lines_text (claim_lines (claim.Order order clocks)))) ∙ then_ok _ sizes ∙ claim_read.1)
 text-back (claim.Cycle links least near far) h =
     let k : CycleClaim = record { links = links; least = least; near = near; far = far } in
     let body = lines_text (flat_map link_lines links ++ (codes "near" ∷ []) ∷ (table_lines near ++ (codes "far" ∷ []) ∷ (table_lines far ++ (codes "end" ∷ []) ∷ []))) in
     let sizes = cycle_sizes-at (length near) (length links) least 2 body h.count h.steps h.least in
     let claim_read = cycle-back k h 3 in
-    then_ok _ (header-at (lines_text (claim_lines (claim.Cycle links least near far))))
-    ∙ then_ok _ sizes
-    ∙ then_ok (λ read. ended read.0 read.1) claim_read.1
+    then_ok (λ read. ended read.0 read.1) (then_ok _ (header-at (lines_text (claim_lines (claim.Cycle links least near far)))) ∙ then_ok _ sizes ∙ claim_read.1)

@@ -10,3 +10,5 @@ pub mod ClaimsBack
 pub mod HeldFacts
 pub mod InputFacts
 pub mod WordFacts
+pub mod OnwardFacts
+pub mod StepFacts

@@ -1,11 +1,12 @@
--- How far the reading of a reader's bytes has come, and what comes of it.
-use Rattle.std.specs.Prelude.{ℕ, ◌≡◌, ◌≤◌, ◌⊎◌, ◌-◌, List, take, drop, Option, Some, Result, Ok, Err}
+-- How far the reading of a reader's bytes has come.
+use Rattle.std.specs.Prelude.{ℕ, ◌≡◌, ◌⊎◌, ◌-◌, List, take, drop, Option, Some, Result, Ok, Err}
 use Rattle.std.specs.Io.KnownBytes.{prepend_known}
 use Rattle.tcc_cert.specs.declared.fault.CertFault.{CertFault}
 use Rattle.tcc_cert.specs.declared.fault.CertFaultKind.{CertFaultKind}
-use Rattle.tcc_cert.specs.declared.fault.CertFaultKind.TheVariants.{Read, NoMemory}
+use Rattle.tcc_cert.specs.declared.fault.CertFaultKind.TheVariants.{Read}
 use Rattle.tcc_cert.specs.declared.reading.input.Input.{Input}
 use Rattle.tcc_cert.specs.HeldBytes.{held_bytes}
+use Rattle.tcc_cert.specs.Outcomes.{IsFailure, Faults}
 use Rattle.tcc_cert.specs.Reading.{Place, Reads, behind, line_of}
 
 -- the last line without its line feed
@@ -17,10 +18,6 @@ pub record IsAt {R : Type 0} (remaining : R → Option (List ℕ)) (input : Inpu
   pub number : input.number ≡ at.line
   pub bytes : prepend_known (drop input.passed (held_bytes input.held)) (remaining input.reader) ≡ Some at.bytes
 
--- what comes of a reader that fails and of want of memory
-abbrev pub IsFailure : CertFaultKind → Type 0
-IsFailure kind = (kind ≡ Read) ⊎ (kind ≡ NoMemory)
-
 -- what the next line shows, unless the reader failed
 abbrev pub FindsLine : {R : Type 0} → Place → Result ℕ CertFaultKind → Input R → Type 0
 FindsLine at (Ok length) new = line_of at.bytes ≡ Ok (take length (held_bytes new.held))
@@ -31,3 +28,13 @@ abbrev pub TakesLine : {R : Type 0} → (R → Option (List ℕ)) → Place → 
 TakesLine remaining at (Ok number) new =
     (line_of at.bytes ≡ Ok (line_in new)) × (number ≡ at.line) × IsAt remaining new (behind at (line_in new))
 TakesLine remaining at (Err fault) new = ((line_of at.bytes ≡ Err fault.kind) ⊎ IsFailure fault.kind) × (fault.line ≡ at.line)
+
+-- what the text shows from the place on was given, and the input is behind it
+abbrev pub Gives : {R X : Type 0} → (R → Option (List ℕ)) → Place → Reads X → Result X CertFault → Input R → Type 0
+Gives remaining at read (Ok x) new = (after : Place) × (read ≡ Ok (x, after)) × IsAt remaining new after
+Gives remaining at read (Err fault) new = Faults at read fault
+
+-- the same of what is passed over
+abbrev pub Passes : {R X Y : Type 0} → (R → Option (List ℕ)) → Place → Reads X → Result Y CertFault → Input R → Type 0
+Passes {X = X} remaining at read (Ok _) new = (x : X) × (after : Place) × (read ≡ Ok (x, after)) × IsAt remaining new after
+Passes remaining at read (Err fault) new = Faults at read fault

@@ -247,10 +247,19 @@ claim_at (Cycle transactions links least) at = cycle_at transactions links least
 abbrev pub ended : Certificate → Place → Result Certificate CertFault
 ended certificate at = if length at.bytes == 0 then Ok certificate else Err (record { line = at.line; kind = Trailing })
 
+-- a certificate, up to the line behind its last
+abbrev pub certificate_at : Place → Reads Certificate
+certificate_at at = do
+  header ← next header_line at
+  sizes ← words sizes_line header.1
+  claim_at sizes.0 sizes.1
+
+-- the whole text
+abbrev pub start_of : List ℕ → Place
+start_of bytes = record { line = 1; bytes = bytes }
+
 -- the certificate whose text the bytes are, or the first fault
 abbrev pub certificate_of : List ℕ → Result Certificate CertFault
 certificate_of bytes = do
-  header ← next header_line (record { line = 1; bytes = bytes })
-  sizes ← words sizes_line header.1
-  certificate ← claim_at sizes.0 sizes.1
+  certificate ← certificate_at (start_of bytes)
   ended certificate.0 certificate.1

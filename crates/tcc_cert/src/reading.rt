@@ -3,4 +3,5 @@ mod decimals;
 mod forms;
 mod held;
 mod input;
+mod rows;
 mod words;

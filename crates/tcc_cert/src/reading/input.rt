@@ -1,6 +1,7 @@
 //! The lines of a reader, within the limit on their length.
 ghost use Rattle.std.specs.Prelude.{◌≡◌, ◌<◌, ◌≤◌, ◌==◌, IfOk, IfSome, OnOk, length, position, take};
 ghost use Rattle.tcc_cert.specs.HeldBytes.{held_bytes};
+ghost use Rattle.tcc_cert.specs.Outcomes.{at_line};
 ghost use Rattle.tcc_cert.specs.Reading.{line_length};
 
 use super::held::Held;
@@ -16,6 +17,16 @@ pub(crate) struct Input<R> {
     passed: usize,
     number: u64,
     ghost within: { passed ≤ length (held_bytes held) },
+}
+
+/// What comes of the line with this number.
+pub(crate) fn at_line<T: Drop>(line: u64, shown: Result<T, CertFaultKind>) -> Result<T, CertFault>
+    ensures { result ≡ at_line line shown }
+{
+    match shown {
+        Ok(value) => Ok(value),
+        Err(kind) => Err(CertFault { line, kind }),
+    }
 }
 
 /// Where the first line feed stands.
@@ -57,6 +68,16 @@ impl<R: Read> Input<R> {
         ensures { result.now ≡ line_in self.now }
     {
         &self.held.as_slice()[..self.passed.saturating_sub(1)]
+    }
+
+    /// A fault at the line after the last.
+    pub(crate) fn fault(&self, kind: CertFaultKind) -> CertFault
+        ensures { result ≡ record { line = self.now.number; kind = kind } }
+    {
+        CertFault {
+            line: self.number,
+            kind,
+        }
     }
 
     /// Reads until the next line is held, and says how long it is.
