@@ -39,25 +39,25 @@ table-at rows columns most table le few h n rest =
 
 -- ---- lines of one word
 
-clocks-at : (n : ℕ) (rest : List ℕ) → words (word_line (codes "clocks")) (at n (line_text (codes "clocks" ∷ []) ++ rest)) ≡ Ok (codes "clocks", at (n + 1) rest)
+clocks-at : (n : ℕ) (rest : List ℕ) → words (word_line (codes "clocks")) (at n (line_text (codes "clocks" ∷ []) ++ rest)) ≡ Ok (tt, at (n + 1) rest)
 clocks-at n rest =
     words-line (word_line (codes "clocks")) n (codes "clocks" ∷ []) rest
-    (lit< tt, (lit< tt, (lit< tt, (lit< tt, (lit< tt, (lit< tt, (lit< tt, tt)))))), tt) (lit≤ tt) (codes "clocks") refl
+    (lit< tt, (lit< tt, (lit< tt, (lit< tt, (lit< tt, (lit< tt, (lit< tt, tt)))))), tt) (lit≤ tt) tt refl
 
-near-at : (n : ℕ) (rest : List ℕ) → words (word_line (codes "near")) (at n (line_text (codes "near" ∷ []) ++ rest)) ≡ Ok (codes "near", at (n + 1) rest)
+near-at : (n : ℕ) (rest : List ℕ) → words (word_line (codes "near")) (at n (line_text (codes "near" ∷ []) ++ rest)) ≡ Ok (tt, at (n + 1) rest)
 near-at n rest =
     words-line (word_line (codes "near")) n (codes "near" ∷ []) rest
-    (lit< tt, (lit< tt, (lit< tt, (lit< tt, (lit< tt, tt)))), tt) (lit≤ tt) (codes "near") refl
+    (lit< tt, (lit< tt, (lit< tt, (lit< tt, (lit< tt, tt)))), tt) (lit≤ tt) tt refl
 
-far-at : (n : ℕ) (rest : List ℕ) → words (word_line (codes "far")) (at n (line_text (codes "far" ∷ []) ++ rest)) ≡ Ok (codes "far", at (n + 1) rest)
+far-at : (n : ℕ) (rest : List ℕ) → words (word_line (codes "far")) (at n (line_text (codes "far" ∷ []) ++ rest)) ≡ Ok (tt, at (n + 1) rest)
 far-at n rest =
     words-line (word_line (codes "far")) n (codes "far" ∷ []) rest
-    (lit< tt, (lit< tt, (lit< tt, (lit< tt, tt))), tt) (lit≤ tt) (codes "far") refl
+    (lit< tt, (lit< tt, (lit< tt, (lit< tt, tt))), tt) (lit≤ tt) tt refl
 
-end-at : (n : ℕ) (rest : List ℕ) → words (word_line (codes "end")) (at n (line_text (codes "end" ∷ []) ++ rest)) ≡ Ok (codes "end", at (n + 1) rest)
+end-at : (n : ℕ) (rest : List ℕ) → words (word_line (codes "end")) (at n (line_text (codes "end" ∷ []) ++ rest)) ≡ Ok (tt, at (n + 1) rest)
 end-at n rest =
     words-line (word_line (codes "end")) n (codes "end" ∷ []) rest
-    (lit< tt, (lit< tt, (lit< tt, (lit< tt, tt))), tt) (lit≤ tt) (codes "end") refl
+    (lit< tt, (lit< tt, (lit< tt, (lit< tt, tt))), tt) (lit≤ tt) tt refl
 
 -- ---- claims of orders
 
@@ -175,7 +175,7 @@ cycle_sizes-at n m l at_line rest hn hm hl =
     (Cycle n m l)
     (rw (number_of-decimal 1 1024 n hn.some hn.limit (omega (arith, hn.limit)), number_of-decimal 1 1024 m hm.some hm.limit (omega (arith, hm.limit)), number_of-decimal 0 most_cost l (omega arith) hl (omega (arith, hl))) refl)
 
-header-at : (rest : List ℕ) → next header_line (at 1 (line_text header_words ++ rest)) ≡ Ok (codes "tcc-certificate 1", at 2 rest)
+header-at : (rest : List ℕ) → next header_line (at 1 (line_text header_words ++ rest)) ≡ Ok (tt, at 2 rest)
 header-at rest =
     next-line header_line 1 (codes "tcc-certificate 1") rest
     (lit< tt, (lit< tt, (lit< tt, (lit< tt, (lit< tt, (lit< tt, (lit< tt, (lit< tt, (lit< tt, (lit< tt, (lit< tt, (lit< tt, (lit< tt, (lit< tt, (lit< tt, (lit< tt, (lit< tt, tt))))))))))))))))) (lit≤ tt)

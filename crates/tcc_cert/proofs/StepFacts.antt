@@ -2,9 +2,11 @@
 use Rattle.std.proofs.Common.{◌≡◌, ℕ, zero, suc, ◌+◌, ◌-◌, ◌<◌, ◌≤◌, List, [], ◌∷◌, ◌++◌, Option, Result, Ok, Err, inl, inr, refl, sym, ap, subst, ◌∙◌, arith, append_assoc, append-nil}
 use Rattle.tcc_cert.specs.declared.fault.CertFault.{CertFault}
 use Rattle.tcc_cert.specs.declared.fault.CertFaultKind.{CertFaultKind}
-use Rattle.tcc_cert.specs.Outcomes.{IsFailure, reached, IsStopped, Faults}
-use Rattle.tcc_cert.specs.Reading.{◌>>=◌, Place, Reads, repeated}
-use Rattle.tcc_cert.proofs.OnwardFacts.{IsOnward, onward-then, onward-ok, onward-repeated}
+use Rattle.tcc_cert.specs.declared.reading.input.Input.{Input}
+use Rattle.tcc_cert.specs.Inputs.{IsAt, line_in, TakesLine, Gives}
+use Rattle.tcc_cert.specs.Outcomes.{IsFailure, Shows, at_line, reached, IsStopped, Faults}
+use Rattle.tcc_cert.specs.Reading.{◌>>=◌, Place, Reads, behind, next, repeated}
+use Rattle.tcc_cert.proofs.OnwardFacts.{IsOnward, onward-then, onward-ok, onward-next, onward-repeated}
 
 -- the first part had a fault
 pub first-faults : {A B : Type 0} {at : Place} (read : Reads A) (go : A × Place → Reads B) (fault : CertFault) → ((x : A × Place) → IsOnward x.1 (go x)) → Faults at read fault → Faults at (read >>= go) fault
@@ -91,3 +93,13 @@ part-refused read count at front i now kind on so_far failure =
     let end = (onward-repeated read (count - i) on now).onward in
     let same = ap reached so_far.part ∙ on-rest now front (repeated read (count - i) now) in
     inr (record { failure = failure; first = so_far.on; last = omega (arith, same, end) })
+
+-- ---- the next line
+
+-- the next line was read and judged
+pub line-shows : {R X : Type 0} (remaining : R → Option (List ℕ)) (at : Place) (number : ℕ) (form : List ℕ → Result X CertFaultKind) (shown : Result X CertFaultKind) (new : Input R)
+    → TakesLine remaining at (Ok number) new → Shows shown (form (line_in new)) → Gives remaining at (next form at) (at_line number shown) new
+line-shows remaining at number form (Ok x) new taken shows = (behind at (line_in new), rw (taken.0, shows) refl, taken.2)
+line-shows remaining at number form (Err kind) new taken (inl shows) = inl (rw (taken.0, shows, taken.1) refl)
+line-shows remaining at number form (Err kind) new taken (inr refused) =
+    inr (record { failure = inr refused; first = omega (arith, taken.1); last = omega (arith, taken.1, (onward-next form at).onward) })

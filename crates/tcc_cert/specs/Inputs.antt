@@ -1,9 +1,9 @@
 -- How far the reading of a reader's bytes has come.
-use Rattle.std.specs.Prelude.{ℕ, ◌≡◌, ◌⊎◌, ◌-◌, List, take, drop, Option, Some, Result, Ok, Err}
+use Rattle.std.specs.Prelude.{ℕ, ◌≡◌, ◌≢◌, ◌⊎◌, ◌-◌, List, [], take, drop, Option, Some, Result, Ok, Err}
 use Rattle.std.specs.Io.KnownBytes.{prepend_known}
 use Rattle.tcc_cert.specs.declared.fault.CertFault.{CertFault}
 use Rattle.tcc_cert.specs.declared.fault.CertFaultKind.{CertFaultKind}
-use Rattle.tcc_cert.specs.declared.fault.CertFaultKind.TheVariants.{Read}
+use Rattle.tcc_cert.specs.declared.fault.CertFaultKind.TheVariants.{Read, Trailing}
 use Rattle.tcc_cert.specs.declared.reading.input.Input.{Input}
 use Rattle.tcc_cert.specs.HeldBytes.{held_bytes}
 use Rattle.tcc_cert.specs.Outcomes.{IsFailure, Faults}
@@ -34,7 +34,7 @@ abbrev pub Gives : {R X : Type 0} → (R → Option (List ℕ)) → Place → Re
 Gives remaining at read (Ok x) new = (after : Place) × (read ≡ Ok (x, after)) × IsAt remaining new after
 Gives remaining at read (Err fault) new = Faults at read fault
 
--- the same of what is passed over
-abbrev pub Passes : {R X Y : Type 0} → (R → Option (List ℕ)) → Place → Reads X → Result Y CertFault → Input R → Type 0
-Passes {X = X} remaining at read (Ok _) new = (x : X) × (after : Place) × (read ≡ Ok (x, after)) × IsAt remaining new after
-Passes remaining at read (Err fault) new = Faults at read fault
+-- whether nothing stands from the place on, unless the reader failed
+abbrev pub Ends : Place → Result (Unit {0}) CertFault → Type 0
+Ends at (Ok _) = at.bytes ≡ []
+Ends at (Err fault) = (fault.line ≡ at.line) × (((fault.kind ≡ Trailing) × (at.bytes ≢ [])) ⊎ (fault.kind ≡ Read))

@@ -61,9 +61,9 @@ key_of word = if is_some (name_fault word) then Err Word else Ok word
 -- ---- the forms of lines
 
 -- a line of this word alone
-abbrev pub word_line : List ℕ → Words → Result (List ℕ) CertFaultKind
+abbrev pub word_line : List ℕ → Words → Result (Unit {0}) CertFaultKind
 word_line wanted [] = Err Word
-word_line wanted (word ∷ fields) = if same word wanted then if length fields == 0 then Ok word else Err Count else Err Word
+word_line wanted (word ∷ fields) = if same word wanted then if length fields == 0 then Ok tt else Err Count else Err Word
 
 -- numbers up to most, judged from left to right
 abbrev pub numbers_of : ℕ → Words → Result (List ℕ) CertFaultKind
@@ -205,8 +205,8 @@ repeated read (suc n) at = do
   others ← repeated read n first.1
   Ok (first.0 ∷ others.0, others.1)
 
-abbrev pub header_line : List ℕ → Result (List ℕ) CertFaultKind
-header_line line = if same line (codes "tcc-certificate 1") then Ok line else Err Header
+abbrev pub header_line : List ℕ → Result (Unit {0}) CertFaultKind
+header_line line = if same line (codes "tcc-certificate 1") then Ok tt else Err Header
 
 -- the link of this head, and the steps of its walk
 abbrev pub walk_of : Head × Place → Reads Link

@@ -16,6 +16,7 @@ pub use certificate::Certificate;
 pub use fault::{CertFault, CertFaultKind, WriteFault};
 pub use links::Links;
 pub use numbers::Numbers;
+pub use reading::read;
 pub use table::Table;
 pub use writing::write;
 

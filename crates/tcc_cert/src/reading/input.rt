@@ -49,7 +49,7 @@ fn line_length(bytes: &[u8], searched: usize) -> usize
 }
 
 impl<R: Read> Input<R> {
-    ghost use Rattle.tcc_cert.specs.Inputs.{FindsLine, IsAt, TakesLine, line_in};
+    ghost use Rattle.tcc_cert.specs.Inputs.{Ends, FindsLine, IsAt, TakesLine, line_in};
     ghost use Rattle.tcc_cert.specs.Reading.{Place};
 
     pub(crate) fn new(reader: R) -> Input<R>
@@ -129,6 +129,22 @@ impl<R: Read> Input<R> {
                 Ok(line)
             }
             Err(kind) => Err(CertFault { line, kind }),
+        }
+    }
+
+    /// Nothing stands behind the last line.
+    pub(crate) fn end(&mut self) -> Result<(), CertFault>
+        ensures { (at : Place) → IsAt R.remaining self.old at → Ends at result }
+    {
+        self.held.pass(self.passed);
+        self.passed = 0;
+        if !self.held.as_slice().is_empty() {
+            return Err(self.fault(CertFaultKind::Trailing));
+        }
+        match self.held.fill(&mut self.reader) {
+            Ok(0) => Ok(()),
+            Ok(_) => Err(self.fault(CertFaultKind::Trailing)),
+            Err(_) => Err(self.fault(CertFaultKind::Read)),
         }
     }
 }
