@@ -103,3 +103,9 @@ line-shows remaining at number form (Ok x) new taken shows = (behind at (line_in
 line-shows remaining at number form (Err kind) new taken (inl shows) = inl (rw (taken.0, shows, taken.1) refl)
 line-shows remaining at number form (Err kind) new taken (inr refused) =
     inr (record { failure = inr refused; first = omega (arith, taken.1); last = omega (arith, taken.1, (onward-next form at).onward) })
+
+-- what comes of a part comes of the whole that it ends
+pub later-gives : {R A B : Type 0} (remaining : R → Option (List ℕ)) (at : Place) {after : Place} {x : A} (read : Reads A) (go : A × Place → Reads B) (result : Result B CertFault) (new : Input R) → read ≡ Ok (x, after) → at.line ≤ after.line
+    → Gives remaining after (go (x, after)) result new → Gives remaining at (read >>= go) result new
+later-gives remaining at read go (Ok y) new is on gives = (gives.0, rw is gives.1, gives.2)
+later-gives remaining at read go (Err fault) new is on faults = later-faults read go fault is on faults

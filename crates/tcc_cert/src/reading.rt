@@ -1,8 +1,8 @@
 //! How a certificate's text is read.
-ghost use Rattle.std.specs.Prelude.{◌≡◌, IfSome};
+ghost use Rattle.std.specs.Prelude.{◌≡◌, ℕ, IfSome, List};
 ghost use Rattle.tcc_cert.specs.Inputs.{Gives, IsAt};
-ghost use Rattle.tcc_cert.specs.Outcomes.{Faults, IsReading, Shows};
-ghost use Rattle.tcc_cert.specs.Reading.{Place, certificate_at, claim_at, cycle_at, header_line, next, order_at, sizes_line, word_line, words, words_of};
+ghost use Rattle.tcc_cert.specs.Outcomes.{IsReading, Shows};
+ghost use Rattle.tcc_cert.specs.Reading.{Place, certificate_at, claim_at, cycle_at, header_line, next, order_at, sizes_line, start_of, word_line, words, words_of};
 
 mod decimals;
 mod forms;
@@ -146,14 +146,22 @@ fn certificate<R: Read>(alloc: Global, input: &mut Input<R>) -> Result<Certifica
     }
 }
 
+/// A certificate that nothing stands behind.
+fn whole<R: Read>(alloc: Global, input: &mut Input<R>) -> Result<Certificate, CertFault>
+    ensures { (bytes : List ℕ) → IsAt R.remaining input.old (start_of bytes) → IsReading bytes result }
+{
+    let certificate = certificate(alloc, input)?;
+    match input.end() {
+        Ok(()) => Ok(certificate),
+        Err(fault) => Err(fault),
+    }
+}
+
 /// Reads the certificate whose text the reader gives, nothing behind it, or the first line with a fault. A line has at
 /// most 8,191 bytes and a line feed. Where the reader fails, that is the fault `Read` at the line that was wanted then,
 /// unless a line before it has another.
 pub fn read<R: Read + Drop>(alloc: Global, reader: R) -> Result<Certificate, CertFault>
     ensures { IfSome (R.remaining reader) (λ bytes. IsReading bytes result) }
 {
-    let mut input = Input::new(reader);
-    let certificate = certificate(alloc, &mut input)?;
-    input.end()?;
-    Ok(certificate)
+    whole(alloc, &mut Input::new(reader))
 }
