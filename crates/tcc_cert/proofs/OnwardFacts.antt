@@ -9,7 +9,7 @@ use Rattle.tcc_cert.specs.Outcomes.{reached}
 use Rattle.tcc_graph.specs.declared.link.Link.{Link}
 use Rattle.tcc_cert.specs.declared.certificate.Certificate.TheVariants as claim
 use Rattle.tcc_cert.specs.Texts.{Words, most_cost}
-use Rattle.tcc_cert.specs.Reading.{◌>>=◌, Place, Reads, judged, behind, line_of, next, words, repeated, words_of, step_line, numbers_line, with_walk, head_line, walk_of, link_at, word_line, sizes_line, table_at, order_at, cycle_at, claim_at, certificate_at}
+use Rattle.tcc_cert.specs.Reading.{◌>>=◌, Place, Reads, judged, behind, line_of, next, words, repeated, header_line, words_of, step_line, numbers_line, with_walk, head_line, walk_of, link_at, word_line, sizes_line, table_at, order_at, cycle_at, claim_at, certificate_at}
 
 -- from this place the reading ended at no line before it
 pub record IsOnward {X : Type 0} (at : Place) (read : Reads X) : Type 0 where
@@ -105,3 +105,6 @@ onward-claim (Cycle n count least, at) = onward-cycle n count least at
 
 pub onward-sizes : (mark : Unit {0} × Place) → IsOnward mark.1 (words sizes_line mark.1 >>= λ sizes. claim_at sizes.0 sizes.1)
 onward-sizes mark = line-then sizes_line _ mark.1 onward-claim
+
+pub onward-certificate : (at : Place) → IsOnward at (certificate_at at)
+onward-certificate at = onward-then at (next header_line at) _ (onward-next header_line at) onward-sizes

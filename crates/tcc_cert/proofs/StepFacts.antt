@@ -1,11 +1,13 @@
 -- Parts of a text read one after the other, where a reader may fail and memory may be refused.
-use Rattle.std.proofs.Common.{◌≡◌, ℕ, zero, suc, ◌+◌, ◌-◌, ◌<◌, ◌≤◌, List, [], ◌∷◌, ◌++◌, Option, Result, Ok, Err, inl, inr, refl, sym, ap, subst, ◌∙◌, arith, append_assoc, append-nil}
+use Rattle.std.proofs.Common.{◌≡◌, ℕ, zero, suc, ◌+◌, ◌-◌, ◌<◌, ◌≤◌, ◌≢◌, false, eqb, length, List, [], ◌∷◌, ◌++◌, Option, Result, Ok, Err, inl, inr, refl, sym, ap, subst, ◌∙◌, arith, append_assoc, append-nil}
+use Rattle.std.proofs.lemmas.Bool.Decides.{nat_tests}
+use Rattle.tcc_cert.specs.declared.certificate.Certificate.{Certificate}
 use Rattle.tcc_cert.specs.declared.fault.CertFault.{CertFault}
 use Rattle.tcc_cert.specs.declared.fault.CertFaultKind.{CertFaultKind}
 use Rattle.tcc_cert.specs.declared.reading.input.Input.{Input}
-use Rattle.tcc_cert.specs.Inputs.{IsAt, line_in, TakesLine, Gives}
-use Rattle.tcc_cert.specs.Outcomes.{IsFailure, Shows, at_line, reached, IsStopped, Faults}
-use Rattle.tcc_cert.specs.Reading.{◌>>=◌, Place, Reads, behind, next, repeated}
+use Rattle.tcc_cert.specs.Inputs.{IsAt, line_in, TakesLine, Gives, Ends}
+use Rattle.tcc_cert.specs.Outcomes.{IsFailure, Shows, at_line, reached, IsStopped, Faults, IsReading}
+use Rattle.tcc_cert.specs.Reading.{◌>>=◌, Place, Reads, behind, next, repeated, certificate_at, certificate_of, start_of}
 use Rattle.tcc_cert.proofs.OnwardFacts.{IsOnward, onward-then, onward-ok, onward-next, onward-repeated}
 
 -- the first part had a fault
@@ -109,3 +111,23 @@ pub later-gives : {R A B : Type 0} (remaining : R → Option (List ℕ)) (at : P
     → Gives remaining after (go (x, after)) result new → Gives remaining at (read >>= go) result new
 later-gives remaining at read go (Ok y) new is on gives = (gives.0, rw is gives.1, gives.2)
 later-gives remaining at read go (Err fault) new is on faults = later-faults read go fault is on faults
+
+-- ---- the whole text
+
+pub whole-faults : (bytes : List ℕ) (fault : CertFault) → Faults (start_of bytes) (certificate_at (start_of bytes)) fault → IsReading bytes (Err fault)
+whole-faults bytes fault (inl is) = inl (rw is refl)
+whole-faults bytes fault (inr stopped) = inr stopped
+
+pub whole-ended : (bytes : List ℕ) (certificate : Certificate) (after : Place) (done : Unit {0}) → certificate_at (start_of bytes) ≡ Ok (certificate, after) → Ends after (Ok done)
+    → certificate_of bytes ≡ Ok certificate
+whole-ended bytes certificate after done is none = rw (is, none) refl
+
+some-left : (bytes : List ℕ) → bytes ≢ [] → eqb (length bytes) 0 ≡ false
+some-left [] some = absurd (some refl)
+some-left (byte ∷ bytes) some = grind (arith, nat_tests)
+
+pub whole-followed : (bytes : List ℕ) (certificate : Certificate) (after : Place) (fault : CertFault) → certificate_at (start_of bytes) ≡ Ok (certificate, after) → 1 ≤ after.line → Ends after (Err fault)
+    → IsReading bytes (Err fault)
+whole-followed bytes certificate after fault is on (line, inl more) = inl (rw (is, some-left after.bytes more.1, ← line, ← more.0) refl)
+whole-followed bytes certificate after fault is on (line, inr failed) =
+    inr (record { failure = inl failed; first = omega (arith, line, on); last = omega (arith, line, ap reached is) })
