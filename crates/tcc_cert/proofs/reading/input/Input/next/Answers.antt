@@ -13,8 +13,11 @@ returns-in-Some g c at before =
     let same : n + 1 - 1 ≡ n = omega arith in
     let now = c.in-Ok.ensures.stays at (record { number = before.number; bytes = rw c.pass.ensures before.bytes }) in
     let found = c.in-Ok.ensures.found at (record { number = before.number; bytes = rw c.pass.ensures before.bytes }) in
-    let long : length (take (n + 1 - 1) held) + 1 ≡ n + 1 = rw (same, length-take-le n held (omega (arith, within))) refl in
-    (found ∙ ap (λ m. Ok (take m held)) (sym same), before.number, record {
-      number = c.in-Some.ensures.1 ∙ ap (λ m. m + 1) before.number;
-      bytes = rw long (passed-front _ held at.bytes (n + 1) (omega (arith, within)) (rw c.in-Ok.ensures.passed at now.bytes));
-    })
+    let long : length (take (n + 1 - 1) held) + 1 ≡ n + 1 = rw (same, length-take-le n held (omega (arith, within))) refl in (
+      found ∙ ap (λ m. Ok (take m held)) (sym same),
+      before.number,
+      record {
+        number = c.in-Some.ensures.1 ∙ ap (λ m. m + 1) before.number;
+        bytes = rw long (passed-front _ held at.bytes (n + 1) (omega (arith, within)) (rw c.in-Ok.ensures.passed at now.bytes));
+      },
+    )
