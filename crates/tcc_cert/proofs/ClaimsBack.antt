@@ -61,7 +61,7 @@ end-at n rest =
 
 -- ---- claims of orders
 
-order_text : (order : Words) (clocks : List (List ℕ))
+pub order_text : (order : Words) (clocks : List (List ℕ))
     → lines_text (order ∷ (codes "clocks" ∷ []) ∷ (table_lines clocks ++ (codes "end" ∷ []) ∷ []))
     ≡ line_text order ++ (line_text (codes "clocks" ∷ []) ++ (lines_text (table_lines clocks) ++ (line_text (codes "end" ∷ []) ++ [])))
 order_text order clocks =
@@ -88,7 +88,7 @@ order-back k h n =
 
 -- ---- claims of cycles
 
-cycle_text : (links : List Link) (near far : List (List ℕ))
+pub cycle_text : (links : List Link) (near far : List (List ℕ))
     → lines_text (flat_map link_lines links ++ (codes "near" ∷ []) ∷ (table_lines near ++ (codes "far" ∷ []) ∷ (table_lines far ++ (codes "end" ∷ []) ∷ [])))
     ≡ lines_text (flat_map link_lines links) ++ (line_text (codes "near" ∷ []) ++ (lines_text (table_lines near) ++ (line_text (codes "far" ∷ []) ++ (lines_text (table_lines far) ++ (line_text (codes "end" ∷ []) ++ [])))))
 cycle_text links near far =

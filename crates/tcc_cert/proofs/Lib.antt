@@ -12,3 +12,5 @@ pub mod InputFacts
 pub mod WordFacts
 pub mod OnwardFacts
 pub mod StepFacts
+pub mod OneText
+pub mod OneClaim
