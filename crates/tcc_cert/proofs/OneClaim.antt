@@ -37,11 +37,13 @@ row-from columns most small at after row e =
 table-text : (rows columns most : ℕ) (at after : Place) (table : List (List ℕ)) → most < 2 ^ 64 → table_at rows columns most at ≡ Ok (table, after)
     → HasTableText rows columns most table × (at.bytes ≡ lines_text (table_lines table) ++ after.bytes)
 table-text rows columns most at after table small e =
-    let read = repeated-text (words (numbers_line columns most)) (IsRowText columns most) (λ row. line_text (numbers_words row)) (row-from columns most small) rows at after table e in
-    (record {
-      size = record { long = read.1; wide = All-from_recursion (λ row. length row ≡ columns) table (each table (λ row p. p.0) read.0) };
-      capped = All-from_recursion (λ row. All (λ n. n ≤ most) row) table (each table (λ row p. All-from_recursion (λ n. n ≤ most) row p.1) read.0);
-    }, read.2 ∙ ap (λ t. t ++ after.bytes) (sym (flat_map-map line_text numbers_words table)))
+    let read = repeated-text (words (numbers_line columns most)) (IsRowText columns most) (λ row. line_text (numbers_words row)) (row-from columns most small) rows at after table e in (
+      record {
+        size = record { long = read.1; wide = All-from_recursion (λ row. length row ≡ columns) table (each table (λ row p. p.0) read.0) };
+        capped = All-from_recursion (λ row. All (λ n. n ≤ most) row) table (each table (λ row p. All-from_recursion (λ n. n ≤ most) row p.1) read.0);
+      },
+      read.2 ∙ ap (λ t. t ++ after.bytes) (sym (flat_map-map line_text numbers_words table)),
+    )
 
 -- ---- marks
 

@@ -275,15 +275,15 @@ fn fault_of(rt: &impl Abort, alloc: Global, reader: impl Read + Drop) -> CertFau
     }
 }
 
-/// How many line feeds the text has.
-fn feeds(text: &[u8]) -> u64 {
-    let mut count = 0;
+/// The number of the line that begins behind the last line feed.
+fn line_begun(text: &[u8]) -> u64 {
+    let mut line: u64 = 1;
     for byte in text {
         if *byte == b'\n' {
-            count += 1;
+            line = line.saturating_add(1);
         }
     }
-    count
+    line
 }
 
 // Cut after each byte but the last: the line that was begun has no line feed.
@@ -296,7 +296,7 @@ fn cut_texts(rt: HostRuntime) -> Result<(), Fail> {
             let fault = fault_of(&rt, alloc, part);
             assert_eq!(&rt;
                 fault.line,
-                feeds(part) + 1,
+                line_begun(part),
                 "for {count} bytes of {text:?}"
             );
             assert_eq!(&rt;
@@ -336,7 +336,7 @@ fn reader_fails(rt: HostRuntime) -> Result<(), Fail> {
         for count in 0..STALE_READ.len() + 1 {
             let text = &STALE_READ.as_bytes()[..count];
             let fault = fault_of(&rt, alloc, Failing { text, most });
-            assert_eq!(&rt; fault.line, feeds(text) + 1, "after {count} bytes");
+            assert_eq!(&rt; fault.line, line_begun(text), "after {count} bytes");
             assert_eq!(&rt; fault.kind, CertFaultKind::Read, "after {count} bytes");
         }
     }
