@@ -1,23 +1,18 @@
 -- A certificate that was read has a text, and was read from that text alone.
-use Rattle.std.proofs.Common.{◌≡◌, ◌⊎◌, ℕ, ◌+◌, ◌^◌, ◌<◌, ◌≤◌, Bool, true, false, cond, eqb, List, [], ◌∷◌, ◌++◌, length, flat_map, All, Result, Ok, Err, inl, inr, refl, sym, ap, subst, ◌∙◌, arith, codes, decimal, lit<, lit≤}
+use Rattle.std.proofs.Common.{◌≡◌, ◌⊎◌, ℕ, ◌^◌, ◌<◌, ◌≤◌, true, false, cond, eqb, List, [], ◌∷◌, ◌++◌, length, flat_map, All, Ok, Err, inl, inr, refl, sym, ap, subst, ◌∙◌, arith, codes, decimal, lit<}
 use Rattle.std.specs.List.{AllByRecursion}
-use Rattle.std.proofs.lemmas.Bool.{eqb-true}
 use Rattle.std.proofs.lemmas.Bool.Decides.{nat_tests}
 use Rattle.std.proofs.lemmas.List.Elements.{All-from_recursion}
 use Rattle.tcc_txn.specs.Lines.{same}
 use Rattle.tcc_graph.specs.declared.link.Link.{Link}
 use Rattle.tcc_cert.specs.declared.certificate.Certificate.{Certificate}
 use Rattle.tcc_cert.specs.declared.certificate.Certificate.TheVariants as claim
-use Rattle.tcc_cert.specs.declared.fault.CertFault.{CertFault}
-use Rattle.tcc_cert.specs.declared.fault.CertFaultKind.{CertFaultKind}
 use Rattle.tcc_cert.specs.declared.fault.CertFaultKind.TheVariants.{Header, Word, Trailing}
 use Rattle.tcc_cert.specs.declared.reading.forms.Sizes.{Sizes}
 use Rattle.tcc_cert.specs.declared.reading.forms.Sizes.TheVariants.{Order, Cycle}
-use Rattle.tcc_cert.specs.Tables.{row_of, HasSize}
-use Rattle.tcc_cert.specs.CycleRules.{CycleClaim}
-use Rattle.tcc_cert.specs.OrderRules.{OrderClaim}
-use Rattle.tcc_cert.specs.Texts.{Words, line_text, lines_text, numbers_words, table_lines, link_lines, claim_lines, certificate_text, most_cost, IsNumber, IsCount, HasTableText, HasOrderText, HasCycleText, HasText, HasLinkText}
-use Rattle.tcc_cert.specs.Reading.{◌>>=◌, count_of, number_of, word_line, numbers_line, two_words, three_words, order_sizes, cycle_sizes, sizes_line, Place, Reads, next, words, repeated, header_line, link_at, table_at, order_at, cycle_at, claim_at, ended, certificate_at, start_of, certificate_of}
+use Rattle.tcc_cert.specs.Tables.{row_of}
+use Rattle.tcc_cert.specs.Texts.{Words, line_text, lines_text, numbers_words, table_lines, link_lines, claim_lines, certificate_text, most_cost, IsNumber, IsCount, HasTableText, HasText, HasLinkText}
+use Rattle.tcc_cert.specs.Reading.{count_of, number_of, word_line, numbers_line, two_words, three_words, order_sizes, cycle_sizes, sizes_line, Place, next, words, repeated, header_line, link_at, table_at, order_at, cycle_at, claim_at, certificate_at, start_of, certificate_of}
 use Rattle.tcc_cert.proofs.Items.{flat_map-map, flat_map-flat_map}
 use Rattle.tcc_cert.proofs.LinksBack.{each}
 use Rattle.tcc_cert.proofs.ClaimsBack.{order_text, cycle_text}

@@ -1,5 +1,5 @@
 -- What is read has a text, and was read from that text alone.
-use Rattle.std.proofs.Common.{◌≡◌, ◌⊎◌, ℕ, zero, suc, ◌+◌, ◌^◌, ◌<◌, ◌≤◌, Bool, true, false, not, ◌&&◌, ◌||◌, cond, eqb, ltb, List, [], ◌∷◌, ◌++◌, length, get_or, take, drop, map, flat_map, All, Option, None, Some, Result, Ok, Err, inl, inr, refl, sym, ap, subst, ◌∙◌, arith, append_assoc, append-nil, codes, decimal, lit<, lit≤}
+use Rattle.std.proofs.Common.{◌≡◌, ◌⊎◌, ℕ, zero, suc, ◌+◌, ◌^◌, ◌<◌, ◌≤◌, Bool, true, false, not, ◌&&◌, ◌||◌, cond, eqb, ltb, List, [], ◌∷◌, ◌++◌, length, get_or, take, drop, map, flat_map, Option, None, Some, Result, Ok, Err, inl, inr, refl, sym, ap, subst, ◌∙◌, arith, append_assoc, append-nil, codes, decimal, lit<}
 use Rattle.std.specs.Prelude.{is_some}
 use Rattle.std.specs.List.{AllByRecursion, join_with_byte}
 use Rattle.std.specs.Str.{all_ascii_digits}
@@ -7,7 +7,7 @@ use Rattle.std.specs.Str.Parse.{digits_value}
 use Rattle.std.proofs.lemmas.Bool.{eqb-true}
 use Rattle.std.proofs.lemmas.Bool.Decides.{nat_tests}
 use Rattle.std.proofs.lemmas.Fmt.{decimal-digits_value}
-use Rattle.std.proofs.lemmas.List.{length-take-le, length-append, length-map}
+use Rattle.std.proofs.lemmas.List.{length-take-le, length-map}
 use Rattle.std.proofs.lemmas.List.Elements.{All-from_recursion}
 use Rattle.std.proofs.lemmas.List.Splits.{join_with_byte-slice_split}
 use Rattle.std.proofs.lemmas.List.Sums.{split_at_first, passes_at_first}
@@ -19,12 +19,11 @@ use Rattle.tcc_graph.specs.declared.step.Step.{Step}
 use Rattle.tcc_graph.specs.declared.step.Step.TheVariants as step
 use Rattle.tcc_graph.specs.declared.link.Link.{Link}
 use Rattle.tcc_graph.specs.declared.link.Link.TheVariants as link
-use Rattle.tcc_cert.specs.declared.fault.CertFault.{CertFault}
 use Rattle.tcc_cert.specs.declared.fault.CertFaultKind.{CertFaultKind}
-use Rattle.tcc_cert.specs.declared.fault.CertFaultKind.TheVariants.{Header, Word, Number, Count, TooLarge, Truncated}
+use Rattle.tcc_cert.specs.declared.fault.CertFaultKind.TheVariants.{Word, Number, Count, TooLarge, Truncated}
 use Rattle.tcc_cert.specs.declared.reading.forms.Head.{Head}
 use Rattle.tcc_cert.specs.Texts.{Words, words_text, line_text, lines_text, numbers_words, step_words, link_lines, IsNumber, IsCount, IsKey, HasStepText, HasLinkText}
-use Rattle.tcc_cert.specs.Reading.{◌>>=◌, words_of, parted, is_decimal, number_of, transaction_of, count_of, key_of, word_line, numbers_of, numbers_line, two_words, three_words, five_words, session_of, reads_of, step_line, with_walk, head_of_step, derived_of, head_line, Place, Reads, judged, line_length, line_of, behind, next, words, repeated, walk_of, link_at}
+use Rattle.tcc_cert.specs.Reading.{◌>>=◌, words_of, parted, is_decimal, number_of, transaction_of, count_of, key_of, word_line, numbers_of, numbers_line, two_words, three_words, five_words, session_of, reads_of, step_line, head_of_step, derived_of, head_line, Place, Reads, judged, line_length, line_of, behind, next, words, repeated, walk_of, link_at}
 use Rattle.tcc_cert.proofs.Items.{flat_map-map}
 
 -- ---- what a reading that went well says of its parts

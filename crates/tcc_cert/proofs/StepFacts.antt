@@ -1,12 +1,12 @@
 -- Parts of a text read one after the other, where a reader may fail and memory may be refused.
-use Rattle.std.proofs.Common.{◌≡◌, ℕ, zero, suc, ◌+◌, ◌-◌, ◌<◌, ◌≤◌, ◌≢◌, false, eqb, length, List, [], ◌∷◌, ◌++◌, Option, Result, Ok, Err, inl, inr, refl, sym, ap, subst, ◌∙◌, arith, append_assoc, append-nil}
+use Rattle.std.proofs.Common.{◌≡◌, ℕ, suc, ◌+◌, ◌-◌, ◌<◌, ◌≤◌, ◌≢◌, false, eqb, length, List, [], ◌∷◌, ◌++◌, Option, Result, Ok, Err, inl, inr, refl, sym, ap, subst, ◌∙◌, arith, append_assoc, append-nil}
 use Rattle.std.proofs.lemmas.Bool.Decides.{nat_tests}
 use Rattle.tcc_cert.specs.declared.certificate.Certificate.{Certificate}
 use Rattle.tcc_cert.specs.declared.fault.CertFault.{CertFault}
 use Rattle.tcc_cert.specs.declared.fault.CertFaultKind.{CertFaultKind}
 use Rattle.tcc_cert.specs.declared.reading.input.Input.{Input}
-use Rattle.tcc_cert.specs.Inputs.{IsAt, line_in, TakesLine, Gives, Ends}
-use Rattle.tcc_cert.specs.Outcomes.{IsFailure, Shows, at_line, reached, IsStopped, Faults, IsReading}
+use Rattle.tcc_cert.specs.Inputs.{line_in, TakesLine, Gives, Ends}
+use Rattle.tcc_cert.specs.Outcomes.{IsFailure, Shows, at_line, reached, Faults, IsReading}
 use Rattle.tcc_cert.specs.Reading.{◌>>=◌, Place, Reads, behind, next, repeated, certificate_at, certificate_of, start_of}
 use Rattle.tcc_cert.proofs.OnwardFacts.{IsOnward, onward-then, onward-ok, onward-next, onward-repeated}
 

@@ -1,8 +1,6 @@
 -- The header and the sizes were read, and then the claim.
-use Rattle.std.proofs.Common.{◌∙◌, arith}
 use Rattle.std.proofs.lemmas.Result.{err_from_is_err_and}
 use Rattle.tcc_cert.specs.Reading.{header_line, next, sizes_line, words}
-use Rattle.tcc_cert.proofs.LinesBack.{then_ok}
 use Rattle.tcc_cert.proofs.OnwardFacts.{onward-next, onward-words, onward-sizes, onward-claim}
 use Rattle.tcc_cert.proofs.StepFacts.{first-faults, later-faults, later-gives, onward-at}
 use Rattle.tcc_cert.proofs.reading.certificate.Goals as goal

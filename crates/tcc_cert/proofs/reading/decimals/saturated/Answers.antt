@@ -1,5 +1,5 @@
 -- One more digit.
-use Rattle.std.proofs.Common.{◌≡◌, ◌≤◌, ◌∙◌, true, get_or, sym, arith, rules}
+use Rattle.std.proofs.Common.{◌≡◌, ◌∙◌, true, get_or, arith}
 use Rattle.std.specs.Char.{is_ascii_digit}
 use Rattle.std.proofs.lemmas.Bool.Decides.{nat_tests}
 use Rattle.tcc_cert.proofs.WordFacts.{digits-more, digit-bounds, value-more}

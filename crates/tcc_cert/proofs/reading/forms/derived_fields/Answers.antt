@@ -1,5 +1,5 @@
 -- A line with another number of words.
-use Rattle.std.proofs.Common.{◌≢◌, length, arith}
+use Rattle.std.proofs.Common.{arith}
 use Rattle.std.proofs.lemmas.Bool.Decides.{nat_tests}
 use Rattle.tcc_cert.specs.Reading.{derived_of}
 use Rattle.tcc_cert.proofs.WordFacts.{five_words-other}

@@ -1,5 +1,5 @@
 -- A line with another number of words.
-use Rattle.std.proofs.Common.{◌≢◌, length, arith}
+use Rattle.std.proofs.Common.{arith}
 use Rattle.tcc_cert.specs.Reading.{order_sizes}
 use Rattle.tcc_cert.proofs.WordFacts.{two_words-other}
 use Rattle.tcc_cert.proofs.reading.forms.order_fields.Goals as goal

@@ -1,5 +1,5 @@
 -- The first line was read, and then the walk.
-use Rattle.std.proofs.Common.{Ok, sym, ap, ◌∙◌, arith}
+use Rattle.std.proofs.Common.{◌∙◌, arith}
 use Rattle.std.proofs.lemmas.Result.{err_from_is_err_and}
 use Rattle.tcc_cert.specs.Reading.{step_line, head_line, words, repeated, with_walk, walk_of}
 use Rattle.tcc_cert.proofs.LinesBack.{then_ok}

@@ -1,5 +1,5 @@
 -- One more word.
-use Rattle.std.proofs.Common.{◌≡◌, eqb, Ok, Err, length, inl, refl, sym, ap, ◌∙◌, rules, tests}
+use Rattle.std.proofs.Common.{eqb, length, inl, sym, ◌∙◌, rules, tests}
 use Rattle.std.proofs.lemmas.Iterator.Consumers.{YieldsList-turn, YieldsList-end}
 use Rattle.std.proofs.lemmas.Iterator.Splits.{YieldsList-from_slice_split}
 use Rattle.std.proofs.lemmas.List.{length_push}

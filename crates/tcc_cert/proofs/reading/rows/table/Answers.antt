@@ -1,5 +1,5 @@
 -- One more row.
-use Rattle.std.proofs.Common.{◌≡◌, ◌+◌, ◌∷◌, [], ◌++◌, inr, refl, ap, sym, ◌∙◌, arith, rules}
+use Rattle.std.proofs.Common.{inr, refl}
 use Rattle.std.proofs.lemmas.Result.{err_from_is_err_and}
 use Rattle.tcc_cert.specs.declared.fault.CertFaultKind.TheVariants.{NoMemory}
 use Rattle.tcc_cert.specs.Reading.{numbers_line, words}

@@ -1,5 +1,4 @@
 -- the rows so far were read
-use Rattle.std.proofs.Common.{ℕ}
 use Rattle.tcc_cert.specs.Inputs.{IsAt}
 use Rattle.tcc_cert.specs.Reading.{Place, numbers_line, words}
 use Rattle.tcc_cert.proofs.StepFacts.{IsPart}

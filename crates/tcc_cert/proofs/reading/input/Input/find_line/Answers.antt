@@ -1,8 +1,8 @@
 -- A line feed among the bytes ends the line; without one there are too many, or none to come, or more are read.
-use Rattle.std.proofs.Common.{◌≡◌, ℕ, ◌+◌, ◌<◌, ◌≤◌, ◌++◌, length, take, drop, inl, refl, sym, ap, ◌∙◌, arith, rules}
+use Rattle.std.proofs.Common.{◌++◌, length, take, inl, refl, ap, ◌∙◌, arith}
 use Rattle.std.proofs.lemmas.List.{length-append, take_at}
 use Rattle.tcc_cert.specs.HeldBytes.{held_bytes}
-use Rattle.tcc_cert.specs.Reading.{line_length, line_of}
+use Rattle.tcc_cert.specs.Reading.{line_length}
 use Rattle.tcc_cert.proofs.InputFacts.{length-within, moved-in, known-front, known-all, line-found, line-too-long, line-cut, below_full}
 use Rattle.tcc_cert.proofs.reading.input.Input.find_line.Goals as goal
 

@@ -1,5 +1,5 @@
 -- The line that was found is passed.
-use Rattle.std.proofs.Common.{◌≡◌, ℕ, ◌+◌, ◌-◌, Ok, length, take, drop, Some, refl, sym, ap, ◌∙◌, arith}
+use Rattle.std.proofs.Common.{◌≡◌, ◌+◌, ◌-◌, Ok, length, take, refl, sym, ap, ◌∙◌, arith}
 use Rattle.std.proofs.lemmas.List.{length-take-le}
 use Rattle.tcc_cert.specs.HeldBytes.{held_bytes}
 use Rattle.tcc_cert.proofs.InputFacts.{passed-front}
