@@ -1,9 +1,9 @@
 -- The rules for a claim that a cycle is least. The tables are anybody's: `near` claims to bound the lengths of walks from below, `far` the costs of routes.
-use Rattle.std.specs.Prelude.{ℕ, ◌<◌, ◌≤◌, ◌≡◌, ◌≢◌, ◌+◌, ◌⊎◌, List, [], ◌∷◌, ◌++◌, length, All}
+use Rattle.std.specs.Prelude.{ℕ, ◌<◌, ◌≡◌, ◌+◌, ◌⊎◌, List, [], ◌∷◌, ◌++◌, length, All}
 use Rattle.tcc_reads.specs.History.{History, count}
 use Rattle.tcc_graph.specs.Relations.{IsCausalPair}
 use Rattle.tcc_graph.specs.Walks.{step_from, step_to}
-use Rattle.tcc_graph.specs.Links.{MayContradict, IsLink, link_from, link_to, cost}
+use Rattle.tcc_graph.specs.Links.{MayContradict, IsLink, link_from, link_to}
 use Rattle.tcc_graph.specs.declared.step.Step.{Step}
 use Rattle.tcc_graph.specs.declared.link.Link.{Link}
 use Rattle.tcc_graph.specs.declared.link.Link.TheVariants as link

@@ -1,5 +1,5 @@
 -- What a certificate has to keep.
-use Rattle.std.specs.Prelude.{ℕ, ◌<◌, ◌≡◌, List, length}
+use Rattle.std.specs.Prelude.{ℕ, ◌<◌, ◌≡◌, length}
 use Rattle.tcc_reads.specs.History.{History}
 use Rattle.tcc_graph.specs.Links.{cost}
 use Rattle.tcc_cert.specs.CycleRules.{CycleClaim, HasRightSizes, IsLinkWrong, BreaksNearPair, BreaksNearStep, BreaksFarLink, BreaksFarStep, BreaksReturn}

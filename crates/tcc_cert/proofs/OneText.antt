@@ -1,0 +1,408 @@
+-- What is read has a text, and was read from that text alone.
+use Rattle.std.proofs.Common.{◌≡◌, ◌⊎◌, ℕ, zero, suc, ◌+◌, ◌^◌, ◌<◌, ◌≤◌, Bool, true, false, not, ◌&&◌, ◌||◌, cond, eqb, ltb, List, [], ◌∷◌, ◌++◌, length, get_or, take, drop, map, flat_map, Option, None, Some, Result, Ok, Err, inl, inr, refl, sym, ap, subst, ◌∙◌, arith, append_assoc, append-nil, codes, decimal, lit<}
+use Rattle.std.specs.Prelude.{is_some}
+use Rattle.std.specs.List.{AllByRecursion, join_with_byte}
+use Rattle.std.specs.Str.{all_ascii_digits}
+use Rattle.std.specs.Str.Parse.{digits_value}
+use Rattle.std.proofs.lemmas.Bool.{eqb-true}
+use Rattle.std.proofs.lemmas.Bool.Decides.{nat_tests}
+use Rattle.std.proofs.lemmas.Fmt.{decimal-digits_value}
+use Rattle.std.proofs.lemmas.List.{length-take-le, length-map}
+use Rattle.std.proofs.lemmas.List.Elements.{All-from_recursion}
+use Rattle.std.proofs.lemmas.List.Splits.{join_with_byte-slice_split}
+use Rattle.std.proofs.lemmas.List.Sums.{split_at_first, passes_at_first}
+use Rattle.std.proofs.lemmas.Str.Parse.{numerals_by_value, tells_all_ascii_digits}
+use Rattle.tcc_txn.specs.Names.{name_fault}
+use Rattle.tcc_txn.specs.declared.name.NameFault.{NameFault}
+use Rattle.tcc_txn.specs.Lines.{same, has_no_leading_zero}
+use Rattle.tcc_graph.specs.declared.step.Step.{Step}
+use Rattle.tcc_graph.specs.declared.step.Step.TheVariants as step
+use Rattle.tcc_graph.specs.declared.link.Link.{Link}
+use Rattle.tcc_graph.specs.declared.link.Link.TheVariants as link
+use Rattle.tcc_cert.specs.declared.fault.CertFaultKind.{CertFaultKind}
+use Rattle.tcc_cert.specs.declared.fault.CertFaultKind.TheVariants.{Word, Number, Count, TooLarge, Truncated}
+use Rattle.tcc_cert.specs.declared.reading.forms.Head.{Head}
+use Rattle.tcc_cert.specs.Texts.{Words, words_text, line_text, lines_text, numbers_words, step_words, link_lines, IsNumber, IsCount, IsKey, HasStepText, HasLinkText}
+use Rattle.tcc_cert.specs.Reading.{◌>>=◌, words_of, parted, is_decimal, number_of, transaction_of, count_of, key_of, word_line, numbers_of, numbers_line, two_words, three_words, five_words, session_of, reads_of, step_line, head_of_step, derived_of, head_line, Place, Reads, judged, line_length, line_of, behind, next, words, repeated, walk_of, link_at}
+use Rattle.tcc_cert.proofs.Items.{flat_map-map}
+
+-- ---- what a reading that went well says of its parts
+
+pub then_parts : {A B E : Type 0} (r : Result A E) (f : A → Result B E) (y : B) → (r >>= f) ≡ Ok y → (x : A) × (r ≡ Ok x) × (f x ≡ Ok y)
+then_parts (Ok x) f y e = (x, refl, e)
+then_parts (Err k) f y e = absurd cc
+
+pub refused_parts : {A E : Type 0} (t : Bool) (k : E) (r : Result A E) (y : A) → cond t (Err k) r ≡ Ok y → (t ≡ false) × (r ≡ Ok y)
+refused_parts true k r y e = absurd cc
+refused_parts false k r y e = (refl, e)
+
+pub allowed_parts : {A E : Type 0} (t : Bool) (k : E) (r : Result A E) (y : A) → cond t r (Err k) ≡ Ok y → (t ≡ true) × (r ≡ Ok y)
+allowed_parts true k r y e = (refl, e)
+allowed_parts false k r y e = absurd cc
+
+pub same_ok : {A E : Type 0} {x y : A} → ◌≡◌ {A = Result A E} (Ok x) (Ok y) → x ≡ y
+same_ok e = cc
+
+pub same_pair : {A B E : Type 0} {a c : A} {b d : B} → ◌≡◌ {A = Result (A × B) E} (Ok (a, b)) (Ok (c, d)) → (a ≡ c) × (b ≡ d)
+same_pair {A} {B} {E} {a} {c} {b} {d} e =
+    let pair : (a, b) ≡ (c, d) = same_ok e in
+    (ap (λ p. p.0) pair, ap (λ p. p.1) pair)
+
+-- ---- numbers
+
+pub record IsNumeralOf (least : ℕ) (most : ℕ) (word : List ℕ) (n : ℕ) : Type 0 where
+  pub low : least ≤ n
+  pub high : n ≤ most
+  pub text : word ≡ decimal n
+
+refused-both : (a b : Bool) → (not a || b) ≡ false → (a ≡ true) × (b ≡ false)
+refused-both true b e = (refl, e)
+refused-both false b e = absurd cc
+
+all-three : (a b c : Bool) → (a && b && c) ≡ true → (a ≡ true) × (b ≡ true) × (c ≡ true)
+all-three true true true e = (refl, refl, refl)
+all-three true true false e = absurd cc
+all-three true false c e = absurd cc
+all-three false b c e = absurd cc
+
+lone-zero : (ds : List ℕ) → has_no_leading_zero ds ≡ true → get_or ds 0 0 ≡ 48 → 0 < length ds → length ds ≡ 1
+lone-zero [] lead is some = absurd (omega arith)
+lone-zero (d ∷ []) lead is some = refl
+lone-zero (d ∷ e ∷ ds) lead is some = absurd (grind (arith, nat_tests))
+
+pub number-text : (least most : ℕ) (word : List ℕ) (n : ℕ) → most < 2 ^ 64 → number_of least most word ≡ Ok n → IsNumeralOf least most word n
+number-text least most word n small e =
+    let value = digits_value 10 word in
+    let first = refused_parts (not (is_decimal word) || ltb value least) Number (cond (ltb most value) (Err TooLarge) (Ok value)) n e in
+    let second = refused_parts (ltb most value) TooLarge (Ok value) n first.1 in
+    let is : value ≡ n = same_ok second.1 in
+    let good = refused-both (is_decimal word) (ltb value least) first.0 in
+    let parts = all-three (ltb 0 (length word)) (all_ascii_digits word) (has_no_leading_zero word) good.0 in
+    let some : 0 < length word = grind (arith, nat_tests, parts.0) in
+    let low : least ≤ value = grind (arith, nat_tests, good.1) in
+    let high : value ≤ most = grind (arith, nat_tests, second.0) in
+    let spelled = decimal-digits_value (numerals_by_value _ tells_all_ascii_digits) word parts.1 some (λ is_zero. lone-zero word parts.2 is_zero some) (omega arith) in
+    record { low = omega arith; high = omega arith; text = sym spelled ∙ ap decimal is }
+
+pub number : (word : List ℕ) (n : ℕ) → transaction_of word ≡ Ok n → IsNumeralOf 0 1023 word n
+number word n e = number-text 0 1023 word n (lit< tt) e
+
+pub count : (word : List ℕ) (n : ℕ) → count_of word ≡ Ok n → (word ≡ decimal n) × IsCount n
+count word n e =
+    let is = number-text 1 1024 word n (lit< tt) e in
+    (is.text, record { some = is.low; limit = is.high })
+
+key-fault : (o : Option NameFault) (key : List ℕ) (word : List ℕ) → cond (is_some o) (Err Word) (Ok word) ≡ Ok key → (o ≡ None) × (word ≡ key)
+key-fault None key word e = (refl, same_ok e)
+key-fault (Some fault) key word e = absurd cc
+
+pub key : (word : List ℕ) (name : List ℕ) → key_of word ≡ Ok name → (word ≡ name) × IsKey name
+key word name e =
+    let is = key-fault (name_fault word) name word e in
+    (is.1, ap name_fault (sym is.1) ∙ is.0)
+
+-- ---- words
+
+both-parts : (a b : Bool) → (a && b) ≡ true → (a ≡ true) × (b ≡ true)
+both-parts true b e = (refl, e)
+both-parts false b e = absurd cc
+
+pub same-bytes : (a b : List ℕ) → same a b ≡ true → a ≡ b
+same-bytes [] [] e = refl
+same-bytes [] (y ∷ b) e = absurd cc
+same-bytes (x ∷ a) [] e = absurd cc
+same-bytes (x ∷ a) (y ∷ b) e =
+    let parts = both-parts (eqb x y) (same a b) e in
+    let first = eqb-true x y parts.0 in
+    let rest = same-bytes a b parts.1 in
+    cc
+
+pub two_parts : {X : Type 0} (form : List ℕ → List ℕ → Result X CertFaultKind) (ws : Words) (x : X) → two_words form ws ≡ Ok x → (a b : List ℕ) × (ws ≡ a ∷ b ∷ []) × (form a b ≡ Ok x)
+two_parts form [] x e = absurd cc
+two_parts form (a ∷ []) x e = absurd cc
+two_parts form (a ∷ b ∷ []) x e = (a, b, refl, e)
+two_parts form (a ∷ b ∷ c ∷ ws) x e = absurd cc
+
+pub three_parts : {X : Type 0} (form : List ℕ → List ℕ → List ℕ → Result X CertFaultKind) (ws : Words) (x : X) → three_words form ws ≡ Ok x
+    → (a b c : List ℕ) × (ws ≡ a ∷ b ∷ c ∷ []) × (form a b c ≡ Ok x)
+three_parts form [] x e = absurd cc
+three_parts form (a ∷ []) x e = absurd cc
+three_parts form (a ∷ b ∷ []) x e = absurd cc
+three_parts form (a ∷ b ∷ c ∷ []) x e = (a, b, c, refl, e)
+three_parts form (a ∷ b ∷ c ∷ d ∷ ws) x e = absurd cc
+
+pub five_parts : {X : Type 0} (form : List ℕ → List ℕ → List ℕ → List ℕ → List ℕ → Result X CertFaultKind) (ws : Words) (x : X) → five_words form ws ≡ Ok x
+    → (a b c d f : List ℕ) × (ws ≡ a ∷ b ∷ c ∷ d ∷ f ∷ []) × (form a b c d f ≡ Ok x)
+five_parts form [] x e = absurd cc
+five_parts form (a ∷ []) x e = absurd cc
+five_parts form (a ∷ b ∷ []) x e = absurd cc
+five_parts form (a ∷ b ∷ c ∷ []) x e = absurd cc
+five_parts form (a ∷ b ∷ c ∷ d ∷ []) x e = absurd cc
+five_parts form (a ∷ b ∷ c ∷ d ∷ f ∷ []) x e = (a, b, c, d, f, refl, e)
+five_parts form (a ∷ b ∷ c ∷ d ∷ f ∷ h ∷ ws) x e = absurd cc
+
+-- a line of one word
+pub mark : (wanted : List ℕ) (ws : Words) (done : Unit {0}) → word_line wanted ws ≡ Ok done → ws ≡ wanted ∷ []
+mark wanted [] done e = absurd cc
+mark wanted (word ∷ []) done e =
+    let is = allowed_parts (same word wanted) Word (Ok tt) done e in
+    ap (λ w. w ∷ []) (same-bytes word wanted is.0)
+mark wanted (word ∷ more ∷ fields) done e =
+    let is = allowed_parts (same word wanted) Word (cond (eqb (length (more ∷ fields)) 0) (Ok tt) (Err Count)) done e in
+    let none = allowed_parts (eqb (length (more ∷ fields)) 0) Count (Ok tt) done is.1 in
+    absurd (grind (arith, nat_tests, none.0))
+
+-- equal words are equal lines
+pub two_equal : (h : List ℕ) {u v a b : List ℕ} → u ≡ a → v ≡ b → h ∷ u ∷ v ∷ [] ≡ h ∷ a ∷ b ∷ []
+two_equal h p q = cc
+
+pub three_equal : (h : List ℕ) {u v w a b c : List ℕ} → u ≡ a → v ≡ b → w ≡ c → h ∷ u ∷ v ∷ w ∷ [] ≡ h ∷ a ∷ b ∷ c ∷ []
+three_equal h p q r = cc
+
+five_equal : (h : List ℕ) {t u v w x a b c d f : List ℕ} → t ≡ a → u ≡ b → v ≡ c → w ≡ d → x ≡ f → h ∷ t ∷ u ∷ v ∷ w ∷ x ∷ [] ≡ h ∷ a ∷ b ∷ c ∷ d ∷ f ∷ []
+five_equal h p q r i j = cc
+
+more_equal : {u a : List ℕ} {ws bs : Words} → u ≡ a → ws ≡ bs → u ∷ ws ≡ a ∷ bs
+more_equal p q = cc
+
+-- ---- steps
+
+session : (u v : List ℕ) (s : Step) → session_of u v ≡ Ok s → HasStepText s × (codes "S" ∷ u ∷ v ∷ [] ≡ step_words s)
+session u v s e =
+    let first = then_parts (transaction_of u) _ s e in
+    let second = then_parts (transaction_of v) _ s first.2 in
+    let a = number u first.0 first.1 in
+    let b = number v second.0 second.1 in
+    subst (λ t. HasStepText t × (codes "S" ∷ u ∷ v ∷ [] ≡ step_words t)) (same_ok second.2) ((a.high, b.high), two_equal (codes "S") a.text b.text)
+
+reads : (u v w : List ℕ) (s : Step) → reads_of u v w ≡ Ok s → HasStepText s × (codes "R" ∷ u ∷ v ∷ w ∷ [] ≡ step_words s)
+reads u v w s e =
+    let first = then_parts (transaction_of u) _ s e in
+    let second = then_parts (transaction_of v) _ s first.2 in
+    let third = then_parts (key_of w) _ s second.2 in
+    let a = number u first.0 first.1 in
+    let b = number v second.0 second.1 in
+    let k = key w third.0 third.1 in
+    subst (λ t. HasStepText t × (codes "R" ∷ u ∷ v ∷ w ∷ [] ≡ step_words t)) (same_ok third.2) ((a.high, b.high, k.1), three_equal (codes "R") a.text b.text k.0)
+
+pub choice : {A : Type 0} (t : Bool) (x y z : A) → cond t x y ≡ z → ((t ≡ true) × (x ≡ z)) ⊎ ((t ≡ false) × (y ≡ z))
+choice true x y z e = inl (refl, e)
+choice false x y z e = inr (refl, e)
+
+step-second : (word : List ℕ) (fields : Words) (s : Step) → cond (same word (codes "R")) (three_words reads_of fields) (Err Word) ≡ Ok s → HasStepText s × (word ∷ fields ≡ step_words s)
+step-second word fields s e =
+    let is = allowed_parts (same word (codes "R")) Word (three_words reads_of fields) s e in
+    let parts = three_parts reads_of fields s is.1 in
+    let read = reads parts.0 parts.1 parts.2 s parts.4 in
+    (read.0, rw (same-bytes word (codes "R") is.0, parts.3) read.1)
+
+step-choice : (word : List ℕ) (fields : Words) (s : Step)
+    → ((same word (codes "S") ≡ true) × (two_words session_of fields ≡ Ok s)) ⊎ ((same word (codes "S") ≡ false) × (cond (same word (codes "R")) (three_words reads_of fields) (Err Word) ≡ Ok s))
+    → HasStepText s × (word ∷ fields ≡ step_words s)
+step-choice word fields s (inl is) =
+    let parts = two_parts session_of fields s is.1 in
+    let read = session parts.0 parts.1 s parts.3 in
+    (read.0, rw (same-bytes word (codes "S") is.0, parts.2) read.1)
+step-choice word fields s (inr is) = step-second word fields s is.1
+
+pub step-text : (ws : Words) (s : Step) → step_line ws ≡ Ok s → HasStepText s × (ws ≡ step_words s)
+step-text [] s e = absurd cc
+step-text (word ∷ fields) s e = step-choice word fields s (choice (same word (codes "S")) (two_words session_of fields) _ (Ok s) e)
+
+-- ---- lines of numbers
+
+pub record AreNumeralsOf (most : ℕ) (ws : Words) (numbers : List ℕ) : Type 0 where
+  pub high : AllByRecursion (λ n. n ≤ most) numbers
+  pub text : ws ≡ numbers_words numbers
+
+pub numbers-text : (most : ℕ) (ws : Words) (numbers : List ℕ) → most < 2 ^ 64 → numbers_of most ws ≡ Ok numbers → AreNumeralsOf most ws numbers
+numbers-text most [] numbers small e = subst (AreNumeralsOf most []) (same_ok e) (record { high = tt; text = refl })
+numbers-text most (word ∷ ws) numbers small e =
+    let first = then_parts (number_of 0 most word) _ numbers e in
+    let others = then_parts (numbers_of most ws) _ numbers first.2 in
+    let one = number-text 0 most word first.0 small first.1 in
+    let rest = numbers-text most ws others.0 small others.1 in
+    subst (AreNumeralsOf most (word ∷ ws)) (same_ok others.2) (record { high = (one.high, rest.high); text = more_equal one.text rest.text })
+
+pub row-text : (count most : ℕ) (ws : Words) (numbers : List ℕ) → most < 2 ^ 64 → numbers_line count most ws ≡ Ok numbers → (length numbers ≡ count) × AreNumeralsOf most ws numbers
+row-text count most ws numbers small e =
+    let is = allowed_parts (eqb (length ws) count) Count (numbers_of most ws) numbers e in
+    let read = numbers-text most ws numbers small is.1 in
+    (sym (ap length read.text ∙ length-map numbers decimal) ∙ eqb-true (length ws) count is.0, read)
+
+-- ---- lines
+
+join-same : (ws : Words) → words_text ws ≡ join_with_byte 32 ws
+join-same [] = refl
+join-same (w ∷ []) = append-nil w
+join-same (w ∷ v ∷ ws) = ap (λ t. w ++ 32 ∷ t) (join-same (v ∷ ws))
+
+pub words-back : (line : List ℕ) → words_text (words_of line) ≡ line
+words-back [] = refl
+words-back (byte ∷ bytes) = join-same (parted (byte ∷ bytes)) ∙ join_with_byte-slice_split 32 (byte ∷ bytes)
+
+judged-parts : {X : Type 0} (at after : Place) (shown : Result X CertFaultKind) (x : X) (end : Place) → judged at after shown ≡ Ok (x, end) → (shown ≡ Ok x) × (after ≡ end)
+judged-parts at after (Ok y) x end e =
+    let is = same_pair e in
+    (ap Ok is.0, is.1)
+judged-parts at after (Err kind) x end e = absurd cc
+
+-- a line and its line feed stand before what is behind it
+pub line-text : (bytes line : List ℕ) → line_of bytes ≡ Ok line → bytes ≡ line ++ 10 ∷ drop (length line + 1) bytes
+line-text bytes line e =
+    let n = line_length bytes in
+    let first = refused_parts (ltb 8191 n) TooLarge (cond (ltb n (length bytes)) (Ok (take n bytes)) (Err Truncated)) line e in
+    let second = allowed_parts (ltb n (length bytes)) Truncated (Ok (take n bytes)) line first.1 in
+    let within : n < length bytes = grind (arith, nat_tests, second.0) in
+    let is : take n bytes ≡ line = same_ok second.1 in
+    let feed = eqb-true _ _ (passes_at_first (λ byte. eqb byte 10) bytes 0 within) in
+    let long : length line ≡ n = sym (ap length is) ∙ length-take-le n bytes (omega arith) in
+    split_at_first (λ byte. eqb byte 10) bytes 0 within ∙ rw (feed, is, long) refl
+
+-- the next line
+pub next-text : {X : Type 0} (form : List ℕ → Result X CertFaultKind) (at after : Place) (x : X) → next form at ≡ Ok (x, after)
+    → (line : List ℕ) × (form line ≡ Ok x) × (at.bytes ≡ line ++ 10 ∷ after.bytes)
+next-text form at after x e =
+    let first = then_parts (judged at at (line_of at.bytes)) _ (x, after) e in
+    let line = judged-parts at at (line_of at.bytes) first.0.0 first.0.1 first.1 in
+    let shown = judged-parts at (behind at first.0.0) (form first.0.0) x after first.2 in
+    (first.0.0, shown.0, line-text at.bytes first.0.0 line.0 ∙ ap (λ p. first.0.0 ++ 10 ∷ p.bytes) shown.1)
+
+pub words-text : {X : Type 0} (form : Words → Result X CertFaultKind) (at after : Place) (x : X) → words form at ≡ Ok (x, after)
+    → (ws : Words) × (form ws ≡ Ok x) × (at.bytes ≡ line_text ws ++ after.bytes)
+words-text form at after x e =
+    let read = next-text (λ line. form (words_of line)) at after x e in
+    let split = append_assoc (words_text (words_of read.0)) (10 ∷ []) after.bytes in
+    (words_of read.0, read.1, read.2 ∙ ap (λ l. l ++ 10 ∷ after.bytes) (sym (words-back read.0)) ∙ sym split)
+
+-- ---- parts so many times
+
+-- what is read has this property, and was read from this text
+abbrev pub IsReadFrom : {X : Type 0} → (Place → Reads X) → (X → Type 0) → (X → List ℕ) → Type 0
+IsReadFrom {X = X} read property text = (at after : Place) (x : X) → read at ≡ Ok (x, after) → property x × (at.bytes ≡ text x ++ after.bytes)
+
+pub repeated-text : {X : Type 0} (read : Place → Reads X) (property : X → Type 0) (text : X → List ℕ) → IsReadFrom read property text → (n : ℕ) (at after : Place) (xs : List X) → repeated read n at ≡ Ok (xs, after)
+    → AllByRecursion property xs × (length xs ≡ n) × (at.bytes ≡ flat_map text xs ++ after.bytes)
+repeated-text read property text from zero at after xs e =
+    let is = same_pair e in
+    subst (λ ys. AllByRecursion property ys × (length ys ≡ 0) × (at.bytes ≡ flat_map text ys ++ after.bytes)) is.0 (tt, refl, ap (λ p. p.bytes) is.1)
+repeated-text {X} read property text from (suc n) at after xs e =
+    let first = then_parts (read at) _ (xs, after) e in
+    let others = then_parts (repeated read n first.0.1) _ (xs, after) first.2 in
+    let is = same_pair others.2 in
+    let one = from at first.0.1 first.0.0 first.1 in
+    let rest = repeated-text read property text from n first.0.1 others.0.1 others.0.0 others.1 in
+    let whole : at.bytes ≡ flat_map text (first.0.0 ∷ others.0.0) ++ others.0.1.bytes =
+    one.1 ∙ ap (λ t. text first.0.0 ++ t) rest.2 ∙ sym (append_assoc (text first.0.0) (flat_map text others.0.0) others.0.1.bytes) in
+    subst (λ ys. AllByRecursion property ys × (length ys ≡ suc n) × (at.bytes ≡ flat_map text ys ++ after.bytes)) is.0
+    ((one.0, rest.0), ap (λ m. suc m) rest.1, whole ∙ ap (λ p. flat_map text (first.0.0 ∷ others.0.0) ++ p.bytes) is.1)
+
+-- ---- links
+
+pub step-from : IsReadFrom (words step_line) HasStepText (λ s. line_text (step_words s))
+step-from at after s e =
+    let line = words-text step_line at after s e in
+    let is = step-text line.0 s line.1 in
+    (is.0, line.2 ∙ ap (λ ws. line_text ws ++ after.bytes) is.1)
+
+-- what the first line of a link says
+pub record IsDerivedHead (ws : Words) (head : Head) : Type 0 where
+  pub b : ℕ
+  pub a : ℕ
+  pub name : List ℕ
+  pub c : ℕ
+  pub w : ℕ
+  pub from : IsNumber b
+  pub to : IsNumber a
+  pub is_key : IsKey name
+  pub reader : IsNumber c
+  pub steps : IsCount w
+  pub text : ws ≡ codes "D" ∷ decimal b ∷ decimal a ∷ name ∷ decimal c ∷ decimal w ∷ []
+  pub is : head ≡ record { link = link.Derived b a name c []; steps = w }
+
+pub record IsStepHead (ws : Words) (head : Head) : Type 0 where
+  pub step_of : Step
+  pub has : HasStepText step_of
+  pub text : ws ≡ step_words step_of
+  pub is : head ≡ head_of_step step_of
+
+derived : (t u v w x : List ℕ) (head : Head) → derived_of t u v w x ≡ Ok head → IsDerivedHead (codes "D" ∷ t ∷ u ∷ v ∷ w ∷ x ∷ []) head
+derived t u v w x head e =
+    let first = then_parts (transaction_of t) _ head e in
+    let second = then_parts (transaction_of u) _ head first.2 in
+    let third = then_parts (key_of v) _ head second.2 in
+    let fourth = then_parts (transaction_of w) _ head third.2 in
+    let fifth = then_parts (count_of x) _ head fourth.2 in
+    let nb = number t first.0 first.1 in
+    let na = number u second.0 second.1 in
+    let k = key v third.0 third.1 in
+    let nc = number w fourth.0 fourth.1 in
+    let nw = count x fifth.0 fifth.1 in
+    record {
+      b = first.0;
+      a = second.0;
+      name = third.0;
+      c = fourth.0;
+      w = fifth.0;
+      from = nb.high;
+      to = na.high;
+      is_key = k.1;
+      reader = nc.high;
+      steps = nw.1;
+      text = five_equal (codes "D") nb.text na.text k.0 nc.text nw.0;
+      is = sym (same_ok fifth.2);
+    }
+
+head-choice : (word : List ℕ) (fields : Words) (head : Head)
+    → ((same word (codes "D") ≡ true) × (five_words derived_of fields ≡ Ok head)) ⊎ ((same word (codes "D") ≡ false) × ((step_line (word ∷ fields) >>= λ s. Ok (head_of_step s)) ≡ Ok head))
+    → IsDerivedHead (word ∷ fields) head ⊎ IsStepHead (word ∷ fields) head
+head-choice word fields head (inl is) =
+    let parts = five_parts derived_of fields head is.1 in
+    inl (rw (same-bytes word (codes "D") is.0, parts.5) (derived parts.0 parts.1 parts.2 parts.3 parts.4 head parts.6))
+head-choice word fields head (inr is) =
+    let parts = then_parts (step_line (word ∷ fields)) _ head is.1 in
+    let read = step-text (word ∷ fields) parts.0 parts.1 in
+    inr (record { step_of = parts.0; has = read.0; text = read.1; is = sym (same_ok parts.2) })
+
+pub head-text : (ws : Words) (head : Head) → head_line ws ≡ Ok head → IsDerivedHead ws head ⊎ IsStepHead ws head
+head-text [] head e = absurd cc
+head-text (word ∷ fields) head e = head-choice word fields head (choice (same word (codes "D")) (five_words derived_of fields) _ (Ok head) e)
+
+-- a link of one step
+one-step : (s : Step) (at mid after : Place) (l : Link) → HasStepText s → at.bytes ≡ line_text (step_words s) ++ mid.bytes → walk_of (head_of_step s, mid) ≡ Ok (l, after)
+    → HasLinkText l × (at.bytes ≡ lines_text (link_lines l) ++ after.bytes)
+one-step (step.Session u v) at mid after l has text e =
+    let is = same_pair e in
+    subst (λ m. HasLinkText m × (at.bytes ≡ lines_text (link_lines m) ++ after.bytes)) is.0
+    (has, text ∙ ap (λ t. t ++ mid.bytes) (sym (append-nil (line_text (step_words (step.Session u v))))) ∙ ap (λ p. lines_text (link_lines (link.Session u v)) ++ p.bytes) is.1)
+one-step (step.Reads u v k) at mid after l has text e =
+    let is = same_pair e in
+    subst (λ m. HasLinkText m × (at.bytes ≡ lines_text (link_lines m) ++ after.bytes)) is.0
+    (has, text ∙ ap (λ t. t ++ mid.bytes) (sym (append-nil (line_text (step_words (step.Reads u v k))))) ∙ ap (λ p. lines_text (link_lines (link.Reads u v k)) ++ p.bytes) is.1)
+
+link-choice : (ws : Words) (head : Head) (at mid after : Place) (l : Link) → at.bytes ≡ line_text ws ++ mid.bytes → walk_of (head, mid) ≡ Ok (l, after) → IsDerivedHead ws head ⊎ IsStepHead ws head
+    → HasLinkText l × (at.bytes ≡ lines_text (link_lines l) ++ after.bytes)
+link-choice ws head at mid after l text e (inr h) =
+    one-step h.step_of at mid after l h.has (text ∙ ap (λ words. line_text words ++ mid.bytes) h.text) (subst (λ read. walk_of (read, mid) ≡ Ok (l, after)) h.is e)
+link-choice ws head at mid after l text e (inl h) =
+    let derived_link : List Step → Link = λ walk. link.Derived h.b h.a h.name h.c walk in
+    let walked = then_parts (repeated (words step_line) h.w mid) (λ walk. Ok (derived_link walk.0, walk.1)) (l, after) (subst (λ read. walk_of (read, mid) ≡ Ok (l, after)) h.is e) in
+    let walk = walked.0.0 in
+    let is = same_pair walked.2 in
+    let read = repeated-text (words step_line) HasStepText (λ s. line_text (step_words s)) step-from h.w mid walked.0.1 walk walked.1 in
+    let first : Words = codes "D" ∷ decimal h.b ∷ decimal h.a ∷ h.name ∷ decimal h.c ∷ decimal h.w ∷ [] in
+    let counted : IsCount (length walk) = subst IsCount (sym read.1) h.steps in
+    let has : HasLinkText (derived_link walk) = (h.from, h.to, h.is_key, h.reader, counted, All-from_recursion HasStepText walk read.0) in
+    let whole : at.bytes ≡ lines_text (link_lines (derived_link walk)) ++ walked.0.1.bytes =
+    text
+    ∙ ap (λ words. line_text words ++ mid.bytes) h.text
+    ∙ ap (λ t. line_text first ++ t) (read.2 ∙ ap (λ t. t ++ walked.0.1.bytes) (sym (flat_map-map line_text step_words walk)))
+    ∙ sym (append_assoc (line_text first) (lines_text (map step_words walk)) walked.0.1.bytes)
+    ∙ ap (λ n. line_text (codes "D" ∷ decimal h.b ∷ decimal h.a ∷ h.name ∷ decimal h.c ∷ decimal n ∷ []) ++ lines_text (map step_words walk) ++ walked.0.1.bytes) (sym read.1) in
+    subst (λ m. HasLinkText m × (at.bytes ≡ lines_text (link_lines m) ++ after.bytes)) is.0 (has, whole ∙ ap (λ p. lines_text (link_lines (derived_link walk)) ++ p.bytes) is.1)
+
+pub link-from : IsReadFrom link_at HasLinkText (λ l. lines_text (link_lines l))
+link-from at after l e =
+    let head = then_parts (words head_line at) walk_of (l, after) e in
+    let line = words-text head_line at head.0.1 head.0.0 head.1 in
+    link-choice line.0 head.0.0 at head.0.1 after l line.2 head.2 (head-text line.0 head.0.0 line.1)
