@@ -1,1 +1,3 @@
 pub mod Ends
+mod WorkedTexts
+mod WorkedJson
