@@ -1,5 +1,5 @@
 -- The JSON of an answer: one line with the compact text of one object, whose keys stand in byte order.
-use Rattle.std.specs.Prelude.{ℕ, ◌-◌, List, [], ◌∷◌, ◌++◌, length, map, codes}
+use Rattle.std.specs.Prelude.{ℕ, ◌-◌, List, ◌++◌, length, map, codes}
 use Rattle.serde_json.specs.Data.{Data, number, unsigned, string, array, object, no_members, member}
 use Rattle.serde_json.specs.View.{items_of}
 use Rattle.serde_json.specs.Written.{compact_text}

@@ -1,4 +1,7 @@
 //! Why an answer could not be written.
+ghost use Rattle.std.specs.Prelude.{◌≡◌};
+ghost use Rattle.tcc_explain.specs.declared.fault.WriteFault.TheVariants as fault;
+
 use std::alloc::AllocError;
 use std::io;
 use tcc_txn::NoMemory;
@@ -16,18 +19,24 @@ pub enum WriteFault {
 }
 
 impl From<io::Error> for WriteFault {
+    ghost from_gives = { λ error to. to ≡ fault.Device };
+
     fn from(_error: io::Error) -> WriteFault {
         WriteFault::Device
     }
 }
 
 impl From<NoMemory> for WriteFault {
+    ghost from_gives = { λ error to. to ≡ fault.NoMemory };
+
     fn from(_error: NoMemory) -> WriteFault {
         WriteFault::NoMemory
     }
 }
 
 impl From<AllocError> for WriteFault {
+    ghost from_gives = { λ error to. to ≡ fault.NoMemory };
+
     fn from(_error: AllocError) -> WriteFault {
         WriteFault::NoMemory
     }

@@ -4,8 +4,12 @@
 mod answer;
 mod fault;
 mod labels;
+mod pieces;
+mod sending;
 mod shape;
+mod text;
 
 pub use answer::{Anomaly, Answer, Commit};
 pub use fault::WriteFault;
 pub use shape::Shape;
+pub use text::write_text;
