@@ -3,6 +3,7 @@
 
 mod answer;
 mod fault;
+mod json;
 mod labels;
 mod pieces;
 mod sending;
@@ -11,5 +12,6 @@ mod text;
 
 pub use answer::{Anomaly, Answer, Commit};
 pub use fault::WriteFault;
+pub use json::write_json;
 pub use shape::Shape;
 pub use text::write_text;
