@@ -15,3 +15,6 @@ pub use fault::WriteFault;
 pub use json::write_json;
 pub use shape::Shape;
 pub use text::write_text;
+
+#[cfg(test)]
+mod tests;
