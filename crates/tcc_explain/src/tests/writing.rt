@@ -1,4 +1,8 @@
 //! Worked answers as text and as JSON, byte for byte, and writers that fail.
+ghost use Rattle.std.specs.Prelude.{◌≡◌, [], ◌∷◌, IfOk};
+ghost use Rattle.tcc_graph.specs.declared.step.Step.TheVariants as step;
+ghost use Rattle.tcc_graph.specs.declared.link.Link.TheVariants as link;
+
 use crate::answer::{Anomaly, Answer, Commit};
 use crate::labels::Labels;
 use crate::{Shape, WriteFault, write_json, write_text};
@@ -182,7 +186,9 @@ fn overwritten_read(rt: &impl Abort, alloc: Global) -> Result<Anomaly, AllocErro
 }
 
 /// A derived link by x, whose reader c/1 reads x from the writer.
-fn against(alloc: Global, key: Name, from: u32, to: u32) -> Result<Link, AllocError> {
+fn against(alloc: Global, key: Name, from: u32, to: u32) -> Result<Link, AllocError>
+    ensures { IfOk result (λ l. l ≡ link.Derived from to key 3 (step.Reads from 3 key ∷ [])) }
+{
     let step = Step::Reads { from, to: 3, key };
     Ok(Link::Derived {
         from,
