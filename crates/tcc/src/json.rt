@@ -127,3 +127,6 @@ pub fn device() -> &'static [u8]
 {
     b"{\"answer\":\"device\"}\n"
 }
+
+#[cfg(test)]
+mod tests;
