@@ -1,6 +1,4 @@
 pub mod Gathering
 pub mod UnderWay
 pub mod Written
-pub mod FaultJson
 mod WorkedTexts
-mod WorkedJson

@@ -1,6 +1,5 @@
 pub mod Statuses
 pub mod Texts
-pub mod Json
 pub mod Gathered
 pub mod Answers
 pub mod Halts
