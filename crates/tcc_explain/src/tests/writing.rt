@@ -248,6 +248,28 @@ fn anomalies_as_text(rt: HostRuntime) -> Result<(), Fail> {
     Ok(())
 }
 
+// Places have more than one digit, and a step of session order costs 1, however far it leads.
+#[test]
+fn far_places(rt: HostRuntime) -> Result<(), Fail> {
+    let alloc = rt.alloc();
+    let key = Name::read(b"x.y-z_0").expect(&rt, "a name");
+    let derived = Link::Derived {
+        from: 1,
+        to: 0,
+        key,
+        reader: 12,
+        walk: Walk::new(vec![in alloc; Step::Session { from: 1, to: 12 }]?),
+    };
+    let links = vec![in alloc; Link::Session { from: 0, to: 1 }, derived]?;
+    let labels = labels(&rt, alloc, &[("a", 12)])?;
+    let answer = Answer::Anomaly(Anomaly::new(Links::new(links), 3, labels));
+    let text = "anomaly: 3 steps, stale-initial-read\nsession init -> a/1\n\
+        derived a/1 -> init by x.y-z_0, read by a/12\n  session a/1 -> a/12\n\
+        \x20 against init -> a/12 by x.y-z_0\n";
+    writes_text(&rt, alloc, &answer, text);
+    Ok(())
+}
+
 #[test]
 fn answers_as_json(rt: HostRuntime) -> Result<(), Fail> {
     let alloc = rt.alloc();
