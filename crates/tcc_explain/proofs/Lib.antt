@@ -1,0 +1,4 @@
+pub mod Backwards
+pub mod CycleLemmas
+pub mod TieLemmas
+pub mod PickedLemmas
