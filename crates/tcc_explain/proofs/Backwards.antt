@@ -44,7 +44,7 @@ module _ {X : Type 0} (cmp : X → X → Ordering) (S : List X → Type 0) where
   )
 
   module _ (ends : (done : List X) (x : X) (rest : List X) → S (done ++ x ∷ rest) → S done → ⊥)
-    (same : (done : List X) (x y : X) (rest others : List X) → S (done ++ x ∷ rest) → S (done ++ y ∷ others) → cmp x y ≡ Equal → x ≡ y) where
+      (same : (done : List X) (x y : X) (rest others : List X) → S (done ++ x ∷ rest) → S (done ++ y ∷ others) → cmp x y ≡ Equal → x ≡ y) where
     -- the picked list is the first
     pub first_picked : (xs ys done : List X) → Picks done xs → S (done ++ xs) → S (done ++ ys) → slice_cmp cmp xs ys ≢ Greater
     first_picked [] [] done p s t = λ e. cc

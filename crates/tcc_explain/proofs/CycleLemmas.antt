@@ -1,8 +1,8 @@
 -- Cycles: their parts, and what they cost.
-use Rattle.std.proofs.Common.{ℕ, ◌≡◌, ◌<◌, ◌≤◌, ◌+◌, List, [], ◌∷◌, ◌++◌, length, length-append, reverse, refl, sym, ◌∙◌, ap, append_assoc, arith}
+use Rattle.std.proofs.Common.{ℕ, ◌≡◌, ◌<◌, ◌≤◌, ◌+◌, List, [], ◌∷◌, ◌++◌, length, reverse, refl, sym, ◌∙◌, ap, append_assoc, arith}
 use Rattle.std.proofs.lemmas.List.{reverse-append}
 use Rattle.tcc_reads.specs.History.{History}
-use Rattle.tcc_graph.specs.Links.{link_from, link_to, link_cost, cost}
+use Rattle.tcc_graph.specs.Links.{link_to, link_cost, cost}
 use Rattle.tcc_graph.specs.Routes.{LinksLead, IsLeastCycle}
 use Rattle.tcc_graph.specs.declared.link.Link.{Link}
 use Rattle.tcc_graph.specs.declared.link.Link.TheVariants as link

@@ -2,3 +2,6 @@ pub mod Backwards
 pub mod CycleLemmas
 pub mod TieLemmas
 pub mod PickedLemmas
+pub mod ReturnLemmas
+pub mod LinkChoiceLemmas
+pub mod WayLemmas

@@ -1,21 +1,20 @@
 -- The first cycle is the one picked from the back.
-use Rattle.std.proofs.Common.{ℕ, ◌≡◌, ◌≢◌, ◌<◌, ◌≤◌, ◌+◌, ◌⊎◌, inl, inr, List, [], ◌∷◌, ◌++◌, reverse, refl, sym, ◌∙◌, ap, subst, arith}
+use Rattle.std.proofs.Common.{ℕ, ◌≡◌, ◌≢◌, ◌<◌, ◌≤◌, ◌⊎◌, inl, inr, List, [], ◌∷◌, ◌++◌, reverse, refl, sym, ◌∙◌, ap, subst, arith}
 use Rattle.std.specs.Ordering.{nat_cmp}
 use Rattle.std.specs.Cmp.Lexicographic.{slice_cmp}
-use Rattle.std.specs.declared.cmp.Ordering.TheVariants.{Less, Equal, Greater}
+use Rattle.std.specs.declared.cmp.Ordering.TheVariants.{Equal, Greater}
 use Rattle.std.proofs.lemmas.Bool.{cases_order, lt-ltb, le-ltb, ne_eqb}
 use Rattle.std.proofs.lemmas.Cmp.{nat_cmp_total, tied_itself}
 use Rattle.std.proofs.lemmas.List.{reverse-reverse}
 use Rattle.tcc_reads.specs.History.{History}
-use Rattle.tcc_graph.specs.Links.{link_from, link_to, cost}
-use Rattle.tcc_graph.specs.Routes.{LinksLead, IsLeastCycle}
+use Rattle.tcc_graph.specs.Links.{link_to, cost}
+use Rattle.tcc_graph.specs.Routes.{IsLeastCycle}
 use Rattle.tcc_graph.specs.Ties.{link_cmp, cycle_cmp, IsFirstCycle}
 use Rattle.tcc_graph.specs.declared.link.Link.{Link}
 use Rattle.tcc_explain.specs.Picked.{IsPickedCycle}
-use Rattle.tcc_explain.proofs.Backwards.{IsPick, Picks, Picks-at, Picks-from, Picks-first, first_picked, one_picked}
+use Rattle.tcc_explain.proofs.Backwards.{Picks, Picks-at, Picks-from, Picks-first, first_picked, one_picked}
 use Rattle.tcc_explain.proofs.CycleLemmas.{lead_split, lead_start, same_cost, cost_around, turned, some_cost}
 use Rattle.tcc_explain.proofs.TieLemmas.{link_total, link_tied}
-use Rattle.tcc_core.proofs.LinkLemmas.{cost_append}
 
 -- the links, from the last backwards, are a least cycle from s
 abbrev pub IsBack : History → ℕ → List Link → Type 0

@@ -2,13 +2,9 @@
 use Rattle.std.specs.Prelude.{ℕ, ◌≤◌, ◌≡◌, ◌≢◌, List, ◌∷◌, ◌++◌}
 use Rattle.std.specs.declared.cmp.Ordering.TheVariants.{Greater}
 use Rattle.tcc_reads.specs.History.{History}
-use Rattle.tcc_graph.specs.Walks.{IsWalk}
-use Rattle.tcc_graph.specs.Links.{cost}
-use Rattle.tcc_graph.specs.Routes.{IsRoute, IsLeastCycle, IsDistance}
-use Rattle.tcc_graph.specs.Ties.{step_cmp, link_cmp}
-use Rattle.tcc_graph.specs.declared.step.Step.{Step}
+use Rattle.tcc_graph.specs.Routes.{IsLeastCycle}
+use Rattle.tcc_graph.specs.Ties.{link_cmp}
 use Rattle.tcc_graph.specs.declared.link.Link.{Link}
-use Rattle.tcc_near.specs.Distances.{IsShortest}
 
 -- the links end some least cycle from s
 abbrev pub EndsLeastCycle : History → ℕ → List Link → Type 0
