@@ -5,3 +5,6 @@ pub mod PickedLemmas
 pub mod ReturnLemmas
 pub mod LinkChoiceLemmas
 pub mod WayLemmas
+pub mod Ends
+mod WorkedTexts
+mod WorkedJson

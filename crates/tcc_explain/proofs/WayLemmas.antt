@@ -196,6 +196,9 @@ module _ (h : History) (t : Tables) (r : Returned) (priced : IsPricesOf h t) (is
           }
 
   -- nothing is left
+  pub all_paid : (end : ℕ) (picked : List Link) → IsUnderWay h r end 0 picked → cost (reverse picked) ≡ r.cost
+  all_paid end picked way = omega (arith, way.costs)
+
   pub all_picked : (end : ℕ) (picked : List Link) → IsUnderWay h r end 0 picked → IsFirstCycle h r.search.start (reverse picked)
   all_picked end picked way = first_from_picked h r.search.start (reverse picked) (record {
     least = least;

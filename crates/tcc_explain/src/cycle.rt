@@ -1,5 +1,6 @@
 //! The first of the least cycles.
-ghost use Rattle.std.specs.Prelude.{IfOk, MatchOption};
+ghost use Rattle.std.specs.Prelude.{◌≡◌, IfOk, MatchOption};
+ghost use Rattle.tcc_graph.specs.Links.{cost};
 ghost use Rattle.tcc_graph.specs.Routes.{HasCycle};
 ghost use Rattle.tcc_graph.specs.Ties.{IsFirstCycle};
 ghost use Rattle.tcc_near.specs.Distances.{IsNearOf};
@@ -13,11 +14,12 @@ use tcc_graph::{Graph, Link};
 use tcc_near::Near;
 use tcc_txn::NoMemory;
 
-/// Links that lead from a start back to it.
+/// Links that lead from a start back to it, and how many steps they have together.
 #[derive(Drop)]
 pub struct Cycle {
     pub start: u32,
     pub links: Vec<Link>,
+    pub cost: u32,
 }
 
 /// The first of the least cycles by the rule of ties; none exactly where there is no cycle.
@@ -31,7 +33,7 @@ pub fn first_cycle(
     requires prices { IsPricesOf graph.now prices.now }
     ensures { IfOk result (λ found. MatchOption found
         (HasCycle graph.now → ⊥)
-        (λ cycle. IsFirstCycle graph.now cycle.start cycle.links.items)) }
+        (λ cycle. IsFirstCycle graph.now cycle.start cycle.links.items × (cycle.cost ≡ cost cycle.links.items))) }
 {
     let Some(returned) = first_return(alloc, graph, prices)? else {
         return Ok(None);
@@ -40,5 +42,6 @@ pub fn first_cycle(
     Ok(Some(Cycle {
         start: returned.search.start(),
         links,
+        cost: returned.cost,
     }))
 }

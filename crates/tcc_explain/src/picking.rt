@@ -1,6 +1,7 @@
 //! The links of the first least cycle, picked from the last backwards.
 ghost use Rattle.std.specs.Prelude.{◌≡◌, ◌<◌, ℕ, length, IfOk, MatchOption};
 ghost use Rattle.tcc_reads.specs.History.{count};
+ghost use Rattle.tcc_graph.specs.Links.{cost};
 ghost use Rattle.tcc_graph.specs.Ties.{IsFirstCycle};
 ghost use Rattle.tcc_graph.specs.declared.link.Link.{Link};
 ghost use Rattle.tcc_near.specs.Distances.{IsNearOf};
@@ -101,7 +102,8 @@ pub(crate) fn pick(
     requires near { IsNearOf graph.now near.now }
     requires prices { IsPricesOf graph.now prices.now }
     requires returned { IsFirstReturn graph.now (count graph.now) returned.now }
-    ensures { IfOk result (λ links. IsFirstCycle graph.now returned.now.search.start links.items) }
+    ensures first { IfOk result (λ links. IsFirstCycle graph.now returned.now.search.start links.items) }
+    ensures cost { IfOk result (λ links. cost links.items ≡ returned.now.cost) }
 {
     let search = &returned.search;
     let mut end = search.start();
