@@ -58,3 +58,6 @@ pub fn explain(
         Err(ResolveFault::NoMemory) => Err(ExplainFault::NoMemory),
     }
 }
+
+#[cfg(test)]
+mod tests;
