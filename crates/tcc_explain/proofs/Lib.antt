@@ -2,6 +2,8 @@ pub mod Backwards
 pub mod CycleLemmas
 pub mod TieLemmas
 pub mod PickedLemmas
+pub mod PartLemmas
+pub mod WalkLemmas
 pub mod ReturnLemmas
 pub mod LinkChoiceLemmas
 pub mod WayLemmas
