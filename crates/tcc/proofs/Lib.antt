@@ -1,4 +1,6 @@
 pub mod Gathering
 pub mod UnderWay
 pub mod Written
+pub mod FaultJson
 mod WorkedTexts
+mod WorkedJson

@@ -110,7 +110,7 @@ impl Anomaly {
     pub fn shape(&self) -> Shape
         ensures { result ≡ shape_of self.now.links }
     {
-        shape_of(self.links.as_slice())
+        shape_of(self.links())
     }
 
     /// The names of the transactions.
