@@ -3,3 +3,7 @@ pub mod Shapes
 pub mod Answers
 pub mod Texts
 pub mod Json
+pub mod Picked
+pub mod Returns
+pub mod Ways
+pub mod Explained
