@@ -1,0 +1,13 @@
+pub mod Backwards
+pub mod CycleLemmas
+pub mod TieLemmas
+pub mod PickedLemmas
+pub mod PartLemmas
+pub mod WalkLemmas
+pub mod ReturnLemmas
+pub mod LinkChoiceLemmas
+pub mod WayLemmas
+pub mod Ends
+pub mod NoFloats
+mod WorkedTexts
+mod WorkedJson
