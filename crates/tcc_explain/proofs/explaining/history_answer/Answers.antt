@@ -1,0 +1,16 @@
+use Rattle.std.proofs.Common.{length, ap}
+use Rattle.tcc_graph.specs.Orders.{IsFirstOrder}
+use Rattle.tcc_explain.proofs.explaining.history_answer.Goals as goal
+
+pub returns-in-Some : goal.returns-in-Some
+returns-in-Some g c =
+    let h = c.args.graph.now in
+    let first : IsFirstOrder h c.in-Some.order.items = rw c.in-Some.is at (c.in_ok-order.ensures h c.in_ok-prices.ensures) in
+    rw (c.new-in-Some.ensures, c.new.ensures)
+    (((c.order_or_cycle.ensures h).0 (c.in-Some.order.items, first.commit), first), ap length c.sessions-sessions.ensures, c.in_ok-labels.ensures)
+
+pub returns : goal.returns
+returns g c =
+    let h = c.args.graph.now in
+    let first = rw c.in-Some-2.is at c.in_ok-cycle.ensures in
+    rw (c.new-3.ensures, c.new-2.ensures) ((c.in-Some-2.cycle.start, first.0), c.in_ok-labels.ensures)

@@ -1,0 +1,5 @@
+use Rattle.tcc_explain.proofs.ReturnLemmas.{IsBest}
+use Rattle.tcc_explain.proofs.returning.first_return.Given as goal
+
+abbrev pub invariant-loop-start : goal.invariant-loop-start
+invariant-loop-start l = IsBest l.graph l.start l.cap l.first

@@ -1,0 +1,63 @@
+//! The answer for a snapshot.
+ghost use Rattle.std.specs.Prelude.{◌≡◌, [], IfOk, MatchResult};
+ghost use Rattle.tcc_reads.specs.Faults.{read_faults};
+ghost use Rattle.tcc_reads.specs.Sources.{history};
+ghost use Rattle.tcc_explain.specs.Explained.{IsAnswerOf, IsRefusal};
+
+use crate::answer::{Anomaly, Answer, Commit};
+use crate::cycle::first_cycle;
+use crate::labels::Labels;
+use crate::refusal::ExplainFault;
+use std::alloc::Global;
+use std::thread::Threads;
+use tcc_cert::{Links, Numbers};
+use tcc_derive::derive;
+use tcc_graph::Graph;
+use tcc_near::near;
+use tcc_order::laws::order_or_cycle;
+use tcc_order::order;
+use tcc_reads::{ResolveFault, resolve};
+use tcc_txn::{NoMemory, Snapshot};
+
+/// The first answer for a history: a commit order, or a cycle where there is none.
+fn history_answer(
+    rt: &(impl Threads + Sync),
+    alloc: Global,
+    graph: &Graph,
+) -> Result<Answer, NoMemory>
+    ensures { IfOk result (IsAnswerOf graph.now) }
+{
+    let near = near(rt, alloc, graph)?;
+    let prices = derive(rt, alloc, graph, &near)?;
+    let labels = Labels::of(alloc, graph)?;
+    order_or_cycle();
+    if let Some(order) = order(alloc, &prices)? {
+        let sessions = graph.sessions().len();
+        return Ok(Answer::Commit(Commit::new(Numbers::new(order), sessions, labels)));
+    }
+    let Some(cycle) = first_cycle(alloc, graph, &near, &prices)? else {
+        unreachable!()
+    };
+    Ok(Answer::Anomaly(Anomaly::new(Links::new(cycle.links), cycle.cost, labels)))
+}
+
+/// The first answer for the history of a snapshot: its first commit order, or the first of its least cycles where there
+/// is no commit order; or all its read faults, where there are some.
+pub fn explain(
+    rt: &(impl Threads + Sync),
+    alloc: Global,
+    snapshot: &Snapshot,
+) -> Result<Answer, ExplainFault>
+    ensures { MatchResult result
+        (λ answer. (read_faults snapshot.now ≡ []) × IsAnswerOf (history snapshot.now) answer)
+        (IsRefusal snapshot.now) }
+{
+    match resolve(alloc, snapshot) {
+        Ok(resolved) => Ok(history_answer(rt, alloc, &Graph::build(alloc, &resolved)?)?),
+        Err(ResolveFault::Reads(faults)) => Err(ExplainFault::Reads(faults)),
+        Err(ResolveFault::NoMemory) => Err(ExplainFault::NoMemory),
+    }
+}
+
+#[cfg(test)]
+mod tests;

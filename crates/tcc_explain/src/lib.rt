@@ -1,0 +1,24 @@
+//! The answer for a snapshot: its first commit order, or the first of its least cycles; and the texts of answers.
+#![tactic(auto)]
+
+mod answer;
+mod cycle;
+mod explaining;
+mod fault;
+mod labels;
+pub mod laws;
+mod picking;
+mod pieces;
+mod refusal;
+mod returning;
+mod sending;
+mod shape;
+mod text;
+
+pub use answer::{Anomaly, Answer, Commit};
+pub use cycle::{Cycle, first_cycle};
+pub use explaining::explain;
+pub use fault::WriteFault;
+pub use refusal::ExplainFault;
+pub use shape::Shape;
+pub use text::write_text;

@@ -1,0 +1,26 @@
+//! Why a snapshot has no answer.
+ghost use Rattle.std.specs.Prelude.{◌≡◌};
+ghost use Rattle.tcc_explain.specs.declared.refusal.ExplainFault.TheVariants as refusal;
+
+use tcc_reads::ReadFault;
+use tcc_txn::NoMemory;
+use thiserror::Error;
+
+/// Why a snapshot was not explained.
+#[derive(Debug, Drop, Error)]
+pub enum ExplainFault {
+    /// All faulty operations, by session name in byte order, place and operation; at least one.
+    #[error("some operations read or write what no source explains")]
+    Reads(Vec<ReadFault>),
+    /// A growth was refused.
+    #[error("out of memory")]
+    NoMemory,
+}
+
+impl From<NoMemory> for ExplainFault {
+    ghost from_gives = { λ error to. to ≡ refusal.NoMemory };
+
+    fn from(_error: NoMemory) -> ExplainFault {
+        ExplainFault::NoMemory
+    }
+}
