@@ -6,5 +6,6 @@ pub mod ReturnLemmas
 pub mod LinkChoiceLemmas
 pub mod WayLemmas
 pub mod Ends
+pub mod NoFloats
 mod WorkedTexts
 mod WorkedJson

@@ -5,6 +5,7 @@ mod answer;
 mod cycle;
 mod explaining;
 mod fault;
+mod json;
 mod labels;
 pub mod laws;
 mod picking;
@@ -19,6 +20,10 @@ pub use answer::{Anomaly, Answer, Commit};
 pub use cycle::{Cycle, first_cycle};
 pub use explaining::explain;
 pub use fault::WriteFault;
+pub use json::write_json;
 pub use refusal::ExplainFault;
 pub use shape::Shape;
 pub use text::write_text;
+
+#[cfg(test)]
+mod tests;

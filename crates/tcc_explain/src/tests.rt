@@ -1,0 +1,2 @@
+//! Worked answers, with expected values worked out by hand.
+mod writing;
