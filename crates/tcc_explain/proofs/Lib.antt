@@ -6,6 +6,10 @@ pub mod ReturnLemmas
 pub mod LinkChoiceLemmas
 pub mod WayLemmas
 pub mod Ends
+pub mod CertifiedCycle
+pub mod CertifiedOrder
+pub mod Numbered
+pub mod CertifiedAnswer
 pub mod NoFloats
 mod WorkedTexts
 mod WorkedJson

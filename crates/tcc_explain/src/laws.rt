@@ -1,13 +1,39 @@
-//! The laws of first cycles: how they are picked, and that there is one.
+//! The laws of answers: how first cycles are picked, and that the certificates of answers keep the rules.
 ghost use Rattle.std.specs.Prelude.{◌≡◌, ◌≤◌, ◌↔◌, ℕ, List};
+ghost use Rattle.tcc_txn.specs.Snapshots.{Sessions};
 ghost use Rattle.tcc_reads.specs.History.{History};
+ghost use Rattle.tcc_reads.specs.Sources.{history};
+ghost use Rattle.tcc_graph.specs.Links.{cost};
+ghost use Rattle.tcc_graph.specs.Routes.{IsLeastCycle};
+ghost use Rattle.tcc_graph.specs.Orders.{IsCommitOrder};
 ghost use Rattle.tcc_graph.specs.Ties.{IsFirstCycle};
 ghost use Rattle.tcc_graph.specs.declared.link.Link.{Link};
+ghost use Rattle.tcc_near.specs.Clocks.{IsClocksOf};
+ghost use Rattle.tcc_cert.specs.Rules.{Certifies};
+ghost use Rattle.tcc_cert.specs.declared.certificate.Certificate.TheVariants as claim;
 ghost use Rattle.tcc_explain.specs.Picked.{IsPickedCycle};
+ghost use Rattle.tcc_explain.specs.Certificates.{IsNearTable, IsFarTable, IsNumbered, certificate_of};
+ghost use Rattle.tcc_explain.specs.Explained.{IsAnswerOf};
+ghost use Rattle.tcc_explain.specs.declared.answer.Answer.{Answer};
 
 /// The first of the least cycles by the rule of ties is the one picked from the back, and no other.
 pub fn picked()
     ensures first { (h : History) (s : ℕ) (links : List Link) → (IsFirstCycle h s links ↔ IsPickedCycle h s links) }
     ensures one { (h : History) (s t : ℕ) (links others : List Link) → IsFirstCycle h s links → IsFirstCycle h t others
         → (s ≡ t) × (links ≡ others) }
+{}
+
+/// A least cycle with the distances, capped at what it costs, is certified; so is a commit order with the clocks, where
+/// transactions are numbered as in each snapshot's history.
+pub fn certificates()
+    ensures cycle { (h : History) (s : ℕ) (links : List Link) (near far : List (List ℕ)) → IsLeastCycle h s links
+        → IsNearTable h (cost links) near → IsFarTable h (cost links) far → Certifies h (claim.Cycle links (cost links) near far) }
+    ensures order { (h : History) (order : List ℕ) (clocks : List (List ℕ)) → IsNumbered h → IsCommitOrder h order
+        → IsClocksOf h clocks → Certifies h (claim.Order order clocks) }
+    ensures numbered { (s : Sessions) → IsNumbered (history s) }
+{}
+
+/// The certificate of the answer for a snapshot keeps all rules.
+pub fn certified()
+    ensures { (s : Sessions) (a : Answer) → IsAnswerOf (history s) a → Certifies (history s) (certificate_of a) }
 {}

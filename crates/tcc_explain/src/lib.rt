@@ -14,6 +14,7 @@ mod refusal;
 mod returning;
 mod sending;
 mod shape;
+mod tables;
 mod text;
 
 pub use answer::{Anomaly, Answer, Commit};
