@@ -2,6 +2,7 @@ pub mod Backwards
 pub mod CycleLemmas
 pub mod TieLemmas
 pub mod PickedLemmas
+pub mod RowLemmas
 pub mod ReturnLemmas
 pub mod LinkChoiceLemmas
 pub mod WayLemmas

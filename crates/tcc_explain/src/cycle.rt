@@ -8,7 +8,7 @@ ghost use Rattle.tcc_derive.specs.Prices.{IsPricesOf};
 ghost use Rattle.tcc_explain.specs.Certificates.{IsFarTable};
 
 use crate::picking::pick;
-use crate::returning::first_return;
+use crate::returning::{Searched, first_return};
 use crate::tables::far_table;
 use std::alloc::Global;
 use tcc_cert::Table;
@@ -41,12 +41,12 @@ pub fn first_cycle(
         (λ cycle. IsFirstCycle graph.now cycle.start cycle.links.items × (cycle.cost ≡ cost cycle.links.items)
         × IsFarTable graph.now cycle.cost cycle.far)) }
 {
-    let searched = first_return(alloc, graph, prices)?;
-    let Some(returned) = searched.first else {
+    let Searched { first, rows } = first_return(alloc, graph, prices)?;
+    let Some(returned) = first else {
         return Ok(None);
     };
     let links = pick(alloc, graph, near, prices, &returned)?;
-    let far = far_table(alloc, graph, &searched.rows, returned.cost)?;
+    let far = far_table(alloc, graph, &rows, returned.cost)?;
     Ok(Some(Cycle {
         start: returned.search.start(),
         links,
