@@ -1,5 +1,5 @@
 -- The certificate of a least cycle keeps the rules: walks and routes, put together, are no shorter than the distances.
-use Rattle.std.proofs.Common.{ℕ, ◌≡◌, ◌<◌, ◌≤◌, ◌+◌, ◌⊎◌, inl, inr, List, [], ◌∷◌, ◌++◌, length, All, Some, get_or, length-append, append_assoc, refl, sym, ◌∙◌, ap, subst, arith}
+use Rattle.std.proofs.Common.{ℕ, ◌≡◌, ◌<◌, ◌≤◌, ◌+◌, ◌⊎◌, inl, inr, List, [], ◌∷◌, ◌++◌, length, All, Some, get_or, length-append, refl, sym, ◌∙◌, ap, subst, arith}
 use Rattle.std.proofs.lemmas.List.{get_or_default}
 use Rattle.std.proofs.lemmas.List.Elements.{All-cons}
 use Rattle.tcc_reads.specs.History.{History, count}
@@ -15,9 +15,9 @@ use Rattle.tcc_graph.proofs.Pairs.{pair_below, step_below, session_below}
 use Rattle.tcc_derive.proofs.PriceLemmas.{derived_cost}
 use Rattle.tcc_core.specs.Shares.{IsCappedDistance}
 use Rattle.tcc_core.proofs.LinkLemmas.{cost_cons, cost_append, lead_append}
-use Rattle.tcc_cert.specs.Tables.{row_of, entry, HasSize, IsCapped}
-use Rattle.tcc_cert.specs.CycleRules.{CycleClaim, IsStepBelow, IsLinkBelow, HasRightSizes, IsLinkRight, ends_at, IsLinkWrong, BreaksNearPair, BreaksNearStep, BreaksFarLink, BreaksFarStep, BreaksReturn}
-use Rattle.tcc_cert.specs.Rules.{HoldsEverywhere, IsRightCycle, CertifiesCycle}
+use Rattle.tcc_cert.specs.Tables.{entry, HasSize, IsCapped}
+use Rattle.tcc_cert.specs.CycleRules.{IsStepBelow, IsLinkBelow, ends_at, IsLinkWrong, BreaksNearPair, BreaksNearStep, BreaksFarLink, BreaksFarStep, BreaksReturn}
+use Rattle.tcc_cert.specs.Rules.{HoldsEverywhere, CertifiesCycle}
 use Rattle.tcc_explain.specs.Certificates.{IsCappedShortest, IsNearTable, IsFarTable}
 use Rattle.tcc_explain.proofs.CycleLemmas.{lead_split}
 

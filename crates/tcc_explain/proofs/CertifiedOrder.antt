@@ -1,5 +1,5 @@
 -- The certificate of a commit order keeps the rules: the clocks grow along causal pairs, and what they have reaches.
-use Rattle.std.proofs.Common.{ℕ, ◌≡◌, ◌≢◌, ◌<◌, ◌≤◌, ◌+◌, ◌==◌, ◌&&◌, ◌||◌, true, false, ◌∙◌, ◌⊎◌, inl, inr, List, [], ◌∷◌, length, refl, sym, subst, arith, nat_lt, eqb, get_or, length-append, ◌++◌}
+use Rattle.std.proofs.Common.{ℕ, ◌≡◌, ◌≢◌, ◌<◌, ◌≤◌, true, false, ◌∙◌, ◌⊎◌, inl, inr, List, length, refl, sym, subst, arith, eqb, get_or, length-append, ◌++◌}
 use Rattle.std.specs.List.{Contains, list_any}
 use Rattle.std.proofs.lemmas.Bool.{cases_eq, cases_order, eq-eqb, eqb-true, ne_eqb, lt-ltb, and_from, or_left, or_right}
 use Rattle.std.proofs.lemmas.List.Elements.{All-contains}
@@ -10,14 +10,12 @@ use Rattle.std.proofs.lemmas.Map.Steps.{length-le_from_distinct_below, le-length
 use Rattle.std.proofs.lemmas.Map.Views.{Contains-from_any}
 use Rattle.tcc_reads.specs.History.{History, count, owner, place}
 use Rattle.tcc_graph.specs.Relations.{IsSessionPair, IsCausalPair}
-use Rattle.tcc_graph.specs.Walks.{IsWalk, IsReached}
-use Rattle.tcc_graph.specs.Links.{MayContradict}
+use Rattle.tcc_graph.specs.Walks.{IsReached}
 use Rattle.tcc_graph.specs.Orders.{Before, IsNumbering, IsCommitOrder}
-use Rattle.tcc_graph.specs.declared.step.Step.{Step}
 use Rattle.tcc_graph.proofs.Pairs.{pair_below}
 use Rattle.tcc_near.specs.Clocks.{IsBehind, IsLast, IsClocksOf}
-use Rattle.tcc_cert.specs.Tables.{row_of, entry, HasSize}
-use Rattle.tcc_cert.specs.OrderRules.{OrderClaim, HasInClock, KeepsPairs, MayReach, BreaksAxiom}
+use Rattle.tcc_cert.specs.Tables.{entry}
+use Rattle.tcc_cert.specs.OrderRules.{KeepsPairs, MayReach, BreaksAxiom}
 use Rattle.tcc_cert.specs.Rules.{HoldsEverywhere, CertifiesOrder}
 use Rattle.tcc_explain.specs.Certificates.{IsNumbered}
 use Rattle.tcc_explain.proofs.CertifiedCycle.{pair_walk, walk_append, walk_on}

@@ -1,11 +1,11 @@
 -- The history of a snapshot: its transactions are numbered by session and by place.
-use Rattle.std.proofs.Common.{ℕ, zero, suc, ◌≡◌, ◌<◌, ◌≤◌, ◌+◌, Bool, true, false, ◌⊎◌, inl, inr, List, [], ◌∷◌, ◌++◌, length, map, get_or, cond, refl, sym, ◌∙◌, arith}
+use Rattle.std.proofs.Common.{ℕ, zero, suc, ◌≡◌, ◌<◌, ◌≤◌, ◌+◌, Bool, true, false, List, [], ◌∷◌, ◌++◌, length, map, get_or, cond, refl, arith}
 use Rattle.std.specs.Prelude.{filter}
 use Rattle.std.specs.FinMap.{entries}
 use Rattle.std.proofs.lemmas.List.{length-map}
 use Rattle.tcc_txn.specs.Snapshots.{Sessions}
 use Rattle.tcc_txn.specs.Transactions.{Transaction}
-use Rattle.tcc_reads.specs.History.{Entry, History, initial, count, owner, place}
+use Rattle.tcc_reads.specs.History.{Entry, initial, count, owner, place}
 use Rattle.tcc_reads.specs.Sites.{Stand, is_committed, stands_in, stands_from, stands, committed}
 use Rattle.tcc_reads.specs.Sources.{entry_of, history}
 use Rattle.tcc_explain.specs.Certificates.{IsNumbered}
@@ -125,8 +125,8 @@ module _ (s : Sessions) where
   owned (suc i) some below =
       let long : length (history s).sessions ≡ length (entries s) = length-map (entries s) (λ named. named.0) in
       let at : owner (history s) (suc i) < length (entries s) = each_at (λ (e : Entry). e.owner < length (entries s)) list i initial (omega arith)
-          (each_map (λ (e : Entry). e.owner < length (entries s)) (entry_of (stands s)) (committed (stands s))
-          (each_filter (λ (x : Stand). x.session < length (entries s)) is_committed (stands s) (from_below 0 (length (entries s)) (entries s) (omega arith)))) in
+      (each_map (λ (e : Entry). e.owner < length (entries s)) (entry_of (stands s)) (committed (stands s))
+      (each_filter (λ (x : Stand). x.session < length (entries s)) is_committed (stands s) (from_below 0 (length (entries s)) (entries s) (omega arith)))) in
       omega arith
 
   placed : (n : ℕ) → 0 < n → n < count (history s) → 0 < place (history s) n

@@ -1,5 +1,5 @@
 -- Rows one after another, and what search rows say up to a cap.
-use Rattle.std.proofs.Common.{ℕ, ◌≡◌, ◌≢◌, ◌<◌, ◌≤◌, ◌+◌, ◌==◌, Bool, true, false, cond, ◌⊎◌, inl, inr, List, [], ◌∷◌, ◌++◌, length, length-append, map, get_or, Option, None, Some, All, refl, sym, ◌∙◌, ap, subst, arith}
+use Rattle.std.proofs.Common.{ℕ, ◌≡◌, ◌≢◌, ◌<◌, ◌≤◌, ◌+◌, ◌==◌, Bool, true, false, cond, ◌⊎◌, inl, inr, List, [], ◌∷◌, ◌++◌, length, length-append, map, get_or, Option, None, Some, refl, sym, ◌∙◌, ap, subst, arith}
 use Rattle.std.specs.Prelude.{min, slice_index}
 use Rattle.std.proofs.lemmas.Bool.{cases_eq, cases_lt}
 use Rattle.std.proofs.lemmas.List.{get_or-map, length-map, get_or_default}
@@ -9,7 +9,7 @@ use Rattle.tcc_graph.specs.Links.{cost}
 use Rattle.tcc_graph.specs.Routes.{IsRoute, IsDistance}
 use Rattle.tcc_graph.specs.declared.link.Link.{Link}
 use Rattle.tcc_near.specs.Clocks.{IsLast, IsClocksOf}
-use Rattle.tcc_near.specs.Distances.{IsNearOf, IsWalkDistance, IsShortest, no_walk, least_in, least}
+use Rattle.tcc_near.specs.Distances.{IsNearOf, IsWalkDistance, IsShortest, no_walk}
 use Rattle.tcc_core.specs.Rows.{in_row, IsRow}
 use Rattle.tcc_core.specs.Shares.{IsCappedDistance}
 use Rattle.tcc_cert.specs.Tables.{row_of, entry, HasSize}

@@ -81,11 +81,7 @@ pub(crate) fn far_table(
 }
 
 /// The clocks as a table.
-pub(crate) fn clock_table(
-    alloc: Global,
-    graph: &Graph,
-    clocks: &Clocks,
-) -> Result<Table, NoMemory>
+pub(crate) fn clock_table(alloc: Global, graph: &Graph, clocks: &Clocks) -> Result<Table, NoMemory>
     requires { IsClocksOf graph.now clocks.now }
     ensures { IfOk result (IsClocksOf graph.now) }
 {

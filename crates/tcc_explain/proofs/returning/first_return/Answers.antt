@@ -1,5 +1,5 @@
-use Rattle.std.proofs.Common.{◌≡◌, ◌∙◌, ◌+◌, ◌++◌, ◌∷◌, [], ℕ, List, None, Some, map, ap, arith}
-use Rattle.tcc_explain.specs.Returns.{HasEnded, IsFarRow, AreRows, cost_in}
+use Rattle.std.proofs.Common.{◌≡◌, ◌∙◌, ◌++◌, ◌∷◌, [], None, Some, map, ap, arith}
+use Rattle.tcc_explain.specs.Returns.{HasEnded, cost_in}
 use Rattle.tcc_core.specs.Searches.{IsSearchOf}
 use Rattle.tcc_core.specs.Rows.{in_row}
 use Rattle.tcc_explain.proofs.ReturnLemmas.{best_cut, best_kept, best_replaced, outside_returned, outside_cut, rows_kept, searched_all}

@@ -1,4 +1,4 @@
-use Rattle.std.proofs.Common.{◌≡◌, ℕ, List, map, min, arith, subst}
+use Rattle.std.proofs.Common.{◌≡◌, ℕ, map, min, arith, subst}
 use Rattle.tcc_reads.specs.History.{count}
 use Rattle.tcc_cert.specs.Tables.{row_of}
 use Rattle.tcc_explain.specs.Returns.{AreRows}
@@ -10,5 +10,5 @@ returns c =
     let h = c.args.graph.now in
     let all : c.loop-s.s ≡ count h = omega (arith, c.count-s-end.ensures.value) in
     let rows : AreRows (λ s row. row ≡ map (min c.args.cap) (row_of c.args.costs.now s)) (count h) c.loop-s.rows.items
-        = subst (λ (n : ℕ). AreRows (λ s row. row ≡ map (min c.args.cap) (row_of c.args.costs.now s)) n c.loop-s.rows.items) all c.loop-s.invariant in
+    = subst (λ (n : ℕ). AreRows (λ s row. row ≡ map (min c.args.cap) (row_of c.args.costs.now s)) n c.loop-s.rows.items) all c.loop-s.invariant in
     rw c.new.ensures (far_table h c.args.cap c.args.costs.now c.loop-s.rows.items (omega arith) c.requires rows)
