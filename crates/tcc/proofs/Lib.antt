@@ -1,5 +1,7 @@
 pub mod Gathering
 pub mod UnderWay
 pub mod Written
+pub mod FaultJson
 mod WorkedTexts
 mod WorkedCommandLines
+mod WorkedJson

@@ -1,5 +1,6 @@
 pub mod Statuses
 pub mod Texts
+pub mod Json
 pub mod Gathered
 pub mod Answers
 pub mod Halts

@@ -8,6 +8,7 @@ mod commit_order;
 mod explain;
 mod finished;
 mod halt;
+mod json;
 mod status;
 mod text;
 mod texts;

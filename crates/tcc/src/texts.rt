@@ -9,26 +9,27 @@ use std::alloc::Global;
 use tcc_reads::{ReadFault, ReadFaultKind};
 use tcc_txn::{NoMemory, RowFault, RowFaultKind};
 
-fn row_word(kind: &RowFaultKind) -> &'static [u8]
+/// The word for a kind of row fault.
+pub fn row_word(kind: &RowFaultKind) -> &'static str
     ensures { result.now ≡ row_word kind.now }
 {
     match kind {
-        RowFaultKind::FieldCount => b"FieldCount",
-        RowFaultKind::BadSession => b"BadSession",
-        RowFaultKind::UnknownWord => b"UnknownWord",
-        RowFaultKind::BadKey => b"BadKey",
-        RowFaultKind::BadValue => b"BadValue",
-        RowFaultKind::WriteOfZero => b"WriteOfZero",
-        RowFaultKind::NotBegun => b"NotBegun",
-        RowFaultKind::AlreadyBegun => b"AlreadyBegun",
-        RowFaultKind::TooManyOps => b"TooManyOps",
-        RowFaultKind::TooManySessions => b"TooManySessions",
-        RowFaultKind::TooManyTransactions => b"TooManyTransactions",
-        RowFaultKind::TooManyKeys => b"TooManyKeys",
-        RowFaultKind::TooManySeals => b"TooManySeals",
-        RowFaultKind::Unfinished { .. } => b"Unfinished",
-        RowFaultKind::Read => b"Read",
-        RowFaultKind::NoMemory => b"NoMemory",
+        RowFaultKind::FieldCount => "FieldCount",
+        RowFaultKind::BadSession => "BadSession",
+        RowFaultKind::UnknownWord => "UnknownWord",
+        RowFaultKind::BadKey => "BadKey",
+        RowFaultKind::BadValue => "BadValue",
+        RowFaultKind::WriteOfZero => "WriteOfZero",
+        RowFaultKind::NotBegun => "NotBegun",
+        RowFaultKind::AlreadyBegun => "AlreadyBegun",
+        RowFaultKind::TooManyOps => "TooManyOps",
+        RowFaultKind::TooManySessions => "TooManySessions",
+        RowFaultKind::TooManyTransactions => "TooManyTransactions",
+        RowFaultKind::TooManyKeys => "TooManyKeys",
+        RowFaultKind::TooManySeals => "TooManySeals",
+        RowFaultKind::Unfinished { .. } => "Unfinished",
+        RowFaultKind::Read => "Read",
+        RowFaultKind::NoMemory => "NoMemory",
     }
 }
 
@@ -38,7 +39,12 @@ pub fn row_fault(alloc: Global, fault: &RowFault) -> Result<Text, NoMemory>
 {
     let row = fault.row.to_string(alloc)?;
     let mut text = Text::new(alloc);
-    text.push(&[b"row ", row.as_bytes(), b": ", row_word(&fault.kind)])?;
+    text.push(&[
+        b"row ",
+        row.as_bytes(),
+        b": ",
+        row_word(&fault.kind).as_bytes(),
+    ])?;
     if let RowFaultKind::Unfinished { session } = &fault.kind {
         text.push(&[b" ", session.bytes()])?;
     }
@@ -46,16 +52,17 @@ pub fn row_fault(alloc: Global, fault: &RowFault) -> Result<Text, NoMemory>
     Ok(text)
 }
 
-fn read_word(kind: ReadFaultKind) -> &'static [u8]
+/// The word for a kind of read fault.
+pub fn read_word(kind: ReadFaultKind) -> &'static str
     ensures { result.now ≡ read_word kind }
 {
     match kind {
-        ReadFaultKind::Duplicate => b"Duplicate",
-        ReadFaultKind::BrokenInternal => b"BrokenInternal",
-        ReadFaultKind::ThinAir => b"ThinAir",
-        ReadFaultKind::Aborted => b"Aborted",
-        ReadFaultKind::Intermediate => b"Intermediate",
-        ReadFaultKind::Future => b"Future",
+        ReadFaultKind::Duplicate => "Duplicate",
+        ReadFaultKind::BrokenInternal => "BrokenInternal",
+        ReadFaultKind::ThinAir => "ThinAir",
+        ReadFaultKind::Aborted => "Aborted",
+        ReadFaultKind::Intermediate => "Intermediate",
+        ReadFaultKind::Future => "Future",
     }
 }
 
@@ -75,7 +82,7 @@ fn push_read_fault(alloc: Global, text: &mut Text, fault: &ReadFault) -> Result<
     let op = op.to_string(alloc)?;
     let value = value.to_string(alloc)?;
     text.push(&[
-        read_word(kind),
+        read_word(kind).as_bytes(),
         b" ",
         session.bytes(),
         b"/",

@@ -3,6 +3,8 @@ pub mod CycleLemmas
 pub mod TieLemmas
 pub mod PickedLemmas
 pub mod RowLemmas
+pub mod PartLemmas
+pub mod WalkLemmas
 pub mod ReturnLemmas
 pub mod LinkChoiceLemmas
 pub mod WayLemmas

@@ -11,7 +11,7 @@ use Rattle.tcc_explain.specs.Json.{label_json, step_json, link_json, answer_json
 use Rattle.tcc_explain.specs.declared.answer.Answer.{Answer}
 use Rattle.tcc_explain.specs.declared.answer.Answer.TheVariants as answer
 
-in_items : {X : Type 0} (f : X → Data) → ((x : X) → has_float (f x) ≡ false) → (xs : List X) → items_have_float (items_of (map f xs)) ≡ false
+pub in_items : {X : Type 0} (f : X → Data) → ((x : X) → has_float (f x) ≡ false) → (xs : List X) → items_have_float (items_of (map f xs)) ≡ false
 in_items f each [] = refl
 in_items f each (x ∷ xs) = rw (each x, in_items f each xs) refl
 

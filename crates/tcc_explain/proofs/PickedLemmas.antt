@@ -49,7 +49,7 @@ above_not s t low = rw (le-ltb s t (omega arith), ne_eqb s t (omega arith)) refl
 
 -- ---- the first is picked
 
-first_lowest : (h : History) (s : ℕ) (links : List Link) → IsFirstCycle h s links → (t : ℕ) (others : List Link) → IsLeastCycle h t others → s ≤ t
+pub first_lowest : (h : History) (s : ℕ) (links : List Link) → IsFirstCycle h s links → (t : ℕ) (others : List Link) → IsLeastCycle h t others → s ≤ t
 first_lowest h s links is t others other = go (cases_order s t)
   where
     go : (s ≡ t) ⊎ ((s < t) ⊎ (t < s)) → s ≤ t

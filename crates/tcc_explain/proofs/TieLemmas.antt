@@ -36,7 +36,7 @@ then_tied Greater p e = absurd cc
 number_tied : (m n : ℕ) → nat_cmp m n ≡ Equal → m ≡ n
 number_tied m n e = ranked m n Equal (sym e)
 
-step_tied : (s o : Step) → step_to s ≡ step_to o → step_cmp s o ≡ Equal → s ≡ o
+pub step_tied : (s o : Step) → step_to s ≡ step_to o → step_cmp s o ≡ Equal → s ≡ o
 step_tied (step.Session a b) (step.Session c d) to e =
     let from = number_tied a c (then_tied (nat_cmp a c) _ e).0 in
     cc

@@ -62,6 +62,3 @@ pub fn explain(
         Err(ResolveFault::NoMemory) => Err(ExplainFault::NoMemory),
     }
 }
-
-#[cfg(test)]
-mod tests;

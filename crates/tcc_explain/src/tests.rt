@@ -1,2 +1,3 @@
 //! Worked answers, with expected values worked out by hand.
+mod explaining;
 mod writing;

@@ -1,12 +1,14 @@
 //! Worked histories, with their answers worked out by hand.
-use super::*;
-use crate::{Cycle, write_text};
-use std::alloc::AllocError;
+use crate::{Cycle, ExplainFault, explain, first_cycle, write_text};
+use std::alloc::{AllocError, Global};
 use std::process::Abort;
 use std::test::Fail;
-use tcc_graph::Link;
-use tcc_reads::ReadFaultKind;
-use tcc_txn::{Item, Name, Rows, Txn};
+use std::thread::Threads;
+use tcc_derive::derive;
+use tcc_graph::{Graph, Link};
+use tcc_near::near;
+use tcc_reads::{ReadFaultKind, resolve};
+use tcc_txn::{Item, Name, NoMemory, Rows, Snapshot, Txn};
 
 /// Adds a transaction to those of its session.
 fn add(

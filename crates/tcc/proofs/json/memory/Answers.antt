@@ -1,0 +1,8 @@
+-- The line is the object's text.
+use Rattle.std.proofs.Common.{refl}
+use Rattle.serde_json.proofs.OnLiterals.{serde_json_on_literals}
+use Rattle.tcc.proofs.json.memory.Goals as goal
+
+pub returns : goal.returns
+unfolding serde_json_on_literals
+returns c = refl
