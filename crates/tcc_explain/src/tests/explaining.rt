@@ -51,7 +51,11 @@ fn gather(
 }
 
 /// The snapshot of these records.
-fn snapshot(rt: &impl Abort, alloc: Global, records: &str) -> Result<Snapshot, AllocError> {
+pub(super) fn snapshot(
+    rt: &impl Abort,
+    alloc: Global,
+    records: &str,
+) -> Result<Snapshot, AllocError> {
     match Snapshot::new(gather(rt, alloc, records)?) {
         Ok(snapshot) => Ok(snapshot),
         Err(_) => panic!(rt; "no snapshot of {records}"),
