@@ -6,4 +6,5 @@ pub mod Json
 pub mod Picked
 pub mod Returns
 pub mod Ways
+pub mod Certificates
 pub mod Explained

@@ -1,16 +1,19 @@
--- Searches from each start: which of them come back to it, and at what cost.
-use Rattle.std.specs.Prelude.{ℕ, ◌<◌, ◌≤◌, ◌≡◌, List, Option, None, Some}
-use Rattle.tcc_reads.specs.History.{History}
+-- Searches from each start: which of them come back to it, and at what cost; and the rows that they leave.
+use Rattle.std.specs.Prelude.{ℕ, ◌<◌, ◌≤◌, ◌≡◌, List, length, Option, None, Some, unwrap_or, min, slice_index}
+use Rattle.tcc_reads.specs.History.{History, count}
 use Rattle.tcc_graph.specs.Links.{cost}
 use Rattle.tcc_graph.specs.Routes.{IsCycle}
 use Rattle.tcc_graph.specs.declared.link.Link.{Link}
-use Rattle.tcc_core.specs.Rows.{in_row, IsRow, cap_of, IsWithin}
+use Rattle.tcc_core.specs.Rows.{in_row, IsRow, cap_of, IsCutOff}
+use Rattle.tcc_core.specs.Shares.{IsCappedDistance}
+use Rattle.tcc_cert.specs.Tables.{row_of}
 use Rattle.tcc_explain.specs.declared.returning.Returned.{Returned}
+use Rattle.tcc_explain.specs.declared.returning.Searched.{Searched}
 
--- the search from s has come back at this cost; or it has not, and no cycle from s is within the cap
+-- the search from s has come back at this cost; or it has not, and nothing outside its row is within the cap
 abbrev pub HasEnded : History → ℕ → ℕ → List (Option ℕ) → Option ℕ → Type 0
 HasEnded h s cap row (Some c) = IsRow h s row × (in_row row s ≡ Some c)
-HasEnded h s cap row None = (links : List Link) → IsCycle h s links → IsWithin (cap_of cap) (cost links) → ⊥
+HasEnded h s cap row None = IsRow h s row × (in_row row s ≡ None) × IsCutOff h s row (cap_of cap)
 
 -- the search has come back to its start; no cycle from a number below n costs less, and each from below the start more
 pub record IsFirstReturn (h : History) (n : ℕ) (r : Returned) : Type 0 where
@@ -18,3 +21,25 @@ pub record IsFirstReturn (h : History) (n : ℕ) (r : Returned) : Type 0 where
   pub back : in_row r.search.row r.search.start ≡ Some r.cost
   pub least : (t : ℕ) (links : List Link) → t < n → IsCycle h t links → r.cost ≤ cost links
   pub first : (t : ℕ) (links : List Link) → t < r.search.start → IsCycle h t links → r.cost < cost links
+
+-- what a number of 32 bits has for none
+abbrev pub no_cost : ℕ
+no_cost = 4294967295
+
+-- what a row has, as numbers
+abbrev pub cost_in : Option ℕ → ℕ
+cost_in found = unwrap_or found no_cost
+
+-- a number for each transaction, which, capped at a number up to the cap, is the distance from s, capped there
+pub record IsFarRow (h : History) (s : ℕ) (cap : ℕ) (row : List ℕ) : Type 0 where
+  pub long : length row ≡ count h
+  pub exact : (b : ℕ) (v : ℕ) → b ≤ cap → b ≤ no_cost → v < count h → IsCappedDistance h s v (Some b) (Some (min b (slice_index row v)))
+
+-- n rows, and a fact of each
+pub record AreRows (fact : ℕ → List ℕ → Type 0) (n : ℕ) (rows : List (List ℕ)) : Type 0 where
+  pub long : length rows ≡ n
+  pub each : (i : ℕ) → i < n → fact i (row_of rows i)
+
+-- the first that came back at the least cost, and the rows of all starts up to that cost
+abbrev pub IsSearched : History → Searched → Returned → Type 0
+IsSearched h searched r = IsFirstReturn h (count h) r × AreRows (λ s row. IsFarRow h s r.cost row) (count h) searched.rows.items

@@ -8,12 +8,13 @@ use crate::answer::{Anomaly, Answer, Commit};
 use crate::cycle::first_cycle;
 use crate::labels::Labels;
 use crate::refusal::ExplainFault;
+use crate::tables::{clock_table, near_table};
 use std::alloc::Global;
 use std::thread::Threads;
 use tcc_cert::{Links, Numbers};
 use tcc_derive::derive;
 use tcc_graph::Graph;
-use tcc_near::near;
+use tcc_near::{clocks, near};
 use tcc_order::laws::order_or_cycle;
 use tcc_order::order;
 use tcc_reads::{ResolveFault, resolve};
@@ -33,12 +34,15 @@ fn history_answer(
     order_or_cycle();
     if let Some(order) = order(alloc, &prices)? {
         let sessions = graph.sessions().len();
-        return Ok(Answer::Commit(Commit::new(Numbers::new(order), sessions, labels)));
+        let clocks = clock_table(alloc, graph, &clocks(rt, alloc, graph)?)?;
+        return Ok(Answer::Commit(Commit::new(Numbers::new(order), clocks, sessions, labels)));
     }
     let Some(cycle) = first_cycle(alloc, graph, &near, &prices)? else {
         unreachable!()
     };
-    Ok(Answer::Anomaly(Anomaly::new(Links::new(cycle.links), cycle.cost, labels)))
+    let near = near_table(alloc, graph, &near, cycle.cost)?;
+    let links = Links::new(cycle.links);
+    Ok(Answer::Anomaly(Anomaly::new(links, cycle.cost, near, cycle.far, labels)))
 }
 
 /// The first answer for the history of a snapshot: its first commit order, or the first of its least cycles where there

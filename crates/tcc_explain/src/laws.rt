@@ -1,14 +1,24 @@
-//! The laws of first cycles: they are picked from the back, and so are the walks of their links.
+//! The laws of answers: first cycles are picked from the back, and so are the walks of their links; and the certificates
+//! of answers keep the rules.
 ghost use Rattle.std.specs.Prelude.{◌≡◌, ◌≤◌, ◌↔◌, ◌∷◌, ◌++◌, ℕ, List};
+ghost use Rattle.tcc_txn.specs.Snapshots.{Sessions};
 ghost use Rattle.tcc_reads.specs.History.{History};
+ghost use Rattle.tcc_reads.specs.Sources.{history};
 ghost use Rattle.tcc_graph.specs.Links.{link_from, cost};
 ghost use Rattle.tcc_graph.specs.Routes.{IsRoute, IsLeastCycle, IsDistance};
+ghost use Rattle.tcc_graph.specs.Orders.{IsCommitOrder};
 ghost use Rattle.tcc_graph.specs.Ties.{IsFirstCycle};
 ghost use Rattle.tcc_graph.specs.declared.step.Step.{Step};
 ghost use Rattle.tcc_graph.specs.declared.link.Link.{Link};
 ghost use Rattle.tcc_graph.specs.declared.link.Link.TheVariants.{Derived};
+ghost use Rattle.tcc_near.specs.Clocks.{IsClocksOf};
 ghost use Rattle.tcc_derive.specs.Backwards.{IsFirstWalk};
+ghost use Rattle.tcc_cert.specs.Rules.{Certifies};
+ghost use Rattle.tcc_cert.specs.declared.certificate.Certificate.TheVariants as claim;
 ghost use Rattle.tcc_explain.specs.Picked.{IsPickedCycle, IsPickedWalk};
+ghost use Rattle.tcc_explain.specs.Certificates.{IsNearTable, IsFarTable, IsNumbered, certificate_of};
+ghost use Rattle.tcc_explain.specs.Explained.{IsAnswerOf};
+ghost use Rattle.tcc_explain.specs.declared.answer.Answer.{Answer};
 
 /// The first of the least cycles by the rule of ties is the one picked from the back, and there is one at most. The
 /// first of the shortest walks between two transactions is picked in the same way, and the walk of each derived link of
@@ -29,4 +39,19 @@ pub fn parts()
         → (front : List Link) (l : Link) (rest : List Link) → IsLeastCycle h s (front ++ l ∷ rest) → s ≤ link_from l }
     ensures least { (h : History) (s u v : ℕ) (front part rest : List Link) → IsLeastCycle h s (front ++ (part ++ rest))
         → IsRoute h u v part → IsDistance h u v (cost part) }
+{}
+
+/// A least cycle with the distances, capped at what it costs, is certified; so is a commit order with the clocks, where
+/// transactions are numbered as in each snapshot's history.
+pub fn certificates()
+    ensures cycle { (h : History) (s : ℕ) (links : List Link) (near far : List (List ℕ)) → IsLeastCycle h s links
+        → IsNearTable h (cost links) near → IsFarTable h (cost links) far → Certifies h (claim.Cycle links (cost links) near far) }
+    ensures order { (h : History) (order : List ℕ) (clocks : List (List ℕ)) → IsNumbered h → IsCommitOrder h order
+        → IsClocksOf h clocks → Certifies h (claim.Order order clocks) }
+    ensures numbered { (s : Sessions) → IsNumbered (history s) }
+{}
+
+/// The certificate of the answer for a snapshot keeps all rules.
+pub fn certified()
+    ensures { (s : Sessions) (a : Answer) → IsAnswerOf (history s) a → Certifies (history s) (certificate_of a) }
 {}

@@ -14,6 +14,7 @@ mod refusal;
 mod returning;
 pub mod sending;
 mod shape;
+mod tables;
 mod text;
 
 pub use answer::{Anomaly, Answer, Commit};

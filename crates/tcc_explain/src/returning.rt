@@ -1,13 +1,15 @@
-//! Searches from all starts, each cut past the least cost so far: the first start that a least cycle leads back to.
-ghost use Rattle.std.specs.Prelude.{◌≡◌, ◌≤◌, ℕ, None, length, IfOk, MatchOption};
-ghost use Rattle.tcc_reads.specs.History.{History, count};
+//! Searches from all starts, each cut past the least cost so far: the first start that a least cycle leads back to, and
+//! the rows of all.
+ghost use Rattle.std.specs.Prelude.{◌≡◌, ◌≤◌, ℕ, None, length, map, IfOk, MatchOption};
+ghost use Rattle.tcc_reads.specs.History.{History};
 ghost use Rattle.tcc_graph.specs.Routes.{HasCycle};
 ghost use Rattle.tcc_derive.specs.Prices.{IsPricesOf};
 ghost use Rattle.tcc_core.specs.Rows.{in_row};
 ghost use Rattle.tcc_core.specs.Searches.{IsSearchOf};
-ghost use Rattle.tcc_explain.specs.Returns.{HasEnded, IsFirstReturn};
+ghost use Rattle.tcc_explain.specs.Returns.{HasEnded, IsSearched, cost_in};
 
 use std::alloc::Global;
+use tcc_cert::Numbers;
 use tcc_core::{Search, Settled};
 use tcc_derive::Prices;
 use tcc_graph::Graph;
@@ -18,6 +20,24 @@ use tcc_txn::NoMemory;
 pub(crate) struct Returned {
     pub search: Search,
     pub cost: u32,
+}
+
+/// The first search that came back at the least cost, and the costs in the row of each start.
+#[derive(Drop)]
+pub(crate) struct Searched {
+    pub first: Option<Returned>,
+    pub rows: Vec<Numbers>,
+}
+
+/// The costs in a row, `u32::MAX` for none.
+fn costs(alloc: Global, row: &[Option<u32>]) -> Result<Numbers, NoMemory>
+    ensures { IfOk result (λ costs. costs ≡ map cost_in row.now) }
+{
+    let mut costs = Vec::new(alloc);
+    for cost in row {
+        costs.push(cost.unwrap_or(u32::MAX))?;
+    }
+    Ok(Numbers::new(costs))
 }
 
 /// Takes a search to its end, and answers what it cost to come back to its start; none where no cycle from there is
@@ -39,25 +59,29 @@ fn finish(search: &mut Search, prices: &Prices, cap: u64) -> Option<u32>
     None
 }
 
-/// The search from the first start that a least cycle leads back to; none where there is no cycle.
+/// The search from the first start that a least cycle leads back to, none where there is no cycle; and the costs in the
+/// rows of all starts.
 pub(crate) fn first_return(
     alloc: Global,
     graph: &Graph,
     prices: &Prices,
-) -> Result<Option<Returned>, NoMemory>
+) -> Result<Searched, NoMemory>
     requires { IsPricesOf graph.now prices.now }
-    ensures { IfOk result (λ found. MatchOption found (HasCycle graph.now → ⊥) (IsFirstReturn graph.now (count graph.now))) }
+    ensures { IfOk result (λ searched. MatchOption searched.first (HasCycle graph.now → ⊥) (IsSearched graph.now searched)) }
 {
     let mut cap = u64::MAX;
     let mut first = None;
+    let mut rows = Vec::new(alloc);
     for start in 0..graph.count() {
         let mut search = Search::begin(alloc, prices, start)?;
-        if let Some(cost) = finish(&mut search, prices, cap) {
+        let back = finish(&mut search, prices, cap);
+        rows.push(costs(alloc, search.row())?)?;
+        if let Some(cost) = back {
             if (cost as u64) < cap {
                 cap = cost as u64;
                 first = Some(Returned { search, cost });
             }
         }
     }
-    Ok(first)
+    Ok(Searched { first, rows })
 }

@@ -1,3 +1,4 @@
 //! Worked answers, with expected values worked out by hand.
+mod certificates;
 mod explaining;
 mod writing;

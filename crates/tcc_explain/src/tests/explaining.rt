@@ -37,7 +37,7 @@ fn gather(alloc: Global, records: &str) -> Option<Vec<(Name, Vec<Txn>)>> {
 }
 
 /// The snapshot of these records.
-fn snapshot(alloc: Global, records: &str) -> Option<Snapshot> {
+pub(super) fn snapshot(alloc: Global, records: &str) -> Option<Snapshot> {
     Snapshot::new(gather(alloc, records)?).ok()
 }
 

@@ -10,7 +10,7 @@ use std::alloc::{AllocError, Global};
 use std::io::{self, ErrorKind, Write};
 use std::process::Abort;
 use std::test::Fail;
-use tcc_cert::{Links, Numbers};
+use tcc_cert::{Links, Numbers, Table};
 use tcc_graph::{Graph, Link, Step, Walk};
 use tcc_reads::resolve;
 use tcc_txn::{Name, Snapshot, Txn};
@@ -93,6 +93,11 @@ fn labels(
     }
 }
 
+/// A table without rows: no text of an answer shows its tables.
+fn no_rows(alloc: Global) -> Table {
+    Table::new(Vec::new(alloc))
+}
+
 /// A commit order.
 fn commit(
     rt: &impl Abort,
@@ -102,7 +107,7 @@ fn commit(
 ) -> Result<Answer, AllocError> {
     let labels = labels(rt, alloc, sessions)?;
     let order = Numbers::new(order.to_vec(alloc)?);
-    Ok(Answer::Commit(Commit::new(order, sessions.len(), labels)))
+    Ok(Answer::Commit(Commit::new(order, no_rows(alloc), sessions.len(), labels)))
 }
 
 /// a/1 writes x, and a/2 reads its initial value.
@@ -117,7 +122,7 @@ fn stale_read(rt: &impl Abort, alloc: Global) -> Result<Anomaly, AllocError> {
     };
     let links = vec![in alloc; Link::Session { from: 0, to: 1 }, derived]?;
     let labels = labels(rt, alloc, &[("a", 2)])?;
-    Ok(Anomaly::new(Links::new(links), 3, labels))
+    Ok(Anomaly::new(Links::new(links), 3, no_rows(alloc), no_rows(alloc), labels))
 }
 
 /// a/1 reads y from b/1, which reads x from a/1.
@@ -136,7 +141,7 @@ fn two_reads(rt: &impl Abort, alloc: Global) -> Result<Anomaly, AllocError> {
     };
     let links = vec![in alloc; there, back]?;
     let labels = labels(rt, alloc, &[("a", 1), ("b", 1)])?;
-    Ok(Anomaly::new(Links::new(links), 2, labels))
+    Ok(Anomaly::new(Links::new(links), 2, no_rows(alloc), no_rows(alloc), labels))
 }
 
 /// a/1 writes x; b/1 reads it and writes y; c/1 reads y, and c/2 the initial value of x.
@@ -162,7 +167,7 @@ fn passed_on(rt: &impl Abort, alloc: Global) -> Result<Anomaly, AllocError> {
     };
     let links = vec![in alloc; Link::Session { from: 0, to: 1 }, derived]?;
     let labels = labels(rt, alloc, &[("a", 1), ("b", 1), ("c", 2)])?;
-    Ok(Anomaly::new(Links::new(links), 5, labels))
+    Ok(Anomaly::new(Links::new(links), 5, no_rows(alloc), no_rows(alloc), labels))
 }
 
 /// a/1 and a/2 write x; b/1 reads it from a/2, and b/2 from a/1.
@@ -182,7 +187,7 @@ fn overwritten_read(rt: &impl Abort, alloc: Global) -> Result<Anomaly, AllocErro
     };
     let links = vec![in alloc; Link::Session { from: 1, to: 2 }, derived]?;
     let labels = labels(rt, alloc, &[("a", 2), ("b", 2)])?;
-    Ok(Anomaly::new(Links::new(links), 4, labels))
+    Ok(Anomaly::new(Links::new(links), 4, no_rows(alloc), no_rows(alloc), labels))
 }
 
 /// A derived link by x, whose reader c/1 reads x from the writer.
@@ -204,7 +209,7 @@ fn two_writes(rt: &impl Abort, alloc: Global) -> Result<Anomaly, AllocError> {
     let key = Name::read(b"x").expect(rt, "a name");
     let links = vec![in alloc; against(alloc, key, 1, 2)?, against(alloc, key, 2, 1)?]?;
     let labels = labels(rt, alloc, &[("a", 1), ("b", 1), ("c", 1)])?;
-    Ok(Anomaly::new(Links::new(links), 4, labels))
+    Ok(Anomaly::new(Links::new(links), 4, no_rows(alloc), no_rows(alloc), labels))
 }
 
 fn writes_text(rt: &impl Abort, alloc: Global, answer: &Answer, text: &str) {

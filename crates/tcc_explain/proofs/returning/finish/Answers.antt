@@ -14,7 +14,7 @@ pub returns-in-Cut-clause-ended : goal.returns-in-Cut-clause-ended
 returns-in-Cut-clause-ended c = λ h s priced is outside.
     let on = c.loop.invariant.2 h s priced is outside in
     let settles : Settles h s c.args.cap c.loop.search.row c.settle.new.self.row (settled.Cut c.in-Cut.field-0) = c.in-Cut.ensures.settled h s priced on.is in
-    ended_cut h s c.args.cap c.in-Cut.field-0 c.loop.counter c.loop.search c.settle.new.self on settles
+    ended_cut h s c.args.cap c.in-Cut.field-0 c.loop.counter c.loop.search c.settle.new.self on (c.settle.ensures.search h s priced on.is) settles
 
 pub loop-preserved : goal.loop-preserved
 loop-preserved c = (

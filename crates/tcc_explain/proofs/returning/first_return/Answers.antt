@@ -1,8 +1,8 @@
-use Rattle.std.proofs.Common.{◌≡◌, ◌∙◌, None, Some, arith}
-use Rattle.tcc_explain.specs.Returns.{HasEnded}
+use Rattle.std.proofs.Common.{◌≡◌, ◌∙◌, ◌++◌, ◌∷◌, [], None, Some, map, ap, arith}
+use Rattle.tcc_explain.specs.Returns.{HasEnded, cost_in}
 use Rattle.tcc_core.specs.Searches.{IsSearchOf}
 use Rattle.tcc_core.specs.Rows.{in_row}
-use Rattle.tcc_explain.proofs.ReturnLemmas.{best_cut, best_kept, best_replaced, best_of_all}
+use Rattle.tcc_explain.proofs.ReturnLemmas.{best_cut, best_kept, best_replaced, outside_returned, outside_cut, rows_kept, searched_all}
 use Rattle.tcc_explain.proofs.returning.first_return.Goals.{in-Some+then-cost-cap, in-Some+else-cost-cap, in_default}
 use Rattle.tcc_explain.proofs.returning.first_return.Goals as goal
 
@@ -12,21 +12,38 @@ loop-start-preserved c =
     let s = c.loop-start.start in
     let cap = c.loop-start.cap in
     let best = c.loop-start.first in
+    let rows = c.loop-start.rows.items in
+    let new = c.finish-back.new.search in
     let is : IsSearchOf h s c.in_ok-search.search = c.in_ok-search.ensures.search h c.requires in
     let outside : in_row c.in_ok-search.search.row s ≡ None = c.in_ok-search.ensures.empty.empty s in
-    let ended : HasEnded h s cap c.finish.new.search.row c.finish.result = c.finish.ensures.ended h s c.requires is outside in
-    elim c.match-finish.branch [
+    let ended : HasEnded h s cap new.row c.finish-back.result = c.finish-back.ensures.ended h s c.requires is outside in
+    let costs : c.in_ok-costs.field-0 ≡ map cost_in new.row = c.in_ok-costs.ensures ∙ ap (map cost_in) c.row.ensures in
+    let pushed : c.push.new.self.items ≡ rows ++ map cost_in new.row ∷ [] = rw (← costs) c.in_ok-push.ensures.items in
+    elim c.match-back.branch [
       | in-Some+then-cost-cap w ↦
-          let back : HasEnded h s cap c.finish.new.search.row (Some w.in-Some.cost) = rw w.in-Some.is at ended in
-          let start : c.finish.new.search.start ≡ s = c.finish.ensures.start ∙ c.in_ok-search.ensures.start in
-          rw (w.cap-is, w.first-is) (best_replaced h s cap best (record { search = c.finish.new.search; cost = w.in-Some.cost }) c.loop-start.invariant start back w.if-cost-cap.true)
+          let cost = w.in-Some.cost in
+          let back : HasEnded h s cap new.row (Some cost) = rw w.in-Some.is at ended in
+          let start : new.start ≡ s = c.finish-back.ensures.start ∙ c.in_ok-search.ensures.start in
+          rw (w.cap-is, w.first-is, pushed) (
+            best_replaced h s cap best (record { search = new; cost = cost }) c.loop-start.invariant.0 start back w.if-cost-cap.true,
+            rows_kept h s cap cost rows (map cost_in new.row) (omega (arith, w.if-cost-cap.true)) c.loop-start.invariant.1 (outside_returned h s cap cost cost new.row back (omega arith)),
+          )
       | in-Some+else-cost-cap w ↦
-          let back : HasEnded h s cap c.finish.new.search.row (Some w.in-Some.cost) = rw w.in-Some.is at ended in
-          rw (w.cap-is, w.first-is) (best_kept h s cap w.in-Some.cost best c.finish.new.search.row c.loop-start.invariant back (omega arith) w.if-cost-cap.false)
+          let cost = w.in-Some.cost in
+          let back : HasEnded h s cap new.row (Some cost) = rw w.in-Some.is at ended in
+          rw (w.cap-is, w.first-is, pushed) (
+            best_kept h s cap cost best new.row c.loop-start.invariant.0 back (omega arith) w.if-cost-cap.false,
+            rows_kept h s cap cap rows (map cost_in new.row) (omega arith) c.loop-start.invariant.1 (outside_returned h s cap cost cap new.row back w.if-cost-cap.false),
+          )
       | in_default w ↦
-          let none : c.finish.result ≡ None = w.in_default.is in
-          rw (w.cap-is, w.first-is) (best_cut h s cap best c.finish.new.search.row c.loop-start.invariant (rw none at ended))
+          let none : c.finish-back.result ≡ None = w.in_default.is in
+          let cut : HasEnded h s cap new.row None = rw none at ended in
+          rw (w.cap-is, w.first-is, pushed) (
+            best_cut h s cap best new.row c.loop-start.invariant.0 cut,
+            rows_kept h s cap cap rows (map cost_in new.row) (omega arith) c.loop-start.invariant.1 (outside_cut h s cap new.row cut),
+          )
     ]
 
 pub returns : goal.returns
-returns c = best_of_all c.args.graph.now c.loop-start.start c.loop-start.cap c.loop-start.first (omega (arith, c.count-start-end.ensures.value)) c.loop-start.invariant
+returns c =
+    searched_all c.args.graph.now c.loop-start.start c.loop-start.cap c.loop-start.first c.loop-start.rows (omega (arith, c.count-start-end.ensures.value)) c.loop-start.invariant.0 c.loop-start.invariant.1

@@ -1,0 +1,6 @@
+-- the numbers so far
+use Rattle.std.proofs.Common.{◌≡◌, map, take, min}
+use Rattle.tcc_explain.proofs.tables.far_row.Given as goal
+
+abbrev pub invariant-loop-cost : goal.invariant-loop-cost
+invariant-loop-cost l = l.row.items ≡ map (min l.cap) (take l.cost-index l.costs)

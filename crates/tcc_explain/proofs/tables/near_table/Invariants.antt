@@ -1,0 +1,9 @@
+-- the rows so far
+use Rattle.std.proofs.Common.{◌≡◌, map}
+use Rattle.tcc_cert.specs.Tables.{row_of}
+use Rattle.tcc_explain.specs.Certificates.{capped_steps}
+use Rattle.tcc_explain.specs.Returns.{AreRows}
+use Rattle.tcc_explain.proofs.tables.near_table.Given as goal
+
+abbrev pub invariant-loop-a : goal.invariant-loop-a
+invariant-loop-a l = AreRows (λ a row. row ≡ map (capped_steps l.cap) (row_of l.near a)) l.a l.rows.items
