@@ -267,7 +267,8 @@ fn far_places(rt: HostRuntime) -> Result<(), Fail> {
     };
     let links = vec![in alloc; Link::Session { from: 0, to: 1 }, derived]?;
     let labels = labels(&rt, alloc, &[("a", 12)])?;
-    let answer = Answer::Anomaly(Anomaly::new(Links::new(links), 3, labels));
+    let anomaly = Anomaly::new(Links::new(links), 3, no_rows(alloc), no_rows(alloc), labels);
+    let answer = Answer::Anomaly(anomaly);
     let text = "anomaly: 3 steps, stale-initial-read\nsession init -> a/1\n\
         derived a/1 -> init by x.y-z_0, read by a/12\n  session a/1 -> a/12\n\
         \x20 against init -> a/12 by x.y-z_0\n";
