@@ -12,7 +12,8 @@ use Rattle.tcc_cert.specs.Tables.{row_of}
 use Rattle.tcc_cert.specs.CycleRules.{CycleClaim}
 use Rattle.tcc_cert.specs.OrderRules.{OrderClaim}
 use Rattle.tcc_cert.specs.Texts.{Words, words_text, line_text, lines_text, numbers_words, table_lines, link_lines, header_words, claim_lines, certificate_text, most_cost, IsNumber, IsCount, HasTableText, HasOrderText, HasCycleText, HasText, HasLinkText}
-use Rattle.tcc_cert.specs.Reading.{words, repeated, next, header_line, ended, numbers_line, word_line, sizes_line, link_at, table_at, order_at, cycle_at, certificate_of, Order, Cycle}
+use Rattle.tcc_cert.specs.Reading.{words, repeated, next, header_line, ended, numbers_line, word_line, sizes_line, link_at, table_at, order_at, cycle_at, certificate_of}
+use Rattle.tcc_cert.specs.declared.reading.forms.Sizes.TheVariants.{Order, Cycle}
 use Rattle.tcc_cert.proofs.ReadingFacts.{IsAbove, later, decimal-above, number_of-decimal}
 use Rattle.tcc_cert.proofs.Items.{flat_map-map, flat_map-flat_map}
 use Rattle.tcc_cert.proofs.LinesBack.{at, then_ok, next-line, words-line, line-at, repeated-back}
@@ -38,25 +39,25 @@ table-at rows columns most table le few h n rest =
 
 -- ---- lines of one word
 
-clocks-at : (n : ℕ) (rest : List ℕ) → words (word_line (codes "clocks")) (at n (line_text (codes "clocks" ∷ []) ++ rest)) ≡ Ok (codes "clocks", at (n + 1) rest)
+clocks-at : (n : ℕ) (rest : List ℕ) → words (word_line (codes "clocks")) (at n (line_text (codes "clocks" ∷ []) ++ rest)) ≡ Ok (tt, at (n + 1) rest)
 clocks-at n rest =
     words-line (word_line (codes "clocks")) n (codes "clocks" ∷ []) rest
-    (lit< tt, (lit< tt, (lit< tt, (lit< tt, (lit< tt, (lit< tt, (lit< tt, tt)))))), tt) (lit≤ tt) (codes "clocks") refl
+    (lit< tt, (lit< tt, (lit< tt, (lit< tt, (lit< tt, (lit< tt, (lit< tt, tt)))))), tt) (lit≤ tt) tt refl
 
-near-at : (n : ℕ) (rest : List ℕ) → words (word_line (codes "near")) (at n (line_text (codes "near" ∷ []) ++ rest)) ≡ Ok (codes "near", at (n + 1) rest)
+near-at : (n : ℕ) (rest : List ℕ) → words (word_line (codes "near")) (at n (line_text (codes "near" ∷ []) ++ rest)) ≡ Ok (tt, at (n + 1) rest)
 near-at n rest =
     words-line (word_line (codes "near")) n (codes "near" ∷ []) rest
-    (lit< tt, (lit< tt, (lit< tt, (lit< tt, (lit< tt, tt)))), tt) (lit≤ tt) (codes "near") refl
+    (lit< tt, (lit< tt, (lit< tt, (lit< tt, (lit< tt, tt)))), tt) (lit≤ tt) tt refl
 
-far-at : (n : ℕ) (rest : List ℕ) → words (word_line (codes "far")) (at n (line_text (codes "far" ∷ []) ++ rest)) ≡ Ok (codes "far", at (n + 1) rest)
+far-at : (n : ℕ) (rest : List ℕ) → words (word_line (codes "far")) (at n (line_text (codes "far" ∷ []) ++ rest)) ≡ Ok (tt, at (n + 1) rest)
 far-at n rest =
     words-line (word_line (codes "far")) n (codes "far" ∷ []) rest
-    (lit< tt, (lit< tt, (lit< tt, (lit< tt, tt))), tt) (lit≤ tt) (codes "far") refl
+    (lit< tt, (lit< tt, (lit< tt, (lit< tt, tt))), tt) (lit≤ tt) tt refl
 
-end-at : (n : ℕ) (rest : List ℕ) → words (word_line (codes "end")) (at n (line_text (codes "end" ∷ []) ++ rest)) ≡ Ok (codes "end", at (n + 1) rest)
+end-at : (n : ℕ) (rest : List ℕ) → words (word_line (codes "end")) (at n (line_text (codes "end" ∷ []) ++ rest)) ≡ Ok (tt, at (n + 1) rest)
 end-at n rest =
     words-line (word_line (codes "end")) n (codes "end" ∷ []) rest
-    (lit< tt, (lit< tt, (lit< tt, (lit< tt, tt))), tt) (lit≤ tt) (codes "end") refl
+    (lit< tt, (lit< tt, (lit< tt, (lit< tt, tt))), tt) (lit≤ tt) tt refl
 
 -- ---- claims of orders
 
@@ -174,7 +175,7 @@ cycle_sizes-at n m l at_line rest hn hm hl =
     (Cycle n m l)
     (rw (number_of-decimal 1 1024 n hn.some hn.limit (omega (arith, hn.limit)), number_of-decimal 1 1024 m hm.some hm.limit (omega (arith, hm.limit)), number_of-decimal 0 most_cost l (omega arith) hl (omega (arith, hl))) refl)
 
-header-at : (rest : List ℕ) → next header_line (at 1 (line_text header_words ++ rest)) ≡ Ok (codes "tcc-certificate 1", at 2 rest)
+header-at : (rest : List ℕ) → next header_line (at 1 (line_text header_words ++ rest)) ≡ Ok (tt, at 2 rest)
 header-at rest =
     next-line header_line 1 (codes "tcc-certificate 1") rest
     (lit< tt, (lit< tt, (lit< tt, (lit< tt, (lit< tt, (lit< tt, (lit< tt, (lit< tt, (lit< tt, (lit< tt, (lit< tt, (lit< tt, (lit< tt, (lit< tt, (lit< tt, (lit< tt, (lit< tt, tt))))))))))))))))) (lit≤ tt)
@@ -186,14 +187,10 @@ text-back (claim.Order order clocks) h =
     let body = lines_text (numbers_words order ∷ (codes "clocks" ∷ []) ∷ (table_lines clocks ++ (codes "end" ∷ []) ∷ [])) in
     let sizes = order_sizes-at (length order) (length (row_of clocks 0)) 2 body h.count h.sessions in
     let claim_read = order-back k h 3 in
-    then_ok _ (header-at (lines_text (claim_lines (claim.Order order clocks))))
-    ∙ then_ok _ sizes
-    ∙ then_ok (λ read. ended read.0 read.1) claim_read.1
+    then_ok (λ read. ended read.0 read.1) (then_ok _ (header-at (lines_text (claim_lines (claim.Order order clocks)))) ∙ then_ok _ sizes ∙ claim_read.1)
 text-back (claim.Cycle links least near far) h =
     let k : CycleClaim = record { links = links; least = least; near = near; far = far } in
     let body = lines_text (flat_map link_lines links ++ (codes "near" ∷ []) ∷ (table_lines near ++ (codes "far" ∷ []) ∷ (table_lines far ++ (codes "end" ∷ []) ∷ []))) in
     let sizes = cycle_sizes-at (length near) (length links) least 2 body h.count h.steps h.least in
     let claim_read = cycle-back k h 3 in
-    then_ok _ (header-at (lines_text (claim_lines (claim.Cycle links least near far))))
-    ∙ then_ok _ sizes
-    ∙ then_ok (λ read. ended read.0 read.1) claim_read.1
+    then_ok (λ read. ended read.0 read.1) (then_ok _ (header-at (lines_text (claim_lines (claim.Cycle links least near far)))) ∙ then_ok _ sizes ∙ claim_read.1)

@@ -7,3 +7,8 @@ pub mod LinesBack
 pub mod FormsBack
 pub mod LinksBack
 pub mod ClaimsBack
+pub mod HeldFacts
+pub mod InputFacts
+pub mod WordFacts
+pub mod OnwardFacts
+pub mod StepFacts

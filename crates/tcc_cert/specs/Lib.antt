@@ -5,3 +5,6 @@ pub mod Rules
 pub mod Texts
 pub mod Writing
 pub mod Reading
+pub mod Outcomes
+pub mod HeldBytes
+pub mod Inputs

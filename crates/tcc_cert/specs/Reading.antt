@@ -1,6 +1,6 @@
 -- How a certificate's text is read: line by line, up to the first fault. What the next line has to be follows from the lines before it.
 use Rattle.std.specs.Prelude.{ℕ, zero, suc, ◌+◌, Bool, not, ◌&&◌, ◌||◌, ◌==◌, nat_lt, if◌then◌else◌, List, [], ◌∷◌, length, take, drop, is_some, Result, Ok, Err, codes}
-use Rattle.std.specs.List.{position_or_len}
+use Rattle.std.specs.List.{position_or_len, slice_split}
 use Rattle.std.specs.Str.{all_ascii_digits}
 use Rattle.std.specs.Str.Parse.{digits_value}
 use Rattle.tcc_txn.specs.Names.{name_fault}
@@ -14,6 +14,9 @@ use Rattle.tcc_cert.specs.declared.fault.CertFaultKind.{CertFaultKind}
 use Rattle.tcc_cert.specs.declared.fault.CertFaultKind.TheVariants.{Header, Word, Number, Count, TooLarge, Truncated, Trailing}
 use Rattle.tcc_cert.specs.declared.certificate.Certificate.{Certificate}
 use Rattle.tcc_cert.specs.declared.certificate.Certificate.TheVariants as claim
+use Rattle.tcc_cert.specs.declared.reading.forms.Head.{Head}
+use Rattle.tcc_cert.specs.declared.reading.forms.Sizes.{Sizes}
+use Rattle.tcc_cert.specs.declared.reading.forms.Sizes.TheVariants.{Order, Cycle}
 use Rattle.tcc_cert.specs.Texts.{Words, most_cost}
 
 -- what comes next, or the fault that was met before
@@ -24,15 +27,9 @@ abbrev pub ◌>>=◌ : {A B E : Type 0} → Result A E → (A → Result B E) �
 
 -- ---- words
 
--- one more byte in front of words
-abbrev pub before_space : ℕ → Words → Words
-before_space byte [] = (byte ∷ []) ∷ []
-before_space byte (word ∷ words) = if byte == 32 then [] ∷ word ∷ words else (byte ∷ word) ∷ words
-
 -- what stands between spaces; n spaces part n + 1 words, some of them empty
 abbrev pub parted : List ℕ → Words
-parted [] = [] ∷ []
-parted (byte ∷ bytes) = before_space byte (parted bytes)
+parted bytes = slice_split (λ byte. byte == 32) bytes
 
 -- the words of a line; an empty line has none
 abbrev pub words_of : List ℕ → Words
@@ -64,9 +61,9 @@ key_of word = if is_some (name_fault word) then Err Word else Ok word
 -- ---- the forms of lines
 
 -- a line of this word alone
-abbrev pub word_line : List ℕ → Words → Result (List ℕ) CertFaultKind
+abbrev pub word_line : List ℕ → Words → Result (Unit {0}) CertFaultKind
 word_line wanted [] = Err Word
-word_line wanted (word ∷ fields) = if same word wanted then if length fields == 0 then Ok word else Err Count else Err Word
+word_line wanted (word ∷ fields) = if same word wanted then if length fields == 0 then Ok tt else Err Count else Err Word
 
 -- numbers up to most, judged from left to right
 abbrev pub numbers_of : ℕ → Words → Result (List ℕ) CertFaultKind
@@ -80,33 +77,39 @@ numbers_of most (word ∷ words) = do
 abbrev pub numbers_line : ℕ → ℕ → Words → Result (List ℕ) CertFaultKind
 numbers_line count most words = if length words == count then numbers_of most words else Err Count
 
-abbrev pub session_fields : Words → Result Step CertFaultKind
-session_fields (u ∷ v ∷ []) = do
+-- two words, three or five
+abbrev pub two_words : {X : Type 0} → (List ℕ → List ℕ → Result X CertFaultKind) → Words → Result X CertFaultKind
+two_words form (first ∷ second ∷ []) = form first second
+two_words form _ = Err Count
+
+abbrev pub three_words : {X : Type 0} → (List ℕ → List ℕ → List ℕ → Result X CertFaultKind) → Words → Result X CertFaultKind
+three_words form (first ∷ second ∷ third ∷ []) = form first second third
+three_words form _ = Err Count
+
+abbrev pub five_words : {X : Type 0} → (List ℕ → List ℕ → List ℕ → List ℕ → List ℕ → Result X CertFaultKind) → Words → Result X CertFaultKind
+five_words form (first ∷ second ∷ third ∷ fourth ∷ fifth ∷ []) = form first second third fourth fifth
+five_words form _ = Err Count
+
+abbrev pub session_of : List ℕ → List ℕ → Result Step CertFaultKind
+session_of u v = do
   from ← transaction_of u
   to ← transaction_of v
   Ok (step.Session from to)
-session_fields _ = Err Count
 
-abbrev pub reads_fields : Words → Result Step CertFaultKind
-reads_fields (u ∷ v ∷ name ∷ []) = do
+abbrev pub reads_of : List ℕ → List ℕ → List ℕ → Result Step CertFaultKind
+reads_of u v name = do
   from ← transaction_of u
   to ← transaction_of v
   key ← key_of name
   Ok (step.Reads from to key)
-reads_fields _ = Err Count
 
 -- a step of a walk
 abbrev pub step_line : Words → Result Step CertFaultKind
 step_line [] = Err Word
 step_line (word ∷ fields) =
-    if same word (codes "S") then session_fields fields
-    else if same word (codes "R") then reads_fields fields
+    if same word (codes "S") then two_words session_of fields
+    else if same word (codes "R") then three_words reads_of fields
     else Err Word
-
--- a link without its walk, and how many steps that has
-pub record Head : Type 0 where
-  pub link : Link
-  pub steps : ℕ
 
 abbrev pub with_walk : Link → List Step → Link
 with_walk (link.Session u v) walk = link.Session u v
@@ -117,50 +120,41 @@ abbrev pub head_of_step : Step → Head
 head_of_step (step.Session u v) = record { link = link.Session u v; steps = 0 }
 head_of_step (step.Reads u v key) = record { link = link.Reads u v key; steps = 0 }
 
-abbrev pub derived_fields : Words → Result Head CertFaultKind
-derived_fields (b ∷ a ∷ name ∷ c ∷ w ∷ []) = do
+abbrev pub derived_of : List ℕ → List ℕ → List ℕ → List ℕ → List ℕ → Result Head CertFaultKind
+derived_of b a name c w = do
   from ← transaction_of b
   to ← transaction_of a
   key ← key_of name
   reader ← transaction_of c
   steps ← count_of w
   Ok (record { link = link.Derived from to key reader []; steps = steps })
-derived_fields _ = Err Count
 
 -- the line that a link begins with
 abbrev pub head_line : Words → Result Head CertFaultKind
 head_line [] = Err Word
 head_line (word ∷ fields) =
-    if same word (codes "D") then derived_fields fields
+    if same word (codes "D") then five_words derived_of fields
     else step_line (word ∷ fields) >>= λ step. Ok (head_of_step step)
 
--- how long the parts of a claim are: how many transactions and sessions; or how many transactions and links, and what
--- the cycle costs
-pub data Sizes : Type 0 where
-  Order : ℕ → ℕ → Sizes
-  Cycle : ℕ → ℕ → ℕ → Sizes
-
-abbrev pub order_fields : Words → Result Sizes CertFaultKind
-order_fields (n ∷ s ∷ []) = do
+abbrev pub order_sizes : List ℕ → List ℕ → Result Sizes CertFaultKind
+order_sizes n s = do
   transactions ← count_of n
   sessions ← number_of 0 64 s
   Ok (Order transactions sessions)
-order_fields _ = Err Count
 
-abbrev pub cycle_fields : Words → Result Sizes CertFaultKind
-cycle_fields (n ∷ m ∷ l ∷ []) = do
+abbrev pub cycle_sizes : List ℕ → List ℕ → List ℕ → Result Sizes CertFaultKind
+cycle_sizes n m l = do
   transactions ← count_of n
   links ← count_of m
   least ← number_of 0 most_cost l
   Ok (Cycle transactions links least)
-cycle_fields _ = Err Count
 
 -- the line that says how long the parts of a claim are
 abbrev pub sizes_line : Words → Result Sizes CertFaultKind
 sizes_line [] = Err Word
 sizes_line (word ∷ fields) =
-    if same word (codes "order") then order_fields fields
-    else if same word (codes "cycle") then cycle_fields fields
+    if same word (codes "order") then two_words order_sizes fields
+    else if same word (codes "cycle") then three_words cycle_sizes fields
     else Err Word
 
 -- ---- lines
@@ -211,8 +205,8 @@ repeated read (suc n) at = do
   others ← repeated read n first.1
   Ok (first.0 ∷ others.0, others.1)
 
-abbrev pub header_line : List ℕ → Result (List ℕ) CertFaultKind
-header_line line = if same line (codes "tcc-certificate 1") then Ok line else Err Header
+abbrev pub header_line : List ℕ → Result (Unit {0}) CertFaultKind
+header_line line = if same line (codes "tcc-certificate 1") then Ok tt else Err Header
 
 -- the link of this head, and the steps of its walk
 abbrev pub walk_of : Head × Place → Reads Link
@@ -253,10 +247,19 @@ claim_at (Cycle transactions links least) at = cycle_at transactions links least
 abbrev pub ended : Certificate → Place → Result Certificate CertFault
 ended certificate at = if length at.bytes == 0 then Ok certificate else Err (record { line = at.line; kind = Trailing })
 
+-- a certificate, up to the line behind its last
+abbrev pub certificate_at : Place → Reads Certificate
+certificate_at at = do
+  header ← next header_line at
+  sizes ← words sizes_line header.1
+  claim_at sizes.0 sizes.1
+
+-- the whole text
+abbrev pub start_of : List ℕ → Place
+start_of bytes = record { line = 1; bytes = bytes }
+
 -- the certificate whose text the bytes are, or the first fault
 abbrev pub certificate_of : List ℕ → Result Certificate CertFault
 certificate_of bytes = do
-  header ← next header_line (record { line = 1; bytes = bytes })
-  sizes ← words sizes_line header.1
-  certificate ← claim_at sizes.0 sizes.1
+  certificate ← certificate_at (start_of bytes)
   ended certificate.0 certificate.1

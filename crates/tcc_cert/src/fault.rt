@@ -1,4 +1,8 @@
-//! Why a certificate could not be written.
+//! Why a certificate could not be written or read.
+ghost use Rattle.std.specs.Prelude.{◌≡◌};
+ghost use Rattle.tcc_cert.specs.declared.fault.CertFaultKind.TheVariants.{NoMemory};
+
+use std::alloc::{AllocError, AllocFailed};
 use std::io;
 use thiserror::Error;
 
@@ -46,6 +50,22 @@ pub enum CertFaultKind {
     /// Want of memory.
     #[error("out of memory")]
     NoMemory,
+}
+
+impl From<AllocError> for CertFaultKind {
+    ghost from_gives = { λ _ e. e ≡ NoMemory };
+
+    fn from(_error: AllocError) -> CertFaultKind {
+        CertFaultKind::NoMemory
+    }
+}
+
+impl<T: Drop> From<AllocFailed<T>> for CertFaultKind {
+    ghost from_gives = { λ _ e. e ≡ NoMemory };
+
+    fn from(_error: AllocFailed<T>) -> CertFaultKind {
+        CertFaultKind::NoMemory
+    }
 }
 
 /// The first line of a certificate's text with a fault.

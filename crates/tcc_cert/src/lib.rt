@@ -8,6 +8,7 @@ pub mod laws;
 mod lines;
 mod links;
 mod numbers;
+mod reading;
 mod table;
 mod writing;
 
@@ -15,6 +16,7 @@ pub use certificate::Certificate;
 pub use fault::{CertFault, CertFaultKind, WriteFault};
 pub use links::Links;
 pub use numbers::Numbers;
+pub use reading::read;
 pub use table::Table;
 pub use writing::write;
 

@@ -1,7 +1,9 @@
-//! Certificates of worked histories, and writers that fail.
-use crate::{Certificate, Links, Numbers, Table, WriteFault, write};
+//! Certificates of worked histories, writers that fail, altered texts, and readers that fail.
+use crate::{
+    CertFault, CertFaultKind, Certificate, Links, Numbers, Table, WriteFault, read, write,
+};
 use std::alloc::{AllocError, Global};
-use std::io::{self, ErrorKind, Write};
+use std::io::{self, ErrorKind, Read, Write};
 use std::process::Abort;
 use std::test::Fail;
 use tcc_graph::{Link, Step, Walk};
@@ -239,5 +241,264 @@ fn writer_fails(rt: HostRuntime) -> Result<(), Fail> {
     };
     assert_eq!(&rt; write(&certificate, &mut out), Ok(()));
     assert_eq!(&rt; out.taken.as_slice(), STALE_READ.as_bytes());
+    Ok(())
+}
+
+const TEXTS: [&str; 7] = [
+    NO_TRANSACTIONS,
+    STALE_READ,
+    TWO_READS,
+    TWO_WRITES,
+    LONG_FORK,
+    ONE_SESSION,
+    ONE_TRANSACTION,
+];
+
+// What was written is read, and written again it is the same.
+#[test]
+fn worked_texts_are_read(rt: HostRuntime) -> Result<(), Fail> {
+    let alloc = rt.alloc();
+    for text in TEXTS {
+        let Ok(certificate) = read(alloc, text.as_bytes()) else {
+            panic!(&rt; "{text:?} is read");
+        };
+        writes(&rt, alloc, &certificate, text);
+    }
+    Ok(())
+}
+
+/// The fault of a reader's text.
+fn fault_of(rt: &impl Abort, alloc: Global, reader: impl Read + Drop) -> CertFault {
+    match read(alloc, reader) {
+        Ok(_) => panic!(rt; "a certificate is read"),
+        Err(fault) => fault,
+    }
+}
+
+/// How many line feeds the text has.
+fn feeds(text: &[u8]) -> u64 {
+    let mut count = 0;
+    for byte in text {
+        if *byte == b'\n' {
+            count += 1;
+        }
+    }
+    count
+}
+
+// Cut after each byte but the last: the line that was begun has no line feed.
+#[test]
+fn cut_texts(rt: HostRuntime) -> Result<(), Fail> {
+    let alloc = rt.alloc();
+    for text in TEXTS {
+        for count in 0..text.len() {
+            let part = &text.as_bytes()[..count];
+            let fault = fault_of(&rt, alloc, part);
+            assert_eq!(&rt;
+                fault.line,
+                feeds(part) + 1,
+                "for {count} bytes of {text:?}"
+            );
+            assert_eq!(&rt;
+                fault.kind,
+                CertFaultKind::Truncated,
+                "for {count} bytes of {text:?}"
+            );
+        }
+    }
+    Ok(())
+}
+
+/// A reader of a part of a text, a few bytes at a time, and then a failure.
+#[derive(Drop)]
+struct Failing<'a> {
+    text: &'a [u8],
+    most: usize,
+}
+
+impl<'a> Read for Failing<'a> {
+    fn read(&mut self, buf: &mut [u8]) -> io::Result<usize> {
+        let count = buf.len().min(self.most).min(self.text.len());
+        if count == 0 && !buf.is_empty() {
+            return Err(io::Error::from(ErrorKind::Interrupted));
+        }
+        buf[..count].copy_from_slice(&self.text[..count]);
+        self.text = &self.text[count..];
+        Ok(count)
+    }
+}
+
+// The reader fails after each number of bytes, all of them too.
+#[test]
+fn reader_fails(rt: HostRuntime) -> Result<(), Fail> {
+    let alloc = rt.alloc();
+    for most in [1, 7, 100] {
+        for count in 0..STALE_READ.len() + 1 {
+            let text = &STALE_READ.as_bytes()[..count];
+            let fault = fault_of(&rt, alloc, Failing { text, most });
+            assert_eq!(&rt; fault.line, feeds(text) + 1, "after {count} bytes");
+            assert_eq!(&rt; fault.kind, CertFaultKind::Read, "after {count} bytes");
+        }
+    }
+    let text = b"tcc-certificate 1\nring\n";
+    let fault = fault_of(&rt, alloc, Failing { text, most: 5 });
+    assert_eq!(&rt; fault.line, 2);
+    assert_eq!(&rt; fault.kind, CertFaultKind::Word);
+    Ok(())
+}
+
+/// The certificate of a stale read with another line in place of one, counted from 1.
+fn altered(alloc: Global, line: usize, other: &str) -> Result<Vec<u8>, AllocError> {
+    let mut text = Vec::new(alloc);
+    for (index, old) in STALE_READ.lines().enumerate() {
+        let new = if index + 1 == line { other } else { old };
+        text.extend_from_slice(new.as_bytes())?;
+        text.push(b'\n')?;
+    }
+    Ok(text)
+}
+
+fn altered_faults(
+    rt: &impl Abort,
+    alloc: Global,
+    line: usize,
+    rows: &[(&str, CertFaultKind)],
+) -> Result<(), AllocError> {
+    for (other, kind) in rows {
+        let text = altered(alloc, line, other)?;
+        let fault = fault_of(rt, alloc, text.as_slice());
+        assert_eq!(rt; fault.kind, *kind, "for {other:?}");
+        assert_eq!(rt; fault.line, line as u64, "for {other:?}");
+    }
+    Ok(())
+}
+
+#[test]
+fn altered_heads(rt: HostRuntime) -> Result<(), Fail> {
+    use CertFaultKind::{Count, Header, Number, TooLarge, Word};
+    let alloc = rt.alloc();
+    let headers = [
+        ("tcc-certificate 2", Header),
+        ("tcc-certificate  1", Header),
+        ("tcc-certificate 1 ", Header),
+        ("", Header),
+    ];
+    altered_faults(&rt, alloc, 1, &headers)?;
+    let sizes = [
+        ("ring 3 2 3", Word),
+        ("ring 3 2", Word),
+        ("", Word),
+        (" cycle 3 2 3", Word),
+        ("cycle 3 2", Count),
+        ("cycle 3 2 3 ", Count),
+        ("cycle  3 2 3", Count),
+        ("cycle 03 2", Count),
+        ("cycle 03 2 3", Number),
+        ("cycle 0 2 3", Number),
+        ("cycle 3 0 3", Number),
+        ("cycle +3 2 3", Number),
+        ("cycle 3  3", Number),
+        ("cycle 1025 2 3", TooLarge),
+        ("cycle 3 1025 3", TooLarge),
+        ("cycle 3 2 1049601", TooLarge),
+        ("cycle 1025 x 3", TooLarge),
+        ("cycle x 1025 3", Number),
+        ("cycle 18446744073709551619 2 3", TooLarge),
+        ("order 3 65", TooLarge),
+        ("order 3", Count),
+    ];
+    altered_faults(&rt, alloc, 2, &sizes)?;
+    Ok(())
+}
+
+#[test]
+fn altered_links(rt: HostRuntime) -> Result<(), Fail> {
+    use CertFaultKind::{Count, Number, TooLarge, Word};
+    let alloc = rt.alloc();
+    let links = [
+        ("T 0 1", Word),
+        ("s 0 1", Word),
+        ("S 0", Count),
+        ("S 0 1 x", Count),
+        ("S 0 1024", TooLarge),
+        ("S 00 1", Number),
+        ("R 0 1", Count),
+        ("R 0 1 x?", Word),
+        ("R 0 1 ", Word),
+        ("R 0 1024 ?", TooLarge),
+    ];
+    altered_faults(&rt, alloc, 3, &links)?;
+    let derived = [
+        ("D 1 0 x 2", Count),
+        ("D 1 0 x 2 0", Number),
+        ("D 1 0 x 2 1025", TooLarge),
+        ("D 1 0 ! 1024 1", Word),
+        ("D 1 x ! 1024 1", Number),
+    ];
+    altered_faults(&rt, alloc, 4, &derived)?;
+    altered_faults(&rt, alloc, 5, &[("D 1 0 x 2 1", Word), ("S 1 2 3", Count)])?;
+    Ok(())
+}
+
+#[test]
+fn altered_tables(rt: HostRuntime) -> Result<(), Fail> {
+    use CertFaultKind::{Count, Number, TooLarge, Word};
+    let alloc = rt.alloc();
+    altered_faults(
+        &rt,
+        alloc,
+        6,
+        &[("far", Word), ("near 1", Count), ("", Word)],
+    )?;
+    let rows = [
+        ("3 1", Count),
+        ("3 1 1 ", Count),
+        (" 3 1 1", Count),
+        ("x 1", Count),
+        ("", Count),
+        ("3 1 01", Number),
+        ("3  1", Number),
+        ("1049601 x 1", TooLarge),
+        ("x 1049601 1", Number),
+    ];
+    altered_faults(&rt, alloc, 7, &rows)?;
+    altered_faults(&rt, alloc, 10, &[("near", Word)])?;
+    altered_faults(&rt, alloc, 14, &[("done", Word), ("end ", Count)])?;
+    for more in [b'\n', b'x'] {
+        let mut text = STALE_READ.as_bytes().to_vec(alloc)?;
+        text.push(more)?;
+        let fault = fault_of(&rt, alloc, text.as_slice());
+        assert_eq!(&rt; fault.line, 15);
+        assert_eq!(&rt; fault.kind, CertFaultKind::Trailing);
+    }
+    Ok(())
+}
+
+// A line has at most 8,191 bytes and a line feed, however the reader goes on.
+#[test]
+fn long_lines(rt: HostRuntime) -> Result<(), Fail> {
+    let alloc = rt.alloc();
+    let rows = [
+        (8191, CertFaultKind::Truncated, CertFaultKind::Read),
+        (8192, CertFaultKind::TooLarge, CertFaultKind::TooLarge),
+        (20000, CertFaultKind::TooLarge, CertFaultKind::TooLarge),
+    ];
+    for (count, ended, failed) in rows {
+        let text = vec![in alloc; b'a'; count]?;
+        assert_eq!(&rt; fault_of(&rt, alloc, text.as_slice()).kind, ended);
+        let reader = Failing {
+            text: text.as_slice(),
+            most: 1000,
+        };
+        assert_eq!(&rt; fault_of(&rt, alloc, reader).kind, failed);
+    }
+    for (count, kind) in [
+        (8191, CertFaultKind::Header),
+        (8192, CertFaultKind::TooLarge),
+    ] {
+        let mut text = vec![in alloc; b'a'; count]?;
+        text.push(b'\n')?;
+        assert_eq!(&rt; fault_of(&rt, alloc, text.as_slice()).kind, kind);
+    }
     Ok(())
 }

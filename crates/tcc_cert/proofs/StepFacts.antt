@@ -1,0 +1,133 @@
+-- Parts of a text read one after the other, where a reader may fail and memory may be refused.
+use Rattle.std.proofs.Common.{◌≡◌, ℕ, zero, suc, ◌+◌, ◌-◌, ◌<◌, ◌≤◌, ◌≢◌, false, eqb, length, List, [], ◌∷◌, ◌++◌, Option, Result, Ok, Err, inl, inr, refl, sym, ap, subst, ◌∙◌, arith, append_assoc, append-nil}
+use Rattle.std.proofs.lemmas.Bool.Decides.{nat_tests}
+use Rattle.tcc_cert.specs.declared.certificate.Certificate.{Certificate}
+use Rattle.tcc_cert.specs.declared.fault.CertFault.{CertFault}
+use Rattle.tcc_cert.specs.declared.fault.CertFaultKind.{CertFaultKind}
+use Rattle.tcc_cert.specs.declared.reading.input.Input.{Input}
+use Rattle.tcc_cert.specs.Inputs.{IsAt, line_in, TakesLine, Gives, Ends}
+use Rattle.tcc_cert.specs.Outcomes.{IsFailure, Shows, at_line, reached, IsStopped, Faults, IsReading}
+use Rattle.tcc_cert.specs.Reading.{◌>>=◌, Place, Reads, behind, next, repeated, certificate_at, certificate_of, start_of}
+use Rattle.tcc_cert.proofs.OnwardFacts.{IsOnward, onward-then, onward-ok, onward-next, onward-repeated}
+
+-- the first part had a fault
+pub first-faults : {A B : Type 0} {at : Place} (read : Reads A) (go : A × Place → Reads B) (fault : CertFault) → ((x : A × Place) → IsOnward x.1 (go x)) → Faults at read fault → Faults at (read >>= go) fault
+first-faults read go fault later (inl is) = inl (rw is refl)
+first-faults (Ok x) go fault later (inr stopped) = inr (record { failure = stopped.failure; first = stopped.first; last = omega (arith, stopped.last, (later x).onward) })
+first-faults (Err e) go fault later (inr stopped) = inr (record { failure = stopped.failure; first = stopped.first; last = stopped.last })
+
+-- the reading began no later
+faults-from : {A : Type 0} {at now : Place} (read : Reads A) (fault : CertFault) → at.line ≤ now.line → Faults now read fault → Faults at read fault
+faults-from read fault on (inl is) = inl is
+faults-from read fault on (inr stopped) = inr (record { failure = stopped.failure; first = omega (arith, on, stopped.first); last = stopped.last })
+
+-- a later part had a fault
+pub later-faults : {A B : Type 0} {at after : Place} {x : A} (read : Reads A) (go : A × Place → Reads B) (fault : CertFault) → read ≡ Ok (x, after) → at.line ≤ after.line
+    → Faults after (go (x, after)) fault → Faults at (read >>= go) fault
+later-faults {A} {B} {at} {after} {x} read go fault is on faults = subst (λ r. Faults at (r >>= go) fault) (sym is) (faults-from (go (x, after)) fault on faults)
+
+-- a part that was read ends no line before its first
+pub onward-at : {A : Type 0} {at after : Place} {x : A} (read : Reads A) → IsOnward at read → read ≡ Ok (x, after) → at.line ≤ after.line
+onward-at {A} {at} {after} {x} read on is = (subst (IsOnward at) is on).onward
+
+-- ---- the same part so many times
+
+-- what was read so far stands before what is still to be read
+abbrev pub before_rest : {X : Type 0} → List X → Reads (List X) → Reads (List X)
+before_rest front read = read >>= λ rest. Ok (front ++ rest.0, rest.1)
+
+pub record IsPart {X : Type 0} (read : Place → Reads X) (count : ℕ) (at : Place) (front : List X) (i : ℕ) (now : Place) : Type 0 where
+  pub on : at.line ≤ now.line
+  pub part : repeated read count at ≡ before_rest front (repeated read (count - i) now)
+
+rest-none : {X : Type 0} (read : Reads (List X)) → read ≡ before_rest [] read
+rest-none (Ok x) = refl
+rest-none (Err e) = refl
+
+pub part-none : {X : Type 0} (read : Place → Reads X) (count : ℕ) (at : Place) → IsPart read count at [] 0 at
+part-none read count at = record { on = omega arith; part = ap (λ n. repeated read n at) (omega arith) ∙ rest-none _ }
+
+rest-more : {X : Type 0} (front : List X) (x : X) (read : Reads (List X)) → before_rest front (read >>= λ others. Ok (x ∷ others.0, others.1)) ≡ before_rest (front ++ x ∷ []) read
+rest-more front x (Ok others) = ap (λ l. Ok (l, others.1)) (sym (append_assoc front (x ∷ []) others.0))
+rest-more front x (Err e) = refl
+
+one-more : {X : Type 0} (read : Place → Reads X) (n : ℕ) (now after : Place) (x : X) → read now ≡ Ok (x, after)
+    → repeated read (suc n) now ≡ (repeated read n after >>= λ others. Ok (x ∷ others.0, others.1))
+one-more read n now after x is = rw is refl
+
+pub part-more : {X : Type 0} (read : Place → Reads X) (count : ℕ) (at : Place) (front : List X) (i : ℕ) (now after : Place) (x : X) → i < count → IsOnward now (read now)
+    → IsPart read count at front i now → read now ≡ Ok (x, after) → IsPart read count at (front ++ x ∷ []) (i + 1) after
+part-more read count at front i now after x lt on so_far is =
+    let left : count - i ≡ suc (count - (i + 1)) = omega arith in
+    record {
+      on = omega (arith, so_far.on, onward-at (read now) on is);
+      part =
+          so_far.part
+          ∙ ap (λ n. before_rest front (repeated read n now)) left
+          ∙ ap (before_rest front) (one-more read (count - (i + 1)) now after x is)
+          ∙ rest-more front x (repeated read (count - (i + 1)) after);
+    }
+
+pub part-all : {X : Type 0} (read : Place → Reads X) (count : ℕ) (at : Place) (front : List X) (i : ℕ) (now : Place) → count ≤ i → IsPart read count at front i now
+    → repeated read count at ≡ Ok (front, now)
+part-all read count at front i now le so_far =
+    let left : count - i ≡ 0 = omega arith in
+    so_far.part ∙ ap (λ n. before_rest front (repeated read n now)) left ∙ ap (λ l. Ok (l, now)) (append-nil front)
+
+on-rest : {X : Type 0} (now : Place) (front : List X) (read : Reads (List X)) → reached (before_rest front read) ≡ reached read
+on-rest now front (Ok x) = refl
+on-rest now front (Err e) = refl
+
+-- the next of them had a fault
+pub part-faults : {X : Type 0} (read : Place → Reads X) (count : ℕ) (at : Place) (front : List X) (i : ℕ) (now : Place) (fault : CertFault) → i < count
+    → ((p : Place) → IsOnward p (read p)) → IsPart read count at front i now → Faults now (read now) fault → Faults at (repeated read count at) fault
+part-faults read count at front i now fault lt on so_far faults =
+    let left : count - i ≡ suc (count - (i + 1)) = omega arith in
+    let n = count - (i + 1) in
+    let one = first-faults (read now) (λ first. repeated read n first.1 >>= λ others. Ok (first.0 ∷ others.0, others.1)) fault (λ first. onward-then first.1 (repeated read n first.1) _ (onward-repeated read n on first.1) (λ others. onward-ok (first.0 ∷ others.0) others.1 others.1 (omega arith))) faults in
+    let whole = first-faults (repeated read (suc n) now) (λ rest. Ok (front ++ rest.0, rest.1)) fault (λ rest. onward-ok (front ++ rest.0) rest.1 rest.1 (omega arith)) one in
+    subst (λ r. Faults at r fault) (sym (so_far.part ∙ ap (λ m. before_rest front (repeated read m now)) left)) (faults-from (before_rest front (repeated read (suc n) now)) fault so_far.on whole)
+
+-- memory was refused between two of them
+pub part-refused : {X : Type 0} (read : Place → Reads X) (count : ℕ) (at : Place) (front : List X) (i : ℕ) (now : Place) (kind : CertFaultKind)
+    → ((p : Place) → IsOnward p (read p)) → IsPart read count at front i now → IsFailure kind → Faults at (repeated read count at) (record { line = now.line; kind = kind })
+part-refused read count at front i now kind on so_far failure =
+    let end = (onward-repeated read (count - i) on now).onward in
+    let same = ap reached so_far.part ∙ on-rest now front (repeated read (count - i) now) in
+    inr (record { failure = failure; first = so_far.on; last = omega (arith, same, end) })
+
+-- ---- the next line
+
+-- the next line was read and judged
+pub line-shows : {R X : Type 0} (remaining : R → Option (List ℕ)) (at : Place) (number : ℕ) (form : List ℕ → Result X CertFaultKind) (shown : Result X CertFaultKind) (new : Input R)
+    → TakesLine remaining at (Ok number) new → Shows shown (form (line_in new)) → Gives remaining at (next form at) (at_line number shown) new
+line-shows remaining at number form (Ok x) new taken shows = (behind at (line_in new), rw (taken.0, shows) refl, taken.2)
+line-shows remaining at number form (Err kind) new taken (inl shows) = inl (rw (taken.0, shows, taken.1) refl)
+line-shows remaining at number form (Err kind) new taken (inr refused) =
+    inr (record { failure = inr refused; first = omega (arith, taken.1); last = omega (arith, taken.1, (onward-next form at).onward) })
+
+-- what comes of a part comes of the whole that it ends
+pub later-gives : {R A B : Type 0} (remaining : R → Option (List ℕ)) (at : Place) {after : Place} {x : A} (read : Reads A) (go : A × Place → Reads B) (result : Result B CertFault) (new : Input R) → read ≡ Ok (x, after) → at.line ≤ after.line
+    → Gives remaining after (go (x, after)) result new → Gives remaining at (read >>= go) result new
+later-gives remaining at read go (Ok y) new is on gives = (gives.0, rw is gives.1, gives.2)
+later-gives remaining at read go (Err fault) new is on faults = later-faults read go fault is on faults
+
+-- ---- the whole text
+
+pub whole-faults : (bytes : List ℕ) (fault : CertFault) → Faults (start_of bytes) (certificate_at (start_of bytes)) fault → IsReading bytes (Err fault)
+whole-faults bytes fault (inl is) = inl (rw is refl)
+whole-faults bytes fault (inr stopped) = inr stopped
+
+pub whole-ended : (bytes : List ℕ) (certificate : Certificate) (after : Place) (done : Unit {0}) → certificate_at (start_of bytes) ≡ Ok (certificate, after) → Ends after (Ok done)
+    → certificate_of bytes ≡ Ok certificate
+whole-ended bytes certificate after done is none = rw (is, none) refl
+
+some-left : (bytes : List ℕ) → bytes ≢ [] → eqb (length bytes) 0 ≡ false
+some-left [] some = absurd (some refl)
+some-left (byte ∷ bytes) some = grind (arith, nat_tests)
+
+pub whole-followed : (bytes : List ℕ) (certificate : Certificate) (after : Place) (fault : CertFault) → certificate_at (start_of bytes) ≡ Ok (certificate, after) → 1 ≤ after.line → Ends after (Err fault)
+    → IsReading bytes (Err fault)
+whole-followed bytes certificate after fault is on (line, inl more) = inl (rw (is, some-left after.bytes more.1, ← line, ← more.0) refl)
+whole-followed bytes certificate after fault is on (line, inr failed) =
+    inr (record { failure = inl failed; first = omega (arith, line, on); last = omega (arith, line, ap reached is) })

@@ -1,0 +1,10 @@
+-- What is let go was at the front.
+use Rattle.std.proofs.Common.{ℕ, arith}
+use Rattle.std.proofs.lemmas.List.{length-take, length-drop}
+use Rattle.tcc_cert.proofs.HeldFacts.{passed}
+use Rattle.tcc_cert.proofs.reading.held.Held.pass.Goals as goal
+
+pub returns : goal.returns
+returns c =
+    let held = c.args.self.now in
+    passed held.bytes held.first held.end c.args.count (omega (arith, length-take {A = ℕ}, length-drop {A = ℕ}))

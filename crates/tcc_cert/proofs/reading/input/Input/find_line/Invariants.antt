@@ -1,0 +1,19 @@
+-- no line feed stands among the bytes that were searched, and each turn that goes on adds some
+use Rattle.std.proofs.Common.{◌≡◌, ◌≤◌, ◌-◌, length, take}
+use Rattle.tcc_cert.specs.HeldBytes.{held_bytes}
+use Rattle.tcc_cert.specs.Inputs.{IsAt}
+use Rattle.tcc_cert.specs.Reading.{Place, line_length}
+use Rattle.tcc_cert.proofs.reading.input.Input.find_line.Given as goal
+
+abbrev pub invariant-reads : goal.invariant-reads
+invariant-reads g l =
+    record {
+      passed : l.self.passed ≡ 0;
+      number : l.self.number ≡ l.initial.self.number;
+      within : l.searched ≤ length (held_bytes l.self.held);
+      none : line_length (take l.searched (held_bytes l.self.held)) ≡ l.searched;
+      stays : (at : Place) → IsAt g.R.Read.remaining l.initial.self at → IsAt g.R.Read.remaining l.self at;
+    }
+
+abbrev pub decreases-reads : goal.decreases-reads
+decreases-reads g l = 8192 - length (held_bytes l.self.held)

@@ -1,0 +1,10 @@
+-- the steps so far were read
+use Rattle.tcc_cert.specs.Inputs.{IsAt}
+use Rattle.tcc_cert.specs.Reading.{Place, step_line, words}
+use Rattle.tcc_cert.proofs.StepFacts.{IsPart}
+use Rattle.tcc_cert.proofs.reading.links.walk.Given as goal
+
+abbrev pub invariant-lines : goal.invariant-lines
+invariant-lines g l =
+    (at : Place) → IsAt g.R.Read.remaining l.initial.input at
+    → (now : Place) × IsPart (words step_line) l.count at l.steps.items l.counter now × IsAt g.R.Read.remaining l.input now

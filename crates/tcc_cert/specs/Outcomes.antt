@@ -1,0 +1,47 @@
+-- What comes of reading, where a reader may fail and memory may be refused.
+use Rattle.std.specs.Prelude.{ℕ, ◌≡◌, ◌≤◌, ◌⊎◌, List, Result, Ok, Err}
+use Rattle.std.specs.Global.{Vec}
+use Rattle.tcc_cert.specs.declared.fault.CertFault.{CertFault}
+use Rattle.tcc_cert.specs.declared.fault.CertFaultKind.{CertFaultKind}
+use Rattle.tcc_cert.specs.declared.fault.CertFaultKind.TheVariants.{Read, NoMemory}
+use Rattle.tcc_cert.specs.declared.certificate.Certificate.{Certificate}
+use Rattle.tcc_cert.specs.Reading.{Place, Reads, certificate_at, certificate_of, start_of}
+
+-- what comes of a reader that fails and of want of memory
+abbrev pub IsFailure : CertFaultKind → Type 0
+IsFailure kind = (kind ≡ Read) ⊎ (kind ≡ NoMemory)
+
+-- what a line shows, unless memory was refused
+abbrev pub Shows : {X : Type 0} → Result X CertFaultKind → Result X CertFaultKind → Type 0
+Shows (Ok x) shown = shown ≡ Ok x
+Shows (Err kind) shown = (shown ≡ Err kind) ⊎ (kind ≡ NoMemory)
+
+-- the same of the items of a vector
+abbrev pub ShowsItems : {X : Type 0} → Result (Vec X) CertFaultKind → Result (List X) CertFaultKind → Type 0
+ShowsItems (Ok vec) shown = shown ≡ Ok vec.items
+ShowsItems (Err kind) shown = (shown ≡ Err kind) ⊎ (kind ≡ NoMemory)
+
+-- what a line shows, as what comes of the line with this number
+abbrev pub at_line : {X : Type 0} → ℕ → Result X CertFaultKind → Result X CertFault
+at_line number (Ok x) = Ok x
+at_line number (Err kind) = Err (record { line = number; kind = kind })
+
+-- the number of the line that was wanted when the reading ended
+abbrev pub reached : {X : Type 0} → Reads X → ℕ
+reached (Ok read) = read.1.line
+reached (Err fault) = fault.line
+
+-- the reader failed or memory was refused, no later than the line at which the reading would have ended
+pub record IsStopped {X : Type 0} (at : Place) (read : Reads X) (fault : CertFault) : Type 0 where
+  pub failure : IsFailure fault.kind
+  pub first : at.line ≤ fault.line
+  pub last : fault.line ≤ reached read
+
+-- the fault of the text, unless the reader failed or memory was refused
+abbrev pub Faults : {X : Type 0} → Place → Reads X → CertFault → Type 0
+Faults at read fault = (read ≡ Err fault) ⊎ IsStopped at read fault
+
+-- the certificate that the bytes are the text of, or their first fault, unless the reader failed or memory was refused
+abbrev pub IsReading : List ℕ → Result Certificate CertFault → Type 0
+IsReading bytes (Ok certificate) = certificate_of bytes ≡ Ok certificate
+IsReading bytes (Err fault) = (certificate_of bytes ≡ Err fault) ⊎ IsStopped (start_of bytes) (certificate_at (start_of bytes)) fault

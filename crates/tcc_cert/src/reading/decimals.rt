@@ -1,0 +1,51 @@
+//! Words that write numbers.
+ghost use Rattle.std.specs.Prelude.{◌≡◌, ◌-◌, ◌^◌, false, min, true, MatchOption};
+ghost use Rattle.std.specs.Str.{all_ascii_digits};
+ghost use Rattle.std.specs.Str.Parse.{digits_value};
+ghost use Rattle.tcc_cert.specs.Reading.{is_decimal, number_of};
+
+use crate::CertFaultKind;
+
+/// The number that some digits write, or the greatest of 64 bits where it is above that.
+fn saturated(digits: &[u8]) -> Option<u64>
+    ensures { MatchOption result (all_ascii_digits digits.now ≡ false)
+        (λ value. (all_ascii_digits digits.now ≡ true) × (value ≡ min (digits_value 10 digits.now) (2 ^ 64 - 1))) }
+{
+    let mut value: u64 = 0;
+    for digit in digits {
+        if !digit.is_ascii_digit() {
+            return None;
+        }
+        value = value
+            .saturating_mul(10)
+            .saturating_add(u64::from(*digit - b'0'));
+    }
+    Some(value)
+}
+
+/// The same of digits without leading zeros.
+fn decimal(word: &[u8]) -> Option<u64>
+    ensures { MatchOption result (is_decimal word.now ≡ false)
+        (λ value. (is_decimal word.now ≡ true) × (value ≡ min (digits_value 10 word.now) (2 ^ 64 - 1))) }
+{
+    match word {
+        [] | [b'0', _, ..] => None,
+        _ => saturated(word),
+    }
+}
+
+/// A number from `least` to `most`.
+pub(crate) fn number_of(word: &[u8], least: u32, most: u32) -> Result<u32, CertFaultKind>
+    ensures { result ≡ number_of least most word.now }
+{
+    let Some(value) = decimal(word) else {
+        return Err(CertFaultKind::Number);
+    };
+    if value < u64::from(least) {
+        Err(CertFaultKind::Number)
+    } else if value > u64::from(most) {
+        Err(CertFaultKind::TooLarge)
+    } else {
+        Ok(value as u32)
+    }
+}

@@ -1,0 +1,238 @@
+//! What one line of words says.
+ghost use Rattle.std.specs.Prelude.{◌≡◌, map};
+ghost use Rattle.tcc_cert.specs.Reading.{count_of, cycle_sizes, derived_of, five_words, head_line, head_of_step, key_of, order_sizes, reads_of, session_of, sizes_line, step_line, three_words, transaction_of, two_words};
+
+use super::decimals::number_of;
+use crate::CertFaultKind;
+use std::alloc::Global;
+use tcc_graph::{Link, Step, Walk};
+use tcc_txn::Name;
+
+/// The greatest number of transactions, links or steps.
+const MOST_COUNT: u32 = 1024;
+
+/// The greatest number of sessions.
+const MOST_SESSIONS: u32 = 64;
+
+/// The greatest number of a transaction, and the greatest place in a clock.
+pub(crate) const MOST_NUMBER: u32 = 1023;
+
+/// The greatest cost of a cycle.
+pub(crate) const MOST_COST: u32 = 1_049_600;
+
+/// A link without its walk, and how many steps that has.
+#[derive(Drop)]
+pub(crate) struct Head {
+    pub(crate) link: Link,
+    pub(crate) steps: u32,
+}
+
+/// How long the parts of a claim are, and what the cycle costs.
+#[derive(Clone, Copy)]
+pub(crate) enum Sizes {
+    Order {
+        transactions: u32,
+        sessions: u32,
+    },
+    Cycle {
+        transactions: u32,
+        links: u32,
+        least: u32,
+    },
+}
+
+/// The number of a transaction.
+fn transaction_of(word: &[u8]) -> Result<u32, CertFaultKind>
+    ensures { result ≡ transaction_of word.now }
+{
+    number_of(word, 0, MOST_NUMBER)
+}
+
+/// How many transactions, links or steps.
+fn count_of(word: &[u8]) -> Result<u32, CertFaultKind>
+    ensures { result ≡ count_of word.now }
+{
+    number_of(word, 1, MOST_COUNT)
+}
+
+fn key_of(word: &[u8]) -> Result<Name, CertFaultKind>
+    ensures { result ≡ key_of word.now }
+{
+    match Name::read(word) {
+        Ok(key) => Ok(key),
+        Err(_) => Err(CertFaultKind::Word),
+    }
+}
+
+/// `u v`
+fn session_of(from: &[u8], to: &[u8]) -> Result<Step, CertFaultKind>
+    ensures { result ≡ session_of from.now to.now }
+{
+    Ok(Step::Session {
+        from: transaction_of(from)?,
+        to: transaction_of(to)?,
+    })
+}
+
+/// `u v KEY`
+fn reads_of(from: &[u8], to: &[u8], key: &[u8]) -> Result<Step, CertFaultKind>
+    ensures { result ≡ reads_of from.now to.now key.now }
+{
+    Ok(Step::Reads {
+        from: transaction_of(from)?,
+        to: transaction_of(to)?,
+        key: key_of(key)?,
+    })
+}
+
+/// What stands behind `S`.
+fn session_fields(fields: &[&[u8]]) -> Result<Step, CertFaultKind>
+    ensures { result ≡ two_words session_of (map (λ word. word.now) fields.now) }
+{
+    match fields {
+        [from, to] => session_of(from, to),
+        _ => Err(CertFaultKind::Count),
+    }
+}
+
+/// What stands behind `R`.
+fn reads_fields(fields: &[&[u8]]) -> Result<Step, CertFaultKind>
+    ensures { result ≡ three_words reads_of (map (λ word. word.now) fields.now) }
+{
+    match fields {
+        [from, to, key] => reads_of(from, to, key),
+        _ => Err(CertFaultKind::Count),
+    }
+}
+
+/// The line of a step.
+pub(crate) fn step_line(words: &[&[u8]]) -> Result<Step, CertFaultKind>
+    ensures { result ≡ step_line (map (λ word. word.now) words.now) }
+{
+    let Some((word, fields)) = words.split_first() else {
+        return Err(CertFaultKind::Word);
+    };
+    if *word == b"S".as_slice() {
+        session_fields(fields)
+    } else if *word == b"R".as_slice() {
+        reads_fields(fields)
+    } else {
+        Err(CertFaultKind::Word)
+    }
+}
+
+/// `b a KEY c W`
+fn derived_of(
+    alloc: Global,
+    from: &[u8],
+    to: &[u8],
+    key: &[u8],
+    reader: &[u8],
+    steps: &[u8],
+) -> Result<Head, CertFaultKind>
+    ensures { result ≡ derived_of from.now to.now key.now reader.now steps.now }
+{
+    let link = Link::Derived {
+        from: transaction_of(from)?,
+        to: transaction_of(to)?,
+        key: key_of(key)?,
+        reader: transaction_of(reader)?,
+        walk: Walk::new(Vec::new(alloc)),
+    };
+    Ok(Head {
+        link,
+        steps: count_of(steps)?,
+    })
+}
+
+/// What stands behind `D`.
+fn derived_fields(alloc: Global, fields: &[&[u8]]) -> Result<Head, CertFaultKind>
+    ensures { result ≡ five_words derived_of (map (λ word. word.now) fields.now) }
+{
+    match fields {
+        [from, to, key, reader, steps] => derived_of(alloc, from, to, key, reader, steps),
+        _ => Err(CertFaultKind::Count),
+    }
+}
+
+/// A link of one step.
+fn head_of_step(step: Step) -> Head
+    ensures { result ≡ head_of_step step }
+{
+    let link = match step {
+        Step::Session { from, to } => Link::Session { from, to },
+        Step::Reads { from, to, key } => Link::Reads { from, to, key },
+    };
+    Head { link, steps: 0 }
+}
+
+/// The line that a link begins with.
+pub(crate) fn head_line(alloc: Global, words: &[&[u8]]) -> Result<Head, CertFaultKind>
+    ensures { result ≡ head_line (map (λ word. word.now) words.now) }
+{
+    let Some((word, fields)) = words.split_first() else {
+        return Err(CertFaultKind::Word);
+    };
+    if *word == b"D".as_slice() {
+        derived_fields(alloc, fields)
+    } else {
+        Ok(head_of_step(step_line(words)?))
+    }
+}
+
+/// `N S`
+fn order_sizes(transactions: &[u8], sessions: &[u8]) -> Result<Sizes, CertFaultKind>
+    ensures { result ≡ order_sizes transactions.now sessions.now }
+{
+    Ok(Sizes::Order {
+        transactions: count_of(transactions)?,
+        sessions: number_of(sessions, 0, MOST_SESSIONS)?,
+    })
+}
+
+/// `N M L`
+fn cycle_sizes(transactions: &[u8], links: &[u8], least: &[u8]) -> Result<Sizes, CertFaultKind>
+    ensures { result ≡ cycle_sizes transactions.now links.now least.now }
+{
+    Ok(Sizes::Cycle {
+        transactions: count_of(transactions)?,
+        links: count_of(links)?,
+        least: number_of(least, 0, MOST_COST)?,
+    })
+}
+
+/// What stands behind `order`.
+fn order_fields(fields: &[&[u8]]) -> Result<Sizes, CertFaultKind>
+    ensures { result ≡ two_words order_sizes (map (λ word. word.now) fields.now) }
+{
+    match fields {
+        [transactions, sessions] => order_sizes(transactions, sessions),
+        _ => Err(CertFaultKind::Count),
+    }
+}
+
+/// What stands behind `cycle`.
+fn cycle_fields(fields: &[&[u8]]) -> Result<Sizes, CertFaultKind>
+    ensures { result ≡ three_words cycle_sizes (map (λ word. word.now) fields.now) }
+{
+    match fields {
+        [transactions, links, least] => cycle_sizes(transactions, links, least),
+        _ => Err(CertFaultKind::Count),
+    }
+}
+
+/// The line that says how long the parts of a claim are.
+pub(crate) fn sizes_line(words: &[&[u8]]) -> Result<Sizes, CertFaultKind>
+    ensures { result ≡ sizes_line (map (λ word. word.now) words.now) }
+{
+    let Some((word, fields)) = words.split_first() else {
+        return Err(CertFaultKind::Word);
+    };
+    if *word == b"order".as_slice() {
+        order_fields(fields)
+    } else if *word == b"cycle".as_slice() {
+        cycle_fields(fields)
+    } else {
+        Err(CertFaultKind::Word)
+    }
+}

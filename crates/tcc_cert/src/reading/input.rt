@@ -1,0 +1,150 @@
+//! The lines of a reader, within the limit on their length.
+ghost use Rattle.std.specs.Prelude.{◌≡◌, ◌<◌, ◌≤◌, ◌==◌, IfOk, IfSome, OnOk, length, position, take};
+ghost use Rattle.tcc_cert.specs.HeldBytes.{held_bytes};
+ghost use Rattle.tcc_cert.specs.Outcomes.{at_line};
+ghost use Rattle.tcc_cert.specs.Reading.{line_length};
+
+use super::held::Held;
+use crate::{CertFault, CertFaultKind};
+use std::io::Read;
+
+/// A reader, the bytes of it that wait, how many of these belong to the line that was read last, its line feed among
+/// them, and the number of the next line.
+#[derive(Drop)]
+pub(crate) struct Input<R> {
+    reader: R,
+    held: Held,
+    passed: usize,
+    number: u64,
+    ghost within: { passed ≤ length (held_bytes held) },
+}
+
+/// What comes of the line with this number.
+pub(crate) fn at_line<T: Drop>(line: u64, shown: Result<T, CertFaultKind>) -> Result<T, CertFault>
+    ensures { result ≡ at_line line shown }
+{
+    match shown {
+        Ok(value) => Ok(value),
+        Err(kind) => Err(CertFault { line, kind }),
+    }
+}
+
+/// Where the first line feed stands.
+fn first_feed(bytes: &[u8]) -> Option<usize>
+    ensures { result ≡ position (λ byte. byte == 10) bytes.now }
+{
+    bytes.iter().position(|byte| *byte == b'\n')
+}
+
+/// How many bytes stand before the first line feed, or in all. None of the first `searched` is one.
+fn line_length(bytes: &[u8], searched: usize) -> usize
+    requires within { searched ≤ length bytes.now }
+    requires none { line_length (take searched bytes.now) ≡ searched }
+    ensures { result ≡ line_length bytes.now }
+{
+    match first_feed(&bytes[searched..]) {
+        Some(at) => searched + at,
+        None => bytes.len(),
+    }
+}
+
+impl<R: Read> Input<R> {
+    ghost use Rattle.tcc_cert.specs.Inputs.{Ends, FindsLine, IsAt, TakesLine, line_in};
+    ghost use Rattle.tcc_cert.specs.Reading.{Place};
+
+    pub(crate) fn new(reader: R) -> Input<R>
+        ensures { IfSome (R.remaining reader) (λ bytes. IsAt R.remaining result (record { line = 1; bytes = bytes })) }
+    {
+        Input {
+            reader,
+            held: Held::new(),
+            passed: 0,
+            number: 1,
+        }
+    }
+
+    /// The line that was read last, without its line feed.
+    pub(crate) fn line(&self) -> &[u8]
+        ensures { result.now ≡ line_in self.now }
+    {
+        &self.held.as_slice()[..self.passed.saturating_sub(1)]
+    }
+
+    /// A fault at the line after the last.
+    pub(crate) fn fault(&self, kind: CertFaultKind) -> CertFault
+        ensures { result ≡ record { line = self.now.number; kind = kind } }
+    {
+        CertFault {
+            line: self.number,
+            kind,
+        }
+    }
+
+    /// Reads until the next line is held, and says how long it is.
+    fn find_line(&mut self) -> Result<usize, CertFaultKind>
+        requires { self.old.passed ≡ 0 }
+        ensures found { (at : Place) → IsAt R.remaining self.old at → FindsLine at result self.new }
+        ensures stays { OnOk result ((at : Place) → IsAt R.remaining self.old at → IsAt R.remaining self.new at) }
+        ensures passed { self.new.passed ≡ 0 }
+        ensures number { self.new.number ≡ self.old.number }
+        ensures held { IfOk result (λ length_found. length_found < length (held_bytes self.new.held)) }
+    {
+        let mut searched = 0;
+        'reads: loop {
+            let bytes = self.held.as_slice();
+            let held = bytes.len();
+            let length = line_length(bytes, searched);
+            if length < held {
+                return Ok(length);
+            }
+            if self.held.is_full() {
+                return Err(CertFaultKind::TooLarge);
+            }
+            searched = held;
+            match self.held.fill(&mut self.reader) {
+                Ok(0) => return Err(CertFaultKind::Truncated),
+                Ok(_) => {}
+                Err(_) => return Err(CertFaultKind::Read),
+            }
+        }
+    }
+
+    /// Moves on to the next line, and gives its number.
+    pub(crate) fn next(&mut self) -> Result<u64, CertFault>
+        ensures { (at : Place) → IsAt R.remaining self.old at → TakesLine R.remaining at result self.new }
+    {
+        self.held.pass(self.passed);
+        self.passed = 0;
+        let line = self.number;
+        match self.find_line() {
+            Ok(length) => {
+                let Some(number) = line.checked_add(1) else {
+                    return Err(CertFault {
+                        line,
+                        kind: CertFaultKind::NoMemory,
+                    });
+                };
+                self.passed = length + 1;
+                self.number = number;
+                Ok(line)
+            }
+            Err(kind) => Err(CertFault { line, kind }),
+        }
+    }
+
+    /// Nothing stands behind the last line.
+    pub(crate) fn end(&mut self) -> Result<(), CertFault>
+        ensures { (at : Place) → IsAt R.remaining self.old at → Ends at result }
+    {
+        self.held.pass(self.passed);
+        self.passed = 0;
+        if !self.held.as_slice().is_empty() {
+            return Err(self.fault(CertFaultKind::Trailing));
+        }
+        match self.held.fill(&mut self.reader) {
+            Ok(0) => Ok(()),
+            Ok(_) => Err(self.fault(CertFaultKind::Trailing)),
+            Err(_) => Err(self.fault(CertFaultKind::Read)),
+        }
+    }
+}

@@ -1,0 +1,111 @@
+//! The lines of links and of the steps of their walks.
+ghost use Rattle.std.specs.Prelude.{◌≡◌};
+ghost use Rattle.tcc_cert.specs.Inputs.{Gives, IsAt};
+ghost use Rattle.tcc_cert.specs.Outcomes.{Shows};
+ghost use Rattle.tcc_cert.specs.Reading.{Place, head_line, link_at, repeated, step_line, with_walk, words, words_of};
+
+use super::forms::{Head, head_line, step_line};
+use super::input::{Input, at_line};
+use super::words::words_of;
+use crate::{CertFault, CertFaultKind, Links};
+use std::alloc::Global;
+use std::io::Read;
+use tcc_graph::{Link, Step, Walk};
+
+/// The step that a line is.
+fn step_of(alloc: Global, line: &[u8]) -> Result<Step, CertFaultKind>
+    ensures { Shows result (step_line (words_of line.now)) }
+{
+    let words = words_of(alloc, line)?;
+    step_line(words.as_slice())
+}
+
+/// The next line, a step.
+fn step<R: Read>(alloc: Global, input: &mut Input<R>) -> Result<Step, CertFault>
+    ensures { (at : Place) → IsAt R.remaining input.old at → Gives R.remaining at (words step_line at) result input.new }
+{
+    let line = input.next()?;
+    at_line(line, step_of(alloc, input.line()))
+}
+
+/// The next lines, so many steps.
+fn walk<R: Read>(alloc: Global, input: &mut Input<R>, count: u32) -> Result<Walk, CertFault>
+    ensures { (at : Place) → IsAt R.remaining input.old at → Gives R.remaining at (repeated (words step_line) count at) result input.new }
+{
+    let mut steps = Vec::new(alloc);
+    'lines: for _ in 0..count {
+        let one = step(alloc, input)?;
+        match steps.push(one) {
+            Ok(()) => {}
+            Err(_) => return Err(input.fault(CertFaultKind::NoMemory)),
+        }
+    }
+    Ok(Walk::new(steps))
+}
+
+/// What a link's first line says.
+fn head_of(alloc: Global, line: &[u8]) -> Result<Head, CertFaultKind>
+    ensures { Shows result (head_line (words_of line.now)) }
+{
+    let words = words_of(alloc, line)?;
+    head_line(alloc, words.as_slice())
+}
+
+/// The next line, the first of a link.
+fn head<R: Read>(alloc: Global, input: &mut Input<R>) -> Result<Head, CertFault>
+    ensures { (at : Place) → IsAt R.remaining input.old at → Gives R.remaining at (words head_line at) result input.new }
+{
+    let line = input.next()?;
+    at_line(line, head_of(alloc, input.line()))
+}
+
+/// The link with these steps, if it is derived.
+fn with_walk(link: Link, walk: Walk) -> Link
+    ensures { result ≡ with_walk link walk }
+{
+    match link {
+        Link::Session { from, to } => Link::Session { from, to },
+        Link::Reads { from, to, key } => Link::Reads { from, to, key },
+        Link::Derived {
+            from,
+            to,
+            key,
+            reader,
+            walk: _,
+        } => Link::Derived {
+            from,
+            to,
+            key,
+            reader,
+            walk,
+        },
+    }
+}
+
+/// The next lines, one link.
+fn link<R: Read>(alloc: Global, input: &mut Input<R>) -> Result<Link, CertFault>
+    ensures { (at : Place) → IsAt R.remaining input.old at → Gives R.remaining at (link_at at) result input.new }
+{
+    let head = head(alloc, input)?;
+    let walk = walk(alloc, input, head.steps)?;
+    Ok(with_walk(head.link, walk))
+}
+
+/// The next lines, so many links.
+pub(crate) fn links<R: Read>(
+    alloc: Global,
+    input: &mut Input<R>,
+    count: u32,
+) -> Result<Links, CertFault>
+    ensures { (at : Place) → IsAt R.remaining input.old at → Gives R.remaining at (repeated link_at count at) result input.new }
+{
+    let mut links = Vec::new(alloc);
+    'links: for _ in 0..count {
+        let one = link(alloc, input)?;
+        match links.push(one) {
+            Ok(()) => {}
+            Err(_) => return Err(input.fault(CertFaultKind::NoMemory)),
+        }
+    }
+    Ok(Links::new(links))
+}
