@@ -1,5 +1,6 @@
 pub mod Gathering
 pub mod UnderWay
-pub mod Written
+pub mod Outcomes
+pub mod NoFloats
 mod WorkedTexts
 mod WorkedCommandLines

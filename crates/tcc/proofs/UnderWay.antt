@@ -7,7 +7,6 @@ use Rattle.std.proofs.lemmas.List.Folds.{list_any-append}
 use Rattle.std.proofs.lemmas.List.Elements.{filter_map-append}
 use Rattle.tcc_txn.specs.Answers.{Answers, ending}
 use Rattle.tcc_txn.specs.Ahead.{IsAhead, TakesAnswer}
-use Rattle.tcc_txn.specs.Snapshots.{Sessions}
 use Rattle.tcc_txn.specs.Transactions.{Transaction}
 use Rattle.tcc_txn.specs.declared.rows.Rows.{Rows}
 use Rattle.tcc_txn.specs.declared.rows.Item.{Item}
@@ -16,9 +15,8 @@ use Rattle.tcc_txn.specs.declared.rows.RowFault.{RowFault}
 use Rattle.tcc.specs.declared.finished.Gathered.{Gathered}
 use Rattle.tcc.specs.declared.halt.Halt.{Halt}
 use Rattle.tcc.specs.declared.halt.Halt.TheVariants as halt
-use Rattle.tcc.specs.declared.answer.Answer.{Answer}
-use Rattle.tcc.specs.Gathered.{held, some_of, txn_of, finished_of, Adds, AreParts}
-use Rattle.tcc.specs.Answers.{is_seal, IsEndAnswer, IsInputAnswer, IsSnapshotAnswer}
+use Rattle.tcc.specs.Gathered.{held, some_of, txn_of, finished_of, Adds}
+use Rattle.tcc.specs.Answers.{is_seal}
 use Rattle.tcc.specs.Halts.{is_memory, halt_of, HoldsItems, IsGathering}
 
 -- the items so far are held, and the others are ahead
@@ -70,15 +68,10 @@ holds_more old new name txn items holds adds session =
         ∙ ap (λ xs. Some (xs ++ txn ∷ [])) (unwrap_or-some_of list) ∙ sym (some_of-push list txn)
     by_test false = holds session
 
--- the answer for the snapshot of all that was gathered is that of the input
-pub ended : (all : Answers) (gathered : Gathered) (s : Sessions) (a : Answer) → IsGathering all (Ok gathered)
-    → AreParts gathered s → IsSnapshotAnswer s a → IsInputAnswer all a
-ended all gathered s a gathering parts answer =
-    inr (
-      gathering.0,
-      subst (λ fault. IsEndAnswer all.items fault a) (sym gathering.1)
-          (s, (λ session. parts session ∙ gathering.2 session), answer),
-    )
+-- for want of memory anything is left open
+pub without_memory : (all : Answers) (result : Result Gathered Halt) → IsErrAnd result (λ why. why ≡ halt.NoMemory) → IsGathering all result
+without_memory all (Ok _) is = absurd is
+without_memory all (Err why) is = subst (λ h. IsGathering all (Err h)) (sym is) tt
 
 module _ {R : Type 0} (remaining : R → Option (List ℕ)) where
   pub begins : (rows : Rows R) (gathered : Gathered) (all : Answers) → IsAhead remaining rows all
@@ -131,7 +124,7 @@ module _ {R : Type 0} {remaining : R → Option (List ℕ)} {rows : Rows R} {gat
       whole : under.ahead ≡ ending (Some fault) → all.items ≡ under.past
       whole same = under.items ∙ ap (λ ahead. under.past ++ ahead.items) same ∙ append-nil under.past
 
-      by_test : (b : Bool) → is_memory fault.kind ≡ b → IsGathering all (Err (cond b halt.NoMemory (halt.Fault fault)))
+      by_test : (b : Bool) → is_memory fault.kind ≡ b → IsGathering all (Err (cond b halt.NoMemory (halt.Row fault)))
       by_test true e = tt
       by_test false e = elim takes.0 [
         | inl same ↦ inl (ap (list_any is_seal) (whole same) ∙ under.unsealed, under.fault ∙ ap (λ (ahead : Answers). ahead.fault) same)

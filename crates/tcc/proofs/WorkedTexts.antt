@@ -3,16 +3,7 @@ use Rattle.std.proofs.Common.{◌≡◌, [], ◌∷◌, refl, codes, lit<}
 use Rattle.std.proofs.lemmas.Fmt.{decimal_digit}
 use Rattle.tcc_txn.specs.declared.rows.RowFaultKind.TheVariants.{Unfinished, BadValue}
 use Rattle.tcc_reads.specs.declared.fault.ReadFaultKind.TheVariants.{ThinAir, Aborted}
-use Rattle.tcc.specs.Texts.{row_fault_text, unresolved_text, consistent_text}
-
--- the long fork
-long_fork : consistent_text 4 4 (codes "init" ∷ codes "a/1" ∷ codes "b/1" ∷ codes "c/1" ∷ codes "d/1" ∷ [])
-    ≡ codes "consistent: 4 transactions, 4 sessions\norder: init a/1 b/1 c/1 d/1\n"
-long_fork = rw (decimal_digit 4 (lit< tt)) refl
-
--- no transactions at all
-empty_history : consistent_text 0 0 (codes "init" ∷ []) ≡ codes "consistent: 0 transactions, 0 sessions\norder: init\n"
-empty_history = rw (decimal_digit 0 (lit< tt)) refl
+use Rattle.tcc.specs.Texts.{row_fault_text, unresolved_text}
 
 -- an input that ends inside a transaction
 unfinished : row_fault_text (record { row = 2; kind = Unfinished (codes "a") }) ≡ codes "row 2: Unfinished a\n"

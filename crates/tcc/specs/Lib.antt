@@ -1,5 +1,7 @@
 pub mod Statuses
 pub mod Texts
+pub mod Json
+pub mod Printed
 pub mod Gathered
 pub mod Answers
 pub mod Halts

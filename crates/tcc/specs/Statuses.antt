@@ -1,9 +1,13 @@
 -- The numbers that a run ends with.
-use Rattle.std.specs.Prelude.{ℕ}
+use Rattle.std.specs.Prelude.{ℕ, Result, Ok, Err}
 use Rattle.tcc.specs.declared.status.Status.{Status}
 use Rattle.tcc.specs.declared.status.Status.TheVariants.{Success, Anomaly, ReadFaults, RowFault, Limit, Memory, Device, Usage}
 use Rattle.tcc_txn.specs.declared.rows.RowFaultKind.{RowFaultKind}
 use Rattle.tcc_txn.specs.declared.rows.RowFaultKind.TheVariants.{FieldCount, BadSession, UnknownWord, BadKey, BadValue, WriteOfZero, NotBegun, AlreadyBegun, TooManyOps, TooManySessions, TooManyTransactions, TooManyKeys, TooManySeals, Unfinished, Read, NoMemory}
+use Rattle.tcc_explain.specs.declared.answer.Answer.{Answer}
+use Rattle.tcc_explain.specs.declared.answer.Answer.TheVariants as answer
+use Rattle.tcc.specs.declared.halt.Halt.{Halt}
+use Rattle.tcc.specs.declared.halt.Halt.TheVariants as halt
 
 -- the number of a status
 abbrev pub code_of : Status → ℕ
@@ -34,3 +38,12 @@ row_status TooManySeals = Limit
 row_status (Unfinished session) = RowFault
 row_status Read = Device
 row_status NoMemory = Memory
+
+-- how a run ends with this outcome
+abbrev pub status_of : Result Answer Halt → Status
+status_of (Ok (answer.Commit c)) = Success
+status_of (Ok (answer.Anomaly a)) = Anomaly
+status_of (Err (halt.Reads faults)) = ReadFaults
+status_of (Err (halt.Row fault)) = row_status fault.kind
+status_of (Err halt.Seal) = RowFault
+status_of (Err halt.NoMemory) = Memory

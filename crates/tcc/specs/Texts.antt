@@ -1,6 +1,5 @@
--- The texts of answers and of faults, as they go out: ASCII, each line ended by one line feed.
-use Rattle.std.specs.Prelude.{ℕ, List, [], ◌++◌, length, codes, decimal}
-use Rattle.std.specs.List.{flat_map}
+-- The texts of faults, as they go out: ASCII, each line ended by one line feed.
+use Rattle.std.specs.Prelude.{ℕ, List, [], ◌++◌, length, flat_map, codes, decimal}
 use Rattle.tcc_txn.specs.declared.rows.RowFault.{RowFault}
 use Rattle.tcc_txn.specs.declared.rows.RowFaultKind.{RowFaultKind}
 use Rattle.tcc_txn.specs.declared.rows.RowFaultKind.TheVariants.{FieldCount, BadSession, UnknownWord, BadKey, BadValue, WriteOfZero, NotBegun, AlreadyBegun, TooManyOps, TooManySessions, TooManyTransactions, TooManyKeys, TooManySeals, Unfinished, Read, NoMemory}
@@ -62,14 +61,3 @@ read_fault_text fault =
 -- the number of faults, and a line for each
 abbrev pub unresolved_text : List ReadFault → List ℕ
 unresolved_text faults = codes "unresolved: " ++ (decimal (length faults) ++ (codes " faults\n" ++ flat_map read_fault_text faults))
-
--- each label after a space
-abbrev pub labels_text : List (List ℕ) → List ℕ
-labels_text labels = flat_map (λ label. codes " " ++ label) labels
-
--- how many committed transactions and sessions there are, and an order's labels
-abbrev pub consistent_text : ℕ → ℕ → List (List ℕ) → List ℕ
-consistent_text transactions sessions labels =
-    codes "consistent: "
-    ++ (decimal transactions ++ (codes " transactions, "
-    ++ (decimal sessions ++ (codes " sessions\norder:" ++ (labels_text labels ++ codes "\n")))))

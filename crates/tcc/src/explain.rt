@@ -1,21 +1,20 @@
 //! From the bytes of an input to its answer.
-ghost use Rattle.std.specs.Prelude.{◌≡◌, ◌⊎◌, IfOk, IfSome};
+ghost use Rattle.std.specs.Prelude.{◌≡◌, ◌⊎◌, IfSome, Result, Ok, Err};
 ghost use Rattle.tcc_txn.specs.Answers.{answers_of};
 ghost use Rattle.tcc_txn.specs.Snapshots.{Sessions};
-ghost use Rattle.tcc.specs.Answers.{IsInputAnswer, IsReadFailure, IsRun, IsSnapshotAnswer, Prints, fixed_answer};
+ghost use Rattle.tcc.specs.declared.halt.Halt.TheVariants as halt;
+ghost use Rattle.tcc.specs.Answers.{IsRun, IsSnapshotOutcome, MayBeOutcome};
 ghost use Rattle.tcc.specs.Gathered.{AreParts};
 ghost use Rattle.tcc.specs.Halts.{IsGathering};
 
-use crate::answer::Answer;
-use crate::answers::{fault_answer, fixed_answer, snapshot_answer};
 use crate::finished::Gathered;
 use crate::halt::Halt;
-use crate::status::Status;
-use crate::write::write_text;
+use crate::printing::print;
 use std::alloc::Global;
 use std::io::{Read, Write};
 use std::thread::Threads;
-use tcc_txn::{Item, NoMemory, Rows, Snapshot};
+use tcc_explain::{Answer, explain};
+use tcc_txn::{Item, Rows, Snapshot};
 
 /// What the sessions finished up to the end of the input.
 fn gather<R: Read + Drop>(alloc: Global, reader: R) -> Result<Gathered, Halt>
@@ -34,60 +33,44 @@ fn gather<R: Read + Drop>(alloc: Global, reader: R) -> Result<Gathered, Halt>
     Err(Halt::NoMemory)
 }
 
-/// The answer for all that the sessions finished.
-fn gathered_answer(
+/// What comes of all that the sessions finished: the first answer, or all read faults.
+fn gathered_outcome(
     rt: &(impl Threads + Sync),
     alloc: Global,
     gathered: Gathered,
-) -> Result<Answer, NoMemory>
-    ensures { IfOk result (λ a. (s : Sessions) × AreParts gathered s × IsSnapshotAnswer s a) }
+) -> Result<Answer, Halt>
+    ensures { ((s : Sessions) × AreParts gathered s × IsSnapshotOutcome s result) ⊎ (result ≡ Err halt.NoMemory) }
 {
     match Snapshot::new(gathered.into_parts(alloc)?) {
-        Ok(snapshot) => snapshot_answer(rt, alloc, &snapshot),
+        Ok(snapshot) => Ok(explain(rt, alloc, &snapshot)?),
         // The rows keep the limits of a snapshot, so only memory can be wanting.
-        Err(_) => Err(NoMemory),
+        Err(_) => Err(Halt::NoMemory),
     }
 }
 
-/// The answer for the bytes of the reader.
-fn input_answer<R: Read + Drop>(
+/// What comes of the bytes of the reader.
+fn input_outcome<R: Read + Drop>(
     rt: &(impl Threads + Sync),
     alloc: Global,
     reader: R,
-) -> Result<Answer, NoMemory>
-    ensures { IfSome (R.remaining reader) (λ text. IfOk result (λ a. IsInputAnswer (answers_of text) a ⊎ IsReadFailure a)) }
+) -> Result<Answer, Halt>
+    ensures { IfSome (R.remaining reader) (λ text. MayBeOutcome text result) }
 {
-    match gather(alloc, reader) {
-        Ok(gathered) => gathered_answer(rt, alloc, gathered),
-        Err(Halt::Seal) => fixed_answer(alloc, b"refused\n", Status::RowFault),
-        Err(Halt::Fault(fault)) => fault_answer(alloc, &fault),
-        Err(Halt::NoMemory) => Err(NoMemory),
-    }
+    let gathered = gather(alloc, reader)?;
+    gathered_outcome(rt, alloc, gathered)
 }
 
-/// Writes the text, and gives the status of the run: the one that the text has, or that of a writer that failed.
-pub fn print<W: Write>(out: &mut W, text: &[u8], status: Status) -> u8
-    ensures { Prints (W.contents out.old) (W.contents out.new) (fixed_answer text.now status) result }
-{
-    match write_text(out, text) {
-        Ok(()) => status.code(),
-        Err(_) => Status::Device.code(),
-    }
-}
-
-/// Writes the answer for the bytes of the reader, and gives the status of the run.
+/// Writes the answer for the bytes of the reader, as text or as a line of JSON, and gives the status of the run.
 pub fn run_explain<R: Read + Drop, W: Write>(
     rt: &(impl Threads + Sync),
     alloc: Global,
     reader: R,
     out: &mut W,
+    json: bool,
 ) -> u8
-    ensures { IfSome (R.remaining reader) (λ text. IsRun text (W.contents out.old) (W.contents out.new) result) }
+    ensures { IfSome (R.remaining reader) (λ text. IsRun json text (W.contents out.old) (W.contents out.new) result) }
 {
-    match input_answer(rt, alloc, reader) {
-        Ok(answer) => print(out, answer.text.bytes(), answer.status),
-        Err(NoMemory) => print(out, b"memory\n", Status::Memory),
-    }
+    print(alloc, &input_outcome(rt, alloc, reader), json, out)
 }
 
 #[cfg(test)]

@@ -1,17 +1,21 @@
-//! Why an input has no snapshot.
+//! Why an input has no answer.
 ghost use Rattle.std.specs.Prelude.{◌≡◌};
-ghost use Rattle.tcc.specs.Halts.{halt_of};
+ghost use Rattle.tcc.specs.Halts.{halt_of, refused_by};
 ghost use Rattle.tcc.specs.declared.halt.Halt.TheVariants as halt;
 
+use tcc_explain::ExplainFault;
+use tcc_reads::ReadFault;
 use tcc_txn::{NoMemory, RowFault, RowFaultKind};
 
-/// Why an input has no snapshot of all that was finished.
-#[derive(Clone, Copy)]
+/// Why there is no answer for the history of an input.
+#[derive(Drop)]
 pub enum Halt {
     /// There is a seal.
     Seal,
     /// There is a row fault, other than want of memory.
-    Fault(RowFault),
+    Row(RowFault),
+    /// There are read faults; all of them.
+    Reads(Vec<ReadFault>),
     /// Memory was refused.
     NoMemory,
 }
@@ -30,7 +34,18 @@ impl From<RowFault> for Halt {
     fn from(fault: RowFault) -> Halt {
         match fault.kind {
             RowFaultKind::NoMemory => Halt::NoMemory,
-            _ => Halt::Fault(fault),
+            _ => Halt::Row(fault),
+        }
+    }
+}
+
+impl From<ExplainFault> for Halt {
+    ghost from_gives = { λ fault h. h ≡ refused_by fault };
+
+    fn from(fault: ExplainFault) -> Halt {
+        match fault {
+            ExplainFault::Reads(faults) => Halt::Reads(faults),
+            ExplainFault::NoMemory => Halt::NoMemory,
         }
     }
 }

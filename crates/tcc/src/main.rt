@@ -1,20 +1,18 @@
 //! `tcc explain`: reads the records of a history and says whether it is causally consistent.
 #![tactic(auto)]
 
-mod answer;
-mod answers;
 mod command_line;
-mod commit_order;
 mod explain;
 mod finished;
 mod halt;
+mod json;
+mod printing;
 mod status;
-mod text;
 mod texts;
-mod write;
 
 use command_line::Request;
-use explain::{print, run_explain};
+use explain::run_explain;
+use printing::print_text;
 use status::Status;
 use std::io;
 use std::process::ExitCode;
@@ -22,8 +20,8 @@ use std::process::ExitCode;
 fn main(rt: HostRuntime) -> ExitCode {
     let mut out = io::writer(&rt);
     let code = match command_line::read(&rt) {
-        Ok(Request::Explain) => run_explain(&rt, rt.alloc(), rt.stdin(), &mut out),
-        Err(Status::Memory) => print(&mut out, b"memory\n", Status::Memory),
+        Ok(Request::Explain) => run_explain(&rt, rt.alloc(), rt.stdin(), &mut out, false),
+        Err(Status::Memory) => print_text(&mut out, b"memory\n", Status::Memory),
         Err(status) => status.code(),
     };
     if code == Status::Device.code() {

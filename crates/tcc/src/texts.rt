@@ -1,67 +1,68 @@
-//! The texts of answers and faults, each made as a whole before a byte of it goes out.
-ghost use Rattle.std.specs.Prelude.{◌≡◌, ◌++◌, IfOk, OnOk, map, length};
-ghost use Rattle.std.specs.List.{flat_map};
-ghost use Rattle.std.specs.String.{string_bytes};
-ghost use Rattle.tcc.specs.Texts.{row_fault_text, row_word, read_word, read_fault_text, unresolved_text, labels_text, consistent_text};
+//! The texts of faults, each made as a whole before a byte of it goes out.
+ghost use Rattle.std.specs.Prelude.{◌≡◌, ◌++◌, IfOk, OnOk, length, flat_map};
+ghost use Rattle.tcc.specs.Texts.{row_fault_text, row_word, read_word, read_fault_text, unresolved_text};
 
-use crate::text::Text;
 use std::alloc::Global;
+use tcc_explain::pieces::push;
 use tcc_reads::{ReadFault, ReadFaultKind};
 use tcc_txn::{NoMemory, RowFault, RowFaultKind};
 
-fn row_word(kind: &RowFaultKind) -> &'static [u8]
+/// The word for a kind of row fault.
+pub fn row_word(kind: &RowFaultKind) -> &'static str
     ensures { result.now ≡ row_word kind.now }
 {
     match kind {
-        RowFaultKind::FieldCount => b"FieldCount",
-        RowFaultKind::BadSession => b"BadSession",
-        RowFaultKind::UnknownWord => b"UnknownWord",
-        RowFaultKind::BadKey => b"BadKey",
-        RowFaultKind::BadValue => b"BadValue",
-        RowFaultKind::WriteOfZero => b"WriteOfZero",
-        RowFaultKind::NotBegun => b"NotBegun",
-        RowFaultKind::AlreadyBegun => b"AlreadyBegun",
-        RowFaultKind::TooManyOps => b"TooManyOps",
-        RowFaultKind::TooManySessions => b"TooManySessions",
-        RowFaultKind::TooManyTransactions => b"TooManyTransactions",
-        RowFaultKind::TooManyKeys => b"TooManyKeys",
-        RowFaultKind::TooManySeals => b"TooManySeals",
-        RowFaultKind::Unfinished { .. } => b"Unfinished",
-        RowFaultKind::Read => b"Read",
-        RowFaultKind::NoMemory => b"NoMemory",
+        RowFaultKind::FieldCount => "FieldCount",
+        RowFaultKind::BadSession => "BadSession",
+        RowFaultKind::UnknownWord => "UnknownWord",
+        RowFaultKind::BadKey => "BadKey",
+        RowFaultKind::BadValue => "BadValue",
+        RowFaultKind::WriteOfZero => "WriteOfZero",
+        RowFaultKind::NotBegun => "NotBegun",
+        RowFaultKind::AlreadyBegun => "AlreadyBegun",
+        RowFaultKind::TooManyOps => "TooManyOps",
+        RowFaultKind::TooManySessions => "TooManySessions",
+        RowFaultKind::TooManyTransactions => "TooManyTransactions",
+        RowFaultKind::TooManyKeys => "TooManyKeys",
+        RowFaultKind::TooManySeals => "TooManySeals",
+        RowFaultKind::Unfinished { .. } => "Unfinished",
+        RowFaultKind::Read => "Read",
+        RowFaultKind::NoMemory => "NoMemory",
     }
 }
 
 /// The line of a row fault.
-pub fn row_fault(alloc: Global, fault: &RowFault) -> Result<Text, NoMemory>
-    ensures { IfOk result (λ text. text ≡ row_fault_text fault.now) }
+pub fn row_fault(alloc: Global, fault: &RowFault) -> Result<Vec<u8>, NoMemory>
+    ensures { IfOk result (λ text. text.items ≡ row_fault_text fault.now) }
 {
     let row = fault.row.to_string(alloc)?;
-    let mut text = Text::new(alloc);
-    text.push(&[b"row ", row.as_bytes(), b": ", row_word(&fault.kind)])?;
+    let word = row_word(&fault.kind);
+    let mut text = Vec::new(alloc);
+    push(&mut text, &[b"row ", row.as_bytes(), b": ", word.as_bytes()])?;
     if let RowFaultKind::Unfinished { session } = &fault.kind {
-        text.push(&[b" ", session.bytes()])?;
+        push(&mut text, &[b" ", session.bytes()])?;
     }
-    text.push(&[b"\n"])?;
+    push(&mut text, &[b"\n"])?;
     Ok(text)
 }
 
-fn read_word(kind: ReadFaultKind) -> &'static [u8]
+/// The word for a kind of read fault.
+pub fn read_word(kind: ReadFaultKind) -> &'static str
     ensures { result.now ≡ read_word kind }
 {
     match kind {
-        ReadFaultKind::Duplicate => b"Duplicate",
-        ReadFaultKind::BrokenInternal => b"BrokenInternal",
-        ReadFaultKind::ThinAir => b"ThinAir",
-        ReadFaultKind::Aborted => b"Aborted",
-        ReadFaultKind::Intermediate => b"Intermediate",
-        ReadFaultKind::Future => b"Future",
+        ReadFaultKind::Duplicate => "Duplicate",
+        ReadFaultKind::BrokenInternal => "BrokenInternal",
+        ReadFaultKind::ThinAir => "ThinAir",
+        ReadFaultKind::Aborted => "Aborted",
+        ReadFaultKind::Intermediate => "Intermediate",
+        ReadFaultKind::Future => "Future",
     }
 }
 
 /// Adds the line of a read fault.
-fn push_read_fault(alloc: Global, text: &mut Text, fault: &ReadFault) -> Result<(), NoMemory>
-    ensures { OnOk result (text.new ≡ text.old ++ read_fault_text fault.now) }
+fn push_read_fault(alloc: Global, text: &mut Vec<u8>, fault: &ReadFault) -> Result<(), NoMemory>
+    ensures { OnOk result (text.new.items ≡ text.old.items ++ read_fault_text fault.now) }
 {
     let ReadFault {
         session,
@@ -74,69 +75,34 @@ fn push_read_fault(alloc: Global, text: &mut Text, fault: &ReadFault) -> Result<
     let place = place.to_string(alloc)?;
     let op = op.to_string(alloc)?;
     let value = value.to_string(alloc)?;
-    text.push(&[
-        read_word(kind),
-        b" ",
-        session.bytes(),
-        b"/",
-        place.as_bytes(),
-        b" op ",
-        op.as_bytes(),
-        b" ",
-        key.bytes(),
-        b" ",
-        value.as_bytes(),
-        b"\n",
-    ])?;
-    Ok(())
+    push(
+        text,
+        &[
+            read_word(kind).as_bytes(),
+            b" ",
+            session.bytes(),
+            b"/",
+            place.as_bytes(),
+            b" op ",
+            op.as_bytes(),
+            b" ",
+            key.bytes(),
+            b" ",
+            value.as_bytes(),
+            b"\n",
+        ],
+    )
 }
 
 /// The text of a snapshot with read faults: their number, and a line for each.
-pub fn unresolved(alloc: Global, faults: &[ReadFault]) -> Result<Text, NoMemory>
-    ensures { IfOk result (λ text. text ≡ unresolved_text faults.now) }
+pub fn unresolved(alloc: Global, faults: &[ReadFault]) -> Result<Vec<u8>, NoMemory>
+    ensures { IfOk result (λ text. text.items ≡ unresolved_text faults.now) }
 {
     let count = faults.len().to_string(alloc)?;
-    let mut text = Text::new(alloc);
-    text.push(&[b"unresolved: ", count.as_bytes(), b" faults\n"])?;
+    let mut text = Vec::new(alloc);
+    push(&mut text, &[b"unresolved: ", count.as_bytes(), b" faults\n"])?;
     for fault in faults {
         push_read_fault(alloc, &mut text, fault)?;
     }
-    Ok(text)
-}
-
-/// The labels, each after a space.
-fn labels_text(alloc: Global, labels: &[String]) -> Result<Text, NoMemory>
-    ensures { IfOk result (λ text. text ≡ labels_text (map string_bytes labels.now)) }
-{
-    let mut text = Text::new(alloc);
-    for label in labels {
-        text.push(&[b" ", label.as_bytes()])?;
-    }
-    Ok(text)
-}
-
-/// The text of a consistent history: how many committed transactions and sessions it has, and the labels of a
-/// commit order.
-pub fn consistent(
-    alloc: Global,
-    transactions: u32,
-    sessions: usize,
-    labels: &[String],
-) -> Result<Text, NoMemory>
-    ensures { IfOk result (λ text. text ≡ consistent_text transactions sessions (map string_bytes labels.now)) }
-{
-    let transactions = transactions.to_string(alloc)?;
-    let sessions = sessions.to_string(alloc)?;
-    let order = labels_text(alloc, labels)?;
-    let mut text = Text::new(alloc);
-    text.push(&[
-        b"consistent: ",
-        transactions.as_bytes(),
-        b" transactions, ",
-        sessions.as_bytes(),
-        b" sessions\norder:",
-        order.bytes(),
-        b"\n",
-    ])?;
     Ok(text)
 }

@@ -9,10 +9,10 @@ mod json;
 mod labels;
 pub mod laws;
 mod picking;
-mod pieces;
+pub mod pieces;
 mod refusal;
 mod returning;
-mod sending;
+pub mod sending;
 mod shape;
 mod text;
 

@@ -6,7 +6,7 @@ use std::io::{self, ErrorKind, Write};
 
 /// Sends the whole text. An interrupted write and one that takes no bytes are failures too; then a part of the text,
 /// from its front, went out.
-pub(crate) fn send<W: Write>(out: &mut W, text: &[u8]) -> io::Result<()>
+pub fn send<W: Write>(out: &mut W, text: &[u8]) -> io::Result<()>
     ensures whole { OnOk result (Appends (W.contents out.old) (W.contents out.new) text.now) }
     ensures part { OnErr result ((n : ℕ) × Appends (W.contents out.old) (W.contents out.new) (take n text.now)) }
 {

@@ -3,7 +3,7 @@ use Rattle.std.proofs.Common.{subst, Ok}
 use Rattle.std.proofs.lemmas.Option.{IfSome_then}
 use Rattle.tcc_txn.specs.Answers.{answers_of}
 use Rattle.tcc_txn.specs.Ahead.{TakesAnswer}
-use Rattle.tcc.proofs.UnderWay.{begins, goes_on, stops_at_seal, stops_at_end, stops_with}
+use Rattle.tcc.proofs.UnderWay.{begins, goes_on, stops_at_seal, stops_at_end, stops_with, without_memory}
 use Rattle.tcc.proofs.explain.gather.Goals as goal
 
 pub items-init : goal.items-init
@@ -39,3 +39,8 @@ returns-in_err-session g c = IfSome_then (g.R.Read.remaining c.args.reader) c.in
     let under = c.items.invariant (answers_of text) ahead in
     stops_with under c.next.new.self c.in_err-session.field-0.0 c.from_residual-in_err-session.result
     (c.in_err-session.ensures.answers under.ahead under.is_ahead) c.from_residual-in_err-session.ensures.1)
+
+pub returns-in_err-add-in-Finished : goal.returns-in_err-add-in-Finished
+returns-in_err-add-in-Finished g c = IfSome_then (g.R.Read.remaining c.args.reader) c.in_ok-rows.ensures
+    (λ text ahead. without_memory (answers_of text) c.from_residual-in_err-add-in-Finished.result
+    c.from_residual-in_err-add-in-Finished.ensures.1)
