@@ -6,3 +6,6 @@ pub mod Gathered
 pub mod Answers
 pub mod Halts
 pub mod CommandLines
+pub mod Unjudged
+pub mod Verdicts
+pub mod Checks

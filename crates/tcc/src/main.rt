@@ -1,14 +1,18 @@
 //! `tcc explain`: reads the records of a history and says whether it is causally consistent.
 #![tactic(auto)]
 
+mod check;
 mod command_line;
 mod explain;
 mod finished;
 mod halt;
 mod json;
+mod judged;
 mod printing;
 mod status;
 mod texts;
+mod unjudged;
+mod verdicts;
 
 use command_line::Request;
 use explain::run_explain;
