@@ -1,5 +1,6 @@
 #!/usr/bin/env python3
-"""Refuses each allocation of the built program in turn: the answer stays, or is the line `memory` with status 5.
+"""Refuses each allocation of the built program in turn: the answer stays, or is the line `memory` (with
+`--json` an object) with status 5.
 
     run.py [--tcc PATH]
 
@@ -17,20 +18,64 @@ import tempfile
 HERE = pathlib.Path(__file__).resolve().parent
 TOP = HERE.parent.parent
 MEMORY = (b"memory\n", 5)
+JSON_MEMORY = (b'{"answer":"memory"}\n', 5)
 MOST = 10000
-ANSWERS = {
-    "stale-read.csv": (b"inconsistent\n", 1),
-    "long-fork.csv": (b"consistent: 4 transactions, 4 sessions\norder: init a/1 b/1 c/1 d/1\n", 0),
-    "aborted-read.csv": (b"unresolved: 2 faults\nAborted b/1 op 1 x 1\nThinAir b/1 op 2 z 7\n", 2),
-}
+STALE_READ = b"""anomaly: 3 steps, stale-initial-read
+session init -> a/1
+derived a/1 -> init by x, read by a/2
+  session a/1 -> a/2
+  against init -> a/2 by x
+"""
+CONFLICT = b"""anomaly: 4 steps, conflict-cycle
+derived a/1 -> b/1 by x, read by c/1
+  reads a/1 -> c/1 by x
+  against b/1 -> c/1 by x
+derived b/1 -> a/1 by x, read by c/1
+  reads b/1 -> c/1 by x
+  against a/1 -> c/1 by x
+"""
+STALE_READ_JSON = b"""{"answer":"anomaly","cycle":[{"from":"init","kind":"session","to":"a/1"},\
+{"from":"a/1","key":"x","kind":"derived","reader":"a/2","to":"init","walk":[{"from":"a/1","kind":"session","to":"a/2"}]}],\
+"shape":"stale-initial-read","steps":3}
+"""
+ABORTED_READ_JSON = b"""{"answer":"unresolved","faults":[\
+{"key":"x","kind":"Aborted","op":1,"place":1,"session":"b","value":1},\
+{"key":"z","kind":"ThinAir","op":2,"place":1,"session":"b","value":7}]}
+"""
+ANSWERS = [
+    ("stale-read.csv", [], STALE_READ, 1),
+    ("conflicting-writes.csv", [], CONFLICT, 1),
+    ("long-fork.csv", [], b"consistent: 4 transactions, 4 sessions\norder: init a/1 b/1 c/1 d/1\n", 0),
+    ("aborted-read.csv", [], b"unresolved: 2 faults\nAborted b/1 op 1 x 1\nThinAir b/1 op 2 z 7\n", 2),
+    ("stale-read.csv", ["--json"], STALE_READ_JSON, 1),
+    ("aborted-read.csv", ["--json"], ABORTED_READ_JSON, 2),
+]
 
 
-def answer(tcc, history, number, shim, mark):
+def answer(tcc, history, flags, number, shim, mark):
     """Output and status of a run in which the allocation of this number is refused."""
     environment = dict(os.environ, LD_PRELOAD=str(shim), REFUSE=str(number), REFUSED=str(mark))
     with open(history, "rb") as given:
-        run = subprocess.run([tcc, "explain"], stdin=given, capture_output=True, env=environment, timeout=60)
+        run = subprocess.run([tcc, "explain"] + flags, stdin=given, capture_output=True, env=environment, timeout=60)
     return run.stdout, run.returncode
+
+
+def refusals(tcc, history, flags, ample, shim, mark):
+    """For each allocation of a run, what is answered where it is refused, and whether that is right.
+
+    Before the words of the command line are read the line `memory` stands, as nobody knows yet that JSON is wanted;
+    from the first line of JSON on, that one.
+    """
+    lines = [MEMORY, JSON_MEMORY] if flags else [MEMORY]
+    for number in range(1, MOST):
+        mark.unlink(missing_ok=True)
+        got = answer(tcc, history, flags, number, shim, mark)
+        refused = mark.exists()
+        if got == JSON_MEMORY:
+            lines = [line for line in lines if line == JSON_MEMORY]
+        yield number, got, got == ample or (refused and got in lines)
+        if not refused:
+            break
 
 
 def main():
@@ -45,18 +90,13 @@ def main():
         shim, mark = pathlib.Path(folder, "refuse.so"), pathlib.Path(folder, "refused")
         if compiler:
             subprocess.run([compiler, "-shared", "-fPIC", "-O1", "-o", shim, HERE / "refuse.c", "-ldl"], check=True)
-        for name, ample in ANSWERS.items() if compiler else ():
-            for number in range(1, MOST):
-                mark.unlink(missing_ok=True)
-                got = answer(tcc, TOP / "examples" / name, number, shim, mark)
-                refused = mark.exists()
-                if got == ample or (refused and got == MEMORY):
+        for name, flags, text, status in ANSWERS if compiler else ():
+            for number, got, right in refusals(tcc, TOP / "examples" / name, flags, (text, status), shim, mark):
+                if right:
                     passed += 1
                 else:
                     failed += 1
-                    print("%s, allocation %d refused: got %r" % (name, number, got))
-                if not refused:
-                    break
+                    print("%s %s, allocation %d refused: got %r" % (name, flags, number, got))
     print("%d passed, %d failed" % (passed, failed))
     return 1 if failed else 0
 

@@ -3,4 +3,4 @@ pub mod UnderWay
 pub mod Outcomes
 pub mod NoFloats
 mod WorkedTexts
-mod WorkedCommandLines
+pub mod WorkedCommandLines

@@ -1,18 +1,35 @@
 -- What some command lines ask for, by clap's own words.
-use Rattle.std.proofs.Common.{◌≡◌, true, [], ◌∷◌, refl, codes}
+use Rattle.std.proofs.Common.{◌≡◌, true, [], ◌∷◌, Some, refl, codes}
 use Rattle.clap.specs.Faults.{fault_of, is_simple_and_free}
-use Rattle.clap.specs.declared.error.kind.ErrorKind.TheVariants.{DisplayHelp, InvalidSubcommand, MissingSubcommand, UnknownArgument}
+use Rattle.clap.specs.Simple.{is_simple, subcommand_of}
+use Rattle.clap.specs.declared.error.kind.ErrorKind.TheVariants.{ArgumentConflict, DisplayHelp, InvalidSubcommand, MissingSubcommand, TooManyValues, UnknownArgument}
 use Rattle.clap.proofs.OnLiterals.{clap_on_literals}
-use Rattle.tcc.specs.CommandLines.{tcc_command}
+use Rattle.tcc.specs.CommandLines.{tcc_command, json_text}
 
 -- clap says exactly when a parse by it fails, and of which kinds the fault may be
-is_exact : is_simple_and_free tcc_command ≡ true
+pub is_exact : is_simple_and_free tcc_command ≡ true
 unfolding clap_on_literals
 is_exact = refl
+
+pub is_simple_command : is_simple tcc_command ≡ true
+unfolding clap_on_literals
+is_simple_command = refl
 
 explain : fault_of tcc_command (codes "tcc" ∷ codes "explain" ∷ []) ≡ []
 unfolding clap_on_literals
 explain = refl
+
+explain_as_text : json_text (subcommand_of tcc_command (codes "tcc" ∷ codes "explain" ∷ [])) ≡ Some (codes "false")
+unfolding clap_on_literals
+explain_as_text = refl
+
+as_json : fault_of tcc_command (codes "tcc" ∷ codes "explain" ∷ codes "--json" ∷ []) ≡ []
+unfolding clap_on_literals
+as_json = refl
+
+explain_as_json : json_text (subcommand_of tcc_command (codes "tcc" ∷ codes "explain" ∷ codes "--json" ∷ [])) ≡ Some (codes "true")
+unfolding clap_on_literals
+explain_as_json = refl
 
 nothing : fault_of tcc_command (codes "tcc" ∷ []) ≡ MissingSubcommand ∷ []
 unfolding clap_on_literals
@@ -34,3 +51,20 @@ no_such_word = refl
 a_word_too_many : fault_of tcc_command (codes "tcc" ∷ codes "explain" ∷ codes "more" ∷ []) ≡ UnknownArgument ∷ []
 unfolding clap_on_literals
 a_word_too_many = refl
+
+-- the flag is one of the subcommand alone, has no value, and isn't given twice
+flag_before : fault_of tcc_command (codes "tcc" ∷ codes "--json" ∷ codes "explain" ∷ []) ≡ UnknownArgument ∷ []
+unfolding clap_on_literals
+flag_before = refl
+
+flag_with_value : fault_of tcc_command (codes "tcc" ∷ codes "explain" ∷ codes "--json=true" ∷ []) ≡ TooManyValues ∷ []
+unfolding clap_on_literals
+flag_with_value = refl
+
+flag_twice : fault_of tcc_command (codes "tcc" ∷ codes "explain" ∷ codes "--json" ∷ codes "--json" ∷ []) ≡ ArgumentConflict ∷ []
+unfolding clap_on_literals
+flag_twice = refl
+
+no_such_flag : fault_of tcc_command (codes "tcc" ∷ codes "explain" ∷ codes "--workers" ∷ []) ≡ UnknownArgument ∷ []
+unfolding clap_on_literals
+no_such_flag = refl

@@ -1,12 +1,12 @@
 //! What the command line asks for.
 ghost use Rattle.std.specs.Prelude.{◌≡◌, ◌⊎◌, IfErr, IfOk, map};
 ghost use Rattle.std.specs.String.{string_bytes};
-ghost use Rattle.clap.specs.Words.{FailsBy, app_of, fault_of};
-ghost use Rattle.tcc.specs.CommandLines.{EndsUnasked, IsReading, end_of, tcc_command};
+ghost use Rattle.clap.specs.Words.{FailsBy, app_of, fault_of, subcommand_rows_of};
+ghost use Rattle.tcc.specs.CommandLines.{Asks, EndsUnasked, IsFlag, IsReading, end_of, json_text, tcc_command};
 
 use crate::status::Status;
 use clap::error::ErrorKind;
-use clap::{Command, Error};
+use clap::{Arg, ArgAction, ArgMatches, Command, Error};
 use std::alloc::{AllocError, Global};
 use std::{env, io};
 
@@ -14,27 +14,49 @@ use std::{env, io};
 #[derive(Clone, Copy, Debug, PartialEq, Eq)]
 pub enum Request {
     /// Answer for the records of the standard input.
-    Explain,
+    Explain {
+        /// Whether the answer is wanted as JSON.
+        json: bool,
+    },
 }
 
 /// The command by which words are read.
 fn command<'a>(alloc: Global) -> Result<Command<'a>, AllocError>
     ensures { IfOk result (λ made. app_of made ≡ tcc_command) }
 {
-    let explain = Command::new(alloc, "explain").about(
-        "Reads records from standard input and says whether the history is causally consistent",
-    );
+    let json = Arg::new(alloc, "json")
+        .long("json")
+        .help("Answers in one line of JSON")
+        .action(ArgAction::SetTrue);
+    let explain = Command::new(alloc, "explain")
+        .about(
+            "Reads records from standard input and says whether the history is causally consistent",
+        )
+        .arg(json)?;
     Command::new(alloc, "tcc")
         .about("Checks and explains causal consistency of transaction histories")
         .subcommand_required(true)
         .subcommand(explain)
 }
 
-fn parse(alloc: Global, words: &[String]) -> Result<Request, Error>
-    ensures { FailsBy (fault_of tcc_command (map string_bytes words.now)) result }
+/// Whether the flag of the subcommand is set.
+fn is_json(matches: &ArgMatches) -> bool
+    ensures { IsFlag (json_text (subcommand_rows_of matches.now)) result }
 {
-    let _matches = command(alloc)?.try_get_matches_from(words)?;
-    Ok(Request::Explain)
+    match matches.subcommand() {
+        Some((_name, explain)) => explain.get_flag("json"),
+        None => false,
+    }
+}
+
+fn parse(alloc: Global, words: &[String]) -> Result<Request, Error>
+    ensures fails { FailsBy (fault_of tcc_command (map string_bytes words.now)) result }
+    ensures asked { IfOk result (Asks (map string_bytes words.now)) }
+{
+    let matches = command(alloc)?.try_get_matches_from(words)?;
+    Ok(Request::Explain {
+        json: is_json(&matches),
+    })
 }
 
 /// How a run ends that asked for help, or was refused, by whether the text of that went out.

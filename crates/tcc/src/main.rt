@@ -24,7 +24,7 @@ use std::process::ExitCode;
 fn main(rt: HostRuntime) -> ExitCode {
     let mut out = io::writer(&rt);
     let code = match command_line::read(&rt) {
-        Ok(Request::Explain) => run_explain(&rt, rt.alloc(), rt.stdin(), &mut out, false),
+        Ok(Request::Explain { json }) => run_explain(&rt, rt.alloc(), rt.stdin(), &mut out, json),
         Err(Status::Memory) => print_text(&mut out, b"memory\n", Status::Memory),
         Err(status) => status.code(),
     };
