@@ -56,6 +56,11 @@ IsRecordsFailure o = (row : ℕ) × (o ≡ Err (Row (record { row = row; kind = 
 abbrev pub MayBeCheck : List ℕ → List ℕ → Result Judged Unjudged → Type 0
 MayBeCheck records text o = IsCheck records text o ⊎ (IsRecordsFailure o ⊎ (o ≡ Err NoMemory))
 
+-- the outcome, or want of memory in its place
+abbrev pub PrintsCheck : Option (List ℕ) → Option (List ℕ) → Result Judged Unjudged → ℕ → Type 0
+PrintsCheck before after outcome code = (o : Result Judged Unjudged)
+    × ((o ≡ outcome) ⊎ (o ≡ Err NoMemory)) × Prints before after (check_text o) (check_status o) code
+
 -- what a run does with the bytes
 abbrev pub IsCheckRun : List ℕ → List ℕ → Option (List ℕ) → Option (List ℕ) → ℕ → Type 0
 IsCheckRun records text before after code =

@@ -9,3 +9,4 @@ pub mod CommandLines
 pub mod Unjudged
 pub mod Verdicts
 pub mod Checks
+pub mod Files

@@ -1,12 +1,12 @@
 //! From the bytes of a history and of a certificate to the verdict.
 ghost use Rattle.std.specs.Prelude.{◌≡◌, ℕ, IfSome};
 ghost use Rattle.tcc_txn.specs.Answers.{answers_of};
-ghost use Rattle.tcc.specs.Checks.{IsCheckRun, IsShown, MayBeCheck, MayBeTextCheck};
+ghost use Rattle.tcc.specs.Checks.{IsCheckRun, IsShown, MayBeCheck, MayBeTextCheck, PrintsCheck};
 ghost use Rattle.tcc.specs.Unjudged.{IsFinished, IsHistoryOf, IsResolved};
 
 use crate::finished::Gathered;
 use crate::judged::Judged;
-use crate::printing::print_text;
+use crate::printing::{memory_line, print_text};
 use crate::status::Status;
 use crate::unjudged::Unjudged;
 use crate::verdicts::{check_status, check_text};
@@ -14,6 +14,7 @@ use std::alloc::Global;
 use std::io::{Read, Write};
 use tcc_cert::read;
 use tcc_check::check;
+use tcc_check::laws::certified;
 use tcc_graph::Graph;
 use tcc_reads::resolve;
 use tcc_txn::{Item, NoMemory, Rows, Snapshot};
@@ -81,8 +82,19 @@ fn checked<H: Read + Drop, C: Read + Drop>(
     judged(alloc, &graph, certificate)
 }
 
+/// Writes the text of the outcome, and gives the status of the run. Where memory is wanting, that is written in its
+/// place.
+fn print_check<W: Write>(alloc: Global, outcome: &Result<Judged, Unjudged>, out: &mut W) -> u8
+    ensures { PrintsCheck (W.contents out.old) (W.contents out.new) outcome.now result }
+{
+    match check_text(alloc, outcome) {
+        Ok(text) => print_text(out, &text, check_status(outcome)),
+        Err(NoMemory) => print_text(out, memory_line(false), Status::Memory),
+    }
+}
+
 /// Writes the verdict on the certificate for the history, or the first fault of the two, and gives the status of the
-/// run. Only a certificate whose claim is true has status 0.
+/// run. Only where what the certificate claims is true is the status 0.
 pub fn run_check<H: Read + Drop, C: Read + Drop, W: Write>(
     alloc: Global,
     history: H,
@@ -92,11 +104,8 @@ pub fn run_check<H: Read + Drop, C: Read + Drop, W: Write>(
     ensures run { IfSome (H.remaining history) (λ records. IfSome (C.remaining certificate) (λ text. IsCheckRun records text (W.contents out.old) (W.contents out.new) result)) }
     ensures shown { IfSome (H.remaining history) (λ records. IfSome (C.remaining certificate) (λ text. result ≡ 0 → IsShown records text)) }
 {
-    let outcome = checked(alloc, history, certificate);
-    match check_text(alloc, &outcome) {
-        Ok(text) => print_text(out, &text, check_status(&outcome)),
-        Err(NoMemory) => print_text(out, b"memory\n", Status::Memory),
-    }
+    certified();
+    print_check(alloc, &checked(alloc, history, certificate), out)
 }
 
 #[cfg(test)]

@@ -45,7 +45,7 @@ fn status_of(outcome: &Result<Answer, Halt>) -> Status
 }
 
 /// The line for want of memory.
-fn memory_line(json: bool) -> &'static [u8]
+pub fn memory_line(json: bool) -> &'static [u8]
     ensures { result.now ≡ memory_line json }
 {
     if json {
