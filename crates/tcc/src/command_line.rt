@@ -1,7 +1,7 @@
 //! What the command line asks for.
-ghost use Rattle.std.specs.Prelude.{◌≡◌, ◌⊎◌, IfErr, IfOk, map};
+ghost use Rattle.std.specs.Prelude.{◌≡◌, ◌⊎◌, false, IfErr, IfOk, map};
 ghost use Rattle.std.specs.String.{string_bytes};
-ghost use Rattle.clap.specs.Words.{FailsBy, app_of, fault_of, fields_of, found_of, kind_of, rows_of, rule_of, subcommand_rows_of};
+ghost use Rattle.clap.specs.Words.{FailsBy, app_of, fault_of, found_of, kind_of, rows_of, rule_of, subcommand_rows_of};
 ghost use Rattle.clap.specs.declared.error.kind.ErrorKind.TheVariants.{OutOfMemory};
 ghost use Rattle.tcc.specs.CommandLines.{Asks, AsksBy, AsksCheck, EndsUnasked, IsFlag, IsReading, check_command, end_of, explain_command, json_text, path, tcc_command};
 
@@ -30,8 +30,7 @@ pub enum Request {
 
 /// The subcommand that explains.
 fn explain_command<'a>(alloc: Global) -> Result<Command<'a>, AllocError>
-    ensures shape { IfOk result (λ made. app_of made ≡ explain_command) }
-    ensures own { IfOk result (λ made. (fields_of made).has_globals ≡ false) }
+    ensures { IfOk result (λ made. app_of made ≡ explain_command) }
 {
     let json = Arg::new(alloc, "json")
         .long("json")
@@ -57,20 +56,19 @@ fn path<'a>(alloc: Global, id: &'a str, name: &'a str, help: &'a str) -> Arg<'a>
 
 /// The subcommand that checks.
 fn check_command<'a>(alloc: Global) -> Result<Command<'a>, AllocError>
-    ensures shape { IfOk result (λ made. app_of made ≡ check_command) }
-    ensures own { IfOk result (λ made. (fields_of made).has_globals ≡ false) }
+    ensures { IfOk result (λ made. app_of made ≡ check_command) }
 {
-    let history = path(alloc, "history", "HISTORY", "The records of the history");
+    let history = path(alloc, "history", "HISTORY", "The file of the records");
     let certificate = path(
         alloc,
         "certificate",
         "CERTIFICATE",
-        "The text of the certificate",
+        "The file of the certificate",
     );
-    let check = Command::new(alloc, "check")
-        .about("Reads a history and a certificate and says whether the certificate proves its claim")
+    let half = Command::new(alloc, "check")
+        .about("Says whether a certificate proves its claim about a history")
         .arg(history)?;
-    check.arg(certificate)
+    half.arg(certificate)
 }
 
 /// The command by which words are read.
