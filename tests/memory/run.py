@@ -1,6 +1,5 @@
 #!/usr/bin/env python3
-"""Refuses each allocation of the built program in turn: the answer stays, or is the line `memory` (with
-`--json` an object) with status 5.
+"""Refuses each allocation of the built program in turn: the answer stays, or is the line for want of memory, status 5.
 
     run.py [--tcc PATH]
 

@@ -56,10 +56,14 @@ halted_by text why (Err h) gathering is = subst (λ h. MayBeOutcome text (Err h)
 -- what is printed of the outcome, or of want of memory in its place, is what a run may print
 pub runs : (json : Bool) (text : List ℕ) (before after : Option (List ℕ)) (o : Result Answer Halt) (code : ℕ)
     → MayBeOutcome text o → PrintsOutcome json before after o code → IsRun json text before after code
-runs json text before after o code may prints = (prints.0, elim prints.1 [
-  | inl same ↦ subst (MayBeOutcome text) (sym same) may
-  | inr memory ↦ inr memory
-], prints.2)
+runs json text before after o code may prints = (
+  prints.0,
+  elim prints.1 [
+    | inl same ↦ subst (MayBeOutcome text) (sym same) may
+    | inr memory ↦ inr memory
+  ],
+  prints.2,
+)
 
 -- the line for want of memory, as it is printed of that outcome
 memory_printed : (json : Bool) → memory_line json ≡ printed json (Err halt.NoMemory)

@@ -1,5 +1,5 @@
 -- The JSON of faults: one line with the compact text of one object, whose keys stand in byte order.
-use Rattle.std.specs.Prelude.{ℕ, List, map, codes}
+use Rattle.std.specs.Prelude.{List, map, codes}
 use Rattle.serde_json.specs.Data.{Data, Members, number, unsigned, string, array, object, no_members, member}
 use Rattle.serde_json.specs.View.{items_of}
 use Rattle.tcc_txn.specs.declared.rows.RowFault.{RowFault}

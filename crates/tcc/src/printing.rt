@@ -123,12 +123,7 @@ pub fn print_text<W: Write>(out: &mut W, text: &[u8], status: Status) -> u8
 
 /// Writes the outcome as text or as a line of JSON, and gives the status of the run. Where memory is wanting, that is
 /// written in its place.
-pub fn print<W: Write>(
-    alloc: Global,
-    outcome: &Result<Answer, Halt>,
-    json: bool,
-    out: &mut W,
-) -> u8
+pub fn print<W: Write>(alloc: Global, outcome: &Result<Answer, Halt>, json: bool, out: &mut W) -> u8
     ensures { PrintsOutcome json (W.contents out.old) (W.contents out.new) outcome.now result }
 {
     match write(alloc, outcome, json, out) {

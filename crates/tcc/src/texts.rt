@@ -38,7 +38,10 @@ pub fn row_fault(alloc: Global, fault: &RowFault) -> Result<Vec<u8>, NoMemory>
     let row = fault.row.to_string(alloc)?;
     let word = row_word(&fault.kind);
     let mut text = Vec::new(alloc);
-    push(&mut text, &[b"row ", row.as_bytes(), b": ", word.as_bytes()])?;
+    push(
+        &mut text,
+        &[b"row ", row.as_bytes(), b": ", word.as_bytes()],
+    )?;
     if let RowFaultKind::Unfinished { session } = &fault.kind {
         push(&mut text, &[b" ", session.bytes()])?;
     }
@@ -100,7 +103,10 @@ pub fn unresolved(alloc: Global, faults: &[ReadFault]) -> Result<Vec<u8>, NoMemo
 {
     let count = faults.len().to_string(alloc)?;
     let mut text = Vec::new(alloc);
-    push(&mut text, &[b"unresolved: ", count.as_bytes(), b" faults\n"])?;
+    push(
+        &mut text,
+        &[b"unresolved: ", count.as_bytes(), b" faults\n"],
+    )?;
     for fault in faults {
         push_read_fault(alloc, &mut text, fault)?;
     }

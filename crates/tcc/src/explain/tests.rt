@@ -10,12 +10,50 @@ const LONG_FORK: &str = "a,begin\na,w,x,1\na,commit\nb,begin\nb,w,y,1\nb,commit\
 const LONG_FORK_TEXT: &str =
     "consistent: 4 transactions, 4 sessions\norder: init a/1 b/1 c/1 d/1\n";
 
+const LONG_FORK_JSON: &str = "{\"answer\":\"consistent\",\
+    \"order\":[\"init\",\"a/1\",\"b/1\",\"c/1\",\"d/1\"],\"sessions\":4,\"transactions\":4}\n";
+
 const STALE: &str = "a,begin\na,w,x,1\na,commit\na,begin\na,r,x,0\na,commit\n";
+
+const STALE_TEXT: &str = "anomaly: 3 steps, stale-initial-read\nsession init -> a/1\n\
+    derived a/1 -> init by x, read by a/2\n  session a/1 -> a/2\n  against init -> a/2 by x\n";
+
+const STALE_JSON: &str =
+    "{\"answer\":\"anomaly\",\"cycle\":[{\"from\":\"init\",\"kind\":\"session\",\"to\":\"a/1\"},\
+    {\"from\":\"a/1\",\"key\":\"x\",\"kind\":\"derived\",\"reader\":\"a/2\",\"to\":\"init\",\
+    \"walk\":[{\"from\":\"a/1\",\"kind\":\"session\",\"to\":\"a/2\"}]}],\
+    \"shape\":\"stale-initial-read\",\"steps\":3}\n";
+
+const CIRCLE_TEXT: &str =
+    "anomaly: 2 steps, cyclic-causality\nreads a/1 -> b/1 by x\nreads b/1 -> a/1 by y\n";
+
+const CONFLICT_TEXT: &str = "anomaly: 4 steps, conflict-cycle\n\
+    derived a/1 -> b/1 by x, read by c/1\n  reads a/1 -> c/1 by x\n  against b/1 -> c/1 by x\n\
+    derived b/1 -> a/1 by x, read by c/1\n  reads b/1 -> c/1 by x\n  against a/1 -> c/1 by x\n";
 
 const ABORTED_READ: &str = "a,begin\na,w,x,1\na,abort\nb,begin\nb,r,x,1\nb,r,z,7\nb,commit\n";
 
 const ABORTED_READ_TEXT: &str =
     "unresolved: 2 faults\nAborted b/1 op 1 x 1\nThinAir b/1 op 2 z 7\n";
+
+const ABORTED_READ_JSON: &str = "{\"answer\":\"unresolved\",\"faults\":[\
+    {\"key\":\"x\",\"kind\":\"Aborted\",\"op\":1,\"place\":1,\"session\":\"b\",\"value\":1},\
+    {\"key\":\"z\",\"kind\":\"ThinAir\",\"op\":2,\"place\":1,\"session\":\"b\",\"value\":7}]}\n";
+
+// The records give this text, or line of JSON, and this status.
+fn gives(
+    rt: &(impl Abort + Threads + Sync),
+    alloc: Global,
+    records: &str,
+    json: bool,
+    text: &str,
+    status: u8,
+) {
+    let mut out = Vec::new(alloc);
+    let code = run_explain(rt, alloc, records.as_bytes(), &mut out, json);
+    assert_eq!(rt; out.as_slice(), text.as_bytes(), "for {records:?}");
+    assert_eq!(rt; code, status, "for {records:?}");
+}
 
 // The records give this text and this status.
 fn answers(
@@ -25,10 +63,7 @@ fn answers(
     text: &str,
     status: u8,
 ) {
-    let mut out = Vec::new(alloc);
-    let code = run_explain(rt, alloc, records.as_bytes(), &mut out);
-    assert_eq!(rt; out.as_slice(), text.as_bytes(), "for {records:?}");
-    assert_eq!(rt; code, status, "for {records:?}");
+    gives(rt, alloc, records, false, text, status);
 }
 
 #[test]
@@ -74,14 +109,55 @@ fn order_of_a_reason(rt: HostRuntime) -> Result<(), Fail> {
 }
 
 #[test]
-fn inconsistent_histories(rt: HostRuntime) -> Result<(), Fail> {
+fn anomalies(rt: HostRuntime) -> Result<(), Fail> {
     let alloc = rt.alloc();
-    answers(&rt, alloc, STALE, "inconsistent\n", 1);
+    answers(&rt, alloc, STALE, STALE_TEXT, 1);
     let circle = "a,begin\na,w,x,1\na,r,y,1\na,commit\nb,begin\nb,w,y,1\nb,r,x,1\nb,commit\n";
-    answers(&rt, alloc, circle, "inconsistent\n", 1);
+    answers(&rt, alloc, circle, CIRCLE_TEXT, 1);
     let conflict = "a,begin\na,w,x,1\na,commit\nb,begin\nb,w,x,2\nb,commit\n\
         c,begin\nc,r,x,1\nc,r,x,2\nc,commit\n";
-    answers(&rt, alloc, conflict, "inconsistent\n", 1);
+    answers(&rt, alloc, conflict, CONFLICT_TEXT, 1);
+    Ok(())
+}
+
+// A place counts aborted transactions, and of two least anomalies the one of the first start is printed, whichever
+// was recorded first.
+#[test]
+fn labels_of_anomalies(rt: HostRuntime) -> Result<(), Fail> {
+    let alloc = rt.alloc();
+    let records = "b,begin\nb,w,y,1\nb,commit\nb,begin\nb,r,y,0\nb,commit\n\
+        a,begin\na,w,x,9\na,abort\na,begin\na,w,x,1\na,commit\na,begin\na,abort\na,begin\na,r,x,0\na,commit\n";
+    let text = "anomaly: 3 steps, stale-initial-read\nsession init -> a/2\n\
+        derived a/2 -> init by x, read by a/4\n  session a/2 -> a/4\n  against init -> a/4 by x\n";
+    answers(&rt, alloc, records, text, 1);
+    Ok(())
+}
+
+#[test]
+fn answers_as_json(rt: HostRuntime) -> Result<(), Fail> {
+    let alloc = rt.alloc();
+    let nothing =
+        "{\"answer\":\"consistent\",\"order\":[\"init\"],\"sessions\":0,\"transactions\":0}\n";
+    gives(&rt, alloc, "", true, nothing, 0);
+    gives(&rt, alloc, LONG_FORK, true, LONG_FORK_JSON, 0);
+    gives(&rt, alloc, STALE, true, STALE_JSON, 1);
+    gives(&rt, alloc, ABORTED_READ, true, ABORTED_READ_JSON, 2);
+    gives(&rt, alloc, "seal\n", true, "refused\n", 3);
+    Ok(())
+}
+
+#[test]
+fn row_faults_as_json(rt: HostRuntime) -> Result<(), Fail> {
+    let alloc = rt.alloc();
+    let not_begun = "{\"answer\":\"row\",\"kind\":\"NotBegun\",\"row\":1}\n";
+    gives(&rt, alloc, "a,r,x,0\n", true, not_begun, 3);
+    let unfinished = "{\"answer\":\"row\",\"kind\":\"Unfinished\",\"row\":3,\"session\":\"a\"}\n";
+    let records = "b,begin\na,begin\na,r,x,0\n";
+    gives(&rt, alloc, records, true, unfinished, 3);
+    let greatest = "a,begin\na,r,x,18446744073709551615\na,commit\n";
+    let thin_air = "{\"answer\":\"unresolved\",\"faults\":[{\"key\":\"x\",\"kind\":\"ThinAir\",\
+        \"op\":1,\"place\":1,\"session\":\"a\",\"value\":18446744073709551615}]}\n";
+    gives(&rt, alloc, greatest, true, thin_air, 2);
     Ok(())
 }
 
@@ -172,7 +248,7 @@ fn each_front_of_an_input(rt: HostRuntime) -> Result<(), Fail> {
         (40, "row 5: BadValue\n", 3),
         (42, "row 5: Unfinished a\n", 3),
         (49, "row 6: UnknownWord\n", 3),
-        (51, "inconsistent\n", 1),
+        (51, STALE_TEXT, 1),
     ];
     let mut reached = 0;
     for (after, text, status) in fronts {
@@ -204,13 +280,19 @@ impl Read for Broken<'_> {
 #[test]
 fn reader_fails(rt: HostRuntime) -> Result<(), Fail> {
     let alloc = rt.alloc();
-    let mut out = Vec::new(alloc);
-    let reader = Broken {
-        bytes: &STALE.as_bytes()[..12],
-    };
-    let code = run_explain(&rt, alloc, reader, &mut out);
-    assert_eq!(rt; out.as_slice(), b"row 2: Read\n".as_slice());
-    assert_eq!(rt; code, 6);
+    let lines = [
+        (false, "row 2: Read\n"),
+        (true, "{\"answer\":\"row\",\"kind\":\"Read\",\"row\":2}\n"),
+    ];
+    for (json, line) in lines {
+        let mut out = Vec::new(alloc);
+        let reader = Broken {
+            bytes: &STALE.as_bytes()[..12],
+        };
+        let code = run_explain(&rt, alloc, reader, &mut out, json);
+        assert_eq!(rt; out.as_slice(), line.as_bytes());
+        assert_eq!(rt; code, 6);
+    }
     Ok(())
 }
 
@@ -247,6 +329,7 @@ fn fails_at_each_write(
     rt: &(impl Abort + Threads + Sync),
     alloc: Global,
     records: &str,
+    json: bool,
     text: &str,
     status: u8,
     kind: Option<ErrorKind>,
@@ -257,7 +340,7 @@ fn fails_at_each_write(
             room,
             kind,
         };
-        let code = run_explain(rt, alloc, records.as_bytes(), &mut out);
+        let code = run_explain(rt, alloc, records.as_bytes(), &mut out, json);
         assert_eq!(rt; out.taken.as_slice(), &text.as_bytes()[..room]);
         let wanted = if room < text.len() { 6 } else { status };
         assert_eq!(rt; code, wanted);
@@ -269,11 +352,14 @@ fn writer_fails(rt: HostRuntime) -> Result<(), Fail> {
     let alloc = rt.alloc();
     let refusals = [Some(ErrorKind::Other), Some(ErrorKind::Interrupted), None];
     for kind in refusals {
-        fails_at_each_write(&rt, alloc, LONG_FORK, LONG_FORK_TEXT, 0, kind);
-        fails_at_each_write(&rt, alloc, STALE, "inconsistent\n", 1, kind);
-        fails_at_each_write(&rt, alloc, ABORTED_READ, ABORTED_READ_TEXT, 2, kind);
-        fails_at_each_write(&rt, alloc, "stop\n", "row 1: UnknownWord\n", 3, kind);
-        fails_at_each_write(&rt, alloc, "seal\n", "refused\n", 3, kind);
+        fails_at_each_write(&rt, alloc, LONG_FORK, false, LONG_FORK_TEXT, 0, kind);
+        fails_at_each_write(&rt, alloc, STALE, false, STALE_TEXT, 1, kind);
+        fails_at_each_write(&rt, alloc, ABORTED_READ, false, ABORTED_READ_TEXT, 2, kind);
+        fails_at_each_write(&rt, alloc, "stop\n", false, "row 1: UnknownWord\n", 3, kind);
+        fails_at_each_write(&rt, alloc, "seal\n", false, "refused\n", 3, kind);
     }
+    let other = Some(ErrorKind::Other);
+    fails_at_each_write(&rt, alloc, STALE, true, STALE_JSON, 1, other);
+    fails_at_each_write(&rt, alloc, ABORTED_READ, true, ABORTED_READ_JSON, 2, other);
     Ok(())
 }
