@@ -1,8 +1,10 @@
 -- What some command lines ask for, by clap's own words.
 use Rattle.std.proofs.Common.{◌≡◌, true, [], ◌∷◌, Some, refl, codes}
+use Rattle.std.specs.Prelude.{option_and_then, option_map}
+use Rattle.clap.specs.Walk.{first_of}
 use Rattle.clap.specs.Faults.{fault_of, is_simple_and_free}
 use Rattle.clap.specs.Simple.{is_simple, subcommand_of}
-use Rattle.clap.specs.declared.error.kind.ErrorKind.TheVariants.{ArgumentConflict, DisplayHelp, InvalidSubcommand, MissingSubcommand, TooManyValues, UnknownArgument}
+use Rattle.clap.specs.declared.error.kind.ErrorKind.TheVariants.{ArgumentConflict, DisplayHelp, InvalidSubcommand, MissingRequiredArgument, MissingSubcommand, TooManyValues, UnknownArgument}
 use Rattle.clap.proofs.OnLiterals.{clap_on_literals}
 use Rattle.tcc.specs.CommandLines.{tcc_command, json_text}
 
@@ -30,6 +32,34 @@ as_json = refl
 explain_as_json : json_text (subcommand_of tcc_command (codes "tcc" ∷ codes "explain" ∷ codes "--json" ∷ [])) ≡ Some (codes "true")
 unfolding clap_on_literals
 explain_as_json = refl
+
+check : fault_of tcc_command (codes "tcc" ∷ codes "check" ∷ codes "h.csv" ∷ codes "c.txt" ∷ []) ≡ []
+unfolding clap_on_literals
+check = refl
+
+-- the first word is the history's path, and the second the certificate's
+check_history : option_and_then (λ met. first_of (codes "history") met.1) (subcommand_of tcc_command (codes "tcc" ∷ codes "check" ∷ codes "h.csv" ∷ codes "c.txt" ∷ []))
+    ≡ Some (codes "h.csv")
+unfolding clap_on_literals
+check_history = refl
+
+check_certificate : option_and_then (λ met. first_of (codes "certificate") met.1) (subcommand_of tcc_command (codes "tcc" ∷ codes "check" ∷ codes "h.csv" ∷ codes "c.txt" ∷ []))
+    ≡ Some (codes "c.txt")
+unfolding clap_on_literals
+check_certificate = refl
+
+check_by_name : option_map (λ met. met.0) (subcommand_of tcc_command (codes "tcc" ∷ codes "check" ∷ codes "h.csv" ∷ codes "c.txt" ∷ [])) ≡ Some (codes "check")
+unfolding clap_on_literals
+check_by_name = refl
+
+-- both have to be given, and no third
+one_path : fault_of tcc_command (codes "tcc" ∷ codes "check" ∷ codes "h.csv" ∷ []) ≡ MissingRequiredArgument ∷ []
+unfolding clap_on_literals
+one_path = refl
+
+three_paths : fault_of tcc_command (codes "tcc" ∷ codes "check" ∷ codes "a" ∷ codes "b" ∷ codes "c" ∷ []) ≡ UnknownArgument ∷ []
+unfolding clap_on_literals
+three_paths = refl
 
 nothing : fault_of tcc_command (codes "tcc" ∷ []) ≡ MissingSubcommand ∷ []
 unfolding clap_on_literals

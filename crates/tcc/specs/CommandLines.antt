@@ -1,6 +1,7 @@
 -- What the words of a command line ask for, and how a run ends that answers nothing.
-use Rattle.std.specs.Prelude.{ℕ, ◌≡◌, ◌⊎◌, Bool, true, false, List, [], Option, None, Some, option_map, option_and_then, Result, Ok, Err, codes}
-use Rattle.clap.specs.Walk.{Row, Rule, Text, one_of}
+use Rattle.std.specs.Prelude.{ℕ, ◌≡◌, ◌≢◌, ◌⊎◌, Bool, true, false, List, [], Option, None, Some, option_map, option_and_then, Result, Ok, Err, codes}
+use Rattle.std.specs.String.{string_bytes}
+use Rattle.clap.specs.Walk.{Row, Rule, Text, first_of, one_of}
 use Rattle.clap.specs.Simple.{App, Shape, new_app, new_rule, on_top, subcommand_of, with_rule, with_subcommand}
 use Rattle.clap.specs.declared.builder.action.ArgAction.TheVariants.{SetTrue}
 use Rattle.clap.specs.Faults.{fault_of}
@@ -8,7 +9,7 @@ use Rattle.clap.specs.Kinds.{IsAmong}
 use Rattle.clap.specs.declared.error.kind.ErrorKind.{ErrorKind}
 use Rattle.clap.specs.declared.error.kind.ErrorKind.TheVariants.{DisplayHelp, DisplayVersion, OutOfMemory}
 use Rattle.tcc.specs.declared.command_line.Request.{Request}
-use Rattle.tcc.specs.declared.command_line.Request.TheVariants.{Explain}
+use Rattle.tcc.specs.declared.command_line.Request.TheVariants.{Explain, Check}
 use Rattle.tcc.specs.declared.status.Status.{Status}
 use Rattle.tcc.specs.declared.status.Status.TheVariants.{Success, Memory, Device, Usage}
 
@@ -19,9 +20,20 @@ with_subcommand_required s = record s { subcommand_required = true }
 abbrev pub json_flag : Rule
 json_flag = record (new_rule (codes "json")) { long = Some (codes "json"); action = Some SetTrue }
 
--- tcc explain [--json]: the program's name, and its one subcommand, which has to be given, with its one flag
+abbrev pub explain_command : App
+explain_command = with_rule (new_app (codes "explain")) json_flag
+
+-- a path, which has to be given, and which help calls by one name
+abbrev pub path : Text → Rule
+path id = record (new_rule id) { value_names = 1; required = true }
+
+abbrev pub check_command : App
+check_command = with_rule (with_rule (new_app (codes "check")) (path (codes "history"))) (path (codes "certificate"))
+
+-- tcc explain [--json], or tcc check HISTORY CERTIFICATE: the program's name, and its subcommands, one of which has to be given
 abbrev pub tcc_command : App
-tcc_command = with_subcommand (on_top with_subcommand_required (new_app (codes "tcc"))) (with_rule (new_app (codes "explain")) json_flag).top
+tcc_command =
+    with_subcommand (with_subcommand (on_top with_subcommand_required (new_app (codes "tcc"))) explain_command.top) check_command.top
 
 -- what clap reads of the flag in the matches of a subcommand that was met
 abbrev pub json_text : Option (Text × List Row) → Option Text
@@ -32,9 +44,20 @@ abbrev pub IsFlag : Option Text → Bool → Type 0
 IsFlag text set =
     (text ≡ Some (codes "true") → set ≡ true) × ((text ≡ Some (codes "false") → set ≡ false) × (text ≡ None → set ≡ false))
 
--- JSON is asked for by the flag, as clap finds it among the words
+-- the paths are those that clap finds
+abbrev pub AsksCheck : List Row → Request → Type 0
+AsksCheck rows (Explain json) = ⊥
+AsksCheck rows (Check history certificate) =
+    (first_of (codes "history") rows ≡ Some (string_bytes history)) × (first_of (codes "certificate") rows ≡ Some (string_bytes certificate))
+
+-- what the subcommand that was met asks for: a check by its name with its two paths; else an answer, as JSON by the flag
+abbrev pub AsksBy : Option (Text × List Row) → Request → Type 0
+AsksBy met (Explain json) = (option_map (λ entered. entered.0) met ≢ Some (codes "check")) × IsFlag (json_text met) json
+AsksBy None (Check history certificate) = ⊥
+AsksBy (Some entered) (Check history certificate) = (entered.0 ≡ codes "check") × AsksCheck entered.1 (Check history certificate)
+
 abbrev pub Asks : List Text → Request → Type 0
-Asks words (Explain json) = IsFlag (json_text (subcommand_of tcc_command words)) json
+Asks words request = AsksBy (subcommand_of tcc_command words) request
 
 -- how a run ends that was refused, or asked for help: by what clap says of it, and by whether clap's text went out
 abbrev pub end_of : ErrorKind → Bool → Status
@@ -45,8 +68,8 @@ end_of DisplayVersion false = Device
 end_of OutOfMemory _ = Memory
 end_of _ _ = Usage
 
--- a run is asked for, as JSON or not, only where clap finds no fault in the words; else the run ends as one of their faults has it, or for
--- want of memory
+-- a run is asked for only where clap finds no fault in the words, and it is the one that they ask for; else the run ends as
+-- one of their faults has it, or for want of memory
 abbrev pub IsReading : List (List ℕ) → Result Request Status → Type 0
 IsReading words (Ok request) = (fault_of tcc_command words ≡ []) × Asks words request
 IsReading words (Err status) =

@@ -6,3 +6,7 @@ pub mod Gathered
 pub mod Answers
 pub mod Halts
 pub mod CommandLines
+pub mod Unjudged
+pub mod Verdicts
+pub mod Checks
+pub mod Files

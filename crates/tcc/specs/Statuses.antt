@@ -1,7 +1,7 @@
 -- The numbers that a run ends with.
 use Rattle.std.specs.Prelude.{ℕ, Result, Ok, Err}
 use Rattle.tcc.specs.declared.status.Status.{Status}
-use Rattle.tcc.specs.declared.status.Status.TheVariants.{Success, Anomaly, ReadFaults, RowFault, Limit, Memory, Device, Usage}
+use Rattle.tcc.specs.declared.status.Status.TheVariants.{Success, Anomaly, ReadFaults, RowFault, Limit, Memory, Device, Rejected, CertificateFault, Usage}
 use Rattle.tcc_txn.specs.declared.rows.RowFaultKind.{RowFaultKind}
 use Rattle.tcc_txn.specs.declared.rows.RowFaultKind.TheVariants.{FieldCount, BadSession, UnknownWord, BadKey, BadValue, WriteOfZero, NotBegun, AlreadyBegun, TooManyOps, TooManySessions, TooManyTransactions, TooManyKeys, TooManySeals, Unfinished, Read, NoMemory}
 use Rattle.tcc_explain.specs.declared.answer.Answer.{Answer}
@@ -18,6 +18,8 @@ code_of RowFault = 3
 code_of Limit = 4
 code_of Memory = 5
 code_of Device = 6
+code_of Rejected = 7
+code_of CertificateFault = 8
 code_of Usage = 64
 
 -- how a run ends that a row fault ended

@@ -1,8 +1,9 @@
 //! What the command line asks for.
-ghost use Rattle.std.specs.Prelude.{◌≡◌, ◌⊎◌, IfErr, IfOk, map};
+ghost use Rattle.std.specs.Prelude.{◌≡◌, ◌⊎◌, false, IfErr, IfOk, map};
 ghost use Rattle.std.specs.String.{string_bytes};
-ghost use Rattle.clap.specs.Words.{FailsBy, app_of, fault_of, subcommand_rows_of};
-ghost use Rattle.tcc.specs.CommandLines.{Asks, EndsUnasked, IsFlag, IsReading, end_of, json_text, tcc_command};
+ghost use Rattle.clap.specs.Words.{FailsBy, app_of, fault_of, found_of, kind_of, rows_of, rule_of, subcommand_rows_of};
+ghost use Rattle.clap.specs.declared.error.kind.ErrorKind.TheVariants.{OutOfMemory};
+ghost use Rattle.tcc.specs.CommandLines.{Asks, AsksBy, AsksCheck, EndsUnasked, IsFlag, IsReading, check_command, end_of, explain_command, json_text, path, tcc_command};
 
 use crate::status::Status;
 use clap::error::ErrorKind;
@@ -11,32 +12,76 @@ use std::alloc::{AllocError, Global};
 use std::{env, io};
 
 /// What the program is asked to do.
-#[derive(Clone, Copy, Debug, PartialEq, Eq)]
+#[derive(Debug, Drop, PartialEq, Eq)]
 pub enum Request {
     /// Answer for the records of the standard input.
     Explain {
         /// Whether the answer is wanted as JSON.
         json: bool,
     },
+    /// Judge a certificate for a history.
+    Check {
+        /// The path of the history's records.
+        history: String,
+        /// The path of the certificate's text.
+        certificate: String,
+    },
+}
+
+/// The subcommand that explains.
+fn explain_command<'a>(alloc: Global) -> Result<Command<'a>, AllocError>
+    ensures { IfOk result (λ made. app_of made ≡ explain_command) }
+{
+    let json = Arg::new(alloc, "json")
+        .long("json")
+        .help("Answers in one line of JSON")
+        .action(ArgAction::SetTrue);
+    Command::new(alloc, "explain")
+        .about(
+            "Reads records from standard input and says whether the history is causally consistent",
+        )
+        .arg(json)
+}
+
+/// A path, which has to be given.
+fn path<'a>(alloc: Global, id: &'a str, name: &'a str, help: &'a str) -> Arg<'a>
+    ensures rule { rule_of result ≡ path id.now }
+    ensures own { result.global ≡ false }
+{
+    Arg::new(alloc, id)
+        .value_name(name)
+        .help(help)
+        .required(true)
+}
+
+/// The subcommand that checks.
+fn check_command<'a>(alloc: Global) -> Result<Command<'a>, AllocError>
+    ensures { IfOk result (λ made. app_of made ≡ check_command) }
+{
+    let history = path(alloc, "history", "HISTORY", "The file of the records");
+    let certificate = path(
+        alloc,
+        "certificate",
+        "CERTIFICATE",
+        "The file of the certificate",
+    );
+    let half = Command::new(alloc, "check")
+        .about("Says whether a certificate proves its claim about a history")
+        .arg(history)?;
+    half.arg(certificate)
 }
 
 /// The command by which words are read.
 fn command<'a>(alloc: Global) -> Result<Command<'a>, AllocError>
     ensures { IfOk result (λ made. app_of made ≡ tcc_command) }
 {
-    let json = Arg::new(alloc, "json")
-        .long("json")
-        .help("Answers in one line of JSON")
-        .action(ArgAction::SetTrue);
-    let explain = Command::new(alloc, "explain")
-        .about(
-            "Reads records from standard input and says whether the history is causally consistent",
-        )
-        .arg(json)?;
-    Command::new(alloc, "tcc")
+    let explain = explain_command(alloc)?;
+    let check = check_command(alloc)?;
+    let tcc = Command::new(alloc, "tcc")
         .about("Checks and explains causal consistency of transaction histories")
         .subcommand_required(true)
-        .subcommand(explain)
+        .subcommand(explain)?;
+    tcc.subcommand(check)
 }
 
 /// Whether the flag of the subcommand is set.
@@ -49,14 +94,40 @@ fn is_json(matches: &ArgMatches) -> bool
     }
 }
 
+/// The two files to check.
+fn paths_of(alloc: Global, matches: &ArgMatches) -> Result<Request, Error>
+    ensures asked { IfOk result (AsksCheck (rows_of (found_of matches.now))) }
+    ensures fails { IfErr result (λ e. kind_of e ≡ OutOfMemory) }
+{
+    match (matches.get_str("history"), matches.get_str("certificate")) {
+        (Some(history), Some(certificate)) => Ok(Request::Check {
+            history: history.to_string(alloc)?,
+            certificate: certificate.to_string(alloc)?,
+        }),
+        // Words without both are a fault by clap, so only memory can be wanting.
+        _ => Err(Error::from(AllocError)),
+    }
+}
+
+/// What the matches ask for, by the subcommand that was met.
+fn asked_of(alloc: Global, matches: &ArgMatches) -> Result<Request, Error>
+    ensures asked { IfOk result (AsksBy (subcommand_rows_of matches.now)) }
+    ensures fails { IfErr result (λ e. kind_of e ≡ OutOfMemory) }
+{
+    match matches.subcommand() {
+        Some((name, check)) if name == "check" => paths_of(alloc, check),
+        _ => Ok(Request::Explain {
+            json: is_json(matches),
+        }),
+    }
+}
+
 fn parse(alloc: Global, words: &[String]) -> Result<Request, Error>
     ensures fails { FailsBy (fault_of tcc_command (map string_bytes words.now)) result }
     ensures asked { IfOk result (Asks (map string_bytes words.now)) }
 {
     let matches = command(alloc)?.try_get_matches_from(words)?;
-    Ok(Request::Explain {
-        json: is_json(&matches),
-    })
+    asked_of(alloc, &matches)
 }
 
 /// How a run ends that asked for help, or was refused, by whether the text of that went out.

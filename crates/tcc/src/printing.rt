@@ -14,7 +14,8 @@ use tcc_explain::sending::send;
 use tcc_explain::{Answer, WriteFault, write_json, write_text};
 use tcc_txn::RowFaultKind;
 
-fn row_status(kind: &RowFaultKind) -> Status
+/// How a run ends that a row fault ended.
+pub fn row_status(kind: &RowFaultKind) -> Status
     ensures { result ≡ row_status kind.now }
 {
     match kind {
@@ -44,7 +45,7 @@ fn status_of(outcome: &Result<Answer, Halt>) -> Status
 }
 
 /// The line for want of memory.
-fn memory_line(json: bool) -> &'static [u8]
+pub fn memory_line(json: bool) -> &'static [u8]
     ensures { result.now ≡ memory_line json }
 {
     if json {

@@ -5,7 +5,7 @@ ghost use Rattle.tcc.specs.Statuses.{code_of};
 /// How a run ended; the process passes it on as its status.
 #[derive(Clone, Copy, Debug, PartialEq, Eq)]
 pub enum Status {
-    /// Consistent, or help was asked for.
+    /// Consistent, accepted, or help was asked for.
     Success,
     /// The history is not causally consistent.
     Anomaly,
@@ -19,6 +19,10 @@ pub enum Status {
     Memory,
     /// The reader or the writer failed.
     Device,
+    /// The certificate breaks a rule.
+    Rejected,
+    /// The text of the certificate has a fault.
+    CertificateFault,
     /// The command line is wrong.
     Usage,
 }
@@ -36,6 +40,8 @@ impl Status {
             Status::Limit => 4,
             Status::Memory => 5,
             Status::Device => 6,
+            Status::Rejected => 7,
+            Status::CertificateFault => 8,
             Status::Usage => 64,
         }
     }

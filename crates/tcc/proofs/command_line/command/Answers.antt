@@ -1,18 +1,26 @@
 -- What each call adds to the command.
-use Rattle.std.proofs.Common.{◌≡◌, ◌∙◌, ap, ap₂, rules, codes}
+use Rattle.std.proofs.Common.{◌≡◌, ◌∙◌, ap, ap₂, rules, codes, Bool, true, false, refl}
+use Rattle.std.specs.Prelude.{◌&&◌, not}
 use Rattle.std.proofs.lemmas.Result.{IfOk-weaker}
-use Rattle.clap.specs.Words.{App, app_of, new_app, rule_of, with_rule, with_subcommand}
+use Rattle.clap.specs.Words.{App, app_of, new_app, with_subcommand}
 use Rattle.clap.specs.Simple.{on_top}
-use Rattle.tcc.specs.CommandLines.{json_flag, with_subcommand_required}
+use Rattle.tcc.specs.CommandLines.{explain_command, with_subcommand_required}
 use Rattle.tcc.proofs.command_line.command.Goals as goal
+
+-- a plain command has no global argument
+no_globals : (groups external globals others : Bool) → (groups && (not external && (not globals && others))) ≡ true → globals ≡ false
+no_globals true false false others plain = refl
+no_globals true false true others plain = cc
+no_globals true true globals others plain = let bad : ⊥ = cc in absurd bad
+no_globals false external globals others plain = let bad : ⊥ = cc in absurd bad
 
 pub returns : goal.returns
 returns c =
-    let flag_is : rule_of c.action-json.result ≡ json_flag = search rules in
-    let bare_is : app_of c.about.result ≡ new_app (codes "explain") = search rules in
-    let explain_is : app_of c.in_ok-explain.explain ≡ with_rule (new_app (codes "explain")) json_flag
-    = c.in_ok-explain.ensures.shape (search rules) ∙ ap₂ with_rule bare_is flag_is in
     let above_is : app_of c.subcommand_required.result ≡ on_top with_subcommand_required (new_app (codes "tcc")) = search rules in
-    IfOk-weaker c.subcommand.result _ _
-    (λ made adds. adds.shape (search rules) ∙ ap₂ with_subcommand above_is (ap (λ (a : App). a.top) explain_is))
-    c.subcommand.ensures
+    let tcc_is : app_of c.in_ok-tcc.tcc ≡ with_subcommand (on_top with_subcommand_required (new_app (codes "tcc"))) explain_command.top
+    = c.in_ok-tcc.ensures.shape (no_globals _ _ _ _ (ap (λ (a : App). a.top.is_plain) c.in_ok-explain.ensures))
+    ∙ ap₂ with_subcommand above_is (ap (λ (a : App). a.top) c.in_ok-explain.ensures) in
+    IfOk-weaker c.subcommand-2.result _ _
+    (λ made adds. adds.shape (no_globals _ _ _ _ (ap (λ (a : App). a.top.is_plain) c.in_ok-check.ensures))
+    ∙ ap₂ with_subcommand tcc_is (ap (λ (a : App). a.top) c.in_ok-check.ensures))
+    c.subcommand-2.ensures

@@ -1,17 +1,30 @@
 -- The command is the known one, of which clap says all.
-use Rattle.std.proofs.Common.{◌≡◌, [], true, subst, map, string_bytes}
-use Rattle.clap.specs.Words.{HasMatchesOf, fault_of, is_simple_and_free}
-use Rattle.tcc.specs.CommandLines.{IsFlag, json_text}
+use Rattle.std.proofs.Common.{◌≡◌, [], true, Ok, Err, subst, sym, map, string_bytes, inl}
+use Rattle.std.specs.Prelude.{Result, IfErr}
+use Rattle.std.proofs.lemmas.Result.{IfOk-weaker}
+use Rattle.clap.specs.Words.{FailsBy, HasMatchesOf, Kinds, fault_of, is_simple_and_free, kind_of}
+use Rattle.clap.specs.declared.error.Error.{Error}
+use Rattle.clap.specs.declared.error.kind.ErrorKind.TheVariants.{OutOfMemory}
+use Rattle.tcc.specs.CommandLines.{AsksBy}
+use Rattle.tcc.specs.declared.command_line.Request.{Request}
 use Rattle.tcc.proofs.WorkedCommandLines.{is_exact, is_simple_command}
 use Rattle.tcc.proofs.command_line.parse.Goals as goal
 
+-- without a fault in the words only memory can be wanting
+only_memory : (kinds : Kinds) (r : Result Request Error) → kinds ≡ [] → IfErr r (λ e. kind_of e ≡ OutOfMemory) → FailsBy kinds r
+only_memory kinds (Ok request) none fails = none
+only_memory kinds (Err error) none fails = inl fails
+
 pub returns-clause-fails : goal.returns-clause-fails
 returns-clause-fails c =
-    subst (λ a. is_simple_and_free a ≡ true → fault_of a (map string_bytes c.args.words.now) ≡ []) c.in_ok-command.ensures
-    c.in_ok-matches.ensures.kinds is_exact
+    only_memory _ c.asked_of.result
+    (subst (λ a. is_simple_and_free a ≡ true → fault_of a (map string_bytes c.args.words.now) ≡ []) c.in_ok-command.ensures
+    c.in_ok-matches.ensures.kinds is_exact)
+    c.asked_of.ensures.fails
 
 pub returns-clause-asked : goal.returns-clause-asked
 returns-clause-asked c =
     let m = c.in_ok-matches.matches in
     let of_words = subst (λ a. HasMatchesOf a (map string_bytes c.args.words.now) m) c.in_ok-command.ensures c.in_ok-matches.ensures.matches in
-    subst (λ met. IsFlag (json_text met) c.is_json.result) (of_words is_simple_command).1 c.is_json.ensures
+    IfOk-weaker c.asked_of.result _ _ (λ request asks. subst (λ met. AsksBy met request) (of_words is_simple_command).1 asks)
+    c.asked_of.ensures.asked

@@ -1,0 +1,16 @@
+-- What is printed where a file can't be opened, and how the run then ends.
+use Rattle.std.specs.Prelude.{ℕ, List, false, codes}
+use Rattle.std.specs.declared.io.ErrorKind.{ErrorKind}
+use Rattle.std.specs.declared.io.ErrorKind.TheVariants.{OutOfMemory}
+use Rattle.tcc.specs.declared.status.Status.{Status}
+use Rattle.tcc.specs.declared.status.Status.TheVariants.{Memory, Device}
+use Rattle.tcc.specs.Printed.{memory_line}
+
+-- the line for the device, or for want of memory
+abbrev pub unopened_text : ErrorKind → List ℕ
+unopened_text OutOfMemory = memory_line false
+unopened_text _ = codes "device\n"
+
+abbrev pub unopened_status : ErrorKind → Status
+unopened_status OutOfMemory = Memory
+unopened_status _ = Device

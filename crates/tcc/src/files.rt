@@ -1,0 +1,39 @@
+//! The files that the command line names.
+ghost use Rattle.tcc.specs.Files.{unopened_text, unopened_status};
+ghost use Rattle.tcc.specs.Printed.{Prints};
+
+use crate::check::run_check;
+use crate::printing::{memory_line, print_text};
+use crate::status::Status;
+use std::fs::{self, File};
+use std::io::{self, ErrorKind, Write};
+
+/// Opens both files, the history before the certificate.
+fn open_both(rt: &HostRuntime, history: &str, certificate: &str) -> io::Result<(File, File)> {
+    let history = fs::open(rt, history)?;
+    let certificate = fs::open(rt, certificate)?;
+    Ok((history, certificate))
+}
+
+/// Writes that a file can't be opened, and gives the status of the run.
+fn print_unopened<W: Write>(kind: ErrorKind, out: &mut W) -> u8
+    ensures { Prints (W.contents out.old) (W.contents out.new) (unopened_text kind) (unopened_status kind) result }
+{
+    match kind {
+        ErrorKind::OutOfMemory => print_text(out, memory_line(false), Status::Memory),
+        _ => print_text(out, b"device\n", Status::Device),
+    }
+}
+
+/// Checks the certificate in the one file for the history in the other, and gives the status of the run.
+pub fn check_files<W: Write>(
+    rt: &HostRuntime,
+    history: &str,
+    certificate: &str,
+    out: &mut W,
+) -> u8 {
+    match open_both(rt, history, certificate) {
+        Ok((history, certificate)) => run_check(rt.alloc(), history, certificate, out),
+        Err(error) => print_unopened(error.kind(), out),
+    }
+}
