@@ -60,7 +60,7 @@ pub of_history : (records text : List ℕ) (h : History) (o : Result Judged Unju
     → MayBeTextCheck h text o → MayBeCheck records text o
 of_history records text h o is (inl check) =
     inl (subst (λ fault. IsRecordsCheck (answers_of records).items fault text o) (sym is.0)
-        (is.1.0, is.1.1, inr (is.1.2.0, subst (λ h. IsTextCheck h text o) is.1.2.1 check)))
+    (is.1.0, is.1.1, inr (is.1.2.0, subst (λ h. IsTextCheck h text o) is.1.2.1 check)))
 of_history records text h o is (inr memory) = inr (inr memory)
 
 -- what comes of records without a history
@@ -70,7 +70,7 @@ no_history records text (Row fault) (inl is) =
 no_history records text (Row fault) (inr read) = inr (inl (fault.row, ap (λ k. Err (Row (record { row = fault.row; kind = k }))) read))
 no_history records text (Reads faults) is =
     inl (subst (λ found. IsRecordsCheck (answers_of records).items found text (Err (Reads faults))) (sym is.0)
-        (is.1.0, is.1.1, inl is.1.2))
+    (is.1.0, is.1.1, inl is.1.2))
 no_history records text (Text fault) is = absurd is
 no_history records text NoMemory is = inr (inr refl)
 

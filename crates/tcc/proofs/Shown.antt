@@ -133,7 +133,11 @@ printed_memory before after o line code is prints =
 -- what is printed of the outcome, or of want of memory in its place, is what a run may print
 pub runs : (records text : List ℕ) (before after : Option (List ℕ)) (o : Result Judged Unjudged) (code : ℕ)
     → MayBeCheck records text o → PrintsCheck before after o code → IsCheckRun records text before after code
-runs records text before after o code may prints = (prints.0, elim prints.1 [
-  | inl same ↦ subst (MayBeCheck records text) (sym same) may
-  | inr memory ↦ inr (inr memory)
-], prints.2)
+runs records text before after o code may prints = (
+  prints.0,
+  elim prints.1 [
+    | inl same ↦ subst (MayBeCheck records text) (sym same) may
+    | inr memory ↦ inr (inr memory)
+  ],
+  prints.2,
+)

@@ -28,10 +28,12 @@ fn main(rt: HostRuntime) -> ExitCode {
     let mut out = io::writer(&rt);
     let code = match command_line::read(&rt) {
         Ok(Request::Explain { json }) => run_explain(&rt, rt.alloc(), rt.stdin(), &mut out, json),
-        Ok(Request::Check {
-            history,
-            certificate,
-        }) => check_files(&rt, history.as_str(), certificate.as_str(), &mut out),
+        Ok(
+            Request::Check {
+                history,
+                certificate,
+            },
+        ) => check_files(&rt, history.as_str(), certificate.as_str(), &mut out),
         Err(Status::Memory) => print_text(&mut out, b"memory\n", Status::Memory),
         Err(status) => status.code(),
     };

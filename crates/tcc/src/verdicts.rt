@@ -38,7 +38,13 @@ fn text_fault(alloc: Global, fault: &CertFault) -> Result<Vec<u8>, NoMemory>
     let mut text = Vec::new(alloc);
     push(
         &mut text,
-        &[b"certificate line ", line.as_bytes(), b": ", word.as_bytes(), b"\n"],
+        &[
+            b"certificate line ",
+            line.as_bytes(),
+            b": ",
+            word.as_bytes(),
+            b"\n",
+        ],
     )?;
     Ok(text)
 }

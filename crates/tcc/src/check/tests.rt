@@ -234,13 +234,13 @@ fn first_fault_of_the_two(rt: HostRuntime) -> Result<(), Fail> {
     checks(&rt, alloc, STALE, bad, "certificate line 1: Header\n", 8);
     // The cycle claims too little, and the text ends too soon.
     let claim = altered(alloc, RELAYED_CERTIFICATE, 2, "cycle 5 2 4")?;
-    let cut = &claim[..claim.len() - "end\n".len()];
+    let cut = &claim[..claim.len().saturating_sub("end\n".len())];
     let text = "certificate line 20: Truncated\n";
     checks(&rt, alloc, RELAYED, cut, text, 8);
     Ok(())
 }
 
-// Records with faults in front of them, or behind.
+// A record with a fault behind the reads that have faults.
 #[test]
 fn read_faults_come_after_row_faults(rt: HostRuntime) -> Result<(), Fail> {
     let alloc = rt.alloc();
@@ -332,10 +332,10 @@ fn history_fails(rt: HostRuntime) -> Result<(), Fail> {
 #[test]
 fn certificate_fails(rt: HostRuntime) -> Result<(), Fail> {
     let alloc = rt.alloc();
-    let mut number = 1;
+    let mut number: u32 = 1;
     for bytes in 0..STALE_CERTIFICATE.len() + 1 {
         if bytes > 0 && STALE_CERTIFICATE.as_bytes()[bytes - 1] == b'\n' {
-            number += 1;
+            number = number.saturating_add(1);
         }
         let certificate = Broken {
             bytes: &STALE_CERTIFICATE.as_bytes()[..bytes],

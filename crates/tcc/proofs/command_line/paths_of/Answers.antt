@@ -7,10 +7,9 @@ use Rattle.tcc.proofs.command_line.paths_of.Goals as goal
 pub returns-in_ok-to_string-in-Some-Some-2-clause-asked :
     goal.returns-in_ok-to_string-in-Some-Some-2-clause-asked
 returns-in_ok-to_string-in-Some-Some-2-clause-asked c =
-    let found = found_of c.args.matches.now in
-    (
+    let found = found_of c.args.matches.now in (
       sym (first_value-rows found (codes "history")) ∙ sym c.in-Some-Some.ensures
-      ∙ ap Some (sym c.in_ok-to_string-in-Some-Some.ensures.ok),
+          ∙ ap Some (sym c.in_ok-to_string-in-Some-Some.ensures.ok),
       sym (first_value-rows found (codes "certificate")) ∙ sym c.in-Some-Some.ensures'
-      ∙ ap Some (sym c.in_ok-to_string-in-Some-Some-2.ensures.ok),
+          ∙ ap Some (sym c.in_ok-to_string-in-Some-Some-2.ensures.ok),
     )
