@@ -46,7 +46,7 @@ fn history_answer(
 }
 
 /// The first answer for the history of a snapshot: its first commit order, or the first of its least cycles where there
-/// is no commit order; or all its read faults, where there are some.
+/// is no commit order, with its certificate; or all its read faults, where there are some.
 pub fn explain(
     rt: &(impl Threads + Sync),
     alloc: Global,

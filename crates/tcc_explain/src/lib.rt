@@ -1,4 +1,5 @@
-//! The answer for a snapshot: its first commit order, or the first of its least cycles; and the texts of answers.
+//! The answer for a snapshot: its first commit order, or the first of its least cycles, with its certificate; and the
+//! texts of answers.
 #![tactic(auto)]
 
 mod answer;
