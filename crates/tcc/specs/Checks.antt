@@ -61,6 +61,10 @@ abbrev pub PrintsCheck : Option (List ℕ) → Option (List ℕ) → Result Judg
 PrintsCheck before after outcome code = (o : Result Judged Unjudged)
     × ((o ≡ outcome) ⊎ (o ≡ Err NoMemory)) × Prints before after (check_text o) (check_status o) code
 
+-- the text of some outcome and its status, whatever is known of the bytes
+abbrev pub PrintsSome : Option (List ℕ) → Option (List ℕ) → ℕ → Type 0
+PrintsSome before after code = (o : Result Judged Unjudged) × Prints before after (check_text o) (check_status o) code
+
 -- what a run does with the bytes
 abbrev pub IsCheckRun : List ℕ → List ℕ → Option (List ℕ) → Option (List ℕ) → ℕ → Type 0
 IsCheckRun records text before after code =

@@ -1,7 +1,7 @@
 //! From the bytes of a history and of a certificate to the verdict.
 ghost use Rattle.std.specs.Prelude.{◌≡◌, ℕ, IfSome};
 ghost use Rattle.tcc_txn.specs.Answers.{answers_of};
-ghost use Rattle.tcc.specs.Checks.{IsCheckRun, IsShown, MayBeCheck, MayBeTextCheck, PrintsCheck};
+ghost use Rattle.tcc.specs.Checks.{IsCheckRun, IsShown, MayBeCheck, MayBeTextCheck, PrintsCheck, PrintsSome};
 ghost use Rattle.tcc.specs.Unjudged.{IsFinished, IsHistoryOf, IsResolved};
 
 use crate::finished::Gathered;
@@ -102,6 +102,7 @@ pub fn run_check<H: Read + Drop, C: Read + Drop, W: Write>(
     out: &mut W,
 ) -> u8
     ensures run { IfSome (H.remaining history) (λ records. IfSome (C.remaining certificate) (λ text. IsCheckRun records text (W.contents out.old) (W.contents out.new) result)) }
+    ensures printed { PrintsSome (W.contents out.old) (W.contents out.new) result }
     ensures shown { IfSome (H.remaining history) (λ records. IfSome (C.remaining certificate) (λ text. result ≡ 0 → IsShown records text)) }
 {
     certified();

@@ -1,5 +1,5 @@
 //! The files that the command line names.
-ghost use Rattle.tcc.specs.Files.{unopened_text, unopened_status};
+ghost use Rattle.tcc.specs.Files.{PrintsFiles, unopened_text, unopened_status};
 ghost use Rattle.tcc.specs.Printed.{Prints};
 
 use crate::check::run_check;
@@ -26,12 +26,9 @@ fn print_unopened<W: Write>(kind: ErrorKind, out: &mut W) -> u8
 }
 
 /// Checks the certificate in the one file for the history in the other, and gives the status of the run.
-pub fn check_files<W: Write>(
-    rt: &HostRuntime,
-    history: &str,
-    certificate: &str,
-    out: &mut W,
-) -> u8 {
+pub fn check_files<W: Write>(rt: &HostRuntime, history: &str, certificate: &str, out: &mut W) -> u8
+    ensures { PrintsFiles (W.contents out.old) (W.contents out.new) result }
+{
     match open_both(rt, history, certificate) {
         Ok((history, certificate)) => run_check(rt.alloc(), history, certificate, out),
         Err(error) => print_unopened(error.kind(), out),

@@ -13,3 +13,6 @@ returns-clause-shown g c = IfSome_then (g.H.Read.remaining c.args.history) c.che
     (λ records whole. IfSome_then (g.C.Read.remaining c.args.certificate) whole
     (λ text may. shown c.certified.ensures records text _ _ c.print_check.result
     (runs records text _ _ c.checked.result c.print_check.result may c.print_check.ensures)))
+
+pub returns-clause-printed : goal.returns-clause-printed
+returns-clause-printed g c = let (o, which, prints) = c.print_check.ensures in (o, prints)
