@@ -1,29 +1,12 @@
 //! Bytes that are gathered before they go out, so that few writes are made.
-ghost use Rattle.std.specs.Prelude.{◌≡◌, ◌+◌, ◌≤◌, ◌++◌, ℕ, [], OnOk, OnErr, length, map, take};
-ghost use Rattle.std.specs.Io.KnownBytes.{Appends};
+ghost use Rattle.std.specs.Prelude.{◌≡◌, ◌+◌, ◌≤◌, ◌++◌, [], OnOk, length};
 ghost use Rattle.tcc_cert.specs.Writing.{IsSent};
-ghost use Rattle.tcc_cert.specs.Texts.{words_text, line_text, numbers_words};
 
-use std::io::{self, ErrorKind, Write};
+use crate::sending::write_out;
+use std::io::{self, Write};
 use std::marker::Model;
 
 const SIZE: usize = 8192;
-
-/// Sends the bytes. An interrupted write and one that takes no bytes are failures too; then a part of the bytes, from
-/// their front, went out.
-fn send_all<W: Write>(out: &mut W, bytes: &[u8]) -> io::Result<()>
-    ensures whole { OnOk result (Appends (W.contents out.old) (W.contents out.new) bytes.now) }
-    ensures part { OnErr result ((n : ℕ) × Appends (W.contents out.old) (W.contents out.new) (take n bytes.now)) }
-{
-    let mut sent = 0;
-    while sent < bytes.len() {
-        match out.write(&bytes[sent..])? {
-            0 => return Err(io::Error::from(ErrorKind::WriteZero)),
-            taken => sent += taken,
-        }
-    }
-    Ok(())
-}
 
 /// The bytes that wait to go out.
 #[derive(Drop)]
@@ -57,7 +40,7 @@ impl Gathered {
         ensures sent { IsSent result (W.contents out.old) self.old (W.contents out.new) self.new [] }
         ensures none { OnOk result (self.new ≡ []) }
     {
-        send_all(out, &self.bytes[..self.held])?;
+        write_out(out, &self.bytes[..self.held])?;
         self.held = 0;
         Ok(())
     }
@@ -79,7 +62,7 @@ impl Gathered {
         if piece.len() > SIZE - self.held {
             self.send(out)?;
             if piece.len() > SIZE {
-                return send_all(out, piece);
+                return write_out(out, piece);
             }
         }
         self.keep(piece);

@@ -9,6 +9,7 @@ mod lines;
 mod links;
 mod numbers;
 mod reading;
+pub mod sending;
 mod table;
 mod writing;
 
