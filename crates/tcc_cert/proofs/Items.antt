@@ -3,7 +3,7 @@ use Rattle.std.proofs.Common.{◌≡◌, ℕ, ◌+◌, ◌<◌, ◌≤◌, List,
 use Rattle.std.proofs.lemmas.List.{at_drop_more, take_all}
 use Rattle.std.proofs.lemmas.Grind.{take_at_read, flat_map-append}
 use Rattle.tcc_cert.specs.Writing.{Sends, Stops}
-use Rattle.tcc_cert.proofs.Sending.{Sends-then, Stops-then, Stops-early}
+use Rattle.tcc_cert.proofs.SentFacts.{Sends-then, Stops-then, Stops-early}
 
 -- the texts up to an item and its own
 one_more : {X : Type 0} (f : X → List ℕ) (xs : List X) (i : ℕ) (d : X) → i < length xs

@@ -1,5 +1,5 @@
 pub mod WorkedTexts
-pub mod Sending
+pub mod SentFacts
 pub mod Items
 pub mod WorkedReading
 pub mod ReadingFacts

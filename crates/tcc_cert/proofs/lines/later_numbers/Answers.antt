@@ -1,6 +1,6 @@
 -- A number goes out behind the numbers so far.
 use Rattle.std.proofs.Common.{◌++◌, codes, decimal}
-use Rattle.tcc_cert.proofs.Sending.{failed}
+use Rattle.tcc_cert.proofs.SentFacts.{failed}
 use Rattle.tcc_cert.proofs.Items.{Sends-item, Stops-item}
 use Rattle.tcc_cert.proofs.lines.later_numbers.Goals as goal
 

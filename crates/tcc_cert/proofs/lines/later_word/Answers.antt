@@ -1,5 +1,5 @@
 -- The space goes out, then the word.
-use Rattle.tcc_cert.proofs.Sending.{failed, IsSent-then, Stops-early}
+use Rattle.tcc_cert.proofs.SentFacts.{failed, IsSent-then, Stops-early}
 use Rattle.tcc_cert.proofs.lines.later_word.Goals as goal
 
 pub returns-in_err-put : goal.returns-in_err-put

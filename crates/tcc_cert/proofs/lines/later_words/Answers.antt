@@ -1,6 +1,6 @@
 -- A word goes out behind the words so far.
 use Rattle.std.proofs.Common.{◌++◌, codes}
-use Rattle.tcc_cert.proofs.Sending.{failed}
+use Rattle.tcc_cert.proofs.SentFacts.{failed}
 use Rattle.tcc_cert.proofs.Items.{Sends-item, Stops-item}
 use Rattle.tcc_cert.proofs.lines.later_words.Goals as goal
 

@@ -1,6 +1,6 @@
 -- A row's line goes out behind the lines so far.
 use Rattle.tcc_cert.specs.Texts.{line_text, numbers_words}
-use Rattle.tcc_cert.proofs.Sending.{failed}
+use Rattle.tcc_cert.proofs.SentFacts.{failed}
 use Rattle.tcc_cert.proofs.Items.{Sends-read, Stops-read, Sends-all, flat_map-map}
 use Rattle.tcc_cert.proofs.lines.table.Goals as goal
 

@@ -1,5 +1,5 @@
 -- A derived link's line goes out, and then its walk.
-use Rattle.tcc_cert.proofs.Sending.{failed, IsSent-then, Stops-early}
+use Rattle.tcc_cert.proofs.SentFacts.{failed, IsSent-then, Stops-early}
 use Rattle.tcc_cert.proofs.writing.link.Goals as goal
 
 pub returns-in_err-derived-in-Derived : goal.returns-in_err-derived-in-Derived

@@ -2,7 +2,7 @@
 use Rattle.std.proofs.Common.{[], ◌∷◌, codes}
 use Rattle.std.proofs.lemmas.Grind.{flat_map-append}
 use Rattle.tcc_cert.specs.Texts.{line_text, table_lines}
-use Rattle.tcc_cert.proofs.Sending.{failed, IsSent-then, Stops-early, Stops-then}
+use Rattle.tcc_cert.proofs.SentFacts.{failed, IsSent-then, Stops-early, Stops-then}
 use Rattle.tcc_cert.proofs.writing.order.Goals as goal
 
 pub returns-in_err-order_sizes : goal.returns-in_err-order_sizes

@@ -1,6 +1,6 @@
 -- A step's line goes out behind the lines so far.
 use Rattle.tcc_cert.specs.Texts.{line_text, step_words}
-use Rattle.tcc_cert.proofs.Sending.{failed}
+use Rattle.tcc_cert.proofs.SentFacts.{failed}
 use Rattle.tcc_cert.proofs.Items.{Sends-read, Stops-read, Sends-all, flat_map-map}
 use Rattle.tcc_cert.proofs.writing.steps.Goals as goal
 

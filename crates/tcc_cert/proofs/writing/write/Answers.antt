@@ -1,6 +1,6 @@
 -- The first line goes out, then the claim, and last what is still gathered.
 use Rattle.std.proofs.Common.{[]}
-use Rattle.tcc_cert.proofs.Sending.{on_err, Sends-then, Stops-early, Stops-then, Sends-out, Sends-kept, Stops-out, Appends-part, Appends-whole}
+use Rattle.tcc_cert.proofs.SentFacts.{on_err, Sends-then, Stops-early, Stops-then, Sends-out, Sends-kept, Stops-out, Appends-part, Appends-whole}
 use Rattle.tcc_cert.proofs.writing.write.Goals as goal
 
 pub returns-in_err-line-clause-part : goal.returns-in_err-line-clause-part

@@ -1,5 +1,5 @@
 -- The piece goes out behind what was held.
-use Rattle.tcc_cert.proofs.Sending.{failed, Stops-early, IsSent-bare, IsSent-then}
+use Rattle.tcc_cert.proofs.SentFacts.{failed, Stops-early, IsSent-bare, IsSent-then}
 use Rattle.tcc_cert.proofs.gathered.Gathered.put.Goals as goal
 
 pub returns-in_err-send : goal.returns-in_err-send

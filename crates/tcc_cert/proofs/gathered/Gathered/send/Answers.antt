@@ -1,5 +1,5 @@
 -- What was sent before the failure is a part of what was held.
-use Rattle.tcc_cert.proofs.Sending.{failed, Stops-held}
+use Rattle.tcc_cert.proofs.SentFacts.{failed, Stops-held}
 use Rattle.tcc_cert.proofs.gathered.Gathered.send.Goals as goal
 
 pub returns-in_err-write_out-clause-sent : goal.returns-in_err-write_out-clause-sent
