@@ -26,6 +26,7 @@ use Rattle.tcc_txn.specs.declared.rows.line.Line.TheVariants as line
 use Rattle.tcc_txn.specs.declared.rows.progress.Progress.{Progress}
 use Rattle.tcc_txn.specs.declared.rows.records.Records.{Records}
 use Rattle.tcc_txn.proofs.LimitFacts.{marked-past, marked-within}
+use Rattle.tcc_txn.specs.declared.limits.TheConstants.{MAX_INPUT_BYTES}
 
 -- there are no more records than turns to read them
 length-records_from : (cfg : Config) (n : ℕ) (s : State) (text : List ℕ) → length (records_from cfg n s text) ≤ n
@@ -60,9 +61,9 @@ length-marked limit text = ⊎_elim long short (cases_lt limit (length text))
 -- the records of a text can be counted
 few-records : (text : List ℕ) → length (records_of text) + 1 < 2 ^ 64
 few-records text =
-    let cut = marked 67108864 text in
+    let cut = marked MAX_INPUT_BYTES text in
     let turns : length (records_of text) ≤ length (strip_bom cut) + 1 = length-records_from default_config (length (strip_bom cut) + 1) st.StartRecord (strip_bom cut) in
-    omega (arith, turns, length-strip_bom cut, length-marked 67108864 text)
+    omega (arith, turns, length-strip_bom cut, length-marked MAX_INPUT_BYTES text)
 
 if-some : {A : Type 0} {P Q : A → Type 0} (o : Option A) → ((x : A) → P x → Q x) → IfSome o P → IfSome o Q
 if-some None f h = tt

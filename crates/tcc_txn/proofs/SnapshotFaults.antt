@@ -10,33 +10,34 @@ use Rattle.tcc_txn.specs.Snapshots.{first_repeated, parts_of, snapshot_fault}
 use Rattle.tcc_txn.specs.declared.snapshot.SnapshotFault.{SnapshotFault}
 use Rattle.tcc_txn.specs.declared.snapshot.SnapshotFault.TheVariants.{Repeated, TooManySessions, TooManyTransactions}
 use Rattle.tcc_txn.proofs.Parts.{names_of, names_of-parts_of, length-parts_of, sum_by-parts_of}
+use Rattle.tcc_txn.specs.declared.limits.TheConstants.{MAX_SESSIONS, MAX_TRANSACTIONS}
 
 -- the fault by the name that is repeated, the number of sessions and that of transactions
 abbrev pub fault_by : Option (List ℕ) → ℕ → ℕ → Option SnapshotFault
 fault_by repeated sessions transactions =
     option_map_or (λ name. Some (Repeated name)) repeated
-    (if nat_lt 64 sessions then Some TooManySessions else if nat_lt 1023 transactions then Some TooManyTransactions else None)
+    (if nat_lt MAX_SESSIONS sessions then Some TooManySessions else if nat_lt MAX_TRANSACTIONS transactions then Some TooManyTransactions else None)
 
 pub snapshot_fault-parts_of : (parts : List (List ℕ × Vec Transaction)) → snapshot_fault (parts_of parts)
     ≡ fault_by (first_repeated [] (names_of parts)) (length parts) (sum_by (λ part. length part.1.items) parts)
 snapshot_fault-parts_of parts =
     λ i. fault_by (first_repeated [] (names_of-parts_of parts i)) (length-parts_of parts i) (sum_by-parts_of parts i)
 
-pub sessions_fault : (sessions transactions : ℕ) → 64 < sessions → fault_by None sessions transactions ≡ Some TooManySessions
+pub sessions_fault : (sessions transactions : ℕ) → MAX_SESSIONS < sessions → fault_by None sessions transactions ≡ Some TooManySessions
 sessions_fault sessions transactions many = grind (arith, nat_tests, many)
 
-pub transactions_fault : (sessions transactions : ℕ) → sessions ≤ 64 → nat_lt 1023 transactions ≡ true
+pub transactions_fault : (sessions transactions : ℕ) → sessions ≤ MAX_SESSIONS → nat_lt MAX_TRANSACTIONS transactions ≡ true
     → fault_by None sessions transactions ≡ Some TooManyTransactions
 transactions_fault sessions transactions few many = grind (arith, nat_tests, few, many)
 
-pub no_fault : (sessions transactions : ℕ) → sessions ≤ 64 → nat_lt 1023 transactions ≡ false → fault_by None sessions transactions ≡ None
+pub no_fault : (sessions transactions : ℕ) → sessions ≤ MAX_SESSIONS → nat_lt MAX_TRANSACTIONS transactions ≡ false → fault_by None sessions transactions ≡ None
 no_fault sessions transactions few short = grind (arith, nat_tests, few, short)
 
 -- without a fault no name is repeated, and the limits are kept
 pub record IsFaultless (repeated : Option (List ℕ)) (sessions transactions : ℕ) : Type 0 where
   pub distinct : repeated ≡ None
-  pub few : sessions ≤ 64
-  pub short : transactions ≤ 1023
+  pub few : sessions ≤ MAX_SESSIONS
+  pub short : transactions ≤ MAX_TRANSACTIONS
 
 pub faultless : (repeated : Option (List ℕ)) (sessions transactions : ℕ) → fault_by repeated sessions transactions ≡ None
     → IsFaultless repeated sessions transactions

@@ -18,6 +18,7 @@ use Rattle.tcc_txn.specs.declared.rows.line.Line.{Line}
 use Rattle.tcc_txn.specs.declared.rows.line.Line.TheVariants as line
 use Rattle.tcc_txn.specs.declared.rows.progress.Progress.{Progress}
 use Rattle.tcc_txn.proofs.PastFacts.{seat-begun, seat-finished, seat-free, seat-none, seat-taken, same-itself, seat-operated, seen-noted, seen-other, with_name-new, with_name-seen}
+use Rattle.tcc_txn.specs.declared.limits.TheConstants.{MAX_KEYS, MAX_OPERATIONS, MAX_SESSIONS, MAX_TRANSACTIONS}
 
 within : (m n : ℕ) → m ≤ n → nat_lt n m ≡ false
 within m n h = grind (arith, nat_tests)
@@ -32,7 +33,7 @@ noted key q names = by (same key q) refl
 
 -- a name that is new, and now held
 pub names-noted : (names : List (List ℕ)) (key : List ℕ) (old new : NameSet) → HoldsNames names old
-    → contains same old key ≡ false → hash_set_len old < 1024
+    → contains same old key ≡ false → hash_set_len old < MAX_KEYS
     → set.Updates same old new key true → hash_set_len new ≡ hash_set_len old + 1
     → HoldsNames (with_name key names) new
 names-noted names key old new holds absent room updates more =
@@ -51,7 +52,7 @@ names-kept names key set holds there = rw (with_name-seen key names (sym (holds.
 
 -- what a look at the place of a session says of a begin
 pub begins-again : (past : List Line) (s : List ℕ) (seats : Seats) → HoldsSeats past seats
-    → get same seats s ≡ Some None → (is_begun s past ≡ false) × (length (with_name s (sessions past)) ≤ 64)
+    → get same seats s ≡ Some None → (is_begun s past ≡ false) × (length (with_name s (sessions past)) ≤ MAX_SESSIONS)
 begins-again past s seats holds there =
     let place = seat-free _ _ _ (sym (holds.each s) ∙ there) in
     (place.0, rw (with_name-seen s (sessions past) place.1) holds.few)
@@ -85,16 +86,16 @@ one-more-session past s seats holds free = by (list_any (same s) (sessions past)
 
 -- a transaction begins
 pub after-begin : (past : List Line) (s : List ℕ) (old new : Progress) → IsAfter past old
-    → is_begun s past ≡ false → length (with_name s (sessions past)) ≤ 64
-    → old.begun < 1023
+    → is_begun s past ≡ false → length (with_name s (sessions past)) ≤ MAX_SESSIONS
+    → old.begun < MAX_TRANSACTIONS
     → Updates same old.sessions new.sessions s (Some (Some []))
     → hash_map_len new.sessions ≡ hash_map_len old.sessions + cond (is_some (get same old.sessions s)) 0 1
     → new.keys ≡ old.keys → new.begun ≡ old.begun + 1 → new.seals ≡ old.seals
     → (fault_of past (line.Begin s) ≡ None) × IsAfter (line.Begin s ∷ past) new
 after-begin past s old new is free few room updates more keys_kept one_more seals_kept =
-    let few_begun : begin_count past + 1 ≤ 1023 = omega (arith, is.begun, room) in
-    let sessions_fit : nat_lt 64 (length (with_name s (sessions past))) ≡ false = within _ _ few in
-    let begins_fit : nat_lt 1023 (begin_count past + 1) ≡ false = within _ _ few_begun in (
+    let few_begun : begin_count past + 1 ≤ MAX_TRANSACTIONS = omega (arith, is.begun, room) in
+    let sessions_fit : nat_lt MAX_SESSIONS (length (with_name s (sessions past))) ≡ false = within _ _ few in
+    let begins_fit : nat_lt MAX_TRANSACTIONS (begin_count past + 1) ≡ false = within _ _ few_begun in (
       rw (free, sessions_fit, begins_fit) refl,
       record {
         seats = record {
@@ -150,21 +151,21 @@ operation-refused past s op k None seats new holds place refused =
     inl (rw (free.0, refused) refl)
 operation-refused past s op k (Some ops) seats new holds place (inl full) =
     let there = begun-there past s seats ops holds place in
-    let many : nat_lt 256 (length (ops_since s (line.Operation s op ∷ past))) ≡ true = above _ _ (omega (arith, more-ops past s op, ap length there.1, full.1)) in
+    let many : nat_lt MAX_OPERATIONS (length (ops_since s (line.Operation s op ∷ past))) ≡ true = above _ _ (omega (arith, more-ops past s op, ap length there.1, full.1)) in
     inl (rw (there.0, many, full.0) refl)
 operation-refused past s op k (Some ops) seats new holds place (inr want) = inr want
 
 -- an operation that has its place
 pub record Placed (past : List Line) (s : List ℕ) (op : Op) (old : Progress) (seats : Seats) : Type 0 where
   pub begun : is_begun s past ≡ true
-  pub room : length (ops_since s past) < 256
+  pub room : length (ops_since s past) < MAX_OPERATIONS
   pub updates : Updates same old.sessions seats s (Some (Some (ops_since s past ++ op ∷ [])))
   pub count : hash_map_len seats ≡ hash_map_len old.sessions
 
-fault-of-key : (past : List Line) (s : List ℕ) (op : Op) → is_begun s past ≡ true → length (ops_since s past) < 256
-    → fault_of past (line.Operation s op) ≡ cond (nat_lt 1024 (length (with_name (op_key op) (keys past)))) (Some kind.TooManyKeys) None
+fault-of-key : (past : List Line) (s : List ℕ) (op : Op) → is_begun s past ≡ true → length (ops_since s past) < MAX_OPERATIONS
+    → fault_of past (line.Operation s op) ≡ cond (nat_lt MAX_KEYS (length (with_name (op_key op) (keys past)))) (Some kind.TooManyKeys) None
 fault-of-key past s op begun room =
-    let few : nat_lt 256 (length (ops_since s (line.Operation s op ∷ past))) ≡ false = within _ _ (omega (arith, more-ops past s op)) in
+    let few : nat_lt MAX_OPERATIONS (length (ops_since s (line.Operation s op ∷ past))) ≡ false = within _ _ (omega (arith, more-ops past s op)) in
     rw (begun, few) refl
 
 -- what comes of an operation that has its place, by whether its key can be noted
@@ -172,7 +173,7 @@ pub after-operation : {U : Type 0} (past : List Line) (s : List ℕ) (op : Op) (
     → IsAfter past old → Placed past s op old seats → NotesName (keys past) (op_key op) result names
     → PassesLine past (line.Operation s op) result (record { sessions = seats; keys = names; begun = old.begun; seals = old.seals })
 after-operation past s op old seats names (Ok done) is placed noted =
-    let few : nat_lt 1024 (length (with_name (op_key op) (keys past))) ≡ false = within _ _ noted.few in (
+    let few : nat_lt MAX_KEYS (length (with_name (op_key op) (keys past))) ≡ false = within _ _ noted.few in (
       fault-of-key past s op placed.begun placed.room ∙ rw few refl,
       record {
         seats = record {
@@ -188,7 +189,7 @@ after-operation past s op old seats names (Ok done) is placed noted =
       },
     )
 after-operation past s op old seats names (Err k) is placed (inl many) =
-    let over : nat_lt 1024 (length (with_name (op_key op) (keys past))) ≡ true = above _ _ many.1 in
+    let over : nat_lt MAX_KEYS (length (with_name (op_key op) (keys past))) ≡ true = above _ _ many.1 in
     inl (fault-of-key past s op placed.begun placed.room ∙ rw (over, many.0) refl)
 after-operation past s op old seats names (Err k) is placed (inr want) = inr want
 

@@ -17,6 +17,7 @@ use Rattle.tcc_txn.specs.SnapshotStorage.{shown, IsStored}
 use Rattle.tcc_txn.proofs.Parts.{names_of, names_of-parts_of, length-parts_of}
 use Rattle.tcc_txn.proofs.SnapshotFaults.{snapshot_fault-parts_of, faultless}
 use Rattle.tcc_txn.proofs.SortedParts.{distinct_names, distinct_IsPermutation, rising_names, shown_sorted, same_name}
+use Rattle.tcc_txn.specs.declared.limits.TheConstants.{MAX_TRANSACTIONS}
 
 -- the entries of a snapshot are its parts
 pub entries-shown : (parts : List (List ℕ × Vec Transaction)) → IsStored parts → finite.entries (shown parts) ≡ parts_of parts
@@ -39,7 +40,7 @@ sum_by-parts_of (part ∷ parts) =
     ∙ sym (sum_by-cons (λ p. length p.1.items) part parts)
 
 -- the sessions of a snapshot have at most 1,023 transactions in all
-pub short-shown : (parts : List (List ℕ × Vec Transaction)) → IsStored parts → sum_by (λ part. length part.1) (finite.entries (shown parts)) ≤ 1023
+pub short-shown : (parts : List (List ℕ × Vec Transaction)) → IsStored parts → sum_by (λ part. length part.1) (finite.entries (shown parts)) ≤ MAX_TRANSACTIONS
 short-shown parts stored =
     let total : sum_by (λ part. length part.1) (finite.entries (shown parts)) ≡ sum_by (λ part. length part.1.items) parts
     = ap (sum_by (λ part. length part.1)) (entries-shown parts stored) ∙ sum_by-parts_of parts in

@@ -7,6 +7,7 @@ use Rattle.std.specs.Prelude.{replicate, not}
 use Rattle.std.specs.List.{prefix_len}
 use Rattle.tcc_txn.specs.Names.{name_fault, is_name_byte, IsStored}
 use Rattle.tcc_txn.specs.Stored.{few_bytes}
+use Rattle.tcc_txn.specs.declared.limits.TheConstants.{MAX_NAME_BYTES}
 use Rattle.std.proofs.Math.Seq.{drop-cons}
 use Rattle.std.specs.Ordering.{nat_cmp, ordering_then, MatchOrdering}
 use Rattle.std.specs.Cmp.Lexicographic.{slice_cmp}
@@ -49,7 +50,7 @@ cmp-from before at xs ys =
     ∙ (λ i. ordering_then (ordering_then before (word_cmp at xs ys)) (slice_cmp nat_cmp (drop-drop 8 at xs i) (drop-drop 8 at ys i)))
 
 -- the order of three words of eight bytes each, and then of the fourth
-pub cmp-four : (xs ys : List ℕ) → length xs ≡ 32 → length ys ≡ 32
+pub cmp-four : (xs ys : List ℕ) → length xs ≡ MAX_NAME_BYTES → length ys ≡ MAX_NAME_BYTES
     → slice_cmp nat_cmp xs ys
     ≡ ordering_then (ordering_then (ordering_then (word_cmp 0 xs ys) (word_cmp 8 xs ys)) (word_cmp 16 xs ys)) (word_cmp 24 xs ys)
 cmp-four xs ys e f =
@@ -113,14 +114,14 @@ small-word at bytes p = small-take 8 (drop at bytes) (λ k. omega (arith, get_or
 abbrev pub first_word : List ℕ → ℕ
 first_word bytes = from_be_bytes w64 (take 8 bytes)
 
-cmp-first_words : (xs ys : List ℕ) → length xs ≡ 32 → length ys ≡ 32
+cmp-first_words : (xs ys : List ℕ) → length xs ≡ MAX_NAME_BYTES → length ys ≡ MAX_NAME_BYTES
     → ((k : ℕ) → get_or xs k 0 < 256) → ((k : ℕ) → get_or ys k 0 < 256)
     → nat_cmp (first_word xs) (first_word ys) ≡ word_cmp 0 xs ys
 cmp-first_words xs ys e f p q =
     cmp-words (take 8 xs) (take 8 ys) (length-word 0 xs (omega (arith, e))) (length-word 0 ys (omega (arith, f))) (small-take 8 xs p) (small-take 8 ys q)
 
 -- equal first words are of equal bytes
-pub same-words : (xs ys : List ℕ) → length xs ≡ 32 → length ys ≡ 32
+pub same-words : (xs ys : List ℕ) → length xs ≡ MAX_NAME_BYTES → length ys ≡ MAX_NAME_BYTES
     → ((k : ℕ) → get_or xs k 0 < 256) → ((k : ℕ) → get_or ys k 0 < 256)
     → first_word xs ≡ first_word ys → word_cmp 0 xs ys ≡ Equal
 same-words xs ys e f p q same =
@@ -132,7 +133,7 @@ then_decided Equal next h = absurd (h refl)
 then_decided Greater next h = refl
 
 -- where the first words differ, they decide
-pub cmp-differing : (xs ys : List ℕ) → length xs ≡ 32 → length ys ≡ 32
+pub cmp-differing : (xs ys : List ℕ) → length xs ≡ MAX_NAME_BYTES → length ys ≡ MAX_NAME_BYTES
     → ((k : ℕ) → get_or xs k 0 < 256) → ((k : ℕ) → get_or ys k 0 < 256)
     → (first_word xs ≡ first_word ys → ⊥) → slice_cmp nat_cmp xs ys ≡ word_cmp 0 xs ys
 cmp-differing xs ys e f p q differ =
@@ -181,10 +182,10 @@ pub cmp-stored : (len : ℕ) (buffer : List ℕ) (len' : ℕ) (buffer' : List �
 cmp-stored len buffer len' buffer' one other =
     let xs : List ℕ = take len buffer in
     let ys : List ℕ = take len' buffer' in
-    let few : length xs ≤ 32 = (few_bytes xs one.named).1 in
-    let few' : length ys ≤ 32 = (few_bytes ys other.named).1 in
+    let few : length xs ≤ MAX_NAME_BYTES = (few_bytes xs one.named).1 in
+    let few' : length ys ≤ MAX_NAME_BYTES = (few_bytes ys other.named).1 in
     (λ i. slice_cmp nat_cmp (one.whole i) (other.whole i))
-    ∙ cmp-zeros xs ys (32 - length xs) (32 - length ys) (omega (arith, few, few')) (none-zero xs one.named) (none-zero ys other.named)
+    ∙ cmp-zeros xs ys (MAX_NAME_BYTES - length xs) (MAX_NAME_BYTES - length ys) (omega (arith, few, few')) (none-zero xs one.named) (none-zero ys other.named)
 
 -- what `then_with` answers
 pub then-called : {Called : Type 0} (a b r : Ordering) → MatchOrdering a (r ≡ Less) Called (r ≡ Greater) → (Called → r ≡ b) → r ≡ ordering_then a b

@@ -5,6 +5,7 @@ use Rattle.csv.specs.Reading.{default_config, records, strip_bom}
 use Rattle.tcc_txn.specs.ByteLimit.{marked}
 use Rattle.tcc_txn.specs.Lines.{Record, is_cut, line_of}
 use Rattle.tcc_txn.specs.Past.{fault_of, item_of, least, open_sessions}
+use Rattle.tcc_txn.specs.declared.limits.TheConstants.{MAX_INPUT_BYTES}
 use Rattle.tcc_txn.specs.declared.rows.Item.{Item}
 use Rattle.tcc_txn.specs.declared.rows.RowFault.{RowFault}
 use Rattle.tcc_txn.specs.declared.rows.RowFaultKind.{RowFaultKind}
@@ -48,7 +49,7 @@ answers_after past (fields ∷ rest) = go_on past (λ lines. answers_after lines
 
 -- the records of a text: those of `csv` without a header row, up to the limit on bytes
 abbrev pub records_of : List ℕ → List Record
-records_of text = records default_config (strip_bom (marked 67108864 text))
+records_of text = records default_config (strip_bom (marked MAX_INPUT_BYTES text))
 
 -- the answers to a text
 abbrev pub answers_of : List ℕ → Answers

@@ -1,6 +1,7 @@
 -- The names of sessions and keys.
 use Rattle.std.specs.Prelude.{ℕ, ◌+◌, ◌-◌, ◌≤◌, ◌≡◌, Bool, ◌||◌, ◌&&◌, ◌==◌, nat_lt, nat_le, if◌then◌else◌, List, ◌++◌, length, take, Option, None, Some, Result, Ok, Err, not, position, option_map, replicate}
 use Rattle.std.specs.Option.{option_map_or}
+use Rattle.tcc_txn.specs.declared.limits.TheConstants.{MAX_NAME_BYTES}
 use Rattle.tcc_txn.specs.declared.name.NameFault.{NameFault}
 use Rattle.tcc_txn.specs.declared.name.NameFault.TheVariants.{Empty, TooLong, BadByte}
 
@@ -10,23 +11,23 @@ is_name_byte b =
     (nat_le 65 b && nat_le b 90) || (nat_le 97 b && nat_le b 122) || (nat_le 48 b && nat_le b 57)
     || (b == 95) || (b == 46) || (b == 45)
 
--- why the bytes are no name: there are none, more than 32, or one at a place, counted from 1, that no name has
+-- why the bytes are no name: there are none, more than `MAX_NAME_BYTES`, or one at a place, counted from 1, that no name has
 abbrev pub name_fault : List ℕ → Option NameFault
 name_fault bytes =
     if length bytes == 0 then Some Empty
-    else if nat_lt 32 (length bytes) then Some TooLong
+    else if nat_lt MAX_NAME_BYTES (length bytes) then Some TooLong
     else option_map (λ i. BadByte (i + 1)) (position (λ b. not (is_name_byte b)) bytes)
 
 -- the name that the bytes are, or why they are none
 abbrev pub name_of : List ℕ → Result (List ℕ) NameFault
 name_of bytes = option_map_or Err (name_fault bytes) (Ok bytes)
 
--- up to 32 bytes, and zeros up to 32
+-- up to `MAX_NAME_BYTES` bytes, and zeros up to so many
 abbrev pub padded : List ℕ → List ℕ
-padded bytes = bytes ++ replicate (32 - length bytes) 0
+padded bytes = bytes ++ replicate (MAX_NAME_BYTES - length bytes) 0
 
--- how a name lies in memory: its length, and 32 bytes
+-- how a name lies in memory: its length, and `MAX_NAME_BYTES` bytes
 pub record IsStored (len : ℕ) (buffer : List ℕ) : Type 0 where
-  pub short : len ≤ 32
+  pub short : len ≤ MAX_NAME_BYTES
   pub whole : buffer ≡ padded (take len buffer)
   pub named : name_fault (take len buffer) ≡ None

@@ -8,6 +8,7 @@ use Rattle.std.specs.declared.cmp.Ordering.{Ordering}
 use Rattle.std.specs.declared.cmp.Ordering.TheVariants.{Less, Equal, Greater}
 use Rattle.tcc_txn.specs.Lines.{same}
 use Rattle.tcc_txn.specs.Transactions.{op_key}
+use Rattle.tcc_txn.specs.declared.limits.TheConstants.{MAX_KEYS, MAX_OPERATIONS, MAX_SEALS, MAX_SESSIONS, MAX_TRANSACTIONS}
 use Rattle.tcc_txn.specs.declared.op.Op.{Op}
 use Rattle.tcc_txn.specs.declared.rows.Item.{Item}
 use Rattle.tcc_txn.specs.declared.rows.Item.TheVariants as item
@@ -84,17 +85,17 @@ seal_count (last ∷ past) = if seals last then seal_count past + 1 else seal_co
 
 -- the least kind of fault that a line is after others, if it is one
 abbrev pub fault_of : List Line → Line → Option RowFaultKind
-fault_of past line.Seal = if nat_lt 256 (seal_count (line.Seal ∷ past)) then Some kind.TooManySeals else None
+fault_of past line.Seal = if nat_lt MAX_SEALS (seal_count (line.Seal ∷ past)) then Some kind.TooManySeals else None
 fault_of past (line.Begin session) =
     if is_begun session past then Some kind.AlreadyBegun
-    else if nat_lt 64 (length (sessions (line.Begin session ∷ past))) then Some kind.TooManySessions
-    else if nat_lt 1023 (begin_count (line.Begin session ∷ past)) then Some kind.TooManyTransactions
+    else if nat_lt MAX_SESSIONS (length (sessions (line.Begin session ∷ past))) then Some kind.TooManySessions
+    else if nat_lt MAX_TRANSACTIONS (begin_count (line.Begin session ∷ past)) then Some kind.TooManyTransactions
     else None
 fault_of past (line.Finish session committed) = if is_begun session past then None else Some kind.NotBegun
 fault_of past (line.Operation session op) =
     if not (is_begun session past) then Some kind.NotBegun
-    else if nat_lt 256 (length (ops_since session (line.Operation session op ∷ past))) then Some kind.TooManyOps
-    else if nat_lt 1024 (length (keys (line.Operation session op ∷ past))) then Some kind.TooManyKeys
+    else if nat_lt MAX_OPERATIONS (length (ops_since session (line.Operation session op ∷ past))) then Some kind.TooManyOps
+    else if nat_lt MAX_KEYS (length (keys (line.Operation session op ∷ past))) then Some kind.TooManyKeys
     else None
 
 -- what a lawful line after others finishes, or the answer that it wants

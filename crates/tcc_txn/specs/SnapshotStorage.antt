@@ -8,6 +8,7 @@ use Rattle.std.specs.FinMap as map
 use Rattle.std.specs.Global.{Vec}
 use Rattle.tcc_txn.specs.Transactions.{Transaction}
 use Rattle.tcc_txn.specs.Snapshots.{Sessions, parts_of}
+use Rattle.tcc_txn.specs.declared.limits.TheConstants.{MAX_SESSIONS, MAX_TRANSACTIONS}
 use Rattle.tcc_txn.specs.declared.op.Op.{Op}
 use Rattle.tcc_txn.specs.declared.op.Op.TheVariants.{Get, Put}
 
@@ -38,8 +39,8 @@ sessions_code = map.code (coded_list coded_ℕ) (coded_list transaction_code)
 abbrev pub shown : List (List ℕ × Vec Transaction) → Sessions
 shown parts = map.from_sorted (parts_of parts)
 
--- the names strictly rise; there are at most 64, with at most 1,023 transactions in all
+-- the names strictly rise; there are at most `MAX_SESSIONS`, with at most `MAX_TRANSACTIONS` transactions in all
 pub record IsStored (parts : List (List ℕ × Vec Transaction)) : Type 0 where
   pub sorted : T (map.is_sorted (slice_cmp nat_cmp) (parts_of parts))
-  pub few : length parts ≤ 64
-  pub short : sum_by (λ part. length part.1.items) parts ≤ 1023
+  pub few : length parts ≤ MAX_SESSIONS
+  pub short : sum_by (λ part. length part.1.items) parts ≤ MAX_TRANSACTIONS

@@ -7,6 +7,7 @@ use Rattle.std.specs.Cmp.Lexicographic.{slice_cmp, pointwise}
 use Rattle.std.specs.FinMap.{FinMap}
 use Rattle.std.specs.Global.{Vec}
 use Rattle.tcc_txn.specs.Transactions.{Transaction}
+use Rattle.tcc_txn.specs.declared.limits.TheConstants.{MAX_SESSIONS, MAX_TRANSACTIONS}
 use Rattle.tcc_txn.specs.declared.snapshot.SnapshotFault.{SnapshotFault}
 use Rattle.tcc_txn.specs.declared.snapshot.SnapshotFault.TheVariants.{Repeated, TooManySessions, TooManyTransactions}
 
@@ -24,10 +25,10 @@ first_repeated earlier [] = None
 first_repeated earlier (name ∷ later) =
     if list_any (pointwise nat_eq name) earlier then Some name else first_repeated (earlier ++ name ∷ []) later
 
--- why the parts make no snapshot: two have one name, or there are more than 64 sessions or 1,023 transactions
+-- why the parts make no snapshot: two have one name, or there are more than `MAX_SESSIONS` sessions or `MAX_TRANSACTIONS` transactions
 abbrev pub snapshot_fault : List (List ℕ × List Transaction) → Option SnapshotFault
 snapshot_fault parts =
     option_map_or (λ name. Some (Repeated name)) (first_repeated [] (map (λ part. part.0) parts))
-    (if nat_lt 64 (length parts) then Some TooManySessions
-    else if nat_lt 1023 (sum_by (λ part. length part.1) parts) then Some TooManyTransactions
+    (if nat_lt MAX_SESSIONS (length parts) then Some TooManySessions
+    else if nat_lt MAX_TRANSACTIONS (sum_by (λ part. length part.1) parts) then Some TooManyTransactions
     else None)

@@ -9,6 +9,7 @@ use Rattle.std.specs.declared.hash.FoldHasher.{FoldHasher}
 use Rattle.tcc_txn.specs.Lines.{Record, line_of, same}
 use Rattle.tcc_txn.specs.Past.{begin_count, fault_of, is_begun, item_of, keys, lesser, ops_since, seal_count, sessions, with_name}
 use Rattle.tcc_txn.specs.Transactions.{writes_zero}
+use Rattle.tcc_txn.specs.declared.limits.TheConstants.{MAX_KEYS, MAX_SEALS, MAX_SESSIONS, MAX_TRANSACTIONS}
 use Rattle.tcc_txn.specs.declared.op.Op.{Op}
 use Rattle.tcc_txn.specs.declared.rows.Item.{Item}
 use Rattle.tcc_txn.specs.declared.rows.RowFaultKind.{RowFaultKind}
@@ -32,7 +33,7 @@ Seats = HashMap (List ℕ) (Option (List Op)) (BuildHasherDefault FoldHasher)
 pub record HoldsSeats (past : List Line) (seats : Seats) : Type 0 where
   pub each : (name : List ℕ) → get same seats name ≡ seat_of name past
   pub count : hash_map_len seats ≡ length (sessions past)
-  pub few : length (sessions past) ≤ 64
+  pub few : length (sessions past) ≤ MAX_SESSIONS
 
 -- the least of the sessions so far that have begun a transaction, and one more
 abbrev pub lower : Option (List ℕ) → List ℕ × Option (List Op) → Option (List ℕ)
@@ -47,28 +48,28 @@ NameSet = HashSet (List ℕ) (BuildHasherDefault FoldHasher)
 pub record HoldsNames (names : List (List ℕ)) (set : NameSet) : Type 0 where
   pub each : (name : List ℕ) → contains same set name ≡ list_any (same name) names
   pub count : hash_set_len set ≡ length names
-  pub few : length names ≤ 1024
+  pub few : length names ≤ MAX_KEYS
 
 -- the session can begin a transaction after these lines, or it has begun one, or it is one session too many
 abbrev pub MayBegin : {U : Type 0} → List Line → List ℕ → Result U RowFaultKind → Type 0
-MayBegin past name (Ok done) = (is_begun name past ≡ false) × (length (sessions (line.Begin name ∷ past)) ≤ 64)
+MayBegin past name (Ok done) = (is_begun name past ≡ false) × (length (sessions (line.Begin name ∷ past)) ≤ MAX_SESSIONS)
 MayBegin past name (Err k) =
     ((k ≡ kind.AlreadyBegun) × (is_begun name past ≡ true))
-    ⊎ ((k ≡ kind.TooManySessions) × (is_begun name past ≡ false) × (64 < length (sessions (line.Begin name ∷ past))))
+    ⊎ ((k ≡ kind.TooManySessions) × (is_begun name past ≡ false) × (MAX_SESSIONS < length (sessions (line.Begin name ∷ past))))
 
 -- one more name is held, or it is one too many
 abbrev pub NotesName : {U : Type 0} → List (List ℕ) → List ℕ → Result U RowFaultKind → NameSet → Type 0
 NotesName names name (Ok done) new = HoldsNames (with_name name names) new
-NotesName names name (Err k) new = ((k ≡ kind.TooManyKeys) × (1024 < length (with_name name names))) ⊎ (k ≡ kind.NoMemory)
+NotesName names name (Err k) new = ((k ≡ kind.TooManyKeys) × (MAX_KEYS < length (with_name name names))) ⊎ (k ≡ kind.NoMemory)
 
 -- the progress is that of these lines
 pub record IsAfter (past : List Line) (p : Progress) : Type 0 where
   pub seats : HoldsSeats past p.sessions
   pub names : HoldsNames (keys past) p.keys
   pub begun : p.begun ≡ begin_count past
-  pub few_begun : begin_count past ≤ 1023
+  pub few_begun : begin_count past ≤ MAX_TRANSACTIONS
   pub sealed : p.seals ≡ seal_count past
-  pub few_sealed : seal_count past ≤ 256
+  pub few_sealed : seal_count past ≤ MAX_SEALS
 
 -- the line is lawful after the others and is one of them now, or it has this kind of fault
 abbrev pub PassesLine : {U : Type 0} → List Line → Line → Result U RowFaultKind → Progress → Type 0

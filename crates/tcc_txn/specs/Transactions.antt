@@ -1,6 +1,7 @@
 -- Operations and transactions.
 use Rattle.std.specs.Prelude.{ℕ, ◌+◌, Bool, false, ◌==◌, nat_lt, if◌then◌else◌, List, length, Option, None, Some, position}
 use Rattle.std.specs.Option.{option_map_or}
+use Rattle.tcc_txn.specs.declared.limits.TheConstants.{MAX_OPERATIONS}
 use Rattle.tcc_txn.specs.declared.op.Op.{Op}
 use Rattle.tcc_txn.specs.declared.op.Op.TheVariants.{Get, Put}
 use Rattle.tcc_txn.specs.declared.txn.TxnFault.{TxnFault}
@@ -26,7 +27,7 @@ abbrev pub writes_zero : Op → Bool
 writes_zero (Get key value) = false
 writes_zero (Put key value) = value == 0
 
--- why the operations make no transaction: one at a place, counted from 1, writes 0, or there are more than 256
+-- why the operations make no transaction: one at a place, counted from 1, writes 0, or there are more than `MAX_OPERATIONS`
 abbrev pub txn_fault : List Op → Option TxnFault
 txn_fault ops =
-    option_map_or (λ i. Some (WriteOfZero (i + 1))) (position writes_zero ops) (if nat_lt 256 (length ops) then Some TooManyOps else None)
+    option_map_or (λ i. Some (WriteOfZero (i + 1))) (position writes_zero ops) (if nat_lt MAX_OPERATIONS (length ops) then Some TooManyOps else None)

@@ -1,6 +1,7 @@
 //! Records of sessions to transactions: names, operations, transactions and snapshots.
 #![tactic(auto)]
 
+mod limits;
 mod memory;
 mod name;
 mod op;
@@ -8,6 +9,10 @@ mod rows;
 mod snapshot;
 mod txn;
 
+pub use limits::{
+    MAX_COUNT, MAX_INPUT_BYTES, MAX_KEYS, MAX_NAME_BYTES, MAX_OPERATIONS, MAX_SEALS, MAX_SESSIONS,
+    MAX_TRANSACTIONS,
+};
 pub use memory::NoMemory;
 pub use name::{Name, NameFault};
 pub use op::Op;

@@ -8,8 +8,9 @@ ghost use Rattle.std.specs.Cmp.{partial_equiv_from_equiv};
 ghost use Rattle.std.specs.Cmp.Rules.{hashing};
 ghost use Rattle.std.proofs.Common.{rules};
 ghost use Rattle.tcc_txn.specs.Names.{is_name_byte, name_fault, name_of};
+ghost use Rattle.tcc_txn.specs.declared.limits.TheConstants.{MAX_NAME_BYTES};
 
-use crate::NoMemory;
+use crate::{MAX_NAME_BYTES, NoMemory};
 use std::cmp::Ordering;
 use std::fmt;
 use std::hash::{Hash, Hasher};
@@ -22,8 +23,8 @@ pub enum NameFault {
     /// There are no bytes.
     #[error("a name has at least one byte")]
     Empty,
-    /// There are more than 32 bytes.
-    #[error("a name has at most 32 bytes")]
+    /// There are more than `MAX_NAME_BYTES` bytes.
+    #[error("the name is too long")]
     TooLong,
     /// The first byte that no name has, counted from 1.
     #[error("byte {at} cannot stand in a name")]
@@ -33,10 +34,10 @@ pub enum NameFault {
     NoMemory,
 }
 
-/// The name of a session or a key: 1 to 32 bytes out of `A-Z`, `a-z`, `0-9`, `_`, `.` and `-`.
+/// The name of a session or a key: 1 to `MAX_NAME_BYTES` bytes out of `A-Z`, `a-z`, `0-9`, `_`, `.` and `-`.
 pub struct Name {
     len: u8,
-    buffer: [u8; 32],
+    buffer: [u8; MAX_NAME_BYTES],
 }
 
 impl Model for Name {
@@ -83,7 +84,7 @@ fn fault_of(bytes: &[u8]) -> Option<NameFault>
     if bytes.is_empty() {
         return Some(NameFault::Empty);
     }
-    if bytes.len() > 32 {
+    if bytes.len() > MAX_NAME_BYTES {
         return Some(NameFault::TooLong);
     }
     let before = first_bad_byte(bytes)?;
@@ -91,8 +92,8 @@ fn fault_of(bytes: &[u8]) -> Option<NameFault>
 }
 
 /// The eight bytes from a place on as a number, the first of them highest.
-fn word(buffer: &[u8; 32], at: usize) -> u64
-    requires { at + 8 ≤ 32 }
+fn word(buffer: &[u8; MAX_NAME_BYTES], at: usize) -> u64
+    requires { at + 8 ≤ MAX_NAME_BYTES }
     ensures { result ≡ from_be_bytes w64 (take 8 (drop at buffer.now)) }
 {
     u64::from_be_bytes([
@@ -108,15 +109,15 @@ fn word(buffer: &[u8; 32], at: usize) -> u64
 }
 
 /// The order of the eight bytes from a place on.
-fn cmp_word(one: &[u8; 32], other: &[u8; 32], at: usize) -> Ordering
-    requires { at + 8 ≤ 32 }
+fn cmp_word(one: &[u8; MAX_NAME_BYTES], other: &[u8; MAX_NAME_BYTES], at: usize) -> Ordering
+    requires { at + 8 ≤ MAX_NAME_BYTES }
     ensures { result ≡ slice_cmp nat_cmp (take 8 (drop at one.now)) (take 8 (drop at other.now)) }
 {
     word(one, at).cmp(&word(other, at))
 }
 
 /// The order of two buffers, eight bytes at a time.
-fn cmp_padded(one: &[u8; 32], other: &[u8; 32]) -> Ordering
+fn cmp_padded(one: &[u8; MAX_NAME_BYTES], other: &[u8; MAX_NAME_BYTES]) -> Ordering
     ensures { result ≡ slice_cmp nat_cmp one.now other.now }
 {
     // Most names differ here, and this test is quicker than a three-way comparison.
@@ -136,7 +137,7 @@ impl Name {
         if let Some(fault) = fault_of(bytes) {
             return Err(fault);
         }
-        let mut buffer = [0; 32];
+        let mut buffer = [0; MAX_NAME_BYTES];
         buffer[..bytes.len()].copy_from_slice(bytes);
         Ok(Name {
             len: bytes.len() as u8,
@@ -148,7 +149,7 @@ impl Name {
     pub fn bytes(&self) -> &[u8]
         ensures value { result.now ≡ self.now }
         ensures some { 0 < length result.now }
-        ensures short { length result.now ≤ 32 }
+        ensures short { length result.now ≤ MAX_NAME_BYTES }
     {
         &self.buffer[..self.len as usize]
     }

@@ -58,25 +58,25 @@ pub enum RowFaultKind {
     /// A transaction of the session is begun already.
     #[error("a transaction of the session is begun already")]
     AlreadyBegun,
-    /// A transaction has at most 256 operations.
-    #[error("a transaction has at most 256 operations")]
+    /// A transaction has at most `MAX_OPERATIONS` operations.
+    #[error("the transaction has too many operations")]
     TooManyOps,
-    /// An input has at most 64 sessions.
-    #[error("there are at most 64 sessions")]
+    /// An input has at most `MAX_SESSIONS` sessions.
+    #[error("there are too many sessions")]
     TooManySessions,
-    /// An input has at most 1,023 transactions, aborted ones among them.
-    #[error("there are at most 1023 transactions")]
+    /// An input has at most `MAX_TRANSACTIONS` transactions, aborted ones among them.
+    #[error("there are too many transactions")]
     TooManyTransactions,
-    /// An input has at most 1,024 keys.
-    #[error("there are at most 1024 keys")]
+    /// An input has at most `MAX_KEYS` keys.
+    #[error("there are too many keys")]
     TooManyKeys,
-    /// An input has at most 256 seals.
-    #[error("there are at most 256 seals")]
+    /// An input has at most `MAX_SEALS` seals.
+    #[error("there are too many seals")]
     TooManySeals,
     /// The input ended inside a transaction; of several sessions this is the least.
     #[error("the transaction of {session} has no end")]
     Unfinished { session: Name },
-    /// The reader failed, or gave more than 67,108,864 bytes.
+    /// The reader failed, or gave more than `MAX_INPUT_BYTES` bytes.
     #[error("the reader failed")]
     Read,
     /// Want of memory.

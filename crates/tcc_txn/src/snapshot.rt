@@ -6,8 +6,9 @@ ghost use Rattle.std.specs.List.Sorted.{IsPermutation, IsSortedByKey};
 ghost use Rattle.std.specs.Ordering.{nat_cmp};
 ghost use Rattle.std.specs.Cmp.Lexicographic.{pointwise, slice_cmp};
 ghost use Rattle.tcc_txn.specs.Snapshots.{parts_of, first_repeated, snapshot_fault};
+ghost use Rattle.tcc_txn.specs.declared.limits.TheConstants.{MAX_SESSIONS, MAX_TRANSACTIONS};
 
-use crate::{Name, Txn};
+use crate::{MAX_SESSIONS, MAX_TRANSACTIONS, Name, Txn};
 use std::marker::Model;
 use thiserror::Error;
 
@@ -17,19 +18,19 @@ pub enum SnapshotFault {
     /// The first name that an earlier one equals.
     #[error("session {session} stands twice")]
     Repeated { session: Name },
-    /// There are more than 64 sessions.
-    #[error("a snapshot has at most 64 sessions")]
+    /// There are more than `MAX_SESSIONS` sessions.
+    #[error("there are too many sessions")]
     TooManySessions,
-    /// There are more than 1,023 transactions, aborted ones counted.
-    #[error("a snapshot has at most 1023 transactions")]
+    /// There are more than `MAX_TRANSACTIONS` transactions, aborted ones counted.
+    #[error("there are too many transactions")]
     TooManyTransactions,
     /// Want of memory; never answered, since the parts are sorted where they lie.
     #[error("out of memory")]
     NoMemory,
 }
 
-/// What the sessions had finished at one moment: up to 64 sessions in byte order of their names, with up to 1,023
-/// transactions in all.
+/// What the sessions had finished at one moment: up to `MAX_SESSIONS` sessions in byte order of their names,
+/// with up to `MAX_TRANSACTIONS` transactions in all.
 #[derive(Drop)]
 pub struct Snapshot {
     sessions: Vec<(Name, Vec<Txn>)>,
@@ -68,11 +69,11 @@ fn first_repeated(parts: &[(Name, Vec<Txn>)]) -> Option<Name>
 }
 
 fn has_too_many_transactions(parts: &[(Name, Vec<Txn>)]) -> bool
-    ensures { result ≡ nat_lt 1023 (sum_by (λ part. length part.1.items) parts.now) }
+    ensures { result ≡ nat_lt MAX_TRANSACTIONS (sum_by (λ part. length part.1.items) parts.now) }
 {
     let mut total = 0;
     for part in parts {
-        if part.1.len() > 1023 - total {
+        if part.1.len() > MAX_TRANSACTIONS - total {
             return true;
         }
         total += part.1.len();
@@ -86,7 +87,7 @@ fn fault_of(parts: &[(Name, Vec<Txn>)]) -> Option<SnapshotFault>
     if let Some(session) = first_repeated(parts) {
         return Some(SnapshotFault::Repeated { session });
     }
-    if parts.len() > 64 {
+    if parts.len() > MAX_SESSIONS {
         return Some(SnapshotFault::TooManySessions);
     }
     if has_too_many_transactions(parts) {
@@ -122,8 +123,8 @@ impl Snapshot {
     /// The number of sessions.
     pub fn sessions(&self) -> u32
         ensures value { result ≡ sessions.len self.now }
-        ensures few { result ≤ 64 }
-        ensures few_transactions { sum_by (λ named. length named.1) (sessions.entries self.now) ≤ 1023 }
+        ensures few { result ≤ MAX_SESSIONS }
+        ensures few_transactions { sum_by (λ named. length named.1) (sessions.entries self.now) ≤ MAX_TRANSACTIONS }
     {
         self.sessions.len() as u32
     }

@@ -1,8 +1,9 @@
 //! Finished transactions.
 ghost use Rattle.std.specs.Prelude.{◌≡◌, ◌≤◌, ℕ, length, None, Some, IfOk, MatchResult, position};
 ghost use Rattle.tcc_txn.specs.Transactions.{writes_zero, txn_fault};
+ghost use Rattle.tcc_txn.specs.declared.limits.TheConstants.{MAX_OPERATIONS};
 
-use crate::{NoMemory, Op};
+use crate::{MAX_OPERATIONS, NoMemory, Op};
 use std::alloc::Global;
 use std::marker::Model;
 use thiserror::Error;
@@ -13,12 +14,12 @@ pub enum TxnFault {
     /// The first operation that writes 0, counted from 1.
     #[error("operation {at} writes 0")]
     WriteOfZero { at: usize },
-    /// There are more than 256 operations.
-    #[error("a transaction has at most 256 operations")]
+    /// There are more than `MAX_OPERATIONS` operations.
+    #[error("there are too many operations")]
     TooManyOps,
 }
 
-/// A finished transaction: up to 256 operations, of which none writes 0, and how it ended.
+/// A finished transaction: up to `MAX_OPERATIONS` operations, of which none writes 0, and how it ended.
 #[derive(Drop)]
 pub struct Txn {
     ops: Vec<Op>,
@@ -54,7 +55,7 @@ impl Txn {
         if let Some(before) = first_write_of_zero(&ops) {
             return Err((TxnFault::WriteOfZero { at: before + 1 }, ops));
         }
-        if ops.len() > 256 {
+        if ops.len() > MAX_OPERATIONS {
             return Err((TxnFault::TooManyOps, ops));
         }
         Ok(Txn { ops, committed })
@@ -63,7 +64,7 @@ impl Txn {
     /// Its operations, in order.
     pub fn ops(&self) -> &[Op]
         ensures value { result.now ≡ self.now.ops }
-        ensures few { length result.now ≤ 256 }
+        ensures few { length result.now ≤ MAX_OPERATIONS }
     {
         &self.ops
     }

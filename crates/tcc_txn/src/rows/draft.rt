@@ -2,16 +2,14 @@
 ghost use Rattle.std.specs.Prelude.{◌≡◌, ◌≤◌, ◌<◌, ◌⊎◌, ◌++◌, ◌∷◌, [], false, length, OnOk, IfErr};
 ghost use Rattle.tcc_txn.specs.Drafts.{AddsOp};
 ghost use Rattle.tcc_txn.specs.Transactions.{writes_zero};
+ghost use Rattle.tcc_txn.specs.declared.limits.TheConstants.{MAX_OPERATIONS};
 
 use super::RowFaultKind;
-use crate::{Op, Txn};
+use crate::{MAX_OPERATIONS, Op, Txn};
 use std::alloc::Global;
 use std::marker::Model;
 
-/// The operations of a transaction.
-const MOST_OPERATIONS: usize = 256;
-
-/// Up to 256 operations, of which none writes 0.
+/// Up to `MAX_OPERATIONS` operations, of which none writes 0.
 #[derive(Drop)]
 pub(crate) struct Draft {
     ops: Vec<Op>,
@@ -41,11 +39,11 @@ impl Draft {
     /// One more operation.
     fn push(&mut self, op: Op) -> Result<(), RowFaultKind>
         requires { writes_zero op ≡ false }
-        ensures room { OnOk result (length self.old < 256) }
+        ensures room { OnOk result (length self.old < MAX_OPERATIONS) }
         ensures pushed { OnOk result (self.new ≡ self.old ++ op ∷ []) }
-        ensures refused { IfErr result (λ k. ((k ≡ RowFaultKind.TooManyOps) × (256 ≤ length self.old)) ⊎ (k ≡ RowFaultKind.NoMemory)) }
+        ensures refused { IfErr result (λ k. ((k ≡ RowFaultKind.TooManyOps) × (MAX_OPERATIONS ≤ length self.old)) ⊎ (k ≡ RowFaultKind.NoMemory)) }
     {
-        if self.ops.len() >= MOST_OPERATIONS {
+        if self.ops.len() >= MAX_OPERATIONS {
             return Err(RowFaultKind::TooManyOps);
         }
         if self.ops.push(op).is_err() {

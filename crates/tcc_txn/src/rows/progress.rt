@@ -15,19 +15,10 @@ ghost use Rattle.tcc_txn.specs.declared.rows.line.Line.TheVariants as line;
 use super::draft::{Draft, add_operation};
 use super::line::{Line, field, read_access, read_op, read_session};
 use super::{Item, RowFaultKind};
-use crate::{Name, Op, Txn};
+use crate::{MAX_KEYS, MAX_SEALS, MAX_SESSIONS, MAX_TRANSACTIONS, Name, Op, Txn};
 use csv::ByteRecord;
 use std::alloc::Global;
 use std::collections::{HashMap, HashSet};
-
-/// The sessions of an input.
-const MOST_SESSIONS: usize = 64;
-/// The transactions of an input, aborted ones among them.
-const MOST_TRANSACTIONS: u32 = 1023;
-/// The keys of an input.
-const MOST_KEYS: usize = 1024;
-/// The seals of an input.
-const MOST_SEALS: u32 = 256;
 
 /// Each session with the operations of the transaction that it has begun; the keys so far; how
 /// many transactions were begun and how many seals there were.
@@ -35,8 +26,8 @@ const MOST_SEALS: u32 = 256;
 pub(crate) struct Progress {
     sessions: HashMap<Name, Option<Draft>>,
     keys: HashSet<Name>,
-    begun: u32,
-    seals: u32,
+    begun: usize,
+    seals: usize,
 }
 
 /// The key is one of those so far, of which there are not too many.
@@ -46,7 +37,7 @@ fn note_key(keys: &mut HashSet<Name>, key: Name) -> Result<(), RowFaultKind>
     if keys.contains(&key) {
         return Ok(());
     }
-    if keys.len() >= MOST_KEYS {
+    if keys.len() >= MAX_KEYS {
         return Err(RowFaultKind::TooManyKeys);
     }
     match keys.insert(key) {
@@ -63,7 +54,7 @@ fn may_begin(sessions: &HashMap<Name, Option<Draft>>, session: &Name) -> Result<
         Some(Some(_)) => Err(RowFaultKind::AlreadyBegun),
         Some(None) => Ok(()),
         None => {
-            if sessions.len() >= MOST_SESSIONS {
+            if sessions.len() >= MAX_SESSIONS {
                 Err(RowFaultKind::TooManySessions)
             } else {
                 Ok(())
@@ -112,7 +103,7 @@ impl Progress {
     fn seal(&mut self) -> Result<(), RowFaultKind>
         ensures { (past : List Line) → IsAfter past self.old → PassesLine past line.Seal result self.new }
     {
-        if self.seals >= MOST_SEALS {
+        if self.seals >= MAX_SEALS {
             return Err(RowFaultKind::TooManySeals);
         }
         self.seals += 1;
@@ -124,7 +115,7 @@ impl Progress {
         ensures { (past : List Line) → IsAfter past self.old → PassesLine past (line.Begin session) result self.new }
     {
         may_begin(&self.sessions, &session)?;
-        if self.begun >= MOST_TRANSACTIONS {
+        if self.begun >= MAX_TRANSACTIONS {
             return Err(RowFaultKind::TooManyTransactions);
         }
         match self.sessions.insert(session, Some(Draft::new(alloc))) {

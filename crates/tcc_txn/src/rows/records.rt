@@ -9,12 +9,10 @@ ghost use Rattle.tcc_txn.specs.RecordsLeft.{HasLeft, IsFailure, TakesRecord, rec
 
 use super::RowFaultKind;
 use super::limited::Limited;
+use crate::MAX_INPUT_BYTES;
 use csv::{ByteRecord, Reader, ReaderBuilder};
 use std::alloc::Global;
 use std::io::Read;
-
-/// A reader is given up past so many bytes.
-const MOST_BYTES: usize = 67_108_864;
 
 /// A reader of records, and the record that it read last.
 #[derive(Drop)]
@@ -39,7 +37,7 @@ impl<R: Read> Records<R> {
             reader: ReaderBuilder::new()
                 .has_headers(false)
                 .flexible(true)
-                .from_reader(alloc, Limited::new(reader, MOST_BYTES)),
+                .from_reader(alloc, Limited::new(reader, MAX_INPUT_BYTES as usize)),
             record: ByteRecord::new(alloc),
         }
     }

@@ -13,19 +13,19 @@ returns-in-Some c =
     sym (snapshot_fault-parts_of parts
     ∙ ap (λ repeated. fault_by repeated (length parts) (transactions_of parts)) (sym c.first_repeated.ensures ∙ c.in-Some.is))
 
-pub returns-then-parts-gt64 : goal.returns-then-parts-gt64
-returns-then-parts-gt64 c =
+pub returns-then-parts-gt-MAX_SESSIONS : goal.returns-then-parts-gt-MAX_SESSIONS
+returns-then-parts-gt-MAX_SESSIONS c =
     let parts = c.args.parts.now in
     sym (snapshot_fault-parts_of parts
     ∙ ap (λ repeated. fault_by repeated (length parts) (transactions_of parts)) (sym c.first_repeated.ensures ∙ c.in_default.is)
-    ∙ sessions_fault (length parts) (transactions_of parts) c.if-parts-gt64.true)
+    ∙ sessions_fault (length parts) (transactions_of parts) c.if-parts-gt-MAX_SESSIONS.true)
 
 pub returns-then-has_too_many_transactions : goal.returns-then-has_too_many_transactions
 returns-then-has_too_many_transactions c =
     let parts = c.args.parts.now in
     sym (snapshot_fault-parts_of parts
     ∙ ap (λ repeated. fault_by repeated (length parts) (transactions_of parts)) (sym c.first_repeated.ensures ∙ c.in_default.is)
-    ∙ transactions_fault (length parts) (transactions_of parts) c.if-parts-gt64.false
+    ∙ transactions_fault (length parts) (transactions_of parts) c.if-parts-gt-MAX_SESSIONS.false
     (sym c.has_too_many_transactions.ensures ∙ c.if-has_too_many_transactions.true))
 
 pub returns : goal.returns
@@ -33,5 +33,5 @@ returns c =
     let parts = c.args.parts.now in
     sym (snapshot_fault-parts_of parts
     ∙ ap (λ repeated. fault_by repeated (length parts) (transactions_of parts)) (sym c.first_repeated.ensures ∙ c.in_default.is)
-    ∙ no_fault (length parts) (transactions_of parts) c.if-parts-gt64.false
+    ∙ no_fault (length parts) (transactions_of parts) c.if-parts-gt-MAX_SESSIONS.false
     (sym c.has_too_many_transactions.ensures ∙ c.if-has_too_many_transactions.false))

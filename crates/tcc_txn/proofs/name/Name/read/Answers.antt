@@ -5,6 +5,7 @@ use Rattle.std.specs.Option.{option_map_or}
 use Rattle.tcc_txn.specs.Names.{name_fault}
 use Rattle.tcc_txn.specs.Stored.{stored_in_front}
 use Rattle.tcc_txn.proofs.name.Name.read.Goals as goal
+use Rattle.tcc_txn.specs.declared.limits.TheConstants.{MAX_NAME_BYTES}
 
 pub returns-in-Some : goal.returns-in-Some
 returns-in-Some c =
@@ -22,5 +23,5 @@ returns c =
     let bytes : List ℕ = c.args.bytes.now in
     let none : name_fault bytes ≡ None = sym c.fault_of.ensures ∙ c.in_default.is in
     rw (c.copy_from_slice.ensures.after)
-    (ap Ok (take_at bytes (drop (length bytes) (replicate 32 0)) (length bytes) refl)
+    (ap Ok (take_at bytes (drop (length bytes) (replicate MAX_NAME_BYTES 0)) (length bytes) refl)
     ∙ sym (ap (λ fault. option_map_or Err fault (Ok bytes)) none))

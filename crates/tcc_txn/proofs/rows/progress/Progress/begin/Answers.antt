@@ -6,4 +6,4 @@ pub returns-in-Ok : goal.returns-in-Ok
 returns-in-Ok c past is =
     let may = c.in_ok-may_begin.ensures past is.seats in
     let inserted = c.in-Ok.ensures in
-    after-begin past c.args.session c.args.self.now _ is may.0 may.1 c.if-self-ge-MOST_TRANSACTIONS.false (rw c.new.ensures at inserted.updates) (rw inserted.old at inserted.len) refl refl refl
+    after-begin past c.args.session c.args.self.now _ is may.0 may.1 c.if-self-ge-MAX_TRANSACTIONS.false (rw c.new.ensures at inserted.updates) (rw inserted.old at inserted.len) refl refl refl
