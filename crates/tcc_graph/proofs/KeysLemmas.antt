@@ -1,13 +1,13 @@
 -- Which names are keys.
 use Rattle.std.proofs.Common.{ℕ, zero, suc, ◌<◌, ◌≡◌, Bool, true, false, List, [], ◌∷◌, length, get_or, refl, sym, ap, ◌∙◌, arith, inl, inr}
 use Rattle.std.specs.Prelude.{map, filter, flat_map, bytes_eq, ◌||◌, ◌==◌}
-use Rattle.std.specs.Ordering.{nat_cmp}
 use Rattle.std.specs.declared.cmp.Ordering.{Ordering}
 use Rattle.std.specs.declared.cmp.Ordering.TheVariants.{Less, Equal, Greater}
-use Rattle.std.specs.Cmp.Lexicographic.{slice_cmp}
 use Rattle.std.specs.BTreeSet.{insert_key}
 use Rattle.std.specs.List.{list_any}
+use Rattle.std.proofs.Math.Bool.{or-false}
 use Rattle.std.proofs.lemmas.Bool.{or_parts, cases_lt}
+use Rattle.tcc_txn.proofs.Lists.{or_swap}
 use Rattle.std.proofs.lemmas.Map.Lookups.{exact_bytes}
 use Rattle.std.proofs.lemmas.List.{get_or_past, get_or_default}
 use Rattle.std.proofs.lemmas.List.Folds.{list_any-append, list_any_none, list_any-from_Any}
@@ -21,15 +21,6 @@ use Rattle.tcc_graph.proofs.NameLemmas.{bytes_eq-same, bytes_eq-other}
 or_again : (a : Bool) (b : Bool) → (a || b) ≡ (a || (a || b))
 or_again true b = refl
 or_again false b = refl
-
-or_swap : (a : Bool) (b : Bool) (c : Bool) → (a || (b || c)) ≡ (b || (a || c))
-or_swap true true c = refl
-or_swap true false c = refl
-or_swap false b c = refl
-
-or_false : (a : Bool) → (a || false) ≡ a
-or_false true = refl
-or_false false = refl
 
 or_pairs : (a : Bool) (b : Bool) (c : Bool) → ((a || b) || c) ≡ (b || (a || c))
 or_pairs true true c = refl
@@ -51,7 +42,7 @@ has_name-insert (y ∷ ys) n x = go (has_name-insert ys n x) (name_cmp n y) refl
     go rest Greater e = rw e (ap (λ b. bytes_eq x y || b) rest ∙ or_swap (bytes_eq x y) (bytes_eq x n) (has_name ys x))
 
 has_name-with : (sorted : List (List ℕ)) (names : List (List ℕ)) (x : List ℕ) → has_name (with_names sorted names) x ≡ (has_name sorted x || has_name names x)
-has_name-with sorted [] x = sym (or_false (has_name sorted x))
+has_name-with sorted [] x = sym (or-false (has_name sorted x))
 has_name-with sorted (n ∷ names) x =
     has_name-with (insert_key name_cmp sorted n) names x
     ∙ ap (λ b. b || has_name names x) (has_name-insert sorted n x)

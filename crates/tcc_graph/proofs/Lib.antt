@@ -1,11 +1,25 @@
+-- The home of lemmas on causal pairs, steps, walks, links, routes and orders. What the crates above take:
+--   Pairs        causal pairs by their test and by their kinds, steps of pairs, and the ends of pairs, steps and links
+--   Walking      walks joined, split and a step longer
+--   Linking      what links and routes cost; routes joined, split and a link longer
+--   Tied         the comparisons of steps and links are total orders, and what ties is the same
+--   Numberings   where numbers stand in an order
+--   NameLemmas   names in lists: found by a test, and by place in a sorted list
+--   KeysLemmas   which names are keys
+--   Worked       small histories worked out by hand
+-- The others serve the proofs of this crate. Lemmas on lists, truth values and results alone: tcc_txn's proofs/Lists.
 pub mod GraphLemmas
 pub mod GroupedLemmas
 pub mod KeyRowLemmas
 pub mod KeyTableLemmas
 pub mod KeysLemmas
 pub mod LastLemmas
+pub mod Linking
 pub mod MarkLemmas
 pub mod NameLemmas
+pub mod Numberings
 pub mod Pairs
 pub mod TableLemmas
+pub mod Tied
+pub mod Walking
 pub mod Worked

@@ -1,13 +1,13 @@
 -- Names in lists, sorted and not.
-use Rattle.std.proofs.Common.{ℕ, ◌+◌, ◌<◌, ◌≡◌, ◌≢◌, true, false, List, [], ◌∷◌, length, get_or, take, refl, sym, ap, ◌∙◌, arith, inl, inr, Result, Ok, Err}
+use Rattle.std.proofs.Common.{ℕ, zero, suc, ◌⊎◌, ◌+◌, ◌<◌, ◌≡◌, ◌≢◌, true, false, List, [], ◌∷◌, length, get_or, take, refl, sym, ap, ◌∙◌, arith, inl, inr, Result, Ok, Err}
 use Rattle.std.specs.Prelude.{bytes_eq, ◌||◌, MatchOption}
-use Rattle.std.specs.Ordering.{nat_cmp, is_lt}
+use Rattle.std.specs.Ordering.{is_lt}
 use Rattle.std.specs.declared.cmp.Ordering.{Ordering}
 use Rattle.std.specs.declared.cmp.Ordering.TheVariants.{Less, Equal, Greater}
-use Rattle.std.specs.Cmp.Lexicographic.{slice_cmp}
 use Rattle.std.specs.List.Sorted.{IsStrictlySortedBy, IsSortedBy, IsBinarySearchResult, IsSearchInRange}
+use Rattle.std.specs.List.{Contains}
 use Rattle.std.specs.Result.{result_ok}
-use Rattle.std.proofs.lemmas.Bool.{cases_lt, cases_order, eq-eqb, ne_eqb, false_from_ne_true}
+use Rattle.std.proofs.lemmas.Bool.{cases_lt, cases_order, eq-eqb, ne_eqb, false_from_ne_true, false≢true, or_cases, or_left, or_right}
 use Rattle.std.proofs.Math.Bool.{or-false}
 use Rattle.std.proofs.lemmas.Slice.Eq.{bytes_eq-Decides}
 use Rattle.std.proofs.lemmas.Cmp.{nat_list_cmp_total, tied_itself}
@@ -76,3 +76,17 @@ pub has_name-more : (names : List (List ℕ)) (j : ℕ) (name : List ℕ) (x : L
     → has_name (take (j + 1) names) x ≡ (has_name (take j names) x || bytes_eq x name)
 has_name-more names j name x h is =
     rw (take_more names j name h, list_any-append (bytes_eq x) (take j names) (get_or names j name ∷ []), ← is) (ap (λ b. has_name (take j names) x || b) (or-false (bytes_eq x name)))
+
+-- a name is found exactly where it stands in the list
+pub has_name-contains : (names : List (List ℕ)) (x : List ℕ) → has_name names x ≡ true → Contains names x
+has_name-contains [] x h = absurd (false≢true h)
+has_name-contains (y ∷ names) x h = go (has_name-contains names x) (or_cases (bytes_eq x y) (has_name names x) h)
+  where
+    go : (has_name names x ≡ true → Contains names x) → (bytes_eq x y ≡ true) ⊎ (has_name names x ≡ true) → Contains (y ∷ names) x
+    go rest (inl e) = (0, omega arith, sym ((bytes_eq-Decides x y).0 e))
+    go rest (inr r) = let w = rest r in (suc w.0, omega (arith, w.1), w.2)
+
+pub contains-has_name : (names : List (List ℕ)) (x : List ℕ) → Contains names x → has_name names x ≡ true
+contains-has_name [] x (k, l, e) = absurd (omega arith)
+contains-has_name (y ∷ names) x (zero, l, e) = or_left _ _ ((bytes_eq-Decides x y).1 (sym e))
+contains-has_name (y ∷ names) x (suc k, l, e) = or_right _ _ (contains-has_name names x (k, omega arith, e))

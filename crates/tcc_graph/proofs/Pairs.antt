@@ -54,7 +54,7 @@ pub pair_from_step : (h : History) (s : Step) → IsStep h s → causal_pair h (
 pair_from_step h s p = pair_from_kinds h (step_from s) (step_to s) (step_pair h s p)
 
 -- a causal pair is a step
-step_of_kind : (h : History) (a b : ℕ) → IsCausalPair h a b → (s : Step) × (step_from s ≡ a) × (step_to s ≡ b) × IsStep h s
+pub step_of_kind : (h : History) (a b : ℕ) → IsCausalPair h a b → (s : Step) × (step_from s ≡ a) × (step_to s ≡ b) × IsStep h s
 step_of_kind h a b (inl session) = (step.Session a b, refl, refl, session)
 step_of_kind h a b (inr (x, reads)) = (step.Reads a b x, refl, refl, reads)
 

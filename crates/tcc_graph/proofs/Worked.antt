@@ -1,4 +1,4 @@
--- Small histories, worked out by hand, that the definitions have to agree with.
+-- Small histories, worked out by hand, that the definitions have to agree with. The crates above take their histories from here.
 use Rattle.std.proofs.Common.{ℕ, ◌≡◌, List, [], ◌∷◌, length, refl, arith, true, false, Some, None}
 use Rattle.std.specs.Prelude.{codes, decimal, ◌++◌}
 use Rattle.std.specs.declared.cmp.Ordering.TheVariants.{Less, Greater}
@@ -15,18 +15,18 @@ use Rattle.tcc_graph.specs.declared.step.Step.TheVariants as step
 use Rattle.tcc_graph.specs.declared.link.Link.{Link}
 use Rattle.tcc_graph.specs.declared.link.Link.TheVariants as link
 
-abbrev x : List ℕ
+abbrev pub x : List ℕ
 x = codes "x"
 
-abbrev y : List ℕ
+abbrev pub y : List ℕ
 y = codes "y"
 
 -- a transaction of a session at a place, with what it writes and reads
-abbrev entry : ℕ → ℕ → List (List ℕ) → List (List ℕ × ℕ) → Entry
+abbrev pub entry : ℕ → ℕ → List (List ℕ) → List (List ℕ × ℕ) → Entry
 entry owner place writes reads = record { owner = owner; place = place; writes = writes; reads = reads }
 
 -- a/1 writes x, and a/2 reads the initial value of x
-abbrev stale_read : History
+abbrev pub stale_read : History
 stale_read = record {
   sessions = codes "a" ∷ [];
   entries = initial ∷ entry 0 1 (x ∷ []) [] ∷ entry 0 2 [] ((x, 0) ∷ []) ∷ [];
@@ -65,10 +65,10 @@ stale_read-numbers = (refl, refl, refl)
 stale_read-labels : (label stale_read 0 ≡ codes "init") × (label stale_read 2 ≡ codes "a" ++ 47 ∷ decimal 2)
 stale_read-labels = (refl, refl)
 
-abbrev stale_cycle : List Link
+abbrev pub stale_cycle : List Link
 stale_cycle = link.Session 0 1 ∷ link.Derived 1 0 x 2 (step.Session 1 2 ∷ []) ∷ []
 
-stale_read-cycle : IsCycle stale_read 0 stale_cycle
+pub stale_read-cycle : IsCycle stale_read 0 stale_cycle
 stale_read-cycle = (
   omega arith,
   (
@@ -89,7 +89,7 @@ stale_read-cost : cost stale_cycle ≡ 3
 stale_read-cost = refl
 
 -- a/1 writes x; b/1 reads it and writes y; c/1 reads y, and c/2 the initial value of x
-abbrev long_chain : History
+abbrev pub long_chain : History
 long_chain = record {
   sessions = codes "a" ∷ codes "b" ∷ codes "c" ∷ [];
   entries = initial ∷ entry 0 1 (x ∷ []) [] ∷ entry 1 1 (y ∷ []) ((x, 1) ∷ []) ∷ entry 2 1 [] ((y, 2) ∷ []) ∷ entry 2 2 [] ((x, 0) ∷ []) ∷ [];
@@ -114,10 +114,10 @@ long_chain-writers = (refl, refl)
 long_chain-readers : (readers long_chain 0 x ≡ 4 ∷ []) × (readers long_chain 1 x ≡ 2 ∷ []) × (readers long_chain 2 y ≡ 3 ∷ [])
 long_chain-readers = (refl, refl, refl)
 
-abbrev chain_link : Link
+abbrev pub chain_link : Link
 chain_link = link.Derived 1 0 x 4 (step.Reads 1 2 x ∷ step.Reads 2 3 y ∷ step.Session 3 4 ∷ [])
 
-long_chain-link : IsLink long_chain chain_link
+pub long_chain-link : IsLink long_chain chain_link
 long_chain-link = (
   ((λ e. absurd (omega arith)), (omega arith, omega arith, (0, omega arith, refl)), (omega arith, refl)),
   (
@@ -134,7 +134,7 @@ long_chain-cost : link_cost chain_link ≡ 4
 long_chain-cost = refl
 
 -- a/1 and b/1 write x, and c/1 reads both values
-abbrev two_values : History
+abbrev pub two_values : History
 two_values = record {
   sessions = codes "a" ∷ codes "b" ∷ codes "c" ∷ [];
   entries = initial ∷ entry 0 1 (x ∷ []) [] ∷ entry 1 1 (x ∷ []) [] ∷ entry 2 1 [] ((x, 1) ∷ (x, 2) ∷ []) ∷ [];
@@ -152,10 +152,10 @@ two_values-writers = refl
 two_values-readers : (readers two_values 1 x ≡ 3 ∷ []) × (readers two_values 2 x ≡ 3 ∷ []) × (readers two_values 0 x ≡ [])
 two_values-readers = (refl, refl, refl)
 
-abbrev conflict_cycle : List Link
+abbrev pub conflict_cycle : List Link
 conflict_cycle = link.Derived 1 2 x 3 (step.Reads 1 3 x ∷ []) ∷ link.Derived 2 1 x 3 (step.Reads 2 3 x ∷ []) ∷ []
 
-two_values-cycle : IsCycle two_values 1 conflict_cycle
+pub two_values-cycle : IsCycle two_values 1 conflict_cycle
 two_values-cycle = (
   omega arith,
   (
@@ -180,7 +180,7 @@ two_values-cost : cost conflict_cycle ≡ 4
 two_values-cost = refl
 
 -- a/1 reads the initial value of x and b/1's y, and writes x; b/1 reads that x and writes y
-abbrev each_other : History
+abbrev pub each_other : History
 each_other = record {
   sessions = codes "a" ∷ codes "b" ∷ [];
   entries = initial ∷ entry 0 1 (x ∷ []) ((x, 0) ∷ (y, 2) ∷ []) ∷ entry 1 1 (y ∷ []) ((x, 1) ∷ []) ∷ [];
@@ -200,10 +200,10 @@ each_other-readers : (readers each_other 0 x ≡ 1 ∷ []) × (readers each_othe
 each_other-readers = (refl, refl, refl)
 
 -- from a transaction to itself
-abbrev round_walk : List Step
+abbrev pub round_walk : List Step
 round_walk = step.Reads 1 2 x ∷ step.Reads 2 1 y ∷ []
 
-each_other-walk : IsWalk each_other 1 1 round_walk
+pub each_other-walk : IsWalk each_other 1 1 round_walk
 each_other-walk = (
   omega arith,
   (

@@ -11,12 +11,8 @@ use Rattle.std.specs.Ordering.{eq_by_cmp, match_ordering, ordering_reverse}
 use Rattle.std.specs.BTreeSet.{insert_key}
 use Rattle.std.specs.declared.cmp.Ordering.{Ordering}
 use Rattle.std.specs.declared.cmp.Ordering.TheVariants.{Less, Equal, Greater}
+use Rattle.tcc_txn.proofs.Lists.{or_swap}
 use Rattle.tcc_reads.specs.Sources.{sorted_once, TellsApart}
-
-or_swap : (a b c : Bool) → (a || (b || c)) ≡ (b || (a || c))
-or_swap true true c = refl
-or_swap true false c = refl
-or_swap false b c = refl
 
 or_same : (a b c : Bool) → a ≡ b → (b || c) ≡ (a || (b || c))
 or_same true true c e = refl

@@ -16,12 +16,9 @@ use Rattle.tcc_reads.specs.Sources.{puts_at, value_put, visible_write, shows, so
 use Rattle.tcc_reads.specs.Faults.{puts}
 use Rattle.tcc_txn.specs.Transactions.{op_key}
 use Rattle.tcc_reads.specs.Verdicts.{writer_at, first_in, first_writer, is_in, write_judgement, judgement_from, read_judgement, own_judgement, site_judgement, fault_in, source_in, fault_found, source_found, faults_found, sources_found, entry_found, entries_found}
-use Rattle.tcc_reads.proofs.Ties.{same_name, both_true}
+use Rattle.std.proofs.lemmas.Bool.{and_parts, or_parts, not-true}
+use Rattle.tcc_reads.proofs.Ties.{same_name}
 use Rattle.tcc_reads.proofs.Agreement.{kind_in}
-
-neither : (a b : Bool) → (a || b) ≡ false → (a ≡ false) × (b ≡ false)
-neither true b e = cc
-neither false b e = (refl, e)
 
 -- whether the option has this value
 abbrev has : ℕ → Option ℕ → Bool
@@ -45,7 +42,7 @@ never_shown : (x : List ℕ) (v : ℕ) (ops : List Op) → list_any (puts x v) o
 never_shown x v [] none = refl
 never_shown x v (Get key value ∷ later) none = ap (has v) (or-none (visible_write x later)) ∙ never_shown x v later none
 never_shown x v (Put key value ∷ later) none =
-    let parts = neither (bytes_eq key x && (value == v)) (list_any (puts x v) later) none in
+    let parts = or_parts (bytes_eq key x && (value == v)) (list_any (puts x v) later) none in
     has-later v value (bytes_eq key x) (visible_write x later) (never_shown x v later parts.1) parts.0
 
 -- where a key isn't written nothing is visible
@@ -53,19 +50,15 @@ nothing_visible : (x : List ℕ) (ops : List Op) → list_any (puts_at x) ops �
 nothing_visible x [] none = refl
 nothing_visible x (Get key value ∷ later) none = ap (λ o. option_or o None) (nothing_visible x later none)
 nothing_visible x (Put key value ∷ later) none =
-    let parts = neither (bytes_eq key x) (list_any (puts_at x) later) none in
+    let parts = or_parts (bytes_eq key x) (list_any (puts_at x) later) none in
     λ i. option_or (nothing_visible x later parts.1 i) (cond (parts.0 i) (Some value) None)
-
-not-true : (b : Bool) → not b ≡ true → b ≡ false
-not-true true e = cc
-not-true false e = refl
 
 -- the last write of a key is visible
 last_shown : (x : List ℕ) (v : ℕ) (op : Op) (after : List Op) → puts x v op ≡ true → not (list_any (puts_at (op_key op)) after) ≡ true
     → has v (visible_write x (op ∷ after)) ≡ true
 last_shown x v (Get key value) after here last = cc
 last_shown x v (Put key value) after here last =
-    let parts = both_true (bytes_eq key x) (value == v) here in
+    let parts = and_parts (bytes_eq key x) (value == v) here in
     let same : key ≡ x = same_name key x parts.0 in
     let quiet : list_any (puts_at x) after ≡ false = ap (λ k. list_any (puts_at k) after) (sym same) ∙ not-true (list_any (puts_at key) after) last in
     (λ i. has v (option_or (nothing_visible x after quiet i) (cond (parts.0 i) (Some value) None))) ∙ parts.1
@@ -74,7 +67,7 @@ none_in : (n : Numbered) (before ops : List Op) (x : List ℕ) (v : ℕ) (otherw
     → first_in n before ops x v otherwise ≡ otherwise
 none_in n before [] x v otherwise none = refl
 none_in n before (op ∷ after) x v otherwise none =
-    let parts = neither (puts x v op) (list_any (puts x v) after) none in
+    let parts = or_parts (puts x v op) (list_any (puts x v) after) none in
     ap (λ b. cond b (Some (writer_at n before (op_key op) after)) (first_in n (before ++ op ∷ []) after x v otherwise)) parts.0
     ∙ none_in n (before ++ op ∷ []) after x v otherwise parts.1
 

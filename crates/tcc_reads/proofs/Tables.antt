@@ -1,7 +1,7 @@
 -- The resolver's look-ups, one operation at a time.
 use Rattle.std.proofs.Common.{◌≡◌, ◌<◌, ℕ, ◌+◌, Bool, true, false, cond, not, ◌&&◌, List, [], ◌∷◌, ◌++◌, length, Option, None, Some, refl, ap, sym, ◌∙◌, arith}
 use Rattle.std.specs.Prelude.{◌==◌}
-use Rattle.std.proofs.lemmas.Bool.{eqb-true}
+use Rattle.std.proofs.lemmas.Bool.{eqb-true, and_parts}
 use Rattle.std.specs.Option.{option_or}
 use Rattle.std.specs.List.{list_any}
 use Rattle.std.specs.Str.{bytes_eq}
@@ -16,7 +16,7 @@ use Rattle.tcc_reads.specs.declared.judging.Judgement.TheVariants.{Faulty, Silen
 use Rattle.tcc_reads.specs.Numbers.{Numbered}
 use Rattle.tcc_reads.specs.Sources.{puts_at, value_put, visible_write}
 use Rattle.tcc_reads.specs.Verdicts.{Writes, is_latest, AreFrom, AreOwnIn, AreOwn, IsOwn, AreVisibleWrites, write_at, writer_at, write_judgement, first_in}
-use Rattle.tcc_reads.proofs.Ties.{same_name, numbers_same, itself, both_true, cond_or}
+use Rattle.tcc_reads.proofs.Ties.{same_name, numbers_same, itself, cond_or}
 
 -- one more key that the transaction writes
 pub put_key : {S : Type 0} (t : ℕ) (old new : HashMap (List ℕ) KeyWrites S) (key : List ℕ) (value : ℕ) (ops : List Op)
@@ -87,7 +87,7 @@ module _ (old new : Writes) (key : List ℕ) (value : ℕ) (write : Writer)
     where
       by_key : (b : Bool) → (bytes_eq key x && (value == v)) ≡ b → cond b (Some write) (old x v) ≡ Some w
       by_key true same =
-          let parts = both_true (bytes_eq key x) (value == v) same in
+          let parts = and_parts (bytes_eq key x) (value == v) same in
           let none : old x v ≡ None = sym (λ i. old (same_name key x parts.0 i) (eqb-true value v parts.1 i)) ∙ fresh in
           cc
       by_key false apart = was

@@ -8,6 +8,7 @@ mod RecordSteps
 mod StandingFacts
 mod WordOrder
 mod WorkedTexts
+pub mod Lists
 pub mod Parts
 pub mod SnapshotFaults
 pub mod SortedParts

@@ -1,0 +1,60 @@
+-- Lemmas on lists, truth values and results that std has not, for every crate above.
+--   whole             a slice that a call wrote over in full, in its vector again
+--   or_swap           the first two of three truth values change places
+--   matched           what follows of a value where there is one
+--   found_number      a number that a search finds is in the list
+--   number_found      a search finds each number of a list
+--   in_flat_map       an element of a part is an element of the parts put together
+--   from_flat_map     an element of the parts put together is one of some part
+-- In std: `or-false` (Math.Bool), `not-true`, `not-false`, `and_parts`, `or_parts` (lemmas.Bool), `Equal-is` (specs.Cmp),
+-- `bytes_eq-Decides` (lemmas.Slice.Eq), `exact_bytes`, `exact_unsigned` (lemmas.Map.Lookups), `filter_passes`,
+-- `Contains-filter` (lemmas.List.Elements).
+use Rattle.std.proofs.Common.{◌≡◌, ◌==◌, ◌⊎◌, ℕ, zero, suc, Bool, true, false, ◌||◌, inl, inr, List, [], ◌∷◌, ◌++◌, length, take, drop, flat_map, refl, sym, arith, subst}
+use Rattle.std.specs.Prelude.{Ok, Err, IfOk, MatchResult}
+use Rattle.std.specs.declared.result.Result.{Result}
+use Rattle.std.specs.List.{Contains, list_any}
+use Rattle.std.proofs.lemmas.Bool.{false≢true, or_cases, or_left, or_right, eqb-true, eq-eqb}
+use Rattle.std.proofs.lemmas.Grind.{common_steps}
+use Rattle.std.proofs.lemmas.List.Elements.{Contains-append_left, Contains-append_right, Contains-append_cases}
+
+pub whole : {X : Type 0} (xs ys : List X) (n : ℕ) → length xs ≡ length ys → n ≡ length ys → take n (xs ++ drop (length xs) ys) ≡ xs
+whole xs ys n same long = grind (arith, common_steps)
+
+pub or_swap : (a b c : Bool) → (a || (b || c)) ≡ (b || (a || c))
+or_swap true true c = refl
+or_swap true false c = refl
+or_swap false b c = refl
+
+pub matched : {T E : Type 0} (r : Result T E) (P Q : T → Type 0) (R : E → Type 0) → MatchResult r P R → ((v : T) → P v → Q v) → IfOk r Q
+matched (Ok v) P Q R h f = f v h
+matched (Err e) P Q R h f = tt
+
+pub found_number : (xs : List ℕ) (x : ℕ) → list_any (λ y. y == x) xs ≡ true → Contains xs x
+found_number [] x h = absurd (false≢true h)
+found_number (y ∷ xs) x h = go (found_number xs x) (or_cases (y == x) (list_any (λ z. z == x) xs) h)
+  where
+    go : (list_any (λ z. z == x) xs ≡ true → Contains xs x) → ((y == x) ≡ true) ⊎ (list_any (λ z. z == x) xs ≡ true) → Contains (y ∷ xs) x
+    go rest (inl e) = (0, omega arith, eqb-true y x e)
+    go rest (inr r) = let w = rest r in (suc w.0, omega (arith, w.1), w.2)
+
+pub number_found : (xs : List ℕ) (x : ℕ) → Contains xs x → list_any (λ y. y == x) xs ≡ true
+number_found [] x (k, l, e) = absurd (omega arith)
+number_found (y ∷ xs) x (zero, l, e) = or_left _ _ (eq-eqb y x e)
+number_found (y ∷ xs) x (suc k, l, e) = or_right _ _ (number_found xs x (k, omega arith, e))
+
+later : {X : Type 0} (x y : X) (xs : List X) → Contains xs y → Contains (x ∷ xs) y
+later x y xs (k, within, here) = (suc k, omega arith, here)
+
+module _ {X Y : Type 0} (f : X → List Y) where
+  pub in_flat_map : (xs : List X) (x : X) (y : Y) → Contains xs x → Contains (f x) y → Contains (flat_map f xs) y
+  in_flat_map [] x y (k, l, e) h = absurd (omega arith)
+  in_flat_map (z ∷ xs) x y (zero, l, e) h = Contains-append_left (f z) (flat_map f xs) y (subst (λ (w : X). Contains (f w) y) (sym e) h)
+  in_flat_map (z ∷ xs) x y (suc k, l, e) h = Contains-append_right (f z) (flat_map f xs) y (in_flat_map xs x y (k, omega arith, e) h)
+
+  pub from_flat_map : (xs : List X) (y : Y) → Contains (flat_map f xs) y → (x : X) × Contains xs x × Contains (f x) y
+  from_flat_map [] y (k, l, e) = absurd (omega arith)
+  from_flat_map (z ∷ xs) y h = go (from_flat_map xs y) (Contains-append_cases (f z) (flat_map f xs) y h)
+    where
+      go : (Contains (flat_map f xs) y → (x : X) × Contains xs x × Contains (f x) y) → Contains (f z) y ⊎ Contains (flat_map f xs) y → (x : X) × Contains (z ∷ xs) x × Contains (f x) y
+      go rest (inl here) = (z, (0, omega arith, refl), here)
+      go rest (inr there) = let w = rest there in (w.0, later z w.0 xs w.1, w.2)
