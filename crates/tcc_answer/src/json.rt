@@ -10,12 +10,12 @@ ghost use Rattle.tcc_answer.specs.Json.{label_json, order_json, step_json, link_
 
 use crate::labels::Labels;
 use crate::pieces::push;
-use crate::sending::send;
 use crate::text::shape_word;
 use crate::{Anomaly, Answer, Commit, WriteFault};
 use serde_json::{Value, json};
 use std::alloc::{AllocError, Global};
 use std::io::Write;
+use tcc_cert::sending::send;
 use tcc_graph::{Link, Step};
 use tcc_txn::{Name, NoMemory};
 

@@ -6,7 +6,6 @@ mod fault;
 mod json;
 mod labels;
 pub mod pieces;
-pub mod sending;
 mod shape;
 mod text;
 

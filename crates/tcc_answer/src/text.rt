@@ -8,10 +8,10 @@ ghost use Rattle.tcc_answer.specs.Texts.{labels_text, order_text, step_text, wal
 
 use crate::labels::Labels;
 use crate::pieces::push;
-use crate::sending::send;
 use crate::{Anomaly, Answer, Commit, Shape, WriteFault};
 use std::alloc::Global;
 use std::io::Write;
+use tcc_cert::sending::send;
 use tcc_graph::{Link, Step};
 use tcc_txn::{Name, NoMemory};
 

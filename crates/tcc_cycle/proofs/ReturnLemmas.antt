@@ -2,6 +2,7 @@
 use Rattle.std.proofs.Common.{ℕ, ◌≡◌, ◌<◌, ◌≤◌, ◌+◌, ◌==◌, ◌⊎◌, inl, inr, List, [], ◌∷◌, ◌++◌, length, Option, None, Some, MatchOption, get_or-set_same, length-set, map, refl, sym, ◌∙◌, ap, subst, arith}
 use Rattle.std.specs.Global.{Vec}
 use Rattle.std.proofs.lemmas.Bool.{cond_both, cases_order}
+use Rattle.tcc_txn.specs.declared.limits.TheConstants.{MAX_COUNT}
 use Rattle.tcc_reads.specs.History.{History, count}
 use Rattle.tcc_graph.specs.Links.{link_to, cost}
 use Rattle.tcc_graph.specs.Routes.{LinksLead, IsRoute, IsCycle, HasCycle}
@@ -43,7 +44,7 @@ more_on h s cap n old new on is settles = record { is = is; outside = still_outs
         let within : v < length old.row = omega (arith, route_ends_below h s v links route, on.is.row.long) in
         omega (arith, on.many, ap held joins.joined, held_set old.row v distance within joins.outside)
 
-pub never_over : (h : History) (s : ℕ) (search : Search) → IsOn h s 4294967295 search → length search.row ≤ 1024 → ⊥
+pub never_over : (h : History) (s : ℕ) (search : Search) → IsOn h s 4294967295 search → length search.row ≤ MAX_COUNT → ⊥
 never_over h s search on few =
     let within : s < length search.row = omega (arith, on.is.below, on.is.row.long) in
     omega (arith, on.many, held_below search.row s within on.outside)

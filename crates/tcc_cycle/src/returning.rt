@@ -1,6 +1,7 @@
 //! Searches from all starts, each cut past the least cost so far: the first start that a least cycle leads back to, and
 //! the rows of all.
 ghost use Rattle.std.specs.Prelude.{◌≡◌, ◌≤◌, ℕ, None, length, IfOk, MatchOption};
+ghost use Rattle.tcc_txn.specs.declared.limits.TheConstants.{MAX_COUNT};
 ghost use Rattle.tcc_reads.specs.History.{History};
 ghost use Rattle.tcc_graph.specs.Routes.{HasCycle};
 ghost use Rattle.tcc_derive.specs.Prices.{IsPricesOf};
@@ -33,7 +34,7 @@ pub(crate) struct Searched {
 /// within the cap.
 fn finish(search: &mut Search, prices: &Prices, cap: u64) -> Option<u32>
     requires long { length search.old.row ≡ length prices.now.prices }
-    requires few { length prices.now.prices ≤ 1024 }
+    requires few { length prices.now.prices ≤ MAX_COUNT }
     ensures start { search.new.start ≡ search.old.start }
     ensures ended { (h : History) (s : ℕ) → IsPricesOf h prices.now → IsSearchOf h s search.old → in_row search.old.row s ≡ None
         → HasEnded h s cap search.new.row result }

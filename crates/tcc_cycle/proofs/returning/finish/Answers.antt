@@ -1,5 +1,6 @@
 use Rattle.tcc_cycle.proofs.ReturnLemmas.{more_on, never_over, ended_returned, ended_cut}
 use Rattle.std.proofs.Common.{◌≡◌, ◌≤◌, length, arith, rules}
+use Rattle.tcc_txn.specs.declared.limits.TheConstants.{MAX_COUNT}
 use Rattle.tcc_core.specs.Searches.{Settles}
 use Rattle.tcc_core.specs.declared.settled.Settled.TheVariants as settled
 use Rattle.tcc_cycle.proofs.returning.finish.Goals as goal
@@ -30,5 +31,5 @@ pub returns-clause-ended : goal.returns-clause-ended
 returns-clause-ended c = λ h s priced is outside.
     let on = c.loop.invariant.2 h s priced is outside in
     let last : c.loop.counter ≡ 4294967295 = omega arith in
-    let few : length c.loop.search.row ≤ 1024 = omega (arith, c.loop.invariant.1, c.requires.long, c.requires.few) in
+    let few : length c.loop.search.row ≤ MAX_COUNT = omega (arith, c.loop.invariant.1, c.requires.long, c.requires.few) in
     absurd (never_over h s c.loop.search (record { is = on.is; outside = on.outside; many = omega (arith, on.many) }) few)
