@@ -2,10 +2,10 @@
 use Rattle.tcc_txn.specs.Snapshots.{Sessions}
 use Rattle.tcc_reads.specs.Sources.{history}
 use Rattle.tcc_cert.specs.Rules.{Certifies}
-use Rattle.tcc_explain.specs.Certificates.{certificate_of}
+use Rattle.tcc_answer.specs.Claims.{certificate_of}
 use Rattle.tcc_explain.specs.Explained.{IsAnswerOf}
-use Rattle.tcc_explain.specs.declared.answer.Answer.{Answer}
-use Rattle.tcc_explain.specs.declared.answer.Answer.TheVariants as answer
+use Rattle.tcc_answer.specs.declared.answer.Answer.{Answer}
+use Rattle.tcc_answer.specs.declared.answer.Answer.TheVariants as answer
 use Rattle.tcc_explain.proofs.CertifiedCycle as cycle
 use Rattle.tcc_explain.proofs.CertifiedOrder as order
 use Rattle.tcc_explain.proofs.Numbered.{numbered}

@@ -19,7 +19,7 @@ use Rattle.tcc_cert.specs.Tables.{entry, HasSize, IsCapped}
 use Rattle.tcc_cert.specs.CycleRules.{IsStepBelow, IsLinkBelow, ends_at, IsLinkWrong, BreaksNearPair, BreaksNearStep, BreaksFarLink, BreaksFarStep, BreaksReturn}
 use Rattle.tcc_cert.specs.Rules.{HoldsEverywhere, CertifiesCycle}
 use Rattle.tcc_explain.specs.Certificates.{IsCappedShortest, IsNearTable, IsFarTable}
-use Rattle.tcc_explain.proofs.CycleLemmas.{lead_split}
+use Rattle.tcc_cycle.proofs.CycleLemmas.{lead_split}
 
 -- ---- steps and links of causal pairs
 

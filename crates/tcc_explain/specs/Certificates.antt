@@ -2,15 +2,10 @@
 use Rattle.std.specs.Prelude.{ℕ, ◌<◌, ◌≤◌, ◌≡◌, ◌==◌, ◌⊎◌, List, length, Some, if◌then◌else◌, min}
 use Rattle.tcc_reads.specs.History.{History, count, owner, place}
 use Rattle.tcc_graph.specs.Walks.{IsWalk}
-use Rattle.tcc_graph.specs.Links.{cost}
 use Rattle.tcc_graph.specs.declared.step.Step.{Step}
 use Rattle.tcc_near.specs.Distances.{IsShortest, no_walk}
 use Rattle.tcc_core.specs.Shares.{IsCappedDistance}
 use Rattle.tcc_cert.specs.Tables.{entry, HasSize}
-use Rattle.tcc_cert.specs.declared.certificate.Certificate.{Certificate}
-use Rattle.tcc_cert.specs.declared.certificate.Certificate.TheVariants as claim
-use Rattle.tcc_explain.specs.declared.answer.Answer.{Answer}
-use Rattle.tcc_explain.specs.declared.answer.Answer.TheVariants as answer
 
 -- the least length of a walk from a to c where it is below the cap; the cap where there is none or it is not
 abbrev pub IsCappedShortest : History → ℕ → ℕ → ℕ → ℕ → Type 0
@@ -30,11 +25,6 @@ pub record IsFarTable (h : History) (cap : ℕ) (table : List (List ℕ)) : Type
 -- the number of a table of distances, capped; the cap where no walk leads
 abbrev pub capped_steps : ℕ → ℕ → ℕ
 capped_steps cap steps = if steps == no_walk then cap else min cap steps
-
--- an answer's certificate, with the answer's own order or links
-abbrev pub certificate_of : Answer → Certificate
-certificate_of (answer.Commit o) = claim.Order o.order o.clocks
-certificate_of (answer.Anomaly c) = claim.Cycle c.links (cost c.links) c.near c.far
 
 -- committed transactions are of sessions that there are, their places count from 1, and grow in a session by number
 pub record IsNumbered (h : History) : Type 0 where

@@ -6,10 +6,10 @@ use Rattle.tcc_reads.specs.History.{History}
 use Rattle.tcc_graph.specs.Links.{cost}
 use Rattle.tcc_graph.specs.Answers as first
 use Rattle.tcc_near.specs.Clocks.{IsClocksOf}
-use Rattle.tcc_explain.specs.Labels.{labels_of}
+use Rattle.tcc_answer.specs.Labels.{labels_of}
 use Rattle.tcc_explain.specs.Certificates.{IsNearTable, IsFarTable}
-use Rattle.tcc_explain.specs.declared.answer.Answer.{Answer}
-use Rattle.tcc_explain.specs.declared.answer.Answer.TheVariants as answer
+use Rattle.tcc_answer.specs.declared.answer.Answer.{Answer}
+use Rattle.tcc_answer.specs.declared.answer.Answer.TheVariants as answer
 use Rattle.tcc_explain.specs.declared.refusal.ExplainFault.{ExplainFault}
 use Rattle.tcc_explain.specs.declared.refusal.ExplainFault.TheVariants as refusal
 

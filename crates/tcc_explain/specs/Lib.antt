@@ -1,10 +1,2 @@
-pub mod Labels
-pub mod Shapes
-pub mod Answers
-pub mod Texts
-pub mod Json
-pub mod Picked
-pub mod Returns
-pub mod Ways
 pub mod Certificates
 pub mod Explained

@@ -4,14 +4,13 @@ ghost use Rattle.tcc_reads.specs.Faults.{read_faults};
 ghost use Rattle.tcc_reads.specs.Sources.{history};
 ghost use Rattle.tcc_explain.specs.Explained.{IsAnswerOf, IsRefusal};
 
-use crate::answer::{Anomaly, Answer, Commit};
-use crate::cycle::first_cycle;
-use crate::labels::Labels;
 use crate::refusal::ExplainFault;
-use crate::tables::{clock_table, near_table};
+use crate::tables::{clock_table, far_table, near_table};
 use std::alloc::Global;
 use std::thread::Threads;
+use tcc_answer::{Anomaly, Answer, Commit, Labels};
 use tcc_cert::{Links, Numbers};
+use tcc_cycle::first_cycle;
 use tcc_derive::derive;
 use tcc_graph::Graph;
 use tcc_near::{clocks, near};
@@ -41,8 +40,9 @@ fn history_answer(
         unreachable!()
     };
     let near = near_table(alloc, graph, &near, cycle.cost)?;
+    let far = far_table(alloc, graph, &cycle.rows, cycle.cost)?;
     let links = Links::new(cycle.links);
-    Ok(Answer::Anomaly(Anomaly::new(links, cycle.cost, near, cycle.far, labels)))
+    Ok(Answer::Anomaly(Anomaly::new(links, cycle.cost, near, far, labels)))
 }
 
 /// The first answer for the history of a snapshot: its first commit order, or the first of its least cycles where there

@@ -1,13 +1,13 @@
 //! The tables of certificates, from the distances, the searches' rows and the clocks.
-ghost use Rattle.std.specs.Prelude.{◌≡◌, ◌≤◌, ◌<◌, IfOk, map, length, min};
-ghost use Rattle.tcc_reads.specs.History.{count};
+ghost use Rattle.std.specs.Prelude.{◌≡◌, ◌<◌, IfOk, map, length, min};
 ghost use Rattle.tcc_near.specs.Distances.{IsNearOf, row_of};
 ghost use Rattle.tcc_near.specs.Clocks.{IsClocksOf};
+ghost use Rattle.tcc_cycle.specs.Costs.{AreFarRows};
 ghost use Rattle.tcc_explain.specs.Certificates.{IsNearTable, IsFarTable, capped_steps};
-ghost use Rattle.tcc_explain.specs.Returns.{IsFarRow, AreRows};
 
 use std::alloc::Global;
 use tcc_cert::{Numbers, Table};
+use tcc_cycle::Costs;
 use tcc_graph::Graph;
 use tcc_near::{Clocks, NO_WALK, Near};
 use tcc_txn::NoMemory;
@@ -53,7 +53,7 @@ pub(crate) fn near_table(
 }
 
 /// Costs, capped.
-fn far_row(alloc: Global, costs: &Numbers, cap: u32) -> Result<Numbers, NoMemory>
+fn far_row(alloc: Global, costs: &Costs, cap: u32) -> Result<Numbers, NoMemory>
     ensures { IfOk result (λ row. row ≡ map (min cap) costs.now) }
 {
     let mut row = Vec::new(alloc);
@@ -67,17 +67,17 @@ fn far_row(alloc: Global, costs: &Numbers, cap: u32) -> Result<Numbers, NoMemory
 pub(crate) fn far_table(
     alloc: Global,
     graph: &Graph,
-    costs: &[Numbers],
+    rows: &[Costs],
     cap: u32,
 ) -> Result<Table, NoMemory>
-    requires { AreRows (λ s row. IsFarRow graph.now s cap row) (count graph.now) costs.now }
+    requires { AreFarRows graph.now cap rows.now }
     ensures { IfOk result (IsFarTable graph.now cap) }
 {
-    let mut rows = Vec::new(alloc);
+    let mut table = Vec::new(alloc);
     for s in 0..graph.count() {
-        rows.push(far_row(alloc, &costs[s as usize], cap)?)?;
+        table.push(far_row(alloc, &rows[s as usize], cap)?)?;
     }
-    Ok(Table::new(rows))
+    Ok(Table::new(table))
 }
 
 /// The clocks as a table.

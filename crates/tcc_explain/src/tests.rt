@@ -1,4 +1,3 @@
 //! Worked answers, with expected values worked out by hand.
 mod certificates;
 mod explaining;
-mod writing;

@@ -21,5 +21,5 @@ returns g c =
       (cycle.start, first.0),
       c.in_ok-labels.ensures,
       subst (λ (n : ℕ). IsNearTable h n c.in_ok-near-2.near) costs c.in_ok-near-2.ensures,
-      subst (λ (n : ℕ). IsFarTable h n cycle.far) costs first.2,
+      subst (λ (n : ℕ). IsFarTable h n c.in_ok-far.far) costs c.in_ok-far.ensures,
     )

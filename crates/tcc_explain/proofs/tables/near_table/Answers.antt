@@ -2,8 +2,8 @@ use Rattle.std.proofs.Common.{◌≡◌, ℕ, map, arith, subst}
 use Rattle.tcc_reads.specs.History.{count}
 use Rattle.tcc_cert.specs.Tables.{row_of}
 use Rattle.tcc_explain.specs.Certificates.{capped_steps}
-use Rattle.tcc_explain.specs.Returns.{AreRows}
-use Rattle.tcc_explain.proofs.RowLemmas.{near_table}
+use Rattle.tcc_cycle.specs.Costs.{AreRows}
+use Rattle.tcc_explain.proofs.TableLemmas.{near_table}
 use Rattle.tcc_explain.proofs.tables.near_table.Goals as goal
 
 pub returns : goal.returns

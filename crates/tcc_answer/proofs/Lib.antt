@@ -1,0 +1,4 @@
+pub mod Ends
+pub mod NoFloats
+mod WorkedTexts
+mod WorkedJson

@@ -1,0 +1,6 @@
+pub mod Labels
+pub mod Shapes
+pub mod Answers
+pub mod Claims
+pub mod Texts
+pub mod Json

@@ -1,0 +1,169 @@
+//! Answers: a commit order, or an anomaly, each with its certificate.
+ghost use Rattle.std.specs.Prelude.{◌≡◌};
+ghost use Rattle.tcc_graph.specs.Links.{cost};
+ghost use Rattle.tcc_cert.specs.declared.certificate.Certificate.TheVariants as claim;
+ghost use Rattle.tcc_answer.specs.Shapes.{shape_of};
+ghost use Rattle.tcc_answer.specs.Claims.{certificate_of};
+
+use crate::labels::Labels;
+use crate::shape::{Shape, shape_of};
+use std::marker::Model;
+use tcc_cert::{Certificate, Links, Numbers, Table};
+use tcc_graph::Link;
+
+/// A commit order of a history, with its certificate and the names that it prints.
+#[derive(Drop)]
+pub struct Commit {
+    certificate: Certificate,
+    sessions: usize,
+    labels: Labels,
+}
+
+impl Model for Commit {
+    ghost use Rattle.tcc_answer.specs.Answers.{LabelledOrder, order_in, clocks_in, ClaimsOrder};
+
+    ghost Value = { LabelledOrder };
+
+    ghost view = { λ c. record { order = order_in c.certificate; clocks = clocks_in c.certificate; sessions = c.sessions; labels = c.labels } };
+
+    ghost invariant = { λ c. ClaimsOrder c.certificate };
+}
+
+impl Commit {
+    /// The order of a snapshot with so many sessions, the clocks, and the names of the transactions.
+    pub fn new(order: Numbers, clocks: Table, sessions: usize, labels: Labels) -> Commit
+        ensures { result ≡ record { order = order; clocks = clocks; sessions = sessions; labels = labels } }
+    {
+        Commit {
+            certificate: Certificate::Order { order, clocks },
+            sessions,
+            labels,
+        }
+    }
+
+    /// The certificate, with the answer's own order.
+    pub fn certificate(&self) -> &Certificate
+        ensures { result.now ≡ claim.Order self.now.order self.now.clocks }
+    {
+        &self.certificate
+    }
+
+    /// The numbers of all transactions, `init` among them, in the order.
+    pub fn order(&self) -> &[u32]
+        ensures { result.now ≡ self.now.order }
+    {
+        match &self.certificate {
+            Certificate::Order { order, .. } => order.as_slice(),
+            Certificate::Cycle { .. } => &[],
+        }
+    }
+
+    /// How many sessions the snapshot has.
+    pub fn sessions(&self) -> usize
+        ensures { result ≡ self.now.sessions }
+    {
+        self.sessions
+    }
+
+    /// The names of the transactions.
+    pub(crate) fn labels(&self) -> &Labels
+        ensures { result.now ≡ self.now.labels }
+    {
+        &self.labels
+    }
+}
+
+/// A cycle that no commit order can keep, with its certificate and the names that it prints.
+#[derive(Drop)]
+pub struct Anomaly {
+    certificate: Certificate,
+    labels: Labels,
+}
+
+impl Model for Anomaly {
+    ghost use Rattle.tcc_answer.specs.Answers.{LabelledCycle, links_in, near_in, far_in, ClaimsCycle};
+
+    ghost Value = { LabelledCycle };
+
+    ghost view = { λ a. record { links = links_in a.certificate; near = near_in a.certificate; far = far_in a.certificate; labels = a.labels } };
+
+    ghost invariant = { λ a. ClaimsCycle a.certificate };
+}
+
+impl Anomaly {
+    /// The links of a cycle, how many steps they have together, the distances, and the names of the transactions.
+    pub fn new(links: Links, steps: u32, near: Table, far: Table, labels: Labels) -> Anomaly
+        requires { steps ≡ cost links }
+        ensures { result ≡ record { links = links; near = near; far = far; labels = labels } }
+    {
+        Anomaly {
+            certificate: Certificate::Cycle {
+                links,
+                least: steps,
+                near,
+                far,
+            },
+            labels,
+        }
+    }
+
+    /// The certificate, with the answer's own links.
+    pub fn certificate(&self) -> &Certificate
+        ensures { result.now ≡ claim.Cycle self.now.links (cost self.now.links) self.now.near self.now.far }
+    {
+        &self.certificate
+    }
+
+    /// The links, in order.
+    pub fn links(&self) -> &[Link]
+        ensures { result.now ≡ self.now.links }
+    {
+        match &self.certificate {
+            Certificate::Order { .. } => &[],
+            Certificate::Cycle { links, .. } => links.as_slice(),
+        }
+    }
+
+    /// How many steps the links have together, every use counted.
+    pub fn cost(&self) -> u32
+        ensures { result ≡ cost self.now.links }
+    {
+        match &self.certificate {
+            Certificate::Order { .. } => 0,
+            Certificate::Cycle { least, .. } => *least,
+        }
+    }
+
+    /// What the cycle looks like.
+    pub fn shape(&self) -> Shape
+        ensures { result ≡ shape_of self.now.links }
+    {
+        shape_of(self.links())
+    }
+
+    /// The names of the transactions.
+    pub(crate) fn labels(&self) -> &Labels
+        ensures { result.now ≡ self.now.labels }
+    {
+        &self.labels
+    }
+}
+
+/// The answer for a history: a commit order, or an anomaly where there is none.
+#[derive(Drop)]
+pub enum Answer {
+    Commit(Commit),
+    Anomaly(Anomaly),
+}
+
+impl Answer {
+    /// The certificate, with the answer's own order or links.
+    pub fn certificate(&self) -> &Certificate
+        ensures { result.now ≡ certificate_of self.now }
+    {
+        match self {
+            Answer::Commit(commit) => commit.certificate(),
+            Answer::Anomaly(anomaly) => anomaly.certificate(),
+        }
+    }
+}

@@ -1,0 +1,20 @@
+//! Answers: a commit order, or a cycle that none can keep, each with its certificate; their text and their JSON.
+#![tactic(auto)]
+
+mod answer;
+mod fault;
+mod json;
+mod labels;
+pub mod pieces;
+mod shape;
+mod text;
+
+pub use answer::{Anomaly, Answer, Commit};
+pub use fault::WriteFault;
+pub use json::write_json;
+pub use labels::Labels;
+pub use shape::Shape;
+pub use text::write_text;
+
+#[cfg(test)]
+mod tests;

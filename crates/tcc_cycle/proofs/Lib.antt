@@ -1,0 +1,10 @@
+pub mod Backwards
+pub mod CycleLemmas
+pub mod TieLemmas
+pub mod PickedLemmas
+pub mod RowLemmas
+pub mod PartLemmas
+pub mod WalkLemmas
+pub mod ReturnLemmas
+pub mod LinkChoiceLemmas
+pub mod WayLemmas

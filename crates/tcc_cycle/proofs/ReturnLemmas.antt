@@ -1,0 +1,143 @@
+-- Searches to their ends, and the first of those that come back at the least cost.
+use Rattle.std.proofs.Common.{ℕ, ◌≡◌, ◌<◌, ◌≤◌, ◌+◌, ◌==◌, ◌⊎◌, inl, inr, List, [], ◌∷◌, ◌++◌, length, Option, None, Some, MatchOption, get_or-set_same, length-set, map, refl, sym, ◌∙◌, ap, subst, arith}
+use Rattle.std.specs.Global.{Vec}
+use Rattle.std.proofs.lemmas.Bool.{cond_both, cases_order}
+use Rattle.tcc_txn.specs.declared.limits.TheConstants.{MAX_COUNT}
+use Rattle.tcc_reads.specs.History.{History, count}
+use Rattle.tcc_graph.specs.Links.{link_to, cost}
+use Rattle.tcc_graph.specs.Routes.{LinksLead, IsRoute, IsCycle, HasCycle}
+use Rattle.tcc_graph.specs.declared.link.Link.{Link}
+use Rattle.tcc_graph.proofs.Pairs.{link_below}
+use Rattle.tcc_core.specs.Rows.{in_row, cap_of, IsWithin, IsCutOff}
+use Rattle.tcc_core.specs.Searches.{Search, IsSearchOf, Settles, held}
+use Rattle.tcc_core.specs.declared.settled.Settled.TheVariants as settled
+use Rattle.tcc_core.proofs.LinkLemmas.{route_below}
+use Rattle.tcc_core.proofs.Lowering.{held_set, held_below}
+use Rattle.tcc_core.proofs.Ending.{still_outside}
+use Rattle.tcc_cycle.specs.Costs.{IsFarRow, AreRows, AreFarRows}
+use Rattle.tcc_cycle.specs.Returns.{HasEnded, IsFirstReturn, cost_in, IsSearched}
+use Rattle.tcc_cycle.specs.declared.returning.Returned.{Returned}
+use Rattle.tcc_cycle.proofs.RowLemmas.{far_row, far_lower, one_row_more, rows_weaker}
+
+-- ---- one search
+
+pub ends_below : (h : History) (a b : ℕ) (l : Link) (links : List Link) → LinksLead h a b (l ∷ links) → b < count h
+ends_below h a b l [] lead = subst (λ (z : ℕ). z < count h) lead.2 (link_below h l lead.1).1
+ends_below h a b l (next ∷ links) lead = ends_below h (link_to l) b next links lead.2
+
+pub route_ends_below : (h : History) (s v : ℕ) (links : List Link) → IsRoute h s v links → v < count h
+route_ends_below h s v [] (some, lead) = absurd (omega arith)
+route_ends_below h s v (l ∷ links) (some, lead) = ends_below h s v l links lead
+
+-- the search goes on: its start is still outside, and it has so many
+pub record IsOn (h : History) (s : ℕ) (n : ℕ) (search : Search) : Type 0 where
+  pub is : IsSearchOf h s search
+  pub outside : in_row search.row s ≡ None
+  pub many : n ≤ held search.row
+
+pub more_on : (h : History) (s cap n : ℕ) (old new : Search) → IsOn h s n old → IsSearchOf h s new → Settles h s cap old.row new.row settled.More → IsOn h s (n + 1) new
+more_on h s cap n old new on is settles = record { is = is; outside = still_outside h s cap old.row new.row settles on.outside; many = many settles }
+  where
+    many : Settles h s cap old.row new.row settled.More → n + 1 ≤ held new.row
+    many (v, distance, other, joins) =
+        let (links, route, costs) = joins.exact.attained in
+        let within : v < length old.row = omega (arith, route_ends_below h s v links route, on.is.row.long) in
+        omega (arith, on.many, ap held joins.joined, held_set old.row v distance within joins.outside)
+
+pub never_over : (h : History) (s : ℕ) (search : Search) → IsOn h s 4294967295 search → length search.row ≤ MAX_COUNT → ⊥
+never_over h s search on few =
+    let within : s < length search.row = omega (arith, on.is.below, on.is.row.long) in
+    omega (arith, on.many, held_below search.row s within on.outside)
+
+pub ended_returned : (h : History) (s cap c : ℕ) (old new : Search) → IsSearchOf h s new → Settles h s cap old.row new.row (settled.Returned c) → HasEnded h s cap new.row (Some c)
+ended_returned h s cap c old new is joins =
+    let within : s < length old.row = omega (arith, is.below, is.row.long, ap length joins.joined, length-set old.row s (Some c)) in
+    (is.row, rw joins.joined (get_or-set_same old.row s (Some c) None within))
+
+pub ended_cut : (h : History) (s cap k n : ℕ) (old new : Search) → IsOn h s n old → IsSearchOf h s new → Settles h s cap old.row new.row (settled.Cut k) → HasEnded h s cap new.row None
+ended_cut h s cap k n old new on is (same, kept, past) =
+    (is.row, ap (λ (row : List (Option ℕ)). in_row row s) kept ∙ on.outside, subst (λ (row : List (Option ℕ)). IsCutOff h s row (cap_of cap)) (sym kept) past)
+
+-- what is past a cap costs no less
+past_cap : (cap c : ℕ) → (IsWithin (cap_of cap) c → ⊥) → cap ≤ c
+past_cap cap c = cond_both (cap == 18446744073709551615) None (Some cap) (λ o. (IsWithin o c → ⊥) → cap ≤ c) (λ e past. absurd (past tt)) (λ e past. over past (cases_order cap c))
+  where
+    over : (c ≤ cap → ⊥) → (cap ≡ c) ⊎ ((cap < c) ⊎ (c < cap)) → cap ≤ c
+    over past (inl same) = omega arith
+    over past (inr (inl lower)) = omega arith
+    over past (inr (inr higher)) = absurd (past (omega arith))
+
+-- what stands outside its row costs no less than a cap up to what it cost to come back, or up to its own cap
+pub outside_returned : (h : History) (s cap c lower : ℕ) (row : List (Option ℕ)) → HasEnded h s cap row (Some c) → lower ≤ c → IsFarRow h s lower (map cost_in row)
+outside_returned h s cap c lower row ended low = far_row h s lower row ended.0 (λ v links out route. omega (arith, ended.0.closed s v c links ended.1 out route))
+
+pub outside_cut : (h : History) (s cap : ℕ) (row : List (Option ℕ)) → HasEnded h s cap row None → IsFarRow h s cap (map cost_in row)
+outside_cut h s cap row ended = far_row h s cap row ended.0 (λ v links out route. past_cap cap (cost links) (ended.2 v links out route))
+
+-- ---- the first of many
+
+abbrev pub IsBest : History → ℕ → ℕ → Option Returned → Type 0
+IsBest h n cap None = (cap ≡ 18446744073709551615) × ((t : ℕ) (links : List Link) → t < n → IsCycle h t links → ⊥)
+IsBest h n cap (Some r) = (cap ≡ r.cost) × IsFirstReturn h n r
+
+-- a fact of all below n and of n itself
+one_more : (P : ℕ → Type 0) (n : ℕ) → ((t : ℕ) → t < n → P t) → P n → (t : ℕ) → t < n + 1 → P t
+one_more P n below here t l = go (cases_order t n)
+  where
+    go : (t ≡ n) ⊎ ((t < n) ⊎ (n < t)) → P t
+    go (inl same) = subst P (sym same) here
+    go (inr (inl lower)) = below t lower
+    go (inr (inr higher)) = absurd (omega arith)
+
+with_next : (h : History) (n : ℕ) (r : Returned) → IsFirstReturn h n r → ((links : List Link) → IsCycle h n links → r.cost ≤ cost links) → IsFirstReturn h (n + 1) r
+with_next h n r is here = record {
+  row = is.row;
+  back = is.back;
+  least = λ t links l cycle. one_more (λ t. (links : List Link) → IsCycle h t links → r.cost ≤ cost links) n (λ u low others other. is.least u others low other) here t l links cycle;
+  first = is.first;
+}
+
+-- the search from n was cut
+pub best_cut : (h : History) (n cap : ℕ) (best : Option Returned) (row : List (Option ℕ)) → IsBest h n cap best → HasEnded h n cap row None → IsBest h (n + 1) cap best
+best_cut h n cap None row (most, none) cut =
+    (most, λ t links l cycle. one_more (λ t. (links : List Link) → IsCycle h t links → ⊥) n (λ u low others other. none u others low other) (λ others other. let past = cut.2 n others cut.1 other in (rw most at past) tt) t l links cycle)
+best_cut h n cap (Some r) row (same, is) cut =
+    (same, with_next h n r is (λ links cycle. omega (arith, past_cap cap (cost links) (cut.2 n links cut.1 cycle))))
+
+-- it came back at no less
+pub best_kept : (h : History) (n cap c : ℕ) (best : Option Returned) (row : List (Option ℕ)) → IsBest h n cap best → HasEnded h n cap row (Some c) → c < 4294967296 → cap ≤ c → IsBest h (n + 1) cap best
+best_kept h n cap c None row (most, none) ended fits high = absurd (omega arith)
+best_kept h n cap c (Some r) row (same, is) ended fits high =
+    (same, with_next h n r is (λ links cycle. omega (arith, (ended.0.exact n c ended.1).least links cycle)))
+
+before_least : (h : History) (n cap : ℕ) (best : Option Returned) → IsBest h n cap best → (t : ℕ) (links : List Link) → t < n → IsCycle h t links → cap ≤ cost links
+before_least h n cap None (most, none) t links l cycle = absurd (none t links l cycle)
+before_least h n cap (Some r) (same, is) t links l cycle = omega (arith, is.least t links l cycle)
+
+-- it came back at less
+pub best_replaced : (h : History) (n cap : ℕ) (best : Option Returned) (r : Returned) → IsBest h n cap best → r.search.start ≡ n → HasEnded h n cap r.search.row (Some r.cost) → r.cost < cap → IsBest h (n + 1) r.cost (Some r)
+best_replaced h n cap best r is start ended low = (
+  refl,
+  record {
+    row = rw start ended.0;
+    back = rw start ended.1;
+    least = λ t links l cycle. one_more (λ t. (links : List Link) → IsCycle h t links → r.cost ≤ cost links) n (λ u lower others other. omega (arith, before_least h n cap best is u others lower other, low)) (λ others other. (ended.0.exact n r.cost ended.1).least others other) t l links cycle;
+    first = λ t links l cycle. omega (arith, before_least h n cap best is t links (omega arith) cycle, low);
+  },
+)
+
+pub best_of_all : (h : History) (n cap : ℕ) (best : Option Returned) → count h ≤ n → IsBest h n cap best → MatchOption best (HasCycle h → ⊥) (IsFirstReturn h (count h))
+best_of_all h n cap None all (most, none) = λ (s, links, cycle). none s links (omega (arith, route_below h s s links cycle)) cycle
+best_of_all h n cap (Some r) all (same, is) = record { row = is.row; back = is.back; least = λ t links l cycle. is.least t links (omega arith) cycle; first = is.first }
+
+-- ---- the rows of all
+
+-- a search that ended, and the rows so far, up to a cap that is no higher
+pub rows_kept : (h : History) (n cap lower : ℕ) (rows : List (List ℕ)) (row : List ℕ) → lower ≤ cap → AreRows (λ s row. IsFarRow h s cap row) n rows → IsFarRow h n lower row → AreRows (λ s row. IsFarRow h s lower row) (n + 1) (rows ++ row ∷ [])
+rows_kept h n cap lower rows row low are here =
+    one_row_more (λ s row. IsFarRow h s lower row) n rows row (rows_weaker (λ s row. IsFarRow h s cap row) (λ s row. IsFarRow h s lower row) n rows (λ s row far. far_lower h s cap lower row low far) are) here
+
+pub searched_all : (h : History) (n cap : ℕ) (best : Option Returned) (rows : Vec (List ℕ)) → n ≡ count h → IsBest h n cap best → AreRows (λ s row. IsFarRow h s cap row) n rows.items → MatchOption best (HasCycle h → ⊥) (IsSearched h (record { first = best; rows = rows }))
+searched_all h n cap None rows all (most, none) are = best_of_all h n cap None (omega arith) (most, none)
+searched_all h n cap (Some r) rows all (same, is) are =
+    (best_of_all h n cap (Some r) (omega arith) (same, is), subst (λ (k : ℕ). AreRows (λ s row. IsFarRow h s k row) (count h) rows.items) same (subst (λ (k : ℕ). AreRows (λ s row. IsFarRow h s cap row) k rows.items) all are))

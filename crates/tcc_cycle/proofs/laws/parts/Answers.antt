@@ -1,0 +1,8 @@
+use Rattle.tcc_cycle.proofs.PartLemmas.{none_below, part_distance}
+use Rattle.tcc_cycle.proofs.laws.parts.Goals as goal
+
+pub returns-clause-above : goal.returns-clause-above
+returns-clause-above c = none_below
+
+pub returns-clause-least : goal.returns-clause-least
+returns-clause-least c = part_distance

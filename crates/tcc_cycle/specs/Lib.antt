@@ -1,0 +1,4 @@
+pub mod Costs
+pub mod Picked
+pub mod Returns
+pub mod Ways

@@ -1,0 +1,25 @@
+-- The links by which a way back goes on. These serve the proof of `first_cycle`, and nobody has to believe them.
+use Rattle.std.specs.Prelude.{ℕ, ◌≤◌, ◌≡◌, ◌≢◌, ◌+◌, ◌==◌, Option, Some, if◌then◌else◌}
+use Rattle.std.specs.declared.cmp.Ordering.TheVariants.{Greater}
+use Rattle.tcc_reads.specs.History.{History}
+use Rattle.tcc_graph.specs.Links.{link_cost}
+use Rattle.tcc_graph.specs.Ties.{link_cmp}
+use Rattle.tcc_graph.specs.declared.link.Link.{Link}
+use Rattle.tcc_derive.specs.Prices.{Tables, IsLinkOf, cost_at}
+use Rattle.tcc_core.specs.Rows.{in_row}
+use Rattle.tcc_core.specs.Searches.{Search}
+
+-- what it costs to come to u: nothing at the start, else what the row has
+abbrev pub spent : Search → ℕ → Option ℕ
+spent search u = if u == search.start then Some 0 else in_row search.row u
+
+-- it costs c to come to u, and with the cheapest link from there to v all that is left
+pub record IsBefore (t : Tables) (search : Search) (v : ℕ) (left : ℕ) (u : ℕ) (c : ℕ) : Type 0 where
+  pub come : spent search u ≡ Some c
+  pub on : (k : ℕ) × (cost_at t u v ≡ Some k) × (c + k ≡ left)
+
+-- a link from a to b that none undercuts, and of those that cost as much the first
+pub record IsFirstLink (h : History) (a : ℕ) (b : ℕ) (l : Link) : Type 0 where
+  pub leads : IsLinkOf h a b l
+  pub least : (other : Link) → IsLinkOf h a b other → link_cost l ≤ link_cost other
+  pub first : (other : Link) → IsLinkOf h a b other → link_cost other ≡ link_cost l → link_cmp l other ≢ Greater

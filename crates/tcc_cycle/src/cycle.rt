@@ -1,0 +1,54 @@
+//! The first of the least cycles.
+ghost use Rattle.std.specs.Prelude.{◌≡◌, IfOk, MatchOption};
+ghost use Rattle.tcc_graph.specs.Links.{cost};
+ghost use Rattle.tcc_graph.specs.Routes.{HasCycle};
+ghost use Rattle.tcc_graph.specs.Ties.{IsFirstCycle};
+ghost use Rattle.tcc_near.specs.Distances.{IsNearOf};
+ghost use Rattle.tcc_derive.specs.Prices.{IsPricesOf};
+ghost use Rattle.tcc_cycle.specs.Costs.{AreFarRows};
+
+use crate::costs::Costs;
+use crate::picking::pick;
+use crate::returning::{Searched, first_return};
+use std::alloc::Global;
+use tcc_derive::Prices;
+use tcc_graph::{Graph, Link};
+use tcc_near::Near;
+use tcc_txn::NoMemory;
+
+/// Links that lead from a start back to it, how many steps they have together, and for each transaction what it costs to
+/// come from there to each. A number in these rows that is not below that cost says no more than that none is lower.
+#[derive(Drop)]
+pub struct Cycle {
+    pub start: u32,
+    pub links: Vec<Link>,
+    pub cost: u32,
+    pub rows: Vec<Costs>,
+}
+
+/// The first of the least cycles by the rule of ties; none exactly where there is no cycle.
+pub fn first_cycle(
+    alloc: Global,
+    graph: &Graph,
+    near: &Near,
+    prices: &Prices,
+) -> Result<Option<Cycle>, NoMemory>
+    requires near { IsNearOf graph.now near.now }
+    requires prices { IsPricesOf graph.now prices.now }
+    ensures { IfOk result (λ found. MatchOption found
+        (HasCycle graph.now → ⊥)
+        (λ cycle. IsFirstCycle graph.now cycle.start cycle.links.items × (cycle.cost ≡ cost cycle.links.items)
+        × AreFarRows graph.now cycle.cost cycle.rows.items)) }
+{
+    let Searched { first, rows } = first_return(alloc, graph, prices)?;
+    let Some(returned) = first else {
+        return Ok(None);
+    };
+    let links = pick(alloc, graph, near, prices, &returned)?;
+    Ok(Some(Cycle {
+        start: returned.search.start(),
+        links,
+        cost: returned.cost,
+        rows,
+    }))
+}

@@ -1,0 +1,77 @@
+//! Searches from all starts, each cut past the least cost so far: the first start that a least cycle leads back to, and
+//! the rows of all.
+ghost use Rattle.std.specs.Prelude.{◌≡◌, ◌≤◌, ℕ, None, length, IfOk, MatchOption};
+ghost use Rattle.tcc_txn.specs.declared.limits.TheConstants.{MAX_COUNT};
+ghost use Rattle.tcc_reads.specs.History.{History};
+ghost use Rattle.tcc_graph.specs.Routes.{HasCycle};
+ghost use Rattle.tcc_derive.specs.Prices.{IsPricesOf};
+ghost use Rattle.tcc_core.specs.Rows.{in_row};
+ghost use Rattle.tcc_core.specs.Searches.{IsSearchOf};
+ghost use Rattle.tcc_cycle.specs.Returns.{HasEnded, IsSearched};
+
+use crate::costs::Costs;
+use std::alloc::Global;
+use tcc_core::{Search, Settled};
+use tcc_derive::Prices;
+use tcc_graph::Graph;
+use tcc_txn::NoMemory;
+
+/// A search that has come back to its start, and what that cost.
+#[derive(Drop)]
+pub(crate) struct Returned {
+    pub search: Search,
+    pub cost: u32,
+}
+
+/// The first search that came back at the least cost, and the costs in the row of each start.
+#[derive(Drop)]
+pub(crate) struct Searched {
+    pub first: Option<Returned>,
+    pub rows: Vec<Costs>,
+}
+
+/// Takes a search to its end, and answers what it cost to come back to its start; none where no cycle from there is
+/// within the cap.
+fn finish(search: &mut Search, prices: &Prices, cap: u64) -> Option<u32>
+    requires long { length search.old.row ≡ length prices.now.prices }
+    requires few { length prices.now.prices ≤ MAX_COUNT }
+    ensures start { search.new.start ≡ search.old.start }
+    ensures ended { (h : History) (s : ℕ) → IsPricesOf h prices.now → IsSearchOf h s search.old → in_row search.old.row s ≡ None
+        → HasEnded h s cap search.new.row result }
+{
+    for _ in 0..u32::MAX {
+        match search.settle(prices, cap) {
+            Settled::More => {}
+            Settled::Returned(cost) => return Some(cost),
+            Settled::Cut(_) => return None,
+        }
+    }
+    None
+}
+
+/// The search from the first start that a least cycle leads back to, none where there is no cycle; and the costs in the
+/// rows of all starts.
+pub(crate) fn first_return(
+    alloc: Global,
+    graph: &Graph,
+    prices: &Prices,
+) -> Result<Searched, NoMemory>
+    requires { IsPricesOf graph.now prices.now }
+    ensures { IfOk result (λ searched. MatchOption searched.first (HasCycle graph.now → ⊥) (IsSearched graph.now searched)) }
+{
+    let mut cap = u64::MAX;
+    let mut first = None;
+    let mut rows = Vec::new(alloc);
+    for start in 0..graph.count() {
+        let mut search = Search::begin(alloc, prices, start)?;
+        let back = finish(&mut search, prices, cap);
+        rows.push(Costs::of(alloc, search.row())?)?;
+        if let Some(cost) = back {
+            if (cost as u64) < cap {
+                cap = cost as u64;
+                first = Some(Returned { search, cost });
+            }
+        }
+    }
+    Ok(Searched { first, rows })
+}

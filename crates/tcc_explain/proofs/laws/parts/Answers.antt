@@ -1,8 +1,0 @@
-use Rattle.tcc_explain.proofs.PartLemmas.{none_below, part_distance}
-use Rattle.tcc_explain.proofs.laws.parts.Goals as goal
-
-pub returns-clause-above : goal.returns-clause-above
-returns-clause-above c = none_below
-
-pub returns-clause-least : goal.returns-clause-least
-returns-clause-least c = part_distance

@@ -1,7 +1,0 @@
--- the labels so far
-use Rattle.std.proofs.Common.{◌≡◌, take}
-use Rattle.tcc_explain.specs.Texts.{labels_text}
-use Rattle.tcc_explain.proofs.text.labels_text.Given as goal
-
-abbrev pub invariant-loop-number : goal.invariant-loop-number
-invariant-loop-number l = l.text.items ≡ labels_text l.labels (take l.number-index l.numbers)
