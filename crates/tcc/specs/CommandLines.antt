@@ -10,8 +10,8 @@ use Rattle.clap.specs.declared.error.kind.ErrorKind.{ErrorKind}
 use Rattle.clap.specs.declared.error.kind.ErrorKind.TheVariants.{DisplayHelp, DisplayVersion, OutOfMemory}
 use Rattle.tcc.specs.declared.command_line.Request.{Request}
 use Rattle.tcc.specs.declared.command_line.Request.TheVariants.{Explain, Check}
-use Rattle.tcc.specs.declared.status.Status.{Status}
-use Rattle.tcc.specs.declared.status.Status.TheVariants.{Success, Memory, Device, Usage}
+use Rattle.tcc_run.specs.declared.status.Status.{Status}
+use Rattle.tcc_run.specs.declared.status.Status.TheVariants.{Success, Memory, Device, Usage}
 
 abbrev pub with_subcommand_required : Shape → Shape
 with_subcommand_required s = record s { subcommand_required = true }

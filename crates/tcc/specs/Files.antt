@@ -2,10 +2,10 @@
 use Rattle.std.specs.Prelude.{ℕ, ◌⊎◌, List, Option, false, codes}
 use Rattle.std.specs.declared.io.ErrorKind.{ErrorKind}
 use Rattle.std.specs.declared.io.ErrorKind.TheVariants.{OutOfMemory}
-use Rattle.tcc.specs.declared.status.Status.{Status}
-use Rattle.tcc.specs.declared.status.Status.TheVariants.{Memory, Device}
-use Rattle.tcc.specs.Printed.{Prints, memory_line}
-use Rattle.tcc.specs.Checks.{PrintsSome}
+use Rattle.tcc_run.specs.declared.status.Status.{Status}
+use Rattle.tcc_run.specs.declared.status.Status.TheVariants.{Memory, Device}
+use Rattle.tcc_run.specs.Printed.{Prints, memory_line}
+use Rattle.tcc_run.specs.Checks.{PrintsSome}
 
 -- the line for the device, or for want of memory
 abbrev pub unopened_text : ErrorKind → List ℕ

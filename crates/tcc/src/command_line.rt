@@ -5,11 +5,11 @@ ghost use Rattle.clap.specs.Words.{FailsBy, app_of, fault_of, found_of, kind_of,
 ghost use Rattle.clap.specs.declared.error.kind.ErrorKind.TheVariants.{OutOfMemory};
 ghost use Rattle.tcc.specs.CommandLines.{Asks, AsksBy, AsksCheck, EndsUnasked, IsFlag, IsReading, check_command, end_of, explain_command, json_text, path, tcc_command};
 
-use crate::status::Status;
 use clap::error::ErrorKind;
 use clap::{Arg, ArgAction, ArgMatches, Command, Error};
 use std::alloc::{AllocError, Global};
 use std::{env, io};
+use tcc_run::Status;
 
 /// What the program is asked to do.
 #[derive(Debug, Drop, PartialEq, Eq)]

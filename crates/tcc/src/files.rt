@@ -1,12 +1,10 @@
 //! The files that the command line names.
 ghost use Rattle.tcc.specs.Files.{PrintsFiles, unopened_text, unopened_status};
-ghost use Rattle.tcc.specs.Printed.{Prints};
+ghost use Rattle.tcc_run.specs.Printed.{Prints};
 
-use crate::check::run_check;
-use crate::printing::{memory_line, print_text};
-use crate::status::Status;
 use std::fs::{self, File};
 use std::io::{self, ErrorKind, Write};
+use tcc_run::{Status, memory_line, print_text, run_check};
 
 /// Opens both files, the history before the certificate.
 fn open_both(rt: &HostRuntime, history: &str, certificate: &str) -> io::Result<(File, File)> {

@@ -2,27 +2,14 @@
 //! certificate of that.
 #![tactic(auto)]
 
-mod check;
 mod command_line;
-mod explain;
 mod files;
-mod finished;
-mod halt;
-mod json;
-mod judged;
-mod printing;
-mod status;
-mod texts;
-mod unjudged;
-mod verdicts;
 
 use command_line::Request;
-use explain::run_explain;
 use files::check_files;
-use printing::print_text;
-use status::Status;
 use std::io;
 use std::process::ExitCode;
+use tcc_run::{Status, print_text, run_explain};
 
 fn main(rt: HostRuntime) -> ExitCode {
     let mut out = io::writer(&rt);

@@ -1,7 +1,0 @@
-use Rattle.std.proofs.lemmas.Option.{IfSome_then}
-use Rattle.tcc.proofs.Outcomes.{runs}
-use Rattle.tcc.proofs.explain.run_explain.Goals as goal
-
-pub returns : goal.returns
-returns g c = IfSome_then (g.R.Read.remaining c.args.reader) c.input_outcome.ensures
-    (λ text may. runs c.args.json text _ _ c.input_outcome.result c.print.result may c.print.ensures)

@@ -1,0 +1,143 @@
+-- A run of the check that ends with success shows that the claim is true.
+use Rattle.std.proofs.Common.{◌≡◌, ℕ, List, [], refl, sym, ap, subst, ◌∙◌, false, Ok, Err, None, Some, Option, inl, inr, ◌⊎◌}
+use Rattle.std.specs.Prelude.{Result}
+use Rattle.tcc_txn.specs.Answers.{answers_of}
+use Rattle.tcc_txn.specs.Snapshots.{Sessions}
+use Rattle.tcc_txn.specs.declared.rows.Item.{Item}
+use Rattle.tcc_txn.specs.declared.rows.RowFault.{RowFault}
+use Rattle.tcc_txn.specs.declared.rows.RowFaultKind.{RowFaultKind}
+use Rattle.tcc_txn.specs.declared.rows.RowFaultKind.TheVariants as row_kind
+use Rattle.tcc_reads.specs.Faults.{read_faults}
+use Rattle.tcc_reads.specs.History.{History}
+use Rattle.tcc_reads.specs.Sources.{history}
+use Rattle.tcc_cert.specs.Reading.{certificate_of}
+use Rattle.tcc_cert.specs.Rules.{Certifies}
+use Rattle.tcc_cert.specs.declared.certificate.Certificate.{Certificate}
+use Rattle.tcc_cert.specs.declared.certificate.Certificate.TheVariants as claim
+use Rattle.tcc_cert.specs.declared.fault.CertFaultKind.{CertFaultKind}
+use Rattle.tcc_cert.specs.declared.fault.CertFaultKind.TheVariants as text_kind
+use Rattle.tcc_check.specs.Verdicts.{IsVerdict, IsTrueClaim}
+use Rattle.tcc_check.specs.declared.verdict.Verdict.{Verdict}
+use Rattle.tcc_check.specs.declared.verdict.Verdict.TheVariants as verdict
+use Rattle.tcc_run.specs.declared.judged.Judged.{Judged}
+use Rattle.tcc_run.specs.declared.unjudged.Unjudged.{Unjudged}
+use Rattle.tcc_run.specs.declared.unjudged.Unjudged.TheVariants.{Row, Reads, Text, NoMemory}
+use Rattle.tcc_run.specs.Gathered.{IsSnapshotOf}
+use Rattle.tcc_run.specs.declared.status.Status.{Status}
+use Rattle.tcc_run.specs.declared.status.Status.TheVariants as status
+use Rattle.tcc_run.specs.Statuses.{code_of, row_status}
+use Rattle.tcc_run.specs.Verdicts.{check_status, check_text, text_status, verdict_status}
+use Rattle.tcc_run.specs.Printed.{Prints, memory_line}
+use Rattle.tcc_run.specs.Checks.{IsRecordsCheck, MayBeCheck, IsCheckRun, IsShown, PrintsCheck}
+
+-- no fault of a record ends with success
+row_fails : (k : RowFaultKind) → code_of (row_status k) ≡ 0 → ⊥
+row_fails row_kind.FieldCount h = cc
+row_fails row_kind.BadSession h = cc
+row_fails row_kind.UnknownWord h = cc
+row_fails row_kind.BadKey h = cc
+row_fails row_kind.BadValue h = cc
+row_fails row_kind.WriteOfZero h = cc
+row_fails row_kind.NotBegun h = cc
+row_fails row_kind.AlreadyBegun h = cc
+row_fails row_kind.TooManyOps h = cc
+row_fails row_kind.TooManySessions h = cc
+row_fails row_kind.TooManyTransactions h = cc
+row_fails row_kind.TooManyKeys h = cc
+row_fails row_kind.TooManySeals h = cc
+row_fails (row_kind.Unfinished session) h = cc
+row_fails row_kind.Read h = cc
+row_fails row_kind.NoMemory h = cc
+
+-- nor does a fault of a certificate's text
+text_fails : (k : CertFaultKind) → code_of (text_status k) ≡ 0 → ⊥
+text_fails text_kind.Header h = cc
+text_fails text_kind.Word h = cc
+text_fails text_kind.Number h = cc
+text_fails text_kind.Count h = cc
+text_fails text_kind.TooLarge h = cc
+text_fails text_kind.Truncated h = cc
+text_fails text_kind.Trailing h = cc
+text_fails text_kind.Read h = cc
+text_fails text_kind.NoMemory h = cc
+
+not_zero : code_of status.Device ≡ 0 → ⊥
+not_zero h = cc
+
+-- ends that are a verdict show the history and the certificate that it is about
+pub record IsJudged (records : List ℕ) (text : List ℕ) (k : Certificate) (v : Verdict) : Type 0 where
+  pub sessions : Sessions
+  pub unfaulted : (answers_of records).fault ≡ None
+  pub snapshot : IsSnapshotOf (answers_of records).items sessions
+  pub resolved : read_faults sessions ≡ []
+  pub read : certificate_of text ≡ Ok k
+  pub judged : IsVerdict (history sessions) k v
+
+judged_records : (records text : List ℕ) (judged : Judged) (found : Option RowFault) → (answers_of records).fault ≡ found
+    → IsRecordsCheck (answers_of records).items found text (Ok judged) → IsJudged records text judged.certificate judged.verdict
+judged_records records text judged None same (s, snapshot, inl faulty) = absurd faulty.1
+judged_records records text judged None same (s, snapshot, inr is) =
+    record { sessions = s; unfaulted = same; snapshot = snapshot; resolved = is.0; read = is.1.0; judged = is.1.1 }
+judged_records records text judged (Some fault) same is = let bad : ⊥ = cc in absurd bad
+
+judged_run : (records text : List ℕ) (judged : Judged) → MayBeCheck records text (Ok judged) → IsJudged records text judged.certificate judged.verdict
+judged_run records text judged (inl is) = judged_records records text judged (answers_of records).fault refl is
+judged_run records text judged (inr (inl fails)) = let e = fails.1 in let bad : ⊥ = cc in absurd bad
+judged_run records text judged (inr (inr memory)) = let bad : ⊥ = cc in absurd bad
+
+module _ (certified : (h : History) (k : Certificate) → Certifies h k → IsTrueClaim h k) where
+  -- what is accepted is certified, and so true
+  accepted : (h : History) (k : Certificate) → IsVerdict h k verdict.Accepted → IsTrueClaim h k
+  accepted h (claim.Order order clocks) is = certified h (claim.Order order clocks) is
+  accepted h (claim.Cycle links least near far) is = certified h (claim.Cycle links least near far) is
+
+  of_verdict : (records text : List ℕ) (k : Certificate) (v : Verdict) → IsJudged records text k v
+      → code_of (verdict_status v) ≡ 0 → IsShown records text
+  of_verdict records text k verdict.Accepted is success = record {
+    sessions = is.sessions;
+    certificate = k;
+    unfaulted = is.unfaulted;
+    snapshot = is.snapshot;
+    resolved = is.resolved;
+    read = is.read;
+    true_claim = accepted (history is.sessions) k is.judged;
+  }
+  of_verdict records text k (verdict.Rejected rule at) is success = let bad : ⊥ = cc in absurd bad
+
+  of_outcome : (records text : List ℕ) (o : Result Judged Unjudged) → MayBeCheck records text o → code_of (check_status o) ≡ 0
+      → IsShown records text
+  of_outcome records text (Ok judged) may success =
+      of_verdict records text judged.certificate judged.verdict (judged_run records text judged may) success
+  of_outcome records text (Err (Row fault)) may success = absurd (row_fails fault.kind success)
+  of_outcome records text (Err (Reads faults)) may success = let bad : ⊥ = cc in absurd bad
+  of_outcome records text (Err (Text fault)) may success = absurd (text_fails fault.kind success)
+  of_outcome records text (Err NoMemory) may success = let bad : ⊥ = cc in absurd bad
+
+  pub shown : (records text : List ℕ) (before after : Option (List ℕ)) (code : ℕ) → IsCheckRun records text before after code
+      → code ≡ 0 → IsShown records text
+  shown records text before after code (o, may, inl whole) zero = of_outcome records text o may (sym whole.1 ∙ zero)
+  shown records text before after code (o, may, inr part) zero = absurd (not_zero (sym part.1 ∙ zero))
+
+-- the text of the outcome with its status
+pub printed : (before after : Option (List ℕ)) (o : Result Judged Unjudged) (line : List ℕ) (how : Status) (code : ℕ)
+    → line ≡ check_text o → how ≡ check_status o → Prints before after line how code → PrintsCheck before after o code
+printed before after o line how code is same prints =
+    (o, inl refl, subst (λ l. Prints before after l (check_status o) code) is (subst (λ h. Prints before after line h code) same prints))
+
+-- the line for want of memory in its place
+pub printed_memory : (before after : Option (List ℕ)) (o : Result Judged Unjudged) (line : List ℕ) (code : ℕ)
+    → line ≡ memory_line false → Prints before after line status.Memory code → PrintsCheck before after o code
+printed_memory before after o line code is prints =
+    (Err NoMemory, inr refl, subst (λ l. Prints before after l status.Memory code) is prints)
+
+-- what is printed of the outcome, or of want of memory in its place, is what a run may print
+pub runs : (records text : List ℕ) (before after : Option (List ℕ)) (o : Result Judged Unjudged) (code : ℕ)
+    → MayBeCheck records text o → PrintsCheck before after o code → IsCheckRun records text before after code
+runs records text before after o code may prints = (
+  prints.0,
+  elim prints.1 [
+    | inl same ↦ subst (MayBeCheck records text) (sym same) may
+    | inr memory ↦ inr (inr memory)
+  ],
+  prints.2,
+)

@@ -1,0 +1,113 @@
+//! From the bytes of a history and of a certificate to the verdict.
+ghost use Rattle.std.specs.Prelude.{◌≡◌, ℕ, IfSome};
+ghost use Rattle.tcc_txn.specs.Answers.{answers_of};
+ghost use Rattle.tcc_run.specs.Checks.{IsCheckRun, IsShown, MayBeCheck, MayBeTextCheck, PrintsCheck, PrintsSome};
+ghost use Rattle.tcc_run.specs.Unjudged.{IsFinished, IsHistoryOf, IsResolved};
+
+use crate::finished::Gathered;
+use crate::judged::Judged;
+use crate::printing::{memory_line, print_text};
+use crate::status::Status;
+use crate::unjudged::Unjudged;
+use crate::verdicts::{check_status, check_text};
+use std::alloc::Global;
+use std::io::{Read, Write};
+use tcc_cert::read;
+use tcc_check::check;
+use tcc_check::laws::certified;
+use tcc_graph::Graph;
+use tcc_reads::resolve;
+use tcc_txn::{Item, NoMemory, Rows, Snapshot};
+
+/// What the sessions finished up to the end of the records, whatever was sealed.
+fn finished<R: Read + Drop>(alloc: Global, reader: R) -> Result<Gathered, Unjudged>
+    ensures { IfSome (R.remaining reader) (λ records. IsFinished (answers_of records) result) }
+{
+    let mut rows = Rows::new(alloc, reader)?;
+    let mut gathered = Gathered::new(alloc);
+    'items: for _ in 0..u64::MAX {
+        match rows.next(alloc)? {
+            Item::Finished(session, txn) => gathered.add(alloc, session, txn)?,
+            Item::Seal => {}
+            Item::End => return Ok(gathered),
+        }
+    }
+    // So many transactions are held by no memory.
+    Err(Unjudged::NoMemory)
+}
+
+/// The history of all that the sessions finished.
+fn resolved(alloc: Global, gathered: Gathered) -> Result<Graph, Unjudged>
+    ensures { IsResolved gathered result }
+{
+    match Snapshot::new(gathered.into_parts(alloc)?) {
+        Ok(snapshot) => {
+            let resolved = resolve(alloc, &snapshot)?;
+            Ok(Graph::build(alloc, &resolved)?)
+        }
+        // The rows keep the limits of a snapshot, so only memory can be wanting.
+        Err(_) => Err(Unjudged::NoMemory),
+    }
+}
+
+/// The history of the records.
+fn history_of<R: Read + Drop>(alloc: Global, reader: R) -> Result<Graph, Unjudged>
+    ensures { IfSome (R.remaining reader) (λ records. IsHistoryOf (answers_of records) result) }
+{
+    let gathered = finished(alloc, reader)?;
+    resolved(alloc, gathered)
+}
+
+/// The verdict on the certificate whose text the reader gives.
+fn judged<R: Read + Drop>(alloc: Global, graph: &Graph, reader: R) -> Result<Judged, Unjudged>
+    ensures { IfSome (R.remaining reader) (λ text. MayBeTextCheck graph.now text result) }
+{
+    let certificate = read(alloc, reader)?;
+    let verdict = check(alloc, graph, &certificate)?;
+    Ok(Judged {
+        certificate,
+        verdict,
+    })
+}
+
+/// The verdict on the certificate for the history, or the first fault of the two.
+fn checked<H: Read + Drop, C: Read + Drop>(
+    alloc: Global,
+    history: H,
+    certificate: C,
+) -> Result<Judged, Unjudged>
+    ensures { IfSome (H.remaining history) (λ records. IfSome (C.remaining certificate) (λ text. MayBeCheck records text result)) }
+{
+    let graph = history_of(alloc, history)?;
+    judged(alloc, &graph, certificate)
+}
+
+/// Writes the text of the outcome, and gives the status of the run. Where memory is wanting, that is written in its
+/// place.
+fn print_check<W: Write>(alloc: Global, outcome: &Result<Judged, Unjudged>, out: &mut W) -> u8
+    ensures { PrintsCheck (W.contents out.old) (W.contents out.new) outcome.now result }
+{
+    match check_text(alloc, outcome) {
+        Ok(text) => print_text(out, &text, check_status(outcome)),
+        Err(NoMemory) => print_text(out, memory_line(false), Status::Memory),
+    }
+}
+
+/// Writes the verdict on the certificate for the history, or the first fault of the two, and gives the status of the
+/// run. Only where what the certificate claims is true is the status 0.
+pub fn run_check<H: Read + Drop, C: Read + Drop, W: Write>(
+    alloc: Global,
+    history: H,
+    certificate: C,
+    out: &mut W,
+) -> u8
+    ensures run { IfSome (H.remaining history) (λ records. IfSome (C.remaining certificate) (λ text. IsCheckRun records text (W.contents out.old) (W.contents out.new) result)) }
+    ensures printed { PrintsSome (W.contents out.old) (W.contents out.new) result }
+    ensures shown { IfSome (H.remaining history) (λ records. IfSome (C.remaining certificate) (λ text. result ≡ 0 → IsShown records text)) }
+{
+    certified();
+    print_check(alloc, &checked(alloc, history, certificate), out)
+}
+
+#[cfg(test)]
+mod tests;

@@ -1,0 +1,23 @@
+//! Runs of `tcc` from bytes to bytes: what `tcc explain` and `tcc check` write for what they read, and the statuses that
+//! they end with. Nothing here knows of command lines or files, so other programs can make the same runs.
+#![tactic(auto)]
+
+mod check;
+mod explain;
+mod finished;
+mod halt;
+pub mod json;
+mod judged;
+mod printing;
+mod status;
+pub mod texts;
+mod unjudged;
+mod verdicts;
+
+pub use check::run_check;
+pub use explain::run_explain;
+pub use halt::Halt;
+pub use judged::Judged;
+pub use printing::{memory_line, print_text};
+pub use status::Status;
+pub use unjudged::Unjudged;
