@@ -7,11 +7,12 @@ use Rattle.std.proofs.lemmas.Bool.Decides.{eqb_tells, nat_tests}
 use Rattle.tcc_reads.specs.History.{History, count}
 use Rattle.tcc_graph.specs.Links.{link_cost}
 use Rattle.tcc_graph.specs.declared.link.Link.{Link}
-use Rattle.tcc_near.specs.Distances.{no_walk, row_of}
+use Rattle.tcc_near.specs.Distances.{row_of}
 use Rattle.tcc_derive.specs.Prices.{Tables, cost_at, IsLinkOf, IsCost, IsPricesOf}
 use Rattle.tcc_core.specs.Rows.{in_row}
 use Rattle.tcc_core.specs.Searches.{held, no_way}
 use Rattle.tcc_core.specs.Relaxing.{way_by, lesser}
+use Rattle.tcc_near.specs.declared.distances.TheConstants.{NONE}
 
 -- ---- what a table says of a link
 
@@ -19,17 +20,17 @@ use Rattle.tcc_core.specs.Relaxing.{way_by, lesser}
 abbrev pub entry : Tables → ℕ → ℕ → ℕ
 entry t u v = get_or (row_of t.costs u) v 0
 
-pub entry_of_link : (h : History) (t : Tables) (u v : ℕ) (l : Link) → IsPricesOf h t → u < count h → v < count h → IsLinkOf h u v l → (entry t u v ≢ no_walk) × (entry t u v ≤ link_cost l)
-entry_of_link h t u v l priced from to leads = go (eqb_tells (entry t u v) no_walk) (priced.costed u v from to)
+pub entry_of_link : (h : History) (t : Tables) (u v : ℕ) (l : Link) → IsPricesOf h t → u < count h → v < count h → IsLinkOf h u v l → (entry t u v ≢ NONE) × (entry t u v ≤ link_cost l)
+entry_of_link h t u v l priced from to leads = go (eqb_tells (entry t u v) NONE) (priced.costed u v from to)
   where
-    go : (((entry t u v == no_walk) ≡ true) × (entry t u v ≡ no_walk)) ⊎ (((entry t u v == no_walk) ≡ false) × (entry t u v ≢ no_walk)) → IsCost h u v (cost_at t u v) → (entry t u v ≢ no_walk) × (entry t u v ≤ link_cost l)
+    go : (((entry t u v == NONE) ≡ true) × (entry t u v ≡ NONE)) ⊎ (((entry t u v == NONE) ≡ false) × (entry t u v ≢ NONE)) → IsCost h u v (cost_at t u v) → (entry t u v ≢ NONE) × (entry t u v ≤ link_cost l)
     go (inl (test, same)) cost = let none = rw test at cost in absurd (none l leads)
     go (inr (test, other)) cost = let some = rw test at cost in (other, some.least l leads)
 
-pub link_of_entry : (h : History) (t : Tables) (u v : ℕ) → IsPricesOf h t → u < count h → v < count h → entry t u v ≢ no_walk → (l : Link) × IsLinkOf h u v l × (link_cost l ≡ entry t u v)
-link_of_entry h t u v priced from to there = go (eqb_tells (entry t u v) no_walk) (priced.costed u v from to)
+pub link_of_entry : (h : History) (t : Tables) (u v : ℕ) → IsPricesOf h t → u < count h → v < count h → entry t u v ≢ NONE → (l : Link) × IsLinkOf h u v l × (link_cost l ≡ entry t u v)
+link_of_entry h t u v priced from to there = go (eqb_tells (entry t u v) NONE) (priced.costed u v from to)
   where
-    go : (((entry t u v == no_walk) ≡ true) × (entry t u v ≡ no_walk)) ⊎ (((entry t u v == no_walk) ≡ false) × (entry t u v ≢ no_walk)) → IsCost h u v (cost_at t u v) → (l : Link) × IsLinkOf h u v l × (link_cost l ≡ entry t u v)
+    go : (((entry t u v == NONE) ≡ true) × (entry t u v ≡ NONE)) ⊎ (((entry t u v == NONE) ≡ false) × (entry t u v ≢ NONE)) → IsCost h u v (cost_at t u v) → (l : Link) × IsLinkOf h u v l × (link_cost l ≡ entry t u v)
     go (inl (test, same)) cost = absurd (there same)
     go (inr (test, other)) cost = let some = rw test at cost in some.attained
 
@@ -44,10 +45,10 @@ lesser_right a b = cond_both (nat_lt b a) b a (λ x. x ≤ b) (λ e. omega arith
 pub lesser_cases : (a b : ℕ) → (lesser a b ≡ b) ⊎ (lesser a b ≡ a)
 lesser_cases a b = cases_cond (nat_lt b a) b a (lesser a b) refl
 
-pub way_by_link : (d link : ℕ) → link ≢ no_walk → way_by d link ≡ d + link
+pub way_by_link : (d link : ℕ) → link ≢ NONE → way_by d link ≡ d + link
 way_by_link d link there = grind (arith, nat_tests)
 
-pub way_by_none : (d link : ℕ) → link ≡ no_walk → way_by d link ≡ no_way
+pub way_by_none : (d link : ℕ) → link ≡ NONE → way_by d link ≡ no_way
 way_by_none d link same = grind (arith, nat_tests)
 
 -- each cost is the lesser of what it was and of a way by these links from where d was spent
@@ -56,10 +57,10 @@ pub record IsLowered (old : List ℕ) (new : List ℕ) (d : ℕ) (links : List �
   pub each : (v : ℕ) → v < length old → get_or new v 0 ≡ lesser (get_or old v 0) (way_by d (get_or links v 0))
 
 -- a lowered cost is what it was, or that of a way by a link
-pub lowered_cases : (old new : List ℕ) (d : ℕ) (links : List ℕ) (v : ℕ) → IsLowered old new d links → v < length old → get_or new v 0 ≢ no_way → (get_or new v 0 ≡ get_or old v 0) ⊎ ((get_or links v 0 ≢ no_walk) × (get_or new v 0 ≡ d + get_or links v 0))
-lowered_cases old new d links v is within some = go (lesser_cases (get_or old v 0) (way_by d (get_or links v 0))) (eqb_tells (get_or links v 0) no_walk)
+pub lowered_cases : (old new : List ℕ) (d : ℕ) (links : List ℕ) (v : ℕ) → IsLowered old new d links → v < length old → get_or new v 0 ≢ no_way → (get_or new v 0 ≡ get_or old v 0) ⊎ ((get_or links v 0 ≢ NONE) × (get_or new v 0 ≡ d + get_or links v 0))
+lowered_cases old new d links v is within some = go (lesser_cases (get_or old v 0) (way_by d (get_or links v 0))) (eqb_tells (get_or links v 0) NONE)
   where
-    go : (lesser (get_or old v 0) (way_by d (get_or links v 0)) ≡ way_by d (get_or links v 0)) ⊎ (lesser (get_or old v 0) (way_by d (get_or links v 0)) ≡ get_or old v 0) → (((get_or links v 0 == no_walk) ≡ true) × (get_or links v 0 ≡ no_walk)) ⊎ (((get_or links v 0 == no_walk) ≡ false) × (get_or links v 0 ≢ no_walk)) → (get_or new v 0 ≡ get_or old v 0) ⊎ ((get_or links v 0 ≢ no_walk) × (get_or new v 0 ≡ d + get_or links v 0))
+    go : (lesser (get_or old v 0) (way_by d (get_or links v 0)) ≡ way_by d (get_or links v 0)) ⊎ (lesser (get_or old v 0) (way_by d (get_or links v 0)) ≡ get_or old v 0) → (((get_or links v 0 == NONE) ≡ true) × (get_or links v 0 ≡ NONE)) ⊎ (((get_or links v 0 == NONE) ≡ false) × (get_or links v 0 ≢ NONE)) → (get_or new v 0 ≡ get_or old v 0) ⊎ ((get_or links v 0 ≢ NONE) × (get_or new v 0 ≡ d + get_or links v 0))
     go (inr kept) w = inl (is.each v within ∙ kept)
     go (inl by) (inl (test, same)) = absurd (some (is.each v within ∙ by ∙ way_by_none d (get_or links v 0) same))
     go (inl by) (inr (test, other)) = inr (other, is.each v within ∙ by ∙ way_by_link d (get_or links v 0) other)
@@ -67,7 +68,7 @@ lowered_cases old new d links v is within some = go (lesser_cases (get_or old v 
 pub lowered_old : (old new : List ℕ) (d : ℕ) (links : List ℕ) (v : ℕ) → IsLowered old new d links → v < length old → get_or new v 0 ≤ get_or old v 0
 lowered_old old new d links v is within = omega (arith, is.each v within, lesser_left (get_or old v 0) (way_by d (get_or links v 0)))
 
-pub lowered_way : (old new : List ℕ) (d : ℕ) (links : List ℕ) (v : ℕ) → IsLowered old new d links → v < length old → get_or links v 0 ≢ no_walk → get_or new v 0 ≤ d + get_or links v 0
+pub lowered_way : (old new : List ℕ) (d : ℕ) (links : List ℕ) (v : ℕ) → IsLowered old new d links → v < length old → get_or links v 0 ≢ NONE → get_or new v 0 ≤ d + get_or links v 0
 lowered_way old new d links v is within there = omega (arith, is.each v within, lesser_right (get_or old v 0) (way_by d (get_or links v 0)), way_by_link d (get_or links v 0) there)
 
 -- ---- how many a row has
@@ -90,10 +91,7 @@ held_below (None ∷ row) v within out = omega (arith, held_most row)
 held_below (Some c ∷ row) zero within out = cc
 held_below (Some c ∷ row) (suc v) within out = omega (arith, held_below row v (omega arith) out)
 
--- ---- a slice that a call wrote to, in its vector again, and links' costs as numbers of 16 bits
-
-pub whole : {X : Type 0} (xs ys : List X) (n : ℕ) → length xs ≡ length ys → n ≡ length ys → take n (xs ++ drop (length xs) ys) ≡ xs
-whole xs ys n same long = grind (arith, common_steps)
+-- ---- links' costs as numbers of 16 bits
 
 pub fits : (links : List ℕ) → All (λ link. link < 65536) links → (v : ℕ) → get_or links v 0 < 65536
 fits links all v = go (cases_lt v (length links))

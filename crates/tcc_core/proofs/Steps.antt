@@ -5,13 +5,14 @@ use Rattle.tcc_reads.specs.History.{History, count}
 use Rattle.tcc_graph.specs.Links.{cost}
 use Rattle.tcc_graph.specs.Routes.{IsRoute, IsDistance}
 use Rattle.tcc_graph.specs.declared.link.Link.{Link}
-use Rattle.tcc_near.specs.Distances.{no_walk, row_of}
+use Rattle.tcc_near.specs.Distances.{row_of}
 use Rattle.tcc_derive.specs.Prices.{Tables, IsLinkOf, IsPricesOf}
 use Rattle.tcc_core.specs.Rows.{in_row, IsRow, IsEmptyRow, cap_of, IsWithin, IsCutOff, JoinsNearest}
 use Rattle.tcc_core.specs.Searches.{HasCome, IsWay, IsFrontier, IsSearchOf, IsBounded, Search, held, no_way}
 use Rattle.tcc_core.specs.Relaxing.{IsNearest}
 use Rattle.tcc_core.proofs.Lowering.{IsLowered, lowered_cases, lowered_old, lowered_way, entry_of_link, link_of_entry, held_set, held_below}
 use Rattle.tcc_core.proofs.Frontier.{route_of_way, way_within, way_below}
+use Rattle.tcc_near.specs.declared.distances.TheConstants.{NONE}
 
 -- ---- a row that one more transaction has joined
 
@@ -135,7 +136,7 @@ frontier_after h t s row old new v d priced wide is below out small fits lowered
     there : v < length row
     there = omega arith
 
-    attained : (x : ℕ) → x < count h → in_row row x ≡ None → (get_or new x 0 ≡ get_or old x 0) ⊎ ((get_or (row_of t.costs v) x 0 ≢ no_walk) × (get_or new x 0 ≡ d + get_or (row_of t.costs v) x 0)) → get_or new x 0 ≢ no_way → IsWay h s (set row v (Some d)) x (get_or new x 0)
+    attained : (x : ℕ) → x < count h → in_row row x ≡ None → (get_or new x 0 ≡ get_or old x 0) ⊎ ((get_or (row_of t.costs v) x 0 ≢ NONE) × (get_or new x 0 ≡ d + get_or (row_of t.costs v) x 0)) → get_or new x 0 ≢ no_way → IsWay h s (set row v (Some d)) x (get_or new x 0)
     attained x within outside (inl same) some =
         let way = way_kept h s row v d x (get_or old x 0) out (is.attained x within outside (λ e. some (same ∙ e))) in
         rw same way
@@ -185,7 +186,7 @@ search_after h t s search v new priced is near small fits lowered =
 
 -- ---- bounds that hold whatever the prices are
 
-pub nearest_small : (search : Search) (v : ℕ) → IsBounded search → IsNearest search.row search.costs v → get_or search.costs v 0 ≤ 65535 * (held search.row + 1)
+pub nearest_small : (search : Search) (v : ℕ) → IsBounded search → IsNearest search.row search.costs v → get_or search.costs v 0 ≤ NONE * (held search.row + 1)
 nearest_small search v is near = is.bounded v near.below (omega (arith, near.reached))
 
 pub small_enough : (search : Search) (v : ℕ) → IsBounded search → IsNearest search.row search.costs v → get_or search.costs v 0 < 2147483648
@@ -202,7 +203,7 @@ bounded_after search v new links is near fits lowered = record {
     more : held (set search.row v (Some (get_or search.costs v 0))) ≡ held search.row + 1
     more = held_set search.row v (get_or search.costs v 0) near.below near.outside
 
-    bound : (x : ℕ) → x < length search.row → get_or new x 0 ≢ no_way → (get_or new x 0 ≡ get_or search.costs x 0) ⊎ ((get_or links x 0 ≢ no_walk) × (get_or new x 0 ≡ get_or search.costs v 0 + get_or links x 0)) → get_or new x 0 ≤ 65535 * (held (set search.row v (Some (get_or search.costs v 0))) + 1)
+    bound : (x : ℕ) → x < length search.row → get_or new x 0 ≢ no_way → (get_or new x 0 ≡ get_or search.costs x 0) ⊎ ((get_or links x 0 ≢ NONE) × (get_or new x 0 ≡ get_or search.costs v 0 + get_or links x 0)) → get_or new x 0 ≤ NONE * (held (set search.row v (Some (get_or search.costs v 0))) + 1)
     bound x within some (inl same) = omega (arith, same, more, is.bounded x within (λ e. some (same ∙ e)))
     bound x within some (inr (linked, same)) = omega (arith, same, more, nearest_small search v is near, fits x)
 
@@ -227,7 +228,7 @@ search_begun h t s row old new priced below empty long none fits lowered = recor
     no_one : (v d : ℕ) → in_row row v ≡ Some d → ⊥
     no_one v d e = let out : in_row row v ≡ None = empty.empty v in cc
 
-    attained : (x : ℕ) → x < count h → (get_or new x 0 ≡ get_or old x 0) ⊎ ((get_or (row_of t.costs s) x 0 ≢ no_walk) × (get_or new x 0 ≡ 0 + get_or (row_of t.costs s) x 0)) → get_or new x 0 ≢ no_way → IsWay h s row x (get_or new x 0)
+    attained : (x : ℕ) → x < count h → (get_or new x 0 ≡ get_or old x 0) ⊎ ((get_or (row_of t.costs s) x 0 ≢ NONE) × (get_or new x 0 ≡ 0 + get_or (row_of t.costs s) x 0)) → get_or new x 0 ≢ no_way → IsWay h s row x (get_or new x 0)
     attained x within (inl same) some = absurd (some (same ∙ none x within))
     attained x within (inr (linked, same)) some =
         let (l, leads, paid) = link_of_entry h t s x priced below within linked in
@@ -248,6 +249,6 @@ bounded_begun s n row old new links below few empty long none fits lowered = rec
   bounded = λ x within some. bound x (omega (arith, empty.long)) (lowered_cases old new 0 links x lowered (omega (arith, empty.long)) some) some;
 }
   where
-    bound : (x : ℕ) → x < n → (get_or new x 0 ≡ get_or old x 0) ⊎ ((get_or links x 0 ≢ no_walk) × (get_or new x 0 ≡ 0 + get_or links x 0)) → get_or new x 0 ≢ no_way → get_or new x 0 ≤ 65535 * (held row + 1)
+    bound : (x : ℕ) → x < n → (get_or new x 0 ≡ get_or old x 0) ⊎ ((get_or links x 0 ≢ NONE) × (get_or new x 0 ≡ 0 + get_or links x 0)) → get_or new x 0 ≢ no_way → get_or new x 0 ≤ NONE * (held row + 1)
     bound x within (inl same) some = absurd (some (same ∙ none x within))
     bound x within (inr (linked, same)) some = omega (arith, same, fits x)

@@ -17,6 +17,7 @@ use Rattle.tcc_core.specs.Shares.{Share, Finished, Returned, Cut, IsNotAbove, Is
 use Rattle.tcc_core.specs.declared.settled.Settled.TheVariants as settled
 use Rattle.tcc_core.proofs.LinkLemmas.{cost_cons}
 use Rattle.tcc_graph.proofs.Pairs.{link_below}
+use Rattle.tcc_near.specs.declared.distances.TheConstants.{NONE}
 
 -- ---- rows, caps and words
 
@@ -41,7 +42,7 @@ held-two = refl
 way_by-link : way_by 3 2 ≡ 5
 way_by-link = refl
 
-way_by-none : way_by 3 65535 ≡ 4294967295
+way_by-none : way_by 3 NONE ≡ 4294967295
 way_by-none = refl
 
 lesser-two : (lesser 3 2 ≡ 2) × (lesser 2 3 ≡ 2)

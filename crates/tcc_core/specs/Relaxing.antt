@@ -1,8 +1,8 @@
 -- Costs of ways, and how links lower them.
 use Rattle.std.specs.Prelude.{ℕ, ◌<◌, ◌≤◌, ◌≡◌, ◌+◌, ◌==◌, List, length, Option, None, nat_lt, if◌then◌else◌, slice_index}
-use Rattle.tcc_near.specs.Distances.{no_walk}
 use Rattle.tcc_core.specs.Rows.{in_row}
 use Rattle.tcc_core.specs.Searches.{no_way}
+use Rattle.tcc_near.specs.declared.distances.TheConstants.{NONE}
 
 -- v stands outside the row, some way leads there, and the way to no other outside costs less
 pub record IsNearest (row : List (Option ℕ)) (costs : List ℕ) (v : ℕ) : Type 0 where
@@ -13,7 +13,7 @@ pub record IsNearest (row : List (Option ℕ)) (costs : List ℕ) (v : ℕ) : Ty
 
 -- what a way costs that leads on by a link, of a table of links' costs
 abbrev pub way_by : ℕ → ℕ → ℕ
-way_by so_far link = if link == no_walk then no_way else (so_far + link)
+way_by so_far link = if link == NONE then no_way else (so_far + link)
 
 abbrev pub lesser : ℕ → ℕ → ℕ
 lesser a b = if nat_lt b a then b else a

@@ -7,6 +7,7 @@ use Rattle.tcc_derive.specs.Prices.{IsLinkOf}
 use Rattle.tcc_core.specs.Rows.{in_row, IsRow, cap_of, IsCutOff, JoinsNearest}
 use Rattle.tcc_core.specs.declared.settled.Settled.{Settled}
 use Rattle.tcc_core.specs.declared.settled.Settled.TheVariants as settled
+use Rattle.tcc_near.specs.declared.distances.TheConstants.{NONE}
 
 -- a start, its row, and of each transaction outside the row what the way there over the row costs
 pub record Search : Type 0 where
@@ -50,7 +51,7 @@ pub record IsBounded (search : Search) : Type 0 where
   pub below : search.start < length search.row
   pub few : length search.row ≤ 1024
   pub long : length search.costs ≡ length search.row
-  pub bounded : (v : ℕ) → v < length search.row → slice_index search.costs v ≢ no_way → slice_index search.costs v ≤ 65535 * (held search.row + 1)
+  pub bounded : (v : ℕ) → v < length search.row → slice_index search.costs v ≢ no_way → slice_index search.costs v ≤ NONE * (held search.row + 1)
 
 -- one step of a search: one of the nearest outside the row and within the cap joins it, and where it is the start itself
 -- the search has returned with its distance; where there is none, the row stays, and the search is cut at the cap

@@ -4,7 +4,7 @@ ghost use Rattle.tcc_core.specs.Rows.{in_row};
 ghost use Rattle.tcc_core.specs.Searches.{no_way};
 ghost use Rattle.tcc_core.specs.Relaxing.{IsNearest, way_by, lesser};
 
-use tcc_derive::NO_LINK;
+use tcc_near::NONE;
 
 /// What the costs have where no way leads.
 pub(crate) const NO_WAY: u32 = u32::MAX;
@@ -32,7 +32,7 @@ fn way_by(so_far: u32, link: u16) -> u32
     requires { so_far < 2 ^ 31 }
     ensures { result ≡ way_by so_far link }
 {
-    if link == NO_LINK {
+    if link == NONE {
         NO_WAY
     } else {
         so_far + link as u32

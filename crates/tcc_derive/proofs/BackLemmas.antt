@@ -13,6 +13,7 @@ use Rattle.tcc_derive.specs.Backwards.{IsUpTo, IsLastStep, stands_at, LeadsBack,
 use Rattle.tcc_derive.proofs.PriceLemmas.{IsNearby, distance_cases, no_distance}
 use Rattle.tcc_derive.proofs.StepLemmas.{step_itself}
 use Rattle.tcc_graph.proofs.Pairs.{step_below}
+use Rattle.tcc_near.specs.declared.distances.TheConstants.{NONE}
 
 module _ (h : History) where
   back_join : (b m v : ℕ) (ss ts : List Step) → LeadsBack h m v ss → LeadsBack h b m ts → LeadsBack h b v (ss ++ ts)
@@ -87,7 +88,7 @@ module _ (h : History) where
             = stands_nearby v n o os (left.some (omega arith)) back long (omega arith) (distance_cases h near b (step_from o) nears from (step_below h o back.1).0) in
             rw (ne_eqb n 0 some) (eq-eqb (get_or (row_of near b) (step_from o) 0) n at)
 
-    pub left_of : (u n : ℕ) → u < count h → n < 65535 → stands_at (row_of near b) b u n ≡ true → IsLeft h b u n
+    pub left_of : (u n : ℕ) → u < count h → n < NONE → stands_at (row_of near b) b u n ≡ true → IsLeft h b u n
     left_of u n below few stands = go (cases_eq n 0)
       where
         shortest : get_or (row_of near b) u 0 ≡ n → (IsReached h b u → ⊥) ⊎ IsNearby h b u (get_or (row_of near b) u 0) → IsShortest h b u n
@@ -102,7 +103,7 @@ module _ (h : History) where
         }
 
     -- at the end of the walk
-    pub at_end : (c : ℕ) → c < count h → get_or (row_of near b) c 0 < 65535 → IsShortest h b c (get_or (row_of near b) c 0)
+    pub at_end : (c : ℕ) → c < count h → get_or (row_of near b) c 0 < NONE → IsShortest h b c (get_or (row_of near b) c 0)
     at_end c to reached = go (distance_cases h near b c nears from to)
       where
         go : (IsReached h b c → ⊥) ⊎ IsNearby h b c (get_or (row_of near b) c 0) → IsShortest h b c (get_or (row_of near b) c 0)

@@ -21,11 +21,12 @@ use Rattle.tcc_reads.specs.Sources.{name_cmp}
 use Rattle.tcc_derive.specs.Choices.{IsNearest, IsNearestReader, IsChoice}
 use Rattle.tcc_derive.proofs.BucketLemmas.{Contains-taken, Contains-still, Contains-last}
 use Rattle.tcc_derive.proofs.KeyLemmas.{read_place, read_is_key, numbers_below, number_in, Contains-filter, writer_writes, writer_in}
+use Rattle.tcc_near.specs.declared.distances.TheConstants.{NONE}
 
 -- ---- the nearest reader
 
 abbrev pub IsBest : List ℕ → List ℕ → ℕ → Option ℕ → Type 0
-IsBest readers steps least None = (least ≡ 65535) × ((d : ℕ) → Contains readers d → get_or steps d 0 ≡ 65535)
+IsBest readers steps least None = (least ≡ NONE) × ((d : ℕ) → Contains readers d → get_or steps d 0 ≡ NONE)
 IsBest readers steps least (Some c) = (least ≡ get_or steps c 0) × IsNearest readers steps c
 
 -- what stands before a place of an ascending list is below what stands there
@@ -37,8 +38,8 @@ earlier_below readers i r c sorted l is (j, m, e) =
     let there : r ≡ get_or readers i 0 = is ∙ get_or_default readers i r 0 l in
     omega arith
 
-module _ (readers steps : List ℕ) (i r : ℕ) (sorted : IsStrictlySortedBy nat_cmp readers) (within : i < length readers) (is : r ≡ get_or readers i r) (range : (d : ℕ) → get_or steps d 0 ≤ 65535) where
-  bound : (least : ℕ) (best : Option ℕ) → IsBest (take i readers) steps least best → (least ≤ 65535) × ((d : ℕ) → Contains (take i readers) d → least ≤ get_or steps d 0)
+module _ (readers steps : List ℕ) (i r : ℕ) (sorted : IsStrictlySortedBy nat_cmp readers) (within : i < length readers) (is : r ≡ get_or readers i r) (range : (d : ℕ) → get_or steps d 0 ≤ NONE) where
+  bound : (least : ℕ) (best : Option ℕ) → IsBest (take i readers) steps least best → (least ≤ NONE) × ((d : ℕ) → Contains (take i readers) d → least ≤ get_or steps d 0)
   bound least None b = (omega (arith, b.0), λ d h. omega (arith, b.0, b.1 d h))
   bound least (Some c) b = (omega (arith, b.0, b.1.reached), λ d h. omega (arith, b.0, b.1.least d h))
 
@@ -68,7 +69,7 @@ module _ (readers steps : List ℕ) (i r : ℕ) (sorted : IsStrictlySortedBy nat
   )
 
 pub nearest_of : (readers steps : List ℕ) (least : ℕ) (best : Option ℕ) → IsBest readers steps least best
-    → MatchOption best ((d : ℕ) → Contains readers d → get_or steps d 0 ≡ 65535) (IsNearest readers steps)
+    → MatchOption best ((d : ℕ) → Contains readers d → get_or steps d 0 ≡ NONE) (IsNearest readers steps)
 nearest_of readers steps least None b = b.1
 nearest_of readers steps least (Some c) b = b.1
 
@@ -137,7 +138,7 @@ pub record IsChoiceAmong (h : History) (steps : List ℕ) (b : ℕ) (a : ℕ) (a
   pub first : (y : List ℕ) (d : ℕ) → Contains among y → MayContradict h b a y d → get_or steps d 0 ≡ get_or steps c 0 → name_cmp x y ≢ Greater
 
 abbrev pub IsBestChoice : History → List ℕ → ℕ → ℕ → List (List ℕ) → ℕ → Option (List ℕ × ℕ) → Type 0
-IsBestChoice h steps b a among least None = (least ≡ 65535) × ((y : List ℕ) (d : ℕ) → Contains among y → MayContradict h b a y d → get_or steps d 0 ≡ 65535)
+IsBestChoice h steps b a among least None = (least ≡ NONE) × ((y : List ℕ) (d : ℕ) → Contains among y → MayContradict h b a y d → get_or steps d 0 ≡ NONE)
 IsBestChoice h steps b a among least (Some found) = (least ≡ get_or steps found.1 0) × IsChoiceAmong h steps b a among found.0 found.1
 
 not_above_itself : (x : List ℕ) → name_cmp x x ≢ Greater
@@ -153,9 +154,9 @@ earlier_key ks i y x sorted l is (j, m, e) above =
     let less : name_cmp x y ≡ Less = rw (here, there) below in
     cc
 
-module _ (h : History) (steps : List ℕ) (b a : ℕ) (ks : List (List ℕ)) (i : ℕ) (y : List ℕ) (sorted : IsStrictlySortedBy name_cmp ks) (within : i < length ks) (is : y ≡ get_or ks i y) (range : (d : ℕ) → get_or steps d 0 ≤ 65535) where
+module _ (h : History) (steps : List ℕ) (b a : ℕ) (ks : List (List ℕ)) (i : ℕ) (y : List ℕ) (sorted : IsStrictlySortedBy name_cmp ks) (within : i < length ks) (is : y ≡ get_or ks i y) (range : (d : ℕ) → get_or steps d 0 ≤ NONE) where
   pub choice_bound : (least : ℕ) (best : Option (List ℕ × ℕ)) → IsBestChoice h steps b a (take i ks) least best
-      → (least ≤ 65535) × ((z : List ℕ) (d : ℕ) → Contains (take i ks) z → MayContradict h b a z d → least ≤ get_or steps d 0)
+      → (least ≤ NONE) × ((z : List ℕ) (d : ℕ) → Contains (take i ks) z → MayContradict h b a z d → least ≤ get_or steps d 0)
   choice_bound least None best = (omega (arith, best.0), λ z d t may. omega (arith, best.0, best.1 z d t may))
   choice_bound least (Some found) best = (omega (arith, best.0, best.1.nearest.reached), λ z d t may. omega (arith, best.0, best.1.least z d t may))
 
@@ -207,7 +208,7 @@ key_there : (h : History) (a c : ℕ) (x : List ℕ) → IsReadsPair h a c x →
 key_there h a c x pair = let place = read_place h a c x pair in (place.0, place.1, get_or_default (keys h) place.0 x [] place.1 ∙ place.2)
 
 pub choice_of : (h : History) (steps : List ℕ) (b a least : ℕ) (best : Option (List ℕ × ℕ)) → IsBestChoice h steps b a (keys h) least best
-    → MatchOption best ((x : List ℕ) (d : ℕ) → MayContradict h b a x d → get_or steps d 0 ≡ 65535) (λ found. IsChoice h steps b a found.0 found.1)
+    → MatchOption best ((x : List ℕ) (d : ℕ) → MayContradict h b a x d → get_or steps d 0 ≡ NONE) (λ found. IsChoice h steps b a found.0 found.1)
 choice_of h steps b a least None best = λ x d may. best.1 x d (key_there h a d x may.1) may
 choice_of h steps b a least (Some found) best = record {
   nearest = best.1.nearest;

@@ -2,7 +2,6 @@ pub mod BackLemmas
 pub mod BucketLemmas
 pub mod ChoiceLemmas
 pub mod CostLemmas
-pub mod Given
 pub mod KeyLemmas
 pub mod LoweringLemmas
 pub mod PriceLemmas

@@ -21,6 +21,7 @@ use Rattle.tcc_derive.specs.Rows.{IsPriceRow}
 use Rattle.tcc_derive.specs.declared.read.Read.{Read}
 use Rattle.tcc_derive.proofs.BucketLemmas.{Contains-flat_map, flat_map-Contains}
 use Rattle.tcc_derive.proofs.KeyLemmas.{read_place}
+use Rattle.tcc_near.specs.declared.distances.TheConstants.{NONE}
 
 -- a derived link costs a step more than its walk
 pub derived_cost : (b a : ℕ) (x : List ℕ) (c : ℕ) (walk : List Step) → link_cost (link.Derived b a x c walk) ≡ length walk + 1
@@ -33,21 +34,21 @@ pub record IsNearby (h : History) (b : ℕ) (c : ℕ) (n : ℕ) : Type 0 where
 
 pub distance_cases : (h : History) (near : List (List ℕ)) (b c : ℕ) → IsNearOf h near → b < count h → c < count h
     → (IsReached h b c → ⊥) ⊎ IsNearby h b c (get_or (row_of near b) c 0)
-distance_cases h near b c nears from to = go (get_or (row_of near b) c 0 == 65535) (nears.exact b c from to) (λ n. nears.short b c n from to)
+distance_cases h near b c nears from to = go (get_or (row_of near b) c 0 == NONE) (nears.exact b c from to) (λ n. nears.short b c n from to)
   where
     go : (t : Bool) → IsWalkDistance h b c (if t then None else Some (get_or (row_of near b) c 0)) → ((n : ℕ) → (if t then None else Some (get_or (row_of near b) c 0)) ≡ Some n → n ≤ count h)
         → (IsReached h b c → ⊥) ⊎ IsNearby h b c (get_or (row_of near b) c 0)
     go true d s = inl d
     go false d s = inr (record { shortest = d; few = s _ refl })
 
-pub no_distance : (h : History) (near : List (List ℕ)) (b c : ℕ) → IsNearOf h near → b < count h → c < count h → (IsReached h b c → ⊥) → get_or (row_of near b) c 0 ≡ 65535
-no_distance h near b c nears from to none = go (get_or (row_of near b) c 0 == 65535) refl (nears.exact b c from to)
+pub no_distance : (h : History) (near : List (List ℕ)) (b c : ℕ) → IsNearOf h near → b < count h → c < count h → (IsReached h b c → ⊥) → get_or (row_of near b) c 0 ≡ NONE
+no_distance h near b c nears from to none = go (get_or (row_of near b) c 0 == NONE) refl (nears.exact b c from to)
   where
-    go : (t : Bool) → (get_or (row_of near b) c 0 == 65535) ≡ t → IsWalkDistance h b c (if t then None else Some (get_or (row_of near b) c 0)) → get_or (row_of near b) c 0 ≡ 65535
-    go true e d = eqb-true (get_or (row_of near b) c 0) 65535 e
+    go : (t : Bool) → (get_or (row_of near b) c 0 == NONE) ≡ t → IsWalkDistance h b c (if t then None else Some (get_or (row_of near b) c 0)) → get_or (row_of near b) c 0 ≡ NONE
+    go true e d = eqb-true (get_or (row_of near b) c 0) NONE e
     go false e d = absurd (none (d.attained.0, d.attained.1))
 
-pub out_of_reach : (h : History) (near : List (List ℕ)) (b c : ℕ) → IsNearOf h near → b < count h → c < count h → get_or (row_of near b) c 0 ≡ 65535 → IsReached h b c → ⊥
+pub out_of_reach : (h : History) (near : List (List ℕ)) (b c : ℕ) → IsNearOf h near → b < count h → c < count h → get_or (row_of near b) c 0 ≡ NONE → IsReached h b c → ⊥
 out_of_reach h near b c nears from to none = go (nears.exact b c from to)
   where
     go : IsWalkDistance h b c (least_in (row_of near b) c) → IsReached h b c → ⊥
@@ -55,7 +56,7 @@ out_of_reach h near b c nears from to none = go (nears.exact b c from to)
 
 module _ (h : History) (near : List (List ℕ)) (reads : List (List Read)) (written : List (List ℕ)) (b : ℕ) (row : List ℕ)
     (small : count h ≤ 1024) (from : b < count h) (nears : IsNearOf h near) (read : IsReadsOf h reads) (wrote : IsWritesOf h written)
-    (lowered : Lowers (flat_map (bucket reads) (bucket written b)) (row_of near b) b (replicate (length near) 65535) row) where
+    (lowered : Lowers (flat_map (bucket reads) (bucket written b)) (row_of near b) b (replicate (length near) NONE) row) where
   -- the read of each reason is among those that lowered the row
   reason_read : (a : ℕ) (x : List ℕ) (c : ℕ) → MayContradict h b a x c → Contains (flat_map (bucket reads) (bucket written b)) (record { source = a; reader = c })
   reason_read a x c (other, pair, writer) =
@@ -95,23 +96,23 @@ module _ (h : History) (near : List (List ℕ)) (reads : List (List Read)) (writ
     near' : IsNearby h b r.reader (get_or (row_of near b) r.reader 0)
     cost : get_or row a 0 ≡ get_or (row_of near b) r.reader 0 + 1
 
-  origin : (a : ℕ) → a < count h → (get_or row a 0 ≡ 65535) ⊎ ((r : Read) × IsFrom a r)
+  origin : (a : ℕ) → a < count h → (get_or row a 0 ≡ NONE) ⊎ ((r : Read) × IsFrom a r)
   origin a to = go (lowered.from a)
     where
       by : (r : Read) → Contains (flat_map (bucket reads) (bucket written b)) r → r.source ≡ a → a ≢ b → get_or row a 0 ≡ price_by (row_of near b) r
-          → (IsReached h b r.reader → ⊥) ⊎ IsNearby h b r.reader (get_or (row_of near b) r.reader 0) → r.reader < count h → (get_or row a 0 ≡ 65535) ⊎ ((s : Read) × IsFrom a s)
+          → (IsReached h b r.reader → ⊥) ⊎ IsNearby h b r.reader (get_or (row_of near b) r.reader 0) → r.reader < count h → (get_or row a 0 ≡ NONE) ⊎ ((s : Read) × IsFrom a s)
       by r there source other cost (inl none) below = inl (omega (arith, no_distance h near b r.reader nears from below none))
       by r there source other cost (inr near') below = inr (r, record { there = there; source = source; other = other; near' = near'; cost = omega (arith, near'.few) })
 
-      go : (get_or row a 0 ≡ get_or (replicate (length near) 65535) a 0) ⊎ ((r : Read) × Contains (flat_map (bucket reads) (bucket written b)) r × (r.source ≡ a) × (a ≢ b) × (get_or row a 0 ≡ price_by (row_of near b) r))
-          → (get_or row a 0 ≡ 65535) ⊎ ((r : Read) × IsFrom a r)
-      go (inl e) = inl (e ∙ get_or-replicate (length near) a 65535 0 (omega (arith, nears.square.long)))
+      go : (get_or row a 0 ≡ get_or (replicate (length near) NONE) a 0) ⊎ ((r : Read) × Contains (flat_map (bucket reads) (bucket written b)) r × (r.source ≡ a) × (a ≢ b) × (get_or row a 0 ≡ price_by (row_of near b) r))
+          → (get_or row a 0 ≡ NONE) ⊎ ((r : Read) × IsFrom a r)
+      go (inl e) = inl (e ∙ get_or-replicate (length near) a NONE 0 (omega (arith, nears.square.long)))
       go (inr w) =
           let may = read_reason w.0 w.1 (λ e. w.3 (sym w.2 ∙ e)) in
           by w.0 w.1 w.2 w.3 w.4 (distance_cases h near b w.0.reader nears from may.1.1.1) may.1.1.1
 
   -- where the row has none, nothing is derived
-  nothing : (a : ℕ) → get_or row a 0 ≡ 65535 → (l : Link) → IsDerived h b a l → ⊥
+  nothing : (a : ℕ) → get_or row a 0 ≡ NONE → (l : Link) → IsDerived h b a l → ⊥
   nothing a none l (x, c, walk, is, reason) =
       let most = at_most a x c walk reason in
       omega (arith, most.bound)
@@ -128,17 +129,17 @@ module _ (h : History) (near : List (List ℕ)) (reads : List (List Read)) (writ
       let may = subst (λ (s : ℕ). MayContradict h b s by.0 r.reader) from'.source by.1 in
       (link.Derived b a by.0 r.reader walk.0, (by.0, r.reader, walk.0, refl, (may, walk.1)), derived_cost b a by.0 r.reader walk.0 ∙ omega (arith, walk.2, from'.cost))
 
-  some : (a : ℕ) → get_or row a 0 ≢ 65535 → a < count h → (r : Read) × IsFrom a r
+  some : (a : ℕ) → get_or row a 0 ≢ NONE → a < count h → (r : Read) × IsFrom a r
   some a ne to = ⊎_elim (λ e. absurd (ne e)) (λ w. w) (origin a to)
 
-  not_none : (a : ℕ) → (get_or row a 0 == 65535) ≡ false → get_or row a 0 ≢ 65535
-  not_none a e same = false≢true (sym e ∙ eq-eqb (get_or row a 0) 65535 same)
+  not_none : (a : ℕ) → (get_or row a 0 == NONE) ≡ false → get_or row a 0 ≢ NONE
+  not_none a e same = false≢true (sym e ∙ eq-eqb (get_or row a 0) NONE same)
 
-  price : (a : ℕ) → a < count h → (t : Bool) → (get_or row a 0 == 65535) ≡ t → IsPrice h b a (if t then None else Some (get_or row a 0))
-  price a to true e = nothing a (eqb-true (get_or row a 0) 65535 e)
+  price : (a : ℕ) → a < count h → (t : Bool) → (get_or row a 0 == NONE) ≡ t → IsPrice h b a (if t then None else Some (get_or row a 0))
+  price a to true e = nothing a (eqb-true (get_or row a 0) NONE e)
   price a to false e = let w = some a (not_none a e) to in record { attained = derived a w.0 w.1; least = least a }
 
-  few_steps : (a : ℕ) (n : ℕ) → a < count h → (t : Bool) → (get_or row a 0 == 65535) ≡ t → (if t then None else Some (get_or row a 0)) ≡ Some n → n ≤ count h + 1
+  few_steps : (a : ℕ) (n : ℕ) → a < count h → (t : Bool) → (get_or row a 0 == NONE) ≡ t → (if t then None else Some (get_or row a 0)) ≡ Some n → n ≤ count h + 1
   few_steps a n to true e is = absurd cc
   few_steps a n to false e is =
       let w = some a (not_none a e) to in
@@ -147,7 +148,7 @@ module _ (h : History) (near : List (List ℕ)) (reads : List (List Read)) (writ
 
   pub price_row_of : IsPriceRow h b row
   price_row_of = record {
-    long = lowered.long ∙ length-replicate (length near) 65535 ∙ nears.square.long;
-    priced = λ a to. price a to (get_or row a 0 == 65535) refl;
-    few = λ a n to. few_steps a n to (get_or row a 0 == 65535) refl;
+    long = lowered.long ∙ length-replicate (length near) NONE ∙ nears.square.long;
+    priced = λ a to. price a to (get_or row a 0 == NONE) refl;
+    few = λ a n to. few_steps a n to (get_or row a 0 == NONE) refl;
   }

@@ -19,6 +19,7 @@ use Rattle.tcc_derive.specs.Reasons.{IsFirstReason}
 use Rattle.tcc_derive.specs.Choices.{IsChoice}
 use Rattle.tcc_derive.specs.Backwards.{IsFirstWalk}
 use Rattle.tcc_derive.proofs.PriceLemmas.{IsNearby, distance_cases, out_of_reach, derived_cost}
+use Rattle.tcc_near.specs.declared.distances.TheConstants.{NONE}
 
 then_up_to : (o p : Ordering) → o ≢ Greater → (o ≡ Equal → p ≢ Greater) → ordering_then o p ≢ Greater
 then_up_to Less p first second e = absurd cc
@@ -33,7 +34,7 @@ number_tied m n e = ranked m n Equal (sym e)
 
 module _ (h : History) (near : List (List ℕ)) (b a : ℕ) (nears : IsNearOf h near) (from : b < count h) where
   -- where each reader is out of reach, nothing is derived
-  pub none_derived : ((x : List ℕ) (d : ℕ) → MayContradict h b a x d → get_or (row_of near b) d 0 ≡ 65535) → (l : Link) → IsDerived h b a l → ⊥
+  pub none_derived : ((x : List ℕ) (d : ℕ) → MayContradict h b a x d → get_or (row_of near b) d 0 ≡ NONE) → (l : Link) → IsDerived h b a l → ⊥
   none_derived none l (x, d, walk, is, (may, leads)) = out_of_reach h near b d nears from may.1.1 (none x d may) (walk, leads)
 
   module _ (x : List ℕ) (c : ℕ) (walk : List Step) (choice : IsChoice h (row_of near b) b a x c) (first : IsFirstWalk h b c walk) where

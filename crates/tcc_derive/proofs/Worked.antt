@@ -4,22 +4,23 @@ use Rattle.tcc_graph.specs.declared.step.Step.TheVariants as step
 use Rattle.tcc_derive.specs.Prices.{price_at, cost_at}
 use Rattle.tcc_derive.specs.Lowering.{price_by}
 use Rattle.tcc_derive.specs.Backwards.{stands_at, Ahead}
+use Rattle.tcc_near.specs.declared.distances.TheConstants.{NONE}
 
 -- a step more than the way to the reader; no way stays no way
-one_more : price_by (2 ∷ 65535 ∷ []) (record { source = 1; reader = 0 }) ≡ 3
+one_more : price_by (2 ∷ NONE ∷ []) (record { source = 1; reader = 0 }) ≡ 3
 one_more = refl
 
-out_of_reach : price_by (2 ∷ 65535 ∷ []) (record { source = 0; reader = 1 }) ≡ 65535
+out_of_reach : price_by (2 ∷ NONE ∷ []) (record { source = 0; reader = 1 }) ≡ NONE
 out_of_reach = refl
 
 -- of two transactions, 1 contradicts a read from 0 by a walk of three steps
-price_of_four : price_at (record { prices = (65535 ∷ 65535 ∷ []) ∷ (4 ∷ 65535 ∷ []) ∷ []; costs = (65535 ∷ 1 ∷ []) ∷ (4 ∷ 65535 ∷ []) ∷ [] }) 1 0 ≡ Some 4
+price_of_four : price_at (record { prices = (NONE ∷ NONE ∷ []) ∷ (4 ∷ NONE ∷ []) ∷ []; costs = (NONE ∷ 1 ∷ []) ∷ (4 ∷ NONE ∷ []) ∷ [] }) 1 0 ≡ Some 4
 price_of_four = refl
 
-no_price : price_at (record { prices = (65535 ∷ 65535 ∷ []) ∷ (4 ∷ 65535 ∷ []) ∷ []; costs = (65535 ∷ 1 ∷ []) ∷ (4 ∷ 65535 ∷ []) ∷ [] }) 0 1 ≡ None
+no_price : price_at (record { prices = (NONE ∷ NONE ∷ []) ∷ (4 ∷ NONE ∷ []) ∷ []; costs = (NONE ∷ 1 ∷ []) ∷ (4 ∷ NONE ∷ []) ∷ [] }) 0 1 ≡ None
 no_price = refl
 
-cost_of_a_pair : cost_at (record { prices = (65535 ∷ 65535 ∷ []) ∷ (4 ∷ 65535 ∷ []) ∷ []; costs = (65535 ∷ 1 ∷ []) ∷ (4 ∷ 65535 ∷ []) ∷ [] }) 0 1 ≡ Some 1
+cost_of_a_pair : cost_at (record { prices = (NONE ∷ NONE ∷ []) ∷ (4 ∷ NONE ∷ []) ∷ []; costs = (NONE ∷ 1 ∷ []) ∷ (4 ∷ NONE ∷ []) ∷ [] }) 0 1 ≡ Some 1
 cost_of_a_pair = refl
 
 -- no steps lead to the start alone, some lead where the row says so

@@ -4,18 +4,19 @@ use Rattle.std.specs.declared.cmp.Ordering.TheVariants.{Greater}
 use Rattle.tcc_reads.specs.History.{History}
 use Rattle.tcc_graph.specs.Links.{MayContradict}
 use Rattle.tcc_reads.specs.Sources.{name_cmp}
+use Rattle.tcc_near.specs.declared.distances.TheConstants.{NONE}
 
 -- of the readers the first that the fewest steps lead to
 pub record IsNearest (readers : List ℕ) (steps : List ℕ) (c : ℕ) : Type 0 where
   pub there : Contains readers c
-  pub reached : slice_index steps c < 65535
+  pub reached : slice_index steps c < NONE
   pub least : (d : ℕ) → Contains readers d → slice_index steps c ≤ slice_index steps d
   pub first : (d : ℕ) → Contains readers d → slice_index steps d ≡ slice_index steps c → c ≤ d
 
 -- of the readers of the key that b may contradict, the first that the fewest steps lead to
 pub record IsNearestReader (h : History) (steps : List ℕ) (b : ℕ) (a : ℕ) (x : List ℕ) (c : ℕ) : Type 0 where
   pub may : MayContradict h b a x c
-  pub reached : slice_index steps c < 65535
+  pub reached : slice_index steps c < NONE
   pub least : (d : ℕ) → MayContradict h b a x d → slice_index steps c ≤ slice_index steps d
   pub first : (d : ℕ) → MayContradict h b a x d → slice_index steps d ≡ slice_index steps c → c ≤ d
 

@@ -3,10 +3,11 @@ use Rattle.std.specs.Prelude.{ℕ, ◌+◌, ◌<◌, ◌≤◌, ◌≡◌, ◌�
 use Rattle.tcc_reads.specs.History.{History}
 use Rattle.tcc_graph.specs.Relations.{causal_pair}
 use Rattle.tcc_derive.specs.declared.read.Read.{Read}
+use Rattle.tcc_near.specs.declared.distances.TheConstants.{NONE}
 
 -- what it costs to contradict a read, by the distances to its reader: no more than a row can hold
 abbrev pub price_by : List ℕ → Read → ℕ
-price_by steps r = min (slice_index steps r.reader + 1) 65535
+price_by steps r = min (slice_index steps r.reader + 1) NONE
 
 -- the source of each read costs no more than what it costs b to contradict the read, unless b itself is the source;
 -- and each cost comes from one of the reads, or is as it was

@@ -5,18 +5,19 @@ ghost use Rattle.std.specs.Ordering.{nat_cmp};
 ghost use Rattle.tcc_reads.specs.History.{count};
 ghost use Rattle.tcc_graph.specs.Links.{MayContradict};
 ghost use Rattle.tcc_derive.specs.Choices.{IsNearest, IsNearestReader, IsChoice};
+ghost use Rattle.tcc_near.specs.declared.distances.TheConstants.{NONE};
 
 use tcc_graph::Graph;
-use tcc_near::NO_WALK;
+use tcc_near::NONE;
 use tcc_txn::Name;
 
 /// Of the readers, which ascend, the first that the fewest steps lead to; none where no steps lead to any.
 fn nearest(readers: &[u32], steps: &[u16]) -> Option<u32>
     requires order { IsStrictlySortedBy nat_cmp readers.now }
     requires below { All (λ c. c < length steps.now) readers.now }
-    ensures { MatchOption result ((d : ℕ) → Contains readers.now d → slice_index steps.now d ≡ 65535) (IsNearest readers.now steps.now) }
+    ensures { MatchOption result ((d : ℕ) → Contains readers.now d → slice_index steps.now d ≡ NONE) (IsNearest readers.now steps.now) }
 {
-    let mut least = NO_WALK;
+    let mut least = NONE;
     let mut best = None;
     for reader in readers {
         let count = steps[*reader as usize];
@@ -33,7 +34,7 @@ fn nearest_reader(graph: &Graph, steps: &[u16], b: u32, a: u32, key: &Name) -> O
     requires from { b < count graph.now }
     requires to { a < count graph.now }
     requires long { length steps.now ≡ count graph.now }
-    ensures { MatchOption result ((d : ℕ) → MayContradict graph.now b a key.now d → slice_index steps.now d ≡ 65535)
+    ensures { MatchOption result ((d : ℕ) → MayContradict graph.now b a key.now d → slice_index steps.now d ≡ NONE)
         (IsNearestReader graph.now steps.now b a key.now) }
 {
     if b == a || !graph.writers(key).contains(&b) {
@@ -47,10 +48,10 @@ pub(crate) fn choice(graph: &Graph, steps: &[u16], b: u32, a: u32) -> Option<(Na
     requires from { b < count graph.now }
     requires to { a < count graph.now }
     requires long { length steps.now ≡ count graph.now }
-    ensures { MatchOption result ((x : List ℕ) (d : ℕ) → MayContradict graph.now b a x d → slice_index steps.now d ≡ 65535)
+    ensures { MatchOption result ((x : List ℕ) (d : ℕ) → MayContradict graph.now b a x d → slice_index steps.now d ≡ NONE)
         (λ found. IsChoice graph.now steps.now b a found.0 found.1) }
 {
-    let mut least = NO_WALK;
+    let mut least = NONE;
     let mut best = None;
     for key in graph.keys() {
         if let Some(reader) = nearest_reader(graph, steps, b, a, key) {

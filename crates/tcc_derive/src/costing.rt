@@ -5,15 +5,15 @@ ghost use Rattle.tcc_near.specs.Distances.{row_of};
 ghost use Rattle.tcc_derive.specs.Lowering.{HasPairs};
 ghost use Rattle.tcc_derive.specs.Rows.{IsPriceRow, IsCostRow, HasRows};
 
-use crate::tables::Row;
 use rayon::prelude::*;
 use std::alloc::Global;
 use std::thread::Threads;
 use tcc_graph::Graph;
+use tcc_near::Row;
 use tcc_txn::NoMemory;
 
 /// What links of all kinds from `u` cost, by what derived links from it cost.
-fn cost_row(alloc: Global, graph: &Graph, prices: &[u16], u: u32) -> Result<Row, NoMemory>
+fn cost_row(alloc: Global, graph: &Graph, prices: &[u16], u: u32) -> Result<Row<u16>, NoMemory>
     requires from { u < count graph.now }
     requires long { length prices.now ≡ count graph.now }
     requires few { count graph.now ≤ 1024 }
@@ -32,20 +32,20 @@ pub(crate) fn cost_rows(
     rt: &(impl Threads + Sync),
     alloc: Global,
     graph: &Graph,
-    prices: &[Row],
-) -> Result<Vec<Row>, NoMemory>
+    prices: &[Row<u16>],
+) -> Result<Vec<Row<u16>>, NoMemory>
     requires { HasRows graph.now (IsPriceRow graph.now) prices.now }
     ensures { IfOk result (λ rows. HasRows graph.now (IsCostRow graph.now) rows.items) }
 {
     (0..graph.count() as usize)
         .into_par_iter()
         .map(
-            |u: usize| -> Result<Row, NoMemory>
+            |u: usize| -> Result<Row<u16>, NoMemory>
                 requires { (u < length prices.now) × (length prices.now ≡ count graph.now) × (count graph.now ≤ 1024)
                     × (length (row_of prices.now u) ≡ count graph.now) }
                 ensures { IfOk result (HasPairs graph.entry.now u (row_of prices.entry.now u)) }
-            { cost_row(alloc, graph, prices[u].costs(), u as u32) },
+            { cost_row(alloc, graph, prices[u].values(), u as u32) },
         )
         .with_min_len(1)
-        .collect::<Result<Vec<Row>, NoMemory>>(rt, alloc)?
+        .collect::<Result<Vec<Row<u16>>, NoMemory>>(rt, alloc)?
 }

@@ -15,7 +15,7 @@ mod write_table;
 
 pub use derivation::derive;
 pub use reasons::reason;
-pub use tables::{NO_LINK, Prices};
+pub use tables::Prices;
 
 #[cfg(test)]
 mod tests;

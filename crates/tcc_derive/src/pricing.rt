@@ -6,15 +6,14 @@ ghost use Rattle.tcc_derive.specs.Buckets.{bucket};
 ghost use Rattle.tcc_derive.specs.KeyTables.{IsReadsOf, IsWritesOf};
 ghost use Rattle.tcc_derive.specs.Lowering.{HaveReads, Lowers};
 ghost use Rattle.tcc_derive.specs.Rows.{IsPriceRow, HasRows};
+ghost use Rattle.tcc_near.specs.declared.distances.TheConstants.{NONE};
 
-use crate::bucket::Bucket;
 use crate::read::Read;
-use crate::tables::{NO_LINK, Row};
 use rayon::prelude::*;
 use std::alloc::Global;
 use std::thread::Threads;
 use tcc_graph::Graph;
-use tcc_near::Near;
+use tcc_near::{NONE, Near, Row};
 use tcc_txn::NoMemory;
 
 /// Lowers what links from `b` cost by the reads of one key that `b` writes: a step more than the way to the reader.
@@ -35,15 +34,15 @@ fn lower(costs: &mut [u16], reads: &[Read], steps: &[u16], b: u32)
 /// What derived links from `b` cost, by the keys that it writes and the distances from it.
 fn price_row(
     alloc: Global,
-    reads: &[Bucket<Read>],
+    reads: &[Row<Read>],
     written: &[usize],
     steps: &[u16],
     b: u32,
-) -> Result<Row, NoMemory>
+) -> Result<Row<u16>, NoMemory>
     requires { HaveReads (length steps.now) reads.now written.now }
-    ensures { IfOk result (Lowers (flat_map (bucket reads.now) written.now) steps.now b (replicate (length steps.now) 65535)) }
+    ensures { IfOk result (Lowers (flat_map (bucket reads.now) written.now) steps.now b (replicate (length steps.now) NONE)) }
 {
-    let mut costs = vec![in alloc; NO_LINK; steps.len()]?;
+    let mut costs = vec![in alloc; NONE; steps.len()]?;
     for place in written {
         lower(&mut costs, reads[*place].values(), steps, b);
     }
@@ -57,9 +56,9 @@ pub(crate) fn price_rows(
     alloc: Global,
     graph: &Graph,
     near: &Near,
-    reads: &[Bucket<Read>],
-    written: &[Bucket<usize>],
-) -> Result<Vec<Row>, NoMemory>
+    reads: &[Row<Read>],
+    written: &[Row<usize>],
+) -> Result<Vec<Row<u16>>, NoMemory>
     requires near { IsNearOf graph.now near.now }
     requires reads { IsReadsOf graph.now reads.now }
     requires written { IsWritesOf graph.now written.now }
@@ -69,16 +68,16 @@ pub(crate) fn price_rows(
     (0..graph.count() as usize)
         .into_par_iter()
         .map(
-            |b: usize| -> Result<Row, NoMemory>
+            |b: usize| -> Result<Row<u16>, NoMemory>
                 requires { (b < length near.now) × (length near.now ≤ 1024) × (length written.now ≡ length near.now)
                     × HaveReads (length near.now) reads.now (bucket written.now b) }
                 ensures { IfOk result (Lowers (flat_map (bucket reads.entry.now) (bucket written.entry.now b)) (row_of near.entry.now b) b
-                    (replicate (length near.entry.now) 65535)) }
+                    (replicate (length near.entry.now) NONE)) }
             {
                 let keys = written[b].values();
                 price_row(alloc, reads, keys, near.row(b as u32), b as u32)
             },
         )
         .with_min_len(1)
-        .collect::<Result<Vec<Row>, NoMemory>>(rt, alloc)?
+        .collect::<Result<Vec<Row<u16>>, NoMemory>>(rt, alloc)?
 }

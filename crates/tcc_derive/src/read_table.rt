@@ -8,10 +8,11 @@ ghost use Rattle.tcc_graph.specs.KeyRows.{IsAbsent, StandsAt, name_of};
 ghost use Rattle.tcc_derive.specs.Buckets.{Puts};
 ghost use Rattle.tcc_derive.specs.KeyTables.{HasReads, IsReadsOf};
 
-use crate::bucket::{Bucket, empty_buckets};
+use crate::bucket::empty_buckets;
 use crate::read::Read;
 use std::alloc::Global;
 use tcc_graph::Graph;
+use tcc_near::Row;
 use tcc_txn::{Name, NoMemory};
 
 /// The place of a key among the keys.
@@ -24,7 +25,7 @@ fn place_of(keys: &[Name], key: &Name) -> Option<usize>
 
 /// Puts a read into the buckets of these names.
 fn add_read(
-    reads: &mut [Bucket<Read>],
+    reads: &mut [Row<Read>],
     keys: &[Name],
     names: &[Name],
     read: Read,
@@ -42,7 +43,7 @@ fn add_read(
 }
 
 /// Puts what is read from one transaction into the buckets of the keys.
-fn add_reads_from(reads: &mut [Bucket<Read>], graph: &Graph, source: u32) -> Result<(), NoMemory>
+fn add_reads_from(reads: &mut [Row<Read>], graph: &Graph, source: u32) -> Result<(), NoMemory>
     requires source { source < count graph.now }
     requires before { HasReads graph.now (λ a c. a < source) reads.old }
     ensures { OnOk result (HasReads graph.now (λ a c. a < source + 1) reads.new) }
@@ -57,7 +58,7 @@ fn add_reads_from(reads: &mut [Bucket<Read>], graph: &Graph, source: u32) -> Res
 }
 
 /// The reads of each key of a graph.
-pub(crate) fn read_table(alloc: Global, graph: &Graph) -> Result<Vec<Bucket<Read>>, NoMemory>
+pub(crate) fn read_table(alloc: Global, graph: &Graph) -> Result<Vec<Row<Read>>, NoMemory>
     ensures { IfOk result (λ reads. IsReadsOf graph.now reads.items) }
 {
     let mut reads = empty_buckets(alloc, graph.keys().len())?;

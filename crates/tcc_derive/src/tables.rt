@@ -4,45 +4,13 @@ ghost use Rattle.tcc_near.specs.Distances.{row_of, least_in, IsSquare};
 ghost use Rattle.tcc_derive.specs.Prices.{price_at, cost_at};
 
 use std::marker::Model;
-
-/// What a row has where no link leads.
-pub const NO_LINK: u16 = u16::MAX;
-
-/// What links from one transaction to each cost.
-#[derive(Drop)]
-pub(crate) struct Row {
-    costs: Vec<u16>,
-}
-
-impl Model for Row {
-    ghost use Rattle.std.specs.Prelude.{ℕ, List};
-
-    ghost Value = { List ℕ };
-
-    ghost view = { λ r. r.costs.items };
-}
-
-impl Row {
-    /// The row of these costs.
-    pub(crate) fn new(costs: Vec<u16>) -> Row
-        ensures { result ≡ costs.items }
-    {
-        Row { costs }
-    }
-
-    /// The costs.
-    pub(crate) fn costs(&self) -> &[u16]
-        ensures { result.now ≡ self.now }
-    {
-        &self.costs
-    }
-}
+use tcc_near::{NONE, Row};
 
 /// What derived links, and links of all kinds, cost at least between the transactions of a graph.
 #[derive(Drop)]
 pub struct Prices {
-    prices: Vec<Row>,
-    costs: Vec<Row>,
+    prices: Vec<Row<u16>>,
+    costs: Vec<Row<u16>>,
 }
 
 impl Model for Prices {
@@ -59,7 +27,7 @@ impl Model for Prices {
 
 impl Prices {
     /// The tables of these rows.
-    pub(crate) fn new(prices: Vec<Row>, costs: Vec<Row>) -> Prices
+    pub(crate) fn new(prices: Vec<Row<u16>>, costs: Vec<Row<u16>>) -> Prices
         requires prices { IsSquare (length prices.items) prices.items }
         requires costs { IsSquare (length prices.items) costs.items }
         requires few { length prices.items ≤ 1024 }
@@ -81,7 +49,7 @@ impl Prices {
         requires to { a < length self.now.prices }
         ensures { result ≡ price_at self.now b a }
     {
-        cell(self.prices[b as usize].costs[a as usize])
+        cell(self.prices[b as usize].values()[a as usize])
     }
 
     /// The least cost of a link from `u` to `v`: 1 on a causal pair, else the price.
@@ -93,14 +61,14 @@ impl Prices {
         cell(self.costs(u)[v as usize])
     }
 
-    /// What links from `u` to each transaction cost, `NO_LINK` where there is none.
+    /// What links from `u` to each transaction cost, `NONE` where there is none.
     pub fn costs(&self, u: u32) -> &[u16]
         requires { u < length self.now.prices }
         ensures value { result.now ≡ row_of self.now.costs u }
         ensures long { length result.now ≡ length self.now.prices }
         ensures few { length result.now ≤ 1024 }
     {
-        &self.costs[u as usize].costs
+        self.costs[u as usize].values()
     }
 }
 
@@ -108,7 +76,7 @@ impl Prices {
 fn cell(cost: u16) -> Option<u32>
     ensures { result ≡ least_in (cost ∷ []) 0 }
 {
-    if cost == NO_LINK {
+    if cost == NONE {
         None
     } else {
         Some(cost as u32)

@@ -1,11 +1,11 @@
 //! Prices, costs and reasons of small histories, worked out by hand.
-use crate::{NO_LINK, Prices, derive, reason};
+use crate::{Prices, derive, reason};
 use std::alloc::{AllocError, Global};
 use std::process::Abort;
 use std::test::Fail;
 use std::thread::Threads;
 use tcc_graph::{Graph, Link, Step, Walk};
-use tcc_near::near;
+use tcc_near::{NONE, near};
 use tcc_reads::resolve;
 use tcc_txn::{Name, Op, Snapshot, Txn};
 
@@ -239,7 +239,7 @@ fn prices_of_a_stale_read(rt: HostRuntime) -> Result<(), Fail> {
     assert_prices(&rt, &prices, &[(1, 0, 2)]);
     assert_costs(&rt, &prices, &[(0, 1, 1), (0, 2, 1), (1, 2, 1), (1, 0, 2)]);
     assert!(rt; prices.count() > 1);
-    assert!(rt; prices.costs(1) == [2, NO_LINK, 1].as_slice());
+    assert!(rt; prices.costs(1) == [2, NONE, 1].as_slice());
     Ok(())
 }
 

@@ -5,6 +5,7 @@ ghost use Rattle.tcc_graph.specs.Walks.{step_from, step_to, IsStep, IsReached};
 ghost use Rattle.tcc_graph.specs.declared.step.Step.{Step};
 ghost use Rattle.tcc_near.specs.Distances.{IsNearOf, row_of};
 ghost use Rattle.tcc_derive.specs.Backwards.{IsFirstName, IsFirstStep, IsLastStep, IsFirstWalk, stands_at};
+ghost use Rattle.tcc_near.specs.declared.distances.TheConstants.{NONE};
 
 use std::alloc::Global;
 use tcc_graph::{Graph, Step, Walk};
@@ -81,7 +82,7 @@ pub(crate) fn first_walk(
     requires near { IsNearOf graph.now near.now }
     requires from { b < count graph.now }
     requires to { c < count graph.now }
-    requires reached { slice_index (row_of near.now b) c < 65535 }
+    requires reached { slice_index (row_of near.now b) c < NONE }
     ensures { IfOk result (IsFirstWalk graph.now b c) }
 {
     let steps = near.row(b);

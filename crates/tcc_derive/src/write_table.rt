@@ -3,13 +3,14 @@ ghost use Rattle.std.specs.Prelude.{◌<◌, length, All, Contains, OnOk, IfOk};
 ghost use Rattle.tcc_derive.specs.Buckets.{Puts};
 ghost use Rattle.tcc_derive.specs.KeyTables.{IsWritesOf};
 
-use crate::bucket::{Bucket, empty_buckets};
+use crate::bucket::empty_buckets;
 use std::alloc::Global;
 use tcc_graph::Graph;
+use tcc_near::Row;
 use tcc_txn::NoMemory;
 
 /// Puts the place of a key into the buckets of its writers.
-fn add_key(written: &mut [Bucket<usize>], writers: &[u32], place: usize) -> Result<(), NoMemory>
+fn add_key(written: &mut [Row<usize>], writers: &[u32], place: usize) -> Result<(), NoMemory>
     requires { All (λ b. b < length written.old) writers.now }
     ensures { OnOk result (Puts written.old written.new (Contains writers.now) place) }
 {
@@ -20,7 +21,7 @@ fn add_key(written: &mut [Bucket<usize>], writers: &[u32], place: usize) -> Resu
 }
 
 /// The places, among the keys of a graph, of the keys that each transaction writes.
-pub(crate) fn write_table(alloc: Global, graph: &Graph) -> Result<Vec<Bucket<usize>>, NoMemory>
+pub(crate) fn write_table(alloc: Global, graph: &Graph) -> Result<Vec<Row<usize>>, NoMemory>
     ensures { IfOk result (λ written. IsWritesOf graph.now written.items) }
 {
     let mut written = empty_buckets(alloc, graph.count() as usize)?;

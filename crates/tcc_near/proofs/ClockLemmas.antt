@@ -6,7 +6,8 @@ use Rattle.std.proofs.lemmas.List.{get_or-replicate, get_or-set_same, get_or-set
 use Rattle.tcc_reads.specs.History.{History, count, owner, place}
 use Rattle.tcc_graph.specs.Numbers.{at}
 use Rattle.tcc_graph.specs.Walks.{IsReached}
-use Rattle.tcc_near.specs.Clocks.{IsBehind, IsLastBelow, IsClock, IsClocksOf}
+use Rattle.tcc_near.specs.Clocks.{IsBehind, IsClocksOf}
+use Rattle.tcc_near.specs.ClockRows.{IsLastBelow, IsClock}
 
 -- clocks that are right one by one are the table
 pub clocks_from_rows : (h : History) (rows : List (List ℕ)) → (length rows ≡ count h) × ((t : ℕ) (d : List ℕ) → t < count h → IsClock h t (get_or rows t d)) → IsClocksOf h rows

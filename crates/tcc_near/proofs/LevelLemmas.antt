@@ -7,30 +7,31 @@ use Rattle.std.proofs.lemmas.List.Folds.{sum_by-replicate}
 use Rattle.tcc_reads.specs.History.{History, count}
 use Rattle.tcc_graph.specs.Relations.{causal_pair}
 use Rattle.tcc_graph.specs.Walks.{IsReached}
-use Rattle.tcc_near.specs.Distances.{IsShortest, IsWalkDistance, IsNearOf, least_in, no_walk}
-use Rattle.tcc_near.specs.Levels.{is_marked, marks_of, IsPairTable, IsWithin, IsMarked, IsDistanceWithin, IsSearched, IsRow, IsSpread, numbered, unnumbered}
+use Rattle.tcc_near.specs.Distances.{IsShortest, IsWalkDistance, IsNearOf, least_in}
+use Rattle.tcc_near.specs.Levels.{is_marked, marks_of, IsPairTable, IsWithin, IsMarked, IsDistanceWithin, IsSearched, HasDistances, IsSpread, numbered, unnumbered}
 use Rattle.tcc_near.proofs.Walks.{within_more, within_one, within_one_from, within_pair, IsStepAfter, last_step, within_closed, within_below, shortest_at}
+use Rattle.tcc_near.specs.declared.distances.TheConstants.{NONE}
 
 -- what stands in a row: none, or a number
 abbrev Read : List ℕ → ℕ → Type 0
-Read row b = ((slice_index row b ≡ no_walk) × (least_in row b ≡ None)) ⊎ ((slice_index row b ≢ no_walk) × (least_in row b ≡ Some (slice_index row b)))
+Read row b = ((slice_index row b ≡ NONE) × (least_in row b ≡ None)) ⊎ ((slice_index row b ≢ NONE) × (least_in row b ≡ Some (slice_index row b)))
 
 pub read : (row : List ℕ) (b : ℕ) → Read row b
-read row b = go (cases_eq (slice_index row b) no_walk)
+read row b = go (cases_eq (slice_index row b) NONE)
   where
-    go : (slice_index row b ≡ no_walk) ⊎ (slice_index row b ≢ no_walk) → Read row b
+    go : (slice_index row b ≡ NONE) ⊎ (slice_index row b ≢ NONE) → Read row b
     go (inl same) = inl (same, rw same refl)
-    go (inr other) = inr (other, rw (ne_eqb (slice_index row b) no_walk other) refl)
+    go (inr other) = inr (other, rw (ne_eqb (slice_index row b) NONE other) refl)
 
 -- what is known of a number that has no distance, and of one that has one
-pub further : (h : History) (a n : ℕ) (row : List ℕ) (b : ℕ) → IsSearched h a n row → b < count h → slice_index row b ≡ no_walk → IsWithin h a n b → ⊥
+pub further : (h : History) (a n : ℕ) (row : List ℕ) (b : ℕ) → IsSearched h a n row → b < count h → slice_index row b ≡ NONE → IsWithin h a n b → ⊥
 further h a n row b searched below none = go (read row b)
   where
     go : Read row b → IsWithin h a n b → ⊥
     go (inl r) = subst (λ (d : Option ℕ). IsDistanceWithin h a n b d) r.1 (searched.exact b below)
     go (inr r) = absurd (r.0 none)
 
-pub known : (h : History) (a n : ℕ) (row : List ℕ) (b : ℕ) → IsSearched h a n row → b < count h → slice_index row b ≢ no_walk → (slice_index row b ≤ n) × IsShortest h a b (slice_index row b)
+pub known : (h : History) (a n : ℕ) (row : List ℕ) (b : ℕ) → IsSearched h a n row → b < count h → slice_index row b ≢ NONE → (slice_index row b ≤ n) × IsShortest h a b (slice_index row b)
 known h a n row b searched below some = go (read row b)
   where
     go : Read row b → (slice_index row b ≤ n) × IsShortest h a b (slice_index row b)
@@ -38,14 +39,14 @@ known h a n row b searched below some = go (read row b)
     go (inr r) = subst (λ (d : Option ℕ). IsDistanceWithin h a n b d) r.1 (searched.exact b below)
 
 -- a distance that stands in a row
-distance_is : (h : History) (a n : ℕ) (row : List ℕ) (b d : ℕ) → slice_index row b ≡ d → d < no_walk → d ≤ n → IsShortest h a b d → IsDistanceWithin h a n b (least_in row b)
+distance_is : (h : History) (a n : ℕ) (row : List ℕ) (b d : ℕ) → slice_index row b ≡ d → d < NONE → d ≤ n → IsShortest h a b d → IsDistanceWithin h a n b (least_in row b)
 distance_is h a n row b d is small few shortest = go (read row b)
   where
     go : Read row b → IsDistanceWithin h a n b (least_in row b)
     go (inl r) = absurd (omega (arith, r.0))
     go (inr r) = rw r.1 (omega arith, subst (λ (x : ℕ). IsShortest h a b x) (sym is) shortest)
 
-none_is : (h : History) (a n : ℕ) (row : List ℕ) (b : ℕ) → slice_index row b ≡ no_walk → (IsWithin h a n b → ⊥) → IsDistanceWithin h a n b (least_in row b)
+none_is : (h : History) (a n : ℕ) (row : List ℕ) (b : ℕ) → slice_index row b ≡ NONE → (IsWithin h a n b → ⊥) → IsDistanceWithin h a n b (least_in row b)
 none_is h a n row b is away = go (read row b)
   where
     go : Read row b → IsDistanceWithin h a n b (least_in row b)
@@ -53,10 +54,10 @@ none_is h a n row b is away = go (read row b)
     go (inr r) = absurd (r.0 is)
 
 -- at the start nothing has a distance, and the pairs of the source are marked
-pub searched_at_start : (h : History) (a n : ℕ) → n ≡ count h → IsSearched h a 0 (replicate n no_walk)
+pub searched_at_start : (h : History) (a n : ℕ) → n ≡ count h → IsSearched h a 0 (replicate n NONE)
 searched_at_start h a n long = record {
-  long = length-replicate n no_walk ∙ long;
-  exact = λ b below. none_is h a 0 (replicate n no_walk) b (get_or-replicate n b no_walk 0 (omega arith)) (λ w. absurd (omega (arith, w.1.0, w.2)));
+  long = length-replicate n NONE ∙ long;
+  exact = λ b below. none_is h a 0 (replicate n NONE) b (get_or-replicate n b NONE 0 (omega arith)) (λ w. absurd (omega (arith, w.1.0, w.2)));
 }
 
 pub marked_at_start : (h : History) (a : ℕ) (table : List (List Bool)) (marks : List Bool) → IsPairTable h table → a < count h → marks ≡ marks_of table a → IsMarked h a 1 marks
@@ -69,25 +70,25 @@ marked_at_start h a table marks pairs below is = record {
 }
 
 -- the three ways to number
-numbered_kept : (row : List ℕ) (marks : List Bool) (d b : ℕ) → slice_index row b ≢ no_walk → numbered row marks d b ≡ slice_index row b
+numbered_kept : (row : List ℕ) (marks : List Bool) (d b : ℕ) → slice_index row b ≢ NONE → numbered row marks d b ≡ slice_index row b
 numbered_kept row marks d b some = go (is_marked marks b)
   where
-    go : (m : Bool) → (if m && (slice_index row b == no_walk) then d else slice_index row b) ≡ slice_index row b
-    go true = rw (ne_eqb (slice_index row b) no_walk some) refl
+    go : (m : Bool) → (if m && (slice_index row b == NONE) then d else slice_index row b) ≡ slice_index row b
+    go true = rw (ne_eqb (slice_index row b) NONE some) refl
     go false = refl
 
 numbered_unmarked : (row : List ℕ) (marks : List Bool) (d b : ℕ) → is_marked marks b ≡ false → numbered row marks d b ≡ slice_index row b
 numbered_unmarked row marks d b no_mark = rw no_mark refl
 
-numbered_new : (row : List ℕ) (marks : List Bool) (d b : ℕ) → is_marked marks b ≡ true → slice_index row b ≡ no_walk → numbered row marks d b ≡ d
+numbered_new : (row : List ℕ) (marks : List Bool) (d b : ℕ) → is_marked marks b ≡ true → slice_index row b ≡ NONE → numbered row marks d b ≡ d
 numbered_new row marks d b mark none = rw (mark, none) refl
 
 -- what is marked within n + 1 steps gets the number n + 1
-pub searched_more : (h : History) (a n : ℕ) (row new : List ℕ) (marks : List Bool) → IsSearched h a n row → IsMarked h a (n + 1) marks → n + 1 < no_walk
+pub searched_more : (h : History) (a n : ℕ) (row new : List ℕ) (marks : List Bool) → IsSearched h a n row → IsMarked h a (n + 1) marks → n + 1 < NONE
     → length new ≡ length row → ((b : ℕ) → slice_index new b ≡ numbered row marks (n + 1) b) → IsSearched h a (n + 1) new
-searched_more h a n row new marks searched marked small same each = record { long = same ∙ searched.long; exact = λ b below. go b below (cases_eq (slice_index row b) no_walk) (is_marked marks b) refl }
+searched_more h a n row new marks searched marked small same each = record { long = same ∙ searched.long; exact = λ b below. go b below (cases_eq (slice_index row b) NONE) (is_marked marks b) refl }
   where
-    go : (b : ℕ) → b < count h → (slice_index row b ≡ no_walk) ⊎ (slice_index row b ≢ no_walk) → (m : Bool) → is_marked marks b ≡ m → IsDistanceWithin h a (n + 1) b (least_in new b)
+    go : (b : ℕ) → b < count h → (slice_index row b ≡ NONE) ⊎ (slice_index row b ≢ NONE) → (m : Bool) → is_marked marks b ≡ m → IsDistanceWithin h a (n + 1) b (least_in new b)
     go b below (inr some) m e =
         let old = known h a n row b searched below some in
         let now : slice_index new b ≡ slice_index row b = each b ∙ numbered_kept row marks (n + 1) b some in
@@ -98,7 +99,7 @@ searched_more h a n row new marks searched marked small same each = record { lon
         none_is h a (n + 1) new b (each b ∙ (numbered_unmarked row marks (n + 1) b e ∙ none)) (λ w. absurd (false≢true (sym e ∙ (marked.exact b below).1 w)))
 
 -- the rows of those that have the number n mark what is within n + 1 steps
-pub marked_more : (h : History) (a n : ℕ) (table : List (List Bool)) (row : List ℕ) (marks new : List Bool) → IsPairTable h table → IsSearched h a n row → IsMarked h a n marks → 0 < n → n < no_walk
+pub marked_more : (h : History) (a n : ℕ) (table : List (List Bool)) (row : List ℕ) (marks new : List Bool) → IsPairTable h table → IsSearched h a n row → IsMarked h a n marks → 0 < n → n < NONE
     → length new ≡ length marks → ((b : ℕ) → (is_marked new b ≡ true) ↔ IsSpread marks table row n (length row) b) → IsMarked h a (n + 1) new
 marked_more h a n table row marks new pairs searched marked some small same each = record {
   long = same ∙ marked.long;
@@ -109,7 +110,7 @@ marked_more h a n table row marks new pairs searched marked some small same each
     sound b below (inl m) = within_more h a n (n + 1) b (omega arith) ((marked.exact b below).0 m)
     sound b below (inr (u, l, at, m)) =
         let from : u < count h = omega (arith, searched.long) in
-        let here : slice_index row u ≢ no_walk = λ e. absurd (omega arith) in
+        let here : slice_index row u ≢ NONE = λ e. absurd (omega arith) in
         let walk = (known h a n row u searched from here).1.attained in
         within_pair h a n u b (walk.0, walk.1, omega (arith, walk.2)) (sym (pairs.exact u b from below) ∙ m)
 
@@ -128,7 +129,7 @@ marked_more h a n table row marks new pairs searched marked some small same each
         by b u below p from (known h a n row u searched from (λ e. further h a n row u searched from e within)) (cases_lt (slice_index row u) n)
 
 -- a row of which nothing is further away than n is whole
-pub row_done : (h : History) (a n : ℕ) (row : List ℕ) → IsSearched h a n row → n ≤ count h → ((b : ℕ) → IsReached h a b → IsWithin h a n b) → IsRow h a row
+pub row_done : (h : History) (a n : ℕ) (row : List ℕ) → IsSearched h a n row → n ≤ count h → ((b : ℕ) → IsReached h a b → IsWithin h a n b) → HasDistances h a row
 row_done h a n row searched few near = record {
   long = searched.long;
   exact = λ b below. go b below (read row b);
@@ -148,7 +149,7 @@ row_done h a n row searched few near = record {
 
 -- where nothing that is marked wants a number, the search has ended
 pub row_at_end : (h : History) (a n : ℕ) (row new : List ℕ) (marks : List Bool) → IsSearched h a n row → IsMarked h a (n + 1) marks → n + 1 ≤ count h
-    → ((b : ℕ) → is_marked marks b ≡ true → slice_index row b ≢ no_walk) → IsSearched h a (n + 1) new → IsRow h a new
+    → ((b : ℕ) → is_marked marks b ≡ true → slice_index row b ≢ NONE) → IsSearched h a (n + 1) new → HasDistances h a new
 row_at_end h a n row new marks searched marked few none level =
     row_done h a (n + 1) new level few (λ b reached. within_more h a n (n + 1) b (omega arith) (within_closed h a n closed (length reached.0) b (reached.0, reached.1, omega arith)))
   where
@@ -160,7 +161,7 @@ row_at_end h a n row new marks searched marked few none level =
         (walk.0, walk.1, omega (arith, is.0, walk.2))
 
 -- where each has a number, the search has ended
-pub row_full : (h : History) (a n : ℕ) (row : List ℕ) → IsSearched h a n row → n ≤ count h → ((b : ℕ) → b < length row → slice_index row b ≢ no_walk) → IsRow h a row
+pub row_full : (h : History) (a n : ℕ) (row : List ℕ) → IsSearched h a n row → n ≤ count h → ((b : ℕ) → b < length row → slice_index row b ≢ NONE) → HasDistances h a row
 row_full h a n row searched few all = row_done h a n row searched few near
   where
     near : (b : ℕ) → IsReached h a b → IsWithin h a n b
@@ -172,26 +173,26 @@ row_full h a n row searched few all = row_done h a n row searched few near
 
 -- whether a distance is none, as a number
 abbrev without : ℕ → ℕ
-without d = cond (eqb d no_walk) 1 0
+without d = cond (eqb d NONE) 1 0
 
 -- where none is without a distance, each has one
-pub all_numbered : (row : List ℕ) → unnumbered row ≡ 0 → (b : ℕ) → b < length row → slice_index row b ≢ no_walk
+pub all_numbered : (row : List ℕ) → unnumbered row ≡ 0 → (b : ℕ) → b < length row → slice_index row b ≢ NONE
 all_numbered row none b l e =
     let less = sum_by-set without row b 0 0 l in
-    let here : without (slice_index row b) ≡ without no_walk = ap without e in
+    let here : without (slice_index row b) ≡ without NONE = ap without e in
     omega (arith, less, here)
 
-pub unnumbered_at_start : (n : ℕ) → unnumbered (replicate n no_walk) ≡ n
-unnumbered_at_start n = sum_by-replicate without n no_walk ∙ omega arith
+pub unnumbered_at_start : (n : ℕ) → unnumbered (replicate n NONE) ≡ n
+unnumbered_at_start n = sum_by-replicate without n NONE ∙ omega arith
 
 -- rows that are right one by one are the table
 pub near_from_rows : (h : History) (table : List (List Bool)) (rows : List (List ℕ)) → IsPairTable h table
-    → (length rows ≡ length table) × ((a : ℕ) (d : List ℕ) → a < length table → (g : History) → IsPairTable g table → IsRow g a (get_or rows a d)) → IsNearOf h rows
+    → (length rows ≡ length table) × ((a : ℕ) (d : List ℕ) → a < length table → (g : History) → IsPairTable g table → HasDistances g a (get_or rows a d)) → IsNearOf h rows
 near_from_rows h table rows pairs (long, each) = record {
   square = record { long = long ∙ pairs.long; wide = λ a d l. (row a d (omega (arith, pairs.long))).long };
   exact = λ a b from to. (row a [] from).exact b to;
   short = λ a b n from to is. (row a [] from).short b n to is;
 }
   where
-    row : (a : ℕ) (d : List ℕ) → a < count h → IsRow h a (get_or rows a d)
+    row : (a : ℕ) (d : List ℕ) → a < count h → HasDistances h a (get_or rows a d)
     row a d l = each a d (omega (arith, pairs.long)) h pairs

@@ -1,6 +1,5 @@
 pub mod Walks
 pub mod LevelLemmas
 pub mod RowLemmas
-pub mod Written
 pub mod ClockLemmas
 pub mod Worked

@@ -16,16 +16,6 @@ pub record IsLast (h : History) (t : ℕ) (session : ℕ) (last : ℕ) : Type 0 
   pub attained : (last ≡ 0) ⊎ ((b : ℕ) × IsBehind h t session b × (place h b ≡ last))
   pub greatest : (b : ℕ) → IsBehind h t session b → place h b ≤ last
 
--- the same of the transactions below n alone
-pub record IsLastBelow (h : History) (t : ℕ) (session : ℕ) (n : ℕ) (last : ℕ) : Type 0 where
-  pub attained : (last ≡ 0) ⊎ ((b : ℕ) × IsBehind h t session b × (place h b ≡ last))
-  pub greatest : (b : ℕ) → b < n → IsBehind h t session b → place h b ≤ last
-
--- the last place of each session behind a transaction
-pub record IsClock (h : History) (t : ℕ) (row : List ℕ) : Type 0 where
-  pub wide : length row ≡ length h.sessions
-  pub exact : (session : ℕ) → session < length h.sessions → IsLast h t session (slice_index row session)
-
 -- a row for each transaction, with the last place of each session
 pub record IsClocksOf (h : History) (table : List (List ℕ)) : Type 0 where
   pub long : length table ≡ count h

@@ -3,6 +3,7 @@ use Rattle.std.specs.Prelude.{ℕ, ◌<◌, ◌≤◌, ◌≡◌, ◌==◌, List
 use Rattle.tcc_reads.specs.History.{History, count}
 use Rattle.tcc_graph.specs.Walks.{IsWalk, IsReached}
 use Rattle.tcc_graph.specs.declared.step.Step.{Step}
+use Rattle.tcc_near.specs.declared.distances.TheConstants.{NONE}
 
 -- a walk from a to b has n steps, and none has fewer
 pub record IsShortest (h : History) (a : ℕ) (b : ℕ) (n : ℕ) : Type 0 where
@@ -14,17 +15,13 @@ abbrev pub IsWalkDistance : History → ℕ → ℕ → Option ℕ → Type 0
 IsWalkDistance h a b None = IsReached h a b → ⊥
 IsWalkDistance h a b (Some n) = IsShortest h a b n
 
--- what a table has where there is no walk
-abbrev pub no_walk : ℕ
-no_walk = 65535
-
 -- the row of a number, and nothing past the table
 abbrev pub row_of : List (List ℕ) → ℕ → List ℕ
 row_of table a = slice_index_or table a []
 
 -- what stands in a row, as a number or none
 abbrev pub least_in : List ℕ → ℕ → Option ℕ
-least_in row b = if slice_index row b == no_walk then None else Some (slice_index row b)
+least_in row b = if slice_index row b == NONE then None else Some (slice_index row b)
 
 -- what the table has from a to b
 abbrev pub least : List (List ℕ) → ℕ → ℕ → Option ℕ

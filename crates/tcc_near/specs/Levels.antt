@@ -1,10 +1,12 @@
+-- For the private stages and their proofs alone: nobody has to believe what stands here.
 -- The search by levels: what is known after walks of so many steps.
 use Rattle.std.specs.Prelude.{ℕ, ◌<◌, ◌≤◌, ◌≡◌, ◌⊎◌, ◌↔◌, ◌==◌, ◌&&◌, Bool, true, false, if◌then◌else◌, List, [], length, All, count_by, Option, None, Some, slice_index, slice_index_or}
 use Rattle.tcc_reads.specs.History.{History, count}
 use Rattle.tcc_graph.specs.Relations.{causal_pair}
 use Rattle.tcc_graph.specs.Walks.{IsWalk}
 use Rattle.tcc_graph.specs.declared.step.Step.{Step}
-use Rattle.tcc_near.specs.Distances.{IsShortest, IsWalkDistance, least_in, no_walk}
+use Rattle.tcc_near.specs.Distances.{IsShortest, IsWalkDistance, least_in}
+use Rattle.tcc_near.specs.declared.distances.TheConstants.{NONE}
 
 -- whether a number is marked
 abbrev pub is_marked : List Bool → ℕ → Bool
@@ -40,7 +42,7 @@ pub record IsSearched (h : History) (a : ℕ) (n : ℕ) (row : List ℕ) : Type 
   pub exact : (b : ℕ) → b < count h → IsDistanceWithin h a n b (least_in row b)
 
 -- the row has each distance
-pub record IsRow (h : History) (a : ℕ) (row : List ℕ) : Type 0 where
+pub record HasDistances (h : History) (a : ℕ) (row : List ℕ) : Type 0 where
   pub long : length row ≡ count h
   pub exact : (b : ℕ) → b < count h → IsWalkDistance h a b (least_in row b)
   pub short : (b : ℕ) (n : ℕ) → b < count h → least_in row b ≡ Some n → n ≤ count h
@@ -53,8 +55,8 @@ IsSpread marks table row distance n b =
 -- the distance of b once what is marked and had none got this one
 abbrev pub numbered : List ℕ → List Bool → ℕ → ℕ → ℕ
 numbered row marks distance b =
-    if is_marked marks b && (slice_index row b == no_walk) then distance else slice_index row b
+    if is_marked marks b && (slice_index row b == NONE) then distance else slice_index row b
 
 -- how many numbers have no distance
 abbrev pub unnumbered : List ℕ → ℕ
-unnumbered row = count_by (λ distance. distance == no_walk) row
+unnumbered row = count_by (λ distance. distance == NONE) row

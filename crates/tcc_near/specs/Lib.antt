@@ -1,3 +1,4 @@
 pub mod Distances
-pub mod Levels
 pub mod Clocks
+pub mod Levels
+pub mod ClockRows

@@ -3,10 +3,10 @@ ghost use Rattle.std.specs.Prelude.{◌≡◌, ◌<◌, IfOk, MatchOption, max, 
 ghost use Rattle.tcc_reads.specs.History.{count, owner, place};
 ghost use Rattle.tcc_graph.specs.Walks.{IsReached};
 ghost use Rattle.tcc_near.specs.Distances.{IsNearOf};
-ghost use Rattle.tcc_near.specs.Clocks.{IsClock, IsClocksOf};
+ghost use Rattle.tcc_near.specs.Clocks.{IsClocksOf};
+ghost use Rattle.tcc_near.specs.ClockRows.{IsClock};
 
-use crate::clock::Clock;
-use crate::{Clocks, Near, near};
+use crate::{Clocks, Near, Row, near};
 use rayon::prelude::*;
 use std::alloc::{AllocError, Global};
 use std::thread::Threads;
@@ -37,7 +37,7 @@ fn raise(places: &mut [u32], session: u32, place: u32)
 }
 
 /// The last place of each session behind one transaction.
-fn clock(alloc: Global, graph: &Graph, near: &Near, t: u32) -> Result<Clock, AllocError>
+fn clock_of(alloc: Global, graph: &Graph, near: &Near, t: u32) -> Result<Row<u32>, AllocError>
     requires near { IsNearOf graph.now near.now }
     requires transaction { t < count graph.now }
     ensures { IfOk result (IsClock graph.now t) }
@@ -48,29 +48,29 @@ fn clock(alloc: Global, graph: &Graph, near: &Near, t: u32) -> Result<Clock, All
             raise(&mut places, session, place);
         }
     }
-    Ok(Clock::new(places))
+    Ok(Row::new(places))
 }
 
 /// The last places behind each transaction.
-fn rows(
+fn all_clocks(
     rt: &(impl Threads + Sync),
     alloc: Global,
     graph: &Graph,
     near: &Near,
-) -> Result<Vec<Clock>, AllocError>
+) -> Result<Vec<Row<u32>>, AllocError>
     requires { IsNearOf graph.now near.now }
     ensures { IfOk result (λ rows. IsClocksOf graph.now rows.items) }
 {
     (0..graph.count())
         .into_par_iter()
         .map(
-            |t: u32| -> Result<Clock, AllocError>
+            |t: u32| -> Result<Row<u32>, AllocError>
                 requires { (t < count graph.now) × IsNearOf graph.now near.now }
                 ensures { IfOk result (IsClock graph.entry.now t) }
-            { clock(alloc, graph, near, t) },
+            { clock_of(alloc, graph, near, t) },
         )
         .with_min_len(1)
-        .collect::<Result<Vec<Clock>, AllocError>>(rt, alloc)?
+        .collect::<Result<Vec<Row<u32>>, AllocError>>(rt, alloc)?
 }
 
 /// The clocks of a graph.
@@ -78,6 +78,6 @@ pub fn clocks(rt: &(impl Threads + Sync), alloc: Global, graph: &Graph) -> Resul
     ensures { IfOk result (IsClocksOf graph.now) }
 {
     let near = near(rt, alloc, graph)?;
-    let rows = rows(rt, alloc, graph, &near)?;
+    let rows = all_clocks(rt, alloc, graph, &near)?;
     Ok(Clocks::new(rows))
 }

@@ -2,35 +2,13 @@
 ghost use Rattle.std.specs.Prelude.{◌≡◌, ◌<◌, length, slice_index};
 ghost use Rattle.tcc_near.specs.Distances.{row_of};
 
+use crate::Row;
 use std::marker::Model;
-
-/// The last place of each session behind one transaction.
-#[derive(Drop)]
-pub(crate) struct Clock {
-    places: Vec<u32>,
-}
-
-impl Model for Clock {
-    ghost use Rattle.std.specs.Prelude.{ℕ, List};
-
-    ghost Value = { List ℕ };
-
-    ghost view = { λ c. c.places.items };
-}
-
-impl Clock {
-    /// The clock with these places.
-    pub(crate) fn new(places: Vec<u32>) -> Clock
-        ensures { result ≡ places.items }
-    {
-        Clock { places }
-    }
-}
 
 /// Of each transaction of a graph and each session, the last place from which the transaction is reached.
 #[derive(Drop)]
 pub struct Clocks {
-    rows: Vec<Clock>,
+    rows: Vec<Row<u32>>,
 }
 
 impl Model for Clocks {
@@ -43,7 +21,7 @@ impl Model for Clocks {
 
 impl Clocks {
     /// The clocks with these rows.
-    pub(crate) fn new(rows: Vec<Clock>) -> Clocks
+    pub(crate) fn new(rows: Vec<Row<u32>>) -> Clocks
         ensures { result ≡ rows.items }
     {
         Clocks { rows }
@@ -63,6 +41,6 @@ impl Clocks {
         requires { t < length self.now }
         ensures { result.now ≡ row_of self.now t }
     {
-        &self.rows[t as usize].places
+        self.rows[t as usize].values()
     }
 }

@@ -2,38 +2,16 @@
 ghost use Rattle.std.specs.Prelude.{◌≡◌, ◌<◌, length};
 ghost use Rattle.tcc_near.specs.Distances.{IsSquare, least, row_of};
 
+use crate::Row;
 use std::marker::Model;
 
-/// What a row has where no walk leads.
-pub const NO_WALK: u16 = u16::MAX;
-
-/// The least number of steps from one transaction to each.
-#[derive(Drop)]
-pub(crate) struct Row {
-    steps: Vec<u16>,
-}
-
-impl Model for Row {
-    ghost use Rattle.std.specs.Prelude.{ℕ, List};
-
-    ghost Value = { List ℕ };
-
-    ghost view = { λ r. r.steps.items };
-}
-
-impl Row {
-    /// The row with these numbers of steps.
-    pub(crate) fn new(steps: Vec<u16>) -> Row
-        ensures { result ≡ steps.items }
-    {
-        Row { steps }
-    }
-}
+/// What a table has in place of a number where there is none: no walk leads there, or no link.
+pub const NONE: u16 = u16::MAX;
 
 /// The least number of steps of a causal walk from each transaction of a graph to each, itself among them.
 #[derive(Drop)]
 pub struct Near {
-    rows: Vec<Row>,
+    rows: Vec<Row<u16>>,
 }
 
 impl Model for Near {
@@ -49,7 +27,7 @@ impl Model for Near {
 
 impl Near {
     /// The table with these rows.
-    pub(crate) fn new(rows: Vec<Row>) -> Near
+    pub(crate) fn new(rows: Vec<Row<u16>>) -> Near
         requires { IsSquare (length rows.items) rows.items }
         ensures { result ≡ rows.items }
     {
@@ -63,19 +41,19 @@ impl Near {
         ensures { result ≡ least self.now a b }
     {
         let steps = self.row(a)[b as usize];
-        if steps == NO_WALK {
+        if steps == NONE {
             None
         } else {
             Some(steps as u32)
         }
     }
 
-    /// The least number of steps from `a` to each transaction, `NO_WALK` where no walk leads.
+    /// The least number of steps from `a` to each transaction, `NONE` where no walk leads.
     pub fn row(&self, a: u32) -> &[u16]
         requires { a < length self.now }
         ensures value { result.now ≡ row_of self.now a }
         ensures long { length result.now ≡ length self.now }
     {
-        &self.rows[a as usize].steps
+        self.rows[a as usize].values()
     }
 }

@@ -5,13 +5,14 @@
 mod behind;
 mod clock;
 mod distances;
-mod marks;
 mod pairs;
+mod row;
 mod search;
 
 pub use behind::clocks;
 pub use clock::Clocks;
-pub use distances::{NO_WALK, Near};
+pub use distances::{NONE, Near};
+pub use row::Row;
 pub use search::near;
 
 #[cfg(test)]

@@ -4,12 +4,12 @@ ghost use Rattle.tcc_reads.specs.History.{count};
 ghost use Rattle.tcc_graph.specs.Relations.{causal_pair};
 ghost use Rattle.tcc_near.specs.Levels.{is_marked, IsPairTable};
 
-use crate::marks::Marks;
+use crate::Row;
 use std::alloc::{AllocError, Global};
 use tcc_graph::Graph;
 
 /// The transactions to which a causal pair leads from this one.
-fn pairs_from(alloc: Global, graph: &Graph, from: u32) -> Result<Marks, AllocError>
+fn pairs_from(alloc: Global, graph: &Graph, from: u32) -> Result<Row<bool>, AllocError>
     requires { from < count graph.now }
     ensures long { IfOk result (λ marks. length marks ≡ count graph.now) }
     ensures exact { IfOk result (λ marks. (b : ℕ) → b < count graph.now → is_marked marks b ≡ causal_pair graph.now from b) }
@@ -19,11 +19,11 @@ fn pairs_from(alloc: Global, graph: &Graph, from: u32) -> Result<Marks, AllocErr
     for to in 0..graph.count() {
         marks.push(graph.causal(from, to))?;
     }
-    Ok(Marks::new(marks))
+    Ok(Row::new(marks))
 }
 
 /// Of each transaction, those to which a causal pair leads from it.
-pub(crate) fn pair_table(alloc: Global, graph: &Graph) -> Result<Vec<Marks>, AllocError>
+pub(crate) fn pair_table(alloc: Global, graph: &Graph) -> Result<Vec<Row<bool>>, AllocError>
     ensures pairs { IfOk result (λ table. IsPairTable graph.now table.items) }
     ensures few { IfOk result (λ table. length table.items ≤ 1024) }
 {

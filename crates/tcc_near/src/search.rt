@@ -1,12 +1,12 @@
 //! The search for all distances of a graph: from each transaction by levels, in several threads.
 ghost use Rattle.std.specs.Prelude.{◌≡◌, ◌≢◌, ◌<◌, ◌≤◌, ◌↔◌, ◌⊎◌, ℕ, true, false, length, All, IsTrue, IfOk, slice_index};
 ghost use Rattle.tcc_reads.specs.History.{History, count};
-ghost use Rattle.tcc_near.specs.Distances.{IsNearOf, no_walk};
-ghost use Rattle.tcc_near.specs.Levels.{is_marked, IsPairTable, IsRow, IsSpread, numbered, unnumbered};
+ghost use Rattle.tcc_near.specs.Distances.{IsNearOf};
+ghost use Rattle.tcc_near.specs.Levels.{is_marked, IsPairTable, HasDistances, IsSpread, numbered, unnumbered};
+ghost use Rattle.tcc_near.specs.declared.distances.TheConstants.{NONE};
 
-use crate::distances::{NO_WALK, Near, Row};
-use crate::marks::Marks;
 use crate::pairs::pair_table;
+use crate::{NONE, Near, Row};
 use rayon::prelude::*;
 use std::alloc::{AllocError, Global};
 use std::thread::Threads;
@@ -16,14 +16,14 @@ use tcc_txn::NoMemory;
 /// Gives the distance to each marked transaction that has none, and says whether there was one.
 fn number(steps: &mut [u16], marks: &[bool], distance: u16) -> bool
     requires long { length marks.now ≡ length steps.old }
-    requires walk { distance < no_walk }
+    requires walk { distance < NONE }
     ensures each { (b : ℕ) → slice_index steps.new b ≡ numbered steps.old marks.now distance b }
     ensures some { IsTrue result → unnumbered steps.new < unnumbered steps.old }
-    ensures none { result ≡ false → (b : ℕ) → is_marked marks.now b ≡ true → slice_index steps.old b ≢ no_walk }
+    ensures none { result ≡ false → (b : ℕ) → is_marked marks.now b ≡ true → slice_index steps.old b ≢ NONE }
 {
     let mut found = false;
     for (place, step) in steps.iter_mut().enumerate() {
-        let new = marks[place] && *step == NO_WALK;
+        let new = marks[place] && *step == NONE;
         *step = if new { distance } else { *step };
         found |= new;
     }
@@ -31,7 +31,7 @@ fn number(steps: &mut [u16], marks: &[bool], distance: u16) -> bool
 }
 
 /// Marks those to which a causal pair leads from a transaction at this distance.
-fn spread(marks: &mut Marks, table: &[Marks], steps: &[u16], distance: u16)
+fn spread(marks: &mut Row<bool>, table: &[Row<bool>], steps: &[u16], distance: u16)
     requires long { length steps.now ≡ length table.now }
     requires wide { All (λ row. length row ≡ length marks.old) table.now }
     ensures long { length marks.new ≡ length marks.old }
@@ -39,24 +39,24 @@ fn spread(marks: &mut Marks, table: &[Marks], steps: &[u16], distance: u16)
 {
     for (place, step) in steps.iter().enumerate() {
         if *step == distance {
-            marks.merge(table[place].as_slice());
+            marks.merge(table[place].values());
         }
     }
 }
 
 /// The distances from one transaction. A level numbers what is marked, and marks what the next step reaches; it ends
 /// where there is nothing to number.
-fn row(alloc: Global, table: &[Marks], source: usize) -> Result<Row, AllocError>
+fn distances_from(alloc: Global, table: &[Row<bool>], source: usize) -> Result<Row<u16>, AllocError>
     requires source { source < length table.now }
     requires wide { All (λ marks. length marks ≡ length table.now) table.now }
     requires few { length table.now ≤ 1024 }
-    ensures { IfOk result (λ row. (h : History) → IsPairTable h table.now → IsRow h source row) }
+    ensures { IfOk result (λ row. (h : History) → IsPairTable h table.now → HasDistances h source row) }
 {
-    let mut steps = vec![in alloc; NO_WALK; table.len()]?;
-    let mut marks = table[source].copy(alloc)?;
+    let mut steps = vec![in alloc; NONE; table.len()]?;
+    let mut marks = Row::new(table[source].values().to_vec(alloc)?);
     for before in 0..table.len() {
         let distance = before as u16 + 1;
-        if !number(&mut steps, marks.as_slice(), distance) {
+        if !number(&mut steps, marks.values(), distance) {
             return Ok(Row::new(steps));
         }
         spread(&mut marks, table, &steps, distance);
@@ -65,7 +65,11 @@ fn row(alloc: Global, table: &[Marks], source: usize) -> Result<Row, AllocError>
 }
 
 /// The distances from each transaction.
-fn rows(rt: &(impl Threads + Sync), alloc: Global, table: &[Marks]) -> Result<Vec<Row>, AllocError>
+fn all_distances(
+    rt: &(impl Threads + Sync),
+    alloc: Global,
+    table: &[Row<bool>],
+) -> Result<Vec<Row<u16>>, AllocError>
     requires wide { All (λ marks. length marks ≡ length table.now) table.now }
     requires few { length table.now ≤ 1024 }
     ensures { IfOk result (λ rows. (h : History) → IsPairTable h table.now → IsNearOf h rows.items) }
@@ -73,14 +77,14 @@ fn rows(rt: &(impl Threads + Sync), alloc: Global, table: &[Marks]) -> Result<Ve
     (0..table.len())
         .into_par_iter()
         .map(
-            |source: usize| -> Result<Row, AllocError>
+            |source: usize| -> Result<Row<u16>, AllocError>
                 requires { (source < length table.now) × All (λ marks. length marks ≡ length table.now) table.now
                     × (length table.now ≤ 1024) }
-                ensures { IfOk result (λ row. (h : History) → IsPairTable h table.entry.now → IsRow h source row) }
-            { row(alloc, table, source) },
+                ensures { IfOk result (λ row. (h : History) → IsPairTable h table.entry.now → HasDistances h source row) }
+            { distances_from(alloc, table, source) },
         )
         .with_min_len(1)
-        .collect::<Result<Vec<Row>, AllocError>>(rt, alloc)?
+        .collect::<Result<Vec<Row<u16>>, AllocError>>(rt, alloc)?
 }
 
 /// The distances of a graph.
@@ -88,6 +92,6 @@ pub fn near(rt: &(impl Threads + Sync), alloc: Global, graph: &Graph) -> Result<
     ensures { IfOk result (IsNearOf graph.now) }
 {
     let table = pair_table(alloc, graph)?;
-    let rows = rows(rt, alloc, &table)?;
+    let rows = all_distances(rt, alloc, &table)?;
     Ok(Near::new(rows))
 }

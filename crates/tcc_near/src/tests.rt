@@ -1,5 +1,5 @@
 //! Worked histories, with distances and clocks worked out by hand.
-use crate::{NO_WALK, clocks, near};
+use crate::{NONE, clocks, near};
 use std::alloc::{AllocError, Global};
 use std::process::Abort;
 use std::test::Fail;
@@ -61,7 +61,7 @@ fn assert_least(
         assert!(rt; a < graph.count());
         assert!(rt; b < graph.count());
         assert_eq!(rt; near.least(a, b), *steps, "from {a} to {b}");
-        let none = near.row(a)[b as usize] == NO_WALK;
+        let none = near.row(a)[b as usize] == NONE;
         assert_eq!(rt; none, steps.is_none());
     }
 }

@@ -3,13 +3,14 @@ use Rattle.std.proofs.Common.{cond, List, ◌≤◌, ◌+◌, ◌⊎◌, inl, in
 use Rattle.std.proofs.lemmas.Bool.{cases_Bool, and_parts, and_from, ltb-true, lt-ltb, false≢true}
 use Rattle.tcc_reads.specs.History.{History, count}
 use Rattle.tcc_derive.specs.Prices.{Tables, cost_at, IsCost, IsPricesOf}
-use Rattle.tcc_near.specs.Distances.{row_of, no_walk}
+use Rattle.tcc_near.specs.Distances.{row_of}
 use Rattle.tcc_order.specs.Numbering.{passing, holds_back, IsWaiting}
 use Rattle.tcc_order.specs.Leads.{leads, link_in, AddsLinks}
 use Rattle.tcc_order.proofs.Passing.{one, passing-same, passing-some}
 use Rattle.tcc_order.proofs.Waiting.{passing-placed}
 use Rattle.tcc_order.proofs.Greedy.{IsBelow}
 use Rattle.tcc_order.proofs.Kept.{IsLinked, IsPrecedence, linked_below}
+use Rattle.tcc_near.specs.declared.distances.TheConstants.{NONE}
 
 pub leads_below : (t : Tables) → IsBelow (leads t) (length t.prices)
 leads_below t a b h =
@@ -26,7 +27,7 @@ one_of false v = refl
 
 -- what a row counts for a number is 1 where a link leads there
 pub link_one : (t : Tables) (u v : ℕ) → u < length t.prices → v < length t.prices → link_in (row_of t.costs u) v ≡ one (leads t u v)
-link_one t u v low below = rw (lt-ltb u (length t.prices) low, lt-ltb v (length t.prices) below) (one_of (slice_index (row_of t.costs u) v == no_walk) (slice_index (row_of t.costs u) v))
+link_one t u v low below = rw (lt-ltb u (length t.prices) low, lt-ltb v (length t.prices) below) (one_of (slice_index (row_of t.costs u) v == NONE) (slice_index (row_of t.costs u) v))
 
 -- where nothing was placed, all that stand before a number hold it back
 pub waiting-begin : (t : Tables) (placed : List Bool) (waiting : List ℕ) → length waiting ≡ length t.prices → ((x : ℕ) → slice_index_or placed x false ≡ false) → ((x : ℕ) → x < length t.prices → slice_index waiting x ≡ passing (λ a. leads t a x) (length t.prices)) → IsWaiting (leads t) (length t.prices) placed waiting

@@ -6,7 +6,6 @@ pub mod Within
 pub mod Reached
 pub mod Linked
 pub mod OrderOrCycle
-pub mod Written
 pub mod Passing
 pub mod Waiting
 mod Worked

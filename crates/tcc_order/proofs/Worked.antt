@@ -12,6 +12,7 @@ use Rattle.tcc_derive.specs.Prices.{Tables}
 use Rattle.tcc_order.specs.Numbering.{Joins, HasCircle, passing}
 use Rattle.tcc_order.specs.Leads.{leads}
 use Rattle.tcc_order.proofs.OrderOrCycle.{no_cycle}
+use Rattle.tcc_near.specs.declared.distances.TheConstants.{NONE}
 
 abbrev x : List ℕ
 x = codes "x"
@@ -92,8 +93,8 @@ later_writer-not_by_number o =
 
 abbrev onward : Tables
 onward = record {
-  prices = (65535 ∷ 65535 ∷ 65535 ∷ []) ∷ (65535 ∷ 65535 ∷ 3 ∷ []) ∷ (65535 ∷ 65535 ∷ 65535 ∷ []) ∷ [];
-  costs = (65535 ∷ 1 ∷ 65535 ∷ []) ∷ (65535 ∷ 65535 ∷ 3 ∷ []) ∷ (65535 ∷ 65535 ∷ 65535 ∷ []) ∷ [];
+  prices = (NONE ∷ NONE ∷ NONE ∷ []) ∷ (NONE ∷ NONE ∷ 3 ∷ []) ∷ (NONE ∷ NONE ∷ NONE ∷ []) ∷ [];
+  costs = (NONE ∷ 1 ∷ NONE ∷ []) ∷ (NONE ∷ NONE ∷ 3 ∷ []) ∷ (NONE ∷ NONE ∷ NONE ∷ []) ∷ [];
 }
 
 onward-leads : (leads onward 0 1 ≡ true) × (leads onward 1 2 ≡ true) × (leads onward 1 0 ≡ false) × (leads onward 0 2 ≡ false) × (leads onward 2 3 ≡ false)
@@ -110,8 +111,8 @@ onward-joins = (refl, refl)
 -- two numbers with links both ways lead in a circle
 abbrev crossed : Tables
 crossed = record {
-  prices = (65535 ∷ 65535 ∷ []) ∷ (2 ∷ 65535 ∷ []) ∷ [];
-  costs = (65535 ∷ 1 ∷ []) ∷ (2 ∷ 65535 ∷ []) ∷ [];
+  prices = (NONE ∷ NONE ∷ []) ∷ (2 ∷ NONE ∷ []) ∷ [];
+  costs = (NONE ∷ 1 ∷ []) ∷ (2 ∷ NONE ∷ []) ∷ [];
 }
 
 crossed-circle : HasCircle (leads crossed)

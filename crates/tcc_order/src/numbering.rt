@@ -4,7 +4,8 @@ ghost use Rattle.tcc_order.specs.Numbering.{IsFirstOf, IsLeastReady, IsReady, Ha
 ghost use Rattle.tcc_order.specs.Leads.{leads, link_in, AddsLinks};
 
 use std::alloc::Global;
-use tcc_derive::{NO_LINK, Prices};
+use tcc_derive::Prices;
+use tcc_near::NONE;
 use tcc_txn::NoMemory;
 
 /// Adds one to each number that a link of the row leads to.
@@ -14,7 +15,7 @@ fn add_links(waiting: &mut [u32], costs: &[u16])
     ensures { AddsLinks costs.now waiting.old waiting.new }
 {
     for (place, count) in waiting.iter_mut().enumerate() {
-        *count += u32::from(costs[place] != NO_LINK);
+        *count += u32::from(costs[place] != NONE);
     }
 }
 
@@ -25,7 +26,7 @@ fn remove_links(waiting: &mut [u32], costs: &[u16])
     ensures { AddsLinks costs.now waiting.new waiting.old }
 {
     for (place, count) in waiting.iter_mut().enumerate() {
-        *count -= u32::from(costs[place] != NO_LINK);
+        *count -= u32::from(costs[place] != NONE);
     }
 }
 

@@ -5,6 +5,7 @@ use Rattle.tcc_derive.proofs.KeyLemmas.{keys_sorted}
 use Rattle.tcc_derive.proofs.ChoiceLemmas.{IsBestChoice, choice_bound, nearer_key, no_nearer_key, choice_of}
 use Rattle.tcc_derive.proofs.choices.choice.Goals.{in-Some+then-distance-least, in-Some+else-distance-least, in_default}
 use Rattle.tcc_derive.proofs.choices.choice.Goals as goal
+use Rattle.tcc_near.specs.declared.distances.TheConstants.{NONE}
 
 pub loop-key-preserved : goal.loop-key-preserved
 loop-key-preserved c =
@@ -19,7 +20,7 @@ loop-key-preserved c =
     let inv = c.loop-key.invariant in
     let within : i < length (keys h) = rw c.keys-key-items.ensures at c.loop-key-test.true in
     let is : y ≡ get_or (keys h) i y = c.key-item.is ∙ ap (λ ks. get_or ks i y) c.keys-key-items.ensures in
-    let range = λ (d : ℕ). let f = c.type_inv.steps d in let bound : get_or steps d 0 ≤ 65535 = omega (arith, f) in bound in
+    let range = λ (d : ℕ). let f = c.type_inv.steps d in let bound : get_or steps d 0 ≤ NONE = omega (arith, f) in bound in
     elim c.match-nearest_reader.branch [
       | in-Some+then-distance-least w ↦ rw (w.least-is, w.best-is)
           (nearer_key h steps b a (keys h) i y (keys_sorted h) within is range least best w.in-Some.reader inv w.in-Some.ensures w.if-distance-least.true)

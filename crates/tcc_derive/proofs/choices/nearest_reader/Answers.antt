@@ -7,6 +7,7 @@ use Rattle.tcc_derive.specs.Choices.{IsNearest, IsNearestReader}
 use Rattle.tcc_derive.proofs.ChoiceLemmas.{readers_sorted, readers_below, reads_reader, writes_not, nearest_reader_of}
 use Rattle.tcc_derive.proofs.choices.nearest_reader.Goals.{then-b-a-via-then-b-a, then-b-a-via-else-b-a+then-not-contains}
 use Rattle.tcc_derive.proofs.choices.nearest_reader.Goals as goal
+use Rattle.tcc_near.specs.declared.distances.TheConstants.{NONE}
 
 pub returns-then-b-a : goal.returns-then-b-a
 returns-then-b-a c = elim c.then-b-a.branch [
@@ -22,8 +23,8 @@ pub nearest-requires-clause-below : goal.nearest-requires-clause-below
 nearest-requires-clause-below c = rw (c.readers.ensures, c.requires.long) (readers_below c.args.graph.now c.args.a c.args.key.now)
 
 by_result : (h : History) (steps : List ℕ) (b a : ℕ) (x : List ℕ) (r : Option ℕ) → ((c : ℕ) → IsNearest (readers h a x) steps c → IsNearestReader h steps b a x c)
-    → MatchOption r ((d : ℕ) → Contains (readers h a x) d → get_or steps d 0 ≡ 65535) (IsNearest (readers h a x) steps)
-    → MatchOption r ((d : ℕ) → MayContradict h b a x d → get_or steps d 0 ≡ 65535) (IsNearestReader h steps b a x)
+    → MatchOption r ((d : ℕ) → Contains (readers h a x) d → get_or steps d 0 ≡ NONE) (IsNearest (readers h a x) steps)
+    → MatchOption r ((d : ℕ) → MayContradict h b a x d → get_or steps d 0 ≡ NONE) (IsNearestReader h steps b a x)
 by_result h steps b a x None turn none = λ d may. none d (reads_reader h a x d may.1)
 by_result h steps b a x (Some c) turn nearest = turn c nearest
 

@@ -1,4 +1,4 @@
-use Rattle.std.proofs.Common.{ℕ, ◌-◌, ◌<◌, ◌≤◌, ◌≡◌, List, length, ap, ◌∙◌, arith, map, Ok}
+use Rattle.std.proofs.Common.{ℕ, ◌-◌, ◌<◌, ◌≤◌, ◌≡◌, List, [], length, ap, ◌∙◌, arith}
 use Rattle.std.specs.List.{range_with_len}
 use Rattle.rayon.specs.Numbers.{nat_range}
 use Rattle.rayon.proofs.ToStd.{nat_range-All}
@@ -6,7 +6,7 @@ use Rattle.tcc_reads.specs.History.{count}
 use Rattle.tcc_near.specs.Distances.{row_of}
 use Rattle.tcc_txn.specs.declared.memory.NoMemory.{NoMemory}
 use Rattle.tcc_derive.specs.Lowering.{HasPairs}
-use Rattle.tcc_derive.proofs.Given.{matched, given, given_at}
+use Rattle.tcc_near.proofs.RowLemmas.{each_given, where_ok}
 use Rattle.tcc_derive.proofs.CostLemmas.{cost_row_of}
 use Rattle.tcc_derive.proofs.costing.cost_rows.Goals as goal
 
@@ -32,8 +32,9 @@ returns g c =
     let chain = rw (c.with_min_len.ensures.base, c.map.ensures.base, c.map.ensures.f) at got.1 in
     let places : chain.0 ≡ range_with_len 0 n = chain.1 ∙ (λ i. nat_range (ends.0 i) (ends.1 i)) ∙ ap (range_with_len 0) whole in
     let IsPaired : ℕ → List ℕ → Type 0 = λ u row. HasPairs h u (row_of prices u) row in
-    let all = λ (ys : List (List ℕ)) (is : got.0 ≡ map Ok ys). given NoMemory IsPaired 0 n ys (rw (places, is) at chain.2) in
-    matched c.in_ok-collect.field-0 _ _ _ got.2 (λ rows w. rw w.2 (record {
-      long = (all w.0 w.1).long ∙ c.count.ensures.value;
-      each = λ u from. cost_row_of h u (row_of prices u) (row_of w.0 u) (c.requires.each u from) (given_at IsPaired n w.0 (all w.0 w.1) u (omega (arith, c.count.ensures.value)));
-    }))
+    where_ok c.in_ok-collect.field-0 _ _ _ got.2 (λ rows made.
+    let each = each_given NoMemory IsPaired n chain.0 got.0 rows.items places chain.2 made in
+    record {
+      long = each.0 ∙ c.count.ensures.value;
+      each = λ u from. cost_row_of h u (row_of prices u) (row_of rows.items u) (c.requires.each u from) (each.1 u [] (omega (arith, c.count.ensures.value)));
+    })

@@ -5,6 +5,7 @@ use Rattle.tcc_derive.specs.Buckets.{bucket}
 use Rattle.tcc_derive.proofs.BucketLemmas.{taken}
 use Rattle.tcc_derive.proofs.LoweringLemmas.{lowers_then}
 use Rattle.tcc_derive.proofs.pricing.price_row.Goals as goal
+use Rattle.tcc_near.specs.declared.distances.TheConstants.{NONE}
 
 pub loop-place-preserved : goal.loop-place-preserved
 loop-place-preserved c =
@@ -20,4 +21,4 @@ loop-place-preserved c =
     let lowered = rw (values, c.deref_mut.ensures.value) at c.lower.ensures in
     let long : length c.lower.new.costs ≡ c.loop-place.costs.len = c.lower.ensures.long ∙ c.deref_mut.ensures.len in
     rw (take_at c.lower.new.costs _ c.loop-place.costs.len long, more)
-    (lowers_then c.args.steps.now c.args.b (flat_map (bucket reads) (take n written)) (bucket reads k) (replicate (length c.args.steps.now) 65535) c.loop-place.costs.items c.lower.new.costs c.loop-place.invariant lowered)
+    (lowers_then c.args.steps.now c.args.b (flat_map (bucket reads) (take n written)) (bucket reads k) (replicate (length c.args.steps.now) NONE) c.loop-place.costs.items c.lower.new.costs c.loop-place.invariant lowered)

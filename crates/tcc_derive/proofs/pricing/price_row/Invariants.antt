@@ -2,6 +2,7 @@ use Rattle.std.proofs.Common.{take, flat_map, replicate, length}
 use Rattle.tcc_derive.specs.Buckets.{bucket}
 use Rattle.tcc_derive.specs.Lowering.{Lowers}
 use Rattle.tcc_derive.proofs.pricing.price_row.Given as goal
+use Rattle.tcc_near.specs.declared.distances.TheConstants.{NONE}
 
 abbrev pub invariant-loop-place : goal.invariant-loop-place
-invariant-loop-place l = Lowers (flat_map (bucket l.reads) (take l.place-index l.written)) l.steps l.b (replicate (length l.steps) 65535) l.costs.items
+invariant-loop-place l = Lowers (flat_map (bucket l.reads) (take l.place-index l.written)) l.steps l.b (replicate (length l.steps) NONE) l.costs.items

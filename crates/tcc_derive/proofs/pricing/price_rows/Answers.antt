@@ -1,4 +1,4 @@
-use Rattle.std.proofs.Common.{ℕ, ◌-◌, ◌<◌, ◌≤◌, ◌≡◌, List, length, flat_map, replicate, sym, ap, ◌∙◌, arith, map, Ok}
+use Rattle.std.proofs.Common.{ℕ, ◌-◌, ◌<◌, ◌≤◌, ◌≡◌, List, [], length, flat_map, replicate, sym, ap, ◌∙◌, arith}
 use Rattle.std.specs.List.{range_with_len}
 use Rattle.rayon.specs.Numbers.{nat_range}
 use Rattle.rayon.proofs.ToStd.{nat_range-All}
@@ -7,10 +7,11 @@ use Rattle.tcc_near.specs.Distances.{row_of}
 use Rattle.tcc_txn.specs.declared.memory.NoMemory.{NoMemory}
 use Rattle.tcc_derive.specs.Buckets.{bucket}
 use Rattle.tcc_derive.specs.Lowering.{Lowers, HaveReads}
-use Rattle.tcc_derive.proofs.Given.{matched, given, given_at}
+use Rattle.tcc_near.proofs.RowLemmas.{each_given, where_ok}
 use Rattle.tcc_derive.proofs.PriceLemmas.{price_row_of}
 use Rattle.tcc_derive.proofs.TableLemmas.{have_reads}
 use Rattle.tcc_derive.proofs.pricing.price_rows.Goals as goal
+use Rattle.tcc_near.specs.declared.distances.TheConstants.{NONE}
 
 pub collect-requires-clause-ready : goal.collect-requires-clause-ready
 collect-requires-clause-ready g c κs within =
@@ -39,14 +40,16 @@ returns g c =
     let whole : n - 0 ≡ n = omega arith in
     let chain = rw (c.with_min_len.ensures.base, c.map.ensures.base, c.map.ensures.f) at got.1 in
     let places : chain.0 ≡ range_with_len 0 n = chain.1 ∙ (λ i. nat_range (ends.0 i) (ends.1 i)) ∙ ap (range_with_len 0) whole in
-    let IsLowered : ℕ → List ℕ → Type 0 = λ b row. Lowers (flat_map (bucket reads) (bucket written b)) (row_of near b) b (replicate (length near) 65535) row in
-    let all = λ (ys : List (List ℕ)) (is : got.0 ≡ map Ok ys). given NoMemory IsLowered 0 n ys (rw (places, is) at chain.2) in
+    let IsLowered : ℕ → List ℕ → Type 0 = λ b row. Lowers (flat_map (bucket reads) (bucket written b)) (row_of near b) b (replicate (length near) NONE) row in
     record {
-      rows = matched c.in_ok-collect.field-0 _ _ _ got.2 (λ rows w. rw w.2 (record {
-        long = (all w.0 w.1).long ∙ c.count.ensures.value;
-        each = λ b from.
-            price_row_of h near reads written b (row_of w.0 b) small from c.requires.near c.requires.reads c.requires.written
-            (given_at IsLowered n w.0 (all w.0 w.1) b (omega (arith, c.count.ensures.value)));
-      }));
-      few = matched c.in_ok-collect.field-0 _ _ _ got.2 (λ rows w. rw w.2 (omega (arith, (all w.0 w.1).long, c.count.ensures.few)));
+      rows = where_ok c.in_ok-collect.field-0 _ _ _ got.2 (λ rows made.
+          let each = each_given NoMemory IsLowered n chain.0 got.0 rows.items places chain.2 made in
+          record {
+            long = each.0 ∙ c.count.ensures.value;
+            each = λ b from.
+                price_row_of h near reads written b (row_of rows.items b) small from c.requires.near c.requires.reads c.requires.written
+                (each.1 b [] (omega (arith, c.count.ensures.value)));
+          });
+      few = where_ok c.in_ok-collect.field-0 _ _ _ got.2 (λ rows made.
+          omega (arith, (each_given NoMemory IsLowered n chain.0 got.0 rows.items places chain.2 made).0, c.count.ensures.few));
     }

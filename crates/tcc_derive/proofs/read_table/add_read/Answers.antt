@@ -28,7 +28,7 @@ loop-name-preserved c =
           let at = w.in-Some.ensures in
           let inside : p < length mid = omega (arith, at.within, c.requires.long, c.loop-name.invariant.long) in
           puts_then old mid c.match-place_of.reads (λ i. Contains (take n names) (name_of keys i)) (λ i. i ≡ p) (λ i. Contains (take (n + 1) names) (name_of keys i)) c.args.read c.loop-name.invariant
-          (puts_push mid c.match-place_of.reads p c.args.read w.index-reads-place.result inside (w.reads-is ∙ ap (λ held. set mid p held) w.in_ok-push.ensures))
+          (puts_push mid c.match-place_of.reads p c.args.read w.index-reads-place.result inside (w.reads-is ∙ ap (λ held. set mid p held) w.in_ok-push.ensures.ok))
           (λ i l h. ⊎_elim inl (λ e. inr (same_place keys name p i at (omega (arith, c.requires.long)) e)) (taken i h))
           still
           (λ i e. rw (e, at.here) (Contains-last names n name within c.name-item.is))

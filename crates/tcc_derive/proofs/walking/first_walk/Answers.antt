@@ -5,6 +5,7 @@ use Rattle.tcc_derive.specs.Backwards.{IsLeft, IsTakenBack}
 use Rattle.tcc_derive.proofs.BackLemmas.{never_stuck, taken_more, left_of, at_end, walk_of}
 use Rattle.tcc_graph.proofs.Pairs.{step_below}
 use Rattle.tcc_derive.proofs.walking.first_walk.Goals as goal
+use Rattle.tcc_near.specs.declared.distances.TheConstants.{NONE}
 
 pub unreachable-requires : goal.unreachable-requires
 unreachable-requires c =
@@ -35,7 +36,7 @@ loop-done-preserved c =
     let less : total - done - 1 ≡ total - (done + 1) = omega arith in
     let whole : total ≡ length taken + (total - done - 1 + 1) = omega (arith, inv.1) in
     let below = (step_below h step last.step).0 in
-    let few : total - done - 1 < 65535 = omega (arith, c.requires.reached) in
+    let few : total - done - 1 < NONE = omega (arith, c.requires.reached) in
     rw (c.row-steps.ensures.value, c.in_ok-push.ensures.items, c.start_of-end.ensures) (
       taken_more h near b c.requires.near c.requires.from c.args.c total c.loop-done.end (total - done - 1) taken step inv.0 (subst (λ (n : ℕ). IsLeft h b c.loop-done.end n) more inv.2) last whole,
       omega (arith, length-append taken (step ∷ []), inv.1),

@@ -1,7 +1,7 @@
 use Rattle.std.proofs.Common.{◌≡◌, ◌≢◌, ◌<◌, ◌≤◌, ℕ, true, false, slice_index}
-use Rattle.tcc_near.specs.Distances.{no_walk}
 use Rattle.tcc_near.specs.Levels.{is_marked, numbered, unnumbered}
 use Rattle.tcc_near.proofs.search.number.Given as goal
+use Rattle.tcc_near.specs.declared.distances.TheConstants.{NONE}
 
 abbrev pub invariant-loop-place : goal.invariant-loop-place
 invariant-loop-place l =
@@ -9,4 +9,4 @@ invariant-loop-place l =
     × ((b : ℕ) → l.place ≤ b → slice_index l.steps b ≡ slice_index l.initial.steps b)
     × (unnumbered l.steps ≤ unnumbered l.initial.steps)
     × (l.found ≡ true → unnumbered l.steps < unnumbered l.initial.steps)
-    × (l.found ≡ false → (b : ℕ) → b < l.place → is_marked l.marks b ≡ true → slice_index l.initial.steps b ≢ no_walk)
+    × (l.found ≡ false → (b : ℕ) → b < l.place → is_marked l.marks b ≡ true → slice_index l.initial.steps b ≢ NONE)

@@ -1,10 +1,9 @@
-use Rattle.std.proofs.Common.{◌≡◌, ◌<◌, ◌+◌, ℕ, length, slice_index, replicate, refl, sym, ◌∙◌, arith, rules}
+use Rattle.std.proofs.Common.{◌≡◌, ◌<◌, ◌+◌, ℕ, length, slice_index, replicate, refl, sym, ◌∙◌, arith, rules, take_at}
 use Rattle.std.proofs.lemmas.List.{get_or-replicate}
 use Rattle.tcc_near.specs.Distances.{row_of}
 use Rattle.tcc_order.specs.Leads.{leads, link_in}
 use Rattle.tcc_order.proofs.Passing.{passing-zero, passing-more, passing-few}
 use Rattle.tcc_order.proofs.Leading.{link_one}
-use Rattle.tcc_order.proofs.Written.{whole}
 use Rattle.tcc_order.proofs.numbering.count_links.Goals as goal
 
 pub loop-number-init : goal.loop-number-init
@@ -29,5 +28,5 @@ loop-number-preserved c =
     let long : c.loop-number.waiting.len ≡ length c.loop-number.waiting.items = search rules in
     let below : u < length t.prices = search rules in
     let added : (x : ℕ) → x < length t.prices → slice_index c.add_links.new.waiting x ≡ slice_index c.loop-number.waiting.items x + link_in (row_of t.costs u) x = rw (c.deref_mut.ensures.value, c.costs.ensures.value) at (λ (x : ℕ) (l : x < length t.prices). c.add_links.ensures.each x (omega (arith, l, c.deref_mut.ensures.len, c.loop-number.invariant.0))) in
-    rw (whole c.add_links.new.waiting c.loop-number.waiting.items c.loop-number.waiting.len same long)
+    rw (take_at c.add_links.new.waiting _ c.loop-number.waiting.len (same ∙ sym long))
     (search rules, λ x l. added x l ∙ rw (c.loop-number.invariant.1 x l, link_one t u x below l) refl ∙ sym (passing-more (λ a. leads t a x) u))

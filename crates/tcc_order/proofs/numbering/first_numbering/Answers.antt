@@ -1,4 +1,4 @@
-use Rattle.std.proofs.Common.{replicate, ◌≡◌, ◌<◌, ◌∷◌, ◌++◌, ℕ, [], true, false, length, slice_index_or, slice_set, sym, arith, rules}
+use Rattle.std.proofs.Common.{replicate, ◌≡◌, ◌<◌, ◌∷◌, ◌++◌, ℕ, [], true, false, length, slice_index_or, slice_set, sym, arith, rules, take_at, ◌∙◌}
 use Rattle.std.proofs.lemmas.Grind.{common_steps}
 use Rattle.tcc_near.specs.Distances.{row_of}
 use Rattle.tcc_order.specs.Numbering.{IsReady, IsLeastReady, IsWaiting}
@@ -7,7 +7,6 @@ use Rattle.tcc_order.proofs.Greedy.{Picks-push, Picks-first, Picks-order}
 use Rattle.tcc_order.proofs.Circle.{short_circle}
 use Rattle.tcc_order.proofs.Leading.{leads_below, waiting-placed, waiting-begin, link_waiting}
 use Rattle.tcc_order.proofs.Waiting.{ready_from_free, next_from_least, none_placed, says_more}
-use Rattle.tcc_order.proofs.Written.{whole}
 use Rattle.tcc_order.proofs.numbering.first_numbering.Goals as goal
 
 pub loop-init : goal.loop-init
@@ -49,7 +48,7 @@ loop-preserved c =
     let pushed : c.push.new.self.items ≡ order ++ next ∷ [] = search rules in
     let same : length c.remove_links.new.waiting ≡ length c.loop.waiting.items = sym removed.long in
     let long : c.loop.waiting.len ≡ length c.loop.waiting.items = search rules in
-    rw (whole c.remove_links.new.waiting c.loop.waiting.items c.loop.waiting.len same long)
+    rw (take_at c.remove_links.new.waiting _ c.loop.waiting.len (same ∙ sym long))
     (search rules, search rules, rw pushed (grind (arith, common_steps)), counts, rw pushed (says_more c.loop.placed.items order next within c.loop.invariant.4), rw pushed (Picks-push (leads t) n [] order next c.loop.invariant.5 (next_from_least (leads t) n c.loop.placed.items c.loop.waiting.items order next (leads_below t) c.loop.invariant.3 c.loop.invariant.4 least)))
 
 pub returns : goal.returns

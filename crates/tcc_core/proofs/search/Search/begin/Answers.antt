@@ -1,11 +1,11 @@
-use Rattle.std.proofs.Common.{rules, ◌≡◌, ◌<◌, ℕ, length, All, get_or, replicate, arith}
+use Rattle.std.proofs.Common.{rules, ◌≡◌, ◌<◌, ℕ, length, All, get_or, replicate, arith, take_at, sym, ◌∙◌}
 use Rattle.std.proofs.lemmas.List.{get_or-replicate, length-replicate}
 use Rattle.std.proofs.lemmas.Grind.{common_steps}
 use Rattle.tcc_reads.specs.History.{count}
 use Rattle.tcc_near.specs.Distances.{row_of}
 use Rattle.tcc_core.specs.Rows.{IsEmptyRow}
 use Rattle.tcc_core.specs.Searches.{no_way}
-use Rattle.tcc_core.proofs.Lowering.{IsLowered, whole, fits}
+use Rattle.tcc_core.proofs.Lowering.{IsLowered, fits}
 use Rattle.tcc_core.proofs.Steps.{search_begun, bounded_begun}
 use Rattle.tcc_core.proofs.search.Search.begin.Goals as goal
 
@@ -22,7 +22,7 @@ invariant_of-result c =
     let same : length new ≡ length old = search rules in
     let long : c.in_ok-costs.costs.len ≡ length old = search rules in
     let lowered : IsLowered old new 0 c.costs.result.now = record { long = same; each = rw c.deref_mut.ensures.value at c.relax.ensures.lowered } in
-    rw (whole new old c.in_ok-costs.costs.len same long) (bounded_begun c.args.start n c.in_ok-row.row.items old new c.costs.result.now c.requires (omega (arith, c.costs.ensures.few, c.costs.ensures.long)) empty many none (fits c.costs.result.now c.relax.ensures.links) lowered)
+    rw (take_at new _ c.in_ok-costs.costs.len (same ∙ sym long)) (bounded_begun c.args.start n c.in_ok-row.row.items old new c.costs.result.now c.requires (omega (arith, c.costs.ensures.few, c.costs.ensures.long)) empty many none (fits c.costs.result.now c.relax.ensures.links) lowered)
 
 pub returns-clause-search : goal.returns-clause-search
 returns-clause-search c =
@@ -39,6 +39,6 @@ returns-clause-search c =
     let long : c.in_ok-costs.costs.len ≡ length old = search rules in
     let lowered : IsLowered old new 0 (row_of t.costs c.args.start) = record { long = same; each = rw (c.deref_mut.ensures.value, c.costs.ensures.value) at c.relax.ensures.lowered } in
     let links : All (λ link. link < 65536) (row_of t.costs c.args.start) = rw c.costs.ensures.value at c.relax.ensures.links in
-    rw (whole new old c.in_ok-costs.costs.len same long) (λ h priced.
+    rw (take_at new _ c.in_ok-costs.costs.len (same ∙ sym long)) (λ h priced.
     let wide : n ≡ count h = priced.prices.long in
     search_begun h t c.args.start c.in_ok-row.row.items old new priced (rw (← wide) c.requires) (rw (← wide) empty) (rw (← wide) many) (rw (← wide) none) (fits (row_of t.costs c.args.start) links) lowered)

@@ -1,4 +1,4 @@
-use Rattle.std.proofs.Common.{rules, ◌≡◌, ◌<◌, ◌≤◌, ℕ, length, All, Some, get_or, set, arith, refl, subst}
+use Rattle.std.proofs.Common.{rules, ◌≡◌, ◌<◌, ◌≤◌, ℕ, length, All, Some, get_or, set, arith, refl, subst, take_at, sym, ◌∙◌}
 use Rattle.std.proofs.lemmas.Grind.{common_steps}
 use Rattle.tcc_reads.specs.History.{History}
 use Rattle.tcc_near.specs.Distances.{row_of}
@@ -7,7 +7,7 @@ use Rattle.tcc_core.specs.Rows.{cap_of}
 use Rattle.tcc_core.specs.Relaxing.{IsNearest}
 use Rattle.tcc_core.specs.Searches.{Search, IsSearchOf, Settles}
 use Rattle.tcc_core.specs.declared.settled.Settled.TheVariants as settled
-use Rattle.tcc_core.proofs.Lowering.{IsLowered, whole, fits}
+use Rattle.tcc_core.proofs.Lowering.{IsLowered, fits}
 use Rattle.tcc_core.proofs.Steps.{nothing_near, settles_cut, settles_returned, settles_more, small_enough, after, bounded_after, search_after}
 use Rattle.tcc_core.proofs.search.Search.settle.Goals as goal
 use Rattle.tcc_core.proofs.search.Search.settle.Goals.{then-next-self, else-next-self}
@@ -50,7 +50,7 @@ invariant_of-self c =
     let same : length c.relax.new.costs ≡ length old.costs = search rules in
     let long : c.self.inside.costs.len ≡ length old.costs = search rules in
     let lowered : IsLowered old.costs c.relax.new.costs (get_or old.costs v 0) c.costs.result.now = record { long = same; each = rw (c.deref_mut.ensures.value, is) at c.relax.ensures.lowered } in
-    rw (whole c.relax.new.costs old.costs c.self.inside.costs.len same long, is) (bounded_after old v c.relax.new.costs c.costs.result.now c.self.invariant near (fits c.costs.result.now c.relax.ensures.links) lowered)
+    rw (take_at c.relax.new.costs _ c.self.inside.costs.len (same ∙ sym long), is) (bounded_after old v c.relax.new.costs c.costs.result.now c.self.invariant near (fits c.costs.result.now c.relax.ensures.links) lowered)
 
 pub returns-clause-search : goal.returns-clause-search
 returns-clause-search c =
@@ -63,7 +63,7 @@ returns-clause-search c =
     let long : c.self.inside.costs.len ≡ length old.costs = search rules in
     let lowered : IsLowered old.costs c.relax.new.costs (get_or old.costs v 0) (row_of c.args.prices.now.costs v) = record { long = same; each = rw (c.deref_mut.ensures.value, is, c.costs.ensures.value) at c.relax.ensures.lowered } in
     let links : All (λ link. link < 65536) (row_of c.args.prices.now.costs v) = rw c.costs.ensures.value at c.relax.ensures.links in
-    rw (whole c.relax.new.costs old.costs c.self.inside.costs.len same long, is) (subst (λ (z : Search). (h : History) (s : ℕ) → IsPricesOf h c.args.prices.now → IsSearchOf h s z → IsSearchOf h s (after old v c.relax.new.costs)) c.self.view_is
+    rw (take_at c.relax.new.costs _ c.self.inside.costs.len (same ∙ sym long), is) (subst (λ (z : Search). (h : History) (s : ℕ) → IsPricesOf h c.args.prices.now → IsSearchOf h s z → IsSearchOf h s (after old v c.relax.new.costs)) c.self.view_is
     (λ h s priced known. search_after h c.args.prices.now s old v c.relax.new.costs priced known near (small_enough old v c.self.invariant near) (fits (row_of c.args.prices.now.costs v) links) lowered))
 
 pub returns-clause-settled : goal.returns-clause-settled

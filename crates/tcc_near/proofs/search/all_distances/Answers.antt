@@ -4,10 +4,10 @@ use Rattle.rayon.specs.Numbers.{nat_range}
 use Rattle.rayon.proofs.ToStd.{nat_range-All}
 use Rattle.std.specs.declared.alloc.AllocError.{AllocError}
 use Rattle.tcc_reads.specs.History.{History}
-use Rattle.tcc_near.specs.Levels.{IsPairTable, IsRow}
+use Rattle.tcc_near.specs.Levels.{IsPairTable, HasDistances}
 use Rattle.tcc_near.proofs.LevelLemmas.{near_from_rows}
 use Rattle.tcc_near.proofs.RowLemmas.{each_given, where_ok}
-use Rattle.tcc_near.proofs.search.rows.Goals as goal
+use Rattle.tcc_near.proofs.search.all_distances.Goals as goal
 
 pub collect-requires-clause-ready : goal.collect-requires-clause-ready
 collect-requires-clause-ready g c κs within =
@@ -26,4 +26,4 @@ returns g c =
     let whole : n - 0 ≡ n = omega arith in
     let numbers = chain.1 ∙ (λ i. nat_range (ends.0 i) (ends.1 i)) ∙ ap (range_with_len 0) whole in
     where_ok c.in_ok-collect.field-0 _ _ _ gave.2 (λ v made h is.
-    near_from_rows h pairs v.items is (each_given AllocError (λ a row. (h : History) → IsPairTable h pairs → IsRow h a row) n chain.0 gave.0 v.items numbers chain.2 made))
+    near_from_rows h pairs v.items is (each_given AllocError (λ a row. (h : History) → IsPairTable h pairs → HasDistances h a row) n chain.0 gave.0 v.items numbers chain.2 made))

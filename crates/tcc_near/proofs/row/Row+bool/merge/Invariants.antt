@@ -1,5 +1,5 @@
 use Rattle.std.proofs.Common.{◌≡◌, ◌<◌, ◌≤◌, ℕ, false, ◌||◌, slice_index_or}
-use Rattle.tcc_near.proofs.marks.Marks.merge.Given as goal
+use Rattle.tcc_near.proofs.row.Row+bool.merge.Given as goal
 
 abbrev pub invariant-loop-place : goal.invariant-loop-place
 invariant-loop-place l =

@@ -1,7 +1,7 @@
 use Rattle.std.proofs.Common.{◌≡◌, ◌<◌, ℕ, length}
 use Rattle.std.specs.Prelude.{slice_index}
-use Rattle.tcc_near.specs.Clocks.{IsLastBelow}
-use Rattle.tcc_near.proofs.behind.clock.Given as goal
+use Rattle.tcc_near.specs.ClockRows.{IsLastBelow}
+use Rattle.tcc_near.proofs.behind.clock_of.Given as goal
 
 abbrev pub invariant-loop-b : goal.invariant-loop-b
 invariant-loop-b l =

@@ -1,22 +1,23 @@
-use Rattle.std.proofs.Common.{rules, ◌≡◌, ◌≢◌, ◌<◌, ◌+◌, ℕ, true, [], slice_index, length, replicate, ◌∙◌, ap, arith}
+use Rattle.std.proofs.Common.{rules, ◌≡◌, ◌≢◌, ◌<◌, ◌+◌, ℕ, true, [], slice_index, length, replicate, ◌∙◌, ap, arith, take_at, sym}
 use Rattle.std.proofs.lemmas.List.{get_or_read, length-replicate}
-use Rattle.tcc_near.specs.Distances.{no_walk}
 use Rattle.tcc_near.specs.Levels.{is_marked, marks_of, numbered, unnumbered}
 use Rattle.tcc_near.proofs.LevelLemmas.{searched_at_start, marked_at_start, unnumbered_at_start, searched_more, marked_more, row_at_end, row_full, all_numbered}
-use Rattle.tcc_near.proofs.Written.{whole}
-use Rattle.tcc_near.proofs.search.row.Goals as goal
+use Rattle.tcc_near.proofs.search.distances_from.Goals as goal
+use Rattle.tcc_near.specs.declared.distances.TheConstants.{NONE}
 
 pub loop-before-init : goal.loop-before-init
 loop-before-init c =
     let n = length c.args.table.now in
-    let steps : c.in_ok-steps.steps.items ≡ replicate n no_walk = search rules in
-    let marks : c.in_ok-marks.marks ≡ marks_of c.args.table.now c.args.source = c.in_ok-marks.ensures ∙ get_or_read c.args.table.now c.args.source c.index-table-source.result (omega arith) c.index-table-source.is [] in
-    let wide : length c.in_ok-marks.marks ≡ n = ap length marks ∙ c.requires.wide c.args.source [] (omega arith) in
+    let steps : c.in_ok-steps.steps.items ≡ replicate n NONE = search rules in
+    let row = get_or_read c.args.table.now c.args.source c.index-table-source.result (omega arith) c.index-table-source.is [] in
+    let copied : c.in_ok-to_vec.field-0.items ≡ c.values.result.now = search rules in
+    let marks : c.new-marks.result ≡ marks_of c.args.table.now c.args.source = c.new-marks.ensures ∙ copied ∙ c.values.ensures ∙ row in
+    let wide : length c.new-marks.result ≡ n = ap length marks ∙ c.requires.wide c.args.source [] (omega arith) in
     rw steps (
-      length-replicate n no_walk,
+      length-replicate n NONE,
       wide,
       omega (arith, unnumbered_at_start n),
-      λ h pairs. (searched_at_start h c.args.source n pairs.long, marked_at_start h c.args.source c.args.table.now c.in_ok-marks.marks pairs (omega (arith, pairs.long)) marks),
+      λ h pairs. (searched_at_start h c.args.source n pairs.long, marked_at_start h c.args.source c.args.table.now c.new-marks.result pairs (omega (arith, pairs.long)) marks),
     )
 
 pub returns-then-not-number : goal.returns-then-not-number
@@ -28,8 +29,8 @@ returns-then-not-number c =
     let same : length new ≡ length old = search rules in
     let long : c.loop-before.steps.len ≡ length old = search rules in
     let each : (b : ℕ) → slice_index new b ≡ numbered old c.loop-before.marks (n + 1) b = search rules in
-    let none : (b : ℕ) → is_marked c.loop-before.marks b ≡ true → slice_index old b ≢ no_walk = search rules in
-    let is : c.new.result ≡ new = c.new.ensures ∙ whole new old c.loop-before.steps.len same long in
+    let none : (b : ℕ) → is_marked c.loop-before.marks b ≡ true → slice_index old b ≢ NONE = search rules in
+    let is : c.new.result ≡ new = c.new.ensures ∙ take_at new _ c.loop-before.steps.len (same ∙ sym long) in
     λ h pairs.
     let so_far = inv.3 h pairs in
     let level = searched_more h c.args.source n old new c.loop-before.marks so_far.0 so_far.1 (omega arith) same each in
@@ -44,9 +45,9 @@ loop-before-preserved c =
     let same : length new ≡ length old = search rules in
     let long : c.loop-before.steps.len ≡ length old = search rules in
     let each : (b : ℕ) → slice_index new b ≡ numbered old c.loop-before.marks (n + 1) b = search rules in
-    let read : c.deref.result.now ≡ new = c.deref.ensures.value ∙ whole new old c.loop-before.steps.len same long in
+    let read : c.deref.result.now ≡ new = c.deref.ensures.value ∙ take_at new _ c.loop-before.steps.len (same ∙ sym long) in
     let fewer : unnumbered new < unnumbered old = search rules in
-    rw (whole new old c.loop-before.steps.len same long) (
+    rw (take_at new _ c.loop-before.steps.len (same ∙ sym long)) (
       same ∙ inv.0,
       c.spread.ensures.long ∙ inv.1,
       omega (arith, fewer, inv.2),

@@ -5,10 +5,10 @@ use Rattle.rayon.specs.Numbers.{nat_range}
 use Rattle.rayon.proofs.ToStd.{nat_range-All}
 use Rattle.tcc_reads.specs.History.{count}
 use Rattle.tcc_near.specs.Distances.{IsNearOf}
-use Rattle.tcc_near.specs.Clocks.{IsClock}
+use Rattle.tcc_near.specs.ClockRows.{IsClock}
 use Rattle.tcc_near.proofs.ClockLemmas.{clocks_from_rows}
 use Rattle.tcc_near.proofs.RowLemmas.{each_given, where_ok}
-use Rattle.tcc_near.proofs.behind.rows.Goals as goal
+use Rattle.tcc_near.proofs.behind.all_clocks.Goals as goal
 
 pub collect-requires-clause-ready : goal.collect-requires-clause-ready
 collect-requires-clause-ready g c κs within =

@@ -1,0 +1,58 @@
+//! Rows of tables.
+ghost use Rattle.std.specs.Prelude.{◌≡◌, ◌||◌, ◌++◌, ◌∷◌, [], ℕ, false, length, slice_index_or, OnOk, OnErr};
+
+use std::marker::Model;
+use tcc_txn::NoMemory;
+
+/// One row of a table, which contracts see as a list: a table of rows is a list of lists.
+#[derive(Drop)]
+pub struct Row<T: Copy> {
+    values: Vec<T>,
+}
+
+impl<T: Copy> Model for Row<T> {
+    ghost use Rattle.std.specs.Prelude.{List};
+
+    ghost Value = { List T };
+
+    ghost view = { λ r. r.values.items };
+}
+
+impl<T: Copy> Row<T> {
+    /// The row of these values.
+    pub fn new(values: Vec<T>) -> Row<T>
+        ensures { result ≡ values.items }
+    {
+        Row { values }
+    }
+
+    /// One more value at the end.
+    pub fn push(&mut self, value: T) -> Result<(), NoMemory>
+        ensures ok { OnOk result (self.new ≡ self.old ++ value ∷ []) }
+        ensures err { OnErr result (self.new ≡ self.old) }
+    {
+        self.values.push(value)?;
+        Ok(())
+    }
+
+    /// The values, in order.
+    pub fn values(&self) -> &[T]
+        ensures { result.now ≡ self.now }
+    {
+        &self.values
+    }
+}
+
+impl Row<bool> {
+    /// Marks what the other row, of the same length, marks too.
+    pub(crate) fn merge(&mut self, other: &[bool])
+        requires { length self.old ≡ length other.now }
+        ensures same { length self.new ≡ length self.old }
+        ensures each { (k : ℕ) → slice_index_or self.new k false
+            ≡ (slice_index_or self.old k false || slice_index_or other.now k false) }
+    {
+        for (place, mark) in self.values.iter_mut().enumerate() {
+            *mark |= other[place];
+        }
+    }
+}
