@@ -1,6 +1,5 @@
 //! The rules on a claim that a cycle is least.
 ghost use Rattle.std.specs.Prelude.{◌≡◌, ◌≤◌, ◌<◌, ◌↔◌, ◌^◌, [], ◌∷◌, IsTrue, IfOk, length};
-ghost use Rattle.tcc_txn.specs.declared.limits.TheConstants.{MAX_COUNT};
 ghost use Rattle.tcc_reads.specs.History.{count};
 ghost use Rattle.tcc_cert.specs.Tables.{HasSize, IsCapped};
 ghost use Rattle.tcc_cert.specs.CycleRules.{HasRightSizes};
@@ -25,7 +24,7 @@ fn has_right_sizes(
     near: &[Numbers],
     far: &[Numbers],
 ) -> bool
-    ensures few { count graph.now ≤ MAX_COUNT }
+    ensures few { count graph.now ≤ 1024 }
     ensures sizes { IsTrue result ↔ HasRightSizes graph.now (record { links = links.now; least = least; near = near.now; far = far.now }) }
 {
     let count = graph.count() as usize;
@@ -69,7 +68,7 @@ fn bounds_verdict(
     near: &[Numbers],
     far: &[Numbers],
 ) -> Result<Verdict, NoMemory>
-    requires few { count graph.now ≤ MAX_COUNT }
+    requires few { count graph.now ≤ 1024 }
     requires near { HasSize (count graph.now) (count graph.now) near.now }
     requires far { HasSize (count graph.now) (count graph.now) far.now }
     requires near_capped { IsCapped least near.now }
