@@ -1,6 +1,5 @@
 -- Rules asked one after the other, and the same rules in other words.
-use Rattle.std.proofs.Common.{◌≡◌, ◌↔◌, refl, ℕ, ◌⊎◌, inl, inr, List, [], ◌∷◌, ◌++◌}
-use Rattle.tcc_cert.specs.Rules.{HoldsEverywhere}
+use Rattle.std.proofs.Common.{◌≡◌, ◌↔◌, refl, ℕ, inl, inr, List, [], ◌∷◌, ◌++◌}
 use Rattle.tcc_check.specs.declared.verdict.Rule.{Rule}
 use Rattle.tcc_check.specs.declared.verdict.Verdict.{Verdict}
 use Rattle.tcc_check.specs.declared.verdict.Verdict.TheVariants as verdict

@@ -1,5 +1,5 @@
 -- A certified claim is true, a certificate is certified exactly where all its rules hold, and a rejected one is not.
-use Rattle.std.proofs.Common.{◌≡◌, ◌↔◌, ℕ, ◌⊎◌, inl, inr, List, [], ◌∷◌}
+use Rattle.std.proofs.Common.{ℕ, inl, inr, List, [], ◌∷◌}
 use Rattle.tcc_reads.specs.History.{History}
 use Rattle.tcc_cert.specs.CycleRules.{CycleClaim}
 use Rattle.tcc_cert.specs.Rules.{IsRightCycle, Certifies}

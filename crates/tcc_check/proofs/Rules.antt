@@ -1,5 +1,5 @@
 -- The rules on the tables, each in the words of the searches.
-use Rattle.std.proofs.Common.{◌≡◌, ◌↔◌, ◌<◌, ◌≤◌, ◌+◌, ℕ, ◌⊎◌, inl, inr, List, [], ◌∷◌, ◌++◌, length, arith, refl}
+use Rattle.std.proofs.Common.{◌≡◌, ◌↔◌, ◌<◌, ◌+◌, ℕ, ◌⊎◌, inl, inr, List, [], ◌∷◌, length, arith, refl}
 use Rattle.tcc_reads.specs.History.{History, count}
 use Rattle.tcc_graph.specs.Relations.{IsCausalPair}
 use Rattle.tcc_graph.specs.Links.{MayContradict}
@@ -8,9 +8,9 @@ use Rattle.tcc_cert.specs.CycleRules.{BreaksNearPair, BreaksNearStep, BreaksFarL
 use Rattle.tcc_cert.specs.Rules.{HoldsEverywhere}
 use Rattle.tcc_check.specs.Weights.{unlinked, PairWeighs, LinkWeighs, IsLeastTable, IsLongLink, IsLongStep}
 use Rattle.tcc_check.specs.Searches.{HoldsBelow, IsFirstBelow, IsShortReturn}
-use Rattle.tcc_check.specs.declared.verdict.Rule.TheVariants.{NearPairs, NearSteps, FarLinks, FarSteps, Returns}
+use Rattle.tcc_check.specs.declared.verdict.Rule.TheVariants.{NearPairs, NearSteps, FarLinks, FarSteps}
 use Rattle.tcc_check.specs.declared.verdict.Verdict.{Verdict}
-use Rattle.tcc_check.specs.Verdicts.{Asked, by_places, AllHold, IsAnswer}
+use Rattle.tcc_check.specs.Verdicts.{by_places, IsAnswer}
 use Rattle.tcc_graph.proofs.Pairs.{pair_below}
 use Rattle.tcc_check.proofs.Asked.{two_as}
 use Rattle.tcc_check.proofs.Bounds.{long_link, link_long, long_step, step_long}

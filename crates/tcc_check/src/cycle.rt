@@ -1,5 +1,6 @@
 //! The rules on a claim that a cycle is least.
 ghost use Rattle.std.specs.Prelude.{◌≡◌, ◌≤◌, ◌<◌, ◌↔◌, ◌^◌, [], ◌∷◌, IsTrue, IfOk, length};
+ghost use Rattle.tcc_txn.specs.declared.limits.TheConstants.{MAX_COUNT};
 ghost use Rattle.tcc_reads.specs.History.{count};
 ghost use Rattle.tcc_cert.specs.Tables.{HasSize, IsCapped};
 ghost use Rattle.tcc_cert.specs.CycleRules.{HasRightSizes};
@@ -24,7 +25,7 @@ fn has_right_sizes(
     near: &[Numbers],
     far: &[Numbers],
 ) -> bool
-    ensures few { count graph.now ≤ 1024 }
+    ensures few { count graph.now ≤ MAX_COUNT }
     ensures sizes { IsTrue result ↔ HasRightSizes graph.now (record { links = links.now; least = least; near = near.now; far = far.now }) }
 {
     let count = graph.count() as usize;
@@ -68,7 +69,7 @@ fn bounds_verdict(
     near: &[Numbers],
     far: &[Numbers],
 ) -> Result<Verdict, NoMemory>
-    requires few { count graph.now ≤ 1024 }
+    requires few { count graph.now ≤ MAX_COUNT }
     requires near { HasSize (count graph.now) (count graph.now) near.now }
     requires far { HasSize (count graph.now) (count graph.now) far.now }
     requires near_capped { IsCapped least near.now }
@@ -76,14 +77,14 @@ fn bounds_verdict(
     ensures { IfOk result (IsAnswer (bounds_rules graph.now least near.now far.now)) }
 {
     let pairs = pair_weights(alloc, graph)?;
-    let of_near = table_verdict(alloc, pairs.rows(), near, Rule::NearPairs, Rule::NearSteps)?;
-    if of_near != Verdict::Accepted {
-        return Ok(of_near);
+    match table_verdict(alloc, pairs.rows(), near, Rule::NearPairs, Rule::NearSteps)? {
+        Verdict::Accepted => {}
+        of_near => return Ok(of_near),
     }
     let links = lowered(alloc, graph, near, pairs.rows())?;
-    let of_far = table_verdict(alloc, links.rows(), far, Rule::FarLinks, Rule::FarSteps)?;
-    if of_far != Verdict::Accepted {
-        return Ok(of_far);
+    match table_verdict(alloc, links.rows(), far, Rule::FarLinks, Rule::FarSteps)? {
+        Verdict::Accepted => {}
+        of_far => return Ok(of_far),
     }
     match first_short_return(far, least) {
         Some(start) => Ok(Verdict::Rejected {

@@ -1,5 +1,6 @@
 //! The rules on a claim that a list is a commit order.
 ghost use Rattle.std.specs.Prelude.{ℕ, ◌≡◌, ◌<◌, ◌≤◌, ◌↔◌, ◌^◌, length, slice_index, IsTrue, IfOk, MatchOption};
+ghost use Rattle.tcc_txn.specs.declared.limits.TheConstants.{MAX_COUNT};
 ghost use Rattle.tcc_reads.specs.History.{count};
 ghost use Rattle.tcc_graph.specs.Relations.{IsCausalPair};
 ghost use Rattle.tcc_cert.specs.Tables.{entry, HasSize, IsFirstPlace};
@@ -161,7 +162,7 @@ fn broken_axiom(
     places: &[u32],
     clocks: &[Numbers],
 ) -> Result<Option<(u32, u32)>, NoMemory>
-    requires few { count graph.now ≤ 1024 }
+    requires few { count graph.now ≤ MAX_COUNT }
     requires order { length order.now ≡ count graph.now }
     requires places { ArePlaces order.now places.now }
     requires clocks { length clocks.now ≡ count graph.now }
@@ -177,7 +178,7 @@ fn broken_axiom(
 
 /// Whether the order and the clocks have the size of the history.
 fn has_order_sizes(graph: &Graph, order: &[u32], clocks: &[Numbers]) -> bool
-    ensures few { count graph.now ≤ 1024 }
+    ensures few { count graph.now ≤ MAX_COUNT }
     ensures sizes { IsTrue result ↔ HasOrderSizes graph.now (record { order = order.now; clocks = clocks.now }) }
 {
     let count = graph.count() as usize;
@@ -191,7 +192,7 @@ fn kept_places(
     order: &[u32],
     clocks: &[Numbers],
 ) -> Result<Option<Vec<u32>>, NoMemory>
-    requires few { count graph.now ≤ 1024 }
+    requires few { count graph.now ≤ MAX_COUNT }
     requires sizes { HasOrderSizes graph.now (record { order = order.now; clocks = clocks.now }) }
     ensures { IfOk result (λ found. MatchOption found
         (KeepsPairs graph.now (record { order = order.now; clocks = clocks.now }) → ⊥)

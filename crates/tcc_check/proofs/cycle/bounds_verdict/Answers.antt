@@ -1,21 +1,91 @@
 -- The rules on the one table, then those on the other, then the last.
-use Rattle.std.proofs.Common.{◌<◌, ℕ, inl, inr, List, [], ◌∷◌, ◌++◌, refl, arith}
+use Rattle.std.proofs.Common.{◌<◌, ℕ, inl, List, [], ◌∷◌, ◌++◌, refl, arith, rules}
 use Rattle.tcc_reads.specs.History.{History, count}
 use Rattle.tcc_cert.specs.Tables.{HasSize, IsCapped}
-use Rattle.tcc_check.specs.Weights.{unlinked, PairWeighs, LinkWeighs, AreLowered, IsLeastTable}
+use Rattle.tcc_cert.specs.CycleRules.{BreaksNearPair, BreaksNearStep, BreaksFarLink, BreaksFarStep, BreaksReturn}
+use Rattle.tcc_check.specs.Weights.{unlinked, PairWeighs, AreLowered, IsLeastTable, IsLongLink, IsLongStep}
+use Rattle.tcc_check.specs.declared.verdict.Rule.TheVariants.{NearPairs, NearSteps, FarLinks, FarSteps, Returns}
+use Rattle.tcc_check.specs.declared.verdict.Verdict.{Verdict}
+use Rattle.tcc_check.specs.declared.verdict.Verdict.TheVariants as verdict
+use Rattle.tcc_check.specs.Verdicts.{Asked, by_places, IsAnswer}
 use Rattle.tcc_check.proofs.Bounds.{capped_more, link_table}
-use Rattle.tcc_check.proofs.Rules.{AreKnown, near_answer, far_answer, return_first, return_holds}
+use Rattle.tcc_check.proofs.Rules.{near_answer, far_answer, return_first, return_holds}
 use Rattle.tcc_check.proofs.Asked.{answer_early, answer_later, all_hold}
 use Rattle.tcc_check.proofs.cycle.bounds_verdict.Goals as goal
 
-pub returns-then-ne : goal.returns-then-ne
-returns-then-ne c = ?
+abbrev near_rules : History → List (List ℕ) → List Asked
+near_rules h near = by_places NearPairs (BreaksNearPair h near) ∷ by_places NearSteps (BreaksNearStep h near) ∷ []
 
-pub returns-then-ne-2 : goal.returns-then-ne-2
-returns-then-ne-2 c = ?
+abbrev far_rules : History → List (List ℕ) → List (List ℕ) → List Asked
+far_rules h near far = by_places FarLinks (BreaksFarLink h near far) ∷ by_places FarSteps (BreaksFarStep h near far) ∷ []
+
+abbrev last_rules : History → ℕ → List (List ℕ) → List Asked
+last_rules h least far = by_places Returns (BreaksReturn h least far) ∷ []
+
+of_near : (h : History) (near pairs : List (List ℕ)) (least : ℕ) (answer : Verdict) → least < 4294967296 → HasSize (count h) (count h) near → IsCapped least near → IsLeastTable (count h) (PairWeighs h) pairs
+    → IsAnswer (by_places NearPairs (IsLongLink pairs near) ∷ by_places NearSteps (IsLongStep pairs near) ∷ []) answer → IsAnswer (near_rules h near) answer
+of_near h near pairs least answer fits size cap table said =
+    near_answer h near pairs (record { least = table; long = size.long; cap = capped_more least unlinked near (omega arith) cap }) answer said
+
+of_far : (h : History) (near far pairs links : List (List ℕ)) (least : ℕ) (answer : Verdict) → least < 4294967296 → HasSize (count h) (count h) far → IsCapped least far → IsLeastTable (count h) (PairWeighs h) pairs → AreLowered h near pairs links
+    → IsAnswer (by_places FarLinks (IsLongLink links far) ∷ by_places FarSteps (IsLongStep links far) ∷ []) answer → IsAnswer (far_rules h near far) answer
+of_far h near far pairs links least answer fits size cap table low said =
+    far_answer h near far links (record { least = link_table h near pairs links table low; long = size.long; cap = capped_more least unlinked far (omega arith) cap }) answer said
+
+pub returns-in_default : goal.returns-in_default
+returns-in_default c =
+    let h = c.args.graph.now in
+    let near = c.args.near.now in
+    let far = c.args.far.now in
+    let pairs = c.rows.result.now in
+    let answer = c.in_ok-of_near.of_near in
+    let table : IsLeastTable (count h) (PairWeighs h) pairs = search rules in
+    let said = of_near h near pairs c.args.least answer c.ranges.least.fits c.requires.near c.requires.near_capped table c.in_ok-of_near.ensures in
+    answer_early (near_rules h near) (far_rules h near far ++ last_rules h c.args.least far) answer c.in_default.not-Accepted said
+
+pub returns-in_default-2 : goal.returns-in_default-2
+returns-in_default-2 c =
+    let h = c.args.graph.now in
+    let near = c.args.near.now in
+    let far = c.args.far.now in
+    let pairs = c.rows.result.now in
+    let links = c.rows-3.result.now in
+    let answer = c.in_ok-of_far.of_far in
+    let table : IsLeastTable (count h) (PairWeighs h) pairs = search rules in
+    let low : AreLowered h near pairs links = search rules in
+    let before = of_near h near pairs c.args.least c.in_ok-of_near.of_near c.ranges.least.fits c.requires.near c.requires.near_capped table c.in_ok-of_near.ensures in
+    let hold = all_hold (near_rules h near) c.in_ok-of_near.of_near c.in-Accepted.is before in
+    let said = of_far h near far pairs links c.args.least answer c.ranges.least.fits c.requires.far c.requires.far_capped table low c.in_ok-of_far.ensures in
+    answer_later (near_rules h near) (far_rules h near far ++ last_rules h c.args.least far) answer hold
+    (answer_early (far_rules h near far) (last_rules h c.args.least far) answer c.in_default-2.not-Accepted said)
 
 pub returns-in-Some : goal.returns-in-Some
-returns-in-Some c = ?
+returns-in-Some c =
+    let h = c.args.graph.now in
+    let near = c.args.near.now in
+    let far = c.args.far.now in
+    let pairs = c.rows.result.now in
+    let links = c.rows-3.result.now in
+    let table : IsLeastTable (count h) (PairWeighs h) pairs = search rules in
+    let low : AreLowered h near pairs links = search rules in
+    let before = of_near h near pairs c.args.least c.in_ok-of_near.of_near c.ranges.least.fits c.requires.near c.requires.near_capped table c.in_ok-of_near.ensures in
+    let said = of_far h near far pairs links c.args.least c.in_ok-of_far.of_far c.ranges.least.fits c.requires.far c.requires.far_capped table low c.in_ok-of_far.ensures in
+    let answer = verdict.Rejected Returns (c.in-Some.start, c.in-Some.start) in
+    answer_later (near_rules h near) (far_rules h near far ++ last_rules h c.args.least far) answer (all_hold (near_rules h near) c.in_ok-of_near.of_near c.in-Accepted.is before)
+    (answer_later (far_rules h near far) (last_rules h c.args.least far) answer (all_hold (far_rules h near far) c.in_ok-of_far.of_far c.in-Accepted-2.is said)
+    (inl (refl, return_first h far c.args.least c.requires.far.long c.in-Some.start c.in-Some.ensures)))
 
 pub returns : goal.returns
-returns c = ?
+returns c =
+    let h = c.args.graph.now in
+    let near = c.args.near.now in
+    let far = c.args.far.now in
+    let pairs = c.rows.result.now in
+    let links = c.rows-3.result.now in
+    let table : IsLeastTable (count h) (PairWeighs h) pairs = search rules in
+    let low : AreLowered h near pairs links = search rules in
+    let before = of_near h near pairs c.args.least c.in_ok-of_near.of_near c.ranges.least.fits c.requires.near c.requires.near_capped table c.in_ok-of_near.ensures in
+    let said = of_far h near far pairs links c.args.least c.in_ok-of_far.of_far c.ranges.least.fits c.requires.far c.requires.far_capped table low c.in_ok-of_far.ensures in
+    answer_later (near_rules h near) (far_rules h near far ++ last_rules h c.args.least far) verdict.Accepted (all_hold (near_rules h near) c.in_ok-of_near.of_near c.in-Accepted.is before)
+    (answer_later (far_rules h near far) (last_rules h c.args.least far) verdict.Accepted (all_hold (far_rules h near far) c.in_ok-of_far.of_far c.in-Accepted-2.is said)
+    (return_holds h far c.args.least c.requires.far.long c.in-None.ensures, tt))

@@ -1,5 +1,5 @@
 -- A search of the starts finds the long steps.
-use Rattle.std.proofs.Common.{List, ℕ, inl, inr, refl, rules}
+use Rattle.std.proofs.Common.{inl, inr, refl}
 use Rattle.tcc_check.specs.Searches.{AreStartRows}
 use Rattle.tcc_check.proofs.Bounds.{starts_inside, steps_first, steps_hold}
 use Rattle.tcc_check.proofs.cycle.table_verdict.Goals as goal

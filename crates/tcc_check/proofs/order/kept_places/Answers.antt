@@ -1,5 +1,4 @@
 -- The places keep the pairs exactly where the order and its clocks do.
-use Rattle.std.proofs.Common.{length}
 use Rattle.std.proofs.lemmas.Bool.{iff_false}
 use Rattle.tcc_check.specs.Places.{ArePlaces}
 use Rattle.tcc_check.proofs.Ordered.{pairs_kept, kept_pairs}
