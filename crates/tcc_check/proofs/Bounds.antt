@@ -1,12 +1,15 @@
 -- The rules on the tables, by weights and starts.
 use Rattle.std.proofs.Common.{◌≡◌, ◌≢◌, ◌<◌, ◌≤◌, ◌+◌, ℕ, ◌⊎◌, inl, inr, List, [], length, get_or, arith, sym, subst, ◌∙◌}
+use Rattle.std.specs.Prelude.{All}
 use Rattle.std.specs.List.{Contains}
 use Rattle.std.proofs.lemmas.Bool.{cases_lt}
-use Rattle.std.proofs.lemmas.List.{get_or_past}
+use Rattle.std.proofs.lemmas.List.{get_or_past, get_or_default}
 use Rattle.tcc_reads.specs.History.{History, count}
-use Rattle.tcc_cert.specs.Tables.{entry, row_of, HasSize, IsCapped}
-use Rattle.tcc_check.specs.Weights.{unlinked, PairWeighs, ContradictionWeighs, LinkWeighs, IsLeastRow, IsLeastTable, IsLowered, AreLowered, IsLongLink}
-use Rattle.tcc_check.specs.Searches.{AreStartRows, starts_of, IsLongStartFrom}
+use Rattle.tcc_cert.specs.Tables.{entry, row_of, HasSize, IsCapped, IsFirstPlace}
+use Rattle.tcc_cert.specs.Rules.{HoldsEverywhere}
+use Rattle.tcc_check.specs.Weights.{unlinked, PairWeighs, ContradictionWeighs, LinkWeighs, IsLeastRow, IsLeastTable, IsLowered, AreLowered, IsLongLink, IsLongStep}
+use Rattle.tcc_check.specs.Searches.{AreStartRows, IsLongStartFrom}
+use Rattle.tcc_check.proofs.First.{first_as, nowhere_as}
 
 -- a capped table has nothing above the limit, past its ends neither
 pub entry_capped : (most : ℕ) (table : List (List ℕ)) (a b : ℕ) → IsCapped most table → entry table a b ≤ most
@@ -64,7 +67,38 @@ contradiction_table h table none weights size empty lowered = record {
 
 -- ---- long links and long steps
 
-module _ (n : ℕ) (weighs : ℕ → ℕ → ℕ → Type 0) (weights table : List (List ℕ)) (least : IsLeastTable n weighs weights) (long : length table ≡ n) (cap : (a b : ℕ) → entry table a b ≤ unlinked) where
+-- a table that is wider capped
+pub capped_more : (most more : ℕ) (table : List (List ℕ)) → most ≤ more → IsCapped most table → IsCapped more table
+capped_more most more table le cap a d l b e m = omega (arith, cap a d l b e m)
+
+-- the starts of links are within the table
+pub starts_inside : (weights table : List (List ℕ)) → HasSize (length table) (length table) weights → (starts : List (List (ℕ × ℕ))) → AreStartRows weights starts → All (λ links. All (λ link. link.0 < length table) links) starts
+starts_inside weights table size starts rows k d l j e m =
+    let there : Contains (get_or starts k d) (get_or (get_or starts k d) j e) = (j, m, get_or_default (get_or starts k d) j (get_or (get_or starts k d) j e) e m) in
+    let inside = ((rows.rows k (omega (arith, rows.long))).only (get_or (get_or starts k d) j e) (subst (λ (links : List (ℕ × ℕ)). Contains links (get_or (get_or starts k d) j e)) (get_or_default starts k d [] l) there)).0 in
+    omega (arith, inside, size.wide k [] (omega (arith, rows.long)))
+
+-- a search of the starts finds the long steps
+module _ (weights table : List (List ℕ)) (size : HasSize (length table) (length table) weights) (cap : IsCapped unlinked table) (starts : List (List (ℕ × ℕ))) (rows : AreStartRows weights starts) where
+  step_of_start : (at : ℕ × ℕ) → IsLongStartFrom starts table at → IsLongStep weights table at
+  step_of_start at (l, (m, (link, there, more))) =
+      let here = (rows.rows at.1 (omega (arith, size.long))).only link there in
+      (l, (m, (link.0, omega (arith, here.0, size.wide at.1 [] (omega (arith, size.long))), omega (arith, here.1))))
+
+  start_of_step : (at : ℕ × ℕ) → IsLongStep weights table at → IsLongStartFrom starts table at
+  start_of_step at (l, (m, (u, k, more))) =
+      let linked : entry weights at.1 u ≢ unlinked = λ e. absurd (omega (arith, entry_capped unlinked table at.0 at.1 cap)) in
+      let there = (rows.rows at.1 (omega (arith, size.long))).each u (omega (arith, size.wide at.1 [] (omega (arith, size.long)))) linked in
+      (l, (m, ((u, entry weights at.1 u), there, more)))
+
+  pub steps_first : (at : ℕ × ℕ) → IsFirstPlace (IsLongStartFrom starts table) at → IsFirstPlace (IsLongStep weights table) at
+  steps_first = first_as (IsLongStartFrom starts table) (IsLongStep weights table) step_of_start start_of_step
+
+  pub steps_hold : HoldsEverywhere (IsLongStartFrom starts table) → HoldsEverywhere (IsLongStep weights table)
+  steps_hold = nowhere_as (IsLongStartFrom starts table) (IsLongStep weights table) start_of_step
+
+-- the least weights tell which links and steps are long
+module _ (n : ℕ) (weighs : ℕ → ℕ → ℕ → Type 0) (weights table : List (List ℕ)) (least : IsLeastTable n weighs weights) (long : length table ≡ n) (cap : IsCapped unlinked table) where
   width : (v : ℕ) → v < n → length (row_of weights v) ≡ n
   width v l = least.size.wide v [] (omega (arith, least.size.long))
 
@@ -72,27 +106,18 @@ module _ (n : ℕ) (weighs : ℕ → ℕ → ℕ → Type 0) (weights table : Li
   long_link s v (l, (m, more)) = go ((least.rows v (omega arith)).from s (omega (arith, width v (omega arith))))
     where
       go : (entry weights v s ≡ unlinked) ⊎ weighs v s (entry weights v s) → (w : ℕ) × weighs v s w × (1 + w < entry table s v)
-      go (inl none) = absurd (omega (arith, cap s v))
+      go (inl none) = absurd (omega (arith, entry_capped unlinked table s v cap))
       go (inr p) = (entry weights v s, p, more)
 
   pub link_long : (s v w : ℕ) → s < n → v < n → weighs v s w → 1 + w < entry table s v → IsLongLink weights table (s, v)
   link_long s v w l m p more = let low = (least.rows v m).low s w (omega (arith, width v m)) p in (omega arith, (omega arith, omega arith))
 
-  pub long_step : (starts : List (List (ℕ × ℕ))) → AreStartRows weights starts → (s v : ℕ) → IsLongStartFrom starts table (s, v) → (u w : ℕ) × weighs v u w × (entry table s u + 1 + w < entry table s v)
-  long_step starts rows s v (l, (m, (link, there, more))) =
-      let here = (rows.rows v (omega (arith, least.size.long))).only link there in
-      go here.1 ((least.rows v (omega arith)).from link.0 here.0)
+  pub long_step : (s v : ℕ) → IsLongStep weights table (s, v) → (u w : ℕ) × weighs v u w × (entry table s u + 1 + w < entry table s v)
+  long_step s v (l, (m, (u, k, more))) = go ((least.rows v (omega arith)).from u (omega (arith, width v (omega arith))))
     where
-      go : entry weights v link.0 ≡ link.1 → (entry weights v link.0 ≡ unlinked) ⊎ weighs v link.0 (entry weights v link.0) → (u w : ℕ) × weighs v u w × (entry table s u + 1 + w < entry table s v)
-      go same (inl none) = absurd (omega (arith, cap s v))
-      go same (inr p) = (link.0, link.1, subst (λ z. weighs v link.0 z) same p, more)
+      go : (entry weights v u ≡ unlinked) ⊎ weighs v u (entry weights v u) → (u w : ℕ) × weighs v u w × (entry table s u + 1 + w < entry table s v)
+      go (inl none) = absurd (omega (arith, entry_capped unlinked table s v cap))
+      go (inr p) = (u, entry weights v u, p, more)
 
-  pub step_long : (starts : List (List (ℕ × ℕ))) → AreStartRows weights starts → (s v u w : ℕ) → s < n → v < n → u < n → weighs v u w → entry table s u + 1 + w < entry table s v → IsLongStartFrom starts table (s, v)
-  step_long starts rows s v u w l m k p more =
-      let low = (least.rows v m).low u w (omega (arith, width v m)) p in
-      let linked : entry weights v u ≢ unlinked = λ e. absurd (omega (arith, cap s v)) in
-      let there = (rows.rows v (omega (arith, least.size.long))).each u (omega (arith, width v m)) linked in
-      (omega arith, (omega arith, ((u, entry weights v u), there, omega arith)))
-
-  pub starts_inside : (starts : List (List (ℕ × ℕ))) → AreStartRows weights starts → (v : ℕ) → v < n → (link : ℕ × ℕ) → Contains (starts_of starts v) link → link.0 < length table
-  starts_inside starts rows v l link there = omega (arith, ((rows.rows v (omega (arith, least.size.long))).only link there).0, width v l)
+  pub step_long : (s v u w : ℕ) → s < n → v < n → u < n → weighs v u w → entry table s u + 1 + w < entry table s v → IsLongStep weights table (s, v)
+  step_long s v u w l m k p more = let low = (least.rows v m).low u w (omega (arith, width v m)) p in (omega arith, (omega arith, (u, omega arith, omega arith)))

@@ -1,12 +1,14 @@
--- A certified claim is true, and a rejected one is not certified.
-use Rattle.std.proofs.Common.{◌≡◌, ℕ, ◌⊎◌, inl, inr}
+-- A certified claim is true, a certificate is certified exactly where all its rules hold, and a rejected one is not.
+use Rattle.std.proofs.Common.{ℕ, inl, inr, List, [], ◌∷◌}
 use Rattle.tcc_reads.specs.History.{History}
 use Rattle.tcc_cert.specs.CycleRules.{CycleClaim}
-use Rattle.tcc_cert.specs.OrderRules.{OrderClaim}
-use Rattle.tcc_cert.specs.Rules.{CertifiesCycle, CertifiesOrder, Certifies}
+use Rattle.tcc_cert.specs.Rules.{IsRightCycle, Certifies}
 use Rattle.tcc_cert.specs.declared.certificate.Certificate.{Certificate}
 use Rattle.tcc_cert.specs.declared.certificate.Certificate.TheVariants as claim
-use Rattle.tcc_check.specs.Verdicts.{IsCycleFault, IsBoundsRefusal, IsCycleRefusal, IsOrderRefusal, IsRejected, IsTrueClaim}
+use Rattle.tcc_check.specs.declared.verdict.Rule.{Rule}
+use Rattle.tcc_check.specs.declared.verdict.Verdict.{Verdict}
+use Rattle.tcc_check.specs.declared.verdict.Verdict.TheVariants as verdict
+use Rattle.tcc_check.specs.Verdicts.{Asked, AllHold, IsFirstBroken, IsAnswer, IsCycleFault, IsVerdict, IsRejected, IsTrueClaim, rules_of}
 use Rattle.tcc_check.proofs.CertifiedCycle.{least_cycle}
 use Rattle.tcc_check.proofs.CertifiedOrder.{commit_order}
 
@@ -14,27 +16,55 @@ pub true_claim : (h : History) (k : Certificate) → Certifies h k → IsTrueCla
 true_claim h (claim.Order order clocks) good = commit_order h (record { order = order; clocks = clocks }) good
 true_claim h (claim.Cycle links least near far) good = least_cycle h (record { links = links; least = least; near = near; far = far }) good
 
-fault_false : (h : History) (k : CycleClaim) (at : ℕ × ℕ) → IsCycleFault h k at → CertifiesCycle h k → ⊥
-fault_false h k at (inl f) good = good.cycle.right at.0 f.0
-fault_false h k at (inr f) good = f.1.1 good.cycle
+-- ---- the rules in a list, and as one record
 
-bounds_false : (h : History) (k : CycleClaim) (rule : ℕ) (at : ℕ × ℕ) → IsBoundsRefusal h k.least k.near k.far rule at → CertifiesCycle h k → ⊥
-bounds_false h k rule at (inl f) good = good.near_pairs at f.1.here
-bounds_false h k rule at (inr (a, inl f)) good = good.near_steps at f.1.here
-bounds_false h k rule at (inr (a, inr (b, inl f))) good = good.far_links at f.1.here
-bounds_false h k rule at (inr (a, inr (b, inr (c, inl f)))) good = good.far_steps at f.1.here
-bounds_false h k rule at (inr (a, inr (b, inr (c, inr (d, f))))) good = good.returns at f.1.here
+pub all_hold : (h : History) (k : Certificate) → Certifies h k → AllHold (rules_of h k)
+all_hold h (claim.Order order clocks) good = (good.sizes, (good.pairs, (good.axiom_of, tt)))
+all_hold h (claim.Cycle links least near far) good =
+    (good.sizes, (good.cycle, (good.near_pairs, (good.near_steps, (good.far_links, (good.far_steps, (good.returns, tt)))))))
 
-cycle_false : (h : History) (k : CycleClaim) (rule : ℕ) (at : ℕ × ℕ) → IsCycleRefusal h k rule at → CertifiesCycle h k → ⊥
-cycle_false h k rule at (inl f) good = f.1.1 good.sizes
-cycle_false h k rule at (inr (s, inl f)) good = fault_false h k at f.1 good
-cycle_false h k rule at (inr (s, inr (c, f))) good = bounds_false h k rule at f good
+pub certified_by : (h : History) (k : Certificate) → AllHold (rules_of h k) → Certifies h k
+certified_by h (claim.Order order clocks) all = record { sizes = all.0; pairs = all.1.0; axiom_of = all.1.1.0 }
+certified_by h (claim.Cycle links least near far) all = record {
+  sizes = all.0;
+  cycle = all.1.0;
+  near_pairs = all.1.1.0;
+  near_steps = all.1.1.1.0;
+  far_links = all.1.1.1.1.0;
+  far_steps = all.1.1.1.1.1.0;
+  returns = all.1.1.1.1.1.1.0;
+}
 
-order_false : (h : History) (k : OrderClaim) (rule : ℕ) (at : ℕ × ℕ) → IsOrderRefusal h k rule at → CertifiesOrder h k → ⊥
-order_false h k rule at (inl f) good = f.1.1 good.sizes
-order_false h k rule at (inr (s, inl f)) good = f.1.1 good.pairs
-order_false h k rule at (inr (s, inr (p, f))) good = good.axiom_of at f.1.here
+-- what the rules answer is the verdict
+pub verdict_of : (h : History) (k : Certificate) (answer : Verdict) → IsAnswer (rules_of h k) answer → IsVerdict h k answer
+verdict_of h k verdict.Accepted said = certified_by h k said
+verdict_of h k (verdict.Rejected rule at) said = said
 
-pub rejected_false : (h : History) (k : Certificate) (rule : ℕ) (at : ℕ × ℕ) → IsRejected h k rule at → Certifies h k → ⊥
-rejected_false h (claim.Order order clocks) rule at f good = order_false h (record { order = order; clocks = clocks }) rule at f good
-rejected_false h (claim.Cycle links least near far) rule at f good = cycle_false h (record { links = links; least = least; near = near; far = far }) rule at f good
+-- ---- a rule that is broken does not hold
+
+-- of each rule of a list
+abbrev ArePlain : List Asked → Type 0
+ArePlain [] = Unit {0}
+ArePlain (asked ∷ later) = ((at : ℕ × ℕ) → asked.broken at → asked.holds → ⊥) × ArePlain later
+
+broken_false : (rules : List Asked) → ArePlain rules → (rule : Rule) (at : ℕ × ℕ) → IsFirstBroken rules rule at → AllHold rules → ⊥
+broken_false [] plain rule at broken all = broken
+broken_false (asked ∷ later) plain rule at (inl here) all = plain.0 at here.1 all.0
+broken_false (asked ∷ later) plain rule at (inr behind) all = broken_false later plain.1 rule at behind.1 all.1
+
+fault_false : (h : History) (k : CycleClaim) (at : ℕ × ℕ) → IsCycleFault h k at → IsRightCycle h k → ⊥
+fault_false h k at (inl f) right = right.right at.0 f.0
+fault_false h k at (inr f) right = f.1.1 right
+
+plain : (h : History) (k : Certificate) → ArePlain (rules_of h k)
+plain h (claim.Order order clocks) = (λ at b. b.1, (λ at b. b.1, (λ at b holds. holds at b.here, tt)))
+plain h (claim.Cycle links least near far) = (
+  λ at b. b.1,
+  (
+    fault_false h (record { links = links; least = least; near = near; far = far }),
+    (λ at b holds. holds at b.here, (λ at b holds. holds at b.here, (λ at b holds. holds at b.here, (λ at b holds. holds at b.here, (λ at b holds. holds at b.here, tt))))),
+  ),
+)
+
+pub rejected_false : (h : History) (k : Certificate) (rule : Rule) (at : ℕ × ℕ) → IsRejected h k rule at → Certifies h k → ⊥
+rejected_false h k rule at broken good = broken_false (rules_of h k) (plain h k) rule at broken (all_hold h k good)

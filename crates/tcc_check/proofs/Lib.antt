@@ -11,6 +11,7 @@ pub mod Linked
 pub mod Placed
 pub mod Gaps
 pub mod Bounds
+pub mod Asked
 pub mod Rules
 pub mod Ordered
 pub mod Written

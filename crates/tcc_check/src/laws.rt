@@ -1,5 +1,5 @@
 //! The law that what a certificate claims is true where it keeps the rules.
-ghost use Rattle.std.specs.Prelude.{ℕ, ◌≡◌};
+ghost use Rattle.std.specs.Prelude.{ℕ, ◌≡◌, ◌↔◌};
 ghost use Rattle.tcc_reads.specs.History.{History};
 ghost use Rattle.tcc_graph.specs.Links.{cost};
 ghost use Rattle.tcc_graph.specs.Routes.{IsLeastCycle};
@@ -8,7 +8,8 @@ ghost use Rattle.tcc_cert.specs.CycleRules.{CycleClaim};
 ghost use Rattle.tcc_cert.specs.OrderRules.{OrderClaim};
 ghost use Rattle.tcc_cert.specs.Rules.{CertifiesCycle, CertifiesOrder, Certifies};
 ghost use Rattle.tcc_cert.specs.declared.certificate.Certificate.{Certificate};
-ghost use Rattle.tcc_check.specs.Verdicts.{IsRejected, IsTrueClaim};
+ghost use Rattle.tcc_check.specs.declared.verdict.Rule.{Rule};
+ghost use Rattle.tcc_check.specs.Verdicts.{AllHold, IsRejected, IsTrueClaim, rules_of};
 
 /// The links of a certified cycle are a least cycle, and cost what is claimed.
 pub fn certified_cycle()
@@ -25,7 +26,12 @@ pub fn certified()
     ensures { (h : History) (k : Certificate) → Certifies h k → IsTrueClaim h k }
 {}
 
+/// A certificate keeps the rules exactly where each rule of the list for its claim holds.
+pub fn rules_in_turn()
+    ensures { (h : History) (k : Certificate) → Certifies h k ↔ AllHold (rules_of h k) }
+{}
+
 /// A certificate of which a rule is named as broken does not keep them all.
 pub fn rejected()
-    ensures { (h : History) (k : Certificate) (rule : ℕ) (at : ℕ × ℕ) → IsRejected h k rule at → Certifies h k → ⊥ }
+    ensures { (h : History) (k : Certificate) (rule : Rule) (at : ℕ × ℕ) → IsRejected h k rule at → Certifies h k → ⊥ }
 {}

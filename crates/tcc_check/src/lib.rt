@@ -14,7 +14,7 @@ mod verdict;
 mod weights;
 
 pub use judging::check;
-pub use verdict::Verdict;
+pub use verdict::{Rule, Verdict};
 
 #[cfg(test)]
 mod tests;

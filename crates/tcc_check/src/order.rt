@@ -1,17 +1,18 @@
 //! The rules on a claim that a list is a commit order.
 ghost use Rattle.std.specs.Prelude.{ℕ, ◌≡◌, ◌<◌, ◌≤◌, ◌↔◌, ◌^◌, length, slice_index, IsTrue, IfOk, MatchOption};
+ghost use Rattle.tcc_txn.specs.declared.limits.TheConstants.{MAX_COUNT};
 ghost use Rattle.tcc_reads.specs.History.{count};
 ghost use Rattle.tcc_graph.specs.Relations.{IsCausalPair};
 ghost use Rattle.tcc_cert.specs.Tables.{entry, HasSize, IsFirstPlace};
-ghost use Rattle.tcc_cert.specs.OrderRules.{MayReach, KeepsPairs, BreaksAxiom};
+ghost use Rattle.tcc_cert.specs.OrderRules.{MayReach, HasOrderSizes, KeepsPairs, BreaksAxiom};
 ghost use Rattle.tcc_cert.specs.Rules.{HoldsEverywhere};
 ghost use Rattle.tcc_check.specs.Searches.{HoldsBelow, IsFirstBelow};
 ghost use Rattle.tcc_check.specs.Places.{ArePlaces, IsKept, AreGaps, IsUnordered};
-ghost use Rattle.tcc_check.specs.Verdicts.{IsOrderVerdict};
+ghost use Rattle.tcc_check.specs.Verdicts.{IsAnswer, order_rules};
 
-use crate::Verdict;
 use crate::places::places_of;
 use crate::sizes::has_size;
+use crate::verdict::{Rule, Verdict, rejected};
 use crate::weights::{lowered, no_weights};
 use std::alloc::Global;
 use tcc_cert::{Numbers, Table};
@@ -161,7 +162,7 @@ fn broken_axiom(
     places: &[u32],
     clocks: &[Numbers],
 ) -> Result<Option<(u32, u32)>, NoMemory>
-    requires few { count graph.now ≤ 1024 }
+    requires few { count graph.now ≤ MAX_COUNT }
     requires order { length order.now ≡ count graph.now }
     requires places { ArePlaces order.now places.now }
     requires clocks { length clocks.now ≡ count graph.now }
@@ -175,6 +176,37 @@ fn broken_axiom(
     Ok(first_unordered(places, weights.rows()))
 }
 
+/// Whether the order and the clocks have the size of the history.
+fn has_order_sizes(graph: &Graph, order: &[u32], clocks: &[Numbers]) -> bool
+    ensures few { count graph.now ≤ MAX_COUNT }
+    ensures sizes { IsTrue result ↔ HasOrderSizes graph.now (record { order = order.now; clocks = clocks.now }) }
+{
+    let count = graph.count() as usize;
+    order.len() == count && has_size(clocks, count, graph.sessions().len())
+}
+
+/// The place of each number, none where a number is there twice or a causal pair is not kept.
+fn kept_places(
+    alloc: Global,
+    graph: &Graph,
+    order: &[u32],
+    clocks: &[Numbers],
+) -> Result<Option<Vec<u32>>, NoMemory>
+    requires few { count graph.now ≤ MAX_COUNT }
+    requires sizes { HasOrderSizes graph.now (record { order = order.now; clocks = clocks.now }) }
+    ensures { IfOk result (λ found. MatchOption found
+        (KeepsPairs graph.now (record { order = order.now; clocks = clocks.now }) → ⊥)
+        (λ places. ArePlaces order.now places.items × KeepsPairs graph.now (record { order = order.now; clocks = clocks.now }))) }
+{
+    let Some(places) = places_of(alloc, order)? else {
+        return Ok(None);
+    };
+    if !keeps_pairs(graph, &places, clocks) {
+        return Ok(None);
+    }
+    Ok(Some(places))
+}
+
 /// Judges a claim that a list is a commit order.
 pub(crate) fn order_verdict(
     alloc: Global,
@@ -182,29 +214,19 @@ pub(crate) fn order_verdict(
     order: &[u32],
     clocks: &[Numbers],
 ) -> Result<Verdict, NoMemory>
-    ensures { IfOk result (IsOrderVerdict graph.now (record { order = order.now; clocks = clocks.now })) }
+    ensures { IfOk result (IsAnswer (order_rules graph.now (record { order = order.now; clocks = clocks.now }))) }
 {
-    let count = graph.count() as usize;
-    if order.len() != count || !has_size(clocks, count, graph.sessions().len()) {
-        return Ok(Verdict::Rejected {
-            rule: 1,
-            at: (0, 0),
-        });
+    if !has_order_sizes(graph, order, clocks) {
+        return Ok(rejected(Rule::Sizes, 0));
     }
-    let Some(places) = places_of(alloc, order)? else {
-        return Ok(Verdict::Rejected {
-            rule: 8,
-            at: (0, 0),
-        });
+    let Some(places) = kept_places(alloc, graph, order, clocks)? else {
+        return Ok(rejected(Rule::Pairs, 0));
     };
-    if !keeps_pairs(graph, &places, clocks) {
-        return Ok(Verdict::Rejected {
-            rule: 8,
-            at: (0, 0),
-        });
-    }
     match broken_axiom(alloc, graph, order, &places, clocks)? {
-        Some(at) => Ok(Verdict::Rejected { rule: 9, at }),
+        Some(at) => Ok(Verdict::Rejected {
+            rule: Rule::Axiom,
+            at,
+        }),
         None => Ok(Verdict::Accepted),
     }
 }

@@ -1,5 +1,5 @@
 //! Worked certificates, accepted and altered, with verdicts worked out by hand from the rules.
-use crate::{Verdict, check};
+use crate::{Rule, Verdict, check};
 use std::alloc::Global;
 use std::process::Abort;
 use tcc_cert::{Certificate, Links, Numbers, Table};
@@ -114,7 +114,7 @@ fn assert_verdict(
     }
 }
 
-fn rejected(rule: u32, row: u32, column: u32) -> Verdict {
+fn rejected(rule: Rule, row: u32, column: u32) -> Verdict {
     Verdict::Rejected {
         rule,
         at: (row, column),
@@ -154,17 +154,17 @@ fn a_stale_read(rt: HostRuntime) {
     let good = stale(&rt, alloc, 1, near, far);
     assert_verdict(&rt, alloc, STALE, good, Verdict::Accepted);
     let elsewhere = stale(&rt, alloc, 2, near, far);
-    assert_verdict(&rt, alloc, STALE, elsewhere, rejected(2, 2, 0));
+    assert_verdict(&rt, alloc, STALE, elsewhere, rejected(Rule::Links, 2, 0));
     let low = stale(&rt, alloc, 1, &[&[3, 2, 1], &[3, 3, 1], &[3, 3, 3]], far);
-    assert_verdict(&rt, alloc, STALE, low, rejected(3, 0, 1));
+    assert_verdict(&rt, alloc, STALE, low, rejected(Rule::NearPairs, 0, 1));
     let dear = stale(&rt, alloc, 1, near, &[&[3, 1, 1], &[3, 3, 1], &[3, 3, 3]]);
-    assert_verdict(&rt, alloc, STALE, dear, rejected(5, 1, 0));
+    assert_verdict(&rt, alloc, STALE, dear, rejected(Rule::FarLinks, 1, 0));
     let cheap = stale(&rt, alloc, 1, near, &[&[3, 1, 1], &[2, 3, 1], &[3, 3, 2]]);
-    assert_verdict(&rt, alloc, STALE, cheap, rejected(7, 2, 2));
+    assert_verdict(&rt, alloc, STALE, cheap, rejected(Rule::Returns, 2, 2));
     let short = stale(&rt, alloc, 1, near, &[&[3, 1, 1], &[2, 3, 1]]);
-    assert_verdict(&rt, alloc, STALE, short, rejected(1, 0, 0));
+    assert_verdict(&rt, alloc, STALE, short, rejected(Rule::Sizes, 0, 0));
     let above = stale(&rt, alloc, 1, near, &[&[3, 1, 1], &[2, 4, 1], &[3, 3, 3]]);
-    assert_verdict(&rt, alloc, STALE, above, rejected(1, 0, 0));
+    assert_verdict(&rt, alloc, STALE, above, rejected(Rule::Sizes, 0, 0));
 }
 
 /// A transaction that is none of the history, among the steps of a walk.
@@ -179,7 +179,7 @@ fn a_number_out_of_range(rt: HostRuntime) {
     };
     let certificate = cycle(alloc, links, 1, near, far);
     let one = "a,begin\na,commit\n";
-    assert_verdict(&rt, alloc, one, certificate, rejected(1, 0, 0));
+    assert_verdict(&rt, alloc, one, certificate, rejected(Rule::Sizes, 0, 0));
 }
 
 fn read(rt: &impl Abort, from: u32, to: u32, key: &str) -> Link {
@@ -207,7 +207,7 @@ fn crossed_reads(rt: HostRuntime) {
     let good = cycle(alloc, links, 2, near, far);
     assert_verdict(&rt, alloc, records, good, Verdict::Accepted);
     let none = cycle(alloc, Vec::new(alloc), 2, near, far);
-    assert_verdict(&rt, alloc, records, none, rejected(2, 0, 0));
+    assert_verdict(&rt, alloc, records, none, rejected(Rule::Links, 0, 0));
 }
 
 /// A derived link by x, read by 3, whose walk is one read.
@@ -240,7 +240,7 @@ fn a_torn_read(rt: HostRuntime) {
     assert_verdict(&rt, alloc, TORN, good, Verdict::Accepted);
     let near: &[&[u32]] = &[&[4, 1, 1, 1], &[4, 4, 1, 1], &[4, 2, 4, 1], &[4, 4, 4, 4]];
     let altered = torn(&rt, alloc, near);
-    assert_verdict(&rt, alloc, TORN, altered, rejected(6, 1, 1));
+    assert_verdict(&rt, alloc, TORN, altered, rejected(Rule::FarSteps, 1, 1));
 }
 
 fn relayed_links(rt: &impl Abort, alloc: Global) -> Result<Vec<Link>, NoMemory> {
@@ -298,11 +298,11 @@ fn a_relayed_write(rt: HostRuntime) {
     let good = relayed(&rt, alloc, 5, second);
     assert_verdict(&rt, alloc, RELAYED, good, Verdict::Accepted);
     let low = relayed(&rt, alloc, 4, second);
-    assert_verdict(&rt, alloc, RELAYED, low, rejected(1, 0, 0));
+    assert_verdict(&rt, alloc, RELAYED, low, rejected(Rule::Sizes, 0, 0));
     let high = relayed(&rt, alloc, 6, second);
-    assert_verdict(&rt, alloc, RELAYED, high, rejected(2, 0, 0));
+    assert_verdict(&rt, alloc, RELAYED, high, rejected(Rule::Links, 0, 0));
     let far = relayed(&rt, alloc, 5, &[5, 5, 1, 2, 4]);
-    assert_verdict(&rt, alloc, RELAYED, far, rejected(4, 1, 4));
+    assert_verdict(&rt, alloc, RELAYED, far, rejected(Rule::NearSteps, 1, 4));
 }
 
 #[test]
@@ -314,11 +314,11 @@ fn orders(rt: HostRuntime) {
     let in_turn = order(alloc, &[0, 1, 2], &[&[0], &[0], &[1]]);
     assert_verdict(&rt, alloc, two, in_turn, Verdict::Accepted);
     let behind = order(alloc, &[0, 1, 2], &[&[0], &[0], &[0]]);
-    assert_verdict(&rt, alloc, two, behind, rejected(8, 0, 0));
+    assert_verdict(&rt, alloc, two, behind, rejected(Rule::Pairs, 0, 0));
     let twice = order(alloc, &[0, 1, 1], &[&[0], &[0], &[1]]);
-    assert_verdict(&rt, alloc, two, twice, rejected(8, 0, 0));
+    assert_verdict(&rt, alloc, two, twice, rejected(Rule::Pairs, 0, 0));
     let short = order(alloc, &[0, 1], &[&[0], &[0], &[1]]);
-    assert_verdict(&rt, alloc, two, short, rejected(1, 0, 0));
+    assert_verdict(&rt, alloc, two, short, rejected(Rule::Sizes, 0, 0));
     let aborted = "a,begin\na,w,x,9\na,abort\na,begin\na,w,x,1\na,commit\n";
     let alone = order(alloc, &[0, 1], &[&[0], &[0]]);
     assert_verdict(&rt, alloc, aborted, alone, Verdict::Accepted);
@@ -343,7 +343,7 @@ fn a_fork(rt: HostRuntime) {
     let good = forked(alloc, &[0, 1, 2, 3, 4], third);
     assert_verdict(&rt, alloc, FORKED, good, Verdict::Accepted);
     let early = forked(alloc, &[0, 3, 1, 2, 4], third);
-    assert_verdict(&rt, alloc, FORKED, early, rejected(8, 0, 0));
+    assert_verdict(&rt, alloc, FORKED, early, rejected(Rule::Pairs, 0, 0));
     let reached = forked(alloc, &[0, 1, 2, 3, 4], &[1, 1, 0, 0]);
-    assert_verdict(&rt, alloc, FORKED, reached, rejected(9, 2, 0));
+    assert_verdict(&rt, alloc, FORKED, reached, rejected(Rule::Axiom, 2, 0));
 }

@@ -1,10 +1,67 @@
-//! What is answered of a certificate.
+//! What is answered of a certificate, and the rules that it names.
+ghost use Rattle.std.specs.Prelude.{◌≡◌};
+ghost use Rattle.tcc_check.specs.Verdicts.{rule_number};
+ghost use Rattle.tcc_check.specs.declared.verdict.Verdict.TheVariants as verdict;
+
+/// The rules, in the order in which they are judged. Of a claim that a cycle is least the first seven are asked, of a
+/// claim that a list is a commit order the first and the last two.
+#[derive(Clone, Copy, Debug, PartialEq, Eq)]
+pub enum Rule {
+    /// The tables have the sizes of the history, and no number is out of its range.
+    Sizes,
+    /// The links are those of the history, one at least, close a cycle, and cost what is claimed.
+    Links,
+    /// Causal pairs are no farther than 1.
+    NearPairs,
+    /// One more causal pair takes no more than one more step.
+    NearSteps,
+    /// A single link takes no more than it costs.
+    FarLinks,
+    /// One more link takes no more than it costs.
+    FarSteps,
+    /// No way back is cheaper than the cycle.
+    Returns,
+    /// Each number stands in the order once, and every causal pair is kept, by the clocks too.
+    Pairs,
+    /// What is contradicted, as far as the clocks tell, stands behind what contradicts it.
+    Axiom,
+}
+
+impl Rule {
+    /// The rule's number, from 1 to 9.
+    pub fn number(&self) -> u32
+        ensures { result ≡ rule_number self.now }
+    {
+        match self {
+            Rule::Sizes => 1,
+            Rule::Links => 2,
+            Rule::NearPairs => 3,
+            Rule::NearSteps => 4,
+            Rule::FarLinks => 5,
+            Rule::FarSteps => 6,
+            Rule::Returns => 7,
+            Rule::Pairs => 8,
+            Rule::Axiom => 9,
+        }
+    }
+}
 
 /// What the rules say of a certificate.
 #[derive(Clone, Copy, Debug, PartialEq, Eq)]
 pub enum Verdict {
     /// All of them hold, and so the claim is true.
     Accepted,
-    /// This is the first broken rule, and the first place where it is broken.
-    Rejected { rule: u32, at: (u32, u32) },
+    /// This is the first broken rule, and the first place where it is broken: two transactions; of `Links` the number
+    /// of the first wrong link, from 1, and 0; and 0 and 0 where the rule has no places.
+    Rejected { rule: Rule, at: (u32, u32) },
+}
+
+/// The verdict that this rule is the first broken one, of a rule that has no places or counts them from 1.
+pub(crate) fn rejected(rule: Rule, place: u32) -> Verdict
+    ensures { result ≡ verdict.Rejected rule (place, 0) }
+{
+    Verdict::Rejected {
+        rule,
+        at: (place, 0),
+    }
 }

@@ -1,0 +1,35 @@
+-- Rules asked one after the other, and the same rules in other words.
+use Rattle.std.proofs.Common.{◌≡◌, ◌↔◌, refl, ℕ, inl, inr, List, [], ◌∷◌, ◌++◌}
+use Rattle.tcc_check.specs.declared.verdict.Rule.{Rule}
+use Rattle.tcc_check.specs.declared.verdict.Verdict.{Verdict}
+use Rattle.tcc_check.specs.declared.verdict.Verdict.TheVariants as verdict
+use Rattle.tcc_check.specs.Verdicts.{Asked, by_places, AllHold, IsFirstBroken, IsAnswer}
+use Rattle.tcc_check.proofs.First.{first_as, nowhere_as}
+
+-- later rules change nothing where one of the first is broken
+pub broken_early : (rules later : List Asked) (rule : Rule) (at : ℕ × ℕ) → IsFirstBroken rules rule at → IsFirstBroken (rules ++ later) rule at
+broken_early [] later rule at broken = absurd broken
+broken_early (asked ∷ rules) later rule at (inl here) = inl here
+broken_early (asked ∷ rules) later rule at (inr behind) = inr (behind.0, broken_early rules later rule at behind.1)
+
+pub answer_early : (rules later : List Asked) (answer : Verdict) → (answer ≡ verdict.Accepted → ⊥) → IsAnswer rules answer → IsAnswer (rules ++ later) answer
+answer_early rules later verdict.Accepted refused said = absurd (refused refl)
+answer_early rules later (verdict.Rejected rule at) refused said = broken_early rules later rule at said
+
+-- where the first all hold, the later ones answer
+pub answer_later : (rules later : List Asked) (answer : Verdict) → AllHold rules → IsAnswer later answer → IsAnswer (rules ++ later) answer
+answer_later [] later answer hold said = said
+answer_later (asked ∷ rules) later verdict.Accepted hold said = (hold.0, answer_later rules later verdict.Accepted hold.1 said)
+answer_later (asked ∷ rules) later (verdict.Rejected rule at) hold said = inr (hold.0, answer_later rules later (verdict.Rejected rule at) hold.1 said)
+
+pub all_hold : (rules : List Asked) (answer : Verdict) → answer ≡ verdict.Accepted → IsAnswer rules answer → AllHold rules
+all_hold rules verdict.Accepted accepted said = said
+all_hold rules (verdict.Rejected rule at) accepted said = absurd cc
+
+-- the same places of two rules by other words
+module _ (a b : Rule) (P Q P' Q' : ℕ × ℕ → Type 0) (p : (at : ℕ × ℕ) → P at ↔ P' at) (q : (at : ℕ × ℕ) → Q at ↔ Q' at) where
+  pub two_as : (answer : Verdict) → IsAnswer (by_places a P ∷ by_places b Q ∷ []) answer → IsAnswer (by_places a P' ∷ by_places b Q' ∷ []) answer
+  two_as verdict.Accepted said = (nowhere_as P P' (λ at. (p at).1) said.0, (nowhere_as Q Q' (λ at. (q at).1) said.1.0, tt))
+  two_as (verdict.Rejected rule at) (inl here) = inl (here.0, first_as P P' (λ at. (p at).0) (λ at. (p at).1) at here.1)
+  two_as (verdict.Rejected rule at) (inr (holds, inl here)) = inr (nowhere_as P P' (λ at. (p at).1) holds, inl (here.0, first_as Q Q' (λ at. (q at).0) (λ at. (q at).1) at here.1))
+  two_as (verdict.Rejected rule at) (inr (holds, inr none)) = absurd none.1

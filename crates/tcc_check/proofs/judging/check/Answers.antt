@@ -1,0 +1,23 @@
+-- What the rules answer is the verdict.
+use Rattle.std.proofs.Common.{Result, Ok, Err}
+use Rattle.std.specs.Prelude.{IfOk}
+use Rattle.tcc_reads.specs.History.{History}
+use Rattle.tcc_cert.specs.declared.certificate.Certificate.{Certificate}
+use Rattle.tcc_check.specs.declared.verdict.Verdict.{Verdict}
+use Rattle.tcc_check.specs.Verdicts.{IsAnswer, IsVerdict, rules_of}
+use Rattle.tcc_check.proofs.Claims.{verdict_of}
+use Rattle.tcc_check.proofs.judging.check.Goals as goal
+
+judged : {E : Type 0} (h : History) (k : Certificate) (result : Result Verdict E) → IfOk result (IsAnswer (rules_of h k)) → IfOk result (IsVerdict h k)
+judged h k (Ok answer) said = verdict_of h k answer said
+judged h k (Err e) said = said
+
+pub returns-in-Order : goal.returns-in-Order
+returns-in-Order c =
+    let said : IfOk c.order_verdict.result (IsAnswer (rules_of c.args.graph.now c.args.certificate.now)) = rw (c.in-Order.is, ← c.as_slice.ensures, ← c.rows.ensures) c.order_verdict.ensures in
+    judged c.args.graph.now c.args.certificate.now c.order_verdict.result said
+
+pub returns-in-Cycle : goal.returns-in-Cycle
+returns-in-Cycle c =
+    let said : IfOk c.cycle_verdict.result (IsAnswer (rules_of c.args.graph.now c.args.certificate.now)) = rw (c.in-Cycle.is, ← c.as_slice-in-Cycle.ensures, ← c.rows-in-Cycle.ensures, ← c.rows-in-Cycle-2.ensures) c.cycle_verdict.ensures in
+    judged c.args.graph.now c.args.certificate.now c.cycle_verdict.result said
