@@ -1,3 +1,1 @@
 //! Worked answers, with expected values worked out by hand.
-mod certificates;
-mod explaining;
