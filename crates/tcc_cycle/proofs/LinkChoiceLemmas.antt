@@ -14,12 +14,12 @@ use Rattle.tcc_graph.specs.Links.{IsReason}
 use Rattle.tcc_graph.specs.Ties.{link_cmp}
 use Rattle.tcc_graph.specs.declared.link.Link.{Link}
 use Rattle.tcc_graph.specs.declared.link.Link.TheVariants as link
+use Rattle.tcc_graph.proofs.Linking.{some_cost}
 use Rattle.tcc_derive.specs.Prices.{IsDerived, IsLinkOf}
 use Rattle.tcc_derive.specs.Reasons.{IsFirstReason}
 use Rattle.tcc_derive.specs.Backwards.{IsFirstName}
 use Rattle.tcc_derive.proofs.StepLemmas.{not_above}
 use Rattle.tcc_cycle.specs.Ways.{IsFirstLink}
-use Rattle.tcc_cycle.proofs.CycleLemmas.{some_cost}
 
 -- without a session pair, the read of the first key
 pub reads_first : (h : History) (a b : ℕ) (x : List ℕ) → a < count h → b < count h → session_pair h a b ≡ false → IsFirstName (reads_from h a b) x → IsFirstLink h a b (link.Reads a b x)

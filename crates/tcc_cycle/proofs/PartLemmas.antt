@@ -12,16 +12,9 @@ use Rattle.tcc_graph.specs.Ties.{walk_cmp, IsFirstCycle}
 use Rattle.tcc_graph.specs.declared.step.Step.{Step}
 use Rattle.tcc_graph.specs.declared.link.Link.{Link}
 use Rattle.tcc_graph.specs.declared.link.Link.TheVariants as link
+use Rattle.tcc_graph.proofs.Linking.{derived_cost, cost_cons, cost_append, cost_around, lead_append, lead_split, lead_end}
 use Rattle.tcc_derive.specs.Backwards.{IsFirstWalk}
-use Rattle.tcc_derive.proofs.PriceLemmas.{derived_cost}
-use Rattle.tcc_core.proofs.LinkLemmas.{cost_cons, cost_append, lead_append}
-use Rattle.tcc_cycle.proofs.CycleLemmas.{lead_split, cost_around}
 use Rattle.tcc_cycle.proofs.PickedLemmas.{first_lowest, picked_from_first}
-
--- links that start at one number lead to one end
-lead_end : (h : History) (a b c : ℕ) (links : List Link) → LinksLead h a b links → LinksLead h a c links → b ≡ c
-lead_end h a b c [] p q = sym p ∙ q
-lead_end h a b c (l ∷ links) p q = lead_end h (link_to l) b c links p.2 q.2
 
 start_same : (h : History) (a b c d : ℕ) (links : List Link) → 0 < length links → LinksLead h a c links → LinksLead h b d links → (a ≡ b) × (c ≡ d)
 start_same h a b c d [] some p q = absurd (omega arith)

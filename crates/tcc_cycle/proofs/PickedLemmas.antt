@@ -11,10 +11,12 @@ use Rattle.tcc_graph.specs.Links.{link_to, cost}
 use Rattle.tcc_graph.specs.Routes.{IsLeastCycle}
 use Rattle.tcc_graph.specs.Ties.{link_cmp, cycle_cmp, IsFirstCycle}
 use Rattle.tcc_graph.specs.declared.link.Link.{Link}
+use Rattle.tcc_graph.proofs.Linking.{lead_split, lead_start, cost_around, some_cost}
+use Rattle.tcc_graph.proofs.Tied.{link_total}
 use Rattle.tcc_cycle.specs.Picked.{IsPickedCycle}
 use Rattle.tcc_cycle.proofs.Backwards.{Picks, Picks-at, Picks-from, Picks-first, first_picked, one_picked}
-use Rattle.tcc_cycle.proofs.CycleLemmas.{lead_split, lead_start, same_cost, cost_around, turned, some_cost}
-use Rattle.tcc_cycle.proofs.TieLemmas.{link_total, link_tied}
+use Rattle.tcc_cycle.proofs.CycleLemmas.{same_cost, turned}
+use Rattle.tcc_cycle.proofs.TieLemmas.{link_tied}
 
 -- the links, from the last backwards, are a least cycle from s
 abbrev pub IsBack : History → ℕ → List Link → Type 0

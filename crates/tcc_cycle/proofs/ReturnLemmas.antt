@@ -8,10 +8,10 @@ use Rattle.tcc_graph.specs.Links.{link_to, cost}
 use Rattle.tcc_graph.specs.Routes.{LinksLead, IsRoute, IsCycle, HasCycle}
 use Rattle.tcc_graph.specs.declared.link.Link.{Link}
 use Rattle.tcc_graph.proofs.Pairs.{link_below}
+use Rattle.tcc_graph.proofs.Linking.{route_below}
 use Rattle.tcc_core.specs.Rows.{in_row, cap_of, IsWithin, IsCutOff}
 use Rattle.tcc_core.specs.Searches.{Search, IsSearchOf, Settles, held}
 use Rattle.tcc_core.specs.declared.settled.Settled.TheVariants as settled
-use Rattle.tcc_core.proofs.LinkLemmas.{route_below}
 use Rattle.tcc_core.proofs.Lowering.{held_set, held_below}
 use Rattle.tcc_core.proofs.Ending.{still_outside}
 use Rattle.tcc_cycle.specs.Costs.{IsFarRow, AreRows, AreFarRows}

@@ -1,56 +1,21 @@
--- Steps, walks and links that tie are the same, where they lead to the same end.
+-- Walks and links that tie are the same, where they lead to the same end.
 use Rattle.std.proofs.Common.{ℕ, ◌≡◌, List, [], ◌∷◌, reverse, refl, sym, ◌∙◌, ap, subst}
-use Rattle.std.specs.Ordering.{nat_cmp, ordering_then}
-use Rattle.std.specs.Cmp.{IsTotalOrder}
+use Rattle.std.specs.Ordering.{nat_cmp}
 use Rattle.std.specs.Cmp.Lexicographic.{slice_cmp}
-use Rattle.std.specs.declared.cmp.Ordering.{Ordering}
 use Rattle.std.specs.declared.cmp.Ordering.TheVariants.{Less, Equal, Greater}
-use Rattle.std.proofs.lemmas.Cmp.{nat_cmp_total, nat_list_cmp_total, then_total, on_total, lists_total, ranked}
 use Rattle.std.proofs.lemmas.List.{reverse-reverse}
 use Rattle.std.proofs.lemmas.Map.Lookups.{exact_bytes}
 use Rattle.tcc_reads.specs.History.{History}
 use Rattle.tcc_reads.specs.Sources.{name_cmp}
-use Rattle.tcc_graph.specs.Walks.{step_from, step_to}
-use Rattle.tcc_graph.specs.Links.{IsLink, link_from, link_to}
-use Rattle.tcc_graph.specs.Ties.{step_kind, step_key, step_cmp, walk_cmp, link_kind, link_key, link_reader, link_walk, link_cmp}
+use Rattle.tcc_graph.specs.Walks.{step_from}
+use Rattle.tcc_graph.specs.Links.{IsLink, link_to}
+use Rattle.tcc_graph.specs.Ties.{step_cmp, walk_cmp, link_cmp}
 use Rattle.tcc_graph.specs.declared.step.Step.{Step}
-use Rattle.tcc_graph.specs.declared.step.Step.TheVariants as step
 use Rattle.tcc_graph.specs.declared.link.Link.{Link}
 use Rattle.tcc_graph.specs.declared.link.Link.TheVariants as link
+use Rattle.tcc_graph.proofs.Tied.{number_tied, then_tied, step_tied}
 use Rattle.tcc_derive.specs.Backwards.{LeadsBack}
 use Rattle.tcc_derive.proofs.BackLemmas.{back_of_leads}
-
-pub step_total : IsTotalOrder step_cmp
-step_total = then_total (on_total step_from nat_cmp_total) (then_total (on_total step_kind nat_cmp_total) (on_total step_key nat_list_cmp_total))
-
-pub link_total : IsTotalOrder link_cmp
-link_total =
-    then_total (on_total link_from nat_cmp_total) (then_total (on_total link_kind nat_cmp_total) (then_total (on_total link_key nat_list_cmp_total)
-    (then_total (on_total link_reader nat_cmp_total) (on_total link_walk (on_total reverse (lists_total step_total))))))
-
-pub then_tied : (o p : Ordering) → ordering_then o p ≡ Equal → (o ≡ Equal) × (p ≡ Equal)
-then_tied Less p e = absurd cc
-then_tied Equal p e = (refl, e)
-then_tied Greater p e = absurd cc
-
-number_tied : (m n : ℕ) → nat_cmp m n ≡ Equal → m ≡ n
-number_tied m n e = ranked m n Equal (sym e)
-
-pub step_tied : (s o : Step) → step_to s ≡ step_to o → step_cmp s o ≡ Equal → s ≡ o
-step_tied (step.Session a b) (step.Session c d) to e =
-    let from = number_tied a c (then_tied (nat_cmp a c) _ e).0 in
-    cc
-step_tied (step.Session a b) (step.Reads c d y) to e =
-    let rest = (then_tied (nat_cmp a c) Less e).1 in
-    absurd cc
-step_tied (step.Reads a b x) (step.Session c d) to e =
-    let rest = (then_tied (nat_cmp a c) Greater e).1 in
-    absurd cc
-step_tied (step.Reads a b x) (step.Reads c d y) to e =
-    let w = then_tied (nat_cmp a c) (name_cmp x y) e in
-    let from = number_tied a c w.0 in
-    let key = exact_bytes x y w.1 in
-    cc
 
 steps_tied : (h : History) (b v : ℕ) (ss os : List Step) → LeadsBack h b v ss → LeadsBack h b v os → slice_cmp step_cmp ss os ≡ Equal → ss ≡ os
 steps_tied h b v [] [] p q e = refl

@@ -6,18 +6,15 @@ use Rattle.tcc_reads.specs.History.{History}
 use Rattle.tcc_graph.specs.Walks.{step_to, Leads}
 use Rattle.tcc_graph.specs.Ties.{step_cmp}
 use Rattle.tcc_graph.specs.declared.step.Step.{Step}
+use Rattle.tcc_graph.proofs.Walking.{leads_split}
+use Rattle.tcc_graph.proofs.Tied.{step_total, step_tied}
 use Rattle.tcc_derive.specs.Backwards.{IsFirstWalk}
 use Rattle.tcc_cycle.specs.Picked.{IsShortestWalk, IsPickedWalk}
 use Rattle.tcc_cycle.proofs.Backwards.{Picks, Picks-at, Picks-from, Picks-first, first_picked}
 use Rattle.tcc_cycle.proofs.CycleLemmas.{turned}
-use Rattle.tcc_cycle.proofs.TieLemmas.{step_total, step_tied}
 
 abbrev IsBack : History → ℕ → ℕ → List Step → Type 0
 IsBack h b c steps = IsShortestWalk h b c (reverse steps)
-
-steps_split : (h : History) (a b : ℕ) (front rest : List Step) → Leads h a b (front ++ rest) → (m : ℕ) × Leads h a m front × Leads h m b rest
-steps_split h a b [] rest p = (a, refl, p)
-steps_split h a b (s ∷ front) rest p = let w = steps_split h (step_to s) b front rest p.2 in (w.0, (p.0, p.1, w.1), w.2)
 
 steps_start : (h : History) (a b c : ℕ) (steps : List Step) → Leads h a c steps → Leads h b c steps → a ≡ b
 steps_start h a b c [] p q = p ∙ sym q
@@ -30,8 +27,8 @@ never_past h b c done s rest p q =
 
 tied_same : (h : History) (b c : ℕ) (done : List Step) (s o : Step) (rest others : List Step) → IsBack h b c (done ++ s ∷ rest) → IsBack h b c (done ++ o ∷ others) → step_cmp s o ≡ Equal → s ≡ o
 tied_same h b c done s o rest others p q e =
-    let ours = steps_split h b c (reverse rest) (s ∷ reverse done) (rw turned at p.leads.1) in
-    let theirs = steps_split h b c (reverse others) (o ∷ reverse done) (rw turned at q.leads.1) in
+    let ours = leads_split h b c (reverse rest) (s ∷ reverse done) (rw turned at p.leads.1) in
+    let theirs = leads_split h b c (reverse others) (o ∷ reverse done) (rw turned at q.leads.1) in
     step_tied s o (steps_start h (step_to s) (step_to o) c (reverse done) ours.2.2 theirs.2.2) e
 
 shortest_of : (h : History) (b c : ℕ) (walk : List Step) → IsFirstWalk h b c walk → IsShortestWalk h b c walk

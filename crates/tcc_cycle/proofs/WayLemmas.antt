@@ -9,14 +9,14 @@ use Rattle.tcc_graph.specs.Routes.{LinksLead, IsCycle, IsLeastCycle, IsDistance}
 use Rattle.tcc_graph.specs.Ties.{link_cmp, IsFirstCycle}
 use Rattle.tcc_graph.specs.declared.link.Link.{Link}
 use Rattle.tcc_graph.proofs.Pairs.{link_below}
+use Rattle.tcc_graph.proofs.Linking.{some_cost, cost_cons, cost_append, cost_around, some_links, lead_append, lead_split, lead_start, route_below}
 use Rattle.tcc_derive.specs.Prices.{Tables, IsLinkOf, IsLeastCost, IsCost, IsPricesOf, cost_at}
 use Rattle.tcc_core.specs.Rows.{in_row}
-use Rattle.tcc_core.proofs.LinkLemmas.{route_below, cost_cons, cost_append, lead_append}
 use Rattle.tcc_cycle.specs.Returns.{IsFirstReturn}
 use Rattle.tcc_cycle.specs.Ways.{spent, IsBefore, IsFirstLink}
 use Rattle.tcc_cycle.specs.declared.returning.Returned.{Returned}
 use Rattle.tcc_cycle.proofs.Backwards.{Picks, Picks-push, Picks-at}
-use Rattle.tcc_cycle.proofs.CycleLemmas.{some_cost, some_links, lead_split, lead_start, cost_around, turned}
+use Rattle.tcc_cycle.proofs.CycleLemmas.{turned}
 use Rattle.tcc_cycle.proofs.PickedLemmas.{IsBack, ends_back, first_from_picked}
 
 -- some links were picked: they lead on from `end` back to the start, what is left brings the search to `end`, and each

@@ -1,1 +1,100 @@
-//! Worked cycles.
+//! First cycles of worked histories, with their rows.
+use crate::laws::{parts, picked};
+use crate::{Cycle, first_cycle};
+use std::alloc::Global;
+use std::process::Abort;
+use std::test::Fail;
+use std::thread::Threads;
+use tcc_derive::derive;
+use tcc_graph::{Graph, Link};
+use tcc_near::near;
+use tcc_reads::resolve;
+use tcc_txn::snapshot_of;
+
+/// The graph of these records.
+fn graph(alloc: Global, records: &str) -> Option<Graph> {
+    let snapshot = snapshot_of(alloc, records.as_bytes()).ok()?;
+    let resolved = resolve(alloc, &snapshot).ok()?;
+    Graph::build(alloc, &resolved).ok()
+}
+
+/// The first cycle of these records.
+fn cycle(rt: &(impl Abort + Threads + Sync), alloc: Global, records: &str) -> Option<Cycle> {
+    let graph = graph(alloc, records).expect(rt, "a graph");
+    let Ok(near) = near(rt, alloc, &graph) else {
+        panic!(rt; "no distances");
+    };
+    let Ok(prices) = derive(rt, alloc, &graph, &near) else {
+        panic!(rt; "no prices");
+    };
+    match first_cycle(alloc, &graph, &near, &prices) {
+        Ok(cycle) => cycle,
+        Err(_) => panic!(rt; "out of memory"),
+    }
+}
+
+/// The start, the cost and the number of links of a cycle.
+fn measured(cycle: Option<Cycle>) -> Option<(u32, u32, usize)> {
+    let cycle = cycle?;
+    Some((cycle.start, cycle.cost, cycle.links.len()))
+}
+
+// Two writes read by one; two that read one another, where a dearer cycle starts at a lower number; and a fork.
+#[test]
+fn first_cycles(rt: HostRuntime) {
+    let alloc = rt.alloc();
+    let table = [
+        (
+            "a,begin\na,w,x,1\na,commit\nb,begin\nb,w,x,2\nb,commit\nc,begin\nc,r,x,1\nc,r,x,2\nc,commit\n",
+            Some((1, 4, 2)),
+        ),
+        (
+            "a,begin\na,r,x,0\na,r,y,1\na,w,x,1\na,commit\nb,begin\nb,r,x,1\nb,w,y,1\nb,commit\n",
+            Some((1, 2, 2)),
+        ),
+        (
+            "a,begin\na,w,x,1\na,commit\nb,begin\nb,r,x,0\nb,commit\n",
+            None,
+        ),
+    ];
+    for (records, wanted) in table {
+        assert_eq!(&rt;
+            measured(cycle(&rt, alloc, records)),
+            wanted,
+            "for {records}"
+        );
+    }
+    picked();
+    parts();
+}
+
+// a/1 writes x, and a/2 reads its initial value: back from a/1 to `init` by two steps, and nothing leads on from a/2.
+#[test]
+fn rows_of_a_cycle(rt: HostRuntime) -> Result<(), Fail> {
+    let alloc = rt.alloc();
+    let records = "a,begin\na,w,x,1\na,commit\na,begin\na,r,x,0\na,commit\n";
+    let cycle = cycle(&rt, alloc, records).expect(&rt, "a cycle");
+    assert!(&rt;
+        matches!(
+            cycle.links.last(),
+            Some(Link::Derived {
+                from: 1,
+                to: 0,
+                reader: 2,
+                ..
+            })
+        )
+    );
+    let wanted = [[3, 1, 1], [2, 3, 1], [3, 3, 3]];
+    assert_eq!(&rt; cycle.rows.len(), wanted.len());
+    for (row, wanted) in cycle.rows.iter().zip(wanted) {
+        let capped: Vec<u32> = row
+            .as_slice()
+            .iter()
+            .map(|cost| cost.min(&cycle.cost))
+            .copied()
+            .collect(alloc)?;
+        assert_eq!(&rt; capped.as_slice(), wanted.as_slice());
+    }
+    Ok(())
+}

@@ -11,52 +11,14 @@ use Rattle.tcc_graph.specs.declared.step.Step.{Step}
 use Rattle.tcc_graph.specs.declared.step.Step.TheVariants as step
 use Rattle.tcc_graph.specs.declared.link.Link.{Link}
 use Rattle.tcc_graph.specs.declared.link.Link.TheVariants as link
-use Rattle.tcc_graph.proofs.Pairs.{pair_below, step_below, session_below}
-use Rattle.tcc_derive.proofs.PriceLemmas.{derived_cost}
+use Rattle.tcc_graph.proofs.Pairs.{pair_below, step_below, session_below, step_of_kind}
+use Rattle.tcc_graph.proofs.Walking.{pair_walk, walk_on}
+use Rattle.tcc_graph.proofs.Linking.{derived_cost, one_cost, pair_link, link_route, lead_split, route_on}
 use Rattle.tcc_core.specs.Shares.{IsCappedDistance}
-use Rattle.tcc_core.proofs.LinkLemmas.{cost_cons, cost_append, lead_append}
 use Rattle.tcc_cert.specs.Tables.{entry, HasSize, IsCapped}
 use Rattle.tcc_cert.specs.CycleRules.{IsStepBelow, IsLinkBelow, ends_at, IsLinkWrong, BreaksNearPair, BreaksNearStep, BreaksFarLink, BreaksFarStep, BreaksReturn}
 use Rattle.tcc_cert.specs.Rules.{HoldsEverywhere, CertifiesCycle}
 use Rattle.tcc_explain.specs.Certificates.{IsCappedShortest, IsNearTable, IsFarTable}
-use Rattle.tcc_cycle.proofs.CycleLemmas.{lead_split}
-
--- ---- steps and links of causal pairs
-
-pub pair_step : (h : History) (a b : ℕ) → IsCausalPair h a b → (s : Step) × (step_from s ≡ a) × (step_to s ≡ b) × IsStep h s
-pair_step h a b (inl session) = (step.Session a b, refl, refl, session)
-pair_step h a b (inr (x, reads)) = (step.Reads a b x, refl, refl, reads)
-
-pair_link : (h : History) (a b : ℕ) → IsCausalPair h a b → (l : Link) × (link_from l ≡ a) × (link_to l ≡ b) × IsLink h l × (link_cost l ≡ 1)
-pair_link h a b (inl session) = (link.Session a b, refl, refl, session, refl)
-pair_link h a b (inr (x, reads)) = (link.Reads a b x, refl, refl, reads, refl)
-
--- the step's own walk
-pub pair_walk : (h : History) (a b : ℕ) → IsCausalPair h a b → (walk : List Step) × IsWalk h a b walk × (length walk ≡ 1)
-pair_walk h a b p = let (s, from, to, is) = pair_step h a b p in (s ∷ [], (omega arith, (from, is, to)), refl)
-
-pub walk_append : (h : History) (a b c : ℕ) (some others : List Step) → Leads h a b some → Leads h b c others → Leads h a c (some ++ others)
-walk_append h a b c [] others p q = subst (λ (z : ℕ). Leads h z c others) (sym p) q
-walk_append h a b c (s ∷ some) others p q = (p.0, p.1, walk_append h (step_to s) b c some others p.2 q)
-
--- one pair more
-pub walk_on : (h : History) (a b c : ℕ) (walk : List Step) → IsWalk h a b walk → IsCausalPair h b c → (longer : List Step) × IsWalk h a c longer × (length longer ≡ length walk + 1)
-walk_on h a b c walk is p =
-    let (one, leads, single) = pair_walk h b c p in
-    let long : length (walk ++ one) ≡ length walk + 1 = omega (arith, length-append walk one) in
-    (walk ++ one, (omega (arith, is.0), walk_append h a b c walk one is.1 leads.1), long)
-
-link_route : (h : History) (a b : ℕ) (l : Link) → link_from l ≡ a → link_to l ≡ b → IsLink h l → IsRoute h a b (l ∷ [])
-link_route h a b l from to is = (omega arith, (from, is, to))
-
-one_cost : (l : Link) → cost (l ∷ []) ≡ link_cost l
-one_cost l = omega (arith, cost_cons l [])
-
--- one link more
-route_on : (h : History) (s a b : ℕ) (links : List Link) (l : Link) → IsRoute h s a links → link_from l ≡ a → link_to l ≡ b → IsLink h l → IsRoute h s b (links ++ l ∷ []) × (cost (links ++ l ∷ []) ≡ cost links + link_cost l)
-route_on h s a b links l route from to is =
-    let long : length (links ++ l ∷ []) ≡ length links + 1 = length-append links (l ∷ []) in
-    ((omega (arith, route.0), lead_append h s a b links (l ∷ []) route.1 (from, is, to)), omega (arith, cost_append links (l ∷ []), one_cost l))
 
 -- ---- numbers of the tables
 

@@ -13,12 +13,12 @@ use Rattle.tcc_graph.specs.Relations.{IsSessionPair, IsCausalPair}
 use Rattle.tcc_graph.specs.Walks.{IsReached}
 use Rattle.tcc_graph.specs.Orders.{Before, IsNumbering, IsCommitOrder}
 use Rattle.tcc_graph.proofs.Pairs.{pair_below}
+use Rattle.tcc_graph.proofs.Walking.{leads_append, pair_walk, walk_on}
 use Rattle.tcc_near.specs.Clocks.{IsBehind, IsLast, IsClocksOf}
 use Rattle.tcc_cert.specs.Tables.{entry}
 use Rattle.tcc_cert.specs.OrderRules.{KeepsPairs, MayReach, BreaksAxiom}
 use Rattle.tcc_cert.specs.Rules.{HoldsEverywhere, CertifiesOrder}
 use Rattle.tcc_explain.specs.Certificates.{IsNumbered}
-use Rattle.tcc_explain.proofs.CertifiedCycle.{pair_walk, walk_append, walk_on}
 
 -- ---- session pairs
 
@@ -85,7 +85,7 @@ module _ (h : History) (order : List ℕ) (clocks : List (List ℕ)) (numbered :
       earlier less =
           let (walk, is) = behind.reached in
           let (one, leads, single) = pair_walk h b t (inl (lower_first h b t some below behind.committed behind.below (sym behind.owned) less)) in
-          (one ++ walk, (omega (arith, leads.0, length-append one walk), walk_append h b t c one walk leads.1 is.1))
+          (one ++ walk, (omega (arith, leads.0, length-append one walk), leads_append h b t c one walk leads.1 is.1))
 
       go : (b ≡ t) ⊎ ((b < t) ⊎ (t < b)) → IsReached h b c
       go (inl same) = subst (λ (z : ℕ). IsReached h z c) (sym same) behind.reached

@@ -3,3 +3,4 @@ pub mod CertifiedCycle
 pub mod CertifiedOrder
 pub mod Numbered
 pub mod CertifiedAnswer
+pub mod FirstAnswers

@@ -1,11 +1,12 @@
-//! The laws of certificates: those of answers keep the rules.
-ghost use Rattle.std.specs.Prelude.{ℕ, List};
+//! The laws of answers: their certificates keep the rules, and a history has one first answer at most.
+ghost use Rattle.std.specs.Prelude.{◌≡◌, ℕ, List};
 ghost use Rattle.tcc_txn.specs.Snapshots.{Sessions};
 ghost use Rattle.tcc_reads.specs.History.{History};
 ghost use Rattle.tcc_reads.specs.Sources.{history};
 ghost use Rattle.tcc_graph.specs.Links.{cost};
 ghost use Rattle.tcc_graph.specs.Routes.{IsLeastCycle};
-ghost use Rattle.tcc_graph.specs.Orders.{IsCommitOrder};
+ghost use Rattle.tcc_graph.specs.Orders.{IsCommitOrder, IsFirstOrder};
+ghost use Rattle.tcc_graph.specs.Answers as first;
 ghost use Rattle.tcc_graph.specs.declared.link.Link.{Link};
 ghost use Rattle.tcc_near.specs.Clocks.{IsClocksOf};
 ghost use Rattle.tcc_cert.specs.Rules.{Certifies};
@@ -28,4 +29,10 @@ pub fn certificates()
 /// The certificate of the answer for a snapshot keeps all rules.
 pub fn certified()
     ensures { (s : Sessions) (a : Answer) → IsAnswerOf (history s) a → Certifies (history s) (certificate_of a) }
+{}
+
+/// A history has at most one first commit order, and at most one first answer: either that order or its first cycle.
+pub fn one_answer()
+    ensures order { (h : History) (order other : List ℕ) → IsFirstOrder h order → IsFirstOrder h other → order ≡ other }
+    ensures answer { (h : History) (some other : first.Answer) → first.IsFirstAnswer h some → first.IsFirstAnswer h other → some ≡ other }
 {}
