@@ -5,8 +5,8 @@ use Rattle.tcc_graph.specs.Links.{link_to, link_cost, cost}
 use Rattle.tcc_graph.specs.Routes.{LinksLead, IsRoute}
 use Rattle.tcc_graph.specs.declared.link.Link.{Link}
 use Rattle.tcc_derive.specs.Prices.{IsLinkOf}
-use Rattle.tcc_core.specs.Rows.{in_row, IsRow}
-use Rattle.tcc_core.specs.Searches.{HasCome, IsWay}
+use Rattle.tcc_core.specs.Rows.{in_row, IsSearchRow}
+use Rattle.tcc_core.specs.Frontiers.{HasCome, IsWay}
 use Rattle.tcc_core.proofs.LinkLemmas.{cost_cons, cost_append, lead_append}
 use Rattle.tcc_graph.proofs.Pairs.{link_below}
 
@@ -16,7 +16,7 @@ use Rattle.tcc_graph.proofs.Pairs.{link_below}
 abbrev pub IsPath : History → ℕ → ℕ → ℕ → Type 0
 IsPath h s u c = (links : List Link) × LinksLead h s u links × (cost links ≡ c)
 
-pub path_there : (h : History) (s : ℕ) (row : List (Option ℕ)) (u c : ℕ) → IsRow h s row → HasCome s row u c → IsPath h s u c
+pub path_there : (h : History) (s : ℕ) (row : List (Option ℕ)) (u c : ℕ) → IsSearchRow h s row → HasCome s row u c → IsPath h s u c
 path_there h s row u c exact (inl (same, nothing)) = ([], sym same, sym nothing)
 path_there h s row u c exact (inr inside) =
     let (links, route, costs) = (exact.exact u c inside).attained in
@@ -27,7 +27,7 @@ one_more h s u v c l (links, lead, costs) leads =
     let last : LinksLead h u v (l ∷ []) = (leads.from, leads.link, leads.to) in
     (links ++ l ∷ [], (rw length-append (omega arith), lead_append h s u v links (l ∷ []) lead last), omega (arith, cost_append links (l ∷ []), cost_cons l [], costs))
 
-pub route_of_way : (h : History) (s : ℕ) (row : List (Option ℕ)) (v n : ℕ) → IsRow h s row → IsWay h s row v n → (links : List Link) × IsRoute h s v links × (cost links ≡ n)
+pub route_of_way : (h : History) (s : ℕ) (row : List (Option ℕ)) (v n : ℕ) → IsSearchRow h s row → IsWay h s row v n → (links : List Link) × IsRoute h s v links × (cost links ≡ n)
 route_of_way h s row v n exact (u, c, l, come, leads, costs) =
     let (links, route, paid) = one_more h s u v c l (path_there h s row u c exact come) leads in
     (links, route, paid ∙ costs)
@@ -38,7 +38,7 @@ route_of_way h s row v n exact (u, c, l, come, leads, costs) =
 abbrev pub HasWayWithin : History → ℕ → List (Option ℕ) → ℕ → Type 0
 HasWayWithin h s row n = (w : ℕ) × (k : ℕ) × (in_row row w ≡ None) × IsWay h s row w k × (k ≤ n)
 
-way_along : (h : History) (s : ℕ) (row : List (Option ℕ)) → IsRow h s row → (u c v : ℕ) (l : Link) (links : List Link) → HasCome s row u c → LinksLead h u v (l ∷ links) → in_row row v ≡ None → HasWayWithin h s row (c + cost (l ∷ links))
+way_along : (h : History) (s : ℕ) (row : List (Option ℕ)) → IsSearchRow h s row → (u c v : ℕ) (l : Link) (links : List Link) → HasCome s row u c → LinksLead h u v (l ∷ links) → in_row row v ≡ None → HasWayWithin h s row (c + cost (l ∷ links))
 way_along h s row exact u c v l [] come lead out =
     (v, c + link_cost l, out, (u, c, l, come, record { from = lead.0; to = lead.2; link = lead.1 }, refl), omega (arith, cost_cons l []))
 way_along h s row exact u c v l (next ∷ links) come lead out =
@@ -55,7 +55,7 @@ way_along h s row exact u c v l (next ∷ links) come lead out =
         let near : d ≤ cost others = (exact.exact (link_to l) d e).least others route in
         (w, k, outside, way, omega (arith, cost_cons l (next ∷ links)))
 
-pub way_within : (h : History) (s : ℕ) (row : List (Option ℕ)) → IsRow h s row → (v : ℕ) (links : List Link) → in_row row v ≡ None → IsRoute h s v links → HasWayWithin h s row (cost links)
+pub way_within : (h : History) (s : ℕ) (row : List (Option ℕ)) → IsSearchRow h s row → (v : ℕ) (links : List Link) → in_row row v ≡ None → IsRoute h s v links → HasWayWithin h s row (cost links)
 way_within h s row exact v [] out (some, lead) = absurd (omega arith)
 way_within h s row exact v (l ∷ links) out (some, lead) =
     let (w, k, outside, way, low) = way_along h s row exact s 0 v l links (inl (refl, refl)) lead out in

@@ -10,9 +10,10 @@ use Rattle.tcc_graph.specs.declared.link.Link.{Link}
 use Rattle.tcc_near.specs.Distances.{row_of}
 use Rattle.tcc_derive.specs.Prices.{Tables, cost_at, IsLinkOf, IsCost, IsPricesOf}
 use Rattle.tcc_core.specs.Rows.{in_row}
-use Rattle.tcc_core.specs.Searches.{held, no_way}
-use Rattle.tcc_core.specs.Relaxing.{way_by, lesser}
+
+use Rattle.tcc_core.specs.Relaxing.{way_by, lesser, count_joined}
 use Rattle.tcc_near.specs.declared.distances.TheConstants.{NONE}
+use Rattle.tcc_core.specs.declared.relaxing.TheConstants.{NO_WAY}
 
 -- ---- what a table says of a link
 
@@ -48,7 +49,7 @@ lesser_cases a b = cases_cond (nat_lt b a) b a (lesser a b) refl
 pub way_by_link : (d link : ℕ) → link ≢ NONE → way_by d link ≡ d + link
 way_by_link d link there = grind (arith, nat_tests)
 
-pub way_by_none : (d link : ℕ) → link ≡ NONE → way_by d link ≡ no_way
+pub way_by_none : (d link : ℕ) → link ≡ NONE → way_by d link ≡ NO_WAY
 way_by_none d link same = grind (arith, nat_tests)
 
 -- each cost is the lesser of what it was and of a way by these links from where d was spent
@@ -57,7 +58,7 @@ pub record IsLowered (old : List ℕ) (new : List ℕ) (d : ℕ) (links : List �
   pub each : (v : ℕ) → v < length old → get_or new v 0 ≡ lesser (get_or old v 0) (way_by d (get_or links v 0))
 
 -- a lowered cost is what it was, or that of a way by a link
-pub lowered_cases : (old new : List ℕ) (d : ℕ) (links : List ℕ) (v : ℕ) → IsLowered old new d links → v < length old → get_or new v 0 ≢ no_way → (get_or new v 0 ≡ get_or old v 0) ⊎ ((get_or links v 0 ≢ NONE) × (get_or new v 0 ≡ d + get_or links v 0))
+pub lowered_cases : (old new : List ℕ) (d : ℕ) (links : List ℕ) (v : ℕ) → IsLowered old new d links → v < length old → get_or new v 0 ≢ NO_WAY → (get_or new v 0 ≡ get_or old v 0) ⊎ ((get_or links v 0 ≢ NONE) × (get_or new v 0 ≡ d + get_or links v 0))
 lowered_cases old new d links v is within some = go (lesser_cases (get_or old v 0) (way_by d (get_or links v 0))) (eqb_tells (get_or links v 0) NONE)
   where
     go : (lesser (get_or old v 0) (way_by d (get_or links v 0)) ≡ way_by d (get_or links v 0)) ⊎ (lesser (get_or old v 0) (way_by d (get_or links v 0)) ≡ get_or old v 0) → (((get_or links v 0 == NONE) ≡ true) × (get_or links v 0 ≡ NONE)) ⊎ (((get_or links v 0 == NONE) ≡ false) × (get_or links v 0 ≢ NONE)) → (get_or new v 0 ≡ get_or old v 0) ⊎ ((get_or links v 0 ≢ NONE) × (get_or new v 0 ≡ d + get_or links v 0))
@@ -73,29 +74,29 @@ lowered_way old new d links v is within there = omega (arith, is.each v within, 
 
 -- ---- how many a row has
 
-pub held_set : (row : List (Option ℕ)) (v d : ℕ) → v < length row → in_row row v ≡ None → held (set row v (Some d)) ≡ held row + 1
-held_set [] v d within out = absurd (omega arith)
-held_set (None ∷ row) zero d within out = refl
-held_set (Some c ∷ row) zero d within out = cc
-held_set (None ∷ row) (suc v) d within out = held_set row v d (omega arith) out
-held_set (Some c ∷ row) (suc v) d within out = ap (λ n. n + 1) (held_set row v d (omega arith) out)
+pub joined_set : (row : List (Option ℕ)) (v d : ℕ) → v < length row → in_row row v ≡ None → count_joined (set row v (Some d)) ≡ count_joined row + 1
+joined_set [] v d within out = absurd (omega arith)
+joined_set (None ∷ row) zero d within out = refl
+joined_set (Some c ∷ row) zero d within out = cc
+joined_set (None ∷ row) (suc v) d within out = joined_set row v d (omega arith) out
+joined_set (Some c ∷ row) (suc v) d within out = ap (λ n. n + 1) (joined_set row v d (omega arith) out)
 
-held_most : (row : List (Option ℕ)) → held row ≤ length row
-held_most [] = omega arith
-held_most (None ∷ row) = omega (arith, held_most row)
-held_most (Some c ∷ row) = omega (arith, held_most row)
+joined_most : (row : List (Option ℕ)) → count_joined row ≤ length row
+joined_most [] = omega arith
+joined_most (None ∷ row) = omega (arith, joined_most row)
+joined_most (Some c ∷ row) = omega (arith, joined_most row)
 
-pub held_below : (row : List (Option ℕ)) (v : ℕ) → v < length row → in_row row v ≡ None → held row < length row
-held_below [] v within out = absurd (omega arith)
-held_below (None ∷ row) v within out = omega (arith, held_most row)
-held_below (Some c ∷ row) zero within out = cc
-held_below (Some c ∷ row) (suc v) within out = omega (arith, held_below row v (omega arith) out)
+pub joined_below : (row : List (Option ℕ)) (v : ℕ) → v < length row → in_row row v ≡ None → count_joined row < length row
+joined_below [] v within out = absurd (omega arith)
+joined_below (None ∷ row) v within out = omega (arith, joined_most row)
+joined_below (Some c ∷ row) zero within out = cc
+joined_below (Some c ∷ row) (suc v) within out = omega (arith, joined_below row v (omega arith) out)
 
 -- ---- links' costs as numbers of 16 bits
 
-pub fits : (links : List ℕ) → All (λ link. link < 65536) links → (v : ℕ) → get_or links v 0 < 65536
+pub fits : (links : List ℕ) → All (λ link. link ≤ NONE) links → (v : ℕ) → get_or links v 0 ≤ NONE
 fits links all v = go (cases_lt v (length links))
   where
-    go : (v < length links) ⊎ (length links ≤ v) → get_or links v 0 < 65536
+    go : (v < length links) ⊎ (length links ≤ v) → get_or links v 0 ≤ NONE
     go (inl within) = all v 0 within
     go (inr past) = omega (arith, get_or-eq_default links 0 past)

@@ -6,7 +6,7 @@ use Rattle.tcc_reads.specs.History.{History}
 use Rattle.tcc_graph.specs.Links.{cost}
 use Rattle.tcc_graph.specs.Routes.{IsRoute, IsCycle, IsLeastCycle, HasCycle, IsDistance}
 use Rattle.tcc_graph.specs.declared.link.Link.{Link}
-use Rattle.tcc_core.specs.Rows.{in_row, IsRow, IsWithin}
+use Rattle.tcc_core.specs.Rows.{in_row, IsSearchRow, IsWithin}
 use Rattle.tcc_core.specs.Shares.{Share, Finished, Stop, Returned, Cut, IsNotAbove, IsStopped, IsFinished, IsNotBelowLeast, starts_of, EachFinished, SettleAt, capped, IsCappedDistance}
 use Rattle.tcc_core.proofs.LinkLemmas.{route_below}
 
@@ -55,7 +55,7 @@ record IsShareAt (h : History) (word : Option ℕ) (share : Share) : Type 0 wher
   below_offers : All (λ c. IsNotAbove word (Some c)) share.offers
   below_sight : IsNotAbove word share.sight
 
-outside_above : (h : History) (word : Option ℕ) (share : Share) (s : ℕ) (row : List (Option ℕ)) (stop : Stop) → IsShareAt h word share → IsRow h s row → IsStopped h share s row stop → (v : ℕ) (links : List Link) → in_row row v ≡ None → IsRoute h s v links → IsNotAbove word (Some (cost links))
+outside_above : (h : History) (word : Option ℕ) (share : Share) (s : ℕ) (row : List (Option ℕ)) (stop : Stop) → IsShareAt h word share → IsSearchRow h s row → IsStopped h share s row stop → (v : ℕ) (links : List Link) → in_row row v ≡ None → IsRoute h s v links → IsNotAbove word (Some (cost links))
 outside_above h word share s row (Returned c) at exact stopped v links out route =
     not_above_more word c (cost links) (All-contains (λ c. IsNotAbove word (Some c)) share.offers c at.below_offers stopped.1) (exact.closed s v c links stopped.0 out route)
 outside_above h word share s row (Cut cap) at exact stopped v links out route =
@@ -63,7 +63,7 @@ outside_above h word share s row (Cut cap) at exact stopped v links out route =
     let P : Option ℕ → Type 0 = λ b. IsNotAbove b (Some (cost links)) in
     subst P (sym w.1) (omega (arith, w.2))
 
-cycle_above : (h : History) (word : Option ℕ) (share : Share) (s : ℕ) (row : List (Option ℕ)) (stop : Stop) → IsShareAt h word share → IsRow h s row → IsStopped h share s row stop → (links : List Link) → IsCycle h s links → IsNotAbove word (Some (cost links))
+cycle_above : (h : History) (word : Option ℕ) (share : Share) (s : ℕ) (row : List (Option ℕ)) (stop : Stop) → IsShareAt h word share → IsSearchRow h s row → IsStopped h share s row stop → (links : List Link) → IsCycle h s links → IsNotAbove word (Some (cost links))
 cycle_above h word share s row (Returned c) at exact stopped links cycle =
     not_above_more word c (cost links) (All-contains (λ c. IsNotAbove word (Some c)) share.offers c at.below_offers stopped.1) ((exact.exact s c stopped.0).least links cycle)
 cycle_above h word share s row (Cut cap) at exact stopped links cycle =
@@ -106,7 +106,7 @@ word_or_cycle h shares word settle = (above, below word settle.not_below)
     below None low none = refl
     below (Some b) (c, (s, links, cycle, costs), low) none = absurd (none (s, links, cycle))
 
-capped_row : (h : History) (word : Option ℕ) (share : Share) (s : ℕ) (row : List (Option ℕ)) (stop : Stop) → IsShareAt h word share → IsRow h s row → IsStopped h share s row stop → (v : ℕ) (o : Option ℕ) → in_row row v ≡ o → IsCappedDistance h s v word (capped word o)
+capped_row : (h : History) (word : Option ℕ) (share : Share) (s : ℕ) (row : List (Option ℕ)) (stop : Stop) → IsShareAt h word share → IsSearchRow h s row → IsStopped h share s row stop → (v : ℕ) (o : Option ℕ) → in_row row v ≡ o → IsCappedDistance h s v word (capped word o)
 capped_row h None share s row stop at exact stopped v None e = λ links route. outside_above h None share s row stop at exact stopped v links e route
 capped_row h None share s row stop at exact stopped v (Some c) e = exact.exact v c e
 capped_row h (Some b) share s row stop at exact stopped v None e = inr (refl, λ links route. outside_above h (Some b) share s row stop at exact stopped v links e route)
@@ -126,7 +126,7 @@ pub capped_rows : (h : History) (shares : List Share) (word : Option ℕ) → Se
 capped_rows h shares word settle =
     each_finished h shares word (λ f. (v : ℕ) → IsCappedDistance h f.start v word (capped word (in_row f.row v))) settle (λ share f at finished. λ v. capped_row h word share f.start f.row f.stop at finished.row finished.stopped v (in_row f.row v) refl)
 
-has_returned : (h : History) (b : ℕ) (share : Share) (s : ℕ) (row : List (Option ℕ)) (stop : Stop) → IsShareAt h (Some b) share → IsRow h s row → IsStopped h share s row stop → IsDistance h s s b → stop ≡ Returned b
+has_returned : (h : History) (b : ℕ) (share : Share) (s : ℕ) (row : List (Option ℕ)) (stop : Stop) → IsShareAt h (Some b) share → IsSearchRow h s row → IsStopped h share s row stop → IsDistance h s s b → stop ≡ Returned b
 has_returned h b share s row (Returned c) at exact stopped distance =
     let (links, route, costs) = distance.attained in
     let (others, other, paid) = (exact.exact s c stopped.0).attained in

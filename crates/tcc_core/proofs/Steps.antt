@@ -7,12 +7,15 @@ use Rattle.tcc_graph.specs.Routes.{IsRoute, IsDistance}
 use Rattle.tcc_graph.specs.declared.link.Link.{Link}
 use Rattle.tcc_near.specs.Distances.{row_of}
 use Rattle.tcc_derive.specs.Prices.{Tables, IsLinkOf, IsPricesOf}
-use Rattle.tcc_core.specs.Rows.{in_row, IsRow, IsEmptyRow, cap_of, IsWithin, IsCutOff, JoinsNearest}
-use Rattle.tcc_core.specs.Searches.{HasCome, IsWay, IsFrontier, IsSearchOf, IsBounded, Search, held, no_way}
-use Rattle.tcc_core.specs.Relaxing.{IsNearest}
-use Rattle.tcc_core.proofs.Lowering.{IsLowered, lowered_cases, lowered_old, lowered_way, entry_of_link, link_of_entry, held_set, held_below}
+use Rattle.tcc_core.specs.Rows.{in_row, IsSearchRow, IsEmptyRow, cap_of, IsWithin, IsCutOff, JoinsNearest}
+use Rattle.tcc_core.specs.Searches.{IsSearchOf, Search}
+use Rattle.tcc_core.specs.Frontiers.{HasCome, IsWay, IsFrontier}
+use Rattle.tcc_core.specs.Relaxing.{IsNearest, IsBounded, count_joined}
+use Rattle.tcc_core.proofs.Lowering.{IsLowered, lowered_cases, lowered_old, lowered_way, entry_of_link, link_of_entry, joined_set, joined_below}
 use Rattle.tcc_core.proofs.Frontier.{route_of_way, way_within, way_below}
 use Rattle.tcc_near.specs.declared.distances.TheConstants.{NONE}
+use Rattle.tcc_txn.specs.declared.limits.TheConstants.{MAX_COUNT}
+use Rattle.tcc_core.specs.declared.relaxing.TheConstants.{NO_WAY}
 
 -- ---- a row that one more transaction has joined
 
@@ -52,7 +55,7 @@ nearest_least h s search v is near u links out route =
 pub nearest_distance : (h : History) (s : ℕ) (search : Search) (v : ℕ) → IsSearchOf h s search → IsNearest search.row search.costs v → IsDistance h s v (get_or search.costs v 0)
 nearest_distance h s search v is near =
     let below : v < count h = omega (arith, near.below, is.row.long) in
-    let reached : get_or search.costs v 0 ≢ no_way = omega (arith, near.reached) in
+    let reached : get_or search.costs v 0 ≢ NO_WAY = omega (arith, near.reached) in
     record {
       attained = route_of_way h s search.row v (get_or search.costs v 0) is.row (is.frontier.attained v below near.outside reached);
       least = λ links route. nearest_least h s search v is near v links near.outside route;
@@ -69,7 +72,7 @@ nearest_joins h s search v cap is near within = record {
 
 -- ---- or nothing does
 
-pub nothing_near : (h : History) (s : ℕ) (search : Search) (cap : Option ℕ) → IsSearchOf h s search → ((v : ℕ) → v < length search.row → in_row search.row v ≡ None → get_or search.costs v 0 ≡ no_way) → IsCutOff h s search.row cap
+pub nothing_near : (h : History) (s : ℕ) (search : Search) (cap : Option ℕ) → IsSearchOf h s search → ((v : ℕ) → v < length search.row → in_row search.row v ≡ None → get_or search.costs v 0 ≡ NO_WAY) → IsCutOff h s search.row cap
 nothing_near h s search cap is none v links out route within =
     let (w, k, outside, way, low) = way_within h s search.row is.row v links out route in
     let below : w < length search.row = omega (arith, way_below h s search.row w k way, is.row.long) in
@@ -104,7 +107,7 @@ settles_more h s search v cap d is near same low other =
 
 -- ---- the row and the frontier after it
 
-row_after : (h : History) (s : ℕ) (row : List (Option ℕ)) (v d : ℕ) → IsRow h s row → v < length row → IsDistance h s v d → ((u : ℕ) (links : List Link) → in_row row u ≡ None → IsRoute h s u links → d ≤ cost links) → IsRow h s (set row v (Some d))
+row_after : (h : History) (s : ℕ) (row : List (Option ℕ)) (v d : ℕ) → IsSearchRow h s row → v < length row → IsDistance h s v d → ((u : ℕ) (links : List Link) → in_row row u ≡ None → IsRoute h s u links → d ≤ cost links) → IsSearchRow h s (set row v (Some d))
 row_after h s row v d is within distance nearest = record {
   long = length-set row v (Some d) ∙ is.long;
   exact = λ u c e. exact u c (in_set row v d u c within e);
@@ -126,7 +129,7 @@ way_kept h s row v d x n out (u, c, l, come, leads, costs) = (u, c, l, kept come
     kept (inl start) = inl start
     kept (inr inside) = inr (in_kept row v d u c out inside)
 
-frontier_after : (h : History) (t : Tables) (s : ℕ) (row : List (Option ℕ)) (old new : List ℕ) (v d : ℕ) → IsPricesOf h t → length row ≡ count h → IsFrontier h s row old → v < count h → in_row row v ≡ None → d < 2147483648 → ((x : ℕ) → get_or (row_of t.costs v) x 0 < 65536) → IsLowered old new d (row_of t.costs v) → IsFrontier h s (set row v (Some d)) new
+frontier_after : (h : History) (t : Tables) (s : ℕ) (row : List (Option ℕ)) (old new : List ℕ) (v d : ℕ) → IsPricesOf h t → length row ≡ count h → IsFrontier h s row old → v < count h → in_row row v ≡ None → d < 2147483648 → ((x : ℕ) → get_or (row_of t.costs v) x 0 ≤ NONE) → IsLowered old new d (row_of t.costs v) → IsFrontier h s (set row v (Some d)) new
 frontier_after h t s row old new v d priced wide is below out small fits lowered = record {
   long = lowered.long ∙ is.long;
   attained = λ x within e some. attained x within (out_set row v d x there e).1 (lowered_cases old new d (row_of t.costs v) x lowered (omega (arith, is.long)) some) some;
@@ -136,7 +139,7 @@ frontier_after h t s row old new v d priced wide is below out small fits lowered
     there : v < length row
     there = omega arith
 
-    attained : (x : ℕ) → x < count h → in_row row x ≡ None → (get_or new x 0 ≡ get_or old x 0) ⊎ ((get_or (row_of t.costs v) x 0 ≢ NONE) × (get_or new x 0 ≡ d + get_or (row_of t.costs v) x 0)) → get_or new x 0 ≢ no_way → IsWay h s (set row v (Some d)) x (get_or new x 0)
+    attained : (x : ℕ) → x < count h → in_row row x ≡ None → (get_or new x 0 ≡ get_or old x 0) ⊎ ((get_or (row_of t.costs v) x 0 ≢ NONE) × (get_or new x 0 ≡ d + get_or (row_of t.costs v) x 0)) → get_or new x 0 ≢ NO_WAY → IsWay h s (set row v (Some d)) x (get_or new x 0)
     attained x within outside (inl same) some =
         let way = way_kept h s row v d x (get_or old x 0) out (is.attained x within outside (λ e. some (same ∙ e))) in
         rw same way
@@ -144,26 +147,26 @@ frontier_after h t s row old new v d priced wide is below out small fits lowered
         let (l, leads, paid) = link_of_entry h t v x priced below within linked in
         (v, d, l, inr (get_or-set_same row v (Some d) None there), leads, omega (arith, paid, same))
 
-    least : (x n : ℕ) → in_row row x ≡ None → x < count h → IsWay h s (set row v (Some d)) x n → (get_or new x 0 < no_way) × (get_or new x 0 ≤ n)
+    least : (x n : ℕ) → in_row row x ≡ None → x < count h → IsWay h s (set row v (Some d)) x n → (get_or new x 0 < NO_WAY) × (get_or new x 0 ≤ n)
     least x n outside within (u, c, l, come, leads, costs) = by come
       where
-        before : HasCome s row u c → (get_or new x 0 < no_way) × (get_or new x 0 ≤ n)
+        before : HasCome s row u c → (get_or new x 0 < NO_WAY) × (get_or new x 0 ≤ n)
         before come =
             let low = is.least x n outside (u, c, l, come, leads, costs) in
             let lower = lowered_old old new d (row_of t.costs v) x lowered (omega (arith, is.long)) in
             (omega (arith, low.0, lower), omega (arith, low.1, lower))
 
-        now : (u ≡ v) → (c ≡ d) → (get_or new x 0 < no_way) × (get_or new x 0 ≤ n)
+        now : (u ≡ v) → (c ≡ d) → (get_or new x 0 < NO_WAY) × (get_or new x 0 ≤ n)
         now same equal =
             let found = entry_of_link h t v x l priced below within (subst (λ (z : ℕ). IsLinkOf h z x l) same leads) in
             let lower = lowered_way old new d (row_of t.costs v) x lowered (omega (arith, is.long)) found.0 in
             (omega (arith, lower, fits x), omega (arith, lower, found.1, costs, equal))
 
-        inside : ((u ≡ v) × (c ≡ d)) ⊎ (in_row row u ≡ Some c) → (get_or new x 0 < no_way) × (get_or new x 0 ≤ n)
+        inside : ((u ≡ v) × (c ≡ d)) ⊎ (in_row row u ≡ Some c) → (get_or new x 0 < NO_WAY) × (get_or new x 0 ≤ n)
         inside (inl (same, equal)) = now same equal
-        inside (inr held) = before (inr held)
+        inside (inr count_joined) = before (inr count_joined)
 
-        by : HasCome s (set row v (Some d)) u c → (get_or new x 0 < no_way) × (get_or new x 0 ≤ n)
+        by : HasCome s (set row v (Some d)) u c → (get_or new x 0 < NO_WAY) × (get_or new x 0 ≤ n)
         by (inl start) = before (inl start)
         by (inr e) = inside (in_set row v d u c there e)
 
@@ -174,7 +177,7 @@ abbrev pub after : Search → ℕ → List ℕ → Search
 after search v new =
     record { start = search.start; row = set search.row v (Some (get_or search.costs v 0)); costs = new }
 
-pub search_after : (h : History) (t : Tables) (s : ℕ) (search : Search) (v : ℕ) (new : List ℕ) → IsPricesOf h t → IsSearchOf h s search → IsNearest search.row search.costs v → get_or search.costs v 0 < 2147483648 → ((x : ℕ) → get_or (row_of t.costs v) x 0 < 65536) → IsLowered search.costs new (get_or search.costs v 0) (row_of t.costs v) → IsSearchOf h s (after search v new)
+pub search_after : (h : History) (t : Tables) (s : ℕ) (search : Search) (v : ℕ) (new : List ℕ) → IsPricesOf h t → IsSearchOf h s search → IsNearest search.row search.costs v → get_or search.costs v 0 < 2147483648 → ((x : ℕ) → get_or (row_of t.costs v) x 0 ≤ NONE) → IsLowered search.costs new (get_or search.costs v 0) (row_of t.costs v) → IsSearchOf h s (after search v new)
 search_after h t s search v new priced is near small fits lowered =
     let below : v < count h = omega (arith, near.below, is.row.long) in
     record {
@@ -186,13 +189,13 @@ search_after h t s search v new priced is near small fits lowered =
 
 -- ---- bounds that hold whatever the prices are
 
-pub nearest_small : (search : Search) (v : ℕ) → IsBounded search → IsNearest search.row search.costs v → get_or search.costs v 0 ≤ NONE * (held search.row + 1)
+pub nearest_small : (search : Search) (v : ℕ) → IsBounded search → IsNearest search.row search.costs v → get_or search.costs v 0 ≤ NONE * (count_joined search.row + 1)
 nearest_small search v is near = is.bounded v near.below (omega (arith, near.reached))
 
 pub small_enough : (search : Search) (v : ℕ) → IsBounded search → IsNearest search.row search.costs v → get_or search.costs v 0 < 2147483648
-small_enough search v is near = omega (arith, nearest_small search v is near, held_below search.row v near.below near.outside, is.few)
+small_enough search v is near = omega (arith, nearest_small search v is near, joined_below search.row v near.below near.outside, is.few)
 
-pub bounded_after : (search : Search) (v : ℕ) (new links : List ℕ) → IsBounded search → IsNearest search.row search.costs v → ((x : ℕ) → get_or links x 0 < 65536) → IsLowered search.costs new (get_or search.costs v 0) links → IsBounded (after search v new)
+pub bounded_after : (search : Search) (v : ℕ) (new links : List ℕ) → IsBounded search → IsNearest search.row search.costs v → ((x : ℕ) → get_or links x 0 ≤ NONE) → IsLowered search.costs new (get_or search.costs v 0) links → IsBounded (after search v new)
 bounded_after search v new links is near fits lowered = record {
   below = rw length-set is.below;
   few = rw length-set is.few;
@@ -200,16 +203,16 @@ bounded_after search v new links is near fits lowered = record {
   bounded = λ x within some. bound x (rw length-set at within) some (lowered_cases search.costs new (get_or search.costs v 0) links x lowered (omega (arith, is.long, length-set search.row v (Some (get_or search.costs v 0)))) some);
 }
   where
-    more : held (set search.row v (Some (get_or search.costs v 0))) ≡ held search.row + 1
-    more = held_set search.row v (get_or search.costs v 0) near.below near.outside
+    more : count_joined (set search.row v (Some (get_or search.costs v 0))) ≡ count_joined search.row + 1
+    more = joined_set search.row v (get_or search.costs v 0) near.below near.outside
 
-    bound : (x : ℕ) → x < length search.row → get_or new x 0 ≢ no_way → (get_or new x 0 ≡ get_or search.costs x 0) ⊎ ((get_or links x 0 ≢ NONE) × (get_or new x 0 ≡ get_or search.costs v 0 + get_or links x 0)) → get_or new x 0 ≤ NONE * (held (set search.row v (Some (get_or search.costs v 0))) + 1)
+    bound : (x : ℕ) → x < length search.row → get_or new x 0 ≢ NO_WAY → (get_or new x 0 ≡ get_or search.costs x 0) ⊎ ((get_or links x 0 ≢ NONE) × (get_or new x 0 ≡ get_or search.costs v 0 + get_or links x 0)) → get_or new x 0 ≤ NONE * (count_joined (set search.row v (Some (get_or search.costs v 0))) + 1)
     bound x within some (inl same) = omega (arith, same, more, is.bounded x within (λ e. some (same ∙ e)))
     bound x within some (inr (linked, same)) = omega (arith, same, more, nearest_small search v is near, fits x)
 
 -- ---- the beginning
 
-pub search_begun : (h : History) (t : Tables) (s : ℕ) (row : List (Option ℕ)) (old new : List ℕ) → IsPricesOf h t → s < count h → IsEmptyRow (count h) row → length old ≡ count h → ((x : ℕ) → x < count h → get_or old x 0 ≡ no_way) → ((x : ℕ) → get_or (row_of t.costs s) x 0 < 65536) → IsLowered old new 0 (row_of t.costs s) → IsSearchOf h s (record { start = s; row = row; costs = new })
+pub search_begun : (h : History) (t : Tables) (s : ℕ) (row : List (Option ℕ)) (old new : List ℕ) → IsPricesOf h t → s < count h → IsEmptyRow (count h) row → length old ≡ count h → ((x : ℕ) → x < count h → get_or old x 0 ≡ NO_WAY) → ((x : ℕ) → get_or (row_of t.costs s) x 0 ≤ NONE) → IsLowered old new 0 (row_of t.costs s) → IsSearchOf h s (record { start = s; row = row; costs = new })
 search_begun h t s row old new priced below empty long none fits lowered = record {
   start = refl;
   below = below;
@@ -228,20 +231,20 @@ search_begun h t s row old new priced below empty long none fits lowered = recor
     no_one : (v d : ℕ) → in_row row v ≡ Some d → ⊥
     no_one v d e = let out : in_row row v ≡ None = empty.empty v in cc
 
-    attained : (x : ℕ) → x < count h → (get_or new x 0 ≡ get_or old x 0) ⊎ ((get_or (row_of t.costs s) x 0 ≢ NONE) × (get_or new x 0 ≡ 0 + get_or (row_of t.costs s) x 0)) → get_or new x 0 ≢ no_way → IsWay h s row x (get_or new x 0)
+    attained : (x : ℕ) → x < count h → (get_or new x 0 ≡ get_or old x 0) ⊎ ((get_or (row_of t.costs s) x 0 ≢ NONE) × (get_or new x 0 ≡ 0 + get_or (row_of t.costs s) x 0)) → get_or new x 0 ≢ NO_WAY → IsWay h s row x (get_or new x 0)
     attained x within (inl same) some = absurd (some (same ∙ none x within))
     attained x within (inr (linked, same)) some =
         let (l, leads, paid) = link_of_entry h t s x priced below within linked in
         (s, 0, l, inl (refl, refl), leads, omega (arith, paid, same))
 
-    least : (x n : ℕ) → x < count h → IsWay h s row x n → (get_or new x 0 < no_way) × (get_or new x 0 ≤ n)
+    least : (x n : ℕ) → x < count h → IsWay h s row x n → (get_or new x 0 < NO_WAY) × (get_or new x 0 ≤ n)
     least x n within (u, c, l, inr inside, leads, costs) = absurd (no_one u c inside)
     least x n within (u, c, l, inl (same, nothing), leads, costs) =
         let found = entry_of_link h t s x l priced below within (subst (λ (z : ℕ). IsLinkOf h z x l) same leads) in
         let lower = lowered_way old new 0 (row_of t.costs s) x lowered (omega arith) found.0 in
         (omega (arith, lower, fits x), omega (arith, lower, found.1, costs, nothing))
 
-pub bounded_begun : (s n : ℕ) (row : List (Option ℕ)) (old new links : List ℕ) → s < n → n ≤ 1024 → IsEmptyRow n row → length old ≡ n → ((x : ℕ) → x < n → get_or old x 0 ≡ no_way) → ((x : ℕ) → get_or links x 0 < 65536) → IsLowered old new 0 links → IsBounded (record { start = s; row = row; costs = new })
+pub bounded_begun : (s n : ℕ) (row : List (Option ℕ)) (old new links : List ℕ) → s < n → n ≤ MAX_COUNT → IsEmptyRow n row → length old ≡ n → ((x : ℕ) → x < n → get_or old x 0 ≡ NO_WAY) → ((x : ℕ) → get_or links x 0 ≤ NONE) → IsLowered old new 0 links → IsBounded (record { start = s; row = row; costs = new })
 bounded_begun s n row old new links below few empty long none fits lowered = record {
   below = omega (arith, empty.long);
   few = omega (arith, empty.long);
@@ -249,6 +252,6 @@ bounded_begun s n row old new links below few empty long none fits lowered = rec
   bounded = λ x within some. bound x (omega (arith, empty.long)) (lowered_cases old new 0 links x lowered (omega (arith, empty.long)) some) some;
 }
   where
-    bound : (x : ℕ) → x < n → (get_or new x 0 ≡ get_or old x 0) ⊎ ((get_or links x 0 ≢ NONE) × (get_or new x 0 ≡ 0 + get_or links x 0)) → get_or new x 0 ≢ no_way → get_or new x 0 ≤ NONE * (held row + 1)
+    bound : (x : ℕ) → x < n → (get_or new x 0 ≡ get_or old x 0) ⊎ ((get_or links x 0 ≢ NONE) × (get_or new x 0 ≡ 0 + get_or links x 0)) → get_or new x 0 ≢ NO_WAY → get_or new x 0 ≤ NONE * (count_joined row + 1)
     bound x within (inl same) some = absurd (some (same ∙ none x within))
     bound x within (inr (linked, same)) some = omega (arith, same, fits x)

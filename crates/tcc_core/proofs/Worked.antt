@@ -11,13 +11,14 @@ use Rattle.tcc_graph.specs.declared.step.Step.TheVariants as step
 use Rattle.tcc_graph.specs.declared.link.Link.{Link}
 use Rattle.tcc_graph.specs.declared.link.Link.TheVariants as link
 use Rattle.tcc_core.specs.Rows.{in_row, cap_of, JoinsNearest}
-use Rattle.tcc_core.specs.Searches.{held, Settles}
-use Rattle.tcc_core.specs.Relaxing.{way_by, lesser}
+use Rattle.tcc_core.specs.Searches.{Settles}
+use Rattle.tcc_core.specs.Relaxing.{way_by, lesser, count_joined}
 use Rattle.tcc_core.specs.Shares.{Share, Finished, Returned, Cut, IsNotAbove, IsStopped, IsFinished, IsCycleCost, starts_of, SettleAt, capped}
 use Rattle.tcc_core.specs.declared.settled.Settled.TheVariants as settled
 use Rattle.tcc_core.proofs.LinkLemmas.{cost_cons}
 use Rattle.tcc_graph.proofs.Pairs.{link_below}
 use Rattle.tcc_near.specs.declared.distances.TheConstants.{NONE}
+use Rattle.tcc_core.specs.declared.relaxing.TheConstants.{NO_WAY}
 
 -- ---- rows, caps and words
 
@@ -36,13 +37,13 @@ cap_of-most = refl
 cap_of-less : cap_of 18446744073709551614 ≡ Some 18446744073709551614
 cap_of-less = refl
 
-held-two : held (Some 0 ∷ None ∷ Some 4 ∷ []) ≡ 2
-held-two = refl
+count_joined-two : count_joined (Some 0 ∷ None ∷ Some 4 ∷ []) ≡ 2
+count_joined-two = refl
 
 way_by-link : way_by 3 2 ≡ 5
 way_by-link = refl
 
-way_by-none : way_by 3 NONE ≡ 4294967295
+way_by-none : way_by 3 NONE ≡ NO_WAY
 way_by-none = refl
 
 lesser-two : (lesser 3 2 ≡ 2) × (lesser 2 3 ≡ 2)

@@ -1,4 +1,5 @@
 pub mod Rows
 pub mod Searches
-pub mod Relaxing
 pub mod Shares
+pub mod Frontiers
+pub mod Relaxing

@@ -1,19 +1,35 @@
--- Costs of ways, and how links lower them.
-use Rattle.std.specs.Prelude.{ℕ, ◌<◌, ◌≤◌, ◌≡◌, ◌+◌, ◌==◌, List, length, Option, None, nat_lt, if◌then◌else◌, slice_index}
-use Rattle.tcc_core.specs.Rows.{in_row}
-use Rattle.tcc_core.specs.Searches.{no_way}
+-- For the private stages and their proofs alone: nobody has to believe what stands here.
+-- Costs of ways, how links lower them, and how far they grow.
+use Rattle.std.specs.Prelude.{ℕ, ◌<◌, ◌≤◌, ◌≡◌, ◌≢◌, ◌+◌, ◌*◌, ◌==◌, List, [], ◌∷◌, length, Option, None, Some, nat_lt, if◌then◌else◌, slice_index}
+use Rattle.tcc_txn.specs.declared.limits.TheConstants.{MAX_COUNT}
 use Rattle.tcc_near.specs.declared.distances.TheConstants.{NONE}
+use Rattle.tcc_core.specs.Rows.{in_row}
+use Rattle.tcc_core.specs.Searches.{Search}
+use Rattle.tcc_core.specs.declared.relaxing.TheConstants.{NO_WAY}
 
 -- v stands outside the row, some way leads there, and the way to no other outside costs less
 pub record IsNearest (row : List (Option ℕ)) (costs : List ℕ) (v : ℕ) : Type 0 where
   pub below : v < length row
   pub outside : in_row row v ≡ None
-  pub reached : slice_index costs v < no_way
+  pub reached : slice_index costs v < NO_WAY
   pub nearest : (u : ℕ) → u < length row → in_row row u ≡ None → slice_index costs v ≤ slice_index costs u
 
 -- what a way costs that leads on by a link, of a table of links' costs
 abbrev pub way_by : ℕ → ℕ → ℕ
-way_by so_far link = if link == NONE then no_way else (so_far + link)
+way_by so_far link = if link == NONE then NO_WAY else (so_far + link)
 
 abbrev pub lesser : ℕ → ℕ → ℕ
 lesser a b = if nat_lt b a then b else a
+
+-- how many transactions the row has
+abbrev pub count_joined : List (Option ℕ) → ℕ
+count_joined [] = 0
+count_joined (None ∷ row) = count_joined row
+count_joined (Some c ∷ row) = count_joined row + 1
+
+-- few transactions, and with each that joins the row the costs grow by one link at most
+pub record IsBounded (search : Search) : Type 0 where
+  pub below : search.start < length search.row
+  pub few : length search.row ≤ MAX_COUNT
+  pub long : length search.costs ≡ length search.row
+  pub bounded : (v : ℕ) → v < length search.row → slice_index search.costs v ≢ NO_WAY → slice_index search.costs v ≤ NONE * (count_joined search.row + 1)

@@ -10,7 +10,7 @@ abbrev pub in_row : List (Option ℕ) → ℕ → Option ℕ
 in_row row v = slice_index_or row v None
 
 -- a place for each transaction: what the row has is the distance, and nothing outside is nearer than anything inside
-pub record IsRow (h : History) (s : ℕ) (row : List (Option ℕ)) : Type 0 where
+pub record IsSearchRow (h : History) (s : ℕ) (row : List (Option ℕ)) : Type 0 where
   pub long : length row ≡ count h
   pub exact : (v : ℕ) (distance : ℕ) → in_row row v ≡ Some distance → IsDistance h s v distance
   pub closed : (v : ℕ) (u : ℕ) (distance : ℕ) (links : List Link) → in_row row v ≡ Some distance → in_row row u ≡ None → IsRoute h s u links → distance ≤ cost links

@@ -5,7 +5,7 @@ use Rattle.tcc_graph.specs.Links.{cost}
 use Rattle.tcc_graph.specs.Orders.{IsNumbering}
 use Rattle.tcc_graph.specs.Routes.{IsRoute, IsCycle, IsDistance}
 use Rattle.tcc_graph.specs.declared.link.Link.{Link}
-use Rattle.tcc_core.specs.Rows.{in_row, IsRow, IsCutOff}
+use Rattle.tcc_core.specs.Rows.{in_row, IsSearchRow, IsCutOff}
 
 -- how a search ended: it returned to its start at this cost, or was cut at a cap, of which none is above every number
 pub data Stop : Type 0 where
@@ -38,7 +38,7 @@ IsStopped h share s row (Cut cap) = IsNotAbove share.sight cap × (in_row row s 
 
 -- a search of the worker, to its end
 pub record IsFinished (h : History) (share : Share) (f : Finished) : Type 0 where
-  pub row : IsRow h f.start f.row
+  pub row : IsSearchRow h f.start f.row
   pub stopped : IsStopped h share f.start f.row f.stop
 
 -- some cycle costs c

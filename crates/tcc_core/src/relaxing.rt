@@ -1,8 +1,10 @@
 //! The frontier of a search: what the ways to the transactions outside its row cost.
 ghost use Rattle.std.specs.Prelude.{◌≡◌, ◌<◌, ◌≤◌, ◌^◌, ℕ, length, slice_index, All, IfNone, IfSome};
 ghost use Rattle.tcc_core.specs.Rows.{in_row};
-ghost use Rattle.tcc_core.specs.Searches.{no_way};
 ghost use Rattle.tcc_core.specs.Relaxing.{IsNearest, way_by, lesser};
+ghost use Rattle.tcc_txn.specs.declared.limits.TheConstants.{MAX_COUNT};
+ghost use Rattle.tcc_near.specs.declared.distances.TheConstants.{NONE};
+ghost use Rattle.tcc_core.specs.declared.relaxing.TheConstants.{NO_WAY};
 
 use tcc_near::NONE;
 
@@ -12,9 +14,9 @@ pub(crate) const NO_WAY: u32 = u32::MAX;
 /// One of the nearest of the transactions outside the row; none where no way leads to any of them.
 pub(crate) fn nearest(row: &[Option<u32>], costs: &[u32]) -> Option<u32>
     requires long { length costs.now ≡ length row.now }
-    requires few { length row.now ≤ 1024 }
+    requires few { length row.now ≤ MAX_COUNT }
     ensures found { IfSome result (IsNearest row.now costs.now) }
-    ensures none { IfNone result ((v : ℕ) → v < length row.now → in_row row.now v ≡ None → slice_index costs.now v ≡ no_way) }
+    ensures none { IfNone result ((v : ℕ) → v < length row.now → in_row row.now v ≡ None → slice_index costs.now v ≡ NO_WAY) }
 {
     let mut found = None;
     let mut least = NO_WAY;
@@ -43,7 +45,7 @@ fn way_by(so_far: u32, link: u16) -> u32
 pub(crate) fn relax(costs: &mut [u32], so_far: u32, links: &[u16])
     requires small { so_far < 2 ^ 31 }
     requires long { length links.now ≡ length costs.old }
-    ensures links { All (λ link. link < 2 ^ 16) links.now }
+    ensures links { All (λ link. link ≤ NONE) links.now }
     ensures lowered { (v : ℕ) → v < length costs.old → slice_index costs.new v ≡ lesser (slice_index costs.old v) (way_by so_far (slice_index links.now v)) }
 {
     for (v, link) in links.iter().enumerate() {

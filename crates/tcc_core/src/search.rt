@@ -3,6 +3,7 @@ ghost use Rattle.std.specs.Prelude.{◌≡◌, ◌<◌, ◌≤◌, ℕ, length, 
 ghost use Rattle.tcc_reads.specs.History.{History};
 ghost use Rattle.tcc_derive.specs.Prices.{IsPricesOf};
 ghost use Rattle.tcc_near.specs.Distances.{row_of};
+ghost use Rattle.tcc_txn.specs.declared.limits.TheConstants.{MAX_COUNT};
 
 use crate::Settled;
 use crate::relaxing::{NO_WAY, nearest, relax};
@@ -20,7 +21,7 @@ pub struct Search {
 }
 
 impl Model for Search {
-    ghost use Rattle.tcc_core.specs.Searches.{IsBounded};
+    ghost use Rattle.tcc_core.specs.Relaxing.{IsBounded};
     ghost use Rattle.tcc_core.specs.Searches as searches;
 
     ghost Value = { searches.Search };
@@ -77,14 +78,16 @@ impl Search {
 
     /// The start.
     pub fn start(&self) -> u32
-        ensures { result ≡ self.now.start }
+        ensures value { result ≡ self.now.start }
+        ensures below { result < length self.now.row }
     {
         self.start
     }
 
     /// The distance from the start to each transaction that has joined, none for those outside.
     pub fn row(&self) -> &[Option<u32>]
-        ensures { result.now ≡ self.now.row }
+        ensures value { result.now ≡ self.now.row }
+        ensures few { length result.now ≤ MAX_COUNT }
     {
         &self.row
     }

@@ -22,6 +22,7 @@ use Rattle.tcc_derive.specs.declared.read.Read.{Read}
 use Rattle.tcc_derive.proofs.BucketLemmas.{Contains-flat_map, flat_map-Contains}
 use Rattle.tcc_derive.proofs.KeyLemmas.{read_place}
 use Rattle.tcc_near.specs.declared.distances.TheConstants.{NONE}
+use Rattle.tcc_txn.specs.declared.limits.TheConstants.{MAX_COUNT}
 
 -- a derived link costs a step more than its walk
 pub derived_cost : (b a : ℕ) (x : List ℕ) (c : ℕ) (walk : List Step) → link_cost (link.Derived b a x c walk) ≡ length walk + 1
@@ -55,7 +56,7 @@ out_of_reach h near b c nears from to none = go (nears.exact b c from to)
     go d = rw none at d
 
 module _ (h : History) (near : List (List ℕ)) (reads : List (List Read)) (written : List (List ℕ)) (b : ℕ) (row : List ℕ)
-    (small : count h ≤ 1024) (from : b < count h) (nears : IsNearOf h near) (read : IsReadsOf h reads) (wrote : IsWritesOf h written)
+    (small : count h ≤ MAX_COUNT) (from : b < count h) (nears : IsNearOf h near) (read : IsReadsOf h reads) (wrote : IsWritesOf h written)
     (lowered : Lowers (flat_map (bucket reads) (bucket written b)) (row_of near b) b (replicate (length near) NONE) row) where
   -- the read of each reason is among those that lowered the row
   reason_read : (a : ℕ) (x : List ℕ) (c : ℕ) → MayContradict h b a x c → Contains (flat_map (bucket reads) (bucket written b)) (record { source = a; reader = c })

@@ -16,7 +16,8 @@ use Rattle.tcc_graph.specs.Ties.{step_kind, step_key, step_cmp}
 use Rattle.tcc_reads.specs.Sources.{name_cmp}
 use Rattle.tcc_graph.specs.declared.step.Step.{Step}
 use Rattle.tcc_graph.specs.declared.step.Step.TheVariants as step
-use Rattle.tcc_derive.specs.Backwards.{IsFirstName, IsUpTo, IsFirstStep}
+use Rattle.tcc_derive.specs.Names.{IsFirstName}
+use Rattle.tcc_derive.specs.Backwards.{IsUpTo, IsFirstStep}
 
 step_total : IsTotalOrder step_cmp
 step_total = then_total (on_total step_from nat_cmp_total) (then_total (on_total step_kind nat_cmp_total) (on_total step_key nat_list_cmp_total))

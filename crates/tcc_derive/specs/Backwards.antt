@@ -1,17 +1,12 @@
+-- For the private stages and their proofs alone: nobody has to believe what stands here.
 -- Walks from the last step backwards.
-use Rattle.std.specs.Prelude.{ℕ, ◌<◌, ◌≤◌, ◌≡◌, ◌≢◌, ◌⊎◌, ◌==◌, Bool, true, false, List, [], ◌∷◌, length, Contains, All, slice_index, if◌then◌else◌}
-use Rattle.std.specs.Ordering.{is_lt}
+use Rattle.std.specs.Prelude.{ℕ, ◌<◌, ◌≤◌, ◌≡◌, ◌≢◌, ◌⊎◌, ◌==◌, Bool, true, List, [], ◌∷◌, length, slice_index, if◌then◌else◌}
 use Rattle.std.specs.declared.cmp.Ordering.TheVariants.{Less, Greater}
 use Rattle.tcc_reads.specs.History.{History}
 use Rattle.tcc_graph.specs.Walks.{step_from, step_to, IsStep, IsWalk}
 use Rattle.tcc_graph.specs.Ties.{step_cmp, walk_cmp}
-use Rattle.tcc_reads.specs.Sources.{name_cmp}
 use Rattle.tcc_near.specs.Distances.{IsShortest}
 use Rattle.tcc_graph.specs.declared.step.Step.{Step}
-
--- the name is one of the names, and none of them comes before it
-abbrev pub IsFirstName : List (List ℕ) → List ℕ → Type 0
-IsFirstName names x = Contains names x × All (λ y. is_lt (name_cmp y x) ≡ false) names
 
 -- the step comes before the other, or is the same
 abbrev pub IsUpTo : Step → Step → Type 0

@@ -1,3 +1,4 @@
+-- For the private stages and their proofs alone: nobody has to believe what stands here.
 -- The choice of a key and a reader for a reason.
 use Rattle.std.specs.Prelude.{ℕ, ◌<◌, ◌≤◌, ◌≡◌, ◌≢◌, List, Contains, slice_index}
 use Rattle.std.specs.declared.cmp.Ordering.TheVariants.{Greater}

@@ -1,3 +1,4 @@
+-- For the private stages and their proofs alone: nobody has to believe what stands here.
 -- Who reads each key from whom, and which keys each transaction writes.
 use Rattle.std.specs.Prelude.{ℕ, ◌<◌, ◌≡◌, List, length, Contains}
 use Rattle.tcc_reads.specs.History.{History, count}

@@ -1,3 +1,4 @@
+-- For the private stages and their proofs alone: nobody has to believe what stands here.
 -- Rows of prices that reads lower, and of costs.
 use Rattle.std.specs.Prelude.{ℕ, ◌+◌, ◌<◌, ◌≤◌, ◌≡◌, ◌≢◌, ◌⊎◌, List, length, min, if◌then◌else◌, slice_index, Contains, All}
 use Rattle.tcc_reads.specs.History.{History}

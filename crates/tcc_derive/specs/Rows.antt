@@ -1,3 +1,4 @@
+-- For the private stages and their proofs alone: nobody has to believe what stands here.
 -- Rows and tables of prices and costs.
 use Rattle.std.specs.Prelude.{ℕ, ◌<◌, ◌≤◌, ◌≡◌, ◌+◌, List, length, Some}
 use Rattle.tcc_reads.specs.History.{History, count}

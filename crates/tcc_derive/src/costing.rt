@@ -4,6 +4,7 @@ ghost use Rattle.tcc_reads.specs.History.{count};
 ghost use Rattle.tcc_near.specs.Distances.{row_of};
 ghost use Rattle.tcc_derive.specs.Lowering.{HasPairs};
 ghost use Rattle.tcc_derive.specs.Rows.{IsPriceRow, IsCostRow, HasRows};
+ghost use Rattle.tcc_txn.specs.declared.limits.TheConstants.{MAX_COUNT};
 
 use rayon::prelude::*;
 use std::alloc::Global;
@@ -16,7 +17,7 @@ use tcc_txn::NoMemory;
 fn cost_row(alloc: Global, graph: &Graph, prices: &[u16], u: u32) -> Result<Row<u16>, NoMemory>
     requires from { u < count graph.now }
     requires long { length prices.now ≡ count graph.now }
-    requires few { count graph.now ≤ 1024 }
+    requires few { count graph.now ≤ MAX_COUNT }
     ensures { IfOk result (HasPairs graph.now u prices.now) }
 {
     let mut costs = Vec::with_capacity(alloc, prices.len())?;
@@ -41,7 +42,7 @@ pub(crate) fn cost_rows(
         .into_par_iter()
         .map(
             |u: usize| -> Result<Row<u16>, NoMemory>
-                requires { (u < length prices.now) × (length prices.now ≡ count graph.now) × (count graph.now ≤ 1024)
+                requires { (u < length prices.now) × (length prices.now ≡ count graph.now) × (count graph.now ≤ MAX_COUNT)
                     × (length (row_of prices.now u) ≡ count graph.now) }
                 ensures { IfOk result (HasPairs graph.entry.now u (row_of prices.entry.now u)) }
             { cost_row(alloc, graph, prices[u].values(), u as u32) },

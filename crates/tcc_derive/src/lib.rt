@@ -16,6 +16,7 @@ mod write_table;
 pub use derivation::derive;
 pub use reasons::reason;
 pub use tables::Prices;
+pub use walking::first_name;
 
 #[cfg(test)]
 mod tests;

@@ -7,6 +7,7 @@ ghost use Rattle.tcc_derive.specs.KeyTables.{IsReadsOf, IsWritesOf};
 ghost use Rattle.tcc_derive.specs.Lowering.{HaveReads, Lowers};
 ghost use Rattle.tcc_derive.specs.Rows.{IsPriceRow, HasRows};
 ghost use Rattle.tcc_near.specs.declared.distances.TheConstants.{NONE};
+ghost use Rattle.tcc_txn.specs.declared.limits.TheConstants.{MAX_COUNT};
 
 use crate::read::Read;
 use rayon::prelude::*;
@@ -63,13 +64,13 @@ pub(crate) fn price_rows(
     requires reads { IsReadsOf graph.now reads.now }
     requires written { IsWritesOf graph.now written.now }
     ensures rows { IfOk result (λ rows. HasRows graph.now (IsPriceRow graph.now) rows.items) }
-    ensures few { IfOk result (λ rows. length rows.items ≤ 1024) }
+    ensures few { IfOk result (λ rows. length rows.items ≤ MAX_COUNT) }
 {
     (0..graph.count() as usize)
         .into_par_iter()
         .map(
             |b: usize| -> Result<Row<u16>, NoMemory>
-                requires { (b < length near.now) × (length near.now ≤ 1024) × (length written.now ≡ length near.now)
+                requires { (b < length near.now) × (length near.now ≤ MAX_COUNT) × (length written.now ≡ length near.now)
                     × HaveReads (length near.now) reads.now (bucket written.now b) }
                 ensures { IfOk result (Lowers (flat_map (bucket reads.entry.now) (bucket written.entry.now b)) (row_of near.entry.now b) b
                     (replicate (length near.entry.now) NONE)) }

@@ -2,6 +2,7 @@
 ghost use Rattle.std.specs.Prelude.{◌≡◌, ◌<◌, ◌≤◌, ◌∷◌, [], length};
 ghost use Rattle.tcc_near.specs.Distances.{row_of, least_in, IsSquare};
 ghost use Rattle.tcc_derive.specs.Prices.{price_at, cost_at};
+ghost use Rattle.tcc_txn.specs.declared.limits.TheConstants.{MAX_COUNT};
 
 use std::marker::Model;
 use tcc_near::{NONE, Row};
@@ -17,12 +18,13 @@ impl Model for Prices {
     ghost use Rattle.std.specs.Prelude.{length, ◌≤◌};
     ghost use Rattle.tcc_near.specs.Distances.{IsSquare};
     ghost use Rattle.tcc_derive.specs.Prices.{Tables};
+    ghost use Rattle.tcc_txn.specs.declared.limits.TheConstants.{MAX_COUNT};
 
     ghost Value = { Tables };
 
     ghost view = { λ p. record { prices = p.prices.items; costs = p.costs.items } };
 
-    ghost invariant = { λ p. IsSquare (length p.prices.items) p.prices.items × (IsSquare (length p.prices.items) p.costs.items × (length p.prices.items ≤ 1024)) };
+    ghost invariant = { λ p. IsSquare (length p.prices.items) p.prices.items × (IsSquare (length p.prices.items) p.costs.items × (length p.prices.items ≤ MAX_COUNT)) };
 }
 
 impl Prices {
@@ -30,7 +32,7 @@ impl Prices {
     pub(crate) fn new(prices: Vec<Row<u16>>, costs: Vec<Row<u16>>) -> Prices
         requires prices { IsSquare (length prices.items) prices.items }
         requires costs { IsSquare (length prices.items) costs.items }
-        requires few { length prices.items ≤ 1024 }
+        requires few { length prices.items ≤ MAX_COUNT }
         ensures { result ≡ record { prices = prices.items; costs = costs.items } }
     {
         Prices { prices, costs }
@@ -38,7 +40,8 @@ impl Prices {
 
     /// How many transactions there are, `init` among them.
     pub fn count(&self) -> u32
-        ensures { result ≡ length self.now.prices }
+        ensures value { result ≡ length self.now.prices }
+        ensures few { result ≤ MAX_COUNT }
     {
         self.prices.len() as u32
     }
@@ -66,7 +69,7 @@ impl Prices {
         requires { u < length self.now.prices }
         ensures value { result.now ≡ row_of self.now.costs u }
         ensures long { length result.now ≡ length self.now.prices }
-        ensures few { length result.now ≤ 1024 }
+        ensures few { length result.now ≤ MAX_COUNT }
     {
         self.costs[u as usize].values()
     }

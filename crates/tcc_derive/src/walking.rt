@@ -4,7 +4,8 @@ ghost use Rattle.tcc_reads.specs.History.{count};
 ghost use Rattle.tcc_graph.specs.Walks.{step_from, step_to, IsStep, IsReached};
 ghost use Rattle.tcc_graph.specs.declared.step.Step.{Step};
 ghost use Rattle.tcc_near.specs.Distances.{IsNearOf, row_of};
-ghost use Rattle.tcc_derive.specs.Backwards.{IsFirstName, IsFirstStep, IsLastStep, IsFirstWalk, stands_at};
+ghost use Rattle.tcc_derive.specs.Names.{IsFirstName};
+ghost use Rattle.tcc_derive.specs.Backwards.{IsFirstStep, IsLastStep, IsFirstWalk, stands_at};
 ghost use Rattle.tcc_near.specs.declared.distances.TheConstants.{NONE};
 
 use std::alloc::Global;
@@ -13,7 +14,7 @@ use tcc_near::Near;
 use tcc_txn::{Name, NoMemory};
 
 /// The first of the names; none where there are none.
-fn first_name(names: &[Name]) -> Option<Name>
+pub fn first_name(names: &[Name]) -> Option<Name>
     ensures { MatchOption result (length names.now ≡ 0) (IsFirstName names.now) }
 {
     names.iter().copied().min()

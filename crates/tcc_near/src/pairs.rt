@@ -3,6 +3,7 @@ ghost use Rattle.std.specs.Prelude.{◌≡◌, ◌<◌, ◌≤◌, ℕ, length, 
 ghost use Rattle.tcc_reads.specs.History.{count};
 ghost use Rattle.tcc_graph.specs.Relations.{causal_pair};
 ghost use Rattle.tcc_near.specs.Levels.{is_marked, IsPairTable};
+ghost use Rattle.tcc_txn.specs.declared.limits.TheConstants.{MAX_COUNT};
 
 use crate::Row;
 use std::alloc::{AllocError, Global};
@@ -25,7 +26,7 @@ fn pairs_from(alloc: Global, graph: &Graph, from: u32) -> Result<Row<bool>, Allo
 /// Of each transaction, those to which a causal pair leads from it.
 pub(crate) fn pair_table(alloc: Global, graph: &Graph) -> Result<Vec<Row<bool>>, AllocError>
     ensures pairs { IfOk result (λ table. IsPairTable graph.now table.items) }
-    ensures few { IfOk result (λ table. length table.items ≤ 1024) }
+    ensures few { IfOk result (λ table. length table.items ≤ MAX_COUNT) }
 {
     let mut table = Vec::new(alloc);
     for from in 0..graph.count() {

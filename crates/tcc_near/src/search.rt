@@ -4,6 +4,7 @@ ghost use Rattle.tcc_reads.specs.History.{History, count};
 ghost use Rattle.tcc_near.specs.Distances.{IsNearOf};
 ghost use Rattle.tcc_near.specs.Levels.{is_marked, IsPairTable, HasDistances, IsSpread, numbered, unnumbered};
 ghost use Rattle.tcc_near.specs.declared.distances.TheConstants.{NONE};
+ghost use Rattle.tcc_txn.specs.declared.limits.TheConstants.{MAX_COUNT};
 
 use crate::pairs::pair_table;
 use crate::{NONE, Near, Row};
@@ -49,7 +50,7 @@ fn spread(marks: &mut Row<bool>, table: &[Row<bool>], steps: &[u16], distance: u
 fn distances_from(alloc: Global, table: &[Row<bool>], source: usize) -> Result<Row<u16>, AllocError>
     requires source { source < length table.now }
     requires wide { All (λ marks. length marks ≡ length table.now) table.now }
-    requires few { length table.now ≤ 1024 }
+    requires few { length table.now ≤ MAX_COUNT }
     ensures { IfOk result (λ row. (h : History) → IsPairTable h table.now → HasDistances h source row) }
 {
     let mut steps = vec![in alloc; NONE; table.len()]?;
@@ -71,7 +72,7 @@ fn all_distances(
     table: &[Row<bool>],
 ) -> Result<Vec<Row<u16>>, AllocError>
     requires wide { All (λ marks. length marks ≡ length table.now) table.now }
-    requires few { length table.now ≤ 1024 }
+    requires few { length table.now ≤ MAX_COUNT }
     ensures { IfOk result (λ rows. (h : History) → IsPairTable h table.now → IsNearOf h rows.items) }
 {
     (0..table.len())
@@ -79,7 +80,7 @@ fn all_distances(
         .map(
             |source: usize| -> Result<Row<u16>, AllocError>
                 requires { (source < length table.now) × All (λ marks. length marks ≡ length table.now) table.now
-                    × (length table.now ≤ 1024) }
+                    × (length table.now ≤ MAX_COUNT) }
                 ensures { IfOk result (λ row. (h : History) → IsPairTable h table.entry.now → HasDistances h source row) }
             { distances_from(alloc, table, source) },
         )

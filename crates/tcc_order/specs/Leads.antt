@@ -1,3 +1,4 @@
+-- For the private stages and their proofs alone: nobody has to believe what stands here.
 -- Which links lead where, by tables of costs.
 use Rattle.std.specs.Prelude.{ℕ, ◌<◌, ◌≡◌, ◌+◌, ◌==◌, Bool, ◌&&◌, nat_lt, List, length, is_some, slice_index, if◌then◌else◌}
 use Rattle.tcc_derive.specs.Prices.{Tables, cost_at}

@@ -1,3 +1,4 @@
+-- For the private stages and their proofs alone: nobody has to believe what stands here.
 -- Orders of the numbers below a count, by a relation that says which stands before which.
 use Rattle.std.specs.Prelude.{◌≡◌, ◌<◌, ◌≢◌, ◌+◌, ◌&&◌, ℕ, zero, suc, Bool, true, false, not, if◌then◌else◌, List, [], ◌∷◌, length, slice_index, slice_index_or}
 use Rattle.std.specs.declared.cmp.Ordering.TheVariants.{Greater}

@@ -9,13 +9,14 @@ use Rattle.tcc_derive.specs.Lowering.{HasPairs}
 use Rattle.tcc_near.proofs.RowLemmas.{each_given, where_ok}
 use Rattle.tcc_derive.proofs.CostLemmas.{cost_row_of}
 use Rattle.tcc_derive.proofs.costing.cost_rows.Goals as goal
+use Rattle.tcc_txn.specs.declared.limits.TheConstants.{MAX_COUNT}
 
 pub collect-requires-clause-ready : goal.collect-requires-clause-ready
 collect-requires-clause-ready g c κs within =
     let h = c.args.graph.now in
     let prices = c.args.prices.now in
     let ends = c.into_par_iter.ensures in
-    let ready = nat_range-All (λ u. (u < length prices) × (length prices ≡ count h) × (count h ≤ 1024) × (length (row_of prices u) ≡ count h)) 0 c.count.result
+    let ready = nat_range-All (λ u. (u < length prices) × (length prices ≡ count h) × (count h ≤ MAX_COUNT) × (length (row_of prices u) ≡ count h)) 0 c.count.result
     (λ u low high.
     let from : u < count h = omega (arith, c.count.ensures.value) in
     (omega (arith, c.requires.long), c.requires.long, omega (arith, c.count.ensures.value, c.count.ensures.few), (c.requires.each u from).long)) in

@@ -12,6 +12,7 @@ use Rattle.tcc_derive.proofs.PriceLemmas.{price_row_of}
 use Rattle.tcc_derive.proofs.TableLemmas.{have_reads}
 use Rattle.tcc_derive.proofs.pricing.price_rows.Goals as goal
 use Rattle.tcc_near.specs.declared.distances.TheConstants.{NONE}
+use Rattle.tcc_txn.specs.declared.limits.TheConstants.{MAX_COUNT}
 
 pub collect-requires-clause-ready : goal.collect-requires-clause-ready
 collect-requires-clause-ready g c κs within =
@@ -21,7 +22,7 @@ collect-requires-clause-ready g c κs within =
     let written = c.args.written.now in
     let ends = c.into_par_iter.ensures in
     let square : length near ≡ count h = c.requires.near.square.long in
-    let ready = nat_range-All (λ b. (b < length near) × (length near ≤ 1024) × (length written ≡ length near) × HaveReads (length near) reads (bucket written b)) 0 c.count.result
+    let ready = nat_range-All (λ b. (b < length near) × (length near ≤ MAX_COUNT) × (length written ≡ length near) × HaveReads (length near) reads (bucket written b)) 0 c.count.result
     (λ b low high.
     let from : b < count h = omega (arith, c.count.ensures.value) in
     (omega arith, omega (arith, c.count.ensures.value, c.count.ensures.few), c.requires.written.long ∙ sym square, have_reads h (length near) reads written b square c.requires.reads c.requires.written from)) in
@@ -36,7 +37,7 @@ returns g c =
     let ends = c.into_par_iter.ensures in
     let n = c.count.result in
     let got = c.in_ok-collect.ensures in
-    let small : count h ≤ 1024 = omega (arith, c.count.ensures.value, c.count.ensures.few) in
+    let small : count h ≤ MAX_COUNT = omega (arith, c.count.ensures.value, c.count.ensures.few) in
     let whole : n - 0 ≡ n = omega arith in
     let chain = rw (c.with_min_len.ensures.base, c.map.ensures.base, c.map.ensures.f) at got.1 in
     let places : chain.0 ≡ range_with_len 0 n = chain.1 ∙ (λ i. nat_range (ends.0 i) (ends.1 i)) ∙ ap (range_with_len 0) whole in

@@ -8,12 +8,13 @@ use Rattle.tcc_near.specs.Levels.{IsPairTable, HasDistances}
 use Rattle.tcc_near.proofs.LevelLemmas.{near_from_rows}
 use Rattle.tcc_near.proofs.RowLemmas.{each_given, where_ok}
 use Rattle.tcc_near.proofs.search.all_distances.Goals as goal
+use Rattle.tcc_txn.specs.declared.limits.TheConstants.{MAX_COUNT}
 
 pub collect-requires-clause-ready : goal.collect-requires-clause-ready
 collect-requires-clause-ready g c κs within =
     let ends = c.into_par_iter.ensures in
     let pairs = c.args.table.now in
-    let inside = nat_range-All (λ i. (i < length pairs) × All (λ marks. length marks ≡ length pairs) pairs × (length pairs ≤ 1024)) 0 (length pairs) (λ i low high. (high, c.requires.wide, c.requires.few)) in
+    let inside = nat_range-All (λ i. (i < length pairs) × All (λ marks. length marks ≡ length pairs) pairs × (length pairs ≤ MAX_COUNT)) 0 (length pairs) (λ i low high. (high, c.requires.wide, c.requires.few)) in
     rw (c.with_min_len.ensures.base, c.map.ensures.base, c.map.ensures.f, ends.0, ends.1) (λ k d lt. (inside k d lt, λ y p. tt))
 
 pub returns : goal.returns

@@ -10,7 +10,7 @@ pub loop-number-init : goal.loop-number-init
 loop-number-init c =
     let t = c.args.prices.now in
     let zeros : c.in_ok-waiting.waiting.items ≡ replicate c.count.result 0 = c.in_ok-waiting.ensures.items_if_clones_equal (λ y h. h) in
-    (search rules, λ x l. rw zeros (get_or-replicate c.count.result x 0 0 (omega (arith, l, c.count.ensures))) ∙ sym (passing-zero (λ a. leads t a x)))
+    (search rules, λ x l. rw zeros (get_or-replicate c.count.result x 0 0 (omega (arith, l, c.count.ensures.value))) ∙ sym (passing-zero (λ a. leads t a x)))
 
 pub add_links-requires-clause-fits : goal.add_links-requires-clause-fits
 add_links-requires-clause-fits c = λ v l.

@@ -4,21 +4,22 @@ use Rattle.std.proofs.lemmas.Grind.{common_steps}
 use Rattle.tcc_reads.specs.History.{count}
 use Rattle.tcc_near.specs.Distances.{row_of}
 use Rattle.tcc_core.specs.Rows.{IsEmptyRow}
-use Rattle.tcc_core.specs.Searches.{no_way}
 use Rattle.tcc_core.proofs.Lowering.{IsLowered, fits}
 use Rattle.tcc_core.proofs.Steps.{search_begun, bounded_begun}
 use Rattle.tcc_core.proofs.search.Search.begin.Goals as goal
+use Rattle.tcc_near.specs.declared.distances.TheConstants.{NONE}
+use Rattle.tcc_core.specs.declared.relaxing.TheConstants.{NO_WAY}
 
 pub invariant_of-result : goal.invariant_of-result
 invariant_of-result c =
     let n = length c.args.prices.now.prices in
     let old = c.in_ok-costs.costs.items in
     let new = c.relax.new.costs in
-    let counted : c.count-count.result ≡ n = c.count-count.ensures in
+    let counted : c.count-count.result ≡ n = c.count-count.ensures.value in
     let empty : IsEmptyRow n c.in_ok-row.row.items = record { long = grind (arith, common_steps); empty = λ v. grind (arith, common_steps) } in
-    let all : old ≡ replicate n no_way = rw counted at (c.in_ok-costs.ensures.items_if_clones_equal (λ y e. e)) in
-    let many : length old ≡ n = rw all (length-replicate n no_way) in
-    let none : (x : ℕ) → x < n → get_or old x 0 ≡ no_way = λ x within. rw all (get_or-replicate n x no_way 0 within) in
+    let all : old ≡ replicate n NO_WAY = rw counted at (c.in_ok-costs.ensures.items_if_clones_equal (λ y e. e)) in
+    let many : length old ≡ n = rw all (length-replicate n NO_WAY) in
+    let none : (x : ℕ) → x < n → get_or old x 0 ≡ NO_WAY = λ x within. rw all (get_or-replicate n x NO_WAY 0 within) in
     let same : length new ≡ length old = search rules in
     let long : c.in_ok-costs.costs.len ≡ length old = search rules in
     let lowered : IsLowered old new 0 c.costs.result.now = record { long = same; each = rw c.deref_mut.ensures.value at c.relax.ensures.lowered } in
@@ -30,15 +31,15 @@ returns-clause-search c =
     let old = c.in_ok-costs.costs.items in
     let new = c.relax.new.costs in
     let t = c.args.prices.now in
-    let counted : c.count-count.result ≡ n = c.count-count.ensures in
+    let counted : c.count-count.result ≡ n = c.count-count.ensures.value in
     let empty : IsEmptyRow n c.in_ok-row.row.items = record { long = grind (arith, common_steps); empty = λ v. grind (arith, common_steps) } in
-    let all : old ≡ replicate n no_way = rw counted at (c.in_ok-costs.ensures.items_if_clones_equal (λ y e. e)) in
-    let many : length old ≡ n = rw all (length-replicate n no_way) in
-    let none : (x : ℕ) → x < n → get_or old x 0 ≡ no_way = λ x within. rw all (get_or-replicate n x no_way 0 within) in
+    let all : old ≡ replicate n NO_WAY = rw counted at (c.in_ok-costs.ensures.items_if_clones_equal (λ y e. e)) in
+    let many : length old ≡ n = rw all (length-replicate n NO_WAY) in
+    let none : (x : ℕ) → x < n → get_or old x 0 ≡ NO_WAY = λ x within. rw all (get_or-replicate n x NO_WAY 0 within) in
     let same : length new ≡ length old = search rules in
     let long : c.in_ok-costs.costs.len ≡ length old = search rules in
     let lowered : IsLowered old new 0 (row_of t.costs c.args.start) = record { long = same; each = rw (c.deref_mut.ensures.value, c.costs.ensures.value) at c.relax.ensures.lowered } in
-    let links : All (λ link. link < 65536) (row_of t.costs c.args.start) = rw c.costs.ensures.value at c.relax.ensures.links in
+    let links : All (λ link. link ≤ NONE) (row_of t.costs c.args.start) = rw c.costs.ensures.value at c.relax.ensures.links in
     rw (take_at new _ c.in_ok-costs.costs.len (same ∙ sym long)) (λ h priced.
     let wide : n ≡ count h = priced.prices.long in
     search_begun h t c.args.start c.in_ok-row.row.items old new priced (rw (← wide) c.requires) (rw (← wide) empty) (rw (← wide) many) (rw (← wide) none) (fits (row_of t.costs c.args.start) links) lowered)

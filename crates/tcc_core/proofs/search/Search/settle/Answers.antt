@@ -11,6 +11,7 @@ use Rattle.tcc_core.proofs.Lowering.{IsLowered, fits}
 use Rattle.tcc_core.proofs.Steps.{nothing_near, settles_cut, settles_returned, settles_more, small_enough, after, bounded_after, search_after}
 use Rattle.tcc_core.proofs.search.Search.settle.Goals as goal
 use Rattle.tcc_core.proofs.search.Search.settle.Goals.{then-next-self, else-next-self}
+use Rattle.tcc_near.specs.declared.distances.TheConstants.{NONE}
 
 pub returns-in_default-clause-settled : goal.returns-in_default-clause-settled
 returns-in_default-clause-settled c =
@@ -62,7 +63,7 @@ returns-clause-search c =
     let same : length c.relax.new.costs ≡ length old.costs = search rules in
     let long : c.self.inside.costs.len ≡ length old.costs = search rules in
     let lowered : IsLowered old.costs c.relax.new.costs (get_or old.costs v 0) (row_of c.args.prices.now.costs v) = record { long = same; each = rw (c.deref_mut.ensures.value, is, c.costs.ensures.value) at c.relax.ensures.lowered } in
-    let links : All (λ link. link < 65536) (row_of c.args.prices.now.costs v) = rw c.costs.ensures.value at c.relax.ensures.links in
+    let links : All (λ link. link ≤ NONE) (row_of c.args.prices.now.costs v) = rw c.costs.ensures.value at c.relax.ensures.links in
     rw (take_at c.relax.new.costs _ c.self.inside.costs.len (same ∙ sym long), is) (subst (λ (z : Search). (h : History) (s : ℕ) → IsPricesOf h c.args.prices.now → IsSearchOf h s z → IsSearchOf h s (after old v c.relax.new.costs)) c.self.view_is
     (λ h s priced known. search_after h c.args.prices.now s old v c.relax.new.costs priced known near (small_enough old v c.self.invariant near) (fits (row_of c.args.prices.now.costs v) links) lowered))
 
