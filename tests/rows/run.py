@@ -86,16 +86,11 @@ def repeated(p, known):
 
 def table(cell, rows, columns, where):
     """Lines of numbers, the cells by a rule over the names `row` and `column`, from 0, and those of `where`."""
-    lines = []
-    for row in range(rows):
-        cells = []
-        for column in range(columns):
-            known = {"row": row, "column": column}
-            for name, rule in where.items():
-                known[name] = value(rule, known)
-            cells.append(str(value(cell, known)))
-        lines.append(" ".join(cells) + "\n")
-    return "".join(lines).encode()
+    for name, rule in reversed(where.items()):
+        cell = "(lambda %s: %s)(%s)" % (name, cell, rule)
+    at = value("lambda row, column: " + cell, {})
+    lines = (" ".join(str(at(row, column)) for column in range(columns)) for row in range(rows))
+    return "".join(line + "\n" for line in lines).encode()
 
 
 def runs(case):
