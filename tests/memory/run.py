@@ -41,34 +41,56 @@ ABORTED_READ_JSON = b"""{"answer":"unresolved","faults":[\
 {"key":"x","kind":"Aborted","op":1,"place":1,"session":"b","value":1},\
 {"key":"z","kind":"ThinAir","op":2,"place":1,"session":"b","value":7}]}
 """
+EXAMPLES = TOP / "examples"
+STALE, FORK = EXAMPLES / "stale-read.csv", EXAMPLES / "long-fork.csv"
+STALE_CERTIFICATE = EXAMPLES / "stale-read.certificate"
+FORK_CERTIFICATE = b"""tcc-certificate 1
+order 5 4
+0 1 2 3 4
+clocks
+0 0 0 0
+0 0 0 0
+0 0 0 0
+1 0 0 0
+0 1 0 0
+end
+"""
+# The file of standard input, or none; the words after `tcc`, and what is answered.
 ANSWERS = [
-    ("stale-read.csv", [], STALE_READ, 1),
-    ("conflicting-writes.csv", [], CONFLICT, 1),
-    ("long-fork.csv", [], b"consistent: 4 transactions, 4 sessions\norder: init a/1 b/1 c/1 d/1\n", 0),
-    ("aborted-read.csv", [], b"unresolved: 2 faults\nAborted b/1 op 1 x 1\nThinAir b/1 op 2 z 7\n", 2),
-    ("stale-read.csv", ["--json"], STALE_READ_JSON, 1),
-    ("aborted-read.csv", ["--json"], ABORTED_READ_JSON, 2),
+    (STALE, ["explain"], STALE_READ, 1),
+    (EXAMPLES / "conflicting-writes.csv", ["explain"], CONFLICT, 1),
+    (FORK, ["explain"], b"consistent: 4 transactions, 4 sessions\norder: init a/1 b/1 c/1 d/1\n", 0),
+    (EXAMPLES / "aborted-read.csv", ["explain"], b"unresolved: 2 faults\nAborted b/1 op 1 x 1\nThinAir b/1 op 2 z 7\n", 2),
+    (STALE, ["explain", "--json"], STALE_READ_JSON, 1),
+    (EXAMPLES / "aborted-read.csv", ["explain", "--json"], ABORTED_READ_JSON, 2),
+    (None, ["check", STALE, STALE_CERTIFICATE], b"accepted: cycle, 3 steps\n", 0),
+    (None, ["check", FORK, "@certificate"], b"accepted: order\n", 0),
+    (None, ["check", FORK, STALE_CERTIFICATE], b"rejected: rule 1 at 0 0\n", 7),
+    (None, ["check", FORK, FORK], b"certificate line 1: Header\n", 8),
+    (None, ["check", EXAMPLES / "intermediate-read.csv", "@certificate"],
+     b"unresolved: 1 faults\nIntermediate b/1 op 1 x 1\n", 2),
+    (None, ["check", "@certificate", "@certificate"], b"row 1: UnknownWord\n", 3),
 ]
 
 
-def answer(tcc, history, flags, number, shim, mark):
-    """Output and status of a run in which the allocation of this number is refused."""
-    environment = dict(os.environ, LD_PRELOAD=str(shim), REFUSE=str(number), REFUSED=str(mark))
-    with open(history, "rb") as given:
-        run = subprocess.run([tcc, "explain"] + flags, stdin=given, capture_output=True, env=environment, timeout=60)
+def answer(words, given, environment):
+    """Output and status of a run."""
+    with open(given or os.devnull, "rb") as records:
+        run = subprocess.run(words, stdin=records, capture_output=True, env=environment, timeout=60)
     return run.stdout, run.returncode
 
 
-def refusals(tcc, history, flags, ample, shim, mark):
+def refusals(words, given, ample, shim, mark):
     """For each allocation of a run, what is answered where it is refused, and whether that is right.
 
     Before the words of the command line are read the line `memory` stands, as nobody knows yet that JSON is wanted;
     from the first line of JSON on, that one.
     """
-    lines = [MEMORY, JSON_MEMORY] if flags else [MEMORY]
+    lines = [MEMORY, JSON_MEMORY] if "--json" in words else [MEMORY]
     for number in range(1, MOST):
         mark.unlink(missing_ok=True)
-        got = answer(tcc, history, flags, number, shim, mark)
+        environment = dict(os.environ, LD_PRELOAD=str(shim), REFUSE=str(number), REFUSED=str(mark))
+        got = answer(words, given, environment)
         refused = mark.exists()
         if got == JSON_MEMORY:
             lines = [line for line in lines if line == JSON_MEMORY]
@@ -87,15 +109,17 @@ def main():
         print("no C compiler: refused memory is not tested")
     with tempfile.TemporaryDirectory() as folder:
         shim, mark = pathlib.Path(folder, "refuse.so"), pathlib.Path(folder, "refused")
+        pathlib.Path(folder, "certificate").write_bytes(FORK_CERTIFICATE)
         if compiler:
             subprocess.run([compiler, "-shared", "-fPIC", "-O1", "-o", shim, HERE / "refuse.c", "-ldl"], check=True)
-        for name, flags, text, status in ANSWERS if compiler else ():
-            for number, got, right in refusals(tcc, TOP / "examples" / name, flags, (text, status), shim, mark):
+        for given, asked, text, status in ANSWERS if compiler else ():
+            words = [tcc] + [str(word).replace("@", folder + "/") for word in asked]
+            for number, got, right in refusals(words, given, (text, status), shim, mark):
                 if right:
                     passed += 1
                 else:
                     failed += 1
-                    print("%s %s, allocation %d refused: got %r" % (name, flags, number, got))
+                    print("%s, allocation %d refused: got %r" % (" ".join(words[1:]), number, got))
     print("%d passed, %d failed" % (passed, failed))
     return 1 if failed else 0
 

@@ -7,38 +7,90 @@ PATH is split into words, so that "env X=1 tcc" will do. Each difference is one
 line; the last line is `N passed, M failed`. README.md says what a case holds.
 """
 import argparse
+import contextlib
+import functools
 import json
 import os
 import pathlib
 import shlex
+import string
 import subprocess
 import sys
 import tempfile
+import termios
+import threading
 
 HERE = pathlib.Path(__file__).resolve().parent
 TOP = HERE.parent.parent
 NEEDED = {"about", "arguments", "status"}
-FIELDS = NEEDED | {"input", "input_from", "cut", "files", "output", "output_to", "errors", "certificate"}
+FIELDS = NEEDED | {"input", "input_from", "typed", "cut", "files", "output", "output_to", "taken", "errors",
+                   "certificate", "seconds"}
 
 
-def text(parts):
-    """The bytes of a list of parts: lines, bare bytes, repeated parts and files of the repository."""
-    return b"".join(map(part, parts))
+@functools.lru_cache(maxsize=None)
+def compiled(rule):
+    return compile(rule, rule, "eval")
 
 
-def part(p):
+def value(rule, known):
+    """The value of a rule: a number, or an expression over the names known."""
+    return eval(compiled(rule), {"__builtins__": {}, "min": min, "max": max}, known) if isinstance(rule, str) else rule
+
+
+class Ruled(string.Formatter):
+    """Fills in texts in which `{rule}` and `{rule:form}` stand for values."""
+
+    def get_field(self, rule, arguments, known):
+        return value(rule, known), rule
+
+
+def text(parts, known=None):
+    """The bytes of a list of parts, where names have the values known; with none, braces are braces."""
+    return b"".join(part(p, known) for p in parts)
+
+
+def part(p, known=None):
     if isinstance(p, str):
-        return p.encode() + b"\n"
+        return filled(p, known).encode() + b"\n"
     if "file" in p:
         return (TOP / p["file"]).read_bytes()
     if "bytes" in p:
-        return p["bytes"].encode("latin-1")
-    first, times, repeated = p.get("from", 1), p["repeat"], p["of"]
-    once = text(repeated)
-    if b"{" not in once:
-        return once * times
-    pattern = once.decode()
-    return "".join(pattern.format(i=i, before=i - 1) for i in range(first, first + times)).encode()
+        return filled(p["bytes"], known).encode("latin-1")
+    if "table" in p:
+        return table(p["table"], p["rows"], p["columns"], p.get("where", {}))
+    if "when" in p:
+        return text(p["of"], known) if value(p["when"], known) else b""
+    if "repeat" in p and not any(map(is_ruled, p["of"])):
+        return text(p["of"]) * p["repeat"]
+    return b"".join(text(p["of"], {**(known or {}), **names}) for names in repeated(p, known or {}))
+
+
+def is_ruled(p):
+    """Whether the part holds a rule or another repeated part."""
+    return "{" in p if isinstance(p, str) else "{" in p.get("bytes", "") or "of" in p
+
+
+def filled(line, known):
+    return line if known is None else Ruled().vformat(line, (), known)
+
+
+def repeated(p, known):
+    """What names each time of a repeated part has."""
+    if "repeat" in p:
+        first = p.get("from", 1)
+        return ({"i": i, "before": i - 1} for i in range(first, first + p["repeat"]))
+    by = p.get("by", 1)
+    last = value(p["to"], known)
+    return ({p["each"]: i} for i in range(value(p["from"], known), last + (1 if by > 0 else -1), by))
+
+
+def table(cell, rows, columns, where):
+    """Lines of numbers, the cells by a rule over the names `row` and `column`, from 0, and those of `where`."""
+    for name, rule in reversed(where.items()):
+        cell = "(lambda %s: %s)(%s)" % (name, cell, rule)
+    at = value("lambda row, column: " + cell, {})
+    lines = (" ".join(str(at(row, column)) for column in range(columns)) for row in range(rows))
+    return "".join(line + "\n" for line in lines).encode()
 
 
 def runs(case):
@@ -46,7 +98,7 @@ def runs(case):
     shared = {field: value for field, value in case.items() if field != "runs"}
     for number, run in enumerate(case.get("runs", [{}]), 1):
         which = "" if run == {} else " (run %d)" % number
-        whole = {**shared, **run}
+        whole = {**shared, **run, "files": {**shared.get("files", {}), **run.get("files", {})}}
         odd = (set(whole) - FIELDS) | (NEEDED - set(whole))
         if odd:
             raise ValueError("fields unknown or missing: %s" % ", ".join(sorted(odd)))
@@ -59,9 +111,11 @@ def runs(case):
 
 
 def argument(word, folder):
-    if isinstance(word, dict):
-        return part(word)
-    return os.fsencode(os.path.join(folder, word[1:]) if word.startswith("@") else word)
+    return part(word) if isinstance(word, dict) else os.fsencode(place(word, folder))
+
+
+def place(word, folder):
+    return os.path.join(folder, word[1:]) if word.startswith("@") else word
 
 
 def stream_difference(what, wanted, got):
@@ -84,31 +138,70 @@ def shown(line):
     return "no such line" if line is None else repr(line[:120].decode(errors="backslashreplace"))
 
 
-def finished(words, run, output, seconds):
-    with open(run.get("output_to", output), "wb") as out:
+def finished(words, run, folder, seconds):
+    """The run of the program, once it has ended; what it printed is in the folder's file `standard-output`."""
+    output = os.path.join(folder, "standard-output")
+    with contextlib.ExitStack() as held:
+        if "taken" in run:
+            out = broken_off(run["taken"], held)
+        else:
+            out = held.enter_context(open(run.get("output_to", output), "wb"))
         streams = {"stdout": out, "stderr": subprocess.PIPE, "timeout": seconds}
-        if "input_from" not in run:
+        if "input_from" in run:
+            given = os.open(place(run["input_from"], folder), os.O_RDONLY)
+            held.callback(os.close, given)
+        elif "typed" in run:
+            given = terminal(text(run["typed"]), held)
+        else:
             return subprocess.run(words, input=text(run.get("input", []))[: run.get("cut")], **streams)
-        given = os.open(run["input_from"], os.O_RDONLY)
-        try:
-            return subprocess.run(words, stdin=given, **streams)
-        finally:
-            os.close(given)
+        return subprocess.run(words, stdin=given, **streams)
+
+
+def broken_off(taken, held):
+    """A pipe to write to, whose reader takes so many bytes and then closes it."""
+    reading, writing = os.pipe()
+
+    def take():
+        left = taken
+        while left and (got := os.read(reading, left)):
+            left -= len(got)
+        os.close(reading)
+
+    taker = threading.Thread(target=take)
+    taker.start()
+    if not taken:
+        taker.join()
+    held.callback(taker.join)
+    held.callback(os.close, writing)
+    return writing
+
+
+def terminal(keys, held):
+    """A terminal that shows nothing, at which these keys were typed."""
+    typing, given = os.openpty()
+    held.callback(os.close, typing)
+    held.callback(os.close, given)
+    mode = termios.tcgetattr(given)
+    mode[3] = termios.ICANON
+    termios.tcsetattr(given, termios.TCSANOW, mode)
+    os.write(typing, keys)
+    return given
 
 
 def difference(tcc, run, seconds):
     """What the program did otherwise than wanted, or None."""
+    seconds = run.get("seconds", seconds)
     with tempfile.TemporaryDirectory() as folder:
         for name, parts in run.get("files", {}).items():
             pathlib.Path(folder, name).write_bytes(text(parts))
         words = [os.fsencode(word) for word in tcc] + [argument(word, folder) for word in run["arguments"]]
         try:
-            done = finished(words, run, os.path.join(folder, "standard-output"), seconds)
+            done = finished(words, run, folder, seconds)
         except subprocess.TimeoutExpired:
             return "no end after %g seconds" % seconds
         except OSError as error:
             return "cannot be run: %s" % error
-        output = b"" if "output_to" in run else pathlib.Path(folder, "standard-output").read_bytes()
+        output = b"" if {"output_to", "taken"} & set(run) else pathlib.Path(folder, "standard-output").read_bytes()
         if done.returncode != run["status"]:
             return "status: wanted %d, got %d, output %s, standard error %s" % (
                 run["status"], done.returncode, shown(output), shown(done.stderr))
@@ -116,7 +209,7 @@ def difference(tcc, run, seconds):
 
 
 def compared(run, output, errors, certificate):
-    if "output_to" not in run:
+    if not {"output_to", "taken"} & set(run):
         yield stream_difference("output", run.get("output", []), output)
     yield stream_difference("standard error", run.get("errors", []), errors)
     if "certificate" in run:
