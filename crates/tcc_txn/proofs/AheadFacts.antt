@@ -8,12 +8,14 @@ use Rattle.csv.specs.Reading.{default_config, is_bom, records, records_from, rec
 use Rattle.csv.specs.declared.parser.Config.{Config}
 use Rattle.csv.specs.declared.parser.State.{State}
 use Rattle.csv.specs.declared.parser.State.TheVariants as st
-use Rattle.tcc_txn.specs.Ahead.{FaultsIn, IsAtLine, IsReading, TakesFields, TakesStep}
+use Rattle.tcc_txn.specs.Ahead.{FaultsIn, IsFailure, IsMidway}
 use Rattle.tcc_txn.specs.Answers.{Answers, after_item, answers_after, answers_of, ending, fault_at_end, judged, records_of}
 use Rattle.tcc_txn.specs.ByteLimit.{marked, past_limit}
 use Rattle.tcc_txn.specs.Lines.{Record, is_cut, line_of}
 use Rattle.tcc_txn.specs.Past.{fault_of, item_of}
-use Rattle.tcc_txn.specs.RecordsLeft.{HasLeft, IsFailure, TakesRecord, record_of}
+use Rattle.tcc_txn.specs.RecordsLeft.{HasLeft, TakesRecord, record_of}
+use Rattle.tcc_txn.specs.Reached.{StandsIn, row_in, row_reached}
+use Rattle.tcc_txn.specs.Stages.{Counts, IsAtLine, TakesFields, TakesStep}
 use Rattle.tcc_txn.specs.Standing.{IsAfter, PassesOperation}
 use Rattle.tcc_txn.specs.declared.rows.Item.{Item}
 use Rattle.tcc_txn.specs.declared.rows.Item.TheVariants as item
@@ -24,6 +26,7 @@ use Rattle.tcc_txn.specs.declared.rows.Rows.{Rows}
 use Rattle.tcc_txn.specs.declared.rows.line.Line.{Line}
 use Rattle.tcc_txn.specs.declared.rows.line.Line.TheVariants as line
 use Rattle.tcc_txn.specs.declared.rows.progress.Progress.{Progress}
+use Rattle.tcc_txn.specs.declared.rows.records.Course.TheVariants as course
 use Rattle.tcc_txn.specs.declared.rows.records.Records.{Records}
 use Rattle.tcc_txn.proofs.LimitFacts.{marked-past, marked-within}
 use Rattle.tcc_txn.specs.declared.limits.TheConstants.{MAX_INPUT_BYTES}
@@ -71,17 +74,33 @@ if-some (Some x) f h = f x h
 
 -- at first all answers to the text are to come
 pub all-ahead : {R : Type 0} (remaining : R → Option (List ℕ)) (reader : R) (rows : Rows R)
-    → IfSome (remaining reader) (λ text. HasLeft remaining rows.records (records_of text)) → IsAfter [] rows.progress → rows.row ≡ 0
-    → IfSome (remaining reader) (λ text. IsReading remaining rows (answers_of text))
-all-ahead remaining reader rows has progress row =
+    → IfSome (remaining reader) (λ text. HasLeft remaining rows.records (records_of text)) → IsAfter [] rows.progress
+    → rows.records.count ≡ 0 → rows.records.course ≡ course.Going
+    → IfSome (remaining reader) (λ text. IsMidway remaining rows (answers_of text))
+all-ahead remaining reader rows has progress none going =
     if-some (remaining reader) (λ text left. record {
       past = [];
       left = records_of text;
       records = left;
       progress = progress;
-      counted = row;
+      counted = none;
+      going = going;
       fits = omega (arith, few-records text);
       answers = refl;
+    }) has
+
+-- and all its records are left
+pub all-left : {R : Type 0} (remaining : R → Option (List ℕ)) (reader : R) (records : Records R)
+    → IfSome (remaining reader) (λ text. HasLeft remaining records (records_of text)) → records.count ≡ 0 → records.course ≡ course.Going
+    → IfSome (remaining reader) (λ text. StandsIn remaining records (records_of text))
+all-left remaining reader records has none going =
+    if-some (remaining reader) (λ text left. record {
+      first = [];
+      left = records_of text;
+      whole = refl;
+      counted = none;
+      rest = left;
+      going = going;
     }) has
 
 -- what comes of one more record, by what is judged of it
@@ -101,15 +120,16 @@ no-end past (line.Operation session op) e = cc e
 
 -- one more lawful record
 going-on : {R : Type 0} (remaining : R → Option (List ℕ)) (new : Rows R) (past : List Line) (left : List Record) (last : Line)
-    → HasLeft remaining new.records left → IsAfter (last ∷ past) new.progress → new.row ≡ length past + 1 → length past + length left + 2 < 2 ^ 64
-    → IsReading remaining new (answers_after (last ∷ past) left)
-going-on remaining new past left last has progress row fits =
+    → HasLeft remaining new.records left → IsAfter (last ∷ past) new.progress → new.records.count ≡ length past + 1 → new.records.course ≡ course.Going
+    → length past + length left + 2 < 2 ^ 64 → IsMidway remaining new (answers_after (last ∷ past) left)
+going-on remaining new past left last has progress counted going fits =
     record {
       past = last ∷ past;
       left = left;
       records = has;
       progress = progress;
-      counted = row ∙ omega arith;
+      counted = counted ∙ omega arith;
+      going = going;
       fits = omega (arith, fits);
       answers = refl;
     }
@@ -133,67 +153,78 @@ judged-refused past fields k p whole (inl unlawful) = inl (judged-unlawful past 
 judged-refused past fields k p whole (inr (inl fault)) = inl (judged-faulty past fields fault.0 k whole fault.1 fault.2)
 judged-refused past fields k p whole (inr (inr want)) = inr want
 
--- a fault at the next row
-pub same-fault : (ahead : Answers) (row : ℕ) (k : RowFaultKind) (fault : RowFault) → fault.row ≡ row + 1 → fault.kind ≡ k
-    → FaultsIn ahead (record { row = row + 1; kind = k }) → FaultsIn ahead fault
-same-fault ahead row k fault at_row of_kind (inl e) =
-    let same : ◌≡◌ {A = RowFault} (record { row = row + 1; kind = k }) fault = rw (← at_row, ← of_kind) refl in
-    inl (e ∙ ap (λ f. ending (Some f)) same)
-same-fault ahead row k fault at_row of_kind (inr (failure, past, left, answers, counted)) = inr (rw of_kind failure, past, left, answers, at_row ∙ counted)
-
 -- the answers to the records that were left, once the first of them is read
-answers-read : {R : Type 0} (remaining : R → Option (List ℕ)) (old : Rows R) (records : Records R) (ahead : Answers) (reading : IsReading remaining old ahead)
+answers-read : {R : Type 0} (remaining : R → Option (List ℕ)) (old : Rows R) (records : Records R) (ahead : Answers) (reading : IsMidway remaining old ahead)
     (taken : TakesRecord remaining reading.left true records) → ahead ≡ answers_after reading.past (record_of records ∷ taken.0)
 answers-read remaining old records ahead reading taken = reading.answers ∙ ap (answers_after reading.past) taken.1
 
 -- an operation was passed
-pub operation-passed : {R : Type 0} {U : Type 0} (remaining : R → Option (List ℕ)) (old new : Rows R) (records : Records R) (ahead : Answers) (reading : IsReading remaining old ahead)
-    → TakesRecord remaining reading.left true records → new.records ≡ records → is_cut (record_of records) ≡ false
-    → (done : U) → PassesOperation reading.past (record_of records) (Ok done) new.progress → new.row ≡ length reading.past + 1
-    → IsReading remaining new ahead
-operation-passed remaining old new records ahead reading taken kept whole done (session, op, e, free, progress) row =
+pub operation-passed : {R : Type 0} {U : Type 0} (remaining : R → Option (List ℕ)) (old new : Rows R) (records : Records R) (ahead : Answers) (reading : IsMidway remaining old ahead)
+    → TakesRecord remaining reading.left true records → Counts {E = RowFaultKind} old.records (Ok true) records → new.records ≡ records → is_cut (record_of records) ≡ false
+    → (done : U) → PassesOperation reading.past (record_of records) (Ok done) new.progress → IsMidway remaining new ahead
+operation-passed remaining old new records ahead reading taken counts kept whole done (session, op, e, free, progress) =
     let last = line.Operation session op in
     let judgement : judged reading.past (record_of records) ≡ Ok last = judged-lawful reading.past (record_of records) last whole e free in
     let answers : ahead ≡ answers_after (last ∷ reading.past) taken.0 =
     answers-read remaining old records ahead reading taken ∙ lawful reading.past (record_of records) taken.0 last judgement in
-    rw answers (going-on remaining new reading.past taken.0 last (rw kept taken.2) progress row (omega (arith, reading.fits, ap length taken.1)))
+    let counted : new.records.count ≡ length reading.past + 1 = rw kept (counts.0 ∙ ap (λ n. n + 1) reading.counted) in
+    let going : new.records.course ≡ course.Going = rw kept (counts.2 ∙ reading.going) in
+    rw answers (going-on remaining new reading.past taken.0 last (rw kept taken.2) progress counted going (omega (arith, reading.fits, ap length taken.1)))
+
+-- the row after a record was read
+row-read : {R : Type 0} (remaining : R → Option (List ℕ)) (old : Rows R) (records : Records R) (ahead : Answers) (reading : IsMidway remaining old ahead)
+    → Counts {E = RowFaultKind} old.records (Ok true) records → row_in records.course records.count ≡ length reading.past + 1
+row-read remaining old records ahead reading counts =
+    let going : records.course ≡ course.Going = counts.2 ∙ reading.going in
+    rw going (counts.0 ∙ ap (λ n. n + 1) reading.counted)
 
 -- a record was met that has a fault, or memory was refused
-pub record-refused : {R : Type 0} (remaining : R → Option (List ℕ)) (old : Rows R) (records : Records R) (ahead : Answers) (reading : IsReading remaining old ahead)
-    → TakesRecord remaining reading.left true records
-    → (k : RowFaultKind) (row : ℕ) → (judged reading.past (record_of records) ≡ Err k) ⊎ (k ≡ kind.NoMemory) → row ≡ length reading.past
-    → (row + 1 < 2 ^ 64) × FaultsIn ahead (record { row = row + 1; kind = k })
-record-refused remaining old records ahead reading taken k row (inl wrong) counted = (
-  omega (arith, reading.fits, counted),
-  rw counted (inl (answers-read remaining old records ahead reading taken ∙ faulty reading.past (record_of records) taken.0 k wrong)),
-)
-record-refused remaining old records ahead reading taken k row (inr want) counted =
-    (omega (arith, reading.fits, counted), inr (inr want, reading.past, reading.left, reading.answers, ap (λ n. n + 1) counted))
+pub record-refused : {R : Type 0} (remaining : R → Option (List ℕ)) (old : Rows R) (records : Records R) (ahead : Answers) (reading : IsMidway remaining old ahead)
+    → TakesRecord remaining reading.left true records → Counts {E = RowFaultKind} old.records (Ok true) records
+    → (k : RowFaultKind) → (judged reading.past (record_of records) ≡ Err k) ⊎ (k ≡ kind.NoMemory)
+    → FaultsIn ahead (record { row = row_in records.course records.count; kind = k })
+record-refused remaining old records ahead reading taken counts k (inl wrong) =
+    rw (row-read remaining old records ahead reading counts)
+    (inl (answers-read remaining old records ahead reading taken ∙ faulty reading.past (record_of records) taken.0 k wrong))
+record-refused remaining old records ahead reading taken counts k (inr want) =
+    inr (inr want, reading.past, reading.left, reading.answers, row-read remaining old records ahead reading counts)
 
 -- the reader failed
-pub reading-failed : {R : Type 0} (remaining : R → Option (List ℕ)) (old : Rows R) (ahead : Answers) (reading : IsReading remaining old ahead)
-    → (k : RowFaultKind) (row : ℕ) → IsFailure k → row ≡ length reading.past
-    → (row + 1 < 2 ^ 64) × FaultsIn ahead (record { row = row + 1; kind = k })
-reading-failed remaining old ahead reading k row failure counted =
-    (omega (arith, reading.fits, counted), inr (failure, reading.past, reading.left, reading.answers, ap (λ n. n + 1) counted))
+pub reading-failed : {R : Type 0} (remaining : R → Option (List ℕ)) (old : Rows R) (records : Records R) (ahead : Answers) (reading : IsMidway remaining old ahead)
+    → (k : RowFaultKind) → Counts old.records (Err k) records → IsFailure k
+    → FaultsIn ahead (record { row = row_in records.course records.count; kind = k })
+reading-failed remaining old records ahead reading k counts failure =
+    let row : row_in records.course records.count ≡ length reading.past + 1 = rw counts.1 (omega (arith, counts.0, reading.counted, reading.fits)) in
+    inr (failure, reading.past, reading.left, reading.answers, row)
+
+-- the row where the records end
+pub row-ended : {R : Type 0} (remaining : R → Option (List ℕ)) (old : Rows R) (records : Records R) (ahead : Answers) (reading : IsMidway remaining old ahead)
+    → Counts {E = RowFaultKind} old.records (Ok false) records → row_in records.course records.count ≡ length reading.past
+row-ended remaining old records ahead reading counts = rw counts.1 (counts.0 ∙ reading.counted)
 
 -- the line was met of the record that was read
-pub line-met : {R : Type 0} (remaining : R → Option (List ℕ)) (old new : Rows R) (records : Records R) (ahead : Answers) (reading : IsReading remaining old ahead)
-    → TakesRecord remaining reading.left true records → new.records ≡ records → new.progress ≡ old.progress → new.row ≡ old.row → is_cut (record_of records) ≡ false
-    → (last : Line) → line_of (record_of records) ≡ Ok last → IsAtLine remaining new ahead last
-line-met remaining old new records ahead reading taken kept same_progress same_row whole last e =
+pub line-met : {R : Type 0} (remaining : R → Option (List ℕ)) (old new : Rows R) (records : Records R) (ahead : Answers) (reading : IsMidway remaining old ahead)
+    → TakesRecord remaining reading.left true records → Counts {E = RowFaultKind} old.records (Ok true) records → new.records ≡ records → new.progress ≡ old.progress
+    → is_cut (record_of records) ≡ false → (last : Line) → line_of (record_of records) ≡ Ok last → IsAtLine remaining new ahead last
+line-met remaining old new records ahead reading taken counts kept same_progress whole last e =
     record {
       past = reading.past;
       fields = record_of records;
       left = taken.0;
       records = rw kept taken.2;
       progress = rw same_progress reading.progress;
-      counted = same_row ∙ reading.counted;
+      counted = rw kept (counts.0 ∙ ap (λ n. n + 1) reading.counted);
+      going = rw kept (counts.2 ∙ reading.going);
       fits = omega (arith, reading.fits, ap length taken.1);
       whole = whole;
       lawful = e;
       answers = answers-read remaining old records ahead reading taken;
     }
+
+-- the row of a line
+pub row-at : {R : Type 0} (remaining : R → Option (List ℕ)) (at : Rows R) (ahead : Answers) (last : Line) (here : IsAtLine remaining at ahead last)
+    → row_reached at ≡ length here.past + 1
+row-at remaining at ahead last here = rw here.going here.counted
 
 -- one more line, whatever comes of it
 pub line-taken : {R : Type 0} (remaining : R → Option (List ℕ)) (at new : Rows R) (ahead : Answers) (last : Line) (here : IsAtLine remaining at ahead last)
@@ -204,20 +235,26 @@ line-taken {R = R} remaining at new ahead last here kept result fields = by resu
     has : HasLeft remaining new.records here.left
     has = rw kept here.records
 
+    counted : new.records.count ≡ length here.past + 1
+    counted = rw kept here.counted
+
+    going : new.records.course ≡ course.Going
+    going = rw kept here.going
+
     by : (result : Result (Option Item) RowFault) → TakesFields here.past here.fields result new → TakesStep remaining ahead result new
     by (Ok None) f =
         let e : ahead ≡ answers_after (f.0 ∷ here.past) here.left = here.answers ∙ lawful here.past here.fields here.left f.0 f.1 ∙ ap (λ o. after_item o (answers_after (f.0 ∷ here.past) here.left)) (sym f.2) in
-        rw e (going-on remaining new here.past here.left f.0 has f.3 f.4 here.fits)
+        rw e (going-on remaining new here.past here.left f.0 has f.3 counted going here.fits)
     by (Ok (Some item.End)) f = absurd (no-end here.past f.0 f.2)
     by (Ok (Some item.Seal)) f = (
       answers_after (f.0 ∷ here.past) here.left,
       here.answers ∙ lawful here.past here.fields here.left f.0 f.1 ∙ ap (λ o. after_item o (answers_after (f.0 ∷ here.past) here.left)) (sym f.2),
-      going-on remaining new here.past here.left f.0 has f.3 f.4 here.fits,
+      going-on remaining new here.past here.left f.0 has f.3 counted going here.fits,
     )
     by (Ok (Some (item.Finished name txn))) f = (
       answers_after (f.0 ∷ here.past) here.left,
       here.answers ∙ lawful here.past here.fields here.left f.0 f.1 ∙ ap (λ o. after_item o (answers_after (f.0 ∷ here.past) here.left)) (sym f.2),
-      going-on remaining new here.past here.left f.0 has f.3 f.4 here.fits,
+      going-on remaining new here.past here.left f.0 has f.3 counted going here.fits,
     )
     by (Err fault) (inl wrong, row) =
         let same_fault : ◌≡◌ {A = RowFault} (record { row = length here.past + 1; kind = fault.kind }) fault = rw (← row) refl in

@@ -77,3 +77,14 @@ limit-consumes (Some xs) (Some ys) part rest limit n fits within room read end =
           ∙ rw (front, take-append-le n part rest fits) refl,
       λ zero some. at-end (limit - n) (Some ys) (end zero (room some)),
     )
+
+-- the end of the bytes is the end under a limit
+pub end-consumes : (old new : Option (List ℕ)) (limit : ℕ) → Consumes old new [] → IsAtEnd new
+    → Consumes (option_map (marked limit) old) (option_map (λ _. []) new) []
+end-consumes None new limit read end = tt
+end-consumes (Some xs) None limit read end = absurd read
+end-consumes (Some xs) (Some ys) limit read end = ap (marked limit) (read ∙ end) ∙ marked-nil limit
+
+pub nothing-left : (known : Option (List ℕ)) → IsAtEnd (option_map (λ _. []) known)
+nothing-left None = tt
+nothing-left (Some xs) = refl

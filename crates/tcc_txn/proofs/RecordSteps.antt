@@ -1,6 +1,6 @@
 -- One record taken off what a reader has left.
-use Rattle.std.proofs.Common.{◌≡◌, ℕ, zero, suc, ◌+◌, ◌<◌, ◌≤◌, Bool, true, false, List, [], ◌∷◌, ◌++◌, length, Option, option_map, None, Some, refl, sym, ap, ◌∙◌, arith, cond, add-one}
-use Rattle.std.specs.Prelude.{◌==◌}
+use Rattle.std.proofs.Common.{◌≡◌, ℕ, zero, suc, ◌+◌, ◌<◌, ◌≤◌, Bool, true, false, List, [], ◌∷◌, ◌++◌, length, Option, option_map, None, Some, refl, sym, ap, ◌∙◌, arith, append_assoc, cond, add-one, length-append}
+use Rattle.std.specs.Prelude.{◌==◌, MatchResult, OnOk, Result, Ok, Err}
 use Rattle.csv.specs.Machine.{Read, step, next_record, ends_at_end, is_end, fields_after, field_after, in_field, start_field, start_record, after_end, ends_with}
 use Rattle.csv.specs.Reading.{ReadRecord, Reached, default_config, reader_state, records_from, records_next}
 use Rattle.csv.specs.declared.parser.State.{State}
@@ -11,7 +11,10 @@ use Rattle.csv.specs.declared.parser.Terminator.TheVariants as term
 use Rattle.csv.proofs.ReadFacts.{rows-end, rows-more}
 use Rattle.tcc_txn.specs.Lines.{Record}
 use Rattle.tcc_txn.specs.ByteLimit.{limited_remaining}
+use Rattle.tcc_txn.specs.Reached.{StandsBy, StandsIn}
 use Rattle.tcc_txn.specs.RecordsLeft.{HasLeft, IsPlain, TakesRecord, record_of, records_after}
+use Rattle.tcc_txn.specs.declared.rows.Phase.TheVariants as phase
+use Rattle.tcc_txn.specs.declared.rows.Rows.{Rows}
 use Rattle.tcc_txn.specs.declared.rows.records.Records.{Records}
 
 -- a step of the machine that ends a record leaves a state between two records
@@ -187,3 +190,42 @@ takes-record remaining old new left false has read plain =
     let (text, known, all) = from-map _ _ _ has.known in
     let none = rows-end (limited_remaining remaining) old.reader new.reader (record_of new) default_config text has.plain.config known read in
     sym all ∙ records_after-none _ text none
+
+-- one more record of a text was read
+pub stands-on : {R : Type 0} (remaining : R → Option (List ℕ)) (old new : Records R) (all : List Record) (stands : StandsIn remaining old all)
+    → TakesRecord remaining stands.left true new → new.count ≡ old.count + 1 → new.course ≡ old.course → StandsIn remaining new all
+stands-on remaining old new all stands taken count course =
+    let last : List Record = record_of new ∷ [] in
+    record {
+      first = stands.first ++ last;
+      left = taken.0;
+      whole = stands.whole ∙ ap (λ rest. stands.first ++ rest) taken.1 ∙ sym (append_assoc stands.first last taken.0);
+      counted = omega (arith, count, stands.counted, length-append stands.first last);
+      rest = taken.2;
+      going = course ∙ stands.going;
+    }
+
+-- all records of a text were read
+pub stands-ended : {R : Type 0} (remaining : R → Option (List ℕ)) (records : Records R) (all : List Record) (stands : StandsIn remaining records all)
+    → stands.left ≡ [] → records.count ≡ length all
+stands-ended remaining records all stands none =
+    omega (arith, stands.counted, ap length stands.whole, length-append stands.first stands.left, ap length none)
+
+-- no more records of a text were read than it has
+pub stands-within : {R : Type 0} (remaining : R → Option (List ℕ)) (records : Records R) (all : List Record) → StandsIn remaining records all
+    → records.count ≤ length all
+stands-within remaining records all stands =
+    omega (arith, stands.counted, ap length stands.whole, length-append stands.first stands.left)
+
+-- what comes of a line, or of the end, leaves the records where they are
+pub line-stands : {R T E : Type 0} (remaining : R → Option (List ℕ)) (old new : Rows R) (all : List Record) (result : Result T E)
+    → StandsIn remaining old.records all → new.records ≡ old.records → OnOk result (new.phase ≡ phase.Reading)
+    → MatchResult result (λ _. StandsBy new.phase remaining new.records all) (λ _. new.records.count ≤ length all)
+line-stands remaining old new all (Ok given) stands kept reading = rw (reading, kept) stands
+line-stands remaining old new all (Err e) stands kept reading = rw kept (stands-within remaining old.records all stands)
+
+pub all-read : {R T E : Type 0} (remaining : R → Option (List ℕ)) (old new : Rows R) (all : List Record) (result : Result T E)
+    → old.records.count ≡ length all → new.records ≡ old.records → OnOk result (new.phase ≡ phase.Ended)
+    → MatchResult result (λ _. StandsBy new.phase remaining new.records all) (λ _. new.records.count ≤ length all)
+all-read remaining old new all (Ok given) counted kept ended = rw (ended, kept) counted
+all-read remaining old new all (Err e) counted kept ended = rw kept (omega (arith, counted))

@@ -6,7 +6,9 @@ pub mod Lines
 pub mod Names
 pub mod Past
 pub mod Phases
+pub mod Reached
 pub mod RecordsLeft
+pub mod Stages
 pub mod Standing
 pub mod Transactions
 pub mod Snapshots

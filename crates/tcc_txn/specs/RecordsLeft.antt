@@ -1,5 +1,5 @@
 -- The records that a reader of `csv` has left.
-use Rattle.std.specs.Prelude.{ℕ, ◌+◌, ◌≡◌, ◌⊎◌, Bool, true, false, List, [], ◌∷◌, length, Option, Some, option_map}
+use Rattle.std.specs.Prelude.{ℕ, ◌+◌, ◌≡◌, Bool, true, false, List, [], ◌∷◌, length, Option, Some, option_map}
 use Rattle.csv.specs.Machine.{ends_at_end}
 use Rattle.csv.specs.Reading.{Ready, default_config, has_failed, is_flexible, reader_config, reader_state, reader_trim, records_from, source_of}
 use Rattle.csv.specs.Records.{fields_of}
@@ -8,8 +8,6 @@ use Rattle.csv.specs.declared.reader.Reader.{Reader}
 use Rattle.csv.specs.declared.reader.Trim.TheVariants as trim
 use Rattle.tcc_txn.specs.ByteLimit.{limited_remaining}
 use Rattle.tcc_txn.specs.Lines.{Record}
-use Rattle.tcc_txn.specs.declared.rows.RowFaultKind.{RowFaultKind}
-use Rattle.tcc_txn.specs.declared.rows.RowFaultKind.TheVariants as kind
 use Rattle.tcc_txn.specs.declared.rows.records.Records.{Records}
 
 -- a reader that gives each record as it is, of whatever length, and has not failed
@@ -42,7 +40,3 @@ record_of records = fields_of records.record
 abbrev pub TakesRecord : {R : Type 0} → (R → Option (List ℕ)) → List Record → Bool → Records R → Type 0
 TakesRecord remaining left true new = (rest : List Record) × (left ≡ record_of new ∷ rest) × HasLeft remaining new rest
 TakesRecord remaining left false new = left ≡ []
-
--- what comes of a reader that fails and of want of memory
-abbrev pub IsFailure : RowFaultKind → Type 0
-IsFailure k = (k ≡ kind.Read) ⊎ (k ≡ kind.NoMemory)

@@ -1,6 +1,6 @@
 //! Transactions and seals as they come out of records.
-ghost use Rattle.std.specs.Prelude.{◌≡◌, ◌+◌, ◌^◌, ◌<◌, List, length, true, IfOk, IfErr, IfSome, OnOk, None, Some, false, Ok};
-ghost use Rattle.tcc_txn.specs.Answers.{Answers, answers_of, fault_at_end};
+ghost use Rattle.std.specs.Prelude.{◌≡◌, ◌≢◌, ◌+◌, ◌^◌, ◌<◌, ◌≤◌, List, length, true, IfOk, IfErr, IfSome, OnOk, MatchResult, None, Some, false, Ok, Err};
+ghost use Rattle.tcc_txn.specs.Answers.{Answers, answers_of, fault_at_end, records_of};
 ghost use Rattle.tcc_txn.specs.Standing.{IsAfter, writes_no_zero};
 ghost use Rattle.tcc_txn.specs.declared.rows.line.Line.{Line};
 
@@ -84,8 +84,8 @@ pub enum RowFaultKind {
     NoMemory,
 }
 
-/// The record, counted from 1, and what is wrong with it. `Unfinished` stands at the last record,
-/// `Read` at the one after the last that was read.
+/// The record, counted from 1, and what is wrong with it. `Unfinished` stands at the last record;
+/// where the reading of a record failed, that is the one after the last that was read.
 #[derive(Clone, Copy, Debug, PartialEq, Eq, Error)]
 #[error("row {row}: {kind}")]
 pub struct RowFault {
@@ -108,7 +108,6 @@ enum Phase {
 #[derive(Drop)]
 pub struct Rows<R> {
     records: Records<R>,
-    row: u64,
     progress: Progress,
     /// The session of the last operation.
     session: Option<Name>,
@@ -116,17 +115,21 @@ pub struct Rows<R> {
 }
 
 impl<R: Read + Drop> Rows<R> {
-    ghost use Rattle.tcc_txn.specs.Ahead.{FaultsIn, IsAhead, IsReading, MeetsLine, TakesAnswer, TakesFields, TakesItem, TakesStep, fault_met, has_ended};
+    ghost use Rattle.tcc_txn.specs.Ahead.{FaultsIn, IsAhead, IsMidway, TakesAnswer, fault_met, has_ended};
     ghost use Rattle.tcc_txn.specs.Lines.{Record, is_cut, line_of};
     ghost use Rattle.tcc_txn.specs.Phases.{phase_after, phase_after_step};
+    ghost use Rattle.tcc_txn.specs.Reached.{HasGivenUp, IsWithin, ReaderFailed, StandsBy, StandsIn, row_reached};
+    ghost use Rattle.tcc_txn.specs.Stages.{LeavesIn, MeetsLine, TakesFields, TakesItem, TakesStep};
+    ghost use Rattle.tcc_txn.specs.declared.rows.records.Course.TheVariants as course;
 
     /// The rows of what the reader gives; it is gone where memory is refused.
     pub fn new(alloc: Global, reader: R) -> Result<Rows<R>, NoMemory>
-        ensures { IfOk result (λ rows. IfSome (R.remaining reader) (λ text. IsAhead R.remaining rows (answers_of text))) }
+        ensures ahead { IfOk result (λ rows. IfSome (R.remaining reader) (λ text. IsAhead R.remaining rows (answers_of text))) }
+        ensures within { IfOk result (λ rows. IfSome (R.remaining reader) (λ text. IsWithin R.remaining rows (records_of text))) }
+        ensures fresh { IfOk result (λ rows. fault_met rows ≡ None) }
     {
         Ok(Rows {
             records: Records::new(alloc, reader),
-            row: 0,
             progress: Progress::new(alloc),
             session: None,
             phase: Phase::Reading,
@@ -137,9 +140,18 @@ impl<R: Read + Drop> Rows<R> {
     pub fn next(&mut self, alloc: Global) -> Result<Item, RowFault>
         ensures answers { (ahead : Answers) → IsAhead R.remaining self.old ahead → TakesAnswer R.remaining ahead result self.new }
 
+        // The records are those of the text in turn, and none is passed uncounted.
+        ensures within { (all : List Record) → IsWithin R.remaining self.old all → IsWithin R.remaining self.new all }
+
+        // Whatever is known of the bytes, a fault stands at the record that was read last, or at the
+        // one after it where its reading failed; and only a reader that failed makes it `Read`.
+        ensures row { IfErr result (λ fault. fault_met self.old ≡ None → fault.row ≡ row_reached self.new) }
+        ensures read { IfErr result (λ fault. fault_met self.old ≡ None → fault.kind ≡ RowFaultKind.Read → ReaderFailed self.new) }
+
         // A fault stays, and so does the end, whatever is known of the bytes.
         ensures stops { IfErr result (λ fault. fault_met self.new ≡ Some fault) }
         ensures stays_stopped { IfSome (fault_met self.old) (λ fault. result ≡ Err fault) }
+        ensures goes_on { OnOk result (fault_met self.new ≡ None) }
         ensures ends { result ≡ Ok Item.End → has_ended self.new ≡ true }
         ensures stays_ended { has_ended self.old ≡ true → result ≡ Ok Item.End }
     {
@@ -164,54 +176,66 @@ impl<R: Read + Drop> Rows<R> {
         self.phase = Phase::Stopped(*fault);
     }
 
+    /// A fault at the row that was reached.
+    fn fault(&self, kind: RowFaultKind) -> RowFault
+        ensures { result ≡ record { row = row_reached self.now; kind = kind } }
+    {
+        RowFault {
+            row: self.records.row(),
+            kind,
+        }
+    }
+
     /// Goes past records up to the next item.
     fn advance(&mut self, alloc: Global) -> Result<Item, RowFault>
         requires { self.old.phase ≡ Phase.Reading }
-        ensures item { IfOk result (λ given. (ahead : Answers) → IsReading R.remaining self.old ahead → TakesItem R.remaining ahead given self.new) }
+        ensures item { IfOk result (λ given. (ahead : Answers) → IsMidway R.remaining self.old ahead → TakesItem R.remaining ahead given self.new) }
         ensures phase { IfOk result (λ given. self.new.phase ≡ phase_after given) }
-        ensures fault { IfErr result (λ fault. (ahead : Answers) → IsReading R.remaining self.old ahead → FaultsIn ahead fault) }
+        ensures fault { IfErr result (λ fault. (ahead : Answers) → IsMidway R.remaining self.old ahead → FaultsIn ahead fault) }
+        ensures row { IfErr result (λ fault. fault.row ≡ row_reached self.new) }
+        ensures read { IfErr result (λ fault. fault.kind ≡ RowFaultKind.Read → ReaderFailed self.new) }
+        ensures within { (all : List Record) → StandsIn R.remaining self.old.records all
+            → MatchResult result (λ given. StandsBy self.new.phase R.remaining self.new.records all) (λ fault. self.new.records.count ≤ length all) }
     {
-        'records: for _ in 0..u64::MAX {
+        'records: loop {
             match self.step(alloc) {
                 Ok(Some(item)) => return Ok(item),
                 Ok(None) => {}
                 Err(fault) => return Err(fault),
             }
         }
-        Err(self.fault_at_next(RowFaultKind::Read))
-    }
-
-    /// A fault at the record after those that were read.
-    fn fault_at_next(&self, kind: RowFaultKind) -> RowFault
-        ensures row { self.now.row + 1 < 2 ^ 64 → result.row ≡ self.now.row + 1 }
-        ensures kind { result.kind ≡ kind }
-    {
-        RowFault {
-            row: self.row.saturating_add(1),
-            kind,
-        }
     }
 
     /// Goes past one line that is no operation, or to the end.
     fn step(&mut self, alloc: Global) -> Result<Option<Item>, RowFault>
         requires { self.old.phase ≡ Phase.Reading }
-        ensures step { (ahead : Answers) → IsReading R.remaining self.old ahead → TakesStep R.remaining ahead result self.new }
+        ensures step { (ahead : Answers) → IsMidway R.remaining self.old ahead → TakesStep R.remaining ahead result self.new }
         ensures phase { IfOk result (λ given. self.new.phase ≡ phase_after_step given) }
+        ensures row { IfErr result (λ fault. fault.row ≡ row_reached self.new) }
+        ensures read { IfErr result (λ fault. fault.kind ≡ RowFaultKind.Read → ReaderFailed self.new) }
+        ensures within { (all : List Record) → StandsIn R.remaining self.old.records all
+            → MatchResult result (λ given. StandsBy self.new.phase R.remaining self.new.records all) (λ fault. self.new.records.count ≤ length all) }
+        ensures more { result ≡ Ok None → self.old.records.count < self.new.records.count }
+        ensures fits { result ≡ Ok None → self.new.records.count < 2 ^ 64 }
     {
         match self.next_line() {
             Ok(Some(line)) => self.take_line(alloc, line),
             Ok(None) => self.finish(),
-            Err(kind) => Err(self.fault_at_next(kind)),
+            Err(kind) => Err(self.fault(kind)),
         }
     }
 
     /// Goes past operations, and gives the line after them, if there is one.
     fn next_line(&mut self) -> Result<Option<Line>, RowFaultKind>
-        ensures line { (ahead : Answers) → IsReading R.remaining self.old ahead → MeetsLine R.remaining ahead result self.new }
+        ensures line { (ahead : Answers) → IsMidway R.remaining self.old ahead → MeetsLine R.remaining ahead result self.new }
         ensures phase { self.new.phase ≡ self.old.phase }
         ensures no_zero { IfOk result (λ found. IfSome found writes_no_zero) }
+        ensures read { IfErr result (λ kind. kind ≡ RowFaultKind.Read → HasGivenUp self.new.records) }
+        ensures within { (all : List Record) → StandsIn R.remaining self.old.records all → LeavesIn R.remaining all result self.new.records }
+        ensures more { IfOk result (λ found. IfSome found (λ line. self.old.records.count < self.new.records.count)) }
+        ensures fits { IfOk result (λ found. IfSome found (λ line. self.new.records.count < 2 ^ 64)) }
     {
-        'records: for _ in 0..u64::MAX {
+        'records: loop {
             match self.records.read() {
                 Ok(true) => {}
                 Ok(false) => return Ok(None),
@@ -227,41 +251,38 @@ impl<R: Read + Drop> Rows<R> {
             if let Err(kind) = self.progress.pass_operation(&mut self.session, record) {
                 return Err(kind);
             }
-            self.row = self.row.saturating_add(1);
         }
-        Err(RowFaultKind::Read)
     }
 
     /// Goes past the line that the record read last is.
     fn take_line(&mut self, alloc: Global, line: Line) -> Result<Option<Item>, RowFault>
         requires { writes_no_zero line }
-        ensures fields { (past : List Line) (fields : Record) → IsAfter past self.old.progress → self.old.row ≡ length past → length past + 1 < 2 ^ 64
+        ensures fields { (past : List Line) (fields : Record) → IsAfter past self.old.progress → row_reached self.old ≡ length past + 1
             → is_cut fields ≡ false → line_of fields ≡ Ok line → TakesFields past fields result self.new }
         ensures records { self.new.records ≡ self.old.records }
         ensures phase { self.old.phase ≡ Phase.Reading → IfOk result (λ given. self.new.phase ≡ phase_after_step given) }
+        ensures row { IfErr result (λ fault. fault.row ≡ row_reached self.new) }
+        ensures read { IfErr result (λ fault. fault.kind ≢ RowFaultKind.Read) }
+        ensures going { self.old.phase ≡ Phase.Reading → OnOk result (self.new.phase ≡ Phase.Reading) }
     {
         match self.progress.pass(alloc, line) {
-            Ok(item) => {
-                self.row = self.row.saturating_add(1);
-                Ok(item)
-            }
-            Err(kind) => Err(self.fault_at_next(kind)),
+            Ok(item) => Ok(item),
+            Err(kind) => Err(self.fault(kind)),
         }
     }
 
     /// The end of the records.
     fn finish(&mut self) -> Result<Option<Item>, RowFault>
-        ensures unfinished { IfErr result (λ fault. (past : List Line) → IsAfter past self.old.progress → self.old.row ≡ length past → fault_at_end past ≡ Some fault) }
+        ensures unfinished { IfErr result (λ fault. (past : List Line) → IsAfter past self.old.progress → row_reached self.old ≡ length past → fault_at_end past ≡ Some fault) }
         ensures closed { OnOk result ((past : List Line) → IsAfter past self.old.progress → fault_at_end past ≡ None) }
         ensures end { IfOk result (λ given. given ≡ Some Item.End) }
         ensures phase { OnOk result (self.new.phase ≡ Phase.Ended) }
-        ensures row { self.new.row ≡ self.old.row }
+        ensures records { self.new.records ≡ self.old.records }
+        ensures row { IfErr result (λ fault. fault.row ≡ row_reached self.new) }
+        ensures read { IfErr result (λ fault. fault.kind ≢ RowFaultKind.Read) }
     {
         match self.progress.unfinished() {
-            Some(session) => Err(RowFault {
-                row: self.row,
-                kind: RowFaultKind::Unfinished { session },
-            }),
+            Some(session) => Err(self.fault(RowFaultKind::Unfinished { session })),
             None => {
                 self.phase = Phase::Ended;
                 Ok(Some(Item::End))

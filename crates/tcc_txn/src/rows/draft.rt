@@ -1,5 +1,5 @@
 //! The operations of a transaction that is not finished.
-ghost use Rattle.std.specs.Prelude.{◌≡◌, ◌≤◌, ◌<◌, ◌⊎◌, ◌++◌, ◌∷◌, [], false, length, OnOk, IfErr};
+ghost use Rattle.std.specs.Prelude.{◌≡◌, ◌≤◌, ◌<◌, ◌⊎◌, ◌++◌, ◌∷◌, [], false, length, OnOk, IfErr, ◌≢◌};
 ghost use Rattle.tcc_txn.specs.Drafts.{AddsOp};
 ghost use Rattle.tcc_txn.specs.Transactions.{writes_zero};
 ghost use Rattle.tcc_txn.specs.declared.limits.TheConstants.{MAX_OPERATIONS};
@@ -42,6 +42,7 @@ impl Draft {
         ensures room { OnOk result (length self.old < MAX_OPERATIONS) }
         ensures pushed { OnOk result (self.new ≡ self.old ++ op ∷ []) }
         ensures refused { IfErr result (λ k. ((k ≡ RowFaultKind.TooManyOps) × (MAX_OPERATIONS ≤ length self.old)) ⊎ (k ≡ RowFaultKind.NoMemory)) }
+        ensures other { IfErr result (λ kind. kind ≢ RowFaultKind.Read) }
     {
         if self.ops.len() >= MAX_OPERATIONS {
             return Err(RowFaultKind::TooManyOps);
@@ -63,7 +64,8 @@ impl Draft {
 /// One more operation of a transaction, if one is begun.
 pub(crate) fn add_operation(begun: &mut Option<Draft>, op: Op) -> Result<(), RowFaultKind>
     requires { writes_zero op ≡ false }
-    ensures { AddsOp op begun.old result begun.new }
+    ensures added { AddsOp op begun.old result begun.new }
+    ensures other { IfErr result (λ kind. kind ≢ RowFaultKind.Read) }
 {
     match begun {
         Some(draft) => draft.push(op),

@@ -1,5 +1,5 @@
 //! What one record says by itself.
-ghost use Rattle.std.specs.Prelude.{◌≡◌, ◌≢◌, ◌<◌, ◌∷◌, [], length, slice_index};
+ghost use Rattle.std.specs.Prelude.{◌≡◌, ◌≢◌, ◌<◌, ◌∷◌, [], length, slice_index, IfErr};
 ghost use Rattle.csv.specs.Records.{field_at, fields_of};
 ghost use Rattle.tcc_txn.specs.Lines.{access_of, digits_of, line_of, op_of, session_of, value_of};
 
@@ -44,7 +44,8 @@ fn read_value(digits: &[u8]) -> Option<u64>
 
 /// A record of one field.
 fn read_seal(word: &[u8]) -> Result<Line, RowFaultKind>
-    ensures { result ≡ line_of (word.now ∷ []) }
+    ensures line { result ≡ line_of (word.now ∷ []) }
+    ensures other { IfErr result (λ kind. kind ≢ RowFaultKind.Read) }
 {
     if word == b"seal".as_slice() {
         Ok(Line::Seal)
@@ -55,7 +56,8 @@ fn read_seal(word: &[u8]) -> Result<Line, RowFaultKind>
 
 /// A record of two fields.
 fn read_turn(session: &[u8], word: &[u8]) -> Result<Line, RowFaultKind>
-    ensures { result ≡ line_of (session.now ∷ word.now ∷ []) }
+    ensures line { result ≡ line_of (session.now ∷ word.now ∷ []) }
+    ensures other { IfErr result (λ kind. kind ≢ RowFaultKind.Read) }
 {
     let Ok(session) = Name::read(session) else {
         return Err(RowFaultKind::BadSession);
@@ -79,7 +81,8 @@ fn read_turn(session: &[u8], word: &[u8]) -> Result<Line, RowFaultKind>
 
 /// A read or a write of the key.
 pub(crate) fn read_op(writes: bool, key: &[u8], value: &[u8]) -> Result<Op, RowFaultKind>
-    ensures { result ≡ op_of writes key.now value.now }
+    ensures op { result ≡ op_of writes key.now value.now }
+    ensures other { IfErr result (λ kind. kind ≢ RowFaultKind.Read) }
 {
     let Ok(key) = Name::read(key) else {
         return Err(RowFaultKind::BadKey);
@@ -98,7 +101,8 @@ pub(crate) fn read_op(writes: bool, key: &[u8], value: &[u8]) -> Result<Op, RowF
 
 /// The session of an operation, which is mostly that of the one before.
 pub(crate) fn read_session(last: &mut Option<Name>, session: &[u8]) -> Result<Name, RowFaultKind>
-    ensures { result ≡ session_of session.now }
+    ensures session { result ≡ session_of session.now }
+    ensures other { IfErr result (λ kind. kind ≢ RowFaultKind.Read) }
 {
     if let Some(name) = last {
         if name.is(session) {
@@ -114,7 +118,8 @@ pub(crate) fn read_session(last: &mut Option<Name>, session: &[u8]) -> Result<Na
 
 /// Whether the operation is a write.
 pub(crate) fn read_access(word: &[u8]) -> Result<bool, RowFaultKind>
-    ensures { result ≡ access_of word.now }
+    ensures access { result ≡ access_of word.now }
+    ensures other { IfErr result (λ kind. kind ≢ RowFaultKind.Read) }
 {
     if word == b"r".as_slice() {
         Ok(false)
@@ -136,7 +141,8 @@ pub(crate) fn field(record: &ByteRecord, place: usize) -> &[u8]
 /// The line that a record of other than four fields is, or what is wrong with the record by itself.
 pub(crate) fn read_line(record: &ByteRecord) -> Result<Line, RowFaultKind>
     requires { length (fields_of record.now) ≢ 4 }
-    ensures { result ≡ line_of (fields_of record.now) }
+    ensures line { result ≡ line_of (fields_of record.now) }
+    ensures other { IfErr result (λ kind. kind ≢ RowFaultKind.Read) }
 {
     match record.len() {
         1 => read_seal(field(record, 0)),

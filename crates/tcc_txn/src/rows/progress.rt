@@ -1,5 +1,5 @@
 //! What the lines so far have begun, finished and named.
-ghost use Rattle.std.specs.Prelude.{◌≡◌, ℕ, ◌∷◌, [], false, List, IfOk, Some, None, All, fold, length};
+ghost use Rattle.std.specs.Prelude.{◌≡◌, ℕ, ◌∷◌, [], false, List, IfOk, Some, None, All, fold, length, ◌≢◌, IfErr};
 ghost use Rattle.std.specs.HashMap.{get};
 ghost use Rattle.std.specs.Option.{option_map_or};
 ghost use Rattle.csv.specs.Records.{fields_of};
@@ -32,7 +32,8 @@ pub(crate) struct Progress {
 
 /// The key is one of those so far, of which there are not too many.
 fn note_key(keys: &mut HashSet<Name>, key: Name) -> Result<(), RowFaultKind>
-    ensures { (names : List (List ℕ)) → HoldsNames names keys.old → NotesName names key result keys.new }
+    ensures noted { (names : List (List ℕ)) → HoldsNames names keys.old → NotesName names key result keys.new }
+    ensures other { IfErr result (λ kind. kind ≢ RowFaultKind.Read) }
 {
     if keys.contains(&key) {
         return Ok(());
@@ -48,7 +49,8 @@ fn note_key(keys: &mut HashSet<Name>, key: Name) -> Result<(), RowFaultKind>
 
 /// Whether the session can begin a transaction, as far as the sessions go.
 fn may_begin(sessions: &HashMap<Name, Option<Draft>>, session: &Name) -> Result<(), RowFaultKind>
-    ensures { (past : List Line) → HoldsSeats past sessions.now → MayBegin past session.now result }
+    ensures may { (past : List Line) → HoldsSeats past sessions.now → MayBegin past session.now result }
+    ensures other { IfErr result (λ kind. kind ≢ RowFaultKind.Read) }
 {
     match sessions.get(session) {
         Some(Some(_)) => Err(RowFaultKind::AlreadyBegun),
@@ -101,7 +103,8 @@ impl Progress {
 
     /// An answer is wanted.
     fn seal(&mut self) -> Result<(), RowFaultKind>
-        ensures { (past : List Line) → IsAfter past self.old → PassesLine past line.Seal result self.new }
+        ensures passed { (past : List Line) → IsAfter past self.old → PassesLine past line.Seal result self.new }
+        ensures refused { IfErr result (λ kind. kind ≡ RowFaultKind.TooManySeals) }
     {
         if self.seals >= MAX_SEALS {
             return Err(RowFaultKind::TooManySeals);
@@ -112,7 +115,8 @@ impl Progress {
 
     /// A transaction of the session begins.
     fn begin(&mut self, alloc: Global, session: Name) -> Result<(), RowFaultKind>
-        ensures { (past : List Line) → IsAfter past self.old → PassesLine past (line.Begin session) result self.new }
+        ensures passed { (past : List Line) → IsAfter past self.old → PassesLine past (line.Begin session) result self.new }
+        ensures other { IfErr result (λ kind. kind ≢ RowFaultKind.Read) }
     {
         may_begin(&self.sessions, &session)?;
         if self.begun >= MAX_TRANSACTIONS {
@@ -132,6 +136,7 @@ impl Progress {
         ensures passed { (past : List Line) → IsAfter past self.old → PassesLine past (line.Finish session committed) result self.new }
         ensures finished { (past : List Line) → IsAfter past self.old
             → IfOk result (λ txn. txn ≡ record { ops = ops_since session past; committed = committed }) }
+        ensures other { IfErr result (λ kind. kind ≢ RowFaultKind.Read) }
     {
         let Some(Some(_)) = self.sessions.get(&session) else {
             return Err(RowFaultKind::NotBegun);
@@ -145,7 +150,8 @@ impl Progress {
     /// The session's transaction reads or writes.
     fn operate(&mut self, session: Name, op: Op) -> Result<(), RowFaultKind>
         requires { writes_zero op ≡ false }
-        ensures { (past : List Line) → IsAfter past self.old → PassesLine past (line.Operation session op) result self.new }
+        ensures passed { (past : List Line) → IsAfter past self.old → PassesLine past (line.Operation session op) result self.new }
+        ensures other { IfErr result (λ kind. kind ≢ RowFaultKind.Read) }
     {
         let key = op.key();
         match self.sessions.get_mut(&session) {
@@ -168,8 +174,9 @@ impl Progress {
         key: &[u8],
         value: &[u8],
     ) -> Result<(), RowFaultKind>
-        ensures { (past : List Line) → IsAfter past self.old
+        ensures passed { (past : List Line) → IsAfter past self.old
             → PassesOperation past (session.now ∷ word.now ∷ key.now ∷ value.now ∷ []) result self.new }
+        ensures other { IfErr result (λ kind. kind ≢ RowFaultKind.Read) }
     {
         let session = match read_session(last, session) {
             Ok(session) => session,
@@ -193,7 +200,8 @@ impl Progress {
         record: &ByteRecord,
     ) -> Result<(), RowFaultKind>
         requires { length (fields_of record.now) ≡ 4 }
-        ensures { (past : List Line) → IsAfter past self.old → PassesOperation past (fields_of record.now) result self.new }
+        ensures passed { (past : List Line) → IsAfter past self.old → PassesOperation past (fields_of record.now) result self.new }
+        ensures other { IfErr result (λ kind. kind ≢ RowFaultKind.Read) }
     {
         self.pass_fields(
             last,
@@ -209,6 +217,7 @@ impl Progress {
         requires { writes_no_zero line }
         ensures passed { (past : List Line) → IsAfter past self.old → TakesLine past line result self.new }
         ensures going { IfOk result (λ given. phase_after_step given ≡ phase.Reading) }
+        ensures other { IfErr result (λ kind. kind ≢ RowFaultKind.Read) }
     {
         match line {
             Line::Seal => match self.seal() {

@@ -1,6 +1,8 @@
-use Rattle.std.proofs.Common.{◌≡◌}
-use Rattle.tcc_txn.specs.Ahead.{IsReading}
+use Rattle.std.proofs.Common.{◌≡◌, ◌-◌, ◌^◌, List, ℕ}
+use Rattle.tcc_txn.specs.Ahead.{IsMidway}
 use Rattle.tcc_txn.specs.Answers.{Answers}
+use Rattle.tcc_txn.specs.Lines.{Record}
+use Rattle.tcc_txn.specs.Reached.{StandsIn}
 use Rattle.tcc_txn.specs.declared.rows.Phase.TheVariants as phase
 use Rattle.tcc_txn.proofs.rows.Rows.advance.Given as goal
 
@@ -8,5 +10,9 @@ abbrev pub invariant-records : goal.invariant-records
 invariant-records g l =
     record {
       phase : l.self.phase ≡ phase.Reading;
-      reading : (ahead : Answers) → IsReading g.R.Read.remaining l.initial.self ahead → IsReading g.R.Read.remaining l.self ahead;
+      reading : (ahead : Answers) → IsMidway g.R.Read.remaining l.initial.self ahead → IsMidway g.R.Read.remaining l.self ahead;
+      stands : (all : List Record) → StandsIn g.R.Read.remaining l.initial.self.records all → StandsIn g.R.Read.remaining l.self.records all;
     }
+
+abbrev pub decreases-records : goal.decreases-records
+decreases-records g l = 2 ^ 64 - l.self.records.count

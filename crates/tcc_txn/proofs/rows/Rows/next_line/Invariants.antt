@@ -1,11 +1,18 @@
-use Rattle.std.proofs.Common.{◌≡◌}
-use Rattle.tcc_txn.specs.Ahead.{IsReading}
+use Rattle.std.proofs.Common.{◌≡◌, ◌-◌, ◌^◌, ◌≤◌, List, ℕ}
+use Rattle.tcc_txn.specs.Ahead.{IsMidway}
 use Rattle.tcc_txn.specs.Answers.{Answers}
+use Rattle.tcc_txn.specs.Lines.{Record}
+use Rattle.tcc_txn.specs.Reached.{StandsIn}
 use Rattle.tcc_txn.proofs.rows.Rows.next_line.Given as goal
 
 abbrev pub invariant-records : goal.invariant-records
 invariant-records g l =
     record {
       phase : l.self.phase ≡ l.initial.self.phase;
-      reading : (ahead : Answers) → IsReading g.R.Read.remaining l.initial.self ahead → IsReading g.R.Read.remaining l.self ahead;
+      reading : (ahead : Answers) → IsMidway g.R.Read.remaining l.initial.self ahead → IsMidway g.R.Read.remaining l.self ahead;
+      stands : (all : List Record) → StandsIn g.R.Read.remaining l.initial.self.records all → StandsIn g.R.Read.remaining l.self.records all;
+      more : l.initial.self.records.count ≤ l.self.records.count;
     }
+
+abbrev pub decreases-records : goal.decreases-records
+decreases-records g l = 2 ^ 64 - l.self.records.count

@@ -3,8 +3,8 @@ use Rattle.tcc_txn.specs.Lines.{line_of}
 use Rattle.tcc_txn.proofs.LineFacts.{one-field, two-fields}
 use Rattle.tcc_txn.proofs.rows.line.read_line.Goals as goal
 
-pub returns-in-1 : goal.returns-in-1
-returns-in-1 c = c.read_seal.ensures ∙ ap line_of (one-field _ _ (sym c.len.ensures ∙ c.in-1.is) c.field.ensures)
+pub returns-in-1-clause-line : goal.returns-in-1-clause-line
+returns-in-1-clause-line c = c.read_seal.ensures.line ∙ ap line_of (one-field _ _ (sym c.len.ensures ∙ c.in-1.is) c.field.ensures)
 
-pub returns-in-2 : goal.returns-in-2
-returns-in-2 c = c.read_turn.ensures ∙ ap line_of (two-fields _ _ _ (sym c.len.ensures ∙ c.in-2.is) c.field-in-2.ensures c.field-in-2-2.ensures)
+pub returns-in-2-clause-line : goal.returns-in-2-clause-line
+returns-in-2-clause-line c = c.read_turn.ensures.line ∙ ap line_of (two-fields _ _ _ (sym c.len.ensures ∙ c.in-2.is) c.field-in-2.ensures c.field-in-2-2.ensures)

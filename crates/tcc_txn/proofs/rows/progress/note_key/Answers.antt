@@ -2,8 +2,8 @@ use Rattle.std.proofs.Common.{sym, arith}
 use Rattle.tcc_txn.proofs.StandingFacts.{names-noted}
 use Rattle.tcc_txn.proofs.rows.progress.note_key.Goals as goal
 
-pub returns-in-Ok : goal.returns-in-Ok
-returns-in-Ok c names holds =
+pub returns-in-Ok-clause-noted : goal.returns-in-Ok-clause-noted
+returns-in-Ok-clause-noted c names holds =
     let absent = sym c.if-contains.ensures in
     let added = rw absent at c.in-Ok.ensures.added in
     names-noted names c.args.key _ _ holds absent (omega (arith, c.if-len-ge-MAX_KEYS.false, c.len.ensures.len)) c.in-Ok.ensures.updates (rw added at c.in-Ok.ensures.len)
