@@ -1,5 +1,5 @@
 -- The answers that a reader of rows has still to give.
-use Rattle.std.specs.Prelude.{ℕ, ◌+◌, ◌^◌, ◌<◌, ◌≡◌, ◌⊎◌, Bool, true, false, List, [], ◌∷◌, length, Option, None, Some, Result, Ok, Err}
+use Rattle.std.specs.Prelude.{ℕ, ◌+◌, ◌^◌, ◌<◌, ◌≡◌, ◌⊎◌, Bool, true, false, List, length, Option, None, Some, Result, Ok, Err}
 use Rattle.tcc_txn.specs.Answers.{Answers, after_item, answers_after, ending}
 use Rattle.tcc_txn.specs.Lines.{Record}
 use Rattle.tcc_txn.specs.RecordsLeft.{HasLeft}
@@ -72,4 +72,3 @@ TakesAnswer remaining ahead (Ok item.Seal) new = (rest : Answers) × (ahead ≡ 
 TakesAnswer remaining ahead (Ok (item.Finished name txn)) new =
     (rest : Answers) × (ahead ≡ after_item (Some (item.Finished name txn)) rest) × IsAhead remaining new rest
 TakesAnswer remaining ahead (Err fault) new = FaultsIn ahead fault × IsAhead remaining new (ending (Some fault))
-

@@ -1,5 +1,5 @@
 -- How far a reader of rows has come: how many records it has read, which of a text these are, and whether the reading failed.
-use Rattle.std.specs.Prelude.{ℕ, ◌+◌, ◌-◌, ◌^◌, ◌≡◌, ◌≤◌, ◌⊎◌, Bool, true, if◌then◌else◌, min, List, ◌++◌, length, Option}
+use Rattle.std.specs.Prelude.{ℕ, ◌+◌, ◌-◌, ◌^◌, ◌≡◌, ◌≤◌, ◌⊎◌, true, if◌then◌else◌, min, List, ◌++◌, length, Option}
 use Rattle.csv.specs.Reading.{has_failed, is_io}
 use Rattle.csv.specs.declared.error.ErrorKind.{ErrorKind}
 use Rattle.tcc_txn.specs.Lines.{Record}

@@ -1,4 +1,4 @@
-use Rattle.std.proofs.Common.{◌≡◌, ◌-◌, ◌^◌, List, ℕ}
+use Rattle.std.proofs.Common.{◌≡◌, ◌-◌, ◌^◌, List}
 use Rattle.tcc_txn.specs.Ahead.{IsMidway}
 use Rattle.tcc_txn.specs.Answers.{Answers}
 use Rattle.tcc_txn.specs.Lines.{Record}
