@@ -1,6 +1,7 @@
 -- The tables of a graph.
 use Rattle.std.specs.Prelude.{ℕ, ◌<◌, ◌≤◌, ◌≡◌, ◌==◌, List, [], ◌++◌, length, map, filter, slice_index_or, All, Bool, false}
 use Rattle.std.specs.List.{list_any}
+use Rattle.tcc_txn.specs.declared.limits.TheConstants.{MAX_COUNT}
 use Rattle.tcc_reads.specs.History.{Entry, History, initial}
 use Rattle.tcc_graph.specs.Relations.{reads_from, has_items}
 use Rattle.tcc_graph.specs.Grouped.{as_group, groups}
@@ -35,7 +36,7 @@ HasSources n e = All (λ read. read.1 < n) e.reads
 pub record IsListOf (h : History) (entries : List Entry) : Type 0 where
   pub is : entries ≡ h.entries
   pub some : 0 < length entries
-  pub few : length entries ≤ 1024
+  pub few : length entries ≤ MAX_COUNT
   pub owners : (n : ℕ) → 0 < n → n < length entries → (slice_index_or entries n initial).owner < length h.sessions
   pub sources : All (HasSources (length entries)) entries
 
