@@ -1,4 +1,4 @@
--- What the tables of a graph hold.
+-- Serves proofs alone; nobody has to believe it: what the tables of a graph hold.
 use Rattle.std.specs.Prelude.{ℕ, ◌<◌, ◌≤◌, ◌≡◌, Bool, List, length, slice_index_or}
 use Rattle.std.specs.Ordering.{nat_cmp}
 use Rattle.std.specs.Cmp.Lexicographic.{slice_cmp}
@@ -6,7 +6,7 @@ use Rattle.std.specs.List.Sorted.{IsStrictlySortedBy}
 use Rattle.tcc_txn.specs.declared.limits.TheConstants.{MAX_COUNT, MAX_SESSIONS}
 use Rattle.tcc_reads.specs.History.{Entry, initial}
 use Rattle.tcc_graph.specs.Keys.{keys}
-use Rattle.tcc_graph.specs.Tables.{over, IsReadTable, IsMarkTable}
+use Rattle.tcc_graph.specs.ReadTables.{over, IsReadTable, IsMarkTable}
 use Rattle.tcc_graph.specs.KeyRows.{KeyRow, IsKeyTable}
 
 -- the tables are those of these transactions

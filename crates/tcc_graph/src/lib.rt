@@ -15,6 +15,7 @@ mod transaction;
 mod walk;
 
 pub use graph::Graph;
+pub use key_table::place_of;
 pub use limits::{MAX_CYCLE_COST, MAX_LINK_COST};
 pub use link::Link;
 pub use step::Step;

@@ -18,7 +18,8 @@ use Rattle.tcc_reads.specs.Sites.{Stand, is_committed, stands, committed}
 use Rattle.tcc_reads.specs.Numbers.{Numbered, numbered_from}
 use Rattle.tcc_reads.specs.Sources.{shows, source, external_reads, sorted_once, pair_cmp, entry_of, history}
 use Rattle.tcc_reads.specs.Faults.{writer, read_faults}
-use Rattle.tcc_reads.specs.Stored.{places_of, IsStored}
+use Rattle.tcc_reads.specs.History.{places_of}
+use Rattle.tcc_reads.specs.Stored.{IsStored}
 use Rattle.tcc_reads.specs.Verdicts.{Writes, AreFirstWriters, faults_found, entries_found}
 use Rattle.tcc_reads.proofs.Counting.{length-numbered_from, stands_from-session}
 use Rattle.tcc_reads.proofs.Agreement.{Agree, agree_on, faults_agree}

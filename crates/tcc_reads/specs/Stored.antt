@@ -1,11 +1,7 @@
--- How a resolved history lies in memory.
-use Rattle.std.specs.Prelude.{ℕ, ◌≡◌, ◌<◌, ◌≤◌, List, length, map, drop, All, slice_index_or}
+-- Serves proofs alone; nobody has to believe it: how a resolved history lies in memory.
+use Rattle.std.specs.Prelude.{ℕ, ◌≡◌, ◌<◌, ◌≤◌, List, length, All, slice_index_or}
 use Rattle.tcc_txn.specs.declared.limits.TheConstants.{MAX_COUNT, MAX_SESSIONS}
-use Rattle.tcc_reads.specs.History.{Entry, initial}
-
--- index of the session and place of the transactions from number 1 on
-abbrev pub places_of : List Entry → List (ℕ × ℕ)
-places_of entries = map (λ e. (e.owner, e.place)) (drop 1 entries)
+use Rattle.tcc_reads.specs.History.{Entry, initial, places_of}
 
 pub record IsStored (sessions : List (List ℕ)) (places : List (ℕ × ℕ)) (entries : List Entry) : Type 0 where
   pub places_again : places ≡ places_of entries

@@ -2,7 +2,7 @@
 ghost use Rattle.std.specs.Prelude.{◌≡◌, ◌<◌, ◌≤◌, ◌+◌, length, All};
 ghost use Rattle.tcc_txn.specs.declared.limits.TheConstants.{MAX_COUNT, MAX_SESSIONS};
 ghost use Rattle.tcc_reads.specs.History.{count, entry_at, initial};
-ghost use Rattle.tcc_reads.specs.Stored.{places_of};
+ghost use Rattle.tcc_reads.specs.History.{places_of};
 
 use std::marker::Model;
 use tcc_txn::Name;
