@@ -6,8 +6,9 @@ use Rattle.tcc_reads.specs.History.{Entry}
 use Rattle.tcc_graph.specs.Relations.{reads_from}
 use Rattle.tcc_graph.specs.Keys.{keys, is_key, writes, writers, readers, numbers}
 use Rattle.tcc_graph.specs.Grouped.{of_group}
-use Rattle.tcc_graph.specs.Tables.{over, IsReadTable}
-use Rattle.tcc_graph.specs.KeyRows.{KeyRow, IsAbsent, StandsAt, IsKeyTable}
+use Rattle.tcc_graph.specs.ReadTables.{over, IsReadTable}
+use Rattle.tcc_graph.specs.Places.{IsAbsent, StandsAt}
+use Rattle.tcc_graph.specs.KeyRows.{KeyRow, IsKeyTable}
 use Rattle.tcc_graph.proofs.GroupedLemmas.{of_group-groups}
 use Rattle.tcc_graph.proofs.KeysLemmas.{has_name-keys, present, absent, no_readers}
 

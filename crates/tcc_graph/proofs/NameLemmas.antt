@@ -18,7 +18,7 @@ use Rattle.std.proofs.lemmas.List.Folds.{list_any-append}
 use Rattle.std.proofs.lemmas.List.Sorted.{searchable_from_sorted}
 use Rattle.tcc_reads.specs.Sources.{name_cmp}
 use Rattle.tcc_graph.specs.Keys.{has_name}
-use Rattle.tcc_graph.specs.KeyRows.{IsAbsent, StandsAt, name_of}
+use Rattle.tcc_graph.specs.Places.{IsAbsent, StandsAt, name_of}
 
 pub bytes_eq-true : (x : List ℕ) (y : List ℕ) → bytes_eq x y ≡ true → x ≡ y
 bytes_eq-true x y = (bytes_eq-Decides x y).0

@@ -1,3 +1,4 @@
+-- What contracts of public calls cite:
 pub mod Relations
 pub mod Keys
 pub mod Walks
@@ -6,8 +7,11 @@ pub mod Routes
 pub mod Orders
 pub mod Ties
 pub mod Answers
-pub mod Grouped
-pub mod Tables
-pub mod KeyRows
 pub mod Numbers
+pub mod Tables
+pub mod Places
+-- What serves proofs alone:
+pub mod Grouped
+pub mod ReadTables
+pub mod KeyRows
 pub mod Graphs

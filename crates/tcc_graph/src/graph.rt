@@ -1,5 +1,6 @@
 //! The graph of a resolved history.
 ghost use Rattle.std.specs.Prelude.{◌≡◌, ◌≤◌, ◌<◌, ◌++◌, length, IfOk, string_bytes};
+ghost use Rattle.tcc_txn.specs.declared.limits.TheConstants.{MAX_COUNT, MAX_SESSIONS};
 ghost use Rattle.tcc_reads.specs.History.{History, count};
 ghost use Rattle.tcc_graph.specs.Relations.{session_pair, reads_from, causal_pair};
 ghost use Rattle.tcc_graph.specs.Keys.{keys, writers, readers};
@@ -65,14 +66,15 @@ impl Graph {
     pub fn count(&self) -> u32
         ensures value { result ≡ count self.now }
         ensures some { 0 < result }
-        ensures few { result ≤ 1024 }
+        ensures few { result ≤ MAX_COUNT }
     {
         self.transactions.len() as u32
     }
 
     /// The names of the sessions, in byte order, also of those without committed transactions.
     pub fn sessions(&self) -> &[Name]
-        ensures { result.now ≡ self.now.sessions }
+        ensures value { result.now ≡ self.now.sessions }
+        ensures few { length result.now ≤ MAX_SESSIONS }
     {
         &self.sessions
     }

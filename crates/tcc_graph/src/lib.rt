@@ -6,6 +6,7 @@ mod grouped;
 mod key_row;
 mod key_table;
 mod keys;
+mod limits;
 mod link;
 mod marks;
 mod step;
@@ -14,6 +15,8 @@ mod transaction;
 mod walk;
 
 pub use graph::Graph;
+pub use key_table::place_of;
+pub use limits::{MAX_CYCLE_COST, MAX_LINK_COST};
 pub use link::Link;
 pub use step::Step;
 pub use walk::Walk;

@@ -9,3 +9,28 @@ pub enum Step {
     /// `to` reads `key` from `from`.
     Reads { from: u32, to: u32, key: Name },
 }
+
+impl Step {
+    ghost use Rattle.std.specs.Prelude.{◌≡◌};
+    ghost use Rattle.tcc_graph.specs.Walks.{step_from, step_to};
+
+    /// Where it starts.
+    pub fn from(&self) -> u32
+        ensures { result ≡ step_from self.now }
+    {
+        match self {
+            Step::Session { from, .. } => *from,
+            Step::Reads { from, .. } => *from,
+        }
+    }
+
+    /// Where it ends.
+    pub fn to(&self) -> u32
+        ensures { result ≡ step_to self.now }
+    {
+        match self {
+            Step::Session { to, .. } => *to,
+            Step::Reads { to, .. } => *to,
+        }
+    }
+}

@@ -11,13 +11,15 @@ use Rattle.std.proofs.lemmas.Bool.{eqb-true}
 use Rattle.std.proofs.lemmas.List.{length-map, nil_from_length}
 use Rattle.std.proofs.lemmas.List.Elements.{All-nil, All-cons, All-head, All-tail, All-map, All-filter}
 use Rattle.tcc_txn.specs.Snapshots.{Sessions}
+use Rattle.tcc_txn.specs.declared.limits.TheConstants.{MAX_SESSIONS, MAX_TRANSACTIONS}
 use Rattle.tcc_reads.specs.declared.fault.ReadFault.{ReadFault}
 use Rattle.tcc_reads.specs.History.{Entry, History, initial}
 use Rattle.tcc_reads.specs.Sites.{Stand, is_committed, stands, committed}
 use Rattle.tcc_reads.specs.Numbers.{Numbered, numbered_from}
 use Rattle.tcc_reads.specs.Sources.{shows, source, external_reads, sorted_once, pair_cmp, entry_of, history}
 use Rattle.tcc_reads.specs.Faults.{writer, read_faults}
-use Rattle.tcc_reads.specs.Stored.{places_of, IsStored}
+use Rattle.tcc_reads.specs.History.{places_of}
+use Rattle.tcc_reads.specs.Stored.{IsStored}
 use Rattle.tcc_reads.specs.Verdicts.{Writes, AreFirstWriters, faults_found, entries_found}
 use Rattle.tcc_reads.proofs.Counting.{length-numbered_from, stands_from-session}
 use Rattle.tcc_reads.proofs.Agreement.{Agree, agree_on, faults_agree}
@@ -26,16 +28,16 @@ use Rattle.tcc_reads.proofs.Sourcing.{sourced, entries_agree}
 -- names, table, nodes and faults are as the resolver makes them
 pub record AreFindings (s : Sessions) (names : List (List ℕ)) (table : Writes) (nodes : List Entry) (faults : List ReadFault) : Type 0 where
   pub names_are : names ≡ map (λ named. named.0) (entries s)
-  pub few_names : length names ≤ 64
+  pub few_names : length names ≤ MAX_SESSIONS
   pub table_is : AreFirstWriters table (numbered_from 1 (stands s))
-  pub few : length (numbered_from 1 (stands s)) ≤ 1023
+  pub few : length (numbered_from 1 (stands s)) ≤ MAX_TRANSACTIONS
   pub nodes_are : nodes ≡ initial ∷ entries_found table (numbered_from 1 (stands s))
   pub faults_are : faults ≡ flat_map (faults_found table) (numbered_from 1 (stands s))
 
 pub findings : (s : Sessions) (names : List (List ℕ)) (table : Writes) (nodes : List Entry) (faults : List ReadFault)
     (all first second : List Numbered)
-    → names ≡ map (λ named. named.0) (entries s) → length names ≤ 64
-    → all ≡ numbered_from 1 (stands s) → length all ≤ 1023
+    → names ≡ map (λ named. named.0) (entries s) → length names ≤ MAX_SESSIONS
+    → all ≡ numbered_from 1 (stands s) → length all ≤ MAX_TRANSACTIONS
     → first ≡ all → AreFirstWriters table first
     → second ≡ all → nodes ≡ initial ∷ entries_found table second → faults ≡ flat_map (faults_found table) second
     → AreFindings s names table nodes faults

@@ -1,5 +1,5 @@
 -- Histories whose reads are resolved: the committed transactions by number, and who read from whom.
-use Rattle.std.specs.Prelude.{ℕ, List, [], length, slice_index_or}
+use Rattle.std.specs.Prelude.{ℕ, List, [], length, map, drop, slice_index_or}
 
 -- a committed transaction, or `init`, as the graph sees it
 pub record Entry : Type 0 where
@@ -38,3 +38,7 @@ owner h n = (entry_at h n).owner
 -- the place of a transaction in its session
 abbrev pub place : History → ℕ → ℕ
 place h n = (entry_at h n).place
+
+-- index of the session and place of the transactions from number 1 on
+abbrev pub places_of : List Entry → List (ℕ × ℕ)
+places_of entries = map (λ e. (e.owner, e.place)) (drop 1 entries)

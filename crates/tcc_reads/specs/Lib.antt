@@ -1,8 +1,10 @@
+-- What contracts of public calls cite:
 pub mod History
 pub mod Sites
-pub mod Numbers
 pub mod Sources
 pub mod Faults
+pub mod Refusals
+-- What serves proofs alone:
+pub mod Numbers
 pub mod Verdicts
 pub mod Stored
-pub mod Refusals

@@ -1,4 +1,4 @@
--- Transactions with their numbers.
+-- Serves proofs alone; nobody has to believe it: transactions with their numbers, as the resolver lists them.
 use Rattle.std.specs.Prelude.{ℕ, ◌+◌, List, [], ◌∷◌, if◌then◌else◌, refl}
 use Rattle.std.specs.Coded.{Coded, code_by, coded×, coded_list, coded_ℕ}
 use Rattle.tcc_txn.specs.SnapshotStorage.{transaction_code}

@@ -1,4 +1,5 @@
--- What the resolver finds out about the operations, in the terms of its table of first writes.
+-- Serves proofs alone; nobody has to believe it: what the resolver finds out about the operations, in the terms of its
+-- table of first writes. That this is what Faults and Sources say is proved.
 use Rattle.std.specs.Prelude.{ℕ, ◌≡◌, ◌<◌, Bool, false, ◌&&◌, ◌==◌, not, if◌then◌else◌, List, [], ◌∷◌, ◌++◌, map, filter, filter_map, length, ◌+◌, Option, None, Some, option_and_then}
 use Rattle.std.specs.List.{list_any}
 use Rattle.std.specs.Ordering.{nat_cmp}
@@ -50,9 +51,9 @@ first_writer (n ∷ later) x v = first_in n [] n.stand.txn.ops x v (first_writer
 abbrev pub Writes : Type 0
 Writes = List ℕ → ℕ → Option Writer
 
--- what the table has for a value at a key
-abbrev pub held : {S : Type 0} → HashMap (List ℕ) KeyWrites S → Writes
-held table x v = option_and_then (λ writes. tree.get nat_cmp writes.first v) (hash.get bytes_eq table x)
+-- the writers in a table of the resolver
+abbrev pub writers_in : {S : Type 0} → HashMap (List ℕ) KeyWrites S → Writes
+writers_in table x v = option_and_then (λ writes. tree.get nat_cmp writes.first v) (hash.get bytes_eq table x)
 
 -- the table has the first writes of these transactions
 abbrev pub AreFirstWriters : Writes → List Numbered → Type 0

@@ -5,7 +5,7 @@ ghost use Rattle.std.specs.Option.{option_copied};
 ghost use Rattle.std.specs.Str.{bytes_eq};
 ghost use Rattle.tcc_txn.specs.declared.op.Op.{Op};
 ghost use Rattle.tcc_txn.specs.Transactions.{op_key, op_value};
-ghost use Rattle.tcc_reads.specs.Verdicts.{held, is_in, write_judgement, read_judgement, op_judgement, fault_in, source_in, IsOwn, AreOwnIn, AreVisibleWrites, faults_found, sources_found};
+ghost use Rattle.tcc_reads.specs.Verdicts.{writers_in, is_in, write_judgement, read_judgement, op_judgement, fault_in, source_in, IsOwn, AreOwnIn, AreVisibleWrites, faults_found, sources_found};
 
 use crate::standing::Standing;
 use crate::writers::{Writer, Writers, first_writer};
@@ -78,8 +78,8 @@ fn judgement_of(
     op: Op,
     own: &HashMap<Name, u64>,
 ) -> Judgement
-    requires { distinct ≡ true → IsOwn (held writers.now) standing.now place op }
-    ensures { result ≡ op_judgement (held writers.now) standing.now place op (hash.get bytes_eq own.now (op_key op)) }
+    requires { distinct ≡ true → IsOwn (writers_in writers.now) standing.now place op }
+    ensures { result ≡ op_judgement (writers_in writers.now) standing.now place op (hash.get bytes_eq own.now (op_key op)) }
 {
     match op {
         Op::Put { key, value } => {
@@ -169,9 +169,9 @@ pub(crate) fn judge(
     own: &mut HashMap<Name, u64>,
     faults: &mut Vec<ReadFault>,
 ) -> Result<Vec<(Name, u32)>, AllocError>
-    requires { distinct ≡ true → AreOwnIn (held writers.now) standing.now [] standing.now.stand.txn.ops }
-    ensures faults { IfOk result (λ _. faults.new.items ≡ faults.old.items ++ faults_found (held writers.now) standing.now) }
-    ensures sources { IfOk result (λ reads. reads.items ≡ sources_found (held writers.now) standing.now) }
+    requires { distinct ≡ true → AreOwnIn (writers_in writers.now) standing.now [] standing.now.stand.txn.ops }
+    ensures faults { IfOk result (λ _. faults.new.items ≡ faults.old.items ++ faults_found (writers_in writers.now) standing.now) }
+    ensures sources { IfOk result (λ reads. reads.items ≡ sources_found (writers_in writers.now) standing.now) }
 {
     let ops = standing.txn.ops();
     own.clear();

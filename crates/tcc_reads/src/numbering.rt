@@ -1,6 +1,7 @@
 //! The transactions of a snapshot in one list, with the numbers of the committed ones.
 ghost use Rattle.std.specs.Prelude.{◌≡◌, ◌≤◌, ◌<◌, ◌+◌, ◌++◌, List, length, map, IfOk, Some, slice_get};
 ghost use Rattle.std.specs.FinMap as finite;
+ghost use Rattle.tcc_txn.specs.declared.limits.TheConstants.{MAX_COUNT, MAX_SESSIONS, MAX_TRANSACTIONS};
 ghost use Rattle.tcc_reads.specs.Sites.{Stand, stands_in, stands};
 ghost use Rattle.tcc_reads.specs.Numbers.{numbered_from};
 
@@ -17,7 +18,7 @@ fn push_session<'a>(
     txns: &'a [Txn],
     first: u16,
 ) -> Result<u16, AllocError>
-    requires { first + length txns.now ≤ 1024 }
+    requires { first + length txns.now ≤ MAX_COUNT }
     ensures list { IfOk result (λ after. (rest : List Stand) →
         list.new.items ++ numbered_from after rest ≡ list.old.items ++ numbered_from first (stands_in session name 1 txns.now ++ rest)) }
     ensures few { IfOk result (λ after. after ≤ first + length txns.now) }
@@ -49,7 +50,7 @@ fn session_at(snapshot: &Snapshot, session: u32) -> (Name, &[Txn])
 /// All transactions, by session name in byte order and by place.
 pub(crate) fn standings(alloc: Global, snapshot: &Snapshot) -> Result<Vec<Standing<'_>>, AllocError>
     ensures value { IfOk result (λ list. list.items ≡ numbered_from 1 (stands snapshot.now)) }
-    ensures few { IfOk result (λ list. length list.items ≤ 1023) }
+    ensures few { IfOk result (λ list. length list.items ≤ MAX_TRANSACTIONS) }
 {
     let mut list = Vec::new(alloc);
     let mut number = 1;
@@ -63,7 +64,7 @@ pub(crate) fn standings(alloc: Global, snapshot: &Snapshot) -> Result<Vec<Standi
 /// The names of all sessions, in byte order.
 pub(crate) fn session_names(alloc: Global, snapshot: &Snapshot) -> Result<Vec<Name>, AllocError>
     ensures value { IfOk result (λ names. names.items ≡ map (λ named. named.0) (finite.entries snapshot.now)) }
-    ensures few { IfOk result (λ names. length names.items ≤ 64) }
+    ensures few { IfOk result (λ names. length names.items ≤ MAX_SESSIONS) }
 {
     let mut names = Vec::new(alloc);
     for session in 0..snapshot.sessions() {

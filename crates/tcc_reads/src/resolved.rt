@@ -1,7 +1,8 @@
 //! Histories whose reads are resolved.
 ghost use Rattle.std.specs.Prelude.{◌≡◌, ◌<◌, ◌≤◌, ◌+◌, length, All};
+ghost use Rattle.tcc_txn.specs.declared.limits.TheConstants.{MAX_COUNT, MAX_SESSIONS};
 ghost use Rattle.tcc_reads.specs.History.{count, entry_at, initial};
-ghost use Rattle.tcc_reads.specs.Stored.{places_of};
+ghost use Rattle.tcc_reads.specs.History.{places_of};
 
 use std::marker::Model;
 use tcc_txn::Name;
@@ -51,7 +52,7 @@ impl Resolved {
     /// The names of all sessions in byte order, also of those without committed transactions.
     pub fn sessions(&self) -> &[Name]
         ensures value { result.now ≡ self.now.sessions }
-        ensures few { length result.now ≤ 64 }
+        ensures few { length result.now ≤ MAX_SESSIONS }
     {
         &self.sessions
     }
@@ -60,7 +61,7 @@ impl Resolved {
     pub fn places(&self) -> &[(u32, u32)]
         ensures value { result.now ≡ places_of self.now.entries }
         ensures count { length result.now + 1 ≡ count self.now }
-        ensures few { count self.now ≤ 1024 }
+        ensures few { count self.now ≤ MAX_COUNT }
         ensures initial { entry_at self.now 0 ≡ initial }
         ensures owners { All (λ p. p.0 < length self.now.sessions) result.now }
     {

@@ -4,8 +4,8 @@ ghost use Rattle.tcc_reads.specs.History.{initial};
 ghost use Rattle.tcc_reads.specs.Sources.{name_cmp, pair_cmp, key_put, sorted_once, writes_of, history};
 ghost use Rattle.tcc_reads.specs.Faults.{read_faults};
 ghost use Rattle.tcc_reads.specs.Refusals.{IsRefusal};
-ghost use Rattle.tcc_reads.specs.Stored.{places_of};
-ghost use Rattle.tcc_reads.specs.Verdicts.{held, AreOwn, AreOwnIn, faults_found, entries_found};
+ghost use Rattle.tcc_reads.specs.History.{places_of};
+ghost use Rattle.tcc_reads.specs.Verdicts.{writers_in, AreOwn, AreOwnIn, faults_found, entries_found};
 
 use crate::judging::judge;
 use crate::numbering::{session_names, standings};
@@ -57,9 +57,9 @@ fn examine_one(
     nodes: &mut Vec<Node>,
     faults: &mut Vec<ReadFault>,
 ) -> Result<(), AllocError>
-    requires { first.now.distinct ≡ true → AreOwnIn (held first.now.writers) standing.now [] standing.now.stand.txn.ops }
-    ensures nodes { OnOk result (nodes.new.items ≡ nodes.old.items ++ entries_found (held first.now.writers) (standing.now ∷ [])) }
-    ensures faults { OnOk result (faults.new.items ≡ faults.old.items ++ faults_found (held first.now.writers) standing.now) }
+    requires { first.now.distinct ≡ true → AreOwnIn (writers_in first.now.writers) standing.now [] standing.now.stand.txn.ops }
+    ensures nodes { OnOk result (nodes.new.items ≡ nodes.old.items ++ entries_found (writers_in first.now.writers) (standing.now ∷ [])) }
+    ensures faults { OnOk result (faults.new.items ≡ faults.old.items ++ faults_found (writers_in first.now.writers) standing.now) }
 {
     let reads = judge(alloc, &first.writers, first.distinct, standing, own, faults)?;
     if standing.txn.committed() {
@@ -80,9 +80,9 @@ fn examine(
     first: &FirstWrites,
     standings: &[Standing<'_>],
 ) -> Result<Findings, AllocError>
-    requires { first.now.distinct ≡ true → AreOwn (held first.now.writers) standings.now }
-    ensures nodes { IfOk result (λ found. found.nodes.items ≡ initial ∷ entries_found (held first.now.writers) standings.now) }
-    ensures faults { IfOk result (λ found. found.faults.items ≡ flat_map (faults_found (held first.now.writers)) standings.now) }
+    requires { first.now.distinct ≡ true → AreOwn (writers_in first.now.writers) standings.now }
+    ensures nodes { IfOk result (λ found. found.nodes.items ≡ initial ∷ entries_found (writers_in first.now.writers) standings.now) }
+    ensures faults { IfOk result (λ found. found.faults.items ≡ flat_map (faults_found (writers_in first.now.writers)) standings.now) }
 {
     let mut nodes = Vec::new(alloc);
     let mut faults = Vec::new(alloc);

@@ -1,7 +1,7 @@
 use Rattle.std.proofs.Common.{ℕ, ◌+◌, List, take, drop, sym, arith}
 use Rattle.std.proofs.lemmas.Grind.{common_steps}
 use Rattle.tcc_txn.specs.declared.op.Op.{Op}
-use Rattle.tcc_reads.specs.Verdicts.{held}
+use Rattle.tcc_reads.specs.Verdicts.{writers_in}
 use Rattle.tcc_reads.proofs.Ties.{IsReadAt, read_at}
 use Rattle.tcc_reads.proofs.Tables.{own_after}
 use Rattle.tcc_reads.proofs.judging.judge.Goals as goal
@@ -15,7 +15,7 @@ loop-before-preserved c =
     record {
       own = rw read.behind (c.in_ok-put_own.ensures (take place ops) c.loop-before.invariant.own);
       writes = λ distinct. rw read.behind
-          (own_after (held c.args.writers.now) c.args.standing.now (take place ops) (drop (place + 1) ops) c.index-ops-before.result
+          (own_after (writers_in c.args.writers.now) c.args.standing.now (take place ops) (drop (place + 1) ops) c.index-ops-before.result
           (rw read.ahead at (c.loop-before.invariant.writes distinct)));
       faults = grind (arith, common_steps);
       reads = grind (arith, common_steps);

@@ -1,7 +1,7 @@
 use Rattle.std.proofs.Common.{◌≡◌, ◌++◌, true, List, take, drop}
 use Rattle.std.specs.Prelude.{filter_map}
 use Rattle.tcc_reads.specs.Sites.{Site, sites_from}
-use Rattle.tcc_reads.specs.Verdicts.{held, AreOwnIn, AreVisibleWrites, fault_found, source_found, faults_found, sources_found}
+use Rattle.tcc_reads.specs.Verdicts.{writers_in, AreOwnIn, AreVisibleWrites, fault_found, source_found, faults_found, sources_found}
 use Rattle.tcc_reads.proofs.judging.judge.Given as goal
 
 abbrev pub invariant-loop-before : goal.invariant-loop-before
@@ -9,7 +9,7 @@ invariant-loop-before l =
     let ahead : List Site = sites_from l.standing.stand (take l.before l.ops) (drop l.before l.ops) in
     record {
       own : AreVisibleWrites l.own (take l.before l.ops);
-      writes : l.distinct ≡ true → AreOwnIn (held l.writers) l.standing (take l.before l.ops) (drop l.before l.ops);
-      faults : l.faults.items ++ filter_map (fault_found (held l.writers) l.standing) ahead ≡ l.initial.faults.items ++ faults_found (held l.writers) l.standing;
-      reads : l.reads.items ++ filter_map (source_found (held l.writers) l.standing) ahead ≡ sources_found (held l.writers) l.standing;
+      writes : l.distinct ≡ true → AreOwnIn (writers_in l.writers) l.standing (take l.before l.ops) (drop l.before l.ops);
+      faults : l.faults.items ++ filter_map (fault_found (writers_in l.writers) l.standing) ahead ≡ l.initial.faults.items ++ faults_found (writers_in l.writers) l.standing;
+      reads : l.reads.items ++ filter_map (source_found (writers_in l.writers) l.standing) ahead ≡ sources_found (writers_in l.writers) l.standing;
     }
