@@ -7,23 +7,23 @@ ghost use Rattle.tcc_near.specs.Distances.{IsNearOf};
 ghost use Rattle.tcc_derive.specs.Prices.{IsPricesOf};
 ghost use Rattle.tcc_cycle.specs.Costs.{AreFarRows};
 
-use crate::costs::Costs;
 use crate::picking::pick;
 use crate::returning::{Searched, first_return};
 use std::alloc::Global;
 use tcc_derive::Prices;
 use tcc_graph::{Graph, Link};
-use tcc_near::Near;
+use tcc_near::{Near, Row};
 use tcc_txn::NoMemory;
 
 /// Links that lead from a start back to it, how many steps they have together, and for each transaction what it costs to
-/// come from there to each. A number in these rows that is not below that cost says no more than that none is lower.
+/// come from there to each, `u32::MAX` where no route was found. A number in these rows that is not below the cost of the
+/// links says no more than that no route costs less than they do.
 #[derive(Drop)]
 pub struct Cycle {
     pub start: u32,
     pub links: Vec<Link>,
     pub cost: u32,
-    pub rows: Vec<Costs>,
+    pub rows: Vec<Row<u32>>,
 }
 
 /// The first of the least cycles by the rule of ties; none exactly where there is no cycle.

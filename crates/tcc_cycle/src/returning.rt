@@ -1,19 +1,19 @@
 //! Searches from all starts, each cut past the least cost so far: the first start that a least cycle leads back to, and
 //! the rows of all.
-ghost use Rattle.std.specs.Prelude.{◌≡◌, ◌≤◌, ℕ, None, length, IfOk, MatchOption};
+ghost use Rattle.std.specs.Prelude.{◌≡◌, ◌≤◌, ℕ, None, length, map, IfOk, MatchOption};
 ghost use Rattle.tcc_txn.specs.declared.limits.TheConstants.{MAX_COUNT};
 ghost use Rattle.tcc_reads.specs.History.{History};
 ghost use Rattle.tcc_graph.specs.Routes.{HasCycle};
 ghost use Rattle.tcc_derive.specs.Prices.{IsPricesOf};
 ghost use Rattle.tcc_core.specs.Rows.{in_row};
 ghost use Rattle.tcc_core.specs.Searches.{IsSearchOf};
-ghost use Rattle.tcc_cycle.specs.Returns.{HasEnded, IsSearched};
+ghost use Rattle.tcc_cycle.specs.Returns.{HasEnded, IsSearched, cost_in};
 
-use crate::costs::Costs;
 use std::alloc::Global;
 use tcc_core::{Search, Settled};
 use tcc_derive::Prices;
 use tcc_graph::Graph;
+use tcc_near::Row;
 use tcc_txn::NoMemory;
 
 /// A search that has come back to its start, and what that cost.
@@ -27,7 +27,18 @@ pub(crate) struct Returned {
 #[derive(Drop)]
 pub(crate) struct Searched {
     pub first: Option<Returned>,
-    pub rows: Vec<Costs>,
+    pub rows: Vec<Row<u32>>,
+}
+
+/// The costs in a row, `u32::MAX` for none.
+fn costs(alloc: Global, row: &[Option<u32>]) -> Result<Row<u32>, NoMemory>
+    ensures { IfOk result (λ costs. costs ≡ map cost_in row.now) }
+{
+    let mut costs = Vec::new(alloc);
+    for cost in row {
+        costs.push(cost.unwrap_or(u32::MAX))?;
+    }
+    Ok(Row::new(costs))
 }
 
 /// Takes a search to its end, and answers what it cost to come back to its start; none where no cycle from there is
@@ -65,7 +76,7 @@ pub(crate) fn first_return(
     for start in 0..graph.count() {
         let mut search = Search::begin(alloc, prices, start)?;
         let back = finish(&mut search, prices, cap);
-        rows.push(Costs::of(alloc, search.row())?)?;
+        rows.push(costs(alloc, search.row())?)?;
         if let Some(cost) = back {
             if (cost as u64) < cap {
                 cap = cost as u64;

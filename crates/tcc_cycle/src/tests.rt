@@ -89,7 +89,7 @@ fn rows_of_a_cycle(rt: HostRuntime) -> Result<(), Fail> {
     assert_eq!(&rt; cycle.rows.len(), wanted.len());
     for (row, wanted) in cycle.rows.iter().zip(wanted) {
         let capped: Vec<u32> = row
-            .as_slice()
+            .values()
             .iter()
             .map(|cost| cost.min(&cycle.cost))
             .copied()

@@ -5,11 +5,17 @@ use Rattle.std.proofs.lemmas.Bool.{cases_lt}
 use Rattle.std.proofs.lemmas.List.{get_or-map, length-map, get_or_default}
 use Rattle.tcc_reads.specs.History.{History, count}
 use Rattle.tcc_near.specs.Clocks.{IsLast, IsClocksOf}
-use Rattle.tcc_near.specs.Distances.{IsNearOf, IsWalkDistance, IsShortest, no_walk}
+use Rattle.tcc_near.specs.Distances.{IsNearOf, IsWalkDistance, IsShortest}
+use Rattle.tcc_near.specs.declared.distances.TheConstants.{NONE}
 use Rattle.tcc_core.specs.Shares.{IsCappedDistance}
 use Rattle.tcc_cert.specs.Tables.{row_of, entry, HasSize}
 use Rattle.tcc_cycle.specs.Costs.{no_cost, IsFarRow, AreRows}
-use Rattle.tcc_explain.specs.Certificates.{capped_steps, IsCappedShortest, IsNearTable, IsFarTable}
+use Rattle.tcc_explain.specs.Certificates.{IsCappedShortest, IsNearTable, IsFarTable}
+use Rattle.tcc_explain.specs.Capping.{capped_steps}
+
+-- as many rows, under another name
+pub so_many : (fact : ℕ → List ℕ → Type 0) (n m : ℕ) (rows : List (List ℕ)) → n ≡ m → AreRows fact n rows → AreRows fact m rows
+so_many fact n m rows same are = subst (λ (k : ℕ). AreRows fact k rows) same are
 
 -- a table of rows that are so long
 rows_size : (P : ℕ → List ℕ → Type 0) (n columns : ℕ) (rows : List (List ℕ)) → AreRows P n rows → ((i : ℕ) (row : List ℕ) → i < n → P i row → length row ≡ columns) → HasSize n columns rows
@@ -33,7 +39,7 @@ far_table h cap costs rows fits are capped = record {
 
 -- ---- distances
 
-near_entry : (h : History) (a c cap steps : ℕ) (b : Bool) → (steps == no_walk) ≡ b → IsWalkDistance h a c (cond b None (Some steps)) → IsCappedShortest h cap a c (cond b cap (min cap steps))
+near_entry : (h : History) (a c cap steps : ℕ) (b : Bool) → (steps == NONE) ≡ b → IsWalkDistance h a c (cond b None (Some steps)) → IsCappedShortest h cap a c (cond b cap (min cap steps))
 near_entry h a c cap steps true e none = inr (refl, λ walk is. absurd (none (walk, is)))
 near_entry h a c cap steps false e shortest = go (cases_lt steps cap)
   where
@@ -50,7 +56,7 @@ near_table h cap near rows is capped = record {
   size = rows_size (λ a row. row ≡ map (capped_steps cap) (row_of near a)) (count h) (count h) rows capped (λ a row low same. ap length same ∙ (length-map (row_of near a) (capped_steps cap) ∙ wide a low));
   exact = λ a c from to.
       let at : entry rows a c ≡ capped_steps cap (slice_index (row_of near a) c) = ap (λ (r : List ℕ). get_or r c 0) (capped.each a from) ∙ get_or-map (capped_steps cap) (row_of near a) c 0 0 (omega (arith, wide a from)) in
-      let exact : IsCappedShortest h cap a c (capped_steps cap (slice_index (row_of near a) c)) = near_entry h a c cap (slice_index (row_of near a) c) (slice_index (row_of near a) c == no_walk) refl (is.exact a c from to) in
+      let exact : IsCappedShortest h cap a c (capped_steps cap (slice_index (row_of near a) c)) = near_entry h a c cap (slice_index (row_of near a) c) (slice_index (row_of near a) c == NONE) refl (is.exact a c from to) in
       subst (λ (z : ℕ). IsCappedShortest h cap a c z) (sym at) exact;
 }
   where

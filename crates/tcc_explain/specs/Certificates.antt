@@ -1,9 +1,10 @@
--- The numbers in an answer's certificate: the clocks of an order; the distances of a cycle, capped at what it costs.
-use Rattle.std.specs.Prelude.{ℕ, ◌<◌, ◌≤◌, ◌≡◌, ◌==◌, ◌⊎◌, List, length, Some, if◌then◌else◌, min}
+-- The tables in an answer's certificate: the distances of a cycle, capped at what it costs; and how transactions are
+-- numbered where the clocks of an order can be checked.
+use Rattle.std.specs.Prelude.{ℕ, ◌<◌, ◌≤◌, ◌≡◌, ◌⊎◌, List, length, Some}
 use Rattle.tcc_reads.specs.History.{History, count, owner, place}
 use Rattle.tcc_graph.specs.Walks.{IsWalk}
 use Rattle.tcc_graph.specs.declared.step.Step.{Step}
-use Rattle.tcc_near.specs.Distances.{IsShortest, no_walk}
+use Rattle.tcc_near.specs.Distances.{IsShortest}
 use Rattle.tcc_core.specs.Shares.{IsCappedDistance}
 use Rattle.tcc_cert.specs.Tables.{entry, HasSize}
 
@@ -21,10 +22,6 @@ pub record IsNearTable (h : History) (cap : ℕ) (table : List (List ℕ)) : Typ
 pub record IsFarTable (h : History) (cap : ℕ) (table : List (List ℕ)) : Type 0 where
   pub size : HasSize (count h) (count h) table
   pub exact : (s : ℕ) (v : ℕ) → s < count h → v < count h → IsCappedDistance h s v (Some cap) (Some (entry table s v))
-
--- the number of a table of distances, capped; the cap where no walk leads
-abbrev pub capped_steps : ℕ → ℕ → ℕ
-capped_steps cap steps = if steps == no_walk then cap else min cap steps
 
 -- committed transactions are of sessions that there are, their places count from 1, and grow in a session by number
 pub record IsNumbered (h : History) : Type 0 where

@@ -3,20 +3,20 @@ ghost use Rattle.std.specs.Prelude.{◌≡◌, ◌<◌, IfOk, map, length, min};
 ghost use Rattle.tcc_near.specs.Distances.{IsNearOf, row_of};
 ghost use Rattle.tcc_near.specs.Clocks.{IsClocksOf};
 ghost use Rattle.tcc_cycle.specs.Costs.{AreFarRows};
-ghost use Rattle.tcc_explain.specs.Certificates.{IsNearTable, IsFarTable, capped_steps};
+ghost use Rattle.tcc_explain.specs.Certificates.{IsNearTable, IsFarTable};
+ghost use Rattle.tcc_explain.specs.Capping.{capped_steps};
 
 use std::alloc::Global;
 use tcc_cert::{Numbers, Table};
-use tcc_cycle::Costs;
 use tcc_graph::Graph;
-use tcc_near::{Clocks, NO_WALK, Near};
+use tcc_near::{Clocks, NONE, Near, Row};
 use tcc_txn::NoMemory;
 
 /// A number of steps, capped; the cap where no walk leads.
 fn capped_steps(steps: u16, cap: u32) -> u32
     ensures { result ≡ capped_steps cap steps }
 {
-    if steps == NO_WALK {
+    if steps == NONE {
         cap
     } else {
         cap.min(steps as u32)
@@ -53,11 +53,11 @@ pub(crate) fn near_table(
 }
 
 /// Costs, capped.
-fn far_row(alloc: Global, costs: &Costs, cap: u32) -> Result<Numbers, NoMemory>
+fn far_row(alloc: Global, costs: &[u32], cap: u32) -> Result<Numbers, NoMemory>
     ensures { IfOk result (λ row. row ≡ map (min cap) costs.now) }
 {
     let mut row = Vec::new(alloc);
-    for cost in costs.as_slice() {
+    for cost in costs {
         row.push(cap.min(*cost))?;
     }
     Ok(Numbers::new(row))
@@ -67,7 +67,7 @@ fn far_row(alloc: Global, costs: &Costs, cap: u32) -> Result<Numbers, NoMemory>
 pub(crate) fn far_table(
     alloc: Global,
     graph: &Graph,
-    rows: &[Costs],
+    rows: &[Row<u32>],
     cap: u32,
 ) -> Result<Table, NoMemory>
     requires { AreFarRows graph.now cap rows.now }
@@ -75,7 +75,7 @@ pub(crate) fn far_table(
 {
     let mut table = Vec::new(alloc);
     for s in 0..graph.count() {
-        table.push(far_row(alloc, &rows[s as usize], cap)?)?;
+        table.push(far_row(alloc, rows[s as usize].values(), cap)?)?;
     }
     Ok(Table::new(table))
 }

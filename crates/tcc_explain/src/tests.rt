@@ -115,10 +115,16 @@ fn answers(rt: HostRuntime) {
     for (records, text, line) in WORKED {
         let answer = answer(&rt, alloc, records).expect(&rt, "an answer");
         let mut out = Vec::new(alloc);
-        assert!(&rt; write_text(alloc, &answer, &mut out).is_ok(), "for {records}");
+        assert!(&rt;
+            write_text(alloc, &answer, &mut out).is_ok(),
+            "for {records}"
+        );
         assert_eq!(&rt; out.as_slice(), text.as_bytes(), "for {records}");
         out.clear();
-        assert!(&rt; write_json(alloc, &answer, &mut out).is_ok(), "for {records}");
+        assert!(&rt;
+            write_json(alloc, &answer, &mut out).is_ok(),
+            "for {records}"
+        );
         assert_eq!(&rt; out.as_slice(), line.as_bytes(), "for {records}");
     }
 }
@@ -129,7 +135,10 @@ fn certificates_of_answers(rt: HostRuntime) {
     for (records, text) in CERTIFICATES {
         let answer = answer(&rt, alloc, records).expect(&rt, "an answer");
         let mut out = Vec::new(alloc);
-        assert!(&rt; write(answer.certificate(), &mut out).is_ok(), "for {records}");
+        assert!(&rt;
+            write(answer.certificate(), &mut out).is_ok(),
+            "for {records}"
+        );
         assert_eq!(&rt; out.as_slice(), text.as_bytes(), "for {records}");
     }
     certificates();
