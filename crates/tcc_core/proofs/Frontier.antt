@@ -7,7 +7,7 @@ use Rattle.tcc_graph.specs.declared.link.Link.{Link}
 use Rattle.tcc_derive.specs.Prices.{IsLinkOf}
 use Rattle.tcc_core.specs.Rows.{in_row, IsSearchRow}
 use Rattle.tcc_core.specs.Frontiers.{HasCome, IsWay}
-use Rattle.tcc_core.proofs.LinkLemmas.{cost_cons, cost_append, lead_append}
+use Rattle.tcc_graph.proofs.Linking.{cost_cons, cost_append, lead_append}
 use Rattle.tcc_graph.proofs.Pairs.{link_below}
 
 -- ---- ways are routes

@@ -1,4 +1,3 @@
-pub mod LinkLemmas
 pub mod Settlement
 pub mod Frontier
 pub mod Lowering

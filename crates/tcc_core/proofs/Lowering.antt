@@ -7,13 +7,13 @@ use Rattle.std.proofs.lemmas.Bool.Decides.{eqb_tells, nat_tests}
 use Rattle.tcc_reads.specs.History.{History, count}
 use Rattle.tcc_graph.specs.Links.{link_cost}
 use Rattle.tcc_graph.specs.declared.link.Link.{Link}
-use Rattle.tcc_near.specs.Distances.{row_of}
 use Rattle.tcc_derive.specs.Prices.{Tables, cost_at, IsLinkOf, IsCost, IsPricesOf}
 use Rattle.tcc_core.specs.Rows.{in_row}
 
 use Rattle.tcc_core.specs.Relaxing.{way_by, lesser, count_joined}
 use Rattle.tcc_near.specs.declared.distances.TheConstants.{NONE}
 use Rattle.tcc_core.specs.declared.relaxing.TheConstants.{NO_WAY}
+use Rattle.tcc_graph.specs.Tables.{row_of}
 
 -- ---- what a table says of a link
 

@@ -8,7 +8,8 @@ use Rattle.tcc_graph.specs.Routes.{IsRoute, IsCycle, IsLeastCycle, HasCycle, IsD
 use Rattle.tcc_graph.specs.declared.link.Link.{Link}
 use Rattle.tcc_core.specs.Rows.{in_row, IsSearchRow, IsWithin}
 use Rattle.tcc_core.specs.Shares.{Share, Finished, Stop, Returned, Cut, IsNotAbove, IsStopped, IsFinished, IsNotBelowLeast, starts_of, EachFinished, SettleAt, capped, IsCappedDistance}
-use Rattle.tcc_core.proofs.LinkLemmas.{route_below}
+use Rattle.tcc_graph.proofs.Linking.{route_below}
+use Rattle.tcc_txn.proofs.Lists.{from_flat_map}
 
 -- ---- each start has a search
 
@@ -20,17 +21,9 @@ from_map f [] s k within here = absurd (omega arith)
 from_map f (x ∷ xs) s zero within here = (x, (0, omega arith, refl), here)
 from_map f (x ∷ xs) s (suc k) within here = let w = from_map f xs s k (omega arith) here in (w.0, later x w.0 xs w.1, w.2)
 
-from_flat : {X : Type 0} (f : X → List ℕ) (xs : List X) (s : ℕ) → Contains (flat_map f xs) s → (x : X) × Contains xs x × Contains (f x) s
-from_flat f [] s (k, within, here) = absurd (omega arith)
-from_flat {X = X} f (x ∷ xs) s c = go (λ rest. from_flat f xs s rest) (Contains-append_cases (f x) (flat_map f xs) s c)
-  where
-    go : (Contains (flat_map f xs) s → (y : X) × Contains xs y × Contains (f y) s) → Contains (f x) s ⊎ Contains (flat_map f xs) s → (y : X) × Contains (x ∷ xs) y × Contains (f y) s
-    go others (inl here) = (x, (0, omega arith, refl), here)
-    go others (inr there) = let w = others there in (w.0, later x w.0 xs w.1, w.2)
-
 search_from : (shares : List Share) (s : ℕ) → Contains (starts_of shares) s → (share : Share) × Contains shares share × (f : Finished) × Contains share.finished f × (f.start ≡ s)
 search_from shares s c =
-    let w = from_flat (λ share. map (λ f. f.start) share.finished) shares s c in
+    let w = from_flat_map (λ share. map (λ f. f.start) share.finished) shares s c in
     let v = from_map (λ f. f.start) w.0.finished s w.2.0 w.2.1 w.2.2 in
     (w.0, w.1, v.0, v.1, v.2)
 

@@ -5,7 +5,6 @@ use Rattle.tcc_reads.specs.History.{History, count}
 use Rattle.tcc_graph.specs.Links.{cost}
 use Rattle.tcc_graph.specs.Routes.{IsRoute, IsDistance}
 use Rattle.tcc_graph.specs.declared.link.Link.{Link}
-use Rattle.tcc_near.specs.Distances.{row_of}
 use Rattle.tcc_derive.specs.Prices.{Tables, IsLinkOf, IsPricesOf}
 use Rattle.tcc_core.specs.Rows.{in_row, IsSearchRow, IsEmptyRow, cap_of, IsWithin, IsCutOff, JoinsNearest}
 use Rattle.tcc_core.specs.Searches.{IsSearchOf, Search}
@@ -16,6 +15,7 @@ use Rattle.tcc_core.proofs.Frontier.{route_of_way, way_within, way_below}
 use Rattle.tcc_near.specs.declared.distances.TheConstants.{NONE}
 use Rattle.tcc_txn.specs.declared.limits.TheConstants.{MAX_COUNT}
 use Rattle.tcc_core.specs.declared.relaxing.TheConstants.{NO_WAY}
+use Rattle.tcc_graph.specs.Tables.{row_of}
 
 -- ---- a row that one more transaction has joined
 

@@ -15,10 +15,11 @@ use Rattle.tcc_core.specs.Searches.{Settles}
 use Rattle.tcc_core.specs.Relaxing.{way_by, lesser, count_joined}
 use Rattle.tcc_core.specs.Shares.{Share, Finished, Returned, Cut, IsNotAbove, IsStopped, IsFinished, IsCycleCost, starts_of, SettleAt, capped}
 use Rattle.tcc_core.specs.declared.settled.Settled.TheVariants as settled
-use Rattle.tcc_core.proofs.LinkLemmas.{cost_cons}
+use Rattle.tcc_graph.proofs.Linking.{cost_cons, some_cost}
 use Rattle.tcc_graph.proofs.Pairs.{link_below}
 use Rattle.tcc_near.specs.declared.distances.TheConstants.{NONE}
 use Rattle.tcc_core.specs.declared.relaxing.TheConstants.{NO_WAY}
+use Rattle.tcc_graph.proofs.Worked.{stale_read, stale_cycle, stale_read-cycle}
 
 -- ---- rows, caps and words
 
@@ -68,23 +69,9 @@ above = (λ e. omega (arith, e), λ e. e)
 
 -- ---- a/1 writes x, and a/2 reads the initial value of x
 
-abbrev x : List ℕ
-x = codes "x"
-
-abbrev entry : ℕ → List (List ℕ) → List (List ℕ × ℕ) → Entry
-entry place writes reads = record { owner = 0; place = place; writes = writes; reads = reads }
-
-abbrev stale_read : History
-stale_read = record { sessions = codes "a" ∷ []; entries = initial ∷ entry 1 (x ∷ []) [] ∷ entry 2 [] ((x, 0) ∷ []) ∷ [] }
-
-link_some : (h : History) (l : Link) → IsLink h l → 1 ≤ link_cost l
-link_some h (link.Session a b) p = omega arith
-link_some h (link.Reads a b key) p = omega arith
-link_some h (link.Derived b a key c walk) p = rw length-append (omega arith)
-
 route_some : (h : History) (s v : ℕ) (links : List Link) → IsRoute h s v links → 1 ≤ cost links
 route_some h s v [] (some, lead) = absurd (omega arith)
-route_some h s v (l ∷ links) (some, lead) = omega (arith, cost_cons l links, link_some h l lead.1)
+route_some h s v (l ∷ links) (some, lead) = omega (arith, cost_cons l links, some_cost l)
 
 to_first : IsRoute stale_read 0 1 (link.Session 0 1 ∷ [])
 to_first = (omega arith, (refl, refl, refl))
@@ -116,22 +103,8 @@ first_not_cut w = w.2 1 (link.Session 0 1 ∷ []) refl to_first (omega arith)
 stale_cost : IsCycleCost stale_read 3
 stale_cost = (
   0,
-  link.Session 0 1 ∷ link.Derived 1 0 x 2 (step.Session 1 2 ∷ []) ∷ [],
-  (
-    omega arith,
-    (
-      refl,
-      refl,
-      (
-        refl,
-        (
-          ((λ e. absurd (omega arith)), (omega arith, omega arith, (0, omega arith, refl)), (omega arith, refl)),
-          (omega arith, (refl, refl, refl)),
-        ),
-        refl,
-      ),
-    ),
-  ),
+  stale_cycle,
+  stale_read-cycle,
   refl,
 )
 

@@ -2,8 +2,8 @@
 ghost use Rattle.std.specs.Prelude.{◌≡◌, ◌<◌, ◌≤◌, ℕ, length, slice_index, IfOk};
 ghost use Rattle.tcc_reads.specs.History.{History};
 ghost use Rattle.tcc_derive.specs.Prices.{IsPricesOf};
-ghost use Rattle.tcc_near.specs.Distances.{row_of};
 ghost use Rattle.tcc_txn.specs.declared.limits.TheConstants.{MAX_COUNT};
+ghost use Rattle.tcc_graph.specs.Tables.{row_of};
 
 use crate::Settled;
 use crate::relaxing::{NO_WAY, nearest, relax};

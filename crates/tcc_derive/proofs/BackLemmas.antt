@@ -8,21 +8,19 @@ use Rattle.tcc_reads.specs.History.{History, count}
 use Rattle.tcc_graph.specs.Walks.{step_from, step_to, IsStep, Leads, IsWalk, IsReached}
 use Rattle.tcc_graph.specs.Ties.{step_cmp}
 use Rattle.tcc_graph.specs.declared.step.Step.{Step}
-use Rattle.tcc_near.specs.Distances.{IsShortest, IsNearOf, row_of}
+use Rattle.tcc_near.specs.Distances.{IsShortest, IsNearOf}
 use Rattle.tcc_derive.specs.Backwards.{IsUpTo, IsLastStep, stands_at, LeadsBack, Ahead, IsLeft, IsTakenBack, IsFirstWalk}
 use Rattle.tcc_derive.proofs.PriceLemmas.{IsNearby, distance_cases, no_distance}
-use Rattle.tcc_derive.proofs.StepLemmas.{step_itself}
 use Rattle.tcc_graph.proofs.Pairs.{step_below}
 use Rattle.tcc_near.specs.declared.distances.TheConstants.{NONE}
+use Rattle.tcc_graph.specs.Tables.{row_of}
+use Rattle.tcc_graph.proofs.Tied.{step_itself}
+use Rattle.tcc_graph.proofs.Walking.{leads_append}
 
 module _ (h : History) where
   back_join : (b m v : ℕ) (ss ts : List Step) → LeadsBack h m v ss → LeadsBack h b m ts → LeadsBack h b v (ss ++ ts)
   back_join b m v [] ts e second = subst (λ (z : ℕ). LeadsBack h b z ts) e second
   back_join b m v (s ∷ ss) ts first second = (first.0, first.1, back_join b m (step_from s) ss ts first.2 second)
-
-  leads_join : (a m c : ℕ) (ss ts : List Step) → Leads h a m ss → Leads h m c ts → Leads h a c (ss ++ ts)
-  leads_join a m c [] ts e second = subst (λ (z : ℕ). Leads h z c ts) (sym e) second
-  leads_join a m c (s ∷ ss) ts first second = (first.0, first.1, leads_join (step_to s) m c ss ts first.2 second)
 
   pub back_of_leads : (a c : ℕ) (walk : List Step) → Leads h a c walk → LeadsBack h a c (reverse walk)
   back_of_leads a c [] e = e
@@ -34,7 +32,7 @@ module _ (h : History) where
   leads_of_back a c [] e = e
   leads_of_back a c (s ∷ ss) w =
       subst (λ (ts : List Step). Leads h a c ts) (sym (reverse-append (s ∷ []) ss))
-      (leads_join a (step_from s) c (reverse ss) (s ∷ []) (leads_of_back a (step_from s) ss w.2) (refl, w.1, w.0))
+      (leads_append h a (step_from s) c (reverse ss) (s ∷ []) (leads_of_back a (step_from s) ss w.2) (refl, w.1, w.0))
 
   -- one step more keeps the steps first
   ahead_more : (b c v : ℕ) (taken others : List Step) (s : Step) (n : ℕ) → Ahead taken others → LeadsBack h v c taken → LeadsBack h b c others → length others ≡ length taken + (n + 1)
@@ -75,7 +73,7 @@ module _ (h : History) where
     stands_nearby v n o os shortest back long some (inr near') =
         let at_most = near'.shortest.least (reverse os) (omega (arith, length-reverse os), leads_of_back b (step_from o) os back.2) in
         let walk = near'.shortest.attained in
-        let longer = shortest.least (walk.0 ++ o ∷ []) (omega (arith, length-append walk.0 (o ∷ [])), leads_join b (step_from o) v walk.0 (o ∷ []) walk.1.1 (refl, back.1, back.0)) in
+        let longer = shortest.least (walk.0 ++ o ∷ []) (omega (arith, length-append walk.0 (o ∷ [])), leads_append h b (step_from o) v walk.0 (o ∷ []) walk.1.1 (refl, back.1, back.0)) in
         omega (arith, at_most, longer, walk.2, length-append walk.0 (o ∷ []), length-reverse os, long)
 
     pub stands_of : (v n : ℕ) (o : Step) (os : List Step) → IsLeft h b v (n + 1) → LeadsBack h b v (o ∷ os) → length os ≡ n → stands_at (row_of near b) b (step_from o) n ≡ true

@@ -8,7 +8,7 @@ use Rattle.std.proofs.lemmas.Bool.{eqb-true, eq-eqb, false≢true}
 use Rattle.std.proofs.lemmas.Cmp.{nat_list_cmp_total, tied_itself}
 use Rattle.std.proofs.lemmas.List.{get_or-take, length-take-le, get_or_default}
 use Rattle.std.proofs.lemmas.List.Kept.{IsStrictlySortedBy-filter}
-use Rattle.std.proofs.lemmas.List.Elements.{All-filter, All-contains, filter_passes}
+use Rattle.std.proofs.lemmas.List.Elements.{All-filter, All-contains, filter_passes, Contains-filter}
 use Rattle.std.proofs.lemmas.List.Folds.{list_any_at, Any-from_list_any}
 use Rattle.std.proofs.lemmas.List.FromFn.{get_or-range_with_len, length-range_with_len}
 use Rattle.std.proofs.lemmas.Map.Keys.{below_from_sorted, sorted_from_strictly_increasing, Less-from_sorted}
@@ -20,8 +20,10 @@ use Rattle.tcc_graph.specs.Links.{MayContradict}
 use Rattle.tcc_reads.specs.Sources.{name_cmp}
 use Rattle.tcc_derive.specs.Choices.{IsNearest, IsNearestReader, IsChoice}
 use Rattle.tcc_derive.proofs.BucketLemmas.{Contains-taken, Contains-still, Contains-last}
-use Rattle.tcc_derive.proofs.KeyLemmas.{read_place, read_is_key, numbers_below, number_in, Contains-filter, writer_writes, writer_in}
+use Rattle.tcc_derive.proofs.KeyLemmas.{read_place, read_is_key, numbers_below, number_in, writer_writes, writer_in}
 use Rattle.tcc_near.specs.declared.distances.TheConstants.{NONE}
+use Rattle.tcc_graph.proofs.NameLemmas.{has_name-contains}
+use Rattle.tcc_txn.proofs.Lists.{found_number, number_found}
 
 -- ---- the nearest reader
 
@@ -89,40 +91,24 @@ readers_sorted h a x = IsStrictlySortedBy-filter nat_cmp (λ b. has_name (reads_
 pub readers_below : (h : History) (a : ℕ) (x : List ℕ) → All (λ c. c < count h) (readers h a x)
 readers_below h a x = All-filter (λ b. has_name (reads_from h a b) x) (λ c. c < count h) (numbers h) (numbers_below h)
 
-named : (names : List (List ℕ)) (x : List ℕ) → has_name names x ≡ true → Contains names x
-named names x h =
-    let any = Any-from_list_any (bytes_eq x) names h in
-    let same : x ≡ any.1 = (bytes_eq-Decides x any.1).0 any.4 in
-    subst (λ (y : List ℕ). Contains names y) (sym same) (any.0, any.2, get_or_default names any.0 any.1 any.1 any.2 ∙ any.3)
-
 pub reader_reads : (h : History) (a : ℕ) (x : List ℕ) (c : ℕ) → a < count h → Contains (readers h a x) c → IsReadsPair h a c x
 reader_reads h a x c from there = (
   from,
   All-contains (λ d. d < count h) (readers h a x) c (readers_below h a x) there,
-  named (reads_from h a c) x (All-contains (λ d. has_name (reads_from h a d) x ≡ true) (readers h a x) c (filter_passes (λ d. has_name (reads_from h a d) x) (numbers h)) there),
+  has_name-contains (reads_from h a c) x (All-contains (λ d. has_name (reads_from h a d) x ≡ true) (readers h a x) c (filter_passes (λ d. has_name (reads_from h a d) x) (numbers h)) there),
 )
 
 pub reads_reader : (h : History) (a : ℕ) (x : List ℕ) (c : ℕ) → IsReadsPair h a c x → Contains (readers h a x) c
 reads_reader h a x c (from, to, (k, l, e)) = Contains-filter (λ d. has_name (reads_from h a d) x) (numbers h) c (number_in h c to)
     (list_any_at (bytes_eq x) (reads_from h a c) k x l ((bytes_eq-Decides x (get_or (reads_from h a c) k x)).1 (sym e)))
 
--- whether b is among the numbers
-pub is_among : (xs : List ℕ) (b : ℕ) → list_any (λ y. y == b) xs ≡ true → Contains xs b
-is_among xs b h =
-    let any = Any-from_list_any (λ y. y == b) xs h in
-    let same : any.1 ≡ b = eqb-true any.1 b any.4 in
-    (any.0, any.2, get_or_default xs any.0 b any.1 any.2 ∙ any.3 ∙ same)
-
-pub is_not_among : (xs : List ℕ) (b : ℕ) → list_any (λ y. y == b) xs ≡ false → Contains xs b → ⊥
-is_not_among xs b none (k, l, e) = false≢true (sym none ∙ list_any_at (λ y. y == b) xs k b l (eq-eqb (get_or xs k b) b e))
-
 -- b may contradict no read of a key that it does not write
 pub writes_not : (h : History) (b a : ℕ) (x : List ℕ) (c : ℕ) → list_any (λ y. y == b) (writers h x) ≡ false → MayContradict h b a x c → ⊥
-writes_not h b a x c none (other, pair, writer) = is_not_among (writers h x) b none (writer_in h x b (read_is_key h a c x pair) writer)
+writes_not h b a x c none (other, pair, writer) = false≢true (sym none ∙ number_found (writers h x) b (writer_in h x b (read_is_key h a c x pair) writer))
 
 pub nearest_reader_of : (h : History) (steps : List ℕ) (b a : ℕ) (x : List ℕ) (c : ℕ) → b ≢ a → a < count h → list_any (λ y. y == b) (writers h x) ≡ true → IsNearest (readers h a x) steps c → IsNearestReader h steps b a x c
 nearest_reader_of h steps b a x c other to writes nearest = record {
-  may = (other, reader_reads h a x c to nearest.there, writer_writes h x b (is_among (writers h x) b writes));
+  may = (other, reader_reads h a x c to nearest.there, writer_writes h x b (found_number (writers h x) b writes));
   reached = nearest.reached;
   least = λ d may. nearest.least d (reads_reader h a x d may.1);
   first = λ d may e. nearest.first d (reads_reader h a x d may.1) e;

@@ -11,18 +11,10 @@ use Rattle.tcc_derive.specs.Prices.{IsDerived, IsLinkOf, IsPrice, IsCost}
 use Rattle.tcc_derive.specs.Lowering.{HasPairs}
 use Rattle.tcc_derive.specs.Rows.{IsPriceRow, IsCostRow}
 use Rattle.tcc_graph.proofs.Pairs.{pair_kinds, pair_from_session, pair_from_reads}
-use Rattle.tcc_derive.proofs.PriceLemmas.{derived_cost}
+use Rattle.tcc_graph.proofs.Linking.{some_cost, pair_link}
 
-some_cost : (l : Link) → 1 ≤ link_cost l
-some_cost (link.Session a b) = omega arith
-some_cost (link.Reads a b x) = omega arith
-some_cost (link.Derived b a x c walk) = rw (derived_cost b a x c walk) (omega arith)
-
-pair_link : (h : History) (u v : ℕ) → IsCausalPair h u v → (l : Link) × IsLinkOf h u v l × (link_cost l ≡ 1)
-pair_link h u v (inl session) = (link.Session u v, record { from = refl; to = refl; link = session }, refl)
-pair_link h u v (inr (x, reads)) = (link.Reads u v x, record { from = refl; to = refl; link = reads }, refl)
-
-link_of : (h : History) (u v : ℕ) (l : Link) → IsDerived h u v l → IsLinkOf h u v l
+-- a derived link is a link
+pub link_of : (h : History) (u v : ℕ) (l : Link) → IsDerived h u v l → IsLinkOf h u v l
 link_of h u v l (x, c, walk, is, reason) = rw is (record { from = refl; to = refl; link = reason })
 
 -- where there is no causal pair, a link is derived
@@ -53,7 +45,7 @@ cost_row_of h u prices costs priced pairs = record {
     go : (v : ℕ) → v < count h → (t : Bool) → causal_pair h u v ≡ t → IsCost h u v (least_in costs v)
     go v to true e =
         let one : get_or costs v 0 ≡ 1 = rw e at (pairs.each v (omega (arith, priced.long))) in
-        rw one (record { attained = pair_link h u v (pair_kinds h u v e); least = λ l w. some_cost l })
+        rw one (record { attained = let l = pair_link h u v (pair_kinds h u v e) in (l.0, record { from = l.1; to = l.2; link = l.3 }, l.4); least = λ l w. some_cost l })
     go v to false e =
         let same : get_or costs v 0 ≡ get_or prices v 0 = rw e at (pairs.each v (omega (arith, priced.long))) in
         rw same (cost_from_price h u v e (least_in prices v) (priced.priced v to))

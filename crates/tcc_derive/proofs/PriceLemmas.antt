@@ -12,21 +12,19 @@ use Rattle.tcc_graph.specs.declared.step.Step.{Step}
 use Rattle.tcc_graph.specs.declared.step.Step.TheVariants as step
 use Rattle.tcc_graph.specs.declared.link.Link.{Link}
 use Rattle.tcc_graph.specs.declared.link.Link.TheVariants as link
-use Rattle.tcc_near.specs.Distances.{IsShortest, IsWalkDistance, IsNearOf, row_of, least_in}
+use Rattle.tcc_near.specs.Distances.{IsShortest, IsWalkDistance, IsNearOf, least_in}
 use Rattle.tcc_derive.specs.Prices.{IsDerived, IsPrice}
 use Rattle.tcc_derive.specs.Buckets.{bucket}
 use Rattle.tcc_derive.specs.KeyTables.{IsReadsOf, IsWritesOf}
 use Rattle.tcc_derive.specs.Lowering.{price_by, Lowers}
 use Rattle.tcc_derive.specs.Rows.{IsPriceRow}
 use Rattle.tcc_derive.specs.declared.read.Read.{Read}
-use Rattle.tcc_derive.proofs.BucketLemmas.{Contains-flat_map, flat_map-Contains}
 use Rattle.tcc_derive.proofs.KeyLemmas.{read_place}
 use Rattle.tcc_near.specs.declared.distances.TheConstants.{NONE}
 use Rattle.tcc_txn.specs.declared.limits.TheConstants.{MAX_COUNT}
-
--- a derived link costs a step more than its walk
-pub derived_cost : (b a : ℕ) (x : List ℕ) (c : ℕ) (walk : List Step) → link_cost (link.Derived b a x c walk) ≡ length walk + 1
-derived_cost b a x c walk = length-append walk (step.Reads a c x ∷ [])
+use Rattle.tcc_graph.specs.Tables.{row_of}
+use Rattle.tcc_txn.proofs.Lists.{in_flat_map, from_flat_map}
+use Rattle.tcc_graph.proofs.Linking.{derived_cost}
 
 -- no walk leads there, or a shortest one has as many steps as the row says
 pub record IsNearby (h : History) (b : ℕ) (c : ℕ) (n : ℕ) : Type 0 where
@@ -62,14 +60,14 @@ module _ (h : History) (near : List (List ℕ)) (reads : List (List Read)) (writ
   reason_read : (a : ℕ) (x : List ℕ) (c : ℕ) → MayContradict h b a x c → Contains (flat_map (bucket reads) (bucket written b)) (record { source = a; reader = c })
   reason_read a x c (other, pair, writer) =
       let place = read_place h a c x pair in
-      Contains-flat_map (bucket reads) (bucket written b) place.0 (record { source = a; reader = c })
+      in_flat_map (bucket reads) (bucket written b) place.0 (record { source = a; reader = c })
       (wrote.each b place.0 from place.1 (rw place.2 writer))
       (read.each place.0 a c place.1 tt (rw place.2 pair))
 
   -- and each of those may be contradicted
   read_reason : (r : Read) → Contains (flat_map (bucket reads) (bucket written b)) r → r.source ≢ b → (x : List ℕ) × MayContradict h b r.source x r.reader
   read_reason r there ne =
-      let w = flat_map-Contains (bucket reads) (bucket written b) r there in
+      let w = from_flat_map (bucket reads) (bucket written b) r there in
       let by = wrote.wrote b w.0 from w.1 in
       (name_of (keys h) w.0, ((λ e. ne (sym e)), read.read w.0 r by.0 w.2, by.1))
 

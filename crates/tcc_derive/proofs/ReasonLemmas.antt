@@ -13,13 +13,16 @@ use Rattle.tcc_reads.specs.Sources.{name_cmp}
 use Rattle.tcc_graph.specs.declared.step.Step.{Step}
 use Rattle.tcc_graph.specs.declared.link.Link.{Link}
 use Rattle.tcc_graph.specs.declared.link.Link.TheVariants as link
-use Rattle.tcc_near.specs.Distances.{IsNearOf, row_of}
+use Rattle.tcc_near.specs.Distances.{IsNearOf}
 use Rattle.tcc_derive.specs.Prices.{IsDerived}
 use Rattle.tcc_derive.specs.Reasons.{IsFirstReason}
 use Rattle.tcc_derive.specs.Choices.{IsChoice}
 use Rattle.tcc_derive.specs.Backwards.{IsFirstWalk}
-use Rattle.tcc_derive.proofs.PriceLemmas.{IsNearby, distance_cases, out_of_reach, derived_cost}
+use Rattle.tcc_derive.proofs.PriceLemmas.{IsNearby, distance_cases, out_of_reach}
 use Rattle.tcc_near.specs.declared.distances.TheConstants.{NONE}
+use Rattle.tcc_graph.specs.Tables.{row_of}
+use Rattle.tcc_graph.proofs.Linking.{derived_cost}
+use Rattle.tcc_graph.proofs.Tied.{number_tied}
 
 then_up_to : (o p : Ordering) → o ≢ Greater → (o ≡ Equal → p ≢ Greater) → ordering_then o p ≢ Greater
 then_up_to Less p first second e = absurd cc
@@ -28,9 +31,6 @@ then_up_to Greater p first second e = first refl
 
 number_up_to : (m n : ℕ) → m ≤ n → nat_cmp m n ≢ Greater
 number_up_to m n low e = let over : n < m = ranked m n Greater (sym e) in omega arith
-
-number_tied : (m n : ℕ) → nat_cmp m n ≡ Equal → m ≡ n
-number_tied m n e = ranked m n Equal (sym e)
 
 module _ (h : History) (near : List (List ℕ)) (b a : ℕ) (nears : IsNearOf h near) (from : b < count h) where
   -- where each reader is out of reach, nothing is derived

@@ -19,12 +19,6 @@ use Rattle.tcc_graph.specs.declared.step.Step.TheVariants as step
 use Rattle.tcc_derive.specs.Names.{IsFirstName}
 use Rattle.tcc_derive.specs.Backwards.{IsUpTo, IsFirstStep}
 
-step_total : IsTotalOrder step_cmp
-step_total = then_total (on_total step_from nat_cmp_total) (then_total (on_total step_kind nat_cmp_total) (on_total step_key nat_list_cmp_total))
-
-pub step_itself : (s : Step) → step_cmp s s ≡ Equal
-step_itself s = tied_itself step_total s
-
 -- a session step comes before every other
 pub session_step : (h : History) (u v : ℕ) → IsSessionPair h u v → IsFirstStep h u v (step.Session u v)
 session_step h u v p = record { step = p; from = refl; to = refl; first = λ o is from to. first o is from to }

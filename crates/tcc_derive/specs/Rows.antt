@@ -2,8 +2,9 @@
 -- Rows and tables of prices and costs.
 use Rattle.std.specs.Prelude.{ℕ, ◌<◌, ◌≤◌, ◌≡◌, ◌+◌, List, length, Some}
 use Rattle.tcc_reads.specs.History.{History, count}
-use Rattle.tcc_near.specs.Distances.{least_in, row_of}
+use Rattle.tcc_near.specs.Distances.{least_in}
 use Rattle.tcc_derive.specs.Prices.{IsPrice, IsCost}
+use Rattle.tcc_graph.specs.Tables.{row_of}
 
 -- the row has the least costs of derived links from b
 pub record IsPriceRow (h : History) (b : ℕ) (row : List ℕ) : Type 0 where

@@ -1,10 +1,10 @@
 //! Rows of costs, worked out side by side.
 ghost use Rattle.std.specs.Prelude.{◌≡◌, ◌<◌, ◌≤◌, ℕ, length, IfOk};
 ghost use Rattle.tcc_reads.specs.History.{count};
-ghost use Rattle.tcc_near.specs.Distances.{row_of};
 ghost use Rattle.tcc_derive.specs.Lowering.{HasPairs};
 ghost use Rattle.tcc_derive.specs.Rows.{IsPriceRow, IsCostRow, HasRows};
 ghost use Rattle.tcc_txn.specs.declared.limits.TheConstants.{MAX_COUNT};
+ghost use Rattle.tcc_graph.specs.Tables.{row_of};
 
 use rayon::prelude::*;
 use std::alloc::Global;

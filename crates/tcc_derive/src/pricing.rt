@@ -1,13 +1,14 @@
 //! Rows of prices, worked out side by side.
 ghost use Rattle.std.specs.Prelude.{◌≡◌, ◌<◌, ◌≤◌, ℕ, length, All, IfOk, flat_map, replicate};
 ghost use Rattle.tcc_reads.specs.History.{count};
-ghost use Rattle.tcc_near.specs.Distances.{row_of, IsNearOf};
+ghost use Rattle.tcc_near.specs.Distances.{IsNearOf};
 ghost use Rattle.tcc_derive.specs.Buckets.{bucket};
 ghost use Rattle.tcc_derive.specs.KeyTables.{IsReadsOf, IsWritesOf};
 ghost use Rattle.tcc_derive.specs.Lowering.{HaveReads, Lowers};
 ghost use Rattle.tcc_derive.specs.Rows.{IsPriceRow, HasRows};
 ghost use Rattle.tcc_near.specs.declared.distances.TheConstants.{NONE};
 ghost use Rattle.tcc_txn.specs.declared.limits.TheConstants.{MAX_COUNT};
+ghost use Rattle.tcc_graph.specs.Tables.{row_of};
 
 use crate::read::Read;
 use rayon::prelude::*;

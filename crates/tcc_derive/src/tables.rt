@@ -1,8 +1,9 @@
 //! The least costs of links between transactions.
 ghost use Rattle.std.specs.Prelude.{◌≡◌, ◌<◌, ◌≤◌, ◌∷◌, [], length};
-ghost use Rattle.tcc_near.specs.Distances.{row_of, least_in, IsSquare};
+ghost use Rattle.tcc_near.specs.Distances.{least_in, IsSquare};
 ghost use Rattle.tcc_derive.specs.Prices.{price_at, cost_at};
 ghost use Rattle.tcc_txn.specs.declared.limits.TheConstants.{MAX_COUNT};
+ghost use Rattle.tcc_graph.specs.Tables.{row_of};
 
 use std::marker::Model;
 use tcc_near::{NONE, Row};

@@ -3,10 +3,11 @@ ghost use Rattle.std.specs.Prelude.{◌≡◌, ◌≢◌, ◌<◌, ◌+◌, ℕ,
 ghost use Rattle.tcc_reads.specs.History.{count};
 ghost use Rattle.tcc_graph.specs.Walks.{step_from, step_to, IsStep, IsReached};
 ghost use Rattle.tcc_graph.specs.declared.step.Step.{Step};
-ghost use Rattle.tcc_near.specs.Distances.{IsNearOf, row_of};
+ghost use Rattle.tcc_near.specs.Distances.{IsNearOf};
 ghost use Rattle.tcc_derive.specs.Names.{IsFirstName};
 ghost use Rattle.tcc_derive.specs.Backwards.{IsFirstStep, IsLastStep, IsFirstWalk, stands_at};
 ghost use Rattle.tcc_near.specs.declared.distances.TheConstants.{NONE};
+ghost use Rattle.tcc_graph.specs.Tables.{row_of};
 
 use std::alloc::Global;
 use tcc_graph::{Graph, Step, Walk};

@@ -1,6 +1,6 @@
 -- Rows worked out one by one.
 use Rattle.std.proofs.Common.{◌≡◌, ◌<◌, ℕ, zero, suc, List, [], ◌∷◌, length, map, get_or, sym, ◌∙◌, ap, arith, subst, zero-add}
-use Rattle.std.specs.Prelude.{Ok, Err, IfOk, MatchResult}
+use Rattle.std.specs.Prelude.{Ok, IfOk}
 use Rattle.std.specs.declared.result.Result.{Result}
 use Rattle.std.specs.List.{AllZip, range_with_len}
 use Rattle.std.proofs.lemmas.List.{length-map}
@@ -34,8 +34,3 @@ module _ {V : Type 0} (E : Type 0) (P : ℕ → V → Type 0) where
           let number : get_or xs i 0 ≡ i = ap (λ ns. get_or ns i 0) numbers ∙ (get_or-range_with_len 0 n i 0 l ∙ zero-add i) in
           let is = zipped xs ys i d zip (omega (arith, ap length same, long)) in
           subst (λ (j : ℕ). P j (get_or items i d)) number (subst (λ (zs : List V). P (get_or xs i 0) (get_or zs i d)) (sym same) is)
-
--- what follows of a value where there is one
-pub where_ok : {T E : Type 0} (r : Result T E) (P Q : T → Type 0) (R : E → Type 0) → MatchResult r P R → ((v : T) → P v → Q v) → IfOk r Q
-where_ok (Ok v) P Q R h f = f v h
-where_ok (Err e) P Q R h f = tt

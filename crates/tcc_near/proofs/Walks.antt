@@ -1,13 +1,14 @@
 -- Walks of at most so many steps, by their last step.
-use Rattle.std.proofs.Common.{◌≡◌, ◌<◌, ◌≤◌, ◌+◌, ℕ, zero, suc, true, ◌⊎◌, inl, inr, List, [], ◌∷◌, ◌++◌, length, refl, sym, ◌∙◌, arith, subst, length-append}
+use Rattle.std.proofs.Common.{◌≡◌, ◌<◌, ◌≤◌, ◌+◌, ℕ, zero, suc, true, ◌⊎◌, inl, inr, List, [], ◌∷◌, ◌++◌, length, refl, arith, length-append}
 use Rattle.std.proofs.lemmas.Bool.{cases_lt}
 use Rattle.tcc_reads.specs.History.{History, count}
 use Rattle.tcc_graph.specs.Relations.{causal_pair}
-use Rattle.tcc_graph.specs.Walks.{step_from, step_to, IsStep, Leads, IsWalk}
+use Rattle.tcc_graph.specs.Walks.{step_to, Leads, IsWalk}
 use Rattle.tcc_graph.specs.declared.step.Step.{Step}
 use Rattle.tcc_near.specs.Distances.{IsShortest}
 use Rattle.tcc_near.specs.Levels.{IsWithin}
 use Rattle.tcc_graph.proofs.Pairs.{pair_kinds, step_from_pair, pair_from_step, pair_below}
+use Rattle.tcc_graph.proofs.Walking.{leads_append}
 
 -- all steps but the last lead to some u, from which the last step goes
 abbrev Split : History → ℕ → ℕ → ℕ → Type 0
@@ -20,14 +21,10 @@ split_last h a b s (t ∷ steps) w =
     (rest.0, s ∷ rest.1, (w.0, w.1, rest.2), rest.3, omega (arith, rest.4))
 
 -- one more step at the end
-join_step : (h : History) (a u : ℕ) (front : List Step) (s : Step) → Leads h a u front → step_from s ≡ u → IsStep h s → Leads h a (step_to s) (front ++ s ∷ [])
-join_step h a u [] s w from is = (from ∙ sym w, is, refl)
-join_step h a u (t ∷ front) s w from is = (w.0, w.1, join_step h (step_to t) u front s w.2 from is)
-
 join_last : (h : History) (a u b : ℕ) (front : List Step) → Leads h a u front → causal_pair h u b ≡ true → (walk : List Step) × Leads h a b walk × (length walk ≡ length front + 1)
 join_last h a u b front w p =
     let s = step_from_pair h u b p in
-    (front ++ s.0 ∷ [], subst (λ (z : ℕ). Leads h a z (front ++ s.0 ∷ [])) s.2 (join_step h a u front s.0 w s.1 s.3), omega (arith, length-append front (s.0 ∷ [])))
+    (front ++ s.0 ∷ [], leads_append h a u b front (s.0 ∷ []) w (s.1, s.3, s.2), omega (arith, length-append front (s.0 ∷ [])))
 
 pub within_more : (h : History) (a n m b : ℕ) → n ≤ m → IsWithin h a n b → IsWithin h a m b
 within_more h a n m b l w = (w.0, w.1, omega (arith, w.2))

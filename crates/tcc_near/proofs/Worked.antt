@@ -2,7 +2,7 @@
 use Rattle.std.proofs.Common.{ℕ, ◌≡◌, ◌≤◌, zero, suc, List, [], ◌∷◌, length, true, inl, inr, refl, subst, arith, lit<, lit≤}
 use Rattle.std.specs.Prelude.{codes}
 use Rattle.std.proofs.lemmas.Bool.{false≢true}
-use Rattle.tcc_reads.specs.History.{Entry, History, initial, place}
+use Rattle.tcc_reads.specs.History.{History, initial, place}
 use Rattle.tcc_graph.specs.Relations.{causal_pair}
 use Rattle.tcc_graph.specs.Walks.{step_to, Leads, IsWalk, IsReached}
 use Rattle.tcc_graph.specs.declared.step.Step.{Step}
@@ -10,28 +10,13 @@ use Rattle.tcc_graph.specs.declared.step.Step.TheVariants as step
 use Rattle.tcc_near.specs.Distances.{IsShortest}
 use Rattle.tcc_near.specs.Clocks.{IsBehind, IsLast}
 use Rattle.tcc_graph.proofs.Pairs.{pair_kinds, pair_from_step, pair_below}
-
-abbrev x : List ℕ
-x = codes "x"
-
-abbrev y : List ℕ
-y = codes "y"
-
--- a transaction of a session at a place, with what it writes and reads
-abbrev entry : ℕ → ℕ → List (List ℕ) → List (List ℕ × ℕ) → Entry
-entry owner place writes reads = record { owner = owner; place = place; writes = writes; reads = reads }
+use Rattle.tcc_graph.proofs.Worked.{x, y, entry, stale_read}
 
 -- the pair of the first step of a walk
 first_pair : (h : History) (a b : ℕ) (s : Step) (steps : List Step) → Leads h a b (s ∷ steps) → causal_pair h a (step_to s) ≡ true
 first_pair h a b s steps w = subst (λ (u : ℕ). causal_pair h u (step_to s) ≡ true) w.0 (pair_from_step h s w.1)
 
 -- a/1 writes x, and a/2 reads the initial value of x
-abbrev stale_read : History
-stale_read = record {
-  sessions = codes "a" ∷ [];
-  entries = initial ∷ entry 0 1 (x ∷ []) [] ∷ entry 0 2 [] ((x, 0) ∷ []) ∷ [];
-}
-
 stale_read-onwards : IsShortest stale_read 1 2 1
 stale_read-onwards = record {
   attained = (step.Session 1 2 ∷ [], (omega arith, (refl, refl, refl)), refl);

@@ -2,7 +2,7 @@
 use Rattle.std.specs.Prelude.{ℕ, ◌<◌, ◌≤◌, ◌≡◌, ◌⊎◌, List, length, All, slice_index}
 use Rattle.tcc_reads.specs.History.{History, count, owner, place}
 use Rattle.tcc_graph.specs.Walks.{IsReached}
-use Rattle.tcc_near.specs.Distances.{row_of}
+use Rattle.tcc_graph.specs.Tables.{row_of}
 
 -- b is a committed transaction of the session, and t is reached from it
 pub record IsBehind (h : History) (t : ℕ) (session : ℕ) (b : ℕ) : Type 0 where

@@ -1,9 +1,10 @@
 -- The least numbers of steps of causal walks, and tables of them.
-use Rattle.std.specs.Prelude.{ℕ, ◌<◌, ◌≤◌, ◌≡◌, ◌==◌, List, [], length, All, Option, None, Some, if◌then◌else◌, slice_index, slice_index_or}
+use Rattle.std.specs.Prelude.{ℕ, ◌<◌, ◌≤◌, ◌≡◌, ◌==◌, List, length, All, Option, None, Some, if◌then◌else◌, slice_index}
 use Rattle.tcc_reads.specs.History.{History, count}
 use Rattle.tcc_graph.specs.Walks.{IsWalk, IsReached}
 use Rattle.tcc_graph.specs.declared.step.Step.{Step}
 use Rattle.tcc_near.specs.declared.distances.TheConstants.{NONE}
+use Rattle.tcc_graph.specs.Tables.{row_of}
 
 -- a walk from a to b has n steps, and none has fewer
 pub record IsShortest (h : History) (a : ℕ) (b : ℕ) (n : ℕ) : Type 0 where
@@ -14,10 +15,6 @@ pub record IsShortest (h : History) (a : ℕ) (b : ℕ) (n : ℕ) : Type 0 where
 abbrev pub IsWalkDistance : History → ℕ → ℕ → Option ℕ → Type 0
 IsWalkDistance h a b None = IsReached h a b → ⊥
 IsWalkDistance h a b (Some n) = IsShortest h a b n
-
--- the row of a number, and nothing past the table
-abbrev pub row_of : List (List ℕ) → ℕ → List ℕ
-row_of table a = slice_index_or table a []
 
 -- what stands in a row, as a number or none
 abbrev pub least_in : List ℕ → ℕ → Option ℕ

@@ -1,6 +1,6 @@
 //! How much of each session stands behind each transaction.
 ghost use Rattle.std.specs.Prelude.{◌≡◌, ◌<◌, length, slice_index};
-ghost use Rattle.tcc_near.specs.Distances.{row_of};
+ghost use Rattle.tcc_graph.specs.Tables.{row_of};
 
 use crate::Row;
 use std::marker::Model;

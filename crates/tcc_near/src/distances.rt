@@ -1,6 +1,7 @@
 //! The least number of steps of a causal walk from each transaction to each.
 ghost use Rattle.std.specs.Prelude.{◌≡◌, ◌<◌, length};
-ghost use Rattle.tcc_near.specs.Distances.{IsSquare, least, row_of};
+ghost use Rattle.tcc_near.specs.Distances.{IsSquare, least};
+ghost use Rattle.tcc_graph.specs.Tables.{row_of};
 
 use crate::Row;
 use std::marker::Model;

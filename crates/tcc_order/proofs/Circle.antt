@@ -1,7 +1,7 @@
 -- Where each number that is left has one before it that is left too, going back meets one twice: there is a circle.
 use Rattle.std.proofs.Common.{◌≡◌, ◌<◌, ◌≤◌, ℕ, zero, suc, ◌+◌, Bool, true, false, ◌||◌, ◌&&◌, ◌⊎◌, inl, inr, List, [], ◌∷◌, length, not, eqb, refl, sym, arith}
 use Rattle.std.specs.List.{IsDistinct, AllByRecursion}
-use Rattle.std.proofs.lemmas.Bool.{or_cases, and_parts, cases_Bool, cases_eq, false≢true, eqb-true, eq-eqb}
+use Rattle.std.proofs.lemmas.Bool.{or_cases, and_parts, cases_Bool, cases_eq, false≢true, eqb-true, eq-eqb, not-true, not-false, or_parts}
 use Rattle.std.proofs.lemmas.Map.Steps.{length-le_from_distinct_below, le-length_from_below}
 use Rattle.tcc_order.specs.Numbering.{Joins, HasCircle}
 use Rattle.tcc_order.proofs.Greedy.{has, IsFree, IsBelow}
@@ -41,13 +41,9 @@ to_member precedes x (y ∷ ys) z chain h = go (or_cases (eqb z y) (has ys z) h)
     go (inl same) rest = ([], rw (eqb-true z y same) chain.0)
     go (inr later) rest = let w = rest later in (y ∷ w.0, (chain.0, w.1))
 
-neither : (a b : Bool) → (a || b) ≡ false → (a ≡ false) × (b ≡ false)
-neither true b h = absurd (false≢true (sym h))
-neither false b h = (refl, h)
-
 fresh_all : (x : ℕ) (xs : List ℕ) → has xs x ≡ false → AllByRecursion (λ y. eqb x y ≡ false) xs
 fresh_all x [] h = tt
-fresh_all x (y ∷ xs) h = let w = neither (eqb x y) (has xs x) h in (w.0, fresh_all x xs w.1)
+fresh_all x (y ∷ xs) h = let w = or_parts (eqb x y) (has xs x) h in (w.0, fresh_all x xs w.1)
 
 distinct_cons : (x : ℕ) (xs : List ℕ) → has xs x ≡ false → IsDistinct eqb xs → IsDistinct eqb (x ∷ xs)
 unfolding IsDistinct
@@ -91,14 +87,6 @@ back precedes n done prior (suc fuel) x xs enough trail = step (prior x (first_b
     step : (a : ℕ) × (a < n) × (precedes a x ≡ true) × (has done a ≡ false) → ((a : ℕ) → IsTrail precedes n done a (x ∷ xs) → HasCircle precedes) → HasCircle precedes
     step (a, l, p, left) rest = go a l p left (rest a) (cases_Bool (has (x ∷ xs) a))
 
-pub not_true : (b : Bool) → not b ≡ true → b ≡ false
-not_true true h = absurd (false≢true h)
-not_true false h = refl
-
-pub not_false : (b : Bool) → not b ≡ false → b ≡ true
-not_false true h = refl
-not_false false h = absurd (false≢true (sym h))
-
 -- a number before x that is left
 abbrev pub lacks : (ℕ → ℕ → Bool) → List ℕ → ℕ → ℕ → Bool
 lacks precedes done x a = precedes a x && not (has done a)
@@ -107,10 +95,10 @@ prior_of : (precedes : ℕ → ℕ → Bool) (n : ℕ) (done : List ℕ) → IsB
 prior_of precedes n done bounds stuck x l left = go (search_below (lacks precedes done x) n)
   where
     seen : ((y : ℕ) → y < n → lacks precedes done x y ≡ false) → (a : ℕ) → precedes a x ≡ true → has done a ≡ true
-    seen none a p = not_false (has done a) (rw p at (none a (bounds a x p).0))
+    seen none a p = not-false (has done a) (rw p at (none a (bounds a x p).0))
 
     go : Search (lacks precedes done x) n → (a : ℕ) × (a < n) × (precedes a x ≡ true) × (has done a ≡ false)
-    go (inl found) = let w = and_parts (precedes found.0 x) (not (has done found.0)) found.1.passes in (found.0, found.1.below, w.0, not_true (has done found.0) w.1)
+    go (inl found) = let w = and_parts (precedes found.0 x) (not (has done found.0)) found.1.passes in (found.0, found.1.below, w.0, not-true (has done found.0) w.1)
     go (inr none) = absurd (stuck x (record { below = l; new = left; ready = seen none }))
 
 -- where some number is left and none can be picked, there is a circle
@@ -132,8 +120,8 @@ pub some_left : (n : ℕ) (done : List ℕ) → length done < n → (x : ℕ) ×
 some_left n done short = go (search_below (λ x. not (has done x)) n)
   where
     go : Search (λ x. not (has done x)) n → (x : ℕ) × (x < n) × (has done x ≡ false)
-    go (inl found) = (found.0, found.1.below, not_true (has done found.0) found.1.passes)
-    go (inr none) = absurd (omega (arith, le-length_from_below done n (λ q l. not_false (has done q) (none q l))))
+    go (inl found) = (found.0, found.1.below, not-true (has done found.0) found.1.passes)
+    go (inr none) = absurd (omega (arith, le-length_from_below done n (λ q l. not-false (has done q) (none q l))))
 
 pub short_circle : (precedes : ℕ → ℕ → Bool) (n : ℕ) (done : List ℕ) → IsBelow precedes n → ((x : ℕ) → IsFree precedes n done x → ⊥) → length done < n → HasCircle precedes
 short_circle precedes n done bounds stuck short =

@@ -13,6 +13,7 @@ use Rattle.std.proofs.lemmas.Map.Steps.{length-le_from_distinct_below}
 use Rattle.std.specs.Cmp.{nat_eq_equiv}
 use Rattle.tcc_graph.specs.Orders.{Before, IsNumbering}
 use Rattle.tcc_order.specs.Numbering.{IsOrderOf}
+use Rattle.tcc_graph.proofs.Numberings.{below_in, has_place, one_place}
 
 -- whether x is in the list
 abbrev pub has : List ℕ → ℕ → Bool
@@ -59,21 +60,6 @@ place_of (y ∷ xs) x h = go (or_cases (eqb x y) (has xs x) h) (λ t. place_of x
 pub has_at : (xs : List ℕ) (i x : ℕ) → i < length xs → slice_index xs i ≡ x → has xs x ≡ true
 has_at xs i x l e = list_any_at (eqb x) xs i 0 l (eq-eqb x (get_or xs i 0) (sym e))
 
--- what a numbering says, by place
-below_in : {n : ℕ} {order : List ℕ} → IsNumbering n order → (i : ℕ) → i < length order → slice_index order i < n
-below_in h i l = h.below i 0 l
-
-place_in : {n : ℕ} {order : List ℕ} → IsNumbering n order → (x : ℕ) → x < n → (i : ℕ) × (i < length order) × (slice_index order i ≡ x)
-place_in {n} {order} h x l = let w = h.each x l in (w.0, w.1, get_or_default order w.0 0 x w.1 ∙ w.2)
-
-pub one_place : {n : ℕ} {order : List ℕ} → IsNumbering n order → (i j : ℕ) → i < length order → j < length order → slice_index order i ≡ slice_index order j → i ≡ j
-one_place {n} {order} h i j l m e = go (cases_order i j)
-  where
-    go : (i ≡ j) ⊎ ((i < j) ⊎ (j < i)) → i ≡ j
-    go (inl same) = same
-    go (inr (inl lower)) = absurd (h.once i j lower m e)
-    go (inr (inr higher)) = absurd (h.once j i higher l (sym e))
-
 -- an earlier place of a list holds what the part before has
 before_here : (done rest : List ℕ) (i x : ℕ) → i < length done → slice_index (done ++ rest) i ≡ x → has done x ≡ true
 before_here done rest i x l e = has_at done i x l (sym (get_or_append_left done rest 0 i l) ∙ e)
@@ -112,7 +98,7 @@ Picks-first precedes n done [] [] p h = λ e. cc
 Picks-first precedes n done [] (y ∷ ys) p h = λ e. cc
 Picks-first precedes n done (x ∷ xs) [] p h =
     let all : IsOrderOf precedes n done = rw (append-nil done) at h in
-    let w = place_in all.numbering x p.0.free.below in
+    let w = has_place all.numbering x p.0.free.below in
     absurd (false≢true (sym p.0.free.new ∙ has_at done w.0 x w.1 w.2))
 Picks-first precedes n done (x ∷ xs) (y ∷ ys) p h =
     go (λ e. Picks-first precedes n (done ++ x ∷ []) xs ys p.1 (rw (append_assoc done (x ∷ []) ys, e) h)) (cases_order x y)

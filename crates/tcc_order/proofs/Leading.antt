@@ -3,7 +3,6 @@ use Rattle.std.proofs.Common.{cond, List, ◌≤◌, ◌+◌, ◌⊎◌, inl, in
 use Rattle.std.proofs.lemmas.Bool.{cases_Bool, and_parts, and_from, ltb-true, lt-ltb, false≢true}
 use Rattle.tcc_reads.specs.History.{History, count}
 use Rattle.tcc_derive.specs.Prices.{Tables, cost_at, IsCost, IsPricesOf}
-use Rattle.tcc_near.specs.Distances.{row_of}
 use Rattle.tcc_order.specs.Numbering.{passing, holds_back, IsWaiting}
 use Rattle.tcc_order.specs.Leads.{leads, link_in, AddsLinks}
 use Rattle.tcc_order.proofs.Passing.{one, passing-same, passing-some}
@@ -11,6 +10,7 @@ use Rattle.tcc_order.proofs.Waiting.{passing-placed}
 use Rattle.tcc_order.proofs.Greedy.{IsBelow}
 use Rattle.tcc_order.proofs.Kept.{IsLinked, IsPrecedence, linked_below}
 use Rattle.tcc_near.specs.declared.distances.TheConstants.{NONE}
+use Rattle.tcc_graph.specs.Tables.{row_of}
 
 pub leads_below : (t : Tables) → IsBelow (leads t) (length t.prices)
 leads_below t a b h =

@@ -1,16 +1,17 @@
 -- A commit order exists exactly where there is no cycle.
 use Rattle.std.proofs.Common.{◌≡◌, ◌<◌, ℕ, zero, suc, ◌+◌, Bool, true, false, ◌&&◌, ◌⊎◌, inl, inr, List, [], ◌∷◌, ◌++◌, length, length-append, not, refl, sym, ◌∙◌, arith, subst}
-use Rattle.std.proofs.lemmas.Bool.{and_parts, and_from, cases_Bool, false≢true}
+use Rattle.std.proofs.lemmas.Bool.{and_parts, and_from, cases_Bool, false≢true, not-true}
 use Rattle.tcc_reads.specs.History.{History, count}
 use Rattle.tcc_graph.specs.Links.{link_to}
 use Rattle.tcc_graph.specs.Orders.{Before, IsNumbering, IsCommitOrder}
 use Rattle.tcc_graph.specs.Routes.{LinksLead, HasCycle}
 use Rattle.tcc_graph.specs.declared.link.Link.{Link}
 use Rattle.tcc_order.specs.Numbering.{IsOrderOf, HasCircle}
-use Rattle.tcc_order.proofs.Greedy.{has, IsFree, IsNext, Picks, Picks-push, Picks-order, IsBelow, one_place}
-use Rattle.tcc_order.proofs.Circle.{IsLeastPassing, Search, search_below, lacks, not_true, short_circle}
+use Rattle.tcc_order.proofs.Greedy.{has, IsFree, IsNext, Picks, Picks-push, Picks-order, IsBelow}
+use Rattle.tcc_order.proofs.Circle.{IsLeastPassing, Search, search_below, lacks, short_circle}
 use Rattle.tcc_order.proofs.Kept.{precedence_below, link_before, commit_from_order, cycle_from_circle}
 use Rattle.tcc_order.proofs.Linked.{any_below, any_below_at, any_below_found, linked, linked_precedence}
+use Rattle.tcc_graph.proofs.Numberings.{one_place}
 
 -- ---- an order would put each link's ends apart
 
@@ -45,7 +46,7 @@ true_not false h = refl
 free_from_test : (precedes : ℕ → ℕ → Bool) (n : ℕ) (done : List ℕ) (x : ℕ) → IsBelow precedes n → x < n → free precedes n done x ≡ true → IsFree precedes n done x
 free_from_test precedes n done x bounds l p =
     let w = and_parts (not (has done x)) (not (any_below (lacks precedes done x) n)) p in
-    record { below = l; new = not_true (has done x) w.0; ready = λ a q. seen (not_true (any_below (lacks precedes done x) n) w.1) a q (cases_Bool (has done a)) }
+    record { below = l; new = not-true (has done x) w.0; ready = λ a q. seen (not-true (any_below (lacks precedes done x) n) w.1) a q (cases_Bool (has done a)) }
   where
     seen : any_below (lacks precedes done x) n ≡ false → (a : ℕ) → precedes a x ≡ true → (has done a ≡ true) ⊎ (has done a ≡ false) → has done a ≡ true
     seen none a q (inl there) = there
@@ -59,7 +60,7 @@ test_from_free precedes n done x h = and_from _ _ (true_not (has done x) h.new) 
     none (inl t) =
         let w = any_below_found (lacks precedes done x) n t in
         let parts = and_parts (precedes w.0 x) (not (has done w.0)) w.2 in
-        absurd (false≢true (sym (not_true (has done w.0) parts.1) ∙ h.ready w.0 parts.0))
+        absurd (false≢true (sym (not-true (has done w.0) parts.1) ∙ h.ready w.0 parts.0))
 
 abbrev Outcome : (ℕ → ℕ → Bool) → ℕ → Type 0
 Outcome precedes n = ((order : List ℕ) × IsOrderOf precedes n order) ⊎ HasCircle precedes

@@ -7,8 +7,9 @@ use Rattle.tcc_graph.specs.Relations.{session_pair, IsSessionPair, reads_from, I
 use Rattle.tcc_graph.specs.Walks.{step_from, step_to, IsStep, Leads, IsWalk, IsReached}
 use Rattle.tcc_graph.specs.declared.step.Step.{Step}
 use Rattle.tcc_graph.specs.declared.step.Step.TheVariants as step
-use Rattle.tcc_graph.proofs.Pairs.{pair_from_step, step_from_pair, step_below}
+use Rattle.tcc_graph.proofs.Pairs.{pair_from_step, step_from_pair, step_below, pair_kinds}
 use Rattle.tcc_order.proofs.Within.{within, within_pair, within_join, within_sound}
+use Rattle.tcc_graph.proofs.Walking.{pair_walk, reached_append}
 
 -- ---- reached, as a test
 
@@ -16,21 +17,9 @@ use Rattle.tcc_order.proofs.Within.{within, within_pair, within_join, within_sou
 pub reaches : History → ℕ → ℕ → Bool
 reaches h a b = within (causal_pair h) (count h) a b
 
-leads_append : (h : History) (a m b : ℕ) (front back : List Step) → Leads h a m front → Leads h m b back → Leads h a b (front ++ back)
-leads_append h a m b [] back p q = subst (λ (z : ℕ). Leads h z b back) (sym p) q
-leads_append h a m b (s ∷ front) back p q = (p.0, p.1, leads_append h (step_to s) m b front back p.2 q)
-
-walk_append : (h : History) (a m b : ℕ) → IsReached h a m → IsReached h m b → IsReached h a b
-walk_append h a m b v w = (v.0 ++ w.0, (rw length-append (omega (arith, v.1.0)), leads_append h a m b v.0 w.0 v.1.1 w.1.1))
-
-walk_of_pair : (h : History) (a b : ℕ) → causal_pair h a b ≡ true → IsReached h a b
-walk_of_pair h a b p =
-    let s = step_from_pair h a b p in
-    (s.0 ∷ [], (omega arith, (s.1, s.3, s.2)))
-
 pub walk_of_reaches : (h : History) (a b : ℕ) → reaches h a b ≡ true → IsReached h a b
 unfolding reaches
-walk_of_reaches h a b p = within_sound (causal_pair h) (IsReached h) (walk_of_pair h) (walk_append h) (count h) a b p
+walk_of_reaches h a b p = within_sound (causal_pair h) (IsReached h) (λ x y p. let w = pair_walk h x y (pair_kinds h x y p) in (w.0, w.1)) (reached_append h) (count h) a b p
 
 within_of_step : (h : History) (a b : ℕ) (s : Step) → step_from s ≡ a → IsStep h s → step_to s ≡ b → within (causal_pair h) (count h) a b ≡ true
 within_of_step h a b s from p to = within_pair (causal_pair h) (count h) a b (rw (← from, ← to) (pair_from_step h s p))

@@ -1,12 +1,12 @@
 -- What the counts of those that hold a number back say of what may be picked next.
 use Rattle.std.proofs.Common.{replicate, zero, suc, ◌≡◌, ◌<◌, ◌+◌, ℕ, Bool, true, false, ◌&&◌, ◌||◌, ◌⊎◌, inl, inr, List, [], ◌∷◌, ◌++◌, length, not, slice_index_or, slice_set, eqb, refl, sym, ◌∙◌, ap, length-append, arith}
-use Rattle.std.proofs.lemmas.Bool.{cases_Bool, cases_eq, ne_eqb}
+use Rattle.std.proofs.lemmas.Bool.{cases_Bool, cases_eq, ne_eqb, not-false}
 use Rattle.std.proofs.lemmas.List.{get_or_at, get_or-set_same, get_or-set_other}
 use Rattle.std.proofs.lemmas.List.Folds.{list_any-append}
 use Rattle.tcc_order.specs.Numbering.{passing, holds_back, IsWaiting, IsReady, IsLeastReady}
 use Rattle.tcc_order.proofs.Greedy.{has, has_at, IsFree, IsNext, IsBelow}
-use Rattle.tcc_order.proofs.Circle.{not_false}
 use Rattle.tcc_order.proofs.Passing.{passing-same, none_passing, passing-none, passing-less, one}
+use Rattle.std.proofs.Math.Bool.{or-false}
 
 -- the tests of what was placed say what was picked
 abbrev pub Says : List Bool → List ℕ → Type 0
@@ -18,20 +18,16 @@ none_placed zero x = refl
 none_placed (suc n) zero = refl
 none_placed (suc n) (suc x) = none_placed n x
 
-or_false : (t : Bool) → (t || false) ≡ t
-or_false true = refl
-or_false false = refl
-
 -- one more is placed
 pub says_more : (placed : List Bool) (done : List ℕ) (x : ℕ) → x < length placed → Says placed done → Says (slice_set placed x true) (done ++ x ∷ [])
 says_more placed done x within says q = go (cases_eq q x)
   where
     go : (q ≡ x) ⊎ (q ≡ x → ⊥) → slice_index_or (slice_set placed x true) q false ≡ has (done ++ x ∷ []) q
     go (inl same) = rw same (get_or-set_same placed x true false within ∙ sym (has_at (done ++ x ∷ []) (length done) x (rw length-append (omega arith)) (get_or_at done x [] 0 (length done) refl)))
-    go (inr other) = get_or-set_other placed x q true false other ∙ says q ∙ sym (list_any-append (eqb q) done (x ∷ []) ∙ rw (ne_eqb q x other) (or_false (has done q)))
+    go (inr other) = get_or-set_other placed x q true false other ∙ says q ∙ sym (list_any-append (eqb q) done (x ∷ []) ∙ rw (ne_eqb q x other) (or-false (has done q)))
 
 held_none : (b c : Bool) → (b && not c) ≡ false → b ≡ true → c ≡ true
-held_none b c h p = not_false c (rw p at h)
+held_none b c h p = not-false c (rw p at h)
 
 -- what nothing holds back may be picked
 pub free_from_ready : (precedes : ℕ → ℕ → Bool) (n : ℕ) (placed : List Bool) (waiting : List ℕ) (done : List ℕ) (x : ℕ) → IsBelow precedes n → IsWaiting precedes n placed waiting → Says placed done → IsReady placed waiting x → IsFree precedes n done x

@@ -13,44 +13,9 @@ use Rattle.tcc_order.specs.Numbering.{Joins, HasCircle, passing}
 use Rattle.tcc_order.specs.Leads.{leads}
 use Rattle.tcc_order.proofs.OrderOrCycle.{no_cycle}
 use Rattle.tcc_near.specs.declared.distances.TheConstants.{NONE}
-
-abbrev x : List ℕ
-x = codes "x"
-
-abbrev y : List ℕ
-y = codes "y"
-
--- a transaction of a session at a place, with what it writes and reads
-abbrev entry : ℕ → ℕ → List (List ℕ) → List (List ℕ × ℕ) → Entry
-entry owner place writes reads = record { owner = owner; place = place; writes = writes; reads = reads }
+use Rattle.tcc_graph.proofs.Worked.{x, y, entry, stale_read, stale_cycle, stale_read-cycle}
 
 -- ---- a/1 writes x, and a/2 reads the initial value of x: there is a cycle, and so no order
-
-abbrev stale_read : History
-stale_read = record {
-  sessions = codes "a" ∷ [];
-  entries = initial ∷ entry 0 1 (x ∷ []) [] ∷ entry 0 2 [] ((x, 0) ∷ []) ∷ [];
-}
-
-abbrev stale_cycle : List Link
-stale_cycle = link.Session 0 1 ∷ link.Derived 1 0 x 2 (step.Session 1 2 ∷ []) ∷ []
-
-stale_read-cycle : IsCycle stale_read 0 stale_cycle
-stale_read-cycle = (
-  omega arith,
-  (
-    refl,
-    refl,
-    (
-      refl,
-      (
-        ((λ e. absurd (omega arith)), (omega arith, omega arith, (0, omega arith, refl)), (omega arith, refl)),
-        (omega arith, (refl, refl, refl)),
-      ),
-      refl,
-    ),
-  ),
-)
 
 stale_read-no_order : (order : List ℕ) → IsCommitOrder stale_read order → ⊥
 stale_read-no_order order o = no_cycle stale_read order o (0, stale_cycle, stale_read-cycle)

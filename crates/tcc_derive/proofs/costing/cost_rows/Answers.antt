@@ -3,13 +3,14 @@ use Rattle.std.specs.List.{range_with_len}
 use Rattle.rayon.specs.Numbers.{nat_range}
 use Rattle.rayon.proofs.ToStd.{nat_range-All}
 use Rattle.tcc_reads.specs.History.{count}
-use Rattle.tcc_near.specs.Distances.{row_of}
 use Rattle.tcc_txn.specs.declared.memory.NoMemory.{NoMemory}
 use Rattle.tcc_derive.specs.Lowering.{HasPairs}
-use Rattle.tcc_near.proofs.RowLemmas.{each_given, where_ok}
+use Rattle.tcc_near.proofs.RowLemmas.{each_given}
 use Rattle.tcc_derive.proofs.CostLemmas.{cost_row_of}
 use Rattle.tcc_derive.proofs.costing.cost_rows.Goals as goal
 use Rattle.tcc_txn.specs.declared.limits.TheConstants.{MAX_COUNT}
+use Rattle.tcc_txn.proofs.Lists.{matched}
+use Rattle.tcc_graph.specs.Tables.{row_of}
 
 pub collect-requires-clause-ready : goal.collect-requires-clause-ready
 collect-requires-clause-ready g c κs within =
@@ -33,7 +34,7 @@ returns g c =
     let chain = rw (c.with_min_len.ensures.base, c.map.ensures.base, c.map.ensures.f) at got.1 in
     let places : chain.0 ≡ range_with_len 0 n = chain.1 ∙ (λ i. nat_range (ends.0 i) (ends.1 i)) ∙ ap (range_with_len 0) whole in
     let IsPaired : ℕ → List ℕ → Type 0 = λ u row. HasPairs h u (row_of prices u) row in
-    where_ok c.in_ok-collect.field-0 _ _ _ got.2 (λ rows made.
+    matched c.in_ok-collect.field-0 _ _ _ got.2 (λ rows made.
     let each = each_given NoMemory IsPaired n chain.0 got.0 rows.items places chain.2 made in
     record {
       long = each.0 ∙ c.count.ensures.value;

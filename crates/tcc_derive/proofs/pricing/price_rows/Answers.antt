@@ -3,16 +3,17 @@ use Rattle.std.specs.List.{range_with_len}
 use Rattle.rayon.specs.Numbers.{nat_range}
 use Rattle.rayon.proofs.ToStd.{nat_range-All}
 use Rattle.tcc_reads.specs.History.{count}
-use Rattle.tcc_near.specs.Distances.{row_of}
 use Rattle.tcc_txn.specs.declared.memory.NoMemory.{NoMemory}
 use Rattle.tcc_derive.specs.Buckets.{bucket}
 use Rattle.tcc_derive.specs.Lowering.{Lowers, HaveReads}
-use Rattle.tcc_near.proofs.RowLemmas.{each_given, where_ok}
+use Rattle.tcc_near.proofs.RowLemmas.{each_given}
 use Rattle.tcc_derive.proofs.PriceLemmas.{price_row_of}
 use Rattle.tcc_derive.proofs.TableLemmas.{have_reads}
 use Rattle.tcc_derive.proofs.pricing.price_rows.Goals as goal
 use Rattle.tcc_near.specs.declared.distances.TheConstants.{NONE}
 use Rattle.tcc_txn.specs.declared.limits.TheConstants.{MAX_COUNT}
+use Rattle.tcc_txn.proofs.Lists.{matched}
+use Rattle.tcc_graph.specs.Tables.{row_of}
 
 pub collect-requires-clause-ready : goal.collect-requires-clause-ready
 collect-requires-clause-ready g c κs within =
@@ -43,7 +44,7 @@ returns g c =
     let places : chain.0 ≡ range_with_len 0 n = chain.1 ∙ (λ i. nat_range (ends.0 i) (ends.1 i)) ∙ ap (range_with_len 0) whole in
     let IsLowered : ℕ → List ℕ → Type 0 = λ b row. Lowers (flat_map (bucket reads) (bucket written b)) (row_of near b) b (replicate (length near) NONE) row in
     record {
-      rows = where_ok c.in_ok-collect.field-0 _ _ _ got.2 (λ rows made.
+      rows = matched c.in_ok-collect.field-0 _ _ _ got.2 (λ rows made.
           let each = each_given NoMemory IsLowered n chain.0 got.0 rows.items places chain.2 made in
           record {
             long = each.0 ∙ c.count.ensures.value;
@@ -51,6 +52,6 @@ returns g c =
                 price_row_of h near reads written b (row_of rows.items b) small from c.requires.near c.requires.reads c.requires.written
                 (each.1 b [] (omega (arith, c.count.ensures.value)));
           });
-      few = where_ok c.in_ok-collect.field-0 _ _ _ got.2 (λ rows made.
+      few = matched c.in_ok-collect.field-0 _ _ _ got.2 (λ rows made.
           omega (arith, (each_given NoMemory IsLowered n chain.0 got.0 rows.items places chain.2 made).0, c.count.ensures.few));
     }

@@ -7,8 +7,9 @@ use Rattle.tcc_reads.specs.History.{count}
 use Rattle.tcc_near.specs.Distances.{IsNearOf}
 use Rattle.tcc_near.specs.ClockRows.{IsClock}
 use Rattle.tcc_near.proofs.ClockLemmas.{clocks_from_rows}
-use Rattle.tcc_near.proofs.RowLemmas.{each_given, where_ok}
+use Rattle.tcc_near.proofs.RowLemmas.{each_given}
 use Rattle.tcc_near.proofs.behind.all_clocks.Goals as goal
+use Rattle.tcc_txn.proofs.Lists.{matched}
 
 pub collect-requires-clause-ready : goal.collect-requires-clause-ready
 collect-requires-clause-ready g c κs within =
@@ -26,5 +27,5 @@ returns g c =
     let chain = rw (c.with_min_len.ensures.base, c.map.ensures.base, c.map.ensures.f) at gave.1 in
     let whole : n - 0 ≡ n = omega arith in
     let numbers = chain.1 ∙ (λ i. nat_range (ends.0 i) (ends.1 i)) ∙ ap (nat_range 0) c.count.ensures.value ∙ ap (range_with_len 0) whole in
-    where_ok c.in_ok-collect.field-0 _ _ _ gave.2 (λ v made.
+    matched c.in_ok-collect.field-0 _ _ _ gave.2 (λ v made.
     clocks_from_rows h v.items (each_given AllocError (IsClock h) n chain.0 gave.0 v.items numbers chain.2 made))

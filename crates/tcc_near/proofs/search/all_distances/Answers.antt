@@ -6,9 +6,10 @@ use Rattle.std.specs.declared.alloc.AllocError.{AllocError}
 use Rattle.tcc_reads.specs.History.{History}
 use Rattle.tcc_near.specs.Levels.{IsPairTable, HasDistances}
 use Rattle.tcc_near.proofs.LevelLemmas.{near_from_rows}
-use Rattle.tcc_near.proofs.RowLemmas.{each_given, where_ok}
+use Rattle.tcc_near.proofs.RowLemmas.{each_given}
 use Rattle.tcc_near.proofs.search.all_distances.Goals as goal
 use Rattle.tcc_txn.specs.declared.limits.TheConstants.{MAX_COUNT}
+use Rattle.tcc_txn.proofs.Lists.{matched}
 
 pub collect-requires-clause-ready : goal.collect-requires-clause-ready
 collect-requires-clause-ready g c κs within =
@@ -26,5 +27,5 @@ returns g c =
     let chain = rw (c.with_min_len.ensures.base, c.map.ensures.base, c.map.ensures.f) at gave.1 in
     let whole : n - 0 ≡ n = omega arith in
     let numbers = chain.1 ∙ (λ i. nat_range (ends.0 i) (ends.1 i)) ∙ ap (range_with_len 0) whole in
-    where_ok c.in_ok-collect.field-0 _ _ _ gave.2 (λ v made h is.
+    matched c.in_ok-collect.field-0 _ _ _ gave.2 (λ v made h is.
     near_from_rows h pairs v.items is (each_given AllocError (λ a row. (h : History) → IsPairTable h pairs → HasDistances h a row) n chain.0 gave.0 v.items numbers chain.2 made))

@@ -1,10 +1,10 @@
 use Rattle.std.proofs.Common.{◌≡◌, ◌<◌, ◌+◌, ℕ, length, slice_index, replicate, refl, sym, ◌∙◌, arith, rules, take_at}
 use Rattle.std.proofs.lemmas.List.{get_or-replicate}
-use Rattle.tcc_near.specs.Distances.{row_of}
 use Rattle.tcc_order.specs.Leads.{leads, link_in}
 use Rattle.tcc_order.proofs.Passing.{passing-zero, passing-more, passing-few}
 use Rattle.tcc_order.proofs.Leading.{link_one}
 use Rattle.tcc_order.proofs.numbering.count_links.Goals as goal
+use Rattle.tcc_graph.specs.Tables.{row_of}
 
 pub loop-number-init : goal.loop-number-init
 loop-number-init c =

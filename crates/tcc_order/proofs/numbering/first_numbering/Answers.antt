@@ -1,6 +1,5 @@
 use Rattle.std.proofs.Common.{replicate, ◌≡◌, ◌<◌, ◌∷◌, ◌++◌, ℕ, [], true, false, length, slice_index_or, slice_set, sym, arith, rules, take_at, ◌∙◌}
 use Rattle.std.proofs.lemmas.Grind.{common_steps}
-use Rattle.tcc_near.specs.Distances.{row_of}
 use Rattle.tcc_order.specs.Numbering.{IsReady, IsLeastReady, IsWaiting}
 use Rattle.tcc_order.specs.Leads.{leads, AddsLinks}
 use Rattle.tcc_order.proofs.Greedy.{Picks-push, Picks-first, Picks-order}
@@ -8,6 +7,7 @@ use Rattle.tcc_order.proofs.Circle.{short_circle}
 use Rattle.tcc_order.proofs.Leading.{leads_below, waiting-placed, waiting-begin, link_waiting}
 use Rattle.tcc_order.proofs.Waiting.{ready_from_free, next_from_least, none_placed, says_more}
 use Rattle.tcc_order.proofs.numbering.first_numbering.Goals as goal
+use Rattle.tcc_graph.specs.Tables.{row_of}
 
 pub loop-init : goal.loop-init
 loop-init c =

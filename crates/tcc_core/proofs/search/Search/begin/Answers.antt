@@ -2,13 +2,13 @@ use Rattle.std.proofs.Common.{rules, ◌≡◌, ◌<◌, ℕ, length, All, get_o
 use Rattle.std.proofs.lemmas.List.{get_or-replicate, length-replicate}
 use Rattle.std.proofs.lemmas.Grind.{common_steps}
 use Rattle.tcc_reads.specs.History.{count}
-use Rattle.tcc_near.specs.Distances.{row_of}
 use Rattle.tcc_core.specs.Rows.{IsEmptyRow}
 use Rattle.tcc_core.proofs.Lowering.{IsLowered, fits}
 use Rattle.tcc_core.proofs.Steps.{search_begun, bounded_begun}
 use Rattle.tcc_core.proofs.search.Search.begin.Goals as goal
 use Rattle.tcc_near.specs.declared.distances.TheConstants.{NONE}
 use Rattle.tcc_core.specs.declared.relaxing.TheConstants.{NO_WAY}
+use Rattle.tcc_graph.specs.Tables.{row_of}
 
 pub invariant_of-result : goal.invariant_of-result
 invariant_of-result c =

@@ -1,7 +1,6 @@
 use Rattle.std.proofs.Common.{rules, ◌≡◌, ◌<◌, ◌≤◌, ℕ, length, All, Some, get_or, set, arith, refl, subst, take_at, sym, ◌∙◌}
 use Rattle.std.proofs.lemmas.Grind.{common_steps}
 use Rattle.tcc_reads.specs.History.{History}
-use Rattle.tcc_near.specs.Distances.{row_of}
 use Rattle.tcc_derive.specs.Prices.{IsPricesOf}
 use Rattle.tcc_core.specs.Rows.{cap_of}
 use Rattle.tcc_core.specs.Relaxing.{IsNearest}
@@ -12,6 +11,7 @@ use Rattle.tcc_core.proofs.Steps.{nothing_near, settles_cut, settles_returned, s
 use Rattle.tcc_core.proofs.search.Search.settle.Goals as goal
 use Rattle.tcc_core.proofs.search.Search.settle.Goals.{then-next-self, else-next-self}
 use Rattle.tcc_near.specs.declared.distances.TheConstants.{NONE}
+use Rattle.tcc_graph.specs.Tables.{row_of}
 
 pub returns-in_default-clause-settled : goal.returns-in_default-clause-settled
 returns-in_default-clause-settled c =
