@@ -17,7 +17,7 @@ use tcc_graph::Graph;
 use tcc_near::near;
 use tcc_order::order;
 use tcc_reads::resolve;
-use tcc_txn::{Item, Name, Rows, Snapshot, Txn};
+use tcc_txn::{Item, Rows, snapshot_of};
 
 /// How far a run goes.
 #[derive(Clone, Copy, PartialEq, Eq)]
@@ -42,32 +42,6 @@ fn count_finished<R: Read + Drop>(alloc: Global, reader: R) -> Option<u32> {
         }
     }
     None
-}
-
-/// Adds a transaction to those of its session.
-fn add(alloc: Global, parts: &mut Vec<(Name, Vec<Txn>)>, session: Name, txn: Txn) -> Option<()> {
-    for part in parts.iter_mut() {
-        if part.0 == session {
-            return part.1.push(txn).ok();
-        }
-    }
-    let mut txns = Vec::new(alloc);
-    txns.push(txn).ok()?;
-    parts.push((session, txns)).ok()
-}
-
-/// The finished transactions of each session; none after a fault or a seal.
-fn gather<R: Read + Drop>(alloc: Global, reader: R) -> Option<Vec<(Name, Vec<Txn>)>> {
-    let mut rows = Rows::new(alloc, reader).ok()?;
-    let mut parts = Vec::new(alloc);
-    for _ in 0..u64::MAX {
-        match rows.next(alloc).ok()? {
-            Item::Finished(session, txn) => add(alloc, &mut parts, session, txn)?,
-            Item::Seal => return None,
-            Item::End => break,
-        }
-    }
-    Some(parts)
 }
 
 /// Goes as far as asked beyond the graph, and says how many transactions there are, or how many were ordered.
@@ -97,7 +71,7 @@ fn run<R: Read + Drop>(
     if stage == Stage::Rows {
         return count_finished(alloc, reader);
     }
-    let snapshot = Snapshot::new(gather(alloc, reader)?).ok()?;
+    let snapshot = snapshot_of(alloc, reader).ok()?;
     if stage == Stage::Snapshot {
         return Some(snapshot.sessions());
     }

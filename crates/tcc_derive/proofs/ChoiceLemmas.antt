@@ -8,7 +8,7 @@ use Rattle.std.proofs.lemmas.Bool.{eqb-true, eq-eqb, false≢true}
 use Rattle.std.proofs.lemmas.Cmp.{nat_list_cmp_total, tied_itself}
 use Rattle.std.proofs.lemmas.List.{get_or-take, length-take-le, get_or_default}
 use Rattle.std.proofs.lemmas.List.Kept.{IsStrictlySortedBy-filter}
-use Rattle.std.proofs.lemmas.List.Elements.{All-filter, All-contains, filter_passes, Contains-filter}
+use Rattle.std.proofs.lemmas.List.Elements.{All-filter, All-contains, filter_passes}
 use Rattle.std.proofs.lemmas.List.Folds.{list_any_at, Any-from_list_any}
 use Rattle.std.proofs.lemmas.List.FromFn.{get_or-range_with_len, length-range_with_len}
 use Rattle.std.proofs.lemmas.Map.Keys.{below_from_sorted, sorted_from_strictly_increasing, Less-from_sorted}
@@ -20,7 +20,7 @@ use Rattle.tcc_graph.specs.Links.{MayContradict}
 use Rattle.tcc_reads.specs.Sources.{name_cmp}
 use Rattle.tcc_derive.specs.Choices.{IsNearest, IsNearestReader, IsChoice}
 use Rattle.tcc_derive.proofs.BucketLemmas.{Contains-taken, Contains-still, Contains-last}
-use Rattle.tcc_derive.proofs.KeyLemmas.{read_place, read_is_key, numbers_below, number_in, writer_writes, writer_in}
+use Rattle.tcc_derive.proofs.KeyLemmas.{read_place, read_is_key, numbers_below, number_in, writer_writes, writer_in, Contains-filter}
 use Rattle.tcc_near.specs.declared.distances.TheConstants.{NONE}
 use Rattle.tcc_graph.proofs.NameLemmas.{has_name-contains}
 use Rattle.tcc_txn.proofs.Lists.{found_number, number_found}

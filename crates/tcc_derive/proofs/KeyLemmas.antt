@@ -12,7 +12,7 @@ use Rattle.std.proofs.lemmas.Cmp.{nat_list_cmp_total}
 use Rattle.std.proofs.lemmas.Map.Keys.{sorted_head, sorted_tail}
 use Rattle.std.proofs.lemmas.Map.Views.{All-insert_key}
 use Rattle.std.proofs.lemmas.List.{get_or_default}
-use Rattle.std.proofs.lemmas.List.Elements.{All-from_recursion, recursion_from_All, All-cons, All-weaker, All-filter, All-contains, All-nil, filter_passes, Contains-filter}
+use Rattle.std.proofs.lemmas.List.Elements.{All-from_recursion, recursion_from_All, All-cons, All-weaker, All-filter, All-contains, All-nil, filter_passes}
 use Rattle.std.proofs.lemmas.List.Folds.{list_any_at, list_any-append, Any-from_list_any}
 use Rattle.std.proofs.lemmas.List.FromFn.{length-range_with_len, get_or-range_with_len}
 use Rattle.std.proofs.lemmas.Slice.Eq.{bytes_eq-Decides}
@@ -114,6 +114,16 @@ writer_writes h x b there = (
   All-contains (λ b. b < count h) (writers h x) b (writers_below h x) there,
   All-contains (λ b. writes h b x ≡ true) (writers h x) b (writers_write h x) there,
 )
+
+kept_by : {X : Type 0} (b : Bool) (y : X) (ys : List X) (x : X) → Contains ys x → Contains (cond b (y ∷ ys) ys) x
+kept_by true y ys x (k, l, e) = (suc k, omega arith, e)
+kept_by false y ys x h = h
+
+-- what passes stays
+pub Contains-filter : {X : Type 0} (p : X → Bool) (xs : List X) (x : X) → Contains xs x → p x ≡ true → Contains (filter p xs) x
+Contains-filter p [] x (k, l, e) t = absurd (omega arith)
+Contains-filter p (y ∷ ys) x (zero, l, e) t = rw (ap p e ∙ t) (0, omega arith, e)
+Contains-filter p (y ∷ ys) x (suc k, l, e) t = kept_by (p y) y (filter p ys) x (Contains-filter p ys x (k, omega arith, e) t)
 
 pub writer_in : (h : History) (x : List ℕ) (b : ℕ) → is_key h x ≡ true → IsWriter h b x → Contains (writers h x) b
 writer_in h x b key (l, w) = subst (λ (bs : List ℕ). Contains bs b) (sym (cond-true (is_key h x) (filter (λ b. writes h b x) (numbers h)) [] key))

@@ -1,4 +1,4 @@
-use Rattle.std.proofs.Common.{rules, ◌≡◌, ◌<◌, ℕ, length, All, get_or, replicate, arith, take_at, sym, ◌∙◌}
+use Rattle.std.proofs.Common.{rules, ◌≡◌, ◌<◌, ℕ, length, All, get_or, replicate, arith, take_at, sym, ◌∙◌, ◌≤◌}
 use Rattle.std.proofs.lemmas.List.{get_or-replicate, length-replicate}
 use Rattle.std.proofs.lemmas.Grind.{common_steps}
 use Rattle.tcc_reads.specs.History.{count}
