@@ -4,7 +4,7 @@ use Rattle.std.specs.Prelude.{option_and_then, option_map}
 use Rattle.clap.specs.Walk.{first_of}
 use Rattle.clap.specs.Faults.{fault_of, is_simple_and_free}
 use Rattle.clap.specs.Simple.{is_simple, subcommand_of}
-use Rattle.clap.specs.declared.error.kind.ErrorKind.TheVariants.{ArgumentConflict, DisplayHelp, InvalidSubcommand, MissingRequiredArgument, MissingSubcommand, TooManyValues, UnknownArgument}
+use Rattle.clap.specs.declared.error.kind.ErrorKind.TheVariants.{ArgumentConflict, DisplayHelp, DisplayVersion, InvalidSubcommand, MissingRequiredArgument, MissingSubcommand, TooManyValues, UnknownArgument}
 use Rattle.clap.proofs.OnLiterals.{clap_on_literals}
 use Rattle.tcc.specs.CommandLines.{tcc_command, json_text}
 
@@ -98,3 +98,12 @@ flag_twice = refl
 no_such_flag : fault_of tcc_command (codes "tcc" ∷ codes "explain" ∷ codes "--workers" ∷ []) ≡ UnknownArgument ∷ []
 unfolding clap_on_literals
 no_such_flag = refl
+
+-- the version is one of the program, and not of a subcommand
+version : fault_of tcc_command (codes "tcc" ∷ codes "--version" ∷ []) ≡ DisplayVersion ∷ []
+unfolding clap_on_literals
+version = refl
+
+version_of_explain : fault_of tcc_command (codes "tcc" ∷ codes "explain" ∷ codes "--version" ∷ []) ≡ UnknownArgument ∷ []
+unfolding clap_on_literals
+version_of_explain = refl

@@ -10,11 +10,15 @@ use Rattle.clap.specs.declared.error.kind.ErrorKind.{ErrorKind}
 use Rattle.clap.specs.declared.error.kind.ErrorKind.TheVariants.{DisplayHelp, DisplayVersion, OutOfMemory}
 use Rattle.tcc.specs.declared.command_line.Request.{Request}
 use Rattle.tcc.specs.declared.command_line.Request.TheVariants.{Explain, Check}
-use Rattle.tcc_run.specs.declared.status.Status.{Status}
-use Rattle.tcc_run.specs.declared.status.Status.TheVariants.{Success, Memory, Device, Usage}
+use Rattle.tcc_run.specs.declared.status.Status.TheVariants.{Success, Memory, Usage}
+use Rattle.tcc_run.specs.Statuses.{code_of}
+use Rattle.tcc_run.specs.Printed.{Prints, memory_line}
 
 abbrev pub with_subcommand_required : Shape → Shape
 with_subcommand_required s = record s { subcommand_required = true }
+
+abbrev pub with_version : Shape → Shape
+with_version s = record s { has_version = true }
 
 -- --json, a flag without a value
 abbrev pub json_flag : Rule
@@ -30,10 +34,11 @@ path id = record (new_rule id) { value_names = 1; required = true }
 abbrev pub check_command : App
 check_command = with_rule (with_rule (new_app (codes "check")) (path (codes "history"))) (path (codes "certificate"))
 
--- tcc explain [--json], or tcc check HISTORY CERTIFICATE: the program's name, and its subcommands, one of which has to be given
+-- tcc explain [--json], or tcc check HISTORY CERTIFICATE: the program's name and version, and its subcommands, one of which
+-- has to be given
 abbrev pub tcc_command : App
 tcc_command =
-    with_subcommand (with_subcommand (on_top with_subcommand_required (new_app (codes "tcc"))) explain_command.top) check_command.top
+    with_subcommand (with_subcommand (on_top with_subcommand_required (on_top with_version (new_app (codes "tcc")))) explain_command.top) check_command.top
 
 -- what clap reads of the flag in the matches of a subcommand that was met
 abbrev pub json_text : Option (Text × List Row) → Option Text
@@ -59,22 +64,22 @@ AsksBy (Some entered) (Check history certificate) = (entered.0 ≡ codes "check"
 abbrev pub Asks : List Text → Request → Type 0
 Asks words request = AsksBy (subcommand_of tcc_command words) request
 
--- how a run ends that was refused, or asked for help: by what clap says of it, and by whether clap's text went out
-abbrev pub end_of : ErrorKind → Bool → Status
-end_of DisplayHelp true = Success
-end_of DisplayHelp false = Device
-end_of DisplayVersion true = Success
-end_of DisplayVersion false = Device
-end_of OutOfMemory _ = Memory
-end_of _ _ = Usage
+-- a text, or want of memory in its place, goes out with its status
+abbrev pub PrintsHelp : Option (List ℕ) → Option (List ℕ) → ℕ → Type 0
+PrintsHelp before after code =
+    ((text : List ℕ) × Prints before after text Success code) ⊎ Prints before after (memory_line false) Memory code
+
+-- how a run ends that answers nothing, by what clap says of its words: help and the version have to go out; the line for want
+-- of memory too; and for a fault of the words standard output stays empty
+abbrev pub EndsUnasked : ErrorKind → Option (List ℕ) → Option (List ℕ) → ℕ → Type 0
+EndsUnasked DisplayHelp before after code = PrintsHelp before after code
+EndsUnasked DisplayVersion before after code = PrintsHelp before after code
+EndsUnasked OutOfMemory before after code = Prints before after (memory_line false) Memory code
+EndsUnasked _ before after code = (after ≡ before) × (code ≡ code_of Usage)
 
 -- a run is asked for only where clap finds no fault in the words, and it is the one that they ask for; else the run ends as
 -- one of their faults has it, or for want of memory
-abbrev pub IsReading : List (List ℕ) → Result Request Status → Type 0
-IsReading words (Ok request) = (fault_of tcc_command words ≡ []) × Asks words request
-IsReading words (Err status) =
-    (status ≡ Memory) ⊎ ((kind : ErrorKind) × (went_out : Bool) × IsAmong kind (fault_of tcc_command words) × (status ≡ end_of kind went_out))
-
--- the ways in which a run ends that answers nothing
-abbrev pub EndsUnasked : Status → Type 0
-EndsUnasked status = (status ≡ Success) ⊎ ((status ≡ Memory) ⊎ ((status ≡ Device) ⊎ (status ≡ Usage)))
+abbrev pub IsAsked : List (List ℕ) → Option (List ℕ) → Option (List ℕ) → Result Request ℕ → Type 0
+IsAsked words before after (Ok request) = (fault_of tcc_command words ≡ []) × Asks words request × (after ≡ before)
+IsAsked words before after (Err code) =
+    EndsUnasked OutOfMemory before after code ⊎ ((kind : ErrorKind) × IsAmong kind (fault_of tcc_command words) × EndsUnasked kind before after code)

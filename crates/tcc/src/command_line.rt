@@ -1,15 +1,19 @@
 //! What the command line asks for.
-ghost use Rattle.std.specs.Prelude.{◌≡◌, ◌⊎◌, false, IfErr, IfOk, map};
+ghost use Rattle.std.specs.Prelude.{◌≡◌, false, IfErr, IfOk, OnOk, map};
 ghost use Rattle.std.specs.String.{string_bytes};
 ghost use Rattle.clap.specs.Words.{FailsBy, app_of, fault_of, found_of, kind_of, rows_of, rule_of, subcommand_rows_of};
 ghost use Rattle.clap.specs.declared.error.kind.ErrorKind.TheVariants.{OutOfMemory};
-ghost use Rattle.tcc.specs.CommandLines.{Asks, AsksBy, AsksCheck, EndsUnasked, IsFlag, IsReading, check_command, end_of, explain_command, json_text, path, tcc_command};
+ghost use Rattle.tcc.specs.CommandLines.{Asks, AsksBy, AsksCheck, EndsUnasked, IsAsked, IsFlag, PrintsHelp, check_command, explain_command, json_text, path, tcc_command};
 
+use crate::help;
 use clap::error::ErrorKind;
 use clap::{Arg, ArgAction, ArgMatches, Command, Error};
 use std::alloc::{AllocError, Global};
-use std::{env, io};
+use std::io::{self, Write};
+use std::env;
 use tcc_run::Status;
+use tcc_run::printing::{print_memory, print_text};
+
 
 /// What the program is asked to do.
 #[derive(Debug, Drop, PartialEq, Eq)]
@@ -40,6 +44,7 @@ fn explain_command<'a>(alloc: Global) -> Result<Command<'a>, AllocError>
         .about(
             "Reads records from standard input and says whether the history is causally consistent",
         )
+        .after_help(help::EXPLAIN)
         .arg(json)
 }
 
@@ -67,6 +72,7 @@ fn check_command<'a>(alloc: Global) -> Result<Command<'a>, AllocError>
     );
     let half = Command::new(alloc, "check")
         .about("Says whether a certificate proves its claim about a history")
+        .after_help(help::CHECK)
         .arg(history)?;
     half.arg(certificate)
 }
@@ -79,6 +85,8 @@ fn command<'a>(alloc: Global) -> Result<Command<'a>, AllocError>
     let check = check_command(alloc)?;
     let tcc = Command::new(alloc, "tcc")
         .about("Checks and explains causal consistency of transaction histories")
+        .after_help(help::COMMANDS)
+        .version(help::VERSION)
         .subcommand_required(true)
         .subcommand(explain)?;
     tcc.subcommand(check)
@@ -130,53 +138,66 @@ fn parse(alloc: Global, words: &[String]) -> Result<Request, Error>
     asked_of(alloc, &matches)
 }
 
-/// How a run ends that asked for help, or was refused, by whether the text of that went out.
-fn end_of(kind: ErrorKind, went_out: bool) -> Status
-    ensures { result ≡ end_of kind went_out }
+/// Writes the help, or the version, that was asked for, and gives the number that the process ends with.
+fn print_help<W: Write>(alloc: Global, asked: &Error, out: &mut W) -> u8
+    ensures { PrintsHelp (W.contents out.old) (W.contents out.new) result }
 {
-    match kind {
-        // What standard error takes changes nothing, but help has to go out.
-        ErrorKind::DisplayHelp | ErrorKind::DisplayVersion if !went_out => Status::Device,
-        ErrorKind::DisplayHelp | ErrorKind::DisplayVersion => Status::Success,
-        ErrorKind::OutOfMemory => Status::Memory,
-        _ => Status::Usage,
+    match asked.to_string(alloc) {
+        Ok(text) => print_text(out, text.as_bytes(), Status::Success),
+        Err(_) => print_memory(out, false),
     }
 }
 
-/// What the words ask for. Help is printed on standard output and a fault on standard error; then the status is
-/// answered.
-fn read_words(rt: &HostRuntime, words: &[String]) -> Result<Request, Status>
-    ensures { IsReading (map string_bytes words.now) result }
+/// Prints why the run asks for nothing, and gives the number that the process ends with. Help and the version go to `out`,
+/// a fault of the words to standard error.
+fn end_unasked<W: Write>(rt: &HostRuntime, error: &Error, out: &mut W) -> u8
+    ensures { EndsUnasked (kind_of error.now) (W.contents out.old) (W.contents out.new) result }
 {
-    let error = match parse(rt.alloc(), words) {
-        Ok(request) => return Ok(request),
-        Err(error) => error,
-    };
-    if error.kind() == ErrorKind::OutOfMemory {
-        return Err(Status::Memory);
+    match error.kind() {
+        ErrorKind::DisplayHelp | ErrorKind::DisplayVersion => print_help(rt.alloc(), error, out),
+        ErrorKind::OutOfMemory => print_memory(out, false),
+        _ => {
+            // What standard error takes changes nothing.
+            let _ = error.print(rt);
+            Status::Usage.code()
+        }
     }
-    let went_out = error.print(rt).is_ok();
-    Err(end_of(error.kind(), went_out))
+}
+
+/// What the words ask for; else the number that the process ends with.
+fn read_words<W: Write>(rt: &HostRuntime, words: &[String], out: &mut W) -> Result<Request, u8>
+    ensures { IsAsked (map string_bytes words.now) (W.contents out.old) (W.contents out.new) result }
+{
+    match parse(rt.alloc(), words) {
+        Ok(request) => Ok(request),
+        Err(error) => Err(end_unasked(rt, &error, out)),
+    }
 }
 
 /// The words of the process, of which nothing is known.
-fn words(rt: &HostRuntime) -> Result<Vec<String>, Status>
-    ensures { IfErr result (λ status. (status ≡ Status.Memory) ⊎ (status ≡ Status.Usage)) }
+fn words<W: Write>(rt: &HostRuntime, out: &mut W) -> Result<Vec<String>, u8>
+    ensures quiet { OnOk result (W.contents out.new ≡ W.contents out.old) }
+    ensures ends { IfErr result (λ code. (kind : ErrorKind) × EndsUnasked kind (W.contents out.old) (W.contents out.new) code) }
 {
     let args = match env::args(rt) {
         Ok(args) => args,
-        Err(error) if error.kind() == io::ErrorKind::OutOfMemory => return Err(Status::Memory),
+        Err(error) if error.kind() == io::ErrorKind::OutOfMemory => {
+            return Err(print_memory(out, false));
+        }
         Err(_) => {
             let _ = eprintln!(rt; "error: an argument is not UTF-8");
-            return Err(Status::Usage);
+            return Err(Status::Usage.code());
         }
     };
-    args.collect(rt.alloc()).map_err(|_| Status::Memory)
+    args.collect(rt.alloc())
+        .map_err(|_| print_memory(out, false))
 }
 
-/// What the process was asked for, as `read_words` has it.
-pub fn read(rt: &HostRuntime) -> Result<Request, Status>
-    ensures { IfErr result EndsUnasked }
+/// What the process was asked for, as `read_words` has it; else the number that it ends with.
+pub fn read<W: Write>(rt: &HostRuntime, out: &mut W) -> Result<Request, u8>
+    ensures quiet { OnOk result (W.contents out.new ≡ W.contents out.old) }
+    ensures ends { IfErr result (λ code. (kind : ErrorKind) × EndsUnasked kind (W.contents out.old) (W.contents out.new) code) }
 {
-    read_words(rt, &words(rt)?)
+    let words = words(rt, out)?;
+    read_words(rt, &words, out)
 }

@@ -4,7 +4,8 @@ ghost use Rattle.tcc_run.specs.Printed.{Prints};
 
 use std::fs::{self, File};
 use std::io::{self, ErrorKind, Write};
-use tcc_run::{Status, memory_line, print_text, run_check};
+use tcc_run::printing::{print_memory, print_text};
+use tcc_run::{Status, run_check};
 
 /// Opens both files, the history before the certificate.
 fn open_both(rt: &HostRuntime, history: &str, certificate: &str) -> io::Result<(File, File)> {
@@ -18,7 +19,7 @@ fn print_unopened<W: Write>(kind: ErrorKind, out: &mut W) -> u8
     ensures { Prints (W.contents out.old) (W.contents out.new) (unopened_text kind) (unopened_status kind) result }
 {
     match kind {
-        ErrorKind::OutOfMemory => print_text(out, memory_line(false), Status::Memory),
+        ErrorKind::OutOfMemory => print_memory(out, false),
         _ => print_text(out, b"device\n", Status::Device),
     }
 }

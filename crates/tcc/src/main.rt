@@ -4,16 +4,17 @@
 
 mod command_line;
 mod files;
+mod help;
 
 use command_line::Request;
 use files::check_files;
 use std::io;
 use std::process::ExitCode;
-use tcc_run::{Status, print_text, run_explain};
+use tcc_run::{Status, run_explain};
 
 fn main(rt: HostRuntime) -> ExitCode {
     let mut out = io::writer(&rt);
-    let code = match command_line::read(&rt) {
+    let code = match command_line::read(&rt, &mut out) {
         Ok(Request::Explain { json }) => run_explain(&rt, rt.alloc(), rt.stdin(), &mut out, json),
         Ok(
             Request::Check {
@@ -21,8 +22,7 @@ fn main(rt: HostRuntime) -> ExitCode {
                 certificate,
             },
         ) => check_files(&rt, history.as_str(), certificate.as_str(), &mut out),
-        Err(Status::Memory) => print_text(&mut out, b"memory\n", Status::Memory),
-        Err(status) => status.code(),
+        Err(code) => code,
     };
     if code == Status::Device.code() {
         let _ = eprintln!(rt; "device");

@@ -10,11 +10,11 @@ use Rattle.tcc_explain.specs.declared.refusal.ExplainFault.TheVariants as refusa
 use Rattle.tcc_run.specs.declared.finished.Gathered.{Gathered}
 use Rattle.tcc_run.specs.declared.halt.Halt.{Halt}
 use Rattle.tcc_run.specs.declared.halt.Halt.TheVariants as halt
-use Rattle.tcc_run.specs.declared.status.Status.TheVariants.{Memory}
 use Rattle.tcc_run.specs.Gathered.{AreParts}
-use Rattle.tcc_run.specs.Halts.{IsGathering, refused_by}
-use Rattle.tcc_run.specs.Answers.{IsEndOutcome, IsSnapshotOutcome, MayBeOutcome, IsRun}
-use Rattle.tcc_run.specs.Printed.{Prints, PrintsOutcome, memory_line, printed}
+use Rattle.tcc_run.specs.Stages.{IsGathering, PrintsOrMemory, refused_by}
+use Rattle.tcc_run.specs.Outcomes.{IsEndOutcome, IsSnapshotOutcome, MayBeOutcome, IsRun}
+use Rattle.tcc_run.specs.Printed.{printed}
+use Rattle.tcc_run.specs.Statuses.{status_of}
 
 -- what comes of the snapshot of all that was gathered, or want of memory
 abbrev pub OfGathered : Gathered → Result Answer Halt → Type 0
@@ -46,6 +46,7 @@ halted text (halt.Row fault) (inl is) =
     inl (inl (inr (is.0, subst (λ found. IsEndOutcome (answers_of text).items found (Err (halt.Row fault))) (sym is.1) refl)))
 halted text (halt.Row fault) (inr read) = inl (inr (fault.row, ap (λ k. Err (halt.Row (record { row = fault.row; kind = k }))) read))
 halted text (halt.Reads faults) impossible = absurd impossible
+halted text (halt.Text fault) impossible = absurd impossible
 halted text halt.NoMemory _ = inr refl
 
 pub halted_by : (text : List ℕ) (why : Halt) (o : Result Answer Halt) → IsGathering (answers_of text) (Err why)
@@ -55,27 +56,6 @@ halted_by text why (Err h) gathering is = subst (λ h. MayBeOutcome text (Err h)
 
 -- what is printed of the outcome, or of want of memory in its place, is what a run may print
 pub runs : (json : Bool) (text : List ℕ) (before after : Option (List ℕ)) (o : Result Answer Halt) (code : ℕ)
-    → MayBeOutcome text o → PrintsOutcome json before after o code → IsRun json text before after code
-runs json text before after o code may prints = (
-  prints.0,
-  elim prints.1 [
-    | inl same ↦ subst (MayBeOutcome text) (sym same) may
-    | inr memory ↦ inr memory
-  ],
-  prints.2,
-)
-
--- the line for want of memory, as it is printed of that outcome
-memory_printed : (json : Bool) → memory_line json ≡ printed json (Err halt.NoMemory)
-memory_printed true = refl
-memory_printed false = refl
-
--- where nothing of the outcome went out, the line for want of memory may stand in its place
-pub prints_memory : (json : Bool) (before kept after : Option (List ℕ)) (o : Result Answer Halt) (line : List ℕ) (code : ℕ)
-    → kept ≡ before → line ≡ memory_line json → Prints kept after line Memory code → PrintsOutcome json before after o code
-prints_memory json before kept after o line code same is prints = (
-  Err halt.NoMemory,
-  inr refl,
-  subst (λ start. Prints start after (printed json (Err halt.NoMemory)) Memory code) same
-      (subst (λ text. Prints kept after text Memory code) (is ∙ memory_printed json) prints),
-)
+    → MayBeOutcome text o → PrintsOrMemory json before after (printed json o) (status_of o) code → IsRun json text before after code
+runs json text before after o code may (inl prints) = (o, may, prints)
+runs json text before after o code may (inr prints) = (Err halt.NoMemory, inr refl, prints)

@@ -10,11 +10,11 @@ use Rattle.tcc_txn.specs.declared.rows.Item.{Item}
 use Rattle.tcc_txn.specs.declared.rows.Item.TheVariants.{Finished, Seal, End}
 use Rattle.tcc_txn.specs.declared.rows.RowFault.{RowFault}
 use Rattle.tcc_run.specs.declared.finished.Gathered.{Gathered}
-use Rattle.tcc_run.specs.declared.unjudged.Unjudged.{Unjudged}
-use Rattle.tcc_run.specs.declared.unjudged.Unjudged.TheVariants.{Row, NoMemory}
+use Rattle.tcc_run.specs.declared.halt.Halt.{Halt}
+use Rattle.tcc_run.specs.declared.halt.Halt.TheVariants.{Row, NoMemory}
 use Rattle.tcc_run.specs.Gathered.{held, some_of, txn_of, finished_of, Adds}
-use Rattle.tcc_run.specs.Halts.{is_memory, HoldsItems}
-use Rattle.tcc_run.specs.Unjudged.{by_row, IsFinished}
+use Rattle.tcc_run.specs.Stages.{is_memory, HoldsItems}
+use Rattle.tcc_run.specs.Stages.{by_row, HasFinished}
 use Rattle.tcc_run.proofs.UnderWay.{holds_more}
 
 -- the items so far are held, and the others are ahead
@@ -31,9 +31,9 @@ finished_of-seal : (session : List ℕ) (items : List Item) → finished_of sess
 finished_of-seal session items = filter_map-append (txn_of session) items (Seal ∷ []) ∙ append-nil (finished_of session items)
 
 -- for want of memory anything is left open
-pub out_of_memory : (all : Answers) (result : Result Gathered Unjudged) → IsErrAnd result (λ why. why ≡ NoMemory) → IsFinished all result
+pub out_of_memory : (all : Answers) (result : Result Gathered Halt) → IsErrAnd result (λ why. why ≡ NoMemory) → HasFinished all result
 out_of_memory all (Ok _) is = absurd is
-out_of_memory all (Err why) is = subst (λ u. IsFinished all (Err u)) (sym is) tt
+out_of_memory all (Err why) is = subst (λ u. HasFinished all (Err u)) (sym is) tt
 
 module _ {R : Type 0} (remaining : R → Option (List ℕ)) where
   pub starts : (rows : Rows R) (gathered : Gathered) (all : Answers) → IsAhead remaining rows all
@@ -69,7 +69,7 @@ module _ {R : Type 0} {remaining : R → Option (List ℕ)} {rows : Rows R} {gat
 
   -- all items are held
   pub comes_to_end : (way : IsPartWay remaining rows gathered all) (rows' : Rows R)
-      → TakesAnswer remaining way.ahead (Ok End) rows' → IsFinished all (Ok gathered)
+      → TakesAnswer remaining way.ahead (Ok End) rows' → HasFinished all (Ok gathered)
   comes_to_end way rows' takes =
       let whole : all.items ≡ way.past = way.items ∙ ap (λ ahead. way.past ++ ahead.items) takes.0 ∙ append-nil way.past in (
         way.fault ∙ ap (λ (ahead : Answers). ahead.fault) takes.0,
@@ -77,15 +77,15 @@ module _ {R : Type 0} {remaining : R → Option (List ℕ)} {rows : Rows R} {gat
       )
 
   -- the fault of the records, a reader that fails, or want of memory
-  meets_fault : (way : IsPartWay remaining rows gathered all) (rows' : Rows R) (fault : RowFault) (why : Unjudged)
-      → TakesAnswer remaining way.ahead (Err fault) rows' → why ≡ by_row fault → IsFinished all (Err why)
+  meets_fault : (way : IsPartWay remaining rows gathered all) (rows' : Rows R) (fault : RowFault) (why : Halt)
+      → TakesAnswer remaining way.ahead (Err fault) rows' → why ≡ by_row fault → HasFinished all (Err why)
   meets_fault way rows' fault why takes is =
-      subst (λ u. IsFinished all (Err u)) (sym is) (by_test (is_memory fault.kind) refl)
+      subst (λ u. HasFinished all (Err u)) (sym is) (by_test (is_memory fault.kind) refl)
     where
       no_memory : true ≡ false → ⊥
       no_memory h = cc
 
-      by_test : (b : Bool) → is_memory fault.kind ≡ b → IsFinished all (Err (cond b NoMemory (Row fault)))
+      by_test : (b : Bool) → is_memory fault.kind ≡ b → HasFinished all (Err (cond b NoMemory (Row fault)))
       by_test true e = tt
       by_test false e = elim takes.0 [
         | inl same ↦ inl (way.fault ∙ ap (λ (ahead : Answers). ahead.fault) same)
@@ -95,7 +95,7 @@ module _ {R : Type 0} {remaining : R → Option (List ℕ)} {rows : Rows R} {gat
         ]
       ]
 
-  pub meets : (way : IsPartWay remaining rows gathered all) (rows' : Rows R) (fault : RowFault) (result : Result Gathered Unjudged)
-      → TakesAnswer remaining way.ahead (Err fault) rows' → IsErrAnd result (λ why. why ≡ by_row fault) → IsFinished all result
+  pub meets : (way : IsPartWay remaining rows gathered all) (rows' : Rows R) (fault : RowFault) (result : Result Gathered Halt)
+      → TakesAnswer remaining way.ahead (Err fault) rows' → IsErrAnd result (λ why. why ≡ by_row fault) → HasFinished all result
   meets way rows' fault (Ok _) takes is = absurd is
   meets way rows' fault (Err why) takes is = meets_fault way rows' fault why takes is

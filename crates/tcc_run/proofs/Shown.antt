@@ -20,15 +20,15 @@ use Rattle.tcc_check.specs.Verdicts.{IsVerdict, IsTrueClaim}
 use Rattle.tcc_check.specs.declared.verdict.Verdict.{Verdict}
 use Rattle.tcc_check.specs.declared.verdict.Verdict.TheVariants as verdict
 use Rattle.tcc_run.specs.declared.judged.Judged.{Judged}
-use Rattle.tcc_run.specs.declared.unjudged.Unjudged.{Unjudged}
-use Rattle.tcc_run.specs.declared.unjudged.Unjudged.TheVariants.{Row, Reads, Text, NoMemory}
+use Rattle.tcc_run.specs.declared.halt.Halt.{Halt}
+use Rattle.tcc_run.specs.declared.halt.Halt.TheVariants.{Seal, Row, Reads, Text, NoMemory}
 use Rattle.tcc_run.specs.Gathered.{IsSnapshotOf}
 use Rattle.tcc_run.specs.declared.status.Status.{Status}
 use Rattle.tcc_run.specs.declared.status.Status.TheVariants as status
-use Rattle.tcc_run.specs.Statuses.{code_of, row_status}
-use Rattle.tcc_run.specs.Verdicts.{check_status, check_text, text_status, verdict_status}
-use Rattle.tcc_run.specs.Printed.{Prints, memory_line}
-use Rattle.tcc_run.specs.Checks.{IsRecordsCheck, MayBeCheck, IsCheckRun, IsShown, PrintsCheck}
+use Rattle.tcc_run.specs.Statuses.{certificate_status, check_status, code_of, row_status, verdict_status}
+use Rattle.tcc_run.specs.Printed.{check_text}
+use Rattle.tcc_run.specs.Stages.{PrintsOrMemory}
+use Rattle.tcc_run.specs.Checks.{IsRecordsCheck, MayBeCheck, IsCheckRun, IsShown, PrintsSome}
 
 -- no fault of a record ends with success
 row_fails : (k : RowFaultKind) → code_of (row_status k) ≡ 0 → ⊥
@@ -50,7 +50,7 @@ row_fails row_kind.Read h = cc
 row_fails row_kind.NoMemory h = cc
 
 -- nor does a fault of a certificate's text
-text_fails : (k : CertFaultKind) → code_of (text_status k) ≡ 0 → ⊥
+text_fails : (k : CertFaultKind) → code_of (certificate_status k) ≡ 0 → ⊥
 text_fails text_kind.Header h = cc
 text_fails text_kind.Word h = cc
 text_fails text_kind.Number h = cc
@@ -104,13 +104,14 @@ module _ (certified : (h : History) (k : Certificate) → Certifies h k → IsTr
   }
   of_verdict records text k (verdict.Rejected rule at) is success = let bad : ⊥ = cc in absurd bad
 
-  of_outcome : (records text : List ℕ) (o : Result Judged Unjudged) → MayBeCheck records text o → code_of (check_status o) ≡ 0
+  of_outcome : (records text : List ℕ) (o : Result Judged Halt) → MayBeCheck records text o → code_of (check_status o) ≡ 0
       → IsShown records text
   of_outcome records text (Ok judged) may success =
       of_verdict records text judged.certificate judged.verdict (judged_run records text judged may) success
   of_outcome records text (Err (Row fault)) may success = absurd (row_fails fault.kind success)
   of_outcome records text (Err (Reads faults)) may success = let bad : ⊥ = cc in absurd bad
   of_outcome records text (Err (Text fault)) may success = absurd (text_fails fault.kind success)
+  of_outcome records text (Err Seal) may success = let bad : ⊥ = cc in absurd bad
   of_outcome records text (Err NoMemory) may success = let bad : ⊥ = cc in absurd bad
 
   pub shown : (records text : List ℕ) (before after : Option (List ℕ)) (code : ℕ) → IsCheckRun records text before after code
@@ -118,26 +119,15 @@ module _ (certified : (h : History) (k : Certificate) → Certifies h k → IsTr
   shown records text before after code (o, may, inl whole) zero = of_outcome records text o may (sym whole.1 ∙ zero)
   shown records text before after code (o, may, inr part) zero = absurd (not_zero (sym part.1 ∙ zero))
 
--- the text of the outcome with its status
-pub printed : (before after : Option (List ℕ)) (o : Result Judged Unjudged) (line : List ℕ) (how : Status) (code : ℕ)
-    → line ≡ check_text o → how ≡ check_status o → Prints before after line how code → PrintsCheck before after o code
-printed before after o line how code is same prints =
-    (o, inl refl, subst (λ l. Prints before after l (check_status o) code) is (subst (λ h. Prints before after line h code) same prints))
-
--- the line for want of memory in its place
-pub printed_memory : (before after : Option (List ℕ)) (o : Result Judged Unjudged) (line : List ℕ) (code : ℕ)
-    → line ≡ memory_line false → Prints before after line status.Memory code → PrintsCheck before after o code
-printed_memory before after o line code is prints =
-    (Err NoMemory, inr refl, subst (λ l. Prints before after l status.Memory code) is prints)
-
 -- what is printed of the outcome, or of want of memory in its place, is what a run may print
-pub runs : (records text : List ℕ) (before after : Option (List ℕ)) (o : Result Judged Unjudged) (code : ℕ)
-    → MayBeCheck records text o → PrintsCheck before after o code → IsCheckRun records text before after code
-runs records text before after o code may prints = (
-  prints.0,
-  elim prints.1 [
-    | inl same ↦ subst (MayBeCheck records text) (sym same) may
-    | inr memory ↦ inr (inr memory)
-  ],
-  prints.2,
-)
+pub runs : (records text : List ℕ) (before after : Option (List ℕ)) (o : Result Judged Halt) (code : ℕ)
+    → MayBeCheck records text o → PrintsOrMemory false before after (check_text o) (check_status o) code
+    → IsCheckRun records text before after code
+runs records text before after o code may (inl prints) = (o, may, prints)
+runs records text before after o code may (inr prints) = (Err NoMemory, inr (inr refl), prints)
+
+-- it is the text of some outcome
+pub prints_some : (before after : Option (List ℕ)) (o : Result Judged Halt) (code : ℕ)
+    → PrintsOrMemory false before after (check_text o) (check_status o) code → PrintsSome before after code
+prints_some before after o code (inl prints) = (o, prints)
+prints_some before after o code (inr prints) = (Err NoMemory, prints)

@@ -16,8 +16,8 @@ use Rattle.tcc_run.specs.declared.finished.Gathered.{Gathered}
 use Rattle.tcc_run.specs.declared.halt.Halt.{Halt}
 use Rattle.tcc_run.specs.declared.halt.Halt.TheVariants as halt
 use Rattle.tcc_run.specs.Gathered.{held, some_of, txn_of, finished_of, Adds}
-use Rattle.tcc_run.specs.Answers.{is_seal}
-use Rattle.tcc_run.specs.Halts.{is_memory, halt_of, HoldsItems, IsGathering}
+use Rattle.tcc_run.specs.Outcomes.{is_seal}
+use Rattle.tcc_run.specs.Stages.{is_memory, by_row, HoldsItems, IsGathering}
 
 -- the items so far are held, and the others are ahead
 pub record IsUnderWay {R : Type 0} (remaining : R → Option (List ℕ)) (rows : Rows R) (gathered : Gathered) (all : Answers) : Type 0 where
@@ -114,7 +114,7 @@ module _ {R : Type 0} {remaining : R → Option (List ℕ)} {rows : Rows R} {gat
 
   -- the fault of the records, a reader that fails, or want of memory
   pub stops_at_fault : (under : IsUnderWay remaining rows gathered all) (rows' : Rows R) (fault : RowFault) (why : Halt)
-      → TakesAnswer remaining under.ahead (Err fault) rows' → why ≡ halt_of fault → IsGathering all (Err why)
+      → TakesAnswer remaining under.ahead (Err fault) rows' → why ≡ by_row fault → IsGathering all (Err why)
   stops_at_fault under rows' fault why takes is =
       subst (λ h. IsGathering all (Err h)) (sym is) (by_test (is_memory fault.kind) refl)
     where
@@ -135,6 +135,6 @@ module _ {R : Type 0} {remaining : R → Option (List ℕ)} {rows : Rows R} {gat
       ]
 
   pub stops_with : (under : IsUnderWay remaining rows gathered all) (rows' : Rows R) (fault : RowFault) (result : Result Gathered Halt)
-      → TakesAnswer remaining under.ahead (Err fault) rows' → IsErrAnd result (λ why. why ≡ halt_of fault) → IsGathering all result
+      → TakesAnswer remaining under.ahead (Err fault) rows' → IsErrAnd result (λ why. why ≡ by_row fault) → IsGathering all result
   stops_with under rows' fault (Ok _) takes is = absurd is
   stops_with under rows' fault (Err why) takes is = stops_at_fault under rows' fault why takes is

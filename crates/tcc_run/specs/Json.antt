@@ -1,12 +1,15 @@
 -- The JSON of faults: one line with the compact text of one object, whose keys stand in byte order.
-use Rattle.std.specs.Prelude.{List, map, codes}
+use Rattle.std.specs.Prelude.{ℕ, List, map, codes}
 use Rattle.serde_json.specs.Data.{Data, Members, number, unsigned, string, array, object, no_members, member}
 use Rattle.serde_json.specs.View.{items_of}
 use Rattle.tcc_txn.specs.declared.rows.RowFault.{RowFault}
 use Rattle.tcc_txn.specs.declared.rows.RowFaultKind.{RowFaultKind}
 use Rattle.tcc_txn.specs.declared.rows.RowFaultKind.TheVariants.{Unfinished}
 use Rattle.tcc_reads.specs.declared.fault.ReadFault.{ReadFault}
-use Rattle.tcc_run.specs.Texts.{row_word, read_word}
+use Rattle.tcc_explain.specs.Json.{json_line}
+use Rattle.tcc_run.specs.declared.halt.Halt.{Halt}
+use Rattle.tcc_run.specs.declared.halt.Halt.TheVariants as halt
+use Rattle.tcc_run.specs.Texts.{certificate_fault_text, row_word, read_word}
 
 abbrev pub read_fault_json : ReadFault → Data
 read_fault_json fault = object
@@ -35,3 +38,11 @@ row_fault_json fault = object
     (member (codes "kind") (string (row_word fault.kind))
     (member (codes "row") (number (unsigned fault.row))
     (row_session_json fault.kind))))
+
+-- what stands in the place of an answer; a refused seal, and a fault of a certificate, of which no JSON is made, as in the text
+abbrev pub halt_line : Halt → List ℕ
+halt_line halt.Seal = codes "refused\n"
+halt_line (halt.Row fault) = json_line (row_fault_json fault)
+halt_line (halt.Reads faults) = json_line (unresolved_json faults.items)
+halt_line (halt.Text fault) = certificate_fault_text fault
+halt_line halt.NoMemory = codes "{\"answer\":\"memory\"}\n"

@@ -1,10 +1,10 @@
+-- what has to be believed: what a run prints and ends with
 pub mod Statuses
 pub mod Texts
 pub mod Json
 pub mod Printed
-pub mod Gathered
-pub mod Answers
-pub mod Halts
-pub mod Unjudged
-pub mod Verdicts
+pub mod Outcomes
 pub mod Checks
+-- what serves the proofs alone
+pub mod Gathered
+pub mod Stages

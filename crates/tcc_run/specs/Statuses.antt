@@ -6,6 +6,11 @@ use Rattle.tcc_txn.specs.declared.rows.RowFaultKind.{RowFaultKind}
 use Rattle.tcc_txn.specs.declared.rows.RowFaultKind.TheVariants.{FieldCount, BadSession, UnknownWord, BadKey, BadValue, WriteOfZero, NotBegun, AlreadyBegun, TooManyOps, TooManySessions, TooManyTransactions, TooManyKeys, TooManySeals, Unfinished, Read, NoMemory}
 use Rattle.tcc_explain.specs.declared.answer.Answer.{Answer}
 use Rattle.tcc_explain.specs.declared.answer.Answer.TheVariants as answer
+use Rattle.tcc_cert.specs.declared.fault.CertFaultKind.{CertFaultKind}
+use Rattle.tcc_cert.specs.declared.fault.CertFaultKind.TheVariants as text_kind
+use Rattle.tcc_check.specs.declared.verdict.Verdict.{Verdict}
+use Rattle.tcc_check.specs.declared.verdict.Verdict.TheVariants as verdict
+use Rattle.tcc_run.specs.declared.judged.Judged.{Judged}
 use Rattle.tcc_run.specs.declared.halt.Halt.{Halt}
 use Rattle.tcc_run.specs.declared.halt.Halt.TheVariants as halt
 
@@ -41,11 +46,42 @@ row_status (Unfinished session) = RowFault
 row_status Read = Device
 row_status NoMemory = Memory
 
--- how a run ends with this outcome
+-- how a run ends that gave this answer
+abbrev pub answer_status : Answer → Status
+answer_status (answer.Commit c) = Success
+answer_status (answer.Anomaly a) = Anomaly
+
+-- how a run ends that gave this verdict
+abbrev pub verdict_status : Verdict → Status
+verdict_status verdict.Accepted = Success
+verdict_status (verdict.Rejected rule at) = Rejected
+
+-- how a run ends that a fault in the text of a certificate ended
+abbrev pub certificate_status : CertFaultKind → Status
+certificate_status text_kind.Header = CertificateFault
+certificate_status text_kind.Word = CertificateFault
+certificate_status text_kind.Number = CertificateFault
+certificate_status text_kind.Count = CertificateFault
+certificate_status text_kind.TooLarge = CertificateFault
+certificate_status text_kind.Truncated = CertificateFault
+certificate_status text_kind.Trailing = CertificateFault
+certificate_status text_kind.Read = Device
+certificate_status text_kind.NoMemory = Memory
+
+-- how a run ends that has no answer or no verdict
+abbrev pub halt_status : Halt → Status
+halt_status halt.Seal = RowFault
+halt_status (halt.Row fault) = row_status fault.kind
+halt_status (halt.Reads faults) = ReadFaults
+halt_status (halt.Text fault) = certificate_status fault.kind
+halt_status halt.NoMemory = Memory
+
+-- how a run of explain ends with this outcome
 abbrev pub status_of : Result Answer Halt → Status
-status_of (Ok (answer.Commit c)) = Success
-status_of (Ok (answer.Anomaly a)) = Anomaly
-status_of (Err (halt.Reads faults)) = ReadFaults
-status_of (Err (halt.Row fault)) = row_status fault.kind
-status_of (Err halt.Seal) = RowFault
-status_of (Err halt.NoMemory) = Memory
+status_of (Ok answer) = answer_status answer
+status_of (Err why) = halt_status why
+
+-- how a run of check ends with this outcome
+abbrev pub check_status : Result Judged Halt → Status
+check_status (Ok judged) = verdict_status judged.verdict
+check_status (Err why) = halt_status why

@@ -1,4 +1,4 @@
--- The texts of faults, as they go out: ASCII, each line ended by one line feed.
+-- The texts of faults and verdicts, as they go out: ASCII, each line ended by one line feed.
 use Rattle.std.specs.Prelude.{ℕ, List, [], ◌++◌, length, flat_map, codes, decimal}
 use Rattle.tcc_txn.specs.declared.rows.RowFault.{RowFault}
 use Rattle.tcc_txn.specs.declared.rows.RowFaultKind.{RowFaultKind}
@@ -6,6 +6,15 @@ use Rattle.tcc_txn.specs.declared.rows.RowFaultKind.TheVariants.{FieldCount, Bad
 use Rattle.tcc_reads.specs.declared.fault.ReadFault.{ReadFault}
 use Rattle.tcc_reads.specs.declared.fault.ReadFaultKind.{ReadFaultKind}
 use Rattle.tcc_reads.specs.declared.fault.ReadFaultKind.TheVariants.{Duplicate, BrokenInternal, ThinAir, Aborted, Intermediate, Future}
+use Rattle.tcc_cert.specs.declared.certificate.Certificate.{Certificate}
+use Rattle.tcc_cert.specs.declared.certificate.Certificate.TheVariants as claim
+use Rattle.tcc_cert.specs.declared.fault.CertFault.{CertFault}
+use Rattle.tcc_cert.specs.declared.fault.CertFaultKind.{CertFaultKind}
+use Rattle.tcc_cert.specs.declared.fault.CertFaultKind.TheVariants as text_kind
+use Rattle.tcc_check.specs.declared.verdict.Verdict.{Verdict}
+use Rattle.tcc_check.specs.declared.verdict.Verdict.TheVariants as verdict
+use Rattle.tcc_run.specs.declared.halt.Halt.{Halt}
+use Rattle.tcc_run.specs.declared.halt.Halt.TheVariants as halt
 
 -- the place of a transaction in its session: SESSION/PLACE
 abbrev pub place_text : List ℕ → ℕ → List ℕ
@@ -61,3 +70,41 @@ read_fault_text fault =
 -- the number of faults, and a line for each
 abbrev pub unresolved_text : List ReadFault → List ℕ
 unresolved_text faults = codes "unresolved: " ++ (decimal (length faults) ++ (codes " faults\n" ++ flat_map read_fault_text faults))
+
+-- the word of a kind of fault in the text of a certificate
+abbrev pub certificate_word : CertFaultKind → List ℕ
+certificate_word text_kind.Header = codes "Header"
+certificate_word text_kind.Word = codes "Word"
+certificate_word text_kind.Number = codes "Number"
+certificate_word text_kind.Count = codes "Count"
+certificate_word text_kind.TooLarge = codes "TooLarge"
+certificate_word text_kind.Truncated = codes "Truncated"
+certificate_word text_kind.Trailing = codes "Trailing"
+certificate_word text_kind.Read = codes "Read"
+certificate_word text_kind.NoMemory = codes "NoMemory"
+
+-- certificate line N: KIND
+abbrev pub certificate_fault_text : CertFault → List ℕ
+certificate_fault_text fault = codes "certificate line " ++ (decimal fault.line ++ (codes ": " ++ (certificate_word fault.kind ++ codes "\n")))
+
+-- accepted: order, or accepted: cycle, L steps
+abbrev pub accepted_text : Certificate → List ℕ
+accepted_text (claim.Order order clocks) = codes "accepted: order\n"
+accepted_text (claim.Cycle links least near far) = codes "accepted: cycle, " ++ (decimal least ++ codes " steps\n")
+
+-- rejected: rule K at I J
+abbrev pub rejected_text : ℕ → ℕ × ℕ → List ℕ
+rejected_text rule at =
+    codes "rejected: rule " ++ (decimal rule ++ (codes " at " ++ (decimal at.0 ++ (codes " " ++ (decimal at.1 ++ codes "\n")))))
+
+abbrev pub verdict_text : Certificate → Verdict → List ℕ
+verdict_text k verdict.Accepted = accepted_text k
+verdict_text k (verdict.Rejected rule at) = rejected_text rule at
+
+-- what stands in the place of an answer or a verdict
+abbrev pub halt_text : Halt → List ℕ
+halt_text halt.Seal = codes "refused\n"
+halt_text (halt.Row fault) = row_fault_text fault
+halt_text (halt.Reads faults) = unresolved_text faults.items
+halt_text (halt.Text fault) = certificate_fault_text fault
+halt_text halt.NoMemory = codes "memory\n"

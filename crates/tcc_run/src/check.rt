@@ -1,15 +1,13 @@
 //! From the bytes of a history and of a certificate to the verdict.
 ghost use Rattle.std.specs.Prelude.{◌≡◌, ℕ, IfSome};
 ghost use Rattle.tcc_txn.specs.Answers.{answers_of};
-ghost use Rattle.tcc_run.specs.Checks.{IsCheckRun, IsShown, MayBeCheck, MayBeTextCheck, PrintsCheck, PrintsSome};
-ghost use Rattle.tcc_run.specs.Unjudged.{IsFinished, IsHistoryOf, IsResolved};
+ghost use Rattle.tcc_run.specs.Checks.{IsCheckRun, IsShown, MayBeCheck, PrintsSome};
+ghost use Rattle.tcc_run.specs.Stages.{HasFinished, IsHistoryOf, IsResolved, MayBeTextCheck};
 
 use crate::finished::Gathered;
+use crate::halt::Halt;
 use crate::judged::Judged;
-use crate::printing::{memory_line, print_text};
-use crate::status::Status;
-use crate::unjudged::Unjudged;
-use crate::verdicts::{check_status, check_text};
+use crate::printing::print_check;
 use std::alloc::Global;
 use std::io::{Read, Write};
 use tcc_cert::read;
@@ -17,11 +15,11 @@ use tcc_check::check;
 use tcc_check::laws::certified;
 use tcc_graph::Graph;
 use tcc_reads::resolve;
-use tcc_txn::{Item, NoMemory, Rows, Snapshot};
+use tcc_txn::{Item, Rows, Snapshot};
 
 /// What the sessions finished up to the end of the records, whatever was sealed.
-fn finished<R: Read + Drop>(alloc: Global, reader: R) -> Result<Gathered, Unjudged>
-    ensures { IfSome (R.remaining reader) (λ records. IsFinished (answers_of records) result) }
+fn finished<R: Read + Drop>(alloc: Global, reader: R) -> Result<Gathered, Halt>
+    ensures { IfSome (R.remaining reader) (λ records. HasFinished (answers_of records) result) }
 {
     let mut rows = Rows::new(alloc, reader)?;
     let mut gathered = Gathered::new(alloc);
@@ -33,11 +31,11 @@ fn finished<R: Read + Drop>(alloc: Global, reader: R) -> Result<Gathered, Unjudg
         }
     }
     // So many transactions are held by no memory.
-    Err(Unjudged::NoMemory)
+    Err(Halt::NoMemory)
 }
 
 /// The history of all that the sessions finished.
-fn resolved(alloc: Global, gathered: Gathered) -> Result<Graph, Unjudged>
+fn resolved(alloc: Global, gathered: Gathered) -> Result<Graph, Halt>
     ensures { IsResolved gathered result }
 {
     match Snapshot::new(gathered.into_parts(alloc)?) {
@@ -46,12 +44,12 @@ fn resolved(alloc: Global, gathered: Gathered) -> Result<Graph, Unjudged>
             Ok(Graph::build(alloc, &resolved)?)
         }
         // The rows keep the limits of a snapshot, so only memory can be wanting.
-        Err(_) => Err(Unjudged::NoMemory),
+        Err(_) => Err(Halt::NoMemory),
     }
 }
 
 /// The history of the records.
-fn history_of<R: Read + Drop>(alloc: Global, reader: R) -> Result<Graph, Unjudged>
+fn history_of<R: Read + Drop>(alloc: Global, reader: R) -> Result<Graph, Halt>
     ensures { IfSome (R.remaining reader) (λ records. IsHistoryOf (answers_of records) result) }
 {
     let gathered = finished(alloc, reader)?;
@@ -59,7 +57,7 @@ fn history_of<R: Read + Drop>(alloc: Global, reader: R) -> Result<Graph, Unjudge
 }
 
 /// The verdict on the certificate whose text the reader gives.
-fn judged<R: Read + Drop>(alloc: Global, graph: &Graph, reader: R) -> Result<Judged, Unjudged>
+fn judged<R: Read + Drop>(alloc: Global, graph: &Graph, reader: R) -> Result<Judged, Halt>
     ensures { IfSome (R.remaining reader) (λ text. MayBeTextCheck graph.now text result) }
 {
     let certificate = read(alloc, reader)?;
@@ -75,22 +73,11 @@ fn checked<H: Read + Drop, C: Read + Drop>(
     alloc: Global,
     history: H,
     certificate: C,
-) -> Result<Judged, Unjudged>
+) -> Result<Judged, Halt>
     ensures { IfSome (H.remaining history) (λ records. IfSome (C.remaining certificate) (λ text. MayBeCheck records text result)) }
 {
     let graph = history_of(alloc, history)?;
     judged(alloc, &graph, certificate)
-}
-
-/// Writes the text of the outcome, and gives the status of the run. Where memory is wanting, that is written in its
-/// place.
-fn print_check<W: Write>(alloc: Global, outcome: &Result<Judged, Unjudged>, out: &mut W) -> u8
-    ensures { PrintsCheck (W.contents out.old) (W.contents out.new) outcome.now result }
-{
-    match check_text(alloc, outcome) {
-        Ok(text) => print_text(out, &text, check_status(outcome)),
-        Err(NoMemory) => print_text(out, memory_line(false), Status::Memory),
-    }
 }
 
 /// Writes the verdict on the certificate for the history, or the first fault of the two, and gives the status of the

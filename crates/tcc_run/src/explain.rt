@@ -3,13 +3,13 @@ ghost use Rattle.std.specs.Prelude.{◌≡◌, ◌⊎◌, IfSome, Result, Ok, Er
 ghost use Rattle.tcc_txn.specs.Answers.{answers_of};
 ghost use Rattle.tcc_txn.specs.Snapshots.{Sessions};
 ghost use Rattle.tcc_run.specs.declared.halt.Halt.TheVariants as halt;
-ghost use Rattle.tcc_run.specs.Answers.{IsRun, IsSnapshotOutcome, MayBeOutcome};
+ghost use Rattle.tcc_run.specs.Outcomes.{IsRun, IsSnapshotOutcome, MayBeOutcome};
 ghost use Rattle.tcc_run.specs.Gathered.{AreParts};
-ghost use Rattle.tcc_run.specs.Halts.{IsGathering};
+ghost use Rattle.tcc_run.specs.Stages.{IsGathering};
 
 use crate::finished::Gathered;
 use crate::halt::Halt;
-use crate::printing::print;
+use crate::printing::print_outcome;
 use std::alloc::Global;
 use std::io::{Read, Write};
 use std::thread::Threads;
@@ -70,7 +70,7 @@ pub fn run_explain<R: Read + Drop, W: Write>(
 ) -> u8
     ensures { IfSome (R.remaining reader) (λ text. IsRun json text (W.contents out.old) (W.contents out.new) result) }
 {
-    print(alloc, &input_outcome(rt, alloc, reader), json, out)
+    print_outcome(alloc, &input_outcome(rt, alloc, reader), json, out)
 }
 
 #[cfg(test)]

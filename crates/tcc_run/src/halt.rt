@@ -1,21 +1,24 @@
-//! Why an input has no answer.
+//! Why a run has no answer or no verdict.
 ghost use Rattle.std.specs.Prelude.{◌≡◌};
-ghost use Rattle.tcc_run.specs.Halts.{halt_of, refused_by};
+ghost use Rattle.tcc_run.specs.Stages.{by_row, by_text, refused_by, unresolved_by};
 ghost use Rattle.tcc_run.specs.declared.halt.Halt.TheVariants as halt;
 
+use tcc_cert::{CertFault, CertFaultKind};
 use tcc_explain::ExplainFault;
-use tcc_reads::ReadFault;
+use tcc_reads::{ReadFault, ResolveFault};
 use tcc_txn::{NoMemory, RowFault, RowFaultKind};
 
-/// Why there is no answer for the history of an input.
+/// Why there is no answer for a history, or no verdict on a certificate for it.
 #[derive(Drop)]
 pub enum Halt {
-    /// There is a seal.
+    /// The records have a seal, which has no answer of its own.
     Seal,
-    /// There is a row fault, other than want of memory.
+    /// A record has a fault, other than want of memory.
     Row(RowFault),
-    /// There are read faults; all of them.
+    /// The history has read faults; all of them.
     Reads(Vec<ReadFault>),
+    /// The text of the certificate has a fault, other than want of memory.
+    Text(CertFault),
     /// Memory was refused.
     NoMemory,
 }
@@ -29,12 +32,23 @@ impl From<NoMemory> for Halt {
 }
 
 impl From<RowFault> for Halt {
-    ghost from_gives = { λ fault h. h ≡ halt_of fault };
+    ghost from_gives = { λ fault h. h ≡ by_row fault };
 
     fn from(fault: RowFault) -> Halt {
         match fault.kind {
             RowFaultKind::NoMemory => Halt::NoMemory,
             _ => Halt::Row(fault),
+        }
+    }
+}
+
+impl From<ResolveFault> for Halt {
+    ghost from_gives = { λ fault h. h ≡ unresolved_by fault };
+
+    fn from(fault: ResolveFault) -> Halt {
+        match fault {
+            ResolveFault::Reads(faults) => Halt::Reads(faults),
+            ResolveFault::NoMemory => Halt::NoMemory,
         }
     }
 }
@@ -46,6 +60,17 @@ impl From<ExplainFault> for Halt {
         match fault {
             ExplainFault::Reads(faults) => Halt::Reads(faults),
             ExplainFault::NoMemory => Halt::NoMemory,
+        }
+    }
+}
+
+impl From<CertFault> for Halt {
+    ghost from_gives = { λ fault h. h ≡ by_text fault };
+
+    fn from(fault: CertFault) -> Halt {
+        match fault.kind {
+            CertFaultKind::NoMemory => Halt::NoMemory,
+            _ => Halt::Text(fault),
         }
     }
 }

@@ -4,9 +4,10 @@ ghost use Rattle.serde_json.specs.Data.{array};
 ghost use Rattle.serde_json.specs.View.{view, items_of};
 ghost use Rattle.serde_json.specs.Written.{has_float};
 ghost use Rattle.tcc_explain.specs.Json.{json_line};
-ghost use Rattle.tcc_run.specs.Json.{read_fault_json, unresolved_json, row_fault_json};
+ghost use Rattle.tcc_run.specs.Json.{halt_line, read_fault_json, row_fault_json, unresolved_json};
 
-use crate::texts::{read_word, row_word};
+use crate::halt::Halt;
+use crate::texts::{certificate_fault, halt_text, read_word, row_word};
 use serde_json::{Value, json};
 use std::alloc::{AllocError, Global};
 use tcc_explain::pieces::push;
@@ -96,4 +97,17 @@ pub fn unresolved(alloc: Global, faults: &[ReadFault]) -> Result<Vec<u8>, NoMemo
     ensures { IfOk result (λ line. line.items ≡ json_line (unresolved_json faults.now)) }
 {
     line(alloc, &unresolved_json(alloc, faults)?)
+}
+
+/// What stands in the place of an answer; what is no part of the answers as JSON is as in the text.
+pub fn halt_line(alloc: Global, halt: &Halt) -> Result<Vec<u8>, NoMemory>
+    ensures { IfOk result (λ line. line.items ≡ halt_line halt.now) }
+{
+    match halt {
+        Halt::Row(fault) => row_fault(alloc, fault),
+        Halt::Reads(faults) => unresolved(alloc, faults),
+        Halt::Text(fault) => certificate_fault(alloc, fault),
+        Halt::Seal => halt_text(alloc, halt),
+        Halt::NoMemory => Err(NoMemory),
+    }
 }

@@ -8,16 +8,14 @@ mod finished;
 mod halt;
 pub mod json;
 mod judged;
-mod printing;
+pub mod printing;
 mod status;
 pub mod texts;
-mod unjudged;
 mod verdicts;
 
 pub use check::run_check;
 pub use explain::run_explain;
 pub use halt::Halt;
 pub use judged::Judged;
-pub use printing::{memory_line, print_text};
 pub use status::Status;
-pub use unjudged::Unjudged;
+pub use verdicts::verdict_text;

@@ -1,51 +1,23 @@
-//! What a run prints, and the status that it ends with.
-ghost use Rattle.std.specs.Prelude.{◌≡◌, ℕ, OnOk, OnErr, Err, take};
-ghost use Rattle.std.specs.Io.KnownBytes.{Appends};
-ghost use Rattle.tcc_explain.specs.declared.fault.WriteFault.TheVariants as fault;
-ghost use Rattle.tcc_run.specs.Statuses.{row_status, status_of};
-ghost use Rattle.tcc_run.specs.Printed.{Prints, PrintsOutcome, printed, text_of, line_of, memory_line};
+//! How texts go out, and the number that a run then ends with.
+ghost use Rattle.std.specs.Prelude.{◌≡◌, ℕ, List, IfOk, false};
+ghost use Rattle.tcc_run.specs.Printed.{Prints, answered, check_text, halted, memory_line, printed};
+ghost use Rattle.tcc_run.specs.Stages.{PrintsOrMemory};
+ghost use Rattle.tcc_run.specs.Statuses.{answer_status, check_status, halt_status, status_of};
 
 use crate::halt::Halt;
-use crate::status::Status;
-use crate::{json, texts};
+use crate::json::halt_line;
+use crate::judged::Judged;
+use crate::status::{Status, answer_status, halt_status, verdict_status};
+use crate::texts::halt_text;
+use crate::verdicts::verdict_text;
 use std::alloc::Global;
 use std::io::Write;
 use tcc_explain::sending::send;
 use tcc_explain::{Answer, WriteFault, write_json, write_text};
-use tcc_txn::RowFaultKind;
-
-/// How a run ends that a row fault ended.
-pub fn row_status(kind: &RowFaultKind) -> Status
-    ensures { result ≡ row_status kind.now }
-{
-    match kind {
-        RowFaultKind::TooManyOps
-        | RowFaultKind::TooManySessions
-        | RowFaultKind::TooManyTransactions
-        | RowFaultKind::TooManyKeys
-        | RowFaultKind::TooManySeals => Status::Limit,
-        RowFaultKind::Read => Status::Device,
-        RowFaultKind::NoMemory => Status::Memory,
-        _ => Status::RowFault,
-    }
-}
-
-/// How a run ends whose outcome went out.
-fn status_of(outcome: &Result<Answer, Halt>) -> Status
-    ensures { result ≡ status_of outcome.now }
-{
-    match outcome {
-        Ok(Answer::Commit(_)) => Status::Success,
-        Ok(Answer::Anomaly(_)) => Status::Anomaly,
-        Err(Halt::Reads(_)) => Status::ReadFaults,
-        Err(Halt::Row(fault)) => row_status(&fault.kind),
-        Err(Halt::Seal) => Status::RowFault,
-        Err(Halt::NoMemory) => Status::Memory,
-    }
-}
+use tcc_txn::NoMemory;
 
 /// The line for want of memory.
-pub fn memory_line(json: bool) -> &'static [u8]
+fn memory_line(json: bool) -> &'static [u8]
     ensures { result.now ≡ memory_line json }
 {
     if json {
@@ -55,63 +27,7 @@ pub fn memory_line(json: bool) -> &'static [u8]
     }
 }
 
-/// Writes the outcome as text. All memory for it is had before a byte goes out.
-fn write_as_text<W: Write>(
-    alloc: Global,
-    outcome: &Result<Answer, Halt>,
-    out: &mut W,
-) -> Result<(), WriteFault>
-    ensures whole { OnOk result (Appends (W.contents out.old) (W.contents out.new) (text_of outcome.now)) }
-    ensures part { OnErr result ((n : ℕ) × Appends (W.contents out.old) (W.contents out.new) (take n (text_of outcome.now))) }
-    ensures nothing { result ≡ Err fault.NoMemory → out.new ≡ out.old }
-{
-    match outcome {
-        Ok(answer) => write_text(alloc, answer, out),
-        Err(Halt::Reads(faults)) => Ok(send(out, &texts::unresolved(alloc, faults)?)?),
-        Err(Halt::Row(fault)) => Ok(send(out, &texts::row_fault(alloc, fault)?)?),
-        Err(Halt::Seal) => Ok(send(out, b"refused\n")?),
-        Err(Halt::NoMemory) => Ok(send(out, memory_line(false))?),
-    }
-}
-
-/// Writes the outcome as a line of JSON. All memory for it is had before a byte goes out.
-fn write_as_json<W: Write>(
-    alloc: Global,
-    outcome: &Result<Answer, Halt>,
-    out: &mut W,
-) -> Result<(), WriteFault>
-    ensures whole { OnOk result (Appends (W.contents out.old) (W.contents out.new) (line_of outcome.now)) }
-    ensures part { OnErr result ((n : ℕ) × Appends (W.contents out.old) (W.contents out.new) (take n (line_of outcome.now))) }
-    ensures nothing { result ≡ Err fault.NoMemory → out.new ≡ out.old }
-{
-    match outcome {
-        Ok(answer) => write_json(alloc, answer, out),
-        Err(Halt::Reads(faults)) => Ok(send(out, &json::unresolved(alloc, faults)?)?),
-        Err(Halt::Row(fault)) => Ok(send(out, &json::row_fault(alloc, fault)?)?),
-        Err(Halt::Seal) => Ok(send(out, b"refused\n")?),
-        Err(Halt::NoMemory) => Ok(send(out, memory_line(true))?),
-    }
-}
-
-/// Writes the outcome as text or as a line of JSON. All memory for it is had before a byte goes out.
-fn write<W: Write>(
-    alloc: Global,
-    outcome: &Result<Answer, Halt>,
-    json: bool,
-    out: &mut W,
-) -> Result<(), WriteFault>
-    ensures whole { OnOk result (Appends (W.contents out.old) (W.contents out.new) (printed json outcome.now)) }
-    ensures part { OnErr result ((n : ℕ) × Appends (W.contents out.old) (W.contents out.new) (take n (printed json outcome.now))) }
-    ensures nothing { result ≡ Err fault.NoMemory → out.new ≡ out.old }
-{
-    if json {
-        write_as_json(alloc, outcome, out)
-    } else {
-        write_as_text(alloc, outcome, out)
-    }
-}
-
-/// Writes the text, and gives the status of the run: the one that the text has, or that of a writer that failed.
+/// Writes the text, and gives the number that the run ends with: that of the status, or of a writer that failed.
 pub fn print_text<W: Write>(out: &mut W, text: &[u8], status: Status) -> u8
     ensures { Prints (W.contents out.old) (W.contents out.new) text.now status result }
 {
@@ -121,14 +37,83 @@ pub fn print_text<W: Write>(out: &mut W, text: &[u8], status: Status) -> u8
     }
 }
 
-/// Writes the outcome as text or as a line of JSON, and gives the status of the run. Where memory is wanting, that is
-/// written in its place.
-pub fn print<W: Write>(alloc: Global, outcome: &Result<Answer, Halt>, json: bool, out: &mut W) -> u8
-    ensures { PrintsOutcome json (W.contents out.old) (W.contents out.new) outcome.now result }
+/// Writes that memory is wanting, as text or as a line of JSON, and gives the number that the run ends with. It takes no
+/// memory.
+pub fn print_memory<W: Write>(out: &mut W, json: bool) -> u8
+    ensures { Prints (W.contents out.old) (W.contents out.new) (memory_line json) Status.Memory result }
 {
-    match write(alloc, outcome, json, out) {
-        Ok(()) => status_of(outcome).code(),
+    print_text(out, memory_line(json), Status::Memory)
+}
+
+/// Writes the text that was made, or that there was no memory for it, and gives the number that the run ends with.
+fn print_made<W: Write>(
+    made: Result<Vec<u8>, NoMemory>,
+    status: Status,
+    json: bool,
+    out: &mut W,
+) -> u8
+    ensures { (text : List ℕ) → IfOk made (λ whole. whole.items ≡ text) → PrintsOrMemory json (W.contents out.old) (W.contents out.new) text status result }
+{
+    match made {
+        Ok(text) => print_text(out, &text, status),
+        Err(NoMemory) => print_memory(out, json),
+    }
+}
+
+/// Writes the answer as text or as a line of JSON, and gives the number that the run ends with.
+fn print_answer<W: Write>(alloc: Global, answer: &Answer, json: bool, out: &mut W) -> u8
+    ensures { PrintsOrMemory json (W.contents out.old) (W.contents out.new) (answered json answer.now) (answer_status answer.now) result }
+{
+    let written = if json {
+        write_json(alloc, answer, out)
+    } else {
+        write_text(alloc, answer, out)
+    };
+    match written {
+        Ok(()) => answer_status(answer).code(),
         Err(WriteFault::Device) => Status::Device.code(),
-        Err(WriteFault::NoMemory) => print_text(out, memory_line(json), Status::Memory),
+        Err(WriteFault::NoMemory) => print_memory(out, json),
+    }
+}
+
+/// Writes what stands in the place of an answer or a verdict, and gives the number that the run ends with.
+fn print_halt<W: Write>(alloc: Global, halt: &Halt, json: bool, out: &mut W) -> u8
+    ensures { PrintsOrMemory json (W.contents out.old) (W.contents out.new) (halted json halt.now) (halt_status halt.now) result }
+{
+    let made = if json {
+        halt_line(alloc, halt)
+    } else {
+        halt_text(alloc, halt)
+    };
+    print_made(made, halt_status(halt), json, out)
+}
+
+/// Writes the outcome as text or as a line of JSON, and gives the number that the run ends with. Where memory is wanting,
+/// that is written in its place.
+pub fn print_outcome<W: Write>(
+    alloc: Global,
+    outcome: &Result<Answer, Halt>,
+    json: bool,
+    out: &mut W,
+) -> u8
+    ensures { PrintsOrMemory json (W.contents out.old) (W.contents out.new) (printed json outcome.now) (status_of outcome.now) result }
+{
+    match outcome {
+        Ok(answer) => print_answer(alloc, answer, json, out),
+        Err(halt) => print_halt(alloc, halt, json, out),
+    }
+}
+
+/// Writes the outcome of a check, and gives the number that the run ends with. Where memory is wanting, that is written in
+/// its place.
+pub fn print_check<W: Write>(alloc: Global, outcome: &Result<Judged, Halt>, out: &mut W) -> u8
+    ensures { PrintsOrMemory false (W.contents out.old) (W.contents out.new) (check_text outcome.now) (check_status outcome.now) result }
+{
+    match outcome {
+        Ok(judged) => {
+            let status = verdict_status(judged.verdict);
+            print_made(verdict_text(alloc, judged), status, false, out)
+        }
+        Err(halt) => print_halt(alloc, halt, false, out),
     }
 }

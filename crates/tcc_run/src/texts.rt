@@ -1,8 +1,10 @@
 //! The texts of faults, each made as a whole before a byte of it goes out.
 ghost use Rattle.std.specs.Prelude.{◌≡◌, ◌++◌, IfOk, OnOk, length, flat_map};
-ghost use Rattle.tcc_run.specs.Texts.{row_fault_text, row_word, read_word, read_fault_text, unresolved_text};
+ghost use Rattle.tcc_run.specs.Texts.{certificate_fault_text, certificate_word, halt_text, read_fault_text, read_word, row_fault_text, row_word, unresolved_text};
 
+use crate::halt::Halt;
 use std::alloc::Global;
+use tcc_cert::{CertFault, CertFaultKind};
 use tcc_explain::pieces::push;
 use tcc_reads::{ReadFault, ReadFaultKind};
 use tcc_txn::{NoMemory, RowFault, RowFaultKind};
@@ -111,4 +113,54 @@ pub fn unresolved(alloc: Global, faults: &[ReadFault]) -> Result<Vec<u8>, NoMemo
         push_read_fault(alloc, &mut text, fault)?;
     }
     Ok(text)
+}
+
+/// The word for a kind of fault in the text of a certificate.
+pub fn certificate_word(kind: CertFaultKind) -> &'static str
+    ensures { result.now ≡ certificate_word kind }
+{
+    match kind {
+        CertFaultKind::Header => "Header",
+        CertFaultKind::Word => "Word",
+        CertFaultKind::Number => "Number",
+        CertFaultKind::Count => "Count",
+        CertFaultKind::TooLarge => "TooLarge",
+        CertFaultKind::Truncated => "Truncated",
+        CertFaultKind::Trailing => "Trailing",
+        CertFaultKind::Read => "Read",
+        CertFaultKind::NoMemory => "NoMemory",
+    }
+}
+
+/// The line of a fault in the text of a certificate.
+pub fn certificate_fault(alloc: Global, fault: &CertFault) -> Result<Vec<u8>, NoMemory>
+    ensures { IfOk result (λ text. text.items ≡ certificate_fault_text fault.now) }
+{
+    let line = fault.line.to_string(alloc)?;
+    let word = certificate_word(fault.kind);
+    let mut text = Vec::new(alloc);
+    push(
+        &mut text,
+        &[
+            b"certificate line ",
+            line.as_bytes(),
+            b": ",
+            word.as_bytes(),
+            b"\n",
+        ],
+    )?;
+    Ok(text)
+}
+
+/// What stands in the place of an answer or a verdict; the line for want of memory is made without memory, elsewhere.
+pub fn halt_text(alloc: Global, halt: &Halt) -> Result<Vec<u8>, NoMemory>
+    ensures { IfOk result (λ text. text.items ≡ halt_text halt.now) }
+{
+    match halt {
+        Halt::Seal => Ok(b"refused\n".to_vec(alloc)?),
+        Halt::Row(fault) => row_fault(alloc, fault),
+        Halt::Reads(faults) => unresolved(alloc, faults),
+        Halt::Text(fault) => certificate_fault(alloc, fault),
+        Halt::NoMemory => Err(NoMemory),
+    }
 }

@@ -7,7 +7,7 @@ use Rattle.tcc.proofs.command_line.check_command.Goals as goal
 
 pub returns : goal.returns
 returns c =
-    let bare_is : app_of c.about.result ≡ new_app (codes "check") = search rules in
+    let bare_is : app_of c.after_help.result ≡ new_app (codes "check") = search rules in
     let half_is : app_of c.in_ok-half.half ≡ with_rule (new_app (codes "check")) (path (codes "history"))
     = c.in_ok-half.ensures.shape c.path-history.ensures.own ∙ ap₂ with_rule bare_is c.path-history.ensures.rule in
     IfOk-weaker c.arg-2.result _ _

@@ -4,7 +4,7 @@ use Rattle.std.specs.Prelude.{◌&&◌, not}
 use Rattle.std.proofs.lemmas.Result.{IfOk-weaker}
 use Rattle.clap.specs.Words.{App, app_of, new_app, with_subcommand}
 use Rattle.clap.specs.Simple.{on_top}
-use Rattle.tcc.specs.CommandLines.{explain_command, with_subcommand_required}
+use Rattle.tcc.specs.CommandLines.{explain_command, with_subcommand_required, with_version}
 use Rattle.tcc.proofs.command_line.command.Goals as goal
 
 -- a plain command has no global argument
@@ -16,8 +16,8 @@ no_globals false external globals others plain = let bad : ⊥ = cc in absurd ba
 
 pub returns : goal.returns
 returns c =
-    let above_is : app_of c.subcommand_required.result ≡ on_top with_subcommand_required (new_app (codes "tcc")) = search rules in
-    let tcc_is : app_of c.in_ok-tcc.tcc ≡ with_subcommand (on_top with_subcommand_required (new_app (codes "tcc"))) explain_command.top
+    let above_is : app_of c.subcommand_required.result ≡ on_top with_subcommand_required (on_top with_version (new_app (codes "tcc"))) = search rules in
+    let tcc_is : app_of c.in_ok-tcc.tcc ≡ with_subcommand (on_top with_subcommand_required (on_top with_version (new_app (codes "tcc")))) explain_command.top
     = c.in_ok-tcc.ensures.shape (no_globals _ _ _ _ (ap (λ (a : App). a.top.is_plain) c.in_ok-explain.ensures))
     ∙ ap₂ with_subcommand above_is (ap (λ (a : App). a.top) c.in_ok-explain.ensures) in
     IfOk-weaker c.subcommand-2.result _ _

@@ -1,6 +1,6 @@
 -- What was printed is what a run may print; and success shows the claim, by the law of the checker.
 use Rattle.std.proofs.lemmas.Option.{IfSome_then}
-use Rattle.tcc_run.proofs.Shown.{runs, shown}
+use Rattle.tcc_run.proofs.Shown.{prints_some, runs, shown}
 use Rattle.tcc_run.proofs.check.run_check.Goals as goal
 
 pub returns-clause-run : goal.returns-clause-run
@@ -15,4 +15,4 @@ returns-clause-shown g c = IfSome_then (g.H.Read.remaining c.args.history) c.che
     (runs records text _ _ c.checked.result c.print_check.result may c.print_check.ensures)))
 
 pub returns-clause-printed : goal.returns-clause-printed
-returns-clause-printed g c = let (o, which, prints) = c.print_check.ensures in (o, prints)
+returns-clause-printed g c = prints_some _ _ c.checked.result c.print_check.result c.print_check.ensures

@@ -1,4 +1,4 @@
--- What comes of an input, and what a run does with its bytes.
+-- What comes of the records of an input, and what a run of explain does with their bytes.
 use Rattle.std.specs.Prelude.{ℕ, ◌≡◌, ◌≢◌, ◌⊎◌, Bool, true, false, List, [], Option, None, Some, Result, Ok, Err}
 use Rattle.std.specs.List.{list_any}
 use Rattle.tcc_txn.specs.Snapshots.{Sessions}
