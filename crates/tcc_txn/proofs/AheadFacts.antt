@@ -8,7 +8,8 @@ use Rattle.csv.specs.Reading.{default_config, is_bom, records, records_from, rec
 use Rattle.csv.specs.declared.parser.Config.{Config}
 use Rattle.csv.specs.declared.parser.State.{State}
 use Rattle.csv.specs.declared.parser.State.TheVariants as st
-use Rattle.tcc_txn.specs.Ahead.{FaultsIn, IsFailure, IsMidway}
+use Rattle.tcc_txn.specs.Ahead.{FaultsIn, IsFailure}
+use Rattle.tcc_txn.specs.Midway.{IsMidway}
 use Rattle.tcc_txn.specs.Answers.{Answers, after_item, answers_after, answers_of, ending, fault_at_end, judged, records_of}
 use Rattle.tcc_txn.specs.ByteLimit.{marked, past_limit}
 use Rattle.tcc_txn.specs.Lines.{Record, is_cut, line_of}

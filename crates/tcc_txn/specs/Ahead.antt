@@ -1,9 +1,7 @@
 -- The answers that a reader of rows has still to give.
-use Rattle.std.specs.Prelude.{ℕ, ◌+◌, ◌^◌, ◌<◌, ◌≡◌, ◌⊎◌, Bool, true, false, List, length, Option, None, Some, Result, Ok, Err}
+use Rattle.std.specs.Prelude.{ℕ, ◌+◌, ◌≡◌, ◌⊎◌, Bool, true, false, List, length, Option, None, Some, Result, Ok, Err}
 use Rattle.tcc_txn.specs.Answers.{Answers, after_item, answers_after, ending}
 use Rattle.tcc_txn.specs.Lines.{Record}
-use Rattle.tcc_txn.specs.RecordsLeft.{HasLeft}
-use Rattle.tcc_txn.specs.Standing.{IsAfter}
 use Rattle.tcc_txn.specs.declared.rows.Item.{Item}
 use Rattle.tcc_txn.specs.declared.rows.Item.TheVariants as item
 use Rattle.tcc_txn.specs.declared.rows.Phase.{Phase}
@@ -11,20 +9,9 @@ use Rattle.tcc_txn.specs.declared.rows.Phase.TheVariants as phase
 use Rattle.tcc_txn.specs.declared.rows.RowFault.{RowFault}
 use Rattle.tcc_txn.specs.declared.rows.RowFaultKind.{RowFaultKind}
 use Rattle.tcc_txn.specs.declared.rows.RowFaultKind.TheVariants as kind
+use Rattle.tcc_txn.specs.Midway.{IsMidway}
 use Rattle.tcc_txn.specs.declared.rows.Rows.{Rows}
-use Rattle.tcc_txn.specs.declared.rows.records.Course.TheVariants as course
 use Rattle.tcc_txn.specs.declared.rows.line.Line.{Line}
-
--- these are the answers to the records that are left, after the lawful lines so far
-pub record IsMidway {R : Type 0} (remaining : R → Option (List ℕ)) (rows : Rows R) (ahead : Answers) : Type 0 where
-  pub past : List Line
-  pub left : List Record
-  pub records : HasLeft remaining rows.records left
-  pub progress : IsAfter past rows.progress
-  pub counted : rows.records.count ≡ length past
-  pub going : rows.records.course ≡ course.Going
-  pub fits : length past + length left + 1 < 2 ^ 64
-  pub answers : ahead ≡ answers_after past left
 
 abbrev pub IsAheadIn : {R : Type 0} → Phase → (R → Option (List ℕ)) → Rows R → Answers → Type 0
 IsAheadIn phase.Reading remaining rows ahead = IsMidway remaining rows ahead

@@ -1,4 +1,4 @@
--- The operations of a transaction that is not finished.
+-- The operations of a transaction that is not finished, for proofs: nobody has to believe it.
 use Rattle.std.specs.Prelude.{◌≡◌, ◌≤◌, ◌<◌, ◌⊎◌, List, [], ◌∷◌, ◌++◌, length, Option, None, Some, Result, Ok, Err}
 use Rattle.tcc_txn.specs.declared.limits.TheConstants.{MAX_OPERATIONS}
 use Rattle.tcc_txn.specs.declared.op.Op.{Op}

@@ -1,4 +1,4 @@
--- How far a reader of rows has come, by what it gave last.
+-- How far a reader of rows has come by what it gave last, for proofs: nobody has to believe it.
 use Rattle.std.specs.Prelude.{Option, None, Some}
 use Rattle.tcc_txn.specs.declared.rows.Item.{Item}
 use Rattle.tcc_txn.specs.declared.rows.Item.TheVariants as item

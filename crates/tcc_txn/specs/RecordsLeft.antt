@@ -1,4 +1,4 @@
--- The records that a reader of `csv` has left.
+-- The records that a reader of `csv` has left, for proofs: nobody has to believe it. `Rows::new` says that at first they are those of the text.
 use Rattle.std.specs.Prelude.{ℕ, ◌+◌, ◌≡◌, Bool, true, false, List, [], ◌∷◌, length, Option, Some, option_map}
 use Rattle.csv.specs.Machine.{ends_at_end}
 use Rattle.csv.specs.Reading.{Ready, default_config, has_failed, is_flexible, reader_config, reader_state, reader_trim, records_from, source_of}

@@ -1,6 +1,7 @@
 -- The private stages of a reader of rows, for proofs: nobody has to believe them.
 use Rattle.std.specs.Prelude.{ℕ, ◌+◌, ◌^◌, ◌<◌, ◌≤◌, ◌≡◌, ◌⊎◌, Bool, true, false, List, [], ◌∷◌, length, Option, None, Some, Result, Ok, Err}
-use Rattle.tcc_txn.specs.Ahead.{FaultsIn, IsMidway}
+use Rattle.tcc_txn.specs.Ahead.{FaultsIn}
+use Rattle.tcc_txn.specs.Midway.{IsMidway}
 use Rattle.tcc_txn.specs.Answers.{Answers, after_item, answers_after, ending, judged}
 use Rattle.tcc_txn.specs.Lines.{Record, is_cut, line_of}
 use Rattle.tcc_txn.specs.Past.{item_of}

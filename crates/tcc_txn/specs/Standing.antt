@@ -1,4 +1,4 @@
--- What is kept of the lines so far: how it stands to them.
+-- What is kept of the lines so far and how it stands to them, for proofs: nobody has to believe it.
 use Rattle.std.specs.Prelude.{ℕ, ◌≡◌, ◌≤◌, ◌<◌, ◌⊎◌, Bool, true, false, if◌then◌else◌, List, ◌∷◌, length, Option, None, Some, Result, Ok, Err}
 use Rattle.std.specs.List.{list_any}
 use Rattle.std.specs.Option.{option_map_or}

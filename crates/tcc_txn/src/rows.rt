@@ -115,7 +115,8 @@ pub struct Rows<R> {
 }
 
 impl<R: Read + Drop> Rows<R> {
-    ghost use Rattle.tcc_txn.specs.Ahead.{FaultsIn, IsAhead, IsMidway, TakesAnswer, fault_met, has_ended};
+    ghost use Rattle.tcc_txn.specs.Ahead.{FaultsIn, IsAhead, TakesAnswer, fault_met, has_ended};
+    ghost use Rattle.tcc_txn.specs.Midway.{IsMidway};
     ghost use Rattle.tcc_txn.specs.Lines.{Record, is_cut, line_of};
     ghost use Rattle.tcc_txn.specs.Phases.{phase_after, phase_after_step};
     ghost use Rattle.tcc_txn.specs.Reached.{HasGivenUp, IsWithin, ReaderFailed, StandsBy, StandsIn, row_reached};

@@ -1,5 +1,5 @@
 use Rattle.std.proofs.Common.{◌≡◌, ◌-◌, ◌^◌, List}
-use Rattle.tcc_txn.specs.Ahead.{IsMidway}
+use Rattle.tcc_txn.specs.Midway.{IsMidway}
 use Rattle.tcc_txn.specs.Answers.{Answers}
 use Rattle.tcc_txn.specs.Lines.{Record}
 use Rattle.tcc_txn.specs.Reached.{StandsIn}
