@@ -1,5 +1,6 @@
 mod AheadFacts
 mod FieldBytes
+mod Growing
 mod LeastOpen
 mod LimitFacts
 mod LineFacts
