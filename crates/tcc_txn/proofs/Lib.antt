@@ -1,5 +1,7 @@
 mod AheadFacts
 mod FieldBytes
+mod Growing
+mod GrownSnapshot
 mod LeastOpen
 mod LimitFacts
 mod LineFacts

@@ -31,7 +31,7 @@ slice_get-shown parts i stored =
 pub len-shown : (parts : List (List ℕ × Vec Transaction)) → IsStored parts → finite.len (shown parts) ≡ length parts
 len-shown parts stored = finite.len-entries (shown parts) ∙ ap length (entries-shown parts stored) ∙ length-parts_of parts
 
-sum_by-parts_of : (parts : List (List ℕ × Vec Transaction))
+pub sum_by-parts_of : (parts : List (List ℕ × Vec Transaction))
     → sum_by (λ part. length part.1) (parts_of parts) ≡ sum_by (λ part. length part.1.items) parts
 sum_by-parts_of [] = refl
 sum_by-parts_of (part ∷ parts) =
@@ -51,7 +51,7 @@ below_all-parts_of : (name : List ℕ) (parts : List (List ℕ × Vec Transactio
 below_all-parts_of name [] = refl
 below_all-parts_of name (part ∷ parts) = ap (λ b. is_lt (slice_cmp nat_cmp name part.0) && b) (below_all-parts_of name parts)
 
-is_sorted-parts_of : (parts : List (List ℕ × Vec Transaction))
+pub is_sorted-parts_of : (parts : List (List ℕ × Vec Transaction))
     → finite.is_sorted (slice_cmp nat_cmp) (parts_of parts) ≡ finite.is_sorted (slice_cmp nat_cmp) parts
 is_sorted-parts_of [] = refl
 is_sorted-parts_of (part ∷ parts) = λ i. below_all-parts_of part.0 parts i && is_sorted-parts_of parts i

@@ -2,12 +2,14 @@ pub mod Ahead
 pub mod Answers
 pub mod ByteLimit
 pub mod Drafts
+pub mod Finished
 pub mod Lines
 pub mod Midway
 pub mod Names
 pub mod Past
 pub mod Phases
 pub mod Reached
+pub mod Recordings
 pub mod RecordsLeft
 pub mod Stages
 pub mod Standing

@@ -1,7 +1,7 @@
 -- How a snapshot lies in memory.
-use Rattle.std.proofs.Common.{◌≡◌, ℕ, ◌≤◌, Bool, true, false, List, length, T, refl}
-use Rattle.std.specs.Prelude.{sum_by}
-use Rattle.std.specs.Ordering.{nat_cmp}
+use Rattle.std.proofs.Common.{◌≡◌, ℕ, suc, ◌≤◌, Bool, true, false, List, [], ◌∷◌, length, T, refl}
+use Rattle.std.specs.Prelude.{sum_by, slice_index_or, ◌<◌, if◌then◌else◌}
+use Rattle.std.specs.Ordering.{is_lt, nat_cmp}
 use Rattle.std.specs.Cmp.Lexicographic.{slice_cmp}
 use Rattle.std.specs.Coded.{Coded, code_by, coded×, coded_list, coded_ℕ, coded_bool}
 use Rattle.std.specs.FinMap as map
@@ -38,6 +38,15 @@ sessions_code = map.code (coded_list coded_ℕ) (coded_list transaction_code)
 -- the map that sorted parts show
 abbrev pub shown : List (List ℕ × Vec Transaction) → Sessions
 shown parts = map.from_sorted (parts_of parts)
+
+-- how many parts stand before the session in byte order
+abbrev pub place_in : {X : Type 0} → List ℕ → List (List ℕ × X) → ℕ
+place_in session [] = 0
+place_in session (part ∷ parts) = if is_lt (slice_cmp nat_cmp part.0 session) then suc (place_in session parts) else 0
+
+-- the session's part stands at the place
+abbrev pub StandsAt : {X : Type 0} → List (List ℕ × X) → List ℕ → ℕ → Type 0
+StandsAt {X} parts session at = (at < length parts) × ((d : List ℕ × X) → (slice_index_or parts at d).0 ≡ session)
 
 -- the names strictly rise; there are at most `MAX_SESSIONS`, with at most `MAX_TRANSACTIONS` transactions in all
 pub record IsStored (parts : List (List ℕ × Vec Transaction)) : Type 0 where

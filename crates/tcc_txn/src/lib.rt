@@ -5,6 +5,7 @@ mod limits;
 mod memory;
 mod name;
 mod op;
+mod recording;
 mod rows;
 mod snapshot;
 mod txn;
@@ -16,6 +17,7 @@ pub use limits::{
 pub use memory::NoMemory;
 pub use name::{Name, NameFault};
 pub use op::Op;
+pub use recording::{Moment, Recording, snapshot_of};
 pub use rows::{Item, RowFault, RowFaultKind, Rows};
 pub use snapshot::{Snapshot, SnapshotFault};
 pub use txn::{Txn, TxnFault};

@@ -155,6 +155,7 @@ impl<R: Read + Drop> Rows<R> {
         ensures goes_on { OnOk result (fault_met self.new ≡ None) }
         ensures ends { result ≡ Ok Item.End → has_ended self.new ≡ true }
         ensures stays_ended { has_ended self.old ≡ true → result ≡ Ok Item.End }
+        ensures phase { IfOk result (λ given. self.new.phase ≡ phase_after given) }
     {
         match self.phase {
             Phase::Reading => {}
@@ -185,6 +186,16 @@ impl<R: Read + Drop> Rows<R> {
             row: self.records.row(),
             kind,
         }
+    }
+
+    /// Gives up at the row that was reached.
+    pub(crate) fn give_up(&mut self, kind: RowFaultKind) -> RowFault
+        ensures fault { result ≡ record { row = row_reached self.old; kind = kind } }
+        ensures stopped { self.new ≡ record self.old { phase = Phase.Stopped result } }
+    {
+        let fault = self.fault(kind);
+        self.stop(&fault);
+        fault
     }
 
     /// Goes past records up to the next item.

@@ -1,14 +1,18 @@
 //! Snapshots: what the sessions had finished at one moment.
-ghost use Rattle.std.specs.Prelude.{◌≡◌, ◌≤◌, [], nat_eq, nat_lt, map, length, sum_by, None, Some, MatchResult, option_map, slice_get};
+ghost use Rattle.std.specs.Prelude.{◌≡◌, ◌≤◌, ◌<◌, ◌⊎◌, ◌++◌, ◌∷◌, [], T, true, false, nat_eq, nat_lt, map, length, sum_by, None, Some, IfErr, MatchResult, OnErr, OnOk, option_map, slice_get, unwrap_or};
 ghost use Rattle.std.specs.FinMap as sessions;
-ghost use Rattle.std.specs.List.{list_any};
+ghost use Rattle.std.specs.FinMap.Entries.{find, is_sorted, put};
+ghost use Rattle.std.specs.List.{insert, list_any};
 ghost use Rattle.std.specs.List.Sorted.{IsPermutation, IsSortedByKey};
 ghost use Rattle.std.specs.Ordering.{nat_cmp};
+ghost use Rattle.tcc_txn.specs.Finished.{KeepsLimits, with_transaction};
 ghost use Rattle.std.specs.Cmp.Lexicographic.{pointwise, slice_cmp};
 ghost use Rattle.tcc_txn.specs.Snapshots.{parts_of, first_repeated, snapshot_fault};
+ghost use Rattle.tcc_txn.specs.SnapshotStorage.{StandsAt, place_in};
 ghost use Rattle.tcc_txn.specs.declared.limits.TheConstants.{MAX_SESSIONS, MAX_TRANSACTIONS};
 
-use crate::{MAX_SESSIONS, MAX_TRANSACTIONS, Name, Txn};
+use crate::{MAX_SESSIONS, MAX_TRANSACTIONS, Name, RowFaultKind, Txn};
+use std::alloc::Global;
 use std::marker::Model;
 use thiserror::Error;
 
@@ -68,12 +72,13 @@ fn first_repeated(parts: &[(Name, Vec<Txn>)]) -> Option<Name>
     None
 }
 
-fn has_too_many_transactions(parts: &[(Name, Vec<Txn>)]) -> bool
-    ensures { result ≡ nat_lt MAX_TRANSACTIONS (sum_by (λ part. length part.1.items) parts.now) }
+/// Whether there are more transactions than so many.
+fn has_too_many_transactions(parts: &[(Name, Vec<Txn>)], most: usize) -> bool
+    ensures { result ≡ nat_lt most (sum_by (λ part. length part.1.items) parts.now) }
 {
     let mut total = 0;
     for part in parts {
-        if part.1.len() > MAX_TRANSACTIONS - total {
+        if part.1.len() > most - total {
             return true;
         }
         total += part.1.len();
@@ -90,7 +95,7 @@ fn fault_of(parts: &[(Name, Vec<Txn>)]) -> Option<SnapshotFault>
     if parts.len() > MAX_SESSIONS {
         return Some(SnapshotFault::TooManySessions);
     }
-    if has_too_many_transactions(parts) {
+    if has_too_many_transactions(parts, MAX_TRANSACTIONS) {
         return Some(SnapshotFault::TooManyTransactions);
     }
     None
@@ -103,7 +108,103 @@ fn sort_by_name(parts: &mut [(Name, Vec<Txn>)])
     parts.sort_unstable_by_key(|part| part.0);
 }
 
+/// How many parts stand before the session.
+fn place_of(parts: &[(Name, Vec<Txn>)], session: &Name) -> usize
+    requires { T (is_sorted (slice_cmp nat_cmp) (parts_of parts.now)) }
+    ensures { result ≡ place_in session.now (parts_of parts.now) }
+{
+    parts.partition_point(|part| part.0 < *session)
+}
+
+/// Whether the part at the place is the session's.
+fn stands_at(parts: &[(Name, Vec<Txn>)], at: usize, session: &Name) -> bool
+    ensures stands { result ≡ true → StandsAt (parts_of parts.now) session.now at }
+    ensures not { result ≡ false → StandsAt (parts_of parts.now) session.now at → ⊥ }
+{
+    match parts.get(at) {
+        Some(part) => part.0 == *session,
+        None => false,
+    }
+}
+
+/// One more transaction at the end.
+fn push(txns: &mut Vec<Txn>, txn: Txn) -> Result<(), RowFaultKind>
+    ensures pushed { OnOk result (txns.new.items ≡ txns.old.items ++ txn ∷ []) }
+    ensures kept { OnErr result (txns.new.items ≡ txns.old.items) }
+    ensures refused { IfErr result (λ k. k ≡ RowFaultKind.NoMemory) }
+{
+    match txns.push(txn) {
+        Ok(()) => Ok(()),
+        Err(_) => Err(RowFaultKind::NoMemory),
+    }
+}
+
+/// The first transaction of a session, whose part goes to the place.
+fn insert(
+    parts: &mut Vec<(Name, Vec<Txn>)>,
+    alloc: Global,
+    at: usize,
+    session: Name,
+    txn: Txn,
+) -> Result<(), RowFaultKind>
+    requires { at ≤ length parts.old.items }
+    ensures inserted { OnOk result (parts_of parts.new.items ≡ insert (parts_of parts.old.items) at (session, txn ∷ [])) }
+    ensures kept { OnErr result (parts.new.items ≡ parts.old.items) }
+    ensures refused { IfErr result (λ k. k ≡ RowFaultKind.NoMemory) }
+{
+    let mut txns = Vec::new(alloc);
+    push(&mut txns, txn)?;
+    match parts.insert(at, (session, txns)) {
+        Ok(()) => Ok(()),
+        Err(_) => Err(RowFaultKind::NoMemory),
+    }
+}
+
+/// The session has one more transaction.
+fn add_to(
+    parts: &mut Vec<(Name, Vec<Txn>)>,
+    alloc: Global,
+    session: Name,
+    txn: Txn,
+) -> Result<(), RowFaultKind>
+    requires { T (is_sorted (slice_cmp nat_cmp) (parts_of parts.old.items)) }
+    ensures added { OnOk result (parts_of parts.new.items ≡ put (slice_cmp nat_cmp) session (unwrap_or (find (slice_cmp nat_cmp) session (parts_of parts.old.items)) [] ++ txn ∷ []) (parts_of parts.old.items)) }
+    ensures kept { OnErr result (parts_of parts.new.items ≡ parts_of parts.old.items) }
+    ensures few { OnOk result ((find (slice_cmp nat_cmp) session (parts_of parts.old.items) ≡ None) → length parts.old.items < MAX_SESSIONS) }
+    ensures refused { IfErr result (λ k. (k ≡ RowFaultKind.NoMemory) ⊎ ((MAX_SESSIONS ≤ length parts.old.items) × (find (slice_cmp nat_cmp) session (parts_of parts.old.items) ≡ None))) }
+{
+    let at = place_of(parts, &session);
+    if stands_at(parts, at, &session) {
+        return push(&mut parts[at].1, txn);
+    }
+    if parts.len() >= MAX_SESSIONS {
+        return Err(RowFaultKind::TooManySessions);
+    }
+    insert(parts, alloc, at, session, txn)
+}
+
 impl Snapshot {
+    /// No session has finished anything.
+    pub(crate) fn empty(alloc: Global) -> Snapshot
+        ensures { result ≡ sessions.empty }
+    {
+        Snapshot {
+            sessions: Vec::new(alloc),
+        }
+    }
+
+    /// The session has finished one more transaction, where there is room.
+    pub(crate) fn add(&mut self, alloc: Global, session: Name, txn: Txn) -> Result<(), RowFaultKind>
+        ensures added { OnOk result (self.new ≡ with_transaction self.old session txn) }
+        ensures kept { OnErr result (self.new ≡ self.old) }
+        ensures refused { KeepsLimits (with_transaction self.old session txn) → IfErr result (λ k. k ≡ RowFaultKind.NoMemory) }
+    {
+        if has_too_many_transactions(&self.sessions, MAX_TRANSACTIONS - 1) {
+            return Err(RowFaultKind::TooManyTransactions);
+        }
+        add_to(&mut self.sessions, alloc, session, txn)
+    }
+
     /// The snapshot in which each named session has finished these transactions.
     pub fn new(
         parts: Vec<(Name, Vec<Txn>)>,

@@ -1,10 +1,9 @@
 use Rattle.std.proofs.Common.{◌≡◌, ◌≤◌, take, length, sum_by}
 use Rattle.tcc_txn.proofs.snapshot.has_too_many_transactions.Given as goal
-use Rattle.tcc_txn.specs.declared.limits.TheConstants.{MAX_TRANSACTIONS}
 
 -- so far there are not too many
 abbrev pub invariant-loop-part : goal.invariant-loop-part
 invariant-loop-part l = record {
   counted : l.total ≡ sum_by (λ part. length part.1.items) (take l.part-index l.parts);
-  few : l.total ≤ MAX_TRANSACTIONS;
+  few : l.total ≤ l.most;
 }

@@ -1,0 +1,261 @@
+-- One more transaction of a session among sorted parts.
+use Rattle.std.proofs.Common.{◌≡◌, ◌≢◌, ℕ, zero, suc, ◌+◌, ◌≤◌, ◌<◌, Bool, true, false, cond, not, ◌&&◌, T, List, [], ◌∷◌, ◌++◌, length, take, drop, get_or, set, sum_by, refl, ap, sym, ◌∙◌, subst, arith, Option, None, Some, Result, Ok, Err, length-append, nat_eq}
+use Rattle.std.specs.Prelude.{is_some, unwrap_or, OnOk, OnErr, IfErr}
+use Rattle.std.proofs.lemmas.Option.{none-some}
+use Rattle.std.proofs.Math.Seq.{map-set_same}
+use Rattle.std.specs.Cmp.Lexicographic.{pointwise, nat_list_eq_equiv}
+use Rattle.tcc_txn.proofs.Parts.{length-parts_of}
+use Rattle.std.proofs.lemmas.List.Sums.{sum_by-cons}
+use Rattle.std.specs.List.{insert}
+use Rattle.std.specs.FinMap.Entries.{below_all, by_order, find, is_sorted, put, length-put}
+use Rattle.std.specs.Cmp.Lexicographic.{nat_list_cmp_total}
+use Rattle.std.specs.Ordering.{is_lt, is_eq, ordering_reverse}
+use Rattle.std.specs.declared.cmp.Ordering.{Ordering}
+use Rattle.std.specs.declared.cmp.Ordering.TheVariants.{Less, Equal, Greater}
+use Rattle.std.specs.Global.{Vec}
+use Rattle.std.proofs.lemmas.Cmp.{tied_itself}
+use Rattle.std.proofs.lemmas.Map.Lookups.{exact_bytes}
+use Rattle.tcc_txn.specs.Snapshots.{parts_of}
+use Rattle.tcc_txn.specs.SnapshotStorage.{StandsAt, place_in}
+use Rattle.tcc_txn.specs.Transactions.{Transaction}
+use Rattle.tcc_txn.proofs.SortedParts.{name_cmp, same_names}
+
+both-parts : (a b : Bool) → T (a && b) → T a × T b
+both-parts true b p = (tt, p)
+both-parts false b p = absurd p
+
+less-if : (r : Ordering) → T (is_lt r) → r ≡ Less
+less-if Less p = refl
+less-if Equal p = absurd p
+less-if Greater p = absurd p
+
+less-true : (r : Ordering) → is_lt r ≡ true → r ≡ Less
+less-true Less p = refl
+less-true Equal p = cc
+less-true Greater p = cc
+
+-- a name below all names of a list is below each of them
+below-at : {X : Type 0} (x : List ℕ) (es : List (List ℕ × X)) (j : ℕ) (d : List ℕ × X) → T (below_all name_cmp x es) → j < length es
+    → name_cmp x (get_or es j d).0 ≡ Less
+below-at x [] j d below within = absurd (omega arith)
+below-at x (e ∷ es) zero d below within = less-if _ (both-parts _ _ below).0
+below-at x (e ∷ es) (suc j) d below within = below-at x es j d (both-parts _ _ below).1 (omega arith)
+
+-- in sorted parts those before a session come first
+pub sorted-before : {X : Type 0} (es : List (List ℕ × X)) (session : List ℕ) (i j : ℕ) (d : List ℕ × X) → T (is_sorted name_cmp es)
+    → i ≤ j → j < length es → is_lt (name_cmp (get_or es j d).0 session) ≡ true → is_lt (name_cmp (get_or es i d).0 session) ≡ true
+sorted-before [] session i j d sorted order within before = absurd (omega arith)
+sorted-before (e ∷ es) session zero zero d sorted order within before = before
+sorted-before (e ∷ es) session zero (suc j) d sorted order within before =
+    ap is_lt (nat_list_cmp_total.trans e.0 (get_or es j d).0 session (below-at e.0 es j d (both-parts _ _ sorted).0 (omega arith)) (less-true _ before))
+sorted-before (e ∷ es) session (suc i) zero d sorted order within before = absurd (omega arith)
+sorted-before (e ∷ es) session (suc i) (suc j) d sorted order within before =
+    sorted-before es session i j d (both-parts _ _ sorted).1 (omega arith) (omega arith) before
+
+-- the place behind all parts that stand before the session
+pub place_in-is : {X : Type 0} (session : List ℕ) (es : List (List ℕ × X)) (i : ℕ) → i ≤ length es
+    → ((k : ℕ) (d : List ℕ × X) → k < i → is_lt (name_cmp (get_or es k d).0 session) ≡ true)
+    → ((d : List ℕ × X) → i < length es → is_lt (name_cmp (get_or es i d).0 session) ≡ false) → place_in session es ≡ i
+place_in-is session [] i within before after = omega arith
+place_in-is session (e ∷ es) zero within before after = rw (after e (omega arith)) refl
+place_in-is session (e ∷ es) (suc i) within before after =
+    rw (before zero e (omega arith)) (ap suc (place_in-is session es i (omega arith) (λ k d less. before (suc k) d (omega arith)) (λ d less. after d (omega arith))))
+
+pub place_in-within : {X : Type 0} (session : List ℕ) (es : List (List ℕ × X)) → place_in session es ≤ length es
+place_in-within session [] = omega arith
+place_in-within session (e ∷ es) =
+    elim (is_lt (name_cmp e.0 session)) as (λ b. cond b (suc (place_in session es)) 0 ≤ suc (length es)) [
+      | true ↦ (let more = place_in-within session es in omega arith)
+      | false ↦ omega arith
+    ]
+
+-- a session that has a part: its part is written over, and is the one that is found
+pub put-present : {X : Type 0} (k : List ℕ) (v : X) (es : List (List ℕ × X)) (d : List ℕ × X) → StandsAt es k (place_in k es)
+    → (put name_cmp k v es ≡ set es (place_in k es) ((get_or es (place_in k es) d).0, v)) × (find name_cmp k es ≡ Some (get_or es (place_in k es) d).1)
+put-present k v [] d = λ stands. absurd (omega (arith, stands.0))
+put-present {X} k v (e ∷ es) d = by (name_cmp e.0 k) refl (nat_list_cmp_total.antisymm k e.0) (λ stands. put-present k v es d stands)
+  where
+    at : Ordering → ℕ
+    at r = cond (is_lt r) (suc (place_in k es)) 0
+
+    apart : Greater ≡ Equal → ⊥
+    apart e = cc
+
+    by : (r : Ordering) → name_cmp e.0 k ≡ r → name_cmp k e.0 ≡ ordering_reverse (name_cmp e.0 k)
+        → (StandsAt es k (place_in k es) → (put name_cmp k v es ≡ set es (place_in k es) ((get_or es (place_in k es) d).0, v)) × (find name_cmp k es ≡ Some (get_or es (place_in k es) d).1))
+        → StandsAt (e ∷ es) k (at r)
+        → (by_order (name_cmp k e.0) ((k, v) ∷ e ∷ es) ((e.0, v) ∷ es) (e ∷ put name_cmp k v es) ≡ set (e ∷ es) (at r) ((get_or (e ∷ es) (at r) d).0, v))
+        × (cond (is_eq (name_cmp k e.0)) (Some e.1) (find name_cmp k es) ≡ Some (get_or (e ∷ es) (at r) d).1)
+    by Less is turned more stands =
+        let after = more (omega (arith, stands.0), stands.1) in
+        let greater : name_cmp k e.0 ≡ Greater = turned ∙ ap ordering_reverse is in
+        (rw greater (ap (λ rest. e ∷ rest) after.0), rw greater after.1)
+    by Equal is turned more stands =
+        let equal : name_cmp k e.0 ≡ Equal = turned ∙ ap ordering_reverse is in
+        (rw equal refl, rw equal refl)
+    by Greater is turned more stands =
+        let tie : name_cmp e.0 k ≡ Equal = ap (λ name. name_cmp e.0 name) (sym (stands.1 d)) ∙ tied_itself nat_list_cmp_total e.0 in
+        absurd (apart (sym is ∙ tie))
+
+-- a session without a part: its part goes to its place
+pub put-absent : {X : Type 0} (k : List ℕ) (v : X) (es : List (List ℕ × X)) → (StandsAt es k (place_in k es) → ⊥)
+    → put name_cmp k v es ≡ insert es (place_in k es) (k, v)
+put-absent k v [] = λ other. refl
+put-absent {X} k v (e ∷ es) = by (name_cmp e.0 k) refl (nat_list_cmp_total.antisymm k e.0) (λ other. put-absent k v es other)
+  where
+    at : Ordering → ℕ
+    at r = cond (is_lt r) (suc (place_in k es)) 0
+
+    by : (r : Ordering) → name_cmp e.0 k ≡ r → name_cmp k e.0 ≡ ordering_reverse (name_cmp e.0 k)
+        → ((StandsAt es k (place_in k es) → ⊥) → put name_cmp k v es ≡ insert es (place_in k es) (k, v))
+        → (StandsAt (e ∷ es) k (at r) → ⊥)
+        → by_order (name_cmp k e.0) ((k, v) ∷ e ∷ es) ((e.0, v) ∷ es) (e ∷ put name_cmp k v es) ≡ insert (e ∷ es) (at r) (k, v)
+    by Less is turned more other =
+        let greater : name_cmp k e.0 ≡ Greater = turned ∙ ap ordering_reverse is in
+        rw greater (ap (λ rest. e ∷ rest) (more (λ stands. other (omega (arith, stands.0), stands.1))))
+    by Equal is turned more other = absurd (other (omega arith, λ d. exact_bytes e.0 k is))
+    by Greater is turned more other =
+        let less : name_cmp k e.0 ≡ Less = turned ∙ ap ordering_reverse is in
+        rw less refl
+
+none-if : {X : Type 0} (o : Option X) (n : ℕ) → n + 1 ≡ cond (is_some o) n (n + 1) → o ≡ None
+none-if None n e = refl
+none-if (Some x) n e = absurd (omega arith)
+
+-- and none is found
+pub find-absent : {X : Type 0} (k : List ℕ) (v : X) (es : List (List ℕ × X)) → T (is_sorted name_cmp es)
+    → length (put name_cmp k v es) ≡ length es + 1 → find name_cmp k es ≡ None
+find-absent k v es sorted longer = none-if (find name_cmp k es) (length es) (sym longer ∙ length-put name_cmp nat_list_cmp_total k v es sorted)
+
+pub length-insert : {X : Type 0} (es : List X) (i : ℕ) (x : X) → length (insert es i x) ≡ length es + 1
+length-insert [] zero x = refl
+length-insert [] (suc i) x = refl
+length-insert (e ∷ es) zero x = omega arith
+length-insert (e ∷ es) (suc i) x = let more = length-insert es i x in omega (arith, more)
+
+pub place_in-parts_of : (session : List ℕ) (es : List (List ℕ × Vec Transaction)) → place_in session (parts_of es) ≡ place_in session es
+place_in-parts_of session [] = refl
+place_in-parts_of session (e ∷ es) = ap (λ n. cond (is_lt (name_cmp e.0 session)) (suc n) 0) (place_in-parts_of session es)
+
+pub parts_of-set : (es : List (List ℕ × Vec Transaction)) (i : ℕ) (name : List ℕ) (v : Vec Transaction)
+    → parts_of (set es i (name, v)) ≡ set (parts_of es) i (name, v.items)
+parts_of-set [] i name v = refl
+parts_of-set (e ∷ es) zero name v = refl
+parts_of-set (e ∷ es) (suc i) name v = ap (λ rest. (e.0, e.1.items) ∷ rest) (parts_of-set es i name v)
+
+pub parts_of-insert : (es : List (List ℕ × Vec Transaction)) (i : ℕ) (name : List ℕ) (v : Vec Transaction)
+    → parts_of (insert es i (name, v)) ≡ insert (parts_of es) i (name, v.items)
+parts_of-insert [] zero name v = refl
+parts_of-insert [] (suc i) name v = refl
+parts_of-insert (e ∷ es) zero name v = refl
+parts_of-insert (e ∷ es) (suc i) name v = ap (λ rest. (e.0, e.1.items) ∷ rest) (parts_of-insert es i name v)
+
+-- one more transaction among those of all sessions
+pub count-put : (k : List ℕ) (txn : Transaction) (es : List (List ℕ × List Transaction)) → T (is_sorted name_cmp es)
+    → sum_by (λ part. length part.1) (put name_cmp k (unwrap_or (find name_cmp k es) [] ++ txn ∷ []) es) ≡ sum_by (λ part. length part.1) es + 1
+count-put k txn [] sorted = refl
+count-put k txn (e ∷ es) sorted = by (name_cmp k e.0) refl (λ rest. count-put k txn es rest)
+  where
+    size : List ℕ × List Transaction → ℕ
+    size part = length part.1
+
+    none : name_cmp k e.0 ≡ Less → find name_cmp k (e ∷ es) ≡ None
+    none less = find-absent k [] (e ∷ es) sorted (rw less (omega arith))
+
+    list : List Transaction
+    list = unwrap_or (find name_cmp k es) [] ++ txn ∷ []
+
+    put-later : (v : List Transaction) → name_cmp k e.0 ≡ Greater → put name_cmp k v (e ∷ es) ≡ e ∷ put name_cmp k v es
+    put-later v greater = rw greater refl
+
+    find-later : name_cmp k e.0 ≡ Greater → find name_cmp k (e ∷ es) ≡ find name_cmp k es
+    find-later greater = rw greater refl
+
+    later : name_cmp k e.0 ≡ Greater → put name_cmp k (unwrap_or (find name_cmp k (e ∷ es)) [] ++ txn ∷ []) (e ∷ es) ≡ e ∷ put name_cmp k list es
+    later greater = put-later (unwrap_or (find name_cmp k (e ∷ es)) [] ++ txn ∷ []) greater
+        ∙ ap (λ found. e ∷ put name_cmp k (unwrap_or found [] ++ txn ∷ []) es) (find-later greater)
+
+    by : (r : Ordering) → name_cmp k e.0 ≡ r
+        → (T (is_sorted name_cmp es) → sum_by size (put name_cmp k list es) ≡ sum_by size es + 1)
+        → sum_by size (put name_cmp k (unwrap_or (find name_cmp k (e ∷ es)) [] ++ txn ∷ []) (e ∷ es)) ≡ sum_by size (e ∷ es) + 1
+    by Less is more =
+        rw (none is) (rw is (sum_by-cons size (k, txn ∷ []) (e ∷ es) ∙ omega arith))
+    by Equal is more =
+        rw is (sum_by-cons size (e.0, e.1 ++ txn ∷ []) es ∙ omega (arith, length-append e.1 (txn ∷ []), sum_by-cons size e es))
+    by Greater is more =
+        let after = more (both-parts _ _ sorted).1 in
+        ap (sum_by size) (later is) ∙ (sum_by-cons size e (put name_cmp k list es) ∙ omega (arith, after, sum_by-cons size e es))
+
+get_or-parts_of : (es : List (List ℕ × Vec Transaction)) (at : ℕ) (part : List ℕ × Vec Transaction) (d : List ℕ × List Transaction) → at < length es
+    → part ≡ get_or es at part → get_or (parts_of es) at d ≡ (part.0, part.1.items)
+get_or-parts_of [] at part d within is = absurd (omega arith)
+get_or-parts_of (e ∷ es) zero part d within is = ap (λ p. (p.0, p.1.items)) (sym is)
+get_or-parts_of (e ∷ es) (suc at) part d within is = get_or-parts_of es at part d (omega arith) is
+
+-- the part that was looked at is the session's, or is not
+pub stands-here : (es : List (List ℕ × Vec Transaction)) (at : ℕ) (part : List ℕ × Vec Transaction) (session : List ℕ) → at < length es
+    → part ≡ get_or es at part → pointwise nat_eq part.0 session ≡ true → StandsAt (parts_of es) session at
+stands-here es at part session within is same =
+    (omega (arith, within, length-parts_of es), λ d. ap (λ p. p.0) (get_or-parts_of es at part d within is) ∙ same_names part.0 session same)
+
+pub stands-not-here : (es : List (List ℕ × Vec Transaction)) (at : ℕ) (part : List ℕ × Vec Transaction) (session : List ℕ) → at < length es
+    → part ≡ get_or es at part → pointwise nat_eq part.0 session ≡ false → StandsAt (parts_of es) session at → ⊥
+stands-not-here es at part session within is other stands =
+    let here : part.0 ≡ session = ap (λ p. p.0) (sym (get_or-parts_of es at part (part.0, part.1.items) within is)) ∙ stands.1 (part.0, part.1.items) in
+    let same : pointwise nat_eq part.0 session ≡ true = ap (pointwise nat_eq part.0) (sym here) ∙ nat_list_eq_equiv.refl part.0 in
+    cc
+
+module _ (es : List (List ℕ × Vec Transaction)) (k : List ℕ) (at : ℕ) where
+  -- one more transaction in the session's part
+  pub written : (txn : Transaction) (part : List ℕ × Vec Transaction) (new : Vec Transaction) → at ≡ place_in k (parts_of es) → StandsAt (parts_of es) k at
+      → part ≡ get_or es at part → new.items ≡ part.1.items ++ txn ∷ []
+      → parts_of (set es at (part.0, new)) ≡ put name_cmp k (unwrap_or (find name_cmp k (parts_of es)) [] ++ txn ∷ []) (parts_of es)
+  written txn part new place stands is grown =
+      let d : List ℕ × List Transaction = (part.0, part.1.items) in
+      let here : get_or (parts_of es) at d ≡ d = get_or-parts_of es at part d (omega (arith, stands.0, length-parts_of es)) is in
+      let present = put-present k (unwrap_or (find name_cmp k (parts_of es)) [] ++ txn ∷ []) (parts_of es) d (subst (StandsAt (parts_of es) k) place stands) in
+      let found : find name_cmp k (parts_of es) ≡ Some part.1.items = present.1 ∙ ap (λ i. Some (get_or (parts_of es) i d).1) (sym place) ∙ ap (λ p. Some p.1) here in
+      parts_of-set es at part.0 new
+      ∙ ap (λ items. set (parts_of es) at (part.0, items)) (grown ∙ ap (λ o. unwrap_or o [] ++ txn ∷ []) (sym found))
+      ∙ ap (λ p. set (parts_of es) at (p.0, unwrap_or (find name_cmp k (parts_of es)) [] ++ txn ∷ [])) (sym here)
+      ∙ ap (λ i. set (parts_of es) i ((get_or (parts_of es) i d).0, unwrap_or (find name_cmp k (parts_of es)) [] ++ txn ∷ [])) place
+      ∙ sym present.0
+
+  -- the part is as it was
+  pub unwritten : (part : List ℕ × Vec Transaction) (new : Vec Transaction) → part ≡ get_or es at part → new.items ≡ part.1.items
+      → parts_of (set es at (part.0, new)) ≡ parts_of es
+  unwritten part new is same =
+      map-set_same (λ p. (p.0, p.1.items)) es at (part.0, new) part (ap (λ items. (part.0, items)) same ∙ ap (λ p. (p.0, p.1.items)) is)
+
+  pub found-here : at ≡ place_in k (parts_of es) → StandsAt (parts_of es) k at → find name_cmp k (parts_of es) ≡ None → ⊥
+  found-here place stands none =
+      let present = put-present k [] (parts_of es) ([], []) (subst (StandsAt (parts_of es) k) place stands) in
+      none-some _ (sym none ∙ present.1)
+
+  -- no part is the session's
+  pub missing : at ≡ place_in k (parts_of es) → T (is_sorted name_cmp (parts_of es)) → (StandsAt (parts_of es) k at → ⊥) → find name_cmp k (parts_of es) ≡ None
+  missing place sorted other =
+      let absent = put-absent k [] (parts_of es) (λ stands. other (subst (StandsAt (parts_of es) k) (sym place) stands)) in
+      find-absent k [] (parts_of es) sorted (ap length absent ∙ length-insert (parts_of es) (place_in k (parts_of es)) (k, []))
+
+  pub inserted : (txn : Transaction) → at ≡ place_in k (parts_of es) → T (is_sorted name_cmp (parts_of es)) → (StandsAt (parts_of es) k at → ⊥)
+      → insert (parts_of es) at (k, txn ∷ []) ≡ put name_cmp k (unwrap_or (find name_cmp k (parts_of es)) [] ++ txn ∷ []) (parts_of es)
+  inserted txn place sorted other =
+      rw (missing place sorted other) (ap (λ i. insert (parts_of es) i (k, txn ∷ [])) place
+      ∙ sym (put-absent k (txn ∷ []) (parts_of es) (λ stands. other (subst (StandsAt (parts_of es) k) (sym place) stands))))
+
+pub ok-then : {A E : Type 0} {P Q : Type 0} (r : Result A E) → (P → Q) → OnOk r P → OnOk r Q
+ok-then (Ok a) f p = f p
+ok-then (Err e) f p = tt
+
+pub err-then : {A E : Type 0} {P Q : Type 0} (r : Result A E) → (P → Q) → OnErr r P → OnErr r Q
+err-then (Ok a) f p = tt
+err-then (Err e) f p = f p
+
+pub if-err-then : {A E : Type 0} {P Q : E → Type 0} (r : Result A E) → ((e : E) → P e → Q e) → IfErr r P → IfErr r Q
+if-err-then (Ok a) f p = tt
+if-err-then (Err e) f p = f e p
+
+pub ok-always : {A E : Type 0} {P : Type 0} (r : Result A E) → P → OnOk r P
+ok-always (Ok a) p = p
+ok-always (Err e) p = tt

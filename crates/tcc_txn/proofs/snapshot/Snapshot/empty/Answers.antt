@@ -1,0 +1,5 @@
+use Rattle.tcc_txn.proofs.GrownSnapshot.{shown-none}
+use Rattle.tcc_txn.proofs.snapshot.Snapshot.empty.Goals as goal
+
+pub returns : goal.returns
+returns c = shown-none c.new.result.items c.new.ensures.items
