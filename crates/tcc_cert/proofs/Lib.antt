@@ -7,7 +7,7 @@ pub mod LinesBack
 pub mod FormsBack
 pub mod LinksBack
 pub mod ClaimsBack
-pub mod HeldFacts
+pub mod WindowFacts
 pub mod InputFacts
 pub mod WordFacts
 pub mod OnwardFacts
