@@ -14,3 +14,4 @@ pub mod OnwardFacts
 pub mod StepFacts
 pub mod OneText
 pub mod OneClaim
+pub mod Ends

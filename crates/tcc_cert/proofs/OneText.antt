@@ -5,7 +5,7 @@ use Rattle.std.specs.Prelude.{is_some}
 use Rattle.std.specs.List.{AllByRecursion, join_with_byte}
 use Rattle.std.specs.Str.{all_ascii_digits}
 use Rattle.std.specs.Str.Parse.{digits_value}
-use Rattle.std.proofs.lemmas.Bool.{eqb-true}
+use Rattle.std.proofs.lemmas.Bool.{eqb-true, and_parts}
 use Rattle.std.proofs.lemmas.Bool.Decides.{nat_tests}
 use Rattle.std.proofs.lemmas.Fmt.{decimal-digits_value}
 use Rattle.std.proofs.lemmas.List.{length-take-le, length-map}
@@ -104,16 +104,12 @@ key word name e =
 
 -- ---- words
 
-both-parts : (a b : Bool) → (a && b) ≡ true → (a ≡ true) × (b ≡ true)
-both-parts true b e = (refl, e)
-both-parts false b e = absurd cc
-
 pub same-bytes : (a b : List ℕ) → same a b ≡ true → a ≡ b
 same-bytes [] [] e = refl
 same-bytes [] (y ∷ b) e = absurd cc
 same-bytes (x ∷ a) [] e = absurd cc
 same-bytes (x ∷ a) (y ∷ b) e =
-    let parts = both-parts (eqb x y) (same a b) e in
+    let parts = and_parts (eqb x y) (same a b) e in
     let first = eqb-true x y parts.0 in
     let rest = same-bytes a b parts.1 in
     cc
