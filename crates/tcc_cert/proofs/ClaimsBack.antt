@@ -1,5 +1,6 @@
 -- The text of every certificate that has one is read as that certificate.
 use Rattle.std.proofs.Common.{◌≡◌, ℕ, ◌+◌, ◌<◌, ◌≤◌, List, [], ◌∷◌, ◌++◌, length, flat_map, All, Ok, refl, ap, subst, ◌∙◌, arith, codes, decimal, lit≤, lit<}
+use Rattle.tcc_cert.specs.declared.version_1.TheConstants.{V1_MAX_COST, V1_MAX_COUNT, V1_MAX_LINE_BYTES, V1_MAX_NUMBER, V1_MAX_SESSIONS}
 use Rattle.std.specs.List.{AllByRecursion}
 use Rattle.std.proofs.lemmas.Grind.{flat_map-append}
 use Rattle.std.proofs.lemmas.List.{length-append}
@@ -11,8 +12,8 @@ use Rattle.tcc_cert.specs.declared.certificate.Certificate.TheVariants as claim
 use Rattle.tcc_cert.specs.Tables.{row_of}
 use Rattle.tcc_cert.specs.CycleRules.{CycleClaim}
 use Rattle.tcc_cert.specs.OrderRules.{OrderClaim}
-use Rattle.tcc_cert.specs.Texts.{Words, words_text, line_text, lines_text, numbers_words, table_lines, link_lines, header_words, claim_lines, certificate_text, most_cost, IsNumber, IsCount, HasTableText, HasOrderText, HasCycleText, HasText, HasLinkText}
-use Rattle.tcc_cert.specs.Reading.{words, repeated, next, header_line, ended, numbers_line, word_line, sizes_line, link_at, table_at, order_at, cycle_at, certificate_of}
+use Rattle.tcc_cert.specs.Texts.{Words, words_text, line_text, lines_text, numbers_words, table_lines, link_lines, header_words, claim_lines, certificate_text, IsNumber, IsCount, HasTableText, HasOrderText, HasCycleText, HasText, HasLinkText}
+use Rattle.tcc_cert.specs.Reading.{words, repeated, next, header_line, ended, numbers_line, word_line, sizes_line, link_at, table_at, order_at, cycle_at, certificate_read}
 use Rattle.tcc_cert.specs.declared.reading.forms.Sizes.TheVariants.{Order, Cycle}
 use Rattle.tcc_cert.proofs.ReadingFacts.{IsAbove, later, decimal-above, number_of-decimal}
 use Rattle.tcc_cert.proofs.Items.{flat_map-map, flat_map-flat_map}
@@ -26,7 +27,7 @@ each_two : {X : Type 0} {P Q R : X → Type 0} (xs : List X) → ((x : X) → P 
 each_two [] f p q = tt
 each_two (x ∷ xs) f p q = (f x p.0 q.0, each_two xs f p.1 q.1)
 
-table-at : (rows columns most : ℕ) (table : List (List ℕ)) → most ≤ most_cost → columns ≤ 1024 → HasTableText rows columns most table → (n : ℕ) (rest : List ℕ)
+table-at : (rows columns most : ℕ) (table : List (List ℕ)) → most ≤ V1_MAX_COST → columns ≤ V1_MAX_COUNT → HasTableText rows columns most table → (n : ℕ) (rest : List ℕ)
     → (end : ℕ) × (table_at rows columns most (at n (lines_text (table_lines table) ++ rest)) ≡ Ok (table, at end rest))
 table-at rows columns most table le few h n rest =
     let wide = recursion_from_All (λ row. length row ≡ columns) table h.size.wide in
@@ -73,10 +74,10 @@ order-back k h n =
     let count = length k.order in
     let sessions = length (row_of k.clocks 0) in
     let last = line_text (codes "end" ∷ []) ++ [] in
-    let row = row-back count 1023 k.order (lit≤ tt) h.count.limit refl (recursion_from_All IsNumber k.order h.numbers) in
-    let order = words-line (numbers_line count 1023) n (numbers_words k.order) (line_text (codes "clocks" ∷ []) ++ (lines_text (table_lines k.clocks) ++ last)) row.are row.short k.order row.back in
+    let row = row-back count V1_MAX_NUMBER k.order (lit≤ tt) h.count.limit refl (recursion_from_All IsNumber k.order h.numbers) in
+    let order = words-line (numbers_line count V1_MAX_NUMBER) n (numbers_words k.order) (line_text (codes "clocks" ∷ []) ++ (lines_text (table_lines k.clocks) ++ last)) row.are row.short k.order row.back in
     let mark = clocks-at (n + 1) (lines_text (table_lines k.clocks) ++ last) in
-    let clocks = table-at count sessions 1023 k.clocks (lit≤ tt) (omega (arith, h.sessions)) h.clocks (n + 1 + 1) last in
+    let clocks = table-at count sessions V1_MAX_NUMBER k.clocks (lit≤ tt) (omega (arith, h.sessions)) h.clocks (n + 1 + 1) last in
     let end = end-at clocks.0 [] in (
       clocks.0 + 1,
       ap (λ bytes. order_at count sessions (at n bytes)) (order_text (numbers_words k.order) k.clocks)
@@ -113,9 +114,9 @@ cycle-back k h n =
     let near_lines = lines_text (table_lines k.near) ++ (line_text (codes "far" ∷ []) ++ far_lines) in
     let links = links-at k.links h.links n (line_text (codes "near" ∷ []) ++ near_lines) in
     let near_mark = near-at links.0 near_lines in
-    let near = table-at count count most_cost k.near (lit≤ tt) h.count.limit h.near (links.0 + 1) (line_text (codes "far" ∷ []) ++ far_lines) in
+    let near = table-at count count V1_MAX_COST k.near (lit≤ tt) h.count.limit h.near (links.0 + 1) (line_text (codes "far" ∷ []) ++ far_lines) in
     let far_mark = far-at near.0 far_lines in
-    let far = table-at count count most_cost k.far (lit≤ tt) h.count.limit h.far (near.0 + 1) last in
+    let far = table-at count count V1_MAX_COST k.far (lit≤ tt) h.count.limit h.far (near.0 + 1) last in
     let end = end-at far.0 [] in (
       far.0 + 1,
       ap (λ bytes. cycle_at count (length k.links) k.least (at n bytes)) (cycle_text k.links k.near k.far)
@@ -129,8 +130,8 @@ cycle-back k h n =
 
 -- ---- certificates
 
-sizes-short : (word : List ℕ) (a b c : ℕ) → length word ≤ 5 → a ≤ most_cost → b ≤ most_cost → c ≤ most_cost
-    → (length (words_text (word ∷ decimal a ∷ decimal b ∷ [])) ≤ 8191) × (length (words_text (word ∷ decimal a ∷ decimal b ∷ decimal c ∷ [])) ≤ 8191)
+sizes-short : (word : List ℕ) (a b c : ℕ) → length word ≤ 5 → a ≤ V1_MAX_COST → b ≤ V1_MAX_COST → c ≤ V1_MAX_COST
+    → (length (words_text (word ∷ decimal a ∷ decimal b ∷ [])) ≤ V1_MAX_LINE_BYTES) × (length (words_text (word ∷ decimal a ∷ decimal b ∷ decimal c ∷ [])) ≤ V1_MAX_LINE_BYTES)
 sizes-short word a b c hw ha hb hc =
     let la = length-decimal-le 7 a (lit< tt) (omega (arith, ha)) (omega (arith, ha)) in
     let lb = length-decimal-le 7 b (lit< tt) (omega (arith, hb)) (omega (arith, hb)) in
@@ -149,10 +150,10 @@ sizes-short word a b c hw ha hb hc =
       ),
     )
 
-numeral : (n : ℕ) → n ≤ most_cost → (0 < length (decimal n)) × IsAbove 32 (decimal n)
+numeral : (n : ℕ) → n ≤ V1_MAX_COST → (0 < length (decimal n)) × IsAbove 32 (decimal n)
 numeral n h = (decimal_nonempty n (omega (arith, h)), decimal-above n (omega (arith, h)))
 
-order_sizes-at : (n s at_line : ℕ) (rest : List ℕ) → IsCount n → s ≤ 64
+order_sizes-at : (n s at_line : ℕ) (rest : List ℕ) → IsCount n → s ≤ V1_MAX_SESSIONS
     → words sizes_line (at at_line (line_text (codes "order" ∷ decimal n ∷ decimal s ∷ []) ++ rest)) ≡ Ok (Order n s, at (at_line + 1) rest)
 order_sizes-at n s at_line rest hn hs =
     let first = numeral n (omega (arith, hn.limit)) in
@@ -161,9 +162,9 @@ order_sizes-at n s at_line rest hn hs =
     (lit< tt, (lit< tt, (lit< tt, (lit< tt, (lit< tt, (lit< tt, tt))))), (first.0, first.1, (second.0, second.1, tt)))
     (sizes-short (codes "order") n s 0 (lit≤ tt) (omega (arith, hn.limit)) (omega (arith, hs)) (lit≤ tt)).0
     (Order n s)
-    (rw (number_of-decimal 1 1024 n hn.some hn.limit (omega (arith, hn.limit)), number_of-decimal 0 64 s (omega arith) hs (omega (arith, hs))) refl)
+    (rw (number_of-decimal 1 V1_MAX_COUNT n hn.some hn.limit (omega (arith, hn.limit)), number_of-decimal 0 V1_MAX_SESSIONS s (omega arith) hs (omega (arith, hs))) refl)
 
-cycle_sizes-at : (n m l at_line : ℕ) (rest : List ℕ) → IsCount n → IsCount m → l ≤ most_cost
+cycle_sizes-at : (n m l at_line : ℕ) (rest : List ℕ) → IsCount n → IsCount m → l ≤ V1_MAX_COST
     → words sizes_line (at at_line (line_text (codes "cycle" ∷ decimal n ∷ decimal m ∷ decimal l ∷ []) ++ rest)) ≡ Ok (Cycle n m l, at (at_line + 1) rest)
 cycle_sizes-at n m l at_line rest hn hm hl =
     let first = numeral n (omega (arith, hn.limit)) in
@@ -173,7 +174,7 @@ cycle_sizes-at n m l at_line rest hn hm hl =
     (lit< tt, (lit< tt, (lit< tt, (lit< tt, (lit< tt, (lit< tt, tt))))), (first.0, first.1, (second.0, second.1, (third.0, third.1, tt))))
     (sizes-short (codes "cycle") n m l (lit≤ tt) (omega (arith, hn.limit)) (omega (arith, hm.limit)) hl).1
     (Cycle n m l)
-    (rw (number_of-decimal 1 1024 n hn.some hn.limit (omega (arith, hn.limit)), number_of-decimal 1 1024 m hm.some hm.limit (omega (arith, hm.limit)), number_of-decimal 0 most_cost l (omega arith) hl (omega (arith, hl))) refl)
+    (rw (number_of-decimal 1 V1_MAX_COUNT n hn.some hn.limit (omega (arith, hn.limit)), number_of-decimal 1 V1_MAX_COUNT m hm.some hm.limit (omega (arith, hm.limit)), number_of-decimal 0 V1_MAX_COST l (omega arith) hl (omega (arith, hl))) refl)
 
 header-at : (rest : List ℕ) → next header_line (at 1 (line_text header_words ++ rest)) ≡ Ok (tt, at 2 rest)
 header-at rest =
@@ -181,7 +182,7 @@ header-at rest =
     (lit< tt, (lit< tt, (lit< tt, (lit< tt, (lit< tt, (lit< tt, (lit< tt, (lit< tt, (lit< tt, (lit< tt, (lit< tt, (lit< tt, (lit< tt, (lit< tt, (lit< tt, (lit< tt, (lit< tt, tt))))))))))))))))) (lit≤ tt)
 
 -- what has a text is read from it
-pub text-back : (c : Certificate) → HasText c → certificate_of (certificate_text c) ≡ Ok c
+pub text-back : (c : Certificate) → HasText c → certificate_read (certificate_text c) ≡ Ok c
 text-back (claim.Order order clocks) h =
     let k : OrderClaim = record { order = order; clocks = clocks } in
     let body = lines_text (numbers_words order ∷ (codes "clocks" ∷ []) ∷ (table_lines clocks ++ (codes "end" ∷ []) ∷ [])) in

@@ -1,11 +1,12 @@
 -- Each line of a certificate's text is read as what it was written of.
 use Rattle.std.proofs.Common.{◌≡◌, ℕ, ◌*◌, ◌<◌, ◌≤◌, ◌^◌, true, eqb, List, [], ◌∷◌, length, Ok, refl, arith, decimal, lit≤, lit<}
+use Rattle.tcc_cert.specs.declared.version_1.TheConstants.{V1_MAX_COST, V1_MAX_COUNT, V1_MAX_LINE_BYTES, V1_MAX_NUMBER}
 use Rattle.std.specs.List.{AllByRecursion}
 use Rattle.std.proofs.lemmas.Bool.Decides.{nat_tests}
 use Rattle.std.proofs.lemmas.List.{length-append, length-map}
 use Rattle.std.proofs.lemmas.Fmt.{length-decimal-le, decimal_nonempty}
 use Rattle.tcc_graph.specs.declared.step.Step.TheVariants as step
-use Rattle.tcc_cert.specs.Texts.{words_text, numbers_words, step_words, most_cost, IsNumber, HasStepText}
+use Rattle.tcc_cert.specs.Texts.{words_text, numbers_words, step_words, IsNumber, HasStepText}
 use Rattle.tcc_cert.specs.Reading.{numbers_of, numbers_line, step_line}
 use Rattle.tcc_cert.proofs.ReadingFacts.{IsAbove, AreWords, later, decimal-above, number_of-decimal}
 use Rattle.tcc_cert.proofs.LinesBack.{IsReadBack}
@@ -27,12 +28,12 @@ numbers-back most (n ∷ numbers) small all =
     rw (number_of-decimal 0 most n (omega arith) all.0 (omega (arith, all.0)), numbers-back most numbers small all.1) refl
 
 -- numbers of at most seven digits, each after a space
-later-short : (numbers : List ℕ) → AreAtMost most_cost numbers → length (later (numbers_words numbers)) ≤ 8 * length numbers
+later-short : (numbers : List ℕ) → AreAtMost V1_MAX_COST numbers → length (later (numbers_words numbers)) ≤ 8 * length numbers
 later-short [] all = lit≤ tt
 later-short (n ∷ numbers) all =
     omega (arith, length-append (decimal n) (later (numbers_words numbers)), length-decimal-le 7 n (lit< tt) (omega (arith, all.0)) (omega (arith, all.0)), later-short numbers all.1)
 
-numbers-short : (numbers : List ℕ) → AreAtMost most_cost numbers → length numbers ≤ 1024 → length (words_text (numbers_words numbers)) ≤ 8191
+numbers-short : (numbers : List ℕ) → AreAtMost V1_MAX_COST numbers → length numbers ≤ V1_MAX_COUNT → length (words_text (numbers_words numbers)) ≤ V1_MAX_LINE_BYTES
 numbers-short [] all few = lit≤ tt
 numbers-short (n ∷ numbers) all few =
     omega (arith, length-append (decimal n) (later (numbers_words numbers)), length-decimal-le 7 n (lit< tt) (omega (arith, all.0)) (omega (arith, all.0)), later-short numbers all.1)
@@ -42,11 +43,11 @@ at_most-less most more [] le all = tt
 at_most-less most more (n ∷ numbers) le all = (omega (arith, all.0), at_most-less most more numbers le all.1)
 
 -- a row of a table
-pub row-back : (columns most : ℕ) (row : List ℕ) → most ≤ most_cost → columns ≤ 1024 → length row ≡ columns → AreAtMost most row
+pub row-back : (columns most : ℕ) (row : List ℕ) → most ≤ V1_MAX_COST → columns ≤ V1_MAX_COUNT → length row ≡ columns → AreAtMost most row
     → IsReadBack (numbers_line columns most) numbers_words row
 row-back columns most row le few long all = record {
   are = numbers-words most row (omega (arith, le)) all;
-  short = numbers-short row (at_most-less most most_cost row le all) (omega arith);
+  short = numbers-short row (at_most-less most V1_MAX_COST row le all) (omega arith);
   back =
       let same : eqb (length (numbers_words row)) columns ≡ true = grind (arith, nat_tests, length-map row decimal) in
       rw same (numbers-back most row (omega (arith, le)) all);
@@ -71,5 +72,5 @@ pub session-back : (u v : ℕ) → HasStepText (step.Session u v) → IsReadBack
 session-back u v h = record {
   are = (lit< tt, (lit< tt, tt), numbers-two u v h.0 h.1);
   short = omega (arith, length-append (decimal u) (later (decimal v ∷ [])), length-append (decimal v) [], four_digits u h.0, four_digits v h.1);
-  back = rw (number_of-decimal 0 1023 u (omega arith) h.0 (omega (arith, h.0)), number_of-decimal 0 1023 v (omega arith) h.1 (omega (arith, h.1))) refl;
+  back = rw (number_of-decimal 0 V1_MAX_NUMBER u (omega arith) h.0 (omega (arith, h.0)), number_of-decimal 0 V1_MAX_NUMBER v (omega arith) h.1 (omega (arith, h.1))) refl;
 }

@@ -1,5 +1,7 @@
 -- Lines among the bytes that wait and those that are still to come.
 use Rattle.std.proofs.Common.{◌≡◌, ℕ, ◌+◌, ◌-◌, ◌<◌, ◌≤◌, Bool, true, false, not, cond, eqb, ltb, List, [], ◌∷◌, ◌++◌, length, take, drop, Option, None, Some, Ok, Err, refl, sym, ap, ◌∙◌, arith, append_assoc, append-nil, length-append, take-append-drop, inl, inr}
+use Rattle.tcc_cert.specs.declared.version_1.TheConstants.{V1_MAX_LINE_BYTES}
+use Rattle.tcc_cert.specs.declared.reading.window.TheConstants.{WINDOW_BYTES}
 use Rattle.std.specs.Prelude.{position}
 use Rattle.std.specs.Io.KnownBytes.{Consumes, IsAtEnd, prepend_known}
 use Rattle.std.proofs.lemmas.Bool.{cases_lt, false≢true}
@@ -90,23 +92,23 @@ passed-front (Some xs) held bytes n within known =
 
 -- ---- the next line
 
-pub line-found : (held rest : List ℕ) → line_length held < length held → length held ≤ 8192 → line_of (held ++ rest) ≡ Ok (take (line_length held) held)
+pub line-found : (held rest : List ℕ) → line_length held < length held → length held ≤ WINDOW_BYTES → line_of (held ++ rest) ≡ Ok (take (line_length held) held)
 line-found held rest lt fits =
-    let within : ltb 8191 (line_length held) ≡ false = grind (arith, nat_tests) in
+    let within : ltb V1_MAX_LINE_BYTES (line_length held) ≡ false = grind (arith, nat_tests) in
     let there : ltb (line_length held) (length (held ++ rest)) ≡ true = grind (arith, nat_tests, length-append held rest) in
     rw (ended-within held rest lt, within, there) (ap Ok (take-append-le (line_length held) held rest (omega arith)))
 
-pub line-too-long : (held rest : List ℕ) → line_length held ≡ length held → 8192 ≤ length held → line_of (held ++ rest) ≡ Err TooLarge
+pub line-too-long : (held rest : List ℕ) → line_length held ≡ length held → WINDOW_BYTES ≤ length held → line_of (held ++ rest) ≡ Err TooLarge
 line-too-long held rest none full =
-    let over : ltb 8191 (length held + line_length rest) ≡ true = grind (arith, nat_tests) in
+    let over : ltb V1_MAX_LINE_BYTES (length held + line_length rest) ≡ true = grind (arith, nat_tests) in
     rw (unbroken held rest none, over) refl
 
-pub line-cut : (held more : List ℕ) → length more ≡ 0 → line_length held ≡ length held → length held < 8192 → line_of (held ++ more) ≡ Err Truncated
+pub line-cut : (held more : List ℕ) → length more ≡ 0 → line_length held ≡ length held → length held < WINDOW_BYTES → line_of (held ++ more) ≡ Err Truncated
 line-cut held [] end none short =
-    let within : ltb 8191 (length held) ≡ false = grind (arith, nat_tests) in
+    let within : ltb V1_MAX_LINE_BYTES (length held) ≡ false = grind (arith, nat_tests) in
     let last : ltb (length held) (length held) ≡ false = grind (arith, nat_tests) in
     ap line_of (append-nil held) ∙ rw (none, within, last) refl
 line-cut held (byte ∷ more) end none short = absurd (omega arith)
 
-pub below_full : (full : Bool) (n : ℕ) → full ≡ false → (8192 ≤ n → full ≡ true) → n < 8192
-below_full full n room if_full = elim (cases_lt n 8192) [ inl lt ↦ lt | inr le ↦ absurd (false≢true (sym room ∙ if_full le)) ]
+pub below_full : (full : Bool) (n : ℕ) → full ≡ false → (WINDOW_BYTES ≤ n → full ≡ true) → n < WINDOW_BYTES
+below_full full n room if_full = elim (cases_lt n WINDOW_BYTES) [ inl lt ↦ lt | inr le ↦ absurd (false≢true (sym room ∙ if_full le)) ]

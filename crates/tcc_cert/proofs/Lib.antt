@@ -7,10 +7,11 @@ pub mod LinesBack
 pub mod FormsBack
 pub mod LinksBack
 pub mod ClaimsBack
-pub mod HeldFacts
+pub mod WindowFacts
 pub mod InputFacts
 pub mod WordFacts
 pub mod OnwardFacts
 pub mod StepFacts
 pub mod OneText
 pub mod OneClaim
+pub mod Ends

@@ -1,5 +1,6 @@
 -- Lines are read one after the other as they were written.
 use Rattle.std.proofs.Common.{◌≡◌, ℕ, ◌+◌, ◌≤◌, List, [], ◌∷◌, ◌++◌, length, drop, flat_map, Result, Ok, refl, sym, ap, ◌∙◌, append_assoc, lit≤}
+use Rattle.tcc_cert.specs.declared.version_1.TheConstants.{V1_MAX_LINE_BYTES}
 use Rattle.std.specs.List.{AllByRecursion}
 use Rattle.std.proofs.lemmas.List.{drop_at, length-append}
 use Rattle.tcc_cert.specs.declared.fault.CertFaultKind.{CertFaultKind}
@@ -20,7 +21,7 @@ behind-line line rest =
     ap (drop (length line + 1)) (sym (append_assoc line (10 ∷ []) rest))
     ∙ drop_at (line ++ 10 ∷ []) rest (length line + 1) (length-append line (10 ∷ []))
 
-pub next-line : {X : Type 0} (form : List ℕ → Result X CertFaultKind) (n : ℕ) (line rest : List ℕ) → IsAbove 31 line → length line ≤ 8191
+pub next-line : {X : Type 0} (form : List ℕ → Result X CertFaultKind) (n : ℕ) (line rest : List ℕ) → IsAbove 31 line → length line ≤ V1_MAX_LINE_BYTES
     → next form (at n (line ++ 10 ∷ rest)) ≡ judged (at n (line ++ 10 ∷ rest)) (at (n + 1) rest) (form line)
 next-line form n line rest above short =
     rw (line_of-line line rest above short)
@@ -34,7 +35,7 @@ words-above : (words : Words) → AreWords words → IsAbove 31 (words_text word
 words-above [] are = tt
 words-above (word ∷ words) are = IsAbove-append 31 word (later words) (IsAbove-less 32 31 word (lit≤ tt) are.1) (later-above words are.2)
 
-pub words-line : {X : Type 0} (form : Words → Result X CertFaultKind) (n : ℕ) (line : Words) (rest : List ℕ) → AreWords line → length (words_text line) ≤ 8191 → (x : X) → form line ≡ Ok x
+pub words-line : {X : Type 0} (form : Words → Result X CertFaultKind) (n : ℕ) (line : Words) (rest : List ℕ) → AreWords line → length (words_text line) ≤ V1_MAX_LINE_BYTES → (x : X) → form line ≡ Ok x
     → words form (at n (line_text line ++ rest)) ≡ Ok (x, at (n + 1) rest)
 words-line form n line rest are short x is =
     let split : line_text line ++ rest ≡ words_text line ++ 10 ∷ rest = append_assoc (words_text line) (10 ∷ []) rest in
@@ -43,7 +44,7 @@ words-line form n line rest are short x is =
 -- a value whose line is read as it
 pub record IsReadBack {X : Type 0} (form : Words → Result X CertFaultKind) (spelled : X → Words) (x : X) : Type 0 where
   pub are : AreWords (spelled x)
-  pub short : length (words_text (spelled x)) ≤ 8191
+  pub short : length (words_text (spelled x)) ≤ V1_MAX_LINE_BYTES
   pub back : form (spelled x) ≡ Ok x
 
 -- a value whose text is read as it, wherever it stands

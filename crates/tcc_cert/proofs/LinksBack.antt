@@ -1,5 +1,6 @@
 -- Keys, steps and links are read as they were written.
 use Rattle.std.proofs.Common.{◌≡◌, ℕ, ◌+◌, ◌<◌, ◌≤◌, Bool, true, false, not, cond, eqb, ltb, List, [], ◌∷◌, ◌++◌, length, map, All, Option, Some, None, Ok, refl, ap, ◌∙◌, arith, append_assoc, append-nil, inl, inr, codes, decimal, lit<}
+use Rattle.tcc_cert.specs.declared.version_1.TheConstants.{V1_MAX_COUNT, V1_MAX_LINE_BYTES, V1_MAX_NUMBER}
 use Rattle.std.specs.Prelude.{nat_le, position, option_map}
 use Rattle.std.specs.List.{AllByRecursion, prefix_len}
 use Rattle.std.proofs.lemmas.Bool.{cases_lt}
@@ -72,7 +73,7 @@ reads-back u v key h =
     record {
       are = (lit< tt, (lit< tt, tt), (decimal_nonempty u (omega (arith, h.0)), decimal-above u (omega (arith, h.0)), (decimal_nonempty v (omega (arith, h.1)), decimal-above v (omega (arith, h.1)), (k.0, k.2, tt))));
       short = omega (arith, length-append (decimal u) (later (decimal v ∷ key ∷ [])), length-append (decimal v) (later (key ∷ [])), length-append key [], four_digits u h.0, four_digits v h.1, k.1);
-      back = rw (number_of-decimal 0 1023 u (omega arith) h.0 (omega (arith, h.0)), number_of-decimal 0 1023 v (omega arith) h.1 (omega (arith, h.1)), h.2) refl;
+      back = rw (number_of-decimal 0 V1_MAX_NUMBER u (omega arith) h.0 (omega (arith, h.0)), number_of-decimal 0 V1_MAX_NUMBER v (omega arith) h.1 (omega (arith, h.1)), h.2) refl;
     }
 
 pub step-back : (s : Step) → HasStepText s → IsReadBack step_line step_words s
@@ -92,10 +93,10 @@ walk-at walk h n rest =
     (repeated-back (words step_line) (λ s. line_text (step_words s)) walk (each walk (λ s t. line-at step_line step_words s (step-back s t)) (recursion_from_All HasStepText walk h)) n rest)
 
 session-head : (u v : ℕ) → HasStepText (step.Session u v) → head_line (step_words (step.Session u v)) ≡ Ok (head_of_step (step.Session u v))
-session-head u v h = rw (number_of-decimal 0 1023 u (omega arith) h.0 (omega (arith, h.0)), number_of-decimal 0 1023 v (omega arith) h.1 (omega (arith, h.1))) refl
+session-head u v h = rw (number_of-decimal 0 V1_MAX_NUMBER u (omega arith) h.0 (omega (arith, h.0)), number_of-decimal 0 V1_MAX_NUMBER v (omega arith) h.1 (omega (arith, h.1))) refl
 
 reads-head : (u v : ℕ) (key : List ℕ) → HasStepText (step.Reads u v key) → head_line (step_words (step.Reads u v key)) ≡ Ok (head_of_step (step.Reads u v key))
-reads-head u v key h = rw (number_of-decimal 0 1023 u (omega arith) h.0 (omega (arith, h.0)), number_of-decimal 0 1023 v (omega arith) h.1 (omega (arith, h.1)), h.2) refl
+reads-head u v key h = rw (number_of-decimal 0 V1_MAX_NUMBER u (omega arith) h.0 (omega (arith, h.0)), number_of-decimal 0 V1_MAX_NUMBER v (omega arith) h.1 (omega (arith, h.1)), h.2) refl
 
 abbrev derived_words : ℕ → ℕ → List ℕ → ℕ → ℕ → Words
 derived_words b a key c w = codes "D" ∷ decimal b ∷ decimal a ∷ key ∷ decimal c ∷ decimal w ∷ []
@@ -105,7 +106,7 @@ derived-are b a key c w hb ha hk hc hw =
     let k = key-parts key hk in
     (lit< tt, (lit< tt, tt), (decimal_nonempty b (omega (arith, hb)), decimal-above b (omega (arith, hb)), (decimal_nonempty a (omega (arith, ha)), decimal-above a (omega (arith, ha)), (k.0, k.2, (decimal_nonempty c (omega (arith, hc)), decimal-above c (omega (arith, hc)), (decimal_nonempty w (omega (arith, hw.limit)), decimal-above w (omega (arith, hw.limit)), tt))))))
 
-derived-short : (b a : ℕ) (key : List ℕ) (c w : ℕ) → IsNumber b → IsNumber a → IsKey key → IsNumber c → IsCount w → length (words_text (derived_words b a key c w)) ≤ 8191
+derived-short : (b a : ℕ) (key : List ℕ) (c w : ℕ) → IsNumber b → IsNumber a → IsKey key → IsNumber c → IsCount w → length (words_text (derived_words b a key c w)) ≤ V1_MAX_LINE_BYTES
 derived-short b a key c w hb ha hk hc hw =
     let k = key-parts key hk in
     omega (
@@ -126,11 +127,11 @@ derived-head : (b a : ℕ) (key : List ℕ) (c w : ℕ) → IsNumber b → IsNum
     → head_line (derived_words b a key c w) ≡ Ok (record { link = link.Derived b a key c []; steps = w })
 derived-head b a key c w hb ha hk hc hw =
     rw (
-      number_of-decimal 0 1023 b (omega arith) hb (omega (arith, hb)),
-      number_of-decimal 0 1023 a (omega arith) ha (omega (arith, ha)),
+      number_of-decimal 0 V1_MAX_NUMBER b (omega arith) hb (omega (arith, hb)),
+      number_of-decimal 0 V1_MAX_NUMBER a (omega arith) ha (omega (arith, ha)),
       hk,
-      number_of-decimal 0 1023 c (omega arith) hc (omega (arith, hc)),
-      number_of-decimal 1 1024 w hw.some hw.limit (omega (arith, hw.limit)),
+      number_of-decimal 0 V1_MAX_NUMBER c (omega arith) hc (omega (arith, hc)),
+      number_of-decimal 1 V1_MAX_COUNT w hw.some hw.limit (omega (arith, hw.limit)),
     ) refl
 
 one_line : (line rest : List ℕ) → (line ++ []) ++ rest ≡ line ++ rest

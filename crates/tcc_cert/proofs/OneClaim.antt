@@ -1,5 +1,6 @@
 -- A certificate that was read has a text, and was read from that text alone.
 use Rattle.std.proofs.Common.{◌≡◌, ◌⊎◌, ℕ, ◌^◌, ◌<◌, ◌≤◌, true, false, cond, eqb, List, [], ◌∷◌, ◌++◌, length, flat_map, All, Ok, Err, inl, inr, refl, sym, ap, subst, ◌∙◌, arith, codes, decimal, lit<}
+use Rattle.tcc_cert.specs.declared.version_1.TheConstants.{V1_MAX_COST, V1_MAX_NUMBER, V1_MAX_SESSIONS}
 use Rattle.std.specs.List.{AllByRecursion}
 use Rattle.std.proofs.lemmas.Bool.Decides.{nat_tests}
 use Rattle.std.proofs.lemmas.List.Elements.{All-from_recursion}
@@ -11,8 +12,8 @@ use Rattle.tcc_cert.specs.declared.fault.CertFaultKind.TheVariants.{Header, Word
 use Rattle.tcc_cert.specs.declared.reading.forms.Sizes.{Sizes}
 use Rattle.tcc_cert.specs.declared.reading.forms.Sizes.TheVariants.{Order, Cycle}
 use Rattle.tcc_cert.specs.Tables.{row_of}
-use Rattle.tcc_cert.specs.Texts.{Words, line_text, lines_text, numbers_words, table_lines, link_lines, claim_lines, certificate_text, most_cost, IsNumber, IsCount, HasTableText, HasText, HasLinkText}
-use Rattle.tcc_cert.specs.Reading.{count_of, number_of, word_line, numbers_line, two_words, three_words, order_sizes, cycle_sizes, sizes_line, Place, next, words, repeated, header_line, link_at, table_at, order_at, cycle_at, claim_at, certificate_at, start_of, certificate_of}
+use Rattle.tcc_cert.specs.Texts.{Words, line_text, lines_text, numbers_words, table_lines, link_lines, claim_lines, certificate_text, IsNumber, IsCount, HasTableText, HasText, HasLinkText}
+use Rattle.tcc_cert.specs.Reading.{count_of, number_of, word_line, numbers_line, two_words, three_words, order_sizes, cycle_sizes, sizes_line, Place, next, words, repeated, header_line, link_at, table_at, order_at, cycle_at, claim_at, certificate_at, start_of, certificate_read}
 use Rattle.tcc_cert.proofs.Items.{flat_map-map, flat_map-flat_map}
 use Rattle.tcc_cert.proofs.LinksBack.{each}
 use Rattle.tcc_cert.proofs.ClaimsBack.{order_text, cycle_text}
@@ -55,21 +56,21 @@ pub record IsOrderText (n s : ℕ) (at : Place) (certificate : Certificate) : Ty
   pub is : claim.Order order clocks ≡ certificate
   pub count : length order ≡ n
   pub numbers : All IsNumber order
-  pub table : HasTableText n s 1023 clocks
+  pub table : HasTableText n s V1_MAX_NUMBER clocks
   pub text : at.bytes ≡ lines_text (numbers_words order ∷ (codes "clocks" ∷ []) ∷ (table_lines clocks ++ (codes "end" ∷ []) ∷ []))
 
 order-read : (n s : ℕ) (at after : Place) (certificate : Certificate) → order_at n s at ≡ Ok (certificate, after) → after.bytes ≡ [] → IsOrderText n s at certificate
 order-read n s at after certificate e end =
-    let first = then_parts (words (numbers_line n 1023) at) _ (certificate, after) e in
+    let first = then_parts (words (numbers_line n V1_MAX_NUMBER) at) _ (certificate, after) e in
     let second = then_parts (words (word_line (codes "clocks")) first.0.1) _ (certificate, after) first.2 in
-    let third = then_parts (table_at n s 1023 second.0.1) _ (certificate, after) second.2 in
+    let third = then_parts (table_at n s V1_MAX_NUMBER second.0.1) _ (certificate, after) second.2 in
     let fourth = then_parts (words (word_line (codes "end")) third.0.1) _ (certificate, after) third.2 in
     let is = same_pair fourth.2 in
     let order = first.0.0 in
     let clocks = third.0.0 in
-    let row = row-from n 1023 (lit< tt) at first.0.1 order first.1 in
+    let row = row-from n V1_MAX_NUMBER (lit< tt) at first.0.1 order first.1 in
     let middle = mark-text (codes "clocks") first.0.1 second.0.1 second.0.0 second.1 in
-    let table = table-text n s 1023 second.0.1 third.0.1 clocks (lit< tt) third.1 in
+    let table = table-text n s V1_MAX_NUMBER second.0.1 third.0.1 clocks (lit< tt) third.1 in
     let last = mark-text (codes "end") third.0.1 fourth.0.1 fourth.0.0 fourth.1 in
     let none : fourth.0.1.bytes ≡ [] = ap (λ p. p.bytes) is.1 ∙ end in
     record {
@@ -96,17 +97,17 @@ pub record IsCycleText (n m l : ℕ) (at : Place) (certificate : Certificate) : 
   pub is : claim.Cycle links l near far ≡ certificate
   pub count : length links ≡ m
   pub each_link : All HasLinkText links
-  pub near_table : HasTableText n n most_cost near
-  pub far_table : HasTableText n n most_cost far
+  pub near_table : HasTableText n n V1_MAX_COST near
+  pub far_table : HasTableText n n V1_MAX_COST far
   pub text : at.bytes ≡ lines_text (flat_map link_lines links ++ (codes "near" ∷ []) ∷ (table_lines near ++ (codes "far" ∷ []) ∷ (table_lines far ++ (codes "end" ∷ []) ∷ [])))
 
 cycle-read : (n m l : ℕ) (at after : Place) (certificate : Certificate) → cycle_at n m l at ≡ Ok (certificate, after) → after.bytes ≡ [] → IsCycleText n m l at certificate
 cycle-read n m l at after certificate e end =
     let first = then_parts (repeated link_at m at) _ (certificate, after) e in
     let second = then_parts (words (word_line (codes "near")) first.0.1) _ (certificate, after) first.2 in
-    let third = then_parts (table_at n n most_cost second.0.1) _ (certificate, after) second.2 in
+    let third = then_parts (table_at n n V1_MAX_COST second.0.1) _ (certificate, after) second.2 in
     let fourth = then_parts (words (word_line (codes "far")) third.0.1) _ (certificate, after) third.2 in
-    let fifth = then_parts (table_at n n most_cost fourth.0.1) _ (certificate, after) fourth.2 in
+    let fifth = then_parts (table_at n n V1_MAX_COST fourth.0.1) _ (certificate, after) fourth.2 in
     let sixth = then_parts (words (word_line (codes "end")) fifth.0.1) _ (certificate, after) fifth.2 in
     let is = same_pair sixth.2 in
     let links = first.0.0 in
@@ -114,9 +115,9 @@ cycle-read n m l at after certificate e end =
     let far = fifth.0.0 in
     let all = repeated-text link_at HasLinkText (λ one. lines_text (link_lines one)) link-from m at first.0.1 links first.1 in
     let near_mark = mark-text (codes "near") first.0.1 second.0.1 second.0.0 second.1 in
-    let near_table = table-text n n most_cost second.0.1 third.0.1 near (lit< tt) third.1 in
+    let near_table = table-text n n V1_MAX_COST second.0.1 third.0.1 near (lit< tt) third.1 in
     let far_mark = mark-text (codes "far") third.0.1 fourth.0.1 fourth.0.0 fourth.1 in
-    let far_table = table-text n n most_cost fourth.0.1 fifth.0.1 far (lit< tt) fifth.1 in
+    let far_table = table-text n n V1_MAX_COST fourth.0.1 fifth.0.1 far (lit< tt) fifth.1 in
     let last = mark-text (codes "end") fifth.0.1 sixth.0.1 sixth.0.0 sixth.1 in
     let none : sixth.0.1.bytes ≡ [] = ap (λ p. p.bytes) is.1 ∙ end in
     record {
@@ -143,24 +144,24 @@ cycle-read n m l at after certificate e end =
 
 abbrev pub IsSizesText : Words → Sizes → Type 0
 IsSizesText ws (Order n s) = IsCount n × (s ≤ 64) × (ws ≡ codes "order" ∷ decimal n ∷ decimal s ∷ [])
-IsSizesText ws (Cycle n m l) = IsCount n × IsCount m × (l ≤ most_cost) × (ws ≡ codes "cycle" ∷ decimal n ∷ decimal m ∷ decimal l ∷ [])
+IsSizesText ws (Cycle n m l) = IsCount n × IsCount m × (l ≤ V1_MAX_COST) × (ws ≡ codes "cycle" ∷ decimal n ∷ decimal m ∷ decimal l ∷ [])
 
 order-sizes : (a b : List ℕ) (sizes : Sizes) → order_sizes a b ≡ Ok sizes → IsSizesText (codes "order" ∷ a ∷ b ∷ []) sizes
 order-sizes a b sizes e =
     let first = then_parts (count_of a) _ sizes e in
-    let second = then_parts (number_of 0 64 b) _ sizes first.2 in
+    let second = then_parts (number_of 0 V1_MAX_SESSIONS b) _ sizes first.2 in
     let n = count a first.0 first.1 in
-    let s = number-text 0 64 b second.0 (lit< tt) second.1 in
+    let s = number-text 0 V1_MAX_SESSIONS b second.0 (lit< tt) second.1 in
     subst (IsSizesText (codes "order" ∷ a ∷ b ∷ [])) (same_ok second.2) (n.1, s.high, two_equal (codes "order") n.0 s.text)
 
 cycle-sizes : (a b c : List ℕ) (sizes : Sizes) → cycle_sizes a b c ≡ Ok sizes → IsSizesText (codes "cycle" ∷ a ∷ b ∷ c ∷ []) sizes
 cycle-sizes a b c sizes e =
     let first = then_parts (count_of a) _ sizes e in
     let second = then_parts (count_of b) _ sizes first.2 in
-    let third = then_parts (number_of 0 most_cost c) _ sizes second.2 in
+    let third = then_parts (number_of 0 V1_MAX_COST c) _ sizes second.2 in
     let n = count a first.0 first.1 in
     let m = count b second.0 second.1 in
-    let l = number-text 0 most_cost c third.0 (lit< tt) third.1 in
+    let l = number-text 0 V1_MAX_COST c third.0 (lit< tt) third.1 in
     subst (IsSizesText (codes "cycle" ∷ a ∷ b ∷ c ∷ [])) (same_ok third.2) (n.1, m.1, l.high, three_equal (codes "cycle") n.0 m.0 l.text)
 
 sizes-choice : (word : List ℕ) (fields : Words) (sizes : Sizes)
@@ -194,7 +195,7 @@ order-whole n s at ws text certificate sizes is o =
       count = subst IsCount (sym o.count) sizes.0;
       numbers = o.numbers;
       sessions = omega (arith, columns, sizes.1);
-      clocks = subst (λ m. HasTableText m (length (row_of o.clocks 0)) 1023 o.clocks) (sym o.count) (subst (λ m. HasTableText n m 1023 o.clocks) (sym columns) o.table);
+      clocks = subst (λ m. HasTableText m (length (row_of o.clocks 0)) V1_MAX_NUMBER o.clocks) (sym o.count) (subst (λ m. HasTableText n m V1_MAX_NUMBER o.clocks) (sym columns) o.table);
     } in
     let whole : text ≡ lines_text (claim_lines (claim.Order o.order o.clocks)) =
     is ∙ ap (λ w. line_text w ++ at.bytes) sizes.2 ∙ rw (o.count, columns) (ap (λ t. line_text (codes "order" ∷ decimal n ∷ decimal s ∷ []) ++ t) o.text) in
@@ -209,8 +210,8 @@ cycle-whole n m l at ws text certificate sizes is o =
       steps = subst IsCount (sym o.count) sizes.1;
       links = o.each_link;
       least = sizes.2;
-      near = subst (λ k. HasTableText k k most_cost o.near) (sym rows) o.near_table;
-      far = subst (λ k. HasTableText k k most_cost o.far) (sym rows) o.far_table;
+      near = subst (λ k. HasTableText k k V1_MAX_COST o.near) (sym rows) o.near_table;
+      far = subst (λ k. HasTableText k k V1_MAX_COST o.far) (sym rows) o.far_table;
     } in
     let whole : text ≡ lines_text (claim_lines (claim.Cycle o.links l o.near o.far)) =
     is ∙ ap (λ w. line_text w ++ at.bytes) sizes.3 ∙ rw (o.count, rows) (ap (λ t. line_text (codes "cycle" ∷ decimal n ∷ decimal m ∷ decimal l ∷ []) ++ t) o.text) in
@@ -226,7 +227,7 @@ no-bytes [] e = refl
 no-bytes (byte ∷ bytes) e = absurd (grind (arith, nat_tests))
 
 -- what was read has one text, that from which it was read
-pub one-text : (bytes : List ℕ) (certificate : Certificate) → certificate_of bytes ≡ Ok certificate → HasText certificate × (bytes ≡ certificate_text certificate)
+pub one-text : (bytes : List ℕ) (certificate : Certificate) → certificate_read bytes ≡ Ok certificate → HasText certificate × (bytes ≡ certificate_text certificate)
 one-text bytes certificate e =
     let read = then_parts (certificate_at (start_of bytes)) _ certificate e in
     let last = allowed_parts (eqb (length read.0.1.bytes) 0) (record { line = read.0.1.line; kind = Trailing }) (Ok read.0.0) certificate read.2 in

@@ -1,10 +1,11 @@
 -- What is read has a text, and was read from that text alone.
 use Rattle.std.proofs.Common.{◌≡◌, ◌⊎◌, ℕ, zero, suc, ◌+◌, ◌^◌, ◌<◌, ◌≤◌, Bool, true, false, not, ◌&&◌, ◌||◌, cond, eqb, ltb, List, [], ◌∷◌, ◌++◌, length, get_or, take, drop, map, flat_map, Option, None, Some, Result, Ok, Err, inl, inr, refl, sym, ap, subst, ◌∙◌, arith, append_assoc, append-nil, codes, decimal, lit<}
+use Rattle.tcc_cert.specs.declared.version_1.TheConstants.{V1_MAX_COUNT, V1_MAX_LINE_BYTES, V1_MAX_NUMBER}
 use Rattle.std.specs.Prelude.{is_some}
 use Rattle.std.specs.List.{AllByRecursion, join_with_byte}
 use Rattle.std.specs.Str.{all_ascii_digits}
 use Rattle.std.specs.Str.Parse.{digits_value}
-use Rattle.std.proofs.lemmas.Bool.{eqb-true}
+use Rattle.std.proofs.lemmas.Bool.{eqb-true, and_parts}
 use Rattle.std.proofs.lemmas.Bool.Decides.{nat_tests}
 use Rattle.std.proofs.lemmas.Fmt.{decimal-digits_value}
 use Rattle.std.proofs.lemmas.List.{length-take-le, length-map}
@@ -84,12 +85,12 @@ number-text least most word n small e =
     let spelled = decimal-digits_value (numerals_by_value _ tells_all_ascii_digits) word parts.1 some (λ is_zero. lone-zero word parts.2 is_zero some) (omega arith) in
     record { low = omega arith; high = omega arith; text = sym spelled ∙ ap decimal is }
 
-pub number : (word : List ℕ) (n : ℕ) → transaction_of word ≡ Ok n → IsNumeralOf 0 1023 word n
-number word n e = number-text 0 1023 word n (lit< tt) e
+pub number : (word : List ℕ) (n : ℕ) → transaction_of word ≡ Ok n → IsNumeralOf 0 V1_MAX_NUMBER word n
+number word n e = number-text 0 V1_MAX_NUMBER word n (lit< tt) e
 
 pub count : (word : List ℕ) (n : ℕ) → count_of word ≡ Ok n → (word ≡ decimal n) × IsCount n
 count word n e =
-    let is = number-text 1 1024 word n (lit< tt) e in
+    let is = number-text 1 V1_MAX_COUNT word n (lit< tt) e in
     (is.text, record { some = is.low; limit = is.high })
 
 key-fault : (o : Option NameFault) (key : List ℕ) (word : List ℕ) → cond (is_some o) (Err Word) (Ok word) ≡ Ok key → (o ≡ None) × (word ≡ key)
@@ -103,16 +104,12 @@ key word name e =
 
 -- ---- words
 
-both-parts : (a b : Bool) → (a && b) ≡ true → (a ≡ true) × (b ≡ true)
-both-parts true b e = (refl, e)
-both-parts false b e = absurd cc
-
 pub same-bytes : (a b : List ℕ) → same a b ≡ true → a ≡ b
 same-bytes [] [] e = refl
 same-bytes [] (y ∷ b) e = absurd cc
 same-bytes (x ∷ a) [] e = absurd cc
 same-bytes (x ∷ a) (y ∷ b) e =
-    let parts = both-parts (eqb x y) (same a b) e in
+    let parts = and_parts (eqb x y) (same a b) e in
     let first = eqb-true x y parts.0 in
     let rest = same-bytes a b parts.1 in
     cc
@@ -251,7 +248,7 @@ judged-parts at after (Err kind) x end e = absurd cc
 pub line-text : (bytes line : List ℕ) → line_of bytes ≡ Ok line → bytes ≡ line ++ 10 ∷ drop (length line + 1) bytes
 line-text bytes line e =
     let n = line_length bytes in
-    let first = refused_parts (ltb 8191 n) TooLarge (cond (ltb n (length bytes)) (Ok (take n bytes)) (Err Truncated)) line e in
+    let first = refused_parts (ltb V1_MAX_LINE_BYTES n) TooLarge (cond (ltb n (length bytes)) (Ok (take n bytes)) (Err Truncated)) line e in
     let second = allowed_parts (ltb n (length bytes)) Truncated (Ok (take n bytes)) line first.1 in
     let within : n < length bytes = grind (arith, nat_tests, second.0) in
     let is : take n bytes ≡ line = same_ok second.1 in

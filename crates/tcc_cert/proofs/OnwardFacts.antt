@@ -1,5 +1,6 @@
 -- Reading goes on from line to line, and never back.
 use Rattle.std.proofs.Common.{ℕ, zero, suc, ◌≤◌, List, [], ◌∷◌, Result, Ok, Err, arith, codes}
+use Rattle.tcc_cert.specs.declared.version_1.TheConstants.{V1_MAX_COST, V1_MAX_NUMBER}
 use Rattle.tcc_cert.specs.declared.fault.CertFaultKind.{CertFaultKind}
 use Rattle.tcc_cert.specs.declared.reading.forms.Head.{Head}
 use Rattle.tcc_cert.specs.declared.reading.forms.Sizes.{Sizes}
@@ -7,7 +8,7 @@ use Rattle.tcc_cert.specs.declared.reading.forms.Sizes.TheVariants.{Order, Cycle
 use Rattle.tcc_cert.specs.Outcomes.{reached}
 use Rattle.tcc_graph.specs.declared.link.Link.{Link}
 use Rattle.tcc_cert.specs.declared.certificate.Certificate.TheVariants as claim
-use Rattle.tcc_cert.specs.Texts.{Words, most_cost}
+use Rattle.tcc_cert.specs.Texts.{Words}
 use Rattle.tcc_cert.specs.Reading.{◌>>=◌, Place, Reads, judged, behind, line_of, next, words, repeated, header_line, words_of, step_line, numbers_line, with_walk, head_line, walk_of, link_at, word_line, sizes_line, table_at, order_at, cycle_at, claim_at, certificate_at}
 
 -- from this place the reading ended at no line before it
@@ -64,15 +65,15 @@ table-then rows columns most go at later = onward-then at (table_at rows columns
 pub order-end : (order : List ℕ) (clocks : List (List ℕ) × Place) → IsOnward clocks.1 (words (word_line (codes "end")) clocks.1 >>= λ end. Ok (claim.Order order clocks.0, end.1))
 order-end order clocks = line-then (word_line (codes "end")) _ clocks.1 (λ end. onward-ok (claim.Order order clocks.0) end.1 end.1 (omega arith))
 
-pub order-clocks : (n s : ℕ) (order : List ℕ) (mark : Unit {0} × Place) → IsOnward mark.1 (table_at n s 1023 mark.1 >>= λ clocks. words (word_line (codes "end")) clocks.1 >>= λ end. Ok (claim.Order order clocks.0, end.1))
-order-clocks n s order mark = table-then n s 1023 _ mark.1 (order-end order)
+pub order-clocks : (n s : ℕ) (order : List ℕ) (mark : Unit {0} × Place) → IsOnward mark.1 (table_at n s V1_MAX_NUMBER mark.1 >>= λ clocks. words (word_line (codes "end")) clocks.1 >>= λ end. Ok (claim.Order order clocks.0, end.1))
+order-clocks n s order mark = table-then n s V1_MAX_NUMBER _ mark.1 (order-end order)
 
 pub order-mark : (n s : ℕ) (order : List ℕ × Place)
-    → IsOnward order.1 (words (word_line (codes "clocks")) order.1 >>= λ mark. table_at n s 1023 mark.1 >>= λ clocks. words (word_line (codes "end")) clocks.1 >>= λ end. Ok (claim.Order order.0 clocks.0, end.1))
+    → IsOnward order.1 (words (word_line (codes "clocks")) order.1 >>= λ mark. table_at n s V1_MAX_NUMBER mark.1 >>= λ clocks. words (word_line (codes "end")) clocks.1 >>= λ end. Ok (claim.Order order.0 clocks.0, end.1))
 order-mark n s order = line-then (word_line (codes "clocks")) _ order.1 (order-clocks n s order.0)
 
 pub onward-order : (n s : ℕ) (at : Place) → IsOnward at (order_at n s at)
-onward-order n s at = line-then (numbers_line n 1023) _ at (order-mark n s)
+onward-order n s at = line-then (numbers_line n V1_MAX_NUMBER) _ at (order-mark n s)
 
 -- a claim of a cycle, from each of its parts on
 pub cycle-end : (links : List Link) (least : ℕ) (near : List (List ℕ)) (far : List (List ℕ) × Place)
@@ -80,19 +81,19 @@ pub cycle-end : (links : List Link) (least : ℕ) (near : List (List ℕ)) (far 
 cycle-end links least near far = line-then (word_line (codes "end")) _ far.1 (λ end. onward-ok (claim.Cycle links least near far.0) end.1 end.1 (omega arith))
 
 pub cycle-far : (n : ℕ) (links : List Link) (least : ℕ) (near : List (List ℕ)) (mark : Unit {0} × Place)
-    → IsOnward mark.1 (table_at n n most_cost mark.1 >>= λ far. words (word_line (codes "end")) far.1 >>= λ end. Ok (claim.Cycle links least near far.0, end.1))
-cycle-far n links least near mark = table-then n n most_cost _ mark.1 (cycle-end links least near)
+    → IsOnward mark.1 (table_at n n V1_MAX_COST mark.1 >>= λ far. words (word_line (codes "end")) far.1 >>= λ end. Ok (claim.Cycle links least near far.0, end.1))
+cycle-far n links least near mark = table-then n n V1_MAX_COST _ mark.1 (cycle-end links least near)
 
 pub cycle-far_mark : (n : ℕ) (links : List Link) (least : ℕ) (near : List (List ℕ) × Place)
-    → IsOnward near.1 (words (word_line (codes "far")) near.1 >>= λ mark. table_at n n most_cost mark.1 >>= λ far. words (word_line (codes "end")) far.1 >>= λ end. Ok (claim.Cycle links least near.0 far.0, end.1))
+    → IsOnward near.1 (words (word_line (codes "far")) near.1 >>= λ mark. table_at n n V1_MAX_COST mark.1 >>= λ far. words (word_line (codes "end")) far.1 >>= λ end. Ok (claim.Cycle links least near.0 far.0, end.1))
 cycle-far_mark n links least near = line-then (word_line (codes "far")) _ near.1 (cycle-far n links least near.0)
 
 pub cycle-near : (n : ℕ) (links : List Link) (least : ℕ) (mark : Unit {0} × Place)
-    → IsOnward mark.1 (table_at n n most_cost mark.1 >>= λ near. words (word_line (codes "far")) near.1 >>= λ far_mark. table_at n n most_cost far_mark.1 >>= λ far. words (word_line (codes "end")) far.1 >>= λ end. Ok (claim.Cycle links least near.0 far.0, end.1))
-cycle-near n links least mark = table-then n n most_cost _ mark.1 (cycle-far_mark n links least)
+    → IsOnward mark.1 (table_at n n V1_MAX_COST mark.1 >>= λ near. words (word_line (codes "far")) near.1 >>= λ far_mark. table_at n n V1_MAX_COST far_mark.1 >>= λ far. words (word_line (codes "end")) far.1 >>= λ end. Ok (claim.Cycle links least near.0 far.0, end.1))
+cycle-near n links least mark = table-then n n V1_MAX_COST _ mark.1 (cycle-far_mark n links least)
 
 pub cycle-near_mark : (n : ℕ) (least : ℕ) (links : List Link × Place)
-    → IsOnward links.1 (words (word_line (codes "near")) links.1 >>= λ mark. table_at n n most_cost mark.1 >>= λ near. words (word_line (codes "far")) near.1 >>= λ far_mark. table_at n n most_cost far_mark.1 >>= λ far. words (word_line (codes "end")) far.1 >>= λ end. Ok (claim.Cycle links.0 least near.0 far.0, end.1))
+    → IsOnward links.1 (words (word_line (codes "near")) links.1 >>= λ mark. table_at n n V1_MAX_COST mark.1 >>= λ near. words (word_line (codes "far")) near.1 >>= λ far_mark. table_at n n V1_MAX_COST far_mark.1 >>= λ far. words (word_line (codes "end")) far.1 >>= λ end. Ok (claim.Cycle links.0 least near.0 far.0, end.1))
 cycle-near_mark n least links = line-then (word_line (codes "near")) _ links.1 (cycle-near n links.0 least)
 
 pub onward-cycle : (n count least : ℕ) (at : Place) → IsOnward at (cycle_at n count least at)

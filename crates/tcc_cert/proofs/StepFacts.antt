@@ -5,26 +5,26 @@ use Rattle.tcc_cert.specs.declared.certificate.Certificate.{Certificate}
 use Rattle.tcc_cert.specs.declared.fault.CertFault.{CertFault}
 use Rattle.tcc_cert.specs.declared.fault.CertFaultKind.{CertFaultKind}
 use Rattle.tcc_cert.specs.declared.reading.input.Input.{Input}
-use Rattle.tcc_cert.specs.Inputs.{line_in, TakesLine, Gives, Ends}
-use Rattle.tcc_cert.specs.Outcomes.{IsFailure, Shows, at_line, reached, Faults, IsReading}
-use Rattle.tcc_cert.specs.Reading.{◌>>=◌, Place, Reads, behind, next, repeated, certificate_at, certificate_of, start_of}
+use Rattle.tcc_cert.specs.Inputs.{HasFailed, line_in, TakesLine, Gives, Ends}
+use Rattle.tcc_cert.specs.Outcomes.{IsFailure, Shows, at_line, reached, Faults, IsReading, IsReadingWhere}
+use Rattle.tcc_cert.specs.Reading.{◌>>=◌, Place, Reads, behind, next, repeated, certificate_at, certificate_read, start_of}
 use Rattle.tcc_cert.proofs.OnwardFacts.{IsOnward, onward-then, onward-ok, onward-next, onward-repeated}
 
 -- the first part had a fault
-pub first-faults : {A B : Type 0} {at : Place} (read : Reads A) (go : A × Place → Reads B) (fault : CertFault) → ((x : A × Place) → IsOnward x.1 (go x)) → Faults at read fault → Faults at (read >>= go) fault
+pub first-faults : {A B F : Type 0} {at : Place} (read : Reads A) (go : A × Place → Reads B) (fault : CertFault) → ((x : A × Place) → IsOnward x.1 (go x)) → Faults F at read fault → Faults F at (read >>= go) fault
 first-faults read go fault later (inl is) = inl (rw is refl)
 first-faults (Ok x) go fault later (inr stopped) = inr (record { failure = stopped.failure; first = stopped.first; last = omega (arith, stopped.last, (later x).onward) })
 first-faults (Err e) go fault later (inr stopped) = inr (record { failure = stopped.failure; first = stopped.first; last = stopped.last })
 
 -- the reading began no later
-faults-from : {A : Type 0} {at now : Place} (read : Reads A) (fault : CertFault) → at.line ≤ now.line → Faults now read fault → Faults at read fault
+faults-from : {A F : Type 0} {at now : Place} (read : Reads A) (fault : CertFault) → at.line ≤ now.line → Faults F now read fault → Faults F at read fault
 faults-from read fault on (inl is) = inl is
 faults-from read fault on (inr stopped) = inr (record { failure = stopped.failure; first = omega (arith, on, stopped.first); last = stopped.last })
 
 -- a later part had a fault
-pub later-faults : {A B : Type 0} {at after : Place} {x : A} (read : Reads A) (go : A × Place → Reads B) (fault : CertFault) → read ≡ Ok (x, after) → at.line ≤ after.line
-    → Faults after (go (x, after)) fault → Faults at (read >>= go) fault
-later-faults {A} {B} {at} {after} {x} read go fault is on faults = subst (λ r. Faults at (r >>= go) fault) (sym is) (faults-from (go (x, after)) fault on faults)
+pub later-faults : {A B F : Type 0} {at after : Place} {x : A} (read : Reads A) (go : A × Place → Reads B) (fault : CertFault) → read ≡ Ok (x, after) → at.line ≤ after.line
+    → Faults F after (go (x, after)) fault → Faults F at (read >>= go) fault
+later-faults {A} {B} {F} {at} {after} {x} read go fault is on faults = subst (λ r. Faults F at (r >>= go) fault) (sym is) (faults-from (go (x, after)) fault on faults)
 
 -- a part that was read ends no line before its first
 pub onward-at : {A : Type 0} {at after : Place} {x : A} (read : Reads A) → IsOnward at read → read ≡ Ok (x, after) → at.line ≤ after.line
@@ -79,18 +79,18 @@ on-rest now front (Ok x) = refl
 on-rest now front (Err e) = refl
 
 -- the next of them had a fault
-pub part-faults : {X : Type 0} (read : Place → Reads X) (count : ℕ) (at : Place) (front : List X) (i : ℕ) (now : Place) (fault : CertFault) → i < count
-    → ((p : Place) → IsOnward p (read p)) → IsPart read count at front i now → Faults now (read now) fault → Faults at (repeated read count at) fault
-part-faults read count at front i now fault lt on so_far faults =
+pub part-faults : {X F : Type 0} (read : Place → Reads X) (count : ℕ) (at : Place) (front : List X) (i : ℕ) (now : Place) (fault : CertFault) → i < count
+    → ((p : Place) → IsOnward p (read p)) → IsPart read count at front i now → Faults F now (read now) fault → Faults F at (repeated read count at) fault
+part-faults {X} {F} read count at front i now fault lt on so_far faults =
     let left : count - i ≡ suc (count - (i + 1)) = omega arith in
     let n = count - (i + 1) in
     let one = first-faults (read now) (λ first. repeated read n first.1 >>= λ others. Ok (first.0 ∷ others.0, others.1)) fault (λ first. onward-then first.1 (repeated read n first.1) _ (onward-repeated read n on first.1) (λ others. onward-ok (first.0 ∷ others.0) others.1 others.1 (omega arith))) faults in
     let whole = first-faults (repeated read (suc n) now) (λ rest. Ok (front ++ rest.0, rest.1)) fault (λ rest. onward-ok (front ++ rest.0) rest.1 rest.1 (omega arith)) one in
-    subst (λ r. Faults at r fault) (sym (so_far.part ∙ ap (λ m. before_rest front (repeated read m now)) left)) (faults-from (before_rest front (repeated read (suc n) now)) fault so_far.on whole)
+    subst (λ r. Faults F at r fault) (sym (so_far.part ∙ ap (λ m. before_rest front (repeated read m now)) left)) (faults-from (before_rest front (repeated read (suc n) now)) fault so_far.on whole)
 
 -- memory was refused between two of them
-pub part-refused : {X : Type 0} (read : Place → Reads X) (count : ℕ) (at : Place) (front : List X) (i : ℕ) (now : Place) (kind : CertFaultKind)
-    → ((p : Place) → IsOnward p (read p)) → IsPart read count at front i now → IsFailure kind → Faults at (repeated read count at) (record { line = now.line; kind = kind })
+pub part-refused : {X F : Type 0} (read : Place → Reads X) (count : ℕ) (at : Place) (front : List X) (i : ℕ) (now : Place) (kind : CertFaultKind)
+    → ((p : Place) → IsOnward p (read p)) → IsPart read count at front i now → IsFailure F kind → Faults F at (repeated read count at) (record { line = now.line; kind = kind })
 part-refused read count at front i now kind on so_far failure =
     let end = (onward-repeated read (count - i) on now).onward in
     let same = ap reached so_far.part ∙ on-rest now front (repeated read (count - i) now) in
@@ -114,20 +114,30 @@ later-gives remaining at read go (Err fault) new is on faults = later-faults rea
 
 -- ---- the whole text
 
-pub whole-faults : (bytes : List ℕ) (fault : CertFault) → Faults (start_of bytes) (certificate_at (start_of bytes)) fault → IsReading bytes (Err fault)
+pub whole-faults : {F : Type 0} (bytes : List ℕ) (fault : CertFault) → Faults F (start_of bytes) (certificate_at (start_of bytes)) fault → IsReadingWhere F bytes (Err fault)
 whole-faults bytes fault (inl is) = inl (rw is refl)
 whole-faults bytes fault (inr stopped) = inr stopped
 
-pub whole-ended : (bytes : List ℕ) (certificate : Certificate) (after : Place) (done : Unit {0}) → certificate_at (start_of bytes) ≡ Ok (certificate, after) → Ends after (Ok done)
-    → certificate_of bytes ≡ Ok certificate
-whole-ended bytes certificate after done is none = rw (is, none) refl
+pub whole-ended : {R : Type 0} (bytes : List ℕ) (certificate : Certificate) (after : Place) (done : Unit {0}) (new : Input R) → certificate_at (start_of bytes) ≡ Ok (certificate, after) → Ends after (Ok done) new
+    → certificate_read bytes ≡ Ok certificate
+whole-ended bytes certificate after done new is none = rw (is, none) refl
 
 some-left : (bytes : List ℕ) → bytes ≢ [] → eqb (length bytes) 0 ≡ false
 some-left [] some = absurd (some refl)
 some-left (byte ∷ bytes) some = grind (arith, nat_tests)
 
-pub whole-followed : (bytes : List ℕ) (certificate : Certificate) (after : Place) (fault : CertFault) → certificate_at (start_of bytes) ≡ Ok (certificate, after) → 1 ≤ after.line → Ends after (Err fault)
-    → IsReading bytes (Err fault)
-whole-followed bytes certificate after fault is on (line, inl more) = inl (rw (is, some-left after.bytes more.1, ← line, ← more.0) refl)
-whole-followed bytes certificate after fault is on (line, inr failed) =
+pub whole-followed : {R : Type 0} (bytes : List ℕ) (certificate : Certificate) (after : Place) (fault : CertFault) (new : Input R) → certificate_at (start_of bytes) ≡ Ok (certificate, after) → 1 ≤ after.line → Ends after (Err fault) new
+    → IsReadingWhere (HasFailed new) bytes (Err fault)
+whole-followed bytes certificate after fault new is on (line, inl more) = inl (rw (is, some-left after.bytes more.1, ← line, ← more.0) refl)
+whole-followed bytes certificate after fault new is on (line, inr failed) =
     inr (record { failure = inl failed; first = omega (arith, line, on); last = omega (arith, line, ap reached is) })
+
+-- whether the reader failed is out of sight
+pub reading-told : (F : Type 0) (bytes : List ℕ) (result : Result Certificate CertFault) → IsReadingWhere F bytes result → IsReading bytes result
+reading-told F bytes (Ok certificate) is = is
+reading-told F bytes (Err fault) (inl is) = inl is
+reading-told F bytes (Err fault) (inr stopped) = inr (record { failure = told fault.kind stopped.failure; first = stopped.first; last = stopped.last })
+  where
+    told : (kind : CertFaultKind) → IsFailure F kind → IsFailure (Unit {0}) kind
+    told kind (inl read) = inl (read.0, tt)
+    told kind (inr memory) = inr memory

@@ -4,10 +4,10 @@ use Rattle.tcc_graph.specs.declared.step.Step.TheVariants as step
 use Rattle.tcc_graph.specs.declared.link.Link.TheVariants as link
 use Rattle.tcc_cert.specs.declared.certificate.Certificate.TheVariants as claim
 use Rattle.tcc_cert.specs.declared.fault.CertFaultKind.TheVariants.{Header, Word, Number, Count, TooLarge, Truncated, Trailing}
-use Rattle.tcc_cert.specs.Reading.{certificate_of}
+use Rattle.tcc_cert.specs.Reading.{certificate_read}
 
 -- a history without transactions: one row of clocks without a number
-no_transactions : certificate_of (codes "tcc-certificate 1\norder 1 0\n0\nclocks\n\nend\n") ≡ Ok (claim.Order (0 ∷ []) ([] ∷ []))
+no_transactions : certificate_read (codes "tcc-certificate 1\norder 1 0\n0\nclocks\n\nend\n") ≡ Ok (claim.Order (0 ∷ []) ([] ∷ []))
 no_transactions = refl
 
 abbrev links_and_near : List ℕ
@@ -17,7 +17,7 @@ abbrev far : List ℕ
 far = codes "far\n3 1 1\n2 3 1\n3 3 3\n"
 
 -- a read of 0 after an own write
-stale_read : certificate_of (codes "tcc-certificate 1\ncycle 3 2 3\n" ++ (links_and_near ++ (far ++ codes "end\n")))
+stale_read : certificate_read (codes "tcc-certificate 1\ncycle 3 2 3\n" ++ (links_and_near ++ (far ++ codes "end\n")))
     ≡ Ok (claim.Cycle
     (link.Session 0 1 ∷ link.Derived 1 0 (codes "x") 2 (step.Session 1 2 ∷ []) ∷ [])
     3
@@ -25,35 +25,35 @@ stale_read : certificate_of (codes "tcc-certificate 1\ncycle 3 2 3\n" ++ (links_
     ((3 ∷ 1 ∷ 1 ∷ []) ∷ (2 ∷ 3 ∷ 1 ∷ []) ∷ (3 ∷ 3 ∷ 3 ∷ []) ∷ []))
 stale_read = refl
 
-another_version : certificate_of (codes "tcc-certificate 2\ncycle 3 2 3\n") ≡ Err (record { line = 1; kind = Header })
+another_version : certificate_read (codes "tcc-certificate 2\ncycle 3 2 3\n") ≡ Err (record { line = 1; kind = Header })
 another_version = refl
 
-another_claim : certificate_of (codes "tcc-certificate 1\nring 3 2 3\n") ≡ Err (record { line = 2; kind = Word })
+another_claim : certificate_read (codes "tcc-certificate 1\nring 3 2 3\n") ≡ Err (record { line = 2; kind = Word })
 another_claim = refl
 
-a_number_less : certificate_of (codes "tcc-certificate 1\ncycle 3 2\n") ≡ Err (record { line = 2; kind = Count })
+a_number_less : certificate_read (codes "tcc-certificate 1\ncycle 3 2\n") ≡ Err (record { line = 2; kind = Count })
 a_number_less = refl
 
-two_spaces : certificate_of (codes "tcc-certificate 1\ncycle  3 2 3\n") ≡ Err (record { line = 2; kind = Count })
+two_spaces : certificate_read (codes "tcc-certificate 1\ncycle  3 2 3\n") ≡ Err (record { line = 2; kind = Count })
 two_spaces = refl
 
-leading_zero : certificate_of (codes "tcc-certificate 1\ncycle 03 2 3\n") ≡ Err (record { line = 2; kind = Number })
+leading_zero : certificate_read (codes "tcc-certificate 1\ncycle 03 2 3\n") ≡ Err (record { line = 2; kind = Number })
 leading_zero = refl
 
-no_links : certificate_of (codes "tcc-certificate 1\ncycle 3 0 3\n") ≡ Err (record { line = 2; kind = Number })
+no_links : certificate_read (codes "tcc-certificate 1\ncycle 3 0 3\n") ≡ Err (record { line = 2; kind = Number })
 no_links = refl
 
-too_many : certificate_of (codes "tcc-certificate 1\ncycle 1025 2 3\n") ≡ Err (record { line = 2; kind = TooLarge })
+too_many : certificate_read (codes "tcc-certificate 1\ncycle 1025 2 3\n") ≡ Err (record { line = 2; kind = TooLarge })
 too_many = refl
 
-cut_after_a_row : certificate_of (codes "tcc-certificate 1\ncycle 3 2 3\n" ++ (links_and_near ++ codes "far\n3 1 1\n2 3 1\n"))
+cut_after_a_row : certificate_read (codes "tcc-certificate 1\ncycle 3 2 3\n" ++ (links_and_near ++ codes "far\n3 1 1\n2 3 1\n"))
     ≡ Err (record { line = 13; kind = Truncated })
 cut_after_a_row = refl
 
-cut_before_the_last_line_feed : certificate_of (codes "tcc-certificate 1\ncycle 3 2 3\n" ++ (links_and_near ++ (far ++ codes "end")))
+cut_before_the_last_line_feed : certificate_read (codes "tcc-certificate 1\ncycle 3 2 3\n" ++ (links_and_near ++ (far ++ codes "end")))
     ≡ Err (record { line = 14; kind = Truncated })
 cut_before_the_last_line_feed = refl
 
-one_more_line_feed : certificate_of (codes "tcc-certificate 1\ncycle 3 2 3\n" ++ (links_and_near ++ (far ++ codes "end\n\n")))
+one_more_line_feed : certificate_read (codes "tcc-certificate 1\ncycle 3 2 3\n" ++ (links_and_near ++ (far ++ codes "end\n\n")))
     ≡ Err (record { line = 15; kind = Trailing })
 one_more_line_feed = refl

@@ -1,40 +1,44 @@
 -- How far the reading of a reader's bytes has come.
-use Rattle.std.specs.Prelude.{ℕ, ◌≡◌, ◌≢◌, ◌⊎◌, ◌-◌, List, [], take, drop, Option, Some, Result, Ok, Err}
+use Rattle.std.specs.Prelude.{ℕ, ◌≡◌, ◌≢◌, ◌⊎◌, ◌-◌, List, [], take, drop, Option, Some, Result, Ok, Err, IsTrue}
 use Rattle.std.specs.Io.KnownBytes.{prepend_known}
 use Rattle.tcc_cert.specs.declared.fault.CertFault.{CertFault}
 use Rattle.tcc_cert.specs.declared.fault.CertFaultKind.{CertFaultKind}
 use Rattle.tcc_cert.specs.declared.fault.CertFaultKind.TheVariants.{Read, Trailing}
 use Rattle.tcc_cert.specs.declared.reading.input.Input.{Input}
-use Rattle.tcc_cert.specs.HeldBytes.{held_bytes}
+use Rattle.tcc_cert.specs.WindowBytes.{window_bytes}
 use Rattle.tcc_cert.specs.Outcomes.{IsFailure, Faults}
 use Rattle.tcc_cert.specs.Reading.{Place, Reads, behind, line_of}
 
 -- the last line without its line feed
 abbrev pub line_in : {R : Type 0} → Input R → List ℕ
-line_in input = take (input.passed - 1) (held_bytes input.held)
+line_in input = take (input.passed - 1) (window_bytes input.window)
+
+-- a read of the input's reader has failed
+abbrev pub HasFailed : {R : Type 0} → Input R → Type 0
+HasFailed input = IsTrue input.source.failed
 
 -- behind the last line the input has these bytes, from the line with this number on
 pub record IsAt {R : Type 0} (remaining : R → Option (List ℕ)) (input : Input R) (at : Place) : Type 0 where
   pub number : input.number ≡ at.line
-  pub bytes : prepend_known (drop input.passed (held_bytes input.held)) (remaining input.reader) ≡ Some at.bytes
+  pub bytes : prepend_known (drop input.passed (window_bytes input.window)) (remaining input.source.reader) ≡ Some at.bytes
 
 -- what the next line shows, unless the reader failed
 abbrev pub FindsLine : {R : Type 0} → Place → Result ℕ CertFaultKind → Input R → Type 0
-FindsLine at (Ok length) new = line_of at.bytes ≡ Ok (take length (held_bytes new.held))
-FindsLine at (Err kind) new = (line_of at.bytes ≡ Err kind) ⊎ (kind ≡ Read)
+FindsLine at (Ok length) new = line_of at.bytes ≡ Ok (take length (window_bytes new.window))
+FindsLine at (Err kind) new = (line_of at.bytes ≡ Err kind) ⊎ ((kind ≡ Read) × HasFailed new)
 
 -- the next line was read, or its fault was met, or the reader failed or memory was refused
 abbrev pub TakesLine : {R : Type 0} → (R → Option (List ℕ)) → Place → Result ℕ CertFault → Input R → Type 0
 TakesLine remaining at (Ok number) new =
     (line_of at.bytes ≡ Ok (line_in new)) × (number ≡ at.line) × IsAt remaining new (behind at (line_in new))
-TakesLine remaining at (Err fault) new = ((line_of at.bytes ≡ Err fault.kind) ⊎ IsFailure fault.kind) × (fault.line ≡ at.line)
+TakesLine remaining at (Err fault) new = ((line_of at.bytes ≡ Err fault.kind) ⊎ IsFailure (HasFailed new) fault.kind) × (fault.line ≡ at.line)
 
 -- what the text shows from the place on was given, and the input is behind it
 abbrev pub Gives : {R X : Type 0} → (R → Option (List ℕ)) → Place → Reads X → Result X CertFault → Input R → Type 0
 Gives remaining at read (Ok x) new = (after : Place) × (read ≡ Ok (x, after)) × IsAt remaining new after
-Gives remaining at read (Err fault) new = Faults at read fault
+Gives remaining at read (Err fault) new = Faults (HasFailed new) at read fault
 
 -- whether nothing stands from the place on, unless the reader failed
-abbrev pub Ends : Place → Result (Unit {0}) CertFault → Type 0
-Ends at (Ok _) = at.bytes ≡ []
-Ends at (Err fault) = (fault.line ≡ at.line) × (((fault.kind ≡ Trailing) × (at.bytes ≢ [])) ⊎ (fault.kind ≡ Read))
+abbrev pub Ends : {R : Type 0} → Place → Result (Unit {0}) CertFault → Input R → Type 0
+Ends at (Ok _) new = at.bytes ≡ []
+Ends at (Err fault) new = (fault.line ≡ at.line) × (((fault.kind ≡ Trailing) × (at.bytes ≢ [])) ⊎ ((fault.kind ≡ Read) × HasFailed new))

@@ -6,5 +6,5 @@ pub mod Texts
 pub mod Writing
 pub mod Reading
 pub mod Outcomes
-pub mod HeldBytes
+pub mod WindowBytes
 pub mod Inputs

@@ -5,11 +5,11 @@ use Rattle.tcc_cert.specs.declared.fault.CertFault.{CertFault}
 use Rattle.tcc_cert.specs.declared.fault.CertFaultKind.{CertFaultKind}
 use Rattle.tcc_cert.specs.declared.fault.CertFaultKind.TheVariants.{Read, NoMemory}
 use Rattle.tcc_cert.specs.declared.certificate.Certificate.{Certificate}
-use Rattle.tcc_cert.specs.Reading.{Place, Reads, certificate_at, certificate_of, start_of}
+use Rattle.tcc_cert.specs.Reading.{Place, Reads, certificate_at, certificate_read, start_of}
 
--- what comes of a reader that fails and of want of memory
-abbrev pub IsFailure : CertFaultKind → Type 0
-IsFailure kind = (kind ≡ Read) ⊎ (kind ≡ NoMemory)
+-- what comes of a reader that failed, if it did, and of want of memory
+abbrev pub IsFailure : Type 0 → CertFaultKind → Type 0
+IsFailure failed kind = ((kind ≡ Read) × failed) ⊎ (kind ≡ NoMemory)
 
 -- what a line shows, unless memory was refused
 abbrev pub Shows : {X : Type 0} → Result X CertFaultKind → Result X CertFaultKind → Type 0
@@ -32,16 +32,21 @@ reached (Ok read) = read.1.line
 reached (Err fault) = fault.line
 
 -- the reader failed or memory was refused, no later than the line at which the reading would have ended
-pub record IsStopped {X : Type 0} (at : Place) (read : Reads X) (fault : CertFault) : Type 0 where
-  pub failure : IsFailure fault.kind
+pub record IsCutShort {X : Type 0} (failed : Type 0) (at : Place) (read : Reads X) (fault : CertFault) : Type 0 where
+  pub failure : IsFailure failed fault.kind
   pub first : at.line ≤ fault.line
   pub last : fault.line ≤ reached read
 
 -- the fault of the text, unless the reader failed or memory was refused
-abbrev pub Faults : {X : Type 0} → Place → Reads X → CertFault → Type 0
-Faults at read fault = (read ≡ Err fault) ⊎ IsStopped at read fault
+abbrev pub Faults : {X : Type 0} → Type 0 → Place → Reads X → CertFault → Type 0
+Faults failed at read fault = (read ≡ Err fault) ⊎ IsCutShort failed at read fault
 
--- the certificate that the bytes are the text of, or their first fault, unless the reader failed or memory was refused
+-- the certificate that the bytes are the text of, or their first fault, unless the reader failed, if it may have, or memory was refused
+abbrev pub IsReadingWhere : Type 0 → List ℕ → Result Certificate CertFault → Type 0
+IsReadingWhere failed bytes (Ok certificate) = certificate_read bytes ≡ Ok certificate
+IsReadingWhere failed bytes (Err fault) =
+    (certificate_read bytes ≡ Err fault) ⊎ IsCutShort failed (start_of bytes) (certificate_at (start_of bytes)) fault
+
+-- the same of a reader that is out of sight
 abbrev pub IsReading : List ℕ → Result Certificate CertFault → Type 0
-IsReading bytes (Ok certificate) = certificate_of bytes ≡ Ok certificate
-IsReading bytes (Err fault) = (certificate_of bytes ≡ Err fault) ⊎ IsStopped (start_of bytes) (certificate_at (start_of bytes)) fault
+IsReading bytes result = IsReadingWhere (Unit {0}) bytes result

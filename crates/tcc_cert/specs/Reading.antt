@@ -1,5 +1,6 @@
 -- How a certificate's text is read: line by line, up to the first fault. What the next line has to be follows from the lines before it.
 use Rattle.std.specs.Prelude.{ℕ, zero, suc, ◌+◌, Bool, not, ◌&&◌, ◌||◌, ◌==◌, nat_lt, if◌then◌else◌, List, [], ◌∷◌, length, take, drop, is_some, Result, Ok, Err, codes}
+use Rattle.tcc_cert.specs.declared.version_1.TheConstants.{V1_MAX_COST, V1_MAX_COUNT, V1_MAX_LINE_BYTES, V1_MAX_NUMBER, V1_MAX_SESSIONS}
 use Rattle.std.specs.List.{position_or_len, slice_split}
 use Rattle.std.specs.Str.{all_ascii_digits}
 use Rattle.std.specs.Str.Parse.{digits_value}
@@ -17,7 +18,7 @@ use Rattle.tcc_cert.specs.declared.certificate.Certificate.TheVariants as claim
 use Rattle.tcc_cert.specs.declared.reading.forms.Head.{Head}
 use Rattle.tcc_cert.specs.declared.reading.forms.Sizes.{Sizes}
 use Rattle.tcc_cert.specs.declared.reading.forms.Sizes.TheVariants.{Order, Cycle}
-use Rattle.tcc_cert.specs.Texts.{Words, most_cost}
+use Rattle.tcc_cert.specs.Texts.{Words}
 
 -- what comes next, or the fault that was met before
 infixl 10 ◌>>=◌
@@ -49,11 +50,11 @@ number_of least most word =
 
 -- a number of a transaction, or a place in a clock
 abbrev pub transaction_of : List ℕ → Result ℕ CertFaultKind
-transaction_of word = number_of 0 1023 word
+transaction_of word = number_of 0 V1_MAX_NUMBER word
 
 -- how many transactions, links or steps
 abbrev pub count_of : List ℕ → Result ℕ CertFaultKind
-count_of word = number_of 1 1024 word
+count_of word = number_of 1 V1_MAX_COUNT word
 
 abbrev pub key_of : List ℕ → Result (List ℕ) CertFaultKind
 key_of word = if is_some (name_fault word) then Err Word else Ok word
@@ -139,14 +140,14 @@ head_line (word ∷ fields) =
 abbrev pub order_sizes : List ℕ → List ℕ → Result Sizes CertFaultKind
 order_sizes n s = do
   transactions ← count_of n
-  sessions ← number_of 0 64 s
+  sessions ← number_of 0 V1_MAX_SESSIONS s
   Ok (Order transactions sessions)
 
 abbrev pub cycle_sizes : List ℕ → List ℕ → List ℕ → Result Sizes CertFaultKind
 cycle_sizes n m l = do
   transactions ← count_of n
   links ← count_of m
-  least ← number_of 0 most_cost l
+  least ← number_of 0 V1_MAX_COST l
   Ok (Cycle transactions links least)
 
 -- the line that says how long the parts of a claim are
@@ -180,7 +181,7 @@ line_length bytes = position_or_len (λ byte. byte == 10) bytes
 -- the next line: at most 8,191 bytes and a line feed
 abbrev pub line_of : List ℕ → Result (List ℕ) CertFaultKind
 line_of bytes =
-    if nat_lt 8191 (line_length bytes) then Err TooLarge
+    if nat_lt V1_MAX_LINE_BYTES (line_length bytes) then Err TooLarge
     else if nat_lt (line_length bytes) (length bytes) then Ok (take (line_length bytes) bytes)
     else Err Truncated
 
@@ -223,9 +224,9 @@ table_at rows columns most at = repeated (words (numbers_line columns most)) row
 
 abbrev pub order_at : ℕ → ℕ → Place → Reads Certificate
 order_at transactions sessions at = do
-  order ← words (numbers_line transactions 1023) at
+  order ← words (numbers_line transactions V1_MAX_NUMBER) at
   mark ← words (word_line (codes "clocks")) order.1
-  clocks ← table_at transactions sessions 1023 mark.1
+  clocks ← table_at transactions sessions V1_MAX_NUMBER mark.1
   end ← words (word_line (codes "end")) clocks.1
   Ok (claim.Order order.0 clocks.0, end.1)
 
@@ -233,9 +234,9 @@ abbrev pub cycle_at : ℕ → ℕ → ℕ → Place → Reads Certificate
 cycle_at transactions count least at = do
   links ← repeated link_at count at
   near_mark ← words (word_line (codes "near")) links.1
-  near ← table_at transactions transactions most_cost near_mark.1
+  near ← table_at transactions transactions V1_MAX_COST near_mark.1
   far_mark ← words (word_line (codes "far")) near.1
-  far ← table_at transactions transactions most_cost far_mark.1
+  far ← table_at transactions transactions V1_MAX_COST far_mark.1
   end ← words (word_line (codes "end")) far.1
   Ok (claim.Cycle links.0 least near.0 far.0, end.1)
 
@@ -259,7 +260,7 @@ abbrev pub start_of : List ℕ → Place
 start_of bytes = record { line = 1; bytes = bytes }
 
 -- the certificate whose text the bytes are, or the first fault
-abbrev pub certificate_of : List ℕ → Result Certificate CertFault
-certificate_of bytes = do
+abbrev pub certificate_read : List ℕ → Result Certificate CertFault
+certificate_read bytes = do
   certificate ← certificate_at (start_of bytes)
   ended certificate.0 certificate.1

@@ -1,9 +1,6 @@
 -- Tables of numbers, and places in them.
-use Rattle.std.specs.Prelude.{ℕ, ◌<◌, ◌≤◌, ◌≡◌, ◌⊎◌, List, [], length, All, slice_index, slice_index_or}
-
--- the row of a number, and nothing past the table
-abbrev pub row_of : List (List ℕ) → ℕ → List ℕ
-row_of table a = slice_index_or table a []
+use Rattle.std.specs.Prelude.{ℕ, ◌<◌, ◌≤◌, ◌≡◌, ◌⊎◌, List, length, All, slice_index}
+pub use Rattle.tcc_graph.specs.Tables.{row_of}
 
 -- the number at a place
 abbrev pub entry : List (List ℕ) → ℕ → ℕ → ℕ

@@ -1,5 +1,6 @@
 -- The text of a certificate: lines of words, the words parted by one space, each line ended by one line feed.
 use Rattle.std.specs.Prelude.{ℕ, ◌≤◌, ◌≡◌, List, [], ◌∷◌, ◌++◌, length, map, All, None, codes, decimal, flat_map}
+use Rattle.tcc_cert.specs.declared.version_1.TheConstants.{V1_MAX_COST, V1_MAX_COUNT, V1_MAX_NUMBER, V1_MAX_SESSIONS}
 use Rattle.std.specs.List.{join_by}
 use Rattle.tcc_txn.specs.Names.{name_fault}
 use Rattle.tcc_graph.specs.declared.step.Step.{Step}
@@ -77,15 +78,11 @@ certificate_text certificate = lines_text (header_words ∷ claim_lines certific
 -- a number of transactions, links or steps
 pub record IsCount (n : ℕ) : Type 0 where
   pub some : 1 ≤ n
-  pub limit : n ≤ 1024
+  pub limit : n ≤ V1_MAX_COUNT
 
 -- numbers of transactions, and the places in clocks
 abbrev pub IsNumber : ℕ → Type 0
-IsNumber n = n ≤ 1023
-
--- the cost of a cycle, and the numbers in its tables
-abbrev pub most_cost : ℕ
-most_cost = 1049600
+IsNumber n = n ≤ V1_MAX_NUMBER
 
 abbrev pub IsKey : List ℕ → Type 0
 IsKey key = name_fault key ≡ None
@@ -108,16 +105,16 @@ pub record HasTableText (rows : ℕ) (columns : ℕ) (most : ℕ) (table : List 
 pub record HasOrderText (k : OrderClaim) : Type 0 where
   pub count : IsCount (length k.order)
   pub numbers : All IsNumber k.order
-  pub sessions : length (row_of k.clocks 0) ≤ 64
-  pub clocks : HasTableText (length k.order) (length (row_of k.clocks 0)) 1023 k.clocks
+  pub sessions : length (row_of k.clocks 0) ≤ V1_MAX_SESSIONS
+  pub clocks : HasTableText (length k.order) (length (row_of k.clocks 0)) V1_MAX_NUMBER k.clocks
 
 pub record HasCycleText (k : CycleClaim) : Type 0 where
   pub count : IsCount (length k.near)
   pub steps : IsCount (length k.links)
   pub links : All HasLinkText k.links
-  pub least : k.least ≤ most_cost
-  pub near : HasTableText (length k.near) (length k.near) most_cost k.near
-  pub far : HasTableText (length k.near) (length k.near) most_cost k.far
+  pub least : k.least ≤ V1_MAX_COST
+  pub near : HasTableText (length k.near) (length k.near) V1_MAX_COST k.near
+  pub far : HasTableText (length k.near) (length k.near) V1_MAX_COST k.far
 
 -- the values that have a text
 abbrev pub HasText : Certificate → Type 0

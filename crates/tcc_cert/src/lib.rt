@@ -3,14 +3,15 @@
 
 mod certificate;
 mod fault;
-mod gathered;
 pub mod laws;
 mod lines;
 mod links;
 mod numbers;
+mod outgoing;
 mod reading;
 pub mod sending;
 mod table;
+pub mod version_1;
 mod writing;
 
 pub use certificate::Certificate;

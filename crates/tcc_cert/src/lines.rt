@@ -3,76 +3,76 @@ ghost use Rattle.std.specs.Prelude.{◌≡◌, ◌∷◌, map, flat_map, codes, 
 ghost use Rattle.tcc_cert.specs.Writing.{IsSent};
 ghost use Rattle.tcc_cert.specs.Texts.{words_text, line_text, lines_text, numbers_words, table_lines};
 
-use crate::gathered::Gathered;
+use crate::outgoing::Outgoing;
 use crate::{Numbers, Table};
 use itoa::Buffer;
 use std::io::{self, Write};
 
 /// A word after a space.
-fn later_word<W: Write>(gathered: &mut Gathered, out: &mut W, word: &[u8]) -> io::Result<()>
-    ensures { IsSent result (W.contents out.old) gathered.old (W.contents out.new) gathered.new (codes " " ++ word.now) }
+fn later_word<W: Write>(outgoing: &mut Outgoing, out: &mut W, word: &[u8]) -> io::Result<()>
+    ensures { IsSent result (W.contents out.old) outgoing.old (W.contents out.new) outgoing.new (codes " " ++ word.now) }
 {
-    gathered.put(out, b" ")?;
-    gathered.put(out, word)
+    outgoing.put(out, b" ")?;
+    outgoing.put(out, word)
 }
 
 /// Words, each after a space.
-fn later_words<W: Write>(gathered: &mut Gathered, out: &mut W, words: &[&[u8]]) -> io::Result<()>
-    ensures { IsSent result (W.contents out.old) gathered.old (W.contents out.new) gathered.new (flat_map (λ word. codes " " ++ word.now) words.now) }
+fn later_words<W: Write>(outgoing: &mut Outgoing, out: &mut W, words: &[&[u8]]) -> io::Result<()>
+    ensures { IsSent result (W.contents out.old) outgoing.old (W.contents out.new) outgoing.new (flat_map (λ word. codes " " ++ word.now) words.now) }
 {
     for word in words {
-        later_word(gathered, out, word)?;
+        later_word(outgoing, out, word)?;
     }
     Ok(())
 }
 
 /// A line of these words.
 pub(crate) fn line<W: Write>(
-    gathered: &mut Gathered,
+    outgoing: &mut Outgoing,
     out: &mut W,
     first: &[u8],
     later: &[&[u8]],
 ) -> io::Result<()>
-    ensures { IsSent result (W.contents out.old) gathered.old (W.contents out.new) gathered.new (line_text (first.now ∷ map (λ word. word.now) later.now)) }
+    ensures { IsSent result (W.contents out.old) outgoing.old (W.contents out.new) outgoing.new (line_text (first.now ∷ map (λ word. word.now) later.now)) }
 {
-    gathered.put(out, first)?;
-    later_words(gathered, out, later)?;
-    gathered.put(out, b"\n")
+    outgoing.put(out, first)?;
+    later_words(outgoing, out, later)?;
+    outgoing.put(out, b"\n")
 }
 
 /// Numbers, each after a space.
-fn later_numbers<W: Write>(gathered: &mut Gathered, out: &mut W, numbers: &[u32]) -> io::Result<()>
-    ensures { IsSent result (W.contents out.old) gathered.old (W.contents out.new) gathered.new (flat_map (λ number. codes " " ++ decimal number) numbers.now) }
+fn later_numbers<W: Write>(outgoing: &mut Outgoing, out: &mut W, numbers: &[u32]) -> io::Result<()>
+    ensures { IsSent result (W.contents out.old) outgoing.old (W.contents out.new) outgoing.new (flat_map (λ number. codes " " ++ decimal number) numbers.now) }
 {
     let mut buffer = Buffer::new();
     for number in numbers {
-        later_word(gathered, out, buffer.format(*number).as_bytes())?;
+        later_word(outgoing, out, buffer.format(*number).as_bytes())?;
     }
     Ok(())
 }
 
 /// A line of these numbers.
 pub(crate) fn number_line<W: Write>(
-    gathered: &mut Gathered,
+    outgoing: &mut Outgoing,
     out: &mut W,
     numbers: &[u32],
 ) -> io::Result<()>
-    ensures { IsSent result (W.contents out.old) gathered.old (W.contents out.new) gathered.new (line_text (numbers_words numbers.now)) }
+    ensures { IsSent result (W.contents out.old) outgoing.old (W.contents out.new) outgoing.new (line_text (numbers_words numbers.now)) }
 {
     let Some((first, later)) = numbers.split_first() else {
-        return gathered.put(out, b"\n");
+        return outgoing.put(out, b"\n");
     };
-    gathered.put(out, Buffer::new().format(*first).as_bytes())?;
-    later_numbers(gathered, out, later)?;
-    gathered.put(out, b"\n")
+    outgoing.put(out, Buffer::new().format(*first).as_bytes())?;
+    later_numbers(outgoing, out, later)?;
+    outgoing.put(out, b"\n")
 }
 
 /// A line for each row.
-pub(crate) fn table<W: Write>(gathered: &mut Gathered, out: &mut W, table: &Table) -> io::Result<()>
-    ensures { IsSent result (W.contents out.old) gathered.old (W.contents out.new) gathered.new (lines_text (table_lines table.now)) }
+pub(crate) fn table<W: Write>(outgoing: &mut Outgoing, out: &mut W, table: &Table) -> io::Result<()>
+    ensures { IsSent result (W.contents out.old) outgoing.old (W.contents out.new) outgoing.new (lines_text (table_lines table.now)) }
 {
     for row in table.rows() {
-        number_line(gathered, out, row.as_slice())?;
+        number_line(outgoing, out, row.as_slice())?;
     }
     Ok(())
 }

@@ -1,19 +1,21 @@
 //! How a certificate's text is read.
 ghost use Rattle.std.specs.Prelude.{◌≡◌, ℕ, IfSome, List};
-ghost use Rattle.tcc_cert.specs.Inputs.{Gives, IsAt};
-ghost use Rattle.tcc_cert.specs.Outcomes.{IsReading, Shows};
+ghost use Rattle.tcc_cert.specs.Inputs.{Gives, HasFailed, IsAt};
+ghost use Rattle.tcc_cert.specs.Outcomes.{IsReading, IsReadingWhere, Shows};
 ghost use Rattle.tcc_cert.specs.Reading.{Place, certificate_at, claim_at, cycle_at, header_line, next, order_at, sizes_line, start_of, word_line, words, words_of};
 
 mod decimals;
 mod forms;
-mod held;
 mod input;
 mod links;
 mod rows;
+mod source;
+mod window;
 mod words;
 
+use crate::version_1::{V1_MAX_COST, V1_MAX_NUMBER};
 use crate::{CertFault, CertFaultKind, Certificate};
-use forms::{MOST_COST, MOST_NUMBER, Sizes, sizes_line};
+use forms::{Sizes, sizes_line};
 use input::{Input, at_line};
 use links::links;
 use rows::{row, table};
@@ -90,14 +92,14 @@ fn order<R: Read>(
 ) -> Result<Certificate, CertFault>
     ensures { (at : Place) → IsAt R.remaining input.old at → Gives R.remaining at (order_at transactions sessions at) result input.new }
 {
-    let order = row(alloc, input, transactions as usize, MOST_NUMBER)?;
+    let order = row(alloc, input, transactions as usize, V1_MAX_NUMBER)?;
     mark(alloc, input, b"clocks")?;
     let clocks = table(
         alloc,
         input,
         transactions as usize,
         sessions as usize,
-        MOST_NUMBER,
+        V1_MAX_NUMBER,
     )?;
     mark(alloc, input, b"end")?;
     Ok(Certificate::Order { order, clocks })
@@ -116,9 +118,9 @@ fn cycle<R: Read>(
     let size = transactions as usize;
     let links = links(alloc, input, count)?;
     mark(alloc, input, b"near")?;
-    let near = table(alloc, input, size, size, MOST_COST)?;
+    let near = table(alloc, input, size, size, V1_MAX_COST)?;
     mark(alloc, input, b"far")?;
-    let far = table(alloc, input, size, size, MOST_COST)?;
+    let far = table(alloc, input, size, size, V1_MAX_COST)?;
     mark(alloc, input, b"end")?;
     Ok(Certificate::Cycle {
         links,
@@ -148,7 +150,7 @@ fn certificate<R: Read>(alloc: Global, input: &mut Input<R>) -> Result<Certifica
 
 /// A certificate that nothing stands behind.
 fn whole<R: Read>(alloc: Global, input: &mut Input<R>) -> Result<Certificate, CertFault>
-    ensures { (bytes : List ℕ) → IsAt R.remaining input.old (start_of bytes) → IsReading bytes result }
+    ensures { (bytes : List ℕ) → IsAt R.remaining input.old (start_of bytes) → IsReadingWhere (HasFailed input.new) bytes result }
 {
     let certificate = certificate(alloc, input)?;
     match input.end() {

@@ -7,8 +7,8 @@ ghost use Rattle.tcc_cert.specs.Tables.{row_of};
 ghost use Rattle.tcc_cert.specs.Writing.{IsSent};
 ghost use Rattle.tcc_cert.specs.Texts.{line_text, lines_text, step_words, link_lines, order_lines, cycle_lines, claim_lines, certificate_text};
 
-use crate::gathered::Gathered;
 use crate::lines::{line, number_line, table};
+use crate::outgoing::Outgoing;
 use crate::{Certificate, Links, Numbers, Table, WriteFault};
 use itoa::Buffer;
 use std::io::{self, Write};
@@ -16,24 +16,24 @@ use tcc_graph::{Link, Step};
 use tcc_txn::Name;
 
 /// `S u v`
-fn session<W: Write>(gathered: &mut Gathered, out: &mut W, from: u32, to: u32) -> io::Result<()>
-    ensures { IsSent result (W.contents out.old) gathered.old (W.contents out.new) gathered.new (line_text (step_words (step.Session from to))) }
+fn session<W: Write>(outgoing: &mut Outgoing, out: &mut W, from: u32, to: u32) -> io::Result<()>
+    ensures { IsSent result (W.contents out.old) outgoing.old (W.contents out.new) outgoing.new (line_text (step_words (step.Session from to))) }
 {
     let mut first = Buffer::new();
     let mut second = Buffer::new();
     let words = [first.format(from).as_bytes(), second.format(to).as_bytes()];
-    line(gathered, out, b"S", &words)
+    line(outgoing, out, b"S", &words)
 }
 
 /// `R u v KEY`
 fn reads<W: Write>(
-    gathered: &mut Gathered,
+    outgoing: &mut Outgoing,
     out: &mut W,
     from: u32,
     to: u32,
     key: &Name,
 ) -> io::Result<()>
-    ensures { IsSent result (W.contents out.old) gathered.old (W.contents out.new) gathered.new (line_text (step_words (step.Reads from to key.now))) }
+    ensures { IsSent result (W.contents out.old) outgoing.old (W.contents out.new) outgoing.new (line_text (step_words (step.Reads from to key.now))) }
 {
     let mut first = Buffer::new();
     let mut second = Buffer::new();
@@ -42,31 +42,31 @@ fn reads<W: Write>(
         second.format(to).as_bytes(),
         key.bytes(),
     ];
-    line(gathered, out, b"R", &words)
+    line(outgoing, out, b"R", &words)
 }
 
-fn step<W: Write>(gathered: &mut Gathered, out: &mut W, step: &Step) -> io::Result<()>
-    ensures { IsSent result (W.contents out.old) gathered.old (W.contents out.new) gathered.new (line_text (step_words step.now)) }
+fn step<W: Write>(outgoing: &mut Outgoing, out: &mut W, step: &Step) -> io::Result<()>
+    ensures { IsSent result (W.contents out.old) outgoing.old (W.contents out.new) outgoing.new (line_text (step_words step.now)) }
 {
     match step {
-        Step::Session { from, to } => session(gathered, out, *from, *to),
-        Step::Reads { from, to, key } => reads(gathered, out, *from, *to, key),
+        Step::Session { from, to } => session(outgoing, out, *from, *to),
+        Step::Reads { from, to, key } => reads(outgoing, out, *from, *to, key),
     }
 }
 
 /// A line for each step.
-fn steps<W: Write>(gathered: &mut Gathered, out: &mut W, steps: &[Step]) -> io::Result<()>
-    ensures { IsSent result (W.contents out.old) gathered.old (W.contents out.new) gathered.new (lines_text (map step_words steps.now)) }
+fn steps<W: Write>(outgoing: &mut Outgoing, out: &mut W, steps: &[Step]) -> io::Result<()>
+    ensures { IsSent result (W.contents out.old) outgoing.old (W.contents out.new) outgoing.new (lines_text (map step_words steps.now)) }
 {
     for one in steps {
-        step(gathered, out, one)?;
+        step(outgoing, out, one)?;
     }
     Ok(())
 }
 
 /// `D b a KEY c W`
 fn derived<W: Write>(
-    gathered: &mut Gathered,
+    outgoing: &mut Outgoing,
     out: &mut W,
     from: u32,
     to: u32,
@@ -74,7 +74,7 @@ fn derived<W: Write>(
     reader: u32,
     steps: usize,
 ) -> io::Result<()>
-    ensures { IsSent result (W.contents out.old) gathered.old (W.contents out.new) gathered.new (line_text (codes "D" ∷ decimal from ∷ decimal to ∷ key.now ∷ decimal reader ∷ decimal steps ∷ [])) }
+    ensures { IsSent result (W.contents out.old) outgoing.old (W.contents out.new) outgoing.new (line_text (codes "D" ∷ decimal from ∷ decimal to ∷ key.now ∷ decimal reader ∷ decimal steps ∷ [])) }
 {
     let mut first = Buffer::new();
     let mut second = Buffer::new();
@@ -87,15 +87,15 @@ fn derived<W: Write>(
         third.format(reader).as_bytes(),
         fourth.format(steps).as_bytes(),
     ];
-    line(gathered, out, b"D", &words)
+    line(outgoing, out, b"D", &words)
 }
 
-fn link<W: Write>(gathered: &mut Gathered, out: &mut W, link: &Link) -> io::Result<()>
-    ensures { IsSent result (W.contents out.old) gathered.old (W.contents out.new) gathered.new (lines_text (link_lines link.now)) }
+fn link<W: Write>(outgoing: &mut Outgoing, out: &mut W, link: &Link) -> io::Result<()>
+    ensures { IsSent result (W.contents out.old) outgoing.old (W.contents out.new) outgoing.new (lines_text (link_lines link.now)) }
 {
     match link {
-        Link::Session { from, to } => session(gathered, out, *from, *to),
-        Link::Reads { from, to, key } => reads(gathered, out, *from, *to, key),
+        Link::Session { from, to } => session(outgoing, out, *from, *to),
+        Link::Reads { from, to, key } => reads(outgoing, out, *from, *to, key),
         Link::Derived {
             from,
             to,
@@ -103,18 +103,18 @@ fn link<W: Write>(gathered: &mut Gathered, out: &mut W, link: &Link) -> io::Resu
             reader,
             walk,
         } => {
-            derived(gathered, out, *from, *to, key, *reader, walk.steps().len())?;
-            steps(gathered, out, walk.steps())
+            derived(outgoing, out, *from, *to, key, *reader, walk.steps().len())?;
+            steps(outgoing, out, walk.steps())
         }
     }
 }
 
 /// The lines of each link.
-fn links<W: Write>(gathered: &mut Gathered, out: &mut W, links: &Links) -> io::Result<()>
-    ensures { IsSent result (W.contents out.old) gathered.old (W.contents out.new) gathered.new (lines_text (flat_map link_lines links.now)) }
+fn links<W: Write>(outgoing: &mut Outgoing, out: &mut W, links: &Links) -> io::Result<()>
+    ensures { IsSent result (W.contents out.old) outgoing.old (W.contents out.new) outgoing.new (lines_text (flat_map link_lines links.now)) }
 {
     for one in links.as_slice() {
-        link(gathered, out, one)?;
+        link(outgoing, out, one)?;
     }
     Ok(())
 }
@@ -131,12 +131,12 @@ fn columns(table: &Table) -> usize
 
 /// `order N S`
 fn order_sizes<W: Write>(
-    gathered: &mut Gathered,
+    outgoing: &mut Outgoing,
     out: &mut W,
     transactions: usize,
     sessions: usize,
 ) -> io::Result<()>
-    ensures { IsSent result (W.contents out.old) gathered.old (W.contents out.new) gathered.new (line_text (codes "order" ∷ decimal transactions ∷ decimal sessions ∷ [])) }
+    ensures { IsSent result (W.contents out.old) outgoing.old (W.contents out.new) outgoing.new (line_text (codes "order" ∷ decimal transactions ∷ decimal sessions ∷ [])) }
 {
     let mut first = Buffer::new();
     let mut second = Buffer::new();
@@ -144,34 +144,34 @@ fn order_sizes<W: Write>(
         first.format(transactions).as_bytes(),
         second.format(sessions).as_bytes(),
     ];
-    line(gathered, out, b"order", &words)
+    line(outgoing, out, b"order", &words)
 }
 
 /// What a claim of an order says after the first line.
 fn order<W: Write>(
-    gathered: &mut Gathered,
+    outgoing: &mut Outgoing,
     out: &mut W,
     order: &Numbers,
     clocks: &Table,
 ) -> io::Result<()>
-    ensures { IsSent result (W.contents out.old) gathered.old (W.contents out.new) gathered.new (lines_text (order_lines order.now clocks.now)) }
+    ensures { IsSent result (W.contents out.old) outgoing.old (W.contents out.new) outgoing.new (lines_text (order_lines order.now clocks.now)) }
 {
-    order_sizes(gathered, out, order.as_slice().len(), columns(clocks))?;
-    number_line(gathered, out, order.as_slice())?;
-    line(gathered, out, b"clocks", &[])?;
-    table(gathered, out, clocks)?;
-    line(gathered, out, b"end", &[])
+    order_sizes(outgoing, out, order.as_slice().len(), columns(clocks))?;
+    number_line(outgoing, out, order.as_slice())?;
+    line(outgoing, out, b"clocks", &[])?;
+    table(outgoing, out, clocks)?;
+    line(outgoing, out, b"end", &[])
 }
 
 /// `cycle N M L`
 fn cycle_sizes<W: Write>(
-    gathered: &mut Gathered,
+    outgoing: &mut Outgoing,
     out: &mut W,
     transactions: usize,
     links: usize,
     least: u32,
 ) -> io::Result<()>
-    ensures { IsSent result (W.contents out.old) gathered.old (W.contents out.new) gathered.new (line_text (codes "cycle" ∷ decimal transactions ∷ decimal links ∷ decimal least ∷ [])) }
+    ensures { IsSent result (W.contents out.old) outgoing.old (W.contents out.new) outgoing.new (line_text (codes "cycle" ∷ decimal transactions ∷ decimal links ∷ decimal least ∷ [])) }
 {
     let mut first = Buffer::new();
     let mut second = Buffer::new();
@@ -181,53 +181,53 @@ fn cycle_sizes<W: Write>(
         second.format(links).as_bytes(),
         third.format(least).as_bytes(),
     ];
-    line(gathered, out, b"cycle", &words)
+    line(outgoing, out, b"cycle", &words)
 }
 
 /// What a claim of a cycle says after the first line.
 fn cycle<W: Write>(
-    gathered: &mut Gathered,
+    outgoing: &mut Outgoing,
     out: &mut W,
     parts: &Links,
     least: u32,
     near: &Table,
     far: &Table,
 ) -> io::Result<()>
-    ensures { IsSent result (W.contents out.old) gathered.old (W.contents out.new) gathered.new (lines_text (cycle_lines parts.now least near.now far.now)) }
+    ensures { IsSent result (W.contents out.old) outgoing.old (W.contents out.new) outgoing.new (lines_text (cycle_lines parts.now least near.now far.now)) }
 {
     cycle_sizes(
-        gathered,
+        outgoing,
         out,
         near.rows().len(),
         parts.as_slice().len(),
         least,
     )?;
-    links(gathered, out, parts)?;
-    line(gathered, out, b"near", &[])?;
-    table(gathered, out, near)?;
-    line(gathered, out, b"far", &[])?;
-    table(gathered, out, far)?;
-    line(gathered, out, b"end", &[])
+    links(outgoing, out, parts)?;
+    line(outgoing, out, b"near", &[])?;
+    table(outgoing, out, near)?;
+    line(outgoing, out, b"far", &[])?;
+    table(outgoing, out, far)?;
+    line(outgoing, out, b"end", &[])
 }
 
 fn claim<W: Write>(
-    gathered: &mut Gathered,
+    outgoing: &mut Outgoing,
     out: &mut W,
     certificate: &Certificate,
 ) -> io::Result<()>
-    ensures { IsSent result (W.contents out.old) gathered.old (W.contents out.new) gathered.new (lines_text (claim_lines certificate.now)) }
+    ensures { IsSent result (W.contents out.old) outgoing.old (W.contents out.new) outgoing.new (lines_text (claim_lines certificate.now)) }
 {
     match certificate {
         Certificate::Order {
             order: numbers,
             clocks,
-        } => order(gathered, out, numbers, clocks),
+        } => order(outgoing, out, numbers, clocks),
         Certificate::Cycle {
             links,
             least,
             near,
             far,
-        } => cycle(gathered, out, links, *least, near, far),
+        } => cycle(outgoing, out, links, *least, near, far),
     }
 }
 
@@ -237,10 +237,10 @@ pub fn write<W: Write>(certificate: &Certificate, out: &mut W) -> Result<(), Wri
     ensures whole { OnOk result (Appends (W.contents out.old) (W.contents out.new) (certificate_text certificate.now)) }
     ensures part { OnErr result ((n : ℕ) × Appends (W.contents out.old) (W.contents out.new) (take n (certificate_text certificate.now))) }
 {
-    let mut gathered = Gathered::new();
-    line(&mut gathered, out, b"tcc-certificate", &[b"1"])?;
-    claim(&mut gathered, out, certificate)?;
-    gathered.send(out)?;
+    let mut outgoing = Outgoing::new();
+    line(&mut outgoing, out, b"tcc-certificate", &[b"1"])?;
+    claim(&mut outgoing, out, certificate)?;
+    outgoing.send(out)?;
     out.flush()?;
     Ok(())
 }

@@ -15,7 +15,7 @@ use Rattle.tcc_cert.specs.Tables.{entry}
 use Rattle.tcc_cert.specs.CycleRules.{CycleClaim, IsLinkRight, ends_at}
 use Rattle.tcc_cert.specs.Rules.{CertifiesCycle}
 use Rattle.tcc_check.proofs.Decisions.{true_at_last, link_right}
-use Rattle.tcc_check.proofs.Ends.{ends_at-push, ends_at_some}
+use Rattle.tcc_cert.proofs.Ends.{ends_at-push, ends_at_some}
 use Rattle.tcc_graph.proofs.Pairs.{step_pair, pair_below, link_below}
 
 not_above : (m n : ℕ) → (n < m → ⊥) → m ≤ n

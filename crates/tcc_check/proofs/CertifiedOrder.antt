@@ -12,7 +12,7 @@ use Rattle.tcc_cert.specs.OrderRules.{OrderClaim, MayReach}
 use Rattle.tcc_cert.specs.Rules.{CertifiesOrder}
 use Rattle.tcc_graph.proofs.Pairs.{step_pair}
 use Rattle.tcc_check.proofs.Entries.{entry_past}
-use Rattle.tcc_check.proofs.Numbering.{order_of_two}
+use Rattle.tcc_graph.proofs.Numberings.{order_of_two}
 
 module _ (h : History) (k : OrderClaim) (good : CertifiesOrder h k) where
   -- past the last session every clock has nothing
@@ -42,7 +42,7 @@ module _ (h : History) (k : OrderClaim) (good : CertifiesOrder h k) where
 
   reason_before : (b a : ℕ) (x : List ℕ) (c : ℕ) (walk : List Step) → IsReason h b a x c walk → Before k.order b a
   reason_before b a x c walk r =
-      order_of_two (count h) k.order good.pairs.numbering b a r.0.2.0 r.0.1.0 r.0.0
+      order_of_two good.pairs.numbering b a r.0.2.0 r.0.1.0 r.0.0
       (λ not. good.axiom_of (b, a) (x, c, r.0, may_reach b c walk r.1, not))
 
   pub commit_order : IsCommitOrder h k.order

@@ -12,7 +12,7 @@ use Rattle.tcc_graph.specs.declared.step.Step.TheVariants as step
 use Rattle.tcc_graph.specs.declared.link.Link.{Link}
 use Rattle.tcc_graph.specs.declared.link.Link.TheVariants as link
 use Rattle.tcc_cert.specs.CycleRules.{IsLinkRight}
-use Rattle.tcc_check.proofs.Names.{has_name-contains, contains-has_name}
+use Rattle.tcc_graph.proofs.NameLemmas.{has_name-contains, contains-has_name}
 
 -- a fact holds, or it does not
 abbrev pub IsDecided : Type 0 → Type 0

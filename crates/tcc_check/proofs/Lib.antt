@@ -1,6 +1,3 @@
-pub mod Names
-pub mod Ends
-pub mod Numbering
 pub mod Lowering
 pub mod Seen
 pub mod Writers
@@ -14,7 +11,6 @@ pub mod Bounds
 pub mod Asked
 pub mod Rules
 pub mod Ordered
-pub mod Written
 pub mod Entries
 pub mod Decisions
 pub mod CertifiedCycle

@@ -10,7 +10,7 @@ use Rattle.tcc_graph.specs.declared.step.Step.{Step}
 use Rattle.tcc_graph.specs.declared.link.Link.{Link}
 use Rattle.tcc_cert.specs.CycleRules.{IsLinkRight, ends_at, IsLinkWrong}
 use Rattle.tcc_check.specs.Links.{AreLinksRight, IsFirstWrong}
-use Rattle.tcc_check.proofs.Ends.{ends_at-push}
+use Rattle.tcc_cert.proofs.Ends.{ends_at-push}
 
 -- the steps lead from the start exactly where those after the first i lead from here
 pub record IsRestOf (h : History) (from at to i : ℕ) (steps : List Step) : Type 0 where

@@ -9,15 +9,15 @@ use Rattle.tcc_cert.specs.OrderRules.{KeepsPairs, BreaksAxiom}
 use Rattle.tcc_cert.specs.Rules.{HoldsEverywhere}
 use Rattle.tcc_check.specs.Weights.{unlinked, ContradictionWeighs, IsLeastTable}
 use Rattle.tcc_check.specs.Places.{ArePlaces, IsKept, AreGaps, IsUnordered}
-use Rattle.tcc_check.proofs.Numbering.{one_place}
+use Rattle.tcc_graph.proofs.Numberings.{one_place}
 use Rattle.tcc_graph.proofs.Pairs.{pair_below}
 use Rattle.tcc_check.proofs.First.{first_as, nowhere_as}
 
 module _ (order places : List ℕ) (are : ArePlaces order places) where
   pub before_places : (a b : ℕ) → a < length order → b < length order → Before order a b → get_or places a 0 < get_or places b 0
   before_places a b l m (i, j, low, within, at_a, at_b) =
-      let one = one_place (length order) order are.numbering (get_or places a 0) i (are.within a l) (omega arith) (are.here a l ∙ sym at_a) in
-      let two = one_place (length order) order are.numbering (get_or places b 0) j (are.within b m) within (are.here b m ∙ sym at_b) in
+      let one = one_place are.numbering (get_or places a 0) i (are.within a l) (omega arith) (are.here a l ∙ sym at_a) in
+      let two = one_place are.numbering (get_or places b 0) j (are.within b m) within (are.here b m ∙ sym at_b) in
       omega arith
 
   pub places_before : (a b : ℕ) → a < length order → b < length order → get_or places a 0 < get_or places b 0 → Before order a b

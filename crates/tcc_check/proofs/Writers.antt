@@ -1,34 +1,19 @@
 -- Who writes a key, by the list of writers.
-use Rattle.std.proofs.Common.{◌≡◌, ◌↔◌, eqb, ◌<◌, ℕ, zero, suc, Bool, true, false, ◌⊎◌, inl, inr, List, [], ◌∷◌, length, get_or, cond, arith, refl, ap, ◌∙◌, zero-add}
+use Rattle.std.proofs.Common.{◌≡◌, ◌↔◌, eqb, ◌<◌, ℕ, zero, suc, Bool, true, false, ◌⊎◌, inl, inr, List, [], ◌∷◌, length, get_or, cond, arith, ap, ◌∙◌, zero-add}
 use Rattle.std.specs.Prelude.{filter, map, All, bytes_eq}
 use Rattle.std.specs.List.{Contains, range_with_len, list_any}
-use Rattle.std.proofs.lemmas.Bool.{cases_Bool, false≢true, or_cases, or_left, or_right, eqb-true, eq-eqb}
+use Rattle.std.proofs.lemmas.Bool.{cases_Bool, or_cases, or_left, eqb-true}
 use Rattle.std.proofs.lemmas.List.Folds.{list_any-append, list_any_at}
 use Rattle.tcc_reads.specs.History.{History, count, entry_at, initial}
 use Rattle.tcc_graph.specs.Relations.{reads_from, IsReadsPair}
 use Rattle.tcc_graph.specs.Keys.{has_name, keys_of, is_key, writes, IsWriter, writers, readers, numbers}
+use Rattle.tcc_txn.proofs.Lists.{found_number, number_found}
 use Rattle.tcc_graph.proofs.KeysLemmas.{no_readers}
 use Rattle.tcc_graph.proofs.KeyTableLemmas.{All-filter_range}
 use Rattle.std.proofs.lemmas.List.{get_or_default}
-use Rattle.std.proofs.lemmas.List.Elements.{All-contains}
+use Rattle.std.proofs.lemmas.List.Elements.{All-contains, filter_passes}
 use Rattle.std.proofs.lemmas.List.FromFn.{length-range_with_len, get_or-range_with_len}
-use Rattle.tcc_check.proofs.Names.{contains-has_name}
-
--- what a filter keeps is in the list and passes
-filter_kept : (p : ℕ → Bool) (xs : List ℕ) (x : ℕ) → Contains (filter p xs) x → Contains xs x × (p x ≡ true)
-filter_kept p [] x (k, l, e) = absurd (omega arith)
-filter_kept p (y ∷ xs) x h = go (filter_kept p xs x) (p y) refl h
-  where
-    later : Contains xs x × (p x ≡ true) → Contains (y ∷ xs) x × (p x ≡ true)
-    later w = ((suc w.0.0, omega (arith, w.0.1), w.0.2), w.1)
-
-    kept : (Contains (filter p xs) x → Contains xs x × (p x ≡ true)) → p y ≡ true → Contains (y ∷ filter p xs) x → Contains (y ∷ xs) x × (p x ≡ true)
-    kept rest t (zero, l, e) = ((0, omega arith, e), rw (← e) t)
-    kept rest t (suc k, l, e) = later (rest (k, omega arith, e))
-
-    go : (Contains (filter p xs) x → Contains xs x × (p x ≡ true)) → (b : Bool) → p y ≡ b → Contains (cond b (y ∷ filter p xs) (filter p xs)) x → Contains (y ∷ xs) x × (p x ≡ true)
-    go rest true t w = kept rest t w
-    go rest false f w = later (rest w)
+use Rattle.tcc_graph.proofs.NameLemmas.{contains-has_name}
 
 -- what passes is kept
 kept_filter : (p : ℕ → Bool) (xs : List ℕ) (x : ℕ) → Contains xs x → p x ≡ true → Contains (filter p xs) x
@@ -49,7 +34,7 @@ module _ (h : History) (x : List ℕ) where
   listed_writer b w = go (is_key h x) w
     where
       kept : Contains (filter (λ u. writes h u x) (numbers h)) b → IsWriter h b x
-      kept v = (All-contains (λ u. u < count h) (filter (λ u. writes h u x) (numbers h)) b (All-filter_range (λ u. writes h u x) (count h)) v, (filter_kept (λ u. writes h u x) (numbers h) b v).1)
+      kept v = (All-contains (λ u. u < count h) (filter (λ u. writes h u x) (numbers h)) b (All-filter_range (λ u. writes h u x) (count h)) v, All-contains (λ u. writes h u x ≡ true) (filter (λ u. writes h u x) (numbers h)) b (filter_passes (λ u. writes h u x) (numbers h)) v)
 
       go : (k : Bool) → Contains (cond k (filter (λ u. writes h u x) (numbers h)) []) b → IsWriter h b x
       go true v = kept v
@@ -85,19 +70,6 @@ writer_keyed h x b other w = rw key (kept_filter (λ u. writes h u x) (numbers h
     key : is_key h x ≡ true
     key = list_any_at (λ e. has_name (keys_of e) x) h.entries b initial w.0 (written (or_cases (eqb b 0) (has_name (entry_at h b).writes x) w.1))
 
-find : (xs : List ℕ) (x : ℕ) → list_any (λ y. eqb y x) xs ≡ true → Contains xs x
-find [] x h = absurd (false≢true h)
-find (y ∷ xs) x h = go (find xs x) (or_cases (eqb y x) (list_any (λ z. eqb z x) xs) h)
-  where
-    go : (list_any (λ z. eqb z x) xs ≡ true → Contains xs x) → (eqb y x ≡ true) ⊎ (list_any (λ z. eqb z x) xs ≡ true) → Contains (y ∷ xs) x
-    go rest (inl e) = (0, omega arith, eqb-true y x e)
-    go rest (inr r) = let w = rest r in (suc w.0, omega (arith, w.1), w.2)
-
-found : (xs : List ℕ) (x : ℕ) → Contains xs x → list_any (λ y. eqb y x) xs ≡ true
-found [] x (k, l, e) = absurd (omega arith)
-found (y ∷ xs) x (zero, l, e) = or_left _ _ (eq-eqb y x e)
-found (y ∷ xs) x (suc k, l, e) = or_right _ _ (found xs x (k, omega arith, e))
-
 -- a search of the list tells who writes
 pub searched : (h : History) (x : List ℕ) (b : ℕ) → (b ≡ 0 → ⊥) → (list_any (λ y. eqb y b) (writers h x) ≡ true) ↔ IsWriter h b x
-searched h x b other = (λ e. listed_writer h x b (find (writers h x) b e), λ w. found (writers h x) b (writer_keyed h x b other w))
+searched h x b other = (λ e. listed_writer h x b (found_number (writers h x) b e), λ w. number_found (writers h x) b (writer_keyed h x b other w))

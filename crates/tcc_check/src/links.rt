@@ -3,7 +3,7 @@ ghost use Rattle.std.specs.Prelude.{◌≡◌, ◌<◌, ◌+◌, ◌↔◌, leng
 ghost use Rattle.tcc_reads.specs.History.{count};
 ghost use Rattle.tcc_graph.specs.Relations.{IsReadsPair};
 ghost use Rattle.tcc_graph.specs.Keys.{IsWriter};
-ghost use Rattle.tcc_graph.specs.Walks.{step_from, step_to, IsStep, Leads, IsWalk};
+ghost use Rattle.tcc_graph.specs.Walks.{IsStep, Leads, IsWalk};
 ghost use Rattle.tcc_graph.specs.Links.{IsReason, link_to, link_cost, cost};
 ghost use Rattle.tcc_cert.specs.CycleRules.{IsStepBelow, IsLinkBelow, IsLinkRight, ends_at};
 ghost use Rattle.tcc_check.specs.Links.{AreLinksRight, IsFirstWrong};
@@ -28,26 +28,6 @@ fn is_writer(graph: &Graph, writer: u32, key: &Name) -> bool
     writer == 0 || graph.writers(key).contains(&writer)
 }
 
-/// Where a step begins.
-fn step_from(step: &Step) -> u32
-    ensures { result ≡ step_from step.now }
-{
-    match step {
-        Step::Session { from, .. } => *from,
-        Step::Reads { from, .. } => *from,
-    }
-}
-
-/// Where a step ends.
-fn step_to(step: &Step) -> u32
-    ensures { result ≡ step_to step.now }
-{
-    match step {
-        Step::Session { to, .. } => *to,
-        Step::Reads { to, .. } => *to,
-    }
-}
-
 /// Whether the step is a pair of the history.
 fn is_step(graph: &Graph, step: &Step) -> bool
     requires { IsStepBelow (count graph.now) step.now }
@@ -66,10 +46,10 @@ fn leads(graph: &Graph, from: u32, to: u32, steps: &[Step]) -> bool
 {
     let mut at = from;
     for step in steps {
-        if step_from(step) != at || !is_step(graph, step) {
+        if step.from() != at || !is_step(graph, step) {
             return false;
         }
-        at = step_to(step);
+        at = step.to();
     }
     at == to
 }

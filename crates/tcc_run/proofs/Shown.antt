@@ -10,7 +10,7 @@ use Rattle.tcc_txn.specs.declared.rows.RowFaultKind.TheVariants as row_kind
 use Rattle.tcc_reads.specs.Faults.{read_faults}
 use Rattle.tcc_reads.specs.History.{History}
 use Rattle.tcc_reads.specs.Sources.{history}
-use Rattle.tcc_cert.specs.Reading.{certificate_of}
+use Rattle.tcc_cert.specs.Reading.{certificate_read}
 use Rattle.tcc_cert.specs.Rules.{Certifies}
 use Rattle.tcc_cert.specs.declared.certificate.Certificate.{Certificate}
 use Rattle.tcc_cert.specs.declared.certificate.Certificate.TheVariants as claim
@@ -70,7 +70,7 @@ pub record IsJudged (records : List ℕ) (text : List ℕ) (k : Certificate) (v 
   pub unfaulted : (answers_of records).fault ≡ None
   pub snapshot : IsSnapshotOf (answers_of records).items sessions
   pub resolved : read_faults sessions ≡ []
-  pub read : certificate_of text ≡ Ok k
+  pub read : certificate_read text ≡ Ok k
   pub judged : IsVerdict (history sessions) k v
 
 judged_records : (records text : List ℕ) (judged : Judged) (found : Option RowFault) → (answers_of records).fault ≡ found

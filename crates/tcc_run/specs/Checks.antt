@@ -9,7 +9,7 @@ use Rattle.tcc_reads.specs.Faults.{read_faults}
 use Rattle.tcc_reads.specs.History.{History}
 use Rattle.tcc_reads.specs.Sources.{history}
 use Rattle.tcc_cert.specs.Outcomes.{IsReading}
-use Rattle.tcc_cert.specs.Reading.{certificate_of}
+use Rattle.tcc_cert.specs.Reading.{certificate_read}
 use Rattle.tcc_cert.specs.declared.certificate.Certificate.{Certificate}
 use Rattle.tcc_cert.specs.declared.fault.CertFaultKind.TheVariants as text_kind
 use Rattle.tcc_check.specs.Verdicts.{IsVerdict, IsTrueClaim}
@@ -23,7 +23,7 @@ use Rattle.tcc_run.specs.Statuses.{check_status}
 -- what comes of the certificate's text, for a history: the verdict on the certificate that it is the text of, else its
 -- first fault, or that of a reader that failed before
 abbrev pub IsTextCheck : History → List ℕ → Result Judged Halt → Type 0
-IsTextCheck h text (Ok judged) = (certificate_of text ≡ Ok judged.certificate) × IsVerdict h judged.certificate judged.verdict
+IsTextCheck h text (Ok judged) = (certificate_read text ≡ Ok judged.certificate) × IsVerdict h judged.certificate judged.verdict
 IsTextCheck h text (Err (Text fault)) = IsReading text (Err fault) × (fault.kind ≢ text_kind.NoMemory)
 IsTextCheck h text (Err _) = ⊥
 
@@ -69,5 +69,5 @@ pub record IsShown (records : List ℕ) (text : List ℕ) : Type 0 where
   pub unfaulted : (rows.answers_of records).fault ≡ None
   pub snapshot : IsSnapshotOf (rows.answers_of records).items sessions
   pub resolved : read_faults sessions ≡ []
-  pub read : certificate_of text ≡ Ok certificate
+  pub read : certificate_read text ≡ Ok certificate
   pub true_claim : IsTrueClaim (history sessions) certificate

@@ -4,21 +4,10 @@ ghost use Rattle.tcc_cert.specs.Reading.{count_of, cycle_sizes, derived_of, five
 
 use super::decimals::number_of;
 use crate::CertFaultKind;
+use crate::version_1::{V1_MAX_COST, V1_MAX_COUNT, V1_MAX_NUMBER, V1_MAX_SESSIONS};
 use std::alloc::Global;
 use tcc_graph::{Link, Step, Walk};
 use tcc_txn::Name;
-
-/// The greatest number of transactions, links or steps.
-const MOST_COUNT: u32 = 1024;
-
-/// The greatest number of sessions.
-const MOST_SESSIONS: u32 = 64;
-
-/// The greatest number of a transaction, and the greatest place in a clock.
-pub(crate) const MOST_NUMBER: u32 = 1023;
-
-/// The greatest cost of a cycle.
-pub(crate) const MOST_COST: u32 = 1_049_600;
 
 /// A link without its walk, and how many steps that has.
 #[derive(Drop)]
@@ -45,14 +34,14 @@ pub(crate) enum Sizes {
 fn transaction_of(word: &[u8]) -> Result<u32, CertFaultKind>
     ensures { result ≡ transaction_of word.now }
 {
-    number_of(word, 0, MOST_NUMBER)
+    number_of(word, 0, V1_MAX_NUMBER)
 }
 
 /// How many transactions, links or steps.
 fn count_of(word: &[u8]) -> Result<u32, CertFaultKind>
     ensures { result ≡ count_of word.now }
 {
-    number_of(word, 1, MOST_COUNT)
+    number_of(word, 1, V1_MAX_COUNT)
 }
 
 fn key_of(word: &[u8]) -> Result<Name, CertFaultKind>
@@ -186,7 +175,7 @@ fn order_sizes(transactions: &[u8], sessions: &[u8]) -> Result<Sizes, CertFaultK
 {
     Ok(Sizes::Order {
         transactions: count_of(transactions)?,
-        sessions: number_of(sessions, 0, MOST_SESSIONS)?,
+        sessions: number_of(sessions, 0, V1_MAX_SESSIONS)?,
     })
 }
 
@@ -197,7 +186,7 @@ fn cycle_sizes(transactions: &[u8], links: &[u8], least: &[u8]) -> Result<Sizes,
     Ok(Sizes::Cycle {
         transactions: count_of(transactions)?,
         links: count_of(links)?,
-        least: number_of(least, 0, MOST_COST)?,
+        least: number_of(least, 0, V1_MAX_COST)?,
     })
 }
 

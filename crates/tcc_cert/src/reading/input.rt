@@ -1,10 +1,11 @@
 //! The lines of a reader, within the limit on their length.
 ghost use Rattle.std.specs.Prelude.{◌≡◌, ◌<◌, ◌≤◌, ◌==◌, IfOk, IfSome, OnOk, length, position, take};
-ghost use Rattle.tcc_cert.specs.HeldBytes.{held_bytes};
+ghost use Rattle.tcc_cert.specs.WindowBytes.{window_bytes};
 ghost use Rattle.tcc_cert.specs.Outcomes.{at_line};
 ghost use Rattle.tcc_cert.specs.Reading.{line_length};
 
-use super::held::Held;
+use super::source::Source;
+use super::window::Window;
 use crate::{CertFault, CertFaultKind};
 use std::io::Read;
 
@@ -12,11 +13,11 @@ use std::io::Read;
 /// them, and the number of the next line.
 #[derive(Drop)]
 pub(crate) struct Input<R> {
-    reader: R,
-    held: Held,
+    source: Source<R>,
+    window: Window,
     passed: usize,
     number: u64,
-    ghost within: { passed ≤ length (held_bytes held) },
+    ghost within: { passed ≤ length (window_bytes window) },
 }
 
 /// What comes of the line with this number.
@@ -56,8 +57,8 @@ impl<R: Read> Input<R> {
         ensures { IfSome (R.remaining reader) (λ bytes. IsAt R.remaining result (record { line = 1; bytes = bytes })) }
     {
         Input {
-            reader,
-            held: Held::new(),
+            source: Source::new(reader),
+            window: Window::new(),
             passed: 0,
             number: 1,
         }
@@ -67,7 +68,7 @@ impl<R: Read> Input<R> {
     pub(crate) fn line(&self) -> &[u8]
         ensures { result.now ≡ line_in self.now }
     {
-        &self.held.as_slice()[..self.passed.saturating_sub(1)]
+        &self.window.as_slice()[..self.passed.saturating_sub(1)]
     }
 
     /// A fault at the line after the last.
@@ -87,21 +88,21 @@ impl<R: Read> Input<R> {
         ensures stays { OnOk result ((at : Place) → IsAt R.remaining self.old at → IsAt R.remaining self.new at) }
         ensures passed { self.new.passed ≡ 0 }
         ensures number { self.new.number ≡ self.old.number }
-        ensures held { IfOk result (λ length_found. length_found < length (held_bytes self.new.held)) }
+        ensures held { IfOk result (λ length_found. length_found < length (window_bytes self.new.window)) }
     {
         let mut searched = 0;
         'reads: loop {
-            let bytes = self.held.as_slice();
+            let bytes = self.window.as_slice();
             let held = bytes.len();
             let length = line_length(bytes, searched);
             if length < held {
                 return Ok(length);
             }
-            if self.held.is_full() {
+            if self.window.is_full() {
                 return Err(CertFaultKind::TooLarge);
             }
             searched = held;
-            match self.held.fill(&mut self.reader) {
+            match self.window.fill(&mut self.source) {
                 Ok(0) => return Err(CertFaultKind::Truncated),
                 Ok(_) => {}
                 Err(_) => return Err(CertFaultKind::Read),
@@ -113,7 +114,7 @@ impl<R: Read> Input<R> {
     pub(crate) fn next(&mut self) -> Result<u64, CertFault>
         ensures { (at : Place) → IsAt R.remaining self.old at → TakesLine R.remaining at result self.new }
     {
-        self.held.pass(self.passed);
+        self.window.pass(self.passed);
         self.passed = 0;
         let line = self.number;
         match self.find_line() {
@@ -134,14 +135,14 @@ impl<R: Read> Input<R> {
 
     /// Nothing stands behind the last line.
     pub(crate) fn end(&mut self) -> Result<(), CertFault>
-        ensures { (at : Place) → IsAt R.remaining self.old at → Ends at result }
+        ensures { (at : Place) → IsAt R.remaining self.old at → Ends at result self.new }
     {
-        self.held.pass(self.passed);
+        self.window.pass(self.passed);
         self.passed = 0;
-        if !self.held.as_slice().is_empty() {
+        if !self.window.as_slice().is_empty() {
             return Err(self.fault(CertFaultKind::Trailing));
         }
-        match self.held.fill(&mut self.reader) {
+        match self.window.fill(&mut self.source) {
             Ok(0) => Ok(()),
             Ok(_) => Err(self.fault(CertFaultKind::Trailing)),
             Err(_) => Err(self.fault(CertFaultKind::Read)),

@@ -1,5 +1,6 @@
 -- The parts were read one after the other.
 use Rattle.std.proofs.Common.{codes, ◌∙◌, arith}
+use Rattle.tcc_cert.specs.declared.version_1.TheConstants.{V1_MAX_NUMBER}
 use Rattle.std.proofs.lemmas.Result.{err_from_is_err_and}
 use Rattle.tcc_cert.specs.Reading.{numbers_line, table_at, word_line, words}
 use Rattle.tcc_cert.proofs.LinesBack.{then_ok}
@@ -11,14 +12,14 @@ pub returns-in_err-order : goal.returns-in_err-order
 returns-in_err-order g c at before =
     let n = c.args.transactions in
     let p = err_from_is_err_and c.from_residual.result c.from_residual.ensures.1 in
-    rw (p.1, p.2) (first-faults (words (numbers_line n 1023) at) _ _ (order-mark n c.args.sessions) (c.in_err-order.ensures at before))
+    rw (p.1, p.2) (first-faults (words (numbers_line n V1_MAX_NUMBER) at) _ _ (order-mark n c.args.sessions) (c.in_err-order.ensures at before))
 
 pub returns-in_err-mark : goal.returns-in_err-mark
 returns-in_err-mark g c at before =
     let n = c.args.transactions in
     let p = err_from_is_err_and c.from_residual-in_err-mark.result c.from_residual-in_err-mark.ensures.1 in
     let order = c.in_ok-order.ensures at before in
-    rw (p.1, p.2) (later-faults (words (numbers_line n 1023) at) _ _ order.1 (onward-at _ (onward-words (numbers_line n 1023) at) order.1)
+    rw (p.1, p.2) (later-faults (words (numbers_line n V1_MAX_NUMBER) at) _ _ order.1 (onward-at _ (onward-words (numbers_line n V1_MAX_NUMBER) at) order.1)
     (first-faults (words (word_line (codes "clocks")) order.0) _ _ (order-clocks n c.args.sessions c.in_ok-order.order) (c.in_err-mark.ensures order.0 order.2)))
 
 pub returns-in_err-clocks : goal.returns-in_err-clocks
@@ -27,9 +28,9 @@ returns-in_err-clocks g c at before =
     let p = err_from_is_err_and c.from_residual-in_err-clocks.result c.from_residual-in_err-clocks.ensures.1 in
     let order = c.in_ok-order.ensures at before in
     let mark = c.in_ok-mark.ensures order.0 order.2 in
-    rw (p.1, p.2) (later-faults (words (numbers_line n 1023) at) _ _ order.1 (onward-at _ (onward-words (numbers_line n 1023) at) order.1)
+    rw (p.1, p.2) (later-faults (words (numbers_line n V1_MAX_NUMBER) at) _ _ order.1 (onward-at _ (onward-words (numbers_line n V1_MAX_NUMBER) at) order.1)
     (later-faults (words (word_line (codes "clocks")) order.0) _ _ mark.1 (onward-at _ (onward-words (word_line (codes "clocks")) order.0) mark.1)
-    (first-faults (table_at n c.args.sessions 1023 mark.0) _ _ (order-end c.in_ok-order.order) (c.in_err-clocks.ensures mark.0 mark.2))))
+    (first-faults (table_at n c.args.sessions V1_MAX_NUMBER mark.0) _ _ (order-end c.in_ok-order.order) (c.in_err-clocks.ensures mark.0 mark.2))))
 
 pub returns-in_err-mark-2 : goal.returns-in_err-mark-2
 returns-in_err-mark-2 g c at before =
@@ -38,9 +39,9 @@ returns-in_err-mark-2 g c at before =
     let order = c.in_ok-order.ensures at before in
     let mark = c.in_ok-mark.ensures order.0 order.2 in
     let clocks = c.in_ok-clocks.ensures mark.0 mark.2 in
-    rw (p.1, p.2) (later-faults (words (numbers_line n 1023) at) _ _ order.1 (onward-at _ (onward-words (numbers_line n 1023) at) order.1)
+    rw (p.1, p.2) (later-faults (words (numbers_line n V1_MAX_NUMBER) at) _ _ order.1 (onward-at _ (onward-words (numbers_line n V1_MAX_NUMBER) at) order.1)
     (later-faults (words (word_line (codes "clocks")) order.0) _ _ mark.1 (onward-at _ (onward-words (word_line (codes "clocks")) order.0) mark.1)
-    (later-faults (table_at n c.args.sessions 1023 mark.0) _ _ clocks.1 (onward-at _ (onward-table n c.args.sessions 1023 mark.0) clocks.1)
+    (later-faults (table_at n c.args.sessions V1_MAX_NUMBER mark.0) _ _ clocks.1 (onward-at _ (onward-table n c.args.sessions V1_MAX_NUMBER mark.0) clocks.1)
     (first-faults (words (word_line (codes "end")) clocks.0) _ _ (λ end. onward-ok _ end.1 end.1 (omega arith)) (c.in_err-mark-2.ensures clocks.0 clocks.2)))))
 
 pub returns : goal.returns

@@ -13,10 +13,10 @@ returns-in_err-certificate g c bytes before =
 pub returns-in-Ok : goal.returns-in-Ok
 returns-in-Ok g c bytes before =
     let read = c.in_ok-certificate.ensures (start_of bytes) before in
-    whole-ended bytes c.in_ok-certificate.certificate read.0 c.in-Ok.field-0 read.1 (c.in-Ok.ensures read.0 read.2)
+    whole-ended bytes c.in_ok-certificate.certificate read.0 c.in-Ok.field-0 c.end.new.self read.1 (c.in-Ok.ensures read.0 read.2)
 
 pub returns-in-Err : goal.returns-in-Err
 returns-in-Err g c bytes before =
     let read = c.in_ok-certificate.ensures (start_of bytes) before in
     let on = onward-at (certificate_at (start_of bytes)) (onward-certificate (start_of bytes)) read.1 in
-    whole-followed bytes c.in_ok-certificate.certificate read.0 c.in-Err.fault read.1 on (c.in-Err.ensures read.0 read.2)
+    whole-followed bytes c.in_ok-certificate.certificate read.0 c.in-Err.fault c.end.new.self read.1 on (c.in-Err.ensures read.0 read.2)

@@ -4,7 +4,7 @@ use Rattle.tcc_reads.specs.History.{count}
 use Rattle.tcc_cert.specs.Tables.{row_of}
 use Rattle.tcc_check.specs.Weights.{ContradictionWeighs, IsLowered}
 use Rattle.tcc_check.proofs.Rows.{no_rows, one_more_row, all_lowered}
-use Rattle.tcc_check.proofs.Written.{whole}
+use Rattle.tcc_txn.proofs.Lists.{whole}
 use Rattle.tcc_check.proofs.weights.lowered.Goals as goal
 
 pub loop-end-init : goal.loop-end-init

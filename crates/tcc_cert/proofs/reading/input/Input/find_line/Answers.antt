@@ -1,7 +1,7 @@
 -- A line feed among the bytes ends the line; without one there are too many, or none to come, or more are read.
 use Rattle.std.proofs.Common.{◌++◌, length, take, inl, refl, ap, ◌∙◌, arith}
 use Rattle.std.proofs.lemmas.List.{length-append, take_at}
-use Rattle.tcc_cert.specs.HeldBytes.{held_bytes}
+use Rattle.tcc_cert.specs.WindowBytes.{window_bytes}
 use Rattle.tcc_cert.specs.Reading.{line_length}
 use Rattle.tcc_cert.proofs.InputFacts.{length-within, moved-in, known-front, known-all, line-found, line-too-long, line-cut, below_full}
 use Rattle.tcc_cert.proofs.reading.input.Input.find_line.Goals as goal
@@ -9,7 +9,7 @@ use Rattle.tcc_cert.proofs.reading.input.Input.find_line.Goals as goal
 pub returns-then-length-held-clause-found : goal.returns-then-length-held-clause-found
 returns-then-length-held-clause-found g c at before =
     let now = c.reads.invariant.stays at before in
-    let held = held_bytes c.reads.self.held in
+    let held = window_bytes c.reads.self.window in
     let front = known-front _ held at.bytes (rw c.reads.invariant.passed at now.bytes) in
     let same = c.line_length-length.ensures ∙ ap line_length c.as_slice-bytes.ensures.value in
     let long = ap length c.as_slice-bytes.ensures.value in
@@ -18,7 +18,7 @@ returns-then-length-held-clause-found g c at before =
 pub returns-then-is_full-clause-found : goal.returns-then-is_full-clause-found
 returns-then-is_full-clause-found g c at before =
     let now = c.reads.invariant.stays at before in
-    let held = held_bytes c.reads.self.held in
+    let held = window_bytes c.reads.self.window in
     let front = known-front _ held at.bytes (rw c.reads.invariant.passed at now.bytes) in
     let same = c.line_length-length.ensures ∙ ap line_length c.as_slice-bytes.ensures.value in
     let long = ap length c.as_slice-bytes.ensures.value in
@@ -28,7 +28,7 @@ returns-then-is_full-clause-found g c at before =
 pub returns-in-Ok-eq0-clause-found : goal.returns-in-Ok-eq0-clause-found
 returns-in-Ok-eq0-clause-found g c at before =
     let now = c.reads.invariant.stays at before in
-    let held = held_bytes c.reads.self.held in
+    let held = window_bytes c.reads.self.window in
     let same = c.line_length-length.ensures ∙ ap line_length c.as_slice-bytes.ensures.value in
     let long = ap length c.as_slice-bytes.ensures.value in
     let within = length-within held in
@@ -39,7 +39,7 @@ returns-in-Ok-eq0-clause-found g c at before =
 
 pub reads-preserved : goal.reads-preserved
 reads-preserved g c =
-    let held = held_bytes c.reads.self.held in
+    let held = window_bytes c.reads.self.window in
     let same = c.line_length-length.ensures ∙ ap line_length c.as_slice-bytes.ensures.value in
     let long = ap length c.as_slice-bytes.ensures.value in
     let within = length-within held in

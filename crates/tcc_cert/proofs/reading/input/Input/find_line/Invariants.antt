@@ -1,6 +1,7 @@
 -- no line feed stands among the bytes that were searched, and each turn that goes on adds some
 use Rattle.std.proofs.Common.{◌≡◌, ◌≤◌, ◌-◌, length, take}
-use Rattle.tcc_cert.specs.HeldBytes.{held_bytes}
+use Rattle.tcc_cert.specs.declared.reading.window.TheConstants.{WINDOW_BYTES}
+use Rattle.tcc_cert.specs.WindowBytes.{window_bytes}
 use Rattle.tcc_cert.specs.Inputs.{IsAt}
 use Rattle.tcc_cert.specs.Reading.{Place, line_length}
 use Rattle.tcc_cert.proofs.reading.input.Input.find_line.Given as goal
@@ -10,10 +11,10 @@ invariant-reads g l =
     record {
       passed : l.self.passed ≡ 0;
       number : l.self.number ≡ l.initial.self.number;
-      within : l.searched ≤ length (held_bytes l.self.held);
-      none : line_length (take l.searched (held_bytes l.self.held)) ≡ l.searched;
+      within : l.searched ≤ length (window_bytes l.self.window);
+      none : line_length (take l.searched (window_bytes l.self.window)) ≡ l.searched;
       stays : (at : Place) → IsAt g.R.Read.remaining l.initial.self at → IsAt g.R.Read.remaining l.self at;
     }
 
 abbrev pub decreases-reads : goal.decreases-reads
-decreases-reads g l = 8192 - length (held_bytes l.self.held)
+decreases-reads g l = WINDOW_BYTES - length (window_bytes l.self.window)

@@ -1,13 +1,13 @@
 -- The line that was found is passed.
 use Rattle.std.proofs.Common.{◌≡◌, ◌+◌, ◌-◌, Ok, length, take, refl, sym, ap, ◌∙◌, arith}
 use Rattle.std.proofs.lemmas.List.{length-take-le}
-use Rattle.tcc_cert.specs.HeldBytes.{held_bytes}
+use Rattle.tcc_cert.specs.WindowBytes.{window_bytes}
 use Rattle.tcc_cert.proofs.InputFacts.{passed-front}
 use Rattle.tcc_cert.proofs.reading.input.Input.next.Goals as goal
 
 pub returns-in-Some : goal.returns-in-Some
 returns-in-Some g c at before =
-    let held = held_bytes c.find_line.new.self.held in
+    let held = window_bytes c.find_line.new.self.window in
     let n = c.in-Ok.length in
     let within = c.in-Ok.ensures.held in
     let same : n + 1 - 1 ≡ n = omega arith in

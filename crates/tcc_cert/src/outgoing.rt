@@ -1,37 +1,40 @@
 //! Bytes that are gathered before they go out, so that few writes are made.
 ghost use Rattle.std.specs.Prelude.{◌≡◌, ◌+◌, ◌≤◌, ◌++◌, [], OnOk, length};
 ghost use Rattle.tcc_cert.specs.Writing.{IsSent};
+ghost use Rattle.tcc_cert.specs.declared.outgoing.TheConstants.{OUTGOING_BYTES};
 
 use crate::sending::write_out;
 use std::io::{self, Write};
 use std::marker::Model;
 
-const SIZE: usize = 8192;
+/// So many bytes are gathered before a write.
+const OUTGOING_BYTES: usize = 8192;
 
 /// The bytes that wait to go out.
 #[derive(Drop)]
-pub(crate) struct Gathered {
-    bytes: [u8; SIZE],
-    held: usize,
+pub(crate) struct Outgoing {
+    bytes: [u8; OUTGOING_BYTES],
+    len: usize,
 }
 
-impl Model for Gathered {
+impl Model for Outgoing {
     ghost use Rattle.std.specs.Prelude.{ℕ, ◌≤◌, List, take};
+    ghost use Rattle.tcc_cert.specs.declared.outgoing.TheConstants.{OUTGOING_BYTES};
 
     ghost Value = { List ℕ };
 
-    ghost view = { λ g. take g.held g.bytes };
+    ghost view = { λ g. take g.len g.bytes };
 
-    ghost invariant = { λ g. g.held ≤ 8192 };
+    ghost invariant = { λ g. g.len ≤ OUTGOING_BYTES };
 }
 
-impl Gathered {
-    pub(crate) fn new() -> Gathered
+impl Outgoing {
+    pub(crate) fn new() -> Outgoing
         ensures { result ≡ [] }
     {
-        Gathered {
-            bytes: [0; SIZE],
-            held: 0,
+        Outgoing {
+            bytes: [0; OUTGOING_BYTES],
+            len: 0,
         }
     }
 
@@ -40,28 +43,28 @@ impl Gathered {
         ensures sent { IsSent result (W.contents out.old) self.old (W.contents out.new) self.new [] }
         ensures none { OnOk result (self.new ≡ []) }
     {
-        write_out(out, &self.bytes[..self.held])?;
-        self.held = 0;
+        write_out(out, &self.bytes[..self.len])?;
+        self.len = 0;
         Ok(())
     }
 
     /// Gathers a piece for which there is room.
     fn keep(&mut self, piece: &[u8])
-        requires { length self.old + length piece.now ≤ 8192 }
+        requires { length self.old + length piece.now ≤ OUTGOING_BYTES }
         ensures { self.new ≡ self.old ++ piece.now }
     {
-        let end = self.held + piece.len();
-        self.bytes[self.held..end].copy_from_slice(piece);
-        self.held = end;
+        let end = self.len + piece.len();
+        self.bytes[self.len..end].copy_from_slice(piece);
+        self.len = end;
     }
 
     /// Gathers the piece, and sends what was gathered before where there is no room for it.
     pub(crate) fn put<W: Write>(&mut self, out: &mut W, piece: &[u8]) -> io::Result<()>
         ensures { IsSent result (W.contents out.old) self.old (W.contents out.new) self.new piece.now }
     {
-        if piece.len() > SIZE - self.held {
+        if piece.len() > OUTGOING_BYTES - self.len {
             self.send(out)?;
-            if piece.len() > SIZE {
+            if piece.len() > OUTGOING_BYTES {
                 return write_out(out, piece);
             }
         }

@@ -1,7 +1,7 @@
 -- What a read gave stands behind what was held.
 use Rattle.std.proofs.Common.{◌≤◌, ◌++◌, length, take, sym, ap, ◌∙◌, arith}
-use Rattle.tcc_cert.proofs.HeldFacts.{grown}
-use Rattle.tcc_cert.proofs.reading.held.Held.fill.Goals as goal
+use Rattle.tcc_cert.proofs.WindowFacts.{grown}
+use Rattle.tcc_cert.proofs.reading.window.Window.fill.Goals as goal
 
 pub returns-clause-more : goal.returns-clause-more
 returns-clause-more g c =

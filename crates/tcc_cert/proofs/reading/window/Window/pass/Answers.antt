@@ -1,8 +1,8 @@
 -- What is let go was at the front.
 use Rattle.std.proofs.Common.{ℕ, arith}
 use Rattle.std.proofs.lemmas.List.{length-take, length-drop}
-use Rattle.tcc_cert.proofs.HeldFacts.{passed}
-use Rattle.tcc_cert.proofs.reading.held.Held.pass.Goals as goal
+use Rattle.tcc_cert.proofs.WindowFacts.{passed}
+use Rattle.tcc_cert.proofs.reading.window.Window.pass.Goals as goal
 
 pub returns : goal.returns
 returns c =

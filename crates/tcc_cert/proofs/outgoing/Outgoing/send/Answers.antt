@@ -1,6 +1,6 @@
 -- What was sent before the failure is a part of what was held.
 use Rattle.tcc_cert.proofs.SentFacts.{failed, Stops-held}
-use Rattle.tcc_cert.proofs.gathered.Gathered.send.Goals as goal
+use Rattle.tcc_cert.proofs.outgoing.Outgoing.send.Goals as goal
 
 pub returns-in_err-write_out-clause-sent : goal.returns-in_err-write_out-clause-sent
 returns-in_err-write_out-clause-sent g c =

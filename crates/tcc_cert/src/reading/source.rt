@@ -1,0 +1,41 @@
+//! A reader that keeps in mind that it failed.
+ghost use Rattle.std.specs.Prelude.{◌≡◌, IsTrue, OnErr, false};
+ghost use Rattle.std.specs.Io.{ReadsAtMost};
+ghost use Rattle.std.specs.Io.KnownBytes.{ReadConsumes};
+
+use std::io::{self, Read};
+
+/// A reader, and whether a read of it has failed. Nothing else says so than a read here: what is answered of a failed
+/// reader rests on this.
+#[derive(Drop)]
+pub(crate) struct Source<R> {
+    reader: R,
+    failed: bool,
+}
+
+impl<R: Read> Source<R> {
+    pub(crate) fn new(reader: R) -> Source<R>
+        ensures reader { result.reader ≡ reader }
+        ensures works { result.failed ≡ false }
+    {
+        Source {
+            reader,
+            failed: false,
+        }
+    }
+
+    /// What one read of the reader gives.
+    pub(crate) fn read(&mut self, buf: &mut [u8]) -> io::Result<usize>
+        ensures bound { ReadsAtMost result buf.new }
+        ensures bytes { ReadConsumes (R.remaining self.old.reader) (R.remaining self.new.reader) result buf.new }
+        ensures failed { OnErr result (IsTrue self.new.failed) }
+    {
+        match self.reader.read(buf) {
+            Ok(count) => Ok(count),
+            Err(error) => {
+                self.failed = true;
+                Err(error)
+            }
+        }
+    }
+}

@@ -1,0 +1,85 @@
+//! Bytes that came from a reader and wait to be judged.
+ghost use Rattle.std.specs.Prelude.{◌≡◌, ℕ, ◌<◌, ◌≤◌, ◌↔◌, ◌++◌, [], List, IfOk, IsTrue, OnErr, drop, length};
+ghost use Rattle.tcc_cert.specs.declared.reading.window.TheConstants.{WINDOW_BYTES};
+ghost use Rattle.std.specs.Io.KnownBytes.{Consumes, IsAtEnd, Keeps};
+
+use super::source::Source;
+use crate::version_1::V1_MAX_LINE_BYTES;
+use std::io::{self, Read};
+
+/// A line and its line feed are no longer.
+const WINDOW_BYTES: usize = V1_MAX_LINE_BYTES + 1;
+
+/// The bytes from `first` to `end`.
+#[derive(Drop)]
+pub(crate) struct Window {
+    bytes: [u8; WINDOW_BYTES],
+    first: usize,
+    end: usize,
+    ghost ordered: { first ≤ end },
+    ghost within: { end ≤ WINDOW_BYTES },
+}
+
+impl Window {
+    ghost use Rattle.tcc_cert.specs.WindowBytes.{window_bytes};
+
+    pub(crate) fn new() -> Window
+        ensures { window_bytes result ≡ [] }
+    {
+        Window {
+            bytes: [0; WINDOW_BYTES],
+            first: 0,
+            end: 0,
+        }
+    }
+
+    pub(crate) fn as_slice(&self) -> &[u8]
+        ensures value { result.now ≡ window_bytes self.now }
+        ensures fits { length result.now ≤ WINDOW_BYTES }
+    {
+        &self.bytes[self.first..self.end]
+    }
+
+    /// Whether there is no room for more.
+    pub(crate) fn is_full(&self) -> bool
+        ensures { IsTrue result ↔ (WINDOW_BYTES ≤ length (window_bytes self.now)) }
+    {
+        self.end - self.first == WINDOW_BYTES
+    }
+
+    /// Lets the first of them go.
+    pub(crate) fn pass(&mut self, count: usize)
+        requires { count ≤ length (window_bytes self.old) }
+        ensures { window_bytes self.new ≡ drop count (window_bytes self.old) }
+    {
+        self.first += count;
+    }
+
+    /// Moves them to the front, so that all room is behind them.
+    fn gather(&mut self)
+        ensures bytes { window_bytes self.new ≡ window_bytes self.old }
+        ensures front { self.new.end ≡ length (window_bytes self.old) }
+    {
+        let (first, end) = (self.first, self.end);
+        if first > 0 {
+            self.bytes.copy_within(first..end, 0);
+            self.first = 0;
+            self.end = end - first;
+        }
+    }
+
+    /// Takes what one read gives, and says how many bytes that were.
+    pub(crate) fn fill<R: Read>(&mut self, source: &mut Source<R>) -> io::Result<usize>
+        requires { length (window_bytes self.old) < WINDOW_BYTES }
+        ensures more { IfOk result (λ count. (more : List ℕ) × (length more ≡ count) × (window_bytes self.new ≡ window_bytes self.old ++ more)
+            × Consumes (R.remaining source.old.reader) (R.remaining source.new.reader) more) }
+        ensures end { IfOk result (λ count. count ≡ 0 → IsAtEnd (R.remaining source.new.reader)) }
+        ensures failed { OnErr result (IsTrue source.new.failed) }
+    {
+        self.gather();
+        let end = self.end;
+        let count = source.read(&mut self.bytes[end..])?;
+        self.end = end + count;
+        Ok(count)
+    }
+}
