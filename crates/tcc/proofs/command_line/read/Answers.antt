@@ -1,5 +1,5 @@
 -- What ends the words ends the run.
-use Rattle.std.proofs.Common.{◌≡◌, ℕ, List, [], Option, Ok, Err, subst, sym, inl, inr}
+use Rattle.std.proofs.Common.{◌≡◌, ℕ, List, Option, Ok, Err, subst, inl, inr, map, string_bytes}
 use Rattle.std.specs.Prelude.{Result, IfErr}
 use Rattle.clap.specs.declared.error.kind.ErrorKind.{ErrorKind}
 use Rattle.clap.specs.declared.error.kind.ErrorKind.TheVariants.{OutOfMemory}
@@ -17,4 +17,6 @@ ends words before kept after (Err code) same (inr fault) =
     (fault.0, subst (λ start. EndsUnasked fault.0 start after code) same fault.2)
 
 pub returns-clause-ends : goal.returns-clause-ends
-returns-clause-ends g c = ends _ _ _ _ c.read_words.result c.in_ok-words.ensures.quiet c.read_words.ensures
+returns-clause-ends g c =
+    ends (map string_bytes c.deref.result.now) (g.W.Write.contents c.args.out.now) (g.W.Write.contents c.words.new.out)
+    (g.W.Write.contents c.read_words.new.out) c.read_words.result c.in_ok-words.ensures.quiet c.read_words.ensures
