@@ -189,8 +189,10 @@ fn words<W: Write>(rt: &HostRuntime, out: &mut W) -> Result<Vec<String>, u8>
             return Err(Status::Usage.code());
         }
     };
-    args.collect(rt.alloc())
-        .map_err(|_| print_memory(out, false))
+    match args.collect(rt.alloc()) {
+        Ok(words) => Ok(words),
+        Err(_) => Err(print_memory(out, false)),
+    }
 }
 
 /// What the process was asked for, as `read_words` has it; else the number that it ends with.

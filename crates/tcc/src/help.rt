@@ -30,7 +30,7 @@ Example: a session writes x, and its next transaction reads the initial x.
 Statuses:
   0   consistent: the order is one in which every read is explained
   1   an anomaly: no order explains the reads, and no shorter cycle shows it
-  2   unresolved: reads of values that nobody committed, or values written twice
+  2   unresolved: reads that can't be traced to a write, or values written twice
   3   a record breaks a rule, the input ends inside a transaction, or it has a 'seal'
   4   the input is past a limit
   5   memory is wanting
@@ -59,7 +59,7 @@ Example: one transaction of one session, which stands after the initial one.
 
 Statuses:
   0   accepted: what the certificate claims is true
-  2   unresolved: the history has reads of values that nobody committed, or values written twice
+  2   unresolved: reads that can't be traced to a write, or values written twice
   3   a record breaks a rule, or the history ends inside a transaction
   4   the history is past a limit
   5   memory is wanting

@@ -95,6 +95,3 @@ pub fn run_check<H: Read + Drop, C: Read + Drop, W: Write>(
     certified();
     print_check(alloc, &checked(alloc, history, certificate), out)
 }
-
-#[cfg(test)]
-mod tests;

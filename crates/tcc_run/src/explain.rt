@@ -72,6 +72,3 @@ pub fn run_explain<R: Read + Drop, W: Write>(
 {
     print_outcome(alloc, &input_outcome(rt, alloc, reader), json, out)
 }
-
-#[cfg(test)]
-mod tests;

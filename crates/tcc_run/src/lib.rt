@@ -19,3 +19,6 @@ pub use halt::Halt;
 pub use judged::Judged;
 pub use status::Status;
 pub use verdicts::verdict_text;
+
+#[cfg(test)]
+mod tests;
