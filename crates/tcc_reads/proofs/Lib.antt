@@ -6,3 +6,5 @@ pub mod Agreement
 pub mod Sourcing
 pub mod Findings
 pub mod SortedOnce
+pub mod Rising
+pub mod OneSource

@@ -21,7 +21,7 @@ use Rattle.tcc_reads.proofs.Ties.{same_name}
 use Rattle.tcc_reads.proofs.Agreement.{kind_in}
 
 -- whether the option has this value
-abbrev has : ℕ → Option ℕ → Bool
+abbrev pub has : ℕ → Option ℕ → Bool
 has v o = option_eq nat_eq o (Some v)
 
 has-later : (v value : ℕ) (b : Bool) (o : Option ℕ) → has v o ≡ false → (b && (value == v)) ≡ false → has v (option_or o (cond b (Some value) None)) ≡ false
@@ -29,7 +29,7 @@ has-later v value true None none not_here = not_here
 has-later v value false None none not_here = refl
 has-later v value b (Some a) none not_here = none
 
-has-kept : (v : ℕ) (o p : Option ℕ) → has v o ≡ true → has v (option_or o p) ≡ true
+pub has-kept : (v : ℕ) (o p : Option ℕ) → has v o ≡ true → has v (option_or o p) ≡ true
 has-kept v None p here = cc
 has-kept v (Some a) p here = here
 
@@ -38,7 +38,7 @@ or-none None = refl
 or-none (Some a) = refl
 
 -- a value that is never written isn't the visible one
-never_shown : (x : List ℕ) (v : ℕ) (ops : List Op) → list_any (puts x v) ops ≡ false → has v (visible_write x ops) ≡ false
+pub never_shown : (x : List ℕ) (v : ℕ) (ops : List Op) → list_any (puts x v) ops ≡ false → has v (visible_write x ops) ≡ false
 never_shown x v [] none = refl
 never_shown x v (Get key value ∷ later) none = ap (has v) (or-none (visible_write x later)) ∙ never_shown x v later none
 never_shown x v (Put key value ∷ later) none =
@@ -54,7 +54,7 @@ nothing_visible x (Put key value ∷ later) none =
     λ i. option_or (nothing_visible x later parts.1 i) (cond (parts.0 i) (Some value) None)
 
 -- the last write of a key is visible
-last_shown : (x : List ℕ) (v : ℕ) (op : Op) (after : List Op) → puts x v op ≡ true → not (list_any (puts_at (op_key op)) after) ≡ true
+pub last_shown : (x : List ℕ) (v : ℕ) (op : Op) (after : List Op) → puts x v op ≡ true → not (list_any (puts_at (op_key op)) after) ≡ true
     → has v (visible_write x (op ∷ after)) ≡ true
 last_shown x v (Get key value) after here last = cc
 last_shown x v (Put key value) after here last =
@@ -148,7 +148,7 @@ sourced number (stand ∷ later) x v first m found is last =
 abbrev with_source : List Stand → List ℕ × ℕ → List ℕ × ℕ
 with_source all r = (r.0, source all r.0 r.1)
 
-no_pair : {A : Type 0} (o : Option A) (xs : List A) → cons_option o xs ≡ [] → (o ≡ None) × (xs ≡ [])
+pub no_pair : {A : Type 0} (o : Option A) (xs : List A) → cons_option o xs ≡ [] → (o ≡ None) × (xs ≡ [])
 no_pair None xs e = (refl, e)
 no_pair (Some x) xs e = cc
 

@@ -4,6 +4,7 @@ pub mod Sites
 pub mod Sources
 pub mod Faults
 pub mod Refusals
+pub mod OneSource
 -- What serves proofs alone:
 pub mod Numbers
 pub mod Verdicts

@@ -3,6 +3,7 @@
 
 mod fault;
 mod judging;
+pub mod laws;
 mod numbering;
 mod resolved;
 mod resolver;

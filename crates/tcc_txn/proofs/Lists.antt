@@ -4,12 +4,13 @@
 --   matched           what follows of a value where there is one
 --   found_number      a number that a search finds is in the list
 --   number_found      a search finds each number of a list
+--   in_filter         an element that passes is kept
+--   from_filter       what is kept is an element, and passes
 --   in_flat_map       an element of a part is an element of the parts put together
 --   from_flat_map     an element of the parts put together is one of some part
 -- In std: `or-false` (Math.Bool), `not-true`, `not-false`, `and_parts`, `or_parts` (lemmas.Bool), `Equal-is` (specs.Cmp),
--- `bytes_eq-Decides` (lemmas.Slice.Eq), `exact_bytes`, `exact_unsigned` (lemmas.Map.Lookups), `filter_passes`,
--- `Contains-filter` (lemmas.List.Elements).
-use Rattle.std.proofs.Common.{◌≡◌, ◌==◌, ◌⊎◌, ℕ, zero, suc, Bool, true, false, ◌||◌, inl, inr, List, [], ◌∷◌, ◌++◌, length, take, drop, flat_map, refl, sym, arith, subst}
+-- `bytes_eq-Decides` (lemmas.Slice.Eq), `exact_bytes`, `exact_unsigned` (lemmas.Map.Lookups).
+use Rattle.std.proofs.Common.{◌≡◌, ◌==◌, ◌⊎◌, ℕ, zero, suc, Bool, true, false, ◌||◌, inl, inr, List, [], ◌∷◌, ◌++◌, length, take, drop, filter, flat_map, cond, refl, sym, ap, ◌∙◌, arith, subst}
 use Rattle.std.specs.Prelude.{Ok, Err, IfOk, MatchResult}
 use Rattle.std.specs.declared.result.Result.{Result}
 use Rattle.std.specs.List.{Contains, list_any}
@@ -44,6 +45,25 @@ number_found (y ∷ xs) x (suc k, l, e) = or_right _ _ (number_found xs x (k, om
 
 later : {X : Type 0} (x y : X) (xs : List X) → Contains xs y → Contains (x ∷ xs) y
 later x y xs (k, within, here) = (suc k, omega arith, here)
+
+module _ {X : Type 0} (p : X → Bool) where
+  pub in_filter : (xs : List X) (x : X) → Contains xs x → p x ≡ true → Contains (filter p xs) x
+  in_filter [] x (k, l, e) t = absurd (omega arith)
+  in_filter (y ∷ xs) x (zero, l, e) t = let here : p y ≡ true = ap p e ∙ t in rw here (0, omega arith, e)
+  in_filter (y ∷ xs) x (suc k, l, e) t = go (p y) (in_filter xs x (k, omega arith, e) t)
+    where
+      go : (b : Bool) → Contains (filter p xs) x → Contains (cond b (y ∷ filter p xs) (filter p xs)) x
+      go true w = later y x (filter p xs) w
+      go false w = w
+
+  pub from_filter : (xs : List X) (x : X) → Contains (filter p xs) x → Contains xs x × (p x ≡ true)
+  from_filter [] x (k, l, e) = absurd (omega arith)
+  from_filter (y ∷ xs) x c = go (p y) refl c (λ w. from_filter xs x w)
+    where
+      go : (b : Bool) → p y ≡ b → Contains (cond b (y ∷ filter p xs) (filter p xs)) x → (Contains (filter p xs) x → Contains xs x × (p x ≡ true)) → Contains (y ∷ xs) x × (p x ≡ true)
+      go true t (zero, l, e) rest = ((0, omega arith, e), ap p (sym e) ∙ t)
+      go true t (suc k, l, e) rest = let w = rest (k, omega arith, e) in (later y x xs w.0, w.1)
+      go false t c rest = let w = rest c in (later y x xs w.0, w.1)
 
 module _ {X Y : Type 0} (f : X → List Y) where
   pub in_flat_map : (xs : List X) (x : X) (y : Y) → Contains xs x → Contains (f x) y → Contains (flat_map f xs) y
