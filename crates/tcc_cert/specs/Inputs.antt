@@ -1,4 +1,4 @@
--- How far the reading of a reader's bytes has come.
+-- How far the reading of a reader's bytes has come. Nobody has to believe it: private functions say it to one another.
 use Rattle.std.specs.Prelude.{ℕ, ◌≡◌, ◌≢◌, ◌⊎◌, ◌-◌, List, [], take, drop, Option, Some, Result, Ok, Err, IsTrue}
 use Rattle.std.specs.Io.KnownBytes.{prepend_known}
 use Rattle.tcc_cert.specs.declared.fault.CertFault.{CertFault}

@@ -1,4 +1,4 @@
--- The bytes of a reader that wait to be judged.
+-- The bytes of a reader that wait to be judged. Nobody has to believe it: private functions say it to one another.
 use Rattle.std.specs.Prelude.{ℕ, List, slice_range}
 use Rattle.tcc_cert.specs.declared.reading.window.Window.{Window}
 

@@ -1,4 +1,4 @@
--- Bytes on their way out: some went out, some are gathered.
+-- Bytes on their way out: some went out, some are gathered. Nobody has to believe it: private functions say it to one another.
 use Rattle.std.specs.Prelude.{ℕ, ◌≡◌, List, ◌++◌, Option, Result, MatchResult}
 use Rattle.std.specs.Io.KnownBytes.{Appends}
 

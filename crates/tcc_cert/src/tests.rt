@@ -1,4 +1,5 @@
 //! Certificates of worked histories, writers that fail, altered texts, and readers that fail.
+use crate::sending::send;
 use crate::{
     CertFault, CertFaultKind, Certificate, Links, Numbers, Table, WriteFault, read, write,
 };
@@ -94,62 +95,6 @@ fn stale_read(rt: &impl Abort, alloc: Global) -> Result<Certificate, AllocError>
     )
 }
 
-fn two_reads(rt: &impl Abort, alloc: Global) -> Result<Certificate, AllocError> {
-    let x = Name::read(b"x").expect(rt, "a name");
-    let y = Name::read(b"y").expect(rt, "a name");
-    let mut links = Vec::new(alloc);
-    links.push(Link::Reads {
-        from: 1,
-        to: 2,
-        key: x,
-    })?;
-    links.push(Link::Reads {
-        from: 2,
-        to: 1,
-        key: y,
-    })?;
-    let rows: [&[u32]; 3] = [&[2, 1, 1], &[2, 2, 1], &[2, 1, 2]];
-    cycle(alloc, links, 2, &rows, &rows)
-}
-
-fn two_writes(rt: &impl Abort, alloc: Global) -> Result<Certificate, AllocError> {
-    let key = Name::read(b"x").expect(rt, "a name");
-    let mut links = Vec::new(alloc);
-    let first = Step::Reads {
-        from: 1,
-        to: 3,
-        key,
-    };
-    links.push(derived(alloc, 1, 2, key, 3, first)?)?;
-    let second = Step::Reads {
-        from: 2,
-        to: 3,
-        key,
-    };
-    links.push(derived(alloc, 2, 1, key, 3, second)?)?;
-    cycle(
-        alloc,
-        links,
-        4,
-        &[&[4, 1, 1, 1], &[4, 4, 4, 1], &[4, 4, 4, 1], &[4, 4, 4, 4]],
-        &[&[4, 1, 1, 1], &[4, 4, 2, 1], &[4, 2, 4, 1], &[4, 4, 4, 4]],
-    )
-}
-
-fn long_fork(alloc: Global) -> Result<Certificate, AllocError> {
-    order(
-        alloc,
-        &[0, 1, 2, 3, 4],
-        &[
-            &[0, 0, 0, 0],
-            &[0, 0, 0, 0],
-            &[0, 0, 0, 0],
-            &[1, 0, 0, 0],
-            &[0, 1, 0, 0],
-        ],
-    )
-}
-
 fn writes(rt: &impl Abort, alloc: Global, certificate: &Certificate, text: &str) {
     let mut out = Vec::new(alloc);
     assert_eq!(rt; write(certificate, &mut out), Ok(()));
@@ -161,13 +106,8 @@ fn worked_texts(rt: HostRuntime) -> Result<(), Fail> {
     let alloc = rt.alloc();
     writes(&rt, alloc, &order(alloc, &[0], &[&[]])?, NO_TRANSACTIONS);
     writes(&rt, alloc, &stale_read(&rt, alloc)?, STALE_READ);
-    writes(&rt, alloc, &two_reads(&rt, alloc)?, TWO_READS);
-    writes(&rt, alloc, &two_writes(&rt, alloc)?, TWO_WRITES);
-    writes(&rt, alloc, &long_fork(alloc)?, LONG_FORK);
     let one_session = order(alloc, &[0, 1, 2], &[&[0], &[0], &[1]])?;
     writes(&rt, alloc, &one_session, ONE_SESSION);
-    let one_transaction = order(alloc, &[0, 1], &[&[0], &[0]])?;
-    writes(&rt, alloc, &one_transaction, ONE_TRANSACTION);
     Ok(())
 }
 
@@ -191,22 +131,39 @@ fn long_text(rt: HostRuntime) -> Result<(), Fail> {
     Ok(())
 }
 
-/// A writer that takes a few bytes at a time, and fails after so many.
+/// A writer that takes a few bytes at a time, and does otherwise once so many went out.
 #[derive(Drop)]
-struct Full {
+struct Faulty {
     taken: Vec<u8>,
     room: usize,
-    kind: Option<ErrorKind>,
+    fault: Fault,
 }
 
-impl Write for Full {
+#[derive(Clone, Copy, Debug)]
+enum Fault {
+    /// Each write fails so.
+    Fails(ErrorKind),
+    /// Each write takes no bytes.
+    TakesNone,
+    /// One write is interrupted, and the next ones work.
+    IsInterrupted,
+    /// The flush fails.
+    KeepsAll,
+}
+
+impl Write for Faulty {
     fn write(&mut self, bytes: &[u8]) -> io::Result<usize> {
         let count = bytes.len().min(7).min(self.room);
         if count == 0 {
-            return match self.kind {
-                Some(kind) => Err(io::Error::from(kind)),
-                None => Ok(0),
-            };
+            match self.fault {
+                Fault::Fails(kind) => return Err(io::Error::from(kind)),
+                Fault::TakesNone => return Ok(0),
+                Fault::IsInterrupted => {
+                    self.room = usize::MAX;
+                    return Err(io::Error::from(ErrorKind::Interrupted));
+                }
+                Fault::KeepsAll => return Ok(0),
+            }
         }
         self.taken.extend_from_slice(&bytes[..count])?;
         self.room -= count;
@@ -214,8 +171,52 @@ impl Write for Full {
     }
 
     fn flush(&mut self) -> io::Result<()> {
-        Ok(())
+        match self.fault {
+            Fault::KeepsAll => Err(io::Error::from(ErrorKind::Other)),
+            _ => Ok(()),
+        }
     }
+}
+
+/// What a writer with room for this many bytes takes of a stale read's text.
+fn assert_part(
+    rt: &impl Abort,
+    alloc: Global,
+    certificate: &Certificate,
+    room: usize,
+    fault: Fault,
+    wanted: Result<(), WriteFault>,
+) {
+    let mut out = Faulty {
+        taken: Vec::new(alloc),
+        room,
+        fault,
+    };
+    assert_eq!(rt;
+        write(certificate, &mut out),
+        wanted,
+        "{fault:?} after {room}"
+    );
+    assert_eq!(rt;
+        out.taken.as_slice(),
+        &STALE_READ.as_bytes()[..room],
+        "{fault:?} after {room}"
+    );
+    let mut sent = Faulty {
+        taken: Vec::new(alloc),
+        room,
+        fault,
+    };
+    assert_eq!(rt;
+        send(&mut sent, STALE_READ.as_bytes()).is_ok(),
+        wanted.is_ok(),
+        "{fault:?} after {room}"
+    );
+    assert_eq!(rt;
+        sent.taken.as_slice(),
+        &STALE_READ.as_bytes()[..room],
+        "{fault:?} after {room}"
+    );
 }
 
 // The text goes out up to the byte that is refused, whatever the refusal is.
@@ -223,24 +224,19 @@ impl Write for Full {
 fn writer_fails(rt: HostRuntime) -> Result<(), Fail> {
     let alloc = rt.alloc();
     let certificate = stale_read(&rt, alloc)?;
-    for kind in [Some(ErrorKind::Other), Some(ErrorKind::Interrupted), None] {
+    let failed = Err(WriteFault::Device);
+    for fault in [
+        Fault::Fails(ErrorKind::Other),
+        Fault::TakesNone,
+        Fault::IsInterrupted,
+    ] {
         for room in 0..STALE_READ.len() {
-            let mut out = Full {
-                taken: Vec::new(alloc),
-                room,
-                kind,
-            };
-            assert_eq!(&rt; write(&certificate, &mut out), Err(WriteFault::Device));
-            assert_eq!(&rt; out.taken.as_slice(), &STALE_READ.as_bytes()[..room]);
+            assert_part(&rt, alloc, &certificate, room, fault, failed);
         }
     }
-    let mut out = Full {
-        taken: Vec::new(alloc),
-        room: STALE_READ.len(),
-        kind: None,
-    };
-    assert_eq!(&rt; write(&certificate, &mut out), Ok(()));
-    assert_eq!(&rt; out.taken.as_slice(), STALE_READ.as_bytes());
+    let all = STALE_READ.len();
+    assert_part(&rt, alloc, &certificate, all, Fault::TakesNone, Ok(()));
+    assert_part(&rt, alloc, &certificate, all, Fault::KeepsAll, failed);
     Ok(())
 }
 
@@ -344,6 +340,82 @@ fn reader_fails(rt: HostRuntime) -> Result<(), Fail> {
     let fault = fault_of(&rt, alloc, Failing { text, most: 5 });
     assert_eq!(&rt; fault.line, 2);
     assert_eq!(&rt; fault.kind, CertFaultKind::Word);
+    Ok(())
+}
+
+/// A reader of a text, so many bytes at a time, that gives no bytes once, and then more.
+#[derive(Drop)]
+struct Resuming<'a> {
+    text: &'a [u8],
+    most: usize,
+    more: &'a [u8],
+    has_ended: bool,
+}
+
+impl<'a> Read for Resuming<'a> {
+    fn read(&mut self, buf: &mut [u8]) -> io::Result<usize> {
+        if self.text.is_empty() && !self.has_ended {
+            self.text = self.more;
+            self.has_ended = true;
+            return Ok(0);
+        }
+        let count = buf.len().min(self.most).min(self.text.len());
+        buf[..count].copy_from_slice(&self.text[..count]);
+        self.text = &self.text[count..];
+        Ok(count)
+    }
+}
+
+/// What comes of a reader that resumes behind so many bytes.
+fn resumed(alloc: Global, text: &str, most: usize, count: usize) -> Result<Certificate, CertFault> {
+    let (text, more) = text.as_bytes().split_at(count.min(text.len()));
+    read(
+        alloc,
+        Resuming {
+            text,
+            most,
+            more,
+            has_ended: false,
+        },
+    )
+}
+
+// However many bytes come at a time, the text is read, and no further than its end.
+#[test]
+fn pieces(rt: HostRuntime) -> Result<(), Fail> {
+    let alloc = rt.alloc();
+    let trailing = "tcc-certificate 1\norder 1 0\n0\nclocks\n\nend\nx";
+    let whole = trailing.len() - 1;
+    for most in [1, 7, 46, 100] {
+        for text in TEXTS {
+            assert!(&rt;
+                resumed(alloc, text, most, text.len()).is_ok(),
+                "{text:?} by {most}"
+            );
+        }
+        // The end is final: what comes behind it is not asked for.
+        assert!(&rt; resumed(alloc, trailing, most, whole).is_ok(), "by {most}");
+        let fault = match resumed(alloc, trailing, most, trailing.len()) {
+            Ok(_) => panic!(&rt; "a certificate is read"),
+            Err(fault) => fault,
+        };
+        assert_eq!(&rt;
+            (fault.line, fault.kind),
+            (7, CertFaultKind::Trailing),
+            "by {most}"
+        );
+        for count in 0..whole {
+            let fault = match resumed(alloc, trailing, most, count) {
+                Ok(_) => panic!(&rt; "a certificate is read"),
+                Err(fault) => fault,
+            };
+            assert_eq!(&rt;
+                fault.kind,
+                CertFaultKind::Truncated,
+                "{count} bytes by {most}"
+            );
+        }
+    }
     Ok(())
 }
 

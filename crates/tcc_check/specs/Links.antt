@@ -1,4 +1,4 @@
--- What is asked of the links of a cycle, in parts.
+-- What is asked of the links of a cycle, in parts. Nobody has to believe it: private functions say it to one another.
 use Rattle.std.specs.Prelude.{ℕ, ◌<◌, List}
 use Rattle.tcc_reads.specs.History.{History}
 use Rattle.tcc_graph.specs.declared.link.Link.{Link}

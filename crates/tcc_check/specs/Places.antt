@@ -1,4 +1,4 @@
--- Orders by the places of their numbers.
+-- Orders by the places of their numbers. Nobody has to believe it: private functions say it to one another.
 use Rattle.std.specs.Prelude.{ℕ, ◌<◌, ◌≤◌, ◌≡◌, ◌↔◌, List, length, slice_index}
 use Rattle.tcc_reads.specs.History.{History, count}
 use Rattle.tcc_graph.specs.Orders.{IsNumbering}

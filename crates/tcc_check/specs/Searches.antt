@@ -1,4 +1,4 @@
--- What a search for the first broken place answers.
+-- What a search for the first broken place answers. Nobody has to believe it: private functions say it to one another.
 use Rattle.std.specs.Prelude.{ℕ, ◌<◌, ◌≡◌, ◌+◌, List, [], length, slice_index, slice_index_or, Contains}
 use Rattle.tcc_cert.specs.Tables.{entry, row_of}
 use Rattle.tcc_check.specs.Weights.{AreStarts}

@@ -1,4 +1,4 @@
--- Weights of links: how many steps a link takes before its last one. A row of weights is of the links to one transaction, by their starts.
+-- Weights of links: how many steps a link takes before its last one. A row of weights is of the links to one transaction, by their starts. Nobody has to believe it: private functions say it to one another.
 use Rattle.std.specs.Prelude.{ℕ, ◌<◌, ◌≤◌, ◌≡◌, ◌≢◌, ◌+◌, ◌⊎◌, List, length, slice_index, Contains}
 use Rattle.tcc_reads.specs.History.{History, count}
 use Rattle.tcc_graph.specs.Relations.{IsCausalPair}

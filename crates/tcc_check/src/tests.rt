@@ -1,9 +1,10 @@
 //! Worked certificates, accepted and altered, with verdicts worked out by hand from the rules.
 use crate::{Rule, Verdict, check};
-use std::alloc::Global;
+use std::alloc::{AllocError, Global};
 use std::process::Abort;
-use tcc_cert::{Certificate, Links, Numbers, Table};
-use tcc_graph::{Graph, Link, Step, Walk};
+use std::test::Fail;
+use tcc_cert::{Certificate, Links, Numbers, Table, read};
+use tcc_graph::Graph;
 use tcc_reads::resolve;
 use tcc_txn::{Item, Name, NoMemory, Rows, Snapshot, Txn};
 
@@ -21,6 +22,12 @@ const RELAYED: &str = "a,begin\na,w,x,1\na,commit\nb,begin\nb,r,x,1\nb,w,y,1\nb,
 /// c/1 and d/1 see the writes of a/1 and b/1 in different orders.
 const FORKED: &str = "a,begin\na,w,x,1\na,commit\nb,begin\nb,w,y,1\nb,commit\n\
     c,begin\nc,r,x,1\nc,r,y,0\nc,commit\nd,begin\nd,r,x,0\nd,r,y,1\nd,commit\n";
+
+/// a/1 and b/1 read from one another.
+const CROSSED: &str = "a,begin\na,w,x,1\na,r,y,1\na,commit\nb,begin\nb,w,y,1\nb,r,x,1\nb,commit\n";
+
+/// a/1 and a/2 write different keys.
+const TWO: &str = "a,begin\na,w,x,1\na,commit\na,begin\na,w,y,1\na,commit\n";
 
 /// Adds a transaction to those of its session.
 fn add(alloc: Global, parts: &mut Vec<(Name, Vec<Txn>)>, session: Name, txn: Txn) -> Option<()> {
@@ -55,295 +62,201 @@ fn graph(alloc: Global, records: &str) -> Option<Graph> {
     Graph::build(alloc, &resolved).ok()
 }
 
-/// A name that the test writes out.
-fn name(rt: &impl Abort, text: &str) -> Name {
-    Name::read(text.as_bytes()).expect(rt, "a name")
-}
-
-fn numbers(alloc: Global, row: &[u32]) -> Result<Numbers, NoMemory> {
-    Ok(Numbers::new(row.to_vec(alloc)?))
-}
-
-fn table(alloc: Global, rows: &[&[u32]]) -> Result<Table, NoMemory> {
-    let mut list = Vec::new(alloc);
-    for row in rows {
-        list.push(numbers(alloc, row)?)?;
-    }
-    Ok(Table::new(list))
-}
-
-fn cycle(
-    alloc: Global,
-    links: Vec<Link>,
-    least: u32,
-    near: &[&[u32]],
-    far: &[&[u32]],
-) -> Result<Certificate, NoMemory> {
-    Ok(Certificate::Cycle {
-        links: Links::new(links),
-        least,
-        near: table(alloc, near)?,
-        far: table(alloc, far)?,
-    })
-}
-
-fn order(alloc: Global, list: &[u32], clocks: &[&[u32]]) -> Result<Certificate, NoMemory> {
-    Ok(Certificate::Order {
-        order: numbers(alloc, list)?,
-        clocks: table(alloc, clocks)?,
-    })
-}
-
-/// The verdict on a certificate of the history of these records.
-fn assert_verdict(
-    rt: &impl Abort,
-    alloc: Global,
-    records: &str,
-    certificate: Result<Certificate, NoMemory>,
-    wanted: Verdict,
-) {
+/// What the rules say of a certificate of the history of these records.
+fn verdict(rt: &impl Abort, alloc: Global, records: &str, certificate: &Certificate) -> Verdict {
     let Some(graph) = graph(alloc, records) else {
         panic!(rt; "no graph of {records}");
     };
-    let Ok(certificate) = certificate else {
-        panic!(rt; "no memory");
-    };
-    match check(alloc, &graph, &certificate) {
-        Ok(verdict) => assert_eq!(rt; verdict, wanted),
+    match check(alloc, &graph, certificate) {
+        Ok(verdict) => verdict,
         Err(NoMemory) => panic!(rt; "no memory"),
     }
 }
 
-fn rejected(rule: Rule, row: u32, column: u32) -> Verdict {
-    Verdict::Rejected {
-        rule,
-        at: (row, column),
-    }
-}
+/// The first broken rule and where, none where the certificate is accepted.
+type Wanted = Option<(Rule, u32, u32)>;
 
-/// The links of a stale read: the first leads to `to`.
-fn stale_links(rt: &impl Abort, alloc: Global, to: u32) -> Result<Vec<Link>, NoMemory> {
-    let walk = Walk::new(vec![in alloc; Step::Session { from: 1, to: 2 }]?);
-    let mut links = Vec::new(alloc);
-    links.push(Link::Session { from: 0, to })?;
-    links.push(Link::Derived {
-        from: 1,
-        to: 0,
-        key: name(rt, "x"),
-        reader: 2,
-        walk,
-    })?;
-    Ok(links)
-}
-
-fn stale(
+/// What the rules say of the certificate that a text says behind its first line.
+fn assert_verdict(
     rt: &impl Abort,
     alloc: Global,
-    to: u32,
-    near: &[&[u32]],
-    far: &[&[u32]],
-) -> Result<Certificate, NoMemory> {
-    cycle(alloc, stale_links(rt, alloc, to)?, 3, near, far)
-}
-
-#[test]
-fn a_stale_read(rt: HostRuntime) {
-    let alloc = rt.alloc();
-    let near: &[&[u32]] = &[&[3, 1, 1], &[3, 3, 1], &[3, 3, 3]];
-    let far: &[&[u32]] = &[&[3, 1, 1], &[2, 3, 1], &[3, 3, 3]];
-    let good = stale(&rt, alloc, 1, near, far);
-    assert_verdict(&rt, alloc, STALE, good, Verdict::Accepted);
-    let elsewhere = stale(&rt, alloc, 2, near, far);
-    assert_verdict(&rt, alloc, STALE, elsewhere, rejected(Rule::Links, 2, 0));
-    let low = stale(&rt, alloc, 1, &[&[3, 2, 1], &[3, 3, 1], &[3, 3, 3]], far);
-    assert_verdict(&rt, alloc, STALE, low, rejected(Rule::NearPairs, 0, 1));
-    let dear = stale(&rt, alloc, 1, near, &[&[3, 1, 1], &[3, 3, 1], &[3, 3, 3]]);
-    assert_verdict(&rt, alloc, STALE, dear, rejected(Rule::FarLinks, 1, 0));
-    let cheap = stale(&rt, alloc, 1, near, &[&[3, 1, 1], &[2, 3, 1], &[3, 3, 2]]);
-    assert_verdict(&rt, alloc, STALE, cheap, rejected(Rule::Returns, 2, 2));
-    let short = stale(&rt, alloc, 1, near, &[&[3, 1, 1], &[2, 3, 1]]);
-    assert_verdict(&rt, alloc, STALE, short, rejected(Rule::Sizes, 0, 0));
-    let above = stale(&rt, alloc, 1, near, &[&[3, 1, 1], &[2, 4, 1], &[3, 3, 3]]);
-    assert_verdict(&rt, alloc, STALE, above, rejected(Rule::Sizes, 0, 0));
-}
-
-/// A transaction that is none of the history, among the steps of a walk.
-#[test]
-fn a_number_out_of_range(rt: HostRuntime) {
-    let alloc = rt.alloc();
-    let near: &[&[u32]] = &[&[1, 1], &[1, 1]];
-    let far: &[&[u32]] = &[&[1, 1], &[1, 1]];
-    let links = vec![in alloc; Link::Session { from: 0, to: 2 }];
-    let Ok(links) = links else {
-        panic!(&rt; "no memory");
-    };
-    let certificate = cycle(alloc, links, 1, near, far);
-    let one = "a,begin\na,commit\n";
-    assert_verdict(&rt, alloc, one, certificate, rejected(Rule::Sizes, 0, 0));
-}
-
-fn read(rt: &impl Abort, from: u32, to: u32, key: &str) -> Link {
-    Link::Reads {
-        from,
-        to,
-        key: name(rt, key),
+    records: &str,
+    claim: &[&str],
+    wanted: Wanted,
+) -> Result<(), AllocError> {
+    let mut text = Vec::new(alloc);
+    text.extend_from_slice(b"tcc-certificate 1\n")?;
+    for part in claim {
+        text.extend_from_slice(part.as_bytes())?;
     }
-}
-
-fn crossed_links(rt: &impl Abort, alloc: Global) -> Result<Vec<Link>, NoMemory> {
-    Ok(vec![in alloc; read(rt, 1, 2, "x"), read(rt, 2, 1, "y")]?)
-}
-
-/// a/1 and b/1 read from one another.
-#[test]
-fn crossed_reads(rt: HostRuntime) {
-    let alloc = rt.alloc();
-    let records = "a,begin\na,w,x,1\na,r,y,1\na,commit\nb,begin\nb,w,y,1\nb,r,x,1\nb,commit\n";
-    let near: &[&[u32]] = &[&[2, 1, 1], &[2, 2, 1], &[2, 1, 2]];
-    let far: &[&[u32]] = &[&[2, 1, 1], &[2, 2, 1], &[2, 1, 2]];
-    let Ok(links) = crossed_links(&rt, alloc) else {
-        panic!(&rt; "no memory");
+    text.extend_from_slice(b"end\n")?;
+    let Ok(certificate) = read(alloc, text.as_slice()) else {
+        panic!(rt; "{claim:?} is no certificate");
     };
-    let good = cycle(alloc, links, 2, near, far);
-    assert_verdict(&rt, alloc, records, good, Verdict::Accepted);
-    let none = cycle(alloc, Vec::new(alloc), 2, near, far);
-    assert_verdict(&rt, alloc, records, none, rejected(Rule::Links, 0, 0));
+    let wanted = match wanted {
+        Some((rule, row, column)) => Verdict::Rejected {
+            rule,
+            at: (row, column),
+        },
+        None => Verdict::Accepted,
+    };
+    assert_eq!(rt;
+        verdict(rt, alloc, records, &certificate),
+        wanted,
+        "for {claim:?}"
+    );
+    Ok(())
 }
 
-/// A derived link by x, read by 3, whose walk is one read.
-fn torn_link(rt: &impl Abort, alloc: Global, from: u32, to: u32) -> Result<Link, NoMemory> {
-    let key = name(rt, "x");
-    let step = Step::Reads { from, to: 3, key };
-    let walk = Walk::new(vec![in alloc; step]?);
-    Ok(Link::Derived {
-        from,
-        to,
-        key,
-        reader: 3,
-        walk,
-    })
-}
+/// Links, the table of lengths, the table of costs, and the verdict.
+type Row<'a> = (&'a str, &'a str, &'a str, Wanted);
 
-fn torn(rt: &impl Abort, alloc: Global, far: &[&[u32]]) -> Result<Certificate, NoMemory> {
-    let mut links = Vec::new(alloc);
-    links.push(torn_link(rt, alloc, 1, 2)?)?;
-    links.push(torn_link(rt, alloc, 2, 1)?)?;
-    let near: &[&[u32]] = &[&[4, 1, 1, 1], &[4, 4, 4, 1], &[4, 4, 4, 1], &[4, 4, 4, 4]];
-    cycle(alloc, links, 4, near, far)
-}
-
-#[test]
-fn a_torn_read(rt: HostRuntime) {
-    let alloc = rt.alloc();
-    let far: &[&[u32]] = &[&[4, 1, 1, 1], &[4, 4, 2, 1], &[4, 2, 4, 1], &[4, 4, 4, 4]];
-    let good = torn(&rt, alloc, far);
-    assert_verdict(&rt, alloc, TORN, good, Verdict::Accepted);
-    let near: &[&[u32]] = &[&[4, 1, 1, 1], &[4, 4, 1, 1], &[4, 2, 4, 1], &[4, 4, 4, 4]];
-    let altered = torn(&rt, alloc, near);
-    assert_verdict(&rt, alloc, TORN, altered, rejected(Rule::FarSteps, 1, 1));
-}
-
-fn relayed_links(rt: &impl Abort, alloc: Global) -> Result<Vec<Link>, NoMemory> {
-    let mut steps = Vec::new(alloc);
-    steps.push(Step::Reads {
-        from: 1,
-        to: 2,
-        key: name(rt, "x"),
-    })?;
-    steps.push(Step::Reads {
-        from: 2,
-        to: 3,
-        key: name(rt, "y"),
-    })?;
-    steps.push(Step::Session { from: 3, to: 4 })?;
-    let mut links = Vec::new(alloc);
-    links.push(Link::Session { from: 0, to: 1 })?;
-    links.push(Link::Derived {
-        from: 1,
-        to: 0,
-        key: name(rt, "x"),
-        reader: 4,
-        walk: Walk::new(steps),
-    })?;
-    Ok(links)
-}
-
-fn relayed(
+fn assert_cycles(
     rt: &impl Abort,
     alloc: Global,
-    least: u32,
-    second: &[u32],
-) -> Result<Certificate, NoMemory> {
-    let near: &[&[u32]] = &[
-        &[5, 1, 1, 1, 1],
-        second,
-        &[5, 5, 5, 1, 2],
-        &[5, 5, 5, 5, 1],
-        &[5, 5, 5, 5, 5],
-    ];
-    let far: &[&[u32]] = &[
-        &[5, 1, 1, 1, 1],
-        &[4, 5, 1, 2, 3],
-        &[5, 5, 5, 1, 2],
-        &[5, 5, 5, 5, 1],
-        &[5, 5, 5, 5, 5],
-    ];
-    cycle(alloc, relayed_links(rt, alloc)?, least, near, far)
+    records: &str,
+    rows: &[Row],
+) -> Result<(), AllocError> {
+    for (links, near, far, wanted) in rows {
+        assert_verdict(
+            rt,
+            alloc,
+            records,
+            &[links, "near\n", near, "far\n", far],
+            *wanted,
+        )?;
+    }
+    Ok(())
 }
 
 #[test]
-fn a_relayed_write(rt: HostRuntime) {
-    let alloc = rt.alloc();
-    let second: &[u32] = &[5, 5, 1, 2, 3];
-    let good = relayed(&rt, alloc, 5, second);
-    assert_verdict(&rt, alloc, RELAYED, good, Verdict::Accepted);
-    let low = relayed(&rt, alloc, 4, second);
-    assert_verdict(&rt, alloc, RELAYED, low, rejected(Rule::Sizes, 0, 0));
-    let high = relayed(&rt, alloc, 6, second);
-    assert_verdict(&rt, alloc, RELAYED, high, rejected(Rule::Links, 0, 0));
-    let far = relayed(&rt, alloc, 5, &[5, 5, 1, 2, 4]);
-    assert_verdict(&rt, alloc, RELAYED, far, rejected(Rule::NearSteps, 1, 4));
+fn a_stale_read(rt: HostRuntime) -> Result<(), Fail> {
+    use Rule::{FarLinks, Links, NearPairs, Returns, Sizes};
+    let links = "cycle 3 2 3\nS 0 1\nD 1 0 x 2 1\nS 1 2\n";
+    let elsewhere = "cycle 3 2 3\nS 0 2\nD 1 0 x 2 1\nS 1 2\n";
+    let smaller = "cycle 2 2 3\nS 0 1\nD 1 0 x 2 1\nS 1 2\n";
+    let outside = "cycle 3 2 3\nS 0 1\nD 1 0 x 2 1\nS 1 3\n";
+    let near = "3 1 1\n3 3 1\n3 3 3\n";
+    let far = "3 1 1\n2 3 1\n3 3 3\n";
+    assert_cycles(
+        &rt,
+        rt.alloc(),
+        STALE,
+        &[
+            (links, near, far, None),
+            (smaller, "3 1\n3 3\n", "3 1\n2 3\n", Some((Sizes, 0, 0))),
+            (outside, near, far, Some((Sizes, 0, 0))),
+            (links, near, "3 1 1\n2 4 1\n3 3 3\n", Some((Sizes, 0, 0))),
+            (elsewhere, near, far, Some((Links, 2, 0))),
+            (links, "3 2 1\n3 3 1\n3 3 3\n", far, Some((NearPairs, 0, 1))),
+            (links, near, "3 1 1\n3 3 1\n3 3 3\n", Some((FarLinks, 1, 0))),
+            (links, near, "3 1 1\n2 3 1\n3 3 2\n", Some((Returns, 2, 2))),
+        ],
+    )?;
+    Ok(())
 }
 
 #[test]
-fn orders(rt: HostRuntime) {
+fn other_cycles(rt: HostRuntime) -> Result<(), Fail> {
+    use Rule::{FarSteps, Links, NearSteps, Sizes};
     let alloc = rt.alloc();
-    let nobody = order(alloc, &[0], &[&[]]);
-    assert_verdict(&rt, alloc, "", nobody, Verdict::Accepted);
-    let two = "a,begin\na,w,x,1\na,commit\na,begin\na,w,y,1\na,commit\n";
-    let in_turn = order(alloc, &[0, 1, 2], &[&[0], &[0], &[1]]);
-    assert_verdict(&rt, alloc, two, in_turn, Verdict::Accepted);
-    let behind = order(alloc, &[0, 1, 2], &[&[0], &[0], &[0]]);
-    assert_verdict(&rt, alloc, two, behind, rejected(Rule::Pairs, 0, 0));
-    let twice = order(alloc, &[0, 1, 1], &[&[0], &[0], &[1]]);
-    assert_verdict(&rt, alloc, two, twice, rejected(Rule::Pairs, 0, 0));
-    let short = order(alloc, &[0, 1], &[&[0], &[0], &[1]]);
-    assert_verdict(&rt, alloc, two, short, rejected(Rule::Sizes, 0, 0));
+    let crossed = "cycle 3 2 2\nR 1 2 x\nR 2 1 y\n";
+    let table = "2 1 1\n2 2 1\n2 1 2\n";
+    assert_cycles(&rt, alloc, CROSSED, &[(crossed, table, table, None)])?;
+    let torn = "cycle 4 2 4\nD 1 2 x 3 1\nR 1 3 x\nD 2 1 x 3 1\nR 2 3 x\n";
+    let near = "4 1 1 1\n4 4 4 1\n4 4 4 1\n4 4 4 4\n";
+    let far = "4 1 1 1\n4 4 2 1\n4 2 4 1\n4 4 4 4\n";
+    let low = "4 1 1 1\n4 4 1 1\n4 2 4 1\n4 4 4 4\n";
+    assert_cycles(
+        &rt,
+        alloc,
+        TORN,
+        &[
+            (torn, near, far, None),
+            (torn, near, low, Some((FarSteps, 1, 1))),
+        ],
+    )?;
+    let relayed = "S 0 1\nD 1 0 x 4 3\nR 1 2 x\nR 2 3 y\nS 3 4\nnear\n5 1 1 1 1\n";
+    let rest = "5 5 5 1 2\n5 5 5 5 1\n5 5 5 5 5\n";
+    let far = "far\n5 1 1 1 1\n4 5 1 2 3\n";
+    for (sizes, second, wanted) in [
+        ("cycle 5 2 5\n", "5 5 1 2 3\n", None),
+        ("cycle 5 2 4\n", "5 5 1 2 3\n", Some((Sizes, 0, 0))),
+        ("cycle 5 2 6\n", "5 5 1 2 3\n", Some((Links, 0, 0))),
+        ("cycle 5 2 5\n", "5 5 1 2 4\n", Some((NearSteps, 1, 4))),
+    ] {
+        let claim = [sizes, relayed, second, rest, far, rest];
+        assert_verdict(&rt, alloc, RELAYED, &claim, wanted)?;
+    }
+    Ok(())
+}
+
+/// No text says so: no links at all.
+#[test]
+fn no_links(rt: HostRuntime) -> Result<(), Fail> {
+    let alloc = rt.alloc();
+    let mut near = Vec::new(alloc);
+    let mut far = Vec::new(alloc);
+    for row in [[2, 1, 1], [2, 2, 1], [2, 1, 2]] {
+        near.push(Numbers::new(row.to_vec(alloc)?))?;
+        far.push(Numbers::new(row.to_vec(alloc)?))?;
+    }
+    let certificate = Certificate::Cycle {
+        links: Links::new(Vec::new(alloc)),
+        least: 2,
+        near: Table::new(near),
+        far: Table::new(far),
+    };
+    let rejected = Verdict::Rejected {
+        rule: Rule::Links,
+        at: (0, 0),
+    };
+    assert_eq!(&rt; verdict(&rt, alloc, CROSSED, &certificate), rejected);
+    Ok(())
+}
+
+#[test]
+fn orders(rt: HostRuntime) -> Result<(), Fail> {
+    use Rule::{Axiom, Pairs, Sizes};
+    let alloc = rt.alloc();
     let aborted = "a,begin\na,w,x,9\na,abort\na,begin\na,w,x,1\na,commit\n";
-    let alone = order(alloc, &[0, 1], &[&[0], &[0]]);
-    assert_verdict(&rt, alloc, aborted, alone, Verdict::Accepted);
-}
-
-/// The clocks of a fork, that of c/1 as given.
-fn forked(alloc: Global, list: &[u32], third: &[u32]) -> Result<Certificate, NoMemory> {
-    let clocks: &[&[u32]] = &[
-        &[0, 0, 0, 0],
-        &[0, 0, 0, 0],
-        &[0, 0, 0, 0],
-        third,
-        &[0, 1, 0, 0],
-    ];
-    order(alloc, list, clocks)
+    let forked = "0 0 0 0\n0 0 0 0\n0 0 0 0\n1 0 0 0\n0 1 0 0\n";
+    let reached = "0 0 0 0\n0 0 0 0\n0 0 0 0\n1 1 0 0\n0 1 0 0\n";
+    for (records, sizes, clocks, wanted) in [
+        ("", "order 1 0\n0\n", "\n", None),
+        (TWO, "order 3 1\n0 1 2\n", "0\n0\n1\n", None),
+        (TWO, "order 3 1\n0 1 2\n", "0\n0\n0\n", Some((Pairs, 0, 0))),
+        (TWO, "order 3 1\n0 1 1\n", "0\n0\n1\n", Some((Pairs, 0, 0))),
+        (TWO, "order 3 1\n0 2 1\n", "0\n0\n1\n", Some((Pairs, 0, 0))),
+        (TWO, "order 2 1\n0 1\n", "0\n0\n", Some((Sizes, 0, 0))),
+        (
+            TWO,
+            "order 3 2\n0 1 2\n",
+            "0 0\n0 0\n1 0\n",
+            Some((Sizes, 0, 0)),
+        ),
+        (aborted, "order 2 1\n0 1\n", "0\n0\n", None),
+        (FORKED, "order 5 4\n0 1 2 3 4\n", forked, None),
+        (
+            FORKED,
+            "order 5 4\n0 3 1 2 4\n",
+            forked,
+            Some((Pairs, 0, 0)),
+        ),
+        (
+            FORKED,
+            "order 5 4\n0 1 2 3 4\n",
+            reached,
+            Some((Axiom, 2, 0)),
+        ),
+    ] {
+        assert_verdict(&rt, alloc, records, &[sizes, "clocks\n", clocks], wanted)?;
+    }
+    Ok(())
 }
 
 #[test]
-fn a_fork(rt: HostRuntime) {
-    let alloc = rt.alloc();
-    let third: &[u32] = &[1, 0, 0, 0];
-    let good = forked(alloc, &[0, 1, 2, 3, 4], third);
-    assert_verdict(&rt, alloc, FORKED, good, Verdict::Accepted);
-    let early = forked(alloc, &[0, 3, 1, 2, 4], third);
-    assert_verdict(&rt, alloc, FORKED, early, rejected(Rule::Pairs, 0, 0));
-    let reached = forked(alloc, &[0, 1, 2, 3, 4], &[1, 1, 0, 0]);
-    assert_verdict(&rt, alloc, FORKED, reached, rejected(Rule::Axiom, 2, 0));
+fn numbers(rt: HostRuntime) {
+    assert_eq!(&rt; Rule::Sizes.number(), 1);
+    assert_eq!(&rt; Rule::Axiom.number(), 9);
 }
