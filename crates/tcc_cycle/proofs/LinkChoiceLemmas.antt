@@ -17,8 +17,9 @@ use Rattle.tcc_graph.specs.declared.link.Link.TheVariants as link
 use Rattle.tcc_graph.proofs.Linking.{some_cost}
 use Rattle.tcc_derive.specs.Prices.{IsDerived, IsLinkOf}
 use Rattle.tcc_derive.specs.Reasons.{IsFirstReason}
-use Rattle.tcc_derive.specs.Backwards.{IsFirstName}
+use Rattle.tcc_derive.specs.Names.{IsFirstName}
 use Rattle.tcc_derive.proofs.StepLemmas.{not_above}
+use Rattle.tcc_derive.proofs.CostLemmas.{link_of}
 use Rattle.tcc_cycle.specs.Ways.{IsFirstLink}
 
 -- without a session pair, the read of the first key
@@ -57,9 +58,6 @@ derived_of h a b none empty (link.Reads c d y) leads =
 derived_of h a b none empty (link.Derived c d y e walk) leads =
     let reason : IsReason h a b y e walk = rw (leads.from, leads.to) at leads.link in
     (y, e, walk, rw (leads.from, leads.to) refl, reason)
-
-link_of : (h : History) (a b : ℕ) (l : Link) → IsDerived h a b l → IsLinkOf h a b l
-link_of h a b l (x, c, walk, is, reason) = rw is (record { from = refl; to = refl; link = reason })
 
 pub reason_first : (h : History) (a b : ℕ) → session_pair h a b ≡ false → length (reads_from h a b) ≡ 0 → (found : Option Link) → MatchOption found ((l : Link) → IsDerived h a b l → ⊥) (IsFirstReason h a b)
     → MatchOption found ((l : Link) → IsLinkOf h a b l → ⊥) (IsFirstLink h a b)

@@ -10,9 +10,10 @@ use Rattle.tcc_graph.specs.declared.link.Link.{Link}
 use Rattle.tcc_graph.proofs.Pairs.{link_below}
 use Rattle.tcc_graph.proofs.Linking.{route_below}
 use Rattle.tcc_core.specs.Rows.{in_row, cap_of, IsWithin, IsCutOff}
-use Rattle.tcc_core.specs.Searches.{Search, IsSearchOf, Settles, held}
+use Rattle.tcc_core.specs.Searches.{Search, IsSearchOf, Settles}
+use Rattle.tcc_core.specs.Relaxing.{count_joined}
 use Rattle.tcc_core.specs.declared.settled.Settled.TheVariants as settled
-use Rattle.tcc_core.proofs.Lowering.{held_set, held_below}
+use Rattle.tcc_core.proofs.Lowering.{joined_set, joined_below}
 use Rattle.tcc_core.proofs.Ending.{still_outside}
 use Rattle.tcc_cycle.specs.Costs.{IsFarRow, AreRows, AreFarRows}
 use Rattle.tcc_cycle.specs.Returns.{HasEnded, IsFirstReturn, cost_in, IsSearched}
@@ -33,21 +34,21 @@ route_ends_below h s v (l ∷ links) (some, lead) = ends_below h s v l links lea
 pub record IsOn (h : History) (s : ℕ) (n : ℕ) (search : Search) : Type 0 where
   pub is : IsSearchOf h s search
   pub outside : in_row search.row s ≡ None
-  pub many : n ≤ held search.row
+  pub many : n ≤ count_joined search.row
 
 pub more_on : (h : History) (s cap n : ℕ) (old new : Search) → IsOn h s n old → IsSearchOf h s new → Settles h s cap old.row new.row settled.More → IsOn h s (n + 1) new
 more_on h s cap n old new on is settles = record { is = is; outside = still_outside h s cap old.row new.row settles on.outside; many = many settles }
   where
-    many : Settles h s cap old.row new.row settled.More → n + 1 ≤ held new.row
+    many : Settles h s cap old.row new.row settled.More → n + 1 ≤ count_joined new.row
     many (v, distance, other, joins) =
         let (links, route, costs) = joins.exact.attained in
         let within : v < length old.row = omega (arith, route_ends_below h s v links route, on.is.row.long) in
-        omega (arith, on.many, ap held joins.joined, held_set old.row v distance within joins.outside)
+        omega (arith, on.many, ap count_joined joins.joined, joined_set old.row v distance within joins.outside)
 
 pub never_over : (h : History) (s : ℕ) (search : Search) → IsOn h s 4294967295 search → length search.row ≤ MAX_COUNT → ⊥
 never_over h s search on few =
     let within : s < length search.row = omega (arith, on.is.below, on.is.row.long) in
-    omega (arith, on.many, held_below search.row s within on.outside)
+    omega (arith, on.many, joined_below search.row s within on.outside)
 
 pub ended_returned : (h : History) (s cap c : ℕ) (old new : Search) → IsSearchOf h s new → Settles h s cap old.row new.row (settled.Returned c) → HasEnded h s cap new.row (Some c)
 ended_returned h s cap c old new is joins =

@@ -8,8 +8,8 @@ use Rattle.tcc_reads.specs.History.{History}
 use Rattle.tcc_graph.specs.Links.{cost}
 use Rattle.tcc_graph.specs.Routes.{IsRoute, IsDistance}
 use Rattle.tcc_graph.specs.declared.link.Link.{Link}
-use Rattle.tcc_near.specs.Distances.{row_of}
-use Rattle.tcc_core.specs.Rows.{in_row, IsRow}
+use Rattle.tcc_graph.specs.Tables.{row_of}
+use Rattle.tcc_core.specs.Rows.{in_row, IsSearchRow}
 use Rattle.tcc_core.specs.Shares.{IsCappedDistance}
 use Rattle.tcc_cycle.specs.Costs.{no_cost, IsFarRow, AreRows}
 use Rattle.tcc_cycle.specs.Returns.{cost_in}
@@ -40,7 +40,7 @@ rows_weaker P Q n rows f are = record { long = are.long; each = λ i low. f i (r
 
 -- ---- the rows of searches
 
-far_entry : (h : History) (s cap : ℕ) (row : List (Option ℕ)) → IsRow h s row → ((v : ℕ) (links : List Link) → in_row row v ≡ None → IsRoute h s v links → cap ≤ cost links)
+far_entry : (h : History) (s cap : ℕ) (row : List (Option ℕ)) → IsSearchRow h s row → ((v : ℕ) (links : List Link) → in_row row v ≡ None → IsRoute h s v links → cap ≤ cost links)
     → (b v x : ℕ) → b ≤ cap → b ≤ no_cost → (found : Option ℕ) → in_row row v ≡ found → x ≡ cost_in found → IsCappedDistance h s v (Some b) (Some (min b x))
 far_entry h s cap row is outside b v x low fits None out at =
     let same : min b x ≡ b = omega arith in
@@ -55,7 +55,7 @@ far_entry h s cap row is outside b v x low fits (Some c) found at = go (cases_lt
         let same : min b x ≡ b = omega arith in
         inr (same, λ links route. omega (arith, (is.exact v c found).least links route))
 
-pub far_row : (h : History) (s cap : ℕ) (row : List (Option ℕ)) → IsRow h s row → ((v : ℕ) (links : List Link) → in_row row v ≡ None → IsRoute h s v links → cap ≤ cost links) → IsFarRow h s cap (map cost_in row)
+pub far_row : (h : History) (s cap : ℕ) (row : List (Option ℕ)) → IsSearchRow h s row → ((v : ℕ) (links : List Link) → in_row row v ≡ None → IsRoute h s v links → cap ≤ cost links) → IsFarRow h s cap (map cost_in row)
 far_row h s cap row is outside = record {
   long = length-map row cost_in ∙ is.long;
   exact = λ b v low fits below. far_entry h s cap row is outside b v (slice_index (map cost_in row) v) low fits (in_row row v) refl (get_or-map cost_in row v None 0 (omega (arith, is.long)));

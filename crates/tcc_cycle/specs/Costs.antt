@@ -1,7 +1,7 @@
 -- What it costs to come from each start to each transaction.
 use Rattle.std.specs.Prelude.{ℕ, ◌<◌, ◌≤◌, ◌≡◌, List, length, Some, min, slice_index}
 use Rattle.tcc_reads.specs.History.{History, count}
-use Rattle.tcc_near.specs.Distances.{row_of}
+use Rattle.tcc_graph.specs.Tables.{row_of}
 use Rattle.tcc_core.specs.Shares.{IsCappedDistance}
 
 -- what a number of 32 bits has for none

@@ -6,17 +6,16 @@ ghost use Rattle.tcc_graph.specs.Ties.{IsFirstCycle};
 ghost use Rattle.tcc_graph.specs.declared.link.Link.{Link};
 ghost use Rattle.tcc_near.specs.Distances.{IsNearOf};
 ghost use Rattle.tcc_derive.specs.Prices.{IsPricesOf, IsLinkOf};
-ghost use Rattle.tcc_derive.specs.Backwards.{IsFirstName};
 ghost use Rattle.tcc_cycle.specs.Returns.{IsFirstReturn};
 ghost use Rattle.tcc_cycle.specs.Ways.{spent, IsBefore, IsFirstLink};
 
 use crate::returning::Returned;
 use std::alloc::Global;
 use tcc_core::Search;
-use tcc_derive::{Prices, reason};
+use tcc_derive::{Prices, first_name, reason};
 use tcc_graph::{Graph, Link};
 use tcc_near::Near;
-use tcc_txn::{Name, NoMemory};
+use tcc_txn::NoMemory;
 
 /// What it costs to come to a transaction, which is nothing at the start; none where the search has not come there.
 fn spent(search: &Search, transaction: u32) -> Option<u32>
@@ -60,13 +59,6 @@ fn last_start(search: &Search, prices: &Prices, to: u32, left: u32) -> Option<(u
         }
     }
     None
-}
-
-/// The first of the names; none where there are none.
-fn first_name(names: &[Name]) -> Option<Name>
-    ensures { MatchOption result (length names.now ≡ 0) (IsFirstName names.now) }
-{
-    names.iter().copied().min()
 }
 
 /// The first of the cheapest links from one transaction to another; none where there is none.

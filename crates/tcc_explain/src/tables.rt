@@ -1,6 +1,7 @@
 //! The tables of certificates, from the distances, the searches' rows and the clocks.
 ghost use Rattle.std.specs.Prelude.{◌≡◌, ◌<◌, IfOk, map, length, min};
-ghost use Rattle.tcc_near.specs.Distances.{IsNearOf, row_of};
+ghost use Rattle.tcc_near.specs.Distances.{IsNearOf};
+ghost use Rattle.tcc_graph.specs.Tables.{row_of};
 ghost use Rattle.tcc_near.specs.Clocks.{IsClocksOf};
 ghost use Rattle.tcc_cycle.specs.Costs.{AreFarRows};
 ghost use Rattle.tcc_explain.specs.Certificates.{IsNearTable, IsFarTable};

@@ -17,7 +17,7 @@ loop-start-preserved c =
     let is : IsSearchOf h s c.in_ok-search.search = c.in_ok-search.ensures.search h c.requires in
     let outside : in_row c.in_ok-search.search.row s ≡ None = c.in_ok-search.ensures.empty.empty s in
     let ended : HasEnded h s cap new.row c.finish-back.result = c.finish-back.ensures.ended h s c.requires is outside in
-    let costs : c.in_ok-costs.field-0 ≡ map cost_in new.row = c.in_ok-costs.ensures ∙ ap (map cost_in) c.row.ensures in
+    let costs : c.in_ok-costs.field-0 ≡ map cost_in new.row = c.in_ok-costs.ensures ∙ ap (map cost_in) c.row.ensures.value in
     let pushed : c.push.new.self.items ≡ rows ++ map cost_in new.row ∷ [] = rw (← costs) c.in_ok-push.ensures.items in
     elim c.match-back.branch [
       | in-Some+then-cost-cap w ↦
