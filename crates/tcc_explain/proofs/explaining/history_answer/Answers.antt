@@ -9,7 +9,7 @@ returns-in-Some g c =
     let h = c.args.graph.now in
     let first : IsFirstOrder h c.in-Some.order.items = rw c.in-Some.is at (c.in_ok-order.ensures h c.in_ok-prices.ensures) in
     rw (c.new-in-Some.ensures, c.new.ensures)
-    (((c.order_or_cycle.ensures h).0 (c.in-Some.order.items, first.commit), first), ap length c.sessions-sessions.ensures, c.in_ok-labels.ensures, c.in_ok-clocks-2.ensures)
+    (((c.order_or_cycle.ensures h).0 (c.in-Some.order.items, first.commit), first), ap length c.sessions-sessions.ensures.value, c.in_ok-labels.ensures, c.in_ok-clocks-2.ensures)
 
 pub returns : goal.returns
 returns g c =
