@@ -1,13 +1,11 @@
 -- Small rows, steps and shares, worked out by hand, that the definitions have to agree with.
-use Rattle.std.proofs.Common.{ℕ, zero, suc, true, All, Contains, ◌≡◌, ◌≤◌, ◌<◌, List, [], ◌∷◌, length-append, refl, arith, None, Some, Option}
-use Rattle.std.specs.Prelude.{codes}
+use Rattle.std.proofs.Common.{ℕ, zero, suc, true, All, Contains, ◌≡◌, ◌≤◌, ◌<◌, List, [], ◌∷◌, refl, arith, None, Some, Option}
 use Rattle.std.proofs.lemmas.Bool.{false≢true}
 use Rattle.std.proofs.lemmas.List.Elements.{All-cons, All-nil}
-use Rattle.tcc_reads.specs.History.{Entry, History, initial}
+use Rattle.tcc_reads.specs.History.{History, initial}
 use Rattle.tcc_graph.specs.Relations.{session_pair, reads_from}
-use Rattle.tcc_graph.specs.Links.{IsLink, cost, link_cost}
+use Rattle.tcc_graph.specs.Links.{IsLink, cost}
 use Rattle.tcc_graph.specs.Routes.{IsRoute}
-use Rattle.tcc_graph.specs.declared.step.Step.TheVariants as step
 use Rattle.tcc_graph.specs.declared.link.Link.{Link}
 use Rattle.tcc_graph.specs.declared.link.Link.TheVariants as link
 use Rattle.tcc_core.specs.Rows.{in_row, cap_of, JoinsNearest}

@@ -108,7 +108,11 @@ fn steps_from_others(rt: HostRuntime) {
         (3, Settled::More, Some(&[None, None, None, Some(1)])),
         (3, Settled::More, Some(&[None, None, Some(2), Some(1)])),
         (3, Settled::Cut(3), Some(&[None, None, Some(2), Some(1)])),
-        (4, Settled::Returned(4), Some(&[None, Some(4), Some(2), Some(1)])),
+        (
+            4,
+            Settled::Returned(4),
+            Some(&[None, Some(4), Some(2), Some(1)]),
+        ),
         (u64::MAX, Settled::Cut(u64::MAX), None),
     ];
     assert_steps(&rt, alloc, WRITERS_BEFORE_EACH_OTHER, 1, back);

@@ -1,9 +1,9 @@
 -- What links of all kinds cost, by the prices and the causal pairs; and tables of rows.
-use Rattle.std.proofs.Common.{ℕ, ◌<◌, ◌≤◌, ◌≡◌, inl, inr, Bool, true, false, List, get_or, Option, None, Some, refl, sym, ◌∙◌, arith}
+use Rattle.std.proofs.Common.{ℕ, ◌<◌, ◌≡◌, Bool, true, false, List, get_or, Option, None, Some, refl, sym, ◌∙◌, arith}
 use Rattle.std.proofs.lemmas.Bool.{false≢true}
 use Rattle.tcc_reads.specs.History.{History, count}
-use Rattle.tcc_graph.specs.Relations.{IsSessionPair, IsReadsPair, causal_pair, IsCausalPair}
-use Rattle.tcc_graph.specs.Links.{IsReason, link_cost}
+use Rattle.tcc_graph.specs.Relations.{IsSessionPair, IsReadsPair, causal_pair}
+use Rattle.tcc_graph.specs.Links.{IsReason}
 use Rattle.tcc_graph.specs.declared.link.Link.{Link}
 use Rattle.tcc_graph.specs.declared.link.Link.TheVariants as link
 use Rattle.tcc_near.specs.Distances.{least_in}

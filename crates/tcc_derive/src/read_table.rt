@@ -1,27 +1,19 @@
 //! The reads of each key.
-ghost use Rattle.std.specs.Prelude.{◌≡◌, ◌<◌, ◌+◌, ◌⊎◌, length, Contains, OnOk, IfOk, MatchOption};
+ghost use Rattle.std.specs.Prelude.{◌≡◌, ◌<◌, ◌+◌, ◌⊎◌, length, Contains, OnOk, IfOk};
 ghost use Rattle.std.specs.List.Sorted.{IsStrictlySortedBy};
 ghost use Rattle.std.specs.Ordering.{nat_cmp};
 ghost use Rattle.std.specs.Cmp.Lexicographic.{slice_cmp};
 ghost use Rattle.tcc_reads.specs.History.{count};
-ghost use Rattle.tcc_graph.specs.KeyRows.{IsAbsent, StandsAt, name_of};
+ghost use Rattle.tcc_graph.specs.Places.{name_of};
 ghost use Rattle.tcc_derive.specs.Buckets.{Puts};
 ghost use Rattle.tcc_derive.specs.KeyTables.{HasReads, IsReadsOf};
 
 use crate::bucket::empty_buckets;
 use crate::read::Read;
 use std::alloc::Global;
-use tcc_graph::Graph;
+use tcc_graph::{Graph, place_of};
 use tcc_near::Row;
 use tcc_txn::{Name, NoMemory};
-
-/// The place of a key among the keys.
-fn place_of(keys: &[Name], key: &Name) -> Option<usize>
-    requires { IsStrictlySortedBy (slice_cmp nat_cmp) keys.now }
-    ensures { MatchOption result (IsAbsent keys.now key.now) (λ i. StandsAt keys.now key.now i) }
-{
-    keys.binary_search(key).ok()
-}
 
 /// Puts a read into the buckets of these names.
 fn add_read(

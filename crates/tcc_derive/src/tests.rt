@@ -35,16 +35,19 @@ const TWO_KEYS: &str = "a,begin\na,w,x,1\na,w,y,1\na,commit\na,begin\na,r,y,0\na
     a,begin\na,r,x,0\na,commit\n";
 
 /// The later key has the nearer reader.
-const NEARER_KEY: &str = "a,begin\na,w,x,1\na,w,y,1\na,w,z,1\na,commit\na,begin\na,r,y,0\na,commit\n\
+const NEARER_KEY: &str =
+    "a,begin\na,w,x,1\na,w,y,1\na,w,z,1\na,commit\na,begin\na,r,y,0\na,commit\n\
     b,begin\nb,r,z,1\nb,commit\nb,begin\nb,r,x,0\nb,commit\n";
 
 /// Two walks of three steps: the one whose last step starts at the lower number begins with the higher one.
-const TWO_WALKS: &str = "a,begin\na,w,x,1\na,w,p,1\na,w,q,1\na,commit\nb,begin\nb,r,p,1\nb,w,s,1\nb,commit\n\
+const TWO_WALKS: &str =
+    "a,begin\na,w,x,1\na,w,p,1\na,w,q,1\na,commit\nb,begin\nb,r,p,1\nb,w,s,1\nb,commit\n\
     c,begin\nc,r,q,1\nc,w,t,1\nc,commit\nd,begin\nd,r,t,1\nd,w,u,1\nd,commit\n\
     e,begin\ne,r,s,1\ne,w,v,1\ne,commit\nf,begin\nf,r,u,1\nf,r,v,1\nf,r,x,0\nf,commit\n";
 
 /// A session step before a read, and of two reads the one of the first key.
-const TWO_STEPS: &str = "a,begin\na,w,x,1\na,w,q,1\na,w,p,1\na,commit\na,begin\na,r,p,1\na,r,x,0\na,commit\n\
+const TWO_STEPS: &str =
+    "a,begin\na,w,x,1\na,w,q,1\na,w,p,1\na,commit\na,begin\na,r,p,1\na,r,x,0\na,commit\n\
     b,begin\nb,w,w,1\nb,commit\nb,begin\nb,r,w,1\nb,r,v,0\nb,commit\n\
     c,begin\nc,r,q,1\nc,r,p,1\nc,w,v,1\nc,commit\nd,begin\nd,w,v,2\nd,w,r,1\nd,w,m,1\nd,commit\n\
     e,begin\ne,r,r,1\ne,r,m,1\ne,r,v,0\ne,commit\n";
@@ -99,7 +102,11 @@ fn is_step(step: &Step, wanted: (u32, u32, &str)) -> bool {
 
 fn is_walk(walk: &Walk, wanted: Path<'_>) -> bool {
     walk.steps().len() == wanted.len()
-        && walk.steps().iter().zip(wanted).all(|(step, expected)| is_step(step, *expected))
+        && walk
+            .steps()
+            .iter()
+            .zip(wanted)
+            .all(|(step, expected)| is_step(step, *expected))
 }
 
 /// The first reason why `b` stands before `a` is by this key, this reader and this walk; none where none is wanted.
@@ -204,13 +211,23 @@ fn first_reasons(rt: HostRuntime) {
         (STALE_READ, 1, 1, None),
         (STALE_READ, 2, 0, None),
         (STALE_READ, 1, 0, Some(("x", 2, &[(1, 2, "")]))),
-        (CHAIN, 1, 0, Some(("x", 4, &[(1, 2, "x"), (2, 3, "y"), (3, 4, "")]))),
+        (
+            CHAIN,
+            1,
+            0,
+            Some(("x", 4, &[(1, 2, "x"), (2, 3, "y"), (3, 4, "")])),
+        ),
         (CHAIN, 0, 2, Some(("y", 3, &[(0, 3, "")]))),
         (TWO_READERS, 3, 0, Some(("x", 4, &[(3, 4, "")]))),
         (MUTUAL, 1, 0, Some(("x", 1, &[(1, 2, "x"), (2, 1, "y")]))),
         (TWO_KEYS, 1, 0, Some(("x", 2, &[(1, 2, "")]))),
         (NEARER_KEY, 1, 0, Some(("y", 2, &[(1, 2, "")]))),
-        (TWO_WALKS, 1, 0, Some(("x", 6, &[(1, 3, "q"), (3, 4, "t"), (4, 6, "u")]))),
+        (
+            TWO_WALKS,
+            1,
+            0,
+            Some(("x", 6, &[(1, 3, "q"), (3, 4, "t"), (4, 6, "u")])),
+        ),
         (TWO_STEPS, 1, 0, Some(("x", 2, &[(1, 2, "")]))),
         (TWO_STEPS, 6, 0, Some(("v", 7, &[(6, 7, "m")]))),
         (TWO_STEPS, 5, 0, None),
@@ -224,7 +241,10 @@ fn first_reasons(rt: HostRuntime) {
         let Ok(found) = reason(alloc, &graph, &near, b, a) else {
             panic!(rt; "no memory");
         };
-        assert!(rt; is_reason(&found, b, a, wanted), "from {b} to {a} of {records}");
+        assert!(rt;
+            is_reason(&found, b, a, wanted),
+            "from {b} to {a} of {records}"
+        );
     }
 }
 

@@ -63,16 +63,6 @@ fn last_step(graph: &Graph, steps: &[u16], b: u32, end: u32, left: u16) -> Optio
     None
 }
 
-/// Where a step begins.
-fn start_of(step: &Step) -> u32
-    ensures { result ≡ step_from step.now }
-{
-    match step {
-        Step::Session { from, .. } => *from,
-        Step::Reads { from, .. } => *from,
-    }
-}
-
 /// The first of the shortest walks from `b` to `c`, picked from the last step backwards.
 pub(crate) fn first_walk(
     alloc: Global,
@@ -95,7 +85,7 @@ pub(crate) fn first_walk(
         let Some(step) = last_step(graph, steps, b, end, total - done - 1) else {
             unreachable!()
         };
-        end = start_of(&step);
+        end = step.from();
         taken.push(step)?;
     }
     taken.reverse();

@@ -11,7 +11,7 @@ use Rattle.std.proofs.lemmas.List.Folds.{list_any_at, list_any-append}
 use Rattle.std.proofs.lemmas.Map.Keys.{IsDistinct-push}
 use Rattle.std.proofs.lemmas.Map.Steps.{length-le_from_distinct_below}
 use Rattle.std.specs.Cmp.{nat_eq_equiv}
-use Rattle.tcc_graph.specs.Orders.{Before, IsNumbering}
+use Rattle.tcc_graph.specs.Orders.{Before}
 use Rattle.tcc_order.specs.Numbering.{IsOrderOf}
 use Rattle.tcc_graph.proofs.Numberings.{below_in, has_place, one_place}
 

@@ -1,8 +1,6 @@
 -- A relation that has the pairs of links and no others: its orders are the commit orders, and its circles are cycles.
-use Rattle.std.proofs.Common.{◌≡◌, ◌<◌, ◌==◌, ℕ, Bool, true, ◌&&◌, ◌||◌, ◌↔◌, List, [], ◌∷◌, refl, arith, nat_lt, subst, sym}
-use Rattle.std.proofs.lemmas.Bool.{and_parts, ltb-true}
-use Rattle.tcc_reads.specs.History.{History, count, owner, place}
-use Rattle.tcc_graph.specs.Relations.{IsSessionPair}
+use Rattle.std.proofs.Common.{◌≡◌, ◌<◌, ℕ, Bool, true, ◌↔◌, List, [], ◌∷◌, refl, arith, subst, sym}
+use Rattle.tcc_reads.specs.History.{History, count}
 use Rattle.tcc_graph.specs.Links.{IsLink, link_from, link_to}
 use Rattle.tcc_graph.specs.Orders.{Before, IsCommitOrder, IsFirstOrder}
 use Rattle.tcc_graph.specs.Routes.{LinksLead, IsRoute, HasCycle}

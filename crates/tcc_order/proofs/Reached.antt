@@ -1,13 +1,10 @@
 -- Whether a transaction reaches another, decided by a finite search.
-use Rattle.std.proofs.Common.{◌≡◌, ◌<◌, ℕ, Bool, true, ◌&&◌, ◌⊎◌, inl, inr, List, [], ◌∷◌, ◌++◌, length-append, refl, sym, arith, nat_lt, subst}
-use Rattle.std.specs.List.{Contains}
-use Rattle.std.proofs.lemmas.Bool.{or_cases, and_parts, and_from, or_left, or_right, ltb-true, lt-ltb, false≢true}
+use Rattle.std.proofs.Common.{◌≡◌, ℕ, Bool, true, List, [], ◌∷◌, refl, arith}
 use Rattle.tcc_reads.specs.History.{History, count}
-use Rattle.tcc_graph.specs.Relations.{session_pair, IsSessionPair, reads_from, IsReadsPair, has_items, causal_pair, IsCausalPair}
+use Rattle.tcc_graph.specs.Relations.{causal_pair}
 use Rattle.tcc_graph.specs.Walks.{step_from, step_to, IsStep, Leads, IsWalk, IsReached}
 use Rattle.tcc_graph.specs.declared.step.Step.{Step}
-use Rattle.tcc_graph.specs.declared.step.Step.TheVariants as step
-use Rattle.tcc_graph.proofs.Pairs.{pair_from_step, step_from_pair, step_below, pair_kinds}
+use Rattle.tcc_graph.proofs.Pairs.{pair_from_step, step_below, pair_kinds}
 use Rattle.tcc_order.proofs.Within.{within, within_pair, within_join, within_sound}
 use Rattle.tcc_graph.proofs.Walking.{pair_walk, reached_append}
 

@@ -1,5 +1,5 @@
 -- What the counts of those that hold a number back say of what may be picked next.
-use Rattle.std.proofs.Common.{replicate, zero, suc, ◌≡◌, ◌<◌, ◌+◌, ℕ, Bool, true, false, ◌&&◌, ◌||◌, ◌⊎◌, inl, inr, List, [], ◌∷◌, ◌++◌, length, not, slice_index_or, slice_set, eqb, refl, sym, ◌∙◌, ap, length-append, arith}
+use Rattle.std.proofs.Common.{replicate, zero, suc, ◌≡◌, ◌<◌, ◌+◌, ℕ, Bool, true, false, ◌&&◌, ◌⊎◌, inl, inr, List, [], ◌∷◌, ◌++◌, length, not, slice_index_or, slice_set, eqb, refl, sym, ◌∙◌, ap, length-append, arith}
 use Rattle.std.proofs.lemmas.Bool.{cases_Bool, cases_eq, ne_eqb, not-false}
 use Rattle.std.proofs.lemmas.List.{get_or_at, get_or-set_same, get_or-set_other}
 use Rattle.std.proofs.lemmas.List.Folds.{list_any-append}

@@ -1,13 +1,10 @@
 -- Small histories and tables worked out by hand, that the definitions have to agree with.
 use Rattle.std.proofs.Common.{ℕ, zero, suc, ◌≡◌, List, [], ◌∷◌, slice_index, refl, arith, true, false}
 use Rattle.std.specs.Prelude.{codes}
-use Rattle.tcc_reads.specs.History.{Entry, History, initial}
+use Rattle.tcc_reads.specs.History.{History, initial}
 use Rattle.tcc_graph.specs.Links.{IsReason}
 use Rattle.tcc_graph.specs.Orders.{IsCommitOrder}
-use Rattle.tcc_graph.specs.Routes.{IsCycle}
 use Rattle.tcc_graph.specs.declared.step.Step.TheVariants as step
-use Rattle.tcc_graph.specs.declared.link.Link.{Link}
-use Rattle.tcc_graph.specs.declared.link.Link.TheVariants as link
 use Rattle.tcc_derive.specs.Prices.{Tables}
 use Rattle.tcc_order.specs.Numbering.{Joins, HasCircle, passing}
 use Rattle.tcc_order.specs.Leads.{leads}

@@ -37,7 +37,7 @@ loop-done-preserved c =
     let whole : total ≡ length taken + (total - done - 1 + 1) = omega (arith, inv.1) in
     let below = (step_below h step last.step).0 in
     let few : total - done - 1 < NONE = omega (arith, c.requires.reached) in
-    rw (c.row-steps.ensures.value, c.in_ok-push.ensures.items, c.start_of-end.ensures) (
+    rw (c.row-steps.ensures.value, c.in_ok-push.ensures.items, c.from-end.ensures) (
       taken_more h near b c.requires.near c.requires.from c.args.c total c.loop-done.end (total - done - 1) taken step inv.0 (subst (λ (n : ℕ). IsLeft h b c.loop-done.end n) more inv.2) last whole,
       omega (arith, length-append taken (step ∷ []), inv.1),
       rw less at (left_of h near b c.requires.near c.requires.from (step_from step) (total - done - 1) below few last.stands),
