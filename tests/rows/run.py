@@ -192,8 +192,9 @@ def difference(tcc, run, seconds):
     """What the program did otherwise than wanted, or None."""
     seconds = run.get("seconds", seconds)
     with tempfile.TemporaryDirectory() as folder:
-        for name, parts in run.get("files", {}).items():
-            pathlib.Path(folder, name).write_bytes(text(parts))
+        for name, parts in run["files"].items():
+            if "@" + name in run["arguments"] + [run.get("input_from")]:
+                pathlib.Path(folder, name).write_bytes(text(parts))
         words = [os.fsencode(word) for word in tcc] + [argument(word, folder) for word in run["arguments"]]
         try:
             done = finished(words, run, folder, seconds)
