@@ -34,13 +34,17 @@ fn gives<R: Read + Drop>(
     alloc: Global,
     reader: R,
     items: u64,
-    fault: Option<RowFault>,
+    fault: &Option<RowFault>,
 ) {
     let Ok(mut rows) = Rows::new(alloc, reader) else {
         panic!(rt; "no memory");
     };
-    assert_eq!(rt; run_out(rt, alloc, &mut rows), (items, fault));
-    assert_eq!(rt; run_out(rt, alloc, &mut rows), (0, fault));
+    let (count, end) = run_out(rt, alloc, &mut rows);
+    assert_eq!(rt; count, items);
+    assert!(rt; end == *fault);
+    let (more, again) = run_out(rt, alloc, &mut rows);
+    assert_eq!(rt; more, 0);
+    assert!(rt; again == *fault);
 }
 
 // The bytes, so many at a time, and then an error, where there is one.
@@ -131,17 +135,17 @@ fn readers_that_fail(rt: HostRuntime) {
     let alloc = rt.alloc();
     for length in 0..TEXT.len() + 1 {
         let lines = lines_of(&TEXT[..length]);
-        let fault = RowFault {
-            row: lines.saturating_add(1),
-            kind: Kind::Read,
-        };
         for kind in [ErrorKind::Other, ErrorKind::Interrupted] {
             let reader = Pieces {
                 bytes: &TEXT[..length],
                 most: 7,
                 error: Some(kind),
             };
-            gives(&rt, alloc, reader, lines.saturating_sub(4), Some(fault));
+            let fault = Some(RowFault {
+                row: lines.saturating_add(1),
+                kind: Kind::Read,
+            });
+            gives(&rt, alloc, reader, lines.saturating_sub(4), &fault);
         }
     }
 }
@@ -156,7 +160,7 @@ fn readers_that_give_little(rt: HostRuntime) {
             most,
             error: None,
         };
-        gives(&rt, alloc, reader, 3, None);
+        gives(&rt, alloc, reader, 3, &None);
     }
 }
 
@@ -189,7 +193,7 @@ fn the_end_is_final(rt: HostRuntime) {
         } else {
             Some(RowFault { row, kind })
         };
-        gives(&rt, alloc, reader, items, fault);
+        gives(&rt, alloc, reader, items, &fault);
         assert_eq!(rt; asked.get(), 0, "{text}");
     }
 }
@@ -208,5 +212,7 @@ fn memory_refused(rt: HostRuntime) {
     };
     assert!(rt; items <= 3 && fault.row >= 1 && fault.row <= 7);
     assert!(rt; fault.kind == Kind::NoMemory);
-    assert_eq!(rt; run_out(&rt, alloc, &mut rows), (0, Some(fault)));
+    let (more, again) = run_out(&rt, alloc, &mut rows);
+    assert_eq!(rt; more, 0);
+    assert!(rt; again == Some(fault));
 }
