@@ -4,6 +4,8 @@ use Rattle.std.specs.Prelude.{is_some, unwrap_or, OnOk, OnErr, IfErr}
 use Rattle.std.proofs.lemmas.Option.{none-some}
 use Rattle.std.proofs.Math.Seq.{map-set_same}
 use Rattle.std.specs.Cmp.Lexicographic.{pointwise, nat_list_eq_equiv}
+use Rattle.tcc_txn.specs.declared.rows.RowFaultKind.{RowFaultKind}
+use Rattle.tcc_txn.specs.declared.rows.RowFaultKind.TheVariants as kind
 use Rattle.tcc_txn.proofs.Parts.{length-parts_of}
 use Rattle.std.proofs.lemmas.List.Sums.{sum_by-cons}
 use Rattle.std.specs.List.{insert}
@@ -20,11 +22,11 @@ use Rattle.tcc_txn.specs.SnapshotStorage.{StandsAt, place_in}
 use Rattle.tcc_txn.specs.Transactions.{Transaction}
 use Rattle.tcc_txn.proofs.SortedParts.{name_cmp, same_names}
 
-both-parts : (a b : Bool) → T (a && b) → T a × T b
+pub both-parts : (a b : Bool) → T (a && b) → T a × T b
 both-parts true b p = (tt, p)
 both-parts false b p = absurd p
 
-less-if : (r : Ordering) → T (is_lt r) → r ≡ Less
+pub less-if : (r : Ordering) → T (is_lt r) → r ≡ Less
 less-if Less p = refl
 less-if Equal p = absurd p
 less-if Greater p = absurd p
@@ -259,3 +261,7 @@ if-err-then (Err e) f p = f e p
 pub ok-always : {A E : Type 0} {P : Type 0} (r : Result A E) → P → OnOk r P
 ok-always (Ok a) p = p
 ok-always (Err e) p = tt
+
+-- want of memory is no failed reader
+pub not-read : (k : RowFaultKind) → k ≡ kind.NoMemory → k ≢ kind.Read
+not-read k memory read = (let e : kind.NoMemory ≡ kind.Read = sym memory ∙ read in cc)

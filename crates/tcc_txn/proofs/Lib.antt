@@ -1,5 +1,6 @@
 mod AheadFacts
 mod FieldBytes
+mod FinishedFacts
 mod Growing
 mod GrownSnapshot
 mod LeastOpen
@@ -7,6 +8,7 @@ mod LimitFacts
 mod LineFacts
 mod PastFacts
 mod RecordSteps
+mod RecordingSteps
 mod StandingFacts
 mod WordOrder
 mod WorkedTexts

@@ -1,8 +1,8 @@
 -- How a recording stands to the items that it has taken and to the answers that are still to come.
-use Rattle.std.specs.Prelude.{ℕ, ◌≡◌, ◌⊎◌, Bool, true, false, List, [], ◌∷◌, ◌++◌, Option, None, Some, Result, Ok, Err}
+use Rattle.std.specs.Prelude.{ℕ, ◌+◌, ◌≡◌, ◌≤◌, ◌⊎◌, Bool, true, false, List, [], ◌∷◌, ◌++◌, length, Option, None, Some, Result, Ok, Err}
 use Rattle.std.specs.List.{list_any}
-use Rattle.tcc_txn.specs.Ahead.{FailsIn, IsAhead}
-use Rattle.tcc_txn.specs.Answers.{Answers, ending}
+use Rattle.tcc_txn.specs.Ahead.{IsAhead, IsFailure}
+use Rattle.tcc_txn.specs.Answers.{Answers, answers_of, ending, records_of}
 use Rattle.tcc_txn.specs.Finished.{KeepsLimits, finished_in}
 use Rattle.tcc_txn.specs.Snapshots.{Sessions}
 use Rattle.tcc_txn.specs.declared.recording.Moment.{Moment}
@@ -34,22 +34,22 @@ pub record IsRecording {R : Type 0} (remaining : R → Option (List ℕ)) (recor
 abbrev pub Passes : Answers → List Item → Answers → Type 0
 Passes ahead passed rest = (has_seal passed ≡ false) × (ahead ≡ after_items passed rest)
 
--- the fault that is among the answers was met after all items; or the reader failed or memory was refused after some, of which the snapshot may lack the last
+-- the fault among the answers was met after all items; or the reader failed or memory was refused after some, of which the snapshot may lack the last
 abbrev pub StopsWith : {R : Type 0} → (R → Option (List ℕ)) → List Item → List Item → Answers → RowFault → Recording R → Type 0
 StopsWith remaining taken passed rest fault new =
     ((rest ≡ ending (Some fault)) × IsRecording remaining new (taken ++ passed) (ending (Some fault)))
-    ⊎ (FailsIn rest fault × (kept : List Item) × (lost : List Item) × (passed ≡ kept ++ lost) × IsRecording remaining new (taken ++ kept) (ending (Some fault)))
+    ⊎ (IsFailure fault.kind × (kept : List Item) × (lost : List Item) × (passed ≡ kept ++ lost) × IsRecording remaining new (taken ++ kept) (ending (Some fault)))
 
 -- the recording went on to the next seal, to the end or to a fault
 abbrev pub TakesMoment : {R : Type 0} → (R → Option (List ℕ)) → List Item → Answers → Result Moment RowFault → Recording R → Type 0
 TakesMoment remaining taken ahead (Ok moment.Seal) new = (passed : List Item) × (rest : Answers)
-    × Passes ahead passed (after_items (item.Seal ∷ []) rest) × IsRecording remaining new (taken ++ passed ++ item.Seal ∷ []) rest
+    × Passes ahead passed (after_items (item.Seal ∷ []) rest) × IsRecording remaining new (taken ++ (passed ++ item.Seal ∷ [])) rest
 TakesMoment remaining taken ahead (Ok moment.End) new = (passed : List Item)
     × Passes ahead passed (ending None) × IsRecording remaining new (taken ++ passed) (ending None)
 TakesMoment remaining taken ahead (Err fault) new = (passed : List Item) × (rest : Answers)
     × Passes ahead passed rest × StopsWith remaining taken passed rest fault new
 
--- what comes of all records: the snapshot of all that they finish where they have no fault, else the fault; or the reader failed or memory was refused after some items
-abbrev pub IsRecorded : Answers → Result Sessions RowFault → Type 0
-IsRecorded all (Ok s) = (all.fault ≡ None) × (s ≡ finished_in all.items)
-IsRecorded all (Err fault) = (all.fault ≡ Some fault) ⊎ ((passed : List Item) × (rest : Answers) × (all ≡ after_items passed rest) × FailsIn rest fault)
+-- what comes of a text: the snapshot of all that its records finish where they have no fault, else the fault; or the reader failed or memory was refused at some record
+abbrev pub IsRecorded : List ℕ → Result Sessions RowFault → Type 0
+IsRecorded text (Ok s) = ((answers_of text).fault ≡ None) × (s ≡ finished_in (answers_of text).items)
+IsRecorded text (Err fault) = ((answers_of text).fault ≡ Some fault) ⊎ (IsFailure fault.kind × (fault.row ≤ length (records_of text) + 1))

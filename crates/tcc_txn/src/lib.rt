@@ -1,6 +1,7 @@
 //! Records of sessions to transactions: names, operations, transactions and snapshots.
 #![tactic(auto)]
 
+pub mod laws;
 mod limits;
 mod memory;
 mod name;

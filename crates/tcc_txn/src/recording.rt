@@ -1,8 +1,10 @@
 //! What records have finished so far, as a snapshot that grows.
-ghost use Rattle.std.specs.Prelude.{◌≡◌, ℕ, List, [], true, IfErr, IfOk, IfSome, OnErr, OnOk, None, Some, Ok};
+ghost use Rattle.std.specs.Prelude.{◌≡◌, ◌≢◌, ℕ, List, [], true, IfErr, IfOk, IfSome, OnErr, OnOk, None, Some, Ok, MatchResult};
 ghost use Rattle.tcc_txn.specs.Ahead.{fault_met, has_ended};
-ghost use Rattle.tcc_txn.specs.Answers.{Answers, answers_of};
+ghost use Rattle.tcc_txn.specs.Answers.{Answers, answers_of, records_of};
 ghost use Rattle.tcc_txn.specs.Finished.{KeepsLimits, finished_in, with_transaction};
+ghost use Rattle.tcc_txn.specs.Lines.{Record};
+ghost use Rattle.tcc_txn.specs.Reached.{IsWithin, ReaderFailed, row_reached};
 ghost use Rattle.tcc_txn.specs.Recordings.{IsRecorded, IsRecording, TakesMoment};
 ghost use Rattle.tcc_txn.specs.declared.rows.Item.{Item};
 ghost use Rattle.tcc_txn.specs.declared.rows.Phase.TheVariants as phase;
@@ -30,7 +32,9 @@ pub struct Recording<R> {
 impl<R: Read + Drop> Recording<R> {
     /// Nothing is read yet; the reader is gone where memory is refused.
     pub fn new(alloc: Global, reader: R) -> Result<Recording<R>, NoMemory>
-        ensures { IfOk result (λ recording. IfSome (R.remaining reader) (λ text. IsRecording R.remaining recording [] (answers_of text))) }
+        ensures recording { IfOk result (λ recording. IfSome (R.remaining reader) (λ text. IsRecording R.remaining recording [] (answers_of text))) }
+        ensures within { IfOk result (λ recording. IfSome (R.remaining reader) (λ text. IsWithin R.remaining recording.rows (records_of text))) }
+        ensures fresh { IfOk result (λ recording. fault_met recording.rows ≡ None) }
     {
         Ok(Recording {
             rows: Rows::new(alloc, reader)?,
@@ -41,15 +45,21 @@ impl<R: Read + Drop> Recording<R> {
     /// Reads on to the next seal or to the end; after the end there is the end, after a fault that fault.
     pub fn advance(&mut self, alloc: Global) -> Result<Moment, RowFault>
         ensures moment { (taken : List Item) (ahead : Answers) → IsRecording R.remaining self.old taken ahead → TakesMoment R.remaining taken ahead result self.new }
+        ensures within { (all : List Record) → IsWithin R.remaining self.old.rows all → IsWithin R.remaining self.new.rows all }
 
-        // A fault stays, and so does the end, whatever is known of the bytes.
+        // Whatever is known of the bytes, a fault stands at the record that was read last, or at the
+        // one after it where its reading failed; and only a reader that failed makes it `Read`.
+        ensures row { IfErr result (λ fault. fault_met self.old.rows ≡ None → fault.row ≡ row_reached self.new.rows) }
+        ensures read { IfErr result (λ fault. fault_met self.old.rows ≡ None → fault.kind ≡ RowFaultKind.Read → ReaderFailed self.new.rows) }
+
+        // A fault stays, and so does the end.
         ensures stops { IfErr result (λ fault. fault_met self.new.rows ≡ Some fault) }
         ensures stays_stopped { IfSome (fault_met self.old.rows) (λ fault. result ≡ Err fault) }
+        ensures goes_on { OnOk result (fault_met self.new.rows ≡ None) }
         ensures ends { result ≡ Ok Moment.End → has_ended self.new.rows ≡ true }
         ensures stays_ended { has_ended self.old.rows ≡ true → result ≡ Ok Moment.End }
-        ensures sealed { result ≡ Ok Moment.Seal → self.new.rows.phase ≡ phase.Reading }
     {
-        for _turn in 0..u64::MAX {
+        'items: for _turn in 0..u64::MAX {
             match self.rows.next(alloc)? {
                 Item::Finished(session, txn) => self.take(alloc, session, txn)?,
                 Item::Seal => return Ok(Moment::Seal),
@@ -62,14 +72,31 @@ impl<R: Read + Drop> Recording<R> {
 
     /// The session has finished one more transaction.
     fn take(&mut self, alloc: Global, session: Name, txn: Txn) -> Result<(), RowFault>
-        requires { self.old.rows.phase ≡ phase.Reading }
-        ensures taken { OnOk result (self.new.snapshot ≡ with_transaction self.old.snapshot session txn) }
-        ensures rows { OnOk result (self.new.rows ≡ self.old.rows) }
+        ensures taken { OnOk result ((self.new.snapshot ≡ with_transaction self.old.snapshot session txn) × (self.new.rows ≡ self.old.rows)) }
+        ensures kept { OnErr result (self.new.snapshot ≡ self.old.snapshot) }
+        ensures stopped { IfErr result (λ fault. (self.new.rows ≡ record self.old.rows { phase = phase.Stopped fault }) × (fault.row ≡ row_reached self.old.rows)) }
+        ensures known { IfErr result (λ fault. fault.kind ≢ RowFaultKind.Read) }
+        ensures memory { KeepsLimits (with_transaction self.old.snapshot session txn) → IfErr result (λ fault. fault.kind ≡ RowFaultKind.NoMemory) }
     {
         match self.snapshot.add(alloc, session, txn) {
             Ok(()) => Ok(()),
             Err(kind) => Err(self.rows.give_up(kind)),
         }
+    }
+
+    /// Reads on to the end, whatever is sealed.
+    fn pass_seals(&mut self, alloc: Global) -> Result<(), RowFault>
+        ensures { (text : List ℕ) → IsRecording R.remaining self.old [] (answers_of text) → IsWithin R.remaining self.old.rows (records_of text) → fault_met self.old.rows ≡ None
+            → MatchResult result (λ done. IsRecorded text (Ok self.new.snapshot)) (λ fault. IsRecorded text (Err fault)) }
+    {
+        'seals: for _turn in 0..u64::MAX {
+            match self.advance(alloc)? {
+                Moment::Seal => {}
+                Moment::End => return Ok(()),
+            }
+        }
+        // There are not so many seals.
+        Err(self.rows.give_up(RowFaultKind::NoMemory))
     }
 
     /// What was finished so far.
@@ -83,21 +110,19 @@ impl<R: Read + Drop> Recording<R> {
 
 /// All that the records of the reader finish, whatever they seal.
 pub fn snapshot_of<R: Read + Drop>(alloc: Global, reader: R) -> Result<Snapshot, RowFault>
-    ensures { IfSome (R.remaining reader) (λ text. IsRecorded (answers_of text) result) }
+    ensures { IfSome (R.remaining reader) (λ text. IsRecorded text result) }
 {
-    let Ok(mut recording) = Recording::new(alloc, reader) else {
-        return Err(RowFault {
-            row: 1,
-            kind: RowFaultKind::NoMemory,
-        });
-    };
-    for _turn in 0..u64::MAX {
-        match recording.advance(alloc) {
-            Ok(Moment::Seal) => {}
-            Ok(Moment::End) => return Ok(recording.snapshot),
-            Err(fault) => return Err(fault),
+    let mut recording = match Recording::new(alloc, reader) {
+        Ok(recording) => recording,
+        Err(NoMemory) => {
+            return Err(RowFault {
+                row: 1,
+                kind: RowFaultKind::NoMemory,
+            });
         }
+    };
+    match recording.pass_seals(alloc) {
+        Ok(()) => Ok(recording.snapshot),
+        Err(fault) => Err(fault),
     }
-    // There are not so many seals.
-    Err(recording.rows.give_up(RowFaultKind::NoMemory))
 }

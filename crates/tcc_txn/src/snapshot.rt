@@ -1,5 +1,5 @@
 //! Snapshots: what the sessions had finished at one moment.
-ghost use Rattle.std.specs.Prelude.{◌≡◌, ◌≤◌, ◌<◌, ◌⊎◌, ◌++◌, ◌∷◌, [], T, true, false, nat_eq, nat_lt, map, length, sum_by, None, Some, IfErr, MatchResult, OnErr, OnOk, option_map, slice_get, unwrap_or};
+ghost use Rattle.std.specs.Prelude.{◌≡◌, ◌≢◌, ◌≤◌, ◌<◌, ◌⊎◌, ◌++◌, ◌∷◌, [], T, true, false, nat_eq, nat_lt, map, length, sum_by, None, Some, IfErr, MatchResult, OnErr, OnOk, option_map, slice_get, unwrap_or};
 ghost use Rattle.std.specs.FinMap as sessions;
 ghost use Rattle.std.specs.FinMap.Entries.{find, is_sorted, put};
 ghost use Rattle.std.specs.List.{insert, list_any};
@@ -171,6 +171,7 @@ fn add_to(
     ensures added { OnOk result (parts_of parts.new.items ≡ put (slice_cmp nat_cmp) session (unwrap_or (find (slice_cmp nat_cmp) session (parts_of parts.old.items)) [] ++ txn ∷ []) (parts_of parts.old.items)) }
     ensures kept { OnErr result (parts_of parts.new.items ≡ parts_of parts.old.items) }
     ensures few { OnOk result ((find (slice_cmp nat_cmp) session (parts_of parts.old.items) ≡ None) → length parts.old.items < MAX_SESSIONS) }
+    ensures known { IfErr result (λ k. k ≢ RowFaultKind.Read) }
     ensures refused { IfErr result (λ k. (k ≡ RowFaultKind.NoMemory) ⊎ ((MAX_SESSIONS ≤ length parts.old.items) × (find (slice_cmp nat_cmp) session (parts_of parts.old.items) ≡ None))) }
 {
     let at = place_of(parts, &session);
@@ -198,6 +199,7 @@ impl Snapshot {
         ensures added { OnOk result (self.new ≡ with_transaction self.old session txn) }
         ensures kept { OnErr result (self.new ≡ self.old) }
         ensures refused { KeepsLimits (with_transaction self.old session txn) → IfErr result (λ k. k ≡ RowFaultKind.NoMemory) }
+        ensures known { IfErr result (λ k. k ≢ RowFaultKind.Read) }
     {
         if has_too_many_transactions(&self.sessions, MAX_TRANSACTIONS - 1) {
             return Err(RowFaultKind::TooManyTransactions);

@@ -1,7 +1,7 @@
 use Rattle.std.proofs.Common.{◌≡◌, ap, subst, ◌∙◌, inl, inr, arith}
 use Rattle.tcc_txn.specs.Snapshots.{parts_of}
 use Rattle.tcc_txn.specs.SnapshotStorage.{StandsAt, place_in}
-use Rattle.tcc_txn.proofs.Growing.{err-then, found-here, if-err-then, inserted, missing, ok-always, ok-then, place_in-within, unwritten, written}
+use Rattle.tcc_txn.proofs.Growing.{err-then, found-here, if-err-then, inserted, missing, not-read, ok-always, ok-then, place_in-within, unwritten, written}
 use Rattle.tcc_txn.proofs.Parts.{length-parts_of}
 use Rattle.tcc_txn.proofs.snapshot.add_to.Goals as goal
 
@@ -26,8 +26,10 @@ pub returns-then-len-ge-MAX_SESSIONS-clause-refused : goal.returns-then-len-ge-M
 returns-then-len-ge-MAX_SESSIONS-clause-refused c =
     let place = c.place_of-at.ensures ∙ ap (λ parts. place_in c.args.session (parts_of parts)) c.deref.ensures.value in
     let apart = subst (λ parts. StandsAt (parts_of parts) c.args.session c.place_of-at.result → ⊥) c.deref-2.ensures.value (c.stands_at.ensures.not c.if-stands_at.false) in
-    inr (omega (arith, c.if-len-ge-MAX_SESSIONS.true, c.len.ensures, c.args.parts.now.ok.0),
-    missing c.args.parts.now.items c.args.session c.place_of-at.result place c.requires apart)
+    inr (
+      omega (arith, c.if-len-ge-MAX_SESSIONS.true, c.len.ensures, c.args.parts.now.ok.0),
+      missing c.args.parts.now.items c.args.session c.place_of-at.result place c.requires apart,
+    )
 
 pub insert-requires : goal.insert-requires
 insert-requires c =
@@ -43,5 +45,6 @@ returns c =
       added = ok-then c.insert.result (λ new. new ∙ inserted items c.args.session c.place_of-at.result c.args.txn place c.requires apart) c.insert.ensures.inserted;
       kept = err-then c.insert.result (λ same. ap parts_of same) c.insert.ensures.kept;
       few = ok-always c.insert.result (λ _. omega (arith, c.if-len-ge-MAX_SESSIONS.false, c.len.ensures, c.args.parts.now.ok.0));
+      known = if-err-then c.insert.result (λ k memory. not-read k memory) c.insert.ensures.refused;
       refused = if-err-then c.insert.result (λ k memory. inl memory) c.insert.ensures.refused;
     }
