@@ -1,49 +1,19 @@
 //! Worked snapshots, with faults and histories worked out by hand.
 use crate::ReadFaultKind::{Aborted, BrokenInternal, Duplicate, Future, Intermediate, ThinAir};
 use crate::{ReadFault, ReadFaultKind, ResolveFault, resolve};
-use std::alloc::{AllocError, Global};
+use std::alloc::Global;
 use std::process::Abort;
 use std::test::Fail;
-use tcc_txn::{Name, Op, Snapshot, Txn};
+use tcc_txn::{Name, Snapshot, snapshot_of};
 
 /// A name that the test writes out.
 fn name(rt: &impl Abort, text: &str) -> Name {
     Name::read(text.as_bytes()).expect(rt, "a name")
 }
 
-fn get(rt: &impl Abort, key: &str, value: u64) -> Op {
-    Op::Get {
-        key: name(rt, key),
-        value,
-    }
-}
-
-fn put(rt: &impl Abort, key: &str, value: u64) -> Op {
-    Op::Put {
-        key: name(rt, key),
-        value,
-    }
-}
-
-/// A session of the given transactions, each with whether it was committed.
-fn session(
-    rt: &impl Abort,
-    alloc: Global,
-    called: &str,
-    txns: &[(&[Op], bool)],
-) -> Result<(Name, Vec<Txn>), AllocError> {
-    let mut list = Vec::new(alloc);
-    for (ops, committed) in txns {
-        match Txn::new(ops.to_vec(alloc)?, *committed) {
-            Ok(txn) => list.push(txn)?,
-            Err(_) => panic!(rt; "no transaction"),
-        }
-    }
-    Ok((name(rt, called), list))
-}
-
-fn snapshot(rt: &impl Abort, parts: Vec<(Name, Vec<Txn>)>) -> Snapshot {
-    match Snapshot::new(parts) {
+/// What these records finish.
+fn snapshot(rt: &impl Abort, alloc: Global, records: &str) -> Snapshot {
+    match snapshot_of(alloc, records.as_bytes()) {
         Ok(snapshot) => snapshot,
         Err(_) => panic!(rt; "no snapshot"),
     }
@@ -63,80 +33,51 @@ fn fault(rt: &impl Abort, row: Row) -> ReadFault {
     }
 }
 
-/// The faults are these, in this order, or memory was wanting where that may be.
-fn assert_faults(
-    rt: &impl Abort,
-    alloc: Global,
-    snapshot: &Snapshot,
-    wanted: &[Row],
-    may_want_memory: bool,
-) {
-    match resolve(alloc, snapshot) {
-        Err(ResolveFault::Reads(faults)) => {
-            assert_eq!(rt; faults.len(), wanted.len());
-            for (found, row) in faults.iter().zip(wanted) {
-                assert_eq!(rt; *found, fault(rt, *row));
-            }
-        }
-        Err(ResolveFault::NoMemory) => assert!(rt; may_want_memory, "out of memory"),
-        Ok(_) => panic!(rt; "no fault"),
+/// The faults are these, in this order.
+fn assert_faults(rt: &impl Abort, faults: &[ReadFault], wanted: &[Row]) {
+    assert_eq!(rt; faults.len(), wanted.len());
+    for (found, row) in faults.iter().zip(wanted) {
+        assert_eq!(rt; *found, fault(rt, *row));
     }
 }
 
-#[test]
-fn intermediate_read(rt: HostRuntime) -> Result<(), Fail> {
-    let alloc = rt.alloc();
-    let a = session(
-        &rt,
-        alloc,
-        "a",
-        &[(&[put(&rt, "x", 1), put(&rt, "x", 2)], true)],
-    )?;
-    let b = session(&rt, alloc, "b", &[(&[get(&rt, "x", 1)], true)])?;
-    let snapshot = snapshot(&rt, vec![in alloc; a, b]?);
-    assert_faults(
-        &rt,
-        alloc,
-        &snapshot,
-        &[("b", 1, 1, "x", 1, Intermediate)],
-        false,
-    );
-    Ok(())
-}
+const ABORTED_AND_THIN_AIR: &str =
+    "a,begin\na,w,x,1\na,abort\nb,begin\nb,r,x,1\nb,r,z,7\nb,commit\n";
 
-/// The last write of x is of the value that was written over: places count, and not values.
 #[test]
-fn intermediate_read_of_a_value_written_again(rt: HostRuntime) -> Result<(), Fail> {
+fn faults_of_records(rt: HostRuntime) -> Result<(), Fail> {
     let alloc = rt.alloc();
-    let ops = [put(&rt, "x", 1), put(&rt, "x", 2), put(&rt, "x", 1)];
-    let a = session(&rt, alloc, "a", &[(&ops, true)])?;
-    let b = session(&rt, alloc, "b", &[(&[get(&rt, "x", 1)], true)])?;
-    let snapshot = snapshot(&rt, vec![in alloc; b, a]?);
-    let faults = [
-        ("a", 1, 3, "x", 1, Duplicate),
-        ("b", 1, 1, "x", 1, Intermediate),
+    let cases: [(&str, &[Row]); 5] = [
+        (
+            "a,begin\na,w,x,1\na,w,x,2\na,commit\nb,begin\nb,r,x,1\nb,commit\n",
+            &[("b", 1, 1, "x", 1, Intermediate)],
+        ),
+        // The last write of x is of the value that was written over: places count, and not values.
+        (
+            "b,begin\nb,r,x,1\nb,commit\na,begin\na,w,x,1\na,w,x,2\na,w,x,1\na,commit\n",
+            &[("a", 1, 3, "x", 1, Duplicate), ("b", 1, 1, "x", 1, Intermediate)],
+        ),
+        (
+            ABORTED_AND_THIN_AIR,
+            &[("b", 1, 1, "x", 1, Aborted), ("b", 1, 2, "z", 7, ThinAir)],
+        ),
+        (
+            "a,begin\na,r,x,1\na,w,x,1\na,r,x,2\na,commit\n",
+            &[("a", 1, 1, "x", 1, Future), ("a", 1, 3, "x", 2, BrokenInternal)],
+        ),
+        // An aborted transaction may write a duplicate too.
+        (
+            "a,begin\na,w,x,1\na,commit\nb,begin\nb,w,x,1\nb,abort\n",
+            &[("b", 1, 1, "x", 1, Duplicate)],
+        ),
     ];
-    assert_faults(&rt, alloc, &snapshot, &faults, false);
-    Ok(())
-}
-
-fn aborted_and_thin_air(rt: &impl Abort, alloc: Global) -> Result<Snapshot, AllocError> {
-    let a = session(rt, alloc, "a", &[(&[put(rt, "x", 1)], false)])?;
-    let b = session(
-        rt,
-        alloc,
-        "b",
-        &[(&[get(rt, "x", 1), get(rt, "z", 7)], true)],
-    )?;
-    Ok(snapshot(rt, vec![in alloc; a, b]?))
-}
-
-#[test]
-fn aborted_read_and_read_out_of_thin_air(rt: HostRuntime) -> Result<(), Fail> {
-    let alloc = rt.alloc();
-    let snapshot = aborted_and_thin_air(&rt, alloc)?;
-    let faults = [("b", 1, 1, "x", 1, Aborted), ("b", 1, 2, "z", 7, ThinAir)];
-    assert_faults(&rt, alloc, &snapshot, &faults, false);
+    for (records, wanted) in &cases {
+        match resolve(alloc, &snapshot(&rt, alloc, *records)) {
+            Err(ResolveFault::Reads(faults)) => assert_faults(&rt, &faults, *wanted),
+            Err(ResolveFault::NoMemory) => panic!(rt; "out of memory"),
+            Ok(_) => panic!(rt; "no fault"),
+        }
+    }
     Ok(())
 }
 
@@ -144,50 +85,22 @@ fn aborted_read_and_read_out_of_thin_air(rt: HostRuntime) -> Result<(), Fail> {
 #[test]
 fn exact_faults_or_want_of_memory(rt: HostRuntime) {
     let alloc = rt.alloc();
-    let Ok(snapshot) = aborted_and_thin_air(&rt, alloc) else {
+    let Ok(snapshot) = snapshot_of(alloc, ABORTED_AND_THIN_AIR.as_bytes()) else {
         return;
     };
-    let faults = [("b", 1, 1, "x", 1, Aborted), ("b", 1, 2, "z", 7, ThinAir)];
-    assert_faults(&rt, alloc, &snapshot, &faults, true);
-}
-
-#[test]
-fn future_and_broken_internal_read(rt: HostRuntime) -> Result<(), Fail> {
-    let alloc = rt.alloc();
-    let ops = [get(&rt, "x", 1), put(&rt, "x", 1), get(&rt, "x", 2)];
-    let a = session(&rt, alloc, "a", &[(&ops, true)])?;
-    let snapshot = snapshot(&rt, vec![in alloc; a]?);
-    let faults = [
-        ("a", 1, 1, "x", 1, Future),
-        ("a", 1, 3, "x", 2, BrokenInternal),
-    ];
-    assert_faults(&rt, alloc, &snapshot, &faults, false);
-    Ok(())
-}
-
-/// An aborted transaction may write a duplicate too.
-#[test]
-fn duplicate_write(rt: HostRuntime) -> Result<(), Fail> {
-    let alloc = rt.alloc();
-    let a = session(&rt, alloc, "a", &[(&[put(&rt, "x", 1)], true)])?;
-    let b = session(&rt, alloc, "b", &[(&[put(&rt, "x", 1)], false)])?;
-    let snapshot = snapshot(&rt, vec![in alloc; a, b]?);
-    assert_faults(
-        &rt,
-        alloc,
-        &snapshot,
-        &[("b", 1, 1, "x", 1, Duplicate)],
-        false,
-    );
-    Ok(())
+    let wanted = [("b", 1, 1, "x", 1, Aborted), ("b", 1, 2, "z", 7, ThinAir)];
+    match resolve(alloc, &snapshot) {
+        Err(ResolveFault::Reads(faults)) => assert_faults(&rt, &faults, &wanted),
+        Err(ResolveFault::NoMemory) => {}
+        Ok(_) => panic!(rt; "no fault"),
+    }
 }
 
 /// No session at all: there is `init` alone.
 #[test]
 fn nothing_happened(rt: HostRuntime) -> Result<(), Fail> {
     let alloc = rt.alloc();
-    let snapshot = snapshot(&rt, Vec::new(alloc));
-    let Ok(resolved) = resolve(alloc, &snapshot) else {
+    let Ok(resolved) = resolve(alloc, &snapshot(&rt, alloc, "")) else {
         panic!(rt; "not resolved");
     };
     assert_eq!(rt; resolved.sessions().len(), 0);
@@ -202,29 +115,9 @@ fn nothing_happened(rt: HostRuntime) -> Result<(), Fail> {
 #[test]
 fn numbers_and_sources(rt: HostRuntime) -> Result<(), Fail> {
     let alloc = rt.alloc();
-    let writes = [
-        put(&rt, "y", 1),
-        put(&rt, "x", 1),
-        put(&rt, "x", 2),
-        get(&rt, "x", 2),
-    ];
-    let reads = [
-        get(&rt, "y", 1),
-        get(&rt, "x", 2),
-        get(&rt, "z", 0),
-        get(&rt, "y", 1),
-        get(&rt, "y", 0),
-    ];
-    let a = session(
-        &rt,
-        alloc,
-        "a",
-        &[(&[put(&rt, "x", 9)], false), (&writes, true)],
-    )?;
-    let b = session(&rt, alloc, "b", &[(&[get(&rt, "x", 9)], false)])?;
-    let c = session(&rt, alloc, "c", &[(&reads, true), (&[], true)])?;
-    let snapshot = snapshot(&rt, vec![in alloc; c, a, b]?);
-    let Ok(resolved) = resolve(alloc, &snapshot) else {
+    let records = "c,begin\na,begin\na,w,x,9\na,abort\na,begin\na,w,y,1\na,w,x,1\na,w,x,2\na,r,x,2\na,commit\n\
+        b,begin\nb,r,x,9\nb,abort\nc,r,y,1\nc,r,x,2\nc,r,z,0\nc,r,y,1\nc,r,y,0\nc,commit\nc,begin\nc,commit\n";
+    let Ok(resolved) = resolve(alloc, &snapshot(&rt, alloc, records)) else {
         panic!(rt; "not resolved");
     };
     let (x, y, z) = (name(&rt, "x"), name(&rt, "y"), name(&rt, "z"));
@@ -241,5 +134,27 @@ fn numbers_and_sources(rt: HostRuntime) -> Result<(), Fail> {
         [(x, 1), (y, 0), (y, 1), (z, 0)].as_slice()
     );
     assert!(rt; resolved.writes(3).is_empty() && resolved.reads(3).is_empty());
+    Ok(())
+}
+
+/// What each fault says.
+#[test]
+fn texts_of_faults(rt: HostRuntime) -> Result<(), Fail> {
+    let alloc = rt.alloc();
+    let kinds = [
+        (Duplicate, "the value was written at the key before"),
+        (BrokenInternal, "the transaction wrote another value at the key"),
+        (ThinAir, "nobody wrote the value at the key"),
+        (Aborted, "an aborted transaction wrote the value"),
+        (Intermediate, "the value was written over in its transaction"),
+        (Future, "the transaction writes the value later"),
+    ];
+    for (kind, text) in &kinds {
+        assert_eq!(rt; format!(in alloc; "{kind}")?.as_str(), *text);
+    }
+    let reads = ResolveFault::Reads(Vec::new(alloc));
+    assert_eq!(rt; format!(in alloc; "{reads}")?.as_str(), "some operations read or write what no source explains");
+    let memory = ResolveFault::NoMemory;
+    assert_eq!(rt; format!(in alloc; "{memory}")?.as_str(), "out of memory");
     Ok(())
 }
