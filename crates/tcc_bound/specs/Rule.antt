@@ -1,3 +1,4 @@
+-- For the private rule of the word and its proofs alone: nobody has to believe what stands here.
 -- The rule that the word and the views of all seats keep between any two steps, and what each step tells its seat.
 use Rattle.std.specs.Prelude.{◌≡◌, ℕ, ◌≤◌, ◌⊎◌, List, [], ◌∷◌, min}
 use mathlib.Core.Option.{some}

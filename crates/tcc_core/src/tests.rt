@@ -7,7 +7,7 @@ use tcc_derive::{Prices, derive};
 use tcc_graph::Graph;
 use tcc_near::near;
 use tcc_reads::resolve;
-use tcc_txn::snapshot_of;
+use tcc_txn::{NoMemory, snapshot_of};
 
 /// a/1 writes x, and a/2 reads the initial value of x: a/1 has to stand before `init`, which costs 2, and every other
 /// link costs 1.
@@ -21,13 +21,17 @@ const WRITERS_BEFORE_EACH_OTHER: &str = "a,begin\na,w,x,1\na,commit\nb,begin\nb,
 /// The link from `init` to the reader of a/1 costs less than the way over a/1, which joins first.
 const TWO_WAYS: &str = "a,begin\na,w,x,1\na,commit\nb,begin\nb,r,x,1\nb,commit\n";
 
-/// The prices of the history of these records.
-fn prices_of(rt: &(impl Threads + Sync), alloc: Global, records: &str) -> Option<Prices> {
+/// The graph of these records.
+fn graph_of(alloc: Global, records: &str) -> Option<Graph> {
     let snapshot = snapshot_of(alloc, records.as_bytes()).ok()?;
     let resolved = resolve(alloc, &snapshot).ok()?;
-    let graph = Graph::build(alloc, &resolved).ok()?;
-    let near = near(rt, alloc, &graph).ok()?;
-    derive(rt, alloc, &graph, &near).ok()
+    Graph::build(alloc, &resolved).ok()
+}
+
+/// The prices of a graph.
+fn prices_of(rt: &(impl Threads + Sync), alloc: Global, graph: &Graph) -> Result<Prices, NoMemory> {
+    let near = near(rt, alloc, graph)?;
+    derive(rt, alloc, graph, &near)
 }
 
 /// Steps of the search from a start: each has a cap, what it has to answer, and the row that it has to leave, where the
@@ -39,8 +43,11 @@ fn assert_steps(
     start: u32,
     steps: &[(u64, Settled, Option<&[Option<u32>]>)],
 ) {
-    let Some(prices) = prices_of(rt, alloc, records) else {
-        panic!(rt; "no prices of {records}");
+    let Some(graph) = graph_of(alloc, records) else {
+        panic!(rt; "no graph of {records}");
+    };
+    let Ok(prices) = prices_of(rt, alloc, &graph) else {
+        panic!(rt; "no memory");
     };
     assert!(rt; start < prices.count());
     let Ok(mut search) = Search::begin(alloc, &prices, start) else {

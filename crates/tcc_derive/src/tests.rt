@@ -2,9 +2,8 @@
 use crate::{Prices, derive, first_name, reason};
 use std::alloc::Global;
 use std::process::Abort;
-use std::thread::Threads;
 use tcc_graph::{Graph, Link, Step, Walk};
-use tcc_near::{NONE, Near, near};
+use tcc_near::{NONE, near};
 use tcc_reads::resolve;
 use tcc_txn::{Name, snapshot_of};
 
@@ -52,13 +51,11 @@ const TWO_STEPS: &str =
     c,begin\nc,r,q,1\nc,r,p,1\nc,w,v,1\nc,commit\nd,begin\nd,w,v,2\nd,w,r,1\nd,w,m,1\nd,commit\n\
     e,begin\ne,r,r,1\ne,r,m,1\ne,r,v,0\ne,commit\n";
 
-/// The graph and the distances of these records.
-fn near_of(rt: &(impl Threads + Sync), alloc: Global, records: &str) -> Option<(Graph, Near)> {
+/// The graph of these records.
+fn graph_of(alloc: Global, records: &str) -> Option<Graph> {
     let snapshot = snapshot_of(alloc, records.as_bytes()).ok()?;
     let resolved = resolve(alloc, &snapshot).ok()?;
-    let graph = Graph::build(alloc, &resolved).ok()?;
-    let near = near(rt, alloc, &graph).ok()?;
-    Some((graph, near))
+    Graph::build(alloc, &resolved).ok()
 }
 
 /// What a list of wanted numbers has for a pair.
@@ -192,8 +189,11 @@ fn least_prices_and_costs(rt: HostRuntime) {
         ),
     ];
     for (records, wanted, costs) in cases {
-        let Some((graph, near)) = near_of(&rt, alloc, records) else {
-            panic!(rt; "no distances of {records}");
+        let Some(graph) = graph_of(alloc, records) else {
+            panic!(rt; "no graph of {records}");
+        };
+        let Ok(near) = near(&rt, alloc, &graph) else {
+            panic!(rt; "no memory");
         };
         let Ok(prices) = derive(&rt, alloc, &graph, &near) else {
             panic!(rt; "no memory");
@@ -233,8 +233,11 @@ fn first_reasons(rt: HostRuntime) {
         (TWO_STEPS, 5, 0, None),
     ];
     for (records, b, a, wanted) in cases {
-        let Some((graph, near)) = near_of(&rt, alloc, records) else {
-            panic!(rt; "no distances of {records}");
+        let Some(graph) = graph_of(alloc, records) else {
+            panic!(rt; "no graph of {records}");
+        };
+        let Ok(near) = near(&rt, alloc, &graph) else {
+            panic!(rt; "no memory");
         };
         assert!(rt; b < graph.count());
         assert!(rt; a < graph.count());
