@@ -1,17 +1,15 @@
 -- The certificate of a least cycle keeps the rules: walks and routes, put together, are no shorter than the distances.
-use Rattle.std.proofs.Common.{ℕ, ◌≡◌, ◌<◌, ◌≤◌, ◌+◌, ◌⊎◌, inl, inr, List, [], ◌∷◌, ◌++◌, length, All, Some, get_or, length-append, refl, sym, ◌∙◌, ap, subst, arith}
+use Rattle.std.proofs.Common.{ℕ, ◌≡◌, ◌<◌, ◌≤◌, ◌+◌, ◌⊎◌, inl, inr, List, [], ◌∷◌, ◌++◌, length, All, Some, get_or, refl, sym, ◌∙◌, ap, subst, arith}
 use Rattle.std.proofs.lemmas.List.{get_or_default}
 use Rattle.std.proofs.lemmas.List.Elements.{All-cons}
 use Rattle.tcc_reads.specs.History.{History, count}
-use Rattle.tcc_graph.specs.Relations.{IsCausalPair}
-use Rattle.tcc_graph.specs.Walks.{step_from, step_to, IsStep, Leads, IsWalk}
+use Rattle.tcc_graph.specs.Walks.{step_to, Leads, IsWalk}
 use Rattle.tcc_graph.specs.Links.{MayContradict, IsLink, link_from, link_to, link_cost, cost}
 use Rattle.tcc_graph.specs.Routes.{LinksLead, IsRoute, IsLeastCycle}
 use Rattle.tcc_graph.specs.declared.step.Step.{Step}
-use Rattle.tcc_graph.specs.declared.step.Step.TheVariants as step
 use Rattle.tcc_graph.specs.declared.link.Link.{Link}
 use Rattle.tcc_graph.specs.declared.link.Link.TheVariants as link
-use Rattle.tcc_graph.proofs.Pairs.{pair_below, step_below, session_below, step_of_kind}
+use Rattle.tcc_graph.proofs.Pairs.{pair_below, step_below, session_below}
 use Rattle.tcc_graph.proofs.Walking.{pair_walk, walk_on}
 use Rattle.tcc_graph.proofs.Linking.{derived_cost, one_cost, pair_link, link_route, lead_split, route_on}
 use Rattle.tcc_core.specs.Shares.{IsCappedDistance}
