@@ -1,4 +1,4 @@
--- How a snapshot lies in memory.
+-- How a snapshot lies in memory; nobody has to believe it, for its map is what contracts see.
 use Rattle.std.proofs.Common.{◌≡◌, ℕ, suc, ◌≤◌, Bool, true, false, List, [], ◌∷◌, length, T, refl}
 use Rattle.std.specs.Prelude.{sum_by, slice_index_or, ◌<◌, if◌then◌else◌}
 use Rattle.std.specs.Ordering.{is_lt, nat_cmp}

@@ -1,4 +1,4 @@
--- How a name lies in memory.
+-- How a name lies in memory; nobody has to believe it, for its bytes are what contracts see.
 use Rattle.std.proofs.Common.{◌≡◌, ℕ, ◌-◌, ◌≤◌, ◌<◌, ◌++◌, List, length, take, drop, ap, sym, ◌∙◌, refl, arith, length-append, None}
 use Rattle.std.proofs.lemmas.Bool.Decides.{nat_tests}
 use Rattle.std.proofs.lemmas.List.{length-take, length-replicate, drop-replicate, take_at}

@@ -150,6 +150,7 @@ impl Name {
         ensures value { result.now ≡ self.now }
         ensures some { 0 < length result.now }
         ensures short { length result.now ≤ MAX_NAME_BYTES }
+        ensures named { name_fault result.now ≡ None }
     {
         &self.buffer[..self.len as usize]
     }

@@ -217,3 +217,131 @@ fn refuses_snapshots(rt: HostRuntime) -> Result<(), Fail> {
     assert_eq!(rt; parts.len(), 67);
     Ok(())
 }
+
+#[test]
+fn records_up_to_each_seal(rt: HostRuntime) -> Result<(), Fail> {
+    let alloc = rt.alloc();
+    let text =
+        "b,begin\nb,commit\nseal\na,begin\nb,begin\nb,abort\na,commit\nseal\nseal\nb,begin\nb,commit\n";
+    let mut recording = Recording::new(alloc, text.as_bytes())?;
+    assert_eq!(rt; recording.snapshot().sessions(), 0);
+    for (want, a, b) in [
+        (Moment::Seal, None, 1usize),
+        (Moment::Seal, Some(1), 2),
+        (Moment::Seal, Some(1), 2),
+        (Moment::End, Some(1), 3),
+        (Moment::End, Some(1), 3),
+    ] {
+        assert!(rt; recording.advance(alloc).is_ok_and(|moment| moment == want));
+        assert!(rt; finished(recording.snapshot(), "a") == a);
+        assert!(rt; finished(recording.snapshot(), "b") == Some(b));
+    }
+    Ok(())
+}
+
+// How many transactions the session has finished, if any.
+fn finished(snapshot: &Snapshot, session: &str) -> Option<usize> {
+    for i in 0..snapshot.sessions() {
+        if let Some((name, txns)) = snapshot.session(i) {
+            if name.bytes() == session.as_bytes() {
+                return Some(txns.len());
+            }
+        }
+    }
+    None
+}
+
+#[test]
+fn records_to_a_snapshot(rt: HostRuntime) {
+    let alloc = rt.alloc();
+    for (text, sessions) in [
+        ("", 0),
+        ("seal\n", 0),
+        ("b,begin\nb,commit\nseal\na,begin\na,abort\n", 2),
+    ] {
+        let snapshot = snapshot_of(alloc, text.as_bytes());
+        assert!(rt;
+            snapshot.is_ok_and(|snapshot| snapshot.sessions() == sessions),
+            "{text}"
+        );
+    }
+    for (text, row) in [("seal\na,commit\n", 2), ("a,begin\nseal\n", 2), ("x\n", 1)] {
+        let snapshot = snapshot_of(alloc, text.as_bytes());
+        assert!(rt; snapshot.is_err_and(|fault| fault.row == row), "{text}");
+    }
+}
+
+#[test]
+fn a_fault_stays(rt: HostRuntime) -> Result<(), Fail> {
+    let alloc = rt.alloc();
+    let text = "a,begin\na,commit\nseal\na,commit\nb,begin\nb,commit\n";
+    let mut recording = Recording::new(alloc, text.as_bytes())?;
+    assert!(rt;
+        recording
+            .advance(alloc)
+            .is_ok_and(|moment| moment == Moment::Seal)
+    );
+    for _ in 0..2 {
+        assert!(rt;
+            recording.advance(alloc).is_err_and(|fault| fault.row == 4
+                && fault.kind == RowFaultKind::NotBegun)
+        );
+        assert_eq!(rt; recording.snapshot().sessions(), 1);
+    }
+    Ok(())
+}
+
+#[test]
+fn faults_show(rt: HostRuntime) -> Result<(), Fail> {
+    let alloc = rt.alloc();
+    for (fault, text) in [
+        (NameFault::Empty, "a name has at least one byte"),
+        (NameFault::TooLong, "the name is too long"),
+        (
+            NameFault::BadByte { at: 7 },
+            "byte 7 cannot stand in a name",
+        ),
+        (NameFault::NoMemory, "out of memory"),
+    ] {
+        assert_eq!(rt; format!(in alloc; "{fault}")?.as_str(), text);
+    }
+    for (fault, text) in [
+        (TxnFault::WriteOfZero { at: 7 }, "operation 7 writes 0"),
+        (TxnFault::TooManyOps, "there are too many operations"),
+    ] {
+        assert_eq!(rt; format!(in alloc; "{fault}")?.as_str(), text);
+    }
+    let session = name(&rt, "a");
+    for (fault, text) in [
+        (
+            SnapshotFault::Repeated { session },
+            "session a stands twice",
+        ),
+        (
+            SnapshotFault::TooManySessions,
+            "there are too many sessions",
+        ),
+        (
+            SnapshotFault::TooManyTransactions,
+            "there are too many transactions",
+        ),
+        (SnapshotFault::NoMemory, "out of memory"),
+    ] {
+        assert_eq!(rt; format!(in alloc; "{fault}")?.as_str(), text);
+    }
+    let kind = RowFaultKind::Unfinished { session };
+    let fault = RowFault { row: 7, kind };
+    assert_eq!(rt;
+        format!(in alloc; "{fault}")?.as_str(),
+        "row 7: the transaction of a has no end"
+    );
+    assert_eq!(rt;
+        format!(in alloc; "{}", NoMemory)?.as_str(),
+        "out of memory"
+    );
+    assert_eq!(rt;
+        format!(in alloc; "[{session:>3}] {session:?}")?.as_str(),
+        "[  a] a"
+    );
+    Ok(())
+}

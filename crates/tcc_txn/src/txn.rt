@@ -65,6 +65,7 @@ impl Txn {
     pub fn ops(&self) -> &[Op]
         ensures value { result.now ≡ self.now.ops }
         ensures few { length result.now ≤ MAX_OPERATIONS }
+        ensures lawful { txn_fault result.now ≡ None }
     {
         &self.ops
     }
