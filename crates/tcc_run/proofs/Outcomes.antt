@@ -4,7 +4,7 @@ use Rattle.std.specs.Prelude.{Result, Option, IsErrAnd}
 use Rattle.tcc_txn.specs.Answers.{answers_of}
 use Rattle.tcc_txn.specs.Snapshots.{Sessions}
 use Rattle.tcc_explain.specs.Explained.{IsRefusal}
-use Rattle.tcc_explain.specs.declared.answer.Answer.{Answer}
+use Rattle.tcc_answer.specs.declared.answer.Answer.{Answer}
 use Rattle.tcc_explain.specs.declared.refusal.ExplainFault.{ExplainFault}
 use Rattle.tcc_explain.specs.declared.refusal.ExplainFault.TheVariants as refusal
 use Rattle.tcc_run.specs.declared.finished.Gathered.{Gathered}

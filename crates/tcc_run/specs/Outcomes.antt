@@ -10,7 +10,7 @@ use Rattle.tcc_txn.specs.declared.rows.RowFaultKind.TheVariants as kind
 use Rattle.tcc_reads.specs.Faults.{read_faults}
 use Rattle.tcc_reads.specs.Sources.{history}
 use Rattle.tcc_explain.specs.Explained.{IsAnswerOf}
-use Rattle.tcc_explain.specs.declared.answer.Answer.{Answer}
+use Rattle.tcc_answer.specs.declared.answer.Answer.{Answer}
 use Rattle.tcc_run.specs.declared.halt.Halt.{Halt}
 use Rattle.tcc_run.specs.declared.halt.Halt.TheVariants as halt
 use Rattle.tcc_run.specs.Statuses.{status_of}

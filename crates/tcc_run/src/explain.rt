@@ -13,7 +13,8 @@ use crate::printing::print_outcome;
 use std::alloc::Global;
 use std::io::{Read, Write};
 use std::thread::Threads;
-use tcc_explain::{Answer, explain};
+use tcc_answer::Answer;
+use tcc_explain::explain;
 use tcc_txn::{Item, Rows, Snapshot};
 
 /// What the sessions finished up to the end of the input.
