@@ -2,6 +2,7 @@
 use Rattle.std.proofs.Common.{◌≡◌, ℕ, List, [], refl, sym, ap, subst, ◌∙◌, false, Ok, Err, None, Some, Option, inl, inr, ◌⊎◌}
 use Rattle.std.specs.Prelude.{Result}
 use Rattle.tcc_txn.specs.Answers.{answers_of}
+use Rattle.tcc_txn.specs.Finished.{finished_in}
 use Rattle.tcc_txn.specs.Snapshots.{Sessions}
 use Rattle.tcc_txn.specs.declared.rows.Item.{Item}
 use Rattle.tcc_txn.specs.declared.rows.RowFault.{RowFault}
@@ -22,7 +23,6 @@ use Rattle.tcc_check.specs.declared.verdict.Verdict.TheVariants as verdict
 use Rattle.tcc_run.specs.declared.judged.Judged.{Judged}
 use Rattle.tcc_run.specs.declared.halt.Halt.{Halt}
 use Rattle.tcc_run.specs.declared.halt.Halt.TheVariants.{Seal, Row, Reads, Text, NoMemory}
-use Rattle.tcc_run.specs.Gathered.{IsSnapshotOf}
 use Rattle.tcc_run.specs.declared.status.Status.{Status}
 use Rattle.tcc_run.specs.declared.status.Status.TheVariants as status
 use Rattle.tcc_run.specs.Statuses.{certificate_status, check_status, code_of, row_status, verdict_status}
@@ -64,25 +64,27 @@ text_fails text_kind.NoMemory h = cc
 not_zero : code_of status.Device ≡ 0 → ⊥
 not_zero h = cc
 
+-- what all records finish
+abbrev snapshot_in : List ℕ → Sessions
+snapshot_in records = finished_in (answers_of records).items
+
 -- ends that are a verdict show the history and the certificate that it is about
 pub record IsJudged (records : List ℕ) (text : List ℕ) (k : Certificate) (v : Verdict) : Type 0 where
-  pub sessions : Sessions
   pub unfaulted : (answers_of records).fault ≡ None
-  pub snapshot : IsSnapshotOf (answers_of records).items sessions
-  pub resolved : read_faults sessions ≡ []
+  pub resolved : read_faults (snapshot_in records) ≡ []
   pub read : certificate_read text ≡ Ok k
-  pub judged : IsVerdict (history sessions) k v
+  pub judged : IsVerdict (history (snapshot_in records)) k v
 
 judged_records : (records text : List ℕ) (judged : Judged) (found : Option RowFault) → (answers_of records).fault ≡ found
     → IsRecordsCheck (answers_of records).items found text (Ok judged) → IsJudged records text judged.certificate judged.verdict
-judged_records records text judged None same (s, snapshot, inl faulty) = absurd faulty.1
-judged_records records text judged None same (s, snapshot, inr is) =
-    record { sessions = s; unfaulted = same; snapshot = snapshot; resolved = is.0; read = is.1.0; judged = is.1.1 }
+judged_records records text judged None same (inl faulty) = absurd faulty.1
+judged_records records text judged None same (inr is) =
+    record { unfaulted = same; resolved = is.0; read = is.1.0; judged = is.1.1 }
 judged_records records text judged (Some fault) same is = let bad : ⊥ = cc in absurd bad
 
 judged_run : (records text : List ℕ) (judged : Judged) → MayBeCheck records text (Ok judged) → IsJudged records text judged.certificate judged.verdict
 judged_run records text judged (inl is) = judged_records records text judged (answers_of records).fault refl is
-judged_run records text judged (inr (inl fails)) = let e = fails.1 in let bad : ⊥ = cc in absurd bad
+judged_run records text judged (inr (inl fails)) = let e = fails.2 in let bad : ⊥ = cc in absurd bad
 judged_run records text judged (inr (inr memory)) = let bad : ⊥ = cc in absurd bad
 
 module _ (certified : (h : History) (k : Certificate) → Certifies h k → IsTrueClaim h k) where
@@ -94,13 +96,11 @@ module _ (certified : (h : History) (k : Certificate) → Certifies h k → IsTr
   of_verdict : (records text : List ℕ) (k : Certificate) (v : Verdict) → IsJudged records text k v
       → code_of (verdict_status v) ≡ 0 → IsShown records text
   of_verdict records text k verdict.Accepted is success = record {
-    sessions = is.sessions;
     certificate = k;
     unfaulted = is.unfaulted;
-    snapshot = is.snapshot;
     resolved = is.resolved;
     read = is.read;
-    true_claim = accepted (history is.sessions) k is.judged;
+    true_claim = accepted (history (snapshot_in records)) k is.judged;
   }
   of_verdict records text k (verdict.Rejected rule at) is success = let bad : ⊥ = cc in absurd bad
 

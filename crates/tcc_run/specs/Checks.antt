@@ -1,7 +1,8 @@
 -- What comes of a history and a certificate, and what a run of the check does with their bytes.
-use Rattle.std.specs.Prelude.{ℕ, ◌≡◌, ◌≢◌, ◌⊎◌, List, [], Option, None, Some, Result, Ok, Err}
+use Rattle.std.specs.Prelude.{ℕ, ◌≡◌, ◌≢◌, ◌⊎◌, ◌+◌, ◌≤◌, List, [], length, Option, None, Some, Result, Ok, Err}
 use Rattle.tcc_txn.specs.Snapshots.{Sessions}
 use Rattle.tcc_txn.specs.Answers as rows
+use Rattle.tcc_txn.specs.Finished.{finished_in}
 use Rattle.tcc_txn.specs.declared.rows.Item.{Item}
 use Rattle.tcc_txn.specs.declared.rows.RowFault.{RowFault}
 use Rattle.tcc_txn.specs.declared.rows.RowFaultKind.TheVariants as row_kind
@@ -16,7 +17,6 @@ use Rattle.tcc_check.specs.Verdicts.{IsVerdict, IsTrueClaim}
 use Rattle.tcc_run.specs.declared.judged.Judged.{Judged}
 use Rattle.tcc_run.specs.declared.halt.Halt.{Halt}
 use Rattle.tcc_run.specs.declared.halt.Halt.TheVariants.{Row, Reads, Text, NoMemory}
-use Rattle.tcc_run.specs.Gathered.{IsSnapshotOf}
 use Rattle.tcc_run.specs.Printed.{Prints, check_text}
 use Rattle.tcc_run.specs.Statuses.{check_status}
 
@@ -38,19 +38,20 @@ IsSnapshotCheck s text o = ((read_faults s ≢ []) × AreReads s o) ⊎ ((read_f
 
 -- what comes of the records: their fault, else what comes of the snapshot of all that was finished, whatever was sealed
 abbrev pub IsRecordsCheck : List Item → Option RowFault → List ℕ → Result Judged Halt → Type 0
-IsRecordsCheck items None text o = (s : Sessions) × IsSnapshotOf items s × IsSnapshotCheck s text o
+IsRecordsCheck items None text o = IsSnapshotCheck (finished_in items) text o
 IsRecordsCheck items (Some fault) text o = o ≡ Err (Row fault)
 
 abbrev pub IsCheck : List ℕ → List ℕ → Result Judged Halt → Type 0
 IsCheck records text o = IsRecordsCheck (rows.answers_of records).items (rows.answers_of records).fault text o
 
--- the reader of the records failed
-abbrev pub IsRecordsFailure : Result Judged Halt → Type 0
-IsRecordsFailure o = (row : ℕ) × (o ≡ Err (Row (record { row = row; kind = row_kind.Read })))
+-- the reader of the records failed, at one of them or behind the last
+abbrev pub IsRecordsFailure : List ℕ → Result Judged Halt → Type 0
+IsRecordsFailure records o =
+    (row : ℕ) × (row ≤ length (rows.records_of records) + 1) × (o ≡ Err (Row (record { row = row; kind = row_kind.Read })))
 
 -- what may come of the bytes: what their definition says, the fault of a reader that fails, or want of memory
 abbrev pub MayBeCheck : List ℕ → List ℕ → Result Judged Halt → Type 0
-MayBeCheck records text o = IsCheck records text o ⊎ (IsRecordsFailure o ⊎ (o ≡ Err NoMemory))
+MayBeCheck records text o = IsCheck records text o ⊎ (IsRecordsFailure records o ⊎ (o ≡ Err NoMemory))
 
 -- the text of some outcome and its status, whatever is known of the bytes
 abbrev pub PrintsSome : Option (List ℕ) → Option (List ℕ) → ℕ → Type 0
@@ -64,10 +65,8 @@ IsCheckRun records text before after code =
 -- the bytes are those of a history without faults and the text of a certificate for it, whose claim is true: its order is
 -- a commit order, or its links are a least cycle and cost what is claimed
 pub record IsShown (records : List ℕ) (text : List ℕ) : Type 0 where
-  pub sessions : Sessions
   pub certificate : Certificate
   pub unfaulted : (rows.answers_of records).fault ≡ None
-  pub snapshot : IsSnapshotOf (rows.answers_of records).items sessions
-  pub resolved : read_faults sessions ≡ []
+  pub resolved : read_faults (finished_in (rows.answers_of records).items) ≡ []
   pub read : certificate_read text ≡ Ok certificate
-  pub true_claim : IsTrueClaim (history sessions) certificate
+  pub true_claim : IsTrueClaim (history (finished_in (rows.answers_of records).items)) certificate

@@ -6,7 +6,7 @@ use Rattle.tcc_txn.specs.declared.rows.RowFault.{RowFault}
 use Rattle.tcc_txn.specs.declared.rows.RowFaultKind.{RowFaultKind}
 use Rattle.tcc_txn.specs.declared.rows.RowFaultKind.TheVariants.{Unfinished}
 use Rattle.tcc_reads.specs.declared.fault.ReadFault.{ReadFault}
-use Rattle.tcc_explain.specs.Json.{json_line}
+use Rattle.tcc_answer.specs.Json.{json_line}
 use Rattle.tcc_run.specs.declared.halt.Halt.{Halt}
 use Rattle.tcc_run.specs.declared.halt.Halt.TheVariants as halt
 use Rattle.tcc_run.specs.Texts.{certificate_fault_text, row_word, read_word}

@@ -6,5 +6,4 @@ pub mod Printed
 pub mod Outcomes
 pub mod Checks
 -- what serves the proofs alone
-pub mod Gathered
 pub mod Stages

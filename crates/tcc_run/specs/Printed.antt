@@ -1,9 +1,9 @@
 -- What is printed of an outcome, as text and as JSON, and how it goes out.
 use Rattle.std.specs.Prelude.{ℕ, ◌≡◌, ◌⊎◌, Bool, List, take, Option, Result, Ok, Err, if◌then◌else◌}
 use Rattle.std.specs.Io.KnownBytes.{Appends}
-use Rattle.tcc_explain.specs.Texts.{answer_text}
-use Rattle.tcc_explain.specs.Json.{answer_json, json_line}
-use Rattle.tcc_explain.specs.declared.answer.Answer.{Answer}
+use Rattle.tcc_answer.specs.Texts.{answer_text}
+use Rattle.tcc_answer.specs.Json.{answer_json, json_line}
+use Rattle.tcc_answer.specs.declared.answer.Answer.{Answer}
 use Rattle.tcc_run.specs.declared.halt.Halt.{Halt}
 use Rattle.tcc_run.specs.declared.halt.Halt.TheVariants.{NoMemory}
 use Rattle.tcc_run.specs.declared.judged.Judged.{Judged}

@@ -4,8 +4,8 @@ use Rattle.tcc_run.specs.declared.status.Status.{Status}
 use Rattle.tcc_run.specs.declared.status.Status.TheVariants.{Success, Anomaly, ReadFaults, RowFault, Limit, Memory, Device, Rejected, CertificateFault, Usage}
 use Rattle.tcc_txn.specs.declared.rows.RowFaultKind.{RowFaultKind}
 use Rattle.tcc_txn.specs.declared.rows.RowFaultKind.TheVariants.{FieldCount, BadSession, UnknownWord, BadKey, BadValue, WriteOfZero, NotBegun, AlreadyBegun, TooManyOps, TooManySessions, TooManyTransactions, TooManyKeys, TooManySeals, Unfinished, Read, NoMemory}
-use Rattle.tcc_explain.specs.declared.answer.Answer.{Answer}
-use Rattle.tcc_explain.specs.declared.answer.Answer.TheVariants as answer
+use Rattle.tcc_answer.specs.declared.answer.Answer.{Answer}
+use Rattle.tcc_answer.specs.declared.answer.Answer.TheVariants as answer
 use Rattle.tcc_cert.specs.declared.fault.CertFaultKind.{CertFaultKind}
 use Rattle.tcc_cert.specs.declared.fault.CertFaultKind.TheVariants as text_kind
 use Rattle.tcc_check.specs.declared.verdict.Verdict.{Verdict}

@@ -11,6 +11,8 @@ use Rattle.tcc_cert.specs.declared.certificate.Certificate.TheVariants as claim
 use Rattle.tcc_cert.specs.declared.fault.CertFault.{CertFault}
 use Rattle.tcc_cert.specs.declared.fault.CertFaultKind.{CertFaultKind}
 use Rattle.tcc_cert.specs.declared.fault.CertFaultKind.TheVariants as text_kind
+use Rattle.tcc_check.specs.Verdicts.{rule_number}
+use Rattle.tcc_check.specs.declared.verdict.Rule.{Rule}
 use Rattle.tcc_check.specs.declared.verdict.Verdict.{Verdict}
 use Rattle.tcc_check.specs.declared.verdict.Verdict.TheVariants as verdict
 use Rattle.tcc_run.specs.declared.halt.Halt.{Halt}
@@ -93,9 +95,9 @@ accepted_text (claim.Order order clocks) = codes "accepted: order\n"
 accepted_text (claim.Cycle links least near far) = codes "accepted: cycle, " ++ (decimal least ++ codes " steps\n")
 
 -- rejected: rule K at I J
-abbrev pub rejected_text : ℕ → ℕ × ℕ → List ℕ
+abbrev pub rejected_text : Rule → ℕ × ℕ → List ℕ
 rejected_text rule at =
-    codes "rejected: rule " ++ (decimal rule ++ (codes " at " ++ (decimal at.0 ++ (codes " " ++ (decimal at.1 ++ codes "\n")))))
+    codes "rejected: rule " ++ (decimal (rule_number rule) ++ (codes " at " ++ (decimal at.0 ++ (codes " " ++ (decimal at.1 ++ codes "\n")))))
 
 abbrev pub verdict_text : Certificate → Verdict → List ℕ
 verdict_text k verdict.Accepted = accepted_text k

@@ -1,10 +1,8 @@
 //! From the bytes of a history and of a certificate to the verdict.
 ghost use Rattle.std.specs.Prelude.{◌≡◌, ℕ, IfSome};
-ghost use Rattle.tcc_txn.specs.Answers.{answers_of};
 ghost use Rattle.tcc_run.specs.Checks.{IsCheckRun, IsShown, MayBeCheck, PrintsSome};
-ghost use Rattle.tcc_run.specs.Stages.{HasFinished, IsHistoryOf, IsResolved, MayBeTextCheck};
+ghost use Rattle.tcc_run.specs.Stages.{IsHistoryOf, MayBeTextCheck};
 
-use crate::finished::Gathered;
 use crate::halt::Halt;
 use crate::judged::Judged;
 use crate::printing::print_check;
@@ -15,45 +13,16 @@ use tcc_check::check;
 use tcc_check::laws::certified;
 use tcc_graph::Graph;
 use tcc_reads::resolve;
-use tcc_txn::{Item, Rows, Snapshot};
+use tcc_txn::snapshot_of;
 
-/// What the sessions finished up to the end of the records, whatever was sealed.
-fn finished<R: Read + Drop>(alloc: Global, reader: R) -> Result<Gathered, Halt>
-    ensures { IfSome (R.remaining reader) (λ records. HasFinished (answers_of records) result) }
-{
-    let mut rows = Rows::new(alloc, reader)?;
-    let mut gathered = Gathered::new(alloc);
-    'items: for _ in 0..u64::MAX {
-        match rows.next(alloc)? {
-            Item::Finished(session, txn) => gathered.add(alloc, session, txn)?,
-            Item::Seal => {}
-            Item::End => return Ok(gathered),
-        }
-    }
-    // So many transactions are held by no memory.
-    Err(Halt::NoMemory)
-}
-
-/// The history of all that the sessions finished.
-fn resolved(alloc: Global, gathered: Gathered) -> Result<Graph, Halt>
-    ensures { IsResolved gathered result }
-{
-    match Snapshot::new(gathered.into_parts(alloc)?) {
-        Ok(snapshot) => {
-            let resolved = resolve(alloc, &snapshot)?;
-            Ok(Graph::build(alloc, &resolved)?)
-        }
-        // The rows keep the limits of a snapshot, so only memory can be wanting.
-        Err(_) => Err(Halt::NoMemory),
-    }
-}
-
-/// The history of the records.
+/// The history of all that the records finish, whatever was sealed.
 fn history_of<R: Read + Drop>(alloc: Global, reader: R) -> Result<Graph, Halt>
-    ensures { IfSome (R.remaining reader) (λ records. IsHistoryOf (answers_of records) result) }
+    ensures { IfSome (R.remaining reader) (λ records. IsHistoryOf records result) }
 {
-    let gathered = finished(alloc, reader)?;
-    resolved(alloc, gathered)
+    let snapshot = snapshot_of(alloc, reader)?;
+    let resolved = resolve(alloc, &snapshot)?;
+    let graph = Graph::build(alloc, &resolved)?;
+    Ok(graph)
 }
 
 /// The verdict on the certificate whose text the reader gives.

@@ -3,14 +3,14 @@ ghost use Rattle.std.specs.Prelude.{◌≡◌, IfOk, false, map};
 ghost use Rattle.serde_json.specs.Data.{array};
 ghost use Rattle.serde_json.specs.View.{view, items_of};
 ghost use Rattle.serde_json.specs.Written.{has_float};
-ghost use Rattle.tcc_explain.specs.Json.{json_line};
+ghost use Rattle.tcc_answer.specs.Json.{json_line};
 ghost use Rattle.tcc_run.specs.Json.{halt_line, read_fault_json, row_fault_json, unresolved_json};
 
 use crate::halt::Halt;
 use crate::texts::{certificate_fault, halt_text, read_word, row_word};
 use serde_json::{Value, json};
 use std::alloc::{AllocError, Global};
-use tcc_explain::pieces::push;
+use tcc_answer::pieces::push;
 use tcc_reads::ReadFault;
 use tcc_txn::{NoMemory, RowFault, RowFaultKind};
 

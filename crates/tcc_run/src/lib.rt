@@ -4,7 +4,6 @@
 
 mod check;
 mod explain;
-mod finished;
 mod halt;
 pub mod json;
 mod judged;

@@ -12,8 +12,8 @@ use crate::texts::halt_text;
 use crate::verdicts::verdict_text;
 use std::alloc::Global;
 use std::io::Write;
-use tcc_explain::sending::send;
-use tcc_explain::{Answer, WriteFault, write_json, write_text};
+use tcc_answer::{Answer, WriteFault, write_json, write_text};
+use tcc_cert::sending::send;
 use tcc_txn::NoMemory;
 
 /// The line for want of memory.

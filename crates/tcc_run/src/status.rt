@@ -3,9 +3,9 @@ ghost use Rattle.std.specs.Prelude.{◌≡◌};
 ghost use Rattle.tcc_run.specs.Statuses.{answer_status, certificate_status, code_of, halt_status, row_status, verdict_status};
 
 use crate::halt::Halt;
+use tcc_answer::Answer;
 use tcc_cert::CertFaultKind;
 use tcc_check::Verdict;
-use tcc_explain::Answer;
 use tcc_txn::RowFaultKind;
 
 /// How a run ended; the process passes it on as its status.

@@ -4,8 +4,8 @@ ghost use Rattle.tcc_run.specs.Texts.{certificate_fault_text, certificate_word, 
 
 use crate::halt::Halt;
 use std::alloc::Global;
+use tcc_answer::pieces::push;
 use tcc_cert::{CertFault, CertFaultKind};
-use tcc_explain::pieces::push;
 use tcc_reads::{ReadFault, ReadFaultKind};
 use tcc_txn::{NoMemory, RowFault, RowFaultKind};
 

@@ -4,9 +4,9 @@ ghost use Rattle.tcc_run.specs.Texts.{accepted_text, rejected_text, verdict_text
 
 use crate::judged::Judged;
 use std::alloc::Global;
+use tcc_answer::pieces::push;
 use tcc_cert::Certificate;
-use tcc_check::Verdict;
-use tcc_explain::pieces::push;
+use tcc_check::{Rule, Verdict};
 use tcc_txn::NoMemory;
 
 /// The line of a certificate that was accepted.
@@ -28,10 +28,10 @@ fn accepted(alloc: Global, certificate: &Certificate) -> Result<Vec<u8>, NoMemor
 }
 
 /// The line of a certificate that was rejected.
-fn rejected(alloc: Global, rule: u32, at: (u32, u32)) -> Result<Vec<u8>, NoMemory>
+fn rejected(alloc: Global, rule: Rule, at: (u32, u32)) -> Result<Vec<u8>, NoMemory>
     ensures { IfOk result (λ text. text.items ≡ rejected_text rule at) }
 {
-    let rule = rule.to_string(alloc)?;
+    let number = rule.number().to_string(alloc)?;
     let first = at.0.to_string(alloc)?;
     let second = at.1.to_string(alloc)?;
     let mut text = Vec::new(alloc);
@@ -39,7 +39,7 @@ fn rejected(alloc: Global, rule: u32, at: (u32, u32)) -> Result<Vec<u8>, NoMemor
         &mut text,
         &[
             b"rejected: rule ",
-            rule.as_bytes(),
+            number.as_bytes(),
             b" at ",
             first.as_bytes(),
             b" ",
