@@ -3,8 +3,8 @@ use Rattle.std.proofs.Common.{◌+◌, ◌≤◌, [], length, subst, sym, inl, i
 use Rattle.std.proofs.lemmas.Option.{IfSome_then}
 use Rattle.tcc_txn.specs.Answers.{answers_of, records_of}
 use Rattle.tcc_txn.specs.Recordings.{TakesMoment}
-use Rattle.tcc_txn.proofs.RecordingSteps.{row-within}
 use Rattle.tcc_run.proofs.Checked.{for_any, for_both}
+use Rattle.tcc_run.proofs.Reach.{row_bound}
 use Rattle.tcc_run.proofs.Outcomes.{ended, out_of_memory, refused, sealed, stopped_by}
 use Rattle.tcc_run.proofs.explain.input_outcome.Goals as goal
 
@@ -18,7 +18,7 @@ returns-in_err-moment g c = for_both (g.R.Read.remaining c.args.reader) c.in_ok-
     let takes = c.in_err-moment.ensures.moment [] (answers_of text) is in
     let bound : c.in_err-moment.field-0.0.row ≤ length (records_of text) + 1
     = subst (λ n. n ≤ length (records_of text) + 1) (sym (c.in_err-moment.ensures.row c.in_ok-recording.ensures.fresh))
-    (row-within g.R.Read.remaining c.advance.new.self.rows (records_of text) (c.in_err-moment.ensures.within (records_of text) within)) in
+    (row_bound g.R.Read.remaining c.advance.new.self.rows (records_of text) (c.in_err-moment.ensures.within (records_of text) within)) in
     stopped_by text takes.0 takes.1 c.in_err-moment.field-0.0 c.from_residual-in_err-moment.result takes.2
     (elim takes.3 [ inl last ↦ inl last.0 | inr fails ↦ inr fails.0 ]) bound c.from_residual-in_err-moment.ensures.1)
 
