@@ -1,5 +1,5 @@
 -- What lawful lines finish keeps the limits of a snapshot: each finished transaction was begun, and each session with one has begun one.
-use Rattle.std.proofs.Common.{◌≡◌, ℕ, ◌+◌, ◌-◌, ◌≤◌, ◌<◌, Bool, true, false, cond, ◌||◌, not, T, List, [], ◌∷◌, ◌++◌, map, length, sum_by, refl, sym, ap, subst, ◌∙◌, arith, Option, None, Some, Result, Ok, Err, append_assoc, append-nil, nat_lt}
+use Rattle.std.proofs.Common.{◌≡◌, ℕ, ◌+◌, ◌-◌, ◌≤◌, Bool, true, false, cond, ◌||◌, T, List, [], ◌∷◌, ◌++◌, map, length, sum_by, refl, sym, ap, subst, ◌∙◌, arith, Option, None, Some, Result, Ok, Err, append_assoc, append-nil, nat_lt}
 use Rattle.std.specs.Prelude.{fold, is_some, unwrap_or}
 use Rattle.std.specs.Option.{option_map_or}
 use Rattle.std.specs.List.{AllByRecursion, IsDistinct, list_any}
@@ -12,14 +12,13 @@ use Rattle.std.proofs.lemmas.Bool.Decides.{nat_tests}
 use Rattle.std.proofs.lemmas.List.{length-map}
 use Rattle.std.proofs.lemmas.Map.Lookups.{exact_bytes}
 use Rattle.std.proofs.lemmas.Map.Made.{length-le_from_is_member}
-use Rattle.tcc_txn.specs.Answers.{Answers, after_item, answers_after, answers_of, ending, go_on, judged, records_of}
+use Rattle.tcc_txn.specs.Answers.{Answers, after_item, answers_after, answers_of, go_on, judged, records_of}
 use Rattle.tcc_txn.specs.Finished.{KeepsLimits, finished_in, transaction_count, with_item, with_transaction}
 use Rattle.tcc_txn.specs.Lines.{Record, is_cut, line_of, same}
 use Rattle.tcc_txn.specs.Past.{begin_count, fault_of, is_begun, item_of, ops_since, sessions}
 use Rattle.tcc_txn.specs.Snapshots.{Sessions, first_repeated, snapshot_fault}
 use Rattle.tcc_txn.specs.Transactions.{Transaction}
 use Rattle.tcc_txn.specs.declared.limits.TheConstants.{MAX_SESSIONS, MAX_TRANSACTIONS}
-use Rattle.tcc_txn.specs.declared.op.Op.{Op}
 use Rattle.tcc_txn.specs.declared.rows.Item.{Item}
 use Rattle.tcc_txn.specs.declared.rows.Item.TheVariants as item
 use Rattle.tcc_txn.specs.declared.rows.RowFaultKind.{RowFaultKind}

@@ -1,16 +1,15 @@
 -- A recording after one more item.
-use Rattle.std.proofs.Common.{◌≡◌, ℕ, ◌+◌, ◌≤◌, ◌<◌, ◌^◌, ◌⊎◌, Bool, true, false, List, [], ◌∷◌, ◌++◌, length, refl, sym, ap, subst, ◌∙◌, arith, Some, None, Option, Result, Ok, Err, inl, inr, append_assoc, append-nil, length-append}
-use Rattle.std.specs.Prelude.{◌||◌, IsErrAnd, MatchResult, IfErr, IfSome, OnOk, OnErr, min}
+use Rattle.std.proofs.Common.{◌≡◌, ℕ, ◌+◌, ◌≤◌, false, List, [], ◌∷◌, ◌++◌, length, refl, sym, ap, subst, ◌∙◌, arith, Some, None, Option, Result, Ok, Err, inl, inr, append_assoc, append-nil, length-append}
+use Rattle.std.specs.Prelude.{◌||◌, IsErrAnd, MatchResult, IfSome}
 use Rattle.std.specs.FinMap as map
 use Rattle.std.proofs.lemmas.List.Folds.{list_any-append}
 use Rattle.std.proofs.lemmas.Option.{none-some}
-use Rattle.tcc_txn.specs.Ahead.{FaultsIn, IsAhead, IsFailure, TakesAnswer, fault_in}
+use Rattle.tcc_txn.specs.Ahead.{IsAhead, TakesAnswer}
 use Rattle.tcc_txn.specs.Answers.{Answers, after_item, answers_of, ending, records_of}
 use Rattle.tcc_txn.specs.Finished.{KeepsLimits, finished_in, with_item, with_transaction}
 use Rattle.tcc_txn.specs.Lines.{Record}
 use Rattle.tcc_txn.specs.Reached.{IsWithin, StandsBy, row_in, row_reached}
-use Rattle.tcc_txn.specs.Recordings.{IsRecorded, IsRecording, Passes, StopsWith, TakesMoment, after_items, has_seal, is_seal}
-use Rattle.tcc_txn.specs.Snapshots.{Sessions}
+use Rattle.tcc_txn.specs.Recordings.{IsRecorded, IsRecording, Passes, TakesMoment, after_items, has_seal, is_seal}
 use Rattle.tcc_txn.specs.Transactions.{Transaction}
 use Rattle.tcc_txn.specs.declared.recording.Moment.TheVariants as moment
 use Rattle.tcc_txn.specs.declared.recording.Recording.{Recording}

@@ -1,5 +1,5 @@
 -- What the sessions have finished by some items.
-use Rattle.std.specs.Prelude.{ℕ, ◌≤◌, Bool, true, false, List, [], ◌∷◌, ◌++◌, fold, length, sum_by, unwrap_or}
+use Rattle.std.specs.Prelude.{ℕ, ◌≤◌, List, [], ◌∷◌, ◌++◌, fold, length, sum_by, unwrap_or}
 use Rattle.std.specs.FinMap as map
 use Rattle.tcc_txn.specs.Snapshots.{Sessions}
 use Rattle.tcc_txn.specs.Transactions.{Transaction}

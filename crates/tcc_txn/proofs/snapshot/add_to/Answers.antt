@@ -1,4 +1,4 @@
-use Rattle.std.proofs.Common.{◌≡◌, ap, subst, ◌∙◌, inl, inr, arith}
+use Rattle.std.proofs.Common.{ap, subst, ◌∙◌, inl, inr, arith}
 use Rattle.tcc_txn.specs.Snapshots.{parts_of}
 use Rattle.tcc_txn.specs.SnapshotStorage.{StandsAt, place_in}
 use Rattle.tcc_txn.proofs.Growing.{err-then, found-here, if-err-then, inserted, missing, not-read, ok-always, ok-then, place_in-within, unwritten, written}

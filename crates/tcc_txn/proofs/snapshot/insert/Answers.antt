@@ -1,4 +1,4 @@
-use Rattle.std.proofs.Common.{◌≡◌, ◌++◌, ◌∷◌, [], ap, ◌∙◌}
+use Rattle.std.proofs.Common.{◌++◌, ◌∷◌, [], ap, ◌∙◌}
 use Rattle.std.specs.List.{insert}
 use Rattle.tcc_txn.specs.Snapshots.{parts_of}
 use Rattle.tcc_txn.proofs.Growing.{parts_of-insert}

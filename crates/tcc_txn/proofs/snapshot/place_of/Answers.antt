@@ -1,4 +1,4 @@
-use Rattle.std.proofs.Common.{rules, ◌∙◌, ◌≡◌, T, subst, sym, ap, arith, [], get_or, List, ℕ}
+use Rattle.std.proofs.Common.{rules, ◌∙◌, T, subst, sym, arith}
 use Rattle.std.proofs.lemmas.Fn.{always_returns_same}
 use Rattle.std.specs.FinMap.Entries.{is_sorted}
 use Rattle.std.specs.Ordering.{is_lt}

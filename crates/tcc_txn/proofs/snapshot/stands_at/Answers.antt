@@ -1,4 +1,4 @@
-use Rattle.std.proofs.Common.{◌≡◌, sym, ◌∙◌}
+use Rattle.std.proofs.Common.{sym, ◌∙◌}
 use Rattle.tcc_txn.proofs.Growing.{stands-here, stands-not-here}
 use Rattle.tcc_txn.proofs.snapshot.stands_at.Goals as goal
 

@@ -1,9 +1,8 @@
-use Rattle.std.proofs.Common.{◌≡◌, List, [], Ok, Err, Some, None, refl, sym, ap, subst, ◌∙◌, append-nil, rules, arith}
+use Rattle.std.proofs.Common.{Ok, refl, sym, ap, subst, ◌∙◌, arith}
 use Rattle.tcc_txn.specs.Ahead.{TakesAnswer, fault_met}
 use Rattle.tcc_txn.specs.Phases.{phase_after}
-use Rattle.tcc_txn.specs.Finished.{KeepsLimits, with_transaction}
 use Rattle.tcc_txn.specs.Reached.{IsWithin}
-use Rattle.tcc_txn.specs.Recordings.{IsRecording, TakesMoment}
+use Rattle.tcc_txn.specs.Recordings.{TakesMoment}
 use Rattle.tcc_txn.specs.declared.rows.Item.TheVariants as item
 use Rattle.tcc_txn.proofs.RecordingSteps.{err-of, gives_up, goes_on, has-room, loses_one, met-itself, never-stopped, not-begun, not-end, stops, within-stopped}
 use Rattle.tcc_txn.proofs.recording.Recording.advance.Goals as goal

@@ -1,5 +1,5 @@
 -- the items so far were passed, and the snapshot has what they finish
-use Rattle.std.proofs.Common.{◌≡◌, ◌<◌, ℕ, List, true, Some, None, Option}
+use Rattle.std.proofs.Common.{◌≡◌, ◌<◌, List, true, Some, None}
 use Rattle.std.specs.Prelude.{IfSome}
 use Rattle.tcc_txn.specs.Ahead.{fault_met, has_ended}
 use Rattle.tcc_txn.specs.Answers.{Answers}

@@ -1,4 +1,4 @@
-use Rattle.std.proofs.Common.{◌≡◌, Ok, Err, [], refl, sym, ap, subst, ◌∙◌, inl, inr, arith, length}
+use Rattle.std.proofs.Common.{Ok, Err, ap, subst, inr, arith}
 use Rattle.tcc_txn.specs.Answers.{answers_of, records_of}
 use Rattle.tcc_txn.specs.Recordings.{IsRecorded, TakesMoment}
 use Rattle.tcc_txn.proofs.RecordingSteps.{ends, fails, matched-err, none-taken, passes_seal, row-within}

@@ -1,10 +1,10 @@
-use Rattle.std.proofs.Common.{◌≡◌, ◌≤◌, ◌<◌, false, ℕ, nat_lt, length, sum_by, ap, sym, subst, ◌∙◌, inl, inr, arith, Ok, Err, Result, ◌⊎◌}
+use Rattle.std.proofs.Common.{◌≤◌, ◌<◌, length, sum_by, ap, sym, subst, ◌∙◌, inl, inr, arith}
 use Rattle.std.proofs.lemmas.Bool.Decides.{nat_tests}
 use Rattle.tcc_txn.specs.Finished.{KeepsLimits, with_transaction}
-use Rattle.tcc_txn.specs.SnapshotStorage.{IsStored, shown}
+use Rattle.tcc_txn.specs.SnapshotStorage.{IsStored}
 use Rattle.tcc_txn.specs.declared.limits.TheConstants.{MAX_TRANSACTIONS}
 use Rattle.tcc_txn.proofs.Growing.{err-then, if-err-then, ok-then}
-use Rattle.tcc_txn.proofs.GrownSnapshot.{crowded, full, shown-grown, shown-kept, stored-grown, stored-kept, stored-result}
+use Rattle.tcc_txn.proofs.GrownSnapshot.{crowded, full, shown-grown, shown-kept, stored-result}
 use Rattle.tcc_txn.proofs.snapshot.Snapshot.add.Goals as goal
 
 pub returns-then-has_too_many_transactions-clause-refused : goal.returns-then-has_too_many_transactions-clause-refused
