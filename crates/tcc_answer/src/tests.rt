@@ -12,7 +12,7 @@ use std::test::Fail;
 use tcc_cert::{Certificate, Links, Numbers, Table};
 use tcc_graph::{Graph, Link, Step, Walk};
 use tcc_reads::resolve;
-use tcc_txn::{Item, Name, Rows, Snapshot, Txn};
+use tcc_txn::{Name, snapshot_of};
 
 /// a/1 writes x, and a/2 reads its initial value.
 const STALE_READ: &str = "a,begin\na,w,x,1\na,commit\na,begin\na,r,x,0\na,commit\n";
@@ -33,35 +33,9 @@ const TURNED_TEXT: &str = "consistent: 3 transactions, 2 sessions\norder: init b
 const TURNED_JSON: &str = "{\"answer\":\"consistent\",\
     \"order\":[\"init\",\"b/1\",\"a/1\",\"a/2\"],\"sessions\":2,\"transactions\":3}\n";
 
-/// Adds a transaction to those of its session.
-fn add(alloc: Global, parts: &mut Vec<(Name, Vec<Txn>)>, session: Name, txn: Txn) -> Option<()> {
-    for part in parts.iter_mut() {
-        if part.0 == session {
-            return part.1.push(txn).ok();
-        }
-    }
-    let mut txns = Vec::new(alloc);
-    txns.push(txn).ok()?;
-    parts.push((session, txns)).ok()
-}
-
-/// The snapshot of these records.
-fn snapshot_of(alloc: Global, records: &[u8]) -> Option<Snapshot> {
-    let mut rows = Rows::new(alloc, records).ok()?;
-    let mut parts = Vec::new(alloc);
-    for _ in 0..u64::MAX {
-        match rows.next(alloc).ok()? {
-            Item::Finished(session, txn) => add(alloc, &mut parts, session, txn)?,
-            Item::Seal => return None,
-            Item::End => break,
-        }
-    }
-    Snapshot::new(parts).ok()
-}
-
 /// The names of the transactions of these records.
 fn labels(alloc: Global, records: &str) -> Option<Labels> {
-    let snapshot = snapshot_of(alloc, records.as_bytes())?;
+    let snapshot = snapshot_of(alloc, records.as_bytes()).ok()?;
     let resolved = resolve(alloc, &snapshot).ok()?;
     let graph = Graph::build(alloc, &resolved).ok()?;
     Labels::of(alloc, &graph).ok()

@@ -15,7 +15,7 @@ use Rattle.tcc_core.specs.Relaxing.{count_joined}
 use Rattle.tcc_core.specs.declared.settled.Settled.TheVariants as settled
 use Rattle.tcc_core.proofs.Lowering.{joined_set, joined_below}
 use Rattle.tcc_core.proofs.Ending.{still_outside}
-use Rattle.tcc_cycle.specs.Costs.{IsFarRow, AreRows, AreFarRows}
+use Rattle.tcc_cycle.specs.Costs.{IsFarRow, AreRows}
 use Rattle.tcc_cycle.specs.Returns.{HasEnded, IsFirstReturn, cost_in, IsSearched}
 use Rattle.tcc_cycle.specs.declared.returning.Returned.{Returned}
 use Rattle.tcc_cycle.proofs.RowLemmas.{far_row, far_lower, one_row_more, rows_weaker}

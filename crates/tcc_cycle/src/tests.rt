@@ -9,37 +9,11 @@ use tcc_derive::derive;
 use tcc_graph::{Graph, Link};
 use tcc_near::near;
 use tcc_reads::resolve;
-use tcc_txn::{Item, Name, Rows, Snapshot, Txn};
-
-/// Adds a transaction to those of its session.
-fn add(alloc: Global, parts: &mut Vec<(Name, Vec<Txn>)>, session: Name, txn: Txn) -> Option<()> {
-    for part in parts.iter_mut() {
-        if part.0 == session {
-            return part.1.push(txn).ok();
-        }
-    }
-    let mut txns = Vec::new(alloc);
-    txns.push(txn).ok()?;
-    parts.push((session, txns)).ok()
-}
-
-/// The snapshot of these records.
-fn snapshot_of(alloc: Global, records: &[u8]) -> Option<Snapshot> {
-    let mut rows = Rows::new(alloc, records).ok()?;
-    let mut parts = Vec::new(alloc);
-    for _ in 0..u64::MAX {
-        match rows.next(alloc).ok()? {
-            Item::Finished(session, txn) => add(alloc, &mut parts, session, txn)?,
-            Item::Seal => return None,
-            Item::End => break,
-        }
-    }
-    Snapshot::new(parts).ok()
-}
+use tcc_txn::snapshot_of;
 
 /// The graph of these records.
 fn graph(alloc: Global, records: &str) -> Option<Graph> {
-    let snapshot = snapshot_of(alloc, records.as_bytes())?;
+    let snapshot = snapshot_of(alloc, records.as_bytes()).ok()?;
     let resolved = resolve(alloc, &snapshot).ok()?;
     Graph::build(alloc, &resolved).ok()
 }

@@ -16,6 +16,7 @@ use Rattle.tcc_core.specs.Shares.{IsCappedDistance}
 use Rattle.tcc_cert.specs.Tables.{entry, HasSize, IsCapped}
 use Rattle.tcc_cert.specs.CycleRules.{IsStepBelow, IsLinkBelow, ends_at, IsLinkWrong, BreaksNearPair, BreaksNearStep, BreaksFarLink, BreaksFarStep, BreaksReturn}
 use Rattle.tcc_cert.specs.Rules.{HoldsEverywhere, CertifiesCycle}
+use Rattle.tcc_cert.proofs.Ends.{ends_at_some}
 use Rattle.tcc_explain.specs.Certificates.{IsCappedShortest, IsNearTable, IsFarTable}
 
 -- ---- numbers of the tables
@@ -64,14 +65,9 @@ lead_end : (h : History) (a b : ℕ) (links : List Link) → LinksLead h a b lin
 lead_end h a b [] lead = lead
 lead_end h a b (l ∷ links) lead = lead_end h (link_to l) b links lead.2
 
--- whatever is said of an empty list
-some_end : (a b : ℕ) (links : List Link) → 0 < length links → ends_at a links ≡ ends_at b links
-some_end a b [] some = absurd (omega arith)
-some_end a b (l ∷ links) some = refl
-
 cycle_right : (h : History) (s : ℕ) (links : List Link) → IsRoute h s s links → (i : ℕ) → IsLinkWrong h links i → ⊥
 cycle_right h s links route i wrong =
-    let start : ends_at 0 links ≡ s = some_end 0 s links route.0 ∙ lead_end h s s links route.1 in
+    let start : ends_at 0 links ≡ s = ends_at_some 0 s links route.0 ∙ lead_end h s s links route.1 in
     let lead : LinksLead h s s (wrong.before ++ wrong.link ∷ wrong.after) = subst (λ (ls : List Link). LinksLead h s s ls) wrong.split route.1 in
     let (m, front, rest) = lead_split h s s wrong.before (wrong.link ∷ wrong.after) lead in
     let here : ends_at (ends_at 0 links) wrong.before ≡ m = ap (λ (z : ℕ). ends_at z wrong.before) start ∙ lead_end h s m wrong.before front in

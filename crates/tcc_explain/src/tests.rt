@@ -8,7 +8,7 @@ use std::thread::Threads;
 use tcc_answer::Answer;
 use tcc_cert::write;
 use tcc_reads::ReadFaultKind;
-use tcc_txn::{Item, Name, Rows, Snapshot, Txn};
+use tcc_txn::snapshot_of;
 
 const FORK: &str = "a,begin\na,w,x,1\na,commit\nb,begin\nb,w,y,1\nb,commit\n\
     c,begin\nc,r,x,1\nc,r,y,0\nc,commit\nd,begin\nd,r,x,0\nd,r,y,1\nd,commit\n";
@@ -103,35 +103,9 @@ const CERTIFICATES: [(&str, &str); 9] = [
     ),
 ];
 
-/// Adds a transaction to those of its session.
-fn add(alloc: Global, parts: &mut Vec<(Name, Vec<Txn>)>, session: Name, txn: Txn) -> Option<()> {
-    for part in parts.iter_mut() {
-        if part.0 == session {
-            return part.1.push(txn).ok();
-        }
-    }
-    let mut txns = Vec::new(alloc);
-    txns.push(txn).ok()?;
-    parts.push((session, txns)).ok()
-}
-
-/// The snapshot of these records.
-fn snapshot_of(alloc: Global, records: &[u8]) -> Option<Snapshot> {
-    let mut rows = Rows::new(alloc, records).ok()?;
-    let mut parts = Vec::new(alloc);
-    for _ in 0..u64::MAX {
-        match rows.next(alloc).ok()? {
-            Item::Finished(session, txn) => add(alloc, &mut parts, session, txn)?,
-            Item::Seal => return None,
-            Item::End => break,
-        }
-    }
-    Snapshot::new(parts).ok()
-}
-
 /// The answer for these records.
 fn answer(rt: &(impl Threads + Sync), alloc: Global, records: &str) -> Option<Answer> {
-    let snapshot = snapshot_of(alloc, records.as_bytes())?;
+    let snapshot = snapshot_of(alloc, records.as_bytes()).ok()?;
     explain(rt, alloc, &snapshot).ok()
 }
 
@@ -174,10 +148,10 @@ fn certificates_of_answers(rt: HostRuntime) {
 
 /// All read faults, and no answer.
 #[test]
-fn read_faults(rt: HostRuntime) {
+fn read_faults(rt: HostRuntime) -> Result<(), Fail> {
     let alloc = rt.alloc();
     let records = "a,begin\na,w,x,1\na,abort\nb,begin\nb,r,x,1\nb,r,z,7\nb,commit\n";
-    let snapshot = snapshot_of(alloc, records.as_bytes()).expect(&rt, "a snapshot");
+    let snapshot = snapshot_of(alloc, records.as_bytes())?;
     match explain(&rt, alloc, &snapshot) {
         Err(ExplainFault::Reads(faults)) => {
             assert_eq!(&rt; faults.len(), 2);
@@ -186,6 +160,7 @@ fn read_faults(rt: HostRuntime) {
         }
         _ => panic!(&rt; "an answer"),
     }
+    Ok(())
 }
 
 #[test]
