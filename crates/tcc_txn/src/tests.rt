@@ -326,8 +326,10 @@ fn faults_show(rt: HostRuntime) -> Result<(), Fail> {
             "there are too many transactions",
         ),
         (SnapshotFault::NoMemory, "out of memory"),
-    ] {
-        assert_eq!(rt; format!(in alloc; "{fault}")?.as_str(), text);
+    ]
+    .iter()
+    {
+        assert_eq!(rt; format!(in alloc; "{fault}")?.as_str(), *text);
     }
     let kind = RowFaultKind::Unfinished { session };
     let fault = RowFault { row: 7, kind };
