@@ -259,15 +259,16 @@ fn records_to_a_snapshot(rt: HostRuntime) {
         ("seal\n", 0),
         ("b,begin\nb,commit\nseal\na,begin\na,abort\n", 2),
     ] {
-        let snapshot = snapshot_of(alloc, text.as_bytes());
-        assert!(rt;
-            snapshot.is_ok_and(|snapshot| snapshot.sessions() == sessions),
-            "{text}"
-        );
+        let Ok(snapshot) = snapshot_of(alloc, text.as_bytes()) else {
+            panic!(rt; "no snapshot: {text}");
+        };
+        assert_eq!(rt; snapshot.sessions(), sessions, "{text}");
     }
     for (text, row) in [("seal\na,commit\n", 2), ("a,begin\nseal\n", 2), ("x\n", 1)] {
-        let snapshot = snapshot_of(alloc, text.as_bytes());
-        assert!(rt; snapshot.is_err_and(|fault| fault.row == row), "{text}");
+        let Err(fault) = snapshot_of(alloc, text.as_bytes()) else {
+            panic!(rt; "no fault: {text}");
+        };
+        assert_eq!(rt; fault.row, row, "{text}");
     }
 }
 
@@ -276,16 +277,15 @@ fn a_fault_stays(rt: HostRuntime) -> Result<(), Fail> {
     let alloc = rt.alloc();
     let text = "a,begin\na,commit\nseal\na,commit\nb,begin\nb,commit\n";
     let mut recording = Recording::new(alloc, text.as_bytes())?;
-    assert!(rt;
-        recording
-            .advance(alloc)
-            .is_ok_and(|moment| moment == Moment::Seal)
-    );
+    let Ok(Moment::Seal) = recording.advance(alloc) else {
+        panic!(rt; "no seal");
+    };
     for _ in 0..2 {
-        assert!(rt;
-            recording.advance(alloc).is_err_and(|fault| fault.row == 4
-                && fault.kind == RowFaultKind::NotBegun)
-        );
+        let Err(fault) = recording.advance(alloc) else {
+            panic!(rt; "no fault");
+        };
+        assert_eq!(rt; fault.row, 4);
+        assert!(rt; matches!(fault.kind, RowFaultKind::NotBegun));
         assert_eq!(rt; recording.snapshot().sessions(), 1);
     }
     Ok(())
