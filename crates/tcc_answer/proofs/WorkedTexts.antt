@@ -1,10 +1,16 @@
 -- Worked texts agree with the definitions.
-use Rattle.std.proofs.Common.{◌≡◌, [], ◌∷◌, refl, codes, lit<}
+use Rattle.std.proofs.Common.{◌≡◌, [], ◌∷◌, ℕ, List, refl, codes, lit<}
 use Rattle.std.proofs.lemmas.Fmt.{decimal_digit}
 use Rattle.tcc_graph.specs.declared.step.Step.TheVariants as step
+use Rattle.tcc_graph.specs.declared.link.Link.{Link}
 use Rattle.tcc_graph.specs.declared.link.Link.TheVariants as link
+use Rattle.tcc_answer.specs.declared.answer.Answer.{Answer}
 use Rattle.tcc_answer.specs.declared.answer.Answer.TheVariants as answer
 use Rattle.tcc_answer.specs.Texts.{answer_text}
+
+-- the anomaly of these links, between transactions of these labels
+abbrev anomaly : List Link → List (List ℕ) → Answer
+anomaly cycle names = answer.Anomaly (record { links = cycle; near = []; far = []; labels = names })
 
 -- no transactions
 no_transactions : answer_text (answer.Commit (record { order = 0 ∷ []; clocks = []; sessions = 0; labels = codes "init" ∷ [] }))
@@ -12,42 +18,26 @@ no_transactions : answer_text (answer.Commit (record { order = 0 ∷ []; clocks 
 no_transactions = rw (decimal_digit 0 (lit< tt)) refl
 
 -- a read of 0 after an own write
-stale_read : answer_text (answer.Anomaly (record {
-  links = link.Session 0 1 ∷ link.Derived 1 0 (codes "x") 2 (step.Session 1 2 ∷ []) ∷ [];
-  near = [];
-  far = [];
-  labels = codes "init" ∷ codes "a/1" ∷ codes "a/2" ∷ [];
-}))
+stale_read : answer_text (anomaly (link.Session 0 1 ∷ link.Derived 1 0 (codes "x") 2 (step.Session 1 2 ∷ []) ∷ [])
+    (codes "init" ∷ codes "a/1" ∷ codes "a/2" ∷ []))
     ≡ codes "anomaly: 3 steps, stale-initial-read\nsession init -> a/1\nderived a/1 -> init by x, read by a/2\n  session a/1 -> a/2\n  against init -> a/2 by x\n"
 stale_read = rw (decimal_digit 3 (lit< tt)) refl
 
 -- two transactions that read from one another
-two_reads : answer_text (answer.Anomaly (record {
-  links = link.Reads 1 2 (codes "x") ∷ link.Reads 2 1 (codes "y") ∷ [];
-  near = [];
-  far = [];
-  labels = codes "init" ∷ codes "a/1" ∷ codes "b/1" ∷ [];
-}))
+two_reads : answer_text (anomaly (link.Reads 1 2 (codes "x") ∷ link.Reads 2 1 (codes "y") ∷ [])
+    (codes "init" ∷ codes "a/1" ∷ codes "b/1" ∷ []))
     ≡ codes "anomaly: 2 steps, cyclic-causality\nreads a/1 -> b/1 by x\nreads b/1 -> a/1 by y\n"
 two_reads = rw (decimal_digit 2 (lit< tt)) refl
 
 -- a read of a value that was known to be overwritten
-overwritten_read : answer_text (answer.Anomaly (record {
-  links = link.Session 1 2 ∷ link.Derived 2 1 (codes "x") 4 (step.Reads 2 3 (codes "x") ∷ step.Session 3 4 ∷ []) ∷ [];
-  near = [];
-  far = [];
-  labels = codes "init" ∷ codes "a/1" ∷ codes "a/2" ∷ codes "b/1" ∷ codes "b/2" ∷ [];
-}))
+overwritten_read : answer_text (anomaly (link.Session 1 2 ∷ link.Derived 2 1 (codes "x") 4 (step.Reads 2 3 (codes "x") ∷ step.Session 3 4 ∷ []) ∷ [])
+    (codes "init" ∷ codes "a/1" ∷ codes "a/2" ∷ codes "b/1" ∷ codes "b/2" ∷ []))
     ≡ codes "anomaly: 4 steps, overwritten-read\nsession a/1 -> a/2\nderived a/2 -> a/1 by x, read by b/2\n  reads a/2 -> b/1 by x\n  session b/1 -> b/2\n  against a/1 -> b/2 by x\n"
 overwritten_read = rw (decimal_digit 4 (lit< tt)) refl
 
 -- two writes, both read by one transaction: both reads are used twice, and counted twice
-two_writes : answer_text (answer.Anomaly (record {
-  links = link.Derived 1 2 (codes "x") 3 (step.Reads 1 3 (codes "x") ∷ []) ∷ link.Derived 2 1 (codes "x") 3 (step.Reads 2 3 (codes "x") ∷ []) ∷ [];
-  near = [];
-  far = [];
-  labels = codes "init" ∷ codes "a/1" ∷ codes "b/1" ∷ codes "c/1" ∷ [];
-}))
+two_writes : answer_text (anomaly (link.Derived 1 2 (codes "x") 3 (step.Reads 1 3 (codes "x") ∷ []) ∷ link.Derived 2 1 (codes "x") 3 (step.Reads 2 3 (codes "x") ∷ []) ∷ [])
+    (codes "init" ∷ codes "a/1" ∷ codes "b/1" ∷ codes "c/1" ∷ []))
     ≡ codes "anomaly: 4 steps, conflict-cycle\nderived a/1 -> b/1 by x, read by c/1\n  reads a/1 -> c/1 by x\n  against b/1 -> c/1 by x\nderived b/1 -> a/1 by x, read by c/1\n  reads b/1 -> c/1 by x\n  against a/1 -> c/1 by x\n"
 two_writes = rw (decimal_digit 4 (lit< tt)) refl
 

@@ -13,6 +13,13 @@ use Rattle.tcc_answer.specs.declared.answer.Answer.TheVariants as answer
 use Rattle.tcc_answer.specs.declared.shape.Shape.{Shape}
 use Rattle.tcc_answer.specs.declared.shape.Shape.TheVariants.{CyclicCausality, StaleInitialRead, OverwrittenRead, ConflictCycle}
 
+-- the word of a shape
+abbrev pub shape_word : Shape → List ℕ
+shape_word CyclicCausality = codes "cyclic-causality"
+shape_word StaleInitialRead = codes "stale-initial-read"
+shape_word OverwrittenRead = codes "overwritten-read"
+shape_word ConflictCycle = codes "conflict-cycle"
+
 -- each label after a space
 abbrev pub labels_text : List (List ℕ) → List ℕ → List ℕ
 labels_text labels numbers = flat_map (λ n. codes " " ++ label_at labels n) numbers
@@ -47,12 +54,6 @@ link_text labels (link.Derived b a key c walk) =
     ++ (pair_text labels b a ++ (codes " by " ++ (key ++ (codes ", read by " ++ (label_at labels c ++ (codes "\n"
     ++ (walk_text labels walk
     ++ (codes "  against " ++ (pair_text labels a c ++ (codes " by " ++ (key ++ codes "\n")))))))))))
-
-abbrev pub shape_word : Shape → List ℕ
-shape_word CyclicCausality = codes "cyclic-causality"
-shape_word StaleInitialRead = codes "stale-initial-read"
-shape_word OverwrittenRead = codes "overwritten-read"
-shape_word ConflictCycle = codes "conflict-cycle"
 
 -- how many steps the links have together, every use counted, the shape, and the links
 abbrev pub cycle_text : LabelledCycle → List ℕ

@@ -95,14 +95,30 @@ fn walk_json(alloc: Global, labels: &Labels, walk: &[Step]) -> Result<Value, All
     Ok(Value::Array(list))
 }
 
+fn link_json(alloc: Global, labels: &Labels, link: &Link) -> Result<Value, AllocError>
+    ensures { IfOk result (λ v. view v ≡ link_json labels.now link.now) }
+{
+    match link {
+        Link::Derived {
+            from,
+            to,
+            key,
+            reader: by,
+            walk,
+        } => derived_json(alloc, labels, *from, *to, key, walk.steps(), *by),
+        Link::Session { from, to } => session_json(alloc, labels, *from, *to),
+        Link::Reads { from, to, key } => reads_json(alloc, labels, *from, *to, key),
+    }
+}
+
 fn derived_json(
     alloc: Global,
     labels: &Labels,
     from: u32,
     to: u32,
     key: &Name,
-    reader: u32,
     walk: &[Step],
+    reader: u32,
 ) -> Result<Value, AllocError>
     ensures { IfOk result (λ v. view v ≡ link_json labels.now (link.Derived from to key.now reader walk.now)) }
 {
@@ -121,26 +137,12 @@ fn derived_json(
     })
 }
 
-fn link_json(alloc: Global, labels: &Labels, link: &Link) -> Result<Value, AllocError>
-    ensures { IfOk result (λ v. view v ≡ link_json labels.now link.now) }
-{
-    match link {
-        Link::Session { from, to } => session_json(alloc, labels, *from, *to),
-        Link::Reads { from, to, key } => reads_json(alloc, labels, *from, *to, key),
-        Link::Derived {
-            from,
-            to,
-            key,
-            reader,
-            walk,
-        } => derived_json(alloc, labels, *from, *to, key, *reader, walk.steps()),
-    }
-}
-
-fn links_json(alloc: Global, labels: &Labels, links: &[Link]) -> Result<Value, AllocError>
-    ensures { IfOk result (λ v. view v ≡ array (items_of (map (link_json labels.now) links.now))) }
+fn links_json(alloc: Global, anomaly: &Anomaly) -> Result<Value, AllocError>
+    ensures { IfOk result (λ v. view v ≡ array (items_of (map (link_json anomaly.now.labels) anomaly.now.links))) }
 {
     let mut list = Vec::new(alloc);
+    let labels = anomaly.labels();
+    let links = anomaly.links();
     for link in links {
         list.push(link_json(alloc, labels, link)?)?;
     }
@@ -150,7 +152,7 @@ fn links_json(alloc: Global, labels: &Labels, links: &[Link]) -> Result<Value, A
 fn anomaly_json(alloc: Global, anomaly: &Anomaly) -> Result<Value, AllocError>
     ensures { IfOk result (λ v. view v ≡ cycle_json anomaly.now) }
 {
-    let cycle = links_json(alloc, anomaly.labels(), anomaly.links())?;
+    let cycle = links_json(alloc, anomaly)?;
     let shape = shape_word(anomaly.shape());
     let steps = anomaly.cost();
     json!(in alloc; {

@@ -14,24 +14,24 @@ use tcc_graph::{Graph, Link, Step, Walk};
 use tcc_reads::resolve;
 use tcc_txn::{Name, snapshot_of};
 
-/// a/1 writes x, and a/2 reads its initial value.
-const STALE_READ: &str = "a,begin\na,w,x,1\na,commit\na,begin\na,r,x,0\na,commit\n";
-
-const STALE_READ_TEXT: &str = "anomaly: 3 steps, stale-initial-read\nsession init -> a/1\n\
-    derived a/1 -> init by x, read by a/2\n  session a/1 -> a/2\n  against init -> a/2 by x\n";
-
-const STALE_READ_JSON: &str =
-    "{\"answer\":\"anomaly\",\"cycle\":[{\"from\":\"init\",\"kind\":\"session\",\"to\":\"a/1\"},\
-    {\"from\":\"a/1\",\"key\":\"x\",\"kind\":\"derived\",\"reader\":\"a/2\",\"to\":\"init\",\
-    \"walk\":[{\"from\":\"a/1\",\"kind\":\"session\",\"to\":\"a/2\"}]}],\
-    \"shape\":\"stale-initial-read\",\"steps\":3}\n";
-
 const TURNED: &str = "a,begin\na,commit\na,begin\na,commit\nb,begin\nb,commit\n";
 
 const TURNED_TEXT: &str = "consistent: 3 transactions, 2 sessions\norder: init b/1 a/1 a/2\n";
 
 const TURNED_JSON: &str = "{\"answer\":\"consistent\",\
     \"order\":[\"init\",\"b/1\",\"a/1\",\"a/2\"],\"sessions\":2,\"transactions\":3}\n";
+
+const STALE_READ_TEXT: &str = "anomaly: 3 steps, stale-initial-read\nsession init -> a/1\n\
+    derived a/1 -> init by x, read by a/2\n  session a/1 -> a/2\n  against init -> a/2 by x\n";
+
+/// a/1 writes x, and a/2 reads its initial value.
+const STALE_READ: &str = "a,begin\na,w,x,1\na,commit\na,begin\na,r,x,0\na,commit\n";
+
+const STALE_READ_JSON: &str =
+    "{\"answer\":\"anomaly\",\"cycle\":[{\"from\":\"init\",\"kind\":\"session\",\"to\":\"a/1\"},\
+    {\"from\":\"a/1\",\"key\":\"x\",\"kind\":\"derived\",\"reader\":\"a/2\",\"to\":\"init\",\
+    \"walk\":[{\"from\":\"a/1\",\"kind\":\"session\",\"to\":\"a/2\"}]}],\
+    \"shape\":\"stale-initial-read\",\"steps\":3}\n";
 
 /// The names of the transactions of these records.
 fn labels(alloc: Global, records: &str) -> Option<Labels> {

@@ -4,7 +4,7 @@ ghost use Rattle.std.specs.Io.KnownBytes.{Appends};
 ghost use Rattle.tcc_graph.specs.declared.step.Step.TheVariants as step;
 ghost use Rattle.tcc_graph.specs.declared.link.Link.TheVariants as link;
 ghost use Rattle.tcc_answer.specs.declared.fault.WriteFault.TheVariants as fault;
-ghost use Rattle.tcc_answer.specs.Texts.{labels_text, order_text, step_text, walk_text, link_text, shape_word, cycle_text, answer_text};
+ghost use Rattle.tcc_answer.specs.Texts.{labels_text, order_text, pair_text, step_text, walk_text, link_text, shape_word, cycle_text, answer_text};
 
 use crate::labels::Labels;
 use crate::pieces::push;
@@ -48,20 +48,27 @@ fn commit_text(alloc: Global, commit: &Commit) -> Result<Vec<u8>, NoMemory>
     Ok(text)
 }
 
+/// Adds the word and `U -> V`.
+fn push_pair(
+    text: &mut Vec<u8>,
+    labels: &Labels,
+    word: &[u8],
+    from: u32,
+    to: u32,
+) -> Result<(), NoMemory>
+    ensures { OnOk result (text.new.items ≡ text.old.items ++ (word.now ++ pair_text labels.now from to)) }
+{
+    let from = labels.at(from).as_bytes();
+    let to = labels.at(to).as_bytes();
+    push(text, &[word, from, b" -> ", to])
+}
+
 /// Adds `session U -> V`.
 fn push_session(text: &mut Vec<u8>, labels: &Labels, from: u32, to: u32) -> Result<(), NoMemory>
     ensures { OnOk result (text.new.items ≡ text.old.items ++ step_text labels.now (step.Session from to)) }
 {
-    push(
-        text,
-        &[
-            b"session ",
-            labels.at(from).as_bytes(),
-            b" -> ",
-            labels.at(to).as_bytes(),
-            b"\n",
-        ],
-    )
+    push_pair(text, labels, b"session ", from, to)?;
+    push(text, &[b"\n"])
 }
 
 /// Adds `reads U -> V by KEY`.
@@ -74,18 +81,8 @@ fn push_reads(
 ) -> Result<(), NoMemory>
     ensures { OnOk result (text.new.items ≡ text.old.items ++ step_text labels.now (step.Reads from to key.now)) }
 {
-    push(
-        text,
-        &[
-            b"reads ",
-            labels.at(from).as_bytes(),
-            b" -> ",
-            labels.at(to).as_bytes(),
-            b" by ",
-            key.bytes(),
-            b"\n",
-        ],
-    )
+    push_pair(text, labels, b"reads ", from, to)?;
+    push(text, &[b" by ", key.bytes(), b"\n"])
 }
 
 fn push_step(text: &mut Vec<u8>, labels: &Labels, step: &Step) -> Result<(), NoMemory>
@@ -108,6 +105,22 @@ fn push_walk(text: &mut Vec<u8>, labels: &Labels, walk: &[Step]) -> Result<(), N
     Ok(())
 }
 
+fn push_link(text: &mut Vec<u8>, labels: &Labels, link: &Link) -> Result<(), NoMemory>
+    ensures { OnOk result (text.new.items ≡ text.old.items ++ link_text labels.now link.now) }
+{
+    match link {
+        Link::Derived {
+            from: b,
+            to: a,
+            key: x,
+            reader: c,
+            walk,
+        } => push_derived(text, labels, *b, *a, x, *c, walk.steps()),
+        Link::Session { from, to } => push_session(text, labels, *from, *to),
+        Link::Reads { from, to, key } => push_reads(text, labels, *from, *to, key),
+    }
+}
+
 /// Adds `derived B -> A by KEY, read by C`, the walk from B to C, and `against A -> C by KEY`.
 fn push_derived(
     text: &mut Vec<u8>,
@@ -120,52 +133,12 @@ fn push_derived(
 ) -> Result<(), NoMemory>
     ensures { OnOk result (text.new.items ≡ text.old.items ++ link_text labels.now (link.Derived from to key.now reader walk.now)) }
 {
-    let from = labels.at(from).as_bytes();
-    let to = labels.at(to).as_bytes();
-    let reader = labels.at(reader).as_bytes();
-    push(
-        text,
-        &[
-            b"derived ",
-            from,
-            b" -> ",
-            to,
-            b" by ",
-            key.bytes(),
-            b", read by ",
-            reader,
-            b"\n",
-        ],
-    )?;
+    push_pair(text, labels, b"derived ", from, to)?;
+    let by = labels.at(reader).as_bytes();
+    push(text, &[b" by ", key.bytes(), b", read by ", by, b"\n"])?;
     push_walk(text, labels, walk)?;
-    push(
-        text,
-        &[
-            b"  against ",
-            to,
-            b" -> ",
-            reader,
-            b" by ",
-            key.bytes(),
-            b"\n",
-        ],
-    )
-}
-
-fn push_link(text: &mut Vec<u8>, labels: &Labels, link: &Link) -> Result<(), NoMemory>
-    ensures { OnOk result (text.new.items ≡ text.old.items ++ link_text labels.now link.now) }
-{
-    match link {
-        Link::Session { from, to } => push_session(text, labels, *from, *to),
-        Link::Reads { from, to, key } => push_reads(text, labels, *from, *to, key),
-        Link::Derived {
-            from,
-            to,
-            key,
-            reader,
-            walk,
-        } => push_derived(text, labels, *from, *to, key, *reader, walk.steps()),
-    }
+    push_pair(text, labels, b"  against ", to, reader)?;
+    push(text, &[b" by ", key.bytes(), b"\n"])
 }
 
 /// Adds the links.
