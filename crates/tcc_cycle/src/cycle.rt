@@ -1,8 +1,8 @@
 //! The first of the least cycles.
-ghost use Rattle.std.specs.Prelude.{◌≡◌, IfOk, MatchOption};
 ghost use Rattle.tcc_graph.specs.Links.{cost};
 ghost use Rattle.tcc_graph.specs.Routes.{HasCycle};
 ghost use Rattle.tcc_graph.specs.Ties.{IsFirstCycle};
+ghost use Rattle.std.specs.Prelude.{◌≡◌, IfOk, MatchOption};
 ghost use Rattle.tcc_near.specs.Distances.{IsNearOf};
 ghost use Rattle.tcc_derive.specs.Prices.{IsPricesOf};
 ghost use Rattle.tcc_cycle.specs.Costs.{AreFarRows};

@@ -65,13 +65,13 @@ fn last_start(search: &Search, prices: &Prices, to: u32, left: u32) -> Option<(u
 fn first_link(
     alloc: Global,
     graph: &Graph,
-    near: &Near,
     from: u32,
     to: u32,
+    near: &Near,
 ) -> Result<Option<Link>, NoMemory>
-    requires near { IsNearOf graph.now near.now }
     requires from { from < count graph.now }
     requires to { to < count graph.now }
+    requires near { IsNearOf graph.now near.now }
     ensures { IfOk result (λ found. MatchOption found ((l : Link) → IsLinkOf graph.now from to l → ⊥) (IsFirstLink graph.now from to)) }
 {
     if graph.session(from, to) {
@@ -91,9 +91,9 @@ pub(crate) fn pick(
     prices: &Prices,
     returned: &Returned,
 ) -> Result<Vec<Link>, NoMemory>
+    requires returned { IsFirstReturn graph.now (count graph.now) returned.now }
     requires near { IsNearOf graph.now near.now }
     requires prices { IsPricesOf graph.now prices.now }
-    requires returned { IsFirstReturn graph.now (count graph.now) returned.now }
     ensures first { IfOk result (λ links. IsFirstCycle graph.now returned.now.search.start links.items) }
     ensures cost { IfOk result (λ links. cost links.items ≡ returned.now.cost) }
 {
@@ -105,7 +105,7 @@ pub(crate) fn pick(
         let Some((from, spent)) = last_start(search, prices, end, left) else {
             unreachable!()
         };
-        let Some(link) = first_link(alloc, graph, near, from, end)? else {
+        let Some(link) = first_link(alloc, graph, from, end, near)? else {
             unreachable!()
         };
         picked.push(link)?;

@@ -4,10 +4,10 @@ ghost use Rattle.std.specs.Prelude.{◌≡◌, ◌≤◌, ℕ, None, length, map
 ghost use Rattle.tcc_txn.specs.declared.limits.TheConstants.{MAX_COUNT};
 ghost use Rattle.tcc_reads.specs.History.{History};
 ghost use Rattle.tcc_graph.specs.Routes.{HasCycle};
+ghost use Rattle.tcc_cycle.specs.Returns.{HasEnded, IsSearched, cost_in};
 ghost use Rattle.tcc_derive.specs.Prices.{IsPricesOf};
 ghost use Rattle.tcc_core.specs.Rows.{in_row};
 ghost use Rattle.tcc_core.specs.Searches.{IsSearchOf};
-ghost use Rattle.tcc_cycle.specs.Returns.{HasEnded, IsSearched, cost_in};
 
 use std::alloc::Global;
 use tcc_core::{Search, Settled};

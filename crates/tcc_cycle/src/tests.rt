@@ -42,6 +42,8 @@ fn measured(cycle: Option<Cycle>) -> Option<(u32, u32, usize)> {
 // Two writes read by one; two that read one another, where a dearer cycle starts at a lower number; and a fork.
 #[test]
 fn first_cycles(rt: HostRuntime) {
+    picked();
+    parts();
     let alloc = rt.alloc();
     let table = [
         (
@@ -64,8 +66,6 @@ fn first_cycles(rt: HostRuntime) {
             "for {records}"
         );
     }
-    picked();
-    parts();
 }
 
 // a/1 writes x, and a/2 reads its initial value: back from a/1 to `init` by two steps, and nothing leads on from a/2.
