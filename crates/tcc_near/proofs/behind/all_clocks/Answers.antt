@@ -19,9 +19,8 @@ collect-requires-clause-ready g c κs within =
 pub returns : goal.returns
 returns g c =
     let h = c.args.graph.now in
-    let n = count h in
     let gave = c.in_ok-collect.ensures in
     let chain = rw (c.with_min_len.ensures.base, c.map.ensures.base, c.map.ensures.f) at gave.1 in
-    let numbers = chain.1 ∙ numbers_below _ _ n c.into_par_iter.ensures.0 (c.into_par_iter.ensures.1 ∙ c.count.ensures.value) in
+    let numbers = chain.1 ∙ numbers_below _ _ (count h) c.into_par_iter.ensures.0 (c.into_par_iter.ensures.1 ∙ c.count.ensures.value) in
     matched c.in_ok-collect.field-0 _ _ _ gave.2 (λ v made.
-    clocks_from_rows h v.items (each_given AllocError (IsClock h) n chain.0 gave.0 v.items numbers chain.2 made))
+    clocks_from_rows h v.items (each_given AllocError (IsClock h) (count h) chain.0 gave.0 v.items numbers chain.2 made))
