@@ -6,15 +6,19 @@ use tcc_derive::{Prices, derive};
 use tcc_graph::Graph;
 use tcc_near::near;
 use tcc_reads::resolve;
-use tcc_txn::snapshot_of;
+use tcc_txn::{NoMemory, snapshot_of};
 
-/// The prices of the history of these records; none where memory is wanting.
-fn prices_of(rt: &(impl Threads + Sync), alloc: Global, records: &str) -> Option<Prices> {
+/// The graph of these records.
+fn graph_of(alloc: Global, records: &str) -> Option<Graph> {
     let snapshot = snapshot_of(alloc, records.as_bytes()).ok()?;
     let resolved = resolve(alloc, &snapshot).ok()?;
-    let graph = Graph::build(alloc, &resolved).ok()?;
-    let near = near(rt, alloc, &graph).ok()?;
-    derive(rt, alloc, &graph, &near).ok()
+    Graph::build(alloc, &resolved).ok()
+}
+
+/// The prices of a graph.
+fn prices_of(rt: &(impl Threads + Sync), alloc: Global, graph: &Graph) -> Result<Prices, NoMemory> {
+    let near = near(rt, alloc, graph)?;
+    derive(rt, alloc, graph, &near)
 }
 
 /// Nothing stands before `init`, a source stands before its reader, a writer that reaches a reader of another's value
@@ -62,8 +66,11 @@ fn first_orders(rt: HostRuntime) {
         ),
     ];
     for (records, wanted) in cases {
-        let Some(prices) = prices_of(&rt, alloc, records) else {
-            panic!(rt; "no prices of {records}");
+        let Some(graph) = graph_of(alloc, records) else {
+            panic!(rt; "no graph of {records}");
+        };
+        let Ok(prices) = prices_of(&rt, alloc, &graph) else {
+            panic!(rt; "no memory");
         };
         let Ok(found) = order(alloc, &prices) else {
             panic!(rt; "no memory");
