@@ -98,8 +98,8 @@ long_chain = record {
 long_chain-count : count long_chain ≡ 5
 long_chain-count = refl
 
-long_chain-keys : keys long_chain ≡ x ∷ y ∷ []
-long_chain-keys = refl
+long_chain-keys : (keys long_chain ≡ x ∷ y ∷ []) × (writers long_chain x ≡ 0 ∷ 1 ∷ []) × (writers long_chain y ≡ 0 ∷ 2 ∷ [])
+long_chain-keys = (refl, refl, refl)
 
 -- by session order, by a read, and by neither
 long_chain-causal : (causal_pair long_chain 3 4 ≡ true) × (causal_pair long_chain 1 2 ≡ true) × (causal_pair long_chain 1 4 ≡ false)
@@ -107,9 +107,6 @@ long_chain-causal = (refl, refl, refl)
 
 long_chain-reads : (reads_from long_chain 1 2 ≡ x ∷ []) × (reads_from long_chain 2 3 ≡ y ∷ []) × (reads_from long_chain 0 4 ≡ x ∷ [])
 long_chain-reads = (refl, refl, refl)
-
-long_chain-writers : (writers long_chain x ≡ 0 ∷ 1 ∷ []) × (writers long_chain y ≡ 0 ∷ 2 ∷ [])
-long_chain-writers = (refl, refl)
 
 long_chain-readers : (readers long_chain 0 x ≡ 4 ∷ []) × (readers long_chain 1 x ≡ 2 ∷ []) × (readers long_chain 2 y ≡ 3 ∷ [])
 long_chain-readers = (refl, refl, refl)

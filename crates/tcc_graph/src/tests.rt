@@ -70,7 +70,8 @@ fn exact_graph_or_want_of_memory(rt: HostRuntime) {
 #[test]
 fn label_with_an_aborted_transaction(rt: HostRuntime) -> Result<(), Fail> {
     let alloc = rt.alloc();
-    let records = "a,begin\nB.1-b,begin\nB.1-b,w,z,9\nB.1-b,abort\nB.1-b,begin\nB.1-b,w,x,1\nB.1-b,commit\na,r,x,1\na,commit\n";
+    let records =
+        "a,begin\nB.1-b,begin\nB.1-b,w,z,9\nB.1-b,abort\nB.1-b,begin\nB.1-b,w,x,1\nB.1-b,commit\na,r,x,1\na,commit\n";
     let graph = graph_of(&rt, alloc, records);
     assert_labels(&rt, alloc, &graph, &["init", "B.1-b/2", "a/1"]);
     assert_eq!(rt; graph.at(1), Some((0, 2)));
@@ -105,42 +106,45 @@ fn pairs(rt: HostRuntime) -> Result<(), Fail> {
     Ok(())
 }
 
-/// a/1 and b/1 write x, and c/1 reads both values.
-#[test]
-fn readers_of_two_values(rt: HostRuntime) -> Result<(), Fail> {
-    let alloc = rt.alloc();
-    let graph = graph_of(
-        &rt,
-        alloc,
-        "a,begin\na,w,x,1\na,commit\nb,begin\nb,w,x,2\nb,commit\nc,begin\nc,r,x,1\nc,r,x,2\nc,commit\n",
-    );
-    assert!(rt; graph.count() == 4);
-    let x = name(&rt, "x");
-    assert!(rt; graph.readers(1, &x) == [3].as_slice());
-    assert!(rt; graph.readers(2, &x) == [3].as_slice());
-    assert!(rt; graph.readers(0, &x).is_empty());
-    assert!(rt; graph.writers(&x) == [0, 1, 2].as_slice());
-    assert!(rt; graph.writers(&name(&rt, "y")).is_empty());
-    Ok(())
-}
-
-/// A reader that writes the key too stands among its readers, and keys stand in byte order.
+/// Of two histories, the keys, the readers of a key from a writer, and the writers of a key. In the first, a/1 and b/1
+/// write x, and c/1 reads both values; in the second, a reader that writes the key too stands among its readers, and
+/// keys stand in byte order.
 #[test]
 fn keys_writers_and_readers(rt: HostRuntime) -> Result<(), Fail> {
     let alloc = rt.alloc();
-    let graph = graph_of(
-        &rt,
-        alloc,
-        "a,begin\na,r,x,0\na,r,Y,1\na,w,x,1\na,commit\nb,begin\nb,r,x,1\nb,w,Y,1\nb,commit\n",
-    );
-    assert!(rt; graph.count() == 3);
-    let (x, y) = (name(&rt, "x"), name(&rt, "Y"));
-    assert!(rt; graph.keys() == [y, x].as_slice());
-    assert!(rt; graph.readers(0, &x) == [1].as_slice());
-    assert!(rt; graph.readers(1, &x) == [2].as_slice());
-    assert!(rt; graph.readers(2, &y) == [1].as_slice());
-    assert!(rt; graph.writers(&x) == [0, 1].as_slice());
-    assert!(rt; graph.writers(&y) == [0, 2].as_slice());
+    let cases: [(&str, &[&str], &[(u32, &str, &[u32])], &[(&str, &[u32])]); 2] = [
+        (
+            "a,begin\na,w,x,1\na,commit\nb,begin\nb,w,x,2\nb,commit\nc,begin\nc,r,x,1\nc,r,x,2\nc,commit\n",
+            &["x"],
+            &[(0, "x", &[]), (1, "x", &[3]), (2, "x", &[3])],
+            &[("x", &[0, 1, 2]), ("y", &[])],
+        ),
+        (
+            "a,begin\na,r,x,0\na,r,Y,1\na,w,x,1\na,commit\nb,begin\nb,r,x,1\nb,w,Y,1\nb,commit\n",
+            &["Y", "x"],
+            &[(0, "x", &[1]), (1, "x", &[2]), (2, "Y", &[1])],
+            &[("x", &[0, 1]), ("Y", &[0, 2])],
+        ),
+    ];
+    for (records, keys, readers, writers) in cases {
+        let graph = graph_of(&rt, alloc, records);
+        assert_eq!(rt; graph.keys().len(), keys.len());
+        for (place, key) in keys.iter().enumerate() {
+            assert!(rt; graph.keys()[place] == name(&rt, key));
+        }
+        for (from, key, wanted) in readers {
+            assert!(rt;
+                graph.readers(*from, &name(&rt, key)) == *wanted,
+                "of {key} from {from} in {records}"
+            );
+        }
+        for (key, wanted) in writers {
+            assert!(rt;
+                graph.writers(&name(&rt, key)) == *wanted,
+                "of {key} in {records}"
+            );
+        }
+    }
     Ok(())
 }
 
@@ -150,7 +154,11 @@ fn walks_keep_their_steps(rt: HostRuntime) -> Result<(), Fail> {
     let key = name(&rt, "x");
     let walk = Walk::new(vec![in alloc;
         Step::Session { from: 1, to: 2 },
-        Step::Reads { from: 2, to: 3, key },
+        Step::Reads {
+            from: 2,
+            to: 3,
+            key
+        },
     ]?);
     let Ok(copy) = walk.copy(alloc) else {
         panic!(rt; "out of memory")

@@ -1,11 +1,18 @@
 -- Rows worked out one by one.
-use Rattle.std.proofs.Common.{◌≡◌, ◌<◌, ℕ, zero, suc, List, [], ◌∷◌, length, map, get_or, sym, ◌∙◌, ap, arith, subst, zero-add}
+use Rattle.std.proofs.Common.{◌≡◌, ◌<◌, ◌-◌, ℕ, zero, suc, List, [], ◌∷◌, length, map, get_or, sym, ◌∙◌, ap, arith, subst, zero-add}
 use Rattle.std.specs.Prelude.{Ok, IfOk}
 use Rattle.std.specs.declared.result.Result.{Result}
 use Rattle.std.specs.List.{AllZip, range_with_len}
+use Rattle.rayon.specs.Numbers.{nat_range}
 use Rattle.std.proofs.lemmas.List.{length-map}
 use Rattle.std.proofs.lemmas.List.FromFn.{get_or-range_with_len, length-range_with_len}
 use Rattle.std.proofs.lemmas.Slice.Zip.{AllZip-long}
+
+-- the numbers from zero to some end that is n
+pub numbers_below : (start end n : ℕ) → start ≡ 0 → end ≡ n → nat_range start end ≡ range_with_len 0 n
+numbers_below start end n from to =
+    let whole : n - 0 ≡ n = omega arith in
+    (λ i. nat_range (from i) (to i)) ∙ ap (range_with_len 0) whole
 
 module _ {V : Type 0} (E : Type 0) (P : ℕ → V → Type 0) where
   abbrev values : List V → List (Result V E)

@@ -1,8 +1,11 @@
 -- How many transactions a snapshot has, and which sessions they are of.
 use Rattle.std.proofs.Common.{◌≡◌, ℕ, zero, suc, ◌+◌, ◌<◌, ◌≤◌, List, [], ◌∷◌, length, drop, All, sum_by, Option, None, Some, IsSome, refl, ap, sym, ◌∙◌, arith, length-append, is_some, option_map, slice_get}
+use Rattle.std.proofs.Math.ListN.{drop_of_length-le}
 use Rattle.std.proofs.lemmas.List.Sums.{sum_by-cons}
 use Rattle.std.proofs.lemmas.List.Elements.{All-nil, All-cons, All-append}
 use Rattle.std.proofs.lemmas.Option.{slice_get-get_or}
+use Rattle.std.specs.FinMap as finite
+use Rattle.tcc_txn.specs.Snapshots.{Sessions}
 use Rattle.tcc_txn.specs.Transactions.{Transaction}
 use Rattle.tcc_reads.specs.Sites.{Stand, stands_in, stands_from}
 use Rattle.tcc_reads.specs.Numbers.{next_number, numbered_from}
@@ -12,6 +15,12 @@ pub drop_found : {A : Type 0} (xs : List A) (i : ℕ) (x : A) → slice_get xs i
 drop_found [] i x found = cc
 drop_found (y ∷ ys) zero x found = let same : y ≡ x = cc in ap (λ z. z ∷ ys) same
 drop_found (y ∷ ys) (suc i) x found = let next : suc i + 1 ≡ suc (i + 1) = omega arith in rw next (drop_found ys i x found)
+
+-- past the last session no session is left
+pub none_past : (s : Sessions) (i : ℕ) → finite.len s ≤ i → drop i (finite.entries s) ≡ []
+none_past s i past =
+    let beyond : length (finite.entries s) ≤ i = omega (arith, finite.len-entries s, past) in
+    drop_of_length-le (finite.entries s) beyond
 
 is_some-map : {A B : Type 0} (f : A → B) (o : Option A) → is_some (option_map f o) ≡ is_some o
 is_some-map f None = refl

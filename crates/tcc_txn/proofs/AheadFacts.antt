@@ -95,14 +95,7 @@ pub all-left : {R : Type 0} (remaining : R → Option (List ℕ)) (reader : R) (
     → IfSome (remaining reader) (λ text. HasLeft remaining records (records_of text)) → records.count ≡ 0 → records.course ≡ course.Going
     → IfSome (remaining reader) (λ text. StandsIn remaining records (records_of text))
 all-left remaining reader records has none going =
-    if-some (remaining reader) (λ text left. record {
-      first = [];
-      left = records_of text;
-      whole = refl;
-      counted = none;
-      rest = left;
-      going = going;
-    }) has
+    if-some (remaining reader) (λ text left. record { first = []; left = records_of text; whole = refl; counted = none; rest = left; going = going }) has
 
 -- what comes of one more record, by what is judged of it
 lawful : (past : List Line) (fields : Record) (rest : List Record) (last : Line) → judged past fields ≡ Ok last

@@ -26,33 +26,20 @@ nothing : answers_of [] ≡ whole []
 unfolding next_record records_from strip_bom marked whole
 nothing = refl
 
--- the input ends inside a transaction
-open_at_end : answers_of (codes "a,begin\na,r,x,0\n") ≡ faulty [] 2 (kind.Unfinished (codes "a"))
+-- in turn: the input ends inside a transaction; the least of two open sessions; 0 is written in the second record; the
+-- same record alone is no operation outside a transaction, since the lower kind comes first; a read outside; a second
+-- begin; a value of more than 64 bits, and one with a leading zero
+faults_alone :
+    (answers_of (codes "a,begin\na,r,x,0\n") ≡ faulty [] 2 (kind.Unfinished (codes "a")))
+    × (answers_of (codes "b,begin\na.,begin\na-,begin") ≡ faulty [] 3 (kind.Unfinished (codes "a-")))
+    × (answers_of (codes "a,begin\na,w,x,0\n") ≡ faulty [] 2 kind.WriteOfZero)
+    × (answers_of (codes "a,w,x,0\n") ≡ faulty [] 1 kind.WriteOfZero)
+    × (answers_of (codes "a,r,x,0\n") ≡ faulty [] 1 kind.NotBegun)
+    × (answers_of (codes "a,begin\na,begin\n") ≡ faulty [] 2 kind.AlreadyBegun)
+    × (answers_of (codes "a,begin\na,w,x,18446744073709551616\n") ≡ faulty [] 2 kind.BadValue)
+    × (answers_of (codes "a,begin\na,r,x,01\n") ≡ faulty [] 2 kind.BadValue)
 unfolding next_record records_from strip_bom marked faulty
-open_at_end = refl
-
--- the least of two open sessions
-least_open : answers_of (codes "b,begin\na.,begin\na-,begin") ≡ faulty [] 3 (kind.Unfinished (codes "a-"))
-unfolding next_record records_from strip_bom marked faulty
-least_open = refl
-
--- 0 is written in the second record
-zero_written : answers_of (codes "a,begin\na,w,x,0\n") ≡ faulty [] 2 kind.WriteOfZero
-unfolding next_record records_from strip_bom marked faulty
-zero_written = refl
-
--- the same record alone is no operation outside a transaction, since the lower kind comes first
-zero_written_outside : answers_of (codes "a,w,x,0\n") ≡ faulty [] 1 kind.WriteOfZero
-unfolding next_record records_from strip_bom marked faulty
-zero_written_outside = refl
-
-outside : answers_of (codes "a,r,x,0\n") ≡ faulty [] 1 kind.NotBegun
-unfolding next_record records_from strip_bom marked faulty
-outside = refl
-
-begun_twice : answers_of (codes "a,begin\na,begin\n") ≡ faulty [] 2 kind.AlreadyBegun
-unfolding next_record records_from strip_bom marked faulty
-begun_twice = refl
+faults_alone = (refl, refl, refl, refl, refl, refl, refl, refl)
 
 -- a seal inside a transaction, which is finished after it
 sealed_inside : answers_of (codes "a,begin\na,w,x,7\nseal\na,commit\n")
@@ -67,15 +54,6 @@ interleaved : answers_of (codes "a,begin\nb,begin\na,r,x,0\nb,w,x,1\nb,abort\na,
 unfolding next_record records_from strip_bom marked faulty
 interleaved = refl
 
--- a value of more than 64 bits, and one with a leading zero
-too_great : answers_of (codes "a,begin\na,w,x,18446744073709551616\n") ≡ faulty [] 2 kind.BadValue
-unfolding next_record records_from strip_bom marked faulty
-too_great = refl
-
-zero_led : answers_of (codes "a,begin\na,r,x,01\n") ≡ faulty [] 2 kind.BadValue
-unfolding next_record records_from strip_bom marked faulty
-zero_led = refl
-
 -- quotes, blank lines, carriage returns and a byte order mark are the records' business
 quoted : answers_of (239 ∷ 187 ∷ 191 ∷ codes "\"a\",begin\r\n\r\n\na,\"commit\"")
     ≡ whole (item.Finished (codes "a") (record { ops = []; committed = true }) ∷ [])
@@ -86,54 +64,39 @@ quoted = refl
 under : ℕ → List ℕ → Answers
 under limit text = answers_after [] (records default_config (strip_bom (marked limit text)))
 
--- a record that ends within the limit is given, and the next one is the reader's fault
-past_the_limit : under 5 (codes "seal\nseal\n") ≡ faulty (item.Seal ∷ []) 2 kind.Read
+-- a record that ends within the limit is given, and the next one is the reader's fault, also where only blank lines
+-- follow, and where a record that the limit cuts would be lawful
+past_the_limit :
+    (under 5 (codes "seal\nseal\n") ≡ faulty (item.Seal ∷ []) 2 kind.Read)
+    × (under 5 (codes "seal\n\n") ≡ faulty (item.Seal ∷ []) 2 kind.Read)
+    × (under 9 (codes "seal\nseal\n") ≡ faulty (item.Seal ∷ []) 2 kind.Read)
 unfolding next_record records_from strip_bom marked faulty under
-past_the_limit = refl
-
--- also where only blank lines follow
-blank_past_the_limit : under 5 (codes "seal\n\n") ≡ faulty (item.Seal ∷ []) 2 kind.Read
-unfolding next_record records_from strip_bom marked faulty under
-blank_past_the_limit = refl
-
--- and where a record that the limit cuts would be lawful
-cut_by_the_limit : under 9 (codes "seal\nseal\n") ≡ faulty (item.Seal ∷ []) 2 kind.Read
-unfolding next_record records_from strip_bom marked faulty under
-cut_by_the_limit = refl
+past_the_limit = (refl, refl, refl)
 
 within_the_limit : under 10 (codes "seal\nseal\n") ≡ whole (item.Seal ∷ item.Seal ∷ [])
 unfolding next_record records_from strip_bom marked whole under
 within_the_limit = refl
 
 -- the seal after 256 others
-seal_257 : fault_of (replicate 256 line.Seal) line.Seal ≡ Some kind.TooManySeals
-seal_257 = refl
-
-seal_256 : fault_of (replicate 255 line.Seal) line.Seal ≡ None
-seal_256 = refl
+seals : (fault_of (replicate 256 line.Seal) line.Seal ≡ Some kind.TooManySeals) × (fault_of (replicate 255 line.Seal) line.Seal ≡ None)
+seals = (refl, refl)
 
 -- so many transactions of one session, all aborted
 aborted : ℕ → List Line
 aborted zero = []
 aborted (suc n) = line.Finish (codes "a") false ∷ line.Begin (codes "a") ∷ aborted n
 
-transaction_1024 : fault_of (aborted 1023) (line.Begin (codes "a")) ≡ Some kind.TooManyTransactions
+transactions : (fault_of (aborted 1023) (line.Begin (codes "a")) ≡ Some kind.TooManyTransactions)
+    × (fault_of (aborted 1022) (line.Begin (codes "a")) ≡ None)
 unfolding aborted
-transaction_1024 = refl
-
-transaction_1023 : fault_of (aborted 1022) (line.Begin (codes "a")) ≡ None
-unfolding aborted
-transaction_1023 = refl
+transactions = (refl, refl)
 
 -- so many operations of one transaction
 operations : ℕ → List Line
 operations zero = line.Begin (codes "a") ∷ []
 operations (suc n) = line.Operation (codes "a") (Get (codes "x") 0) ∷ operations n
 
-operation_257 : fault_of (operations 256) (line.Operation (codes "a") (Get (codes "x") 0)) ≡ Some kind.TooManyOps
+operation_counts : (fault_of (operations 256) (line.Operation (codes "a") (Get (codes "x") 0)) ≡ Some kind.TooManyOps)
+    × (fault_of (operations 255) (line.Operation (codes "a") (Get (codes "x") 0)) ≡ None)
 unfolding operations
-operation_257 = refl
-
-operation_256 : fault_of (operations 255) (line.Operation (codes "a") (Get (codes "x") 0)) ≡ None
-unfolding operations
-operation_256 = refl
+operation_counts = (refl, refl)

@@ -9,11 +9,11 @@ pub loop-reader-preserved : goal.loop-reader-preserved
 loop-reader-preserved c =
     let readers = c.args.readers.now in
     let steps = c.args.steps.now in
+    let range = λ (d : ℕ). let f = c.type_inv.steps d in let bound : get_or steps d 0 ≤ NONE = omega (arith, f) in bound in
     let i = c.loop-reader.reader-index in
     let r = get_or readers i 0 in
     let within : i < length readers = c.loop-reader-test.true in
     let is : r ≡ get_or readers i r = get_or_default readers i 0 r within in
-    let range = λ (d : ℕ). let f = c.type_inv.steps d in let bound : get_or steps d 0 ≤ NONE = omega (arith, f) in bound in
     elim c.if-count-least.branch [
       | then-count-least w ↦ rw (w.least-is, w.best-is) (nearer readers steps i r c.requires.order within is range c.loop-reader.least c.loop-reader.best c.loop-reader.invariant w.if-count-least.true)
       | else-count-least w ↦ rw (w.least-is, w.best-is) (no_nearer readers steps i r c.requires.order within is range c.loop-reader.least c.loop-reader.best c.loop-reader.invariant w.if-count-least.false)

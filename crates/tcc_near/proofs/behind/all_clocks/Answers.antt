@@ -1,13 +1,11 @@
-use Rattle.std.proofs.Common.{◌≡◌, ◌<◌, ◌-◌, ◌∙◌, ap, arith}
-use Rattle.std.specs.List.{range_with_len}
+use Rattle.std.proofs.Common.{◌<◌, ◌∙◌}
 use Rattle.std.specs.declared.alloc.AllocError.{AllocError}
-use Rattle.rayon.specs.Numbers.{nat_range}
 use Rattle.rayon.proofs.ToStd.{nat_range-All}
 use Rattle.tcc_reads.specs.History.{count}
 use Rattle.tcc_near.specs.Distances.{IsNearOf}
 use Rattle.tcc_near.specs.ClockRows.{IsClock}
 use Rattle.tcc_near.proofs.ClockLemmas.{clocks_from_rows}
-use Rattle.tcc_near.proofs.RowLemmas.{each_given}
+use Rattle.tcc_near.proofs.RowLemmas.{each_given, numbers_below}
 use Rattle.tcc_near.proofs.behind.all_clocks.Goals as goal
 use Rattle.tcc_txn.proofs.Lists.{matched}
 
@@ -20,12 +18,9 @@ collect-requires-clause-ready g c κs within =
 
 pub returns : goal.returns
 returns g c =
-    let ends = c.into_par_iter.ensures in
     let h = c.args.graph.now in
-    let n = count h in
     let gave = c.in_ok-collect.ensures in
     let chain = rw (c.with_min_len.ensures.base, c.map.ensures.base, c.map.ensures.f) at gave.1 in
-    let whole : n - 0 ≡ n = omega arith in
-    let numbers = chain.1 ∙ (λ i. nat_range (ends.0 i) (ends.1 i)) ∙ ap (nat_range 0) c.count.ensures.value ∙ ap (range_with_len 0) whole in
+    let numbers = chain.1 ∙ numbers_below _ _ (count h) c.into_par_iter.ensures.0 (c.into_par_iter.ensures.1 ∙ c.count.ensures.value) in
     matched c.in_ok-collect.field-0 _ _ _ gave.2 (λ v made.
-    clocks_from_rows h v.items (each_given AllocError (IsClock h) n chain.0 gave.0 v.items numbers chain.2 made))
+    clocks_from_rows h v.items (each_given AllocError (IsClock h) (count h) chain.0 gave.0 v.items numbers chain.2 made))

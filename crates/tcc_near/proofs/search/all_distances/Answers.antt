@@ -1,12 +1,11 @@
-use Rattle.std.proofs.Common.{◌≡◌, ◌<◌, ◌≤◌, ◌-◌, length, ◌∙◌, ap, arith}
-use Rattle.std.specs.List.{All, range_with_len}
-use Rattle.rayon.specs.Numbers.{nat_range}
+use Rattle.std.proofs.Common.{◌≡◌, ◌<◌, ◌≤◌, length, ◌∙◌}
+use Rattle.std.specs.List.{All}
 use Rattle.rayon.proofs.ToStd.{nat_range-All}
 use Rattle.std.specs.declared.alloc.AllocError.{AllocError}
 use Rattle.tcc_reads.specs.History.{History}
 use Rattle.tcc_near.specs.Levels.{IsPairTable, HasDistances}
 use Rattle.tcc_near.proofs.LevelLemmas.{near_from_rows}
-use Rattle.tcc_near.proofs.RowLemmas.{each_given}
+use Rattle.tcc_near.proofs.RowLemmas.{each_given, numbers_below}
 use Rattle.tcc_near.proofs.search.all_distances.Goals as goal
 use Rattle.tcc_txn.specs.declared.limits.TheConstants.{MAX_COUNT}
 use Rattle.tcc_txn.proofs.Lists.{matched}
@@ -20,12 +19,10 @@ collect-requires-clause-ready g c κs within =
 
 pub returns : goal.returns
 returns g c =
-    let ends = c.into_par_iter.ensures in
     let pairs = c.args.table.now in
     let n = length pairs in
     let gave = c.in_ok-collect.ensures in
     let chain = rw (c.with_min_len.ensures.base, c.map.ensures.base, c.map.ensures.f) at gave.1 in
-    let whole : n - 0 ≡ n = omega arith in
-    let numbers = chain.1 ∙ (λ i. nat_range (ends.0 i) (ends.1 i)) ∙ ap (range_with_len 0) whole in
+    let numbers = chain.1 ∙ numbers_below _ _ n c.into_par_iter.ensures.0 c.into_par_iter.ensures.1 in
     matched c.in_ok-collect.field-0 _ _ _ gave.2 (λ v made h is.
     near_from_rows h pairs v.items is (each_given AllocError (λ a row. (h : History) → IsPairTable h pairs → HasDistances h a row) n chain.0 gave.0 v.items numbers chain.2 made))

@@ -1,8 +1,7 @@
-use Rattle.std.proofs.Common.{◌≡◌, ℕ, ◌+◌, ◌≤◌, List, [], ◌∷◌, ◌++◌, length, map, drop, ap, sym, ◌∙◌, arith, append_assoc, append-nil}
-use Rattle.std.proofs.Math.ListN.{drop_of_length-le}
+use Rattle.std.proofs.Common.{◌≡◌, ℕ, ◌+◌, List, [], ◌∷◌, ◌++◌, map, drop, ap, sym, ◌∙◌, arith, append_assoc, append-nil}
 use Rattle.std.specs.FinMap as finite
 use Rattle.tcc_txn.specs.Transactions.{Transaction}
-use Rattle.tcc_reads.proofs.Counting.{drop_found}
+use Rattle.tcc_reads.proofs.Counting.{drop_found, none_past}
 use Rattle.tcc_reads.proofs.numbering.session_names.Goals as goal
 
 abbrev names_of : List (List ℕ × List Transaction) → List (List ℕ)
@@ -21,9 +20,7 @@ loop-session-preserved c =
 
 pub returns-clause-value : goal.returns-clause-value
 returns-clause-value c =
-    let entries : List (List ℕ × List Transaction) = finite.entries c.args.snapshot.now in
-    let past : length entries ≤ c.loop-session.session
-    = omega (arith, finite.len-entries c.args.snapshot.now, c.sessions-session-end.ensures.value, c.loop-session-test.false) in
+    let past = none_past c.args.snapshot.now c.loop-session.session (omega (arith, c.sessions-session-end.ensures.value, c.loop-session-test.false)) in
     sym (append-nil c.loop-session.names.items)
-    ∙ ap (λ es. c.loop-session.names.items ++ names_of es) (sym (drop_of_length-le entries past))
+    ∙ ap (λ es. c.loop-session.names.items ++ names_of es) (sym past)
     ∙ c.loop-session.invariant

@@ -1,11 +1,10 @@
-use Rattle.std.proofs.Common.{◌≡◌, ℕ, ◌+◌, ◌≤◌, List, ◌∷◌, ◌++◌, length, drop, sum_by, ap, sym, ◌∙◌, arith, append-nil}
-use Rattle.std.proofs.Math.ListN.{drop_of_length-le}
+use Rattle.std.proofs.Common.{◌≡◌, ℕ, ◌+◌, List, ◌∷◌, ◌++◌, length, drop, sum_by, ap, sym, ◌∙◌, arith, append-nil}
 use Rattle.std.proofs.lemmas.List.Sums.{sum_by-cons}
 use Rattle.std.specs.FinMap as finite
 use Rattle.tcc_txn.specs.Transactions.{Transaction}
 use Rattle.tcc_reads.specs.Sites.{stands_from, stands}
 use Rattle.tcc_reads.specs.Numbers.{numbered_from}
-use Rattle.tcc_reads.proofs.Counting.{drop_found, length-stands_from, length-numbered_from}
+use Rattle.tcc_reads.proofs.Counting.{drop_found, none_past, length-stands_from, length-numbered_from}
 use Rattle.tcc_reads.proofs.numbering.standings.Goals as goal
 
 abbrev txns_in : List (List ℕ × List Transaction) → ℕ
@@ -39,11 +38,9 @@ loop-session-preserved c =
 
 pub returns-clause-value : goal.returns-clause-value
 returns-clause-value c =
-    let entries : List (List ℕ × List Transaction) = finite.entries c.args.snapshot.now in
-    let past : length entries ≤ c.loop-session.session
-    = omega (arith, finite.len-entries c.args.snapshot.now, c.sessions-session-end.ensures.value, c.loop-session-test.false) in
+    let past = none_past c.args.snapshot.now c.loop-session.session (omega (arith, c.sessions-session-end.ensures.value, c.loop-session-test.false)) in
     sym (append-nil c.loop-session.list.items)
-    ∙ ap (λ es. c.loop-session.list.items ++ numbered_from c.loop-session.number (stands_from c.loop-session.session es)) (sym (drop_of_length-le entries past))
+    ∙ ap (λ es. c.loop-session.list.items ++ numbered_from c.loop-session.number (stands_from c.loop-session.session es)) (sym past)
     ∙ c.loop-session.invariant.list
 
 pub returns-clause-few : goal.returns-clause-few

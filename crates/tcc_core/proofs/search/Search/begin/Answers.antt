@@ -1,4 +1,4 @@
-use Rattle.std.proofs.Common.{rules, ◌≡◌, ◌<◌, ℕ, length, All, get_or, replicate, arith, take_at, sym, ◌∙◌, ◌≤◌}
+use Rattle.std.proofs.Common.{rules, ◌≡◌, ◌<◌, ℕ, List, length, All, get_or, replicate, arith, take_at, sym, ◌∙◌, ◌≤◌}
 use Rattle.std.proofs.lemmas.List.{get_or-replicate, length-replicate}
 use Rattle.std.proofs.lemmas.Grind.{common_steps}
 use Rattle.tcc_reads.specs.History.{count}
@@ -10,6 +10,12 @@ use Rattle.tcc_near.specs.declared.distances.TheConstants.{NONE}
 use Rattle.tcc_core.specs.declared.relaxing.TheConstants.{NO_WAY}
 use Rattle.tcc_graph.specs.Tables.{row_of}
 
+-- costs that are all of no way, one for each of n
+all_unspent : (n many : ℕ) (old : List ℕ) → many ≡ n → old ≡ replicate many NO_WAY → (length old ≡ n) × ((x : ℕ) → x < n → get_or old x 0 ≡ NO_WAY)
+all_unspent n many old counted all =
+    let same : old ≡ replicate n NO_WAY = rw counted at all in
+    (rw same (length-replicate n NO_WAY), λ x within. rw same (get_or-replicate n x NO_WAY 0 within))
+
 pub invariant_of-result : goal.invariant_of-result
 invariant_of-result c =
     let n = length c.args.prices.now.prices in
@@ -17,13 +23,11 @@ invariant_of-result c =
     let new = c.relax.new.costs in
     let counted : c.count-count.result ≡ n = c.count-count.ensures.value in
     let empty : IsEmptyRow n c.in_ok-row.row.items = record { long = grind (arith, common_steps); empty = λ v. grind (arith, common_steps) } in
-    let all : old ≡ replicate n NO_WAY = rw counted at (c.in_ok-costs.ensures.items_if_clones_equal (λ y e. e)) in
-    let many : length old ≡ n = rw all (length-replicate n NO_WAY) in
-    let none : (x : ℕ) → x < n → get_or old x 0 ≡ NO_WAY = λ x within. rw all (get_or-replicate n x NO_WAY 0 within) in
+    let unspent = all_unspent n c.count-count.result old counted (c.in_ok-costs.ensures.items_if_clones_equal (λ y e. e)) in
     let same : length new ≡ length old = search rules in
     let long : c.in_ok-costs.costs.len ≡ length old = search rules in
     let lowered : IsLowered old new 0 c.costs.result.now = record { long = same; each = rw c.deref_mut.ensures.value at c.relax.ensures.lowered } in
-    rw (take_at new _ c.in_ok-costs.costs.len (same ∙ sym long)) (bounded_begun c.args.start n c.in_ok-row.row.items old new c.costs.result.now c.requires (omega (arith, c.costs.ensures.few, c.costs.ensures.long)) empty many none (fits c.costs.result.now c.relax.ensures.links) lowered)
+    rw (take_at new _ c.in_ok-costs.costs.len (same ∙ sym long)) (bounded_begun c.args.start n c.in_ok-row.row.items old new c.costs.result.now c.requires (omega (arith, c.costs.ensures.few, c.costs.ensures.long)) empty unspent.0 unspent.1 (fits c.costs.result.now c.relax.ensures.links) lowered)
 
 pub returns-clause-search : goal.returns-clause-search
 returns-clause-search c =
@@ -31,15 +35,13 @@ returns-clause-search c =
     let old = c.in_ok-costs.costs.items in
     let new = c.relax.new.costs in
     let t = c.args.prices.now in
+    let links : All (λ link. link ≤ NONE) (row_of t.costs c.args.start) = rw c.costs.ensures.value at c.relax.ensures.links in
     let counted : c.count-count.result ≡ n = c.count-count.ensures.value in
     let empty : IsEmptyRow n c.in_ok-row.row.items = record { long = grind (arith, common_steps); empty = λ v. grind (arith, common_steps) } in
-    let all : old ≡ replicate n NO_WAY = rw counted at (c.in_ok-costs.ensures.items_if_clones_equal (λ y e. e)) in
-    let many : length old ≡ n = rw all (length-replicate n NO_WAY) in
-    let none : (x : ℕ) → x < n → get_or old x 0 ≡ NO_WAY = λ x within. rw all (get_or-replicate n x NO_WAY 0 within) in
+    let unspent = all_unspent n c.count-count.result old counted (c.in_ok-costs.ensures.items_if_clones_equal (λ y e. e)) in
     let same : length new ≡ length old = search rules in
     let long : c.in_ok-costs.costs.len ≡ length old = search rules in
     let lowered : IsLowered old new 0 (row_of t.costs c.args.start) = record { long = same; each = rw (c.deref_mut.ensures.value, c.costs.ensures.value) at c.relax.ensures.lowered } in
-    let links : All (λ link. link ≤ NONE) (row_of t.costs c.args.start) = rw c.costs.ensures.value at c.relax.ensures.links in
     rw (take_at new _ c.in_ok-costs.costs.len (same ∙ sym long)) (λ h priced.
     let wide : n ≡ count h = priced.prices.long in
-    search_begun h t c.args.start c.in_ok-row.row.items old new priced (rw (← wide) c.requires) (rw (← wide) empty) (rw (← wide) many) (rw (← wide) none) (fits (row_of t.costs c.args.start) links) lowered)
+    search_begun h t c.args.start c.in_ok-row.row.items old new priced (rw (← wide) c.requires) (rw (← wide) empty) (rw (← wide) unspent.0) (rw (← wide) unspent.1) (fits (row_of t.costs c.args.start) links) lowered)

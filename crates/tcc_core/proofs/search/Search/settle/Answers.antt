@@ -27,8 +27,7 @@ returns-then-distance-cap-clause-settled c =
     let old : Search = record { start = c.self.inside.start; row = c.self.inside.row.items; costs = c.self.inside.costs.items } in
     let v = c.in-Some.next in
     let near : IsNearest old.row old.costs v = rw (c.deref.ensures.value, c.deref-2.ensures.value) at c.in-Some.ensures.found in
-    let within : v < length old.costs = omega (arith, near.below, c.self.invariant.long) in
-    let is : c.index-distance.result.now ≡ get_or old.costs v 0 = grind (arith, common_steps) in
+    let is : c.index-distance.result.now ≡ get_or old.costs v 0 = grind (arith, common_steps, near.below, c.self.invariant.long) in
     subst (λ (z : Search). (h : History) (s : ℕ) → IsPricesOf h c.args.prices.now → IsSearchOf h s z → Settles h s cap z.row z.row (settled.Cut cap)) c.self.view_is
     (λ h s priced known. (refl, refl, settles_cut h s old v cap known near (omega (arith, near.reached)) (omega (arith, c.if-distance-cap.true, is))))
 
@@ -37,8 +36,7 @@ relax-requires-clause-small c =
     let old : Search = record { start = c.self.inside.start; row = c.self.inside.row.items; costs = c.self.inside.costs.items } in
     let v = c.in-Some.next in
     let near : IsNearest old.row old.costs v = rw (c.deref.ensures.value, c.deref-2.ensures.value) at c.in-Some.ensures.found in
-    let within : v < length old.costs = omega (arith, near.below, c.self.invariant.long) in
-    let is : c.index-distance.result.now ≡ get_or old.costs v 0 = grind (arith, common_steps) in
+    let is : c.index-distance.result.now ≡ get_or old.costs v 0 = grind (arith, common_steps, near.below, c.self.invariant.long) in
     rw is (small_enough old v c.self.invariant near)
 
 pub invariant_of-self : goal.invariant_of-self
@@ -46,8 +44,7 @@ invariant_of-self c =
     let old : Search = record { start = c.self.inside.start; row = c.self.inside.row.items; costs = c.self.inside.costs.items } in
     let v = c.in-Some.next in
     let near : IsNearest old.row old.costs v = rw (c.deref.ensures.value, c.deref-2.ensures.value) at c.in-Some.ensures.found in
-    let within : v < length old.costs = omega (arith, near.below, c.self.invariant.long) in
-    let is : c.index-distance.result.now ≡ get_or old.costs v 0 = grind (arith, common_steps) in
+    let is : c.index-distance.result.now ≡ get_or old.costs v 0 = grind (arith, common_steps, near.below, c.self.invariant.long) in
     let same : length c.relax.new.costs ≡ length old.costs = search rules in
     let long : c.self.inside.costs.len ≡ length old.costs = search rules in
     let lowered : IsLowered old.costs c.relax.new.costs (get_or old.costs v 0) c.costs.result.now = record { long = same; each = rw (c.deref_mut.ensures.value, is) at c.relax.ensures.lowered } in
@@ -58,12 +55,11 @@ returns-clause-search c =
     let old : Search = record { start = c.self.inside.start; row = c.self.inside.row.items; costs = c.self.inside.costs.items } in
     let v = c.in-Some.next in
     let near : IsNearest old.row old.costs v = rw (c.deref.ensures.value, c.deref-2.ensures.value) at c.in-Some.ensures.found in
-    let within : v < length old.costs = omega (arith, near.below, c.self.invariant.long) in
-    let is : c.index-distance.result.now ≡ get_or old.costs v 0 = grind (arith, common_steps) in
+    let links : All (λ link. link ≤ NONE) (row_of c.args.prices.now.costs v) = rw c.costs.ensures.value at c.relax.ensures.links in
+    let is : c.index-distance.result.now ≡ get_or old.costs v 0 = grind (arith, common_steps, near.below, c.self.invariant.long) in
     let same : length c.relax.new.costs ≡ length old.costs = search rules in
     let long : c.self.inside.costs.len ≡ length old.costs = search rules in
     let lowered : IsLowered old.costs c.relax.new.costs (get_or old.costs v 0) (row_of c.args.prices.now.costs v) = record { long = same; each = rw (c.deref_mut.ensures.value, is, c.costs.ensures.value) at c.relax.ensures.lowered } in
-    let links : All (λ link. link ≤ NONE) (row_of c.args.prices.now.costs v) = rw c.costs.ensures.value at c.relax.ensures.links in
     rw (take_at c.relax.new.costs _ c.self.inside.costs.len (same ∙ sym long), is) (subst (λ (z : Search). (h : History) (s : ℕ) → IsPricesOf h c.args.prices.now → IsSearchOf h s z → IsSearchOf h s (after old v c.relax.new.costs)) c.self.view_is
     (λ h s priced known. search_after h c.args.prices.now s old v c.relax.new.costs priced known near (small_enough old v c.self.invariant near) (fits (row_of c.args.prices.now.costs v) links) lowered))
 
@@ -74,8 +70,7 @@ returns-clause-settled c =
     let v = c.in-Some.next in
     let d = c.index-distance.result.now in
     let near : IsNearest old.row old.costs v = rw (c.deref.ensures.value, c.deref-2.ensures.value) at c.in-Some.ensures.found in
-    let within : v < length old.costs = omega (arith, near.below, c.self.invariant.long) in
-    let is : d ≡ get_or old.costs v 0 = grind (arith, common_steps) in
+    let is : d ≡ get_or old.costs v 0 = grind (arith, common_steps, near.below, c.self.invariant.long) in
     let low : d ≤ cap = omega (arith, c.if-distance-cap.false) in
     subst (λ (z : Search). (h : History) (s : ℕ) → IsPricesOf h c.args.prices.now → IsSearchOf h s z → Settles h s cap z.row (set old.row v (Some d)) c.if-next-self.result) c.self.view_is
     (λ h s priced known. elim c.if-next-self.branch [

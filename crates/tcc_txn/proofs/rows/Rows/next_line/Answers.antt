@@ -35,9 +35,9 @@ returns-in-Err-read_line-clause-line g c ahead reading =
     let now = c.records.invariant.reading ahead reading in
     let taken = rw c.in-Ok-true.field-0-test at (c.in-Ok-true.ensures.taken now.left now.records) in
     let counts = rw c.in-Ok-true.field-0-test at c.in-Ok-true.ensures.counts in
-    let whole = rw c.record-record.ensures.value at c.record-record.ensures.whole in
-    let unlawful = rw c.record-record.ensures.value at (sym c.in-Err-read_line.ensures.line) in
-    record-refused g.R.Read.remaining c.records.self c.read.new.self ahead now taken counts c.in-Err-read_line.kind (inl (judged-unlawful now.past (record_of c.read.new.self) c.in-Err-read_line.kind whole unlawful))
+    let wrong = judged-unlawful now.past (record_of c.read.new.self) c.in-Err-read_line.kind
+    (rw c.record-record.ensures.value at c.record-record.ensures.whole) (rw c.record-record.ensures.value at (sym c.in-Err-read_line.ensures.line)) in
+    record-refused g.R.Read.remaining c.records.self c.read.new.self ahead now taken counts c.in-Err-read_line.kind (inl wrong)
 
 pub returns-in-Err-read_line-clause-within : goal.returns-in-Err-read_line-clause-within
 returns-in-Err-read_line-clause-within g c all stands =
