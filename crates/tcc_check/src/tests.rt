@@ -6,7 +6,7 @@ use std::test::Fail;
 use tcc_cert::{Certificate, Links, Numbers, Table, read};
 use tcc_graph::Graph;
 use tcc_reads::resolve;
-use tcc_txn::{Item, Name, NoMemory, Rows, Snapshot, Txn};
+use tcc_txn::{NoMemory, snapshot_of};
 
 /// a/1 writes x, and a/2 reads its initial value.
 const STALE: &str = "a,begin\na,w,x,1\na,commit\na,begin\na,r,x,0\na,commit\n";
@@ -29,35 +29,9 @@ const CROSSED: &str = "a,begin\na,w,x,1\na,r,y,1\na,commit\nb,begin\nb,w,y,1\nb,
 /// a/1 and a/2 write different keys.
 const TWO: &str = "a,begin\na,w,x,1\na,commit\na,begin\na,w,y,1\na,commit\n";
 
-/// Adds a transaction to those of its session.
-fn add(alloc: Global, parts: &mut Vec<(Name, Vec<Txn>)>, session: Name, txn: Txn) -> Option<()> {
-    for part in parts.iter_mut() {
-        if part.0 == session {
-            return part.1.push(txn).ok();
-        }
-    }
-    let mut txns = Vec::new(alloc);
-    txns.push(txn).ok()?;
-    parts.push((session, txns)).ok()
-}
-
-/// The finished transactions of each session of these records.
-fn gather(alloc: Global, records: &str) -> Option<Vec<(Name, Vec<Txn>)>> {
-    let mut rows = Rows::new(alloc, records.as_bytes()).ok()?;
-    let mut parts = Vec::new(alloc);
-    for _ in 0..u64::MAX {
-        match rows.next(alloc).ok()? {
-            Item::Finished(session, txn) => add(alloc, &mut parts, session, txn)?,
-            Item::Seal => return None,
-            Item::End => break,
-        }
-    }
-    Some(parts)
-}
-
 /// The graph of these records.
 fn graph(alloc: Global, records: &str) -> Option<Graph> {
-    let snapshot = Snapshot::new(gather(alloc, records)?).ok()?;
+    let snapshot = snapshot_of(alloc, records.as_bytes()).ok()?;
     let resolved = resolve(alloc, &snapshot).ok()?;
     Graph::build(alloc, &resolved).ok()
 }
