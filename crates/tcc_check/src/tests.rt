@@ -29,6 +29,9 @@ const CROSSED: &str = "a,begin\na,w,x,1\na,r,y,1\na,commit\nb,begin\nb,w,y,1\nb,
 /// a/1 and a/2 write different keys.
 const TWO: &str = "a,begin\na,w,x,1\na,commit\na,begin\na,w,y,1\na,commit\n";
 
+/// a/1 is aborted, and a/2 writes x.
+const ABORTED: &str = "a,begin\na,w,x,9\na,abort\na,begin\na,w,x,1\na,commit\n";
+
 /// The graph of these records.
 fn graph(alloc: Global, records: &str) -> Option<Graph> {
     let snapshot = snapshot_of(alloc, records.as_bytes()).ok()?;
@@ -141,15 +144,9 @@ fn other_cycles(rt: HostRuntime) -> Result<(), Fail> {
     let near = "4 1 1 1\n4 4 4 1\n4 4 4 1\n4 4 4 4\n";
     let far = "4 1 1 1\n4 4 2 1\n4 2 4 1\n4 4 4 4\n";
     let low = "4 1 1 1\n4 4 1 1\n4 2 4 1\n4 4 4 4\n";
-    assert_cycles(
-        &rt,
-        alloc,
-        TORN,
-        &[
-            (torn, near, far, None),
-            (torn, near, low, Some((FarSteps, 1, 1))),
-        ],
-    )?;
+    let lowered = Some((FarSteps, 1, 1));
+    let rows = [(torn, near, far, None), (torn, near, low, lowered)];
+    assert_cycles(&rt, alloc, TORN, &rows)?;
     let relayed = "S 0 1\nD 1 0 x 4 3\nR 1 2 x\nR 2 3 y\nS 3 4\nnear\n5 1 1 1 1\n";
     let rest = "5 5 5 1 2\n5 5 5 5 1\n5 5 5 5 5\n";
     let far = "far\n5 1 1 1 1\n4 5 1 2 3\n";
@@ -192,8 +189,6 @@ fn no_links(rt: HostRuntime) -> Result<(), Fail> {
 #[test]
 fn orders(rt: HostRuntime) -> Result<(), Fail> {
     use Rule::{Axiom, Pairs, Sizes};
-    let alloc = rt.alloc();
-    let aborted = "a,begin\na,w,x,9\na,abort\na,begin\na,w,x,1\na,commit\n";
     let forked = "0 0 0 0\n0 0 0 0\n0 0 0 0\n1 0 0 0\n0 1 0 0\n";
     let reached = "0 0 0 0\n0 0 0 0\n0 0 0 0\n1 1 0 0\n0 1 0 0\n";
     for (records, sizes, clocks, wanted) in [
@@ -209,7 +204,7 @@ fn orders(rt: HostRuntime) -> Result<(), Fail> {
             "0 0\n0 0\n1 0\n",
             Some((Sizes, 0, 0)),
         ),
-        (aborted, "order 2 1\n0 1\n", "0\n0\n", None),
+        (ABORTED, "order 2 1\n0 1\n", "0\n0\n", None),
         (FORKED, "order 5 4\n0 1 2 3 4\n", forked, None),
         (
             FORKED,
@@ -224,7 +219,13 @@ fn orders(rt: HostRuntime) -> Result<(), Fail> {
             Some((Axiom, 2, 0)),
         ),
     ] {
-        assert_verdict(&rt, alloc, records, &[sizes, "clocks\n", clocks], wanted)?;
+        assert_verdict(
+            &rt,
+            rt.alloc(),
+            records,
+            &[sizes, "clocks\n", clocks],
+            wanted,
+        )?;
     }
     Ok(())
 }
