@@ -3,6 +3,7 @@ use Rattle.std.proofs.Common.{◌≡◌, ℕ, List, [], ◌∷◌, ◌++◌, Ok,
 use Rattle.tcc_graph.specs.declared.step.Step.TheVariants as step
 use Rattle.tcc_graph.specs.declared.link.Link.TheVariants as link
 use Rattle.tcc_cert.specs.declared.certificate.Certificate.TheVariants as claim
+use Rattle.tcc_cert.specs.declared.fault.CertFault.{CertFault}
 use Rattle.tcc_cert.specs.declared.fault.CertFaultKind.TheVariants.{Header, Word, Number, Count, TooLarge, Truncated, Trailing}
 use Rattle.tcc_cert.specs.Reading.{certificate_read}
 
@@ -25,35 +26,21 @@ stale_read : certificate_read (codes "tcc-certificate 1\ncycle 3 2 3\n" ++ (link
     ((3 ∷ 1 ∷ 1 ∷ []) ∷ (2 ∷ 3 ∷ 1 ∷ []) ∷ (3 ∷ 3 ∷ 3 ∷ []) ∷ []))
 stale_read = refl
 
-another_version : certificate_read (codes "tcc-certificate 2\ncycle 3 2 3\n") ≡ Err (record { line = 1; kind = Header })
-another_version = refl
+-- each text has the fault that stands behind it
+abbrev HaveFaults : List (List ℕ × CertFault) → Type 0
+HaveFaults [] = Unit {0}
+HaveFaults ((text, fault) ∷ rows) = (certificate_read text ≡ Err fault) × HaveFaults rows
 
-another_claim : certificate_read (codes "tcc-certificate 1\nring 3 2 3\n") ≡ Err (record { line = 2; kind = Word })
-another_claim = refl
-
-a_number_less : certificate_read (codes "tcc-certificate 1\ncycle 3 2\n") ≡ Err (record { line = 2; kind = Count })
-a_number_less = refl
-
-two_spaces : certificate_read (codes "tcc-certificate 1\ncycle  3 2 3\n") ≡ Err (record { line = 2; kind = Count })
-two_spaces = refl
-
-leading_zero : certificate_read (codes "tcc-certificate 1\ncycle 03 2 3\n") ≡ Err (record { line = 2; kind = Number })
-leading_zero = refl
-
-no_links : certificate_read (codes "tcc-certificate 1\ncycle 3 0 3\n") ≡ Err (record { line = 2; kind = Number })
-no_links = refl
-
-too_many : certificate_read (codes "tcc-certificate 1\ncycle 1025 2 3\n") ≡ Err (record { line = 2; kind = TooLarge })
-too_many = refl
-
-cut_after_a_row : certificate_read (codes "tcc-certificate 1\ncycle 3 2 3\n" ++ (links_and_near ++ codes "far\n3 1 1\n2 3 1\n"))
-    ≡ Err (record { line = 13; kind = Truncated })
-cut_after_a_row = refl
-
-cut_before_the_last_line_feed : certificate_read (codes "tcc-certificate 1\ncycle 3 2 3\n" ++ (links_and_near ++ (far ++ codes "end")))
-    ≡ Err (record { line = 14; kind = Truncated })
-cut_before_the_last_line_feed = refl
-
-one_more_line_feed : certificate_read (codes "tcc-certificate 1\ncycle 3 2 3\n" ++ (links_and_near ++ (far ++ codes "end\n\n")))
-    ≡ Err (record { line = 15; kind = Trailing })
-one_more_line_feed = refl
+faulty_texts : HaveFaults
+    ((codes "tcc-certificate 2\ncycle 3 2 3\n", record { line = 1; kind = Header })
+    ∷ (codes "tcc-certificate 1\nring 3 2 3\n", record { line = 2; kind = Word })
+    ∷ (codes "tcc-certificate 1\ncycle 3 2\n", record { line = 2; kind = Count })
+    ∷ (codes "tcc-certificate 1\ncycle  3 2 3\n", record { line = 2; kind = Count })
+    ∷ (codes "tcc-certificate 1\ncycle 03 2 3\n", record { line = 2; kind = Number })
+    ∷ (codes "tcc-certificate 1\ncycle 3 0 3\n", record { line = 2; kind = Number })
+    ∷ (codes "tcc-certificate 1\ncycle 1025 2 3\n", record { line = 2; kind = TooLarge })
+    ∷ (codes "tcc-certificate 1\ncycle 3 2 3\n" ++ (links_and_near ++ codes "far\n3 1 1\n2 3 1\n"), record { line = 13; kind = Truncated })
+    ∷ (codes "tcc-certificate 1\ncycle 3 2 3\n" ++ (links_and_near ++ (far ++ codes "end")), record { line = 14; kind = Truncated })
+    ∷ (codes "tcc-certificate 1\ncycle 3 2 3\n" ++ (links_and_near ++ (far ++ codes "end\n\n")), record { line = 15; kind = Trailing })
+    ∷ [])
+faulty_texts = (refl, (refl, (refl, (refl, (refl, (refl, (refl, (refl, (refl, (refl, tt))))))))))

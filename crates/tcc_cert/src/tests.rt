@@ -187,6 +187,8 @@ fn assert_part(
     fault: Fault,
     wanted: Result<(), WriteFault>,
 ) {
+    let text = STALE_READ.as_bytes();
+    let part = text.get(..room).unwrap_or(text);
     let mut out = Faulty {
         taken: Vec::new(alloc),
         room,
@@ -197,26 +199,18 @@ fn assert_part(
         wanted,
         "{fault:?} after {room}"
     );
-    assert_eq!(rt;
-        out.taken.as_slice(),
-        &STALE_READ.as_bytes()[..room],
-        "{fault:?} after {room}"
-    );
+    assert_eq!(rt; out.taken.as_slice(), part, "{fault:?} after {room}");
     let mut sent = Faulty {
         taken: Vec::new(alloc),
         room,
         fault,
     };
     assert_eq!(rt;
-        send(&mut sent, STALE_READ.as_bytes()).is_ok(),
+        send(&mut sent, text).is_ok(),
         wanted.is_ok(),
         "{fault:?} after {room}"
     );
-    assert_eq!(rt;
-        sent.taken.as_slice(),
-        &STALE_READ.as_bytes()[..room],
-        "{fault:?} after {room}"
-    );
+    assert_eq!(rt; sent.taken.as_slice(), part, "{fault:?} after {room}");
 }
 
 // The text goes out up to the byte that is refused, whatever the refusal is.
@@ -430,118 +424,96 @@ fn altered(alloc: Global, line: usize, other: &str) -> Result<Vec<u8>, AllocErro
     Ok(text)
 }
 
-fn altered_faults(
-    rt: &impl Abort,
-    alloc: Global,
-    line: usize,
-    rows: &[(&str, CertFaultKind)],
-) -> Result<(), AllocError> {
-    for (other, kind) in rows {
-        let text = altered(alloc, line, other)?;
+/// Another line in place of one of the certificate of a stale read, counted from 1, and what is wrong with it.
+type Altered<'a> = (usize, &'a str, CertFaultKind);
+
+fn assert_altered(rt: &impl Abort, alloc: Global, rows: &[Altered]) -> Result<(), AllocError> {
+    for (line, other, kind) in rows {
+        let text = altered(alloc, *line, other)?;
         let fault = fault_of(rt, alloc, text.as_slice());
-        assert_eq!(rt; fault.kind, *kind, "for {other:?}");
-        assert_eq!(rt; fault.line, line as u64, "for {other:?}");
+        assert_eq!(rt;
+            (fault.line, fault.kind),
+            (*line as u64, *kind),
+            "for {other:?}"
+        );
     }
     Ok(())
 }
 
 #[test]
-fn altered_heads(rt: HostRuntime) -> Result<(), Fail> {
+fn altered_lines(rt: HostRuntime) -> Result<(), Fail> {
     use CertFaultKind::{Count, Header, Number, TooLarge, Word};
-    let alloc = rt.alloc();
-    let headers = [
-        ("tcc-certificate 2", Header),
-        ("tcc-certificate  1", Header),
-        ("tcc-certificate 1 ", Header),
-        ("", Header),
-    ];
-    altered_faults(&rt, alloc, 1, &headers)?;
-    let sizes = [
-        ("ring 3 2 3", Word),
-        ("ring 3 2", Word),
-        ("", Word),
-        (" cycle 3 2 3", Word),
-        ("cycle 3 2", Count),
-        ("cycle 3 2 3 ", Count),
-        ("cycle  3 2 3", Count),
-        ("cycle 03 2", Count),
-        ("cycle 03 2 3", Number),
-        ("cycle 0 2 3", Number),
-        ("cycle 3 0 3", Number),
-        ("cycle +3 2 3", Number),
-        ("cycle 3  3", Number),
-        ("cycle 1025 2 3", TooLarge),
-        ("cycle 3 1025 3", TooLarge),
-        ("cycle 3 2 1049601", TooLarge),
-        ("cycle 1025 x 3", TooLarge),
-        ("cycle x 1025 3", Number),
-        ("cycle 18446744073709551619 2 3", TooLarge),
-        ("order 3 65", TooLarge),
-        ("order 3", Count),
-    ];
-    altered_faults(&rt, alloc, 2, &sizes)?;
-    Ok(())
-}
-
-#[test]
-fn altered_links(rt: HostRuntime) -> Result<(), Fail> {
-    use CertFaultKind::{Count, Number, TooLarge, Word};
-    let alloc = rt.alloc();
-    let links = [
-        ("T 0 1", Word),
-        ("s 0 1", Word),
-        ("S 0", Count),
-        ("S 0 1 x", Count),
-        ("S 0 1024", TooLarge),
-        ("S 00 1", Number),
-        ("R 0 1", Count),
-        ("R 0 1 x?", Word),
-        ("R 0 1 ", Word),
-        ("R 0 1024 ?", TooLarge),
-    ];
-    altered_faults(&rt, alloc, 3, &links)?;
-    let derived = [
-        ("D 1 0 x 2", Count),
-        ("D 1 0 x 2 0", Number),
-        ("D 1 0 x 2 1025", TooLarge),
-        ("D 1 0 ! 1024 1", Word),
-        ("D 1 x ! 1024 1", Number),
-    ];
-    altered_faults(&rt, alloc, 4, &derived)?;
-    altered_faults(&rt, alloc, 5, &[("D 1 0 x 2 1", Word), ("S 1 2 3", Count)])?;
-    Ok(())
-}
-
-#[test]
-fn altered_tables(rt: HostRuntime) -> Result<(), Fail> {
-    use CertFaultKind::{Count, Number, TooLarge, Word};
-    let alloc = rt.alloc();
-    altered_faults(
-        &rt,
-        alloc,
-        6,
-        &[("far", Word), ("near 1", Count), ("", Word)],
-    )?;
     let rows = [
-        ("3 1", Count),
-        ("3 1 1 ", Count),
-        (" 3 1 1", Count),
-        ("x 1", Count),
-        ("", Count),
-        ("3 1 01", Number),
-        ("3  1", Number),
-        ("1049601 x 1", TooLarge),
-        ("x 1049601 1", Number),
+        (1, "tcc-certificate 2", Header),
+        (1, "tcc-certificate  1", Header),
+        (1, "tcc-certificate 1 ", Header),
+        (1, "", Header),
+        (2, "ring 3 2 3", Word),
+        (2, "ring 3 2", Word),
+        (2, "", Word),
+        (2, " cycle 3 2 3", Word),
+        (2, "cycle 3 2", Count),
+        (2, "cycle 3 2 3 ", Count),
+        (2, "cycle  3 2 3", Count),
+        (2, "cycle 03 2", Count),
+        (2, "cycle 03 2 3", Number),
+        (2, "cycle 0 2 3", Number),
+        (2, "cycle 3 0 3", Number),
+        (2, "cycle +3 2 3", Number),
+        (2, "cycle 3  3", Number),
+        (2, "cycle 1025 2 3", TooLarge),
+        (2, "cycle 3 1025 3", TooLarge),
+        (2, "cycle 3 2 1049601", TooLarge),
+        (2, "cycle 1025 x 3", TooLarge),
+        (2, "cycle x 1025 3", Number),
+        (2, "cycle 18446744073709551619 2 3", TooLarge),
+        (2, "order 3 65", TooLarge),
+        (2, "order 3", Count),
+        (3, "T 0 1", Word),
+        (3, "s 0 1", Word),
+        (3, "S 0", Count),
+        (3, "S 0 1 x", Count),
+        (3, "S 0 1024", TooLarge),
+        (3, "S 00 1", Number),
+        (3, "R 0 1", Count),
+        (3, "R 0 1 x?", Word),
+        (3, "R 0 1 ", Word),
+        (3, "R 0 1024 ?", TooLarge),
+        (4, "D 1 0 x 2", Count),
+        (4, "D 1 0 x 2 0", Number),
+        (4, "D 1 0 x 2 1025", TooLarge),
+        (4, "D 1 0 ! 1024 1", Word),
+        (4, "D 1 x ! 1024 1", Number),
+        (5, "D 1 0 x 2 1", Word),
+        (5, "S 1 2 3", Count),
+        (6, "far", Word),
+        (6, "near 1", Count),
+        (6, "", Word),
+        (7, "3 1", Count),
+        (7, "3 1 1 ", Count),
+        (7, " 3 1 1", Count),
+        (7, "x 1", Count),
+        (7, "", Count),
+        (7, "3 1 01", Number),
+        (7, "3  1", Number),
+        (7, "1049601 x 1", TooLarge),
+        (7, "x 1049601 1", Number),
+        (10, "near", Word),
+        (14, "done", Word),
+        (14, "end ", Count),
     ];
-    altered_faults(&rt, alloc, 7, &rows)?;
-    altered_faults(&rt, alloc, 10, &[("near", Word)])?;
-    altered_faults(&rt, alloc, 14, &[("done", Word), ("end ", Count)])?;
+    assert_altered(&rt, rt.alloc(), &rows)?;
+    Ok(())
+}
+
+#[test]
+fn trailing_bytes(rt: HostRuntime) -> Result<(), Fail> {
+    let alloc = rt.alloc();
     for more in [b'\n', b'x'] {
         let mut text = STALE_READ.as_bytes().to_vec(alloc)?;
         text.push(more)?;
         let fault = fault_of(&rt, alloc, text.as_slice());
-        assert_eq!(&rt; fault.line, 15);
-        assert_eq!(&rt; fault.kind, CertFaultKind::Trailing);
+        assert_eq!(&rt; (fault.line, fault.kind), (15, CertFaultKind::Trailing));
     }
     Ok(())
 }

@@ -4,7 +4,7 @@ ghost use Rattle.tcc_reads.specs.History.{count};
 ghost use Rattle.tcc_graph.specs.Relations.{IsReadsPair};
 ghost use Rattle.tcc_graph.specs.Keys.{IsWriter};
 ghost use Rattle.tcc_graph.specs.Walks.{IsStep, Leads, IsWalk};
-ghost use Rattle.tcc_graph.specs.Links.{IsReason, link_to, link_cost, cost};
+ghost use Rattle.tcc_graph.specs.Links.{IsReason, link_from, link_to, link_cost, cost};
 ghost use Rattle.tcc_cert.specs.CycleRules.{IsStepBelow, IsLinkBelow, IsLinkRight, ends_at};
 ghost use Rattle.tcc_check.specs.Links.{AreLinksRight, IsFirstWrong};
 
@@ -69,21 +69,36 @@ fn is_reason(graph: &Graph, from: u32, to: u32, key: &Name, reader: u32, walk: &
         && leads(graph, from, reader, walk)
 }
 
+/// Where a link begins, and where it ends.
+fn link_ends(link: &Link) -> (u32, u32)
+    ensures from { result.0 ≡ link_from link.now }
+    ensures to { result.1 ≡ link_to link.now }
+{
+    match link {
+        Link::Session { from, to } => (*from, *to),
+        Link::Reads { from, to, .. } => (*from, *to),
+        Link::Derived { from, to, .. } => (*from, *to),
+    }
+}
+
 /// Whether the link begins there and is one of the history.
 fn is_link_right(graph: &Graph, at: u32, link: &Link) -> bool
     requires { IsLinkBelow (count graph.now) link.now }
     ensures { IsTrue result ↔ IsLinkRight graph.now at link.now }
 {
+    if link_ends(link).0 != at {
+        return false;
+    }
     match link {
-        Link::Session { from, to } => *from == at && graph.session(*from, *to),
-        Link::Reads { from, to, key } => *from == at && is_read(graph, *from, *to, key),
+        Link::Session { to, .. } => graph.session(at, *to),
+        Link::Reads { to, key, .. } => is_read(graph, at, *to, key),
         Link::Derived {
-            from,
             to,
             key,
             reader,
             walk,
-        } => *from == at && is_reason(graph, *from, *to, key, *reader, walk.steps()),
+            ..
+        } => is_reason(graph, at, *to, key, *reader, walk.steps()),
     }
 }
 
@@ -91,11 +106,7 @@ fn is_link_right(graph: &Graph, at: u32, link: &Link) -> bool
 fn link_to(link: &Link) -> u32
     ensures { result ≡ link_to link.now }
 {
-    match link {
-        Link::Session { to, .. } => *to,
-        Link::Reads { to, .. } => *to,
-        Link::Derived { to, .. } => *to,
-    }
+    link_ends(link).1
 }
 
 /// Where the last link ends.

@@ -6,7 +6,7 @@ use std::test::Fail;
 use tcc_cert::{Certificate, Links, Numbers, Table, read};
 use tcc_graph::Graph;
 use tcc_reads::resolve;
-use tcc_txn::{Item, Name, NoMemory, Rows, Snapshot, Txn};
+use tcc_txn::{NoMemory, snapshot_of};
 
 /// a/1 writes x, and a/2 reads its initial value.
 const STALE: &str = "a,begin\na,w,x,1\na,commit\na,begin\na,r,x,0\na,commit\n";
@@ -29,35 +29,12 @@ const CROSSED: &str = "a,begin\na,w,x,1\na,r,y,1\na,commit\nb,begin\nb,w,y,1\nb,
 /// a/1 and a/2 write different keys.
 const TWO: &str = "a,begin\na,w,x,1\na,commit\na,begin\na,w,y,1\na,commit\n";
 
-/// Adds a transaction to those of its session.
-fn add(alloc: Global, parts: &mut Vec<(Name, Vec<Txn>)>, session: Name, txn: Txn) -> Option<()> {
-    for part in parts.iter_mut() {
-        if part.0 == session {
-            return part.1.push(txn).ok();
-        }
-    }
-    let mut txns = Vec::new(alloc);
-    txns.push(txn).ok()?;
-    parts.push((session, txns)).ok()
-}
-
-/// The finished transactions of each session of these records.
-fn gather(alloc: Global, records: &str) -> Option<Vec<(Name, Vec<Txn>)>> {
-    let mut rows = Rows::new(alloc, records.as_bytes()).ok()?;
-    let mut parts = Vec::new(alloc);
-    for _ in 0..u64::MAX {
-        match rows.next(alloc).ok()? {
-            Item::Finished(session, txn) => add(alloc, &mut parts, session, txn)?,
-            Item::Seal => return None,
-            Item::End => break,
-        }
-    }
-    Some(parts)
-}
+/// a/1 is aborted, and a/2 writes x.
+const ABORTED: &str = "a,begin\na,w,x,9\na,abort\na,begin\na,w,x,1\na,commit\n";
 
 /// The graph of these records.
 fn graph(alloc: Global, records: &str) -> Option<Graph> {
-    let snapshot = Snapshot::new(gather(alloc, records)?).ok()?;
+    let snapshot = snapshot_of(alloc, records.as_bytes()).ok()?;
     let resolved = resolve(alloc, &snapshot).ok()?;
     Graph::build(alloc, &resolved).ok()
 }
@@ -167,15 +144,9 @@ fn other_cycles(rt: HostRuntime) -> Result<(), Fail> {
     let near = "4 1 1 1\n4 4 4 1\n4 4 4 1\n4 4 4 4\n";
     let far = "4 1 1 1\n4 4 2 1\n4 2 4 1\n4 4 4 4\n";
     let low = "4 1 1 1\n4 4 1 1\n4 2 4 1\n4 4 4 4\n";
-    assert_cycles(
-        &rt,
-        alloc,
-        TORN,
-        &[
-            (torn, near, far, None),
-            (torn, near, low, Some((FarSteps, 1, 1))),
-        ],
-    )?;
+    let lowered = Some((FarSteps, 1, 1));
+    let rows = [(torn, near, far, None), (torn, near, low, lowered)];
+    assert_cycles(&rt, alloc, TORN, &rows)?;
     let relayed = "S 0 1\nD 1 0 x 4 3\nR 1 2 x\nR 2 3 y\nS 3 4\nnear\n5 1 1 1 1\n";
     let rest = "5 5 5 1 2\n5 5 5 5 1\n5 5 5 5 5\n";
     let far = "far\n5 1 1 1 1\n4 5 1 2 3\n";
@@ -218,8 +189,6 @@ fn no_links(rt: HostRuntime) -> Result<(), Fail> {
 #[test]
 fn orders(rt: HostRuntime) -> Result<(), Fail> {
     use Rule::{Axiom, Pairs, Sizes};
-    let alloc = rt.alloc();
-    let aborted = "a,begin\na,w,x,9\na,abort\na,begin\na,w,x,1\na,commit\n";
     let forked = "0 0 0 0\n0 0 0 0\n0 0 0 0\n1 0 0 0\n0 1 0 0\n";
     let reached = "0 0 0 0\n0 0 0 0\n0 0 0 0\n1 1 0 0\n0 1 0 0\n";
     for (records, sizes, clocks, wanted) in [
@@ -235,7 +204,7 @@ fn orders(rt: HostRuntime) -> Result<(), Fail> {
             "0 0\n0 0\n1 0\n",
             Some((Sizes, 0, 0)),
         ),
-        (aborted, "order 2 1\n0 1\n", "0\n0\n", None),
+        (ABORTED, "order 2 1\n0 1\n", "0\n0\n", None),
         (FORKED, "order 5 4\n0 1 2 3 4\n", forked, None),
         (
             FORKED,
@@ -250,7 +219,13 @@ fn orders(rt: HostRuntime) -> Result<(), Fail> {
             Some((Axiom, 2, 0)),
         ),
     ] {
-        assert_verdict(&rt, alloc, records, &[sizes, "clocks\n", clocks], wanted)?;
+        assert_verdict(
+            &rt,
+            rt.alloc(),
+            records,
+            &[sizes, "clocks\n", clocks],
+            wanted,
+        )?;
     }
     Ok(())
 }

@@ -1,5 +1,5 @@
 -- The rules on the one table, then those on the other, then the last.
-use Rattle.std.proofs.Common.{◌<◌, ℕ, inl, List, [], ◌∷◌, ◌++◌, refl, arith, rules}
+use Rattle.std.proofs.Common.{◌≡◌, ◌<◌, ℕ, inl, List, [], ◌∷◌, ◌++◌, refl, arith, rules}
 use Rattle.tcc_reads.specs.History.{History, count}
 use Rattle.tcc_cert.specs.Tables.{HasSize, IsCapped}
 use Rattle.tcc_cert.specs.CycleRules.{BreaksNearPair, BreaksNearStep, BreaksFarLink, BreaksFarStep, BreaksReturn}
@@ -32,6 +32,15 @@ of_far : (h : History) (near far pairs links : List (List ℕ)) (least : ℕ) (a
 of_far h near far pairs links least answer fits size cap table low said =
     far_answer h near far links (record { least = link_table h near pairs links table low; long = size.long; cap = capped_more least unlinked far (omega arith) cap }) answer said
 
+-- both tables hold, and the last rule answers
+of_last : (h : History) (near far pairs links : List (List ℕ)) (least : ℕ) (first second answer : Verdict) → least < 4294967296 → HasSize (count h) (count h) near → IsCapped least near → HasSize (count h) (count h) far → IsCapped least far → IsLeastTable (count h) (PairWeighs h) pairs → AreLowered h near pairs links
+    → IsAnswer (by_places NearPairs (IsLongLink pairs near) ∷ by_places NearSteps (IsLongStep pairs near) ∷ []) first → first ≡ verdict.Accepted
+    → IsAnswer (by_places FarLinks (IsLongLink links far) ∷ by_places FarSteps (IsLongStep links far) ∷ []) second → second ≡ verdict.Accepted
+    → IsAnswer (last_rules h least far) answer → IsAnswer (near_rules h near ++ far_rules h near far ++ last_rules h least far) answer
+of_last h near far pairs links least first second answer fits near_size near_cap far_size far_cap table low near_said near_holds far_said far_holds said =
+    answer_later (near_rules h near) (far_rules h near far ++ last_rules h least far) answer (all_hold (near_rules h near) first near_holds (of_near h near pairs least first fits near_size near_cap table near_said))
+    (answer_later (far_rules h near far) (last_rules h least far) answer (all_hold (far_rules h near far) second far_holds (of_far h near far pairs links least second fits far_size far_cap table low far_said)) said)
+
 pub returns-in_default : goal.returns-in_default
 returns-in_default c =
     let h = c.args.graph.now in
@@ -61,31 +70,14 @@ returns-in_default-2 c =
 
 pub returns-in-Some : goal.returns-in-Some
 returns-in-Some c =
-    let h = c.args.graph.now in
-    let near = c.args.near.now in
-    let far = c.args.far.now in
-    let pairs = c.rows.result.now in
-    let links = c.rows-3.result.now in
-    let table : IsLeastTable (count h) (PairWeighs h) pairs = search rules in
-    let low : AreLowered h near pairs links = search rules in
-    let before = of_near h near pairs c.args.least c.in_ok-of_near.of_near c.ranges.least.fits c.requires.near c.requires.near_capped table c.in_ok-of_near.ensures in
-    let said = of_far h near far pairs links c.args.least c.in_ok-of_far.of_far c.ranges.least.fits c.requires.far c.requires.far_capped table low c.in_ok-of_far.ensures in
-    let answer = verdict.Rejected Returns (c.in-Some.start, c.in-Some.start) in
-    answer_later (near_rules h near) (far_rules h near far ++ last_rules h c.args.least far) answer (all_hold (near_rules h near) c.in_ok-of_near.of_near c.in-Accepted.is before)
-    (answer_later (far_rules h near far) (last_rules h c.args.least far) answer (all_hold (far_rules h near far) c.in_ok-of_far.of_far c.in-Accepted-2.is said)
-    (inl (refl, return_first h far c.args.least c.requires.far.long c.in-Some.start c.in-Some.ensures)))
+    let table : IsLeastTable (count c.args.graph.now) (PairWeighs c.args.graph.now) c.rows.result.now = search rules in
+    let low : AreLowered c.args.graph.now c.args.near.now c.rows.result.now c.rows-3.result.now = search rules in
+    of_last c.args.graph.now c.args.near.now c.args.far.now c.rows.result.now c.rows-3.result.now c.args.least c.in_ok-of_near.of_near c.in_ok-of_far.of_far (verdict.Rejected Returns (c.in-Some.start, c.in-Some.start)) c.ranges.least.fits c.requires.near c.requires.near_capped c.requires.far c.requires.far_capped table low c.in_ok-of_near.ensures c.in-Accepted.is c.in_ok-of_far.ensures c.in-Accepted-2.is
+    (inl (refl, return_first c.args.graph.now c.args.far.now c.args.least c.requires.far.long c.in-Some.start c.in-Some.ensures))
 
 pub returns : goal.returns
 returns c =
-    let h = c.args.graph.now in
-    let near = c.args.near.now in
-    let far = c.args.far.now in
-    let pairs = c.rows.result.now in
-    let links = c.rows-3.result.now in
-    let table : IsLeastTable (count h) (PairWeighs h) pairs = search rules in
-    let low : AreLowered h near pairs links = search rules in
-    let before = of_near h near pairs c.args.least c.in_ok-of_near.of_near c.ranges.least.fits c.requires.near c.requires.near_capped table c.in_ok-of_near.ensures in
-    let said = of_far h near far pairs links c.args.least c.in_ok-of_far.of_far c.ranges.least.fits c.requires.far c.requires.far_capped table low c.in_ok-of_far.ensures in
-    answer_later (near_rules h near) (far_rules h near far ++ last_rules h c.args.least far) verdict.Accepted (all_hold (near_rules h near) c.in_ok-of_near.of_near c.in-Accepted.is before)
-    (answer_later (far_rules h near far) (last_rules h c.args.least far) verdict.Accepted (all_hold (far_rules h near far) c.in_ok-of_far.of_far c.in-Accepted-2.is said)
-    (return_holds h far c.args.least c.requires.far.long c.in-None.ensures, tt))
+    let table : IsLeastTable (count c.args.graph.now) (PairWeighs c.args.graph.now) c.rows.result.now = search rules in
+    let low : AreLowered c.args.graph.now c.args.near.now c.rows.result.now c.rows-3.result.now = search rules in
+    of_last c.args.graph.now c.args.near.now c.args.far.now c.rows.result.now c.rows-3.result.now c.args.least c.in_ok-of_near.of_near c.in_ok-of_far.of_far verdict.Accepted c.ranges.least.fits c.requires.near c.requires.near_capped c.requires.far c.requires.far_capped table low c.in_ok-of_near.ensures c.in-Accepted.is c.in_ok-of_far.ensures c.in-Accepted-2.is
+    (return_holds c.args.graph.now c.args.far.now c.args.least c.requires.far.long c.in-None.ensures, tt)

@@ -20,15 +20,13 @@ pub returns-in-Err : goal.returns-in-Err
 returns-in-Err g c at before =
     let now = c.lines.invariant at before in
     let one = c.in_ok-one.ensures now.0 now.2 in
-    let more = part-more (words step_line) c.args.count at c.lines.steps.items c.lines.counter now.0 one.0 c.in_ok-one.one c.lines-test.true (onward-words step_line now.0) now.1 one.1 in
-    rw (c.fault.ensures, one.2.number) (part-refused (words step_line) c.args.count at _ _ one.0 NoMemory (λ place. onward-words step_line place) more (inr refl))
+    rw (c.fault.ensures, one.2.number) (part-refused (words step_line) c.args.count at _ _ one.0 NoMemory (λ place. onward-words step_line place) (part-more (words step_line) c.args.count at c.lines.steps.items c.lines.counter now.0 one.0 c.in_ok-one.one c.lines-test.true (onward-words step_line now.0) now.1 one.1) (inr refl))
 
 pub lines-preserved : goal.lines-preserved
 lines-preserved g c at before =
     let now = c.lines.invariant at before in
     let one = c.in_ok-one.ensures now.0 now.2 in
-    let more = part-more (words step_line) c.args.count at c.lines.steps.items c.lines.counter now.0 one.0 c.in_ok-one.one c.lines-test.true (onward-words step_line now.0) now.1 one.1 in
-    (one.0, rw c.in-Ok.ensures.items more, one.2)
+    (one.0, rw c.in-Ok.ensures.items (part-more (words step_line) c.args.count at c.lines.steps.items c.lines.counter now.0 one.0 c.in_ok-one.one c.lines-test.true (onward-words step_line now.0) now.1 one.1), one.2)
 
 pub returns : goal.returns
 returns g c at before =

@@ -23,16 +23,14 @@ returns-in-Err g c at before =
     let form = numbers_line c.args.columns c.args.most in
     let now = c.lines.invariant at before in
     let row = c.in_ok-numbers.ensures now.0 now.2 in
-    let more = part-more (words form) c.args.rows at c.lines.table.items c.lines.counter now.0 row.0 c.in_ok-numbers.numbers c.lines-test.true (onward-words form now.0) now.1 row.1 in
-    rw (c.fault.ensures, row.2.number) (part-refused (words form) c.args.rows at _ _ row.0 NoMemory (λ place. onward-words form place) more (inr refl))
+    rw (c.fault.ensures, row.2.number) (part-refused (words form) c.args.rows at _ _ row.0 NoMemory (λ place. onward-words form place) (part-more (words form) c.args.rows at c.lines.table.items c.lines.counter now.0 row.0 c.in_ok-numbers.numbers c.lines-test.true (onward-words form now.0) now.1 row.1) (inr refl))
 
 pub lines-preserved : goal.lines-preserved
 lines-preserved g c at before =
     let form = numbers_line c.args.columns c.args.most in
     let now = c.lines.invariant at before in
     let row = c.in_ok-numbers.ensures now.0 now.2 in
-    let more = part-more (words form) c.args.rows at c.lines.table.items c.lines.counter now.0 row.0 c.in_ok-numbers.numbers c.lines-test.true (onward-words form now.0) now.1 row.1 in
-    (row.0, rw c.in-Ok.ensures.items more, row.2)
+    (row.0, rw c.in-Ok.ensures.items (part-more (words form) c.args.rows at c.lines.table.items c.lines.counter now.0 row.0 c.in_ok-numbers.numbers c.lines-test.true (onward-words form now.0) now.1 row.1), row.2)
 
 pub returns : goal.returns
 returns g c at before =
