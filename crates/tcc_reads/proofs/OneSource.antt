@@ -1,8 +1,7 @@
 -- Where nothing is faulty each external read has one source, and that is another transaction.
-use Rattle.std.proofs.Common.{ℕ, zero, suc, ◌≡◌, ◌≢◌, ◌<◌, ◌+◌, ◌⊎◌, inl, inr, Bool, true, false, cond, not, ◌&&◌, ◌||◌, List, [], ◌∷◌, ◌++◌, length, get_or, filter, filter_map, Option, None, Some, option_map, is_none, unwrap_or, append_assoc, refl, sym, ap, subst, ◌∙◌, arith}
+use Rattle.std.proofs.Common.{ℕ, zero, suc, ◌≡◌, ◌≢◌, ◌<◌, ◌+◌, ◌⊎◌, inl, inr, Bool, true, false, cond, not, List, [], ◌∷◌, ◌++◌, length, get_or, filter_map, Option, None, Some, option_map, is_none, unwrap_or, append_assoc, refl, sym, ap, subst, ◌∙◌, arith}
 use Rattle.std.specs.Prelude.{◌==◌, find}
 use Rattle.std.specs.List.{Contains, list_any, cons_option, position_from}
-use Rattle.std.specs.Option.{option_or}
 use Rattle.std.specs.Str.{bytes_eq}
 use Rattle.std.proofs.lemmas.Bool.{and_parts, or_cases, cases_Bool, cases_eq, cases_order, and_from, eqb-true, eq-eqb, ne_eqb, false≢true}
 use Rattle.std.proofs.lemmas.List.{get_or_default}
@@ -11,10 +10,8 @@ use Rattle.tcc_txn.specs.Snapshots.{Sessions}
 use Rattle.tcc_txn.specs.declared.op.Op.{Op}
 use Rattle.tcc_txn.specs.declared.op.Op.TheVariants.{Get, Put}
 use Rattle.tcc_txn.proofs.Lists.{in_filter, from_filter, in_flat_map, from_flat_map}
-use Rattle.tcc_reads.specs.declared.fault.ReadFault.{ReadFault}
-use Rattle.tcc_reads.specs.declared.fault.ReadFaultKind.{ReadFaultKind}
-use Rattle.tcc_reads.specs.declared.fault.ReadFaultKind.TheVariants.{Duplicate, ThinAir, Aborted, Intermediate, Future}
-use Rattle.tcc_reads.specs.Sites.{Stand, Site, is_committed, stands, stands_from, committed, sites_from, sites_of, sites}
+use Rattle.tcc_reads.specs.declared.fault.ReadFaultKind.TheVariants.{Duplicate, Aborted, Intermediate, Future}
+use Rattle.tcc_reads.specs.Sites.{Stand, Site, is_committed, stands, committed, sites_from, sites_of, sites}
 use Rattle.tcc_reads.specs.Sources.{visible_write, external_part, external_read, external_reads, shows, source}
 use Rattle.tcc_reads.specs.Faults.{puts, writer, is_same_transaction, is_same_site, is_last_at_key, write_kind, external_kind, read_kind, kind_at, fault_at, read_faults}
 use Rattle.tcc_reads.specs.OneSource.{IsNumber, ReadsFromOthers, Gives, HasOneSource}
