@@ -39,8 +39,8 @@ returns-in_err-answer-in-End g c = IfSome_then (g.R.Read.remaining c.args.reader
     (refused c.snapshot.result.now c.in_err-answer-in-End.field-0.0 c.from_residual-in_err-answer-in-End.result
     c.in_err-answer-in-End.ensures c.from_residual-in_err-answer-in-End.ensures.1))
 
-pub returns-in-End : goal.returns-in-End
-returns-in-End g c = IfSome_then (g.R.Read.remaining c.args.reader) c.in_ok-recording.ensures.recording
+pub returns : goal.returns
+returns g c = IfSome_then (g.R.Read.remaining c.args.reader) c.in_ok-recording.ensures.recording
     (λ text is.
     let takes = subst (λ m. TakesMoment g.R.Read.remaining [] (answers_of text) (Ok m) c.advance.new.self) c.in-End.is
     (c.in_ok-moment.ensures.moment [] (answers_of text) is) in
