@@ -9,11 +9,10 @@ use crate::help;
 use clap::error::ErrorKind;
 use clap::{Arg, ArgAction, ArgMatches, Command, Error};
 use std::alloc::{AllocError, Global};
-use std::io::{self, Write};
 use std::env;
+use std::io::{self, Write};
 use tcc_run::Status;
 use tcc_run::printing::{print_memory, print_text};
-
 
 /// What the program is asked to do.
 #[derive(Debug, Drop, PartialEq, Eq)]

@@ -40,7 +40,8 @@ Statuses:
 README.md of the sources says how to read an answer, docs/FORMATS.md has every text and every limit.";
 
 /// The files, an example, and the statuses of a checked certificate.
-pub const CHECK: &str = "HISTORY has the records that 'tcc explain' reads, all of them one history; a 'seal' is passed over.
+pub const CHECK: &str =
+    "HISTORY has the records that 'tcc explain' reads, all of them one history; a 'seal' is passed over.
 CERTIFICATE claims that the history has a commit order, or that a cycle of it is a least one:
   tcc-certificate 1        tcc-certificate 1
   order N S                cycle N M L

@@ -55,7 +55,10 @@ fn faults_of_records(rt: HostRuntime) -> Result<(), Fail> {
         // The last write of x is of the value that was written over: places count, and not values.
         (
             "b,begin\nb,r,x,1\nb,commit\na,begin\na,w,x,1\na,w,x,2\na,w,x,1\na,commit\n",
-            &[("a", 1, 3, "x", 1, Duplicate), ("b", 1, 1, "x", 1, Intermediate)],
+            &[
+                ("a", 1, 3, "x", 1, Duplicate),
+                ("b", 1, 1, "x", 1, Intermediate),
+            ],
         ),
         (
             ABORTED_AND_THIN_AIR,
@@ -63,7 +66,10 @@ fn faults_of_records(rt: HostRuntime) -> Result<(), Fail> {
         ),
         (
             "a,begin\na,r,x,1\na,w,x,1\na,r,x,2\na,commit\n",
-            &[("a", 1, 1, "x", 1, Future), ("a", 1, 3, "x", 2, BrokenInternal)],
+            &[
+                ("a", 1, 1, "x", 1, Future),
+                ("a", 1, 3, "x", 2, BrokenInternal),
+            ],
         ),
         // An aborted transaction may write a duplicate too.
         (
@@ -115,7 +121,8 @@ fn nothing_happened(rt: HostRuntime) -> Result<(), Fail> {
 #[test]
 fn numbers_and_sources(rt: HostRuntime) -> Result<(), Fail> {
     let alloc = rt.alloc();
-    let records = "c,begin\na,begin\na,w,x,9\na,abort\na,begin\na,w,y,1\na,w,x,1\na,w,x,2\na,r,x,2\na,commit\n\
+    let records =
+        "c,begin\na,begin\na,w,x,9\na,abort\na,begin\na,w,y,1\na,w,x,1\na,w,x,2\na,r,x,2\na,commit\n\
         b,begin\nb,r,x,9\nb,abort\nc,r,y,1\nc,r,x,2\nc,r,z,0\nc,r,y,1\nc,r,y,0\nc,commit\nc,begin\nc,commit\n";
     let Ok(resolved) = resolve(alloc, &snapshot(&rt, alloc, records)) else {
         panic!(rt; "not resolved");
@@ -143,17 +150,26 @@ fn texts_of_faults(rt: HostRuntime) -> Result<(), Fail> {
     let alloc = rt.alloc();
     let kinds = [
         (Duplicate, "the value was written at the key before"),
-        (BrokenInternal, "the transaction wrote another value at the key"),
+        (
+            BrokenInternal,
+            "the transaction wrote another value at the key",
+        ),
         (ThinAir, "nobody wrote the value at the key"),
         (Aborted, "an aborted transaction wrote the value"),
-        (Intermediate, "the value was written over in its transaction"),
+        (
+            Intermediate,
+            "the value was written over in its transaction",
+        ),
         (Future, "the transaction writes the value later"),
     ];
     for (kind, text) in &kinds {
         assert_eq!(rt; format!(in alloc; "{kind}")?.as_str(), *text);
     }
     let reads = ResolveFault::Reads(Vec::new(alloc));
-    assert_eq!(rt; format!(in alloc; "{reads}")?.as_str(), "some operations read or write what no source explains");
+    assert_eq!(rt;
+        format!(in alloc; "{reads}")?.as_str(),
+        "some operations read or write what no source explains"
+    );
     let memory = ResolveFault::NoMemory;
     assert_eq!(rt; format!(in alloc; "{memory}")?.as_str(), "out of memory");
     Ok(())
