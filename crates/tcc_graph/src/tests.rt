@@ -102,8 +102,17 @@ fn pairs(rt: HostRuntime) -> Result<(), Fail> {
             assert_eq!(rt; graph.reads_from(a, b).len(), if read { 1 } else { 0 });
         }
     }
-    assert!(rt; graph.reads_from(1, 4)[0] == name(&rt, "x"));
+    assert!(rt; graph.reads_from(1, 4) == [name(&rt, "x")].as_slice());
     Ok(())
+}
+
+/// The readers of a key from a transaction of the history.
+fn assert_readers(rt: &impl Abort, graph: &Graph, from: u32, key: &str, wanted: &[u32]) {
+    assert!(rt; from < graph.count(), "{from}");
+    assert!(rt;
+        graph.readers(from, &name(rt, key)) == wanted,
+        "of {key} from {from}"
+    );
 }
 
 /// Of two histories, the keys, the readers of a key from a writer, and the writers of a key. In the first, a/1 and b/1
@@ -133,10 +142,7 @@ fn keys_writers_and_readers(rt: HostRuntime) -> Result<(), Fail> {
             assert!(rt; graph.keys()[place] == name(&rt, key));
         }
         for (from, key, wanted) in readers {
-            assert!(rt;
-                graph.readers(*from, &name(&rt, key)) == *wanted,
-                "of {key} from {from} in {records}"
-            );
+            assert_readers(&rt, &graph, *from, key, wanted);
         }
         for (key, wanted) in writers {
             assert!(rt;
