@@ -1,0 +1,6 @@
+mod Agreed
+mod Copied
+mod Opened
+mod Places
+mod Recorded
+mod Whole

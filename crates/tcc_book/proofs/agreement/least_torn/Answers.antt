@@ -1,0 +1,22 @@
+use Rattle.std.proofs.Common.{◌≡◌, ◌+◌, Some, [], ◌∷◌, ◌++◌, take, sym, ap, ◌∙◌, subst}
+use Rattle.std.proofs.lemmas.List.{take_more}
+use Rattle.tcc_book.specs.Passes.{LeastTorn, lesser}
+use Rattle.tcc_book.proofs.Agreed.{torn-more, torn-same}
+use Rattle.tcc_book.proofs.agreement.least_torn.Goals as goal
+use Rattle.tcc_book.proofs.agreement.least_torn.Goals.{then-not-agrees, else-not-agrees}
+
+pub loop-pass-preserved : goal.loop-pass-preserved
+loop-pass-preserved c =
+    let copy = c.args.copy.now in
+    let passes = c.args.passes.now in
+    let i = c.loop-pass.pass-index in
+    let pass = c.pass-item.result in
+    let longer : take (i + 1) passes ≡ take i passes ++ pass ∷ [] = take_more passes i pass c.loop-pass-test.true ∙ ap (λ p. take i passes ++ p ∷ []) (sym c.pass-item.is) in
+    rw longer (elim c.if-not-agrees.branch [
+      | then-not-agrees w ↦
+          subst (LeastTorn copy (take i passes ++ pass ∷ [])) (sym (w.least-is ∙ ap Some (w.lesser.ensures ∙ ap (lesser c.loop-pass.least) w.session.ensures)))
+          (torn-more copy (take i passes) pass c.loop-pass.least c.loop-pass.invariant (c.agrees.ensures.no w.if-not-agrees.true))
+      | else-not-agrees w ↦
+          subst (LeastTorn copy (take i passes ++ pass ∷ [])) (sym w.least-is)
+          (torn-same copy (take i passes) pass c.loop-pass.least c.loop-pass.invariant (c.agrees.ensures.yes w.if-not-agrees.false))
+    ])

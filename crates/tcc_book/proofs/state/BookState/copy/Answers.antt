@@ -1,0 +1,29 @@
+use Rattle.std.proofs.Common.{◌≡◌, sym, ap, ◌∙◌, map}
+use Rattle.std.proofs.lemmas.Option.{none-some}
+use Rattle.std.specs.FinMap.{from_entries}
+use Rattle.indexmap.specs.IndexMap.{keys}
+use Rattle.tcc_txn.specs.Snapshots.{parts_of, snapshot_fault}
+use Rattle.tcc_book.specs.Books.{list_of}
+use Rattle.tcc_book.specs.BookStorage.{part_at}
+use Rattle.tcc_book.proofs.Copied.{no-fault, parts-shown, within}
+use Rattle.tcc_book.proofs.state.BookState.copy.Goals as goal
+
+pub parts-requires : goal.parts-requires
+parts-requires c =
+    rw (c.deref.ensures.value) (within c.self.inside.places c.self.inside.journal.items c.self.invariant)
+
+pub unreachable-requires : goal.unreachable-requires
+unreachable-requires c =
+    let journal = c.self.inside.journal.items in
+    let shown : parts_of c.in_ok-parts.field-0.items ≡ map (λ session. (session, list_of session journal)) (keys c.self.inside.places)
+    = c.in_ok-parts.ensures ∙ ap (λ js. map (part_at js) c.self.inside.places.entries) c.deref.ensures.value
+    ∙ parts-shown c.self.inside.places journal c.self.invariant in
+    absurd (none-some c.in_default.field-0.0 (sym (ap snapshot_fault shown ∙ no-fault c.self.inside.places journal c.self.invariant) ∙ c.in_default.ensures.0))
+
+pub returns : goal.returns
+returns c =
+    let journal = c.self.inside.journal.items in
+    let shown : parts_of c.in_ok-parts.field-0.items ≡ map (λ session. (session, list_of session journal)) (keys c.self.inside.places)
+    = c.in_ok-parts.ensures ∙ ap (λ js. map (part_at js) c.self.inside.places.entries) c.deref.ensures.value
+    ∙ parts-shown c.self.inside.places journal c.self.invariant in
+    rw (← c.self.view_is) (c.in-Ok.ensures.1 ∙ ap from_entries shown)

@@ -1,0 +1,81 @@
+//! Whether a copy of the book has exactly what the passes recorded.
+ghost use Rattle.std.specs.Prelude.{◌≡◌, true, false, find, map, not, option_map, Some};
+ghost use Rattle.std.specs.FinMap.{entries, get};
+ghost use Rattle.std.specs.List.{list_any};
+ghost use Rattle.tcc_txn.specs.Lines.{same};
+ghost use Rattle.tcc_book.specs.Passes.{Agrees, LeastTorn, has_pass, lesser};
+
+use crate::alike::are_same;
+use crate::pass::Pass;
+use tcc_txn::{Name, Snapshot, Txn};
+
+/// What the session has in the snapshot.
+fn found<'a>(copy: &'a Snapshot, session: &Name) -> Option<&'a [Txn]>
+    ensures { option_map (λ txns. txns.now) result ≡ get copy.now session.now }
+{
+    for i in 0..copy.sessions() {
+        let Some((name, txns)) = copy.session(i) else {
+            return None;
+        };
+        if *name == *session {
+            return Some(txns);
+        }
+    }
+    None
+}
+
+/// Whether the snapshot has exactly what the pass recorded.
+pub(crate) fn agrees(copy: &Snapshot, pass: &Pass) -> bool
+    ensures yes { result ≡ true → Agrees copy.now pass.now }
+    ensures no { result ≡ false → Agrees copy.now pass.now → ⊥ }
+{
+    match found(copy, pass.session()) {
+        Some(txns) => are_same(txns, pass.recorded()),
+        None => false,
+    }
+}
+
+/// Whether one of the passes is the session's.
+fn has_pass(passes: &[Pass], session: &Name) -> bool
+    ensures { result ≡ has_pass passes.now session.now }
+{
+    passes.iter().any(|pass| *session == *pass.session())
+}
+
+/// The first session of the snapshot that has no pass.
+pub(crate) fn missing(copy: &Snapshot, passes: &[Pass]) -> Option<Name>
+    ensures { result ≡ find (λ name. not (has_pass passes.now name)) (map (λ e. e.0) (entries copy.now)) }
+{
+    for i in 0..copy.sessions() {
+        let Some((name, _)) = copy.session(i) else {
+            return None;
+        };
+        if !has_pass(passes, name) {
+            return Some(*name);
+        }
+    }
+    None
+}
+
+/// The lesser of the names, or the one that there is.
+fn lesser(least: Option<Name>, name: &Name) -> Name
+    ensures { result ≡ lesser least name.now }
+{
+    match least {
+        Some(least) if least < *name => least,
+        _ => *name,
+    }
+}
+
+/// The least name of a pass with which the snapshot does not agree.
+pub(crate) fn least_torn(copy: &Snapshot, passes: &[Pass]) -> Option<Name>
+    ensures { LeastTorn copy.now passes.now result }
+{
+    let mut least: Option<Name> = None;
+    for pass in passes {
+        if !agrees(copy, pass) {
+            least = Some(lesser(least, pass.session()));
+        }
+    }
+    least
+}

@@ -1,0 +1,151 @@
+//! What the lock guards: the sessions that were opened, and the journal of all that was recorded.
+ghost use Rattle.std.specs.Prelude.{◌≡◌, ◌<◌, All, IfOk, length, map};
+ghost use Rattle.indexmap.specs.IndexMap.{IsUnique};
+ghost use Rattle.tcc_txn.specs.Lines.{same};
+ghost use Rattle.tcc_book.specs.Books.{Opens, Records, copy_of, no_book};
+ghost use Rattle.tcc_txn.specs.Snapshots.{parts_of};
+ghost use Rattle.tcc_book.specs.BookStorage.{AddsPlace, AreWithin, part_at, txn_at};
+
+use crate::entry::Entry;
+use crate::fault::{OpenFault, RecordFault};
+use indexmap::IndexMap;
+use std::alloc::Global;
+use std::marker::Model;
+use tcc_txn::{MAX_SESSIONS, MAX_TRANSACTIONS, Name, NoMemory, Snapshot, Txn};
+
+/// The sessions in the order in which they were opened, and the journal of all records in the order of the lock. Each
+/// session's list is kept as the places of its records in the journal.
+#[derive(Drop)]
+pub struct BookState {
+    places: IndexMap<Name, Vec<usize>>,
+    journal: Vec<Entry>,
+}
+
+impl Model for BookState {
+    ghost use Rattle.tcc_book.specs.Books.{Book};
+    ghost use Rattle.tcc_book.specs.BookStorage.{IsStored};
+    ghost use Rattle.indexmap.specs.IndexMap.{keys};
+
+    ghost Value = { Book };
+
+    ghost view = { λ s. record { names = keys s.places; journal = s.journal.items } };
+
+    ghost invariant = { λ s. IsStored s.places s.journal.items };
+}
+
+/// Adds a place to the list of a session that has so many.
+fn add_place(
+    places: &mut IndexMap<Name, Vec<usize>>,
+    session: &Name,
+    held: u32,
+    place: usize,
+) -> Result<(), RecordFault>
+    requires unique { IsUnique same places.old }
+    ensures { AddsPlace places.old session.now held place result places.new }
+{
+    let Some(list) = places.get_mut(session) else {
+        return Err(RecordFault::Torn { session: *session });
+    };
+    if list.len() != held as usize {
+        return Err(RecordFault::Torn { session: *session });
+    }
+    match list.push(place) {
+        Ok(()) => Ok(()),
+        Err(_) => Err(RecordFault::NoMemory),
+    }
+}
+
+/// The transactions at these places of the journal.
+fn listed(alloc: Global, journal: &[Entry], places: &[usize]) -> Result<Vec<Txn>, NoMemory>
+    requires { All (λ place. place < length journal.now) places.now }
+    ensures { IfOk result (λ txns. txns.items ≡ map (txn_at journal.now) places.now) }
+{
+    let mut txns = Vec::new(alloc);
+    for place in places {
+        txns.push(journal[*place].txn.copy(alloc)?)?;
+    }
+    Ok(txns)
+}
+
+/// Each session with what it recorded, in the order of opening.
+fn parts(
+    alloc: Global,
+    places: &IndexMap<Name, Vec<usize>>,
+    journal: &[Entry],
+) -> Result<Vec<(Name, Vec<Txn>)>, NoMemory>
+    requires { AreWithin journal.now places.now.entries }
+    ensures { IfOk result (λ parts. parts_of parts.items ≡ map (part_at journal.now) places.now.entries) }
+{
+    let mut parts = Vec::new(alloc);
+    for (session, list) in places.iter() {
+        parts.push((*session, listed(alloc, journal, list)?))?;
+    }
+    Ok(parts)
+}
+
+impl BookState {
+    /// A book with no session.
+    pub fn new(alloc: Global) -> Result<BookState, NoMemory>
+        ensures { IfOk result (λ state. state ≡ no_book) }
+    {
+        Ok(BookState {
+            places: IndexMap::new(alloc),
+            journal: Vec::new(alloc),
+        })
+    }
+
+    /// Opens a session.
+    pub fn open(&mut self, alloc: Global, session: Name) -> Result<(), OpenFault>
+        ensures { Opens self.old session result self.new }
+    {
+        if let Some(places) = self.places.get(&session) {
+            return Err(OpenFault::Taken {
+                held: places.len() as u32,
+            });
+        }
+        if self.places.len() >= MAX_SESSIONS {
+            return Err(OpenFault::TooManySessions {
+                held: self.places.len() as u32,
+            });
+        }
+        if self.places.insert(session, Vec::new(alloc)).is_err() {
+            return Err(OpenFault::NoMemory);
+        }
+        Ok(())
+    }
+
+    /// Adds a transaction to the journal and to the list of its session, whose pass has recorded so many; a refused one
+    /// comes back.
+    pub fn record(&mut self, session: &Name, held: u32, txn: Txn) -> Result<(), (RecordFault, Txn)>
+        ensures { Records self.old session.now held txn result self.new }
+    {
+        let place = self.journal.len();
+        if place >= MAX_TRANSACTIONS {
+            return Err((RecordFault::Full { held: place as u32 }, txn));
+        }
+        if self.journal.reserve(1).is_err() {
+            return Err((RecordFault::NoMemory, txn));
+        }
+        if let Err(fault) = add_place(&mut self.places, session, held, place) {
+            return Err((fault, txn));
+        }
+        let entry = Entry {
+            session: *session,
+            txn,
+        };
+        let Ok(()) = self.journal.push(entry) else {
+            unreachable!()
+        };
+        Ok(())
+    }
+
+    /// The map of all sessions to what each recorded. It takes time in proportion to all that is held.
+    pub fn copy(&self, alloc: Global) -> Result<Snapshot, NoMemory>
+        ensures { IfOk result (λ copy. copy ≡ copy_of self.now) }
+    {
+        let Ok(copy) = Snapshot::new(parts(alloc, &self.places, &self.journal)?) else {
+            unreachable!()
+        };
+        Ok(copy)
+    }
+}

@@ -1,0 +1,224 @@
+//! What no clause says: which of two faults is answered, and what stands under the lock between two calls.
+use crate::{Book, OpenFault, Pass, Receipt, RecordFault, SealFault, WholeFault};
+use std::alloc::Global;
+use std::process::Abort;
+use std::sync::Wait;
+use std::test::Fail;
+use std::thread;
+use std::thread::Threads;
+use tcc_txn::{MAX_SESSIONS, MAX_TRANSACTIONS, Name, Op, Snapshot, Txn};
+
+/// How many transactions each recorder has.
+const MOST: u32 = 50;
+
+/// The session whose name is a letter.
+fn session(letter: u8) -> Option<Name> {
+    Name::read(&[letter]).ok()
+}
+
+/// The transaction that writes the value.
+fn write(alloc: Global, value: u64) -> Option<Txn> {
+    let key = Name::read(b"x").ok()?;
+    let mut ops = Vec::new(alloc);
+    ops.push(Op::Put { key, value }).ok()?;
+    Txn::new(ops, true).ok()
+}
+
+/// The pass of a session whose name is a letter.
+fn open(rt: &impl Wait, alloc: Global, book: &Book, letter: u8) -> Option<Pass> {
+    book.open(rt, alloc, session(letter)?).ok()
+}
+
+/// Records the write of the value.
+fn record(
+    rt: &impl Wait,
+    alloc: Global,
+    book: &Book,
+    pass: &mut Pass,
+    value: u64,
+) -> Option<Result<Receipt, (RecordFault, Txn)>> {
+    Some(book.record(rt, alloc, pass, write(alloc, value)?))
+}
+
+/// Whether these are so many writes of the values from 1 on.
+fn are_writes(txns: &[Txn], count: u32) -> bool {
+    let mut wanted = 0u64;
+    for txn in txns {
+        wanted = wanted.wrapping_add(1);
+        match txn.ops().first() {
+            Some(Op::Put { value, .. }) if *value == wanted => {}
+            _ => return false,
+        }
+    }
+    wanted == u64::from(count)
+}
+
+/// Whether the session has so many writes of the values from 1 on.
+fn has_writes(snapshot: &Snapshot, name: &Name, count: u32) -> bool {
+    for i in 0..snapshot.sessions() {
+        if let Some((session, txns)) = snapshot.session(i) {
+            if *session == *name {
+                return are_writes(txns, count);
+            }
+        }
+    }
+    false
+}
+
+/// A recorder's whole life, with a seal after each record; none where something was not as it should be.
+fn recorder(rt: &impl Wait, alloc: Global, book: &Book, pass: Pass) -> Option<Pass> {
+    let mut pass = pass;
+    for before in 0..MOST {
+        let receipt = record(rt, alloc, book, &mut pass, u64::from(before) + 1)?.ok()?;
+        let sealed = book.seal(rt, alloc, &pass).ok()?;
+        if receipt.place != before + 1 || !has_writes(&sealed, pass.session(), before + 1) {
+            return None;
+        }
+    }
+    Some(pass)
+}
+
+/// Four recorders in threads of their own: each snapshot has what its caller recorded, and in the end all four lists are
+/// whole.
+#[test]
+fn four_recorders(rt: HostRuntime) {
+    let alloc = rt.alloc();
+    let Ok(book) = Book::new(alloc) else {
+        panic!(rt; "no memory");
+    };
+    let mut passes = Vec::new(alloc);
+    for letter in b"abcd" {
+        let Some(pass) = open(&rt, alloc, &book, *letter) else {
+            panic!(rt; "not opened");
+        };
+        assert!(rt; passes.push(pass).is_ok());
+    }
+    let Ok(ends) = thread::map_vec(&rt, passes, &|pass| recorder(&rt, alloc, &book, pass)) else {
+        panic!(rt; "no memory");
+    };
+    let mut done = Vec::new(alloc);
+    for end in ends {
+        let Some(pass) = end else {
+            panic!(rt; "a recorder was refused");
+        };
+        assert!(rt; book.seal(&rt, alloc, &pass).is_ok());
+        assert!(rt; done.push(pass).is_ok());
+    }
+    let Ok(whole) = book.close(&rt, alloc, done) else {
+        panic!(rt; "not whole");
+    };
+    assert_eq!(rt; whole.sessions(), 4u32);
+    for letter in b"abcd" {
+        let Some(name) = session(*letter) else {
+            panic!(rt; "no name");
+        };
+        assert!(rt; has_writes(&whole, &name, MOST));
+    }
+}
+
+/// A session without its pass is missed, the least one first, and nothing is lost by it.
+#[test]
+fn missing_passes(rt: HostRuntime) {
+    let alloc = rt.alloc();
+    let Ok(book) = Book::new(alloc) else {
+        panic!(rt; "no memory");
+    };
+    let (Some(c), Some(b), Some(a)) = (
+        open(&rt, alloc, &book, b'c'),
+        open(&rt, alloc, &book, b'b'),
+        open(&rt, alloc, &book, b'a'),
+    ) else {
+        panic!(rt; "not opened");
+    };
+    let mut passes = Vec::new(alloc);
+    assert!(rt; passes.push(a).is_ok());
+    let fault = book.whole(&rt, alloc, &passes).err();
+    let missing = session(b'b').map(|session| WholeFault::MissingPass { session });
+    assert_eq!(rt; fault, missing);
+    let Err((fault, book, mut passes)) = book.close(&rt, alloc, passes) else {
+        panic!(rt; "whole without a pass");
+    };
+    assert_eq!(rt; Some(fault), missing);
+    let mut c = c;
+    assert!(rt; record(&rt, alloc, &book, &mut c, 1).is_some_and(|r| r.is_ok()));
+    assert!(rt; passes.push(c).is_ok());
+    assert!(rt; passes.push(b).is_ok());
+    assert!(rt; book.whole(&rt, alloc, &passes).is_ok());
+    assert!(rt; book.close(&rt, alloc, passes).is_ok());
+}
+
+/// A pass of another book is torn, the least one first.
+#[test]
+fn torn_passes(rt: HostRuntime) {
+    let alloc = rt.alloc();
+    let (Ok(book), Ok(other)) = (Book::new(alloc), Book::new(alloc)) else {
+        panic!(rt; "no memory");
+    };
+    let mut passes = Vec::new(alloc);
+    for letter in b"cab" {
+        let Some(mut pass) = open(&rt, alloc, &other, *letter) else {
+            panic!(rt; "not opened");
+        };
+        let refused = record(&rt, alloc, &book, &mut pass, 1);
+        let torn = RecordFault::Torn {
+            session: *pass.session(),
+        };
+        assert!(rt; refused.is_some_and(|r| r.is_err_and(|e| e.0 == torn)));
+        let torn = SealFault::Torn {
+            session: *pass.session(),
+        };
+        assert_eq!(rt; book.seal(&rt, alloc, &pass).err(), Some(torn));
+        assert!(rt; passes.push(pass).is_ok());
+    }
+    let torn = session(b'a').map(|session| WholeFault::Torn { session });
+    assert_eq!(rt; book.whole(&rt, alloc, &passes).err(), torn);
+}
+
+/// A session is opened once, and up to so many are.
+#[test]
+fn openings(rt: HostRuntime) {
+    let alloc = rt.alloc();
+    let Ok(book) = Book::new(alloc) else {
+        panic!(rt; "no memory");
+    };
+    let Some(mut pass) = open(&rt, alloc, &book, b'0') else {
+        panic!(rt; "not opened");
+    };
+    for value in 1..4u64 {
+        assert!(rt; record(&rt, alloc, &book, &mut pass, value).is_some_and(|r| r.is_ok()));
+    }
+    let again = book.open(&rt, alloc, *pass.session()).err();
+    assert_eq!(rt; again, Some(OpenFault::Taken { held: 3 }));
+    let letters = b"123456789abcdefghijklmnopqrstuvwxyzABCDEFGHIJKLMNOPQRSTUVWXYZ_.";
+    assert_eq!(rt; letters.len() + 1, MAX_SESSIONS);
+    for letter in letters {
+        assert!(rt; open(&rt, alloc, &book, *letter).is_some());
+    }
+    let Ok(name) = Name::read(b"no") else {
+        panic!(rt; "no name");
+    };
+    let many = book.open(&rt, alloc, name).err();
+    assert_eq!(rt; many, Some(OpenFault::TooManySessions { held: 64 }));
+}
+
+/// A full book hands the transaction back.
+#[test]
+fn full_book(rt: HostRuntime) {
+    let alloc = rt.alloc();
+    let Ok(book) = Book::new(alloc) else {
+        panic!(rt; "no memory");
+    };
+    let (Some(mut a), Some(mut b)) = (open(&rt, alloc, &book, b'a'), open(&rt, alloc, &book, b'b'))
+    else {
+        panic!(rt; "not opened");
+    };
+    for _ in 0..MAX_TRANSACTIONS {
+        assert!(rt; record(&rt, alloc, &book, &mut a, 1).is_some_and(|r| r.is_ok()));
+    }
+    let Some(Err((fault, back))) = record(&rt, alloc, &book, &mut b, 7) else {
+        panic!(rt; "recorded in a full book");
+    };
+    assert_eq!(rt; fault, RecordFault::Full { held: 1023 });
+    assert!(rt; back.ops().first().is_some_and(|op| op.value() == 7));
+    assert!(rt; b.recorded().is_empty());
+}
