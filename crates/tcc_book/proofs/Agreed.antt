@@ -1,6 +1,5 @@
 -- Lemmas on agreement. Index: what a look through the sessions has found so far (found-here, unfound-more, unfound-all); the
--- first without a pass (first-here, none-more, none-all); the least torn pass so far (torn-same, torn-more); a map with which
--- all passes agree, and that has no others (whole).
+-- first without a pass (first-here, none-more, none-all); the least torn pass so far (torn-same, torn-more).
 use Rattle.std.proofs.Common.{◌≡◌, ◌⊎◌, ℕ, suc, zero, ◌+◌, ◌≤◌, Bool, true, false, cond, List, [], ◌∷◌, ◌++◌, length, map, take, find, Option, None, Some, refl, sym, ap, ◌∙◌, arith, inl, inr, true≢false, ⊎_elim}
 use Rattle.std.specs.Prelude.{slice_get}
 use Rattle.std.specs.FinMap as finite

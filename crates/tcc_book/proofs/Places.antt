@@ -1,6 +1,5 @@
 -- Lemmas on books. Index: how many places a session has (length-places, few-places); one record more (places-more,
--- list-more); a session without records (no-places); the names of a map of places (open-found); what stands at the places
--- (taken).
+-- list-more); a session without records (no-places); the names of a map of places (open-found).
 use Rattle.std.proofs.Common.{◌≡◌, ℕ, ◌+◌, ◌≤◌, Bool, true, false, cond, List, [], ◌∷◌, ◌++◌, length, None, refl, sym, ap, ◌∙◌, arith, is_some, true≢false}
 use Rattle.std.specs.List.{list_any, list_all}
 use Rattle.std.proofs.lemmas.Map.Made.{is_some-lookup}
