@@ -69,8 +69,8 @@ abbrev pub PrintsHelp : Option (List ℕ) → Option (List ℕ) → ℕ → Type
 PrintsHelp before after code =
     ((text : List ℕ) × Prints before after text Success code) ⊎ Prints before after (memory_line false) Memory code
 
--- how a run ends that answers nothing, by what clap says of its words: help and the version have to go out; the line for want
--- of memory too; and for a fault of the words standard output stays empty
+-- how a run ends that answers nothing, by what clap says of its words: for help and the version some text, which no clause
+-- names, has to go out; or the line for want of memory; and for a fault of the words standard output stays empty
 abbrev pub EndsUnasked : ErrorKind → Option (List ℕ) → Option (List ℕ) → ℕ → Type 0
 EndsUnasked DisplayHelp before after code = PrintsHelp before after code
 EndsUnasked DisplayVersion before after code = PrintsHelp before after code
