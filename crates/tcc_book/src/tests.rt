@@ -218,7 +218,7 @@ fn full_book(rt: HostRuntime) {
     let Some(Err((fault, back))) = record(&rt, alloc, &book, &mut b, 7) else {
         panic!(rt; "recorded in a full book");
     };
-    assert_eq!(rt; fault, RecordFault::Full { held: 1023 });
+    assert_eq!(rt; fault, RecordFault::Full { held: 4095 });
     assert!(rt; back.ops().first().is_some_and(|op| op.value() == 7));
     assert!(rt; b.recorded().is_empty());
 }

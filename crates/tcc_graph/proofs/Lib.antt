@@ -2,6 +2,8 @@
 --   Pairs        causal pairs by their test and by their kinds, steps of pairs, and the ends of pairs, steps and links
 --   Walking      walks joined, split and a step longer
 --   Linking      what links and routes cost; routes joined, split and a link longer
+--   Leveled      what holds at one level and so at the other
+--   Upward       every cycle, begun at its lowest number, is a route over numbers from there upward
 --   Tied         the comparisons of steps and links are total orders, and what ties is the same
 --   Numberings   where numbers stand in an order
 --   NameLemmas   names in lists: found by a test, and by place in a sorted list
@@ -14,6 +16,7 @@ pub mod KeyRowLemmas
 pub mod KeyTableLemmas
 pub mod KeysLemmas
 pub mod LastLemmas
+pub mod Leveled
 pub mod Linking
 pub mod MarkLemmas
 pub mod NameLemmas
@@ -21,5 +24,6 @@ pub mod Numberings
 pub mod Pairs
 pub mod TableLemmas
 pub mod Tied
+pub mod Upward
 pub mod Walking
 pub mod Worked

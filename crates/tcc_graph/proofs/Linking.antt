@@ -1,8 +1,9 @@
 -- Links and routes: what they cost, how they are joined, and where they end.
 use Rattle.std.proofs.Common.{◌≡◌, ◌<◌, ◌≤◌, ◌+◌, ℕ, inl, inr, List, [], ◌∷◌, ◌++◌, length, length-append, flat_map, refl, sym, ◌∙◌, subst, arith}
 use Rattle.std.proofs.lemmas.Grind.{flat_map-append}
-use Rattle.tcc_reads.specs.History.{History, count}
+use Rattle.tcc_reads.specs.History.{count}
 use Rattle.tcc_graph.specs.Relations.{IsCausalPair}
+use Rattle.tcc_graph.specs.Levels.{Judged}
 use Rattle.tcc_graph.specs.Links.{IsLink, link_from, link_to, link_cost, unfolding_of, cost}
 use Rattle.tcc_graph.specs.Routes.{LinksLead, IsRoute}
 use Rattle.tcc_graph.specs.declared.step.Step.{Step}
@@ -46,39 +47,39 @@ some_links (l ∷ links) some = omega (arith, cost_cons l links, some_cost l)
 -- ---- links one after another
 
 -- a causal pair is a link that costs one step
-pub pair_link : (h : History) (a b : ℕ) → IsCausalPair h a b → (l : Link) × (link_from l ≡ a) × (link_to l ≡ b) × IsLink h l × (link_cost l ≡ 1)
-pair_link h a b (inl session) = (link.Session a b, refl, refl, session, refl)
-pair_link h a b (inr (x, reads)) = (link.Reads a b x, refl, refl, reads, refl)
+pub pair_link : (j : Judged) (a b : ℕ) → IsCausalPair j.history a b → (l : Link) × (link_from l ≡ a) × (link_to l ≡ b) × IsLink j l × (link_cost l ≡ 1)
+pair_link j a b (inl session) = (link.Session a b, refl, refl, session, refl)
+pair_link j a b (inr (x, reads)) = (link.Reads a b x, refl, refl, reads, refl)
 
-pub lead_append : (h : History) (a b c : ℕ) (some others : List Link) → LinksLead h a b some → LinksLead h b c others → LinksLead h a c (some ++ others)
-lead_append h a b c [] others p q = subst (λ (z : ℕ). LinksLead h z c others) (sym p) q
-lead_append h a b c (l ∷ some) others p q = (p.0, p.1, lead_append h (link_to l) b c some others p.2 q)
+pub lead_append : (j : Judged) (a b c : ℕ) (some others : List Link) → LinksLead j a b some → LinksLead j b c others → LinksLead j a c (some ++ others)
+lead_append j a b c [] others p q = subst (λ (z : ℕ). LinksLead j z c others) (sym p) q
+lead_append j a b c (l ∷ some) others p q = (p.0, p.1, lead_append j (link_to l) b c some others p.2 q)
 
 -- what follows the first links starts where they end
-pub lead_split : (h : History) (a b : ℕ) (front rest : List Link) → LinksLead h a b (front ++ rest) → (m : ℕ) × LinksLead h a m front × LinksLead h m b rest
-lead_split h a b [] rest p = (a, refl, p)
-lead_split h a b (l ∷ front) rest p = let w = lead_split h (link_to l) b front rest p.2 in (w.0, (p.0, p.1, w.1), w.2)
+pub lead_split : (j : Judged) (a b : ℕ) (front rest : List Link) → LinksLead j a b (front ++ rest) → (m : ℕ) × LinksLead j a m front × LinksLead j m b rest
+lead_split j a b [] rest p = (a, refl, p)
+lead_split j a b (l ∷ front) rest p = let w = lead_split j (link_to l) b front rest p.2 in (w.0, (p.0, p.1, w.1), w.2)
 
 -- links that lead to one end start at one number
-pub lead_start : (h : History) (a b c : ℕ) (links : List Link) → LinksLead h a c links → LinksLead h b c links → a ≡ b
-lead_start h a b c [] p q = p ∙ sym q
-lead_start h a b c (l ∷ links) p q = sym p.0 ∙ q.0
+pub lead_start : (j : Judged) (a b c : ℕ) (links : List Link) → LinksLead j a c links → LinksLead j b c links → a ≡ b
+lead_start j a b c [] p q = p ∙ sym q
+lead_start j a b c (l ∷ links) p q = sym p.0 ∙ q.0
 
 -- links that start at one number lead to one end
-pub lead_end : (h : History) (a b c : ℕ) (links : List Link) → LinksLead h a b links → LinksLead h a c links → b ≡ c
-lead_end h a b c [] p q = sym p ∙ q
-lead_end h a b c (l ∷ links) p q = lead_end h (link_to l) b c links p.2 q.2
+pub lead_end : (j : Judged) (a b c : ℕ) (links : List Link) → LinksLead j a b links → LinksLead j a c links → b ≡ c
+lead_end j a b c [] p q = sym p ∙ q
+lead_end j a b c (l ∷ links) p q = lead_end j (link_to l) b c links p.2 q.2
 
 -- a route starts at a transaction
-pub route_below : (h : History) (s v : ℕ) (links : List Link) → IsRoute h s v links → s < count h
-route_below h s v [] (some, lead) = absurd (omega arith)
-route_below h s v (l ∷ links) (some, lead) = let ends = link_below h l lead.1 in subst (λ (z : ℕ). z < count h) lead.0 ends.0
+pub route_below : (j : Judged) (s v : ℕ) (links : List Link) → IsRoute j s v links → s < count j.history
+route_below j s v [] (some, lead) = absurd (omega arith)
+route_below j s v (l ∷ links) (some, lead) = let ends = link_below j l lead.1 in subst (λ (z : ℕ). z < count j.history) lead.0 ends.0
 
-pub link_route : (h : History) (a b : ℕ) (l : Link) → link_from l ≡ a → link_to l ≡ b → IsLink h l → IsRoute h a b (l ∷ [])
-link_route h a b l from to is = (omega arith, (from, is, to))
+pub link_route : (j : Judged) (a b : ℕ) (l : Link) → link_from l ≡ a → link_to l ≡ b → IsLink j l → IsRoute j a b (l ∷ [])
+link_route j a b l from to is = (omega arith, (from, is, to))
 
 -- one link more
-pub route_on : (h : History) (s a b : ℕ) (links : List Link) (l : Link) → IsRoute h s a links → link_from l ≡ a → link_to l ≡ b → IsLink h l → IsRoute h s b (links ++ l ∷ []) × (cost (links ++ l ∷ []) ≡ cost links + link_cost l)
-route_on h s a b links l route from to is =
+pub route_on : (j : Judged) (s a b : ℕ) (links : List Link) (l : Link) → IsRoute j s a links → link_from l ≡ a → link_to l ≡ b → IsLink j l → IsRoute j s b (links ++ l ∷ []) × (cost (links ++ l ∷ []) ≡ cost links + link_cost l)
+route_on j s a b links l route from to is =
     let long : length (links ++ l ∷ []) ≡ length links + 1 = length-append links (l ∷ []) in
-    ((omega (arith, route.0), lead_append h s a b links (l ∷ []) route.1 (from, is, to)), omega (arith, cost_append links (l ∷ []), one_cost l))
+    ((omega (arith, route.0), lead_append j s a b links (l ∷ []) route.1 (from, is, to)), omega (arith, cost_append links (l ∷ []), one_cost l))

@@ -4,6 +4,7 @@ use Rattle.std.specs.List.{Contains}
 use Rattle.std.proofs.lemmas.Bool.{or_cases, and_parts, and_from, or_left, or_right, ltb-true, lt-ltb, false≢true}
 use Rattle.tcc_reads.specs.History.{History, count, owner, place}
 use Rattle.tcc_graph.specs.Relations.{session_pair, IsSessionPair, reads_from, IsReadsPair, has_items, causal_pair, IsCausalPair}
+use Rattle.tcc_graph.specs.Levels.{Judged}
 use Rattle.tcc_graph.specs.Walks.{step_from, step_to, IsStep}
 use Rattle.tcc_graph.specs.Links.{IsLink, link_from, link_to}
 use Rattle.tcc_graph.specs.declared.step.Step.{Step}
@@ -74,7 +75,7 @@ pair_below h a b (inr p) = (p.1.0, p.1.1)
 pub step_below : (h : History) (s : Step) → IsStep h s → (step_from s < count h) × (step_to s < count h)
 step_below h s p = pair_below h (step_from s) (step_to s) (step_pair h s p)
 
-pub link_below : (h : History) (l : Link) → IsLink h l → (link_from l < count h) × (link_to l < count h)
-link_below h (link.Session a b) p = session_below h a b p
-link_below h (link.Reads a b x) p = (p.0, p.1)
-link_below h (link.Derived b a x c walk) p = (p.0.2.0, p.0.1.0)
+pub link_below : (j : Judged) (l : Link) → IsLink j l → (link_from l < count j.history) × (link_to l < count j.history)
+link_below j (link.Session a b) p = session_below j.history a b p
+link_below j (link.Reads a b x) p = (p.0, p.1)
+link_below j (link.Derived b a x c walk) p = (p.0.2.0, p.0.1.0)

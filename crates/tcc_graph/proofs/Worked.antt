@@ -7,6 +7,7 @@ use Rattle.tcc_graph.specs.Relations.{session_pair, reads_from, causal_pair}
 use Rattle.tcc_graph.specs.Numbers.{at, label}
 use Rattle.tcc_graph.specs.Keys.{keys, writers, readers}
 use Rattle.tcc_graph.specs.Walks.{IsWalk}
+use Rattle.tcc_graph.specs.Levels.{causally, atomically}
 use Rattle.tcc_graph.specs.Links.{IsLink, cost, link_cost}
 use Rattle.tcc_graph.specs.Routes.{IsCycle}
 use Rattle.tcc_graph.specs.Ties.{walk_cmp, link_cmp, cycle_cmp}
@@ -68,7 +69,7 @@ stale_read-labels = (refl, refl)
 abbrev pub stale_cycle : List Link
 stale_cycle = link.Session 0 1 ∷ link.Derived 1 0 x 2 (step.Session 1 2 ∷ []) ∷ []
 
-pub stale_read-cycle : IsCycle stale_read 0 stale_cycle
+pub stale_read-cycle : IsCycle (causally stale_read) 0 stale_cycle
 stale_read-cycle = (
   omega arith,
   (
@@ -114,7 +115,7 @@ long_chain-readers = (refl, refl, refl)
 abbrev pub chain_link : Link
 chain_link = link.Derived 1 0 x 4 (step.Reads 1 2 x ∷ step.Reads 2 3 y ∷ step.Session 3 4 ∷ [])
 
-pub long_chain-link : IsLink long_chain chain_link
+pub long_chain-link : IsLink (causally long_chain) chain_link
 long_chain-link = (
   ((λ e. absurd (omega arith)), (omega arith, omega arith, (0, omega arith, refl)), (omega arith, refl)),
   (
@@ -152,7 +153,7 @@ two_values-readers = (refl, refl, refl)
 abbrev pub conflict_cycle : List Link
 conflict_cycle = link.Derived 1 2 x 3 (step.Reads 1 3 x ∷ []) ∷ link.Derived 2 1 x 3 (step.Reads 2 3 x ∷ []) ∷ []
 
-pub two_values-cycle : IsCycle two_values 1 conflict_cycle
+pub two_values-cycle : IsCycle (causally two_values) 1 conflict_cycle
 two_values-cycle = (
   omega arith,
   (

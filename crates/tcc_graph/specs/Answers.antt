@@ -1,6 +1,6 @@
--- What is answered of a history.
+-- What is answered of a history at a level.
 use Rattle.std.specs.Prelude.{ℕ, List}
-use Rattle.tcc_reads.specs.History.{History}
+use Rattle.tcc_graph.specs.Levels.{Judged}
 use Rattle.tcc_graph.specs.Routes.{HasCycle}
 use Rattle.tcc_graph.specs.Orders.{IsFirstOrder}
 use Rattle.tcc_graph.specs.Ties.{IsFirstCycle}
@@ -12,6 +12,6 @@ pub data Answer : Type 0 where
   Cycle : ℕ → List Link → Answer
 
 -- the first answer: without a cycle the first commit order, else the first of the least cycles
-abbrev pub IsFirstAnswer : History → Answer → Type 0
-IsFirstAnswer h (Order order) = (HasCycle h → ⊥) × IsFirstOrder h order
-IsFirstAnswer h (Cycle s links) = IsFirstCycle h s links
+abbrev pub IsFirstAnswer : Judged → Answer → Type 0
+IsFirstAnswer j (Order order) = (HasCycle j → ⊥) × IsFirstOrder j order
+IsFirstAnswer j (Cycle s links) = IsFirstCycle j s links

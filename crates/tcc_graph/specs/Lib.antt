@@ -2,6 +2,7 @@
 pub mod Relations
 pub mod Keys
 pub mod Walks
+pub mod Levels
 pub mod Links
 pub mod Routes
 pub mod Orders

@@ -3,7 +3,7 @@ use Rattle.std.specs.Prelude.{ℕ, ◌≢◌, List, [], ◌∷◌, ◌++◌, len
 use Rattle.tcc_reads.specs.History.{History}
 use Rattle.tcc_graph.specs.Relations.{IsSessionPair, IsReadsPair}
 use Rattle.tcc_graph.specs.Keys.{IsWriter}
-use Rattle.tcc_graph.specs.Walks.{IsWalk}
+use Rattle.tcc_graph.specs.Levels.{Judged, IsAllowedWalk}
 use Rattle.tcc_graph.specs.declared.step.Step.{Step}
 use Rattle.tcc_graph.specs.declared.step.Step.TheVariants as step
 use Rattle.tcc_graph.specs.declared.link.Link.{Link}
@@ -13,9 +13,10 @@ use Rattle.tcc_graph.specs.declared.link.Link.TheVariants as link
 abbrev pub MayContradict : History → ℕ → ℕ → List ℕ → ℕ → Type 0
 MayContradict h b a x c = (b ≢ a) × IsReadsPair h a c x × IsWriter h b x
 
--- the reason why b stands before a: a key x, a reader c of x from a, and a walk by which b, a writer of x, reaches c
-abbrev pub IsReason : History → ℕ → ℕ → List ℕ → ℕ → List Step → Type 0
-IsReason h b a x c walk = MayContradict h b a x c × IsWalk h b c walk
+-- the reason why b stands before a: a key x, a reader c of x from a, and a walk that the level allows, by which b, a
+-- writer of x, reaches c
+abbrev pub IsReason : Judged → ℕ → ℕ → List ℕ → ℕ → List Step → Type 0
+IsReason j b a x c walk = MayContradict j.history b a x c × IsAllowedWalk j b c walk
 
 abbrev pub link_from : Link → ℕ
 link_from (link.Session a b) = a
@@ -28,10 +29,10 @@ link_to (link.Reads a b x) = b
 link_to (link.Derived b a x c walk) = a
 
 -- a session pair, a reads-from pair by the key, or a derived pair with its reason
-abbrev pub IsLink : History → Link → Type 0
-IsLink h (link.Session a b) = IsSessionPair h a b
-IsLink h (link.Reads a b x) = IsReadsPair h a b x
-IsLink h (link.Derived b a x c walk) = IsReason h b a x c walk
+abbrev pub IsLink : Judged → Link → Type 0
+IsLink j (link.Session a b) = IsSessionPair j.history a b
+IsLink j (link.Reads a b x) = IsReadsPair j.history a b x
+IsLink j (link.Derived b a x c walk) = IsReason j b a x c walk
 
 -- the steps of a link: itself, or its walk and then the read that it contradicts
 abbrev pub unfolding_of : Link → List Step

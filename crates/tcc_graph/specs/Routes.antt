@@ -1,31 +1,39 @@
 -- Routes, cycles and distances.
-use Rattle.std.specs.Prelude.{ℕ, ◌<◌, ◌≤◌, ◌≡◌, List, [], ◌∷◌, length}
-use Rattle.tcc_reads.specs.History.{History}
+use Rattle.std.specs.Prelude.{ℕ, ◌<◌, ◌≤◌, ◌≡◌, List, [], ◌∷◌, length, All}
+use Rattle.tcc_graph.specs.Levels.{Judged}
 use Rattle.tcc_graph.specs.Links.{IsLink, link_from, link_to, cost}
 use Rattle.tcc_graph.specs.declared.link.Link.{Link}
 
 -- the links lead from a to b, each from where the one before ends
-abbrev pub LinksLead : History → ℕ → ℕ → List Link → Type 0
-LinksLead h a b [] = a ≡ b
-LinksLead h a b (l ∷ links) = (link_from l ≡ a) × IsLink h l × LinksLead h (link_to l) b links
+abbrev pub LinksLead : Judged → ℕ → ℕ → List Link → Type 0
+LinksLead j a b [] = a ≡ b
+LinksLead j a b (l ∷ links) = (link_from l ≡ a) × IsLink j l × LinksLead j (link_to l) b links
 
 -- a route from a to b has one link at least, also where a is b
-abbrev pub IsRoute : History → ℕ → ℕ → List Link → Type 0
-IsRoute h a b links = (0 < length links) × LinksLead h a b links
+abbrev pub IsRoute : Judged → ℕ → ℕ → List Link → Type 0
+IsRoute j a b links = (0 < length links) × LinksLead j a b links
 
 -- a cycle is a route that ends at its start
-abbrev pub IsCycle : History → ℕ → List Link → Type 0
-IsCycle h s links = IsRoute h s s links
+abbrev pub IsCycle : Judged → ℕ → List Link → Type 0
+IsCycle j s links = IsRoute j s s links
 
-abbrev pub HasCycle : History → Type 0
-HasCycle h = (s : ℕ) × (links : List Link) × IsCycle h s links
+abbrev pub HasCycle : Judged → Type 0
+HasCycle j = (s : ℕ) × (links : List Link) × IsCycle j s links
 
 -- a cycle that no cycle undercuts
-pub record IsLeastCycle (h : History) (s : ℕ) (links : List Link) : Type 0 where
-  pub cycle : IsCycle h s links
-  pub least : (t : ℕ) (others : List Link) → IsCycle h t others → cost links ≤ cost others
+pub record IsLeastCycle (j : Judged) (s : ℕ) (links : List Link) : Type 0 where
+  pub cycle : IsCycle j s links
+  pub least : (t : ℕ) (others : List Link) → IsCycle j t others → cost links ≤ cost others
 
--- the least cost of a route from s to v
-pub record IsDistance (h : History) (s : ℕ) (v : ℕ) (distance : ℕ) : Type 0 where
-  pub attained : (links : List Link) × IsRoute h s v links × (cost links ≡ distance)
-  pub least : (links : List Link) → IsRoute h s v links → distance ≤ cost links
+-- a link that begins and ends at numbers not below s
+abbrev pub IsUpward : ℕ → Link → Type 0
+IsUpward s l = (s ≤ link_from l) × (s ≤ link_to l)
+
+-- a route from s to v over numbers from s upward alone; walks inside its derived links may pass below
+abbrev pub IsUpwardRoute : Judged → ℕ → ℕ → List Link → Type 0
+IsUpwardRoute j s v links = IsRoute j s v links × All (IsUpward s) links
+
+-- the distance from s to v: the least cost of a route over numbers from s upward
+pub record IsDistance (j : Judged) (s : ℕ) (v : ℕ) (distance : ℕ) : Type 0 where
+  pub attained : (links : List Link) × IsUpwardRoute j s v links × (cost links ≡ distance)
+  pub least : (links : List Link) → IsUpwardRoute j s v links → distance ≤ cost links

@@ -4,8 +4,8 @@ use Rattle.std.specs.Ordering.{nat_cmp, on, then_cmp}
 use Rattle.std.specs.declared.cmp.Ordering.{Ordering}
 use Rattle.std.specs.declared.cmp.Ordering.TheVariants.{Greater}
 use Rattle.std.specs.Cmp.Lexicographic.{slice_cmp}
-use Rattle.tcc_reads.specs.History.{History}
 use Rattle.tcc_reads.specs.Sources.{name_cmp}
+use Rattle.tcc_graph.specs.Levels.{Judged}
 use Rattle.tcc_graph.specs.Walks.{step_from}
 use Rattle.tcc_graph.specs.Links.{link_from}
 use Rattle.tcc_graph.specs.Routes.{IsLeastCycle}
@@ -68,6 +68,6 @@ abbrev pub cycle_cmp : (ℕ × List Link) → (ℕ × List Link) → Ordering
 cycle_cmp = then_cmp (on (λ cycle. cycle.0) nat_cmp) (on (λ cycle. cycle.1) links_cmp)
 
 -- the first of the least cycles by the rule of ties
-pub record IsFirstCycle (h : History) (s : ℕ) (links : List Link) : Type 0 where
-  pub least : IsLeastCycle h s links
-  pub first : (t : ℕ) (others : List Link) → IsLeastCycle h t others → cycle_cmp (s, links) (t, others) ≢ Greater
+pub record IsFirstCycle (j : Judged) (s : ℕ) (links : List Link) : Type 0 where
+  pub least : IsLeastCycle j s links
+  pub first : (t : ℕ) (others : List Link) → IsLeastCycle j t others → cycle_cmp (s, links) (t, others) ≢ Greater

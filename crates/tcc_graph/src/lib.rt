@@ -6,6 +6,8 @@ mod grouped;
 mod key_row;
 mod key_table;
 mod keys;
+pub mod laws;
+mod level;
 mod limits;
 mod link;
 mod marks;
@@ -16,6 +18,7 @@ mod walk;
 
 pub use graph::Graph;
 pub use key_table::place_of;
+pub use level::Level;
 pub use limits::{MAX_CYCLE_COST, MAX_LINK_COST};
 pub use link::Link;
 pub use step::Step;

@@ -39,7 +39,7 @@ sum_by-parts_of (part ∷ parts) =
     ∙ ap (λ n. length part.1.items + n) (sum_by-parts_of parts)
     ∙ sym (sum_by-cons (λ p. length p.1.items) part parts)
 
--- the sessions of a snapshot have at most 1,023 transactions in all
+-- the sessions of a snapshot have at most 4,095 transactions in all
 pub short-shown : (parts : List (List ℕ × Vec Transaction)) → IsStored parts → sum_by (λ part. length part.1) (finite.entries (shown parts)) ≤ MAX_TRANSACTIONS
 short-shown parts stored =
     let total : sum_by (λ part. length part.1) (finite.entries (shown parts)) ≡ sum_by (λ part. length part.1.items) parts

@@ -86,8 +86,8 @@ aborted : ℕ → List Line
 aborted zero = []
 aborted (suc n) = line.Finish (codes "a") false ∷ line.Begin (codes "a") ∷ aborted n
 
-transactions : (fault_of (aborted 1023) (line.Begin (codes "a")) ≡ Some kind.TooManyTransactions)
-    × (fault_of (aborted 1022) (line.Begin (codes "a")) ≡ None)
+transactions : (fault_of (aborted 4095) (line.Begin (codes "a")) ≡ Some kind.TooManyTransactions)
+    × (fault_of (aborted 4094) (line.Begin (codes "a")) ≡ None)
 unfolding aborted
 transactions = (refl, refl)
 

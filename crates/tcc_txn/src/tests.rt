@@ -192,13 +192,13 @@ fn sessions(
 #[test]
 fn refuses_snapshots(rt: HostRuntime) -> Result<(), Fail> {
     let alloc = rt.alloc();
-    assert!(rt; Snapshot::new(sessions(&rt, alloc, 64, 1023)?).is_ok());
-    let Err((fault, parts)) = Snapshot::new(sessions(&rt, alloc, 64, 1024)?) else {
-        panic!(rt; "1,024 transactions are taken");
+    assert!(rt; Snapshot::new(sessions(&rt, alloc, 64, 4095)?).is_ok());
+    let Err((fault, parts)) = Snapshot::new(sessions(&rt, alloc, 64, 4096)?) else {
+        panic!(rt; "4,096 transactions are taken");
     };
     assert!(rt; matches!(fault, SnapshotFault::TooManyTransactions));
     assert_eq!(rt; parts.len(), 64);
-    let Err((fault, mut parts)) = Snapshot::new(sessions(&rt, alloc, 65, 1024)?) else {
+    let Err((fault, mut parts)) = Snapshot::new(sessions(&rt, alloc, 65, 4096)?) else {
         panic!(rt; "65 sessions are taken");
     };
     assert!(rt; matches!(fault, SnapshotFault::TooManySessions));

@@ -1,0 +1,28 @@
+-- A history, and the level at which it is judged.
+use Rattle.std.specs.Prelude.{ℕ, ◌≡◌, List, length}
+use Rattle.tcc_reads.specs.History.{History}
+use Rattle.tcc_graph.specs.Walks.{IsWalk}
+use Rattle.tcc_graph.specs.declared.step.Step.{Step}
+use Rattle.tcc_graph.specs.declared.level.Level.{Level}
+use Rattle.tcc_graph.specs.declared.level.Level.TheVariants as level
+
+-- what links, routes, cycles and commit orders are spoken of: pairs, walks and clocks are the history's alone
+pub record Judged : Type 0 where
+  pub history : History
+  pub level : Level
+
+-- what a level allows the walk of a reason to be: at `Causal` any, at `Atomic` a single pair
+abbrev pub IsAllowed : Level → List Step → Type 0
+IsAllowed level.Causal walk = Unit {0}
+IsAllowed level.Atomic walk = length walk ≡ 1
+
+-- a walk from a to b that the level allows
+abbrev pub IsAllowedWalk : Judged → ℕ → ℕ → List Step → Type 0
+IsAllowedWalk j a b walk = IsWalk j.history a b walk × IsAllowed j.level walk
+
+-- a history at each level
+abbrev pub causally : History → Judged
+causally h = record { history = h; level = level.Causal }
+
+abbrev pub atomically : History → Judged
+atomically h = record { history = h; level = level.Atomic }
