@@ -1,0 +1,47 @@
+//! What each version of the certificate's text allows.
+ghost use Rattle.std.specs.Prelude.{◌≡◌};
+ghost use Rattle.tcc_cert.specs.Ranges.{ranges};
+
+use crate::Version;
+use crate::version_1::{
+    V1_MAX_COST, V1_MAX_COUNT, V1_MAX_LINE_BYTES, V1_MAX_NUMBER, V1_MAX_SESSIONS,
+};
+use crate::version_2::{
+    V2_MAX_COST, V2_MAX_COUNT, V2_MAX_LINE_BYTES, V2_MAX_NUMBER, V2_MAX_SESSIONS,
+};
+
+/// The most bytes of the first line, which says the version, without its line feed.
+pub const MAX_HEADER_BYTES: usize = 8191;
+
+/// The greatest count, number of a transaction, number of sessions and cost, and the most bytes of a line after the
+/// first.
+#[derive(Clone, Copy)]
+pub struct Ranges {
+    pub count: u32,
+    pub number: u32,
+    pub sessions: u32,
+    pub cost: u32,
+    pub line_bytes: usize,
+}
+
+/// The ranges of a version.
+pub(crate) fn ranges(version: Version) -> Ranges
+    ensures { result ≡ ranges version }
+{
+    match version {
+        Version::One => Ranges {
+            count: V1_MAX_COUNT,
+            number: V1_MAX_NUMBER,
+            sessions: V1_MAX_SESSIONS,
+            cost: V1_MAX_COST,
+            line_bytes: V1_MAX_LINE_BYTES,
+        },
+        Version::Two => Ranges {
+            count: V2_MAX_COUNT,
+            number: V2_MAX_NUMBER,
+            sessions: V2_MAX_SESSIONS,
+            cost: V2_MAX_COST,
+            line_bytes: V2_MAX_LINE_BYTES,
+        },
+    }
+}
