@@ -21,7 +21,6 @@ pub use certificate::Certificate;
 pub use fault::{CertFault, CertFaultKind, WriteFault};
 pub use links::Links;
 pub use numbers::Numbers;
-pub use ranges::{MAX_HEADER_BYTES, Ranges};
 pub use reading::read;
 pub use table::Table;
 pub use version::Version;

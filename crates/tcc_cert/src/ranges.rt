@@ -11,17 +11,17 @@ use crate::version_2::{
 };
 
 /// The most bytes of the first line, which says the version, without its line feed.
-pub const MAX_HEADER_BYTES: usize = 8191;
+pub(crate) const MAX_HEADER_BYTES: usize = 8191;
 
 /// The greatest count, number of a transaction, number of sessions and cost, and the most bytes of a line after the
 /// first.
 #[derive(Clone, Copy)]
-pub struct Ranges {
-    pub count: u32,
-    pub number: u32,
-    pub sessions: u32,
-    pub cost: u32,
-    pub line_bytes: usize,
+pub(crate) struct Ranges {
+    pub(crate) count: u32,
+    pub(crate) number: u32,
+    pub(crate) sessions: u32,
+    pub(crate) cost: u32,
+    pub(crate) line_bytes: usize,
 }
 
 /// The ranges of a version.

@@ -3,6 +3,7 @@ ghost use Rattle.std.specs.Prelude.{◌≡◌, ◌<◌, ◌≤◌, ◌==◌, IfO
 ghost use Rattle.tcc_cert.specs.WindowBytes.{window_bytes};
 ghost use Rattle.tcc_cert.specs.Outcomes.{at_line};
 ghost use Rattle.tcc_cert.specs.Reading.{line_length};
+ghost use Rattle.tcc_cert.specs.declared.reading.window.TheConstants.{WINDOW_BYTES};
 
 use super::source::Source;
 use super::window::Window;
@@ -81,10 +82,11 @@ impl<R: Read> Input<R> {
         }
     }
 
-    /// Reads until the next line is held, and says how long it is.
-    fn find_line(&mut self) -> Result<usize, CertFaultKind>
-        requires { self.old.passed ≡ 0 }
-        ensures found { (at : Place) → IsAt R.remaining self.old at → FindsLine at result self.new }
+    /// Reads until the next line, of at most so many bytes, is held, and says how long it is.
+    fn find_line(&mut self, most: usize) -> Result<usize, CertFaultKind>
+        requires passed { self.old.passed ≡ 0 }
+        requires room { most < WINDOW_BYTES }
+        ensures found { (at : Place) → IsAt R.remaining self.old at → FindsLine most at result self.new }
         ensures stays { OnOk result ((at : Place) → IsAt R.remaining self.old at → IsAt R.remaining self.new at) }
         ensures passed { self.new.passed ≡ 0 }
         ensures number { self.new.number ≡ self.old.number }
@@ -95,11 +97,11 @@ impl<R: Read> Input<R> {
             let bytes = self.window.as_slice();
             let held = bytes.len();
             let length = line_length(bytes, searched);
+            if length > most {
+                return Err(CertFaultKind::TooLarge);
+            }
             if length < held {
                 return Ok(length);
-            }
-            if self.window.is_full() {
-                return Err(CertFaultKind::TooLarge);
             }
             searched = held;
             match self.window.fill(&mut self.source) {
@@ -110,14 +112,15 @@ impl<R: Read> Input<R> {
         }
     }
 
-    /// Moves on to the next line, and gives its number.
-    pub(crate) fn next(&mut self) -> Result<u64, CertFault>
-        ensures { (at : Place) → IsAt R.remaining self.old at → TakesLine R.remaining at result self.new }
+    /// Moves on to the next line, of at most so many bytes, and gives its number.
+    pub(crate) fn next(&mut self, most: usize) -> Result<u64, CertFault>
+        requires { most < WINDOW_BYTES }
+        ensures { (at : Place) → IsAt R.remaining self.old at → TakesLine R.remaining most at result self.new }
     {
         self.window.pass(self.passed);
         self.passed = 0;
         let line = self.number;
-        match self.find_line() {
+        match self.find_line(most) {
             Ok(length) => {
                 let Some(number) = line.checked_add(1) else {
                     return Err(CertFault {
