@@ -22,7 +22,7 @@ use Rattle.tcc_cert.specs.declared.certificate.Certificate.TheVariants as claim
 use Rattle.tcc_cert.specs.declared.reading.forms.Head.{Head}
 use Rattle.tcc_cert.specs.declared.reading.forms.Sizes.{Sizes}
 use Rattle.tcc_cert.specs.declared.reading.forms.Sizes.TheVariants.{Order, Cycle}
-use Rattle.tcc_cert.specs.Ranges.{ranges}
+use Rattle.tcc_cert.specs.Ranges.{ranges_of}
 use Rattle.tcc_cert.specs.Tables.{lowest}
 use Rattle.tcc_cert.specs.Texts.{Words}
 
@@ -56,11 +56,11 @@ number_of least most word =
 
 -- a number of a transaction, or a place in a clock
 abbrev pub transaction_of : Version → List ℕ → Result ℕ CertFaultKind
-transaction_of version word = number_of 0 (ranges version).number word
+transaction_of version word = number_of 0 (ranges_of version).number word
 
 -- how many transactions, links or steps
 abbrev pub count_of : Version → List ℕ → Result ℕ CertFaultKind
-count_of version word = number_of 1 (ranges version).count word
+count_of version word = number_of 1 (ranges_of version).count word
 
 abbrev pub key_of : List ℕ → Result (List ℕ) CertFaultKind
 key_of word = if is_some (name_fault word) then Err Word else Ok word
@@ -146,14 +146,14 @@ head_line version (word ∷ fields) =
 abbrev pub order_sizes : Version → List ℕ → List ℕ → Result Sizes CertFaultKind
 order_sizes version n s = do
   transactions ← count_of version n
-  sessions ← number_of 0 (ranges version).sessions s
+  sessions ← number_of 0 (ranges_of version).sessions s
   Ok (Order transactions sessions)
 
 abbrev pub cycle_sizes : Version → List ℕ → List ℕ → List ℕ → Result Sizes CertFaultKind
 cycle_sizes version n m l = do
   transactions ← count_of version n
   links ← count_of version m
-  least ← number_of 0 (ranges version).cost l
+  least ← number_of 0 (ranges_of version).cost l
   Ok (Cycle transactions links least)
 
 -- the line that says how long the parts of a claim are
@@ -199,11 +199,11 @@ behind at line = record { line = at.line + 1; bytes = drop (length line + 1) at.
 abbrev pub next : {X : Type 0} → ℕ → (List ℕ → Result X CertFaultKind) → Place → Reads X
 next most form at = do
   line ← judged at at (line_of most at.bytes)
-  judged (behind at line.0) (form line.0)
+  judged at (behind at line.0) (form line.0)
 
 -- the same of a line after the first
 abbrev pub words : {X : Type 0} → Version → (Words → Result X CertFaultKind) → Place → Reads X
-words version form at = next (ranges version).line_bytes (λ line. form (words_of line)) at
+words version form at = next (ranges_of version).line_bytes (λ line. form (words_of line)) at
 
 -- so many parts, each of which may go by its number, the first of them by this one
 abbrev pub numbered : {X : Type 0} → (ℕ → Place → Reads X) → ℕ → ℕ → Place → Reads (List X)
@@ -243,12 +243,12 @@ table_at version rows columns most at = numbered (λ s. words version (numbers_l
 abbrev pub clocks_at : Version → Level → ℕ → ℕ → Place → Reads (List (List ℕ))
 clocks_at version Causal transactions sessions at = do
   mark ← words version (word_line (codes "clocks")) at
-  table_at version transactions (λ t. sessions) (ranges version).number mark.1
+  table_at version transactions (λ t. sessions) (ranges_of version).number mark.1
 clocks_at version Atomic transactions sessions at = Ok ([], at)
 
 abbrev pub order_at : Version → Level → ℕ → ℕ → Place → Reads Certificate
 order_at version level transactions sessions at = do
-  order ← words version (numbers_line transactions (ranges version).number) at
+  order ← words version (numbers_line transactions (ranges_of version).number) at
   clocks ← clocks_at version level transactions sessions order.1
   end ← words version (word_line (codes "end")) clocks.1
   Ok (claim.Order version level order.0 sessions clocks.0, end.1)
@@ -257,9 +257,9 @@ abbrev pub cycle_at : Version → Level → ℕ → ℕ → ℕ → Place → Re
 cycle_at version level transactions count least at = do
   links ← repeated (link_at version) count at
   near_mark ← words version (word_line (codes "near")) links.1
-  near ← table_at version transactions (λ a. transactions) (ranges version).cost near_mark.1
+  near ← table_at version transactions (λ a. transactions) (ranges_of version).cost near_mark.1
   far_mark ← words version (word_line (codes "far")) near.1
-  far ← table_at version transactions (λ s. transactions - lowest version s) (ranges version).cost far_mark.1
+  far ← table_at version transactions (λ s. transactions - lowest version s) (ranges_of version).cost far_mark.1
   end ← words version (word_line (codes "end")) far.1
   Ok (claim.Cycle version level links.0 least near.0 far.0, end.1)
 

@@ -10,7 +10,7 @@ use Rattle.tcc_graph.specs.declared.level.Level.{Level}
 use Rattle.tcc_graph.specs.declared.level.Level.TheVariants.{Causal, Atomic}
 use Rattle.tcc_cert.specs.declared.version.Version.{Version}
 use Rattle.tcc_cert.specs.declared.version.Version.TheVariants.{One, Two}
-use Rattle.tcc_cert.specs.Ranges.{ranges}
+use Rattle.tcc_cert.specs.Ranges.{ranges_of}
 use Rattle.tcc_cert.specs.Tables.{lowest, HasRows, IsCapped}
 use Rattle.tcc_cert.specs.CycleRules.{CycleClaim}
 use Rattle.tcc_cert.specs.OrderRules.{OrderClaim}
@@ -94,11 +94,11 @@ certificate_text certificate = lines_text (header_of certificate ∷ claim_lines
 -- a number of transactions, links or steps
 pub record IsCount (version : Version) (n : ℕ) : Type 0 where
   pub some : 1 ≤ n
-  pub limit : n ≤ (ranges version).count
+  pub limit : n ≤ (ranges_of version).count
 
 -- numbers of transactions, and the places in clocks
 abbrev pub IsNumber : Version → ℕ → Type 0
-IsNumber version n = n ≤ (ranges version).number
+IsNumber version n = n ≤ (ranges_of version).number
 
 abbrev pub IsKey : List ℕ → Type 0
 IsKey key = name_fault key ≡ None
@@ -120,22 +120,22 @@ pub record HasTableText (rows : ℕ) (columns : ℕ → ℕ) (most : ℕ) (table
 
 -- N rows of S numbers, and none at `Atomic`
 abbrev pub HasClocksText : Version → Level → ℕ → ℕ → List (List ℕ) → Type 0
-HasClocksText version Causal transactions sessions clocks = HasTableText transactions (λ t. sessions) (ranges version).number clocks
+HasClocksText version Causal transactions sessions clocks = HasTableText transactions (λ t. sessions) (ranges_of version).number clocks
 HasClocksText version Atomic transactions sessions clocks = clocks ≡ []
 
 pub record HasOrderText (version : Version) (k : OrderClaim) : Type 0 where
   pub count : IsCount version (length k.order)
   pub numbers : All (IsNumber version) k.order
-  pub sessions : k.sessions ≤ (ranges version).sessions
+  pub sessions : k.sessions ≤ (ranges_of version).sessions
   pub clocks : HasClocksText version k.level (length k.order) k.sessions k.clocks
 
 pub record HasCycleText (k : CycleClaim) : Type 0 where
   pub count : IsCount k.version (length k.near)
   pub steps : IsCount k.version (length k.links)
   pub links : All (HasLinkText k.version) k.links
-  pub least : k.least ≤ (ranges k.version).cost
-  pub near : HasTableText (length k.near) (λ a. length k.near) (ranges k.version).cost k.near
-  pub far : HasTableText (length k.near) (λ s. length k.near - lowest k.version s) (ranges k.version).cost k.far
+  pub least : k.least ≤ (ranges_of k.version).cost
+  pub near : HasTableText (length k.near) (λ a. length k.near) (ranges_of k.version).cost k.near
+  pub far : HasTableText (length k.near) (λ s. length k.near - lowest k.version s) (ranges_of k.version).cost k.far
 
 -- the values that have a text
 abbrev pub HasText : Certificate → Type 0

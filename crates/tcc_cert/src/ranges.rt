@@ -1,6 +1,7 @@
 //! What each version of the certificate's text allows.
-ghost use Rattle.std.specs.Prelude.{◌≡◌};
-ghost use Rattle.tcc_cert.specs.Ranges.{ranges};
+ghost use Rattle.std.specs.Prelude.{◌≡◌, ◌≤◌};
+ghost use Rattle.tcc_cert.specs.declared.version_2.TheConstants.{V2_MAX_LINE_BYTES};
+ghost use Rattle.tcc_cert.specs.Ranges.{ranges_of};
 
 use crate::Version;
 use crate::version_1::{
@@ -25,8 +26,9 @@ pub(crate) struct Ranges {
 }
 
 /// The ranges of a version.
-pub(crate) fn ranges(version: Version) -> Ranges
-    ensures { result ≡ ranges version }
+pub(crate) fn ranges_of(version: Version) -> Ranges
+    ensures value { result ≡ ranges_of version }
+    ensures lines { result.line_bytes ≤ V2_MAX_LINE_BYTES }
 {
     match version {
         Version::One => Ranges {

@@ -14,7 +14,7 @@ mod source;
 mod window;
 mod words;
 
-use crate::ranges::{MAX_HEADER_BYTES, ranges};
+use crate::ranges::{MAX_HEADER_BYTES, ranges_of};
 use crate::{CertFault, CertFaultKind, Certificate, Table, Version};
 use forms::{Sizes, sizes_line};
 use input::{Input, at_line};
@@ -51,7 +51,7 @@ fn mark<R: Read>(
 ) -> Result<(), CertFault>
     ensures { (at : Place) → IsAt R.remaining input.old at → Gives R.remaining at (words version (word_line wanted.now) at) result input.new }
 {
-    let line = input.next(ranges(version).line_bytes)?;
+    let line = input.next_of(version)?;
     at_line(line, word_line(alloc, input.line(), wanted))
 }
 
@@ -96,7 +96,7 @@ fn sizes<R: Read>(
 ) -> Result<Sizes, CertFault>
     ensures { (at : Place) → IsAt R.remaining input.old at → Gives R.remaining at (words version (sizes_line version) at) result input.new }
 {
-    let line = input.next(ranges(version).line_bytes)?;
+    let line = input.next_of(version)?;
     at_line(line, sizes_of(alloc, version, input.line()))
 }
 
@@ -120,7 +120,7 @@ fn clocks<R: Read>(
                 version,
                 transactions as usize,
                 sessions as usize,
-                ranges(version).number,
+                ranges_of(version).number,
             )
         }
         Level::Atomic => Ok(Table::new(Vec::new(alloc))),
@@ -143,7 +143,7 @@ fn order<R: Read>(
         input,
         version,
         transactions as usize,
-        ranges(version).number,
+        ranges_of(version).number,
     )?;
     let clocks = clocks(alloc, input, version, level, transactions, sessions)?;
     mark(alloc, input, version, b"end")?;
@@ -169,7 +169,7 @@ fn cycle<R: Read>(
     ensures { (at : Place) → IsAt R.remaining input.old at → Gives R.remaining at (cycle_at version level transactions count least at) result input.new }
 {
     let size = transactions as usize;
-    let most = ranges(version).cost;
+    let most = ranges_of(version).cost;
     let links = links(alloc, input, version, count)?;
     mark(alloc, input, version, b"near")?;
     let near = table(alloc, input, version, size, size, most)?;

@@ -5,7 +5,7 @@ ghost use Rattle.tcc_cert.specs.Reading.{count_of, cycle_sizes, derived_of, five
 use super::decimals::number_of;
 use crate::CertFaultKind;
 use crate::Version;
-use crate::ranges::ranges;
+use crate::ranges::ranges_of;
 use std::alloc::Global;
 use tcc_graph::{Link, Step, Walk};
 use tcc_txn::Name;
@@ -35,14 +35,14 @@ pub(crate) enum Sizes {
 fn transaction_of(version: Version, word: &[u8]) -> Result<u32, CertFaultKind>
     ensures { result ≡ transaction_of version word.now }
 {
-    number_of(word, 0, ranges(version).number)
+    number_of(word, 0, ranges_of(version).number)
 }
 
 /// How many transactions, links or steps.
 fn count_of(version: Version, word: &[u8]) -> Result<u32, CertFaultKind>
     ensures { result ≡ count_of version word.now }
 {
-    number_of(word, 1, ranges(version).count)
+    number_of(word, 1, ranges_of(version).count)
 }
 
 fn key_of(word: &[u8]) -> Result<Name, CertFaultKind>
@@ -189,7 +189,7 @@ fn order_sizes(
 {
     Ok(Sizes::Order {
         transactions: count_of(version, transactions)?,
-        sessions: number_of(sessions, 0, ranges(version).sessions)?,
+        sessions: number_of(sessions, 0, ranges_of(version).sessions)?,
     })
 }
 
@@ -205,7 +205,7 @@ fn cycle_sizes(
     Ok(Sizes::Cycle {
         transactions: count_of(version, transactions)?,
         links: count_of(version, links)?,
-        least: number_of(least, 0, ranges(version).cost)?,
+        least: number_of(least, 0, ranges_of(version).cost)?,
     })
 }
 

@@ -7,7 +7,8 @@ ghost use Rattle.tcc_cert.specs.declared.reading.window.TheConstants.{WINDOW_BYT
 
 use super::source::Source;
 use super::window::Window;
-use crate::{CertFault, CertFaultKind};
+use crate::ranges::ranges_of;
+use crate::{CertFault, CertFaultKind, Version};
 use std::io::Read;
 
 /// A reader, the bytes of it that wait, how many of these belong to the line that was read last, its line feed among
@@ -53,6 +54,7 @@ fn line_length(bytes: &[u8], searched: usize) -> usize
 impl<R: Read> Input<R> {
     ghost use Rattle.tcc_cert.specs.Inputs.{Ends, FindsLine, IsAt, TakesLine, line_in};
     ghost use Rattle.tcc_cert.specs.Reading.{Place};
+    ghost use Rattle.tcc_cert.specs.Ranges.{ranges_of};
 
     pub(crate) fn new(reader: R) -> Input<R>
         ensures { IfSome (R.remaining reader) (λ bytes. IsAt R.remaining result (record { line = 1; bytes = bytes })) }
@@ -134,6 +136,13 @@ impl<R: Read> Input<R> {
             }
             Err(kind) => Err(CertFault { line, kind }),
         }
+    }
+
+    /// The same of a line behind the first, by the version.
+    pub(crate) fn next_of(&mut self, version: Version) -> Result<u64, CertFault>
+        ensures { (at : Place) → IsAt R.remaining self.old at → TakesLine R.remaining (ranges_of version).line_bytes at result self.new }
+    {
+        self.next(ranges_of(version).line_bytes)
     }
 
     /// Nothing stands behind the last line.

@@ -7,7 +7,6 @@ ghost use Rattle.tcc_cert.specs.Reading.{Place, head_line, link_at, repeated, st
 use super::forms::{Head, head_line, step_line};
 use super::input::{Input, at_line};
 use super::words::words_of;
-use crate::ranges::ranges;
 use crate::{CertFault, CertFaultKind, Links, Version};
 use std::alloc::Global;
 use std::io::Read;
@@ -29,7 +28,7 @@ fn step<R: Read>(
 ) -> Result<Step, CertFault>
     ensures { (at : Place) → IsAt R.remaining input.old at → Gives R.remaining at (words version (step_line version) at) result input.new }
 {
-    let line = input.next(ranges(version).line_bytes)?;
+    let line = input.next_of(version)?;
     at_line(line, step_of(alloc, version, input.line()))
 }
 
@@ -69,7 +68,7 @@ fn head<R: Read>(
 ) -> Result<Head, CertFault>
     ensures { (at : Place) → IsAt R.remaining input.old at → Gives R.remaining at (words version (head_line version) at) result input.new }
 {
-    let line = input.next(ranges(version).line_bytes)?;
+    let line = input.next_of(version)?;
     at_line(line, head_of(alloc, version, input.line()))
 }
 

@@ -7,7 +7,6 @@ ghost use Rattle.tcc_cert.specs.Reading.{Place, numbers_line, numbers_of, parted
 
 use super::decimals::number_of;
 use super::input::{Input, at_line};
-use crate::ranges::ranges;
 use crate::{CertFault, CertFaultKind, Numbers, Table, Version};
 use std::alloc::Global;
 use std::io::Read;
@@ -66,7 +65,7 @@ pub(crate) fn row<R: Read>(
 ) -> Result<Numbers, CertFault>
     ensures { (at : Place) → IsAt R.remaining input.old at → Gives R.remaining at (words version (numbers_line count most) at) result input.new }
 {
-    let line = input.next(ranges(version).line_bytes)?;
+    let line = input.next_of(version)?;
     at_line(line, numbers_line(alloc, input.line(), count, most))
 }
 
