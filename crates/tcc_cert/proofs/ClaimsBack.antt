@@ -23,9 +23,9 @@ use Rattle.tcc_cert.specs.Reading.{words, repeated, next, header_line, ended, nu
 use Rattle.tcc_cert.specs.declared.reading.forms.Sizes.TheVariants.{Order, Cycle}
 use Rattle.tcc_cert.proofs.ReadingFacts.{IsAbove, later, decimal-above, number_of-decimal}
 use Rattle.tcc_cert.proofs.Items.{flat_map-map, flat_map-flat_map}
-use Rattle.tcc_cert.proofs.RangeFacts.{costs, numbers, counts, lines, numbers_costs, sessions_are, sessions_counts}
-use Rattle.tcc_cert.proofs.Numbered.{EachFrom, each-two, widths-from}
-use Rattle.tcc_cert.proofs.LinesBack.{at, then_ok, next-line, words-line, line-at, numbered-back, repeated-back}
+use Rattle.tcc_cert.proofs.RangeFacts.{costs, counts, lines, numbers_costs, sessions_are, sessions_counts}
+use Rattle.tcc_cert.proofs.Numbered.{each-two, widths-from}
+use Rattle.tcc_cert.proofs.LinesBack.{at, then_ok, next-line, words-line, line-at, IsReadAt, numbered-back, repeated-back}
 use Rattle.tcc_cert.proofs.FormsBack.{row-back}
 use Rattle.tcc_cert.proofs.LinksBack.{each, link-back}
 
@@ -34,9 +34,9 @@ use Rattle.tcc_cert.proofs.LinksBack.{each, link-back}
 table-at : (v : Version) (rows : ℕ) (columns : ℕ → ℕ) (most : ℕ) (table : List (List ℕ)) → most ≤ (ranges_of v).cost → ((s : ℕ) → columns s ≤ (ranges_of v).count) → HasTableText rows columns most table → (n : ℕ) (rest : List ℕ)
     → (end : ℕ) × (table_at v rows columns most (at n (lines_text (table_lines table) ++ rest)) ≡ Ok (table, at end rest))
 table-at v rows columns most table le few h n rest =
-    let wide = widths-from columns 0 table (λ s lt. h.size.wide s (omega (arith, lt, h.size.long))) in
+    let wide = widths-from columns 0 table (λ s lt. h.size.wide s (omega (arith, lt, h.size.long)) ∙ ap columns (omega arith)) in
     let capped = recursion_from_All (λ row. All (λ number. number ≤ most) row) table h.capped in
-    let back = each-two {P = λ i row. length row ≡ columns i} 0 table (λ i row long all. line-at v (numbers_line (columns i) most) numbers_words row (row-back v (columns i) most row le (few i) long (recursion_from_All (λ number. number ≤ most) row all))) wide capped in
+    let back = each-two (λ i row. length row ≡ columns i) (λ row. All (λ number. number ≤ most) row) (λ i row. IsReadAt (words v (numbers_line (columns i) most)) (λ r. line_text (numbers_words r)) row) 0 table (λ i row long all. line-at v (numbers_line (columns i) most) numbers_words row (row-back v (columns i) most row le (few i) long (recursion_from_All (λ number. number ≤ most) row all))) wide capped in
     let read : (end : ℕ) × (table_at v (length table) columns most (at n (lines_text (table_lines table) ++ rest)) ≡ Ok (table, at end rest)) =
     rw (flat_map-map line_text numbers_words table)
     (numbered-back (λ i. words v (numbers_line (columns i) most)) (λ row. line_text (numbers_words row)) 0 table back n rest) in
@@ -197,7 +197,8 @@ cycle_sizes-at v n m l at_line rest hn hm hl =
 
 -- ---- first lines
 
-printable : List ℕ → Bool
+-- all bytes stand on paper
+abbrev printable : List ℕ → Bool
 printable [] = true
 printable (byte ∷ bytes) = ltb 31 byte && printable bytes
 

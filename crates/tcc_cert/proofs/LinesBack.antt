@@ -68,4 +68,4 @@ numbered-back read text from (x ∷ xs) back n rest =
 
 pub repeated-back : {X : Type 0} (read : Place → Reads X) (text : X → List ℕ) (xs : List X) → AllByRecursion (IsReadAt read text) xs
     → (n : ℕ) (rest : List ℕ) → (end : ℕ) × (repeated read (length xs) (at n (flat_map text xs ++ rest)) ≡ Ok (xs, at end rest))
-repeated-back read text xs back n rest = numbered-back (λ i. read) text 0 xs (each-same 0 xs back) n rest
+repeated-back read text xs back n rest = numbered-back (λ i. read) text 0 xs (each-same (IsReadAt read text) 0 xs back) n rest

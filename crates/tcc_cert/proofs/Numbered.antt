@@ -8,22 +8,22 @@ abbrev pub EachFrom : {X : Type 0} → (ℕ → X → Type 0) → ℕ → List X
 EachFrom P from [] = Unit {0}
 EachFrom P from (x ∷ xs) = P from x × EachFrom P (from + 1) xs
 
-pub each-same : {X : Type 0} {P : X → Type 0} (from : ℕ) (xs : List X) → AllByRecursion P xs → EachFrom (λ i x. P x) from xs
-each-same from [] all = tt
-each-same from (x ∷ xs) all = (all.0, each-same (from + 1) xs all.1)
+pub each-same : {X : Type 0} (P : X → Type 0) (from : ℕ) (xs : List X) → AllByRecursion P xs → EachFrom (λ i x. P x) from xs
+each-same P from [] all = tt
+each-same P from (x ∷ xs) all = (all.0, each-same P (from + 1) xs all.1)
 
-pub same-each : {X : Type 0} {P : X → Type 0} (from : ℕ) (xs : List X) → EachFrom (λ i x. P x) from xs → AllByRecursion P xs
-same-each from [] all = tt
-same-each from (x ∷ xs) all = (all.0, same-each (from + 1) xs all.1)
+pub same-each : {X : Type 0} (P : X → Type 0) (from : ℕ) (xs : List X) → EachFrom (λ i x. P x) from xs → AllByRecursion P xs
+same-each P from [] all = tt
+same-each P from (x ∷ xs) all = (all.0, same-each P (from + 1) xs all.1)
 
-pub each-two : {X : Type 0} {P R : ℕ → X → Type 0} {Q : X → Type 0} (from : ℕ) (xs : List X) → ((i : ℕ) (x : X) → P i x → Q x → R i x)
+pub each-two : {X : Type 0} (P : ℕ → X → Type 0) (Q : X → Type 0) (R : ℕ → X → Type 0) (from : ℕ) (xs : List X) → ((i : ℕ) (x : X) → P i x → Q x → R i x)
     → EachFrom P from xs → AllByRecursion Q xs → EachFrom R from xs
-each-two from [] f p q = tt
-each-two from (x ∷ xs) f p q = (f from x p.0 q.0, each-two (from + 1) xs f p.1 q.1)
+each-two P Q R from [] f p q = tt
+each-two P Q R from (x ∷ xs) f p q = (f from x p.0 q.0, each-two P Q R (from + 1) xs f p.1 q.1)
 
-pub each-one : {X : Type 0} {P R : ℕ → X → Type 0} (from : ℕ) (xs : List X) → ((i : ℕ) (x : X) → P i x → R i x) → EachFrom P from xs → EachFrom R from xs
-each-one from [] f p = tt
-each-one from (x ∷ xs) f p = (f from x p.0, each-one (from + 1) xs f p.1)
+pub each-one : {X : Type 0} (P R : ℕ → X → Type 0) (from : ℕ) (xs : List X) → ((i : ℕ) (x : X) → P i x → R i x) → EachFrom P from xs → EachFrom R from xs
+each-one P R from [] f p = tt
+each-one P R from (x ∷ xs) f p = (f from x p.0, each-one P R (from + 1) xs f p.1)
 
 -- ---- widths of rows
 

@@ -1,5 +1,5 @@
 -- A certificate that was read has a text, and was read from that text alone.
-use Rattle.std.proofs.Common.{◌≡◌, ◌⊎◌, ℕ, ◌^◌, ◌-◌, ◌<◌, ◌≤◌, Bool, true, false, cond, eqb, List, [], ◌∷◌, ◌++◌, length, flat_map, All, Result, Ok, Err, inl, inr, refl, sym, ap, subst, ◌∙◌, arith, append_assoc, codes, decimal}
+use Rattle.std.proofs.Common.{◌≡◌, ◌⊎◌, ℕ, ◌^◌, ◌-◌, ◌<◌, ◌≤◌, true, false, cond, eqb, List, [], ◌∷◌, ◌++◌, length, flat_map, All, Result, Ok, Err, inl, inr, refl, sym, ap, subst, ◌∙◌, arith, append_assoc, codes, decimal}
 use Rattle.tcc_graph.specs.declared.level.Level.{Level}
 use Rattle.tcc_graph.specs.declared.level.Level.TheVariants.{Causal, Atomic}
 use Rattle.tcc_cert.specs.declared.version.Version.{Version}
@@ -23,7 +23,6 @@ use Rattle.tcc_cert.specs.Reading.{count_of, number_of, word_line, numbers_line,
 use Rattle.tcc_cert.proofs.Items.{flat_map-map, flat_map-flat_map}
 use Rattle.tcc_cert.proofs.RangeFacts.{costs, numbers, sessions_are}
 use Rattle.tcc_cert.proofs.Numbered.{each-one, from-widths, same-each}
-use Rattle.tcc_cert.proofs.LinksBack.{each}
 use Rattle.tcc_cert.proofs.ClaimsBack.{order_text, cycle_text}
 use Rattle.tcc_cert.proofs.OneText.{then_parts, allowed_parts, same_ok, same_pair, number-text, count, same-bytes, two_parts, three_parts, two_equal, three_equal, choice, mark, row-text, next-text, words-text, IsReadFrom, numbered-text, repeated-text, link-from}
 
@@ -42,10 +41,10 @@ table-text : (v : Version) (rows : ℕ) (columns : ℕ → ℕ) (most : ℕ) (at
     → HasTableText rows columns most table × (at.bytes ≡ lines_text (table_lines table) ++ after.bytes)
 table-text v rows columns most at after table small e =
     let read = numbered-text (λ i. words v (numbers_line (columns i) most)) (λ i. IsRowText (columns i) most) (λ row. line_text (numbers_words row)) (λ i. row-from v (columns i) most small) 0 rows at after table e in
-    let wide = from-widths columns 0 table (each-one {P = λ i. IsRowText (columns i) most} 0 table (λ i row p. p.0) read.0) in
-    let capped = same-each {P = λ row. All (λ n. n ≤ most) row} 0 table (each-one {P = λ i. IsRowText (columns i) most} 0 table (λ i row p. All-from_recursion (λ n. n ≤ most) row p.1) read.0) in (
+    let wide = from-widths columns 0 table (each-one (λ i. IsRowText (columns i) most) (λ i row. length row ≡ columns i) 0 table (λ i row p. p.0) read.0) in
+    let capped = same-each (λ row. All (λ n. n ≤ most) row) 0 table (each-one (λ i. IsRowText (columns i) most) (λ i row. All (λ n. n ≤ most) row) 0 table (λ i row p. All-from_recursion (λ n. n ≤ most) row p.1) read.0) in (
       record {
-        size = record { long = read.1; wide = λ s lt. wide s (omega (arith, lt, read.1)) };
+        size = record { long = read.1; wide = λ s lt. wide s (omega (arith, lt, read.1)) ∙ ap columns (omega arith) };
         capped = All-from_recursion (λ row. All (λ n. n ≤ most) row) table capped;
       },
       read.2 ∙ ap (λ t. t ++ after.bytes) (sym (flat_map-map line_text numbers_words table)),
@@ -215,7 +214,7 @@ header-or : (line text : List ℕ) (said : Version × Level) (rest : Result (Ver
     → cond (same line text) (Ok said) rest ≡ Ok header → line ++ 10 ∷ [] ≡ header_text header
 header-or line text said rest header spelled later e = go (choice (same line text) (Ok said) rest (Ok header) e)
   where
-    go : ((same line text ≡ true) × (Ok said ≡ Ok header)) ⊎ ((same line text ≡ false) × (rest ≡ Ok header)) → line ++ 10 ∷ [] ≡ header_text header
+    go : ((same line text ≡ true) × ◌≡◌ {A = Result (Version × Level) CertFaultKind} (Ok said) (Ok header)) ⊎ ((same line text ≡ false) × (rest ≡ Ok header)) → line ++ 10 ∷ [] ≡ header_text header
     go (inl is) = ap (λ l. l ++ 10 ∷ []) (same-bytes line text is.0) ∙ sym spelled ∙ ap header_text (same_ok is.1)
     go (inr is) = later is.1
 

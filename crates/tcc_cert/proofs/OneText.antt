@@ -1,5 +1,5 @@
 -- What is read has a text, and was read from that text alone.
-use Rattle.std.proofs.Common.{◌≡◌, ◌⊎◌, ℕ, zero, suc, ◌+◌, ◌^◌, ◌<◌, ◌≤◌, Bool, true, false, not, ◌&&◌, ◌||◌, cond, eqb, ltb, List, [], ◌∷◌, ◌++◌, length, get_or, take, drop, map, flat_map, Option, None, Some, Result, Ok, Err, inl, inr, refl, sym, ap, subst, ◌∙◌, arith, append_assoc, append-nil, codes, decimal, lit<}
+use Rattle.std.proofs.Common.{◌≡◌, ◌⊎◌, ℕ, zero, suc, ◌+◌, ◌^◌, ◌<◌, ◌≤◌, Bool, true, false, not, ◌&&◌, ◌||◌, cond, eqb, ltb, List, [], ◌∷◌, ◌++◌, length, get_or, take, drop, map, flat_map, Option, None, Some, Result, Ok, Err, inl, inr, refl, sym, ap, subst, ◌∙◌, arith, append_assoc, append-nil, codes, decimal}
 use Rattle.tcc_cert.specs.declared.version.Version.{Version}
 use Rattle.tcc_cert.specs.Ranges.{ranges_of}
 use Rattle.std.specs.Prelude.{is_some}
@@ -301,7 +301,7 @@ pub repeated-text : {X : Type 0} (read : Place → Reads X) (property : X → Ty
     → AllByRecursion property xs × (length xs ≡ n) × (at.bytes ≡ flat_map text xs ++ after.bytes)
 repeated-text read property text from n at after xs e =
     let all = numbered-text (λ i. read) (λ i. property) text (λ i. from) 0 n at after xs e in
-    (same-each 0 xs all.0, all.1, all.2)
+    (same-each property 0 xs all.0, all.1, all.2)
 
 -- ---- links
 
@@ -409,6 +409,6 @@ link-choice version ws head at mid after l text e (inl h) =
 
 pub link-from : (version : Version) → IsReadFrom (link_at version) (HasLinkText version) (λ l. lines_text (link_lines l))
 link-from version at after l e =
-    let head = then_parts (words version (head_line version) at) (walk_of version) version (l, after) e in
+    let head = then_parts (words version (head_line version) at) (walk_of version) (l, after) e in
     let line = words-text version (head_line version) at head.0.1 head.0.0 head.1 in
     link-choice version line.0 head.0.0 at head.0.1 after l line.2 head.2 (head-text version line.0 head.0.0 line.1)

@@ -17,4 +17,4 @@ pub returns-in_ok-mark-in-Causal : goal.returns-in_ok-mark-in-Causal
 returns-in_ok-mark-in-Causal g c at before =
     let form = words c.args.version (word_line (codes "clocks")) at in
     let mark = c.in_ok-mark-in-Causal.ensures at before in
-    rw c.in-Causal.is (later-gives g.R.Read.remaining at form _ c.table.result c.table.new.input mark.1 (onward-at form (onward-words c.args.version (word_line (codes "clocks")) at) mark.1) (c.table.ensures mark.0 mark.2))
+    rw c.in-Causal.is (later-gives g.R.Read.remaining at form _ c.table.result c.table.new.input mark.1 (onward-at form (onward-words c.args.version (word_line (codes "clocks")) at) mark.1) (rw c.ranges_of.ensures.value at (c.table.ensures mark.0 mark.2)))

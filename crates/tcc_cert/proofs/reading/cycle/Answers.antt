@@ -32,7 +32,7 @@ returns-in_err-near g c at before =
     let near_mark = c.in_ok-mark.ensures links.0 links.2 in
     rw (p.1, p.2) (later-faults (repeated (link_at v) c.args.count at) _ _ links.1 (onward-at _ (onward-links v c.args.count at) links.1)
     (later-faults (words v (word_line (codes "near")) links.0) _ _ near_mark.1 (onward-at _ (onward-words v (word_line (codes "near")) links.0) near_mark.1)
-    (first-faults (near_table v n near_mark.0) _ _ (cycle-far_mark v c.args.level n c.in_ok-links.links c.args.least) (c.in_err-near.ensures near_mark.0 near_mark.2))))
+    (first-faults (near_table v n near_mark.0) _ _ (cycle-far_mark v c.args.level n c.in_ok-links.links c.args.least) (rw c.ranges_of-most.ensures.value at (c.in_err-near.ensures near_mark.0 near_mark.2)))))
 
 pub returns-in_err-mark-2 : goal.returns-in_err-mark-2
 returns-in_err-mark-2 g c at before =
@@ -41,7 +41,7 @@ returns-in_err-mark-2 g c at before =
     let p = err_from_is_err_and c.from_residual-in_err-mark-2.result c.from_residual-in_err-mark-2.ensures.1 in
     let links = c.in_ok-links.ensures at before in
     let near_mark = c.in_ok-mark.ensures links.0 links.2 in
-    let near = c.in_ok-near.ensures near_mark.0 near_mark.2 in
+    let near = rw c.ranges_of-most.ensures.value at (c.in_ok-near.ensures near_mark.0 near_mark.2) in
     rw (p.1, p.2) (later-faults (repeated (link_at v) c.args.count at) _ _ links.1 (onward-at _ (onward-links v c.args.count at) links.1)
     (later-faults (words v (word_line (codes "near")) links.0) _ _ near_mark.1 (onward-at _ (onward-words v (word_line (codes "near")) links.0) near_mark.1)
     (later-faults (near_table v n near_mark.0) _ _ near.1 (onward-at _ (onward-near v n near_mark.0) near.1)
@@ -54,13 +54,13 @@ returns-in_err-far g c at before =
     let p = err_from_is_err_and c.from_residual-in_err-far.result c.from_residual-in_err-far.ensures.1 in
     let links = c.in_ok-links.ensures at before in
     let near_mark = c.in_ok-mark.ensures links.0 links.2 in
-    let near = c.in_ok-near.ensures near_mark.0 near_mark.2 in
+    let near = rw c.ranges_of-most.ensures.value at (c.in_ok-near.ensures near_mark.0 near_mark.2) in
     let far_mark = c.in_ok-mark-2.ensures near.0 near.2 in
     rw (p.1, p.2) (later-faults (repeated (link_at v) c.args.count at) _ _ links.1 (onward-at _ (onward-links v c.args.count at) links.1)
     (later-faults (words v (word_line (codes "near")) links.0) _ _ near_mark.1 (onward-at _ (onward-words v (word_line (codes "near")) links.0) near_mark.1)
     (later-faults (near_table v n near_mark.0) _ _ near.1 (onward-at _ (onward-near v n near_mark.0) near.1)
     (later-faults (words v (word_line (codes "far")) near.0) _ _ far_mark.1 (onward-at _ (onward-words v (word_line (codes "far")) near.0) far_mark.1)
-    (first-faults (far_rows v n far_mark.0) _ _ (cycle-end v c.args.level c.in_ok-links.links c.args.least c.in_ok-near.near) (c.in_err-far.ensures far_mark.0 far_mark.2))))))
+    (first-faults (far_rows v n far_mark.0) _ _ (cycle-end v c.args.level c.in_ok-links.links c.args.least c.in_ok-near.near) (rw c.ranges_of-most.ensures.value at (c.in_err-far.ensures far_mark.0 far_mark.2)))))))
 
 pub returns-in_err-mark-3 : goal.returns-in_err-mark-3
 returns-in_err-mark-3 g c at before =
@@ -69,9 +69,9 @@ returns-in_err-mark-3 g c at before =
     let p = err_from_is_err_and c.from_residual-in_err-mark-3.result c.from_residual-in_err-mark-3.ensures.1 in
     let links = c.in_ok-links.ensures at before in
     let near_mark = c.in_ok-mark.ensures links.0 links.2 in
-    let near = c.in_ok-near.ensures near_mark.0 near_mark.2 in
+    let near = rw c.ranges_of-most.ensures.value at (c.in_ok-near.ensures near_mark.0 near_mark.2) in
     let far_mark = c.in_ok-mark-2.ensures near.0 near.2 in
-    let far = c.in_ok-far.ensures far_mark.0 far_mark.2 in
+    let far = rw c.ranges_of-most.ensures.value at (c.in_ok-far.ensures far_mark.0 far_mark.2) in
     rw (p.1, p.2) (later-faults (repeated (link_at v) c.args.count at) _ _ links.1 (onward-at _ (onward-links v c.args.count at) links.1)
     (later-faults (words v (word_line (codes "near")) links.0) _ _ near_mark.1 (onward-at _ (onward-words v (word_line (codes "near")) links.0) near_mark.1)
     (later-faults (near_table v n near_mark.0) _ _ near.1 (onward-at _ (onward-near v n near_mark.0) near.1)
@@ -83,8 +83,8 @@ pub returns : goal.returns
 returns g c at before =
     let links = c.in_ok-links.ensures at before in
     let near_mark = c.in_ok-mark.ensures links.0 links.2 in
-    let near = c.in_ok-near.ensures near_mark.0 near_mark.2 in
+    let near = rw c.ranges_of-most.ensures.value at (c.in_ok-near.ensures near_mark.0 near_mark.2) in
     let far_mark = c.in_ok-mark-2.ensures near.0 near.2 in
-    let far = c.in_ok-far.ensures far_mark.0 far_mark.2 in
+    let far = rw c.ranges_of-most.ensures.value at (c.in_ok-far.ensures far_mark.0 far_mark.2) in
     let end = c.in_ok-mark-3.ensures far.0 far.2 in
     (end.0, then_ok _ links.1 ∙ then_ok _ near_mark.1 ∙ then_ok _ near.1 ∙ then_ok _ far_mark.1 ∙ then_ok _ far.1 ∙ then_ok _ end.1, end.2)

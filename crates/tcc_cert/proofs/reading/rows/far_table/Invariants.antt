@@ -9,4 +9,4 @@ use Rattle.tcc_cert.proofs.reading.rows.far_table.Given as goal
 abbrev pub invariant-lines : goal.invariant-lines
 invariant-lines g l =
     (at : Place) → IsAt g.R.Read.remaining l.initial.input at
-    → (now : Place) × IsPart (λ s. words l.version (numbers_line (l.transactions - lowest l.version s) l.most)) l.transactions at l.table.items l.counter now × IsAt g.R.Read.remaining l.input now
+    → (now : Place) × IsPart (λ s. words l.version (numbers_line (l.transactions - lowest l.version s) l.most)) l.transactions at l.table.items l.s now × IsAt g.R.Read.remaining l.input now
