@@ -89,11 +89,7 @@ fn sizes_of(alloc: Global, version: Version, line: &[u8]) -> Result<Sizes, CertF
 }
 
 /// The next line, which says how long the parts of a claim are.
-fn sizes<R: Read>(
-    alloc: Global,
-    input: &mut Input<R>,
-    version: Version,
-) -> Result<Sizes, CertFault>
+fn sizes<R: Read>(alloc: Global, input: &mut Input<R>, version: Version) -> Result<Sizes, CertFault>
     ensures { (at : Place) → IsAt R.remaining input.old at → Gives R.remaining at (words version (sizes_line version) at) result input.new }
 {
     let line = input.next_of(version)?;

@@ -229,9 +229,24 @@ fn header_line<W: Write>(
 {
     match (version, level) {
         (Version::One, Level::Causal) => line(outgoing, out, b"tcc-certificate", &[b"1"]),
-        (Version::One, Level::Atomic) => line(outgoing, out, b"tcc-certificate", &[b"1", b"atomic"]),
-        (Version::Two, Level::Causal) => line(outgoing, out, b"tcc-certificate", &[b"2", b"causal"]),
-        (Version::Two, Level::Atomic) => line(outgoing, out, b"tcc-certificate", &[b"2", b"atomic"]),
+        (Version::One, Level::Atomic) => line(
+            outgoing,
+            out,
+            b"tcc-certificate",
+            &[b"1", b"atomic"],
+        ),
+        (Version::Two, Level::Causal) => line(
+            outgoing,
+            out,
+            b"tcc-certificate",
+            &[b"2", b"causal"],
+        ),
+        (Version::Two, Level::Atomic) => line(
+            outgoing,
+            out,
+            b"tcc-certificate",
+            &[b"2", b"atomic"],
+        ),
     }
 }
 

@@ -3,9 +3,8 @@ ghost use Rattle.std.specs.Prelude.{◌≡◌, map};
 ghost use Rattle.tcc_cert.specs.Reading.{count_of, cycle_sizes, derived_of, five_words, head_line, head_of_step, key_of, order_sizes, reads_of, session_of, sizes_line, step_line, three_words, transaction_of, two_words};
 
 use super::decimals::number_of;
-use crate::CertFaultKind;
-use crate::Version;
 use crate::ranges::ranges_of;
+use crate::{CertFaultKind, Version};
 use std::alloc::Global;
 use tcc_graph::{Link, Step, Walk};
 use tcc_txn::Name;
@@ -137,11 +136,7 @@ fn derived_of(
 }
 
 /// What stands behind `D`.
-fn derived_fields(
-    alloc: Global,
-    version: Version,
-    fields: &[&[u8]],
-) -> Result<Head, CertFaultKind>
+fn derived_fields(alloc: Global, version: Version, fields: &[&[u8]]) -> Result<Head, CertFaultKind>
     ensures { result ≡ five_words (derived_of version) (map (λ word. word.now) fields.now) }
 {
     match fields {

@@ -21,11 +21,7 @@ fn step_of(alloc: Global, version: Version, line: &[u8]) -> Result<Step, CertFau
 }
 
 /// The next line, a step.
-fn step<R: Read>(
-    alloc: Global,
-    input: &mut Input<R>,
-    version: Version,
-) -> Result<Step, CertFault>
+fn step<R: Read>(alloc: Global, input: &mut Input<R>, version: Version) -> Result<Step, CertFault>
     ensures { (at : Place) → IsAt R.remaining input.old at → Gives R.remaining at (words version (step_line version) at) result input.new }
 {
     let line = input.next_of(version)?;
@@ -61,11 +57,7 @@ fn head_of(alloc: Global, version: Version, line: &[u8]) -> Result<Head, CertFau
 }
 
 /// The next line, the first of a link.
-fn head<R: Read>(
-    alloc: Global,
-    input: &mut Input<R>,
-    version: Version,
-) -> Result<Head, CertFault>
+fn head<R: Read>(alloc: Global, input: &mut Input<R>, version: Version) -> Result<Head, CertFault>
     ensures { (at : Place) → IsAt R.remaining input.old at → Gives R.remaining at (words version (head_line version) at) result input.new }
 {
     let line = input.next_of(version)?;
@@ -96,11 +88,7 @@ fn with_walk(link: Link, walk: Walk) -> Link
 }
 
 /// The next lines, one link.
-fn link<R: Read>(
-    alloc: Global,
-    input: &mut Input<R>,
-    version: Version,
-) -> Result<Link, CertFault>
+fn link<R: Read>(alloc: Global, input: &mut Input<R>, version: Version) -> Result<Link, CertFault>
     ensures { (at : Place) → IsAt R.remaining input.old at → Gives R.remaining at (link_at version at) result input.new }
 {
     let head = head(alloc, input, version)?;
