@@ -3,7 +3,8 @@ use Rattle.std.proofs.Common.{◌≡◌, ◌≢◌, ◌<◌, ◌≤◌, ◌+◌,
 use Rattle.std.proofs.Math.ListN.{get_or-eq_default}
 use Rattle.std.proofs.lemmas.Bool.{cases_lt, cases_cond, cond_both, ltb-true, ltb-false}
 use Rattle.std.proofs.lemmas.Bool.Decides.{eqb_tells, nat_tests}
-use Rattle.tcc_reads.specs.History.{History, count}
+use Rattle.tcc_reads.specs.History.{count}
+use Rattle.tcc_graph.specs.Levels.{Judged}
 use Rattle.tcc_graph.specs.Links.{link_cost}
 use Rattle.tcc_graph.specs.declared.link.Link.{Link}
 use Rattle.tcc_derive.specs.Prices.{Tables, cost_at, IsLinkOf, IsCost, IsPricesOf}
@@ -19,17 +20,17 @@ use Rattle.tcc_graph.specs.Tables.{row_of}
 abbrev pub entry : Tables → ℕ → ℕ → ℕ
 entry t u v = get_or (row_of t.costs u) v 0
 
-pub entry_of_link : (h : History) (t : Tables) (u v : ℕ) (l : Link) → IsPricesOf h t → u < count h → v < count h → IsLinkOf h u v l → (entry t u v ≢ NONE) × (entry t u v ≤ link_cost l)
-entry_of_link h t u v l priced from to leads = go (eqb_tells (entry t u v) NONE) (priced.costed u v from to)
+pub entry_of_link : (j : Judged) (t : Tables) (u v : ℕ) (l : Link) → IsPricesOf j t → u < count j.history → v < count j.history → IsLinkOf j u v l → (entry t u v ≢ NONE) × (entry t u v ≤ link_cost l)
+entry_of_link j t u v l priced from to leads = go (eqb_tells (entry t u v) NONE) (priced.costed u v from to)
   where
-    go : (((entry t u v == NONE) ≡ true) × (entry t u v ≡ NONE)) ⊎ (((entry t u v == NONE) ≡ false) × (entry t u v ≢ NONE)) → IsCost h u v (cost_at t u v) → (entry t u v ≢ NONE) × (entry t u v ≤ link_cost l)
+    go : (((entry t u v == NONE) ≡ true) × (entry t u v ≡ NONE)) ⊎ (((entry t u v == NONE) ≡ false) × (entry t u v ≢ NONE)) → IsCost j u v (cost_at t u v) → (entry t u v ≢ NONE) × (entry t u v ≤ link_cost l)
     go (inl (test, same)) cost = let none = rw test at cost in absurd (none l leads)
     go (inr (test, other)) cost = let some = rw test at cost in (other, some.least l leads)
 
-pub link_of_entry : (h : History) (t : Tables) (u v : ℕ) → IsPricesOf h t → u < count h → v < count h → entry t u v ≢ NONE → (l : Link) × IsLinkOf h u v l × (link_cost l ≡ entry t u v)
-link_of_entry h t u v priced from to there = go (eqb_tells (entry t u v) NONE) (priced.costed u v from to)
+pub link_of_entry : (j : Judged) (t : Tables) (u v : ℕ) → IsPricesOf j t → u < count j.history → v < count j.history → entry t u v ≢ NONE → (l : Link) × IsLinkOf j u v l × (link_cost l ≡ entry t u v)
+link_of_entry j t u v priced from to there = go (eqb_tells (entry t u v) NONE) (priced.costed u v from to)
   where
-    go : (((entry t u v == NONE) ≡ true) × (entry t u v ≡ NONE)) ⊎ (((entry t u v == NONE) ≡ false) × (entry t u v ≢ NONE)) → IsCost h u v (cost_at t u v) → (l : Link) × IsLinkOf h u v l × (link_cost l ≡ entry t u v)
+    go : (((entry t u v == NONE) ≡ true) × (entry t u v ≡ NONE)) ⊎ (((entry t u v == NONE) ≡ false) × (entry t u v ≢ NONE)) → IsCost j u v (cost_at t u v) → (l : Link) × IsLinkOf j u v l × (link_cost l ≡ entry t u v)
     go (inl (test, same)) cost = absurd (there same)
     go (inr (test, other)) cost = let some = rw test at cost in some.attained
 

@@ -42,6 +42,6 @@ returns-clause-search c =
     let same : length new ≡ length old = search rules in
     let long : c.in_ok-costs.costs.len ≡ length old = search rules in
     let lowered : IsLowered old new 0 (row_of t.costs c.args.start) = record { long = same; each = rw (c.deref_mut.ensures.value, c.costs.ensures.value) at c.relax.ensures.lowered } in
-    rw (take_at new _ c.in_ok-costs.costs.len (same ∙ sym long)) (λ h priced.
-    let wide : n ≡ count h = priced.prices.long in
-    search_begun h t c.args.start c.in_ok-row.row.items old new priced (rw (← wide) c.requires) (rw (← wide) empty) (rw (← wide) unspent.0) (rw (← wide) unspent.1) (fits (row_of t.costs c.args.start) links) lowered)
+    rw (take_at new _ c.in_ok-costs.costs.len (same ∙ sym long)) (λ j priced.
+    let wide : n ≡ count j.history = priced.prices.long in
+    search_begun j t c.args.start c.in_ok-row.row.items old new priced (rw (← wide) c.requires) (rw (← wide) empty) (rw (← wide) unspent.0) (rw (← wide) unspent.1) (fits (row_of t.costs c.args.start) links) lowered)
