@@ -4,11 +4,12 @@ use Rattle.std.proofs.lemmas.Bool.{cond_both, ltb-true, ltb-false}
 use Rattle.std.proofs.lemmas.List.Elements.{All-contains}
 use Rattle.tcc_graph.specs.Levels.{Judged}
 use Rattle.tcc_graph.specs.Links.{cost}
-use Rattle.tcc_graph.specs.Routes.{IsRoute, IsCycle, IsLeastCycle, HasCycle, IsDistance}
+use Rattle.tcc_graph.specs.Routes.{IsUpwardRoute, IsCycle, IsLeastCycle, HasCycle, IsDistance}
 use Rattle.tcc_graph.specs.declared.link.Link.{Link}
 use Rattle.tcc_core.specs.Rows.{in_row, IsSearchRow, IsWithin}
 use Rattle.tcc_core.specs.Shares.{Share, Finished, Stop, Returned, Cut, IsNotAbove, IsStopped, IsFinished, IsNotBelowLeast, starts_of, EachFinished, SettleAt, capped, IsCappedDistance}
 use Rattle.tcc_graph.proofs.Linking.{route_below}
+use Rattle.tcc_graph.proofs.Upward.{turn_lowest}
 use Rattle.tcc_txn.proofs.Lists.{from_flat_map}
 
 -- ---- each start has a search
@@ -48,7 +49,7 @@ record IsShareAt (j : Judged) (word : Option ℕ) (share : Share) : Type 0 where
   below_offers : All (λ c. IsNotAbove word (Some c)) share.offers
   below_sight : IsNotAbove word share.sight
 
-outside_above : (j : Judged) (word : Option ℕ) (share : Share) (s : ℕ) (row : List (Option ℕ)) (stop : Stop) → IsShareAt j word share → IsSearchRow j s row → IsStopped j share s row stop → (v : ℕ) (links : List Link) → in_row row v ≡ None → IsRoute j s v links → IsNotAbove word (Some (cost links))
+outside_above : (j : Judged) (word : Option ℕ) (share : Share) (s : ℕ) (row : List (Option ℕ)) (stop : Stop) → IsShareAt j word share → IsSearchRow j s row → IsStopped j share s row stop → (v : ℕ) (links : List Link) → in_row row v ≡ None → IsUpwardRoute j s v links → IsNotAbove word (Some (cost links))
 outside_above j word share s row (Returned c) at exact stopped v links out route =
     not_above_more word c (cost links) (All-contains (λ c. IsNotAbove word (Some c)) share.offers c at.below_offers stopped.1) (exact.closed s v c links stopped.0 out route)
 outside_above j word share s row (Cut cap) at exact stopped v links out route =
@@ -56,11 +57,11 @@ outside_above j word share s row (Cut cap) at exact stopped v links out route =
     let P : Option ℕ → Type 0 = λ b. IsNotAbove b (Some (cost links)) in
     subst P (sym w.1) (omega (arith, w.2))
 
-cycle_above : (j : Judged) (word : Option ℕ) (share : Share) (s : ℕ) (row : List (Option ℕ)) (stop : Stop) → IsShareAt j word share → IsSearchRow j s row → IsStopped j share s row stop → (links : List Link) → IsCycle j s links → IsNotAbove word (Some (cost links))
-cycle_above j word share s row (Returned c) at exact stopped links cycle =
-    not_above_more word c (cost links) (All-contains (λ c. IsNotAbove word (Some c)) share.offers c at.below_offers stopped.1) ((exact.exact s c stopped.0).least links cycle)
-cycle_above j word share s row (Cut cap) at exact stopped links cycle =
-    outside_above j word share s row (Cut cap) at exact stopped s links stopped.1 cycle
+return_above : (j : Judged) (word : Option ℕ) (share : Share) (s : ℕ) (row : List (Option ℕ)) (stop : Stop) → IsShareAt j word share → IsSearchRow j s row → IsStopped j share s row stop → (links : List Link) → IsUpwardRoute j s s links → IsNotAbove word (Some (cost links))
+return_above j word share s row (Returned c) at exact stopped links back =
+    not_above_more word c (cost links) (All-contains (λ c. IsNotAbove word (Some c)) share.offers c at.below_offers stopped.1) ((exact.exact s c stopped.0).least links back)
+return_above j word share s row (Cut cap) at exact stopped links back =
+    outside_above j word share s row (Cut cap) at exact stopped s links stopped.1 back
 
 share_at : (j : Judged) (shares : List Share) (word : Option ℕ) → SettleAt j shares word → (share : Share) → Contains shares share → IsShareAt j word share
 share_at j shares word settle share here = record {
@@ -72,14 +73,20 @@ finished_at : (j : Judged) (shares : List Share) (word : Option ℕ) → SettleA
 finished_at j shares word settle share here f there =
     All-contains (IsFinished j share) share.finished f (All-contains (λ share. All (IsFinished j share) share.finished) shares share settle.finished here) there
 
--- the word is not above the cost of any cycle
-above_cycles : (j : Judged) (shares : List Share) (word : Option ℕ) → SettleAt j shares word → (s : ℕ) (links : List Link) → IsCycle j s links → IsNotAbove word (Some (cost links))
-above_cycles j shares word settle s links cycle =
-    let w = search_from shares s (settle.once.each s (route_below j s s links cycle)) in
+-- the word is not above the cost of any route over numbers from its start upward that comes back
+above_returns : (j : Judged) (shares : List Share) (word : Option ℕ) → SettleAt j shares word → (s : ℕ) (links : List Link) → IsUpwardRoute j s s links → IsNotAbove word (Some (cost links))
+above_returns j shares word settle s links back =
+    let w = search_from shares s (settle.once.each s (route_below j s s links back.0)) in
     let f = w.2 in
     let finished = finished_at j shares word settle w.0 w.1 f w.3 in
-    let same : IsCycle j f.start links = subst (λ (z : ℕ). IsCycle j z links) (sym w.4) cycle in
-    cycle_above j word w.0 f.start f.row f.stop (share_at j shares word settle w.0 w.1) finished.row finished.stopped links same
+    let same : IsUpwardRoute j f.start f.start links = subst (λ (z : ℕ). IsUpwardRoute j z z links) (sym w.4) back in
+    return_above j word w.0 f.start f.row f.stop (share_at j shares word settle w.0 w.1) finished.row finished.stopped links same
+
+-- and so not above the cost of any cycle: begun at its lowest number, it is such a route
+above_cycles : (j : Judged) (shares : List Share) (word : Option ℕ) → SettleAt j shares word → (s : ℕ) (links : List Link) → IsCycle j s links → IsNotAbove word (Some (cost links))
+above_cycles j shares word settle s links cycle =
+    let turned = turn_lowest j s links cycle in
+    subst (λ (c : ℕ). IsNotAbove word (Some c)) turned.costs (above_returns j shares word settle turned.lowest turned.turned turned.route)
 
 -- ---- the parts of the law
 
