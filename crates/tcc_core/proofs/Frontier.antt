@@ -3,8 +3,8 @@ use Rattle.std.proofs.Common.{◌≡◌, ◌<◌, ◌≤◌, ◌+◌, ℕ, inl, 
 use Rattle.std.proofs.lemmas.List.Elements.{All-nil, All-head, All-tail, All-push}
 use Rattle.tcc_reads.specs.History.{count}
 use Rattle.tcc_graph.specs.Levels.{Judged}
-use Rattle.tcc_graph.specs.Links.{link_from, link_to, link_cost, cost}
-use Rattle.tcc_graph.specs.Routes.{LinksLead, IsRoute, IsUpward, IsUpwardRoute}
+use Rattle.tcc_graph.specs.Links.{link_to, link_cost, cost}
+use Rattle.tcc_graph.specs.Routes.{LinksLead, IsUpward, IsUpwardRoute}
 use Rattle.tcc_graph.specs.declared.link.Link.{Link}
 use Rattle.tcc_derive.specs.Prices.{IsLinkOf}
 use Rattle.tcc_core.specs.Rows.{in_row, IsSearchRow}

@@ -120,7 +120,7 @@ each_finished : (j : Judged) (shares : List Share) (word : Option ℕ) (P : Fini
 each_finished j shares word P settle holds = λ i d within k e inside.
     let share = get_or shares i d in
     let at : IsShareAt j word share = record { below_offers = settle.below_offers i d within; below_sight = settle.below_sights i d within } in
-    holds share (get_or share.finished k e) at (settle.finished i d within j e inside)
+    holds share (get_or share.finished k e) at (settle.finished i d within k e inside)
 
 pub capped_rows : (j : Judged) (shares : List Share) (word : Option ℕ) → SettleAt j shares word → EachFinished shares (λ f. (v : ℕ) → IsCappedDistance j f.start v word (capped word (in_row f.row v)))
 capped_rows j shares word settle =
