@@ -51,8 +51,7 @@ HasRouteAt j s v n = (links : List Link) × IsUpwardRoute j s v links × (cost l
 one_more : (j : Judged) (s u v c : ℕ) (l : Link) → s ≤ u → s ≤ v → IsPath j s u c → IsLinkOf j u v l → HasRouteAt j s v (c + link_cost l)
 one_more j s u v c l from to (links, lead, up, costs) leads =
     let last : LinksLead j u v (l ∷ []) = (leads.from, leads.link, leads.to) in
-    let upward : IsUpward s l = (omega (arith, from, leads.from), omega (arith, to, leads.to)) in
-    (
+    let upward : IsUpward s l = (omega (arith, from, leads.from), omega (arith, to, leads.to)) in (
       links ++ l ∷ [],
       ((rw length-append (omega arith), lead_append j s u v links (l ∷ []) lead last), All-push (IsUpward s) links l up upward),
       omega (arith, cost_append links (l ∷ []), cost_cons l [], costs),

@@ -142,11 +142,7 @@ fn steps_upward(rt: HostRuntime) {
                 (3, Settled::More, Some(&[None, None, Some(1)])),
                 (3, Settled::More, Some(&[None, Some(2), Some(1)])),
                 (3, Settled::Cut(3), Some(&[None, Some(2), Some(1)])),
-                (
-                    4,
-                    Settled::Returned(4),
-                    Some(&[Some(4), Some(2), Some(1)]),
-                ),
+                (4, Settled::Returned(4), Some(&[Some(4), Some(2), Some(1)])),
                 (u64::MAX, Settled::Cut(u64::MAX), None),
             ],
         ),
