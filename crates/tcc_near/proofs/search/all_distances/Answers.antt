@@ -3,8 +3,8 @@ use Rattle.std.specs.List.{All}
 use Rattle.rayon.proofs.ToStd.{nat_range-All}
 use Rattle.std.specs.declared.alloc.AllocError.{AllocError}
 use Rattle.tcc_reads.specs.History.{History}
-use Rattle.tcc_near.specs.Levels.{IsPairTable, HasDistances}
-use Rattle.tcc_near.proofs.LevelLemmas.{near_from_rows}
+use Rattle.tcc_near.specs.Breadth.{IsPairTable, HasDistances}
+use Rattle.tcc_near.proofs.BreadthLemmas.{near_from_rows}
 use Rattle.tcc_near.proofs.RowLemmas.{each_given, numbers_below}
 use Rattle.tcc_near.proofs.search.all_distances.Goals as goal
 use Rattle.tcc_txn.specs.declared.limits.TheConstants.{MAX_COUNT}

@@ -8,7 +8,7 @@ use Rattle.tcc_reads.specs.History.{History, count}
 use Rattle.tcc_graph.specs.Relations.{causal_pair}
 use Rattle.tcc_graph.specs.Walks.{IsReached}
 use Rattle.tcc_near.specs.Distances.{IsShortest, IsWalkDistance, IsNearOf, least_in}
-use Rattle.tcc_near.specs.Levels.{is_marked, marks_of, IsPairTable, IsWithin, IsMarked, IsDistanceWithin, IsSearched, HasDistances, IsSpread, numbered, unnumbered}
+use Rattle.tcc_near.specs.Breadth.{is_marked, marks_of, IsPairTable, IsWithin, IsMarked, IsDistanceWithin, IsSearched, HasDistances, IsSpread, numbered, unnumbered}
 use Rattle.tcc_near.proofs.Walks.{within_more, within_one, within_one_from, within_pair, IsStepAfter, last_step, within_closed, within_below, shortest_at}
 use Rattle.tcc_near.specs.declared.distances.TheConstants.{NONE}
 
