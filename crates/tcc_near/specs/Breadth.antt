@@ -62,6 +62,6 @@ numbered row marks distance b =
 abbrev pub unnumbered : List ℕ → ℕ
 unnumbered row = count_by (λ distance. distance == NONE) row
 
--- the distance of b where only walks of one step count: 1 where it is marked, and else none
-abbrev pub one_step : List Bool → ℕ → ℕ
-one_step marks b = if is_marked marks b then 1 else NONE
+-- the distance by walks of one step
+abbrev pub one_step : Bool → ℕ
+one_step mark = if mark then 1 else NONE

@@ -1,5 +1,5 @@
 //! The search for all distances of a graph: from each transaction breadth first, in several threads.
-ghost use Rattle.std.specs.Prelude.{◌≡◌, ◌≢◌, ◌<◌, ◌≤◌, ◌↔◌, ◌⊎◌, ℕ, true, false, length, All, IsTrue, IfOk, slice_index};
+ghost use Rattle.std.specs.Prelude.{◌≡◌, ◌≢◌, ◌<◌, ◌≤◌, ◌↔◌, ◌⊎◌, ℕ, true, false, length, All, IsTrue, IfOk, map, slice_index};
 ghost use Rattle.tcc_reads.specs.History.{History, count};
 ghost use Rattle.tcc_graph.specs.Levels.{causally};
 ghost use Rattle.tcc_near.specs.Distances.{IsNearOf};
@@ -68,8 +68,7 @@ fn distances_from(alloc: Global, table: &[Row<bool>], source: usize) -> Result<R
 
 /// The distances from one transaction by walks of one step: 1 to what is marked.
 fn steps_to(alloc: Global, marks: &[bool]) -> Result<Row<u16>, AllocError>
-    ensures long { IfOk result (λ row. length row ≡ length marks.now) }
-    ensures exact { IfOk result (λ row. (b : ℕ) → b < length marks.now → slice_index row b ≡ one_step marks.now b) }
+    ensures { IfOk result (λ row. row ≡ map one_step marks.now) }
 {
     let mut steps = Vec::new(alloc);
     steps.reserve(marks.len())?;

@@ -25,4 +25,4 @@ returns g c =
     let chain = rw (c.with_min_len.ensures.base, c.map.ensures.base, c.map.ensures.f) at gave.1 in
     let numbers = chain.1 ∙ numbers_below _ _ n c.into_par_iter.ensures.0 c.into_par_iter.ensures.1 in
     matched c.in_ok-collect.field-0 _ _ _ gave.2 (λ v made h is.
-    near_from_rows h pairs v.items is (each_given AllocError (λ a row. (h : History) → IsPairTable h pairs → HasDistances h a row) n chain.0 gave.0 v.items numbers chain.2 made))
+    near_from_rows h c.args.level pairs v.items is (each_given AllocError (λ a row. (h : History) → IsPairTable h pairs → HasDistances (record { history = h; level = c.args.level }) a row) n chain.0 gave.0 v.items numbers chain.2 made))
