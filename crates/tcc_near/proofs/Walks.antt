@@ -83,7 +83,7 @@ within_below h a n b (s ∷ steps, w, l) =
 -- what is within n steps and not within fewer is n steps away
 pub shortest_at : (h : History) (a n b : ℕ) → (IsWithin h a n b → ⊥) → IsWithin h a (n + 1) b → IsShortest (causally h) a b (n + 1)
 shortest_at h a n b further w = record {
-  attained = (w.0, (w.1, unit), go (cases_lt (length w.0) (n + 1)));
+  attained = (w.0, (w.1, tt), go (cases_lt (length w.0) (n + 1)));
   least = λ walk is. other walk is.0 (cases_lt (length walk) (n + 1));
 }
   where

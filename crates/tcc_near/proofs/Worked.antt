@@ -21,7 +21,7 @@ first_pair h a b s steps w = subst (λ (u : ℕ). causal_pair h u (step_to s) �
 -- a/1 writes x, and a/2 reads the initial value of x
 stale_read-onwards : IsShortest (causally stale_read) 1 2 1
 stale_read-onwards = record {
-  attained = (step.Session 1 2 ∷ [], ((omega arith, (refl, refl, refl)), unit), refl);
+  attained = (step.Session 1 2 ∷ [], ((omega arith, (refl, refl, refl)), tt), refl);
   least = λ walk is. omega (arith, is.0.0);
 }
 
@@ -53,7 +53,7 @@ nothing_between (suc (suc (suc (suc (suc m))))) p q = let below = pair_below cha
 -- two reads and a session step
 chain-onwards : IsShortest (causally chain) 1 4 3
 chain-onwards = record {
-  attained = (step.Reads 1 2 x ∷ step.Reads 2 3 y ∷ step.Session 3 4 ∷ [], ((omega arith, (refl, (lit< tt, lit< tt, (0, omega arith, refl)), (refl, (lit< tt, lit< tt, (0, omega arith, refl)), (refl, refl, refl)))), unit), refl);
+  attained = (step.Reads 1 2 x ∷ step.Reads 2 3 y ∷ step.Session 3 4 ∷ [], ((omega arith, (refl, (lit< tt, lit< tt, (0, omega arith, refl)), (refl, (lit< tt, lit< tt, (0, omega arith, refl)), (refl, refl, refl)))), tt), refl);
   least = λ walk is. none_shorter walk is.0;
 }
   where
@@ -88,7 +88,7 @@ circle = record {
 -- from a transaction to itself at least one step is taken
 circle-round : IsShortest (causally circle) 1 1 2
 circle-round = record {
-  attained = (step.Reads 1 2 x ∷ step.Reads 2 1 y ∷ [], ((omega arith, (refl, (lit< tt, lit< tt, (0, omega arith, refl)), (refl, (lit< tt, lit< tt, (0, omega arith, refl)), refl))), unit), refl);
+  attained = (step.Reads 1 2 x ∷ step.Reads 2 1 y ∷ [], ((omega arith, (refl, (lit< tt, lit< tt, (0, omega arith, refl)), (refl, (lit< tt, lit< tt, (0, omega arith, refl)), refl))), tt), refl);
   least = λ walk is. none_shorter walk is.0;
 }
   where

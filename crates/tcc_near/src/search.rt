@@ -79,7 +79,12 @@ fn steps_to(alloc: Global, marks: &[bool]) -> Result<Row<u16>, AllocError>
 }
 
 /// The distances from one transaction by the walks that the level allows.
-fn row_from(alloc: Global, table: &[Row<bool>], level: Level, source: usize) -> Result<Row<u16>, AllocError>
+fn row_from(
+    alloc: Global,
+    table: &[Row<bool>],
+    level: Level,
+    source: usize,
+) -> Result<Row<u16>, AllocError>
     requires source { source < length table.now }
     requires wide { All (λ marks. length marks ≡ length table.now) table.now }
     requires few { length table.now ≤ MAX_COUNT }
@@ -111,7 +116,7 @@ fn all_distances(
                 requires { (source < length table.now) × All (λ marks. length marks ≡ length table.now) table.now
                     × (length table.now ≤ MAX_COUNT) }
                 ensures { IfOk result (λ row. (h : History) → IsPairTable h table.entry.now
-                    → HasDistances (record { history = h; level = level.entry }) source row) }
+                    → HasDistances (record { history = h; level = level }) source row) }
             { row_from(alloc, table, level, source) },
         )
         .with_min_len(1)
