@@ -152,8 +152,8 @@ row_done h a n row searched few near = record {
 -- where nothing that is marked wants a number, the search has ended
 pub row_at_end : (h : History) (a n : ℕ) (row new : List ℕ) (marks : List Bool) → IsSearched h a n row → IsMarked h a (n + 1) marks → n + 1 ≤ count h
     → ((b : ℕ) → is_marked marks b ≡ true → slice_index row b ≢ NONE) → IsSearched h a (n + 1) new → HasDistances (causally h) a new
-row_at_end h a n row new marks searched marked few none level =
-    row_done h a (n + 1) new level few (λ b reached. within_more h a n (n + 1) b (omega arith) (within_closed h a n closed (length reached.0) b (reached.0, reached.1, omega arith)))
+row_at_end h a n row new marks searched marked few none round =
+    row_done h a (n + 1) new round few (λ b reached. within_more h a n (n + 1) b (omega arith) (within_closed h a n closed (length reached.0) b (reached.0, reached.1, omega arith)))
   where
     closed : (b : ℕ) → IsWithin h a (n + 1) b → IsWithin h a n b
     closed b w =
