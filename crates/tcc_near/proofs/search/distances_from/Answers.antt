@@ -1,7 +1,7 @@
 use Rattle.std.proofs.Common.{rules, ◌≡◌, ◌≢◌, ◌<◌, ◌+◌, ℕ, true, [], slice_index, length, replicate, ◌∙◌, ap, arith, take_at, sym}
 use Rattle.std.proofs.lemmas.List.{get_or_read, length-replicate}
-use Rattle.tcc_near.specs.Levels.{is_marked, marks_of, numbered, unnumbered}
-use Rattle.tcc_near.proofs.LevelLemmas.{searched_at_start, marked_at_start, unnumbered_at_start, searched_more, marked_more, row_at_end, row_full, all_numbered}
+use Rattle.tcc_near.specs.Breadth.{is_marked, marks_of, numbered, unnumbered}
+use Rattle.tcc_near.proofs.BreadthLemmas.{searched_at_start, marked_at_start, unnumbered_at_start, searched_more, marked_more, row_at_end, row_full, all_numbered}
 use Rattle.tcc_near.proofs.search.distances_from.Goals as goal
 use Rattle.tcc_near.specs.declared.distances.TheConstants.{NONE}
 
