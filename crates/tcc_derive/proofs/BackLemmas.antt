@@ -91,7 +91,7 @@ module _ (j : Judged) (near : NearTable) (b : ℕ) (nears : IsNearOf j near) (fr
       let at_most = near'.shortest.least (reverse os) (way_allowed v n o os shortest back long some) in
       let walk = near'.shortest.attained in
       let whole : IsWalk j.history b v (walk.0 ++ o ∷ []) =
-          (omega (arith, length-append walk.0 (o ∷ [])), leads_append j.history b (step_from o) v walk.0 (o ∷ []) walk.1.0.1 (refl, back.1, back.0)) in
+      (omega (arith, length-append walk.0 (o ∷ [])), leads_append j.history b (step_from o) v walk.0 (o ∷ []) walk.1.0.1 (refl, back.1, back.0)) in
       let longer = shortest.least (walk.0 ++ o ∷ []) (whole, several_allowed v n (walk.0 ++ o ∷ []) shortest some) in
       omega (arith, at_most, longer, walk.2, length-append walk.0 (o ∷ []), length-reverse os, long)
 

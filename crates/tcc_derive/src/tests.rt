@@ -15,7 +15,8 @@ type Path<'a> = &'a [(u32, u32, &'a str)];
 const STALE_READ: &str = "a,begin\na,w,x,1\na,commit\na,begin\na,r,x,0\na,commit\n";
 
 /// b/1 reads one of two writes of a/1, and the initial value that the other overwrote.
-const FRACTURED: &str = "a,begin\na,w,x,1\na,w,y,1\na,commit\nb,begin\nb,r,x,1\nb,r,y,0\nb,commit\n";
+const FRACTURED: &str =
+    "a,begin\na,w,x,1\na,w,y,1\na,commit\nb,begin\nb,r,x,1\nb,r,y,0\nb,commit\n";
 
 /// A chain of reads leads from the writer of x to a reader of its initial value.
 const CHAIN: &str = "a,begin\na,w,x,1\na,commit\nb,begin\nb,r,x,1\nb,w,y,1\nb,commit\n\
@@ -100,8 +101,16 @@ fn assert_tables(
     assert!(rt; is_level(prices.level(), level), "of {records}");
     for from in 0..prices.count() {
         for to in 0..prices.count() {
-            assert_eq!(rt; prices.price(from, to), wanted_at(wanted, from, to), "of {records}");
-            assert_eq!(rt; prices.cost(from, to), wanted_at(costs, from, to), "of {records}");
+            assert_eq!(rt;
+                prices.price(from, to),
+                wanted_at(wanted, from, to),
+                "of {records}"
+            );
+            assert_eq!(rt;
+                prices.cost(from, to),
+                wanted_at(costs, from, to),
+                "of {records}"
+            );
             let none = prices.costs(from)[to as usize] == NONE;
             assert_eq!(rt; none, prices.cost(from, to).is_none());
         }
