@@ -6,7 +6,7 @@ use Rattle.std.specs.Io.KnownBytes.{Appends}
 use Rattle.std.proofs.KnownBytes.{Appends-trans, Appends-kept}
 use Rattle.std.proofs.lemmas.Grind.{flat_map-append}
 use Rattle.std.proofs.lemmas.Bool.Decides.{nat_tests}
-use Rattle.std.proofs.lemmas.Option.{none-some, same_Some}
+use Rattle.std.proofs.lemmas.Option.{none-some}
 use Rattle.std.proofs.Math.Seq.{take-append-add, take-length}
 use Rattle.tcc_txn.specs.Ahead.{IsFailure}
 use Rattle.tcc_txn.specs.Answers.{Answers, answers_of, ending, records_of}
@@ -276,12 +276,15 @@ module _ {R : Type 0} (remaining : R → Option (List ℕ)) (options : Options) 
             equal : (n : ℕ) → nat_eq m n ≡ true → m ≡ n
             equal n e = grind (arith, nat_tests, e)
 
+            some-of : (n : ℕ) → ◌≡◌ {A = Option ℕ} (Some m) (Some n) → m ≡ n
+            some-of n e = cc
+
             differ : (n : ℕ) → nat_eq m n ≡ false → m ≢ n
             differ n e same = grind (arith, nat_tests, e, same)
 
             by_test : (b : Bool) → nat_eq m (transaction_count s) ≡ b → IsRun options text before after code
             by_test true e = again (is ∙ ap Some (equal (transaction_count s) e))
-            by_test false e = fresh (λ some. differ (transaction_count s) e (same_Some (sym is ∙ some)))
+            by_test false e = fresh (λ some. differ (transaction_count s) e (some-of (transaction_count s) (sym is ∙ some)))
 
   -- ---- at a fault
 
