@@ -76,13 +76,15 @@ module _ (options : Options) (text : List ℕ) (before : Option (List ℕ)) wher
         inr (n, halt.NoMemory, said ++ one ∷ [], tt, answers, refl),
         last-push None (said ++ one ∷ []) memory,
         inr (
-          (length (texts said) + part.0,
-          subst (λ t. Appends before after t) (sym
-              (ap (take (length (texts said) + part.0))
-              (texts-push (said ++ one ∷ []) memory ∙ ap (λ t. t ++ memory.text) (texts-push said one) ∙ append_assoc (texts said) one.text memory.text)
-              ∙ take-append-add (texts said) (one.text ++ memory.text) part.0
-              ∙ ap (λ t. texts said ++ t) part.1))
-              (Appends-trans before now after (texts said) (take cuts.0.0 one.text) out cuts.0.1)),
+          (
+            length (texts said) + part.0,
+            subst (λ t. Appends before after t) (sym
+                (ap (take (length (texts said) + part.0))
+                (texts-push (said ++ one ∷ []) memory ∙ ap (λ t. t ++ memory.text) (texts-push said one) ∙ append_assoc (texts said) one.text memory.text)
+                ∙ take-append-add (texts said) (one.text ++ memory.text) part.0
+                ∙ ap (λ t. texts said ++ t) part.1))
+                (Appends-trans before now after (texts said) (take cuts.0.0 one.text) out cuts.0.1),
+          ),
           cuts.1,
         ),
       )
@@ -310,10 +312,10 @@ module _ {R : Type 0} (remaining : R → Option (List ℕ)) (options : Options) 
         by_test true e prints = by_halt (length way.taken) halt.NoMemory way.taken after code tt kept refl prints
         by_test false e prints = elim at.3 [
           | inl last ↦
-            let items = all-items (answers_of text) way.taken at.0 at.1 way.ahead way.whole at.2 ∙ ap (λ (rest : Answers). (way.taken ++ at.0) ++ rest.items) last.0 ∙ append-nil (way.taken ++ at.0) in
-            by_halt (length (answers_of text).items) (halt.Row fault) (way.taken ++ at.0) after code
-            (inl (all-fault (answers_of text) way.taken at.0 at.1 way.ahead way.whole at.2 ∙ ap (λ (rest : Answers). rest.fault) last.0, refl))
-            (take-length (answers_of text).items ∙ items) (sealed-passed way.taken at.0 at.2.0) prints
+              let items = all-items (answers_of text) way.taken at.0 at.1 way.ahead way.whole at.2 ∙ ap (λ (rest : Answers). (way.taken ++ at.0) ++ rest.items) last.0 ∙ append-nil (way.taken ++ at.0) in
+              by_halt (length (answers_of text).items) (halt.Row fault) (way.taken ++ at.0) after code
+              (inl (all-fault (answers_of text) way.taken at.0 at.1 way.ahead way.whole at.2 ∙ ap (λ (rest : Answers). rest.fault) last.0, refl))
+              (take-length (answers_of text).items ∙ items) (sealed-passed way.taken at.0 at.2.0) prints
           | inr fails ↦ elim fails.0 [
             | inl read ↦ by_halt (length way.taken) (halt.Row fault) way.taken after code (inr (read, within)) kept refl prints
             | inr memory ↦ absurd (no_memory (sym (ap is_memory memory) ∙ e))

@@ -109,13 +109,21 @@ fn answer_all<R: Read + Drop, W: Write>(
         match recording.advance(alloc) {
             Ok(Moment::Seal) => match answer(rt, alloc, recording.snapshot(), options, out) {
                 Ok(new) => {
-                    answered = Some(transaction_count(recording.snapshot()));
                     status = new;
+                    answered = Some(transaction_count(recording.snapshot()));
                 }
                 Err(code) => return code,
             },
             Ok(Moment::End) => {
-                return answer_last(rt, alloc, recording.snapshot(), answered, status, options, out);
+                return answer_last(
+                    rt,
+                    alloc,
+                    recording.snapshot(),
+                    answered,
+                    status,
+                    options,
+                    out,
+                );
             }
             Err(fault) => return print_halt(alloc, &Halt::from(fault), options.json, out),
         }

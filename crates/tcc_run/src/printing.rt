@@ -140,10 +140,7 @@ pub fn print_check<W: Write>(alloc: Global, outcome: &Result<Judged, Halt>, out:
     match outcome {
         Ok(judged) => {
             let status = verdict_status(judged.verdict);
-            code_after(
-                send_made(verdict_text(alloc, judged), false, out),
-                status,
-            )
+            code_after(send_made(verdict_text(alloc, judged), false, out), status)
         }
         Err(halt) => print_halt(alloc, halt, false, out),
     }
