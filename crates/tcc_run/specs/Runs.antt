@@ -54,7 +54,7 @@ sealed_after before (item.End ∷ items) = sealed_after (before ++ item.End ∷ 
 abbrev pub sealed_in : List Item → List Sessions
 sealed_in items = sealed_after [] items
 
--- an answer is due after the items: one was before them, or something was finished, and no seal has come since
+-- whether an answer is due after the items: something was finished since the last seal, or there was none and one was due before
 abbrev pub is_due_after : Bool → List Item → Bool
 is_due_after due [] = due
 is_due_after due (item.Finished session txn ∷ items) = is_due_after true items
