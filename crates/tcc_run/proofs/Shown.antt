@@ -14,7 +14,6 @@ use Rattle.tcc_reads.specs.Sources.{history}
 use Rattle.tcc_cert.specs.Reading.{certificate_read}
 use Rattle.tcc_cert.specs.Rules.{Certifies}
 use Rattle.tcc_cert.specs.declared.certificate.Certificate.{Certificate}
-use Rattle.tcc_cert.specs.declared.certificate.Certificate.TheVariants as claim
 use Rattle.tcc_cert.specs.declared.fault.CertFaultKind.{CertFaultKind}
 use Rattle.tcc_cert.specs.declared.fault.CertFaultKind.TheVariants as text_kind
 use Rattle.tcc_check.specs.Verdicts.{IsVerdict, IsTrueClaim}
@@ -90,8 +89,7 @@ judged_run records text judged (inr (inr memory)) = let bad : ⊥ = cc in absurd
 module _ (certified : (h : History) (k : Certificate) → Certifies h k → IsTrueClaim h k) where
   -- what is accepted is certified, and so true
   accepted : (h : History) (k : Certificate) → IsVerdict h k verdict.Accepted → IsTrueClaim h k
-  accepted h (claim.Order order clocks) is = certified h (claim.Order order clocks) is
-  accepted h (claim.Cycle links least near far) is = certified h (claim.Cycle links least near far) is
+  accepted h k is = certified h k is
 
   of_verdict : (records text : List ℕ) (k : Certificate) (v : Verdict) → IsJudged records text k v
       → code_of (verdict_status v) ≡ 0 → IsShown records text

@@ -21,11 +21,12 @@ use Rattle.tcc_run.specs.Printed.{answered, halted, unresolved, Prints}
 
 -- ---- one answer
 
--- the text for a snapshot, and how a run ends whose last answer it is: the first answer for its history where all its reads
--- have sources, else all its read faults
+-- the text for a snapshot, and how a run ends whose last answer it is: the first answer for its history at the level that is
+-- asked for, where all its reads have sources, else all its read faults
 abbrev pub IsAnswered : Sessions → Options → List ℕ → Status → Type 0
 IsAnswered s options text status =
-    ((read_faults s ≡ []) × (a : Answer) × IsAnswerOf (history s) a × (text ≡ answered options.json a) × (status ≡ answer_status a))
+    ((read_faults s ≡ []) × (a : Answer) × IsAnswerOf (record { history = history s; level = options.level }) a
+    × (text ≡ answered options.json a) × (status ≡ answer_status a))
     ⊎ ((read_faults s ≢ []) × (text ≡ unresolved options.json (read_faults s)) × (status ≡ ReadFaults))
 
 -- one of the texts of a run, and how the run ends where it is the last

@@ -91,8 +91,8 @@ certificate_fault_text fault = codes "certificate line " ++ (decimal fault.line 
 
 -- accepted: order, or accepted: cycle, L steps
 abbrev pub accepted_text : Certificate → List ℕ
-accepted_text (claim.Order order clocks) = codes "accepted: order\n"
-accepted_text (claim.Cycle links least near far) = codes "accepted: cycle, " ++ (decimal least ++ codes " steps\n")
+accepted_text (claim.Order version level order sessions clocks) = codes "accepted: order\n"
+accepted_text (claim.Cycle version level links least near far) = codes "accepted: cycle, " ++ (decimal least ++ codes " steps\n")
 
 -- rejected: rule K at I J
 abbrev pub rejected_text : Rule → ℕ × ℕ → List ℕ

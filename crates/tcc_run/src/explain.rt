@@ -42,8 +42,8 @@ fn transaction_count(snapshot: &Snapshot) -> usize
     count
 }
 
-/// Writes the answer for the snapshot, as text or as a line of JSON, and gives the status of a run whose last it is; else
-/// the run ends with this number.
+/// Writes the answer for the snapshot at the level, as text or as a line of JSON, and gives the status of a run whose last
+/// it is; else the run ends with this number.
 fn answer<W: Write>(
     rt: &(impl Threads + Sync),
     alloc: Global,
@@ -54,7 +54,7 @@ fn answer<W: Write>(
     ensures whole { IfOk result (λ status. (text : List ℕ) × IsAnswered snapshot.now options text status × Appends (W.contents out.old) (W.contents out.new) text) }
     ensures ended { IfErr result (EndsAnswering snapshot.now options (W.contents out.old) (W.contents out.new)) }
 {
-    match explain(rt, alloc, snapshot) {
+    match explain(rt, alloc, snapshot, options.level) {
         Ok(answer) => {
             send_answer(alloc, &answer, options.json, out)?;
             Ok(answer_status(&answer))
@@ -132,8 +132,8 @@ fn answer_all<R: Read + Drop, W: Write>(
     print_memory(out, options.json)
 }
 
-/// Writes an answer for what was finished before each seal of the bytes of the reader, and before their end, as text or as
-/// lines of JSON, and gives the number that the run ends with.
+/// Writes an answer at the level for what was finished before each seal of the bytes of the reader, and before their end,
+/// as text or as lines of JSON, and gives the number that the run ends with.
 pub fn run_explain<R: Read + Drop, W: Write>(
     rt: &(impl Threads + Sync),
     alloc: Global,
