@@ -1,5 +1,8 @@
 pub mod Backwards
 pub mod CycleLemmas
+pub mod UpwardLemmas
+pub mod Twice
+pub mod BoundLemmas
 pub mod TieLemmas
 pub mod PickedLemmas
 pub mod RowLemmas
