@@ -16,8 +16,8 @@ use Rattle.tcc_graph.specs.declared.link.Link.{Link}
 use Rattle.tcc_graph.specs.declared.link.Link.TheVariants as link
 use Rattle.tcc_graph.proofs.Pairs.{step_below, link_below}
 use Rattle.tcc_graph.proofs.Walking.{leads_append, leads_split, walk_below}
-use Rattle.tcc_graph.proofs.Linking.{derived_cost, some_cost, cost_cons, cost_append, cost_around, lead_append, lead_split}
-use Rattle.tcc_cycle.proofs.Twice.{HasTwice, few_or_twice}
+use Rattle.tcc_graph.proofs.Linking.{derived_cost, some_cost, cost_cons, cost_around, lead_append, lead_split}
+use Rattle.tcc_cycle.proofs.Twice.{HasTwice, always, few_or_twice}
 
 -- ---- a shortest walk begins one step at most at each transaction
 
@@ -26,7 +26,7 @@ steps_below h a b [] leads = tt
 steps_below h a b (s ∷ walk) leads = ((step_below h s leads.1).0, steps_below h (step_to s) b walk leads.2)
 
 -- without what lies between two steps that begin at one number
-shorter : (h : History) (a b : ℕ) (front : List Step) (one : Step) (middle : List Step) (other : Step) (rest : List Step) → step_from one ≡ step_from other → IsWalk h a b (front ++ one ∷ (middle ++ other ∷ rest)) → IsWalk h a b (front ++ other ∷ rest)
+pub shorter : (h : History) (a b : ℕ) (front : List Step) (one : Step) (middle : List Step) (other : Step) (rest : List Step) → step_from one ≡ step_from other → IsWalk h a b (front ++ one ∷ (middle ++ other ∷ rest)) → IsWalk h a b (front ++ other ∷ rest)
 shorter h a b front one middle other rest same is =
     let (m, before, on) = leads_split h a b front (one ∷ (middle ++ other ∷ rest)) is.1 in
     let (n, between, last) = leads_split h (step_to one) b middle (other ∷ rest) on.2 in
@@ -36,7 +36,7 @@ shorter h a b front one middle other rest same is =
 few_steps : (h : History) (a b : ℕ) (walk : List Step) → IsWalk h a b walk → ((others : List Step) → IsWalk h a b others → length walk ≤ length others) → length walk ≤ count h
 few_steps h a b walk is least = go (few_or_twice step_from (count h) walk (steps_below h a b walk is.1))
   where
-    go : (length walk ≤ count h) ⊎ HasTwice step_from walk → length walk ≤ count h
+    go : (length walk ≤ count h) ⊎ HasTwice step_from always walk → length walk ≤ count h
     go (inl few) = few
     go (inr t) =
         let low : length walk ≤ length (t.front ++ t.other ∷ t.rest) = least (t.front ++ t.other ∷ t.rest) (shorter h a b t.front t.one t.middle t.other t.rest t.same (subst (λ (w : List Step). IsWalk h a b w) t.split is)) in
@@ -54,15 +54,15 @@ few_in_link j (link.Session a b) is least = omega arith
 few_in_link j (link.Reads a b x) is least = omega arith
 few_in_link j (link.Derived b a x c walk) is least =
     let few : length walk ≤ count j.history = few_at j.history j.level b c walk is.1.0 is.1.1 (λ others leads allowed.
-        let low : link_cost (link.Derived b a x c walk) ≤ link_cost (link.Derived b a x c others) = least (link.Derived b a x c others) refl refl (is.0, (leads, allowed)) in
-        omega (arith, low, derived_cost b a x c walk, derived_cost b a x c others)) in
+    let low : link_cost (link.Derived b a x c walk) ≤ link_cost (link.Derived b a x c others) = least (link.Derived b a x c others) refl refl (is.0, (leads, allowed)) in
+    omega (arith, low, derived_cost b a x c walk, derived_cost b a x c others)) in
     omega (arith, few, derived_cost b a x c walk)
 
 -- ---- least cycles
 
 module _ (j : Judged) (s : ℕ) where
   -- another link in the place of one
-  link_least : (front : List Link) (l : Link) (rest : List Link) → IsLeastCycle j s (front ++ l ∷ rest) → (o : Link) → link_from o ≡ link_from l → link_to o ≡ link_to l → IsLink j o → link_cost l ≤ link_cost o
+  pub link_least : (front : List Link) (l : Link) (rest : List Link) → IsLeastCycle j s (front ++ l ∷ rest) → (o : Link) → link_from o ≡ link_from l → link_to o ≡ link_to l → IsLink j o → link_cost l ≤ link_cost o
   link_least front l rest least o from to is =
       let (m, lead, on) = lead_split j s s front (l ∷ rest) least.cycle.1 in
       let long : length (front ++ o ∷ rest) ≡ length front + length (o ∷ rest) = length-append front (o ∷ rest) in
@@ -70,7 +70,7 @@ module _ (j : Judged) (s : ℕ) where
       let cycle : IsCycle j s (front ++ o ∷ rest) = (omega (arith, long), lead_append j s m s front (o ∷ rest) lead (from ∙ on.0, is, last)) in
       omega (arith, least.least s (front ++ o ∷ rest) cycle, cost_around front l rest, cost_around front o rest)
 
-  link_there : (front : List Link) (l : Link) (rest : List Link) → IsLeastCycle j s (front ++ l ∷ rest) → IsLink j l
+  pub link_there : (front : List Link) (l : Link) (rest : List Link) → IsLeastCycle j s (front ++ l ∷ rest) → IsLink j l
   link_there front l rest least = let (m, lead, on) = lead_split j s s front (l ∷ rest) least.cycle.1 in on.1
 
   -- each of the links costs so much at most
@@ -86,7 +86,7 @@ module _ (j : Judged) (s : ℕ) where
   starts_below a b (l ∷ links) lead = ((link_below j l lead.1).0, starts_below (link_to l) b links lead.2)
 
   -- what lies between two links that begin at one number is a cycle that costs less
-  part_cycle : (front : List Link) (one : Link) (middle : List Link) (other : Link) (rest : List Link) → link_from one ≡ link_from other → IsCycle j s (front ++ one ∷ (middle ++ other ∷ rest)) → IsCycle j (link_from one) (one ∷ middle)
+  pub part_cycle : (front : List Link) (one : Link) (middle : List Link) (other : Link) (rest : List Link) → link_from one ≡ link_from other → IsCycle j s (front ++ one ∷ (middle ++ other ∷ rest)) → IsCycle j (link_from one) (one ∷ middle)
   part_cycle front one middle other rest same cycle =
       let (m, before, on) = lead_split j s s front (one ∷ (middle ++ other ∷ rest)) cycle.1 in
       let (n, between, last) = lead_split j (link_to one) s middle (other ∷ rest) on.2 in
@@ -95,7 +95,7 @@ module _ (j : Judged) (s : ℕ) where
   few_links : (links : List Link) → IsLeastCycle j s links → length links ≤ count j.history
   few_links links least = go (few_or_twice link_from (count j.history) links (starts_below s s links least.cycle.1))
     where
-      go : (length links ≤ count j.history) ⊎ HasTwice link_from links → length links ≤ count j.history
+      go : (length links ≤ count j.history) ⊎ HasTwice link_from always links → length links ≤ count j.history
       go (inl few) = few
       go (inr t) =
           let whole : cost links ≡ cost (t.front ++ t.one ∷ (t.middle ++ t.other ∷ t.rest)) = subst (λ (ls : List Link). cost links ≡ cost ls) t.split refl in

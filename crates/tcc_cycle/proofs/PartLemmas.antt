@@ -11,7 +11,7 @@ use Rattle.tcc_graph.specs.Ties.{walk_cmp, IsFirstCycle}
 use Rattle.tcc_graph.specs.declared.step.Step.{Step}
 use Rattle.tcc_graph.specs.declared.link.Link.{Link}
 use Rattle.tcc_graph.specs.declared.link.Link.TheVariants as link
-use Rattle.tcc_graph.proofs.Linking.{derived_cost, cost_cons, cost_append, cost_around, lead_append, lead_split, lead_end}
+use Rattle.tcc_graph.proofs.Linking.{derived_cost, cost_append, cost_around, lead_append, lead_split, lead_end}
 use Rattle.tcc_derive.specs.Backwards.{IsFirstWalk}
 use Rattle.tcc_cycle.proofs.UpwardLemmas.{begins_above, first_links}
 use Rattle.tcc_cycle.proofs.PickedLemmas.{first_lowest, picked_from_first}

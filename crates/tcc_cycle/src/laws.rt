@@ -1,13 +1,17 @@
 //! The laws of least cycles: the first one is picked from the back, and so are the walks of its links; what its parts
 //! cost, and what it can cost at most.
-ghost use Rattle.std.specs.Prelude.{◌≡◌, ◌≤◌, ◌↔◌, ◌∷◌, ◌++◌, ℕ, List};
-ghost use Rattle.tcc_txn.specs.declared.limits.TheConstants.{MAX_COUNT};
+ghost use Rattle.std.specs.Prelude.{◌≡◌, ◌≤◌, ◌↔◌, ◌==◌, ◌∷◌, ◌++◌, ℕ, List, filter, length};
+ghost use Rattle.std.specs.FinMap.{entries};
+ghost use Rattle.tcc_txn.specs.declared.limits.TheConstants.{MAX_COUNT, MAX_SESSIONS};
+ghost use Rattle.tcc_txn.specs.Snapshots.{Sessions};
 ghost use Rattle.tcc_reads.specs.History.{count};
+ghost use Rattle.tcc_reads.specs.Sources.{history};
 ghost use Rattle.tcc_graph.specs.Levels.{Judged};
 ghost use Rattle.tcc_graph.specs.Links.{link_from, cost};
 ghost use Rattle.tcc_graph.specs.Routes.{IsRoute, IsLeastCycle, IsDistance};
-ghost use Rattle.tcc_graph.specs.Ties.{IsFirstCycle};
+ghost use Rattle.tcc_graph.specs.Ties.{IsFirstCycle, link_kind};
 ghost use Rattle.tcc_graph.specs.declared.limits.TheConstants.{MAX_CYCLE_COST};
+ghost use Rattle.tcc_graph.specs.declared.level.Level.{Level};
 ghost use Rattle.tcc_graph.specs.declared.step.Step.{Step};
 ghost use Rattle.tcc_graph.specs.declared.link.Link.{Link};
 ghost use Rattle.tcc_graph.specs.declared.link.Link.TheVariants.{Derived};
@@ -38,9 +42,15 @@ pub fn parts()
         → IsRoute j u v part → IsRoute j u v others → cost part ≤ cost others }
 {}
 
-/// What a least cycle costs at most: it begins one link at most at each transaction, and none of its links takes a longer
-/// walk than over all transactions once. That a graph has no more than `MAX_COUNT` of them, `Graph::count` says.
+/// What a least cycle costs at most. By the number of transactions: it begins one link at most at each of them, and none of
+/// its links takes a longer walk than over all of them once. That a graph has no more than `MAX_COUNT`, `Graph::count` says.
+/// And in the history of a snapshot by its sessions alone, however many transactions they have: beside `init`, a least
+/// cycle meets two transactions of a session at most, and one derived link at most begins there; and the walk of such a
+/// link begins two steps at most in a session.
 pub fn bounded()
-    ensures { (j : Judged) (s : ℕ) (links : List Link) → count j.history ≤ MAX_COUNT → IsLeastCycle j s links
+    ensures transactions { (j : Judged) (s : ℕ) (links : List Link) → count j.history ≤ MAX_COUNT → IsLeastCycle j s links
         → cost links ≤ MAX_CYCLE_COST }
+    ensures sessions { (snapshot : Sessions) (level : Level) (s : ℕ) (links : List Link) → length (entries snapshot) ≤ MAX_SESSIONS
+        → IsLeastCycle (record { history = history snapshot; level = level }) s links
+        → (length (filter (λ l. link_kind l == 2) links) ≤ 65) × (cost links ≤ 8449) }
 {}
