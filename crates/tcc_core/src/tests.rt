@@ -69,7 +69,10 @@ fn assert_steps(
     };
     assert!(rt; search.row().iter().all(|distance| distance.is_none()));
     for (cap, wanted, row) in steps {
-        assert_eq!(rt; search.row().len() + search.start() as usize, prices.count() as usize);
+        assert_eq!(rt;
+            search.row().len() + search.start() as usize,
+            prices.count() as usize
+        );
         let settled = search.settle(&prices, *cap);
         assert!(rt; settled == *wanted, "from {start} at {cap} of {records}");
         if let Some(row) = row {
