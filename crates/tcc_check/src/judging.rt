@@ -15,10 +15,23 @@ pub fn check(alloc: Global, graph: &Graph, certificate: &Certificate) -> Result<
     ensures { IfOk result (IsVerdict graph.now certificate.now) }
 {
     match certificate {
-        Certificate::Order { order, clocks } => {
-            order_verdict(alloc, graph, order.as_slice(), clocks.rows())
-        }
+        Certificate::Order {
+            level,
+            order,
+            sessions,
+            clocks,
+            ..
+        } => order_verdict(
+            alloc,
+            graph,
+            *level,
+            order.as_slice(),
+            *sessions,
+            clocks.rows(),
+        ),
         Certificate::Cycle {
+            version,
+            level,
             links,
             least,
             near,
@@ -26,6 +39,8 @@ pub fn check(alloc: Global, graph: &Graph, certificate: &Certificate) -> Result<
         } => cycle_verdict(
             alloc,
             graph,
+            *version,
+            *level,
             links.as_slice(),
             *least,
             near.rows(),
