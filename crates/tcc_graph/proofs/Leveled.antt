@@ -10,7 +10,7 @@ use Rattle.tcc_graph.specs.declared.link.Link.{Link}
 use Rattle.tcc_graph.specs.declared.link.Link.TheVariants as link
 
 pub causal_reason : (h : History) (b a : ℕ) (x : List ℕ) (c : ℕ) (walk : List Step) → IsReason (atomically h) b a x c walk → IsReason (causally h) b a x c walk
-causal_reason h b a x c walk reason = (reason.0, (reason.1.0, unit))
+causal_reason h b a x c walk reason = (reason.0, (reason.1.0, tt))
 
 pub causal_link : (h : History) (l : Link) → IsLink (atomically h) l → IsLink (causally h) l
 causal_link h (link.Session a b) is = is

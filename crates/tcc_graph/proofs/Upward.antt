@@ -1,6 +1,7 @@
 -- Routes over numbers from one on upward; every cycle is one such route from its lowest number, begun elsewhere.
 use Rattle.std.proofs.Common.{ℕ, ◌≡◌, ◌<◌, ◌≤◌, ◌+◌, ◌⊎◌, inl, inr, List, [], ◌∷◌, ◌++◌, length, length-append, All, refl, sym, subst, arith}
 use Rattle.std.proofs.lemmas.Bool.{cases_lt}
+use Rattle.std.proofs.lemmas.List.Elements.{All-nil, All-cons}
 use Rattle.tcc_graph.specs.Levels.{Judged}
 use Rattle.tcc_graph.specs.Links.{link_from, link_to, cost}
 use Rattle.tcc_graph.specs.Routes.{LinksLead, IsRoute, IsCycle, IsUpward, IsUpwardRoute}
@@ -9,22 +10,23 @@ use Rattle.tcc_graph.proofs.Linking.{cost_cons, cost_append, cost_around, lead_a
 
 -- the links begin at no number below m
 abbrev pub BeginFrom : ℕ → List Link → Type 0
-BeginFrom m links = All (λ l. m ≤ link_from l) links
+BeginFrom m [] = Unit {0}
+BeginFrom m (l ∷ links) = (m ≤ link_from l) × BeginFrom m links
 
 begin_append : (m : ℕ) (some others : List Link) → BeginFrom m some → BeginFrom m others → BeginFrom m (some ++ others)
 begin_append m [] others p q = q
 begin_append m (l ∷ some) others p q = (p.0, begin_append m some others p.1 q)
 
 begin_lower : (k m : ℕ) (links : List Link) → k ≤ m → BeginFrom m links → BeginFrom k links
-begin_lower k m [] low p = p
+begin_lower k m [] low p = tt
 begin_lower k m (l ∷ links) low p = (omega (arith, p.0), begin_lower k m links low p.1)
 
 -- links that begin at no number below m, and lead to one that is not below it, end at none below it
 pub ends_upward : (j : Judged) (m a b : ℕ) (links : List Link) → LinksLead j a b links → m ≤ b → BeginFrom m links → All (IsUpward m) links
-ends_upward j m a b [] lead low from = from
-ends_upward j m a b (l ∷ []) lead low from = ((from.0, subst (λ (z : ℕ). m ≤ z) (sym lead.2.2) low), from.1)
+ends_upward j m a b [] lead low from = All-nil (IsUpward m)
+ends_upward j m a b (l ∷ []) lead low from = All-cons (IsUpward m) l [] (from.0, omega (arith, low, lead.2)) (All-nil (IsUpward m))
 ends_upward j m a b (l ∷ k ∷ links) lead low from =
-    ((from.0, subst (λ (z : ℕ). m ≤ z) lead.2.2.0 from.1.0), ends_upward j m (link_to l) b (k ∷ links) lead.2.2 low from.1)
+    All-cons (IsUpward m) l (k ∷ links) (from.0, omega (arith, from.1.0, lead.2.0)) (ends_upward j m (link_to l) b (k ∷ links) lead.2 low from.1)
 
 -- where a list of links has one that begins lowest
 record HasLowest (links : List Link) : Type 0 where
@@ -36,7 +38,7 @@ record HasLowest (links : List Link) : Type 0 where
   after : BeginFrom (link_from link) rest
 
 lowest_of : (l : Link) (links : List Link) → HasLowest (l ∷ links)
-lowest_of l [] = record { front = []; link = l; rest = []; split = refl; before = unit; after = unit }
+lowest_of l [] = record { front = []; link = l; rest = []; split = refl; before = tt; after = tt }
 lowest_of l (k ∷ links) = go (lowest_of k links)
   where
     go : HasLowest (k ∷ links) → HasLowest (l ∷ k ∷ links)
@@ -46,7 +48,7 @@ lowest_of l (k ∷ links) = go (lowest_of k links)
         pick (inr low) = record { front = l ∷ w.front; link = w.link; rest = w.rest; split = rw w.split refl; before = (low, w.before); after = w.after }
         pick (inl low) =
             let all : BeginFrom (link_from w.link) (w.front ++ w.link ∷ w.rest) = begin_append (link_from w.link) w.front (w.link ∷ w.rest) w.before (omega arith, w.after) in
-            record { front = []; link = l; rest = k ∷ links; split = refl; before = unit; after = begin_lower (link_from l) (link_from w.link) (k ∷ links) (omega (arith, low)) (subst (λ (z : List Link). BeginFrom (link_from w.link) z) (sym w.split) all) }
+            record { front = []; link = l; rest = k ∷ links; split = refl; before = tt; after = begin_lower (link_from l) (link_from w.link) (k ∷ links) (omega (arith, low)) (subst (λ (z : List Link). BeginFrom (link_from w.link) z) (sym w.split) all) }
 
 -- a cycle, begun at its lowest number: it is a route over numbers from there upward, and costs the same
 pub record IsTurned (j : Judged) (s : ℕ) (links : List Link) : Type 0 where

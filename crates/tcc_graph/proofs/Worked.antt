@@ -79,7 +79,7 @@ stale_read-cycle = (
       refl,
       (
         ((λ e. absurd (omega arith)), (omega arith, omega arith, (0, omega arith, refl)), (omega arith, refl)),
-        (omega arith, (refl, refl, refl)),
+        ((omega arith, (refl, refl, refl)), tt),
       ),
       refl,
     ),
@@ -119,14 +119,21 @@ pub long_chain-link : IsLink (causally long_chain) chain_link
 long_chain-link = (
   ((λ e. absurd (omega arith)), (omega arith, omega arith, (0, omega arith, refl)), (omega arith, refl)),
   (
-    omega arith,
     (
-      refl,
-      (omega arith, omega arith, (0, omega arith, refl)),
-      (refl, (omega arith, omega arith, (0, omega arith, refl)), (refl, refl, refl)),
+      omega arith,
+      (
+        refl,
+        (omega arith, omega arith, (0, omega arith, refl)),
+        (refl, (omega arith, omega arith, (0, omega arith, refl)), (refl, refl, refl)),
+      ),
     ),
+    tt,
   ),
 )
+
+-- its walk has three pairs, so it is no link at `Atomic`
+long_chain-atomic : IsLink (atomically long_chain) chain_link → ⊥
+long_chain-atomic is = absurd (omega (arith, is.1.1))
 
 long_chain-cost : link_cost chain_link ≡ 4
 long_chain-cost = refl
@@ -160,13 +167,34 @@ two_values-cycle = (
     refl,
     (
       ((λ e. absurd (omega arith)), (omega arith, omega arith, (0, omega arith, refl)), (omega arith, refl)),
-      (omega arith, (refl, (omega arith, omega arith, (0, omega arith, refl)), refl)),
+      ((omega arith, (refl, (omega arith, omega arith, (0, omega arith, refl)), refl)), tt),
     ),
     (
       refl,
       (
         ((λ e. absurd (omega arith)), (omega arith, omega arith, (0, omega arith, refl)), (omega arith, refl)),
-        (omega arith, (refl, (omega arith, omega arith, (0, omega arith, refl)), refl)),
+        ((omega arith, (refl, (omega arith, omega arith, (0, omega arith, refl)), refl)), tt),
+      ),
+      refl,
+    ),
+  ),
+)
+
+-- each walk is one pair, so it is a cycle at `Atomic` too
+two_values-atomic : IsCycle (atomically two_values) 1 conflict_cycle
+two_values-atomic = (
+  omega arith,
+  (
+    refl,
+    (
+      ((λ e. absurd (omega arith)), (omega arith, omega arith, (0, omega arith, refl)), (omega arith, refl)),
+      ((omega arith, (refl, (omega arith, omega arith, (0, omega arith, refl)), refl)), refl),
+    ),
+    (
+      refl,
+      (
+        ((λ e. absurd (omega arith)), (omega arith, omega arith, (0, omega arith, refl)), (omega arith, refl)),
+        ((omega arith, (refl, (omega arith, omega arith, (0, omega arith, refl)), refl)), refl),
       ),
       refl,
     ),
