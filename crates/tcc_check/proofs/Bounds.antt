@@ -1,11 +1,12 @@
 -- The rules on the tables, by weights and starts.
-use Rattle.std.proofs.Common.{◌≡◌, ◌≢◌, ◌<◌, ◌≤◌, ◌+◌, ℕ, ◌⊎◌, inl, inr, List, [], length, get_or, arith, sym, subst, ◌∙◌}
+use Rattle.std.proofs.Common.{◌≡◌, ◌≢◌, ◌<◌, ◌≤◌, ◌+◌, ◌-◌, ℕ, ◌⊎◌, inl, inr, List, [], length, get_or, arith, sym, subst, ◌∙◌}
 use Rattle.std.specs.Prelude.{All}
 use Rattle.std.specs.List.{Contains}
 use Rattle.std.proofs.lemmas.Bool.{cases_lt}
 use Rattle.std.proofs.lemmas.List.{get_or_past, get_or_default}
 use Rattle.tcc_reads.specs.History.{History, count}
-use Rattle.tcc_cert.specs.Tables.{entry, row_of, HasSize, IsCapped, IsFirstPlace}
+use Rattle.tcc_cert.specs.declared.version.Version.{Version}
+use Rattle.tcc_cert.specs.Tables.{entry, lowest, far_entry, row_of, HasSize, IsCapped, IsFirstPlace}
 use Rattle.tcc_cert.specs.Rules.{HoldsEverywhere}
 use Rattle.tcc_check.specs.Weights.{unlinked, PairWeighs, ContradictionWeighs, LinkWeighs, IsLeastRow, IsLeastTable, IsLowered, AreLowered, IsLongLink, IsLongStep}
 use Rattle.tcc_check.specs.Searches.{AreStartRows, IsLongStartFrom}

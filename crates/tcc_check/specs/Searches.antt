@@ -1,6 +1,7 @@
 -- What a search for the first broken place answers. Nobody has to believe it: private functions say it to one another.
-use Rattle.std.specs.Prelude.{ℕ, ◌<◌, ◌≡◌, ◌+◌, List, [], length, slice_index, slice_index_or, Contains}
-use Rattle.tcc_cert.specs.Tables.{entry, row_of}
+use Rattle.std.specs.Prelude.{ℕ, ◌<◌, ◌≤◌, ◌≡◌, ◌+◌, ◌-◌, List, [], length, slice_index, slice_index_or, Contains}
+use Rattle.tcc_cert.specs.declared.version.Version.{Version}
+use Rattle.tcc_cert.specs.Tables.{entry, lowest, far_entry, row_of}
 use Rattle.tcc_check.specs.Weights.{AreStarts}
 
 -- below n nothing is broken

@@ -4,7 +4,8 @@ use Rattle.tcc_reads.specs.History.{History, count}
 use Rattle.tcc_graph.specs.Relations.{IsCausalPair}
 use Rattle.tcc_graph.specs.Links.{MayContradict}
 use Rattle.tcc_graph.specs.Keys.{writers}
-use Rattle.tcc_cert.specs.Tables.{entry, row_of, HasSize}
+use Rattle.tcc_cert.specs.declared.version.Version.{Version}
+use Rattle.tcc_cert.specs.Tables.{entry, lowest, far_entry, row_of, HasSize}
 
 -- stands where there is no link: no number of a table is above it
 abbrev pub unlinked : ℕ

@@ -1,20 +1,22 @@
 //! The rules on a claim that a cycle is least.
-ghost use Rattle.std.specs.Prelude.{◌≡◌, ◌≤◌, ◌<◌, ◌↔◌, ◌^◌, [], ◌∷◌, IsTrue, IfOk, length};
+ghost use Rattle.std.specs.Prelude.{◌≡◌, ◌≤◌, ◌<◌, ◌↔◌, ◌^◌, IsTrue, IfOk, length};
 ghost use Rattle.tcc_txn.specs.declared.limits.TheConstants.{MAX_COUNT};
 ghost use Rattle.tcc_reads.specs.History.{count};
-ghost use Rattle.tcc_cert.specs.Tables.{HasSize, IsCapped};
+ghost use Rattle.tcc_graph.specs.declared.level.Level.{Level};
+ghost use Rattle.tcc_cert.specs.Tables.{HasSize, HasFarSize, IsCapped};
 ghost use Rattle.tcc_cert.specs.CycleRules.{HasRightSizes};
-ghost use Rattle.tcc_check.specs.Verdicts.{IsAnswer, by_places, bounds_rules, cycle_rules};
-ghost use Rattle.tcc_check.specs.Weights.{unlinked, IsLongLink, IsLongStep};
+ghost use Rattle.tcc_check.specs.Verdicts.{IsAnswer, bounds_rules, cycle_rules};
+ghost use Rattle.tcc_check.specs.TableRules.{table_rules, near_steps};
+ghost use Rattle.tcc_check.specs.Weights.{unlinked};
 
 use crate::links::{costs, first_wrong_link};
 use crate::searching::{first_long_link, first_long_step, first_short_return};
-use crate::sizes::{are_links_below, has_size, is_capped};
+use crate::sizes::{are_links_below, has_far_size, has_size, is_capped};
 use crate::verdict::{Rule, Verdict, rejected};
 use crate::weights::{lowered, pair_weights, start_rows};
 use std::alloc::Global;
-use tcc_cert::Numbers;
-use tcc_graph::{Graph, Link};
+use tcc_cert::{Numbers, Version};
+use tcc_graph::{Graph, Level, Link};
 use tcc_txn::NoMemory;
 
 /// Whether the tables have the size of the history, and no number is out of its range.
@@ -30,9 +32,9 @@ fn has_right_sizes(
     ensures sizes { (level : Level) → IsTrue result ↔ HasRightSizes graph.now (record { version = version; level = level; links = links.now; least = least; near = near.now; far = far.now }) }
 {
     let count = graph.count();
-    has_far_size(Version::One, near, count)
+    has_size(near, count as usize, count as usize)
         && has_far_size(version, far, count)
-        && are_links_below(links, graph.count())
+        && are_links_below(links, count)
         && is_capped(near, least)
         && is_capped(far, least)
 }

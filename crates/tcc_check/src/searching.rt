@@ -1,12 +1,13 @@
 //! Searches for the first place at which a table has more than a link takes.
-ghost use Rattle.std.specs.Prelude.{◌≡◌, ◌<◌, ◌≤◌, ◌^◌, ◌↔◌, length, All, IsTrue, MatchOption};
-ghost use Rattle.tcc_cert.specs.Tables.{entry, HasSize, IsFirstPlace};
+ghost use Rattle.std.specs.Prelude.{◌≡◌, ◌<◌, ◌≤◌, ◌+◌, ◌^◌, ◌↔◌, length, All, IsTrue, MatchOption};
+ghost use Rattle.tcc_cert.specs.Tables.{lowest, HasSize, HasFarSize, IsFirstPlace};
 ghost use Rattle.tcc_cert.specs.Rules.{HoldsEverywhere};
 ghost use Rattle.tcc_check.specs.Weights.{IsLongLink};
 ghost use Rattle.tcc_check.specs.Searches.{HoldsBelow, IsFirstBelow, IsLongEnd, IsOvershot, IsLongStart, IsLongStartFrom, IsShortReturn};
 
+use crate::sizes::lowest;
 use crate::starts::Starts;
-use tcc_cert::Numbers;
+use tcc_cert::{Numbers, Version};
 
 /// The first end to which the link from the start takes less than the row of the start has, whose numbers are those
 /// from `low` upward.
