@@ -10,7 +10,8 @@ use tcc_cert::Certificate;
 use tcc_graph::Graph;
 use tcc_txn::NoMemory;
 
-/// Accepts the certificate exactly where it keeps all rules; otherwise names the first broken one and where.
+/// Accepts the certificate exactly where it keeps all rules for its version and its level; otherwise names the first
+/// broken one and where.
 pub fn check(alloc: Global, graph: &Graph, certificate: &Certificate) -> Result<Verdict, NoMemory>
     ensures { IfOk result (IsVerdict graph.now certificate.now) }
 {
@@ -21,14 +22,10 @@ pub fn check(alloc: Global, graph: &Graph, certificate: &Certificate) -> Result<
             sessions,
             clocks,
             ..
-        } => order_verdict(
-            alloc,
-            graph,
-            *level,
-            order.as_slice(),
-            *sessions,
-            clocks.rows(),
-        ),
+        } => {
+            let order = order.as_slice();
+            order_verdict(alloc, graph, *level, order, *sessions, clocks.rows())
+        }
         Certificate::Cycle {
             version,
             level,

@@ -55,7 +55,7 @@ fn leads(graph: &Graph, from: u32, to: u32, steps: &[Step]) -> bool
     at == to
 }
 
-/// Whether the level allows a walk of so many steps.
+/// Whether the level allows the walk.
 fn is_allowed(level: Level, walk: &[Step]) -> bool
     ensures { IsTrue result ↔ IsAllowed level walk.now }
 {
