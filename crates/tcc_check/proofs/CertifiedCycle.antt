@@ -6,7 +6,7 @@ use Rattle.std.proofs.lemmas.List.Elements.{All-head, All-tail}
 use Rattle.tcc_reads.specs.History.{History, count}
 use Rattle.tcc_graph.specs.Relations.{IsCausalPair}
 use Rattle.tcc_graph.specs.Walks.{step_to, Leads}
-use Rattle.tcc_graph.specs.Levels.{Judged, IsAllowed, IsAllowedWalk}
+use Rattle.tcc_graph.specs.Levels.{IsAllowed, IsAllowedWalk}
 use Rattle.tcc_graph.specs.declared.level.Level.{Level}
 use Rattle.tcc_graph.specs.declared.level.Level.TheVariants as level
 use Rattle.tcc_graph.specs.Links.{IsLink, link_from, link_to, unfolding_of, link_cost, cost}

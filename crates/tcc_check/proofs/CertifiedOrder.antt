@@ -4,7 +4,7 @@ use Rattle.std.proofs.lemmas.Bool.{cases_eq, cases_lt}
 use Rattle.tcc_reads.specs.History.{History, count, owner}
 use Rattle.tcc_graph.specs.Relations.{IsCausalPair}
 use Rattle.tcc_graph.specs.Walks.{step_to, Leads, IsWalk}
-use Rattle.tcc_graph.specs.Levels.{Judged, IsAllowed}
+use Rattle.tcc_graph.specs.Levels.{IsAllowed}
 use Rattle.tcc_graph.specs.Links.{IsReason}
 use Rattle.tcc_graph.specs.Orders.{Before, IsCommitOrder}
 use Rattle.tcc_graph.specs.declared.level.Level.{Level}

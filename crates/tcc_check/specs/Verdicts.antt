@@ -1,5 +1,5 @@
 -- What is answered of a certificate: it is accepted, or the first rule that is broken and the first place where it is.
-use Rattle.std.specs.Prelude.{ℕ, ◌<◌, ◌≡◌, ◌⊎◌, List, [], ◌∷◌, Option, Some, None}
+use Rattle.std.specs.Prelude.{ℕ, ◌<◌, ◌≡◌, ◌⊎◌, List, [], ◌∷◌}
 use Rattle.tcc_reads.specs.History.{History}
 use Rattle.tcc_graph.specs.declared.level.Level.{Level}
 use Rattle.tcc_cert.specs.declared.version.Version.{Version}
@@ -7,7 +7,6 @@ use Rattle.tcc_cert.specs.Tables.{IsFirstPlace}
 use Rattle.tcc_cert.specs.CycleRules.{CycleClaim, cycle_judged, HasRightSizes, IsLinkWrong, BreaksNearPair, BreaksNearStep, BreaksFarLink, BreaksFarStep, BreaksReturn}
 use Rattle.tcc_cert.specs.OrderRules.{OrderClaim, HasOrderSizes, KeepsPairs, BreaksAxiom}
 use Rattle.tcc_cert.specs.Rules.{HoldsEverywhere, IsRightCycle, Certifies}
-use Rattle.tcc_graph.specs.Levels.{Judged}
 use Rattle.tcc_graph.specs.Links.{cost}
 use Rattle.tcc_graph.specs.Routes.{IsLeastCycle}
 use Rattle.tcc_graph.specs.Orders.{IsCommitOrder}

@@ -97,7 +97,14 @@ fn bounds_verdict(
 {
     let pairs = pair_weights(alloc, graph)?;
     let steps = near_steps(level);
-    match table_verdict(alloc, Version::One, pairs.rows(), near, Rule::NearPairs, steps)? {
+    match table_verdict(
+        alloc,
+        Version::One,
+        pairs.rows(),
+        near,
+        Rule::NearPairs,
+        steps,
+    )? {
         Verdict::Accepted => {}
         of_near => return Ok(of_near),
     }

@@ -51,13 +51,7 @@ fn gap(graph: &Graph, level: Level, clocks: &[Numbers], b: u32, c: u32) -> u32
 {
     match level {
         Level::Causal => clock_gap(graph, clocks, b, c),
-        Level::Atomic => {
-            if graph.causal(b, c) {
-                0
-            } else {
-                1
-            }
-        }
+        Level::Atomic => { if graph.causal(b, c) { 0 } else { 1 } }
     }
 }
 
@@ -86,14 +80,7 @@ fn is_in_clock(graph: &Graph, clocks: &[Numbers], b: u32, c: u32) -> bool
 }
 
 /// Whether `b` stands before `c`, and the clock of `c`, where there are clocks, has that of `b` and `b` itself.
-fn is_kept(
-    graph: &Graph,
-    level: Level,
-    places: &[u32],
-    clocks: &[Numbers],
-    b: u32,
-    c: u32,
-) -> bool
+fn is_kept(graph: &Graph, level: Level, places: &[u32], clocks: &[Numbers], b: u32, c: u32) -> bool
     requires places { length places.now ≡ count graph.now }
     requires clocks { HasClocks level (count graph.now) (length graph.now.sessions) clocks.now }
     requires b { b < count graph.now }
@@ -110,13 +97,7 @@ fn is_kept(
 }
 
 /// Whether all causal pairs that end at `c` are kept.
-fn keeps_pairs_to(
-    graph: &Graph,
-    level: Level,
-    places: &[u32],
-    clocks: &[Numbers],
-    c: u32,
-) -> bool
+fn keeps_pairs_to(graph: &Graph, level: Level, places: &[u32], clocks: &[Numbers], c: u32) -> bool
     requires places { length places.now ≡ count graph.now }
     requires clocks { HasClocks level (count graph.now) (length graph.now.sessions) clocks.now }
     requires c { c < count graph.now }
@@ -165,12 +146,7 @@ fn gap_row(
 }
 
 /// The gaps from each transaction to each.
-fn gaps(
-    alloc: Global,
-    graph: &Graph,
-    level: Level,
-    clocks: &[Numbers],
-) -> Result<Table, NoMemory>
+fn gaps(alloc: Global, graph: &Graph, level: Level, clocks: &[Numbers]) -> Result<Table, NoMemory>
     requires { HasClocks level (count graph.now) (length graph.now.sessions) clocks.now }
     ensures { IfOk result (λ gaps. AreGaps graph.now level clocks.now gaps) }
 {

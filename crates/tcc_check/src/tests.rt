@@ -121,20 +121,62 @@ fn a_stale_read(rt: HostRuntime) -> Result<(), Fail> {
     let upward = "3 1 1\n3 1\n3\n";
     let rows: &[Row] = &[
         ("1", links, near, far, None),
-        ("1", smaller, "3 1\n3 3\n", "3 1\n2 3\n", Some((Sizes, 0, 0))),
+        (
+            "1",
+            smaller,
+            "3 1\n3 3\n",
+            "3 1\n2 3\n",
+            Some((Sizes, 0, 0)),
+        ),
         ("1", outside, near, far, Some((Sizes, 0, 0))),
-        ("1", links, near, "3 1 1\n2 4 1\n3 3 3\n", Some((Sizes, 0, 0))),
+        (
+            "1",
+            links,
+            near,
+            "3 1 1\n2 4 1\n3 3 3\n",
+            Some((Sizes, 0, 0)),
+        ),
         ("1", elsewhere, near, far, Some((Links, 2, 0))),
-        ("1", links, "3 2 1\n3 3 1\n3 3 3\n", far, Some((NearPairs, 0, 1))),
+        (
+            "1",
+            links,
+            "3 2 1\n3 3 1\n3 3 3\n",
+            far,
+            Some((NearPairs, 0, 1)),
+        ),
         ("1", links, below, far, Some((NearSteps, 1, 1))),
-        ("1", links, near, "3 1 1\n3 3 1\n3 3 3\n", Some((FarLinks, 1, 0))),
-        ("1", links, near, "3 1 1\n2 3 1\n3 3 2\n", Some((Returns, 2, 2))),
+        (
+            "1",
+            links,
+            near,
+            "3 1 1\n3 3 1\n3 3 3\n",
+            Some((FarLinks, 1, 0)),
+        ),
+        (
+            "1",
+            links,
+            near,
+            "3 1 1\n2 3 1\n3 3 2\n",
+            Some((Returns, 2, 2)),
+        ),
         ("1 atomic", links, near, far, None),
         ("1 atomic", links, below, far, None),
         ("2 causal", links, near, upward, None),
         ("2 causal", links, below, upward, Some((NearSteps, 1, 1))),
-        ("2 causal", links, near, "3 1 1\n3 2\n3\n", Some((FarLinks, 1, 2))),
-        ("2 causal", links, near, "3 1 1\n3 1\n2\n", Some((Returns, 2, 2))),
+        (
+            "2 causal",
+            links,
+            near,
+            "3 1 1\n3 2\n3\n",
+            Some((FarLinks, 1, 2)),
+        ),
+        (
+            "2 causal",
+            links,
+            near,
+            "3 1 1\n3 1\n2\n",
+            Some((Returns, 2, 2)),
+        ),
         ("2 atomic", links, near, upward, None),
     ];
     assert_cycles(&rt, rt.alloc(), STALE, rows)?;
@@ -173,7 +215,12 @@ fn other_cycles(rt: HostRuntime) -> Result<(), Fail> {
         ("1", "cycle 5 2 4\n", "5 5 1 2 3\n", Some((Sizes, 0, 0))),
         ("1", "cycle 5 2 6\n", "5 5 1 2 3\n", Some((Links, 0, 0))),
         ("1", "cycle 5 2 5\n", "5 5 1 2 4\n", Some((NearSteps, 1, 4))),
-        ("1 atomic", "cycle 5 2 5\n", "5 5 1 2 3\n", Some((Links, 2, 0))),
+        (
+            "1 atomic",
+            "cycle 5 2 5\n",
+            "5 5 1 2 3\n",
+            Some((Links, 2, 0)),
+        ),
     ] {
         let claim = [sizes, relayed, second, rest, far, rest];
         assert_verdict(&rt, alloc, RELAYED, header, &claim, wanted)?;
@@ -236,11 +283,21 @@ fn orders(rt: HostRuntime) -> Result<(), Fail> {
         (TWO, "order 3 1\n0 1 1\n", "0\n0\n1\n", Some((Pairs, 0, 0))),
         (TWO, "order 3 1\n0 2 1\n", "0\n0\n1\n", Some((Pairs, 0, 0))),
         (TWO, "order 2 1\n0 1\n", "0\n0\n", Some((Sizes, 0, 0))),
-        (TWO, "order 3 2\n0 1 2\n", "0 0\n0 0\n1 0\n", Some((Sizes, 0, 0))),
+        (
+            TWO,
+            "order 3 2\n0 1 2\n",
+            "0 0\n0 0\n1 0\n",
+            Some((Sizes, 0, 0)),
+        ),
         (ABORTED, "order 2 1\n0 1\n", "0\n0\n", None),
         (FORKED, "order 5 4\n0 1 2 3 4\n", forked, None),
         (FORKED, turned, forked, Some((Pairs, 0, 0))),
-        (FORKED, "order 5 4\n0 1 2 3 4\n", reached, Some((Axiom, 2, 0))),
+        (
+            FORKED,
+            "order 5 4\n0 1 2 3 4\n",
+            reached,
+            Some((Axiom, 2, 0)),
+        ),
     ] {
         for header in ["1", "2 causal"] {
             let claim = [sizes, "clocks\n", clocks];

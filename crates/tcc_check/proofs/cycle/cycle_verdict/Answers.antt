@@ -1,6 +1,4 @@
 use Rattle.std.proofs.Common.{ℕ, inl, inr, refl, rules, sym, subst}
-use Rattle.tcc_cert.specs.CycleRules.{cycle_judged}
-use Rattle.tcc_graph.specs.Levels.{Judged}
 use Rattle.tcc_check.specs.Links.{IsFirstWrong}
 use Rattle.tcc_check.proofs.cycle.cycle_verdict.Goals as goal
 
@@ -13,7 +11,7 @@ first_wrong_link-requires c = let sizes = c.has_right_sizes.ensures.sizes c.args
 pub returns-in-Some : goal.returns-in-Some
 returns-in-Some c =
     let found : IsFirstWrong (record { history = c.args.graph.now; level = c.args.level }) c.args.links.now c.in-Ok.place =
-        subst (λ (i : ℕ). IsFirstWrong (record { history = c.args.graph.now; level = c.args.level }) c.args.links.now i) (sym c.in-Ok.ensures.1) c.in-Some.ensures in
+    subst (λ (i : ℕ). IsFirstWrong (record { history = c.args.graph.now; level = c.args.level }) c.args.links.now i) (sym c.in-Ok.ensures.1) c.in-Some.ensures in
     rw c.rejected-in-Some.ensures (inr ((c.has_right_sizes.ensures.sizes c.args.level).0 c.if-not-has_right_sizes.false, inl (refl, inl (found.wrong, (refl, found.first)))))
 
 pub returns-then-is_empty : goal.returns-then-is_empty

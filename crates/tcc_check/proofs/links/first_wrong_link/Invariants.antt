@@ -1,4 +1,3 @@
-use Rattle.tcc_graph.specs.Levels.{Judged}
 use Rattle.tcc_check.proofs.Linked.{AreRightTo}
 use Rattle.tcc_check.proofs.links.first_wrong_link.Given as goal
 
