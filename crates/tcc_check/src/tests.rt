@@ -228,7 +228,7 @@ fn other_cycles(rt: HostRuntime) -> Result<(), Fail> {
     Ok(())
 }
 
-/// No text says so: no links at all, an order at `Atomic` with clocks, and rows of costs in the form of the other version.
+/// No text says so: no links at all, rows of costs in the form of the other version, an order at `Atomic` with clocks.
 #[test]
 fn no_such_text(rt: HostRuntime) -> Result<(), Fail> {
     let alloc = rt.alloc();
