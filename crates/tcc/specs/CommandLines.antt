@@ -1,15 +1,20 @@
 -- What the words of a command line ask for, and how a run ends that answers nothing.
-use Rattle.std.specs.Prelude.{ℕ, ◌≡◌, ◌≢◌, ◌⊎◌, Bool, true, false, List, [], Option, None, Some, option_map, option_and_then, Result, Ok, Err, codes}
+use Rattle.std.specs.Prelude.{ℕ, ◌≡◌, ◌≢◌, ◌⊎◌, Bool, true, false, List, [], ◌∷◌, Option, None, Some, map, option_map, option_and_then, Result, Ok, Err, codes, unwrap_or}
+use Rattle.std.specs.Borrow.{Bor}
 use Rattle.std.specs.String.{string_bytes}
 use Rattle.clap.specs.Walk.{Row, Rule, Text, first_of, one_of}
 use Rattle.clap.specs.Simple.{App, Shape, new_app, new_rule, on_top, subcommand_of, with_rule, with_subcommand}
 use Rattle.clap.specs.declared.builder.action.ArgAction.TheVariants.{SetTrue}
+use Rattle.clap.specs.declared.builder.value_parser.ValueParser.TheVariants.{Names}
 use Rattle.clap.specs.Faults.{fault_of}
 use Rattle.clap.specs.Kinds.{IsAmong}
 use Rattle.clap.specs.declared.error.kind.ErrorKind.{ErrorKind}
 use Rattle.clap.specs.declared.error.kind.ErrorKind.TheVariants.{DisplayHelp, DisplayVersion, OutOfMemory}
 use Rattle.tcc.specs.declared.command_line.Request.{Request}
 use Rattle.tcc.specs.declared.command_line.Request.TheVariants.{Explain, Check}
+use Rattle.tcc_graph.specs.declared.level.Level.{Level}
+use Rattle.tcc_graph.specs.declared.level.Level.TheVariants.{Causal, Atomic}
+use Rattle.tcc_run.specs.declared.options.Options.{Options}
 use Rattle.tcc_run.specs.declared.status.Status.TheVariants.{Success, Memory, Usage}
 use Rattle.tcc_run.specs.Statuses.{code_of}
 use Rattle.tcc_run.specs.Printed.{Prints, memory_line}
@@ -24,8 +29,30 @@ with_version s = record s { has_version = true }
 abbrev pub json_flag : Rule
 json_flag = record (new_rule (codes "json")) { long = Some (codes "json"); action = Some SetTrue }
 
-abbrev pub explain_command : App
-explain_command = with_rule (new_app (codes "explain")) json_flag
+-- the word for a level
+abbrev pub level_word : Level → Text
+level_word Causal = codes "causal"
+level_word Atomic = codes "atomic"
+
+-- words, each where it lies in memory
+abbrev pub Words : Type 0
+Words = Bor (List (Bor Text))
+
+-- they are those for levels
+abbrev pub AreLevels : Words → Type 0
+AreLevels levels = map (λ word. word.now) levels.now ≡ level_word Causal ∷ level_word Atomic ∷ []
+
+-- --level LEVEL, whose value is one of the words; without it, causal
+abbrev pub level_option : Words → Rule
+level_option levels = record (new_rule (codes "level")) {
+  long = Some (codes "level");
+  value_names = 1;
+  parser = Some (Names levels);
+  defaults = level_word Causal ∷ [];
+}
+
+abbrev pub explain_command : Words → App
+explain_command levels = with_rule (with_rule (new_app (codes "explain")) (level_option levels)) json_flag
 
 -- a path, which has to be given, and which help calls by one name
 abbrev pub path : Text → Rule
@@ -34,11 +61,12 @@ path id = record (new_rule id) { value_names = 1; required = true }
 abbrev pub check_command : App
 check_command = with_rule (with_rule (new_app (codes "check")) (path (codes "history"))) (path (codes "certificate"))
 
--- tcc explain [--json], or tcc check HISTORY CERTIFICATE: the program's name and version, and its subcommands, one of which
--- has to be given
-abbrev pub tcc_command : App
-tcc_command =
-    with_subcommand (with_subcommand (on_top with_subcommand_required (on_top with_version (new_app (codes "tcc")))) explain_command.top) check_command.top
+-- tcc explain [--level LEVEL] [--json], or tcc check HISTORY CERTIFICATE: the program's name and version, and its
+-- subcommands, one of which has to be given
+abbrev pub tcc_command : Words → App
+tcc_command levels =
+    let named : App = on_top with_subcommand_required (on_top with_version (new_app (codes "tcc"))) in
+    with_subcommand (with_subcommand named (explain_command levels).top) check_command.top
 
 -- what clap reads of the flag in the matches of a subcommand that was met
 abbrev pub json_text : Option (Text × List Row) → Option Text
@@ -49,20 +77,33 @@ abbrev pub IsFlag : Option Text → Bool → Type 0
 IsFlag text set =
     (text ≡ Some (codes "true") → set ≡ true) × ((text ≡ Some (codes "false") → set ≡ false) × (text ≡ None → set ≡ false))
 
+-- what clap finds for the level in the matches of a subcommand that was met
+abbrev pub level_text : Option (Text × List Row) → Option Text
+level_text met = option_and_then (first_of (codes "level")) (option_map (λ entered. entered.1) met)
+
+-- the level is the one of the word, causal where there is none
+abbrev pub IsLevel : Option Text → Level → Type 0
+IsLevel word level = unwrap_or word (level_word Causal) ≡ level_word level
+
+-- the answers are as JSON by the flag, and at the level of the word
+abbrev pub AsksExplain : Option (Text × List Row) → Request → Type 0
+AsksExplain met (Explain options) = IsFlag (json_text met) options.json × IsLevel (level_text met) options.level
+AsksExplain met (Check history certificate) = ⊥
+
 -- the paths are those that clap finds
 abbrev pub AsksCheck : List Row → Request → Type 0
-AsksCheck rows (Explain json) = ⊥
+AsksCheck rows (Explain options) = ⊥
 AsksCheck rows (Check history certificate) =
     (first_of (codes "history") rows ≡ Some (string_bytes history)) × (first_of (codes "certificate") rows ≡ Some (string_bytes certificate))
 
--- what the subcommand that was met asks for: a check by its name with its two paths; else an answer, as JSON by the flag
+-- what the subcommand that was met asks for: a check by its name with its two paths; else answers
 abbrev pub AsksBy : Option (Text × List Row) → Request → Type 0
-AsksBy met (Explain json) = (option_map (λ entered. entered.0) met ≢ Some (codes "check")) × IsFlag (json_text met) json
+AsksBy met (Explain options) = (option_map (λ entered. entered.0) met ≢ Some (codes "check")) × AsksExplain met (Explain options)
 AsksBy None (Check history certificate) = ⊥
 AsksBy (Some entered) (Check history certificate) = (entered.0 ≡ codes "check") × AsksCheck entered.1 (Check history certificate)
 
-abbrev pub Asks : List Text → Request → Type 0
-Asks words request = AsksBy (subcommand_of tcc_command words) request
+abbrev pub Asks : App → List Text → Request → Type 0
+Asks app words request = AsksBy (subcommand_of app words) request
 
 -- a text, or want of memory in its place, goes out with its status
 abbrev pub PrintsHelp : Option (List ℕ) → Option (List ℕ) → ℕ → Type 0
@@ -79,7 +120,11 @@ EndsUnasked _ before after code = (after ≡ before) × (code ≡ code_of Usage)
 
 -- a run is asked for only where clap finds no fault in the words, and it is the one that they ask for; else the run ends as
 -- one of their faults has it, or for want of memory
+abbrev pub IsAskedBy : App → List (List ℕ) → Option (List ℕ) → Option (List ℕ) → Result Request ℕ → Type 0
+IsAskedBy app words before after (Ok request) = (fault_of app words ≡ []) × Asks app words request × (after ≡ before)
+IsAskedBy app words before after (Err code) =
+    EndsUnasked OutOfMemory before after code ⊎ ((kind : ErrorKind) × IsAmong kind (fault_of app words) × EndsUnasked kind before after code)
+
+-- the same by the command of the program, wherever the words for levels lie
 abbrev pub IsAsked : List (List ℕ) → Option (List ℕ) → Option (List ℕ) → Result Request ℕ → Type 0
-IsAsked words before after (Ok request) = (fault_of tcc_command words ≡ []) × Asks words request × (after ≡ before)
-IsAsked words before after (Err code) =
-    EndsUnasked OutOfMemory before after code ⊎ ((kind : ErrorKind) × IsAmong kind (fault_of tcc_command words) × EndsUnasked kind before after code)
+IsAsked words before after o = (levels : Words) × AreLevels levels × IsAskedBy (tcc_command levels) words before after o

@@ -1,27 +1,26 @@
 //! What the command line asks for.
-ghost use Rattle.std.specs.Prelude.{◌≡◌, false, IfErr, IfOk, OnOk, map};
+ghost use Rattle.std.specs.Prelude.{◌≡◌, false, IfErr, IfOk, IfSome, OnOk, map};
 ghost use Rattle.std.specs.String.{string_bytes};
 ghost use Rattle.clap.specs.Words.{FailsBy, app_of, fault_of, found_of, kind_of, rows_of, rule_of, subcommand_rows_of};
 ghost use Rattle.clap.specs.declared.error.kind.ErrorKind.TheVariants.{OutOfMemory};
-ghost use Rattle.tcc.specs.CommandLines.{Asks, AsksBy, AsksCheck, EndsUnasked, IsAsked, IsFlag, PrintsHelp, check_command, explain_command, json_text, path, tcc_command};
+ghost use Rattle.tcc.specs.CommandLines.{Asks, AsksBy, AsksCheck, AsksExplain, EndsUnasked, IsAsked, IsFlag, IsLevel, PrintsHelp, check_command, explain_command, json_text, level_option, level_text, level_word, path, tcc_command};
 
 use crate::help;
+use clap::builder::ValueParser;
 use clap::error::ErrorKind;
 use clap::{Arg, ArgAction, ArgMatches, Command, Error};
 use std::alloc::{AllocError, Global};
 use std::env;
 use std::io::{self, Write};
-use tcc_run::Status;
+use tcc_graph::Level;
 use tcc_run::printing::{print_memory, print_text};
+use tcc_run::{Options, Status};
 
 /// What the program is asked to do.
-#[derive(Debug, Drop, PartialEq, Eq)]
+#[derive(Drop)]
 pub enum Request {
     /// Answer for the records of the standard input.
-    Explain {
-        /// Whether the answer is wanted as JSON.
-        json: bool,
-    },
+    Explain(Options),
     /// Judge a certificate for a history.
     Check {
         /// The path of the history's records.
@@ -31,20 +30,35 @@ pub enum Request {
     },
 }
 
-/// The subcommand that explains.
-fn explain_command<'a>(alloc: Global) -> Result<Command<'a>, AllocError>
-    ensures { IfOk result (λ made. app_of made ≡ explain_command) }
+/// The option for the level, whose value is one of these words.
+fn level_option<'a>(alloc: Global, levels: &'a [&'a str]) -> Arg<'a>
+    ensures rule { rule_of result ≡ level_option levels.entry }
+    ensures own { result.global ≡ false }
 {
+    Arg::new(alloc, "level")
+        .long("level")
+        .value_name("LEVEL")
+        .help("Judges at this level")
+        .value_parser(ValueParser::Names(levels))
+        .default_value("causal")
+}
+
+/// The subcommand that explains, at one of these levels.
+fn explain_command<'a>(alloc: Global, levels: &'a [&'a str]) -> Result<Command<'a>, AllocError>
+    ensures { IfOk result (λ made. app_of made ≡ explain_command levels.entry) }
+{
+    let level = level_option(alloc, levels);
     let json = Arg::new(alloc, "json")
         .long("json")
         .help("Answers in one line of JSON")
         .action(ArgAction::SetTrue);
-    Command::new(alloc, "explain")
+    let half = Command::new(alloc, "explain")
         .about(
             "Reads records from standard input and says whether the history is causally consistent",
         )
         .after_help(help::EXPLAIN)
-        .arg(json)
+        .arg(level)?;
+    half.arg(json)
 }
 
 /// A path, which has to be given.
@@ -76,11 +90,11 @@ fn check_command<'a>(alloc: Global) -> Result<Command<'a>, AllocError>
     half.arg(certificate)
 }
 
-/// The command by which words are read.
-fn command<'a>(alloc: Global) -> Result<Command<'a>, AllocError>
-    ensures { IfOk result (λ made. app_of made ≡ tcc_command) }
+/// The command by which words are read, with these words for levels.
+fn command<'a>(alloc: Global, levels: &'a [&'a str]) -> Result<Command<'a>, AllocError>
+    ensures { IfOk result (λ made. app_of made ≡ tcc_command levels.entry) }
 {
-    let explain = explain_command(alloc)?;
+    let explain = explain_command(alloc, levels)?;
     let check = check_command(alloc)?;
     let tcc = Command::new(alloc, "tcc")
         .about("Checks and explains causal consistency of transaction histories")
@@ -98,6 +112,47 @@ fn is_json(matches: &ArgMatches) -> bool
     match matches.subcommand() {
         Some((_name, explain)) => explain.get_flag("json"),
         None => false,
+    }
+}
+
+/// The level of the word; none by another word.
+fn level_named(word: &str) -> Option<Level>
+    ensures { IfSome result (λ level. word.now ≡ level_word level) }
+{
+    if word == "causal" {
+        return Some(Level::Causal);
+    }
+    if word == "atomic" {
+        return Some(Level::Atomic);
+    }
+    None
+}
+
+/// The level that the subcommand has a word for; none by another word.
+fn level_of(matches: &ArgMatches) -> Option<Level>
+    ensures { IfSome result (IsLevel (level_text (subcommand_rows_of matches.now))) }
+{
+    match matches.subcommand() {
+        Some((_name, explain)) => match explain.get_str("level") {
+            Some(word) => level_named(word),
+            None => Some(Level::Causal),
+        },
+        None => Some(Level::Causal),
+    }
+}
+
+/// How answers are wanted.
+fn options_of(matches: &ArgMatches) -> Result<Request, Error>
+    ensures asked { IfOk result (AsksExplain (subcommand_rows_of matches.now)) }
+    ensures fails { IfErr result (λ e. kind_of e ≡ OutOfMemory) }
+{
+    match level_of(matches) {
+        Some(level) => Ok(Request::Explain(Options {
+            level,
+            json: is_json(matches),
+        })),
+        // Another word is a fault by clap, so only memory can be wanting.
+        None => Err(Error::from(AllocError)),
     }
 }
 
@@ -123,17 +178,16 @@ fn asked_of(alloc: Global, matches: &ArgMatches) -> Result<Request, Error>
 {
     match matches.subcommand() {
         Some((name, check)) if name == "check" => paths_of(alloc, check),
-        _ => Ok(Request::Explain {
-            json: is_json(matches),
-        }),
+        _ => options_of(matches),
     }
 }
 
-fn parse(alloc: Global, words: &[String]) -> Result<Request, Error>
-    ensures fails { FailsBy (fault_of tcc_command (map string_bytes words.now)) result }
-    ensures asked { IfOk result (Asks (map string_bytes words.now)) }
+/// What the words ask for, with these words for levels.
+fn parse(alloc: Global, levels: &[&str], words: &[String]) -> Result<Request, Error>
+    ensures fails { FailsBy (fault_of (tcc_command levels.entry) (map string_bytes words.now)) result }
+    ensures asked { IfOk result (Asks (tcc_command levels.entry) (map string_bytes words.now)) }
 {
-    let matches = command(alloc)?.try_get_matches_from(words)?;
+    let matches = command(alloc, levels)?.try_get_matches_from(words)?;
     asked_of(alloc, &matches)
 }
 
@@ -167,7 +221,8 @@ fn end_unasked<W: Write>(rt: &HostRuntime, error: &Error, out: &mut W) -> u8
 fn read_words<W: Write>(rt: &HostRuntime, words: &[String], out: &mut W) -> Result<Request, u8>
     ensures { IsAsked (map string_bytes words.now) (W.contents out.old) (W.contents out.new) result }
 {
-    match parse(rt.alloc(), words) {
+    let levels = ["causal", "atomic"];
+    match parse(rt.alloc(), levels.as_slice(), words) {
         Ok(request) => Ok(request),
         Err(error) => Err(end_unasked(rt, &error, out)),
     }

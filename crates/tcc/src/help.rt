@@ -20,6 +20,7 @@ pub const EXPLAIN: &str = "Records, one a line (CSV without a header row):
 A session and a key are names: 1 to 32 of A-Z, a-z, 0-9, '_', '.' and '-'. A value is a decimal
 number up to 18446744073709551615. Transactions of different sessions may be interleaved.
 The end of the input wants an answer too, unless nothing was finished since the last 'seal'.
+A write is known by any chain of sessions and reads at the level causal, by one step at atomic.
 
 Example: a session writes x, and its next transaction reads the initial x.
   $ printf 'a,begin\\na,w,x,1\\na,commit\\na,begin\\na,r,x,0\\na,commit\\n' | tcc explain

@@ -5,6 +5,7 @@ use std::io::{self, ErrorKind, Read, Write};
 use std::process::Abort;
 use std::test::Fail;
 use std::thread::Threads;
+use tcc_graph::Level;
 
 const LONG_FORK: &str = "a,begin\na,w,x,1\na,commit\nb,begin\nb,w,y,1\nb,commit\n\
     c,begin\nc,r,x,1\nc,r,y,0\nc,commit\nd,begin\nd,r,x,0\nd,r,y,1\nd,commit\n";
@@ -17,6 +18,8 @@ const LONG_FORK_JSON: &str = "{\"answer\":\"consistent\",\
 
 const LONG_FORK_CERTIFICATE: &str = "tcc-certificate 1\norder 5 4\n0 1 2 3 4\nclocks\n\
     0 0 0 0\n0 0 0 0\n0 0 0 0\n1 0 0 0\n0 1 0 0\nend\n";
+
+const LONG_FORK_ATOMIC: &str = "tcc-certificate 1 atomic\norder 5 4\n0 1 2 3 4\nend\n";
 
 const STALE: &str = "a,begin\na,w,x,1\na,commit\na,begin\na,r,x,0\na,commit\n";
 
@@ -48,10 +51,22 @@ const SEALED_JSON: &str = "{\"answer\":\"consistent\",\
     {\"from\":\"a/2\",\"key\":\"y\",\"kind\":\"reads\",\"to\":\"b/1\"}]}],\
     \"shape\":\"stale-initial-read\",\"steps\":4}\n";
 
+// A session read by another is no single step from its first transaction.
+const SEALED_ATOMIC: &str = "consistent: 2 transactions, 1 sessions\norder: init a/1 a/2\n\
+    consistent: 3 transactions, 2 sessions\norder: init a/1 a/2 b/1\n";
+
+const SEALED_ATOMIC_JSON: &str = "{\"answer\":\"consistent\",\
+    \"order\":[\"init\",\"a/1\",\"a/2\"],\"sessions\":1,\"transactions\":2}\n\
+    {\"answer\":\"consistent\",\
+    \"order\":[\"init\",\"a/1\",\"a/2\",\"b/1\"],\"sessions\":2,\"transactions\":3}\n";
+
 const STALE_SEALED: &str = "seal\na,begin\na,w,x,1\na,commit\nseal\na,begin\na,r,x,0\na,commit\n";
 
 const STALE_CERTIFICATE: &str = "tcc-certificate 1\ncycle 3 2 3\nS 0 1\nD 1 0 x 2 1\nS 1 2\n\
     near\n3 1 1\n3 3 1\n3 3 3\nfar\n3 1 1\n2 3 1\n3 3 3\nend\n";
+
+const STALE_UPWARD: &str = "tcc-certificate 2 atomic\ncycle 3 2 3\nS 0 1\nD 1 0 x 2 1\nS 1 2\n\
+    near\n3 1 1\n3 3 1\n3 3 3\nfar\n3 1 1\n3 1\n3\nend\n";
 
 const UNRESOLVED: &str = "a,begin\na,w,x,1\na,abort\nb,begin\nb,r,x,1\nb,r,z,7\nb,commit\n";
 
@@ -96,10 +111,20 @@ const EXPLAINED_AT_SEALS: [(&str, bool, &str, u8); 4] = [
     ),
 ];
 
+// Records that are explained at the level atomic, in the same way.
+const EXPLAINED_ATOMIC: [(&str, bool, &str, u8); 4] = [
+    (STALE, false, STALE_TEXT, 1),
+    (SEALED, false, SEALED_ATOMIC, 0),
+    (SEALED, true, SEALED_ATOMIC_JSON, 0),
+    (UNRESOLVED, false, UNRESOLVED_TEXT, 2),
+];
+
 // Records and certificates that are checked: what goes out, and the number of the end.
-const CHECKED: [(&str, &str, &str, u8); 7] = [
+const CHECKED: [(&str, &str, &str, u8); 9] = [
     (LONG_FORK, LONG_FORK_CERTIFICATE, "accepted: order\n", 0),
     (STALE, STALE_CERTIFICATE, "accepted: cycle, 3 steps\n", 0),
+    (LONG_FORK, LONG_FORK_ATOMIC, "accepted: order\n", 0),
+    (STALE, STALE_UPWARD, "accepted: cycle, 3 steps\n", 0),
     (
         STALE_SEALED,
         STALE_CERTIFICATE,
@@ -112,10 +137,23 @@ const CHECKED: [(&str, &str, &str, u8); 7] = [
     (UNFINISHED, "ring\n", "row 3: Unfinished a\n", 3),
 ];
 
-fn is_explained(rt: &(impl Abort + Threads + Sync), alloc: Global, row: (&str, bool, &str, u8)) {
+fn causal(json: bool) -> Options {
+    Options {
+        level: Level::Causal,
+        json,
+    }
+}
+
+fn is_explained(
+    rt: &(impl Abort + Threads + Sync),
+    alloc: Global,
+    level: Level,
+    row: (&str, bool, &str, u8),
+) {
     let (records, json, text, status) = row;
     let mut out = Vec::new(alloc);
-    let code = run_explain(rt, alloc, records.as_bytes(), &mut out, Options { json });
+    let options = Options { level, json };
+    let code = run_explain(rt, alloc, records.as_bytes(), &mut out, options);
     assert_eq!(rt; out.as_slice(), text.as_bytes(), "for {records:?}");
     assert_eq!(rt; code, status, "for {records:?}");
 }
@@ -123,10 +161,13 @@ fn is_explained(rt: &(impl Abort + Threads + Sync), alloc: Global, row: (&str, b
 #[test]
 fn explained(rt: HostRuntime) -> Result<(), Fail> {
     for row in EXPLAINED {
-        is_explained(&rt, rt.alloc(), row);
+        is_explained(&rt, rt.alloc(), Level::Causal, row);
     }
     for row in EXPLAINED_AT_SEALS {
-        is_explained(&rt, rt.alloc(), row);
+        is_explained(&rt, rt.alloc(), Level::Causal, row);
+    }
+    for row in EXPLAINED_ATOMIC {
+        is_explained(&rt, rt.alloc(), Level::Atomic, row);
     }
     Ok(())
 }
@@ -185,7 +226,7 @@ fn readers_of_records_fail(rt: HostRuntime) -> Result<(), Fail> {
             alloc,
             Broken { bytes: read },
             &mut out,
-            Options { json: false },
+            causal(false),
         );
         assert_eq!(&rt; out.as_slice(), text.as_bytes(), "after {bytes} bytes");
         assert_eq!(&rt; code, 6);
@@ -196,7 +237,7 @@ fn readers_of_records_fail(rt: HostRuntime) -> Result<(), Fail> {
             alloc,
             Broken { bytes: read },
             &mut out,
-            Options { json: true },
+            causal(true),
         );
         assert_eq!(&rt; out.as_slice(), line.as_bytes(), "after {bytes} bytes");
         assert_eq!(&rt; code, 6);
@@ -223,7 +264,7 @@ fn answers_stand_where_readers_fail(rt: HostRuntime) -> Result<(), Fail> {
             alloc,
             Broken { bytes: read },
             &mut out,
-            Options { json: false },
+            causal(false),
         );
         assert_eq!(&rt; out.as_slice(), text.as_bytes(), "after {bytes} bytes");
         assert_eq!(&rt; code, 6);
@@ -335,7 +376,7 @@ fn explain_stops(
     let (records, json, text, status) = row;
     for room in 0..text.len() + 1 {
         let mut out = refusing(alloc, room, refusal);
-        let code = run_explain(rt, alloc, records.as_bytes(), &mut out, Options { json });
+        let code = run_explain(rt, alloc, records.as_bytes(), &mut out, causal(json));
         stopped(rt, &out, text, status, code);
     }
 }
@@ -378,7 +419,7 @@ fn flushes_fail(rt: HostRuntime) -> Result<(), Fail> {
     let alloc = rt.alloc();
     for (records, json, text, status) in EXPLAINED {
         let mut out = refusing(alloc, text.len(), Refusal::Flush);
-        let code = run_explain(&rt, alloc, records.as_bytes(), &mut out, Options { json });
+        let code = run_explain(&rt, alloc, records.as_bytes(), &mut out, causal(json));
         stopped(&rt, &out, text, status, code);
     }
     for (records, certificate, text, status) in CHECKED {

@@ -11,9 +11,9 @@ use Rattle.tcc.proofs.command_line.read.Goals as goal
 ends : (words : List (List ℕ)) (before kept after : Option (List ℕ)) (r : Result Request ℕ) → kept ≡ before → IsAsked words kept after r
     → IfErr r (λ code. (kind : ErrorKind) × EndsUnasked kind before after code)
 ends words before kept after (Ok request) same asked = tt
-ends words before kept after (Err code) same (inl memory) =
+ends words before kept after (Err code) same (levels, are, inl memory) =
     (OutOfMemory, subst (λ start. EndsUnasked OutOfMemory start after code) same memory)
-ends words before kept after (Err code) same (inr fault) =
+ends words before kept after (Err code) same (levels, are, inr fault) =
     (fault.0, subst (λ start. EndsUnasked fault.0 start after code) same fault.2)
 
 pub returns-clause-ends : goal.returns-clause-ends
