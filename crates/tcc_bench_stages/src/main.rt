@@ -13,7 +13,7 @@ use std::io::Read;
 use std::process::ExitCode;
 use std::thread::Threads;
 use tcc_derive::derive;
-use tcc_graph::Graph;
+use tcc_graph::{Graph, Level};
 use tcc_near::near;
 use tcc_order::order;
 use tcc_reads::resolve;
@@ -49,7 +49,7 @@ fn search(rt: &(impl Threads + Sync), alloc: Global, graph: &Graph, stage: Stage
     if stage == Stage::Graph {
         return Some(graph.count());
     }
-    let near = near(rt, alloc, graph).ok()?;
+    let near = near(rt, alloc, graph, Level::Causal).ok()?;
     if stage == Stage::Near {
         return Some(graph.count());
     }

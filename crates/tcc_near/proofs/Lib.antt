@@ -1,5 +1,5 @@
 pub mod Walks
-pub mod LevelLemmas
+pub mod BreadthLemmas
 pub mod RowLemmas
 pub mod ClockLemmas
 pub mod Worked

@@ -3,10 +3,11 @@ use Rattle.std.proofs.Common.{◌≡◌, ◌<◌, ◌≤◌, ◌+◌, ℕ, zero,
 use Rattle.std.proofs.lemmas.Bool.{cases_lt}
 use Rattle.tcc_reads.specs.History.{History, count}
 use Rattle.tcc_graph.specs.Relations.{causal_pair}
+use Rattle.tcc_graph.specs.Levels.{causally}
 use Rattle.tcc_graph.specs.Walks.{step_to, Leads, IsWalk}
 use Rattle.tcc_graph.specs.declared.step.Step.{Step}
 use Rattle.tcc_near.specs.Distances.{IsShortest}
-use Rattle.tcc_near.specs.Levels.{IsWithin}
+use Rattle.tcc_near.specs.Breadth.{IsWithin}
 use Rattle.tcc_graph.proofs.Pairs.{pair_kinds, step_from_pair, pair_from_step, pair_below}
 use Rattle.tcc_graph.proofs.Walking.{leads_append}
 
@@ -80,10 +81,10 @@ within_below h a n b (s ∷ steps, w, l) =
     (pair_below h split.0 b (pair_kinds h split.0 b split.3)).1
 
 -- what is within n steps and not within fewer is n steps away
-pub shortest_at : (h : History) (a n b : ℕ) → (IsWithin h a n b → ⊥) → IsWithin h a (n + 1) b → IsShortest h a b (n + 1)
+pub shortest_at : (h : History) (a n b : ℕ) → (IsWithin h a n b → ⊥) → IsWithin h a (n + 1) b → IsShortest (causally h) a b (n + 1)
 shortest_at h a n b further w = record {
-  attained = (w.0, w.1, go (cases_lt (length w.0) (n + 1)));
-  least = λ walk is. other walk is (cases_lt (length walk) (n + 1));
+  attained = (w.0, (w.1, tt), go (cases_lt (length w.0) (n + 1)));
+  least = λ walk is. other walk is.0 (cases_lt (length walk) (n + 1));
 }
   where
     go : (length w.0 < n + 1) ⊎ (n + 1 ≤ length w.0) → length w.0 ≡ n + 1

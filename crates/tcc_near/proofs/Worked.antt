@@ -4,10 +4,12 @@ use Rattle.std.specs.Prelude.{codes}
 use Rattle.std.proofs.lemmas.Bool.{false≢true}
 use Rattle.tcc_reads.specs.History.{History, initial, place}
 use Rattle.tcc_graph.specs.Relations.{causal_pair}
+use Rattle.tcc_graph.specs.Levels.{causally, atomically}
 use Rattle.tcc_graph.specs.Walks.{step_to, Leads, IsWalk, IsReached}
 use Rattle.tcc_graph.specs.declared.step.Step.{Step}
 use Rattle.tcc_graph.specs.declared.step.Step.TheVariants as step
-use Rattle.tcc_near.specs.Distances.{IsShortest}
+use Rattle.std.specs.Prelude.{None}
+use Rattle.tcc_near.specs.Distances.{IsShortest, IsWalkDistance}
 use Rattle.tcc_near.specs.Clocks.{IsBehind, IsLast}
 use Rattle.tcc_graph.proofs.Pairs.{pair_kinds, pair_from_step, pair_below}
 use Rattle.tcc_graph.proofs.Worked.{x, y, entry, stale_read}
@@ -17,10 +19,10 @@ first_pair : (h : History) (a b : ℕ) (s : Step) (steps : List Step) → Leads 
 first_pair h a b s steps w = subst (λ (u : ℕ). causal_pair h u (step_to s) ≡ true) w.0 (pair_from_step h s w.1)
 
 -- a/1 writes x, and a/2 reads the initial value of x
-stale_read-onwards : IsShortest stale_read 1 2 1
+stale_read-onwards : IsShortest (causally stale_read) 1 2 1
 stale_read-onwards = record {
-  attained = (step.Session 1 2 ∷ [], (omega arith, (refl, refl, refl)), refl);
-  least = λ walk is. omega (arith, is.0);
+  attained = (step.Session 1 2 ∷ [], ((omega arith, (refl, refl, refl)), tt), refl);
+  least = λ walk is. omega (arith, is.0.0);
 }
 
 nothing_from_last : (b : ℕ) → causal_pair stale_read 2 b ≡ true → ⊥
@@ -49,10 +51,10 @@ nothing_between (suc (suc (suc (suc zero)))) p q = false≢true p
 nothing_between (suc (suc (suc (suc (suc m))))) p q = let below = pair_below chain 1 (suc (suc (suc (suc (suc m))))) (pair_kinds chain 1 (suc (suc (suc (suc (suc m))))) p) in omega (arith, below.1)
 
 -- two reads and a session step
-chain-onwards : IsShortest chain 1 4 3
+chain-onwards : IsShortest (causally chain) 1 4 3
 chain-onwards = record {
-  attained = (step.Reads 1 2 x ∷ step.Reads 2 3 y ∷ step.Session 3 4 ∷ [], (omega arith, (refl, (lit< tt, lit< tt, (0, omega arith, refl)), (refl, (lit< tt, lit< tt, (0, omega arith, refl)), (refl, refl, refl)))), refl);
-  least = none_shorter;
+  attained = (step.Reads 1 2 x ∷ step.Reads 2 3 y ∷ step.Session 3 4 ∷ [], ((omega arith, (refl, (lit< tt, lit< tt, (0, omega arith, refl)), (refl, (lit< tt, lit< tt, (0, omega arith, refl)), (refl, refl, refl)))), tt), refl);
+  least = λ walk is. none_shorter walk is.0;
 }
   where
     none_shorter : (walk : List Step) → IsWalk chain 1 4 walk → 3 ≤ length walk
@@ -63,6 +65,19 @@ chain-onwards = record {
         absurd (nothing_between (step_to s) (first_pair chain 1 4 s (t ∷ []) w.1) (subst (λ (u : ℕ). causal_pair chain (step_to s) u ≡ true) w.1.2.2 last))
     none_shorter (s ∷ t ∷ u ∷ steps) w = omega arith
 
+-- where a single pair is allowed, three steps lead nowhere
+chain-alone : IsWalkDistance (atomically chain) 1 4 None
+chain-alone [] is = absurd (omega (arith, is.1))
+chain-alone (s ∷ []) is = false≢true (subst (λ (u : ℕ). causal_pair chain 1 u ≡ true) is.0.1.2 (first_pair chain 1 4 s [] is.0.1))
+chain-alone (s ∷ t ∷ steps) is = absurd (omega (arith, is.1))
+
+-- and each of them leads as far as it does among others
+chain-pair : IsShortest (atomically chain) 1 2 1
+chain-pair = record {
+  attained = (step.Reads 1 2 x ∷ [], ((omega arith, (refl, (lit< tt, lit< tt, (0, omega arith, refl)), refl)), refl), refl);
+  least = λ walk is. omega (arith, is.1);
+}
+
 -- a/1 and b/1 read from each other
 abbrev circle : History
 circle = record {
@@ -71,10 +86,10 @@ circle = record {
 }
 
 -- from a transaction to itself at least one step is taken
-circle-round : IsShortest circle 1 1 2
+circle-round : IsShortest (causally circle) 1 1 2
 circle-round = record {
-  attained = (step.Reads 1 2 x ∷ step.Reads 2 1 y ∷ [], (omega arith, (refl, (lit< tt, lit< tt, (0, omega arith, refl)), (refl, (lit< tt, lit< tt, (0, omega arith, refl)), refl))), refl);
-  least = none_shorter;
+  attained = (step.Reads 1 2 x ∷ step.Reads 2 1 y ∷ [], ((omega arith, (refl, (lit< tt, lit< tt, (0, omega arith, refl)), (refl, (lit< tt, lit< tt, (0, omega arith, refl)), refl))), tt), refl);
+  least = λ walk is. none_shorter walk is.0;
 }
   where
     none_shorter : (walk : List Step) → IsWalk circle 1 1 walk → 2 ≤ length walk

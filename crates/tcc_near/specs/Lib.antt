@@ -1,4 +1,4 @@
 pub mod Distances
 pub mod Clocks
-pub mod Levels
+pub mod Breadth
 pub mod ClockRows

@@ -1,6 +1,7 @@
 //! What stands behind each transaction: the clocks, from the distances.
 ghost use Rattle.std.specs.Prelude.{◌≡◌, ◌<◌, IfOk, MatchOption, max, slice_index, slice_set};
 ghost use Rattle.tcc_reads.specs.History.{count, owner, place};
+ghost use Rattle.tcc_graph.specs.Levels.{causally};
 ghost use Rattle.tcc_graph.specs.Walks.{IsReached};
 ghost use Rattle.tcc_near.specs.Distances.{IsNearOf};
 ghost use Rattle.tcc_near.specs.Clocks.{IsClocksOf};
@@ -10,12 +11,12 @@ use crate::{Clocks, Near, Row, near};
 use rayon::prelude::*;
 use std::alloc::{AllocError, Global};
 use std::thread::Threads;
-use tcc_graph::Graph;
+use tcc_graph::{Graph, Level};
 use tcc_txn::NoMemory;
 
 /// The session and the place of `b`, where `t` is reached from it.
 fn behind(graph: &Graph, near: &Near, t: u32, b: u32) -> Option<(u32, u32)>
-    requires near { IsNearOf graph.now near.now }
+    requires near { IsNearOf (causally graph.now) near.now }
     requires transaction { t < count graph.now }
     requires committed { 0 < b }
     requires below { b < count graph.now }
@@ -38,7 +39,7 @@ fn raise(places: &mut [u32], session: u32, place: u32)
 
 /// The last place of each session behind one transaction.
 fn clock_of(alloc: Global, graph: &Graph, near: &Near, t: u32) -> Result<Row<u32>, AllocError>
-    requires near { IsNearOf graph.now near.now }
+    requires near { IsNearOf (causally graph.now) near.now }
     requires transaction { t < count graph.now }
     ensures { IfOk result (IsClock graph.now t) }
 {
@@ -58,14 +59,14 @@ fn all_clocks(
     graph: &Graph,
     near: &Near,
 ) -> Result<Vec<Row<u32>>, AllocError>
-    requires { IsNearOf graph.now near.now }
+    requires { IsNearOf (causally graph.now) near.now }
     ensures { IfOk result (λ rows. IsClocksOf graph.now rows.items) }
 {
     (0..graph.count())
         .into_par_iter()
         .map(
             |t: u32| -> Result<Row<u32>, AllocError>
-                requires { (t < count graph.now) × IsNearOf graph.now near.now }
+                requires { (t < count graph.now) × IsNearOf (causally graph.now) near.now }
                 ensures { IfOk result (IsClock graph.entry.now t) }
             { clock_of(alloc, graph, near, t) },
         )
@@ -77,7 +78,7 @@ fn all_clocks(
 pub fn clocks(rt: &(impl Threads + Sync), alloc: Global, graph: &Graph) -> Result<Clocks, NoMemory>
     ensures { IfOk result (IsClocksOf graph.now) }
 {
-    let near = near(rt, alloc, graph)?;
+    let near = near(rt, alloc, graph, Level::Causal)?;
     let rows = all_clocks(rt, alloc, graph, &near)?;
     Ok(Clocks::new(rows))
 }

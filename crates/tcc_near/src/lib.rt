@@ -1,5 +1,5 @@
-//! Causal distances: the least number of steps from each transaction to each, and how much of each session stands
-//! behind each.
+//! Distances: the least number of steps from each transaction to each by the walks that a level allows, and how much of
+//! each session stands behind each.
 #![tactic(auto)]
 
 mod behind;

@@ -2,7 +2,7 @@
 ghost use Rattle.std.specs.Prelude.{◌≡◌, ◌<◌, ◌≤◌, ℕ, length, IfOk};
 ghost use Rattle.tcc_reads.specs.History.{count};
 ghost use Rattle.tcc_graph.specs.Relations.{causal_pair};
-ghost use Rattle.tcc_near.specs.Levels.{is_marked, IsPairTable};
+ghost use Rattle.tcc_near.specs.Breadth.{is_marked, IsPairTable};
 ghost use Rattle.tcc_txn.specs.declared.limits.TheConstants.{MAX_COUNT};
 
 use crate::Row;

@@ -1,8 +1,9 @@
-//! The search for all distances of a graph: from each transaction by levels, in several threads.
-ghost use Rattle.std.specs.Prelude.{◌≡◌, ◌≢◌, ◌<◌, ◌≤◌, ◌↔◌, ◌⊎◌, ℕ, true, false, length, All, IsTrue, IfOk, slice_index};
+//! The search for all distances of a graph: from each transaction breadth first, in several threads.
+ghost use Rattle.std.specs.Prelude.{◌≡◌, ◌≢◌, ◌<◌, ◌≤◌, ◌↔◌, ◌⊎◌, ℕ, true, false, length, All, IsTrue, IfOk, map, slice_index};
 ghost use Rattle.tcc_reads.specs.History.{History, count};
+ghost use Rattle.tcc_graph.specs.Levels.{causally};
 ghost use Rattle.tcc_near.specs.Distances.{IsNearOf};
-ghost use Rattle.tcc_near.specs.Levels.{is_marked, IsPairTable, HasDistances, IsSpread, numbered, unnumbered};
+ghost use Rattle.tcc_near.specs.Breadth.{is_marked, IsPairTable, HasDistances, IsSpread, numbered, one_step, unnumbered};
 ghost use Rattle.tcc_near.specs.declared.distances.TheConstants.{NONE};
 ghost use Rattle.tcc_txn.specs.declared.limits.TheConstants.{MAX_COUNT};
 
@@ -11,7 +12,7 @@ use crate::{NONE, Near, Row};
 use rayon::prelude::*;
 use std::alloc::{AllocError, Global};
 use std::thread::Threads;
-use tcc_graph::Graph;
+use tcc_graph::{Graph, Level};
 use tcc_txn::NoMemory;
 
 /// Gives the distance to each marked transaction that has none, and says whether there was one.
@@ -45,13 +46,13 @@ fn spread(marks: &mut Row<bool>, table: &[Row<bool>], steps: &[u16], distance: u
     }
 }
 
-/// The distances from one transaction. A level numbers what is marked, and marks what the next step reaches; it ends
-/// where there is nothing to number.
+/// The distances from one transaction by causal walks. A round numbers what is marked, and marks what the next step
+/// reaches; the search ends where there is nothing to number.
 fn distances_from(alloc: Global, table: &[Row<bool>], source: usize) -> Result<Row<u16>, AllocError>
     requires source { source < length table.now }
     requires wide { All (λ marks. length marks ≡ length table.now) table.now }
     requires few { length table.now ≤ MAX_COUNT }
-    ensures { IfOk result (λ row. (h : History) → IsPairTable h table.now → HasDistances h source row) }
+    ensures { IfOk result (λ row. (h : History) → IsPairTable h table.now → HasDistances (causally h) source row) }
 {
     let mut steps = vec![in alloc; NONE; table.len()]?;
     let mut marks = Row::new(table[source].values().to_vec(alloc)?);
@@ -65,15 +66,48 @@ fn distances_from(alloc: Global, table: &[Row<bool>], source: usize) -> Result<R
     Ok(Row::new(steps))
 }
 
+/// The distances from one transaction by walks of one step: 1 to what is marked.
+fn steps_to(alloc: Global, marks: &[bool]) -> Result<Row<u16>, AllocError>
+    ensures { IfOk result (λ row. row ≡ map one_step marks.now) }
+{
+    let mut steps = Vec::new(alloc);
+    steps.reserve(marks.len())?;
+    for mark in marks {
+        steps.push(if *mark { 1 } else { NONE })?;
+    }
+    Ok(Row::new(steps))
+}
+
+/// The distances from one transaction by the walks that the level allows.
+fn row_from(
+    alloc: Global,
+    table: &[Row<bool>],
+    level: Level,
+    source: usize,
+) -> Result<Row<u16>, AllocError>
+    requires source { source < length table.now }
+    requires wide { All (λ marks. length marks ≡ length table.now) table.now }
+    requires few { length table.now ≤ MAX_COUNT }
+    ensures { IfOk result (λ row. (h : History) → IsPairTable h table.now
+        → HasDistances (record { history = h; level = level }) source row) }
+{
+    match level {
+        Level::Causal => distances_from(alloc, table, source),
+        Level::Atomic => steps_to(alloc, table[source].values()),
+    }
+}
+
 /// The distances from each transaction.
 fn all_distances(
     rt: &(impl Threads + Sync),
     alloc: Global,
     table: &[Row<bool>],
+    level: Level,
 ) -> Result<Vec<Row<u16>>, AllocError>
     requires wide { All (λ marks. length marks ≡ length table.now) table.now }
     requires few { length table.now ≤ MAX_COUNT }
-    ensures { IfOk result (λ rows. (h : History) → IsPairTable h table.now → IsNearOf h rows.items) }
+    ensures { IfOk result (λ rows. (h : History) → IsPairTable h table.now
+        → IsNearOf (record { history = h; level = level }) (record { level = level; rows = rows.items })) }
 {
     (0..table.len())
         .into_par_iter()
@@ -81,18 +115,24 @@ fn all_distances(
             |source: usize| -> Result<Row<u16>, AllocError>
                 requires { (source < length table.now) × All (λ marks. length marks ≡ length table.now) table.now
                     × (length table.now ≤ MAX_COUNT) }
-                ensures { IfOk result (λ row. (h : History) → IsPairTable h table.entry.now → HasDistances h source row) }
-            { distances_from(alloc, table, source) },
+                ensures { IfOk result (λ row. (h : History) → IsPairTable h table.entry.now
+                    → HasDistances (record { history = h; level = level }) source row) }
+            { row_from(alloc, table, level, source) },
         )
         .with_min_len(1)
         .collect::<Result<Vec<Row<u16>>, AllocError>>(rt, alloc)?
 }
 
-/// The distances of a graph.
-pub fn near(rt: &(impl Threads + Sync), alloc: Global, graph: &Graph) -> Result<Near, NoMemory>
-    ensures { IfOk result (IsNearOf graph.now) }
+/// The distances of a graph at a level.
+pub fn near(
+    rt: &(impl Threads + Sync),
+    alloc: Global,
+    graph: &Graph,
+    level: Level,
+) -> Result<Near, NoMemory>
+    ensures { IfOk result (IsNearOf (record { history = graph.now; level = level })) }
 {
     let table = pair_table(alloc, graph)?;
-    let rows = all_distances(rt, alloc, &table)?;
-    Ok(Near::new(rows))
+    let rows = all_distances(rt, alloc, &table, level)?;
+    Ok(Near::new(level, rows))
 }

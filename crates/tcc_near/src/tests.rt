@@ -4,7 +4,7 @@ use std::alloc::Global;
 use std::process::Abort;
 use std::test::Fail;
 use std::thread::Threads;
-use tcc_graph::Graph;
+use tcc_graph::{Graph, Level};
 use tcc_reads::resolve;
 use tcc_txn::{MAX_TRANSACTIONS, snapshot_of};
 
@@ -15,19 +15,29 @@ fn graph_of(alloc: Global, records: &str) -> Option<Graph> {
     Graph::build(alloc, &resolved).ok()
 }
 
-/// The least numbers of steps of these pairs, from and to, in the history of these records.
+/// Whether the level is the one of single steps.
+fn is_atomic(level: Level) -> bool {
+    match level {
+        Level::Causal => false,
+        Level::Atomic => true,
+    }
+}
+
+/// The least numbers of steps of these pairs, from and to, in the history of these records at this level.
 fn assert_least(
     rt: &(impl Abort + Threads + Sync),
     alloc: Global,
+    level: Level,
     records: &str,
     wanted: &[(u32, u32, Option<u32>)],
 ) {
     let Some(graph) = graph_of(alloc, records) else {
         panic!(rt; "no graph of {records}");
     };
-    let Ok(near) = near(rt, alloc, &graph) else {
+    let Ok(near) = near(rt, alloc, &graph, level) else {
         panic!(rt; "no memory");
     };
+    assert_eq!(rt; is_atomic(near.level()), is_atomic(level));
     for (a, b, steps) in wanted {
         let (a, b) = (*a, *b);
         assert!(rt; a < graph.count());
@@ -112,7 +122,47 @@ fn least_steps(rt: HostRuntime) {
         ),
     ];
     for (records, wanted) in cases {
-        assert_least(&rt, alloc, records, wanted);
+        assert_least(&rt, alloc, Level::Causal, records, wanted);
+    }
+}
+
+/// At `Atomic` a causal pair is one step, and two of them lead nowhere: not to a third transaction, and not back.
+#[test]
+fn single_steps(rt: HostRuntime) {
+    let alloc = rt.alloc();
+    let cases: [(&str, &[(u32, u32, Option<u32>)]); 3] = [
+        (
+            "a,begin\na,w,x,1\na,commit\na,begin\na,w,y,1\na,commit\n\
+            b,begin\nb,r,y,1\nb,r,x,0\nb,commit\n",
+            &[
+                (0, 0, None),
+                (0, 1, Some(1)),
+                (0, 3, Some(1)),
+                (1, 2, Some(1)),
+                (2, 3, Some(1)),
+                (1, 3, None),
+                (3, 1, None),
+            ],
+        ),
+        (
+            "a,begin\na,w,x,1\na,commit\nb,begin\nb,r,x,1\nb,w,y,1\nb,commit\n\
+            c,begin\nc,r,y,1\nc,commit\nc,begin\nc,r,x,1\nc,commit\n",
+            &[
+                (1, 2, Some(1)),
+                (1, 3, None),
+                (1, 4, Some(1)),
+                (2, 3, Some(1)),
+                (2, 4, None),
+                (3, 4, Some(1)),
+            ],
+        ),
+        (
+            "a,begin\na,r,x,0\na,r,y,1\na,w,x,1\na,commit\nb,begin\nb,r,x,1\nb,w,y,1\nb,commit\n",
+            &[(1, 2, Some(1)), (2, 1, Some(1)), (1, 1, None), (2, 2, None)],
+        ),
+    ];
+    for (records, wanted) in cases {
+        assert_least(&rt, alloc, Level::Atomic, records, wanted);
     }
 }
 
@@ -131,7 +181,7 @@ fn steps_of_the_longest_chain(rt: HostRuntime) -> Result<(), Fail> {
         (last, 1, None),
         (last, last, None),
     ];
-    assert_least(&rt, alloc, &records, &wanted);
+    assert_least(&rt, alloc, Level::Causal, &records, &wanted);
     Ok(())
 }
 

@@ -2,6 +2,7 @@ use Rattle.std.proofs.Common.{◌<◌, ◌∙◌}
 use Rattle.std.specs.declared.alloc.AllocError.{AllocError}
 use Rattle.rayon.proofs.ToStd.{nat_range-All}
 use Rattle.tcc_reads.specs.History.{count}
+use Rattle.tcc_graph.specs.Levels.{causally}
 use Rattle.tcc_near.specs.Distances.{IsNearOf}
 use Rattle.tcc_near.specs.ClockRows.{IsClock}
 use Rattle.tcc_near.proofs.ClockLemmas.{clocks_from_rows}
@@ -13,7 +14,7 @@ pub collect-requires-clause-ready : goal.collect-requires-clause-ready
 collect-requires-clause-ready g c κs within =
     let ends = c.into_par_iter.ensures in
     let h = c.args.graph.now in
-    let inside = nat_range-All (λ t. (t < count h) × IsNearOf h c.args.near.now) 0 (count h) (λ t low high. (high, c.requires)) in
+    let inside = nat_range-All (λ t. (t < count h) × IsNearOf (causally h) c.args.near.now) 0 (count h) (λ t low high. (high, c.requires)) in
     rw (c.with_min_len.ensures.base, c.map.ensures.base, c.map.ensures.f, ends.0, ends.1, c.count.ensures.value) (λ k d lt. (inside k d lt, λ y p. tt))
 
 pub returns : goal.returns

@@ -4,7 +4,7 @@ use Rattle.std.proofs.lemmas.List.{get_or_append_left, get_or_push}
 use Rattle.std.proofs.lemmas.List.Elements.{All-push}
 use Rattle.tcc_reads.specs.History.{History, count}
 use Rattle.tcc_graph.specs.Relations.{causal_pair}
-use Rattle.tcc_near.specs.Levels.{is_marked, marks_of}
+use Rattle.tcc_near.specs.Breadth.{is_marked, marks_of}
 use Rattle.tcc_near.proofs.pairs.pair_table.Goals as goal
 
 -- one more row at the end

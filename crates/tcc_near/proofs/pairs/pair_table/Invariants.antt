@@ -2,7 +2,7 @@ use Rattle.std.proofs.Common.{◌≡◌, ◌<◌, ℕ, length}
 use Rattle.std.specs.List.{All}
 use Rattle.tcc_reads.specs.History.{count}
 use Rattle.tcc_graph.specs.Relations.{causal_pair}
-use Rattle.tcc_near.specs.Levels.{is_marked, marks_of}
+use Rattle.tcc_near.specs.Breadth.{is_marked, marks_of}
 use Rattle.tcc_near.proofs.pairs.pair_table.Given as goal
 
 abbrev pub invariant-loop-from : goal.invariant-loop-from

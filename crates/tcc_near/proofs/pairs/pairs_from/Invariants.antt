@@ -1,6 +1,6 @@
 use Rattle.std.proofs.Common.{◌≡◌, ◌<◌, ℕ, length}
 use Rattle.tcc_graph.specs.Relations.{causal_pair}
-use Rattle.tcc_near.specs.Levels.{is_marked}
+use Rattle.tcc_near.specs.Breadth.{is_marked}
 use Rattle.tcc_near.proofs.pairs.pairs_from.Given as goal
 
 abbrev pub invariant-loop-to : goal.invariant-loop-to

@@ -3,8 +3,8 @@ use Rattle.std.specs.List.{All}
 use Rattle.rayon.proofs.ToStd.{nat_range-All}
 use Rattle.std.specs.declared.alloc.AllocError.{AllocError}
 use Rattle.tcc_reads.specs.History.{History}
-use Rattle.tcc_near.specs.Levels.{IsPairTable, HasDistances}
-use Rattle.tcc_near.proofs.LevelLemmas.{near_from_rows}
+use Rattle.tcc_near.specs.Breadth.{IsPairTable, HasDistances}
+use Rattle.tcc_near.proofs.BreadthLemmas.{near_from_rows}
 use Rattle.tcc_near.proofs.RowLemmas.{each_given, numbers_below}
 use Rattle.tcc_near.proofs.search.all_distances.Goals as goal
 use Rattle.tcc_txn.specs.declared.limits.TheConstants.{MAX_COUNT}
@@ -25,4 +25,4 @@ returns g c =
     let chain = rw (c.with_min_len.ensures.base, c.map.ensures.base, c.map.ensures.f) at gave.1 in
     let numbers = chain.1 ∙ numbers_below _ _ n c.into_par_iter.ensures.0 c.into_par_iter.ensures.1 in
     matched c.in_ok-collect.field-0 _ _ _ gave.2 (λ v made h is.
-    near_from_rows h pairs v.items is (each_given AllocError (λ a row. (h : History) → IsPairTable h pairs → HasDistances h a row) n chain.0 gave.0 v.items numbers chain.2 made))
+    near_from_rows h c.args.level pairs v.items is (each_given AllocError (λ a row. (h : History) → IsPairTable h pairs → HasDistances (record { history = h; level = c.args.level }) a row) n chain.0 gave.0 v.items numbers chain.2 made))

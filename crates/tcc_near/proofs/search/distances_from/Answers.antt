@@ -1,7 +1,7 @@
 use Rattle.std.proofs.Common.{rules, ◌≡◌, ◌≢◌, ◌<◌, ◌+◌, ℕ, true, [], slice_index, length, replicate, ◌∙◌, ap, arith, take_at, sym}
 use Rattle.std.proofs.lemmas.List.{get_or_read, length-replicate}
-use Rattle.tcc_near.specs.Levels.{is_marked, marks_of, numbered, unnumbered}
-use Rattle.tcc_near.proofs.LevelLemmas.{searched_at_start, marked_at_start, unnumbered_at_start, searched_more, marked_more, row_at_end, row_full, all_numbered}
+use Rattle.tcc_near.specs.Breadth.{is_marked, marks_of, numbered, unnumbered}
+use Rattle.tcc_near.proofs.BreadthLemmas.{searched_at_start, marked_at_start, unnumbered_at_start, searched_more, marked_more, row_at_end, row_full, all_numbered}
 use Rattle.tcc_near.proofs.search.distances_from.Goals as goal
 use Rattle.tcc_near.specs.declared.distances.TheConstants.{NONE}
 
@@ -33,8 +33,8 @@ returns-then-not-number c =
     let is : c.new.result ≡ new = c.new.ensures ∙ take_at new _ c.loop-before.steps.len (same ∙ sym long) in
     λ h pairs.
     let so_far = inv.3 h pairs in
-    let level = searched_more h c.args.source n old new c.loop-before.marks so_far.0 so_far.1 (omega arith) same each in
-    rw is (row_at_end h c.args.source n old new c.loop-before.marks so_far.0 so_far.1 (omega (arith, pairs.long)) none level)
+    let round = searched_more h c.args.source n old new c.loop-before.marks so_far.0 so_far.1 (omega arith) same each in
+    rw is (row_at_end h c.args.source n old new c.loop-before.marks so_far.0 so_far.1 (omega (arith, pairs.long)) none round)
 
 pub loop-before-preserved : goal.loop-before-preserved
 loop-before-preserved c =
@@ -53,8 +53,8 @@ loop-before-preserved c =
       omega (arith, fewer, inv.2),
       λ h pairs.
           let so_far = inv.3 h pairs in
-          let level = searched_more h c.args.source n old new c.loop-before.marks so_far.0 so_far.1 (omega arith) same each in
-          (level, marked_more h c.args.source (n + 1) c.args.table.now new c.loop-before.marks c.spread.new.marks pairs level so_far.1 (omega arith) (omega arith) c.spread.ensures.long (rw read at c.spread.ensures.each)),
+          let round = searched_more h c.args.source n old new c.loop-before.marks so_far.0 so_far.1 (omega arith) same each in
+          (round, marked_more h c.args.source (n + 1) c.args.table.now new c.loop-before.marks c.spread.new.marks pairs round so_far.1 (omega arith) (omega arith) c.spread.ensures.long (rw read at c.spread.ensures.each)),
     )
 
 pub returns : goal.returns

@@ -1,6 +1,6 @@
 use Rattle.std.proofs.Common.{◌≡◌, ◌≤◌, ◌+◌, length}
 use Rattle.tcc_reads.specs.History.{History}
-use Rattle.tcc_near.specs.Levels.{IsPairTable, IsSearched, IsMarked, unnumbered}
+use Rattle.tcc_near.specs.Breadth.{IsPairTable, IsSearched, IsMarked, unnumbered}
 use Rattle.tcc_near.proofs.search.distances_from.Given as goal
 
 abbrev pub invariant-loop-before : goal.invariant-loop-before

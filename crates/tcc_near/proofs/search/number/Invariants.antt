@@ -1,5 +1,5 @@
 use Rattle.std.proofs.Common.{◌≡◌, ◌≢◌, ◌<◌, ◌≤◌, ℕ, true, false, slice_index}
-use Rattle.tcc_near.specs.Levels.{is_marked, numbered, unnumbered}
+use Rattle.tcc_near.specs.Breadth.{is_marked, numbered, unnumbered}
 use Rattle.tcc_near.proofs.search.number.Given as goal
 use Rattle.tcc_near.specs.declared.distances.TheConstants.{NONE}
 

@@ -1,5 +1,5 @@
 use Rattle.std.proofs.Common.{◌≡◌, ◌↔◌, ℕ, true, length}
-use Rattle.tcc_near.specs.Levels.{is_marked, IsSpread}
+use Rattle.tcc_near.specs.Breadth.{is_marked, IsSpread}
 use Rattle.tcc_near.proofs.search.spread.Given as goal
 
 abbrev pub invariant-loop-place : goal.invariant-loop-place

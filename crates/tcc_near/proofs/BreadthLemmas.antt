@@ -1,14 +1,16 @@
--- One level of a search after another.
-use Rattle.std.proofs.Common.{◌≡◌, ◌≢◌, ◌<◌, ◌≤◌, ◌+◌, ◌==◌, ◌&&◌, ◌↔◌, ◌⊎◌, ℕ, inl, inr, Bool, true, false, cond, if◌then◌else◌, List, [], length, replicate, get_or, slice_index, Option, Some, None, refl, sym, ◌∙◌, ap, subst, arith, eqb}
+-- One round of a search after another.
+use Rattle.std.proofs.Common.{◌≡◌, ◌≢◌, ◌<◌, ◌≤◌, ◌+◌, ◌==◌, ◌&&◌, ◌↔◌, ◌⊎◌, ℕ, inl, inr, Bool, true, false, cond, if◌then◌else◌, List, [], length, map, replicate, get_or, slice_index, Option, Some, None, refl, sym, ◌∙◌, ap, subst, arith, eqb}
 use Rattle.std.proofs.lemmas.Bool.{cases_lt, cases_eq, false≢true, ne_eqb}
-use Rattle.std.proofs.lemmas.List.{length-replicate, get_or-replicate}
+use Rattle.std.proofs.lemmas.List.{length-map, length-replicate, get_or-map, get_or-replicate}
 use Rattle.std.proofs.lemmas.List.Sums.{sum_by-set}
 use Rattle.std.proofs.lemmas.List.Folds.{sum_by-replicate}
 use Rattle.tcc_reads.specs.History.{History, count}
 use Rattle.tcc_graph.specs.Relations.{causal_pair}
+use Rattle.tcc_graph.specs.Levels.{causally, atomically}
 use Rattle.tcc_graph.specs.Walks.{IsReached}
+use Rattle.tcc_graph.specs.declared.level.Level.{Level}
 use Rattle.tcc_near.specs.Distances.{IsShortest, IsWalkDistance, IsNearOf, least_in}
-use Rattle.tcc_near.specs.Levels.{is_marked, marks_of, IsPairTable, IsWithin, IsMarked, IsDistanceWithin, IsSearched, HasDistances, IsSpread, numbered, unnumbered}
+use Rattle.tcc_near.specs.Breadth.{is_marked, marks_of, IsPairTable, IsWithin, IsMarked, IsDistanceWithin, IsSearched, HasDistances, IsSpread, numbered, one_step, unnumbered}
 use Rattle.tcc_near.proofs.Walks.{within_more, within_one, within_one_from, within_pair, IsStepAfter, last_step, within_closed, within_below, shortest_at}
 use Rattle.tcc_near.specs.declared.distances.TheConstants.{NONE}
 
@@ -31,20 +33,20 @@ further h a n row b searched below none = go (read row b)
     go (inl r) = subst (λ (d : Option ℕ). IsDistanceWithin h a n b d) r.1 (searched.exact b below)
     go (inr r) = absurd (r.0 none)
 
-pub known : (h : History) (a n : ℕ) (row : List ℕ) (b : ℕ) → IsSearched h a n row → b < count h → slice_index row b ≢ NONE → (slice_index row b ≤ n) × IsShortest h a b (slice_index row b)
+pub known : (h : History) (a n : ℕ) (row : List ℕ) (b : ℕ) → IsSearched h a n row → b < count h → slice_index row b ≢ NONE → (slice_index row b ≤ n) × IsShortest (causally h) a b (slice_index row b)
 known h a n row b searched below some = go (read row b)
   where
-    go : Read row b → (slice_index row b ≤ n) × IsShortest h a b (slice_index row b)
+    go : Read row b → (slice_index row b ≤ n) × IsShortest (causally h) a b (slice_index row b)
     go (inl r) = absurd (some r.0)
     go (inr r) = subst (λ (d : Option ℕ). IsDistanceWithin h a n b d) r.1 (searched.exact b below)
 
 -- a distance that stands in a row
-distance_is : (h : History) (a n : ℕ) (row : List ℕ) (b d : ℕ) → slice_index row b ≡ d → d < NONE → d ≤ n → IsShortest h a b d → IsDistanceWithin h a n b (least_in row b)
+distance_is : (h : History) (a n : ℕ) (row : List ℕ) (b d : ℕ) → slice_index row b ≡ d → d < NONE → d ≤ n → IsShortest (causally h) a b d → IsDistanceWithin h a n b (least_in row b)
 distance_is h a n row b d is small few shortest = go (read row b)
   where
     go : Read row b → IsDistanceWithin h a n b (least_in row b)
     go (inl r) = absurd (omega (arith, r.0))
-    go (inr r) = rw r.1 (omega arith, subst (λ (x : ℕ). IsShortest h a b x) (sym is) shortest)
+    go (inr r) = rw r.1 (omega arith, subst (λ (x : ℕ). IsShortest (causally h) a b x) (sym is) shortest)
 
 none_is : (h : History) (a n : ℕ) (row : List ℕ) (b : ℕ) → slice_index row b ≡ NONE → (IsWithin h a n b → ⊥) → IsDistanceWithin h a n b (least_in row b)
 none_is h a n row b is away = go (read row b)
@@ -112,13 +114,13 @@ marked_more h a n table row marks new pairs searched marked some small same each
         let from : u < count h = omega (arith, searched.long) in
         let here : slice_index row u ≢ NONE = λ e. absurd (omega arith) in
         let walk = (known h a n row u searched from here).1.attained in
-        within_pair h a n u b (walk.0, walk.1, omega (arith, walk.2)) (sym (pairs.exact u b from below) ∙ m)
+        within_pair h a n u b (walk.0, walk.1.0, omega (arith, walk.2)) (sym (pairs.exact u b from below) ∙ m)
 
-    by : (b u : ℕ) → b < count h → causal_pair h u b ≡ true → u < count h → (slice_index row u ≤ n) × IsShortest h a u (slice_index row u) → (slice_index row u < n) ⊎ (n ≤ slice_index row u) → IsSpread marks table row n (length row) b
+    by : (b u : ℕ) → b < count h → causal_pair h u b ≡ true → u < count h → (slice_index row u ≤ n) × IsShortest (causally h) a u (slice_index row u) → (slice_index row u < n) ⊎ (n ≤ slice_index row u) → IsSpread marks table row n (length row) b
     by b u below p from is (inr far) = inr (u, omega (arith, searched.long), omega (arith, is.0), pairs.exact u b from below ∙ p)
     by b u below p from is (inl low) =
         let walk = is.1.attained in
-        let near = within_pair h a (slice_index row u) u b (walk.0, walk.1, omega (arith, walk.2)) p in
+        let near = within_pair h a (slice_index row u) u b (walk.0, walk.1.0, omega (arith, walk.2)) p in
         inl ((marked.exact b below).1 (within_more h a (slice_index row u + 1) n b (omega arith) near))
 
     complete : (b : ℕ) → b < count h → IsWithin h a n b ⊎ IsStepAfter h a n b → IsSpread marks table row n (length row) b
@@ -129,15 +131,15 @@ marked_more h a n table row marks new pairs searched marked some small same each
         by b u below p from (known h a n row u searched from (λ e. further h a n row u searched from e within)) (cases_lt (slice_index row u) n)
 
 -- a row of which nothing is further away than n is whole
-pub row_done : (h : History) (a n : ℕ) (row : List ℕ) → IsSearched h a n row → n ≤ count h → ((b : ℕ) → IsReached h a b → IsWithin h a n b) → HasDistances h a row
+pub row_done : (h : History) (a n : ℕ) (row : List ℕ) → IsSearched h a n row → n ≤ count h → ((b : ℕ) → IsReached h a b → IsWithin h a n b) → HasDistances (causally h) a row
 row_done h a n row searched few near = record {
   long = searched.long;
   exact = λ b below. go b below (read row b);
   short = λ b d below is. short b d below is (read row b);
 }
   where
-    go : (b : ℕ) → b < count h → Read row b → IsWalkDistance h a b (least_in row b)
-    go b below (inl r) = rw r.1 (λ reached. further h a n row b searched below r.0 (near b reached))
+    go : (b : ℕ) → b < count h → Read row b → IsWalkDistance (causally h) a b (least_in row b)
+    go b below (inl r) = rw r.1 (λ walk is. further h a n row b searched below r.0 (near b (walk, is.0)))
     go b below (inr r) = rw r.1 ((known h a n row b searched below r.0).1)
 
     short : (b d : ℕ) → b < count h → least_in row b ≡ Some d → Read row b → d ≤ count h
@@ -149,19 +151,19 @@ row_done h a n row searched few near = record {
 
 -- where nothing that is marked wants a number, the search has ended
 pub row_at_end : (h : History) (a n : ℕ) (row new : List ℕ) (marks : List Bool) → IsSearched h a n row → IsMarked h a (n + 1) marks → n + 1 ≤ count h
-    → ((b : ℕ) → is_marked marks b ≡ true → slice_index row b ≢ NONE) → IsSearched h a (n + 1) new → HasDistances h a new
-row_at_end h a n row new marks searched marked few none level =
-    row_done h a (n + 1) new level few (λ b reached. within_more h a n (n + 1) b (omega arith) (within_closed h a n closed (length reached.0) b (reached.0, reached.1, omega arith)))
+    → ((b : ℕ) → is_marked marks b ≡ true → slice_index row b ≢ NONE) → IsSearched h a (n + 1) new → HasDistances (causally h) a new
+row_at_end h a n row new marks searched marked few none round =
+    row_done h a (n + 1) new round few (λ b reached. within_more h a n (n + 1) b (omega arith) (within_closed h a n closed (length reached.0) b (reached.0, reached.1, omega arith)))
   where
     closed : (b : ℕ) → IsWithin h a (n + 1) b → IsWithin h a n b
     closed b w =
         let below = within_below h a (n + 1) b w in
         let is = known h a n row b searched below (none b ((marked.exact b below).1 w)) in
         let walk = is.1.attained in
-        (walk.0, walk.1, omega (arith, is.0, walk.2))
+        (walk.0, walk.1.0, omega (arith, is.0, walk.2))
 
 -- where each has a number, the search has ended
-pub row_full : (h : History) (a n : ℕ) (row : List ℕ) → IsSearched h a n row → n ≤ count h → ((b : ℕ) → b < length row → slice_index row b ≢ NONE) → HasDistances h a row
+pub row_full : (h : History) (a n : ℕ) (row : List ℕ) → IsSearched h a n row → n ≤ count h → ((b : ℕ) → b < length row → slice_index row b ≢ NONE) → HasDistances (causally h) a row
 row_full h a n row searched few all = row_done h a n row searched few near
   where
     near : (b : ℕ) → IsReached h a b → IsWithin h a n b
@@ -169,7 +171,7 @@ row_full h a n row searched few all = row_done h a n row searched few near
         let below = within_below h a (length reached.0) b (reached.0, reached.1, omega arith) in
         let is = known h a n row b searched below (all b (omega (arith, searched.long))) in
         let walk = is.1.attained in
-        (walk.0, walk.1, omega (arith, is.0, walk.2))
+        (walk.0, walk.1.0, omega (arith, is.0, walk.2))
 
 -- whether a distance is none, as a number
 abbrev without : ℕ → ℕ
@@ -185,14 +187,50 @@ all_numbered row none b l e =
 pub unnumbered_at_start : (n : ℕ) → unnumbered (replicate n NONE) ≡ n
 unnumbered_at_start n = sum_by-replicate without n NONE ∙ omega arith
 
+-- the pairs of the source are its distances by walks of one step
+pub row_of_steps : (h : History) (a : ℕ) (table : List (List Bool)) (row : List ℕ) → IsPairTable h table → a < count h → row ≡ map one_step (marks_of table a) → HasDistances (atomically h) a row
+row_of_steps h a table row pairs from is = record {
+  long = ap length is ∙ (length-map (marks_of table a) one_step ∙ wide);
+  exact = λ b to. exact b to (is_marked (marks_of table a) b) refl (read row b);
+  short = λ b n to some. short b n some (is_marked (marks_of table a) b) (entry b to) (read row b);
+}
+  where
+    wide : length (marks_of table a) ≡ count h
+    wide = let inside : a < length table = omega (arith, pairs.long) in pairs.wide a [] inside
+
+    entry : (b : ℕ) → b < count h → slice_index row b ≡ one_step (is_marked (marks_of table a) b)
+    entry b to =
+        let inside : b < length (marks_of table a) = omega (arith, wide) in
+        ap (λ r. slice_index r b) is ∙ get_or-map one_step (marks_of table a) b false 0 inside
+
+    exact : (b : ℕ) → b < count h → (m : Bool) → is_marked (marks_of table a) b ≡ m → Read row b → IsWalkDistance (atomically h) a b (least_in row b)
+    exact b to true mark (inl r) = absurd (let one : slice_index row b ≡ 1 = entry b to ∙ ap one_step mark in omega (arith, one, r.0))
+    exact b to false mark (inr r) = absurd (r.0 (entry b to ∙ ap one_step mark))
+    exact b to false mark (inl r) = rw r.1 (λ walk step. false≢true (sym mark ∙ (pairs.exact a b from to ∙ within_one h a b (walk, step.0, omega (arith, step.1)))))
+    exact b to true mark (inr r) =
+        let one : slice_index row b ≡ 1 = entry b to ∙ ap one_step mark in
+        let w = within_one_from h a b (sym (pairs.exact a b from to) ∙ mark) in
+        let long : length w.0 ≡ 1 = omega (arith, w.1.0, w.2) in
+        rw (r.1, one) record { attained = (w.0, (w.1, long), long); least = λ walk step. omega (arith, step.1) }
+
+    short : (b n : ℕ) → least_in row b ≡ Some n → (m : Bool) → slice_index row b ≡ one_step m → Read row b → n ≤ count h
+    short b n some m at (inl r) = absurd (let e : None ≡ Some n = sym r.1 ∙ some in cc)
+    short b n some true at (inr r) =
+        let e : Some (slice_index row b) ≡ Some n = sym r.1 ∙ some in
+        let same : slice_index row b ≡ n = cc in
+        omega arith
+    short b n some false at (inr r) = absurd (r.0 at)
+
 -- rows that are right one by one are the table
-pub near_from_rows : (h : History) (table : List (List Bool)) (rows : List (List ℕ)) → IsPairTable h table
-    → (length rows ≡ length table) × ((a : ℕ) (d : List ℕ) → a < length table → (g : History) → IsPairTable g table → HasDistances g a (get_or rows a d)) → IsNearOf h rows
-near_from_rows h table rows pairs (long, each) = record {
+pub near_from_rows : (h : History) (level : Level) (table : List (List Bool)) (rows : List (List ℕ)) → IsPairTable h table
+    → (length rows ≡ length table) × ((a : ℕ) (d : List ℕ) → a < length table → (g : History) → IsPairTable g table → HasDistances (record { history = g; level = level }) a (get_or rows a d))
+    → IsNearOf (record { history = h; level = level }) (record { level = level; rows = rows })
+near_from_rows h level table rows pairs (long, each) = record {
+  level = refl;
   square = record { long = long ∙ pairs.long; wide = λ a d l. (row a d (omega (arith, pairs.long))).long };
   exact = λ a b from to. (row a [] from).exact b to;
   short = λ a b n from to is. (row a [] from).short b n to is;
 }
   where
-    row : (a : ℕ) (d : List ℕ) → a < count h → HasDistances h a (get_or rows a d)
+    row : (a : ℕ) (d : List ℕ) → a < count h → HasDistances (record { history = h; level = level }) a (get_or rows a d)
     row a d l = each a d (omega (arith, pairs.long)) h pairs

@@ -1,8 +1,9 @@
 -- For the private stages and their proofs alone: nobody has to believe what stands here.
--- The search by levels: what is known after walks of so many steps.
+-- The search breadth first: what is known after walks of so many steps.
 use Rattle.std.specs.Prelude.{ℕ, ◌<◌, ◌≤◌, ◌≡◌, ◌⊎◌, ◌↔◌, ◌==◌, ◌&&◌, Bool, true, false, if◌then◌else◌, List, [], length, All, count_by, Option, None, Some, slice_index, slice_index_or}
 use Rattle.tcc_reads.specs.History.{History, count}
 use Rattle.tcc_graph.specs.Relations.{causal_pair}
+use Rattle.tcc_graph.specs.Levels.{Judged, causally}
 use Rattle.tcc_graph.specs.Walks.{IsWalk}
 use Rattle.tcc_graph.specs.declared.step.Step.{Step}
 use Rattle.tcc_near.specs.Distances.{IsShortest, IsWalkDistance, least_in}
@@ -34,7 +35,7 @@ pub record IsMarked (h : History) (a : ℕ) (n : ℕ) (marks : List Bool) : Type
 -- the distance where it is at most n, and none where it is more
 abbrev pub IsDistanceWithin : History → ℕ → ℕ → ℕ → Option ℕ → Type 0
 IsDistanceWithin h a n b None = IsWithin h a n b → ⊥
-IsDistanceWithin h a n b (Some d) = (d ≤ n) × IsShortest h a b d
+IsDistanceWithin h a n b (Some d) = (d ≤ n) × IsShortest (causally h) a b d
 
 -- the row has each distance that is at most n
 pub record IsSearched (h : History) (a : ℕ) (n : ℕ) (row : List ℕ) : Type 0 where
@@ -42,10 +43,10 @@ pub record IsSearched (h : History) (a : ℕ) (n : ℕ) (row : List ℕ) : Type 
   pub exact : (b : ℕ) → b < count h → IsDistanceWithin h a n b (least_in row b)
 
 -- the row has each distance
-pub record HasDistances (h : History) (a : ℕ) (row : List ℕ) : Type 0 where
-  pub long : length row ≡ count h
-  pub exact : (b : ℕ) → b < count h → IsWalkDistance h a b (least_in row b)
-  pub short : (b : ℕ) (n : ℕ) → b < count h → least_in row b ≡ Some n → n ≤ count h
+pub record HasDistances (j : Judged) (a : ℕ) (row : List ℕ) : Type 0 where
+  pub long : length row ≡ count j.history
+  pub exact : (b : ℕ) → b < count j.history → IsWalkDistance j a b (least_in row b)
+  pub short : (b : ℕ) (n : ℕ) → b < count j.history → least_in row b ≡ Some n → n ≤ count j.history
 
 -- b is marked, or marked by one of the first n numbers that have the distance
 abbrev pub IsSpread : List Bool → List (List Bool) → List ℕ → ℕ → ℕ → ℕ → Type 0
@@ -60,3 +61,7 @@ numbered row marks distance b =
 -- how many numbers have no distance
 abbrev pub unnumbered : List ℕ → ℕ
 unnumbered row = count_by (λ distance. distance == NONE) row
+
+-- the distance by walks of one step
+abbrev pub one_step : Bool → ℕ
+one_step mark = if mark then 1 else NONE
