@@ -8,8 +8,19 @@ use std::thread;
 use std::thread::Threads;
 use tcc_txn::{MAX_SESSIONS, MAX_TRANSACTIONS, Name, Op, Snapshot, Txn};
 
-/// How many transactions each recorder has.
-const MOST: u32 = 50;
+/// The sessions of the recorders that record side by side.
+const RECORDERS: &[u8] = b"abcdefgh";
+
+/// How many transactions each of them records.
+const MOST: u32 = 300;
+
+/// Each of them seals after each of the first so many records, and after every one of so many later ones.
+const FIRST: u32 = 50;
+
+const BETWEEN: u32 = 25;
+
+/// How often they all do so.
+const TIMES: u32 = 3;
 
 /// The session whose name is a letter.
 fn session(letter: u8) -> Option<Name> {
@@ -40,79 +51,89 @@ fn record(
     Some(book.record(rt, alloc, pass, write(alloc, value)?))
 }
 
-/// Whether these are so many writes of the values from 1 on.
-fn are_writes(txns: &[Txn], count: u32) -> bool {
-    let mut wanted = 0u64;
+/// How many transactions these are, where they write the values from 1 on.
+fn writes(txns: &[Txn]) -> Option<u32> {
+    let mut count = 0u32;
     for txn in txns {
-        wanted = wanted.wrapping_add(1);
+        count = count.wrapping_add(1);
         match txn.ops().first() {
-            Some(Op::Put { value, .. }) if *value == wanted => {}
-            _ => return false,
+            Some(Op::Put { value, .. }) if *value == u64::from(count) => {}
+            _ => return None,
         }
     }
-    wanted == u64::from(count)
+    Some(count)
 }
 
-/// Whether the session has so many writes of the values from 1 on.
-fn has_writes(snapshot: &Snapshot, name: &Name, count: u32) -> bool {
+/// How many writes the session has, where it is there and they are of the values from 1 on.
+fn writes_of(snapshot: &Snapshot, name: &Name) -> Option<u32> {
     for i in 0..snapshot.sessions() {
         if let Some((session, txns)) = snapshot.session(i) {
             if *session == *name {
-                return are_writes(txns, count);
+                return writes(txns);
             }
         }
     }
-    false
+    None
 }
 
-/// A recorder's whole life, with a seal after each record; none where something was not as it should be.
+/// Whether the recorders' sessions are all that there are, and each has from so many on of its writes in the end.
+fn have_writes(snapshot: &Snapshot, least: u32) -> bool {
+    for letter in RECORDERS {
+        match session(*letter).and_then(|name| writes_of(snapshot, &name)) {
+            Some(count) if least <= count && count <= MOST => {}
+            _ => return false,
+        }
+    }
+    snapshot.sessions() == 8
+}
+
+/// A recorder's whole life, with its seals; none where something was not as it should be.
 fn recorder(rt: &impl Wait, alloc: Global, book: &Book, pass: Pass) -> Option<Pass> {
     let mut pass = pass;
     for before in 0..MOST {
         let receipt = record(rt, alloc, book, &mut pass, u64::from(before) + 1)?.ok()?;
-        let sealed = book.seal(rt, alloc, &pass).ok()?;
-        if receipt.place != before + 1 || !has_writes(&sealed, pass.session(), before + 1) {
+        if receipt.place != before + 1 {
             return None;
+        }
+        if receipt.place <= FIRST || receipt.place % BETWEEN == 0 {
+            let sealed = book.seal(rt, alloc, &pass).ok()?;
+            if writes_of(&sealed, pass.session()) != Some(receipt.place)
+                || !have_writes(&sealed, 0)
+            {
+                return None;
+            }
         }
     }
     Some(pass)
 }
 
-/// Four recorders in threads of their own: each snapshot has what its caller recorded, and in the end all four lists are
-/// whole.
-#[test]
-fn four_recorders(rt: HostRuntime) {
-    let alloc = rt.alloc();
-    let Ok(book) = Book::new(alloc) else {
-        panic!(rt; "no memory");
-    };
+/// What recorders in threads of their own leave; none where something was not as it should be.
+fn side_by_side(rt: &(impl Threads + Wait + Sync), alloc: Global) -> Option<Snapshot> {
+    let book = Book::new(alloc).ok()?;
     let mut passes = Vec::new(alloc);
-    for letter in b"abcd" {
-        let Some(pass) = open(&rt, alloc, &book, *letter) else {
-            panic!(rt; "not opened");
-        };
-        assert!(rt; passes.push(pass).is_ok());
+    for letter in RECORDERS {
+        passes.push(open(rt, alloc, &book, *letter)?).ok()?;
     }
-    let Ok(ends) = thread::map_vec(&rt, passes, &|pass| recorder(&rt, alloc, &book, pass)) else {
-        panic!(rt; "no memory");
-    };
+    let ends = thread::map_vec(rt, passes, &|pass| recorder(rt, alloc, &book, pass)).ok()?;
     let mut done = Vec::new(alloc);
     for end in ends {
-        let Some(pass) = end else {
-            panic!(rt; "a recorder was refused");
-        };
-        assert!(rt; book.seal(&rt, alloc, &pass).is_ok());
-        assert!(rt; done.push(pass).is_ok());
+        let pass = end?;
+        let sealed = book.seal(rt, alloc, &pass).ok()?;
+        if !have_writes(&sealed, MOST) {
+            return None;
+        }
+        done.push(pass).ok()?;
     }
-    let Ok(whole) = book.close(&rt, alloc, done) else {
-        panic!(rt; "not whole");
-    };
-    assert_eq!(rt; whole.sessions(), 4u32);
-    for letter in b"abcd" {
-        let Some(name) = session(*letter) else {
-            panic!(rt; "no name");
-        };
-        assert!(rt; has_writes(&whole, &name, MOST));
+    book.close(rt, alloc, done).ok()
+}
+
+/// Eight recorders in threads of their own, again and again: each snapshot has what its caller recorded, and of each
+/// other session what that one recorded first; in the end all lists are whole.
+#[test]
+fn eight_recorders(rt: HostRuntime) {
+    for _ in 0..TIMES {
+        let whole = side_by_side(&rt, rt.alloc());
+        assert!(rt; whole.is_some_and(|whole| have_writes(&whole, MOST)));
     }
 }
 
