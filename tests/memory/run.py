@@ -1,5 +1,6 @@
 #!/usr/bin/env python3
-"""Refuses each allocation of the built program in turn: the answer stays, or is the line for want of memory, status 5.
+"""Refuses each allocation of the built program in turn: the answers stay, or one of them and all after it are the line
+for want of memory, status 5.
 
     run.py [--tcc PATH]
 
@@ -16,8 +17,8 @@ import tempfile
 
 HERE = pathlib.Path(__file__).resolve().parent
 TOP = HERE.parent.parent
-MEMORY = (b"memory\n", 5)
-JSON_MEMORY = (b'{"answer":"memory"}\n', 5)
+MEMORY = b"memory\n"
+JSON_MEMORY = b'{"answer":"memory"}\n'
 MOST = 10000
 STALE_READ = b"""anomaly: 3 steps, stale-initial-read
 session init -> a/1
@@ -44,6 +45,20 @@ ABORTED_READ_JSON = b"""{"answer":"unresolved","faults":[\
 EXAMPLES = TOP / "examples"
 STALE, FORK = EXAMPLES / "stale-read.csv", EXAMPLES / "long-fork.csv"
 STALE_CERTIFICATE = EXAMPLES / "stale-read.certificate"
+SEALED_ORDER = b"consistent: 2 transactions, 1 sessions\norder: init a/1 a/2\n"
+SEALED_CYCLE = b"""anomaly: 4 steps, stale-initial-read
+session init -> a/1
+derived a/1 -> init by x, read by b/1
+  session a/1 -> a/2
+  reads a/2 -> b/1 by y
+  against init -> b/1 by x
+"""
+SEALED_ORDER_JSON = b"""{"answer":"consistent","order":["init","a/1","a/2"],"sessions":1,"transactions":2}
+"""
+SEALED_CYCLE_JSON = b"""{"answer":"anomaly","cycle":[{"from":"init","kind":"session","to":"a/1"},\
+{"from":"a/1","key":"x","kind":"derived","reader":"b/1","to":"init","walk":[{"from":"a/1","kind":"session","to":"a/2"},\
+{"from":"a/2","key":"y","kind":"reads","to":"b/1"}]}],"shape":"stale-initial-read","steps":4}
+"""
 FORK_CERTIFICATE = b"""tcc-certificate 1
 order 5 4
 0 1 2 3 4
@@ -55,7 +70,7 @@ clocks
 0 1 0 0
 end
 """
-# The file of standard input, or none; the words after `tcc`, and what is answered.
+# The file of standard input, or none; the words after `tcc`, the answers, and the status.
 ANSWERS = [
     (STALE, ["explain"], STALE_READ, 1),
     (EXAMPLES / "conflicting-writes.csv", ["explain"], CONFLICT, 1),
@@ -63,6 +78,8 @@ ANSWERS = [
     (EXAMPLES / "aborted-read.csv", ["explain"], b"unresolved: 2 faults\nAborted b/1 op 1 x 1\nThinAir b/1 op 2 z 7\n", 2),
     (STALE, ["explain", "--json"], STALE_READ_JSON, 1),
     (EXAMPLES / "aborted-read.csv", ["explain", "--json"], ABORTED_READ_JSON, 2),
+    (EXAMPLES / "sealed.csv", ["explain"], [SEALED_ORDER, SEALED_CYCLE], 1),
+    (EXAMPLES / "sealed.csv", ["explain", "--json"], [SEALED_ORDER_JSON, SEALED_CYCLE_JSON], 1),
     (None, ["check", STALE, STALE_CERTIFICATE], b"accepted: cycle, 3 steps\n", 0),
     (None, ["check", FORK, "@certificate"], b"accepted: order\n", 0),
     (None, ["check", FORK, STALE_CERTIFICATE], b"rejected: rule 1 at 0 0\n", 7),
@@ -80,20 +97,27 @@ def answer(words, given, environment):
     return run.stdout, run.returncode
 
 
-def refusals(words, given, ample, shim, mark):
+def cut_off(answers, line):
+    """What is said where memory is refused: some answers, and then the line, with status 5."""
+    return [(b"".join(answers[:stand]) + line, 5) for stand in range(len(answers))]
+
+
+def refusals(words, given, answers, status, shim, mark):
     """For each allocation of a run, what is answered where it is refused, and whether that is right.
 
     Before the words of the command line are read the line `memory` stands, as nobody knows yet that JSON is wanted;
     from the first line of JSON on, that one.
     """
-    lines = [MEMORY, JSON_MEMORY] if "--json" in words else [MEMORY]
+    ample = (b"".join(answers), status)
+    json = cut_off(answers, JSON_MEMORY) if "--json" in words else []
+    lines = [(MEMORY, 5)] + json if json else cut_off(answers, MEMORY)
     for number in range(1, MOST):
         mark.unlink(missing_ok=True)
         environment = dict(os.environ, LD_PRELOAD=str(shim), REFUSE=str(number), REFUSED=str(mark))
         got = answer(words, given, environment)
         refused = mark.exists()
-        if got == JSON_MEMORY:
-            lines = [line for line in lines if line == JSON_MEMORY]
+        if got in json:
+            lines = json
         yield number, got, got == ample or (refused and got in lines)
         if not refused:
             break
@@ -112,9 +136,10 @@ def main():
         pathlib.Path(folder, "certificate").write_bytes(FORK_CERTIFICATE)
         if compiler:
             subprocess.run([compiler, "-shared", "-fPIC", "-O1", "-o", shim, HERE / "refuse.c", "-ldl"], check=True)
-        for given, asked, text, status in ANSWERS if compiler else ():
+        for given, asked, said, status in ANSWERS if compiler else ():
             words = [tcc] + [str(word).replace("@", folder + "/") for word in asked]
-            for number, got, right in refusals(words, given, (text, status), shim, mark):
+            answers = said if isinstance(said, list) else [said]
+            for number, got, right in refusals(words, given, answers, status, shim, mark):
                 if right:
                     passed += 1
                 else:
