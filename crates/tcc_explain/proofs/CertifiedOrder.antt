@@ -142,8 +142,8 @@ module _ (j : Judged) (order : List ℕ) (clocks : List (List ℕ)) (numbered : 
           let some : 0 < at.1 = omega (arith, may.0) in
           subst (λ (z : ℕ). Before order z at.1) (sym none) (commit.sessions 0 at.1 (initial_first h at.1 some a_below))
       go (inr some) =
-          let (walk, is) = allowed j.level h clocks at.0 c numbered are (omega arith) may.2.0 may.1.1 reach in
-          commit.axiom_of at.0 at.1 x c walk (may, is)
+          let (walk, is, may_be) = allowed j.level h clocks at.0 c numbered are (omega arith) may.2.0 may.1.1 reach in
+          commit.axiom_of at.0 at.1 x c walk (may, (is, may_be))
 
   pub certified : CertifiesOrder h claimed
   certified = record {

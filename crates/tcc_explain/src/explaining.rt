@@ -30,7 +30,8 @@ fn distances(
     ensures level { IfOk result (λ near. near.level ≡ level) }
     ensures near { IfOk result (λ near. IsNearOf (record { history = graph.now; level = near.level }) near) }
 {
-    near(rt, alloc, graph, level)
+    let distances = near(rt, alloc, graph, level)?;
+    Ok(distances)
 }
 
 /// The first answer for a history at a level: a commit order, or a cycle where there is none.
