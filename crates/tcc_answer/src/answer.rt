@@ -31,13 +31,7 @@ impl Model for Commit {
 
 impl Commit {
     /// The order at this level of a snapshot with so many sessions, the clocks, and the names of the transactions.
-    pub fn new(
-        level: Level,
-        order: Numbers,
-        sessions: u32,
-        clocks: Table,
-        labels: Labels,
-    ) -> Commit
+    pub fn new(level: Level, order: Numbers, sessions: u32, clocks: Table, labels: Labels) -> Commit
         ensures { result ≡ record { level = level; order = order; sessions = sessions; clocks = clocks; labels = labels } }
     {
         Commit {

@@ -1,4 +1,4 @@
-//! An order and an anomaly as values, as text and as JSON, and writers that fail.
+//! An order and an anomaly as values, and an order as text and as JSON.
 ghost use Rattle.std.specs.Prelude.{◌≡◌, [], ◌∷◌, IfOk};
 ghost use Rattle.tcc_graph.specs.declared.step.Step.TheVariants as step;
 ghost use Rattle.tcc_graph.specs.declared.link.Link.TheVariants as link;
@@ -6,7 +6,6 @@ ghost use Rattle.tcc_graph.specs.declared.link.Link.TheVariants as link;
 use crate::pieces::push;
 use crate::{Anomaly, Answer, Commit, Labels, Shape, WriteFault, write_json, write_text};
 use std::alloc::{AllocError, Global};
-use std::io::{self, ErrorKind, Write};
 use std::process::Abort;
 use std::test::Fail;
 use tcc_cert::{Certificate, Links, Numbers, Table, Version};
@@ -16,9 +15,9 @@ use tcc_txn::{Name, snapshot_of};
 
 const TURNED: &str = "a,begin\na,commit\na,begin\na,commit\nb,begin\nb,commit\n";
 
-const TURNED_TEXT: &str = "consistent: 3 transactions, 2 sessions\norder: init b/1 a/1 a/2\n";
-
-const TURNED_JSON: &str = "{\"answer\":\"consistent\",\
+/// Their order as text, and then as JSON.
+const TURNED_TEXTS: &str = "consistent: 3 transactions, 2 sessions\norder: init b/1 a/1 a/2\n\
+    {\"answer\":\"consistent\",\
     \"order\":[\"init\",\"b/1\",\"a/1\",\"a/2\"],\"sessions\":2,\"transactions\":3}\n";
 
 /// a/1 writes x, and a/2 reads its initial value.
@@ -67,38 +66,38 @@ fn turned(rt: &impl Abort, alloc: Global) -> Result<Commit, AllocError> {
     Ok(Commit::new(Level::Causal, order, 2, no_rows(alloc), labels))
 }
 
-/// Writes the answer, as JSON or as text.
-fn written<W: Write>(
-    alloc: Global,
-    json: bool,
-    answer: &Answer,
-    out: &mut W,
-) -> Result<(), WriteFault> {
-    if json {
-        write_json(alloc, answer, out)
-    } else {
-        write_text(alloc, answer, out)
-    }
-}
-
 #[test]
 fn parts(rt: HostRuntime) -> Result<(), Fail> {
     let alloc = rt.alloc();
     let commit = turned(&rt, alloc)?;
     assert_eq!(&rt; commit.order(), [0, 3, 1, 2].as_slice());
     assert_eq!(&rt; commit.sessions(), 2);
-    assert!(&rt; matches!(
-        commit.certificate(),
-        Certificate::Order { version: Version::Two, level: Level::Causal, sessions: 2, .. }
-    ));
+    assert!(&rt;
+        matches!(
+            commit.certificate(),
+            Certificate::Order {
+                version: Version::Two,
+                level: Level::Causal,
+                sessions: 2,
+                ..
+            }
+        )
+    );
     let anomaly = stale_read(&rt, alloc)?;
     assert_eq!(&rt; anomaly.links().len(), 2);
     assert_eq!(&rt; anomaly.cost(), 3);
     assert_eq!(&rt; anomaly.shape(), Shape::StaleInitialRead);
-    assert!(&rt; matches!(
-        anomaly.certificate(),
-        Certificate::Cycle { version: Version::Two, level: Level::Atomic, least: 3, .. }
-    ));
+    assert!(&rt;
+        matches!(
+            anomaly.certificate(),
+            Certificate::Cycle {
+                version: Version::Two,
+                level: Level::Atomic,
+                least: 3,
+                ..
+            }
+        )
+    );
     let answer = Answer::Anomaly(anomaly);
     assert!(&rt; matches!(answer.certificate(), Certificate::Cycle { .. }));
     let mut text = Vec::new(alloc);
@@ -111,92 +110,10 @@ fn parts(rt: HostRuntime) -> Result<(), Fail> {
 fn texts(rt: HostRuntime) -> Result<(), Fail> {
     let alloc = rt.alloc();
     let answer = Answer::Commit(turned(&rt, alloc)?);
-    for (json, text) in [(false, TURNED_TEXT), (true, TURNED_JSON)] {
-        let mut out = Vec::new(alloc);
-        assert_eq!(&rt; written(alloc, json, &answer, &mut out), Ok(()));
-        assert_eq!(&rt; out.as_slice(), text.as_bytes());
-    }
-    Ok(())
-}
-
-/// A writer that takes seven bytes at a time. After some calls one fails, and the calls after that work again.
-#[derive(Drop)]
-struct Failing {
-    taken: Vec<u8>,
-    calls: usize,
-    kind: Option<ErrorKind>,
-}
-
-impl Failing {
-    /// Whether this call works, with the failure that it is to have.
-    fn works(&mut self) -> io::Result<bool> {
-        if self.calls != 0 {
-            self.calls -= 1;
-            return Ok(true);
-        }
-        self.calls = usize::MAX;
-        match self.kind {
-            Some(kind) => Err(io::Error::from(kind)),
-            None => Ok(false),
-        }
-    }
-}
-
-impl Write for Failing {
-    fn write(&mut self, bytes: &[u8]) -> io::Result<usize> {
-        if !self.works()? {
-            return Ok(0);
-        }
-        let count = bytes.len().min(7);
-        self.taken.extend_from_slice(&bytes[..count])?;
-        Ok(count)
-    }
-
-    fn flush(&mut self) -> io::Result<()> {
-        self.works()?;
-        Ok(())
-    }
-}
-
-/// How an answer goes out to a writer whose call fails after so many, and what went out.
-fn sent(
-    alloc: Global,
-    json: bool,
-    answer: &Answer,
-    calls: usize,
-    kind: Option<ErrorKind>,
-) -> (Result<(), WriteFault>, Vec<u8>) {
-    let mut out = Failing {
-        taken: Vec::new(alloc),
-        calls,
-        kind,
-    };
-    (written(alloc, json, answer, &mut out), out.taken)
-}
-
-// Whichever write is refused, and however, no further one is tried; and so it is with the flush.
-#[test]
-fn each_write_fails(rt: HostRuntime) -> Result<(), Fail> {
-    let alloc = rt.alloc();
-    let answer = Answer::Commit(turned(&rt, alloc)?);
-    for (json, text) in [(false, TURNED_TEXT), (true, TURNED_JSON)] {
-        let writes = text.len().div_ceil(7);
-        for calls in 0..writes {
-            for kind in [Some(ErrorKind::Other), Some(ErrorKind::Interrupted), None] {
-                let (outcome, taken) = sent(alloc, json, &answer, calls, kind);
-                assert_eq!(&rt; outcome, Err(WriteFault::Device), "after {calls}");
-                assert_eq!(&rt;
-                    taken.as_slice(),
-                    &text.as_bytes()[..(calls * 7).min(text.len())]
-                );
-            }
-        }
-        let (outcome, taken) = sent(alloc, json, &answer, writes, Some(ErrorKind::Other));
-        assert_eq!(&rt; outcome, Err(WriteFault::Device), "at the flush");
-        assert_eq!(&rt; taken.as_slice(), text.as_bytes());
-        let (outcome, _taken) = sent(alloc, json, &answer, writes + 1, None);
-        assert_eq!(&rt; outcome, Ok(()));
-    }
+    let mut out = Vec::new(alloc);
+    assert_eq!(&rt; write_text(alloc, &answer, &mut out), Ok(()));
+    assert_eq!(&rt; write_json(alloc, &answer, &mut out), Ok(()));
+    assert_eq!(&rt; out.as_slice(), TURNED_TEXTS.as_bytes());
     Ok(())
 }
 
