@@ -16,7 +16,7 @@ returns-in-Some g c =
 pub unreachable-requires : goal.unreachable-requires
 unreachable-requires g c =
     let j : Judged = record { history = c.args.graph.now; level = c.in_ok-near.near.level } in
-    c.in_default-2.ensures (c.in_default.ensures j c.in_ok-prices.ensures)
+    (rw c.in_default-2.is at c.in_ok-cycle.ensures) (rw c.in_default.is at (c.in_ok-order.ensures j c.in_ok-prices.ensures))
 
 pub returns : goal.returns
 returns g c =
