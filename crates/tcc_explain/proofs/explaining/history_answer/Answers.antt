@@ -1,4 +1,4 @@
-use Rattle.std.proofs.Common.{ℕ, ◌≡◌, length, ap, refl, sym, subst, arith}
+use Rattle.std.proofs.Common.{ℕ, ◌≡◌, length, ap, refl, sym, subst}
 use Rattle.tcc_graph.specs.Levels.{Judged}
 use Rattle.tcc_graph.specs.Links.{cost}
 use Rattle.tcc_graph.specs.Orders.{IsFirstOrder}

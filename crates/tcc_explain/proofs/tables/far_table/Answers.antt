@@ -1,6 +1,5 @@
-use Rattle.std.proofs.Common.{List, ℕ, map, min, subst, arith}
+use Rattle.std.proofs.Common.{arith}
 use Rattle.std.proofs.lemmas.List.{take_all}
-use Rattle.tcc_explain.specs.Certificates.{IsFarTable}
 use Rattle.tcc_explain.proofs.TableLemmas.{far_table}
 use Rattle.tcc_explain.proofs.tables.far_table.Goals as goal
 
