@@ -221,24 +221,12 @@ fn readers_of_records_fail(rt: HostRuntime) -> Result<(), Fail> {
         let row = line_after(read);
         let text = format!(in alloc; "row {row}: Read\n")?;
         let mut out = Vec::new(alloc);
-        let code = run_explain(
-            &rt,
-            alloc,
-            Broken { bytes: read },
-            &mut out,
-            causal(false),
-        );
+        let code = run_explain(&rt, alloc, Broken { bytes: read }, &mut out, causal(false));
         assert_eq!(&rt; out.as_slice(), text.as_bytes(), "after {bytes} bytes");
         assert_eq!(&rt; code, 6);
         let line = format!(in alloc; "{{\"answer\":\"row\",\"kind\":\"Read\",\"row\":{row}}}\n")?;
         let mut out = Vec::new(alloc);
-        let code = run_explain(
-            &rt,
-            alloc,
-            Broken { bytes: read },
-            &mut out,
-            causal(true),
-        );
+        let code = run_explain(&rt, alloc, Broken { bytes: read }, &mut out, causal(true));
         assert_eq!(&rt; out.as_slice(), line.as_bytes(), "after {bytes} bytes");
         assert_eq!(&rt; code, 6);
         let mut out = Vec::new(alloc);
@@ -259,13 +247,7 @@ fn answers_stand_where_readers_fail(rt: HostRuntime) -> Result<(), Fail> {
         let answered = if row > 7 { SEALED_TEXT } else { "" };
         let text = format!(in alloc; "{answered}row {row}: Read\n")?;
         let mut out = Vec::new(alloc);
-        let code = run_explain(
-            &rt,
-            alloc,
-            Broken { bytes: read },
-            &mut out,
-            causal(false),
-        );
+        let code = run_explain(&rt, alloc, Broken { bytes: read }, &mut out, causal(false));
         assert_eq!(&rt; out.as_slice(), text.as_bytes(), "after {bytes} bytes");
         assert_eq!(&rt; code, 6);
     }
