@@ -1,7 +1,10 @@
 #!/usr/bin/env python3
-"""Refuses each allocation of the built program in turn: the answer stays, or is the line for want of memory, status 5.
+"""Refuses each allocation of the built programs in turn: the answer stays, or is the line for want of memory, status 5.
 
-    run.py [--tcc PATH]
+    run.py [--tcc PATH] [--recorders PATH]
+
+The recorders give several answers, of which those before that line stay. Where one of their transactions is refused,
+it is recorded again, and they say so on standard error: each client's last one has to be among these.
 
 Wants a C compiler on the path (`cc` or `clang`); where there is none it says so and tests nothing. Each difference
 is one line; the last line is `N passed, M failed`, a run a refused allocation.
@@ -71,13 +74,26 @@ ANSWERS = [
      b"unresolved: 1 faults\nIntermediate b/1 op 1 x 1\n", 2),
     (None, ["check", "@certificate", "@certificate"], b"row 1: UnknownWord\n", 3),
 ]
+# What the recorders answer one after another, and the line for a client's last transaction that was recorded again.
+RECORDED = (TOP / "crates" / "tcc_recorders" / "stdout").read_bytes()
+RECORDED_ENDS = [0, RECORDED.index(b"anomaly"), RECORDED.rindex(b"consistent")]
+AGAIN = b"recorded again: %s\n"
+LAST = (b"alice/1", b"bob/1", b"carol/3", b"dave/1")
 
 
 def answer(words, given, environment):
-    """Output and status of a run."""
+    """Output, status and standard error of a run."""
     with open(given or os.devnull, "rb") as records:
         run = subprocess.run(words, stdin=records, capture_output=True, env=environment, timeout=60)
-    return run.stdout, run.returncode
+    return (run.stdout, run.returncode), run.stderr
+
+
+def refused_answer(words, given, shim, mark, number):
+    """What is answered where the allocation of this number is refused, standard error, and whether one was refused."""
+    mark.unlink(missing_ok=True)
+    environment = dict(os.environ, LD_PRELOAD=str(shim), REFUSE=str(number), REFUSED=str(mark))
+    got, said = answer(words, given, environment)
+    return got, said, mark.exists()
 
 
 def refusals(words, given, ample, shim, mark):
@@ -88,10 +104,7 @@ def refusals(words, given, ample, shim, mark):
     """
     lines = [MEMORY, JSON_MEMORY] if "--json" in words else [MEMORY]
     for number in range(1, MOST):
-        mark.unlink(missing_ok=True)
-        environment = dict(os.environ, LD_PRELOAD=str(shim), REFUSE=str(number), REFUSED=str(mark))
-        got = answer(words, given, environment)
-        refused = mark.exists()
+        got, _, refused = refused_answer(words, given, shim, mark, number)
         if got == JSON_MEMORY:
             lines = [line for line in lines if line == JSON_MEMORY]
         yield number, got, got == ample or (refused and got in lines)
@@ -99,10 +112,32 @@ def refusals(words, given, ample, shim, mark):
             break
 
 
+def recorders(words, alone, shim, mark):
+    """For each allocation of the recorders, what is answered where it is refused, and whether that is right.
+
+    In one thread the allocations are the same in each run, so each client's last transaction has to be refused once.
+    """
+    whole = (RECORDED, 0)
+    halted = [(RECORDED[:end] + b"memory\n", 5) for end in RECORDED_ENDS]
+    again = set()
+    for number in range(1, MOST):
+        got, said, refused = refused_answer(words, None, shim, mark, number)
+        yield number, got, got == whole or (refused and got in halted)
+        if got == whole:
+            again.update(client for client in LAST if said == AGAIN % client)
+        if not refused:
+            break
+    if alone:
+        for client in LAST:
+            yield 0, AGAIN % client, client in again
+
+
 def main():
     ask = argparse.ArgumentParser(description="Refuses each allocation of tcc in turn.")
     ask.add_argument("--tcc", default=str(TOP / "crates" / "tcc" / "out" / "tcc"), help="another program than the built one")
-    tcc = os.path.abspath(ask.parse_args().tcc)
+    ask.add_argument("--recorders", default=str(TOP / "crates" / "tcc_recorders" / "out" / "tcc_recorders"), help="the same")
+    asked = ask.parse_args()
+    tcc, recording = os.path.abspath(asked.tcc), os.path.abspath(asked.recorders)
     compiler = shutil.which("cc") or shutil.which("clang")
     passed = failed = 0
     if not compiler:
@@ -110,16 +145,21 @@ def main():
     with tempfile.TemporaryDirectory() as folder:
         shim, mark = pathlib.Path(folder, "refuse.so"), pathlib.Path(folder, "refused")
         pathlib.Path(folder, "certificate").write_bytes(FORK_CERTIFICATE)
+        runs = []
         if compiler:
             subprocess.run([compiler, "-shared", "-fPIC", "-O1", "-o", shim, HERE / "refuse.c", "-ldl"], check=True)
-        for given, asked, text, status in ANSWERS if compiler else ():
-            words = [tcc] + [str(word).replace("@", folder + "/") for word in asked]
-            for number, got, right in refusals(words, given, (text, status), shim, mark):
+            for given, words, text, status in ANSWERS:
+                words = [tcc] + [str(word).replace("@", folder + "/") for word in words]
+                runs.append((words, refusals(words, given, (text, status), shim, mark)))
+            for words in ([recording], [recording, "alone"]):
+                runs.append((words, recorders(words, "alone" in words, shim, mark)))
+        for words, answers in runs:
+            for number, got, right in answers:
                 if right:
                     passed += 1
                 else:
                     failed += 1
-                    print("%s, allocation %d refused: got %r" % (" ".join(words[1:]), number, got))
+                    print("%s, allocation %d refused: got %r" % (" ".join(words), number, got))
     print("%d passed, %d failed" % (passed, failed))
     return 1 if failed else 0
 
