@@ -13,10 +13,10 @@ use tcc_txn::{Name, Op, Txn};
 /// So many operations a transaction has.
 const OPERATIONS: u64 = 8;
 
-/// So many copies of a book are timed.
-const COPIES: u32 = 20;
+/// So many books of each size are filled and copied; the least times are given.
+const BOOKS: u32 = 50;
 
-/// Seconds of a record and of a copy, and how many transactions were copied.
+/// Seconds of filling a book and of copying it, and how many transactions were copied.
 #[derive(Clone, Copy)]
 struct Spent {
     record: f64,
@@ -34,15 +34,6 @@ fn transaction(alloc: Global, key: Name) -> Option<Txn> {
     Txn::new(ops, true).ok()
 }
 
-/// How many transactions a copy of the book has, and the seconds that it took.
-fn copied<R: Clock + Alloc<A = Global>>(rt: &R, book: &BookState) -> Option<(usize, f64)> {
-    let start = Instant::now(rt).ok()?;
-    let copy = book.copy(rt.alloc()).ok()?;
-    let seconds = start.elapsed(rt).ok()?.as_secs_f64();
-    let (_, txns) = copy.session(0)?;
-    Some((txns.len(), seconds))
-}
-
 /// Fills a book with so many transactions, and copies it.
 fn measure<R: Clock + Alloc<A = Global>>(rt: &R, count: u32) -> Option<Spent> {
     let alloc = rt.alloc();
@@ -54,30 +45,39 @@ fn measure<R: Clock + Alloc<A = Global>>(rt: &R, count: u32) -> Option<Spent> {
     for held in 0..count {
         book.record(&session, held, txn.copy(alloc).ok()?).ok()?;
     }
-    let record = start.elapsed(rt).ok()?.as_secs_f64() / f64::from(count.max(1));
-    let mut spent = Spent {
+    let record = start.elapsed(rt).ok()?.as_secs_f64();
+    let start = Instant::now(rt).ok()?;
+    let copy = book.copy(alloc).ok()?;
+    let seconds = start.elapsed(rt).ok()?.as_secs_f64();
+    let (_, txns) = copy.session(0)?;
+    Some(Spent {
         record,
-        copy: 0.0,
-        copied: 0,
-    };
-    for _ in 0..COPIES {
-        let (copied, seconds) = copied(rt, &book)?;
-        spent.copied = copied;
-        spent.copy += seconds / f64::from(COPIES);
+        copy: seconds,
+        copied: txns.len(),
+    })
+}
+
+/// The least times of many books of one size.
+fn least<R: Clock + Alloc<A = Global>>(rt: &R, count: u32) -> Option<Spent> {
+    let mut least = measure(rt, count)?;
+    for _ in 1..BOOKS {
+        let spent = measure(rt, count)?;
+        least.record = least.record.min(spent.record);
+        least.copy = least.copy.min(spent.copy);
     }
-    Some(spent)
+    Some(least)
 }
 
 fn main(rt: HostRuntime) -> ExitCode {
     for count in [500, 1_000, 2_000, 4_000] {
-        let Some(spent) = measure(&rt, count) else {
+        let Some(spent) = least(&rt, count) else {
             return ExitCode::from(1);
         };
-        let (record, copy) = (spent.record * 1e9, spent.copy * 1e9);
-        let each = copy / f64::from(count);
-        let ratio = each / record;
+        let one = 1e9 / f64::from(count);
+        let (record, copy) = (spent.record * one, spent.copy * one);
+        let whole = spent.copy * 1e6;
         let _ = eprintln!(rt;
-            "{count}: {record:.0} ns for a record, {copy:.0} ns for a copy, {each:.0} ns of it for each transaction, {ratio:.2} of a record"
+            "{count}: {whole:.0} us for a copy, {copy:.0} ns of it for each transaction; {record:.0} ns for a record"
         );
         let printed = println!(rt; "transactions: {count}, copied: {}", spent.copied);
         if printed.is_err() {

@@ -36,7 +36,7 @@ fn record_again(
     }
     match book.record(rt, alloc, pass, txn) {
         Ok(receipt) => Ok(Some(receipt)),
-        Err((fault, _)) => Err(Halt::from(fault)),
+        Err((fault, _refused)) => Err(Halt::from(fault)),
     }
 }
 
@@ -76,7 +76,7 @@ impl Client {
         }
         match Txn::new(ops, true) {
             Ok(txn) => Ok(txn),
-            Err((fault, _)) => Err(Halt::from(fault)),
+            Err((fault, _ops)) => Err(Halt::from(fault)),
         }
     }
 
