@@ -1,10 +1,11 @@
 #!/usr/bin/env python3
-"""Refuses each allocation of the built programs in turn: the answer stays, or is the line for want of memory, status 5.
+"""Refuses each allocation of the built programs in turn: the answers stay, or one of them and all after it are the line
+for want of memory, status 5.
 
     run.py [--tcc PATH] [--recorders PATH]
 
-The recorders give several answers, of which those before that line stay. Where one of their transactions is refused,
-it is recorded again, and they say so on standard error: each client's last one has to be among these.
+Where a transaction of the recorders is refused it is recorded again, and they say so on standard error: in one thread,
+where the allocations of all runs are the same, each recorder's last one has to be among these, with all answers.
 
 Wants a C compiler on the path (`cc` or `clang`); where there is none it says so and tests nothing. Each difference
 is one line; the last line is `N passed, M failed`, a run a refused allocation.
@@ -19,8 +20,8 @@ import tempfile
 
 HERE = pathlib.Path(__file__).resolve().parent
 TOP = HERE.parent.parent
-MEMORY = (b"memory\n", 5)
-JSON_MEMORY = (b'{"answer":"memory"}\n', 5)
+MEMORY = b"memory\n"
+JSON_MEMORY = b'{"answer":"memory"}\n'
 MOST = 10000
 STALE_READ = b"""anomaly: 3 steps, stale-initial-read
 session init -> a/1
@@ -47,6 +48,20 @@ ABORTED_READ_JSON = b"""{"answer":"unresolved","faults":[\
 EXAMPLES = TOP / "examples"
 STALE, FORK = EXAMPLES / "stale-read.csv", EXAMPLES / "long-fork.csv"
 STALE_CERTIFICATE = EXAMPLES / "stale-read.certificate"
+SEALED_ORDER = b"consistent: 2 transactions, 1 sessions\norder: init a/1 a/2\n"
+SEALED_CYCLE = b"""anomaly: 4 steps, stale-initial-read
+session init -> a/1
+derived a/1 -> init by x, read by b/1
+  session a/1 -> a/2
+  reads a/2 -> b/1 by y
+  against init -> b/1 by x
+"""
+SEALED_ORDER_JSON = b"""{"answer":"consistent","order":["init","a/1","a/2"],"sessions":1,"transactions":2}
+"""
+SEALED_CYCLE_JSON = b"""{"answer":"anomaly","cycle":[{"from":"init","kind":"session","to":"a/1"},\
+{"from":"a/1","key":"x","kind":"derived","reader":"b/1","to":"init","walk":[{"from":"a/1","kind":"session","to":"a/2"},\
+{"from":"a/2","key":"y","kind":"reads","to":"b/1"}]}],"shape":"stale-initial-read","steps":4}
+"""
 FORK_CERTIFICATE = b"""tcc-certificate 1
 order 5 4
 0 1 2 3 4
@@ -58,7 +73,7 @@ clocks
 0 1 0 0
 end
 """
-# The file of standard input, or none; the words after `tcc`, and what is answered.
+# The file of standard input, or none; the words after `tcc`, the answers, and the status.
 ANSWERS = [
     (STALE, ["explain"], STALE_READ, 1),
     (EXAMPLES / "conflicting-writes.csv", ["explain"], CONFLICT, 1),
@@ -66,6 +81,8 @@ ANSWERS = [
     (EXAMPLES / "aborted-read.csv", ["explain"], b"unresolved: 2 faults\nAborted b/1 op 1 x 1\nThinAir b/1 op 2 z 7\n", 2),
     (STALE, ["explain", "--json"], STALE_READ_JSON, 1),
     (EXAMPLES / "aborted-read.csv", ["explain", "--json"], ABORTED_READ_JSON, 2),
+    (EXAMPLES / "sealed.csv", ["explain"], [SEALED_ORDER, SEALED_CYCLE], 1),
+    (EXAMPLES / "sealed.csv", ["explain", "--json"], [SEALED_ORDER_JSON, SEALED_CYCLE_JSON], 1),
     (None, ["check", STALE, STALE_CERTIFICATE], b"accepted: cycle, 3 steps\n", 0),
     (None, ["check", FORK, "@certificate"], b"accepted: order\n", 0),
     (None, ["check", FORK, STALE_CERTIFICATE], b"rejected: rule 1 at 0 0\n", 7),
@@ -74,62 +91,44 @@ ANSWERS = [
      b"unresolved: 1 faults\nIntermediate b/1 op 1 x 1\n", 2),
     (None, ["check", "@certificate", "@certificate"], b"row 1: UnknownWord\n", 3),
 ]
-# What the recorders answer one after another, and the line for a client's last transaction that was recorded again.
+# What the recorders answer one after another, and what they say of the last transaction of each of them.
 RECORDED = (TOP / "crates" / "tcc_recorders" / "stdout").read_bytes()
-RECORDED_ENDS = [0, RECORDED.index(b"anomaly"), RECORDED.rindex(b"consistent")]
-AGAIN = b"recorded again: %s\n"
-LAST = (b"alice/1", b"bob/1", b"carol/3", b"dave/1")
+ANOMALY, END = RECORDED.index(b"anomaly"), RECORDED.rindex(b"consistent")
+RECORDED = [RECORDED[:ANOMALY], RECORDED[ANOMALY:END], RECORDED[END:]]
+AGAIN = [b"recorded again: %s\n" % last for last in (b"alice/1", b"bob/1", b"carol/3", b"dave/1")]
 
 
 def answer(words, given, environment):
-    """Output, status and standard error of a run."""
+    """Output and status of a run, and its standard error."""
     with open(given or os.devnull, "rb") as records:
         run = subprocess.run(words, stdin=records, capture_output=True, env=environment, timeout=60)
     return (run.stdout, run.returncode), run.stderr
 
 
-def refused_answer(words, given, shim, mark, number):
-    """What is answered where the allocation of this number is refused, standard error, and whether one was refused."""
-    mark.unlink(missing_ok=True)
-    environment = dict(os.environ, LD_PRELOAD=str(shim), REFUSE=str(number), REFUSED=str(mark))
-    got, said = answer(words, given, environment)
-    return got, said, mark.exists()
+def cut_off(answers, line):
+    """What is said where memory is refused: some answers, and then the line, with status 5."""
+    return [(b"".join(answers[:stand]) + line, 5) for stand in range(len(answers))]
 
 
-def refusals(words, given, ample, shim, mark):
-    """For each allocation of a run, what is answered where it is refused, and whether that is right.
+def refusals(words, given, answers, status, shim, mark):
+    """For each allocation of a run, what is answered where it is refused, whether that is right, and standard error.
 
     Before the words of the command line are read the line `memory` stands, as nobody knows yet that JSON is wanted;
     from the first line of JSON on, that one.
     """
-    lines = [MEMORY, JSON_MEMORY] if "--json" in words else [MEMORY]
+    ample = (b"".join(answers), status)
+    json = cut_off(answers, JSON_MEMORY) if "--json" in words else []
+    lines = [(MEMORY, 5)] + json if json else cut_off(answers, MEMORY)
     for number in range(1, MOST):
-        got, _, refused = refused_answer(words, given, shim, mark, number)
-        if got == JSON_MEMORY:
-            lines = [line for line in lines if line == JSON_MEMORY]
-        yield number, got, got == ample or (refused and got in lines)
+        mark.unlink(missing_ok=True)
+        environment = dict(os.environ, LD_PRELOAD=str(shim), REFUSE=str(number), REFUSED=str(mark))
+        got, said = answer(words, given, environment)
+        refused = mark.exists()
+        if got in json:
+            lines = json
+        yield number, got, got == ample or (refused and got in lines), said if got == ample else b""
         if not refused:
             break
-
-
-def recorders(words, alone, shim, mark):
-    """For each allocation of the recorders, what is answered where it is refused, and whether that is right.
-
-    In one thread the allocations are the same in each run, so each client's last transaction has to be refused once.
-    """
-    whole = (RECORDED, 0)
-    halted = [(RECORDED[:end] + b"memory\n", 5) for end in RECORDED_ENDS]
-    again = set()
-    for number in range(1, MOST):
-        got, said, refused = refused_answer(words, None, shim, mark, number)
-        yield number, got, got == whole or (refused and got in halted)
-        if got == whole:
-            again.update(client for client in LAST if said == AGAIN % client)
-        if not refused:
-            break
-    if alone:
-        for client in LAST:
-            yield 0, AGAIN % client, client in again
 
 
 def main():
@@ -137,7 +136,9 @@ def main():
     ask.add_argument("--tcc", default=str(TOP / "crates" / "tcc" / "out" / "tcc"), help="another program than the built one")
     ask.add_argument("--recorders", default=str(TOP / "crates" / "tcc_recorders" / "out" / "tcc_recorders"), help="the same")
     asked = ask.parse_args()
-    tcc, recording = os.path.abspath(asked.tcc), os.path.abspath(asked.recorders)
+    tcc, recorders = os.path.abspath(asked.tcc), os.path.abspath(asked.recorders)
+    runs = [(tcc, given, words, said, status) for given, words, said, status in ANSWERS]
+    runs += [(recorders, None, [], RECORDED, 0), (recorders, None, ["alone"], RECORDED, 0)]
     compiler = shutil.which("cc") or shutil.which("clang")
     passed = failed = 0
     if not compiler:
@@ -145,21 +146,22 @@ def main():
     with tempfile.TemporaryDirectory() as folder:
         shim, mark = pathlib.Path(folder, "refuse.so"), pathlib.Path(folder, "refused")
         pathlib.Path(folder, "certificate").write_bytes(FORK_CERTIFICATE)
-        runs = []
         if compiler:
             subprocess.run([compiler, "-shared", "-fPIC", "-O1", "-o", shim, HERE / "refuse.c", "-ldl"], check=True)
-            for given, words, text, status in ANSWERS:
-                words = [tcc] + [str(word).replace("@", folder + "/") for word in words]
-                runs.append((words, refusals(words, given, (text, status), shim, mark)))
-            for words in ([recording], [recording, "alone"]):
-                runs.append((words, recorders(words, "alone" in words, shim, mark)))
-        for words, answers in runs:
-            for number, got, right in answers:
+        for program, given, asked, answers, status in runs if compiler else ():
+            words = [program] + [str(word).replace("@", folder + "/") for word in asked]
+            answers = answers if isinstance(answers, list) else [answers]
+            wanted = set(AGAIN if "alone" in asked else [])
+            for number, got, right, said in refusals(words, given, answers, status, shim, mark):
+                wanted.discard(said)
                 if right:
                     passed += 1
                 else:
                     failed += 1
                     print("%s, allocation %d refused: got %r" % (" ".join(words), number, got))
+            for line in wanted:
+                failed += 1
+                print("%s: never said %r" % (" ".join(words), line))
     print("%d passed, %d failed" % (passed, failed))
     return 1 if failed else 0
 

@@ -15,9 +15,11 @@ pub const EXPLAIN: &str = "Records, one a line (CSV without a header row):
   SESSION,w,KEY,VALUE  it wrote the value, which is not 0 and is written once per key
   SESSION,commit       it is finished, and counts
   SESSION,abort        it is finished, and its writes do not count
+  seal                 an answer is wanted for what was finished so far
 
 A session and a key are names: 1 to 32 of A-Z, a-z, 0-9, '_', '.' and '-'. A value is a decimal
 number up to 18446744073709551615. Transactions of different sessions may be interleaved.
+The end of the input wants an answer too, unless nothing was finished since the last 'seal'.
 
 Example: a session writes x, and its next transaction reads the initial x.
   $ printf 'a,begin\\na,w,x,1\\na,commit\\na,begin\\na,r,x,0\\na,commit\\n' | tcc explain
@@ -27,11 +29,11 @@ Example: a session writes x, and its next transaction reads the initial x.
     session a/1 -> a/2
     against init -> a/2 by x
 
-Statuses:
+Statuses, of the last answer or of the fault that ended the run:
   0   consistent: the order is one in which every read is explained
   1   an anomaly: no order explains the reads, and no shorter cycle shows it
   2   unresolved: reads that can't be traced to a write, or values written twice
-  3   a record breaks a rule, the input ends inside a transaction, or it has a 'seal'
+  3   a record breaks a rule, or the input ends inside a transaction
   4   the input is past a limit
   5   memory is wanting
   6   reading or writing failed

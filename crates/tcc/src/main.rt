@@ -10,12 +10,14 @@ use command_line::Request;
 use files::check_files;
 use std::io;
 use std::process::ExitCode;
-use tcc_run::{Status, run_explain};
+use tcc_run::{Options, Status, run_explain};
 
 fn main(rt: HostRuntime) -> ExitCode {
     let mut out = io::writer(&rt);
     let code = match command_line::read(&rt, &mut out) {
-        Ok(Request::Explain { json }) => run_explain(&rt, rt.alloc(), rt.stdin(), &mut out, json),
+        Ok(Request::Explain { json }) => {
+            run_explain(&rt, rt.alloc(), rt.stdin(), &mut out, Options { json })
+        }
         Ok(
             Request::Check {
                 history,

@@ -1,10 +1,8 @@
 -- Lines among the bytes that wait and those that are still to come.
-use Rattle.std.proofs.Common.{◌≡◌, ℕ, ◌+◌, ◌-◌, ◌<◌, ◌≤◌, Bool, true, false, not, cond, eqb, ltb, List, [], ◌∷◌, ◌++◌, length, take, drop, Option, None, Some, Ok, Err, refl, sym, ap, ◌∙◌, arith, append_assoc, append-nil, length-append, take-append-drop, inl, inr}
-use Rattle.tcc_cert.specs.declared.version_1.TheConstants.{V1_MAX_LINE_BYTES}
-use Rattle.tcc_cert.specs.declared.reading.window.TheConstants.{WINDOW_BYTES}
+use Rattle.std.proofs.Common.{◌≡◌, ℕ, ◌+◌, ◌-◌, ◌<◌, ◌≤◌, ◌⊎◌, Bool, true, false, not, cond, eqb, ltb, List, [], ◌∷◌, ◌++◌, length, take, drop, Option, None, Some, Ok, Err, refl, sym, ap, ◌∙◌, arith, append_assoc, append-nil, length-append, take-append-drop, inl, inr}
 use Rattle.std.specs.Prelude.{position}
 use Rattle.std.specs.Io.KnownBytes.{Consumes, IsAtEnd, prepend_known}
-use Rattle.std.proofs.lemmas.Bool.{cases_lt, false≢true}
+use Rattle.std.proofs.lemmas.Bool.{cases_lt}
 use Rattle.std.proofs.lemmas.Bool.Decides.{nat_tests}
 use Rattle.std.proofs.lemmas.List.Folds.{prefix_len-append}
 use Rattle.std.proofs.lemmas.List.Sums.{prefix_len-le-length}
@@ -92,23 +90,26 @@ passed-front (Some xs) held bytes n within known =
 
 -- ---- the next line
 
-pub line-found : (held rest : List ℕ) → line_length held < length held → length held ≤ WINDOW_BYTES → line_of (held ++ rest) ≡ Ok (take (line_length held) held)
-line-found held rest lt fits =
-    let within : ltb V1_MAX_LINE_BYTES (line_length held) ≡ false = grind (arith, nat_tests) in
+pub line-found : (most : ℕ) (held rest : List ℕ) → line_length held < length held → line_length held ≤ most → line_of most (held ++ rest) ≡ Ok (take (line_length held) held)
+line-found most held rest lt fits =
+    let within : ltb most (line_length held) ≡ false = grind (arith, nat_tests) in
     let there : ltb (line_length held) (length (held ++ rest)) ≡ true = grind (arith, nat_tests, length-append held rest) in
     rw (ended-within held rest lt, within, there) (ap Ok (take-append-le (line_length held) held rest (omega arith)))
 
-pub line-too-long : (held rest : List ℕ) → line_length held ≡ length held → WINDOW_BYTES ≤ length held → line_of (held ++ rest) ≡ Err TooLarge
-line-too-long held rest none full =
-    let over : ltb V1_MAX_LINE_BYTES (length held + line_length rest) ≡ true = grind (arith, nat_tests) in
-    rw (unbroken held rest none, over) refl
+-- more bytes stand before the line feed, or without one
+no-shorter : (held rest : List ℕ) → (line_length held < length held) ⊎ (length held ≤ line_length held) → line_length held ≤ line_length (held ++ rest)
+no-shorter held rest (inl lt) = omega (arith, ended-within held rest lt)
+no-shorter held rest (inr le) = omega (arith, unbroken held rest (omega (arith, length-within held)), le, length-within held)
 
-pub line-cut : (held more : List ℕ) → length more ≡ 0 → line_length held ≡ length held → length held < WINDOW_BYTES → line_of (held ++ more) ≡ Err Truncated
-line-cut held [] end none short =
-    let within : ltb V1_MAX_LINE_BYTES (length held) ≡ false = grind (arith, nat_tests) in
+pub line-too-long : (most : ℕ) (held rest : List ℕ) → most < line_length held → line_of most (held ++ rest) ≡ Err TooLarge
+line-too-long most held rest full =
+    let on = no-shorter held rest (cases_lt (line_length held) (length held)) in
+    let over : ltb most (line_length (held ++ rest)) ≡ true = grind (arith, nat_tests) in
+    rw over refl
+
+pub line-cut : (most : ℕ) (held more : List ℕ) → length more ≡ 0 → line_length held ≡ length held → length held ≤ most → line_of most (held ++ more) ≡ Err Truncated
+line-cut most held [] end none short =
+    let within : ltb most (length held) ≡ false = grind (arith, nat_tests) in
     let last : ltb (length held) (length held) ≡ false = grind (arith, nat_tests) in
-    ap line_of (append-nil held) ∙ rw (none, within, last) refl
-line-cut held (byte ∷ more) end none short = absurd (omega arith)
-
-pub below_full : (full : Bool) (n : ℕ) → full ≡ false → (WINDOW_BYTES ≤ n → full ≡ true) → n < WINDOW_BYTES
-below_full full n room if_full = elim (cases_lt n WINDOW_BYTES) [ inl lt ↦ lt | inr le ↦ absurd (false≢true (sym room ∙ if_full le)) ]
+    ap (line_of most) (append-nil held) ∙ rw (none, within, last) refl
+line-cut most held (byte ∷ more) end none short = absurd (omega arith)

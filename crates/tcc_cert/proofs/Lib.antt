@@ -2,6 +2,8 @@ pub mod WorkedTexts
 pub mod SentFacts
 pub mod Items
 pub mod WorkedReading
+pub mod RangeFacts
+pub mod Numbered
 pub mod ReadingFacts
 pub mod LinesBack
 pub mod FormsBack

@@ -1,6 +1,7 @@
 -- Keys, steps and links are read as they were written.
 use Rattle.std.proofs.Common.{◌≡◌, ℕ, ◌+◌, ◌<◌, ◌≤◌, Bool, true, false, not, cond, eqb, ltb, List, [], ◌∷◌, ◌++◌, length, map, All, Option, Some, None, Ok, refl, ap, ◌∙◌, arith, append_assoc, append-nil, inl, inr, codes, decimal, lit<}
-use Rattle.tcc_cert.specs.declared.version_1.TheConstants.{V1_MAX_COUNT, V1_MAX_LINE_BYTES, V1_MAX_NUMBER}
+use Rattle.tcc_cert.specs.declared.version.Version.{Version}
+use Rattle.tcc_cert.specs.Ranges.{ranges_of}
 use Rattle.std.specs.Prelude.{nat_le, position, option_map}
 use Rattle.std.specs.List.{AllByRecursion, prefix_len}
 use Rattle.std.proofs.lemmas.Bool.{cases_lt}
@@ -19,7 +20,8 @@ use Rattle.tcc_cert.specs.Reading.{head_of_step, step_line, head_line, words, re
 use Rattle.tcc_cert.proofs.Items.{flat_map-map}
 use Rattle.tcc_cert.proofs.ReadingFacts.{IsAbove, AreWords, later, decimal-above, number_of-decimal}
 use Rattle.tcc_cert.proofs.LinesBack.{at, then_ok, words-line, line-at, IsReadBack, IsReadAt, repeated-back}
-use Rattle.tcc_cert.proofs.FormsBack.{IsPlainKey, four_digits, session-back}
+use Rattle.tcc_cert.proofs.RangeFacts.{counts, lines}
+use Rattle.tcc_cert.proofs.FormsBack.{IsPlainKey, number-word, number-back, four_digits, session-back}
 
 -- ---- keys
 
@@ -67,18 +69,20 @@ key-parts key h =
 
 -- ---- steps
 
-pub reads-back : (u v : ℕ) (key : List ℕ) → HasStepText (step.Reads u v key) → IsReadBack step_line step_words (step.Reads u v key)
-reads-back u v key h =
+pub reads-back : (v : Version) (a b : ℕ) (key : List ℕ) → HasStepText v (step.Reads a b key) → IsReadBack v (step_line v) step_words (step.Reads a b key)
+reads-back v a b key h =
     let k = key-parts key h.2 in
+    let first = number-word v a h.0 in
+    let second = number-word v b h.1 in
     record {
-      are = (lit< tt, (lit< tt, tt), (decimal_nonempty u (omega (arith, h.0)), decimal-above u (omega (arith, h.0)), (decimal_nonempty v (omega (arith, h.1)), decimal-above v (omega (arith, h.1)), (k.0, k.2, tt))));
-      short = omega (arith, length-append (decimal u) (later (decimal v ∷ key ∷ [])), length-append (decimal v) (later (key ∷ [])), length-append key [], four_digits u h.0, four_digits v h.1, k.1);
-      back = rw (number_of-decimal 0 V1_MAX_NUMBER u (omega arith) h.0 (omega (arith, h.0)), number_of-decimal 0 V1_MAX_NUMBER v (omega arith) h.1 (omega (arith, h.1)), h.2) refl;
+      are = (lit< tt, (lit< tt, tt), (first.0, first.1, (second.0, second.1, (k.0, k.2, tt))));
+      short = omega (arith, lines v, length-append (decimal a) (later (decimal b ∷ key ∷ [])), length-append (decimal b) (later (key ∷ [])), length-append key [], four_digits v a h.0, four_digits v b h.1, k.1);
+      back = rw (number-back v a h.0, number-back v b h.1, h.2) refl;
     }
 
-pub step-back : (s : Step) → HasStepText s → IsReadBack step_line step_words s
-step-back (step.Session u v) h = session-back u v h
-step-back (step.Reads u v key) h = reads-back u v key h
+pub step-back : (v : Version) (s : Step) → HasStepText v s → IsReadBack v (step_line v) step_words s
+step-back v (step.Session a b) h = session-back v a b h
+step-back v (step.Reads a b key) h = reads-back v a b key h
 
 -- ---- links
 
@@ -86,74 +90,78 @@ pub each : {X : Type 0} {P Q : X → Type 0} (xs : List X) → ((x : X) → P x 
 each [] f all = tt
 each (x ∷ xs) f all = (f x all.0, each xs f all.1)
 
-pub walk-at : (walk : List Step) → All HasStepText walk → (n : ℕ) (rest : List ℕ)
-    → (end : ℕ) × (repeated (words step_line) (length walk) (at n (lines_text (map step_words walk) ++ rest)) ≡ Ok (walk, at end rest))
-walk-at walk h n rest =
+pub walk-at : (v : Version) (walk : List Step) → All (HasStepText v) walk → (n : ℕ) (rest : List ℕ)
+    → (end : ℕ) × (repeated (words v (step_line v)) (length walk) (at n (lines_text (map step_words walk) ++ rest)) ≡ Ok (walk, at end rest))
+walk-at v walk h n rest =
     rw (flat_map-map line_text step_words walk)
-    (repeated-back (words step_line) (λ s. line_text (step_words s)) walk (each walk (λ s t. line-at step_line step_words s (step-back s t)) (recursion_from_All HasStepText walk h)) n rest)
+    (repeated-back (words v (step_line v)) (λ s. line_text (step_words s)) walk (each walk (λ s t. line-at v (step_line v) step_words s (step-back v s t)) (recursion_from_All (HasStepText v) walk h)) n rest)
 
-session-head : (u v : ℕ) → HasStepText (step.Session u v) → head_line (step_words (step.Session u v)) ≡ Ok (head_of_step (step.Session u v))
-session-head u v h = rw (number_of-decimal 0 V1_MAX_NUMBER u (omega arith) h.0 (omega (arith, h.0)), number_of-decimal 0 V1_MAX_NUMBER v (omega arith) h.1 (omega (arith, h.1))) refl
+session-head : (v : Version) (a b : ℕ) → HasStepText v (step.Session a b) → head_line v (step_words (step.Session a b)) ≡ Ok (head_of_step (step.Session a b))
+session-head v a b h = rw (number-back v a h.0, number-back v b h.1) refl
 
-reads-head : (u v : ℕ) (key : List ℕ) → HasStepText (step.Reads u v key) → head_line (step_words (step.Reads u v key)) ≡ Ok (head_of_step (step.Reads u v key))
-reads-head u v key h = rw (number_of-decimal 0 V1_MAX_NUMBER u (omega arith) h.0 (omega (arith, h.0)), number_of-decimal 0 V1_MAX_NUMBER v (omega arith) h.1 (omega (arith, h.1)), h.2) refl
+reads-head : (v : Version) (a b : ℕ) (key : List ℕ) → HasStepText v (step.Reads a b key) → head_line v (step_words (step.Reads a b key)) ≡ Ok (head_of_step (step.Reads a b key))
+reads-head v a b key h = rw (number-back v a h.0, number-back v b h.1, h.2) refl
 
 abbrev derived_words : ℕ → ℕ → List ℕ → ℕ → ℕ → Words
 derived_words b a key c w = codes "D" ∷ decimal b ∷ decimal a ∷ key ∷ decimal c ∷ decimal w ∷ []
 
-derived-are : (b a : ℕ) (key : List ℕ) (c w : ℕ) → IsNumber b → IsNumber a → IsKey key → IsNumber c → IsCount w → AreWords (derived_words b a key c w)
-derived-are b a key c w hb ha hk hc hw =
+derived-are : (v : Version) (b a : ℕ) (key : List ℕ) (c w : ℕ) → IsNumber v b → IsNumber v a → IsKey key → IsNumber v c → IsCount v w → AreWords (derived_words b a key c w)
+derived-are v b a key c w hb ha hk hc hw =
     let k = key-parts key hk in
-    (lit< tt, (lit< tt, tt), (decimal_nonempty b (omega (arith, hb)), decimal-above b (omega (arith, hb)), (decimal_nonempty a (omega (arith, ha)), decimal-above a (omega (arith, ha)), (k.0, k.2, (decimal_nonempty c (omega (arith, hc)), decimal-above c (omega (arith, hc)), (decimal_nonempty w (omega (arith, hw.limit)), decimal-above w (omega (arith, hw.limit)), tt))))))
+    let first = number-word v b hb in
+    let second = number-word v a ha in
+    let third = number-word v c hc in
+    (lit< tt, (lit< tt, tt), (first.0, first.1, (second.0, second.1, (k.0, k.2, (third.0, third.1, (decimal_nonempty w (omega (arith, hw.limit, counts v)), decimal-above w (omega (arith, hw.limit, counts v)), tt))))))
 
-derived-short : (b a : ℕ) (key : List ℕ) (c w : ℕ) → IsNumber b → IsNumber a → IsKey key → IsNumber c → IsCount w → length (words_text (derived_words b a key c w)) ≤ V1_MAX_LINE_BYTES
-derived-short b a key c w hb ha hk hc hw =
+derived-short : (v : Version) (b a : ℕ) (key : List ℕ) (c w : ℕ) → IsNumber v b → IsNumber v a → IsKey key → IsNumber v c → IsCount v w → length (words_text (derived_words b a key c w)) ≤ (ranges_of v).line_bytes
+derived-short v b a key c w hb ha hk hc hw =
     let k = key-parts key hk in
     omega (
       arith,
+      lines v,
       length-append (decimal b) (later (decimal a ∷ key ∷ decimal c ∷ decimal w ∷ [])),
       length-append (decimal a) (later (key ∷ decimal c ∷ decimal w ∷ [])),
       length-append key (later (decimal c ∷ decimal w ∷ [])),
       length-append (decimal c) (later (decimal w ∷ [])),
       length-append (decimal w) [],
-      four_digits b hb,
-      four_digits a ha,
-      four_digits c hc,
-      length-decimal-le 4 w (lit< tt) (omega (arith, hw.limit)) (omega (arith, hw.limit)),
+      four_digits v b hb,
+      four_digits v a ha,
+      four_digits v c hc,
+      length-decimal-le 4 w (lit< tt) (omega (arith, hw.limit, counts v)) (omega (arith, hw.limit, counts v)),
       k.1,
     )
 
-derived-head : (b a : ℕ) (key : List ℕ) (c w : ℕ) → IsNumber b → IsNumber a → IsKey key → IsNumber c → IsCount w
-    → head_line (derived_words b a key c w) ≡ Ok (record { link = link.Derived b a key c []; steps = w })
-derived-head b a key c w hb ha hk hc hw =
+derived-head : (v : Version) (b a : ℕ) (key : List ℕ) (c w : ℕ) → IsNumber v b → IsNumber v a → IsKey key → IsNumber v c → IsCount v w
+    → head_line v (derived_words b a key c w) ≡ Ok (record { link = link.Derived b a key c []; steps = w })
+derived-head v b a key c w hb ha hk hc hw =
     rw (
-      number_of-decimal 0 V1_MAX_NUMBER b (omega arith) hb (omega (arith, hb)),
-      number_of-decimal 0 V1_MAX_NUMBER a (omega arith) ha (omega (arith, ha)),
+      number-back v b hb,
+      number-back v a ha,
       hk,
-      number_of-decimal 0 V1_MAX_NUMBER c (omega arith) hc (omega (arith, hc)),
-      number_of-decimal 1 V1_MAX_COUNT w hw.some hw.limit (omega (arith, hw.limit)),
+      number-back v c hc,
+      number_of-decimal 1 (ranges_of v).count w hw.some hw.limit (omega (arith, hw.limit, counts v)),
     ) refl
 
 one_line : (line rest : List ℕ) → (line ++ []) ++ rest ≡ line ++ rest
 one_line line rest = ap (λ l. l ++ rest) (append-nil line)
 
-pub link-back : (l : Link) → HasLinkText l → IsReadAt link_at (λ m. lines_text (link_lines m)) l
-link-back (link.Session u v) h n rest =
-    let b = session-back u v h in
-    let head = words-line head_line n (step_words (step.Session u v)) rest b.are b.short (head_of_step (step.Session u v)) (session-head u v h) in
-    (n + 1, ap (λ bytes. link_at (at n bytes)) (one_line (line_text (step_words (step.Session u v))) rest) ∙ then_ok walk_of head)
-link-back (link.Reads u v key) h n rest =
-    let b = reads-back u v key h in
-    let head = words-line head_line n (step_words (step.Reads u v key)) rest b.are b.short (head_of_step (step.Reads u v key)) (reads-head u v key h) in
-    (n + 1, ap (λ bytes. link_at (at n bytes)) (one_line (line_text (step_words (step.Reads u v key))) rest) ∙ then_ok walk_of head)
-link-back (link.Derived b a key c walk) h n rest =
+pub link-back : (v : Version) (l : Link) → HasLinkText v l → IsReadAt (link_at v) (λ m. lines_text (link_lines m)) l
+link-back v (link.Session a b) h n rest =
+    let back = session-back v a b h in
+    let head = words-line v (head_line v) n (step_words (step.Session a b)) rest back.are back.short (head_of_step (step.Session a b)) (session-head v a b h) in
+    (n + 1, ap (λ bytes. link_at v (at n bytes)) (one_line (line_text (step_words (step.Session a b))) rest) ∙ then_ok (walk_of v) head)
+link-back v (link.Reads a b key) h n rest =
+    let back = reads-back v a b key h in
+    let head = words-line v (head_line v) n (step_words (step.Reads a b key)) rest back.are back.short (head_of_step (step.Reads a b key)) (reads-head v a b key h) in
+    (n + 1, ap (λ bytes. link_at v (at n bytes)) (one_line (line_text (step_words (step.Reads a b key))) rest) ∙ then_ok (walk_of v) head)
+link-back v (link.Derived b a key c walk) h n rest =
     let later_lines = lines_text (map step_words walk) ++ rest in
-    let head = words-line head_line n (derived_words b a key c (length walk)) later_lines (derived-are b a key c (length walk) h.0 h.1 h.2 h.3 h.4)
-    (derived-short b a key c (length walk) h.0 h.1 h.2 h.3 h.4) (record { link = link.Derived b a key c []; steps = length walk })
-    (derived-head b a key c (length walk) h.0 h.1 h.2 h.3 h.4) in
-    let steps = walk-at walk h.5 (n + 1) rest in (
+    let head = words-line v (head_line v) n (derived_words b a key c (length walk)) later_lines (derived-are v b a key c (length walk) h.0 h.1 h.2 h.3 h.4)
+    (derived-short v b a key c (length walk) h.0 h.1 h.2 h.3 h.4) (record { link = link.Derived b a key c []; steps = length walk })
+    (derived-head v b a key c (length walk) h.0 h.1 h.2 h.3 h.4) in
+    let steps = walk-at v walk h.5 (n + 1) rest in (
       steps.0,
-      ap (λ bytes. link_at (at n bytes)) (append_assoc (line_text (derived_words b a key c (length walk))) (lines_text (map step_words walk)) rest)
-          ∙ then_ok walk_of head
+      ap (λ bytes. link_at v (at n bytes)) (append_assoc (line_text (derived_words b a key c (length walk))) (lines_text (map step_words walk)) rest)
+          ∙ then_ok (walk_of v) head
           ∙ then_ok (λ read. Ok (with_walk (link.Derived b a key c []) read.0, read.1)) steps.1,
     )

@@ -1,6 +1,7 @@
 -- What is read has a text, and was read from that text alone.
-use Rattle.std.proofs.Common.{◌≡◌, ◌⊎◌, ℕ, zero, suc, ◌+◌, ◌^◌, ◌<◌, ◌≤◌, Bool, true, false, not, ◌&&◌, ◌||◌, cond, eqb, ltb, List, [], ◌∷◌, ◌++◌, length, get_or, take, drop, map, flat_map, Option, None, Some, Result, Ok, Err, inl, inr, refl, sym, ap, subst, ◌∙◌, arith, append_assoc, append-nil, codes, decimal, lit<}
-use Rattle.tcc_cert.specs.declared.version_1.TheConstants.{V1_MAX_COUNT, V1_MAX_LINE_BYTES, V1_MAX_NUMBER}
+use Rattle.std.proofs.Common.{◌≡◌, ◌⊎◌, ℕ, zero, suc, ◌+◌, ◌^◌, ◌<◌, ◌≤◌, Bool, true, false, not, ◌&&◌, ◌||◌, cond, eqb, ltb, List, [], ◌∷◌, ◌++◌, length, get_or, take, drop, map, flat_map, Option, None, Some, Result, Ok, Err, inl, inr, refl, sym, ap, subst, ◌∙◌, arith, append_assoc, append-nil, codes, decimal}
+use Rattle.tcc_cert.specs.declared.version.Version.{Version}
+use Rattle.tcc_cert.specs.Ranges.{ranges_of}
 use Rattle.std.specs.Prelude.{is_some}
 use Rattle.std.specs.List.{AllByRecursion, join_with_byte}
 use Rattle.std.specs.Str.{all_ascii_digits}
@@ -24,7 +25,9 @@ use Rattle.tcc_cert.specs.declared.fault.CertFaultKind.{CertFaultKind}
 use Rattle.tcc_cert.specs.declared.fault.CertFaultKind.TheVariants.{Word, Number, Count, TooLarge, Truncated}
 use Rattle.tcc_cert.specs.declared.reading.forms.Head.{Head}
 use Rattle.tcc_cert.specs.Texts.{Words, words_text, line_text, lines_text, numbers_words, step_words, link_lines, IsNumber, IsCount, IsKey, HasStepText, HasLinkText}
-use Rattle.tcc_cert.specs.Reading.{◌>>=◌, words_of, parted, is_decimal, number_of, transaction_of, count_of, key_of, word_line, numbers_of, numbers_line, two_words, three_words, five_words, session_of, reads_of, step_line, head_of_step, derived_of, head_line, Place, Reads, judged, line_length, line_of, behind, next, words, repeated, walk_of, link_at}
+use Rattle.tcc_cert.specs.Reading.{◌>>=◌, words_of, parted, is_decimal, number_of, transaction_of, count_of, key_of, word_line, numbers_of, numbers_line, two_words, three_words, five_words, session_of, reads_of, step_line, head_of_step, derived_of, head_line, Place, Reads, judged, line_length, line_of, behind, next, words, numbered, repeated, walk_of, link_at}
+use Rattle.tcc_cert.proofs.RangeFacts.{numbers, counts}
+use Rattle.tcc_cert.proofs.Numbered.{EachFrom, same-each}
 use Rattle.tcc_cert.proofs.Items.{flat_map-map}
 
 -- ---- what a reading that went well says of its parts
@@ -85,12 +88,12 @@ number-text least most word n small e =
     let spelled = decimal-digits_value (numerals_by_value _ tells_all_ascii_digits) word parts.1 some (λ is_zero. lone-zero word parts.2 is_zero some) (omega arith) in
     record { low = omega arith; high = omega arith; text = sym spelled ∙ ap decimal is }
 
-pub number : (word : List ℕ) (n : ℕ) → transaction_of word ≡ Ok n → IsNumeralOf 0 V1_MAX_NUMBER word n
-number word n e = number-text 0 V1_MAX_NUMBER word n (lit< tt) e
+pub number : (v : Version) (word : List ℕ) (n : ℕ) → transaction_of v word ≡ Ok n → IsNumeralOf 0 (ranges_of v).number word n
+number v word n e = number-text 0 (ranges_of v).number word n (omega (arith, numbers v)) e
 
-pub count : (word : List ℕ) (n : ℕ) → count_of word ≡ Ok n → (word ≡ decimal n) × IsCount n
-count word n e =
-    let is = number-text 1 V1_MAX_COUNT word n (lit< tt) e in
+pub count : (v : Version) (word : List ℕ) (n : ℕ) → count_of v word ≡ Ok n → (word ≡ decimal n) × IsCount v n
+count v word n e =
+    let is = number-text 1 (ranges_of v).count word n (omega (arith, counts v)) e in
     (is.text, record { some = is.low; limit = is.high })
 
 key-fault : (o : Option NameFault) (key : List ℕ) (word : List ℕ) → cond (is_some o) (Err Word) (Ok word) ≡ Ok key → (o ≡ None) × (word ≡ key)
@@ -164,47 +167,47 @@ more_equal p q = cc
 
 -- ---- steps
 
-session : (u v : List ℕ) (s : Step) → session_of u v ≡ Ok s → HasStepText s × (codes "S" ∷ u ∷ v ∷ [] ≡ step_words s)
-session u v s e =
-    let first = then_parts (transaction_of u) _ s e in
-    let second = then_parts (transaction_of v) _ s first.2 in
-    let a = number u first.0 first.1 in
-    let b = number v second.0 second.1 in
-    subst (λ t. HasStepText t × (codes "S" ∷ u ∷ v ∷ [] ≡ step_words t)) (same_ok second.2) ((a.high, b.high), two_equal (codes "S") a.text b.text)
+session : (version : Version) (u v : List ℕ) (s : Step) → session_of version u v ≡ Ok s → HasStepText version s × (codes "S" ∷ u ∷ v ∷ [] ≡ step_words s)
+session version u v s e =
+    let first = then_parts (transaction_of version u) _ s e in
+    let second = then_parts (transaction_of version v) _ s first.2 in
+    let a = number version u first.0 first.1 in
+    let b = number version v second.0 second.1 in
+    subst (λ t. HasStepText version t × (codes "S" ∷ u ∷ v ∷ [] ≡ step_words t)) (same_ok second.2) ((a.high, b.high), two_equal (codes "S") a.text b.text)
 
-reads : (u v w : List ℕ) (s : Step) → reads_of u v w ≡ Ok s → HasStepText s × (codes "R" ∷ u ∷ v ∷ w ∷ [] ≡ step_words s)
-reads u v w s e =
-    let first = then_parts (transaction_of u) _ s e in
-    let second = then_parts (transaction_of v) _ s first.2 in
+reads : (version : Version) (u v w : List ℕ) (s : Step) → reads_of version u v w ≡ Ok s → HasStepText version s × (codes "R" ∷ u ∷ v ∷ w ∷ [] ≡ step_words s)
+reads version u v w s e =
+    let first = then_parts (transaction_of version u) _ s e in
+    let second = then_parts (transaction_of version v) _ s first.2 in
     let third = then_parts (key_of w) _ s second.2 in
-    let a = number u first.0 first.1 in
-    let b = number v second.0 second.1 in
+    let a = number version u first.0 first.1 in
+    let b = number version v second.0 second.1 in
     let k = key w third.0 third.1 in
-    subst (λ t. HasStepText t × (codes "R" ∷ u ∷ v ∷ w ∷ [] ≡ step_words t)) (same_ok third.2) ((a.high, b.high, k.1), three_equal (codes "R") a.text b.text k.0)
+    subst (λ t. HasStepText version t × (codes "R" ∷ u ∷ v ∷ w ∷ [] ≡ step_words t)) (same_ok third.2) ((a.high, b.high, k.1), three_equal (codes "R") a.text b.text k.0)
 
 pub choice : {A : Type 0} (t : Bool) (x y z : A) → cond t x y ≡ z → ((t ≡ true) × (x ≡ z)) ⊎ ((t ≡ false) × (y ≡ z))
 choice true x y z e = inl (refl, e)
 choice false x y z e = inr (refl, e)
 
-step-second : (word : List ℕ) (fields : Words) (s : Step) → cond (same word (codes "R")) (three_words reads_of fields) (Err Word) ≡ Ok s → HasStepText s × (word ∷ fields ≡ step_words s)
-step-second word fields s e =
-    let is = allowed_parts (same word (codes "R")) Word (three_words reads_of fields) s e in
-    let parts = three_parts reads_of fields s is.1 in
-    let read = reads parts.0 parts.1 parts.2 s parts.4 in
+step-second : (version : Version) (word : List ℕ) (fields : Words) (s : Step) → cond (same word (codes "R")) (three_words (reads_of version) fields) (Err Word) ≡ Ok s → HasStepText version s × (word ∷ fields ≡ step_words s)
+step-second version word fields s e =
+    let is = allowed_parts (same word (codes "R")) Word (three_words (reads_of version) fields) s e in
+    let parts = three_parts (reads_of version) fields s is.1 in
+    let read = reads version parts.0 parts.1 parts.2 s parts.4 in
     (read.0, rw (same-bytes word (codes "R") is.0, parts.3) read.1)
 
-step-choice : (word : List ℕ) (fields : Words) (s : Step)
-    → ((same word (codes "S") ≡ true) × (two_words session_of fields ≡ Ok s)) ⊎ ((same word (codes "S") ≡ false) × (cond (same word (codes "R")) (three_words reads_of fields) (Err Word) ≡ Ok s))
-    → HasStepText s × (word ∷ fields ≡ step_words s)
-step-choice word fields s (inl is) =
-    let parts = two_parts session_of fields s is.1 in
-    let read = session parts.0 parts.1 s parts.3 in
+step-choice : (version : Version) (word : List ℕ) (fields : Words) (s : Step)
+    → ((same word (codes "S") ≡ true) × (two_words (session_of version) fields ≡ Ok s)) ⊎ ((same word (codes "S") ≡ false) × (cond (same word (codes "R")) (three_words (reads_of version) fields) (Err Word) ≡ Ok s))
+    → HasStepText version s × (word ∷ fields ≡ step_words s)
+step-choice version word fields s (inl is) =
+    let parts = two_parts (session_of version) fields s is.1 in
+    let read = session version parts.0 parts.1 s parts.3 in
     (read.0, rw (same-bytes word (codes "S") is.0, parts.2) read.1)
-step-choice word fields s (inr is) = step-second word fields s is.1
+step-choice version word fields s (inr is) = step-second version word fields s is.1
 
-pub step-text : (ws : Words) (s : Step) → step_line ws ≡ Ok s → HasStepText s × (ws ≡ step_words s)
-step-text [] s e = absurd cc
-step-text (word ∷ fields) s e = step-choice word fields s (choice (same word (codes "S")) (two_words session_of fields) _ (Ok s) e)
+pub step-text : (version : Version) (ws : Words) (s : Step) → step_line version ws ≡ Ok s → HasStepText version s × (ws ≡ step_words s)
+step-text version [] s e = absurd cc
+step-text version (word ∷ fields) s e = step-choice version word fields s (choice (same word (codes "S")) (two_words (session_of version) fields) _ (Ok s) e)
 
 -- ---- lines of numbers
 
@@ -245,10 +248,10 @@ judged-parts at after (Ok y) x end e =
 judged-parts at after (Err kind) x end e = absurd cc
 
 -- a line and its line feed stand before what is behind it
-pub line-text : (bytes line : List ℕ) → line_of bytes ≡ Ok line → bytes ≡ line ++ 10 ∷ drop (length line + 1) bytes
-line-text bytes line e =
+pub line-text : (most : ℕ) (bytes line : List ℕ) → line_of most bytes ≡ Ok line → bytes ≡ line ++ 10 ∷ drop (length line + 1) bytes
+line-text most bytes line e =
     let n = line_length bytes in
-    let first = refused_parts (ltb V1_MAX_LINE_BYTES n) TooLarge (cond (ltb n (length bytes)) (Ok (take n bytes)) (Err Truncated)) line e in
+    let first = refused_parts (ltb most n) TooLarge (cond (ltb n (length bytes)) (Ok (take n bytes)) (Err Truncated)) line e in
     let second = allowed_parts (ltb n (length bytes)) Truncated (Ok (take n bytes)) line first.1 in
     let within : n < length bytes = grind (arith, nat_tests, second.0) in
     let is : take n bytes ≡ line = same_ok second.1 in
@@ -257,18 +260,18 @@ line-text bytes line e =
     split_at_first (λ byte. eqb byte 10) bytes 0 within ∙ rw (feed, is, long) refl
 
 -- the next line
-pub next-text : {X : Type 0} (form : List ℕ → Result X CertFaultKind) (at after : Place) (x : X) → next form at ≡ Ok (x, after)
+pub next-text : {X : Type 0} (most : ℕ) (form : List ℕ → Result X CertFaultKind) (at after : Place) (x : X) → next most form at ≡ Ok (x, after)
     → (line : List ℕ) × (form line ≡ Ok x) × (at.bytes ≡ line ++ 10 ∷ after.bytes)
-next-text form at after x e =
-    let first = then_parts (judged at at (line_of at.bytes)) _ (x, after) e in
-    let line = judged-parts at at (line_of at.bytes) first.0.0 first.0.1 first.1 in
+next-text most form at after x e =
+    let first = then_parts (judged at at (line_of most at.bytes)) _ (x, after) e in
+    let line = judged-parts at at (line_of most at.bytes) first.0.0 first.0.1 first.1 in
     let shown = judged-parts at (behind at first.0.0) (form first.0.0) x after first.2 in
-    (first.0.0, shown.0, line-text at.bytes first.0.0 line.0 ∙ ap (λ p. first.0.0 ++ 10 ∷ p.bytes) shown.1)
+    (first.0.0, shown.0, line-text most at.bytes first.0.0 line.0 ∙ ap (λ p. first.0.0 ++ 10 ∷ p.bytes) shown.1)
 
-pub words-text : {X : Type 0} (form : Words → Result X CertFaultKind) (at after : Place) (x : X) → words form at ≡ Ok (x, after)
+pub words-text : {X : Type 0} (v : Version) (form : Words → Result X CertFaultKind) (at after : Place) (x : X) → words v form at ≡ Ok (x, after)
     → (ws : Words) × (form ws ≡ Ok x) × (at.bytes ≡ line_text ws ++ after.bytes)
-words-text form at after x e =
-    let read = next-text (λ line. form (words_of line)) at after x e in
+words-text v form at after x e =
+    let read = next-text (ranges_of v).line_bytes (λ line. form (words_of line)) at after x e in
     let split = append_assoc (words_text (words_of read.0)) (10 ∷ []) after.bytes in
     (words_of read.0, read.1, read.2 ∙ ap (λ l. l ++ 10 ∷ after.bytes) (sym (words-back read.0)) ∙ sym split)
 
@@ -278,63 +281,69 @@ words-text form at after x e =
 abbrev pub IsReadFrom : {X : Type 0} → (Place → Reads X) → (X → Type 0) → (X → List ℕ) → Type 0
 IsReadFrom {X = X} read property text = (at after : Place) (x : X) → read at ≡ Ok (x, after) → property x × (at.bytes ≡ text x ++ after.bytes)
 
-pub repeated-text : {X : Type 0} (read : Place → Reads X) (property : X → Type 0) (text : X → List ℕ) → IsReadFrom read property text → (n : ℕ) (at after : Place) (xs : List X) → repeated read n at ≡ Ok (xs, after)
-    → AllByRecursion property xs × (length xs ≡ n) × (at.bytes ≡ flat_map text xs ++ after.bytes)
-repeated-text read property text from zero at after xs e =
+pub numbered-text : {X : Type 0} (read : ℕ → Place → Reads X) (property : ℕ → X → Type 0) (text : X → List ℕ) → ((i : ℕ) → IsReadFrom (read i) (property i) text) → (from n : ℕ) (at after : Place) (xs : List X)
+    → numbered read from n at ≡ Ok (xs, after) → EachFrom property from xs × (length xs ≡ n) × (at.bytes ≡ flat_map text xs ++ after.bytes)
+numbered-text read property text each_from from zero at after xs e =
     let is = same_pair e in
-    subst (λ ys. AllByRecursion property ys × (length ys ≡ 0) × (at.bytes ≡ flat_map text ys ++ after.bytes)) is.0 (tt, refl, ap (λ p. p.bytes) is.1)
-repeated-text {X} read property text from (suc n) at after xs e =
-    let first = then_parts (read at) _ (xs, after) e in
-    let others = then_parts (repeated read n first.0.1) _ (xs, after) first.2 in
+    subst (λ ys. EachFrom property from ys × (length ys ≡ 0) × (at.bytes ≡ flat_map text ys ++ after.bytes)) is.0 (tt, refl, ap (λ p. p.bytes) is.1)
+numbered-text {X} read property text each_from from (suc n) at after xs e =
+    let first = then_parts (read from at) _ (xs, after) e in
+    let others = then_parts (numbered read (from + 1) n first.0.1) _ (xs, after) first.2 in
     let is = same_pair others.2 in
-    let one = from at first.0.1 first.0.0 first.1 in
-    let rest = repeated-text read property text from n first.0.1 others.0.1 others.0.0 others.1 in
+    let one = each_from from at first.0.1 first.0.0 first.1 in
+    let rest = numbered-text read property text each_from (from + 1) n first.0.1 others.0.1 others.0.0 others.1 in
     let whole : at.bytes ≡ flat_map text (first.0.0 ∷ others.0.0) ++ others.0.1.bytes =
     one.1 ∙ ap (λ t. text first.0.0 ++ t) rest.2 ∙ sym (append_assoc (text first.0.0) (flat_map text others.0.0) others.0.1.bytes) in
-    subst (λ ys. AllByRecursion property ys × (length ys ≡ suc n) × (at.bytes ≡ flat_map text ys ++ after.bytes)) is.0
+    subst (λ ys. EachFrom property from ys × (length ys ≡ suc n) × (at.bytes ≡ flat_map text ys ++ after.bytes)) is.0
     ((one.0, rest.0), ap (λ m. suc m) rest.1, whole ∙ ap (λ p. flat_map text (first.0.0 ∷ others.0.0) ++ p.bytes) is.1)
+
+pub repeated-text : {X : Type 0} (read : Place → Reads X) (property : X → Type 0) (text : X → List ℕ) → IsReadFrom read property text → (n : ℕ) (at after : Place) (xs : List X) → repeated read n at ≡ Ok (xs, after)
+    → AllByRecursion property xs × (length xs ≡ n) × (at.bytes ≡ flat_map text xs ++ after.bytes)
+repeated-text read property text from n at after xs e =
+    let all = numbered-text (λ i. read) (λ i. property) text (λ i. from) 0 n at after xs e in
+    (same-each property 0 xs all.0, all.1, all.2)
 
 -- ---- links
 
-pub step-from : IsReadFrom (words step_line) HasStepText (λ s. line_text (step_words s))
-step-from at after s e =
-    let line = words-text step_line at after s e in
-    let is = step-text line.0 s line.1 in
+pub step-from : (version : Version) → IsReadFrom (words version (step_line version)) (HasStepText version) (λ s. line_text (step_words s))
+step-from version at after s e =
+    let line = words-text version (step_line version) at after s e in
+    let is = step-text version line.0 s line.1 in
     (is.0, line.2 ∙ ap (λ ws. line_text ws ++ after.bytes) is.1)
 
 -- what the first line of a link says
-pub record IsDerivedHead (ws : Words) (head : Head) : Type 0 where
+pub record IsDerivedHead (version : Version) (ws : Words) (head : Head) : Type 0 where
   pub b : ℕ
   pub a : ℕ
   pub name : List ℕ
   pub c : ℕ
   pub w : ℕ
-  pub from : IsNumber b
-  pub to : IsNumber a
+  pub from : IsNumber version b
+  pub to : IsNumber version a
   pub is_key : IsKey name
-  pub reader : IsNumber c
-  pub steps : IsCount w
+  pub reader : IsNumber version c
+  pub steps : IsCount version w
   pub text : ws ≡ codes "D" ∷ decimal b ∷ decimal a ∷ name ∷ decimal c ∷ decimal w ∷ []
   pub is : head ≡ record { link = link.Derived b a name c []; steps = w }
 
-pub record IsStepHead (ws : Words) (head : Head) : Type 0 where
+pub record IsStepHead (version : Version) (ws : Words) (head : Head) : Type 0 where
   pub step_of : Step
-  pub has : HasStepText step_of
+  pub has : HasStepText version step_of
   pub text : ws ≡ step_words step_of
   pub is : head ≡ head_of_step step_of
 
-derived : (t u v w x : List ℕ) (head : Head) → derived_of t u v w x ≡ Ok head → IsDerivedHead (codes "D" ∷ t ∷ u ∷ v ∷ w ∷ x ∷ []) head
-derived t u v w x head e =
-    let first = then_parts (transaction_of t) _ head e in
-    let second = then_parts (transaction_of u) _ head first.2 in
+derived : (version : Version) (t u v w x : List ℕ) (head : Head) → derived_of version t u v w x ≡ Ok head → IsDerivedHead version (codes "D" ∷ t ∷ u ∷ v ∷ w ∷ x ∷ []) head
+derived version t u v w x head e =
+    let first = then_parts (transaction_of version t) _ head e in
+    let second = then_parts (transaction_of version u) _ head first.2 in
     let third = then_parts (key_of v) _ head second.2 in
-    let fourth = then_parts (transaction_of w) _ head third.2 in
-    let fifth = then_parts (count_of x) _ head fourth.2 in
-    let nb = number t first.0 first.1 in
-    let na = number u second.0 second.1 in
+    let fourth = then_parts (transaction_of version w) _ head third.2 in
+    let fifth = then_parts (count_of version x) _ head fourth.2 in
+    let nb = number version t first.0 first.1 in
+    let na = number version u second.0 second.1 in
     let k = key v third.0 third.1 in
-    let nc = number w fourth.0 fourth.1 in
-    let nw = count x fifth.0 fifth.1 in
+    let nc = number version w fourth.0 fourth.1 in
+    let nw = count version x fifth.0 fifth.1 in
     record {
       b = first.0;
       a = second.0;
@@ -350,56 +359,56 @@ derived t u v w x head e =
       is = sym (same_ok fifth.2);
     }
 
-head-choice : (word : List ℕ) (fields : Words) (head : Head)
-    → ((same word (codes "D") ≡ true) × (five_words derived_of fields ≡ Ok head)) ⊎ ((same word (codes "D") ≡ false) × ((step_line (word ∷ fields) >>= λ s. Ok (head_of_step s)) ≡ Ok head))
-    → IsDerivedHead (word ∷ fields) head ⊎ IsStepHead (word ∷ fields) head
-head-choice word fields head (inl is) =
-    let parts = five_parts derived_of fields head is.1 in
-    inl (rw (same-bytes word (codes "D") is.0, parts.5) (derived parts.0 parts.1 parts.2 parts.3 parts.4 head parts.6))
-head-choice word fields head (inr is) =
-    let parts = then_parts (step_line (word ∷ fields)) _ head is.1 in
-    let read = step-text (word ∷ fields) parts.0 parts.1 in
+head-choice : (version : Version) (word : List ℕ) (fields : Words) (head : Head)
+    → ((same word (codes "D") ≡ true) × (five_words (derived_of version) fields ≡ Ok head)) ⊎ ((same word (codes "D") ≡ false) × ((step_line version (word ∷ fields) >>= λ s. Ok (head_of_step s)) ≡ Ok head))
+    → IsDerivedHead version (word ∷ fields) head ⊎ IsStepHead version (word ∷ fields) head
+head-choice version word fields head (inl is) =
+    let parts = five_parts (derived_of version) fields head is.1 in
+    inl (rw (same-bytes word (codes "D") is.0, parts.5) (derived version parts.0 parts.1 parts.2 parts.3 parts.4 head parts.6))
+head-choice version word fields head (inr is) =
+    let parts = then_parts (step_line version (word ∷ fields)) _ head is.1 in
+    let read = step-text version (word ∷ fields) parts.0 parts.1 in
     inr (record { step_of = parts.0; has = read.0; text = read.1; is = sym (same_ok parts.2) })
 
-pub head-text : (ws : Words) (head : Head) → head_line ws ≡ Ok head → IsDerivedHead ws head ⊎ IsStepHead ws head
-head-text [] head e = absurd cc
-head-text (word ∷ fields) head e = head-choice word fields head (choice (same word (codes "D")) (five_words derived_of fields) _ (Ok head) e)
+pub head-text : (version : Version) (ws : Words) (head : Head) → head_line version ws ≡ Ok head → IsDerivedHead version ws head ⊎ IsStepHead version ws head
+head-text version [] head e = absurd cc
+head-text version (word ∷ fields) head e = head-choice version word fields head (choice (same word (codes "D")) (five_words (derived_of version) fields) _ (Ok head) e)
 
 -- a link of one step
-one-step : (s : Step) (at mid after : Place) (l : Link) → HasStepText s → at.bytes ≡ line_text (step_words s) ++ mid.bytes → walk_of (head_of_step s, mid) ≡ Ok (l, after)
-    → HasLinkText l × (at.bytes ≡ lines_text (link_lines l) ++ after.bytes)
-one-step (step.Session u v) at mid after l has text e =
+one-step : (version : Version) (s : Step) (at mid after : Place) (l : Link) → HasStepText version s → at.bytes ≡ line_text (step_words s) ++ mid.bytes → walk_of version (head_of_step s, mid) ≡ Ok (l, after)
+    → HasLinkText version l × (at.bytes ≡ lines_text (link_lines l) ++ after.bytes)
+one-step version (step.Session u v) at mid after l has text e =
     let is = same_pair e in
-    subst (λ m. HasLinkText m × (at.bytes ≡ lines_text (link_lines m) ++ after.bytes)) is.0
+    subst (λ m. HasLinkText version m × (at.bytes ≡ lines_text (link_lines m) ++ after.bytes)) is.0
     (has, text ∙ ap (λ t. t ++ mid.bytes) (sym (append-nil (line_text (step_words (step.Session u v))))) ∙ ap (λ p. lines_text (link_lines (link.Session u v)) ++ p.bytes) is.1)
-one-step (step.Reads u v k) at mid after l has text e =
+one-step version (step.Reads u v k) at mid after l has text e =
     let is = same_pair e in
-    subst (λ m. HasLinkText m × (at.bytes ≡ lines_text (link_lines m) ++ after.bytes)) is.0
+    subst (λ m. HasLinkText version m × (at.bytes ≡ lines_text (link_lines m) ++ after.bytes)) is.0
     (has, text ∙ ap (λ t. t ++ mid.bytes) (sym (append-nil (line_text (step_words (step.Reads u v k))))) ∙ ap (λ p. lines_text (link_lines (link.Reads u v k)) ++ p.bytes) is.1)
 
-link-choice : (ws : Words) (head : Head) (at mid after : Place) (l : Link) → at.bytes ≡ line_text ws ++ mid.bytes → walk_of (head, mid) ≡ Ok (l, after) → IsDerivedHead ws head ⊎ IsStepHead ws head
-    → HasLinkText l × (at.bytes ≡ lines_text (link_lines l) ++ after.bytes)
-link-choice ws head at mid after l text e (inr h) =
-    one-step h.step_of at mid after l h.has (text ∙ ap (λ words. line_text words ++ mid.bytes) h.text) (subst (λ read. walk_of (read, mid) ≡ Ok (l, after)) h.is e)
-link-choice ws head at mid after l text e (inl h) =
+link-choice : (version : Version) (ws : Words) (head : Head) (at mid after : Place) (l : Link) → at.bytes ≡ line_text ws ++ mid.bytes → walk_of version (head, mid) ≡ Ok (l, after) → IsDerivedHead version ws head ⊎ IsStepHead version ws head
+    → HasLinkText version l × (at.bytes ≡ lines_text (link_lines l) ++ after.bytes)
+link-choice version ws head at mid after l text e (inr h) =
+    one-step version h.step_of at mid after l h.has (text ∙ ap (λ words. line_text words ++ mid.bytes) h.text) (subst (λ read. walk_of version (read, mid) ≡ Ok (l, after)) h.is e)
+link-choice version ws head at mid after l text e (inl h) =
     let derived_link : List Step → Link = λ walk. link.Derived h.b h.a h.name h.c walk in
-    let walked = then_parts (repeated (words step_line) h.w mid) (λ walk. Ok (derived_link walk.0, walk.1)) (l, after) (subst (λ read. walk_of (read, mid) ≡ Ok (l, after)) h.is e) in
+    let walked = then_parts (repeated (words version (step_line version)) h.w mid) (λ walk. Ok (derived_link walk.0, walk.1)) (l, after) (subst (λ read. walk_of version (read, mid) ≡ Ok (l, after)) h.is e) in
     let walk = walked.0.0 in
     let is = same_pair walked.2 in
-    let read = repeated-text (words step_line) HasStepText (λ s. line_text (step_words s)) step-from h.w mid walked.0.1 walk walked.1 in
+    let read = repeated-text (words version (step_line version)) (HasStepText version) (λ s. line_text (step_words s)) (step-from version) h.w mid walked.0.1 walk walked.1 in
     let first : Words = codes "D" ∷ decimal h.b ∷ decimal h.a ∷ h.name ∷ decimal h.c ∷ decimal h.w ∷ [] in
-    let counted : IsCount (length walk) = subst IsCount (sym read.1) h.steps in
-    let has : HasLinkText (derived_link walk) = (h.from, h.to, h.is_key, h.reader, counted, All-from_recursion HasStepText walk read.0) in
+    let counted : IsCount version (length walk) = subst (IsCount version) (sym read.1) h.steps in
+    let has : HasLinkText version (derived_link walk) = (h.from, h.to, h.is_key, h.reader, counted, All-from_recursion (HasStepText version) walk read.0) in
     let whole : at.bytes ≡ lines_text (link_lines (derived_link walk)) ++ walked.0.1.bytes =
     text
     ∙ ap (λ words. line_text words ++ mid.bytes) h.text
     ∙ ap (λ t. line_text first ++ t) (read.2 ∙ ap (λ t. t ++ walked.0.1.bytes) (sym (flat_map-map line_text step_words walk)))
     ∙ sym (append_assoc (line_text first) (lines_text (map step_words walk)) walked.0.1.bytes)
     ∙ ap (λ n. line_text (codes "D" ∷ decimal h.b ∷ decimal h.a ∷ h.name ∷ decimal h.c ∷ decimal n ∷ []) ++ lines_text (map step_words walk) ++ walked.0.1.bytes) (sym read.1) in
-    subst (λ m. HasLinkText m × (at.bytes ≡ lines_text (link_lines m) ++ after.bytes)) is.0 (has, whole ∙ ap (λ p. lines_text (link_lines (derived_link walk)) ++ p.bytes) is.1)
+    subst (λ m. HasLinkText version m × (at.bytes ≡ lines_text (link_lines m) ++ after.bytes)) is.0 (has, whole ∙ ap (λ p. lines_text (link_lines (derived_link walk)) ++ p.bytes) is.1)
 
-pub link-from : IsReadFrom link_at HasLinkText (λ l. lines_text (link_lines l))
-link-from at after l e =
-    let head = then_parts (words head_line at) walk_of (l, after) e in
-    let line = words-text head_line at head.0.1 head.0.0 head.1 in
-    link-choice line.0 head.0.0 at head.0.1 after l line.2 head.2 (head-text line.0 head.0.0 line.1)
+pub link-from : (version : Version) → IsReadFrom (link_at version) (HasLinkText version) (λ l. lines_text (link_lines l))
+link-from version at after l e =
+    let head = then_parts (words version (head_line version) at) (walk_of version) (l, after) e in
+    let line = words-text version (head_line version) at head.0.1 head.0.0 head.1 in
+    link-choice version line.0 head.0.0 at head.0.1 after l line.2 head.2 (head-text version line.0 head.0.0 line.1)

@@ -1,6 +1,5 @@
 -- Lines and words of a text are read as they were written.
 use Rattle.std.proofs.Common.{◌≡◌, ℕ, zero, suc, ◌+◌, ◌^◌, ◌<◌, ◌≤◌, true, false, eqb, ltb, List, [], ◌∷◌, ◌++◌, length, get_or, Ok, refl, ap, ◌∙◌, arith, append-nil, decimal, lit<, lit≤}
-use Rattle.tcc_cert.specs.declared.version_1.TheConstants.{V1_MAX_LINE_BYTES}
 use Rattle.std.specs.Prelude.{flat_map}
 use Rattle.std.specs.Str.{all_ascii_digits}
 use Rattle.std.proofs.lemmas.Bool.Decides.{nat_tests}
@@ -34,9 +33,9 @@ first_feed : (line rest : List ℕ) → IsAbove 31 line → line_length (line ++
 first_feed [] rest above = refl
 first_feed (byte ∷ line) rest above = rw (unequal 31 byte 10 (lit≤ tt) above.0) (ap (λ n. 1 + n) (first_feed line rest above.1) ∙ omega arith)
 
-pub line_of-line : (line rest : List ℕ) → IsAbove 31 line → length line ≤ V1_MAX_LINE_BYTES → line_of (line ++ 10 ∷ rest) ≡ Ok line
-line_of-line line rest above short =
-    let within : ltb V1_MAX_LINE_BYTES (length line) ≡ false = grind (arith, nat_tests) in
+pub line_of-line : (most : ℕ) (line rest : List ℕ) → IsAbove 31 line → length line ≤ most → line_of most (line ++ 10 ∷ rest) ≡ Ok line
+line_of-line most line rest above short =
+    let within : ltb most (length line) ≡ false = grind (arith, nat_tests) in
     let there : ltb (length line) (length (line ++ 10 ∷ rest)) ≡ true = grind (arith, nat_tests, length-append line (10 ∷ rest)) in
     rw (first_feed line rest above, within, there) (ap Ok (take_at line (10 ∷ rest) (length line) refl))
 

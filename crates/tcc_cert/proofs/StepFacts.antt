@@ -7,8 +7,8 @@ use Rattle.tcc_cert.specs.declared.fault.CertFaultKind.{CertFaultKind}
 use Rattle.tcc_cert.specs.declared.reading.input.Input.{Input}
 use Rattle.tcc_cert.specs.Inputs.{HasFailed, line_in, TakesLine, Gives, Ends}
 use Rattle.tcc_cert.specs.Outcomes.{IsFailure, Shows, at_line, reached, Faults, IsReading, IsReadingWhere}
-use Rattle.tcc_cert.specs.Reading.{◌>>=◌, Place, Reads, behind, next, repeated, certificate_at, certificate_read, start_of}
-use Rattle.tcc_cert.proofs.OnwardFacts.{IsOnward, onward-then, onward-ok, onward-next, onward-repeated}
+use Rattle.tcc_cert.specs.Reading.{◌>>=◌, Place, Reads, behind, next, numbered, certificate_at, certificate_read, start_of}
+use Rattle.tcc_cert.proofs.OnwardFacts.{IsOnward, onward-then, onward-ok, onward-next, onward-numbered}
 
 -- the first part had a fault
 pub first-faults : {A B F : Type 0} {at : Place} (read : Reads A) (go : A × Place → Reads B) (fault : CertFault) → ((x : A × Place) → IsOnward x.1 (go x)) → Faults F at read fault → Faults F at (read >>= go) fault
@@ -30,81 +30,81 @@ later-faults {A} {B} {F} {at} {after} {x} read go fault is on faults = subst (λ
 pub onward-at : {A : Type 0} {at after : Place} {x : A} (read : Reads A) → IsOnward at read → read ≡ Ok (x, after) → at.line ≤ after.line
 onward-at {A} {at} {after} {x} read on is = (subst (IsOnward at) is on).onward
 
--- ---- the same part so many times
+-- ---- parts by number
 
 -- what was read so far stands before what is still to be read
 abbrev pub before_rest : {X : Type 0} → List X → Reads (List X) → Reads (List X)
 before_rest front read = read >>= λ rest. Ok (front ++ rest.0, rest.1)
 
-pub record IsPart {X : Type 0} (read : Place → Reads X) (count : ℕ) (at : Place) (front : List X) (i : ℕ) (now : Place) : Type 0 where
+pub record IsPart {X : Type 0} (read : ℕ → Place → Reads X) (count : ℕ) (at : Place) (front : List X) (i : ℕ) (now : Place) : Type 0 where
   pub on : at.line ≤ now.line
-  pub part : repeated read count at ≡ before_rest front (repeated read (count - i) now)
+  pub part : numbered read 0 count at ≡ before_rest front (numbered read i (count - i) now)
 
 rest-none : {X : Type 0} (read : Reads (List X)) → read ≡ before_rest [] read
 rest-none (Ok x) = refl
 rest-none (Err e) = refl
 
-pub part-none : {X : Type 0} (read : Place → Reads X) (count : ℕ) (at : Place) → IsPart read count at [] 0 at
-part-none read count at = record { on = omega arith; part = ap (λ n. repeated read n at) (omega arith) ∙ rest-none _ }
+pub part-none : {X : Type 0} (read : ℕ → Place → Reads X) (count : ℕ) (at : Place) → IsPart read count at [] 0 at
+part-none read count at = record { on = omega arith; part = ap (λ n. numbered read 0 n at) (omega arith) ∙ rest-none _ }
 
 rest-more : {X : Type 0} (front : List X) (x : X) (read : Reads (List X)) → before_rest front (read >>= λ others. Ok (x ∷ others.0, others.1)) ≡ before_rest (front ++ x ∷ []) read
 rest-more front x (Ok others) = ap (λ l. Ok (l, others.1)) (sym (append_assoc front (x ∷ []) others.0))
 rest-more front x (Err e) = refl
 
-one-more : {X : Type 0} (read : Place → Reads X) (n : ℕ) (now after : Place) (x : X) → read now ≡ Ok (x, after)
-    → repeated read (suc n) now ≡ (repeated read n after >>= λ others. Ok (x ∷ others.0, others.1))
-one-more read n now after x is = rw is refl
+one-more : {X : Type 0} (read : ℕ → Place → Reads X) (i n : ℕ) (now after : Place) (x : X) → read i now ≡ Ok (x, after)
+    → numbered read i (suc n) now ≡ (numbered read (i + 1) n after >>= λ others. Ok (x ∷ others.0, others.1))
+one-more read i n now after x is = rw is refl
 
-pub part-more : {X : Type 0} (read : Place → Reads X) (count : ℕ) (at : Place) (front : List X) (i : ℕ) (now after : Place) (x : X) → i < count → IsOnward now (read now)
-    → IsPart read count at front i now → read now ≡ Ok (x, after) → IsPart read count at (front ++ x ∷ []) (i + 1) after
+pub part-more : {X : Type 0} (read : ℕ → Place → Reads X) (count : ℕ) (at : Place) (front : List X) (i : ℕ) (now after : Place) (x : X) → i < count → IsOnward now (read i now)
+    → IsPart read count at front i now → read i now ≡ Ok (x, after) → IsPart read count at (front ++ x ∷ []) (i + 1) after
 part-more read count at front i now after x lt on so_far is =
     let left : count - i ≡ suc (count - (i + 1)) = omega arith in
     record {
-      on = omega (arith, so_far.on, onward-at (read now) on is);
+      on = omega (arith, so_far.on, onward-at (read i now) on is);
       part =
           so_far.part
-          ∙ ap (λ n. before_rest front (repeated read n now)) left
-          ∙ ap (before_rest front) (one-more read (count - (i + 1)) now after x is)
-          ∙ rest-more front x (repeated read (count - (i + 1)) after);
+          ∙ ap (λ n. before_rest front (numbered read i n now)) left
+          ∙ ap (before_rest front) (one-more read i (count - (i + 1)) now after x is)
+          ∙ rest-more front x (numbered read (i + 1) (count - (i + 1)) after);
     }
 
-pub part-all : {X : Type 0} (read : Place → Reads X) (count : ℕ) (at : Place) (front : List X) (i : ℕ) (now : Place) → count ≤ i → IsPart read count at front i now
-    → repeated read count at ≡ Ok (front, now)
+pub part-all : {X : Type 0} (read : ℕ → Place → Reads X) (count : ℕ) (at : Place) (front : List X) (i : ℕ) (now : Place) → count ≤ i → IsPart read count at front i now
+    → numbered read 0 count at ≡ Ok (front, now)
 part-all read count at front i now le so_far =
     let left : count - i ≡ 0 = omega arith in
-    so_far.part ∙ ap (λ n. before_rest front (repeated read n now)) left ∙ ap (λ l. Ok (l, now)) (append-nil front)
+    so_far.part ∙ ap (λ n. before_rest front (numbered read i n now)) left ∙ ap (λ l. Ok (l, now)) (append-nil front)
 
 on-rest : {X : Type 0} (now : Place) (front : List X) (read : Reads (List X)) → reached (before_rest front read) ≡ reached read
 on-rest now front (Ok x) = refl
 on-rest now front (Err e) = refl
 
 -- the next of them had a fault
-pub part-faults : {X F : Type 0} (read : Place → Reads X) (count : ℕ) (at : Place) (front : List X) (i : ℕ) (now : Place) (fault : CertFault) → i < count
-    → ((p : Place) → IsOnward p (read p)) → IsPart read count at front i now → Faults F now (read now) fault → Faults F at (repeated read count at) fault
+pub part-faults : {X F : Type 0} (read : ℕ → Place → Reads X) (count : ℕ) (at : Place) (front : List X) (i : ℕ) (now : Place) (fault : CertFault) → i < count
+    → ((k : ℕ) (p : Place) → IsOnward p (read k p)) → IsPart read count at front i now → Faults F now (read i now) fault → Faults F at (numbered read 0 count at) fault
 part-faults {X} {F} read count at front i now fault lt on so_far faults =
     let left : count - i ≡ suc (count - (i + 1)) = omega arith in
     let n = count - (i + 1) in
-    let one = first-faults (read now) (λ first. repeated read n first.1 >>= λ others. Ok (first.0 ∷ others.0, others.1)) fault (λ first. onward-then first.1 (repeated read n first.1) _ (onward-repeated read n on first.1) (λ others. onward-ok (first.0 ∷ others.0) others.1 others.1 (omega arith))) faults in
-    let whole = first-faults (repeated read (suc n) now) (λ rest. Ok (front ++ rest.0, rest.1)) fault (λ rest. onward-ok (front ++ rest.0) rest.1 rest.1 (omega arith)) one in
-    subst (λ r. Faults F at r fault) (sym (so_far.part ∙ ap (λ m. before_rest front (repeated read m now)) left)) (faults-from (before_rest front (repeated read (suc n) now)) fault so_far.on whole)
+    let one = first-faults (read i now) (λ first. numbered read (i + 1) n first.1 >>= λ others. Ok (first.0 ∷ others.0, others.1)) fault (λ first. onward-then first.1 (numbered read (i + 1) n first.1) _ (onward-numbered read (i + 1) n on first.1) (λ others. onward-ok (first.0 ∷ others.0) others.1 others.1 (omega arith))) faults in
+    let whole = first-faults (numbered read i (suc n) now) (λ rest. Ok (front ++ rest.0, rest.1)) fault (λ rest. onward-ok (front ++ rest.0) rest.1 rest.1 (omega arith)) one in
+    subst (λ r. Faults F at r fault) (sym (so_far.part ∙ ap (λ m. before_rest front (numbered read i m now)) left)) (faults-from (before_rest front (numbered read i (suc n) now)) fault so_far.on whole)
 
 -- memory was refused between two of them
-pub part-refused : {X F : Type 0} (read : Place → Reads X) (count : ℕ) (at : Place) (front : List X) (i : ℕ) (now : Place) (kind : CertFaultKind)
-    → ((p : Place) → IsOnward p (read p)) → IsPart read count at front i now → IsFailure F kind → Faults F at (repeated read count at) (record { line = now.line; kind = kind })
+pub part-refused : {X F : Type 0} (read : ℕ → Place → Reads X) (count : ℕ) (at : Place) (front : List X) (i : ℕ) (now : Place) (kind : CertFaultKind)
+    → ((k : ℕ) (p : Place) → IsOnward p (read k p)) → IsPart read count at front i now → IsFailure F kind → Faults F at (numbered read 0 count at) (record { line = now.line; kind = kind })
 part-refused read count at front i now kind on so_far failure =
-    let end = (onward-repeated read (count - i) on now).onward in
-    let same = ap reached so_far.part ∙ on-rest now front (repeated read (count - i) now) in
+    let end = (onward-numbered read i (count - i) on now).onward in
+    let same = ap reached so_far.part ∙ on-rest now front (numbered read i (count - i) now) in
     inr (record { failure = failure; first = so_far.on; last = omega (arith, same, end) })
 
 -- ---- the next line
 
 -- the next line was read and judged
-pub line-shows : {R X : Type 0} (remaining : R → Option (List ℕ)) (at : Place) (number : ℕ) (form : List ℕ → Result X CertFaultKind) (shown : Result X CertFaultKind) (new : Input R)
-    → TakesLine remaining at (Ok number) new → Shows shown (form (line_in new)) → Gives remaining at (next form at) (at_line number shown) new
-line-shows remaining at number form (Ok x) new taken shows = (behind at (line_in new), rw (taken.0, shows) refl, taken.2)
-line-shows remaining at number form (Err kind) new taken (inl shows) = inl (rw (taken.0, shows, taken.1) refl)
-line-shows remaining at number form (Err kind) new taken (inr refused) =
-    inr (record { failure = inr refused; first = omega (arith, taken.1); last = omega (arith, taken.1, (onward-next form at).onward) })
+pub line-shows : {R X : Type 0} (remaining : R → Option (List ℕ)) (most : ℕ) (at : Place) (number : ℕ) (form : List ℕ → Result X CertFaultKind) (shown : Result X CertFaultKind) (new : Input R)
+    → TakesLine remaining most at (Ok number) new → Shows shown (form (line_in new)) → Gives remaining at (next most form at) (at_line number shown) new
+line-shows remaining most at number form (Ok x) new taken shows = (behind at (line_in new), rw (taken.0, shows) refl, taken.2)
+line-shows remaining most at number form (Err kind) new taken (inl shows) = inl (rw (taken.0, shows, taken.1) refl)
+line-shows remaining most at number form (Err kind) new taken (inr refused) =
+    inr (record { failure = inr refused; first = omega (arith, taken.1); last = omega (arith, taken.1, (onward-next most form at).onward) })
 
 -- what comes of a part comes of the whole that it ends
 pub later-gives : {R A B : Type 0} (remaining : R → Option (List ℕ)) (at : Place) {after : Place} {x : A} (read : Reads A) (go : A × Place → Reads B) (result : Result B CertFault) (new : Input R) → read ≡ Ok (x, after) → at.line ≤ after.line

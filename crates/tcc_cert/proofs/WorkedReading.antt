@@ -5,11 +5,17 @@ use Rattle.tcc_graph.specs.declared.link.Link.TheVariants as link
 use Rattle.tcc_cert.specs.declared.certificate.Certificate.TheVariants as claim
 use Rattle.tcc_cert.specs.declared.fault.CertFault.{CertFault}
 use Rattle.tcc_cert.specs.declared.fault.CertFaultKind.TheVariants.{Header, Word, Number, Count, TooLarge, Truncated, Trailing}
+use Rattle.tcc_graph.specs.declared.level.Level.TheVariants.{Causal, Atomic}
+use Rattle.tcc_cert.specs.declared.version.Version.TheVariants.{One, Two}
 use Rattle.tcc_cert.specs.Reading.{certificate_read}
 
 -- a history without transactions: one row of clocks without a number
-no_transactions : certificate_read (codes "tcc-certificate 1\norder 1 0\n0\nclocks\n\nend\n") ≡ Ok (claim.Order (0 ∷ []) ([] ∷ []))
+no_transactions : certificate_read (codes "tcc-certificate 1\norder 1 0\n0\nclocks\n\nend\n") ≡ Ok (claim.Order One Causal (0 ∷ []) 0 ([] ∷ []))
 no_transactions = refl
+
+-- the same at `Atomic`, with no clocks
+no_clocks : certificate_read (codes "tcc-certificate 2 atomic\norder 1 0\n0\nend\n") ≡ Ok (claim.Order Two Atomic (0 ∷ []) 0 [])
+no_clocks = refl
 
 abbrev links_and_near : List ℕ
 links_and_near = codes "S 0 1\nD 1 0 x 2 1\nS 1 2\nnear\n3 1 1\n3 3 1\n3 3 3\n"
@@ -20,11 +26,27 @@ far = codes "far\n3 1 1\n2 3 1\n3 3 3\n"
 -- a read of 0 after an own write
 stale_read : certificate_read (codes "tcc-certificate 1\ncycle 3 2 3\n" ++ (links_and_near ++ (far ++ codes "end\n")))
     ≡ Ok (claim.Cycle
+    One
+    Causal
     (link.Session 0 1 ∷ link.Derived 1 0 (codes "x") 2 (step.Session 1 2 ∷ []) ∷ [])
     3
     ((3 ∷ 1 ∷ 1 ∷ []) ∷ (3 ∷ 3 ∷ 1 ∷ []) ∷ (3 ∷ 3 ∷ 3 ∷ []) ∷ [])
     ((3 ∷ 1 ∷ 1 ∷ []) ∷ (2 ∷ 3 ∷ 1 ∷ []) ∷ (3 ∷ 3 ∷ 3 ∷ []) ∷ []))
 stale_read = refl
+
+abbrev upward : List ℕ
+upward = codes "far\n3 1 1\n3 1\n3\n"
+
+-- the same in version 2
+stale_read_upward : certificate_read (codes "tcc-certificate 2 causal\ncycle 3 2 3\n" ++ (links_and_near ++ (upward ++ codes "end\n")))
+    ≡ Ok (claim.Cycle
+    Two
+    Causal
+    (link.Session 0 1 ∷ link.Derived 1 0 (codes "x") 2 (step.Session 1 2 ∷ []) ∷ [])
+    3
+    ((3 ∷ 1 ∷ 1 ∷ []) ∷ (3 ∷ 3 ∷ 1 ∷ []) ∷ (3 ∷ 3 ∷ 3 ∷ []) ∷ [])
+    ((3 ∷ 1 ∷ 1 ∷ []) ∷ (3 ∷ 1 ∷ []) ∷ (3 ∷ []) ∷ []))
+stale_read_upward = refl
 
 -- each text has the fault that stands behind it
 abbrev HaveFaults : List (List ℕ × CertFault) → Type 0
@@ -39,8 +61,12 @@ faulty_texts : HaveFaults
     ∷ (codes "tcc-certificate 1\ncycle 03 2 3\n", record { line = 2; kind = Number })
     ∷ (codes "tcc-certificate 1\ncycle 3 0 3\n", record { line = 2; kind = Number })
     ∷ (codes "tcc-certificate 1\ncycle 1025 2 3\n", record { line = 2; kind = TooLarge })
+    ∷ (codes "tcc-certificate 1 causal\ncycle 3 2 3\n", record { line = 1; kind = Header })
+    ∷ (codes "tcc-certificate 2 causal\ncycle 1025 2 3\n", record { line = 3; kind = Truncated })
+    ∷ (codes "tcc-certificate 2 causal\ncycle 4097 2 3\n", record { line = 2; kind = TooLarge })
+    ∷ (codes "tcc-certificate 2 causal\ncycle 3 2 3\n" ++ (links_and_near ++ codes "far\n3 1 1\n2 3 1\n"), record { line = 12; kind = Count })
     ∷ (codes "tcc-certificate 1\ncycle 3 2 3\n" ++ (links_and_near ++ codes "far\n3 1 1\n2 3 1\n"), record { line = 13; kind = Truncated })
     ∷ (codes "tcc-certificate 1\ncycle 3 2 3\n" ++ (links_and_near ++ (far ++ codes "end")), record { line = 14; kind = Truncated })
     ∷ (codes "tcc-certificate 1\ncycle 3 2 3\n" ++ (links_and_near ++ (far ++ codes "end\n\n")), record { line = 15; kind = Trailing })
     ∷ [])
-faulty_texts = (refl, (refl, (refl, (refl, (refl, (refl, (refl, (refl, (refl, (refl, tt))))))))))
+faulty_texts = (refl, (refl, (refl, (refl, (refl, (refl, (refl, (refl, (refl, (refl, (refl, (refl, (refl, (refl, tt))))))))))))))

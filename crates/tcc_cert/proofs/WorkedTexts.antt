@@ -4,15 +4,19 @@ use Rattle.std.proofs.lemmas.Fmt.{decimal_digit}
 use Rattle.tcc_graph.specs.declared.step.Step.TheVariants as step
 use Rattle.tcc_graph.specs.declared.link.Link.TheVariants as link
 use Rattle.tcc_cert.specs.declared.certificate.Certificate.TheVariants as claim
+use Rattle.tcc_graph.specs.declared.level.Level.TheVariants.{Causal, Atomic}
+use Rattle.tcc_cert.specs.declared.version.Version.TheVariants.{One, Two}
 use Rattle.tcc_cert.specs.Texts.{certificate_text}
 
 -- a history without transactions: one row of clocks without a number
-no_transactions : certificate_text (claim.Order (0 ∷ []) ([] ∷ []))
+no_transactions : certificate_text (claim.Order One Causal (0 ∷ []) 0 ([] ∷ []))
     ≡ codes "tcc-certificate 1\norder 1 0\n0\nclocks\n\nend\n"
 no_transactions = rw (decimal_digit 0 (lit< tt), decimal_digit 1 (lit< tt)) refl
 
 -- a read of 0 after an own write
 stale_read : certificate_text (claim.Cycle
+    One
+    Causal
     (link.Session 0 1 ∷ link.Derived 1 0 (codes "x") 2 (step.Session 1 2 ∷ []) ∷ [])
     3
     ((3 ∷ 1 ∷ 1 ∷ []) ∷ (3 ∷ 3 ∷ 1 ∷ []) ∷ (3 ∷ 3 ∷ 3 ∷ []) ∷ [])
@@ -22,6 +26,8 @@ stale_read = rw (decimal_digit 0 (lit< tt), decimal_digit 1 (lit< tt), decimal_d
 
 -- two transactions that read from one another
 two_reads : certificate_text (claim.Cycle
+    One
+    Causal
     (link.Reads 1 2 (codes "x") ∷ link.Reads 2 1 (codes "y") ∷ [])
     2
     ((2 ∷ 1 ∷ 1 ∷ []) ∷ (2 ∷ 2 ∷ 1 ∷ []) ∷ (2 ∷ 1 ∷ 2 ∷ []) ∷ [])
@@ -31,7 +37,25 @@ two_reads = rw (decimal_digit 1 (lit< tt), decimal_digit 2 (lit< tt), decimal_di
 
 -- the long fork
 long_fork : certificate_text (claim.Order
+    One
+    Causal
     (0 ∷ 1 ∷ 2 ∷ 3 ∷ 4 ∷ [])
+    4
     ((0 ∷ 0 ∷ 0 ∷ 0 ∷ []) ∷ (0 ∷ 0 ∷ 0 ∷ 0 ∷ []) ∷ (0 ∷ 0 ∷ 0 ∷ 0 ∷ []) ∷ (1 ∷ 0 ∷ 0 ∷ 0 ∷ []) ∷ (0 ∷ 1 ∷ 0 ∷ 0 ∷ []) ∷ []))
     ≡ codes "tcc-certificate 1\norder 5 4\n0 1 2 3 4\nclocks\n0 0 0 0\n0 0 0 0\n0 0 0 0\n1 0 0 0\n0 1 0 0\nend\n"
 long_fork = rw (decimal_digit 0 (lit< tt), decimal_digit 1 (lit< tt), decimal_digit 2 (lit< tt), decimal_digit 3 (lit< tt), decimal_digit 4 (lit< tt), decimal_digit 5 (lit< tt)) refl
+
+-- rows of version 2 begin at their own number
+two_reads_upward : certificate_text (claim.Cycle
+    Two
+    Causal
+    (link.Reads 1 2 (codes "x") ∷ link.Reads 2 1 (codes "y") ∷ [])
+    2
+    ((2 ∷ 1 ∷ 1 ∷ []) ∷ (2 ∷ 2 ∷ 1 ∷ []) ∷ (2 ∷ 1 ∷ 2 ∷ []) ∷ [])
+    ((2 ∷ 1 ∷ 1 ∷ []) ∷ (2 ∷ 1 ∷ []) ∷ (2 ∷ []) ∷ []))
+    ≡ codes "tcc-certificate 2 causal\ncycle 3 2 2\nR 1 2 x\nR 2 1 y\nnear\n2 1 1\n2 2 1\n2 1 2\nfar\n2 1 1\n2 1\n2\nend\n"
+two_reads_upward = rw (decimal_digit 1 (lit< tt), decimal_digit 2 (lit< tt), decimal_digit 3 (lit< tt)) refl
+
+-- at `Atomic` an order has no clocks
+no_clocks : certificate_text (claim.Order One Atomic (0 ∷ 1 ∷ 2 ∷ 3 ∷ []) 2 []) ≡ codes "tcc-certificate 1 atomic\norder 4 2\n0 1 2 3\nend\n"
+no_clocks = rw (decimal_digit 0 (lit< tt), decimal_digit 1 (lit< tt), decimal_digit 2 (lit< tt), decimal_digit 3 (lit< tt), decimal_digit 4 (lit< tt)) refl

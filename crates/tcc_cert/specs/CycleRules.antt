@@ -1,20 +1,30 @@
 -- The rules for a claim that a cycle is least. The tables are anybody's: `near` claims to bound the lengths of walks from below, `far` the costs of routes.
-use Rattle.std.specs.Prelude.{ℕ, ◌<◌, ◌≡◌, ◌+◌, ◌⊎◌, List, [], ◌∷◌, ◌++◌, length, All}
+use Rattle.std.specs.Prelude.{ℕ, ◌<◌, ◌≤◌, ◌≡◌, ◌+◌, ◌⊎◌, List, [], ◌∷◌, ◌++◌, length, All}
 use Rattle.tcc_reads.specs.History.{History, count}
 use Rattle.tcc_graph.specs.Relations.{IsCausalPair}
 use Rattle.tcc_graph.specs.Walks.{step_from, step_to}
+use Rattle.tcc_graph.specs.Levels.{Judged}
 use Rattle.tcc_graph.specs.Links.{MayContradict, IsLink, link_from, link_to}
+use Rattle.tcc_graph.specs.declared.level.Level.{Level}
+use Rattle.tcc_graph.specs.declared.level.Level.TheVariants.{Causal}
 use Rattle.tcc_graph.specs.declared.step.Step.{Step}
 use Rattle.tcc_graph.specs.declared.link.Link.{Link}
 use Rattle.tcc_graph.specs.declared.link.Link.TheVariants as link
-use Rattle.tcc_cert.specs.Tables.{entry, HasSize, IsCapped}
+use Rattle.tcc_cert.specs.declared.version.Version.{Version}
+use Rattle.tcc_cert.specs.Tables.{entry, lowest, far_entry, HasSize, HasFarSize, IsCapped}
 
--- what is claimed: a cycle, its cost, and the two tables
+-- what is claimed at a level: a cycle, its cost, and the two tables, `far` in the form of the version
 pub record CycleClaim : Type 0 where
+  pub version : Version
+  pub level : Level
   pub links : List Link
   pub least : ℕ
   pub near : List (List ℕ)
   pub far : List (List ℕ)
+
+-- the history at the level of the claim
+abbrev pub cycle_judged : History → CycleClaim → Judged
+cycle_judged h k = record { history = h; level = k.level }
 
 -- both ends of a step are numbers below n
 abbrev pub IsStepBelow : ℕ → Step → Type 0
@@ -29,14 +39,14 @@ IsLinkBelow n (link.Derived b a x c walk) = (b < n) × ((a < n) × ((c < n) × A
 -- the tables and the numbers are those of a history of this size, and no number is above the cost
 pub record HasRightSizes (h : History) (k : CycleClaim) : Type 0 where
   pub near : HasSize (count h) (count h) k.near
-  pub far : HasSize (count h) (count h) k.far
+  pub far : HasFarSize k.version (count h) k.far
   pub links : All (IsLinkBelow (count h)) k.links
   pub near_capped : IsCapped k.least k.near
   pub far_capped : IsCapped k.least k.far
 
 -- each link begins where the one before it ends, the first of them at `at`
-abbrev pub IsLinkRight : History → ℕ → Link → Type 0
-IsLinkRight h at l = (link_from l ≡ at) × IsLink h l
+abbrev pub IsLinkRight : Judged → ℕ → Link → Type 0
+IsLinkRight j at l = (link_from l ≡ at) × IsLink j l
 
 -- where the last link ends, and `at` where there is none
 abbrev pub ends_at : ℕ → List Link → ℕ
@@ -44,36 +54,37 @@ ends_at at [] = at
 ends_at at (l ∷ links) = ends_at (link_to l) links
 
 -- the link after those before it is not right; the first has to begin where the last ends
-pub record IsLinkWrong (h : History) (links : List Link) (i : ℕ) : Type 0 where
+pub record IsLinkWrong (j : Judged) (links : List Link) (i : ℕ) : Type 0 where
   pub before : List Link
   pub link : Link
   pub after : List Link
   pub split : links ≡ before ++ link ∷ after
   pub place : i ≡ length before + 1
-  pub wrong : IsLinkRight h (ends_at (ends_at 0 links) before) link → ⊥
+  pub wrong : IsLinkRight j (ends_at (ends_at 0 links) before) link → ⊥
 
 -- causal pairs are no farther than 1
 abbrev pub BreaksNearPair : History → List (List ℕ) → ℕ × ℕ → Type 0
 BreaksNearPair h near at = IsCausalPair h at.0 at.1 × (1 < entry near at.0 at.1)
 
--- one more causal pair takes no more than one more step
-abbrev pub BreaksNearStep : History → List (List ℕ) → ℕ × ℕ → Type 0
-BreaksNearStep h near at =
-    (at.0 < count h) × ((b : ℕ) × IsCausalPair h b at.1 × (entry near at.0 b + 1 < entry near at.0 at.1))
+-- one more causal pair takes no more than one more step; where walks are single pairs, this is not asked
+abbrev pub BreaksNearStep : History → Level → List (List ℕ) → ℕ × ℕ → Type 0
+BreaksNearStep h level near at =
+    (level ≡ Causal) × ((at.0 < count h) × ((b : ℕ) × IsCausalPair h b at.1 × (entry near at.0 b + 1 < entry near at.0 at.1)))
 
--- a single link takes no more than it costs
-abbrev pub BreaksFarLink : History → List (List ℕ) → List (List ℕ) → ℕ × ℕ → Type 0
-BreaksFarLink h near far at =
-    (IsCausalPair h at.0 at.1 × (1 < entry far at.0 at.1))
-    ⊎ ((x : List ℕ) × (c : ℕ) × MayContradict h at.0 at.1 x c × (1 + entry near at.0 c < entry far at.0 at.1))
+-- a single link that goes no lower than it begins takes no more than it costs
+abbrev pub BreaksFarLink : History → Version → List (List ℕ) → List (List ℕ) → ℕ × ℕ → Type 0
+BreaksFarLink h version near far at =
+    (lowest version at.0 ≤ at.1) × (
+    (IsCausalPair h at.0 at.1 × (1 < far_entry version far at.0 at.1))
+    ⊎ ((x : List ℕ) × (c : ℕ) × MayContradict h at.0 at.1 x c × (1 + entry near at.0 c < far_entry version far at.0 at.1)))
 
--- one more link takes no more than it costs
-abbrev pub BreaksFarStep : History → List (List ℕ) → List (List ℕ) → ℕ × ℕ → Type 0
-BreaksFarStep h near far at =
-    (at.0 < count h) × ((u : ℕ) × (
-    (IsCausalPair h u at.1 × (entry far at.0 u + 1 < entry far at.0 at.1))
-    ⊎ ((x : List ℕ) × (c : ℕ) × MayContradict h u at.1 x c × (entry far at.0 u + 1 + entry near u c < entry far at.0 at.1))))
+-- one more link that goes no lower than the beginning takes no more than it costs
+abbrev pub BreaksFarStep : History → Version → List (List ℕ) → List (List ℕ) → ℕ × ℕ → Type 0
+BreaksFarStep h version near far at =
+    (at.0 < count h) × ((lowest version at.0 ≤ at.1) × ((u : ℕ) × (lowest version at.0 ≤ u) × (
+    (IsCausalPair h u at.1 × (far_entry version far at.0 u + 1 < far_entry version far at.0 at.1))
+    ⊎ ((x : List ℕ) × (c : ℕ) × MayContradict h u at.1 x c × (far_entry version far at.0 u + 1 + entry near u c < far_entry version far at.0 at.1)))))
 
 -- no way back is cheaper than the cycle
-abbrev pub BreaksReturn : History → ℕ → List (List ℕ) → ℕ × ℕ → Type 0
-BreaksReturn h least far at = (at.0 < count h) × ((at.1 ≡ at.0) × (entry far at.0 at.0 < least))
+abbrev pub BreaksReturn : History → Version → ℕ → List (List ℕ) → ℕ × ℕ → Type 0
+BreaksReturn h version least far at = (at.0 < count h) × ((at.1 ≡ at.0) × (far_entry version far at.0 at.0 < least))

@@ -22,16 +22,16 @@ pub record IsAt {R : Type 0} (remaining : R → Option (List ℕ)) (input : Inpu
   pub number : input.number ≡ at.line
   pub bytes : prepend_known (drop input.passed (window_bytes input.window)) (remaining input.source.reader) ≡ Some at.bytes
 
--- what the next line shows, unless the reader failed
-abbrev pub FindsLine : {R : Type 0} → Place → Result ℕ CertFaultKind → Input R → Type 0
-FindsLine at (Ok length) new = line_of at.bytes ≡ Ok (take length (window_bytes new.window))
-FindsLine at (Err kind) new = (line_of at.bytes ≡ Err kind) ⊎ ((kind ≡ Read) × HasFailed new)
+-- what the next line, of at most so many bytes, shows, unless the reader failed
+abbrev pub FindsLine : {R : Type 0} → ℕ → Place → Result ℕ CertFaultKind → Input R → Type 0
+FindsLine most at (Ok length) new = line_of most at.bytes ≡ Ok (take length (window_bytes new.window))
+FindsLine most at (Err kind) new = (line_of most at.bytes ≡ Err kind) ⊎ ((kind ≡ Read) × HasFailed new)
 
 -- the next line was read, or its fault was met, or the reader failed or memory was refused
-abbrev pub TakesLine : {R : Type 0} → (R → Option (List ℕ)) → Place → Result ℕ CertFault → Input R → Type 0
-TakesLine remaining at (Ok number) new =
-    (line_of at.bytes ≡ Ok (line_in new)) × (number ≡ at.line) × IsAt remaining new (behind at (line_in new))
-TakesLine remaining at (Err fault) new = ((line_of at.bytes ≡ Err fault.kind) ⊎ IsFailure (HasFailed new) fault.kind) × (fault.line ≡ at.line)
+abbrev pub TakesLine : {R : Type 0} → (R → Option (List ℕ)) → ℕ → Place → Result ℕ CertFault → Input R → Type 0
+TakesLine remaining most at (Ok number) new =
+    (line_of most at.bytes ≡ Ok (line_in new)) × (number ≡ at.line) × IsAt remaining new (behind at (line_in new))
+TakesLine remaining most at (Err fault) new = ((line_of most at.bytes ≡ Err fault.kind) ⊎ IsFailure (HasFailed new) fault.kind) × (fault.line ≡ at.line)
 
 -- what the text shows from the place on was given, and the input is behind it
 abbrev pub Gives : {R X : Type 0} → (R → Option (List ℕ)) → Place → Reads X → Result X CertFault → Input R → Type 0

@@ -1,6 +1,6 @@
 -- How a certificate's text is read: line by line, up to the first fault. What the next line has to be follows from the lines before it.
-use Rattle.std.specs.Prelude.{ℕ, zero, suc, ◌+◌, Bool, not, ◌&&◌, ◌||◌, ◌==◌, nat_lt, if◌then◌else◌, List, [], ◌∷◌, length, take, drop, is_some, Result, Ok, Err, codes}
-use Rattle.tcc_cert.specs.declared.version_1.TheConstants.{V1_MAX_COST, V1_MAX_COUNT, V1_MAX_LINE_BYTES, V1_MAX_NUMBER, V1_MAX_SESSIONS}
+use Rattle.std.specs.Prelude.{ℕ, zero, suc, ◌+◌, ◌-◌, Bool, not, ◌&&◌, ◌||◌, ◌==◌, nat_lt, if◌then◌else◌, List, [], ◌∷◌, length, take, drop, is_some, Result, Ok, Err, codes}
+use Rattle.tcc_cert.specs.declared.ranges.TheConstants.{MAX_HEADER_BYTES}
 use Rattle.std.specs.List.{position_or_len, slice_split}
 use Rattle.std.specs.Str.{all_ascii_digits}
 use Rattle.std.specs.Str.Parse.{digits_value}
@@ -10,6 +10,10 @@ use Rattle.tcc_graph.specs.declared.step.Step.{Step}
 use Rattle.tcc_graph.specs.declared.step.Step.TheVariants as step
 use Rattle.tcc_graph.specs.declared.link.Link.{Link}
 use Rattle.tcc_graph.specs.declared.link.Link.TheVariants as link
+use Rattle.tcc_graph.specs.declared.level.Level.{Level}
+use Rattle.tcc_graph.specs.declared.level.Level.TheVariants.{Causal, Atomic}
+use Rattle.tcc_cert.specs.declared.version.Version.{Version}
+use Rattle.tcc_cert.specs.declared.version.Version.TheVariants.{One, Two}
 use Rattle.tcc_cert.specs.declared.fault.CertFault.{CertFault}
 use Rattle.tcc_cert.specs.declared.fault.CertFaultKind.{CertFaultKind}
 use Rattle.tcc_cert.specs.declared.fault.CertFaultKind.TheVariants.{Header, Word, Number, Count, TooLarge, Truncated, Trailing}
@@ -18,6 +22,8 @@ use Rattle.tcc_cert.specs.declared.certificate.Certificate.TheVariants as claim
 use Rattle.tcc_cert.specs.declared.reading.forms.Head.{Head}
 use Rattle.tcc_cert.specs.declared.reading.forms.Sizes.{Sizes}
 use Rattle.tcc_cert.specs.declared.reading.forms.Sizes.TheVariants.{Order, Cycle}
+use Rattle.tcc_cert.specs.Ranges.{ranges_of}
+use Rattle.tcc_cert.specs.Tables.{lowest}
 use Rattle.tcc_cert.specs.Texts.{Words}
 
 -- what comes next, or the fault that was met before
@@ -49,12 +55,12 @@ number_of least most word =
     else Ok (digits_value 10 word)
 
 -- a number of a transaction, or a place in a clock
-abbrev pub transaction_of : List ℕ → Result ℕ CertFaultKind
-transaction_of word = number_of 0 V1_MAX_NUMBER word
+abbrev pub transaction_of : Version → List ℕ → Result ℕ CertFaultKind
+transaction_of version word = number_of 0 (ranges_of version).number word
 
 -- how many transactions, links or steps
-abbrev pub count_of : List ℕ → Result ℕ CertFaultKind
-count_of word = number_of 1 V1_MAX_COUNT word
+abbrev pub count_of : Version → List ℕ → Result ℕ CertFaultKind
+count_of version word = number_of 1 (ranges_of version).count word
 
 abbrev pub key_of : List ℕ → Result (List ℕ) CertFaultKind
 key_of word = if is_some (name_fault word) then Err Word else Ok word
@@ -91,25 +97,25 @@ abbrev pub five_words : {X : Type 0} → (List ℕ → List ℕ → List ℕ →
 five_words form (first ∷ second ∷ third ∷ fourth ∷ fifth ∷ []) = form first second third fourth fifth
 five_words form _ = Err Count
 
-abbrev pub session_of : List ℕ → List ℕ → Result Step CertFaultKind
-session_of u v = do
-  from ← transaction_of u
-  to ← transaction_of v
+abbrev pub session_of : Version → List ℕ → List ℕ → Result Step CertFaultKind
+session_of version u v = do
+  from ← transaction_of version u
+  to ← transaction_of version v
   Ok (step.Session from to)
 
-abbrev pub reads_of : List ℕ → List ℕ → List ℕ → Result Step CertFaultKind
-reads_of u v name = do
-  from ← transaction_of u
-  to ← transaction_of v
+abbrev pub reads_of : Version → List ℕ → List ℕ → List ℕ → Result Step CertFaultKind
+reads_of version u v name = do
+  from ← transaction_of version u
+  to ← transaction_of version v
   key ← key_of name
   Ok (step.Reads from to key)
 
 -- a step of a walk
-abbrev pub step_line : Words → Result Step CertFaultKind
-step_line [] = Err Word
-step_line (word ∷ fields) =
-    if same word (codes "S") then two_words session_of fields
-    else if same word (codes "R") then three_words reads_of fields
+abbrev pub step_line : Version → Words → Result Step CertFaultKind
+step_line version [] = Err Word
+step_line version (word ∷ fields) =
+    if same word (codes "S") then two_words (session_of version) fields
+    else if same word (codes "R") then three_words (reads_of version) fields
     else Err Word
 
 abbrev pub with_walk : Link → List Step → Link
@@ -121,41 +127,41 @@ abbrev pub head_of_step : Step → Head
 head_of_step (step.Session u v) = record { link = link.Session u v; steps = 0 }
 head_of_step (step.Reads u v key) = record { link = link.Reads u v key; steps = 0 }
 
-abbrev pub derived_of : List ℕ → List ℕ → List ℕ → List ℕ → List ℕ → Result Head CertFaultKind
-derived_of b a name c w = do
-  from ← transaction_of b
-  to ← transaction_of a
+abbrev pub derived_of : Version → List ℕ → List ℕ → List ℕ → List ℕ → List ℕ → Result Head CertFaultKind
+derived_of version b a name c w = do
+  from ← transaction_of version b
+  to ← transaction_of version a
   key ← key_of name
-  reader ← transaction_of c
-  steps ← count_of w
+  reader ← transaction_of version c
+  steps ← count_of version w
   Ok (record { link = link.Derived from to key reader []; steps = steps })
 
 -- the line that a link begins with
-abbrev pub head_line : Words → Result Head CertFaultKind
-head_line [] = Err Word
-head_line (word ∷ fields) =
-    if same word (codes "D") then five_words derived_of fields
-    else step_line (word ∷ fields) >>= λ step. Ok (head_of_step step)
+abbrev pub head_line : Version → Words → Result Head CertFaultKind
+head_line version [] = Err Word
+head_line version (word ∷ fields) =
+    if same word (codes "D") then five_words (derived_of version) fields
+    else step_line version (word ∷ fields) >>= λ step. Ok (head_of_step step)
 
-abbrev pub order_sizes : List ℕ → List ℕ → Result Sizes CertFaultKind
-order_sizes n s = do
-  transactions ← count_of n
-  sessions ← number_of 0 V1_MAX_SESSIONS s
+abbrev pub order_sizes : Version → List ℕ → List ℕ → Result Sizes CertFaultKind
+order_sizes version n s = do
+  transactions ← count_of version n
+  sessions ← number_of 0 (ranges_of version).sessions s
   Ok (Order transactions sessions)
 
-abbrev pub cycle_sizes : List ℕ → List ℕ → List ℕ → Result Sizes CertFaultKind
-cycle_sizes n m l = do
-  transactions ← count_of n
-  links ← count_of m
-  least ← number_of 0 V1_MAX_COST l
+abbrev pub cycle_sizes : Version → List ℕ → List ℕ → List ℕ → Result Sizes CertFaultKind
+cycle_sizes version n m l = do
+  transactions ← count_of version n
+  links ← count_of version m
+  least ← number_of 0 (ranges_of version).cost l
   Ok (Cycle transactions links least)
 
 -- the line that says how long the parts of a claim are
-abbrev pub sizes_line : Words → Result Sizes CertFaultKind
-sizes_line [] = Err Word
-sizes_line (word ∷ fields) =
-    if same word (codes "order") then two_words order_sizes fields
-    else if same word (codes "cycle") then three_words cycle_sizes fields
+abbrev pub sizes_line : Version → Words → Result Sizes CertFaultKind
+sizes_line version [] = Err Word
+sizes_line version (word ∷ fields) =
+    if same word (codes "order") then two_words (order_sizes version) fields
+    else if same word (codes "cycle") then three_words (cycle_sizes version) fields
     else Err Word
 
 -- ---- lines
@@ -178,10 +184,10 @@ judged at after (Err kind) = Err (record { line = at.line; kind = kind })
 abbrev pub line_length : List ℕ → ℕ
 line_length bytes = position_or_len (λ byte. byte == 10) bytes
 
--- the next line: at most 8,191 bytes and a line feed
-abbrev pub line_of : List ℕ → Result (List ℕ) CertFaultKind
-line_of bytes =
-    if nat_lt V1_MAX_LINE_BYTES (line_length bytes) then Err TooLarge
+-- the next line: at most so many bytes and a line feed
+abbrev pub line_of : ℕ → List ℕ → Result (List ℕ) CertFaultKind
+line_of most bytes =
+    if nat_lt most (line_length bytes) then Err TooLarge
     else if nat_lt (line_length bytes) (length bytes) then Ok (take (line_length bytes) bytes)
     else Err Truncated
 
@@ -189,60 +195,83 @@ line_of bytes =
 abbrev pub behind : Place → List ℕ → Place
 behind at line = record { line = at.line + 1; bytes = drop (length line + 1) at.bytes }
 
--- the next line, judged by its form
-abbrev pub next : {X : Type 0} → (List ℕ → Result X CertFaultKind) → Place → Reads X
-next form at = do
-  line ← judged at at (line_of at.bytes)
+-- the next line, of at most so many bytes, judged by its form
+abbrev pub next : {X : Type 0} → ℕ → (List ℕ → Result X CertFaultKind) → Place → Reads X
+next most form at = do
+  line ← judged at at (line_of most at.bytes)
   judged at (behind at line.0) (form line.0)
 
-abbrev pub words : {X : Type 0} → (Words → Result X CertFaultKind) → Place → Reads X
-words form at = next (λ line. form (words_of line)) at
+-- the same of a line after the first
+abbrev pub words : {X : Type 0} → Version → (Words → Result X CertFaultKind) → Place → Reads X
+words version form at = next (ranges_of version).line_bytes (λ line. form (words_of line)) at
 
--- the same so many times
-abbrev pub repeated : {X : Type 0} → (Place → Reads X) → ℕ → Place → Reads (List X)
-repeated read zero at = Ok ([], at)
-repeated read (suc n) at = do
-  first ← read at
-  others ← repeated read n first.1
+-- so many parts, each of which may go by its number, the first of them by this one
+abbrev pub numbered : {X : Type 0} → (ℕ → Place → Reads X) → ℕ → ℕ → Place → Reads (List X)
+numbered read from zero at = Ok ([], at)
+numbered read from (suc n) at = do
+  first ← read from at
+  others ← numbered read (from + 1) n first.1
   Ok (first.0 ∷ others.0, others.1)
 
-abbrev pub header_line : List ℕ → Result (Unit {0}) CertFaultKind
-header_line line = if same line (codes "tcc-certificate 1") then Ok tt else Err Header
+-- the same part so many times
+abbrev pub repeated : {X : Type 0} → (Place → Reads X) → ℕ → Place → Reads (List X)
+repeated read n at = numbered (λ i. read) 0 n at
+
+-- the version and the level that the first line says
+abbrev pub header_line : List ℕ → Result (Version × Level) CertFaultKind
+header_line line =
+    if same line (codes "tcc-certificate 1") then Ok (One, Causal)
+    else if same line (codes "tcc-certificate 1 atomic") then Ok (One, Atomic)
+    else if same line (codes "tcc-certificate 2 causal") then Ok (Two, Causal)
+    else if same line (codes "tcc-certificate 2 atomic") then Ok (Two, Atomic)
+    else Err Header
 
 -- the link of this head, and the steps of its walk
-abbrev pub walk_of : Head × Place → Reads Link
-walk_of head = do
-  walk ← repeated (words step_line) head.0.steps head.1
+abbrev pub walk_of : Version → Head × Place → Reads Link
+walk_of version head = do
+  walk ← repeated (words version (step_line version)) head.0.steps head.1
   Ok (with_walk head.0.link walk.0, walk.1)
 
-abbrev pub link_at : Place → Reads Link
-link_at at = words head_line at >>= walk_of
+abbrev pub link_at : Version → Place → Reads Link
+link_at version at = words version (head_line version) at >>= walk_of version
 
--- so many lines of so many numbers
-abbrev pub table_at : ℕ → ℕ → ℕ → Place → Reads (List (List ℕ))
-table_at rows columns most at = repeated (words (numbers_line columns most)) rows at
+-- so many lines of numbers, each of as many as its number says
+abbrev pub table_at : Version → ℕ → (ℕ → ℕ) → ℕ → Place → Reads (List (List ℕ))
+table_at version rows columns most at = numbered (λ s. words version (numbers_line (columns s) most)) 0 rows at
 
-abbrev pub order_at : ℕ → ℕ → Place → Reads Certificate
-order_at transactions sessions at = do
-  order ← words (numbers_line transactions V1_MAX_NUMBER) at
-  mark ← words (word_line (codes "clocks")) order.1
-  clocks ← table_at transactions sessions V1_MAX_NUMBER mark.1
-  end ← words (word_line (codes "end")) clocks.1
-  Ok (claim.Order order.0 clocks.0, end.1)
+-- N lines of S numbers behind their mark, and nothing at `Atomic`
+abbrev pub clocks_at : Version → Level → ℕ → ℕ → Place → Reads (List (List ℕ))
+clocks_at version Causal transactions sessions at = do
+  mark ← words version (word_line (codes "clocks")) at
+  table_at version transactions (λ t. sessions) (ranges_of version).number mark.1
+clocks_at version Atomic transactions sessions at = Ok ([], at)
 
-abbrev pub cycle_at : ℕ → ℕ → ℕ → Place → Reads Certificate
-cycle_at transactions count least at = do
-  links ← repeated link_at count at
-  near_mark ← words (word_line (codes "near")) links.1
-  near ← table_at transactions transactions V1_MAX_COST near_mark.1
-  far_mark ← words (word_line (codes "far")) near.1
-  far ← table_at transactions transactions V1_MAX_COST far_mark.1
-  end ← words (word_line (codes "end")) far.1
-  Ok (claim.Cycle links.0 least near.0 far.0, end.1)
+abbrev pub order_at : Version → Level → ℕ → ℕ → Place → Reads Certificate
+order_at version level transactions sessions at = do
+  order ← words version (numbers_line transactions (ranges_of version).number) at
+  clocks ← clocks_at version level transactions sessions order.1
+  end ← words version (word_line (codes "end")) clocks.1
+  Ok (claim.Order version level order.0 sessions clocks.0, end.1)
 
-abbrev pub claim_at : Sizes → Place → Reads Certificate
-claim_at (Order transactions sessions) at = order_at transactions sessions at
-claim_at (Cycle transactions links least) at = cycle_at transactions links least at
+abbrev pub cycle_at : Version → Level → ℕ → ℕ → ℕ → Place → Reads Certificate
+cycle_at version level transactions count least at = do
+  links ← repeated (link_at version) count at
+  near_mark ← words version (word_line (codes "near")) links.1
+  near ← table_at version transactions (λ a. transactions) (ranges_of version).cost near_mark.1
+  far_mark ← words version (word_line (codes "far")) near.1
+  far ← table_at version transactions (λ s. transactions - lowest version s) (ranges_of version).cost far_mark.1
+  end ← words version (word_line (codes "end")) far.1
+  Ok (claim.Cycle version level links.0 least near.0 far.0, end.1)
+
+abbrev pub claim_at : Version → Level → Sizes → Place → Reads Certificate
+claim_at version level (Order transactions sessions) at = order_at version level transactions sessions at
+claim_at version level (Cycle transactions links least) at = cycle_at version level transactions links least at
+
+-- what stands behind the first line
+abbrev pub behind_header : (Version × Level) × Place → Reads Certificate
+behind_header header = do
+  sizes ← words header.0.0 (sizes_line header.0.0) header.1
+  claim_at header.0.0 header.0.1 sizes.0 sizes.1
 
 -- nothing stands behind the last line
 abbrev pub ended : Certificate → Place → Result Certificate CertFault
@@ -250,10 +279,7 @@ ended certificate at = if length at.bytes == 0 then Ok certificate else Err (rec
 
 -- a certificate, up to the line behind its last
 abbrev pub certificate_at : Place → Reads Certificate
-certificate_at at = do
-  header ← next header_line at
-  sizes ← words sizes_line header.1
-  claim_at sizes.0 sizes.1
+certificate_at at = next MAX_HEADER_BYTES header_line at >>= behind_header
 
 -- the whole text
 abbrev pub start_of : List ℕ → Place

@@ -2,7 +2,7 @@
 use Rattle.std.specs.Prelude.{ℕ, ◌<◌, ◌≡◌, length}
 use Rattle.tcc_reads.specs.History.{History}
 use Rattle.tcc_graph.specs.Links.{cost}
-use Rattle.tcc_cert.specs.CycleRules.{CycleClaim, HasRightSizes, IsLinkWrong, BreaksNearPair, BreaksNearStep, BreaksFarLink, BreaksFarStep, BreaksReturn}
+use Rattle.tcc_cert.specs.CycleRules.{CycleClaim, cycle_judged, HasRightSizes, IsLinkWrong, BreaksNearPair, BreaksNearStep, BreaksFarLink, BreaksFarStep, BreaksReturn}
 use Rattle.tcc_cert.specs.OrderRules.{OrderClaim, HasOrderSizes, KeepsPairs, BreaksAxiom}
 use Rattle.tcc_cert.specs.declared.certificate.Certificate.{Certificate}
 use Rattle.tcc_cert.specs.declared.certificate.Certificate.TheVariants as claim
@@ -14,7 +14,7 @@ HoldsEverywhere broken = (at : ℕ × ℕ) → broken at → ⊥
 -- the links, one at least, are a cycle of the cost that is claimed
 pub record IsRightCycle (h : History) (k : CycleClaim) : Type 0 where
   pub some : 0 < length k.links
-  pub right : (i : ℕ) → IsLinkWrong h k.links i → ⊥
+  pub right : (i : ℕ) → IsLinkWrong (cycle_judged h k) k.links i → ⊥
   pub costs : cost k.links ≡ k.least
 
 -- the claim that a cycle is least is certified
@@ -22,10 +22,10 @@ pub record CertifiesCycle (h : History) (k : CycleClaim) : Type 0 where
   pub sizes : HasRightSizes h k
   pub cycle : IsRightCycle h k
   pub near_pairs : HoldsEverywhere (BreaksNearPair h k.near)
-  pub near_steps : HoldsEverywhere (BreaksNearStep h k.near)
-  pub far_links : HoldsEverywhere (BreaksFarLink h k.near k.far)
-  pub far_steps : HoldsEverywhere (BreaksFarStep h k.near k.far)
-  pub returns : HoldsEverywhere (BreaksReturn h k.least k.far)
+  pub near_steps : HoldsEverywhere (BreaksNearStep h k.level k.near)
+  pub far_links : HoldsEverywhere (BreaksFarLink h k.version k.near k.far)
+  pub far_steps : HoldsEverywhere (BreaksFarStep h k.version k.near k.far)
+  pub returns : HoldsEverywhere (BreaksReturn h k.version k.least k.far)
 
 -- the claim that a list is a commit order is certified
 pub record CertifiesOrder (h : History) (k : OrderClaim) : Type 0 where
@@ -35,5 +35,7 @@ pub record CertifiesOrder (h : History) (k : OrderClaim) : Type 0 where
 
 -- the certificate certifies what it claims
 abbrev pub Certifies : History → Certificate → Type 0
-Certifies h (claim.Order order clocks) = CertifiesOrder h (record { order = order; clocks = clocks })
-Certifies h (claim.Cycle links least near far) = CertifiesCycle h (record { links = links; least = least; near = near; far = far })
+Certifies h (claim.Order version level order sessions clocks) =
+    CertifiesOrder h (record { level = level; order = order; sessions = sessions; clocks = clocks })
+Certifies h (claim.Cycle version level links least near far) =
+    CertifiesCycle h (record { version = version; level = level; links = links; least = least; near = near; far = far })

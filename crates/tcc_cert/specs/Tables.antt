@@ -1,5 +1,7 @@
 -- Tables of numbers, and places in them.
-use Rattle.std.specs.Prelude.{ℕ, ◌<◌, ◌≤◌, ◌≡◌, ◌⊎◌, List, length, All, slice_index}
+use Rattle.std.specs.Prelude.{ℕ, ◌<◌, ◌≤◌, ◌≡◌, ◌-◌, ◌⊎◌, List, length, All, slice_index}
+use Rattle.tcc_cert.specs.declared.version.Version.{Version}
+use Rattle.tcc_cert.specs.declared.version.Version.TheVariants.{One, Two}
 pub use Rattle.tcc_graph.specs.Tables.{row_of}
 
 -- the number at a place
@@ -10,6 +12,24 @@ entry table a b = slice_index (row_of table a) b
 pub record HasSize (rows : ℕ) (columns : ℕ) (table : List (List ℕ)) : Type 0 where
   pub long : length table ≡ rows
   pub wide : All (λ row. length row ≡ columns) table
+
+-- so many rows, row s with as many numbers as its number says
+pub record HasRows (rows : ℕ) (columns : ℕ → ℕ) (table : List (List ℕ)) : Type 0 where
+  pub long : length table ≡ rows
+  pub wide : (s : ℕ) → s < rows → length (row_of table s) ≡ columns s
+
+-- the first transaction that row s of `far` has a number for
+abbrev pub lowest : Version → ℕ → ℕ
+lowest One s = 0
+lowest Two s = s
+
+-- what `far` has for the routes from s to v
+abbrev pub far_entry : Version → List (List ℕ) → ℕ → ℕ → ℕ
+far_entry version far s v = slice_index (row_of far s) (v - lowest version s)
+
+-- row s of `far` has a number for each of so many transactions from the lowest on
+abbrev pub HasFarSize : Version → ℕ → List (List ℕ) → Type 0
+HasFarSize version count far = HasRows count (λ s. count - lowest version s) far
 
 -- no number is above the limit
 abbrev pub IsCapped : ℕ → List (List ℕ) → Type 0

@@ -1,13 +1,17 @@
 -- The text of a certificate: lines of words, the words parted by one space, each line ended by one line feed.
-use Rattle.std.specs.Prelude.{ℕ, ◌≤◌, ◌≡◌, List, [], ◌∷◌, ◌++◌, length, map, All, None, codes, decimal, flat_map}
-use Rattle.tcc_cert.specs.declared.version_1.TheConstants.{V1_MAX_COST, V1_MAX_COUNT, V1_MAX_NUMBER, V1_MAX_SESSIONS}
+use Rattle.std.specs.Prelude.{ℕ, ◌≤◌, ◌≡◌, ◌-◌, List, [], ◌∷◌, ◌++◌, length, map, All, None, codes, decimal, flat_map}
 use Rattle.std.specs.List.{join_by}
 use Rattle.tcc_txn.specs.Names.{name_fault}
 use Rattle.tcc_graph.specs.declared.step.Step.{Step}
 use Rattle.tcc_graph.specs.declared.step.Step.TheVariants as step
 use Rattle.tcc_graph.specs.declared.link.Link.{Link}
 use Rattle.tcc_graph.specs.declared.link.Link.TheVariants as link
-use Rattle.tcc_cert.specs.Tables.{row_of, HasSize, IsCapped}
+use Rattle.tcc_graph.specs.declared.level.Level.{Level}
+use Rattle.tcc_graph.specs.declared.level.Level.TheVariants.{Causal, Atomic}
+use Rattle.tcc_cert.specs.declared.version.Version.{Version}
+use Rattle.tcc_cert.specs.declared.version.Version.TheVariants.{One, Two}
+use Rattle.tcc_cert.specs.Ranges.{ranges_of}
+use Rattle.tcc_cert.specs.Tables.{lowest, HasRows, IsCapped}
 use Rattle.tcc_cert.specs.CycleRules.{CycleClaim}
 use Rattle.tcc_cert.specs.OrderRules.{OrderClaim}
 use Rattle.tcc_cert.specs.declared.certificate.Certificate.{Certificate}
@@ -42,16 +46,24 @@ link_lines (link.Reads u v key) = step_words (step.Reads u v key) ∷ []
 link_lines (link.Derived b a key c walk) =
     (codes "D" ∷ decimal b ∷ decimal a ∷ key ∷ decimal c ∷ decimal (length walk) ∷ []) ∷ map step_words walk
 
-abbrev pub header_words : Words
-header_words = codes "tcc-certificate" ∷ codes "1" ∷ []
+-- the first line; version 1 names the level where it isn't `Causal`, version 2 always
+abbrev pub header_words : Version → Level → Words
+header_words One Causal = codes "tcc-certificate" ∷ codes "1" ∷ []
+header_words One Atomic = codes "tcc-certificate" ∷ codes "1" ∷ codes "atomic" ∷ []
+header_words Two Causal = codes "tcc-certificate" ∷ codes "2" ∷ codes "causal" ∷ []
+header_words Two Atomic = codes "tcc-certificate" ∷ codes "2" ∷ codes "atomic" ∷ []
+
+-- the clocks, which are left out at `Atomic`
+abbrev pub clocks_lines : Level → List (List ℕ) → List Words
+clocks_lines Causal clocks = (codes "clocks" ∷ []) ∷ table_lines clocks
+clocks_lines Atomic clocks = []
 
 -- `order N S`, the order, and the clocks: N rows of S numbers
-abbrev pub order_lines : List ℕ → List (List ℕ) → List Words
-order_lines order clocks =
-    (codes "order" ∷ decimal (length order) ∷ decimal (length (row_of clocks 0)) ∷ [])
+abbrev pub order_lines : Level → List ℕ → ℕ → List (List ℕ) → List Words
+order_lines level order sessions clocks =
+    (codes "order" ∷ decimal (length order) ∷ decimal sessions ∷ [])
     ∷ numbers_words order
-    ∷ (codes "clocks" ∷ [])
-    ∷ (table_lines clocks ++ (codes "end" ∷ []) ∷ [])
+    ∷ (clocks_lines level clocks ++ (codes "end" ∷ []) ∷ [])
 
 -- `cycle N M L`, the M links, and two tables of N rows
 abbrev pub cycle_lines : List Link → ℕ → List (List ℕ) → List (List ℕ) → List Words
@@ -64,59 +76,70 @@ cycle_lines links least near far =
     ∷ (table_lines far
     ++ (codes "end" ∷ []) ∷ [])))
 
--- the lines after the first
+-- the first line, and those after it
+abbrev pub header_of : Certificate → Words
+header_of (claim.Order version level order sessions clocks) = header_words version level
+header_of (claim.Cycle version level links least near far) = header_words version level
+
 abbrev pub claim_lines : Certificate → List Words
-claim_lines (claim.Order order clocks) = order_lines order clocks
-claim_lines (claim.Cycle links least near far) = cycle_lines links least near far
+claim_lines (claim.Order version level order sessions clocks) = order_lines level order sessions clocks
+claim_lines (claim.Cycle version level links least near far) = cycle_lines links least near far
 
 abbrev pub lines_text : List Words → List ℕ
 lines_text lines = flat_map line_text lines
 
 abbrev pub certificate_text : Certificate → List ℕ
-certificate_text certificate = lines_text (header_words ∷ claim_lines certificate)
+certificate_text certificate = lines_text (header_of certificate ∷ claim_lines certificate)
 
 -- a number of transactions, links or steps
-pub record IsCount (n : ℕ) : Type 0 where
+pub record IsCount (version : Version) (n : ℕ) : Type 0 where
   pub some : 1 ≤ n
-  pub limit : n ≤ V1_MAX_COUNT
+  pub limit : n ≤ (ranges_of version).count
 
 -- numbers of transactions, and the places in clocks
-abbrev pub IsNumber : ℕ → Type 0
-IsNumber n = n ≤ V1_MAX_NUMBER
+abbrev pub IsNumber : Version → ℕ → Type 0
+IsNumber version n = n ≤ (ranges_of version).number
 
 abbrev pub IsKey : List ℕ → Type 0
 IsKey key = name_fault key ≡ None
 
-abbrev pub HasStepText : Step → Type 0
-HasStepText (step.Session u v) = IsNumber u × IsNumber v
-HasStepText (step.Reads u v key) = IsNumber u × IsNumber v × IsKey key
+abbrev pub HasStepText : Version → Step → Type 0
+HasStepText version (step.Session u v) = IsNumber version u × IsNumber version v
+HasStepText version (step.Reads u v key) = IsNumber version u × IsNumber version v × IsKey key
 
-abbrev pub HasLinkText : Link → Type 0
-HasLinkText (link.Session u v) = IsNumber u × IsNumber v
-HasLinkText (link.Reads u v key) = IsNumber u × IsNumber v × IsKey key
-HasLinkText (link.Derived b a key c walk) =
-    IsNumber b × IsNumber a × IsKey key × IsNumber c × IsCount (length walk) × All HasStepText walk
+abbrev pub HasLinkText : Version → Link → Type 0
+HasLinkText version (link.Session u v) = IsNumber version u × IsNumber version v
+HasLinkText version (link.Reads u v key) = IsNumber version u × IsNumber version v × IsKey key
+HasLinkText version (link.Derived b a key c walk) =
+    IsNumber version b × IsNumber version a × IsKey key × IsNumber version c × IsCount version (length walk) × All (HasStepText version) walk
 
--- so many rows of so many numbers, none above the limit
-pub record HasTableText (rows : ℕ) (columns : ℕ) (most : ℕ) (table : List (List ℕ)) : Type 0 where
-  pub size : HasSize rows columns table
+-- so many rows, each with as many numbers as its number says, none above the limit
+pub record HasTableText (rows : ℕ) (columns : ℕ → ℕ) (most : ℕ) (table : List (List ℕ)) : Type 0 where
+  pub size : HasRows rows columns table
   pub capped : IsCapped most table
 
-pub record HasOrderText (k : OrderClaim) : Type 0 where
-  pub count : IsCount (length k.order)
-  pub numbers : All IsNumber k.order
-  pub sessions : length (row_of k.clocks 0) ≤ V1_MAX_SESSIONS
-  pub clocks : HasTableText (length k.order) (length (row_of k.clocks 0)) V1_MAX_NUMBER k.clocks
+-- N rows of S numbers, and none at `Atomic`
+abbrev pub HasClocksText : Version → Level → ℕ → ℕ → List (List ℕ) → Type 0
+HasClocksText version Causal transactions sessions clocks = HasTableText transactions (λ t. sessions) (ranges_of version).number clocks
+HasClocksText version Atomic transactions sessions clocks = clocks ≡ []
+
+pub record HasOrderText (version : Version) (k : OrderClaim) : Type 0 where
+  pub count : IsCount version (length k.order)
+  pub numbers : All (IsNumber version) k.order
+  pub sessions : k.sessions ≤ (ranges_of version).sessions
+  pub clocks : HasClocksText version k.level (length k.order) k.sessions k.clocks
 
 pub record HasCycleText (k : CycleClaim) : Type 0 where
-  pub count : IsCount (length k.near)
-  pub steps : IsCount (length k.links)
-  pub links : All HasLinkText k.links
-  pub least : k.least ≤ V1_MAX_COST
-  pub near : HasTableText (length k.near) (length k.near) V1_MAX_COST k.near
-  pub far : HasTableText (length k.near) (length k.near) V1_MAX_COST k.far
+  pub count : IsCount k.version (length k.near)
+  pub steps : IsCount k.version (length k.links)
+  pub links : All (HasLinkText k.version) k.links
+  pub least : k.least ≤ (ranges_of k.version).cost
+  pub near : HasTableText (length k.near) (λ a. length k.near) (ranges_of k.version).cost k.near
+  pub far : HasTableText (length k.near) (λ s. length k.near - lowest k.version s) (ranges_of k.version).cost k.far
 
 -- the values that have a text
 abbrev pub HasText : Certificate → Type 0
-HasText (claim.Order order clocks) = HasOrderText (record { order = order; clocks = clocks })
-HasText (claim.Cycle links least near far) = HasCycleText (record { links = links; least = least; near = near; far = far })
+HasText (claim.Order version level order sessions clocks) =
+    HasOrderText version (record { level = level; order = order; sessions = sessions; clocks = clocks })
+HasText (claim.Cycle version level links least near far) =
+    HasCycleText (record { version = version; level = level; links = links; least = least; near = near; far = far })

@@ -23,8 +23,8 @@ impl From<io::Error> for WriteFault {
 /// What is wrong with a line of a certificate's text.
 #[derive(Clone, Copy, Debug, PartialEq, Eq, Error)]
 pub enum CertFaultKind {
-    /// The first line is not `tcc-certificate 1`.
-    #[error("the first line is not `tcc-certificate 1`")]
+    /// The first line names no version, or no level of it.
+    #[error("the first line is none that a certificate begins with")]
     Header,
     /// The first word is none that the line may begin with, or a key is no name.
     #[error("a word that cannot stand there")]
@@ -35,7 +35,7 @@ pub enum CertFaultKind {
     /// There are more words than the line has, or fewer.
     #[error("another number of words")]
     Count,
-    /// A number is above its range, or the line has more than 8,191 bytes.
+    /// A number is above its range, or the line has more bytes than the version allows.
     #[error("too large")]
     TooLarge,
     /// The input ended before the line feed.

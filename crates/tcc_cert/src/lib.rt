@@ -8,10 +8,13 @@ mod lines;
 mod links;
 mod numbers;
 mod outgoing;
+mod ranges;
 mod reading;
 pub mod sending;
 mod table;
+mod version;
 pub mod version_1;
+pub mod version_2;
 mod writing;
 
 pub use certificate::Certificate;
@@ -20,6 +23,7 @@ pub use links::Links;
 pub use numbers::Numbers;
 pub use reading::read;
 pub use table::Table;
+pub use version::Version;
 pub use writing::write;
 
 #[cfg(test)]

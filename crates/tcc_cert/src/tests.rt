@@ -1,13 +1,13 @@
 //! Certificates of worked histories, writers that fail, altered texts, and readers that fail.
 use crate::sending::send;
 use crate::{
-    CertFault, CertFaultKind, Certificate, Links, Numbers, Table, WriteFault, read, write,
+    CertFault, CertFaultKind, Certificate, Links, Numbers, Table, Version, WriteFault, read, write,
 };
 use std::alloc::{AllocError, Global};
 use std::io::{self, ErrorKind, Read, Write};
 use std::process::Abort;
 use std::test::Fail;
-use tcc_graph::{Link, Step, Walk};
+use tcc_graph::{Level, Link, Step, Walk};
 use tcc_txn::Name;
 
 const NO_TRANSACTIONS: &str = "tcc-certificate 1\norder 1 0\n0\nclocks\n\nend\n";
@@ -15,12 +15,26 @@ const NO_TRANSACTIONS: &str = "tcc-certificate 1\norder 1 0\n0\nclocks\n\nend\n"
 const STALE_READ: &str = "tcc-certificate 1\ncycle 3 2 3\nS 0 1\nD 1 0 x 2 1\nS 1 2\n\
     near\n3 1 1\n3 3 1\n3 3 3\nfar\n3 1 1\n2 3 1\n3 3 3\nend\n";
 
+const STALE_READ_UPWARD: &str = "tcc-certificate 2 causal\ncycle 3 2 3\nS 0 1\nD 1 0 x 2 1\nS 1 2\n\
+    near\n3 1 1\n3 3 1\n3 3 3\nfar\n3 1 1\n3 1\n3\nend\n";
+
 const TWO_READS: &str = "tcc-certificate 1\ncycle 3 2 2\nR 1 2 x\nR 2 1 y\n\
     near\n2 1 1\n2 2 1\n2 1 2\nfar\n2 1 1\n2 2 1\n2 1 2\nend\n";
 
 const TWO_WRITES: &str =
     "tcc-certificate 1\ncycle 4 2 4\nD 1 2 x 3 1\nR 1 3 x\nD 2 1 x 3 1\nR 2 3 x\n\
     near\n4 1 1 1\n4 4 4 1\n4 4 4 1\n4 4 4 4\nfar\n4 1 1 1\n4 4 2 1\n4 2 4 1\n4 4 4 4\nend\n";
+
+const TWO_WRITES_UPWARD: &str =
+    "tcc-certificate 2 atomic\ncycle 4 2 4\nD 1 2 x 3 1\nR 1 3 x\nD 2 1 x 3 1\nR 2 3 x\n\
+    near\n4 1 1 1\n4 4 4 1\n4 4 4 1\n4 4 4 4\nfar\n4 1 1 1\n4 2 1\n4 1\n4\nend\n";
+
+const NO_CLOCKS: &str = "tcc-certificate 1 atomic\norder 4 2\n0 1 2 3\nend\n";
+
+const NO_CLOCKS_UPWARD: &str = "tcc-certificate 2 atomic\norder 4 2\n0 1 2 3\nend\n";
+
+const ONE_SESSION_UPWARD: &str =
+    "tcc-certificate 2 causal\norder 3 1\n0 1 2\nclocks\n0\n0\n1\nend\n";
 
 const LONG_FORK: &str = "tcc-certificate 1\norder 5 4\n0 1 2 3 4\nclocks\n\
     0 0 0 0\n0 0 0 0\n0 0 0 0\n1 0 0 0\n0 1 0 0\nend\n";
@@ -41,25 +55,19 @@ fn table(alloc: Global, lists: &[&[u32]]) -> Result<Table, AllocError> {
     Ok(Table::new(rows))
 }
 
-fn order(alloc: Global, list: &[u32], clocks: &[&[u32]]) -> Result<Certificate, AllocError> {
-    Ok(Certificate::Order {
-        order: numbers(alloc, list)?,
-        clocks: table(alloc, clocks)?,
-    })
-}
-
-fn cycle(
+fn order(
     alloc: Global,
-    links: Vec<Link>,
-    least: u32,
-    near: &[&[u32]],
-    far: &[&[u32]],
+    (version, level): (Version, Level),
+    list: &[u32],
+    sessions: u32,
+    clocks: &[&[u32]],
 ) -> Result<Certificate, AllocError> {
-    Ok(Certificate::Cycle {
-        links: Links::new(links),
-        least,
-        near: table(alloc, near)?,
-        far: table(alloc, far)?,
+    Ok(Certificate::Order {
+        version,
+        level,
+        order: numbers(alloc, list)?,
+        sessions,
+        clocks: table(alloc, clocks)?,
     })
 }
 
@@ -81,18 +89,24 @@ fn derived(
     })
 }
 
-fn stale_read(rt: &impl Abort, alloc: Global) -> Result<Certificate, AllocError> {
+fn stale_read(
+    rt: &impl Abort,
+    alloc: Global,
+    version: Version,
+    far: &[&[u32]],
+) -> Result<Certificate, AllocError> {
     let key = Name::read(b"x").expect(rt, "a name");
     let mut links = Vec::new(alloc);
     links.push(Link::Session { from: 0, to: 1 })?;
     links.push(derived(alloc, 1, 0, key, 2, Step::Session { from: 1, to: 2 })?)?;
-    cycle(
-        alloc,
-        links,
-        3,
-        &[&[3, 1, 1], &[3, 3, 1], &[3, 3, 3]],
-        &[&[3, 1, 1], &[2, 3, 1], &[3, 3, 3]],
-    )
+    Ok(Certificate::Cycle {
+        version,
+        level: Level::Causal,
+        links: Links::new(links),
+        least: 3,
+        near: table(alloc, &[&[3, 1, 1], &[3, 3, 1], &[3, 3, 3]])?,
+        far: table(alloc, far)?,
+    })
 }
 
 fn writes(rt: &impl Abort, alloc: Global, certificate: &Certificate, text: &str) {
@@ -101,33 +115,23 @@ fn writes(rt: &impl Abort, alloc: Global, certificate: &Certificate, text: &str)
     assert_eq!(rt; out.as_slice(), text.as_bytes(), "for {text:?}");
 }
 
+const WHOLE: &[&[u32]] = &[&[3, 1, 1], &[2, 3, 1], &[3, 3, 3]];
+
 #[test]
 fn worked_texts(rt: HostRuntime) -> Result<(), Fail> {
     let alloc = rt.alloc();
-    writes(&rt, alloc, &order(alloc, &[0], &[&[]])?, NO_TRANSACTIONS);
-    writes(&rt, alloc, &stale_read(&rt, alloc)?, STALE_READ);
-    let one_session = order(alloc, &[0, 1, 2], &[&[0], &[0], &[1]])?;
+    let causal = (Version::One, Level::Causal);
+    let alone = order(alloc, causal, &[0], 0, &[&[]])?;
+    writes(&rt, alloc, &alone, NO_TRANSACTIONS);
+    let one_session = order(alloc, causal, &[0, 1, 2], 1, &[&[0], &[0], &[1]])?;
     writes(&rt, alloc, &one_session, ONE_SESSION);
-    Ok(())
-}
-
-// More than the bytes that are gathered before they go out: 40 rows of 40 numbers of 7 digits.
-#[test]
-fn long_text(rt: HostRuntime) -> Result<(), Fail> {
-    let alloc = rt.alloc();
-    let row = [1_049_600; 40];
-    let rows: [&[u32]; 40] = [row.as_slice(); 40];
-    let session = vec![in alloc; Link::Session { from: 0, to: 1 }]?;
-    let certificate = cycle(alloc, session, 1_049_600, &rows, &rows)?;
-    let mut out = Vec::new(alloc);
-    assert_eq!(&rt; write(&certificate, &mut out), Ok(()));
-    let head = "tcc-certificate 1\ncycle 40 1 1049600\nS 0 1\nnear\n";
-    assert_eq!(&rt;
-        out.len(),
-        head.len() + 2 * 40 * 320 + "far\n".len() + "end\n".len()
-    );
-    assert!(&rt; out.starts_with(head.as_bytes()));
-    assert!(&rt; out.ends_with(b"1049600 1049600\nend\n"));
+    let atomic = (Version::One, Level::Atomic);
+    let no_clocks = order(alloc, atomic, &[0, 1, 2, 3], 2, &[])?;
+    writes(&rt, alloc, &no_clocks, NO_CLOCKS);
+    let whole = stale_read(&rt, alloc, Version::One, WHOLE)?;
+    writes(&rt, alloc, &whole, STALE_READ);
+    let upward = stale_read(&rt, alloc, Version::Two, &[&[3, 1, 1], &[3, 1], &[3]])?;
+    writes(&rt, alloc, &upward, STALE_READ_UPWARD);
     Ok(())
 }
 
@@ -217,7 +221,7 @@ fn assert_part(
 #[test]
 fn writer_fails(rt: HostRuntime) -> Result<(), Fail> {
     let alloc = rt.alloc();
-    let certificate = stale_read(&rt, alloc)?;
+    let certificate = stale_read(&rt, alloc, Version::One, WHOLE)?;
     let failed = Err(WriteFault::Device);
     for fault in [
         Fault::Fails(ErrorKind::Other),
@@ -234,7 +238,7 @@ fn writer_fails(rt: HostRuntime) -> Result<(), Fail> {
     Ok(())
 }
 
-const TEXTS: [&str; 7] = [
+const TEXTS: [&str; 12] = [
     NO_TRANSACTIONS,
     STALE_READ,
     TWO_READS,
@@ -242,6 +246,11 @@ const TEXTS: [&str; 7] = [
     LONG_FORK,
     ONE_SESSION,
     ONE_TRANSACTION,
+    STALE_READ_UPWARD,
+    TWO_WRITES_UPWARD,
+    NO_CLOCKS,
+    NO_CLOCKS_UPWARD,
+    ONE_SESSION_UPWARD,
 ];
 
 // What was written is read, and written again it is the same.
@@ -322,7 +331,7 @@ impl<'a> Read for Failing<'a> {
 #[test]
 fn reader_fails(rt: HostRuntime) -> Result<(), Fail> {
     let alloc = rt.alloc();
-    for most in [1, 7, 100] {
+    for most in [1, 100] {
         for count in 0..STALE_READ.len() + 1 {
             let text = &STALE_READ.as_bytes()[..count];
             let fault = fault_of(&rt, alloc, Failing { text, most });
@@ -389,48 +398,42 @@ fn pieces(rt: HostRuntime) -> Result<(), Fail> {
         }
         // The end is final: what comes behind it is not asked for.
         assert!(&rt; resumed(alloc, trailing, most, whole).is_ok(), "by {most}");
-        let fault = match resumed(alloc, trailing, most, trailing.len()) {
+        let fault = match resumed(alloc, trailing, most, whole - 1) {
             Ok(_) => panic!(&rt; "a certificate is read"),
             Err(fault) => fault,
         };
         assert_eq!(&rt;
             (fault.line, fault.kind),
-            (7, CertFaultKind::Trailing),
+            (6, CertFaultKind::Truncated),
             "by {most}"
         );
-        for count in 0..whole {
-            let fault = match resumed(alloc, trailing, most, count) {
-                Ok(_) => panic!(&rt; "a certificate is read"),
-                Err(fault) => fault,
-            };
-            assert_eq!(&rt;
-                fault.kind,
-                CertFaultKind::Truncated,
-                "{count} bytes by {most}"
-            );
-        }
     }
     Ok(())
 }
 
-/// The certificate of a stale read with another line in place of one, counted from 1.
-fn altered(alloc: Global, line: usize, other: &str) -> Result<Vec<u8>, AllocError> {
-    let mut text = Vec::new(alloc);
-    for (index, old) in STALE_READ.lines().enumerate() {
+/// A text with another line in place of one, counted from 1.
+fn altered(alloc: Global, text: &str, line: usize, other: &str) -> Result<Vec<u8>, AllocError> {
+    let mut changed = Vec::new(alloc);
+    for (index, old) in text.lines().enumerate() {
         let new = if index + 1 == line { other } else { old };
-        text.extend_from_slice(new.as_bytes())?;
-        text.push(b'\n')?;
+        changed.extend_from_slice(new.as_bytes())?;
+        changed.push(b'\n')?;
     }
-    Ok(text)
+    Ok(changed)
 }
 
-/// Another line in place of one of the certificate of a stale read, counted from 1, and what is wrong with it.
+/// Another line in place of one, counted from 1, and what is wrong with it.
 type Altered<'a> = (usize, &'a str, CertFaultKind);
 
-fn assert_altered(rt: &impl Abort, alloc: Global, rows: &[Altered]) -> Result<(), AllocError> {
+fn assert_altered(
+    rt: &impl Abort,
+    alloc: Global,
+    text: &str,
+    rows: &[Altered],
+) -> Result<(), AllocError> {
     for (line, other, kind) in rows {
-        let text = altered(alloc, *line, other)?;
-        let fault = fault_of(rt, alloc, text.as_slice());
+        let changed = altered(alloc, text, *line, other)?;
+        let fault = fault_of(rt, alloc, changed.as_slice());
         assert_eq!(rt;
             (fault.line, fault.kind),
             (*line as u64, *kind),
@@ -445,6 +448,8 @@ fn altered_lines(rt: HostRuntime) -> Result<(), Fail> {
     use CertFaultKind::{Count, Header, Number, TooLarge, Word};
     let rows = [
         (1, "tcc-certificate 2", Header),
+        (1, "tcc-certificate 1 causal", Header),
+        (1, "tcc-certificate 3 causal", Header),
         (1, "tcc-certificate  1", Header),
         (1, "tcc-certificate 1 ", Header),
         (1, "", Header),
@@ -502,7 +507,62 @@ fn altered_lines(rt: HostRuntime) -> Result<(), Fail> {
         (14, "done", Word),
         (14, "end ", Count),
     ];
-    assert_altered(&rt, rt.alloc(), &rows)?;
+    assert_altered(&rt, rt.alloc(), STALE_READ, &rows)?;
+    Ok(())
+}
+
+#[test]
+fn altered_lines_upward(rt: HostRuntime) -> Result<(), Fail> {
+    use CertFaultKind::{Count, Header, TooLarge};
+    let rows = [
+        (1, "tcc-certificate 2", Header),
+        (1, "tcc-certificate 2 ", Header),
+        (1, "tcc-certificate 2 causal ", Header),
+        (2, "cycle 4097 2 3", TooLarge),
+        (2, "cycle 3 4097 3", TooLarge),
+        (2, "cycle 3 2 16781313", TooLarge),
+        (2, "order 3 65", TooLarge),
+        (3, "S 0 4096", TooLarge),
+        (4, "D 1 0 x 2 4097", TooLarge),
+        (7, "3 1 16781313", TooLarge),
+        (7, "3 1", Count),
+        (11, "3 1", Count),
+        (12, "3 1 1", Count),
+        (12, "2 3 1", Count),
+        (12, "3", Count),
+        (13, "3 3", Count),
+        (13, "", Count),
+    ];
+    assert_altered(&rt, rt.alloc(), STALE_READ_UPWARD, &rows)?;
+    Ok(())
+}
+
+// What version 1 has no room for, version 2 takes.
+#[test]
+fn larger_numbers(rt: HostRuntime) -> Result<(), Fail> {
+    let alloc = rt.alloc();
+    for (line, other) in [
+        (2, "cycle 3 2 1049601"),
+        (2, "cycle 3 2 16781312"),
+        (3, "S 0 1024"),
+        (3, "S 4095 1"),
+        (7, "3 1 16781312"),
+        (13, "1049601"),
+    ] {
+        let text = altered(alloc, STALE_READ_UPWARD, line, other)?;
+        assert!(&rt; read(alloc, text.as_slice()).is_ok(), "for {other:?}");
+    }
+    // A count is taken, and then there are fewer lines or numbers.
+    for (line, other, fault_line) in [
+        (2, "cycle 1025 2 3", 7),
+        (2, "cycle 4096 2 3", 7),
+        (2, "cycle 3 1025 3", 6),
+        (4, "D 1 0 x 2 1025", 6),
+    ] {
+        let text = altered(alloc, STALE_READ_UPWARD, line, other)?;
+        let fault = fault_of(&rt, alloc, text.as_slice());
+        assert_eq!(&rt; fault.line, fault_line, "for {other:?}");
+    }
     Ok(())
 }
 
@@ -518,31 +578,38 @@ fn trailing_bytes(rt: HostRuntime) -> Result<(), Fail> {
     Ok(())
 }
 
-// A line has at most 8,191 bytes and a line feed, however the reader goes on.
+// A line has at most 8,191 bytes and a line feed, in version 2 behind the first at most 36,863, however the reader
+// goes on.
 #[test]
 fn long_lines(rt: HostRuntime) -> Result<(), Fail> {
+    use CertFaultKind::{Header, Read, TooLarge, Truncated, Word};
     let alloc = rt.alloc();
     let rows = [
-        (8191, CertFaultKind::Truncated, CertFaultKind::Read),
-        (8192, CertFaultKind::TooLarge, CertFaultKind::TooLarge),
-        (20000, CertFaultKind::TooLarge, CertFaultKind::TooLarge),
+        ("", 8191, Header, Truncated, Read),
+        ("", 8192, TooLarge, TooLarge, TooLarge),
+        ("tcc-certificate 1 atomic\n", 8191, Word, Truncated, Read),
+        ("tcc-certificate 1\n", 8192, TooLarge, TooLarge, TooLarge),
+        ("tcc-certificate 2 causal\n", 8192, Word, Truncated, Read),
+        ("tcc-certificate 2 atomic\n", 36_863, Word, Truncated, Read),
+        (
+            "tcc-certificate 2 causal\n",
+            36_864,
+            TooLarge,
+            TooLarge,
+            TooLarge,
+        ),
     ];
-    for (count, ended, failed) in rows {
-        let text = vec![in alloc; b'a'; count]?;
+    for (before, count, whole, ended, failed) in rows {
+        let mut text = before.as_bytes().to_vec(alloc)?;
+        text.extend_from_slice(vec![in alloc; b'a'; count]?.as_slice())?;
         assert_eq!(&rt; fault_of(&rt, alloc, text.as_slice()).kind, ended);
         let reader = Failing {
             text: text.as_slice(),
             most: 1000,
         };
         assert_eq!(&rt; fault_of(&rt, alloc, reader).kind, failed);
-    }
-    for (count, kind) in [
-        (8191, CertFaultKind::Header),
-        (8192, CertFaultKind::TooLarge),
-    ] {
-        let mut text = vec![in alloc; b'a'; count]?;
         text.push(b'\n')?;
-        assert_eq!(&rt; fault_of(&rt, alloc, text.as_slice()).kind, kind);
+        assert_eq!(&rt; fault_of(&rt, alloc, text.as_slice()).kind, whole);
     }
     Ok(())
 }

@@ -3,16 +3,15 @@ ghost use Rattle.std.specs.Prelude.{◌≡◌, ℕ, List, [], ◌∷◌, ◌++�
 ghost use Rattle.std.specs.Io.KnownBytes.{Appends};
 ghost use Rattle.tcc_graph.specs.declared.step.Step.TheVariants as step;
 ghost use Rattle.tcc_graph.specs.declared.link.Link.TheVariants as link;
-ghost use Rattle.tcc_cert.specs.Tables.{row_of};
 ghost use Rattle.tcc_cert.specs.Writing.{IsSent};
-ghost use Rattle.tcc_cert.specs.Texts.{line_text, lines_text, step_words, link_lines, order_lines, cycle_lines, claim_lines, certificate_text};
+ghost use Rattle.tcc_cert.specs.Texts.{line_text, lines_text, step_words, link_lines, header_words, header_of, clocks_lines, order_lines, cycle_lines, claim_lines, certificate_text};
 
 use crate::lines::{line, number_line, table};
 use crate::outgoing::Outgoing;
-use crate::{Certificate, Links, Numbers, Table, WriteFault};
+use crate::{Certificate, Links, Numbers, Table, Version, WriteFault};
 use itoa::Buffer;
 use std::io::{self, Write};
-use tcc_graph::{Link, Step};
+use tcc_graph::{Level, Link, Step};
 use tcc_txn::Name;
 
 /// `S u v`
@@ -119,22 +118,12 @@ fn links<W: Write>(outgoing: &mut Outgoing, out: &mut W, links: &Links) -> io::R
     Ok(())
 }
 
-/// How many numbers the first row has.
-fn columns(table: &Table) -> usize
-    ensures { result ≡ length (row_of table.now 0) }
-{
-    match table.rows().first() {
-        Some(row) => row.as_slice().len(),
-        None => 0,
-    }
-}
-
 /// `order N S`
 fn order_sizes<W: Write>(
     outgoing: &mut Outgoing,
     out: &mut W,
     transactions: usize,
-    sessions: usize,
+    sessions: u32,
 ) -> io::Result<()>
     ensures { IsSent result (W.contents out.old) outgoing.old (W.contents out.new) outgoing.new (line_text (codes "order" ∷ decimal transactions ∷ decimal sessions ∷ [])) }
 {
@@ -147,19 +136,38 @@ fn order_sizes<W: Write>(
     line(outgoing, out, b"order", &words)
 }
 
+/// The clocks behind their mark, and nothing where the level has none.
+fn clocks<W: Write>(
+    outgoing: &mut Outgoing,
+    out: &mut W,
+    level: Level,
+    clocks: &Table,
+) -> io::Result<()>
+    ensures { IsSent result (W.contents out.old) outgoing.old (W.contents out.new) outgoing.new (lines_text (clocks_lines level clocks.now)) }
+{
+    match level {
+        Level::Causal => {
+            line(outgoing, out, b"clocks", &[])?;
+            table(outgoing, out, clocks)
+        }
+        Level::Atomic => Ok(()),
+    }
+}
+
 /// What a claim of an order says after the first line.
 fn order<W: Write>(
     outgoing: &mut Outgoing,
     out: &mut W,
+    level: Level,
     order: &Numbers,
-    clocks: &Table,
+    sessions: u32,
+    rows: &Table,
 ) -> io::Result<()>
-    ensures { IsSent result (W.contents out.old) outgoing.old (W.contents out.new) outgoing.new (lines_text (order_lines order.now clocks.now)) }
+    ensures { IsSent result (W.contents out.old) outgoing.old (W.contents out.new) outgoing.new (lines_text (order_lines level order.now sessions rows.now)) }
 {
-    order_sizes(outgoing, out, order.as_slice().len(), columns(clocks))?;
+    order_sizes(outgoing, out, order.as_slice().len(), sessions)?;
     number_line(outgoing, out, order.as_slice())?;
-    line(outgoing, out, b"clocks", &[])?;
-    table(outgoing, out, clocks)?;
+    clocks(outgoing, out, level, rows)?;
     line(outgoing, out, b"end", &[])
 }
 
@@ -210,6 +218,53 @@ fn cycle<W: Write>(
     line(outgoing, out, b"end", &[])
 }
 
+/// The line that names the version and the level.
+fn header_line<W: Write>(
+    outgoing: &mut Outgoing,
+    out: &mut W,
+    version: Version,
+    level: Level,
+) -> io::Result<()>
+    ensures { IsSent result (W.contents out.old) outgoing.old (W.contents out.new) outgoing.new (line_text (header_words version level)) }
+{
+    match (version, level) {
+        (Version::One, Level::Causal) => line(outgoing, out, b"tcc-certificate", &[b"1"]),
+        (Version::One, Level::Atomic) => line(
+            outgoing,
+            out,
+            b"tcc-certificate",
+            &[b"1", b"atomic"],
+        ),
+        (Version::Two, Level::Causal) => line(
+            outgoing,
+            out,
+            b"tcc-certificate",
+            &[b"2", b"causal"],
+        ),
+        (Version::Two, Level::Atomic) => line(
+            outgoing,
+            out,
+            b"tcc-certificate",
+            &[b"2", b"atomic"],
+        ),
+    }
+}
+
+/// The first line.
+fn header<W: Write>(
+    outgoing: &mut Outgoing,
+    out: &mut W,
+    certificate: &Certificate,
+) -> io::Result<()>
+    ensures { IsSent result (W.contents out.old) outgoing.old (W.contents out.new) outgoing.new (line_text (header_of certificate.now)) }
+{
+    match certificate {
+        Certificate::Order { version, level, .. } => header_line(outgoing, out, *version, *level),
+        Certificate::Cycle { version, level, .. } => header_line(outgoing, out, *version, *level),
+    }
+}
+
+/// The lines after the first.
 fn claim<W: Write>(
     outgoing: &mut Outgoing,
     out: &mut W,
@@ -219,10 +274,15 @@ fn claim<W: Write>(
 {
     match certificate {
         Certificate::Order {
+            version: _,
+            level,
             order: numbers,
+            sessions,
             clocks,
-        } => order(outgoing, out, numbers, clocks),
+        } => order(outgoing, out, *level, numbers, *sessions, clocks),
         Certificate::Cycle {
+            version: _,
+            level: _,
             links,
             least,
             near,
@@ -238,7 +298,7 @@ pub fn write<W: Write>(certificate: &Certificate, out: &mut W) -> Result<(), Wri
     ensures part { OnErr result ((n : ℕ) × Appends (W.contents out.old) (W.contents out.new) (take n (certificate_text certificate.now))) }
 {
     let mut outgoing = Outgoing::new();
-    line(&mut outgoing, out, b"tcc-certificate", &[b"1"])?;
+    header(&mut outgoing, out, certificate)?;
     claim(&mut outgoing, out, certificate)?;
     outgoing.send(out)?;
     out.flush()?;

@@ -1,27 +1,31 @@
 -- The rules on the tables, by weights and starts.
-use Rattle.std.proofs.Common.{◌≡◌, ◌≢◌, ◌<◌, ◌≤◌, ◌+◌, ℕ, ◌⊎◌, inl, inr, List, [], length, get_or, arith, sym, subst, ◌∙◌}
+use Rattle.std.proofs.Common.{◌≡◌, ◌≢◌, ◌<◌, ◌≤◌, ◌+◌, ◌-◌, ℕ, ◌⊎◌, inl, inr, List, [], length, get_or, arith, sym, subst, ◌∙◌}
 use Rattle.std.specs.Prelude.{All}
 use Rattle.std.specs.List.{Contains}
 use Rattle.std.proofs.lemmas.Bool.{cases_lt}
 use Rattle.std.proofs.lemmas.List.{get_or_past, get_or_default}
 use Rattle.tcc_reads.specs.History.{History, count}
-use Rattle.tcc_cert.specs.Tables.{entry, row_of, HasSize, IsCapped, IsFirstPlace}
+use Rattle.tcc_cert.specs.declared.version.Version.{Version}
+use Rattle.tcc_cert.specs.Tables.{entry, lowest, far_entry, row_of, HasSize, IsCapped, IsFirstPlace}
 use Rattle.tcc_cert.specs.Rules.{HoldsEverywhere}
 use Rattle.tcc_check.specs.Weights.{unlinked, PairWeighs, ContradictionWeighs, LinkWeighs, IsLeastRow, IsLeastTable, IsLowered, AreLowered, IsLongLink, IsLongStep}
 use Rattle.tcc_check.specs.Searches.{AreStartRows, IsLongStartFrom}
 use Rattle.tcc_check.proofs.First.{first_as, nowhere_as}
 
 -- a capped table has nothing above the limit, past its ends neither
-pub entry_capped : (most : ℕ) (table : List (List ℕ)) (a b : ℕ) → IsCapped most table → entry table a b ≤ most
-entry_capped most table a b cap = go (cases_lt a (length table))
+number_capped : (most : ℕ) (table : List (List ℕ)) (a k : ℕ) → IsCapped most table → get_or (row_of table a) k 0 ≤ most
+number_capped most table a k cap = go (cases_lt a (length table))
   where
-    inside : a < length table → (b < length (row_of table a)) ⊎ (length (row_of table a) ≤ b) → entry table a b ≤ most
-    inside l (inl m) = cap a [] l b 0 m
-    inside l (inr m) = omega (arith, get_or_past (row_of table a) b 0 m)
+    inside : a < length table → (k < length (row_of table a)) ⊎ (length (row_of table a) ≤ k) → get_or (row_of table a) k 0 ≤ most
+    inside l (inl m) = cap a [] l k 0 m
+    inside l (inr m) = omega (arith, get_or_past (row_of table a) k 0 m)
 
-    go : (a < length table) ⊎ (length table ≤ a) → entry table a b ≤ most
-    go (inl l) = inside l (cases_lt b (length (row_of table a)))
+    go : (a < length table) ⊎ (length table ≤ a) → get_or (row_of table a) k 0 ≤ most
+    go (inl l) = inside l (cases_lt k (length (row_of table a)))
     go (inr l) = rw (get_or_past table a [] l) (omega arith)
+
+far_capped : (most : ℕ) (version : Version) (table : List (List ℕ)) (s v : ℕ) → IsCapped most table → far_entry version table s v ≤ most
+far_capped most version table s v cap = number_capped most table s (v - lowest version s) cap
 
 -- ---- rows lowered
 
@@ -79,45 +83,45 @@ starts_inside weights table size starts rows k d l j e m =
     omega (arith, inside, size.wide k [] (omega (arith, rows.long)))
 
 -- a search of the starts finds the long steps
-module _ (weights table : List (List ℕ)) (size : HasSize (length table) (length table) weights) (cap : IsCapped unlinked table) (starts : List (List (ℕ × ℕ))) (rows : AreStartRows weights starts) where
-  step_of_start : (at : ℕ × ℕ) → IsLongStartFrom starts table at → IsLongStep weights table at
-  step_of_start at (l, (m, (link, there, more))) =
+module _ (version : Version) (weights table : List (List ℕ)) (size : HasSize (length table) (length table) weights) (cap : IsCapped unlinked table) (starts : List (List (ℕ × ℕ))) (rows : AreStartRows weights starts) where
+  step_of_start : (at : ℕ × ℕ) → IsLongStartFrom version starts table at → IsLongStep version weights table at
+  step_of_start at (l, (m, (low, (link, there, from, more)))) =
       let here = (rows.rows at.1 (omega (arith, size.long))).only link there in
-      (l, (m, (link.0, omega (arith, here.0, size.wide at.1 [] (omega (arith, size.long))), omega (arith, here.1))))
+      (l, (m, (low, (link.0, omega (arith, here.0, size.wide at.1 [] (omega (arith, size.long))), from, omega (arith, here.1)))))
 
-  start_of_step : (at : ℕ × ℕ) → IsLongStep weights table at → IsLongStartFrom starts table at
-  start_of_step at (l, (m, (u, k, more))) =
-      let linked : entry weights at.1 u ≢ unlinked = λ e. absurd (omega (arith, entry_capped unlinked table at.0 at.1 cap)) in
+  start_of_step : (at : ℕ × ℕ) → IsLongStep version weights table at → IsLongStartFrom version starts table at
+  start_of_step at (l, (m, (low, (u, k, from, more)))) =
+      let linked : entry weights at.1 u ≢ unlinked = λ e. absurd (omega (arith, far_capped unlinked version table at.0 at.1 cap)) in
       let there = (rows.rows at.1 (omega (arith, size.long))).each u (omega (arith, size.wide at.1 [] (omega (arith, size.long)))) linked in
-      (l, (m, ((u, entry weights at.1 u), there, more)))
+      (l, (m, (low, ((u, entry weights at.1 u), there, from, more))))
 
-  pub steps_first : (at : ℕ × ℕ) → IsFirstPlace (IsLongStartFrom starts table) at → IsFirstPlace (IsLongStep weights table) at
-  steps_first = first_as (IsLongStartFrom starts table) (IsLongStep weights table) step_of_start start_of_step
+  pub steps_first : (at : ℕ × ℕ) → IsFirstPlace (IsLongStartFrom version starts table) at → IsFirstPlace (IsLongStep version weights table) at
+  steps_first = first_as (IsLongStartFrom version starts table) (IsLongStep version weights table) step_of_start start_of_step
 
-  pub steps_hold : HoldsEverywhere (IsLongStartFrom starts table) → HoldsEverywhere (IsLongStep weights table)
-  steps_hold = nowhere_as (IsLongStartFrom starts table) (IsLongStep weights table) start_of_step
+  pub steps_hold : HoldsEverywhere (IsLongStartFrom version starts table) → HoldsEverywhere (IsLongStep version weights table)
+  steps_hold = nowhere_as (IsLongStartFrom version starts table) (IsLongStep version weights table) start_of_step
 
 -- the least weights tell which links and steps are long
-module _ (n : ℕ) (weighs : ℕ → ℕ → ℕ → Type 0) (weights table : List (List ℕ)) (least : IsLeastTable n weighs weights) (long : length table ≡ n) (cap : IsCapped unlinked table) where
+module _ (n : ℕ) (weighs : ℕ → ℕ → ℕ → Type 0) (version : Version) (weights table : List (List ℕ)) (least : IsLeastTable n weighs weights) (long : length table ≡ n) (cap : IsCapped unlinked table) where
   width : (v : ℕ) → v < n → length (row_of weights v) ≡ n
   width v l = least.size.wide v [] (omega (arith, least.size.long))
 
-  pub long_link : (s v : ℕ) → IsLongLink weights table (s, v) → (w : ℕ) × weighs v s w × (1 + w < entry table s v)
-  long_link s v (l, (m, more)) = go ((least.rows v (omega arith)).from s (omega (arith, width v (omega arith))))
+  pub long_link : (s v : ℕ) → IsLongLink version weights table (s, v) → (w : ℕ) × weighs v s w × (1 + w < far_entry version table s v)
+  long_link s v (l, (m, (low, more))) = go ((least.rows v (omega arith)).from s (omega (arith, width v (omega arith))))
     where
-      go : (entry weights v s ≡ unlinked) ⊎ weighs v s (entry weights v s) → (w : ℕ) × weighs v s w × (1 + w < entry table s v)
-      go (inl none) = absurd (omega (arith, entry_capped unlinked table s v cap))
+      go : (entry weights v s ≡ unlinked) ⊎ weighs v s (entry weights v s) → (w : ℕ) × weighs v s w × (1 + w < far_entry version table s v)
+      go (inl none) = absurd (omega (arith, far_capped unlinked version table s v cap))
       go (inr p) = (entry weights v s, p, more)
 
-  pub link_long : (s v w : ℕ) → s < n → v < n → weighs v s w → 1 + w < entry table s v → IsLongLink weights table (s, v)
-  link_long s v w l m p more = let low = (least.rows v m).low s w (omega (arith, width v m)) p in (omega arith, (omega arith, omega arith))
+  pub link_long : (s v w : ℕ) → s < n → v < n → lowest version s ≤ v → weighs v s w → 1 + w < far_entry version table s v → IsLongLink version weights table (s, v)
+  link_long s v w l m low p more = let most = (least.rows v m).low s w (omega (arith, width v m)) p in (omega arith, (omega arith, (low, omega arith)))
 
-  pub long_step : (s v : ℕ) → IsLongStep weights table (s, v) → (u w : ℕ) × weighs v u w × (entry table s u + 1 + w < entry table s v)
-  long_step s v (l, (m, (u, k, more))) = go ((least.rows v (omega arith)).from u (omega (arith, width v (omega arith))))
+  pub long_step : (s v : ℕ) → IsLongStep version weights table (s, v) → (u w : ℕ) × (lowest version s ≤ u) × weighs v u w × (far_entry version table s u + 1 + w < far_entry version table s v)
+  long_step s v (l, (m, (low, (u, k, from, more)))) = go ((least.rows v (omega arith)).from u (omega (arith, width v (omega arith))))
     where
-      go : (entry weights v u ≡ unlinked) ⊎ weighs v u (entry weights v u) → (u w : ℕ) × weighs v u w × (entry table s u + 1 + w < entry table s v)
-      go (inl none) = absurd (omega (arith, entry_capped unlinked table s v cap))
-      go (inr p) = (u, entry weights v u, p, more)
+      go : (entry weights v u ≡ unlinked) ⊎ weighs v u (entry weights v u) → (u w : ℕ) × (lowest version s ≤ u) × weighs v u w × (far_entry version table s u + 1 + w < far_entry version table s v)
+      go (inl none) = absurd (omega (arith, far_capped unlinked version table s v cap))
+      go (inr p) = (u, entry weights v u, from, p, more)
 
-  pub step_long : (s v u w : ℕ) → s < n → v < n → u < n → weighs v u w → entry table s u + 1 + w < entry table s v → IsLongStep weights table (s, v)
-  step_long s v u w l m k p more = let low = (least.rows v m).low u w (omega (arith, width v m)) p in (omega arith, (omega arith, (u, omega arith, omega arith)))
+  pub step_long : (s v u w : ℕ) → s < n → v < n → u < n → lowest version s ≤ v → lowest version s ≤ u → weighs v u w → far_entry version table s u + 1 + w < far_entry version table s v → IsLongStep version weights table (s, v)
+  step_long s v u w l m k low from p more = let most = (least.rows v m).low u w (omega (arith, width v m)) p in (omega arith, (omega arith, (low, (u, omega arith, from, omega arith))))

@@ -13,19 +13,19 @@ use Rattle.tcc_check.proofs.CertifiedCycle.{least_cycle}
 use Rattle.tcc_check.proofs.CertifiedOrder.{commit_order}
 
 pub true_claim : (h : History) (k : Certificate) → Certifies h k → IsTrueClaim h k
-true_claim h (claim.Order order clocks) good = commit_order h (record { order = order; clocks = clocks }) good
-true_claim h (claim.Cycle links least near far) good = least_cycle h (record { links = links; least = least; near = near; far = far }) good
+true_claim h (claim.Order version level order sessions clocks) good = commit_order h (record { level = level; order = order; sessions = sessions; clocks = clocks }) good
+true_claim h (claim.Cycle version level links least near far) good = least_cycle h (record { version = version; level = level; links = links; least = least; near = near; far = far }) good
 
 -- ---- the rules in a list, and as one record
 
 pub all_hold : (h : History) (k : Certificate) → Certifies h k → AllHold (rules_of h k)
-all_hold h (claim.Order order clocks) good = (good.sizes, (good.pairs, (good.axiom_of, tt)))
-all_hold h (claim.Cycle links least near far) good =
+all_hold h (claim.Order version level order sessions clocks) good = (good.sizes, (good.pairs, (good.axiom_of, tt)))
+all_hold h (claim.Cycle version level links least near far) good =
     (good.sizes, (good.cycle, (good.near_pairs, (good.near_steps, (good.far_links, (good.far_steps, (good.returns, tt)))))))
 
 pub certified_by : (h : History) (k : Certificate) → AllHold (rules_of h k) → Certifies h k
-certified_by h (claim.Order order clocks) all = record { sizes = all.0; pairs = all.1.0; axiom_of = all.1.1.0 }
-certified_by h (claim.Cycle links least near far) all = record {
+certified_by h (claim.Order version level order sessions clocks) all = record { sizes = all.0; pairs = all.1.0; axiom_of = all.1.1.0 }
+certified_by h (claim.Cycle version level links least near far) all = record {
   sizes = all.0;
   cycle = all.1.0;
   near_pairs = all.1.1.0;
@@ -57,11 +57,11 @@ fault_false h k at (inl f) right = right.right at.0 f.0
 fault_false h k at (inr f) right = f.1.1 right
 
 plain : (h : History) (k : Certificate) → ArePlain (rules_of h k)
-plain h (claim.Order order clocks) = (λ at b. b.1, (λ at b. b.1, (λ at b holds. holds at b.here, tt)))
-plain h (claim.Cycle links least near far) = (
+plain h (claim.Order version level order sessions clocks) = (λ at b. b.1, (λ at b. b.1, (λ at b holds. holds at b.here, tt)))
+plain h (claim.Cycle version level links least near far) = (
   λ at b. b.1,
   (
-    fault_false h (record { links = links; least = least; near = near; far = far }),
+    fault_false h (record { version = version; level = level; links = links; least = least; near = near; far = far }),
     (λ at b holds. holds at b.here, (λ at b holds. holds at b.here, (λ at b holds. holds at b.here, (λ at b holds. holds at b.here, (λ at b holds. holds at b.here, tt))))),
   ),
 )

@@ -6,7 +6,10 @@ use Rattle.tcc_reads.specs.History.{History, count}
 use Rattle.tcc_graph.specs.Relations.{session_pair, reads_from, IsReadsPair}
 use Rattle.tcc_graph.specs.Keys.{has_name, writes}
 use Rattle.tcc_graph.specs.Walks.{step_from, step_to, IsStep, Leads}
+use Rattle.tcc_graph.specs.Levels.{Judged, IsAllowed}
 use Rattle.tcc_graph.specs.Links.{MayContradict, IsLink, link_from}
+use Rattle.tcc_graph.specs.declared.level.Level.{Level}
+use Rattle.tcc_graph.specs.declared.level.Level.TheVariants as level
 use Rattle.tcc_graph.specs.declared.step.Step.{Step}
 use Rattle.tcc_graph.specs.declared.step.Step.TheVariants as step
 use Rattle.tcc_graph.specs.declared.link.Link.{Link}
@@ -76,11 +79,16 @@ leads h a b (s ∷ steps) = all_three (cases_eq (step_from s) a) (is_step h s) (
 may_contradict : (h : History) (b a : ℕ) (x : List ℕ) (c : ℕ) → IsDecided (MayContradict h b a x c)
 may_contradict h b a x c = all_three (apart b a) (reads_pair h a c x) (both (less b (count h)) (holds (writes h b x)))
 
-is_link : (h : History) (l : Link) → IsDecided (IsLink h l)
-is_link h (link.Session a b) = holds (session_pair h a b)
-is_link h (link.Reads a b x) = reads_pair h a b x
-is_link h (link.Derived b a x c walk) = both (may_contradict h b a x c) (both (less 0 (length walk)) (leads h b c walk))
+allowed : (l : Level) (walk : List Step) → IsDecided (IsAllowed l walk)
+allowed level.Causal walk = inl tt
+allowed level.Atomic walk = cases_eq (length walk) 1
+
+is_link : (j : Judged) (l : Link) → IsDecided (IsLink j l)
+is_link j (link.Session a b) = holds (session_pair j.history a b)
+is_link j (link.Reads a b x) = reads_pair j.history a b x
+is_link j (link.Derived b a x c walk) =
+    both (may_contradict j.history b a x c) (both (both (less 0 (length walk)) (leads j.history b c walk)) (allowed j.level walk))
 
 -- a link is right, or it is not
-pub link_right : (h : History) (at : ℕ) (l : Link) → IsDecided (IsLinkRight h at l)
-link_right h at l = both (cases_eq (link_from l) at) (is_link h l)
+pub link_right : (j : Judged) (at : ℕ) (l : Link) → IsDecided (IsLinkRight j at l)
+link_right j at l = both (cases_eq (link_from l) at) (is_link j l)

@@ -3,10 +3,19 @@ use Rattle.std.proofs.Common.{◌≡◌, ◌<◌, ◌+◌, ℕ, ◌⊎◌, inl, 
 use Rattle.std.proofs.lemmas.Bool.{cases_eq}
 use Rattle.tcc_cert.specs.Tables.{IsEarlier, IsFirstPlace}
 use Rattle.tcc_cert.specs.Rules.{HoldsEverywhere}
+use Rattle.tcc_check.specs.Searches.{HoldsBelow}
 
 -- in the first i rows nothing is broken
 abbrev pub HoldsAbove : ℕ → (ℕ × ℕ → Type 0) → Type 0
 HoldsAbove i broken = (a b : ℕ) → a < i → broken (a, b) → ⊥
+
+-- nor for one number more
+pub holds_below_more : (n m : ℕ) (broken : ℕ → Type 0) → m ≡ n + 1 → HoldsBelow n broken → (broken n → ⊥) → HoldsBelow m broken
+holds_below_more n m broken is before here a l p = go (cases_eq a n)
+  where
+    go : (a ≡ n) ⊎ (a ≡ n → ⊥) → ⊥
+    go (inl same) = here (subst broken same p)
+    go (inr apart) = before a (omega arith) p
 
 -- nor in one row more
 pub holds_more : (i : ℕ) (broken : ℕ × ℕ → Type 0) → HoldsAbove i broken → ((b : ℕ) → broken (i, b) → ⊥) → HoldsAbove (i + 1) broken

@@ -3,3 +3,4 @@ pub mod Searches
 pub mod Links
 pub mod Places
 pub mod Verdicts
+pub mod TableRules

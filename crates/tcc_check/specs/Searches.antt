@@ -1,6 +1,7 @@
 -- What a search for the first broken place answers. Nobody has to believe it: private functions say it to one another.
-use Rattle.std.specs.Prelude.{ℕ, ◌<◌, ◌≡◌, ◌+◌, List, [], length, slice_index, slice_index_or, Contains}
-use Rattle.tcc_cert.specs.Tables.{entry, row_of}
+use Rattle.std.specs.Prelude.{ℕ, ◌<◌, ◌≤◌, ◌≡◌, ◌+◌, ◌-◌, List, [], length, slice_index, slice_index_or, Contains}
+use Rattle.tcc_cert.specs.declared.version.Version.{Version}
+use Rattle.tcc_cert.specs.Tables.{entry, lowest, far_entry, row_of}
 use Rattle.tcc_check.specs.Weights.{AreStarts}
 
 -- below n nothing is broken
@@ -13,13 +14,14 @@ pub record IsFirstBelow (n : ℕ) (broken : ℕ → Type 0) (a : ℕ) : Type 0 w
   pub here : broken a
   pub first : (earlier : ℕ) → earlier < a → broken earlier → ⊥
 
--- the link from the start takes less than the row of the start has
-abbrev pub IsLongEnd : List (List ℕ) → List ℕ → ℕ → ℕ → Type 0
-IsLongEnd weights row start end = 1 + entry weights end start < slice_index row end
+-- the link from the start takes less than the row of the start has, whose numbers are those from `low` upward
+abbrev pub IsLongEnd : List (List ℕ) → List ℕ → ℕ → ℕ → ℕ → Type 0
+IsLongEnd weights row low start end = (low ≤ end) × (1 + entry weights end start < slice_index row (end - low))
 
 -- some link, after what the row has for its start, takes less than the number
-abbrev pub IsOvershot : List (ℕ × ℕ) → List ℕ → ℕ → Type 0
-IsOvershot starts row number = (link : ℕ × ℕ) × Contains starts link × (slice_index row link.0 + 1 + link.1 < number)
+abbrev pub IsOvershot : List (ℕ × ℕ) → List ℕ → ℕ → ℕ → Type 0
+IsOvershot starts row low number =
+    (link : ℕ × ℕ) × Contains starts link × (low ≤ link.0) × (slice_index row (link.0 - low) + 1 + link.1 < number)
 
 -- the starts of the links to an end
 abbrev pub starts_of : List (List (ℕ × ℕ)) → ℕ → List (ℕ × ℕ)
@@ -31,13 +33,14 @@ pub record AreStartRows (weights : List (List ℕ)) (starts : List (List (ℕ ×
   pub rows : (end : ℕ) → end < length weights → AreStarts (row_of weights end) (starts_of starts end)
 
 -- some link to the end takes less than the row has
-abbrev pub IsLongStart : List (List (ℕ × ℕ)) → List ℕ → ℕ → Type 0
-IsLongStart starts row end = IsOvershot (starts_of starts end) row (slice_index row end)
+abbrev pub IsLongStart : List (List (ℕ × ℕ)) → List ℕ → ℕ → ℕ → Type 0
+IsLongStart starts row low end = (low ≤ end) × IsOvershot (starts_of starts end) row low (slice_index row (end - low))
 
 -- so in the row of the first, for the second as the end
-abbrev pub IsLongStartFrom : List (List (ℕ × ℕ)) → List (List ℕ) → ℕ × ℕ → Type 0
-IsLongStartFrom starts table at = (at.0 < length table) × ((at.1 < length table) × IsLongStart starts (row_of table at.0) at.1)
+abbrev pub IsLongStartFrom : Version → List (List (ℕ × ℕ)) → List (List ℕ) → ℕ × ℕ → Type 0
+IsLongStartFrom version starts table at =
+    (at.0 < length table) × ((at.1 < length table) × IsLongStart starts (row_of table at.0) (lowest version at.0) at.1)
 
 -- the way back is cheaper than the cycle
-abbrev pub IsShortReturn : List (List ℕ) → ℕ → ℕ → Type 0
-IsShortReturn table least s = entry table s s < least
+abbrev pub IsShortReturn : Version → List (List ℕ) → ℕ → ℕ → Type 0
+IsShortReturn version table least s = far_entry version table s s < least

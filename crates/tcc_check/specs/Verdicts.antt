@@ -1,8 +1,10 @@
 -- What is answered of a certificate: it is accepted, or the first rule that is broken and the first place where it is.
 use Rattle.std.specs.Prelude.{ℕ, ◌<◌, ◌≡◌, ◌⊎◌, List, [], ◌∷◌}
 use Rattle.tcc_reads.specs.History.{History}
+use Rattle.tcc_graph.specs.declared.level.Level.{Level}
+use Rattle.tcc_cert.specs.declared.version.Version.{Version}
 use Rattle.tcc_cert.specs.Tables.{IsFirstPlace}
-use Rattle.tcc_cert.specs.CycleRules.{CycleClaim, HasRightSizes, IsLinkWrong, BreaksNearPair, BreaksNearStep, BreaksFarLink, BreaksFarStep, BreaksReturn}
+use Rattle.tcc_cert.specs.CycleRules.{CycleClaim, cycle_judged, HasRightSizes, IsLinkWrong, BreaksNearPair, BreaksNearStep, BreaksFarLink, BreaksFarStep, BreaksReturn}
 use Rattle.tcc_cert.specs.OrderRules.{OrderClaim, HasOrderSizes, KeepsPairs, BreaksAxiom}
 use Rattle.tcc_cert.specs.Rules.{HoldsEverywhere, IsRightCycle, Certifies}
 use Rattle.tcc_graph.specs.Links.{cost}
@@ -43,17 +45,17 @@ by_places rule broken = record { rule = rule; holds = HoldsEverywhere broken; br
 -- where the rule on links is broken: at the first link that is not right, from 1, or, where all are, at 0
 abbrev pub IsCycleFault : History → CycleClaim → ℕ × ℕ → Type 0
 IsCycleFault h k at =
-    (IsLinkWrong h k.links at.0 × ((at.1 ≡ 0) × ((i : ℕ) → i < at.0 → IsLinkWrong h k.links i → ⊥)))
-    ⊎ ((at ≡ (0, 0)) × (((i : ℕ) → IsLinkWrong h k.links i → ⊥) × (IsRightCycle h k → ⊥)))
+    (IsLinkWrong (cycle_judged h k) k.links at.0 × ((at.1 ≡ 0) × ((i : ℕ) → i < at.0 → IsLinkWrong (cycle_judged h k) k.links i → ⊥)))
+    ⊎ ((at ≡ (0, 0)) × (((i : ℕ) → IsLinkWrong (cycle_judged h k) k.links i → ⊥) × (IsRightCycle h k → ⊥)))
 
 -- the rules on the tables of a claim that a cycle is least, in order
-abbrev pub bounds_rules : History → ℕ → List (List ℕ) → List (List ℕ) → List Asked
-bounds_rules h least near far =
+abbrev pub bounds_rules : History → Version → Level → ℕ → List (List ℕ) → List (List ℕ) → List Asked
+bounds_rules h version level least near far =
     by_places NearPairs (BreaksNearPair h near)
-    ∷ by_places NearSteps (BreaksNearStep h near)
-    ∷ by_places FarLinks (BreaksFarLink h near far)
-    ∷ by_places FarSteps (BreaksFarStep h near far)
-    ∷ by_places Returns (BreaksReturn h least far)
+    ∷ by_places NearSteps (BreaksNearStep h level near)
+    ∷ by_places FarLinks (BreaksFarLink h version near far)
+    ∷ by_places FarSteps (BreaksFarStep h version near far)
+    ∷ by_places Returns (BreaksReturn h version least far)
     ∷ []
 
 -- all rules for a claim that a cycle is least, in order
@@ -61,7 +63,7 @@ abbrev pub cycle_rules : History → CycleClaim → List Asked
 cycle_rules h k =
     as_whole Sizes (HasRightSizes h k)
     ∷ record { rule = Links; holds = IsRightCycle h k; broken = IsCycleFault h k }
-    ∷ bounds_rules h k.least k.near k.far
+    ∷ bounds_rules h k.version k.level k.least k.near k.far
 
 -- all rules for a claim that a list is a commit order, in order
 abbrev pub order_rules : History → OrderClaim → List Asked
@@ -71,9 +73,12 @@ order_rules h k =
     ∷ by_places Axiom (BreaksAxiom h k)
     ∷ []
 
+-- those for the claim of a certificate, at its level
 abbrev pub rules_of : History → Certificate → List Asked
-rules_of h (claim.Order order clocks) = order_rules h (record { order = order; clocks = clocks })
-rules_of h (claim.Cycle links least near far) = cycle_rules h (record { links = links; least = least; near = near; far = far })
+rules_of h (claim.Order version level order sessions clocks) =
+    order_rules h (record { level = level; order = order; sessions = sessions; clocks = clocks })
+rules_of h (claim.Cycle version level links least near far) =
+    cycle_rules h (record { version = version; level = level; links = links; least = least; near = near; far = far })
 
 -- all of them hold
 abbrev pub AllHold : List Asked → Type 0
@@ -99,7 +104,9 @@ IsVerdict h k (verdict.Rejected rule at) = IsFirstBroken (rules_of h k) rule at
 abbrev pub IsRejected : History → Certificate → Rule → ℕ × ℕ → Type 0
 IsRejected h k rule at = IsVerdict h k (verdict.Rejected rule at)
 
--- what the certificate claims is true
+-- what the certificate claims is true at its level
 abbrev pub IsTrueClaim : History → Certificate → Type 0
-IsTrueClaim h (claim.Order order clocks) = IsCommitOrder h order
-IsTrueClaim h (claim.Cycle links least near far) = ((s : ℕ) × IsLeastCycle h s links) × (cost links ≡ least)
+IsTrueClaim h (claim.Order version level order sessions clocks) =
+    IsCommitOrder (record { history = h; level = level }) order
+IsTrueClaim h (claim.Cycle version level links least near far) =
+    ((s : ℕ) × IsLeastCycle (record { history = h; level = level }) s links) × (cost links ≡ least)

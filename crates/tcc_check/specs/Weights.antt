@@ -4,7 +4,8 @@ use Rattle.tcc_reads.specs.History.{History, count}
 use Rattle.tcc_graph.specs.Relations.{IsCausalPair}
 use Rattle.tcc_graph.specs.Links.{MayContradict}
 use Rattle.tcc_graph.specs.Keys.{writers}
-use Rattle.tcc_cert.specs.Tables.{entry, row_of, HasSize}
+use Rattle.tcc_cert.specs.declared.version.Version.{Version}
+use Rattle.tcc_cert.specs.Tables.{entry, lowest, far_entry, row_of, HasSize}
 
 -- stands where there is no link: no number of a table is above it
 abbrev pub unlinked : ℕ
@@ -51,15 +52,16 @@ pub record AreLowered (h : History) (table : List (List ℕ)) (old : List (List 
   pub size : HasSize (count h) (count h) new
   pub rows : (v : ℕ) → v < count h → IsLowered (ContradictionWeighs h table v) (row_of old v) (row_of new v)
 
--- the link from the first to the second takes less than the table has
-abbrev pub IsLongLink : List (List ℕ) → List (List ℕ) → ℕ × ℕ → Type 0
-IsLongLink weights table at =
-    (at.0 < length table) × ((at.1 < length table) × (1 + entry weights at.1 at.0 < entry table at.0 at.1))
+-- the link from the first to the second, where the row of the first has the second, takes less than the table has
+abbrev pub IsLongLink : Version → List (List ℕ) → List (List ℕ) → ℕ × ℕ → Type 0
+IsLongLink version weights table at =
+    (at.0 < length table) × ((at.1 < length table) × ((lowest version at.0 ≤ at.1) × (1 + entry weights at.1 at.0 < far_entry version table at.0 at.1)))
 
 -- some link, after what the table has for its start, takes less than the table has
-abbrev pub IsLongStep : List (List ℕ) → List (List ℕ) → ℕ × ℕ → Type 0
-IsLongStep weights table at =
-    (at.0 < length table) × ((at.1 < length table) × ((u : ℕ) × (u < length table) × (entry table at.0 u + 1 + entry weights at.1 u < entry table at.0 at.1)))
+abbrev pub IsLongStep : Version → List (List ℕ) → List (List ℕ) → ℕ × ℕ → Type 0
+IsLongStep version weights table at =
+    (at.0 < length table) × ((at.1 < length table) × ((lowest version at.0 ≤ at.1) × ((u : ℕ) × (u < length table) × (lowest version at.0 ≤ u)
+    × (far_entry version table at.0 u + 1 + entry weights at.1 u < far_entry version table at.0 at.1))))
 
 -- the starts of links in a row, with their weights
 pub record AreStarts (row : List ℕ) (starts : List (ℕ × ℕ)) : Type 0 where

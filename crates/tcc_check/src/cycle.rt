@@ -1,63 +1,80 @@
 //! The rules on a claim that a cycle is least.
-ghost use Rattle.std.specs.Prelude.{◌≡◌, ◌≤◌, ◌<◌, ◌↔◌, ◌^◌, [], ◌∷◌, IsTrue, IfOk, length};
+ghost use Rattle.std.specs.Prelude.{◌≡◌, ◌≤◌, ◌<◌, ◌↔◌, ◌^◌, IsTrue, IfOk, length};
 ghost use Rattle.tcc_txn.specs.declared.limits.TheConstants.{MAX_COUNT};
 ghost use Rattle.tcc_reads.specs.History.{count};
-ghost use Rattle.tcc_cert.specs.Tables.{HasSize, IsCapped};
+ghost use Rattle.tcc_graph.specs.declared.level.Level.{Level};
+ghost use Rattle.tcc_cert.specs.Tables.{HasSize, HasFarSize, IsCapped};
 ghost use Rattle.tcc_cert.specs.CycleRules.{HasRightSizes};
-ghost use Rattle.tcc_check.specs.Verdicts.{IsAnswer, by_places, bounds_rules, cycle_rules};
-ghost use Rattle.tcc_check.specs.Weights.{unlinked, IsLongLink, IsLongStep};
+ghost use Rattle.tcc_check.specs.Verdicts.{IsAnswer, bounds_rules, cycle_rules};
+ghost use Rattle.tcc_check.specs.TableRules.{table_rules, near_steps};
+ghost use Rattle.tcc_check.specs.Weights.{unlinked};
 
 use crate::links::{costs, first_wrong_link};
 use crate::searching::{first_long_link, first_long_step, first_short_return};
-use crate::sizes::{are_links_below, has_size, is_capped};
+use crate::sizes::{are_links_below, has_far_size, has_size, is_capped};
 use crate::verdict::{Rule, Verdict, rejected};
 use crate::weights::{lowered, pair_weights, start_rows};
 use std::alloc::Global;
-use tcc_cert::Numbers;
-use tcc_graph::{Graph, Link};
+use tcc_cert::{Numbers, Version};
+use tcc_graph::{Graph, Level, Link};
 use tcc_txn::NoMemory;
 
 /// Whether the tables have the size of the history, and no number is out of its range.
 fn has_right_sizes(
     graph: &Graph,
+    version: Version,
     links: &[Link],
     least: u32,
     near: &[Numbers],
     far: &[Numbers],
 ) -> bool
     ensures few { count graph.now ≤ MAX_COUNT }
-    ensures sizes { IsTrue result ↔ HasRightSizes graph.now (record { links = links.now; least = least; near = near.now; far = far.now }) }
+    ensures sizes { (level : Level) → IsTrue result ↔ HasRightSizes graph.now (record { version = version; level = level; links = links.now; least = least; near = near.now; far = far.now }) }
 {
-    let count = graph.count() as usize;
-    has_size(near, count, count)
-        && has_size(far, count, count)
-        && are_links_below(links, graph.count())
+    let count = graph.count();
+    has_size(near, count as usize, count as usize)
+        && has_far_size(version, far, count)
+        && are_links_below(links, count)
         && is_capped(near, least)
         && is_capped(far, least)
 }
 
-/// Judges a table by the weights of links: no link takes less than the table has, alone or after what the table has
-/// for its start.
+/// Judges by the weights of links a table whose rows are those of the version: no link takes less than the table has,
+/// alone or, where steps are asked of by a rule, after what the table has for its start.
 fn table_verdict(
     alloc: Global,
+    version: Version,
     weights: &[Numbers],
     table: &[Numbers],
     link: Rule,
-    step: Rule,
+    step: Option<Rule>,
 ) -> Result<Verdict, NoMemory>
     requires weights { HasSize (length table.now) (length table.now) weights.now }
-    requires table { HasSize (length table.now) (length table.now) table.now }
+    requires table { HasFarSize version (length table.now) table.now }
     requires capped { IsCapped unlinked table.now }
     requires few { length table.now < 2 ^ 32 }
-    ensures { IfOk result (IsAnswer (by_places link (IsLongLink weights.now table.now) ∷ by_places step (IsLongStep weights.now table.now) ∷ [])) }
+    ensures { IfOk result (IsAnswer (table_rules version weights.now table.now link step)) }
 {
-    if let Some(at) = first_long_link(weights, table) {
+    if let Some(at) = first_long_link(version, weights, table) {
         return Ok(Verdict::Rejected { rule: link, at });
     }
+    let Some(step) = step else {
+        return Ok(Verdict::Accepted);
+    };
     let starts = start_rows(alloc, weights)?;
-    match first_long_step(&starts, table) {
+    match first_long_step(version, &starts, table) {
         Some(at) => Ok(Verdict::Rejected { rule: step, at }),
         None => Ok(Verdict::Accepted),
+    }
+}
+
+/// The rule on the steps of lengths, where the level asks for it: at `Atomic` no walk has a second step.
+fn near_steps(level: Level) -> Option<Rule>
+    ensures { result ≡ near_steps level }
+{
+    match level {
+        Level::Causal => Some(Rule::NearSteps),
+        Level::Atomic => None,
     }
 }
 
@@ -65,28 +82,39 @@ fn table_verdict(
 fn bounds_verdict(
     alloc: Global,
     graph: &Graph,
+    version: Version,
+    level: Level,
     least: u32,
     near: &[Numbers],
     far: &[Numbers],
 ) -> Result<Verdict, NoMemory>
     requires few { count graph.now ≤ MAX_COUNT }
     requires near { HasSize (count graph.now) (count graph.now) near.now }
-    requires far { HasSize (count graph.now) (count graph.now) far.now }
+    requires far { HasFarSize version (count graph.now) far.now }
     requires near_capped { IsCapped least near.now }
     requires far_capped { IsCapped least far.now }
-    ensures { IfOk result (IsAnswer (bounds_rules graph.now least near.now far.now)) }
+    ensures { IfOk result (IsAnswer (bounds_rules graph.now version level least near.now far.now)) }
 {
     let pairs = pair_weights(alloc, graph)?;
-    match table_verdict(alloc, pairs.rows(), near, Rule::NearPairs, Rule::NearSteps)? {
+    let steps = near_steps(level);
+    match table_verdict(
+        alloc,
+        Version::One,
+        pairs.rows(),
+        near,
+        Rule::NearPairs,
+        steps,
+    )? {
         Verdict::Accepted => {}
         of_near => return Ok(of_near),
     }
     let links = lowered(alloc, graph, near, pairs.rows())?;
-    match table_verdict(alloc, links.rows(), far, Rule::FarLinks, Rule::FarSteps)? {
+    let steps = Some(Rule::FarSteps);
+    match table_verdict(alloc, version, links.rows(), far, Rule::FarLinks, steps)? {
         Verdict::Accepted => {}
         of_far => return Ok(of_far),
     }
-    match first_short_return(far, least) {
+    match first_short_return(version, far, least) {
         Some(start) => Ok(Verdict::Rejected {
             rule: Rule::Returns,
             at: (start, start),
@@ -99,17 +127,19 @@ fn bounds_verdict(
 pub(crate) fn cycle_verdict(
     alloc: Global,
     graph: &Graph,
+    version: Version,
+    level: Level,
     links: &[Link],
     least: u32,
     near: &[Numbers],
     far: &[Numbers],
 ) -> Result<Verdict, NoMemory>
-    ensures { IfOk result (IsAnswer (cycle_rules graph.now (record { links = links.now; least = least; near = near.now; far = far.now }))) }
+    ensures { IfOk result (IsAnswer (cycle_rules graph.now (record { version = version; level = level; links = links.now; least = least; near = near.now; far = far.now }))) }
 {
-    if !has_right_sizes(graph, links, least, near, far) {
+    if !has_right_sizes(graph, version, links, least, near, far) {
         return Ok(rejected(Rule::Sizes, 0));
     }
-    if let Some(place) = first_wrong_link(graph, links) {
+    if let Some(place) = first_wrong_link(graph, level, links) {
         let Ok(place) = u32::try_from(place) else {
             return Err(NoMemory);
         };
@@ -118,5 +148,5 @@ pub(crate) fn cycle_verdict(
     if links.is_empty() || !costs(links, least) {
         return Ok(rejected(Rule::Links, 0));
     }
-    bounds_verdict(alloc, graph, least, near, far)
+    bounds_verdict(alloc, graph, version, level, least, near, far)
 }

@@ -10,15 +10,25 @@ use tcc_cert::Certificate;
 use tcc_graph::Graph;
 use tcc_txn::NoMemory;
 
-/// Accepts the certificate exactly where it keeps all rules; otherwise names the first broken one and where.
+/// Accepts the certificate exactly where it keeps all rules for its version and its level; otherwise names the first
+/// broken one and where.
 pub fn check(alloc: Global, graph: &Graph, certificate: &Certificate) -> Result<Verdict, NoMemory>
     ensures { IfOk result (IsVerdict graph.now certificate.now) }
 {
     match certificate {
-        Certificate::Order { order, clocks } => {
-            order_verdict(alloc, graph, order.as_slice(), clocks.rows())
+        Certificate::Order {
+            level,
+            order,
+            sessions,
+            clocks,
+            ..
+        } => {
+            let order = order.as_slice();
+            order_verdict(alloc, graph, *level, order, *sessions, clocks.rows())
         }
         Certificate::Cycle {
+            version,
+            level,
             links,
             least,
             near,
@@ -26,6 +36,8 @@ pub fn check(alloc: Global, graph: &Graph, certificate: &Certificate) -> Result<
         } => cycle_verdict(
             alloc,
             graph,
+            *version,
+            *level,
             links.as_slice(),
             *least,
             near.rows(),

@@ -4,11 +4,12 @@ ghost use Rattle.tcc_reads.specs.History.{count};
 ghost use Rattle.tcc_graph.specs.Relations.{IsReadsPair};
 ghost use Rattle.tcc_graph.specs.Keys.{IsWriter};
 ghost use Rattle.tcc_graph.specs.Walks.{IsStep, Leads, IsWalk};
+ghost use Rattle.tcc_graph.specs.Levels.{IsAllowed};
 ghost use Rattle.tcc_graph.specs.Links.{IsReason, link_from, link_to, link_cost, cost};
 ghost use Rattle.tcc_cert.specs.CycleRules.{IsStepBelow, IsLinkBelow, IsLinkRight, ends_at};
 ghost use Rattle.tcc_check.specs.Links.{AreLinksRight, IsFirstWrong};
 
-use tcc_graph::{Graph, Link, Step};
+use tcc_graph::{Graph, Level, Link, Step};
 use tcc_txn::Name;
 
 /// Whether `to` reads the key from `from`.
@@ -54,17 +55,37 @@ fn leads(graph: &Graph, from: u32, to: u32, steps: &[Step]) -> bool
     at == to
 }
 
-/// Whether `reader` reads the key from `to`, and `from`, another writer of it, reaches `reader` by the walk.
-fn is_reason(graph: &Graph, from: u32, to: u32, key: &Name, reader: u32, walk: &[Step]) -> bool
+/// Whether the level allows the walk.
+fn is_allowed(level: Level, walk: &[Step]) -> bool
+    ensures { IsTrue result ↔ IsAllowed level walk.now }
+{
+    match level {
+        Level::Causal => true,
+        Level::Atomic => walk.len() == 1,
+    }
+}
+
+/// Whether `reader` reads the key from `to`, and `from`, another writer of it, reaches `reader` by the walk, which the
+/// level allows.
+fn is_reason(
+    graph: &Graph,
+    level: Level,
+    from: u32,
+    to: u32,
+    key: &Name,
+    reader: u32,
+    walk: &[Step],
+) -> bool
     requires from { from < count graph.now }
     requires to { to < count graph.now }
     requires reader { reader < count graph.now }
     requires walk { All (IsStepBelow (count graph.now)) walk.now }
-    ensures { IsTrue result ↔ IsReason graph.now from to key.now reader walk.now }
+    ensures { IsTrue result ↔ IsReason (record { history = graph.now; level = level }) from to key.now reader walk.now }
 {
     from != to
         && is_read(graph, to, reader, key)
         && is_writer(graph, from, key)
+        && is_allowed(level, walk)
         && !walk.is_empty()
         && leads(graph, from, reader, walk)
 }
@@ -82,9 +103,9 @@ fn link_ends(link: &Link) -> (u32, u32)
 }
 
 /// Whether the link begins there and is one of the history.
-fn is_link_right(graph: &Graph, at: u32, link: &Link) -> bool
+fn is_link_right(graph: &Graph, level: Level, at: u32, link: &Link) -> bool
     requires { IsLinkBelow (count graph.now) link.now }
-    ensures { IsTrue result ↔ IsLinkRight graph.now at link.now }
+    ensures { IsTrue result ↔ IsLinkRight (record { history = graph.now; level = level }) at link.now }
 {
     if link_ends(link).0 != at {
         return false;
@@ -98,7 +119,7 @@ fn is_link_right(graph: &Graph, at: u32, link: &Link) -> bool
             reader,
             walk,
             ..
-        } => is_reason(graph, at, *to, key, *reader, walk.steps()),
+        } => is_reason(graph, level, at, *to, key, *reader, walk.steps()),
     }
 }
 
@@ -122,13 +143,15 @@ fn end_of(links: &[Link]) -> u32
 
 /// The first link, from 1, that is not right: that does not begin where the one before it ends, the first where the
 /// last ends, or is none of the history.
-pub(crate) fn first_wrong_link(graph: &Graph, links: &[Link]) -> Option<usize>
+pub(crate) fn first_wrong_link(graph: &Graph, level: Level, links: &[Link]) -> Option<usize>
     requires { All (IsLinkBelow (count graph.now)) links.now }
-    ensures { MatchOption result (AreLinksRight graph.now links.now) (IsFirstWrong graph.now links.now) }
+    ensures { MatchOption result
+        (AreLinksRight (record { history = graph.now; level = level }) links.now)
+        (IsFirstWrong (record { history = graph.now; level = level }) links.now) }
 {
     let mut at = end_of(links);
     for (before, link) in links.iter().enumerate() {
-        if !is_link_right(graph, at, link) {
+        if !is_link_right(graph, level, at, link) {
             return Some(before + 1);
         }
         at = link_to(link);

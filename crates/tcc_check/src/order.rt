@@ -3,8 +3,9 @@ ghost use Rattle.std.specs.Prelude.{ℕ, ◌≡◌, ◌<◌, ◌≤◌, ◌↔�
 ghost use Rattle.tcc_txn.specs.declared.limits.TheConstants.{MAX_COUNT};
 ghost use Rattle.tcc_reads.specs.History.{count};
 ghost use Rattle.tcc_graph.specs.Relations.{IsCausalPair};
+ghost use Rattle.tcc_graph.specs.declared.level.Level.TheVariants.{Causal};
 ghost use Rattle.tcc_cert.specs.Tables.{entry, HasSize, IsFirstPlace};
-ghost use Rattle.tcc_cert.specs.OrderRules.{MayReach, HasOrderSizes, KeepsPairs, BreaksAxiom};
+ghost use Rattle.tcc_cert.specs.OrderRules.{HasClocks, HasInClock, MayReach, HasOrderSizes, KeepsPairs, BreaksAxiom};
 ghost use Rattle.tcc_cert.specs.Rules.{HoldsEverywhere};
 ghost use Rattle.tcc_check.specs.Searches.{HoldsBelow, IsFirstBelow};
 ghost use Rattle.tcc_check.specs.Places.{ArePlaces, IsKept, AreGaps, IsUnordered};
@@ -16,7 +17,7 @@ use crate::verdict::{Rule, Verdict, rejected};
 use crate::weights::{lowered, no_weights};
 use std::alloc::Global;
 use tcc_cert::{Numbers, Table};
-use tcc_graph::Graph;
+use tcc_graph::{Graph, Level};
 use tcc_txn::NoMemory;
 
 /// How far a session got by a clock.
@@ -29,14 +30,28 @@ fn clock_at(clocks: &[Numbers], number: u32, session: u32) -> u32
 }
 
 /// How much the clock of `c` lacks to have `b`: nothing where, by the clock, `b` may reach `c`.
-fn gap(graph: &Graph, clocks: &[Numbers], b: u32, c: u32) -> u32
+fn clock_gap(graph: &Graph, clocks: &[Numbers], b: u32, c: u32) -> u32
     requires b { b < count graph.now }
     requires c { c < length clocks.now }
-    ensures { (result ≡ 0) ↔ MayReach graph.now clocks.now b c }
+    ensures { (result ≡ 0) ↔ MayReach graph.now Causal clocks.now b c }
 {
     match graph.at(b) {
         None => 0,
         Some((session, place)) => place.saturating_sub(clock_at(clocks, c, session)),
+    }
+}
+
+/// How much lacks for `b` to reach `c`, so far as the level asks: at `Atomic` there are no clocks, and all lacks where
+/// the two are no causal pair.
+fn gap(graph: &Graph, level: Level, clocks: &[Numbers], b: u32, c: u32) -> u32
+    requires clocks { HasClocks level (count graph.now) (length graph.now.sessions) clocks.now }
+    requires b { b < count graph.now }
+    requires c { c < count graph.now }
+    ensures { (result ≡ 0) ↔ MayReach graph.now level clocks.now b c }
+{
+    match level {
+        Level::Causal => clock_gap(graph, clocks, b, c),
+        Level::Atomic => { if graph.causal(b, c) { 0 } else { 1 } }
     }
 }
 
@@ -53,28 +68,43 @@ fn is_clock_below(one: &[u32], other: &[u32]) -> bool
     true
 }
 
-/// Whether `b` stands before `c`, and the clock of `c` has that of `b` and `b` itself.
-fn is_kept(graph: &Graph, places: &[u32], clocks: &[Numbers], b: u32, c: u32) -> bool
-    requires places { length places.now ≡ count graph.now }
+/// Whether the clock of `c` has that of `b` and `b` itself.
+fn is_in_clock(graph: &Graph, clocks: &[Numbers], b: u32, c: u32) -> bool
     requires clocks { HasSize (count graph.now) (length graph.now.sessions) clocks.now }
     requires b { b < count graph.now }
     requires c { c < count graph.now }
-    ensures { IsTrue result ↔ IsKept graph.now places.now clocks.now b c }
+    ensures { IsTrue result ↔ HasInClock graph.now clocks.now b c }
 {
-    places[b as usize] < places[c as usize]
-        && is_clock_below(clocks[b as usize].as_slice(), clocks[c as usize].as_slice())
-        && gap(graph, clocks, b, c) == 0
+    is_clock_below(clocks[b as usize].as_slice(), clocks[c as usize].as_slice())
+        && clock_gap(graph, clocks, b, c) == 0
+}
+
+/// Whether `b` stands before `c`, and the clock of `c`, where there are clocks, has that of `b` and `b` itself.
+fn is_kept(graph: &Graph, level: Level, places: &[u32], clocks: &[Numbers], b: u32, c: u32) -> bool
+    requires places { length places.now ≡ count graph.now }
+    requires clocks { HasClocks level (count graph.now) (length graph.now.sessions) clocks.now }
+    requires b { b < count graph.now }
+    requires c { c < count graph.now }
+    ensures { IsTrue result ↔ IsKept graph.now level places.now clocks.now b c }
+{
+    if places[c as usize] <= places[b as usize] {
+        return false;
+    }
+    match level {
+        Level::Causal => is_in_clock(graph, clocks, b, c),
+        Level::Atomic => true,
+    }
 }
 
 /// Whether all causal pairs that end at `c` are kept.
-fn keeps_pairs_to(graph: &Graph, places: &[u32], clocks: &[Numbers], c: u32) -> bool
+fn keeps_pairs_to(graph: &Graph, level: Level, places: &[u32], clocks: &[Numbers], c: u32) -> bool
     requires places { length places.now ≡ count graph.now }
-    requires clocks { HasSize (count graph.now) (length graph.now.sessions) clocks.now }
+    requires clocks { HasClocks level (count graph.now) (length graph.now.sessions) clocks.now }
     requires c { c < count graph.now }
-    ensures { IsTrue result ↔ ((b : ℕ) → IsCausalPair graph.now b c → IsKept graph.now places.now clocks.now b c) }
+    ensures { IsTrue result ↔ ((b : ℕ) → IsCausalPair graph.now b c → IsKept graph.now level places.now clocks.now b c) }
 {
     for b in 0..graph.count() {
-        if graph.causal(b, c) && !is_kept(graph, places, clocks, b, c) {
+        if graph.causal(b, c) && !is_kept(graph, level, places, clocks, b, c) {
             return false;
         }
     }
@@ -82,13 +112,13 @@ fn keeps_pairs_to(graph: &Graph, places: &[u32], clocks: &[Numbers], c: u32) -> 
 }
 
 /// Whether all causal pairs are kept.
-fn keeps_pairs(graph: &Graph, places: &[u32], clocks: &[Numbers]) -> bool
+fn keeps_pairs(graph: &Graph, level: Level, places: &[u32], clocks: &[Numbers]) -> bool
     requires places { length places.now ≡ count graph.now }
-    requires clocks { HasSize (count graph.now) (length graph.now.sessions) clocks.now }
-    ensures { IsTrue result ↔ ((b : ℕ) (c : ℕ) → IsCausalPair graph.now b c → IsKept graph.now places.now clocks.now b c) }
+    requires clocks { HasClocks level (count graph.now) (length graph.now.sessions) clocks.now }
+    ensures { IsTrue result ↔ ((b : ℕ) (c : ℕ) → IsCausalPair graph.now b c → IsKept graph.now level places.now clocks.now b c) }
 {
     for c in 0..graph.count() {
-        if !keeps_pairs_to(graph, places, clocks, c) {
+        if !keeps_pairs_to(graph, level, places, clocks, c) {
             return false;
         }
     }
@@ -96,27 +126,33 @@ fn keeps_pairs(graph: &Graph, places: &[u32], clocks: &[Numbers]) -> bool
 }
 
 /// The gaps from one transaction to each.
-fn gap_row(alloc: Global, graph: &Graph, clocks: &[Numbers], b: u32) -> Result<Vec<u32>, NoMemory>
+fn gap_row(
+    alloc: Global,
+    graph: &Graph,
+    level: Level,
+    clocks: &[Numbers],
+    b: u32,
+) -> Result<Vec<u32>, NoMemory>
     requires b { b < count graph.now }
-    requires clocks { length clocks.now ≡ count graph.now }
+    requires clocks { HasClocks level (count graph.now) (length graph.now.sessions) clocks.now }
     ensures long { IfOk result (λ row. length row.items ≡ count graph.now) }
-    ensures none { IfOk result (λ row. (c : ℕ) → c < count graph.now → (slice_index row.items c ≡ 0) ↔ MayReach graph.now clocks.now b c) }
+    ensures none { IfOk result (λ row. (c : ℕ) → c < count graph.now → (slice_index row.items c ≡ 0) ↔ MayReach graph.now level clocks.now b c) }
 {
     let mut row = Vec::new(alloc);
     for c in 0..graph.count() {
-        row.push(gap(graph, clocks, b, c))?;
+        row.push(gap(graph, level, clocks, b, c))?;
     }
     Ok(row)
 }
 
 /// The gaps from each transaction to each.
-fn gaps(alloc: Global, graph: &Graph, clocks: &[Numbers]) -> Result<Table, NoMemory>
-    requires { length clocks.now ≡ count graph.now }
-    ensures { IfOk result (λ gaps. AreGaps graph.now clocks.now gaps) }
+fn gaps(alloc: Global, graph: &Graph, level: Level, clocks: &[Numbers]) -> Result<Table, NoMemory>
+    requires { HasClocks level (count graph.now) (length graph.now.sessions) clocks.now }
+    ensures { IfOk result (λ gaps. AreGaps graph.now level clocks.now gaps) }
 {
     let mut rows = Vec::new(alloc);
     for b in 0..graph.count() {
-        rows.push(Numbers::new(gap_row(alloc, graph, clocks, b)?))?;
+        rows.push(Numbers::new(gap_row(alloc, graph, level, clocks, b)?))?;
     }
     Ok(Table::new(rows))
 }
@@ -158,6 +194,7 @@ fn first_unordered(places: &[u32], weights: &[Numbers]) -> Option<(u32, u32)>
 fn broken_axiom(
     alloc: Global,
     graph: &Graph,
+    level: Level,
     order: &[u32],
     places: &[u32],
     clocks: &[Numbers],
@@ -165,43 +202,62 @@ fn broken_axiom(
     requires few { count graph.now ≤ MAX_COUNT }
     requires order { length order.now ≡ count graph.now }
     requires places { ArePlaces order.now places.now }
-    requires clocks { length clocks.now ≡ count graph.now }
-    ensures { IfOk result (λ found. MatchOption found
-        (HoldsEverywhere (BreaksAxiom graph.now (record { order = order.now; clocks = clocks.now })))
-        (IsFirstPlace (BreaksAxiom graph.now (record { order = order.now; clocks = clocks.now })))) }
+    requires clocks { HasClocks level (count graph.now) (length graph.now.sessions) clocks.now }
+    ensures { (sessions : ℕ) → IfOk result (λ found. MatchOption found
+        (HoldsEverywhere (BreaksAxiom graph.now (record { level = level; order = order.now; sessions = sessions; clocks = clocks.now })))
+        (IsFirstPlace (BreaksAxiom graph.now (record { level = level; order = order.now; sessions = sessions; clocks = clocks.now })))) }
 {
-    let gaps = gaps(alloc, graph, clocks)?;
+    let gaps = gaps(alloc, graph, level, clocks)?;
     let none = no_weights(alloc, order.len())?;
     let weights = lowered(alloc, graph, gaps.rows(), none.rows())?;
     Ok(first_unordered(places, weights.rows()))
 }
 
-/// Whether the order and the clocks have the size of the history.
-fn has_order_sizes(graph: &Graph, order: &[u32], clocks: &[Numbers]) -> bool
+/// Whether the clocks have the size of the history; at `Atomic` there are none.
+fn has_clocks(level: Level, clocks: &[Numbers], count: usize, sessions: usize) -> bool
+    ensures { IsTrue result ↔ HasClocks level count sessions clocks.now }
+{
+    match level {
+        Level::Causal => has_size(clocks, count, sessions),
+        Level::Atomic => clocks.is_empty(),
+    }
+}
+
+/// Whether the order, the number of sessions and the clocks are those of the history.
+fn has_order_sizes(
+    graph: &Graph,
+    level: Level,
+    order: &[u32],
+    sessions: u32,
+    clocks: &[Numbers],
+) -> bool
     ensures few { count graph.now ≤ MAX_COUNT }
-    ensures sizes { IsTrue result ↔ HasOrderSizes graph.now (record { order = order.now; clocks = clocks.now }) }
+    ensures sizes { IsTrue result ↔ HasOrderSizes graph.now (record { level = level; order = order.now; sessions = sessions; clocks = clocks.now }) }
 {
     let count = graph.count() as usize;
-    order.len() == count && has_size(clocks, count, graph.sessions().len())
+    let all = graph.sessions().len();
+    order.len() == count && sessions as usize == all && has_clocks(level, clocks, count, all)
 }
 
 /// The place of each number, none where a number is there twice or a causal pair is not kept.
 fn kept_places(
     alloc: Global,
     graph: &Graph,
+    level: Level,
     order: &[u32],
     clocks: &[Numbers],
 ) -> Result<Option<Vec<u32>>, NoMemory>
     requires few { count graph.now ≤ MAX_COUNT }
-    requires sizes { HasOrderSizes graph.now (record { order = order.now; clocks = clocks.now }) }
-    ensures { IfOk result (λ found. MatchOption found
-        (KeepsPairs graph.now (record { order = order.now; clocks = clocks.now }) → ⊥)
-        (λ places. ArePlaces order.now places.items × KeepsPairs graph.now (record { order = order.now; clocks = clocks.now }))) }
+    requires order { length order.now ≡ count graph.now }
+    requires clocks { HasClocks level (count graph.now) (length graph.now.sessions) clocks.now }
+    ensures { (sessions : ℕ) → IfOk result (λ found. MatchOption found
+        (KeepsPairs graph.now (record { level = level; order = order.now; sessions = sessions; clocks = clocks.now }) → ⊥)
+        (λ places. ArePlaces order.now places.items × KeepsPairs graph.now (record { level = level; order = order.now; sessions = sessions; clocks = clocks.now }))) }
 {
     let Some(places) = places_of(alloc, order)? else {
         return Ok(None);
     };
-    if !keeps_pairs(graph, &places, clocks) {
+    if !keeps_pairs(graph, level, &places, clocks) {
         return Ok(None);
     }
     Ok(Some(places))
@@ -211,18 +267,20 @@ fn kept_places(
 pub(crate) fn order_verdict(
     alloc: Global,
     graph: &Graph,
+    level: Level,
     order: &[u32],
+    sessions: u32,
     clocks: &[Numbers],
 ) -> Result<Verdict, NoMemory>
-    ensures { IfOk result (IsAnswer (order_rules graph.now (record { order = order.now; clocks = clocks.now }))) }
+    ensures { IfOk result (IsAnswer (order_rules graph.now (record { level = level; order = order.now; sessions = sessions; clocks = clocks.now }))) }
 {
-    if !has_order_sizes(graph, order, clocks) {
+    if !has_order_sizes(graph, level, order, sessions, clocks) {
         return Ok(rejected(Rule::Sizes, 0));
     }
-    let Some(places) = kept_places(alloc, graph, order, clocks)? else {
+    let Some(places) = kept_places(alloc, graph, level, order, clocks)? else {
         return Ok(rejected(Rule::Pairs, 0));
     };
-    match broken_axiom(alloc, graph, order, &places, clocks)? {
+    match broken_axiom(alloc, graph, level, order, &places, clocks)? {
         Some(at) => Ok(Verdict::Rejected {
             rule: Rule::Axiom,
             at,

@@ -1,9 +1,9 @@
 //! The rule on sizes and ranges.
-ghost use Rattle.std.specs.Prelude.{◌↔◌, ◌≤◌, All, IsTrue};
-ghost use Rattle.tcc_cert.specs.Tables.{HasSize, IsCapped};
+ghost use Rattle.std.specs.Prelude.{◌≡◌, ◌↔◌, ◌≤◌, All, IsTrue};
+ghost use Rattle.tcc_cert.specs.Tables.{lowest, HasSize, HasFarSize, IsCapped};
 ghost use Rattle.tcc_cert.specs.CycleRules.{IsStepBelow, IsLinkBelow};
 
-use tcc_cert::Numbers;
+use tcc_cert::{Numbers, Version};
 use tcc_graph::{Link, Step};
 
 /// Whether a table has so many rows, each with so many numbers.
@@ -11,6 +11,33 @@ pub(crate) fn has_size(table: &[Numbers], rows: usize, columns: usize) -> bool
     ensures { IsTrue result ↔ HasSize rows columns table.now }
 {
     table.len() == rows && table.iter().all(|row| row.as_slice().len() == columns)
+}
+
+/// The first transaction that the row of `start` has a number for.
+pub(crate) fn lowest(version: Version, start: u32) -> u32
+    ensures value { result ≡ lowest version start }
+    ensures low { result ≤ start }
+{
+    match version {
+        Version::One => 0,
+        Version::Two => start,
+    }
+}
+
+/// Whether a table of costs has so many rows, each with a number for each transaction from the lowest on.
+pub(crate) fn has_far_size(version: Version, table: &[Numbers], count: u32) -> bool
+    ensures { IsTrue result ↔ HasFarSize version count table.now }
+{
+    if table.len() != count as usize {
+        return false;
+    }
+    for start in 0..count {
+        let row = table[start as usize].as_slice();
+        if row.len() != (count - lowest(version, start)) as usize {
+            return false;
+        }
+    }
+    true
 }
 
 /// Whether no number is above the limit.

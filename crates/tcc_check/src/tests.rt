@@ -3,8 +3,8 @@ use crate::{Rule, Verdict, check};
 use std::alloc::{AllocError, Global};
 use std::process::Abort;
 use std::test::Fail;
-use tcc_cert::{Certificate, Links, Numbers, Table, read};
-use tcc_graph::Graph;
+use tcc_cert::{Certificate, Links, Numbers, Table, Version, read};
+use tcc_graph::{Graph, Level};
 use tcc_reads::resolve;
 use tcc_txn::{NoMemory, snapshot_of};
 
@@ -25,6 +25,10 @@ const FORKED: &str = "a,begin\na,w,x,1\na,commit\nb,begin\nb,w,y,1\nb,commit\n\
 
 /// a/1 and b/1 read from one another.
 const CROSSED: &str = "a,begin\na,w,x,1\na,r,y,1\na,commit\nb,begin\nb,w,y,1\nb,r,x,1\nb,commit\n";
+
+/// b/1 knows of a/2, but reads the value from before a/1: no single pair leads from a/1 to b/1.
+const DISTANT: &str = "a,begin\na,w,x,1\na,commit\na,begin\na,w,y,1\na,commit\n\
+    b,begin\nb,r,y,1\nb,r,x,0\nb,commit\n";
 
 /// a/1 and a/2 write different keys.
 const TWO: &str = "a,begin\na,w,x,1\na,commit\na,begin\na,w,y,1\na,commit\n";
@@ -53,22 +57,25 @@ fn verdict(rt: &impl Abort, alloc: Global, records: &str, certificate: &Certific
 /// The first broken rule and where, none where the certificate is accepted.
 type Wanted = Option<(Rule, u32, u32)>;
 
-/// What the rules say of the certificate that a text says behind its first line.
+/// What the rules say of the certificate that a text says between its first line and its last.
 fn assert_verdict(
     rt: &impl Abort,
     alloc: Global,
     records: &str,
+    header: &str,
     claim: &[&str],
     wanted: Wanted,
 ) -> Result<(), AllocError> {
     let mut text = Vec::new(alloc);
-    text.extend_from_slice(b"tcc-certificate 1\n")?;
+    text.extend_from_slice(b"tcc-certificate ")?;
+    text.extend_from_slice(header.as_bytes())?;
+    text.push(b'\n')?;
     for part in claim {
         text.extend_from_slice(part.as_bytes())?;
     }
     text.extend_from_slice(b"end\n")?;
     let Ok(certificate) = read(alloc, text.as_slice()) else {
-        panic!(rt; "{claim:?} is no certificate");
+        panic!(rt; "{claim:?} is no certificate {header}");
     };
     let wanted = match wanted {
         Some((rule, row, column)) => Verdict::Rejected {
@@ -80,13 +87,13 @@ fn assert_verdict(
     assert_eq!(rt;
         verdict(rt, alloc, records, &certificate),
         wanted,
-        "for {claim:?}"
+        "for {header}, {claim:?}"
     );
     Ok(())
 }
 
-/// Links, the table of lengths, the table of costs, and the verdict.
-type Row<'a> = (&'a str, &'a str, &'a str, Wanted);
+/// What stands behind the word in the first line, the links, the table of lengths, the table of costs, and the verdict.
+type Row<'a> = (&'a str, &'a str, &'a str, &'a str, Wanted);
 
 fn assert_cycles(
     rt: &impl Abort,
@@ -94,42 +101,85 @@ fn assert_cycles(
     records: &str,
     rows: &[Row],
 ) -> Result<(), AllocError> {
-    for (links, near, far, wanted) in rows {
-        assert_verdict(
-            rt,
-            alloc,
-            records,
-            &[links, "near\n", near, "far\n", far],
-            *wanted,
-        )?;
+    for (header, links, near, far, wanted) in rows {
+        let claim = [*links, "near\n", *near, "far\n", *far];
+        assert_verdict(rt, alloc, records, header, &claim, *wanted)?;
     }
     Ok(())
 }
 
 #[test]
 fn a_stale_read(rt: HostRuntime) -> Result<(), Fail> {
-    use Rule::{FarLinks, Links, NearPairs, Returns, Sizes};
+    use Rule::{FarLinks, Links, NearPairs, NearSteps, Returns, Sizes};
     let links = "cycle 3 2 3\nS 0 1\nD 1 0 x 2 1\nS 1 2\n";
     let elsewhere = "cycle 3 2 3\nS 0 2\nD 1 0 x 2 1\nS 1 2\n";
     let smaller = "cycle 2 2 3\nS 0 1\nD 1 0 x 2 1\nS 1 2\n";
     let outside = "cycle 3 2 3\nS 0 1\nD 1 0 x 2 1\nS 1 3\n";
     let near = "3 1 1\n3 3 1\n3 3 3\n";
+    let below = "3 1 1\n0 3 1\n3 3 3\n";
     let far = "3 1 1\n2 3 1\n3 3 3\n";
-    assert_cycles(
-        &rt,
-        rt.alloc(),
-        STALE,
-        &[
-            (links, near, far, None),
-            (smaller, "3 1\n3 3\n", "3 1\n2 3\n", Some((Sizes, 0, 0))),
-            (outside, near, far, Some((Sizes, 0, 0))),
-            (links, near, "3 1 1\n2 4 1\n3 3 3\n", Some((Sizes, 0, 0))),
-            (elsewhere, near, far, Some((Links, 2, 0))),
-            (links, "3 2 1\n3 3 1\n3 3 3\n", far, Some((NearPairs, 0, 1))),
-            (links, near, "3 1 1\n3 3 1\n3 3 3\n", Some((FarLinks, 1, 0))),
-            (links, near, "3 1 1\n2 3 1\n3 3 2\n", Some((Returns, 2, 2))),
-        ],
-    )?;
+    let upward = "3 1 1\n3 1\n3\n";
+    let rows: &[Row] = &[
+        ("1", links, near, far, None),
+        (
+            "1",
+            smaller,
+            "3 1\n3 3\n",
+            "3 1\n2 3\n",
+            Some((Sizes, 0, 0)),
+        ),
+        ("1", outside, near, far, Some((Sizes, 0, 0))),
+        (
+            "1",
+            links,
+            near,
+            "3 1 1\n2 4 1\n3 3 3\n",
+            Some((Sizes, 0, 0)),
+        ),
+        ("1", elsewhere, near, far, Some((Links, 2, 0))),
+        (
+            "1",
+            links,
+            "3 2 1\n3 3 1\n3 3 3\n",
+            far,
+            Some((NearPairs, 0, 1)),
+        ),
+        ("1", links, below, far, Some((NearSteps, 1, 1))),
+        (
+            "1",
+            links,
+            near,
+            "3 1 1\n3 3 1\n3 3 3\n",
+            Some((FarLinks, 1, 0)),
+        ),
+        (
+            "1",
+            links,
+            near,
+            "3 1 1\n2 3 1\n3 3 2\n",
+            Some((Returns, 2, 2)),
+        ),
+        ("1 atomic", links, near, far, None),
+        ("1 atomic", links, below, far, None),
+        ("2 causal", links, near, upward, None),
+        ("2 causal", links, below, upward, Some((NearSteps, 1, 1))),
+        (
+            "2 causal",
+            links,
+            near,
+            "3 1 1\n3 2\n3\n",
+            Some((FarLinks, 1, 2)),
+        ),
+        (
+            "2 causal",
+            links,
+            near,
+            "3 1 1\n3 1\n2\n",
+            Some((Returns, 2, 2)),
+        ),
+        ("2 atomic", links, near, upward, None),
+    ];
+    assert_cycles(&rt, rt.alloc(), STALE, rows)?;
     Ok(())
 }
 
@@ -139,58 +189,93 @@ fn other_cycles(rt: HostRuntime) -> Result<(), Fail> {
     let alloc = rt.alloc();
     let crossed = "cycle 3 2 2\nR 1 2 x\nR 2 1 y\n";
     let table = "2 1 1\n2 2 1\n2 1 2\n";
-    assert_cycles(&rt, alloc, CROSSED, &[(crossed, table, table, None)])?;
+    let rows: &[Row] = &[
+        ("1", crossed, table, table, None),
+        ("2 causal", crossed, table, "2 1 1\n2 1\n2\n", None),
+    ];
+    assert_cycles(&rt, alloc, CROSSED, rows)?;
     let torn = "cycle 4 2 4\nD 1 2 x 3 1\nR 1 3 x\nD 2 1 x 3 1\nR 2 3 x\n";
     let near = "4 1 1 1\n4 4 4 1\n4 4 4 1\n4 4 4 4\n";
     let far = "4 1 1 1\n4 4 2 1\n4 2 4 1\n4 4 4 4\n";
     let low = "4 1 1 1\n4 4 1 1\n4 2 4 1\n4 4 4 4\n";
     let lowered = Some((FarSteps, 1, 1));
-    let rows = [(torn, near, far, None), (torn, near, low, lowered)];
-    assert_cycles(&rt, alloc, TORN, &rows)?;
+    let rows: &[Row] = &[
+        ("1", torn, near, far, None),
+        ("1", torn, near, low, lowered),
+        ("2 causal", torn, near, "4 1 1 1\n4 2 1\n4 1\n4\n", None),
+        ("2 causal", torn, near, "4 1 1 1\n4 1 1\n4 1\n4\n", lowered),
+        ("2 atomic", torn, near, "4 1 1 1\n4 2 1\n4 1\n4\n", None),
+    ];
+    assert_cycles(&rt, alloc, TORN, rows)?;
     let relayed = "S 0 1\nD 1 0 x 4 3\nR 1 2 x\nR 2 3 y\nS 3 4\nnear\n5 1 1 1 1\n";
     let rest = "5 5 5 1 2\n5 5 5 5 1\n5 5 5 5 5\n";
     let far = "far\n5 1 1 1 1\n4 5 1 2 3\n";
-    for (sizes, second, wanted) in [
-        ("cycle 5 2 5\n", "5 5 1 2 3\n", None),
-        ("cycle 5 2 4\n", "5 5 1 2 3\n", Some((Sizes, 0, 0))),
-        ("cycle 5 2 6\n", "5 5 1 2 3\n", Some((Links, 0, 0))),
-        ("cycle 5 2 5\n", "5 5 1 2 4\n", Some((NearSteps, 1, 4))),
+    for (header, sizes, second, wanted) in [
+        ("1", "cycle 5 2 5\n", "5 5 1 2 3\n", None),
+        ("1", "cycle 5 2 4\n", "5 5 1 2 3\n", Some((Sizes, 0, 0))),
+        ("1", "cycle 5 2 6\n", "5 5 1 2 3\n", Some((Links, 0, 0))),
+        ("1", "cycle 5 2 5\n", "5 5 1 2 4\n", Some((NearSteps, 1, 4))),
+        (
+            "1 atomic",
+            "cycle 5 2 5\n",
+            "5 5 1 2 3\n",
+            Some((Links, 2, 0)),
+        ),
     ] {
         let claim = [sizes, relayed, second, rest, far, rest];
-        assert_verdict(&rt, alloc, RELAYED, &claim, wanted)?;
+        assert_verdict(&rt, alloc, RELAYED, header, &claim, wanted)?;
     }
     Ok(())
 }
 
-/// No text says so: no links at all.
+/// No text says so: no links at all, rows of costs in the form of the other version, an order at `Atomic` with clocks.
 #[test]
-fn no_links(rt: HostRuntime) -> Result<(), Fail> {
+fn no_such_text(rt: HostRuntime) -> Result<(), Fail> {
     let alloc = rt.alloc();
-    let mut near = Vec::new(alloc);
-    let mut far = Vec::new(alloc);
-    for row in [[2, 1, 1], [2, 2, 1], [2, 1, 2]] {
-        near.push(Numbers::new(row.to_vec(alloc)?))?;
-        far.push(Numbers::new(row.to_vec(alloc)?))?;
+    for (version, rule) in [(Version::One, Rule::Links), (Version::Two, Rule::Sizes)] {
+        let mut near = Vec::new(alloc);
+        let mut far = Vec::new(alloc);
+        for row in [[2, 1, 1], [2, 2, 1], [2, 1, 2]] {
+            near.push(Numbers::new(row.to_vec(alloc)?))?;
+            far.push(Numbers::new(row.to_vec(alloc)?))?;
+        }
+        let certificate = Certificate::Cycle {
+            version,
+            level: Level::Causal,
+            links: Links::new(Vec::new(alloc)),
+            least: 2,
+            near: Table::new(near),
+            far: Table::new(far),
+        };
+        let rejected = Verdict::Rejected { rule, at: (0, 0) };
+        assert_eq!(&rt; verdict(&rt, alloc, CROSSED, &certificate), rejected);
     }
-    let certificate = Certificate::Cycle {
-        links: Links::new(Vec::new(alloc)),
-        least: 2,
-        near: Table::new(near),
-        far: Table::new(far),
+    let mut clocks = Vec::new(alloc);
+    for row in [[0], [0], [1]] {
+        clocks.push(Numbers::new(row.to_vec(alloc)?))?;
+    }
+    let certificate = Certificate::Order {
+        version: Version::One,
+        level: Level::Atomic,
+        order: Numbers::new([0, 1, 2].to_vec(alloc)?),
+        sessions: 1,
+        clocks: Table::new(clocks),
     };
     let rejected = Verdict::Rejected {
-        rule: Rule::Links,
+        rule: Rule::Sizes,
         at: (0, 0),
     };
-    assert_eq!(&rt; verdict(&rt, alloc, CROSSED, &certificate), rejected);
+    assert_eq!(&rt; verdict(&rt, alloc, TWO, &certificate), rejected);
     Ok(())
 }
 
 #[test]
 fn orders(rt: HostRuntime) -> Result<(), Fail> {
     use Rule::{Axiom, Pairs, Sizes};
+    let alloc = rt.alloc();
     let forked = "0 0 0 0\n0 0 0 0\n0 0 0 0\n1 0 0 0\n0 1 0 0\n";
     let reached = "0 0 0 0\n0 0 0 0\n0 0 0 0\n1 1 0 0\n0 1 0 0\n";
+    let turned = "order 5 4\n0 3 1 2 4\n";
     for (records, sizes, clocks, wanted) in [
         ("", "order 1 0\n0\n", "\n", None),
         (TWO, "order 3 1\n0 1 2\n", "0\n0\n1\n", None),
@@ -206,12 +291,7 @@ fn orders(rt: HostRuntime) -> Result<(), Fail> {
         ),
         (ABORTED, "order 2 1\n0 1\n", "0\n0\n", None),
         (FORKED, "order 5 4\n0 1 2 3 4\n", forked, None),
-        (
-            FORKED,
-            "order 5 4\n0 3 1 2 4\n",
-            forked,
-            Some((Pairs, 0, 0)),
-        ),
+        (FORKED, turned, forked, Some((Pairs, 0, 0))),
         (
             FORKED,
             "order 5 4\n0 1 2 3 4\n",
@@ -219,13 +299,31 @@ fn orders(rt: HostRuntime) -> Result<(), Fail> {
             Some((Axiom, 2, 0)),
         ),
     ] {
-        assert_verdict(
-            &rt,
-            rt.alloc(),
-            records,
-            &[sizes, "clocks\n", clocks],
-            wanted,
-        )?;
+        for header in ["1", "2 causal"] {
+            let claim = [sizes, "clocks\n", clocks];
+            assert_verdict(&rt, alloc, records, header, &claim, wanted)?;
+        }
+    }
+    Ok(())
+}
+
+/// The list alone, with what single pairs contradict.
+#[test]
+fn atomic_orders(rt: HostRuntime) -> Result<(), Fail> {
+    use Rule::{Axiom, Pairs, Sizes};
+    for (records, claim, wanted) in [
+        ("", "order 1 0\n0\n", None),
+        (DISTANT, "order 4 2\n0 1 2 3\n", None),
+        (DISTANT, "order 4 2\n0 1 3 2\n", Some((Pairs, 0, 0))),
+        (DISTANT, "order 4 2\n0 1 2 2\n", Some((Pairs, 0, 0))),
+        (DISTANT, "order 4 3\n0 1 2 3\n", Some((Sizes, 0, 0))),
+        (RELAYED, "order 5 3\n0 1 2 3 4\n", None),
+        (STALE, "order 3 1\n0 1 2\n", Some((Axiom, 1, 0))),
+        (FORKED, "order 5 4\n0 1 2 3 4\n", None),
+    ] {
+        for header in ["1 atomic", "2 atomic"] {
+            assert_verdict(&rt, rt.alloc(), records, header, &[claim], wanted)?;
+        }
     }
     Ok(())
 }

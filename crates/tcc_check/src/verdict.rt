@@ -9,11 +9,11 @@ ghost use Rattle.tcc_check.specs.declared.verdict.Verdict.TheVariants as verdict
 pub enum Rule {
     /// The tables have the sizes of the history, and no number is out of its range.
     Sizes,
-    /// The links are those of the history, one at least, close a cycle, and cost what is claimed.
+    /// The links are those of the history at the level, one at least, close a cycle, and cost what is claimed.
     Links,
     /// Causal pairs are no farther than 1.
     NearPairs,
-    /// One more causal pair takes no more than one more step.
+    /// One more causal pair takes no more than one more step; not asked at `Atomic`.
     NearSteps,
     /// A single link takes no more than it costs.
     FarLinks,
@@ -21,9 +21,10 @@ pub enum Rule {
     FarSteps,
     /// No way back is cheaper than the cycle.
     Returns,
-    /// Each number stands in the order once, and every causal pair is kept, by the clocks too.
+    /// Each number stands in the order once, and every causal pair is kept; at `Causal` by the clocks too.
     Pairs,
-    /// What is contradicted, as far as the clocks tell, stands behind what contradicts it.
+    /// What is contradicted stands behind what contradicts it: at `Causal` as far as the clocks tell, at `Atomic` by a
+    /// single pair.
     Axiom,
 }
 

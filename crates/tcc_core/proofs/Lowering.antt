@@ -3,7 +3,8 @@ use Rattle.std.proofs.Common.{◌≡◌, ◌≢◌, ◌<◌, ◌≤◌, ◌+◌,
 use Rattle.std.proofs.Math.ListN.{get_or-eq_default}
 use Rattle.std.proofs.lemmas.Bool.{cases_lt, cases_cond, cond_both, ltb-true, ltb-false}
 use Rattle.std.proofs.lemmas.Bool.Decides.{eqb_tells, nat_tests}
-use Rattle.tcc_reads.specs.History.{History, count}
+use Rattle.tcc_reads.specs.History.{count}
+use Rattle.tcc_graph.specs.Levels.{Judged}
 use Rattle.tcc_graph.specs.Links.{link_cost}
 use Rattle.tcc_graph.specs.declared.link.Link.{Link}
 use Rattle.tcc_derive.specs.Prices.{Tables, cost_at, IsLinkOf, IsCost, IsPricesOf}
@@ -19,17 +20,17 @@ use Rattle.tcc_graph.specs.Tables.{row_of}
 abbrev pub entry : Tables → ℕ → ℕ → ℕ
 entry t u v = get_or (row_of t.costs u) v 0
 
-pub entry_of_link : (h : History) (t : Tables) (u v : ℕ) (l : Link) → IsPricesOf h t → u < count h → v < count h → IsLinkOf h u v l → (entry t u v ≢ NONE) × (entry t u v ≤ link_cost l)
-entry_of_link h t u v l priced from to leads = go (eqb_tells (entry t u v) NONE) (priced.costed u v from to)
+pub entry_of_link : (j : Judged) (t : Tables) (u v : ℕ) (l : Link) → IsPricesOf j t → u < count j.history → v < count j.history → IsLinkOf j u v l → (entry t u v ≢ NONE) × (entry t u v ≤ link_cost l)
+entry_of_link j t u v l priced from to leads = go (eqb_tells (entry t u v) NONE) (priced.costed u v from to)
   where
-    go : (((entry t u v == NONE) ≡ true) × (entry t u v ≡ NONE)) ⊎ (((entry t u v == NONE) ≡ false) × (entry t u v ≢ NONE)) → IsCost h u v (cost_at t u v) → (entry t u v ≢ NONE) × (entry t u v ≤ link_cost l)
+    go : (((entry t u v == NONE) ≡ true) × (entry t u v ≡ NONE)) ⊎ (((entry t u v == NONE) ≡ false) × (entry t u v ≢ NONE)) → IsCost j u v (cost_at t u v) → (entry t u v ≢ NONE) × (entry t u v ≤ link_cost l)
     go (inl (test, same)) cost = let none = rw test at cost in absurd (none l leads)
     go (inr (test, other)) cost = let some = rw test at cost in (other, some.least l leads)
 
-pub link_of_entry : (h : History) (t : Tables) (u v : ℕ) → IsPricesOf h t → u < count h → v < count h → entry t u v ≢ NONE → (l : Link) × IsLinkOf h u v l × (link_cost l ≡ entry t u v)
-link_of_entry h t u v priced from to there = go (eqb_tells (entry t u v) NONE) (priced.costed u v from to)
+pub link_of_entry : (j : Judged) (t : Tables) (u v : ℕ) → IsPricesOf j t → u < count j.history → v < count j.history → entry t u v ≢ NONE → (l : Link) × IsLinkOf j u v l × (link_cost l ≡ entry t u v)
+link_of_entry j t u v priced from to there = go (eqb_tells (entry t u v) NONE) (priced.costed u v from to)
   where
-    go : (((entry t u v == NONE) ≡ true) × (entry t u v ≡ NONE)) ⊎ (((entry t u v == NONE) ≡ false) × (entry t u v ≢ NONE)) → IsCost h u v (cost_at t u v) → (l : Link) × IsLinkOf h u v l × (link_cost l ≡ entry t u v)
+    go : (((entry t u v == NONE) ≡ true) × (entry t u v ≡ NONE)) ⊎ (((entry t u v == NONE) ≡ false) × (entry t u v ≢ NONE)) → IsCost j u v (cost_at t u v) → (l : Link) × IsLinkOf j u v l × (link_cost l ≡ entry t u v)
     go (inl (test, same)) cost = absurd (there same)
     go (inr (test, other)) cost = let some = rw test at cost in some.attained
 
@@ -50,25 +51,39 @@ way_by_link d link there = grind (arith, nat_tests)
 pub way_by_none : (d link : ℕ) → link ≡ NONE → way_by d link ≡ NO_WAY
 way_by_none d link same = grind (arith, nat_tests)
 
--- each cost is the lesser of what it was and of a way by these links from where d was spent
-pub record IsLowered (old : List ℕ) (new : List ℕ) (d : ℕ) (links : List ℕ) : Type 0 where
+-- from s upward each cost is the lesser of what it was and of a way by these links from where d was spent; below s it is
+-- what it was
+pub record IsLowered (s : ℕ) (old : List ℕ) (new : List ℕ) (d : ℕ) (links : List ℕ) : Type 0 where
   pub long : length new ≡ length old
-  pub each : (v : ℕ) → v < length old → get_or new v 0 ≡ lesser (get_or old v 0) (way_by d (get_or links v 0))
+  pub each : (v : ℕ) → s ≤ v → v < length old → get_or new v 0 ≡ lesser (get_or old v 0) (way_by d (get_or links v 0))
+  pub kept : (v : ℕ) → v < s → get_or new v 0 ≡ get_or old v 0
 
--- a lowered cost is what it was, or that of a way by a link
-pub lowered_cases : (old new : List ℕ) (d : ℕ) (links : List ℕ) (v : ℕ) → IsLowered old new d links → v < length old → get_or new v 0 ≢ NO_WAY → (get_or new v 0 ≡ get_or old v 0) ⊎ ((get_or links v 0 ≢ NONE) × (get_or new v 0 ≡ d + get_or links v 0))
-lowered_cases old new d links v is within some = go (lesser_cases (get_or old v 0) (way_by d (get_or links v 0))) (eqb_tells (get_or links v 0) NONE)
+-- a lowered cost is what it was, or that of a way by a link to a number from s upward
+abbrev pub IsKeptOrWay : ℕ → List ℕ → List ℕ → ℕ → List ℕ → ℕ → Type 0
+IsKeptOrWay s old new d links v =
+    (get_or new v 0 ≡ get_or old v 0) ⊎ ((s ≤ v) × (get_or links v 0 ≢ NONE) × (get_or new v 0 ≡ d + get_or links v 0))
+
+pub lowered_cases : (s : ℕ) (old new : List ℕ) (d : ℕ) (links : List ℕ) (v : ℕ) → IsLowered s old new d links → v < length old → get_or new v 0 ≢ NO_WAY → IsKeptOrWay s old new d links v
+lowered_cases s old new d links v is within some = side (cases_lt v s)
   where
-    go : (lesser (get_or old v 0) (way_by d (get_or links v 0)) ≡ way_by d (get_or links v 0)) ⊎ (lesser (get_or old v 0) (way_by d (get_or links v 0)) ≡ get_or old v 0) → (((get_or links v 0 == NONE) ≡ true) × (get_or links v 0 ≡ NONE)) ⊎ (((get_or links v 0 == NONE) ≡ false) × (get_or links v 0 ≢ NONE)) → (get_or new v 0 ≡ get_or old v 0) ⊎ ((get_or links v 0 ≢ NONE) × (get_or new v 0 ≡ d + get_or links v 0))
-    go (inr kept) w = inl (is.each v within ∙ kept)
-    go (inl by) (inl (test, same)) = absurd (some (is.each v within ∙ by ∙ way_by_none d (get_or links v 0) same))
-    go (inl by) (inr (test, other)) = inr (other, is.each v within ∙ by ∙ way_by_link d (get_or links v 0) other)
+    go : s ≤ v → (lesser (get_or old v 0) (way_by d (get_or links v 0)) ≡ way_by d (get_or links v 0)) ⊎ (lesser (get_or old v 0) (way_by d (get_or links v 0)) ≡ get_or old v 0) → (((get_or links v 0 == NONE) ≡ true) × (get_or links v 0 ≡ NONE)) ⊎ (((get_or links v 0 == NONE) ≡ false) × (get_or links v 0 ≢ NONE)) → IsKeptOrWay s old new d links v
+    go up (inr kept) w = inl (is.each v up within ∙ kept)
+    go up (inl by) (inl (test, same)) = absurd (some (is.each v up within ∙ by ∙ way_by_none d (get_or links v 0) same))
+    go up (inl by) (inr (test, other)) = inr (up, other, is.each v up within ∙ by ∙ way_by_link d (get_or links v 0) other)
 
-pub lowered_old : (old new : List ℕ) (d : ℕ) (links : List ℕ) (v : ℕ) → IsLowered old new d links → v < length old → get_or new v 0 ≤ get_or old v 0
-lowered_old old new d links v is within = omega (arith, is.each v within, lesser_left (get_or old v 0) (way_by d (get_or links v 0)))
+    side : (v < s) ⊎ (s ≤ v) → IsKeptOrWay s old new d links v
+    side (inl down) = inl (is.kept v down)
+    side (inr up) = go up (lesser_cases (get_or old v 0) (way_by d (get_or links v 0))) (eqb_tells (get_or links v 0) NONE)
 
-pub lowered_way : (old new : List ℕ) (d : ℕ) (links : List ℕ) (v : ℕ) → IsLowered old new d links → v < length old → get_or links v 0 ≢ NONE → get_or new v 0 ≤ d + get_or links v 0
-lowered_way old new d links v is within there = omega (arith, is.each v within, lesser_right (get_or old v 0) (way_by d (get_or links v 0)), way_by_link d (get_or links v 0) there)
+pub lowered_old : (s : ℕ) (old new : List ℕ) (d : ℕ) (links : List ℕ) (v : ℕ) → IsLowered s old new d links → v < length old → get_or new v 0 ≤ get_or old v 0
+lowered_old s old new d links v is within = side (cases_lt v s)
+  where
+    side : (v < s) ⊎ (s ≤ v) → get_or new v 0 ≤ get_or old v 0
+    side (inl down) = omega (arith, is.kept v down)
+    side (inr up) = omega (arith, is.each v up within, lesser_left (get_or old v 0) (way_by d (get_or links v 0)))
+
+pub lowered_way : (s : ℕ) (old new : List ℕ) (d : ℕ) (links : List ℕ) (v : ℕ) → IsLowered s old new d links → s ≤ v → v < length old → get_or links v 0 ≢ NONE → get_or new v 0 ≤ d + get_or links v 0
+lowered_way s old new d links v is up within there = omega (arith, is.each v up within, lesser_right (get_or old v 0) (way_by d (get_or links v 0)), way_by_link d (get_or links v 0) there)
 
 -- ---- how many a row has
 

@@ -7,12 +7,14 @@ use Rattle.tcc_core.specs.Rows.{in_row}
 use Rattle.tcc_core.specs.Searches.{Search}
 use Rattle.tcc_core.specs.declared.relaxing.TheConstants.{NO_WAY}
 
--- v stands outside the row, some way leads there, and the way to no other outside costs less
-pub record IsNearest (row : List (Option ℕ)) (costs : List ℕ) (v : ℕ) : Type 0 where
+-- v, a number from s upward, stands outside the row, some way leads there, and the way to no other outside from s upward
+-- costs less
+pub record IsNearest (s : ℕ) (row : List (Option ℕ)) (costs : List ℕ) (v : ℕ) : Type 0 where
+  pub upward : s ≤ v
   pub below : v < length row
   pub outside : in_row row v ≡ None
   pub reached : slice_index costs v < NO_WAY
-  pub nearest : (u : ℕ) → u < length row → in_row row u ≡ None → slice_index costs v ≤ slice_index costs u
+  pub nearest : (u : ℕ) → s ≤ u → u < length row → in_row row u ≡ None → slice_index costs v ≤ slice_index costs u
 
 -- what a way costs that leads on by a link, of a table of links' costs
 abbrev pub way_by : ℕ → ℕ → ℕ

@@ -1,19 +1,21 @@
--- Rows of distances from one start.
+-- Rows of distances from one start, over numbers from there upward.
 use Rattle.std.specs.Prelude.{ℕ, ◌≤◌, ◌≡◌, ◌==◌, List, length, Option, None, Some, if◌then◌else◌, slice_index_or, slice_set}
-use Rattle.tcc_reads.specs.History.{History, count}
+use Rattle.tcc_reads.specs.History.{count}
+use Rattle.tcc_graph.specs.Levels.{Judged}
 use Rattle.tcc_graph.specs.Links.{cost}
-use Rattle.tcc_graph.specs.Routes.{IsRoute, IsDistance}
+use Rattle.tcc_graph.specs.Routes.{IsUpwardRoute, IsDistance}
 use Rattle.tcc_graph.specs.declared.link.Link.{Link}
 
 -- what the row has of a transaction: its distance from the start; none where it stands outside
 abbrev pub in_row : List (Option ℕ) → ℕ → Option ℕ
 in_row row v = slice_index_or row v None
 
--- a place for each transaction: what the row has is the distance, and nothing outside is nearer than anything inside
-pub record IsSearchRow (h : History) (s : ℕ) (row : List (Option ℕ)) : Type 0 where
-  pub long : length row ≡ count h
-  pub exact : (v : ℕ) (distance : ℕ) → in_row row v ≡ Some distance → IsDistance h s v distance
-  pub closed : (v : ℕ) (u : ℕ) (distance : ℕ) (links : List Link) → in_row row v ≡ Some distance → in_row row u ≡ None → IsRoute h s u links → distance ≤ cost links
+-- a place for each transaction: what the row has is the distance, and nothing outside is nearer than anything inside;
+-- what is below the start stands outside, since no upward route leads there
+pub record IsSearchRow (j : Judged) (s : ℕ) (row : List (Option ℕ)) : Type 0 where
+  pub long : length row ≡ count j.history
+  pub exact : (v : ℕ) (distance : ℕ) → in_row row v ≡ Some distance → IsDistance j s v distance
+  pub closed : (v : ℕ) (u : ℕ) (distance : ℕ) (links : List Link) → in_row row v ≡ Some distance → in_row row u ≡ None → IsUpwardRoute j s u links → distance ≤ cost links
 
 -- a place for each of n transactions, and all of them outside
 pub record IsEmptyRow (n : ℕ) (row : List (Option ℕ)) : Type 0 where
@@ -29,16 +31,16 @@ abbrev pub IsWithin : Option ℕ → ℕ → Type 0
 IsWithin None c = Unit {0}
 IsWithin (Some cap) c = c ≤ cap
 
--- no route to anything outside the row is within the cap
-abbrev pub IsCutOff : History → ℕ → List (Option ℕ) → Option ℕ → Type 0
-IsCutOff h s row cap =
-    (v : ℕ) (links : List Link) → in_row row v ≡ None → IsRoute h s v links → IsWithin cap (cost links) → ⊥
+-- no upward route to anything outside the row is within the cap
+abbrev pub IsCutOff : Judged → ℕ → List (Option ℕ) → Option ℕ → Type 0
+IsCutOff j s row cap =
+    (v : ℕ) (links : List Link) → in_row row v ≡ None → IsUpwardRoute j s v links → IsWithin cap (cost links) → ⊥
 
 -- v, one of the nearest of those outside the row, is within the cap and joins the row with its distance from s; what
 -- else the row has stays
-pub record JoinsNearest (h : History) (s : ℕ) (cap : Option ℕ) (old : List (Option ℕ)) (new : List (Option ℕ)) (v : ℕ) (distance : ℕ) : Type 0 where
+pub record JoinsNearest (j : Judged) (s : ℕ) (cap : Option ℕ) (old : List (Option ℕ)) (new : List (Option ℕ)) (v : ℕ) (distance : ℕ) : Type 0 where
   pub outside : in_row old v ≡ None
-  pub exact : IsDistance h s v distance
-  pub nearest : (u : ℕ) (links : List Link) → in_row old u ≡ None → IsRoute h s u links → distance ≤ cost links
+  pub exact : IsDistance j s v distance
+  pub nearest : (u : ℕ) (links : List Link) → in_row old u ≡ None → IsUpwardRoute j s u links → distance ≤ cost links
   pub within : IsWithin cap distance
   pub joined : new ≡ slice_set old v (Some distance)

@@ -1,27 +1,29 @@
 -- Searches from one start, and their steps.
 use Rattle.std.specs.Prelude.{ℕ, ◌<◌, ◌≡◌, ◌≢◌, List, Option}
-use Rattle.tcc_reads.specs.History.{History, count}
+use Rattle.tcc_reads.specs.History.{count}
+use Rattle.tcc_graph.specs.Levels.{Judged}
 use Rattle.tcc_core.specs.Rows.{IsSearchRow, cap_of, IsCutOff, JoinsNearest}
 use Rattle.tcc_core.specs.Frontiers.{IsFrontier}
 use Rattle.tcc_core.specs.declared.settled.Settled.{Settled}
 use Rattle.tcc_core.specs.declared.settled.Settled.TheVariants as settled
 
--- a start, its row, and of each transaction outside the row what the way there over the row costs
+-- a start, its row, and of each transaction outside the row what the way there over the row costs; nothing below the
+-- start is ever looked at
 pub record Search : Type 0 where
   pub start : ℕ
   pub row : List (Option ℕ)
   pub costs : List ℕ
 
--- a search of this history from s, which begins so and stays so; what it says of the costs serves proofs alone
-pub record IsSearchOf (h : History) (s : ℕ) (search : Search) : Type 0 where
+-- a search from s of this history at this level, which begins so and stays so; what it says of the costs serves proofs alone
+pub record IsSearchOf (j : Judged) (s : ℕ) (search : Search) : Type 0 where
   pub start : search.start ≡ s
-  pub below : s < count h
-  pub row : IsSearchRow h s search.row
-  pub frontier : IsFrontier h s search.row search.costs
+  pub below : s < count j.history
+  pub row : IsSearchRow j s search.row
+  pub frontier : IsFrontier j s search.row search.costs
 
 -- one step of a search: one of the nearest outside the row and within the cap joins it, and where it is the start itself
 -- the search has returned with its distance; where there is none, the row stays, and the search is cut at the cap
-abbrev pub Settles : History → ℕ → ℕ → List (Option ℕ) → List (Option ℕ) → Settled → Type 0
-Settles h s cap old new settled.More = (v : ℕ) × (distance : ℕ) × (v ≢ s) × JoinsNearest h s (cap_of cap) old new v distance
-Settles h s cap old new (settled.Returned distance) = JoinsNearest h s (cap_of cap) old new s distance
-Settles h s cap old new (settled.Cut k) = (k ≡ cap) × (new ≡ old) × IsCutOff h s old (cap_of cap)
+abbrev pub Settles : Judged → ℕ → ℕ → List (Option ℕ) → List (Option ℕ) → Settled → Type 0
+Settles j s cap old new settled.More = (v : ℕ) × (distance : ℕ) × (v ≢ s) × JoinsNearest j s (cap_of cap) old new v distance
+Settles j s cap old new (settled.Returned distance) = JoinsNearest j s (cap_of cap) old new s distance
+Settles j s cap old new (settled.Cut k) = (k ≡ cap) × (new ≡ old) × IsCutOff j s old (cap_of cap)

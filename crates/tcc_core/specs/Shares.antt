@@ -1,9 +1,10 @@
 -- What workers bring back from their searches, and when it settles the least cost of a cycle.
 use Rattle.std.specs.Prelude.{ℕ, ◌<◌, ◌≤◌, ◌≡◌, ◌⊎◌, List, map, flat_map, All, Contains, Option, None, Some, nat_lt, if◌then◌else◌}
-use Rattle.tcc_reads.specs.History.{History, count}
+use Rattle.tcc_reads.specs.History.{count}
+use Rattle.tcc_graph.specs.Levels.{Judged}
 use Rattle.tcc_graph.specs.Links.{cost}
 use Rattle.tcc_graph.specs.Orders.{IsNumbering}
-use Rattle.tcc_graph.specs.Routes.{IsRoute, IsCycle, IsDistance}
+use Rattle.tcc_graph.specs.Routes.{IsUpwardRoute, IsCycle, IsDistance}
 use Rattle.tcc_graph.specs.declared.link.Link.{Link}
 use Rattle.tcc_core.specs.Rows.{in_row, IsSearchRow, IsCutOff}
 
@@ -32,23 +33,23 @@ IsNotAbove (Some b) (Some k) = b ≤ k
 
 -- the search returned to its start, and the worker offered the cost; or it was cut at no less than what the worker saw
 -- last, without its start, and nothing outside its row is within that cap
-abbrev pub IsStopped : History → Share → ℕ → List (Option ℕ) → Stop → Type 0
-IsStopped h share s row (Returned c) = (in_row row s ≡ Some c) × Contains share.offers c
-IsStopped h share s row (Cut cap) = IsNotAbove share.sight cap × (in_row row s ≡ None) × IsCutOff h s row cap
+abbrev pub IsStopped : Judged → Share → ℕ → List (Option ℕ) → Stop → Type 0
+IsStopped j share s row (Returned c) = (in_row row s ≡ Some c) × Contains share.offers c
+IsStopped j share s row (Cut cap) = IsNotAbove share.sight cap × (in_row row s ≡ None) × IsCutOff j s row cap
 
 -- a search of the worker, to its end
-pub record IsFinished (h : History) (share : Share) (f : Finished) : Type 0 where
-  pub row : IsSearchRow h f.start f.row
-  pub stopped : IsStopped h share f.start f.row f.stop
+pub record IsFinished (j : Judged) (share : Share) (f : Finished) : Type 0 where
+  pub row : IsSearchRow j f.start f.row
+  pub stopped : IsStopped j share f.start f.row f.stop
 
 -- some cycle costs c
-abbrev pub IsCycleCost : History → ℕ → Type 0
-IsCycleCost h c = (s : ℕ) × (links : List Link) × IsCycle h s links × (cost links ≡ c)
+abbrev pub IsCycleCost : Judged → ℕ → Type 0
+IsCycleCost j c = (s : ℕ) × (links : List Link) × IsCycle j s links × (cost links ≡ c)
 
 -- the word is not below the cost of a least cycle, which is none where there is no cycle
-abbrev pub IsNotBelowLeast : History → Option ℕ → Type 0
-IsNotBelowLeast h None = Unit {0}
-IsNotBelowLeast h (Some b) = (c : ℕ) × IsCycleCost h c × (c ≤ b)
+abbrev pub IsNotBelowLeast : Judged → Option ℕ → Type 0
+IsNotBelowLeast j None = Unit {0}
+IsNotBelowLeast j (Some b) = (c : ℕ) × IsCycleCost j c × (c ≤ b)
 
 -- the starts of the searches that the shares bring
 abbrev pub starts_of : List Share → List ℕ
@@ -59,19 +60,19 @@ abbrev pub EachFinished : List Share → (Finished → Type 0) → Type 0
 EachFinished shares P = All (λ share. All P share.finished) shares
 
 -- the shares settle at the word, a cost or none
-pub record SettleAt (h : History) (shares : List Share) (word : Option ℕ) : Type 0 where
+pub record SettleAt (j : Judged) (shares : List Share) (word : Option ℕ) : Type 0 where
   -- each start stands in one share, once
-  pub once : IsNumbering (count h) (starts_of shares)
-  pub finished : All (λ share. All (IsFinished h share) share.finished) shares
-  pub offered : All (λ share. All (IsCycleCost h) share.offers) shares
+  pub once : IsNumbering (count j.history) (starts_of shares)
+  pub finished : All (λ share. All (IsFinished j share) share.finished) shares
+  pub offered : All (λ share. All (IsCycleCost j) share.offers) shares
   pub below_offers : All (λ share. All (λ c. IsNotAbove word (Some c)) share.offers) shares
   pub below_sights : All (λ share. IsNotAbove word share.sight) shares
-  pub not_below : IsNotBelowLeast h word
+  pub not_below : IsNotBelowLeast j word
 
--- the distance from s to v; none where no route leads there
-abbrev pub IsDistanceOrNone : History → ℕ → ℕ → Option ℕ → Type 0
-IsDistanceOrNone h s v None = (links : List Link) → IsRoute h s v links → ⊥
-IsDistanceOrNone h s v (Some c) = IsDistance h s v c
+-- the distance from s to v; none where no upward route leads there
+abbrev pub IsDistanceOrNone : Judged → ℕ → ℕ → Option ℕ → Type 0
+IsDistanceOrNone j s v None = (links : List Link) → IsUpwardRoute j s v links → ⊥
+IsDistanceOrNone j s v (Some c) = IsDistance j s v c
 
 -- a number capped at the word where there is one; none is above every number
 abbrev pub capped : Option ℕ → Option ℕ → Option ℕ
@@ -79,10 +80,10 @@ capped None c = c
 capped (Some b) None = Some b
 capped (Some b) (Some c) = if nat_lt c b then Some c else Some b
 
--- the distance from s to v capped at the word where there is one: itself below the word, and the word where each route
--- costs as much or there is none
-abbrev pub IsCappedDistance : History → ℕ → ℕ → Option ℕ → Option ℕ → Type 0
-IsCappedDistance h s v None c = IsDistanceOrNone h s v c
-IsCappedDistance h s v (Some b) None = ⊥
-IsCappedDistance h s v (Some b) (Some c) =
-    ((c < b) × IsDistance h s v c) ⊎ ((c ≡ b) × ((links : List Link) → IsRoute h s v links → b ≤ cost links))
+-- the distance from s to v capped at the word where there is one: itself below the word, and the word where each upward
+-- route costs as much or there is none
+abbrev pub IsCappedDistance : Judged → ℕ → ℕ → Option ℕ → Option ℕ → Type 0
+IsCappedDistance j s v None c = IsDistanceOrNone j s v c
+IsCappedDistance j s v (Some b) None = ⊥
+IsCappedDistance j s v (Some b) (Some c) =
+    ((c < b) × IsDistance j s v c) ⊎ ((c ≡ b) × ((links : List Link) → IsUpwardRoute j s v links → b ≤ cost links))

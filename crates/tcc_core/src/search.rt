@@ -1,6 +1,6 @@
 //! One search for the distances from a start.
-ghost use Rattle.std.specs.Prelude.{◌≡◌, ◌<◌, ◌≤◌, ℕ, length, slice_index, IfOk};
-ghost use Rattle.tcc_reads.specs.History.{History};
+ghost use Rattle.std.specs.Prelude.{◌≡◌, ◌<◌, ◌≤◌, ℕ, length, drop, IfOk};
+ghost use Rattle.tcc_graph.specs.Levels.{Judged};
 ghost use Rattle.tcc_derive.specs.Prices.{IsPricesOf};
 ghost use Rattle.tcc_txn.specs.declared.limits.TheConstants.{MAX_COUNT};
 ghost use Rattle.tcc_graph.specs.Tables.{row_of};
@@ -12,7 +12,8 @@ use std::marker::Model;
 use tcc_derive::Prices;
 use tcc_txn::NoMemory;
 
-/// A search for the distances from one start. Its row has the distance of each transaction that has joined it.
+/// A search for the distances from one start, over numbers from there upward: nothing below the start is looked at. Its
+/// row has the distance of each transaction that has joined it.
 #[derive(Drop)]
 pub struct Search {
     start: u32,
@@ -36,16 +37,16 @@ impl Search {
     ghost use Rattle.tcc_core.specs.Searches.{IsSearchOf, Settles};
 
     /// A search from this start with an empty row: the start is not in it, since its distance to itself is that of a
-    /// cycle through it.
+    /// cycle that meets nothing below it.
     pub fn begin(alloc: Global, prices: &Prices, start: u32) -> Result<Search, NoMemory>
         requires { start < length prices.now.prices }
         ensures start { IfOk result (λ search. search.start ≡ start) }
         ensures empty { IfOk result (λ search. IsEmptyRow (length prices.now.prices) search.row) }
-        ensures search { (h : History) → IsPricesOf h prices.now → IfOk result (IsSearchOf h start) }
+        ensures search { (j : Judged) → IsPricesOf j prices.now → IfOk result (IsSearchOf j start) }
     {
         let count = prices.count() as usize;
         let mut costs = vec![in alloc; NO_WAY; count]?;
-        relax(&mut costs, 0, prices.costs(start));
+        relax(start, &mut costs, 0, prices.costs(start));
         let row = vec![in alloc; None; count]?;
         Ok(Search { start, row, costs })
     }
@@ -56,11 +57,11 @@ impl Search {
         requires { length self.old.row ≡ length prices.now.prices }
         ensures start { self.new.start ≡ self.old.start }
         ensures long { length self.new.row ≡ length self.old.row }
-        ensures search { (h : History) (s : ℕ) → IsPricesOf h prices.now → IsSearchOf h s self.old → IsSearchOf h s self.new }
-        ensures settled { (h : History) (s : ℕ) → IsPricesOf h prices.now → IsSearchOf h s self.old
-            → Settles h s cap self.old.row self.new.row result }
+        ensures search { (j : Judged) (s : ℕ) → IsPricesOf j prices.now → IsSearchOf j s self.old → IsSearchOf j s self.new }
+        ensures settled { (j : Judged) (s : ℕ) → IsPricesOf j prices.now → IsSearchOf j s self.old
+            → Settles j s cap self.old.row self.new.row result }
     {
-        let Some(next) = nearest(&self.row, &self.costs) else {
+        let Some(next) = nearest(self.start, &self.row, &self.costs) else {
             return Settled::Cut(cap);
         };
         let distance = self.costs[next as usize];
@@ -68,7 +69,7 @@ impl Search {
             return Settled::Cut(cap);
         }
         self.row[next as usize] = Some(distance);
-        relax(&mut self.costs, distance, prices.costs(next));
+        relax(self.start, &mut self.costs, distance, prices.costs(next));
         if next == self.start {
             Settled::Returned(distance)
         } else {
@@ -84,11 +85,12 @@ impl Search {
         self.start
     }
 
-    /// The distance from the start to each transaction that has joined, none for those outside.
+    /// The distance from the start to each transaction that has joined, none for those outside, from the start upward:
+    /// place k has that of transaction start + k.
     pub fn row(&self) -> &[Option<u32>]
-        ensures value { result.now ≡ self.now.row }
+        ensures value { result.now ≡ drop self.now.start self.now.row }
         ensures few { length result.now ≤ MAX_COUNT }
     {
-        &self.row
+        &self.row[self.start as usize..]
     }
 }

@@ -5,7 +5,7 @@
 pub enum Settled {
     /// A transaction other than the start has joined the row.
     More,
-    /// The start itself has joined the row: a least cycle through it costs so much.
+    /// The start itself has joined the row: a least cycle from it over numbers not below it costs so much.
     Returned(u32),
     /// Nothing outside the row has a distance of at most this cap.
     Cut(u64),

@@ -4,7 +4,7 @@ use std::alloc::Global;
 use std::process::Abort;
 use std::thread::Threads;
 use tcc_derive::{Prices, derive};
-use tcc_graph::Graph;
+use tcc_graph::{Graph, Level};
 use tcc_near::near;
 use tcc_reads::resolve;
 use tcc_txn::{NoMemory, snapshot_of};
@@ -21,6 +21,11 @@ const WRITERS_BEFORE_EACH_OTHER: &str = "a,begin\na,w,x,1\na,commit\nb,begin\nb,
 /// The link from `init` to the reader of a/1 costs less than the way over a/1, which joins first.
 const TWO_WAYS: &str = "a,begin\na,w,x,1\na,commit\nb,begin\nb,r,x,1\nb,commit\n";
 
+/// a/1 writes x, b/1 passes it on, and c/1 has it from b/1, but reads the initial value of x: a/1 has to stand before
+/// `init` by a walk of two pairs, which costs 3, and which `Atomic` does not allow.
+const LONG_WALK: &str = "a,begin\na,w,x,1\na,commit\nb,begin\nb,r,x,1\nb,w,y,1\nb,commit\n\
+    c,begin\nc,r,y,1\nc,r,x,0\nc,commit\n";
+
 /// The graph of these records.
 fn graph_of(alloc: Global, records: &str) -> Option<Graph> {
     let snapshot = snapshot_of(alloc, records.as_bytes()).ok()?;
@@ -28,25 +33,34 @@ fn graph_of(alloc: Global, records: &str) -> Option<Graph> {
     Graph::build(alloc, &resolved).ok()
 }
 
-/// The prices of a graph.
-fn prices_of(rt: &(impl Threads + Sync), alloc: Global, graph: &Graph) -> Result<Prices, NoMemory> {
-    let near = near(rt, alloc, graph)?;
+/// The prices of a graph at a level.
+fn prices_of(
+    rt: &(impl Threads + Sync),
+    alloc: Global,
+    graph: &Graph,
+    level: Level,
+) -> Result<Prices, NoMemory> {
+    let near = near(rt, alloc, graph, level)?;
     derive(rt, alloc, graph, &near)
 }
 
-/// Steps of the search from a start: each has a cap, what it has to answer, and the row that it has to leave, where the
-/// definitions settle that.
+/// Steps of a search: each has a cap, what it has to answer, and the row from the start upward that it has to leave,
+/// where the definitions settle that.
+type Steps<'a> = &'a [(u64, Settled, Option<&'a [Option<u32>]>)];
+
+/// Takes these steps of the search from a start.
 fn assert_steps(
     rt: &(impl Abort + Threads + Sync),
     alloc: Global,
     records: &str,
+    level: Level,
     start: u32,
-    steps: &[(u64, Settled, Option<&[Option<u32>]>)],
+    steps: Steps<'_>,
 ) {
     let Some(graph) = graph_of(alloc, records) else {
         panic!(rt; "no graph of {records}");
     };
-    let Ok(prices) = prices_of(rt, alloc, &graph) else {
+    let Ok(prices) = prices_of(rt, alloc, &graph, level) else {
         panic!(rt; "no memory");
     };
     assert!(rt; start < prices.count());
@@ -55,7 +69,10 @@ fn assert_steps(
     };
     assert!(rt; search.row().iter().all(|distance| distance.is_none()));
     for (cap, wanted, row) in steps {
-        assert_eq!(rt; search.row().len(), prices.count() as usize);
+        assert_eq!(rt;
+            search.row().len() + search.start() as usize,
+            prices.count() as usize
+        );
         let settled = search.settle(&prices, *cap);
         assert!(rt; settled == *wanted, "from {start} at {cap} of {records}");
         if let Some(row) = row {
@@ -78,7 +95,6 @@ fn steps_from_init(rt: HostRuntime) {
         (u64::MAX, Settled::More, Some(near)),
         (u64::MAX, Settled::Returned(3), Some(whole)),
     ];
-    assert_steps(&rt, alloc, STALE_READ, 0, &whole_at_once);
     let by_caps = [
         (0, Settled::Cut(0), Some(empty)),
         (1, Settled::More, None),
@@ -87,40 +103,84 @@ fn steps_from_init(rt: HostRuntime) {
         (2, Settled::Cut(2), Some(near)),
         (3, Settled::Returned(3), Some(whole)),
     ];
-    assert_steps(&rt, alloc, STALE_READ, 0, &by_caps);
+    for level in [Level::Causal, Level::Atomic] {
+        assert_steps(&rt, alloc, STALE_READ, level, 0, &whole_at_once);
+        assert_steps(&rt, alloc, STALE_READ, level, 0, &by_caps);
+    }
     let two_ways = [
         (u64::MAX, Settled::More, None),
         (u64::MAX, Settled::More, Some(near)),
         (u64::MAX, Settled::Cut(u64::MAX), Some(near)),
     ];
-    assert_steps(&rt, alloc, TWO_WAYS, 0, &two_ways);
+    assert_steps(&rt, alloc, TWO_WAYS, Level::Causal, 0, &two_ways);
 }
 
-/// a/1, then `init` over the derived link, then a/1 again; and no link leads on from a/2.
+/// From a/1 upward nothing comes back over `init`, and no link leads on from a/2. Of two writers that have to stand
+/// before each other, the lower comes back, and the higher does not.
 #[test]
-fn steps_from_others(rt: HostRuntime) {
+fn steps_upward(rt: HostRuntime) {
     let alloc = rt.alloc();
-    let onward: &[(u64, Settled, Option<&[Option<u32>]>)] = &[
-        (9, Settled::More, Some(&[None, None, Some(1)])),
-        (9, Settled::More, Some(&[Some(2), None, Some(1)])),
-        (9, Settled::Returned(3), Some(&[Some(2), Some(3), Some(1)])),
-    ];
-    assert_steps(&rt, alloc, STALE_READ, 1, onward);
-    let nothing: &[(u64, Settled, Option<&[Option<u32>]>)] = &[
-        (7, Settled::Cut(7), Some(&[None, None, None])),
-        (u64::MAX, Settled::Cut(u64::MAX), Some(&[None, None, None])),
-    ];
-    assert_steps(&rt, alloc, STALE_READ, 2, nothing);
-    let back: &[(u64, Settled, Option<&[Option<u32>]>)] = &[
-        (3, Settled::More, Some(&[None, None, None, Some(1)])),
-        (3, Settled::More, Some(&[None, None, Some(2), Some(1)])),
-        (3, Settled::Cut(3), Some(&[None, None, Some(2), Some(1)])),
+    let cases: [(&str, u32, Steps<'_>); 4] = [
         (
-            4,
-            Settled::Returned(4),
-            Some(&[None, Some(4), Some(2), Some(1)]),
+            STALE_READ,
+            1,
+            &[
+                (9, Settled::More, Some(&[None, Some(1)])),
+                (9, Settled::Cut(9), Some(&[None, Some(1)])),
+                (u64::MAX, Settled::Cut(u64::MAX), Some(&[None, Some(1)])),
+            ],
         ),
-        (u64::MAX, Settled::Cut(u64::MAX), None),
+        (
+            STALE_READ,
+            2,
+            &[
+                (7, Settled::Cut(7), Some(&[None])),
+                (u64::MAX, Settled::Cut(u64::MAX), Some(&[None])),
+            ],
+        ),
+        (
+            WRITERS_BEFORE_EACH_OTHER,
+            1,
+            &[
+                (3, Settled::More, Some(&[None, None, Some(1)])),
+                (3, Settled::More, Some(&[None, Some(2), Some(1)])),
+                (3, Settled::Cut(3), Some(&[None, Some(2), Some(1)])),
+                (4, Settled::Returned(4), Some(&[Some(4), Some(2), Some(1)])),
+                (u64::MAX, Settled::Cut(u64::MAX), None),
+            ],
+        ),
+        (
+            WRITERS_BEFORE_EACH_OTHER,
+            2,
+            &[
+                (u64::MAX, Settled::More, Some(&[None, Some(1)])),
+                (u64::MAX, Settled::Cut(u64::MAX), Some(&[None, Some(1)])),
+            ],
+        ),
     ];
-    assert_steps(&rt, alloc, WRITERS_BEFORE_EACH_OTHER, 1, back);
+    for (records, start, steps) in cases {
+        assert_steps(&rt, alloc, records, Level::Causal, start, steps);
+        assert_steps(&rt, alloc, records, Level::Atomic, start, steps);
+    }
+}
+
+/// A walk of two pairs is a reason at `Causal`, and none at `Atomic`.
+#[test]
+fn steps_at_levels(rt: HostRuntime) {
+    let alloc = rt.alloc();
+    let reached: &[Option<u32>] = &[None, Some(1), Some(1), Some(1)];
+    let whole: &[Option<u32>] = &[Some(4), Some(1), Some(1), Some(1)];
+    let cases: [(Level, Settled, &[Option<u32>]); 2] = [
+        (Level::Causal, Settled::Returned(4), whole),
+        (Level::Atomic, Settled::Cut(u64::MAX), reached),
+    ];
+    for (level, last, row) in cases {
+        let steps = [
+            (u64::MAX, Settled::More, None),
+            (u64::MAX, Settled::More, None),
+            (u64::MAX, Settled::More, Some(reached)),
+            (u64::MAX, last, Some(row)),
+        ];
+        assert_steps(&rt, alloc, LONG_WALK, level, 0, &steps);
+    }
 }

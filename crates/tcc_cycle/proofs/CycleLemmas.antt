@@ -1,14 +1,14 @@
 -- Least cycles cost the same; and lists from the other end.
 use Rattle.std.proofs.Common.{ℕ, ◌≡◌, List, ◌∷◌, ◌++◌, [], reverse, ◌∙◌, ap, append_assoc, arith}
 use Rattle.std.proofs.lemmas.List.{reverse-append}
-use Rattle.tcc_reads.specs.History.{History}
+use Rattle.tcc_graph.specs.Levels.{Judged}
 use Rattle.tcc_graph.specs.Links.{cost}
 use Rattle.tcc_graph.specs.Routes.{IsLeastCycle}
 use Rattle.tcc_graph.specs.declared.link.Link.{Link}
 
 -- least cycles cost the same
-pub same_cost : (h : History) (s t : ℕ) (links others : List Link) → IsLeastCycle h s links → IsLeastCycle h t others → cost links ≡ cost others
-same_cost h s t links others p q = omega (arith, p.least t others q.cycle, q.least s links p.cycle)
+pub same_cost : (j : Judged) (s t : ℕ) (links others : List Link) → IsLeastCycle j s links → IsLeastCycle j t others → cost links ≡ cost others
+same_cost j s t links others p q = omega (arith, p.least t others q.cycle, q.least s links p.cycle)
 
 -- from the other end
 pub turned : {X : Type 0} (done : List X) (x : X) (rest : List X) → reverse (done ++ x ∷ rest) ≡ reverse rest ++ x ∷ reverse done

@@ -1,9 +1,15 @@
 pub mod Backwards
 pub mod CycleLemmas
+pub mod UpwardLemmas
 pub mod TieLemmas
 pub mod PickedLemmas
 pub mod RowLemmas
 pub mod PartLemmas
+pub mod Twice
+pub mod BoundLemmas
+pub mod SessionLemmas
+pub mod LargestWalk
+pub mod LargestCycle
 pub mod WalkLemmas
 pub mod ReturnLemmas
 pub mod LinkChoiceLemmas

@@ -1,12 +1,12 @@
 -- Rows one after another, and what search rows say up to a cap.
-use Rattle.std.proofs.Common.{ℕ, ◌≡◌, ◌≢◌, ◌<◌, ◌≤◌, ◌+◌, ◌⊎◌, inl, inr, List, [], ◌∷◌, ◌++◌, length, length-append, map, Option, None, Some, refl, sym, ◌∙◌, ap, subst, arith}
+use Rattle.std.proofs.Common.{ℕ, ◌≡◌, ◌≢◌, ◌<◌, ◌≤◌, ◌+◌, ◌-◌, ◌⊎◌, inl, inr, List, [], ◌∷◌, ◌++◌, length, length-append, length-drop, drop, get_or-drop, map, Option, None, Some, refl, sym, ◌∙◌, ap, subst, arith}
 use Rattle.std.specs.Prelude.{min, slice_index}
 use Rattle.std.proofs.lemmas.Bool.{cases_eq, cases_lt}
 use Rattle.std.proofs.lemmas.List.{get_or-map, length-map}
 use Rattle.std.proofs.lemmas.Grind.{common_steps}
-use Rattle.tcc_reads.specs.History.{History}
+use Rattle.tcc_graph.specs.Levels.{Judged}
 use Rattle.tcc_graph.specs.Links.{cost}
-use Rattle.tcc_graph.specs.Routes.{IsRoute, IsDistance}
+use Rattle.tcc_graph.specs.Routes.{IsUpwardRoute, IsDistance}
 use Rattle.tcc_graph.specs.declared.link.Link.{Link}
 use Rattle.tcc_graph.specs.Tables.{row_of}
 use Rattle.tcc_core.specs.Rows.{in_row, IsSearchRow}
@@ -40,26 +40,30 @@ rows_weaker P Q n rows f are = record { long = are.long; each = λ i low. f i (r
 
 -- ---- the rows of searches
 
-far_entry : (h : History) (s cap : ℕ) (row : List (Option ℕ)) → IsSearchRow h s row → ((v : ℕ) (links : List Link) → in_row row v ≡ None → IsRoute h s v links → cap ≤ cost links)
-    → (b v x : ℕ) → b ≤ cap → b ≤ no_cost → (found : Option ℕ) → in_row row v ≡ found → x ≡ cost_in found → IsCappedDistance h s v (Some b) (Some (min b x))
-far_entry h s cap row is outside b v x low fits None out at =
+far_entry : (j : Judged) (s cap : ℕ) (row : List (Option ℕ)) → IsSearchRow j s row → ((v : ℕ) (links : List Link) → in_row row v ≡ None → IsUpwardRoute j s v links → cap ≤ cost links)
+    → (b v x : ℕ) → b ≤ cap → b ≤ no_cost → (found : Option ℕ) → in_row row v ≡ found → x ≡ cost_in found → IsCappedDistance j s v (Some b) (Some (min b x))
+far_entry j s cap row is outside b v x low fits None out at =
     let same : min b x ≡ b = omega arith in
     inr (same, λ links route. omega (arith, outside v links out route))
-far_entry h s cap row is outside b v x low fits (Some c) found at = go (cases_lt c b)
+far_entry j s cap row is outside b v x low fits (Some c) found at = go (cases_lt c b)
   where
-    go : (c < b) ⊎ (b ≤ c) → IsCappedDistance h s v (Some b) (Some (min b x))
+    go : (c < b) ⊎ (b ≤ c) → IsCappedDistance j s v (Some b) (Some (min b x))
     go (inl less) =
         let same : min b x ≡ c = omega arith in
-        inl (omega arith, subst (λ (z : ℕ). IsDistance h s v z) (sym same) (is.exact v c found))
+        inl (omega arith, subst (λ (z : ℕ). IsDistance j s v z) (sym same) (is.exact v c found))
     go (inr more) =
         let same : min b x ≡ b = omega arith in
         inr (same, λ links route. omega (arith, (is.exact v c found).least links route))
 
-pub far_row : (h : History) (s cap : ℕ) (row : List (Option ℕ)) → IsSearchRow h s row → ((v : ℕ) (links : List Link) → in_row row v ≡ None → IsRoute h s v links → cap ≤ cost links) → IsFarRow h s cap (map cost_in row)
-far_row h s cap row is outside = record {
-  long = length-map row cost_in ∙ is.long;
-  exact = λ b v low fits below. far_entry h s cap row is outside b v (slice_index (map cost_in row) v) low fits (in_row row v) refl (get_or-map cost_in row v None 0 (omega (arith, is.long)));
+pub far_row : (j : Judged) (s cap : ℕ) (row : List (Option ℕ)) → IsSearchRow j s row → ((v : ℕ) (links : List Link) → in_row row v ≡ None → IsUpwardRoute j s v links → cap ≤ cost links) → IsFarRow j s cap (map cost_in (drop s row))
+far_row j s cap row is outside = record {
+  long = omega (arith, length-map (drop s row) cost_in, length-drop s row, is.long);
+  exact = λ b v low fits above below.
+      let within : v - s < length (drop s row) = omega (arith, length-drop s row, is.long) in
+      let back : s + (v - s) ≡ v = omega arith in
+      let there : slice_index (map cost_in (drop s row)) (v - s) ≡ cost_in (in_row row v) = get_or-map cost_in (drop s row) (v - s) None 0 within ∙ ap cost_in (get_or-drop s row (v - s) None ∙ ap (λ (k : ℕ). in_row row k) back) in
+      far_entry j s cap row is outside b v (slice_index (map cost_in (drop s row)) (v - s)) low fits (in_row row v) refl there;
 }
 
-pub far_lower : (h : History) (s cap lower : ℕ) (row : List ℕ) → lower ≤ cap → IsFarRow h s cap row → IsFarRow h s lower row
-far_lower h s cap lower row less far = record { long = far.long; exact = λ b v low fits below. far.exact b v (omega arith) fits below }
+pub far_lower : (j : Judged) (s cap lower : ℕ) (row : List ℕ) → lower ≤ cap → IsFarRow j s cap row → IsFarRow j s lower row
+far_lower j s cap lower row less far = record { long = far.long; exact = λ b v low fits above below. far.exact b v (omega arith) fits above below }

@@ -7,6 +7,7 @@ use Rattle.std.proofs.lemmas.List.{reverse-reverse}
 use Rattle.std.proofs.lemmas.Map.Lookups.{exact_bytes}
 use Rattle.tcc_reads.specs.History.{History}
 use Rattle.tcc_reads.specs.Sources.{name_cmp}
+use Rattle.tcc_graph.specs.Levels.{Judged}
 use Rattle.tcc_graph.specs.Walks.{step_from}
 use Rattle.tcc_graph.specs.Links.{IsLink, link_to}
 use Rattle.tcc_graph.specs.Ties.{step_cmp, walk_cmp, link_cmp}
@@ -31,29 +32,29 @@ walks_tied : (h : History) (b c : ℕ) (walk other : List Step) → LeadsBack h 
 walks_tied h b c walk other p q e =
     sym (reverse-reverse walk) ∙ ap reverse (steps_tied h b c (reverse walk) (reverse other) p q e) ∙ reverse-reverse other
 
-pub link_tied : (h : History) (l o : Link) → IsLink h l → IsLink h o → link_to l ≡ link_to o → link_cmp l o ≡ Equal → l ≡ o
-link_tied h (link.Session a b) (link.Session c d) p q to e =
+pub link_tied : (j : Judged) (l o : Link) → IsLink j l → IsLink j o → link_to l ≡ link_to o → link_cmp l o ≡ Equal → l ≡ o
+link_tied j (link.Session a b) (link.Session c d) p q to e =
     let from = number_tied a c (then_tied (nat_cmp a c) _ e).0 in
     cc
-link_tied h (link.Session a b) (link.Reads c d y) p q to e = let rest = (then_tied (nat_cmp a c) Less e).1 in absurd cc
-link_tied h (link.Session a b) (link.Derived c d y r walk) p q to e = let rest = (then_tied (nat_cmp a c) Less e).1 in absurd cc
-link_tied h (link.Reads a b x) (link.Session c d) p q to e = let rest = (then_tied (nat_cmp a c) Greater e).1 in absurd cc
-link_tied h (link.Reads a b x) (link.Reads c d y) p q to e =
+link_tied j (link.Session a b) (link.Reads c d y) p q to e = let rest = (then_tied (nat_cmp a c) Less e).1 in absurd cc
+link_tied j (link.Session a b) (link.Derived c d y r walk) p q to e = let rest = (then_tied (nat_cmp a c) Less e).1 in absurd cc
+link_tied j (link.Reads a b x) (link.Session c d) p q to e = let rest = (then_tied (nat_cmp a c) Greater e).1 in absurd cc
+link_tied j (link.Reads a b x) (link.Reads c d y) p q to e =
     let w = then_tied (nat_cmp a c) _ e in
     let from = number_tied a c w.0 in
     let key = exact_bytes x y (then_tied (name_cmp x y) _ w.1).0 in
     cc
-link_tied h (link.Reads a b x) (link.Derived c d y r walk) p q to e = let rest = (then_tied (nat_cmp a c) Less e).1 in absurd cc
-link_tied h (link.Derived a b x r walk) (link.Session c d) p q to e = let rest = (then_tied (nat_cmp a c) Greater e).1 in absurd cc
-link_tied h (link.Derived a b x r walk) (link.Reads c d y) p q to e = let rest = (then_tied (nat_cmp a c) Greater e).1 in absurd cc
-link_tied h (link.Derived a b x r walk) (link.Derived c d y t other) p q to e =
+link_tied j (link.Reads a b x) (link.Derived c d y r walk) p q to e = let rest = (then_tied (nat_cmp a c) Less e).1 in absurd cc
+link_tied j (link.Derived a b x r walk) (link.Session c d) p q to e = let rest = (then_tied (nat_cmp a c) Greater e).1 in absurd cc
+link_tied j (link.Derived a b x r walk) (link.Reads c d y) p q to e = let rest = (then_tied (nat_cmp a c) Greater e).1 in absurd cc
+link_tied j (link.Derived a b x r walk) (link.Derived c d y t other) p q to e =
     let first = then_tied (nat_cmp a c) _ e in
     let second = then_tied (name_cmp x y) _ first.1 in
     let third = then_tied (nat_cmp r t) (walk_cmp walk other) second.1 in
     let from = number_tied a c first.0 in
     let key = exact_bytes x y second.0 in
     let reader = number_tied r t third.0 in
-    let ours = back_of_leads h a r walk p.1.1 in
-    let theirs = back_of_leads h c t other q.1.1 in
-    let steps : walk ≡ other = walks_tied h a r walk other ours (rw (from, reader) theirs) third.1 in
+    let ours = back_of_leads j.history a r walk p.1.0.1 in
+    let theirs = back_of_leads j.history c t other q.1.0.1 in
+    let steps : walk ≡ other = walks_tied j.history a r walk other ours (rw (from, reader) theirs) third.1 in
     cc

@@ -1,15 +1,17 @@
 -- The way back from the start of the first cycle, link by link.
 use Rattle.std.proofs.Common.{ℕ, ◌≡◌, ◌≢◌, ◌<◌, ◌≤◌, ◌+◌, ◌⊎◌, inl, inr, List, [], ◌∷◌, ◌++◌, length, length-append, append_assoc, reverse, Option, None, Some, refl, sym, ◌∙◌, ap, subst, arith}
 use Rattle.std.specs.declared.cmp.Ordering.TheVariants.{Greater}
-use Rattle.std.proofs.lemmas.Bool.{cases_order, cases_eq, eq-eqb, ne_eqb, lt-ltb}
+use Rattle.std.proofs.lemmas.Bool.{cases_order, cases_eq, cases_lt, eq-eqb, ne_eqb, lt-ltb}
 use Rattle.std.proofs.lemmas.List.{reverse-reverse}
-use Rattle.tcc_reads.specs.History.{History, count}
+use Rattle.tcc_reads.specs.History.{count}
+use Rattle.tcc_graph.specs.Levels.{Judged}
 use Rattle.tcc_graph.specs.Links.{link_from, link_to, link_cost, cost}
-use Rattle.tcc_graph.specs.Routes.{LinksLead, IsCycle, IsLeastCycle, IsDistance}
+use Rattle.tcc_graph.specs.Routes.{LinksLead, IsCycle, IsLeastCycle, IsUpwardRoute, IsDistance}
 use Rattle.tcc_graph.specs.Ties.{link_cmp, IsFirstCycle}
 use Rattle.tcc_graph.specs.declared.link.Link.{Link}
 use Rattle.tcc_graph.proofs.Pairs.{link_below}
 use Rattle.tcc_graph.proofs.Linking.{some_cost, cost_cons, cost_append, cost_around, some_links, lead_append, lead_split, lead_start, route_below}
+use Rattle.tcc_graph.proofs.Upward.{turn_lowest}
 use Rattle.tcc_derive.specs.Prices.{Tables, IsLinkOf, IsLeastCost, IsCost, IsPricesOf, cost_at}
 use Rattle.tcc_core.specs.Rows.{in_row}
 use Rattle.tcc_cycle.specs.Returns.{IsFirstReturn}
@@ -17,16 +19,17 @@ use Rattle.tcc_cycle.specs.Ways.{spent, IsBefore, IsFirstLink}
 use Rattle.tcc_cycle.specs.declared.returning.Returned.{Returned}
 use Rattle.tcc_cycle.proofs.Backwards.{Picks, Picks-push, Picks-at}
 use Rattle.tcc_cycle.proofs.CycleLemmas.{turned}
+use Rattle.tcc_cycle.proofs.UpwardLemmas.{begins_above, first_links}
 use Rattle.tcc_cycle.proofs.PickedLemmas.{IsBack, ends_back, first_from_picked}
 
 -- some links were picked: they lead on from `end` back to the start, what is left brings the search to `end`, and each
 -- was the first that could be picked
-pub record IsUnderWay (h : History) (r : Returned) (end : ℕ) (left : ℕ) (picked : List Link) : Type 0 where
-  pub below : end < count h
-  pub back : LinksLead h end r.search.start (reverse picked)
+pub record IsUnderWay (j : Judged) (r : Returned) (end : ℕ) (left : ℕ) (picked : List Link) : Type 0 where
+  pub below : end < count j.history
+  pub back : LinksLead j end r.search.start (reverse picked)
   pub costs : left + cost (reverse picked) ≡ r.cost
-  pub way : (front : List Link) × LinksLead h r.search.start end front × (cost front ≡ left)
-  pub picks : Picks link_cmp (IsBack h r.search.start) [] picked
+  pub way : (front : List Link) × LinksLead j r.search.start end front × (cost front ≡ left)
+  pub picks : Picks link_cmp (IsBack j r.search.start) [] picked
 
 -- the last of some links
 last_link : (links : List Link) → 0 < length links → (front : List Link) × (l : Link) × (links ≡ front ++ l ∷ [])
@@ -34,74 +37,95 @@ last_link [] some = absurd (omega arith)
 last_link (l ∷ []) some = ([], l, refl)
 last_link (l ∷ (m ∷ links)) some = let w = last_link (m ∷ links) (omega arith) in (l ∷ w.0, w.1, ap (λ ls. l ∷ ls) w.2)
 
-module _ (h : History) (t : Tables) (r : Returned) (priced : IsPricesOf h t) (is : IsFirstReturn h (count h) r) where
-  least_of : (u : ℕ) (links : List Link) → IsCycle h u links → r.cost ≤ cost links
-  least_of u links cycle = is.least u links (route_below h u u links cycle) cycle
+module _ (j : Judged) (t : Tables) (r : Returned) (priced : IsPricesOf j t) (is : IsFirstReturn j (count j.history) r) where
+  least_of : (u : ℕ) (links : List Link) → IsCycle j u links → r.cost ≤ cost links
+  least_of u links cycle =
+      let w = turn_lowest j u links cycle in
+      omega (arith, is.least w.lowest w.turned (route_below j w.lowest w.lowest w.turned w.route.0) w.route, w.costs)
 
-  back_distance : IsDistance h r.search.start r.search.start r.cost
+  back_distance : IsDistance j r.search.start r.search.start r.cost
   back_distance = is.row.exact r.search.start r.cost is.back
 
-  exact_cost : (links : List Link) → IsLeastCycle h r.search.start links → cost links ≡ r.cost
+  exact_cost : (links : List Link) → IsLeastCycle j r.search.start links → cost links ≡ r.cost
   exact_cost links least =
       let (others, cycle, costs) = back_distance.attained in
-      let high : cost links ≤ cost others = least.least r.search.start others cycle in
+      let high : cost links ≤ cost others = least.least r.search.start others cycle.0 in
       omega (arith, least_of r.search.start links least.cycle)
 
-  start_below : r.search.start < count h
-  start_below = let (others, cycle, costs) = back_distance.attained in route_below h r.search.start r.search.start others cycle
+  start_below : r.search.start < count j.history
+  start_below = let (others, cycle, costs) = back_distance.attained in route_below j r.search.start r.search.start others cycle.0
 
   some_left : 0 < r.cost
-  some_left = let (others, cycle, costs) = back_distance.attained in omega (arith, some_links others cycle.0)
+  some_left = let (others, cycle, costs) = back_distance.attained in omega (arith, some_links others cycle.0.0)
+
+  -- no least cycle starts below
+  lowest_start : (u : ℕ) (others : List Link) → IsLeastCycle j u others → r.search.start ≤ u
+  lowest_start u others other = go (cases_lt u r.search.start)
+    where
+      go : (u < r.search.start) ⊎ (r.search.start ≤ u) → r.search.start ≤ u
+      go (inl lower) =
+          let (links, cycle, costs) = back_distance.attained in
+          let w = turn_lowest j u others other.cycle in
+          let high : cost others ≤ cost links = other.least r.search.start links cycle.0 in
+          absurd (omega (arith, is.first w.lowest w.turned (omega (arith, w.low)) w.route, w.costs))
+      go (inr higher) = higher
 
   -- nothing was picked so far
-  pub under_way : IsUnderWay h r r.search.start r.cost []
+  pub under_way : IsUnderWay j r r.search.start r.cost []
   under_way =
       let (others, cycle, costs) = back_distance.attained in
-      record { below = start_below; back = refl; costs = omega arith; way = (others, cycle.1, costs); picks = tt }
+      record { below = start_below; back = refl; costs = omega arith; way = (others, cycle.0.1, costs); picks = tt }
 
-  module _ (end left : ℕ) (picked : List Link) (way : IsUnderWay h r end left picked) where
+  module _ (end left : ℕ) (picked : List Link) (way : IsUnderWay j r end left picked) where
     -- no way over a last link undercuts the least cycle
-    around : (u : ℕ) (front : List Link) (o : Link) → LinksLead h r.search.start u front → IsLinkOf h u end o → r.cost ≤ cost front + (link_cost o + cost (reverse picked))
+    around : (u : ℕ) (front : List Link) (o : Link) → LinksLead j r.search.start u front → IsLinkOf j u end o → r.cost ≤ cost front + (link_cost o + cost (reverse picked))
     around u front o lead leads =
-        let on : LinksLead h u r.search.start (o ∷ reverse picked) = (leads.from, leads.link, subst (λ (z : ℕ). LinksLead h z r.search.start (reverse picked)) (sym leads.to) way.back) in
+        let on : LinksLead j u r.search.start (o ∷ reverse picked) = (leads.from, leads.link, subst (λ (z : ℕ). LinksLead j z r.search.start (reverse picked)) (sym leads.to) way.back) in
         let long : 0 < length (front ++ o ∷ reverse picked) = rw length-append (omega arith) in
-        let low : r.cost ≤ cost (front ++ o ∷ reverse picked) = least_of r.search.start (front ++ o ∷ reverse picked) (long, lead_append h r.search.start u r.search.start front (o ∷ reverse picked) lead on) in
+        let low : r.cost ≤ cost (front ++ o ∷ reverse picked) = least_of r.search.start (front ++ o ∷ reverse picked) (long, lead_append j r.search.start u r.search.start front (o ∷ reverse picked) lead on) in
         omega (arith, cost_around front o (reverse picked))
 
     -- a link that ends some least cycle together with those picked
-    module _ (front : List Link) (o : Link) (ends : IsLeastCycle h r.search.start (front ++ o ∷ reverse picked)) where
-      leads_there : LinksLead h r.search.start (link_from o) front
+    module _ (front : List Link) (o : Link) (ends : IsLeastCycle j r.search.start (front ++ o ∷ reverse picked)) where
+      leads_there : LinksLead j r.search.start (link_from o) front
       leads_there =
-          let (m, lead, on) = lead_split h r.search.start r.search.start front (o ∷ reverse picked) ends.cycle.1 in
-          subst (λ (z : ℕ). LinksLead h r.search.start z front) (sym on.0) lead
+          let (m, lead, on) = lead_split j r.search.start r.search.start front (o ∷ reverse picked) ends.cycle.1 in
+          subst (λ (z : ℕ). LinksLead j r.search.start z front) (sym on.0) lead
 
-      link_there : IsLinkOf h (link_from o) end o
+      link_there : IsLinkOf j (link_from o) end o
       link_there =
-          let (m, lead, on) = lead_split h r.search.start r.search.start front (o ∷ reverse picked) ends.cycle.1 in
-          record { from = refl; to = lead_start h (link_to o) end r.search.start (reverse picked) on.2 way.back; link = on.1 }
+          let (m, lead, on) = lead_split j r.search.start r.search.start front (o ∷ reverse picked) ends.cycle.1 in
+          record { from = refl; to = lead_start j (link_to o) end r.search.start (reverse picked) on.2 way.back; link = on.1 }
+
+      -- and its start is not below that of the search
+      above_there : r.search.start ≤ link_from o
+      above_there = begins_above j r.search.start lowest_start front o (reverse picked) ends
+
+      route_there : 0 < length front → IsUpwardRoute j r.search.start (link_from o) front
+      route_there some = ((some, leads_there), first_links j r.search.start lowest_start (link_from o) front (o ∷ reverse picked) ends leads_there)
 
       left_there : cost front + link_cost o ≡ left
       left_there = omega (arith, exact_cost (front ++ o ∷ reverse picked) ends, cost_around front o (reverse picked), way.costs)
 
-      no_front : link_from o ≡ r.search.start → (links : List Link) → LinksLead h r.search.start (link_from o) links → cost links ≡ cost front → cost front ≡ 0
+      no_front : link_from o ≡ r.search.start → (links : List Link) → LinksLead j r.search.start (link_from o) links → cost links ≡ cost front → cost front ≡ 0
       no_front same [] lead e = sym e
       no_front same (l ∷ links) lead e =
-          let cycle : IsCycle h r.search.start (l ∷ links) = (omega arith, subst (λ (z : ℕ). LinksLead h r.search.start z (l ∷ links)) same lead) in
+          let cycle : IsCycle j r.search.start (l ∷ links) = (omega arith, subst (λ (z : ℕ). LinksLead j r.search.start z (l ∷ links)) same lead) in
           absurd (omega (arith, least_of r.search.start (l ∷ links) cycle, left_there, way.costs, some_cost o))
 
-      some_front : link_from o ≢ r.search.start → (links : List Link) → LinksLead h r.search.start (link_from o) links → 0 < length links
+      some_front : link_from o ≢ r.search.start → (links : List Link) → LinksLead j r.search.start (link_from o) links → 0 < length links
       some_front other [] lead = absurd (other (sym lead))
       some_front other (l ∷ links) lead = omega arith
 
       in_row_there : link_from o ≢ r.search.start → (d : Option ℕ) → in_row r.search.row (link_from o) ≡ d → d ≡ Some (cost front)
       in_row_there other None e =
-          let low : r.cost ≤ cost front = is.row.closed r.search.start (link_from o) r.cost front is.back e (some_front other front leads_there, leads_there) in
+          let low : r.cost ≤ cost front = is.row.closed r.search.start (link_from o) r.cost front is.back e (route_there (some_front other front leads_there)) in
           absurd (omega (arith, left_there, way.costs, some_cost o))
       in_row_there other (Some d) e =
           let distance = is.row.exact (link_from o) d e in
           let (links, route, costs) = distance.attained in
-          let low : d ≤ cost front = distance.least front (some_front other front leads_there, leads_there) in
-          let same : d ≡ cost front = omega (arith, around (link_from o) links o route.1 link_there, left_there, way.costs) in
+          let low : d ≤ cost front = distance.least front (route_there (some_front other front leads_there)) in
+          let same : d ≡ cost front = omega (arith, around (link_from o) links o route.0.1 link_there, left_there, way.costs) in
           ap (λ z. Some z) same
 
       come_there : spent r.search (link_from o) ≡ Some (cost front)
@@ -111,7 +135,7 @@ module _ (h : History) (t : Tables) (r : Returned) (priced : IsPricesOf h t) (is
           go (inl same) = rw (eq-eqb (link_from o) r.search.start same) (ap (λ z. Some z) (sym (no_front same front leads_there refl)))
           go (inr other) = rw (ne_eqb (link_from o) r.search.start other) (in_row_there other (in_row r.search.row (link_from o)) refl)
 
-      cost_there : (k : Option ℕ) → IsCost h (link_from o) end k → k ≡ Some (link_cost o)
+      cost_there : (k : Option ℕ) → IsCost j (link_from o) end k → k ≡ Some (link_cost o)
       cost_there None none = absurd (none o link_there)
       cost_there (Some k) least =
           let (other, leads, costs) = least.attained in
@@ -122,11 +146,11 @@ module _ (h : History) (t : Tables) (r : Returned) (priced : IsPricesOf h t) (is
       pub before_there : IsBefore t r.search end left (link_from o) (cost front)
       before_there = record {
         come = come_there;
-        on = (link_cost o, cost_there (cost_at t (link_from o) end) (priced.costed (link_from o) end (link_below h o link_there.link).0 way.below), left_there);
+        on = (link_cost o, cost_there (cost_at t (link_from o) end) (priced.costed (link_from o) end (link_below j o link_there.link).0 way.below), left_there);
       }
 
     -- there is a link to pick
-    pub never_stuck : left ≢ 0 → ((u c : ℕ) → u < count h → IsBefore t r.search end left u c → ⊥) → ⊥
+    pub never_stuck : left ≢ 0 → ((u c : ℕ) → r.search.start ≤ u → u < count j.history → IsBefore t r.search end left u c → ⊥) → ⊥
     never_stuck some none =
         let (links, lead, costs) = way.way in
         go links lead costs (some_of links costs)
@@ -135,29 +159,29 @@ module _ (h : History) (t : Tables) (r : Returned) (priced : IsPricesOf h t) (is
         some_of [] costs = absurd (some (sym costs))
         some_of (l ∷ links) costs = omega arith
 
-        go : (links : List Link) → LinksLead h r.search.start end links → cost links ≡ left → 0 < length links → ⊥
+        go : (links : List Link) → LinksLead j r.search.start end links → cost links ≡ left → 0 < length links → ⊥
         go links lead costs long =
             let (front, o, e) = last_link links long in
             let joined : links ++ reverse picked ≡ front ++ o ∷ reverse picked = ap (λ ls. ls ++ reverse picked) e ∙ append_assoc front (o ∷ []) (reverse picked) in
             let whole : cost (links ++ reverse picked) ≡ r.cost = omega (arith, cost_append links (reverse picked), way.costs) in
-            let cycle : IsCycle h r.search.start (links ++ reverse picked) = (rw length-append (omega arith), lead_append h r.search.start end r.search.start links (reverse picked) lead way.back) in
-            let least : IsLeastCycle h r.search.start (links ++ reverse picked) = record { cycle = cycle; least = λ u others other. omega (arith, least_of u others other) } in
-            let ends : IsLeastCycle h r.search.start (front ++ o ∷ reverse picked) = subst (λ (ls : List Link). IsLeastCycle h r.search.start ls) joined least in
-            none (link_from o) (cost front) (link_below h o (link_there front o ends).link).0 (before_there front o ends)
+            let cycle : IsCycle j r.search.start (links ++ reverse picked) = (rw length-append (omega arith), lead_append j r.search.start end r.search.start links (reverse picked) lead way.back) in
+            let least : IsLeastCycle j r.search.start (links ++ reverse picked) = record { cycle = cycle; least = λ u others other. omega (arith, least_of u others other) } in
+            let ends : IsLeastCycle j r.search.start (front ++ o ∷ reverse picked) = subst (λ (ls : List Link). IsLeastCycle j r.search.start ls) joined least in
+            none (link_from o) (cost front) (above_there front o ends) (link_below j o (link_there front o ends).link).0 (before_there front o ends)
 
     -- the first link from the least number is the one to pick
-    module _ (u c : ℕ) (l : Link) (from : u < count h) (before : IsBefore t r.search end left u c) (lowest : (w d : ℕ) → w < u → IsBefore t r.search end left w d → ⊥) (first : IsFirstLink h u end l) where
+    module _ (u c : ℕ) (l : Link) (from : u < count j.history) (before : IsBefore t r.search end left u c) (lowest : (w d : ℕ) → r.search.start ≤ w → w < u → IsBefore t r.search end left w d → ⊥) (first : IsFirstLink j u end l) where
       pub left_of : c + link_cost l ≡ left
       left_of =
           let (k, at, sum) = before.on in
-          let least : IsLeastCost h u end k = subst (λ (o : Option ℕ). IsCost h u end o) at (priced.costed u end from way.below) in
+          let least : IsLeastCost j u end k = subst (λ (o : Option ℕ). IsCost j u end o) at (priced.costed u end from way.below) in
           let (other, leads, costs) = least.attained in
           omega (arith, least.least l first.leads, first.least other leads)
 
-      front_of : (d : Option ℕ) → spent r.search u ≡ d → d ≡ Some c → (front : List Link) × LinksLead h r.search.start u front × (cost front ≡ c)
+      front_of : (d : Option ℕ) → spent r.search u ≡ d → d ≡ Some c → (front : List Link) × LinksLead j r.search.start u front × (cost front ≡ c)
       front_of d e some = go (cases_eq u r.search.start)
         where
-          go : (u ≡ r.search.start) ⊎ (u ≡ r.search.start → ⊥) → (front : List Link) × LinksLead h r.search.start u front × (cost front ≡ c)
+          go : (u ≡ r.search.start) ⊎ (u ≡ r.search.start → ⊥) → (front : List Link) × LinksLead j r.search.start u front × (cost front ≡ c)
           go (inl same) =
               let nothing : Some 0 ≡ d = rw (eq-eqb u r.search.start same) at e in
               let none : 0 ≡ c = cc in
@@ -165,12 +189,12 @@ module _ (h : History) (t : Tables) (r : Returned) (priced : IsPricesOf h t) (is
           go (inr other) =
               let inside : in_row r.search.row u ≡ d = rw (ne_eqb u r.search.start other) at e in
               let (links, route, costs) = (is.row.exact u c (inside ∙ some)).attained in
-              (links, route.1, costs)
+              (links, route.0.1, costs)
 
       same_spent : (d : ℕ) → spent r.search u ≡ Some d → d ≡ c
       same_spent d e = let come = before.come in cc
 
-      up_to : (front : List Link) (o : Link) → IsLeastCycle h r.search.start (front ++ o ∷ reverse picked) → link_cmp l o ≢ Greater
+      up_to : (front : List Link) (o : Link) → IsLeastCycle j r.search.start (front ++ o ∷ reverse picked) → link_cmp l o ≢ Greater
       up_to front o ends = go (cases_order u (link_from o))
         where
           there : IsBefore t r.search end left (link_from o) (cost front)
@@ -179,37 +203,37 @@ module _ (h : History) (t : Tables) (r : Returned) (priced : IsPricesOf h t) (is
           go : (u ≡ link_from o) ⊎ ((u < link_from o) ⊎ (link_from o < u)) → link_cmp l o ≢ Greater
           go (inl same) =
               let spent_there : spent r.search u ≡ Some (cost front) = subst (λ (z : ℕ). spent r.search z ≡ Some (cost front)) (sym same) there.come in
-              let leads : IsLinkOf h u end o = subst (λ (z : ℕ). IsLinkOf h z end o) (sym same) (link_there front o ends) in
+              let leads : IsLinkOf j u end o = subst (λ (z : ℕ). IsLinkOf j z end o) (sym same) (link_there front o ends) in
               first.first o leads (omega (arith, same_spent (cost front) spent_there, left_there front o ends, left_of))
           go (inr (inl lower)) = rw (first.leads.from, lt-ltb u (link_from o) lower) (λ e. cc)
-          go (inr (inr higher)) = absurd (lowest (link_from o) (cost front) higher there)
+          go (inr (inr higher)) = absurd (lowest (link_from o) (cost front) (above_there front o ends) higher there)
 
-      pub one_more : IsUnderWay h r u c (picked ++ l ∷ [])
+      pub one_more : IsUnderWay j r u c (picked ++ l ∷ [])
       one_more =
-          let from_back : LinksLead h u r.search.start (l ∷ reverse picked) = (first.leads.from, first.leads.link, subst (λ (z : ℕ). LinksLead h z r.search.start (reverse picked)) (sym first.leads.to) way.back) in
+          let from_back : LinksLead j u r.search.start (l ∷ reverse picked) = (first.leads.from, first.leads.link, subst (λ (z : ℕ). LinksLead j z r.search.start (reverse picked)) (sym first.leads.to) way.back) in
           record {
             below = from;
             back = rw (turned picked l []) from_back;
             costs = rw (turned picked l []) (omega (arith, cost_cons l (reverse picked), left_of, way.costs));
             way = front_of (spent r.search u) refl before.come;
-            picks = Picks-push link_cmp (IsBack h r.search.start) [] picked l way.picks (λ o others ends. up_to (reverse others) o (rw turned at ends));
+            picks = Picks-push link_cmp (IsBack j r.search.start) [] picked l way.picks (λ o others ends. up_to (reverse others) o (rw turned at ends));
           }
 
   -- nothing is left
-  pub all_paid : (end : ℕ) (picked : List Link) → IsUnderWay h r end 0 picked → cost (reverse picked) ≡ r.cost
+  pub all_paid : (end : ℕ) (picked : List Link) → IsUnderWay j r end 0 picked → cost (reverse picked) ≡ r.cost
   all_paid end picked way = omega (arith, way.costs)
 
-  pub all_picked : (end : ℕ) (picked : List Link) → IsUnderWay h r end 0 picked → IsFirstCycle h r.search.start (reverse picked)
-  all_picked end picked way = first_from_picked h r.search.start (reverse picked) (record {
+  pub all_picked : (end : ℕ) (picked : List Link) → IsUnderWay j r end 0 picked → IsFirstCycle j r.search.start (reverse picked)
+  all_picked end picked way = first_from_picked j r.search.start (reverse picked) (record {
     least = least;
-    lowest = λ u others other. lowest u others other (cases_order u r.search.start);
+    lowest = lowest_start;
     each = λ front l rest e other (others, ends).
         let there : picked ≡ reverse rest ++ l ∷ reverse front = sym (reverse-reverse picked) ∙ ap reverse e ∙ turned front l rest in
-        let picks = subst (λ (ls : List Link). Picks link_cmp (IsBack h r.search.start) [] ls) there way.picks in
-        Picks-at link_cmp (IsBack h r.search.start) [] (reverse rest) l (reverse front) picks other (reverse others) (ends_back h r.search.start others other rest ends);
+        let picks = subst (λ (ls : List Link). Picks link_cmp (IsBack j r.search.start) [] ls) there way.picks in
+        Picks-at link_cmp (IsBack j r.search.start) [] (reverse rest) l (reverse front) picks other (reverse others) (ends_back j r.search.start others other rest ends);
   })
     where
-      start_of : (front : List Link) → LinksLead h r.search.start end front → cost front ≡ 0 → r.search.start ≡ end
+      start_of : (front : List Link) → LinksLead j r.search.start end front → cost front ≡ 0 → r.search.start ≡ end
       start_of [] lead e = lead
       start_of (l ∷ front) lead e = absurd (omega (arith, cost_cons l front, some_cost l))
 
@@ -217,18 +241,12 @@ module _ (h : History) (t : Tables) (r : Returned) (priced : IsPricesOf h t) (is
       some_picked [] e = absurd (omega (arith, some_left))
       some_picked (l ∷ links) e = omega arith
 
-      least : IsLeastCycle h r.search.start (reverse picked)
+      least : IsLeastCycle j r.search.start (reverse picked)
       least =
           let (front, lead, nothing) = way.way in
           let same : r.search.start ≡ end = start_of front lead nothing in
           let costs : cost (reverse picked) ≡ r.cost = omega (arith, way.costs) in
           record {
-            cycle = (some_picked (reverse picked) costs, subst (λ (z : ℕ). LinksLead h z r.search.start (reverse picked)) (sym same) way.back);
+            cycle = (some_picked (reverse picked) costs, subst (λ (z : ℕ). LinksLead j z r.search.start (reverse picked)) (sym same) way.back);
             least = λ u others other. omega (arith, least_of u others other);
           }
-
-      lowest : (u : ℕ) (others : List Link) → IsLeastCycle h u others → (u ≡ r.search.start) ⊎ ((u < r.search.start) ⊎ (r.search.start < u)) → r.search.start ≤ u
-      lowest u others other (inl same) = omega arith
-      lowest u others other (inr (inl lower)) =
-          absurd (omega (arith, is.first u others lower other.cycle, other.least r.search.start (reverse picked) least.cycle, way.costs))
-      lowest u others other (inr (inr higher)) = omega arith

@@ -1,7 +1,7 @@
 -- The links by which a way back goes on. These serve the proof of `first_cycle`, and nobody has to believe them.
 use Rattle.std.specs.Prelude.{ℕ, ◌≤◌, ◌≡◌, ◌≢◌, ◌+◌, ◌==◌, Option, Some, if◌then◌else◌}
 use Rattle.std.specs.declared.cmp.Ordering.TheVariants.{Greater}
-use Rattle.tcc_reads.specs.History.{History}
+use Rattle.tcc_graph.specs.Levels.{Judged}
 use Rattle.tcc_graph.specs.Links.{link_cost}
 use Rattle.tcc_graph.specs.Ties.{link_cmp}
 use Rattle.tcc_graph.specs.declared.link.Link.{Link}
@@ -19,7 +19,7 @@ pub record IsBefore (t : Tables) (search : Search) (v : ℕ) (left : ℕ) (u : �
   pub on : (k : ℕ) × (cost_at t u v ≡ Some k) × (c + k ≡ left)
 
 -- a link from a to b that none undercuts, and of those that cost as much the first
-pub record IsFirstLink (h : History) (a : ℕ) (b : ℕ) (l : Link) : Type 0 where
-  pub leads : IsLinkOf h a b l
-  pub least : (other : Link) → IsLinkOf h a b other → link_cost l ≤ link_cost other
-  pub first : (other : Link) → IsLinkOf h a b other → link_cost other ≡ link_cost l → link_cmp l other ≢ Greater
+pub record IsFirstLink (j : Judged) (a : ℕ) (b : ℕ) (l : Link) : Type 0 where
+  pub leads : IsLinkOf j a b l
+  pub least : (other : Link) → IsLinkOf j a b other → link_cost l ≤ link_cost other
+  pub first : (other : Link) → IsLinkOf j a b other → link_cost other ≡ link_cost l → link_cmp l other ≢ Greater

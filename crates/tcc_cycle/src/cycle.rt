@@ -16,8 +16,9 @@ use tcc_near::{Near, Row};
 use tcc_txn::NoMemory;
 
 /// Links that lead from a start back to it, how many steps they have together, and for each transaction what it costs to
-/// come from there to each, `u32::MAX` where no route was found. A number in these rows that is not below the cost of the
-/// links says no more than that no route costs less than they do.
+/// come from there, over numbers from there upward, to each of these: itself first, `u32::MAX` where no route was found. A
+/// number in these rows that is not below the cost of the links says no more than that no such route costs less than they
+/// do.
 #[derive(Drop)]
 pub struct Cycle {
     pub start: u32,
@@ -26,19 +27,20 @@ pub struct Cycle {
     pub rows: Vec<Row<u32>>,
 }
 
-/// The first of the least cycles by the rule of ties; none exactly where there is no cycle.
+/// The first of the least cycles by the rule of ties, at the level of the distances; none exactly where there is no cycle.
 pub fn first_cycle(
     alloc: Global,
     graph: &Graph,
     near: &Near,
     prices: &Prices,
 ) -> Result<Option<Cycle>, NoMemory>
-    requires near { IsNearOf graph.now near.now }
-    requires prices { IsPricesOf graph.now prices.now }
+    requires near { IsNearOf (record { history = graph.now; level = near.now.level }) near.now }
+    requires prices { IsPricesOf (record { history = graph.now; level = near.now.level }) prices.now }
     ensures { IfOk result (λ found. MatchOption found
-        (HasCycle graph.now → ⊥)
-        (λ cycle. IsFirstCycle graph.now cycle.start cycle.links.items × (cycle.cost ≡ cost cycle.links.items)
-        × AreFarRows graph.now cycle.cost cycle.rows.items)) }
+        (HasCycle (record { history = graph.now; level = near.now.level }) → ⊥)
+        (λ cycle. IsFirstCycle (record { history = graph.now; level = near.now.level }) cycle.start cycle.links.items
+        × (cycle.cost ≡ cost cycle.links.items)
+        × AreFarRows (record { history = graph.now; level = near.now.level }) cycle.cost cycle.rows.items)) }
 {
     let Searched { first, rows } = first_return(alloc, graph, prices)?;
     let Some(returned) = first else {

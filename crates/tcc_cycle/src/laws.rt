@@ -1,9 +1,17 @@
-//! The laws of least cycles: the first one is picked from the back, and so are the walks of its links.
-ghost use Rattle.std.specs.Prelude.{◌≡◌, ◌≤◌, ◌↔◌, ◌∷◌, ◌++◌, ℕ, List};
-ghost use Rattle.tcc_reads.specs.History.{History};
+//! The laws of least cycles: the first one is picked from the back, and so are the walks of its links; what its parts
+//! cost, and what it can cost at most.
+ghost use Rattle.std.specs.Prelude.{◌≡◌, ◌≤◌, ◌↔◌, ◌==◌, ◌∷◌, ◌++◌, ℕ, List, filter, length};
+ghost use Rattle.std.specs.FinMap.{entries};
+ghost use Rattle.tcc_txn.specs.declared.limits.TheConstants.{MAX_COUNT, MAX_SESSIONS};
+ghost use Rattle.tcc_txn.specs.Snapshots.{Sessions};
+ghost use Rattle.tcc_reads.specs.History.{count};
+ghost use Rattle.tcc_reads.specs.Sources.{history};
+ghost use Rattle.tcc_graph.specs.Levels.{Judged};
 ghost use Rattle.tcc_graph.specs.Links.{link_from, cost};
 ghost use Rattle.tcc_graph.specs.Routes.{IsRoute, IsLeastCycle, IsDistance};
-ghost use Rattle.tcc_graph.specs.Ties.{IsFirstCycle};
+ghost use Rattle.tcc_graph.specs.Ties.{IsFirstCycle, link_kind};
+ghost use Rattle.tcc_graph.specs.declared.limits.TheConstants.{MAX_CYCLE_COST};
+ghost use Rattle.tcc_graph.specs.declared.level.Level.{Level};
 ghost use Rattle.tcc_graph.specs.declared.step.Step.{Step};
 ghost use Rattle.tcc_graph.specs.declared.link.Link.{Link};
 ghost use Rattle.tcc_graph.specs.declared.link.Link.TheVariants.{Derived};
@@ -11,22 +19,38 @@ ghost use Rattle.tcc_derive.specs.Backwards.{IsFirstWalk};
 ghost use Rattle.tcc_cycle.specs.Picked.{IsPickedCycle, IsPickedWalk};
 
 /// The first of the least cycles by the rule of ties is the one picked from the back, and there is one at most. The
-/// first of the shortest walks between two transactions is picked in the same way, and the walk of each derived link of
-/// the first cycle is such a one.
+/// first of the shortest walks that the level allows between two transactions is picked in the same way, and the walk of
+/// each derived link of the first cycle is such a one.
 pub fn picked()
-    ensures first { (h : History) (s : ℕ) (links : List Link) → (IsFirstCycle h s links ↔ IsPickedCycle h s links) }
-    ensures one { (h : History) (s t : ℕ) (links others : List Link) → IsFirstCycle h s links → IsFirstCycle h t others
+    ensures first { (j : Judged) (s : ℕ) (links : List Link) → (IsFirstCycle j s links ↔ IsPickedCycle j s links) }
+    ensures one { (j : Judged) (s t : ℕ) (links others : List Link) → IsFirstCycle j s links → IsFirstCycle j t others
         → (s ≡ t) × (links ≡ others) }
-    ensures walk { (h : History) (b c : ℕ) (walk : List Step) → (IsFirstWalk h b c walk ↔ IsPickedWalk h b c walk) }
-    ensures walks { (h : History) (s : ℕ) (front : List Link) (b a : ℕ) (x : List ℕ) (c : ℕ) (walk : List Step) (rest : List Link)
-        → IsFirstCycle h s (front ++ Derived b a x c walk ∷ rest) → IsPickedWalk h b c walk }
+    ensures walk { (j : Judged) (b c : ℕ) (walk : List Step) → (IsFirstWalk j b c walk ↔ IsPickedWalk j b c walk) }
+    ensures walks { (j : Judged) (s : ℕ) (front : List Link) (b a : ℕ) (x : List ℕ) (c : ℕ) (walk : List Step) (rest : List Link)
+        → IsFirstCycle j s (front ++ Derived b a x c walk ∷ rest) → IsPickedWalk j b c walk }
 {}
 
-/// No least cycle from the start of the first one meets a number below that start; and no route between two transactions
-/// costs less than a part of a least cycle that leads from the one to the other.
+/// No least cycle from the start of the first one meets a number below that start, and so its first links cost the
+/// distance from there to where they lead. And no route at all between two transactions costs less than a part of a least
+/// cycle that leads from the one to the other.
 pub fn parts()
-    ensures above { (h : History) (s : ℕ) (links : List Link) → IsFirstCycle h s links
-        → (front : List Link) (l : Link) (rest : List Link) → IsLeastCycle h s (front ++ l ∷ rest) → s ≤ link_from l }
-    ensures least { (h : History) (s u v : ℕ) (front part rest : List Link) → IsLeastCycle h s (front ++ (part ++ rest))
-        → IsRoute h u v part → IsDistance h u v (cost part) }
+    ensures above { (j : Judged) (s : ℕ) (links : List Link) → IsFirstCycle j s links
+        → (front : List Link) (l : Link) (rest : List Link) → IsLeastCycle j s (front ++ l ∷ rest) → s ≤ link_from l }
+    ensures front { (j : Judged) (s v : ℕ) (links front rest : List Link) → IsFirstCycle j s links
+        → IsLeastCycle j s (front ++ rest) → IsRoute j s v front → IsDistance j s v (cost front) }
+    ensures least { (j : Judged) (s u v : ℕ) (front part rest others : List Link) → IsLeastCycle j s (front ++ (part ++ rest))
+        → IsRoute j u v part → IsRoute j u v others → cost part ≤ cost others }
+{}
+
+/// What a least cycle costs at most. By the number of transactions: it begins one link at most at each of them, and none of
+/// its links takes a longer walk than over all of them once. That a graph has no more than `MAX_COUNT`, `Graph::count` says.
+/// And in the history of a snapshot by its sessions alone, however many transactions they have: beside `init`, a least
+/// cycle meets two transactions of a session at most, and one derived link at most begins there; and the walk of such a
+/// link begins two steps at most in a session.
+pub fn bounded()
+    ensures transactions { (j : Judged) (s : ℕ) (links : List Link) → count j.history ≤ MAX_COUNT → IsLeastCycle j s links
+        → cost links ≤ MAX_CYCLE_COST }
+    ensures sessions { (snapshot : Sessions) (level : Level) (s : ℕ) (links : List Link) → length (entries snapshot) ≤ MAX_SESSIONS
+        → IsLeastCycle (record { history = history snapshot; level = level }) s links
+        → (length (filter (λ l. link_kind l == 2) links) ≤ 65) × (cost links ≤ 8449) }
 {}

@@ -1,5 +1,5 @@
 //! The links of the first least cycle, picked from the last backwards.
-ghost use Rattle.std.specs.Prelude.{◌≡◌, ◌<◌, ℕ, length, IfOk, MatchOption};
+ghost use Rattle.std.specs.Prelude.{◌≡◌, ◌<◌, ◌≤◌, ℕ, length, IfOk, MatchOption};
 ghost use Rattle.tcc_reads.specs.History.{count};
 ghost use Rattle.tcc_graph.specs.Links.{cost};
 ghost use Rattle.tcc_graph.specs.Ties.{IsFirstCycle};
@@ -17,21 +17,24 @@ use tcc_graph::{Graph, Link};
 use tcc_near::Near;
 use tcc_txn::NoMemory;
 
-/// What it costs to come to a transaction, which is nothing at the start; none where the search has not come there.
+/// What it costs to come to a transaction from the start upward, which is nothing at the start; none where the search has
+/// not come there.
 fn spent(search: &Search, transaction: u32) -> Option<u32>
-    requires { transaction < length search.now.row }
+    requires upward { search.now.start ≤ transaction }
+    requires below { transaction < length search.now.row }
     ensures { result ≡ spent search.now transaction }
 {
     if transaction == search.start() {
         Some(0)
     } else {
-        search.row()[transaction as usize]
+        search.row()[(transaction - search.start()) as usize]
     }
 }
 
 /// What it costs to come to `from`, if that and the cheapest link from there to `to` make up all that is left.
 fn spent_before(search: &Search, prices: &Prices, to: u32, left: u32, from: u32) -> Option<u32>
     requires long { length search.now.row ≡ length prices.now.prices }
+    requires upward { search.now.start ≤ from }
     requires from { from < length prices.now.prices }
     requires to { to < length prices.now.prices }
     ensures { MatchOption result ((c : ℕ) → IsBefore prices.now search.now to left from c → ⊥) (IsBefore prices.now search.now to left from) }
@@ -45,15 +48,18 @@ fn spent_before(search: &Search, prices: &Prices, to: u32, left: u32, from: u32)
     }
 }
 
-/// The least number from which a cheapest link to `to` makes up all that is left, and what it costs to come there.
+/// The least number, from the start upward, from which a cheapest link to `to` makes up all that is left, and what it
+/// costs to come there.
 fn last_start(search: &Search, prices: &Prices, to: u32, left: u32) -> Option<(u32, u32)>
     requires long { length search.now.row ≡ length prices.now.prices }
     requires to { to < length prices.now.prices }
-    ensures { MatchOption result ((u : ℕ) (c : ℕ) → u < length prices.now.prices → IsBefore prices.now search.now to left u c → ⊥)
-        (λ found. (found.0 < length prices.now.prices) × IsBefore prices.now search.now to left found.0 found.1
-        × ((u : ℕ) (c : ℕ) → u < found.0 → IsBefore prices.now search.now to left u c → ⊥)) }
+    ensures { MatchOption result
+        ((u : ℕ) (c : ℕ) → search.now.start ≤ u → u < length prices.now.prices → IsBefore prices.now search.now to left u c → ⊥)
+        (λ found. (search.now.start ≤ found.0) × (found.0 < length prices.now.prices)
+        × IsBefore prices.now search.now to left found.0 found.1
+        × ((u : ℕ) (c : ℕ) → search.now.start ≤ u → u < found.0 → IsBefore prices.now search.now to left u c → ⊥)) }
 {
-    for from in 0..prices.count() {
+    for from in search.start()..prices.count() {
         if let Some(spent) = spent_before(search, prices, to, left, from) {
             return Some((from, spent));
         }
@@ -71,8 +77,9 @@ fn first_link(
 ) -> Result<Option<Link>, NoMemory>
     requires from { from < count graph.now }
     requires to { to < count graph.now }
-    requires near { IsNearOf graph.now near.now }
-    ensures { IfOk result (λ found. MatchOption found ((l : Link) → IsLinkOf graph.now from to l → ⊥) (IsFirstLink graph.now from to)) }
+    requires near { IsNearOf (record { history = graph.now; level = near.now.level }) near.now }
+    ensures { IfOk result (λ found. MatchOption found ((l : Link) → IsLinkOf (record { history = graph.now; level = near.now.level }) from to l → ⊥)
+        (IsFirstLink (record { history = graph.now; level = near.now.level }) from to)) }
 {
     if graph.session(from, to) {
         return Ok(Some(Link::Session { from, to }));
@@ -91,10 +98,10 @@ pub(crate) fn pick(
     prices: &Prices,
     returned: &Returned,
 ) -> Result<Vec<Link>, NoMemory>
-    requires returned { IsFirstReturn graph.now (count graph.now) returned.now }
-    requires near { IsNearOf graph.now near.now }
-    requires prices { IsPricesOf graph.now prices.now }
-    ensures first { IfOk result (λ links. IsFirstCycle graph.now returned.now.search.start links.items) }
+    requires returned { IsFirstReturn (record { history = graph.now; level = near.now.level }) (count graph.now) returned.now }
+    requires near { IsNearOf (record { history = graph.now; level = near.now.level }) near.now }
+    requires prices { IsPricesOf (record { history = graph.now; level = near.now.level }) prices.now }
+    ensures first { IfOk result (λ links. IsFirstCycle (record { history = graph.now; level = near.now.level }) returned.now.search.start links.items) }
     ensures cost { IfOk result (λ links. cost links.items ≡ returned.now.cost) }
 {
     let search = &returned.search;

@@ -2,7 +2,7 @@
 //! the rows of all.
 ghost use Rattle.std.specs.Prelude.{◌≡◌, ◌≤◌, ℕ, None, length, map, IfOk, MatchOption};
 ghost use Rattle.tcc_txn.specs.declared.limits.TheConstants.{MAX_COUNT};
-ghost use Rattle.tcc_reads.specs.History.{History};
+ghost use Rattle.tcc_graph.specs.Levels.{Judged};
 ghost use Rattle.tcc_graph.specs.Routes.{HasCycle};
 ghost use Rattle.tcc_cycle.specs.Returns.{HasEnded, IsSearched, cost_in};
 ghost use Rattle.tcc_derive.specs.Prices.{IsPricesOf};
@@ -41,14 +41,14 @@ fn costs(alloc: Global, row: &[Option<u32>]) -> Result<Row<u32>, NoMemory>
     Ok(Row::new(costs))
 }
 
-/// Takes a search to its end, and answers what it cost to come back to its start; none where no cycle from there is
-/// within the cap.
+/// Takes a search to its end, and answers what it cost to come back to its start; none where no way back over numbers
+/// from there upward is within the cap.
 fn finish(search: &mut Search, prices: &Prices, cap: u64) -> Option<u32>
     requires long { length search.old.row ≡ length prices.now.prices }
     requires few { length prices.now.prices ≤ MAX_COUNT }
     ensures start { search.new.start ≡ search.old.start }
-    ensures ended { (h : History) (s : ℕ) → IsPricesOf h prices.now → IsSearchOf h s search.old → in_row search.old.row s ≡ None
-        → HasEnded h s cap search.new.row result }
+    ensures ended { (j : Judged) (s : ℕ) → IsPricesOf j prices.now → IsSearchOf j s search.old → in_row search.old.row s ≡ None
+        → HasEnded j s cap search.new.row result }
 {
     for _ in 0..u32::MAX {
         match search.settle(prices, cap) {
@@ -61,14 +61,15 @@ fn finish(search: &mut Search, prices: &Prices, cap: u64) -> Option<u32>
 }
 
 /// The search from the first start that a least cycle leads back to, none where there is no cycle; and the costs in the
-/// rows of all starts.
+/// rows of all starts. A cycle leads upward from its lowest number and back, so what lies below a start is never missed.
 pub(crate) fn first_return(
     alloc: Global,
     graph: &Graph,
     prices: &Prices,
 ) -> Result<Searched, NoMemory>
-    requires { IsPricesOf graph.now prices.now }
-    ensures { IfOk result (λ searched. MatchOption searched.first (HasCycle graph.now → ⊥) (IsSearched graph.now searched)) }
+    requires { IsPricesOf (record { history = graph.now; level = prices.now.level }) prices.now }
+    ensures { IfOk result (λ searched. MatchOption searched.first (HasCycle (record { history = graph.now; level = prices.now.level }) → ⊥)
+        (IsSearched (record { history = graph.now; level = prices.now.level }) searched)) }
 {
     let mut cap = u64::MAX;
     let mut first = None;

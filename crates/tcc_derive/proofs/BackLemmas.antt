@@ -5,12 +5,15 @@ use Rattle.std.specs.declared.cmp.Ordering.TheVariants.{Greater}
 use Rattle.std.proofs.lemmas.Bool.{eqb-true, eq-eqb, ne_eqb, cases_eq}
 use Rattle.std.proofs.lemmas.List.{reverse-append, reverse-reverse, length-reverse}
 use Rattle.tcc_reads.specs.History.{History, count}
-use Rattle.tcc_graph.specs.Walks.{step_from, step_to, IsStep, Leads, IsWalk, IsReached}
+use Rattle.tcc_graph.specs.Walks.{step_from, step_to, IsStep, Leads, IsWalk}
+use Rattle.tcc_graph.specs.Levels.{Judged, IsAllowed, IsAllowedWalk}
 use Rattle.tcc_graph.specs.Ties.{step_cmp}
+use Rattle.tcc_graph.specs.declared.level.Level.{Level}
+use Rattle.tcc_graph.specs.declared.level.Level.TheVariants as level
 use Rattle.tcc_graph.specs.declared.step.Step.{Step}
-use Rattle.tcc_near.specs.Distances.{IsShortest, IsNearOf}
+use Rattle.tcc_near.specs.Distances.{NearTable, IsShortest, IsNearOf}
 use Rattle.tcc_derive.specs.Backwards.{IsUpTo, IsLastStep, stands_at, LeadsBack, Ahead, IsLeft, IsTakenBack, IsFirstWalk}
-use Rattle.tcc_derive.proofs.PriceLemmas.{IsNearby, distance_cases, no_distance}
+use Rattle.tcc_derive.proofs.PriceLemmas.{IsOut, IsNearby, distance_cases, no_distance}
 use Rattle.tcc_graph.proofs.Pairs.{step_below}
 use Rattle.tcc_near.specs.declared.distances.TheConstants.{NONE}
 use Rattle.tcc_graph.specs.Tables.{row_of}
@@ -57,89 +60,108 @@ module _ (h : History) where
       let e' = rw (same, step_itself o) at e in
       ahead_cmp ss os ahead (omega (arith, long)) e'
 
-  some_step : (b c : ℕ) (walk : List Step) → IsWalk h b c walk → 0 < length (reverse walk)
-  some_step b c walk w = omega (arith, w.0, length-reverse walk)
+-- what a level allows of walks goes by their lengths
+any_allowed : (level : Level) (walk other : List Step) → IsAllowed level walk → 1 < length walk → IsAllowed level other
+any_allowed level.Causal walk other is several = tt
+any_allowed level.Atomic walk other is several = let one : length walk ≡ 1 = is in absurd (omega arith)
 
-  -- the way back to the start
-  module _ (near : List (List ℕ)) (b : ℕ) (nears : IsNearOf h near) (from : b < count h) where
-    no_steps : (u : ℕ) (os : List Step) → length os ≡ 0 → LeadsBack h b u os → b ≡ u
-    no_steps u [] long back = back
-    no_steps u (o ∷ os) long back = absurd (omega (arith, long))
+same_allowed : (level : Level) (walk other : List Step) → IsAllowed level walk → length other ≡ length walk → IsAllowed level other
+same_allowed level.Causal walk other is same = tt
+same_allowed level.Atomic walk other is same = same ∙ is
 
-    stands_nearby : (v n : ℕ) (o : Step) (os : List Step) → IsShortest h b v (n + 1) → LeadsBack h b v (o ∷ os) → length os ≡ n → 0 < n
-        → (IsReached h b (step_from o) → ⊥) ⊎ IsNearby h b (step_from o) (get_or (row_of near b) (step_from o) 0) → get_or (row_of near b) (step_from o) 0 ≡ n
-    stands_nearby v n o os shortest back long some (inl none) =
-        absurd (none (reverse os, (omega (arith, length-reverse os), leads_of_back b (step_from o) os back.2)))
-    stands_nearby v n o os shortest back long some (inr near') =
-        let at_most = near'.shortest.least (reverse os) (omega (arith, length-reverse os), leads_of_back b (step_from o) os back.2) in
-        let walk = near'.shortest.attained in
-        let longer = shortest.least (walk.0 ++ o ∷ []) (omega (arith, length-append walk.0 (o ∷ [])), leads_append h b (step_from o) v walk.0 (o ∷ []) walk.1.1 (refl, back.1, back.0)) in
-        omega (arith, at_most, longer, walk.2, length-append walk.0 (o ∷ []), length-reverse os, long)
+-- the way back to the start
+module _ (j : Judged) (near : NearTable) (b : ℕ) (nears : IsNearOf j near) (from : b < count j.history) where
+  no_steps : (u : ℕ) (os : List Step) → length os ≡ 0 → LeadsBack j.history b u os → b ≡ u
+  no_steps u [] long back = back
+  no_steps u (o ∷ os) long back = absurd (omega (arith, long))
 
-    pub stands_of : (v n : ℕ) (o : Step) (os : List Step) → IsLeft h b v (n + 1) → LeadsBack h b v (o ∷ os) → length os ≡ n → stands_at (row_of near b) b (step_from o) n ≡ true
-    stands_of v n o os left back long = go (cases_eq n 0)
-      where
-        go : (n ≡ 0) ⊎ (n ≡ 0 → ⊥) → stands_at (row_of near b) b (step_from o) n ≡ true
-        go (inl none) = rw none (eq-eqb (step_from o) b (sym (no_steps (step_from o) os (long ∙ none) back.2)))
-        go (inr some) =
-            let at : get_or (row_of near b) (step_from o) 0 ≡ n
-            = stands_nearby v n o os (left.some (omega arith)) back long (omega arith) (distance_cases h near b (step_from o) nears from (step_below h o back.1).0) in
-            rw (ne_eqb n 0 some) (eq-eqb (get_or (row_of near b) (step_from o) 0) n at)
+  -- where a walk of several steps is the shortest, the level allows any
+  several_allowed : (v n : ℕ) (other : List Step) → IsShortest j b v (n + 1) → 0 < n → IsAllowed j.level other
+  several_allowed v n other shortest some = let walk = shortest.attained in any_allowed j.level walk.0 other walk.1.1 (omega (arith, walk.2))
 
-    pub left_of : (u n : ℕ) → u < count h → n < NONE → stands_at (row_of near b) b u n ≡ true → IsLeft h b u n
-    left_of u n below few stands = go (cases_eq n 0)
-      where
-        shortest : get_or (row_of near b) u 0 ≡ n → (IsReached h b u → ⊥) ⊎ IsNearby h b u (get_or (row_of near b) u 0) → IsShortest h b u n
-        shortest at (inl none) = absurd (omega (arith, no_distance h near b u nears from below none))
-        shortest at (inr near') = rw at at near'.shortest
+  -- and so what is left of it before its last step
+  way_allowed : (v n : ℕ) (o : Step) (os : List Step) → IsShortest j b v (n + 1) → LeadsBack j.history b v (o ∷ os) → length os ≡ n → 0 < n → IsAllowedWalk j b (step_from o) (reverse os)
+  way_allowed v n o os shortest back long some =
+      ((omega (arith, length-reverse os), leads_of_back j.history b (step_from o) os back.2), several_allowed v n (reverse os) shortest some)
 
-        go : (n ≡ 0) ⊎ (n ≡ 0 → ⊥) → IsLeft h b u n
-        go (inl none) = record { some = λ l. absurd (omega arith); none = λ e. sym (eqb-true u b (rw none at stands)) }
-        go (inr some) = record {
-          some = λ l. shortest (eqb-true (get_or (row_of near b) u 0) n (rw (ne_eqb n 0 some) at stands)) (distance_cases h near b u nears from below);
-          none = λ e. absurd (some e);
-        }
+  stands_nearby : (v n : ℕ) (o : Step) (os : List Step) → IsShortest j b v (n + 1) → LeadsBack j.history b v (o ∷ os) → length os ≡ n → 0 < n
+      → IsOut j b (step_from o) ⊎ IsNearby j b (step_from o) (get_or (row_of near.rows b) (step_from o) 0) → get_or (row_of near.rows b) (step_from o) 0 ≡ n
+  stands_nearby v n o os shortest back long some (inl none) = absurd (none (reverse os) (way_allowed v n o os shortest back long some))
+  stands_nearby v n o os shortest back long some (inr near') =
+      let at_most = near'.shortest.least (reverse os) (way_allowed v n o os shortest back long some) in
+      let walk = near'.shortest.attained in
+      let whole : IsWalk j.history b v (walk.0 ++ o ∷ []) =
+      (omega (arith, length-append walk.0 (o ∷ [])), leads_append j.history b (step_from o) v walk.0 (o ∷ []) walk.1.0.1 (refl, back.1, back.0)) in
+      let longer = shortest.least (walk.0 ++ o ∷ []) (whole, several_allowed v n (walk.0 ++ o ∷ []) shortest some) in
+      omega (arith, at_most, longer, walk.2, length-append walk.0 (o ∷ []), length-reverse os, long)
 
-    -- at the end of the walk
-    pub at_end : (c : ℕ) → c < count h → get_or (row_of near b) c 0 < NONE → IsShortest h b c (get_or (row_of near b) c 0)
-    at_end c to reached = go (distance_cases h near b c nears from to)
-      where
-        go : (IsReached h b c → ⊥) ⊎ IsNearby h b c (get_or (row_of near b) c 0) → IsShortest h b c (get_or (row_of near b) c 0)
-        go (inl none) = absurd (omega (arith, no_distance h near b c nears from to none))
-        go (inr near') = near'.shortest
+  pub stands_of : (v n : ℕ) (o : Step) (os : List Step) → IsLeft j b v (n + 1) → LeadsBack j.history b v (o ∷ os) → length os ≡ n → stands_at (row_of near.rows b) b (step_from o) n ≡ true
+  stands_of v n o os left back long = go (cases_eq n 0)
+    where
+      go : (n ≡ 0) ⊎ (n ≡ 0 → ⊥) → stands_at (row_of near.rows b) b (step_from o) n ≡ true
+      go (inl none) = rw none (eq-eqb (step_from o) b (sym (no_steps (step_from o) os (long ∙ none) back.2)))
+      go (inr some) =
+          let at : get_or (row_of near.rows b) (step_from o) 0 ≡ n
+          = stands_nearby v n o os (left.some (omega arith)) back long (omega arith) (distance_cases j near b (step_from o) nears from (step_below j.history o back.1).0) in
+          rw (ne_eqb n 0 some) (eq-eqb (get_or (row_of near.rows b) (step_from o) 0) n at)
 
-    some_left : (c n : ℕ) → IsShortest h b c n → 0 < n
-    some_left c n shortest = omega (arith, shortest.attained.1.0, shortest.attained.2)
+  pub left_of : (u n : ℕ) → u < count j.history → n < NONE → stands_at (row_of near.rows b) b u n ≡ true → IsLeft j b u n
+  left_of u n below few stands = go (cases_eq n 0)
+    where
+      shortest : get_or (row_of near.rows b) u 0 ≡ n → IsOut j b u ⊎ IsNearby j b u (get_or (row_of near.rows b) u 0) → IsShortest j b u n
+      shortest at (inl none) = absurd (omega (arith, no_distance j near b u nears from below none))
+      shortest at (inr near') = rw at at near'.shortest
 
-    pub left_at_end : (c n : ℕ) → IsShortest h b c n → IsLeft h b c n
-    left_at_end c n shortest = record { some = λ l. shortest; none = λ e. absurd (omega (arith, some_left c n shortest)) }
+      go : (n ≡ 0) ⊎ (n ≡ 0 → ⊥) → IsLeft j b u n
+      go (inl none) = record { some = λ l. absurd (omega arith); none = λ e. sym (eqb-true u b (rw none at stands)) }
+      go (inr some) = record {
+        some = λ l. shortest (eqb-true (get_or (row_of near.rows b) u 0) n (rw (ne_eqb n 0 some) at stands)) (distance_cases j near b u nears from below);
+        none = λ e. absurd (some e);
+      }
 
-    pub nothing_taken : (c n : ℕ) → IsTakenBack h b c n c []
-    nothing_taken c n = record { back = refl; first = λ others back long. tt }
+  -- at the end of the walk
+  pub at_end : (c : ℕ) → c < count j.history → get_or (row_of near.rows b) c 0 < NONE → IsShortest j b c (get_or (row_of near.rows b) c 0)
+  at_end c to reached = go (distance_cases j near b c nears from to)
+    where
+      go : IsOut j b c ⊎ IsNearby j b c (get_or (row_of near.rows b) c 0) → IsShortest j b c (get_or (row_of near.rows b) c 0)
+      go (inl none) = absurd (omega (arith, no_distance j near b c nears from to none))
+      go (inr near') = near'.shortest
 
-    -- there is a step to take
-    pub never_stuck : (v n : ℕ) → IsLeft h b v (n + 1) → ((o : Step) → IsStep h o → step_to o ≡ v → stands_at (row_of near b) b (step_from o) n ≡ true → ⊥) → ⊥
-    never_stuck v n left none =
-        let walk = (left.some (omega arith)).attained in
-        go (reverse walk.0) (back_of_leads b v walk.0 walk.1.1) (omega (arith, walk.2, length-reverse walk.0))
-      where
-        go : (ss : List Step) → LeadsBack h b v ss → length ss ≡ n + 1 → ⊥
-        go [] back long = omega (arith, long)
-        go (o ∷ os) back long = none o back.1 back.0 (stands_of v n o os left back (omega (arith, long)))
+  some_left : (c n : ℕ) → IsShortest j b c n → 0 < n
+  some_left c n shortest = omega (arith, shortest.attained.1.0.0, shortest.attained.2)
 
-    pub taken_more : (c total v n : ℕ) (taken : List Step) (s : Step) → IsTakenBack h b c total v taken → IsLeft h b v (n + 1) → IsLastStep h (row_of near b) b v n s → total ≡ length taken + (n + 1)
-        → IsTakenBack h b c total (step_from s) (taken ++ s ∷ [])
-    taken_more c total v n taken s before left last long = record {
-      back = back_join (step_from s) v c taken (s ∷ []) before.back (last.to, last.step, refl);
-      first = λ others back same. ahead_more b c v taken others s n (before.first others back same) before.back back (same ∙ long)
-          (λ o os steps m. last.first o steps.1 steps.0 (stands_of v n o os left steps m));
-    }
+  pub left_at_end : (c n : ℕ) → IsShortest j b c n → IsLeft j b c n
+  left_at_end c n shortest = record { some = λ l. shortest; none = λ e. absurd (omega (arith, some_left c n shortest)) }
 
-    pub walk_of : (c n : ℕ) (taken : List Step) → IsTakenBack h b c n b taken → length taken ≡ n → IsShortest h b c n → IsFirstWalk h b c (reverse taken)
-    walk_of c n taken back long shortest = record {
-      leads = (omega (arith, length-reverse taken, some_left c n shortest), leads_of_back b c taken back.back);
-      least = λ others walk. let low = shortest.least others walk in omega (arith, length-reverse taken);
-      first = λ others walk same.
-          let ahead = back.first (reverse others) (back_of_leads b c others walk.1) (length-reverse others ∙ same ∙ length-reverse taken ∙ long) in
-          rw (reverse-reverse taken) (ahead_cmp taken (reverse others) ahead (length-reverse others ∙ same ∙ length-reverse taken));
-    }
+  pub nothing_taken : (c n : ℕ) → IsTakenBack j.history b c n c []
+  nothing_taken c n = record { back = refl; first = λ others back long. tt }
+
+  -- there is a step to take
+  pub never_stuck : (v n : ℕ) → IsLeft j b v (n + 1) → ((o : Step) → IsStep j.history o → step_to o ≡ v → stands_at (row_of near.rows b) b (step_from o) n ≡ true → ⊥) → ⊥
+  never_stuck v n left none =
+      let walk = (left.some (omega arith)).attained in
+      go (reverse walk.0) (back_of_leads j.history b v walk.0 walk.1.0.1) (omega (arith, walk.2, length-reverse walk.0))
+    where
+      go : (ss : List Step) → LeadsBack j.history b v ss → length ss ≡ n + 1 → ⊥
+      go [] back long = omega (arith, long)
+      go (o ∷ os) back long = none o back.1 back.0 (stands_of v n o os left back (omega (arith, long)))
+
+  pub taken_more : (c total v n : ℕ) (taken : List Step) (s : Step) → IsTakenBack j.history b c total v taken → IsLeft j b v (n + 1) → IsLastStep j.history (row_of near.rows b) b v n s → total ≡ length taken + (n + 1)
+      → IsTakenBack j.history b c total (step_from s) (taken ++ s ∷ [])
+  taken_more c total v n taken s before left last long = record {
+    back = back_join j.history (step_from s) v c taken (s ∷ []) before.back (last.to, last.step, refl);
+    first = λ others back same. ahead_more j.history b c v taken others s n (before.first others back same) before.back back (same ∙ long)
+        (λ o os steps m. last.first o steps.1 steps.0 (stands_of v n o os left steps m));
+  }
+
+  pub walk_of : (c n : ℕ) (taken : List Step) → IsTakenBack j.history b c n b taken → length taken ≡ n → IsShortest j b c n → IsFirstWalk j b c (reverse taken)
+  walk_of c n taken back long shortest = record {
+    leads =
+        let way : IsWalk j.history b c (reverse taken) = (omega (arith, length-reverse taken, some_left c n shortest), leads_of_back j.history b c taken back.back) in
+        let walk = shortest.attained in
+        (way, same_allowed j.level walk.0 (reverse taken) walk.1.1 (omega (arith, walk.2, length-reverse taken)));
+    least = λ others walk. let low = shortest.least others walk in omega (arith, length-reverse taken);
+    first = λ others walk same.
+        let ahead = back.first (reverse others) (back_of_leads j.history b c others walk.0.1) (length-reverse others ∙ same ∙ length-reverse taken ∙ long) in
+        rw (reverse-reverse taken) (ahead_cmp j.history taken (reverse others) ahead (length-reverse others ∙ same ∙ length-reverse taken));
+  }

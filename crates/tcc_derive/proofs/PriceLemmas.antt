@@ -3,15 +3,15 @@ use Rattle.std.proofs.Common.{ℕ, ◌+◌, ◌<◌, ◌≤◌, ◌≡◌, ◌�
 use Rattle.std.specs.List.{Contains}
 use Rattle.std.proofs.lemmas.Bool.{eqb-true, eq-eqb, false≢true}
 use Rattle.std.proofs.lemmas.List.{get_or-replicate, length-replicate}
-use Rattle.tcc_reads.specs.History.{History, count}
+use Rattle.tcc_reads.specs.History.{count}
 use Rattle.tcc_graph.specs.Keys.{keys}
 use Rattle.tcc_graph.specs.KeyRows.{name_of}
-use Rattle.tcc_graph.specs.Walks.{IsReached}
+use Rattle.tcc_graph.specs.Levels.{Judged, IsAllowedWalk}
 use Rattle.tcc_graph.specs.Links.{MayContradict, IsReason, link_cost}
 use Rattle.tcc_graph.specs.declared.step.Step.{Step}
 use Rattle.tcc_graph.specs.declared.link.Link.{Link}
 use Rattle.tcc_graph.specs.declared.link.Link.TheVariants as link
-use Rattle.tcc_near.specs.Distances.{IsShortest, IsWalkDistance, IsNearOf, least_in}
+use Rattle.tcc_near.specs.Distances.{NearTable, IsShortest, IsWalkDistance, IsNearOf, least_in}
 use Rattle.tcc_derive.specs.Prices.{IsDerived, IsPrice}
 use Rattle.tcc_derive.specs.Buckets.{bucket}
 use Rattle.tcc_derive.specs.KeyTables.{IsReadsOf, IsWritesOf}
@@ -25,61 +25,65 @@ use Rattle.tcc_graph.specs.Tables.{row_of}
 use Rattle.tcc_txn.proofs.Lists.{in_flat_map, from_flat_map}
 use Rattle.tcc_graph.proofs.Linking.{derived_cost}
 
--- no walk leads there, or a shortest one has as many steps as the row says
-pub record IsNearby (h : History) (b : ℕ) (c : ℕ) (n : ℕ) : Type 0 where
-  pub shortest : IsShortest h b c n
-  pub few : n ≤ count h
+-- no walk that the level allows leads from b to c
+abbrev pub IsOut : Judged → ℕ → ℕ → Type 0
+IsOut j b c = (walk : List Step) → IsAllowedWalk j b c walk → ⊥
 
-pub distance_cases : (h : History) (near : List (List ℕ)) (b c : ℕ) → IsNearOf h near → b < count h → c < count h
-    → (IsReached h b c → ⊥) ⊎ IsNearby h b c (get_or (row_of near b) c 0)
-distance_cases h near b c nears from to = go (get_or (row_of near b) c 0 == NONE) (nears.exact b c from to) (λ n. nears.short b c n from to)
+-- a shortest walk has as many steps as the row says
+pub record IsNearby (j : Judged) (b : ℕ) (c : ℕ) (n : ℕ) : Type 0 where
+  pub shortest : IsShortest j b c n
+  pub few : n ≤ count j.history
+
+pub distance_cases : (j : Judged) (near : NearTable) (b c : ℕ) → IsNearOf j near → b < count j.history → c < count j.history
+    → IsOut j b c ⊎ IsNearby j b c (get_or (row_of near.rows b) c 0)
+distance_cases j near b c nears from to = go (get_or (row_of near.rows b) c 0 == NONE) (nears.exact b c from to) (λ n. nears.short b c n from to)
   where
-    go : (t : Bool) → IsWalkDistance h b c (if t then None else Some (get_or (row_of near b) c 0)) → ((n : ℕ) → (if t then None else Some (get_or (row_of near b) c 0)) ≡ Some n → n ≤ count h)
-        → (IsReached h b c → ⊥) ⊎ IsNearby h b c (get_or (row_of near b) c 0)
+    go : (t : Bool) → IsWalkDistance j b c (if t then None else Some (get_or (row_of near.rows b) c 0)) → ((n : ℕ) → (if t then None else Some (get_or (row_of near.rows b) c 0)) ≡ Some n → n ≤ count j.history)
+        → IsOut j b c ⊎ IsNearby j b c (get_or (row_of near.rows b) c 0)
     go true d s = inl d
     go false d s = inr (record { shortest = d; few = s _ refl })
 
-pub no_distance : (h : History) (near : List (List ℕ)) (b c : ℕ) → IsNearOf h near → b < count h → c < count h → (IsReached h b c → ⊥) → get_or (row_of near b) c 0 ≡ NONE
-no_distance h near b c nears from to none = go (get_or (row_of near b) c 0 == NONE) refl (nears.exact b c from to)
+pub no_distance : (j : Judged) (near : NearTable) (b c : ℕ) → IsNearOf j near → b < count j.history → c < count j.history → IsOut j b c → get_or (row_of near.rows b) c 0 ≡ NONE
+no_distance j near b c nears from to none = go (get_or (row_of near.rows b) c 0 == NONE) refl (nears.exact b c from to)
   where
-    go : (t : Bool) → (get_or (row_of near b) c 0 == NONE) ≡ t → IsWalkDistance h b c (if t then None else Some (get_or (row_of near b) c 0)) → get_or (row_of near b) c 0 ≡ NONE
-    go true e d = eqb-true (get_or (row_of near b) c 0) NONE e
-    go false e d = absurd (none (d.attained.0, d.attained.1))
+    go : (t : Bool) → (get_or (row_of near.rows b) c 0 == NONE) ≡ t → IsWalkDistance j b c (if t then None else Some (get_or (row_of near.rows b) c 0)) → get_or (row_of near.rows b) c 0 ≡ NONE
+    go true e d = eqb-true (get_or (row_of near.rows b) c 0) NONE e
+    go false e d = absurd (none d.attained.0 d.attained.1)
 
-pub out_of_reach : (h : History) (near : List (List ℕ)) (b c : ℕ) → IsNearOf h near → b < count h → c < count h → get_or (row_of near b) c 0 ≡ NONE → IsReached h b c → ⊥
-out_of_reach h near b c nears from to none = go (nears.exact b c from to)
+pub out_of_reach : (j : Judged) (near : NearTable) (b c : ℕ) → IsNearOf j near → b < count j.history → c < count j.history → get_or (row_of near.rows b) c 0 ≡ NONE → IsOut j b c
+out_of_reach j near b c nears from to none = go (nears.exact b c from to)
   where
-    go : IsWalkDistance h b c (least_in (row_of near b) c) → IsReached h b c → ⊥
+    go : IsWalkDistance j b c (least_in (row_of near.rows b) c) → IsOut j b c
     go d = rw none at d
 
-module _ (h : History) (near : List (List ℕ)) (reads : List (List Read)) (written : List (List ℕ)) (b : ℕ) (row : List ℕ)
-    (small : count h ≤ MAX_COUNT) (from : b < count h) (nears : IsNearOf h near) (read : IsReadsOf h reads) (wrote : IsWritesOf h written)
-    (lowered : Lowers (flat_map (bucket reads) (bucket written b)) (row_of near b) b (replicate (length near) NONE) row) where
+module _ (j : Judged) (near : NearTable) (reads : List (List Read)) (written : List (List ℕ)) (b : ℕ) (row : List ℕ)
+    (small : count j.history ≤ MAX_COUNT) (from : b < count j.history) (nears : IsNearOf j near) (read : IsReadsOf j.history reads) (wrote : IsWritesOf j.history written)
+    (lowered : Lowers (flat_map (bucket reads) (bucket written b)) (row_of near.rows b) b (replicate (length near.rows) NONE) row) where
   -- the read of each reason is among those that lowered the row
-  reason_read : (a : ℕ) (x : List ℕ) (c : ℕ) → MayContradict h b a x c → Contains (flat_map (bucket reads) (bucket written b)) (record { source = a; reader = c })
+  reason_read : (a : ℕ) (x : List ℕ) (c : ℕ) → MayContradict j.history b a x c → Contains (flat_map (bucket reads) (bucket written b)) (record { source = a; reader = c })
   reason_read a x c (other, pair, writer) =
-      let place = read_place h a c x pair in
+      let place = read_place j.history a c x pair in
       in_flat_map (bucket reads) (bucket written b) place.0 (record { source = a; reader = c })
       (wrote.each b place.0 from place.1 (rw place.2 writer))
       (read.each place.0 a c place.1 tt (rw place.2 pair))
 
   -- and each of those may be contradicted
-  read_reason : (r : Read) → Contains (flat_map (bucket reads) (bucket written b)) r → r.source ≢ b → (x : List ℕ) × MayContradict h b r.source x r.reader
+  read_reason : (r : Read) → Contains (flat_map (bucket reads) (bucket written b)) r → r.source ≢ b → (x : List ℕ) × MayContradict j.history b r.source x r.reader
   read_reason r there ne =
       let w = from_flat_map (bucket reads) (bucket written b) r there in
       let by = wrote.wrote b w.0 from w.1 in
-      (name_of (keys h) w.0, ((λ e. ne (sym e)), read.read w.0 r by.0 w.2, by.1))
+      (name_of (keys j.history) w.0, ((λ e. ne (sym e)), read.read w.0 r by.0 w.2, by.1))
 
   -- no reason costs less
   record IsAtMost (a : ℕ) (n : ℕ) : Type 0 where
     cost : get_or row a 0 ≤ n
-    bound : get_or row a 0 ≤ count h + 1
+    bound : get_or row a 0 ≤ count j.history + 1
 
-  at_most : (a : ℕ) (x : List ℕ) (c : ℕ) (walk : List Step) → IsReason h b a x c walk → IsAtMost a (length walk + 1)
-  at_most a x c walk (may, walks) = go (distance_cases h near b c nears from may.1.1)
+  at_most : (a : ℕ) (x : List ℕ) (c : ℕ) (walk : List Step) → IsReason j b a x c walk → IsAtMost a (length walk + 1)
+  at_most a x c walk (may, walks) = go (distance_cases j near b c nears from may.1.1)
     where
-      go : (IsReached h b c → ⊥) ⊎ IsNearby h b c (get_or (row_of near b) c 0) → IsAtMost a (length walk + 1)
-      go (inl none) = absurd (none (walk, walks))
+      go : IsOut j b c ⊎ IsNearby j b c (get_or (row_of near.rows b) c 0) → IsAtMost a (length walk + 1)
+      go (inl none) = absurd (none walk walks)
       go (inr near') =
           let low = lowered.lowered (record { source = a; reader = c }) (reason_read a x c may) (λ e. may.0 (sym e)) in
           let least = near'.shortest.least walk walks in
@@ -91,62 +95,62 @@ module _ (h : History) (near : List (List ℕ)) (reads : List (List Read)) (writ
     there : Contains (flat_map (bucket reads) (bucket written b)) r
     source : r.source ≡ a
     other : a ≢ b
-    near' : IsNearby h b r.reader (get_or (row_of near b) r.reader 0)
-    cost : get_or row a 0 ≡ get_or (row_of near b) r.reader 0 + 1
+    near' : IsNearby j b r.reader (get_or (row_of near.rows b) r.reader 0)
+    cost : get_or row a 0 ≡ get_or (row_of near.rows b) r.reader 0 + 1
 
-  origin : (a : ℕ) → a < count h → (get_or row a 0 ≡ NONE) ⊎ ((r : Read) × IsFrom a r)
+  origin : (a : ℕ) → a < count j.history → (get_or row a 0 ≡ NONE) ⊎ ((r : Read) × IsFrom a r)
   origin a to = go (lowered.from a)
     where
-      by : (r : Read) → Contains (flat_map (bucket reads) (bucket written b)) r → r.source ≡ a → a ≢ b → get_or row a 0 ≡ price_by (row_of near b) r
-          → (IsReached h b r.reader → ⊥) ⊎ IsNearby h b r.reader (get_or (row_of near b) r.reader 0) → r.reader < count h → (get_or row a 0 ≡ NONE) ⊎ ((s : Read) × IsFrom a s)
-      by r there source other cost (inl none) below = inl (omega (arith, no_distance h near b r.reader nears from below none))
+      by : (r : Read) → Contains (flat_map (bucket reads) (bucket written b)) r → r.source ≡ a → a ≢ b → get_or row a 0 ≡ price_by (row_of near.rows b) r
+          → IsOut j b r.reader ⊎ IsNearby j b r.reader (get_or (row_of near.rows b) r.reader 0) → r.reader < count j.history → (get_or row a 0 ≡ NONE) ⊎ ((s : Read) × IsFrom a s)
+      by r there source other cost (inl none) below = inl (omega (arith, no_distance j near b r.reader nears from below none))
       by r there source other cost (inr near') below = inr (r, record { there = there; source = source; other = other; near' = near'; cost = omega (arith, near'.few) })
 
-      go : (get_or row a 0 ≡ get_or (replicate (length near) NONE) a 0) ⊎ ((r : Read) × Contains (flat_map (bucket reads) (bucket written b)) r × (r.source ≡ a) × (a ≢ b) × (get_or row a 0 ≡ price_by (row_of near b) r))
+      go : (get_or row a 0 ≡ get_or (replicate (length near.rows) NONE) a 0) ⊎ ((r : Read) × Contains (flat_map (bucket reads) (bucket written b)) r × (r.source ≡ a) × (a ≢ b) × (get_or row a 0 ≡ price_by (row_of near.rows b) r))
           → (get_or row a 0 ≡ NONE) ⊎ ((r : Read) × IsFrom a r)
-      go (inl e) = inl (e ∙ get_or-replicate (length near) a NONE 0 (omega (arith, nears.square.long)))
+      go (inl e) = inl (e ∙ get_or-replicate (length near.rows) a NONE 0 (omega (arith, nears.square.long)))
       go (inr w) =
           let may = read_reason w.0 w.1 (λ e. w.3 (sym w.2 ∙ e)) in
-          by w.0 w.1 w.2 w.3 w.4 (distance_cases h near b w.0.reader nears from may.1.1.1) may.1.1.1
+          by w.0 w.1 w.2 w.3 w.4 (distance_cases j near b w.0.reader nears from may.1.1.1) may.1.1.1
 
   -- where the row has none, nothing is derived
-  nothing : (a : ℕ) → get_or row a 0 ≡ NONE → (l : Link) → IsDerived h b a l → ⊥
+  nothing : (a : ℕ) → get_or row a 0 ≡ NONE → (l : Link) → IsDerived j b a l → ⊥
   nothing a none l (x, c, walk, is, reason) =
       let most = at_most a x c walk reason in
       omega (arith, most.bound)
 
-  least : (a : ℕ) (l : Link) → IsDerived h b a l → get_or row a 0 ≤ link_cost l
+  least : (a : ℕ) (l : Link) → IsDerived j b a l → get_or row a 0 ≤ link_cost l
   least a l (x, c, walk, is, reason) =
       let most = at_most a x c walk reason in
       rw (is, derived_cost b a x c walk) most.cost
 
-  derived : (a : ℕ) (r : Read) → IsFrom a r → (l : Link) × IsDerived h b a l × (link_cost l ≡ get_or row a 0)
+  derived : (a : ℕ) (r : Read) → IsFrom a r → (l : Link) × IsDerived j b a l × (link_cost l ≡ get_or row a 0)
   derived a r from' =
       let by = read_reason r from'.there (λ e. from'.other (sym from'.source ∙ e)) in
       let walk = from'.near'.shortest.attained in
-      let may = subst (λ (s : ℕ). MayContradict h b s by.0 r.reader) from'.source by.1 in
+      let may = subst (λ (s : ℕ). MayContradict j.history b s by.0 r.reader) from'.source by.1 in
       (link.Derived b a by.0 r.reader walk.0, (by.0, r.reader, walk.0, refl, (may, walk.1)), derived_cost b a by.0 r.reader walk.0 ∙ omega (arith, walk.2, from'.cost))
 
-  some : (a : ℕ) → get_or row a 0 ≢ NONE → a < count h → (r : Read) × IsFrom a r
+  some : (a : ℕ) → get_or row a 0 ≢ NONE → a < count j.history → (r : Read) × IsFrom a r
   some a ne to = ⊎_elim (λ e. absurd (ne e)) (λ w. w) (origin a to)
 
   not_none : (a : ℕ) → (get_or row a 0 == NONE) ≡ false → get_or row a 0 ≢ NONE
   not_none a e same = false≢true (sym e ∙ eq-eqb (get_or row a 0) NONE same)
 
-  price : (a : ℕ) → a < count h → (t : Bool) → (get_or row a 0 == NONE) ≡ t → IsPrice h b a (if t then None else Some (get_or row a 0))
+  price : (a : ℕ) → a < count j.history → (t : Bool) → (get_or row a 0 == NONE) ≡ t → IsPrice j b a (if t then None else Some (get_or row a 0))
   price a to true e = nothing a (eqb-true (get_or row a 0) NONE e)
   price a to false e = let w = some a (not_none a e) to in record { attained = derived a w.0 w.1; least = least a }
 
-  few_steps : (a : ℕ) (n : ℕ) → a < count h → (t : Bool) → (get_or row a 0 == NONE) ≡ t → (if t then None else Some (get_or row a 0)) ≡ Some n → n ≤ count h + 1
+  few_steps : (a : ℕ) (n : ℕ) → a < count j.history → (t : Bool) → (get_or row a 0 == NONE) ≡ t → (if t then None else Some (get_or row a 0)) ≡ Some n → n ≤ count j.history + 1
   few_steps a n to true e is = absurd cc
   few_steps a n to false e is =
       let w = some a (not_none a e) to in
       let same : get_or row a 0 ≡ n = cc in
       omega (arith, w.1.cost, w.1.near'.few)
 
-  pub price_row_of : IsPriceRow h b row
+  pub price_row_of : IsPriceRow j b row
   price_row_of = record {
-    long = lowered.long ∙ length-replicate (length near) NONE ∙ nears.square.long;
+    long = lowered.long ∙ length-replicate (length near.rows) NONE ∙ nears.square.long;
     priced = λ a to. price a to (get_or row a 0 == NONE) refl;
     few = λ a n to. few_steps a n to (get_or row a 0 == NONE) refl;
   }

@@ -1,5 +1,6 @@
 -- Worked rows of the definitions.
 use Rattle.std.proofs.Common.{◌≡◌, [], ◌∷◌, true, false, None, Some, refl, inl}
+use Rattle.tcc_graph.specs.declared.level.Level.TheVariants as level
 use Rattle.tcc_graph.specs.declared.step.Step.TheVariants as step
 use Rattle.tcc_derive.specs.Prices.{price_at, cost_at}
 use Rattle.tcc_derive.specs.Lowering.{price_by}
@@ -14,13 +15,13 @@ out_of_reach : price_by (2 ∷ NONE ∷ []) (record { source = 0; reader = 1 }) 
 out_of_reach = refl
 
 -- of two transactions, 1 contradicts a read from 0 by a walk of three steps
-price_of_four : price_at (record { prices = (NONE ∷ NONE ∷ []) ∷ (4 ∷ NONE ∷ []) ∷ []; costs = (NONE ∷ 1 ∷ []) ∷ (4 ∷ NONE ∷ []) ∷ [] }) 1 0 ≡ Some 4
+price_of_four : price_at (record { level = level.Causal; prices = (NONE ∷ NONE ∷ []) ∷ (4 ∷ NONE ∷ []) ∷ []; costs = (NONE ∷ 1 ∷ []) ∷ (4 ∷ NONE ∷ []) ∷ [] }) 1 0 ≡ Some 4
 price_of_four = refl
 
-no_price : price_at (record { prices = (NONE ∷ NONE ∷ []) ∷ (4 ∷ NONE ∷ []) ∷ []; costs = (NONE ∷ 1 ∷ []) ∷ (4 ∷ NONE ∷ []) ∷ [] }) 0 1 ≡ None
+no_price : price_at (record { level = level.Causal; prices = (NONE ∷ NONE ∷ []) ∷ (4 ∷ NONE ∷ []) ∷ []; costs = (NONE ∷ 1 ∷ []) ∷ (4 ∷ NONE ∷ []) ∷ [] }) 0 1 ≡ None
 no_price = refl
 
-cost_of_a_pair : cost_at (record { prices = (NONE ∷ NONE ∷ []) ∷ (4 ∷ NONE ∷ []) ∷ []; costs = (NONE ∷ 1 ∷ []) ∷ (4 ∷ NONE ∷ []) ∷ [] }) 0 1 ≡ Some 1
+cost_of_a_pair : cost_at (record { level = level.Causal; prices = (NONE ∷ NONE ∷ []) ∷ (4 ∷ NONE ∷ []) ∷ []; costs = (NONE ∷ 1 ∷ []) ∷ (4 ∷ NONE ∷ []) ∷ [] }) 0 1 ≡ Some 1
 cost_of_a_pair = refl
 
 -- no steps lead to the start alone, some lead where the row says so

@@ -1,9 +1,10 @@
 -- For the private stages and their proofs alone: nobody has to believe what stands here.
--- Walks from the last step backwards.
+-- Walks that a level allows, from the last step backwards.
 use Rattle.std.specs.Prelude.{ℕ, ◌<◌, ◌≤◌, ◌≡◌, ◌≢◌, ◌⊎◌, ◌==◌, Bool, true, List, [], ◌∷◌, length, slice_index, if◌then◌else◌}
 use Rattle.std.specs.declared.cmp.Ordering.TheVariants.{Less, Greater}
 use Rattle.tcc_reads.specs.History.{History}
-use Rattle.tcc_graph.specs.Walks.{step_from, step_to, IsStep, IsWalk}
+use Rattle.tcc_graph.specs.Walks.{step_from, step_to, IsStep}
+use Rattle.tcc_graph.specs.Levels.{Judged, IsAllowedWalk}
 use Rattle.tcc_graph.specs.Ties.{step_cmp, walk_cmp}
 use Rattle.tcc_near.specs.Distances.{IsShortest}
 use Rattle.tcc_graph.specs.declared.step.Step.{Step}
@@ -42,8 +43,8 @@ Ahead (s ∷ steps) [] = ⊥
 Ahead (s ∷ steps) (o ∷ others) = (step_cmp s o ≡ Less) ⊎ ((s ≡ o) × Ahead steps others)
 
 -- what is left of the way back to b: its fewest steps are n
-pub record IsLeft (h : History) (b : ℕ) (v : ℕ) (n : ℕ) : Type 0 where
-  pub some : 0 < n → IsShortest h b v n
+pub record IsLeft (j : Judged) (b : ℕ) (v : ℕ) (n : ℕ) : Type 0 where
+  pub some : 0 < n → IsShortest j b v n
   pub none : n ≡ 0 → b ≡ v
 
 -- steps that were taken back from c, the first of all ways back from c to b in so many steps
@@ -51,8 +52,8 @@ pub record IsTakenBack (h : History) (b : ℕ) (c : ℕ) (total : ℕ) (v : ℕ)
   pub back : LeadsBack h v c taken
   pub first : (others : List Step) → LeadsBack h b c others → length others ≡ total → Ahead taken others
 
--- a walk from b to c in as few steps as can be, and the first of them from the last step backwards
-pub record IsFirstWalk (h : History) (b : ℕ) (c : ℕ) (walk : List Step) : Type 0 where
-  pub leads : IsWalk h b c walk
-  pub least : (others : List Step) → IsWalk h b c others → length walk ≤ length others
-  pub first : (others : List Step) → IsWalk h b c others → length others ≡ length walk → walk_cmp walk others ≢ Greater
+-- an allowed walk from b to c in as few steps as can be, and the first of them from the last step backwards
+pub record IsFirstWalk (j : Judged) (b : ℕ) (c : ℕ) (walk : List Step) : Type 0 where
+  pub leads : IsAllowedWalk j b c walk
+  pub least : (others : List Step) → IsAllowedWalk j b c others → length walk ≤ length others
+  pub first : (others : List Step) → IsAllowedWalk j b c others → length others ≡ length walk → walk_cmp walk others ≢ Greater

@@ -2,7 +2,7 @@
 ghost use Rattle.std.specs.Prelude.{◌≡◌, ◌<◌, ◌≤◌, ℕ, length, IfOk};
 ghost use Rattle.tcc_reads.specs.History.{count};
 ghost use Rattle.tcc_derive.specs.Lowering.{HasPairs};
-ghost use Rattle.tcc_derive.specs.Rows.{IsPriceRow, IsCostRow, HasRows};
+ghost use Rattle.tcc_derive.specs.Rows.{HasRows};
 ghost use Rattle.tcc_txn.specs.declared.limits.TheConstants.{MAX_COUNT};
 ghost use Rattle.tcc_graph.specs.Tables.{row_of};
 
@@ -35,8 +35,8 @@ pub(crate) fn cost_rows(
     graph: &Graph,
     prices: &[Row<u16>],
 ) -> Result<Vec<Row<u16>>, NoMemory>
-    requires { HasRows graph.now (IsPriceRow graph.now) prices.now }
-    ensures { IfOk result (λ rows. HasRows graph.now (IsCostRow graph.now) rows.items) }
+    requires { HasRows graph.now (λ u row. length row ≡ count graph.now) prices.now }
+    ensures { IfOk result (λ rows. HasRows graph.now (λ u row. HasPairs graph.now u (row_of prices.now u) row) rows.items) }
 {
     (0..graph.count() as usize)
         .into_par_iter()

@@ -1,4 +1,4 @@
-//! The prices of a graph.
+//! The prices of a graph at a level.
 ghost use Rattle.std.specs.Prelude.{IfOk};
 ghost use Rattle.tcc_near.specs.Distances.{IsNearOf};
 ghost use Rattle.tcc_derive.specs.Prices.{IsPricesOf};
@@ -14,19 +14,19 @@ use tcc_graph::Graph;
 use tcc_near::Near;
 use tcc_txn::NoMemory;
 
-/// The prices of a graph, by its distances.
+/// The prices of a graph, by its distances and at their level.
 pub fn derive(
     rt: &(impl Threads + Sync),
     alloc: Global,
     graph: &Graph,
     near: &Near,
 ) -> Result<Prices, NoMemory>
-    requires { IsNearOf graph.now near.now }
-    ensures { IfOk result (IsPricesOf graph.now) }
+    requires { IsNearOf (record { history = graph.now; level = near.now.level }) near.now }
+    ensures { IfOk result (IsPricesOf (record { history = graph.now; level = near.now.level })) }
 {
     let reads = read_table(alloc, graph)?;
     let written = write_table(alloc, graph)?;
     let prices = price_rows(rt, alloc, graph, near, &reads, &written)?;
     let costs = cost_rows(rt, alloc, graph, &prices)?;
-    Ok(Prices::new(prices, costs))
+    Ok(Prices::new(near.level(), prices, costs))
 }

@@ -61,20 +61,20 @@ pub(crate) fn price_rows(
     reads: &[Row<Read>],
     written: &[Row<usize>],
 ) -> Result<Vec<Row<u16>>, NoMemory>
-    requires near { IsNearOf graph.now near.now }
+    requires near { IsNearOf (record { history = graph.now; level = near.now.level }) near.now }
     requires reads { IsReadsOf graph.now reads.now }
     requires written { IsWritesOf graph.now written.now }
-    ensures rows { IfOk result (λ rows. HasRows graph.now (IsPriceRow graph.now) rows.items) }
+    ensures rows { IfOk result (λ rows. HasRows graph.now (IsPriceRow (record { history = graph.now; level = near.now.level })) rows.items) }
     ensures few { IfOk result (λ rows. length rows.items ≤ MAX_COUNT) }
 {
     (0..graph.count() as usize)
         .into_par_iter()
         .map(
             |b: usize| -> Result<Row<u16>, NoMemory>
-                requires { (b < length near.now) × (length near.now ≤ MAX_COUNT) × (length written.now ≡ length near.now)
-                    × HaveReads (length near.now) reads.now (bucket written.now b) }
-                ensures { IfOk result (Lowers (flat_map (bucket reads.entry.now) (bucket written.entry.now b)) (row_of near.entry.now b) b
-                    (replicate (length near.entry.now) NONE)) }
+                requires { (b < length near.now.rows) × (length near.now.rows ≤ MAX_COUNT) × (length written.now ≡ length near.now.rows)
+                    × HaveReads (length near.now.rows) reads.now (bucket written.now b) }
+                ensures { IfOk result (Lowers (flat_map (bucket reads.entry.now) (bucket written.entry.now b)) (row_of near.entry.now.rows b) b
+                    (replicate (length near.entry.now.rows) NONE)) }
             {
                 let keys = written[b].values();
                 price_row(alloc, reads, keys, near.row(b as u32), b as u32)

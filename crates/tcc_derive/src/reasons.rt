@@ -13,8 +13,8 @@ use tcc_graph::{Graph, Link};
 use tcc_near::Near;
 use tcc_txn::NoMemory;
 
-/// A derived link from `b` to `a` that costs the price, the first by key, reader and walk; none where there is no
-/// price.
+/// A derived link from `b` to `a` that costs the price at the level of the distances, the first by key, reader and walk;
+/// none where there is no price.
 pub fn reason(
     alloc: Global,
     graph: &Graph,
@@ -22,10 +22,11 @@ pub fn reason(
     b: u32,
     a: u32,
 ) -> Result<Option<Link>, NoMemory>
-    requires near { IsNearOf graph.now near.now }
+    requires near { IsNearOf (record { history = graph.now; level = near.now.level }) near.now }
     requires from { b < count graph.now }
     requires to { a < count graph.now }
-    ensures { IfOk result (λ found. MatchOption found ((l : Link) → IsDerived graph.now b a l → ⊥) (IsFirstReason graph.now b a)) }
+    ensures { IfOk result (λ found. MatchOption found ((l : Link) → IsDerived (record { history = graph.now; level = near.now.level }) b a l → ⊥)
+        (IsFirstReason (record { history = graph.now; level = near.now.level }) b a)) }
 {
     let Some(found) = choice(graph, near.row(b), b, a) else {
         return Ok(None);

@@ -1,4 +1,4 @@
-//! The least costs of links between transactions.
+//! The least costs of links between transactions at a level.
 ghost use Rattle.std.specs.Prelude.{◌≡◌, ◌<◌, ◌≤◌, ◌∷◌, [], length};
 ghost use Rattle.tcc_near.specs.Distances.{least_in, IsSquare};
 ghost use Rattle.tcc_derive.specs.Prices.{price_at, cost_at};
@@ -6,11 +6,13 @@ ghost use Rattle.tcc_txn.specs.declared.limits.TheConstants.{MAX_COUNT};
 ghost use Rattle.tcc_graph.specs.Tables.{row_of};
 
 use std::marker::Model;
+use tcc_graph::Level;
 use tcc_near::{NONE, Row};
 
-/// What derived links, and links of all kinds, cost at least between the transactions of a graph.
+/// What derived links, and links of all kinds, cost at least between the transactions of a graph at a level.
 #[derive(Drop)]
 pub struct Prices {
+    level: Level,
     prices: Vec<Row<u16>>,
     costs: Vec<Row<u16>>,
 }
@@ -23,20 +25,31 @@ impl Model for Prices {
 
     ghost Value = { Tables };
 
-    ghost view = { λ p. record { prices = p.prices.items; costs = p.costs.items } };
+    ghost view = { λ p. record { level = p.level; prices = p.prices.items; costs = p.costs.items } };
 
     ghost invariant = { λ p. IsSquare (length p.prices.items) p.prices.items × (IsSquare (length p.prices.items) p.costs.items × (length p.prices.items ≤ MAX_COUNT)) };
 }
 
 impl Prices {
-    /// The tables of these rows.
-    pub(crate) fn new(prices: Vec<Row<u16>>, costs: Vec<Row<u16>>) -> Prices
+    /// The tables of these rows, at this level.
+    pub(crate) fn new(level: Level, prices: Vec<Row<u16>>, costs: Vec<Row<u16>>) -> Prices
         requires prices { IsSquare (length prices.items) prices.items }
         requires costs { IsSquare (length prices.items) costs.items }
         requires few { length prices.items ≤ MAX_COUNT }
-        ensures { result ≡ record { prices = prices.items; costs = costs.items } }
+        ensures { result ≡ record { level = level; prices = prices.items; costs = costs.items } }
     {
-        Prices { prices, costs }
+        Prices {
+            level,
+            prices,
+            costs,
+        }
+    }
+
+    /// The level at which links are judged.
+    pub fn level(&self) -> Level
+        ensures { result ≡ self.now.level }
+    {
+        self.level
     }
 
     /// How many transactions there are, `init` among them.

@@ -2,7 +2,8 @@
 use crate::{Prices, derive, first_name, reason};
 use std::alloc::Global;
 use std::process::Abort;
-use tcc_graph::{Graph, Link, Step, Walk};
+use std::thread::Threads;
+use tcc_graph::{Graph, Level, Link, Step, Walk};
 use tcc_near::{NONE, near};
 use tcc_reads::resolve;
 use tcc_txn::{Name, snapshot_of};
@@ -12,6 +13,10 @@ type Path<'a> = &'a [(u32, u32, &'a str)];
 
 /// a/1 writes x, a/2 reads the initial value of x.
 const STALE_READ: &str = "a,begin\na,w,x,1\na,commit\na,begin\na,r,x,0\na,commit\n";
+
+/// b/1 reads one of two writes of a/1, and the initial value that the other overwrote.
+const FRACTURED: &str =
+    "a,begin\na,w,x,1\na,w,y,1\na,commit\nb,begin\nb,r,x,1\nb,r,y,0\nb,commit\n";
 
 /// A chain of reads leads from the writer of x to a reader of its initial value.
 const CHAIN: &str = "a,begin\na,w,x,1\na,commit\nb,begin\nb,r,x,1\nb,w,y,1\nb,commit\n\
@@ -58,6 +63,13 @@ fn graph_of(alloc: Global, records: &str) -> Option<Graph> {
     Graph::build(alloc, &resolved).ok()
 }
 
+fn is_level(level: Level, wanted: Level) -> bool {
+    match (level, wanted) {
+        (Level::Causal, Level::Causal) | (Level::Atomic, Level::Atomic) => true,
+        _ => false,
+    }
+}
+
 /// What a list of wanted numbers has for a pair.
 fn wanted_at(wanted: &[(u32, u32, u32)], from: u32, to: u32) -> Option<u32> {
     for (a, b, number) in wanted {
@@ -68,17 +80,37 @@ fn wanted_at(wanted: &[(u32, u32, u32)], from: u32, to: u32) -> Option<u32> {
     None
 }
 
-/// The prices and the costs are these, from and to, and no others.
+/// At this level the prices and the costs are these, from and to, and no others.
 fn assert_tables(
-    rt: &impl Abort,
-    prices: &Prices,
+    rt: &(impl Abort + Threads + Sync),
+    alloc: Global,
+    level: Level,
+    records: &str,
     wanted: &[(u32, u32, u32)],
     costs: &[(u32, u32, u32)],
 ) {
+    let Some(graph) = graph_of(alloc, records) else {
+        panic!(rt; "no graph of {records}");
+    };
+    let Ok(near) = near(rt, alloc, &graph, level) else {
+        panic!(rt; "no memory");
+    };
+    let Ok(prices) = derive(rt, alloc, &graph, &near) else {
+        panic!(rt; "no memory");
+    };
+    assert!(rt; is_level(prices.level(), level), "of {records}");
     for from in 0..prices.count() {
         for to in 0..prices.count() {
-            assert_eq!(rt; prices.price(from, to), wanted_at(wanted, from, to));
-            assert_eq!(rt; prices.cost(from, to), wanted_at(costs, from, to));
+            assert_eq!(rt;
+                prices.price(from, to),
+                wanted_at(wanted, from, to),
+                "of {records}"
+            );
+            assert_eq!(rt;
+                prices.cost(from, to),
+                wanted_at(costs, from, to),
+                "of {records}"
+            );
             let none = prices.costs(from)[to as usize] == NONE;
             assert_eq!(rt; none, prices.cost(from, to).is_none());
         }
@@ -125,10 +157,39 @@ fn is_reason(found: &Option<Link>, wanted: Option<(&str, u32, Path<'_>)>) -> boo
     }
 }
 
+/// The first reason at this level is this one; none where none is wanted.
+fn assert_reason(
+    rt: &(impl Abort + Threads + Sync),
+    alloc: Global,
+    level: Level,
+    records: &str,
+    b: u32,
+    a: u32,
+    wanted: Option<(&str, u32, Path<'_>)>,
+) {
+    let Some(graph) = graph_of(alloc, records) else {
+        panic!(rt; "no graph of {records}");
+    };
+    let Ok(near) = near(rt, alloc, &graph, level) else {
+        panic!(rt; "no memory");
+    };
+    assert!(rt; b < graph.count());
+    assert!(rt; a < graph.count());
+    let Ok(found) = reason(alloc, &graph, &near, b, a) else {
+        panic!(rt; "no memory");
+    };
+    assert!(rt; is_reason(&found, wanted), "from {b} to {a} of {records}");
+}
+
 #[test]
 fn least_prices_and_costs(rt: HostRuntime) {
     let alloc = rt.alloc();
-    let cases: [(&str, &[(u32, u32, u32)], &[(u32, u32, u32)]); 5] = [
+    let cases: [(&str, &[(u32, u32, u32)], &[(u32, u32, u32)]); 6] = [
+        (
+            FRACTURED,
+            &[(0, 1, 2), (1, 0, 2)],
+            &[(0, 1, 1), (0, 2, 1), (1, 2, 1), (1, 0, 2)],
+        ),
         (
             STALE_READ,
             &[(1, 0, 2)],
@@ -182,23 +243,49 @@ fn least_prices_and_costs(rt: HostRuntime) {
         ),
     ];
     for (records, wanted, costs) in cases {
-        let Some(graph) = graph_of(alloc, records) else {
-            panic!(rt; "no graph of {records}");
-        };
-        let Ok(near) = near(&rt, alloc, &graph) else {
-            panic!(rt; "no memory");
-        };
-        let Ok(prices) = derive(&rt, alloc, &graph, &near) else {
-            panic!(rt; "no memory");
-        };
-        assert_tables(&rt, &prices, wanted, costs);
+        assert_tables(&rt, alloc, Level::Causal, records, wanted, costs);
+    }
+}
+
+/// At `Atomic` a price is 2 or none, and the costs of causal pairs stay.
+#[test]
+fn atomic_prices_and_costs(rt: HostRuntime) {
+    let alloc = rt.alloc();
+    let cases: [(&str, &[(u32, u32, u32)], &[(u32, u32, u32)]); 3] = [
+        (
+            FRACTURED,
+            &[(0, 1, 2), (1, 0, 2)],
+            &[(0, 1, 1), (0, 2, 1), (1, 2, 1), (1, 0, 2)],
+        ),
+        (
+            CHAIN,
+            &[(0, 1, 2), (0, 2, 2)],
+            &[
+                (0, 1, 1),
+                (0, 2, 1),
+                (0, 3, 1),
+                (0, 4, 1),
+                (1, 2, 1),
+                (2, 3, 1),
+                (3, 4, 1),
+            ],
+        ),
+        (
+            MUTUAL,
+            &[(0, 1, 2), (0, 2, 2)],
+            &[(0, 1, 1), (0, 2, 1), (1, 2, 1), (2, 1, 1)],
+        ),
+    ];
+    for (records, wanted, costs) in cases {
+        assert_tables(&rt, alloc, Level::Atomic, records, wanted, costs);
     }
 }
 
 #[test]
 fn first_reasons(rt: HostRuntime) {
     let alloc = rt.alloc();
-    let cases: [(&str, u32, u32, Option<(&str, u32, Path<'_>)>); 15] = [
+    let cases: [(&str, u32, u32, Option<(&str, u32, Path<'_>)>); 16] = [
+        (FRACTURED, 1, 0, Some(("y", 2, &[(1, 2, "x")]))),
         (STALE_READ, 0, 0, None),
         (STALE_READ, 0, 1, None),
         (STALE_READ, 1, 1, None),
@@ -226,18 +313,27 @@ fn first_reasons(rt: HostRuntime) {
         (TWO_STEPS, 5, 0, None),
     ];
     for (records, b, a, wanted) in cases {
-        let Some(graph) = graph_of(alloc, records) else {
-            panic!(rt; "no graph of {records}");
-        };
-        let Ok(near) = near(&rt, alloc, &graph) else {
-            panic!(rt; "no memory");
-        };
-        assert!(rt; b < graph.count());
-        assert!(rt; a < graph.count());
-        let Ok(found) = reason(alloc, &graph, &near, b, a) else {
-            panic!(rt; "no memory");
-        };
-        assert!(rt; is_reason(&found, wanted), "from {b} to {a} of {records}");
+        assert_reason(&rt, alloc, Level::Causal, records, b, a, wanted);
+    }
+}
+
+/// At `Atomic` the walk of a reason is one step, and a reader that more steps lead to gives none.
+#[test]
+fn first_atomic_reasons(rt: HostRuntime) {
+    let alloc = rt.alloc();
+    let cases: [(&str, u32, u32, Option<(&str, u32, Path<'_>)>); 9] = [
+        (FRACTURED, 1, 0, Some(("y", 2, &[(1, 2, "x")]))),
+        (FRACTURED, 0, 1, Some(("x", 2, &[(0, 2, "")]))),
+        (FRACTURED, 2, 0, None),
+        (CHAIN, 1, 0, None),
+        (CHAIN, 0, 2, Some(("y", 3, &[(0, 3, "")]))),
+        (MUTUAL, 1, 0, None),
+        (TWO_READERS, 3, 0, Some(("x", 4, &[(3, 4, "")]))),
+        (TWO_WALKS, 1, 0, None),
+        (TWO_STEPS, 6, 0, Some(("v", 7, &[(6, 7, "m")]))),
+    ];
+    for (records, b, a, wanted) in cases {
+        assert_reason(&rt, alloc, Level::Atomic, records, b, a, wanted);
     }
 }
 

@@ -63,7 +63,7 @@ fn last_step(graph: &Graph, steps: &[u16], b: u32, end: u32, left: u16) -> Optio
     None
 }
 
-/// The first of the shortest walks from `b` to `c`, picked from the last step backwards.
+/// The first of the shortest walks from `b` to `c` that the level allows, picked from the last step backwards.
 pub(crate) fn first_walk(
     alloc: Global,
     graph: &Graph,
@@ -71,11 +71,11 @@ pub(crate) fn first_walk(
     b: u32,
     c: u32,
 ) -> Result<Walk, NoMemory>
-    requires near { IsNearOf graph.now near.now }
+    requires near { IsNearOf (record { history = graph.now; level = near.now.level }) near.now }
     requires from { b < count graph.now }
     requires to { c < count graph.now }
-    requires reached { slice_index (row_of near.now b) c < NONE }
-    ensures { IfOk result (IsFirstWalk graph.now b c) }
+    requires reached { slice_index (row_of near.now.rows b) c < NONE }
+    ensures { IfOk result (IsFirstWalk (record { history = graph.now; level = near.now.level }) b c) }
 {
     let steps = near.row(b);
     let total = steps[c as usize];

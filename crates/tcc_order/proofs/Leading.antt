@@ -1,7 +1,8 @@
 -- What the tables of costs say of links: the pairs that a link leads over, and no others.
 use Rattle.std.proofs.Common.{cond, List, ◌≤◌, ◌+◌, ◌⊎◌, inl, inr, sym, ◌∙◌, slice_index_or, slice_set, slice_index, ◌==◌, Bool, ◌<◌, true, false, ◌≡◌, ℕ, ◌&&◌, length, Option, None, Some, refl, arith, nat_lt, is_some}
 use Rattle.std.proofs.lemmas.Bool.{cases_Bool, and_parts, and_from, ltb-true, lt-ltb, false≢true}
-use Rattle.tcc_reads.specs.History.{History, count}
+use Rattle.tcc_reads.specs.History.{count}
+use Rattle.tcc_graph.specs.Levels.{Judged}
 use Rattle.tcc_derive.specs.Prices.{Tables, cost_at, IsCost, IsPricesOf}
 use Rattle.tcc_order.specs.Numbering.{passing, holds_back, IsWaiting}
 use Rattle.tcc_order.specs.Leads.{leads, link_in, AddsLinks}
@@ -54,27 +55,27 @@ waiting-placed t placed old new x counts low within unplaced removed = record {
     go : (y : ℕ) → y < length t.prices → slice_index old y ≡ slice_index new y + link_in (row_of t.costs x) y → slice_index new y ≡ passing (holds_back (leads t) (slice_set placed x true) y) (length t.prices)
     go y l h = omega (arith, h, link_one t x y low l, counts.each y l, passing-placed (leads t) (length t.prices) placed x y low within unplaced)
 
-cost_of_link : (h : History) (a b : ℕ) (o : Option ℕ) → IsCost h a b o → IsLinked h a b → is_some o ≡ true
-cost_of_link h a b None cost w = absurd (cost w.0 w.1)
-cost_of_link h a b (Some n) cost w = refl
+cost_of_link : (j : Judged) (a b : ℕ) (o : Option ℕ) → IsCost j a b o → IsLinked j a b → is_some o ≡ true
+cost_of_link j a b None cost w = absurd (cost w.0 w.1)
+cost_of_link j a b (Some n) cost w = refl
 
-link_of_cost : (h : History) (a b : ℕ) (o : Option ℕ) → IsCost h a b o → is_some o ≡ true → IsLinked h a b
-link_of_cost h a b None cost e = absurd (false≢true e)
-link_of_cost h a b (Some n) cost e = (cost.attained.0, cost.attained.1)
+link_of_cost : (j : Judged) (a b : ℕ) (o : Option ℕ) → IsCost j a b o → is_some o ≡ true → IsLinked j a b
+link_of_cost j a b None cost e = absurd (false≢true e)
+link_of_cost j a b (Some n) cost e = (cost.attained.0, cost.attained.1)
 
-pub priced_precedence : (h : History) (t : Tables) → IsPricesOf h t → IsPrecedence h (leads t)
-priced_precedence h t priced a b = (there, back)
+pub priced_precedence : (j : Judged) (t : Tables) → IsPricesOf j t → IsPrecedence j (leads t)
+priced_precedence j t priced a b = (there, back)
   where
-    same : length t.prices ≡ count h
+    same : length t.prices ≡ count j.history
     same = priced.prices.long
 
-    there : leads t a b ≡ true → IsLinked h a b
+    there : leads t a b ≡ true → IsLinked j a b
     there p =
         let bounds = leads_below t a b p in
         let cost = and_parts (nat_lt a (length t.prices) && nat_lt b (length t.prices)) (is_some (cost_at t a b)) p in
-        link_of_cost h a b (cost_at t a b) (priced.costed a b (omega (arith, bounds.0, same)) (omega (arith, bounds.1, same))) cost.1
+        link_of_cost j a b (cost_at t a b) (priced.costed a b (omega (arith, bounds.0, same)) (omega (arith, bounds.1, same))) cost.1
 
-    back : IsLinked h a b → leads t a b ≡ true
+    back : IsLinked j a b → leads t a b ≡ true
     back w =
-        let bounds = linked_below h a b w in
-        and_from _ _ (and_from _ _ (lt-ltb a (length t.prices) (omega (arith, bounds.0, same))) (lt-ltb b (length t.prices) (omega (arith, bounds.1, same)))) (cost_of_link h a b (cost_at t a b) (priced.costed a b bounds.0 bounds.1) w)
+        let bounds = linked_below j a b w in
+        and_from _ _ (and_from _ _ (lt-ltb a (length t.prices) (omega (arith, bounds.0, same))) (lt-ltb b (length t.prices) (omega (arith, bounds.1, same)))) (cost_of_link j a b (cost_at t a b) (priced.costed a b bounds.0 bounds.1) w)

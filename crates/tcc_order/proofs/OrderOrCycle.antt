@@ -1,7 +1,8 @@
 -- A commit order exists exactly where there is no cycle.
 use Rattle.std.proofs.Common.{◌≡◌, ◌<◌, ℕ, zero, suc, ◌+◌, Bool, true, false, ◌&&◌, ◌⊎◌, inl, inr, List, [], ◌∷◌, ◌++◌, length, length-append, not, refl, sym, ◌∙◌, arith, subst}
 use Rattle.std.proofs.lemmas.Bool.{and_parts, and_from, cases_Bool, false≢true, not-true}
-use Rattle.tcc_reads.specs.History.{History, count}
+use Rattle.tcc_reads.specs.History.{count}
+use Rattle.tcc_graph.specs.Levels.{Judged}
 use Rattle.tcc_graph.specs.Links.{link_to}
 use Rattle.tcc_graph.specs.Orders.{Before, IsNumbering, IsCommitOrder}
 use Rattle.tcc_graph.specs.Routes.{LinksLead, HasCycle}
@@ -23,15 +24,15 @@ before_join n order a b c h (i, j, low, within, at_a, at_b) (k, m, above, inside
 not_itself : (n : ℕ) (order : List ℕ) (a : ℕ) → IsNumbering n order → Before order a a → ⊥
 not_itself n order a h (i, j, low, within, at_i, at_j) = absurd (omega (arith, one_place h i j (omega arith) within (at_i ∙ sym at_j)))
 
-along : (h : History) (order : List ℕ) (a b : ℕ) (l : Link) (links : List Link) → IsCommitOrder h order → LinksLead h a b (l ∷ links) → Before order a b
-along h order a b l [] o p = rw (← p.0, ← p.2) (link_before h order o l p.1)
-along h order a b l (next ∷ links) o p =
-    let first : Before order a (link_to l) = subst (λ (z : ℕ). Before order z (link_to l)) p.0 (link_before h order o l p.1) in
-    before_join (count h) order a (link_to l) b o.numbering first (along h order (link_to l) b next links o p.2)
+along : (j : Judged) (order : List ℕ) (a b : ℕ) (l : Link) (links : List Link) → IsCommitOrder j order → LinksLead j a b (l ∷ links) → Before order a b
+along j order a b l [] o p = rw (← p.0, ← p.2) (link_before j order o l p.1)
+along j order a b l (next ∷ links) o p =
+    let first : Before order a (link_to l) = subst (λ (z : ℕ). Before order z (link_to l)) p.0 (link_before j order o l p.1) in
+    before_join (count j.history) order a (link_to l) b o.numbering first (along j order (link_to l) b next links o p.2)
 
-pub no_cycle : (h : History) (order : List ℕ) → IsCommitOrder h order → HasCycle h → ⊥
-no_cycle h order o (s, [], (some, p)) = absurd (omega arith)
-no_cycle h order o (s, l ∷ links, (some, p)) = not_itself (count h) order s o.numbering (along h order s s l links o p)
+pub no_cycle : (j : Judged) (order : List ℕ) → IsCommitOrder j order → HasCycle j → ⊥
+no_cycle j order o (s, [], (some, p)) = absurd (omega arith)
+no_cycle j order o (s, l ∷ links, (some, p)) = not_itself (count j.history) order s o.numbering (along j order s s l links o p)
 
 -- ---- picked from the front, either all numbers stand in order or there is a circle
 
@@ -79,10 +80,10 @@ pick precedes n bounds (suc left) done full p = go (search_below (free precedes 
     go (inl found) rest = rest found.0 (next found.0 found.1)
     go (inr none) rest = inr (short_circle precedes n done bounds (λ x f. absurd (false≢true (sym (none x f.below) ∙ test_from_free precedes n done x f))) (omega arith))
 
-commit_of : (h : History) → (HasCycle h → ⊥) → Outcome (linked h) (count h) → (order : List ℕ) × IsCommitOrder h order
-commit_of h none (inl o) = (o.0, commit_from_order h (linked h) o.0 (linked_precedence h) o.1)
-commit_of h none (inr circle) = absurd (none (cycle_from_circle h (linked h) (linked_precedence h) circle))
+commit_of : (j : Judged) → (HasCycle j → ⊥) → Outcome (linked j) (count j.history) → (order : List ℕ) × IsCommitOrder j order
+commit_of j none (inl o) = (o.0, commit_from_order j (linked j) o.0 (linked_precedence j) o.1)
+commit_of j none (inr circle) = absurd (none (cycle_from_circle j (linked j) (linked_precedence j) circle))
 
-pub an_order : (h : History) → (HasCycle h → ⊥) → (order : List ℕ) × IsCommitOrder h order
-an_order h none =
-    commit_of h none (pick (linked h) (count h) (precedence_below h (linked h) (linked_precedence h)) (count h) [] (omega arith) tt)
+pub an_order : (j : Judged) → (HasCycle j → ⊥) → (order : List ℕ) × IsCommitOrder j order
+an_order j none =
+    commit_of j none (pick (linked j) (count j.history) (precedence_below j (linked j) (linked_precedence j)) (count j.history) [] (omega arith) tt)

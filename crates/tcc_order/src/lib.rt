@@ -1,4 +1,4 @@
-//! The first commit order of a history, and the law that there is one exactly where there is no cycle.
+//! The first commit order of a history at a level, and the law that there is one exactly where there is no cycle.
 #![tactic(auto)]
 
 pub mod laws;

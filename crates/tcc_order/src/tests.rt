@@ -1,9 +1,10 @@
 //! Worked histories, with their first commit orders worked out by hand.
 use crate::order;
 use std::alloc::Global;
+use std::process::Abort;
 use std::thread::Threads;
-use tcc_derive::{Prices, derive};
-use tcc_graph::Graph;
+use tcc_derive::derive;
+use tcc_graph::{Graph, Level};
 use tcc_near::near;
 use tcc_reads::resolve;
 use tcc_txn::{NoMemory, snapshot_of};
@@ -15,69 +16,99 @@ fn graph_of(alloc: Global, records: &str) -> Option<Graph> {
     Graph::build(alloc, &resolved).ok()
 }
 
-/// The prices of a graph.
-fn prices_of(rt: &(impl Threads + Sync), alloc: Global, graph: &Graph) -> Result<Prices, NoMemory> {
-    let near = near(rt, alloc, graph)?;
-    derive(rt, alloc, graph, &near)
+/// The first commit order at a level, none where there is a cycle.
+fn order_of(
+    rt: &(impl Threads + Sync),
+    alloc: Global,
+    graph: &Graph,
+    level: Level,
+) -> Result<Option<Vec<u32>>, NoMemory> {
+    let near = near(rt, alloc, graph, level)?;
+    let prices = derive(rt, alloc, graph, &near)?;
+    order(alloc, &prices)
+}
+
+/// The first commit order of these records at a level has to be this, or there has to be none.
+fn assert_order(
+    rt: &(impl Abort + Threads + Sync),
+    alloc: Global,
+    records: &str,
+    level: Level,
+    wanted: Option<&[u32]>,
+) {
+    let Some(graph) = graph_of(alloc, records) else {
+        panic!(rt; "no graph of {records}");
+    };
+    let Ok(found) = order_of(rt, alloc, &graph, level) else {
+        panic!(rt; "no memory");
+    };
+    match found {
+        Some(order) => assert!(rt; Some(order.as_slice()) == wanted, "of {records}"),
+        None => assert!(rt; wanted.is_none(), "of {records}"),
+    }
 }
 
 /// Nothing stands before `init`, a source stands before its reader, a writer that reaches a reader of another's value
 /// stands before the other, and what nothing holds back comes by number. There is no order where a reader of the initial
-/// value stands behind a writer, and where two read from one another.
+/// value stands behind a writer, and where two read from one another. At `Atomic` a writer that reaches the reader by
+/// more than one pair holds nothing back.
 #[test]
 fn first_orders(rt: HostRuntime) {
     let alloc = rt.alloc();
-    let cases: [(&str, Option<&[u32]>); 9] = [
-        ("", Some(&[0])),
+    let cases: [(&str, Option<&[u32]>, Option<&[u32]>); 10] = [
+        ("", Some(&[0]), Some(&[0])),
         (
             "a,begin\na,w,x,1\na,commit\nb,begin\nb,w,y,1\nb,commit\n\
             c,begin\nc,r,x,1\nc,r,y,0\nc,commit\nd,begin\nd,r,x,0\nd,r,y,1\nd,commit\n",
+            Some(&[0, 1, 2, 3, 4]),
             Some(&[0, 1, 2, 3, 4]),
         ),
         (
             "a,begin\na,r,x,0\na,w,x,1\na,commit\nb,begin\nb,r,x,0\nb,w,x,2\nb,commit\n",
             Some(&[0, 1, 2]),
+            Some(&[0, 1, 2]),
         ),
         (
             "a,begin\na,r,x,1\na,commit\nb,begin\nb,w,x,1\nb,commit\n",
             Some(&[0, 2, 1]),
+            Some(&[0, 2, 1]),
         ),
         (
             "a,begin\na,r,x,1\na,commit\nb,begin\nb,w,y,1\nb,commit\nc,begin\nc,w,x,1\nc,commit\n",
+            Some(&[0, 2, 3, 1]),
             Some(&[0, 2, 3, 1]),
         ),
         (
             "a,begin\na,w,x,1\na,commit\nb,begin\nb,w,x,2\nb,w,y,1\nb,commit\n\
             c,begin\nc,r,y,1\nc,r,x,1\nc,commit\n",
             Some(&[0, 2, 1, 3]),
+            Some(&[0, 2, 1, 3]),
         ),
         (
             "a,begin\na,w,x,1\na,commit\nb,begin\nb,w,x,2\nb,w,y,1\nb,commit\n\
             c,begin\nc,r,y,1\nc,w,z,1\nc,commit\nd,begin\nd,r,z,1\nd,r,x,1\nd,commit\n",
             Some(&[0, 2, 1, 3, 4]),
+            Some(&[0, 1, 2, 3, 4]),
         ),
         (
             "a,begin\na,w,x,1\na,commit\na,begin\na,r,x,0\na,commit\n",
             None,
+            None,
+        ),
+        (
+            "a,begin\na,w,x,1\na,commit\nb,begin\nb,r,x,1\nb,w,y,1\nb,commit\n\
+            c,begin\nc,r,y,1\nc,r,x,0\nc,commit\n",
+            None,
+            Some(&[0, 1, 2, 3]),
         ),
         (
             "a,begin\na,w,x,1\na,r,y,1\na,commit\nb,begin\nb,w,y,1\nb,r,x,1\nb,commit\n",
             None,
+            None,
         ),
     ];
-    for (records, wanted) in cases {
-        let Some(graph) = graph_of(alloc, records) else {
-            panic!(rt; "no graph of {records}");
-        };
-        let Ok(prices) = prices_of(&rt, alloc, &graph) else {
-            panic!(rt; "no memory");
-        };
-        let Ok(found) = order(alloc, &prices) else {
-            panic!(rt; "no memory");
-        };
-        match found {
-            Some(order) => assert!(rt; Some(order.as_slice()) == wanted, "of {records}"),
-            None => assert!(rt; wanted.is_none(), "of {records}"),
-        }
+    for (records, causal, atomic) in cases {
+        assert_order(&rt, alloc, records, Level::Causal, causal);
+        assert_order(&rt, alloc, records, Level::Atomic, atomic);
     }
 }

@@ -14,7 +14,7 @@ use Rattle.tcc_reads.specs.declared.fault.ResolveFault.{ResolveFault}
 use Rattle.tcc_reads.specs.declared.fault.ResolveFault.TheVariants as refusal
 use Rattle.tcc_run.specs.declared.judged.Judged.{Judged}
 use Rattle.tcc_run.specs.declared.halt.Halt.{Halt}
-use Rattle.tcc_run.specs.declared.halt.Halt.TheVariants.{Seal, Row, Reads, Text, NoMemory}
+use Rattle.tcc_run.specs.declared.halt.Halt.TheVariants.{Row, Reads, Text, NoMemory}
 use Rattle.tcc_run.specs.Stages.{MayBeTextCheck, by_row, is_memory, unresolved_by, IsResolution, IsHistoryOf}
 use Rattle.tcc_run.specs.Checks.{IsTextCheck, IsRecordsCheck, IsCheck, MayBeCheck}
 
@@ -79,7 +79,6 @@ no_history records text (Row fault) (inr read) =
 no_history records text (Reads faults) is =
     inl (subst (λ found. IsRecordsCheck (answers_of records).items found text (Err (Reads faults))) (sym is.0) (inl is.1))
 no_history records text (Text fault) is = absurd is
-no_history records text Seal is = absurd is
 no_history records text NoMemory is = inr (inr refl)
 
 pub no_history_by : (records text : List ℕ) (why : Halt) (o : Result Judged Halt)

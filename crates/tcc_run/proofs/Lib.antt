@@ -1,6 +1,9 @@
 pub mod Checked
 pub mod Shown
 pub mod Reach
-pub mod Outcomes
+pub mod Counted
+pub mod Moments
+pub mod Runs
+pub mod Sent
 pub mod NoFloats
 mod WorkedTexts

@@ -22,7 +22,7 @@ use Rattle.tcc_check.specs.declared.verdict.Verdict.{Verdict}
 use Rattle.tcc_check.specs.declared.verdict.Verdict.TheVariants as verdict
 use Rattle.tcc_run.specs.declared.judged.Judged.{Judged}
 use Rattle.tcc_run.specs.declared.halt.Halt.{Halt}
-use Rattle.tcc_run.specs.declared.halt.Halt.TheVariants.{Seal, Row, Reads, Text, NoMemory}
+use Rattle.tcc_run.specs.declared.halt.Halt.TheVariants.{Row, Reads, Text, NoMemory}
 use Rattle.tcc_run.specs.declared.status.Status.{Status}
 use Rattle.tcc_run.specs.declared.status.Status.TheVariants as status
 use Rattle.tcc_run.specs.Statuses.{certificate_status, check_status, code_of, row_status, verdict_status}
@@ -111,7 +111,6 @@ module _ (certified : (h : History) (k : Certificate) → Certifies h k → IsTr
   of_outcome records text (Err (Row fault)) may success = absurd (row_fails fault.kind success)
   of_outcome records text (Err (Reads faults)) may success = let bad : ⊥ = cc in absurd bad
   of_outcome records text (Err (Text fault)) may success = absurd (text_fails fault.kind success)
-  of_outcome records text (Err Seal) may success = let bad : ⊥ = cc in absurd bad
   of_outcome records text (Err NoMemory) may success = let bad : ⊥ = cc in absurd bad
 
   pub shown : (records text : List ℕ) (before after : Option (List ℕ)) (code : ℕ) → IsCheckRun records text before after code

@@ -39,9 +39,8 @@ row_fault_json fault = object
     (member (codes "row") (number (unsigned fault.row))
     (row_session_json fault.kind))))
 
--- what stands in the place of an answer; a refused seal, and a fault of a certificate, of which no JSON is made, as in the text
+-- what stands in the place of an answer; a fault of a certificate, of which no JSON is made, as in the text
 abbrev pub halt_line : Halt → List ℕ
-halt_line halt.Seal = codes "refused\n"
 halt_line (halt.Row fault) = json_line (row_fault_json fault)
 halt_line (halt.Reads faults) = json_line (unresolved_json faults.items)
 halt_line (halt.Text fault) = certificate_fault_text fault

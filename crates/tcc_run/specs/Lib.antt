@@ -3,7 +3,7 @@ pub mod Statuses
 pub mod Texts
 pub mod Json
 pub mod Printed
-pub mod Outcomes
+pub mod Runs
 pub mod Checks
 -- what serves the proofs alone
 pub mod Stages

@@ -1,6 +1,7 @@
--- What is printed of an outcome, as text and as JSON, and how it goes out.
+-- What is printed, as text and as JSON, and how it goes out.
 use Rattle.std.specs.Prelude.{ℕ, ◌≡◌, ◌⊎◌, Bool, List, take, Option, Result, Ok, Err, if◌then◌else◌}
 use Rattle.std.specs.Io.KnownBytes.{Appends}
+use Rattle.tcc_reads.specs.declared.fault.ReadFault.{ReadFault}
 use Rattle.tcc_answer.specs.Texts.{answer_text}
 use Rattle.tcc_answer.specs.Json.{answer_json, json_line}
 use Rattle.tcc_answer.specs.declared.answer.Answer.{Answer}
@@ -10,12 +11,16 @@ use Rattle.tcc_run.specs.declared.judged.Judged.{Judged}
 use Rattle.tcc_run.specs.declared.status.Status.{Status}
 use Rattle.tcc_run.specs.declared.status.Status.TheVariants.{Device}
 use Rattle.tcc_run.specs.Statuses.{code_of}
-use Rattle.tcc_run.specs.Texts.{halt_text, verdict_text}
-use Rattle.tcc_run.specs.Json.{halt_line}
+use Rattle.tcc_run.specs.Texts.{halt_text, unresolved_text, verdict_text}
+use Rattle.tcc_run.specs.Json.{halt_line, unresolved_json}
 
 -- the answer as text, or as one line of JSON
 abbrev pub answered : Bool → Answer → List ℕ
 answered json answer = if json then json_line (answer_json answer) else answer_text answer
+
+-- all read faults, in the place of an answer
+abbrev pub unresolved : Bool → List ReadFault → List ℕ
+unresolved json faults = if json then json_line (unresolved_json faults) else unresolved_text faults
 
 -- what stands in the place of an answer
 abbrev pub halted : Bool → Halt → List ℕ
@@ -24,11 +29,6 @@ halted json why = if json then halt_line why else halt_text why
 -- the line for want of memory
 abbrev pub memory_line : Bool → List ℕ
 memory_line json = halted json NoMemory
-
--- what a run of explain prints
-abbrev pub printed : Bool → Result Answer Halt → List ℕ
-printed json (Ok answer) = answered json answer
-printed json (Err why) = halted json why
 
 -- what a run of check prints
 abbrev pub check_text : Result Judged Halt → List ℕ

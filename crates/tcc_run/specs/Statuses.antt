@@ -70,16 +70,10 @@ certificate_status text_kind.NoMemory = Memory
 
 -- how a run ends that has no answer or no verdict
 abbrev pub halt_status : Halt → Status
-halt_status halt.Seal = RowFault
 halt_status (halt.Row fault) = row_status fault.kind
 halt_status (halt.Reads faults) = ReadFaults
 halt_status (halt.Text fault) = certificate_status fault.kind
 halt_status halt.NoMemory = Memory
-
--- how a run of explain ends with this outcome
-abbrev pub status_of : Result Answer Halt → Status
-status_of (Ok answer) = answer_status answer
-status_of (Err why) = halt_status why
 
 -- how a run of check ends with this outcome
 abbrev pub check_status : Result Judged Halt → Status

@@ -105,7 +105,6 @@ verdict_text k (verdict.Rejected rule at) = rejected_text rule at
 
 -- what stands in the place of an answer or a verdict
 abbrev pub halt_text : Halt → List ℕ
-halt_text halt.Seal = codes "refused\n"
 halt_text (halt.Row fault) = row_fault_text fault
 halt_text (halt.Reads faults) = unresolved_text faults.items
 halt_text (halt.Text fault) = certificate_fault_text fault

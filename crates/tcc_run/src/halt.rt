@@ -1,18 +1,15 @@
 //! Why a run has no answer or no verdict.
 ghost use Rattle.std.specs.Prelude.{◌≡◌};
-ghost use Rattle.tcc_run.specs.Stages.{by_row, by_text, refused_by, unresolved_by};
+ghost use Rattle.tcc_run.specs.Stages.{by_row, by_text, unresolved_by};
 ghost use Rattle.tcc_run.specs.declared.halt.Halt.TheVariants as halt;
 
 use tcc_cert::{CertFault, CertFaultKind};
-use tcc_explain::ExplainFault;
 use tcc_reads::{ReadFault, ResolveFault};
 use tcc_txn::{NoMemory, RowFault, RowFaultKind};
 
 /// Why there is no answer for a history, or no verdict on a certificate for it.
 #[derive(Drop)]
 pub enum Halt {
-    /// The records have a seal, which has no answer of its own.
-    Seal,
     /// A record has a fault, other than want of memory.
     Row(RowFault),
     /// The history has read faults; all of them.
@@ -49,17 +46,6 @@ impl From<ResolveFault> for Halt {
         match fault {
             ResolveFault::Reads(faults) => Halt::Reads(faults),
             ResolveFault::NoMemory => Halt::NoMemory,
-        }
-    }
-}
-
-impl From<ExplainFault> for Halt {
-    ghost from_gives = { λ fault h. h ≡ refused_by fault };
-
-    fn from(fault: ExplainFault) -> Halt {
-        match fault {
-            ExplainFault::Reads(faults) => Halt::Reads(faults),
-            ExplainFault::NoMemory => Halt::NoMemory,
         }
     }
 }

@@ -7,7 +7,7 @@ ghost use Rattle.tcc_answer.specs.Json.{json_line};
 ghost use Rattle.tcc_run.specs.Json.{halt_line, read_fault_json, row_fault_json, unresolved_json};
 
 use crate::halt::Halt;
-use crate::texts::{certificate_fault, halt_text, read_word, row_word};
+use crate::texts::{certificate_fault, read_word, row_word};
 use serde_json::{Value, json};
 use std::alloc::{AllocError, Global};
 use tcc_answer::pieces::push;
@@ -107,7 +107,6 @@ pub fn halt_line(alloc: Global, halt: &Halt) -> Result<Vec<u8>, NoMemory>
         Halt::Row(fault) => row_fault(alloc, fault),
         Halt::Reads(faults) => unresolved(alloc, faults),
         Halt::Text(fault) => certificate_fault(alloc, fault),
-        Halt::Seal => halt_text(alloc, halt),
         Halt::NoMemory => Err(NoMemory),
     }
 }

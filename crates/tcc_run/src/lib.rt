@@ -7,6 +7,7 @@ mod explain;
 mod halt;
 pub mod json;
 mod judged;
+mod options;
 pub mod printing;
 mod status;
 pub mod texts;
@@ -16,6 +17,7 @@ pub use check::run_check;
 pub use explain::run_explain;
 pub use halt::Halt;
 pub use judged::Judged;
+pub use options::Options;
 pub use status::Status;
 pub use verdicts::verdict_text;
 

@@ -1,19 +1,21 @@
 //! How texts go out, and the number that a run then ends with.
-ghost use Rattle.std.specs.Prelude.{◌≡◌, ℕ, List, IfOk, false};
-ghost use Rattle.tcc_run.specs.Printed.{Prints, answered, check_text, halted, memory_line, printed};
-ghost use Rattle.tcc_run.specs.Stages.{PrintsOrMemory};
-ghost use Rattle.tcc_run.specs.Statuses.{answer_status, check_status, halt_status, status_of};
+ghost use Rattle.std.specs.Prelude.{◌≡◌, ℕ, List, IfErr, IfOk, MatchResult, OnOk, false};
+ghost use Rattle.std.specs.Io.KnownBytes.{Appends};
+ghost use Rattle.tcc_run.specs.Printed.{Prints, answered, check_text, halted, memory_line, unresolved};
+ghost use Rattle.tcc_run.specs.Stages.{CutsOff, EndsIn, PrintsOrMemory};
+ghost use Rattle.tcc_run.specs.Statuses.{check_status, code_of, halt_status};
 
 use crate::halt::Halt;
-use crate::json::halt_line;
+use crate::json::{halt_line, unresolved as unresolved_line};
 use crate::judged::Judged;
-use crate::status::{Status, answer_status, halt_status, verdict_status};
-use crate::texts::halt_text;
+use crate::status::{Status, halt_status, verdict_status};
+use crate::texts::{halt_text, unresolved as unresolved_text};
 use crate::verdicts::verdict_text;
 use std::alloc::Global;
 use std::io::Write;
 use tcc_answer::{Answer, WriteFault, write_json, write_text};
 use tcc_cert::sending::send;
+use tcc_reads::ReadFault;
 use tcc_txn::NoMemory;
 
 /// The line for want of memory.
@@ -27,13 +29,34 @@ fn memory_line(json: bool) -> &'static [u8]
     }
 }
 
+/// Writes the text; else a writer that failed ends the run, with this number.
+fn send_text<W: Write>(out: &mut W, text: &[u8]) -> Result<(), u8>
+    ensures whole { OnOk result (Appends (W.contents out.old) (W.contents out.new) text.now) }
+    ensures ended { IfErr result (CutsOff (W.contents out.old) (W.contents out.new) text.now) }
+{
+    match send(out, text) {
+        Ok(()) => Ok(()),
+        Err(_) => Err(Status::Device.code()),
+    }
+}
+
+/// The number of a run whose last text has this status, if it went out.
+fn code_after(sent: Result<(), u8>, status: Status) -> u8
+    ensures { MatchResult sent (λ _. result ≡ code_of status) (λ code. result ≡ code) }
+{
+    match sent {
+        Ok(()) => status.code(),
+        Err(code) => code,
+    }
+}
+
 /// Writes the text, and gives the number that the run ends with: that of the status, or of a writer that failed.
 pub fn print_text<W: Write>(out: &mut W, text: &[u8], status: Status) -> u8
     ensures { Prints (W.contents out.old) (W.contents out.new) text.now status result }
 {
-    match send(out, text) {
+    match send_text(out, text) {
         Ok(()) => status.code(),
-        Err(_) => Status::Device.code(),
+        Err(code) => code,
     }
 }
 
@@ -45,24 +68,27 @@ pub fn print_memory<W: Write>(out: &mut W, json: bool) -> u8
     print_text(out, memory_line(json), Status::Memory)
 }
 
-/// Writes the text that was made, or that there was no memory for it, and gives the number that the run ends with.
-fn print_made<W: Write>(
-    made: Result<Vec<u8>, NoMemory>,
-    status: Status,
-    json: bool,
-    out: &mut W,
-) -> u8
-    ensures { (text : List ℕ) → IfOk made (λ whole. whole.items ≡ text) → PrintsOrMemory json (W.contents out.old) (W.contents out.new) text status result }
+/// Writes the text that was made; else a writer that failed, or want of memory for the text, ends the run, with this
+/// number.
+fn send_made<W: Write>(made: Result<Vec<u8>, NoMemory>, json: bool, out: &mut W) -> Result<(), u8>
+    ensures whole { (text : List ℕ) → IfOk made (λ bytes. bytes.items ≡ text) → OnOk result (Appends (W.contents out.old) (W.contents out.new) text) }
+    ensures ended { (text : List ℕ) → IfOk made (λ bytes. bytes.items ≡ text) → IfErr result (EndsIn json (W.contents out.old) (W.contents out.new) text) }
 {
     match made {
-        Ok(text) => print_text(out, &text, status),
-        Err(NoMemory) => print_memory(out, json),
+        Ok(text) => send_text(out, &text),
+        Err(NoMemory) => Err(print_memory(out, json)),
     }
 }
 
-/// Writes the answer as text or as a line of JSON, and gives the number that the run ends with.
-fn print_answer<W: Write>(alloc: Global, answer: &Answer, json: bool, out: &mut W) -> u8
-    ensures { PrintsOrMemory json (W.contents out.old) (W.contents out.new) (answered json answer.now) (answer_status answer.now) result }
+/// Writes the answer as text or as a line of JSON; else the run ends with this number.
+pub fn send_answer<W: Write>(
+    alloc: Global,
+    answer: &Answer,
+    json: bool,
+    out: &mut W,
+) -> Result<(), u8>
+    ensures whole { OnOk result (Appends (W.contents out.old) (W.contents out.new) (answered json answer.now)) }
+    ensures ended { IfErr result (EndsIn json (W.contents out.old) (W.contents out.new) (answered json answer.now)) }
 {
     let written = if json {
         write_json(alloc, answer, out)
@@ -70,14 +96,32 @@ fn print_answer<W: Write>(alloc: Global, answer: &Answer, json: bool, out: &mut 
         write_text(alloc, answer, out)
     };
     match written {
-        Ok(()) => answer_status(answer).code(),
-        Err(WriteFault::Device) => Status::Device.code(),
-        Err(WriteFault::NoMemory) => print_memory(out, json),
+        Ok(()) => Ok(()),
+        Err(WriteFault::Device) => Err(Status::Device.code()),
+        Err(WriteFault::NoMemory) => Err(print_memory(out, json)),
     }
 }
 
+/// Writes all read faults, as text or as a line of JSON; else the run ends with this number.
+pub fn send_unresolved<W: Write>(
+    alloc: Global,
+    faults: &[ReadFault],
+    json: bool,
+    out: &mut W,
+) -> Result<(), u8>
+    ensures whole { OnOk result (Appends (W.contents out.old) (W.contents out.new) (unresolved json faults.now)) }
+    ensures ended { IfErr result (EndsIn json (W.contents out.old) (W.contents out.new) (unresolved json faults.now)) }
+{
+    let made = if json {
+        unresolved_line(alloc, faults)
+    } else {
+        unresolved_text(alloc, faults)
+    };
+    send_made(made, json, out)
+}
+
 /// Writes what stands in the place of an answer or a verdict, and gives the number that the run ends with.
-fn print_halt<W: Write>(alloc: Global, halt: &Halt, json: bool, out: &mut W) -> u8
+pub fn print_halt<W: Write>(alloc: Global, halt: &Halt, json: bool, out: &mut W) -> u8
     ensures { PrintsOrMemory json (W.contents out.old) (W.contents out.new) (halted json halt.now) (halt_status halt.now) result }
 {
     let made = if json {
@@ -85,23 +129,7 @@ fn print_halt<W: Write>(alloc: Global, halt: &Halt, json: bool, out: &mut W) -> 
     } else {
         halt_text(alloc, halt)
     };
-    print_made(made, halt_status(halt), json, out)
-}
-
-/// Writes the outcome as text or as a line of JSON, and gives the number that the run ends with. Where memory is wanting,
-/// that is written in its place.
-pub fn print_outcome<W: Write>(
-    alloc: Global,
-    outcome: &Result<Answer, Halt>,
-    json: bool,
-    out: &mut W,
-) -> u8
-    ensures { PrintsOrMemory json (W.contents out.old) (W.contents out.new) (printed json outcome.now) (status_of outcome.now) result }
-{
-    match outcome {
-        Ok(answer) => print_answer(alloc, answer, json, out),
-        Err(halt) => print_halt(alloc, halt, json, out),
-    }
+    code_after(send_made(made, json, out), halt_status(halt))
 }
 
 /// Writes the outcome of a check, and gives the number that the run ends with. Where memory is wanting, that is written in
@@ -112,7 +140,7 @@ pub fn print_check<W: Write>(alloc: Global, outcome: &Result<Judged, Halt>, out:
     match outcome {
         Ok(judged) => {
             let status = verdict_status(judged.verdict);
-            print_made(verdict_text(alloc, judged), status, false, out)
+            code_after(send_made(verdict_text(alloc, judged), false, out), status)
         }
         Err(halt) => print_halt(alloc, halt, false, out),
     }

@@ -105,7 +105,6 @@ pub fn halt_status(halt: &Halt) -> Status
     ensures { result ≡ halt_status halt.now }
 {
     match halt {
-        Halt::Seal => Status::RowFault,
         Halt::Row(fault) => row_status(&fault.kind),
         Halt::Reads(_) => Status::ReadFaults,
         Halt::Text(fault) => certificate_status(fault.kind),

@@ -1,5 +1,5 @@
 //! Each run on its happy path; readers that fail in mid-stream, and writers that refuse once.
-use crate::{run_check, run_explain};
+use crate::{Options, run_check, run_explain};
 use std::alloc::Global;
 use std::io::{self, ErrorKind, Read, Write};
 use std::process::Abort;
@@ -29,6 +29,25 @@ const STALE_JSON: &str =
     \"walk\":[{\"from\":\"a/1\",\"kind\":\"session\",\"to\":\"a/2\"}]}],\
     \"shape\":\"stale-initial-read\",\"steps\":3}\n";
 
+// Two transactions, a seal, and one more.
+const SEALED: &str = "a,begin\na,w,x,1\na,commit\na,begin\na,w,y,1\na,commit\nseal\n\
+    b,begin\nb,r,y,1\nb,r,x,0\nb,commit\n";
+
+const SEALED_TEXT: &str = "consistent: 2 transactions, 1 sessions\norder: init a/1 a/2\n";
+
+const SEALED_TEXTS: &str = "consistent: 2 transactions, 1 sessions\norder: init a/1 a/2\n\
+    anomaly: 4 steps, stale-initial-read\nsession init -> a/1\n\
+    derived a/1 -> init by x, read by b/1\n  session a/1 -> a/2\n  reads a/2 -> b/1 by y\n  \
+    against init -> b/1 by x\n";
+
+const SEALED_JSON: &str = "{\"answer\":\"consistent\",\
+    \"order\":[\"init\",\"a/1\",\"a/2\"],\"sessions\":1,\"transactions\":2}\n\
+    {\"answer\":\"anomaly\",\"cycle\":[{\"from\":\"init\",\"kind\":\"session\",\"to\":\"a/1\"},\
+    {\"from\":\"a/1\",\"key\":\"x\",\"kind\":\"derived\",\"reader\":\"b/1\",\"to\":\"init\",\
+    \"walk\":[{\"from\":\"a/1\",\"kind\":\"session\",\"to\":\"a/2\"},\
+    {\"from\":\"a/2\",\"key\":\"y\",\"kind\":\"reads\",\"to\":\"b/1\"}]}],\
+    \"shape\":\"stale-initial-read\",\"steps\":4}\n";
+
 const STALE_SEALED: &str = "seal\na,begin\na,w,x,1\na,commit\nseal\na,begin\na,r,x,0\na,commit\n";
 
 const STALE_CERTIFICATE: &str = "tcc-certificate 1\ncycle 3 2 3\nS 0 1\nD 1 0 x 2 1\nS 1 2\n\
@@ -48,7 +67,7 @@ const UNFINISHED_JSON: &str =
     "{\"answer\":\"row\",\"kind\":\"Unfinished\",\"row\":3,\"session\":\"a\"}\n";
 
 // Records that are explained, as text or as JSON: what goes out, and the number of the end.
-const EXPLAINED: [(&str, bool, &str, u8); 9] = [
+const EXPLAINED: [(&str, bool, &str, u8); 8] = [
     (LONG_FORK, false, LONG_FORK_TEXT, 0),
     (LONG_FORK, true, LONG_FORK_JSON, 0),
     (STALE, false, STALE_TEXT, 1),
@@ -57,7 +76,24 @@ const EXPLAINED: [(&str, bool, &str, u8); 9] = [
     (UNRESOLVED, true, UNRESOLVED_JSON, 2),
     (UNFINISHED, false, "row 3: Unfinished a\n", 3),
     (UNFINISHED, true, UNFINISHED_JSON, 3),
-    ("seal\n", true, "refused\n", 3),
+];
+
+// Records with seals, in the same way.
+const EXPLAINED_AT_SEALS: [(&str, bool, &str, u8); 4] = [
+    (SEALED, false, SEALED_TEXTS, 1),
+    (SEALED, true, SEALED_JSON, 1),
+    (
+        "seal\n",
+        false,
+        "consistent: 0 transactions, 0 sessions\norder: init\n",
+        0,
+    ),
+    (
+        "a,begin\na,r,x,5\na,commit\nseal\nb,commit\n",
+        false,
+        "unresolved: 1 faults\nThinAir a/1 op 1 x 5\nrow 5: NotBegun\n",
+        3,
+    ),
 ];
 
 // Records and certificates that are checked: what goes out, and the number of the end.
@@ -76,13 +112,21 @@ const CHECKED: [(&str, &str, &str, u8); 7] = [
     (UNFINISHED, "ring\n", "row 3: Unfinished a\n", 3),
 ];
 
+fn is_explained(rt: &(impl Abort + Threads + Sync), alloc: Global, row: (&str, bool, &str, u8)) {
+    let (records, json, text, status) = row;
+    let mut out = Vec::new(alloc);
+    let code = run_explain(rt, alloc, records.as_bytes(), &mut out, Options { json });
+    assert_eq!(rt; out.as_slice(), text.as_bytes(), "for {records:?}");
+    assert_eq!(rt; code, status, "for {records:?}");
+}
+
 #[test]
 fn explained(rt: HostRuntime) -> Result<(), Fail> {
-    for (records, json, text, status) in EXPLAINED {
-        let mut out = Vec::new(rt.alloc());
-        let code = run_explain(&rt, rt.alloc(), records.as_bytes(), &mut out, json);
-        assert_eq!(&rt; out.as_slice(), text.as_bytes(), "for {records:?}");
-        assert_eq!(&rt; code, status, "for {records:?}");
+    for row in EXPLAINED {
+        is_explained(&rt, rt.alloc(), row);
+    }
+    for row in EXPLAINED_AT_SEALS {
+        is_explained(&rt, rt.alloc(), row);
     }
     Ok(())
 }
@@ -136,16 +180,51 @@ fn readers_of_records_fail(rt: HostRuntime) -> Result<(), Fail> {
         let row = line_after(read);
         let text = format!(in alloc; "row {row}: Read\n")?;
         let mut out = Vec::new(alloc);
-        let code = run_explain(&rt, alloc, Broken { bytes: read }, &mut out, false);
+        let code = run_explain(
+            &rt,
+            alloc,
+            Broken { bytes: read },
+            &mut out,
+            Options { json: false },
+        );
         assert_eq!(&rt; out.as_slice(), text.as_bytes(), "after {bytes} bytes");
         assert_eq!(&rt; code, 6);
         let line = format!(in alloc; "{{\"answer\":\"row\",\"kind\":\"Read\",\"row\":{row}}}\n")?;
         let mut out = Vec::new(alloc);
-        let code = run_explain(&rt, alloc, Broken { bytes: read }, &mut out, true);
+        let code = run_explain(
+            &rt,
+            alloc,
+            Broken { bytes: read },
+            &mut out,
+            Options { json: true },
+        );
         assert_eq!(&rt; out.as_slice(), line.as_bytes(), "after {bytes} bytes");
         assert_eq!(&rt; code, 6);
         let mut out = Vec::new(alloc);
         let code = run_check(alloc, Broken { bytes: read }, b"".as_slice(), &mut out);
+        assert_eq!(&rt; out.as_slice(), text.as_bytes(), "after {bytes} bytes");
+        assert_eq!(&rt; code, 6);
+    }
+    Ok(())
+}
+
+// What was answered before the reader failed stands.
+#[test]
+fn answers_stand_where_readers_fail(rt: HostRuntime) -> Result<(), Fail> {
+    let alloc = rt.alloc();
+    for bytes in 0..SEALED.len() + 1 {
+        let read = &SEALED.as_bytes()[..bytes];
+        let row = line_after(read);
+        let answered = if row > 7 { SEALED_TEXT } else { "" };
+        let text = format!(in alloc; "{answered}row {row}: Read\n")?;
+        let mut out = Vec::new(alloc);
+        let code = run_explain(
+            &rt,
+            alloc,
+            Broken { bytes: read },
+            &mut out,
+            Options { json: false },
+        );
         assert_eq!(&rt; out.as_slice(), text.as_bytes(), "after {bytes} bytes");
         assert_eq!(&rt; code, 6);
     }
@@ -256,7 +335,7 @@ fn explain_stops(
     let (records, json, text, status) = row;
     for room in 0..text.len() + 1 {
         let mut out = refusing(alloc, room, refusal);
-        let code = run_explain(rt, alloc, records.as_bytes(), &mut out, json);
+        let code = run_explain(rt, alloc, records.as_bytes(), &mut out, Options { json });
         stopped(rt, &out, text, status, code);
     }
 }
@@ -277,6 +356,9 @@ fn writers_of_answers_fail(rt: HostRuntime) -> Result<(), Fail> {
             explain_stops(&rt, rt.alloc(), row, refusal);
         }
     }
+    for row in EXPLAINED_AT_SEALS {
+        explain_stops(&rt, rt.alloc(), row, Refusal::NoBytes);
+    }
     Ok(())
 }
 
@@ -296,7 +378,7 @@ fn flushes_fail(rt: HostRuntime) -> Result<(), Fail> {
     let alloc = rt.alloc();
     for (records, json, text, status) in EXPLAINED {
         let mut out = refusing(alloc, text.len(), Refusal::Flush);
-        let code = run_explain(&rt, alloc, records.as_bytes(), &mut out, json);
+        let code = run_explain(&rt, alloc, records.as_bytes(), &mut out, Options { json });
         stopped(&rt, &out, text, status, code);
     }
     for (records, certificate, text, status) in CHECKED {

@@ -157,7 +157,6 @@ pub fn halt_text(alloc: Global, halt: &Halt) -> Result<Vec<u8>, NoMemory>
     ensures { IfOk result (λ text. text.items ≡ halt_text halt.now) }
 {
     match halt {
-        Halt::Seal => Ok(b"refused\n".to_vec(alloc)?),
         Halt::Row(fault) => row_fault(alloc, fault),
         Halt::Reads(faults) => unresolved(alloc, faults),
         Halt::Text(fault) => certificate_fault(alloc, fault),

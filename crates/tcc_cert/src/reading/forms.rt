@@ -3,8 +3,8 @@ ghost use Rattle.std.specs.Prelude.{◌≡◌, map};
 ghost use Rattle.tcc_cert.specs.Reading.{count_of, cycle_sizes, derived_of, five_words, head_line, head_of_step, key_of, order_sizes, reads_of, session_of, sizes_line, step_line, three_words, transaction_of, two_words};
 
 use super::decimals::number_of;
-use crate::CertFaultKind;
-use crate::version_1::{V1_MAX_COST, V1_MAX_COUNT, V1_MAX_NUMBER, V1_MAX_SESSIONS};
+use crate::ranges::ranges_of;
+use crate::{CertFaultKind, Version};
 use std::alloc::Global;
 use tcc_graph::{Link, Step, Walk};
 use tcc_txn::Name;
@@ -31,17 +31,17 @@ pub(crate) enum Sizes {
 }
 
 /// The number of a transaction.
-fn transaction_of(word: &[u8]) -> Result<u32, CertFaultKind>
-    ensures { result ≡ transaction_of word.now }
+fn transaction_of(version: Version, word: &[u8]) -> Result<u32, CertFaultKind>
+    ensures { result ≡ transaction_of version word.now }
 {
-    number_of(word, 0, V1_MAX_NUMBER)
+    number_of(word, 0, ranges_of(version).number)
 }
 
 /// How many transactions, links or steps.
-fn count_of(word: &[u8]) -> Result<u32, CertFaultKind>
-    ensures { result ≡ count_of word.now }
+fn count_of(version: Version, word: &[u8]) -> Result<u32, CertFaultKind>
+    ensures { result ≡ count_of version word.now }
 {
-    number_of(word, 1, V1_MAX_COUNT)
+    number_of(word, 1, ranges_of(version).count)
 }
 
 fn key_of(word: &[u8]) -> Result<Name, CertFaultKind>
@@ -54,57 +54,57 @@ fn key_of(word: &[u8]) -> Result<Name, CertFaultKind>
 }
 
 /// `u v`
-fn session_of(from: &[u8], to: &[u8]) -> Result<Step, CertFaultKind>
-    ensures { result ≡ session_of from.now to.now }
+fn session_of(version: Version, from: &[u8], to: &[u8]) -> Result<Step, CertFaultKind>
+    ensures { result ≡ session_of version from.now to.now }
 {
     Ok(Step::Session {
-        from: transaction_of(from)?,
-        to: transaction_of(to)?,
+        from: transaction_of(version, from)?,
+        to: transaction_of(version, to)?,
     })
 }
 
 /// `u v KEY`
-fn reads_of(from: &[u8], to: &[u8], key: &[u8]) -> Result<Step, CertFaultKind>
-    ensures { result ≡ reads_of from.now to.now key.now }
+fn reads_of(version: Version, from: &[u8], to: &[u8], key: &[u8]) -> Result<Step, CertFaultKind>
+    ensures { result ≡ reads_of version from.now to.now key.now }
 {
     Ok(Step::Reads {
-        from: transaction_of(from)?,
-        to: transaction_of(to)?,
+        from: transaction_of(version, from)?,
+        to: transaction_of(version, to)?,
         key: key_of(key)?,
     })
 }
 
 /// What stands behind `S`.
-fn session_fields(fields: &[&[u8]]) -> Result<Step, CertFaultKind>
-    ensures { result ≡ two_words session_of (map (λ word. word.now) fields.now) }
+fn session_fields(version: Version, fields: &[&[u8]]) -> Result<Step, CertFaultKind>
+    ensures { result ≡ two_words (session_of version) (map (λ word. word.now) fields.now) }
 {
     match fields {
-        [from, to] => session_of(from, to),
+        [from, to] => session_of(version, from, to),
         _ => Err(CertFaultKind::Count),
     }
 }
 
 /// What stands behind `R`.
-fn reads_fields(fields: &[&[u8]]) -> Result<Step, CertFaultKind>
-    ensures { result ≡ three_words reads_of (map (λ word. word.now) fields.now) }
+fn reads_fields(version: Version, fields: &[&[u8]]) -> Result<Step, CertFaultKind>
+    ensures { result ≡ three_words (reads_of version) (map (λ word. word.now) fields.now) }
 {
     match fields {
-        [from, to, key] => reads_of(from, to, key),
+        [from, to, key] => reads_of(version, from, to, key),
         _ => Err(CertFaultKind::Count),
     }
 }
 
 /// The line of a step.
-pub(crate) fn step_line(words: &[&[u8]]) -> Result<Step, CertFaultKind>
-    ensures { result ≡ step_line (map (λ word. word.now) words.now) }
+pub(crate) fn step_line(version: Version, words: &[&[u8]]) -> Result<Step, CertFaultKind>
+    ensures { result ≡ step_line version (map (λ word. word.now) words.now) }
 {
     let Some((word, fields)) = words.split_first() else {
         return Err(CertFaultKind::Word);
     };
     if *word == b"S".as_slice() {
-        session_fields(fields)
+        session_fields(version, fields)
     } else if *word == b"R".as_slice() {
-        reads_fields(fields)
+        reads_fields(version, fields)
     } else {
         Err(CertFaultKind::Word)
     }
@@ -113,33 +113,34 @@ pub(crate) fn step_line(words: &[&[u8]]) -> Result<Step, CertFaultKind>
 /// `b a KEY c W`
 fn derived_of(
     alloc: Global,
+    version: Version,
     from: &[u8],
     to: &[u8],
     key: &[u8],
     reader: &[u8],
     steps: &[u8],
 ) -> Result<Head, CertFaultKind>
-    ensures { result ≡ derived_of from.now to.now key.now reader.now steps.now }
+    ensures { result ≡ derived_of version from.now to.now key.now reader.now steps.now }
 {
     let link = Link::Derived {
-        from: transaction_of(from)?,
-        to: transaction_of(to)?,
+        from: transaction_of(version, from)?,
+        to: transaction_of(version, to)?,
         key: key_of(key)?,
-        reader: transaction_of(reader)?,
+        reader: transaction_of(version, reader)?,
         walk: Walk::new(Vec::new(alloc)),
     };
     Ok(Head {
         link,
-        steps: count_of(steps)?,
+        steps: count_of(version, steps)?,
     })
 }
 
 /// What stands behind `D`.
-fn derived_fields(alloc: Global, fields: &[&[u8]]) -> Result<Head, CertFaultKind>
-    ensures { result ≡ five_words derived_of (map (λ word. word.now) fields.now) }
+fn derived_fields(alloc: Global, version: Version, fields: &[&[u8]]) -> Result<Head, CertFaultKind>
+    ensures { result ≡ five_words (derived_of version) (map (λ word. word.now) fields.now) }
 {
     match fields {
-        [from, to, key, reader, steps] => derived_of(alloc, from, to, key, reader, steps),
+        [from, to, key, reader, steps] => derived_of(alloc, version, from, to, key, reader, steps),
         _ => Err(CertFaultKind::Count),
     }
 }
@@ -156,71 +157,84 @@ fn head_of_step(step: Step) -> Head
 }
 
 /// The line that a link begins with.
-pub(crate) fn head_line(alloc: Global, words: &[&[u8]]) -> Result<Head, CertFaultKind>
-    ensures { result ≡ head_line (map (λ word. word.now) words.now) }
+pub(crate) fn head_line(
+    alloc: Global,
+    version: Version,
+    words: &[&[u8]],
+) -> Result<Head, CertFaultKind>
+    ensures { result ≡ head_line version (map (λ word. word.now) words.now) }
 {
     let Some((word, fields)) = words.split_first() else {
         return Err(CertFaultKind::Word);
     };
     if *word == b"D".as_slice() {
-        derived_fields(alloc, fields)
+        derived_fields(alloc, version, fields)
     } else {
-        Ok(head_of_step(step_line(words)?))
+        Ok(head_of_step(step_line(version, words)?))
     }
 }
 
 /// `N S`
-fn order_sizes(transactions: &[u8], sessions: &[u8]) -> Result<Sizes, CertFaultKind>
-    ensures { result ≡ order_sizes transactions.now sessions.now }
+fn order_sizes(
+    version: Version,
+    transactions: &[u8],
+    sessions: &[u8],
+) -> Result<Sizes, CertFaultKind>
+    ensures { result ≡ order_sizes version transactions.now sessions.now }
 {
     Ok(Sizes::Order {
-        transactions: count_of(transactions)?,
-        sessions: number_of(sessions, 0, V1_MAX_SESSIONS)?,
+        transactions: count_of(version, transactions)?,
+        sessions: number_of(sessions, 0, ranges_of(version).sessions)?,
     })
 }
 
 /// `N M L`
-fn cycle_sizes(transactions: &[u8], links: &[u8], least: &[u8]) -> Result<Sizes, CertFaultKind>
-    ensures { result ≡ cycle_sizes transactions.now links.now least.now }
+fn cycle_sizes(
+    version: Version,
+    transactions: &[u8],
+    links: &[u8],
+    least: &[u8],
+) -> Result<Sizes, CertFaultKind>
+    ensures { result ≡ cycle_sizes version transactions.now links.now least.now }
 {
     Ok(Sizes::Cycle {
-        transactions: count_of(transactions)?,
-        links: count_of(links)?,
-        least: number_of(least, 0, V1_MAX_COST)?,
+        transactions: count_of(version, transactions)?,
+        links: count_of(version, links)?,
+        least: number_of(least, 0, ranges_of(version).cost)?,
     })
 }
 
 /// What stands behind `order`.
-fn order_fields(fields: &[&[u8]]) -> Result<Sizes, CertFaultKind>
-    ensures { result ≡ two_words order_sizes (map (λ word. word.now) fields.now) }
+fn order_fields(version: Version, fields: &[&[u8]]) -> Result<Sizes, CertFaultKind>
+    ensures { result ≡ two_words (order_sizes version) (map (λ word. word.now) fields.now) }
 {
     match fields {
-        [transactions, sessions] => order_sizes(transactions, sessions),
+        [transactions, sessions] => order_sizes(version, transactions, sessions),
         _ => Err(CertFaultKind::Count),
     }
 }
 
 /// What stands behind `cycle`.
-fn cycle_fields(fields: &[&[u8]]) -> Result<Sizes, CertFaultKind>
-    ensures { result ≡ three_words cycle_sizes (map (λ word. word.now) fields.now) }
+fn cycle_fields(version: Version, fields: &[&[u8]]) -> Result<Sizes, CertFaultKind>
+    ensures { result ≡ three_words (cycle_sizes version) (map (λ word. word.now) fields.now) }
 {
     match fields {
-        [transactions, links, least] => cycle_sizes(transactions, links, least),
+        [transactions, links, least] => cycle_sizes(version, transactions, links, least),
         _ => Err(CertFaultKind::Count),
     }
 }
 
 /// The line that says how long the parts of a claim are.
-pub(crate) fn sizes_line(words: &[&[u8]]) -> Result<Sizes, CertFaultKind>
-    ensures { result ≡ sizes_line (map (λ word. word.now) words.now) }
+pub(crate) fn sizes_line(version: Version, words: &[&[u8]]) -> Result<Sizes, CertFaultKind>
+    ensures { result ≡ sizes_line version (map (λ word. word.now) words.now) }
 {
     let Some((word, fields)) = words.split_first() else {
         return Err(CertFaultKind::Word);
     };
     if *word == b"order".as_slice() {
-        order_fields(fields)
+        order_fields(version, fields)
     } else if *word == b"cycle".as_slice() {
-        cycle_fields(fields)
+        cycle_fields(version, fields)
     } else {
         Err(CertFaultKind::Word)
     }

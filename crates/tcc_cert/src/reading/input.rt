@@ -3,10 +3,12 @@ ghost use Rattle.std.specs.Prelude.{◌≡◌, ◌<◌, ◌≤◌, ◌==◌, IfO
 ghost use Rattle.tcc_cert.specs.WindowBytes.{window_bytes};
 ghost use Rattle.tcc_cert.specs.Outcomes.{at_line};
 ghost use Rattle.tcc_cert.specs.Reading.{line_length};
+ghost use Rattle.tcc_cert.specs.declared.reading.window.TheConstants.{WINDOW_BYTES};
 
 use super::source::Source;
 use super::window::Window;
-use crate::{CertFault, CertFaultKind};
+use crate::ranges::ranges_of;
+use crate::{CertFault, CertFaultKind, Version};
 use std::io::Read;
 
 /// A reader, the bytes of it that wait, how many of these belong to the line that was read last, its line feed among
@@ -52,6 +54,7 @@ fn line_length(bytes: &[u8], searched: usize) -> usize
 impl<R: Read> Input<R> {
     ghost use Rattle.tcc_cert.specs.Inputs.{Ends, FindsLine, IsAt, TakesLine, line_in};
     ghost use Rattle.tcc_cert.specs.Reading.{Place};
+    ghost use Rattle.tcc_cert.specs.Ranges.{ranges_of};
 
     pub(crate) fn new(reader: R) -> Input<R>
         ensures { IfSome (R.remaining reader) (λ bytes. IsAt R.remaining result (record { line = 1; bytes = bytes })) }
@@ -81,10 +84,11 @@ impl<R: Read> Input<R> {
         }
     }
 
-    /// Reads until the next line is held, and says how long it is.
-    fn find_line(&mut self) -> Result<usize, CertFaultKind>
-        requires { self.old.passed ≡ 0 }
-        ensures found { (at : Place) → IsAt R.remaining self.old at → FindsLine at result self.new }
+    /// Reads until the next line, of at most so many bytes, is held, and says how long it is.
+    fn find_line(&mut self, most: usize) -> Result<usize, CertFaultKind>
+        requires passed { self.old.passed ≡ 0 }
+        requires room { most < WINDOW_BYTES }
+        ensures found { (at : Place) → IsAt R.remaining self.old at → FindsLine most at result self.new }
         ensures stays { OnOk result ((at : Place) → IsAt R.remaining self.old at → IsAt R.remaining self.new at) }
         ensures passed { self.new.passed ≡ 0 }
         ensures number { self.new.number ≡ self.old.number }
@@ -95,11 +99,11 @@ impl<R: Read> Input<R> {
             let bytes = self.window.as_slice();
             let held = bytes.len();
             let length = line_length(bytes, searched);
+            if length > most {
+                return Err(CertFaultKind::TooLarge);
+            }
             if length < held {
                 return Ok(length);
-            }
-            if self.window.is_full() {
-                return Err(CertFaultKind::TooLarge);
             }
             searched = held;
             match self.window.fill(&mut self.source) {
@@ -110,14 +114,15 @@ impl<R: Read> Input<R> {
         }
     }
 
-    /// Moves on to the next line, and gives its number.
-    pub(crate) fn next(&mut self) -> Result<u64, CertFault>
-        ensures { (at : Place) → IsAt R.remaining self.old at → TakesLine R.remaining at result self.new }
+    /// Moves on to the next line, of at most so many bytes, and gives its number.
+    pub(crate) fn next(&mut self, most: usize) -> Result<u64, CertFault>
+        requires { most < WINDOW_BYTES }
+        ensures { (at : Place) → IsAt R.remaining self.old at → TakesLine R.remaining most at result self.new }
     {
         self.window.pass(self.passed);
         self.passed = 0;
         let line = self.number;
-        match self.find_line() {
+        match self.find_line(most) {
             Ok(length) => {
                 let Some(number) = line.checked_add(1) else {
                     return Err(CertFault {
@@ -131,6 +136,13 @@ impl<R: Read> Input<R> {
             }
             Err(kind) => Err(CertFault { line, kind }),
         }
+    }
+
+    /// The same of a line behind the first, by the version.
+    pub(crate) fn next_of(&mut self, version: Version) -> Result<u64, CertFault>
+        ensures { (at : Place) → IsAt R.remaining self.old at → TakesLine R.remaining (ranges_of version).line_bytes at result self.new }
+    {
+        self.next(ranges_of(version).line_bytes)
     }
 
     /// Nothing stands behind the last line.

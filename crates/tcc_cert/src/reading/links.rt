@@ -7,34 +7,39 @@ ghost use Rattle.tcc_cert.specs.Reading.{Place, head_line, link_at, repeated, st
 use super::forms::{Head, head_line, step_line};
 use super::input::{Input, at_line};
 use super::words::words_of;
-use crate::{CertFault, CertFaultKind, Links};
+use crate::{CertFault, CertFaultKind, Links, Version};
 use std::alloc::Global;
 use std::io::Read;
 use tcc_graph::{Link, Step, Walk};
 
 /// The step that a line is.
-fn step_of(alloc: Global, line: &[u8]) -> Result<Step, CertFaultKind>
-    ensures { Shows result (step_line (words_of line.now)) }
+fn step_of(alloc: Global, version: Version, line: &[u8]) -> Result<Step, CertFaultKind>
+    ensures { Shows result (step_line version (words_of line.now)) }
 {
     let words = words_of(alloc, line)?;
-    step_line(words.as_slice())
+    step_line(version, words.as_slice())
 }
 
 /// The next line, a step.
-fn step<R: Read>(alloc: Global, input: &mut Input<R>) -> Result<Step, CertFault>
-    ensures { (at : Place) → IsAt R.remaining input.old at → Gives R.remaining at (words step_line at) result input.new }
+fn step<R: Read>(alloc: Global, input: &mut Input<R>, version: Version) -> Result<Step, CertFault>
+    ensures { (at : Place) → IsAt R.remaining input.old at → Gives R.remaining at (words version (step_line version) at) result input.new }
 {
-    let line = input.next()?;
-    at_line(line, step_of(alloc, input.line()))
+    let line = input.next_of(version)?;
+    at_line(line, step_of(alloc, version, input.line()))
 }
 
 /// The next lines, so many steps.
-fn walk<R: Read>(alloc: Global, input: &mut Input<R>, count: u32) -> Result<Walk, CertFault>
-    ensures { (at : Place) → IsAt R.remaining input.old at → Gives R.remaining at (repeated (words step_line) count at) result input.new }
+fn walk<R: Read>(
+    alloc: Global,
+    input: &mut Input<R>,
+    version: Version,
+    count: u32,
+) -> Result<Walk, CertFault>
+    ensures { (at : Place) → IsAt R.remaining input.old at → Gives R.remaining at (repeated (words version (step_line version)) count at) result input.new }
 {
     let mut steps = Vec::new(alloc);
     'lines: for _ in 0..count {
-        let one = step(alloc, input)?;
+        let one = step(alloc, input, version)?;
         match steps.push(one) {
             Ok(()) => {}
             Err(_) => return Err(input.fault(CertFaultKind::NoMemory)),
@@ -44,19 +49,19 @@ fn walk<R: Read>(alloc: Global, input: &mut Input<R>, count: u32) -> Result<Walk
 }
 
 /// What a link's first line says.
-fn head_of(alloc: Global, line: &[u8]) -> Result<Head, CertFaultKind>
-    ensures { Shows result (head_line (words_of line.now)) }
+fn head_of(alloc: Global, version: Version, line: &[u8]) -> Result<Head, CertFaultKind>
+    ensures { Shows result (head_line version (words_of line.now)) }
 {
     let words = words_of(alloc, line)?;
-    head_line(alloc, words.as_slice())
+    head_line(alloc, version, words.as_slice())
 }
 
 /// The next line, the first of a link.
-fn head<R: Read>(alloc: Global, input: &mut Input<R>) -> Result<Head, CertFault>
-    ensures { (at : Place) → IsAt R.remaining input.old at → Gives R.remaining at (words head_line at) result input.new }
+fn head<R: Read>(alloc: Global, input: &mut Input<R>, version: Version) -> Result<Head, CertFault>
+    ensures { (at : Place) → IsAt R.remaining input.old at → Gives R.remaining at (words version (head_line version) at) result input.new }
 {
-    let line = input.next()?;
-    at_line(line, head_of(alloc, input.line()))
+    let line = input.next_of(version)?;
+    at_line(line, head_of(alloc, version, input.line()))
 }
 
 /// The link with these steps, if it is derived.
@@ -83,11 +88,11 @@ fn with_walk(link: Link, walk: Walk) -> Link
 }
 
 /// The next lines, one link.
-fn link<R: Read>(alloc: Global, input: &mut Input<R>) -> Result<Link, CertFault>
-    ensures { (at : Place) → IsAt R.remaining input.old at → Gives R.remaining at (link_at at) result input.new }
+fn link<R: Read>(alloc: Global, input: &mut Input<R>, version: Version) -> Result<Link, CertFault>
+    ensures { (at : Place) → IsAt R.remaining input.old at → Gives R.remaining at (link_at version at) result input.new }
 {
-    let head = head(alloc, input)?;
-    let walk = walk(alloc, input, head.steps)?;
+    let head = head(alloc, input, version)?;
+    let walk = walk(alloc, input, version, head.steps)?;
     Ok(with_walk(head.link, walk))
 }
 
@@ -95,13 +100,14 @@ fn link<R: Read>(alloc: Global, input: &mut Input<R>) -> Result<Link, CertFault>
 pub(crate) fn links<R: Read>(
     alloc: Global,
     input: &mut Input<R>,
+    version: Version,
     count: u32,
 ) -> Result<Links, CertFault>
-    ensures { (at : Place) → IsAt R.remaining input.old at → Gives R.remaining at (repeated link_at count at) result input.new }
+    ensures { (at : Place) → IsAt R.remaining input.old at → Gives R.remaining at (repeated (link_at version) count at) result input.new }
 {
     let mut links = Vec::new(alloc);
     'links: for _ in 0..count {
-        let one = link(alloc, input)?;
+        let one = link(alloc, input, version)?;
         match links.push(one) {
             Ok(()) => {}
             Err(_) => return Err(input.fault(CertFaultKind::NoMemory)),

@@ -1,14 +1,14 @@
 //! Bytes that came from a reader and wait to be judged.
-ghost use Rattle.std.specs.Prelude.{◌≡◌, ℕ, ◌<◌, ◌≤◌, ◌↔◌, ◌++◌, [], List, IfOk, IsTrue, OnErr, drop, length};
+ghost use Rattle.std.specs.Prelude.{◌≡◌, ℕ, ◌<◌, ◌≤◌, ◌++◌, [], List, IfOk, IsTrue, OnErr, drop, length};
 ghost use Rattle.tcc_cert.specs.declared.reading.window.TheConstants.{WINDOW_BYTES};
 ghost use Rattle.std.specs.Io.KnownBytes.{Consumes, IsAtEnd, Keeps};
 
 use super::source::Source;
-use crate::version_1::V1_MAX_LINE_BYTES;
+use crate::version_2::V2_MAX_LINE_BYTES;
 use std::io::{self, Read};
 
-/// A line and its line feed are no longer.
-const WINDOW_BYTES: usize = V1_MAX_LINE_BYTES + 1;
+/// A line of any version and its line feed are no longer.
+const WINDOW_BYTES: usize = V2_MAX_LINE_BYTES + 1;
 
 /// The bytes from `first` to `end`.
 #[derive(Drop)]
@@ -38,13 +38,6 @@ impl Window {
         ensures fits { length result.now ≤ WINDOW_BYTES }
     {
         &self.bytes[self.first..self.end]
-    }
-
-    /// Whether there is no room for more.
-    pub(crate) fn is_full(&self) -> bool
-        ensures { IsTrue result ↔ (WINDOW_BYTES ≤ length (window_bytes self.now)) }
-    {
-        self.end - self.first == WINDOW_BYTES
     }
 
     /// Lets the first of them go.

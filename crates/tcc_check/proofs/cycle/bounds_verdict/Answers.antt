@@ -1,45 +1,49 @@
 -- The rules on the one table, then those on the other, then the last.
-use Rattle.std.proofs.Common.{◌≡◌, ◌<◌, ℕ, inl, List, [], ◌∷◌, ◌++◌, refl, arith, rules}
+use Rattle.std.proofs.Common.{◌≡◌, ◌<◌, ℕ, inl, List, [], ◌∷◌, ◌++◌, refl, arith, rules, Some}
 use Rattle.tcc_reads.specs.History.{History, count}
-use Rattle.tcc_cert.specs.Tables.{HasSize, IsCapped}
+use Rattle.tcc_graph.specs.declared.level.Level.{Level}
+use Rattle.tcc_cert.specs.declared.version.Version.{Version}
+use Rattle.tcc_cert.specs.declared.version.Version.TheVariants.{One}
+use Rattle.tcc_cert.specs.Tables.{HasSize, HasFarSize, IsCapped}
 use Rattle.tcc_cert.specs.CycleRules.{BreaksNearPair, BreaksNearStep, BreaksFarLink, BreaksFarStep, BreaksReturn}
-use Rattle.tcc_check.specs.Weights.{unlinked, PairWeighs, AreLowered, IsLeastTable, IsLongLink, IsLongStep}
+use Rattle.tcc_check.specs.Weights.{unlinked, PairWeighs, AreLowered, IsLeastTable}
 use Rattle.tcc_check.specs.declared.verdict.Rule.TheVariants.{NearPairs, NearSteps, FarLinks, FarSteps, Returns}
 use Rattle.tcc_check.specs.declared.verdict.Verdict.{Verdict}
 use Rattle.tcc_check.specs.declared.verdict.Verdict.TheVariants as verdict
 use Rattle.tcc_check.specs.Verdicts.{Asked, by_places, IsAnswer}
+use Rattle.tcc_check.specs.TableRules.{table_rules, near_steps}
 use Rattle.tcc_check.proofs.Bounds.{capped_more, link_table}
 use Rattle.tcc_check.proofs.Rules.{near_answer, far_answer, return_first, return_holds}
 use Rattle.tcc_check.proofs.Asked.{answer_early, answer_later, all_hold}
 use Rattle.tcc_check.proofs.cycle.bounds_verdict.Goals as goal
 
-abbrev near_rules : History → List (List ℕ) → List Asked
-near_rules h near = by_places NearPairs (BreaksNearPair h near) ∷ by_places NearSteps (BreaksNearStep h near) ∷ []
+abbrev near_rules : History → Level → List (List ℕ) → List Asked
+near_rules h level near = by_places NearPairs (BreaksNearPair h near) ∷ by_places NearSteps (BreaksNearStep h level near) ∷ []
 
-abbrev far_rules : History → List (List ℕ) → List (List ℕ) → List Asked
-far_rules h near far = by_places FarLinks (BreaksFarLink h near far) ∷ by_places FarSteps (BreaksFarStep h near far) ∷ []
+abbrev far_rules : History → Version → List (List ℕ) → List (List ℕ) → List Asked
+far_rules h version near far = by_places FarLinks (BreaksFarLink h version near far) ∷ by_places FarSteps (BreaksFarStep h version near far) ∷ []
 
-abbrev last_rules : History → ℕ → List (List ℕ) → List Asked
-last_rules h least far = by_places Returns (BreaksReturn h least far) ∷ []
+abbrev last_rules : History → Version → ℕ → List (List ℕ) → List Asked
+last_rules h version least far = by_places Returns (BreaksReturn h version least far) ∷ []
 
-of_near : (h : History) (near pairs : List (List ℕ)) (least : ℕ) (answer : Verdict) → least < 4294967296 → HasSize (count h) (count h) near → IsCapped least near → IsLeastTable (count h) (PairWeighs h) pairs
-    → IsAnswer (by_places NearPairs (IsLongLink pairs near) ∷ by_places NearSteps (IsLongStep pairs near) ∷ []) answer → IsAnswer (near_rules h near) answer
-of_near h near pairs least answer fits size cap table said =
-    near_answer h near pairs (record { least = table; long = size.long; cap = capped_more least unlinked near (omega arith) cap }) answer said
+of_near : (h : History) (level : Level) (near pairs : List (List ℕ)) (least : ℕ) (answer : Verdict) → least < 4294967296 → HasSize (count h) (count h) near → IsCapped least near → IsLeastTable (count h) (PairWeighs h) pairs
+    → IsAnswer (table_rules One pairs near NearPairs (near_steps level)) answer → IsAnswer (near_rules h level near) answer
+of_near h level near pairs least answer fits size cap table said =
+    near_answer h near pairs (record { least = table; long = size.long; cap = capped_more least unlinked near (omega arith) cap }) level answer said
 
-of_far : (h : History) (near far pairs links : List (List ℕ)) (least : ℕ) (answer : Verdict) → least < 4294967296 → HasSize (count h) (count h) far → IsCapped least far → IsLeastTable (count h) (PairWeighs h) pairs → AreLowered h near pairs links
-    → IsAnswer (by_places FarLinks (IsLongLink links far) ∷ by_places FarSteps (IsLongStep links far) ∷ []) answer → IsAnswer (far_rules h near far) answer
-of_far h near far pairs links least answer fits size cap table low said =
-    far_answer h near far links (record { least = link_table h near pairs links table low; long = size.long; cap = capped_more least unlinked far (omega arith) cap }) answer said
+of_far : (h : History) (version : Version) (near far pairs links : List (List ℕ)) (least : ℕ) (answer : Verdict) → least < 4294967296 → HasFarSize version (count h) far → IsCapped least far → IsLeastTable (count h) (PairWeighs h) pairs → AreLowered h near pairs links
+    → IsAnswer (table_rules version links far FarLinks (Some FarSteps)) answer → IsAnswer (far_rules h version near far) answer
+of_far h version near far pairs links least answer fits size cap table low said =
+    far_answer h version near far links (record { least = link_table h near pairs links table low; long = size.long; cap = capped_more least unlinked far (omega arith) cap }) answer said
 
 -- both tables hold, and the last rule answers
-of_last : (h : History) (near far pairs links : List (List ℕ)) (least : ℕ) (first second answer : Verdict) → least < 4294967296 → HasSize (count h) (count h) near → IsCapped least near → HasSize (count h) (count h) far → IsCapped least far → IsLeastTable (count h) (PairWeighs h) pairs → AreLowered h near pairs links
-    → IsAnswer (by_places NearPairs (IsLongLink pairs near) ∷ by_places NearSteps (IsLongStep pairs near) ∷ []) first → first ≡ verdict.Accepted
-    → IsAnswer (by_places FarLinks (IsLongLink links far) ∷ by_places FarSteps (IsLongStep links far) ∷ []) second → second ≡ verdict.Accepted
-    → IsAnswer (last_rules h least far) answer → IsAnswer (near_rules h near ++ far_rules h near far ++ last_rules h least far) answer
-of_last h near far pairs links least first second answer fits near_size near_cap far_size far_cap table low near_said near_holds far_said far_holds said =
-    answer_later (near_rules h near) (far_rules h near far ++ last_rules h least far) answer (all_hold (near_rules h near) first near_holds (of_near h near pairs least first fits near_size near_cap table near_said))
-    (answer_later (far_rules h near far) (last_rules h least far) answer (all_hold (far_rules h near far) second far_holds (of_far h near far pairs links least second fits far_size far_cap table low far_said)) said)
+of_last : (h : History) (version : Version) (level : Level) (near far pairs links : List (List ℕ)) (least : ℕ) (first second answer : Verdict) → least < 4294967296 → HasSize (count h) (count h) near → IsCapped least near → HasFarSize version (count h) far → IsCapped least far → IsLeastTable (count h) (PairWeighs h) pairs → AreLowered h near pairs links
+    → IsAnswer (table_rules One pairs near NearPairs (near_steps level)) first → first ≡ verdict.Accepted
+    → IsAnswer (table_rules version links far FarLinks (Some FarSteps)) second → second ≡ verdict.Accepted
+    → IsAnswer (last_rules h version least far) answer → IsAnswer (near_rules h level near ++ far_rules h version near far ++ last_rules h version least far) answer
+of_last h version level near far pairs links least first second answer fits near_size near_cap far_size far_cap table low near_said near_holds far_said far_holds said =
+    answer_later (near_rules h level near) (far_rules h version near far ++ last_rules h version least far) answer (all_hold (near_rules h level near) first near_holds (of_near h level near pairs least first fits near_size near_cap table near_said))
+    (answer_later (far_rules h version near far) (last_rules h version least far) answer (all_hold (far_rules h version near far) second far_holds (of_far h version near far pairs links least second fits far_size far_cap table low far_said)) said)
 
 pub returns-in_default : goal.returns-in_default
 returns-in_default c =
@@ -49,8 +53,9 @@ returns-in_default c =
     let pairs = c.rows.result.now in
     let answer = c.in_ok-of_near.of_near in
     let table : IsLeastTable (count h) (PairWeighs h) pairs = search rules in
-    let said = of_near h near pairs c.args.least answer c.ranges.least.fits c.requires.near c.requires.near_capped table c.in_ok-of_near.ensures in
-    answer_early (near_rules h near) (far_rules h near far ++ last_rules h c.args.least far) answer c.in_default.not-Accepted said
+    let asked : IsAnswer (table_rules One pairs near NearPairs (near_steps c.args.level)) answer = rw (← c.near_steps-steps.ensures) c.in_ok-of_near.ensures in
+    let said = of_near h c.args.level near pairs c.args.least answer c.ranges.least.fits c.requires.near c.requires.near_capped table asked in
+    answer_early (near_rules h c.args.level near) (far_rules h c.args.version near far ++ last_rules h c.args.version c.args.least far) answer c.in_default.not-Accepted said
 
 pub returns-in_default-2 : goal.returns-in_default-2
 returns-in_default-2 c =
@@ -62,22 +67,25 @@ returns-in_default-2 c =
     let answer = c.in_ok-of_far.of_far in
     let table : IsLeastTable (count h) (PairWeighs h) pairs = search rules in
     let low : AreLowered h near pairs links = search rules in
-    let before = of_near h near pairs c.args.least c.in_ok-of_near.of_near c.ranges.least.fits c.requires.near c.requires.near_capped table c.in_ok-of_near.ensures in
-    let hold = all_hold (near_rules h near) c.in_ok-of_near.of_near c.in-Accepted.is before in
-    let said = of_far h near far pairs links c.args.least answer c.ranges.least.fits c.requires.far c.requires.far_capped table low c.in_ok-of_far.ensures in
-    answer_later (near_rules h near) (far_rules h near far ++ last_rules h c.args.least far) answer hold
-    (answer_early (far_rules h near far) (last_rules h c.args.least far) answer c.in_default-2.not-Accepted said)
+    let asked : IsAnswer (table_rules One pairs near NearPairs (near_steps c.args.level)) c.in_ok-of_near.of_near = rw (← c.near_steps-steps.ensures) c.in_ok-of_near.ensures in
+    let before = of_near h c.args.level near pairs c.args.least c.in_ok-of_near.of_near c.ranges.least.fits c.requires.near c.requires.near_capped table asked in
+    let hold = all_hold (near_rules h c.args.level near) c.in_ok-of_near.of_near c.in-Accepted.is before in
+    let said = of_far h c.args.version near far pairs links c.args.least answer c.ranges.least.fits c.requires.far c.requires.far_capped table low c.in_ok-of_far.ensures in
+    answer_later (near_rules h c.args.level near) (far_rules h c.args.version near far ++ last_rules h c.args.version c.args.least far) answer hold
+    (answer_early (far_rules h c.args.version near far) (last_rules h c.args.version c.args.least far) answer c.in_default-2.not-Accepted said)
 
 pub returns-in-Some : goal.returns-in-Some
 returns-in-Some c =
     let table : IsLeastTable (count c.args.graph.now) (PairWeighs c.args.graph.now) c.rows.result.now = search rules in
     let low : AreLowered c.args.graph.now c.args.near.now c.rows.result.now c.rows-3.result.now = search rules in
-    of_last c.args.graph.now c.args.near.now c.args.far.now c.rows.result.now c.rows-3.result.now c.args.least c.in_ok-of_near.of_near c.in_ok-of_far.of_far (verdict.Rejected Returns (c.in-Some.start, c.in-Some.start)) c.ranges.least.fits c.requires.near c.requires.near_capped c.requires.far c.requires.far_capped table low c.in_ok-of_near.ensures c.in-Accepted.is c.in_ok-of_far.ensures c.in-Accepted-2.is
-    (inl (refl, return_first c.args.graph.now c.args.far.now c.args.least c.requires.far.long c.in-Some.start c.in-Some.ensures))
+    let asked : IsAnswer (table_rules One c.rows.result.now c.args.near.now NearPairs (near_steps c.args.level)) c.in_ok-of_near.of_near = rw (← c.near_steps-steps.ensures) c.in_ok-of_near.ensures in
+    of_last c.args.graph.now c.args.version c.args.level c.args.near.now c.args.far.now c.rows.result.now c.rows-3.result.now c.args.least c.in_ok-of_near.of_near c.in_ok-of_far.of_far (verdict.Rejected Returns (c.in-Some.start, c.in-Some.start)) c.ranges.least.fits c.requires.near c.requires.near_capped c.requires.far c.requires.far_capped table low asked c.in-Accepted.is c.in_ok-of_far.ensures c.in-Accepted-2.is
+    (inl (refl, return_first c.args.graph.now c.args.version c.args.far.now c.args.least c.requires.far.long c.in-Some.start c.in-Some.ensures))
 
 pub returns : goal.returns
 returns c =
     let table : IsLeastTable (count c.args.graph.now) (PairWeighs c.args.graph.now) c.rows.result.now = search rules in
     let low : AreLowered c.args.graph.now c.args.near.now c.rows.result.now c.rows-3.result.now = search rules in
-    of_last c.args.graph.now c.args.near.now c.args.far.now c.rows.result.now c.rows-3.result.now c.args.least c.in_ok-of_near.of_near c.in_ok-of_far.of_far verdict.Accepted c.ranges.least.fits c.requires.near c.requires.near_capped c.requires.far c.requires.far_capped table low c.in_ok-of_near.ensures c.in-Accepted.is c.in_ok-of_far.ensures c.in-Accepted-2.is
-    (return_holds c.args.graph.now c.args.far.now c.args.least c.requires.far.long c.in-None.ensures, tt)
+    let asked : IsAnswer (table_rules One c.rows.result.now c.args.near.now NearPairs (near_steps c.args.level)) c.in_ok-of_near.of_near = rw (← c.near_steps-steps.ensures) c.in_ok-of_near.ensures in
+    of_last c.args.graph.now c.args.version c.args.level c.args.near.now c.args.far.now c.rows.result.now c.rows-3.result.now c.args.least c.in_ok-of_near.of_near c.in_ok-of_far.of_far verdict.Accepted c.ranges.least.fits c.requires.near c.requires.near_capped c.requires.far c.requires.far_capped table low asked c.in-Accepted.is c.in_ok-of_far.ensures c.in-Accepted-2.is
+    (return_holds c.args.graph.now c.args.version c.args.far.now c.args.least c.requires.far.long c.in-None.ensures, tt)

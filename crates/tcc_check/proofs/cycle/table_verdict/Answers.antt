@@ -12,9 +12,9 @@ first_long_step-requires-clause-inside c =
 pub returns-in-Some-first_long_step : goal.returns-in-Some-first_long_step
 returns-in-Some-first_long_step c =
     let rows : AreStartRows c.args.weights.now c.deref.result.now = rw c.deref.ensures.value c.in_ok-starts.ensures in
-    inr (c.in_default.ensures, inl (refl, steps_first c.args.weights.now c.args.table.now c.requires.weights c.requires.capped c.deref.result.now rows c.in-Some-first_long_step.at c.in-Some-first_long_step.ensures))
+    rw c.in-Some-step.is (inr (c.in_default.ensures, inl (refl, steps_first c.args.version c.args.weights.now c.args.table.now c.requires.weights c.requires.capped c.deref.result.now rows c.in-Some-first_long_step.at c.in-Some-first_long_step.ensures)))
 
 pub returns : goal.returns
 returns c =
     let rows : AreStartRows c.args.weights.now c.deref.result.now = rw c.deref.ensures.value c.in_ok-starts.ensures in
-    (c.in_default.ensures, (steps_hold c.args.weights.now c.args.table.now c.requires.weights c.requires.capped c.deref.result.now rows c.in-None.ensures, tt))
+    rw c.in-Some-step.is (c.in_default.ensures, (steps_hold c.args.version c.args.weights.now c.args.table.now c.requires.weights c.requires.capped c.deref.result.now rows c.in-None.ensures, tt))

@@ -7,16 +7,16 @@ use Rattle.tcc_check.proofs.Ordered.{axiom_searched}
 use Rattle.tcc_check.proofs.order.broken_axiom.Goals as goal
 
 pub returns : goal.returns
-returns c =
+returns c = λ sessions.
     let h = c.args.graph.now in
     let order = c.args.order.now in
     let clocks = c.args.clocks.now in
     let gaps = c.rows.result.now in
     let none = c.rows-2.result.now in
     let weights = c.rows-3.result.now in
-    let made : AreGaps h clocks gaps = search rules in
+    let made : AreGaps h c.args.level clocks gaps = search rules in
     let size : HasSize (length order) (length order) none = search rules in
     let empty : (a b : ℕ) → a < length order → b < length order → entry none a b ≡ unlinked = search rules in
     let low : AreLowered h gaps none weights = search rules in
     let table = contradiction_table h gaps none weights (subst (λ (n : ℕ). HasSize n n none) c.requires.order size) (subst (λ (n : ℕ). (a b : ℕ) → a < n → b < n → entry none a b ≡ unlinked) c.requires.order empty) low in
-    axiom_searched h order c.args.places.now clocks c.requires.places c.requires.order gaps weights made table c.first_unordered.result c.first_unordered.ensures
+    axiom_searched h c.args.level order c.args.places.now sessions clocks c.requires.places c.requires.order gaps weights made table c.first_unordered.result c.first_unordered.ensures

@@ -4,4 +4,4 @@ use Rattle.tcc_check.specs.Places.{IsKept}
 use Rattle.tcc_check.proofs.order.keeps_pairs.Given as goal
 
 abbrev pub invariant-loop-c : goal.invariant-loop-c
-invariant-loop-c l = (b c : ℕ) → c < l.c → IsCausalPair l.graph b c → IsKept l.graph l.places l.clocks b c
+invariant-loop-c l = (b c : ℕ) → c < l.c → IsCausalPair l.graph b c → IsKept l.graph l.level l.places l.clocks b c

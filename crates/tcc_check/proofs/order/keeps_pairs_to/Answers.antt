@@ -14,7 +14,7 @@ returns-then-not-is_kept c =
 pub loop-b-preserved : goal.loop-b-preserved
 loop-b-preserved c =
     let h = c.args.graph.now in
-    below_more (λ b. IsCausalPair h b c.args.c → IsKept h c.args.places.now c.args.clocks.now b c.args.c) c.loop-b.b c.loop-b.invariant
+    below_more (λ b. IsCausalPair h b c.args.c → IsKept h c.args.level c.args.places.now c.args.clocks.now b c.args.c) c.loop-b.b c.loop-b.invariant
     (elim c.else-causal.branch [
       | else-causal-via-then-causal+else-not-is_kept w ↦ (λ p. w.is_kept.ensures.0 w.if-not-is_kept.false)
       | else-causal-via-else-causal w ↦ (λ p. absurd (both_ways (causal_pair h c.loop-b.b c.args.c) (sym c.causal.ensures ∙ w.if-causal.false) (pair_from_kinds h c.loop-b.b c.args.c p)))

@@ -1,5 +1,6 @@
+use Rattle.std.proofs.Common.{◌+◌}
 use Rattle.tcc_check.specs.Searches.{HoldsBelow, IsLongStart}
 use Rattle.tcc_check.proofs.searching.first_overshot.Given as goal
 
-abbrev pub invariant-loop-end : goal.invariant-loop-end
-invariant-loop-end l = HoldsBelow l.end (IsLongStart l.starts l.row)
+abbrev pub invariant-loop-place : goal.invariant-loop-place
+invariant-loop-place l = HoldsBelow (l.low + l.place) (IsLongStart l.starts l.row l.low)

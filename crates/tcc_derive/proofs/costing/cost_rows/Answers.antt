@@ -6,7 +6,6 @@ use Rattle.tcc_reads.specs.History.{count}
 use Rattle.tcc_txn.specs.declared.memory.NoMemory.{NoMemory}
 use Rattle.tcc_derive.specs.Lowering.{HasPairs}
 use Rattle.tcc_near.proofs.RowLemmas.{each_given}
-use Rattle.tcc_derive.proofs.CostLemmas.{cost_row_of}
 use Rattle.tcc_derive.proofs.costing.cost_rows.Goals as goal
 use Rattle.tcc_txn.specs.declared.limits.TheConstants.{MAX_COUNT}
 use Rattle.tcc_txn.proofs.Lists.{matched}
@@ -20,7 +19,7 @@ collect-requires-clause-ready g c κs within =
     let ready = nat_range-All (λ u. (u < length prices) × (length prices ≡ count h) × (count h ≤ MAX_COUNT) × (length (row_of prices u) ≡ count h)) 0 c.count.result
     (λ u low high.
     let from : u < count h = omega (arith, c.count.ensures.value) in
-    (omega (arith, c.requires.long), c.requires.long, omega (arith, c.count.ensures.value, c.count.ensures.few), (c.requires.each u from).long)) in
+    (omega (arith, c.requires.long), c.requires.long, omega (arith, c.count.ensures.value, c.count.ensures.few), c.requires.each u from)) in
     rw (c.with_min_len.ensures.base, c.map.ensures.base, c.map.ensures.f, ends.0, ends.1) (λ k d lt. (ready k d lt, λ y p. tt))
 
 pub returns : goal.returns
@@ -38,5 +37,5 @@ returns g c =
     let each = each_given NoMemory IsPaired n chain.0 got.0 rows.items places chain.2 made in
     record {
       long = each.0 ∙ c.count.ensures.value;
-      each = λ u from. cost_row_of h u (row_of prices u) (row_of rows.items u) (c.requires.each u from) (each.1 u [] (omega (arith, c.count.ensures.value)));
+      each = λ u from. each.1 u [] (omega (arith, c.count.ensures.value));
     })

@@ -3,6 +3,7 @@ use Rattle.std.specs.List.{range_with_len}
 use Rattle.rayon.specs.Numbers.{nat_range}
 use Rattle.rayon.proofs.ToStd.{nat_range-All}
 use Rattle.tcc_reads.specs.History.{count}
+use Rattle.tcc_graph.specs.Levels.{Judged}
 use Rattle.tcc_txn.specs.declared.memory.NoMemory.{NoMemory}
 use Rattle.tcc_derive.specs.Buckets.{bucket}
 use Rattle.tcc_derive.specs.Lowering.{Lowers, HaveReads}
@@ -22,17 +23,18 @@ collect-requires-clause-ready g c κs within =
     let reads = c.args.reads.now in
     let written = c.args.written.now in
     let ends = c.into_par_iter.ensures in
-    let square : length near ≡ count h = c.requires.near.square.long in
-    let ready = nat_range-All (λ b. (b < length near) × (length near ≤ MAX_COUNT) × (length written ≡ length near) × HaveReads (length near) reads (bucket written b)) 0 c.count.result
+    let square : length near.rows ≡ count h = c.requires.near.square.long in
+    let ready = nat_range-All (λ b. (b < length near.rows) × (length near.rows ≤ MAX_COUNT) × (length written ≡ length near.rows) × HaveReads (length near.rows) reads (bucket written b)) 0 c.count.result
     (λ b low high.
     let from : b < count h = omega (arith, c.count.ensures.value) in
-    (omega arith, omega (arith, c.count.ensures.value, c.count.ensures.few), c.requires.written.long ∙ sym square, have_reads h (length near) reads written b square c.requires.reads c.requires.written from)) in
+    (omega arith, omega (arith, c.count.ensures.value, c.count.ensures.few), c.requires.written.long ∙ sym square, have_reads h (length near.rows) reads written b square c.requires.reads c.requires.written from)) in
     rw (c.with_min_len.ensures.base, c.map.ensures.base, c.map.ensures.f, ends.0, ends.1) (λ k d lt. (ready k d lt, λ y p. tt))
 
 pub returns : goal.returns
 returns g c =
     let h = c.args.graph.now in
     let near = c.args.near.now in
+    let j : Judged = record { history = h; level = near.level } in
     let reads = c.args.reads.now in
     let written = c.args.written.now in
     let ends = c.into_par_iter.ensures in
@@ -42,14 +44,14 @@ returns g c =
     let whole : n - 0 ≡ n = omega arith in
     let chain = rw (c.with_min_len.ensures.base, c.map.ensures.base, c.map.ensures.f) at got.1 in
     let places : chain.0 ≡ range_with_len 0 n = chain.1 ∙ (λ i. nat_range (ends.0 i) (ends.1 i)) ∙ ap (range_with_len 0) whole in
-    let IsLowered : ℕ → List ℕ → Type 0 = λ b row. Lowers (flat_map (bucket reads) (bucket written b)) (row_of near b) b (replicate (length near) NONE) row in
+    let IsLowered : ℕ → List ℕ → Type 0 = λ b row. Lowers (flat_map (bucket reads) (bucket written b)) (row_of near.rows b) b (replicate (length near.rows) NONE) row in
     record {
       rows = matched c.in_ok-collect.field-0 _ _ _ got.2 (λ rows made.
           let each = each_given NoMemory IsLowered n chain.0 got.0 rows.items places chain.2 made in
           record {
             long = each.0 ∙ c.count.ensures.value;
             each = λ b from.
-                price_row_of h near reads written b (row_of rows.items b) small from c.requires.near c.requires.reads c.requires.written
+                price_row_of j near reads written b (row_of rows.items b) small from c.requires.near c.requires.reads c.requires.written
                 (each.1 b [] (omega (arith, c.count.ensures.value)));
           });
       few = matched c.in_ok-collect.field-0 _ _ _ got.2 (λ rows made.

@@ -7,5 +7,5 @@ abbrev pub invariant-loop-done : goal.invariant-loop-done
 invariant-loop-done l =
     IsTakenBack l.graph l.b l.c l.total l.end l.taken.items
     × (length l.taken.items ≡ l.done)
-    × IsLeft l.graph l.b l.end (l.total - l.done)
+    × IsLeft (record { history = l.graph; level = l.near.level }) l.b l.end (l.total - l.done)
     × (l.end < count l.graph)

@@ -14,8 +14,8 @@ each_then None f g p = f p
 each_then (Some x) f g p = g x p
 
 pub returns : goal.returns
-returns c = λ h priced.
+returns c = λ j priced.
     let t = c.args.prices.now in
-    let exact = priced_precedence h t priced in
-    let same : length t.prices ≡ count h = priced.prices.long in
-    IfOk-weaker c.first_numbering.result (λ found. MatchOption found (HasCircle (leads t)) (λ order. IsFirstOf (leads t) (length t.prices) order.items)) (λ found. MatchOption found (HasCycle h) (λ order. IsFirstOrder h order.items)) (λ found p. each_then found (cycle_from_circle h (leads t) exact) (λ order o. first_from_first h (leads t) order.items exact (rw same at o)) p) c.first_numbering.ensures
+    let exact = priced_precedence j t priced in
+    let same : length t.prices ≡ count j.history = priced.prices.long in
+    IfOk-weaker c.first_numbering.result (λ found. MatchOption found (HasCircle (leads t)) (λ order. IsFirstOf (leads t) (length t.prices) order.items)) (λ found. MatchOption found (HasCycle j) (λ order. IsFirstOrder j order.items)) (λ found p. each_then found (cycle_from_circle j (leads t) exact) (λ order o. first_from_first j (leads t) order.items exact (rw same at o)) p) c.first_numbering.ensures

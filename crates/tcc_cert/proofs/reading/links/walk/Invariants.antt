@@ -7,4 +7,4 @@ use Rattle.tcc_cert.proofs.reading.links.walk.Given as goal
 abbrev pub invariant-lines : goal.invariant-lines
 invariant-lines g l =
     (at : Place) → IsAt g.R.Read.remaining l.initial.input at
-    → (now : Place) × IsPart (words step_line) l.count at l.steps.items l.counter now × IsAt g.R.Read.remaining l.input now
+    → (now : Place) × IsPart (λ i. words l.version (step_line l.version)) l.count at l.steps.items l.counter now × IsAt g.R.Read.remaining l.input now

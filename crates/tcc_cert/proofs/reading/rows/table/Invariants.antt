@@ -7,4 +7,4 @@ use Rattle.tcc_cert.proofs.reading.rows.table.Given as goal
 abbrev pub invariant-lines : goal.invariant-lines
 invariant-lines g l =
     (at : Place) → IsAt g.R.Read.remaining l.initial.input at
-    → (now : Place) × IsPart (words (numbers_line l.columns l.most)) l.rows at l.table.items l.counter now × IsAt g.R.Read.remaining l.input now
+    → (now : Place) × IsPart (λ s. words l.version (numbers_line l.columns l.most)) l.rows at l.table.items l.counter now × IsAt g.R.Read.remaining l.input now

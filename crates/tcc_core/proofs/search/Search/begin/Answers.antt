@@ -26,7 +26,7 @@ invariant_of-result c =
     let unspent = all_unspent n c.count-count.result old counted (c.in_ok-costs.ensures.items_if_clones_equal (λ y e. e)) in
     let same : length new ≡ length old = search rules in
     let long : c.in_ok-costs.costs.len ≡ length old = search rules in
-    let lowered : IsLowered old new 0 c.costs.result.now = record { long = same; each = rw c.deref_mut.ensures.value at c.relax.ensures.lowered } in
+    let lowered : IsLowered c.args.start old new 0 c.costs.result.now = record { long = same; each = rw c.deref_mut.ensures.value at c.relax.ensures.lowered; kept = rw c.deref_mut.ensures.value at c.relax.ensures.kept } in
     rw (take_at new _ c.in_ok-costs.costs.len (same ∙ sym long)) (bounded_begun c.args.start n c.in_ok-row.row.items old new c.costs.result.now c.requires (omega (arith, c.costs.ensures.few, c.costs.ensures.long)) empty unspent.0 unspent.1 (fits c.costs.result.now c.relax.ensures.links) lowered)
 
 pub returns-clause-search : goal.returns-clause-search
@@ -41,7 +41,7 @@ returns-clause-search c =
     let unspent = all_unspent n c.count-count.result old counted (c.in_ok-costs.ensures.items_if_clones_equal (λ y e. e)) in
     let same : length new ≡ length old = search rules in
     let long : c.in_ok-costs.costs.len ≡ length old = search rules in
-    let lowered : IsLowered old new 0 (row_of t.costs c.args.start) = record { long = same; each = rw (c.deref_mut.ensures.value, c.costs.ensures.value) at c.relax.ensures.lowered } in
-    rw (take_at new _ c.in_ok-costs.costs.len (same ∙ sym long)) (λ h priced.
-    let wide : n ≡ count h = priced.prices.long in
-    search_begun h t c.args.start c.in_ok-row.row.items old new priced (rw (← wide) c.requires) (rw (← wide) empty) (rw (← wide) unspent.0) (rw (← wide) unspent.1) (fits (row_of t.costs c.args.start) links) lowered)
+    let lowered : IsLowered c.args.start old new 0 (row_of t.costs c.args.start) = record { long = same; each = rw (c.deref_mut.ensures.value, c.costs.ensures.value) at c.relax.ensures.lowered; kept = rw c.deref_mut.ensures.value at c.relax.ensures.kept } in
+    rw (take_at new _ c.in_ok-costs.costs.len (same ∙ sym long)) (λ j priced.
+    let wide : n ≡ count j.history = priced.prices.long in
+    search_begun j t c.args.start c.in_ok-row.row.items old new priced (rw (← wide) c.requires) (rw (← wide) empty) (rw (← wide) unspent.0) (rw (← wide) unspent.1) (fits (row_of t.costs c.args.start) links) lowered)

@@ -1,13 +1,13 @@
-use Rattle.std.proofs.Common.{rules, ◌≡◌, ◌<◌, ◌≤◌, ℕ, length, All, Some, get_or, set, arith, refl, subst, take_at, sym, ◌∙◌}
+use Rattle.std.proofs.Common.{rules, ◌≡◌, ◌≤◌, ℕ, length, All, Some, get_or, set, arith, refl, subst, take_at, sym, ◌∙◌}
 use Rattle.std.proofs.lemmas.Grind.{common_steps}
-use Rattle.tcc_reads.specs.History.{History}
+use Rattle.tcc_graph.specs.Levels.{Judged}
 use Rattle.tcc_derive.specs.Prices.{IsPricesOf}
 use Rattle.tcc_core.specs.Rows.{cap_of}
 use Rattle.tcc_core.specs.Relaxing.{IsNearest}
 use Rattle.tcc_core.specs.Searches.{Search, IsSearchOf, Settles}
 use Rattle.tcc_core.specs.declared.settled.Settled.TheVariants as settled
 use Rattle.tcc_core.proofs.Lowering.{IsLowered, fits}
-use Rattle.tcc_core.proofs.Steps.{nothing_near, settles_cut, settles_returned, settles_more, small_enough, after, bounded_after, search_after}
+use Rattle.tcc_core.proofs.Steps.{nothing_near, settles_cut, settles_returned, settles_more, near_from, lowered_from, small_enough, after, bounded_after, search_after}
 use Rattle.tcc_core.proofs.search.Search.settle.Goals as goal
 use Rattle.tcc_core.proofs.search.Search.settle.Goals.{then-next-self, else-next-self}
 use Rattle.tcc_near.specs.declared.distances.TheConstants.{NONE}
@@ -18,50 +18,51 @@ returns-in_default-clause-settled c =
     let cap = c.args.cap in
     let old : Search = record { start = c.self.inside.start; row = c.self.inside.row.items; costs = c.self.inside.costs.items } in
     let none = rw (c.deref.ensures.value, c.deref-2.ensures.value) at c.in_default.ensures.none in
-    subst (λ (z : Search). (h : History) (s : ℕ) → IsPricesOf h c.args.prices.now → IsSearchOf h s z → Settles h s cap z.row z.row (settled.Cut cap)) c.self.view_is
-    (λ h s priced is. (refl, refl, nothing_near h s old (cap_of cap) is none))
+    subst (λ (z : Search). (j : Judged) (s : ℕ) → IsPricesOf j c.args.prices.now → IsSearchOf j s z → Settles j s cap z.row z.row (settled.Cut cap)) c.self.view_is
+    (λ j s priced is. (refl, refl, nothing_near j s old (cap_of cap) is (rw is.start at none)))
 
 pub returns-then-distance-cap-clause-settled : goal.returns-then-distance-cap-clause-settled
 returns-then-distance-cap-clause-settled c =
     let cap = c.args.cap in
     let old : Search = record { start = c.self.inside.start; row = c.self.inside.row.items; costs = c.self.inside.costs.items } in
     let v = c.in-Some.next in
-    let near : IsNearest old.row old.costs v = rw (c.deref.ensures.value, c.deref-2.ensures.value) at c.in-Some.ensures.found in
+    let near : IsNearest old.start old.row old.costs v = rw (c.deref.ensures.value, c.deref-2.ensures.value) at c.in-Some.ensures.found in
     let is : c.index-distance.result.now ≡ get_or old.costs v 0 = grind (arith, common_steps, near.below, c.self.invariant.long) in
-    subst (λ (z : Search). (h : History) (s : ℕ) → IsPricesOf h c.args.prices.now → IsSearchOf h s z → Settles h s cap z.row z.row (settled.Cut cap)) c.self.view_is
-    (λ h s priced known. (refl, refl, settles_cut h s old v cap known near (omega (arith, near.reached)) (omega (arith, c.if-distance-cap.true, is))))
+    subst (λ (z : Search). (j : Judged) (s : ℕ) → IsPricesOf j c.args.prices.now → IsSearchOf j s z → Settles j s cap z.row z.row (settled.Cut cap)) c.self.view_is
+    (λ j s priced known. (refl, refl, settles_cut j s old v cap known (near_from s old v known.start near) (omega (arith, near.reached)) (omega (arith, c.if-distance-cap.true, is))))
 
 pub relax-requires-clause-small : goal.relax-requires-clause-small
 relax-requires-clause-small c =
     let old : Search = record { start = c.self.inside.start; row = c.self.inside.row.items; costs = c.self.inside.costs.items } in
     let v = c.in-Some.next in
-    let near : IsNearest old.row old.costs v = rw (c.deref.ensures.value, c.deref-2.ensures.value) at c.in-Some.ensures.found in
+    let near : IsNearest old.start old.row old.costs v = rw (c.deref.ensures.value, c.deref-2.ensures.value) at c.in-Some.ensures.found in
     let is : c.index-distance.result.now ≡ get_or old.costs v 0 = grind (arith, common_steps, near.below, c.self.invariant.long) in
-    rw is (small_enough old v c.self.invariant near)
+    rw is (small_enough old.start old v c.self.invariant near)
 
 pub invariant_of-self : goal.invariant_of-self
 invariant_of-self c =
     let old : Search = record { start = c.self.inside.start; row = c.self.inside.row.items; costs = c.self.inside.costs.items } in
     let v = c.in-Some.next in
-    let near : IsNearest old.row old.costs v = rw (c.deref.ensures.value, c.deref-2.ensures.value) at c.in-Some.ensures.found in
+    let near : IsNearest old.start old.row old.costs v = rw (c.deref.ensures.value, c.deref-2.ensures.value) at c.in-Some.ensures.found in
     let is : c.index-distance.result.now ≡ get_or old.costs v 0 = grind (arith, common_steps, near.below, c.self.invariant.long) in
     let same : length c.relax.new.costs ≡ length old.costs = search rules in
     let long : c.self.inside.costs.len ≡ length old.costs = search rules in
-    let lowered : IsLowered old.costs c.relax.new.costs (get_or old.costs v 0) c.costs.result.now = record { long = same; each = rw (c.deref_mut.ensures.value, is) at c.relax.ensures.lowered } in
-    rw (take_at c.relax.new.costs _ c.self.inside.costs.len (same ∙ sym long), is) (bounded_after old v c.relax.new.costs c.costs.result.now c.self.invariant near (fits c.costs.result.now c.relax.ensures.links) lowered)
+    let lowered : IsLowered old.start old.costs c.relax.new.costs (get_or old.costs v 0) c.costs.result.now = record { long = same; each = rw (c.deref_mut.ensures.value, is) at c.relax.ensures.lowered; kept = rw c.deref_mut.ensures.value at c.relax.ensures.kept } in
+    rw (take_at c.relax.new.costs _ c.self.inside.costs.len (same ∙ sym long), is) (bounded_after old.start old v c.relax.new.costs c.costs.result.now c.self.invariant near (fits c.costs.result.now c.relax.ensures.links) lowered)
 
 pub returns-clause-search : goal.returns-clause-search
 returns-clause-search c =
     let old : Search = record { start = c.self.inside.start; row = c.self.inside.row.items; costs = c.self.inside.costs.items } in
     let v = c.in-Some.next in
-    let near : IsNearest old.row old.costs v = rw (c.deref.ensures.value, c.deref-2.ensures.value) at c.in-Some.ensures.found in
+    let near : IsNearest old.start old.row old.costs v = rw (c.deref.ensures.value, c.deref-2.ensures.value) at c.in-Some.ensures.found in
     let links : All (λ link. link ≤ NONE) (row_of c.args.prices.now.costs v) = rw c.costs.ensures.value at c.relax.ensures.links in
     let is : c.index-distance.result.now ≡ get_or old.costs v 0 = grind (arith, common_steps, near.below, c.self.invariant.long) in
     let same : length c.relax.new.costs ≡ length old.costs = search rules in
     let long : c.self.inside.costs.len ≡ length old.costs = search rules in
-    let lowered : IsLowered old.costs c.relax.new.costs (get_or old.costs v 0) (row_of c.args.prices.now.costs v) = record { long = same; each = rw (c.deref_mut.ensures.value, is, c.costs.ensures.value) at c.relax.ensures.lowered } in
-    rw (take_at c.relax.new.costs _ c.self.inside.costs.len (same ∙ sym long), is) (subst (λ (z : Search). (h : History) (s : ℕ) → IsPricesOf h c.args.prices.now → IsSearchOf h s z → IsSearchOf h s (after old v c.relax.new.costs)) c.self.view_is
-    (λ h s priced known. search_after h c.args.prices.now s old v c.relax.new.costs priced known near (small_enough old v c.self.invariant near) (fits (row_of c.args.prices.now.costs v) links) lowered))
+    let lowered : IsLowered old.start old.costs c.relax.new.costs (get_or old.costs v 0) (row_of c.args.prices.now.costs v) = record { long = same; each = rw (c.deref_mut.ensures.value, is, c.costs.ensures.value) at c.relax.ensures.lowered; kept = rw c.deref_mut.ensures.value at c.relax.ensures.kept } in
+    rw (take_at c.relax.new.costs _ c.self.inside.costs.len (same ∙ sym long), is) (subst (λ (z : Search). (j : Judged) (s : ℕ) → IsPricesOf j c.args.prices.now → IsSearchOf j s z → IsSearchOf j s (after old v c.relax.new.costs)) c.self.view_is
+    (λ j s priced known. search_after j c.args.prices.now s old v c.relax.new.costs priced known (near_from s old v known.start near) (small_enough old.start old v c.self.invariant near) (fits (row_of c.args.prices.now.costs v) links)
+    (lowered_from old.start s old.costs c.relax.new.costs (get_or old.costs v 0) (row_of c.args.prices.now.costs v) known.start lowered)))
 
 pub returns-clause-settled : goal.returns-clause-settled
 returns-clause-settled c =
@@ -69,11 +70,11 @@ returns-clause-settled c =
     let old : Search = record { start = c.self.inside.start; row = c.self.inside.row.items; costs = c.self.inside.costs.items } in
     let v = c.in-Some.next in
     let d = c.index-distance.result.now in
-    let near : IsNearest old.row old.costs v = rw (c.deref.ensures.value, c.deref-2.ensures.value) at c.in-Some.ensures.found in
+    let near : IsNearest old.start old.row old.costs v = rw (c.deref.ensures.value, c.deref-2.ensures.value) at c.in-Some.ensures.found in
     let is : d ≡ get_or old.costs v 0 = grind (arith, common_steps, near.below, c.self.invariant.long) in
     let low : d ≤ cap = omega (arith, c.if-distance-cap.false) in
-    subst (λ (z : Search). (h : History) (s : ℕ) → IsPricesOf h c.args.prices.now → IsSearchOf h s z → Settles h s cap z.row (set old.row v (Some d)) c.if-next-self.result) c.self.view_is
-    (λ h s priced known. elim c.if-next-self.branch [
-      | then-next-self w ↦ rw w.result-is (settles_returned h s old v cap d known near is low w.if-next-self.true)
-      | else-next-self w ↦ rw w.result-is (settles_more h s old v cap d known near is low w.if-next-self.false)
+    subst (λ (z : Search). (j : Judged) (s : ℕ) → IsPricesOf j c.args.prices.now → IsSearchOf j s z → Settles j s cap z.row (set old.row v (Some d)) c.if-next-self.result) c.self.view_is
+    (λ j s priced known. elim c.if-next-self.branch [
+      | then-next-self w ↦ rw w.result-is (settles_returned j s old v cap d known (near_from s old v known.start near) is low w.if-next-self.true)
+      | else-next-self w ↦ rw w.result-is (settles_more j s old v cap d known (near_from s old v known.start near) is low w.if-next-self.false)
     ])

@@ -1,9 +1,9 @@
--- A line feed among the bytes ends the line; without one there are too many, or none to come, or more are read.
-use Rattle.std.proofs.Common.{◌++◌, length, take, inl, refl, ap, ◌∙◌, arith}
+-- A line feed among the bytes ends the line; there are too many, or none to come, or more are read.
+use Rattle.std.proofs.Common.{◌≡◌, ◌++◌, length, take, inl, refl, ap, ◌∙◌, arith}
 use Rattle.std.proofs.lemmas.List.{length-append, take_at}
 use Rattle.tcc_cert.specs.WindowBytes.{window_bytes}
 use Rattle.tcc_cert.specs.Reading.{line_length}
-use Rattle.tcc_cert.proofs.InputFacts.{length-within, moved-in, known-front, known-all, line-found, line-too-long, line-cut, below_full}
+use Rattle.tcc_cert.proofs.InputFacts.{length-within, moved-in, known-front, known-all, line-found, line-too-long, line-cut}
 use Rattle.tcc_cert.proofs.reading.input.Input.find_line.Goals as goal
 
 pub returns-then-length-held-clause-found : goal.returns-then-length-held-clause-found
@@ -13,17 +13,15 @@ returns-then-length-held-clause-found g c at before =
     let front = known-front _ held at.bytes (rw c.reads.invariant.passed at now.bytes) in
     let same = c.line_length-length.ensures ∙ ap line_length c.as_slice-bytes.ensures.value in
     let long = ap length c.as_slice-bytes.ensures.value in
-    rw (front.1, same) (line-found held front.0 (omega (arith, same, long, c.if-length-held.true)) (omega (arith, long, c.as_slice-bytes.ensures.fits)))
+    rw (front.1, same) (line-found c.args.most held front.0 (omega (arith, same, long, c.if-length-held.true)) (omega (arith, same, c.if-length-most.false)))
 
-pub returns-then-is_full-clause-found : goal.returns-then-is_full-clause-found
-returns-then-is_full-clause-found g c at before =
+pub returns-then-length-most-clause-found : goal.returns-then-length-most-clause-found
+returns-then-length-most-clause-found g c at before =
     let now = c.reads.invariant.stays at before in
     let held = window_bytes c.reads.self.window in
     let front = known-front _ held at.bytes (rw c.reads.invariant.passed at now.bytes) in
     let same = c.line_length-length.ensures ∙ ap line_length c.as_slice-bytes.ensures.value in
-    let long = ap length c.as_slice-bytes.ensures.value in
-    let within = length-within held in
-    inl (rw front.1 (line-too-long held front.0 (omega (arith, same, long, within, c.if-length-held.false)) (c.is_full.ensures.0 c.if-is_full.true)))
+    inl (rw front.1 (line-too-long c.args.most held front.0 (omega (arith, same, c.if-length-most.true))))
 
 pub returns-in-Ok-eq0-clause-found : goal.returns-in-Ok-eq0-clause-found
 returns-in-Ok-eq0-clause-found g c at before =
@@ -34,8 +32,8 @@ returns-in-Ok-eq0-clause-found g c at before =
     let within = length-within held in
     let more = c.in-Ok-eq0.ensures.more in
     let all = known-all _ (held ++ more.0) at.bytes (moved-in _ _ held more.0 at.bytes (rw c.reads.invariant.passed at now.bytes) more.3) (c.in-Ok-eq0.ensures.end c.in-Ok-eq0.field-0-test) in
-    let room = below_full _ (length held) c.if-is_full.false c.is_full.ensures.1 in
-    inl (rw all (line-cut held more.0 (more.1 ∙ c.in-Ok-eq0.field-0-test) (omega (arith, same, long, within, c.if-length-held.false)) room))
+    let full : line_length held ≡ length held = omega (arith, same, long, within, c.if-length-held.false) in
+    inl (rw all (line-cut c.args.most held more.0 (more.1 ∙ c.in-Ok-eq0.field-0-test) full (omega (arith, same, full, c.if-length-most.false))))
 
 pub reads-preserved : goal.reads-preserved
 reads-preserved g c =
