@@ -63,12 +63,11 @@ fn gives(
     text: &str,
 ) -> bool {
     for level in [Level::Causal, Level::Atomic] {
+        let Ok(answer) = audit(rt, alloc, book, passes, level) else {
+            return false;
+        };
         let mut out = Vec::new(alloc);
-        match audit(rt, alloc, book, passes, level) {
-            Ok(answer) if write_text(alloc, &answer, &mut out).is_ok() => {}
-            _ => return false,
-        }
-        if out.as_slice() != text.as_bytes() {
+        if write_text(alloc, &answer, &mut out).is_err() || out.as_slice() != text.as_bytes() {
             return false;
         }
     }
