@@ -2,6 +2,7 @@
 use Rattle.std.proofs.Common.{◌≡◌, [], ◌∷◌, refl, codes, lit<}
 use Rattle.std.proofs.lemmas.Fmt.{decimal_digit}
 use Rattle.serde_json.proofs.OnLiterals.{serde_json_on_literals}
+use Rattle.tcc_graph.specs.declared.level.Level.TheVariants.{Causal, Atomic}
 use Rattle.tcc_graph.specs.declared.step.Step.TheVariants as step
 use Rattle.tcc_graph.specs.declared.link.Link.TheVariants as link
 use Rattle.tcc_answer.specs.declared.answer.Answer.TheVariants as answer
@@ -9,6 +10,7 @@ use Rattle.tcc_answer.specs.Json.{answer_json, json_line}
 
 -- a read of 0 after an own write
 stale_read : json_line (answer_json (answer.Anomaly (record {
+  level = Causal;
   links = link.Session 0 1 ∷ link.Derived 1 0 (codes "x") 2 (step.Session 1 2 ∷ []) ∷ [];
   near = [];
   far = [];
@@ -20,9 +22,10 @@ stale_read = rw (decimal_digit 3 (lit< tt)) refl
 
 -- the long fork
 long_fork : json_line (answer_json (answer.Commit (record {
+  level = Atomic;
   order = 0 ∷ 1 ∷ 2 ∷ 3 ∷ 4 ∷ [];
-  clocks = [];
   sessions = 4;
+  clocks = [];
   labels = codes "init" ∷ codes "a/1" ∷ codes "b/1" ∷ codes "c/1" ∷ codes "d/1" ∷ [];
 })))
     ≡ codes "{\"answer\":\"consistent\",\"order\":[\"init\",\"a/1\",\"b/1\",\"c/1\",\"d/1\"],\"sessions\":4,\"transactions\":4}\n"

@@ -1,6 +1,7 @@
 -- Worked texts agree with the definitions.
 use Rattle.std.proofs.Common.{◌≡◌, [], ◌∷◌, ℕ, List, refl, codes, lit<}
 use Rattle.std.proofs.lemmas.Fmt.{decimal_digit}
+use Rattle.tcc_graph.specs.declared.level.Level.TheVariants.{Causal, Atomic}
 use Rattle.tcc_graph.specs.declared.step.Step.TheVariants as step
 use Rattle.tcc_graph.specs.declared.link.Link.{Link}
 use Rattle.tcc_graph.specs.declared.link.Link.TheVariants as link
@@ -10,10 +11,10 @@ use Rattle.tcc_answer.specs.Texts.{answer_text}
 
 -- the anomaly of these links, between transactions of these labels
 abbrev anomaly : List Link → List (List ℕ) → Answer
-anomaly cycle names = answer.Anomaly (record { links = cycle; near = []; far = []; labels = names })
+anomaly cycle names = answer.Anomaly (record { level = Causal; links = cycle; near = []; far = []; labels = names })
 
 -- no transactions
-no_transactions : answer_text (answer.Commit (record { order = 0 ∷ []; clocks = []; sessions = 0; labels = codes "init" ∷ [] }))
+no_transactions : answer_text (answer.Commit (record { level = Causal; order = 0 ∷ []; sessions = 0; clocks = []; labels = codes "init" ∷ [] }))
     ≡ codes "consistent: 0 transactions, 0 sessions\norder: init\n"
 no_transactions = rw (decimal_digit 0 (lit< tt)) refl
 
@@ -43,9 +44,10 @@ two_writes = rw (decimal_digit 4 (lit< tt)) refl
 
 -- the long fork
 long_fork : answer_text (answer.Commit (record {
+  level = Atomic;
   order = 0 ∷ 1 ∷ 2 ∷ 3 ∷ 4 ∷ [];
-  clocks = [];
   sessions = 4;
+  clocks = [];
   labels = codes "init" ∷ codes "a/1" ∷ codes "b/1" ∷ codes "c/1" ∷ codes "d/1" ∷ [];
 }))
     ≡ codes "consistent: 4 transactions, 4 sessions\norder: init a/1 b/1 c/1 d/1\n"

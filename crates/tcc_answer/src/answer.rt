@@ -1,6 +1,7 @@
 //! Answers: a commit order, or an anomaly, each with its certificate.
 ghost use Rattle.std.specs.Prelude.{◌≡◌};
 ghost use Rattle.tcc_graph.specs.Links.{cost};
+ghost use Rattle.tcc_cert.specs.declared.version.Version.TheVariants.{Two};
 ghost use Rattle.tcc_cert.specs.declared.certificate.Certificate.TheVariants as claim;
 ghost use Rattle.tcc_answer.specs.Shapes.{shape_of};
 ghost use Rattle.tcc_answer.specs.Claims.{certificate_of};
@@ -8,42 +9,46 @@ ghost use Rattle.tcc_answer.specs.Claims.{certificate_of};
 use crate::labels::Labels;
 use crate::shape::{Shape, shape_of};
 use std::marker::Model;
-use tcc_cert::{Certificate, Links, Numbers, Table};
-use tcc_graph::Link;
+use tcc_cert::{Certificate, Links, Numbers, Table, Version};
+use tcc_graph::{Level, Link};
 
-/// A commit order of a history, with its certificate and the names that it prints.
+/// A commit order of a history at a level, with its certificate and the names that it prints.
 #[derive(Drop)]
 pub struct Commit {
     certificate: Certificate,
-    sessions: usize,
     labels: Labels,
 }
 
 impl Model for Commit {
-    ghost use Rattle.tcc_answer.specs.Answers.{LabelledOrder, order_in, clocks_in, ClaimsOrder};
+    ghost use Rattle.tcc_answer.specs.Answers.{LabelledOrder, level_in, order_in, sessions_in, clocks_in, ClaimsOrder};
 
     ghost Value = { LabelledOrder };
 
-    ghost view = { λ c. record { order = order_in c.certificate; clocks = clocks_in c.certificate; sessions = c.sessions; labels = c.labels } };
+    ghost view = { λ c. record { level = level_in c.certificate; order = order_in c.certificate; sessions = sessions_in c.certificate; clocks = clocks_in c.certificate; labels = c.labels } };
 
     ghost invariant = { λ c. ClaimsOrder c.certificate };
 }
 
 impl Commit {
-    /// The order of a snapshot with so many sessions, the clocks, and the names of the transactions.
-    pub fn new(order: Numbers, clocks: Table, sessions: usize, labels: Labels) -> Commit
-        ensures { result ≡ record { order = order; clocks = clocks; sessions = sessions; labels = labels } }
+    /// The order at this level of a snapshot with so many sessions, the clocks, and the names of the transactions.
+    pub fn new(level: Level, order: Numbers, sessions: u32, clocks: Table, labels: Labels) -> Commit
+        ensures { result ≡ record { level = level; order = order; sessions = sessions; clocks = clocks; labels = labels } }
     {
         Commit {
-            certificate: Certificate::Order { order, clocks },
-            sessions,
+            certificate: Certificate::Order {
+                version: Version::Two,
+                level,
+                order,
+                sessions,
+                clocks,
+            },
             labels,
         }
     }
 
-    /// The certificate, with the answer's own order.
+    /// The certificate, with the answer's own level and order.
     pub fn certificate(&self) -> &Certificate
-        ensures { result.now ≡ claim.Order self.now.order self.now.clocks }
+        ensures { result.now ≡ claim.Order Two self.now.level self.now.order self.now.sessions self.now.clocks }
     {
         &self.certificate
     }
@@ -59,10 +64,13 @@ impl Commit {
     }
 
     /// How many sessions the snapshot has.
-    pub fn sessions(&self) -> usize
+    pub fn sessions(&self) -> u32
         ensures { result ≡ self.now.sessions }
     {
-        self.sessions
+        match &self.certificate {
+            Certificate::Order { sessions, .. } => *sessions,
+            Certificate::Cycle { .. } => 0,
+        }
     }
 
     /// The names of the transactions.
@@ -73,7 +81,7 @@ impl Commit {
     }
 }
 
-/// A cycle that no commit order can keep, with its certificate and the names that it prints.
+/// A cycle that no commit order can keep at a level, with its certificate and the names that it prints.
 #[derive(Drop)]
 pub struct Anomaly {
     certificate: Certificate,
@@ -81,23 +89,33 @@ pub struct Anomaly {
 }
 
 impl Model for Anomaly {
-    ghost use Rattle.tcc_answer.specs.Answers.{LabelledCycle, links_in, near_in, far_in, ClaimsCycle};
+    ghost use Rattle.tcc_answer.specs.Answers.{LabelledCycle, level_in, links_in, near_in, far_in, ClaimsCycle};
 
     ghost Value = { LabelledCycle };
 
-    ghost view = { λ a. record { links = links_in a.certificate; near = near_in a.certificate; far = far_in a.certificate; labels = a.labels } };
+    ghost view = { λ a. record { level = level_in a.certificate; links = links_in a.certificate; near = near_in a.certificate; far = far_in a.certificate; labels = a.labels } };
 
     ghost invariant = { λ a. ClaimsCycle a.certificate };
 }
 
 impl Anomaly {
-    /// The links of a cycle, how many steps they have together, the distances, and the names of the transactions.
-    pub fn new(links: Links, steps: u32, near: Table, far: Table, labels: Labels) -> Anomaly
+    /// The links of a cycle at this level, how many steps they have together, the distances, and the names of the
+    /// transactions.
+    pub fn new(
+        level: Level,
+        links: Links,
+        steps: u32,
+        near: Table,
+        far: Table,
+        labels: Labels,
+    ) -> Anomaly
         requires { steps ≡ cost links }
-        ensures { result ≡ record { links = links; near = near; far = far; labels = labels } }
+        ensures { result ≡ record { level = level; links = links; near = near; far = far; labels = labels } }
     {
         Anomaly {
             certificate: Certificate::Cycle {
+                version: Version::Two,
+                level,
                 links,
                 least: steps,
                 near,
@@ -107,9 +125,9 @@ impl Anomaly {
         }
     }
 
-    /// The certificate, with the answer's own links.
+    /// The certificate, with the answer's own level and links.
     pub fn certificate(&self) -> &Certificate
-        ensures { result.now ≡ claim.Cycle self.now.links (cost self.now.links) self.now.near self.now.far }
+        ensures { result.now ≡ claim.Cycle Two self.now.level self.now.links (cost self.now.links) self.now.near self.now.far }
     {
         &self.certificate
     }
@@ -149,7 +167,7 @@ impl Anomaly {
     }
 }
 
-/// The answer for a history: a commit order, or an anomaly where there is none.
+/// The answer for a history at a level: a commit order, or an anomaly where there is none.
 #[derive(Drop)]
 pub enum Answer {
     Commit(Commit),
@@ -157,7 +175,7 @@ pub enum Answer {
 }
 
 impl Answer {
-    /// The certificate, with the answer's own order or links.
+    /// The certificate, with the answer's own level, order or links.
     pub fn certificate(&self) -> &Certificate
         ensures { result.now ≡ certificate_of self.now }
     {

@@ -1,4 +1,4 @@
-//! An order and an anomaly as values, as text and as JSON, and writers that fail.
+//! An order and an anomaly as values, and an order as text and as JSON.
 ghost use Rattle.std.specs.Prelude.{◌≡◌, [], ◌∷◌, IfOk};
 ghost use Rattle.tcc_graph.specs.declared.step.Step.TheVariants as step;
 ghost use Rattle.tcc_graph.specs.declared.link.Link.TheVariants as link;
@@ -6,32 +6,22 @@ ghost use Rattle.tcc_graph.specs.declared.link.Link.TheVariants as link;
 use crate::pieces::push;
 use crate::{Anomaly, Answer, Commit, Labels, Shape, WriteFault, write_json, write_text};
 use std::alloc::{AllocError, Global};
-use std::io::{self, ErrorKind, Write};
 use std::process::Abort;
 use std::test::Fail;
-use tcc_cert::{Certificate, Links, Numbers, Table};
-use tcc_graph::{Graph, Link, Step, Walk};
+use tcc_cert::{Certificate, Links, Numbers, Table, Version};
+use tcc_graph::{Graph, Level, Link, Step, Walk};
 use tcc_reads::resolve;
 use tcc_txn::{Name, snapshot_of};
 
 const TURNED: &str = "a,begin\na,commit\na,begin\na,commit\nb,begin\nb,commit\n";
 
-const TURNED_TEXT: &str = "consistent: 3 transactions, 2 sessions\norder: init b/1 a/1 a/2\n";
-
-const TURNED_JSON: &str = "{\"answer\":\"consistent\",\
+/// Their order as text, and then as JSON.
+const TURNED_TEXTS: &str = "consistent: 3 transactions, 2 sessions\norder: init b/1 a/1 a/2\n\
+    {\"answer\":\"consistent\",\
     \"order\":[\"init\",\"b/1\",\"a/1\",\"a/2\"],\"sessions\":2,\"transactions\":3}\n";
-
-const STALE_READ_TEXT: &str = "anomaly: 3 steps, stale-initial-read\nsession init -> a/1\n\
-    derived a/1 -> init by x, read by a/2\n  session a/1 -> a/2\n  against init -> a/2 by x\n";
 
 /// a/1 writes x, and a/2 reads its initial value.
 const STALE_READ: &str = "a,begin\na,w,x,1\na,commit\na,begin\na,r,x,0\na,commit\n";
-
-const STALE_READ_JSON: &str =
-    "{\"answer\":\"anomaly\",\"cycle\":[{\"from\":\"init\",\"kind\":\"session\",\"to\":\"a/1\"},\
-    {\"from\":\"a/1\",\"key\":\"x\",\"kind\":\"derived\",\"reader\":\"a/2\",\"to\":\"init\",\
-    \"walk\":[{\"from\":\"a/1\",\"kind\":\"session\",\"to\":\"a/2\"}]}],\
-    \"shape\":\"stale-initial-read\",\"steps\":3}\n";
 
 /// The names of the transactions of these records.
 fn labels(alloc: Global, records: &str) -> Option<Labels> {
@@ -61,32 +51,19 @@ fn stale_links(alloc: Global, key: Name) -> Result<Links, AllocError>
     Ok(Links::new(links))
 }
 
-/// The stale read, as the anomaly that it is.
+/// The stale read, as the anomaly that it is at `Atomic` too.
 fn stale_read(rt: &impl Abort, alloc: Global) -> Result<Anomaly, AllocError> {
     let links = stale_links(alloc, Name::read(b"x").expect(rt, "a name"))?;
     let labels = labels(alloc, STALE_READ).expect(rt, "labels");
-    Ok(Anomaly::new(links, 3, no_rows(alloc), no_rows(alloc), labels))
+    let (near, far) = (no_rows(alloc), no_rows(alloc));
+    Ok(Anomaly::new(Level::Atomic, links, 3, near, far, labels))
 }
 
 /// An order that is not that of the numbers.
 fn turned(rt: &impl Abort, alloc: Global) -> Result<Commit, AllocError> {
     let labels = labels(alloc, TURNED).expect(rt, "labels");
     let order = Numbers::new([0, 3, 1, 2].as_slice().to_vec(alloc)?);
-    Ok(Commit::new(order, no_rows(alloc), 2, labels))
-}
-
-/// Writes the answer, as JSON or as text.
-fn written<W: Write>(
-    alloc: Global,
-    json: bool,
-    answer: &Answer,
-    out: &mut W,
-) -> Result<(), WriteFault> {
-    if json {
-        write_json(alloc, answer, out)
-    } else {
-        write_text(alloc, answer, out)
-    }
+    Ok(Commit::new(Level::Causal, order, 2, no_rows(alloc), labels))
 }
 
 #[test]
@@ -95,12 +72,32 @@ fn parts(rt: HostRuntime) -> Result<(), Fail> {
     let commit = turned(&rt, alloc)?;
     assert_eq!(&rt; commit.order(), [0, 3, 1, 2].as_slice());
     assert_eq!(&rt; commit.sessions(), 2);
-    assert!(&rt; matches!(commit.certificate(), Certificate::Order { .. }));
+    assert!(&rt;
+        matches!(
+            commit.certificate(),
+            Certificate::Order {
+                version: Version::Two,
+                level: Level::Causal,
+                sessions: 2,
+                ..
+            }
+        )
+    );
     let anomaly = stale_read(&rt, alloc)?;
     assert_eq!(&rt; anomaly.links().len(), 2);
     assert_eq!(&rt; anomaly.cost(), 3);
     assert_eq!(&rt; anomaly.shape(), Shape::StaleInitialRead);
-    assert!(&rt; matches!(anomaly.certificate(), Certificate::Cycle { .. }));
+    assert!(&rt;
+        matches!(
+            anomaly.certificate(),
+            Certificate::Cycle {
+                version: Version::Two,
+                level: Level::Atomic,
+                least: 3,
+                ..
+            }
+        )
+    );
     let answer = Answer::Anomaly(anomaly);
     assert!(&rt; matches!(answer.certificate(), Certificate::Cycle { .. }));
     let mut text = Vec::new(alloc);
@@ -112,104 +109,11 @@ fn parts(rt: HostRuntime) -> Result<(), Fail> {
 #[test]
 fn texts(rt: HostRuntime) -> Result<(), Fail> {
     let alloc = rt.alloc();
-    let order = Answer::Commit(turned(&rt, alloc)?);
-    let anomaly = Answer::Anomaly(stale_read(&rt, alloc)?);
-    let table = [
-        (&order, false, TURNED_TEXT),
-        (&order, true, TURNED_JSON),
-        (&anomaly, false, STALE_READ_TEXT),
-        (&anomaly, true, STALE_READ_JSON),
-    ];
-    for (answer, json, text) in table {
-        let mut out = Vec::new(alloc);
-        assert_eq!(&rt;
-            written(alloc, json, answer, &mut out),
-            Ok(()),
-            "for {text}"
-        );
-        assert_eq!(&rt; out.as_slice(), text.as_bytes());
-    }
-    Ok(())
-}
-
-/// A writer that takes seven bytes at a time. After some calls one fails, and the calls after that work again.
-#[derive(Drop)]
-struct Failing {
-    taken: Vec<u8>,
-    calls: usize,
-    kind: Option<ErrorKind>,
-}
-
-impl Failing {
-    /// Whether this call works, with the failure that it is to have.
-    fn works(&mut self) -> io::Result<bool> {
-        if self.calls != 0 {
-            self.calls -= 1;
-            return Ok(true);
-        }
-        self.calls = usize::MAX;
-        match self.kind {
-            Some(kind) => Err(io::Error::from(kind)),
-            None => Ok(false),
-        }
-    }
-}
-
-impl Write for Failing {
-    fn write(&mut self, bytes: &[u8]) -> io::Result<usize> {
-        if !self.works()? {
-            return Ok(0);
-        }
-        let count = bytes.len().min(7);
-        self.taken.extend_from_slice(&bytes[..count])?;
-        Ok(count)
-    }
-
-    fn flush(&mut self) -> io::Result<()> {
-        self.works()?;
-        Ok(())
-    }
-}
-
-/// How an answer goes out to a writer whose call fails after so many, and what went out.
-fn sent(
-    alloc: Global,
-    json: bool,
-    answer: &Answer,
-    calls: usize,
-    kind: Option<ErrorKind>,
-) -> (Result<(), WriteFault>, Vec<u8>) {
-    let mut out = Failing {
-        taken: Vec::new(alloc),
-        calls,
-        kind,
-    };
-    (written(alloc, json, answer, &mut out), out.taken)
-}
-
-// Whichever write is refused, and however, no further one is tried; and so it is with the flush.
-#[test]
-fn each_write_fails(rt: HostRuntime) -> Result<(), Fail> {
-    let alloc = rt.alloc();
-    let answer = Answer::Anomaly(stale_read(&rt, alloc)?);
-    for (json, text) in [(false, STALE_READ_TEXT), (true, STALE_READ_JSON)] {
-        let writes = text.len().div_ceil(7);
-        for calls in 0..writes {
-            for kind in [Some(ErrorKind::Other), Some(ErrorKind::Interrupted), None] {
-                let (outcome, taken) = sent(alloc, json, &answer, calls, kind);
-                assert_eq!(&rt; outcome, Err(WriteFault::Device), "after {calls}");
-                assert_eq!(&rt;
-                    taken.as_slice(),
-                    &text.as_bytes()[..(calls * 7).min(text.len())]
-                );
-            }
-        }
-        let (outcome, taken) = sent(alloc, json, &answer, writes, Some(ErrorKind::Other));
-        assert_eq!(&rt; outcome, Err(WriteFault::Device), "at the flush");
-        assert_eq!(&rt; taken.as_slice(), text.as_bytes());
-        let (outcome, _taken) = sent(alloc, json, &answer, writes + 1, None);
-        assert_eq!(&rt; outcome, Ok(()));
-    }
+    let answer = Answer::Commit(turned(&rt, alloc)?);
+    let mut out = Vec::new(alloc);
+    assert_eq!(&rt; write_text(alloc, &answer, &mut out), Ok(()));
+    assert_eq!(&rt; write_json(alloc, &answer, &mut out), Ok(()));
+    assert_eq!(&rt; out.as_slice(), TURNED_TEXTS.as_bytes());
     Ok(())
 }
 

@@ -1,6 +1,7 @@
 -- The certificate of the answer for a snapshot keeps all rules.
 use Rattle.tcc_txn.specs.Snapshots.{Sessions}
 use Rattle.tcc_reads.specs.Sources.{history}
+use Rattle.tcc_graph.specs.declared.level.Level.{Level}
 use Rattle.tcc_cert.specs.Rules.{Certifies}
 use Rattle.tcc_answer.specs.Claims.{certificate_of}
 use Rattle.tcc_explain.specs.Explained.{IsAnswerOf}
@@ -10,6 +11,8 @@ use Rattle.tcc_explain.proofs.CertifiedCycle as cycle
 use Rattle.tcc_explain.proofs.CertifiedOrder as order
 use Rattle.tcc_explain.proofs.Numbered.{numbered}
 
-pub certified : (s : Sessions) (a : Answer) → IsAnswerOf (history s) a → Certifies (history s) (certificate_of a)
-certified s (answer.Commit c) (first, sessions, labels, clocks) = order.certified (history s) c.order c.clocks (numbered s) first.1.commit clocks
-certified s (answer.Anomaly a) ((start, first), labels, near, far) = cycle.certified (history s) start a.links a.near a.far first.least near far
+pub certified : (s : Sessions) (level : Level) (a : Answer) → IsAnswerOf (record { history = history s; level = level }) a → Certifies (history s) (certificate_of a)
+certified s level (answer.Commit c) (first, at, sessions, labels, clocks) =
+    rw (at, sessions) (order.certified (record { history = history s; level = level }) c.order c.clocks (numbered s) first.1.commit clocks)
+certified s level (answer.Anomaly a) ((start, first), at, labels, near, far) =
+    rw at (cycle.certified (record { history = history s; level = level }) start a.links a.near a.far first.least near far)

@@ -1,4 +1,5 @@
--- The certificate of a commit order keeps the rules: the clocks grow along causal pairs, and what they have reaches.
+-- The certificate of a commit order keeps the rules: the clocks, where there are some, grow along causal pairs, and what
+-- they have reaches.
 use Rattle.std.proofs.Common.{ℕ, ◌≡◌, ◌≢◌, ◌<◌, ◌≤◌, true, false, ◌∙◌, ◌⊎◌, inl, inr, List, length, refl, sym, subst, arith, eqb, get_or, length-append, ◌++◌}
 use Rattle.std.specs.List.{Contains, list_any}
 use Rattle.std.proofs.lemmas.Bool.{cases_eq, cases_order, eq-eqb, eqb-true, ne_eqb, lt-ltb, and_from, or_left, or_right}
@@ -10,15 +11,19 @@ use Rattle.std.proofs.lemmas.Map.Steps.{length-le_from_distinct_below, le-length
 use Rattle.std.proofs.lemmas.Map.Views.{Contains-from_any}
 use Rattle.tcc_reads.specs.History.{History, count, owner, place}
 use Rattle.tcc_graph.specs.Relations.{IsSessionPair, IsCausalPair}
-use Rattle.tcc_graph.specs.Walks.{IsReached}
+use Rattle.tcc_graph.specs.Walks.{IsWalk, IsReached}
+use Rattle.tcc_graph.specs.Levels.{Judged, IsAllowed}
 use Rattle.tcc_graph.specs.Orders.{Before, IsNumbering, IsCommitOrder}
+use Rattle.tcc_graph.specs.declared.level.Level.{Level}
+use Rattle.tcc_graph.specs.declared.level.Level.TheVariants.{Causal, Atomic}
+use Rattle.tcc_graph.specs.declared.step.Step.{Step}
 use Rattle.tcc_graph.proofs.Pairs.{pair_below}
 use Rattle.tcc_graph.proofs.Walking.{leads_append, pair_walk, walk_on}
 use Rattle.tcc_near.specs.Clocks.{IsBehind, IsLast, IsClocksOf}
 use Rattle.tcc_cert.specs.Tables.{entry}
-use Rattle.tcc_cert.specs.OrderRules.{KeepsPairs, MayReach, BreaksAxiom}
+use Rattle.tcc_cert.specs.OrderRules.{OrderClaim, HasClocks, HasInClock, KeepsPairs, MayReach, BreaksAxiom}
 use Rattle.tcc_cert.specs.Rules.{HoldsEverywhere, CertifiesOrder}
-use Rattle.tcc_explain.specs.Certificates.{IsNumbered}
+use Rattle.tcc_explain.specs.Certificates.{IsClocksAt, IsNumbered}
 
 -- ---- session pairs
 
@@ -45,7 +50,7 @@ numbering_long n order is =
 
 -- ---- what the clocks have
 
-module _ (h : History) (order : List ℕ) (clocks : List (List ℕ)) (numbered : IsNumbered h) (commit : IsCommitOrder h order) (are : IsClocksOf h clocks) where
+module _ (h : History) (clocks : List (List ℕ)) (numbered : IsNumbered h) (are : IsClocksOf h clocks) where
   clock_kept : (b c session : ℕ) → IsCausalPair h b c → session < length h.sessions → entry clocks b session ≤ entry clocks c session
   clock_kept b c session p of =
       let ends = pair_below h b c p in
@@ -66,16 +71,8 @@ module _ (h : History) (order : List ℕ) (clocks : List (List ℕ)) (numbered :
       let committed : 0 < b = omega arith in
       (are.exact c (owner h b) ends.1 (numbered.owned b committed ends.0)).greatest b (record { committed = committed; below = ends.0; owned = refl; reached = (walk, is) })
 
-  pair_before : (a b : ℕ) → IsCausalPair h a b → Before order a b
-  pair_before a b (inl session) = commit.sessions a b session
-  pair_before a b (inr (x, reads)) = commit.reads a b x reads
-
-  keeps : KeepsPairs h (record { order = order; clocks = clocks })
-  keeps = record {
-    numbering = commit.numbering;
-    ordered = pair_before;
-    clocks = λ b c p. record { kept = λ session of. clock_kept b c session p of; had = clock_had b c p };
-  }
+  pub in_clock : (b c : ℕ) → IsCausalPair h b c → HasInClock h clocks b c
+  in_clock b c p = record { kept = λ session of. clock_kept b c session p of; had = clock_had b c p }
 
   -- what stands by its place at or before something that reaches c reaches c too
   reaches : (b c t : ℕ) → 0 < b → b < count h → IsBehind h c (owner h b) t → place h b ≤ place h t → IsReached h b c
@@ -92,34 +89,65 @@ module _ (h : History) (order : List ℕ) (clocks : List (List ℕ)) (numbered :
       go (inr (inl lower)) = earlier (numbered.apart b t some lower behind.below (sym behind.owned))
       go (inr (inr higher)) = absurd (omega (arith, numbered.apart t b behind.committed higher below behind.owned))
 
-  axiom_kept : HoldsEverywhere (BreaksAxiom h (record { order = order; clocks = clocks }))
-  axiom_kept at (x, c, may, reach, not) = not (go (cases_eq at.0 0) reach)
+  -- what the clock of c has reaches c
+  pub reached : (b c : ℕ) → 0 < b → b < count h → c < count h → place h b ≤ entry clocks c (owner h b) → IsReached h b c
+  reached b c some below within low = by (are.exact c (owner h b) within (numbered.owned b some below)).attained
+    where
+      by : (entry clocks c (owner h b) ≡ 0) ⊎ ((t : ℕ) × IsBehind h c (owner h b) t × (place h t ≡ entry clocks c (owner h b))) → IsReached h b c
+      by (inl none) = absurd (omega (arith, numbered.placed b some below))
+      by (inr (t, behind, here)) = reaches b c t some below behind (omega arith)
+
+-- ---- at each level
+
+-- the clocks have the size that the level asks for
+sized : (level : Level) (h : History) (clocks : List (List ℕ)) → IsClocksAt level h clocks → HasClocks level (count h) (length h.sessions) clocks
+sized Causal h clocks are = record { long = are.long; wide = are.wide }
+sized Atomic h clocks none = none
+
+-- what may reach c reaches it by a walk that the level allows
+allowed : (level : Level) (h : History) (clocks : List (List ℕ)) (b c : ℕ) → IsNumbered h → IsClocksAt level h clocks → 0 < b → b < count h → c < count h
+    → MayReach h level clocks b c → (walk : List Step) × IsWalk h b c walk × IsAllowed level walk
+allowed Causal h clocks b c numbered are some below within (inl none) = absurd (omega arith)
+allowed Causal h clocks b c numbered are some below within (inr low) =
+    let (walk, is) = reached h clocks numbered are b c some below within low in
+    (walk, is, tt)
+allowed Atomic h clocks b c numbered none some below within pair = pair_walk h b c pair
+
+module _ (j : Judged) (order : List ℕ) (clocks : List (List ℕ)) (numbered : IsNumbered j.history) (commit : IsCommitOrder j order) (are : IsClocksAt j.level j.history clocks) where
+  abbrev h : History
+  h = j.history
+
+  abbrev claimed : OrderClaim
+  claimed = record { level = j.level; order = order; sessions = length h.sessions; clocks = clocks }
+
+  pair_before : (a b : ℕ) → IsCausalPair h a b → Before order a b
+  pair_before a b (inl session) = commit.sessions a b session
+  pair_before a b (inr (x, reads)) = commit.reads a b x reads
+
+  keeps : KeepsPairs h claimed
+  keeps = record {
+    numbering = commit.numbering;
+    ordered = pair_before;
+    clocks = λ causal. in_clock h clocks numbered (subst (λ (level : Level). IsClocksAt level h clocks) causal are);
+  }
+
+  axiom_kept : HoldsEverywhere (BreaksAxiom h claimed)
+  axiom_kept at (x, c, may, reach, not) = not (go (cases_eq at.0 0))
     where
       a_below : at.1 < count h
       a_below = may.1.0
 
-      first : at.0 ≡ 0 → Before order at.0 at.1
-      first none =
+      go : (at.0 ≡ 0) ⊎ (at.0 ≢ 0) → Before order at.0 at.1
+      go (inl none) =
           let some : 0 < at.1 = omega (arith, may.0) in
           subst (λ (z : ℕ). Before order z at.1) (sym none) (commit.sessions 0 at.1 (initial_first h at.1 some a_below))
+      go (inr some) =
+          let (walk, is, may_be) = allowed j.level h clocks at.0 c numbered are (omega arith) may.2.0 may.1.1 reach in
+          commit.axiom_of at.0 at.1 x c walk (may, (is, may_be))
 
-      reached : 0 < at.0 → place h at.0 ≤ entry clocks c (owner h at.0) → IsReached h at.0 c
-      reached some low = by (are.exact c (owner h at.0) may.1.1 (numbered.owned at.0 some may.2.0)).attained
-        where
-          by : (entry clocks c (owner h at.0) ≡ 0) ⊎ ((t : ℕ) × IsBehind h c (owner h at.0) t × (place h t ≡ entry clocks c (owner h at.0))) → IsReached h at.0 c
-          by (inl none) = absurd (omega (arith, numbered.placed at.0 some may.2.0))
-          by (inr (t, behind, here)) = reaches at.0 c t some may.2.0 behind (omega arith)
-
-      go : (at.0 ≡ 0) ⊎ (at.0 ≢ 0) → MayReach h clocks at.0 c → Before order at.0 at.1
-      go (inl none) r = first none
-      go (inr some) (inl none) = first none
-      go (inr some) (inr low) =
-          let (walk, is) = reached (omega arith) low in
-          commit.causal at.0 at.1 x c walk (may, is)
-
-  pub certified : CertifiesOrder h (record { order = order; clocks = clocks })
+  pub certified : CertifiesOrder h claimed
   certified = record {
-    sizes = record { order = numbering_long (count h) order commit.numbering; clocks = record { long = are.long; wide = are.wide } };
+    sizes = record { order = numbering_long (count h) order commit.numbering; sessions = refl; clocks = sized j.level h clocks are };
     pairs = keeps;
     axiom_of = axiom_kept;
   }

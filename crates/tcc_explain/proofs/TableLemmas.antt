@@ -1,15 +1,18 @@
 -- Tables of certificates, row by row.
-use Rattle.std.proofs.Common.{ℕ, ◌≡◌, ◌<◌, ◌≤◌, ◌==◌, Bool, true, false, cond, ◌⊎◌, inl, inr, List, [], length, map, get_or, None, Some, refl, sym, ◌∙◌, ap, subst, arith}
+use Rattle.std.proofs.Common.{ℕ, ◌≡◌, ◌<◌, ◌≤◌, ◌-◌, ◌==◌, Bool, true, false, cond, ◌⊎◌, inl, inr, List, [], length, map, get_or, None, Some, refl, sym, ◌∙◌, ap, subst, arith}
 use Rattle.std.specs.Prelude.{min, slice_index}
 use Rattle.std.proofs.lemmas.Bool.{cases_lt}
 use Rattle.std.proofs.lemmas.List.{get_or-map, length-map, get_or_default}
 use Rattle.tcc_reads.specs.History.{History, count}
+use Rattle.tcc_graph.specs.Levels.{Judged}
+use Rattle.tcc_graph.specs.declared.level.Level.{Level}
 use Rattle.tcc_near.specs.Clocks.{IsLast, IsClocksOf}
-use Rattle.tcc_near.specs.Distances.{IsNearOf, IsWalkDistance, IsShortest}
+use Rattle.tcc_near.specs.Distances.{IsNearOf, NearTable, IsWalkDistance, IsShortest}
 use Rattle.tcc_near.specs.declared.distances.TheConstants.{NONE}
 use Rattle.tcc_core.specs.Shares.{IsCappedDistance}
-use Rattle.tcc_cert.specs.Tables.{row_of, entry, HasSize}
-use Rattle.tcc_cycle.specs.Costs.{no_cost, IsFarRow, AreRows}
+use Rattle.tcc_cert.specs.Tables.{row_of, entry, far_entry, HasSize}
+use Rattle.tcc_cert.specs.declared.version.Version.TheVariants.{Two}
+use Rattle.tcc_cycle.specs.Costs.{no_cost, AreRows, AreFarRows}
 use Rattle.tcc_explain.specs.Certificates.{IsCappedShortest, IsNearTable, IsFarTable}
 use Rattle.tcc_explain.specs.Capping.{capped_steps}
 
@@ -27,40 +30,54 @@ rows_size P n columns rows are long = record {
 -- ---- routes
 
 -- the table of these rows, capped
-pub far_table : (h : History) (cap : ℕ) (costs rows : List (List ℕ)) → cap ≤ no_cost → AreRows (λ s row. IsFarRow h s cap row) (count h) costs → AreRows (λ s row. row ≡ map (min cap) (row_of costs s)) (count h) rows → IsFarTable h cap rows
-far_table h cap costs rows fits are capped = record {
-  size = rows_size (λ s row. row ≡ map (min cap) (row_of costs s)) (count h) (count h) rows capped (λ s row low is. ap length is ∙ (length-map (row_of costs s) (min cap) ∙ (are.each s low).long));
-  exact = λ s v from to.
+pub far_table : (j : Judged) (cap : ℕ) (costs : List (List ℕ)) → cap ≤ no_cost → AreFarRows j cap costs → IsFarTable j cap (map (map (min cap)) costs)
+far_table j cap costs fits are = record {
+  size = record {
+    long = length-map costs (map (min cap)) ∙ are.long;
+    wide = λ s low. ap length (row s low) ∙ (length-map (row_of costs s) (min cap) ∙ (are.each s low).long);
+  };
+  exact = λ s v up to.
+      let from : s < count j.history = omega arith in
       let far = are.each s from in
-      let at : entry rows s v ≡ min cap (slice_index (row_of costs s) v) = ap (λ (r : List ℕ). get_or r v 0) (capped.each s from) ∙ get_or-map (min cap) (row_of costs s) v 0 0 (omega (arith, far.long)) in
-      let exact : IsCappedDistance h s v (Some cap) (Some (min cap (slice_index (row_of costs s) v))) = far.exact cap v (omega arith) fits to in
-      subst (λ (z : ℕ). IsCappedDistance h s v (Some cap) (Some z)) (sym at) exact;
+      let at : far_entry Two table s v ≡ min cap (slice_index (row_of costs s) (v - s)) = ap (λ (r : List ℕ). get_or r (v - s) 0) (row s from) ∙ get_or-map (min cap) (row_of costs s) (v - s) 0 0 (omega (arith, far.long)) in
+      let exact : IsCappedDistance j s v (Some cap) (Some (min cap (slice_index (row_of costs s) (v - s)))) = far.exact cap v (omega arith) fits up to in
+      subst (λ (z : ℕ). IsCappedDistance j s v (Some cap) (Some z)) (sym at) exact;
 }
+  where
+    table : List (List ℕ)
+    table = map (map (min cap)) costs
+
+    row : (s : ℕ) → s < count j.history → row_of table s ≡ map (min cap) (row_of costs s)
+    row s low = get_or-map (map (min cap)) costs s [] [] (omega (arith, are.long))
 
 -- ---- distances
 
-near_entry : (h : History) (a c cap steps : ℕ) (b : Bool) → (steps == NONE) ≡ b → IsWalkDistance h a c (cond b None (Some steps)) → IsCappedShortest h cap a c (cond b cap (min cap steps))
-near_entry h a c cap steps true e none = inr (refl, λ walk is. absurd (none (walk, is)))
-near_entry h a c cap steps false e shortest = go (cases_lt steps cap)
+-- distances at a level that they name
+pub own_level : (h : History) (level : Level) (near : NearTable) → IsNearOf (record { history = h; level = level }) near → IsNearOf (record { history = h; level = near.level }) near
+own_level h level near is = subst (λ (l : Level). IsNearOf (record { history = h; level = l }) near) (sym is.level) is
+
+near_entry : (j : Judged) (a c cap steps : ℕ) (b : Bool) → (steps == NONE) ≡ b → IsWalkDistance j a c (cond b None (Some steps)) → IsCappedShortest j cap a c (cond b cap (min cap steps))
+near_entry j a c cap steps true e none = inr (refl, λ walk is. absurd (none walk is))
+near_entry j a c cap steps false e shortest = go (cases_lt steps cap)
   where
-    go : (steps < cap) ⊎ (cap ≤ steps) → IsCappedShortest h cap a c (min cap steps)
+    go : (steps < cap) ⊎ (cap ≤ steps) → IsCappedShortest j cap a c (min cap steps)
     go (inl less) =
         let same : min cap steps ≡ steps = omega arith in
-        inl (omega arith, subst (λ (z : ℕ). IsShortest h a c z) (sym same) shortest)
+        inl (omega arith, subst (λ (z : ℕ). IsShortest j a c z) (sym same) shortest)
     go (inr more) =
         let same : min cap steps ≡ cap = omega arith in
         inr (same, λ walk is. omega (arith, shortest.least walk is))
 
-pub near_table : (h : History) (cap : ℕ) (near rows : List (List ℕ)) → IsNearOf h near → AreRows (λ a row. row ≡ map (capped_steps cap) (row_of near a)) (count h) rows → IsNearTable h cap rows
-near_table h cap near rows is capped = record {
-  size = rows_size (λ a row. row ≡ map (capped_steps cap) (row_of near a)) (count h) (count h) rows capped (λ a row low same. ap length same ∙ (length-map (row_of near a) (capped_steps cap) ∙ wide a low));
+pub near_table : (j : Judged) (cap : ℕ) (near : NearTable) (rows : List (List ℕ)) → IsNearOf j near → AreRows (λ a row. row ≡ map (capped_steps cap) (row_of near.rows a)) (count j.history) rows → IsNearTable j cap rows
+near_table j cap near rows is capped = record {
+  size = rows_size (λ a row. row ≡ map (capped_steps cap) (row_of near.rows a)) (count j.history) (count j.history) rows capped (λ a row low same. ap length same ∙ (length-map (row_of near.rows a) (capped_steps cap) ∙ wide a low));
   exact = λ a c from to.
-      let at : entry rows a c ≡ capped_steps cap (slice_index (row_of near a) c) = ap (λ (r : List ℕ). get_or r c 0) (capped.each a from) ∙ get_or-map (capped_steps cap) (row_of near a) c 0 0 (omega (arith, wide a from)) in
-      let exact : IsCappedShortest h cap a c (capped_steps cap (slice_index (row_of near a) c)) = near_entry h a c cap (slice_index (row_of near a) c) (slice_index (row_of near a) c == NONE) refl (is.exact a c from to) in
-      subst (λ (z : ℕ). IsCappedShortest h cap a c z) (sym at) exact;
+      let at : entry rows a c ≡ capped_steps cap (slice_index (row_of near.rows a) c) = ap (λ (r : List ℕ). get_or r c 0) (capped.each a from) ∙ get_or-map (capped_steps cap) (row_of near.rows a) c 0 0 (omega (arith, wide a from)) in
+      let exact : IsCappedShortest j cap a c (capped_steps cap (slice_index (row_of near.rows a) c)) = near_entry j a c cap (slice_index (row_of near.rows a) c) (slice_index (row_of near.rows a) c == NONE) refl (is.exact a c from to) in
+      subst (λ (z : ℕ). IsCappedShortest j cap a c z) (sym at) exact;
 }
   where
-    wide : (a : ℕ) → a < count h → length (row_of near a) ≡ count h
+    wide : (a : ℕ) → a < count j.history → length (row_of near.rows a) ≡ count j.history
     wide a low = is.square.wide a [] (omega (arith, is.square.long))
 
 -- ---- clocks

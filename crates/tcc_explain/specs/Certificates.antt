@@ -1,27 +1,37 @@
--- The tables in an answer's certificate: the distances of a cycle, capped at what it costs; and how transactions are
--- numbered where the clocks of an order can be checked.
-use Rattle.std.specs.Prelude.{ℕ, ◌<◌, ◌≤◌, ◌≡◌, ◌⊎◌, List, length, Some}
+-- The tables in an answer's certificate: the distances of a cycle, capped at what it costs, and the clocks of an order;
+-- and how transactions are numbered where clocks can be checked.
+use Rattle.std.specs.Prelude.{ℕ, ◌<◌, ◌≤◌, ◌≡◌, ◌⊎◌, List, [], length, Some}
 use Rattle.tcc_reads.specs.History.{History, count, owner, place}
-use Rattle.tcc_graph.specs.Walks.{IsWalk}
+use Rattle.tcc_graph.specs.Levels.{Judged, IsAllowedWalk}
+use Rattle.tcc_graph.specs.declared.level.Level.{Level}
+use Rattle.tcc_graph.specs.declared.level.Level.TheVariants.{Causal, Atomic}
 use Rattle.tcc_graph.specs.declared.step.Step.{Step}
+use Rattle.tcc_near.specs.Clocks.{IsClocksOf}
 use Rattle.tcc_near.specs.Distances.{IsShortest}
 use Rattle.tcc_core.specs.Shares.{IsCappedDistance}
-use Rattle.tcc_cert.specs.Tables.{entry, HasSize}
+use Rattle.tcc_cert.specs.Tables.{entry, far_entry, HasSize, HasFarSize}
+use Rattle.tcc_cert.specs.declared.version.Version.TheVariants.{Two}
 
--- the least length of a walk from a to c where it is below the cap; the cap where there is none or it is not
-abbrev pub IsCappedShortest : History → ℕ → ℕ → ℕ → ℕ → Type 0
-IsCappedShortest h cap a c n =
-    ((n < cap) × IsShortest h a c n) ⊎ ((n ≡ cap) × ((walk : List Step) → IsWalk h a c walk → cap ≤ length walk))
+-- the least length of an allowed walk from a to c where it is below the cap; the cap where there is none or it is not
+abbrev pub IsCappedShortest : Judged → ℕ → ℕ → ℕ → ℕ → Type 0
+IsCappedShortest j cap a c n =
+    ((n < cap) × IsShortest j a c n) ⊎ ((n ≡ cap) × ((walk : List Step) → IsAllowedWalk j a c walk → cap ≤ length walk))
 
--- from each transaction to each, itself among them, the least length of a walk, capped
-pub record IsNearTable (h : History) (cap : ℕ) (table : List (List ℕ)) : Type 0 where
-  pub size : HasSize (count h) (count h) table
-  pub exact : (a : ℕ) (c : ℕ) → a < count h → c < count h → IsCappedShortest h cap a c (entry table a c)
+-- from each transaction to each, itself among them, the least length of an allowed walk, capped
+pub record IsNearTable (j : Judged) (cap : ℕ) (table : List (List ℕ)) : Type 0 where
+  pub size : HasSize (count j.history) (count j.history) table
+  pub exact : (a : ℕ) (c : ℕ) → a < count j.history → c < count j.history → IsCappedShortest j cap a c (entry table a c)
 
--- from each transaction to each, itself among them, the least cost of a route, capped
-pub record IsFarTable (h : History) (cap : ℕ) (table : List (List ℕ)) : Type 0 where
-  pub size : HasSize (count h) (count h) table
-  pub exact : (s : ℕ) (v : ℕ) → s < count h → v < count h → IsCappedDistance h s v (Some cap) (Some (entry table s v))
+-- from each transaction to each from itself upward, the least cost of a route over numbers from there upward, capped
+pub record IsFarTable (j : Judged) (cap : ℕ) (table : List (List ℕ)) : Type 0 where
+  pub size : HasFarSize Two (count j.history) table
+  pub exact : (s : ℕ) (v : ℕ) → s ≤ v → v < count j.history
+      → IsCappedDistance j s v (Some cap) (Some (far_entry Two table s v))
+
+-- the clocks by which an order can be checked: at `Atomic` nothing asks for them, and there are none
+abbrev pub IsClocksAt : Level → History → List (List ℕ) → Type 0
+IsClocksAt Causal h clocks = IsClocksOf h clocks
+IsClocksAt Atomic h clocks = clocks ≡ []
 
 -- committed transactions are of sessions that there are, their places count from 1, and grow in a session by number
 pub record IsNumbered (h : History) : Type 0 where

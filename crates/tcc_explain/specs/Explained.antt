@@ -1,27 +1,26 @@
--- What is answered for a snapshot.
+-- What is answered for a snapshot at a level.
 use Rattle.std.specs.Prelude.{ℕ, ◌≡◌, ◌≢◌, [], length}
 use Rattle.tcc_txn.specs.Snapshots.{Sessions}
 use Rattle.tcc_reads.specs.Faults.{read_faults}
-use Rattle.tcc_reads.specs.History.{History}
+use Rattle.tcc_graph.specs.Levels.{Judged}
 use Rattle.tcc_graph.specs.Links.{cost}
 use Rattle.tcc_graph.specs.Answers as first
-use Rattle.tcc_near.specs.Clocks.{IsClocksOf}
 use Rattle.tcc_answer.specs.Labels.{labels_of}
-use Rattle.tcc_explain.specs.Certificates.{IsNearTable, IsFarTable}
+use Rattle.tcc_explain.specs.Certificates.{IsNearTable, IsFarTable, IsClocksAt}
 use Rattle.tcc_answer.specs.declared.answer.Answer.{Answer}
 use Rattle.tcc_answer.specs.declared.answer.Answer.TheVariants as answer
 use Rattle.tcc_explain.specs.declared.refusal.ExplainFault.{ExplainFault}
 use Rattle.tcc_explain.specs.declared.refusal.ExplainFault.TheVariants as refusal
 
--- the first answer for the history, with its labels: without a cycle the first commit order, with the clocks; else the
--- first least cycle, with the distances, each capped at what the cycle costs
-abbrev pub IsAnswerOf : History → Answer → Type 0
-IsAnswerOf h (answer.Commit c) =
-    first.IsFirstAnswer h (first.Order c.order) × (c.sessions ≡ length h.sessions) × (c.labels ≡ labels_of h)
-    × IsClocksOf h c.clocks
-IsAnswerOf h (answer.Anomaly a) =
-    ((s : ℕ) × first.IsFirstAnswer h (first.Cycle s a.links)) × (a.labels ≡ labels_of h)
-    × IsNearTable h (cost a.links) a.near × IsFarTable h (cost a.links) a.far
+-- the first answer for the history at the level, with its labels: without a cycle the first commit order, with the
+-- clocks; else the first least cycle, with the distances, each capped at what the cycle costs
+abbrev pub IsAnswerOf : Judged → Answer → Type 0
+IsAnswerOf j (answer.Commit c) =
+    first.IsFirstAnswer j (first.Order c.order) × (c.level ≡ j.level) × (c.sessions ≡ length j.history.sessions)
+    × (c.labels ≡ labels_of j.history) × IsClocksAt j.level j.history c.clocks
+IsAnswerOf j (answer.Anomaly a) =
+    ((s : ℕ) × first.IsFirstAnswer j (first.Cycle s a.links)) × (a.level ≡ j.level) × (a.labels ≡ labels_of j.history)
+    × IsNearTable j (cost a.links) a.near × IsFarTable j (cost a.links) a.far
 
 -- the list has exactly the read faults of the snapshot, of which there is one at least; or memory was wanting
 abbrev pub IsRefusal : Sessions → ExplainFault → Type 0

@@ -1,16 +1,18 @@
 //! The tables of certificates, from the distances, the searches' rows and the clocks.
 ghost use Rattle.std.specs.Prelude.{◌≡◌, ◌<◌, IfOk, map, length, min};
-ghost use Rattle.tcc_near.specs.Distances.{IsNearOf};
+ghost use Rattle.tcc_graph.specs.Levels.{Judged};
 ghost use Rattle.tcc_graph.specs.Tables.{row_of};
+ghost use Rattle.tcc_near.specs.Distances.{IsNearOf};
 ghost use Rattle.tcc_near.specs.Clocks.{IsClocksOf};
 ghost use Rattle.tcc_cycle.specs.Costs.{AreFarRows};
-ghost use Rattle.tcc_explain.specs.Certificates.{IsNearTable, IsFarTable};
+ghost use Rattle.tcc_explain.specs.Certificates.{IsNearTable, IsFarTable, IsClocksAt};
 ghost use Rattle.tcc_explain.specs.Capping.{capped_steps};
 
 use std::alloc::Global;
+use std::thread::Threads;
 use tcc_cert::{Numbers, Table};
-use tcc_graph::Graph;
-use tcc_near::{Clocks, NONE, Near, Row};
+use tcc_graph::{Graph, Level};
+use tcc_near::{Clocks, NONE, Near, Row, clocks};
 use tcc_txn::NoMemory;
 
 /// A number of steps, capped; the cap where no walk leads.
@@ -26,8 +28,8 @@ fn capped_steps(steps: u16, cap: u32) -> u32
 
 /// The distances from one transaction, capped.
 fn near_row(alloc: Global, near: &Near, a: u32, cap: u32) -> Result<Numbers, NoMemory>
-    requires { a < length near.now }
-    ensures { IfOk result (λ row. row ≡ map (capped_steps cap) (row_of near.now a)) }
+    requires { a < length near.now.rows }
+    ensures { IfOk result (λ row. row ≡ map (capped_steps cap) (row_of near.now.rows a)) }
 {
     let mut row = Vec::new(alloc);
     for steps in near.row(a) {
@@ -36,15 +38,15 @@ fn near_row(alloc: Global, near: &Near, a: u32, cap: u32) -> Result<Numbers, NoM
     Ok(Numbers::new(row))
 }
 
-/// The least lengths of walks, capped.
+/// The least lengths of the walks that the level of the distances allows, capped.
 pub(crate) fn near_table(
     alloc: Global,
     graph: &Graph,
     near: &Near,
     cap: u32,
 ) -> Result<Table, NoMemory>
-    requires { IsNearOf graph.now near.now }
-    ensures { IfOk result (IsNearTable graph.now cap) }
+    requires { IsNearOf (record { history = graph.now; level = near.now.level }) near.now }
+    ensures { IfOk result (IsNearTable (record { history = graph.now; level = near.now.level }) cap) }
 {
     let mut rows = Vec::new(alloc);
     for a in 0..graph.count() {
@@ -64,25 +66,19 @@ fn far_row(alloc: Global, costs: &[u32], cap: u32) -> Result<Numbers, NoMemory>
     Ok(Numbers::new(row))
 }
 
-/// The least costs of routes, capped.
-pub(crate) fn far_table(
-    alloc: Global,
-    graph: &Graph,
-    rows: &[Row<u32>],
-    cap: u32,
-) -> Result<Table, NoMemory>
-    requires { AreFarRows graph.now cap rows.now }
-    ensures { IfOk result (IsFarTable graph.now cap) }
+/// The least costs of routes over numbers from their start upward, capped.
+pub(crate) fn far_table(alloc: Global, rows: &[Row<u32>], cap: u32) -> Result<Table, NoMemory>
+    ensures { (j : Judged) → AreFarRows j cap rows.now → IfOk result (IsFarTable j cap) }
 {
     let mut table = Vec::new(alloc);
-    for s in 0..graph.count() {
-        table.push(far_row(alloc, rows[s as usize].values(), cap)?)?;
+    for row in rows {
+        table.push(far_row(alloc, row.values(), cap)?)?;
     }
     Ok(Table::new(table))
 }
 
 /// The clocks as a table.
-pub(crate) fn clock_table(alloc: Global, graph: &Graph, clocks: &Clocks) -> Result<Table, NoMemory>
+fn clock_table(alloc: Global, graph: &Graph, clocks: &Clocks) -> Result<Table, NoMemory>
     requires { IsClocksOf graph.now clocks.now }
     ensures { IfOk result (IsClocksOf graph.now) }
 {
@@ -91,4 +87,19 @@ pub(crate) fn clock_table(alloc: Global, graph: &Graph, clocks: &Clocks) -> Resu
         rows.push(Numbers::new(clocks.row(t).iter().copied().collect(alloc)?))?;
     }
     Ok(Table::new(rows))
+}
+
+/// The clocks by which an order can be checked at a level: at `Atomic` there are none.
+pub(crate) fn clocks_at(
+    rt: &(impl Threads + Sync),
+    alloc: Global,
+    graph: &Graph,
+    level: Level,
+) -> Result<Table, NoMemory>
+    ensures { IfOk result (IsClocksAt level graph.now) }
+{
+    match level {
+        Level::Causal => clock_table(alloc, graph, &clocks(rt, alloc, graph)?),
+        Level::Atomic => Ok(Table::new(Vec::new(alloc))),
+    }
 }

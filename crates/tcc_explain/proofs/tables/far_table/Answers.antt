@@ -1,10 +1,11 @@
 use Rattle.std.proofs.Common.{arith}
-use Rattle.tcc_reads.specs.History.{count}
-use Rattle.tcc_explain.proofs.TableLemmas.{so_many, far_table}
+use Rattle.std.proofs.lemmas.List.{take_all}
+use Rattle.tcc_explain.proofs.TableLemmas.{far_table}
 use Rattle.tcc_explain.proofs.tables.far_table.Goals as goal
 
 pub returns : goal.returns
-returns c =
-    let h = c.args.graph.now in
-    let rows = so_many _ c.loop-s.s (count h) c.loop-s.table.items (omega (arith, c.count-s-end.ensures.value)) c.loop-s.invariant in
-    rw c.new.ensures (far_table h c.args.cap c.args.rows.now c.loop-s.table.items (omega arith) c.requires rows)
+returns c = λ j are.
+    let cap = c.args.cap in
+    let rows = c.args.rows.now in
+    rw (c.new.ensures, c.loop-row.invariant, take_all c.loop-row.row-index rows c.loop-row-test.false)
+    (far_table j cap rows (omega arith) are)

@@ -6,4 +6,4 @@ use Rattle.tcc_cycle.specs.Costs.{AreRows}
 use Rattle.tcc_explain.proofs.tables.near_table.Given as goal
 
 abbrev pub invariant-loop-a : goal.invariant-loop-a
-invariant-loop-a l = AreRows (λ a row. row ≡ map (capped_steps l.cap) (row_of l.near a)) l.a l.rows.items
+invariant-loop-a l = AreRows (λ a row. row ≡ map (capped_steps l.cap) (row_of l.near.rows a)) l.a l.rows.items
