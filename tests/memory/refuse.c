@@ -6,12 +6,12 @@
 #include <fcntl.h>
 #include <stdlib.h>
 
-static long seen;
+static long seen; /* by all threads */
 
 static int refuses(void)
 {
     const char *number = getenv("REFUSE"), *path = getenv("REFUSED");
-    if (!number || !path || ++seen != atol(number))
+    if (!number || !path || __atomic_add_fetch(&seen, 1, __ATOMIC_SEQ_CST) != atol(number))
         return 0;
     open(path, O_CREAT | O_WRONLY, 0644);
     errno = ENOMEM;

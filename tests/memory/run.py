@@ -1,8 +1,11 @@
 #!/usr/bin/env python3
-"""Refuses each allocation of the built program in turn: the answers stay, or one of them and all after it are the line
+"""Refuses each allocation of the built programs in turn: the answers stay, or one of them and all after it are the line
 for want of memory, status 5.
 
-    run.py [--tcc PATH]
+    run.py [--tcc PATH] [--recorders PATH]
+
+Where a transaction of the recorders is refused it is recorded again, and they say so on standard error: in one thread,
+where the allocations of all runs are the same, each recorder's last one has to be among these, with all answers.
 
 Wants a C compiler on the path (`cc` or `clang`); where there is none it says so and tests nothing. Each difference
 is one line; the last line is `N passed, M failed`, a run a refused allocation.
@@ -88,13 +91,18 @@ ANSWERS = [
      b"unresolved: 1 faults\nIntermediate b/1 op 1 x 1\n", 2),
     (None, ["check", "@certificate", "@certificate"], b"row 1: UnknownWord\n", 3),
 ]
+# What the recorders answer one after another, and what they say of the last transaction of each of them.
+RECORDED = (TOP / "crates" / "tcc_recorders" / "stdout").read_bytes()
+ANOMALY, END = RECORDED.index(b"anomaly"), RECORDED.rindex(b"consistent")
+RECORDED = [RECORDED[:ANOMALY], RECORDED[ANOMALY:END], RECORDED[END:]]
+AGAIN = [b"recorded again: %s\n" % last for last in (b"alice/1", b"bob/1", b"carol/3", b"dave/1")]
 
 
 def answer(words, given, environment):
-    """Output and status of a run."""
+    """Output and status of a run, and its standard error."""
     with open(given or os.devnull, "rb") as records:
         run = subprocess.run(words, stdin=records, capture_output=True, env=environment, timeout=60)
-    return run.stdout, run.returncode
+    return (run.stdout, run.returncode), run.stderr
 
 
 def cut_off(answers, line):
@@ -103,7 +111,7 @@ def cut_off(answers, line):
 
 
 def refusals(words, given, answers, status, shim, mark):
-    """For each allocation of a run, what is answered where it is refused, and whether that is right.
+    """For each allocation of a run, what is answered where it is refused, whether that is right, and standard error.
 
     Before the words of the command line are read the line `memory` stands, as nobody knows yet that JSON is wanted;
     from the first line of JSON on, that one.
@@ -114,11 +122,11 @@ def refusals(words, given, answers, status, shim, mark):
     for number in range(1, MOST):
         mark.unlink(missing_ok=True)
         environment = dict(os.environ, LD_PRELOAD=str(shim), REFUSE=str(number), REFUSED=str(mark))
-        got = answer(words, given, environment)
+        got, said = answer(words, given, environment)
         refused = mark.exists()
         if got in json:
             lines = json
-        yield number, got, got == ample or (refused and got in lines)
+        yield number, got, got == ample or (refused and got in lines), said if got == ample else b""
         if not refused:
             break
 
@@ -126,7 +134,11 @@ def refusals(words, given, answers, status, shim, mark):
 def main():
     ask = argparse.ArgumentParser(description="Refuses each allocation of tcc in turn.")
     ask.add_argument("--tcc", default=str(TOP / "crates" / "tcc" / "out" / "tcc"), help="another program than the built one")
-    tcc = os.path.abspath(ask.parse_args().tcc)
+    ask.add_argument("--recorders", default=str(TOP / "crates" / "tcc_recorders" / "out" / "tcc_recorders"), help="the same")
+    asked = ask.parse_args()
+    tcc, recorders = os.path.abspath(asked.tcc), os.path.abspath(asked.recorders)
+    runs = [(tcc, given, words, said, status) for given, words, said, status in ANSWERS]
+    runs += [(recorders, None, [], RECORDED, 0), (recorders, None, ["alone"], RECORDED, 0)]
     compiler = shutil.which("cc") or shutil.which("clang")
     passed = failed = 0
     if not compiler:
@@ -136,15 +148,20 @@ def main():
         pathlib.Path(folder, "certificate").write_bytes(FORK_CERTIFICATE)
         if compiler:
             subprocess.run([compiler, "-shared", "-fPIC", "-O1", "-o", shim, HERE / "refuse.c", "-ldl"], check=True)
-        for given, asked, said, status in ANSWERS if compiler else ():
-            words = [tcc] + [str(word).replace("@", folder + "/") for word in asked]
-            answers = said if isinstance(said, list) else [said]
-            for number, got, right in refusals(words, given, answers, status, shim, mark):
+        for program, given, asked, answers, status in runs if compiler else ():
+            words = [program] + [str(word).replace("@", folder + "/") for word in asked]
+            answers = answers if isinstance(answers, list) else [answers]
+            wanted = set(AGAIN if "alone" in asked else [])
+            for number, got, right, said in refusals(words, given, answers, status, shim, mark):
+                wanted.discard(said)
                 if right:
                     passed += 1
                 else:
                     failed += 1
-                    print("%s, allocation %d refused: got %r" % (" ".join(words[1:]), number, got))
+                    print("%s, allocation %d refused: got %r" % (" ".join(words), number, got))
+            for line in wanted:
+                failed += 1
+                print("%s: never said %r" % (" ".join(words), line))
     print("%d passed, %d failed" % (passed, failed))
     return 1 if failed else 0
 

@@ -1,0 +1,26 @@
+//! The answer for a book.
+ghost use Rattle.tcc_audit.specs.Audited.{IsAudit};
+
+use crate::fault::AuditFault;
+use std::alloc::Global;
+use std::sync::Wait;
+use std::thread::Threads;
+use tcc_answer::Answer;
+use tcc_book::{Book, Pass};
+use tcc_explain::explain;
+use tcc_graph::Level;
+
+/// The first answer, at a level, for exactly what the passes recorded, where they are those of all sessions of the book;
+/// it is the same in whatever order their recorders held the lock. The book stays as it is.
+pub fn audit(
+    rt: &(impl Threads + Wait + Sync),
+    alloc: Global,
+    book: &Book,
+    passes: &[Pass],
+    level: Level,
+) -> Result<Answer, AuditFault>
+    ensures { IsAudit passes.now level result }
+{
+    let whole = book.whole(rt, alloc, passes).map_err(AuditFault::Whole)?;
+    explain(rt, alloc, &whole, level).map_err(AuditFault::Explain)
+}

@@ -1,0 +1,136 @@
+//! What no clause says: that there is an answer, which one it is, and which refusal comes.
+use crate::{AuditFault, audit};
+use std::alloc::Global;
+use std::process::Abort;
+use std::sync::Wait;
+use std::test::Fail;
+use std::thread;
+use std::thread::Threads;
+use tcc_answer::write_text;
+use tcc_book::{Book, Pass, WholeFault};
+use tcc_explain::ExplainFault;
+use tcc_graph::Level;
+use tcc_txn::{Name, Op, Txn};
+
+/// The answer where each of two sessions writes a key and then reads its initial value, whoever recorded first.
+const STALE: &str = "anomaly: 3 steps, stale-initial-read\nsession init -> a/1\n\
+    derived a/1 -> init by x, read by a/2\n  session a/1 -> a/2\n  against init -> a/2 by x\n";
+
+/// The key of a session's writes.
+fn key_of(session: &Name) -> Option<Name> {
+    let key = if session.bytes().first() == Some(&b'a') {
+        b"x"
+    } else {
+        b"y"
+    };
+    Name::read(key).ok()
+}
+
+/// Records a transaction of one operation.
+fn record(rt: &impl Wait, alloc: Global, book: &Book, pass: &mut Pass, op: Op) -> Option<()> {
+    let mut ops = Vec::new(alloc);
+    ops.push(op).ok()?;
+    let txn = Txn::new(ops, true).ok()?;
+    book.record(rt, alloc, pass, txn).ok()?;
+    Some(())
+}
+
+/// A recorder's whole life.
+fn recorder(rt: &impl Wait, alloc: Global, book: &Book, pass: Pass) -> Option<Pass> {
+    let mut pass = pass;
+    let key = key_of(pass.session())?;
+    record(rt, alloc, book, &mut pass, Op::Put { key, value: 1 })?;
+    record(rt, alloc, book, &mut pass, Op::Get { key, value: 0 })?;
+    Some(pass)
+}
+
+/// The passes of two sessions, opened in this order.
+fn opened(rt: &impl Wait, alloc: Global, book: &Book, sessions: &[&[u8]]) -> Option<Vec<Pass>> {
+    let mut passes = Vec::new(alloc);
+    for session in sessions {
+        let name = Name::read(session).ok()?;
+        passes.push(book.open(rt, alloc, name).ok()?).ok()?;
+    }
+    Some(passes)
+}
+
+/// Whether the audit gives the text.
+fn gives(
+    rt: &(impl Threads + Wait + Sync),
+    alloc: Global,
+    book: &Book,
+    passes: &[Pass],
+    text: &str,
+) -> bool {
+    for level in [Level::Causal, Level::Atomic] {
+        let Ok(answer) = audit(rt, alloc, book, passes, level) else {
+            return false;
+        };
+        let mut out = Vec::new(alloc);
+        if write_text(alloc, &answer, &mut out).is_err() || out.as_slice() != text.as_bytes() {
+            return false;
+        }
+    }
+    true
+}
+
+/// Two recorders in threads of their own: the text is the same in whatever order they record and their passes come. A
+/// session without its pass is missed, and afterwards book and passes work on.
+#[test]
+fn two_recorders(rt: HostRuntime) {
+    let alloc = rt.alloc();
+    for sessions in [[b"a", b"b"], [b"b", b"a"]] {
+        let Ok(book) = Book::new(alloc) else {
+            panic!(rt; "no memory");
+        };
+        let Some(passes) = opened(&rt, alloc, &book, &[sessions[0], sessions[1]]) else {
+            panic!(rt; "not opened");
+        };
+        let Ok(ends) = thread::map_vec(&rt, passes, &|pass| recorder(&rt, alloc, &book, pass))
+        else {
+            panic!(rt; "no memory");
+        };
+        let mut passes = Vec::new(alloc);
+        for end in ends {
+            let Some(pass) = end else {
+                panic!(rt; "a recorder was refused");
+            };
+            let missed = audit(&rt, alloc, &book, &passes, Level::Causal);
+            assert!(rt;
+                matches!(
+                    missed,
+                    Err(AuditFault::Whole(WholeFault::MissingPass { .. }))
+                )
+            );
+            assert!(rt; passes.push(pass).is_ok());
+        }
+        assert!(rt; gives(&rt, alloc, &book, &passes, STALE));
+    }
+}
+
+/// A read that no write explains is named, and afterwards book and pass work on.
+#[test]
+fn unresolved(rt: HostRuntime) {
+    let alloc = rt.alloc();
+    let Ok(book) = Book::new(alloc) else {
+        panic!(rt; "no memory");
+    };
+    let Some(mut passes) = opened(&rt, alloc, &book, &[b"a"]) else {
+        panic!(rt; "not opened");
+    };
+    let Ok(key) = Name::read(b"x") else {
+        panic!(rt; "no name");
+    };
+    for value in [7, 8] {
+        for pass in &mut passes {
+            let done = record(&rt, alloc, &book, pass, Op::Get { key, value });
+            assert!(rt; done.is_some());
+        }
+        match audit(&rt, alloc, &book, &passes, Level::Causal) {
+            Err(AuditFault::Explain(ExplainFault::Reads(faults))) => {
+                assert_eq!(rt; faults.len() as u64, value - 6);
+            }
+            _ => panic!(rt; "no read fault"),
+        }
+    }
+}

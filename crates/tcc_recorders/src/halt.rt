@@ -1,0 +1,112 @@
+//! Why the demonstration ends before its last answer.
+
+use std::alloc::{AllocError, AllocFailed};
+use tcc_answer::WriteFault;
+use tcc_audit::AuditFault;
+use tcc_book::{OpenFault, RecordFault, SealFault, WholeFault};
+use tcc_explain::ExplainFault;
+use tcc_txn::{NameFault, NoMemory, TxnFault};
+
+/// Why there is no further answer.
+#[derive(Clone, Copy, Drop)]
+pub enum Halt {
+    /// Memory was refused.
+    NoMemory,
+    /// Standard output failed.
+    Device,
+    /// The script isn't one that can be played.
+    Script,
+}
+
+impl From<NoMemory> for Halt {
+    fn from(_error: NoMemory) -> Halt {
+        Halt::NoMemory
+    }
+}
+
+impl From<AllocError> for Halt {
+    fn from(_error: AllocError) -> Halt {
+        Halt::NoMemory
+    }
+}
+
+impl<T: Drop> From<AllocFailed<T>> for Halt {
+    fn from(_error: AllocFailed<T>) -> Halt {
+        Halt::NoMemory
+    }
+}
+
+impl From<NameFault> for Halt {
+    fn from(_fault: NameFault) -> Halt {
+        Halt::Script
+    }
+}
+
+impl From<TxnFault> for Halt {
+    fn from(_fault: TxnFault) -> Halt {
+        Halt::Script
+    }
+}
+
+impl From<OpenFault> for Halt {
+    fn from(fault: OpenFault) -> Halt {
+        match fault {
+            OpenFault::NoMemory => Halt::NoMemory,
+            _ => Halt::Script,
+        }
+    }
+}
+
+impl From<RecordFault> for Halt {
+    fn from(fault: RecordFault) -> Halt {
+        match fault {
+            RecordFault::NoMemory => Halt::NoMemory,
+            _ => Halt::Script,
+        }
+    }
+}
+
+impl From<SealFault> for Halt {
+    fn from(fault: SealFault) -> Halt {
+        match fault {
+            SealFault::NoMemory => Halt::NoMemory,
+            _ => Halt::Script,
+        }
+    }
+}
+
+impl From<WholeFault> for Halt {
+    fn from(fault: WholeFault) -> Halt {
+        match fault {
+            WholeFault::NoMemory => Halt::NoMemory,
+            _ => Halt::Script,
+        }
+    }
+}
+
+impl From<ExplainFault> for Halt {
+    fn from(fault: ExplainFault) -> Halt {
+        match fault {
+            ExplainFault::NoMemory => Halt::NoMemory,
+            ExplainFault::Reads(_) => Halt::Script,
+        }
+    }
+}
+
+impl From<AuditFault> for Halt {
+    fn from(fault: AuditFault) -> Halt {
+        match fault {
+            AuditFault::Whole(fault) => Halt::from(fault),
+            AuditFault::Explain(fault) => Halt::from(fault),
+        }
+    }
+}
+
+impl From<WriteFault> for Halt {
+    fn from(fault: WriteFault) -> Halt {
+        match fault {
+            WriteFault::NoMemory => Halt::NoMemory,
+            WriteFault::Device => Halt::Device,
+        }
+    }
+}
