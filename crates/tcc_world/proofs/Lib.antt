@@ -1,0 +1,4 @@
+pub mod Counting
+pub mod Sharing
+pub mod Keeping
+pub mod Settling

@@ -1,0 +1,9 @@
+//! The machine of all interleavings: many workers search from all starts, one action of one worker after another, in any
+//! order; and the law that every order settles the same least cost.
+#![tactic(auto)]
+
+mod event;
+pub mod laws;
+mod stage;
+
+pub use event::{Event, RunFault, StepFault};
