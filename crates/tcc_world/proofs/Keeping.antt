@@ -256,8 +256,8 @@ run_kept j old new (e ∷ events) is (mid, happens, runs) = run_kept j mid new e
 
 -- what happens was enabled
 pub happens_enabled : (j : Judged) (old new : World) (e : Event) → Happens j old e new → IsEnabled old e
-happens_enabled j old new (event.Take w s) (idle, here, rest) = (idle, here)
+happens_enabled j old new (event.Take w s) (idle, here, row, empty, e) = (idle, here)
 happens_enabled j old new (event.Look w) (search, has, e) = (search, has)
-happens_enabled j old new (event.Settle w) (search, has, going, rest) = (search, has, going)
+happens_enabled j old new (event.Settle w) (search, has, going, row, to, grows, e) = (search, has, going)
 happens_enabled j old new (event.Offer w c) (search, has, returned, e) = (search, has, returned)
 happens_enabled j old new (event.End w) (search, has, stop, over, e) = (search, has, stop, over)

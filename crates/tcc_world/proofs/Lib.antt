@@ -2,3 +2,4 @@ pub mod Counting
 pub mod Sharing
 pub mod Keeping
 pub mod Settling
+pub mod Machining

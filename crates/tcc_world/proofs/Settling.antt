@@ -31,7 +31,7 @@ nothing_from f (x ∷ xs) none =
 pub numbers : (n : ℕ) → IsNumbering n (range_with_len 0 n)
 numbers n = record {
   below = λ i d within. let inside : i < n = omega (arith, length-range_with_len 0 n) in omega (arith, inside, get_or-range_with_len 0 n i d inside);
-  each = λ a below. (a, omega (arith, length-range_with_len 0 n), get_or-range_with_len 0 n a a below);
+  each = λ a below. (a, omega (arith, length-range_with_len 0 n), omega (arith, get_or-range_with_len 0 n a a below));
   once = λ i j less within same. let second : j < n = omega (arith, length-range_with_len 0 n) in let first : i < n = omega (arith, second) in omega (arith, same, get_or-range_with_len 0 n i 0 first, get_or-range_with_len 0 n j 0 second);
 }
 

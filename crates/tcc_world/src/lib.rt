@@ -2,8 +2,11 @@
 //! order; and the law that every order settles the same least cost.
 #![tactic(auto)]
 
+mod desk;
 mod event;
 pub mod laws;
 mod stage;
+mod world;
 
 pub use event::{Event, RunFault, StepFault};
+pub use world::World;
