@@ -1,19 +1,23 @@
 -- The machine as the code keeps it, and as its definition sees it.
-use Rattle.std.proofs.Common.{◌≡◌, ◌<◌, ◌≤◌, ◌+◌, ℕ, zero, suc, ◌⊎◌, inl, inr, List, [], ◌∷◌, ◌++◌, length, map, Option, None, Some, All, Contains, get_or, set, refl, sym, ◌∙◌, ap, subst, arith}
-use Rattle.std.specs.Prelude.{slice_get}
-use Rattle.std.specs.List.{filter_map, range_with_len}
+use Rattle.std.proofs.Common.{◌≡◌, ◌<◌, ◌≤◌, ◌+◌, ◌==◌, ℕ, zero, suc, true, is_some, ◌⊎◌, inl, inr, List, [], ◌∷◌, ◌++◌, length, map, Option, None, Some, All, Contains, get_or, set, refl, sym, ◌∙◌, ap, subst, arith}
+use Rattle.std.specs.Prelude.{slice_get, not}
+use Rattle.std.specs.Global.{Vec}
+use Rattle.std.specs.List.{filter_map, range_with_len, cons_option}
 use Rattle.std.proofs.lemmas.List.FromFn.{map-range_with_len_more}
 use Rattle.std.specs.Option.{option_map}
 use Rattle.std.proofs.lemmas.List.{map-set, length-map}
-use Rattle.std.proofs.lemmas.List.Elements.{All-set, filter_map-append}
+use Rattle.std.proofs.lemmas.List.Elements.{All-set, All-contains, All-weaker, All-filter, filter_map-append}
+use Rattle.std.proofs.lemmas.List.Sums.{length-filter, count_by-le-length}
+use Rattle.std.proofs.lemmas.Bool.{false≢true}
 use Rattle.std.proofs.lemmas.Option.{none-some, same_Some}
 use Rattle.tcc_reads.specs.History.{count}
 use Rattle.tcc_graph.specs.Levels.{Judged}
 use Rattle.tcc_core.specs.Rows.{IsEmptyRow}
-use Rattle.tcc_core.specs.Shares.{Stop}
+use Rattle.tcc_core.specs.Shares.{Stop, Finished}
+use Rattle.tcc_core.specs.Searches.{Search, IsSearchOf}
 use Rattle.tcc_world.specs.Worlds.{Searching, Worker, World, new_worker, worker_at, search_of, seeds_of}
 use Rattle.tcc_world.specs.Steps.{IsEnabled, IsIdle, HasReturned, end_of, without, lowered, searching, seeing, offering, finishing, Takes, Looks, Grows, TakesStep, Offers, Ends, Happens, Runs}
-use Rattle.tcc_world.specs.Machines.{Machine, searching_by, worker_of, world_of, HasRow, IsFit, IsSearchingOf, IsMachineOf}
+use Rattle.tcc_world.specs.Machines.{Machine, searching_by, finished_at, finished_by, worker_of, world_of, HasRow, IsFit, IsSearchingOf, IsMachineOf}
 use Rattle.tcc_world.specs.declared.desk.Begun.{Begun}
 use Rattle.tcc_world.specs.declared.desk.Desk.{Desk}
 use Rattle.tcc_world.specs.declared.stage.Stage.TheVariants as stage
@@ -84,9 +88,92 @@ machine_after j m word left w desk is its = record { starts = is.starts; searche
 pub fit_after : (starts : ℕ) (old new : List ℕ) (desks : List Desk) (w : ℕ) (desk : Desk) → IsFit starts old desks → length new ≤ starts → All (λ s. s < starts) new → HasRow starts desk.search → IsFit starts new (set desks w desk)
 fit_after starts old new desks w desk is few below row = record { few = few; below = below; rows = All-set (λ desk. HasRow starts desk.search) desks w desk row is.rows }
 
-pub look_made : (m : Machine) (w : ℕ) (old new : Desk) (b : Begun) → slice_get m.desks w ≡ Some old → old.search ≡ Some b → worker_of new ≡ seeing (worker_of old) m.word → Looks (world_of m) w (world_of (after m m.word m.left w new))
-look_made m w old new b e has same =
-    (searching_by b, begun_search m w old b e has, made m m.word m.left w new (seeing (worker_at (world_of m) w) m.word) (same ∙ ap (λ a. seeing a m.word) (sym (desk_at m w old e))))
+-- what a look at a place of a vector gives
+pub got : (desks : List Desk) (w n : ℕ) (desk : Desk) → w < n → n ≡ length desks → desk ≡ get_or desks w desk → slice_get desks w ≡ Some desk
+got [] w n desk within long e = absurd (omega arith)
+got (d ∷ desks) zero n desk within long e = ap Some (sym e)
+got (d ∷ desks) (suc w) n desk within long e = got desks w (length desks) desk (omega arith) refl e
+
+pub some_is : {X : Type 0} (o : Option X) → true ≡ is_some o → (x : X) × (o ≡ Some x)
+some_is None e = absurd (false≢true (sym e))
+some_is (Some x) e = (x, refl)
+
+contains_got : (desks : List Desk) (w : ℕ) (desk : Desk) → slice_get desks w ≡ Some desk → Contains desks desk
+contains_got [] w desk e = absurd (none-some desk e)
+contains_got (d ∷ desks) zero desk e = (0, omega arith, same_Some d desk e)
+contains_got (d ∷ desks) (suc w) desk e = let (k, within, here) = contains_got desks w desk e in (suc k, omega arith, here)
+
+pub search_is : (j : Judged) (m : Machine) (w : ℕ) (desk : Desk) (b : Begun) → IsMachineOf j m → slice_get m.desks w ≡ Some desk → desk.search ≡ Some b → IsSearchOf j b.search.start b.search
+search_is j m w desk b is e has = subst (λ (o : Option Begun). IsSearchingOf j o) has (All-contains (λ desk. IsSearchingOf j desk.search) m.desks desk is.searches (contains_got m.desks w desk e))
+
+-- another desk that stands for the same worker
+same_desks : (desks : List Desk) (w : ℕ) (old new : Desk) → slice_get desks w ≡ Some old → worker_of new ≡ worker_of old → map worker_of (set desks w new) ≡ map worker_of desks
+same_desks [] w old new e same = refl
+same_desks (d ∷ desks) zero old new e same = ap (λ (a : Worker). a ∷ map worker_of desks) (same ∙ sym (ap worker_of (same_Some d old e)))
+same_desks (d ∷ desks) (suc w) old new e same = ap (λ (ws : List Worker). worker_of d ∷ ws) (same_desks desks w old new e same)
+
+pub same_world : (m : Machine) (w : ℕ) (old new : Desk) → slice_get m.desks w ≡ Some old → worker_of new ≡ worker_of old → world_of (after m m.word m.left w new) ≡ world_of m
+same_world m w old new e same = ap (λ (ws : List Worker). record { word = m.word; left = m.left; seeds = seeds_of m.seed; workers = ws }) (same_desks m.desks w old new e same)
+
+pub offers_again : (desk : Desk) (offers : Vec ℕ) → offers.items ≡ desk.offers.items → worker_of (record { sight = desk.sight; offers = offers; finished = desk.finished; search = desk.search }) ≡ worker_of desk
+offers_again desk offers e = ap (λ (os : List ℕ). record { share = record { finished = filter_map finished_by desk.finished.items; offers = os; sight = desk.sight }; search = option_map searching_by desk.search }) e
+
+pub finished_again : (desk : Desk) (finished : Vec Begun) → finished.items ≡ desk.finished.items → worker_of (record { sight = desk.sight; offers = desk.offers; finished = finished; search = desk.search }) ≡ worker_of desk
+finished_again desk finished e = ap (λ (fs : List Begun). record { share = record { finished = filter_map finished_by fs; offers = desk.offers.items; sight = desk.sight }; search = option_map searching_by desk.search }) e
+
+-- ---- what each event makes
+
+pub take_made : (j : Judged) (m : Machine) (left : List ℕ) (w s : ℕ) (old : Desk) (new : Search) → IsMachineOf j m → slice_get m.desks w ≡ Some old → old.search ≡ None → Contains m.left s → left ≡ without s m.left → new.start ≡ s → IsEmptyRow m.starts new.row → Takes j (world_of m) w s (world_of (after m m.word left w (record { sight = old.sight; offers = old.offers; finished = old.finished; search = Some (record { search = new; stage = stage.Open }) })))
+take_made j m left w s old new is e idle here taken same empty =
+    let a = searching (worker_at (world_of m) w) (Some (record { start = s; row = new.row; stage = stage.Open })) in
+    let desk : Desk = record { sight = old.sight; offers = old.offers; finished = old.finished; search = Some (record { search = new; stage = stage.Open }) } in
+    let now : worker_of desk ≡ a = ap (λ (z : ℕ). searching (worker_of old) (Some (record { start = z; row = new.row; stage = stage.Open }))) same ∙ ap (λ (b : Worker). searching b (Some (record { start = s; row = new.row; stage = stage.Open }))) (sym (desk_at m w old e)) in
+    (
+      (omega (arith, length-map m.desks worker_of, (desk_in m.desks w old e).1), idle_search m w old e idle),
+      here,
+      new.row,
+      subst (λ (n : ℕ). IsEmptyRow n new.row) is.starts empty,
+      made m m.word left w desk a now ∙ ap (λ (l : List ℕ). record { word = m.word; left = l; seeds = seeds_of m.seed; workers = set (map worker_of m.desks) w a }) taken,
+    )
+
+pub look_made : (m : Machine) (w : ℕ) (old : Desk) (b : Begun) → slice_get m.desks w ≡ Some old → old.search ≡ Some b → Looks (world_of m) w (world_of (after m m.word m.left w (record { sight = m.word; offers = old.offers; finished = old.finished; search = old.search })))
+look_made m w old b e has =
+    (searching_by b, begun_search m w old b e has, made m m.word m.left w (record { sight = m.word; offers = old.offers; finished = old.finished; search = old.search }) (seeing (worker_at (world_of m) w) m.word) (ap (λ (a : Worker). seeing a m.word) (sym (desk_at m w old e))))
+
+pub settle_made : (j : Judged) (m : Machine) (w : ℕ) (old : Desk) (b new : Begun) → slice_get m.desks w ≡ Some old → old.search ≡ Some b → b.stage ≡ stage.Open → new.search.start ≡ b.search.start → Grows j b.search.start old.sight b.search.row new.search.row new.stage → TakesStep j (world_of m) w (world_of (after m m.word m.left w (record { sight = old.sight; offers = old.offers; finished = old.finished; search = Some new })))
+settle_made j m w old b new e has going same grows =
+    let a = searching (worker_at (world_of m) w) (Some (record { start = b.search.start; row = new.search.row; stage = new.stage })) in
+    let desk : Desk = record { sight = old.sight; offers = old.offers; finished = old.finished; search = Some new } in
+    let now : worker_of desk ≡ a = ap (λ (z : ℕ). searching (worker_of old) (Some (record { start = z; row = new.search.row; stage = new.stage }))) same ∙ ap (λ (x : Worker). searching x (Some (record { start = b.search.start; row = new.search.row; stage = new.stage }))) (sym (desk_at m w old e)) in
+    let seen : old.sight ≡ (worker_at (world_of m) w).share.sight = ap (λ (x : Worker). x.share.sight) (sym (desk_at m w old e)) in
+    (searching_by b, begun_search m w old b e has, going, new.search.row, new.stage, subst (λ (o : Option ℕ). Grows j b.search.start o b.search.row new.search.row new.stage) seen grows, made m m.word m.left w desk a now)
+
+pub offer_made : (m : Machine) (w c low : ℕ) (old : Desk) (offers : Vec ℕ) (b : Begun) → slice_get m.desks w ≡ Some old → old.search ≡ Some b → HasReturned b.stage c → low ≡ lowered m.word c → offers.items ≡ old.offers.items ++ c ∷ [] → Offers (world_of m) w c (world_of (after m (Some low) m.left w (record { sight = Some low; offers = offers; finished = old.finished; search = Some (record { search = b.search; stage = stage.Offered c }) })))
+offer_made m w c low old offers b e has returned least pushed =
+    let l = lowered m.word c in
+    let a = offering (worker_at (world_of m) w) (searching_by b) c l in
+    let desk : Desk = record { sight = Some low; offers = offers; finished = old.finished; search = Some (record { search = b.search; stage = stage.Offered c }) } in
+    let now : worker_of desk ≡ a =
+        ap (λ (os : List ℕ). record { share = record { finished = filter_map finished_by old.finished.items; offers = os; sight = Some low }; search = Some (record { start = b.search.start; row = b.search.row; stage = stage.Offered c }) }) pushed
+        ∙ ap (λ (z : ℕ). offering (worker_of old) (searching_by b) c z) least
+        ∙ ap (λ (x : Worker). offering x (searching_by b) c l) (sym (desk_at m w old e)) in
+    (searching_by b, begun_search m w old b e has, returned, made m (Some low) m.left w desk a now ∙ ap (λ (z : ℕ). record { word = Some z; left = m.left; seeds = seeds_of m.seed; workers = set (map worker_of m.desks) w a }) least)
+
+finished_more : (fs : List Begun) (b : Begun) (stop : Stop) → end_of b.stage ≡ Some stop → filter_map finished_by (fs ++ b ∷ []) ≡ filter_map finished_by fs ++ record { start = b.search.start; row = b.search.row; stop = stop } ∷ []
+finished_more fs b stop e = filter_map-append finished_by fs (b ∷ []) ∙ ap (λ (o : Option Stop). filter_map finished_by fs ++ cons_option (finished_at b o) []) e
+
+pub end_made : (m : Machine) (w : ℕ) (old : Desk) (finished : Vec Begun) (after_it : Option Begun) (b : Begun) (stop : Stop) → slice_get m.desks w ≡ Some old → old.search ≡ Some b → end_of b.stage ≡ Some stop → finished.items ≡ old.finished.items ++ b ∷ [] → after_it ≡ None → Ends (world_of m) w (world_of (after m m.word m.left w (record { sight = old.sight; offers = old.offers; finished = finished; search = after_it })))
+end_made m w old finished after_it b stop e has over pushed none =
+    let a = finishing (worker_at (world_of m) w) (searching_by b) stop in
+    let desk : Desk = record { sight = old.sight; offers = old.offers; finished = finished; search = after_it } in
+    let now : worker_of desk ≡ a =
+        ap (λ (o : Option Begun). record { share = record { finished = filter_map finished_by finished.items; offers = old.offers.items; sight = old.sight }; search = option_map searching_by o }) none
+        ∙ ap (λ (fs : List Finished). record { share = record { finished = fs; offers = old.offers.items; sight = old.sight }; search = None }) (ap (filter_map finished_by) pushed ∙ finished_more old.finished.items b stop over)
+        ∙ ap (λ (x : Worker). finishing x (searching_by b) stop) (sym (desk_at m w old e)) in
+    (searching_by b, begun_search m w old b e has, stop, over, made m m.word m.left w desk a now)
+
+pub few_left : (s n : ℕ) (left : List ℕ) → length left ≤ n → length (without s left) ≤ n
+few_left s n left few = omega (arith, length-filter (λ a. not (a == s)) left, count_by-le-length (λ a. not (a == s)) left)
 
 -- ---- lists that loops make
 

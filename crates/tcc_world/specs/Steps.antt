@@ -1,5 +1,5 @@
 -- The machine of all interleavings: its events, and its runs.
-use Rattle.std.specs.Prelude.{ℕ, ◌<◌, ◌≡◌, ◌≢◌, ◌==◌, Bool, true, false, List, [], ◌∷◌, ◌++◌, length, filter, Contains, Option, None, Some, IsSome, nat_lt, if◌then◌else◌, slice_set}
+use Rattle.std.specs.Prelude.{ℕ, ◌<◌, ◌≡◌, ◌≢◌, ◌==◌, not, List, [], ◌∷◌, ◌++◌, length, filter, Contains, Option, None, Some, IsSome, nat_lt, if◌then◌else◌, slice_set}
 use Rattle.tcc_reads.specs.History.{count}
 use Rattle.tcc_graph.specs.Levels.{Judged}
 use Rattle.tcc_core.specs.Rows.{IsEmptyRow, IsCutOff, JoinsNearest}
@@ -43,7 +43,7 @@ IsEnabled world (event.End w) = (search : Searching) × (search_of world w ≡ S
 
 -- the starts without s
 abbrev pub without : ℕ → List ℕ → List ℕ
-without s starts = filter (λ a. if a == s then false else true) starts
+without s starts = filter (λ a. not (a == s)) starts
 
 -- the lesser of the word and c
 abbrev pub lowered : Option ℕ → ℕ → ℕ

@@ -1,13 +1,14 @@
 //! The machine: which events are enabled, and what each of them makes.
-ghost use Rattle.std.specs.Prelude.{◌≡◌, ◌↔◌, length, map, replicate, All, None, Some, is_some, IsTrue, IfOk, OnOk};
+ghost use Rattle.std.specs.Prelude.{◌≡◌, ◌↔◌, length, map, replicate, All, Contains, None, Some, is_some, IsTrue, IfOk, OnOk};
 ghost use Rattle.std.specs.List.{range_with_len};
 ghost use Rattle.tcc_graph.specs.Levels.{Judged};
 ghost use Rattle.tcc_derive.specs.Prices.{IsPricesOf};
 ghost use Rattle.tcc_world.specs.Worlds.{first_world, new_worker};
-ghost use Rattle.tcc_world.specs.Steps.{Happens, HasReturned, end_of, lowered};
+ghost use Rattle.tcc_world.specs.Steps.{Happens, HasReturned, end_of, without, lowered};
 ghost use Rattle.tcc_world.specs.Machines.{world_of, worker_of, IsMachineOf};
 ghost use Rattle.tcc_world.specs.Outcomes.{Answers, HasRun, StopsAt};
 ghost use Rattle.tcc_world.specs.declared.event.Event.TheVariants as event;
+ghost use Rattle.tcc_world.specs.declared.stage.Stage.TheVariants as stages;
 
 use crate::desk::{Begun, Desk};
 use crate::event::{Event, RunFault, StepFault};
@@ -106,7 +107,7 @@ impl World {
         ensures happens { (j : Judged) → IsPricesOf j prices.now → IsMachineOf j self.old → OnOk result (Happens j (world_of self.old) (event.Take worker start) (world_of self.new)) }
         ensures answers { Answers self.old (event.Take worker start) result self.new }
     {
-        if !self.left.contains(&start) {
+        if !is_left(&self.left, start) {
             return Err(StepFault::NotEnabled);
         }
         let Some(desk) = self.desks.get_mut(worker as usize) else {
@@ -122,7 +123,7 @@ impl World {
             search,
             stage: Stage::Open,
         });
-        self.left.retain(|left| *left != start);
+        take_out(&mut self.left, start);
         Ok(())
     }
 
@@ -157,7 +158,7 @@ impl World {
         let Some(begun) = &desk.search else {
             return Err(StepFault::NotEnabled);
         };
-        if begun.stage != Stage::Open {
+        if !is_open(begun.stage) {
             return Err(StepFault::NotEnabled);
         }
         let Some(mut begun) = desk.search.take() else {
@@ -285,6 +286,27 @@ fn new_desks(alloc: Global, count: u32) -> Result<Vec<Desk>, NoMemory>
         desks.push(Desk::new(alloc))?;
     }
     Ok(desks)
+}
+
+/// Whether a start is left.
+fn is_left(left: &[u32], start: u32) -> bool
+    ensures { IsTrue result ↔ Contains left.now start }
+{
+    left.contains(&start)
+}
+
+/// Takes a start out of those left.
+fn take_out(left: &mut Vec<u32>, start: u32)
+    ensures { left.new.items ≡ without start left.old.items }
+{
+    left.retain(|other| *other != start);
+}
+
+/// Whether a search goes on.
+fn is_open(stage: Stage) -> bool
+    ensures { IsTrue result ↔ (stage ≡ stages.Open) }
+{
+    matches!(stage, Stage::Open)
 }
 
 /// Whether a search returned at this cost, offered or not.

@@ -1,5 +1,7 @@
-use Rattle.std.proofs.Common.{rules, ◌≡◌, ◌↔◌, length, map, replicate, All, None, Some, is_some, ℕ, ◌+◌, ◌-◌, ◌*◌, ◌<◌, ◌≤◌, Bool, true, false, List, [], ◌∷◌, ◌++◌, slice_index_or, slice_set, get_or, set}
+use Rattle.std.proofs.Common.{ℕ, sym, subst}
+use Rattle.tcc_core.specs.Searches.{IsSearchOf}
 use Rattle.tcc_world.proofs.desk.Begun.settle.Goals as goal
 
 pub returns-clause-search : goal.returns-clause-search
-returns-clause-search c = ?
+returns-clause-search c = λ j priced is.
+    subst (λ (s : ℕ). IsSearchOf j s c.settle.new.self) (sym c.settle.ensures.start) (c.settle.ensures.search j c.args.self.now.search.start priced is)

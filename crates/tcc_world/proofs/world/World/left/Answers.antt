@@ -1,5 +1,5 @@
-use Rattle.std.proofs.Common.{rules, ◌≡◌, ◌↔◌, length, map, replicate, All, None, Some, is_some, ℕ, ◌+◌, ◌-◌, ◌*◌, ◌<◌, ◌≤◌, Bool, true, false, List, [], ◌∷◌, ◌++◌, slice_index_or, slice_set, get_or, set}
+use Rattle.std.proofs.Common.{arith}
 use Rattle.tcc_world.proofs.world.World.left.Goals as goal
 
 pub overflow_cast-result : goal.overflow_cast-result
-overflow_cast-result c = ?
+overflow_cast-result c = omega (arith, c.len.ensures, c.self.inside.left.ok.0, c.self.invariant.few, c.self.inside.starts.fits)

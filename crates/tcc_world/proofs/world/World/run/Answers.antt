@@ -1,5 +1,21 @@
-use Rattle.std.proofs.Common.{rules, ◌≡◌, ◌↔◌, length, map, replicate, All, None, Some, is_some, ℕ, ◌+◌, ◌-◌, ◌*◌, ◌<◌, ◌≤◌, Bool, true, false, List, [], ◌∷◌, ◌++◌, slice_index_or, slice_set, get_or, set}
+use Rattle.std.proofs.Common.{rules, ◌≡◌, ◌<◌, ◌≤◌, ◌∙◌, List, All, Option, Some, None, Contains, length, refl, sym, ap, subst, arith}
+use Rattle.std.specs.Prelude.{slice_get}
+use Rattle.tcc_graph.specs.Levels.{Judged}
+use Rattle.tcc_derive.specs.Prices.{IsPricesOf}
+use Rattle.tcc_world.specs.Steps.{IsEnabled, Takes, Looks, TakesStep, Offers, Ends, without}
+use Rattle.tcc_world.specs.Machines.{Machine, worker_of, world_of, IsMachineOf}
+use Rattle.tcc_world.specs.declared.event.Event.TheVariants as event
+use Rattle.tcc_world.proofs.Keeping.{happens_enabled}
+use Rattle.tcc_world.proofs.Machining.{got, some_is, search_is, same_world, offers_again, finished_again, after, take_made, look_made, settle_made, offer_made, end_made, few_left, begun_search, idle_search}
 use Rattle.tcc_world.proofs.world.World.run.Goals as goal
+use Rattle.std.proofs.Common.{take, ◌+◌, get_or}
+use Rattle.std.proofs.lemmas.List.{take_more}
+use Rattle.tcc_world.specs.Steps.{Runs}
+use Rattle.tcc_world.proofs.Machining.{runs_more}
 
 pub loop-at-preserved : goal.loop-at-preserved
-loop-at-preserved c = ?
+loop-at-preserved c =
+    (c.step.ensures.starts ∙ c.loop-at.invariant.0,
+    λ j priced is.
+    let before = c.loop-at.invariant.1 j priced is in
+    (c.step.ensures.machine j priced before.0, ?))

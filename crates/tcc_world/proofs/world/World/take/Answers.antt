@@ -1,11 +1,47 @@
-use Rattle.std.proofs.Common.{rules, ◌≡◌, ◌↔◌, length, map, replicate, All, None, Some, is_some, ℕ, ◌+◌, ◌-◌, ◌*◌, ◌<◌, ◌≤◌, Bool, true, false, List, [], ◌∷◌, ◌++◌, slice_index_or, slice_set, get_or, set}
+use Rattle.std.proofs.Common.{rules, ◌≡◌, ◌<◌, ◌≤◌, ◌∙◌, List, All, Option, Some, None, Contains, length, refl, sym, ap, subst, arith}
+use Rattle.std.specs.Prelude.{slice_get}
+use Rattle.tcc_graph.specs.Levels.{Judged}
+use Rattle.tcc_derive.specs.Prices.{IsPricesOf}
+use Rattle.tcc_world.specs.Steps.{IsEnabled, Takes, Looks, TakesStep, Offers, Ends, without}
+use Rattle.tcc_world.specs.Machines.{Machine, worker_of, world_of, IsMachineOf}
+use Rattle.tcc_world.specs.declared.event.Event.TheVariants as event
+use Rattle.tcc_world.proofs.Keeping.{happens_enabled}
+use Rattle.tcc_world.proofs.Machining.{got, some_is, search_is, same_world, offers_again, finished_again, after, take_made, look_made, settle_made, offer_made, end_made, few_left, begun_search, idle_search}
 use Rattle.tcc_world.proofs.world.World.take.Goals as goal
+use Rattle.std.proofs.lemmas.List.Elements.{All-filter, All-set}
+use Rattle.tcc_world.specs.Machines.{HasRow, IsFit}
 
 pub invariant_of-self-2 : goal.invariant_of-self-2
-invariant_of-self-2 c = ?
+invariant_of-self-2 c =
+    let fit = c.self.invariant in
+    let left = c.self.inside.left.items in
+    let s = c.args.start in
+    rw c.take_out.ensures (record {
+      few = few_left s c.self.inside.starts left fit.few;
+      below = All-filter _ (λ a. a < c.self.inside.starts) left fit.below;
+      rows = All-set (λ desk. HasRow c.self.inside.starts desk.search) c.self.inside.desks.items c.args.worker _ (search rules) fit.rows;
+    })
 
 pub returns-clause-happens : goal.returns-clause-happens
-returns-clause-happens c = ?
+returns-clause-happens c =
+    let desk = c.in-Some.desk.now in
+    let desks = c.self.inside.desks.items in
+    let w = c.args.worker in
+    let m : Machine = record { starts = c.self.inside.starts; word = c.self.inside.word; left = c.self.inside.left.items; seed = c.self.inside.seed; desks = desks } in
+    let at = got desks w c.self.inside.desks.len desk (c.in-Some.ensures.variant.0 refl) c.self.inside.desks.ok.0 c.in-Some.ensures.value in
+    let idle : desk.search ≡ None = search rules in
+    let here : Contains c.self.inside.left.items c.args.start = search rules in
+    let same : c.in-Ok.search.start ≡ c.args.start = search rules in
+    subst (λ (z : Machine). (j : Judged) → IsPricesOf j c.args.prices.now → IsMachineOf j z → Takes j (world_of z) w c.args.start (world_of (after m m.word c.take_out.new.left.items w _))) c.self.view_is
+    (λ j priced is. take_made j m c.take_out.new.left.items w c.args.start desk c.in-Ok.search is at idle here c.take_out.ensures same (search rules))
 
 pub returns-clause-answers : goal.returns-clause-answers
-returns-clause-answers c = ?
+returns-clause-answers c =
+    let desk = c.in-Some.desk.now in
+    let desks = c.self.inside.desks.items in
+    let w = c.args.worker in
+    let m : Machine = record { starts = c.self.inside.starts; word = c.self.inside.word; left = c.self.inside.left.items; seed = c.self.inside.seed; desks = desks } in
+    let at = got desks w c.self.inside.desks.len desk (c.in-Some.ensures.variant.0 refl) c.self.inside.desks.ok.0 c.in-Some.ensures.value in
+    let idle : desk.search ≡ None = search rules in
+    let here : Contains c.self.inside.left.items c.args.start = search rules in
+    ?
