@@ -128,7 +128,7 @@ module _ {X : Type 0} (f : X → List ℕ) where
 
   -- what the parts have after one has changed is of it or was there
   pub from_set : (xs : List X) (i : ℕ) (a : X) (c : ℕ) → Contains (flat_map f (set xs i a)) c → Contains (flat_map f xs) c ⊎ Contains (f a) c
-  from_set xs i a c inside = go (cases_one (times_bound xs i a c)) 
+  from_set xs i a c inside = go (cases_one (times_bound xs i a c))
     where
       some : 1 ≤ times c (flat_map f (set xs i a))
       some = times_in c (flat_map f (set xs i a)) inside

@@ -83,6 +83,7 @@ taken_starts left workers w s a within one more x = go (cases_eq x s)
     go (inl same) = rw same (omega (arith, one, times_append s (without s left) (flat_map starts_with (set workers w a)), times_append s left (flat_map starts_with workers), without_itself s left, times_set starts_with workers w a new_worker s within, times_here s before, ap (times s) more))
     go (inr other) =
         omega (arith, other_here s x before (λ e. other (sym e)), times_append x (without s left) (flat_map starts_with (set workers w a)), times_append x left (flat_map starts_with workers), without_other s x left other, times_set starts_with workers w a new_worker x within, ap (times x) more)
+
 take_kept : (j : Judged) (old new : World) (w s : ℕ) → IsSound j old → Takes j old w s new → IsSound j new
 take_kept j old new w s is ((within, idle), here, row, empty, e) =
     let at = working_at j old w is within in

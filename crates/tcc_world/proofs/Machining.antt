@@ -1,11 +1,11 @@
 -- The machine as the code keeps it, and as its definition sees it.
-use Rattle.std.proofs.Common.{◌≡◌, ◌<◌, ◌≤◌, ◌+◌, ◌==◌, ℕ, zero, suc, true, is_some, ◌⊎◌, inl, inr, List, [], ◌∷◌, ◌++◌, length, map, Option, None, Some, All, Contains, get_or, set, refl, sym, ◌∙◌, ap, subst, arith}
+use Rattle.std.proofs.Common.{◌≡◌, ◌<◌, ◌≤◌, ◌+◌, ◌==◌, ℕ, zero, suc, true, is_some, ◌⊎◌, inl, inr, List, [], ◌∷◌, ◌++◌, length, map, Option, None, Some, All, Contains, get_or, set, take, refl, sym, ◌∙◌, ap, subst, arith}
 use Rattle.std.specs.Prelude.{slice_get, not}
 use Rattle.std.specs.Global.{Vec}
 use Rattle.std.specs.List.{filter_map, range_with_len, cons_option}
 use Rattle.std.proofs.lemmas.List.FromFn.{map-range_with_len_more}
 use Rattle.std.specs.Option.{option_map}
-use Rattle.std.proofs.lemmas.List.{map-set, length-map}
+use Rattle.std.proofs.lemmas.List.{map-set, length-map, take_more}
 use Rattle.std.proofs.lemmas.List.Elements.{All-set, All-contains, All-weaker, All-filter, filter_map-append}
 use Rattle.std.proofs.lemmas.List.Sums.{length-filter, count_by-le-length}
 use Rattle.std.proofs.lemmas.Bool.{false≢true}
@@ -85,9 +85,6 @@ made m word left w desk a e =
 pub machine_after : (j : Judged) (m : Machine) (word : Option ℕ) (left : List ℕ) (w : ℕ) (desk : Desk) → IsMachineOf j m → IsSearchingOf j desk.search → IsMachineOf j (after m word left w desk)
 machine_after j m word left w desk is its = record { starts = is.starts; searches = All-set (λ desk. IsSearchingOf j desk.search) m.desks w desk its is.searches }
 
-pub fit_after : (starts : ℕ) (old new : List ℕ) (desks : List Desk) (w : ℕ) (desk : Desk) → IsFit starts old desks → length new ≤ starts → All (λ s. s < starts) new → HasRow starts desk.search → IsFit starts new (set desks w desk)
-fit_after starts old new desks w desk is few below row = record { few = few; below = below; rows = All-set (λ desk. HasRow starts desk.search) desks w desk row is.rows }
-
 -- what a look at a place of a vector gives
 pub got : (desks : List Desk) (w n : ℕ) (desk : Desk) → w < n → n ≡ length desks → desk ≡ get_or desks w desk → slice_get desks w ≡ Some desk
 got [] w n desk within long e = absurd (omega arith)
@@ -127,8 +124,7 @@ pub take_made : (j : Judged) (m : Machine) (left : List ℕ) (w s : ℕ) (old : 
 take_made j m left w s old new is e idle here taken same empty =
     let a = searching (worker_at (world_of m) w) (Some (record { start = s; row = new.row; stage = stage.Open })) in
     let desk : Desk = record { sight = old.sight; offers = old.offers; finished = old.finished; search = Some (record { search = new; stage = stage.Open }) } in
-    let now : worker_of desk ≡ a = ap (λ (z : ℕ). searching (worker_of old) (Some (record { start = z; row = new.row; stage = stage.Open }))) same ∙ ap (λ (b : Worker). searching b (Some (record { start = s; row = new.row; stage = stage.Open }))) (sym (desk_at m w old e)) in
-    (
+    let now : worker_of desk ≡ a = ap (λ (z : ℕ). searching (worker_of old) (Some (record { start = z; row = new.row; stage = stage.Open }))) same ∙ ap (λ (b : Worker). searching b (Some (record { start = s; row = new.row; stage = stage.Open }))) (sym (desk_at m w old e)) in (
       (omega (arith, length-map m.desks worker_of, (desk_in m.desks w old e).1), idle_search m w old e idle),
       here,
       new.row,
@@ -154,9 +150,9 @@ offer_made m w c low old offers b e has returned least pushed =
     let a = offering (worker_at (world_of m) w) (searching_by b) c l in
     let desk : Desk = record { sight = Some low; offers = offers; finished = old.finished; search = Some (record { search = b.search; stage = stage.Offered c }) } in
     let now : worker_of desk ≡ a =
-        ap (λ (os : List ℕ). record { share = record { finished = filter_map finished_by old.finished.items; offers = os; sight = Some low }; search = Some (record { start = b.search.start; row = b.search.row; stage = stage.Offered c }) }) pushed
-        ∙ ap (λ (z : ℕ). offering (worker_of old) (searching_by b) c z) least
-        ∙ ap (λ (x : Worker). offering x (searching_by b) c l) (sym (desk_at m w old e)) in
+    ap (λ (os : List ℕ). record { share = record { finished = filter_map finished_by old.finished.items; offers = os; sight = Some low }; search = Some (record { start = b.search.start; row = b.search.row; stage = stage.Offered c }) }) pushed
+    ∙ ap (λ (z : ℕ). offering (worker_of old) (searching_by b) c z) least
+    ∙ ap (λ (x : Worker). offering x (searching_by b) c l) (sym (desk_at m w old e)) in
     (searching_by b, begun_search m w old b e has, returned, made m (Some low) m.left w desk a now ∙ ap (λ (z : ℕ). record { word = Some z; left = m.left; seeds = seeds_of m.seed; workers = set (map worker_of m.desks) w a }) least)
 
 finished_more : (fs : List Begun) (b : Begun) (stop : Stop) → end_of b.stage ≡ Some stop → filter_map finished_by (fs ++ b ∷ []) ≡ filter_map finished_by fs ++ record { start = b.search.start; row = b.search.row; stop = stop } ∷ []
@@ -167,9 +163,9 @@ end_made m w old finished after_it b stop e has over pushed none =
     let a = finishing (worker_at (world_of m) w) (searching_by b) stop in
     let desk : Desk = record { sight = old.sight; offers = old.offers; finished = finished; search = after_it } in
     let now : worker_of desk ≡ a =
-        ap (λ (o : Option Begun). record { share = record { finished = filter_map finished_by finished.items; offers = old.offers.items; sight = old.sight }; search = option_map searching_by o }) none
-        ∙ ap (λ (fs : List Finished). record { share = record { finished = fs; offers = old.offers.items; sight = old.sight }; search = None }) (ap (filter_map finished_by) pushed ∙ finished_more old.finished.items b stop over)
-        ∙ ap (λ (x : Worker). finishing x (searching_by b) stop) (sym (desk_at m w old e)) in
+    ap (λ (o : Option Begun). record { share = record { finished = filter_map finished_by finished.items; offers = old.offers.items; sight = old.sight }; search = option_map searching_by o }) none
+    ∙ ap (λ (fs : List Finished). record { share = record { finished = fs; offers = old.offers.items; sight = old.sight }; search = None }) (ap (filter_map finished_by) pushed ∙ finished_more old.finished.items b stop over)
+    ∙ ap (λ (x : Worker). finishing x (searching_by b) stop) (sym (desk_at m w old e)) in
     (searching_by b, begun_search m w old b e has, stop, over, made m m.word m.left w desk a now)
 
 pub few_left : (s n : ℕ) (left : List ℕ) → length left ≤ n → length (without s left) ≤ n
@@ -184,6 +180,11 @@ map_same (x ∷ xs) = ap (λ ys. x ∷ ys) (map_same xs)
 pub range_more : (n : ℕ) → range_with_len 0 (n + 1) ≡ range_with_len 0 n ++ n ∷ []
 range_more n = sym (map_same (range_with_len 0 (n + 1))) ∙ map-range_with_len_more (λ x. x) 0 n n (omega arith) ∙ ap (λ ys. ys ++ n ∷ []) (map_same (range_with_len 0 n))
 
-pub runs_more : (j : Judged) (a b c : World) (events : List Event) (e : Event) → Runs j a events b → Happens j b e c → Runs j a (events ++ e ∷ []) c
+runs_more : (j : Judged) (a b c : World) (events : List Event) (e : Event) → Runs j a events b → Happens j b e c → Runs j a (events ++ e ∷ []) c
 runs_more j a b c [] e runs happens = (c, subst (λ (z : World). Happens j z e c) runs happens, refl)
 runs_more j a b c (d ∷ events) e (mid, first, runs) happens = (mid, first, runs_more j mid b c events e runs happens)
+
+pub step_more : (j : Judged) (a b c : World) (events : List Event) (at : ℕ) (e : Event) → at < length events → Runs j a (take at events) b → Happens j b e c → get_or events at e ≡ e → Runs j a (take (at + 1) events) c
+step_more j a b c events at e within runs happens here =
+    let next : take (at + 1) events ≡ take at events ++ e ∷ [] = take_more events at e within ∙ ap (λ (x : Event). take at events ++ x ∷ []) here in
+    subst (λ (es : List Event). Runs j a es c) (sym next) (runs_more j a b c (take at events) e runs happens)

@@ -6,6 +6,7 @@ use Rattle.tcc_reads.specs.History.{count}
 use Rattle.tcc_graph.specs.Levels.{Judged}
 use Rattle.tcc_core.specs.Searches.{IsSearchOf}
 use Rattle.tcc_core.specs.Shares.{Stop, Finished}
+use Rattle.tcc_txn.specs.declared.limits.TheConstants.{MAX_COUNT}
 use Rattle.tcc_world.specs.Worlds.{Searching, Worker, World, seeds_of}
 use Rattle.tcc_world.specs.Steps.{end_of}
 use Rattle.tcc_world.specs.declared.desk.Begun.{Begun}
@@ -47,6 +48,7 @@ HasRow n (Some b) = length b.search.row ≡ n
 
 -- the starts left are below so many and no more, and each row has a place for each
 pub record IsFit (starts : ℕ) (left : List ℕ) (desks : List Desk) : Type 0 where
+  pub most : starts ≤ MAX_COUNT
   pub few : length left ≤ starts
   pub below : All (λ s. s < starts) left
   pub rows : All (λ desk. HasRow starts desk.search) desks

@@ -10,3 +10,6 @@ mod world;
 
 pub use event::{Event, RunFault, StepFault};
 pub use world::World;
+
+#[cfg(test)]
+mod tests;

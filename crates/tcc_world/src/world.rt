@@ -50,7 +50,12 @@ impl World {
     }
 
     /// The beginning with a seed, which the law wants to be the cost of a cycle: word and offers begin at it.
-    pub fn seeded(alloc: Global, prices: &Prices, workers: u32, seed: u32) -> Result<World, NoMemory>
+    pub fn seeded(
+        alloc: Global,
+        prices: &Prices,
+        workers: u32,
+        seed: u32,
+    ) -> Result<World, NoMemory>
         ensures first { IfOk result (λ world. world_of world ≡ first_world (length prices.now.prices) workers (Some seed)) }
         ensures starts { IfOk result (λ world. world.starts ≡ length prices.now.prices) }
         ensures machine { (j : Judged) → IsPricesOf j prices.now → IfOk result (IsMachineOf j) }
@@ -100,7 +105,13 @@ impl World {
     }
 
     /// An idle worker takes a start that is left.
-    fn take(&mut self, alloc: Global, prices: &Prices, worker: u32, start: u32) -> Result<(), StepFault>
+    fn take(
+        &mut self,
+        alloc: Global,
+        prices: &Prices,
+        worker: u32,
+        start: u32,
+    ) -> Result<(), StepFault>
         requires { self.old.starts ≡ length prices.now.prices }
         ensures starts { self.new.starts ≡ self.old.starts }
         ensures machine { (j : Judged) → IsPricesOf j prices.now → IsMachineOf j self.old → IsMachineOf j self.new }

@@ -2,7 +2,8 @@ use Rattle.std.proofs.Common.{rules, ◌≡◌, ◌<◌, ◌≤◌, ◌∙◌, �
 use Rattle.std.specs.Prelude.{slice_get}
 use Rattle.tcc_graph.specs.Levels.{Judged}
 use Rattle.tcc_derive.specs.Prices.{IsPricesOf}
-use Rattle.tcc_world.specs.Steps.{IsEnabled, Takes, Looks, TakesStep, Offers, Ends, without}
+use Rattle.tcc_world.specs.Steps.{IsEnabled, Takes, Looks, TakesStep, Offers, Ends, without, end_of}
+use Rattle.tcc_world.specs.declared.desk.Begun.{Begun}
 use Rattle.tcc_world.specs.Machines.{Machine, worker_of, world_of, IsMachineOf}
 use Rattle.tcc_world.specs.declared.event.Event.TheVariants as event
 use Rattle.tcc_world.proofs.Keeping.{happens_enabled}
@@ -27,11 +28,11 @@ returns-clause-happens c =
     let at = got desks w c.self.inside.desks.len desk (c.in-Some.ensures.variant.0 refl) c.self.inside.desks.ok.0 c.in-Some.ensures.value in
     let b = c.in-Some-take.begun in
     let has = sym c.take.ensures.value ∙ c.in-Some-take.is in
-    let (stop, over) = some_is _ c.if-not-is_over.ensures in
+    let (stop, over) = some_is (end_of c.in-Some-search.begun.stage) c.if-not-is_over.ensures in
     let one : c.in-Some-search.begun ≡ b = search rules in
     let pushed = c.in-Ok.ensures.items ∙ ap (λ fs. fs ++ b ∷ []) c.reserve.ensures.items in
     subst (λ (z : Machine). (j : Judged) → IsMachineOf j z → Ends (world_of z) w (world_of (after m m.word m.left w (record { sight = desk.sight; offers = desk.offers; finished = c.push.new.self; search = c.take.new.self })))) c.self.view_is
-    (λ j is. end_made m w desk c.push.new.self c.take.new.self b stop at has (rw one at over) pushed c.take.ensures.after)
+    (λ j is. end_made m w desk c.push.new.self c.take.new.self b stop at has (subst (λ (x : Begun). end_of x.stage ≡ Some stop) one over) pushed c.take.ensures.after)
 
 pub returns-clause-answers : goal.returns-clause-answers
 returns-clause-answers c =
@@ -42,6 +43,6 @@ returns-clause-answers c =
     let at = got desks w c.self.inside.desks.len desk (c.in-Some.ensures.variant.0 refl) c.self.inside.desks.ok.0 c.in-Some.ensures.value in
     let b = c.in-Some-take.begun in
     let has = sym c.take.ensures.value ∙ c.in-Some-take.is in
-    let (stop, over) = some_is _ c.if-not-is_over.ensures in
+    let (stop, over) = some_is (end_of c.in-Some-search.begun.stage) c.if-not-is_over.ensures in
     let one : c.in-Some-search.begun ≡ b = search rules in
-    subst (λ (z : Machine). IsEnabled (world_of z) (event.End w)) c.self.view_is (_, begun_search m w desk b at has, stop, rw one at over)
+    subst (λ (z : Machine). IsEnabled (world_of z) (event.End w)) c.self.view_is (_, begun_search m w desk b at has, stop, subst (λ (x : Begun). end_of x.stage ≡ Some stop) one over)

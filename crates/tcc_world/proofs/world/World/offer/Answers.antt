@@ -3,6 +3,8 @@ use Rattle.std.specs.Prelude.{slice_get}
 use Rattle.tcc_graph.specs.Levels.{Judged}
 use Rattle.tcc_derive.specs.Prices.{IsPricesOf}
 use Rattle.tcc_world.specs.Steps.{IsEnabled, Takes, Looks, TakesStep, Offers, Ends, without}
+use Rattle.tcc_world.specs.declared.desk.Begun.{Begun}
+use Rattle.tcc_world.specs.declared.stage.Stage.TheVariants as stage
 use Rattle.tcc_world.specs.Machines.{Machine, worker_of, world_of, IsMachineOf}
 use Rattle.tcc_world.specs.declared.event.Event.TheVariants as event
 use Rattle.tcc_world.proofs.Keeping.{happens_enabled}
@@ -30,9 +32,9 @@ returns-clause-happens c =
     let b = c.in-Some-take.begun in
     let has = sym c.take.ensures.value ∙ c.in-Some-take.is in
     let one : c.in-Some-search.begun ≡ b = search rules in
-    let returned : HasReturned b.stage c.args.cost = rw one at (c.if-not-has_returned.ensures.0 refl) in
+    let returned : HasReturned b.stage c.args.cost = subst (λ (x : Begun). HasReturned x.stage c.args.cost) one (c.if-not-has_returned.ensures.0 refl) in
     let pushed : c.push.new.self.items ≡ desk.offers.items ++ c.args.cost ∷ [] = search rules in
-    subst (λ (z : Machine). (j : Judged) → IsMachineOf j z → Offers (world_of z) w c.args.cost (world_of (after m (Some c.lowered-word.result) m.left w _))) c.self.view_is
+    subst (λ (z : Machine). (j : Judged) → IsMachineOf j z → Offers (world_of z) w c.args.cost (world_of (after m (Some c.lowered-word.result) m.left w (record { sight = Some c.lowered-word.result; offers = c.push.new.self; finished = desk.finished; search = Some (record { search = b.search; stage = stage.Offered c.args.cost }) })))) c.self.view_is
     (λ j is. offer_made m w c.args.cost c.lowered-word.result desk c.push.new.self b at has returned c.lowered-word.ensures pushed)
 
 pub returns-clause-answers : goal.returns-clause-answers
@@ -45,5 +47,5 @@ returns-clause-answers c =
     let b = c.in-Some-take.begun in
     let has = sym c.take.ensures.value ∙ c.in-Some-take.is in
     let one : c.in-Some-search.begun ≡ b = search rules in
-    let returned : HasReturned b.stage c.args.cost = rw one at (c.if-not-has_returned.ensures.0 refl) in
+    let returned : HasReturned b.stage c.args.cost = subst (λ (x : Begun). HasReturned x.stage c.args.cost) one (c.if-not-has_returned.ensures.0 refl) in
     subst (λ (z : Machine). IsEnabled (world_of z) (event.Offer w c.args.cost)) c.self.view_is (_, begun_search m w desk b at has, returned)
