@@ -1,19 +1,16 @@
 -- Every event keeps what is sound.
-use Rattle.std.proofs.Common.{◌≡◌, ◌≢◌, ◌<◌, ◌≤◌, ◌+◌, ◌==◌, ℕ, zero, suc, ◌⊎◌, inl, inr, List, [], ◌∷◌, ◌++◌, length, map, flat_map, Option, None, Some, All, Contains, get_or, set, get_or-set_same, refl, sym, ◌∙◌, ap, subst, arith}
+use Rattle.std.proofs.Common.{◌≡◌, ◌<◌, ◌≤◌, ℕ, zero, suc, ◌⊎◌, inl, inr, List, [], ◌∷◌, ◌++◌, length, map, flat_map, Option, None, Some, All, Contains, get_or, set, refl, sym, ap, subst, arith}
 use Rattle.std.proofs.lemmas.Bool.{cases_eq}
 use Rattle.std.proofs.lemmas.List.{map-append}
 use Rattle.std.proofs.lemmas.List.Elements.{All-contains, All-set, All-push, All-weaker, All-get_or, Contains-append_left, Contains-append_right, Contains-append_cases, Contains-push, Contains-push_cases, Contains-get_or}
 use Rattle.std.proofs.lemmas.Option.{none-some}
 use Rattle.tcc_reads.specs.History.{count}
 use Rattle.tcc_graph.specs.Levels.{Judged}
-use Rattle.tcc_graph.specs.Orders.{IsNumbering}
-use Rattle.tcc_core.specs.Rows.{IsEmptyRow}
 use Rattle.tcc_core.specs.Shares.{Share, Finished, Stop, IsNotAbove, IsFinished, IsCycleCost}
 use Rattle.tcc_txn.proofs.Lists.{in_flat_map}
 use Rattle.tcc_world.specs.Worlds.{Searching, Worker, World, new_worker, worker_at, search_of, offers_of, start_of, starts_with, all_starts}
-use Rattle.tcc_world.specs.Steps.{IsEnabled, IsIdle, HasReturned, end_of, without, lowered, with_worker, searching, seeing, offering, finishing, Takes, Looks, Grows, TakesStep, Offers, Ends, Happens, Runs}
+use Rattle.tcc_world.specs.Steps.{IsEnabled, without, lowered, searching, seeing, offering, finishing, Takes, Looks, TakesStep, Offers, Ends, Happens, Runs}
 use Rattle.tcc_world.specs.Soundness.{IsLeastOf, IsBegun, IsBegunIfAny, IsWorking, IsSound}
-use Rattle.tcc_world.specs.declared.stage.Stage.{Stage}
 use Rattle.tcc_world.specs.declared.stage.Stage.TheVariants as stage
 use Rattle.tcc_world.specs.declared.event.Event.{Event}
 use Rattle.tcc_world.specs.declared.event.Event.TheVariants as event

@@ -1,23 +1,22 @@
 -- The machine as the code keeps it, and as its definition sees it.
-use Rattle.std.proofs.Common.{◌≡◌, ◌<◌, ◌≤◌, ◌+◌, ◌==◌, ℕ, zero, suc, true, is_some, ◌⊎◌, inl, inr, List, [], ◌∷◌, ◌++◌, length, map, Option, None, Some, All, Contains, get_or, set, take, refl, sym, ◌∙◌, ap, subst, arith}
+use Rattle.std.proofs.Common.{◌≡◌, ◌<◌, ◌≤◌, ◌+◌, ◌==◌, ℕ, zero, suc, true, is_some, List, [], ◌∷◌, ◌++◌, length, map, Option, None, Some, Contains, get_or, set, take, refl, sym, ◌∙◌, ap, subst, arith}
 use Rattle.std.specs.Prelude.{slice_get, not}
 use Rattle.std.specs.Global.{Vec}
 use Rattle.std.specs.List.{filter_map, range_with_len, cons_option}
 use Rattle.std.proofs.lemmas.List.FromFn.{map-range_with_len_more}
 use Rattle.std.specs.Option.{option_map}
 use Rattle.std.proofs.lemmas.List.{map-set, length-map, take_more}
-use Rattle.std.proofs.lemmas.List.Elements.{All-set, All-contains, All-weaker, All-filter, filter_map-append}
+use Rattle.std.proofs.lemmas.List.Elements.{All-set, All-contains, filter_map-append}
 use Rattle.std.proofs.lemmas.List.Sums.{length-filter, count_by-le-length}
 use Rattle.std.proofs.lemmas.Bool.{false≢true}
 use Rattle.std.proofs.lemmas.Option.{none-some, same_Some}
-use Rattle.tcc_reads.specs.History.{count}
 use Rattle.tcc_graph.specs.Levels.{Judged}
 use Rattle.tcc_core.specs.Rows.{IsEmptyRow}
 use Rattle.tcc_core.specs.Shares.{Stop, Finished}
 use Rattle.tcc_core.specs.Searches.{Search, IsSearchOf}
-use Rattle.tcc_world.specs.Worlds.{Searching, Worker, World, new_worker, worker_at, search_of, seeds_of}
-use Rattle.tcc_world.specs.Steps.{IsEnabled, IsIdle, HasReturned, end_of, without, lowered, searching, seeing, offering, finishing, Takes, Looks, Grows, TakesStep, Offers, Ends, Happens, Runs}
-use Rattle.tcc_world.specs.Machines.{Machine, searching_by, finished_at, finished_by, worker_of, world_of, HasRow, IsFit, IsSearchingOf, IsMachineOf}
+use Rattle.tcc_world.specs.Worlds.{Worker, World, new_worker, worker_at, search_of, seeds_of}
+use Rattle.tcc_world.specs.Steps.{IsEnabled, HasReturned, end_of, without, lowered, searching, seeing, offering, finishing, Takes, Looks, Grows, TakesStep, Offers, Ends, Happens, Runs}
+use Rattle.tcc_world.specs.Machines.{Machine, searching_by, finished_at, finished_by, worker_of, world_of, IsSearchingOf, IsMachineOf}
 use Rattle.tcc_world.specs.declared.desk.Begun.{Begun}
 use Rattle.tcc_world.specs.declared.desk.Desk.{Desk}
 use Rattle.tcc_world.specs.declared.stage.Stage.TheVariants as stage

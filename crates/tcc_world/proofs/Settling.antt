@@ -1,16 +1,13 @@
 -- The beginning is sound, and what is sound and has finished every start settles.
-use Rattle.std.proofs.Common.{◌≡◌, ◌≢◌, ◌<◌, ◌≤◌, ◌+◌, ℕ, zero, suc, inl, inr, List, [], ◌∷◌, ◌++◌, length, map, flat_map, replicate, Option, None, Some, All, Contains, get_or, refl, sym, ◌∙◌, ap, subst, arith}
+use Rattle.std.proofs.Common.{◌≡◌, ◌<◌, ◌≤◌, ℕ, List, [], ◌∷◌, ◌++◌, map, flat_map, replicate, Option, None, Some, All, get_or, refl, sym, ◌∙◌, ap, subst, arith}
 use Rattle.std.specs.List.{range_with_len}
 use Rattle.std.proofs.lemmas.List.{append-nil}
 use Rattle.std.proofs.lemmas.List.FromFn.{get_or-range_with_len, length-range_with_len}
 use Rattle.std.proofs.lemmas.List.Elements.{All-nil, All-cons, All-head, All-tail, All-map, All-replicate, All-weaker, All-contains, Contains-append_left, Contains-append_right, Contains-get_or}
-use Rattle.std.proofs.lemmas.Option.{none-some, same_Some}
 use Rattle.tcc_reads.specs.History.{count}
 use Rattle.tcc_graph.specs.Levels.{Judged}
 use Rattle.tcc_graph.specs.Links.{cost}
 use Rattle.tcc_graph.specs.Orders.{IsNumbering}
-use Rattle.tcc_graph.specs.Routes.{HasCycle, IsLeastCycle}
-use Rattle.tcc_graph.specs.declared.link.Link.{Link}
 use Rattle.tcc_core.specs.Shares.{Share, IsNotAbove, IsFinished, IsCycleCost, IsNotBelowLeast, SettleAt, starts_of}
 use Rattle.tcc_core.proofs.Settlement.{word_or_cycle, least_cycle}
 use Rattle.tcc_txn.proofs.Lists.{in_flat_map}

@@ -1,5 +1,5 @@
 -- Shares that saw less and offered more, rows that one more transaction joins, and how searches end.
-use Rattle.std.proofs.Common.{◌≡◌, ◌≢◌, ◌<◌, ◌≤◌, ℕ, zero, suc, ◌⊎◌, inl, inr, List, [], ◌∷◌, ◌++◌, length, Option, None, Some, All, Contains, get_or, set, get_or-set_same, get_or-set_other, length-set, refl, sym, ◌∙◌, ap, subst, arith, nat_lt}
+use Rattle.std.proofs.Common.{◌≡◌, ◌≢◌, ◌<◌, ◌≤◌, ℕ, ◌⊎◌, inl, inr, List, [], ◌∷◌, length, Option, None, Some, Contains, get_or-set_same, get_or-set_other, length-set, refl, sym, ◌∙◌, ap, subst, arith, nat_lt}
 use Rattle.std.proofs.lemmas.Bool.{cond_both, ltb-true, ltb-false}
 use Rattle.std.proofs.lemmas.Option.{none-some, same_Some}
 use Rattle.tcc_reads.specs.History.{count}
@@ -7,13 +7,13 @@ use Rattle.tcc_graph.specs.Levels.{Judged}
 use Rattle.tcc_graph.specs.Links.{cost, link_to}
 use Rattle.tcc_graph.specs.Routes.{LinksLead, IsUpwardRoute, IsDistance}
 use Rattle.tcc_graph.specs.declared.link.Link.{Link}
-use Rattle.tcc_core.specs.Rows.{in_row, IsSearchRow, IsEmptyRow, IsCutOff, JoinsNearest}
+use Rattle.tcc_core.specs.Rows.{in_row, IsSearchRow, IsEmptyRow, JoinsNearest}
 use Rattle.tcc_core.specs.Shares.{Share, Finished, Stop, Returned, Cut, IsNotAbove, IsStopped, IsFinished, IsCycleCost}
 use Rattle.tcc_graph.proofs.Pairs.{link_below}
 use Rattle.tcc_core.proofs.Steps.{in_set, out_set}
 use Rattle.tcc_world.specs.Worlds.{Searching}
 use Rattle.tcc_world.specs.Steps.{HasReturned, end_of, lowered, Grows}
-use Rattle.tcc_world.specs.Soundness.{IsAtStage, IsBegun, IsBegunIfAny}
+use Rattle.tcc_world.specs.Soundness.{IsAtStage, IsBegunIfAny}
 use Rattle.tcc_world.specs.declared.stage.Stage.{Stage}
 use Rattle.tcc_world.specs.declared.stage.Stage.TheVariants as stage
 

@@ -1,5 +1,5 @@
 -- What a step and a run of the machine answer.
-use Rattle.std.specs.Prelude.{ℕ, ◌<◌, ◌≡◌, List, length, take, slice_get, Some, Result, Ok, Err}
+use Rattle.std.specs.Prelude.{◌≡◌, List, take, slice_get, Some, Result, Ok, Err}
 use Rattle.tcc_graph.specs.Levels.{Judged}
 use Rattle.tcc_world.specs.Steps.{IsEnabled, Runs}
 use Rattle.tcc_world.specs.Machines.{Machine, world_of}

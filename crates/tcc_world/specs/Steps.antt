@@ -1,9 +1,9 @@
 -- The machine of all interleavings: its events, and its runs.
-use Rattle.std.specs.Prelude.{ℕ, ◌<◌, ◌≡◌, ◌≢◌, ◌==◌, not, List, [], ◌∷◌, ◌++◌, length, filter, Contains, Option, None, Some, IsSome, nat_lt, if◌then◌else◌, slice_set}
+use Rattle.std.specs.Prelude.{ℕ, ◌<◌, ◌≡◌, ◌≢◌, ◌==◌, not, List, [], ◌∷◌, ◌++◌, length, filter, Contains, Option, None, Some, nat_lt, if◌then◌else◌, slice_set}
 use Rattle.tcc_reads.specs.History.{count}
 use Rattle.tcc_graph.specs.Levels.{Judged}
 use Rattle.tcc_core.specs.Rows.{IsEmptyRow, IsCutOff, JoinsNearest}
-use Rattle.tcc_core.specs.Shares.{Share, Stop, Finished, Returned, Cut}
+use Rattle.tcc_core.specs.Shares.{Stop, Returned, Cut}
 use Rattle.tcc_world.specs.Worlds.{Searching, Worker, World, worker_at, search_of}
 use Rattle.tcc_world.specs.declared.stage.Stage.{Stage}
 use Rattle.tcc_world.specs.declared.stage.Stage.TheVariants as stage

@@ -1,7 +1,7 @@
 -- The machine of all interleavings: its states.
 use Rattle.std.specs.Prelude.{ℕ, List, [], ◌∷◌, ◌++◌, map, flat_map, replicate, Option, None, Some, slice_index_or}
 use Rattle.std.specs.List.{range_with_len}
-use Rattle.tcc_core.specs.Shares.{Share, Finished}
+use Rattle.tcc_core.specs.Shares.{Share}
 use Rattle.tcc_world.specs.declared.stage.Stage.{Stage}
 
 -- a search that a worker has begun: its start, its row, and how far it is

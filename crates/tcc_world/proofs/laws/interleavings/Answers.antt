@@ -1,4 +1,4 @@
-use Rattle.std.proofs.Common.{◌≡◌, Some, subst}
+use Rattle.std.proofs.Common.{subst}
 use Rattle.tcc_core.specs.Shares.{SettleAt}
 use Rattle.tcc_core.proofs.Settlement.{word_or_cycle, least_cycle}
 use Rattle.tcc_world.specs.Worlds.{shares_of}

@@ -1,16 +1,6 @@
-use Rattle.std.proofs.Common.{rules, ◌≡◌, ◌<◌, ◌≤◌, ◌∙◌, List, All, Option, Some, None, Contains, length, refl, sym, ap, subst, arith}
-use Rattle.std.specs.Prelude.{slice_get}
-use Rattle.tcc_graph.specs.Levels.{Judged}
-use Rattle.tcc_derive.specs.Prices.{IsPricesOf}
-use Rattle.tcc_world.specs.Steps.{IsEnabled, Takes, Looks, TakesStep, Offers, Ends, without}
-use Rattle.tcc_world.specs.Machines.{Machine, worker_of, world_of, IsMachineOf}
-use Rattle.tcc_world.specs.declared.event.Event.TheVariants as event
-use Rattle.tcc_world.proofs.Keeping.{happens_enabled}
-use Rattle.tcc_world.proofs.Machining.{got, some_is, search_is, same_world, offers_again, finished_again, after, take_made, look_made, settle_made, offer_made, end_made, few_left, begun_search, idle_search}
+use Rattle.std.proofs.Common.{rules, ◌∙◌}
+use Rattle.tcc_world.specs.Machines.{world_of}
 use Rattle.tcc_world.proofs.world.World.run.Goals as goal
-use Rattle.std.proofs.Common.{take, ◌+◌, get_or}
-use Rattle.std.proofs.lemmas.List.{take_more}
-use Rattle.tcc_world.specs.Steps.{Runs}
 use Rattle.tcc_world.proofs.Machining.{step_more}
 
 pub loop-at-preserved : goal.loop-at-preserved

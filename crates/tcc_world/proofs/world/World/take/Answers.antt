@@ -1,19 +1,17 @@
-use Rattle.std.proofs.Common.{rules, ◌≡◌, ◌<◌, ◌≤◌, ◌∙◌, List, All, Option, Some, None, Contains, length, refl, sym, ap, subst, arith}
-use Rattle.std.specs.Prelude.{slice_get}
+use Rattle.std.proofs.Common.{rules, ◌≡◌, ◌<◌, ◌∙◌, Some, None, Contains, refl, sym, ap, subst, arith}
 use Rattle.tcc_graph.specs.Levels.{Judged}
 use Rattle.tcc_derive.specs.Prices.{IsPricesOf}
-use Rattle.tcc_world.specs.Steps.{IsEnabled, Takes, Looks, TakesStep, Offers, Ends, without}
+use Rattle.tcc_world.specs.Steps.{IsEnabled, Takes}
 use Rattle.tcc_world.specs.Machines.{Machine, worker_of, world_of, IsMachineOf}
 use Rattle.tcc_world.specs.declared.event.Event.TheVariants as event
-use Rattle.tcc_world.proofs.Keeping.{happens_enabled}
-use Rattle.tcc_world.proofs.Machining.{got, some_is, search_is, same_world, offers_again, finished_again, after, take_made, look_made, settle_made, offer_made, end_made, few_left, begun_search, idle_search}
+use Rattle.tcc_world.proofs.Machining.{got, after, take_made, few_left, idle_search}
 use Rattle.tcc_world.proofs.world.World.take.Goals as goal
 use Rattle.std.proofs.lemmas.List.Elements.{All-filter, All-set}
 use Rattle.std.proofs.Common.{ℕ}
 use Rattle.std.proofs.lemmas.List.{length-map}
 use Rattle.tcc_core.specs.Rows.{IsEmptyRow}
 use Rattle.tcc_world.specs.declared.stage.Stage.TheVariants as stage
-use Rattle.tcc_world.specs.Machines.{HasRow, IsFit}
+use Rattle.tcc_world.specs.Machines.{HasRow}
 
 pub invariant_of-self-2 : goal.invariant_of-self-2
 invariant_of-self-2 c =
