@@ -1,0 +1,63 @@
+-- The machine as the code keeps it: with what each search knows of the ways on. What it says of those serves proofs alone.
+use Rattle.std.specs.Prelude.{ℕ, ◌<◌, ◌≤◌, ◌≡◌, List, length, map, All, Option, None, Some}
+use Rattle.std.specs.Option.{option_map}
+use Rattle.std.specs.List.{filter_map}
+use Rattle.tcc_reads.specs.History.{count}
+use Rattle.tcc_graph.specs.Levels.{Judged}
+use Rattle.tcc_core.specs.Searches.{IsSearchOf}
+use Rattle.tcc_core.specs.Shares.{Stop, Finished}
+use Rattle.tcc_txn.specs.declared.limits.TheConstants.{MAX_COUNT}
+use Rattle.tcc_world.specs.Worlds.{Searching, Worker, World, seeds_of}
+use Rattle.tcc_world.specs.Steps.{end_of}
+use Rattle.tcc_world.specs.declared.desk.Begun.{Begun}
+use Rattle.tcc_world.specs.declared.desk.Desk.{Desk}
+
+-- how many starts there are; the word, the starts left, the seed, and what each worker has before it
+pub record Machine : Type 0 where
+  pub starts : ℕ
+  pub word : Option ℕ
+  pub left : List ℕ
+  pub seed : Option ℕ
+  pub desks : List Desk
+
+abbrev pub searching_by : Begun → Searching
+searching_by b = record { start = b.search.start; row = b.search.row; stage = b.stage }
+
+-- a search that has ended, as one that is finished
+abbrev pub finished_at : Begun → Option Stop → Option Finished
+finished_at b None = None
+finished_at b (Some stop) = Some (record { start = b.search.start; row = b.search.row; stop = stop })
+
+abbrev pub finished_by : Begun → Option Finished
+finished_by b = finished_at b (end_of b.stage)
+
+abbrev pub worker_of : Desk → Worker
+worker_of desk =
+    record {
+      share = record { finished = filter_map finished_by desk.finished.items; offers = desk.offers.items; sight = desk.sight };
+      search = option_map searching_by desk.search;
+    }
+
+-- the machine as its definition sees it
+abbrev pub world_of : Machine → World
+world_of m = record { word = m.word; left = m.left; seeds = seeds_of m.seed; workers = map worker_of m.desks }
+
+abbrev pub HasRow : ℕ → Option Begun → Type 0
+HasRow n None = Unit {0}
+HasRow n (Some b) = length b.search.row ≡ n
+
+-- the starts left are below so many and no more, and each row has a place for each
+pub record IsFit (starts : ℕ) (left : List ℕ) (desks : List Desk) : Type 0 where
+  pub most : starts ≤ MAX_COUNT
+  pub few : length left ≤ starts
+  pub below : All (λ s. s < starts) left
+  pub rows : All (λ desk. HasRow starts desk.search) desks
+
+abbrev pub IsSearchingOf : Judged → Option Begun → Type 0
+IsSearchingOf j None = Unit {0}
+IsSearchingOf j (Some b) = IsSearchOf j b.search.start b.search
+
+-- a machine of this history at this level, which begins so and stays so
+pub record IsMachineOf (j : Judged) (m : Machine) : Type 0 where
+  pub starts : m.starts ≡ count j.history
+  pub searches : All (λ desk. IsSearchingOf j desk.search) m.desks
