@@ -1,12 +1,10 @@
-use Rattle.std.proofs.Common.{rules, ◌≡◌, ◌<◌, ◌∙◌, None, Contains, refl, sym, ap, subst, arith}
-use Rattle.tcc_world.specs.Machines.{Machine, worker_of}
+use Rattle.std.proofs.Common.{rules, ℕ, ◌≡◌, ◌<◌, ◌∙◌, None, Contains, refl, sym, ap, subst, arith}
+use Rattle.tcc_world.specs.Machines.{Machine, worker_of, HasRow}
 use Rattle.tcc_world.proofs.Machining.{machine_in, found, take_made, few_left, idle_search}
 use Rattle.tcc_world.proofs.world.World.take.Goals as goal
 use Rattle.std.proofs.lemmas.List.Elements.{All-filter, All-set}
-use Rattle.std.proofs.Common.{ℕ}
 use Rattle.std.proofs.lemmas.List.{length-map}
 use Rattle.tcc_core.specs.Rows.{IsEmptyRow}
-use Rattle.tcc_world.specs.Machines.{HasRow}
 
 pub invariant_of-self-2 : goal.invariant_of-self-2
 invariant_of-self-2 c =
