@@ -6,7 +6,7 @@ use Rattle.std.specs.List.{filter_map, range_with_len, cons_option}
 use Rattle.std.proofs.lemmas.List.FromFn.{map-range_with_len_more}
 use Rattle.std.specs.Option.{option_map}
 use Rattle.std.proofs.lemmas.List.{map-set, length-map, take_more}
-use Rattle.std.proofs.lemmas.List.Elements.{All-set, All-contains, filter_map-append}
+use Rattle.std.proofs.lemmas.List.Elements.{All-contains, filter_map-append}
 use Rattle.std.proofs.lemmas.List.Sums.{length-filter, count_by-le-length}
 use Rattle.std.proofs.lemmas.Bool.{false≢true}
 use Rattle.std.proofs.lemmas.Option.{none-some, same_Some}
@@ -15,13 +15,13 @@ use Rattle.tcc_core.specs.Rows.{IsEmptyRow}
 use Rattle.tcc_core.specs.Shares.{Stop, Finished}
 use Rattle.tcc_core.specs.Searches.{Search, IsSearchOf}
 use Rattle.tcc_world.specs.Worlds.{Worker, World, new_worker, worker_at, search_of, seeds_of}
-use Rattle.tcc_world.specs.Steps.{IsEnabled, HasReturned, end_of, without, lowered, searching, seeing, offering, finishing, Takes, Looks, Grows, TakesStep, Offers, Ends, Happens, Runs}
+use Rattle.tcc_world.specs.Steps.{HasReturned, end_of, without, lowered, searching, seeing, offering, finishing, Takes, Looks, Grows, TakesStep, Offers, Ends, Happens, Runs}
 use Rattle.tcc_world.specs.Machines.{Machine, searching_by, finished_at, finished_by, worker_of, world_of, IsSearchingOf, IsMachineOf}
 use Rattle.tcc_world.specs.declared.desk.Begun.{Begun}
 use Rattle.tcc_world.specs.declared.desk.Desk.{Desk}
 use Rattle.tcc_world.specs.declared.stage.Stage.TheVariants as stage
+use Rattle.tcc_world.specs.declared.world.World.TheInside.{Inside}
 use Rattle.tcc_world.specs.declared.event.Event.{Event}
-use Rattle.tcc_world.specs.declared.event.Event.TheVariants as event
 
 -- ---- a desk, and the worker that it stands for
 
@@ -33,43 +33,15 @@ desk_in (d ∷ desks) (suc w) desk e = let rest = desk_in desks w desk e in (res
 pub desk_at : (m : Machine) (w : ℕ) (desk : Desk) → slice_get m.desks w ≡ Some desk → worker_at (world_of m) w ≡ worker_of desk
 desk_at m w desk e = (desk_in m.desks w desk e).0
 
-no_desk_in : (desks : List Desk) (w : ℕ) → slice_get desks w ≡ None → (get_or (map worker_of desks) w new_worker ≡ new_worker) × (length desks ≤ w)
-no_desk_in [] w e = (refl, omega arith)
-no_desk_in (d ∷ desks) zero e = absurd (none-some d (sym e))
-no_desk_in (d ∷ desks) (suc w) e = let rest = no_desk_in desks w e in (rest.0, omega (arith, rest.1))
-
 -- the search of a worker that is there
 pub search_at : (m : Machine) (w : ℕ) (desk : Desk) → slice_get m.desks w ≡ Some desk → search_of (world_of m) w ≡ option_map searching_by desk.search
 search_at m w desk e = ap (λ (a : Worker). a.search) (desk_at m w desk e)
-
-pub no_search : (m : Machine) (w : ℕ) → slice_get m.desks w ≡ None → search_of (world_of m) w ≡ None
-no_search m w e = ap (λ (a : Worker). a.search) (no_desk_in m.desks w e).0
 
 pub idle_search : (m : Machine) (w : ℕ) (desk : Desk) → slice_get m.desks w ≡ Some desk → desk.search ≡ None → search_of (world_of m) w ≡ None
 idle_search m w desk e idle = search_at m w desk e ∙ ap (option_map searching_by) idle
 
 pub begun_search : (m : Machine) (w : ℕ) (desk : Desk) (b : Begun) → slice_get m.desks w ≡ Some desk → desk.search ≡ Some b → search_of (world_of m) w ≡ Some (searching_by b)
 begun_search m w desk b e has = search_at m w desk e ∙ ap (option_map searching_by) has
-
--- ---- what is not enabled
-
-pub not_there : (m : Machine) (w s : ℕ) → slice_get m.desks w ≡ None → IsEnabled (world_of m) (event.Take w s) → ⊥
-not_there m w s e ((within, idle), here) = omega (arith, within, length-map m.desks worker_of, (no_desk_in m.desks w e).1)
-
-pub not_idle : (m : Machine) (w s : ℕ) (desk : Desk) (b : Begun) → slice_get m.desks w ≡ Some desk → desk.search ≡ Some b → IsEnabled (world_of m) (event.Take w s) → ⊥
-not_idle m w s desk b e has ((within, idle), here) = none-some (searching_by b) (sym idle ∙ begun_search m w desk b e has)
-
-pub no_look : (world : World) (w : ℕ) → search_of world w ≡ None → IsEnabled world (event.Look w) → ⊥
-no_look world w none (search, has) = none-some search (sym none ∙ has)
-
-pub no_settle : (world : World) (w : ℕ) → search_of world w ≡ None → IsEnabled world (event.Settle w) → ⊥
-no_settle world w none (search, has, going) = none-some search (sym none ∙ has)
-
-pub no_offer : (world : World) (w c : ℕ) → search_of world w ≡ None → IsEnabled world (event.Offer w c) → ⊥
-no_offer world w c none (search, has, returned) = none-some search (sym none ∙ has)
-
-pub no_end : (world : World) (w : ℕ) → search_of world w ≡ None → IsEnabled world (event.End w) → ⊥
-no_end world w none (search, has, stop, over) = none-some search (sym none ∙ has)
 
 -- ---- one desk changes
 
@@ -81,18 +53,27 @@ pub made : (m : Machine) (word : Option ℕ) (left : List ℕ) (w : ℕ) (desk :
 made m word left w desk a e =
     ap (λ (ws : List Worker). record { word = word; left = left; seeds = seeds_of m.seed; workers = ws }) (map-set worker_of m.desks w desk ∙ ap (λ (b : Worker). set (map worker_of m.desks) w b) e)
 
-pub machine_after : (j : Judged) (m : Machine) (word : Option ℕ) (left : List ℕ) (w : ℕ) (desk : Desk) → IsMachineOf j m → IsSearchingOf j desk.search → IsMachineOf j (after m word left w desk)
-machine_after j m word left w desk is its = record { starts = is.starts; searches = All-set (λ desk. IsSearchingOf j desk.search) m.desks w desk its is.searches }
-
--- what a look at a place of a vector gives
-pub got : (desks : List Desk) (w n : ℕ) (desk : Desk) → w < n → n ≡ length desks → desk ≡ get_or desks w desk → slice_get desks w ≡ Some desk
+got : (desks : List Desk) (w n : ℕ) (desk : Desk) → w < n → n ≡ length desks → desk ≡ get_or desks w desk → slice_get desks w ≡ Some desk
 got [] w n desk within long e = absurd (omega arith)
 got (d ∷ desks) zero n desk within long e = ap Some (sym e)
 got (d ∷ desks) (suc w) n desk within long e = got desks w (length desks) desk (omega arith) refl e
 
+-- the machine that a world keeps; the desk that is found in it, and the search that is held there
+abbrev pub machine_in : Inside → Machine
+machine_in s = record { starts = s.starts; word = s.word; left = s.left.items; seed = s.seed; desks = s.desks.items }
+
+pub found : (s : Inside) (w : ℕ) (desk : Desk) → w < s.desks.len → desk ≡ get_or s.desks.items w desk → slice_get (machine_in s).desks w ≡ Some desk
+found s w desk within here = got s.desks.items w s.desks.len desk within s.desks.ok.0 here
+
+pub held : {taken : Option Begun} (s : Inside) (w : ℕ) (desk : Desk) (b : Begun) → w < s.desks.len → desk ≡ get_or s.desks.items w desk → taken ≡ desk.search → taken ≡ Some b → (slice_get (machine_in s).desks w ≡ Some desk) × (desk.search ≡ Some b)
+held s w desk b within here took has = (found s w desk within here, sym took ∙ has)
+
 pub some_is : {X : Type 0} (o : Option X) → true ≡ is_some o → (x : X) × (o ≡ Some x)
 some_is None e = absurd (false≢true (sym e))
 some_is (Some x) e = (x, refl)
+
+pub stop_is : (a b : Begun) → a ≡ b → true ≡ is_some (end_of a.stage) → (stop : Stop) × (end_of b.stage ≡ Some stop)
+stop_is a b one over = some_is (end_of b.stage) (over ∙ ap (λ (x : Begun). is_some (end_of x.stage)) one)
 
 contains_got : (desks : List Desk) (w : ℕ) (desk : Desk) → slice_get desks w ≡ Some desk → Contains desks desk
 contains_got [] w desk e = absurd (none-some desk e)

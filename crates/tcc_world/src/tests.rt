@@ -2,6 +2,7 @@
 use crate::{Event, RunFault, StepFault, World};
 use std::alloc::Global;
 use std::process::Abort;
+use std::test::Fail;
 use std::thread::Threads;
 use tcc_derive::{Prices, derive};
 use tcc_graph::{Graph, Level};
@@ -37,9 +38,22 @@ fn priced(rt: &(impl Threads + Sync), alloc: Global, graph: &Graph) -> Result<Pr
 }
 
 /// The prices of these records.
-fn prices_of(rt: &(impl Threads + Sync), alloc: Global, records: &str) -> Option<Prices> {
-    let graph = graph_of(alloc, records)?;
-    priced(rt, alloc, &graph).ok()
+fn prices_of(rt: &(impl Abort + Threads + Sync), alloc: Global, records: &str) -> Prices {
+    let Some(graph) = graph_of(alloc, records) else {
+        panic!(rt; "no graph of {records}");
+    };
+    let Ok(prices) = priced(rt, alloc, &graph) else {
+        panic!(rt; "no memory");
+    };
+    prices
+}
+
+/// The beginning with so many workers.
+fn begin(rt: &impl Abort, alloc: Global, prices: &Prices, workers: u32) -> World {
+    let Ok(world) = World::new(alloc, prices, workers) else {
+        panic!(rt; "no memory");
+    };
+    world
 }
 
 /// One event.
@@ -91,12 +105,8 @@ const LAST: [Event; 7] = [
 #[test]
 fn stale_read(rt: HostRuntime) {
     let alloc = rt.alloc();
-    let Some(prices) = prices_of(&rt, alloc, STALE_READ) else {
-        panic!(&rt; "no prices");
-    };
-    let Ok(mut world) = World::new(alloc, &prices, 2) else {
-        panic!(&rt; "no memory");
-    };
+    let prices = prices_of(&rt, alloc, STALE_READ);
+    let mut world = begin(&rt, alloc, &prices, 2);
     assert!(&rt; world.word().is_none());
     assert_eq!(&rt; world.left(), 3);
     assert_run(&rt, alloc, &mut world, &prices, &FIRST);
@@ -134,12 +144,8 @@ fn stale_read(rt: HostRuntime) {
 #[test]
 fn stopped_run(rt: HostRuntime) {
     let alloc = rt.alloc();
-    let Some(prices) = prices_of(&rt, alloc, STALE_READ) else {
-        panic!(&rt; "no prices");
-    };
-    let Ok(mut world) = World::new(alloc, &prices, 2) else {
-        panic!(&rt; "no memory");
-    };
+    let prices = prices_of(&rt, alloc, STALE_READ);
+    let mut world = begin(&rt, alloc, &prices, 2);
     let events = [Event::Take(0, 0), Event::Take(1, 0), Event::Take(1, 1)];
     assert!(&rt; world.starts() == prices.count());
     let stopped = world.run(alloc, &prices, &events);
@@ -155,9 +161,7 @@ fn stopped_run(rt: HostRuntime) {
 #[test]
 fn seeded(rt: HostRuntime) {
     let alloc = rt.alloc();
-    let Some(prices) = prices_of(&rt, alloc, STALE_READ) else {
-        panic!(&rt; "no prices");
-    };
+    let prices = prices_of(&rt, alloc, STALE_READ);
     let Ok(mut world) = World::seeded(alloc, &prices, 1, 3) else {
         panic!(&rt; "no memory");
     };
@@ -183,6 +187,125 @@ fn seeded(rt: HostRuntime) {
     assert_eq!(&rt; world.left(), 0);
 }
 
+/// One event, if it is enabled: an idle worker takes the start; another looks, or settles or ends, or offers, as the turn
+/// says. Where start and turn are one number, each event that is enabled is one choice of worker and number.
+fn act(
+    rt: &impl Abort,
+    alloc: Global,
+    world: &mut World,
+    prices: &Prices,
+    worker: u32,
+    start: u32,
+    turn: u32,
+) -> bool {
+    if step(rt, alloc, world, prices, Event::Take(worker, start)).is_ok() {
+        return true;
+    }
+    if turn == 0 {
+        return step(rt, alloc, world, prices, Event::Look(worker)).is_ok();
+    }
+    if turn == 1 {
+        return step(rt, alloc, world, prices, Event::Settle(worker)).is_ok()
+            || step(rt, alloc, world, prices, Event::End(worker)).is_ok();
+    }
+    if turn == 2 {
+        for cost in 0..20 {
+            if step(rt, alloc, world, prices, Event::Offer(worker, cost)).is_ok() {
+                return true;
+            }
+        }
+    }
+    false
+}
+
+/// A worker takes this start, or looks if it has one, and then ends what it holds.
+fn search(
+    rt: &impl Abort,
+    alloc: Global,
+    world: &mut World,
+    prices: &Prices,
+    worker: u32,
+    start: u32,
+) {
+    act(rt, alloc, world, prices, worker, start, 0);
+    for _ in 0..100 {
+        if !act(rt, alloc, world, prices, worker, start, 1) {
+            break;
+        }
+    }
+    act(rt, alloc, world, prices, worker, start, 2);
+    act(rt, alloc, world, prices, worker, start, 1);
+}
+
+/// The end of a run by a fixed rule: each worker ends what it holds, and then the first takes the starts that are left in
+/// ascending order.
+fn finish(
+    rt: &impl Abort,
+    alloc: Global,
+    world: &mut World,
+    prices: &Prices,
+    workers: u32,
+) -> Option<u32> {
+    for worker in 0..workers {
+        search(rt, alloc, world, prices, worker, prices.count());
+    }
+    for start in 0..prices.count() {
+        search(rt, alloc, world, prices, 0, start);
+    }
+    for worker in 0..workers {
+        assert!(rt; !act(rt, alloc, world, prices, worker, prices.count(), 0));
+    }
+    assert_eq!(rt; world.left(), 0);
+    world.word()
+}
+
+/// Of two workers, whether so many events are enabled one after another, which the digits of a number choose.
+fn act_by_digits(
+    rt: &impl Abort,
+    alloc: Global,
+    world: &mut World,
+    prices: &Prices,
+    events: u32,
+    number: u32,
+) -> bool {
+    let choices = prices.count().max(3);
+    let mut rest = number;
+    for _ in 0..events {
+        let choice = rest / 2 % choices;
+        if !act(rt, alloc, world, prices, rest % 2, choice, choice) {
+            return false;
+        }
+        rest = rest / 2 / choices;
+    }
+    true
+}
+
+/// Of two workers every list of the first six or seven enabled events, and from each to the end by the rule: the same word.
+/// The table says how many events, how many lists of as many choices there are, and how many of those are enabled.
+#[test]
+fn every_run_in_small(rt: HostRuntime) {
+    let alloc = rt.alloc();
+    let cases: [(&str, u32, u32, u32, Option<u32>); 4] = [
+        (STALE_READ, 7, 279_936, 22_772, Some(3)),
+        (WRITERS_BEFORE_EACH_OTHER, 6, 262_144, 12_194, Some(4)),
+        (TWO_STALE_READS, 6, 1_000_000, 21_248, Some(3)),
+        (NO_CYCLE, 7, 279_936, 22_700, None),
+    ];
+    for (records, events, lists, enabled, word) in cases.iter() {
+        let prices = prices_of(&rt, alloc, records);
+        let mut runs = 0u32;
+        for number in 0..*lists {
+            let mut world = begin(&rt, alloc, &prices, 2);
+            if act_by_digits(&rt, alloc, &mut world, &prices, *events, number) {
+                let ended = finish(&rt, alloc, &mut world, &prices, 2);
+                assert!(&rt; ended == *word, "{number} of {records}");
+                runs = runs.saturating_add(1);
+            }
+        }
+        assert_eq!(&rt; runs, *enabled, "{records}");
+    }
+}
+
 /// A number made of the one before.
 fn next(state: u64) -> u64 {
     state
@@ -190,87 +313,84 @@ fn next(state: u64) -> u64 {
         .wrapping_add(1442695040888963407)
 }
 
-/// One event for a worker, by a number: what is enabled for it is tried in an order that the number picks.
-fn act(rt: &impl Abort, alloc: Global, world: &mut World, prices: &Prices, worker: u32, pick: u64) {
-    if pick % 4 == 0 && step(rt, alloc, world, prices, Event::Look(worker)).is_ok() {
-        return;
-    }
-    if step(rt, alloc, world, prices, Event::Settle(worker)).is_ok() {
-        return;
-    }
-    if step(rt, alloc, world, prices, Event::End(worker)).is_ok() {
-        return;
-    }
-    for cost in 0..20 {
-        if step(rt, alloc, world, prices, Event::Offer(worker, cost)).is_ok() {
-            return;
-        }
-    }
-    let count = prices.count() as u64;
-    for turn in 0..count {
-        let start = ((pick / 4) % 1024 + turn) % (count + 1);
-        if step(rt, alloc, world, prices, Event::Take(worker, start as u32)).is_ok() {
-            return;
-        }
-    }
-}
-
-/// A whole run whose choices are those of a number: which worker acts, whether it looks first, which start it takes.
-fn play(
+/// A run by random choices, and from there to its end by the rule.
+fn random_run(
     rt: &impl Abort,
     alloc: Global,
     prices: &Prices,
     workers: u32,
-    choices: u64,
+    seed: u64,
 ) -> Option<u32> {
-    let Ok(mut world) = World::new(alloc, prices, workers) else {
-        panic!(rt; "no memory");
-    };
-    let mut state = choices;
-    for _ in 0..120 {
-        assert!(rt; workers > 0);
+    let count = prices.count();
+    assert!(rt; workers > 0 && count > 0);
+    let mut world = begin(rt, alloc, prices, workers);
+    let mut state = seed;
+    for _ in 0..10_000 {
         state = next(state);
-        let pick = state / 65536;
+        let pick = (state / 4294967296) as u32;
         act(
             rt,
             alloc,
             &mut world,
             prices,
-            (pick % workers as u64) as u32,
-            pick / 64 % 65536,
+            pick % workers,
+            pick / 8 % count,
+            pick / 4096 % 3,
         );
     }
-    for worker in 0..workers {
-        for _ in 0..100 {
-            act(rt, alloc, &mut world, prices, worker, 1);
-        }
-        assert!(rt;
-            step(rt, alloc, &mut world, prices, Event::Look(worker)) == Err(StepFault::NotEnabled)
-        );
-    }
-    assert_eq!(rt; world.left(), 0);
-    world.word()
+    finish(rt, alloc, &mut world, prices, workers)
 }
 
-/// Runs by a hundred numbers each, of 1, 2 and 3 workers: all end at the same word.
-#[test]
-fn interleavings(rt: HostRuntime) {
-    let alloc = rt.alloc();
-    let cases = [
-        (STALE_READ, Some(3)),
-        (WRITERS_BEFORE_EACH_OTHER, Some(4)),
-        (TWO_STALE_READS, Some(3)),
-        (NO_CYCLE, None),
-    ];
-    for (records, word) in cases.iter() {
-        let Some(prices) = prices_of(&rt, alloc, records) else {
-            panic!(&rt; "no prices of {records}");
-        };
-        for choices in 0..100u64 {
-            for workers in [1u32, 2, 3].iter() {
-                let ended = play(&rt, alloc, &prices, *workers, choices);
-                assert!(&rt; ended == *word, "{choices} with {workers} of {records}");
+/// In each of five groups two transactions write the values of a key, and from each a chain of readers leads to one that
+/// reads the other's value. The chains of each group are shorter than those of the one before, and so its cycle costs less.
+fn groups(alloc: Global) -> Result<String, Fail> {
+    let mut records = String::new(alloc);
+    for group in 0..5u32 {
+        let last = 5 - group;
+        for (value, other) in [(1, 2), (2, 1)].iter() {
+            for hop in 0..last + 1 {
+                let next = hop + 1;
+                let name = format!(in alloc; "{group}.{value}.{hop}")?;
+                let name = name.as_str();
+                let read = format!(in alloc; "{name},begin\n{name},r,{group}.{value},{hop}\n")?;
+                records.push_str(read.as_str())?;
+                if hop == 0 {
+                    let first = format!(in alloc; "{name},w,{group},{value}\n")?;
+                    records.push_str(first.as_str())?;
+                }
+                if hop == last {
+                    let crossed = format!(in alloc; "{name},r,{group},{other}\n")?;
+                    records.push_str(crossed.as_str())?;
+                }
+                let written = format!(in alloc;
+                    "{name},w,{group}.{value},{next}\n{name},commit\n"
+                )?;
+                records.push_str(written.as_str())?;
             }
         }
     }
+    Ok(records)
+}
+
+/// Random runs of two and of five workers over 41 transactions end with the word of one worker that takes the starts in
+/// ascending order: the cost of the last group's cycle. That of the first, from transaction 1, is three times as dear.
+#[test]
+fn random_runs(rt: HostRuntime) -> Result<(), Fail> {
+    let alloc = rt.alloc();
+    let records = groups(alloc)?;
+    let prices = prices_of(&rt, alloc, records.as_str());
+    assert_eq!(&rt; prices.count(), 41);
+    let mut first = begin(&rt, alloc, &prices, 1);
+    search(&rt, alloc, &mut first, &prices, 0, 1);
+    assert!(&rt; first.word() == Some(12));
+    let mut alone = begin(&rt, alloc, &prices, 1);
+    let word = finish(&rt, alloc, &mut alone, &prices, 1);
+    assert!(&rt; word == Some(4));
+    for seed in 0..25u64 {
+        for workers in [2u32, 5].iter() {
+            let ended = random_run(&rt, alloc, &prices, *workers, seed);
+            assert!(&rt; ended == word, "{seed} with {workers} workers");
+        }
+    }
+    Ok(())
 }
