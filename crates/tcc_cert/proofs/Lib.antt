@@ -1,6 +1,8 @@
 pub mod WorkedTexts
 pub mod SentFacts
 pub mod Items
+pub mod GivenTexts
+pub mod GivenFacts
 pub mod WorkedReading
 pub mod RangeFacts
 pub mod Numbered
@@ -14,6 +16,9 @@ pub mod InputFacts
 pub mod WordFacts
 pub mod OnwardFacts
 pub mod StepFacts
+pub mod PartFacts
+pub mod StageFacts
+pub mod CollectFacts
 pub mod OneText
 pub mod OneClaim
 pub mod Ends

@@ -75,6 +75,11 @@ Appends-part {a} {b} {t} (left, p) =
 pub Appends-whole : {a b : Option (List ℕ)} {t : List ℕ} → Sends a [] b [] t → Appends a b t
 Appends-whole {a} {b} {t} p = subst (Appends a b) (sym (p.whole ∙ append-nil p.sent)) p.appended
 
+-- a part went out where nothing was held, and the rest was still to be sent
+pub part_out : {X E : Type 0} (r : Result X E) (a b c : Option (List ℕ)) (g h t : List ℕ) → Sends a [] b g t → IsSent r b g c h [] → OnErr r ((n : ℕ) × Appends a c (take n t))
+part_out (Ok x) a b c g h t p q = tt
+part_out (Err e) a b c g h t p q = Appends-part (Stops-out p q)
+
 pub on_err : {X E P : Type 0} (r : Result X E) → P → OnErr r P
 on_err (Ok x) p = tt
 on_err (Err e) p = p

@@ -122,7 +122,7 @@ pub whole-ended : {R : Type 0} (bytes : List ℕ) (certificate : Certificate) (a
     → certificate_read bytes ≡ Ok certificate
 whole-ended bytes certificate after done new is none = rw (is, none) refl
 
-some-left : (bytes : List ℕ) → bytes ≢ [] → eqb (length bytes) 0 ≡ false
+pub some-left : (bytes : List ℕ) → bytes ≢ [] → eqb (length bytes) 0 ≡ false
 some-left [] some = absurd (some refl)
 some-left (byte ∷ bytes) some = grind (arith, nat_tests)
 

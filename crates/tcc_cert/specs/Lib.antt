@@ -5,7 +5,13 @@ pub mod OrderRules
 pub mod Rules
 pub mod Texts
 pub mod Writing
+pub mod Begun
+pub mod Given
 pub mod Reading
 pub mod Outcomes
 pub mod WindowBytes
 pub mod Inputs
+pub mod Parts
+pub mod Stages
+pub mod Ahead
+pub mod Collecting

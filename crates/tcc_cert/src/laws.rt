@@ -1,8 +1,10 @@
 //! What the definitions of a certificate's text say by themselves.
-ghost use Rattle.std.specs.Prelude.{◌≡◌, ℕ, List, Ok};
+ghost use Rattle.std.specs.Prelude.{◌≡◌, ℕ, List, Err, None, Ok, Some};
 ghost use Rattle.tcc_cert.specs.Texts.{HasText, certificate_text};
+ghost use Rattle.tcc_cert.specs.Parts.{parts_of, parts_read};
 ghost use Rattle.tcc_cert.specs.Reading.{certificate_read};
 ghost use Rattle.tcc_cert.specs.declared.certificate.Certificate.{Certificate};
+ghost use Rattle.tcc_cert.specs.declared.fault.CertFault.{CertFault};
 
 /// The text of a certificate that has one is read as that certificate, and so as no other.
 pub fn text_is_read()
@@ -12,4 +14,14 @@ pub fn text_is_read()
 /// What is read has a text, and was read from that text and nothing else.
 pub fn read_text_is_one()
     ensures { (bytes : List ℕ) (c : Certificate) → certificate_read bytes ≡ Ok c → HasText c × (bytes ≡ certificate_text c) }
+{}
+
+/// The parts that the text of a certificate gives are those of the certificate, and then it ends.
+pub fn parts_of_what_is_read()
+    ensures { (bytes : List ℕ) (c : Certificate) → certificate_read bytes ≡ Ok c → ((parts_read bytes).parts ≡ parts_of c) × ((parts_read bytes).fault ≡ None) }
+{}
+
+/// The parts of any other text end in its first fault.
+pub fn parts_before_the_fault()
+    ensures { (bytes : List ℕ) (f : CertFault) → certificate_read bytes ≡ Err f → ((parts_read bytes).fault ≡ Some f.kind) × ((parts_read bytes).line ≡ f.line) }
 {}

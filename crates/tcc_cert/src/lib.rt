@@ -2,12 +2,14 @@
 #![tactic(auto)]
 
 mod certificate;
+mod cycle_writer;
 mod fault;
 pub mod laws;
 mod lines;
 mod links;
 mod numbers;
 mod outgoing;
+mod part;
 mod ranges;
 mod reading;
 pub mod sending;
@@ -18,10 +20,12 @@ pub mod version_2;
 mod writing;
 
 pub use certificate::Certificate;
+pub use cycle_writer::CycleWriter;
 pub use fault::{CertFault, CertFaultKind, WriteFault};
 pub use links::Links;
 pub use numbers::Numbers;
-pub use reading::read;
+pub use part::Part;
+pub use reading::{CertReader, read};
 pub use table::Table;
 pub use version::Version;
 pub use writing::write;

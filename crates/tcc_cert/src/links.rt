@@ -33,4 +33,11 @@ impl Links {
     {
         &self.links
     }
+
+    /// The links as they came.
+    pub fn into_vec(self) -> Vec<Link>
+        ensures { result.items ≡ self }
+    {
+        self.links
+    }
 }

@@ -31,4 +31,11 @@ impl Numbers {
     {
         &self.numbers
     }
+
+    /// The numbers as they came.
+    pub fn into_vec(self) -> Vec<u32>
+        ensures { result.items ≡ self }
+    {
+        self.numbers
+    }
 }

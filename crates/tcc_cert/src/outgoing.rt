@@ -48,6 +48,15 @@ impl Outgoing {
         Ok(())
     }
 
+    /// Sends what is gathered, and whatever the output gathers itself.
+    pub(crate) fn finish<W: Write>(&mut self, out: &mut W) -> io::Result<()>
+        ensures sent { IsSent result (W.contents out.old) self.old (W.contents out.new) self.new [] }
+        ensures none { OnOk result (self.new ≡ []) }
+    {
+        self.send(out)?;
+        out.flush()
+    }
+
     /// Gathers a piece for which there is room.
     fn keep(&mut self, piece: &[u8])
         requires { length self.old + length piece.now ≤ OUTGOING_BYTES }

@@ -1,25 +1,29 @@
 //! How a certificate's text is read.
-ghost use Rattle.std.specs.Prelude.{◌≡◌, ℕ, IfSome, List};
-ghost use Rattle.tcc_cert.specs.Inputs.{Gives, HasFailed, IsAt};
+ghost use Rattle.std.specs.Prelude.{◌≡◌, ◌<◌, ◌++◌, ◌∷◌, ℕ, [], IfErr, IfSome, List, OnOk, false, true};
+ghost use Rattle.tcc_cert.specs.Ahead.{IsAhead, is_new, line_wanted};
+ghost use Rattle.tcc_cert.specs.Collecting.{Collects};
+ghost use Rattle.tcc_cert.specs.Inputs.{Gives, IsAt};
 ghost use Rattle.tcc_cert.specs.declared.ranges.TheConstants.{MAX_HEADER_BYTES};
-ghost use Rattle.tcc_cert.specs.Outcomes.{IsReading, IsReadingWhere, Shows};
-ghost use Rattle.tcc_cert.specs.Reading.{Place, behind_header, certificate_at, claim_at, clocks_at, cycle_at, header_line, next, order_at, sizes_line, start_of, word_line, words, words_of};
+ghost use Rattle.tcc_cert.specs.Outcomes.{IsReading, Shows};
+ghost use Rattle.tcc_cert.specs.Parts.{Parts, parts_read};
+ghost use Rattle.tcc_cert.specs.Reading.{Place, header_line, next, sizes_line, word_line, words, words_of};
 
 mod decimals;
 mod forms;
 mod input;
 mod links;
+mod parts;
 mod rows;
 mod source;
+mod stages;
 mod window;
 mod words;
 
-use crate::ranges::{MAX_HEADER_BYTES, ranges_of};
-use crate::{CertFault, CertFaultKind, Certificate, Table, Version};
+use crate::ranges::MAX_HEADER_BYTES;
+use crate::{CertFault, CertFaultKind, Certificate, Numbers, Part, Table, Version};
 use forms::{Sizes, sizes_line};
 use input::{Input, at_line};
-use links::links;
-use rows::{far_table, row, table};
+pub use parts::CertReader;
 use std::alloc::Global;
 use std::io::Read;
 use tcc_graph::Level;
@@ -96,130 +100,90 @@ fn sizes<R: Read>(alloc: Global, input: &mut Input<R>, version: Version) -> Resu
     at_line(line, sizes_of(alloc, version, input.line()))
 }
 
-/// The clocks behind their mark, and nothing where the level has none.
-fn clocks<R: Read>(
-    alloc: Global,
-    input: &mut Input<R>,
-    version: Version,
-    level: Level,
-    transactions: u32,
-    sessions: u32,
-) -> Result<Table, CertFault>
-    ensures { (at : Place) → IsAt R.remaining input.old at → Gives R.remaining at (clocks_at version level transactions sessions at) result input.new }
+/// The rows of the tables that a claim has.
+#[derive(Drop)]
+struct Tables {
+    clocks: Vec<Numbers>,
+    near: Vec<Numbers>,
+    far: Vec<Numbers>,
+}
+
+/// One row more of a table.
+fn keep<R: Read>(
+    parts: &CertReader<R>,
+    table: &mut Vec<Numbers>,
+    row: Numbers,
+) -> Result<(), CertFault>
+    ensures kept { OnOk result (table.new.items ≡ table.old.items ++ row ∷ []) }
+    ensures refused { IfErr result (λ fault. fault ≡ record { line = line_wanted parts.now; kind = CertFaultKind.NoMemory }) }
+    ensures counted { IfErr result (λ fault. 0 < fault.line) }
 {
-    match level {
-        Level::Causal => {
-            mark(alloc, input, version, b"clocks")?;
-            table(
-                alloc,
-                input,
-                version,
-                transactions as usize,
-                sessions as usize,
-                ranges_of(version).number,
-            )
-        }
-        Level::Atomic => Ok(Table::new(Vec::new(alloc))),
+    match table.push(row) {
+        Ok(()) => Ok(()),
+        Err(_) => Err(parts.fault(CertFaultKind::NoMemory)),
     }
 }
 
-/// What a claim of an order says behind its sizes.
-fn order<R: Read>(
-    alloc: Global,
-    input: &mut Input<R>,
-    version: Version,
-    level: Level,
-    transactions: u32,
-    sessions: u32,
-) -> Result<Certificate, CertFault>
-    ensures { (at : Place) → IsAt R.remaining input.old at → Gives R.remaining at (order_at version level transactions sessions at) result input.new }
+/// The rows that come behind the claim.
+fn collect<R: Read>(alloc: Global, parts: &mut CertReader<R>) -> Result<Tables, CertFault>
+    requires { is_new parts.old ≡ false }
+    ensures { (ahead : Parts) → IsAhead R.remaining parts.old ahead → Collects ahead result }
 {
-    let order = row(
-        alloc,
-        input,
-        version,
-        transactions as usize,
-        ranges_of(version).number,
-    )?;
-    let clocks = clocks(alloc, input, version, level, transactions, sessions)?;
-    mark(alloc, input, version, b"end")?;
-    Ok(Certificate::Order {
-        version,
-        level,
-        order,
-        sessions,
-        clocks,
-    })
+    let mut clocks = Vec::new(alloc);
+    let mut near = Vec::new(alloc);
+    let mut far = Vec::new(alloc);
+    'parts: loop {
+        match parts.next(alloc)? {
+            Part::Clocks(row) => keep(parts, &mut clocks, row)?,
+            Part::Near(row) => keep(parts, &mut near, row)?,
+            Part::Far(row) => keep(parts, &mut far, row)?,
+            Part::End => return Ok(Tables { clocks, near, far }),
+            Part::Order { .. } | Part::Cycle { .. } => unreachable!(),
+        }
+    }
 }
 
-/// What a claim of a cycle says behind its sizes.
-fn cycle<R: Read>(
-    alloc: Global,
-    input: &mut Input<R>,
-    version: Version,
-    level: Level,
-    transactions: u32,
-    count: u32,
-    least: u32,
-) -> Result<Certificate, CertFault>
-    ensures { (at : Place) → IsAt R.remaining input.old at → Gives R.remaining at (cycle_at version level transactions count least at) result input.new }
+/// The certificate that all parts are of.
+fn whole<R: Read>(alloc: Global, parts: &mut CertReader<R>) -> Result<Certificate, CertFault>
+    requires { is_new parts.old ≡ true }
+    ensures { (bytes : List ℕ) → IsAhead R.remaining parts.old (parts_read bytes) → IsReading bytes result }
 {
-    let size = transactions as usize;
-    let most = ranges_of(version).cost;
-    let links = links(alloc, input, version, count)?;
-    mark(alloc, input, version, b"near")?;
-    let near = table(alloc, input, version, size, size, most)?;
-    mark(alloc, input, version, b"far")?;
-    let far = far_table(alloc, input, version, size, most)?;
-    mark(alloc, input, version, b"end")?;
-    Ok(Certificate::Cycle {
-        version,
-        level,
-        links,
-        least,
-        near,
-        far,
-    })
-}
-
-/// What stands behind the first line.
-fn claim<R: Read>(
-    alloc: Global,
-    input: &mut Input<R>,
-    version: Version,
-    level: Level,
-) -> Result<Certificate, CertFault>
-    ensures { (at : Place) → IsAt R.remaining input.old at → Gives R.remaining at (behind_header ((version, level), at)) result input.new }
-{
-    match sizes(alloc, input, version)? {
-        Sizes::Order {
-            transactions,
+    match parts.next(alloc)? {
+        Part::Order {
+            version,
+            level,
+            order,
             sessions,
-        } => order(alloc, input, version, level, transactions, sessions),
-        Sizes::Cycle {
-            transactions,
+        } => {
+            let Tables { clocks, .. } = collect(alloc, parts)?;
+            Ok(Certificate::Order {
+                version,
+                level,
+                order,
+                sessions,
+                clocks: Table::new(clocks),
+            })
+        }
+        Part::Cycle {
+            version,
+            level,
+            count: _,
             links,
             least,
-        } => cycle(alloc, input, version, level, transactions, links, least),
-    }
-}
-
-/// A certificate, up to the line behind its last.
-fn certificate<R: Read>(alloc: Global, input: &mut Input<R>) -> Result<Certificate, CertFault>
-    ensures { (at : Place) → IsAt R.remaining input.old at → Gives R.remaining at (certificate_at at) result input.new }
-{
-    let (version, level) = header(input)?;
-    claim(alloc, input, version, level)
-}
-
-/// A certificate that nothing stands behind.
-fn whole<R: Read>(alloc: Global, input: &mut Input<R>) -> Result<Certificate, CertFault>
-    ensures { (bytes : List ℕ) → IsAt R.remaining input.old (start_of bytes) → IsReadingWhere (HasFailed input.new) bytes result }
-{
-    let certificate = certificate(alloc, input)?;
-    match input.end() {
-        Ok(()) => Ok(certificate),
-        Err(fault) => Err(fault),
+        } => {
+            let Tables { near, far, .. } = collect(alloc, parts)?;
+            let near = Table::new(near);
+            let far = Table::new(far);
+            Ok(Certificate::Cycle {
+                version,
+                level,
+                links,
+                least,
+                near,
+                far,
+            })
+        }
+        Part::Clocks(_) | Part::Near(_) | Part::Far(_) | Part::End => unreachable!(),
     }
 }
 
@@ -229,5 +193,5 @@ fn whole<R: Read>(alloc: Global, input: &mut Input<R>) -> Result<Certificate, Ce
 pub fn read<R: Read + Drop>(alloc: Global, reader: R) -> Result<Certificate, CertFault>
     ensures { IfSome (R.remaining reader) (λ bytes. IsReading bytes result) }
 {
-    whole(alloc, &mut Input::new(reader))
+    whole(alloc, &mut CertReader::new(reader))
 }

@@ -32,4 +32,11 @@ impl Table {
     {
         &self.rows
     }
+
+    /// The rows as they came.
+    pub fn into_vec(self) -> Vec<Numbers>
+        ensures { result.items ≡ self }
+    {
+        self.rows
+    }
 }

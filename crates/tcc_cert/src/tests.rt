@@ -1,14 +1,12 @@
 //! Certificates of worked histories, writers that fail, altered texts, and readers that fail.
+mod parts;
+
 use crate::sending::send;
-use crate::{
-    CertFault, CertFaultKind, Certificate, Links, Numbers, Table, Version, WriteFault, read, write,
-};
+use crate::{CertFault, CertFaultKind, Certificate, WriteFault, read, write};
 use std::alloc::{AllocError, Global};
 use std::io::{self, ErrorKind, Read, Write};
 use std::process::Abort;
 use std::test::Fail;
-use tcc_graph::{Level, Link, Step, Walk};
-use tcc_txn::Name;
 
 const NO_TRANSACTIONS: &str = "tcc-certificate 1\norder 1 0\n0\nclocks\n\nend\n";
 
@@ -43,96 +41,10 @@ const ONE_SESSION: &str = "tcc-certificate 1\norder 3 1\n0 1 2\nclocks\n0\n0\n1\
 
 const ONE_TRANSACTION: &str = "tcc-certificate 1\norder 2 1\n0 1\nclocks\n0\n0\nend\n";
 
-fn numbers(alloc: Global, list: &[u32]) -> Result<Numbers, AllocError> {
-    Ok(Numbers::new(list.to_vec(alloc)?))
-}
-
-fn table(alloc: Global, lists: &[&[u32]]) -> Result<Table, AllocError> {
-    let mut rows = Vec::new(alloc);
-    for list in lists {
-        rows.push(numbers(alloc, list)?)?;
-    }
-    Ok(Table::new(rows))
-}
-
-fn order(
-    alloc: Global,
-    (version, level): (Version, Level),
-    list: &[u32],
-    sessions: u32,
-    clocks: &[&[u32]],
-) -> Result<Certificate, AllocError> {
-    Ok(Certificate::Order {
-        version,
-        level,
-        order: numbers(alloc, list)?,
-        sessions,
-        clocks: table(alloc, clocks)?,
-    })
-}
-
-/// A derived link by the key x, whose reader is reached in one step.
-fn derived(
-    alloc: Global,
-    from: u32,
-    to: u32,
-    key: Name,
-    reader: u32,
-    step: Step,
-) -> Result<Link, AllocError> {
-    Ok(Link::Derived {
-        from,
-        to,
-        key,
-        reader,
-        walk: Walk::new(vec![in alloc; step]?),
-    })
-}
-
-fn stale_read(
-    rt: &impl Abort,
-    alloc: Global,
-    version: Version,
-    far: &[&[u32]],
-) -> Result<Certificate, AllocError> {
-    let key = Name::read(b"x").expect(rt, "a name");
-    let mut links = Vec::new(alloc);
-    links.push(Link::Session { from: 0, to: 1 })?;
-    links.push(derived(alloc, 1, 0, key, 2, Step::Session { from: 1, to: 2 })?)?;
-    Ok(Certificate::Cycle {
-        version,
-        level: Level::Causal,
-        links: Links::new(links),
-        least: 3,
-        near: table(alloc, &[&[3, 1, 1], &[3, 3, 1], &[3, 3, 3]])?,
-        far: table(alloc, far)?,
-    })
-}
-
 fn writes(rt: &impl Abort, alloc: Global, certificate: &Certificate, text: &str) {
     let mut out = Vec::new(alloc);
     assert_eq!(rt; write(certificate, &mut out), Ok(()));
     assert_eq!(rt; out.as_slice(), text.as_bytes(), "for {text:?}");
-}
-
-const WHOLE: &[&[u32]] = &[&[3, 1, 1], &[2, 3, 1], &[3, 3, 3]];
-
-#[test]
-fn worked_texts(rt: HostRuntime) -> Result<(), Fail> {
-    let alloc = rt.alloc();
-    let causal = (Version::One, Level::Causal);
-    let alone = order(alloc, causal, &[0], 0, &[&[]])?;
-    writes(&rt, alloc, &alone, NO_TRANSACTIONS);
-    let one_session = order(alloc, causal, &[0, 1, 2], 1, &[&[0], &[0], &[1]])?;
-    writes(&rt, alloc, &one_session, ONE_SESSION);
-    let atomic = (Version::One, Level::Atomic);
-    let no_clocks = order(alloc, atomic, &[0, 1, 2, 3], 2, &[])?;
-    writes(&rt, alloc, &no_clocks, NO_CLOCKS);
-    let whole = stale_read(&rt, alloc, Version::One, WHOLE)?;
-    writes(&rt, alloc, &whole, STALE_READ);
-    let upward = stale_read(&rt, alloc, Version::Two, &[&[3, 1, 1], &[3, 1], &[3]])?;
-    writes(&rt, alloc, &upward, STALE_READ_UPWARD);
-    Ok(())
 }
 
 /// A writer that takes a few bytes at a time, and does otherwise once so many went out.
@@ -221,7 +133,9 @@ fn assert_part(
 #[test]
 fn writer_fails(rt: HostRuntime) -> Result<(), Fail> {
     let alloc = rt.alloc();
-    let certificate = stale_read(&rt, alloc, Version::One, WHOLE)?;
+    let Ok(certificate) = read(alloc, STALE_READ.as_bytes()) else {
+        panic!(&rt; "a certificate is read");
+    };
     let failed = Err(WriteFault::Device);
     for fault in [
         Fault::Fails(ErrorKind::Other),

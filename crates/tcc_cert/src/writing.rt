@@ -3,9 +3,11 @@ ghost use Rattle.std.specs.Prelude.{◌≡◌, ℕ, List, [], ◌∷◌, ◌++�
 ghost use Rattle.std.specs.Io.KnownBytes.{Appends};
 ghost use Rattle.tcc_graph.specs.declared.step.Step.TheVariants as step;
 ghost use Rattle.tcc_graph.specs.declared.link.Link.TheVariants as link;
+ghost use Rattle.tcc_cert.specs.declared.certificate.Certificate.TheVariants as claim;
 ghost use Rattle.tcc_cert.specs.Writing.{IsSent};
-ghost use Rattle.tcc_cert.specs.Texts.{line_text, lines_text, step_words, link_lines, header_words, header_of, clocks_lines, order_lines, cycle_lines, claim_lines, certificate_text};
+ghost use Rattle.tcc_cert.specs.Texts.{line_text, lines_text, step_words, link_lines, header_words, clocks_lines, order_lines, certificate_text};
 
+use crate::cycle_writer::write_cycle;
 use crate::lines::{line, number_line, table};
 use crate::outgoing::Outgoing;
 use crate::{Certificate, Links, Numbers, Table, Version, WriteFault};
@@ -109,7 +111,7 @@ fn link<W: Write>(outgoing: &mut Outgoing, out: &mut W, link: &Link) -> io::Resu
 }
 
 /// The lines of each link.
-fn links<W: Write>(outgoing: &mut Outgoing, out: &mut W, links: &Links) -> io::Result<()>
+pub(crate) fn links<W: Write>(outgoing: &mut Outgoing, out: &mut W, links: &Links) -> io::Result<()>
     ensures { IsSent result (W.contents out.old) outgoing.old (W.contents out.new) outgoing.new (lines_text (flat_map link_lines links.now)) }
 {
     for one in links.as_slice() {
@@ -172,7 +174,7 @@ fn order<W: Write>(
 }
 
 /// `cycle N M L`
-fn cycle_sizes<W: Write>(
+pub(crate) fn cycle_sizes<W: Write>(
     outgoing: &mut Outgoing,
     out: &mut W,
     transactions: usize,
@@ -192,34 +194,8 @@ fn cycle_sizes<W: Write>(
     line(outgoing, out, b"cycle", &words)
 }
 
-/// What a claim of a cycle says after the first line.
-fn cycle<W: Write>(
-    outgoing: &mut Outgoing,
-    out: &mut W,
-    parts: &Links,
-    least: u32,
-    near: &Table,
-    far: &Table,
-) -> io::Result<()>
-    ensures { IsSent result (W.contents out.old) outgoing.old (W.contents out.new) outgoing.new (lines_text (cycle_lines parts.now least near.now far.now)) }
-{
-    cycle_sizes(
-        outgoing,
-        out,
-        near.rows().len(),
-        parts.as_slice().len(),
-        least,
-    )?;
-    links(outgoing, out, parts)?;
-    line(outgoing, out, b"near", &[])?;
-    table(outgoing, out, near)?;
-    line(outgoing, out, b"far", &[])?;
-    table(outgoing, out, far)?;
-    line(outgoing, out, b"end", &[])
-}
-
 /// The line that names the version and the level.
-fn header_line<W: Write>(
+pub(crate) fn header_line<W: Write>(
     outgoing: &mut Outgoing,
     out: &mut W,
     version: Version,
@@ -250,45 +226,22 @@ fn header_line<W: Write>(
     }
 }
 
-/// The first line.
-fn header<W: Write>(
-    outgoing: &mut Outgoing,
+/// Writes a claim of an order.
+fn write_order<W: Write>(
     out: &mut W,
-    certificate: &Certificate,
+    version: Version,
+    level: Level,
+    numbers: &Numbers,
+    sessions: u32,
+    clocks: &Table,
 ) -> io::Result<()>
-    ensures { IsSent result (W.contents out.old) outgoing.old (W.contents out.new) outgoing.new (line_text (header_of certificate.now)) }
+    ensures whole { OnOk result (Appends (W.contents out.old) (W.contents out.new) (certificate_text (claim.Order version level numbers.now sessions clocks.now))) }
+    ensures part { OnErr result ((n : ℕ) × Appends (W.contents out.old) (W.contents out.new) (take n (certificate_text (claim.Order version level numbers.now sessions clocks.now)))) }
 {
-    match certificate {
-        Certificate::Order { version, level, .. } => header_line(outgoing, out, *version, *level),
-        Certificate::Cycle { version, level, .. } => header_line(outgoing, out, *version, *level),
-    }
-}
-
-/// The lines after the first.
-fn claim<W: Write>(
-    outgoing: &mut Outgoing,
-    out: &mut W,
-    certificate: &Certificate,
-) -> io::Result<()>
-    ensures { IsSent result (W.contents out.old) outgoing.old (W.contents out.new) outgoing.new (lines_text (claim_lines certificate.now)) }
-{
-    match certificate {
-        Certificate::Order {
-            version: _,
-            level,
-            order: numbers,
-            sessions,
-            clocks,
-        } => order(outgoing, out, *level, numbers, *sessions, clocks),
-        Certificate::Cycle {
-            version: _,
-            level: _,
-            links,
-            least,
-            near,
-            far,
-        } => cycle(outgoing, out, links, *least, near, far),
-    }
+    let mut outgoing = Outgoing::new();
+    header_line(&mut outgoing, out, version, level)?;
+    order(&mut outgoing, out, level, numbers, sessions, clocks)?;
+    outgoing.finish(out)
 }
 
 /// Writes the text of the certificate. Where a write fails, a part of the text, from its front, went out; an
@@ -297,10 +250,24 @@ pub fn write<W: Write>(certificate: &Certificate, out: &mut W) -> Result<(), Wri
     ensures whole { OnOk result (Appends (W.contents out.old) (W.contents out.new) (certificate_text certificate.now)) }
     ensures part { OnErr result ((n : ℕ) × Appends (W.contents out.old) (W.contents out.new) (take n (certificate_text certificate.now))) }
 {
-    let mut outgoing = Outgoing::new();
-    header(&mut outgoing, out, certificate)?;
-    claim(&mut outgoing, out, certificate)?;
-    outgoing.send(out)?;
-    out.flush()?;
-    Ok(())
+    match certificate {
+        Certificate::Order {
+            version,
+            level,
+            order,
+            sessions,
+            clocks,
+        } => {
+            write_order(out, *version, *level, order, *sessions, clocks)?;
+            Ok(())
+        }
+        Certificate::Cycle {
+            version,
+            level,
+            links,
+            least,
+            near,
+            far,
+        } => write_cycle(out, *version, *level, links, *least, near, far),
+    }
 }

@@ -20,6 +20,7 @@ pub(crate) struct Input<R> {
     passed: usize,
     number: u64,
     ghost within: { passed ≤ length (window_bytes window) },
+    ghost counted: { 0 < number },
 }
 
 /// What comes of the line with this number.

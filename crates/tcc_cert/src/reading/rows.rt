@@ -1,13 +1,12 @@
-//! Lines of numbers, and tables of such lines.
-ghost use Rattle.std.specs.Prelude.{◌≡◌, ◌≤◌, ◌-◌, length};
+//! Lines of numbers.
+ghost use Rattle.std.specs.Prelude.{◌≡◌, length};
 ghost use Rattle.tcc_cert.specs.Inputs.{Gives, IsAt};
 ghost use Rattle.tcc_cert.specs.Outcomes.{Shows, ShowsItems};
-ghost use Rattle.tcc_cert.specs.Tables.{lowest};
-ghost use Rattle.tcc_cert.specs.Reading.{Place, numbers_line, numbers_of, parted, table_at, words, words_of};
+ghost use Rattle.tcc_cert.specs.Reading.{Place, numbers_line, numbers_of, parted, words, words_of};
 
 use super::decimals::number_of;
 use super::input::{Input, at_line};
-use crate::{CertFault, CertFaultKind, Numbers, Table, Version};
+use crate::{CertFault, CertFaultKind, Numbers, Version};
 use std::alloc::Global;
 use std::io::Read;
 
@@ -67,64 +66,4 @@ pub(crate) fn row<R: Read>(
 {
     let line = input.next_of(version)?;
     at_line(line, numbers_line(alloc, input.line(), count, most))
-}
-
-/// The next lines, so many of so many numbers.
-pub(crate) fn table<R: Read>(
-    alloc: Global,
-    input: &mut Input<R>,
-    version: Version,
-    rows: usize,
-    columns: usize,
-    most: u32,
-) -> Result<Table, CertFault>
-    ensures { (at : Place) → IsAt R.remaining input.old at → Gives R.remaining at (table_at version rows (λ s. columns) most at) result input.new }
-{
-    let mut table = Vec::new(alloc);
-    'lines: for _ in 0..rows {
-        let numbers = row(alloc, input, version, columns, most)?;
-        match table.push(numbers) {
-            Ok(()) => {}
-            Err(_) => return Err(input.fault(CertFaultKind::NoMemory)),
-        }
-    }
-    Ok(Table::new(table))
-}
-
-/// How many numbers a row of `far` has, of so many transactions.
-fn far_columns(version: Version, transactions: usize, row: usize) -> usize
-    requires { row ≤ transactions }
-    ensures { result ≡ transactions - lowest version row }
-{
-    match version {
-        Version::One => transactions,
-        Version::Two => transactions - row,
-    }
-}
-
-/// The next lines, the rows of `far` of so many transactions.
-pub(crate) fn far_table<R: Read>(
-    alloc: Global,
-    input: &mut Input<R>,
-    version: Version,
-    transactions: usize,
-    most: u32,
-) -> Result<Table, CertFault>
-    ensures { (at : Place) → IsAt R.remaining input.old at → Gives R.remaining at (table_at version transactions (λ s. transactions - lowest version s) most at) result input.new }
-{
-    let mut table = Vec::new(alloc);
-    'lines: for s in 0..transactions {
-        let numbers = row(
-            alloc,
-            input,
-            version,
-            far_columns(version, transactions, s),
-            most,
-        )?;
-        match table.push(numbers) {
-            Ok(()) => {}
-            Err(_) => return Err(input.fault(CertFaultKind::NoMemory)),
-        }
-    }
-    Ok(Table::new(table))
 }

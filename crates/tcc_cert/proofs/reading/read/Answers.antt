@@ -1,7 +1,6 @@
--- The reader's bytes are those from the first line on.
+-- The parts of the reader's bytes are to come.
 use Rattle.std.proofs.lemmas.Option.{IfSome_then}
-use Rattle.tcc_cert.proofs.StepFacts.{reading-told}
 use Rattle.tcc_cert.proofs.reading.read.Goals as goal
 
 pub returns : goal.returns
-returns g c = IfSome_then (g.R.Read.remaining c.args.reader) c.new.ensures (λ bytes at. reading-told _ bytes c.whole.result (c.whole.ensures bytes at))
+returns g c = IfSome_then (g.R.Read.remaining c.args.reader) c.new.ensures.ahead (λ bytes ahead. c.whole.ensures bytes ahead)

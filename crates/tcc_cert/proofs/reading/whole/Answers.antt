@@ -1,22 +1,36 @@
--- The certificate was read, and then the end.
+-- The claim was read, and then its tables.
+use Rattle.std.proofs.Common.{refl}
 use Rattle.std.proofs.lemmas.Result.{err_from_is_err_and}
-use Rattle.tcc_cert.specs.Reading.{certificate_at, start_of}
-use Rattle.tcc_cert.proofs.OnwardFacts.{onward-certificate}
-use Rattle.tcc_cert.proofs.StepFacts.{onward-at, whole-faults, whole-ended, whole-followed}
+use Rattle.tcc_cert.specs.Parts.{parts_read}
+use Rattle.tcc_cert.proofs.CollectFacts.{behind-end, cycle-read, order-read, read-faults}
 use Rattle.tcc_cert.proofs.reading.whole.Goals as goal
 
-pub returns-in_err-certificate : goal.returns-in_err-certificate
-returns-in_err-certificate g c bytes before =
+pub returns-in_err-version : goal.returns-in_err-version
+returns-in_err-version g c bytes ahead =
     let p = err_from_is_err_and c.from_residual.result c.from_residual.ensures.1 in
-    rw (p.1, p.2) (whole-faults bytes _ (c.in_err-certificate.ensures (start_of bytes) before))
+    let taken = c.in_err-version.ensures.parts (parts_read bytes) ahead in
+    rw (p.1, p.2) (read-faults bytes (parts_read bytes) _ _ c.next.ensures.counted refl refl taken.0)
 
-pub returns-in-Ok : goal.returns-in-Ok
-returns-in-Ok g c bytes before =
-    let read = c.in_ok-certificate.ensures (start_of bytes) before in
-    whole-ended bytes c.in_ok-certificate.certificate read.0 c.in-Ok.field-0 c.end.new.self read.1 (c.in-Ok.ensures read.0 read.2)
+pub returns-in_err-clocks-in-Order : goal.returns-in_err-clocks-in-Order
+returns-in_err-clocks-in-Order g c bytes ahead =
+    let p = err_from_is_err_and c.from_residual-in_err-clocks-in-Order.result c.from_residual-in_err-clocks-in-Order.ensures.1 in
+    let taken = rw c.in-Order.is at (c.in_ok-version.ensures.parts (parts_read bytes) ahead) in
+    rw (p.1, p.2) (behind-end bytes _ taken.0 _ taken.1 (c.in_err-clocks-in-Order.ensures taken.0 taken.2))
 
-pub returns-in-Err : goal.returns-in-Err
-returns-in-Err g c bytes before =
-    let read = c.in_ok-certificate.ensures (start_of bytes) before in
-    let on = onward-at (certificate_at (start_of bytes)) (onward-certificate (start_of bytes)) read.1 in
-    whole-followed bytes c.in_ok-certificate.certificate read.0 c.in-Err.fault c.end.new.self read.1 on (c.in-Err.ensures read.0 read.2)
+pub returns-in_ok-clocks-in-Order : goal.returns-in_ok-clocks-in-Order
+returns-in_ok-clocks-in-Order g c bytes ahead =
+    let taken = rw c.in-Order.is at (c.in_ok-version.ensures.parts (parts_read bytes) ahead) in
+    rw c.new.ensures
+    (order-read bytes _ _ _ _ taken.0 c.in_ok-clocks-in-Order.field-0 taken.1 (c.in_ok-clocks-in-Order.ensures taken.0 taken.2))
+
+pub returns-in_err-near-in-Cycle : goal.returns-in_err-near-in-Cycle
+returns-in_err-near-in-Cycle g c bytes ahead =
+    let p = err_from_is_err_and c.from_residual-in_err-near-in-Cycle.result c.from_residual-in_err-near-in-Cycle.ensures.1 in
+    let taken = rw c.in-Cycle.is at (c.in_ok-version.ensures.parts (parts_read bytes) ahead) in
+    rw (p.1, p.2) (behind-end bytes _ taken.0 _ taken.1 (c.in_err-near-in-Cycle.ensures taken.0 taken.2))
+
+pub returns-in_ok-near-in-Cycle : goal.returns-in_ok-near-in-Cycle
+returns-in_ok-near-in-Cycle g c bytes ahead =
+    let taken = rw c.in-Cycle.is at (c.in_ok-version.ensures.parts (parts_read bytes) ahead) in
+    rw (c.new-near.ensures, c.new-far.ensures)
+    (cycle-read bytes _ _ _ _ _ taken.0 c.in_ok-near-in-Cycle.field-0 taken.1 (c.in_ok-near-in-Cycle.ensures taken.0 taken.2))

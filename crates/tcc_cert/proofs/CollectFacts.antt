@@ -1,0 +1,171 @@
+-- The rows of a certificate's tables among its parts.
+use Rattle.std.proofs.Common.{◌≡◌, ℕ, ◌<◌, ◌≤◌, ◌⊎◌, true, false, List, [], ◌∷◌, ◌++◌, Option, None, Some, Result, Ok, Err, inl, inr, refl, sym, ap, ◌∙◌, arith, append_assoc, append-nil}
+use Rattle.std.specs.Prelude.{map}
+use Rattle.tcc_graph.specs.declared.level.Level.{Level}
+use Rattle.tcc_graph.specs.declared.link.Link.{Link}
+use Rattle.tcc_cert.specs.declared.version.Version.{Version}
+use Rattle.tcc_cert.specs.declared.certificate.Certificate.{Certificate}
+use Rattle.tcc_cert.specs.declared.certificate.Certificate.TheVariants as claim
+use Rattle.tcc_cert.specs.declared.fault.CertFault.{CertFault}
+use Rattle.tcc_cert.specs.declared.fault.CertFaultKind.{CertFaultKind}
+use Rattle.tcc_cert.specs.declared.fault.CertFaultKind.TheVariants.{NoMemory}
+use Rattle.tcc_cert.specs.declared.part.Part.{Part}
+use Rattle.tcc_cert.specs.declared.part.Part.TheVariants as part
+use Rattle.tcc_cert.specs.declared.reading.input.Input.{Input}
+use Rattle.tcc_cert.specs.declared.reading.parts.CertReader.{CertReader}
+use Rattle.tcc_cert.specs.declared.reading.stages.Phase.{Phase}
+use Rattle.tcc_cert.specs.declared.reading.stages.Phase.TheVariants as phase
+use Rattle.tcc_cert.specs.declared.reading.Tables.{Tables}
+use Rattle.tcc_cert.specs.Ahead.{IsAhead, ended_in, fault_in, fault_met, has_ended, line_wanted}
+use Rattle.tcc_cert.specs.Collecting.{EndsIn, HasRowsOf, clocks_in, far_in, near_in}
+use Rattle.tcc_cert.specs.Outcomes.{IsFailure, IsReading}
+use Rattle.tcc_cert.specs.Parts.{FaultsIn, Parts, after_part, ending, parts_of, parts_read}
+use Rattle.tcc_cert.specs.Reading.{certificate_read}
+use Rattle.tcc_cert.specs.Stages.{IsAheadIn}
+use Rattle.tcc_cert.proofs.PartFacts.{line-reached, read-fault, read-whole}
+use Rattle.tcc_cert.proofs.StageFacts.{onward-stage}
+
+-- ---- rows so far, and those to come
+
+pub record IsKept (clocks near far : List (List ℕ)) (ahead rest : Parts) : Type 0 where
+  pub clocks_kept : clocks_in ahead.parts ≡ clocks ++ clocks_in rest.parts
+  pub near_kept : near_in ahead.parts ≡ near ++ near_in rest.parts
+  pub far_kept : far_in ahead.parts ≡ far ++ far_in rest.parts
+  pub line : rest.line ≡ ahead.line
+  pub fault : rest.fault ≡ ahead.fault
+
+pub kept-none : (ahead : Parts) → IsKept [] [] [] ahead ahead
+kept-none ahead = record { clocks_kept = refl; near_kept = refl; far_kept = refl; line = refl; fault = refl }
+
+one-more : (front : List (List ℕ)) (row : List ℕ) (rest : List (List ℕ)) → front ++ row ∷ rest ≡ (front ++ row ∷ []) ++ rest
+one-more front row rest = sym (append_assoc front (row ∷ []) rest)
+
+pub kept-clocks : (clocks near far : List (List ℕ)) (row : List ℕ) (ahead now rest : Parts) → IsKept clocks near far ahead now → now ≡ after_part (part.Clocks row) rest → IsKept (clocks ++ row ∷ []) near far ahead rest
+kept-clocks clocks near far row ahead now rest kept is =
+    record {
+      clocks_kept = kept.clocks_kept ∙ ap (λ p. clocks ++ clocks_in p.parts) is ∙ one-more clocks row (clocks_in rest.parts);
+      near_kept = kept.near_kept ∙ ap (λ p. near ++ near_in p.parts) is;
+      far_kept = kept.far_kept ∙ ap (λ p. far ++ far_in p.parts) is;
+      line = sym (ap (λ p. p.line) is) ∙ kept.line;
+      fault = sym (ap (λ p. p.fault) is) ∙ kept.fault;
+    }
+
+pub kept-near : (clocks near far : List (List ℕ)) (row : List ℕ) (ahead now rest : Parts) → IsKept clocks near far ahead now → now ≡ after_part (part.Near row) rest → IsKept clocks (near ++ row ∷ []) far ahead rest
+kept-near clocks near far row ahead now rest kept is =
+    record {
+      clocks_kept = kept.clocks_kept ∙ ap (λ p. clocks ++ clocks_in p.parts) is;
+      near_kept = kept.near_kept ∙ ap (λ p. near ++ near_in p.parts) is ∙ one-more near row (near_in rest.parts);
+      far_kept = kept.far_kept ∙ ap (λ p. far ++ far_in p.parts) is;
+      line = sym (ap (λ p. p.line) is) ∙ kept.line;
+      fault = sym (ap (λ p. p.fault) is) ∙ kept.fault;
+    }
+
+pub kept-far : (clocks near far : List (List ℕ)) (row : List ℕ) (ahead now rest : Parts) → IsKept clocks near far ahead now → now ≡ after_part (part.Far row) rest → IsKept clocks near (far ++ row ∷ []) ahead rest
+kept-far clocks near far row ahead now rest kept is =
+    record {
+      clocks_kept = kept.clocks_kept ∙ ap (λ p. clocks ++ clocks_in p.parts) is;
+      near_kept = kept.near_kept ∙ ap (λ p. near ++ near_in p.parts) is;
+      far_kept = kept.far_kept ∙ ap (λ p. far ++ far_in p.parts) is ∙ one-more far row (far_in rest.parts);
+      line = sym (ap (λ p. p.line) is) ∙ kept.line;
+      fault = sym (ap (λ p. p.fault) is) ∙ kept.fault;
+    }
+
+pub kept-all : (tables : Tables) (ahead now : Parts) → IsKept tables.clocks.items tables.near.items tables.far.items ahead now → now ≡ ending now.line None → HasRowsOf ahead tables
+kept-all tables ahead now kept is =
+    record {
+      clocks = sym (kept.clocks_kept ∙ ap (λ p. tables.clocks.items ++ clocks_in p.parts) is ∙ append-nil tables.clocks.items);
+      near = sym (kept.near_kept ∙ ap (λ p. tables.near.items ++ near_in p.parts) is ∙ append-nil tables.near.items);
+      far = sym (kept.far_kept ∙ ap (λ p. tables.far.items ++ far_in p.parts) is ∙ append-nil tables.far.items);
+      ended = sym kept.fault ∙ ap (λ p. p.fault) is;
+    }
+
+told : (F : Type 0) (kind : CertFaultKind) → IsFailure F kind → IsFailure (Unit {0}) kind
+told F kind (inl read) = inl (read.0, tt)
+told F kind (inr memory) = inr memory
+
+-- a fault among the parts that were left
+pub faults-end : {F : Type 0} (ahead now : Parts) (wanted : ℕ) (fault : CertFault) → now.line ≡ ahead.line → now.fault ≡ ahead.fault → 0 < wanted → FaultsIn F wanted now fault → EndsIn ahead fault
+faults-end ahead now wanted fault line same counted (inl is) = inl (sym same ∙ ap (λ p. p.fault) is, sym line ∙ ap (λ p. p.line) is)
+faults-end {F} ahead now wanted fault line same counted (inr cut) =
+    inr (record { failure = told F fault.kind cut.failure; counted = omega (arith, counted, cut.first); last = omega (arith, cut.last, line) })
+
+within-in : {R : Type 0} (remaining : R → Option (List ℕ)) (input : Input R) (at : Phase) (ahead : Parts) → IsAheadIn remaining input at ahead → ended_in at ≡ false → fault_in at ≡ None → input.number ≤ ahead.line
+within-in remaining input (phase.Going s) ahead is going well = omega (arith, is.1.number, onward-stage s is.0 ahead is.2)
+within-in remaining input phase.Ended ahead is going well = absurd cc
+within-in remaining input (phase.Stopped fault) ahead is going well = absurd cc
+
+-- memory was refused behind a part
+pub refused-end : {R : Type 0} (remaining : R → Option (List ℕ)) (reader : CertReader R) (ahead now : Parts) (fault : CertFault) → now.line ≡ ahead.line → IsAhead remaining reader now → has_ended reader ≡ false → fault_met reader ≡ None
+    → 0 < fault.line → fault ≡ record { line = line_wanted reader; kind = NoMemory } → EndsIn ahead fault
+refused-end remaining reader ahead now fault line is going well counted refused =
+    let within = within-in remaining reader.input reader.phase now is going well in
+    inr (record { failure = inr (ap (λ f. f.kind) refused); counted = counted; last = omega (arith, line, within, ap (λ f. f.line) refused) })
+
+-- ---- the whole text
+
+pub ends-read : (bytes : List ℕ) (fault : CertFault) → EndsIn (parts_read bytes) fault → IsReading bytes (Err fault)
+ends-read bytes fault (inl is) = inl (read-fault bytes fault is.0 is.1)
+ends-read bytes fault (inr cut) = inr (record { failure = cut.failure; first = omega (arith, cut.counted); last = omega (arith, cut.last, line-reached bytes) })
+
+-- a fault among the parts, where those before it were given
+pub read-faults : {F : Type 0} (bytes : List ℕ) (ahead : Parts) (wanted : ℕ) (fault : CertFault) → 0 < wanted → ahead.line ≡ (parts_read bytes).line → ahead.fault ≡ (parts_read bytes).fault → FaultsIn F wanted ahead fault
+    → IsReading bytes (Err fault)
+read-faults bytes ahead wanted fault counted line same faults = ends-read bytes fault (faults-end (parts_read bytes) ahead wanted fault line same counted faults)
+
+clocks-of : (clocks : List (List ℕ)) → clocks_in (map part.Clocks clocks) ≡ clocks
+clocks-of [] = refl
+clocks-of (row ∷ clocks) = ap (λ rows. row ∷ rows) (clocks-of clocks)
+
+near-none : (far : List (List ℕ)) → near_in (map part.Far far) ≡ []
+near-none [] = refl
+near-none (row ∷ far) = near-none far
+
+near-of : (near far : List (List ℕ)) → near_in (map part.Near near ++ map part.Far far) ≡ near
+near-of [] far = near-none far
+near-of (row ∷ near) far = ap (λ rows. row ∷ rows) (near-of near far)
+
+far-all : (far : List (List ℕ)) → far_in (map part.Far far) ≡ far
+far-all [] = refl
+far-all (row ∷ far) = ap (λ rows. row ∷ rows) (far-all far)
+
+far-of : (near far : List (List ℕ)) → far_in (map part.Near near ++ map part.Far far) ≡ far
+far-of [] far = far-all far
+far-of (row ∷ near) far = far-of near far
+
+-- a claim of an order by its parts
+pub order-is : (c : Certificate) (version : Version) (level : Level) (order : List ℕ) (sessions : ℕ) (rest : List Part) (clocks : List (List ℕ)) → part.Order version level order sessions ∷ rest ≡ parts_of c → clocks ≡ clocks_in rest
+    → c ≡ claim.Order version level order sessions clocks
+order-is (claim.Order v l o s cs) version level order sessions rest clocks is all =
+    let tail : rest ≡ map part.Clocks cs = cc in
+    let same : clocks ≡ cs = all ∙ ap clocks_in tail ∙ clocks-of cs in
+    cc
+order-is (claim.Cycle v l ls n ns fs) version level order sessions rest clocks is all = absurd cc
+
+-- a claim of a cycle by its parts
+pub cycle-is : (c : Certificate) (version : Version) (level : Level) (count : ℕ) (links : List Link) (least : ℕ) (rest : List Part) (near far : List (List ℕ)) → part.Cycle version level count links least ∷ rest ≡ parts_of c
+    → near ≡ near_in rest → far ≡ far_in rest → c ≡ claim.Cycle version level links least near far
+cycle-is (claim.Order v l o s cs) version level count links least rest near far is all others = absurd cc
+cycle-is (claim.Cycle v l ls n ns fs) version level count links least rest near far is all others =
+    let tail : rest ≡ map part.Near ns ++ map part.Far fs = cc in
+    let same : near ≡ ns = all ∙ ap near_in tail ∙ near-of ns fs in
+    let last : far ≡ fs = others ∙ ap far_in tail ∙ far-of ns fs in
+    cc
+
+-- all parts were collected
+pub order-read : (bytes : List ℕ) (version : Version) (level : Level) (order : List ℕ) (sessions : ℕ) (rest : Parts) (tables : Tables) → parts_read bytes ≡ after_part (part.Order version level order sessions) rest → HasRowsOf rest tables
+    → certificate_read bytes ≡ Ok (claim.Order version level order sessions tables.clocks.items)
+order-read bytes version level order sessions rest tables is has =
+    let whole = read-whole bytes (ap (λ p. p.fault) is ∙ has.ended) in
+    whole.1 ∙ ap Ok (order-is whole.0 version level order sessions rest.parts tables.clocks.items (sym (ap (λ p. p.parts) is) ∙ whole.2) has.clocks)
+
+pub cycle-read : (bytes : List ℕ) (version : Version) (level : Level) (count : ℕ) (links : List Link) (least : ℕ) (rest : Parts) (tables : Tables) → parts_read bytes ≡ after_part (part.Cycle version level count links least) rest → HasRowsOf rest tables
+    → certificate_read bytes ≡ Ok (claim.Cycle version level links least tables.near.items tables.far.items)
+cycle-read bytes version level count links least rest tables is has =
+    let whole = read-whole bytes (ap (λ p. p.fault) is ∙ has.ended) in
+    whole.1 ∙ ap Ok (cycle-is whole.0 version level count links least rest.parts tables.near.items tables.far.items (sym (ap (λ p. p.parts) is) ∙ whole.2) has.near has.far)
+
+-- a fault behind the first part is one of the whole text
+pub behind-end : (bytes : List ℕ) (first : Part) (rest : Parts) (fault : CertFault) → parts_read bytes ≡ after_part first rest → EndsIn rest fault → IsReading bytes (Err fault)
+behind-end bytes first rest fault is (inl end) = ends-read bytes fault (inl (ap (λ p. p.fault) is ∙ end.0, ap (λ p. p.line) is ∙ end.1))
+behind-end bytes first rest fault is (inr cut) =
+    ends-read bytes fault (inr (record { failure = cut.failure; counted = cut.counted; last = omega (arith, cut.last, ap (λ p. p.line) is) }))

@@ -1,0 +1,118 @@
+-- Parts of a text given one after the other, where a reader may fail and memory may be refused.
+use Rattle.std.proofs.Common.{◌≡◌, ℕ, zero, suc, ◌+◌, ◌-◌, ◌<◌, ◌≤◌, ◌⊎◌, Bool, true, false, cond, eqb, length, List, [], ◌∷◌, Option, None, Some, Result, Ok, Err, inl, inr, refl, sym, ap, subst, ◌∙◌, arith, codes}
+use Rattle.tcc_graph.specs.declared.level.Level.{Level}
+use Rattle.tcc_graph.specs.declared.level.Level.TheVariants.{Causal, Atomic}
+use Rattle.tcc_cert.specs.declared.ranges.TheConstants.{MAX_HEADER_BYTES}
+use Rattle.tcc_cert.specs.declared.version.Version.{Version}
+use Rattle.tcc_cert.specs.declared.fault.CertFault.{CertFault}
+use Rattle.tcc_cert.specs.declared.fault.CertFaultKind.TheVariants.{Trailing}
+use Rattle.tcc_cert.specs.declared.part.Part.{Part}
+use Rattle.tcc_cert.specs.declared.part.Part.TheVariants as part
+use Rattle.tcc_cert.specs.declared.reading.forms.Sizes.{Sizes}
+use Rattle.tcc_cert.specs.declared.reading.forms.Sizes.TheVariants.{Order, Cycle}
+use Rattle.tcc_cert.specs.declared.reading.input.Input.{Input}
+use Rattle.tcc_cert.specs.declared.reading.stages.Phase.{Phase}
+use Rattle.tcc_cert.specs.declared.reading.stages.Stage.{Stage}
+use Rattle.tcc_cert.specs.declared.reading.stages.Stage.TheVariants as stage
+use Rattle.tcc_cert.specs.Ranges.{ranges_of}
+use Rattle.tcc_cert.specs.Tables.{lowest}
+use Rattle.tcc_cert.specs.Inputs.{Ends, HasFailed}
+use Rattle.tcc_cert.specs.Outcomes.{Faults}
+use Rattle.tcc_cert.specs.Parts.{◌>>>◌, FaultsIn, Parts, after_part, claim_parts, clock_parts, clock_rows, cycle_parts, end_parts, ending, far_parts, far_rows, near_parts, near_rows, order_parts, order_rest, parts_behind, rows_then, whole_parts}
+use Rattle.tcc_cert.specs.Reading.{Place, Reads, header_line, link_at, next, numbers_line, repeated, sizes_line, word_line, words}
+use Rattle.tcc_cert.specs.Stages.{IsBehind, TakesStep}
+use Rattle.tcc_cert.proofs.OnwardFacts.{IsOnward, onward-links, onward-next, onward-words}
+use Rattle.tcc_cert.proofs.StepFacts.{some-left}
+
+-- ---- parts go on from line to line, and never back
+
+onward-then : {X : Type 0} (at : Place) (read : Reads X) (behind : X × Place → Parts) → IsOnward at read → ((x : X × Place) → x.1.line ≤ (behind x).line) → at.line ≤ (read >>> behind).line
+onward-then at (Ok x) behind on later = omega (arith, on.onward, later x)
+onward-then at (Err fault) behind on later = on.onward
+
+pub onward-rows : (form : List ℕ → Part) (read : ℕ → Place → Reads (List ℕ)) (behind : Place → Parts) (from n : ℕ) → ((i : ℕ) (p : Place) → IsOnward p (read i p)) → ((p : Place) → p.line ≤ (behind p).line)
+    → (at : Place) → at.line ≤ (rows_then form read behind from n at).line
+onward-rows form read behind from zero on later at = later at
+onward-rows form read behind from (suc n) on later at = onward-then at (read from at) _ (on from at) (λ row. onward-rows form read behind (from + 1) n on later row.1)
+
+pub onward-end : (version : Version) (at : Place) → at.line ≤ (end_parts version at).line
+onward-end version at = onward-then at (words version (word_line (codes "end")) at) _ (onward-words version (word_line (codes "end")) at) (λ end. omega arith)
+
+pub onward-clock_rows : (version : Version) (s from left : ℕ) (at : Place) → at.line ≤ (clock_rows version s from left at).line
+onward-clock_rows version s from left at = onward-rows part.Clocks (λ t. words version (numbers_line s (ranges_of version).number)) (end_parts version) from left (λ t p. onward-words version (numbers_line s (ranges_of version).number) p) (onward-end version) at
+
+pub onward-clocks : (version : Version) (n s : ℕ) (at : Place) → at.line ≤ (clock_parts version n s at).line
+onward-clocks version n s at = onward-then at (words version (word_line (codes "clocks")) at) _ (onward-words version (word_line (codes "clocks")) at) (λ mark. onward-clock_rows version s 0 n mark.1)
+
+pub onward-far_rows : (version : Version) (n from left : ℕ) (at : Place) → at.line ≤ (far_rows version n from left at).line
+onward-far_rows version n from left at = onward-rows part.Far (λ s. words version (numbers_line (n - lowest version s) (ranges_of version).cost)) (end_parts version) from left (λ s p. onward-words version (numbers_line (n - lowest version s) (ranges_of version).cost) p) (onward-end version) at
+
+pub onward-far : (version : Version) (n : ℕ) (at : Place) → at.line ≤ (far_parts version n at).line
+onward-far version n at = onward-then at (words version (word_line (codes "far")) at) _ (onward-words version (word_line (codes "far")) at) (λ mark. onward-far_rows version n 0 n mark.1)
+
+pub onward-near_rows : (version : Version) (n from left : ℕ) (at : Place) → at.line ≤ (near_rows version n from left at).line
+onward-near_rows version n from left at = onward-rows part.Near (λ a. words version (numbers_line n (ranges_of version).cost)) (far_parts version n) from left (λ a p. onward-words version (numbers_line n (ranges_of version).cost) p) (onward-far version n) at
+
+pub onward-near : (version : Version) (n : ℕ) (at : Place) → at.line ≤ (near_parts version n at).line
+onward-near version n at = onward-then at (words version (word_line (codes "near")) at) _ (onward-words version (word_line (codes "near")) at) (λ mark. onward-near_rows version n 0 n mark.1)
+
+pub onward-rest : (version : Version) (level : Level) (n s : ℕ) (at : Place) → at.line ≤ (order_rest version level n s at).line
+onward-rest version Causal n s at = onward-clocks version n s at
+onward-rest version Atomic n s at = onward-end version at
+
+pub onward-claim : (version : Version) (level : Level) (sizes : Sizes) (at : Place) → at.line ≤ (claim_parts version level sizes at).line
+onward-claim version level (Order n s) at = onward-then at (words version (numbers_line n (ranges_of version).number) at) _ (onward-words version (numbers_line n (ranges_of version).number) at) (λ order. onward-rest version level n s order.1)
+onward-claim version level (Cycle n count least) at = onward-then at (repeated (link_at version) count at) _ (onward-links version count at) (λ links. onward-near version n links.1)
+
+pub onward-behind : (header : (Version × Level) × Place) → header.1.line ≤ (parts_behind header).line
+onward-behind header =
+    onward-then header.1 (words header.0.0 (sizes_line header.0.0) header.1) _ (onward-words header.0.0 (sizes_line header.0.0) header.1) (λ sizes. onward-claim header.0.0 header.0.1 sizes.0 sizes.1)
+
+onward-whole : (at : Place) → at.line ≤ (whole_parts at).line
+onward-whole at = onward-then at (next MAX_HEADER_BYTES header_line at) parts_behind (onward-next MAX_HEADER_BYTES header_line at) onward-behind
+
+pub onward-stage : (s : Stage) (at : Place) (ahead : Parts) → IsBehind s at ahead → at.line ≤ ahead.line
+onward-stage stage.Whole at ahead is = rw is (onward-whole at)
+onward-stage (stage.ClocksMark version n s) at ahead is = rw is (onward-clocks version n s at)
+onward-stage (stage.Clocks version s left) at ahead is = rw is.1 (onward-clock_rows version s is.0 left at)
+onward-stage (stage.NearMark version n) at ahead is = rw is (onward-near version n at)
+onward-stage (stage.Near version n left) at ahead is = rw is.1 (onward-near_rows version n is.0 left at)
+onward-stage (stage.Far version n left) at ahead is = rw is.2 (onward-far_rows version n is.0 left at)
+
+-- ---- what comes of a part
+
+-- it had a fault
+pub part-faults : {A F : Type 0} {at : Place} (read : Reads A) (behind : A × Place → Parts) (fault : CertFault) → ((x : A × Place) → x.1.line ≤ (behind x).line) → Faults F at read fault
+    → FaultsIn F at.line (read >>> behind) fault
+part-faults read behind fault later (inl is) = inl (rw is refl)
+part-faults (Ok x) behind fault later (inr cut) = inr (record { failure = cut.failure; first = cut.first; last = omega (arith, cut.last, later x) })
+part-faults (Err e) behind fault later (inr cut) = inr (record { failure = cut.failure; first = cut.first; last = cut.last })
+
+-- the line that was wanted is no later
+wanted-earlier : {F : Type 0} (wanted earlier : ℕ) (ahead : Parts) (fault : CertFault) → earlier ≤ wanted → FaultsIn F wanted ahead fault → FaultsIn F earlier ahead fault
+wanted-earlier wanted earlier ahead fault le (inl is) = inl is
+wanted-earlier wanted earlier ahead fault le (inr cut) = inr (record { failure = cut.failure; first = omega (arith, le, cut.first); last = cut.last })
+
+step-earlier : {R : Type 0} (remaining : R → Option (List ℕ)) (wanted earlier : ℕ) (ahead : Parts) (result : Result (Part × Phase) CertFault) (new : Input R) → earlier ≤ wanted
+    → TakesStep remaining wanted ahead result new → TakesStep remaining earlier ahead result new
+step-earlier remaining wanted earlier ahead (Ok given) new le taken = taken
+step-earlier remaining wanted earlier ahead (Err fault) new le faults = wanted-earlier wanted earlier ahead fault le faults
+
+-- it was read, and what comes behind it is given
+pub part-then : {A R : Type 0} (remaining : R → Option (List ℕ)) (at : Place) {after : Place} {x : A} (read : Reads A) (behind : A × Place → Parts) (result : Result (Part × Phase) CertFault) (new : Input R)
+    → read ≡ Ok (x, after) → at.line ≤ after.line → TakesStep remaining after.line (behind (x, after)) result new → TakesStep remaining at.line (read >>> behind) result new
+part-then remaining at {after} {x} read behind result new is on taken =
+    subst (λ r. TakesStep remaining at.line (r >>> behind) result new) (sym is) (step-earlier remaining after.line at.line (behind (x, after)) result new on taken)
+
+-- one row more
+pub row-more : (form : List ℕ → Part) (read : ℕ → Place → Reads (List ℕ)) (behind : Place → Parts) (from left n : ℕ) (at after : Place) (row : List ℕ) → n ≡ suc left → read from at ≡ Ok (row, after)
+    → rows_then form read behind from n at ≡ after_part (form row) (rows_then form read behind (from + 1) left after)
+row-more form read behind from left n at after row more is = rw more (rw is refl)
+
+-- the line `end` was read, and something stands behind it, or the reader failed
+pub end-faults : {R : Type 0} (version : Version) (at after : Place) (done : Unit {0}) (fault : CertFault) (new : Input R) → words version (word_line (codes "end")) at ≡ Ok (done, after) → at.line ≤ after.line
+    → Ends after (Err fault) new → FaultsIn (HasFailed new) at.line (end_parts version at) fault
+end-faults version at after done fault new is on (line, inl more) = inl (rw (is, some-left after.bytes more.1, line, more.0) refl)
+end-faults version at after done fault new is on (line, inr failed) =
+    let last = ap (λ r. (r >>> λ end. ending end.1.line (cond (eqb (length end.1.bytes) 0) None (Some Trailing))).line) is in
+    inr (record { failure = inl failed; first = omega (arith, line, on); last = omega (arith, line, last) })

@@ -1,0 +1,59 @@
+-- The lines before the rows go out, then the rows, and the end.
+use Rattle.std.proofs.Common.{rules, ◌≡◌, [], ◌∷◌, refl, length, take}
+use Rattle.std.proofs.lemmas.Result.{on_ok_weaker, on_err_weaker}
+use Rattle.tcc_cert.specs.CycleRules.{CycleClaim}
+use Rattle.tcc_cert.proofs.SentFacts.{on_err, Appends-part}
+use Rattle.tcc_cert.proofs.GivenTexts.{part_begun, part_given, part_before_far}
+use Rattle.tcc_cert.proofs.GivenFacts.{begun}
+use Rattle.tcc_cert.proofs.cycle_writer.write_cycle.Goals as goal
+
+pub returns-in_err-first_lines-clause-part : goal.returns-in_err-first_lines-clause-part
+returns-in_err-first_lines-clause-part g c =
+    let k : CycleClaim = record { version = c.args.version; level = c.args.level; links = c.args.parts.now; least = c.args.least; near = c.args.near.now; far = c.args.far.now } in
+    on_err c.from_residual.result (part_begun _ _ k (Appends-part (rw (c.new-outgoing.ensures, c.rows.ensures) at c.in_err-first_lines.ensures)))
+
+pub returns-in_err-near_table-clause-part : goal.returns-in_err-near_table-clause-part
+returns-in_err-near_table-clause-part g c =
+    let out = g.W.Write.contents c.args.out.now in
+    let k : CycleClaim = record { version = c.args.version; level = c.args.level; links = c.args.parts.now; least = c.args.least; near = []; far = [] } in
+    let count = length c.args.near.now in
+    let first = begun g.W.Write.contents out count k.version k.level k.links k.least c.behind-writer.result _ _ (rw (c.new-outgoing.ensures, c.rows.ensures) at c.in_ok-first_lines.ensures)
+    c.behind-writer.ensures.same c.behind-writer.ensures.outgoing c.behind-writer.ensures.stage in
+    let same : c.near_table.new.self.out.now ≡ c.out-1.given.0 = search rules in
+    on_err c.from_residual-in_err-near_table.result (rw (← same)
+    (part_given _ _ (record k { near = c.args.near.now; far = c.args.far.now })
+    (part_before_far _ _ count (record k { near = c.args.near.now }) c.args.far.now refl (c.in_err-near_table.ensures.part out count k first refl refl))))
+
+pub returns-in_err-far_table-clause-part : goal.returns-in_err-far_table-clause-part
+returns-in_err-far_table-clause-part g c =
+    let out = g.W.Write.contents c.args.out.now in
+    let k : CycleClaim = record { version = c.args.version; level = c.args.level; links = c.args.parts.now; least = c.args.least; near = []; far = [] } in
+    let count = length c.args.near.now in
+    let first = begun g.W.Write.contents out count k.version k.level k.links k.least c.behind-writer.result _ _ (rw (c.new-outgoing.ensures, c.rows.ensures) at c.in_ok-first_lines.ensures)
+    c.behind-writer.ensures.same c.behind-writer.ensures.outgoing c.behind-writer.ensures.stage in
+    let same : c.far_table.new.self.out.now ≡ c.out-in_err-far_table-1.given.0 = search rules in
+    on_err c.from_residual-in_err-far_table.result (rw (← same)
+    (part_given _ _ (record k { near = c.args.near.now; far = c.args.far.now })
+    (c.in_err-far_table.ensures.part out count (record k { near = c.args.near.now }) (c.in_ok-near_table.ensures.whole out count k first refl refl) refl)))
+
+pub returns-clause-whole : goal.returns-clause-whole
+returns-clause-whole g c =
+    let out = g.W.Write.contents c.args.out.now in
+    let k : CycleClaim = record { version = c.args.version; level = c.args.level; links = c.args.parts.now; least = c.args.least; near = []; far = [] } in
+    let count = length c.args.near.now in
+    let first = begun g.W.Write.contents out count k.version k.level k.links k.least c.behind-writer.result _ _ (rw (c.new-outgoing.ensures, c.rows.ensures) at c.in_ok-first_lines.ensures)
+    c.behind-writer.ensures.same c.behind-writer.ensures.outgoing c.behind-writer.ensures.stage in
+    let same : c.end.new.self.0 ≡ c.out-2-1.given.0 = search rules in
+    rw (← same) (c.end.ensures.whole out (record k { near = c.args.near.now; far = c.args.far.now })
+    (c.in_ok-far_table.ensures.whole out count (record k { near = c.args.near.now }) (c.in_ok-near_table.ensures.whole out count k first refl refl) refl))
+
+pub returns-clause-part : goal.returns-clause-part
+returns-clause-part g c =
+    let out = g.W.Write.contents c.args.out.now in
+    let k : CycleClaim = record { version = c.args.version; level = c.args.level; links = c.args.parts.now; least = c.args.least; near = []; far = [] } in
+    let count = length c.args.near.now in
+    let first = begun g.W.Write.contents out count k.version k.level k.links k.least c.behind-writer.result _ _ (rw (c.new-outgoing.ensures, c.rows.ensures) at c.in_ok-first_lines.ensures)
+    c.behind-writer.ensures.same c.behind-writer.ensures.outgoing c.behind-writer.ensures.stage in
+    let same : c.end.new.self.0 ≡ c.out-2-1.given.0 = search rules in
+    rw (← same) (c.end.ensures.part out (record k { near = c.args.near.now; far = c.args.far.now })
+    (c.in_ok-far_table.ensures.whole out count (record k { near = c.args.near.now }) (c.in_ok-near_table.ensures.whole out count k first refl refl) refl))

@@ -1,0 +1,15 @@
+-- The line was read, and something stands behind it.
+use Rattle.std.proofs.lemmas.Result.{err_from_is_err_and}
+use Rattle.std.proofs.Common.{codes}
+use Rattle.tcc_cert.specs.Reading.{word_line, words}
+use Rattle.tcc_cert.proofs.OnwardFacts.{onward-words}
+use Rattle.tcc_cert.proofs.StepFacts.{onward-at}
+use Rattle.tcc_cert.proofs.StageFacts.{end-faults}
+use Rattle.tcc_cert.proofs.reading.stages.end.Goals as goal
+
+pub returns-in_err-end-clause-step : goal.returns-in_err-end-clause-step
+returns-in_err-end-clause-step g c at before =
+    let v = c.args.version in
+    let mark = c.in_ok-mark.ensures at before in
+    let p = err_from_is_err_and c.from_residual-in_err-end.result c.from_residual-in_err-end.ensures.1 in
+    rw (p.1, p.2) (end-faults v at mark.0 _ _ c.end.new.self mark.1 (onward-at _ (onward-words v (word_line (codes "end")) at) mark.1) (c.in_err-end.ensures mark.0 mark.2))

@@ -1,0 +1,43 @@
+-- The lines of a claim of a cycle of which not all rows are there yet.
+use Rattle.std.specs.Prelude.{ℕ, List, [], ◌∷◌, ◌++◌, length, codes, decimal, flat_map}
+use Rattle.tcc_graph.specs.declared.link.Link.{Link}
+use Rattle.tcc_graph.specs.declared.level.Level.{Level}
+use Rattle.tcc_cert.specs.declared.version.Version.{Version}
+use Rattle.tcc_cert.specs.declared.cycle_writer.Stage.{Stage}
+use Rattle.tcc_cert.specs.declared.cycle_writer.Stage.TheVariants.{Near, Far, Failed}
+use Rattle.tcc_cert.specs.CycleRules.{CycleClaim}
+use Rattle.tcc_cert.specs.Texts.{Words, line_text, header_words, link_lines, table_lines}
+
+-- the lines before the rows
+abbrev pub begun_lines : Version → Level → ℕ → List Link → ℕ → List Words
+begun_lines version level count links least =
+    header_words version level
+    ∷ (codes "cycle" ∷ decimal count ∷ decimal (length links) ∷ decimal least ∷ [])
+    ∷ (flat_map link_lines links ++ (codes "near" ∷ []) ∷ [])
+
+-- the rows of `far`, from the first on behind their mark
+abbrev pub far_lines : List (List ℕ) → List Words
+far_lines [] = []
+far_lines (row ∷ rows) = (codes "far" ∷ []) ∷ table_lines (row ∷ rows)
+
+-- the lines up to the last row that is there, of a claim about so many transactions
+abbrev pub given_lines : ℕ → CycleClaim → List Words
+given_lines count k = begun_lines k.version k.level count k.links k.least ++ (table_lines k.near ++ far_lines k.far)
+
+-- one row more
+abbrev pub with_near : CycleClaim → List ℕ → CycleClaim
+with_near k row = record k { near = k.near ++ row ∷ [] }
+
+abbrev pub with_far : CycleClaim → List ℕ → CycleClaim
+with_far k row = record k { far = k.far ++ row ∷ [] }
+
+-- rows of `far` come behind those of `near`
+abbrev pub stage_of : List (List ℕ) → Stage
+stage_of [] = Near
+stage_of (row ∷ rows) = Far
+
+-- the line that has to go out before a row of `far` or the end
+abbrev pub far_mark : Stage → List ℕ
+far_mark Near = line_text (codes "far" ∷ [])
+far_mark Far = []
+far_mark Failed = []

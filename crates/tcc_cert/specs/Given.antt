@@ -1,0 +1,17 @@
+-- What a writer of a claim of a cycle was given so far.
+use Rattle.std.specs.Prelude.{ℕ, ◌≡◌, List, [], Option}
+use Rattle.tcc_cert.specs.declared.cycle_writer.CycleWriter.{CycleWriter}
+use Rattle.tcc_cert.specs.declared.cycle_writer.Stage.TheVariants.{Failed}
+use Rattle.tcc_cert.specs.CycleRules.{CycleClaim}
+use Rattle.tcc_cert.specs.Texts.{lines_text}
+use Rattle.tcc_cert.specs.Begun.{given_lines, stage_of}
+use Rattle.tcc_cert.specs.Writing.{Sends}
+
+-- a write has failed
+abbrev pub HasFailed : {W : Type 0} → CycleWriter W → Type 0
+HasFailed writer = writer.stage ≡ Failed
+
+-- of a claim about so many transactions it was given these rows: behind what its output had before, their lines went out or wait to
+pub record HasTaken {W : Type 0} (contents : W → Option (List ℕ)) (before : Option (List ℕ)) (count : ℕ) (k : CycleClaim) (writer : CycleWriter W) : Type 0 where
+  pub lines : Sends before [] (contents writer.out.now) writer.outgoing (lines_text (given_lines count k))
+  pub stage : writer.stage ≡ stage_of k.far

@@ -1,0 +1,135 @@
+-- The parts of a certificate, and those that a text gives before its end or its first fault.
+use Rattle.std.specs.Prelude.{ℕ, zero, suc, ◌+◌, ◌-◌, ◌≡◌, ◌≤◌, ◌⊎◌, ◌==◌, if◌then◌else◌, List, [], ◌∷◌, ◌++◌, map, length, Option, None, Some, Ok, Err, codes}
+use Rattle.tcc_graph.specs.declared.level.Level.{Level}
+use Rattle.tcc_graph.specs.declared.level.Level.TheVariants.{Causal, Atomic}
+use Rattle.tcc_cert.specs.declared.version.Version.{Version}
+use Rattle.tcc_cert.specs.declared.ranges.TheConstants.{MAX_HEADER_BYTES}
+use Rattle.tcc_cert.specs.declared.fault.CertFault.{CertFault}
+use Rattle.tcc_cert.specs.declared.fault.CertFaultKind.{CertFaultKind}
+use Rattle.tcc_cert.specs.declared.fault.CertFaultKind.TheVariants.{Trailing}
+use Rattle.tcc_cert.specs.declared.certificate.Certificate.{Certificate}
+use Rattle.tcc_cert.specs.declared.certificate.Certificate.TheVariants as claim
+use Rattle.tcc_cert.specs.declared.part.Part.{Part}
+use Rattle.tcc_cert.specs.declared.part.Part.TheVariants as part
+use Rattle.tcc_cert.specs.declared.reading.forms.Sizes.{Sizes}
+use Rattle.tcc_cert.specs.declared.reading.forms.Sizes.TheVariants.{Order, Cycle}
+use Rattle.tcc_cert.specs.Ranges.{ranges_of}
+use Rattle.tcc_cert.specs.Tables.{lowest}
+use Rattle.tcc_cert.specs.Outcomes.{IsFailure}
+use Rattle.tcc_cert.specs.Reading.{Place, Reads, next, words, header_line, sizes_line, word_line, numbers_line, repeated, link_at, start_of}
+
+-- the parts of a certificate, in the order of its text, without the end
+abbrev pub parts_of : Certificate → List Part
+parts_of (claim.Order version level order sessions clocks) = part.Order version level order sessions ∷ map part.Clocks clocks
+parts_of (claim.Cycle version level links least near far) =
+    part.Cycle version level (length near) links least ∷ map part.Near near ++ map part.Far far
+
+-- some parts, and then, at this line, the fault of this kind, or the end
+pub record Parts : Type 0 where
+  pub parts : List Part
+  pub line : ℕ
+  pub fault : Option CertFaultKind
+
+-- no part is left
+abbrev pub ending : ℕ → Option CertFaultKind → Parts
+ending line fault = record { parts = []; line = line; fault = fault }
+
+abbrev pub stopped : CertFault → Parts
+stopped fault = ending fault.line (Some fault.kind)
+
+abbrev pub after_part : Part → Parts → Parts
+after_part first rest = record { parts = first ∷ rest.parts; line = rest.line; fault = rest.fault }
+
+-- what comes behind something that was read, or its fault
+infixl 10 ◌>>>◌
+abbrev pub ◌>>>◌ : {X : Type 0} → Reads X → (X × Place → Parts) → Parts
+(Ok read) >>> behind = behind read
+(Err fault) >>> behind = stopped fault
+
+-- so many rows, each of which goes by its number, the first of them by this one, and what comes behind them
+abbrev pub rows_then : (List ℕ → Part) → (ℕ → Place → Reads (List ℕ)) → (Place → Parts) → ℕ → ℕ → Place → Parts
+rows_then form read behind from zero at = behind at
+rows_then form read behind from (suc n) at = read from at >>> λ row. after_part (form row.0) (rows_then form read behind (from + 1) n row.1)
+
+-- the line `end`, and nothing behind it
+abbrev pub end_parts : Version → Place → Parts
+end_parts version at =
+    words version (word_line (codes "end")) at >>> λ end. ending end.1.line (if length end.1.bytes == 0 then None else Some Trailing)
+
+-- the clocks from a row on, so many are left
+abbrev pub clock_rows : Version → ℕ → ℕ → ℕ → Place → Parts
+clock_rows version sessions from left at =
+    rows_then part.Clocks (λ t. words version (numbers_line sessions (ranges_of version).number)) (end_parts version) from left at
+
+abbrev pub clock_parts : Version → ℕ → ℕ → Place → Parts
+clock_parts version transactions sessions at =
+    words version (word_line (codes "clocks")) at >>> λ mark. clock_rows version sessions 0 transactions mark.1
+
+-- `far` from a row on, so many are left
+abbrev pub far_rows : Version → ℕ → ℕ → ℕ → Place → Parts
+far_rows version transactions from left at =
+    rows_then part.Far (λ s. words version (numbers_line (transactions - lowest version s) (ranges_of version).cost)) (end_parts version) from left at
+
+abbrev pub far_parts : Version → ℕ → Place → Parts
+far_parts version transactions at =
+    words version (word_line (codes "far")) at >>> λ mark. far_rows version transactions 0 transactions mark.1
+
+-- `near` from a row on, so many are left, and `far`
+abbrev pub near_rows : Version → ℕ → ℕ → ℕ → Place → Parts
+near_rows version transactions from left at =
+    rows_then part.Near (λ a. words version (numbers_line transactions (ranges_of version).cost)) (far_parts version transactions) from left at
+
+abbrev pub near_parts : Version → ℕ → Place → Parts
+near_parts version transactions at =
+    words version (word_line (codes "near")) at >>> λ mark. near_rows version transactions 0 transactions mark.1
+
+-- what comes behind the order of a claim
+abbrev pub order_rest : Version → Level → ℕ → ℕ → Place → Parts
+order_rest version Causal transactions sessions at = clock_parts version transactions sessions at
+order_rest version Atomic transactions sessions at = end_parts version at
+
+abbrev pub order_parts : Version → Level → ℕ → ℕ → Place → Parts
+order_parts version level transactions sessions at =
+    words version (numbers_line transactions (ranges_of version).number) at
+    >>> λ order. after_part (part.Order version level order.0 sessions) (order_rest version level transactions sessions order.1)
+
+abbrev pub cycle_parts : Version → Level → ℕ → ℕ → ℕ → Place → Parts
+cycle_parts version level transactions count least at =
+    repeated (link_at version) count at
+    >>> λ links. after_part (part.Cycle version level transactions links.0 least) (near_parts version transactions links.1)
+
+abbrev pub claim_parts : Version → Level → Sizes → Place → Parts
+claim_parts version level (Order transactions sessions) at = order_parts version level transactions sessions at
+claim_parts version level (Cycle transactions count least) at = cycle_parts version level transactions count least at
+
+-- what comes behind the first line
+abbrev pub parts_behind : (Version × Level) × Place → Parts
+parts_behind header = words header.0.0 (sizes_line header.0.0) header.1 >>> λ sizes. claim_parts header.0.0 header.0.1 sizes.0 sizes.1
+
+abbrev pub whole_parts : Place → Parts
+whole_parts at = next MAX_HEADER_BYTES header_line at >>> parts_behind
+
+-- the parts that the bytes give, and how that ends
+abbrev pub parts_read : List ℕ → Parts
+parts_read bytes = whole_parts (start_of bytes)
+
+-- ---- what is answered of the parts that are to come
+
+-- the first of them is this one, and these come behind it; behind the end comes the end
+abbrev pub IsFirst : Part → Parts → Parts → Type 0
+IsFirst part.End ahead rest = (ahead ≡ ending ahead.line None) × (rest ≡ ahead)
+IsFirst (part.Order version level order sessions) ahead rest = ahead ≡ after_part (part.Order version level order sessions) rest
+IsFirst (part.Cycle version level count links least) ahead rest = ahead ≡ after_part (part.Cycle version level count links least) rest
+IsFirst (part.Clocks row) ahead rest = ahead ≡ after_part (part.Clocks row) rest
+IsFirst (part.Near row) ahead rest = ahead ≡ after_part (part.Near row) rest
+IsFirst (part.Far row) ahead rest = ahead ≡ after_part (part.Far row) rest
+
+-- the reader failed or memory was refused, no earlier than the line that was wanted, and no later than the line at which the reading would have ended
+pub record IsCutShortIn (failed : Type 0) (wanted : ℕ) (ahead : Parts) (fault : CertFault) : Type 0 where
+  pub failure : IsFailure failed fault.kind
+  pub first : wanted ≤ fault.line
+  pub last : fault.line ≤ ahead.line
+
+-- no part is left but the fault, unless the reader failed or memory was refused
+abbrev pub FaultsIn : Type 0 → ℕ → Parts → CertFault → Type 0
+FaultsIn failed wanted ahead fault = (ahead ≡ stopped fault) ⊎ IsCutShortIn failed wanted ahead fault

@@ -1,0 +1,286 @@
+//! A certificate of a cycle that goes out row by row, so that nobody has to hold its tables.
+ghost use Rattle.std.specs.Prelude.{◌≡◌, ◌≢◌, ℕ, List, [], ◌∷◌, ◌++◌, Option, Result, Err, IsErr, OnOk, OnErr, IfOk, IsOk, take, codes, length};
+ghost use Rattle.std.specs.Io.KnownBytes.{Appends, Keeps};
+ghost use Rattle.tcc_cert.specs.declared.certificate.Certificate.TheVariants as claim;
+ghost use Rattle.tcc_cert.specs.declared.fault.WriteFault.TheVariants.{Device};
+ghost use Rattle.tcc_cert.specs.CycleRules.{CycleClaim};
+ghost use Rattle.tcc_cert.specs.Texts.{line_text, lines_text, numbers_words, certificate_text};
+ghost use Rattle.tcc_cert.specs.Begun.{begun_lines, given_lines, with_near, with_far, far_mark};
+ghost use Rattle.tcc_cert.specs.Writing.{IsSent};
+
+use crate::lines::{line, number_line};
+use crate::outgoing::Outgoing;
+use crate::writing::{cycle_sizes, header_line, links};
+use crate::{Links, Table, Version, WriteFault};
+use std::io::{self, Write};
+use tcc_graph::Level;
+
+/// Which row may come next.
+#[derive(Clone, Copy)]
+enum Stage {
+    /// One of `near`, or the first of `far`.
+    Near,
+    /// One of `far`.
+    Far,
+    /// None, since a write failed.
+    Failed,
+}
+
+/// Writes a claim of a cycle as its rows come: those of `near` in order, then those of `far`, and then the end. After
+/// a write that failed nothing more goes out, and each further call answers so.
+pub struct CycleWriter<'w, W: Write> {
+    out: &'w mut W,
+    outgoing: Outgoing,
+    stage: Stage,
+}
+
+impl<W: Write> Drop for CycleWriter<'_, W> {
+    fn drop(self)
+        ensures { self.exit.0.now ≡ self.entry.out.now }
+    {
+        let CycleWriter {
+            out: _,
+            outgoing: _,
+            stage: _,
+        } = self;
+    }
+}
+
+/// The lines before the rows.
+fn first_lines<W: Write>(
+    outgoing: &mut Outgoing,
+    out: &mut W,
+    version: Version,
+    level: Level,
+    count: usize,
+    parts: &Links,
+    least: u32,
+) -> io::Result<()>
+    ensures { IsSent result (W.contents out.old) outgoing.old (W.contents out.new) outgoing.new (lines_text (begun_lines version level count parts.now least)) }
+{
+    header_line(outgoing, out, version, level)?;
+    cycle_sizes(outgoing, out, count, parts.as_slice().len(), least)?;
+    links(outgoing, out, parts)?;
+    line(outgoing, out, b"near", &[])
+}
+
+/// The line behind the rows, and all that still waits.
+fn last_line<W: Write>(outgoing: &mut Outgoing, out: &mut W) -> io::Result<()>
+    ensures sent { IsSent result (W.contents out.old) outgoing.old (W.contents out.new) outgoing.new (line_text (codes "end" ∷ [])) }
+    ensures none { OnOk result (outgoing.new ≡ []) }
+{
+    line(outgoing, out, b"end", &[])?;
+    outgoing.finish(out)
+}
+
+/// The line before the rows of `far`, if it did not go out yet.
+fn far_line<W: Write>(outgoing: &mut Outgoing, out: &mut W, stage: Stage) -> io::Result<()>
+    ensures { IsSent result (W.contents out.old) outgoing.old (W.contents out.new) outgoing.new (far_mark stage) }
+{
+    match stage {
+        Stage::Near => line(outgoing, out, b"far", &[]),
+        Stage::Far => Ok(()),
+        Stage::Failed => Ok(()),
+    }
+}
+
+/// What comes behind the last row.
+fn close<W: Write>(outgoing: &mut Outgoing, out: &mut W, stage: Stage) -> io::Result<()>
+    ensures sent { IsSent result (W.contents out.old) outgoing.old (W.contents out.new) outgoing.new (far_mark stage ++ line_text (codes "end" ∷ [])) }
+    ensures none { OnOk result (outgoing.new ≡ []) }
+{
+    far_line(outgoing, out, stage)?;
+    last_line(outgoing, out)
+}
+
+impl<'w, W: Write> CycleWriter<'w, W> {
+    ghost use Rattle.tcc_cert.specs.Given.{HasTaken, HasFailed};
+
+    /// Behind the lines that are on their way.
+    fn behind(out: &'w mut W, outgoing: Outgoing) -> CycleWriter<'w, W>
+        ensures same_reference { result.out.ghost_name ≡ out.entry.ghost_name }
+        ensures same { result.out.now ≡ out.old }
+        ensures outgoing { result.outgoing ≡ outgoing }
+        ensures stage { result.stage ≡ Stage.Near }
+    {
+        CycleWriter {
+            out,
+            outgoing,
+            stage: Stage::Near,
+        }
+    }
+
+    /// Begins the text of a claim about so many transactions, whose rows are then to come.
+    pub fn begin(
+        out: &'w mut W,
+        version: Version,
+        level: Level,
+        count: usize,
+        links: &Links,
+        least: u32,
+    ) -> Result<CycleWriter<'w, W>, WriteFault>
+        ensures same_reference { IfOk result (λ writer. writer.out.ghost_name ≡ out.entry.ghost_name) }
+        ensures begun { IfOk result (HasTaken W.contents (W.contents out.old) count
+            (record { version = version; level = level; links = links.now; least = least; near = []; far = [] })) }
+    {
+        let mut outgoing = Outgoing::new();
+        first_lines(&mut outgoing, out, version, level, count, links, least)?;
+        Ok(CycleWriter::behind(out, outgoing))
+    }
+
+    /// Keeps in mind whether it was sent.
+    fn note(&mut self, sent: io::Result<()>) -> Result<(), WriteFault>
+        ensures out { self.new.out ≡ self.old.out }
+        ensures outgoing { self.new.outgoing ≡ self.old.outgoing }
+        ensures ok { OnOk result (IsOk sent) }
+        ensures goes_on { OnOk result (self.new.stage ≡ self.old.stage) }
+        ensures err { OnErr result (IsErr sent) }
+        ensures fails { OnErr result (self.new.stage ≡ Stage.Failed) }
+    {
+        match sent {
+            Ok(()) => Ok(()),
+            Err(_) => {
+                self.stage = Stage::Failed;
+                Err(WriteFault::Device)
+            }
+        }
+    }
+
+    /// The next row of `near`: as many numbers as there are transactions.
+    pub fn near_row(&mut self, row: &[u32]) -> Result<(), WriteFault>
+        ensures same_reference { self.new.out.ghost_name ≡ self.old.out.ghost_name }
+        ensures whole { (before : Option (List ℕ)) (count : ℕ) (k : CycleClaim) → HasTaken W.contents before count k self.old → k.far ≡ []
+            → OnOk result (HasTaken W.contents before count (with_near k row.now) self.new) }
+        ensures part { (before : Option (List ℕ)) (count : ℕ) (k : CycleClaim) → HasTaken W.contents before count k self.old → k.far ≡ []
+            → OnErr result ((n : ℕ) × Appends before (W.contents self.new.out.now) (take n (lines_text (given_lines count (with_near k row.now))))) }
+        ensures fails { OnErr result (HasFailed self.new) }
+        ensures stays_failed { HasFailed self.old → (result ≡ Err Device) × Keeps (W.contents self.old.out.now) (W.contents self.new.out.now) }
+    {
+        if let Stage::Failed = self.stage {
+            return Err(WriteFault::Device);
+        }
+        let sent = number_line(&mut self.outgoing, self.out, row);
+        self.note(sent)
+    }
+
+    /// The line before the rows of `far`, if it did not go out yet.
+    fn mark_far(&mut self) -> Result<(), WriteFault>
+        ensures same_reference { self.new.out.ghost_name ≡ self.old.out.ghost_name }
+        ensures sent { self.old.stage ≢ Stage.Failed
+            → IsSent result (W.contents self.old.out.now) self.old.outgoing (W.contents self.new.out.now) self.new.outgoing (far_mark self.old.stage) }
+        ensures stage { OnOk result (self.new.stage ≡ Stage.Far) }
+        ensures fails { OnErr result (self.new.stage ≡ Stage.Failed) }
+        ensures stays_failed { self.old.stage ≡ Stage.Failed → (result ≡ Err Device) × Keeps (W.contents self.old.out.now) (W.contents self.new.out.now) }
+    {
+        match self.stage {
+            Stage::Near => {
+                let sent = line(&mut self.outgoing, self.out, b"far", &[]);
+                self.note(sent)?;
+                self.stage = Stage::Far;
+                Ok(())
+            }
+            Stage::Far => Ok(()),
+            Stage::Failed => Err(WriteFault::Device),
+        }
+    }
+
+    /// The next row of `far`: in version 1 as many numbers as there are transactions, in version 2 as many as from the
+    /// row's own on.
+    pub fn far_row(&mut self, row: &[u32]) -> Result<(), WriteFault>
+        ensures same_reference { self.new.out.ghost_name ≡ self.old.out.ghost_name }
+        ensures whole { (before : Option (List ℕ)) (count : ℕ) (k : CycleClaim) → HasTaken W.contents before count k self.old
+            → OnOk result (HasTaken W.contents before count (with_far k row.now) self.new) }
+        ensures part { (before : Option (List ℕ)) (count : ℕ) (k : CycleClaim) → HasTaken W.contents before count k self.old
+            → OnErr result ((n : ℕ) × Appends before (W.contents self.new.out.now) (take n (lines_text (given_lines count (with_far k row.now))))) }
+        ensures fails { OnErr result (HasFailed self.new) }
+        ensures stays_failed { HasFailed self.old → (result ≡ Err Device) × Keeps (W.contents self.old.out.now) (W.contents self.new.out.now) }
+    {
+        match self.mark_far() {
+            Ok(()) => {
+                let sent = number_line(&mut self.outgoing, self.out, row);
+                self.note(sent)
+            }
+            Err(fault) => Err(fault),
+        }
+    }
+
+    /// The end: where all rows came, the whole text went out.
+    pub fn end(self) -> Result<(), WriteFault>
+        ensures whole { (before : Option (List ℕ)) (k : CycleClaim) → HasTaken W.contents before (length k.near) k self.entry
+            → OnOk result (Appends before (W.contents self.exit.0.now) (certificate_text (claim.Cycle k.version k.level k.links k.least k.near k.far))) }
+        ensures part { (before : Option (List ℕ)) (k : CycleClaim) → HasTaken W.contents before (length k.near) k self.entry
+            → OnErr result ((n : ℕ) × Appends before (W.contents self.exit.0.now) (take n (certificate_text (claim.Cycle k.version k.level k.links k.least k.near k.far)))) }
+        ensures stays_failed { HasFailed self.entry → (result ≡ Err Device) × Keeps (W.contents self.entry.out.now) (W.contents self.exit.0.now) }
+    {
+        let CycleWriter {
+            out,
+            mut outgoing,
+            stage,
+        } = self;
+        if let Stage::Failed = stage {
+            return Err(WriteFault::Device);
+        }
+        close(&mut outgoing, out, stage)?;
+        Ok(())
+    }
+
+    /// All rows of `near`.
+    fn near_table(&mut self, table: &Table) -> Result<(), WriteFault>
+        ensures same_reference { self.new.out.ghost_name ≡ self.old.out.ghost_name }
+        ensures whole { (before : Option (List ℕ)) (count : ℕ) (k : CycleClaim) → HasTaken W.contents before count k self.old → k.near ≡ [] → k.far ≡ []
+            → OnOk result (HasTaken W.contents before count (record k { near = table.now }) self.new) }
+        ensures part { (before : Option (List ℕ)) (count : ℕ) (k : CycleClaim) → HasTaken W.contents before count k self.old → k.near ≡ [] → k.far ≡ []
+            → OnErr result ((n : ℕ) × Appends before (W.contents self.new.out.now) (take n (lines_text (given_lines count (record k { near = table.now }))))) }
+    {
+        for row in table.rows() {
+            self.near_row(row.as_slice())?;
+        }
+        Ok(())
+    }
+
+    /// All rows of `far`.
+    fn far_table(&mut self, table: &Table) -> Result<(), WriteFault>
+        ensures same_reference { self.new.out.ghost_name ≡ self.old.out.ghost_name }
+        ensures whole { (before : Option (List ℕ)) (count : ℕ) (k : CycleClaim) → HasTaken W.contents before count k self.old → k.far ≡ []
+            → OnOk result (HasTaken W.contents before count (record k { far = table.now }) self.new) }
+        ensures part { (before : Option (List ℕ)) (count : ℕ) (k : CycleClaim) → HasTaken W.contents before count k self.old → k.far ≡ []
+            → OnErr result ((n : ℕ) × Appends before (W.contents self.new.out.now) (take n (lines_text (given_lines count (record k { far = table.now }))))) }
+    {
+        for row in table.rows() {
+            self.far_row(row.as_slice())?;
+        }
+        Ok(())
+    }
+}
+
+/// Writes a claim of a cycle whose tables are there.
+pub(crate) fn write_cycle<W: Write>(
+    out: &mut W,
+    version: Version,
+    level: Level,
+    parts: &Links,
+    least: u32,
+    near: &Table,
+    far: &Table,
+) -> Result<(), WriteFault>
+    ensures whole { OnOk result (Appends (W.contents out.old) (W.contents out.new) (certificate_text (claim.Cycle version level parts.now least near.now far.now))) }
+    ensures part { OnErr result ((n : ℕ) × Appends (W.contents out.old) (W.contents out.new) (take n (certificate_text (claim.Cycle version level parts.now least near.now far.now)))) }
+{
+    let mut outgoing = Outgoing::new();
+    first_lines(
+        &mut outgoing,
+        out,
+        version,
+        level,
+        near.rows().len(),
+        parts,
+        least,
+    )?;
+    let mut writer = CycleWriter::behind(out, outgoing);
+    writer.near_table(near)?;
+    writer.far_table(far)?;
+    writer.end()
+}
+
+#[cfg(test)]
+mod tests;

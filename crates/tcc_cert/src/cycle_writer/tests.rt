@@ -1,0 +1,128 @@
+//! Texts row by row: each first line, and outputs that fail at each of their writes.
+use super::CycleWriter;
+use crate::{Links, Numbers, Table, Version, WriteFault};
+use std::alloc::{AllocError, Global};
+use std::io::{self, ErrorKind, Write};
+use std::process::Abort;
+use std::test::Fail;
+use tcc_graph::{Level, Link};
+
+fn one_link(alloc: Global) -> Result<Links, AllocError> {
+    Ok(Links::new(vec![in alloc; Link::Session { from: 0, to: 1 }]?))
+}
+
+/// The text of one row of each table.
+fn small(alloc: Global, version: Version, level: Level) -> Result<Vec<u8>, Fail> {
+    let links = one_link(alloc)?;
+    let mut out = Vec::new(alloc);
+    let mut writer = CycleWriter::begin(&mut out, version, level, 1, &links, 3)?;
+    writer.near_row(&[1])?;
+    writer.far_row(&[2])?;
+    writer.end()?;
+    Ok(out)
+}
+
+#[test]
+fn each_first_line(rt: HostRuntime) -> Result<(), Fail> {
+    let alloc = rt.alloc();
+    for (version, level, first) in [
+        (Version::One, Level::Causal, "tcc-certificate 1\n"),
+        (Version::One, Level::Atomic, "tcc-certificate 1 atomic\n"),
+        (Version::Two, Level::Causal, "tcc-certificate 2 causal\n"),
+        (Version::Two, Level::Atomic, "tcc-certificate 2 atomic\n"),
+    ] {
+        let mut wanted = first.as_bytes().to_vec(alloc)?;
+        wanted.extend_from_slice(b"cycle 1 1 3\nS 0 1\nnear\n1\nfar\n2\nend\n")?;
+        let text = small(alloc, version, level)?;
+        assert_eq!(&rt; text.as_slice(), wanted.as_slice());
+    }
+    Ok(())
+}
+
+/// An output whose writes work so many times.
+#[derive(Drop)]
+struct Failing {
+    taken: Vec<u8>,
+    works: usize,
+}
+
+impl Write for Failing {
+    fn write(&mut self, bytes: &[u8]) -> io::Result<usize> {
+        if self.works == 0 {
+            return Err(io::Error::from(ErrorKind::Other));
+        }
+        self.works -= 1;
+        self.taken.extend_from_slice(bytes)?;
+        Ok(bytes.len())
+    }
+
+    fn flush(&mut self) -> io::Result<()> {
+        Ok(())
+    }
+}
+
+/// Once a call has answered that a write failed, each later one does.
+fn note(rt: &impl Abort, has_failed: &mut bool, answer: Result<(), WriteFault>) {
+    if *has_failed {
+        assert_eq!(rt; answer, Err(WriteFault::Device));
+    }
+    *has_failed = answer.is_err();
+}
+
+const ROWS: usize = 3;
+
+/// Gives rows as long as they come to an output whose writes work so many times, and shows what went out, and whether
+/// a write failed.
+fn large(rt: &impl Abort, alloc: Global, works: usize) -> Result<(Vec<u8>, bool), AllocError> {
+    let links = one_link(alloc)?;
+    let row = vec![in alloc; 7u32; 4095]?;
+    let mut out = Failing {
+        taken: Vec::new(alloc),
+        works,
+    };
+    let mut has_failed = false;
+    match CycleWriter::begin(&mut out, Version::Two, Level::Causal, ROWS, &links, 3) {
+        Ok(mut writer) => {
+            for _ in 0..ROWS {
+                note(rt, &mut has_failed, writer.near_row(row.as_slice()));
+            }
+            for _ in 0..ROWS {
+                note(rt, &mut has_failed, writer.far_row(row.as_slice()));
+            }
+            note(rt, &mut has_failed, writer.end());
+        }
+        Err(_) => has_failed = true,
+    }
+    Ok((out.taken, has_failed))
+}
+
+// A row goes out in one write or two, and behind a failure nothing more does.
+#[test]
+fn failing_writes(rt: HostRuntime) -> Result<(), Fail> {
+    let alloc = rt.alloc();
+    let writes = 2 * ROWS + 1;
+    let (whole, has_failed) = large(&rt, alloc, writes)?;
+    assert!(&rt; !has_failed);
+    // Each of the six rows has 4,095 digits and as many spaces and line feeds.
+    assert_eq!(&rt; whole.len(), 25 + 12 + 6 + 5 + 2 * ROWS * 8190 + 4 + 4);
+    for works in 0..writes {
+        let (part, has_failed) = large(&rt, alloc, works)?;
+        assert!(&rt; has_failed, "after {works} writes");
+        assert!(&rt;
+            whole.as_slice().starts_with(part.as_slice()),
+            "after {works} writes"
+        );
+    }
+    Ok(())
+}
+
+#[test]
+fn given_back(rt: HostRuntime) -> Result<(), Fail> {
+    let alloc = rt.alloc();
+    let numbers = Numbers::new(vec![in alloc; 5u32, 6]?).into_vec();
+    assert_eq!(&rt; numbers.as_slice(), [5, 6].as_slice());
+    let rows = Table::new(vec![in alloc; Numbers::new(numbers)]?).into_vec();
+    assert_eq!(&rt; rows.len(), 1);
+    assert_eq!(&rt; one_link(alloc)?.into_vec().len(), 1);
+    Ok(())
+}
