@@ -1,5 +1,5 @@
 -- The rules on the tables, by weights and starts.
-use Rattle.std.proofs.Common.{◌≡◌, ◌≢◌, ◌<◌, ◌≤◌, ◌+◌, ◌-◌, ℕ, ◌⊎◌, inl, inr, List, [], length, get_or, arith, sym, subst, ◌∙◌}
+use Rattle.std.proofs.Common.{◌≡◌, ◌<◌, ◌≤◌, ◌+◌, ◌-◌, ℕ, ◌⊎◌, inl, inr, List, [], length, get_or, arith, sym, subst, ◌∙◌}
 use Rattle.std.specs.Prelude.{All}
 use Rattle.std.specs.List.{Contains}
 use Rattle.std.proofs.lemmas.Bool.{cases_lt}
@@ -9,7 +9,11 @@ use Rattle.tcc_cert.specs.declared.version.Version.{Version}
 use Rattle.tcc_cert.specs.Tables.{entry, lowest, far_entry, row_of, HasSize, IsCapped, IsFirstPlace}
 use Rattle.tcc_cert.specs.Rules.{HoldsEverywhere}
 use Rattle.tcc_check.specs.Weights.{unlinked, PairWeighs, ContradictionWeighs, LinkWeighs, IsLeastRow, IsLeastTable, IsLowered, AreLowered, IsLongLink, IsLongStep}
-use Rattle.tcc_check.specs.Searches.{AreStartRows, IsLongStartFrom}
+use Rattle.tcc_graph.specs.Relations.{IsSessionPair}
+use Rattle.tcc_graph.proofs.Pairs.{session_below}
+use Rattle.tcc_check.specs.Runs.{IsInRun, AreRuns}
+use Rattle.tcc_check.specs.Searches.{starts_of, IsOvershot, AreStartRows, AreRunsLight, IsLongRun, IsLongStartFrom}
+use Rattle.tcc_check.proofs.Carried.{in_run}
 use Rattle.tcc_check.proofs.First.{first_as, nowhere_as}
 
 -- a capped table has nothing above the limit, past its ends neither
@@ -76,30 +80,41 @@ pub capped_more : (most more : ℕ) (table : List (List ℕ)) → most ≤ more 
 capped_more most more table le cap a d l b e m = omega (arith, cap a d l b e m)
 
 -- the starts of links are within the table
-pub starts_inside : (weights table : List (List ℕ)) → HasSize (length table) (length table) weights → (starts : List (List (ℕ × ℕ))) → AreStartRows weights starts → All (λ links. All (λ link. link.0 < length table) links) starts
-starts_inside weights table size starts rows k d l j e m =
+pub starts_inside : (least : ℕ) (begins : List ℕ) (weights table : List (List ℕ)) → HasSize (length table) (length table) weights → (starts : List (List (ℕ × ℕ))) → AreStartRows least begins weights starts → All (λ links. All (λ link. link.0 < length table) links) starts
+starts_inside least begins weights table size starts rows k d l j e m =
     let there : Contains (get_or starts k d) (get_or (get_or starts k d) j e) = (j, m, get_or_default (get_or starts k d) j (get_or (get_or starts k d) j e) e m) in
     let inside = ((rows.rows k (omega (arith, rows.long))).only (get_or (get_or starts k d) j e) (subst (λ (links : List (ℕ × ℕ)). Contains links (get_or (get_or starts k d) j e)) (get_or_default starts k d [] l) there)).0 in
     omega (arith, inside, size.wide k [] (omega (arith, rows.long)))
 
--- a search of the starts finds the long steps
-module _ (version : Version) (weights table : List (List ℕ)) (size : HasSize (length table) (length table) weights) (cap : IsCapped unlinked table) (starts : List (List (ℕ × ℕ))) (rows : AreStartRows weights starts) where
-  step_of_start : (at : ℕ × ℕ) → IsLongStartFrom version starts table at → IsLongStep version weights table at
-  step_of_start at (l, (m, (low, (link, there, from, more)))) =
+-- a search of the runs and the starts finds the long steps
+module _ (version : Version) (least : ℕ) (begins : List ℕ) (weights table : List (List ℕ)) (size : HasSize (length table) (length table) weights) (light : AreRunsLight begins weights) (cap : IsCapped least table) (starts : List (List (ℕ × ℕ))) (rows : AreStartRows least begins weights starts) where
+  step_of_start : (at : ℕ × ℕ) → IsLongStartFrom version begins starts table at → IsLongStep version weights table at
+  step_of_start at (l, (m, (low, inl (u, run, from, more)))) =
+      (l, (m, (low, (u, omega (arith, run.0), from, omega (arith, light u at.1 (omega (arith, size.long)) run)))))
+  step_of_start at (l, (m, (low, inr (link, there, from, more)))) =
       let here = (rows.rows at.1 (omega (arith, size.long))).only link there in
       (l, (m, (low, (link.0, omega (arith, here.0, size.wide at.1 [] (omega (arith, size.long))), from, omega (arith, here.1)))))
 
-  start_of_step : (at : ℕ × ℕ) → IsLongStep version weights table at → IsLongStartFrom version starts table at
-  start_of_step at (l, (m, (low, (u, k, from, more)))) =
-      let linked : entry weights at.1 u ≢ unlinked = λ e. absurd (omega (arith, far_capped unlinked version table at.0 at.1 cap)) in
-      let there = (rows.rows at.1 (omega (arith, size.long))).each u (omega (arith, size.wide at.1 [] (omega (arith, size.long)))) linked in
-      (l, (m, (low, ((u, entry weights at.1 u), there, from, more))))
+  start_of_step : (at : ℕ × ℕ) → IsLongStep version weights table at → IsLongStartFrom version begins starts table at
+  start_of_step at (l, (m, (low, (u, k, from, more)))) = (l, (m, (low, go (in_run (get_or begins at.1 0) at.1 u))))
+    where
+      go : IsInRun (get_or begins at.1 0) at.1 u ⊎ (IsInRun (get_or begins at.1 0) at.1 u → ⊥) → IsLongRun (get_or begins at.1 0) (row_of table at.0) (lowest version at.0) at.1 ⊎ IsOvershot (starts_of starts at.1) (row_of table at.0) (lowest version at.0) (get_or (row_of table at.0) (at.1 - lowest version at.0) 0)
+      go (inl run) = inl (u, run, from, omega arith)
+      go (inr out) =
+          let there = (rows.rows at.1 (omega (arith, size.long))).each u (omega (arith, size.wide at.1 [] (omega (arith, size.long)))) (omega (arith, far_capped least version table at.0 at.1 cap)) out in
+          inr ((u, entry weights at.1 u), there, from, more)
 
-  pub steps_first : (at : ℕ × ℕ) → IsFirstPlace (IsLongStartFrom version starts table) at → IsFirstPlace (IsLongStep version weights table) at
-  steps_first = first_as (IsLongStartFrom version starts table) (IsLongStep version weights table) step_of_start start_of_step
+  pub steps_first : (at : ℕ × ℕ) → IsFirstPlace (IsLongStartFrom version begins starts table) at → IsFirstPlace (IsLongStep version weights table) at
+  steps_first = first_as (IsLongStartFrom version begins starts table) (IsLongStep version weights table) step_of_start start_of_step
 
-  pub steps_hold : HoldsEverywhere (IsLongStartFrom version starts table) → HoldsEverywhere (IsLongStep version weights table)
-  steps_hold = nowhere_as (IsLongStartFrom version starts table) (IsLongStep version weights table) start_of_step
+  pub steps_hold : HoldsEverywhere (IsLongStartFrom version begins starts table) → HoldsEverywhere (IsLongStep version weights table)
+  steps_hold = nowhere_as (IsLongStartFrom version begins starts table) (IsLongStep version weights table) start_of_step
+
+-- pairs of runs weigh nothing, as causal pairs and as links
+pub light_runs : (h : History) (begins : List ℕ) (weighs : ℕ → ℕ → ℕ → Type 0) (weights : List (List ℕ)) → AreRuns h begins → ((u v : ℕ) → IsSessionPair h u v → weighs v u 0) → IsLeastTable (count h) weighs weights → AreRunsLight begins weights
+light_runs h begins weighs weights runs free table u v l p =
+    let pair = runs.pairs u v (omega (arith, table.size.long)) p in
+    omega (arith, (table.rows v (omega (arith, table.size.long))).low u 0 (omega (arith, (session_below h u v pair).0, table.size.wide v [] l)) (free u v pair))
 
 -- the least weights tell which links and steps are long
 module _ (n : ℕ) (weighs : ℕ → ℕ → ℕ → Type 0) (version : Version) (weights table : List (List ℕ)) (least : IsLeastTable n weighs weights) (long : length table ≡ n) (cap : IsCapped unlinked table) where

@@ -1,3 +1,4 @@
+pub mod Carried
 pub mod Lowering
 pub mod Seen
 pub mod Writers

@@ -1,5 +1,5 @@
 -- Tables of weights, as far as they are made.
-use Rattle.std.proofs.Common.{◌≡◌, ◌≢◌, ◌<◌, ◌≤◌, ◌+◌, ℕ, zero, suc, false, true, ◌⊎◌, inl, inr, List, [], ◌∷◌, ◌++◌, length, get_or, set, replicate, arith, refl, sym, ap, subst, ◌∙◌}
+use Rattle.std.proofs.Common.{◌≡◌, ◌<◌, ◌≤◌, ◌+◌, ℕ, zero, suc, false, true, ◌⊎◌, inl, inr, List, [], ◌∷◌, ◌++◌, length, get_or, set, replicate, arith, refl, sym, ap, subst, ◌∙◌}
 use Rattle.std.specs.Prelude.{All}
 use Rattle.std.specs.List.{Contains}
 use Rattle.std.proofs.lemmas.Bool.{cases_eq, both_ways}
@@ -8,6 +8,7 @@ use Rattle.std.proofs.lemmas.List.Elements.{Contains-append_cases}
 use Rattle.tcc_reads.specs.History.{History, count}
 use Rattle.tcc_graph.specs.Relations.{causal_pair}
 use Rattle.tcc_cert.specs.Tables.{entry, row_of, HasSize}
+use Rattle.tcc_check.specs.Runs.{IsInRun}
 use Rattle.tcc_check.specs.Weights.{unlinked, PairWeighs, ContradictionWeighs, IsLeastRow, IsLeastTable, IsLowered, AreLowered, AreStarts}
 use Rattle.tcc_check.specs.Searches.{starts_of, AreStartRows}
 use Rattle.tcc_graph.proofs.Pairs.{pair_kinds, pair_from_kinds}
@@ -108,27 +109,27 @@ all_lowered i h table old rows all w = record {
 -- ---- starts
 
 -- the starts among the first numbers of a row
-pub record AreStartsTo (i : ℕ) (row : List ℕ) (starts : List (ℕ × ℕ)) : Type 0 where
-  pub each : (u : ℕ) → u < i → get_or row u 0 ≢ unlinked → Contains starts (u, get_or row u 0)
+pub record AreStartsTo (i : ℕ) (least begin end : ℕ) (row : List ℕ) (starts : List (ℕ × ℕ)) : Type 0 where
+  pub each : (u : ℕ) → u < i → get_or row u 0 + 1 < least → (IsInRun begin end u → ⊥) → Contains starts (u, get_or row u 0)
   pub only : (start : ℕ × ℕ) → Contains starts start → (start.0 < length row) × (get_or row start.0 0 ≡ start.1)
 
-pub no_starts : (row : List ℕ) → AreStartsTo 0 row []
-no_starts row = record { each = λ u l p. absurd (omega arith); only = λ s w. absurd (omega (arith, w.1)) }
+pub no_starts : (least begin end : ℕ) (row : List ℕ) → AreStartsTo 0 least begin end row []
+no_starts least begin end row = record { each = λ u l p out. absurd (omega arith); only = λ s w. absurd (omega (arith, w.1)) }
 
-pub start_skipped : (i : ℕ) (row : List ℕ) (starts : List (ℕ × ℕ)) → get_or row i 0 ≡ unlinked → AreStartsTo i row starts → AreStartsTo (i + 1) row starts
-start_skipped i row starts none h = record { each = λ u l p. go u l p (cases_eq u i); only = h.only }
+pub start_skipped : (i least begin end : ℕ) (row : List ℕ) (starts : List (ℕ × ℕ)) → (get_or row i 0 + 1 < least → IsInRun begin end i) → AreStartsTo i least begin end row starts → AreStartsTo (i + 1) least begin end row starts
+start_skipped i least begin end row starts none h = record { each = λ u l p out. go u l p out (cases_eq u i); only = h.only }
   where
-    go : (u : ℕ) → u < i + 1 → get_or row u 0 ≢ unlinked → (u ≡ i) ⊎ (u ≡ i → ⊥) → Contains starts (u, get_or row u 0)
-    go u l p (inl same) = absurd (p (ap (λ k. get_or row k 0) same ∙ none))
-    go u l p (inr apart) = h.each u (omega arith) p
+    go : (u : ℕ) → u < i + 1 → get_or row u 0 + 1 < least → (IsInRun begin end u → ⊥) → (u ≡ i) ⊎ (u ≡ i → ⊥) → Contains starts (u, get_or row u 0)
+    go u l p out (inl same) = absurd (out (subst (λ (z : ℕ). IsInRun begin end z) (sym same) (none (subst (λ (z : ℕ). get_or row z 0 + 1 < least) same p))))
+    go u l p out (inr apart) = h.each u (omega arith) p out
 
-pub start_added : (i : ℕ) (row : List ℕ) (starts : List (ℕ × ℕ)) → i < length row → AreStartsTo i row starts → AreStartsTo (i + 1) row (starts ++ (i, get_or row i 0) ∷ [])
-start_added i row starts below h = record { each = λ u l p. go u l p (cases_eq u i); only = λ s w. only s (Contains-append_cases starts ((i, get_or row i 0) ∷ []) s w) }
+pub start_added : (i least begin end : ℕ) (row : List ℕ) (starts : List (ℕ × ℕ)) → i < length row → AreStartsTo i least begin end row starts → AreStartsTo (i + 1) least begin end row (starts ++ (i, get_or row i 0) ∷ [])
+start_added i least begin end row starts below h = record { each = λ u l p out. go u l p out (cases_eq u i); only = λ s w. only s (Contains-append_cases starts ((i, get_or row i 0) ∷ []) s w) }
   where
-    go : (u : ℕ) → u < i + 1 → get_or row u 0 ≢ unlinked → (u ≡ i) ⊎ (u ≡ i → ⊥) → Contains (starts ++ (i, get_or row i 0) ∷ []) (u, get_or row u 0)
-    go u l p (inl same) = rw same (length starts, omega (arith, length_push starts (i, get_or row i 0)), get_or_push starts (i, get_or row i 0) (i, get_or row i 0) (length starts) refl)
-    go u l p (inr apart) =
-        let w = h.each u (omega arith) p in
+    go : (u : ℕ) → u < i + 1 → get_or row u 0 + 1 < least → (IsInRun begin end u → ⊥) → (u ≡ i) ⊎ (u ≡ i → ⊥) → Contains (starts ++ (i, get_or row i 0) ∷ []) (u, get_or row u 0)
+    go u l p out (inl same) = rw same (length starts, omega (arith, length_push starts (i, get_or row i 0)), get_or_push starts (i, get_or row i 0) (i, get_or row i 0) (length starts) refl)
+    go u l p out (inr apart) =
+        let w = h.each u (omega arith) p out in
         (w.0, omega (arith, w.1, length_push starts (i, get_or row i 0)), get_or_append_left starts ((i, get_or row i 0) ∷ []) (u, get_or row u 0) w.0 w.1 ∙ w.2)
 
     only : (s : ℕ × ℕ) → Contains starts s ⊎ Contains ((i, get_or row i 0) ∷ []) s → (s.0 < length row) × (get_or row s.0 0 ≡ s.1)
@@ -136,29 +137,29 @@ start_added i row starts below h = record { each = λ u l p. go u l p (cases_eq 
     only s (inr (zero, l, e)) = rw (← e) (below, refl)
     only s (inr (suc k, l, e)) = absurd (omega arith)
 
-pub all_starts : (i : ℕ) (row : List ℕ) (starts : List (ℕ × ℕ)) → length row ≤ i → AreStartsTo i row starts → AreStarts row starts
-all_starts i row starts all h = record { each = λ u l p. h.each u (omega arith) p; only = h.only }
+pub all_starts : (i least begin end : ℕ) (row : List ℕ) (starts : List (ℕ × ℕ)) → length row ≤ i → AreStartsTo i least begin end row starts → AreStarts least begin end row starts
+all_starts i least begin end row starts all h = record { each = λ u l p out. h.each u (omega arith) p out; only = h.only }
 
 -- the starts of the first rows
-pub record AreStartRowsTo (i : ℕ) (weights : List (List ℕ)) (starts : List (List (ℕ × ℕ))) : Type 0 where
+pub record AreStartRowsTo (i : ℕ) (least : ℕ) (begins : List ℕ) (weights : List (List ℕ)) (starts : List (List (ℕ × ℕ))) : Type 0 where
   pub long : length starts ≡ i
-  pub rows : (end : ℕ) → end < i → AreStarts (row_of weights end) (starts_of starts end)
+  pub rows : (end : ℕ) → end < i → AreStarts least (get_or begins end 0) end (row_of weights end) (starts_of starts end)
 
-pub no_start_rows : (weights : List (List ℕ)) → AreStartRowsTo 0 weights []
-no_start_rows weights = record { long = refl; rows = λ end l. absurd (omega arith) }
+pub no_start_rows : (least : ℕ) (begins : List ℕ) (weights : List (List ℕ)) → AreStartRowsTo 0 least begins weights []
+no_start_rows least begins weights = record { long = refl; rows = λ end l. absurd (omega arith) }
 
-pub one_more_start_row : (i : ℕ) (weights : List (List ℕ)) (starts : List (List (ℕ × ℕ))) (more : List (ℕ × ℕ)) → AreStarts (row_of weights i) more → AreStartRowsTo i weights starts → AreStartRowsTo (i + 1) weights (starts ++ more ∷ [])
-one_more_start_row i weights starts more are h = record {
+pub one_more_start_row : (i least : ℕ) (begins : List ℕ) (weights : List (List ℕ)) (starts : List (List (ℕ × ℕ))) (more : List (ℕ × ℕ)) → AreStarts least (get_or begins i 0) i (row_of weights i) more → AreStartRowsTo i least begins weights starts → AreStartRowsTo (i + 1) least begins weights (starts ++ more ∷ [])
+one_more_start_row i least begins weights starts more are h = record {
   long = length_push starts more ∙ ap (λ k. k + 1) h.long;
   rows = λ end l. rows end l (cases_eq end i);
 }
   where
-    rows : (end : ℕ) → end < i + 1 → (end ≡ i) ⊎ (end ≡ i → ⊥) → AreStarts (row_of weights end) (starts_of (starts ++ more ∷ []) end)
-    rows end l (inl same) = rw (get_or_push starts more [] end (h.long ∙ sym same)) (subst (λ (z : ℕ). AreStarts (row_of weights z) more) (sym same) are)
+    rows : (end : ℕ) → end < i + 1 → (end ≡ i) ⊎ (end ≡ i → ⊥) → AreStarts least (get_or begins end 0) end (row_of weights end) (starts_of (starts ++ more ∷ []) end)
+    rows end l (inl same) = rw (get_or_push starts more [] end (h.long ∙ sym same)) (subst (λ (z : ℕ). AreStarts least (get_or begins z 0) z (row_of weights z) more) (sym same) are)
     rows end l (inr apart) = let inside : end < length starts = omega (arith, h.long) in rw (get_or_append_left starts (more ∷ []) [] end inside) (h.rows end (omega arith))
 
-pub all_start_rows : (i : ℕ) (weights : List (List ℕ)) (starts : List (List (ℕ × ℕ))) → i ≡ length weights → AreStartRowsTo i weights starts → AreStartRows weights starts
-all_start_rows i weights starts all h = record { long = h.long ∙ all; rows = λ end l. h.rows end (omega arith) }
+pub all_start_rows : (i least : ℕ) (begins : List ℕ) (weights : List (List ℕ)) (starts : List (List (ℕ × ℕ))) → i ≡ length weights → AreStartRowsTo i least begins weights starts → AreStartRows least begins weights starts
+all_start_rows i least begins weights starts all h = record { long = h.long ∙ all; rows = λ end l. h.rows end (omega arith) }
 
 -- ---- rows without links
 

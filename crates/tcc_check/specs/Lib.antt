@@ -1,3 +1,4 @@
+pub mod Runs
 pub mod Weights
 pub mod Searches
 pub mod Links

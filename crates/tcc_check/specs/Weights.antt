@@ -6,6 +6,7 @@ use Rattle.tcc_graph.specs.Links.{MayContradict}
 use Rattle.tcc_graph.specs.Keys.{writers}
 use Rattle.tcc_cert.specs.declared.version.Version.{Version}
 use Rattle.tcc_cert.specs.Tables.{entry, lowest, far_entry, row_of, HasSize}
+use Rattle.tcc_check.specs.Runs.{IsInRun}
 
 -- stands where there is no link: no number of a table is above it
 abbrev pub unlinked : ℕ
@@ -63,7 +64,7 @@ IsLongStep version weights table at =
     (at.0 < length table) × ((at.1 < length table) × ((lowest version at.0 ≤ at.1) × ((u : ℕ) × (u < length table) × (lowest version at.0 ≤ u)
     × (far_entry version table at.0 u + 1 + entry weights at.1 u < far_entry version table at.0 at.1))))
 
--- the starts of links in a row, with their weights
-pub record AreStarts (row : List ℕ) (starts : List (ℕ × ℕ)) : Type 0 where
-  pub each : (u : ℕ) → u < length row → slice_index row u ≢ unlinked → Contains starts (u, slice_index row u)
+-- the starts of the links to an end, with their weights, but those in the end's run and those that take the cost or more
+pub record AreStarts (least : ℕ) (begin : ℕ) (end : ℕ) (row : List ℕ) (starts : List (ℕ × ℕ)) : Type 0 where
+  pub each : (u : ℕ) → u < length row → slice_index row u + 1 < least → (IsInRun begin end u → ⊥) → Contains starts (u, slice_index row u)
   pub only : (start : ℕ × ℕ) → Contains starts start → (start.0 < length row) × (slice_index row start.0 ≡ start.1)

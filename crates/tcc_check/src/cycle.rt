@@ -7,9 +7,11 @@ ghost use Rattle.tcc_cert.specs.Tables.{HasSize, HasFarSize, IsCapped};
 ghost use Rattle.tcc_cert.specs.CycleRules.{HasRightSizes};
 ghost use Rattle.tcc_check.specs.Verdicts.{IsAnswer, bounds_rules, cycle_rules};
 ghost use Rattle.tcc_check.specs.TableRules.{table_rules, near_steps};
-ghost use Rattle.tcc_check.specs.Weights.{unlinked};
+ghost use Rattle.tcc_check.specs.Runs.{HasRuns};
+ghost use Rattle.tcc_check.specs.Searches.{AreRunsLight};
 
 use crate::links::{costs, first_wrong_link};
+use crate::runs::run_begins;
 use crate::searching::{first_long_link, first_long_step, first_short_return};
 use crate::sizes::{are_links_below, has_far_size, has_size, is_capped};
 use crate::verdict::{Rule, Verdict, rejected};
@@ -44,14 +46,19 @@ fn has_right_sizes(
 fn table_verdict(
     alloc: Global,
     version: Version,
+    least: u32,
+    begins: &[u32],
     weights: &[Numbers],
     table: &[Numbers],
     link: Rule,
     step: Option<Rule>,
 ) -> Result<Verdict, NoMemory>
+    requires begins { length begins.now ≡ length table.now }
+    requires runs { HasRuns begins.now }
     requires weights { HasSize (length table.now) (length table.now) weights.now }
+    requires light { AreRunsLight begins.now weights.now }
     requires table { HasFarSize version (length table.now) table.now }
-    requires capped { IsCapped unlinked table.now }
+    requires capped { IsCapped least table.now }
     requires few { length table.now < 2 ^ 32 }
     ensures { IfOk result (IsAnswer (table_rules version weights.now table.now link step)) }
 {
@@ -61,8 +68,8 @@ fn table_verdict(
     let Some(step) = step else {
         return Ok(Verdict::Accepted);
     };
-    let starts = start_rows(alloc, weights)?;
-    match first_long_step(version, &starts, table) {
+    let starts = start_rows(alloc, begins, weights, least)?;
+    match first_long_step(version, begins, &starts, table) {
         Some(at) => Ok(Verdict::Rejected { rule: step, at }),
         None => Ok(Verdict::Accepted),
     }
@@ -95,11 +102,14 @@ fn bounds_verdict(
     requires far_capped { IsCapped least far.now }
     ensures { IfOk result (IsAnswer (bounds_rules graph.now version level least near.now far.now)) }
 {
+    let begins = run_begins(alloc, graph)?;
     let pairs = pair_weights(alloc, graph)?;
     let steps = near_steps(level);
     match table_verdict(
         alloc,
         Version::One,
+        least,
+        &begins,
         pairs.rows(),
         near,
         Rule::NearPairs,
@@ -110,7 +120,16 @@ fn bounds_verdict(
     }
     let links = lowered(alloc, graph, near, pairs.rows())?;
     let steps = Some(Rule::FarSteps);
-    match table_verdict(alloc, version, links.rows(), far, Rule::FarLinks, steps)? {
+    match table_verdict(
+        alloc,
+        version,
+        least,
+        &begins,
+        links.rows(),
+        far,
+        Rule::FarLinks,
+        steps,
+    )? {
         Verdict::Accepted => {}
         of_far => return Ok(of_far),
     }

@@ -7,6 +7,7 @@ pub mod laws;
 mod links;
 mod order;
 mod places;
+mod runs;
 mod searching;
 mod sizes;
 mod starts;

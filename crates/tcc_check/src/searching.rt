@@ -3,10 +3,12 @@ ghost use Rattle.std.specs.Prelude.{◌≡◌, ◌<◌, ◌≤◌, ◌+◌, ◌^
 ghost use Rattle.tcc_cert.specs.Tables.{lowest, HasSize, HasFarSize, IsFirstPlace};
 ghost use Rattle.tcc_cert.specs.Rules.{HoldsEverywhere};
 ghost use Rattle.tcc_check.specs.Weights.{IsLongLink};
+ghost use Rattle.tcc_check.specs.Runs.{HasRuns};
 ghost use Rattle.tcc_check.specs.Searches.{HoldsBelow, IsFirstBelow, IsLongEnd, IsOvershot, IsLongStart, IsLongStartFrom, IsShortReturn};
 
 use crate::sizes::lowest;
 use crate::starts::Starts;
+use crate::weights::UNLINKED;
 use tcc_cert::{Numbers, Version};
 
 /// The first end to which the link from the start takes less than the row of the start has, whose numbers are those
@@ -67,19 +69,34 @@ fn is_overshot(starts: &[(u32, u32)], row: &[u32], low: u32, number: u32) -> boo
     false
 }
 
-/// The first end to which some link takes less than the row has.
-fn first_overshot(starts: &[Starts], row: &[u32], low: u32) -> Option<u32>
+/// The first end to which some link takes less than the row has, after what the row has for its start: a session pair
+/// of the end's run, whose least number is carried along, or one of the other links.
+fn first_overshot(begins: &[u32], starts: &[Starts], row: &[u32], low: u32) -> Option<u32>
     requires long { length starts.now ≡ low + length row.now }
+    requires begins { length begins.now ≡ low + length row.now }
     requires inside { All (λ links. All (λ link. link.0 < low + length row.now) links) starts.now }
+    requires runs { HasRuns begins.now }
     requires few { low + length row.now < 2 ^ 32 }
     ensures { MatchOption result
-        (HoldsBelow (low + length row.now) (IsLongStart starts.now row.now low))
-        (IsFirstBelow (low + length row.now) (IsLongStart starts.now row.now low)) }
+        (HoldsBelow (low + length row.now) (IsLongStart begins.now starts.now row.now low))
+        (IsFirstBelow (low + length row.now) (IsLongStart begins.now starts.now row.now low)) }
 {
+    let mut opening = UNLINKED;
+    let mut least = UNLINKED;
     for (place, number) in row.iter().enumerate() {
         let end = low as usize + place;
+        if begins[end] as usize == end {
+            least = opening;
+        }
+        if u64::from(least) + 1 < u64::from(*number) {
+            return Some(end as u32);
+        }
         if is_overshot(starts[end].as_slice(), row, low, *number) {
             return Some(end as u32);
+        }
+        least = least.min(*number);
+        if end == 0 {
+            opening = *number;
         }
     }
     None
@@ -88,20 +105,23 @@ fn first_overshot(starts: &[Starts], row: &[u32], low: u32) -> Option<u32>
 /// The first place at which some link, after what the table has for its start, takes less than the table has.
 pub(crate) fn first_long_step(
     version: Version,
+    begins: &[u32],
     starts: &[Starts],
     table: &[Numbers],
 ) -> Option<(u32, u32)>
     requires long { length starts.now ≡ length table.now }
+    requires begins { length begins.now ≡ length table.now }
     requires inside { All (λ links. All (λ link. link.0 < length table.now) links) starts.now }
+    requires runs { HasRuns begins.now }
     requires table { HasFarSize version (length table.now) table.now }
     requires few { length table.now < 2 ^ 32 }
     ensures { MatchOption result
-        (HoldsEverywhere (IsLongStartFrom version starts.now table.now))
-        (IsFirstPlace (IsLongStartFrom version starts.now table.now)) }
+        (HoldsEverywhere (IsLongStartFrom version begins.now starts.now table.now))
+        (IsFirstPlace (IsLongStartFrom version begins.now starts.now table.now)) }
 {
     for (start, row) in table.iter().enumerate() {
         let low = lowest(version, start as u32);
-        if let Some(end) = first_overshot(starts, row.as_slice(), low) {
+        if let Some(end) = first_overshot(begins, starts, row.as_slice(), low) {
             return Some((start as u32, end));
         }
     }

@@ -11,6 +11,10 @@ use tcc_txn::{NoMemory, snapshot_of};
 /// a/1 writes x, and a/2 reads its initial value.
 const STALE: &str = "a,begin\na,w,x,1\na,commit\na,begin\na,r,x,0\na,commit\n";
 
+/// The same, and a/3 writes y.
+const LONGER: &str = "a,begin\na,w,x,1\na,commit\na,begin\na,r,x,0\na,commit\n\
+    a,begin\na,w,y,1\na,commit\n";
+
 /// a/1 and b/1 write x, and c/1 reads both values.
 const TORN: &str = "a,begin\na,w,x,1\na,commit\nb,begin\nb,w,x,2\nb,commit\n\
     c,begin\nc,r,x,1\nc,r,x,2\nc,commit\n";
@@ -180,6 +184,25 @@ fn a_stale_read(rt: HostRuntime) -> Result<(), Fail> {
         ("2 atomic", links, near, upward, None),
     ];
     assert_cycles(&rt, rt.alloc(), STALE, rows)?;
+    Ok(())
+}
+
+/// From a/3 the tables have least for a/1, which is two places before a/3 itself.
+#[test]
+fn a_session_of_three(rt: HostRuntime) -> Result<(), Fail> {
+    use Rule::{FarSteps, NearSteps};
+    let links = "cycle 4 2 3\nS 0 1\nD 1 0 x 2 1\nS 1 2\n";
+    let near = "3 1 1 1\n3 3 1 1\n3 3 3 1\n3 3 3 3\n";
+    let skipped = "3 1 1 1\n3 3 1 1\n3 3 3 1\n3 0 1 2\n";
+    let far = "3 1 1 1\n2 3 1 1\n3 3 3 1\n3 3 3 3\n";
+    let leapt = "3 1 1 1\n2 3 1 1\n3 3 3 1\n2 0 1 2\n";
+    let rows: &[Row] = &[
+        ("1", links, near, far, None),
+        ("2 causal", links, near, "3 1 1 1\n3 1 1\n3 1\n3\n", None),
+        ("1", links, skipped, far, Some((NearSteps, 3, 3))),
+        ("1", links, near, leapt, Some((FarSteps, 3, 3))),
+    ];
+    assert_cycles(&rt, rt.alloc(), LONGER, rows)?;
     Ok(())
 }
 

@@ -5,14 +5,15 @@ ghost use Rattle.tcc_cert.specs.Tables.{entry, HasSize};
 ghost use Rattle.tcc_check.specs.Weights.{unlinked, PairWeighs, ContradictionWeighs, WriterWeighs, KeyWeighs, IsLeastRow, IsLeastTable, IsLowered, AreLowered, AreStarts};
 ghost use Rattle.tcc_check.specs.Searches.{AreStartRows};
 
+use crate::runs::is_in_run;
 use crate::starts::Starts;
 use std::alloc::Global;
 use tcc_cert::{Numbers, Table};
 use tcc_graph::Graph;
 use tcc_txn::{Name, NoMemory};
 
-/// Stands where there is no link.
-const UNLINKED: u32 = u32::MAX;
+/// Stands where there is no link; no number of a table is above it.
+pub(crate) const UNLINKED: u32 = u32::MAX;
 
 /// For each start the weight of its pair with `end`.
 fn pair_row(alloc: Global, graph: &Graph, end: u32) -> Result<Vec<u32>, NoMemory>
@@ -121,29 +122,42 @@ pub(crate) fn no_weights(alloc: Global, count: usize) -> Result<Table, NoMemory>
     Ok(Table::new(rows))
 }
 
-/// The starts of links in a row, with their weights.
-fn starts_in(alloc: Global, row: &[u32]) -> Result<Starts, NoMemory>
+/// The starts of the other links to `end`, those that take less than `least`, with their weights; its session goes on
+/// from `begin`.
+fn starts_in(
+    alloc: Global,
+    row: &[u32],
+    begin: u32,
+    end: u32,
+    least: u32,
+) -> Result<Starts, NoMemory>
     requires { length row.now < 2 ^ 32 }
-    ensures { IfOk result (λ starts. AreStarts row.now starts) }
+    ensures { IfOk result (λ starts. AreStarts least begin end row.now starts) }
 {
     let mut starts = Vec::new(alloc);
     for (start, weight) in row.iter().enumerate() {
-        if *weight != UNLINKED {
+        if u64::from(*weight) + 1 < u64::from(least) && !is_in_run(begin, end, start as u32) {
             starts.push((start as u32, *weight))?;
         }
     }
     Ok(Starts::new(starts))
 }
 
-/// The starts of the links to each end.
-pub(crate) fn start_rows(alloc: Global, weights: &[Numbers]) -> Result<Vec<Starts>, NoMemory>
+/// The starts of the other links to each end.
+pub(crate) fn start_rows(
+    alloc: Global,
+    begins: &[u32],
+    weights: &[Numbers],
+    least: u32,
+) -> Result<Vec<Starts>, NoMemory>
     requires size { HasSize (length weights.now) (length weights.now) weights.now }
+    requires begins { length begins.now ≡ length weights.now }
     requires few { length weights.now < 2 ^ 32 }
-    ensures { IfOk result (λ starts. AreStartRows weights.now starts.items) }
+    ensures { IfOk result (λ starts. AreStartRows least begins.now weights.now starts.items) }
 {
     let mut starts = Vec::new(alloc);
-    for row in weights {
-        starts.push(starts_in(alloc, row.as_slice())?)?;
+    for (end, row) in weights.iter().enumerate() {
+        starts.push(starts_in(alloc, row.as_slice(), begins[end], end as u32, least)?)?;
     }
     Ok(starts)
 }

@@ -6,13 +6,14 @@ use Rattle.tcc_cert.specs.declared.version.Version.{Version}
 use Rattle.tcc_cert.specs.declared.version.Version.TheVariants.{One}
 use Rattle.tcc_cert.specs.Tables.{HasSize, HasFarSize, IsCapped}
 use Rattle.tcc_cert.specs.CycleRules.{BreaksNearPair, BreaksNearStep, BreaksFarLink, BreaksFarStep, BreaksReturn}
-use Rattle.tcc_check.specs.Weights.{unlinked, PairWeighs, AreLowered, IsLeastTable}
+use Rattle.tcc_check.specs.Runs.{AreRuns}
+use Rattle.tcc_check.specs.Weights.{unlinked, PairWeighs, LinkWeighs, AreLowered, IsLeastTable}
 use Rattle.tcc_check.specs.declared.verdict.Rule.TheVariants.{NearPairs, NearSteps, FarLinks, FarSteps, Returns}
 use Rattle.tcc_check.specs.declared.verdict.Verdict.{Verdict}
 use Rattle.tcc_check.specs.declared.verdict.Verdict.TheVariants as verdict
 use Rattle.tcc_check.specs.Verdicts.{Asked, by_places, IsAnswer}
 use Rattle.tcc_check.specs.TableRules.{table_rules, near_steps}
-use Rattle.tcc_check.proofs.Bounds.{capped_more, link_table}
+use Rattle.tcc_check.proofs.Bounds.{capped_more, link_table, light_runs}
 use Rattle.tcc_check.proofs.Rules.{near_answer, far_answer, return_first, return_holds}
 use Rattle.tcc_check.proofs.Asked.{answer_early, answer_later, all_hold}
 use Rattle.tcc_check.proofs.cycle.bounds_verdict.Goals as goal
@@ -89,3 +90,11 @@ returns c =
     let asked : IsAnswer (table_rules One c.rows.result.now c.args.near.now NearPairs (near_steps c.args.level)) c.in_ok-of_near.of_near = rw (← c.near_steps-steps.ensures) c.in_ok-of_near.ensures in
     of_last c.args.graph.now c.args.version c.args.level c.args.near.now c.args.far.now c.rows.result.now c.rows-3.result.now c.args.least c.in_ok-of_near.of_near c.in_ok-of_far.of_far verdict.Accepted c.ranges.least.fits c.requires.near c.requires.near_capped c.requires.far c.requires.far_capped table low asked c.in-Accepted.is c.in_ok-of_far.ensures c.in-Accepted-2.is
     (return_holds c.args.graph.now c.args.version c.args.far.now c.args.least c.requires.far.long c.in-None.ensures, tt)
+
+pub table_verdict-requires-2-clause-light : goal.table_verdict-requires-2-clause-light
+table_verdict-requires-2-clause-light c =
+    let h = c.args.graph.now in
+    let table : IsLeastTable (count h) (PairWeighs h) c.rows.result.now = search rules in
+    let low : AreLowered h c.args.near.now c.rows.result.now c.rows-3.result.now = search rules in
+    let runs : AreRuns h c.deref-2.result.now = rw c.deref-2.ensures.value c.in_ok-begins.ensures in
+    light_runs h c.deref-2.result.now (LinkWeighs h c.args.near.now) c.rows-3.result.now runs (λ u v p. inl (inl p, refl)) (link_table h c.args.near.now c.rows.result.now c.rows-3.result.now table low)

@@ -3,4 +3,4 @@ use Rattle.tcc_check.proofs.First.{HoldsAbove}
 use Rattle.tcc_check.proofs.searching.first_long_step.Given as goal
 
 abbrev pub invariant-loop-start : goal.invariant-loop-start
-invariant-loop-start l = HoldsAbove l.start (IsLongStartFrom l.version l.starts l.table)
+invariant-loop-start l = HoldsAbove l.start (IsLongStartFrom l.version l.begins l.starts l.table)
