@@ -1,13 +1,15 @@
 -- What a least cycle costs at most: it begins one link at most at each transaction, and none of its links takes a longer
 -- walk than over all transactions once.
-use Rattle.std.proofs.Common.{ℕ, ◌≡◌, ◌<◌, ◌≤◌, ◌+◌, ◌*◌, ◌⊎◌, inl, inr, List, [], ◌∷◌, ◌++◌, length, length-append, append_assoc, refl, sym, ◌∙◌, subst, arith}
+use Rattle.std.proofs.Common.{ℕ, ◌≡◌, ◌<◌, ◌≤◌, ◌+◌, ◌*◌, ◌⊎◌, inl, inr, List, [], ◌∷◌, ◌++◌, length, All, length-append, append_assoc, refl, sym, ◌∙◌, subst, arith}
 use Rattle.std.specs.List.{AllByRecursion}
+use Rattle.std.proofs.lemmas.List.Elements.{All-nil, All-cons}
 use Rattle.tcc_txn.specs.declared.limits.TheConstants.{MAX_COUNT}
 use Rattle.tcc_reads.specs.History.{History, count}
 use Rattle.tcc_graph.specs.Walks.{step_from, step_to, Leads, IsWalk}
 use Rattle.tcc_graph.specs.Levels.{Judged, IsAllowed}
 use Rattle.tcc_graph.specs.Links.{IsLink, link_from, link_to, link_cost, cost}
 use Rattle.tcc_graph.specs.Routes.{LinksLead, IsCycle, IsLeastCycle}
+use Rattle.tcc_graph.specs.Ties.{link_walk}
 use Rattle.tcc_graph.specs.declared.limits.TheConstants.{MAX_LINK_COST, MAX_CYCLE_COST}
 use Rattle.tcc_graph.specs.declared.level.Level.{Level}
 use Rattle.tcc_graph.specs.declared.level.Level.TheVariants as level
@@ -58,6 +60,11 @@ few_in_link j (link.Derived b a x c walk) is least =
     omega (arith, low, derived_cost b a x c walk, derived_cost b a x c others)) in
     omega (arith, few, derived_cost b a x c walk)
 
+walk_in_link : (l : Link) (n : ℕ) → link_cost l ≤ n + 1 → length (link_walk l) ≤ n
+walk_in_link (link.Session a b) n few = omega arith
+walk_in_link (link.Reads a b x) n few = omega arith
+walk_in_link (link.Derived b a x c walk) n few = omega (arith, few, derived_cost b a x c walk)
+
 -- ---- least cycles
 
 module _ (j : Judged) (s : ℕ) where
@@ -81,6 +88,14 @@ module _ (j : Judged) (s : ℕ) where
       let others : cost links ≤ length links * MAX_LINK_COST = links_cost few (done ++ l ∷ []) links (rw append_assoc least) in
       omega (arith, cost_cons l links, one, others, few)
 
+  -- and none takes a longer walk than over all transactions once
+  pub walks_few : (done links : List Link) → IsLeastCycle j s (done ++ links) → All (λ l. length (link_walk l) ≤ count j.history) links
+  walks_few done [] least = All-nil (λ (l : Link). length (link_walk l) ≤ count j.history)
+  walks_few done (l ∷ links) least =
+      All-cons (λ (l : Link). length (link_walk l) ≤ count j.history) l links
+      (walk_in_link l (count j.history) (few_in_link j l (link_there done l links least) (link_least done l links least)))
+      (walks_few (done ++ l ∷ []) links (rw append_assoc least))
+
   starts_below : (a b : ℕ) (links : List Link) → LinksLead j a b links → AllByRecursion (λ l. link_from l < count j.history) links
   starts_below a b [] lead = tt
   starts_below a b (l ∷ links) lead = ((link_below j l lead.1).0, starts_below (link_to l) b links lead.2)
@@ -92,7 +107,7 @@ module _ (j : Judged) (s : ℕ) where
       let (n, between, last) = lead_split j (link_to one) s middle (other ∷ rest) on.2 in
       (omega arith, (refl, on.1, subst (λ (z : ℕ). LinksLead j (link_to one) z middle) (sym last.0 ∙ sym same) between))
 
-  few_links : (links : List Link) → IsLeastCycle j s links → length links ≤ count j.history
+  pub few_links : (links : List Link) → IsLeastCycle j s links → length links ≤ count j.history
   few_links links least = go (few_or_twice link_from (count j.history) links (starts_below s s links least.cycle.1))
     where
       go : (length links ≤ count j.history) ⊎ HasTwice link_from always links → length links ≤ count j.history

@@ -1,6 +1,6 @@
 //! The laws of least cycles: the first one is picked from the back, and so are the walks of its links; what its parts
 //! cost, and what it can cost at most.
-ghost use Rattle.std.specs.Prelude.{◌≡◌, ◌≤◌, ◌↔◌, ◌==◌, ◌∷◌, ◌++◌, ℕ, List, filter, length};
+ghost use Rattle.std.specs.Prelude.{◌≡◌, ◌≤◌, ◌↔◌, ◌==◌, ◌∷◌, ◌++◌, ℕ, List, All, filter, length};
 ghost use Rattle.std.specs.FinMap.{entries};
 ghost use Rattle.tcc_txn.specs.declared.limits.TheConstants.{MAX_COUNT, MAX_SESSIONS};
 ghost use Rattle.tcc_txn.specs.Snapshots.{Sessions};
@@ -9,7 +9,7 @@ ghost use Rattle.tcc_reads.specs.Sources.{history};
 ghost use Rattle.tcc_graph.specs.Levels.{Judged};
 ghost use Rattle.tcc_graph.specs.Links.{link_from, cost};
 ghost use Rattle.tcc_graph.specs.Routes.{IsRoute, IsLeastCycle, IsDistance};
-ghost use Rattle.tcc_graph.specs.Ties.{IsFirstCycle, link_kind};
+ghost use Rattle.tcc_graph.specs.Ties.{IsFirstCycle, link_kind, link_walk};
 ghost use Rattle.tcc_graph.specs.declared.limits.TheConstants.{MAX_CYCLE_COST};
 ghost use Rattle.tcc_graph.specs.declared.level.Level.{Level};
 ghost use Rattle.tcc_graph.specs.declared.step.Step.{Step};
@@ -42,14 +42,17 @@ pub fn parts()
         → IsRoute j u v part → IsRoute j u v others → cost part ≤ cost others }
 {}
 
-/// What a least cycle costs at most. By the number of transactions: it begins one link at most at each of them, and none of
-/// its links takes a longer walk than over all of them once. That a graph has no more than `MAX_COUNT`, `Graph::count` says.
+/// What a least cycle costs at most. By the number of transactions: it begins one link at most at each of them (`links`),
+/// and none of its links takes a longer walk than over all of them once (`walks`). That a graph has no more than `MAX_COUNT`, `Graph::count` says.
 /// And in the history of a snapshot by its sessions alone, however many transactions they have: beside `init`, a least
 /// cycle meets two transactions of a session at most, and one derived link at most begins there; and the walk of such a
 /// link begins two steps at most in a session.
 pub fn bounded()
     ensures transactions { (j : Judged) (s : ℕ) (links : List Link) → count j.history ≤ MAX_COUNT → IsLeastCycle j s links
         → cost links ≤ MAX_CYCLE_COST }
+    ensures links { (j : Judged) (s : ℕ) (links : List Link) → IsLeastCycle j s links → length links ≤ count j.history }
+    ensures walks { (j : Judged) (s : ℕ) (links : List Link) → IsLeastCycle j s links
+        → All (λ l. length (link_walk l) ≤ count j.history) links }
     ensures sessions { (snapshot : Sessions) (level : Level) (s : ℕ) (links : List Link) → length (entries snapshot) ≤ MAX_SESSIONS
         → IsLeastCycle (record { history = history snapshot; level = level }) s links
         → (length (filter (λ l. link_kind l == 2) links) ≤ 65) × (cost links ≤ 8449) }

@@ -58,9 +58,9 @@ number_at : (table : List (List ℕ)) (s k d e : ℕ) (r : List ℕ) → s < len
 number_at table s k d e r here there = ap (λ (row : List ℕ). get_or row k d) (get_or_default table s [] r here) ∙ get_or_default (get_or table s r) k d e there
 
 -- a table whose entries are at most the cap
-capped_table : (n cap : ℕ) (table : List (List ℕ)) → HasSize n n table → ((a c : ℕ) → a < n → c < n → entry table a c ≤ cap) → IsCapped cap table
-capped_table n cap table size low = λ a d l. λ c e k.
-    let wide : length (get_or table a d) ≡ n = size.wide a d l in
+pub capped_table : (n columns cap : ℕ) (table : List (List ℕ)) → HasSize n columns table → ((a c : ℕ) → a < n → c < columns → entry table a c ≤ cap) → IsCapped cap table
+capped_table n columns cap table size low = λ a d l. λ c e k.
+    let wide : length (get_or table a d) ≡ columns = size.wide a d l in
     let at : entry table a c ≡ get_or (get_or table a d) c e = number_at table a c 0 e d l k in
     let most : entry table a c ≤ cap = low a c (omega (arith, size.long)) (omega arith) in
     omega arith
@@ -206,7 +206,7 @@ module _ (j : Judged) (s : ℕ) (links : List Link) (near far : List (List ℕ))
       near = walks.size;
       far = routes.size;
       links = links_within j s s links least.cycle.1;
-      near_capped = capped_table n (cost links) near walks.size near_capped;
+      near_capped = capped_table n n (cost links) near walks.size near_capped;
       far_capped = capped_far n (cost links) far routes.size far_capped;
     };
     cycle = record { some = least.cycle.0; right = cycle_right j s links least.cycle; costs = refl };

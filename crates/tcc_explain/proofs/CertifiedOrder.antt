@@ -36,7 +36,7 @@ lower_first h m n some below more within same lower =
     (or_right _ _ (and_from _ _ (and_from _ _ (and_from _ _ (lt-ltb 0 m some) (lt-ltb 0 n more)) (eq-eqb (owner h m) (owner h n) same)) (lt-ltb (place h m) (place h n) lower)))
 
 -- a list with each number below n once has n numbers
-numbering_long : (n : ℕ) (order : List ℕ) → IsNumbering n order → length order ≡ n
+pub numbering_long : (n : ℕ) (order : List ℕ) → IsNumbering n order → length order ≡ n
 numbering_long n order is =
     let few : length order ≤ n = length-le_from_distinct_below order n (IsDistinct-from_apart eqb order distinct) (λ q any. All-contains (λ a. a < n) order q is.below (Contains-from_any eqb-true q order any)) in
     let many : n ≤ length order = le-length_from_below order n (λ q below. found q (is.each q below)) in

@@ -4,3 +4,7 @@ pub mod CertifiedOrder
 pub mod Numbered
 pub mod CertifiedAnswer
 pub mod FirstAnswers
+pub mod ReadKeys
+pub mod FewPlaces
+pub mod RecordedKeys
+pub mod WrittenAnswer

@@ -1,3 +1,4 @@
 pub mod Certificates
 pub mod Explained
+pub mod Keys
 pub mod Capping

@@ -1,5 +1,7 @@
-//! The laws of answers: their certificates keep the rules, and a history has one first answer at most at a level.
-ghost use Rattle.std.specs.Prelude.{◌≡◌, ℕ, List, length};
+//! The laws of answers: their certificates keep the rules and have texts, and a history has one first answer at most at a level.
+ghost use Rattle.std.specs.Prelude.{◌≡◌, ℕ, List, Ok, length, take};
+ghost use Rattle.tcc_txn.specs.Answers.{answers_of};
+ghost use Rattle.tcc_txn.specs.Finished.{KeepsLimits, finished_in};
 ghost use Rattle.tcc_txn.specs.Snapshots.{Sessions};
 ghost use Rattle.tcc_reads.specs.Sources.{history};
 ghost use Rattle.tcc_graph.specs.Levels.{Judged};
@@ -10,12 +12,15 @@ ghost use Rattle.tcc_graph.specs.Answers as first;
 ghost use Rattle.tcc_graph.specs.declared.level.Level.{Level};
 ghost use Rattle.tcc_graph.specs.declared.link.Link.{Link};
 ghost use Rattle.tcc_cert.specs.Rules.{Certifies};
+ghost use Rattle.tcc_cert.specs.Texts.{HasText, certificate_text};
+ghost use Rattle.tcc_cert.specs.Reading.{certificate_read};
 ghost use Rattle.tcc_cert.specs.declared.version.Version.TheVariants.{Two};
 ghost use Rattle.tcc_cert.specs.declared.certificate.Certificate.TheVariants as claim;
 ghost use Rattle.tcc_answer.specs.Claims.{certificate_of};
 ghost use Rattle.tcc_answer.specs.declared.answer.Answer.{Answer};
 ghost use Rattle.tcc_explain.specs.Certificates.{IsNearTable, IsFarTable, IsClocksAt, IsNumbered};
 ghost use Rattle.tcc_explain.specs.Explained.{IsAnswerOf};
+ghost use Rattle.tcc_explain.specs.Keys.{HasNames};
 
 /// A least cycle with the distances, capped at what it costs, is certified; so is a commit order with the clocks of the
 /// level, where transactions are numbered as in each snapshot's history.
@@ -33,6 +38,22 @@ pub fn certificates()
 pub fn certified()
     ensures { (s : Sessions) (level : Level) (a : Answer) → IsAnswerOf (record { history = history s; level = level }) a
         → Certifies (history s) (certificate_of a) }
+{}
+
+/// The certificate of the answer for a snapshot has a text, and that text is read as this certificate: where the snapshot
+/// keeps the limits and its keys are names.
+pub fn written()
+    ensures text { (s : Sessions) (level : Level) (a : Answer) → KeepsLimits s → HasNames s
+        → IsAnswerOf (record { history = history s; level = level }) a → HasText (certificate_of a) }
+    ensures read { (s : Sessions) (level : Level) (a : Answer) → KeepsLimits s → HasNames s
+        → IsAnswerOf (record { history = history s; level = level }) a
+        → certificate_read (certificate_text (certificate_of a)) ≡ Ok (certificate_of a) }
+{}
+
+/// What the first items of a text finish, however many, has names for keys. That it keeps the limits says
+/// `tcc_txn::laws::finished_is_snapshot`.
+pub fn recorded()
+    ensures { (text : List ℕ) (n : ℕ) → HasNames (finished_in (take n (answers_of text).items)) }
 {}
 
 /// A history has at most one first commit order at a level, and at most one first answer: either that order or its first
