@@ -8,7 +8,7 @@ use Rattle.clap.specs.Simple.{App, is_simple, subcommand_of}
 use Rattle.clap.specs.declared.error.kind.ErrorKind.TheVariants.{ArgumentConflict, DisplayHelp, DisplayVersion, InvalidSubcommand, InvalidValue, MissingRequiredArgument, MissingSubcommand, TooManyValues, UnknownArgument}
 use Rattle.clap.proofs.OnLiterals.{clap_on_literals}
 use Rattle.tcc_graph.specs.declared.level.Level.TheVariants.{Causal, Atomic}
-use Rattle.tcc.specs.CommandLines.{AreLevels, Words, json_text, level_text, level_word, tcc_command}
+use Rattle.tcc.specs.CommandLines.{AreLevels, Words, certificate_path, json_text, level_text, level_word, tcc_command}
 
 -- clap says exactly when a parse by it fails, and of which kinds the fault may be
 pub is_exact : (levels : Words) → is_simple_and_free (tcc_command levels) ≡ true
@@ -59,6 +59,10 @@ as_atomic = refl
 explain_as_atomic : level_text (subcommand_of program (codes "tcc" ∷ codes "explain" ∷ codes "--level" ∷ codes "atomic" ∷ [])) ≡ Some (codes "atomic")
 unfolding clap_on_literals
 explain_as_atomic = refl
+
+certificate : certificate_path (subcommand_of program (codes "tcc" ∷ codes "explain" ∷ codes "--certificate" ∷ codes "c.txt" ∷ [])) ≡ Some (codes "c.txt")
+unfolding clap_on_literals
+certificate = refl
 
 attached : level_text (subcommand_of program (codes "tcc" ∷ codes "explain" ∷ codes "--level=atomic" ∷ codes "--json" ∷ [])) ≡ Some (codes "atomic")
 unfolding clap_on_literals

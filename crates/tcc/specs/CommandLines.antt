@@ -51,8 +51,12 @@ level_option levels = record (new_rule (codes "level")) {
   defaults = level_word Causal ∷ [];
 }
 
+-- --certificate PATH
+abbrev pub certificate_option : Rule
+certificate_option = record (new_rule (codes "certificate")) { long = Some (codes "certificate"); value_names = 1 }
+
 abbrev pub explain_command : Words → App
-explain_command levels = with_rule (with_rule (new_app (codes "explain")) (level_option levels)) json_flag
+explain_command levels = with_rule (with_rule (with_rule (new_app (codes "explain")) (level_option levels)) json_flag) certificate_option
 
 -- a path, which has to be given, and which help calls by one name
 abbrev pub path : Text → Rule
@@ -61,7 +65,7 @@ path id = record (new_rule id) { value_names = 1; required = true }
 abbrev pub check_command : App
 check_command = with_rule (with_rule (new_app (codes "check")) (path (codes "history"))) (path (codes "certificate"))
 
--- tcc explain [--level LEVEL] [--json], or tcc check HISTORY CERTIFICATE: the program's name and version, and its
+-- tcc explain [--level LEVEL] [--json] [--certificate PATH], or tcc check HISTORY CERTIFICATE: the program's name and version, and its
 -- subcommands, one of which has to be given
 abbrev pub tcc_command : Words → App
 tcc_command levels =
@@ -85,20 +89,26 @@ level_text met = option_and_then (first_of (codes "level")) (option_map (λ ente
 abbrev pub IsLevel : Option Text → Level → Type 0
 IsLevel word level = unwrap_or word (level_word Causal) ≡ level_word level
 
--- the answers are as JSON by the flag, and at the level of the word
+-- what clap finds for the path of the certificate in the matches of a subcommand that was met
+abbrev pub certificate_path : Option (Text × List Row) → Option Text
+certificate_path met = option_and_then (first_of (codes "certificate")) (option_map (λ entered. entered.1) met)
+
+-- the answers are as JSON by the flag, and at the level of the word; the certificate goes to the path, if there is one
 abbrev pub AsksExplain : Option (Text × List Row) → Request → Type 0
-AsksExplain met (Explain options) = IsFlag (json_text met) options.json × IsLevel (level_text met) options.level
+AsksExplain met (Explain options certificate) =
+    IsFlag (json_text met) options.json × IsLevel (level_text met) options.level × (option_map string_bytes certificate ≡ certificate_path met)
 AsksExplain met (Check history certificate) = ⊥
 
 -- the paths are those that clap finds
 abbrev pub AsksCheck : List Row → Request → Type 0
-AsksCheck rows (Explain options) = ⊥
+AsksCheck rows (Explain options certificate) = ⊥
 AsksCheck rows (Check history certificate) =
     (first_of (codes "history") rows ≡ Some (string_bytes history)) × (first_of (codes "certificate") rows ≡ Some (string_bytes certificate))
 
 -- what the subcommand that was met asks for: a check by its name with its two paths; else answers
 abbrev pub AsksBy : Option (Text × List Row) → Request → Type 0
-AsksBy met (Explain options) = (option_map (λ entered. entered.0) met ≢ Some (codes "check")) × AsksExplain met (Explain options)
+AsksBy met (Explain options certificate) =
+    (option_map (λ entered. entered.0) met ≢ Some (codes "check")) × AsksExplain met (Explain options certificate)
 AsksBy None (Check history certificate) = ⊥
 AsksBy (Some entered) (Check history certificate) = (entered.0 ≡ codes "check") × AsksCheck entered.1 (Check history certificate)
 

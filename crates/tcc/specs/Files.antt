@@ -1,16 +1,16 @@
--- What is printed where a file can't be opened, and how the run then ends.
-use Rattle.std.specs.Prelude.{ℕ, ◌⊎◌, List, Option, false, codes}
+-- What is printed where a file can't be opened or made, and how the run then ends.
+use Rattle.std.specs.Prelude.{ℕ, ◌⊎◌, Bool, List, Option, None, Some, false}
 use Rattle.std.specs.declared.io.ErrorKind.{ErrorKind}
 use Rattle.std.specs.declared.io.ErrorKind.TheVariants.{OutOfMemory}
 use Rattle.tcc_run.specs.declared.status.Status.{Status}
 use Rattle.tcc_run.specs.declared.status.Status.TheVariants.{Memory, Device}
-use Rattle.tcc_run.specs.Printed.{Prints, memory_line}
+use Rattle.tcc_run.specs.Printed.{Prints, device_line, memory_line}
 use Rattle.tcc_run.specs.Checks.{PrintsSome}
 
 -- the line for the device, or for want of memory
-abbrev pub unopened_text : ErrorKind → List ℕ
-unopened_text OutOfMemory = memory_line false
-unopened_text _ = codes "device\n"
+abbrev pub unopened_text : Bool → ErrorKind → List ℕ
+unopened_text json OutOfMemory = memory_line json
+unopened_text json _ = device_line json
 
 abbrev pub unopened_status : ErrorKind → Status
 unopened_status OutOfMemory = Memory
@@ -19,4 +19,11 @@ unopened_status _ = Device
 -- the text of some outcome of a check, or the line for a file that can't be opened, each with its status
 abbrev pub PrintsFiles : Option (List ℕ) → Option (List ℕ) → ℕ → Type 0
 PrintsFiles before after code =
-    PrintsSome before after code ⊎ ((kind : ErrorKind) × Prints before after (unopened_text kind) (unopened_status kind) code)
+    PrintsSome before after code ⊎ ((kind : ErrorKind) × Prints before after (unopened_text false kind) (unopened_status kind) code)
+
+-- the one is given exactly where the other is
+abbrev pub AreBothGiven : {A B : Type 0} → Option A → Option B → Type 0
+AreBothGiven None None = Unit {0}
+AreBothGiven (Some a) (Some b) = Unit {0}
+AreBothGiven None (Some b) = ⊥
+AreBothGiven (Some a) None = ⊥

@@ -1,9 +1,9 @@
 //! What the command line asks for.
-ghost use Rattle.std.specs.Prelude.{◌≡◌, false, IfErr, IfOk, IfSome, OnOk, map};
+ghost use Rattle.std.specs.Prelude.{◌≡◌, false, IfErr, IfOk, IfSome, OnOk, map, option_map};
 ghost use Rattle.std.specs.String.{string_bytes};
 ghost use Rattle.clap.specs.Words.{FailsBy, app_of, fault_of, found_of, kind_of, rows_of, rule_of, subcommand_rows_of};
 ghost use Rattle.clap.specs.declared.error.kind.ErrorKind.TheVariants.{OutOfMemory};
-ghost use Rattle.tcc.specs.CommandLines.{Asks, AsksBy, AsksCheck, AsksExplain, EndsUnasked, IsAsked, IsFlag, IsLevel, PrintsHelp, check_command, explain_command, json_text, level_option, level_text, level_word, path, tcc_command};
+ghost use Rattle.tcc.specs.CommandLines.{Asks, AsksBy, AsksCheck, AsksExplain, EndsUnasked, IsAsked, IsFlag, IsLevel, PrintsHelp, certificate_option, certificate_path, check_command, explain_command, json_text, level_option, level_text, level_word, path, tcc_command};
 
 use crate::help;
 use clap::builder::ValueParser;
@@ -20,7 +20,12 @@ use tcc_run::{Options, Status};
 #[derive(Drop)]
 pub enum Request {
     /// Answer for the records of the standard input.
-    Explain(Options),
+    Explain {
+        /// How answers are wanted.
+        options: Options,
+        /// The path of the file for the certificate of the last answer, if it is wanted.
+        certificate: Option<String>,
+    },
     /// Judge a certificate for a history.
     Check {
         /// The path of the history's records.
@@ -43,6 +48,17 @@ fn level_option<'a>(alloc: Global, levels: &'a [&'a str]) -> Arg<'a>
         .default_value("causal")
 }
 
+/// The option for the file of the certificate.
+fn certificate_option<'a>(alloc: Global) -> Arg<'a>
+    ensures rule { rule_of result ≡ certificate_option }
+    ensures own { result.global ≡ false }
+{
+    Arg::new(alloc, "certificate")
+        .long("certificate")
+        .value_name("PATH")
+        .help("Writes the certificate of the last answer to this file")
+}
+
 /// The subcommand that explains, at one of these levels.
 fn explain_command<'a>(alloc: Global, levels: &'a [&'a str]) -> Result<Command<'a>, AllocError>
     ensures { IfOk result (λ made. app_of made ≡ explain_command levels.entry) }
@@ -52,13 +68,15 @@ fn explain_command<'a>(alloc: Global, levels: &'a [&'a str]) -> Result<Command<'
         .long("json")
         .help("Answers in one line of JSON")
         .action(ArgAction::SetTrue);
-    let half = Command::new(alloc, "explain")
+    let certificate = certificate_option(alloc);
+    let first = Command::new(alloc, "explain")
         .about(
-            "Reads records from standard input and says whether the history is causally consistent",
+            "Reads records from standard input and says whether the history is consistent at a level",
         )
         .after_help(help::EXPLAIN)
         .arg(level)?;
-    half.arg(json)
+    let second = first.arg(json)?;
+    second.arg(certificate)
 }
 
 /// A path, which has to be given.
@@ -141,19 +159,35 @@ fn level_of(matches: &ArgMatches) -> Option<Level>
     }
 }
 
-/// How answers are wanted.
-fn options_of(matches: &ArgMatches) -> Result<Request, Error>
+/// The path that the subcommand has for the file of the certificate, if it has one.
+fn certificate_of(alloc: Global, matches: &ArgMatches) -> Result<Option<String>, Error>
+    ensures path { IfOk result (λ path. option_map string_bytes path ≡ certificate_path (subcommand_rows_of matches.now)) }
+    ensures fails { IfErr result (λ e. kind_of e ≡ OutOfMemory) }
+{
+    match matches.subcommand() {
+        Some((_name, explain)) => match explain.get_str("certificate") {
+            Some(path) => Ok(Some(path.to_string(alloc)?)),
+            None => Ok(None),
+        },
+        None => Ok(None),
+    }
+}
+
+/// How answers are wanted, and where the certificate goes.
+fn options_of(alloc: Global, matches: &ArgMatches) -> Result<Request, Error>
     ensures asked { IfOk result (AsksExplain (subcommand_rows_of matches.now)) }
     ensures fails { IfErr result (λ e. kind_of e ≡ OutOfMemory) }
 {
-    match level_of(matches) {
-        Some(level) => Ok(Request::Explain(Options {
-            level,
-            json: is_json(matches),
-        })),
+    let Some(level) = level_of(matches) else {
         // Another word is a fault by clap, so only memory can be wanting.
-        None => Err(Error::from(AllocError)),
-    }
+        return Err(Error::from(AllocError));
+    };
+    let json = is_json(matches);
+    let certificate = certificate_of(alloc, matches)?;
+    Ok(Request::Explain {
+        options: Options { level, json },
+        certificate,
+    })
 }
 
 /// The two files to check.
@@ -178,7 +212,7 @@ fn asked_of(alloc: Global, matches: &ArgMatches) -> Result<Request, Error>
 {
     match matches.subcommand() {
         Some((name, check)) if name == "check" => paths_of(alloc, check),
-        _ => options_of(matches),
+        _ => options_of(alloc, matches),
     }
 }
 

@@ -1,11 +1,12 @@
 //! The files that the command line names.
-ghost use Rattle.tcc.specs.Files.{PrintsFiles, unopened_text, unopened_status};
+ghost use Rattle.std.specs.Prelude.{IfOk};
+ghost use Rattle.tcc.specs.Files.{AreBothGiven, PrintsFiles, unopened_text, unopened_status};
 ghost use Rattle.tcc_run.specs.Printed.{Prints};
 
 use std::fs::{self, File};
 use std::io::{self, ErrorKind, Write};
-use tcc_run::printing::{print_memory, print_text};
-use tcc_run::{Status, run_check};
+use tcc_run::printing::{print_device, print_memory};
+use tcc_run::run_check;
 
 /// Opens both files, the history before the certificate.
 fn open_both(rt: &HostRuntime, history: &str, certificate: &str) -> io::Result<(File, File)> {
@@ -14,13 +15,26 @@ fn open_both(rt: &HostRuntime, history: &str, certificate: &str) -> io::Result<(
     Ok((history, certificate))
 }
 
-/// Writes that a file can't be opened, and gives the status of the run.
-fn print_unopened<W: Write>(kind: ErrorKind, out: &mut W) -> u8
-    ensures { Prints (W.contents out.old) (W.contents out.new) (unopened_text kind) (unopened_status kind) result }
+/// Makes the file if a path is given, and makes it empty where it is there.
+pub fn make(rt: &HostRuntime, path: &Option<String>) -> io::Result<Option<File>>
+    ensures { IfOk result (AreBothGiven path.now) }
+{
+    match path {
+        Some(path) => {
+            let file = fs::create(rt, path.as_str())?;
+            Ok(Some(file))
+        }
+        None => Ok(None),
+    }
+}
+
+/// Writes that a file can't be opened or made, and gives the status of the run.
+pub fn print_unopened<W: Write>(kind: ErrorKind, json: bool, out: &mut W) -> u8
+    ensures { Prints (W.contents out.old) (W.contents out.new) (unopened_text json kind) (unopened_status kind) result }
 {
     match kind {
-        ErrorKind::OutOfMemory => print_memory(out, false),
-        _ => print_text(out, b"device\n", Status::Device),
+        ErrorKind::OutOfMemory => print_memory(out, json),
+        _ => print_device(out, json),
     }
 }
 
@@ -30,6 +44,6 @@ pub fn check_files<W: Write>(rt: &HostRuntime, history: &str, certificate: &str,
 {
     match open_both(rt, history, certificate) {
         Ok((history, certificate)) => run_check(rt.alloc(), history, certificate, out),
-        Err(error) => print_unopened(error.kind(), out),
+        Err(error) => print_unopened(error.kind(), false, out),
     }
 }

@@ -1,5 +1,5 @@
-//! `tcc explain` reads the records of a history and says whether it is causally consistent; `tcc check` judges a
-//! certificate of that.
+//! `tcc explain` reads the records of a history, says whether it is consistent at a level, and gives a certificate of
+//! that; `tcc check` judges one.
 #![tactic(auto)]
 
 mod command_line;
@@ -7,7 +7,7 @@ mod files;
 mod help;
 
 use command_line::Request;
-use files::check_files;
+use files::{check_files, make, print_unopened};
 use std::io;
 use std::process::ExitCode;
 use tcc_run::{Status, run_explain};
@@ -15,9 +15,18 @@ use tcc_run::{Status, run_explain};
 fn main(rt: HostRuntime) -> ExitCode {
     let mut out = io::writer(&rt);
     let code = match command_line::read(&rt, &mut out) {
-        Ok(Request::Explain(options)) => {
-            run_explain(&rt, rt.alloc(), rt.stdin(), &mut out, options)
-        }
+        Ok(
+            Request::Explain {
+                options,
+                certificate,
+            },
+        ) => match make(&rt, &certificate) {
+            Ok(file) => {
+                let mut file = file;
+                run_explain(&rt, rt.alloc(), rt.stdin(), &mut out, &mut file, options)
+            }
+            Err(error) => print_unopened(error.kind(), options.json, &mut out),
+        },
         Ok(
             Request::Check {
                 history,

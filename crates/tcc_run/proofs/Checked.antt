@@ -1,5 +1,5 @@
 -- What comes of a history and a certificate, from what came of each of their parts.
-use Rattle.std.proofs.Common.{◌≡◌, ℕ, List, [], refl, sym, ap, subst, ◌∙◌, Bool, true, false, cond, Ok, Err, None, Some, Option, inl, inr, ◌⊎◌}
+use Rattle.std.proofs.Common.{◌≡◌, ℕ, List, [], refl, sym, ap, subst, ◌∙◌, Bool, true, false, cond, Ok, Err, None, Some, Option, inl, inr}
 use Rattle.std.specs.Prelude.{Result, IsErrAnd, IfSome}
 use Rattle.tcc_txn.specs.Answers.{answers_of}
 use Rattle.tcc_txn.specs.Finished.{finished_in}
@@ -16,7 +16,7 @@ use Rattle.tcc_run.specs.declared.judged.Judged.{Judged}
 use Rattle.tcc_run.specs.declared.halt.Halt.{Halt}
 use Rattle.tcc_run.specs.declared.halt.Halt.TheVariants.{Row, Reads, Text, NoMemory}
 use Rattle.tcc_run.specs.Stages.{MayBeTextCheck, by_row, is_memory, unresolved_by, IsResolution, IsHistoryOf}
-use Rattle.tcc_run.specs.Checks.{IsTextCheck, IsRecordsCheck, IsCheck, MayBeCheck}
+use Rattle.tcc_run.specs.Checks.{IsTextCheck, IsRecordsCheck, MayBeCheck}
 
 -- ---- the history
 

@@ -1,73 +1,78 @@
 -- What a run does with its bytes, from how a recording of them went on.
-use Rattle.std.proofs.Common.{◌≡◌, ◌≢◌, ℕ, ◌+◌, ◌≤◌, ◌<◌, arith, Bool, true, false, cond, List, [], ◌∷◌, ◌++◌, length, take, Option, None, Some, Result, Ok, Err, refl, sym, ap, subst, ◌∙◌, inl, inr, ◌⊎◌, append_assoc, append-nil}
-use Rattle.std.specs.Prelude.{flat_map, nat_eq}
-use Rattle.std.specs.List.{AllZip, last_or}
+use Rattle.std.proofs.Common.{◌≡◌, ◌≢◌, ℕ, ◌+◌, ◌≤◌, arith, Bool, true, false, cond, List, [], ◌∷◌, ◌++◌, length, take, Option, None, Some, Result, Ok, Err, refl, sym, ap, subst, ◌∙◌, inl, inr, append_assoc, append-nil}
+use Rattle.std.specs.Prelude.{nat_eq, IfSome, MatchResult, unwrap_or}
+use Rattle.std.specs.List.{last_or}
 use Rattle.std.specs.Io.KnownBytes.{Appends}
-use Rattle.std.proofs.KnownBytes.{Appends-trans, Appends-kept}
+use Rattle.std.proofs.KnownBytes.{Appends-trans}
 use Rattle.std.proofs.lemmas.Grind.{flat_map-append}
 use Rattle.std.proofs.lemmas.Bool.Decides.{nat_tests}
-use Rattle.std.proofs.lemmas.Option.{none-some}
 use Rattle.std.proofs.Math.Seq.{take-append-add, take-length}
-use Rattle.tcc_txn.specs.Ahead.{IsFailure}
 use Rattle.tcc_txn.specs.Answers.{Answers, answers_of, ending, records_of}
 use Rattle.tcc_txn.specs.Finished.{finished_in, transaction_count}
-use Rattle.tcc_txn.specs.Recordings.{IsRecording, Passes, TakesMoment, after_items}
+use Rattle.tcc_txn.specs.Recordings.{IsRecording, TakesMoment, after_items}
 use Rattle.tcc_txn.specs.Snapshots.{Sessions}
 use Rattle.tcc_txn.specs.declared.recording.Moment.TheVariants as moment
 use Rattle.tcc_txn.specs.declared.recording.Recording.{Recording}
 use Rattle.tcc_txn.specs.declared.rows.Item.{Item}
 use Rattle.tcc_txn.specs.declared.rows.Item.TheVariants as item
 use Rattle.tcc_txn.specs.declared.rows.RowFault.{RowFault}
-use Rattle.tcc_txn.specs.declared.rows.RowFaultKind.TheVariants as kind
 use Rattle.tcc_run.specs.declared.halt.Halt.{Halt}
 use Rattle.tcc_run.specs.declared.halt.Halt.TheVariants as halt
 use Rattle.tcc_run.specs.declared.options.Options.{Options}
-use Rattle.tcc_run.specs.declared.status.Status.{Status}
 use Rattle.tcc_run.specs.declared.status.Status.TheVariants.{Memory}
+use Rattle.tcc_run.specs.declared.explain.Last.{Last}
+use Rattle.tcc_answer.specs.declared.answer.Answer.{Answer}
 use Rattle.tcc_run.specs.Printed.{Prints, halted, memory_line}
 use Rattle.tcc_run.specs.Statuses.{code_of, halt_status}
-use Rattle.tcc_run.specs.Runs.{AreAnswered, IsAnswered, IsEnded, IsRun, IsWhole, MayEnd, Said, at_end, halt_said, is_due_after, sealed_in}
-use Rattle.tcc_run.specs.Stages.{CutsOff, EndsAnswering, PrintsAnswer, PrintsOrMemory, by_row, is_memory}
+use Rattle.tcc_run.specs.Runs.{AreAnswered, Contents, Gains, IsAnswered, IsRun, IsWhole, MayEnd, Said, at_end, halt_said, is_due_after, sealed_in, texts}
+use Rattle.tcc_run.specs.Stages.{AllAnswered, AnswersKept, Concludes, CutsOff, EndsAnswering, EndsEarly, Keeps, PrintsOrMemory, by_row, is_memory}
 use Rattle.tcc_run.proofs.Moments.{AllZip-append, all-fault, all-items, at_end-due, at_end-none, due-passed, due-seal, finished-seal, first-taken, last-push, part-of, sealed-passed, sealed-seal, still_due}
-
--- the texts, one after the other
-abbrev pub texts : List Said → List ℕ
-texts said = flat_map (λ (one : Said). one.text) said
 
 texts-push : (said : List Said) (one : Said) → texts (said ++ one ∷ []) ≡ texts said ++ one.text
 texts-push said one = flat_map-append (λ (one : Said). one.text) said (one ∷ []) ∙ ap (λ t. texts said ++ t) (append-nil one.text)
 
--- a text after others that went out
-Prints-after : (a b c : Option (List ℕ)) (x y : List ℕ) (status : Status) (code : ℕ) → Appends a b x → Prints b c y status code
-    → Prints a c (x ++ y) status code
-Prints-after a b c x y status code out (inl whole) = inl (Appends-trans a b c x y out whole.0, whole.1)
-Prints-after a b c x y status code out (inr part) =
-    inr ((length x + part.0.0, subst (λ t. Appends a c t) (sym (take-append-add x y part.0.0)) (Appends-trans a b c x (take part.0.0 y) out part.0.1)), part.1)
+-- a part of a text after others that went out
+Appends-part : (a b c : Option (List ℕ)) (x y : List ℕ) (n : ℕ) → Appends a b x → Appends b c (take n y) → Appends a c (take (length x + n) (x ++ y))
+Appends-part a b c x y n out part = subst (λ t. Appends a c t) (sym (take-append-add x y n)) (Appends-trans a b c x (take n y) out part)
 
 module _ (options : Options) (text : List ℕ) (before : Option (List ℕ)) where
   -- the run is ended after some answers
   ended : (n : ℕ) (why : Halt) (said : List Said) (now after : Option (List ℕ)) (code : ℕ) → MayEnd text n why
       → AreAnswered options (sealed_in (take n (answers_of text).items)) said → Appends before now (texts said)
-      → Prints now after (halted options.json why) (halt_status why) code → IsRun options text before after code
-  ended n why said now after code may answers out prints = (
-    said ++ halt_said options why ∷ [],
-    halt_said options why,
-    inr (n, why, said, may, answers, refl),
-    last-push None said (halt_said options why),
-    subst (λ t. Prints before after t (halt_status why) code) (sym (texts-push said (halt_said options why)))
-        (Prints-after before now after (texts said) (halted options.json why) (halt_status why) code out prints),
-  )
+      → Prints now after (halted options.json why) (halt_status why) code → EndsEarly options text before after code
+  ended n why said now after code may answers out prints =
+      let all = texts-push said (halt_said options why) in (
+        said ++ halt_said options why ∷ [],
+        halt_said options why,
+        inr (n, why, said, may, answers, refl),
+        last-push None said (halt_said options why),
+        elim prints [
+          | inl whole ↦ inl (
+            subst (λ t. Appends before after t) (sym all) (Appends-trans before now after (texts said) (halted options.json why) out whole.0),
+            refl,
+            whole.1,
+          )
+          | inr part ↦ inr (
+            (
+              length (texts said) + part.0.0,
+              subst (λ t. Appends before after (take (length (texts said) + part.0.0) t)) (sym all)
+                  (Appends-part before now after (texts said) (halted options.json why) part.0.0 out part.0.1),
+            ),
+            part.1,
+          )
+        ],
+      )
 
   ended_or : (n : ℕ) (why : Halt) (said : List Said) (now after : Option (List ℕ)) (code : ℕ) → MayEnd text n why
       → AreAnswered options (sealed_in (take n (answers_of text).items)) said → Appends before now (texts said)
-      → PrintsOrMemory options.json now after (halted options.json why) (halt_status why) code → IsRun options text before after code
+      → PrintsOrMemory options.json now after (halted options.json why) (halt_status why) code → EndsEarly options text before after code
   ended_or n why said now after code may answers out (inl prints) = ended n why said now after code may answers out prints
   ended_or n why said now after code may answers out (inr memory) = ended n halt.NoMemory said now after code tt answers out memory
 
   -- a writer fails in an answer, after which memory might have been wanting
   cut : (n : ℕ) (said : List Said) (one : Said) (now after : Option (List ℕ)) (code : ℕ)
       → AreAnswered options (sealed_in (take n (answers_of text).items)) (said ++ one ∷ []) → Appends before now (texts said)
-      → CutsOff now after one.text code → IsRun options text before after code
+      → CutsOff now after one.text code → EndsEarly options text before after code
   cut n said one now after code answers out cuts =
       let memory = halt_said options halt.NoMemory in
       let part = part-of cuts.0.0 one.text memory.text in (
@@ -89,16 +94,17 @@ module _ (options : Options) (text : List ℕ) (before : Option (List ℕ)) wher
         ),
       )
 
--- what is known of the last answer: none was given, and one is due; or nothing is due, and it was for so many transactions
-abbrev pub IsLast : Option ℕ → Status → List Item → List Said → Type 0
-IsLast None status taken said = is_due_after true taken ≡ true
-IsLast (Some transactions) status taken said =
-    (is_due_after true taken ≡ false) × (transactions ≡ transaction_count (finished_in taken))
-    × ((text : List ℕ) × (last_or None said ≡ Some (record { text = text; status = status })))
+-- what is known of the last answer: none was given, and one is due; or nothing is due, and it is kept, with the number of
+-- its transactions
+abbrev pub IsLast : Option Last → List Item → List Said → Type 0
+IsLast None taken said = is_due_after true taken ≡ true
+IsLast (Some last) taken said =
+    (is_due_after true taken ≡ false) × (last.transactions ≡ transaction_count (finished_in taken))
+    × ((one : Said) × (last_or None said ≡ Some one) × Keeps one last.answer)
 
 -- some items of all were taken, and the snapshots at the seals among them were answered
 pub record HasAnswered {R : Type 0} (remaining : R → Option (List ℕ)) (options : Options) (text : List ℕ) (recording : Recording R)
-    (before now : Option (List ℕ)) (answered : Option ℕ) (status : Status) : Type 0 where
+    (before now : Option (List ℕ)) (answered : Option Last) : Type 0 where
   pub taken : List Item
   pub ahead : Answers
   pub said : List Said
@@ -106,7 +112,7 @@ pub record HasAnswered {R : Type 0} (remaining : R → Option (List ℕ)) (optio
   pub recorded : IsRecording remaining recording taken ahead
   pub answers : AreAnswered options (sealed_in taken) said
   pub out : Appends before now (texts said)
-  pub last : IsLast answered status taken said
+  pub last : IsLast answered taken said
 
 Appends-none : (a : Option (List ℕ)) → Appends a a []
 Appends-none None = tt
@@ -114,9 +120,9 @@ Appends-none (Some bytes) = sym (append-nil bytes)
 
 -- nothing is taken yet
 pub none-answered : {R : Type 0} (remaining : R → Option (List ℕ)) (options : Options) (text : List ℕ) (recording : Recording R)
-    (before : Option (List ℕ)) (status : Status) → IsRecording remaining recording [] (answers_of text)
-    → HasAnswered remaining options text recording before before None status
-none-answered remaining options text recording before status is = record {
+    (before : Option (List ℕ)) → IsRecording remaining recording [] (answers_of text)
+    → HasAnswered remaining options text recording before before None
+none-answered remaining options text recording before is = record {
   taken = [];
   ahead = answers_of text;
   said = [];
@@ -128,15 +134,20 @@ none-answered remaining options text recording before status is = record {
 }
 
 module _ {R : Type 0} (remaining : R → Option (List ℕ)) (options : Options) (text : List ℕ) (old new : Recording R)
-    (before now : Option (List ℕ)) (answered : Option ℕ) (status : Status) (way : HasAnswered remaining options text old before now answered status) where
+    (before now : Option (List ℕ)) (answered : Option Last) (way : HasAnswered remaining options text old before now answered) where
   kept : take (length way.taken) (answers_of text).items ≡ way.taken
   kept = first-taken (answers_of text) way.taken way.ahead way.whole
 
   -- memory is wanting before the next answer
-  pub wants_memory : (after : Option (List ℕ)) (code : ℕ) → Prints now after (memory_line options.json) Memory code → IsRun options text before after code
+  pub wants_memory : (after : Option (List ℕ)) (code : ℕ) → Prints now after (memory_line options.json) Memory code → EndsEarly options text before after code
   wants_memory after code prints =
       ended options text before (length way.taken) halt.NoMemory way.said now after code tt
       (subst (λ items. AreAnswered options (sealed_in items) way.said) (sym kept) way.answers) way.out prints
+
+  -- the texts with one more
+  pub one-more : (one : Said) (after : Option (List ℕ)) → Appends now after one.text → Appends before after (texts (way.said ++ one ∷ []))
+  one-more one after out =
+      subst (λ t. Appends before after t) (sym (texts-push way.said one)) (Appends-trans before now after (texts way.said) one.text way.out out)
 
   -- ---- at a seal
 
@@ -152,37 +163,36 @@ module _ {R : Type 0} (remaining : R → Option (List ℕ)) (options : Options) 
         (sym (append_assoc way.taken (at.0 ++ item.Seal ∷ []) at.1.items ∙ ap (λ items. way.taken ++ items) (append_assoc at.0 (item.Seal ∷ []) at.1.items)))
 
     -- the snapshots to answer, with the one at the seal
-    past-answered : (s : Sessions) (t : List ℕ) (st : Status) → s ≡ finished_in sealed_past → IsAnswered s options t st
-        → AreAnswered options (sealed_in sealed_past) (way.said ++ record { text = t; status = st } ∷ [])
-    past-answered s t st same answer =
-        let one : Said = record { text = t; status = st } in
+    past-answered : (s : Sessions) (one : Said) → s ≡ finished_in sealed_past → IsAnswered options s one
+        → AreAnswered options (sealed_in sealed_past) (way.said ++ one ∷ [])
+    past-answered s one same answer =
         subst (λ snapshots. AreAnswered options snapshots (way.said ++ one ∷ [])) (sym (sealed-seal way.taken at.0 at.2.0))
-        (AllZip-append (λ s (one : Said). IsAnswered s options one.text one.status) (sealed_in way.taken) (finished_in (way.taken ++ at.0) ∷ []) way.said (one ∷ []) way.answers
-        (subst (λ s. IsAnswered s options t st) (same ∙ finished-seal way.taken at.0) answer, tt))
+        (AllZip-append (IsAnswered options) (sealed_in way.taken) (finished_in (way.taken ++ at.0) ∷ []) way.said (one ∷ []) way.answers
+        (subst (λ s. IsAnswered options s one) (same ∙ finished-seal way.taken at.0) answer, tt))
 
-    -- the answer goes out
-    pub answered-seal : (s : Sessions) (n : ℕ) (st : Status) (after : Option (List ℕ)) → s ≡ finished_in sealed_past → n ≡ transaction_count s
-        → (t : List ℕ) × IsAnswered s options t st × Appends now after t → HasAnswered remaining options text new before after (Some n) st
-    answered-seal s n st after same counted answer = record {
+    -- the answer goes out, and is kept
+    pub answered-seal : (s : Sessions) (last : Last) (after : Option (List ℕ)) → s ≡ finished_in sealed_past
+        → last.transactions ≡ transaction_count s → AnswersKept options s now after last.answer
+        → HasAnswered remaining options text new before after (Some last)
+    answered-seal s last after same counted (one, answer, keeps, out) = record {
       taken = sealed_past;
       ahead = at.1;
-      said = way.said ++ record { text = answer.0; status = st } ∷ [];
+      said = way.said ++ one ∷ [];
       whole = past-whole;
       recorded = at.3;
-      answers = past-answered s answer.0 st same answer.1;
-      out = subst (λ t. Appends before after t) (sym (texts-push way.said (record { text = answer.0; status = st })))
-          (Appends-trans before now after (texts way.said) answer.0 way.out answer.2);
-      last = (due-seal way.taken at.0, counted ∙ ap transaction_count same, (answer.0, last-push None way.said (record { text = answer.0; status = st })));
+      answers = past-answered s one same answer;
+      out = one-more one after out;
+      last = (due-seal way.taken at.0, counted ∙ ap transaction_count same, (one, last-push None way.said one, keeps));
     }
 
     -- or the run ends in it
-    pub ended-seal : (s : Sessions) (after : Option (List ℕ)) (code : ℕ) → s ≡ finished_in sealed_past → EndsAnswering s options now after code
-        → IsRun options text before after code
+    pub ended-seal : (s : Sessions) (after : Option (List ℕ)) (code : ℕ) → s ≡ finished_in sealed_past → EndsAnswering options s now after code
+        → EndsEarly options text before after code
     ended-seal s after code same (inr memory) = wants_memory after code memory
-    ended-seal s after code same (inl (t, st, answer, cuts)) =
-        cut options text before (length sealed_past) way.said (record { text = t; status = st }) now after code
-        (subst (λ items. AreAnswered options (sealed_in items) (way.said ++ record { text = t; status = st } ∷ []))
-        (sym (first-taken (answers_of text) sealed_past at.1 past-whole)) (past-answered s t st same answer)) way.out cuts
+    ended-seal s after code same (inl (one, answer, cuts)) =
+        cut options text before (length sealed_past) way.said one now after code
+        (subst (λ items. AreAnswered options (sealed_in items) (way.said ++ one ∷ []))
+        (sym (first-taken (answers_of text) sealed_past at.1 past-whole)) (past-answered s one same answer)) way.out cuts
 
   -- ---- at the end
 
@@ -205,88 +215,110 @@ module _ {R : Type 0} (remaining : R → Option (List ℕ)) (options : Options) 
     )
 
     -- nothing was finished since the last answer, which has said all
-    pub said_all : (code : ℕ) → answered ≡ Some (transaction_count (finished_in all_past)) → code ≡ code_of status → IsRun options text before now code
-    said_all code is ends =
-        let last = subst (λ o. IsLast o status way.taken way.said) is way.last in
+    said_all : (last : Last) → answered ≡ Some last → last.transactions ≡ transaction_count (finished_in all_past)
+        → AllAnswered options text before now last.answer
+    said_all last is counted =
+        let known = subst (λ o. IsLast o way.taken way.said) is way.last in
         let none : is_due_after true all_past ≡ false = elim (due-passed way.taken at.0 at.1.0) [
-          | inl rise ↦ absurd (omega (arith, rise.1, last.1))
-          | inr same ↦ same.0 ∙ last.0
+          | inl rise ↦ absurd (omega (arith, rise.1, known.1, counted))
+          | inr same ↦ same.0 ∙ known.0
         ] in (
           way.said,
-          record { text = last.2.0; status = status },
-          inl (whole-by way.said (subst (λ end. AreAnswered options (sealed_in way.taken ++ end) way.said) (sym (at_end-none all_past none))
-              (subst (λ snapshots. AreAnswered options snapshots way.said) (sym (append-nil (sealed_in way.taken))) way.answers))),
-          last.2.1,
-          inl (way.out, ends),
+          known.2.0,
+          whole-by way.said (subst (λ end. AreAnswered options (sealed_in way.taken ++ end) way.said) (sym (at_end-none all_past none))
+              (subst (λ snapshots. AreAnswered options snapshots way.said) (sym (append-nil (sealed_in way.taken))) way.answers)),
+          known.2.1,
+          known.2.2,
+          way.out,
         )
 
-    -- an answer is due
-    pub is_due : answered ≢ Some (transaction_count (finished_in all_past)) → is_due_after true all_past ≡ true
-    is_due other = by answered refl way.last
+    -- an answer is due where the last one was for fewer
+    is_due : IfSome answered (λ last. last.transactions ≢ transaction_count (finished_in all_past)) → is_due_after true all_past ≡ true
+    is_due other = by answered other way.last
       where
-        by : (o : Option ℕ) → answered ≡ o → IsLast o status way.taken way.said → is_due_after true all_past ≡ true
-        by None is last = still_due way.taken at.0 at.1.0 last
-        by (Some m) is last = elim (due-passed way.taken at.0 at.1.0) [
+        by : (o : Option Last) → IfSome o (λ last. last.transactions ≢ transaction_count (finished_in all_past)) → IsLast o way.taken way.said
+            → is_due_after true all_past ≡ true
+        by None other known = still_due way.taken at.0 at.1.0 known
+        by (Some last) other known = elim (due-passed way.taken at.0 at.1.0) [
           | inl rise ↦ rise.0
-          | inr same ↦ absurd (other (is ∙ ap Some (last.1 ∙ same.1)))
+          | inr same ↦ absurd (other (known.1 ∙ same.1))
         ]
 
     module _ (s : Sessions) (same : s ≡ finished_in all_past) (due : is_due_after true all_past ≡ true) where
-      end-answered : (t : List ℕ) (st : Status) → IsAnswered s options t st → IsWhole options (answers_of text) (way.said ++ record { text = t; status = st } ∷ [])
-      end-answered t st answer =
-          let one : Said = record { text = t; status = st } in
+      end-answered : (one : Said) → IsAnswered options s one → IsWhole options (answers_of text) (way.said ++ one ∷ [])
+      end-answered one answer =
           whole-by (way.said ++ one ∷ [])
           (subst (λ end. AreAnswered options (sealed_in way.taken ++ end) (way.said ++ one ∷ [])) (sym (at_end-due all_past due))
-          (AllZip-append (λ s (one : Said). IsAnswered s options one.text one.status) (sealed_in way.taken) (finished_in all_past ∷ []) way.said (one ∷ []) way.answers
-          (subst (λ s. IsAnswered s options t st) same answer, tt)))
-
-      last_said : (t : List ℕ) (st : Status) (after : Option (List ℕ)) (code : ℕ) → IsAnswered s options t st → Prints now after t st code
-          → IsRun options text before after code
-      last_said t st after code answer prints =
-          let one : Said = record { text = t; status = st } in (
-            way.said ++ one ∷ [],
-            one,
-            inl (end-answered t st answer),
-            last-push None way.said one,
-            subst (λ t. Prints before after t st code) (sym (texts-push way.said one)) (Prints-after before now after (texts way.said) t st code way.out prints),
-          )
+          (AllZip-append (IsAnswered options) (sealed_in way.taken) (finished_in all_past ∷ []) way.said (one ∷ []) way.answers
+          (subst (λ s. IsAnswered options s one) same answer, tt)))
 
       -- the answer is the last text
-      pub ends_with : (after : Option (List ℕ)) (code : ℕ) → PrintsAnswer s options now after code → IsRun options text before after code
-      ends_with after code (inl (t, st, answer, prints)) = last_said t st after code answer prints
-      ends_with after code (inr memory) = wants_memory after code memory
+      end-kept : (after : Option (List ℕ)) (kept : Option Answer) → AnswersKept options s now after kept → AllAnswered options text before after kept
+      end-kept after kept (one, answer, keeps, out) =
+          (way.said ++ one ∷ [], one, end-answered one answer, last-push None way.said one, keeps, one-more one after out)
+
+      -- or the run ends in it
+      end-cut : (after : Option (List ℕ)) (code : ℕ) → EndsAnswering options s now after code → EndsEarly options text before after code
+      end-cut after code (inr memory) = wants_memory after code memory
+      end-cut after code (inl (one, answer, cuts)) = (
+        way.said ++ one ∷ [],
+        one,
+        inl (end-answered one answer),
+        last-push None way.said one,
+        inr (
+          (
+            length (texts way.said) + cuts.0.0,
+            subst (λ t. Appends before after (take (length (texts way.said) + cuts.0.0) t)) (sym (texts-push way.said one))
+                (Appends-part before now after (texts way.said) one.text cuts.0.0 way.out cuts.0.1),
+          ),
+          cuts.1,
+        ),
+      )
 
     -- what the answer at the end says of the run
-    pub ended-end : (s : Sessions) (after : Option (List ℕ)) (code : ℕ) → s ≡ finished_in all_past
-        → (answered ≡ Some (transaction_count s) → (after ≡ now) × (code ≡ code_of status))
-        → (answered ≢ Some (transaction_count s) → PrintsAnswer s options now after code) → IsRun options text before after code
-    ended-end s after code same said due = by answered refl
+    pub ended-end : (s : Sessions) (after : Option (List ℕ)) (r : Result (Option Answer) ℕ) → s ≡ finished_in all_past
+        → IfSome answered (λ last. last.transactions ≡ transaction_count s → (after ≡ now) × (r ≡ Ok last.answer))
+        → (IfSome answered (λ last. last.transactions ≢ transaction_count s) → MatchResult r (AnswersKept options s now after) (EndsAnswering options s now after))
+        → MatchResult r (AllAnswered options text before after) (EndsEarly options text before after)
+    ended-end s after r same said due = by answered refl said due
       where
-        again : answered ≡ Some (transaction_count s) → IsRun options text before after code
-        again is =
-            let sent = said is in
-            subst (λ o. IsRun options text before o code) (sym sent.0) (said_all code (is ∙ ap (λ s. Some (transaction_count s)) same) sent.1)
+        again : (last : Last) → answered ≡ Some last → last.transactions ≡ transaction_count s → (after ≡ now) × (r ≡ Ok last.answer)
+            → MatchResult r (AllAnswered options text before after) (EndsEarly options text before after)
+        again last is counted sent =
+            subst (λ r. MatchResult r (AllAnswered options text before after) (EndsEarly options text before after)) (sym sent.1)
+            (subst (λ o. AllAnswered options text before o last.answer) (sym sent.0) (said_all last is (counted ∙ ap transaction_count same)))
 
-        fresh : answered ≢ Some (transaction_count s) → IsRun options text before after code
-        fresh other =
-            ends_with s same (is_due (λ is. other (is ∙ ap (λ s. Some (transaction_count s)) (sym same)))) after code (due other)
-
-        by : (o : Option ℕ) → answered ≡ o → IsRun options text before after code
-        by None is = fresh (λ some. none-some (transaction_count s) (sym is ∙ some))
-        by (Some m) is = by_test (nat_eq m (transaction_count s)) refl
+        fresh : IfSome answered (λ last. last.transactions ≢ transaction_count s) → MatchResult r (AnswersKept options s now after) (EndsAnswering options s now after)
+            → MatchResult r (AllAnswered options text before after) (EndsEarly options text before after)
+        fresh other = by_result r
           where
-            equal : (n : ℕ) → nat_eq m n ≡ true → m ≡ n
-            equal n e = grind (arith, nat_tests, e)
+            late : is_due_after true all_past ≡ true
+            late = is_due (subst (λ (s : Sessions). IfSome answered (λ last. last.transactions ≢ transaction_count s)) same other)
 
-            some-of : (n : ℕ) → ◌≡◌ {A = Option ℕ} (Some m) (Some n) → m ≡ n
-            some-of n e = cc
+            by_result : (r : Result (Option Answer) ℕ) → MatchResult r (AnswersKept options s now after) (EndsAnswering options s now after)
+                → MatchResult r (AllAnswered options text before after) (EndsEarly options text before after)
+            by_result (Ok kept) is = end-kept s same late after kept is
+            by_result (Err code) is = end-cut s same late after code is
 
-            differ : (n : ℕ) → nat_eq m n ≡ false → m ≢ n
-            differ n e same = grind (arith, nat_tests, e, same)
+        by : (o : Option Last) → answered ≡ o
+            → IfSome o (λ last. last.transactions ≡ transaction_count s → (after ≡ now) × (r ≡ Ok last.answer))
+            → (IfSome o (λ last. last.transactions ≢ transaction_count s) → MatchResult r (AnswersKept options s now after) (EndsAnswering options s now after))
+            → MatchResult r (AllAnswered options text before after) (EndsEarly options text before after)
+        by None is said due = fresh (subst (λ (o : Option Last). IfSome o (λ last. last.transactions ≢ transaction_count s)) (sym is) tt) (due tt)
+        by (Some last) is said due = by_test (nat_eq last.transactions (transaction_count s)) refl
+          where
+            equal : (m n : ℕ) → nat_eq m n ≡ true → m ≡ n
+            equal m n e = grind (arith, nat_tests, e)
 
-            by_test : (b : Bool) → nat_eq m (transaction_count s) ≡ b → IsRun options text before after code
-            by_test true e = again (is ∙ ap Some (equal (transaction_count s) e))
-            by_test false e = fresh (λ some. differ (transaction_count s) e (some-of (transaction_count s) (sym is ∙ some)))
+            differ : (m n : ℕ) → nat_eq m n ≡ false → m ≢ n
+            differ m n e same = grind (arith, nat_tests, e, same)
+
+            by_test : (b : Bool) → nat_eq last.transactions (transaction_count s) ≡ b
+                → MatchResult r (AllAnswered options text before after) (EndsEarly options text before after)
+            by_test true e = again last is (equal _ _ e) (said (equal _ _ e))
+            by_test false e =
+                let other = differ last.transactions (transaction_count s) e in
+                fresh (subst (λ (o : Option Last). IfSome o (λ last. last.transactions ≢ transaction_count s)) (sym is) other) (due other)
 
   -- ---- at a fault
 
@@ -296,19 +328,19 @@ module _ {R : Type 0} (remaining : R → Option (List ℕ)) (options : Options) 
 
     by_halt : (n : ℕ) (why : Halt) (items : List Item) (after : Option (List ℕ)) (code : ℕ) → MayEnd text n why → take n (answers_of text).items ≡ items
         → sealed_in items ≡ sealed_in way.taken → PrintsOrMemory options.json now after (halted options.json why) (halt_status why) code
-        → IsRun options text before after code
+        → EndsEarly options text before after code
     by_halt n why items after code may taken none prints =
         ended_or options text before n why way.said now after code may
         (subst (λ snapshots. AreAnswered options snapshots way.said) (sym (ap sealed_in taken ∙ none)) way.answers) way.out prints
 
     -- the fault of the records, a reader that failed, or want of memory
     pub stopped : (after : Option (List ℕ)) (code : ℕ) → fault.row ≤ length (records_of text) + 1
-        → PrintsOrMemory options.json now after (halted options.json (by_row fault)) (halt_status (by_row fault)) code → IsRun options text before after code
+        → PrintsOrMemory options.json now after (halted options.json (by_row fault)) (halt_status (by_row fault)) code → EndsEarly options text before after code
     stopped after code within = by_test (is_memory fault.kind) refl
       where
         by_test : (b : Bool) → is_memory fault.kind ≡ b
             → PrintsOrMemory options.json now after (halted options.json (cond b halt.NoMemory (halt.Row fault))) (halt_status (cond b halt.NoMemory (halt.Row fault))) code
-            → IsRun options text before after code
+            → EndsEarly options text before after code
         by_test true e prints = by_halt (length way.taken) halt.NoMemory way.taken after code tt kept refl prints
         by_test false e prints = elim at.3 [
           | inl last ↦
@@ -322,7 +354,38 @@ module _ {R : Type 0} (remaining : R → Option (List ℕ)) (options : Options) 
           ]
         ]
 
+-- ---- the whole run
+
+-- a file to which nothing goes
+Gains-none : (file : Contents) → Gains file file []
+Gains-none None = refl
+Gains-none (Some bytes) = Appends-none bytes
+
+-- a run that ends early has nothing for the file
+pub early : (options : Options) (text : List ℕ) (before after : Option (List ℕ)) (file : Contents) (code : ℕ)
+    → EndsEarly options text before after code → IsRun options text before after file file code
+early options text before after file code (said, last, is, ends, inl whole) =
+    (said, last, is, ends, inl (whole.0, subst (λ certificate. Gains file file (unwrap_or certificate [])) (sym whole.1) (Gains-none file), whole.2))
+early options text before after file code (said, last, is, ends, inr cuts) = (said, last, is, ends, inr (inl (cuts.0, Gains-none file, cuts.1)))
+
+-- one that has answered all ends with the certificate of the last answer
+pub concluded : (options : Options) (text : List ℕ) (before now after : Option (List ℕ)) (file file' : Contents) (kept : Option Answer) (code : ℕ)
+    → AllAnswered options text before now kept → Concludes options kept now after file file' code → IsRun options text before after file file' code
+concluded options text before now after file file' kept code (said, last, is, ends, keeps, out) (inl (quiet, gains, ends_by)) = (
+  said,
+  last,
+  inl is,
+  ends,
+  inl (
+    subst (λ o. Appends before o (texts said)) (sym quiet) out,
+    subst (λ certificate. Gains file file' (unwrap_or certificate [])) (sym keeps.1) gains,
+    ends_by ∙ ap code_of (sym keeps.0),
+  ),
+)
+concluded options text before now after file file' kept code (said, last, is, ends, keeps, out) (inr (part, prints)) =
+    (said, last, inl is, ends, inr (inr ((part.0, keeps.1 ∙ part.1, part.2), (now, out, prints))))
+
 -- memory is wanting before anything is read
 pub nothing_read : (options : Options) (text : List ℕ) (before after : Option (List ℕ)) (code : ℕ)
-    → Prints before after (memory_line options.json) Memory code → IsRun options text before after code
+    → Prints before after (memory_line options.json) Memory code → EndsEarly options text before after code
 nothing_read options text before after code prints = ended options text before 0 halt.NoMemory [] before after code tt tt (Appends-none before) prints

@@ -1,29 +1,35 @@
 -- How a run goes on after a text was sent.
-use Rattle.std.proofs.Common.{◌≡◌, ℕ, Bool, List, Option, Result, Ok, Err, sym, subst, inl, inr, ◌⊎◌, ◌∙◌}
+use Rattle.std.proofs.Common.{◌≡◌, ℕ, Bool, List, Option, Result, Ok, Err, sym, subst, inl, inr, ◌∙◌}
 use Rattle.std.specs.Prelude.{IfErr, IsErrAnd, MatchResult, OnOk}
 use Rattle.std.specs.Io.KnownBytes.{Appends}
 use Rattle.tcc_txn.specs.Snapshots.{Sessions}
-use Rattle.tcc_run.specs.Runs.{IsAnswered}
+use Rattle.tcc_run.specs.Runs.{IsAnswered, Said}
 use Rattle.tcc_run.specs.Stages.{EndsAnswering, EndsIn, PrintsOrMemory}
 use Rattle.tcc_run.specs.Statuses.{code_of}
 use Rattle.tcc_run.specs.declared.options.Options.{Options}
 use Rattle.tcc_run.specs.declared.status.Status.{Status}
 
-module _ (before after : Option (List ℕ)) (text : List ℕ) (status : Status) where
-  -- the text went out with its number, or the run ended in it
-  pub printed : {A : Type 0} (json : Bool) (sent : Result A ℕ) (code : ℕ) → OnOk sent (Appends before after text) → IfErr sent (EndsIn json before after text)
-      → MatchResult sent (λ _. code ≡ code_of status) (λ c. code ≡ c) → PrintsOrMemory json before after text status code
-  printed json (Ok _) code whole ended is = inl (inl (whole, is))
-  printed json (Err c) code whole (inl cuts) is = inl (inr (cuts.0, is ∙ cuts.1))
-  printed json (Err c) code whole (inr (inl sent)) is = inr (inl (sent.0, is ∙ sent.1))
-  printed json (Err c) code whole (inr (inr part)) is = inr (inr (part.0, is ∙ part.1))
+-- the text went out with its number, or the run ended in it
+pub printed : {A : Type 0} (before after : Option (List ℕ)) (text : List ℕ) (status : Status) (json : Bool) (sent : Result A ℕ) (code : ℕ)
+    → OnOk sent (Appends before after text) → IfErr sent (EndsIn json before after text)
+    → MatchResult sent (λ _. code ≡ code_of status) (λ c. code ≡ c) → PrintsOrMemory json before after text status code
+printed before after text status json (Ok _) code whole ended is = inl (inl (whole, is))
+printed before after text status json (Err c) code whole (inl cuts) is = inl (inr (cuts.0, is ∙ cuts.1))
+printed before after text status json (Err c) code whole (inr (inl sent)) is = inr (inl (sent.0, is ∙ sent.1))
+printed before after text status json (Err c) code whole (inr (inr part)) is = inr (inr (part.0, is ∙ part.1))
 
-  -- the run ended in the text of an answer
-  pub ended : {A : Type 0} (s : Sessions) (options : Options) (why : ℕ) (r : Result A ℕ) → IsAnswered s options text status
-      → EndsIn options.json before after text why → IsErrAnd r (λ code. code ≡ why) → IfErr r (EndsAnswering s options before after)
-  ended s options why (Ok _) answer ends is = tt
-  ended s options why (Err code) answer ends is = subst (EndsAnswering s options before after) (sym is) (by ends)
-    where
-      by : EndsIn options.json before after text why → EndsAnswering s options before after why
-      by (inl cuts) = inl (text, status, answer, cuts)
-      by (inr memory) = inr memory
+-- the run ended in the text of an answer
+pub ended : {A : Type 0} (before after : Option (List ℕ)) (s : Sessions) (options : Options) (said : Said) (why : ℕ) (r : Result A ℕ)
+    → IsAnswered options s said → EndsIn options.json before after said.text why → IsErrAnd r (λ code. code ≡ why)
+    → IfErr r (EndsAnswering options s before after)
+ended before after s options said why (Ok _) answer ends is = tt
+ended before after s options said why (Err code) answer ends is = subst (EndsAnswering options s before after) (sym is) (by ends)
+  where
+    by : EndsIn options.json before after said.text why → EndsAnswering options s before after why
+    by (inl cuts) = inl (said, answer, cuts)
+    by (inr memory) = inr memory
+
+-- a run that ends by a number ends by that of the call that ended it
+pub ended_by : {A : Type 0} (P : A → Type 0) (Q : ℕ → Type 0) (r : Result A ℕ) (why : ℕ) → IsErrAnd r (λ code. code ≡ why) → Q why → MatchResult r P Q
+ended_by P Q (Ok a) why is q = absurd is
+ended_by P Q (Err code) why is q = subst Q (sym is) q

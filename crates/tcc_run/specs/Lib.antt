@@ -5,5 +5,6 @@ pub mod Json
 pub mod Printed
 pub mod Runs
 pub mod Checks
+pub mod Closing
 -- what serves the proofs alone
 pub mod Stages

@@ -1,5 +1,5 @@
 -- What is printed, as text and as JSON, and how it goes out.
-use Rattle.std.specs.Prelude.{ℕ, ◌≡◌, ◌⊎◌, Bool, List, take, Option, Result, Ok, Err, if◌then◌else◌}
+use Rattle.std.specs.Prelude.{ℕ, ◌≡◌, ◌⊎◌, Bool, List, take, Option, Result, Ok, Err, codes, if◌then◌else◌}
 use Rattle.std.specs.Io.KnownBytes.{Appends}
 use Rattle.tcc_reads.specs.declared.fault.ReadFault.{ReadFault}
 use Rattle.tcc_answer.specs.Texts.{answer_text}
@@ -29,6 +29,10 @@ halted json why = if json then halt_line why else halt_text why
 -- the line for want of memory
 abbrev pub memory_line : Bool → List ℕ
 memory_line json = halted json NoMemory
+
+-- the line for a file or a writer that failed
+abbrev pub device_line : Bool → List ℕ
+device_line json = if json then codes "{\"answer\":\"device\"}\n" else codes "device\n"
 
 -- what a run of check prints
 abbrev pub check_text : Result Judged Halt → List ℕ

@@ -1,5 +1,6 @@
 -- What is answered for the records of an input, and what a run of explain does with their bytes.
-use Rattle.std.specs.Prelude.{ℕ, ◌≡◌, ◌≢◌, ◌⊎◌, ◌+◌, ◌≤◌, Bool, true, false, List, [], ◌∷◌, ◌++◌, length, take, flat_map, Option, None, Some, if◌then◌else◌}
+use Rattle.std.specs.Prelude.{ℕ, ◌≡◌, ◌≢◌, ◌⊎◌, ◌+◌, ◌≤◌, Bool, true, false, List, [], ◌∷◌, ◌++◌, length, take, flat_map, unwrap_or, Option, None, Some, if◌then◌else◌}
+use Rattle.std.specs.Io.KnownBytes.{Appends}
 use Rattle.std.specs.List.{AllZip, last_or}
 use Rattle.tcc_txn.specs.Answers as rows
 use Rattle.tcc_txn.specs.Finished.{finished_in}
@@ -9,38 +10,52 @@ use Rattle.tcc_txn.specs.declared.rows.Item.TheVariants as item
 use Rattle.tcc_txn.specs.declared.rows.RowFaultKind.TheVariants as kind
 use Rattle.tcc_reads.specs.Faults.{read_faults}
 use Rattle.tcc_reads.specs.Sources.{history}
+use Rattle.tcc_reads.specs.declared.fault.ReadFault.{ReadFault}
+use Rattle.tcc_cert.specs.Texts.{certificate_text}
 use Rattle.tcc_explain.specs.Explained.{IsAnswerOf}
+use Rattle.tcc_answer.specs.Claims.{certificate_of}
 use Rattle.tcc_answer.specs.declared.answer.Answer.{Answer}
 use Rattle.tcc_run.specs.declared.halt.Halt.{Halt}
 use Rattle.tcc_run.specs.declared.halt.Halt.TheVariants as halt
 use Rattle.tcc_run.specs.declared.options.Options.{Options}
 use Rattle.tcc_run.specs.declared.status.Status.{Status}
-use Rattle.tcc_run.specs.declared.status.Status.TheVariants.{ReadFaults}
-use Rattle.tcc_run.specs.Statuses.{answer_status, halt_status}
-use Rattle.tcc_run.specs.Printed.{answered, halted, unresolved, Prints}
+use Rattle.tcc_run.specs.declared.status.Status.TheVariants.{ReadFaults, Device}
+use Rattle.tcc_run.specs.Statuses.{answer_status, code_of, halt_status}
+use Rattle.tcc_run.specs.Printed.{answered, device_line, halted, unresolved, Prints}
 
 -- ---- one answer
 
--- the text for a snapshot, and how a run ends whose last answer it is: the first answer for its history at the level that is
--- asked for, where all its reads have sources, else all its read faults
-abbrev pub IsAnswered : Sessions → Options → List ℕ → Status → Type 0
-IsAnswered s options text status =
-    ((read_faults s ≡ []) × (a : Answer) × IsAnswerOf (record { history = history s; level = options.level }) a
-    × (text ≡ answered options.json a) × (status ≡ answer_status a))
-    ⊎ ((read_faults s ≢ []) × (text ≡ unresolved options.json (read_faults s)) × (status ≡ ReadFaults))
-
--- one of the texts of a run, and how the run ends where it is the last
+-- one of the texts of a run; how the run ends where it is the last; and then the text of its certificate, if it has one
 pub record Said : Type 0 where
   pub text : List ℕ
   pub status : Status
+  pub certificate : Option (List ℕ)
 
--- what stands in the place of an answer
+abbrev pub answer_said : Options → Answer → Said
+answer_said options a = record {
+  text = answered options.json a;
+  status = answer_status a;
+  certificate = Some (certificate_text (certificate_of a));
+}
+
+-- read faults in the place of an answer
+abbrev pub faults_said : Options → List ReadFault → Said
+faults_said options faults = record { text = unresolved options.json faults; status = ReadFaults; certificate = None }
+
+-- what stands in the place of an answer, where the run ends
 abbrev pub halt_said : Options → Halt → Said
-halt_said options why = record { text = halted options.json why; status = halt_status why }
+halt_said options why = record { text = halted options.json why; status = halt_status why; certificate = None }
+
+-- what is said of a snapshot: the first answer for its history at the level that is asked for, where all its reads have
+-- sources, else all its read faults
+abbrev pub IsAnswered : Options → Sessions → Said → Type 0
+IsAnswered options s said =
+    ((read_faults s ≡ []) × (a : Answer) × IsAnswerOf (record { history = history s; level = options.level }) a × (said ≡ answer_said options a))
+    ⊎ ((read_faults s ≢ []) × (said ≡ faults_said options (read_faults s)))
 
 -- each of the snapshots is answered, in turn
 abbrev pub AreAnswered : Options → List Sessions → List Said → Type 0
-AreAnswered options snapshots said = AllZip (λ s one. IsAnswered s options one.text one.status) snapshots said
+AreAnswered options snapshots said = AllZip (IsAnswered options) snapshots said
 
 -- ---- what is answered
 
@@ -87,8 +102,48 @@ IsEnded options text said =
     (n : ℕ) × (why : Halt) × (answers : List Said) × MayEnd text n why
     × AreAnswered options (sealed_in (take n (rows.answers_of text).items)) answers × (said ≡ answers ++ halt_said options why ∷ [])
 
--- what a run does with the bytes: its texts go out one after the other, and the status is that of the last
-abbrev pub IsRun : Options → List ℕ → Option (List ℕ) → Option (List ℕ) → ℕ → Type 0
-IsRun options text before after code =
-    (said : List Said) × (last : Said) × (IsWhole options (rows.answers_of text) said ⊎ IsEnded options text said)
-    × (last_or None said ≡ Some last) × Prints before after (flat_map (λ one. one.text) said) last.status code
+-- ---- what goes out
+
+-- the texts, one after the other
+abbrev pub texts : List Said → List ℕ
+texts said = flat_map (λ (one : Said). one.text) said
+
+-- the contents of a file before and after; none where no file is given
+abbrev pub Contents : Type 0
+Contents = Option (Option (List ℕ))
+
+-- these bytes are put behind the contents of the file, if one is given
+abbrev pub Gains : Contents → Contents → List ℕ → Type 0
+Gains None after bytes = after ≡ None
+Gains (Some before) None bytes = ⊥
+Gains (Some before) (Some after) bytes = Appends before after bytes
+
+-- a file is given, and a part of the text, from its front, went out to it
+abbrev pub GainsPart : Contents → Contents → List ℕ → Type 0
+GainsPart file file' text = (n : ℕ) × Gains file file' (take n text) × (file ≢ None)
+
+-- the text went out, and then all of the certificate, if there is one: the status is that of the last
+abbrev pub AllGoesOut : Option (List ℕ) → Option (List ℕ) → Contents → Contents → List ℕ → Said → ℕ → Type 0
+AllGoesOut before after file file' text last code =
+    Appends before after text × Gains file file' (unwrap_or last.certificate []) × (code ≡ code_of last.status)
+
+-- a write of the text failed: a part of it, from its front, went out, and nothing of a certificate
+abbrev pub TextFails : Option (List ℕ) → Option (List ℕ) → Contents → Contents → List ℕ → ℕ → Type 0
+TextFails before after file file' text code =
+    ((n : ℕ) × Appends before after (take n text)) × Gains file file' [] × (code ≡ code_of Device)
+
+-- a write of the certificate failed after the text: a part of it, from its front, went out, and the line for the device
+-- comes behind the text
+abbrev pub CertificateFails : Options → Option (List ℕ) → Option (List ℕ) → Contents → Contents → List ℕ → Said → ℕ → Type 0
+CertificateFails options before after file file' text last code =
+    ((certificate : List ℕ) × (last.certificate ≡ Some certificate) × GainsPart file file' certificate)
+    × ((between : Option (List ℕ)) × Appends before between text × Prints between after (device_line options.json) Device code)
+
+-- what a run does with the bytes: its texts go out one after the other, and behind them, into the file that is given for it,
+-- the certificate of the last; the status is that of the last
+abbrev pub IsRun : Options → List ℕ → Option (List ℕ) → Option (List ℕ) → Contents → Contents → ℕ → Type 0
+IsRun options bytes before after file file' code =
+    (said : List Said) × (last : Said) × (IsWhole options (rows.answers_of bytes) said ⊎ IsEnded options bytes said)
+    × (last_or None said ≡ Some last)
+    × (AllGoesOut before after file file' (texts said) last code
+    ⊎ (TextFails before after file file' (texts said) code ⊎ CertificateFails options before after file file' (texts said) last code))

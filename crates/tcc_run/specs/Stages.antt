@@ -1,6 +1,7 @@
 -- How the stages of a run follow one another. Nobody has to believe these: the contracts of public calls cite none of them.
-use Rattle.std.specs.Prelude.{ℕ, ◌≡◌, ◌≢◌, ◌⊎◌, ◌+◌, ◌≤◌, Bool, true, false, List, [], length, take, slice_get, Option, None, Some, Result, Ok, Err, if◌then◌else◌}
+use Rattle.std.specs.Prelude.{ℕ, ◌≡◌, ◌≢◌, ◌⊎◌, ◌+◌, ◌≤◌, Bool, true, false, List, [], length, take, slice_get, option_map, unwrap_or, Option, None, Some, Result, Ok, Err, if◌then◌else◌}
 use Rattle.std.specs.Io.KnownBytes.{Appends}
+use Rattle.std.specs.List.{last_or}
 use Rattle.std.specs.Option.{option_map_or}
 use Rattle.tcc_txn.specs.Answers as rows
 use Rattle.tcc_txn.specs.Finished.{finished_in}
@@ -14,9 +15,12 @@ use Rattle.tcc_reads.specs.History.{History}
 use Rattle.tcc_reads.specs.Sources.{history}
 use Rattle.tcc_reads.specs.declared.fault.ResolveFault.{ResolveFault}
 use Rattle.tcc_reads.specs.declared.fault.ResolveFault.TheVariants as unresolved
+use Rattle.tcc_cert.specs.Texts.{certificate_text}
 use Rattle.tcc_cert.specs.declared.fault.CertFault.{CertFault}
 use Rattle.tcc_cert.specs.declared.fault.CertFaultKind.{CertFaultKind}
 use Rattle.tcc_cert.specs.declared.fault.CertFaultKind.TheVariants as text_kind
+use Rattle.tcc_answer.specs.Claims.{certificate_of}
+use Rattle.tcc_answer.specs.declared.answer.Answer.{Answer}
 use Rattle.tcc_run.specs.declared.halt.Halt.{Halt}
 use Rattle.tcc_run.specs.declared.halt.Halt.TheVariants.{Row, Reads, Text, NoMemory}
 use Rattle.tcc_run.specs.declared.judged.Judged.{Judged}
@@ -24,9 +28,9 @@ use Rattle.tcc_run.specs.declared.status.Status.{Status}
 use Rattle.tcc_run.specs.declared.status.Status.TheVariants.{Device, Memory}
 use Rattle.tcc_run.specs.declared.options.Options.{Options}
 use Rattle.tcc_run.specs.Checks.{IsTextCheck}
-use Rattle.tcc_run.specs.Runs.{IsAnswered}
-use Rattle.tcc_run.specs.Statuses.{code_of}
-use Rattle.tcc_run.specs.Printed.{Prints, memory_line}
+use Rattle.tcc_run.specs.Runs.{Contents, Gains, GainsPart, IsAnswered, IsEnded, IsWhole, Said, texts}
+use Rattle.tcc_run.specs.Statuses.{code_of, last_status}
+use Rattle.tcc_run.specs.Printed.{Prints, device_line, memory_line}
 
 -- ---- why there is no answer or no verdict
 
@@ -96,14 +100,46 @@ abbrev pub PrintsOrMemory : Bool → Option (List ℕ) → Option (List ℕ) →
 PrintsOrMemory json before after text status code =
     Prints before after text status code ⊎ Prints before after (memory_line json) Memory code
 
--- the run ended in the answer for a snapshot
-abbrev pub EndsAnswering : Sessions → Options → Option (List ℕ) → Option (List ℕ) → ℕ → Type 0
-EndsAnswering s options before after code =
-    ((text : List ℕ) × (status : Status) × IsAnswered s options text status × CutsOff before after text code)
+-- ---- one answer
+
+-- the text of a certificate, where there is an answer
+abbrev pub certificate_kept : Option Answer → Option (List ℕ)
+certificate_kept kept = option_map (λ a. certificate_text (certificate_of a)) kept
+
+-- the status and the certificate of what was said are those of the answer that is kept
+abbrev pub Keeps : Said → Option Answer → Type 0
+Keeps said kept = (said.status ≡ last_status kept) × (said.certificate ≡ certificate_kept kept)
+
+-- a snapshot was answered, and the answer is kept
+abbrev pub AnswersKept : Options → Sessions → Option (List ℕ) → Option (List ℕ) → Option Answer → Type 0
+AnswersKept options s before after kept = (said : Said) × IsAnswered options s said × Keeps said kept × Appends before after said.text
+
+-- the run ended in what is said of a snapshot
+abbrev pub EndsAnswering : Options → Sessions → Option (List ℕ) → Option (List ℕ) → ℕ → Type 0
+EndsAnswering options s before after code =
+    ((said : Said) × IsAnswered options s said × CutsOff before after said.text code)
     ⊎ Prints before after (memory_line options.json) Memory code
 
--- the answer for a snapshot, or want of memory in its place, is the last text of the run
-abbrev pub PrintsAnswer : Sessions → Options → Option (List ℕ) → Option (List ℕ) → ℕ → Type 0
-PrintsAnswer s options before after code =
-    ((text : List ℕ) × (status : Status) × IsAnswered s options text status × Prints before after text status code)
-    ⊎ Prints before after (memory_line options.json) Memory code
+-- ---- a run
+
+-- all is answered, and the last answer is kept
+abbrev pub AllAnswered : Options → List ℕ → Option (List ℕ) → Option (List ℕ) → Option Answer → Type 0
+AllAnswered options bytes before after kept =
+    (said : List Said) × (last : Said) × IsWhole options (rows.answers_of bytes) said × (last_or None said ≡ Some last)
+    × Keeps last kept × Appends before after (texts said)
+
+-- the run ended before it came to a certificate: all went out, and the last of it has none; or a write failed
+abbrev pub EndsEarly : Options → List ℕ → Option (List ℕ) → Option (List ℕ) → ℕ → Type 0
+EndsEarly options bytes before after code =
+    (said : List Said) × (last : Said) × (IsWhole options (rows.answers_of bytes) said ⊎ IsEnded options bytes said)
+    × (last_or None said ≡ Some last)
+    × ((Appends before after (texts said) × (last.certificate ≡ None) × (code ≡ code_of last.status)) ⊎ CutsOff before after (texts said) code)
+
+-- ---- the certificate
+
+-- nothing more is said, and the file gets the certificate that is kept; or a write to it fails, which is said
+abbrev pub Concludes : Options → Option Answer → Option (List ℕ) → Option (List ℕ) → Contents → Contents → ℕ → Type 0
+Concludes options kept before after file file' code =
+    ((after ≡ before) × Gains file file' (unwrap_or (certificate_kept kept) []) × (code ≡ code_of (last_status kept)))
+    ⊎ (((text : List ℕ) × (certificate_kept kept ≡ Some text) × GainsPart file file' text)
+    × Prints before after (device_line options.json) Device code)

@@ -1,5 +1,5 @@
 -- The numbers that a run ends with.
-use Rattle.std.specs.Prelude.{ℕ, Result, Ok, Err}
+use Rattle.std.specs.Prelude.{ℕ, Option, None, Some, Result, Ok, Err}
 use Rattle.tcc_run.specs.declared.status.Status.{Status}
 use Rattle.tcc_run.specs.declared.status.Status.TheVariants.{Success, Anomaly, ReadFaults, RowFault, Limit, Memory, Device, Rejected, CertificateFault, Usage}
 use Rattle.tcc_txn.specs.declared.rows.RowFaultKind.{RowFaultKind}
@@ -50,6 +50,11 @@ row_status NoMemory = Memory
 abbrev pub answer_status : Answer → Status
 answer_status (answer.Commit c) = Success
 answer_status (answer.Anomaly a) = Anomaly
+
+-- how a run ends whose last answer this is; none stands for read faults
+abbrev pub last_status : Option Answer → Status
+last_status None = ReadFaults
+last_status (Some a) = answer_status a
 
 -- how a run ends that gave this verdict
 abbrev pub verdict_status : Verdict → Status

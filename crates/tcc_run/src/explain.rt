@@ -1,24 +1,25 @@
 //! From the bytes of records to their answers: at each seal, and at the end.
-ghost use Rattle.std.specs.Prelude.{◌≡◌, ◌≢◌, ℕ, List, [], None, Some, IfErr, IfOk, IfSome};
+ghost use Rattle.std.specs.Prelude.{◌≡◌, ◌≢◌, ℕ, List, [], None, Some, Ok, IfErr, IfOk, IfSome, MatchResult, OnErr, OnOk, option_map};
 ghost use Rattle.std.specs.FinMap as sessions;
-ghost use Rattle.std.specs.Io.KnownBytes.{Appends};
 ghost use Rattle.tcc_txn.specs.Ahead.{fault_met};
 ghost use Rattle.tcc_txn.specs.Answers.{answers_of, records_of};
 ghost use Rattle.tcc_txn.specs.Finished.{transaction_count};
 ghost use Rattle.tcc_txn.specs.Reached.{IsWithin};
 ghost use Rattle.tcc_txn.specs.Recordings.{IsRecording};
-ghost use Rattle.tcc_run.specs.Runs.{IsAnswered, IsRun};
-ghost use Rattle.tcc_run.specs.Stages.{EndsAnswering, PrintsAnswer, count_at};
-ghost use Rattle.tcc_run.specs.Statuses.{code_of};
+ghost use Rattle.tcc_cert.specs.Texts.{certificate_text};
+ghost use Rattle.tcc_answer.specs.Claims.{certificate_of};
+ghost use Rattle.tcc_run.specs.Runs.{Gains, GainsPart, IsRun};
+ghost use Rattle.tcc_run.specs.Stages.{AllAnswered, AnswersKept, Concludes, EndsAnswering, EndsEarly, count_at};
 
 use crate::halt::Halt;
 use crate::options::Options;
-use crate::printing::{print_halt, print_memory, send_answer, send_unresolved};
-use crate::status::{Status, answer_status};
+use crate::printing::{print_device, print_halt, print_memory, send_answer, send_unresolved};
+use crate::status::last_status;
 use std::alloc::Global;
 use std::io::{Read, Write};
 use std::thread::Threads;
-use tcc_explain::{ExplainFault, explain};
+use tcc_cert::{WriteFault, write};
+use tcc_explain::{Answer, ExplainFault, explain};
 use tcc_txn::{Moment, NoMemory, Recording, Snapshot};
 
 /// How many transactions the session at this place has finished; past the last place, none.
@@ -42,112 +43,165 @@ fn transaction_count(snapshot: &Snapshot) -> usize
     count
 }
 
-/// Writes the answer for the snapshot at the level, as text or as a line of JSON, and gives the status of a run whose last
-/// it is; else the run ends with this number.
+/// The last answer of a run so far.
+#[derive(Drop)]
+struct Last {
+    /// None where the reads had faults, which were told.
+    answer: Option<Answer>,
+    /// How many transactions it was for.
+    transactions: usize,
+}
+
+/// Writes the answer for the snapshot at the level, as text or as a line of JSON, and gives it, none where the reads have
+/// faults, which are told in its place; else the run ends with this number.
 fn answer<W: Write>(
     rt: &(impl Threads + Sync),
     alloc: Global,
     snapshot: &Snapshot,
     options: Options,
     out: &mut W,
-) -> Result<Status, u8>
-    ensures whole { IfOk result (λ status. (text : List ℕ) × IsAnswered snapshot.now options text status × Appends (W.contents out.old) (W.contents out.new) text) }
-    ensures ended { IfErr result (EndsAnswering snapshot.now options (W.contents out.old) (W.contents out.new)) }
+) -> Result<Option<Answer>, u8>
+    ensures kept { IfOk result (AnswersKept options snapshot.now (W.contents out.old) (W.contents out.new)) }
+    ensures ended { IfErr result (EndsAnswering options snapshot.now (W.contents out.old) (W.contents out.new)) }
 {
     match explain(rt, alloc, snapshot, options.level) {
         Ok(answer) => {
             send_answer(alloc, &answer, options.json, out)?;
-            Ok(answer_status(&answer))
+            Ok(Some(answer))
         }
         Err(ExplainFault::Reads(faults)) => {
             send_unresolved(alloc, &faults, options.json, out)?;
-            Ok(Status::ReadFaults)
+            Ok(None)
         }
         Err(ExplainFault::NoMemory) => Err(print_memory(out, options.json)),
     }
 }
 
-/// Writes the answer at the end, unless the last one was for as many transactions, and gives the number that the run ends
-/// with.
+/// Writes the answer at the end, unless the last one was for as many transactions, and gives the last answer of the run;
+/// else the run ends with this number.
 fn answer_last<W: Write>(
     rt: &(impl Threads + Sync),
     alloc: Global,
     snapshot: &Snapshot,
-    answered: Option<usize>,
-    status: Status,
+    last: Option<Last>,
     options: Options,
     out: &mut W,
-) -> u8
-    ensures said { answered ≡ Some (transaction_count snapshot.now) → (W.contents out.new ≡ W.contents out.old) × (result ≡ code_of status) }
-    ensures due { answered ≢ Some (transaction_count snapshot.now) → PrintsAnswer snapshot.now options (W.contents out.old) (W.contents out.new) result }
+) -> Result<Option<Answer>, u8>
+    ensures said { IfSome last (λ last. last.transactions ≡ transaction_count snapshot.now → (W.contents out.new ≡ W.contents out.old) × (result ≡ Ok last.answer)) }
+    ensures due { IfSome last (λ last. last.transactions ≢ transaction_count snapshot.now)
+        → MatchResult result (AnswersKept options snapshot.now (W.contents out.old) (W.contents out.new)) (EndsAnswering options snapshot.now (W.contents out.old) (W.contents out.new)) }
 {
-    if answered == Some(transaction_count(snapshot)) {
-        return status.code();
+    if let Some(last) = last {
+        if last.transactions == transaction_count(snapshot) {
+            return Ok(last.answer);
+        }
     }
-    match answer(rt, alloc, snapshot, options, out) {
-        Ok(status) => status.code(),
-        Err(code) => code,
-    }
+    let answer = answer(rt, alloc, snapshot, options, out)?;
+    Ok(answer)
 }
 
-/// Writes the answers at the seals that are still to come and the one at the end, if it is due; or what ends the run
-/// before. Gives the number that the run ends with.
+/// Writes the answers at the seals that are still to come and the one at the end, if it is due, and gives the last; or
+/// writes what ends the run before, and gives the number that it ends with.
 fn answer_all<R: Read + Drop, W: Write>(
     rt: &(impl Threads + Sync),
     alloc: Global,
     recording: &mut Recording<R>,
     options: Options,
     out: &mut W,
-) -> u8
-    ensures { (text : List ℕ) → IsRecording R.remaining recording.old [] (answers_of text) → IsWithin R.remaining recording.old.rows (records_of text) → fault_met recording.old.rows ≡ None
-        → IsRun options text (W.contents out.old) (W.contents out.new) result }
+) -> Result<Option<Answer>, u8>
+    ensures { (bytes : List ℕ) → IsRecording R.remaining recording.old [] (answers_of bytes) → IsWithin R.remaining recording.old.rows (records_of bytes) → fault_met recording.old.rows ≡ None
+        → MatchResult result (AllAnswered options bytes (W.contents out.old) (W.contents out.new)) (EndsEarly options bytes (W.contents out.old) (W.contents out.new)) }
 {
-    // How many transactions the last answer was for, and its status.
-    let mut answered: Option<usize> = None;
-    let mut status = Status::Success;
+    let mut last: Option<Last> = None;
     'moments: for _turn in 0..u64::MAX {
         match recording.advance(alloc) {
-            Ok(Moment::Seal) => match answer(rt, alloc, recording.snapshot(), options, out) {
-                Ok(new) => {
-                    status = new;
-                    answered = Some(transaction_count(recording.snapshot()));
-                }
-                Err(code) => return code,
-            },
-            Ok(Moment::End) => {
-                return answer_last(
-                    rt,
-                    alloc,
-                    recording.snapshot(),
-                    answered,
-                    status,
-                    options,
-                    out,
-                );
+            Ok(Moment::Seal) => {
+                // One answer is held at a time: the certificate of a large history fills much memory.
+                last = None;
+                let snapshot = recording.snapshot();
+                let answer = answer(rt, alloc, snapshot, options, out)?;
+                last = Some(Last {
+                    answer,
+                    transactions: transaction_count(snapshot),
+                });
             }
-            Err(fault) => return print_halt(alloc, &Halt::from(fault), options.json, out),
+            Ok(Moment::End) => {
+                return answer_last(rt, alloc, recording.snapshot(), last, options, out);
+            }
+            Err(fault) => return Err(print_halt(alloc, &Halt::from(fault), options.json, out)),
         }
     }
     // There are not so many seals.
-    print_memory(out, options.json)
+    Err(print_memory(out, options.json))
 }
 
-/// Writes an answer at the level for what was finished before each seal of the bytes of the reader, and before their end,
-/// as text or as lines of JSON, and gives the number that the run ends with.
-pub fn run_explain<R: Read + Drop, W: Write>(
+/// Writes the answers for the records of the reader, and gives the last; or writes what ends the run before, and gives the
+/// number that it ends with.
+fn answer_records<R: Read + Drop, W: Write>(
     rt: &(impl Threads + Sync),
     alloc: Global,
     reader: R,
-    out: &mut W,
     options: Options,
-) -> u8
-    ensures { IfSome (R.remaining reader) (λ text. IsRun options text (W.contents out.old) (W.contents out.new) result) }
+    out: &mut W,
+) -> Result<Option<Answer>, u8>
+    ensures { IfSome (R.remaining reader) (λ bytes. MatchResult result (AllAnswered options bytes (W.contents out.old) (W.contents out.new)) (EndsEarly options bytes (W.contents out.old) (W.contents out.new))) }
 {
     match Recording::new(alloc, reader) {
         Ok(recording) => {
             let mut recording = recording;
             answer_all(rt, alloc, &mut recording, options, out)
         }
-        Err(NoMemory) => print_memory(out, options.json),
+        Err(NoMemory) => Err(print_memory(out, options.json)),
+    }
+}
+
+/// Writes the certificate, if a file is given for it.
+fn send_certificate<C: Write>(answer: &Answer, file: &mut Option<C>) -> Result<(), WriteFault>
+    ensures whole { OnOk result (Gains (option_map C.contents file.old) (option_map C.contents file.new) (certificate_text (certificate_of answer.now))) }
+    ensures part { OnErr result (GainsPart (option_map C.contents file.old) (option_map C.contents file.new) (certificate_text (certificate_of answer.now))) }
+{
+    match file {
+        Some(file) => write(answer.certificate(), file),
+        None => Ok(()),
+    }
+}
+
+/// Writes the certificate of the last answer, if there is one and a file is given for it, and gives the number that the
+/// run ends with.
+fn conclude<W: Write, C: Write>(
+    last: &Option<Answer>,
+    file: &mut Option<C>,
+    options: Options,
+    out: &mut W,
+) -> u8
+    ensures { Concludes options last.now (W.contents out.old) (W.contents out.new) (option_map C.contents file.old) (option_map C.contents file.new) result }
+{
+    if let Some(answer) = last {
+        if send_certificate(answer, file).is_err() {
+            return print_device(out, options.json);
+        }
+    }
+    last_status(last).code()
+}
+
+/// Writes an answer at the level for what was finished before each seal of the bytes of the reader, and before their end,
+/// as text or as lines of JSON, and behind it, into the file if one is given, the certificate of the last. Gives the number
+/// that the run ends with.
+///
+/// The file is empty before: nothing goes into it where the last answer is that reads have faults, or where the run ends
+/// by a fault.
+pub fn run_explain<R: Read + Drop, W: Write, C: Write>(
+    rt: &(impl Threads + Sync),
+    alloc: Global,
+    reader: R,
+    out: &mut W,
+    certificate: &mut Option<C>,
+    options: Options,
+) -> u8
+    ensures { IfSome (R.remaining reader) (λ bytes. IsRun options bytes (W.contents out.old) (W.contents out.new) (option_map C.contents certificate.old) (option_map C.contents certificate.new) result) }
+{
+    match answer_records(rt, alloc, reader, options, out) {
+        Ok(last) => conclude(&last, certificate, options, out),
+        Err(code) => code,
     }
 }

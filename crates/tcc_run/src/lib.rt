@@ -7,6 +7,7 @@ mod explain;
 mod halt;
 pub mod json;
 mod judged;
+pub mod laws;
 mod options;
 pub mod printing;
 mod status;

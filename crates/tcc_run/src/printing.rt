@@ -1,7 +1,7 @@
 //! How texts go out, and the number that a run then ends with.
 ghost use Rattle.std.specs.Prelude.{◌≡◌, ℕ, List, IfErr, IfOk, MatchResult, OnOk, false};
 ghost use Rattle.std.specs.Io.KnownBytes.{Appends};
-ghost use Rattle.tcc_run.specs.Printed.{Prints, answered, check_text, halted, memory_line, unresolved};
+ghost use Rattle.tcc_run.specs.Printed.{Prints, answered, check_text, device_line, halted, memory_line, unresolved};
 ghost use Rattle.tcc_run.specs.Stages.{CutsOff, EndsIn, PrintsOrMemory};
 ghost use Rattle.tcc_run.specs.Statuses.{check_status, code_of, halt_status};
 
@@ -26,6 +26,17 @@ fn memory_line(json: bool) -> &'static [u8]
         b"{\"answer\":\"memory\"}\n"
     } else {
         b"memory\n"
+    }
+}
+
+/// The line for a file or a writer that failed.
+fn device_line(json: bool) -> &'static [u8]
+    ensures { result.now ≡ device_line json }
+{
+    if json {
+        b"{\"answer\":\"device\"}\n"
+    } else {
+        b"device\n"
     }
 }
 
@@ -66,6 +77,14 @@ pub fn print_memory<W: Write>(out: &mut W, json: bool) -> u8
     ensures { Prints (W.contents out.old) (W.contents out.new) (memory_line json) Status.Memory result }
 {
     print_text(out, memory_line(json), Status::Memory)
+}
+
+/// Writes that a file or a writer failed, as text or as a line of JSON, and gives the number that the run ends with. It
+/// takes no memory.
+pub fn print_device<W: Write>(out: &mut W, json: bool) -> u8
+    ensures { Prints (W.contents out.old) (W.contents out.new) (device_line json) Status.Device result }
+{
+    print_text(out, device_line(json), Status::Device)
 }
 
 /// Writes the text that was made; else a writer that failed, or want of memory for the text, ends the run, with this

@@ -1,6 +1,6 @@
 //! How a run ends, and the number that tells it.
 ghost use Rattle.std.specs.Prelude.{◌≡◌};
-ghost use Rattle.tcc_run.specs.Statuses.{answer_status, certificate_status, code_of, halt_status, row_status, verdict_status};
+ghost use Rattle.tcc_run.specs.Statuses.{answer_status, certificate_status, code_of, halt_status, last_status, row_status, verdict_status};
 
 use crate::halt::Halt;
 use tcc_answer::Answer;
@@ -60,6 +60,16 @@ pub fn answer_status(answer: &Answer) -> Status
     match answer {
         Answer::Commit(_) => Status::Success,
         Answer::Anomaly(_) => Status::Anomaly,
+    }
+}
+
+/// How a run ends whose last answer this is; none stands for read faults.
+pub fn last_status(answer: &Option<Answer>) -> Status
+    ensures { result ≡ last_status answer.now }
+{
+    match answer {
+        Some(answer) => answer_status(answer),
+        None => Status::ReadFaults,
     }
 }
 

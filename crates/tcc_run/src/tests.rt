@@ -1,4 +1,4 @@
-//! Each run on its happy path; readers that fail in mid-stream, and writers that refuse once.
+//! Readers that fail in mid-stream and writers that refuse once; what whole runs answer is in tests/rows.
 use crate::{Options, run_check, run_explain};
 use std::alloc::Global;
 use std::io::{self, ErrorKind, Read, Write};
@@ -7,134 +7,57 @@ use std::test::Fail;
 use std::thread::Threads;
 use tcc_graph::Level;
 
-const LONG_FORK: &str = "a,begin\na,w,x,1\na,commit\nb,begin\nb,w,y,1\nb,commit\n\
-    c,begin\nc,r,x,1\nc,r,y,0\nc,commit\nd,begin\nd,r,x,0\nd,r,y,1\nd,commit\n";
-
-const LONG_FORK_TEXT: &str =
-    "consistent: 4 transactions, 4 sessions\norder: init a/1 b/1 c/1 d/1\n";
-
-const LONG_FORK_JSON: &str = "{\"answer\":\"consistent\",\
-    \"order\":[\"init\",\"a/1\",\"b/1\",\"c/1\",\"d/1\"],\"sessions\":4,\"transactions\":4}\n";
-
-const LONG_FORK_CERTIFICATE: &str = "tcc-certificate 1\norder 5 4\n0 1 2 3 4\nclocks\n\
-    0 0 0 0\n0 0 0 0\n0 0 0 0\n1 0 0 0\n0 1 0 0\nend\n";
-
-const LONG_FORK_ATOMIC: &str = "tcc-certificate 1 atomic\norder 5 4\n0 1 2 3 4\nend\n";
-
 const STALE: &str = "a,begin\na,w,x,1\na,commit\na,begin\na,r,x,0\na,commit\n";
 
 const STALE_TEXT: &str = "anomaly: 3 steps, stale-initial-read\nsession init -> a/1\n\
     derived a/1 -> init by x, read by a/2\n  session a/1 -> a/2\n  against init -> a/2 by x\n";
 
-const STALE_JSON: &str =
-    "{\"answer\":\"anomaly\",\"cycle\":[{\"from\":\"init\",\"kind\":\"session\",\"to\":\"a/1\"},\
-    {\"from\":\"a/1\",\"key\":\"x\",\"kind\":\"derived\",\"reader\":\"a/2\",\"to\":\"init\",\
-    \"walk\":[{\"from\":\"a/1\",\"kind\":\"session\",\"to\":\"a/2\"}]}],\
-    \"shape\":\"stale-initial-read\",\"steps\":3}\n";
+const STALE_CERTIFICATE: &str = "tcc-certificate 2 causal\ncycle 3 2 3\nS 0 1\nD 1 0 x 2 1\nS 1 2\n\
+    near\n3 1 1\n3 3 1\n3 3 3\nfar\n3 1 1\n3 1\n3\nend\n";
 
 // Two transactions, a seal, and one more.
 const SEALED: &str = "a,begin\na,w,x,1\na,commit\na,begin\na,w,y,1\na,commit\nseal\n\
-    b,begin\nb,r,y,1\nb,r,x,0\nb,commit\n";
+    b,begin\nb,w,y,2\nb,commit\n";
 
 const SEALED_TEXT: &str = "consistent: 2 transactions, 1 sessions\norder: init a/1 a/2\n";
 
 const SEALED_TEXTS: &str = "consistent: 2 transactions, 1 sessions\norder: init a/1 a/2\n\
-    anomaly: 4 steps, stale-initial-read\nsession init -> a/1\n\
-    derived a/1 -> init by x, read by b/1\n  session a/1 -> a/2\n  reads a/2 -> b/1 by y\n  \
-    against init -> b/1 by x\n";
-
-const SEALED_JSON: &str = "{\"answer\":\"consistent\",\
-    \"order\":[\"init\",\"a/1\",\"a/2\"],\"sessions\":1,\"transactions\":2}\n\
-    {\"answer\":\"anomaly\",\"cycle\":[{\"from\":\"init\",\"kind\":\"session\",\"to\":\"a/1\"},\
-    {\"from\":\"a/1\",\"key\":\"x\",\"kind\":\"derived\",\"reader\":\"b/1\",\"to\":\"init\",\
-    \"walk\":[{\"from\":\"a/1\",\"kind\":\"session\",\"to\":\"a/2\"},\
-    {\"from\":\"a/2\",\"key\":\"y\",\"kind\":\"reads\",\"to\":\"b/1\"}]}],\
-    \"shape\":\"stale-initial-read\",\"steps\":4}\n";
-
-// A session read by another is no single step from its first transaction.
-const SEALED_ATOMIC: &str = "consistent: 2 transactions, 1 sessions\norder: init a/1 a/2\n\
     consistent: 3 transactions, 2 sessions\norder: init a/1 a/2 b/1\n";
 
-const SEALED_ATOMIC_JSON: &str = "{\"answer\":\"consistent\",\
+const SEALED_JSON: &str = "{\"answer\":\"consistent\",\
     \"order\":[\"init\",\"a/1\",\"a/2\"],\"sessions\":1,\"transactions\":2}\n\
     {\"answer\":\"consistent\",\
     \"order\":[\"init\",\"a/1\",\"a/2\",\"b/1\"],\"sessions\":2,\"transactions\":3}\n";
 
-const STALE_SEALED: &str = "seal\na,begin\na,w,x,1\na,commit\nseal\na,begin\na,r,x,0\na,commit\n";
+const SEALED_CERTIFICATE: &str = "tcc-certificate 2 causal\norder 4 2\n0 1 2 3\nclocks\n\
+    0 0\n0 0\n1 0\n0 0\nend\n";
 
-const STALE_CERTIFICATE: &str = "tcc-certificate 1\ncycle 3 2 3\nS 0 1\nD 1 0 x 2 1\nS 1 2\n\
-    near\n3 1 1\n3 3 1\n3 3 3\nfar\n3 1 1\n2 3 1\n3 3 3\nend\n";
+const UNRESOLVED: &str = "a,begin\na,r,x,5\na,commit\n";
 
-const STALE_UPWARD: &str = "tcc-certificate 2 atomic\ncycle 3 2 3\nS 0 1\nD 1 0 x 2 1\nS 1 2\n\
-    near\n3 1 1\n3 3 1\n3 3 3\nfar\n3 1 1\n3 1\n3\nend\n";
+const UNRESOLVED_TEXT: &str = "unresolved: 1 faults\nThinAir a/1 op 1 x 5\n";
 
-const UNRESOLVED: &str = "a,begin\na,w,x,1\na,abort\nb,begin\nb,r,x,1\nb,r,z,7\nb,commit\n";
+const DEVICE_JSON: &str = "{\"answer\":\"device\"}\n";
 
-const UNRESOLVED_TEXT: &str = "unresolved: 2 faults\nAborted b/1 op 1 x 1\nThinAir b/1 op 2 z 7\n";
-
-const UNRESOLVED_JSON: &str = "{\"answer\":\"unresolved\",\"faults\":[\
-    {\"key\":\"x\",\"kind\":\"Aborted\",\"op\":1,\"place\":1,\"session\":\"b\",\"value\":1},\
-    {\"key\":\"z\",\"kind\":\"ThinAir\",\"op\":2,\"place\":1,\"session\":\"b\",\"value\":7}]}\n";
-
-const UNFINISHED: &str = "b,begin\na,begin\na,r,x,0\n";
-
-const UNFINISHED_JSON: &str =
-    "{\"answer\":\"row\",\"kind\":\"Unfinished\",\"row\":3,\"session\":\"a\"}\n";
-
-// Records that are explained, as text or as JSON: what goes out, and the number of the end.
-const EXPLAINED: [(&str, bool, &str, u8); 8] = [
-    (LONG_FORK, false, LONG_FORK_TEXT, 0),
-    (LONG_FORK, true, LONG_FORK_JSON, 0),
-    (STALE, false, STALE_TEXT, 1),
-    (STALE, true, STALE_JSON, 1),
-    (UNRESOLVED, false, UNRESOLVED_TEXT, 2),
-    (UNRESOLVED, true, UNRESOLVED_JSON, 2),
-    (UNFINISHED, false, "row 3: Unfinished a\n", 3),
-    (UNFINISHED, true, UNFINISHED_JSON, 3),
-];
-
-// Records with seals, in the same way.
-const EXPLAINED_AT_SEALS: [(&str, bool, &str, u8); 4] = [
-    (SEALED, false, SEALED_TEXTS, 1),
-    (SEALED, true, SEALED_JSON, 1),
+// Records that are explained, as text or as JSON: what goes out, the certificate, and the number of the end.
+const EXPLAINED: [(&str, bool, &str, &str, u8); 5] = [
+    (STALE, false, STALE_TEXT, STALE_CERTIFICATE, 1),
+    (SEALED, false, SEALED_TEXTS, SEALED_CERTIFICATE, 0),
+    (SEALED, true, SEALED_JSON, SEALED_CERTIFICATE, 0),
+    (UNRESOLVED, false, UNRESOLVED_TEXT, "", 2),
     (
-        "seal\n",
+        "seal\nb,commit\n",
         false,
-        "consistent: 0 transactions, 0 sessions\norder: init\n",
-        0,
-    ),
-    (
-        "a,begin\na,r,x,5\na,commit\nseal\nb,commit\n",
-        false,
-        "unresolved: 1 faults\nThinAir a/1 op 1 x 5\nrow 5: NotBegun\n",
+        "consistent: 0 transactions, 0 sessions\norder: init\nrow 2: NotBegun\n",
+        "",
         3,
     ),
 ];
 
-// Records that are explained at the level atomic, in the same way.
-const EXPLAINED_ATOMIC: [(&str, bool, &str, u8); 4] = [
-    (STALE, false, STALE_TEXT, 1),
-    (SEALED, false, SEALED_ATOMIC, 0),
-    (SEALED, true, SEALED_ATOMIC_JSON, 0),
-    (UNRESOLVED, false, UNRESOLVED_TEXT, 2),
-];
-
 // Records and certificates that are checked: what goes out, and the number of the end.
-const CHECKED: [(&str, &str, &str, u8); 9] = [
-    (LONG_FORK, LONG_FORK_CERTIFICATE, "accepted: order\n", 0),
+const CHECKED: [(&str, &str, &str, u8); 3] = [
     (STALE, STALE_CERTIFICATE, "accepted: cycle, 3 steps\n", 0),
-    (LONG_FORK, LONG_FORK_ATOMIC, "accepted: order\n", 0),
-    (STALE, STALE_UPWARD, "accepted: cycle, 3 steps\n", 0),
-    (
-        STALE_SEALED,
-        STALE_CERTIFICATE,
-        "accepted: cycle, 3 steps\n",
-        0,
-    ),
-    (STALE, LONG_FORK_CERTIFICATE, "rejected: rule 1 at 0 0\n", 7),
-    (STALE, "ring\n", "certificate line 1: Header\n", 8),
+    (STALE, SEALED_CERTIFICATE, "rejected: rule 1 at 0 0\n", 7),
     (UNRESOLVED, "ring\n", UNRESOLVED_TEXT, 2),
-    (UNFINISHED, "ring\n", "row 3: Unfinished a\n", 3),
 ];
 
 fn causal(json: bool) -> Options {
@@ -142,50 +65,6 @@ fn causal(json: bool) -> Options {
         level: Level::Causal,
         json,
     }
-}
-
-fn is_explained(
-    rt: &(impl Abort + Threads + Sync),
-    alloc: Global,
-    level: Level,
-    row: (&str, bool, &str, u8),
-) {
-    let (records, json, text, status) = row;
-    let mut out = Vec::new(alloc);
-    let options = Options { level, json };
-    let code = run_explain(rt, alloc, records.as_bytes(), &mut out, options);
-    assert_eq!(rt; out.as_slice(), text.as_bytes(), "for {records:?}");
-    assert_eq!(rt; code, status, "for {records:?}");
-}
-
-#[test]
-fn explained(rt: HostRuntime) -> Result<(), Fail> {
-    for row in EXPLAINED {
-        is_explained(&rt, rt.alloc(), Level::Causal, row);
-    }
-    for row in EXPLAINED_AT_SEALS {
-        is_explained(&rt, rt.alloc(), Level::Causal, row);
-    }
-    for row in EXPLAINED_ATOMIC {
-        is_explained(&rt, rt.alloc(), Level::Atomic, row);
-    }
-    Ok(())
-}
-
-#[test]
-fn checked(rt: HostRuntime) -> Result<(), Fail> {
-    for (records, certificate, text, status) in CHECKED {
-        let mut out = Vec::new(rt.alloc());
-        let code = run_check(
-            rt.alloc(),
-            records.as_bytes(),
-            certificate.as_bytes(),
-            &mut out,
-        );
-        assert_eq!(&rt; out.as_slice(), text.as_bytes(), "for {records:?}");
-        assert_eq!(&rt; code, status, "for {text:?}");
-    }
-    Ok(())
 }
 
 // A reader that fails after its bytes.
@@ -212,34 +91,9 @@ fn line_after(bytes: &[u8]) -> usize {
         .saturating_add(1)
 }
 
-// The line for a reader that failed, in each run.
+// A run whose reader of records fails tells the row, after the answers that stand.
 #[test]
 fn readers_of_records_fail(rt: HostRuntime) -> Result<(), Fail> {
-    let alloc = rt.alloc();
-    for bytes in 0..STALE.len() + 1 {
-        let read = &STALE.as_bytes()[..bytes];
-        let row = line_after(read);
-        let text = format!(in alloc; "row {row}: Read\n")?;
-        let mut out = Vec::new(alloc);
-        let code = run_explain(&rt, alloc, Broken { bytes: read }, &mut out, causal(false));
-        assert_eq!(&rt; out.as_slice(), text.as_bytes(), "after {bytes} bytes");
-        assert_eq!(&rt; code, 6);
-        let line = format!(in alloc; "{{\"answer\":\"row\",\"kind\":\"Read\",\"row\":{row}}}\n")?;
-        let mut out = Vec::new(alloc);
-        let code = run_explain(&rt, alloc, Broken { bytes: read }, &mut out, causal(true));
-        assert_eq!(&rt; out.as_slice(), line.as_bytes(), "after {bytes} bytes");
-        assert_eq!(&rt; code, 6);
-        let mut out = Vec::new(alloc);
-        let code = run_check(alloc, Broken { bytes: read }, b"".as_slice(), &mut out);
-        assert_eq!(&rt; out.as_slice(), text.as_bytes(), "after {bytes} bytes");
-        assert_eq!(&rt; code, 6);
-    }
-    Ok(())
-}
-
-// What was answered before the reader failed stands.
-#[test]
-fn answers_stand_where_readers_fail(rt: HostRuntime) -> Result<(), Fail> {
     let alloc = rt.alloc();
     for bytes in 0..SEALED.len() + 1 {
         let read = &SEALED.as_bytes()[..bytes];
@@ -247,8 +101,11 @@ fn answers_stand_where_readers_fail(rt: HostRuntime) -> Result<(), Fail> {
         let answered = if row > 7 { SEALED_TEXT } else { "" };
         let text = format!(in alloc; "{answered}row {row}: Read\n")?;
         let mut out = Vec::new(alloc);
-        let code = run_explain(&rt, alloc, Broken { bytes: read }, &mut out, causal(false));
+        let mut file = Some(Vec::new(alloc));
+        let broken = Broken { bytes: read };
+        let code = run_explain(&rt, alloc, broken, &mut out, &mut file, causal(false));
         assert_eq!(&rt; out.as_slice(), text.as_bytes(), "after {bytes} bytes");
+        assert!(&rt; file.is_some_and(|file: Vec<u8>| file.is_empty()));
         assert_eq!(&rt; code, 6);
     }
     Ok(())
@@ -266,15 +123,6 @@ fn readers_of_certificates_fail(rt: HostRuntime) -> Result<(), Fail> {
         let code = run_check(alloc, STALE.as_bytes(), Broken { bytes: read }, &mut out);
         assert_eq!(&rt; out.as_slice(), text.as_bytes(), "after {bytes} bytes");
         assert_eq!(&rt; code, 6);
-        let mut out = Vec::new(alloc);
-        let code = run_check(
-            alloc,
-            b"stop\n".as_slice(),
-            Broken { bytes: read },
-            &mut out,
-        );
-        assert_eq!(&rt; out.as_slice(), b"row 1: UnknownWord\n".as_slice());
-        assert_eq!(&rt; code, 3);
     }
     Ok(())
 }
@@ -326,12 +174,6 @@ impl Write for Reluctant {
     }
 }
 
-const REFUSALS: [Refusal; 3] = [
-    Refusal::Write(ErrorKind::Other),
-    Refusal::Write(ErrorKind::Interrupted),
-    Refusal::NoBytes,
-];
-
 fn refusing(alloc: Global, room: usize, refusal: Refusal) -> Reluctant {
     Reluctant {
         taken: Vec::new(alloc),
@@ -349,62 +191,78 @@ fn stopped(rt: &impl Abort, out: &Reluctant, text: &str, status: u8, code: u8) {
     assert_eq!(rt; code, if is_cut { 6 } else { status }, "of {text:?}");
 }
 
-fn explain_stops(
-    rt: &(impl Abort + Threads + Sync),
-    alloc: Global,
-    row: (&str, bool, &str, u8),
-    refusal: Refusal,
-) {
-    let (records, json, text, status) = row;
-    for room in 0..text.len() + 1 {
-        let mut out = refusing(alloc, room, refusal);
-        let code = run_explain(rt, alloc, records.as_bytes(), &mut out, causal(json));
-        stopped(rt, &out, text, status, code);
-    }
-}
-
-fn check_stops(rt: &impl Abort, alloc: Global, row: (&str, &str, &str, u8), refusal: Refusal) {
-    let (records, certificate, text, status) = row;
-    for room in 0..text.len() + 1 {
-        let mut out = refusing(alloc, room, refusal);
-        let code = run_check(alloc, records.as_bytes(), certificate.as_bytes(), &mut out);
-        stopped(rt, &out, text, status, code);
-    }
-}
-
+// Each write of the answers fails, without a file for the certificate, and with one: it then stays empty.
 #[test]
 fn writers_of_answers_fail(rt: HostRuntime) -> Result<(), Fail> {
-    for row in EXPLAINED {
-        for refusal in REFUSALS {
-            explain_stops(&rt, rt.alloc(), row, refusal);
+    let alloc = rt.alloc();
+    for (records, json, text, certificate, status) in EXPLAINED {
+        for room in 0..text.len() + 1 {
+            let mut out = refusing(alloc, room, Refusal::NoBytes);
+            let mut no_file: Option<Vec<u8>> = None;
+            let code = run_explain(
+                &rt,
+                alloc,
+                records.as_bytes(),
+                &mut out,
+                &mut no_file,
+                causal(json),
+            );
+            stopped(&rt, &out, text, status, code);
+            let mut out = refusing(alloc, room, Refusal::Write(ErrorKind::Interrupted));
+            let mut file = Some(Vec::new(alloc));
+            let code = run_explain(
+                &rt,
+                alloc,
+                records.as_bytes(),
+                &mut out,
+                &mut file,
+                causal(json),
+            );
+            stopped(&rt, &out, text, status, code);
+            let written = if room < text.len() { "" } else { certificate };
+            assert!(&rt; file.is_some_and(|file: Vec<u8>| file.as_slice() == written.as_bytes()));
         }
     }
-    for row in EXPLAINED_AT_SEALS {
-        explain_stops(&rt, rt.alloc(), row, Refusal::NoBytes);
+    Ok(())
+}
+
+// Each write of the certificate fails: the line for the device follows the answers.
+#[test]
+fn writers_of_certificates_fail(rt: HostRuntime) -> Result<(), Fail> {
+    let alloc = rt.alloc();
+    for (records, json, text, certificate, _status) in EXPLAINED {
+        for room in 0..certificate.len() {
+            let mut out = Vec::new(alloc);
+            let mut file = Some(refusing(alloc, room, Refusal::Write(ErrorKind::Other)));
+            let code = run_explain(
+                &rt,
+                alloc,
+                records.as_bytes(),
+                &mut out,
+                &mut file,
+                causal(json),
+            );
+            let line = if json { DEVICE_JSON } else { "device\n" };
+            let said = format!(in alloc; "{text}{line}")?;
+            assert_eq!(&rt; out.as_slice(), said.as_bytes(), "of {text:?}");
+            assert_eq!(&rt; code, 6);
+            let sent = &certificate.as_bytes()[..room];
+            assert!(&rt; file.is_some_and(|file: Reluctant| file.taken.as_slice() == sent));
+        }
     }
     Ok(())
 }
 
 #[test]
 fn writers_of_verdicts_fail(rt: HostRuntime) -> Result<(), Fail> {
-    for row in CHECKED {
-        for refusal in REFUSALS {
-            check_stops(&rt, rt.alloc(), row, refusal);
-        }
-    }
-    Ok(())
-}
-
-// All that was written may be lost where the flush fails.
-#[test]
-fn flushes_fail(rt: HostRuntime) -> Result<(), Fail> {
     let alloc = rt.alloc();
-    for (records, json, text, status) in EXPLAINED {
-        let mut out = refusing(alloc, text.len(), Refusal::Flush);
-        let code = run_explain(&rt, alloc, records.as_bytes(), &mut out, causal(json));
-        stopped(&rt, &out, text, status, code);
-    }
     for (records, certificate, text, status) in CHECKED {
+        for room in 0..text.len() + 1 {
+            let mut out = refusing(alloc, room, Refusal::NoBytes);
+            let code = run_check(alloc, records.as_bytes(), certificate.as_bytes(), &mut out);
+            stopped(&rt, &out, text, status, code);
+        }
+        // All that was written may be lost where the flush fails.
         let mut out = refusing(alloc, text.len(), Refusal::Flush);
         let code = run_check(alloc, records.as_bytes(), certificate.as_bytes(), &mut out);
         stopped(&rt, &out, text, status, code);

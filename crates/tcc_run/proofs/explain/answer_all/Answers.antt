@@ -1,13 +1,13 @@
 -- What comes of each moment of the recording.
-use Rattle.std.proofs.Common.{◌+◌, ◌≤◌, length, subst, sym, ap, ◌∙◌, Ok}
+use Rattle.std.proofs.Common.{◌+◌, ◌≤◌, length, subst, sym, Ok}
 use Rattle.tcc_txn.specs.Answers.{records_of}
-use Rattle.tcc_txn.specs.Finished.{transaction_count}
 use Rattle.tcc_txn.specs.Recordings.{TakesMoment}
 use Rattle.tcc_run.specs.Printed.{halted}
-use Rattle.tcc_run.specs.Stages.{PrintsOrMemory}
+use Rattle.tcc_run.specs.Stages.{AllAnswered, EndsEarly, PrintsOrMemory}
 use Rattle.tcc_run.specs.Statuses.{halt_status}
 use Rattle.tcc_run.proofs.Reach.{row_bound}
 use Rattle.tcc_run.proofs.Runs.{answered-seal, ended-end, ended-seal, stopped, wants_memory}
+use Rattle.tcc_run.proofs.Sent.{ended_by}
 use Rattle.tcc_run.proofs.explain.answer_all.Goals as goal
 
 pub moments-preserved : goal.moments-preserved
@@ -16,28 +16,29 @@ moments-preserved g c = record {
       let way = c.moments.invariant.way text recording in
       let at = subst (λ m. TakesMoment g.R.Read.remaining way.taken way.ahead (Ok m) c.advance.new.self) c.in-Ok-Seal.field-0-is
       (c.in-Ok-Seal.ensures.moment way.taken way.ahead way.recorded) in
-      answered-seal g.R.Read.remaining c.args.options text c.moments.recording c.advance.new.self _ _ c.moments.answered c.moments.status way at
-      c.snapshot.result.now c.transaction_count.result c.in-Ok.new _ (c.snapshot.ensures.finished _ _ at.3)
-      (c.transaction_count.ensures ∙ ap transaction_count (c.snapshot-in-Ok.ensures.value ∙ sym c.snapshot.ensures.value)) c.in-Ok.ensures.whole;
+      answered-seal g.R.Read.remaining c.args.options text c.moments.recording c.advance.new.self _ _ c.moments.last way at
+      c.snapshot-snapshot.result.now (record { answer = c.in_ok-answer-in-Ok-Seal.answer; transactions = c.transaction_count.result }) _
+      (c.snapshot-snapshot.ensures.finished _ _ at.3) c.transaction_count.ensures c.in_ok-answer-in-Ok-Seal.ensures.kept;
   within = λ records within. c.in-Ok-Seal.ensures.within records (c.moments.invariant.within records within);
   going = λ none. c.in-Ok-Seal.ensures.goes_on;
 }
 
-pub returns-in-Err-answer : goal.returns-in-Err-answer
-returns-in-Err-answer g c text recording within fresh =
+pub returns-in_err-answer-in-Ok-Seal : goal.returns-in_err-answer-in-Ok-Seal
+returns-in_err-answer-in-Ok-Seal g c text recording within fresh =
     let way = c.moments.invariant.way text recording in
     let at = subst (λ m. TakesMoment g.R.Read.remaining way.taken way.ahead (Ok m) c.advance.new.self) c.in-Ok-Seal.field-0-is
     (c.in-Ok-Seal.ensures.moment way.taken way.ahead way.recorded) in
-    ended-seal g.R.Read.remaining c.args.options text c.moments.recording c.advance.new.self _ _ c.moments.answered c.moments.status way at
-    c.snapshot.result.now _ c.in-Err-answer.code (c.snapshot.ensures.finished _ _ at.3) c.in-Err-answer.ensures.ended
+    ended_by (AllAnswered c.args.options text _ _) (EndsEarly c.args.options text _ _) c.from_residual.result c.in_err-answer-in-Ok-Seal.field-0.0 c.from_residual.ensures.1
+    (ended-seal g.R.Read.remaining c.args.options text c.moments.recording c.advance.new.self _ _ c.moments.last way at
+    c.snapshot-snapshot.result.now _ c.in_err-answer-in-Ok-Seal.field-0.0 (c.snapshot-snapshot.ensures.finished _ _ at.3) c.in_err-answer-in-Ok-Seal.ensures.ended)
 
 pub returns-in-Ok-End : goal.returns-in-Ok-End
 returns-in-Ok-End g c text recording within fresh =
     let way = c.moments.invariant.way text recording in
     let at = subst (λ m. TakesMoment g.R.Read.remaining way.taken way.ahead (Ok m) c.advance.new.self) c.in-Ok-End.field-0-is
     (c.in-Ok-End.ensures.moment way.taken way.ahead way.recorded) in
-    ended-end g.R.Read.remaining c.args.options text c.moments.recording c.advance.new.self _ _ c.moments.answered c.moments.status way at
-    c.snapshot-in-Ok-End.result.now _ c.answer_last.result (c.snapshot-in-Ok-End.ensures.finished _ _ at.2) c.answer_last.ensures.said c.answer_last.ensures.due
+    ended-end g.R.Read.remaining c.args.options text c.moments.recording c.advance.new.self _ _ c.moments.last way at
+    c.snapshot.result.now _ c.answer_last.result (c.snapshot.ensures.finished _ _ at.2) c.answer_last.ensures.said c.answer_last.ensures.due
 
 pub returns-in-Err : goal.returns-in-Err
 returns-in-Err g c text recording within fresh =
@@ -46,12 +47,12 @@ returns-in-Err g c text recording within fresh =
     (sym (c.in-Err.ensures.row (c.moments.invariant.going fresh)))
     (row_bound g.R.Read.remaining c.advance.new.self.rows (records_of text)
     (c.in-Err.ensures.within (records_of text) (c.moments.invariant.within (records_of text) within))) in
-    stopped g.R.Read.remaining c.args.options text c.moments.recording c.advance.new.self _ _ c.moments.answered c.moments.status way
+    stopped g.R.Read.remaining c.args.options text c.moments.recording c.advance.new.self _ _ c.moments.last way
     c.in-Err.fault (c.in-Err.ensures.moment way.taken way.ahead way.recorded) _ c.print_halt.result bound
     (subst (λ why. PrintsOrMemory c.args.options.json (g.W.Write.contents c.moments.out) (g.W.Write.contents c.print_halt.new.out) (halted c.args.options.json why) (halt_status why) c.print_halt.result) c.from.ensures c.print_halt.ensures)
 
 pub returns : goal.returns
 returns g c text recording within fresh =
     let way = c.moments.invariant.way text recording in
-    wants_memory g.R.Read.remaining c.args.options text c.moments.recording c.moments.recording _ _ c.moments.answered c.moments.status way _
+    wants_memory g.R.Read.remaining c.args.options text c.moments.recording c.moments.recording _ _ c.moments.last way _
     c.print_memory.result c.print_memory.ensures

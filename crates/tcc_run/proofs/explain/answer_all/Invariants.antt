@@ -11,7 +11,7 @@ use Rattle.tcc_run.proofs.explain.answer_all.Given as goal
 abbrev pub invariant-moments : goal.invariant-moments
 invariant-moments g l = record {
   way : (text : List ℕ) → IsRecording g.R.Read.remaining l.initial.recording [] (answers_of text)
-      → HasAnswered g.R.Read.remaining l.options text l.recording (g.W.Write.contents l.initial.out) (g.W.Write.contents l.out) l.answered l.status;
+      → HasAnswered g.R.Read.remaining l.options text l.recording (g.W.Write.contents l.initial.out) (g.W.Write.contents l.out) l.last;
   within : (records : List Record) → IsWithin g.R.Read.remaining l.initial.recording.rows records → IsWithin g.R.Read.remaining l.recording.rows records;
   going : fault_met l.initial.recording.rows ≡ None → fault_met l.recording.rows ≡ None;
 }

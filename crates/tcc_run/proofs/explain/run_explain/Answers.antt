@@ -1,6 +1,12 @@
-use Rattle.tcc_run.proofs.Checked.{for_any}
-use Rattle.tcc_run.proofs.Runs.{nothing_read}
+-- All was answered, and the certificate of the last answer comes behind; or the run ended before.
+use Rattle.std.proofs.lemmas.Option.{IfSome_then}
+use Rattle.tcc_run.proofs.Runs.{concluded, early}
 use Rattle.tcc_run.proofs.explain.run_explain.Goals as goal
 
+pub returns-in-Ok : goal.returns-in-Ok
+returns-in-Ok g c = IfSome_then (g.R.Read.remaining c.args.reader) c.in-Ok.ensures
+    (λ bytes all. concluded c.args.options bytes _ _ _ _ _ c.in-Ok.last c.conclude.result all c.conclude.ensures)
+
 pub returns-in-Err : goal.returns-in-Err
-returns-in-Err g c = for_any (g.R.Read.remaining c.args.reader) (λ text. nothing_read c.args.options text _ _ c.print_memory.result c.print_memory.ensures)
+returns-in-Err g c = IfSome_then (g.R.Read.remaining c.args.reader) c.in-Err.ensures
+    (λ bytes ends. early c.args.options bytes _ _ _ c.in-Err.code ends)

@@ -1,4 +1,4 @@
-use Rattle.std.proofs.Common.{◌≡◌, ◌+◌, ◌∙◌, sym, ap, arith, sum_by, length}
+use Rattle.std.proofs.Common.{ap, arith, sum_by, length}
 use Rattle.std.specs.FinMap as finite
 use Rattle.tcc_reads.proofs.Counting.{none_past}
 use Rattle.tcc_run.proofs.Counted.{count-from}

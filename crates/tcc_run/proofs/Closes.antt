@@ -1,0 +1,44 @@
+-- What a run puts into the file for the certificate of its last answer is the certificate of the answer for all that the records finish.
+use Rattle.std.proofs.Common.{ℕ, ◌≡◌, List, [], ◌∷◌, ◌++◌, Option, None, Some, Result, sym, ap, subst, ◌∙◌, inl, inr, ◌⊎◌}
+use Rattle.std.specs.List.{last_or}
+use Rattle.tcc_txn.specs.Answers.{answers_of}
+use Rattle.tcc_txn.specs.Finished.{KeepsLimits, finished_in}
+use Rattle.tcc_cert.specs.Texts.{certificate_text}
+use Rattle.tcc_cert.specs.declared.certificate.Certificate.{Certificate}
+use Rattle.tcc_answer.specs.Claims.{certificate_of}
+use Rattle.tcc_run.specs.declared.judged.Judged.{Judged}
+use Rattle.tcc_run.specs.declared.halt.Halt.{Halt}
+use Rattle.tcc_run.specs.declared.options.Options.{Options}
+use Rattle.tcc_run.specs.Checks.{IsCheck, MayBeCheck}
+use Rattle.tcc_run.specs.Closing.{IsAcceptance, acceptance}
+use Rattle.tcc_run.specs.Runs.{IsAnswered, IsEnded, IsWhole, Said, halt_said}
+use Rattle.tcc_run.proofs.Closing.{accepted, only}
+use Rattle.tcc_run.proofs.LastSnapshot.{last_said}
+use Rattle.tcc_run.proofs.Moments.{last-push}
+
+-- the check of these records accepts the text as that of the certificate, unless a reader fails or memory is refused
+abbrev Accepts : List ℕ → List ℕ → Type 0
+Accepts records text = (c : Certificate) × IsCheck records text (acceptance c) × ((o : Result Judged Halt) → MayBeCheck records text o → IsAcceptance c o)
+
+inside : {X : Type 0} (x y : X) → Some x ≡ Some y → x ≡ y
+inside x y e = cc e
+
+nothing : {X : Type 0} (x : X) → None ≡ Some x → ⊥
+nothing x e = cc e
+
+module _ (options : Options) (records text : List ℕ) (limits : KeepsLimits (finished_in (answers_of records).items)) (said : List Said) (last : Said) (end : last_or None said ≡ Some last) (has : last.certificate ≡ Some text) where
+  of_answer : (answers_of records).fault ≡ None → IsAnswered options (finished_in (answers_of records).items) last → Accepts records text
+  of_answer unfaulted (inl (resolved, a, is, same)) =
+      let at : certificate_text (certificate_of a) ≡ text = inside _ _ (sym (ap (λ (s : Said). s.certificate) same) ∙ has) in (
+        certificate_of a,
+        subst (λ t. IsCheck records t (acceptance (certificate_of a))) at (accepted records limits options.level a unfaulted resolved is),
+        λ o may. only records limits options.level a unfaulted resolved is o (subst (λ t. MayBeCheck records t o) (sym at) may),
+      )
+  of_answer unfaulted (inr (faulty, same)) = absurd (nothing text (sym (ap (λ (s : Said). s.certificate) same) ∙ has))
+
+  pub closes : IsWhole options (answers_of records) said ⊎ IsEnded options records said → Accepts records text
+  closes (inl (unfaulted, answered)) = of_answer unfaulted (last_said (IsAnswered options) (answers_of records).items said last answered end)
+  closes (inr (n, why, before, may, are, same)) =
+      let pushed : last_or None said ≡ Some (halt_said options why) = ap (last_or None) same ∙ last-push None before (halt_said options why) in
+      let halted : halt_said options why ≡ last = inside _ _ (sym pushed ∙ end) in
+      absurd (nothing text (ap (λ (s : Said). s.certificate) halted ∙ has))

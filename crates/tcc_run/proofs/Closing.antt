@@ -1,0 +1,97 @@
+-- What `explain` writes for records, `check` accepts with the same records.
+use Rattle.std.proofs.Common.{◌≡◌, ◌≢◌, ℕ, List, [], length, take, None, Result, Ok, Err, refl, sym, subst, ◌∙◌, inl, inr}
+use Rattle.std.proofs.Math.Seq.{take-length}
+use Rattle.tcc_txn.specs.Answers.{answers_of}
+use Rattle.tcc_txn.specs.Finished.{KeepsLimits, finished_in}
+use Rattle.tcc_txn.specs.Snapshots.{Sessions}
+use Rattle.tcc_reads.specs.Faults.{read_faults}
+use Rattle.tcc_reads.specs.Sources.{history}
+use Rattle.tcc_graph.specs.declared.level.Level.{Level}
+use Rattle.tcc_cert.specs.Outcomes.{IsReading, IsFailure}
+use Rattle.tcc_cert.specs.Reading.{certificate_read}
+use Rattle.tcc_cert.specs.Rules.{Certifies}
+use Rattle.tcc_cert.specs.Texts.{certificate_text}
+use Rattle.tcc_cert.specs.declared.certificate.Certificate.{Certificate}
+use Rattle.tcc_cert.specs.declared.fault.CertFault.{CertFault}
+use Rattle.tcc_cert.specs.declared.fault.CertFaultKind.TheVariants as text_kind
+use Rattle.tcc_check.specs.Verdicts.{IsVerdict}
+use Rattle.tcc_check.specs.declared.verdict.Verdict.{Verdict}
+use Rattle.tcc_check.specs.declared.verdict.Verdict.TheVariants as verdict
+use Rattle.tcc_check.proofs.Claims.{rejected_false}
+use Rattle.tcc_answer.specs.Claims.{certificate_of}
+use Rattle.tcc_answer.specs.declared.answer.Answer.{Answer}
+use Rattle.tcc_explain.specs.Explained.{IsAnswerOf}
+use Rattle.tcc_explain.specs.Keys.{HasNames}
+use Rattle.tcc_explain.proofs.CertifiedAnswer.{certified}
+use Rattle.tcc_explain.proofs.RecordedKeys.{recorded}
+use Rattle.tcc_explain.proofs.WrittenAnswer.{read_back}
+use Rattle.tcc_run.specs.declared.judged.Judged.{Judged}
+use Rattle.tcc_run.specs.declared.halt.Halt.{Halt}
+use Rattle.tcc_run.specs.declared.halt.Halt.TheVariants.{Row, Reads, Text, NoMemory}
+use Rattle.tcc_run.specs.Checks.{IsCheck, IsRecordsCheck, IsSnapshotCheck, IsTextCheck, MayBeCheck}
+use Rattle.tcc_run.specs.Closing.{IsAcceptance, acceptance}
+
+-- what all items finish keeps the limits, since what their first ones finish does, however many
+pub of_all : ((text : List ℕ) (n : ℕ) → KeepsLimits (finished_in (take n (answers_of text).items))) → (records : List ℕ) → KeepsLimits (finished_in (answers_of records).items)
+of_all law records = subst (λ items. KeepsLimits (finished_in items)) (take-length (answers_of records).items) (law records (length (answers_of records).items))
+
+ok_not_err : {X E : Type 0} (o : Result X E) (x : X) (e : E) → o ≡ Ok x → o ≡ Err e → ⊥
+ok_not_err o x e fine failed = (let both : Ok x ≡ Err e = sym fine ∙ failed in cc both)
+
+-- the sessions of all that the records finish
+abbrev all_of : List ℕ → Sessions
+all_of records = finished_in (answers_of records).items
+
+module _ (records : List ℕ) (limits : KeepsLimits (all_of records)) (level : Level) (a : Answer) (unfaulted : (answers_of records).fault ≡ None) (resolved : read_faults (all_of records) ≡ [])
+    (is : IsAnswerOf (record { history = history (all_of records); level = level }) a) where
+  abbrev c : Certificate
+  c = certificate_of a
+
+  named : HasNames (all_of records)
+  named = subst (λ items. HasNames (finished_in items)) (take-length (answers_of records).items) (recorded records (length (answers_of records).items))
+
+  back : certificate_read (certificate_text c) ≡ Ok c
+  back = read_back (all_of records) limits named level a is
+
+  keeps : Certifies (history (all_of records)) c
+  keeps = certified (all_of records) level a is
+
+  -- by the definition of the check, the certificate is accepted
+  pub accepted : IsCheck records (certificate_text c) (acceptance c)
+  accepted =
+      subst (λ found. IsRecordsCheck (answers_of records).items found (certificate_text c) (acceptance c)) (sym unfaulted)
+      (inr (resolved, (back, keeps)))
+
+  by_verdict : (judged : Judged) → c ≡ judged.certificate → IsVerdict (history (all_of records)) judged.certificate judged.verdict → judged.verdict ≡ verdict.Accepted
+  by_verdict judged same is = go judged.verdict refl is
+    where
+      go : (v : Verdict) → judged.verdict ≡ v → IsVerdict (history (all_of records)) judged.certificate v → judged.verdict ≡ verdict.Accepted
+      go verdict.Accepted e says = e
+      go (verdict.Rejected rule at) e says = absurd (rejected_false (history (all_of records)) judged.certificate rule at says (subst (Certifies (history (all_of records))) same keeps))
+
+  failed_reading : (fault : CertFault) → IsReading (certificate_text c) (Err fault) → fault.kind ≢ text_kind.NoMemory → fault.kind ≡ text_kind.Read
+  failed_reading fault (inl other) kind = absurd (ok_not_err (certificate_read (certificate_text c)) c fault back other)
+  failed_reading fault (inr cut) kind = go cut.failure
+    where
+      go : IsFailure (Unit {0}) fault.kind → fault.kind ≡ text_kind.Read
+      go (inl read) = read.0
+      go (inr memory) = absurd (kind memory)
+
+  of_text : (o : Result Judged Halt) → IsTextCheck (history (all_of records)) (certificate_text c) o → IsAcceptance c o
+  of_text (Ok judged) is =
+      let same : c ≡ judged.certificate = (let both : Ok c ≡ Ok judged.certificate = sym back ∙ is.0 in cc both) in
+      (sym same, by_verdict judged same is.1)
+  of_text (Err (Row fault)) is = absurd is
+  of_text (Err (Reads faults)) is = absurd is
+  of_text (Err (Text fault)) is = failed_reading fault is.0 is.1
+  of_text (Err NoMemory) is = absurd is
+
+  of_snapshot : (o : Result Judged Halt) → IsSnapshotCheck (all_of records) (certificate_text c) o → IsAcceptance c o
+  of_snapshot o (inl faulty) = absurd (faulty.0 resolved)
+  of_snapshot o (inr checked) = of_text o checked.1
+
+  -- and nothing else comes of it, unless a reader fails or memory is refused
+  pub only : (o : Result Judged Halt) → MayBeCheck records (certificate_text c) o → IsAcceptance c o
+  only o (inl check) = of_snapshot o (subst (λ found. IsRecordsCheck (answers_of records).items found (certificate_text c) o) unfaulted check)
+  only o (inr (inl failed)) = subst (IsAcceptance c) (sym failed.2) refl
+  only o (inr (inr memory)) = subst (IsAcceptance c) (sym memory) tt
