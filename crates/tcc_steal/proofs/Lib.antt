@@ -1,0 +1,4 @@
+pub mod Floor
+pub mod Rows
+pub mod Seats
+pub mod Settling

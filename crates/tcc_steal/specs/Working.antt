@@ -1,0 +1,78 @@
+-- For the private stages and their proofs alone: nobody has to believe what stands here.
+-- What workers know, do and bring back.
+use Rattle.std.specs.Prelude.{ℕ, ◌<◌, ◌≤◌, ◌^◌, ◌≡◌, ◌+◌, ◌++◌, List, [], ◌∷◌, length, map, replicate, All, Contains, Option, None, Some, slice_index_or}
+use Rattle.tcc_graph.specs.Levels.{Judged}
+use Rattle.tcc_graph.specs.Tables.{row_of}
+use Rattle.tcc_derive.specs.Prices.{Tables, IsPricesOf}
+use Rattle.tcc_bound.specs.Seated.{BoundId, Seated}
+use Rattle.tcc_bound.specs.declared.known.Known.{Known}
+use Rattle.tcc_core.specs.Rows.{in_row, IsSearchRow, cap_of, IsCutOff}
+use Rattle.tcc_core.specs.Searches.{Search, IsSearchOf}
+use Rattle.tcc_core.specs.Shares.{IsCycleCost}
+use Rattle.tcc_steal.specs.Floors.{least_cost}
+use Rattle.tcc_steal.specs.declared.bringing.Searched.{Searched}
+
+-- one knows all that the other does: it has its offers, and has seen no more than it
+pub record KnowsMore (old new : Known) : Type 0 where
+  pub floor : new.floor ≡ old.floor
+  pub small : old.sight < 2 ^ 64
+  pub sight : new.sight ≤ old.sight
+  pub offers : (c : ℕ) → Contains old.offers c → Contains new.offers c
+
+-- each offer is what some cycle costs, a number of 32 bits
+abbrev pub AreCosts : Judged → List ℕ → Type 0
+AreCosts j offers = All (λ c. IsCycleCost j c × (c < 2 ^ 32)) offers
+
+-- a seat at this bound, whose floor is the cost of a least cycle
+pub record IsSeat (t : Tables) (id : BoundId) (seat : Seated) : Type 0 where
+  pub bound : seat.bound ≡ id
+  pub floor : seat.known.floor ≡ least_cost t
+  pub sight : seat.known.sight < 2 ^ 64
+  pub offers : (j : Judged) → IsPricesOf j t → AreCosts j seat.known.offers
+
+-- the search from s has come back at a cost that was offered; or its start is outside, and nothing outside is within the
+-- least that was seen
+pub record HasEnded (j : Judged) (known : Known) (s : ℕ) (row : List (Option ℕ)) : Type 0 where
+  pub exact : IsSearchRow j s row
+  pub returned : (c : ℕ) → in_row row s ≡ Some c → Contains known.offers c
+  pub cut : in_row row s ≡ None → IsCutOff j s row (cap_of known.sight)
+
+-- a row from s upward, with the places below s, which are outside
+abbrev pub whole_row : ℕ → List (Option ℕ) → List (Option ℕ)
+whole_row s row = replicate s None ++ row
+
+-- it has ended for a seat that knows so much
+abbrev pub IsDone : Tables → Known → Searched → Type 0
+IsDone t known e = (j : Judged) → IsPricesOf j t → HasEnded j known e.start (whole_row e.start e.row.items)
+
+-- a search of one of so many workers, which has ended for a seat that knows so much
+pub record IsSearched (t : Tables) (workers : ℕ) (known : Known) (e : Searched) : Type 0 where
+  pub start : e.start < length t.prices
+  pub worker : e.worker < workers
+  pub done : IsDone t known e
+
+-- the search is at its opening
+pub record IsOpening (t : Tables) (s : ℕ) (search : Search) : Type 0 where
+  pub start : search.start ≡ s
+  pub search_of : (j : Judged) → IsPricesOf j t → IsSearchOf j s search
+  pub outside : in_row search.row s ≡ None
+
+-- the searches of s and of each start after it, in order
+abbrev pub AreSearches : Tables → ℕ → Known → ℕ → List Searched → Type 0
+AreSearches t workers known s [] = Unit {0}
+AreSearches t workers known s (e ∷ searches) =
+    (e.start ≡ s) × IsSearched t workers known e × AreSearches t workers known (s + 1) searches
+
+-- the row of the search from k, from there upward
+abbrev pub rows_of : List Searched → List (List (Option ℕ))
+rows_of searches = map (λ e. e.row.items) searches
+
+-- the search from k came back at this cost
+abbrev pub CameBack : List Searched → ℕ → ℕ → Type 0
+CameBack searches k c = in_row (row_of (rows_of searches) k) 0 ≡ Some c
+
+-- the first search that came back at this cost, if there is a cost
+abbrev pub IsFirstBack : List Searched → Option ℕ → Option ℕ → Type 0
+IsFirstBack searches None first = first ≡ None
+IsFirstBack searches (Some c) None = (k : ℕ) → k < length searches → CameBack searches k c → ⊥
+IsFirstBack searches (Some c) (Some s) = (s < length searches) × CameBack searches s c × ((k : ℕ) → k < s → CameBack searches k c → ⊥)

@@ -1,0 +1,157 @@
+//! The search from every start by many workers.
+ghost use Rattle.std.specs.Prelude.{◌≡◌, ◌≢◌, ◌<◌, ◌≤◌, ◌^◌, ℕ, Some, length, map, min, unwrap_or, IfOk, IfSome};
+ghost use Rattle.tcc_graph.specs.Levels.{Judged};
+ghost use Rattle.tcc_derive.specs.Prices.{Tables, IsPricesOf};
+ghost use Rattle.tcc_bound.specs.declared.known.Known.{Known};
+ghost use Rattle.tcc_core.specs.Rows.{cap_of};
+ghost use Rattle.tcc_core.specs.Shares.{IsCycleCost, SettleAt, capped};
+ghost use Rattle.tcc_steal.specs.Findings.{HasJudged, IsFound};
+ghost use Rattle.tcc_steal.specs.Floors.{least_cost};
+ghost use Rattle.tcc_steal.specs.Working.{AreSearches, IsFirstBack, IsSeat, rows_of};
+
+use crate::bringing::Searched;
+use crate::gathering::search_all;
+use crate::worker::Worker;
+use crate::{AllStart, Crew, Found, Gate};
+use std::alloc::Global;
+use std::thread::Threads;
+use tcc_bound::{Bound, Seat};
+use tcc_derive::Prices;
+use tcc_near::Row;
+use tcc_txn::NoMemory;
+
+/// A cost capped, where there is a cap; where there is no cost, the cap.
+fn capped(cost: Option<u32>, cap: Option<u32>) -> Option<u32>
+    ensures { result ≡ capped cap cost }
+{
+    match (cap, cost) {
+        (None, _) => cost,
+        (Some(cap), Some(cost)) if cost < cap => Some(cost),
+        (Some(cap), _) => Some(cap),
+    }
+}
+
+/// The row with each of its places capped.
+fn capped_row(
+    alloc: Global,
+    row: &[Option<u32>],
+    cap: Option<u32>,
+) -> Result<Row<Option<u32>>, NoMemory>
+    ensures { IfOk result (λ places. places ≡ map (capped cap) row.now) }
+{
+    let mut places = Vec::with_capacity(alloc, row.len())?;
+    for cost in row {
+        places.push(capped(*cost, cap))?;
+    }
+    Ok(Row::new(places))
+}
+
+/// The first of these searches that came back at this cost, by its place.
+fn first_back(searches: &[Searched], cost: u32) -> Option<u32>
+    requires { length searches.now < 2 ^ 32 }
+    ensures { IsFirstBack searches.now (Some cost) result }
+{
+    for (start, searched) in searches.iter().enumerate() {
+        if searched.came_back_at(cost) {
+            return Some(start as u32);
+        }
+    }
+    None
+}
+
+/// What these searches, one of each start in order, have found, where a least cycle costs so much.
+fn found(alloc: Global, least: Option<u32>, searches: &[Searched]) -> Result<Found, NoMemory>
+    requires { length searches.now < 2 ^ 32 }
+    ensures least { IfOk result (λ found. found.least ≡ least) }
+    ensures first { IfOk result (λ found. IsFirstBack searches.now least found.first) }
+    ensures rows { IfOk result (λ found. found.rows.items ≡ map (λ e. map (capped least) e.row.items) searches.now) }
+    ensures starts { IfOk result (λ found. found.starts.items ≡ map (λ e. (e.worker, e.start)) searches.now) }
+{
+    let first = match least {
+        Some(cost) => first_back(searches, cost),
+        None => None,
+    };
+    let mut rows = Vec::with_capacity(alloc, searches.len())?;
+    let mut starts = Vec::with_capacity(alloc, searches.len())?;
+    for searched in searches {
+        rows.push(capped_row(alloc, &searched.row, least)?)?;
+        starts.push((searched.worker, searched.start))?;
+    }
+    Ok(Found {
+        least,
+        first,
+        rows,
+        starts,
+    })
+}
+
+/// The word of the bound as a cost; none where it is `u64::MAX`.
+fn cost_in(word: u64) -> Option<u32>
+    requires { word ≢ 18446744073709551615 → word < 2 ^ 32 }
+    ensures { result ≡ cap_of word }
+{
+    if word == u64::MAX {
+        None
+    } else {
+        Some(word as u32)
+    }
+}
+
+/// The bound of a search of these prices, and its first seat, by which the seed was offered. The floor of the bound is what a least
+/// cycle costs.
+fn begin(alloc: Global, _prices: &Prices, seed: Option<u32>) -> Result<(Bound, Seat), NoMemory>
+    ghost floor: { ℕ }
+    requires prices { HasJudged _prices.now }
+    requires floor { floor ≡ least_cost _prices.now }
+    requires seed { (j : Judged) → IsPricesOf j _prices.now → IfSome seed (IsCycleCost j) }
+    ensures { IfOk result (λ made. IsSeat _prices.now made.0 made.1) }
+{
+    let (bound, mut seat) = Bound::new(alloc)?;
+    match seed {
+        Some(cost) => {
+            bound.offer(&mut seat, cost as u64);
+            Ok((bound, seat))
+        }
+        None => Ok((bound, seat)),
+    }
+}
+
+/// Searches from every start by so many workers, 1 to 32, each of which may start; with 1 no thread is started. The gate is
+/// called before each start. It may wait for its threads.
+pub fn search<R: Threads + Sync, G: Gate>(
+    rt: &R,
+    alloc: Global,
+    prices: &Prices,
+    workers: u32,
+    gate: &G,
+) -> Result<Found, NoMemory>
+    requires prices { HasJudged prices.now }
+    requires workers { (0 < workers) × (workers ≤ 32) }
+    ensures { (j : Judged) → IsPricesOf j prices.now → IfOk result (IsFound j workers) }
+{
+    search_with(rt, alloc, prices, None, workers, gate, &AllStart)
+}
+
+/// Searches from every start as `search` does, by a worker 0 and those thieves of 1 and upward that the crew starts. A seed
+/// is the cost of some cycle, and is offered before any start is taken.
+pub fn search_with<R: Threads + Sync, G: Gate, C: Crew>(
+    rt: &R,
+    alloc: Global,
+    prices: &Prices,
+    seed: Option<u32>,
+    workers: u32,
+    gate: &G,
+    crew: &C,
+) -> Result<Found, NoMemory>
+    requires prices { HasJudged prices.now }
+    requires seed { (j : Judged) → IsPricesOf j prices.now → IfSome seed (IsCycleCost j) }
+    requires workers { (0 < workers) × (workers ≤ 32) }
+    ensures { (j : Judged) → IsPricesOf j prices.now → IfOk result (IsFound j workers) }
+{
+    let (bound, seat) = begin(alloc, prices, seed)?;
+    let mut worker = Worker { number: 0, seat };
+    let searches = search_all(alloc, prices, &bound, gate, &mut worker)?;
+    let least = cost_in(bound.close(worker.seat));
+    let found = found(alloc, least, &searches)?;
+    Ok(found)
+}
