@@ -4,6 +4,8 @@
 //! error the times.
 #![tactic(auto)]
 
+ghost use Rattle.std.specs.Prelude.{◌≡◌, ◌+◌, IfSome, length};
+
 use std::alloc::{Alloc, Global};
 use std::process::ExitCode;
 use std::time::{Clock, Instant};
@@ -34,6 +36,16 @@ fn transaction(alloc: Global, key: Name) -> Option<Txn> {
     Txn::new(ops, true).ok()
 }
 
+/// Records the transaction so many times.
+fn fill(alloc: Global, book: &mut BookState, session: &Name, txn: &Txn, count: u32) -> Option<()>
+    ensures { IfSome result (λ done. length book.new.journal ≡ length book.old.journal + count) }
+{
+    for held in 0..count {
+        book.record(session, held, txn.copy(alloc).ok()?).ok()?;
+    }
+    Some(())
+}
+
 /// Fills a book with so many transactions, and copies it.
 fn measure<R: Clock + Alloc<A = Global>>(rt: &R, count: u32) -> Option<Spent> {
     let alloc = rt.alloc();
@@ -42,9 +54,7 @@ fn measure<R: Clock + Alloc<A = Global>>(rt: &R, count: u32) -> Option<Spent> {
     let mut book = BookState::new(alloc).ok()?;
     book.open(alloc, session).ok()?;
     let start = Instant::now(rt).ok()?;
-    for held in 0..count {
-        book.record(&session, held, txn.copy(alloc).ok()?).ok()?;
-    }
+    fill(alloc, &mut book, &session, &txn, count)?;
     let record = start.elapsed(rt).ok()?.as_secs_f64();
     let start = Instant::now(rt).ok()?;
     let copy = book.copy(alloc).ok()?;
