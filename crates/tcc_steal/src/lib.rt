@@ -1,5 +1,5 @@
-//! The search from every start by many workers: the starts stand in one deque, whose owner pops and whose thieves steal,
-//! and all share one bound. Whatever the schedule, what they bring back settles the cost of a least cycle.
+//! The search from every start at one bound: what the searches bring back settles the cost of a least cycle. The calls and
+//! their contract are those of many workers; so far one worker makes all the searches, whatever number is asked for.
 #![tactic(auto)]
 
 mod bringing;

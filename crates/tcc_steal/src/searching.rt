@@ -1,4 +1,4 @@
-//! The search from every start by many workers.
+//! Searches from every start, and what they found.
 ghost use Rattle.std.specs.Prelude.{◌≡◌, ◌≢◌, ◌<◌, ◌≤◌, ◌^◌, ℕ, Some, length, map, min, unwrap_or, IfOk, IfSome};
 ghost use Rattle.tcc_graph.specs.Levels.{Judged};
 ghost use Rattle.tcc_derive.specs.Prices.{Tables, IsPricesOf};
@@ -116,8 +116,8 @@ fn begin(alloc: Global, _prices: &Prices, seed: Option<u32>) -> Result<(Bound, S
     }
 }
 
-/// Searches from every start by so many workers, 1 to 32, each of which may start; with 1 no thread is started. The gate is
-/// called before each start. It may wait for its threads.
+/// Searches from every start by at most so many workers, 1 to 32. The gate is called before each start. So far worker 0
+/// makes all the searches, and no thread is started.
 pub fn search<R: Threads + Sync, G: Gate>(
     rt: &R,
     alloc: Global,
@@ -132,8 +132,8 @@ pub fn search<R: Threads + Sync, G: Gate>(
     search_with(rt, alloc, prices, None, workers, gate, &AllStart)
 }
 
-/// Searches from every start as `search` does, by a worker 0 and those thieves of 1 and upward that the crew starts. A seed
-/// is the cost of some cycle, and is offered before any start is taken.
+/// Searches from every start as `search` does, by worker 0 and no more than those of 1 and upward that the crew starts. A
+/// seed is the cost of some cycle, and is offered before any start is taken.
 pub fn search_with<R: Threads + Sync, G: Gate, C: Crew>(
     rt: &R,
     alloc: Global,
