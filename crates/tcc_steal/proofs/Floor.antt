@@ -1,15 +1,15 @@
 -- The floor of the bound: no cycle costs less, and it is what some cycle costs, or there is none.
-use Rattle.std.proofs.Common.{◌≡◌, ◌<◌, ◌≤◌, ◌+◌, ◌-◌, ◌==◌, ◌⊎◌, ◌&&◌, ◌||◌, ℕ, zero, suc, Bool, true, false, inl, inr, List, [], ◌∷◌, length, Option, None, Some, cond, nat_lt, refl, sym, ◌∙◌, ap, subst, le_trans, arith}
+use Rattle.std.proofs.Common.{◌≡◌, ◌<◌, ◌≤◌, ◌+◌, ◌-◌, ◌==◌, ◌⊎◌, ◌&&◌, ℕ, zero, suc, Bool, true, false, inl, inr, List, [], ◌∷◌, length, Option, None, Some, cond, nat_lt, refl, sym, ◌∙◌, ap, subst, le_trans, arith}
 use Rattle.std.specs.List.{list_any}
 use Rattle.std.proofs.lemmas.Bool.{false≢true, cond_both, cases_order, or_cases, or_left, or_right, and_parts, eqb-true, eq-eqb, ltb-true, ltb-false, lt-ltb}
 use Rattle.tcc_reads.specs.History.{count}
 use Rattle.tcc_graph.specs.Levels.{Judged}
-use Rattle.tcc_graph.specs.Links.{link_from, link_to, link_cost, cost}
-use Rattle.tcc_graph.specs.Routes.{LinksLead, IsRoute, IsCycle}
+use Rattle.tcc_graph.specs.Links.{link_to, link_cost, cost}
+use Rattle.tcc_graph.specs.Routes.{LinksLead, IsCycle}
 use Rattle.tcc_graph.specs.declared.link.Link.{Link}
 use Rattle.tcc_graph.proofs.Linking.{some_cost, cost_cons, route_below}
 use Rattle.tcc_graph.proofs.Pairs.{link_below}
-use Rattle.tcc_derive.specs.Prices.{Tables, IsLinkOf, IsLeastCost, IsCost, IsPricesOf, cost_at}
+use Rattle.tcc_derive.specs.Prices.{Tables, IsCost, IsPricesOf, cost_at}
 use Rattle.tcc_core.specs.Shares.{IsCycleCost}
 use Rattle.tcc_steal.specs.Floors.{below, after_step, leads, is_cycle_cost, first_below, least_cost}
 

@@ -1,4 +1,6 @@
+pub mod Dealings
 pub mod Floor
+pub mod Places
 pub mod Rows
 pub mod Seats
 pub mod Settling

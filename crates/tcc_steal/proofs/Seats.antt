@@ -1,5 +1,5 @@
 -- What the steps on the bound make of a worker's seat.
-use Rattle.std.proofs.Common.{◌≡◌, ◌<◌, ◌≤◌, ◌^◌, ◌++◌, ◌∷◌, [], ℕ, min, All, Contains, refl, sym, ◌∙◌, subst, arith}
+use Rattle.std.proofs.Common.{◌≡◌, ◌<◌, ◌∷◌, [], ℕ, Contains, refl, sym, ◌∙◌, arith}
 use Rattle.std.proofs.lemmas.List.Elements.{All-append, All-push, All-nil, Contains-append_left, Contains-append_right, Contains-push}
 use Rattle.std.proofs.Math.Nat.{min-le_left, min-le_right}
 use Rattle.tcc_graph.specs.Levels.{Judged}
@@ -9,7 +9,7 @@ use Rattle.tcc_bound.specs.Knowing.{IsAtMostAll, newcomer, with_sight, with_offe
 use Rattle.tcc_bound.specs.declared.known.Known.{Known}
 use Rattle.tcc_core.specs.Shares.{IsCycleCost}
 use Rattle.tcc_steal.specs.Floors.{least_cost}
-use Rattle.tcc_steal.specs.Working.{KnowsMore, AreCosts, IsSeat}
+use Rattle.tcc_steal.specs.Working.{KnowsMore, IsSeat}
 
 pub knows_itself : (known : Known) → known.sight < 18446744073709551616 → KnowsMore known known
 knows_itself known small = record { floor = refl; small = small; sight = omega arith; offers = λ c here. here }

@@ -1,29 +1,26 @@
 -- What the workers brought settles the cost of a least cycle, and what is told of it is so.
 use Rattle.std.proofs.Common.{◌≡◌, ◌≢◌, ◌<◌, ◌≤◌, ◌+◌, ◌-◌, ◌==◌, ◌⊎◌, inl, inr, ℕ, zero, suc, List, [], ◌∷◌, ◌++◌, append-nil, length, map, drop, get_or, Option, None, Some, All, Contains, refl, sym, ◌∙◌, ap, subst, arith}
 use Rattle.std.specs.Prelude.{slice_index_or}
-use Rattle.std.specs.Global.{Vec}
-use Rattle.std.proofs.lemmas.Bool.{cond_both, cases_order, eqb-true, eqb-false}
+use Rattle.std.proofs.lemmas.Bool.{cond_both, eqb-true, eqb-false}
 use Rattle.std.proofs.lemmas.List.{length-map}
 use Rattle.std.proofs.lemmas.List.Elements.{All-nil, All-cons, All-head, All-contains, All-weaker}
 use Rattle.tcc_reads.specs.History.{count}
 use Rattle.tcc_graph.specs.Levels.{Judged}
-use Rattle.tcc_graph.specs.Links.{cost}
 use Rattle.tcc_graph.specs.Orders.{IsNumbering}
-use Rattle.tcc_graph.specs.Routes.{IsDistance, IsUpwardRoute}
+use Rattle.tcc_graph.specs.Routes.{IsDistance}
 use Rattle.tcc_graph.specs.Tables.{row_of}
-use Rattle.tcc_graph.specs.declared.link.Link.{Link}
 use Rattle.tcc_graph.proofs.Linking.{route_below}
 use Rattle.tcc_graph.proofs.Upward.{turn_lowest}
 use Rattle.tcc_derive.specs.Prices.{Tables, IsPricesOf}
 use Rattle.tcc_bound.specs.Seated.{BoundId, Seated}
 use Rattle.tcc_bound.specs.Knowing.{IsAtMostAll}
 use Rattle.tcc_bound.specs.declared.known.Known.{Known}
-use Rattle.tcc_core.specs.Rows.{in_row, IsSearchRow, cap_of, IsCutOff}
+use Rattle.tcc_core.specs.Rows.{in_row, cap_of}
 use Rattle.tcc_core.specs.Shares.{Share, Finished, Stop, Returned, Cut, IsNotAbove, IsStopped, IsFinished, IsCycleCost, IsNotBelowLeast, starts_of, EachFinished, SettleAt, capped, IsCappedDistance}
 use Rattle.tcc_core.proofs.Settlement.{least_cycle, capped_rows, returned_starts}
 use Rattle.tcc_steal.specs.Findings.{IsFirst, IsFound}
 use Rattle.tcc_steal.specs.Floors.{least_cost}
-use Rattle.tcc_steal.specs.Working.{KnowsMore, AreCosts, IsSeat, HasEnded, whole_row, IsSearched, AreSearches, rows_of, CameBack, IsFirstBack}
+use Rattle.tcc_steal.specs.Working.{KnowsMore, IsSeat, HasEnded, whole_row, IsSearched, AreSearches, rows_of, CameBack, IsFirstBack}
 use Rattle.tcc_steal.specs.declared.bringing.Searched.{Searched}
 use Rattle.tcc_steal.specs.declared.found.Found.{Found}
 use Rattle.tcc_steal.proofs.Floor.{floor_attained}

@@ -1,6 +1,6 @@
 -- For the private stages and their proofs alone: nobody has to believe what stands here.
 -- What a least cycle costs, as a number that tables of costs settle: the floor of the bound.
-use Rattle.std.specs.Prelude.{ℕ, zero, suc, ◌-◌, ◌==◌, ◌&&◌, ◌||◌, Bool, true, false, List, [], ◌∷◌, length, Option, None, Some, nat_lt, if◌then◌else◌}
+use Rattle.std.specs.Prelude.{ℕ, zero, suc, ◌-◌, ◌==◌, ◌&&◌, ◌||◌, Bool, false, List, [], ◌∷◌, length, Option, None, Some, nat_lt, if◌then◌else◌}
 use Rattle.std.specs.List.{list_any}
 use Rattle.tcc_derive.specs.Prices.{Tables, cost_at}
 

@@ -1,3 +1,4 @@
+pub mod Dealing
 pub mod Findings
 pub mod Floors
 pub mod Working

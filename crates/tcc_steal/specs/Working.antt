@@ -1,6 +1,10 @@
 -- For the private stages and their proofs alone: nobody has to believe what stands here.
 -- What workers know, do and bring back.
-use Rattle.std.specs.Prelude.{ℕ, ◌<◌, ◌≤◌, ◌^◌, ◌≡◌, ◌+◌, ◌++◌, List, [], ◌∷◌, length, map, replicate, All, Contains, Option, None, Some, slice_index_or}
+use Rattle.std.specs.Prelude.{ℕ, ◌<◌, ◌≤◌, ◌^◌, ◌≡◌, ◌+◌, ◌++◌, List, [], ◌∷◌, length, map, replicate, All, Contains, Option, None, Some, Result, IfOk, slice_get}
+use Rattle.std.specs.declared.alloc.Global.{Global}
+use Rattle.atomic_blocks.specs.Lent.{RowsId}
+use Rattle.crossbeam_deque.specs.Handles.{view, IsPassOf}
+use Rattle.tcc_txn.specs.declared.memory.NoMemory.{NoMemory}
 use Rattle.tcc_graph.specs.Levels.{Judged}
 use Rattle.tcc_graph.specs.Tables.{row_of}
 use Rattle.tcc_derive.specs.Prices.{Tables, IsPricesOf}
@@ -9,8 +13,11 @@ use Rattle.tcc_bound.specs.declared.known.Known.{Known}
 use Rattle.tcc_core.specs.Rows.{in_row, IsSearchRow, cap_of, IsCutOff}
 use Rattle.tcc_core.specs.Searches.{Search, IsSearchOf}
 use Rattle.tcc_core.specs.Shares.{IsCycleCost}
+use Rattle.tcc_steal.specs.Dealing.{IsTaker}
 use Rattle.tcc_steal.specs.Floors.{least_cost}
 use Rattle.tcc_steal.specs.declared.bringing.Searched.{Searched}
+use Rattle.tcc_steal.specs.declared.sharing.Job.{Job}
+use Rattle.tcc_steal.specs.declared.sharing.Share.{Share}
 
 -- one knows all that the other does: it has its offers, and has seen no more than it
 pub record KnowsMore (old new : Known) : Type 0 where
@@ -62,6 +69,33 @@ abbrev pub AreSearches : Tables → ℕ → Known → ℕ → List Searched → 
 AreSearches t workers known s [] = Unit {0}
 AreSearches t workers known s (e ∷ searches) =
     (e.start ≡ s) × IsSearched t workers known e × AreSearches t workers known (s + 1) searches
+
+-- workers besides worker 0, of so many
+abbrev pub AreThieves : ℕ → List ℕ → Type 0
+AreThieves workers thieves = All (λ number. (0 < number) × (number < workers)) thieves
+
+-- what a thief of this deque begins with
+pub record IsJob (t : Tables) (id : BoundId) (deque : RowsId × Global) (job : Job) : Type 0 where
+  pub seat : IsSeat t id job.worker.seat
+  pub pass : IsPassOf deque job.pass
+  pub taker : IsTaker (length t.prices) (view job.pass)
+
+-- what the thieves of so many workers begin with
+abbrev pub AreJobs : Tables → BoundId → RowsId × Global → ℕ → List Job → Type 0
+AreJobs t id deque workers jobs = All (λ job. IsJob t id deque job × (job.worker.number < workers)) jobs
+
+-- what one of so many workers brings back
+pub record IsShare (t : Tables) (id : BoundId) (workers : ℕ) (share : Share) : Type 0 where
+  pub seat : IsSeat t id share.seat
+  pub searches : All (IsSearched t workers share.seat.known) share.searches.items
+
+-- what so many workers bring back, but for those that had no memory
+abbrev pub AreShares : Tables → BoundId → ℕ → List (Result Share NoMemory) → Type 0
+AreShares t id workers shares = All (λ share. IfOk share (IsShare t id workers)) shares
+
+-- each place is empty, or has the search of its start
+abbrev pub AreKept : Tables → ℕ → Known → List (Option Searched) → Type 0
+AreKept t workers known places = (k : ℕ) (e : Searched) → slice_get places k ≡ Some (Some e) → (e.start ≡ k) × IsSearched t workers known e
 
 -- the row of the search from k, from there upward
 abbrev pub rows_of : List Searched → List (List (Option ℕ))

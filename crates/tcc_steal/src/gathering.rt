@@ -1,34 +1,103 @@
 //! The searches of all starts.
-ghost use Rattle.std.specs.Prelude.{◌≡◌, ◌<◌, ◌^◌, ℕ, length, IfOk, OnOk};
+ghost use Rattle.std.specs.Prelude.{◌≡◌, ◌<◌, ◌^◌, length, replicate, None, IfOk, OnOk};
 ghost use Rattle.tcc_steal.specs.Findings.{HasJudged};
-ghost use Rattle.tcc_steal.specs.Working.{IsSeat, AreSearches};
+ghost use Rattle.tcc_steal.specs.Working.{IsSeat, IsShare, AreShares, AreKept, AreSearches};
 
 use crate::Gate;
 use crate::bringing::Searched;
+use crate::sharing::Share;
 use crate::worker::Worker;
 use std::alloc::Global;
-use tcc_bound::Bound;
+use tcc_bound::{Bound, Seat};
 use tcc_derive::Prices;
 use tcc_txn::NoMemory;
 
-/// The worker's own searches from all starts, in order.
+/// Takes in a share: each search has the place of its start, unless that has one.
+fn take_in(
+    bound: &Bound,
+    seat: &mut Seat,
+    places: &mut [Option<Searched>],
+    share: Share,
+    _prices: &Prices,
+    _workers: u32,
+)
+    requires seat { IsSeat _prices.now bound.now seat.old }
+    requires long { length places.old ≡ length _prices.now.prices }
+    requires kept { AreKept _prices.now _workers seat.old.known places.old }
+    requires share { IsShare _prices.now bound.now _workers share }
+    ensures seat { IsSeat _prices.now bound.now seat.new }
+    ensures long { length places.new ≡ length places.old }
+    ensures kept { AreKept _prices.now _workers seat.new.known places.new }
+{
+    bound.join(seat, share.seat);
+    let mut searches = share.searches;
+    while let Some(searched) = searches.pop() {
+        let start = searched.start as usize;
+        if places[start].is_none() {
+            places[start] = Some(searched);
+        }
+    }
+}
+
+/// A place for the search of each start, empty.
+fn empty_places(alloc: Global, count: u32) -> Result<Vec<Option<Searched>>, NoMemory>
+    ensures { IfOk result (λ places. places.items ≡ replicate count None) }
+{
+    let mut places = Vec::with_capacity(alloc, count as usize)?;
+    for _ in 0..count {
+        places.push(None)?;
+    }
+    Ok(places)
+}
+
+/// Takes in the shares one at a time. A worker that ended for want of memory ends this too.
+pub(crate) fn gather(
+    alloc: Global,
+    prices: &Prices,
+    bound: &Bound,
+    seat: &mut Seat,
+    mut shares: Vec<Result<Share, NoMemory>>,
+    _workers: u32,
+) -> Result<Vec<Option<Searched>>, NoMemory>
+    requires seat { IsSeat prices.now bound.now seat.old }
+    requires shares { AreShares prices.now bound.now _workers shares.items }
+    ensures seat { OnOk result (IsSeat prices.now bound.now seat.new) }
+    ensures long { IfOk result (λ places. length places.items ≡ length prices.now.prices) }
+    ensures kept { IfOk result (λ places. AreKept prices.now _workers seat.new.known places.items) }
+{
+    let mut places = empty_places(alloc, prices.count())?;
+    while let Some(share) = shares.pop() {
+        take_in(bound, seat, places.as_mut_slice(), share?, prices, _workers);
+    }
+    Ok(places)
+}
+
+/// The searches from all starts, in order: those that stand in the places, and the worker's own for those that do not.
 pub(crate) fn search_all(
     alloc: Global,
     prices: &Prices,
     bound: &Bound,
     gate: &impl Gate,
     worker: &mut Worker,
+    mut places: Vec<Option<Searched>>,
+    _workers: u32,
 ) -> Result<Vec<Searched>, NoMemory>
     requires prices { HasJudged prices.now }
     requires worker { IsSeat prices.now bound.now worker.old.seat }
+    requires number { worker.old.number < _workers }
+    requires long { length places.items ≡ length prices.now.prices }
+    requires kept { AreKept prices.now _workers worker.old.seat.known places.items }
     ensures worker { OnOk result (IsSeat prices.now bound.now worker.new.seat) }
     ensures few { IfOk result (λ all. length all.items < 2 ^ 32) }
     ensures long { IfOk result (λ all. length all.items ≡ length prices.now.prices) }
-    ensures all { (workers : ℕ) → worker.old.number < workers → IfOk result (λ all. AreSearches prices.now workers worker.new.seat.known 0 all.items) }
+    ensures all { IfOk result (λ all. AreSearches prices.now _workers worker.new.seat.known 0 all.items) }
 {
-    let mut searches = Vec::new(alloc);
+    let mut searches = Vec::with_capacity(alloc, places.len())?;
     for start in 0..prices.count() {
-        let searched = worker.search(alloc, prices, bound, gate, start)?;
+        let searched = match places[start as usize].take() {
+            Some(searched) => searched,
+            None => worker.search(alloc, prices, bound, gate, start)?,
+        };
         searches.push(searched)?;
     }
     Ok(searches)

@@ -10,7 +10,8 @@ ghost use Rattle.tcc_steal.specs.Floors.{least_cost};
 ghost use Rattle.tcc_steal.specs.Working.{AreSearches, IsFirstBack, IsSeat, rows_of};
 
 use crate::bringing::Searched;
-use crate::gathering::search_all;
+use crate::gathering::{gather, search_all};
+use crate::many::{shares_of_many, thieves};
 use crate::worker::Worker;
 use crate::{AllStart, Crew, Found, Gate};
 use std::alloc::Global;
@@ -116,8 +117,8 @@ fn begin(alloc: Global, _prices: &Prices, seed: Option<u32>) -> Result<(Bound, S
     }
 }
 
-/// Searches from every start by at most so many workers, 1 to 32. The gate is called before each start. So far worker 0
-/// makes all the searches, and no thread is started.
+/// Searches from every start by so many workers, 1 to 32, each in a thread of its own; by one worker in the caller's thread.
+/// The gate is called before each start.
 pub fn search<R: Threads + Sync, G: Gate>(
     rt: &R,
     alloc: Global,
@@ -132,8 +133,9 @@ pub fn search<R: Threads + Sync, G: Gate>(
     search_with(rt, alloc, prices, None, workers, gate, &AllStart)
 }
 
-/// Searches from every start as `search` does, by worker 0 and no more than those of 1 and upward that the crew starts. A
-/// seed is the cost of some cycle, and is offered before any start is taken.
+/// Searches from every start as `search` does, by worker 0 and those of 1 and upward that the crew starts. A seed is the cost
+/// of some cycle, and is offered before any start is taken. A start that no worker came back with is searched by worker 0 at
+/// the end.
 pub fn search_with<R: Threads + Sync, G: Gate, C: Crew>(
     rt: &R,
     alloc: Global,
@@ -148,9 +150,18 @@ pub fn search_with<R: Threads + Sync, G: Gate, C: Crew>(
     requires workers { (0 < workers) × (workers ≤ 32) }
     ensures { (j : Judged) → IsPricesOf j prices.now → IfOk result (IsFound j workers) }
 {
-    let (bound, seat) = begin(alloc, prices, seed)?;
+    let (bound, mut seat) = begin(alloc, prices, seed)?;
+    let thieves = thieves(alloc, workers, crew)?;
+    let shares = if thieves.is_empty() {
+        Vec::new(alloc)
+    } else {
+        shares_of_many(
+            rt, alloc, prices, &bound, gate, crew, &thieves, &mut seat, workers,
+        )?
+    };
+    let places = gather(alloc, prices, &bound, &mut seat, shares, workers)?;
     let mut worker = Worker { number: 0, seat };
-    let searches = search_all(alloc, prices, &bound, gate, &mut worker)?;
+    let searches = search_all(alloc, prices, &bound, gate, &mut worker, places, workers)?;
     let least = cost_in(bound.close(worker.seat));
     let found = found(alloc, least, &searches)?;
     Ok(found)

@@ -83,8 +83,10 @@ fn one_worker(rt: HostRuntime) -> Result<(), Fail> {
             panic!(rt; "no graph of {records}");
         };
         let prices = prices_of(&rt, alloc, &graph)?;
-        let found = search(&rt, alloc, &prices, 1, &OpenGate)?;
-        assert_found(&rt, &found, 1, least, first, rows);
+        for workers in [1, 2, 32] {
+            let found = search(&rt, alloc, &prices, workers, &OpenGate)?;
+            assert_found(&rt, &found, workers, least, first, rows);
+        }
     }
     Ok(())
 }

@@ -1,4 +1,4 @@
-use Rattle.std.proofs.Common.{◌≡◌, ◌≤◌, sym, ◌∙◌, ap, arith}
+use Rattle.std.proofs.Common.{ap, arith}
 use Rattle.tcc_bound.specs.Seated.{Seated}
 use Rattle.tcc_core.specs.Shares.{IsCycleCost}
 use Rattle.tcc_steal.specs.Working.{IsSeat}

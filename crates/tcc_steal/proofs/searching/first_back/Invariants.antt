@@ -1,5 +1,5 @@
 -- none before came back at the cost
-use Rattle.std.proofs.Common.{◌<◌, ◌≤◌, ℕ, length}
+use Rattle.std.proofs.Common.{◌<◌, ℕ}
 use Rattle.tcc_steal.specs.Working.{CameBack}
 use Rattle.tcc_steal.proofs.searching.first_back.Given as goal
 

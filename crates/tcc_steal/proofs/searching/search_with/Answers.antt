@@ -1,9 +1,17 @@
-use Rattle.std.proofs.Common.{◌≡◌, ◌<◌, ◌≤◌, ℕ, List, map, ◌∙◌, ap, subst, arith}
+use Rattle.std.proofs.Common.{List, map, ◌∙◌, ap, subst, arith}
 use Rattle.tcc_core.specs.Shares.{capped}
 use Rattle.tcc_steal.specs.Working.{IsFirstBack}
 use Rattle.tcc_steal.specs.declared.bringing.Searched.{Searched}
 use Rattle.tcc_steal.proofs.Settling.{IsLast, word_fits, found_at}
+use Rattle.tcc_steal.proofs.searching.search_with.Goals.{then-is_empty, else-is_empty+in_ok-shares}
 use Rattle.tcc_steal.proofs.searching.search_with.Goals as goal
+
+pub gather-requires-clause-seat : goal.gather-requires-clause-seat
+gather-requires-clause-seat g c =
+    elim c.if-is_empty.branch [
+      | then-is_empty w ↦ rw w.seat-is c.in_ok-bound.ensures
+      | else-is_empty+in_ok-shares w ↦ rw (w.seat-is, w.shares_of_many.ensures.seat) c.in_ok-bound.ensures
+    ]
 
 pub cost_in-least-requires : goal.cost_in-least-requires
 cost_in-least-requires g c =
@@ -13,7 +21,7 @@ cost_in-least-requires g c =
     let ens = c.in_ok-searches.ensures in
     let floor = ens.worker.floor in
     let last : IsLast t seat.known c.close.result = record { most = c.close.ensures.least; above = omega (arith, floor, c.close.ensures.floor); small = omega arith } in
-    λ other. word_fits j t c.args.workers c.in_ok-bound.bound seat c.in_ok-searches.searches.items c.close.result priced ens.worker last (ens.all c.args.workers (omega (arith, c.requires.workers.0))) ens.long other
+    λ other. word_fits j t c.args.workers c.in_ok-bound.bound seat c.in_ok-searches.searches.items c.close.result priced ens.worker last ens.all ens.long other
 
 pub returns : goal.returns
 returns g c = λ j priced.
@@ -25,9 +33,9 @@ returns g c = λ j priced.
     let found = c.in_ok-found.ensures in
     let least = c.cost_in-least.result in
     let answer = c.in_ok-found.found in
-    let same = c.deref.ensures.value in
+    let same = c.deref-2.ensures.value in
     let first = subst (λ (es : List Searched). IsFirstBack es c.cost_in-least.result c.in_ok-found.found.first) same found.first in
     let rows = found.rows ∙ ap (map (λ (e : Searched). map (capped c.cost_in-least.result) e.row.items)) same in
     let starts = found.starts ∙ ap (map (λ (e : Searched). (e.worker, e.start))) same in
     found_at j t c.args.workers c.in_ok-bound.bound seat c.in_ok-searches.searches.items c.close.result priced ens.worker last
-    (ens.all c.args.workers (omega (arith, c.requires.workers.0))) ens.long c.cost_in-least.result c.in_ok-found.found c.cost_in-least.ensures found.least first rows starts
+    ens.all ens.long c.cost_in-least.result c.in_ok-found.found c.cost_in-least.ensures found.least first rows starts

@@ -1,0 +1,14 @@
+-- the shares that are left, and the places of those that were taken in
+use Rattle.std.proofs.Common.{◌≡◌, length}
+use Rattle.tcc_steal.specs.Working.{IsSeat, AreShares, AreKept}
+use Rattle.tcc_steal.proofs.gathering.gather.Given as goal
+
+abbrev pub invariant-loop-share : goal.invariant-loop-share
+invariant-loop-share l =
+    IsSeat l.prices l.bound l.seat
+    × AreShares l.prices l.bound l._workers l.shares.items
+    × AreKept l.prices l._workers l.seat.known l.places.items
+    × (length l.places.items ≡ length l.prices.prices)
+
+abbrev pub decreases-loop-share : goal.decreases-loop-share
+decreases-loop-share l = length l.shares.items

@@ -1,0 +1,65 @@
+//! The rule of the deque of starts, and what each step on it tells.
+use crate::taken::Taken;
+use crossbeam_deque::protocol::{Join, Lesson, Outcome, Protocol, Split};
+
+/// The deque holds a run of numbers up to the last that was pushed, and each number before it was taken once.
+pub struct Dealt;
+
+impl Protocol<u32, Taken> for Dealt {
+    ghost use Rattle.tcc_steal.specs.Dealing.{IsDealt, dealer, nobody};
+
+    ghost holds = { IsDealt };
+
+    ghost first = { dealer };
+
+    ghost guest = { nobody };
+}
+
+/// The push of a start by the pass that is alone.
+pub struct Pushed;
+
+impl Outcome<u32, Taken> for Pushed {
+    ghost use Rattle.tcc_steal.specs.Dealing.{Pushes};
+
+    ghost then = { Pushes };
+}
+
+/// The pop or the steal of a start.
+pub struct Took;
+
+impl Outcome<u32, Taken> for Took {
+    ghost use Rattle.tcc_steal.specs.Dealing.{Takes};
+
+    ghost then = { Takes };
+}
+
+/// A pass for a thief, which has taken nothing. From then on nothing is pushed.
+pub struct Cut;
+
+impl Split<Taken> for Cut {
+    ghost use Rattle.tcc_steal.specs.Dealing.{thief_of, no_dealer};
+
+    ghost left = { no_dealer };
+
+    ghost right = { thief_of };
+}
+
+/// A pass that takes in another, with the starts that it took.
+pub struct Glue;
+
+impl Join<Taken> for Glue {
+    ghost use Rattle.tcc_steal.specs.Dealing.{both_of, nobody};
+
+    ghost both = { both_of };
+
+    ghost spent = { nobody };
+}
+
+/// A pass took no start twice.
+pub struct Once;
+
+impl Lesson<u32, Taken> for Once {
+    ghost use Rattle.tcc_steal.specs.Dealing.{EachOnce};
+
+    ghost fact = { λ view _. EachOnce view };
+}
