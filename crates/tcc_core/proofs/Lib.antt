@@ -3,4 +3,5 @@ pub mod Frontier
 pub mod Lowering
 pub mod Steps
 pub mod Ending
+pub mod Rounds
 pub mod Worked

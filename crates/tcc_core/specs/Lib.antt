@@ -1,5 +1,7 @@
 pub mod Rows
 pub mod Searches
 pub mod Shares
+pub mod Seeds
 pub mod Frontiers
 pub mod Relaxing
+pub mod Closing

@@ -5,10 +5,14 @@
 pub mod laws;
 mod relaxing;
 mod search;
+mod seeding;
 mod settled;
 
 pub use search::Search;
+pub use seeding::seed;
 pub use settled::Settled;
 
+#[cfg(test)]
+mod fast_tests;
 #[cfg(test)]
 mod tests;

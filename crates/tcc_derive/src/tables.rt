@@ -78,6 +78,15 @@ impl Prices {
         cell(self.costs(u)[v as usize])
     }
 
+    /// What derived links from `b` to each transaction cost, `NONE` where there is none.
+    pub fn prices(&self, b: u32) -> &[u16]
+        requires { b < length self.now.prices }
+        ensures value { result.now ≡ row_of self.now.prices b }
+        ensures long { length result.now ≡ length self.now.prices }
+    {
+        self.prices[b as usize].values()
+    }
+
     /// What links from `u` to each transaction cost, `NONE` where there is none.
     pub fn costs(&self, u: u32) -> &[u16]
         requires { u < length self.now.prices }

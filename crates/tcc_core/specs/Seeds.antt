@@ -1,0 +1,20 @@
+-- What cycles cost that a walk makes, or a walk and one derived link back.
+use Rattle.std.specs.Prelude.{ℕ, ◌≤◌, ◌+◌, List, length}
+use Rattle.tcc_graph.specs.Levels.{Judged, IsAllowedWalk}
+use Rattle.tcc_graph.specs.Links.{link_cost}
+use Rattle.tcc_graph.specs.declared.step.Step.{Step}
+use Rattle.tcc_graph.specs.declared.link.Link.{Link}
+use Rattle.tcc_derive.specs.Prices.{IsDerived}
+use Rattle.tcc_core.specs.Shares.{IsCycleCost}
+
+-- some cycle costs c; no allowed walk that ends where it begins has fewer steps, and no allowed walk from a to b costs
+-- less together with a derived link from b to a
+pub record IsSeed (j : Judged) (c : ℕ) : Type 0 where
+  pub cycle : IsCycleCost j c
+  pub around : (a : ℕ) (walk : List Step) → IsAllowedWalk j a a walk → c ≤ length walk
+  pub back : (a : ℕ) (b : ℕ) (walk : List Step) (l : Link) → IsAllowedWalk j a b walk → IsDerived j b a l → c ≤ length walk + link_cost l
+
+-- there is no such walk, and no such walk with such a link
+pub record HasNoSeed (j : Judged) : Type 0 where
+  pub around : (a : ℕ) (walk : List Step) → IsAllowedWalk j a a walk → ⊥
+  pub back : (a : ℕ) (b : ℕ) (walk : List Step) (l : Link) → IsAllowedWalk j a b walk → IsDerived j b a l → ⊥

@@ -1,0 +1,90 @@
+//! The seed of searches: what the least of the cycles costs that a walk makes, or a walk and one derived link back.
+ghost use Rattle.std.specs.Prelude.{◌≡◌, ◌<◌, ◌≤◌, ℕ, length, IfSome, MatchOption};
+ghost use Rattle.tcc_graph.specs.Levels.{Judged};
+ghost use Rattle.tcc_near.specs.Distances.{IsNearOf};
+ghost use Rattle.tcc_derive.specs.Prices.{IsPricesOf};
+ghost use Rattle.tcc_core.specs.Shares.{IsCycleCost};
+ghost use Rattle.tcc_core.specs.Seeds.{IsSeed, HasNoSeed};
+ghost use Rattle.tcc_core.specs.Closing.{closing, closing_at, IsLeastOf};
+ghost use Rattle.tcc_txn.specs.declared.limits.TheConstants.{MAX_COUNT};
+ghost use Rattle.tcc_near.specs.declared.distances.TheConstants.{NONE};
+ghost use Rattle.tcc_core.specs.declared.relaxing.TheConstants.{NO_WAY};
+
+use crate::relaxing::NO_WAY;
+use tcc_derive::Prices;
+use tcc_near::{NONE, Near};
+
+/// So many rows of distances are read side by side, so that a row of prices is read once for all of them.
+const BLOCK: u32 = 32;
+
+/// What the cycle costs that goes from `a` to `b` by so many steps and back by a derived link at this price, or by the
+/// steps alone where they end at `a` itself; `NO_WAY` where there is none.
+fn closing(steps: u16, price: u16, a: u32, b: u32) -> u32
+    ensures { result ≡ closing steps price a b }
+{
+    if steps == NONE {
+        NO_WAY
+    } else if a == b {
+        steps as u32
+    } else if price == NONE {
+        NO_WAY
+    } else {
+        steps as u32 + price as u32
+    }
+}
+
+/// The least such cost from each of these transactions to `b`.
+fn least_to(near: &Near, prices: &Prices, from: u32, to: u32, b: u32) -> u32
+    requires same { length near.now.rows ≡ length prices.now.prices }
+    requires upward { from ≤ to }
+    requires within { to ≤ length prices.now.prices }
+    requires below { b < length prices.now.prices }
+    ensures { IsLeastOf (λ x y. (from ≤ x) × (x < to) × (y ≡ b)) (closing_at near.now prices.now) result }
+{
+    let row = prices.prices(b);
+    let mut least = NO_WAY;
+    for a in from..to {
+        least = least.min(closing(near.row(a)[b as usize], row[a as usize], a, b));
+    }
+    least
+}
+
+/// The least such cost from each of these transactions to any.
+fn least_from(near: &Near, prices: &Prices, from: u32, to: u32) -> u32
+    requires same { length near.now.rows ≡ length prices.now.prices }
+    requires upward { from ≤ to }
+    requires within { to ≤ length prices.now.prices }
+    ensures { IsLeastOf (λ x y. (from ≤ x) × (x < to) × (y < length prices.now.prices)) (closing_at near.now prices.now) result }
+{
+    let mut least = NO_WAY;
+    for b in 0..prices.count() {
+        least = least.min(least_to(near, prices, from, to, b));
+    }
+    least
+}
+
+/// The least such cost from any transaction to any.
+fn least_of_all(near: &Near, prices: &Prices) -> u32
+    requires same { length near.now.rows ≡ length prices.now.prices }
+    ensures few { length prices.now.prices ≤ MAX_COUNT }
+    ensures least { IsLeastOf (λ x y. (x < length prices.now.prices) × (y < length prices.now.prices)) (closing_at near.now prices.now) result }
+{
+    let count = prices.count();
+    let mut least = NO_WAY;
+    for block in 0..count / BLOCK + 1 {
+        let from = block * BLOCK;
+        least = least.min(least_from(near, prices, from, count.min(from + BLOCK)));
+    }
+    least
+}
+
+/// The least cost of a cycle that a walk makes, or a walk and one derived link back; none where there is no such cycle.
+/// It is the cost of a cycle, so that a search may begin with it, but some cycle of more derived links may cost less.
+pub fn seed(near: &Near, prices: &Prices) -> Option<u32>
+    requires { (j : Judged) × IsNearOf j near.now × IsPricesOf j prices.now }
+    ensures cycle { (j : Judged) → IsPricesOf j prices.now → IfSome result (IsCycleCost j) }
+    ensures least { (j : Judged) → IsNearOf j near.now → IsPricesOf j prices.now → MatchOption result (HasNoSeed j) (IsSeed j) }
+{
+    let least = least_of_all(near, prices);
+    if least == NO_WAY { None } else { Some(least) }
+}
