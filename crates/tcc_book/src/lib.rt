@@ -14,6 +14,3 @@ pub use entry::Entry;
 pub use fault::{OpenFault, RecordFault, SealFault, WholeFault};
 pub use pass::{Pass, Receipt};
 pub use state::BookState;
-
-#[cfg(test)]
-mod tests;

@@ -23,6 +23,3 @@ pub use limits::{MAX_CYCLE_COST, MAX_LINK_COST};
 pub use link::Link;
 pub use step::Step;
 pub use walk::Walk;
-
-#[cfg(test)]
-mod tests;

@@ -14,6 +14,3 @@ mod writers;
 pub use fault::{ReadFault, ReadFaultKind, ResolveFault};
 pub use resolved::Resolved;
 pub use resolver::resolve;
-
-#[cfg(test)]
-mod tests;

@@ -22,6 +22,3 @@ pub use recording::{Moment, Recording, snapshot_of};
 pub use rows::{Item, RowFault, RowFaultKind, Rows};
 pub use snapshot::{Snapshot, SnapshotFault};
 pub use txn::{Txn, TxnFault};
-
-#[cfg(test)]
-mod tests;

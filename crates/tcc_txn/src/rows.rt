@@ -302,6 +302,3 @@ impl<R: Read + Drop> Rows<R> {
         }
     }
 }
-
-#[cfg(test)]
-mod tests;

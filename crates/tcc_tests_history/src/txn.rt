@@ -1,17 +1,16 @@
-//! Each call on names, transactions and snapshots once, each refusal, and their order.
-use crate::*;
+//! Each call on names, transactions, snapshots and recordings once, each refusal, and their order.
+mod rows;
+
+use crate::builders::{assert_names, assert_shows, name};
 use indexmap::IndexSet;
 use std::alloc::Global;
 use std::collections::BTreeMap;
 use std::process::Abort;
 use std::test::Fail;
-
-fn name(rt: &impl Abort, text: &str) -> Name {
-    match Name::read(text.as_bytes()) {
-        Ok(name) => name,
-        Err(fault) => panic!(rt; "{text} is no name: {fault}"),
-    }
-}
+use tcc_txn::{
+    Moment, Name, NameFault, NoMemory, Op, Recording, RowFault, RowFaultKind, Snapshot,
+    SnapshotFault, Txn, TxnFault, snapshot_of,
+};
 
 fn get(key: Name, value: u64) -> Op {
     Op::Get { key, value }
@@ -56,32 +55,45 @@ fn refuses_names(rt: HostRuntime) {
     }
 }
 
+/// Names out of order, one of them twice; the order of their bytes, each once.
+const NAMES: [&str; 6] = ["ab", "a", "A", "a.1", "a-b", "a"];
+
+const IN_ORDER: [&str; 5] = ["A", "a", "a-b", "a.1", "ab"];
+
 #[test]
-fn names_are_keys_in_byte_order(rt: HostRuntime) -> Result<(), Fail> {
-    let alloc = rt.alloc();
-    let mut sorted = Vec::new(alloc);
-    let mut tree = BTreeMap::new(alloc);
-    let mut hashed = IndexSet::new(alloc);
-    for text in ["ab", "a", "A", "a.1", "a-b", "a"] {
+fn names_are_sorted_in_byte_order(rt: HostRuntime) -> Result<(), Fail> {
+    let mut sorted = Vec::new(rt.alloc());
+    for text in NAMES {
         sorted.push(name(&rt, text))?;
-        tree.insert(name(&rt, text), text.len())?;
-        hashed.insert(name(&rt, text))?;
     }
     sorted.sort_unstable();
     sorted.dedup();
-    let order = ["A", "a", "a-b", "a.1", "ab"];
-    assert_eq!(rt; sorted.len(), 5);
-    for (found, text) in sorted.iter().zip(order) {
-        assert_eq!(rt; found.bytes(), text.as_bytes());
+    assert_names(&rt, &sorted, &IN_ORDER);
+    Ok(())
+}
+
+#[test]
+fn names_are_keys_in_byte_order(rt: HostRuntime) -> Result<(), Fail> {
+    let mut tree = BTreeMap::new(rt.alloc());
+    for text in NAMES {
+        tree.insert(name(&rt, text), text.len())?;
     }
-    assert_eq!(rt; tree.len(), 5);
-    for (found, text) in tree.keys().zip(order) {
-        assert_eq!(rt; found.bytes(), text.as_bytes());
-    }
+    let keys: Vec<Name> = tree.keys().copied().collect(rt.alloc())?;
+    assert_names(&rt, &keys, &IN_ORDER);
     assert_eq!(rt; tree.get(&name(&rt, "a-b")).copied(), Some(3));
+    Ok(())
+}
+
+#[test]
+fn names_are_hashed(rt: HostRuntime) -> Result<(), Fail> {
+    let mut hashed = IndexSet::new(rt.alloc());
+    for text in NAMES {
+        hashed.insert(name(&rt, text))?;
+    }
     assert_eq!(rt; hashed.len(), 5);
-    assert_eq!(rt; hashed.get_index_of(&name(&rt, "A")), Some(2));
-    assert_eq!(rt; hashed.get_index_of(&name(&rt, "b")), None);
+    for (text, place) in [("A", Some(2)), ("b", None)] {
+        assert_eq!(rt; hashed.get_index_of(&name(&rt, text)), place);
+    }
     Ok(())
 }
 
@@ -108,33 +120,34 @@ fn makes_transactions(rt: HostRuntime) -> Result<(), Fail> {
     Ok(())
 }
 
+// These operations are refused so, and come back.
+fn assert_refused(rt: &impl Abort, ops: Vec<Op>, wanted: TxnFault) -> Vec<Op> {
+    let count = ops.len();
+    match Txn::new(ops, true) {
+        Ok(_) => panic!(rt; "{count} operations are taken"),
+        Err((fault, ops)) => {
+            assert!(rt; fault == wanted);
+            assert_eq!(rt; ops.len(), count);
+            ops
+        }
+    }
+}
+
 #[test]
 fn refuses_transactions(rt: HostRuntime) -> Result<(), Fail> {
-    let alloc = rt.alloc();
     let x = name(&rt, "x");
-    let (fault, ops) = match Txn::new(vec![in alloc; get(x, 0), put(x, 0)]?, true) {
-        Ok(_) => panic!(rt; "a write of 0 is taken"),
-        Err(refused) => refused,
-    };
-    assert!(rt; fault == TxnFault::WriteOfZero { at: 2 });
-    assert_eq!(rt; ops.len(), 2);
-    let mut many = Vec::new(alloc);
-    for _ in 0..257 {
-        many.push(get(x, 0))?;
+    let mut ops = Vec::new(rt.alloc());
+    for count in 0..257u64 {
+        ops.push(get(x, 0))?;
+        if count == 0 {
+            ops.push(put(x, 0))?;
+            ops = assert_refused(&rt, ops, TxnFault::WriteOfZero { at: 2 });
+            ops.pop();
+        }
     }
-    let (fault, mut ops) = match Txn::new(many, true) {
-        Ok(_) => panic!(rt; "257 operations are taken"),
-        Err(refused) => refused,
-    };
-    assert!(rt; fault == TxnFault::TooManyOps);
-    assert_eq!(rt; ops.len(), 257);
+    let mut ops = assert_refused(&rt, ops, TxnFault::TooManyOps);
     ops.push(put(x, 0))?;
-    let (fault, ops) = match Txn::new(ops, true) {
-        Ok(_) => panic!(rt; "a write of 0 is taken"),
-        Err(refused) => refused,
-    };
-    assert!(rt; fault == TxnFault::WriteOfZero { at: 258 });
-    assert_eq!(rt; ops.len(), 258);
+    assert_refused(&rt, ops, TxnFault::WriteOfZero { at: 258 });
     Ok(())
 }
 
@@ -150,24 +163,34 @@ fn idle(rt: &impl Abort, alloc: Global, count: usize) -> Result<Vec<Txn>, Fail> 
     Ok(txns)
 }
 
+// The session at this place has this name, and so many transactions.
+fn assert_session(rt: &impl Abort, snapshot: &Snapshot, place: u32, wanted: (&str, usize)) {
+    match snapshot.session(place) {
+        Some((session, txns)) => {
+            assert_eq!(rt; session.bytes(), wanted.0.as_bytes());
+            assert_eq!(rt; txns.len(), wanted.1);
+        }
+        None => panic!(rt; "no session {place}"),
+    }
+}
+
+// Each session has as many transactions as stand before it in the list.
 #[test]
 fn makes_snapshots_in_byte_order(rt: HostRuntime) -> Result<(), Fail> {
     let alloc = rt.alloc();
     let mut parts = Vec::new(alloc);
-    for (count, text) in ["ab", "a", "A", "a.1", "a-b"].iter().enumerate() {
-        parts.push((name(&rt, text), idle(&rt, alloc, count)?))?;
+    for text in ["ab", "a", "A", "a.1", "a-b"] {
+        let txns = idle(&rt, alloc, parts.len())?;
+        parts.push((name(&rt, text), txns))?;
     }
     let Ok(snapshot) = Snapshot::new(parts) else {
         panic!(rt; "five sessions are refused");
     };
     assert_eq!(rt; snapshot.sessions(), 5);
-    for (i, (text, count)) in [("A", 2), ("a", 1), ("a-b", 4), ("a.1", 3), ("ab", 0)]
-        .into_iter()
-        .enumerate()
-    {
-        let (session, txns) = snapshot.session(i as u32).ok_or("no session")?;
-        assert_eq!(rt; session.bytes(), text.as_bytes());
-        assert_eq!(rt; txns.len(), count);
+    let mut place = 0u32;
+    for wanted in [("A", 2), ("a", 1), ("a-b", 4), ("a.1", 3), ("ab", 0)] {
+        assert_session(&rt, &snapshot, place, wanted);
+        place = place.wrapping_add(1);
     }
     assert!(rt; snapshot.session(5).is_none());
     Ok(())
@@ -292,8 +315,7 @@ fn a_fault_stays(rt: HostRuntime) -> Result<(), Fail> {
 }
 
 #[test]
-fn faults_show(rt: HostRuntime) -> Result<(), Fail> {
-    let alloc = rt.alloc();
+fn name_faults_show(rt: HostRuntime) {
     for (fault, text) in [
         (NameFault::Empty, "a name has at least one byte"),
         (NameFault::TooLong, "the name is too long"),
@@ -303,14 +325,23 @@ fn faults_show(rt: HostRuntime) -> Result<(), Fail> {
         ),
         (NameFault::NoMemory, "out of memory"),
     ] {
-        assert_eq!(rt; format!(in alloc; "{fault}")?.as_str(), text);
+        assert_shows(&rt, rt.alloc(), &fault, text);
     }
+    assert_shows(&rt, rt.alloc(), &NoMemory, "out of memory");
+}
+
+#[test]
+fn transaction_faults_show(rt: HostRuntime) {
     for (fault, text) in [
         (TxnFault::WriteOfZero { at: 7 }, "operation 7 writes 0"),
         (TxnFault::TooManyOps, "there are too many operations"),
     ] {
-        assert_eq!(rt; format!(in alloc; "{fault}")?.as_str(), text);
+        assert_shows(&rt, rt.alloc(), &fault, text);
     }
+}
+
+#[test]
+fn snapshot_faults_show(rt: HostRuntime) {
     let session = name(&rt, "a");
     for (fault, text) in [
         (
@@ -329,21 +360,18 @@ fn faults_show(rt: HostRuntime) -> Result<(), Fail> {
     ]
     .iter()
     {
-        assert_eq!(rt; format!(in alloc; "{fault}")?.as_str(), *text);
+        assert_shows(&rt, rt.alloc(), fault, text);
     }
+}
+
+#[test]
+fn names_and_row_faults_show(rt: HostRuntime) -> Result<(), Fail> {
+    let alloc = rt.alloc();
+    let session = name(&rt, "a");
     let kind = RowFaultKind::Unfinished { session };
     let fault = RowFault { row: 7, kind };
-    assert_eq!(rt;
-        format!(in alloc; "{fault}")?.as_str(),
-        "row 7: the transaction of a has no end"
-    );
-    assert_eq!(rt;
-        format!(in alloc; "{}", NoMemory)?.as_str(),
-        "out of memory"
-    );
-    assert_eq!(rt;
-        format!(in alloc; "[{session:>3}] {session:?}")?.as_str(),
-        "[  a] a"
-    );
+    assert_shows(&rt, alloc, &fault, "row 7: the transaction of a has no end");
+    let shown = format!(in alloc; "[{session:>3}] {session:?}")?;
+    assert_eq!(rt; shown.as_str(), "[  a] a");
     Ok(())
 }

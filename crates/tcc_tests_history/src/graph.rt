@@ -1,29 +1,9 @@
 //! Worked histories, with numbers, pairs, keys, writers and readers worked out by hand.
-use crate::{Graph, Step, Walk};
+use crate::builders::{assert_names, graph_of, name, try_graph};
 use std::alloc::Global;
 use std::process::Abort;
 use std::test::Fail;
-use tcc_reads::resolve;
-use tcc_txn::{Name, snapshot_of};
-
-/// A name that the test writes out.
-fn name(rt: &impl Abort, text: &str) -> Name {
-    Name::read(text.as_bytes()).expect(rt, "a name")
-}
-
-/// The graph of what these records finish; none where memory is wanting.
-fn try_graph(alloc: Global, records: &str) -> Option<Graph> {
-    let snapshot = snapshot_of(alloc, records.as_bytes()).ok()?;
-    let resolved = resolve(alloc, &snapshot).ok()?;
-    Graph::build(alloc, &resolved).ok()
-}
-
-fn graph_of(rt: &impl Abort, alloc: Global, records: &str) -> Graph {
-    match try_graph(alloc, records) {
-        Some(graph) => graph,
-        None => panic!(rt; "no graph"),
-    }
-}
+use tcc_graph::{Graph, Step, Walk};
 
 /// The labels of all numbers are these, in order.
 fn assert_labels(rt: &impl Abort, alloc: Global, graph: &Graph, wanted: &[&str]) {
@@ -49,8 +29,8 @@ fn numbers_and_labels(rt: HostRuntime) -> Result<(), Fail> {
     for (n, place) in places.iter().enumerate() {
         assert_eq!(rt; graph.at(n as u32), *place);
     }
-    assert!(rt; graph.sessions() == [name(&rt, "a"), name(&rt, "b")].as_slice());
-    assert!(rt; graph.keys() == [name(&rt, "x")].as_slice());
+    assert_names(&rt, graph.sessions(), &["a", "b"]);
+    assert_names(&rt, graph.keys(), &["x"]);
     Ok(())
 }
 
@@ -62,8 +42,8 @@ fn exact_graph_or_want_of_memory(rt: HostRuntime) {
         return;
     };
     assert_eq!(rt; graph.count(), 3);
-    assert!(rt; graph.readers(0, &name(&rt, "x")) == [2].as_slice());
-    assert!(rt; graph.writers(&name(&rt, "x")) == [0, 1].as_slice());
+    assert_readers(&rt, &graph, 0, "x", &[2]);
+    assert_writers(&rt, &graph, "x", &[0, 1]);
 }
 
 /// Places count aborted transactions, and a label has the place and not the number.
@@ -76,9 +56,9 @@ fn label_with_an_aborted_transaction(rt: HostRuntime) -> Result<(), Fail> {
     assert_labels(&rt, alloc, &graph, &["init", "B.1-b/2", "a/1"]);
     assert_eq!(rt; graph.at(1), Some((0, 2)));
     assert_eq!(rt; graph.at(2), Some((1, 1)));
-    assert!(rt; graph.keys() == [name(&rt, "x")].as_slice());
-    assert!(rt; graph.writers(&name(&rt, "z")).is_empty());
-    assert!(rt; graph.readers(0, &name(&rt, "z")).is_empty());
+    assert_names(&rt, graph.keys(), &["x"]);
+    assert_writers(&rt, &graph, "z", &[]);
+    assert_readers(&rt, &graph, 0, "z", &[]);
     Ok(())
 }
 
@@ -102,7 +82,7 @@ fn pairs(rt: HostRuntime) -> Result<(), Fail> {
             assert_eq!(rt; graph.reads_from(a, b).len(), if read { 1 } else { 0 });
         }
     }
-    assert!(rt; graph.reads_from(1, 4) == [name(&rt, "x")].as_slice());
+    assert_names(&rt, graph.reads_from(1, 4), &["x"]);
     Ok(())
 }
 
@@ -113,6 +93,11 @@ fn assert_readers(rt: &impl Abort, graph: &Graph, from: u32, key: &str, wanted: 
         graph.readers(from, &name(rt, key)) == wanted,
         "of {key} from {from}"
     );
+}
+
+/// The writers of a key.
+fn assert_writers(rt: &impl Abort, graph: &Graph, key: &str, wanted: &[u32]) {
+    assert!(rt; graph.writers(&name(rt, key)) == wanted, "of {key}");
 }
 
 /// Of two histories, the keys, the readers of a key from a writer, and the writers of a key. In the first, a/1 and b/1
@@ -137,18 +122,12 @@ fn keys_writers_and_readers(rt: HostRuntime) -> Result<(), Fail> {
     ];
     for (records, keys, readers, writers) in cases {
         let graph = graph_of(&rt, alloc, records);
-        assert_eq!(rt; graph.keys().len(), keys.len());
-        for (place, key) in keys.iter().enumerate() {
-            assert!(rt; graph.keys()[place] == name(&rt, key));
-        }
+        assert_names(&rt, graph.keys(), keys);
         for (from, key, wanted) in readers {
             assert_readers(&rt, &graph, *from, key, wanted);
         }
         for (key, wanted) in writers {
-            assert!(rt;
-                graph.writers(&name(&rt, key)) == *wanted,
-                "of {key} in {records}"
-            );
+            assert_writers(&rt, &graph, key, wanted);
         }
     }
     Ok(())

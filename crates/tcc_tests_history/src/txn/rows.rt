@@ -1,12 +1,11 @@
 //! What no clause says of `Rows`: that memory and readers that do not fail lead to the answers, how
 //! readers that fail are met, and that a reader is asked no more after its end.
-use super::*;
-use RowFaultKind as Kind;
+use std::alloc::Global;
 use std::cell::Cell;
-use std::io;
-use std::io::ErrorKind;
+use std::io::{self, ErrorKind, Read};
 use std::process::Abort;
 use std::test::Fail;
+use tcc_txn::{Item, RowFault, RowFaultKind as Kind, Rows};
 
 // Two transactions, one of them aborted, and a seal: seven records.
 const TEXT: &[u8] = b"a,begin\nb,begin\na,w,x,1\nb,r,y,0\na,commit\nseal\nb,abort\n";
@@ -97,19 +96,12 @@ fn lines_of(bytes: &[u8]) -> u64 {
     bytes.iter().filter(|byte| **byte == b'\n').count() as u64
 }
 
-// The transaction of this session, if the item is one.
-fn transaction_of(item: Item, session: &str) -> Option<Txn> {
+// What an item is, and of a transaction whether it committed, and how many operations it has.
+fn told(item: &Item) -> (&[u8], Option<(bool, usize)>) {
     match item {
-        Item::Finished(name, txn) => {
-            let found = name;
-            if found.bytes() == session.as_bytes() {
-                Some(txn)
-            } else {
-                None
-            }
-        }
-        Item::Seal => None,
-        Item::End => None,
+        Item::Finished(session, txn) => (session.bytes(), Some((txn.committed(), txn.ops().len()))),
+        Item::Seal => (b"a seal", None),
+        Item::End => (b"the end", None),
     }
 }
 
@@ -117,14 +109,17 @@ fn transaction_of(item: Item, session: &str) -> Option<Txn> {
 fn gives_what_was_finished(rt: HostRuntime) -> Result<(), Fail> {
     let alloc = rt.alloc();
     let mut rows = Rows::new(alloc, TEXT)?;
-    let committed = transaction_of(rows.next(alloc)?, "a").ok_or("no transaction of a")?;
-    assert!(rt; committed.committed());
-    assert_eq!(rt; committed.ops().len(), 1);
-    assert!(rt; matches!(rows.next(alloc), Ok(Item::Seal)));
-    let aborted = transaction_of(rows.next(alloc)?, "b").ok_or("no transaction of b")?;
-    assert!(rt; !aborted.committed());
-    assert_eq!(rt; aborted.ops().len(), 1);
-    assert!(rt; matches!(rows.next(alloc), Ok(Item::End)));
+    for (what, wanted) in [
+        ("a", Some((true, 1))),
+        ("a seal", None),
+        ("b", Some((false, 1))),
+        ("the end", None),
+    ] {
+        match rows.next(alloc) {
+            Ok(item) => assert!(rt; told(&item) == (what.as_bytes(), wanted), "{what}"),
+            Err(fault) => panic!(rt; "{fault} before {what}"),
+        }
+    }
     Ok(())
 }
 

@@ -1,23 +1,11 @@
 //! Worked snapshots, with faults and histories worked out by hand.
-use crate::ReadFaultKind::{Aborted, BrokenInternal, Duplicate, Future, Intermediate, ThinAir};
-use crate::{ReadFault, ReadFaultKind, ResolveFault, resolve};
+use crate::builders::{assert_names, assert_shows, name, resolved, snapshot};
 use std::alloc::Global;
 use std::process::Abort;
 use std::test::Fail;
-use tcc_txn::{Name, Snapshot, snapshot_of};
-
-/// A name that the test writes out.
-fn name(rt: &impl Abort, text: &str) -> Name {
-    Name::read(text.as_bytes()).expect(rt, "a name")
-}
-
-/// What these records finish.
-fn snapshot(rt: &impl Abort, alloc: Global, records: &str) -> Snapshot {
-    match snapshot_of(alloc, records.as_bytes()) {
-        Ok(snapshot) => snapshot,
-        Err(_) => panic!(rt; "no snapshot"),
-    }
-}
+use tcc_reads::ReadFaultKind::{Aborted, BrokenInternal, Duplicate, Future, Intermediate, ThinAir};
+use tcc_reads::{ReadFault, ReadFaultKind, ResolveFault, resolve};
+use tcc_txn::{Name, snapshot_of};
 
 /// Session, place, operation, key, value and kind of a fault.
 type Row = (&'static str, u32, u32, &'static str, u64, ReadFaultKind);
@@ -106,14 +94,36 @@ fn exact_faults_or_want_of_memory(rt: HostRuntime) {
 #[test]
 fn nothing_happened(rt: HostRuntime) -> Result<(), Fail> {
     let alloc = rt.alloc();
-    let Ok(resolved) = resolve(alloc, &snapshot(&rt, alloc, "")) else {
-        panic!(rt; "not resolved");
-    };
+    let resolved = resolved(&rt, alloc, "");
     assert_eq!(rt; resolved.sessions().len(), 0);
     assert_eq!(rt; resolved.places().len(), 0);
     assert!(rt; resolved.writes(0).is_empty());
     assert!(rt; resolved.reads(0).is_empty());
     Ok(())
+}
+
+/// The names stand in this text, in this order, and each with a space before it.
+fn assert_written(rt: &impl Abort, alloc: Global, names: &[Name], wanted: &str) {
+    let mut found = String::new(alloc);
+    for name in names {
+        match format!(in alloc; " {name}") {
+            Ok(piece) => assert!(rt; found.push_str(piece.as_str()).is_ok()),
+            Err(_) => panic!(rt; "no memory"),
+        }
+    }
+    assert_eq!(rt; found.as_str(), wanted);
+}
+
+/// Keys read, and from which transactions, in this order.
+fn assert_reads(rt: &impl Abort, alloc: Global, reads: &[(Name, u32)], wanted: &str) {
+    let mut found = String::new(alloc);
+    for (key, from) in reads {
+        match format!(in alloc; " {key}{from}") {
+            Ok(piece) => assert!(rt; found.push_str(piece.as_str()).is_ok()),
+            Err(_) => panic!(rt; "no memory"),
+        }
+    }
+    assert_eq!(rt; found.as_str(), wanted);
 }
 
 /// Aborted transactions have places and no numbers; keys and reads come in order, each pair once; a read after an own
@@ -124,29 +134,24 @@ fn numbers_and_sources(rt: HostRuntime) -> Result<(), Fail> {
     let records =
         "c,begin\na,begin\na,w,x,9\na,abort\na,begin\na,w,y,1\na,w,x,1\na,w,x,2\na,r,x,2\na,commit\n\
         b,begin\nb,r,x,9\nb,abort\nc,r,y,1\nc,r,x,2\nc,r,z,0\nc,r,y,1\nc,r,y,0\nc,commit\nc,begin\nc,commit\n";
-    let Ok(resolved) = resolve(alloc, &snapshot(&rt, alloc, records)) else {
-        panic!(rt; "not resolved");
-    };
-    let (x, y, z) = (name(&rt, "x"), name(&rt, "y"), name(&rt, "z"));
-    let names = [name(&rt, "a"), name(&rt, "b"), name(&rt, "c")];
-    assert_eq!(rt; resolved.sessions(), names.as_slice());
-    assert_eq!(rt; resolved.places().len(), 3);
+    let resolved = resolved(&rt, alloc, records);
+    assert_names(&rt, resolved.sessions(), &["a", "b", "c"]);
     assert_eq!(rt; resolved.places(), [(0, 2), (2, 1), (2, 2)].as_slice());
-    assert!(rt; resolved.writes(0).is_empty() && resolved.reads(0).is_empty());
-    assert_eq!(rt; resolved.writes(1), [x, y].as_slice());
-    assert!(rt; resolved.reads(1).is_empty());
-    assert!(rt; resolved.writes(2).is_empty());
-    assert_eq!(rt;
-        resolved.reads(2),
-        [(x, 1), (y, 0), (y, 1), (z, 0)].as_slice()
-    );
-    assert!(rt; resolved.writes(3).is_empty() && resolved.reads(3).is_empty());
+    for (number, writes, reads) in [
+        (0, "", ""),
+        (1, " x y", ""),
+        (2, "", " x1 y0 y1 z0"),
+        (3, "", ""),
+    ] {
+        assert_written(&rt, alloc, resolved.writes(number), writes);
+        assert_reads(&rt, alloc, resolved.reads(number), reads);
+    }
     Ok(())
 }
 
 /// What each fault says.
 #[test]
-fn texts_of_faults(rt: HostRuntime) -> Result<(), Fail> {
+fn texts_of_faults(rt: HostRuntime) {
     let alloc = rt.alloc();
     let kinds = [
         (Duplicate, "the value was written at the key before"),
@@ -163,14 +168,10 @@ fn texts_of_faults(rt: HostRuntime) -> Result<(), Fail> {
         (Future, "the transaction writes the value later"),
     ];
     for (kind, text) in &kinds {
-        assert_eq!(rt; format!(in alloc; "{kind}")?.as_str(), *text);
+        assert_shows(&rt, alloc, kind, text);
     }
     let reads = ResolveFault::Reads(Vec::new(alloc));
-    assert_eq!(rt;
-        format!(in alloc; "{reads}")?.as_str(),
-        "some operations read or write what no source explains"
-    );
-    let memory = ResolveFault::NoMemory;
-    assert_eq!(rt; format!(in alloc; "{memory}")?.as_str(), "out of memory");
-    Ok(())
+    let text = "some operations read or write what no source explains";
+    assert_shows(&rt, alloc, &reads, text);
+    assert_shows(&rt, alloc, &ResolveFault::NoMemory, "out of memory");
 }

@@ -1,11 +1,11 @@
 //! What no clause says: which of two faults is answered, and what stands under the lock between two calls.
-use crate::{Book, OpenFault, Pass, Receipt, RecordFault, SealFault, WholeFault};
+use crate::builders::name;
 use std::alloc::Global;
 use std::process::Abort;
 use std::sync::Wait;
-use std::test::Fail;
 use std::thread;
 use std::thread::Threads;
+use tcc_book::{Book, OpenFault, Pass, Receipt, RecordFault, SealFault, WholeFault};
 use tcc_txn::{MAX_SESSIONS, MAX_TRANSACTIONS, Name, Op, Snapshot, Txn};
 
 /// The sessions of the recorders that record side by side.
@@ -137,33 +137,54 @@ fn eight_recorders(rt: HostRuntime) {
     }
 }
 
+/// A book without sessions.
+fn new_book(rt: &impl Abort, alloc: Global) -> Book {
+    match Book::new(alloc) {
+        Ok(book) => book,
+        Err(_) => panic!(rt; "no memory"),
+    }
+}
+
+/// The passes of sessions whose names are letters, opened in this order.
+fn opened(rt: &(impl Abort + Wait), alloc: Global, book: &Book, letters: &[u8]) -> Vec<Pass> {
+    let mut passes = Vec::new(alloc);
+    for letter in letters {
+        match open(rt, alloc, book, *letter) {
+            Some(pass) => assert!(rt; passes.push(pass).is_ok()),
+            None => panic!(rt; "not opened"),
+        }
+    }
+    passes
+}
+
+/// Records the write of the value, which has to be taken.
+fn assert_records(
+    rt: &(impl Abort + Wait),
+    alloc: Global,
+    book: &Book,
+    pass: &mut Pass,
+    value: u64,
+) {
+    assert!(rt; record(rt, alloc, book, pass, value).is_some_and(|r| r.is_ok()));
+}
+
 /// A session without its pass is missed, the least one first, and nothing is lost by it.
 #[test]
 fn missing_passes(rt: HostRuntime) {
     let alloc = rt.alloc();
-    let Ok(book) = Book::new(alloc) else {
-        panic!(rt; "no memory");
-    };
-    let (Some(c), Some(b), Some(a)) = (
-        open(&rt, alloc, &book, b'c'),
-        open(&rt, alloc, &book, b'b'),
-        open(&rt, alloc, &book, b'a'),
-    ) else {
-        panic!(rt; "not opened");
-    };
-    let mut passes = Vec::new(alloc);
-    assert!(rt; passes.push(a).is_ok());
-    let fault = book.whole(&rt, alloc, &passes).err();
+    let book = new_book(&rt, alloc);
+    let others = opened(&rt, alloc, &book, b"cb");
+    let passes = opened(&rt, alloc, &book, b"a");
     let missing = session(b'b').map(|session| WholeFault::MissingPass { session });
-    assert_eq!(rt; fault, missing);
+    assert_eq!(rt; book.whole(&rt, alloc, &passes).err(), missing);
     let Err((fault, book, mut passes)) = book.close(&rt, alloc, passes) else {
         panic!(rt; "whole without a pass");
     };
     assert_eq!(rt; Some(fault), missing);
-    let mut c = c;
-    assert!(rt; record(&rt, alloc, &book, &mut c, 1).is_some_and(|r| r.is_ok()));
-    assert!(rt; passes.push(c).is_ok());
-    assert!(rt; passes.push(b).is_ok());
+    for mut pass in others {
+        assert_records(&rt, alloc, &book, &mut pass, 1);
+        assert!(rt; passes.push(pass).is_ok());
+    }
     assert!(rt; book.whole(&rt, alloc, &passes).is_ok());
     assert!(rt; book.close(&rt, alloc, passes).is_ok());
 }
@@ -172,24 +193,15 @@ fn missing_passes(rt: HostRuntime) {
 #[test]
 fn torn_passes(rt: HostRuntime) {
     let alloc = rt.alloc();
-    let (Ok(book), Ok(other)) = (Book::new(alloc), Book::new(alloc)) else {
-        panic!(rt; "no memory");
-    };
-    let mut passes = Vec::new(alloc);
-    for letter in b"cab" {
-        let Some(mut pass) = open(&rt, alloc, &other, *letter) else {
-            panic!(rt; "not opened");
-        };
-        let refused = record(&rt, alloc, &book, &mut pass, 1);
-        let torn = RecordFault::Torn {
-            session: *pass.session(),
-        };
+    let (book, other) = (new_book(&rt, alloc), new_book(&rt, alloc));
+    let mut passes = opened(&rt, alloc, &other, b"cab");
+    for pass in passes.iter_mut() {
+        let session = *pass.session();
+        let refused = record(&rt, alloc, &book, pass, 1);
+        let torn = RecordFault::Torn { session };
         assert!(rt; refused.is_some_and(|r| r.is_err_and(|e| e.0 == torn)));
-        let torn = SealFault::Torn {
-            session: *pass.session(),
-        };
-        assert_eq!(rt; book.seal(&rt, alloc, &pass).err(), Some(torn));
-        assert!(rt; passes.push(pass).is_ok());
+        let torn = SealFault::Torn { session };
+        assert_eq!(rt; book.seal(&rt, alloc, pass).err(), Some(torn));
     }
     let torn = session(b'a').map(|session| WholeFault::Torn { session });
     assert_eq!(rt; book.whole(&rt, alloc, &passes).err(), torn);
@@ -199,26 +211,18 @@ fn torn_passes(rt: HostRuntime) {
 #[test]
 fn openings(rt: HostRuntime) {
     let alloc = rt.alloc();
-    let Ok(book) = Book::new(alloc) else {
-        panic!(rt; "no memory");
-    };
-    let Some(mut pass) = open(&rt, alloc, &book, b'0') else {
-        panic!(rt; "not opened");
-    };
-    for value in 1..4u64 {
-        assert!(rt; record(&rt, alloc, &book, &mut pass, value).is_some_and(|r| r.is_ok()));
+    let book = new_book(&rt, alloc);
+    for mut pass in opened(&rt, alloc, &book, b"0") {
+        for value in 1..4u64 {
+            assert_records(&rt, alloc, &book, &mut pass, value);
+        }
+        let again = book.open(&rt, alloc, *pass.session()).err();
+        assert_eq!(rt; again, Some(OpenFault::Taken { held: 3 }));
     }
-    let again = book.open(&rt, alloc, *pass.session()).err();
-    assert_eq!(rt; again, Some(OpenFault::Taken { held: 3 }));
     let letters = b"123456789abcdefghijklmnopqrstuvwxyzABCDEFGHIJKLMNOPQRSTUVWXYZ_.";
     assert_eq!(rt; letters.len() + 1, MAX_SESSIONS);
-    for letter in letters {
-        assert!(rt; open(&rt, alloc, &book, *letter).is_some());
-    }
-    let Ok(name) = Name::read(b"no") else {
-        panic!(rt; "no name");
-    };
-    let many = book.open(&rt, alloc, name).err();
+    opened(&rt, alloc, &book, letters);
+    let many = book.open(&rt, alloc, name(&rt, "no")).err();
     assert_eq!(rt; many, Some(OpenFault::TooManySessions { held: 64 }));
 }
 
@@ -226,20 +230,18 @@ fn openings(rt: HostRuntime) {
 #[test]
 fn full_book(rt: HostRuntime) {
     let alloc = rt.alloc();
-    let Ok(book) = Book::new(alloc) else {
-        panic!(rt; "no memory");
-    };
-    let (Some(mut a), Some(mut b)) = (open(&rt, alloc, &book, b'a'), open(&rt, alloc, &book, b'b'))
-    else {
-        panic!(rt; "not opened");
-    };
-    for _ in 0..MAX_TRANSACTIONS {
-        assert!(rt; record(&rt, alloc, &book, &mut a, 1).is_some_and(|r| r.is_ok()));
+    let book = new_book(&rt, alloc);
+    for mut a in opened(&rt, alloc, &book, b"a") {
+        for _ in 0..MAX_TRANSACTIONS {
+            assert_records(&rt, alloc, &book, &mut a, 1);
+        }
     }
-    let Some(Err((fault, back))) = record(&rt, alloc, &book, &mut b, 7) else {
-        panic!(rt; "recorded in a full book");
-    };
-    assert_eq!(rt; fault, RecordFault::Full { held: 4095 });
-    assert!(rt; back.ops().first().is_some_and(|op| op.value() == 7));
-    assert!(rt; b.recorded().is_empty());
+    for mut b in opened(&rt, alloc, &book, b"b") {
+        let Some(Err((fault, back))) = record(&rt, alloc, &book, &mut b, 7) else {
+            panic!(rt; "recorded in a full book");
+        };
+        assert_eq!(rt; fault, RecordFault::Full { held: 4095 });
+        assert!(rt; back.ops().first().is_some_and(|op| op.value() == 7));
+        assert!(rt; b.recorded().is_empty());
+    }
 }
