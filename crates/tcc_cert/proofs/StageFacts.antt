@@ -11,18 +11,21 @@ use Rattle.tcc_cert.specs.declared.part.Part.TheVariants as part
 use Rattle.tcc_cert.specs.declared.reading.forms.Sizes.{Sizes}
 use Rattle.tcc_cert.specs.declared.reading.forms.Sizes.TheVariants.{Order, Cycle}
 use Rattle.tcc_cert.specs.declared.reading.input.Input.{Input}
+use Rattle.tcc_cert.specs.declared.reading.shape.TableShape.{TableShape}
+use Rattle.tcc_cert.specs.declared.reading.shape.TableShape.TheVariants as shape
 use Rattle.tcc_cert.specs.declared.reading.stages.Phase.{Phase}
+use Rattle.tcc_cert.specs.declared.reading.stages.Phase.TheVariants as phase
 use Rattle.tcc_cert.specs.declared.reading.stages.Stage.{Stage}
 use Rattle.tcc_cert.specs.declared.reading.stages.Stage.TheVariants as stage
 use Rattle.tcc_cert.specs.Ranges.{ranges_of}
-use Rattle.tcc_cert.specs.Tables.{lowest}
 use Rattle.tcc_cert.specs.Inputs.{Ends, HasFailed}
 use Rattle.tcc_cert.specs.Outcomes.{Faults}
-use Rattle.tcc_cert.specs.Parts.{◌>>>◌, FaultsIn, Parts, after_part, claim_parts, clock_parts, clock_rows, cycle_parts, end_parts, ending, far_parts, far_rows, near_parts, near_rows, order_parts, order_rest, parts_behind, rows_then, whole_parts}
+use Rattle.tcc_cert.specs.Parts.{◌>>>◌, FaultsIn, IsFirst, Parts, after_part, claim_parts, end_parts, ending, far_parts, far_rows, order_rest, parts_behind, rows_then, whole_parts}
+use Rattle.tcc_cert.specs.Shapes.{behind_table, columns_in, height, most_in, part_of, rows_from, table_parts, table_rows, word_before}
 use Rattle.tcc_cert.specs.Reading.{Place, Reads, header_line, link_at, next, numbers_line, repeated, sizes_line, word_line, words}
-use Rattle.tcc_cert.specs.Stages.{IsBehind, TakesStep}
+use Rattle.tcc_cert.specs.Stages.{IsBehind, IsRowStep, TakesStep}
 use Rattle.tcc_cert.proofs.OnwardFacts.{IsOnward, onward-links, onward-next, onward-words}
-use Rattle.tcc_cert.proofs.StepFacts.{some-left}
+use Rattle.tcc_cert.proofs.StepFacts.{onward-at, some-left}
 
 -- ---- parts go on from line to line, and never back
 
@@ -38,31 +41,35 @@ onward-rows form read behind from (suc n) on later at = onward-then at (read fro
 pub onward-end : (version : Version) (at : Place) → at.line ≤ (end_parts version at).line
 onward-end version at = onward-then at (words version (word_line (codes "end")) at) _ (onward-words version (word_line (codes "end")) at) (λ end. omega arith)
 
-pub onward-clock_rows : (version : Version) (s from left : ℕ) (at : Place) → at.line ≤ (clock_rows version s from left at).line
-onward-clock_rows version s from left at = onward-rows part.Clocks (λ t. words version (numbers_line s (ranges_of version).number)) (end_parts version) from left (λ t p. onward-words version (numbers_line s (ranges_of version).number) p) (onward-end version) at
+onward-table_rows : (version : Version) (table : TableShape) (from left : ℕ) → ((p : Place) → p.line ≤ (behind_table version table p).line) → (at : Place) → at.line ≤ (table_rows version table from left at).line
+onward-table_rows version table from left later at =
+    onward-rows (part_of table) (λ row. words version (numbers_line (columns_in version table row) (most_in version table))) (behind_table version table) from left
+    (λ row p. onward-words version (numbers_line (columns_in version table row) (most_in version table)) p) later at
 
-pub onward-clocks : (version : Version) (n s : ℕ) (at : Place) → at.line ≤ (clock_parts version n s at).line
-onward-clocks version n s at = onward-then at (words version (word_line (codes "clocks")) at) _ (onward-words version (word_line (codes "clocks")) at) (λ mark. onward-clock_rows version s 0 n mark.1)
-
-pub onward-far_rows : (version : Version) (n from left : ℕ) (at : Place) → at.line ≤ (far_rows version n from left at).line
-onward-far_rows version n from left at = onward-rows part.Far (λ s. words version (numbers_line (n - lowest version s) (ranges_of version).cost)) (end_parts version) from left (λ s p. onward-words version (numbers_line (n - lowest version s) (ranges_of version).cost) p) (onward-end version) at
+pub onward-mark : (version : Version) (word : List ℕ) (behind : Place → Parts) → ((p : Place) → p.line ≤ (behind p).line) → (at : Place) → at.line ≤ (words version (word_line word) at >>> λ mark. behind mark.1).line
+onward-mark version word behind later at = onward-then at (words version (word_line word) at) _ (onward-words version (word_line word) at) (λ mark. later mark.1)
 
 pub onward-far : (version : Version) (n : ℕ) (at : Place) → at.line ≤ (far_parts version n at).line
-onward-far version n at = onward-then at (words version (word_line (codes "far")) at) _ (onward-words version (word_line (codes "far")) at) (λ mark. onward-far_rows version n 0 n mark.1)
+onward-far version n at = onward-mark version (codes "far") (far_rows version n 0 n) (onward-table_rows version (shape.Far n) 0 n (onward-end version)) at
 
-pub onward-near_rows : (version : Version) (n from left : ℕ) (at : Place) → at.line ≤ (near_rows version n from left at).line
-onward-near_rows version n from left at = onward-rows part.Near (λ a. words version (numbers_line n (ranges_of version).cost)) (far_parts version n) from left (λ a p. onward-words version (numbers_line n (ranges_of version).cost) p) (onward-far version n) at
+onward-behind_table : (version : Version) (table : TableShape) (at : Place) → at.line ≤ (behind_table version table at).line
+onward-behind_table version (shape.Clocks n s) at = onward-end version at
+onward-behind_table version (shape.Near n) at = onward-far version n at
+onward-behind_table version (shape.Far n) at = onward-end version at
 
-pub onward-near : (version : Version) (n : ℕ) (at : Place) → at.line ≤ (near_parts version n at).line
-onward-near version n at = onward-then at (words version (word_line (codes "near")) at) _ (onward-words version (word_line (codes "near")) at) (λ mark. onward-near_rows version n 0 n mark.1)
+pub onward-table : (version : Version) (table : TableShape) (from left : ℕ) (at : Place) → at.line ≤ (table_rows version table from left at).line
+onward-table version table from left at = onward-table_rows version table from left (onward-behind_table version table) at
+
+pub onward-marked : (version : Version) (table : TableShape) (at : Place) → at.line ≤ (table_parts version table at).line
+onward-marked version table at = onward-mark version (word_before table) (table_rows version table 0 (height table)) (onward-table version table 0 (height table)) at
 
 pub onward-rest : (version : Version) (level : Level) (n s : ℕ) (at : Place) → at.line ≤ (order_rest version level n s at).line
-onward-rest version Causal n s at = onward-clocks version n s at
+onward-rest version Causal n s at = onward-marked version (shape.Clocks n s) at
 onward-rest version Atomic n s at = onward-end version at
 
 pub onward-claim : (version : Version) (level : Level) (sizes : Sizes) (at : Place) → at.line ≤ (claim_parts version level sizes at).line
 onward-claim version level (Order n s) at = onward-then at (words version (numbers_line n (ranges_of version).number) at) _ (onward-words version (numbers_line n (ranges_of version).number) at) (λ order. onward-rest version level n s order.1)
-onward-claim version level (Cycle n count least) at = onward-then at (repeated (link_at version) count at) _ (onward-links version count at) (λ links. onward-near version n links.1)
+onward-claim version level (Cycle n count least) at = onward-then at (repeated (link_at version) count at) _ (onward-links version count at) (λ links. onward-marked version (shape.Near n) links.1)
 
 pub onward-behind : (header : (Version × Level) × Place) → header.1.line ≤ (parts_behind header).line
 onward-behind header =
@@ -73,11 +80,8 @@ onward-whole at = onward-then at (next MAX_HEADER_BYTES header_line at) parts_be
 
 pub onward-stage : (s : Stage) (at : Place) (ahead : Parts) → IsBehind s at ahead → at.line ≤ ahead.line
 onward-stage stage.Whole at ahead is = rw is (onward-whole at)
-onward-stage (stage.ClocksMark version n s) at ahead is = rw is (onward-clocks version n s at)
-onward-stage (stage.Clocks version s left) at ahead is = rw is.1 (onward-clock_rows version s is.0 left at)
-onward-stage (stage.NearMark version n) at ahead is = rw is (onward-near version n at)
-onward-stage (stage.Near version n left) at ahead is = rw is.1 (onward-near_rows version n is.0 left at)
-onward-stage (stage.Far version n left) at ahead is = rw is.2 (onward-far_rows version n is.0 left at)
+onward-stage (stage.Mark version table) at ahead is = rw is (onward-marked version table at)
+onward-stage (stage.Rows version table left) at ahead is = rw is.2 (onward-table version table is.0 left at)
 
 -- ---- what comes of a part
 
@@ -104,10 +108,30 @@ pub part-then : {A R : Type 0} (remaining : R → Option (List ℕ)) (at : Place
 part-then remaining at {after} {x} read behind result new is on taken =
     subst (λ r. TakesStep remaining at.line (r >>> behind) result new) (sym is) (step-earlier remaining after.line at.line (behind (x, after)) result new on taken)
 
+-- the line before the rows had a fault, or was read, and what comes behind it is given
+pub mark-faults : {F : Type 0} (version : Version) (word : List ℕ) (behind : Place → Parts) (at : Place) (fault : CertFault) → ((p : Place) → p.line ≤ (behind p).line) → Faults F at (words version (word_line word) at) fault
+    → FaultsIn F at.line (words version (word_line word) at >>> λ mark. behind mark.1) fault
+mark-faults version word behind at fault later faults = part-faults (words version (word_line word) at) (λ mark. behind mark.1) fault (λ mark. later mark.1) faults
+
+pub mark-then : {R : Type 0} (remaining : R → Option (List ℕ)) (version : Version) (word : List ℕ) (behind : Place → Parts) (at : Place) {after : Place} {done : Unit {0}} (result : Result (Part × Phase) CertFault) (new : Input R)
+    → words version (word_line word) at ≡ Ok (done, after) → TakesStep remaining after.line (behind after) result new → TakesStep remaining at.line (words version (word_line word) at >>> λ mark. behind mark.1) result new
+mark-then remaining version word behind at result new is taken =
+    part-then remaining at (words version (word_line word) at) (λ mark. behind mark.1) result new is (onward-at (words version (word_line word) at) (onward-words version (word_line word) at) is) taken
+
 -- one row more
-pub row-more : (form : List ℕ → Part) (read : ℕ → Place → Reads (List ℕ)) (behind : Place → Parts) (from left n : ℕ) (at after : Place) (row : List ℕ) → n ≡ suc left → read from at ≡ Ok (row, after)
-    → rows_then form read behind from n at ≡ after_part (form row) (rows_then form read behind (from + 1) left after)
-row-more form read behind from left n at after row more is = rw more (rw is refl)
+pub row-more : (version : Version) (table : TableShape) (from left n : ℕ) (at after : Place) (row : List ℕ) → n ≡ suc left → words version (numbers_line (columns_in version table from) (most_in version table)) at ≡ Ok (row, after)
+    → table_rows version table from n at ≡ after_part (part_of table row) (table_rows version table (from + 1) left after)
+row-more version table from left n at after row more is = rw more (rw is refl)
+
+pub row-first : (table : TableShape) (row : List ℕ) (ahead rest : Parts) → ahead ≡ after_part (part_of table row) rest → IsFirst (part_of table row) ahead rest
+row-first (shape.Clocks n s) row ahead rest is = is
+row-first (shape.Near n) row ahead rest is = is
+row-first (shape.Far n) row ahead rest is = is
+
+pub row-faults : {F : Type 0} (version : Version) (table : TableShape) (from left n : ℕ) (at : Place) (fault : CertFault) → n ≡ suc left → Faults F at (words version (numbers_line (columns_in version table from) (most_in version table)) at) fault
+    → FaultsIn F at.line (table_rows version table from n at) fault
+row-faults version table from left n at fault more faults =
+    rw more (part-faults (words version (numbers_line (columns_in version table from) (most_in version table)) at) _ fault (λ row. onward-table version table (from + 1) left row.1) faults)
 
 -- the line `end` was read, and something stands behind it, or the reader failed
 pub end-faults : {R : Type 0} (version : Version) (at after : Place) (done : Unit {0}) (fault : CertFault) (new : Input R) → words version (word_line (codes "end")) at ≡ Ok (done, after) → at.line ≤ after.line

@@ -12,6 +12,7 @@ pub mod Outcomes
 pub mod WindowBytes
 pub mod Inputs
 pub mod Parts
+pub mod Shapes
 pub mod Stages
 pub mod Ahead
 pub mod Collecting

@@ -10,16 +10,14 @@ use Rattle.tcc_cert.specs.declared.reading.stages.Stage.{Stage}
 use Rattle.tcc_cert.specs.declared.reading.stages.Stage.TheVariants as stage
 use Rattle.tcc_cert.specs.Inputs.{HasFailed, IsAt}
 use Rattle.tcc_cert.specs.Reading.{Place}
-use Rattle.tcc_cert.specs.Parts.{Parts, ending, stopped, FaultsIn, IsFirst, whole_parts, clock_parts, clock_rows, near_parts, near_rows, far_rows}
+use Rattle.tcc_cert.specs.Parts.{Parts, ending, stopped, FaultsIn, IsFirst, whole_parts}
+use Rattle.tcc_cert.specs.Shapes.{height, rows_from, table_parts, table_rows}
 
 -- how many rows come before the end, behind the claim
 abbrev pub rows_at : Stage → ℕ
 rows_at stage.Whole = 0
-rows_at (stage.ClocksMark version transactions sessions) = transactions
-rows_at (stage.Clocks version sessions left) = left
-rows_at (stage.NearMark version transactions) = transactions + transactions
-rows_at (stage.Near version transactions left) = left + transactions
-rows_at (stage.Far version transactions left) = left
+rows_at (stage.Mark version table) = rows_from table (height table)
+rows_at (stage.Rows version table left) = rows_from table left
 
 abbrev pub rows_in : Phase → ℕ
 rows_in (phase.Going at) = rows_at at
@@ -29,11 +27,8 @@ rows_in (phase.Stopped fault) = 0
 -- the parts from the place on, at this stage
 abbrev pub IsBehind : Stage → Place → Parts → Type 0
 IsBehind stage.Whole at ahead = ahead ≡ whole_parts at
-IsBehind (stage.ClocksMark version transactions sessions) at ahead = ahead ≡ clock_parts version transactions sessions at
-IsBehind (stage.Clocks version sessions left) at ahead = (from : ℕ) × (ahead ≡ clock_rows version sessions from left at)
-IsBehind (stage.NearMark version transactions) at ahead = ahead ≡ near_parts version transactions at
-IsBehind (stage.Near version transactions left) at ahead = (from : ℕ) × (ahead ≡ near_rows version transactions from left at)
-IsBehind (stage.Far version transactions left) at ahead = (from : ℕ) × (from + left ≡ transactions) × (ahead ≡ far_rows version transactions from left at)
+IsBehind (stage.Mark version table) at ahead = ahead ≡ table_parts version table at
+IsBehind (stage.Rows version table left) at ahead = (from : ℕ) × (from + left ≡ height table) × (ahead ≡ table_rows version table from left at)
 
 abbrev pub IsAheadIn : {R : Type 0} → (R → Option (List ℕ)) → Input R → Phase → Parts → Type 0
 IsAheadIn remaining input (phase.Going stage) ahead = (at : Place) × IsAt remaining input at × IsBehind stage at ahead

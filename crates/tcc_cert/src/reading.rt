@@ -14,6 +14,7 @@ mod input;
 mod links;
 mod parts;
 mod rows;
+mod shape;
 mod source;
 mod stages;
 mod window;
@@ -172,15 +173,13 @@ fn whole<R: Read>(alloc: Global, parts: &mut CertReader<R>) -> Result<Certificat
             least,
         } => {
             let Tables { near, far, .. } = collect(alloc, parts)?;
-            let near = Table::new(near);
-            let far = Table::new(far);
             Ok(Certificate::Cycle {
                 version,
                 level,
                 links,
                 least,
-                near,
-                far,
+                near: Table::new(near),
+                far: Table::new(far),
             })
         }
         Part::Clocks(_) | Part::Near(_) | Part::Far(_) | Part::End => unreachable!(),

@@ -1,15 +1,16 @@
 //! The parts of a certificate's text, each with what stands behind it.
-ghost use Rattle.std.specs.Prelude.{◌≡◌, ◌+◌, ◌-◌, ℕ, IfOk};
+ghost use Rattle.std.specs.Prelude.{◌≡◌, ◌<◌, ◌+◌, ℕ, IfOk};
 ghost use Rattle.tcc_cert.specs.Inputs.{IsAt};
-ghost use Rattle.tcc_cert.specs.Parts.{Parts, clock_parts, clock_rows, cycle_parts, end_parts, far_parts, far_rows, near_parts, near_rows, order_parts, order_rest, parts_behind, whole_parts};
+ghost use Rattle.tcc_cert.specs.Parts.{Parts, cycle_parts, end_parts, far_parts, order_parts, order_rest, parts_behind, whole_parts};
 ghost use Rattle.tcc_cert.specs.Reading.{Place};
-ghost use Rattle.tcc_cert.specs.Tables.{lowest};
+ghost use Rattle.tcc_cert.specs.Shapes.{behind_table, height, rows_from, table_parts, table_rows};
 ghost use Rattle.tcc_cert.specs.Stages.{IsBegun, IsBehind, IsClaimStep, IsRowStep, IsStepAt, TakesStep};
 
 use super::forms::Sizes;
 use super::input::Input;
 use super::links::links;
 use super::rows::row;
+use super::shape::TableShape;
 use super::{header, mark, sizes};
 use crate::ranges::ranges_of;
 use crate::{CertFault, Part, Version};
@@ -22,33 +23,15 @@ use tcc_graph::Level;
 pub(crate) enum Stage {
     /// The whole text.
     Whole,
-    /// The line `clocks` and so many rows of it.
-    ClocksMark {
+    /// The line before the rows of a table, these, and what stands behind them.
+    Mark {
         version: Version,
-        transactions: u32,
-        sessions: u32,
+        table: TableShape,
     },
-    /// So many rows of the clocks.
-    Clocks {
+    /// So many rows of a table, and what stands behind them.
+    Rows {
         version: Version,
-        sessions: u32,
-        left: u32,
-    },
-    /// The line `near`, and both tables.
-    NearMark {
-        version: Version,
-        transactions: u32,
-    },
-    /// So many rows of `near`, and then `far`.
-    Near {
-        version: Version,
-        transactions: u32,
-        left: u32,
-    },
-    /// So many rows of `far`.
-    Far {
-        version: Version,
-        transactions: u32,
+        table: TableShape,
         left: u32,
     },
 }
@@ -78,89 +61,27 @@ fn end<R: Read>(
     Ok((Part::End, Phase::Ended))
 }
 
-/// The next row of the clocks, or the end where none is left.
-fn clocks_row<R: Read>(
+/// The next row of a table that has one.
+fn table_row<R: Read>(
     alloc: Global,
     input: &mut Input<R>,
     version: Version,
-    sessions: u32,
+    table: TableShape,
     left: u32,
 ) -> Result<(Part, Phase), CertFault>
-    ensures step { (at : Place) (from : ℕ) → IsAt R.remaining input.old at → TakesStep R.remaining at.line (clock_rows version sessions from left at) result input.new }
-    ensures row { IfOk result (λ given. IsRowStep left given) }
+    requires { 0 < left }
+    ensures step { (at : Place) (from : ℕ) → from + left ≡ height table → IsAt R.remaining input.old at
+        → TakesStep R.remaining at.line (table_rows version table from left at) result input.new }
+    ensures row { IfOk result (λ given. IsRowStep (rows_from table left) given) }
 {
-    let Some(left) = left.checked_sub(1) else {
-        return end(alloc, input, version);
-    };
-    let numbers = row(
-        alloc,
-        input,
+    let columns = table.columns(version, left) as usize;
+    let numbers = row(alloc, input, version, columns, table.most(version))?;
+    let stage = Stage::Rows {
         version,
-        sessions as usize,
-        ranges_of(version).number,
-    )?;
-    let stage = Stage::Clocks {
-        version,
-        sessions,
-        left,
+        table,
+        left: left - 1,
     };
-    Ok((Part::Clocks(numbers), Phase::Going(stage)))
-}
-
-/// The line `clocks`, and their first row.
-fn clocks<R: Read>(
-    alloc: Global,
-    input: &mut Input<R>,
-    version: Version,
-    transactions: u32,
-    sessions: u32,
-) -> Result<(Part, Phase), CertFault>
-    ensures step { (at : Place) → IsAt R.remaining input.old at → TakesStep R.remaining at.line (clock_parts version transactions sessions at) result input.new }
-    ensures row { IfOk result (λ given. IsRowStep transactions given) }
-{
-    mark(alloc, input, version, b"clocks")?;
-    clocks_row(alloc, input, version, sessions, transactions)
-}
-
-/// How many numbers a row of `far` has where so many rows are left.
-fn far_columns(version: Version, transactions: u32, left: u32) -> u32
-    ensures { (from : ℕ) → from + left ≡ transactions → result ≡ transactions - lowest version from }
-{
-    match version {
-        Version::One => transactions,
-        Version::Two => left,
-    }
-}
-
-/// The next row of `far`, or the end where none is left.
-fn far_row<R: Read>(
-    alloc: Global,
-    input: &mut Input<R>,
-    version: Version,
-    transactions: u32,
-    left: u32,
-) -> Result<(Part, Phase), CertFault>
-    ensures step { (at : Place) (from : ℕ) → from + left ≡ transactions → IsAt R.remaining input.old at
-        → TakesStep R.remaining at.line (far_rows version transactions from left at) result input.new }
-    ensures row { IfOk result (λ given. IsRowStep left given) }
-{
-    let columns = far_columns(version, transactions, left);
-    let Some(left) = left.checked_sub(1) else {
-        return end(alloc, input, version);
-    };
-    let numbers = row(
-        alloc,
-        input,
-        version,
-        columns as usize,
-        ranges_of(version).cost,
-    )?;
-    let stage = Stage::Far {
-        version,
-        transactions,
-        left,
-    };
-    Ok((Part::Far(numbers), Phase::Going(stage)))
+    Ok((table.part(numbers), Phase::Going(stage)))
 }
 
 /// The line `far`, and its first row.
@@ -173,51 +94,62 @@ fn far<R: Read>(
     ensures step { (at : Place) → IsAt R.remaining input.old at → TakesStep R.remaining at.line (far_parts version transactions at) result input.new }
     ensures row { IfOk result (λ given. IsRowStep transactions given) }
 {
+    let table = TableShape::Far { transactions };
     mark(alloc, input, version, b"far")?;
-    far_row(alloc, input, version, transactions, transactions)
+    if transactions > 0 {
+        table_row(alloc, input, version, table, transactions)
+    } else {
+        end(alloc, input, version)
+    }
 }
 
-/// The next row of `near`, or the first one of `far` where none is left.
-fn near_row<R: Read>(
+/// What comes behind the last row of a table.
+fn behind_table<R: Read>(
     alloc: Global,
     input: &mut Input<R>,
     version: Version,
-    transactions: u32,
+    table: TableShape,
+) -> Result<(Part, Phase), CertFault>
+    ensures step { (at : Place) → IsAt R.remaining input.old at → TakesStep R.remaining at.line (behind_table version table at) result input.new }
+    ensures row { IfOk result (λ given. IsRowStep (rows_from table 0) given) }
+{
+    match table {
+        TableShape::Clocks { .. } | TableShape::Far { .. } => end(alloc, input, version),
+        TableShape::Near { transactions } => far(alloc, input, version, transactions),
+    }
+}
+
+/// The next row of a table, or what comes behind it where none is left.
+fn rows<R: Read>(
+    alloc: Global,
+    input: &mut Input<R>,
+    version: Version,
+    table: TableShape,
     left: u32,
 ) -> Result<(Part, Phase), CertFault>
-    ensures step { (at : Place) (from : ℕ) → IsAt R.remaining input.old at → TakesStep R.remaining at.line (near_rows version transactions from left at) result input.new }
-    ensures row { IfOk result (λ given. IsRowStep (left + transactions) given) }
+    ensures step { (at : Place) (from : ℕ) → from + left ≡ height table → IsAt R.remaining input.old at
+        → TakesStep R.remaining at.line (table_rows version table from left at) result input.new }
+    ensures row { IfOk result (λ given. IsRowStep (rows_from table left) given) }
 {
-    let Some(left) = left.checked_sub(1) else {
-        return far(alloc, input, version, transactions);
-    };
-    let numbers = row(
-        alloc,
-        input,
-        version,
-        transactions as usize,
-        ranges_of(version).cost,
-    )?;
-    let stage = Stage::Near {
-        version,
-        transactions,
-        left,
-    };
-    Ok((Part::Near(numbers), Phase::Going(stage)))
+    if left > 0 {
+        table_row(alloc, input, version, table, left)
+    } else {
+        behind_table(alloc, input, version, table)
+    }
 }
 
-/// The line `near`, and its first row.
-fn near<R: Read>(
+/// The line before the rows of a table, and the first of these.
+fn marked<R: Read>(
     alloc: Global,
     input: &mut Input<R>,
     version: Version,
-    transactions: u32,
+    table: TableShape,
 ) -> Result<(Part, Phase), CertFault>
-    ensures step { (at : Place) → IsAt R.remaining input.old at → TakesStep R.remaining at.line (near_parts version transactions at) result input.new }
-    ensures row { IfOk result (λ given. IsRowStep (transactions + transactions) given) }
+    ensures step { (at : Place) → IsAt R.remaining input.old at → TakesStep R.remaining at.line (table_parts version table at) result input.new }
+    ensures row { IfOk result (λ given. IsRowStep (rows_from table (height table)) given) }
 {
-    mark(alloc, input, version, b"near")?;
-    near_row(alloc, input, version, transactions, transactions)
+    mark(alloc, input, version, table.word())?;
+    rows(alloc, input, version, table, table.height())
 }
 
 /// What stands behind the order of a claim.
@@ -225,15 +157,15 @@ fn behind_order(version: Version, level: Level, transactions: u32, sessions: u32
     ensures behind { (at : Place) → IsBehind result at (order_rest version level transactions sessions at) }
     ensures begun { IsBegun (Phase.Going result) }
 {
+    let table = TableShape::Clocks {
+        transactions,
+        sessions,
+    };
     match level {
-        Level::Causal => Stage::ClocksMark {
+        Level::Causal => Stage::Mark { version, table },
+        Level::Atomic => Stage::Rows {
             version,
-            transactions,
-            sessions,
-        },
-        Level::Atomic => Stage::Clocks {
-            version,
-            sessions,
+            table,
             left: 0,
         },
     }
@@ -289,11 +221,8 @@ fn cycle<R: Read>(
         links,
         least,
     };
-    let stage = Stage::NearMark {
-        version,
-        transactions,
-    };
-    Ok((claim, Phase::Going(stage)))
+    let table = TableShape::Near { transactions };
+    Ok((claim, Phase::Going(Stage::Mark { version, table })))
 }
 
 /// What stands behind the first line, up to the tables.
@@ -339,29 +268,11 @@ pub(crate) fn step<R: Read>(
 {
     match stage {
         Stage::Whole => whole(alloc, input),
-        Stage::ClocksMark {
+        Stage::Mark { version, table } => marked(alloc, input, version, table),
+        Stage::Rows {
             version,
-            transactions,
-            sessions,
-        } => clocks(alloc, input, version, transactions, sessions),
-        Stage::Clocks {
-            version,
-            sessions,
+            table,
             left,
-        } => clocks_row(alloc, input, version, sessions, left),
-        Stage::NearMark {
-            version,
-            transactions,
-        } => near(alloc, input, version, transactions),
-        Stage::Near {
-            version,
-            transactions,
-            left,
-        } => near_row(alloc, input, version, transactions, left),
-        Stage::Far {
-            version,
-            transactions,
-            left,
-        } => far_row(alloc, input, version, transactions, left),
+        } => rows(alloc, input, version, table, left),
     }
 }

@@ -32,5 +32,5 @@ returns-in_err-near-in-Cycle g c bytes ahead =
 pub returns-in_ok-near-in-Cycle : goal.returns-in_ok-near-in-Cycle
 returns-in_ok-near-in-Cycle g c bytes ahead =
     let taken = rw c.in-Cycle.is at (c.in_ok-version.ensures.parts (parts_read bytes) ahead) in
-    rw (c.new-near.ensures, c.new-far.ensures)
+    rw (c.new-in-Cycle.ensures, c.new-in-Cycle-2.ensures)
     (cycle-read bytes _ _ _ _ _ taken.0 c.in_ok-near-in-Cycle.field-0 taken.1 (c.in_ok-near-in-Cycle.ensures taken.0 taken.2))

@@ -1,0 +1,7 @@
+-- The rows go on from where they are.
+use Rattle.tcc_cert.proofs.reading.stages.step.Goals as goal
+
+pub returns-in-Rows-clause-step : goal.returns-in-Rows-clause-step
+returns-in-Rows-clause-step g c at ahead before is =
+    let behind = rw c.in-Rows.is at is in
+    rw behind.2 (c.rows.ensures.step at behind.0 behind.1 before)
