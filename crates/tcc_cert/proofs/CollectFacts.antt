@@ -1,5 +1,5 @@
 -- The rows of a certificate's tables among its parts.
-use Rattle.std.proofs.Common.{◌≡◌, ℕ, ◌<◌, ◌≤◌, ◌⊎◌, true, false, List, [], ◌∷◌, ◌++◌, Option, None, Some, Result, Ok, Err, inl, inr, refl, sym, ap, ◌∙◌, arith, append_assoc, append-nil}
+use Rattle.std.proofs.Common.{◌≡◌, ℕ, ◌<◌, ◌≤◌, ◌≢◌, false, List, [], ◌∷◌, ◌++◌, Option, None, Ok, Err, inl, inr, refl, sym, ap, ◌∙◌, arith, append_assoc, append-nil}
 use Rattle.std.specs.Prelude.{map}
 use Rattle.tcc_graph.specs.declared.level.Level.{Level}
 use Rattle.tcc_graph.specs.declared.link.Link.{Link}
@@ -16,10 +16,10 @@ use Rattle.tcc_cert.specs.declared.reading.parts.CertReader.{CertReader}
 use Rattle.tcc_cert.specs.declared.reading.stages.Phase.{Phase}
 use Rattle.tcc_cert.specs.declared.reading.stages.Phase.TheVariants as phase
 use Rattle.tcc_cert.specs.declared.reading.Tables.{Tables}
-use Rattle.tcc_cert.specs.Ahead.{IsAhead, ended_in, fault_in, fault_met, has_ended, line_wanted}
-use Rattle.tcc_cert.specs.Collecting.{EndsIn, HasRowsOf, clocks_in, far_in, near_in}
+use Rattle.tcc_cert.specs.Ahead.{IsAhead, ended_in, fault_in, fault_met, has_ended, is_end, line_wanted}
+use Rattle.tcc_cert.specs.Collecting.{EndsIn, HasRow, HasRowsOf, clocks_in, far_in, near_in}
 use Rattle.tcc_cert.specs.Outcomes.{IsFailure, IsReading}
-use Rattle.tcc_cert.specs.Parts.{FaultsIn, Parts, after_part, ending, parts_of, parts_read}
+use Rattle.tcc_cert.specs.Parts.{FaultsIn, IsFirst, Parts, after_part, ending, parts_of, parts_read}
 use Rattle.tcc_cert.specs.Reading.{certificate_read}
 use Rattle.tcc_cert.specs.Stages.{IsAheadIn}
 use Rattle.tcc_cert.proofs.PartFacts.{line-reached, read-fault, read-whole}
@@ -37,38 +37,51 @@ pub record IsKept (clocks near far : List (List ℕ)) (ahead rest : Parts) : Typ
 pub kept-none : (ahead : Parts) → IsKept [] [] [] ahead ahead
 kept-none ahead = record { clocks_kept = refl; near_kept = refl; far_kept = refl; line = refl; fault = refl }
 
-one-more : (front : List (List ℕ)) (row : List ℕ) (rest : List (List ℕ)) → front ++ row ∷ rest ≡ (front ++ row ∷ []) ++ rest
-one-more front row rest = sym (append_assoc front (row ∷ []) rest)
+-- the rows of a part stand before those behind it
+abbrev HasRowsBefore : Part → List Part → Type 0
+HasRowsBefore given rest =
+    (clocks_in (given ∷ rest) ≡ clocks_in (given ∷ []) ++ clocks_in rest)
+    × (near_in (given ∷ rest) ≡ near_in (given ∷ []) ++ near_in rest)
+    × (far_in (given ∷ rest) ≡ far_in (given ∷ []) ++ far_in rest)
 
-pub kept-clocks : (clocks near far : List (List ℕ)) (row : List ℕ) (ahead now rest : Parts) → IsKept clocks near far ahead now → now ≡ after_part (part.Clocks row) rest → IsKept (clocks ++ row ∷ []) near far ahead rest
-kept-clocks clocks near far row ahead now rest kept is =
+rows-before : (given : Part) (rest : List Part) → HasRowsBefore given rest
+rows-before (part.Order v l o s) rest = (refl, refl, refl)
+rows-before (part.Cycle v l n ls least) rest = (refl, refl, refl)
+rows-before (part.Clocks row) rest = (refl, refl, refl)
+rows-before (part.Near row) rest = (refl, refl, refl)
+rows-before (part.Far row) rest = (refl, refl, refl)
+rows-before part.End rest = (refl, refl, refl)
+
+rows-more : (old new one rest both all : List (List ℕ)) → all ≡ old ++ both → both ≡ one ++ rest → new ≡ old ++ one → all ≡ new ++ rest
+rows-more old new one rest both all is split more = is ∙ ap (λ rows. old ++ rows) split ∙ sym (append_assoc old one rest) ∙ ap (λ rows. rows ++ rest) (sym more)
+
+pub kept-more : (old new : Tables) (given : Part) (ahead now rest : Parts) → IsKept old.clocks.items old.near.items old.far.items ahead now → now ≡ after_part given rest → HasRow given old new
+    → IsKept new.clocks.items new.near.items new.far.items ahead rest
+kept-more old new given ahead now rest kept is more =
+    let before = rows-before given rest.parts in
     record {
-      clocks_kept = kept.clocks_kept ∙ ap (λ p. clocks ++ clocks_in p.parts) is ∙ one-more clocks row (clocks_in rest.parts);
-      near_kept = kept.near_kept ∙ ap (λ p. near ++ near_in p.parts) is;
-      far_kept = kept.far_kept ∙ ap (λ p. far ++ far_in p.parts) is;
+      clocks_kept = rows-more old.clocks.items new.clocks.items _ _ _ _ (kept.clocks_kept ∙ ap (λ p. old.clocks.items ++ clocks_in p.parts) is) before.0 more.clocks;
+      near_kept = rows-more old.near.items new.near.items _ _ _ _ (kept.near_kept ∙ ap (λ p. old.near.items ++ near_in p.parts) is) before.1 more.near;
+      far_kept = rows-more old.far.items new.far.items _ _ _ _ (kept.far_kept ∙ ap (λ p. old.far.items ++ far_in p.parts) is) before.2 more.far;
       line = sym (ap (λ p. p.line) is) ∙ kept.line;
       fault = sym (ap (λ p. p.fault) is) ∙ kept.fault;
     }
 
-pub kept-near : (clocks near far : List (List ℕ)) (row : List ℕ) (ahead now rest : Parts) → IsKept clocks near far ahead now → now ≡ after_part (part.Near row) rest → IsKept clocks (near ++ row ∷ []) far ahead rest
-kept-near clocks near far row ahead now rest kept is =
-    record {
-      clocks_kept = kept.clocks_kept ∙ ap (λ p. clocks ++ clocks_in p.parts) is;
-      near_kept = kept.near_kept ∙ ap (λ p. near ++ near_in p.parts) is ∙ one-more near row (near_in rest.parts);
-      far_kept = kept.far_kept ∙ ap (λ p. far ++ far_in p.parts) is;
-      line = sym (ap (λ p. p.line) is) ∙ kept.line;
-      fault = sym (ap (λ p. p.fault) is) ∙ kept.fault;
-    }
+pub goes-on : (given : Part) → given ≢ part.End → is_end given ≡ false
+goes-on (part.Order v l o s) goes = refl
+goes-on (part.Cycle v l n ls least) goes = refl
+goes-on (part.Clocks row) goes = refl
+goes-on (part.Near row) goes = refl
+goes-on (part.Far row) goes = refl
+goes-on part.End goes = absurd (goes refl)
 
-pub kept-far : (clocks near far : List (List ℕ)) (row : List ℕ) (ahead now rest : Parts) → IsKept clocks near far ahead now → now ≡ after_part (part.Far row) rest → IsKept clocks near (far ++ row ∷ []) ahead rest
-kept-far clocks near far row ahead now rest kept is =
-    record {
-      clocks_kept = kept.clocks_kept ∙ ap (λ p. clocks ++ clocks_in p.parts) is;
-      near_kept = kept.near_kept ∙ ap (λ p. near ++ near_in p.parts) is;
-      far_kept = kept.far_kept ∙ ap (λ p. far ++ far_in p.parts) is ∙ one-more far row (far_in rest.parts);
-      line = sym (ap (λ p. p.line) is) ∙ kept.line;
-      fault = sym (ap (λ p. p.fault) is) ∙ kept.fault;
-    }
+pub first-rest : (given : Part) (ahead rest : Parts) → is_end given ≡ false → IsFirst given ahead rest → ahead ≡ after_part given rest
+first-rest (part.Order v l o s) ahead rest goes is = is
+first-rest (part.Cycle v l n ls least) ahead rest goes is = is
+first-rest (part.Clocks row) ahead rest goes is = is
+first-rest (part.Near row) ahead rest goes is = is
+first-rest (part.Far row) ahead rest goes is = is
+first-rest part.End ahead rest goes is = absurd cc
 
 pub kept-all : (tables : Tables) (ahead now : Parts) → IsKept tables.clocks.items tables.near.items tables.far.items ahead now → now ≡ ending now.line None → HasRowsOf ahead tables
 kept-all tables ahead now kept is =

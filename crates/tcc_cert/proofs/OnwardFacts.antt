@@ -1,20 +1,12 @@
 -- Reading goes on from line to line, and never back.
-use Rattle.std.proofs.Common.{ℕ, zero, suc, ◌+◌, ◌-◌, ◌≤◌, List, [], ◌∷◌, Result, Ok, Err, arith, codes}
-use Rattle.tcc_cert.specs.declared.ranges.TheConstants.{MAX_HEADER_BYTES}
+use Rattle.std.proofs.Common.{ℕ, zero, suc, ◌+◌, ◌≤◌, List, [], ◌∷◌, Result, Ok, Err, arith}
 use Rattle.tcc_cert.specs.declared.version.Version.{Version}
-use Rattle.tcc_graph.specs.declared.level.Level.{Level}
-use Rattle.tcc_graph.specs.declared.level.Level.TheVariants.{Causal, Atomic}
 use Rattle.tcc_cert.specs.Ranges.{ranges_of}
-use Rattle.tcc_cert.specs.Tables.{lowest}
 use Rattle.tcc_cert.specs.declared.fault.CertFaultKind.{CertFaultKind}
 use Rattle.tcc_cert.specs.declared.reading.forms.Head.{Head}
-use Rattle.tcc_cert.specs.declared.reading.forms.Sizes.{Sizes}
-use Rattle.tcc_cert.specs.declared.reading.forms.Sizes.TheVariants.{Order, Cycle}
 use Rattle.tcc_cert.specs.Outcomes.{reached}
-use Rattle.tcc_graph.specs.declared.link.Link.{Link}
-use Rattle.tcc_cert.specs.declared.certificate.Certificate.TheVariants as claim
 use Rattle.tcc_cert.specs.Texts.{Words}
-use Rattle.tcc_cert.specs.Reading.{◌>>=◌, Place, Reads, judged, behind, line_of, next, words, numbered, repeated, header_line, words_of, step_line, numbers_line, with_walk, head_line, walk_of, link_at, word_line, sizes_line, table_at, clocks_at, order_at, cycle_at, claim_at, behind_header, certificate_at}
+use Rattle.tcc_cert.specs.Reading.{◌>>=◌, Place, Reads, judged, behind, line_of, next, words, numbered, repeated, words_of, step_line, with_walk, head_line, walk_of, link_at}
 
 -- from this place the reading ended at no line before it
 pub record IsOnward {X : Type 0} (at : Place) (read : Reads X) : Type 0 where
@@ -61,77 +53,3 @@ onward-link version at = onward-then at (words version (head_line version) at) (
 
 pub onward-links : (version : Version) (count : ℕ) (at : Place) → IsOnward at (repeated (link_at version) count at)
 onward-links version count at = onward-numbered (λ i. link_at version) 0 count (λ i place. onward-link version place) at
-
-pub onward-table : (version : Version) (rows : ℕ) (columns : ℕ → ℕ) (most : ℕ) (at : Place) → IsOnward at (table_at version rows columns most at)
-onward-table version rows columns most at =
-    onward-numbered (λ s. words version (numbers_line (columns s) most)) 0 rows (λ s place. onward-words version (numbers_line (columns s) most) place) at
-
--- a line of a claim, and what stands behind it
-line-then : {X B : Type 0} (version : Version) (form : Words → Result X CertFaultKind) (go : X × Place → Reads B) (at : Place) → ((x : X × Place) → IsOnward x.1 (go x)) → IsOnward at (words version form at >>= go)
-line-then version form go at later = onward-then at (words version form at) go (onward-words version form at) later
-
-table-then : {B : Type 0} (version : Version) (rows : ℕ) (columns : ℕ → ℕ) (most : ℕ) (go : List (List ℕ) × Place → Reads B) (at : Place) → ((x : List (List ℕ) × Place) → IsOnward x.1 (go x))
-    → IsOnward at (table_at version rows columns most at >>= go)
-table-then version rows columns most go at later = onward-then at (table_at version rows columns most at) go (onward-table version rows columns most at) later
-
-pub onward-clocks : (version : Version) (level : Level) (n s : ℕ) (at : Place) → IsOnward at (clocks_at version level n s at)
-onward-clocks version Causal n s at = line-then version (word_line (codes "clocks")) _ at (λ mark. onward-table version n (λ t. s) (ranges_of version).number mark.1)
-onward-clocks version Atomic n s at = onward-ok [] at at (omega arith)
-
--- a claim of an order, from each of its parts on
-pub order-end : (version : Version) (level : Level) (order : List ℕ) (s : ℕ) (clocks : List (List ℕ) × Place)
-    → IsOnward clocks.1 (words version (word_line (codes "end")) clocks.1 >>= λ end. Ok (claim.Order version level order s clocks.0, end.1))
-order-end version level order s clocks = line-then version (word_line (codes "end")) _ clocks.1 (λ end. onward-ok (claim.Order version level order s clocks.0) end.1 end.1 (omega arith))
-
-pub order-clocks : (version : Version) (level : Level) (n s : ℕ) (order : List ℕ × Place)
-    → IsOnward order.1 (clocks_at version level n s order.1 >>= λ clocks. words version (word_line (codes "end")) clocks.1 >>= λ end. Ok (claim.Order version level order.0 s clocks.0, end.1))
-order-clocks version level n s order = onward-then order.1 (clocks_at version level n s order.1) _ (onward-clocks version level n s order.1) (order-end version level order.0 s)
-
-pub onward-order : (version : Version) (level : Level) (n s : ℕ) (at : Place) → IsOnward at (order_at version level n s at)
-onward-order version level n s at = line-then version (numbers_line n (ranges_of version).number) _ at (order-clocks version level n s)
-
--- a claim of a cycle, from each of its parts on
-abbrev pub near_table : Version → ℕ → Place → Reads (List (List ℕ))
-near_table version n at = table_at version n (λ a. n) (ranges_of version).cost at
-
-abbrev pub far_rows : Version → ℕ → Place → Reads (List (List ℕ))
-far_rows version n at = table_at version n (λ s. n - lowest version s) (ranges_of version).cost at
-
-pub onward-near : (version : Version) (n : ℕ) (at : Place) → IsOnward at (near_table version n at)
-onward-near version n at = onward-table version n (λ a. n) (ranges_of version).cost at
-
-pub onward-far : (version : Version) (n : ℕ) (at : Place) → IsOnward at (far_rows version n at)
-onward-far version n at = onward-table version n (λ s. n - lowest version s) (ranges_of version).cost at
-
-pub cycle-end : (version : Version) (level : Level) (links : List Link) (least : ℕ) (near : List (List ℕ)) (far : List (List ℕ) × Place)
-    → IsOnward far.1 (words version (word_line (codes "end")) far.1 >>= λ end. Ok (claim.Cycle version level links least near far.0, end.1))
-cycle-end version level links least near far = line-then version (word_line (codes "end")) _ far.1 (λ end. onward-ok (claim.Cycle version level links least near far.0) end.1 end.1 (omega arith))
-
-pub cycle-far : (version : Version) (level : Level) (n : ℕ) (links : List Link) (least : ℕ) (near : List (List ℕ)) (mark : Unit {0} × Place)
-    → IsOnward mark.1 (far_rows version n mark.1 >>= λ far. words version (word_line (codes "end")) far.1 >>= λ end. Ok (claim.Cycle version level links least near far.0, end.1))
-cycle-far version level n links least near mark = table-then version n (λ s. n - lowest version s) (ranges_of version).cost _ mark.1 (cycle-end version level links least near)
-
-pub cycle-far_mark : (version : Version) (level : Level) (n : ℕ) (links : List Link) (least : ℕ) (near : List (List ℕ) × Place)
-    → IsOnward near.1 (words version (word_line (codes "far")) near.1 >>= λ mark. far_rows version n mark.1 >>= λ far. words version (word_line (codes "end")) far.1 >>= λ end. Ok (claim.Cycle version level links least near.0 far.0, end.1))
-cycle-far_mark version level n links least near = line-then version (word_line (codes "far")) _ near.1 (cycle-far version level n links least near.0)
-
-pub cycle-near : (version : Version) (level : Level) (n : ℕ) (links : List Link) (least : ℕ) (mark : Unit {0} × Place)
-    → IsOnward mark.1 (near_table version n mark.1 >>= λ near. words version (word_line (codes "far")) near.1 >>= λ far_mark. far_rows version n far_mark.1 >>= λ far. words version (word_line (codes "end")) far.1 >>= λ end. Ok (claim.Cycle version level links least near.0 far.0, end.1))
-cycle-near version level n links least mark = table-then version n (λ a. n) (ranges_of version).cost _ mark.1 (cycle-far_mark version level n links least)
-
-pub cycle-near_mark : (version : Version) (level : Level) (n : ℕ) (least : ℕ) (links : List Link × Place)
-    → IsOnward links.1 (words version (word_line (codes "near")) links.1 >>= λ mark. near_table version n mark.1 >>= λ near. words version (word_line (codes "far")) near.1 >>= λ far_mark. far_rows version n far_mark.1 >>= λ far. words version (word_line (codes "end")) far.1 >>= λ end. Ok (claim.Cycle version level links.0 least near.0 far.0, end.1))
-cycle-near_mark version level n least links = line-then version (word_line (codes "near")) _ links.1 (cycle-near version level n links.0 least)
-
-pub onward-cycle : (version : Version) (level : Level) (n count least : ℕ) (at : Place) → IsOnward at (cycle_at version level n count least at)
-onward-cycle version level n count least at = onward-then at (repeated (link_at version) count at) _ (onward-links version count at) (cycle-near_mark version level n least)
-
-pub onward-claim : (version : Version) (level : Level) (sizes : Sizes × Place) → IsOnward sizes.1 (claim_at version level sizes.0 sizes.1)
-onward-claim version level (Order n s, at) = onward-order version level n s at
-onward-claim version level (Cycle n count least, at) = onward-cycle version level n count least at
-
-pub onward-behind : (header : (Version × Level) × Place) → IsOnward header.1 (behind_header header)
-onward-behind header = line-then header.0.0 (sizes_line header.0.0) _ header.1 (onward-claim header.0.0 header.0.1)
-
-pub onward-certificate : (at : Place) → IsOnward at (certificate_at at)
-onward-certificate at = onward-then at (next MAX_HEADER_BYTES header_line at) behind_header (onward-next MAX_HEADER_BYTES header_line at) onward-behind

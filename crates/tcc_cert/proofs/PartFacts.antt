@@ -1,5 +1,5 @@
 -- The parts that a text gives are those of the certificate that it is the text of, and end where its reading ends.
-use Rattle.std.proofs.Common.{◌≡◌, ℕ, zero, suc, ◌+◌, ◌-◌, ◌<◌, ◌≤◌, ◌⊎◌, Bool, true, false, cond, eqb, length, List, [], ◌∷◌, ◌++◌, Option, None, Some, Result, Ok, Err, inl, inr, refl, sym, ap, subst, ◌∙◌, arith, append_assoc, append-nil, codes}
+use Rattle.std.proofs.Common.{◌≡◌, ℕ, zero, suc, ◌+◌, ◌-◌, Bool, true, false, cond, eqb, length, List, [], ◌∷◌, ◌++◌, Option, None, Some, Result, Ok, Err, refl, sym, ap, subst, ◌∙◌, append_assoc, append-nil, codes}
 use Rattle.std.specs.Prelude.{map}
 use Rattle.tcc_graph.specs.declared.level.Level.{Level}
 use Rattle.tcc_graph.specs.declared.level.Level.TheVariants.{Causal, Atomic}
@@ -17,9 +17,9 @@ use Rattle.tcc_cert.specs.declared.reading.forms.Sizes.{Sizes}
 use Rattle.tcc_cert.specs.declared.reading.forms.Sizes.TheVariants.{Order, Cycle}
 use Rattle.tcc_cert.specs.Ranges.{ranges_of}
 use Rattle.tcc_cert.specs.Tables.{lowest}
-use Rattle.tcc_cert.specs.Outcomes.{IsReading, reached}
-use Rattle.tcc_cert.specs.Parts.{◌>>>◌, FaultsIn, Parts, after_part, claim_parts, clock_rows, cycle_parts, end_parts, far_parts, far_rows, near_parts, near_rows, order_parts, order_rest, parts_behind, parts_of, parts_read, rows_then, stopped, whole_parts}
-use Rattle.tcc_cert.specs.Reading.{◌>>=◌, Place, Reads, behind_header, certificate_at, certificate_read, claim_at, clocks_at, cycle_at, ended, header_line, link_at, next, numbered, numbers_line, order_at, repeated, sizes_line, start_of, table_at, word_line, words}
+use Rattle.tcc_cert.specs.Outcomes.{reached}
+use Rattle.tcc_cert.specs.Parts.{◌>>>◌, Parts, after_part, claim_parts, cycle_parts, end_parts, far_parts, near_parts, order_parts, order_rest, parts_behind, parts_of, parts_read, rows_then, whole_parts}
+use Rattle.tcc_cert.specs.Reading.{◌>>=◌, Place, Reads, behind_header, certificate_at, certificate_read, claim_at, clocks_at, cycle_at, ended, header_line, link_at, next, numbered, numbers_line, order_at, repeated, sizes_line, start_of, word_line, words}
 
 -- the fault of what stands behind the end
 abbrev fault_behind : Place → Option CertFaultKind

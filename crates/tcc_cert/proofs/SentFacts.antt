@@ -2,8 +2,8 @@
 use Rattle.std.proofs.Common.{ℕ, List, [], ◌++◌, Option, Result, Ok, Err, refl, sym, ap, subst, ◌∙◌, append_assoc, append-nil, length, take, drop, take-append-drop}
 use Rattle.std.proofs.lemmas.List.{take_at}
 use Rattle.std.specs.Result.{OnOk, OnErr, IsErr}
-use Rattle.std.specs.Io.KnownBytes.{Appends, Keeps}
-use Rattle.std.proofs.KnownBytes.{Appends-trans, Appends-kept}
+use Rattle.std.specs.Io.KnownBytes.{Appends}
+use Rattle.std.proofs.KnownBytes.{Appends-trans}
 use Rattle.tcc_cert.specs.Writing.{Sends, Stops, IsSent}
 
 -- two texts, one after the other
@@ -56,16 +56,8 @@ IsSent-bare (Err e) a b t whole (n, part) =
     (drop n t, record { sent = take n t; appended = part; whole = sym (take-append-drop n t) })
 
 -- what was held is sent last
-pub Sends-out : {a b c : Option (List ℕ)} {f g t : List ℕ} → Sends a f b g t → Sends b g c [] [] → Sends a f c [] t
-Sends-out {a} {b} {c} {f} {g} {t} p q = subst (Sends a f c []) (append-nil t) (Sends-then p q)
-
 pub Stops-out : {a b c : Option (List ℕ)} {f g t : List ℕ} → Sends a f b g t → Stops b g c [] → Stops a f c t
 Stops-out {a} {b} {c} {f} {g} {t} p q = subst (Stops a f c) (append-nil t) (Stops-then p q)
-
--- the writer keeps its bytes
-pub Sends-kept : {a b c : Option (List ℕ)} {f g t : List ℕ} → Sends a f b g t → Keeps b c → Sends a f c g t
-Sends-kept {a} {b} {c} {f} {g} {t} p kept =
-    record { sent = p.sent; appended = Appends-kept a b c p.sent p.appended kept; whole = p.whole }
 
 -- where nothing was held, a part of the text went out, or the whole
 pub Appends-part : {a b : Option (List ℕ)} {t : List ℕ} → Stops a [] b t → (n : ℕ) × Appends a b (take n t)

@@ -1,5 +1,5 @@
 -- Parts of a text given one after the other, where a reader may fail and memory may be refused.
-use Rattle.std.proofs.Common.{◌≡◌, ℕ, zero, suc, ◌+◌, ◌-◌, ◌<◌, ◌≤◌, ◌⊎◌, Bool, true, false, cond, eqb, length, List, [], ◌∷◌, Option, None, Some, Result, Ok, Err, inl, inr, refl, sym, ap, subst, ◌∙◌, arith, codes}
+use Rattle.std.proofs.Common.{◌≡◌, ℕ, zero, suc, ◌+◌, ◌≤◌, cond, eqb, length, List, Option, None, Some, Result, Ok, Err, inl, inr, refl, sym, ap, subst, arith, codes}
 use Rattle.tcc_graph.specs.declared.level.Level.{Level}
 use Rattle.tcc_graph.specs.declared.level.Level.TheVariants.{Causal, Atomic}
 use Rattle.tcc_cert.specs.declared.ranges.TheConstants.{MAX_HEADER_BYTES}
@@ -7,23 +7,21 @@ use Rattle.tcc_cert.specs.declared.version.Version.{Version}
 use Rattle.tcc_cert.specs.declared.fault.CertFault.{CertFault}
 use Rattle.tcc_cert.specs.declared.fault.CertFaultKind.TheVariants.{Trailing}
 use Rattle.tcc_cert.specs.declared.part.Part.{Part}
-use Rattle.tcc_cert.specs.declared.part.Part.TheVariants as part
 use Rattle.tcc_cert.specs.declared.reading.forms.Sizes.{Sizes}
 use Rattle.tcc_cert.specs.declared.reading.forms.Sizes.TheVariants.{Order, Cycle}
 use Rattle.tcc_cert.specs.declared.reading.input.Input.{Input}
 use Rattle.tcc_cert.specs.declared.reading.shape.TableShape.{TableShape}
 use Rattle.tcc_cert.specs.declared.reading.shape.TableShape.TheVariants as shape
 use Rattle.tcc_cert.specs.declared.reading.stages.Phase.{Phase}
-use Rattle.tcc_cert.specs.declared.reading.stages.Phase.TheVariants as phase
 use Rattle.tcc_cert.specs.declared.reading.stages.Stage.{Stage}
 use Rattle.tcc_cert.specs.declared.reading.stages.Stage.TheVariants as stage
 use Rattle.tcc_cert.specs.Ranges.{ranges_of}
 use Rattle.tcc_cert.specs.Inputs.{Ends, HasFailed}
 use Rattle.tcc_cert.specs.Outcomes.{Faults}
 use Rattle.tcc_cert.specs.Parts.{◌>>>◌, FaultsIn, IsFirst, Parts, after_part, claim_parts, end_parts, ending, far_parts, far_rows, order_rest, parts_behind, rows_then, whole_parts}
-use Rattle.tcc_cert.specs.Shapes.{behind_table, columns_in, height, most_in, part_of, rows_from, table_parts, table_rows, word_before}
+use Rattle.tcc_cert.specs.Shapes.{behind_table, columns_in, height, most_in, part_of, table_parts, table_rows, word_before}
 use Rattle.tcc_cert.specs.Reading.{Place, Reads, header_line, link_at, next, numbers_line, repeated, sizes_line, word_line, words}
-use Rattle.tcc_cert.specs.Stages.{IsBehind, IsRowStep, TakesStep}
+use Rattle.tcc_cert.specs.Stages.{IsBehind, TakesStep}
 use Rattle.tcc_cert.proofs.OnwardFacts.{IsOnward, onward-links, onward-next, onward-words}
 use Rattle.tcc_cert.proofs.StepFacts.{onward-at, some-left}
 

@@ -1,13 +1,12 @@
 -- Parts of a text read one after the other, where a reader may fail and memory may be refused.
 use Rattle.std.proofs.Common.{◌≡◌, ℕ, suc, ◌+◌, ◌-◌, ◌<◌, ◌≤◌, ◌≢◌, false, eqb, length, List, [], ◌∷◌, ◌++◌, Option, Result, Ok, Err, inl, inr, refl, sym, ap, subst, ◌∙◌, arith, append_assoc, append-nil}
 use Rattle.std.proofs.lemmas.Bool.Decides.{nat_tests}
-use Rattle.tcc_cert.specs.declared.certificate.Certificate.{Certificate}
 use Rattle.tcc_cert.specs.declared.fault.CertFault.{CertFault}
 use Rattle.tcc_cert.specs.declared.fault.CertFaultKind.{CertFaultKind}
 use Rattle.tcc_cert.specs.declared.reading.input.Input.{Input}
-use Rattle.tcc_cert.specs.Inputs.{HasFailed, line_in, TakesLine, Gives, Ends}
-use Rattle.tcc_cert.specs.Outcomes.{IsFailure, Shows, at_line, reached, Faults, IsReading, IsReadingWhere}
-use Rattle.tcc_cert.specs.Reading.{◌>>=◌, Place, Reads, behind, next, numbered, certificate_at, certificate_read, start_of}
+use Rattle.tcc_cert.specs.Inputs.{line_in, TakesLine, Gives}
+use Rattle.tcc_cert.specs.Outcomes.{IsFailure, Shows, at_line, reached, Faults}
+use Rattle.tcc_cert.specs.Reading.{◌>>=◌, Place, Reads, behind, next, numbered}
 use Rattle.tcc_cert.proofs.OnwardFacts.{IsOnward, onward-then, onward-ok, onward-next, onward-numbered}
 
 -- the first part had a fault
@@ -106,38 +105,8 @@ line-shows remaining most at number form (Err kind) new taken (inl shows) = inl 
 line-shows remaining most at number form (Err kind) new taken (inr refused) =
     inr (record { failure = inr refused; first = omega (arith, taken.1); last = omega (arith, taken.1, (onward-next most form at).onward) })
 
--- what comes of a part comes of the whole that it ends
-pub later-gives : {R A B : Type 0} (remaining : R → Option (List ℕ)) (at : Place) {after : Place} {x : A} (read : Reads A) (go : A × Place → Reads B) (result : Result B CertFault) (new : Input R) → read ≡ Ok (x, after) → at.line ≤ after.line
-    → Gives remaining after (go (x, after)) result new → Gives remaining at (read >>= go) result new
-later-gives remaining at read go (Ok y) new is on gives = (gives.0, rw is gives.1, gives.2)
-later-gives remaining at read go (Err fault) new is on faults = later-faults read go fault is on faults
-
--- ---- the whole text
-
-pub whole-faults : {F : Type 0} (bytes : List ℕ) (fault : CertFault) → Faults F (start_of bytes) (certificate_at (start_of bytes)) fault → IsReadingWhere F bytes (Err fault)
-whole-faults bytes fault (inl is) = inl (rw is refl)
-whole-faults bytes fault (inr stopped) = inr stopped
-
-pub whole-ended : {R : Type 0} (bytes : List ℕ) (certificate : Certificate) (after : Place) (done : Unit {0}) (new : Input R) → certificate_at (start_of bytes) ≡ Ok (certificate, after) → Ends after (Ok done) new
-    → certificate_read bytes ≡ Ok certificate
-whole-ended bytes certificate after done new is none = rw (is, none) refl
+-- ---- the end of the text
 
 pub some-left : (bytes : List ℕ) → bytes ≢ [] → eqb (length bytes) 0 ≡ false
 some-left [] some = absurd (some refl)
 some-left (byte ∷ bytes) some = grind (arith, nat_tests)
-
-pub whole-followed : {R : Type 0} (bytes : List ℕ) (certificate : Certificate) (after : Place) (fault : CertFault) (new : Input R) → certificate_at (start_of bytes) ≡ Ok (certificate, after) → 1 ≤ after.line → Ends after (Err fault) new
-    → IsReadingWhere (HasFailed new) bytes (Err fault)
-whole-followed bytes certificate after fault new is on (line, inl more) = inl (rw (is, some-left after.bytes more.1, ← line, ← more.0) refl)
-whole-followed bytes certificate after fault new is on (line, inr failed) =
-    inr (record { failure = inl failed; first = omega (arith, line, on); last = omega (arith, line, ap reached is) })
-
--- whether the reader failed is out of sight
-pub reading-told : (F : Type 0) (bytes : List ℕ) (result : Result Certificate CertFault) → IsReadingWhere F bytes result → IsReading bytes result
-reading-told F bytes (Ok certificate) is = is
-reading-told F bytes (Err fault) (inl is) = inl is
-reading-told F bytes (Err fault) (inr stopped) = inr (record { failure = told fault.kind stopped.failure; first = stopped.first; last = stopped.last })
-  where
-    told : (kind : CertFaultKind) → IsFailure F kind → IsFailure (Unit {0}) kind
-    told kind (inl read) = inl (read.0, tt)
-    told kind (inr memory) = inr memory

@@ -1,5 +1,5 @@
 -- The parts of a text collected. For the private stages and their proofs alone: nobody has to believe what stands here.
-use Rattle.std.specs.Prelude.{ℕ, ◌≡◌, ◌≤◌, ◌<◌, ◌⊎◌, List, [], ◌∷◌, Option, None, Some, Result, Ok, Err}
+use Rattle.std.specs.Prelude.{ℕ, ◌≡◌, ◌≤◌, ◌<◌, ◌⊎◌, List, [], ◌∷◌, ◌++◌, None, Some, Result, Ok, Err}
 use Rattle.tcc_cert.specs.declared.fault.CertFault.{CertFault}
 use Rattle.tcc_cert.specs.declared.part.Part.{Part}
 use Rattle.tcc_cert.specs.declared.part.Part.TheVariants as part
@@ -24,6 +24,12 @@ abbrev pub far_in : List Part → List (List ℕ)
 far_in [] = []
 far_in (part.Far row ∷ parts) = row ∷ far_in parts
 far_in (_ ∷ parts) = far_in parts
+
+-- one row more where the part is one
+pub record HasRow (given : Part) (old new : Tables) : Type 0 where
+  pub clocks : new.clocks.items ≡ old.clocks.items ++ clocks_in (given ∷ [])
+  pub near : new.near.items ≡ old.near.items ++ near_in (given ∷ [])
+  pub far : new.far.items ≡ old.far.items ++ far_in (given ∷ [])
 
 -- the reader failed or memory was refused, no later than the line at which the reading would have ended
 pub record IsCutIn (ahead : Parts) (fault : CertFault) : Type 0 where

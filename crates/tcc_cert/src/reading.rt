@@ -1,12 +1,12 @@
 //! How a certificate's text is read.
 ghost use Rattle.std.specs.Prelude.{◌≡◌, ◌<◌, ◌++◌, ◌∷◌, ℕ, [], IfErr, IfSome, List, OnOk, false, true};
 ghost use Rattle.tcc_cert.specs.Ahead.{IsAhead, is_new, line_wanted};
-ghost use Rattle.tcc_cert.specs.Collecting.{Collects};
+ghost use Rattle.tcc_cert.specs.Collecting.{Collects, HasRow};
 ghost use Rattle.tcc_cert.specs.Inputs.{Gives, IsAt};
 ghost use Rattle.tcc_cert.specs.declared.ranges.TheConstants.{MAX_HEADER_BYTES};
 ghost use Rattle.tcc_cert.specs.Outcomes.{IsReading, Shows};
 ghost use Rattle.tcc_cert.specs.Parts.{Parts, parts_read};
-ghost use Rattle.tcc_cert.specs.Reading.{Place, header_line, next, sizes_line, word_line, words, words_of};
+ghost use Rattle.tcc_cert.specs.Reading.{Place, header_line, next, word_line, words, words_of};
 
 mod decimals;
 mod forms;
@@ -22,7 +22,6 @@ mod words;
 
 use crate::ranges::MAX_HEADER_BYTES;
 use crate::{CertFault, CertFaultKind, Certificate, Numbers, Part, Table, Version};
-use forms::{Sizes, sizes_line};
 use input::{Input, at_line};
 pub use parts::CertReader;
 use std::alloc::Global;
@@ -85,22 +84,6 @@ fn header<R: Read>(input: &mut Input<R>) -> Result<(Version, Level), CertFault>
     at_line(line, header_line(input.line()))
 }
 
-/// How long the parts of a claim are, as a line says it.
-fn sizes_of(alloc: Global, version: Version, line: &[u8]) -> Result<Sizes, CertFaultKind>
-    ensures { Shows result (sizes_line version (words_of line.now)) }
-{
-    let words = words_of(alloc, line)?;
-    sizes_line(version, words.as_slice())
-}
-
-/// The next line, which says how long the parts of a claim are.
-fn sizes<R: Read>(alloc: Global, input: &mut Input<R>, version: Version) -> Result<Sizes, CertFault>
-    ensures { (at : Place) → IsAt R.remaining input.old at → Gives R.remaining at (words version (sizes_line version) at) result input.new }
-{
-    let line = input.next_of(version)?;
-    at_line(line, sizes_of(alloc, version, input.line()))
-}
-
 /// The rows of the tables that a claim has.
 #[derive(Drop)]
 struct Tables {
@@ -110,7 +93,7 @@ struct Tables {
 }
 
 /// One row more of a table.
-fn keep<R: Read>(
+fn push<R: Read>(
     parts: &CertReader<R>,
     table: &mut Vec<Numbers>,
     row: Numbers,
@@ -125,22 +108,36 @@ fn keep<R: Read>(
     }
 }
 
+/// One row more of the table that the part is of. A claim and the end are of none.
+fn keep<R: Read>(parts: &CertReader<R>, tables: &mut Tables, part: Part) -> Result<(), CertFault>
+    ensures kept { OnOk result (HasRow part tables.old tables.new) }
+    ensures refused { IfErr result (λ fault. fault ≡ record { line = line_wanted parts.now; kind = CertFaultKind.NoMemory }) }
+    ensures counted { IfErr result (λ fault. 0 < fault.line) }
+{
+    match part {
+        Part::Clocks(row) => push(parts, &mut tables.clocks, row),
+        Part::Near(row) => push(parts, &mut tables.near, row),
+        Part::Far(row) => push(parts, &mut tables.far, row),
+        Part::Order { .. } | Part::Cycle { .. } | Part::End => Ok(()),
+    }
+}
+
 /// The rows that come behind the claim.
 fn collect<R: Read>(alloc: Global, parts: &mut CertReader<R>) -> Result<Tables, CertFault>
     requires { is_new parts.old ≡ false }
     ensures { (ahead : Parts) → IsAhead R.remaining parts.old ahead → Collects ahead result }
 {
-    let mut clocks = Vec::new(alloc);
-    let mut near = Vec::new(alloc);
-    let mut far = Vec::new(alloc);
+    let mut tables = Tables {
+        clocks: Vec::new(alloc),
+        near: Vec::new(alloc),
+        far: Vec::new(alloc),
+    };
     'parts: loop {
-        match parts.next(alloc)? {
-            Part::Clocks(row) => keep(parts, &mut clocks, row)?,
-            Part::Near(row) => keep(parts, &mut near, row)?,
-            Part::Far(row) => keep(parts, &mut far, row)?,
-            Part::End => return Ok(Tables { clocks, near, far }),
-            Part::Order { .. } | Part::Cycle { .. } => unreachable!(),
+        let part = parts.next(alloc)?;
+        if let Part::End = part {
+            return Ok(tables);
         }
+        keep(parts, &mut tables, part)?;
     }
 }
 

@@ -3,6 +3,7 @@ ghost use Rattle.std.specs.Prelude.{◌≡◌, map};
 ghost use Rattle.tcc_cert.specs.Reading.{count_of, cycle_sizes, derived_of, five_words, head_line, head_of_step, key_of, order_sizes, reads_of, session_of, sizes_line, step_line, three_words, transaction_of, two_words};
 
 use super::decimals::number_of;
+use super::words::WordLine;
 use crate::ranges::ranges_of;
 use crate::{CertFaultKind, Version};
 use std::alloc::Global;
@@ -94,19 +95,20 @@ fn reads_fields(version: Version, fields: &[&[u8]]) -> Result<Step, CertFaultKin
     }
 }
 
-/// The line of a step.
-pub(crate) fn step_line(version: Version, words: &[&[u8]]) -> Result<Step, CertFaultKind>
-    ensures { result ≡ step_line version (map (λ word. word.now) words.now) }
-{
-    let Some((word, fields)) = words.split_first() else {
-        return Err(CertFaultKind::Word);
-    };
-    if *word == b"S".as_slice() {
-        session_fields(version, fields)
-    } else if *word == b"R".as_slice() {
-        reads_fields(version, fields)
-    } else {
-        Err(CertFaultKind::Word)
+impl WordLine for Step {
+    ghost form = { step_line };
+
+    fn of_words(_alloc: Global, version: Version, words: &[&[u8]]) -> Result<Step, CertFaultKind> {
+        let Some((word, fields)) = words.split_first() else {
+            return Err(CertFaultKind::Word);
+        };
+        if *word == b"S".as_slice() {
+            session_fields(version, fields)
+        } else if *word == b"R".as_slice() {
+            reads_fields(version, fields)
+        } else {
+            Err(CertFaultKind::Word)
+        }
     }
 }
 
@@ -156,21 +158,18 @@ fn head_of_step(step: Step) -> Head
     Head { link, steps: 0 }
 }
 
-/// The line that a link begins with.
-pub(crate) fn head_line(
-    alloc: Global,
-    version: Version,
-    words: &[&[u8]],
-) -> Result<Head, CertFaultKind>
-    ensures { result ≡ head_line version (map (λ word. word.now) words.now) }
-{
-    let Some((word, fields)) = words.split_first() else {
-        return Err(CertFaultKind::Word);
-    };
-    if *word == b"D".as_slice() {
-        derived_fields(alloc, version, fields)
-    } else {
-        Ok(head_of_step(step_line(version, words)?))
+impl WordLine for Head {
+    ghost form = { head_line };
+
+    fn of_words(alloc: Global, version: Version, words: &[&[u8]]) -> Result<Head, CertFaultKind> {
+        let Some((word, fields)) = words.split_first() else {
+            return Err(CertFaultKind::Word);
+        };
+        if *word == b"D".as_slice() {
+            derived_fields(alloc, version, fields)
+        } else {
+            Ok(head_of_step(Step::of_words(alloc, version, words)?))
+        }
     }
 }
 
@@ -224,18 +223,19 @@ fn cycle_fields(version: Version, fields: &[&[u8]]) -> Result<Sizes, CertFaultKi
     }
 }
 
-/// The line that says how long the parts of a claim are.
-pub(crate) fn sizes_line(version: Version, words: &[&[u8]]) -> Result<Sizes, CertFaultKind>
-    ensures { result ≡ sizes_line version (map (λ word. word.now) words.now) }
-{
-    let Some((word, fields)) = words.split_first() else {
-        return Err(CertFaultKind::Word);
-    };
-    if *word == b"order".as_slice() {
-        order_fields(version, fields)
-    } else if *word == b"cycle".as_slice() {
-        cycle_fields(version, fields)
-    } else {
-        Err(CertFaultKind::Word)
+impl WordLine for Sizes {
+    ghost form = { sizes_line };
+
+    fn of_words(_alloc: Global, version: Version, words: &[&[u8]]) -> Result<Sizes, CertFaultKind> {
+        let Some((word, fields)) = words.split_first() else {
+            return Err(CertFaultKind::Word);
+        };
+        if *word == b"order".as_slice() {
+            order_fields(version, fields)
+        } else if *word == b"cycle".as_slice() {
+            cycle_fields(version, fields)
+        } else {
+            Err(CertFaultKind::Word)
+        }
     }
 }

@@ -1,32 +1,15 @@
 //! The lines of links and of the steps of their walks.
 ghost use Rattle.std.specs.Prelude.{◌≡◌};
 ghost use Rattle.tcc_cert.specs.Inputs.{Gives, IsAt};
-ghost use Rattle.tcc_cert.specs.Outcomes.{Shows};
-ghost use Rattle.tcc_cert.specs.Reading.{Place, head_line, link_at, repeated, step_line, with_walk, words, words_of};
+ghost use Rattle.tcc_cert.specs.Reading.{Place, link_at, repeated, step_line, with_walk, words};
 
-use super::forms::{Head, head_line, step_line};
-use super::input::{Input, at_line};
-use super::words::words_of;
+use super::forms::Head;
+use super::input::Input;
+use super::words::next_line;
 use crate::{CertFault, CertFaultKind, Links, Version};
 use std::alloc::Global;
 use std::io::Read;
 use tcc_graph::{Link, Step, Walk};
-
-/// The step that a line is.
-fn step_of(alloc: Global, version: Version, line: &[u8]) -> Result<Step, CertFaultKind>
-    ensures { Shows result (step_line version (words_of line.now)) }
-{
-    let words = words_of(alloc, line)?;
-    step_line(version, words.as_slice())
-}
-
-/// The next line, a step.
-fn step<R: Read>(alloc: Global, input: &mut Input<R>, version: Version) -> Result<Step, CertFault>
-    ensures { (at : Place) → IsAt R.remaining input.old at → Gives R.remaining at (words version (step_line version) at) result input.new }
-{
-    let line = input.next_of(version)?;
-    at_line(line, step_of(alloc, version, input.line()))
-}
 
 /// The next lines, so many steps.
 fn walk<R: Read>(
@@ -39,29 +22,13 @@ fn walk<R: Read>(
 {
     let mut steps = Vec::new(alloc);
     'lines: for _ in 0..count {
-        let one = step(alloc, input, version)?;
+        let one = next_line::<Step, R>(alloc, input, version)?;
         match steps.push(one) {
             Ok(()) => {}
             Err(_) => return Err(input.fault(CertFaultKind::NoMemory)),
         }
     }
     Ok(Walk::new(steps))
-}
-
-/// What a link's first line says.
-fn head_of(alloc: Global, version: Version, line: &[u8]) -> Result<Head, CertFaultKind>
-    ensures { Shows result (head_line version (words_of line.now)) }
-{
-    let words = words_of(alloc, line)?;
-    head_line(alloc, version, words.as_slice())
-}
-
-/// The next line, the first of a link.
-fn head<R: Read>(alloc: Global, input: &mut Input<R>, version: Version) -> Result<Head, CertFault>
-    ensures { (at : Place) → IsAt R.remaining input.old at → Gives R.remaining at (words version (head_line version) at) result input.new }
-{
-    let line = input.next_of(version)?;
-    at_line(line, head_of(alloc, version, input.line()))
 }
 
 /// The link with these steps, if it is derived.
@@ -91,7 +58,7 @@ fn with_walk(link: Link, walk: Walk) -> Link
 fn link<R: Read>(alloc: Global, input: &mut Input<R>, version: Version) -> Result<Link, CertFault>
     ensures { (at : Place) → IsAt R.remaining input.old at → Gives R.remaining at (link_at version at) result input.new }
 {
-    let head = head(alloc, input, version)?;
+    let head = next_line::<Head, R>(alloc, input, version)?;
     let walk = walk(alloc, input, version, head.steps)?;
     Ok(with_walk(head.link, walk))
 }

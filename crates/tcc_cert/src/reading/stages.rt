@@ -11,7 +11,8 @@ use super::input::Input;
 use super::links::links;
 use super::rows::row;
 use super::shape::TableShape;
-use super::{header, mark, sizes};
+use super::words::next_line;
+use super::{header, mark};
 use crate::ranges::ranges_of;
 use crate::{CertFault, Part, Version};
 use std::alloc::Global;
@@ -235,7 +236,7 @@ fn claim<R: Read>(
     ensures step { (at : Place) → IsAt R.remaining input.old at → TakesStep R.remaining at.line (parts_behind ((version, level), at)) result input.new }
     ensures claim { IfOk result IsClaimStep }
 {
-    match sizes(alloc, input, version)? {
+    match next_line::<Sizes, R>(alloc, input, version)? {
         Sizes::Order {
             transactions,
             sessions,

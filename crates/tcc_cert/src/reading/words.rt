@@ -1,8 +1,26 @@
-//! The words of a line.
-ghost use Rattle.std.specs.Prelude.{◌≡◌, map, IfOk};
-ghost use Rattle.tcc_cert.specs.Reading.{words_of};
+//! The lines of words, each judged by the form of what it has to say.
+ghost use Rattle.std.specs.Prelude.{◌≡◌, map, IfOk, Result};
+ghost use Rattle.tcc_cert.specs.Inputs.{Gives, IsAt};
+ghost use Rattle.tcc_cert.specs.Outcomes.{Shows};
+ghost use Rattle.tcc_cert.specs.Reading.{Place, words, words_of};
 
+use super::input::{Input, at_line};
+use crate::{CertFault, CertFaultKind, Version};
 use std::alloc::{AllocError, Global};
+use std::io::Read;
+
+/// What a line of words says.
+pub(crate) trait WordLine: Drop {
+    ghost use Rattle.tcc_cert.specs.declared.fault.CertFaultKind.{CertFaultKind};
+    ghost use Rattle.tcc_cert.specs.declared.version.Version.{Version};
+    ghost use Rattle.tcc_cert.specs.Texts.{Words};
+
+    ghost form: { Version → Words → Result Self CertFaultKind };
+
+    /// What these words say.
+    fn of_words(alloc: Global, version: Version, words: &[&[u8]]) -> Result<Self, CertFaultKind>
+        ensures { result ≡ form version (map (λ word. word.now) words.now) };
+}
 
 /// What stands between the spaces of a line.
 pub(crate) fn words_of(alloc: Global, line: &[u8]) -> Result<Vec<&[u8]>, AllocError>
@@ -12,4 +30,24 @@ pub(crate) fn words_of(alloc: Global, line: &[u8]) -> Result<Vec<&[u8]>, AllocEr
         return Ok(Vec::new(alloc));
     }
     line.split(|byte| *byte == b' ').collect(alloc)
+}
+
+/// What a line says.
+fn line_of<L: WordLine>(alloc: Global, version: Version, line: &[u8]) -> Result<L, CertFaultKind>
+    ensures { Shows result (L.form version (words_of line.now)) }
+{
+    let words = words_of(alloc, line)?;
+    L::of_words(alloc, version, words.as_slice())
+}
+
+/// What the next line says.
+pub(crate) fn next_line<L: WordLine, R: Read>(
+    alloc: Global,
+    input: &mut Input<R>,
+    version: Version,
+) -> Result<L, CertFault>
+    ensures { (at : Place) → IsAt R.remaining input.old at → Gives R.remaining at (words version (L.form version) at) result input.new }
+{
+    let line = input.next_of(version)?;
+    at_line(line, line_of(alloc, version, input.line()))
 }

@@ -1,6 +1,5 @@
 -- The lines before the rows go out, then the rows, and the end.
-use Rattle.std.proofs.Common.{rules, ◌≡◌, [], ◌∷◌, refl, length, take}
-use Rattle.std.proofs.lemmas.Result.{on_ok_weaker, on_err_weaker}
+use Rattle.std.proofs.Common.{rules, ◌≡◌, [], refl, length}
 use Rattle.tcc_cert.specs.CycleRules.{CycleClaim}
 use Rattle.tcc_cert.proofs.SentFacts.{on_err, Appends-part}
 use Rattle.tcc_cert.proofs.GivenTexts.{part_begun, part_given, part_before_far}

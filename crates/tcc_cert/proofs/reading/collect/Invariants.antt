@@ -10,7 +10,7 @@ invariant-parts g l =
     record {
       begun : is_new l.parts ≡ false;
       rows : (ahead : Parts) → IsAhead g.R.Read.remaining l.initial.parts ahead
-          → (rest : Parts) × IsKept l.clocks.items l.near.items l.far.items ahead rest × IsAhead g.R.Read.remaining l.parts rest;
+          → (rest : Parts) × IsKept l.tables.clocks.items l.tables.near.items l.tables.far.items ahead rest × IsAhead g.R.Read.remaining l.parts rest;
     }
 
 abbrev pub decreases-parts : goal.decreases-parts

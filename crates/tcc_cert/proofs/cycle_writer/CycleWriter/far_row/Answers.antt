@@ -1,5 +1,5 @@
 -- The row's line goes out behind what was given, and behind the mark if it is the first.
-use Rattle.std.proofs.Common.{Err, sym, ◌∙◌}
+use Rattle.std.proofs.Common.{Err, ◌∙◌}
 use Rattle.std.proofs.lemmas.Result.{on_ok_weaker}
 use Rattle.tcc_cert.proofs.SentFacts.{IsSent-then, Stops-early}
 use Rattle.tcc_cert.proofs.GivenFacts.{noted, works, far_whole, far_part}

@@ -1,6 +1,4 @@
 -- The row's line goes out behind what was given.
-use Rattle.tcc_cert.specs.Writing.{IsSent}
-use Rattle.tcc_cert.specs.Texts.{line_text, numbers_words}
 use Rattle.tcc_cert.proofs.GivenFacts.{noted, near_whole, near_part}
 use Rattle.tcc_cert.proofs.cycle_writer.CycleWriter.near_row.Goals as goal
 

@@ -1,5 +1,5 @@
 -- Row after row is given.
-use Rattle.std.proofs.Common.{◌∙◌, ◌+◌, ap, subst, take}
+use Rattle.std.proofs.Common.{◌∙◌, subst, take}
 use Rattle.std.proofs.lemmas.List.{take_all}
 use Rattle.tcc_cert.specs.Texts.{lines_text}
 use Rattle.tcc_cert.specs.Begun.{given_lines}

@@ -1,7 +1,7 @@
 -- The line was read, and something stands behind it.
 use Rattle.std.proofs.lemmas.Result.{err_from_is_err_and}
 use Rattle.std.proofs.Common.{codes}
-use Rattle.tcc_cert.specs.Reading.{word_line, words}
+use Rattle.tcc_cert.specs.Reading.{word_line}
 use Rattle.tcc_cert.proofs.OnwardFacts.{onward-words}
 use Rattle.tcc_cert.proofs.StepFacts.{onward-at}
 use Rattle.tcc_cert.proofs.StageFacts.{end-faults}
