@@ -16,6 +16,19 @@ pub record IsNearest (s : ℕ) (row : List (Option ℕ)) (costs : List ℕ) (v :
   pub reached : slice_index costs v < NO_WAY
   pub nearest : (u : ℕ) → s ≤ u → u < length row → in_row row u ≡ None → slice_index costs v ≤ slice_index costs u
 
+-- v, a number from this one upward, stands outside the row at this cost
+pub record IsOutsideAt (from : ℕ) (cost : ℕ) (row : List (Option ℕ)) (costs : List ℕ) (v : ℕ) : Type 0 where
+  pub upward : from ≤ v
+  pub below : v < length row
+  pub outside : in_row row v ≡ None
+  pub same : slice_index costs v ≡ cost
+
+-- nothing outside the row from s upward costs less than the floor, and the place where to look next is not below s
+pub record IsFloor (s : ℕ) (place : ℕ) (floor : ℕ) (row : List (Option ℕ)) (costs : List ℕ) : Type 0 where
+  pub upward : s ≤ place
+  pub some : floor < NO_WAY
+  pub least : (v : ℕ) → s ≤ v → v < length row → in_row row v ≡ None → floor ≤ slice_index costs v
+
 -- what a way costs that leads on by a link, of a table of links' costs
 abbrev pub way_by : ℕ → ℕ → ℕ
 way_by so_far link = if link == NONE then NO_WAY else (so_far + link)

@@ -1,5 +1,5 @@
 //! Seeds and renewed searches, worked out by hand.
-use crate::seed;
+use crate::{Search, Settled, seed};
 use std::alloc::Global;
 use std::process::Abort;
 use std::thread::Threads;
@@ -68,5 +68,57 @@ fn seeds(rt: HostRuntime) {
     for (records, causal, atomic) in cases {
         assert_seed(&rt, alloc, records, Level::Causal, causal);
         assert_seed(&rt, alloc, records, Level::Atomic, atomic);
+    }
+}
+
+/// A search that was taken to its end is renewed for each start in turn, and settles as one that begins there: from
+/// `init` the start returns at 3, from a/1 upward nothing comes back, and from a/2 nothing leads on.
+#[test]
+fn renewed(rt: HostRuntime) {
+    let alloc = rt.alloc();
+    let Some(graph) = graph_of(alloc, STALE_READ) else {
+        panic!(rt; "no graph");
+    };
+    let Ok(near) = near(&rt, alloc, &graph, Level::Causal) else {
+        panic!(rt; "no memory");
+    };
+    let Ok(prices) = derive(&rt, alloc, &graph, &near) else {
+        panic!(rt; "no memory");
+    };
+    assert!(rt; prices.count() == 3);
+    let Ok(mut search) = Search::begin(alloc, &prices, 2) else {
+        panic!(rt; "no memory");
+    };
+    let cases: [(u32, u32, Settled, &[Option<u32>]); 4] = [
+        (0, 2, Settled::Returned(3), &[Some(3), Some(1), Some(1)]),
+        (2, 0, Settled::Cut(9), &[None]),
+        (1, 1, Settled::Cut(9), &[None, Some(1)]),
+        (0, 2, Settled::Returned(3), &[Some(3), Some(1), Some(1)]),
+    ];
+    for (start, more, last, row) in cases {
+        assert!(rt; start < prices.count());
+        assert_eq!(rt;
+            search.row().len() + search.start() as usize,
+            prices.count() as usize
+        );
+        search.renew(&prices, start);
+        assert!(rt; search.start() == start, "at {start}");
+        assert!(rt;
+            search.row().iter().all(|distance| distance.is_none()),
+            "at {start}"
+        );
+        for _step in 0..more {
+            assert_eq!(rt;
+                search.row().len() + search.start() as usize,
+                prices.count() as usize
+            );
+            assert!(rt; search.settle(&prices, 9) == Settled::More, "at {start}");
+        }
+        assert_eq!(rt;
+            search.row().len() + search.start() as usize,
+            prices.count() as usize
+        );
+        assert!(rt; search.settle(&prices, 9) == last, "at {start}");
+        assert!(rt; search.row() == row, "at {start}");
     }
 }

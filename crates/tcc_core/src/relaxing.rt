@@ -1,7 +1,7 @@
 //! The frontier of a search: what the ways to the transactions outside its row cost. Nothing below the start is looked at.
 ghost use Rattle.std.specs.Prelude.{◌≡◌, ◌<◌, ◌≤◌, ◌^◌, ℕ, length, slice_index, All, IfNone, IfSome};
-ghost use Rattle.tcc_core.specs.Rows.{in_row};
-ghost use Rattle.tcc_core.specs.Relaxing.{IsNearest, way_by, lesser};
+ghost use Rattle.tcc_core.specs.Rows.{in_row, IsEmptyRow};
+ghost use Rattle.tcc_core.specs.Relaxing.{IsNearest, IsOutsideAt, IsFloor, way_by, lesser};
 ghost use Rattle.tcc_txn.specs.declared.limits.TheConstants.{MAX_COUNT};
 ghost use Rattle.tcc_near.specs.declared.distances.TheConstants.{NONE};
 ghost use Rattle.tcc_core.specs.declared.relaxing.TheConstants.{NO_WAY};
@@ -13,7 +13,7 @@ pub(crate) const NO_WAY: u32 = u32::MAX;
 
 /// One of the nearest of the transactions from the start upward that stand outside the row; none where no way leads to
 /// any of them.
-pub(crate) fn nearest(start: u32, row: &[Option<u32>], costs: &[u32]) -> Option<u32>
+fn nearest(start: u32, row: &[Option<u32>], costs: &[u32]) -> Option<u32>
     requires long { length costs.now ≡ length row.now }
     requires few { length row.now ≤ MAX_COUNT }
     ensures found { IfSome result (IsNearest start row.now costs.now) }
@@ -29,6 +29,62 @@ pub(crate) fn nearest(start: u32, row: &[Option<u32>], costs: &[u32]) -> Option<
         }
     }
     found
+}
+
+/// The first transaction from this one upward that stands outside the row at this cost.
+fn first_at(from: u32, cost: u32, row: &[Option<u32>], costs: &[u32]) -> Option<u32>
+    requires long { length costs.now ≡ length row.now }
+    requires few { length row.now ≤ MAX_COUNT }
+    ensures { IfSome result (IsOutsideAt from cost row.now costs.now) }
+{
+    for v in from as usize..costs.len() {
+        if costs[v] == cost && row[v].is_none() {
+            return Some(v as u32);
+        }
+    }
+    None
+}
+
+/// What `nearest` answers, where nothing outside the row from the start upward costs less than the floor: most often a
+/// transaction from a place on costs just that, and then the others need not be looked at.
+#[tactic(auto, using(crate::proofs::Floor::nearest_at))]
+pub(crate) fn nearest_from(
+    start: u32,
+    place: u32,
+    floor: u32,
+    row: &[Option<u32>],
+    costs: &[u32],
+) -> Option<u32>
+    requires long { length costs.now ≡ length row.now }
+    requires few { length row.now ≤ MAX_COUNT }
+    requires floor { IsFloor start place floor row.now costs.now }
+    ensures found { IfSome result (IsNearest start row.now costs.now) }
+    ensures none { IfNone result ((v : ℕ) → start ≤ v → v < length row.now → in_row row.now v ≡ None
+        → slice_index costs.now v ≡ NO_WAY) }
+{
+    match first_at(place, floor, row, costs) {
+        Some(found) => Some(found),
+        None => nearest(start, row, costs),
+    }
+}
+
+/// Takes all transactions out of the row.
+pub(crate) fn empty(row: &mut [Option<u32>])
+    ensures { IsEmptyRow (length row.old) row.new }
+{
+    for v in 0..row.len() {
+        row[v] = None;
+    }
+}
+
+/// Takes all ways away.
+pub(crate) fn forget(costs: &mut [u32])
+    ensures long { length costs.new ≡ length costs.old }
+    ensures none { (v : ℕ) → v < length costs.old → slice_index costs.new v ≡ NO_WAY }
+{
+    for v in 0..costs.len() {
+        costs[v] = NO_WAY;
+    }
 }
 
 /// What a way costs that leads on by one link; `NO_WAY` where there is no link.

@@ -6,7 +6,7 @@ ghost use Rattle.tcc_txn.specs.declared.limits.TheConstants.{MAX_COUNT};
 ghost use Rattle.tcc_graph.specs.Tables.{row_of};
 
 use crate::Settled;
-use crate::relaxing::{NO_WAY, nearest, relax};
+use crate::relaxing::{NO_WAY, empty, forget, nearest_from, relax};
 use std::alloc::Global;
 use std::marker::Model;
 use tcc_derive::Prices;
@@ -19,17 +19,22 @@ pub struct Search {
     start: u32,
     row: Vec<Option<u32>>,
     costs: Vec<u32>,
+    /// No way to a transaction outside the row costs less.
+    floor: u32,
+    /// From this place on transactions outside the row are looked for that cost as much as the floor.
+    place: u32,
 }
 
 impl Model for Search {
-    ghost use Rattle.tcc_core.specs.Relaxing.{IsBounded};
+    ghost use Rattle.tcc_core.specs.Relaxing.{IsBounded, IsFloor};
     ghost use Rattle.tcc_core.specs.Searches as searches;
 
     ghost Value = { searches.Search };
 
     ghost view = { λ s. record { start = s.start; row = s.row.items; costs = s.costs.items } };
 
-    ghost invariant = { λ s. IsBounded (record { start = s.start; row = s.row.items; costs = s.costs.items }) };
+    ghost invariant = { λ s. IsBounded (record { start = s.start; row = s.row.items; costs = s.costs.items })
+        × IsFloor s.start s.place s.floor s.row.items s.costs.items };
 }
 
 impl Search {
@@ -48,7 +53,31 @@ impl Search {
         let mut costs = vec![in alloc; NO_WAY; count]?;
         relax(start, &mut costs, 0, prices.costs(start));
         let row = vec![in alloc; None; count]?;
-        Ok(Search { start, row, costs })
+        Ok(Search {
+            start,
+            row,
+            costs,
+            floor: 0,
+            place: count as u32,
+        })
+    }
+
+    /// Puts the search at the opening of another start, as `begin` does, whatever it was before. It takes no memory. The
+    /// prices are those that the search began with.
+    pub fn renew(&mut self, prices: &Prices, start: u32)
+        requires start { start < length prices.now.prices }
+        requires long { length self.old.row ≡ length prices.now.prices }
+        ensures start { self.new.start ≡ start }
+        ensures empty { IsEmptyRow (length prices.now.prices) self.new.row }
+        ensures search { (j : Judged) → IsPricesOf j prices.now → IsSearchOf j start self.new }
+    {
+        empty(&mut self.row);
+        let costs = self.costs.as_mut_slice();
+        forget(costs);
+        relax(start, costs, 0, prices.costs(start));
+        self.start = start;
+        self.floor = 0;
+        self.place = prices.count();
     }
 
     /// Takes one of the nearest transactions outside the row into it, if its distance is at most the cap. A cap of
@@ -61,7 +90,8 @@ impl Search {
         ensures settled { (j : Judged) (s : ℕ) → IsPricesOf j prices.now → IsSearchOf j s self.old
             → Settles j s cap self.old.row self.new.row result }
     {
-        let Some(next) = nearest(self.start, &self.row, &self.costs) else {
+        let Some(next) = nearest_from(self.start, self.place, self.floor, &self.row, &self.costs)
+        else {
             return Settled::Cut(cap);
         };
         let distance = self.costs[next as usize];
@@ -70,6 +100,8 @@ impl Search {
         }
         self.row[next as usize] = Some(distance);
         relax(self.start, &mut self.costs, distance, prices.costs(next));
+        self.floor = distance;
+        self.place = next + 1;
         if next == self.start {
             Settled::Returned(distance)
         } else {

@@ -27,7 +27,10 @@ invariant_of-result c =
     let same : length new ≡ length old = search rules in
     let long : c.in_ok-costs.costs.len ≡ length old = search rules in
     let lowered : IsLowered c.args.start old new 0 c.costs.result.now = record { long = same; each = rw c.deref_mut.ensures.value at c.relax.ensures.lowered; kept = rw c.deref_mut.ensures.value at c.relax.ensures.kept } in
-    rw (take_at new _ c.in_ok-costs.costs.len (same ∙ sym long)) (bounded_begun c.args.start n c.in_ok-row.row.items old new c.costs.result.now c.requires (omega (arith, c.costs.ensures.few, c.costs.ensures.long)) empty unspent.0 unspent.1 (fits c.costs.result.now c.relax.ensures.links) lowered)
+    rw (take_at new _ c.in_ok-costs.costs.len (same ∙ sym long)) (
+      bounded_begun c.args.start n c.in_ok-row.row.items old new c.costs.result.now c.requires (omega (arith, c.costs.ensures.few, c.costs.ensures.long)) empty unspent.0 unspent.1 (fits c.costs.result.now c.relax.ensures.links) lowered,
+      record { upward = omega (arith, c.requires, counted); some = omega arith; least = λ v up below out. omega arith },
+    )
 
 pub returns-clause-search : goal.returns-clause-search
 returns-clause-search c =
