@@ -76,6 +76,7 @@ AreThieves workers thieves = All (λ number. (0 < number) × (number < workers))
 
 -- what a thief of this deque begins with
 pub record IsJob (t : Tables) (id : BoundId) (deque : RowsId × Global) (job : Job) : Type 0 where
+  pub thief : 0 < job.worker.number
   pub seat : IsSeat t id job.worker.seat
   pub pass : IsPassOf deque job.pass
   pub taker : IsTaker (length t.prices) (view job.pass)
@@ -88,6 +89,10 @@ AreJobs t id deque workers jobs = All (λ job. IsJob t id deque job × (job.work
 pub record IsShare (t : Tables) (id : BoundId) (workers : ℕ) (share : Share) : Type 0 where
   pub seat : IsSeat t id share.seat
   pub searches : All (IsSearched t workers share.seat.known) share.searches.items
+
+-- they are searches of the worker with this number
+abbrev pub AreBy : ℕ → List Searched → Type 0
+AreBy number searches = All (λ e. e.worker ≡ number) searches
 
 -- what so many workers bring back, but for those that had no memory
 abbrev pub AreShares : Tables → BoundId → ℕ → List (Result Share NoMemory) → Type 0

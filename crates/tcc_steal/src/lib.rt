@@ -22,6 +22,3 @@ pub use crew::{AllStart, Crew};
 pub use found::Found;
 pub use gate::{Gate, OpenGate};
 pub use searching::{search, search_with};
-
-#[cfg(test)]
-mod tests;

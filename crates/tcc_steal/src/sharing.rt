@@ -3,7 +3,7 @@ ghost use Rattle.std.specs.Prelude.{◌≡◌, ◌<◌, length, IfOk};
 ghost use Rattle.crossbeam_deque.specs.Handles.{worker_flavor, worker_view, stealer_deque};
 ghost use Rattle.tcc_steal.specs.Dealing.{IsTaker};
 ghost use Rattle.tcc_steal.specs.Findings.{HasJudged};
-ghost use Rattle.tcc_steal.specs.Working.{IsSeat, IsJob, IsShare};
+ghost use Rattle.tcc_steal.specs.Working.{IsSeat, IsJob, IsShare, AreBy};
 
 use crate::Gate;
 use crate::bringing::Searched;
@@ -46,7 +46,8 @@ pub(crate) fn owners_share(
     requires taker { IsTaker (length prices.now.prices) (worker_view owner) }
     requires seat { IsSeat prices.now bound.now worker.seat }
     requires number { worker.number < _workers }
-    ensures { IfOk result (IsShare prices.now bound.now _workers) }
+    ensures share { IfOk result (IsShare prices.now bound.now _workers) }
+    ensures by { IfOk result (λ share. AreBy worker.number share.searches.items) }
 {
     let mut searches = Vec::new(alloc);
     for _ in 0..prices.count() {
@@ -75,7 +76,8 @@ pub(crate) fn thiefs_share(
     requires prices { HasJudged prices.now }
     requires job { IsJob prices.now bound.now (stealer_deque thief.now) job }
     requires number { job.worker.number < _workers }
-    ensures { IfOk result (IsShare prices.now bound.now _workers) }
+    ensures share { IfOk result (IsShare prices.now bound.now _workers) }
+    ensures by { IfOk result (λ share. AreBy job.worker.number share.searches.items) }
 {
     let Job {
         mut worker,

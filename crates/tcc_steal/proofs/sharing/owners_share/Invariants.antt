@@ -2,7 +2,7 @@
 use Rattle.std.proofs.Common.{◌≡◌, All, length}
 use Rattle.crossbeam_deque.specs.Handles.{worker_flavor, worker_view}
 use Rattle.tcc_steal.specs.Dealing.{IsTaker}
-use Rattle.tcc_steal.specs.Working.{IsSeat, IsSearched}
+use Rattle.tcc_steal.specs.Working.{IsSeat, IsSearched, AreBy}
 use Rattle.tcc_steal.proofs.sharing.owners_share.Given as goal
 
 abbrev pub invariant-loop : goal.invariant-loop
@@ -12,3 +12,4 @@ invariant-loop g l =
     × IsSeat l.prices l.bound l.worker.seat
     × (l.worker.number ≡ l.fn.worker.number)
     × All (IsSearched l.prices l._workers l.worker.seat.known) l.searches.items
+    × AreBy l.fn.worker.number l.searches.items

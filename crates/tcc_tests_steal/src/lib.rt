@@ -1,0 +1,5 @@
+//! Tests of the searches of all starts by many workers.
+#![tactic(auto)]
+
+#[cfg(test)]
+mod workers;
