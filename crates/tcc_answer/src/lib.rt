@@ -15,6 +15,3 @@ pub use json::write_json;
 pub use labels::Labels;
 pub use shape::Shape;
 pub use text::write_text;
-
-#[cfg(test)]
-mod tests;

@@ -281,6 +281,3 @@ pub(crate) fn write_cycle<W: Write>(
     writer.far_table(far)?;
     writer.end()
 }
-
-#[cfg(test)]
-mod tests;

@@ -29,6 +29,3 @@ pub use reading::{CertReader, read};
 pub use table::Table;
 pub use version::Version;
 pub use writing::write;
-
-#[cfg(test)]
-mod tests;

@@ -1,10 +1,9 @@
 //! Texts row by row: each first line, and outputs that fail at each of their writes.
-use super::CycleWriter;
-use crate::{Links, Numbers, Table, Version, WriteFault};
+use super::streams::Breaking;
 use std::alloc::{AllocError, Global};
-use std::io::{self, ErrorKind, Write};
 use std::process::Abort;
 use std::test::Fail;
+use tcc_cert::{CycleWriter, Links, Numbers, Table, Version, WriteFault};
 use tcc_graph::{Level, Link};
 
 fn one_link(alloc: Global) -> Result<Links, AllocError> {
@@ -39,28 +38,6 @@ fn each_first_line(rt: HostRuntime) -> Result<(), Fail> {
     Ok(())
 }
 
-/// An output whose writes work so many times.
-#[derive(Drop)]
-struct Failing {
-    taken: Vec<u8>,
-    works: usize,
-}
-
-impl Write for Failing {
-    fn write(&mut self, bytes: &[u8]) -> io::Result<usize> {
-        if self.works == 0 {
-            return Err(io::Error::from(ErrorKind::Other));
-        }
-        self.works -= 1;
-        self.taken.extend_from_slice(bytes)?;
-        Ok(bytes.len())
-    }
-
-    fn flush(&mut self) -> io::Result<()> {
-        Ok(())
-    }
-}
-
 /// Once a call has answered that a write failed, each later one does.
 fn note(rt: &impl Abort, has_failed: &mut bool, answer: Result<(), WriteFault>) {
     if *has_failed {
@@ -76,7 +53,7 @@ const ROWS: usize = 3;
 fn large(rt: &impl Abort, alloc: Global, works: usize) -> Result<(Vec<u8>, bool), AllocError> {
     let links = one_link(alloc)?;
     let row = vec![in alloc; 7u32; 4095]?;
-    let mut out = Failing {
+    let mut out = Breaking {
         taken: Vec::new(alloc),
         works,
     };

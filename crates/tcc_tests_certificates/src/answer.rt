@@ -3,11 +3,11 @@ ghost use Rattle.std.specs.Prelude.{◌≡◌, [], ◌∷◌, IfOk};
 ghost use Rattle.tcc_graph.specs.declared.step.Step.TheVariants as step;
 ghost use Rattle.tcc_graph.specs.declared.link.Link.TheVariants as link;
 
-use crate::pieces::push;
-use crate::{Anomaly, Answer, Commit, Labels, Shape, WriteFault, write_json, write_text};
 use std::alloc::{AllocError, Global};
 use std::process::Abort;
 use std::test::Fail;
+use tcc_answer::pieces::push;
+use tcc_answer::{Anomaly, Answer, Commit, Labels, Shape, WriteFault, write_json, write_text};
 use tcc_cert::{Certificate, Links, Numbers, Table, Version};
 use tcc_graph::{Graph, Level, Link, Step, Walk};
 use tcc_reads::resolve;
@@ -67,9 +67,8 @@ fn turned(rt: &impl Abort, alloc: Global) -> Result<Commit, AllocError> {
 }
 
 #[test]
-fn parts(rt: HostRuntime) -> Result<(), Fail> {
-    let alloc = rt.alloc();
-    let commit = turned(&rt, alloc)?;
+fn parts_of_an_order(rt: HostRuntime) -> Result<(), Fail> {
+    let commit = turned(&rt, rt.alloc())?;
     assert_eq!(&rt; commit.order(), [0, 3, 1, 2].as_slice());
     assert_eq!(&rt; commit.sessions(), 2);
     assert!(&rt;
@@ -83,13 +82,19 @@ fn parts(rt: HostRuntime) -> Result<(), Fail> {
             }
         )
     );
-    let anomaly = stale_read(&rt, alloc)?;
+    Ok(())
+}
+
+#[test]
+fn parts_of_an_anomaly(rt: HostRuntime) -> Result<(), Fail> {
+    let anomaly = stale_read(&rt, rt.alloc())?;
     assert_eq!(&rt; anomaly.links().len(), 2);
     assert_eq!(&rt; anomaly.cost(), 3);
     assert_eq!(&rt; anomaly.shape(), Shape::StaleInitialRead);
+    let answer = Answer::Anomaly(anomaly);
     assert!(&rt;
         matches!(
-            anomaly.certificate(),
+            answer.certificate(),
             Certificate::Cycle {
                 version: Version::Two,
                 level: Level::Atomic,
@@ -98,12 +103,14 @@ fn parts(rt: HostRuntime) -> Result<(), Fail> {
             }
         )
     );
-    let answer = Answer::Anomaly(anomaly);
-    assert!(&rt; matches!(answer.certificate(), Certificate::Cycle { .. }));
-    let mut text = Vec::new(alloc);
+    Ok(())
+}
+
+#[test]
+fn pieces_are_joined(rt: HostRuntime) {
+    let mut text = Vec::new(rt.alloc());
     assert!(&rt; push(&mut text, &[b"a", b"", b"bc"]).is_ok());
     assert_eq!(&rt; text.as_slice(), b"abc".as_slice());
-    Ok(())
 }
 
 #[test]

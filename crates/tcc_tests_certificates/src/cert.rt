@@ -1,0 +1,358 @@
+//! Certificates of worked histories, writers that fail, altered texts, and readers that fail.
+mod parts;
+mod rows;
+mod streams;
+mod texts;
+
+use std::alloc::{AllocError, Global};
+use std::io::{ErrorKind, Read};
+use std::process::Abort;
+use std::test::Fail;
+use streams::{Failing, Fault, Faulty, gives_twice};
+use tcc_cert::sending::send;
+use tcc_cert::{CertFaultKind, Certificate, WriteFault, read, write};
+use texts::{STALE_READ, STALE_READ_UPWARD, TEXTS, altered};
+
+/// What a writer with room for this many bytes takes of a stale read's text.
+fn assert_part(
+    rt: &impl Abort,
+    alloc: Global,
+    certificate: &Certificate,
+    room: usize,
+    fault: Fault,
+    wanted: Result<(), WriteFault>,
+) {
+    let text = STALE_READ.as_bytes();
+    let part = text.get(..room).unwrap_or(text);
+    let mut out = Faulty {
+        taken: Vec::new(alloc),
+        room,
+        fault,
+    };
+    assert_eq!(rt;
+        write(certificate, &mut out),
+        wanted,
+        "{fault:?} after {room}"
+    );
+    assert_eq!(rt; out.taken.as_slice(), part, "{fault:?} after {room}");
+    let mut sent = Faulty {
+        taken: Vec::new(alloc),
+        room,
+        fault,
+    };
+    assert_eq!(rt;
+        send(&mut sent, text).is_ok(),
+        wanted.is_ok(),
+        "{fault:?} after {room}"
+    );
+    assert_eq!(rt; sent.taken.as_slice(), part, "{fault:?} after {room}");
+}
+
+// The text goes out up to the byte that is refused, whatever the refusal is.
+#[test]
+fn writer_fails(rt: HostRuntime) -> Result<(), Fail> {
+    let alloc = rt.alloc();
+    let Ok(certificate) = read(alloc, STALE_READ.as_bytes()) else {
+        panic!(&rt; "a certificate is read");
+    };
+    let failed = Err(WriteFault::Device);
+    for fault in [
+        Fault::Fails(ErrorKind::Other),
+        Fault::TakesNone,
+        Fault::IsInterrupted,
+    ] {
+        for room in 0..STALE_READ.len() {
+            assert_part(&rt, alloc, &certificate, room, fault, failed);
+        }
+    }
+    let all = STALE_READ.len();
+    assert_part(&rt, alloc, &certificate, all, Fault::TakesNone, Ok(()));
+    assert_part(&rt, alloc, &certificate, all, Fault::KeepsAll, failed);
+    Ok(())
+}
+
+// What was written is read, and written again it is the same.
+#[test]
+fn worked_texts_are_read(rt: HostRuntime) {
+    let alloc = rt.alloc();
+    for text in TEXTS {
+        let Ok(certificate) = read(alloc, text.as_bytes()) else {
+            panic!(&rt; "{text:?} is read");
+        };
+        let mut out = Vec::new(alloc);
+        assert_eq!(&rt; write(&certificate, &mut out), Ok(()));
+        assert_eq!(&rt; out.as_slice(), text.as_bytes(), "for {text:?}");
+    }
+}
+
+/// A reader's text has this fault first.
+fn assert_fault(
+    rt: &impl Abort,
+    alloc: Global,
+    reader: impl Read + Drop,
+    line: u64,
+    kind: CertFaultKind,
+) {
+    match read(alloc, reader) {
+        Ok(_) => panic!(rt; "a certificate is read"),
+        Err(fault) => assert_eq!(rt; (fault.line, fault.kind), (line, kind)),
+    }
+}
+
+/// The number of the line that begins behind the last line feed.
+fn line_begun(text: &[u8]) -> u64 {
+    let mut line: u64 = 1;
+    for byte in text {
+        if *byte == b'\n' {
+            line = line.saturating_add(1);
+        }
+    }
+    line
+}
+
+// Cut after each byte but the last: the line that was begun has no line feed.
+#[test]
+fn cut_texts(rt: HostRuntime) {
+    for text in TEXTS {
+        for count in 0..text.len() {
+            let part = &text.as_bytes()[..count];
+            let line = line_begun(part);
+            assert_fault(&rt, rt.alloc(), part, line, CertFaultKind::Truncated);
+        }
+    }
+}
+
+// The reader fails after each number of bytes, all of them too.
+#[test]
+fn reader_fails(rt: HostRuntime) {
+    let alloc = rt.alloc();
+    for most in [1, 100] {
+        for count in 0..STALE_READ.len() + 1 {
+            let text = &STALE_READ.as_bytes()[..count];
+            let line = line_begun(text);
+            let reader = Failing { text, most };
+            assert_fault(&rt, alloc, reader, line, CertFaultKind::Read);
+        }
+    }
+    let text = b"tcc-certificate 1\nring\n";
+    let reader = Failing { text, most: 5 };
+    assert_fault(&rt, alloc, reader, 2, CertFaultKind::Word);
+}
+
+// However many bytes come at a time, the text is read, and no further than its end.
+#[test]
+fn pieces(rt: HostRuntime) {
+    let alloc = rt.alloc();
+    let trailing = "tcc-certificate 1\norder 1 0\n0\nclocks\n\nend\nx";
+    let whole = trailing.len() - 1;
+    for most in [1, 7, 46, 100] {
+        for text in TEXTS {
+            let reader = gives_twice(text, most, text.len());
+            assert!(&rt; read(alloc, reader).is_ok(), "{text:?} by {most}");
+        }
+        // The end is final: what comes behind it is not asked for.
+        let reader = gives_twice(trailing, most, whole);
+        assert!(&rt; read(alloc, reader).is_ok(), "by {most}");
+        let reader = gives_twice(trailing, most, whole - 1);
+        assert_fault(&rt, alloc, reader, 6, CertFaultKind::Truncated);
+    }
+}
+
+/// The parts of a text before and behind a mark, which stands in it.
+fn halves<'a>(rt: &impl Abort, text: &'a str, mark: char) -> (&'a str, &'a str) {
+    match text.split_once(mark) {
+        Some(halves) => halves,
+        None => panic!(rt; "no {mark} in {text}"),
+    }
+}
+
+/// A number that the test writes out.
+fn number(rt: &impl Abort, text: &str) -> usize {
+    match text.parse::<usize>() {
+        Ok(number) => number,
+        Err(_) => panic!(rt; "{text} is no number"),
+    }
+}
+
+/// What comes of a text: that it is taken, or the line and the kind of its fault.
+fn outcome(alloc: Global, text: &[u8]) -> Result<String, AllocError> {
+    match read(alloc, text) {
+        Ok(_) => format!(in alloc; "taken"),
+        Err(fault) => format!(in alloc; "{} {:?}", fault.line, fault.kind),
+    }
+}
+
+/// Each row of the table has the number of a line of the text, counted from 1, what comes of another line in its
+/// place, and that line.
+fn assert_altered(
+    rt: &impl Abort,
+    alloc: Global,
+    text: &str,
+    table: &str,
+) -> Result<(), AllocError> {
+    for row in table.lines() {
+        let (line, rest) = halves(rt, row, ':');
+        let (wanted, other) = halves(rt, rest, '|');
+        let changed = altered(alloc, text, number(rt, line), other)?;
+        let found = outcome(alloc, changed.as_slice())?;
+        assert_eq!(rt; found.as_str(), wanted, "for {other:?} at {line}");
+    }
+    Ok(())
+}
+
+/// Alterations of the stale read.
+const ALTERED: &str = "\
+    1:1 Header|tcc-certificate 2\n\
+    1:1 Header|tcc-certificate 1 causal\n\
+    1:1 Header|tcc-certificate 3 causal\n\
+    1:1 Header|tcc-certificate  1\n\
+    1:1 Header|tcc-certificate 1 \n\
+    1:1 Header|\n\
+    2:2 Word|ring 3 2 3\n\
+    2:2 Word|ring 3 2\n\
+    2:2 Word|\n\
+    2:2 Word| cycle 3 2 3\n\
+    2:2 Count|cycle 3 2\n\
+    2:2 Count|cycle 3 2 3 \n\
+    2:2 Count|cycle  3 2 3\n\
+    2:2 Count|cycle 03 2\n\
+    2:2 Number|cycle 03 2 3\n\
+    2:2 Number|cycle 0 2 3\n\
+    2:2 Number|cycle 3 0 3\n\
+    2:2 Number|cycle +3 2 3\n\
+    2:2 Number|cycle 3  3\n\
+    2:2 TooLarge|cycle 1025 2 3\n\
+    2:2 TooLarge|cycle 3 1025 3\n\
+    2:2 TooLarge|cycle 3 2 1049601\n\
+    2:2 TooLarge|cycle 1025 x 3\n\
+    2:2 Number|cycle x 1025 3\n\
+    2:2 TooLarge|cycle 18446744073709551619 2 3\n\
+    2:2 TooLarge|order 3 65\n\
+    2:2 Count|order 3\n\
+    3:3 Word|T 0 1\n\
+    3:3 Word|s 0 1\n\
+    3:3 Count|S 0\n\
+    3:3 Count|S 0 1 x\n\
+    3:3 TooLarge|S 0 1024\n\
+    3:3 Number|S 00 1\n\
+    3:3 Count|R 0 1\n\
+    3:3 Word|R 0 1 x?\n\
+    3:3 Word|R 0 1 \n\
+    3:3 TooLarge|R 0 1024 ?\n\
+    4:4 Count|D 1 0 x 2\n\
+    4:4 Number|D 1 0 x 2 0\n\
+    4:4 TooLarge|D 1 0 x 2 1025\n\
+    4:4 Word|D 1 0 ! 1024 1\n\
+    4:4 Number|D 1 x ! 1024 1\n\
+    5:5 Word|D 1 0 x 2 1\n\
+    5:5 Count|S 1 2 3\n\
+    6:6 Word|far\n\
+    6:6 Count|near 1\n\
+    6:6 Word|\n\
+    7:7 Count|3 1\n\
+    7:7 Count|3 1 1 \n\
+    7:7 Count| 3 1 1\n\
+    7:7 Count|x 1\n\
+    7:7 Count|\n\
+    7:7 Number|3 1 01\n\
+    7:7 Number|3  1\n\
+    7:7 TooLarge|1049601 x 1\n\
+    7:7 Number|x 1049601 1\n\
+    10:10 Word|near\n\
+    14:14 Word|done\n\
+    14:14 Count|end \n";
+
+/// Alterations of the stale read in version 2. What version 1 has no room for, version 2 takes; where a count is taken,
+/// there are fewer lines or numbers then.
+const ALTERED_UPWARD: &str = "\
+    1:1 Header|tcc-certificate 2\n\
+    1:1 Header|tcc-certificate 2 \n\
+    1:1 Header|tcc-certificate 2 causal \n\
+    2:2 TooLarge|cycle 4097 2 3\n\
+    2:2 TooLarge|cycle 3 4097 3\n\
+    2:2 TooLarge|cycle 3 2 16781313\n\
+    2:2 TooLarge|order 3 65\n\
+    3:3 TooLarge|S 0 4096\n\
+    4:4 TooLarge|D 1 0 x 2 4097\n\
+    7:7 TooLarge|3 1 16781313\n\
+    7:7 Count|3 1\n\
+    11:11 Count|3 1\n\
+    12:12 Count|3 1 1\n\
+    12:12 Count|2 3 1\n\
+    12:12 Count|3\n\
+    13:13 Count|3 3\n\
+    13:13 Count|\n\
+    2:taken|cycle 3 2 1049601\n\
+    2:taken|cycle 3 2 16781312\n\
+    3:taken|S 0 1024\n\
+    3:taken|S 4095 1\n\
+    7:taken|3 1 16781312\n\
+    13:taken|1049601\n\
+    2:7 Count|cycle 1025 2 3\n\
+    2:7 Count|cycle 4096 2 3\n\
+    2:6 Word|cycle 3 1025 3\n\
+    4:6 Word|D 1 0 x 2 1025\n";
+
+#[test]
+fn altered_lines(rt: HostRuntime) -> Result<(), Fail> {
+    assert_altered(&rt, rt.alloc(), STALE_READ, ALTERED)?;
+    assert_altered(&rt, rt.alloc(), STALE_READ_UPWARD, ALTERED_UPWARD)?;
+    Ok(())
+}
+
+#[test]
+fn trailing_bytes(rt: HostRuntime) -> Result<(), Fail> {
+    let alloc = rt.alloc();
+    for more in [b'\n', b'x'] {
+        let mut text = STALE_READ.as_bytes().to_vec(alloc)?;
+        text.push(more)?;
+        assert_fault(&rt, alloc, text.as_slice(), 15, CertFaultKind::Trailing);
+    }
+    Ok(())
+}
+
+/// A first line, so many bytes behind it, and what is wrong with them: as a line, where the input ends, and where the
+/// reader fails.
+type Long<'a> = (&'a str, usize, CertFaultKind, CertFaultKind, CertFaultKind);
+
+fn assert_long(rt: &impl Abort, alloc: Global, row: Long<'_>) -> Result<(), AllocError> {
+    let (before, count, whole, ended, failed) = row;
+    let line = line_begun(before.as_bytes());
+    let mut text = before.as_bytes().to_vec(alloc)?;
+    text.extend_from_slice(vec![in alloc; b'a'; count]?.as_slice())?;
+    assert_fault(rt, alloc, text.as_slice(), line, ended);
+    let reader = Failing {
+        text: text.as_slice(),
+        most: 1000,
+    };
+    assert_fault(rt, alloc, reader, line, failed);
+    text.push(b'\n')?;
+    assert_fault(rt, alloc, text.as_slice(), line, whole);
+    Ok(())
+}
+
+// A line has at most 8,191 bytes and a line feed, in version 2 behind the first at most 36,863, however the reader
+// goes on.
+#[test]
+fn long_lines(rt: HostRuntime) -> Result<(), Fail> {
+    use CertFaultKind::{Header, Read, TooLarge, Truncated, Word};
+    let rows = [
+        ("", 8191, Header, Truncated, Read),
+        ("", 8192, TooLarge, TooLarge, TooLarge),
+        ("tcc-certificate 1 atomic\n", 8191, Word, Truncated, Read),
+        ("tcc-certificate 1\n", 8192, TooLarge, TooLarge, TooLarge),
+        ("tcc-certificate 2 causal\n", 8192, Word, Truncated, Read),
+        ("tcc-certificate 2 atomic\n", 36_863, Word, Truncated, Read),
+        (
+            "tcc-certificate 2 causal\n",
+            36_864,
+            TooLarge,
+            TooLarge,
+            TooLarge,
+        ),
+    ];
+    for row in rows {
+        assert_long(&rt, rt.alloc(), row)?;
+    }
+    Ok(())
+}
