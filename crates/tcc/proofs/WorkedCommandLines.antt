@@ -5,10 +5,10 @@ use Rattle.std.specs.Borrow.{Bor}
 use Rattle.clap.specs.Walk.{first_of}
 use Rattle.clap.specs.Faults.{fault_of, is_simple_and_free}
 use Rattle.clap.specs.Simple.{App, is_simple, subcommand_of}
-use Rattle.clap.specs.declared.error.kind.ErrorKind.TheVariants.{ArgumentConflict, DisplayHelp, DisplayVersion, InvalidSubcommand, InvalidValue, MissingRequiredArgument, MissingSubcommand, TooManyValues, UnknownArgument}
+use Rattle.clap.specs.declared.error.kind.ErrorKind.TheVariants.{ArgumentConflict, DisplayHelp, DisplayVersion, InvalidSubcommand, InvalidValue, MissingRequiredArgument, MissingSubcommand, TooManyValues, UnknownArgument, ValueValidation}
 use Rattle.clap.proofs.OnLiterals.{clap_on_literals}
 use Rattle.tcc_graph.specs.declared.level.Level.TheVariants.{Causal, Atomic}
-use Rattle.tcc.specs.CommandLines.{AreLevels, Words, certificate_path, json_text, level_text, level_word, tcc_command}
+use Rattle.tcc.specs.CommandLines.{AreLevels, Words, certificate_path, json_text, level_text, level_word, tcc_command, workers_text}
 
 -- clap says exactly when a parse by it fails, and of which kinds the fault may be
 pub is_exact : (levels : Words) → is_simple_and_free (tcc_command levels) ≡ true
@@ -130,9 +130,30 @@ flag_twice : fault_of program (codes "tcc" ∷ codes "explain" ∷ codes "--json
 unfolding clap_on_literals
 flag_twice = refl
 
-no_such_flag : fault_of program (codes "tcc" ∷ codes "explain" ∷ codes "--workers" ∷ []) ≡ UnknownArgument ∷ []
+no_such_flag : fault_of program (codes "tcc" ∷ codes "explain" ∷ codes "--colour" ∷ []) ≡ UnknownArgument ∷ []
 unfolding clap_on_literals
 no_such_flag = refl
+
+-- the workers are a number from 1 to 32, by default 1
+one_worker : workers_text (subcommand_of program (codes "tcc" ∷ codes "explain" ∷ [])) ≡ Some (codes "1")
+unfolding clap_on_literals
+one_worker = refl
+
+most_workers : fault_of program (codes "tcc" ∷ codes "explain" ∷ codes "--workers" ∷ codes "32" ∷ []) ≡ []
+unfolding clap_on_literals
+most_workers = refl
+
+so_many_workers : workers_text (subcommand_of program (codes "tcc" ∷ codes "explain" ∷ codes "--workers" ∷ codes "32" ∷ [])) ≡ Some (codes "32")
+unfolding clap_on_literals
+so_many_workers = refl
+
+no_worker : fault_of program (codes "tcc" ∷ codes "explain" ∷ codes "--workers" ∷ codes "0" ∷ []) ≡ ValueValidation ∷ []
+unfolding clap_on_literals
+no_worker = refl
+
+too_many_workers : fault_of program (codes "tcc" ∷ codes "explain" ∷ codes "--workers=33" ∷ []) ≡ ValueValidation ∷ []
+unfolding clap_on_literals
+too_many_workers = refl
 
 -- the level is named by one of its two words, once
 no_such_level : fault_of program (codes "tcc" ∷ codes "explain" ∷ codes "--level" ∷ codes "Atomic" ∷ []) ≡ InvalidValue ∷ []

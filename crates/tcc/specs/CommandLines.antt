@@ -1,11 +1,13 @@
 -- What the words of a command line ask for, and how a run ends that answers nothing.
-use Rattle.std.specs.Prelude.{ℕ, ◌≡◌, ◌≢◌, ◌⊎◌, Bool, true, false, List, [], ◌∷◌, Option, None, Some, map, option_map, option_and_then, Result, Ok, Err, codes, unwrap_or}
+use Rattle.std.specs.Prelude.{ℕ, ◌≡◌, ◌≢◌, ◌<◌, ◌≤◌, ◌⊎◌, Bool, true, false, List, [], ◌∷◌, Option, None, Some, map, option_map, option_and_then, Result, Ok, Err, codes, unwrap_or}
 use Rattle.std.specs.Borrow.{Bor}
 use Rattle.std.specs.String.{string_bytes}
+use Rattle.std.specs.Str.Parse.{digits_value, without_leading_plus}
+use Rattle.clap.specs.Values.{IsUnsignedIn}
 use Rattle.clap.specs.Walk.{Row, Rule, Text, first_of, one_of}
 use Rattle.clap.specs.Simple.{App, Shape, new_app, new_rule, on_top, subcommand_of, with_rule, with_subcommand}
 use Rattle.clap.specs.declared.builder.action.ArgAction.TheVariants.{SetTrue}
-use Rattle.clap.specs.declared.builder.value_parser.ValueParser.TheVariants.{Names}
+use Rattle.clap.specs.declared.builder.value_parser.ValueParser.TheVariants.{Names, Unsigned}
 use Rattle.clap.specs.Faults.{fault_of}
 use Rattle.clap.specs.Kinds.{IsAmong}
 use Rattle.clap.specs.declared.error.kind.ErrorKind.{ErrorKind}
@@ -51,12 +53,22 @@ level_option levels = record (new_rule (codes "level")) {
   defaults = level_word Causal ∷ [];
 }
 
+-- --workers N, a number from 1 to 32; without it, 1
+abbrev pub workers_option : Rule
+workers_option = record (new_rule (codes "workers")) {
+  long = Some (codes "workers");
+  value_names = 1;
+  parser = Some (Unsigned 1 32);
+  defaults = codes "1" ∷ [];
+}
+
 -- --certificate PATH
 abbrev pub certificate_option : Rule
 certificate_option = record (new_rule (codes "certificate")) { long = Some (codes "certificate"); value_names = 1 }
 
 abbrev pub explain_command : Words → App
-explain_command levels = with_rule (with_rule (with_rule (new_app (codes "explain")) (level_option levels)) json_flag) certificate_option
+explain_command levels =
+    with_rule (with_rule (with_rule (with_rule (new_app (codes "explain")) (level_option levels)) workers_option) json_flag) certificate_option
 
 -- a path, which has to be given, and which help calls by one name
 abbrev pub path : Text → Rule
@@ -65,7 +77,7 @@ path id = record (new_rule id) { value_names = 1; required = true }
 abbrev pub check_command : App
 check_command = with_rule (with_rule (new_app (codes "check")) (path (codes "history"))) (path (codes "certificate"))
 
--- tcc explain [--level LEVEL] [--json] [--certificate PATH], or tcc check HISTORY CERTIFICATE: the program's name and version, and its
+-- tcc explain [--level LEVEL] [--workers N] [--json] [--certificate PATH], or tcc check HISTORY CERTIFICATE: the program's name and version, and its
 -- subcommands, one of which has to be given
 abbrev pub tcc_command : Words → App
 tcc_command levels =
@@ -89,14 +101,29 @@ level_text met = option_and_then (first_of (codes "level")) (option_map (λ ente
 abbrev pub IsLevel : Option Text → Level → Type 0
 IsLevel word level = unwrap_or word (level_word Causal) ≡ level_word level
 
+-- what clap finds for the number of workers in the matches of a subcommand that was met
+abbrev pub workers_text : Option (Text × List Row) → Option Text
+workers_text met = option_and_then (first_of (codes "workers")) (option_map (λ entered. entered.1) met)
+
+-- the word says the number, from 1 to 32, in decimal
+abbrev pub SaysWorkers : Text → ℕ → Type 0
+SaysWorkers word workers = IsUnsignedIn 1 32 word × (workers ≡ digits_value 10 (without_leading_plus word))
+
+-- the number is the one that the word says, 1 where there is none
+abbrev pub IsWorkers : Option Text → ℕ → Type 0
+IsWorkers None workers = workers ≡ 1
+IsWorkers (Some word) workers = SaysWorkers word workers
+
 -- what clap finds for the path of the certificate in the matches of a subcommand that was met
 abbrev pub certificate_path : Option (Text × List Row) → Option Text
 certificate_path met = option_and_then (first_of (codes "certificate")) (option_map (λ entered. entered.1) met)
 
--- the answers are as JSON by the flag, and at the level of the word; the certificate goes to the path, if there is one
+-- the answers are as JSON by the flag, at the level of the word, and by as many workers as the word says; the certificate
+-- goes to the path, if there is one
 abbrev pub AsksExplain : Option (Text × List Row) → Request → Type 0
 AsksExplain met (Explain options certificate) =
-    IsFlag (json_text met) options.json × IsLevel (level_text met) options.level × (option_map string_bytes certificate ≡ certificate_path met)
+    IsFlag (json_text met) options.json × IsLevel (level_text met) options.level × IsWorkers (workers_text met) options.workers
+    × (option_map string_bytes certificate ≡ certificate_path met)
 AsksExplain met (Check history certificate) = ⊥
 
 -- the paths are those that clap finds
@@ -114,6 +141,11 @@ AsksBy (Some entered) (Check history certificate) = (entered.0 ≡ codes "check"
 
 abbrev pub Asks : App → List Text → Request → Type 0
 Asks app words request = AsksBy (subcommand_of app words) request
+
+-- where answers are asked for, it is by 1 to 32 workers
+abbrev pub HasWorkers : Request → Type 0
+HasWorkers (Explain options certificate) = (0 < options.workers) × (options.workers ≤ 32)
+HasWorkers (Check history certificate) = Unit {0}
 
 -- a text, or want of memory in its place, goes out with its status
 abbrev pub PrintsHelp : Option (List ℕ) → Option (List ℕ) → ℕ → Type 0

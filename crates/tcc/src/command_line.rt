@@ -1,9 +1,10 @@
 //! What the command line asks for.
-ghost use Rattle.std.specs.Prelude.{◌≡◌, false, IfErr, IfOk, IfSome, OnOk, map, option_map};
+ghost use Rattle.std.specs.Prelude.{◌≡◌, ℕ, false, IfErr, IfOk, MatchOption, OnOk, map, option_map};
 ghost use Rattle.std.specs.String.{string_bytes};
-ghost use Rattle.clap.specs.Words.{FailsBy, app_of, fault_of, found_of, kind_of, rows_of, rule_of, subcommand_rows_of};
+ghost use Rattle.clap.specs.Words.{FailsBy, IsUnsignedIn, app_of, fault_of, found_of, kind_of, rows_of, rule_of, subcommand_rows_of};
 ghost use Rattle.clap.specs.declared.error.kind.ErrorKind.TheVariants.{OutOfMemory};
-ghost use Rattle.tcc.specs.CommandLines.{Asks, AsksBy, AsksCheck, AsksExplain, EndsUnasked, IsAsked, IsFlag, IsLevel, PrintsHelp, certificate_option, certificate_path, check_command, explain_command, json_text, level_option, level_text, level_word, path, tcc_command};
+ghost use Rattle.tcc_graph.specs.declared.level.Level.{Level};
+ghost use Rattle.tcc.specs.CommandLines.{Asks, AsksBy, AsksCheck, AsksExplain, EndsUnasked, HasWorkers, IsAsked, IsFlag, IsLevel, IsWorkers, PrintsHelp, SaysWorkers, certificate_option, certificate_path, check_command, explain_command, json_text, level_option, level_text, level_word, path, tcc_command, workers_option, workers_text};
 
 use crate::help;
 use clap::builder::ValueParser;
@@ -48,6 +49,19 @@ fn level_option<'a>(alloc: Global, levels: &'a [&'a str]) -> Arg<'a>
         .default_value("causal")
 }
 
+/// The option for the number of workers.
+fn workers_option<'a>(alloc: Global) -> Arg<'a>
+    ensures rule { rule_of result ≡ workers_option }
+    ensures own { result.global ≡ false }
+{
+    Arg::new(alloc, "workers")
+        .long("workers")
+        .value_name("N")
+        .help("Searches with so many workers, 1 to 32")
+        .value_parser(ValueParser::Unsigned(1, 32))
+        .default_value("1")
+}
+
 /// The option for the file of the certificate.
 fn certificate_option<'a>(alloc: Global) -> Arg<'a>
     ensures rule { rule_of result ≡ certificate_option }
@@ -68,6 +82,7 @@ fn explain_command<'a>(alloc: Global, levels: &'a [&'a str]) -> Result<Command<'
         .long("json")
         .help("Answers in one line of JSON")
         .action(ArgAction::SetTrue);
+    let workers = workers_option(alloc);
     let certificate = certificate_option(alloc);
     let first = Command::new(alloc, "explain")
         .about(
@@ -75,8 +90,9 @@ fn explain_command<'a>(alloc: Global, levels: &'a [&'a str]) -> Result<Command<'
         )
         .after_help(help::EXPLAIN)
         .arg(level)?;
-    let second = first.arg(json)?;
-    second.arg(certificate)
+    let second = first.arg(workers)?;
+    let third = second.arg(json)?;
+    third.arg(certificate)
 }
 
 /// A path, which has to be given.
@@ -133,9 +149,9 @@ fn is_json(matches: &ArgMatches) -> bool
     }
 }
 
-/// The level of the word; none by another word.
+/// The level of the word; none exactly by another word.
 fn level_named(word: &str) -> Option<Level>
-    ensures { IfSome result (λ level. word.now ≡ level_word level) }
+    ensures { MatchOption result ((level : Level) → word.now ≡ level_word level → ⊥) (λ level. word.now ≡ level_word level) }
 {
     if word == "causal" {
         return Some(Level::Causal);
@@ -146,9 +162,9 @@ fn level_named(word: &str) -> Option<Level>
     None
 }
 
-/// The level that the subcommand has a word for; none by another word.
+/// The level that the subcommand has a word for; none exactly by another word.
 fn level_of(matches: &ArgMatches) -> Option<Level>
-    ensures { IfSome result (IsLevel (level_text (subcommand_rows_of matches.now))) }
+    ensures { MatchOption result ((level : Level) → IsLevel (level_text (subcommand_rows_of matches.now)) level → ⊥) (IsLevel (level_text (subcommand_rows_of matches.now))) }
 {
     match matches.subcommand() {
         Some((_name, explain)) => match explain.get_str("level") {
@@ -156,6 +172,29 @@ fn level_of(matches: &ArgMatches) -> Option<Level>
             None => Some(Level::Causal),
         },
         None => Some(Level::Causal),
+    }
+}
+
+/// The number of workers that the word says, in decimal; none exactly by another word.
+fn workers_named(word: &str) -> Option<u32>
+    ensures { MatchOption result (IsUnsignedIn 1 32 word.now → ⊥) (SaysWorkers word.now) }
+{
+    match word.parse::<u32>() {
+        Ok(workers) if 1 <= workers && workers <= 32 => Some(workers),
+        _ => None,
+    }
+}
+
+/// The number of workers that the subcommand has a word for; none exactly by another word.
+fn workers_of(matches: &ArgMatches) -> Option<u32>
+    ensures { MatchOption result ((workers : ℕ) → IsWorkers (workers_text (subcommand_rows_of matches.now)) workers → ⊥) (IsWorkers (workers_text (subcommand_rows_of matches.now))) }
+{
+    match matches.subcommand() {
+        Some((_name, explain)) => match explain.get_str("workers") {
+            Some(word) => workers_named(word),
+            None => Some(1),
+        },
+        None => Some(1),
     }
 }
 
@@ -178,14 +217,18 @@ fn options_of(alloc: Global, matches: &ArgMatches) -> Result<Request, Error>
     ensures asked { IfOk result (AsksExplain (subcommand_rows_of matches.now)) }
     ensures fails { IfErr result (λ e. kind_of e ≡ OutOfMemory) }
 {
-    let Some(level) = level_of(matches) else {
+    let (Some(level), Some(workers)) = (level_of(matches), workers_of(matches)) else {
         // Another word is a fault by clap, so only memory can be wanting.
         return Err(Error::from(AllocError));
     };
     let json = is_json(matches);
     let certificate = certificate_of(alloc, matches)?;
     Ok(Request::Explain {
-        options: Options { level, json },
+        options: Options {
+            level,
+            workers,
+            json,
+        },
         certificate,
     })
 }
@@ -285,6 +328,7 @@ fn words<W: Write>(rt: &HostRuntime, out: &mut W) -> Result<Vec<String>, u8>
 
 /// What the process was asked for, as `read_words` has it; else the number that it ends with.
 pub fn read<W: Write>(rt: &HostRuntime, out: &mut W) -> Result<Request, u8>
+    ensures workers { IfOk result HasWorkers }
     ensures quiet { OnOk result (W.contents out.new ≡ W.contents out.old) }
     ensures ends { IfErr result (λ code. (kind : ErrorKind) × EndsUnasked kind (W.contents out.old) (W.contents out.new) code) }
 {

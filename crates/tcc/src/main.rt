@@ -10,7 +10,7 @@ use command_line::Request;
 use files::{check_files, make, print_unopened};
 use std::io;
 use std::process::ExitCode;
-use tcc_run::{Status, run_explain};
+use tcc_run::{OpenGate, Status, run_explain};
 
 fn main(rt: HostRuntime) -> ExitCode {
     let mut out = io::writer(&rt);
@@ -23,7 +23,15 @@ fn main(rt: HostRuntime) -> ExitCode {
         ) => match make(&rt, &certificate) {
             Ok(file) => {
                 let mut file = file;
-                run_explain(&rt, rt.alloc(), rt.stdin(), &mut out, &mut file, options)
+                run_explain(
+                    &rt,
+                    rt.alloc(),
+                    rt.stdin(),
+                    &mut out,
+                    &mut file,
+                    options,
+                    &OpenGate,
+                )
             }
             Err(error) => print_unopened(error.kind(), options.json, &mut out),
         },

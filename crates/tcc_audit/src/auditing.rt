@@ -1,4 +1,5 @@
 //! The answer for a book.
+ghost use Rattle.std.specs.Prelude.{◌<◌, ◌≤◌};
 ghost use Rattle.tcc_audit.specs.Audited.{IsAudit};
 
 use crate::fault::AuditFault;
@@ -7,20 +8,24 @@ use std::sync::Wait;
 use std::thread::Threads;
 use tcc_answer::Answer;
 use tcc_book::{Book, Pass};
-use tcc_explain::explain;
+use tcc_explain::{Gate, explain};
 use tcc_graph::Level;
 
 /// The first answer, at a level, for exactly what the passes recorded, where they are those of all sessions of the book;
-/// it is the same in whatever order their recorders held the lock. The book stays as it is.
-pub fn audit(
+/// it is the same in whatever order their recorders held the lock, and for every number of workers, 1 to 32. The gate is
+/// called before each start that they search. The book stays as it is.
+pub fn audit<G: Gate>(
     rt: &(impl Threads + Wait + Sync),
     alloc: Global,
     book: &Book,
     passes: &[Pass],
     level: Level,
+    workers: u32,
+    gate: &G,
 ) -> Result<Answer, AuditFault>
+    requires workers { (0 < workers) × (workers ≤ 32) }
     ensures { IsAudit passes.now level result }
 {
     let whole = book.whole(rt, alloc, passes).map_err(AuditFault::Whole)?;
-    explain(rt, alloc, &whole, level).map_err(AuditFault::Explain)
+    explain(rt, alloc, &whole, level, workers, gate).map_err(AuditFault::Explain)
 }

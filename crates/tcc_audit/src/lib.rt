@@ -6,6 +6,3 @@ mod fault;
 
 pub use auditing::audit;
 pub use fault::AuditFault;
-
-#[cfg(test)]
-mod tests;

@@ -3,7 +3,6 @@ pub mod CycleLemmas
 pub mod UpwardLemmas
 pub mod TieLemmas
 pub mod PickedLemmas
-pub mod RowLemmas
 pub mod PartLemmas
 pub mod Twice
 pub mod BoundLemmas
@@ -11,6 +10,5 @@ pub mod SessionLemmas
 pub mod LargestWalk
 pub mod LargestCycle
 pub mod WalkLemmas
-pub mod ReturnLemmas
 pub mod LinkChoiceLemmas
 pub mod WayLemmas

@@ -1,4 +1,3 @@
-pub mod Costs
 pub mod Picked
 pub mod Returns
 pub mod Ways

@@ -6,16 +6,16 @@ use Rattle.tcc_graph.specs.Links.{link_cost}
 use Rattle.tcc_graph.specs.Ties.{link_cmp}
 use Rattle.tcc_graph.specs.declared.link.Link.{Link}
 use Rattle.tcc_derive.specs.Prices.{Tables, IsLinkOf, cost_at}
-use Rattle.tcc_core.specs.Rows.{in_row}
-use Rattle.tcc_core.specs.Searches.{Search}
+use Rattle.tcc_cycle.specs.Returns.{come_to}
+use Rattle.tcc_cycle.specs.declared.returning.FirstReturn.{FirstReturn}
 
 -- what it costs to come to u: nothing at the start, else what the row has
-abbrev pub spent : Search → ℕ → Option ℕ
-spent search u = if u == search.start then Some 0 else in_row search.row u
+abbrev pub spent : FirstReturn → ℕ → Option ℕ
+spent back u = if u == back.start then Some 0 else come_to back u
 
 -- it costs c to come to u, and with the cheapest link from there to v all that is left
-pub record IsBefore (t : Tables) (search : Search) (v : ℕ) (left : ℕ) (u : ℕ) (c : ℕ) : Type 0 where
-  pub come : spent search u ≡ Some c
+pub record IsBefore (t : Tables) (back : FirstReturn) (v : ℕ) (left : ℕ) (u : ℕ) (c : ℕ) : Type 0 where
+  pub come : spent back u ≡ Some c
   pub on : (k : ℕ) × (cost_at t u v ≡ Some k) × (c + k ≡ left)
 
 -- a link from a to b that none undercuts, and of those that cost as much the first

@@ -1,12 +1,9 @@
-//! The first of the least cycles: a search from each start, and the links of the first cycle, picked from the back.
+//! The first of the least cycles: its links, picked from the back, by what searches from all starts have found.
 #![tactic(auto)]
 
-mod cycle;
 pub mod laws;
 mod picking;
 mod returning;
 
-pub use cycle::{Cycle, first_cycle};
-
-#[cfg(test)]
-mod tests;
+pub use picking::first_cycle;
+pub use returning::FirstReturn;

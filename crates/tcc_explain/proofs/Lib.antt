@@ -8,3 +8,5 @@ pub mod ReadKeys
 pub mod FewPlaces
 pub mod RecordedKeys
 pub mod WrittenAnswer
+pub mod FoundLemmas
+pub mod OneAnswer

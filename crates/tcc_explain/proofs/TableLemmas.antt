@@ -1,5 +1,5 @@
 -- Tables of certificates, row by row.
-use Rattle.std.proofs.Common.{ℕ, ◌≡◌, ◌<◌, ◌≤◌, ◌-◌, ◌==◌, Bool, true, false, cond, ◌⊎◌, inl, inr, List, [], length, map, get_or, None, Some, refl, sym, ◌∙◌, ap, subst, arith}
+use Rattle.std.proofs.Common.{ℕ, ◌≡◌, ◌<◌, ◌≤◌, ◌-◌, ◌==◌, Bool, true, false, cond, ◌⊎◌, inl, inr, List, [], length, map, get_or, Option, None, Some, refl, sym, ◌∙◌, ap, subst, arith}
 use Rattle.std.specs.Prelude.{min, slice_index}
 use Rattle.std.proofs.lemmas.Bool.{cases_lt}
 use Rattle.std.proofs.lemmas.List.{get_or-map, length-map, get_or_default}
@@ -12,9 +12,8 @@ use Rattle.tcc_near.specs.declared.distances.TheConstants.{NONE}
 use Rattle.tcc_core.specs.Shares.{IsCappedDistance}
 use Rattle.tcc_cert.specs.Tables.{row_of, entry, far_entry, HasSize}
 use Rattle.tcc_cert.specs.declared.version.Version.TheVariants.{Two}
-use Rattle.tcc_cycle.specs.Costs.{no_cost, AreRows, AreFarRows}
 use Rattle.tcc_explain.specs.Certificates.{IsCappedShortest, IsNearTable, IsFarTable}
-use Rattle.tcc_explain.specs.Capping.{capped_steps}
+use Rattle.tcc_explain.specs.Capping.{capped_steps, cost_or, AreRows, AreFarRows}
 
 -- as many rows, under another name
 pub so_many : (fact : ℕ → List ℕ → Type 0) (n m : ℕ) (rows : List (List ℕ)) → n ≡ m → AreRows fact n rows → AreRows fact m rows
@@ -29,26 +28,29 @@ rows_size P n columns rows are long = record {
 
 -- ---- routes
 
--- the table of these rows, capped
-pub far_table : (j : Judged) (cap : ℕ) (costs : List (List ℕ)) → cap ≤ no_cost → AreFarRows j cap costs → IsFarTable j cap (map (map (min cap)) costs)
-far_table j cap costs fits are = record {
+-- the table of these rows, which are capped already
+pub far_table : (j : Judged) (cap : ℕ) (costs : List (List (Option ℕ))) → AreFarRows j cap costs → IsFarTable j cap (map (map (cost_or cap)) costs)
+far_table j cap costs are = record {
   size = record {
-    long = length-map costs (map (min cap)) ∙ are.long;
-    wide = λ s low. ap length (row s low) ∙ (length-map (row_of costs s) (min cap) ∙ (are.each s low).long);
+    long = length-map costs (map (cost_or cap)) ∙ are.long;
+    wide = λ s low. ap length (row s low) ∙ (length-map (row_of costs s) (cost_or cap) ∙ are.places s low);
   };
   exact = λ s v up to.
       let from : s < count j.history = omega arith in
-      let far = are.each s from in
-      let at : far_entry Two table s v ≡ min cap (slice_index (row_of costs s) (v - s)) = ap (λ (r : List ℕ). get_or r (v - s) 0) (row s from) ∙ get_or-map (min cap) (row_of costs s) (v - s) 0 0 (omega (arith, far.long)) in
-      let exact : IsCappedDistance j s v (Some cap) (Some (min cap (slice_index (row_of costs s) (v - s)))) = far.exact cap v (omega arith) fits up to in
-      subst (λ (z : ℕ). IsCappedDistance j s v (Some cap) (Some z)) (sym at) exact;
+      let within : v - s < length (row_of costs s) = omega (arith, are.places s from) in
+      let at : far_entry Two table s v ≡ cost_or cap (get_or (row_of costs s) (v - s) None) = ap (λ (r : List ℕ). get_or r (v - s) 0) (row s from) ∙ get_or-map (cost_or cap) (row_of costs s) (v - s) None 0 within in
+      subst (λ (z : ℕ). IsCappedDistance j s v (Some cap) (Some z)) (sym at) (some_distance s v (get_or (row_of costs s) (v - s) None) (are.exact s v up to));
 }
   where
     table : List (List ℕ)
-    table = map (map (min cap)) costs
+    table = map (map (cost_or cap)) costs
 
-    row : (s : ℕ) → s < count j.history → row_of table s ≡ map (min cap) (row_of costs s)
-    row s low = get_or-map (map (min cap)) costs s [] [] (omega (arith, are.long))
+    row : (s : ℕ) → s < count j.history → row_of table s ≡ map (cost_or cap) (row_of costs s)
+    row s low = get_or-map (map (cost_or cap)) costs s [] [] (omega (arith, are.long))
+
+    some_distance : (s v : ℕ) (d : Option ℕ) → IsCappedDistance j s v (Some cap) d → IsCappedDistance j s v (Some cap) (Some (cost_or cap d))
+    some_distance s v None none = absurd none
+    some_distance s v (Some c) is = is
 
 -- ---- distances
 

@@ -1,8 +1,11 @@
 //! The answer for a snapshot.
-ghost use Rattle.std.specs.Prelude.{◌≡◌, [], IfOk, MatchResult};
+ghost use Rattle.std.specs.Prelude.{◌≡◌, ◌<◌, ◌≤◌, [], IfOk, MatchResult};
 ghost use Rattle.tcc_reads.specs.Faults.{read_faults};
 ghost use Rattle.tcc_reads.specs.Sources.{history};
+ghost use Rattle.tcc_graph.specs.Routes.{HasCycle};
 ghost use Rattle.tcc_near.specs.Distances.{IsNearOf};
+ghost use Rattle.tcc_derive.specs.Prices.{IsPricesOf};
+ghost use Rattle.tcc_answer.specs.declared.answer.Answer.TheVariants as answer;
 ghost use Rattle.tcc_explain.specs.Explained.{IsAnswerOf, IsRefusal};
 
 use crate::refusal::ExplainFault;
@@ -11,13 +14,14 @@ use std::alloc::Global;
 use std::thread::Threads;
 use tcc_answer::{Anomaly, Answer, Commit, Labels};
 use tcc_cert::{Links, Numbers};
-use tcc_cycle::first_cycle;
-use tcc_derive::derive;
+use tcc_cycle::{FirstReturn, first_cycle};
+use tcc_derive::{Prices, derive};
 use tcc_graph::{Graph, Level};
 use tcc_near::{Near, near};
 use tcc_order::laws::order_or_cycle;
 use tcc_order::order;
 use tcc_reads::{ResolveFault, resolve};
+use tcc_steal::{Gate, search};
 use tcc_txn::{NoMemory, Snapshot};
 
 /// The distances of a graph at a level, which they name.
@@ -34,42 +38,89 @@ fn distances(
     Ok(distances)
 }
 
+/// The first of the least cycles with its tables, by so many workers.
+fn anomaly<G: Gate>(
+    rt: &(impl Threads + Sync),
+    alloc: Global,
+    graph: &Graph,
+    near: &Near,
+    prices: &Prices,
+    workers: u32,
+    gate: &G,
+) -> Result<Anomaly, NoMemory>
+    requires near { IsNearOf (record { history = graph.now; level = near.now.level }) near.now }
+    requires prices { IsPricesOf (record { history = graph.now; level = near.now.level }) prices.now }
+    requires cycle { HasCycle (record { history = graph.now; level = near.now.level }) }
+    requires workers { (0 < workers) × (workers ≤ 32) }
+    ensures { IfOk result (λ anomaly. IsAnswerOf (record { history = graph.now; level = near.now.level }) (answer.Anomaly anomaly)) }
+{
+    let labels = Labels::of(alloc, graph)?;
+    let found = search(rt, alloc, prices, workers, gate)?;
+    let Some(cost) = found.least else {
+        unreachable!()
+    };
+    let Some(start) = found.first else {
+        unreachable!()
+    };
+    let row = found.rows[start as usize].values();
+    let links = first_cycle(
+        alloc,
+        graph,
+        near,
+        prices,
+        &FirstReturn { start, cost, row },
+    )?;
+    let distances = near_table(alloc, graph, near, cost)?;
+    let far = far_table(alloc, &found.rows, cost)?;
+    Ok(Anomaly::new(
+        near.level(),
+        Links::new(links),
+        cost,
+        distances,
+        far,
+        labels,
+    ))
+}
+
 /// The first answer for a history at a level: a commit order, or a cycle where there is none.
-fn history_answer(
+fn history_answer<G: Gate>(
     rt: &(impl Threads + Sync),
     alloc: Global,
     graph: &Graph,
     level: Level,
+    workers: u32,
+    gate: &G,
 ) -> Result<Answer, NoMemory>
+    requires workers { (0 < workers) × (workers ≤ 32) }
     ensures { IfOk result (IsAnswerOf (record { history = graph.now; level = level })) }
 {
     let near = distances(rt, alloc, graph, level)?;
     let prices = derive(rt, alloc, graph, &near)?;
-    let labels = Labels::of(alloc, graph)?;
     order_or_cycle();
     if let Some(order) = order(alloc, &prices)? {
+        let labels = Labels::of(alloc, graph)?;
         let sessions = graph.sessions().len() as u32;
         let clocks = clocks_at(rt, alloc, graph, level)?;
         let order = Numbers::new(order);
         return Ok(Answer::Commit(Commit::new(level, order, sessions, clocks, labels)));
     }
-    let Some(cycle) = first_cycle(alloc, graph, &near, &prices)? else {
-        unreachable!()
-    };
-    let near = near_table(alloc, graph, &near, cycle.cost)?;
-    let far = far_table(alloc, &cycle.rows, cycle.cost)?;
-    let links = Links::new(cycle.links);
-    Ok(Answer::Anomaly(Anomaly::new(level, links, cycle.cost, near, far, labels)))
+    let anomaly = anomaly(rt, alloc, graph, &near, &prices, workers, gate)?;
+    Ok(Answer::Anomaly(anomaly))
 }
 
 /// The first answer for the history of a snapshot at a level: its first commit order, or the first of its least cycles
-/// where there is no commit order, with its certificate; or all its read faults, where there are some.
-pub fn explain(
+/// where there is no commit order, with its certificate; or all its read faults, where there are some. The answer is the
+/// same for every number of workers, 1 to 32, and whatever the order in which they search. They search only where there is
+/// a cycle, and the gate is called before each start that they take.
+pub fn explain<G: Gate>(
     rt: &(impl Threads + Sync),
     alloc: Global,
     snapshot: &Snapshot,
     level: Level,
+    workers: u32,
+    gate: &G,
 ) -> Result<Answer, ExplainFault>
+    requires workers { (0 < workers) × (workers ≤ 32) }
     ensures { MatchResult result
         (λ answer. (read_faults snapshot.now ≡ []) × IsAnswerOf (record { history = history snapshot.now; level = level }) answer)
         (IsRefusal snapshot.now) }
@@ -77,7 +128,7 @@ pub fn explain(
     match resolve(alloc, snapshot) {
         Ok(resolved) => {
             let graph = Graph::build(alloc, &resolved)?;
-            Ok(history_answer(rt, alloc, &graph, level)?)
+            Ok(history_answer(rt, alloc, &graph, level, workers, gate)?)
         }
         Err(ResolveFault::Reads(faults)) => Err(ExplainFault::Reads(faults)),
         Err(ResolveFault::NoMemory) => Err(ExplainFault::NoMemory),

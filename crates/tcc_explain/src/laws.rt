@@ -17,6 +17,8 @@ ghost use Rattle.tcc_cert.specs.Reading.{certificate_read};
 ghost use Rattle.tcc_cert.specs.declared.version.Version.TheVariants.{Two};
 ghost use Rattle.tcc_cert.specs.declared.certificate.Certificate.TheVariants as claim;
 ghost use Rattle.tcc_answer.specs.Claims.{certificate_of};
+ghost use Rattle.tcc_answer.specs.Texts.{answer_text};
+ghost use Rattle.tcc_answer.specs.Json.{answer_json};
 ghost use Rattle.tcc_answer.specs.declared.answer.Answer.{Answer};
 ghost use Rattle.tcc_explain.specs.Certificates.{IsNearTable, IsFarTable, IsClocksAt, IsNumbered};
 ghost use Rattle.tcc_explain.specs.Explained.{IsAnswerOf};
@@ -57,8 +59,14 @@ pub fn recorded()
 {}
 
 /// A history has at most one first commit order at a level, and at most one first answer: either that order or its first
-/// cycle.
+/// cycle. And so there is at most one whole answer, with its labels and its certificate: whatever the number of workers,
+/// the order in which they search and the order in which records came.
 pub fn one_answer()
     ensures order { (j : Judged) (order other : List ℕ) → IsFirstOrder j order → IsFirstOrder j other → order ≡ other }
     ensures answer { (j : Judged) (some other : first.Answer) → first.IsFirstAnswer j some → first.IsFirstAnswer j other → some ≡ other }
+    ensures whole { (j : Judged) (some other : Answer) → IsAnswerOf j some → IsAnswerOf j other → some ≡ other }
+    ensures text { (j : Judged) (some other : Answer) → IsAnswerOf j some → IsAnswerOf j other → answer_text some ≡ answer_text other }
+    ensures json { (j : Judged) (some other : Answer) → IsAnswerOf j some → IsAnswerOf j other → answer_json some ≡ answer_json other }
+    ensures certificate { (j : Judged) (some other : Answer) → IsAnswerOf j some → IsAnswerOf j other
+        → certificate_of some ≡ certificate_of other }
 {}

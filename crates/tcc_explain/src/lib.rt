@@ -9,7 +9,4 @@ mod tables;
 pub use explaining::explain;
 pub use refusal::ExplainFault;
 pub use tcc_answer::{Anomaly, Answer, Commit, Shape, WriteFault, write_json, write_text};
-pub use tcc_cycle::{Cycle, first_cycle};
-
-#[cfg(test)]
-mod tests;
+pub use tcc_steal::{Gate, OpenGate};

@@ -1,12 +1,11 @@
 //! The tables of certificates, from the distances, the searches' rows and the clocks.
-ghost use Rattle.std.specs.Prelude.{◌≡◌, ◌<◌, IfOk, map, length, min};
+ghost use Rattle.std.specs.Prelude.{◌≡◌, ◌<◌, IfOk, map, length};
 ghost use Rattle.tcc_graph.specs.Levels.{Judged};
 ghost use Rattle.tcc_graph.specs.Tables.{row_of};
 ghost use Rattle.tcc_near.specs.Distances.{IsNearOf};
 ghost use Rattle.tcc_near.specs.Clocks.{IsClocksOf};
-ghost use Rattle.tcc_cycle.specs.Costs.{AreFarRows};
 ghost use Rattle.tcc_explain.specs.Certificates.{IsNearTable, IsFarTable, IsClocksAt};
-ghost use Rattle.tcc_explain.specs.Capping.{capped_steps};
+ghost use Rattle.tcc_explain.specs.Capping.{capped_steps, cost_or, AreFarRows};
 
 use std::alloc::Global;
 use std::thread::Threads;
@@ -55,19 +54,23 @@ pub(crate) fn near_table(
     Ok(Table::new(rows))
 }
 
-/// Costs, capped.
-fn far_row(alloc: Global, costs: &[u32], cap: u32) -> Result<Numbers, NoMemory>
-    ensures { IfOk result (λ row. row ≡ map (min cap) costs.now) }
+/// The costs of routes; the cap where no route leads.
+fn far_row(alloc: Global, costs: &[Option<u32>], cap: u32) -> Result<Numbers, NoMemory>
+    ensures { IfOk result (λ row. row ≡ map (cost_or cap) costs.now) }
 {
     let mut row = Vec::new(alloc);
     for cost in costs {
-        row.push(cap.min(*cost))?;
+        row.push(cost.unwrap_or(cap))?;
     }
     Ok(Numbers::new(row))
 }
 
-/// The least costs of routes over numbers from their start upward, capped.
-pub(crate) fn far_table(alloc: Global, rows: &[Row<u32>], cap: u32) -> Result<Table, NoMemory>
+/// The least costs of routes over numbers from their start upward, capped, by rows that are capped there.
+pub(crate) fn far_table(
+    alloc: Global,
+    rows: &[Row<Option<u32>>],
+    cap: u32,
+) -> Result<Table, NoMemory>
     ensures { (j : Judged) → AreFarRows j cap rows.now → IfOk result (IsFarTable j cap) }
 {
     let mut table = Vec::new(alloc);

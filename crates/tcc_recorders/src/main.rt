@@ -22,7 +22,7 @@ use store::Store;
 use tcc_answer::write_text;
 use tcc_audit::audit;
 use tcc_book::{Book, Pass};
-use tcc_explain::explain;
+use tcc_explain::{OpenGate, explain};
 use tcc_graph::Level;
 
 /// The clients, with their sessions open in the book.
@@ -91,7 +91,8 @@ fn answer_so_far<W: Write>(
 ) -> Result<(), Halt> {
     if let Some(client) = clients.first() {
         let sealed = book.seal(rt, alloc, &client.pass)?;
-        write_text(alloc, &explain(rt, alloc, &sealed, Level::Causal)?, out)?;
+        let answer = explain(rt, alloc, &sealed, Level::Causal, 1, &OpenGate)?;
+        write_text(alloc, &answer, out)?;
     }
     Ok(())
 }
@@ -127,16 +128,14 @@ fn play<W: Write>(
         }
     }
     let passes = passes_of(rt, alloc, clients)?;
-    write_text(
-        alloc,
-        &audit(rt, alloc, &book, &passes, Level::Causal)?,
-        out,
-    )?;
+    let audited = audit(rt, alloc, &book, &passes, Level::Causal, 1, &OpenGate)?;
+    write_text(alloc, &audited, out)?;
     let whole = match book.close(rt, alloc, passes) {
         Ok(whole) => whole,
         Err(refused) => return Err(Halt::from(refused.0)),
     };
-    write_text(alloc, &explain(rt, alloc, &whole, Level::Atomic)?, out)?;
+    let atomic = explain(rt, alloc, &whole, Level::Atomic, 1, &OpenGate)?;
+    write_text(alloc, &atomic, out)?;
     Ok(())
 }
 

@@ -1,5 +1,5 @@
 -- What a run puts into the file for the certificate of its last answer is the certificate of the answer for all that the records finish.
-use Rattle.std.proofs.Common.{ℕ, ◌≡◌, List, [], ◌∷◌, ◌++◌, Option, None, Some, Result, sym, ap, subst, ◌∙◌, inl, inr, ◌⊎◌}
+use Rattle.std.proofs.Common.{ℕ, ◌≡◌, List, None, Some, Result, sym, ap, subst, ◌∙◌, inl, inr, ◌⊎◌}
 use Rattle.std.specs.List.{last_or}
 use Rattle.tcc_txn.specs.Answers.{answers_of}
 use Rattle.tcc_txn.specs.Finished.{KeepsLimits, finished_in}

@@ -10,3 +10,4 @@ pub mod Runs
 pub mod Sent
 pub mod NoFloats
 mod WorkedTexts
+pub mod Explains

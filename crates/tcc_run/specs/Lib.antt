@@ -1,4 +1,5 @@
 -- what has to be believed: what a run prints and ends with
+pub mod Headline
 pub mod Statuses
 pub mod Texts
 pub mod Json

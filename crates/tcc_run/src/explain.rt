@@ -1,5 +1,5 @@
 //! From the bytes of records to their answers: at each seal, and at the end.
-ghost use Rattle.std.specs.Prelude.{◌≡◌, ◌≢◌, ℕ, List, [], None, Some, Ok, IfErr, IfOk, IfSome, MatchResult, OnErr, OnOk, option_map};
+ghost use Rattle.std.specs.Prelude.{◌≡◌, ◌≢◌, ◌<◌, ◌≤◌, ℕ, List, [], None, Some, Ok, IfErr, IfOk, IfSome, MatchResult, OnErr, OnOk, option_map};
 ghost use Rattle.std.specs.FinMap as sessions;
 ghost use Rattle.tcc_txn.specs.Ahead.{fault_met};
 ghost use Rattle.tcc_txn.specs.Answers.{answers_of, records_of};
@@ -12,6 +12,7 @@ ghost use Rattle.tcc_run.specs.Runs.{Gains, GainsPart, IsRun};
 ghost use Rattle.tcc_run.specs.Stages.{AllAnswered, AnswersKept, Concludes, EndsAnswering, EndsEarly, count_at};
 
 use crate::halt::Halt;
+use crate::headline::explain_snapshot;
 use crate::options::Options;
 use crate::printing::{print_device, print_halt, print_memory, send_answer, send_unresolved};
 use crate::status::last_status;
@@ -19,7 +20,7 @@ use std::alloc::Global;
 use std::io::{Read, Write};
 use std::thread::Threads;
 use tcc_cert::{WriteFault, write};
-use tcc_explain::{Answer, ExplainFault, explain};
+use tcc_explain::{Answer, ExplainFault, Gate};
 use tcc_txn::{Moment, NoMemory, Recording, Snapshot};
 
 /// How many transactions the session at this place has finished; past the last place, none.
@@ -54,17 +55,19 @@ struct Last {
 
 /// Writes the answer for the snapshot at the level, as text or as a line of JSON, and gives it, none where the reads have
 /// faults, which are told in its place; else the run ends with this number.
-fn answer<W: Write>(
+fn answer<W: Write, G: Gate>(
     rt: &(impl Threads + Sync),
     alloc: Global,
     snapshot: &Snapshot,
     options: Options,
+    gate: &G,
     out: &mut W,
 ) -> Result<Option<Answer>, u8>
+    requires workers { (0 < options.workers) × (options.workers ≤ 32) }
     ensures kept { IfOk result (AnswersKept options snapshot.now (W.contents out.old) (W.contents out.new)) }
     ensures ended { IfErr result (EndsAnswering options snapshot.now (W.contents out.old) (W.contents out.new)) }
 {
-    match explain(rt, alloc, snapshot, options.level) {
+    match explain_snapshot(rt, alloc, snapshot, options.level, options.workers, gate) {
         Ok(answer) => {
             send_answer(alloc, &answer, options.json, out)?;
             Ok(Some(answer))
@@ -79,14 +82,16 @@ fn answer<W: Write>(
 
 /// Writes the answer at the end, unless the last one was for as many transactions, and gives the last answer of the run;
 /// else the run ends with this number.
-fn answer_last<W: Write>(
+fn answer_last<W: Write, G: Gate>(
     rt: &(impl Threads + Sync),
     alloc: Global,
     snapshot: &Snapshot,
     last: Option<Last>,
     options: Options,
+    gate: &G,
     out: &mut W,
 ) -> Result<Option<Answer>, u8>
+    requires workers { (0 < options.workers) × (options.workers ≤ 32) }
     ensures said { IfSome last (λ last. last.transactions ≡ transaction_count snapshot.now → (W.contents out.new ≡ W.contents out.old) × (result ≡ Ok last.answer)) }
     ensures due { IfSome last (λ last. last.transactions ≢ transaction_count snapshot.now)
         → MatchResult result (AnswersKept options snapshot.now (W.contents out.old) (W.contents out.new)) (EndsAnswering options snapshot.now (W.contents out.old) (W.contents out.new)) }
@@ -96,19 +101,21 @@ fn answer_last<W: Write>(
             return Ok(last.answer);
         }
     }
-    let answer = answer(rt, alloc, snapshot, options, out)?;
+    let answer = answer(rt, alloc, snapshot, options, gate, out)?;
     Ok(answer)
 }
 
 /// Writes the answers at the seals that are still to come and the one at the end, if it is due, and gives the last; or
 /// writes what ends the run before, and gives the number that it ends with.
-fn answer_all<R: Read + Drop, W: Write>(
+fn answer_all<R: Read + Drop, W: Write, G: Gate>(
     rt: &(impl Threads + Sync),
     alloc: Global,
     recording: &mut Recording<R>,
     options: Options,
+    gate: &G,
     out: &mut W,
 ) -> Result<Option<Answer>, u8>
+    requires workers { (0 < options.workers) × (options.workers ≤ 32) }
     ensures { (bytes : List ℕ) → IsRecording R.remaining recording.old [] (answers_of bytes) → IsWithin R.remaining recording.old.rows (records_of bytes) → fault_met recording.old.rows ≡ None
         → MatchResult result (AllAnswered options bytes (W.contents out.old) (W.contents out.new)) (EndsEarly options bytes (W.contents out.old) (W.contents out.new)) }
 {
@@ -119,14 +126,14 @@ fn answer_all<R: Read + Drop, W: Write>(
                 // One answer is held at a time: the certificate of a large history fills much memory.
                 last = None;
                 let snapshot = recording.snapshot();
-                let answer = answer(rt, alloc, snapshot, options, out)?;
+                let answer = answer(rt, alloc, snapshot, options, gate, out)?;
                 last = Some(Last {
                     answer,
                     transactions: transaction_count(snapshot),
                 });
             }
             Ok(Moment::End) => {
-                return answer_last(rt, alloc, recording.snapshot(), last, options, out);
+                return answer_last(rt, alloc, recording.snapshot(), last, options, gate, out);
             }
             Err(fault) => return Err(print_halt(alloc, &Halt::from(fault), options.json, out)),
         }
@@ -137,19 +144,21 @@ fn answer_all<R: Read + Drop, W: Write>(
 
 /// Writes the answers for the records of the reader, and gives the last; or writes what ends the run before, and gives the
 /// number that it ends with.
-fn answer_records<R: Read + Drop, W: Write>(
+fn answer_records<R: Read + Drop, W: Write, G: Gate>(
     rt: &(impl Threads + Sync),
     alloc: Global,
     reader: R,
     options: Options,
+    gate: &G,
     out: &mut W,
 ) -> Result<Option<Answer>, u8>
+    requires workers { (0 < options.workers) × (options.workers ≤ 32) }
     ensures { IfSome (R.remaining reader) (λ bytes. MatchResult result (AllAnswered options bytes (W.contents out.old) (W.contents out.new)) (EndsEarly options bytes (W.contents out.old) (W.contents out.new))) }
 {
     match Recording::new(alloc, reader) {
         Ok(recording) => {
             let mut recording = recording;
-            answer_all(rt, alloc, &mut recording, options, out)
+            answer_all(rt, alloc, &mut recording, options, gate, out)
         }
         Err(NoMemory) => Err(print_memory(out, options.json)),
     }
@@ -186,21 +195,24 @@ fn conclude<W: Write, C: Write>(
 
 /// Writes an answer at the level for what was finished before each seal of the bytes of the reader, and before their end,
 /// as text or as lines of JSON, and behind it, into the file if one is given, the certificate of the last. Gives the number
-/// that the run ends with.
+/// that the run ends with. All of this is the same for every number of workers, 1 to 32, and the gate is called before each
+/// start that they search.
 ///
 /// The file is empty before: nothing goes into it where the last answer is that reads have faults, or where the run ends
 /// by a fault.
-pub fn run_explain<R: Read + Drop, W: Write, C: Write>(
+pub fn run_explain<R: Read + Drop, W: Write, C: Write, G: Gate>(
     rt: &(impl Threads + Sync),
     alloc: Global,
     reader: R,
     out: &mut W,
     certificate: &mut Option<C>,
     options: Options,
+    gate: &G,
 ) -> u8
+    requires workers { (0 < options.workers) × (options.workers ≤ 32) }
     ensures { IfSome (R.remaining reader) (λ bytes. IsRun options bytes (W.contents out.old) (W.contents out.new) (option_map C.contents certificate.old) (option_map C.contents certificate.new) result) }
 {
-    match answer_records(rt, alloc, reader, options, out) {
+    match answer_records(rt, alloc, reader, options, gate, out) {
         Ok(last) => conclude(&last, certificate, options, out),
         Err(code) => code,
     }

@@ -5,6 +5,7 @@
 mod check;
 mod explain;
 mod halt;
+mod headline;
 pub mod json;
 mod judged;
 pub mod laws;
@@ -17,10 +18,9 @@ mod verdicts;
 pub use check::run_check;
 pub use explain::run_explain;
 pub use halt::Halt;
+pub use headline::explain_snapshot;
 pub use judged::Judged;
 pub use options::Options;
 pub use status::Status;
+pub use tcc_explain::{Gate, OpenGate};
 pub use verdicts::verdict_text;
-
-#[cfg(test)]
-mod tests;

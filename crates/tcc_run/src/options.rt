@@ -7,6 +7,8 @@ use tcc_graph::Level;
 pub struct Options {
     /// The level at which histories are judged.
     pub level: Level,
+    /// How many workers search for a least cycle, 1 to 32. No text depends on it.
+    pub workers: u32,
     /// Each in one line of JSON.
     pub json: bool,
 }

@@ -3,4 +3,4 @@ use Rattle.tcc_cycle.specs.Ways.{IsBefore}
 use Rattle.tcc_cycle.proofs.picking.last_start.Given as goal
 
 abbrev pub invariant-loop-from : goal.invariant-loop-from
-invariant-loop-from l = (u : ℕ) (c : ℕ) → l.search.start ≤ u → u < l.from → IsBefore l.prices l.search l.to l.left u c → ⊥
+invariant-loop-from l = (u : ℕ) (c : ℕ) → l.back.start ≤ u → u < l.from → IsBefore l.prices l.back l.to l.left u c → ⊥

@@ -1,9 +1,9 @@
-use Rattle.std.proofs.Common.{ℕ, ◌≡◌, length, ap, refl, sym, subst}
+use Rattle.std.proofs.Common.{length, ap, refl, sym, subst}
 use Rattle.tcc_graph.specs.Levels.{Judged}
-use Rattle.tcc_graph.specs.Links.{cost}
+use Rattle.tcc_graph.specs.declared.level.Level.{Level}
+use Rattle.tcc_answer.specs.declared.answer.Answer.TheVariants as answer
+use Rattle.tcc_explain.specs.Explained.{IsAnswerOf}
 use Rattle.tcc_graph.specs.Orders.{IsFirstOrder}
-use Rattle.tcc_cycle.specs.Costs.{AreFarRows}
-use Rattle.tcc_explain.specs.Certificates.{IsNearTable, IsFarTable}
 use Rattle.tcc_explain.proofs.explaining.history_answer.Goals as goal
 
 pub returns-in-Some : goal.returns-in-Some
@@ -13,22 +13,11 @@ returns-in-Some g c =
     rw (c.new.ensures, c.new-order.ensures, sym c.in_ok-near.ensures.level)
     (((c.order_or_cycle.ensures j).0 (c.in-Some.order.items, first.commit), first), refl, ap length c.sessions.ensures.value, c.in_ok-labels.ensures, rw c.in_ok-near.ensures.level c.in_ok-clocks.ensures)
 
-pub unreachable-requires : goal.unreachable-requires
-unreachable-requires g c =
+pub anomaly-requires-clause-cycle : goal.anomaly-requires-clause-cycle
+anomaly-requires-clause-cycle g c =
     let j : Judged = record { history = c.args.graph.now; level = c.in_ok-near.near.level } in
-    (rw c.in_default-2.is at c.in_ok-cycle.ensures) (rw c.in_default.is at (c.in_ok-order.ensures j c.in_ok-prices.ensures))
+    λ κs lives. rw c.in_default.is at (c.in_ok-order.ensures j c.in_ok-prices.ensures)
 
 pub returns : goal.returns
 returns g c =
-    let j : Judged = record { history = c.args.graph.now; level = c.in_ok-near.near.level } in
-    let cycle = c.in-Some-2.cycle in
-    let first = rw c.in-Some-2.is at c.in_ok-cycle.ensures in
-    let costs : cycle.cost ≡ cost cycle.links.items = first.1 in
-    let rows : AreFarRows j cycle.cost c.deref.result.now = rw c.deref.ensures.value first.2 in
-    rw (c.new-2.ensures, c.new-links.ensures, sym c.in_ok-near.ensures.level) (
-      (cycle.start, first.0),
-      refl,
-      c.in_ok-labels.ensures,
-      subst (λ (n : ℕ). IsNearTable j n c.in_ok-near-2.near) costs c.in_ok-near-2.ensures,
-      subst (λ (n : ℕ). IsFarTable j n c.in_ok-far.far) costs (c.in_ok-far.ensures j rows),
-    )
+    subst (λ (level : Level). IsAnswerOf (record { history = c.args.graph.now; level = level }) (answer.Anomaly c.in_ok-anomaly.anomaly)) c.in_ok-near.ensures.level c.in_ok-anomaly.ensures

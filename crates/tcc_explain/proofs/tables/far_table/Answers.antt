@@ -1,4 +1,3 @@
-use Rattle.std.proofs.Common.{arith}
 use Rattle.std.proofs.lemmas.List.{take_all}
 use Rattle.tcc_explain.proofs.TableLemmas.{far_table}
 use Rattle.tcc_explain.proofs.tables.far_table.Goals as goal
@@ -8,4 +7,4 @@ returns c = λ j are.
     let cap = c.args.cap in
     let rows = c.args.rows.now in
     rw (c.new.ensures, c.loop-row.invariant, take_all c.loop-row.row-index rows c.loop-row-test.false)
-    (far_table j cap rows (omega arith) are)
+    (far_table j cap rows are)

@@ -1,18 +1,14 @@
 //! Readers that fail in mid-stream and writers that refuse once; what whole runs answer is in tests/rows.
-use crate::{Options, run_check, run_explain};
+use crate::answers::{OWN, OWN_TEXT};
 use std::alloc::Global;
 use std::io::{self, ErrorKind, Read, Write};
 use std::process::Abort;
 use std::test::Fail;
 use std::thread::Threads;
 use tcc_graph::Level;
+use tcc_run::{OpenGate, Options, run_check, run_explain};
 
-const STALE: &str = "a,begin\na,w,x,1\na,commit\na,begin\na,r,x,0\na,commit\n";
-
-const STALE_TEXT: &str = "anomaly: 3 steps, stale-initial-read\nsession init -> a/1\n\
-    derived a/1 -> init by x, read by a/2\n  session a/1 -> a/2\n  against init -> a/2 by x\n";
-
-const STALE_CERTIFICATE: &str = "tcc-certificate 2 causal\ncycle 3 2 3\nS 0 1\nD 1 0 x 2 1\nS 1 2\n\
+const OWN_CERTIFICATE: &str = "tcc-certificate 2 causal\ncycle 3 2 3\nS 0 1\nD 1 0 x 2 1\nS 1 2\n\
     near\n3 1 1\n3 3 1\n3 3 3\nfar\n3 1 1\n3 1\n3\nend\n";
 
 // Two transactions, a seal, and one more.
@@ -40,7 +36,7 @@ const DEVICE_JSON: &str = "{\"answer\":\"device\"}\n";
 
 // Records that are explained, as text or as JSON: what goes out, the certificate, and the number of the end.
 const EXPLAINED: [(&str, bool, &str, &str, u8); 5] = [
-    (STALE, false, STALE_TEXT, STALE_CERTIFICATE, 1),
+    (OWN, false, OWN_TEXT, OWN_CERTIFICATE, 1),
     (SEALED, false, SEALED_TEXTS, SEALED_CERTIFICATE, 0),
     (SEALED, true, SEALED_JSON, SEALED_CERTIFICATE, 0),
     (UNRESOLVED, false, UNRESOLVED_TEXT, "", 2),
@@ -55,16 +51,26 @@ const EXPLAINED: [(&str, bool, &str, &str, u8); 5] = [
 
 // Records and certificates that are checked: what goes out, and the number of the end.
 const CHECKED: [(&str, &str, &str, u8); 3] = [
-    (STALE, STALE_CERTIFICATE, "accepted: cycle, 3 steps\n", 0),
-    (STALE, SEALED_CERTIFICATE, "rejected: rule 1 at 0 0\n", 7),
+    (OWN, OWN_CERTIFICATE, "accepted: cycle, 3 steps\n", 0),
+    (OWN, SEALED_CERTIFICATE, "rejected: rule 1 at 0 0\n", 7),
     (UNRESOLVED, "ring\n", UNRESOLVED_TEXT, 2),
 ];
 
-fn causal(json: bool) -> Options {
-    Options {
+// Explains the records by one worker, and gives the number that the run ends with.
+fn explained<R: Read + Drop, W: Write, C: Write>(
+    rt: &(impl Threads + Sync),
+    alloc: Global,
+    records: R,
+    out: &mut W,
+    file: &mut Option<C>,
+    json: bool,
+) -> u8 {
+    let options = Options {
         level: Level::Causal,
+        workers: 1,
         json,
-    }
+    };
+    run_explain(rt, alloc, records, out, file, options, &OpenGate)
 }
 
 // A reader that fails after its bytes.
@@ -103,7 +109,7 @@ fn readers_of_records_fail(rt: HostRuntime) -> Result<(), Fail> {
         let mut out = Vec::new(alloc);
         let mut file = Some(Vec::new(alloc));
         let broken = Broken { bytes: read };
-        let code = run_explain(&rt, alloc, broken, &mut out, &mut file, causal(false));
+        let code = explained(&rt, alloc, broken, &mut out, &mut file, false);
         assert_eq!(&rt; out.as_slice(), text.as_bytes(), "after {bytes} bytes");
         assert!(&rt; file.is_some_and(|file: Vec<u8>| file.is_empty()));
         assert_eq!(&rt; code, 6);
@@ -115,12 +121,12 @@ fn readers_of_records_fail(rt: HostRuntime) -> Result<(), Fail> {
 #[test]
 fn readers_of_certificates_fail(rt: HostRuntime) -> Result<(), Fail> {
     let alloc = rt.alloc();
-    for bytes in 0..STALE_CERTIFICATE.len() + 1 {
-        let read = &STALE_CERTIFICATE.as_bytes()[..bytes];
+    for bytes in 0..OWN_CERTIFICATE.len() + 1 {
+        let read = &OWN_CERTIFICATE.as_bytes()[..bytes];
         let line = line_after(read);
         let text = format!(in alloc; "certificate line {line}: Read\n")?;
         let mut out = Vec::new(alloc);
-        let code = run_check(alloc, STALE.as_bytes(), Broken { bytes: read }, &mut out);
+        let code = run_check(alloc, OWN.as_bytes(), Broken { bytes: read }, &mut out);
         assert_eq!(&rt; out.as_slice(), text.as_bytes(), "after {bytes} bytes");
         assert_eq!(&rt; code, 6);
     }
@@ -199,25 +205,11 @@ fn writers_of_answers_fail(rt: HostRuntime) -> Result<(), Fail> {
         for room in 0..text.len() + 1 {
             let mut out = refusing(alloc, room, Refusal::NoBytes);
             let mut no_file: Option<Vec<u8>> = None;
-            let code = run_explain(
-                &rt,
-                alloc,
-                records.as_bytes(),
-                &mut out,
-                &mut no_file,
-                causal(json),
-            );
+            let code = explained(&rt, alloc, records.as_bytes(), &mut out, &mut no_file, json);
             stopped(&rt, &out, text, status, code);
             let mut out = refusing(alloc, room, Refusal::Write(ErrorKind::Interrupted));
             let mut file = Some(Vec::new(alloc));
-            let code = run_explain(
-                &rt,
-                alloc,
-                records.as_bytes(),
-                &mut out,
-                &mut file,
-                causal(json),
-            );
+            let code = explained(&rt, alloc, records.as_bytes(), &mut out, &mut file, json);
             stopped(&rt, &out, text, status, code);
             let written = if room < text.len() { "" } else { certificate };
             assert!(&rt; file.is_some_and(|file: Vec<u8>| file.as_slice() == written.as_bytes()));
@@ -234,14 +226,7 @@ fn writers_of_certificates_fail(rt: HostRuntime) -> Result<(), Fail> {
         for room in 0..certificate.len() {
             let mut out = Vec::new(alloc);
             let mut file = Some(refusing(alloc, room, Refusal::Write(ErrorKind::Other)));
-            let code = run_explain(
-                &rt,
-                alloc,
-                records.as_bytes(),
-                &mut out,
-                &mut file,
-                causal(json),
-            );
+            let code = explained(&rt, alloc, records.as_bytes(), &mut out, &mut file, json);
             let line = if json { DEVICE_JSON } else { "device\n" };
             let said = format!(in alloc; "{text}{line}")?;
             assert_eq!(&rt; out.as_slice(), said.as_bytes(), "of {text:?}");

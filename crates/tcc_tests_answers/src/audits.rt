@@ -1,20 +1,16 @@
 //! What no clause says: that there is an answer, which one it is, and which refusal comes.
-use crate::{AuditFault, audit};
+use crate::answers::{OWN_TEXT, text_of};
 use std::alloc::Global;
 use std::process::Abort;
 use std::sync::Wait;
 use std::test::Fail;
 use std::thread;
 use std::thread::Threads;
-use tcc_answer::write_text;
+use tcc_audit::{AuditFault, audit};
 use tcc_book::{Book, Pass, WholeFault};
-use tcc_explain::ExplainFault;
+use tcc_explain::{ExplainFault, OpenGate};
 use tcc_graph::Level;
 use tcc_txn::{Name, Op, Txn};
-
-/// The answer where each of two sessions writes a key and then reads its initial value, whoever recorded first.
-const STALE: &str = "anomaly: 3 steps, stale-initial-read\nsession init -> a/1\n\
-    derived a/1 -> init by x, read by a/2\n  session a/1 -> a/2\n  against init -> a/2 by x\n";
 
 /// The key of a session's writes.
 fn key_of(session: &Name) -> Option<Name> {
@@ -63,11 +59,10 @@ fn gives(
     text: &str,
 ) -> bool {
     for level in [Level::Causal, Level::Atomic] {
-        let Ok(answer) = audit(rt, alloc, book, passes, level) else {
+        let Ok(answer) = audit(rt, alloc, book, passes, level, 2, &OpenGate) else {
             return false;
         };
-        let mut out = Vec::new(alloc);
-        if write_text(alloc, &answer, &mut out).is_err() || out.as_slice() != text.as_bytes() {
+        if !text_of(alloc, &answer).is_some_and(|out: Vec<u8>| out.as_slice() == text.as_bytes()) {
             return false;
         }
     }
@@ -95,7 +90,7 @@ fn two_recorders(rt: HostRuntime) {
             let Some(pass) = end else {
                 panic!(rt; "a recorder was refused");
             };
-            let missed = audit(&rt, alloc, &book, &passes, Level::Causal);
+            let missed = audit(&rt, alloc, &book, &passes, Level::Causal, 1, &OpenGate);
             assert!(rt;
                 matches!(
                     missed,
@@ -104,7 +99,7 @@ fn two_recorders(rt: HostRuntime) {
             );
             assert!(rt; passes.push(pass).is_ok());
         }
-        assert!(rt; gives(&rt, alloc, &book, &passes, STALE));
+        assert!(rt; gives(&rt, alloc, &book, &passes, OWN_TEXT));
     }
 }
 
@@ -126,7 +121,7 @@ fn unresolved(rt: HostRuntime) {
             let done = record(&rt, alloc, &book, pass, Op::Get { key, value });
             assert!(rt; done.is_some());
         }
-        match audit(&rt, alloc, &book, &passes, Level::Causal) {
+        match audit(&rt, alloc, &book, &passes, Level::Causal, 1, &OpenGate) {
             Err(AuditFault::Explain(ExplainFault::Reads(faults))) => {
                 assert_eq!(rt; faults.len() as u64, value - 6);
             }

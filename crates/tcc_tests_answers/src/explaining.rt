@@ -1,22 +1,12 @@
 //! Worked histories at a level with their answers as text and as a certificate, worked out by hand.
-use crate::laws::{certificates, certified, one_answer};
-use crate::{ExplainFault, explain, write_text};
-use std::alloc::Global;
-use std::process::Abort;
+use crate::answers::{OWN, OWN_TEXT, STALE, TORN, answer_of, text_of};
 use std::test::Fail;
-use std::thread::Threads;
-use tcc_answer::Answer;
 use tcc_cert::write;
+use tcc_explain::laws::{certificates, certified, one_answer};
+use tcc_explain::{ExplainFault, OpenGate, explain};
 use tcc_graph::Level;
 use tcc_reads::ReadFaultKind;
 use tcc_txn::snapshot_of;
-
-/// A read of the initial value behind an own write.
-const OWN: &str = "a,begin\na,w,x,1\na,commit\na,begin\na,r,x,0\na,commit\n";
-
-/// Two writes that one transaction reads both.
-const TORN: &str = "a,begin\na,w,x,1\na,commit\nb,begin\nb,w,x,2\nb,commit\n\
-    c,begin\nc,r,x,1\nc,r,x,2\nc,commit\n";
 
 /// A read of the initial value behind a write of another session, known by a later write of that session.
 const WRITES: &str = "a,begin\na,w,x,1\na,commit\na,begin\na,w,y,1\na,commit\n\
@@ -31,15 +21,9 @@ const HALF_TEXT: &str = "anomaly: 3 steps, stale-initial-read\nsession init -> a
 /// Records, a level, and the text of their answer: where the walks of all reasons are single pairs, the levels agree;
 /// where they are longer, there is an order at `Atomic`.
 const TEXTS: [(&str, Level, &str); 7] = [
+    (OWN, Level::Atomic, OWN_TEXT),
     (
-        OWN,
-        Level::Atomic,
-        "anomaly: 3 steps, stale-initial-read\nsession init -> a/1\n\
-        derived a/1 -> init by x, read by a/2\n  session a/1 -> a/2\n  against init -> a/2 by x\n",
-    ),
-    (
-        "a,begin\na,w,x,1\na,commit\nb,begin\nb,r,x,1\nb,w,y,1\nb,commit\n\
-        c,begin\nc,r,y,1\nc,commit\nc,begin\nc,r,x,0\nc,commit\n",
+        STALE,
         Level::Atomic,
         "consistent: 4 transactions, 3 sessions\norder: init a/1 b/1 c/1 c/2\n",
     ),
@@ -100,36 +84,32 @@ const CERTIFICATES: [(&str, Level, &str); 5] = [
     ),
 ];
 
-/// The answer for these records at a level.
-fn answer(
-    rt: &(impl Threads + Sync),
-    alloc: Global,
-    records: &str,
-    level: Level,
-) -> Option<Answer> {
-    let snapshot = snapshot_of(alloc, records.as_bytes()).ok()?;
-    explain(rt, alloc, &snapshot, level).ok()
-}
-
+/// The text is the same by 1, 2 and 32 workers.
 #[test]
 fn texts(rt: HostRuntime) {
     let alloc = rt.alloc();
     for (records, level, text) in TEXTS {
-        let answer = answer(&rt, alloc, records, level).expect(&rt, "an answer");
-        let mut out = Vec::new(alloc);
-        assert!(&rt; write_text(alloc, &answer, &mut out).is_ok());
-        assert_eq!(&rt; out.as_slice(), text.as_bytes(), "for {records}");
+        for workers in [1, 2, 32] {
+            assert!(&rt; 0 < workers && workers <= 32);
+            let answer = answer_of(&rt, alloc, records, level, workers).expect(&rt, "an answer");
+            let out = text_of(alloc, &answer).expect(&rt, "a text");
+            assert_eq!(&rt; out.as_slice(), text.as_bytes(), "for {records}");
+        }
     }
 }
 
+/// So is the certificate.
 #[test]
 fn certificates_of_answers(rt: HostRuntime) {
     let alloc = rt.alloc();
     for (records, level, text) in CERTIFICATES {
-        let answer = answer(&rt, alloc, records, level).expect(&rt, "an answer");
-        let mut out = Vec::new(alloc);
-        assert!(&rt; write(answer.certificate(), &mut out).is_ok());
-        assert_eq!(&rt; out.as_slice(), text.as_bytes(), "for {records}");
+        for workers in [1, 2, 32] {
+            assert!(&rt; 0 < workers && workers <= 32);
+            let answer = answer_of(&rt, alloc, records, level, workers).expect(&rt, "an answer");
+            let mut out = Vec::new(alloc);
+            assert!(&rt; write(answer.certificate(), &mut out).is_ok());
+            assert_eq!(&rt; out.as_slice(), text.as_bytes(), "for {records}");
+        }
     }
     certificates();
     certified();
@@ -142,7 +122,7 @@ fn read_faults(rt: HostRuntime) -> Result<(), Fail> {
     let alloc = rt.alloc();
     let records = "a,begin\na,w,x,1\na,abort\nb,begin\nb,r,x,1\nb,r,z,7\nb,commit\n";
     let snapshot = snapshot_of(alloc, records.as_bytes())?;
-    match explain(&rt, alloc, &snapshot, Level::Causal) {
+    match explain(&rt, alloc, &snapshot, Level::Causal, 1, &OpenGate) {
         Err(ExplainFault::Reads(faults)) => {
             assert_eq!(&rt; faults.len(), 2);
             assert!(&rt; faults[0].kind == ReadFaultKind::Aborted && faults[0].op == 1);

@@ -1,0 +1,36 @@
+//! The main theorem, as the contract of one call.
+ghost use Rattle.std.specs.Prelude.{◌<◌, ◌≤◌, IfOk, MatchResult};
+ghost use Rattle.tcc_explain.specs.Explained.{IsAnswerOf, IsRefusal};
+ghost use Rattle.tcc_run.specs.Headline.{IsExplained, judged};
+
+use std::alloc::Global;
+use std::thread::Threads;
+use tcc_check::laws::certified as certified_claim;
+use tcc_explain::laws::certified as certified_answer;
+use tcc_explain::{Answer, ExplainFault, Gate, explain};
+use tcc_graph::Level;
+use tcc_txn::Snapshot;
+
+/// Explains a snapshot at a level by 1 to 32 workers. Whatever their number and the order in which they search, the answer
+/// is either a commit order that satisfies the axiom of the level, or a cycle, each derived link with its reason, that no
+/// cycle undercuts in steps; and the certificate given with it is accepted by the checker, whose yes alone implies this. Or
+/// these are all read faults of the snapshot. `tcc_explain::laws::one_answer` says that there is one such first answer.
+pub fn explain_snapshot<G: Gate>(
+    rt: &(impl Threads + Sync),
+    alloc: Global,
+    snapshot: &Snapshot,
+    level: Level,
+    workers: u32,
+    gate: &G,
+) -> Result<Answer, ExplainFault>
+    requires workers { (0 < workers) × (workers ≤ 32) }
+    ensures headline { MatchResult result (IsExplained snapshot.now level) (IsRefusal snapshot.now) }
+    ensures first { IfOk result (IsAnswerOf (judged snapshot.now level)) }
+{
+    certified_answer();
+    certified_claim();
+    match explain(rt, alloc, snapshot, level, workers, gate) {
+        Ok(answer) => Ok(answer),
+        Err(fault) => Err(fault),
+    }
+}

@@ -1,0 +1,13 @@
+//! Tests of answers, audits and runs, over worked histories. They stand apart, so that what they test is proved once.
+#![tactic(auto)]
+
+#[cfg(test)]
+mod answers;
+#[cfg(test)]
+mod audits;
+#[cfg(test)]
+mod cycles;
+#[cfg(test)]
+mod explaining;
+#[cfg(test)]
+mod runs;
