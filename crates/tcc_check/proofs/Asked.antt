@@ -1,9 +1,11 @@
 -- Rules asked one after the other, and the same rules in other words.
-use Rattle.std.proofs.Common.{◌≡◌, ◌↔◌, refl, ℕ, inl, inr, List, [], ◌∷◌, ◌++◌}
+use Rattle.std.proofs.Common.{◌≡◌, ◌↔◌, refl, ℕ, inl, inr, List, [], ◌∷◌, ◌++◌, Result, Ok, Err}
+use Rattle.std.specs.Prelude.{IfOk}
 use Rattle.tcc_check.specs.declared.verdict.Rule.{Rule}
 use Rattle.tcc_check.specs.declared.verdict.Verdict.{Verdict}
 use Rattle.tcc_check.specs.declared.verdict.Verdict.TheVariants as verdict
 use Rattle.tcc_check.specs.Verdicts.{Asked, by_places, AllHold, IsFirstBroken, IsAnswer}
+use Rattle.tcc_check.specs.Coming.{first_rejected}
 use Rattle.tcc_check.proofs.First.{first_as, nowhere_as}
 
 -- later rules change nothing where one of the first is broken
@@ -22,6 +24,10 @@ answer_later [] later answer hold said = said
 answer_later (asked ∷ rules) later verdict.Accepted hold said = (hold.0, answer_later rules later verdict.Accepted hold.1 said)
 answer_later (asked ∷ rules) later (verdict.Rejected rule at) hold said = inr (hold.0, answer_later rules later (verdict.Rejected rule at) hold.1 said)
 
+pub ok_later : {E : Type 0} (rules later : List Asked) (result : Result Verdict E) → AllHold rules → IfOk result (IsAnswer later) → IfOk result (IsAnswer (rules ++ later))
+ok_later rules later (Ok answer) hold said = answer_later rules later answer hold said
+ok_later rules later (Err e) hold said = said
+
 pub all_hold : (rules : List Asked) (answer : Verdict) → answer ≡ verdict.Accepted → IsAnswer rules answer → AllHold rules
 all_hold rules verdict.Accepted accepted said = said
 all_hold rules (verdict.Rejected rule at) accepted said = absurd cc
@@ -39,3 +45,8 @@ module _ (a b : Rule) (P Q P' Q' : ℕ × ℕ → Type 0) (p : (at : ℕ × ℕ)
   two_as (verdict.Rejected rule at) (inl here) = inl (here.0, first_as P P' (λ at. (p at).0) (λ at. (p at).1) at here.1)
   two_as (verdict.Rejected rule at) (inr (holds, inl here)) = inr (nowhere_as P P' (λ at. (p at).1) holds, inl (here.0, first_as Q Q' (λ at. (q at).0) (λ at. (q at).1) at here.1))
   two_as (verdict.Rejected rule at) (inr (holds, inr none)) = absurd none.1
+
+-- the first of two verdicts that is no acceptance, on the first rules and on the later ones
+pub answer_first : (rules later : List Asked) (a b : Verdict) → IsAnswer rules a → IsAnswer later b → IsAnswer (rules ++ later) (first_rejected a b)
+answer_first rules later verdict.Accepted b hold said = answer_later rules later b hold said
+answer_first rules later (verdict.Rejected rule at) b broken said = broken_early rules later rule at broken

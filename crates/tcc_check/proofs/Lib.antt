@@ -17,3 +17,8 @@ pub mod Decisions
 pub mod CertifiedCycle
 pub mod CertifiedOrder
 pub mod Claims
+pub mod ComingFacts
+pub mod ClocksBehind
+pub mod NearBehind
+pub mod FarBehind
+pub mod JudgedFacts

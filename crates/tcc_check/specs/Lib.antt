@@ -5,3 +5,6 @@ pub mod Links
 pub mod Places
 pub mod Verdicts
 pub mod TableRules
+pub mod Streams
+pub mod Coming
+pub mod Judged

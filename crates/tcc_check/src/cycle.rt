@@ -1,10 +1,11 @@
 //! The rules on a claim that a cycle is least.
-ghost use Rattle.std.specs.Prelude.{◌≡◌, ◌≤◌, ◌<◌, ◌↔◌, ◌^◌, IsTrue, IfOk, length};
+ghost use Rattle.std.specs.Prelude.{ℕ, ◌≡◌, ◌≤◌, ◌<◌, ◌↔◌, ◌^◌, All, IsTrue, IfOk, List, length};
 ghost use Rattle.tcc_txn.specs.declared.limits.TheConstants.{MAX_COUNT};
 ghost use Rattle.tcc_reads.specs.History.{count};
 ghost use Rattle.tcc_graph.specs.declared.level.Level.{Level};
 ghost use Rattle.tcc_cert.specs.Tables.{HasSize, HasFarSize, IsCapped};
-ghost use Rattle.tcc_cert.specs.CycleRules.{HasRightSizes};
+ghost use Rattle.tcc_cert.specs.CycleRules.{HasRightSizes, IsLinkBelow};
+ghost use Rattle.tcc_check.specs.Judged.{links_rules};
 ghost use Rattle.tcc_check.specs.Verdicts.{IsAnswer, bounds_rules, cycle_rules};
 ghost use Rattle.tcc_check.specs.TableRules.{table_rules, near_steps};
 ghost use Rattle.tcc_check.specs.Runs.{HasRuns};
@@ -43,7 +44,7 @@ fn has_right_sizes(
 
 /// Judges by the weights of links a table whose rows are those of the version: no link takes less than the table has,
 /// alone or, where steps are asked of by a rule, after what the table has for its start.
-fn table_verdict(
+pub(crate) fn table_verdict(
     alloc: Global,
     version: Version,
     least: u32,
@@ -76,7 +77,7 @@ fn table_verdict(
 }
 
 /// The rule on the steps of lengths, where the level asks for it: at `Atomic` no walk has a second step.
-fn near_steps(level: Level) -> Option<Rule>
+pub(crate) fn near_steps(level: Level) -> Option<Rule>
     ensures { result ≡ near_steps level }
 {
     match level {
@@ -142,6 +143,28 @@ fn bounds_verdict(
     }
 }
 
+/// Judges the links of a claim.
+pub(crate) fn links_verdict(
+    graph: &Graph,
+    level: Level,
+    links: &[Link],
+    least: u32,
+) -> Result<Verdict, NoMemory>
+    requires { All (IsLinkBelow (count graph.now)) links.now }
+    ensures { (version : Version) (near far : List (List ℕ)) → IfOk result (IsAnswer (links_rules graph.now (record { version = version; level = level; links = links.now; least = least; near = near; far = far }))) }
+{
+    if let Some(place) = first_wrong_link(graph, level, links) {
+        let Ok(place) = u32::try_from(place) else {
+            return Err(NoMemory);
+        };
+        return Ok(rejected(Rule::Links, place));
+    }
+    if links.is_empty() || !costs(links, least) {
+        return Ok(rejected(Rule::Links, 0));
+    }
+    Ok(Verdict::Accepted)
+}
+
 /// Judges a claim that a cycle is least.
 pub(crate) fn cycle_verdict(
     alloc: Global,
@@ -158,14 +181,9 @@ pub(crate) fn cycle_verdict(
     if !has_right_sizes(graph, version, links, least, near, far) {
         return Ok(rejected(Rule::Sizes, 0));
     }
-    if let Some(place) = first_wrong_link(graph, level, links) {
-        let Ok(place) = u32::try_from(place) else {
-            return Err(NoMemory);
-        };
-        return Ok(rejected(Rule::Links, place));
-    }
-    if links.is_empty() || !costs(links, least) {
-        return Ok(rejected(Rule::Links, 0));
+    match links_verdict(graph, level, links, least)? {
+        Verdict::Accepted => {}
+        of_links => return Ok(of_links),
     }
     bounds_verdict(alloc, graph, version, level, least, near, far)
 }

@@ -1,21 +1,27 @@
 //! The independent checker: judges a certificate of anybody's by the rules alone.
 #![tactic(auto)]
 
+mod coming;
 mod cycle;
+mod far_rows;
+mod judgement;
 mod judging;
 pub mod laws;
 mod links;
+mod near_rows;
 mod order;
 mod places;
 mod runs;
 mod searching;
 mod sizes;
 mod starts;
+mod stream_fault;
+mod streaming;
 mod verdict;
 mod weights;
 
+pub use judgement::{Claim, Judgement};
 pub use judging::check;
+pub use stream_fault::StreamFault;
+pub use streaming::{check_stream, judge_stream};
 pub use verdict::{Rule, Verdict};
-
-#[cfg(test)]
-mod tests;

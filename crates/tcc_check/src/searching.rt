@@ -13,7 +13,7 @@ use tcc_cert::{Numbers, Version};
 
 /// The first end to which the link from the start takes less than the row of the start has, whose numbers are those
 /// from `low` upward.
-fn first_long_end(weights: &[Numbers], row: &[u32], low: u32, start: u32) -> Option<u32>
+pub(crate) fn first_long_end(weights: &[Numbers], row: &[u32], low: u32, start: u32) -> Option<u32>
     requires size { HasSize (low + length row.now) (low + length row.now) weights.now }
     requires start { start < low + length row.now }
     requires few { low + length row.now < 2 ^ 32 }
@@ -71,7 +71,12 @@ fn is_overshot(starts: &[(u32, u32)], row: &[u32], low: u32, number: u32) -> boo
 
 /// The first end to which some link takes less than the row has, after what the row has for its start: a session pair
 /// of the end's run, whose least number is carried along, or one of the other links.
-fn first_overshot(begins: &[u32], starts: &[Starts], row: &[u32], low: u32) -> Option<u32>
+pub(crate) fn first_overshot(
+    begins: &[u32],
+    starts: &[Starts],
+    row: &[u32],
+    low: u32,
+) -> Option<u32>
     requires long { length starts.now ≡ low + length row.now }
     requires begins { length begins.now ≡ low + length row.now }
     requires inside { All (λ links. All (λ link. link.0 < low + length row.now) links) starts.now }

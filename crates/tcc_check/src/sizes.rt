@@ -1,5 +1,5 @@
 //! The rule on sizes and ranges.
-ghost use Rattle.std.specs.Prelude.{◌≡◌, ◌↔◌, ◌≤◌, All, IsTrue};
+ghost use Rattle.std.specs.Prelude.{◌≡◌, ◌↔◌, ◌≤◌, All, IsTrue, length};
 ghost use Rattle.tcc_cert.specs.Tables.{lowest, HasSize, HasFarSize, IsCapped};
 ghost use Rattle.tcc_cert.specs.CycleRules.{IsStepBelow, IsLinkBelow};
 
@@ -45,6 +45,13 @@ fn is_row_capped(row: &[u32], most: u32) -> bool
     ensures { IsTrue result ↔ All (λ number. number ≤ most) row.now }
 {
     row.iter().all(|number| *number <= most)
+}
+
+/// Whether a row has so many numbers, none above the limit.
+pub(crate) fn is_row_right(row: &[u32], long: usize, most: u32) -> bool
+    ensures { IsTrue result ↔ ((length row.now ≡ long) × All (λ number. number ≤ most) row.now) }
+{
+    row.len() == long && is_row_capped(row, most)
 }
 
 /// Whether no number of a table is above the limit.

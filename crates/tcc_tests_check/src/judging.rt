@@ -1,51 +1,12 @@
 //! Worked certificates, accepted and altered, with verdicts worked out by hand from the rules.
-use crate::{Rule, Verdict, check};
+use crate::worked::{ABORTED, CROSSED, DISTANT, FORKED, LONGER, RELAYED, STALE, TORN, TWO, graph};
 use std::alloc::{AllocError, Global};
 use std::process::Abort;
 use std::test::Fail;
 use tcc_cert::{Certificate, Links, Numbers, Table, Version, read};
-use tcc_graph::{Graph, Level};
-use tcc_reads::resolve;
-use tcc_txn::{NoMemory, snapshot_of};
-
-/// a/1 writes x, and a/2 reads its initial value.
-const STALE: &str = "a,begin\na,w,x,1\na,commit\na,begin\na,r,x,0\na,commit\n";
-
-/// The same, and a/3 writes y.
-const LONGER: &str = "a,begin\na,w,x,1\na,commit\na,begin\na,r,x,0\na,commit\n\
-    a,begin\na,w,y,1\na,commit\n";
-
-/// a/1 and b/1 write x, and c/1 reads both values.
-const TORN: &str = "a,begin\na,w,x,1\na,commit\nb,begin\nb,w,x,2\nb,commit\n\
-    c,begin\nc,r,x,1\nc,r,x,2\nc,commit\n";
-
-/// What a/1 writes reaches c/1 by way of b/1, and c/2 reads the initial value.
-const RELAYED: &str = "a,begin\na,w,x,1\na,commit\nb,begin\nb,r,x,1\nb,w,y,1\nb,commit\n\
-    c,begin\nc,r,y,1\nc,commit\nc,begin\nc,r,x,0\nc,commit\n";
-
-/// c/1 and d/1 see the writes of a/1 and b/1 in different orders.
-const FORKED: &str = "a,begin\na,w,x,1\na,commit\nb,begin\nb,w,y,1\nb,commit\n\
-    c,begin\nc,r,x,1\nc,r,y,0\nc,commit\nd,begin\nd,r,x,0\nd,r,y,1\nd,commit\n";
-
-/// a/1 and b/1 read from one another.
-const CROSSED: &str = "a,begin\na,w,x,1\na,r,y,1\na,commit\nb,begin\nb,w,y,1\nb,r,x,1\nb,commit\n";
-
-/// b/1 knows of a/2, but reads the value from before a/1: no single pair leads from a/1 to b/1.
-const DISTANT: &str = "a,begin\na,w,x,1\na,commit\na,begin\na,w,y,1\na,commit\n\
-    b,begin\nb,r,y,1\nb,r,x,0\nb,commit\n";
-
-/// a/1 and a/2 write different keys.
-const TWO: &str = "a,begin\na,w,x,1\na,commit\na,begin\na,w,y,1\na,commit\n";
-
-/// a/1 is aborted, and a/2 writes x.
-const ABORTED: &str = "a,begin\na,w,x,9\na,abort\na,begin\na,w,x,1\na,commit\n";
-
-/// The graph of these records.
-fn graph(alloc: Global, records: &str) -> Option<Graph> {
-    let snapshot = snapshot_of(alloc, records.as_bytes()).ok()?;
-    let resolved = resolve(alloc, &snapshot).ok()?;
-    Graph::build(alloc, &resolved).ok()
-}
+use tcc_check::{Rule, Verdict, check, check_stream};
+use tcc_graph::Level;
+use tcc_txn::NoMemory;
 
 /// What the rules say of a certificate of the history of these records.
 fn verdict(rt: &impl Abort, alloc: Global, records: &str, certificate: &Certificate) -> Verdict {
@@ -92,6 +53,14 @@ fn assert_verdict(
         verdict(rt, alloc, records, &certificate),
         wanted,
         "for {header}, {claim:?}"
+    );
+    let Some(graph) = graph(alloc, records) else {
+        panic!(rt; "no graph of {records}");
+    };
+    assert_eq!(rt;
+        check_stream(alloc, &graph, text.as_slice()),
+        Ok(wanted),
+        "for {header}, {claim:?} as a stream"
     );
     Ok(())
 }

@@ -1,0 +1,66 @@
+-- Parts that are still to come, and how they end.
+use Rattle.std.proofs.Common.{◌≡◌, ℕ, ◌<◌, ◌⊎◌, Bool, true, false, cond, [], ◌∷◌, None, Result, Ok, Err, inl, inr, refl, sym, ap, subst, ◌∙◌, arith}
+use Rattle.std.specs.Prelude.{IsErrAnd}
+use Rattle.tcc_cert.specs.Collecting.{EndsIn}
+use Rattle.tcc_cert.specs.Parts.{FaultsIn, IsFirst, Parts}
+use Rattle.tcc_cert.specs.declared.fault.CertFault.{CertFault}
+use Rattle.tcc_cert.specs.declared.part.Part.{Part}
+use Rattle.tcc_cert.specs.declared.part.Part.TheVariants as part
+use Rattle.tcc_cert.proofs.CollectFacts.{faults-end}
+use Rattle.tcc_check.specs.Coming.{FailsAs}
+use Rattle.tcc_check.specs.Streams.{fault_of, is_want_of_memory}
+use Rattle.tcc_check.specs.declared.stream_fault.StreamFault.{StreamFault}
+use Rattle.tcc_check.specs.declared.stream_fault.StreamFault.TheVariants.{Text, NoMemory}
+
+-- what holds of an error holds of the result that is it
+pub by-error : {X : Type 0} (P : Result X StreamFault → Type 0) (o : Result X StreamFault) (fault : StreamFault) → IsErrAnd o (λ why. why ≡ fault) → P (Err fault) → P o
+by-error P (Ok x) fault is p = absurd is
+by-error P (Err why) fault is p = subst (λ u. P (Err u)) (sym is) p
+
+no_memory : true ≡ false → ⊥
+no_memory h = cc
+
+-- a fault of the parts, or that of a reader that failed
+pub fails-by : (ahead : Parts) (fault : CertFault) → EndsIn ahead fault → FailsAs ahead (fault_of fault)
+fails-by ahead fault end = go (is_want_of_memory fault.kind) refl
+  where
+    go : (b : Bool) → is_want_of_memory fault.kind ≡ b → FailsAs ahead (cond b NoMemory (Text fault))
+    go true e = tt
+    go false e = (end, λ memory. no_memory (sym (ap is_want_of_memory memory) ∙ e))
+
+pub fails-first : {F : Type 0} (ahead : Parts) (wanted : ℕ) (fault : CertFault) → 0 < wanted → FaultsIn F wanted ahead fault → FailsAs ahead (fault_of fault)
+fails-first ahead wanted fault counted faults = fails-by ahead fault (faults-end ahead ahead wanted fault refl refl counted faults)
+
+-- how some of the parts end is how they all end
+pub fails-back : (ahead rest : Parts) (fault : StreamFault) → rest.line ≡ ahead.line → rest.fault ≡ ahead.fault → FailsAs rest fault → FailsAs ahead fault
+fails-back ahead rest NoMemory line same fails = tt
+fails-back ahead rest (Text fault) line same (inl is, kind) = (inl (sym same ∙ is.0, sym line ∙ is.1), kind)
+fails-back ahead rest (Text fault) line same (inr cut, kind) =
+    (inr (record { failure = cut.failure; counted = cut.counted; last = omega (arith, cut.last, line) }), kind)
+
+-- ---- the first of some parts
+
+pub first-line : (given : Part) (ahead rest : Parts) → IsFirst given ahead rest → rest.line ≡ ahead.line
+first-line part.End ahead rest is = ap (λ p. p.line) is.1
+first-line (part.Order v l o s) ahead rest is = sym (ap (λ p. p.line) is)
+first-line (part.Cycle v l c ls n) ahead rest is = sym (ap (λ p. p.line) is)
+first-line (part.Clocks row) ahead rest is = sym (ap (λ p. p.line) is)
+first-line (part.Near row) ahead rest is = sym (ap (λ p. p.line) is)
+first-line (part.Far row) ahead rest is = sym (ap (λ p. p.line) is)
+
+pub first-fault : (given : Part) (ahead rest : Parts) → IsFirst given ahead rest → rest.fault ≡ ahead.fault
+first-fault part.End ahead rest is = ap (λ p. p.fault) is.1
+first-fault (part.Order v l o s) ahead rest is = sym (ap (λ p. p.fault) is)
+first-fault (part.Cycle v l c ls n) ahead rest is = sym (ap (λ p. p.fault) is)
+first-fault (part.Clocks row) ahead rest is = sym (ap (λ p. p.fault) is)
+first-fault (part.Near row) ahead rest is = sym (ap (λ p. p.fault) is)
+first-fault (part.Far row) ahead rest is = sym (ap (λ p. p.fault) is)
+
+-- the end comes where no part is left
+pub first-parts : (given : Part) (ahead rest : Parts) → IsFirst given ahead rest → ((given ≡ part.End) × (ahead.parts ≡ []) × (ahead.fault ≡ None)) ⊎ (ahead.parts ≡ given ∷ rest.parts)
+first-parts part.End ahead rest is = inl (refl, ap (λ p. p.parts) is.0, ap (λ p. p.fault) is.0)
+first-parts (part.Order v l o s) ahead rest is = inr (ap (λ p. p.parts) is)
+first-parts (part.Cycle v l c ls n) ahead rest is = inr (ap (λ p. p.parts) is)
+first-parts (part.Clocks row) ahead rest is = inr (ap (λ p. p.parts) is)
+first-parts (part.Near row) ahead rest is = inr (ap (λ p. p.parts) is)
+first-parts (part.Far row) ahead rest is = inr (ap (λ p. p.parts) is)

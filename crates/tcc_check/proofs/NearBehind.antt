@@ -1,0 +1,99 @@
+-- Rows of lengths so far, and those to come.
+use Rattle.std.proofs.Common.{◌≡◌, ℕ, ◌<◌, ◌≤◌, ◌⊎◌, List, [], ◌∷◌, ◌++◌, length, get_or, None, inl, inr, refl, sym, ap, subst, ◌∙◌, arith, append_assoc, append-nil}
+use Rattle.std.specs.Prelude.{All, map}
+use Rattle.std.proofs.lemmas.List.{length-append}
+use Rattle.std.proofs.Math.Seq.{get_or-append_seam}
+use Rattle.tcc_cert.specs.Parts.{IsFirst, Parts}
+use Rattle.tcc_cert.specs.declared.part.Part.{Part}
+use Rattle.tcc_cert.specs.declared.part.Part.TheVariants as part
+use Rattle.tcc_check.specs.Coming.{IsNearRight}
+use Rattle.tcc_check.proofs.ComingFacts.{first-fault, first-line, first-parts}
+
+-- behind these rows come the others
+pub record IsNearBehind (rows : List (List ℕ)) (n : ℕ) (ahead rest : Parts) : Type 0 where
+  pub line : rest.line ≡ ahead.line
+  pub fault : rest.fault ≡ ahead.fault
+  pub others : (near far : List (List ℕ)) → length near ≡ n → ahead.parts ≡ map part.Near near ++ map part.Far far
+      → (todo : List (List ℕ)) × (near ≡ rows ++ todo) × (rest.parts ≡ map part.Near todo ++ map part.Far far)
+
+pub near-none : (n : ℕ) (ahead : Parts) → IsNearBehind [] n ahead ahead
+near-none n ahead = record { line = refl; fault = refl; others = λ near far long is. (near, refl, is) }
+
+-- a row that is there is the next of them
+next-near : (row : List ℕ) (rest : List Part) (todo far : List (List ℕ)) → part.Near row ∷ rest ≡ map part.Near todo ++ map part.Far far
+    → (later : List (List ℕ)) × (todo ≡ row ∷ later) × (rest ≡ map part.Near later ++ map part.Far far)
+next-near row rest [] [] is = absurd cc
+next-near row rest [] (one ∷ far) is = absurd cc
+next-near row rest (one ∷ later) far is = (later, (let same : row ≡ one = cc in ap (λ r. r ∷ later) (sym same)), cc)
+
+-- the next part of them is such a row
+next-not-near : (given : Part) (rest : List Part) (todo far : List (List ℕ)) → 0 < length todo → given ∷ rest ≡ map part.Near todo ++ map part.Far far → (row : List ℕ) × (given ≡ part.Near row)
+next-not-near given rest [] far some is = absurd (omega (arith, some))
+next-not-near given rest (row ∷ later) far some is = (row, cc)
+
+none-left : (todo far : List (List ℕ)) → 0 < length todo → [] ≡ map part.Near todo ++ map part.Far far → ⊥
+none-left [] far some is = omega (arith, some)
+none-left (row ∷ later) far some is = cc
+
+some-left : (rows near todo : List (List ℕ)) (n : ℕ) → length near ≡ n → near ≡ rows ++ todo → length rows < n → 0 < length todo
+some-left rows near todo n long split l = omega (arith, long, l, ap length split, length-append rows todo)
+
+pub near-more : (rows : List (List ℕ)) (n : ℕ) (row : List ℕ) (ahead now rest : Parts) → IsNearBehind rows n ahead now → IsFirst (part.Near row) now rest → IsNearBehind (rows ++ row ∷ []) n ahead rest
+near-more rows n row ahead now rest behind first = record {
+  line = first-line (part.Near row) now rest first ∙ behind.line;
+  fault = first-fault (part.Near row) now rest first ∙ behind.fault;
+  others = λ near far long is.
+      let old = behind.others near far long is in
+      let next = next-near row rest.parts old.0 far (sym (ap (λ p. p.parts) first) ∙ old.2) in
+      (next.0, old.1 ∙ ap (λ t. rows ++ t) next.1 ∙ sym (append_assoc rows (row ∷ []) next.0), next.2);
+}
+
+-- another part comes only where there are fewer rows
+pub near-other : (rows : List (List ℕ)) (n : ℕ) (given : Part) (ahead now rest : Parts) → ((row : List ℕ) → given ≡ part.Near row → ⊥) → length rows < n → IsNearBehind rows n ahead now → IsFirst given now rest
+    → (near far : List (List ℕ)) → length near ≡ n → ahead.parts ≡ map part.Near near ++ map part.Far far → ⊥
+near-other rows n given ahead now rest other fewer behind first near far long is = go (first-parts given now rest first)
+  where
+    old : (todo : List (List ℕ)) × (near ≡ rows ++ todo) × (now.parts ≡ map part.Near todo ++ map part.Far far)
+    old = behind.others near far long is
+
+    some : 0 < length old.0
+    some = some-left rows near old.0 n long old.1 fewer
+
+    go : ((given ≡ part.End) × (now.parts ≡ []) × (now.fault ≡ None)) ⊎ (now.parts ≡ given ∷ rest.parts) → ⊥
+    go (inl end) = none-left old.0 far some (sym end.1 ∙ old.2)
+    go (inr one) = let found = next-not-near given rest.parts old.0 far some (sym one ∙ old.2) in other found.0 found.1
+
+-- a row among the others is one of the table
+pub near-row : (rows : List (List ℕ)) (n least : ℕ) (row : List ℕ) (ahead now rest : Parts) → IsNearBehind rows n ahead now → IsFirst (part.Near row) now rest
+    → (near far : List (List ℕ)) → length near ≡ n → ahead.parts ≡ map part.Near near ++ map part.Far far → IsNearRight n least near → (length row ≡ n) × All (λ number. number ≤ least) row
+near-row rows n least row ahead now rest behind first near far long is right = (
+  subst (λ r. length r ≡ n) here (right.0.wide (length rows) [] inside),
+  subst (λ r. All (λ number. number ≤ least) r) here (right.1 (length rows) [] inside),
+)
+  where
+    old : (todo : List (List ℕ)) × (near ≡ rows ++ todo) × (now.parts ≡ map part.Near todo ++ map part.Far far)
+    old = behind.others near far long is
+
+    next : (later : List (List ℕ)) × (old.0 ≡ row ∷ later) × (rest.parts ≡ map part.Near later ++ map part.Far far)
+    next = next-near row rest.parts old.0 far (sym (ap (λ p. p.parts) first) ∙ old.2)
+
+    split : near ≡ rows ++ row ∷ next.0
+    split = old.1 ∙ ap (λ t. rows ++ t) next.1
+
+    inside : length rows < length near
+    inside = omega (arith, ap length split, length-append rows (row ∷ next.0))
+
+    here : get_or near (length rows) [] ≡ row
+    here = ap (λ t. get_or t (length rows) []) split ∙ get_or-append_seam rows row next.0 []
+
+-- all rows came
+pub near-all : (rows : List (List ℕ)) (n : ℕ) (ahead now : Parts) → IsNearBehind rows n ahead now → length rows ≡ n
+    → (near far : List (List ℕ)) → length near ≡ n → ahead.parts ≡ map part.Near near ++ map part.Far far → (rows ≡ near) × (now.parts ≡ map part.Far far)
+near-all rows n ahead now behind whole near far long is = go old.0 old.1 old.2
+  where
+    old : (todo : List (List ℕ)) × (near ≡ rows ++ todo) × (now.parts ≡ map part.Near todo ++ map part.Far far)
+    old = behind.others near far long is
+
+    go : (todo : List (List ℕ)) → near ≡ rows ++ todo → now.parts ≡ map part.Near todo ++ map part.Far far → (rows ≡ near) × (now.parts ≡ map part.Far far)
+    go [] split left = (sym (split ∙ append-nil rows), left)
+    go (row ∷ later) split left = absurd (omega (arith, whole, long, ap length split, length-append rows (row ∷ later)))

@@ -1,0 +1,83 @@
+-- What the rules say of the parts of a text that are still to come. Nobody has to believe it: private functions say it to one another.
+use Rattle.std.specs.Prelude.{ℕ, ◌≡◌, ◌≢◌, ◌<◌, List, length, Option, None, Some, Result, Ok, Err}
+use Rattle.tcc_cert.specs.Ahead.{IsAhead}
+use Rattle.tcc_cert.specs.Collecting.{EndsIn}
+use Rattle.tcc_cert.specs.Parts.{Parts, IsFirst}
+use Rattle.tcc_cert.specs.Tables.{HasSize, HasFarSize, IsCapped, IsFirstPlace, far_entry}
+use Rattle.tcc_cert.specs.declared.fault.CertFaultKind.TheVariants as kind
+use Rattle.tcc_cert.specs.declared.part.Part.{Part}
+use Rattle.tcc_cert.specs.declared.reading.parts.CertReader.{CertReader}
+use Rattle.tcc_cert.specs.declared.version.Version.{Version}
+use Rattle.tcc_check.specs.declared.far_rows.FarFaults.{FarFaults}
+use Rattle.tcc_check.specs.declared.stream_fault.StreamFault.{StreamFault}
+use Rattle.tcc_check.specs.declared.stream_fault.StreamFault.TheVariants.{Text, NoMemory}
+use Rattle.tcc_check.specs.declared.verdict.Rule.TheVariants.{FarLinks, FarSteps, Returns}
+use Rattle.tcc_check.specs.declared.verdict.Verdict.{Verdict}
+use Rattle.tcc_check.specs.declared.verdict.Verdict.TheVariants as verdict
+use Rattle.tcc_check.specs.Searches.{IsLongStartFrom}
+use Rattle.tcc_check.specs.Weights.{IsLongLink}
+
+-- the parts end in this fault, unless the reader failed or memory was refused
+abbrev pub FailsAs : Parts → StreamFault → Type 0
+FailsAs ahead (Text fault) = EndsIn ahead fault × (fault.kind ≢ kind.NoMemory)
+FailsAs ahead NoMemory = Unit {0}
+
+-- the first of the parts was given, and the others are still to come; or how they end
+abbrev pub Takes : {R : Type 0} → (R → Option (List ℕ)) → Parts → CertReader R → Result Part StreamFault → Type 0
+Takes remaining ahead reader (Ok given) = (rest : Parts) × IsFirst given ahead rest × IsAhead remaining reader rest
+Takes remaining ahead reader (Err fault) = FailsAs ahead fault
+
+-- some parts are still to come, of which this is said; or how they end
+abbrev pub Leaves : {R : Type 0} {X : Type 0} → (R → Option (List ℕ)) → Parts → CertReader R → (X → Parts → Type 0) → Result X StreamFault → Type 0
+Leaves remaining ahead reader said (Ok x) =
+    (rest : Parts) × (rest.line ≡ ahead.line) × (rest.fault ≡ ahead.fault) × IsAhead remaining reader rest × said x rest
+Leaves remaining ahead reader said (Err fault) = FailsAs ahead fault
+
+-- the parts end without a fault, and this is said; or how they end
+abbrev pub Finishes : {X : Type 0} → Parts → (X → Type 0) → Result X StreamFault → Type 0
+Finishes ahead said (Ok x) = (ahead.fault ≡ None) × said x
+Finishes ahead said (Err fault) = FailsAs ahead fault
+
+-- a table of lengths has the size of the history, and nothing above the cost
+abbrev pub IsNearRight : ℕ → ℕ → List (List ℕ) → Type 0
+IsNearRight n least near = HasSize n n near × IsCapped least near
+
+-- so has a table of costs
+abbrev pub IsFarRight : Version → ℕ → ℕ → List (List ℕ) → Type 0
+IsFarRight version n least far = HasFarSize version n far × IsCapped least far
+
+-- the way back is cheaper than the cycle, by a place
+abbrev pub IsShortAt : ℕ → Version → ℕ → List (List ℕ) → ℕ × ℕ → Type 0
+IsShortAt n version least far at = (at.0 < n) × ((at.1 ≡ at.0) × (far_entry version far at.0 at.0 < least))
+
+-- the first place in the first n rows at which something is broken
+abbrev pub IsFoundBefore : ℕ → (ℕ × ℕ → Type 0) → Option (ℕ × ℕ) → Type 0
+IsFoundBefore n broken None = (a b : ℕ) → a < n → broken (a, b) → ⊥
+IsFoundBefore n broken (Some at) = (at.0 < n) × IsFirstPlace broken at
+
+-- so for each rule on costs
+pub record AreFoundBefore (version : Version) (begins : List ℕ) (weights : List (List ℕ)) (starts : List (List (ℕ × ℕ))) (least : ℕ) (far : List (List ℕ)) (n : ℕ) (faults : FarFaults) : Type 0 where
+  pub links : IsFoundBefore n (IsLongLink version weights far) faults.link
+  pub steps : IsFoundBefore n (IsLongStartFrom version begins starts far) faults.step
+  pub returns : IsFoundBefore n (IsShortAt (length far) version least far) faults.back
+
+-- the place that was found, or else that in one row more
+abbrev pub first_of : Option (ℕ × ℕ) → ℕ → Option ℕ → Option (ℕ × ℕ)
+first_of (Some at) start end = Some at
+first_of None start None = None
+first_of None start (Some end) = Some (start, end)
+
+-- the first of two verdicts that is no acceptance
+abbrev pub first_rejected : Verdict → Verdict → Verdict
+first_rejected verdict.Accepted later = later
+first_rejected (verdict.Rejected rule at) later = verdict.Rejected rule at
+
+-- the first broken rule of those on costs, and where
+abbrev pub verdict_by : Option (ℕ × ℕ) → Option (ℕ × ℕ) → Option (ℕ × ℕ) → Verdict
+verdict_by (Some at) step back = verdict.Rejected FarLinks at
+verdict_by None (Some at) back = verdict.Rejected FarSteps at
+verdict_by None None (Some at) = verdict.Rejected Returns at
+verdict_by None None None = verdict.Accepted
+
+abbrev pub far_verdict : FarFaults → Verdict
+far_verdict faults = verdict_by faults.link faults.step faults.back

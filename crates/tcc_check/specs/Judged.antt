@@ -1,0 +1,56 @@
+-- What the rules say of the tables of a claim, one after the other. Nobody has to believe it: private functions say it to one another.
+use Rattle.std.specs.Prelude.{ℕ, ◌≡◌, List, [], ◌∷◌}
+use Rattle.tcc_reads.specs.History.{History, count}
+use Rattle.tcc_graph.specs.declared.level.Level.{Level}
+use Rattle.tcc_cert.specs.CycleRules.{CycleClaim, HasRightSizes, BreaksNearPair, BreaksNearStep, BreaksFarLink, BreaksFarStep, BreaksReturn}
+use Rattle.tcc_cert.specs.Parts.{Parts}
+use Rattle.tcc_cert.specs.Rules.{IsRightCycle}
+use Rattle.tcc_cert.specs.declared.version.Version.{Version}
+use Rattle.tcc_check.specs.declared.far_rows.FarFaults.{FarFaults}
+use Rattle.tcc_check.specs.declared.near_rows.NearJudged.{NearJudged}
+use Rattle.tcc_check.specs.declared.verdict.Rule.TheVariants.{Links, NearPairs, NearSteps, FarLinks, FarSteps, Returns}
+use Rattle.tcc_check.specs.declared.verdict.Verdict.{Verdict}
+use Rattle.tcc_check.specs.Coming.{AreFoundBefore, IsFarRight, IsNearRight}
+use Rattle.tcc_check.specs.Runs.{AreRuns}
+use Rattle.tcc_check.specs.Verdicts.{Asked, IsAnswer, IsCycleFault, bounds_rules, by_places}
+use Rattle.tcc_check.specs.Weights.{IsLeastTable, LinkWeighs}
+
+-- the rule on links
+abbrev pub links_rules : History → CycleClaim → List Asked
+links_rules h k = record { rule = Links; holds = IsRightCycle h k; broken = IsCycleFault h k } ∷ []
+
+-- the rules on lengths
+abbrev pub near_rules : History → Level → List (List ℕ) → List Asked
+near_rules h level near = by_places NearPairs (BreaksNearPair h near) ∷ by_places NearSteps (BreaksNearStep h level near) ∷ []
+
+-- those on costs
+abbrev pub far_rules : History → Version → ℕ → List (List ℕ) → List (List ℕ) → List Asked
+far_rules h version least near far =
+    by_places FarLinks (BreaksFarLink h version near far) ∷ by_places FarSteps (BreaksFarStep h version near far) ∷ by_places Returns (BreaksReturn h version least far) ∷ []
+
+-- all but the rule on sizes
+abbrev pub claim_rules : History → CycleClaim → List Asked
+claim_rules h k =
+    record { rule = Links; holds = IsRightCycle h k; broken = IsCycleFault h k } ∷ bounds_rules h k.version k.level k.least k.near k.far
+
+-- what is kept of a table of lengths
+pub record IsNearJudged (h : History) (level : Level) (least : ℕ) (near : List (List ℕ)) (judged : NearJudged) : Type 0 where
+  pub right : IsNearRight (count h) least near
+  pub answer : IsAnswer (near_rules h level near) judged.verdict
+  pub runs : AreRuns h judged.begins.items
+  pub weights : IsLeastTable (count h) (LinkWeighs h near) judged.weights
+
+-- where no part is left behind the rows, they are the whole table, and what was found is all there is
+pub record AreAllFound (version : Version) (begins : List ℕ) (weights : List (List ℕ)) (starts : List (List (ℕ × ℕ))) (least : ℕ) (n : ℕ) (far : List (List ℕ)) (faults : FarFaults) (rest : Parts) : Type 0 where
+  pub right : rest.parts ≡ [] → IsFarRight version n least far × AreFoundBefore version begins weights starts least far n faults
+  pub more : IsFarRight version n least far → rest.parts ≡ []
+
+-- so the rules on costs say
+pub record IsFarJudged (h : History) (version : Version) (least : ℕ) (near : List (List ℕ)) (far : List (List ℕ)) (rest : Parts) (verdict : Verdict) : Type 0 where
+  pub right : rest.parts ≡ [] → IsFarRight version (count h) least far × IsAnswer (far_rules h version least near far) verdict
+  pub more : IsFarRight version (count h) least far → rest.parts ≡ []
+
+-- so all rules behind that on sizes say
+pub record IsClaimJudged (h : History) (k : CycleClaim) (rest : Parts) (verdict : Verdict) : Type 0 where
+  pub right : rest.parts ≡ [] → HasRightSizes h k × IsAnswer (claim_rules h k) verdict
+  pub more : HasRightSizes h k → rest.parts ≡ []
