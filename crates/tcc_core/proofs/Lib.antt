@@ -3,6 +3,7 @@ pub mod Frontier
 pub mod Lowering
 pub mod Steps
 pub mod Floor
+pub mod Blocks
 pub mod Ending
 pub mod Rounds
 pub mod Worked

@@ -1,12 +1,15 @@
 //! The frontier of a search: what the ways to the transactions outside its row cost. Nothing below the start is looked at.
-ghost use Rattle.std.specs.Prelude.{◌≡◌, ◌<◌, ◌≤◌, ◌^◌, ℕ, length, slice_index, All, IfNone, IfSome};
+ghost use Rattle.std.specs.Prelude.{◌≡◌, ◌<◌, ◌≤◌, ◌^◌, ℕ, false, length, slice_index, slice_index_or, All, IfNone, IfSome};
 ghost use Rattle.tcc_core.specs.Rows.{in_row, IsEmptyRow};
-ghost use Rattle.tcc_core.specs.Relaxing.{IsNearest, IsOutsideAt, IsFloor, way_by, lesser};
+ghost use Rattle.tcc_core.specs.Relaxing.{IsNearest, IsOutsideAt, IsFloor, IsRelaxed, IsDone, HasBlocks, way_by, lesser};
 ghost use Rattle.tcc_txn.specs.declared.limits.TheConstants.{MAX_COUNT};
 ghost use Rattle.tcc_near.specs.declared.distances.TheConstants.{NONE};
 ghost use Rattle.tcc_core.specs.declared.relaxing.TheConstants.{NO_WAY};
 
 use tcc_near::NONE;
+
+/// So many transactions make a block.
+pub(crate) const BLOCK: usize = 64;
 
 /// What the costs have where no way leads.
 pub(crate) const NO_WAY: u32 = u32::MAX;
@@ -99,16 +102,62 @@ fn way_by(so_far: u32, link: u16) -> u32
     }
 }
 
-/// Lowers the costs from the start upward to those of the ways that lead on by these links from where so much was spent.
-pub(crate) fn relax(start: u32, costs: &mut [u32], so_far: u32, links: &[u16])
+/// Lowers the costs of these transactions to those of the ways that lead on by these links from where so much was spent,
+/// and gives a cost that none of them is above.
+fn relax_block(from: usize, to: usize, costs: &mut [u32], so_far: u32, links: &[u16]) -> u32
     requires small { so_far < 2 ^ 31 }
     requires long { length links.now ≡ length costs.old }
+    requires upward { from ≤ to }
+    requires within { to ≤ length costs.old }
+    ensures long { length costs.new ≡ length costs.old }
+    ensures lowered { (v : ℕ) → from ≤ v → v < to
+        → slice_index costs.new v ≡ lesser (slice_index costs.old v) (way_by so_far (slice_index links.now v)) }
+    ensures before { (v : ℕ) → v < from → slice_index costs.new v ≡ slice_index costs.old v }
+    ensures behind { (v : ℕ) → to ≤ v → slice_index costs.new v ≡ slice_index costs.old v }
+    ensures most { (v : ℕ) → from ≤ v → v < to → slice_index costs.new v ≤ result }
+{
+    let mut most = 0;
+    for v in from..to {
+        let cost = costs[v].min(way_by(so_far, links[v]));
+        costs[v] = cost;
+        most = most.max(cost);
+    }
+    most
+}
+
+/// Lowers the costs from the start upward to those of the ways that lead on by these links from where so much was spent.
+/// Blocks that are done are passed over, since no link costs less than 1; those where that goes for all costs now are
+/// done from here on.
+pub(crate) fn relax(start: u32, costs: &mut [u32], so_far: u32, links: &[u16], done: &mut [bool])
+    requires small { so_far < 2 ^ 31 }
+    requires long { length links.now ≡ length costs.old }
+    requires blocks { HasBlocks (length costs.old) done.old }
+    requires done { IsDone start so_far done.old costs.old }
     ensures links { All (λ link. link ≤ NONE) links.now }
     ensures lowered { (v : ℕ) → start ≤ v → v < length costs.old
-        → slice_index costs.new v ≡ lesser (slice_index costs.old v) (way_by so_far (slice_index links.now v)) }
+        → IsRelaxed so_far (slice_index links.now v) (slice_index costs.old v) (slice_index costs.new v) }
     ensures kept { (v : ℕ) → v < start → slice_index costs.new v ≡ slice_index costs.old v }
+    ensures long { length costs.new ≡ length costs.old }
+    ensures blocks { HasBlocks (length costs.old) done.new }
+    ensures done { IsDone start so_far done.new costs.new }
 {
-    for v in start as usize..costs.len() {
-        costs[v] = costs[v].min(way_by(so_far, links[v]));
+    for block in 0..done.len() {
+        if !done[block] {
+            let to = (block * BLOCK + BLOCK).min(costs.len());
+            let from = (block * BLOCK).max(start as usize).min(to);
+            if relax_block(from, to, costs, so_far, links) <= so_far + 1 {
+                done[block] = true;
+            }
+        }
+    }
+}
+
+/// No block is done.
+pub(crate) fn reopen(done: &mut [bool])
+    ensures long { length done.new ≡ length done.old }
+    ensures open { (k : ℕ) → slice_index_or done.new k false ≡ false }
+{
+    for block in 0..done.len() {
+        done[block] = false;
     }
 }

@@ -6,7 +6,7 @@ ghost use Rattle.tcc_txn.specs.declared.limits.TheConstants.{MAX_COUNT};
 ghost use Rattle.tcc_graph.specs.Tables.{row_of};
 
 use crate::Settled;
-use crate::relaxing::{NO_WAY, empty, forget, nearest_from, relax};
+use crate::relaxing::{BLOCK, NO_WAY, empty, forget, nearest_from, relax, reopen};
 use std::alloc::Global;
 use std::marker::Model;
 use tcc_derive::Prices;
@@ -23,10 +23,13 @@ pub struct Search {
     floor: u32,
     /// From this place on transactions outside the row are looked for that cost as much as the floor.
     place: u32,
+    /// Blocks of transactions, all of which cost no more than the floor and a link more.
+    done: Vec<bool>,
 }
 
 impl Model for Search {
-    ghost use Rattle.tcc_core.specs.Relaxing.{IsBounded, IsFloor};
+    ghost use Rattle.std.specs.Prelude.{length};
+    ghost use Rattle.tcc_core.specs.Relaxing.{IsBounded, IsFloor, IsDone, HasBlocks};
     ghost use Rattle.tcc_core.specs.Searches as searches;
 
     ghost Value = { searches.Search };
@@ -34,7 +37,8 @@ impl Model for Search {
     ghost view = { λ s. record { start = s.start; row = s.row.items; costs = s.costs.items } };
 
     ghost invariant = { λ s. IsBounded (record { start = s.start; row = s.row.items; costs = s.costs.items })
-        × IsFloor s.start s.place s.floor s.row.items s.costs.items };
+        × (IsFloor s.start s.place s.floor s.row.items s.costs.items
+        × (HasBlocks (length s.costs.items) s.done.items × IsDone s.start s.floor s.done.items s.costs.items)) };
 }
 
 impl Search {
@@ -43,6 +47,7 @@ impl Search {
 
     /// A search from this start with an empty row: the start is not in it, since its distance to itself is that of a
     /// cycle that meets nothing below it.
+    #[tactic(auto, using(crate::proofs::Floor::done_none))]
     pub fn begin(alloc: Global, prices: &Prices, start: u32) -> Result<Search, NoMemory>
         requires { start < length prices.now.prices }
         ensures start { IfOk result (λ search. search.start ≡ start) }
@@ -51,7 +56,8 @@ impl Search {
     {
         let count = prices.count() as usize;
         let mut costs = vec![in alloc; NO_WAY; count]?;
-        relax(start, &mut costs, 0, prices.costs(start));
+        let mut done = vec![in alloc; false; count / BLOCK + 1]?;
+        relax(start, &mut costs, 0, prices.costs(start), &mut done);
         let row = vec![in alloc; None; count]?;
         Ok(Search {
             start,
@@ -59,11 +65,13 @@ impl Search {
             costs,
             floor: 0,
             place: count as u32,
+            done,
         })
     }
 
     /// Puts the search at the opening of another start, as `begin` does, whatever it was before. It takes no memory. The
     /// prices are those that the search began with.
+    #[tactic(auto, using(crate::proofs::Floor::done_none))]
     pub fn renew(&mut self, prices: &Prices, start: u32)
         requires start { start < length prices.now.prices }
         requires long { length self.old.row ≡ length prices.now.prices }
@@ -74,7 +82,9 @@ impl Search {
         empty(&mut self.row);
         let costs = self.costs.as_mut_slice();
         forget(costs);
-        relax(start, costs, 0, prices.costs(start));
+        let done = self.done.as_mut_slice();
+        reopen(done);
+        relax(start, costs, 0, prices.costs(start), done);
         self.start = start;
         self.floor = 0;
         self.place = prices.count();
@@ -99,7 +109,13 @@ impl Search {
             return Settled::Cut(cap);
         }
         self.row[next as usize] = Some(distance);
-        relax(self.start, &mut self.costs, distance, prices.costs(next));
+        relax(
+            self.start,
+            &mut self.costs,
+            distance,
+            prices.costs(next),
+            &mut self.done,
+        );
         self.floor = distance;
         self.place = next + 1;
         if next == self.start {
