@@ -84,10 +84,10 @@ fn first_rules(rt: HostRuntime) {
 
 /// How many line feeds there are, and 1.
 fn line_begun(text: &[u8]) -> u64 {
-    let mut line = 1;
+    let mut line: u64 = 1;
     for byte in text {
         if *byte == b'\n' {
-            line += 1;
+            line = line.saturating_add(1);
         }
     }
     line
@@ -102,8 +102,9 @@ fn cut_texts(rt: HostRuntime) {
         ("", ALTERED),
         (TWO, ONE_SESSION),
     ] {
-        for count in 0..text.len() {
-            let part = &text.as_bytes()[..count];
+        let bytes = text.as_bytes();
+        for count in 0..bytes.len() {
+            let part = &bytes[..count];
             let wanted = fault(line_begun(part), CertFaultKind::Truncated);
             assert_eq!(&rt;
                 judged(&rt, rt.alloc(), records, part),
@@ -132,19 +133,25 @@ impl<'a> Read for Failing<'a> {
     }
 }
 
+/// The fault is that of the reader, at the line that it was in.
+fn assert_fails(rt: &impl Abort, alloc: Global, text: &[u8]) {
+    let wanted = fault(line_begun(text), CertFaultKind::Read);
+    assert_eq!(rt;
+        judged(rt, alloc, STALE, Failing { text }),
+        Err(wanted),
+        "after {text:?}"
+    );
+}
+
 /// The reader fails after each number of bytes, all of them too.
 #[test]
 fn failing_readers(rt: HostRuntime) {
     for text in [STALE_READ, ALTERED] {
-        for count in 0..text.len() + 1 {
-            let part = &text.as_bytes()[..count];
-            let wanted = fault(line_begun(part), CertFaultKind::Read);
-            assert_eq!(&rt;
-                judged(&rt, rt.alloc(), STALE, Failing { text: part }),
-                Err(wanted),
-                "after {count} bytes"
-            );
+        let bytes = text.as_bytes();
+        for count in 0..bytes.len() {
+            assert_fails(&rt, rt.alloc(), &bytes[..count]);
         }
+        assert_fails(&rt, rt.alloc(), bytes);
     }
 }
 
