@@ -29,7 +29,7 @@ by_words levels words (Explain options certificate) asks = in_range (workers_tex
 by_words levels words (Check history certificate) asks = tt
 
 workers_asked : (words : List (List ℕ)) (before after : Option (List ℕ)) (r : Result Request ℕ) → IsAsked words before after r → IfOk r HasWorkers
-workers_asked words before after (Ok request) (levels, are, unfaulted, asks, quiet) = by_words levels words request asks
+workers_asked words before after (Ok request) (levels, are, asked) = by_words levels words request asked.1
 workers_asked words before after (Err code) asked = tt
 
 pub returns-clause-workers : goal.returns-clause-workers
