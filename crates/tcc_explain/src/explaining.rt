@@ -14,6 +14,7 @@ use std::alloc::Global;
 use std::thread::Threads;
 use tcc_answer::{Anomaly, Answer, Commit, Labels};
 use tcc_cert::{Links, Numbers};
+use tcc_core::seed;
 use tcc_cycle::{FirstReturn, first_cycle};
 use tcc_derive::{Prices, derive};
 use tcc_graph::{Graph, Level};
@@ -21,7 +22,7 @@ use tcc_near::{Near, near};
 use tcc_order::laws::order_or_cycle;
 use tcc_order::order;
 use tcc_reads::{ResolveFault, resolve};
-use tcc_steal::{Gate, search};
+use tcc_steal::{AllStart, Gate, search_with};
 use tcc_txn::{NoMemory, Snapshot};
 
 /// The distances of a graph at a level, which they name.
@@ -55,7 +56,8 @@ fn anomaly<G: Gate>(
     ensures { IfOk result (λ anomaly. IsAnswerOf (record { history = graph.now; level = near.now.level }) (answer.Anomaly anomaly)) }
 {
     let labels = Labels::of(alloc, graph)?;
-    let found = search(rt, alloc, prices, workers, gate)?;
+    let seed = seed(near, prices);
+    let found = search_with(rt, alloc, prices, seed, workers, gate, &AllStart)?;
     let Some(cost) = found.least else {
         unreachable!()
     };

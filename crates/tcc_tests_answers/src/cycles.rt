@@ -7,7 +7,8 @@ use tcc_cycle::laws::{bounded, parts, picked};
 use tcc_graph::{Level, Link};
 
 /// Two that read one another, where a dearer cycle starts at a lower number.
-const CIRCLE: &str = "a,begin\na,r,x,0\na,r,y,1\na,w,x,1\na,commit\nb,begin\nb,r,x,1\nb,w,y,1\nb,commit\n";
+const CIRCLE: &str =
+    "a,begin\na,r,x,0\na,r,y,1\na,w,x,1\na,commit\nb,begin\nb,r,x,1\nb,w,y,1\nb,commit\n";
 
 /// Two writes of one key, of which the other session reads the initial value.
 const FORK: &str = "a,begin\na,w,x,1\na,commit\nb,begin\nb,r,x,0\nb,commit\n";
