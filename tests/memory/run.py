@@ -77,8 +77,6 @@ end
 ANSWERS = [
     (STALE, ["explain"], STALE_READ, 1),
     (EXAMPLES / "conflicting-writes.csv", ["explain"], CONFLICT, 1),
-    (STALE, ["explain", "--workers", "2"], STALE_READ, 1),
-    (FORK, ["explain", "--workers", "2"], b"consistent: 4 transactions, 4 sessions\norder: init a/1 b/1 c/1 d/1\n", 0),
     (FORK, ["explain"], b"consistent: 4 transactions, 4 sessions\norder: init a/1 b/1 c/1 d/1\n", 0),
     (EXAMPLES / "aborted-read.csv", ["explain"], b"unresolved: 2 faults\nAborted b/1 op 1 x 1\nThinAir b/1 op 2 z 7\n", 2),
     (STALE, ["explain", "--json"], STALE_READ_JSON, 1),
