@@ -1,6 +1,6 @@
 -- Each step on the deque of starts keeps the rule, and what it tells follows from the rule.
-use Rattle.std.proofs.Common.{◌≡◌, ◌≢◌, ◌<◌, ◌≤◌, ◌+◌, ℕ, zero, suc, true, List, [], ◌∷◌, ◌++◌, length, length-set, length-append, set, nat_lt, if◌then◌else◌, refl, sym, ap, subst, ⊎_elim, arith}
-use Rattle.std.proofs.lemmas.Bool.{cond_both, false≢true}
+use Rattle.std.proofs.Common.{◌≡◌, ◌≢◌, ◌<◌, ◌+◌, ℕ, zero, suc, true, List, [], ◌∷◌, ◌++◌, length, length-set, length-append, set, nat_lt, if◌then◌else◌, refl, sym, ap, subst, ⊎_elim, arith}
+use Rattle.std.proofs.lemmas.Bool.{false≢true}
 use Rattle.std.proofs.lemmas.Bool.Decides.{nat_tests}
 use Rattle.std.proofs.lemmas.List.Elements.{All-nil, All-cons}
 use mathlib.Core.Option.{some, some-injective, some-ne-none}
@@ -8,7 +8,7 @@ use lib.ListN.{get_elem?}
 use Rattle.crossbeam_deque.specs.Tasks as tasks
 use Rattle.crossbeam_deque.proofs.Lists.{at_set, at_snoc}
 use Rattle.tcc_steal.specs.declared.taken.Taken.{Taken}
-use Rattle.tcc_steal.specs.Dealing.{AreRun, times, times_taken, IsDealt, dealer, nobody, no_dealer, thief_of, both_of, Pushes, Takes, EachOnce}
+use Rattle.tcc_steal.specs.Dealing.{AreRun, times, times_taken, IsDealt, dealer, no_dealer, thief_of, Pushes, Takes}
 
 -- ---- lists
 
@@ -29,11 +29,6 @@ taken_last x (v ∷ views) new = let rest = taken_last x views new in omega arit
 times_append : (x : ℕ) (xs ys : List ℕ) → times x (xs ++ ys) ≡ times x xs + times x ys
 times_append x [] ys = omega arith
 times_append x (y ∷ xs) ys = let rest = times_append x xs ys in omega arith
-
-taken_part : (x : ℕ) (views : List Taken) (pass : ℕ) (view : Taken) → get_elem? views pass ≡ some view → times x view.starts ≤ times_taken x views
-taken_part x [] pass view at = absurd (some-ne-none view (sym at))
-taken_part x (v ∷ views) zero view at = let same : times x v.starts ≡ times x view.starts = ap (λ (u : Taken). times x u.starts) (some-injective v view at) in omega arith
-taken_part x (v ∷ views) (suc pass) view at = let rest = taken_part x views pass view at in omega arith
 
 run_last : (first : ℕ) (xs : List ℕ) (x : ℕ) → AreRun first xs → x ≡ first + length xs → AreRun first (xs ++ x ∷ [])
 run_last first [] x run is = (omega (arith, is), tt)
@@ -126,26 +121,3 @@ forks pass view items views h at =
       alone = λ j u there deals. absurd (quiet j u there deals);
       once = λ x. let same = taken_set x views pass view left at in let more = taken_last x (set views pass left) right in let old = h.once x in omega arith;
     }
-
-pub merges : (pass : ℕ) (view : Taken) (other : ℕ) (theirs : Taken) → tasks.Merges IsDealt pass view other theirs (both_of view theirs) nobody
-merges pass view other theirs items views h at apart there =
-    let both : Taken = both_of view theirs in
-    let middle : List Taken = set views pass both in
-    let last : List Taken = set middle other nobody in
-    let Known : Taken → Type 0 = λ u. u.live ≡ true → u.pushed ≡ h.first + length items in
-    let Alone : Taken → Type 0 = λ u. u.deals ≡ true → length views ≡ 1 in
-    let known : (j : ℕ) (u : Taken) → get_elem? middle j ≡ some u → Known u = each_set Known views pass both (λ live. h.known pass view at live) (λ j u _ at' live. h.known j u at' live) in
-    let alone : (j : ℕ) (u : Taken) → get_elem? middle j ≡ some u → Alone u = each_set Alone views pass both (λ deals. h.alone pass view at deals) (λ j u _ at' deals. h.alone j u at' deals) in
-    record {
-      first = h.first;
-      run = h.run;
-      known = each_set Known middle other nobody (λ live. absurd (false≢true live)) (λ j u _ at' live. known j u at' live);
-      alone = λ j u at' deals. omega (arith, length-set views pass both, length-set middle other nobody, each_set Alone middle other nobody (λ d. absurd (false≢true d)) (λ j u _ at' d. alone j u at' d) j u at' deals);
-      once = λ x. let one = taken_set x views pass view both at in let two = taken_set x middle other theirs nobody there in let more = times_append x view.starts theirs.starts in let old = h.once x in omega arith;
-    }
-
-pub once : (pass : ℕ) (view : Taken) → tasks.Learns IsDealt pass view (λ items. EachOnce view)
-once pass view items views h at x = let part = taken_part x views pass view at in let all = h.once x in let most = at_most x h.first in omega arith
-  where
-    at_most : (x first : ℕ) → (if nat_lt x first then 1 else 0) ≤ 1
-    at_most x first = cond_both (nat_lt x first) 1 0 (λ n. n ≤ 1) (λ e. omega arith) (λ e. omega arith)

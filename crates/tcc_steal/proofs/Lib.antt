@@ -1,3 +1,4 @@
+pub mod Capping
 pub mod Dealings
 pub mod Floor
 pub mod Places

@@ -1,6 +1,6 @@
 -- For the private rule of the deque of starts and its proofs alone: nobody has to believe what stands here.
 -- What the deque holds, what each pass has taken from it, and what each step tells its pass.
-use Rattle.std.specs.Prelude.{ℕ, ◌<◌, ◌≤◌, ◌+◌, ◌==◌, ◌≡◌, ◌++◌, true, false, List, [], ◌∷◌, length, All, nat_lt, if◌then◌else◌}
+use Rattle.std.specs.Prelude.{ℕ, ◌<◌, ◌+◌, ◌==◌, ◌≡◌, ◌++◌, true, false, List, [], ◌∷◌, length, All, nat_lt, if◌then◌else◌}
 use mathlib.Core.Option.{some}
 use lib.ListN.{get_elem?}
 use Rattle.tcc_steal.specs.declared.taken.Taken.{Taken}
@@ -32,7 +32,7 @@ pub record IsDealt (items : List ℕ) (views : List Taken) : Type 0 where
 abbrev pub dealer : Taken
 dealer = record { deals = true; live = true; pushed = 0; starts = [] }
 
--- a pass that was taken in by another
+-- the view of no pass
 abbrev pub nobody : Taken
 nobody = record { deals = false; live = false; pushed = 0; starts = [] }
 
@@ -44,10 +44,6 @@ no_dealer view = record view { deals = false }
 abbrev pub thief_of : Taken → Taken
 thief_of view = record view { deals = false; starts = [] }
 
--- one pass of two
-abbrev pub both_of : Taken → Taken → Taken
-both_of view other = record view { starts = view.starts ++ other.starts }
-
 -- what a push tells
 abbrev pub Pushes : Taken → List ℕ → Taken → Type 0
 Pushes before xs after = after ≡ record before { pushed = before.pushed + 1 }
@@ -55,10 +51,6 @@ Pushes before xs after = after ≡ record before { pushed = before.pushed + 1 }
 -- what a pop or a steal tells: the pass has the start, which was pushed
 abbrev pub Takes : Taken → List ℕ → Taken → Type 0
 Takes before xs after = (after ≡ record before { starts = before.starts ++ xs }) × All (λ x. x < before.pushed) xs
-
--- no start was taken twice
-abbrev pub EachOnce : Taken → Type 0
-EachOnce view = (x : ℕ) → times x view.starts ≤ 1
 
 -- a pass of a deque to which so many starts were pushed
 pub record IsTaker (count : ℕ) (view : Taken) : Type 0 where

@@ -1,6 +1,6 @@
 -- For the private stages and their proofs alone: nobody has to believe what stands here.
 -- What workers know, do and bring back.
-use Rattle.std.specs.Prelude.{ℕ, ◌<◌, ◌≤◌, ◌^◌, ◌≡◌, ◌+◌, ◌++◌, List, [], ◌∷◌, length, map, replicate, All, Contains, Option, None, Some, Result, IfOk, slice_get}
+use Rattle.std.specs.Prelude.{ℕ, ◌<◌, ◌≤◌, ◌^◌, ◌≡◌, ◌+◌, ◌++◌, List, [], ◌∷◌, length, map, replicate, All, Contains, Option, None, Some, Result, IfOk, IfSome, slice_get}
 use Rattle.std.specs.declared.alloc.Global.{Global}
 use Rattle.atomic_blocks.specs.Lent.{RowsId}
 use Rattle.crossbeam_deque.specs.Handles.{view, IsPassOf}
@@ -18,6 +18,7 @@ use Rattle.tcc_steal.specs.Floors.{least_cost}
 use Rattle.tcc_steal.specs.declared.bringing.Searched.{Searched}
 use Rattle.tcc_steal.specs.declared.sharing.Job.{Job}
 use Rattle.tcc_steal.specs.declared.sharing.Share.{Share}
+use Rattle.tcc_steal.specs.declared.worker.Worker.{Worker}
 
 -- one knows all that the other does: it has its offers, and has seen no more than it
 pub record KnowsMore (old new : Known) : Type 0 where
@@ -36,6 +37,11 @@ pub record IsSeat (t : Tables) (id : BoundId) (seat : Seated) : Type 0 where
   pub floor : seat.known.floor ≡ least_cost t
   pub sight : seat.known.sight < 2 ^ 64
   pub offers : (j : Judged) → IsPricesOf j t → AreCosts j seat.known.offers
+
+-- a worker with a seat at this bound, whose search, if it has one yet, is over these prices
+pub record IsWorker (t : Tables) (id : BoundId) (worker : Worker) : Type 0 where
+  pub seat : IsSeat t id worker.seat
+  pub search : IfSome worker.search (λ search. length search.row ≡ length t.prices)
 
 -- the search from s has come back at a cost that was offered; or its start is outside, and nothing outside is within the
 -- least that was seen
@@ -77,7 +83,7 @@ AreThieves workers thieves = All (λ number. (0 < number) × (number < workers))
 -- what a thief of this deque begins with
 pub record IsJob (t : Tables) (id : BoundId) (deque : RowsId × Global) (job : Job) : Type 0 where
   pub thief : 0 < job.worker.number
-  pub seat : IsSeat t id job.worker.seat
+  pub worker : IsWorker t id job.worker
   pub pass : IsPassOf deque job.pass
   pub taker : IsTaker (length t.prices) (view job.pass)
 

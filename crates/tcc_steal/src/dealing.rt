@@ -1,6 +1,6 @@
 //! The rule of the deque of starts, and what each step on it tells.
 use crate::taken::Taken;
-use crossbeam_deque::protocol::{Join, Lesson, Outcome, Protocol, Split};
+use crossbeam_deque::protocol::{Outcome, Protocol, Split};
 
 /// The deque holds a run of numbers up to the last that was pushed, and each number before it was taken once.
 pub struct Dealt;
@@ -42,24 +42,4 @@ impl Split<Taken> for Cut {
     ghost left = { no_dealer };
 
     ghost right = { thief_of };
-}
-
-/// A pass that takes in another, with the starts that it took.
-pub struct Glue;
-
-impl Join<Taken> for Glue {
-    ghost use Rattle.tcc_steal.specs.Dealing.{both_of, nobody};
-
-    ghost both = { both_of };
-
-    ghost spent = { nobody };
-}
-
-/// A pass took no start twice.
-pub struct Once;
-
-impl Lesson<u32, Taken> for Once {
-    ghost use Rattle.tcc_steal.specs.Dealing.{EachOnce};
-
-    ghost fact = { λ view _. EachOnce view };
 }

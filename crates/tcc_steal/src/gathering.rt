@@ -1,7 +1,7 @@
 //! The searches of all starts.
 ghost use Rattle.std.specs.Prelude.{◌≡◌, ◌<◌, ◌^◌, length, replicate, None, IfOk, OnOk};
 ghost use Rattle.tcc_steal.specs.Findings.{HasJudged};
-ghost use Rattle.tcc_steal.specs.Working.{IsSeat, IsShare, AreShares, AreKept, AreSearches};
+ghost use Rattle.tcc_steal.specs.Working.{IsSeat, IsWorker, IsShare, AreShares, AreKept, AreSearches};
 
 use crate::Gate;
 use crate::bringing::Searched;
@@ -83,11 +83,11 @@ pub(crate) fn search_all(
     _workers: u32,
 ) -> Result<Vec<Searched>, NoMemory>
     requires prices { HasJudged prices.now }
-    requires worker { IsSeat prices.now bound.now worker.old.seat }
+    requires worker { IsWorker prices.now bound.now worker.old }
     requires number { worker.old.number < _workers }
     requires long { length places.items ≡ length prices.now.prices }
     requires kept { AreKept prices.now _workers worker.old.seat.known places.items }
-    ensures worker { OnOk result (IsSeat prices.now bound.now worker.new.seat) }
+    ensures worker { OnOk result (IsWorker prices.now bound.now worker.new) }
     ensures few { IfOk result (λ all. length all.items < 2 ^ 32) }
     ensures long { IfOk result (λ all. length all.items ≡ length prices.now.prices) }
     ensures all { IfOk result (λ all. AreSearches prices.now _workers worker.new.seat.known 0 all.items) }

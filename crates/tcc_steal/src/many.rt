@@ -3,7 +3,7 @@ ghost use Rattle.std.specs.Prelude.{◌≡◌, ◌<◌, ◌≤◌, ℕ, All, len
 ghost use Rattle.crossbeam_deque.specs.Handles.{worker_deque, worker_flavor, worker_view, stealer_deque};
 ghost use Rattle.tcc_steal.specs.Dealing.{IsTaker};
 ghost use Rattle.tcc_steal.specs.Findings.{HasJudged};
-ghost use Rattle.tcc_steal.specs.Working.{IsSeat, IsJob, AreThieves, AreJobs, AreShares, IsShare};
+ghost use Rattle.tcc_steal.specs.Working.{IsSeat, IsWorker, IsJob, AreThieves, AreJobs, AreShares, IsShare};
 
 use crate::sharing::{Job, Share, owners_share, thiefs_share};
 use crate::taking::{Owner, Thief, cut, deal};
@@ -53,6 +53,7 @@ fn jobs(
             worker: Worker {
                 number: *number,
                 seat: bound.split(seat),
+                search: None,
             },
             pass: cut(owner),
             retries: crew.retries(*number),
@@ -115,11 +116,12 @@ pub(crate) fn shares_of_many<R: Threads + Sync, G: Gate, C: Crew>(
     let worker = Worker {
         number: 0,
         seat: bound.split(seat),
+        search: None,
     };
     let (own, others) = thread::join(
         rt,
         move || -> Result<Share, NoMemory>
-            requires { HasJudged prices.now × (worker_flavor owner ≡ 0) × IsTaker (length prices.now.prices) (worker_view owner) × IsSeat prices.now bound.now worker.seat × (worker.number < _workers) }
+            requires { HasJudged prices.now × (worker_flavor owner ≡ 0) × IsTaker (length prices.now.prices) (worker_view owner) × IsWorker prices.now bound.now worker × (worker.number < _workers) }
             ensures { IfOk result (IsShare prices.entry.now bound.entry.now _workers) }
         { owners_share(alloc, prices, bound, gate, owner, worker, _workers) },
         move || -> Result<Vec<Result<Share, NoMemory>>, NoMemory>

@@ -32,19 +32,14 @@ fn capped(cost: Option<u32>, cap: Option<u32>) -> Option<u32>
     }
 }
 
-/// The row with each of its places capped.
-fn capped_row(
-    alloc: Global,
-    row: &[Option<u32>],
-    cap: Option<u32>,
-) -> Result<Row<Option<u32>>, NoMemory>
-    ensures { IfOk result (λ places. places ≡ map (capped cap) row.now) }
+/// The row with each of its places capped, in its own memory.
+fn capped_row(mut row: Vec<Option<u32>>, cap: Option<u32>) -> Row<Option<u32>>
+    ensures { result ≡ map (capped cap) row.items }
 {
-    let mut places = Vec::with_capacity(alloc, row.len())?;
-    for cost in row {
-        places.push(capped(*cost, cap))?;
+    for cost in row.iter_mut() {
+        *cost = capped(*cost, cap);
     }
-    Ok(Row::new(places))
+    Row::new(row)
 }
 
 /// The first of these searches that came back at this cost, by its place.
@@ -61,22 +56,22 @@ fn first_back(searches: &[Searched], cost: u32) -> Option<u32>
 }
 
 /// What these searches, one of each start in order, have found, where a least cycle costs so much.
-fn found(alloc: Global, least: Option<u32>, searches: &[Searched]) -> Result<Found, NoMemory>
-    requires { length searches.now < 2 ^ 32 }
+fn found(alloc: Global, least: Option<u32>, searches: Vec<Searched>) -> Result<Found, NoMemory>
+    requires { length searches.items < 2 ^ 32 }
     ensures least { IfOk result (λ found. found.least ≡ least) }
-    ensures first { IfOk result (λ found. IsFirstBack searches.now least found.first) }
-    ensures rows { IfOk result (λ found. found.rows.items ≡ map (λ e. map (capped least) e.row.items) searches.now) }
-    ensures starts { IfOk result (λ found. found.starts.items ≡ map (λ e. (e.worker, e.start)) searches.now) }
+    ensures first { IfOk result (λ found. IsFirstBack searches.items least found.first) }
+    ensures rows { IfOk result (λ found. found.rows.items ≡ map (λ e. map (capped least) e.row.items) searches.items) }
+    ensures starts { IfOk result (λ found. found.starts.items ≡ map (λ e. (e.worker, e.start)) searches.items) }
 {
     let first = match least {
-        Some(cost) => first_back(searches, cost),
+        Some(cost) => first_back(&searches, cost),
         None => None,
     };
     let mut rows = Vec::with_capacity(alloc, searches.len())?;
     let mut starts = Vec::with_capacity(alloc, searches.len())?;
     for searched in searches {
-        rows.push(capped_row(alloc, &searched.row, least)?)?;
         starts.push((searched.worker, searched.start))?;
+        rows.push(capped_row(searched.row, least))?;
     }
     Ok(Found {
         least,
@@ -160,9 +155,13 @@ pub fn search_with<R: Threads + Sync, G: Gate, C: Crew>(
         )?
     };
     let places = gather(alloc, prices, &bound, &mut seat, shares, workers)?;
-    let mut worker = Worker { number: 0, seat };
+    let mut worker = Worker {
+        number: 0,
+        seat,
+        search: None,
+    };
     let searches = search_all(alloc, prices, &bound, gate, &mut worker, places, workers)?;
     let least = cost_in(bound.close(worker.seat));
-    let found = found(alloc, least, &searches)?;
+    let found = found(alloc, least, searches)?;
     Ok(found)
 }

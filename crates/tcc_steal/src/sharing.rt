@@ -3,7 +3,7 @@ ghost use Rattle.std.specs.Prelude.{◌≡◌, ◌<◌, length, IfOk};
 ghost use Rattle.crossbeam_deque.specs.Handles.{worker_flavor, worker_view, stealer_deque};
 ghost use Rattle.tcc_steal.specs.Dealing.{IsTaker};
 ghost use Rattle.tcc_steal.specs.Findings.{HasJudged};
-ghost use Rattle.tcc_steal.specs.Working.{IsSeat, IsJob, IsShare, AreBy};
+ghost use Rattle.tcc_steal.specs.Working.{IsWorker, IsJob, IsShare, AreBy};
 
 use crate::Gate;
 use crate::bringing::Searched;
@@ -44,7 +44,7 @@ pub(crate) fn owners_share(
     requires prices { HasJudged prices.now }
     requires fifo { worker_flavor owner ≡ 0 }
     requires taker { IsTaker (length prices.now.prices) (worker_view owner) }
-    requires seat { IsSeat prices.now bound.now worker.seat }
+    requires worker { IsWorker prices.now bound.now worker }
     requires number { worker.number < _workers }
     ensures share { IfOk result (IsShare prices.now bound.now _workers) }
     ensures by { IfOk result (λ share. AreBy worker.number share.searches.items) }

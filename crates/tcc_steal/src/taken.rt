@@ -5,7 +5,7 @@ use std::collections::LinkedList;
 pub struct Taken {
     /// It may push starts, and is the only pass.
     pub deals: bool,
-    /// It was handed out, and was not taken in by another.
+    /// It was handed out.
     pub live: bool,
     /// So many starts were pushed: all the numbers below it.
     pub pushed: u64,

@@ -22,7 +22,7 @@ loop-start-preserved g c =
             length-set places start c.take.new.self ∙ c.loop-start.invariant.2,
             emptied,
             omega (arith, ap length pushed, length-append es (c.match-take.searched ∷ []), c.loop-start.invariant.4),
-            rw (pushed, w.searched-is) (searches_more t c.args._workers c.loop-start.worker.seat.known c.loop-start.worker.seat.known es w.in-Some.searched (knows_itself c.loop-start.worker.seat.known c.loop-start.invariant.0.sight) c.loop-start.invariant.5 (at.0 ∙ sym c.loop-start.invariant.4) at.1),
+            rw (pushed, w.searched-is) (searches_more t c.args._workers c.loop-start.worker.seat.known c.loop-start.worker.seat.known es w.in-Some.searched (knows_itself c.loop-start.worker.seat.known c.loop-start.invariant.0.seat.sight) c.loop-start.invariant.5 (at.0 ∙ sym c.loop-start.invariant.4) at.1),
           )
       | in-None+in_ok-searched-in-None w ↦
           let ens = w.in_ok-searched-in-None.ensures in

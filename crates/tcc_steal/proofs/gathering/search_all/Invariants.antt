@@ -1,11 +1,11 @@
 -- the searches of the starts so far, and the places that are left
 use Rattle.std.proofs.Common.{◌≡◌, length}
-use Rattle.tcc_steal.specs.Working.{IsSeat, AreKept, AreSearches}
+use Rattle.tcc_steal.specs.Working.{IsWorker, AreKept, AreSearches}
 use Rattle.tcc_steal.proofs.gathering.search_all.Given as goal
 
 abbrev pub invariant-loop-start : goal.invariant-loop-start
 invariant-loop-start g l =
-    IsSeat l.prices l.bound l.worker.seat
+    IsWorker l.prices l.bound l.worker
     × (l.worker.number ≡ l.fn.worker.number)
     × (length l.places.items ≡ length l.prices.prices)
     × AreKept l.prices l._workers l.worker.seat.known l.places.items

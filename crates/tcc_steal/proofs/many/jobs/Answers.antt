@@ -1,4 +1,4 @@
-use Rattle.std.proofs.Common.{get_or, ◌<◌, sym, ◌∙◌, ap, subst}
+use Rattle.std.proofs.Common.{None, get_or, ◌<◌, sym, ◌∙◌, ap, subst}
 use Rattle.std.proofs.lemmas.List.Elements.{All-push}
 use Rattle.std.specs.declared.alloc.Global.{Global}
 use Rattle.atomic_blocks.specs.Lent.{RowsId}
@@ -17,11 +17,11 @@ loop-number-preserved g c =
     let inv = c.loop-number.invariant in
     let cut = c.cut.ensures in
     let is : IsSeat t id c.loop-number.seat = subst (IsSeat t id) (sym c.loop-number.invariant.0) c.requires.seat in
-    let job : Job = record { worker = record { number = get_or c.args.thieves.now c.loop-number.number-index 0; seat = c.split.result }; pass = c.cut.result; retries = c.retries.result } in
+    let job : Job = record { worker = record { number = get_or c.args.thieves.now c.loop-number.number-index 0; seat = c.split.result; search = None }; pass = c.cut.result; retries = c.retries.result } in
     let number = c.requires.thieves c.loop-number.number-index 0 c.loop-number-test.true in
     let is_job : IsJob t id deque job = record {
       thief = number.0;
-      seat = subst (IsSeat t id) (sym c.split.ensures.new) (split t id c.loop-number.seat is);
+      worker = record { seat = subst (IsSeat t id) (sym c.split.ensures.new) (split t id c.loop-number.seat is); search = tt };
       pass = subst (λ (d : RowsId × Global). IsPassOf d c.cut.result) c.loop-number.invariant.1 c.cut.ensures.pass;
       taker = record { live = ap (λ (v : Taken). v.live) c.cut.ensures.right ∙ c.loop-number.invariant.3.live; pushed = ap (λ (v : Taken). v.pushed) c.cut.ensures.right ∙ c.loop-number.invariant.3.pushed };
     } in (

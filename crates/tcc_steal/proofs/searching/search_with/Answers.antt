@@ -1,7 +1,4 @@
-use Rattle.std.proofs.Common.{List, map, ◌∙◌, ap, subst, arith}
-use Rattle.tcc_core.specs.Shares.{capped}
-use Rattle.tcc_steal.specs.Working.{IsFirstBack}
-use Rattle.tcc_steal.specs.declared.bringing.Searched.{Searched}
+use Rattle.std.proofs.Common.{arith}
 use Rattle.tcc_steal.proofs.Settling.{IsLast, word_fits, found_at}
 use Rattle.tcc_steal.proofs.searching.search_with.Goals.{then-is_empty, else-is_empty+in_ok-shares}
 use Rattle.tcc_steal.proofs.searching.search_with.Goals as goal
@@ -19,23 +16,21 @@ cost_in-least-requires g c =
     let t = c.args.prices.now in
     let seat = c.search_all.new.worker.seat in
     let ens = c.in_ok-searches.ensures in
-    let floor = ens.worker.floor in
+    let at = ens.worker.seat in
+    let floor = at.floor in
     let last : IsLast t seat.known c.close.result = record { most = c.close.ensures.least; above = omega (arith, floor, c.close.ensures.floor); small = omega arith } in
-    λ other. word_fits j t c.args.workers c.in_ok-bound.bound seat c.in_ok-searches.searches.items c.close.result priced ens.worker last ens.all ens.long other
+    λ other. word_fits j t c.args.workers c.in_ok-bound.bound seat c.in_ok-searches.searches.items c.close.result priced at last ens.all ens.long other
 
 pub returns : goal.returns
 returns g c = λ j priced.
     let t = c.args.prices.now in
     let seat = c.search_all.new.worker.seat in
     let ens = c.in_ok-searches.ensures in
-    let floor = ens.worker.floor in
+    let at = ens.worker.seat in
+    let floor = at.floor in
     let last : IsLast t seat.known c.close.result = record { most = c.close.ensures.least; above = omega (arith, floor, c.close.ensures.floor); small = omega arith } in
     let found = c.in_ok-found.ensures in
     let least = c.cost_in-least.result in
     let answer = c.in_ok-found.found in
-    let same = c.deref-2.ensures.value in
-    let first = subst (λ (es : List Searched). IsFirstBack es c.cost_in-least.result c.in_ok-found.found.first) same found.first in
-    let rows = found.rows ∙ ap (map (λ (e : Searched). map (capped c.cost_in-least.result) e.row.items)) same in
-    let starts = found.starts ∙ ap (map (λ (e : Searched). (e.worker, e.start))) same in
-    found_at j t c.args.workers c.in_ok-bound.bound seat c.in_ok-searches.searches.items c.close.result priced ens.worker last
-    ens.all ens.long c.cost_in-least.result c.in_ok-found.found c.cost_in-least.ensures found.least first rows starts
+    found_at j t c.args.workers c.in_ok-bound.bound seat c.in_ok-searches.searches.items c.close.result priced at last
+    ens.all ens.long c.cost_in-least.result c.in_ok-found.found c.cost_in-least.ensures found.least found.first found.rows found.starts
