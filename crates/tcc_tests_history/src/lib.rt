@@ -1,13 +1,5 @@
-//! Tests of histories: names, transactions, records and snapshots, the recorders' book, who read from whom, and the graph.
+//! Tests of histories, by public calls.
 #![tactic(auto)]
 
 #[cfg(test)]
-mod book;
-#[cfg(test)]
-mod builders;
-#[cfg(test)]
-mod graph;
-#[cfg(test)]
-mod reads;
-#[cfg(test)]
-mod txn;
+mod tests;

@@ -1,5 +1,5 @@
 //! What no clause says: which of two faults is answered, and what stands under the lock between two calls.
-use crate::builders::name;
+use crate::tests::builders::name;
 use std::alloc::Global;
 use std::process::Abort;
 use std::sync::Wait;
@@ -157,15 +157,17 @@ fn opened(rt: &(impl Abort + Wait), alloc: Global, book: &Book, letters: &[u8]) 
     passes
 }
 
-/// Records the write of the value, which has to be taken.
+/// Records the writes of so many values from 1 on, which have to be taken.
 fn assert_records(
     rt: &(impl Abort + Wait),
     alloc: Global,
     book: &Book,
     pass: &mut Pass,
-    value: u64,
+    values: u64,
 ) {
-    assert!(rt; record(rt, alloc, book, pass, value).is_some_and(|r| r.is_ok()));
+    for before in 0..values {
+        assert!(rt; record(rt, alloc, book, pass, before + 1).is_some_and(|r| r.is_ok()));
+    }
 }
 
 /// A session without its pass is missed, the least one first, and nothing is lost by it.
@@ -213,9 +215,7 @@ fn openings(rt: HostRuntime) {
     let alloc = rt.alloc();
     let book = new_book(&rt, alloc);
     for mut pass in opened(&rt, alloc, &book, b"0") {
-        for value in 1..4u64 {
-            assert_records(&rt, alloc, &book, &mut pass, value);
-        }
+        assert_records(&rt, alloc, &book, &mut pass, 3);
         let again = book.open(&rt, alloc, *pass.session()).err();
         assert_eq!(rt; again, Some(OpenFault::Taken { held: 3 }));
     }
@@ -232,9 +232,7 @@ fn full_book(rt: HostRuntime) {
     let alloc = rt.alloc();
     let book = new_book(&rt, alloc);
     for mut a in opened(&rt, alloc, &book, b"a") {
-        for _ in 0..MAX_TRANSACTIONS {
-            assert_records(&rt, alloc, &book, &mut a, 1);
-        }
+        assert_records(&rt, alloc, &book, &mut a, MAX_TRANSACTIONS as u64);
     }
     for mut b in opened(&rt, alloc, &book, b"b") {
         let Some(Err((fault, back))) = record(&rt, alloc, &book, &mut b, 7) else {

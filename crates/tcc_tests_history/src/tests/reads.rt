@@ -1,5 +1,5 @@
 //! Worked snapshots, with faults and histories worked out by hand.
-use crate::builders::{assert_names, assert_shows, name, resolved, snapshot};
+use crate::tests::builders::{assert_names, assert_shows, name, resolved, snapshot};
 use std::alloc::Global;
 use std::process::Abort;
 use std::test::Fail;

@@ -1,7 +1,7 @@
 //! Each call on names, transactions, snapshots and recordings once, each refusal, and their order.
 mod rows;
 
-use crate::builders::{assert_names, assert_shows, name};
+use crate::tests::builders::{assert_names, assert_shows, name};
 use indexmap::IndexSet;
 use std::alloc::Global;
 use std::collections::BTreeMap;

@@ -1,5 +1,5 @@
 //! Worked histories, with numbers, pairs, keys, writers and readers worked out by hand.
-use crate::builders::{assert_names, graph_of, name, try_graph};
+use crate::tests::builders::{assert_names, graph_of, name, try_graph};
 use std::alloc::Global;
 use std::process::Abort;
 use std::test::Fail;

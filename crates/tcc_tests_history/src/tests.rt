@@ -1,0 +1,6 @@
+//! Names, transactions, records and snapshots, the recorders' book, who read from whom, and the graph.
+mod book;
+mod builders;
+mod graph;
+mod reads;
+mod txn;
