@@ -3,17 +3,29 @@ ghost use Rattle.std.specs.Prelude.{◌≡◌, true, false};
 
 use tcc_txn::{Op, Txn};
 
-/// Whether the operations are equal.
-fn are_same_operation(a: &Op, b: &Op) -> bool
-    ensures same { result ≡ true → a.now ≡ b.now }
-    ensures other { result ≡ false → a.now ≡ b.now → ⊥ }
-{
-    let same_kind = matches!(a, Op::Get { .. }) == matches!(b, Op::Get { .. });
-    same_kind && a.key() == b.key() && a.value() == b.value()
+/// Values that can be compared.
+pub(crate) trait Alike {
+    /// Whether the values are equal.
+    fn is_same(&self, other: &Self) -> bool
+        ensures same { result ≡ true → self.now ≡ other.now }
+        ensures other { result ≡ false → self.now ≡ other.now → ⊥ };
 }
 
-/// Whether the lists of operations are equal.
-fn are_same_operations(a: &[Op], b: &[Op]) -> bool
+impl Alike for Op {
+    fn is_same(&self, other: &Op) -> bool {
+        let same_kind = matches!(self, Op::Get { .. }) == matches!(other, Op::Get { .. });
+        same_kind && self.key() == other.key() && self.value() == other.value()
+    }
+}
+
+impl Alike for Txn {
+    fn is_same(&self, other: &Txn) -> bool {
+        self.committed() == other.committed() && are_same(self.ops(), other.ops())
+    }
+}
+
+/// Whether the lists are equal.
+pub(crate) fn are_same<T: Alike>(a: &[T], b: &[T]) -> bool
     ensures same { result ≡ true → a.now ≡ b.now }
     ensures other { result ≡ false → a.now ≡ b.now → ⊥ }
 {
@@ -21,31 +33,7 @@ fn are_same_operations(a: &[Op], b: &[Op]) -> bool
         return false;
     }
     for i in 0..a.len() {
-        if !are_same_operation(&a[i], &b[i]) {
-            return false;
-        }
-    }
-    true
-}
-
-/// Whether the transactions are equal.
-fn are_same_transaction(a: &Txn, b: &Txn) -> bool
-    ensures same { result ≡ true → a.now ≡ b.now }
-    ensures other { result ≡ false → a.now ≡ b.now → ⊥ }
-{
-    a.committed() == b.committed() && are_same_operations(a.ops(), b.ops())
-}
-
-/// Whether the lists of transactions are equal.
-pub(crate) fn are_same(a: &[Txn], b: &[Txn]) -> bool
-    ensures same { result ≡ true → a.now ≡ b.now }
-    ensures other { result ≡ false → a.now ≡ b.now → ⊥ }
-{
-    if a.len() != b.len() {
-        return false;
-    }
-    for i in 0..a.len() {
-        if !are_same_transaction(&a[i], &b[i]) {
+        if !a[i].is_same(&b[i]) {
             return false;
         }
     }

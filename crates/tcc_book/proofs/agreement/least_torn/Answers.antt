@@ -7,16 +7,15 @@ use Rattle.tcc_book.proofs.agreement.least_torn.Goals.{then-not-agrees, else-not
 
 pub loop-pass-preserved : goal.loop-pass-preserved
 loop-pass-preserved c =
-    let copy = c.args.copy.now in
     let passes = c.args.passes.now in
-    let i = c.loop-pass.pass-index in
+    let front = take c.loop-pass.pass-index passes in
     let pass = c.pass-item.result in
-    let longer : take (i + 1) passes ≡ take i passes ++ pass ∷ [] = take_more passes i pass c.loop-pass-test.true ∙ ap (λ p. take i passes ++ p ∷ []) (sym c.pass-item.is) in
+    let longer : take (c.loop-pass.pass-index + 1) passes ≡ front ++ pass ∷ [] = take_more passes c.loop-pass.pass-index pass c.loop-pass-test.true ∙ ap (λ p. front ++ p ∷ []) (sym c.pass-item.is) in
     rw longer (elim c.if-not-agrees.branch [
       | then-not-agrees w ↦
-          subst (LeastTorn copy (take i passes ++ pass ∷ [])) (sym (w.least-is ∙ ap Some (w.lesser.ensures ∙ ap (lesser c.loop-pass.least) w.session.ensures)))
-          (torn-more copy (take i passes) pass c.loop-pass.least c.loop-pass.invariant (c.agrees.ensures.no w.if-not-agrees.true))
+          subst (LeastTorn c.args.copy.now (front ++ pass ∷ [])) (sym (w.least-is ∙ ap Some (w.lesser.ensures ∙ ap (lesser c.loop-pass.least) w.session.ensures)))
+          (torn-more c.args.copy.now front pass c.loop-pass.least c.loop-pass.invariant (c.agrees.ensures.no w.if-not-agrees.true))
       | else-not-agrees w ↦
-          subst (LeastTorn copy (take i passes ++ pass ∷ [])) (sym w.least-is)
-          (torn-same copy (take i passes) pass c.loop-pass.least c.loop-pass.invariant (c.agrees.ensures.yes w.if-not-agrees.false))
+          subst (LeastTorn c.args.copy.now (front ++ pass ∷ [])) (sym w.least-is)
+          (torn-same c.args.copy.now front pass c.loop-pass.least c.loop-pass.invariant (c.agrees.ensures.yes w.if-not-agrees.false))
     ])
