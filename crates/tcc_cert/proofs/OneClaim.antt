@@ -98,8 +98,8 @@ order-read v level n s at after certificate e end =
     let last = mark-text v (codes "end") second.0.1 third.0.1 third.0.0 third.1 in
     let none : third.0.1.bytes ≡ [] = ap (λ p. p.bytes) is.1 ∙ end in
     record {
-      order = order;
-      clocks = clocks;
+      order = first.0.0;
+      clocks = second.0.0;
       is = is.0;
       count = row.0.0;
       numbers = All-from_recursion (IsNumber v) order row.0.1;

@@ -2,10 +2,12 @@
 use Rattle.std.proofs.Common.{◌≡◌, ℕ, List, [], ◌∷◌, ◌++◌, Ok, Err, refl, codes}
 use Rattle.tcc_graph.specs.declared.step.Step.TheVariants as step
 use Rattle.tcc_graph.specs.declared.link.Link.TheVariants as link
+use Rattle.tcc_cert.specs.declared.certificate.Certificate.{Certificate}
 use Rattle.tcc_cert.specs.declared.certificate.Certificate.TheVariants as claim
 use Rattle.tcc_cert.specs.declared.fault.CertFault.{CertFault}
 use Rattle.tcc_cert.specs.declared.fault.CertFaultKind.TheVariants.{Header, Word, Number, Count, TooLarge, Truncated, Trailing}
 use Rattle.tcc_graph.specs.declared.level.Level.TheVariants.{Causal, Atomic}
+use Rattle.tcc_cert.specs.declared.version.Version.{Version}
 use Rattle.tcc_cert.specs.declared.version.Version.TheVariants.{One, Two}
 use Rattle.tcc_cert.specs.Reading.{certificate_read}
 
@@ -23,29 +25,27 @@ links_and_near = codes "S 0 1\nD 1 0 x 2 1\nS 1 2\nnear\n3 1 1\n3 3 1\n3 3 3\n"
 abbrev far : List ℕ
 far = codes "far\n3 1 1\n2 3 1\n3 3 3\n"
 
--- a read of 0 after an own write
-stale_read : certificate_read (codes "tcc-certificate 1\ncycle 3 2 3\n" ++ (links_and_near ++ (far ++ codes "end\n")))
-    ≡ Ok (claim.Cycle
-    One
+-- the claim of a read of 0 after an own write, with these rows of `far`
+abbrev stale : Version → List (List ℕ) → Certificate
+stale version rows = claim.Cycle
+    version
     Causal
     (link.Session 0 1 ∷ link.Derived 1 0 (codes "x") 2 (step.Session 1 2 ∷ []) ∷ [])
     3
     ((3 ∷ 1 ∷ 1 ∷ []) ∷ (3 ∷ 3 ∷ 1 ∷ []) ∷ (3 ∷ 3 ∷ 3 ∷ []) ∷ [])
-    ((3 ∷ 1 ∷ 1 ∷ []) ∷ (2 ∷ 3 ∷ 1 ∷ []) ∷ (3 ∷ 3 ∷ 3 ∷ []) ∷ []))
+    rows
+
+-- its text in version 1
+stale_read : certificate_read (codes "tcc-certificate 1\ncycle 3 2 3\n" ++ (links_and_near ++ (far ++ codes "end\n")))
+    ≡ Ok (stale One ((3 ∷ 1 ∷ 1 ∷ []) ∷ (2 ∷ 3 ∷ 1 ∷ []) ∷ (3 ∷ 3 ∷ 3 ∷ []) ∷ []))
 stale_read = refl
 
 abbrev upward : List ℕ
 upward = codes "far\n3 1 1\n3 1\n3\n"
 
--- the same in version 2
+-- and in version 2
 stale_read_upward : certificate_read (codes "tcc-certificate 2 causal\ncycle 3 2 3\n" ++ (links_and_near ++ (upward ++ codes "end\n")))
-    ≡ Ok (claim.Cycle
-    Two
-    Causal
-    (link.Session 0 1 ∷ link.Derived 1 0 (codes "x") 2 (step.Session 1 2 ∷ []) ∷ [])
-    3
-    ((3 ∷ 1 ∷ 1 ∷ []) ∷ (3 ∷ 3 ∷ 1 ∷ []) ∷ (3 ∷ 3 ∷ 3 ∷ []) ∷ [])
-    ((3 ∷ 1 ∷ 1 ∷ []) ∷ (3 ∷ 1 ∷ []) ∷ (3 ∷ []) ∷ []))
+    ≡ Ok (stale Two ((3 ∷ 1 ∷ 1 ∷ []) ∷ (3 ∷ 1 ∷ []) ∷ (3 ∷ []) ∷ []))
 stale_read_upward = refl
 
 -- each text has the fault that stands behind it

@@ -22,11 +22,10 @@ returns-in_err-far_row-clause-part g c =
 pub loop-row-preserved : goal.loop-row-preserved
 loop-row-preserved g c =
     let rows = c.rows-row-items.result.now in
-    let i = c.loop-row.row-index in
-    let next = rows_next rows i c.row-item.result c.as_slice.result.now c.as_slice.ensures c.loop-row-test.true c.row-item.is in (
+    let next = rows_next rows c.loop-row.row-index c.row-item.result c.as_slice.result.now c.as_slice.ensures c.loop-row-test.true c.row-item.is in (
       c.far_row.ensures.same_reference ∙ c.loop-row.invariant.0,
-      λ before count k h none. far_next g.W.Write.contents before count k rows i c.as_slice.result.now c.far_row.new.self next
-          (c.in_ok-far_row.ensures.whole before count (record k { far = take i rows }) (c.loop-row.invariant.1 before count k h none)),
+      λ before count k h none. far_next g.W.Write.contents before count k rows _ c.as_slice.result.now c.far_row.new.self next
+          (c.in_ok-far_row.ensures.whole before count (record k { far = take c.loop-row.row-index rows }) (c.loop-row.invariant.1 before count k h none)),
     )
 
 pub returns-clause-whole : goal.returns-clause-whole

@@ -22,11 +22,10 @@ returns-in_err-near_row-clause-part g c =
 pub loop-row-preserved : goal.loop-row-preserved
 loop-row-preserved g c =
     let rows = c.rows-row-items.result.now in
-    let i = c.loop-row.row-index in
-    let next = rows_next rows i c.row-item.result c.as_slice.result.now c.as_slice.ensures c.loop-row-test.true c.row-item.is in (
+    let next = rows_next rows c.loop-row.row-index c.row-item.result c.as_slice.result.now c.as_slice.ensures c.loop-row-test.true c.row-item.is in (
       c.near_row.ensures.same_reference ∙ c.loop-row.invariant.0,
-      λ before count k h empty none. near_next g.W.Write.contents before count k rows i c.as_slice.result.now c.near_row.new.self next
-          (c.in_ok-near_row.ensures.whole before count (record k { near = take i rows }) (c.loop-row.invariant.1 before count k h empty none) none),
+      λ before count k h empty none. near_next g.W.Write.contents before count k rows _ c.as_slice.result.now c.near_row.new.self next
+          (c.in_ok-near_row.ensures.whole before count (record k { near = take c.loop-row.row-index rows }) (c.loop-row.invariant.1 before count k h empty none) none),
     )
 
 pub returns-clause-whole : goal.returns-clause-whole

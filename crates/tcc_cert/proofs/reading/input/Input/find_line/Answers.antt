@@ -8,18 +8,16 @@ use Rattle.tcc_cert.proofs.reading.input.Input.find_line.Goals as goal
 
 pub returns-then-length-held-clause-found : goal.returns-then-length-held-clause-found
 returns-then-length-held-clause-found g c at before =
-    let now = c.reads.invariant.stays at before in
     let held = window_bytes c.reads.self.window in
-    let front = known-front _ held at.bytes (rw c.reads.invariant.passed at now.bytes) in
+    let front = known-front _ held at.bytes (rw c.reads.invariant.passed at (c.reads.invariant.stays at before).bytes) in
     let same = c.line_length-length.ensures ∙ ap line_length c.as_slice-bytes.ensures.value in
     let long = ap length c.as_slice-bytes.ensures.value in
     rw (front.1, same) (line-found c.args.most held front.0 (omega (arith, same, long, c.if-length-held.true)) (omega (arith, same, c.if-length-most.false)))
 
 pub returns-then-length-most-clause-found : goal.returns-then-length-most-clause-found
 returns-then-length-most-clause-found g c at before =
-    let now = c.reads.invariant.stays at before in
     let held = window_bytes c.reads.self.window in
-    let front = known-front _ held at.bytes (rw c.reads.invariant.passed at now.bytes) in
+    let front = known-front _ held at.bytes (rw c.reads.invariant.passed at (c.reads.invariant.stays at before).bytes) in
     let same = c.line_length-length.ensures ∙ ap line_length c.as_slice-bytes.ensures.value in
     inl (rw front.1 (line-too-long c.args.most held front.0 (omega (arith, same, c.if-length-most.true))))
 
