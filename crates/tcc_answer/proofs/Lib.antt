@@ -1,4 +1,5 @@
 pub mod Ends
 pub mod NoFloats
+mod WorkedAnswers
 mod WorkedTexts
 mod WorkedJson

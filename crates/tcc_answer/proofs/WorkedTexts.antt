@@ -1,28 +1,21 @@
 -- Worked texts agree with the definitions.
-use Rattle.std.proofs.Common.{◌≡◌, [], ◌∷◌, ℕ, List, refl, codes, lit<}
+use Rattle.std.proofs.Common.{◌≡◌, [], ◌∷◌, refl, codes, lit<}
 use Rattle.std.proofs.lemmas.Fmt.{decimal_digit}
-use Rattle.tcc_graph.specs.declared.level.Level.TheVariants.{Causal, Atomic}
+use Rattle.tcc_graph.specs.declared.level.Level.TheVariants.{Causal}
 use Rattle.tcc_graph.specs.declared.step.Step.TheVariants as step
-use Rattle.tcc_graph.specs.declared.link.Link.{Link}
 use Rattle.tcc_graph.specs.declared.link.Link.TheVariants as link
-use Rattle.tcc_answer.specs.declared.answer.Answer.{Answer}
 use Rattle.tcc_answer.specs.declared.answer.Answer.TheVariants as answer
 use Rattle.tcc_answer.specs.Texts.{answer_text}
-
--- the anomaly of these links, between transactions of these labels
-abbrev anomaly : List Link → List (List ℕ) → Answer
-anomaly cycle names = answer.Anomaly (record { level = Causal; links = cycle; near = []; far = []; labels = names })
+use Rattle.tcc_answer.proofs.WorkedAnswers.{anomaly, stale_read, long_fork}
 
 -- no transactions
 no_transactions : answer_text (answer.Commit (record { level = Causal; order = 0 ∷ []; sessions = 0; clocks = []; labels = codes "init" ∷ [] }))
     ≡ codes "consistent: 0 transactions, 0 sessions\norder: init\n"
 no_transactions = rw (decimal_digit 0 (lit< tt)) refl
 
--- a read of 0 after an own write
-stale_read : answer_text (anomaly (link.Session 0 1 ∷ link.Derived 1 0 (codes "x") 2 (step.Session 1 2 ∷ []) ∷ [])
-    (codes "init" ∷ codes "a/1" ∷ codes "a/2" ∷ []))
+stale_read_text : answer_text stale_read
     ≡ codes "anomaly: 3 steps, stale-initial-read\nsession init -> a/1\nderived a/1 -> init by x, read by a/2\n  session a/1 -> a/2\n  against init -> a/2 by x\n"
-stale_read = rw (decimal_digit 3 (lit< tt)) refl
+stale_read_text = rw (decimal_digit 3 (lit< tt)) refl
 
 -- two transactions that read from one another
 two_reads : answer_text (anomaly (link.Reads 1 2 (codes "x") ∷ link.Reads 2 1 (codes "y") ∷ [])
@@ -42,13 +35,6 @@ two_writes : answer_text (anomaly (link.Derived 1 2 (codes "x") 3 (step.Reads 1 
     ≡ codes "anomaly: 4 steps, conflict-cycle\nderived a/1 -> b/1 by x, read by c/1\n  reads a/1 -> c/1 by x\n  against b/1 -> c/1 by x\nderived b/1 -> a/1 by x, read by c/1\n  reads b/1 -> c/1 by x\n  against a/1 -> c/1 by x\n"
 two_writes = rw (decimal_digit 4 (lit< tt)) refl
 
--- the long fork
-long_fork : answer_text (answer.Commit (record {
-  level = Atomic;
-  order = 0 ∷ 1 ∷ 2 ∷ 3 ∷ 4 ∷ [];
-  sessions = 4;
-  clocks = [];
-  labels = codes "init" ∷ codes "a/1" ∷ codes "b/1" ∷ codes "c/1" ∷ codes "d/1" ∷ [];
-}))
+long_fork_text : answer_text long_fork
     ≡ codes "consistent: 4 transactions, 4 sessions\norder: init a/1 b/1 c/1 d/1\n"
-long_fork = rw (decimal_digit 4 (lit< tt)) refl
+long_fork_text = rw (decimal_digit 4 (lit< tt)) refl
