@@ -64,14 +64,14 @@ fn assert_found(
     }
 }
 
-/// The distances of the two stale reads, found by these workers.
+/// What these workers find of the two stale reads, which has their distances.
 fn assert_stale_reads(
     rt: &(impl Abort + Threads + Sync),
     alloc: Global,
     workers: u32,
     gate: &impl Gate,
     crew: &impl Crew,
-) -> Result<(), Fail>
+) -> Result<Found, Fail>
     requires { (0 < workers) × (workers ≤ 32) }
 {
     let Some(graph) = graph_of(alloc, TWO_STALE_READS) else {
@@ -87,7 +87,7 @@ fn assert_stale_reads(
         &[Some(3)],
     ];
     assert_found(rt, &found, workers, Some(3), Some(0), rows);
-    Ok(())
+    Ok(found)
 }
 
 /// One worker and many find the same.
@@ -134,36 +134,62 @@ fn any_crew(rt: HostRuntime) -> Result<(), Fail> {
     Ok(())
 }
 
-/// Counts the calls for each start.
+/// Counts the calls of the first and of the second worker for each start.
 #[derive(Drop)]
 struct Counting {
-    calls: [AtomicU64; 5],
+    first: [AtomicU64; 5],
+    second: [AtomicU64; 5],
+}
+
+/// A count of each start, none of which was seen yet.
+fn no_calls() -> [AtomicU64; 5] {
+    [
+        AtomicU64::new(0),
+        AtomicU64::new(0),
+        AtomicU64::new(0),
+        AtomicU64::new(0),
+        AtomicU64::new(0),
+    ]
+}
+
+impl Counting {
+    /// The calls of a worker.
+    fn of(&self, worker: u32) -> &[AtomicU64] {
+        if worker == 0 {
+            &self.first
+        } else {
+            &self.second
+        }
+    }
 }
 
 impl Gate for Counting {
-    fn enter(&self, _worker: u32, start: u32) {
-        if let Some(calls) = self.calls.get(start as usize) {
+    fn enter(&self, worker: u32, start: u32) {
+        if let Some(calls) = self.of(worker).get(start as usize) {
             calls.fetch_add(1, Ordering::SeqCst);
         }
     }
 }
 
-/// The gate is called once for each start.
+/// The gate is called once for each start, by the worker that stands beside it in `starts`.
 #[test]
 fn gate_sees_each_start_once(rt: HostRuntime) -> Result<(), Fail> {
     let gate = Counting {
-        calls: [
-            AtomicU64::new(0),
-            AtomicU64::new(0),
-            AtomicU64::new(0),
-            AtomicU64::new(0),
-            AtomicU64::new(0),
-        ],
+        first: no_calls(),
+        second: no_calls(),
     };
-    assert_stale_reads(&rt, rt.alloc(), 2, &gate, &AllStart)?;
-    for calls in &gate.calls {
+    let found = assert_stale_reads(&rt, rt.alloc(), 2, &gate, &AllStart)?;
+    for (worker, start) in &found.starts {
+        let Some(calls) = gate.of(*worker).get(*start as usize) else {
+            panic!(rt; "no such start");
+        };
         assert_eq!(rt; calls.load(Ordering::SeqCst), 1);
     }
+    let mut all = 0u64;
+    for calls in gate.first.iter().chain(gate.second.iter()) {
+        all = all.saturating_add(calls.load(Ordering::SeqCst));
+    }
+    assert_eq!(rt; all, 5);
     Ok(())
 }
 
