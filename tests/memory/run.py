@@ -7,6 +7,9 @@ for want of memory, status 5.
 Where a transaction of the recorders is refused it is recorded again, and they say so on standard error: in one thread,
 where the allocations of all runs are the same, each recorder's last one has to be among these, with all answers.
 
+Two workers share the allocations out anew in each run: there the refusals go on until so many runs in a row as CALM says had
+no allocation left to refuse. A thread that is refused changes no answer.
+
 Wants a C compiler on the path (`cc` or `clang`); where there is none it says so and tests nothing. Each difference
 is one line; the last line is `N passed, M failed`, a run a refused allocation.
 """
@@ -23,6 +26,7 @@ TOP = HERE.parent.parent
 MEMORY = b"memory\n"
 JSON_MEMORY = b'{"answer":"memory"}\n'
 MOST = 10000
+CALM = 3
 STALE_READ = b"""anomaly: 3 steps, stale-initial-read
 session init -> a/1
 derived a/1 -> init by x, read by a/2
@@ -45,9 +49,23 @@ ABORTED_READ_JSON = b"""{"answer":"unresolved","faults":[\
 {"key":"x","kind":"Aborted","op":1,"place":1,"session":"b","value":1},\
 {"key":"z","kind":"ThinAir","op":2,"place":1,"session":"b","value":7}]}
 """
+TWO_STALE_READS = b"""a,begin
+a,w,x,1
+a,commit
+a,begin
+a,r,x,0
+a,commit
+b,begin
+b,w,y,1
+b,commit
+b,begin
+b,r,y,0
+b,commit
+"""
 EXAMPLES = TOP / "examples"
 STALE, FORK = EXAMPLES / "stale-read.csv", EXAMPLES / "long-fork.csv"
 STALE_CERTIFICATE = EXAMPLES / "stale-read.certificate"
+FORK_ORDER = b"consistent: 4 transactions, 4 sessions\norder: init a/1 b/1 c/1 d/1\n"
 SEALED_ORDER = b"consistent: 2 transactions, 1 sessions\norder: init a/1 a/2\n"
 SEALED_CYCLE = b"""anomaly: 4 steps, stale-initial-read
 session init -> a/1
@@ -77,7 +95,7 @@ end
 ANSWERS = [
     (STALE, ["explain"], STALE_READ, 1),
     (EXAMPLES / "conflicting-writes.csv", ["explain"], CONFLICT, 1),
-    (FORK, ["explain"], b"consistent: 4 transactions, 4 sessions\norder: init a/1 b/1 c/1 d/1\n", 0),
+    (FORK, ["explain"], FORK_ORDER, 0),
     (EXAMPLES / "aborted-read.csv", ["explain"], b"unresolved: 2 faults\nAborted b/1 op 1 x 1\nThinAir b/1 op 2 z 7\n", 2),
     (STALE, ["explain", "--json"], STALE_READ_JSON, 1),
     (EXAMPLES / "aborted-read.csv", ["explain", "--json"], ABORTED_READ_JSON, 2),
@@ -91,6 +109,9 @@ ANSWERS = [
      b"unresolved: 1 faults\nIntermediate b/1 op 1 x 1\n", 2),
     (None, ["check", "@certificate", "@certificate"], b"row 1: UnknownWord\n", 3),
 ]
+# The same, by one worker and by two.
+SEARCHES = [(STALE, STALE_READ, 1), (FORK, FORK_ORDER, 0), ("@two-stale-reads", STALE_READ, 1)]
+ANSWERS += [(given, ["explain", "--workers", workers], said, status) for workers in ("1", "2") for given, said, status in SEARCHES]
 # What the recorders answer one after another, and what they say of the last transaction of each of them.
 RECORDED = (TOP / "crates" / "tcc_recorders" / "stdout").read_bytes()
 ANOMALY, END = RECORDED.index(b"anomaly"), RECORDED.rindex(b"consistent")
@@ -119,6 +140,8 @@ def refusals(words, given, answers, status, shim, mark):
     ample = (b"".join(answers), status)
     json = cut_off(answers, JSON_MEMORY) if "--json" in words else []
     lines = [(MEMORY, 5)] + json if json else cut_off(answers, MEMORY)
+    left = CALM if shares_work(words) else 1
+    calm = 0
     for number in range(1, MOST):
         mark.unlink(missing_ok=True)
         environment = dict(os.environ, LD_PRELOAD=str(shim), REFUSE=str(number), REFUSED=str(mark))
@@ -127,7 +150,26 @@ def refusals(words, given, answers, status, shim, mark):
         if got in json:
             lines = json
         yield number, got, got == ample or (refused and got in lines), said if got == ample else b""
-        if not refused:
+        calm = 0 if refused else calm + 1
+        if calm == left:
+            break
+    else:
+        yield MOST, "no end", False, b""
+
+
+def shares_work(words):
+    """Whether two workers do the work of this command line."""
+    return "--workers" in words and words[words.index("--workers") + 1] != "1"
+
+
+def refused_threads(words, given, answers, status, shim, mark):
+    """For each thread of a run, and for all together, what is answered where it can't be had, and whether that is right."""
+    for number in ["0"] + [str(number) for number in range(1, MOST)]:
+        mark.unlink(missing_ok=True)
+        environment = dict(os.environ, LD_PRELOAD=str(shim), REFUSE_THREAD=number, REFUSED=str(mark))
+        got, _ = answer(words, given, environment)
+        yield number, got, got == (b"".join(answers), status)
+        if not mark.exists():
             break
 
 
@@ -146,10 +188,12 @@ def main():
     with tempfile.TemporaryDirectory() as folder:
         shim, mark = pathlib.Path(folder, "refuse.so"), pathlib.Path(folder, "refused")
         pathlib.Path(folder, "certificate").write_bytes(FORK_CERTIFICATE)
+        pathlib.Path(folder, "two-stale-reads").write_bytes(TWO_STALE_READS)
         if compiler:
             subprocess.run([compiler, "-shared", "-fPIC", "-O1", "-o", shim, HERE / "refuse.c", "-ldl"], check=True)
         for program, given, asked, answers, status in runs if compiler else ():
             words = [program] + [str(word).replace("@", folder + "/") for word in asked]
+            given = given and str(given).replace("@", folder + "/")
             answers = answers if isinstance(answers, list) else [answers]
             wanted = set(AGAIN if "alone" in asked else [])
             for number, got, right, said in refusals(words, given, answers, status, shim, mark):
@@ -162,6 +206,12 @@ def main():
             for line in wanted:
                 failed += 1
                 print("%s: never said %r" % (" ".join(words), line))
+            for number, got, right in refused_threads(words, given, answers, status, shim, mark) if shares_work(words) else ():
+                if right:
+                    passed += 1
+                else:
+                    failed += 1
+                    print("%s, thread %s refused: got %r" % (" ".join(words), number, got))
     print("%d passed, %d failed" % (passed, failed))
     return 1 if failed else 0
 
