@@ -6,7 +6,7 @@ ghost use Rattle.tcc_cert.specs.declared.fault.WriteFault.TheVariants.{Device};
 ghost use Rattle.tcc_cert.specs.CycleRules.{CycleClaim};
 ghost use Rattle.tcc_cert.specs.Texts.{line_text, lines_text, numbers_words, certificate_text};
 ghost use Rattle.tcc_cert.specs.Begun.{begun_lines, given_lines, with_near, with_far, far_mark};
-ghost use Rattle.tcc_cert.specs.Writing.{IsSent};
+ghost use Rattle.tcc_cert.specs.Writing.{IsSent, Sends};
 
 use crate::lines::{line, number_line};
 use crate::outgoing::Outgoing;
@@ -102,6 +102,9 @@ impl<'w, W: Write> CycleWriter<'w, W> {
         ensures same { result.out.now ≡ out.old }
         ensures outgoing { result.outgoing ≡ outgoing }
         ensures stage { result.stage ≡ Stage.Near }
+        ensures begun { (before : Option (List ℕ)) (count : ℕ) (k : CycleClaim)
+            → Sends before [] (W.contents out.old) outgoing (lines_text (begun_lines k.version k.level count k.links k.least))
+            → HasTaken W.contents before count (record k { near = []; far = [] }) result }
     {
         CycleWriter {
             out,
