@@ -1,7 +1,7 @@
 -- One round of a search after another.
-use Rattle.std.proofs.Common.{◌≡◌, ◌≢◌, ◌<◌, ◌≤◌, ◌+◌, ◌==◌, ◌&&◌, ◌↔◌, ◌⊎◌, ℕ, inl, inr, Bool, true, false, cond, if◌then◌else◌, List, [], length, map, replicate, get_or, slice_index, Option, Some, None, refl, sym, ◌∙◌, ap, subst, arith, eqb}
+use Rattle.std.proofs.Common.{◌≡◌, ◌≢◌, ◌<◌, ◌≤◌, ◌+◌, ◌==◌, ◌&&◌, ◌↔◌, ◌⊎◌, ℕ, inl, inr, Bool, true, false, cond, if◌then◌else◌, List, [], length, replicate, get_or, slice_index, Option, Some, None, refl, sym, ◌∙◌, ap, subst, arith, eqb}
 use Rattle.std.proofs.lemmas.Bool.{cases_lt, cases_eq, false≢true, ne_eqb}
-use Rattle.std.proofs.lemmas.List.{length-map, length-replicate, get_or-map, get_or-replicate}
+use Rattle.std.proofs.lemmas.List.{length-replicate, get_or-replicate}
 use Rattle.std.proofs.lemmas.List.Sums.{sum_by-set}
 use Rattle.std.proofs.lemmas.List.Folds.{sum_by-replicate}
 use Rattle.tcc_reads.specs.History.{History, count}
@@ -10,7 +10,8 @@ use Rattle.tcc_graph.specs.Levels.{causally, atomically}
 use Rattle.tcc_graph.specs.Walks.{IsReached}
 use Rattle.tcc_graph.specs.declared.level.Level.{Level}
 use Rattle.tcc_near.specs.Distances.{IsShortest, IsWalkDistance, IsNearOf, least_in}
-use Rattle.tcc_near.specs.Breadth.{is_marked, marks_of, IsPairTable, IsWithin, IsMarked, IsDistanceWithin, IsSearched, HasDistances, IsSpread, numbered, one_step, unnumbered}
+use Rattle.tcc_near.specs.Bits.{is_marked}
+use Rattle.tcc_near.specs.Breadth.{marks_of, IsPairTable, IsWithin, IsMarked, IsDistanceWithin, IsSearched, HasDistances, IsSpread, numbered, one_step, unnumbered}
 use Rattle.tcc_near.proofs.Walks.{within_more, within_one, within_one_from, within_pair, IsStepAfter, last_step, within_closed, within_below, shortest_at}
 use Rattle.tcc_near.specs.declared.distances.TheConstants.{NONE}
 
@@ -62,9 +63,8 @@ searched_at_start h a n long = record {
   exact = λ b below. none_is h a 0 (replicate n NONE) b (get_or-replicate n b NONE 0 (omega arith)) (λ w. absurd (omega (arith, w.1.0, w.2)));
 }
 
-pub marked_at_start : (h : History) (a : ℕ) (table : List (List Bool)) (marks : List Bool) → IsPairTable h table → a < count h → marks ≡ marks_of table a → IsMarked h a 1 marks
+pub marked_at_start : (h : History) (a : ℕ) (table : List (List ℕ)) (marks : List ℕ) → IsPairTable h table → a < count h → marks ≡ marks_of table a → IsMarked h a 1 marks
 marked_at_start h a table marks pairs below is = record {
-  long = ap length is ∙ (let inside : a < length table = omega (arith, pairs.long) in pairs.wide a [] inside);
   exact = λ b to. (
     λ m. within_one_from h a b (sym (pairs.exact a b below to) ∙ (sym (ap (λ r. is_marked r b) is) ∙ m)),
     λ w. ap (λ r. is_marked r b) is ∙ (pairs.exact a b below to ∙ within_one h a b w),
@@ -72,21 +72,21 @@ marked_at_start h a table marks pairs below is = record {
 }
 
 -- the three ways to number
-numbered_kept : (row : List ℕ) (marks : List Bool) (d b : ℕ) → slice_index row b ≢ NONE → numbered row marks d b ≡ slice_index row b
+pub numbered_kept : (row : List ℕ) (marks : List ℕ) (d b : ℕ) → slice_index row b ≢ NONE → numbered row marks d b ≡ slice_index row b
 numbered_kept row marks d b some = go (is_marked marks b)
   where
     go : (m : Bool) → (if m && (slice_index row b == NONE) then d else slice_index row b) ≡ slice_index row b
     go true = rw (ne_eqb (slice_index row b) NONE some) refl
     go false = refl
 
-numbered_unmarked : (row : List ℕ) (marks : List Bool) (d b : ℕ) → is_marked marks b ≡ false → numbered row marks d b ≡ slice_index row b
+pub numbered_unmarked : (row : List ℕ) (marks : List ℕ) (d b : ℕ) → is_marked marks b ≡ false → numbered row marks d b ≡ slice_index row b
 numbered_unmarked row marks d b no_mark = rw no_mark refl
 
-numbered_new : (row : List ℕ) (marks : List Bool) (d b : ℕ) → is_marked marks b ≡ true → slice_index row b ≡ NONE → numbered row marks d b ≡ d
+pub numbered_new : (row : List ℕ) (marks : List ℕ) (d b : ℕ) → is_marked marks b ≡ true → slice_index row b ≡ NONE → numbered row marks d b ≡ d
 numbered_new row marks d b mark none = rw (mark, none) refl
 
 -- what is marked within n + 1 steps gets the number n + 1
-pub searched_more : (h : History) (a n : ℕ) (row new : List ℕ) (marks : List Bool) → IsSearched h a n row → IsMarked h a (n + 1) marks → n + 1 < NONE
+pub searched_more : (h : History) (a n : ℕ) (row new : List ℕ) (marks : List ℕ) → IsSearched h a n row → IsMarked h a (n + 1) marks → n + 1 < NONE
     → length new ≡ length row → ((b : ℕ) → slice_index new b ≡ numbered row marks (n + 1) b) → IsSearched h a (n + 1) new
 searched_more h a n row new marks searched marked small same each = record { long = same ∙ searched.long; exact = λ b below. go b below (cases_eq (slice_index row b) NONE) (is_marked marks b) refl }
   where
@@ -101,29 +101,31 @@ searched_more h a n row new marks searched marked small same each = record { lon
         none_is h a (n + 1) new b (each b ∙ (numbered_unmarked row marks (n + 1) b e ∙ none)) (λ w. absurd (false≢true (sym e ∙ (marked.exact b below).1 w)))
 
 -- the rows of those that have the number n mark what is within n + 1 steps
-pub marked_more : (h : History) (a n : ℕ) (table : List (List Bool)) (row : List ℕ) (marks new : List Bool) → IsPairTable h table → IsSearched h a n row → IsMarked h a n marks → 0 < n → n < NONE
-    → length new ≡ length marks → ((b : ℕ) → (is_marked new b ≡ true) ↔ IsSpread marks table row n (length row) b) → IsMarked h a (n + 1) new
-marked_more h a n table row marks new pairs searched marked some small same each = record {
-  long = same ∙ marked.long;
+pub marked_more : (h : History) (a n : ℕ) (table : List (List ℕ)) (row : List ℕ) (marks new : List ℕ) (IsLast : ℕ → Type 0) → IsPairTable h table → IsSearched h a n row → IsMarked h a n marks → 0 < n → n < NONE
+    → ((u : ℕ) → u < count h → IsLast u ↔ (slice_index row u ≡ n)) → ((u : ℕ) → IsLast u → u < count h) → ((b : ℕ) → (is_marked new b ≡ true) ↔ IsSpread marks table IsLast b) → IsMarked h a (n + 1) new
+marked_more h a n table row marks new IsLast pairs searched marked some small lasts below_all each = record {
   exact = λ b below. (λ m. sound b below ((each b).0 m), λ w. (each b).1 (complete b below (last_step h a n b some w)));
 }
   where
-    sound : (b : ℕ) → b < count h → IsSpread marks table row n (length row) b → IsWithin h a (n + 1) b
+    sound : (b : ℕ) → b < count h → IsSpread marks table IsLast b → IsWithin h a (n + 1) b
     sound b below (inl m) = within_more h a n (n + 1) b (omega arith) ((marked.exact b below).0 m)
-    sound b below (inr (u, l, at, m)) =
-        let from : u < count h = omega (arith, searched.long) in
+    sound b below (inr (u, last, m)) =
+        let from : u < count h = below_all u last in
+        let at : slice_index row u ≡ n = (lasts u from).0 last in
         let here : slice_index row u ≢ NONE = λ e. absurd (omega arith) in
         let walk = (known h a n row u searched from here).1.attained in
         within_pair h a n u b (walk.0, walk.1.0, omega (arith, walk.2)) (sym (pairs.exact u b from below) ∙ m)
 
-    by : (b u : ℕ) → b < count h → causal_pair h u b ≡ true → u < count h → (slice_index row u ≤ n) × IsShortest (causally h) a u (slice_index row u) → (slice_index row u < n) ⊎ (n ≤ slice_index row u) → IsSpread marks table row n (length row) b
-    by b u below p from is (inr far) = inr (u, omega (arith, searched.long), omega (arith, is.0), pairs.exact u b from below ∙ p)
+    by : (b u : ℕ) → b < count h → causal_pair h u b ≡ true → u < count h → (slice_index row u ≤ n) × IsShortest (causally h) a u (slice_index row u) → (slice_index row u < n) ⊎ (n ≤ slice_index row u) → IsSpread marks table IsLast b
+    by b u below p from is (inr far) =
+        let at : slice_index row u ≡ n = omega (arith, is.0) in
+        inr (u, (lasts u from).1 at, pairs.exact u b from below ∙ p)
     by b u below p from is (inl low) =
         let walk = is.1.attained in
         let near = within_pair h a (slice_index row u) u b (walk.0, walk.1.0, omega (arith, walk.2)) p in
         inl ((marked.exact b below).1 (within_more h a (slice_index row u + 1) n b (omega arith) near))
 
-    complete : (b : ℕ) → b < count h → IsWithin h a n b ⊎ IsStepAfter h a n b → IsSpread marks table row n (length row) b
+    complete : (b : ℕ) → b < count h → IsWithin h a n b ⊎ IsStepAfter h a n b → IsSpread marks table IsLast b
     complete b below (inl w) = inl ((marked.exact b below).1 w)
     complete b below (inr (u, walk, is, long, p)) =
         let within : IsWithin h a n u = (walk, is, omega arith) in
@@ -150,7 +152,7 @@ row_done h a n row searched few near = record {
         omega (arith, (known h a n row b searched below r.0).0)
 
 -- where nothing that is marked wants a number, the search has ended
-pub row_at_end : (h : History) (a n : ℕ) (row new : List ℕ) (marks : List Bool) → IsSearched h a n row → IsMarked h a (n + 1) marks → n + 1 ≤ count h
+pub row_at_end : (h : History) (a n : ℕ) (row new : List ℕ) (marks : List ℕ) → IsSearched h a n row → IsMarked h a (n + 1) marks → n + 1 ≤ count h
     → ((b : ℕ) → is_marked marks b ≡ true → slice_index row b ≢ NONE) → IsSearched h a (n + 1) new → HasDistances (causally h) a new
 row_at_end h a n row new marks searched marked few none round =
     row_done h a (n + 1) new round few (λ b reached. within_more h a n (n + 1) b (omega arith) (within_closed h a n closed (length reached.0) b (reached.0, reached.1, omega arith)))
@@ -188,20 +190,16 @@ pub unnumbered_at_start : (n : ℕ) → unnumbered (replicate n NONE) ≡ n
 unnumbered_at_start n = sum_by-replicate without n NONE ∙ omega arith
 
 -- the pairs of the source are its distances by walks of one step
-pub row_of_steps : (h : History) (a : ℕ) (table : List (List Bool)) (row : List ℕ) → IsPairTable h table → a < count h → row ≡ map one_step (marks_of table a) → HasDistances (atomically h) a row
-row_of_steps h a table row pairs from is = record {
-  long = ap length is ∙ (length-map (marks_of table a) one_step ∙ wide);
+pub row_of_steps : (h : History) (a : ℕ) (table : List (List ℕ)) (row : List ℕ) → IsPairTable h table → a < count h → length row ≡ length table
+    → ((b : ℕ) → b < length table → slice_index row b ≡ one_step (is_marked (marks_of table a) b)) → HasDistances (atomically h) a row
+row_of_steps h a table row pairs from long each = record {
+  long = long ∙ pairs.long;
   exact = λ b to. exact b to (is_marked (marks_of table a) b) refl (read row b);
   short = λ b n to some. short b n some (is_marked (marks_of table a) b) (entry b to) (read row b);
 }
   where
-    wide : length (marks_of table a) ≡ count h
-    wide = let inside : a < length table = omega (arith, pairs.long) in pairs.wide a [] inside
-
     entry : (b : ℕ) → b < count h → slice_index row b ≡ one_step (is_marked (marks_of table a) b)
-    entry b to =
-        let inside : b < length (marks_of table a) = omega (arith, wide) in
-        ap (λ r. slice_index r b) is ∙ get_or-map one_step (marks_of table a) b false 0 inside
+    entry b to = each b (omega (arith, pairs.long))
 
     exact : (b : ℕ) → b < count h → (m : Bool) → is_marked (marks_of table a) b ≡ m → Read row b → IsWalkDistance (atomically h) a b (least_in row b)
     exact b to true mark (inl r) = absurd (let one : slice_index row b ≡ 1 = entry b to ∙ ap one_step mark in omega (arith, one, r.0))
@@ -222,7 +220,7 @@ row_of_steps h a table row pairs from is = record {
     short b n some false at (inr r) = absurd (r.0 at)
 
 -- rows that are right one by one are the table
-pub near_from_rows : (h : History) (level : Level) (table : List (List Bool)) (rows : List (List ℕ)) → IsPairTable h table
+pub near_from_rows : (h : History) (level : Level) (table : List (List ℕ)) (rows : List (List ℕ)) → IsPairTable h table
     → (length rows ≡ length table) × ((a : ℕ) (d : List ℕ) → a < length table → (g : History) → IsPairTable g table → HasDistances (record { history = g; level = level }) a (get_or rows a d))
     → IsNearOf (record { history = h; level = level }) (record { level = level; rows = rows })
 near_from_rows h level table rows pairs (long, each) = record {

@@ -1,5 +1,7 @@
 pub mod Walks
 pub mod BreadthLemmas
+pub mod BitLemmas
+pub mod FreshLemmas
 pub mod RowLemmas
 pub mod ClockLemmas
 pub mod Worked

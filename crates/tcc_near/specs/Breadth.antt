@@ -6,21 +6,18 @@ use Rattle.tcc_graph.specs.Relations.{causal_pair}
 use Rattle.tcc_graph.specs.Levels.{Judged, causally}
 use Rattle.tcc_graph.specs.Walks.{IsWalk}
 use Rattle.tcc_graph.specs.declared.step.Step.{Step}
+use Rattle.tcc_near.specs.Bits.{is_marked, IsRowOf}
 use Rattle.tcc_near.specs.Distances.{IsShortest, IsWalkDistance, least_in}
 use Rattle.tcc_near.specs.declared.distances.TheConstants.{NONE}
 
--- whether a number is marked
-abbrev pub is_marked : List Bool → ℕ → Bool
-is_marked marks b = slice_index_or marks b false
-
 -- the marks of a number, and none past the table
-abbrev pub marks_of : List (List Bool) → ℕ → List Bool
+abbrev pub marks_of : List (List ℕ) → ℕ → List ℕ
 marks_of table a = slice_index_or table a []
 
 -- the marks of each transaction are those to which a causal pair leads from it
-pub record IsPairTable (h : History) (table : List (List Bool)) : Type 0 where
+pub record IsPairTable (h : History) (table : List (List ℕ)) : Type 0 where
   pub long : length table ≡ count h
-  pub wide : All (λ marks. length marks ≡ count h) table
+  pub wide : All (IsRowOf (count h)) table
   pub exact : (a : ℕ) (b : ℕ) → a < count h → b < count h → is_marked (marks_of table a) b ≡ causal_pair h a b
 
 -- a walk of at most n steps leads from a to b
@@ -28,8 +25,7 @@ abbrev pub IsWithin : History → ℕ → ℕ → ℕ → Type 0
 IsWithin h a n b = (walk : List Step) × IsWalk h a b walk × (length walk ≤ n)
 
 -- marked are the transactions to which a walk of at most n steps leads
-pub record IsMarked (h : History) (a : ℕ) (n : ℕ) (marks : List Bool) : Type 0 where
-  pub long : length marks ≡ count h
+pub record IsMarked (h : History) (a : ℕ) (n : ℕ) (marks : List ℕ) : Type 0 where
   pub exact : (b : ℕ) → b < count h → (is_marked marks b ≡ true) ↔ IsWithin h a n b
 
 -- the distance where it is at most n, and none where it is more
@@ -48,13 +44,12 @@ pub record HasDistances (j : Judged) (a : ℕ) (row : List ℕ) : Type 0 where
   pub exact : (b : ℕ) → b < count j.history → IsWalkDistance j a b (least_in row b)
   pub short : (b : ℕ) (n : ℕ) → b < count j.history → least_in row b ≡ Some n → n ≤ count j.history
 
--- b is marked, or marked by one of the first n numbers that have the distance
-abbrev pub IsSpread : List Bool → List (List Bool) → List ℕ → ℕ → ℕ → ℕ → Type 0
-IsSpread marks table row distance n b =
-    (is_marked marks b ≡ true) ⊎ ((u : ℕ) × (u < n) × (slice_index row u ≡ distance) × (is_marked (marks_of table u) b ≡ true))
+-- b is marked, or marked by one of these
+abbrev pub IsSpread : List ℕ → List (List ℕ) → (ℕ → Type 0) → ℕ → Type 0
+IsSpread marks table IsOne b = (is_marked marks b ≡ true) ⊎ ((u : ℕ) × IsOne u × (is_marked (marks_of table u) b ≡ true))
 
 -- the distance of b once what is marked and had none got this one
-abbrev pub numbered : List ℕ → List Bool → ℕ → ℕ → ℕ
+abbrev pub numbered : List ℕ → List ℕ → ℕ → ℕ → ℕ
 numbered row marks distance b =
     if is_marked marks b && (slice_index row b == NONE) then distance else slice_index row b
 
@@ -65,3 +60,7 @@ unnumbered row = count_by (λ distance. distance == NONE) row
 -- the distance by walks of one step
 abbrev pub one_step : Bool → ℕ
 one_step mark = if mark then 1 else NONE
+
+-- seen is what has a distance
+abbrev pub IsSeen : List ℕ → List ℕ → Type 0
+IsSeen row seen = (b : ℕ) → b < length row → (is_marked seen b ≡ false) ↔ (slice_index row b ≡ NONE)

@@ -1,4 +1,5 @@
 pub mod Distances
 pub mod Clocks
+pub mod Bits
 pub mod Breadth
 pub mod ClockRows

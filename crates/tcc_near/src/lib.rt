@@ -3,6 +3,7 @@
 #![tactic(auto)]
 
 mod behind;
+mod bits;
 mod clock;
 mod distances;
 mod pairs;

@@ -2,29 +2,32 @@
 ghost use Rattle.std.specs.Prelude.{◌≡◌, ◌<◌, ◌≤◌, ℕ, length, IfOk};
 ghost use Rattle.tcc_reads.specs.History.{count};
 ghost use Rattle.tcc_graph.specs.Relations.{causal_pair};
-ghost use Rattle.tcc_near.specs.Breadth.{is_marked, IsPairTable};
+ghost use Rattle.tcc_near.specs.Bits.{is_marked, IsRowOf};
+ghost use Rattle.tcc_near.specs.Breadth.{IsPairTable};
 ghost use Rattle.tcc_txn.specs.declared.limits.TheConstants.{MAX_COUNT};
 
 use crate::Row;
+use crate::bits::{mark, words_for};
 use std::alloc::{AllocError, Global};
 use tcc_graph::Graph;
 
 /// The transactions to which a causal pair leads from this one.
-fn pairs_from(alloc: Global, graph: &Graph, from: u32) -> Result<Row<bool>, AllocError>
+fn pairs_from(alloc: Global, graph: &Graph, from: u32) -> Result<Row<u64>, AllocError>
     requires { from < count graph.now }
-    ensures long { IfOk result (λ marks. length marks ≡ count graph.now) }
+    ensures row { IfOk result (IsRowOf (count graph.now)) }
     ensures exact { IfOk result (λ marks. (b : ℕ) → b < count graph.now → is_marked marks b ≡ causal_pair graph.now from b) }
 {
-    let mut marks = Vec::new(alloc);
-    marks.reserve(graph.count() as usize)?;
+    let mut marks = vec![in alloc; 0; words_for(graph.count() as usize)]?;
     for to in 0..graph.count() {
-        marks.push(graph.causal(from, to))?;
+        if graph.causal(from, to) {
+            mark(&mut marks, to as usize);
+        }
     }
     Ok(Row::new(marks))
 }
 
 /// Of each transaction, those to which a causal pair leads from it.
-pub(crate) fn pair_table(alloc: Global, graph: &Graph) -> Result<Vec<Row<bool>>, AllocError>
+pub(crate) fn pair_table(alloc: Global, graph: &Graph) -> Result<Vec<Row<u64>>, AllocError>
     ensures pairs { IfOk result (λ table. IsPairTable graph.now table.items) }
     ensures few { IfOk result (λ table. length table.items ≤ MAX_COUNT) }
 {

@@ -1,5 +1,5 @@
 //! Rows of tables.
-ghost use Rattle.std.specs.Prelude.{◌≡◌, ◌||◌, ◌++◌, ◌∷◌, [], ℕ, false, length, slice_index_or, OnOk, OnErr};
+ghost use Rattle.std.specs.Prelude.{◌≡◌, ◌++◌, ◌∷◌, [], OnOk, OnErr};
 
 use std::marker::Model;
 use tcc_txn::NoMemory;
@@ -40,19 +40,5 @@ impl<T: Copy> Row<T> {
         ensures { result.now ≡ self.now }
     {
         &self.values
-    }
-}
-
-impl Row<bool> {
-    /// Marks what the other row, of the same length, marks too.
-    pub(crate) fn merge(&mut self, other: &[bool])
-        requires { length self.old ≡ length other.now }
-        ensures same { length self.new ≡ length self.old }
-        ensures each { (k : ℕ) → slice_index_or self.new k false
-            ≡ (slice_index_or self.old k false || slice_index_or other.now k false) }
-    {
-        for (place, mark) in self.values.iter_mut().enumerate() {
-            *mark |= other[place];
-        }
     }
 }

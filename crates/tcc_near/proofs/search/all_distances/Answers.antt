@@ -1,8 +1,9 @@
-use Rattle.std.proofs.Common.{◌≡◌, ◌<◌, ◌≤◌, length, ◌∙◌}
+use Rattle.std.proofs.Common.{◌<◌, ◌≤◌, length, ◌∙◌}
 use Rattle.std.specs.List.{All}
 use Rattle.rayon.proofs.ToStd.{nat_range-All}
 use Rattle.std.specs.declared.alloc.AllocError.{AllocError}
 use Rattle.tcc_reads.specs.History.{History}
+use Rattle.tcc_near.specs.Bits.{IsRowOf}
 use Rattle.tcc_near.specs.Breadth.{IsPairTable, HasDistances}
 use Rattle.tcc_near.proofs.BreadthLemmas.{near_from_rows}
 use Rattle.tcc_near.proofs.RowLemmas.{each_given, numbers_below}
@@ -14,7 +15,7 @@ pub collect-requires-clause-ready : goal.collect-requires-clause-ready
 collect-requires-clause-ready g c κs within =
     let ends = c.into_par_iter.ensures in
     let pairs = c.args.table.now in
-    let inside = nat_range-All (λ i. (i < length pairs) × All (λ marks. length marks ≡ length pairs) pairs × (length pairs ≤ MAX_COUNT)) 0 (length pairs) (λ i low high. (high, c.requires.wide, c.requires.few)) in
+    let inside = nat_range-All (λ i. (i < length pairs) × All (IsRowOf (length pairs)) pairs × (length pairs ≤ MAX_COUNT)) 0 (length pairs) (λ i low high. (high, c.requires.wide, c.requires.few)) in
     rw (c.with_min_len.ensures.base, c.map.ensures.base, c.map.ensures.f, ends.0, ends.1) (λ k d lt. (inside k d lt, λ y p. tt))
 
 pub returns : goal.returns

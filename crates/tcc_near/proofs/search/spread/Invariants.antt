@@ -1,8 +1,10 @@
-use Rattle.std.proofs.Common.{◌≡◌, ◌↔◌, ℕ, true, length}
-use Rattle.tcc_near.specs.Breadth.{is_marked, IsSpread}
+use Rattle.std.proofs.Common.{◌≡◌, ◌↔◌, ℕ, true, length, take}
+use Rattle.std.specs.Prelude.{Contains}
+use Rattle.tcc_near.specs.Bits.{is_marked}
+use Rattle.tcc_near.specs.Breadth.{IsSpread}
 use Rattle.tcc_near.proofs.search.spread.Given as goal
 
 abbrev pub invariant-loop-place : goal.invariant-loop-place
 invariant-loop-place l =
     (length l.marks ≡ length l.initial.marks)
-    × ((b : ℕ) → (is_marked l.marks b ≡ true) ↔ IsSpread l.initial.marks l.table l.steps l.distance l.place b)
+    × ((b : ℕ) → (is_marked l.marks b ≡ true) ↔ IsSpread l.initial.marks l.table (Contains (take l.place-index l.fresh)) b)

@@ -1,6 +1,7 @@
-use Rattle.std.proofs.Common.{◌≡◌, map, take}
+use Rattle.std.proofs.Common.{◌≡◌, ◌<◌, ℕ, length, slice_index}
+use Rattle.tcc_near.specs.Bits.{is_marked}
 use Rattle.tcc_near.specs.Breadth.{one_step}
 use Rattle.tcc_near.proofs.search.steps_to.Given as goal
 
-abbrev pub invariant-loop-mark : goal.invariant-loop-mark
-invariant-loop-mark l = l.steps.items ≡ map one_step (take l.mark-index l.marks)
+abbrev pub invariant-loop-place : goal.invariant-loop-place
+invariant-loop-place l = (length l.steps.items ≡ l.place) × ((b : ℕ) → b < l.place → slice_index l.steps.items b ≡ one_step (is_marked l.marks b))

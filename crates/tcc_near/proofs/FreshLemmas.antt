@@ -1,0 +1,193 @@
+-- One round's new numbers.
+use Rattle.std.proofs.Common.{◌≡◌, ◌≢◌, ◌<◌, ◌≤◌, ◌+◌, ◌||◌, ◌↔◌, ◌⊎◌, ℕ, inl, inr, Bool, true, false, cond, List, [], ◌∷◌, ◌++◌, length, get_or, set, take, slice_index, refl, sym, ◌∙◌, ap, arith, subst, eqb}
+use Rattle.std.specs.List.{All, Contains}
+use Rattle.std.proofs.lemmas.Bool.{cases_eq, false≢true, ne_eqb}
+use Rattle.std.proofs.lemmas.List.{get_or-set_same, get_or-set_other, take_more}
+use Rattle.std.proofs.lemmas.List.Elements.{All-weaker, All-contains_itself, Contains-append_left, Contains-push, Contains-push_cases}
+use Rattle.std.proofs.lemmas.List.Sums.{sum_by-set}
+use Rattle.tcc_near.specs.Bits.{is_marked, IsFresh, IsRowOf}
+use Rattle.tcc_near.specs.Breadth.{numbered, unnumbered, IsSeen, IsSpread, marks_of}
+use Rattle.tcc_near.proofs.BreadthLemmas.{numbered_kept, numbered_unmarked, numbered_new}
+use Rattle.tcc_near.specs.declared.distances.TheConstants.{NONE}
+
+-- ---- what a list has up to a place
+pub nothing_in : {X : Type 0} (x : X) → Contains [] x → ⊥
+nothing_in x (k, l, e) = omega arith
+
+module _ (xs : List ℕ) (n : ℕ) (inside : n < length xs) where
+  taken : take (n + 1) xs ≡ take n xs ++ get_or xs n 0 ∷ []
+  taken = take_more xs n 0 inside
+
+  pub one_of_taken : (y : ℕ) → Contains (take (n + 1) xs) y → Contains (take n xs) y ⊎ (get_or xs n 0 ≡ y)
+  one_of_taken y h = Contains-push_cases (take n xs) (get_or xs n 0) y (rw taken at h)
+
+  pub still_taken : (y : ℕ) → Contains (take n xs) y → Contains (take (n + 1) xs) y
+  still_taken y h = rw taken (Contains-append_left (take n xs) (get_or xs n 0 ∷ []) y h)
+
+  pub last_taken : Contains (take (n + 1) xs) (get_or xs n 0)
+  last_taken = rw taken (Contains-push (take n xs) (get_or xs n 0))
+
+-- ---- spreading
+-- one more row
+pub spread_more : (marks mid new : List ℕ) (table : List (List ℕ)) (fresh : List ℕ) (n : ℕ) → n < length fresh → ((b : ℕ) → (is_marked mid b ≡ true) ↔ IsSpread marks table (Contains (take n fresh)) b)
+    → ((b : ℕ) → is_marked new b ≡ (is_marked mid b || is_marked (marks_of table (get_or fresh n 0)) b)) → (b : ℕ) → (is_marked new b ≡ true) ↔ IsSpread marks table (Contains (take (n + 1) fresh)) b
+spread_more marks mid new table fresh n inside before now b = (λ mark. onward (is_marked mid b) refl (is_marked (marks_of table (get_or fresh n 0)) b) refl (sym (now b) ∙ mark), back)
+  where
+    more : IsSpread marks table (Contains (take n fresh)) b → IsSpread marks table (Contains (take (n + 1) fresh)) b
+    more (inl m) = inl m
+    more (inr (u, c, m)) = inr (u, still_taken fresh n inside u c, m)
+
+    onward : (s : Bool) → is_marked mid b ≡ s → (m : Bool) → is_marked (marks_of table (get_or fresh n 0)) b ≡ m → (is_marked mid b || is_marked (marks_of table (get_or fresh n 0)) b) ≡ true → IsSpread marks table (Contains (take (n + 1) fresh)) b
+    onward true s _ m e = more ((before b).0 s)
+    onward false s true m e = inr (get_or fresh n 0, last_taken fresh n inside, m)
+    onward false s false m e = absurd (false≢true (sym (rw (s, m) refl) ∙ e))
+
+    or_true : (m : Bool) → (m || true) ≡ true
+    or_true true = refl
+    or_true false = refl
+
+    old : is_marked mid b ≡ true → is_marked new b ≡ true
+    old m = now b ∙ ap (λ x. x || is_marked (marks_of table (get_or fresh n 0)) b) m
+
+    back : IsSpread marks table (Contains (take (n + 1) fresh)) b → is_marked new b ≡ true
+    back (inl m) = old ((before b).1 (inl m))
+    back (inr (u, c, m)) = go (one_of_taken fresh n inside u c)
+      where
+        go : Contains (take n fresh) u ⊎ (get_or fresh n 0 ≡ u) → is_marked new b ≡ true
+        go (inl was) = old ((before b).1 (inr (u, was, m)))
+        go (inr is) = now b ∙ (ap (λ x. is_marked mid b || x) (ap (λ k. is_marked (marks_of table k) b) is ∙ m) ∙ or_true (is_marked mid b))
+
+-- a row that takes in rows for the same numbers is one
+pub spread_row : (table : List (List ℕ)) (n : ℕ) (marks new : List ℕ) (IsOne : ℕ → Type 0) → IsRowOf n marks → length new ≡ length marks → All (IsRowOf n) table → ((u : ℕ) → IsOne u → u < length table)
+    → ((b : ℕ) → (is_marked new b ≡ true) ↔ IsSpread marks table IsOne b) → IsRowOf n new
+spread_row table n marks new IsOne row same rows within spread = record { wide = same ∙ row.wide; inside = λ b mark. go b ((spread b).0 mark) }
+  where
+    go : (b : ℕ) → IsSpread marks table IsOne b → b < n
+    go b (inl mark) = row.inside b mark
+    go b (inr (u, one, mark)) = (rows u [] (within u one)).inside b mark
+
+-- ---- numbering
+-- whether a distance is none, as a number
+abbrev without : ℕ → ℕ
+without d = cond (eqb d NONE) 1 0
+
+-- the numbers so far
+pub record IsNumbered (old new places : List ℕ) (n : ℕ) (distance : ℕ) : Type 0 where
+  pub long : length new ≡ length old
+  pub each : (b : ℕ) → Contains (take n places) b → slice_index new b ≡ distance
+  pub others : (b : ℕ) → (Contains (take n places) b → ⊥) → slice_index new b ≡ slice_index old b
+  pub no_more : unnumbered new ≤ unnumbered old
+  pub fewer : 0 < n → unnumbered new < unnumbered old
+
+pub numbered_none : (old places : List ℕ) (distance : ℕ) → IsNumbered old old places 0 distance
+numbered_none old places distance = record {
+  long = refl;
+  each = λ b h. absurd (nothing_in b h);
+  others = λ b h. refl;
+  no_more = omega arith;
+  fewer = λ some. absurd (omega arith);
+}
+
+pub numbered_one : (old mid places : List ℕ) (n distance : ℕ) → IsNumbered old mid places n distance → n < length places → distance < NONE
+    → (get_or places n 0 < length old) × (slice_index old (get_or places n 0) ≡ NONE) → length (set mid (get_or places n 0) distance) ≡ length mid → IsNumbered old (set mid (get_or places n 0) distance) places (n + 1) distance
+numbered_one old mid places n distance before inside small at long = record {
+  long = long ∙ before.long;
+  each = λ b h. now b h (cases_eq b p);
+  others = λ b h. other b h (cases_eq b p);
+  no_more = omega (arith, here, gone, before.no_more);
+  fewer = λ some. go (cases_eq n 0);
+}
+  where
+    p : ℕ
+    p = get_or places n 0
+
+    within : p < length mid
+    within = omega (arith, at.0, before.long)
+
+    here : unnumbered (set mid p distance) + without (slice_index mid p) ≡ unnumbered mid + without distance
+    here = sum_by-set without mid p distance 0 within
+
+    gone : without distance ≡ 0
+    gone = let away : distance ≢ NONE = λ e. absurd (omega arith) in rw (ne_eqb distance NONE away) refl
+
+    now : (b : ℕ) → Contains (take (n + 1) places) b → (b ≡ p) ⊎ (b ≢ p) → slice_index (set mid p distance) b ≡ distance
+    now b h (inl same) = rw same (get_or-set_same mid p distance 0 within)
+    now b h (inr far) = get_or-set_other mid p b distance 0 far ∙ before.each b (was (one_of_taken places n inside b h))
+      where
+        was : Contains (take n places) b ⊎ (get_or places n 0 ≡ b) → Contains (take n places) b
+        was (inl c) = c
+        was (inr e) = absurd (far (sym e))
+
+    other : (b : ℕ) → (Contains (take (n + 1) places) b → ⊥) → (b ≡ p) ⊎ (b ≢ p) → slice_index (set mid p distance) b ≡ slice_index old b
+    other b h (inl same) = absurd (h (rw same (last_taken places n inside)))
+    other b h (inr far) = get_or-set_other mid p b distance 0 far ∙ before.others b (λ c. h (still_taken places n inside b c))
+
+    go : (n ≡ 0) ⊎ (n ≢ 0) → unnumbered (set mid p distance) < unnumbered old
+    go (inr some) = omega (arith, here, gone, before.fewer (omega arith))
+    go (inl first) =
+        let empty : (Contains (take n places) p → ⊥) = λ c. nothing_in p (subst (λ (k : ℕ). Contains (take k places) p) first c) in
+        let none : slice_index mid p ≡ NONE = before.others p empty ∙ at.1 in
+        let one : without (slice_index mid p) ≡ 1 = rw none refl in
+        omega (arith, here, gone, one, before.no_more)
+
+-- ---- a round
+module _ (row marks seen fresh : List ℕ) (inside : (b : ℕ) → is_marked marks b ≡ true → b < length row) (known : IsSeen row seen) (is : IsFresh seen marks fresh) where
+  -- the new ones have no distance
+  pub fresh_new : All (λ p. (p < length row) × (slice_index row p ≡ NONE)) fresh
+  fresh_new = All-weaker (Contains fresh) (λ p. (p < length row) × (slice_index row p ≡ NONE)) one fresh (All-contains_itself fresh)
+    where
+      one : (p : ℕ) → Contains fresh p → (p < length row) × (slice_index row p ≡ NONE)
+      one p c =
+          let found = (is p).0 c in
+          let below = inside p found.0 in
+          (below, (known p below).0 found.1)
+
+  -- where there are none, all that is marked has a distance
+  pub none_fresh : length fresh ≡ 0 → (b : ℕ) → is_marked marks b ≡ true → slice_index row b ≢ NONE
+  none_fresh empty b mark none =
+      let c = (is b).1 (mark, (known b (inside b mark)).1 none) in
+      omega (arith, c.1, empty)
+
+  module _ (new : List ℕ) (distance : ℕ) (small : distance < NONE) (each : (b : ℕ) → Contains fresh b → slice_index new b ≡ distance)
+      (others : (b : ℕ) → (Contains fresh b → ⊥) → slice_index new b ≡ slice_index row b) where
+    pub numbered_so : (b : ℕ) → slice_index new b ≡ numbered row marks distance b
+    numbered_so b = go (is_marked marks b) refl
+      where
+        by : is_marked marks b ≡ true → (slice_index row b ≡ NONE) ⊎ (slice_index row b ≢ NONE) → slice_index new b ≡ numbered row marks distance b
+        by mark (inl none) = each b ((is b).1 (mark, (known b (inside b mark)).1 none)) ∙ sym (numbered_new row marks distance b mark none)
+        by mark (inr some) = others b (λ c. some ((known b (inside b mark)).0 ((is b).0 c).1)) ∙ sym (numbered_kept row marks distance b some)
+
+        go : (m : Bool) → is_marked marks b ≡ m → slice_index new b ≡ numbered row marks distance b
+        go true mark = by mark (cases_eq (slice_index row b) NONE)
+        go false mark = others b (λ c. false≢true (sym mark ∙ ((is b).0 c).0)) ∙ sym (numbered_unmarked row marks distance b mark)
+
+    -- what is marked is seen now
+    pub seen_so : (now : List ℕ) → length new ≡ length row → ((b : ℕ) → is_marked now b ≡ (is_marked seen b || is_marked marks b)) → IsSeen new now
+    seen_so now long joined b below = (λ unseen. onward (is_marked seen b) refl (is_marked marks b) refl (sym (joined b) ∙ unseen), λ none. back none (is_marked seen b) refl (is_marked marks b) refl)
+      where
+        within : b < length row
+        within = omega (arith, long)
+
+        onward : (s : Bool) → is_marked seen b ≡ s → (m : Bool) → is_marked marks b ≡ m → (is_marked seen b || is_marked marks b) ≡ false → slice_index new b ≡ NONE
+        onward false s false m e = others b (λ c. false≢true (sym m ∙ ((is b).0 c).0)) ∙ (known b within).0 s
+        onward true s m _ e = absurd (false≢true (sym e ∙ rw s refl))
+        onward false s true m e = absurd (false≢true (sym e ∙ rw (s, m) refl))
+
+        not_fresh : slice_index new b ≡ NONE → Contains fresh b → ⊥
+        not_fresh none c = let at = each b c in omega arith
+
+        back : slice_index new b ≡ NONE → (s : Bool) → is_marked seen b ≡ s → (m : Bool) → is_marked marks b ≡ m → is_marked now b ≡ false
+        back none true s m _ =
+            let before : slice_index row b ≡ NONE = sym (others b (not_fresh none)) ∙ none in
+            absurd (false≢true (sym ((known b within).1 before) ∙ s))
+        back none false s true m = absurd (not_fresh none ((is b).1 (m, s)))
+        back none false s false m = joined b ∙ rw (s, m) refl
+
+    -- the new ones are those at this distance
+    pub fresh_at : (u : ℕ) → slice_index row u ≢ distance → Contains fresh u ↔ (slice_index new u ≡ distance)
+    fresh_at u far = (each u, λ at. go at (is_marked marks u) refl (is_marked seen u) refl)
+      where
+        go : slice_index new u ≡ distance → (m : Bool) → is_marked marks u ≡ m → (s : Bool) → is_marked seen u ≡ s → Contains fresh u
+        go at true m false s = (is u).1 (m, s)
+        go at false m s _ = absurd (far (sym (others u (λ c. false≢true (sym m ∙ ((is u).0 c).0))) ∙ at))
+        go at true m true s = absurd (far (sym (others u (λ c. false≢true (sym ((is u).0 c).1 ∙ s))) ∙ at))
