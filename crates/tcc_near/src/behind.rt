@@ -74,11 +74,24 @@ fn all_clocks(
         .collect::<Result<Vec<Row<u32>>, AllocError>>(rt, alloc)?
 }
 
+/// The clocks of a graph whose distances are known.
+pub fn clocks_of(
+    rt: &(impl Threads + Sync),
+    alloc: Global,
+    graph: &Graph,
+    near: &Near,
+) -> Result<Clocks, NoMemory>
+    requires { IsNearOf (causally graph.now) near.now }
+    ensures { IfOk result (IsClocksOf graph.now) }
+{
+    let rows = all_clocks(rt, alloc, graph, near)?;
+    Ok(Clocks::new(rows))
+}
+
 /// The clocks of a graph.
 pub fn clocks(rt: &(impl Threads + Sync), alloc: Global, graph: &Graph) -> Result<Clocks, NoMemory>
     ensures { IfOk result (IsClocksOf graph.now) }
 {
     let near = near(rt, alloc, graph, Level::Causal)?;
-    let rows = all_clocks(rt, alloc, graph, &near)?;
-    Ok(Clocks::new(rows))
+    clocks_of(rt, alloc, graph, &near)
 }

@@ -10,7 +10,7 @@ mod pairs;
 mod row;
 mod search;
 
-pub use behind::clocks;
+pub use behind::{clocks, clocks_of};
 pub use clock::Clocks;
 pub use distances::{NONE, Near};
 pub use row::Row;
