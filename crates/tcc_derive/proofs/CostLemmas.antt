@@ -1,14 +1,20 @@
 -- What links of all kinds cost, by the prices and the causal pairs; and the tables of all rows.
-use Rattle.std.proofs.Common.{ℕ, ◌<◌, ◌≡◌, Bool, true, false, List, [], get_or, Option, None, Some, refl, sym, ◌∙◌, arith}
-use Rattle.std.proofs.lemmas.Bool.{false≢true}
+use Rattle.std.proofs.Common.{ℕ, ◌<◌, ◌≡◌, ◌≢◌, ◌==◌, ◌⊎◌, inl, inr, Bool, true, false, List, [], length, get_or, slice_index, Option, None, Some, refl, sym, ◌∙◌, ap, subst, arith, eq-eqb}
+use Rattle.std.proofs.lemmas.Bool.{false≢true, ne_eqb}
 use Rattle.std.proofs.lemmas.List.{get_or_default}
 use Rattle.tcc_reads.specs.History.{count}
-use Rattle.tcc_graph.specs.Levels.{Judged}
+use Rattle.tcc_graph.specs.Levels.{Judged, IsAllowed}
+use Rattle.tcc_graph.specs.declared.level.Level.{Level}
+use Rattle.tcc_graph.specs.declared.level.Level.TheVariants as level
+use Rattle.tcc_graph.specs.declared.step.Step.{Step}
 use Rattle.tcc_graph.specs.Relations.{IsSessionPair, IsReadsPair, causal_pair}
 use Rattle.tcc_graph.specs.Links.{IsReason}
 use Rattle.tcc_graph.specs.declared.link.Link.{Link}
 use Rattle.tcc_graph.specs.declared.link.Link.TheVariants as link
-use Rattle.tcc_near.specs.Distances.{least_in}
+use Rattle.tcc_near.specs.Distances.{least_in, NearTable, IsNearOf, IsWalkDistance}
+use Rattle.tcc_near.specs.declared.distances.TheConstants.{NONE}
+use Rattle.tcc_near.proofs.Walks.{within_one, within_one_from}
+use Rattle.tcc_near.proofs.BreadthLemmas.{read}
 use Rattle.tcc_derive.specs.Prices.{IsDerived, IsLinkOf, IsPrice, IsCost, IsPricesOf}
 use Rattle.tcc_derive.specs.Lowering.{HasPairs}
 use Rattle.tcc_derive.specs.Rows.{IsPriceRow, IsCostRow, HasRows}
@@ -39,23 +45,67 @@ cost_from_price j u v none (Some n) p = record {
   least = λ l w. p.least l (derived_of j u v none l w);
 }
 
-pub cost_row_of : (j : Judged) (u : ℕ) (prices costs : List ℕ) → IsPriceRow j u prices → HasPairs j.history u prices costs → IsCostRow j u costs
-cost_row_of j u prices costs priced pairs = record {
+-- what one step leads to is allowed at each level
+allowed_one : (l : Level) (walk : List Step) → length walk ≡ 1 → IsAllowed l walk
+allowed_one level.Causal walk one = tt
+allowed_one level.Atomic walk one = one
+
+-- the distance is 1 on the causal pairs alone
+pub one_step_pair : (j : Judged) (near : NearTable) (u v : ℕ) → IsNearOf j near → u < count j.history → v < count j.history → (slice_index (row_of near.rows u) v == 1) ≡ causal_pair j.history u v
+one_step_pair j near u v is from to = go (causal_pair j.history u v) refl (read row v)
+  where
+    row : List ℕ
+    row = row_of near.rows u
+
+    there : (o : Option ℕ) → IsWalkDistance j u v o → causal_pair j.history u v ≡ true → o ≡ Some 1
+    there None away p =
+        let w = within_one_from j.history u v p in
+        let one : length w.0 ≡ 1 = omega (arith, w.1.0, w.2) in
+        absurd (away w.0 (w.1, allowed_one j.level w.0 one))
+    there (Some n) short p =
+        let w = within_one_from j.history u v p in
+        let one : length w.0 ≡ 1 = omega (arith, w.1.0, w.2) in
+        let few = short.least w.0 (w.1, allowed_one j.level w.0 one) in
+        let n_one : n ≡ 1 = omega (arith, few, one, short.attained.1.0.0, short.attained.2) in
+        ap Some n_one
+
+    back : IsWalkDistance j u v (Some 1) → causal_pair j.history u v ≡ true
+    back short = within_one j.history u v (short.attained.0, short.attained.1.0, omega (arith, short.attained.2))
+
+    go : (t : Bool) → causal_pair j.history u v ≡ t → ((slice_index row v ≡ NONE) × (least_in row v ≡ None)) ⊎ ((slice_index row v ≢ NONE) × (least_in row v ≡ Some (slice_index row v)))
+        → (slice_index row v == 1) ≡ causal_pair j.history u v
+    go true p (inl r) = absurd (let e : None ≡ Some 1 = sym r.1 ∙ there (least_in row v) (is.exact u v from to) p in cc)
+    go true p (inr r) =
+        let e : Some (slice_index row v) ≡ Some 1 = sym r.1 ∙ there (least_in row v) (is.exact u v from to) p in
+        let same : slice_index row v ≡ 1 = cc in
+        eq-eqb (slice_index row v) 1 same ∙ sym p
+    go false p (inl r) = ne_eqb (slice_index row v) 1 (λ e. absurd (omega (arith, e, r.0))) ∙ sym p
+    go false p (inr r) = ne_eqb (slice_index row v) 1 far ∙ sym p
+      where
+        far : slice_index row v ≢ 1
+        far one =
+            let d : least_in row v ≡ Some 1 = r.1 ∙ ap Some one in
+            false≢true (sym p ∙ back (subst (λ (o : Option ℕ). IsWalkDistance j u v o) d (is.exact u v from to)))
+
+pub cost_row_of : (j : Judged) (near : NearTable) (u : ℕ) (prices costs : List ℕ) → IsNearOf j near → u < count j.history → IsPriceRow j u prices → HasPairs (row_of near.rows u) prices costs → IsCostRow j u costs
+cost_row_of j near u prices costs is from priced pairs = record {
   long = pairs.long ∙ priced.long;
   costed = λ v to. go v to (causal_pair j.history u v) refl;
 }
   where
     go : (v : ℕ) → v < count j.history → (t : Bool) → causal_pair j.history u v ≡ t → IsCost j u v (least_in costs v)
     go v to true e =
-        let one : get_or costs v 0 ≡ 1 = rw e at (pairs.each v (omega (arith, priced.long))) in
+        let direct : (slice_index (row_of near.rows u) v == 1) ≡ true = one_step_pair j near u v is from to ∙ e in
+        let one : get_or costs v 0 ≡ 1 = rw direct at (pairs.each v (omega (arith, priced.long))) in
         rw one (record { attained = let l = pair_link j u v (pair_kinds j.history u v e) in (l.0, record { from = l.1; to = l.2; link = l.3 }, l.4); least = λ l w. some_cost l })
     go v to false e =
-        let same : get_or costs v 0 ≡ get_or prices v 0 = rw e at (pairs.each v (omega (arith, priced.long))) in
+        let far : (slice_index (row_of near.rows u) v == 1) ≡ false = one_step_pair j near u v is from to ∙ e in
+        let same : get_or costs v 0 ≡ get_or prices v 0 = rw far at (pairs.each v (omega (arith, priced.long))) in
         rw same (cost_from_price j u v e (least_in prices v) (priced.priced v to))
 
-pub prices_of : (j : Judged) (prices costs : List (List ℕ)) → HasRows j.history (IsPriceRow j) prices → HasRows j.history (λ u row. HasPairs j.history u (row_of prices u) row) costs
+pub prices_of : (j : Judged) (near : NearTable) (prices costs : List (List ℕ)) → IsNearOf j near → HasRows j.history (IsPriceRow j) prices → HasRows j.history (λ u row. HasPairs (row_of near.rows u) (row_of prices u) row) costs
     → IsPricesOf j (record { level = j.level; prices = prices; costs = costs })
-prices_of j prices costs priced paired = record {
+prices_of j near prices costs is priced paired = record {
   level = refl;
   prices = record { long = priced.long; wide = λ k d l. rw (get_or_default prices k d [] l) (priced.each k (omega (arith, priced.long))).long };
   costs = record { long = paired.long; wide = λ k d l. rw (get_or_default costs k d [] l) (cost_row k (omega (arith, paired.long))).long };
@@ -65,4 +115,4 @@ prices_of j prices costs priced paired = record {
 }
   where
     cost_row : (u : ℕ) → u < count j.history → IsCostRow j u (row_of costs u)
-    cost_row u from = cost_row_of j u (row_of prices u) (row_of costs u) (priced.each u from) (paired.each u from)
+    cost_row u from = cost_row_of j near u (row_of prices u) (row_of costs u) is from (priced.each u from) (paired.each u from)

@@ -1,8 +1,6 @@
 -- For the private stages and their proofs alone: nobody has to believe what stands here.
 -- Rows of prices that reads lower, and of costs.
-use Rattle.std.specs.Prelude.{ℕ, ◌+◌, ◌<◌, ◌≤◌, ◌≡◌, ◌≢◌, ◌⊎◌, List, length, min, if◌then◌else◌, slice_index, Contains, All}
-use Rattle.tcc_reads.specs.History.{History}
-use Rattle.tcc_graph.specs.Relations.{causal_pair}
+use Rattle.std.specs.Prelude.{ℕ, ◌+◌, ◌<◌, ◌≤◌, ◌≡◌, ◌≢◌, ◌==◌, ◌⊎◌, List, length, min, if◌then◌else◌, slice_index, Contains, All}
 use Rattle.tcc_derive.specs.declared.read.Read.{Read}
 use Rattle.tcc_near.specs.declared.distances.TheConstants.{NONE}
 
@@ -25,7 +23,7 @@ pub record HaveReads (n : ℕ) (reads : List (List Read)) (keys : List ℕ) : Ty
   pub sources : All (λ bucket. All (λ r. r.source < n) bucket) reads
   pub readers : All (λ bucket. All (λ r. r.reader < n) bucket) reads
 
--- 1 on the causal pairs from u, and elsewhere the price
-pub record HasPairs (h : History) (u : ℕ) (prices : List ℕ) (costs : List ℕ) : Type 0 where
+-- 1 where one step leads, and elsewhere the price
+pub record HasPairs (steps : List ℕ) (prices : List ℕ) (costs : List ℕ) : Type 0 where
   pub long : length costs ≡ length prices
-  pub each : (v : ℕ) → v < length prices → slice_index costs v ≡ (if causal_pair h u v then 1 else slice_index prices v)
+  pub each : (v : ℕ) → v < length prices → slice_index costs v ≡ (if slice_index steps v == 1 then 1 else slice_index prices v)

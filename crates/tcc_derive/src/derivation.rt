@@ -27,6 +27,6 @@ pub fn derive(
     let reads = read_table(alloc, graph)?;
     let written = write_table(alloc, graph)?;
     let prices = price_rows(rt, alloc, graph, near, &reads, &written)?;
-    let costs = cost_rows(rt, alloc, graph, &prices)?;
+    let costs = cost_rows(rt, alloc, graph, near, &prices)?;
     Ok(Prices::new(near.level(), prices, costs))
 }

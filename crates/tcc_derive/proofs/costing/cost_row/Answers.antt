@@ -1,8 +1,7 @@
-use Rattle.std.proofs.Common.{ℕ, ◌+◌, ◌<◌, ◌≡◌, ◌⊎◌, inl, inr, List, [], ◌∷◌, ◌++◌, length, length-append, get_or, refl, sym, ◌∙◌, arith, if◌then◌else◌}
+use Rattle.std.proofs.Common.{rules, ℕ, ◌+◌, ◌<◌, ◌≡◌, ◌==◌, true, false, ◌⊎◌, inl, inr, List, [], ◌∷◌, ◌++◌, length, length-append, get_or, refl, sym, ◌∙◌, arith, if◌then◌else◌}
 use Rattle.std.proofs.lemmas.Bool.{cases_eq}
 use Rattle.std.proofs.lemmas.List.{get_or_push, get_or_append_left}
-use Rattle.tcc_graph.specs.Relations.{causal_pair}
-use Rattle.tcc_derive.proofs.costing.cost_row.Goals.{then-causal, else-causal}
+use Rattle.tcc_derive.proofs.costing.cost_row.Goals.{then-direct, else-direct}
 use Rattle.tcc_derive.proofs.costing.cost_row.Goals as goal
 
 -- the costs so far, and one more
@@ -17,15 +16,15 @@ more old new n cost f is long here so_far = rw is (omega (arith, length-append o
 pub loop-v-preserved : goal.loop-v-preserved
 loop-v-preserved c =
     let inv = c.loop-v.invariant in
-    let h = c.args.graph.now in
+    let steps = c.args.steps.now in
     let prices = c.args.prices.now in
-    let cost = λ (w : ℕ). if causal_pair h c.args.u w then 1 else get_or prices w 0 in
+    let cost = λ (w : ℕ). if get_or steps w 0 == 1 then 1 else get_or prices w 0 in
     let n = c.loop-v.v in
-    let here : c.if-causal.cost ≡ cost n = elim c.if-causal.branch [
-      | then-causal w ↦ w.cost-is ∙ rw (sym w.if-causal.ensures) refl
-      | else-causal w ↦ w.cost-is ∙ rw (sym w.if-causal.ensures) refl
+    let here : c.if-direct.cost ≡ cost n = elim c.if-direct.branch [
+      | then-direct w ↦ (let one : (get_or steps n 0 == 1) ≡ true = search rules in w.cost-is ∙ rw one refl)
+      | else-direct w ↦ (let other : (get_or steps n 0 == 1) ≡ false = search rules in w.cost-is ∙ rw other refl)
     ] in
-    more c.loop-v.costs.items c.push.new.self.items n c.if-causal.cost cost c.in_ok-push.ensures.items inv.0 here inv.1
+    more c.loop-v.costs.items c.push.new.self.items n c.if-direct.cost cost c.in_ok-push.ensures.items inv.0 here inv.1
 
 pub returns : goal.returns
 returns c = rw c.new.ensures (record { long = omega (arith, c.loop-v.invariant.0); each = λ v l. c.loop-v.invariant.1 v (omega arith) })

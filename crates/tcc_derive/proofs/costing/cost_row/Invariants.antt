@@ -1,8 +1,7 @@
-use Rattle.std.proofs.Common.{◌≡◌, ◌<◌, ℕ, length, get_or, if◌then◌else◌}
-use Rattle.tcc_graph.specs.Relations.{causal_pair}
+use Rattle.std.proofs.Common.{◌≡◌, ◌<◌, ◌==◌, ℕ, length, get_or, if◌then◌else◌}
 use Rattle.tcc_derive.proofs.costing.cost_row.Given as goal
 
 abbrev pub invariant-loop-v : goal.invariant-loop-v
 invariant-loop-v l =
     (length l.costs.items ≡ l.v)
-    × ((w : ℕ) → w < l.v → get_or l.costs.items w 0 ≡ (if causal_pair l.graph l.u w then 1 else get_or l.prices w 0))
+    × ((w : ℕ) → w < l.v → get_or l.costs.items w 0 ≡ (if get_or l.steps w 0 == 1 then 1 else get_or l.prices w 0))

@@ -1,4 +1,4 @@
-use Rattle.std.proofs.Common.{ℕ, ◌-◌, ◌<◌, ◌≤◌, ◌≡◌, List, [], length, ap, ◌∙◌, arith}
+use Rattle.std.proofs.Common.{ℕ, ◌-◌, ◌<◌, ◌≤◌, ◌≡◌, List, [], length, ap, sym, ◌∙◌, arith}
 use Rattle.std.specs.List.{range_with_len}
 use Rattle.rayon.specs.Numbers.{nat_range}
 use Rattle.rayon.proofs.ToStd.{nat_range-All}
@@ -15,16 +15,17 @@ pub collect-requires-clause-ready : goal.collect-requires-clause-ready
 collect-requires-clause-ready g c κs within =
     let h = c.args.graph.now in
     let prices = c.args.prices.now in
+    let rows = c.args.near.now.rows in
     let ends = c.into_par_iter.ensures in
-    let ready = nat_range-All (λ u. (u < length prices) × (length prices ≡ count h) × (count h ≤ MAX_COUNT) × (length (row_of prices u) ≡ count h)) 0 c.count.result
+    let ready = nat_range-All (λ u. (u < length prices) × (u < length rows) × (length rows ≤ MAX_COUNT) × (length (row_of prices u) ≡ length rows)) 0 c.count.result
     (λ u low high.
     let from : u < count h = omega (arith, c.count.ensures.value) in
-    (omega (arith, c.requires.long), c.requires.long, omega (arith, c.count.ensures.value, c.count.ensures.few), c.requires.each u from)) in
+    (omega (arith, c.requires.prices.long), omega (arith, c.requires.near), omega (arith, c.requires.near, c.count.ensures.value, c.count.ensures.few), c.requires.prices.each u from ∙ sym c.requires.near)) in
     rw (c.with_min_len.ensures.base, c.map.ensures.base, c.map.ensures.f, ends.0, ends.1) (λ k d lt. (ready k d lt, λ y p. tt))
 
 pub returns : goal.returns
 returns g c =
-    let h = c.args.graph.now in
+    let steps = c.args.near.now.rows in
     let prices = c.args.prices.now in
     let ends = c.into_par_iter.ensures in
     let n = c.count.result in
@@ -32,7 +33,7 @@ returns g c =
     let whole : n - 0 ≡ n = omega arith in
     let chain = rw (c.with_min_len.ensures.base, c.map.ensures.base, c.map.ensures.f) at got.1 in
     let places : chain.0 ≡ range_with_len 0 n = chain.1 ∙ (λ i. nat_range (ends.0 i) (ends.1 i)) ∙ ap (range_with_len 0) whole in
-    let IsPaired : ℕ → List ℕ → Type 0 = λ u row. HasPairs h u (row_of prices u) row in
+    let IsPaired : ℕ → List ℕ → Type 0 = λ u row. HasPairs (row_of steps u) (row_of prices u) row in
     matched c.in_ok-collect.field-0 _ _ _ got.2 (λ rows made.
     let each = each_given NoMemory IsPaired n chain.0 got.0 rows.items places chain.2 made in
     record {
