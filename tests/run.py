@@ -1,6 +1,6 @@
 #!/usr/bin/env python3
-"""All tests: the merge gate, which proves everything from nothing, and then the rows and the refused allocations on
-the program that it built.
+"""All tests: the merge gate, which proves everything from nothing, and then the rows, the altered certificates and the
+refused allocations on the program that it built.
 
 The last line is `N passed, M failed`, the sum of all; the status is 0 only where all passed.
 """
@@ -42,7 +42,7 @@ def main():
     if failed:
         print("the rows were not run: the gate comes first")
     else:
-        for test in ("tests/rows/run.py", "tests/memory/run.py"):
+        for test in ("tests/rows/run.py", "tests/certificates/run.py", "tests/memory/run.py"):
             more, less = counts([sys.executable, test])
             passed, failed = passed + more, failed + less
     print("%d passed, %d failed" % (passed, failed), flush=True)
