@@ -12,7 +12,7 @@ use Rattle.tcc_reads.specs.History.{History}
 use Rattle.tcc_reads.specs.Sources.{history}
 use Rattle.tcc_reads.specs.declared.fault.ResolveFault.{ResolveFault}
 use Rattle.tcc_reads.specs.declared.fault.ResolveFault.TheVariants as refusal
-use Rattle.tcc_run.specs.declared.judged.Judged.{Judged}
+use Rattle.tcc_check.specs.declared.judgement.Judgement.{Judgement}
 use Rattle.tcc_run.specs.declared.halt.Halt.{Halt}
 use Rattle.tcc_run.specs.declared.halt.Halt.TheVariants.{Row, Reads, Text, NoMemory}
 use Rattle.tcc_run.specs.Stages.{MayBeTextCheck, by_row, is_memory, unresolved_by, IsResolution, IsHistoryOf}
@@ -63,7 +63,7 @@ without_memory records (Err why) is = subst (λ u. IsHistoryOf records (Err u)) 
 -- ---- both
 
 -- what comes of the text for the history of the records is what comes of both
-pub of_history : (records text : List ℕ) (h : History) (o : Result Judged Halt) → IsHistoryOf records (Ok h)
+pub of_history : (records text : List ℕ) (h : History) (o : Result Judgement Halt) → IsHistoryOf records (Ok h)
     → MayBeTextCheck h text o → MayBeCheck records text o
 of_history records text h o is (inl check) =
     inl (subst (λ fault. IsRecordsCheck (answers_of records).items fault text o) (sym is.0)
@@ -81,7 +81,7 @@ no_history records text (Reads faults) is =
 no_history records text (Text fault) is = absurd is
 no_history records text NoMemory is = inr (inr refl)
 
-pub no_history_by : (records text : List ℕ) (why : Halt) (o : Result Judged Halt)
+pub no_history_by : (records text : List ℕ) (why : Halt) (o : Result Judgement Halt)
     → IsHistoryOf records (Err why) → IsErrAnd o (λ u. u ≡ why) → MayBeCheck records text o
 no_history_by records text why (Ok judged) fails is = absurd is
 no_history_by records text why (Err u) fails is = subst (λ u. MayBeCheck records text (Err u)) (sym is) (no_history records text why fails)

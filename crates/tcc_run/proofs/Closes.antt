@@ -6,7 +6,7 @@ use Rattle.tcc_txn.specs.Finished.{KeepsLimits, finished_in}
 use Rattle.tcc_cert.specs.Texts.{certificate_text}
 use Rattle.tcc_cert.specs.declared.certificate.Certificate.{Certificate}
 use Rattle.tcc_answer.specs.Claims.{certificate_of}
-use Rattle.tcc_run.specs.declared.judged.Judged.{Judged}
+use Rattle.tcc_check.specs.declared.judgement.Judgement.{Judgement}
 use Rattle.tcc_run.specs.declared.halt.Halt.{Halt}
 use Rattle.tcc_run.specs.declared.options.Options.{Options}
 use Rattle.tcc_run.specs.Checks.{IsCheck, MayBeCheck}
@@ -18,7 +18,7 @@ use Rattle.tcc_run.proofs.Moments.{last-push}
 
 -- the check of these records accepts the text as that of the certificate, unless a reader fails or memory is refused
 abbrev Accepts : List ℕ → List ℕ → Type 0
-Accepts records text = (c : Certificate) × IsCheck records text (acceptance c) × ((o : Result Judged Halt) → MayBeCheck records text o → IsAcceptance c o)
+Accepts records text = (c : Certificate) × IsCheck records text (acceptance c) × ((o : Result Judgement Halt) → MayBeCheck records text o → IsAcceptance c o)
 
 inside : {X : Type 0} (x y : X) → Some x ≡ Some y → x ≡ y
 inside x y e = cc e

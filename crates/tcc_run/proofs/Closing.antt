@@ -1,5 +1,5 @@
 -- What `explain` writes for records, `check` accepts with the same records.
-use Rattle.std.proofs.Common.{◌≡◌, ◌≢◌, ℕ, List, [], length, take, None, Result, Ok, Err, refl, sym, subst, ◌∙◌, inl, inr}
+use Rattle.std.proofs.Common.{◌≡◌, ◌≢◌, ℕ, List, [], length, take, None, Result, Ok, Err, refl, sym, ap, subst, ◌∙◌, inl, inr}
 use Rattle.std.proofs.Math.Seq.{take-length}
 use Rattle.tcc_txn.specs.Answers.{answers_of}
 use Rattle.tcc_txn.specs.Finished.{KeepsLimits, finished_in}
@@ -14,6 +14,7 @@ use Rattle.tcc_cert.specs.Texts.{certificate_text}
 use Rattle.tcc_cert.specs.declared.certificate.Certificate.{Certificate}
 use Rattle.tcc_cert.specs.declared.fault.CertFault.{CertFault}
 use Rattle.tcc_cert.specs.declared.fault.CertFaultKind.TheVariants as text_kind
+use Rattle.tcc_check.specs.Streams.{claim_of}
 use Rattle.tcc_check.specs.Verdicts.{IsVerdict}
 use Rattle.tcc_check.specs.declared.verdict.Verdict.{Verdict}
 use Rattle.tcc_check.specs.declared.verdict.Verdict.TheVariants as verdict
@@ -25,7 +26,7 @@ use Rattle.tcc_explain.specs.Keys.{HasNames}
 use Rattle.tcc_explain.proofs.CertifiedAnswer.{certified}
 use Rattle.tcc_explain.proofs.RecordedKeys.{recorded}
 use Rattle.tcc_explain.proofs.WrittenAnswer.{read_back}
-use Rattle.tcc_run.specs.declared.judged.Judged.{Judged}
+use Rattle.tcc_check.specs.declared.judgement.Judgement.{Judgement}
 use Rattle.tcc_run.specs.declared.halt.Halt.{Halt}
 use Rattle.tcc_run.specs.declared.halt.Halt.TheVariants.{Row, Reads, Text, NoMemory}
 use Rattle.tcc_run.specs.Checks.{IsCheck, IsRecordsCheck, IsSnapshotCheck, IsTextCheck, MayBeCheck}
@@ -60,14 +61,11 @@ module _ (records : List ℕ) (limits : KeepsLimits (all_of records)) (level : L
   pub accepted : IsCheck records (certificate_text c) (acceptance c)
   accepted =
       subst (λ found. IsRecordsCheck (answers_of records).items found (certificate_text c) (acceptance c)) (sym unfaulted)
-      (inr (resolved, (back, keeps)))
+      (inr (resolved, (c, back, refl, keeps)))
 
-  by_verdict : (judged : Judged) → c ≡ judged.certificate → IsVerdict (history (all_of records)) judged.certificate judged.verdict → judged.verdict ≡ verdict.Accepted
-  by_verdict judged same is = go judged.verdict refl is
-    where
-      go : (v : Verdict) → judged.verdict ≡ v → IsVerdict (history (all_of records)) judged.certificate v → judged.verdict ≡ verdict.Accepted
-      go verdict.Accepted e says = e
-      go (verdict.Rejected rule at) e says = absurd (rejected_false (history (all_of records)) judged.certificate rule at says (subst (Certifies (history (all_of records))) same keeps))
+  by_verdict : (read : Certificate) (v : Verdict) → c ≡ read → IsVerdict (history (all_of records)) read v → v ≡ verdict.Accepted
+  by_verdict read verdict.Accepted same says = refl
+  by_verdict read (verdict.Rejected rule at) same says = absurd (rejected_false (history (all_of records)) read rule at says (subst (Certifies (history (all_of records))) same keeps))
 
   failed_reading : (fault : CertFault) → IsReading (certificate_text c) (Err fault) → fault.kind ≢ text_kind.NoMemory → fault.kind ≡ text_kind.Read
   failed_reading fault (inl other) kind = absurd (ok_not_err (certificate_read (certificate_text c)) c fault back other)
@@ -77,21 +75,21 @@ module _ (records : List ℕ) (limits : KeepsLimits (all_of records)) (level : L
       go (inl read) = read.0
       go (inr memory) = absurd (kind memory)
 
-  of_text : (o : Result Judged Halt) → IsTextCheck (history (all_of records)) (certificate_text c) o → IsAcceptance c o
-  of_text (Ok judged) is =
-      let same : c ≡ judged.certificate = (let both : Ok c ≡ Ok judged.certificate = sym back ∙ is.0 in cc both) in
-      (sym same, by_verdict judged same is.1)
+  of_text : (o : Result Judgement Halt) → IsTextCheck (history (all_of records)) (certificate_text c) o → IsAcceptance c o
+  of_text (Ok judged) (read, reads, claims, says) =
+      let same : c ≡ read = (let both : Ok c ≡ Ok read = sym back ∙ reads in cc both) in
+      (claims ∙ ap claim_of (sym same), by_verdict read judged.verdict same says)
   of_text (Err (Row fault)) is = absurd is
   of_text (Err (Reads faults)) is = absurd is
   of_text (Err (Text fault)) is = failed_reading fault is.0 is.1
   of_text (Err NoMemory) is = absurd is
 
-  of_snapshot : (o : Result Judged Halt) → IsSnapshotCheck (all_of records) (certificate_text c) o → IsAcceptance c o
+  of_snapshot : (o : Result Judgement Halt) → IsSnapshotCheck (all_of records) (certificate_text c) o → IsAcceptance c o
   of_snapshot o (inl faulty) = absurd (faulty.0 resolved)
   of_snapshot o (inr checked) = of_text o checked.1
 
   -- and nothing else comes of it, unless a reader fails or memory is refused
-  pub only : (o : Result Judged Halt) → MayBeCheck records (certificate_text c) o → IsAcceptance c o
+  pub only : (o : Result Judgement Halt) → MayBeCheck records (certificate_text c) o → IsAcceptance c o
   only o (inl check) = of_snapshot o (subst (λ found. IsRecordsCheck (answers_of records).items found (certificate_text c) o) unfaulted check)
   only o (inr (inl failed)) = subst (IsAcceptance c) (sym failed.2) refl
   only o (inr (inr memory)) = subst (IsAcceptance c) (sym memory) tt

@@ -18,7 +18,7 @@ use Rattle.tcc_cert.specs.declared.fault.CertFaultKind.TheVariants as text_kind
 use Rattle.tcc_check.specs.Verdicts.{IsVerdict, IsTrueClaim}
 use Rattle.tcc_check.specs.declared.verdict.Verdict.{Verdict}
 use Rattle.tcc_check.specs.declared.verdict.Verdict.TheVariants as verdict
-use Rattle.tcc_run.specs.declared.judged.Judged.{Judged}
+use Rattle.tcc_check.specs.declared.judgement.Judgement.{Judgement}
 use Rattle.tcc_run.specs.declared.halt.Halt.{Halt}
 use Rattle.tcc_run.specs.declared.halt.Halt.TheVariants.{Row, Reads, Text, NoMemory}
 use Rattle.tcc_run.specs.declared.status.Status.TheVariants as status
@@ -66,20 +66,21 @@ abbrev snapshot_in : List ℕ → Sessions
 snapshot_in records = finished_in (answers_of records).items
 
 -- ends that are a verdict show the history and the certificate that it is about
-pub record IsJudged (records : List ℕ) (text : List ℕ) (k : Certificate) (v : Verdict) : Type 0 where
+pub record HasVerdict (records : List ℕ) (text : List ℕ) (v : Verdict) : Type 0 where
+  pub certificate : Certificate
   pub unfaulted : (answers_of records).fault ≡ None
   pub resolved : read_faults (snapshot_in records) ≡ []
-  pub read : certificate_read text ≡ Ok k
-  pub judged : IsVerdict (history (snapshot_in records)) k v
+  pub read : certificate_read text ≡ Ok certificate
+  pub judged : IsVerdict (history (snapshot_in records)) certificate v
 
-judged_records : (records text : List ℕ) (judged : Judged) (found : Option RowFault) → (answers_of records).fault ≡ found
-    → IsRecordsCheck (answers_of records).items found text (Ok judged) → IsJudged records text judged.certificate judged.verdict
+judged_records : (records text : List ℕ) (judged : Judgement) (found : Option RowFault) → (answers_of records).fault ≡ found
+    → IsRecordsCheck (answers_of records).items found text (Ok judged) → HasVerdict records text judged.verdict
 judged_records records text judged None same (inl faulty) = absurd faulty.1
 judged_records records text judged None same (inr is) =
-    record { unfaulted = same; resolved = is.0; read = is.1.0; judged = is.1.1 }
+    record { certificate = is.1.0; unfaulted = same; resolved = is.0; read = is.1.1; judged = is.1.3 }
 judged_records records text judged (Some fault) same is = let bad : ⊥ = cc in absurd bad
 
-judged_run : (records text : List ℕ) (judged : Judged) → MayBeCheck records text (Ok judged) → IsJudged records text judged.certificate judged.verdict
+judged_run : (records text : List ℕ) (judged : Judgement) → MayBeCheck records text (Ok judged) → HasVerdict records text judged.verdict
 judged_run records text judged (inl is) = judged_records records text judged (answers_of records).fault refl is
 judged_run records text judged (inr (inl fails)) = let e = fails.2 in let bad : ⊥ = cc in absurd bad
 judged_run records text judged (inr (inr memory)) = let bad : ⊥ = cc in absurd bad
@@ -89,21 +90,21 @@ module _ (certified : (h : History) (k : Certificate) → Certifies h k → IsTr
   accepted : (h : History) (k : Certificate) → IsVerdict h k verdict.Accepted → IsTrueClaim h k
   accepted h k is = certified h k is
 
-  of_verdict : (records text : List ℕ) (k : Certificate) (v : Verdict) → IsJudged records text k v
+  of_verdict : (records text : List ℕ) (v : Verdict) → HasVerdict records text v
       → code_of (verdict_status v) ≡ 0 → IsShown records text
-  of_verdict records text k verdict.Accepted is success = record {
-    certificate = k;
+  of_verdict records text verdict.Accepted is success = record {
+    certificate = is.certificate;
     unfaulted = is.unfaulted;
     resolved = is.resolved;
     read = is.read;
-    true_claim = accepted (history (snapshot_in records)) k is.judged;
+    true_claim = accepted (history (snapshot_in records)) is.certificate is.judged;
   }
-  of_verdict records text k (verdict.Rejected rule at) is success = let bad : ⊥ = cc in absurd bad
+  of_verdict records text (verdict.Rejected rule at) is success = let bad : ⊥ = cc in absurd bad
 
-  of_outcome : (records text : List ℕ) (o : Result Judged Halt) → MayBeCheck records text o → code_of (check_status o) ≡ 0
+  of_outcome : (records text : List ℕ) (o : Result Judgement Halt) → MayBeCheck records text o → code_of (check_status o) ≡ 0
       → IsShown records text
   of_outcome records text (Ok judged) may success =
-      of_verdict records text judged.certificate judged.verdict (judged_run records text judged may) success
+      of_verdict records text judged.verdict (judged_run records text judged may) success
   of_outcome records text (Err (Row fault)) may success = absurd (row_fails fault.kind success)
   of_outcome records text (Err (Reads faults)) may success = let bad : ⊥ = cc in absurd bad
   of_outcome records text (Err (Text fault)) may success = absurd (text_fails fault.kind success)
@@ -115,14 +116,14 @@ module _ (certified : (h : History) (k : Certificate) → Certifies h k → IsTr
   shown records text before after code (o, may, inr part) zero = absurd (not_zero (sym part.1 ∙ zero))
 
 -- what is printed of the outcome, or of want of memory in its place, is what a run may print
-pub runs : (records text : List ℕ) (before after : Option (List ℕ)) (o : Result Judged Halt) (code : ℕ)
+pub runs : (records text : List ℕ) (before after : Option (List ℕ)) (o : Result Judgement Halt) (code : ℕ)
     → MayBeCheck records text o → PrintsOrMemory false before after (check_text o) (check_status o) code
     → IsCheckRun records text before after code
 runs records text before after o code may (inl prints) = (o, may, prints)
 runs records text before after o code may (inr prints) = (Err NoMemory, inr (inr refl), prints)
 
 -- it is the text of some outcome
-pub prints_some : (before after : Option (List ℕ)) (o : Result Judged Halt) (code : ℕ)
+pub prints_some : (before after : Option (List ℕ)) (o : Result Judgement Halt) (code : ℕ)
     → PrintsOrMemory false before after (check_text o) (check_status o) code → PrintsSome before after code
 prints_some before after o code (inl prints) = (o, prints)
 prints_some before after o code (inr prints) = (Err NoMemory, prints)

@@ -3,18 +3,19 @@ use Rattle.std.specs.Prelude.{◌≡◌, Result, Ok, Err}
 use Rattle.tcc_txn.specs.declared.rows.RowFaultKind.TheVariants as row_kind
 use Rattle.tcc_cert.specs.declared.certificate.Certificate.{Certificate}
 use Rattle.tcc_cert.specs.declared.fault.CertFaultKind.TheVariants as text_kind
+use Rattle.tcc_check.specs.Streams.{claim_of}
 use Rattle.tcc_check.specs.declared.verdict.Verdict.TheVariants as verdict
-use Rattle.tcc_run.specs.declared.judged.Judged.{Judged}
+use Rattle.tcc_check.specs.declared.judgement.Judgement.{Judgement}
 use Rattle.tcc_run.specs.declared.halt.Halt.{Halt}
 use Rattle.tcc_run.specs.declared.halt.Halt.TheVariants.{Row, Reads, Text, NoMemory}
 
--- the certificate was accepted
-abbrev pub acceptance : Certificate → Result Judged Halt
-acceptance c = Ok (record { certificate = c; verdict = verdict.Accepted })
+-- the claim of the certificate was accepted
+abbrev pub acceptance : Certificate → Result Judgement Halt
+acceptance c = Ok (record { claim = claim_of c; verdict = verdict.Accepted })
 
 -- the same, unless a reader failed or memory was refused
-abbrev pub IsAcceptance : Certificate → Result Judged Halt → Type 0
-IsAcceptance c (Ok judged) = (judged.certificate ≡ c) × (judged.verdict ≡ verdict.Accepted)
+abbrev pub IsAcceptance : Certificate → Result Judgement Halt → Type 0
+IsAcceptance c (Ok judged) = (judged.claim ≡ claim_of c) × (judged.verdict ≡ verdict.Accepted)
 IsAcceptance c (Err (Row fault)) = fault.kind ≡ row_kind.Read
 IsAcceptance c (Err (Text fault)) = fault.kind ≡ text_kind.Read
 IsAcceptance c (Err NoMemory) = Unit {0}

@@ -7,7 +7,7 @@ use Rattle.tcc_answer.specs.Json.{answer_json, json_line}
 use Rattle.tcc_answer.specs.declared.answer.Answer.{Answer}
 use Rattle.tcc_run.specs.declared.halt.Halt.{Halt}
 use Rattle.tcc_run.specs.declared.halt.Halt.TheVariants.{NoMemory}
-use Rattle.tcc_run.specs.declared.judged.Judged.{Judged}
+use Rattle.tcc_check.specs.declared.judgement.Judgement.{Judgement}
 use Rattle.tcc_run.specs.declared.status.Status.{Status}
 use Rattle.tcc_run.specs.declared.status.Status.TheVariants.{Device}
 use Rattle.tcc_run.specs.Statuses.{code_of}
@@ -35,8 +35,8 @@ abbrev pub device_line : Bool → List ℕ
 device_line json = if json then codes "{\"answer\":\"device\"}\n" else codes "device\n"
 
 -- what a run of check prints
-abbrev pub check_text : Result Judged Halt → List ℕ
-check_text (Ok judged) = verdict_text judged.certificate judged.verdict
+abbrev pub check_text : Result Judgement Halt → List ℕ
+check_text (Ok judged) = verdict_text judged.claim judged.verdict
 check_text (Err why) = halt_text why
 
 -- the text went out whole, and the status is its own; or a write failed, and a part of the text, from its front, went out

@@ -16,14 +16,13 @@ use Rattle.tcc_reads.specs.Sources.{history}
 use Rattle.tcc_reads.specs.declared.fault.ResolveFault.{ResolveFault}
 use Rattle.tcc_reads.specs.declared.fault.ResolveFault.TheVariants as unresolved
 use Rattle.tcc_cert.specs.Texts.{certificate_text}
-use Rattle.tcc_cert.specs.declared.fault.CertFault.{CertFault}
-use Rattle.tcc_cert.specs.declared.fault.CertFaultKind.{CertFaultKind}
-use Rattle.tcc_cert.specs.declared.fault.CertFaultKind.TheVariants as text_kind
+use Rattle.tcc_check.specs.declared.stream_fault.StreamFault.{StreamFault}
+use Rattle.tcc_check.specs.declared.stream_fault.StreamFault.TheVariants as stream
 use Rattle.tcc_answer.specs.Claims.{certificate_of}
 use Rattle.tcc_answer.specs.declared.answer.Answer.{Answer}
 use Rattle.tcc_run.specs.declared.halt.Halt.{Halt}
 use Rattle.tcc_run.specs.declared.halt.Halt.TheVariants.{Row, Reads, Text, NoMemory}
-use Rattle.tcc_run.specs.declared.judged.Judged.{Judged}
+use Rattle.tcc_check.specs.declared.judgement.Judgement.{Judgement}
 use Rattle.tcc_run.specs.declared.status.Status.{Status}
 use Rattle.tcc_run.specs.declared.status.Status.TheVariants.{Device, Memory}
 use Rattle.tcc_run.specs.declared.options.Options.{Options}
@@ -42,13 +41,10 @@ is_memory _ = false
 abbrev pub by_row : RowFault → Halt
 by_row fault = if is_memory fault.kind then NoMemory else Row fault
 
-abbrev pub is_want_of_memory : CertFaultKind → Bool
-is_want_of_memory text_kind.NoMemory = true
-is_want_of_memory _ = false
-
 -- want of memory stands by itself, and other faults with their lines
-abbrev pub by_text : CertFault → Halt
-by_text fault = if is_want_of_memory fault.kind then NoMemory else Text fault
+abbrev pub by_stream : StreamFault → Halt
+by_stream (stream.Text fault) = Text fault
+by_stream stream.NoMemory = NoMemory
 
 -- all read faults, or want of memory
 abbrev pub unresolved_by : ResolveFault → Halt
@@ -84,7 +80,7 @@ count_at entries i = option_map_or (λ named. length named.1) (slice_get entries
 -- ---- what goes out
 
 -- what comes of the certificate's text for a history, or want of memory
-abbrev pub MayBeTextCheck : History → List ℕ → Result Judged Halt → Type 0
+abbrev pub MayBeTextCheck : History → List ℕ → Result Judgement Halt → Type 0
 MayBeTextCheck h text o = IsTextCheck h text o ⊎ (o ≡ Err NoMemory)
 
 -- a writer failed: a part of the text, from its front, went out

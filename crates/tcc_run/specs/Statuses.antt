@@ -10,7 +10,7 @@ use Rattle.tcc_cert.specs.declared.fault.CertFaultKind.{CertFaultKind}
 use Rattle.tcc_cert.specs.declared.fault.CertFaultKind.TheVariants as text_kind
 use Rattle.tcc_check.specs.declared.verdict.Verdict.{Verdict}
 use Rattle.tcc_check.specs.declared.verdict.Verdict.TheVariants as verdict
-use Rattle.tcc_run.specs.declared.judged.Judged.{Judged}
+use Rattle.tcc_check.specs.declared.judgement.Judgement.{Judgement}
 use Rattle.tcc_run.specs.declared.halt.Halt.{Halt}
 use Rattle.tcc_run.specs.declared.halt.Halt.TheVariants as halt
 
@@ -81,6 +81,6 @@ halt_status (halt.Text fault) = certificate_status fault.kind
 halt_status halt.NoMemory = Memory
 
 -- how a run of check ends with this outcome
-abbrev pub check_status : Result Judged Halt → Status
+abbrev pub check_status : Result Judgement Halt → Status
 check_status (Ok judged) = verdict_status judged.verdict
 check_status (Err why) = halt_status why

@@ -6,12 +6,12 @@ use Rattle.tcc_txn.specs.declared.rows.RowFaultKind.TheVariants.{FieldCount, Bad
 use Rattle.tcc_reads.specs.declared.fault.ReadFault.{ReadFault}
 use Rattle.tcc_reads.specs.declared.fault.ReadFaultKind.{ReadFaultKind}
 use Rattle.tcc_reads.specs.declared.fault.ReadFaultKind.TheVariants.{Duplicate, BrokenInternal, ThinAir, Aborted, Intermediate, Future}
-use Rattle.tcc_cert.specs.declared.certificate.Certificate.{Certificate}
-use Rattle.tcc_cert.specs.declared.certificate.Certificate.TheVariants as claim
 use Rattle.tcc_cert.specs.declared.fault.CertFault.{CertFault}
 use Rattle.tcc_cert.specs.declared.fault.CertFaultKind.{CertFaultKind}
 use Rattle.tcc_cert.specs.declared.fault.CertFaultKind.TheVariants as text_kind
 use Rattle.tcc_check.specs.Verdicts.{rule_number}
+use Rattle.tcc_check.specs.declared.judgement.Claim.{Claim}
+use Rattle.tcc_check.specs.declared.judgement.Claim.TheVariants as claim
 use Rattle.tcc_check.specs.declared.verdict.Rule.{Rule}
 use Rattle.tcc_check.specs.declared.verdict.Verdict.{Verdict}
 use Rattle.tcc_check.specs.declared.verdict.Verdict.TheVariants as verdict
@@ -90,16 +90,16 @@ abbrev pub certificate_fault_text : CertFault → List ℕ
 certificate_fault_text fault = codes "certificate line " ++ (decimal fault.line ++ (codes ": " ++ (certificate_word fault.kind ++ codes "\n")))
 
 -- accepted: order, or accepted: cycle, L steps
-abbrev pub accepted_text : Certificate → List ℕ
-accepted_text (claim.Order version level order sessions clocks) = codes "accepted: order\n"
-accepted_text (claim.Cycle version level links least near far) = codes "accepted: cycle, " ++ (decimal least ++ codes " steps\n")
+abbrev pub accepted_text : Claim → List ℕ
+accepted_text claim.Order = codes "accepted: order\n"
+accepted_text (claim.Cycle least) = codes "accepted: cycle, " ++ (decimal least ++ codes " steps\n")
 
 -- rejected: rule K at I J
 abbrev pub rejected_text : Rule → ℕ × ℕ → List ℕ
 rejected_text rule at =
     codes "rejected: rule " ++ (decimal (rule_number rule) ++ (codes " at " ++ (decimal at.0 ++ (codes " " ++ (decimal at.1 ++ codes "\n")))))
 
-abbrev pub verdict_text : Certificate → Verdict → List ℕ
+abbrev pub verdict_text : Claim → Verdict → List ℕ
 verdict_text k verdict.Accepted = accepted_text k
 verdict_text k (verdict.Rejected rule at) = rejected_text rule at
 

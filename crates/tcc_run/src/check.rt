@@ -4,13 +4,11 @@ ghost use Rattle.tcc_run.specs.Checks.{IsCheckRun, IsShown, MayBeCheck, PrintsSo
 ghost use Rattle.tcc_run.specs.Stages.{IsHistoryOf, MayBeTextCheck};
 
 use crate::halt::Halt;
-use crate::judged::Judged;
 use crate::printing::print_check;
 use std::alloc::Global;
 use std::io::{Read, Write};
-use tcc_cert::read;
-use tcc_check::check;
 use tcc_check::laws::certified;
+use tcc_check::{Judgement, judge_stream};
 use tcc_graph::Graph;
 use tcc_reads::resolve;
 use tcc_txn::snapshot_of;
@@ -25,16 +23,12 @@ fn history_of<R: Read + Drop>(alloc: Global, reader: R) -> Result<Graph, Halt>
     Ok(graph)
 }
 
-/// The verdict on the certificate whose text the reader gives.
-fn judged<R: Read + Drop>(alloc: Global, graph: &Graph, reader: R) -> Result<Judged, Halt>
+/// What the certificate claims whose text the reader gives, and the verdict on it. The text is judged as it comes.
+fn judged<R: Read + Drop>(alloc: Global, graph: &Graph, reader: R) -> Result<Judgement, Halt>
     ensures { IfSome (R.remaining reader) (λ text. MayBeTextCheck graph.now text result) }
 {
-    let certificate = read(alloc, reader)?;
-    let verdict = check(alloc, graph, &certificate)?;
-    Ok(Judged {
-        certificate,
-        verdict,
-    })
+    let judgement = judge_stream(alloc, graph, reader)?;
+    Ok(judgement)
 }
 
 /// The verdict on the certificate for the history, or the first fault of the two.
@@ -42,7 +36,7 @@ fn checked<H: Read + Drop, C: Read + Drop>(
     alloc: Global,
     history: H,
     certificate: C,
-) -> Result<Judged, Halt>
+) -> Result<Judgement, Halt>
     ensures { IfSome (H.remaining history) (λ records. IfSome (C.remaining certificate) (λ text. MayBeCheck records text result)) }
 {
     let graph = history_of(alloc, history)?;

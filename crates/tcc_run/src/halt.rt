@@ -1,9 +1,10 @@
 //! Why a run has no answer or no verdict.
 ghost use Rattle.std.specs.Prelude.{◌≡◌};
-ghost use Rattle.tcc_run.specs.Stages.{by_row, by_text, unresolved_by};
+ghost use Rattle.tcc_run.specs.Stages.{by_row, by_stream, unresolved_by};
 ghost use Rattle.tcc_run.specs.declared.halt.Halt.TheVariants as halt;
 
-use tcc_cert::{CertFault, CertFaultKind};
+use tcc_cert::CertFault;
+use tcc_check::StreamFault;
 use tcc_reads::{ReadFault, ResolveFault};
 use tcc_txn::{NoMemory, RowFault, RowFaultKind};
 
@@ -50,13 +51,13 @@ impl From<ResolveFault> for Halt {
     }
 }
 
-impl From<CertFault> for Halt {
-    ghost from_gives = { λ fault h. h ≡ by_text fault };
+impl From<StreamFault> for Halt {
+    ghost from_gives = { λ fault h. h ≡ by_stream fault };
 
-    fn from(fault: CertFault) -> Halt {
-        match fault.kind {
-            CertFaultKind::NoMemory => Halt::NoMemory,
-            _ => Halt::Text(fault),
+    fn from(fault: StreamFault) -> Halt {
+        match fault {
+            StreamFault::Text(fault) => Halt::Text(fault),
+            StreamFault::NoMemory => Halt::NoMemory,
         }
     }
 }

@@ -8,6 +8,7 @@ ghost use Rattle.tcc_reads.specs.Sources.{history};
 ghost use Rattle.tcc_graph.specs.declared.level.Level.{Level};
 ghost use Rattle.tcc_cert.specs.Texts.{certificate_text};
 ghost use Rattle.tcc_cert.specs.declared.certificate.Certificate.{Certificate};
+ghost use Rattle.tcc_check.specs.declared.judgement.Judgement.{Judgement};
 ghost use Rattle.tcc_answer.specs.Claims.{certificate_of};
 ghost use Rattle.tcc_answer.specs.declared.answer.Answer.{Answer};
 ghost use Rattle.tcc_explain.specs.Explained.{IsAnswerOf};
@@ -15,7 +16,6 @@ ghost use Rattle.tcc_run.specs.Checks.{IsCheck, MayBeCheck};
 ghost use Rattle.tcc_run.specs.Closing.{IsAcceptance, acceptance};
 ghost use Rattle.tcc_run.specs.Runs.{IsEnded, IsWhole, Said};
 ghost use Rattle.tcc_run.specs.declared.options.Options.{Options};
-ghost use Rattle.tcc_run.specs.declared.judged.Judged.{Judged};
 ghost use Rattle.tcc_run.specs.declared.halt.Halt.{Halt};
 
 use tcc_txn::laws::finished_is_snapshot;
@@ -30,7 +30,7 @@ pub fn accepted()
     ensures only { (records : List ℕ) (level : Level) (a : Answer) → (answers_of records).fault ≡ None
         → read_faults (finished_in (answers_of records).items) ≡ []
         → IsAnswerOf (record { history = history (finished_in (answers_of records).items); level = level }) a
-        → (o : Result Judged Halt) → MayBeCheck records (certificate_text (certificate_of a)) o
+        → (o : Result Judgement Halt) → MayBeCheck records (certificate_text (certificate_of a)) o
         → IsAcceptance (certificate_of a) o }
 {
     finished_is_snapshot();
@@ -43,7 +43,7 @@ pub fn closes()
         → IsWhole options (answers_of records) said ⊎ IsEnded options records said
         → last_or None said ≡ Some last → last.certificate ≡ Some text
         → (c : Certificate) × IsCheck records text (acceptance c)
-        × ((o : Result Judged Halt) → MayBeCheck records text o → IsAcceptance c o) }
+        × ((o : Result Judgement Halt) → MayBeCheck records text o → IsAcceptance c o) }
 {
     finished_is_snapshot();
 }

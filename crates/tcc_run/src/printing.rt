@@ -7,7 +7,6 @@ ghost use Rattle.tcc_run.specs.Statuses.{check_status, code_of, halt_status};
 
 use crate::halt::Halt;
 use crate::json::{halt_line, unresolved as unresolved_line};
-use crate::judged::Judged;
 use crate::status::{Status, halt_status, verdict_status};
 use crate::texts::{halt_text, unresolved as unresolved_text};
 use crate::verdicts::verdict_text;
@@ -15,6 +14,7 @@ use std::alloc::Global;
 use std::io::Write;
 use tcc_answer::{Answer, WriteFault, write_json, write_text};
 use tcc_cert::sending::send;
+use tcc_check::Judgement;
 use tcc_reads::ReadFault;
 use tcc_txn::NoMemory;
 
@@ -153,7 +153,7 @@ pub fn print_halt<W: Write>(alloc: Global, halt: &Halt, json: bool, out: &mut W)
 
 /// Writes the outcome of a check, and gives the number that the run ends with. Where memory is wanting, that is written in
 /// its place.
-pub fn print_check<W: Write>(alloc: Global, outcome: &Result<Judged, Halt>, out: &mut W) -> u8
+pub fn print_check<W: Write>(alloc: Global, outcome: &Result<Judgement, Halt>, out: &mut W) -> u8
     ensures { PrintsOrMemory false (W.contents out.old) (W.contents out.new) (check_text outcome.now) (check_status outcome.now) result }
 {
     match outcome {

@@ -2,21 +2,19 @@
 ghost use Rattle.std.specs.Prelude.{◌≡◌, IfOk};
 ghost use Rattle.tcc_run.specs.Texts.{accepted_text, rejected_text, verdict_text};
 
-use crate::judged::Judged;
 use std::alloc::Global;
 use tcc_answer::pieces::push;
-use tcc_cert::Certificate;
-use tcc_check::{Rule, Verdict};
+use tcc_check::{Claim, Judgement, Rule, Verdict};
 use tcc_txn::NoMemory;
 
 /// The line of a certificate that was accepted.
-fn accepted(alloc: Global, certificate: &Certificate) -> Result<Vec<u8>, NoMemory>
-    ensures { IfOk result (λ text. text.items ≡ accepted_text certificate.now) }
+fn accepted(alloc: Global, claim: Claim) -> Result<Vec<u8>, NoMemory>
+    ensures { IfOk result (λ text. text.items ≡ accepted_text claim) }
 {
     let mut text = Vec::new(alloc);
-    match certificate {
-        Certificate::Order { .. } => push(&mut text, &[b"accepted: order\n"])?,
-        Certificate::Cycle { least, .. } => {
+    match claim {
+        Claim::Order => push(&mut text, &[b"accepted: order\n"])?,
+        Claim::Cycle { least } => {
             let steps = least.to_string(alloc)?;
             push(
                 &mut text,
@@ -51,11 +49,11 @@ fn rejected(alloc: Global, rule: Rule, at: (u32, u32)) -> Result<Vec<u8>, NoMemo
 }
 
 /// The line of a verdict.
-pub fn verdict_text(alloc: Global, judged: &Judged) -> Result<Vec<u8>, NoMemory>
-    ensures { IfOk result (λ text. text.items ≡ verdict_text judged.now.certificate judged.now.verdict) }
+pub fn verdict_text(alloc: Global, judged: &Judgement) -> Result<Vec<u8>, NoMemory>
+    ensures { IfOk result (λ text. text.items ≡ verdict_text judged.now.claim judged.now.verdict) }
 {
     match judged.verdict {
-        Verdict::Accepted => accepted(alloc, &judged.certificate),
+        Verdict::Accepted => accepted(alloc, judged.claim),
         Verdict::Rejected { rule, at } => rejected(alloc, rule, at),
     }
 }
