@@ -8,8 +8,6 @@ mod bound;
 mod known;
 mod rule;
 mod seat;
-#[cfg(test)]
-mod tests;
 
 pub use bound::Bound;
 pub use seat::Seat;

@@ -11,8 +11,3 @@ mod settled;
 pub use search::Search;
 pub use seeding::seed;
 pub use settled::Settled;
-
-#[cfg(test)]
-mod fast_tests;
-#[cfg(test)]
-mod tests;

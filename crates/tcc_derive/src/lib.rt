@@ -17,6 +17,3 @@ pub use derivation::derive;
 pub use reasons::reason;
 pub use tables::Prices;
 pub use walking::first_name;
-
-#[cfg(test)]
-mod tests;

@@ -15,6 +15,3 @@ pub use clock::Clocks;
 pub use distances::{NONE, Near};
 pub use row::Row;
 pub use search::near;
-
-#[cfg(test)]
-mod tests;

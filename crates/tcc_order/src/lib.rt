@@ -6,6 +6,3 @@ mod numbering;
 mod ordering;
 
 pub use ordering::order;
-
-#[cfg(test)]
-mod tests;

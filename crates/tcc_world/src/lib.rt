@@ -10,6 +10,3 @@ mod world;
 
 pub use event::{Event, RunFault, StepFault};
 pub use world::World;
-
-#[cfg(test)]
-mod tests;

@@ -254,8 +254,8 @@ impl World {
         Ok(())
     }
 
-    /// How many starts there are.
-    pub(crate) fn starts(&self) -> u32
+    /// How many starts there are: as many as the prices have transactions, which `step` and `run` want.
+    pub fn starts(&self) -> u32
         ensures { result ≡ self.now.starts }
     {
         self.starts

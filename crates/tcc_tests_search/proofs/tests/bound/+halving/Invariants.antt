@@ -1,5 +1,5 @@
 use Rattle.std.proofs.Common.{◌+◌, ◌*◌, length}
-use Rattle.tcc_bound.proofs.tests.+halving.Given as goal
+use Rattle.tcc_tests_search.proofs.tests.bound.+halving.Given as goal
 
 abbrev pub decreases-join+arg2 : goal.decreases-join+arg2
 decreases-join+arg2 g l = 2 * length l.left.now + 1

@@ -1,48 +1,10 @@
 //! Searches over worked histories, with distances worked out by hand.
-use crate::{Search, Settled};
+use crate::tests::histories::{LONG_WALK, ONE_READ, STALE_READ, TWO_WRITERS, priced};
 use std::alloc::Global;
 use std::process::Abort;
 use std::thread::Threads;
-use tcc_derive::{Prices, derive};
-use tcc_graph::{Graph, Level};
-use tcc_near::near;
-use tcc_reads::resolve;
-use tcc_txn::{NoMemory, snapshot_of};
-
-/// a/1 writes x, and a/2 reads the initial value of x: a/1 has to stand before `init`, which costs 2, and every other
-/// link costs 1.
-const STALE_READ: &str = "a,begin\na,w,x,1\na,commit\na,begin\na,r,x,0\na,commit\n";
-
-/// a/1 and b/1 write x, and c/1 reads both values: each writer has to stand before the other, at a cost of 2. No link
-/// leads to `init`.
-const WRITERS_BEFORE_EACH_OTHER: &str = "a,begin\na,w,x,1\na,commit\nb,begin\nb,w,x,2\nb,commit\n\
-    c,begin\nc,r,x,1\nc,r,x,2\nc,commit\n";
-
-/// The link from `init` to the reader of a/1 costs less than the way over a/1, which joins first.
-const TWO_WAYS: &str = "a,begin\na,w,x,1\na,commit\nb,begin\nb,r,x,1\nb,commit\n";
-
-/// a/1 writes x, b/1 passes it on, and c/1 has it from b/1, but reads the initial value of x: a/1 has to stand before
-/// `init` by a walk of two pairs, which costs 3, and which `Atomic` does not allow.
-const LONG_WALK: &str = "a,begin\na,w,x,1\na,commit\nb,begin\nb,r,x,1\nb,w,y,1\nb,commit\n\
-    c,begin\nc,r,y,1\nc,r,x,0\nc,commit\n";
-
-/// The graph of these records.
-fn graph_of(alloc: Global, records: &str) -> Option<Graph> {
-    let snapshot = snapshot_of(alloc, records.as_bytes()).ok()?;
-    let resolved = resolve(alloc, &snapshot).ok()?;
-    Graph::build(alloc, &resolved).ok()
-}
-
-/// The prices of a graph at a level.
-fn prices_of(
-    rt: &(impl Threads + Sync),
-    alloc: Global,
-    graph: &Graph,
-    level: Level,
-) -> Result<Prices, NoMemory> {
-    let near = near(rt, alloc, graph, level)?;
-    derive(rt, alloc, graph, &near)
-}
+use tcc_core::{Search, Settled};
+use tcc_graph::Level;
 
 /// Steps of a search: each has a cap, what it has to answer, and the row from the start upward that it has to leave,
 /// where the definitions settle that.
@@ -57,12 +19,7 @@ fn assert_steps(
     start: u32,
     steps: Steps<'_>,
 ) {
-    let Some(graph) = graph_of(alloc, records) else {
-        panic!(rt; "no graph of {records}");
-    };
-    let Ok(prices) = prices_of(rt, alloc, &graph, level) else {
-        panic!(rt; "no memory");
-    };
+    let prices = priced(rt, alloc, records, level);
     assert!(rt; start < prices.count());
     let Ok(mut search) = Search::begin(alloc, &prices, start) else {
         panic!(rt; "no memory");
@@ -107,12 +64,13 @@ fn steps_from_init(rt: HostRuntime) {
         assert_steps(&rt, alloc, STALE_READ, level, 0, &whole_at_once);
         assert_steps(&rt, alloc, STALE_READ, level, 0, &by_caps);
     }
+    // The link from `init` to the reader of a/1 costs less than the way over a/1, which joins first.
     let two_ways = [
         (u64::MAX, Settled::More, None),
         (u64::MAX, Settled::More, Some(near)),
         (u64::MAX, Settled::Cut(u64::MAX), Some(near)),
     ];
-    assert_steps(&rt, alloc, TWO_WAYS, Level::Causal, 0, &two_ways);
+    assert_steps(&rt, alloc, ONE_READ, Level::Causal, 0, &two_ways);
 }
 
 /// From a/1 upward nothing comes back over `init`, and no link leads on from a/2. Of two writers that have to stand
@@ -139,7 +97,7 @@ fn steps_upward(rt: HostRuntime) {
             ],
         ),
         (
-            WRITERS_BEFORE_EACH_OTHER,
+            TWO_WRITERS,
             1,
             &[
                 (3, Settled::More, Some(&[None, None, Some(1)])),
@@ -150,7 +108,7 @@ fn steps_upward(rt: HostRuntime) {
             ],
         ),
         (
-            WRITERS_BEFORE_EACH_OTHER,
+            TWO_WRITERS,
             2,
             &[
                 (u64::MAX, Settled::More, Some(&[None, Some(1)])),

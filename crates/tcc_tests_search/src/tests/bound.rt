@@ -1,10 +1,11 @@
+//! Seats of the bound, one after another and in threads of their own.
 ghost use Rattle.std.specs.Prelude.{◌≡◌, IfOk};
 ghost use denote.Param.Send.{IsSync};
 
-use crate::{Bound, NoMemory, Seat};
 use std::alloc::Global;
 use std::test::Fail;
 use std::thread::{Threads, join};
+use tcc_bound::{Bound, NoMemory, Seat};
 
 // A bound whose floor is 0, so that every cost may be offered.
 fn open(alloc: Global) -> Result<(Bound, Seat), NoMemory>

@@ -1,31 +1,15 @@
 //! Seeds and renewed searches, worked out by hand.
-use crate::{Search, Settled, seed};
+use crate::tests::histories::{
+    LONG_WALK, ONE_READ, STALE_READ, TWO_WRITERS, graph_of, near_of, priced, prices_of,
+};
 use std::alloc::Global;
 use std::process::Abort;
 use std::thread::Threads;
-use tcc_derive::derive;
-use tcc_graph::{Graph, Level};
-use tcc_near::near;
-use tcc_reads::resolve;
-use tcc_txn::snapshot_of;
-
-/// a/1 writes x, and a/2 reads the initial value of x: a/1 has to stand before `init`, which costs 2, and a step leads
-/// from `init` to it.
-const STALE_READ: &str = "a,begin\na,w,x,1\na,commit\na,begin\na,r,x,0\na,commit\n";
-
-/// Each of a/1 and b/1 has to stand before the other, which costs 2 both times, but no walk leads between them.
-const TWO_DERIVED: &str = "a,begin\na,w,x,1\na,commit\nb,begin\nb,w,x,2\nb,commit\n\
-    c,begin\nc,r,x,1\nc,r,x,2\nc,commit\n";
-
-/// a/1 has to stand before `init` by a walk of two pairs, which `Atomic` does not allow.
-const LONG_WALK: &str = "a,begin\na,w,x,1\na,commit\nb,begin\nb,r,x,1\nb,w,y,1\nb,commit\n\
-    c,begin\nc,r,y,1\nc,r,x,0\nc,commit\n";
+use tcc_core::{Search, Settled, seed};
+use tcc_graph::Level;
 
 /// a/1 reads from b/1 and b/1 from a/1: a walk of two steps, which `Atomic` does not allow, ends where it began.
 const ROUND: &str = "a,begin\na,r,y,1\na,w,x,1\na,commit\nb,begin\nb,r,x,1\nb,w,y,1\nb,commit\n";
-
-/// b/1 reads from a/1, and nothing leads back.
-const CONSISTENT: &str = "a,begin\na,w,x,1\na,commit\nb,begin\nb,r,x,1\nb,commit\n";
 
 /// Takes the seed of a history.
 fn assert_seed(
@@ -35,23 +19,10 @@ fn assert_seed(
     level: Level,
     wanted: Option<u32>,
 ) {
-    let Some(graph) = graph_of(alloc, records) else {
-        panic!(rt; "no graph of {records}");
-    };
-    let Ok(near) = near(rt, alloc, &graph, level) else {
-        panic!(rt; "no memory");
-    };
-    let Ok(prices) = derive(rt, alloc, &graph, &near) else {
-        panic!(rt; "no memory");
-    };
+    let graph = graph_of(rt, alloc, records);
+    let near = near_of(rt, alloc, &graph, level);
+    let prices = prices_of(rt, alloc, &graph, &near);
     assert!(rt; seed(&near, &prices) == wanted, "of {records}");
-}
-
-/// The graph of these records.
-fn graph_of(alloc: Global, records: &str) -> Option<Graph> {
-    let snapshot = snapshot_of(alloc, records.as_bytes()).ok()?;
-    let resolved = resolve(alloc, &snapshot).ok()?;
-    Graph::build(alloc, &resolved).ok()
 }
 
 /// A cycle of two derived links gives no seed.
@@ -60,10 +31,10 @@ fn seeds(rt: HostRuntime) {
     let alloc = rt.alloc();
     let cases = [
         (STALE_READ, Some(3), Some(3)),
-        (TWO_DERIVED, None, None),
+        (TWO_WRITERS, None, None),
         (LONG_WALK, Some(4), None),
         (ROUND, Some(2), None),
-        (CONSISTENT, None, None),
+        (ONE_READ, None, None),
     ];
     for (records, causal, atomic) in cases {
         assert_seed(&rt, alloc, records, Level::Causal, causal);
@@ -76,15 +47,7 @@ fn seeds(rt: HostRuntime) {
 #[test]
 fn renewed(rt: HostRuntime) {
     let alloc = rt.alloc();
-    let Some(graph) = graph_of(alloc, STALE_READ) else {
-        panic!(rt; "no graph");
-    };
-    let Ok(near) = near(&rt, alloc, &graph, Level::Causal) else {
-        panic!(rt; "no memory");
-    };
-    let Ok(prices) = derive(&rt, alloc, &graph, &near) else {
-        panic!(rt; "no memory");
-    };
+    let prices = priced(&rt, alloc, STALE_READ, Level::Causal);
     assert!(rt; prices.count() == 3);
     let Ok(mut search) = Search::begin(alloc, &prices, 2) else {
         panic!(rt; "no memory");

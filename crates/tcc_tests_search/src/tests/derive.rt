@@ -1,34 +1,21 @@
 //! Worked histories, with prices and reasons worked out by hand.
-use crate::{Prices, derive, first_name, reason};
+use crate::tests::histories::{
+    CHAIN, MUTUAL, STALE_READ, TWO_WRITERS, graph_of, is_level, near_of, prices_of,
+};
 use std::alloc::Global;
 use std::process::Abort;
 use std::thread::Threads;
-use tcc_graph::{Graph, Level, Link, Step, Walk};
-use tcc_near::{NONE, near};
-use tcc_reads::resolve;
-use tcc_txn::{Name, snapshot_of};
+use tcc_derive::{first_name, reason};
+use tcc_graph::{Level, Link, Step, Walk};
+use tcc_near::NONE;
+use tcc_txn::Name;
 
 /// A step, from and to, with its key; a session step has an empty one.
 type Path<'a> = &'a [(u32, u32, &'a str)];
 
-/// a/1 writes x, a/2 reads the initial value of x.
-const STALE_READ: &str = "a,begin\na,w,x,1\na,commit\na,begin\na,r,x,0\na,commit\n";
-
 /// b/1 reads one of two writes of a/1, and the initial value that the other overwrote.
 const FRACTURED: &str =
     "a,begin\na,w,x,1\na,w,y,1\na,commit\nb,begin\nb,r,x,1\nb,r,y,0\nb,commit\n";
-
-/// A chain of reads leads from the writer of x to a reader of its initial value.
-const CHAIN: &str = "a,begin\na,w,x,1\na,commit\nb,begin\nb,r,x,1\nb,w,y,1\nb,commit\n\
-    c,begin\nc,r,y,1\nc,commit\nc,begin\nc,r,x,0\nc,commit\n";
-
-/// c/1 reads the values of two writers of x.
-const TWO_WRITERS: &str = "a,begin\na,w,x,1\na,commit\nb,begin\nb,w,x,2\nb,commit\n\
-    c,begin\nc,r,x,1\nc,r,x,2\nc,commit\n";
-
-/// Two transactions read from each other: a reader may be the writer itself, which a cycle of reads leads back to.
-const MUTUAL: &str =
-    "a,begin\na,r,x,0\na,r,y,1\na,w,x,1\na,commit\nb,begin\nb,r,x,1\nb,w,y,1\nb,commit\n";
 
 /// Of two readers of the initial value of x the one with the greater number is nearer to the writer.
 const TWO_READERS: &str = "a,begin\na,r,z,1\na,commit\na,begin\na,r,x,0\na,commit\n\
@@ -56,20 +43,6 @@ const TWO_STEPS: &str =
     c,begin\nc,r,q,1\nc,r,p,1\nc,w,v,1\nc,commit\nd,begin\nd,w,v,2\nd,w,r,1\nd,w,m,1\nd,commit\n\
     e,begin\ne,r,r,1\ne,r,m,1\ne,r,v,0\ne,commit\n";
 
-/// The graph of these records.
-fn graph_of(alloc: Global, records: &str) -> Option<Graph> {
-    let snapshot = snapshot_of(alloc, records.as_bytes()).ok()?;
-    let resolved = resolve(alloc, &snapshot).ok()?;
-    Graph::build(alloc, &resolved).ok()
-}
-
-fn is_level(level: Level, wanted: Level) -> bool {
-    match (level, wanted) {
-        (Level::Causal, Level::Causal) | (Level::Atomic, Level::Atomic) => true,
-        _ => false,
-    }
-}
-
 /// What a list of wanted numbers has for a pair.
 fn wanted_at(wanted: &[(u32, u32, u32)], from: u32, to: u32) -> Option<u32> {
     for (a, b, number) in wanted {
@@ -80,39 +53,30 @@ fn wanted_at(wanted: &[(u32, u32, u32)], from: u32, to: u32) -> Option<u32> {
     None
 }
 
-/// At this level the prices and the costs are these, from and to, and no others.
+/// At this level the prices are these, from and to, and no others: at `Atomic` those of one step, which are 2. A link
+/// costs 1 between these pairs, and between others its price.
 fn assert_tables(
     rt: &(impl Abort + Threads + Sync),
     alloc: Global,
     level: Level,
     records: &str,
+    pairs: &[(u32, u32)],
     wanted: &[(u32, u32, u32)],
-    costs: &[(u32, u32, u32)],
 ) {
-    let Some(graph) = graph_of(alloc, records) else {
-        panic!(rt; "no graph of {records}");
-    };
-    let Ok(near) = near(rt, alloc, &graph, level) else {
-        panic!(rt; "no memory");
-    };
-    let Ok(prices) = derive(rt, alloc, &graph, &near) else {
-        panic!(rt; "no memory");
-    };
+    let graph = graph_of(rt, alloc, records);
+    let near = near_of(rt, alloc, &graph, level);
+    let prices = prices_of(rt, alloc, &graph, &near);
     assert!(rt; is_level(prices.level(), level), "of {records}");
     for from in 0..prices.count() {
         for to in 0..prices.count() {
-            assert_eq!(rt;
-                prices.price(from, to),
-                wanted_at(wanted, from, to),
-                "of {records}"
-            );
-            assert_eq!(rt;
-                prices.cost(from, to),
-                wanted_at(costs, from, to),
-                "of {records}"
-            );
+            let price = wanted_at(wanted, from, to).filter(|price| *price == 2
+                || is_level(level, Level::Causal));
+            let is_pair = pairs.iter().any(|pair| *pair == (from, to));
+            let cost = if is_pair { Some(1) } else { price };
+            assert_eq!(rt; prices.price(from, to), price, "of {records}");
+            assert_eq!(rt; prices.cost(from, to), cost, "of {records}");
             let none = prices.costs(from)[to as usize] == NONE;
-            assert_eq!(rt; none, prices.cost(from, to).is_none());
+            assert_eq!(rt; none, cost.is_none());
         }
     }
 }
@@ -167,12 +131,8 @@ fn assert_reason(
     a: u32,
     wanted: Option<(&str, u32, Path<'_>)>,
 ) {
-    let Some(graph) = graph_of(alloc, records) else {
-        panic!(rt; "no graph of {records}");
-    };
-    let Ok(near) = near(rt, alloc, &graph, level) else {
-        panic!(rt; "no memory");
-    };
+    let graph = graph_of(rt, alloc, records);
+    let near = near_of(rt, alloc, &graph, level);
     assert!(rt; b < graph.count());
     assert!(rt; a < graph.count());
     let Ok(found) = reason(alloc, &graph, &near, b, a) else {
@@ -184,100 +144,37 @@ fn assert_reason(
 #[test]
 fn least_prices_and_costs(rt: HostRuntime) {
     let alloc = rt.alloc();
-    let cases: [(&str, &[(u32, u32, u32)], &[(u32, u32, u32)]); 6] = [
+    let cases: [(&str, &[(u32, u32)], &[(u32, u32, u32)]); 6] = [
         (
             FRACTURED,
+            &[(0, 1), (0, 2), (1, 2)],
             &[(0, 1, 2), (1, 0, 2)],
-            &[(0, 1, 1), (0, 2, 1), (1, 2, 1), (1, 0, 2)],
         ),
-        (
-            STALE_READ,
-            &[(1, 0, 2)],
-            &[(0, 1, 1), (0, 2, 1), (1, 2, 1), (1, 0, 2)],
-        ),
+        (STALE_READ, &[(0, 1), (0, 2), (1, 2)], &[(1, 0, 2)]),
         (
             CHAIN,
+            &[(0, 1), (0, 2), (0, 3), (0, 4), (1, 2), (2, 3), (3, 4)],
             &[(0, 1, 2), (0, 2, 2), (1, 0, 4)],
-            &[
-                (0, 1, 1),
-                (0, 2, 1),
-                (0, 3, 1),
-                (0, 4, 1),
-                (1, 2, 1),
-                (2, 3, 1),
-                (3, 4, 1),
-                (1, 0, 4),
-            ],
         ),
         (
             TWO_WRITERS,
+            &[(0, 1), (0, 2), (0, 3), (1, 3), (2, 3)],
             &[(0, 1, 2), (0, 2, 2), (1, 2, 2), (2, 1, 2)],
-            &[
-                (0, 1, 1),
-                (0, 2, 1),
-                (0, 3, 1),
-                (1, 3, 1),
-                (2, 3, 1),
-                (1, 2, 2),
-                (2, 1, 2),
-            ],
         ),
         (
             MUTUAL,
+            &[(0, 1), (0, 2), (1, 2), (2, 1)],
             &[(0, 1, 2), (0, 2, 2), (1, 0, 3)],
-            &[(0, 1, 1), (0, 2, 1), (1, 2, 1), (2, 1, 1), (1, 0, 3)],
         ),
         (
             TWO_READERS,
+            &[(0, 1), (0, 2), (0, 3), (0, 4), (1, 2), (3, 1), (3, 4)],
             &[(3, 0, 2), (0, 3, 2)],
-            &[
-                (0, 1, 1),
-                (0, 2, 1),
-                (0, 3, 1),
-                (0, 4, 1),
-                (1, 2, 1),
-                (3, 1, 1),
-                (3, 4, 1),
-                (3, 0, 2),
-            ],
         ),
     ];
-    for (records, wanted, costs) in cases {
-        assert_tables(&rt, alloc, Level::Causal, records, wanted, costs);
-    }
-}
-
-/// At `Atomic` a price is 2 or none, and the costs of causal pairs stay.
-#[test]
-fn atomic_prices_and_costs(rt: HostRuntime) {
-    let alloc = rt.alloc();
-    let cases: [(&str, &[(u32, u32, u32)], &[(u32, u32, u32)]); 3] = [
-        (
-            FRACTURED,
-            &[(0, 1, 2), (1, 0, 2)],
-            &[(0, 1, 1), (0, 2, 1), (1, 2, 1), (1, 0, 2)],
-        ),
-        (
-            CHAIN,
-            &[(0, 1, 2), (0, 2, 2)],
-            &[
-                (0, 1, 1),
-                (0, 2, 1),
-                (0, 3, 1),
-                (0, 4, 1),
-                (1, 2, 1),
-                (2, 3, 1),
-                (3, 4, 1),
-            ],
-        ),
-        (
-            MUTUAL,
-            &[(0, 1, 2), (0, 2, 2)],
-            &[(0, 1, 1), (0, 2, 1), (1, 2, 1), (2, 1, 1)],
-        ),
-    ];
-    for (records, wanted, costs) in cases {
-        assert_tables(&rt, alloc, Level::Atomic, records, wanted, costs);
+    for (records, pairs, wanted) in cases {
+        assert_tables(&rt, alloc, Level::Causal, records, pairs, wanted);
+        assert_tables(&rt, alloc, Level::Atomic, records, pairs, wanted);
     }
 }
 

@@ -1,32 +1,10 @@
 //! Worked histories, with their first commit orders worked out by hand.
-use crate::order;
+use crate::tests::histories::{LONG_WALK, STALE_READ, priced};
 use std::alloc::Global;
 use std::process::Abort;
 use std::thread::Threads;
-use tcc_derive::derive;
-use tcc_graph::{Graph, Level};
-use tcc_near::near;
-use tcc_reads::resolve;
-use tcc_txn::{NoMemory, snapshot_of};
-
-/// The graph of these records.
-fn graph_of(alloc: Global, records: &str) -> Option<Graph> {
-    let snapshot = snapshot_of(alloc, records.as_bytes()).ok()?;
-    let resolved = resolve(alloc, &snapshot).ok()?;
-    Graph::build(alloc, &resolved).ok()
-}
-
-/// The first commit order at a level, none where there is a cycle.
-fn order_of(
-    rt: &(impl Threads + Sync),
-    alloc: Global,
-    graph: &Graph,
-    level: Level,
-) -> Result<Option<Vec<u32>>, NoMemory> {
-    let near = near(rt, alloc, graph, level)?;
-    let prices = derive(rt, alloc, graph, &near)?;
-    order(alloc, &prices)
-}
+use tcc_graph::Level;
+use tcc_order::order;
 
 /// The first commit order of these records at a level has to be this, or there has to be none.
 fn assert_order(
@@ -36,10 +14,8 @@ fn assert_order(
     level: Level,
     wanted: Option<&[u32]>,
 ) {
-    let Some(graph) = graph_of(alloc, records) else {
-        panic!(rt; "no graph of {records}");
-    };
-    let Ok(found) = order_of(rt, alloc, &graph, level) else {
+    let prices = priced(rt, alloc, records, level);
+    let Ok(found) = order(alloc, &prices) else {
         panic!(rt; "no memory");
     };
     match found {
@@ -90,17 +66,8 @@ fn first_orders(rt: HostRuntime) {
             Some(&[0, 2, 1, 3, 4]),
             Some(&[0, 1, 2, 3, 4]),
         ),
-        (
-            "a,begin\na,w,x,1\na,commit\na,begin\na,r,x,0\na,commit\n",
-            None,
-            None,
-        ),
-        (
-            "a,begin\na,w,x,1\na,commit\nb,begin\nb,r,x,1\nb,w,y,1\nb,commit\n\
-            c,begin\nc,r,y,1\nc,r,x,0\nc,commit\n",
-            None,
-            Some(&[0, 1, 2, 3]),
-        ),
+        (STALE_READ, None, None),
+        (LONG_WALK, None, Some(&[0, 1, 2, 3])),
         (
             "a,begin\na,w,x,1\na,r,y,1\na,commit\nb,begin\nb,w,y,1\nb,r,x,1\nb,commit\n",
             None,

@@ -1,52 +1,16 @@
 //! Runs of the machine over worked histories.
-use crate::{Event, RunFault, StepFault, World};
+use crate::tests::histories::{ONE_READ, STALE_READ, TWO_WRITERS, priced};
 use std::alloc::Global;
 use std::process::Abort;
 use std::test::Fail;
-use std::thread::Threads;
-use tcc_derive::{Prices, derive};
-use tcc_graph::{Graph, Level};
-use tcc_near::near;
-use tcc_reads::resolve;
-use tcc_txn::{NoMemory, snapshot_of};
-
-/// a/1 writes x, and a/2 reads the initial value of x: the least cycle, over `init`, costs 3.
-const STALE_READ: &str = "a,begin\na,w,x,1\na,commit\na,begin\na,r,x,0\na,commit\n";
-
-/// a/1 and b/1 write x, and c/1 reads both values: the least cycle costs 4, and starts at a/1.
-const WRITERS_BEFORE_EACH_OTHER: &str = "a,begin\na,w,x,1\na,commit\nb,begin\nb,w,x,2\nb,commit\n\
-    c,begin\nc,r,x,1\nc,r,x,2\nc,commit\n";
+use tcc_derive::Prices;
+use tcc_graph::Level;
+use tcc_world::Event::{End, Look, Offer, Settle, Take};
+use tcc_world::{Event, RunFault, StepFault, World};
 
 /// The stale read twice, in two sessions.
 const TWO_STALE_READS: &str = "a,begin\na,w,x,1\na,commit\na,begin\na,r,x,0\na,commit\n\
     b,begin\nb,w,y,1\nb,commit\nb,begin\nb,r,y,0\nb,commit\n";
-
-/// b/1 reads what a/1 wrote: no cycle.
-const NO_CYCLE: &str = "a,begin\na,w,x,1\na,commit\nb,begin\nb,r,x,1\nb,commit\n";
-
-/// The graph of these records.
-fn graph_of(alloc: Global, records: &str) -> Option<Graph> {
-    let snapshot = snapshot_of(alloc, records.as_bytes()).ok()?;
-    let resolved = resolve(alloc, &snapshot).ok()?;
-    Graph::build(alloc, &resolved).ok()
-}
-
-/// The prices of a graph.
-fn priced(rt: &(impl Threads + Sync), alloc: Global, graph: &Graph) -> Result<Prices, NoMemory> {
-    let near = near(rt, alloc, graph, Level::Causal)?;
-    derive(rt, alloc, graph, &near)
-}
-
-/// The prices of these records.
-fn prices_of(rt: &(impl Abort + Threads + Sync), alloc: Global, records: &str) -> Prices {
-    let Some(graph) = graph_of(alloc, records) else {
-        panic!(rt; "no graph of {records}");
-    };
-    let Ok(prices) = priced(rt, alloc, &graph) else {
-        panic!(rt; "no memory");
-    };
-    prices
-}
 
 /// The beginning with so many workers.
 fn begin(rt: &impl Abort, alloc: Global, prices: &Prices, workers: u32) -> World {
@@ -80,32 +44,47 @@ fn assert_run(
     assert!(rt; world.run(alloc, prices, events).is_ok());
 }
 
+/// None of these events is enabled, and they leave the word at none.
+fn assert_refused(
+    rt: &impl Abort,
+    alloc: Global,
+    world: &mut World,
+    prices: &Prices,
+    events: &[Event],
+) {
+    for event in events {
+        let refused = step(rt, alloc, world, prices, *event);
+        assert!(rt; refused == Err(StepFault::NotEnabled));
+        assert!(rt; world.word().is_none());
+    }
+}
+
 /// What two workers do on the stale read, up to the offer of the first.
 const FIRST: [Event; 7] = [
-    Event::Take(0, 0),
-    Event::Take(1, 2),
-    Event::Settle(1),
-    Event::End(1),
-    Event::Settle(0),
-    Event::Settle(0),
-    Event::Settle(0),
+    Take(0, 0),
+    Take(1, 2),
+    Settle(1),
+    End(1),
+    Settle(0),
+    Settle(0),
+    Settle(0),
 ];
 
 /// And what they do from it on: start 1 is cut, as nothing comes back to it over numbers from there upward.
 const LAST: [Event; 7] = [
-    Event::Offer(0, 3),
-    Event::End(0),
-    Event::Take(1, 1),
-    Event::Look(1),
-    Event::Settle(1),
-    Event::Settle(1),
-    Event::End(1),
+    Offer(0, 3),
+    End(0),
+    Take(1, 1),
+    Look(1),
+    Settle(1),
+    Settle(1),
+    End(1),
 ];
 
 #[test]
 fn stale_read(rt: HostRuntime) {
     let alloc = rt.alloc();
-    let prices = prices_of(&rt, alloc, STALE_READ);
+    let prices = priced(&rt, alloc, STALE_READ, Level::Causal);
     let mut world = begin(&rt, alloc, &prices, 2);
     assert!(&rt; world.word().is_none());
     assert_eq!(&rt; world.left(), 3);
@@ -113,28 +92,21 @@ fn stale_read(rt: HostRuntime) {
     assert!(&rt; world.word().is_none());
     assert_eq!(&rt; world.left(), 1);
     let refused = [
-        Event::Offer(0, 2),
-        Event::End(0),
-        Event::Settle(0),
-        Event::Take(0, 1),
-        Event::Take(1, 0),
-        Event::Take(1, 2),
-        Event::Take(1, 3),
-        Event::Take(2, 1),
-        Event::Look(1),
-        Event::Settle(1),
-        Event::Offer(1, 3),
-        Event::End(1),
-        Event::Look(2),
-        Event::Settle(2),
-        Event::Offer(2, 3),
-        Event::End(2),
+        Offer(0, 2),
+        End(0),
+        Settle(0),
+        Take(0, 1),
+        Take(1, 0),
+        Take(1, 2),
+        Take(1, 3),
+        Take(2, 1),
     ];
-    for event in refused.iter() {
-        assert!(&rt; step(&rt, alloc, &mut world, &prices, *event) == Err(StepFault::NotEnabled));
-        assert!(&rt; world.word().is_none());
-        assert_eq!(&rt; world.left(), 1);
+    assert_refused(&rt, alloc, &mut world, &prices, &refused);
+    for worker in [1, 2] {
+        let idle = [Look(worker), Settle(worker), Offer(worker, 3), End(worker)];
+        assert_refused(&rt, alloc, &mut world, &prices, &idle);
     }
+    assert_eq!(&rt; world.left(), 1);
     assert_run(&rt, alloc, &mut world, &prices, &LAST);
     assert!(&rt; world.word() == Some(3));
     assert_eq!(&rt; world.left(), 0);
@@ -144,9 +116,9 @@ fn stale_read(rt: HostRuntime) {
 #[test]
 fn stopped_run(rt: HostRuntime) {
     let alloc = rt.alloc();
-    let prices = prices_of(&rt, alloc, STALE_READ);
+    let prices = priced(&rt, alloc, STALE_READ, Level::Causal);
     let mut world = begin(&rt, alloc, &prices, 2);
-    let events = [Event::Take(0, 0), Event::Take(1, 0), Event::Take(1, 1)];
+    let events = [Take(0, 0), Take(1, 0), Take(1, 1)];
     assert!(&rt; world.starts() == prices.count());
     let stopped = world.run(alloc, &prices, &events);
     let wanted = RunFault {
@@ -161,56 +133,58 @@ fn stopped_run(rt: HostRuntime) {
 #[test]
 fn seeded(rt: HostRuntime) {
     let alloc = rt.alloc();
-    let prices = prices_of(&rt, alloc, STALE_READ);
+    let prices = priced(&rt, alloc, STALE_READ, Level::Causal);
     let Ok(mut world) = World::seeded(alloc, &prices, 1, 3) else {
         panic!(&rt; "no memory");
     };
     assert!(&rt; world.word() == Some(3));
     let events = [
-        Event::Take(0, 1),
-        Event::Look(0),
-        Event::Settle(0),
-        Event::Settle(0),
-        Event::End(0),
-        Event::Take(0, 2),
-        Event::Settle(0),
-        Event::End(0),
-        Event::Take(0, 0),
-        Event::Settle(0),
-        Event::Settle(0),
-        Event::Settle(0),
-        Event::Offer(0, 3),
-        Event::End(0),
+        Take(0, 1),
+        Look(0),
+        Settle(0),
+        Settle(0),
+        End(0),
+        Take(0, 2),
+        Settle(0),
+        End(0),
+        Take(0, 0),
+        Settle(0),
+        Settle(0),
+        Settle(0),
+        Offer(0, 3),
+        End(0),
     ];
     assert_run(&rt, alloc, &mut world, &prices, &events);
     assert!(&rt; world.word() == Some(3));
     assert_eq!(&rt; world.left(), 0);
 }
 
-/// One event, if it is enabled: an idle worker takes the start; another looks, or settles or ends, or offers, as the turn
-/// says. Where start and turn are one number, each event that is enabled is one choice of worker and number.
+/// A worker, the start that it takes if it is idle, and else whose turn it is: to look, to settle or end, or to offer.
+type Choice = (u32, u32, u32);
+
+/// One event, if it is enabled. Where start and turn are one number, each event that is enabled is one choice of worker
+/// and number.
 fn act(
     rt: &impl Abort,
     alloc: Global,
     world: &mut World,
     prices: &Prices,
-    worker: u32,
-    start: u32,
-    turn: u32,
+    choice: Choice,
 ) -> bool {
-    if step(rt, alloc, world, prices, Event::Take(worker, start)).is_ok() {
+    let (worker, start, turn) = choice;
+    if step(rt, alloc, world, prices, Take(worker, start)).is_ok() {
         return true;
     }
     if turn == 0 {
-        return step(rt, alloc, world, prices, Event::Look(worker)).is_ok();
+        return step(rt, alloc, world, prices, Look(worker)).is_ok();
     }
     if turn == 1 {
-        return step(rt, alloc, world, prices, Event::Settle(worker)).is_ok()
-            || step(rt, alloc, world, prices, Event::End(worker)).is_ok();
+        return step(rt, alloc, world, prices, Settle(worker)).is_ok()
+            || step(rt, alloc, world, prices, End(worker)).is_ok();
     }
     if turn == 2 {
         for cost in 0..20 {
-            if step(rt, alloc, world, prices, Event::Offer(worker, cost)).is_ok() {
+            if step(rt, alloc, world, prices, Offer(worker, cost)).is_ok() {
                 return true;
             }
         }
@@ -227,14 +201,14 @@ fn search(
     worker: u32,
     start: u32,
 ) {
-    act(rt, alloc, world, prices, worker, start, 0);
+    act(rt, alloc, world, prices, (worker, start, 0));
     for _ in 0..100 {
-        if !act(rt, alloc, world, prices, worker, start, 1) {
+        if !act(rt, alloc, world, prices, (worker, start, 1)) {
             break;
         }
     }
-    act(rt, alloc, world, prices, worker, start, 2);
-    act(rt, alloc, world, prices, worker, start, 1);
+    act(rt, alloc, world, prices, (worker, start, 2));
+    act(rt, alloc, world, prices, (worker, start, 1));
 }
 
 /// The end of a run by a fixed rule: each worker ends what it holds, and then the first takes the starts that are left in
@@ -253,7 +227,7 @@ fn finish(
         search(rt, alloc, world, prices, 0, start);
     }
     for worker in 0..workers {
-        assert!(rt; !act(rt, alloc, world, prices, worker, prices.count(), 0));
+        assert!(rt; !act(rt, alloc, world, prices, (worker, prices.count(), 0)));
     }
     assert_eq!(rt; world.left(), 0);
     world.word()
@@ -272,7 +246,7 @@ fn act_by_digits(
     let mut rest = number;
     for _ in 0..events {
         let choice = rest / 2 % choices;
-        if !act(rt, alloc, world, prices, rest % 2, choice, choice) {
+        if !act(rt, alloc, world, prices, (rest % 2, choice, choice)) {
             return false;
         }
         rest = rest / 2 / choices;
@@ -287,12 +261,12 @@ fn every_run_in_small(rt: HostRuntime) {
     let alloc = rt.alloc();
     let cases: [(&str, u32, u32, u32, Option<u32>); 4] = [
         (STALE_READ, 7, 279_936, 22_772, Some(3)),
-        (WRITERS_BEFORE_EACH_OTHER, 6, 262_144, 12_194, Some(4)),
+        (TWO_WRITERS, 6, 262_144, 12_194, Some(4)),
         (TWO_STALE_READS, 6, 1_000_000, 21_248, Some(3)),
-        (NO_CYCLE, 7, 279_936, 22_700, None),
+        (ONE_READ, 7, 279_936, 22_700, None),
     ];
     for (records, events, lists, enabled, word) in cases.iter() {
-        let prices = prices_of(&rt, alloc, records);
+        let prices = priced(&rt, alloc, records, Level::Causal);
         let mut runs = 0u32;
         for number in 0..*lists {
             let mut world = begin(&rt, alloc, &prices, 2);
@@ -328,15 +302,8 @@ fn random_run(
     for _ in 0..10_000 {
         state = next(state);
         let pick = (state / 4294967296) as u32;
-        act(
-            rt,
-            alloc,
-            &mut world,
-            prices,
-            pick % workers,
-            pick / 8 % count,
-            pick / 4096 % 3,
-        );
+        let choice = (pick % workers, pick / 8 % count, pick / 4096 % 3);
+        act(rt, alloc, &mut world, prices, choice);
     }
     finish(rt, alloc, &mut world, prices, workers)
 }
@@ -378,7 +345,7 @@ fn groups(alloc: Global) -> Result<String, Fail> {
 fn random_runs(rt: HostRuntime) -> Result<(), Fail> {
     let alloc = rt.alloc();
     let records = groups(alloc)?;
-    let prices = prices_of(&rt, alloc, records.as_str());
+    let prices = priced(&rt, alloc, records.as_str(), Level::Causal);
     assert_eq!(&rt; prices.count(), 41);
     let mut first = begin(&rt, alloc, &prices, 1);
     search(&rt, alloc, &mut first, &prices, 0, 1);

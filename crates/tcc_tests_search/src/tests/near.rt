@@ -1,27 +1,14 @@
 //! Worked histories, with distances and clocks worked out by hand.
-use crate::{NONE, clocks, near};
+use crate::tests::histories::{
+    CHAIN, MUTUAL, STALE_READ, TWO_WRITERS, graph_of, is_level, near_of,
+};
 use std::alloc::Global;
 use std::process::Abort;
 use std::test::Fail;
 use std::thread::Threads;
-use tcc_graph::{Graph, Level};
-use tcc_reads::resolve;
-use tcc_txn::{MAX_TRANSACTIONS, snapshot_of};
-
-/// The graph of these records.
-fn graph_of(alloc: Global, records: &str) -> Option<Graph> {
-    let snapshot = snapshot_of(alloc, records.as_bytes()).ok()?;
-    let resolved = resolve(alloc, &snapshot).ok()?;
-    Graph::build(alloc, &resolved).ok()
-}
-
-/// Whether the level is the one of single steps.
-fn is_atomic(level: Level) -> bool {
-    match level {
-        Level::Causal => false,
-        Level::Atomic => true,
-    }
-}
+use tcc_graph::Level;
+use tcc_near::{NONE, Row, clocks};
+use tcc_txn::MAX_TRANSACTIONS;
 
 /// The least numbers of steps of these pairs, from and to, in the history of these records at this level.
 fn assert_least(
@@ -31,13 +18,9 @@ fn assert_least(
     records: &str,
     wanted: &[(u32, u32, Option<u32>)],
 ) {
-    let Some(graph) = graph_of(alloc, records) else {
-        panic!(rt; "no graph of {records}");
-    };
-    let Ok(near) = near(rt, alloc, &graph, level) else {
-        panic!(rt; "no memory");
-    };
-    assert_eq!(rt; is_atomic(near.level()), is_atomic(level));
+    let graph = graph_of(rt, alloc, records);
+    let near = near_of(rt, alloc, &graph, level);
+    assert!(rt; is_level(near.level(), level), "of {records}");
     for (a, b, steps) in wanted {
         let (a, b) = (*a, *b);
         assert!(rt; a < graph.count());
@@ -55,9 +38,7 @@ fn assert_clocks(
     records: &str,
     wanted: &[&[u32]],
 ) {
-    let Some(graph) = graph_of(alloc, records) else {
-        panic!(rt; "no graph of {records}");
-    };
+    let graph = graph_of(rt, alloc, records);
     let Ok(clocks) = clocks(rt, alloc, &graph) else {
         panic!(rt; "no memory");
     };
@@ -82,7 +63,7 @@ fn least_steps(rt: HostRuntime) {
     let alloc = rt.alloc();
     let cases: [(&str, &[(u32, u32, Option<u32>)]); 4] = [
         (
-            "a,begin\na,w,x,1\na,commit\na,begin\na,r,x,0\na,commit\n",
+            STALE_READ,
             &[
                 (0, 0, None),
                 (0, 1, Some(1)),
@@ -94,8 +75,7 @@ fn least_steps(rt: HostRuntime) {
             ],
         ),
         (
-            "a,begin\na,w,x,1\na,commit\nb,begin\nb,r,x,1\nb,w,y,1\nb,commit\n\
-            c,begin\nc,r,y,1\nc,commit\nc,begin\nc,r,x,0\nc,commit\n",
+            CHAIN,
             &[
                 (1, 2, Some(1)),
                 (1, 3, Some(2)),
@@ -106,12 +86,11 @@ fn least_steps(rt: HostRuntime) {
             ],
         ),
         (
-            "a,begin\na,w,x,1\na,commit\nb,begin\nb,w,x,2\nb,commit\n\
-            c,begin\nc,r,x,1\nc,r,x,2\nc,commit\n",
+            TWO_WRITERS,
             &[(1, 3, Some(1)), (2, 3, Some(1)), (1, 2, None), (3, 1, None)],
         ),
         (
-            "a,begin\na,r,x,0\na,r,y,1\na,w,x,1\na,commit\nb,begin\nb,r,x,1\nb,w,y,1\nb,commit\n",
+            MUTUAL,
             &[
                 (0, 0, None),
                 (1, 1, Some(2)),
@@ -157,7 +136,7 @@ fn single_steps(rt: HostRuntime) {
             ],
         ),
         (
-            "a,begin\na,r,x,0\na,r,y,1\na,w,x,1\na,commit\nb,begin\nb,r,x,1\nb,w,y,1\nb,commit\n",
+            MUTUAL,
             &[(1, 2, Some(1)), (2, 1, Some(1)), (1, 1, None), (2, 2, None)],
         ),
     ];
@@ -216,7 +195,7 @@ fn places_behind(rt: HostRuntime) {
 /// A value that is pushed stands behind those that were there.
 #[test]
 fn rows_grow_at_their_end(rt: HostRuntime) -> Result<(), Fail> {
-    let mut row = crate::Row::new(vec![in rt.alloc(); 3u32]?);
+    let mut row = Row::new(vec![in rt.alloc(); 3u32]?);
     assert!(rt; row.push(5).is_ok());
     assert!(rt; row.values() == [3, 5].as_slice());
     Ok(())

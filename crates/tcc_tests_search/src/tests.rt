@@ -1,0 +1,9 @@
+//! Distances and clocks, prices and reasons, orders, seeds and single searches, the bound, and the machine of all interleavings.
+mod bound;
+mod core_seeds;
+mod core_steps;
+mod derive;
+mod histories;
+mod near;
+mod order;
+mod world;
