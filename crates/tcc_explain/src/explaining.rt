@@ -102,7 +102,7 @@ fn history_answer<G: Gate>(
     if let Some(order) = order(alloc, &prices)? {
         let labels = Labels::of(alloc, graph)?;
         let sessions = graph.sessions().len() as u32;
-        let clocks = clocks_at(rt, alloc, graph, level)?;
+        let clocks = clocks_at(rt, alloc, graph, &near)?;
         let order = Numbers::new(order);
         return Ok(Answer::Commit(Commit::new(level, order, sessions, clocks, labels)));
     }

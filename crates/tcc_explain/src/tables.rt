@@ -11,7 +11,7 @@ use std::alloc::Global;
 use std::thread::Threads;
 use tcc_cert::{Numbers, Table};
 use tcc_graph::{Graph, Level};
-use tcc_near::{Clocks, NONE, Near, Row, clocks};
+use tcc_near::{Clocks, NONE, Near, Row, clocks_of};
 use tcc_txn::NoMemory;
 
 /// A number of steps, capped; the cap where no walk leads.
@@ -92,17 +92,18 @@ fn clock_table(alloc: Global, graph: &Graph, clocks: &Clocks) -> Result<Table, N
     Ok(Table::new(rows))
 }
 
-/// The clocks by which an order can be checked at a level: at `Atomic` there are none.
+/// The clocks by which an order can be checked at the level of the distances: at `Atomic` there are none.
 pub(crate) fn clocks_at(
     rt: &(impl Threads + Sync),
     alloc: Global,
     graph: &Graph,
-    level: Level,
+    near: &Near,
 ) -> Result<Table, NoMemory>
-    ensures { IfOk result (IsClocksAt level graph.now) }
+    requires { IsNearOf (record { history = graph.now; level = near.now.level }) near.now }
+    ensures { IfOk result (IsClocksAt near.now.level graph.now) }
 {
-    match level {
-        Level::Causal => clock_table(alloc, graph, &clocks(rt, alloc, graph)?),
+    match near.level() {
+        Level::Causal => clock_table(alloc, graph, &clocks_of(rt, alloc, graph, near)?),
         Level::Atomic => Ok(Table::new(Vec::new(alloc))),
     }
 }

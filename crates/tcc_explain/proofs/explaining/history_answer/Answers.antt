@@ -11,7 +11,7 @@ returns-in-Some g c =
     let j : Judged = record { history = c.args.graph.now; level = c.in_ok-near.near.level } in
     let first : IsFirstOrder j c.in-Some.order.items = rw c.in-Some.is at (c.in_ok-order.ensures j c.in_ok-prices.ensures) in
     rw (c.new.ensures, c.new-order.ensures, sym c.in_ok-near.ensures.level)
-    (((c.order_or_cycle.ensures j).0 (c.in-Some.order.items, first.commit), first), refl, ap length c.sessions.ensures.value, c.in_ok-labels.ensures, rw c.in_ok-near.ensures.level c.in_ok-clocks.ensures)
+    (((c.order_or_cycle.ensures j).0 (c.in-Some.order.items, first.commit), first), refl, ap length c.sessions.ensures.value, c.in_ok-labels.ensures, c.in_ok-clocks.ensures)
 
 pub anomaly-requires-clause-cycle : goal.anomaly-requires-clause-cycle
 anomaly-requires-clause-cycle g c =
