@@ -51,6 +51,13 @@ pub record HasBlocks (n : ℕ) (done : List Bool) : Type 0 where
   pub few : length done ≤ MAX_COUNT
   pub enough : n ≤ length done * 64
 
+-- each block outside the range is done
+pub record IsOpenRange (first : ℕ) (end : ℕ) (done : List Bool) : Type 0 where
+  pub upward : first ≤ end
+  pub within : end ≤ length done
+  pub before : (k : ℕ) → k < first → slice_index_or done k false ≡ true
+  pub behind : (k : ℕ) → end ≤ k → k < length done → slice_index_or done k false ≡ true
+
 -- how many transactions the row has
 abbrev pub count_joined : List (Option ℕ) → ℕ
 count_joined [] = 0

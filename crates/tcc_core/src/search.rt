@@ -6,7 +6,7 @@ ghost use Rattle.tcc_txn.specs.declared.limits.TheConstants.{MAX_COUNT};
 ghost use Rattle.tcc_graph.specs.Tables.{row_of};
 
 use crate::Settled;
-use crate::relaxing::{BLOCK, NO_WAY, empty, forget, nearest_from, relax, reopen};
+use crate::relaxing::{BLOCK, NO_WAY, Open, all_open, empty, forget, nearest_from, relax, reopen};
 use std::alloc::Global;
 use std::marker::Model;
 use tcc_derive::Prices;
@@ -25,11 +25,13 @@ pub struct Search {
     place: u32,
     /// Blocks of transactions, all of which cost no more than the floor and a link more.
     done: Vec<bool>,
+    /// Each block outside this range is done.
+    range: Open,
 }
 
 impl Model for Search {
     ghost use Rattle.std.specs.Prelude.{length};
-    ghost use Rattle.tcc_core.specs.Relaxing.{IsBounded, IsFloor, IsDone, HasBlocks};
+    ghost use Rattle.tcc_core.specs.Relaxing.{IsBounded, IsFloor, IsDone, HasBlocks, IsOpenRange};
     ghost use Rattle.tcc_core.specs.Searches as searches;
 
     ghost Value = { searches.Search };
@@ -38,7 +40,8 @@ impl Model for Search {
 
     ghost invariant = { λ s. IsBounded (record { start = s.start; row = s.row.items; costs = s.costs.items })
         × (IsFloor s.start s.place s.floor s.row.items s.costs.items
-        × (HasBlocks (length s.costs.items) s.done.items × IsDone s.start s.floor s.done.items s.costs.items)) };
+        × (HasBlocks (length s.costs.items) s.done.items × (IsDone s.start s.floor s.done.items s.costs.items
+        × IsOpenRange s.range.first s.range.end s.done.items))) };
 }
 
 impl Search {
@@ -57,7 +60,15 @@ impl Search {
         let count = prices.count() as usize;
         let mut costs = vec![in alloc; NO_WAY; count]?;
         let mut done = vec![in alloc; false; count / BLOCK + 1]?;
-        relax(start, &mut costs, 0, prices.costs(start), &mut done);
+        let mut range = all_open(&done);
+        relax(
+            start,
+            &mut costs,
+            0,
+            prices.costs(start),
+            &mut done,
+            &mut range,
+        );
         let row = vec![in alloc; None; count]?;
         Ok(Search {
             start,
@@ -66,6 +77,7 @@ impl Search {
             floor: 0,
             place: count as u32,
             done,
+            range,
         })
     }
 
@@ -84,7 +96,9 @@ impl Search {
         forget(costs);
         let done = self.done.as_mut_slice();
         reopen(done);
-        relax(start, costs, 0, prices.costs(start), done);
+        let mut range = all_open(done);
+        relax(start, costs, 0, prices.costs(start), done, &mut range);
+        self.range = range;
         self.start = start;
         self.floor = 0;
         self.place = prices.count();
@@ -115,6 +129,7 @@ impl Search {
             distance,
             prices.costs(next),
             &mut self.done,
+            &mut self.range,
         );
         self.floor = distance;
         self.place = next + 1;

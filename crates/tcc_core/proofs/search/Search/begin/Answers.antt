@@ -35,7 +35,7 @@ invariant_of-result c =
       bounded_begun c.args.start n c.in_ok-row.row.items old new c.costs.result.now c.requires (omega (arith, c.costs.ensures.few, c.costs.ensures.long)) empty unspent.0 unspent.1 (fits c.costs.result.now c.relax.ensures.links) lowered,
       (
         record { upward = omega (arith, c.requires, counted); some = omega arith; least = λ v up below out. omega arith },
-        (record { few = c.relax.ensures.blocks.few; enough = omega (arith, c.relax.ensures.blocks.enough, c.relax.ensures.long) }, c.relax.ensures.done),
+        (record { few = c.relax.ensures.blocks.few; enough = omega (arith, c.relax.ensures.blocks.enough, c.relax.ensures.long) }, (c.relax.ensures.done, c.relax.ensures.range)),
       ),
     )
 

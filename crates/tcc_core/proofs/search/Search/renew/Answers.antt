@@ -53,6 +53,6 @@ invariant_of-self c =
       bounded_begun c.args.start n row old new c.costs.result.now c.requires.start (omega (arith, c.costs.ensures.few, c.costs.ensures.long)) empty (old_same ∙ level ∙ there) unspent (fits c.costs.result.now c.relax.ensures.links) lowered,
       (
         record { upward = omega (arith, c.requires.start, c.count-self-inside.ensures.value); some = omega arith; least = λ v up below out. omega arith },
-        (record { few = c.relax.ensures.blocks.few; enough = omega (arith, c.relax.ensures.blocks.enough, c.relax.ensures.long) }, c.relax.ensures.done),
+        (record { few = c.relax.ensures.blocks.few; enough = omega (arith, c.relax.ensures.blocks.enough, c.relax.ensures.long) }, (c.relax.ensures.done, c.relax.ensures.range)),
       ),
     )

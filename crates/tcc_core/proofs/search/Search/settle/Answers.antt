@@ -56,7 +56,7 @@ invariant_of-self c =
       bounded_after old.start old v c.relax.new.costs c.costs.result.now c.self.invariant.0 near (fits c.costs.result.now c.relax.ensures.links) lowered,
       (
         floor_after old.start old v c.relax.new.costs c.costs.result.now near c.self.invariant.0.long lowered,
-        (record { few = c.relax.ensures.blocks.few; enough = omega (arith, c.relax.ensures.blocks.enough, c.relax.ensures.long) }, rw is at c.relax.ensures.done),
+        (record { few = c.relax.ensures.blocks.few; enough = omega (arith, c.relax.ensures.blocks.enough, c.relax.ensures.long) }, (rw is at c.relax.ensures.done, c.relax.ensures.range)),
       ),
     )
 
@@ -66,7 +66,7 @@ relax-requires-clause-done c =
     let v = c.in-Some.next in
     let near : IsNearest old.start old.row old.costs v = rw (c.deref.ensures.value, c.deref-2.ensures.value) at c.in-Some.ensures.found in
     let is : c.index-distance.result.now ≡ get_or old.costs v 0 = grind (arith, common_steps, near.below, c.self.invariant.0.long) in
-    rw (c.deref_mut.ensures.value, c.deref_mut-2.ensures.value, is) (done_on old.start c.self.inside.floor (get_or old.costs v 0) c.self.inside.done.items old.costs c.self.invariant.1.1.1 (floor_low old.start c.self.inside.place c.self.inside.floor old v c.self.invariant.1.0 near))
+    rw (c.deref_mut.ensures.value, c.deref_mut-2.ensures.value, is) (done_on old.start c.self.inside.floor (get_or old.costs v 0) c.self.inside.done.items old.costs c.self.invariant.1.1.1.0 (floor_low old.start c.self.inside.place c.self.inside.floor old v c.self.invariant.1.0 near))
 
 pub returns-clause-search : goal.returns-clause-search
 returns-clause-search c =
