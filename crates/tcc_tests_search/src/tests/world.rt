@@ -164,13 +164,7 @@ type Choice = (u32, u32, u32);
 
 /// One event, if it is enabled. Where start and turn are one number, each event that is enabled is one choice of worker
 /// and number.
-fn act(
-    rt: &impl Abort,
-    alloc: Global,
-    world: &mut World,
-    prices: &Prices,
-    choice: Choice,
-) -> bool {
+fn act(rt: &impl Abort, alloc: Global, world: &mut World, prices: &Prices, choice: Choice) -> bool {
     let (worker, start, turn) = choice;
     if step(rt, alloc, world, prices, Take(worker, start)).is_ok() {
         return true;
