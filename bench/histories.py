@@ -1,15 +1,22 @@
 #!/usr/bin/env python3
-"""Writes the largest histories that the limits allow into a folder, from fixed seeds.
+"""Writes histories of several kinds and sizes into a folder, from fixed seeds.
 
-    histories.py FOLDER
+    histories.py FOLDER [--kinds KIND ..] [--sizes N ..] [--list]
 
-Each is `NAME.csv`. All of them resolve; what each of them is stands at its function.
+Each is `KIND-N.csv`, with about N transactions. All of them resolve; what each of them is stands at its function.
+Without `--kinds` it writes all, and without `--sizes` those of 1,023 transactions.
 """
+import argparse
 import pathlib
 import random
-import sys
 
-TRANSACTIONS, OPERATIONS, SESSIONS, KEYS = 1023, 256, 64, 1024
+SIZES = (256, 1023, 4095)
+WIDE, NARROW, SESSIONS, KEYS = 256, 8, 64, 1024
+
+
+def transaction(session, *operations):
+    """The records of one transaction."""
+    return ["%s,%s" % (session, record) for record in ("begin",) + operations + ("commit",)]
 
 
 class Store:
@@ -19,7 +26,7 @@ class Store:
     any that its session has read or written before, so the order of the log is a commit order of the whole history.
     """
 
-    def __init__(self, seed, keys, lag):
+    def __init__(self, seed, keys=KEYS, lag=0):
         self.random = random.Random(seed)
         self.keys = ["k%d" % i for i in range(keys)]
         self.lag = lag
@@ -35,78 +42,178 @@ class Store:
         """The records of one transaction: for each word of `words`, `r` or `w`, an operation at some key."""
         latest = len(self.log)
         known = max(self.seen.get(session, 0), latest - self.random.randrange(self.lag + 1))
-        own, records = {}, ["begin"]
+        own, operations = {}, []
         for word in words:
             key = self.random.choice(self.keys)
             if word == "w":
                 self.written[key] += 1
                 own[key] = self.written[key]
             value = own[key] if key in own else self.value_at(key, known)
-            records.append("%s,%s,%d" % (word, key, value))
+            operations.append("%s,%s,%d" % (word, key, value))
         self.log.append(own)
         self.seen[session] = len(self.log)
         for key, value in own.items():
             self.versions[key].append((len(self.log), value))
-        return ["%s,%s" % (session, record) for record in records + ["commit"]]
+        return transaction(session, *operations)
+
+    def stale_read(self, session):
+        """The records of a transaction that reads the initial value of a key that was written before."""
+        overwritten = [key for key in self.keys if self.written[key]]
+        self.log.append({})
+        return transaction(session, "r,%s,0" % self.random.choice(overwritten))
 
 
-def history(seed, sessions=SESSIONS, keys=KEYS, lag=0, words=None):
-    """Full transactions of sessions in random turns, half reads, in random order or in the order of `words`."""
+def history(count, seed, sessions=SESSIONS, keys=KEYS, lag=0, operations=NARROW, words=None, stale=0):
+    """Transactions of sessions in random turns, half reads, in random order or in the order of `words`; some of those of
+    the second half read an overwritten value instead."""
     store = Store(seed, keys, lag)
+    late = set(store.random.sample(range(count // 2, count), stale))
     records = []
-    for _ in range(TRANSACTIONS):
-        mine = list(words or "rw" * (OPERATIONS // 2))
+    for number in range(count):
+        session = "s%02d" % store.random.randrange(sessions)
+        if number in late:
+            records += store.stale_read(session)
+            continue
+        mine = list(words or "rw" * (operations // 2))
         if words is None:
             store.random.shuffle(mine)
-        records += store.transaction("s%02d" % store.random.randrange(sessions), mine)
-    return records, store
-
-
-def many_keys():
-    """64 sessions, 1,024 keys, half reads; replicas lag behind by up to 200 transactions. Consistent."""
-    return history(seed=1, lag=200)[0]
-
-
-def few_keys():
-    """64 sessions, 8 keys: every transaction reads all of them and then writes all of them. Consistent."""
-    return history(seed=2, keys=8, lag=100, words="r" * (OPERATIONS // 2) + "w" * (OPERATIONS // 2))[0]
-
-
-def many_readers():
-    """64 sessions, 8 keys, one write in 256 operations: every value has many readers. Consistent."""
-    return history(seed=3, keys=8, lag=100, words="r" * (OPERATIONS - 1) + "w")[0]
-
-
-def one_session():
-    """One session with all transactions, 1,024 keys, half reads. Consistent."""
-    return history(seed=4, sessions=1)[0]
-
-
-def one_stale_read():
-    """As `many_keys`, but the last transaction reads a value that its session overwrote. Not consistent."""
-    records, store = history(seed=5, lag=200)
-    begin = max(i for i, record in enumerate(records) if record.endswith(",begin"))
-    session = records[begin].split(",")[0]
-    key = next(key for key in store.keys if any(r.startswith("%s,w,%s," % (session, key)) for r in records[:begin])
-               and not any(r.startswith("%s,w,%s," % (session, key)) for r in records[begin:]))
-    operation = next(i for i in range(begin + 1, len(records)) if ",r," in records[i])
-    records[operation] = "%s,r,%s,0" % (session, key)
+        records += store.transaction(session, mine)
     return records
 
 
-def longest_chain():
-    """One session: a write, 1,021 transactions without operations, and a read that misses the write."""
-    return (["a,begin", "a,w,x,1", "a,commit"] + ["a,begin", "a,commit"] * (TRANSACTIONS - 2)
-            + ["a,begin", "a,r,x,0", "a,commit"])
+def sessions_16(count):
+    """16 sessions, 1,024 keys, 8 operations each; replicas lag behind by up to 200 transactions. Consistent."""
+    return history(count, seed=11, sessions=16, lag=200)
 
 
-HISTORIES = [many_keys, few_keys, many_readers, one_session, one_stale_read, longest_chain]
+def sessions_64(count):
+    """As `sessions_16`, in 64 sessions. Consistent."""
+    return history(count, seed=12, lag=200)
+
+
+def one_session(count):
+    """As `sessions_16`, in one session. Consistent."""
+    return history(count, seed=4, sessions=1)
+
+
+def many_keys(count):
+    """64 sessions, 1,024 keys, 256 operations each; replicas lag behind. Consistent."""
+    return history(count, seed=1, lag=200, operations=WIDE)
+
+
+def few_keys(count):
+    """64 sessions, 8 keys, 256 operations each: every transaction reads all keys and then writes all. Consistent."""
+    return history(count, seed=2, keys=8, lag=100, words="r" * (WIDE // 2) + "w" * (WIDE // 2))
+
+
+def many_readers(count):
+    """64 sessions, 8 keys, one write in 256 operations: every value has many readers. Consistent."""
+    return history(count, seed=3, keys=8, lag=100, words="r" * (WIDE - 1) + "w")
+
+
+def stale_reads(count):
+    """16 sessions, 1,024 keys, 8 operations each; one in a hundred transactions reads an overwritten value. The least
+    cycle costs 3 or some more."""
+    return history(count, seed=5, sessions=16, stale=count // 100 + 1)
+
+
+def stale_reads_of_few_keys(count):
+    """As `stale_reads`, over 8 keys: nearly each two transactions have a link. The least cycle costs 3."""
+    return history(count, seed=6, sessions=16, keys=8, stale=count // 100 + 1)
+
+
+def stale_reads_in_one_session(count):
+    """As `stale_reads`, in one session. The least cycle costs 3."""
+    return history(count, seed=7, sessions=1, stale=count // 100 + 1)
+
+
+def stale_reads_of_many_keys(count):
+    """As `many_keys`, and one transaction reads an overwritten value. The least cycle costs 3 or some more."""
+    return history(count, seed=8, lag=200, operations=WIDE, stale=1)
+
+
+def many_ties(count):
+    """Half of all transactions read an overwritten value: very many least cycles, which cost 3."""
+    return history(count, seed=9, sessions=16, stale=count // 2)
+
+
+def mutual_reads(count):
+    """As `sessions_16`, and two transactions that read from each other. The least cycle costs 2."""
+    return (history(count - 2, seed=10, sessions=16, keys=KEYS - 2, lag=200)
+            + transaction("t0", "r,m1,1", "w,m0,1") + transaction("t1", "r,m0,1", "w,m1,1"))
+
+
+def torn_reads(count):
+    """As `sessions_16`, but groups of three: two write the same key, and the third reads both values of it. The least cycle
+    costs 4."""
+    groups = count // 30 + 1
+    records = history(count - 3 * groups, seed=13, sessions=16, keys=KEYS - groups, lag=200)
+    for group in range(groups):
+        key = "x%d" % group
+        for place, operations in enumerate((["w,%s,1"], ["w,%s,2"], ["r,%s,1", "r,%s,2"])):
+            records += transaction("s%02d" % ((group + place) % 16), *(operation % key for operation in operations))
+    return records
+
+
+def long_walk(count):
+    """One chain of reads through 64 sessions, with a step of the session in each; its end reads what its beginning wrote
+    over. The least cycle costs 129."""
+    idle = max(count // SESSIONS - 2, 0)
+    records = []
+    for session in range(SESSIONS):
+        name = "s%02d" % session
+        told = "r,y%02d,1" % (session - 1) if session else "w,x,1"
+        tells = "w,y%02d,1" % session if session < SESSIONS - 1 else "r,x,0"
+        records += transaction(name, told) + transaction(name) * idle + transaction(name, tells)
+    return records
+
+
+def ring_of_long_links(count, sessions=16):
+    """A ring of writers, one in each session, each overwritten by the next. Who reads the new value knows the old one by
+    a chain of reads through all sessions alone, so each link is long. The least cycle costs 288."""
+    records = []
+    for session in range(sessions):
+        name = "s%02d" % session
+        records += transaction(name, "w,k%d,1" % session, "w,k%d,2" % ((session - 1) % sessions))
+        for chain in range(sessions):
+            place = (session - chain) % sessions
+            told, tells = ["r,c%d.%d,1" % (chain, place - 1)], "w,c%d.%d,1" % (chain, place)
+            records += transaction(name, *(told if place else []), tells)
+        records += transaction(name) * max(count // sessions - sessions - 2, 0)
+        records += transaction(name, "r,k%d,2" % ((session + 1) % sessions))
+    return records
+
+
+def longest_chain(count):
+    """One session: a write, transactions without operations, and a read that misses the write. The least cycle costs 3."""
+    return transaction("a", "w,x,1") + transaction("a") * (count - 2) + transaction("a", "r,x,0")
+
+
+KINDS = {make.__name__.replace("_", "-"): make for make in (
+    sessions_16, sessions_64, one_session, many_keys, few_keys, many_readers, stale_reads, stale_reads_of_few_keys,
+    stale_reads_in_one_session, stale_reads_of_many_keys, many_ties, mutual_reads, torn_reads, long_walk,
+    ring_of_long_links, longest_chain)}
+
+
+def text_of(kind, count):
+    """The records of a history of this kind, with so many transactions, as text."""
+    return "\n".join(KINDS[kind](count)) + "\n"
 
 
 def main():
-    folder = pathlib.Path(sys.argv[1])
-    for make in HISTORIES:
-        (folder / (make.__name__.replace("_", "-") + ".csv")).write_text("\n".join(make()) + "\n")
+    ask = argparse.ArgumentParser(description="Writes histories of several kinds and sizes, from fixed seeds.")
+    ask.add_argument("folder", type=pathlib.Path, nargs="?", help="where they are written, as KIND-N.csv")
+    ask.add_argument("--kinds", nargs="+", choices=list(KINDS), default=list(KINDS), metavar="KIND", help="these alone")
+    ask.add_argument("--sizes", nargs="+", type=int, default=[1023], metavar="N", help="so many transactions, up to 4,095")
+    ask.add_argument("--list", action="store_true", help="says what each kind is, and writes nothing")
+    asked = ask.parse_args()
+    if asked.list or asked.folder is None:
+        for kind in asked.kinds:
+            print("%s: %s" % (kind, " ".join(KINDS[kind].__doc__.split())))
+        return
+    for kind in asked.kinds:
+        for count in asked.sizes:
+            (asked.folder / ("%s-%d.csv" % (kind, count))).write_text(text_of(kind, count))
 
 
 if __name__ == "__main__":

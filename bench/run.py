@@ -1,13 +1,14 @@
 #!/usr/bin/env python3
-"""Measures the built `tcc` on the largest histories, beside csv alone on the same records.
+"""Measures the built `tcc`, stage by stage, on the histories of histories.py, and how its cost grows with their size.
 
-    run.py [--runs N] [--tcc PATH] [--keep FOLDER]
+    run.py [--kinds KIND ..] [--sizes N ..] [--runs N] [--tcc PATH] [--keep FOLDER]
 
-For each history of histories.py: medians of the wall time and the peak memory of `tcc explain`, beside the time
-that csv alone needs for the same records (`csv_count`), and that of the stages (`tcc_bench_stages`): reading the
-records, and reading them into a snapshot, both beside csv alone; then, each without the stages before it, resolving the
-snapshot, beside reading it; building its graph, beside resolving; working out distances, prices and the order. All take
-turns. Builds what isn't built. Peak memory is never below that of this script, about 15 MB.
+A line for each history has medians of milliseconds: what csv alone needs for the records (`csv_count`); reading them, and
+reading them into a snapshot; then, each without the stages before it (`tcc_bench_stages`), resolving the snapshot, building
+its graph, working out distances, prices and the order; at last the rest of `tcc explain`, which is the search, the tables
+and the text, and the whole of it, with its peak memory. Where a kind has several sizes, a line below each but the first
+says by how much each cell is greater than that of the size before. All programs take turns. Builds what isn't built.
+Peak memory is never below that of this script, about 15 MB.
 """
 import argparse
 import os
@@ -18,9 +19,14 @@ import sys
 import tempfile
 import time
 
+from histories import KINDS
+
 HERE = pathlib.Path(__file__).resolve().parent
 TOP = HERE.parent
 STAGES = ("rows", "snapshot", "resolve", "graph", "near", "derive", "order")
+HEAD = ("history", "records", "csv", "rows", "snapshot", "resolve", "graph", "near", "derive", "order", "rest", "tcc ms",
+        "peak MB", "status", "answer")
+GROWING = range(1, 13)
 
 
 def built(crate):
@@ -45,12 +51,9 @@ def measured(words, history, answer):
     return seconds, used.ru_maxrss / 1000, os.waitstatus_to_exitcode(status)
 
 
-def milliseconds(seconds):
-    return "%.1f" % (seconds * 1000)
-
-
 def row(programs, history, runs, answer):
-    """The cells of one history's line: medians over the runs, each program in turn."""
+    """The cells of one history's line, medians over the runs, each program in turn: its name, then numbers up to the peak
+    memory, then words."""
     stages = [[programs["csv_count"]]]
     stages += [[programs["tcc_bench_stages"], stage] for stage in STAGES]
     times, explained = [[] for _ in stages], []
@@ -62,39 +65,56 @@ def row(programs, history, runs, answer):
         explained.append(measured([programs["tcc"], "explain"], history, answer))
     with open(answer) as text:
         first = text.readline().strip()
-    alone, rows, snapshot, *later = map(statistics.median, times)
-    resolving, building, *searching = [max(now - before, 0) for before, now in zip([snapshot] + later, later)]
+    alone, rows, *later = map(statistics.median, times)
     wall, peak = (statistics.median(run[i] for run in explained) for i in (0, 1))
-    statuses = sorted({run[2] for run in explained})
-    cells = [history.stem, records, milliseconds(alone), milliseconds(rows), "%.1f" % (rows / alone)]
-    cells += [milliseconds(snapshot), "%.1f" % (snapshot / alone)]
-    cells += [milliseconds(resolving), "%.1f" % (resolving / snapshot)]
-    cells += [milliseconds(building), "%.1f" % (building / max(resolving, 1e-9))]
-    cells += [milliseconds(seconds) for seconds in searching + [wall]]
-    return cells + ["%.1f" % peak, "/".join(map(str, statuses)), first[:40]]
+    own = [max(now - before, 0) for before, now in zip([0] + later, later + [wall])]
+    cells = [history.stem, records] + [seconds * 1000 for seconds in [alone, rows] + own + [wall]]
+    return cells + [peak, "/".join(map(str, sorted({run[2] for run in explained}))), first[:40]]
+
+
+def shown(cells):
+    """A line as words."""
+    return [cell if isinstance(cell, str) else "%d" % cell if isinstance(cell, int) else "%.1f" % cell for cell in cells]
+
+
+def growth(before, now):
+    """By how much each number of a line is greater than that of the line before, where that is a millisecond at least."""
+    return ["  times"] + ["x%.1f" % (now[i] / before[i]) if before[i] >= 1 else "" for i in GROWING] + ["", ""]
+
+
+def lines_of(programs, folder, asked, answer):
+    """The lines of all histories, and of how they grow."""
+    for kind in asked.kinds:
+        before = None
+        for size in sorted(asked.sizes):
+            now = row(programs, folder / ("%s-%d.csv" % (kind, size)), asked.runs, answer)
+            yield shown(now)
+            if before:
+                yield growth(before, now)
+            before = now
 
 
 def main():
-    ask = argparse.ArgumentParser(description="Measures tcc on the largest histories.")
+    ask = argparse.ArgumentParser(description="Measures tcc, stage by stage.")
+    ask.add_argument("--kinds", nargs="+", choices=list(KINDS), default=list(KINDS), metavar="KIND", help="these alone")
+    ask.add_argument("--sizes", nargs="+", type=int, default=[1023], metavar="N", help="so many transactions, by default 1023")
     ask.add_argument("--runs", type=int, default=9, help="runs of each program on each history, by default 9")
     ask.add_argument("--tcc", help="another program than the built one")
     ask.add_argument("--keep", type=pathlib.Path, help="a folder for the histories, which stay there")
     asked = ask.parse_args()
     programs = {crate: built(crate) for crate in ("csv_count", "tcc_bench_stages")}
     programs["tcc"] = os.path.abspath(asked.tcc) if asked.tcc else built("tcc")
-    table = [("history", "records", "csv ms", "rows ms", "/csv", "snapshot ms", "/csv", "resolve ms", "/snapshot", "graph ms", "/resolve",
-              "near ms", "derive ms", "order ms", "tcc ms", "peak MB", "status", "answer")]
     with tempfile.TemporaryDirectory() as temporary:
         folder = asked.keep or pathlib.Path(temporary)
         folder.mkdir(parents=True, exist_ok=True)
         # in a process of its own: what this script holds would count as memory of what it starts
-        subprocess.run([sys.executable, HERE / "histories.py", folder], check=True)
-        for history in sorted(folder.glob("*.csv")):
-            table.append(row(programs, history, asked.runs, pathlib.Path(temporary, "answer")))
-    widths = [max(len(str(line[i])) for line in table) for i in range(len(table[0]))]
+        subprocess.run([sys.executable, HERE / "histories.py", folder, "--kinds", *asked.kinds,
+                        "--sizes", *map(str, asked.sizes)], check=True)
+        table = [list(HEAD)] + list(lines_of(programs, folder, asked, pathlib.Path(temporary, "answer")))
+    widths = [max(len(line[i]) for line in table) for i in range(len(HEAD))]
     for line in table:
-        cells = [str(cell).rjust(width) for cell, width in zip(line, widths)]
-        print("  ".join([cells[0].strip().ljust(widths[0])] + cells[1:-1] + [str(line[-1])]))
+        cells = [cell.rjust(width) for cell, width in zip(line, widths)]
+        print("  ".join([line[0].ljust(widths[0])] + cells[1:-1] + [line[-1]]))
 
 
 if __name__ == "__main__":
