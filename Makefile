@@ -1,6 +1,6 @@
 # make run      proves and builds the program, and prints its answer for a small history
-# make test     the merge gate, then the rows of tests/rows, the altered certificates of tests/certificates and the
-#               refused allocations of tests/memory; the last line is `N passed, M failed`
+# make test     the merge gate, then the rows of tests/rows by 1, 2 and 32 workers, the altered certificates of
+#               tests/certificates and the refused allocations of tests/memory; the last line is `N passed, M failed`
 # make install  proves and builds the program, and copies it to PREFIX/bin (PREFIX=/usr/local)
 #
 # The toolchain's `rt` has to be on the path, and Python 3; nothing else is needed, and nothing to be done before.

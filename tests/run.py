@@ -1,6 +1,6 @@
 #!/usr/bin/env python3
-"""All tests: the merge gate, which proves everything from nothing, and then the rows, the altered certificates and the
-refused allocations on the program that it built.
+"""All tests: the merge gate, which proves everything from nothing, and then on the program that it built the rows, by one
+worker and by many, the altered certificates, and the refused allocations.
 
 The last line is `N passed, M failed`, the sum of all; the status is 0 only where all passed.
 """
@@ -10,6 +10,8 @@ import subprocess
 import sys
 
 TOP = pathlib.Path(__file__).resolve().parent.parent
+ON_THE_PROGRAM = ("rows/run.py", "rows/run.py --workers 2", "rows/run.py --workers 32", "certificates/run.py",
+                  "memory/run.py")
 CLOSING = re.compile(r"(\d+) passed, (\d+) failed$")
 
 
@@ -42,8 +44,9 @@ def main():
     if failed:
         print("the rows were not run: the gate comes first")
     else:
-        for test in ("tests/rows/run.py", "tests/certificates/run.py", "tests/memory/run.py"):
-            more, less = counts([sys.executable, test])
+        for test in ON_THE_PROGRAM:
+            script, *words = test.split()
+            more, less = counts([sys.executable, "tests/" + script, *words])
             passed, failed = passed + more, failed + less
     print("%d passed, %d failed" % (passed, failed), flush=True)
     return 1 if failed else 0

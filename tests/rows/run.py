@@ -1,10 +1,12 @@
 #!/usr/bin/env python3
 """Runs a built `tcc` on the cases of this folder and compares what it does, byte by byte.
 
-    run.py [--tcc PATH] [--only TEXT] [NAME ..]
+    run.py [--tcc PATH] [--only TEXT] [--workers N] [NAME ..]
 
 PATH is split into words, so that "env X=1 tcc" will do. Each difference is one
 line; the last line is `N passed, M failed`. README.md says what a case holds.
+With --workers each run of `explain` gets that number of workers, and has to do
+the same as without it; runs of other commands are left out.
 """
 import argparse
 import contextlib
@@ -25,6 +27,7 @@ TOP = HERE.parent.parent
 NEEDED = {"about", "arguments", "status"}
 FIELDS = NEEDED | {"input", "input_from", "typed", "cut", "files", "output", "output_to", "taken", "errors",
                    "certificate", "seconds"}
+COMMAND_LINE = 64
 
 
 @functools.lru_cache(maxsize=None)
@@ -188,6 +191,15 @@ def terminal(keys, held):
     return given
 
 
+def by_workers(run, workers):
+    """The run by so many workers; None where it is no explanation, or says the number itself."""
+    command, *others = run["arguments"] or [""]
+    says = {word.split("=")[0] for word in others if isinstance(word, str)} & {"--workers", "--help", "-h"}
+    if command != "explain" or says or run["status"] == COMMAND_LINE:
+        return None
+    return {**run, "arguments": [command, "--workers", str(workers), *others]}
+
+
 def difference(tcc, run, seconds):
     """What the program did otherwise than wanted, or None."""
     seconds = run.get("seconds", seconds)
@@ -223,6 +235,7 @@ def main():
     ask.add_argument("--tcc", default=str(TOP / "crates/tcc/out/tcc"), help="the program, by default the built one")
     ask.add_argument("--only", default="", help="only cases whose name holds this text")
     ask.add_argument("--seconds", type=float, default=120, help="for each run, by default 120")
+    ask.add_argument("--workers", type=int, help="for each run of explain that doesn't say how many itself")
     ask.add_argument("names", nargs="*", help="only these cases")
     asked = ask.parse_args()
     tcc = shlex.split(asked.tcc)
@@ -236,6 +249,8 @@ def main():
             print("%s: not a case: %s" % (path.stem, error))
             failed += 1
             continue
+        if asked.workers:
+            every = [(which, by_many) for which, run in every if (by_many := by_workers(run, asked.workers))]
         for which, run in every:
             wrong = difference(tcc, run, asked.seconds)
             if wrong is None:
