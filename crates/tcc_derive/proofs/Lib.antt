@@ -1,4 +1,5 @@
 pub mod BackLemmas
+pub mod BlockLemmas
 pub mod BucketLemmas
 pub mod ChoiceLemmas
 pub mod CostLemmas

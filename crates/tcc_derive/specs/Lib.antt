@@ -1,8 +1,10 @@
 pub mod Prices
+pub mod Blocks
 pub mod Reasons
 pub mod Names
 pub mod Rows
 pub mod Buckets
+pub mod BlockTables
 pub mod KeyTables
 pub mod Lowering
 pub mod Choices

@@ -4,6 +4,7 @@ ghost use Rattle.tcc_near.specs.Distances.{IsNearOf};
 ghost use Rattle.tcc_derive.specs.Prices.{IsPricesOf};
 
 use crate::Prices;
+use crate::blocks::least_rows;
 use crate::costing::cost_rows;
 use crate::pricing::price_rows;
 use crate::read_table::read_table;
@@ -28,5 +29,6 @@ pub fn derive(
     let written = write_table(alloc, graph)?;
     let prices = price_rows(rt, alloc, graph, near, &reads, &written)?;
     let costs = cost_rows(rt, alloc, graph, near, &prices)?;
-    Ok(Prices::new(near.level(), prices, costs))
+    let least = least_rows(rt, alloc, &costs)?;
+    Ok(Prices::new(near.level(), prices, costs, least))
 }

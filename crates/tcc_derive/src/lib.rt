@@ -1,6 +1,7 @@
 //! What each pair of transactions costs as a link, and the first of the cheapest reasons.
 #![tactic(auto)]
 
+mod blocks;
 mod bucket;
 mod choices;
 mod costing;
@@ -13,6 +14,7 @@ mod tables;
 mod walking;
 mod write_table;
 
+pub use blocks::BLOCK;
 pub use derivation::derive;
 pub use reasons::reason;
 pub use tables::Prices;

@@ -2,6 +2,8 @@
 ghost use Rattle.std.specs.Prelude.{◌≡◌, ◌<◌, ◌≤◌, ◌∷◌, [], length};
 ghost use Rattle.tcc_near.specs.Distances.{least_in, IsSquare};
 ghost use Rattle.tcc_derive.specs.Prices.{price_at, cost_at};
+ghost use Rattle.tcc_derive.specs.Blocks.{HasLeastCosts};
+ghost use Rattle.tcc_derive.specs.BlockTables.{HaveLeastCosts};
 ghost use Rattle.tcc_txn.specs.declared.limits.TheConstants.{MAX_COUNT};
 ghost use Rattle.tcc_graph.specs.Tables.{row_of};
 
@@ -15,26 +17,36 @@ pub struct Prices {
     level: Level,
     prices: Vec<Row<u16>>,
     costs: Vec<Row<u16>>,
+    /// The least cost of a link into each block, a row for each row of costs.
+    least: Vec<Row<u16>>,
 }
 
 impl Model for Prices {
     ghost use Rattle.std.specs.Prelude.{length, ◌≤◌};
     ghost use Rattle.tcc_near.specs.Distances.{IsSquare};
     ghost use Rattle.tcc_derive.specs.Prices.{Tables};
+    ghost use Rattle.tcc_derive.specs.BlockTables.{HaveLeastCosts};
     ghost use Rattle.tcc_txn.specs.declared.limits.TheConstants.{MAX_COUNT};
 
     ghost Value = { Tables };
 
     ghost view = { λ p. record { level = p.level; prices = p.prices.items; costs = p.costs.items } };
 
-    ghost invariant = { λ p. IsSquare (length p.prices.items) p.prices.items × (IsSquare (length p.prices.items) p.costs.items × (length p.prices.items ≤ MAX_COUNT)) };
+    ghost invariant = { λ p. IsSquare (length p.prices.items) p.prices.items × (IsSquare (length p.prices.items) p.costs.items
+        × (HaveLeastCosts p.costs.items p.least.items × (length p.prices.items ≤ MAX_COUNT))) };
 }
 
 impl Prices {
     /// The tables of these rows, at this level.
-    pub(crate) fn new(level: Level, prices: Vec<Row<u16>>, costs: Vec<Row<u16>>) -> Prices
+    pub(crate) fn new(
+        level: Level,
+        prices: Vec<Row<u16>>,
+        costs: Vec<Row<u16>>,
+        least: Vec<Row<u16>>,
+    ) -> Prices
         requires prices { IsSquare (length prices.items) prices.items }
         requires costs { IsSquare (length prices.items) costs.items }
+        requires least { HaveLeastCosts costs.items least.items }
         requires few { length prices.items ≤ MAX_COUNT }
         ensures { result ≡ record { level = level; prices = prices.items; costs = costs.items } }
     {
@@ -42,6 +54,7 @@ impl Prices {
             level,
             prices,
             costs,
+            least,
         }
     }
 
@@ -95,6 +108,14 @@ impl Prices {
         ensures few { length result.now ≤ MAX_COUNT }
     {
         self.costs[u as usize].values()
+    }
+
+    /// The least cost of a link from `u` into each block of transactions, `NONE` where no link leads there.
+    pub fn least_costs(&self, u: u32) -> &[u16]
+        requires { u < length self.now.prices }
+        ensures { HasLeastCosts (row_of self.now.costs u) result.now }
+    {
+        self.least[u as usize].values()
     }
 }
 
