@@ -1,45 +1,145 @@
--- Blocks of transactions, relaxed one after another.
-use Rattle.std.proofs.Common.{◌≡◌, ◌<◌, ◌≤◌, ◌+◌, ◌*◌, ℕ, zero, suc, Bool, ◌⊎◌, inl, inr, List, length, get_or, refl, arith}
-use Rattle.std.proofs.lemmas.Bool.{cases_lt}
-use Rattle.tcc_core.specs.Relaxing.{IsRelaxed, IsDone, HasBlocks, IsOpenRange}
+-- Blocks of transactions, relaxed or passed over one after another.
+use Rattle.std.proofs.Common.{◌≡◌, ◌≢◌, ◌<◌, ◌≤◌, ◌+◌, ◌*◌, ◌/◌, ◌==◌, ℕ, true, false, ◌⊎◌, inl, inr, List, length, length-set, All, get_or, get_or-set_same, get_or-set_other, set, min, max, nat_lt, refl, sym, ◌∙◌, arith}
+use Rattle.std.proofs.Math.Nat.{div-mul-le_self, min-le_left, le-min, le-max_left, le-max_right, max-le}
+use Rattle.std.proofs.lemmas.Bool.{cases_lt, cases_eq, cond-false, le-ltb}
+use Rattle.std.proofs.lemmas.Bool.Decides.{eqb_tells}
+use Rattle.tcc_near.specs.declared.distances.TheConstants.{NONE}
+use Rattle.tcc_derive.specs.Blocks.{HasLeastCosts}
+use Rattle.tcc_core.specs.declared.relaxing.TheConstants.{NO_WAY}
+use Rattle.tcc_core.specs.Relaxing.{IsMost, way_by, lesser}
+use Rattle.tcc_core.proofs.Lowering.{way_by_link, way_by_none, fits}
 
 -- what was relaxed up to block k, and not touched from there on
 pub record IsUpTo (s : ℕ) (k : ℕ) (d : ℕ) (links : List ℕ) (initial : List ℕ) (costs : List ℕ) : Type 0 where
-  pub relaxed : (u : ℕ) → s ≤ u → u < k * 64 → u < length initial → IsRelaxed d (get_or links u 0) (get_or initial u 0) (get_or costs u 0)
+  pub relaxed : (u : ℕ) → s ≤ u → u < k * 64 → u < length initial → get_or costs u 0 ≡ lesser (get_or initial u 0) (way_by d (get_or links u 0))
   pub rest : (u : ℕ) → k * 64 ≤ u → get_or costs u 0 ≡ get_or initial u 0
   pub below : (u : ℕ) → u < s → get_or costs u 0 ≡ get_or initial u 0
 
--- ---- the blocks outside the open range
-
--- each transaction stands in a block
-block_of : (u : ℕ) → (k : ℕ) × (k * 64 ≤ u) × (u < k * 64 + 64)
-block_of zero = (0, omega arith, omega arith)
-block_of (suc u) =
-    let (k, from, to) = block_of u in
-    go k from to (cases_lt (suc u) (k * 64 + 64))
-  where
-    go : (k : ℕ) → k * 64 ≤ u → u < k * 64 + 64 → (suc u < k * 64 + 64) ⊎ (k * 64 + 64 ≤ suc u) → (b : ℕ) × (b * 64 ≤ suc u) × (suc u < b * 64 + 64)
-    go k from to (inl inside) = (k, omega (arith, from), inside)
-    go k from to (inr past) = (k + 1, omega (arith, past), omega (arith, to))
-
--- nothing before the range may be lowered
-pub up_to_first : (s d first end : ℕ) (done : List Bool) (links costs : List ℕ) → IsOpenRange first end done → IsDone s d done costs → IsUpTo s first d links costs costs
-up_to_first s d first end done links costs range is = record {
-  relaxed = λ u up before within. low u up before within (block_of u);
+-- nothing from the start upward stands before the block of the start
+pub up_to_start : (s d : ℕ) (links costs : List ℕ) → IsUpTo s (s / 64) d links costs costs
+up_to_start s d links costs = record {
+  relaxed = λ u up before within. absurd (omega (arith, up, before, div-mul-le_self s 64));
   rest = λ u past. refl;
   below = λ u down. refl;
 }
-  where
-    low : (u : ℕ) → s ≤ u → u < first * 64 → u < length costs → ((k : ℕ) × (k * 64 ≤ u) × (u < k * 64 + 64)) → IsRelaxed d (get_or links u 0) (get_or costs u 0) (get_or costs u 0)
-    low u up before within (k, from, to) = inr (refl, is k u (range.before k (omega (arith, before, from))) from to up within)
 
--- nothing behind the range may be lowered
-pub relaxed_all : (s d first end b : ℕ) (done : List Bool) (links initial costs : List ℕ) → IsOpenRange first end done → IsDone s d done initial → HasBlocks (length initial) done → end ≤ b → IsUpTo s b d links initial costs → (v : ℕ) → s ≤ v → v < length initial → IsRelaxed d (get_or links v 0) (get_or initial v 0) (get_or costs v 0)
-relaxed_all s d first end b done links initial costs range is blocks all upto v up within = side (cases_lt v (b * 64))
-  where
-    low : b * 64 ≤ v → ((k : ℕ) × (k * 64 ≤ v) × (v < k * 64 + 64)) → IsRelaxed d (get_or links v 0) (get_or initial v 0) (get_or costs v 0)
-    low past (k, from, to) = inr (upto.rest v past, is k v (range.behind k (omega (arith, all, past, to)) (omega (arith, from, within, blocks.enough))) from to up within)
+-- ---- a block that is passed over
 
-    side : (v < b * 64) ⊎ (b * 64 ≤ v) → IsRelaxed d (get_or links v 0) (get_or initial v 0) (get_or costs v 0)
-    side (inl before) = upto.relaxed v up before within
-    side (inr past) = low past (block_of v)
+-- a dearer link makes no cheaper way
+way_more : (d less more : ℕ) → d < 2147483648 → less ≤ more → more ≤ NONE → way_by d less ≤ way_by d more
+way_more d less more small up most = go (eqb_tells less NONE) (eqb_tells more NONE)
+  where
+    go : (((less == NONE) ≡ true) × (less ≡ NONE)) ⊎ (((less == NONE) ≡ false) × (less ≢ NONE)) → (((more == NONE) ≡ true) × (more ≡ NONE)) ⊎ (((more == NONE) ≡ false) × (more ≢ NONE)) → way_by d less ≤ way_by d more
+    go (inl (test, same)) any =
+        let last : more ≡ NONE = omega arith in
+        omega (arith, way_by_none d less same, way_by_none d more last)
+    go (inr (test, other)) (inl (check, last)) = omega (arith, way_by_link d less other, way_by_none d more last)
+    go (inr (test, other)) (inr (check, linked)) = omega (arith, way_by_link d less other, way_by_link d more linked)
+
+lesser_kept : (a b : ℕ) → a ≤ b → lesser a b ≡ a
+lesser_kept a b up = cond-false (nat_lt b a) b a (le-ltb b a up)
+
+pub passed_over : (s k d : ℕ) (links least most initial costs : List ℕ) → d < 2147483648 → All (λ link. link ≤ NONE) links → HasLeastCosts links least → length links ≡ length initial → length costs ≡ length initial → k < length least → get_or most k 0 ≤ way_by d (get_or least k 0) → IsMost s most costs → IsUpTo s k d links initial costs → IsUpTo s (k + 1) d links initial costs
+passed_over s k d links least most initial costs small all cheapest wide long inside over is upto = record {
+  relaxed = λ u up before within. low u up before within (cases_lt u (k * 64));
+  rest = λ u past. upto.rest u (omega arith);
+  below = upto.below;
+}
+  where
+    low : (u : ℕ) → s ≤ u → u < (k + 1) * 64 → u < length initial → (u < k * 64) ⊎ (k * 64 ≤ u) → get_or costs u 0 ≡ lesser (get_or initial u 0) (way_by d (get_or links u 0))
+    low u up before within (inl done) = upto.relaxed u up done within
+    low u up before within (inr here) =
+        let same : get_or costs u 0 ≡ get_or initial u 0 = upto.rest u here in
+        let cheap : get_or least k 0 ≤ get_or links u 0 = (cheapest.each k inside).least u here (omega arith) (omega arith) in
+        let few : get_or costs u 0 ≤ get_or most k 0 = is.each k u here (omega arith) up (omega arith) in
+        same ∙ sym (lesser_kept (get_or initial u 0) (way_by d (get_or links u 0)) (omega (arith, same, few, over, way_more d (get_or least k 0) (get_or links u 0) small cheap (fits links all u))))
+
+-- ---- a block that is relaxed
+
+-- what was relaxed from one place to before another of block k
+pub record IsBlockRelaxed (from : ℕ) (to : ℕ) (d : ℕ) (links : List ℕ) (old : List ℕ) (new : List ℕ) (found : ℕ) : Type 0 where
+  pub long : length new ≡ length old
+  pub lowered : (v : ℕ) → from ≤ v → v < to → get_or new v 0 ≡ lesser (get_or old v 0) (way_by d (get_or links v 0))
+  pub before : (v : ℕ) → v < from → get_or new v 0 ≡ get_or old v 0
+  pub behind : (v : ℕ) → to ≤ v → get_or new v 0 ≡ get_or old v 0
+  pub most : (v : ℕ) → from ≤ v → v < to → get_or new v 0 ≤ found
+
+-- the places of block k from s upward
+pub record ArePlaces (s : ℕ) (k : ℕ) (n : ℕ) (from : ℕ) (to : ℕ) : Type 0 where
+  pub inside : (v : ℕ) → s ≤ v → k * 64 ≤ v → v < k * 64 + 64 → v < n → (from ≤ v) × (v < to)
+  pub down : (v : ℕ) → v < s → (v < from) ⊎ (to ≤ v)
+  pub before : (v : ℕ) → v < k * 64 → v < n → v < from
+  pub behind : to ≤ k * 64 + 64
+
+pub places_of : (s k n from to : ℕ) → to ≡ min (k * 64 + 64) n → from ≡ min (max (k * 64) s) to → ArePlaces s k n from to
+places_of s k n from to ends begins = record {
+  inside = λ v up low high within. (
+    omega (arith, begins, min-le_left (max (k * 64) s) to, upper v up low),
+    over v high within,
+  );
+  down = λ v below. side v below (cases_lt v to);
+  before = λ v low within. within_both v (omega (arith, low, le-max_left (k * 64) s)) (over v (omega (arith, low)) within);
+  behind = omega (arith, ends, min-le_left (k * 64 + 64) n);
+}
+  where
+    upper : (v : ℕ) → s ≤ v → k * 64 ≤ v → max (k * 64) s ≤ v
+    upper v up low = max-le low up
+
+    over : (v : ℕ) → v < k * 64 + 64 → v < n → v < to
+    over v high within =
+        let both : v + 1 ≤ min (k * 64 + 64) n = le-min (omega arith) (omega arith) in
+        omega (arith, both, ends)
+
+    within_both : (v : ℕ) → v < max (k * 64) s → v < to → v < from
+    within_both v low high =
+        let both : v + 1 ≤ min (max (k * 64) s) to = le-min (omega arith) (omega arith) in
+        omega (arith, both, begins)
+
+    side : (v : ℕ) → v < s → (v < to) ⊎ (to ≤ v) → (v < from) ⊎ (to ≤ v)
+    side v below (inl high) = inl (within_both v (omega (arith, below, le-max_right (k * 64) s)) high)
+    side v below (inr past) = inr past
+
+pub block_relaxed : (s k d from to found : ℕ) (links initial old new : List ℕ) → length old ≡ length initial → ArePlaces s k (length initial) from to → IsBlockRelaxed from to d links old new found → IsUpTo s k d links initial old → IsUpTo s (k + 1) d links initial new
+block_relaxed s k d from to found links initial old new long places block upto = record {
+  relaxed = λ u up before within. low u up before within (cases_lt u (k * 64));
+  rest = λ u past. block.behind u (omega (arith, places.behind)) ∙ upto.rest u (omega arith);
+  below = λ u down. under u down (places.down u down) ∙ upto.below u down;
+}
+  where
+    low : (u : ℕ) → s ≤ u → u < (k + 1) * 64 → u < length initial → (u < k * 64) ⊎ (k * 64 ≤ u) → get_or new u 0 ≡ lesser (get_or initial u 0) (way_by d (get_or links u 0))
+    low u up before within (inl done) = block.before u (places.before u done within) ∙ upto.relaxed u up done within
+    low u up before within (inr here) =
+        let there = places.inside u up here (omega arith) within in
+        let same : get_or old u 0 ≡ get_or initial u 0 = upto.rest u here in
+        rw same at (block.lowered u there.0 there.1)
+
+    under : (u : ℕ) → u < s → (u < from) ⊎ (to ≤ u) → get_or new u 0 ≡ get_or old u 0
+    under u down (inl before) = block.before u before
+    under u down (inr past) = block.behind u past
+
+pub most_relaxed : (s k d from to found : ℕ) (links most old new : List ℕ) → k < length most → ArePlaces s k (length old) from to → IsBlockRelaxed from to d links old new found → IsMost s most old → IsMost s (set most k found) new
+most_relaxed s k d from to found links most old new inside places block is = record {
+  enough = rw length-set (omega (arith, is.enough, block.long));
+  each = λ b v low high up within. go b v low high up (omega (arith, within, block.long)) (cases_eq b k) (cases_lt v (k * 64));
+}
+  where
+    go : (b v : ℕ) → b * 64 ≤ v → v < b * 64 + 64 → s ≤ v → v < length old → (b ≡ k) ⊎ (b ≡ k → ⊥) → (v < k * 64) ⊎ (k * 64 ≤ v) → get_or new v 0 ≤ get_or (set most k found) b 0
+    go b v low high up within (inl same) side =
+        let there = places.inside v up (omega (arith, same)) (omega (arith, same)) within in
+        let here : get_or (set most k found) b 0 ≡ found = rw same (get_or-set_same most k found 0 inside) in
+        omega (arith, here, block.most v there.0 there.1)
+    go b v low high up within (inr other) (inl before) =
+        let kept : get_or (set most k found) b 0 ≡ get_or most b 0 = get_or-set_other most k b found 0 other in
+        omega (arith, kept, block.before v (places.before v before within), is.each b v low high up within)
+    go b v low high up within (inr other) (inr past) =
+        let kept : get_or (set most k found) b 0 ≡ get_or most b 0 = get_or-set_other most k b found 0 other in
+        let far : k * 64 + 64 ≤ v = omega (arith, low, high, past, other) in
+        omega (arith, kept, block.behind v (omega (arith, far, places.behind)), is.each b v low high up within)
+
+-- ---- where no way leads
+
+pub most_none : (s : ℕ) (most costs : List ℕ) → length costs ≤ length most * 64 → ((v : ℕ) → v < length costs → get_or costs v 0 ≡ NO_WAY) → ((k : ℕ) → k < length most → get_or most k 0 ≡ NO_WAY) → IsMost s most costs
+most_none s most costs enough none all = record {
+  enough = enough;
+  each = λ k v low high up within. omega (arith, none v within, all k (omega (arith, low, within, enough)));
+}

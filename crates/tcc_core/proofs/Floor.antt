@@ -1,9 +1,8 @@
 -- The floor of a search: nothing outside its row costs less.
-use Rattle.std.proofs.Common.{◌≡◌, ◌≢◌, ◌<◌, ◌≤◌, ◌+◌, ◌==◌, ℕ, ◌⊎◌, inl, inr, Bool, true, false, List, length, Option, None, Some, get_or, set, length-set, replicate, zero, suc, refl, sym, ◌∙◌, arith}
-use Rattle.std.proofs.lemmas.Bool.{false≢true}
+use Rattle.std.proofs.Common.{◌≡◌, ◌≢◌, ◌<◌, ◌≤◌, ◌+◌, ◌==◌, ℕ, ◌⊎◌, inl, inr, true, false, List, length, Option, None, Some, get_or, set, length-set, arith}
 use Rattle.std.proofs.lemmas.Bool.Decides.{eqb_tells}
 use Rattle.tcc_core.specs.Rows.{in_row}
-use Rattle.tcc_core.specs.Relaxing.{IsNearest, IsOutsideAt, IsFloor, IsRelaxed, IsDone, way_by, lesser}
+use Rattle.tcc_core.specs.Relaxing.{IsNearest, IsOutsideAt, IsFloor, way_by, lesser}
 use Rattle.tcc_core.specs.Searches.{Search}
 use Rattle.tcc_core.proofs.Lowering.{IsLowered, lesser_cases, way_by_link, way_by_none}
 use Rattle.tcc_core.proofs.Steps.{out_set}
@@ -39,26 +38,5 @@ floor_after s search v new links near long lowered = record {
     by u up within out now (inl way) = omega (arith, now, way, way_above (get_or search.costs v 0) (get_or links u 0) near.reached)
     by u up within out now (inr kept) = omega (arith, now, kept, near.nearest u up within out)
 
-    relaxed : (u : ℕ) → s ≤ u → u < length search.row → in_row search.row u ≡ None → IsRelaxed (get_or search.costs v 0) (get_or links u 0) (get_or search.costs u 0) (get_or new u 0) → get_or search.costs v 0 ≤ get_or new u 0
-    relaxed u up within out (inl now) = by u up within out now (lesser_cases (get_or search.costs u 0) (way_by (get_or search.costs v 0) (get_or links u 0)))
-    relaxed u up within out (inr (same, small)) = omega (arith, same, near.nearest u up within out)
-
     low : (u : ℕ) → s ≤ u → u < length search.row → (u ≢ v) × (in_row search.row u ≡ None) → get_or search.costs v 0 ≤ get_or new u 0
-    low u up within (other, out) = relaxed u up within out (lowered.each u up (omega (arith, long, within)))
-
--- ---- blocks that are done
-
--- what costs no more than a link more than the floor costs no more than that of what joins
-pub done_on : (s d e : ℕ) (done : List Bool) (costs : List ℕ) → IsDone s d done costs → d ≤ e → IsDone s e done costs
-done_on s d e done costs is more = λ k v marked from to up within. omega (arith, is k v marked from to up within, more)
-
-pub floor_low : (s place floor : ℕ) (search : Search) (v : ℕ) → IsFloor s place floor search.row search.costs → IsNearest s search.row search.costs v → floor ≤ get_or search.costs v 0
-floor_low s place floor search v is near = is.least v near.upward near.below near.outside
-
-pub done_none : (s d : ℕ) (done : List Bool) (costs : List ℕ) → ((k : ℕ) → get_or done k false ≡ false) → IsDone s d done costs
-done_none s d done costs unmarked = λ k v marked from to up within. absurd (false≢true (sym (unmarked k) ∙ marked))
-
-pub unmarked_all : (n k : ℕ) → get_or (replicate n false) k false ≡ false
-unmarked_all zero k = refl
-unmarked_all (suc n) zero = refl
-unmarked_all (suc n) (suc k) = unmarked_all n k
+    low u up within (other, out) = by u up within out (lowered.each u up (omega (arith, long, within))) (lesser_cases (get_or search.costs u 0) (way_by (get_or search.costs v 0) (get_or links u 0)))

@@ -9,8 +9,7 @@ use Rattle.tcc_graph.specs.Links.{link_cost}
 use Rattle.tcc_graph.specs.declared.link.Link.{Link}
 use Rattle.tcc_derive.specs.Prices.{Tables, cost_at, IsLinkOf, IsCost, IsPricesOf}
 use Rattle.tcc_core.specs.Rows.{in_row}
-use Rattle.tcc_graph.proofs.Linking.{some_cost}
-use Rattle.tcc_core.specs.Relaxing.{way_by, lesser, IsRelaxed, count_joined}
+use Rattle.tcc_core.specs.Relaxing.{way_by, lesser, count_joined}
 use Rattle.tcc_near.specs.declared.distances.TheConstants.{NONE}
 use Rattle.tcc_core.specs.declared.relaxing.TheConstants.{NO_WAY}
 use Rattle.tcc_graph.specs.Tables.{row_of}
@@ -35,11 +34,6 @@ link_of_entry j t u v priced from to there = go (eqb_tells (entry t u v) NONE) (
     go (inl (test, same)) cost = absurd (there same)
     go (inr (test, other)) cost = let some = rw test at cost in some.attained
 
-pub entry_paid : (j : Judged) (t : Tables) (u v : ℕ) → IsPricesOf j t → u < count j.history → v < count j.history → entry t u v ≢ NONE → 1 ≤ entry t u v
-entry_paid j t u v priced from to there =
-    let (l, leads, paid) = link_of_entry j t u v priced from to there in
-    omega (arith, paid, some_cost l)
-
 -- ---- the lesser of two costs, and ways by a link
 
 pub lesser_left : (a b : ℕ) → lesser a b ≤ a
@@ -60,7 +54,7 @@ way_by_none d link same = grind (arith, nat_tests)
 -- from s upward each cost is relaxed by these links from where d was spent; below s it is what it was
 pub record IsLowered (s : ℕ) (old : List ℕ) (new : List ℕ) (d : ℕ) (links : List ℕ) : Type 0 where
   pub long : length new ≡ length old
-  pub each : (v : ℕ) → s ≤ v → v < length old → IsRelaxed d (get_or links v 0) (get_or old v 0) (get_or new v 0)
+  pub each : (v : ℕ) → s ≤ v → v < length old → get_or new v 0 ≡ lesser (get_or old v 0) (way_by d (get_or links v 0))
   pub kept : (v : ℕ) → v < s → get_or new v 0 ≡ get_or old v 0
 
 -- a lowered cost is what it was, or that of a way by a link to a number from s upward
@@ -76,32 +70,20 @@ lowered_cases s old new d links v is within some = side (cases_lt v s)
     go up now (inl by) (inl (test, same)) = absurd (some (now ∙ by ∙ way_by_none d (get_or links v 0) same))
     go up now (inl by) (inr (test, other)) = inr (up, other, now ∙ by ∙ way_by_link d (get_or links v 0) other)
 
-    relaxed : s ≤ v → IsRelaxed d (get_or links v 0) (get_or old v 0) (get_or new v 0) → IsKeptOrWay s old new d links v
-    relaxed up (inl now) = go up now (lesser_cases (get_or old v 0) (way_by d (get_or links v 0))) (eqb_tells (get_or links v 0) NONE)
-    relaxed up (inr (same, low)) = inl same
-
     side : (v < s) ⊎ (s ≤ v) → IsKeptOrWay s old new d links v
     side (inl down) = inl (is.kept v down)
-    side (inr up) = relaxed up (is.each v up within)
+    side (inr up) = go up (is.each v up within) (lesser_cases (get_or old v 0) (way_by d (get_or links v 0))) (eqb_tells (get_or links v 0) NONE)
 
 pub lowered_old : (s : ℕ) (old new : List ℕ) (d : ℕ) (links : List ℕ) (v : ℕ) → IsLowered s old new d links → v < length old → get_or new v 0 ≤ get_or old v 0
 lowered_old s old new d links v is within = side (cases_lt v s)
   where
-    relaxed : IsRelaxed d (get_or links v 0) (get_or old v 0) (get_or new v 0) → get_or new v 0 ≤ get_or old v 0
-    relaxed (inl now) = omega (arith, now, lesser_left (get_or old v 0) (way_by d (get_or links v 0)))
-    relaxed (inr (same, low)) = omega (arith, same)
-
     side : (v < s) ⊎ (s ≤ v) → get_or new v 0 ≤ get_or old v 0
     side (inl down) = omega (arith, is.kept v down)
-    side (inr up) = relaxed (is.each v up within)
+    side (inr up) = omega (arith, is.each v up within, lesser_left (get_or old v 0) (way_by d (get_or links v 0)))
 
--- a link costs 1 at least
-pub lowered_way : (s : ℕ) (old new : List ℕ) (d : ℕ) (links : List ℕ) (v : ℕ) → IsLowered s old new d links → s ≤ v → v < length old → get_or links v 0 ≢ NONE → 1 ≤ get_or links v 0 → get_or new v 0 ≤ d + get_or links v 0
-lowered_way s old new d links v is up within there paid = relaxed (is.each v up within)
-  where
-    relaxed : IsRelaxed d (get_or links v 0) (get_or old v 0) (get_or new v 0) → get_or new v 0 ≤ d + get_or links v 0
-    relaxed (inl now) = omega (arith, now, lesser_right (get_or old v 0) (way_by d (get_or links v 0)), way_by_link d (get_or links v 0) there)
-    relaxed (inr (same, low)) = omega (arith, same, low, paid)
+pub lowered_way : (s : ℕ) (old new : List ℕ) (d : ℕ) (links : List ℕ) (v : ℕ) → IsLowered s old new d links → s ≤ v → v < length old → get_or links v 0 ≢ NONE → get_or new v 0 ≤ d + get_or links v 0
+lowered_way s old new d links v is up within there =
+    omega (arith, is.each v up within, lesser_right (get_or old v 0) (way_by d (get_or links v 0)), way_by_link d (get_or links v 0) there)
 
 -- ---- how many a row has
 

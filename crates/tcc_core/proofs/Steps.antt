@@ -11,7 +11,7 @@ use Rattle.tcc_core.specs.Rows.{in_row, IsSearchRow, IsEmptyRow, cap_of, IsWithi
 use Rattle.tcc_core.specs.Searches.{IsSearchOf, Search}
 use Rattle.tcc_core.specs.Frontiers.{HasCome, IsWay, IsFrontier}
 use Rattle.tcc_core.specs.Relaxing.{IsNearest, IsBounded, count_joined}
-use Rattle.tcc_core.proofs.Lowering.{IsLowered, IsKeptOrWay, lowered_cases, lowered_old, lowered_way, entry_of_link, entry_paid, link_of_entry, joined_set, joined_below}
+use Rattle.tcc_core.proofs.Lowering.{IsLowered, IsKeptOrWay, lowered_cases, lowered_old, lowered_way, entry_of_link, link_of_entry, joined_set, joined_below}
 use Rattle.tcc_core.proofs.Frontier.{route_of_way, way_within, way_below}
 use Rattle.tcc_near.specs.declared.distances.TheConstants.{NONE}
 use Rattle.tcc_txn.specs.declared.limits.TheConstants.{MAX_COUNT}
@@ -168,7 +168,7 @@ frontier_after j t s row old new v d priced wide is below out small fits lowered
         now : (u ≡ v) → (c ≡ d) → (get_or new x 0 < NO_WAY) × (get_or new x 0 ≤ n)
         now same equal =
             let found = entry_of_link j t v x l priced below within (subst (λ (z : ℕ). IsLinkOf j z x l) same leads) in
-            let lower = lowered_way s old new d (row_of t.costs v) x lowered up (omega (arith, is.long)) found.0 (entry_paid j t v x priced below within found.0) in
+            let lower = lowered_way s old new d (row_of t.costs v) x lowered up (omega (arith, is.long)) found.0 in
             (omega (arith, lower, fits x), omega (arith, lower, found.1, costs, equal))
 
         inside : ((u ≡ v) × (c ≡ d)) ⊎ (in_row row u ≡ Some c) → (get_or new x 0 < NO_WAY) × (get_or new x 0 ≤ n)
@@ -250,7 +250,7 @@ search_begun j t s row old new priced below empty long none fits lowered = recor
     least x n within (up, u, c, l, inr inside, leads, costs) = absurd (no_one u c inside)
     least x n within (up, u, c, l, inl (same, nothing), leads, costs) =
         let found = entry_of_link j t s x l priced below within (subst (λ (z : ℕ). IsLinkOf j z x l) same leads) in
-        let lower = lowered_way s old new 0 (row_of t.costs s) x lowered up (omega arith) found.0 (entry_paid j t s x priced below within found.0) in
+        let lower = lowered_way s old new 0 (row_of t.costs s) x lowered up (omega arith) found.0 in
         (omega (arith, lower, fits x), omega (arith, lower, found.1, costs, nothing))
 
 pub bounded_begun : (s n : ℕ) (row : List (Option ℕ)) (old new links : List ℕ) → s < n → n ≤ MAX_COUNT → IsEmptyRow n row → length old ≡ n → ((x : ℕ) → x < n → get_or old x 0 ≡ NO_WAY) → ((x : ℕ) → get_or links x 0 ≤ NONE) → IsLowered s old new 0 links → IsBounded (record { start = s; row = row; costs = new })

@@ -1,6 +1,6 @@
 -- For the private stages and their proofs alone: nobody has to believe what stands here.
 -- Costs of ways, how links lower them, and how far they grow.
-use Rattle.std.specs.Prelude.{ℕ, ◌<◌, ◌≤◌, ◌≡◌, ◌≢◌, ◌+◌, ◌*◌, ◌==◌, ◌⊎◌, Bool, true, false, List, [], ◌∷◌, length, Option, None, Some, nat_lt, if◌then◌else◌, slice_index, slice_index_or}
+use Rattle.std.specs.Prelude.{ℕ, ◌<◌, ◌≤◌, ◌≡◌, ◌≢◌, ◌+◌, ◌*◌, ◌==◌, List, [], ◌∷◌, length, Option, None, Some, nat_lt, if◌then◌else◌, slice_index}
 use Rattle.tcc_txn.specs.declared.limits.TheConstants.{MAX_COUNT}
 use Rattle.tcc_near.specs.declared.distances.TheConstants.{NONE}
 use Rattle.tcc_core.specs.Rows.{in_row}
@@ -36,27 +36,10 @@ way_by so_far link = if link == NONE then NO_WAY else (so_far + link)
 abbrev pub lesser : ℕ → ℕ → ℕ
 lesser a b = if nat_lt b a then b else a
 
--- the cost is lowered to that of a way by a link from where d was spent, or was no more than that of a way by the
--- cheapest of links
-abbrev pub IsRelaxed : ℕ → ℕ → ℕ → ℕ → Type 0
-IsRelaxed d link old new = (new ≡ lesser old (way_by d link)) ⊎ ((new ≡ old) × (old ≤ d + 1))
-
--- from s upward nothing in the blocks that are done costs more than a way by the cheapest of links from where d was spent
-abbrev pub IsDone : ℕ → ℕ → List Bool → List ℕ → Type 0
-IsDone s d done costs =
-    (k : ℕ) (v : ℕ) → slice_index_or done k false ≡ true → k * 64 ≤ v → v < k * 64 + 64 → s ≤ v → v < length costs → slice_index costs v ≤ d + 1
-
--- few blocks, and enough for so many transactions
-pub record HasBlocks (n : ℕ) (done : List Bool) : Type 0 where
-  pub few : length done ≤ MAX_COUNT
-  pub enough : n ≤ length done * 64
-
--- each block outside the range is done
-pub record IsOpenRange (first : ℕ) (end : ℕ) (done : List Bool) : Type 0 where
-  pub upward : first ≤ end
-  pub within : end ≤ length done
-  pub before : (k : ℕ) → k < first → slice_index_or done k false ≡ true
-  pub behind : (k : ℕ) → end ≤ k → k < length done → slice_index_or done k false ≡ true
+-- blocks of 64 for so many transactions, and from s upward nothing in a block costs more than the most of the block
+pub record IsMost (s : ℕ) (most : List ℕ) (costs : List ℕ) : Type 0 where
+  pub enough : length costs ≤ length most * 64
+  pub each : (k : ℕ) (v : ℕ) → k * 64 ≤ v → v < k * 64 + 64 → s ≤ v → v < length costs → slice_index costs v ≤ slice_index most k
 
 -- how many transactions the row has
 abbrev pub count_joined : List (Option ℕ) → ℕ

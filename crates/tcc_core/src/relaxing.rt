@@ -1,25 +1,17 @@
 //! The frontier of a search: what the ways to the transactions outside its row cost. Nothing below the start is looked at.
-ghost use Rattle.std.specs.Prelude.{◌≡◌, ◌<◌, ◌≤◌, ◌^◌, ℕ, true, false, length, slice_index, slice_index_or, All, IfNone, IfSome};
+ghost use Rattle.std.specs.Prelude.{◌≡◌, ◌<◌, ◌≤◌, ◌^◌, ℕ, length, slice_index, All, IfNone, IfSome};
+ghost use Rattle.tcc_derive.specs.Blocks.{HasLeastCosts};
 ghost use Rattle.tcc_core.specs.Rows.{in_row, IsEmptyRow};
-ghost use Rattle.tcc_core.specs.Relaxing.{IsNearest, IsOutsideAt, IsFloor, IsRelaxed, IsDone, HasBlocks, IsOpenRange, way_by, lesser};
+ghost use Rattle.tcc_core.specs.Relaxing.{IsNearest, IsOutsideAt, IsFloor, IsMost, way_by, lesser};
 ghost use Rattle.tcc_txn.specs.declared.limits.TheConstants.{MAX_COUNT};
 ghost use Rattle.tcc_near.specs.declared.distances.TheConstants.{NONE};
 ghost use Rattle.tcc_core.specs.declared.relaxing.TheConstants.{NO_WAY};
 
+use tcc_derive::BLOCK;
 use tcc_near::NONE;
-
-/// So many transactions make a block.
-pub(crate) const BLOCK: usize = 64;
 
 /// What the costs have where no way leads.
 pub(crate) const NO_WAY: u32 = u32::MAX;
-
-/// The blocks from the first to before the end may still be open; those outside are done.
-#[derive(Clone, Copy)]
-pub(crate) struct Open {
-    pub first: usize,
-    pub end: usize,
-}
 
 /// One of the nearest of the transactions from the start upward that stand outside the row; none where no way leads to
 /// any of them.
@@ -132,94 +124,32 @@ fn relax_block(from: usize, to: usize, costs: &mut [u32], so_far: u32, links: &[
     most
 }
 
-/// The first open block from this one on; the end where all before it are done.
-fn first_open(first: usize, end: usize, done: &[bool]) -> usize
-    requires { IsOpenRange first end done.now }
-    ensures { IsOpenRange result end done.now }
-{
-    for block in first..end {
-        if !done[block] {
-            return block;
-        }
-    }
-    end
-}
-
-/// The place behind the last open block before the end; the first where all from there on are done.
-fn end_open(first: usize, end: usize, done: &[bool]) -> usize
-    requires { IsOpenRange first end done.now }
-    ensures { IsOpenRange first result done.now }
-{
-    for block in (first..end).rev() {
-        if !done[block] {
-            return block + 1;
-        }
-    }
-    first
-}
-
-/// Takes the blocks that are done off both ends of the range.
-fn narrow(range: &mut Open, done: &[bool])
-    requires { IsOpenRange range.old.first range.old.end done.now }
-    ensures { IsOpenRange range.new.first range.new.end done.now }
-{
-    range.first = first_open(range.first, range.end, done);
-    range.end = end_open(range.first, range.end, done);
-}
-
-/// The range of all blocks.
-pub(crate) fn all_open(done: &[bool]) -> Open
-    ensures { IsOpenRange result.first result.end done.now }
-{
-    Open {
-        first: 0,
-        end: done.len(),
-    }
-}
-
 /// Lowers the costs from the start upward to those of the ways that lead on by these links from where so much was spent.
-/// Blocks that are done are passed over, since no link costs less than 1; those where that goes for all costs now are
-/// done from here on. Only the open range is looked at, and it is narrowed.
+/// A block is passed over where the cheapest link into it makes none of its costs less.
 pub(crate) fn relax(
     start: u32,
     costs: &mut [u32],
     so_far: u32,
     links: &[u16],
-    done: &mut [bool],
-    range: &mut Open,
+    least: &[u16],
+    most: &mut [u32],
 )
     requires small { so_far < 2 ^ 31 }
     requires long { length links.now ≡ length costs.old }
-    requires blocks { HasBlocks (length costs.old) done.old }
-    requires done { IsDone start so_far done.old costs.old }
-    requires range { IsOpenRange range.old.first range.old.end done.old }
+    requires least { HasLeastCosts links.now least.now }
+    requires most { IsMost start most.old costs.old }
     ensures links { All (λ link. link ≤ NONE) links.now }
     ensures lowered { (v : ℕ) → start ≤ v → v < length costs.old
-        → IsRelaxed so_far (slice_index links.now v) (slice_index costs.old v) (slice_index costs.new v) }
+        → slice_index costs.new v ≡ lesser (slice_index costs.old v) (way_by so_far (slice_index links.now v)) }
     ensures kept { (v : ℕ) → v < start → slice_index costs.new v ≡ slice_index costs.old v }
     ensures long { length costs.new ≡ length costs.old }
-    ensures blocks { HasBlocks (length costs.old) done.new }
-    ensures done { IsDone start so_far done.new costs.new }
-    ensures range { IsOpenRange range.new.first range.new.end done.new }
+    ensures most { IsMost start most.new costs.new }
 {
-    for block in range.first..range.end {
-        if !done[block] {
+    for block in start as usize / BLOCK..least.len() {
+        if way_by(so_far, least[block]) < most[block] {
             let to = (block * BLOCK + BLOCK).min(costs.len());
             let from = (block * BLOCK).max(start as usize).min(to);
-            if relax_block(from, to, costs, so_far, links) <= so_far + 1 {
-                done[block] = true;
-            }
+            most[block] = relax_block(from, to, costs, so_far, links);
         }
-    }
-    narrow(range, done);
-}
-
-/// No block is done.
-pub(crate) fn reopen(done: &mut [bool])
-    ensures long { length done.new ≡ length done.old }
-    ensures open { (k : ℕ) → slice_index_or done.new k false ≡ false }
-{
-    for block in 0..done.len() {
-        done[block] = false;
     }
 }

@@ -6,7 +6,7 @@ ghost use Rattle.tcc_txn.specs.declared.limits.TheConstants.{MAX_COUNT};
 ghost use Rattle.tcc_graph.specs.Tables.{row_of};
 
 use crate::Settled;
-use crate::relaxing::{BLOCK, NO_WAY, Open, all_open, empty, forget, nearest_from, relax, reopen};
+use crate::relaxing::{NO_WAY, empty, forget, nearest_from, relax};
 use std::alloc::Global;
 use std::marker::Model;
 use tcc_derive::Prices;
@@ -23,15 +23,13 @@ pub struct Search {
     floor: u32,
     /// From this place on transactions outside the row are looked for that cost as much as the floor.
     place: u32,
-    /// Blocks of transactions, all of which cost no more than the floor and a link more.
-    done: Vec<bool>,
-    /// Each block outside this range is done.
-    range: Open,
+    /// For each block of transactions a cost that none of them from the start upward is above.
+    most: Vec<u32>,
 }
 
 impl Model for Search {
     ghost use Rattle.std.specs.Prelude.{length};
-    ghost use Rattle.tcc_core.specs.Relaxing.{IsBounded, IsFloor, IsDone, HasBlocks, IsOpenRange};
+    ghost use Rattle.tcc_core.specs.Relaxing.{IsBounded, IsFloor, IsMost};
     ghost use Rattle.tcc_core.specs.Searches as searches;
 
     ghost Value = { searches.Search };
@@ -39,9 +37,7 @@ impl Model for Search {
     ghost view = { λ s. record { start = s.start; row = s.row.items; costs = s.costs.items } };
 
     ghost invariant = { λ s. IsBounded (record { start = s.start; row = s.row.items; costs = s.costs.items })
-        × (IsFloor s.start s.place s.floor s.row.items s.costs.items
-        × (HasBlocks (length s.costs.items) s.done.items × (IsDone s.start s.floor s.done.items s.costs.items
-        × IsOpenRange s.range.first s.range.end s.done.items))) };
+        × (IsFloor s.start s.place s.floor s.row.items s.costs.items × IsMost s.start s.most.items s.costs.items) };
 }
 
 impl Search {
@@ -50,7 +46,6 @@ impl Search {
 
     /// A search from this start with an empty row: the start is not in it, since its distance to itself is that of a
     /// cycle that meets nothing below it.
-    #[tactic(auto, using(crate::proofs::Floor::done_none))]
     pub fn begin(alloc: Global, prices: &Prices, start: u32) -> Result<Search, NoMemory>
         requires { start < length prices.now.prices }
         ensures start { IfOk result (λ search. search.start ≡ start) }
@@ -59,16 +54,9 @@ impl Search {
     {
         let count = prices.count() as usize;
         let mut costs = vec![in alloc; NO_WAY; count]?;
-        let mut done = vec![in alloc; false; count / BLOCK + 1]?;
-        let mut range = all_open(&done);
-        relax(
-            start,
-            &mut costs,
-            0,
-            prices.costs(start),
-            &mut done,
-            &mut range,
-        );
+        let least = prices.least_costs(start);
+        let mut most = vec![in alloc; NO_WAY; least.len()]?;
+        relax(start, &mut costs, 0, prices.costs(start), least, &mut most);
         let row = vec![in alloc; None; count]?;
         Ok(Search {
             start,
@@ -76,14 +64,12 @@ impl Search {
             costs,
             floor: 0,
             place: count as u32,
-            done,
-            range,
+            most,
         })
     }
 
     /// Puts the search at the opening of another start, as `begin` does, whatever it was before. It takes no memory. The
     /// prices are those that the search began with.
-    #[tactic(auto, using(crate::proofs::Floor::done_none))]
     pub fn renew(&mut self, prices: &Prices, start: u32)
         requires start { start < length prices.now.prices }
         requires long { length self.old.row ≡ length prices.now.prices }
@@ -94,11 +80,10 @@ impl Search {
         empty(&mut self.row);
         let costs = self.costs.as_mut_slice();
         forget(costs);
-        let done = self.done.as_mut_slice();
-        reopen(done);
-        let mut range = all_open(done);
-        relax(start, costs, 0, prices.costs(start), done, &mut range);
-        self.range = range;
+        let most = self.most.as_mut_slice();
+        forget(most);
+        let least = prices.least_costs(start);
+        relax(start, costs, 0, prices.costs(start), least, most);
         self.start = start;
         self.floor = 0;
         self.place = prices.count();
@@ -128,8 +113,8 @@ impl Search {
             &mut self.costs,
             distance,
             prices.costs(next),
-            &mut self.done,
-            &mut self.range,
+            prices.least_costs(next),
+            &mut self.most,
         );
         self.floor = distance;
         self.place = next + 1;

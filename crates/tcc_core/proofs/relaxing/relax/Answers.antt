@@ -1,20 +1,49 @@
-use Rattle.std.proofs.Common.{arith, refl}
+use Rattle.std.proofs.Common.{◌≡◌, ◌<◌, length, arith}
 use Rattle.std.proofs.lemmas.Grind.{get_or_default_zero}
-use Rattle.tcc_core.proofs.Blocks.{up_to_first, relaxed_all}
+use Rattle.tcc_core.proofs.Blocks.{IsBlockRelaxed, ArePlaces, up_to_start, passed_over, places_of, block_relaxed, most_relaxed}
+use Rattle.tcc_core.proofs.relaxing.relax.Goals.{then-way_by-most, else-way_by-most}
 use Rattle.tcc_core.proofs.relaxing.relax.Goals as goal
 
 pub loop-block-init : goal.loop-block-init
-loop-block-init c = (
-  refl,
-  refl,
-  up_to_first c.args.start c.args.so_far c.args.range.now.first c.args.range.now.end c.args.done.now c.args.links.now c.args.costs.now c.requires.range c.requires.done,
-  c.requires.done,
-  c.requires.range,
-)
+loop-block-init c = (up_to_start c.args.start c.args.so_far c.args.links.now c.args.costs.now, c.requires.most)
 
 pub returns-clause-links : goal.returns-clause-links
 returns-clause-links c = λ k d below. omega (arith, c.type_inv.links k, get_or_default_zero c.args.links.now k d below)
 
+pub loop-block-preserved : goal.loop-block-preserved
+loop-block-preserved c =
+    let s = c.args.start in
+    let d = c.args.so_far in
+    let k = c.loop-block.block in
+    let links = c.args.links.now in
+    let least = c.args.least.now in
+    let initial = c.args.costs.now in
+    let costs = c.loop-block.costs in
+    let most = c.loop-block.most in
+    let long : length costs ≡ length initial = c.loop-block.auto.costs in
+    let (upto, is) = c.loop-block.invariant in
+    let inside : k < length most = omega (arith, c.loop-block-test.true, c.requires.least.few, c.requires.long, long, is.enough) in
+    elim c.if-way_by-most.branch [
+      | then-way_by-most w ↦
+          let places : ArePlaces s k (length costs) w.min-from.result w.min-to.result = places_of s k (length costs) w.min-from.result w.min-to.result w.min-to.ensures (rw w.max.ensures at w.min-from.ensures) in
+          let block : IsBlockRelaxed w.min-from.result w.min-to.result d links costs w.relax_block.new.costs w.relax_block.result = record {
+            long = w.relax_block.ensures.long;
+            lowered = w.relax_block.ensures.lowered;
+            before = w.relax_block.ensures.before;
+            behind = w.relax_block.ensures.behind;
+            most = w.relax_block.ensures.most;
+          } in
+          rw (w.costs-is, w.most-is) (
+            block_relaxed s k d w.min-from.result w.min-to.result w.relax_block.result links initial costs w.relax_block.new.costs long (rw long at places) block upto,
+            most_relaxed s k d w.min-from.result w.min-to.result w.relax_block.result links most costs w.relax_block.new.costs inside places block is,
+          )
+      | else-way_by-most w ↦
+          rw (w.costs-is, w.most-is) (
+            passed_over s k d links least most initial costs c.requires.small (λ i e below. omega (arith, c.type_inv.links i, get_or_default_zero links i e below)) c.requires.least (c.requires.long) long c.loop-block-test.true (omega (arith, w.if-way_by-most.false, c.way_by.ensures)) is upto,
+            is,
+          )
+    ]
+
 pub returns-clause-lowered : goal.returns-clause-lowered
 returns-clause-lowered c =
-    relaxed_all c.args.start c.args.so_far c.args.range.now.first c.args.range.now.end c.loop-block.block c.args.done.now c.args.links.now c.args.costs.now c.loop-block.costs c.requires.range c.requires.done c.requires.blocks (omega (arith, c.loop-block-test.false)) c.loop-block.invariant.2
+    λ v up within. c.loop-block.invariant.0.relaxed v up (omega (arith, c.loop-block-test.false, within, c.requires.long, c.requires.least.enough)) within

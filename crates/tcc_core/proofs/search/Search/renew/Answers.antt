@@ -36,7 +36,7 @@ invariant_of-self c =
     let row = c.empty.new.row in
     let old = c.forget.new.costs in
     let new = c.relax.new.costs in
-    let flags = c.relax.new.done in
+    let most = c.relax.new.most in
     let there : length c.self.inside.row.items ≡ n = search rules in
     let level : length c.self.inside.costs.items ≡ length c.self.inside.row.items = c.self.invariant.0.long in
     let row_same : length row ≡ length c.self.inside.row.items = search rules in
@@ -44,15 +44,15 @@ invariant_of-self c =
     let old_same : length old ≡ length c.self.inside.costs.items = search rules in
     let new_same : length new ≡ length old = search rules in
     let long : c.self.inside.costs.len ≡ length c.self.inside.costs.items = search rules in
-    let flags_same : length flags ≡ length c.self.inside.done.items = search rules in
-    let flags_long : c.self.inside.done.len ≡ length c.self.inside.done.items = search rules in
+    let most_same : length most ≡ length c.self.inside.most.items = search rules in
+    let most_long : c.self.inside.most.len ≡ length c.self.inside.most.items = search rules in
     let empty : IsEmptyRow n row = record { long = row_same ∙ there; empty = c.empty.ensures.empty } in
     let unspent : (x : ℕ) → x < n → get_or old x 0 ≡ NO_WAY = λ x within. c.forget.ensures.none x (omega (arith, within, there, level, old_same, c.forget.ensures.long)) in
     let lowered : IsLowered c.args.start old new 0 c.costs.result.now = record { long = new_same; each = c.relax.ensures.lowered; kept = c.relax.ensures.kept } in
-    rw (take_at new _ c.self.inside.costs.len (new_same ∙ old_same ∙ sym long), take_at row _ c.self.inside.row.len (row_same ∙ sym row_long), take_at flags _ c.self.inside.done.len (flags_same ∙ sym flags_long)) (
+    rw (take_at new _ c.self.inside.costs.len (new_same ∙ old_same ∙ sym long), take_at row _ c.self.inside.row.len (row_same ∙ sym row_long), take_at most _ c.self.inside.most.len (most_same ∙ sym most_long)) (
       bounded_begun c.args.start n row old new c.costs.result.now c.requires.start (omega (arith, c.costs.ensures.few, c.costs.ensures.long)) empty (old_same ∙ level ∙ there) unspent (fits c.costs.result.now c.relax.ensures.links) lowered,
       (
         record { upward = omega (arith, c.requires.start, c.count-self-inside.ensures.value); some = omega arith; least = λ v up below out. omega arith },
-        (record { few = c.relax.ensures.blocks.few; enough = omega (arith, c.relax.ensures.blocks.enough, c.relax.ensures.long) }, (c.relax.ensures.done, c.relax.ensures.range)),
+        c.relax.ensures.most,
       ),
     )

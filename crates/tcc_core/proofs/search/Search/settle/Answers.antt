@@ -8,7 +8,7 @@ use Rattle.tcc_core.specs.Searches.{Search, IsSearchOf, Settles}
 use Rattle.tcc_core.specs.declared.settled.Settled.TheVariants as settled
 use Rattle.tcc_core.proofs.Lowering.{IsLowered, fits}
 use Rattle.tcc_core.proofs.Steps.{nothing_near, settles_cut, settles_returned, settles_more, near_from, lowered_from, small_enough, after, bounded_after, search_after}
-use Rattle.tcc_core.proofs.Floor.{floor_after, floor_low, done_on}
+use Rattle.tcc_core.proofs.Floor.{floor_after}
 use Rattle.tcc_core.proofs.search.Search.settle.Goals as goal
 use Rattle.tcc_core.proofs.search.Search.settle.Goals.{then-next-self, else-next-self}
 use Rattle.tcc_near.specs.declared.distances.TheConstants.{NONE}
@@ -49,24 +49,16 @@ invariant_of-self c =
     let same : length c.relax.new.costs ≡ length old.costs = search rules in
     let long : c.self.inside.costs.len ≡ length old.costs = search rules in
     let lowered : IsLowered old.start old.costs c.relax.new.costs (get_or old.costs v 0) c.costs.result.now = record { long = same; each = rw (c.deref_mut.ensures.value, is) at c.relax.ensures.lowered; kept = rw c.deref_mut.ensures.value at c.relax.ensures.kept } in
-    let flags = c.relax.new.done in
-    let flags_same : length flags ≡ length c.self.inside.done.items = search rules in
-    let flags_long : c.self.inside.done.len ≡ length c.self.inside.done.items = search rules in
-    rw (take_at c.relax.new.costs _ c.self.inside.costs.len (same ∙ sym long), take_at flags _ c.self.inside.done.len (flags_same ∙ sym flags_long), is) (
+    let most = c.relax.new.most in
+    let most_same : length most ≡ length c.self.inside.most.items = search rules in
+    let most_long : c.self.inside.most.len ≡ length c.self.inside.most.items = search rules in
+    rw (take_at c.relax.new.costs _ c.self.inside.costs.len (same ∙ sym long), take_at most _ c.self.inside.most.len (most_same ∙ sym most_long), is) (
       bounded_after old.start old v c.relax.new.costs c.costs.result.now c.self.invariant.0 near (fits c.costs.result.now c.relax.ensures.links) lowered,
       (
         floor_after old.start old v c.relax.new.costs c.costs.result.now near c.self.invariant.0.long lowered,
-        (record { few = c.relax.ensures.blocks.few; enough = omega (arith, c.relax.ensures.blocks.enough, c.relax.ensures.long) }, (rw is at c.relax.ensures.done, c.relax.ensures.range)),
+        c.relax.ensures.most,
       ),
     )
-
-pub relax-requires-clause-done : goal.relax-requires-clause-done
-relax-requires-clause-done c =
-    let old : Search = record { start = c.self.inside.start; row = c.self.inside.row.items; costs = c.self.inside.costs.items } in
-    let v = c.in-Some.next in
-    let near : IsNearest old.start old.row old.costs v = rw (c.deref.ensures.value, c.deref-2.ensures.value) at c.in-Some.ensures.found in
-    let is : c.index-distance.result.now ≡ get_or old.costs v 0 = grind (arith, common_steps, near.below, c.self.invariant.0.long) in
-    rw (c.deref_mut.ensures.value, c.deref_mut-2.ensures.value, is) (done_on old.start c.self.inside.floor (get_or old.costs v 0) c.self.inside.done.items old.costs c.self.invariant.1.1.1.0 (floor_low old.start c.self.inside.place c.self.inside.floor old v c.self.invariant.1.0 near))
 
 pub returns-clause-search : goal.returns-clause-search
 returns-clause-search c =
