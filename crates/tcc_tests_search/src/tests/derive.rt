@@ -1,11 +1,11 @@
 //! Worked histories, with prices and reasons worked out by hand.
 use crate::tests::histories::{
-    CHAIN, MUTUAL, STALE_READ, TWO_WRITERS, graph_of, is_level, near_of, prices_of,
+    CHAIN, MUTUAL, STALE_READ, TWO_WRITERS, graph_of, is_level, near_of, priced, prices_of,
 };
 use std::alloc::Global;
 use std::process::Abort;
 use std::thread::Threads;
-use tcc_derive::{first_name, reason};
+use tcc_derive::{BLOCK, first_name, reason};
 use tcc_graph::{Level, Link, Step, Walk};
 use tcc_near::NONE;
 use tcc_txn::Name;
@@ -211,6 +211,55 @@ fn first_reasons(rt: HostRuntime) {
     ];
     for (records, b, a, wanted) in cases {
         assert_reason(&rt, alloc, Level::Causal, records, b, a, wanted);
+    }
+}
+
+/// One session of 139 writers of x, and a reader of one of their values: from the last of them no link leads into the first
+/// of the blocks.
+fn long_records(rt: &impl Abort, alloc: Global) -> String {
+    let mut text = String::new(alloc);
+    for number in 1..140 {
+        let row = format!(in alloc; "a,begin\na,w,x,{number}\na,commit\n").expect(rt, "no memory");
+        text.push_str(row.as_str()).expect(rt, "no memory");
+    }
+    text.push_str("b,begin\nb,r,x,70\nb,commit\n")
+        .expect(rt, "no memory");
+    text
+}
+
+/// The least costs into blocks are those of the rows of costs, and there are no more of them.
+fn assert_least(rt: &(impl Abort + Threads + Sync), alloc: Global, level: Level, records: &str) {
+    let prices = priced(rt, alloc, records, level);
+    for from in 0..prices.count() {
+        let least = prices.least_costs(from);
+        let costs = prices.costs(from);
+        assert_eq!(rt; least.len(), costs.len().div_ceil(BLOCK), "of {records}");
+        for (block, links) in costs.chunks(BLOCK).enumerate() {
+            assert_eq!(rt; least.get(block), links.iter().min(), "of {records}");
+        }
+    }
+}
+
+#[test]
+fn least_costs_row_by_row(rt: HostRuntime) {
+    let alloc = rt.alloc();
+    let long = long_records(&rt, alloc);
+    let cases = [
+        FRACTURED,
+        STALE_READ,
+        CHAIN,
+        TWO_WRITERS,
+        MUTUAL,
+        TWO_READERS,
+        TWO_KEYS,
+        NEARER_KEY,
+        TWO_WALKS,
+        TWO_STEPS,
+        long.as_str(),
+    ];
+    for records in cases {
+        assert_least(&rt, alloc, Level::Causal, records);
+        assert_least(&rt, alloc, Level::Atomic, records);
     }
 }
 
