@@ -16,7 +16,7 @@ use Rattle.tcc_near.proofs.Walks.{within_more, within_one, within_one_from, with
 use Rattle.tcc_near.specs.declared.distances.TheConstants.{NONE}
 
 -- what stands in a row: none, or a number
-abbrev Read : List ℕ → ℕ → Type 0
+abbrev pub Read : List ℕ → ℕ → Type 0
 Read row b = ((slice_index row b ≡ NONE) × (least_in row b ≡ None)) ⊎ ((slice_index row b ≢ NONE) × (least_in row b ≡ Some (slice_index row b)))
 
 pub read : (row : List ℕ) (b : ℕ) → Read row b

@@ -1,21 +1,17 @@
 -- Last places, one transaction after another.
-use Rattle.std.proofs.Common.{◌≡◌, ◌≢◌, ◌<◌, ◌≤◌, ◌+◌, ℕ, ◌⊎◌, inl, inr, List, [], length, get_or, set, sym, arith, subst, replicate, slice_index}
+use Rattle.std.proofs.Common.{◌≡◌, ◌≢◌, ◌<◌, ◌≤◌, ◌+◌, ℕ, ◌⊎◌, inl, inr, List, [], length, map, get_or, ◌∙◌, ap, arith, subst, replicate, slice_index, Option}
 use Rattle.std.specs.Prelude.{max}
-use Rattle.std.proofs.lemmas.Bool.{cases_lt, cases_eq}
-use Rattle.std.proofs.lemmas.List.{get_or-replicate, get_or-set_same, get_or-set_other}
+use Rattle.std.proofs.lemmas.Bool.{cases_lt, cases_eq, ne_eqb}
+use Rattle.std.proofs.lemmas.List.{get_or-replicate, get_or-map, length-map, length-replicate}
 use Rattle.tcc_reads.specs.History.{History, count, owner, place}
-use Rattle.tcc_graph.specs.Numbers.{at}
-use Rattle.tcc_graph.specs.Walks.{IsReached}
+use Rattle.tcc_graph.specs.Levels.{causally, IsAllowedWalk}
+use Rattle.tcc_graph.specs.Tables.{row_of}
+use Rattle.tcc_graph.specs.declared.step.Step.{Step}
 use Rattle.tcc_near.specs.Clocks.{IsBehind, IsClocksOf}
-use Rattle.tcc_near.specs.ClockRows.{IsLastBelow, IsClock}
-
--- clocks that are right one by one are the table
-pub clocks_from_rows : (h : History) (rows : List (List ℕ)) → (length rows ≡ count h) × ((t : ℕ) (d : List ℕ) → t < count h → IsClock h t (get_or rows t d)) → IsClocksOf h rows
-clocks_from_rows h rows (long, each) = record {
-  long = long;
-  wide = λ t d l. (each t d (omega arith)).wide;
-  exact = λ t session at of. (each t [] at).exact session of;
-}
+use Rattle.tcc_near.specs.ClockRows.{IsLastBelow, AreLastsBelow, AreLasts, HaveLasts, raised}
+use Rattle.tcc_near.specs.Distances.{NearTable, IsNearOf, IsShortest, IsWalkDistance}
+use Rattle.tcc_near.proofs.BreadthLemmas.{Read, read}
+use Rattle.tcc_near.specs.declared.distances.TheConstants.{NONE}
 
 -- at the start every place is 0
 pub none_below : (h : History) (t session last : ℕ) → last ≡ 0 → IsLastBelow h t session 1 last
@@ -52,28 +48,51 @@ last_raised h t session n last before behind = record {
     which (inr more) (inl none) = let e : max (place h n) last ≡ 0 = omega arith in inl e
     which (inr more) (inr (b, is, at)) = let e : place h b ≡ max (place h n) last = omega arith in inr (b, is, e)
 
--- the last places of all sessions below n
-abbrev Lasts : History → ℕ → ℕ → List ℕ → Type 0
-Lasts h t n places = (session : ℕ) → session < length h.sessions → IsLastBelow h t session n (slice_index places session)
+-- nothing stands behind yet
+pub lasts_at_start : (h : History) (session n : ℕ) → n ≡ count h → AreLastsBelow h session 1 (replicate n 0)
+lasts_at_start h session n long = record {
+  long = length-replicate n 0 ∙ long;
+  exact = λ t below. none_below h t session (slice_index (replicate n 0) t) (get_or-replicate n t 0 0 (omega arith));
+}
 
-pub lasts_at_start : (h : History) (t : ℕ) → Lasts h t 1 (replicate (length h.sessions) 0)
-lasts_at_start h t = λ session of. none_below h t session (slice_index (replicate (length h.sessions) 0) session) (get_or-replicate (length h.sessions) session 0 0 of)
+-- one more transaction of another session
+pub lasts_kept : (h : History) (session n : ℕ) (row : List ℕ) → AreLastsBelow h session n row → (owner h n ≡ session → ⊥) → AreLastsBelow h session (n + 1) row
+lasts_kept h session n row before other = record {
+  long = before.long;
+  exact = λ t below. last_kept h t session n (slice_index row t) (before.exact t below) (λ behind. other behind.owned);
+}
 
-pub lasts_unreached : (h : History) (t n : ℕ) (places : List ℕ) → Lasts h t n places → (IsReached h n t → ⊥) → Lasts h t (n + 1) places
-lasts_unreached h t n places before not = λ session of. last_kept h t session n (slice_index places session) (before session of) (λ behind. not behind.reached)
-
-pub lasts_raised : (h : History) (t n : ℕ) (places : List ℕ) → Lasts h t n places → 0 < n → n < count h → IsReached h n t → length places ≡ length h.sessions
-    → Lasts h t (n + 1) (set places (owner h n) (max (place h n) (slice_index places (owner h n))))
-lasts_raised h t n places before some below reached inside = λ session of. go session of (cases_eq session (owner h n))
+-- one more transaction of the session
+pub lasts_raised : (h : History) (near : NearTable) (session n : ℕ) (row new : List ℕ) → IsNearOf (causally h) near → AreLastsBelow h session n row → 0 < n → n < count h → owner h n ≡ session → length new ≡ length row
+    → ((t : ℕ) → t < length row → slice_index new t ≡ raised (place h n) (slice_index (row_of near.rows n) t) (slice_index row t)) → AreLastsBelow h session (n + 1) new
+lasts_raised h near session n row new is before some below owned same each = record {
+  long = same ∙ before.long;
+  exact = λ t to. go t to (read (row_of near.rows n) t);
+}
   where
-    new : List ℕ
-    new = set places (owner h n) (max (place h n) (slice_index places (owner h n)))
+    go : (t : ℕ) → t < count h → Read (row_of near.rows n) t → IsLastBelow h t session (n + 1) (slice_index new t)
+    go t to (inl r) =
+        let away : (walk : List Step) → IsAllowedWalk (causally h) n t walk → ⊥ = subst (λ (d : Option ℕ). IsWalkDistance (causally h) n t d) r.1 (is.exact n t below to) in
+        rw (each t (omega (arith, before.long)), r.0) (last_kept h t session n (slice_index row t) (before.exact t to) (λ behind. away behind.reached.0 (behind.reached.1, tt)))
+    go t to (inr r) =
+        let shortest : IsShortest (causally h) n t (slice_index (row_of near.rows n) t) = subst (λ (d : Option ℕ). IsWalkDistance (causally h) n t d) r.1 (is.exact n t below to) in
+        let walk = shortest.attained in
+        rw (each t (omega (arith, before.long)), ne_eqb (slice_index (row_of near.rows n) t) NONE r.0)
+        (last_raised h t session n (slice_index row t) (before.exact t to) record { committed = some; below = below; owned = owned; reached = (walk.0, walk.1.0) })
 
-    go : (session : ℕ) → session < length h.sessions → (session ≡ owner h n) ⊎ (session ≢ owner h n) → IsLastBelow h t session (n + 1) (slice_index new session)
-    go session of (inl same) =
-        let inside : owner h n < length places = omega arith in
-        let at : slice_index new session ≡ max (place h n) (slice_index places session) = rw same (get_or-set_same places (owner h n) (max (place h n) (slice_index places (owner h n))) 0 inside) in
-        rw at (last_raised h t session n (slice_index places session) (before session of) record { committed = some; below = below; owned = sym same; reached = reached })
-    go session of (inr other) =
-        rw (get_or-set_other places (owner h n) session (max (place h n) (slice_index places (owner h n))) 0 other)
-        (last_kept h t session n (slice_index places session) (before session of) (λ behind. other (sym behind.owned)))
+-- all transactions were looked at
+pub lasts_whole : (h : History) (session n : ℕ) (row : List ℕ) → count h ≤ n → AreLastsBelow h session n row → AreLasts h session row
+lasts_whole h session n row all is = record {
+  long = is.long;
+  exact = λ t below. record { attained = (is.exact t below).attained; greatest = λ b behind. (is.exact t below).greatest b (omega (arith, behind.below)) behind };
+}
+
+-- the rows of sessions, turned round, are the clocks
+pub clocks_from_lasts : (h : History) (lasts rows : List (List ℕ)) → HaveLasts h lasts → length rows ≡ count h → ((t : ℕ) (d : List ℕ) → t < count h → get_or rows t d ≡ map (λ row. slice_index row t) lasts) → IsClocksOf h rows
+clocks_from_lasts h lasts rows are long each = record {
+  long = long;
+  wide = λ t d l. ap length (each t d (omega arith)) ∙ (length-map lasts (λ row. slice_index row t) ∙ are.long);
+  exact = λ t session at of.
+      let inside : session < length lasts = omega (arith, are.long) in
+      rw (each t [] at, get_or-map (λ row. slice_index row t) lasts session [] 0 inside) ((are.each session of).exact t at);
+}

@@ -1,10 +1,11 @@
 -- Rows worked out one by one.
-use Rattle.std.proofs.Common.{◌≡◌, ◌<◌, ◌-◌, ℕ, zero, suc, List, [], ◌∷◌, length, map, get_or, sym, ◌∙◌, ap, arith, subst, zero-add}
+use Rattle.std.proofs.Common.{◌≡◌, ◌<◌, ◌+◌, ◌-◌, ◌⊎◌, inl, inr, ℕ, zero, suc, List, [], ◌∷◌, ◌++◌, length, map, get_or, sym, ◌∙◌, ap, arith, subst, zero-add}
 use Rattle.std.specs.Prelude.{Ok, IfOk}
 use Rattle.std.specs.declared.result.Result.{Result}
 use Rattle.std.specs.List.{AllZip, range_with_len}
 use Rattle.rayon.specs.Numbers.{nat_range}
-use Rattle.std.proofs.lemmas.List.{length-map}
+use Rattle.std.proofs.lemmas.Bool.{cases_eq}
+use Rattle.std.proofs.lemmas.List.{length-map, get_or_append_left, get_or_push}
 use Rattle.std.proofs.lemmas.List.FromFn.{get_or-range_with_len, length-range_with_len}
 use Rattle.std.proofs.lemmas.Slice.Zip.{AllZip-long}
 
@@ -41,3 +42,13 @@ module _ {V : Type 0} (E : Type 0) (P : ℕ → V → Type 0) where
           let number : get_or xs i 0 ≡ i = ap (λ ns. get_or ns i 0) numbers ∙ (get_or-range_with_len 0 n i 0 l ∙ zero-add i) in
           let is = zipped xs ys i d zip (omega (arith, ap length same, long)) in
           subst (λ (j : ℕ). P j (get_or items i d)) number (subst (λ (zs : List V). P (get_or xs i 0) (get_or zs i d)) (sym same) is)
+
+-- one more row at the end
+pub each_pushed : {V : Type 0} (P : ℕ → V → Type 0) (items : List V) (v : V) (n : ℕ) → length items ≡ n → ((i : ℕ) (d : V) → i < n → P i (get_or items i d)) → P n v → (i : ℕ) (d : V) → i < n + 1 → P i (get_or (items ++ v ∷ []) i d)
+each_pushed P items v n long before here i d l = go (cases_eq i n)
+  where
+    go : (i ≡ n) ⊎ (i ≡ n → ⊥) → P i (get_or (items ++ v ∷ []) i d)
+    go (inl same) = rw (same, get_or_push items v d n long) here
+    go (inr other) =
+        let inside : i < length items = omega arith in
+        rw (get_or_append_left items (v ∷ []) d i inside) (before i d (omega arith))
