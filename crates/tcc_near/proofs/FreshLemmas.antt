@@ -1,12 +1,13 @@
 -- One round's new numbers.
-use Rattle.std.proofs.Common.{◌≡◌, ◌≢◌, ◌<◌, ◌≤◌, ◌+◌, ◌||◌, ◌↔◌, ◌⊎◌, ℕ, inl, inr, Bool, true, false, cond, List, [], ◌∷◌, ◌++◌, length, get_or, set, take, slice_index, refl, sym, ◌∙◌, ap, arith, subst, eqb}
+use Rattle.std.proofs.Common.{◌≡◌, ◌≢◌, ◌<◌, ◌≤◌, ◌+◌, ◌-◌, ◌/◌, ◌==◌, ◌||◌, ◌↔◌, ◌⊎◌, ℕ, zero, suc, inl, inr, Bool, true, false, cond, List, [], ◌∷◌, ◌++◌, length, get_or, set, take, slice_index, refl, sym, ◌∙◌, ap, arith, subst, eqb, eq-eqb, eqb-true}
 use Rattle.std.specs.List.{All, Contains}
 use Rattle.std.proofs.lemmas.Bool.{cases_eq, false≢true, ne_eqb}
 use Rattle.std.proofs.lemmas.List.{get_or-set_same, get_or-set_other, take_more}
 use Rattle.std.proofs.lemmas.List.Elements.{All-weaker, All-contains_itself, Contains-append_left, Contains-push, Contains-push_cases}
 use Rattle.std.proofs.lemmas.List.Sums.{sum_by-set}
 use Rattle.tcc_near.specs.Bits.{is_marked, IsFresh, IsRowOf}
-use Rattle.tcc_near.specs.Breadth.{numbered, unnumbered, IsSeen, IsSpread, marks_of}
+use Rattle.tcc_near.specs.Breadth.{numbered, unnumbered, IsSeen, IsSpread, AreDeltas, IsTaken, IsTakenAfter, marks_of}
+use Rattle.tcc_near.proofs.BitLemmas.{marked_within}
 use Rattle.tcc_near.proofs.BreadthLemmas.{numbered_kept, numbered_unmarked, numbered_new}
 use Rattle.tcc_near.specs.declared.distances.TheConstants.{NONE}
 
@@ -28,34 +29,172 @@ module _ (xs : List ℕ) (n : ℕ) (inside : n < length xs) where
   last_taken = rw taken (Contains-push (take n xs) (get_or xs n 0))
 
 -- ---- spreading
--- one more row
-pub spread_more : (marks mid new : List ℕ) (table : List (List ℕ)) (fresh : List ℕ) (n : ℕ) → n < length fresh → ((b : ℕ) → (is_marked mid b ≡ true) ↔ IsSpread marks table (Contains (take n fresh)) b)
-    → ((b : ℕ) → is_marked new b ≡ (is_marked mid b || is_marked (marks_of table (get_or fresh n 0)) b)) → (b : ℕ) → (is_marked new b ≡ true) ↔ IsSpread marks table (Contains (take (n + 1) fresh)) b
-spread_more marks mid new table fresh n inside before now b = (λ mark. onward (is_marked mid b) refl (is_marked (marks_of table (get_or fresh n 0)) b) refl (sym (now b) ∙ mark), back)
+-- no number yet
+pub marks_none : (words numbers : List ℕ) (b : ℕ) → (is_marked words b ≡ true) ↔ ((is_marked words b ≡ true) ⊎ Contains (take 0 numbers) b)
+marks_none words numbers b = (inl, back)
   where
-    more : IsSpread marks table (Contains (take n fresh)) b → IsSpread marks table (Contains (take (n + 1) fresh)) b
-    more (inl m) = inl m
-    more (inr (u, c, m)) = inr (u, still_taken fresh n inside u c, m)
+    back : (is_marked words b ≡ true) ⊎ Contains (take 0 numbers) b → is_marked words b ≡ true
+    back (inl m) = m
+    back (inr c) = absurd (nothing_in b c)
 
-    onward : (s : Bool) → is_marked mid b ≡ s → (m : Bool) → is_marked (marks_of table (get_or fresh n 0)) b ≡ m → (is_marked mid b || is_marked (marks_of table (get_or fresh n 0)) b) ≡ true → IsSpread marks table (Contains (take (n + 1) fresh)) b
-    onward true s _ m e = more ((before b).0 s)
-    onward false s true m e = inr (get_or fresh n 0, last_taken fresh n inside, m)
-    onward false s false m e = absurd (false≢true (sym (rw (s, m) refl) ∙ e))
+-- one more number
+pub mark_more : (old mid new numbers : List ℕ) (n : ℕ) → n < length numbers → ((b : ℕ) → (is_marked mid b ≡ true) ↔ ((is_marked old b ≡ true) ⊎ Contains (take n numbers) b))
+    → ((b : ℕ) → is_marked new b ≡ (is_marked mid b || (b == get_or numbers n 0))) → (b : ℕ) → (is_marked new b ≡ true) ↔ ((is_marked old b ≡ true) ⊎ Contains (take (n + 1) numbers) b)
+mark_more old mid new numbers n inside before now b = (λ m. onward (is_marked mid b) refl (sym (now b) ∙ m), back)
+  where
+    onward : (s : Bool) → is_marked mid b ≡ s → (is_marked mid b || (b == get_or numbers n 0)) ≡ true → (is_marked old b ≡ true) ⊎ Contains (take (n + 1) numbers) b
+    onward true s e = go ((before b).0 s)
+      where
+        go : (is_marked old b ≡ true) ⊎ Contains (take n numbers) b → (is_marked old b ≡ true) ⊎ Contains (take (n + 1) numbers) b
+        go (inl m) = inl m
+        go (inr c) = inr (still_taken numbers n inside b c)
+    onward false s e =
+        let at : (b == get_or numbers n 0) ≡ true = ap (λ x. x || (b == get_or numbers n 0)) (sym s) ∙ e in
+        inr (subst (λ (x : ℕ). Contains (take (n + 1) numbers) x) (sym (eqb-true b (get_or numbers n 0) at)) (last_taken numbers n inside))
 
     or_true : (m : Bool) → (m || true) ≡ true
     or_true true = refl
     or_true false = refl
 
-    old : is_marked mid b ≡ true → is_marked new b ≡ true
-    old m = now b ∙ ap (λ x. x || is_marked (marks_of table (get_or fresh n 0)) b) m
+    old_one : is_marked mid b ≡ true → is_marked new b ≡ true
+    old_one m = now b ∙ ap (λ x. x || (b == get_or numbers n 0)) m
 
-    back : IsSpread marks table (Contains (take (n + 1) fresh)) b → is_marked new b ≡ true
-    back (inl m) = old ((before b).1 (inl m))
-    back (inr (u, c, m)) = go (one_of_taken fresh n inside u c)
+    back : (is_marked old b ≡ true) ⊎ Contains (take (n + 1) numbers) b → is_marked new b ≡ true
+    back (inl m) = old_one ((before b).1 (inl m))
+    back (inr c) = go (one_of_taken numbers n inside b c)
       where
-        go : Contains (take n fresh) u ⊎ (get_or fresh n 0 ≡ u) → is_marked new b ≡ true
-        go (inl was) = old ((before b).1 (inr (u, was, m)))
-        go (inr is) = now b ∙ (ap (λ x. is_marked mid b || x) (ap (λ k. is_marked (marks_of table k) b) is ∙ m) ∙ or_true (is_marked mid b))
+        go : Contains (take n numbers) b ⊎ (get_or numbers n 0 ≡ b) → is_marked new b ≡ true
+        go (inl was) = old_one ((before b).1 (inr was))
+        go (inr is) = now b ∙ (ap (λ x. is_marked mid b || x) (eq-eqb b (get_or numbers n 0) (sym is)) ∙ or_true (is_marked mid b))
+
+-- what a row has more than the row before it, whose number is seen
+pub taken_delta : (table deltas : List (List ℕ)) (seen old new : List ℕ) (u : ℕ) → AreDeltas table deltas → 0 < u → u < length table → is_marked seen (u - 1) ≡ true
+    → ((b : ℕ) → (is_marked new b ≡ true) ↔ ((is_marked old b ≡ true) ⊎ Contains (marks_of deltas u) b)) → IsTakenAfter table seen new u
+taken_delta table deltas seen old new u are some inside before each b mark = go (is_marked (marks_of table (u - 1)) b) refl
+  where
+    go : (m : Bool) → is_marked (marks_of table (u - 1)) b ≡ m → (is_marked new b ≡ true) ⊎ ((0 < u) × (is_marked seen (u - 1) ≡ true) × (is_marked (marks_of table (u - 1)) b ≡ true))
+    go true m = inr (some, before, m)
+    go false m = inl ((each b).1 (inr ((are.each u some inside b).1 (mark, m))))
+
+-- what stands in such a row is among the words of the row that it is taken from
+pub delta_inside : (table deltas : List (List ℕ)) (u : ℕ) → AreDeltas table deltas → 0 < u → u < length table → All (λ b. b / 64 < length (marks_of table u)) (marks_of deltas u)
+delta_inside table deltas u are some inside = λ k d l.
+    let c = All-contains_itself (marks_of deltas u) k d l in
+    let low = marked_within (marks_of table u) (get_or (marks_of deltas u) k d) ((are.each u some inside (get_or (marks_of deltas u) k d)).0 c).0 in
+    omega (arith, low)
+
+pub sound_delta : (table deltas : List (List ℕ)) (old new : List ℕ) (u : ℕ) → AreDeltas table deltas → 0 < u → u < length table
+    → ((b : ℕ) → (is_marked new b ≡ true) ↔ ((is_marked old b ≡ true) ⊎ Contains (marks_of deltas u) b)) → (b : ℕ) → is_marked new b ≡ true → (is_marked old b ≡ true) ⊎ (is_marked (marks_of table u) b ≡ true)
+sound_delta table deltas old new u are some inside each b mark = go ((each b).0 mark)
+  where
+    go : (is_marked old b ≡ true) ⊎ Contains (marks_of deltas u) b → (is_marked old b ≡ true) ⊎ (is_marked (marks_of table u) b ≡ true)
+    go (inl m) = inl m
+    go (inr c) = inr ((are.each u some inside b).0 c).0
+
+-- where two rows are joined, what one of them marks is marked, and nothing else
+pub or_left : (m n : Bool) → m ≡ true → (m || n) ≡ true
+or_left m n e = ap (λ x. x || n) e
+
+pub or_right : (m n : Bool) → n ≡ true → (m || n) ≡ true
+or_right true n e = refl
+or_right false n e = e
+
+pub or_either : (m n : Bool) → (m || n) ≡ true → (m ≡ true) ⊎ (n ≡ true)
+or_either true n e = inl refl
+or_either false n e = inr e
+
+-- what was taken in so far
+pub record IsSpreadSo (old : List ℕ) (table : List (List ℕ)) (seen new : List ℕ) (IsOne : ℕ → Type 0) : Type 0 where
+  pub long : length new ≡ length old
+  pub kept : (b : ℕ) → is_marked old b ≡ true → is_marked new b ≡ true
+  pub sound : (b : ℕ) → is_marked new b ≡ true → IsSpread old table IsOne b
+  pub taken : (u : ℕ) → IsOne u → IsTakenAfter table seen new u
+
+pub spread_none : (old : List ℕ) (table : List (List ℕ)) (seen fresh : List ℕ) → IsSpreadSo old table seen old (Contains (take 0 fresh))
+spread_none old table seen fresh = record {
+  long = refl;
+  kept = λ b m. m;
+  sound = λ b m. inl m;
+  taken = λ u c. absurd (nothing_in u c);
+}
+
+-- one more row
+pub spread_more : (old mid new : List ℕ) (table : List (List ℕ)) (seen fresh : List ℕ) (n : ℕ) → n < length fresh → IsSpreadSo old table seen mid (Contains (take n fresh)) → length new ≡ length mid
+    → ((b : ℕ) → is_marked mid b ≡ true → is_marked new b ≡ true) → ((b : ℕ) → is_marked new b ≡ true → (is_marked mid b ≡ true) ⊎ (is_marked (marks_of table (get_or fresh n 0)) b ≡ true))
+    → IsTakenAfter table seen new (get_or fresh n 0) → IsSpreadSo old table seen new (Contains (take (n + 1) fresh))
+spread_more old mid new table seen fresh n inside before same kept sound taken = record {
+  long = same ∙ before.long;
+  kept = λ b m. kept b (before.kept b m);
+  sound = λ b m. go b (sound b m);
+  taken = λ u c b m. whole u b m (one_of_taken fresh n inside u c);
+}
+  where
+    more : (b : ℕ) → IsSpread old table (Contains (take n fresh)) b → IsSpread old table (Contains (take (n + 1) fresh)) b
+    more b (inl m) = inl m
+    more b (inr (u, c, m)) = inr (u, still_taken fresh n inside u c, m)
+
+    go : (b : ℕ) → (is_marked mid b ≡ true) ⊎ (is_marked (marks_of table (get_or fresh n 0)) b ≡ true) → IsSpread old table (Contains (take (n + 1) fresh)) b
+    go b (inl m) = more b (before.sound b m)
+    go b (inr m) = inr (get_or fresh n 0, last_taken fresh n inside, m)
+
+    later : (u b : ℕ) → (is_marked mid b ≡ true) ⊎ ((0 < u) × (is_marked seen (u - 1) ≡ true) × (is_marked (marks_of table (u - 1)) b ≡ true))
+        → (is_marked new b ≡ true) ⊎ ((0 < u) × (is_marked seen (u - 1) ≡ true) × (is_marked (marks_of table (u - 1)) b ≡ true))
+    later u b (inl m) = inl (kept b m)
+    later u b (inr r) = inr r
+
+    whole : (u b : ℕ) → is_marked (marks_of table u) b ≡ true → Contains (take n fresh) u ⊎ (get_or fresh n 0 ≡ u)
+        → (is_marked new b ≡ true) ⊎ ((0 < u) × (is_marked seen (u - 1) ≡ true) × (is_marked (marks_of table (u - 1)) b ≡ true))
+    whole u b m (inl was) = later u b (before.taken u was b m)
+    whole u b m (inr is) = subst (λ (x : ℕ). IsTakenAfter table seen new x) is taken b m
+
+-- one number after another, all rows are taken in
+pub spread_whole : (old new : List ℕ) (table : List (List ℕ)) (seen fresh : List ℕ) → IsSpreadSo old table seen new (Contains fresh)
+    → ((u : ℕ) → is_marked seen u ≡ true → Contains fresh u ⊎ ((b : ℕ) → is_marked (marks_of table u) b ≡ true → is_marked old b ≡ true))
+    → (b : ℕ) → (is_marked new b ≡ true) ↔ IsSpread old table (Contains fresh) b
+spread_whole old new table seen fresh so known b = (so.sound b, back)
+  where
+    all_in : (u : ℕ) → Contains fresh u → is_marked (marks_of table u) b ≡ true → is_marked new b ≡ true
+    all_in zero c m = go (so.taken zero c b m)
+      where
+        go : (is_marked new b ≡ true) ⊎ ((0 < zero) × (is_marked seen (zero - 1) ≡ true) × (is_marked (marks_of table (zero - 1)) b ≡ true)) → is_marked new b ≡ true
+        go (inl m) = m
+        go (inr r) = absurd (omega (arith, r.0))
+    all_in (suc u) c m = go (λ d n. all_in u d n) (so.taken (suc u) c b m)
+      where
+        last : (Contains fresh u → is_marked (marks_of table u) b ≡ true → is_marked new b ≡ true) → Contains fresh u ⊎ ((b : ℕ) → is_marked (marks_of table u) b ≡ true → is_marked old b ≡ true) → is_marked (marks_of table u) b ≡ true → is_marked new b ≡ true
+        last below (inl d) n = below d n
+        last below (inr was) n = so.kept b (was b n)
+
+        go : (Contains fresh u → is_marked (marks_of table u) b ≡ true → is_marked new b ≡ true)
+            → (is_marked new b ≡ true) ⊎ ((0 < suc u) × (is_marked seen (suc u - 1) ≡ true) × (is_marked (marks_of table (suc u - 1)) b ≡ true)) → is_marked new b ≡ true
+        go below (inl m) = m
+        go below (inr (some, at, n)) =
+            let e : suc u - 1 ≡ u = omega arith in
+            let seen_at : is_marked seen u ≡ true = subst (λ (x : ℕ). is_marked seen x ≡ true) e at in
+            last below (known u seen_at) (subst (λ (x : ℕ). is_marked (marks_of table x) b ≡ true) e n)
+
+    back : IsSpread old table (Contains fresh) b → is_marked new b ≡ true
+    back (inl m) = so.kept b m
+    back (inr (u, c, m)) = all_in u c m
+
+-- what is seen now is fresh, or its row was taken in before
+pub seen_taken : (table : List (List ℕ)) (marks seen now fresh : List ℕ) → IsFresh seen marks fresh → IsTaken table marks (λ u. is_marked seen u ≡ true) → ((b : ℕ) → is_marked now b ≡ (is_marked seen b || is_marked marks b))
+    → (u : ℕ) → is_marked now u ≡ true → Contains fresh u ⊎ ((b : ℕ) → is_marked (marks_of table u) b ≡ true → is_marked marks b ≡ true)
+seen_taken table marks seen now fresh is taken joined u mark = go (is_marked seen u) refl (is_marked marks u) refl (sym (joined u) ∙ mark)
+  where
+    go : (s : Bool) → is_marked seen u ≡ s → (m : Bool) → is_marked marks u ≡ m → (is_marked seen u || is_marked marks u) ≡ true → Contains fresh u ⊎ ((b : ℕ) → is_marked (marks_of table u) b ≡ true → is_marked marks b ≡ true)
+    go true s m _ e = inr (λ b n. taken u b s n)
+    go false s true m e = inl ((is u).1 (m, s))
+    go false s false m e = absurd (false≢true (sym (rw (s, m) refl) ∙ e))
+
+-- then all rows of what is seen are taken in
+pub taken_more : (table : List (List ℕ)) (marks new now fresh : List ℕ) → ((u : ℕ) → is_marked now u ≡ true → Contains fresh u ⊎ ((b : ℕ) → is_marked (marks_of table u) b ≡ true → is_marked marks b ≡ true))
+    → ((b : ℕ) → (is_marked new b ≡ true) ↔ IsSpread marks table (Contains fresh) b) → IsTaken table new (λ u. is_marked now u ≡ true)
+taken_more table marks new now fresh known spread u b s m = go (known u s)
+  where
+    go : Contains fresh u ⊎ ((b : ℕ) → is_marked (marks_of table u) b ≡ true → is_marked marks b ≡ true) → is_marked new b ≡ true
+    go (inl c) = (spread b).1 (inr (u, c, m))
+    go (inr was) = (spread b).1 (inl (was b m))
 
 -- a row that takes in rows for the same numbers is one
 pub spread_row : (table : List (List ℕ)) (n : ℕ) (marks new : List ℕ) (IsOne : ℕ → Type 0) → IsRowOf n marks → length new ≡ length marks → All (IsRowOf n) table → ((u : ℕ) → IsOne u → u < length table)

@@ -1,12 +1,12 @@
 -- For the private stages and their proofs alone: nobody has to believe what stands here.
 -- The search breadth first: what is known after walks of so many steps.
-use Rattle.std.specs.Prelude.{ℕ, ◌<◌, ◌≤◌, ◌≡◌, ◌⊎◌, ◌↔◌, ◌==◌, ◌&&◌, Bool, true, false, if◌then◌else◌, List, [], length, All, count_by, Option, None, Some, slice_index, slice_index_or}
+use Rattle.std.specs.Prelude.{ℕ, ◌<◌, ◌≤◌, ◌-◌, ◌≡◌, ◌⊎◌, ◌↔◌, ◌==◌, ◌&&◌, Bool, true, false, if◌then◌else◌, List, [], length, All, count_by, Option, None, Some, slice_index, slice_index_or}
 use Rattle.tcc_reads.specs.History.{History, count}
 use Rattle.tcc_graph.specs.Relations.{causal_pair}
 use Rattle.tcc_graph.specs.Levels.{Judged, causally}
 use Rattle.tcc_graph.specs.Walks.{IsWalk}
 use Rattle.tcc_graph.specs.declared.step.Step.{Step}
-use Rattle.tcc_near.specs.Bits.{is_marked, IsRowOf}
+use Rattle.tcc_near.specs.Bits.{is_marked, IsFresh, IsRowOf}
 use Rattle.tcc_near.specs.Distances.{IsShortest, IsWalkDistance, least_in}
 use Rattle.tcc_near.specs.declared.distances.TheConstants.{NONE}
 
@@ -47,6 +47,20 @@ pub record HasDistances (j : Judged) (a : ℕ) (row : List ℕ) : Type 0 where
 -- b is marked, or marked by one of these
 abbrev pub IsSpread : List ℕ → List (List ℕ) → (ℕ → Type 0) → ℕ → Type 0
 IsSpread marks table IsOne b = (is_marked marks b ≡ true) ⊎ ((u : ℕ) × IsOne u × (is_marked (marks_of table u) b ≡ true))
+
+-- of each row but the first, what it marks and the row before it doesn't
+pub record AreDeltas (table : List (List ℕ)) (deltas : List (List ℕ)) : Type 0 where
+  pub long : length deltas ≡ length table
+  pub each : (u : ℕ) → 0 < u → u < length table → IsFresh (marks_of table (u - 1)) (marks_of table u) (marks_of deltas u)
+
+-- all that these rows mark is marked
+abbrev pub IsTaken : List (List ℕ) → List ℕ → (ℕ → Type 0) → Type 0
+IsTaken table marks IsOne = (u b : ℕ) → IsOne u → is_marked (marks_of table u) b ≡ true → is_marked marks b ≡ true
+
+-- what the row of u marks is marked, or marked by the row before it, whose number is seen
+abbrev pub IsTakenAfter : List (List ℕ) → List ℕ → List ℕ → ℕ → Type 0
+IsTakenAfter table seen marks u = (b : ℕ) → is_marked (marks_of table u) b ≡ true
+    → (is_marked marks b ≡ true) ⊎ ((0 < u) × (is_marked seen (u - 1) ≡ true) × (is_marked (marks_of table (u - 1)) b ≡ true))
 
 -- the distance of b once what is marked and had none got this one
 abbrev pub numbered : List ℕ → List ℕ → ℕ → ℕ → ℕ

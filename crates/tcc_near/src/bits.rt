@@ -1,5 +1,5 @@
 //! Rows of marks, 64 in a word: number b is bit b % 64 of word b / 64.
-ghost use Rattle.std.specs.Prelude.{◌≡◌, ◌<◌, ◌≤◌, ◌+◌, ◌/◌, ◌^◌, ◌==◌, ◌||◌, ◌↔◌, ◌⊎◌, ℕ, length, Contains, OnOk};
+ghost use Rattle.std.specs.Prelude.{◌≡◌, ◌<◌, ◌≤◌, ◌+◌, ◌/◌, ◌^◌, ◌==◌, ◌||◌, ◌↔◌, ◌⊎◌, ℕ, true, length, All, Contains, OnOk};
 ghost use Rattle.std.specs.Int.{bit_at};
 ghost use Rattle.tcc_near.specs.Bits.{is_marked, words_for, IsFresh};
 
@@ -32,6 +32,17 @@ pub(crate) fn mark(words: &mut [u64], number: usize)
     ensures each { (b : ℕ) → is_marked words.new b ≡ (is_marked words.old b || (b == number)) }
 {
     words[number / WORD] |= 1 << (number % WORD);
+}
+
+/// Marks these numbers.
+pub(crate) fn mark_each(words: &mut [u64], numbers: &[u32])
+    requires { All (λ number. number / 64 < length words.old) numbers.now }
+    ensures same { length words.new ≡ length words.old }
+    ensures each { (b : ℕ) → (is_marked words.new b ≡ true) ↔ ((is_marked words.old b ≡ true) ⊎ Contains numbers.now b) }
+{
+    for number in numbers {
+        mark(words, *number as usize);
+    }
 }
 
 /// Marks what the other row, of the same length, marks too.

@@ -5,6 +5,7 @@
 mod behind;
 mod bits;
 mod clock;
+mod deltas;
 mod distances;
 mod pairs;
 mod row;

@@ -1,14 +1,15 @@
 //! The search for all distances of a graph: from each transaction breadth first, in several threads.
-ghost use Rattle.std.specs.Prelude.{◌≡◌, ◌<◌, ◌≤◌, ◌↔◌, ℕ, true, length, All, Contains, IfOk, slice_index};
+ghost use Rattle.std.specs.Prelude.{◌≡◌, ◌<◌, ◌≤◌, ◌↔◌, ◌⊎◌, ℕ, true, length, All, Contains, IfOk, slice_index};
 ghost use Rattle.tcc_reads.specs.History.{History, count};
 ghost use Rattle.tcc_graph.specs.Levels.{causally};
 ghost use Rattle.tcc_near.specs.Distances.{IsNearOf};
 ghost use Rattle.tcc_near.specs.Bits.{is_marked, IsRowOf};
-ghost use Rattle.tcc_near.specs.Breadth.{IsPairTable, HasDistances, IsSpread, one_step, unnumbered};
+ghost use Rattle.tcc_near.specs.Breadth.{IsPairTable, HasDistances, IsSpread, AreDeltas, IsTakenAfter, marks_of, one_step, unnumbered};
 ghost use Rattle.tcc_near.specs.declared.distances.TheConstants.{NONE};
 ghost use Rattle.tcc_txn.specs.declared.limits.TheConstants.{MAX_COUNT};
 
-use crate::bits::{is_marked, merge, take_fresh};
+use crate::bits::{is_marked, mark_each, merge, take_fresh};
+use crate::deltas::deltas;
 use crate::pairs::pair_table;
 use crate::{NONE, Near, Row};
 use rayon::prelude::*;
@@ -30,22 +31,55 @@ fn number(steps: &mut [u16], fresh: &[u32], distance: u16)
     }
 }
 
-/// Marks those to which a causal pair leads from one of these.
-fn spread(marks: &mut [u64], table: &[Row<u64>], fresh: &[u32])
+/// Marks what a row marks. Where the number before it is seen, whose row is taken in too, that is what the row has more.
+fn take_in(marks: &mut [u64], table: &[Row<u64>], deltas: &[Row<u32>], seen: &[u64], place: usize)
+    requires inside { place < length table.now }
+    requires wide { All (λ row. length row ≡ length marks.old) table.now }
+    requires deltas { AreDeltas table.now deltas.now }
+    ensures long { length marks.new ≡ length marks.old }
+    ensures kept { (b : ℕ) → is_marked marks.old b ≡ true → is_marked marks.new b ≡ true }
+    ensures sound { (b : ℕ) → is_marked marks.new b ≡ true
+        → (is_marked marks.old b ≡ true) ⊎ (is_marked (marks_of table.now place) b ≡ true) }
+    ensures taken { IsTakenAfter table.now seen.now marks.new place }
+{
+    if place > 0 && is_marked(seen, place - 1) {
+        mark_each(marks, deltas[place].values());
+    } else {
+        merge(marks, table[place].values());
+    }
+}
+
+/// Marks those to which a causal pair leads from one of these. All that is seen and isn't one of these was taken in before.
+fn spread(
+    marks: &mut [u64],
+    table: &[Row<u64>],
+    deltas: &[Row<u32>],
+    seen: &[u64],
+    fresh: &[u32],
+)
     requires rows { All (λ place. place < length table.now) fresh.now }
     requires wide { All (λ row. length row ≡ length marks.old) table.now }
+    requires deltas { AreDeltas table.now deltas.now }
+    requires taken { (u : ℕ) → is_marked seen.now u ≡ true
+        → Contains fresh.now u ⊎ ((b : ℕ) → is_marked (marks_of table.now u) b ≡ true → is_marked marks.old b ≡ true) }
     ensures long { length marks.new ≡ length marks.old }
     ensures each { (b : ℕ) → (is_marked marks.new b ≡ true) ↔ IsSpread marks.old table.now (Contains fresh.now) b }
 {
     for place in fresh {
-        merge(marks, table[*place as usize].values());
+        take_in(marks, table, deltas, seen, *place as usize);
     }
 }
 
 /// The distances from one transaction by causal walks. A round numbers what is marked for the first time, and marks what
 /// the next step reaches from there; the search ends where there is nothing to number.
-fn distances_from(alloc: Global, table: &[Row<u64>], source: usize) -> Result<Row<u16>, AllocError>
+fn distances_from(
+    alloc: Global,
+    table: &[Row<u64>],
+    deltas: &[Row<u32>],
+    source: usize,
+) -> Result<Row<u16>, AllocError>
     requires source { source < length table.now }
+    requires deltas { AreDeltas table.now deltas.now }
     requires wide { All (IsRowOf (length table.now)) table.now }
     requires few { length table.now ≤ MAX_COUNT }
     ensures { IfOk result (λ row. (h : History) → IsPairTable h table.now → HasDistances (causally h) source row) }
@@ -60,7 +94,7 @@ fn distances_from(alloc: Global, table: &[Row<u64>], source: usize) -> Result<Ro
             return Ok(Row::new(steps));
         }
         number(&mut steps, &fresh, before as u16 + 1);
-        spread(&mut marks, table, &fresh);
+        spread(&mut marks, table, deltas, &seen, &fresh);
     }
     Ok(Row::new(steps))
 }
@@ -81,17 +115,19 @@ fn steps_to(alloc: Global, marks: &[u64], count: usize) -> Result<Row<u16>, Allo
 fn row_from(
     alloc: Global,
     table: &[Row<u64>],
+    deltas: &[Row<u32>],
     level: Level,
     source: usize,
 ) -> Result<Row<u16>, AllocError>
     requires source { source < length table.now }
+    requires deltas { AreDeltas table.now deltas.now }
     requires wide { All (IsRowOf (length table.now)) table.now }
     requires few { length table.now ≤ MAX_COUNT }
     ensures { IfOk result (λ row. (h : History) → IsPairTable h table.now
         → HasDistances (record { history = h; level = level }) source row) }
 {
     match level {
-        Level::Causal => distances_from(alloc, table, source),
+        Level::Causal => distances_from(alloc, table, deltas, source),
         Level::Atomic => steps_to(alloc, table[source].values(), table.len()),
     }
 }
@@ -101,8 +137,10 @@ fn all_distances(
     rt: &(impl Threads + Sync),
     alloc: Global,
     table: &[Row<u64>],
+    deltas: &[Row<u32>],
     level: Level,
 ) -> Result<Vec<Row<u16>>, AllocError>
+    requires deltas { AreDeltas table.now deltas.now }
     requires wide { All (IsRowOf (length table.now)) table.now }
     requires few { length table.now ≤ MAX_COUNT }
     ensures { IfOk result (λ rows. (h : History) → IsPairTable h table.now
@@ -112,11 +150,11 @@ fn all_distances(
         .into_par_iter()
         .map(
             |source: usize| -> Result<Row<u16>, AllocError>
-                requires { (source < length table.now) × All (IsRowOf (length table.now)) table.now
-                    × (length table.now ≤ MAX_COUNT) }
+                requires { (source < length table.now) × AreDeltas table.now deltas.now
+                    × All (IsRowOf (length table.now)) table.now × (length table.now ≤ MAX_COUNT) }
                 ensures { IfOk result (λ row. (h : History) → IsPairTable h table.entry.now
                     → HasDistances (record { history = h; level = level }) source row) }
-            { row_from(alloc, table, level, source) },
+            { row_from(alloc, table, deltas, level, source) },
         )
         .with_min_len(1)
         .collect::<Result<Vec<Row<u16>>, AllocError>>(rt, alloc)?
@@ -132,6 +170,7 @@ pub fn near(
     ensures { IfOk result (IsNearOf (record { history = graph.now; level = level })) }
 {
     let table = pair_table(alloc, graph)?;
-    let rows = all_distances(rt, alloc, &table, level)?;
+    let deltas = deltas(alloc, &table)?;
+    let rows = all_distances(rt, alloc, &table, &deltas, level)?;
     Ok(Near::new(level, rows))
 }

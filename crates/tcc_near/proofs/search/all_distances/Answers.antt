@@ -4,7 +4,7 @@ use Rattle.rayon.proofs.ToStd.{nat_range-All}
 use Rattle.std.specs.declared.alloc.AllocError.{AllocError}
 use Rattle.tcc_reads.specs.History.{History}
 use Rattle.tcc_near.specs.Bits.{IsRowOf}
-use Rattle.tcc_near.specs.Breadth.{IsPairTable, HasDistances}
+use Rattle.tcc_near.specs.Breadth.{IsPairTable, HasDistances, AreDeltas}
 use Rattle.tcc_near.proofs.BreadthLemmas.{near_from_rows}
 use Rattle.tcc_near.proofs.RowLemmas.{each_given, numbers_below}
 use Rattle.tcc_near.proofs.search.all_distances.Goals as goal
@@ -15,7 +15,7 @@ pub collect-requires-clause-ready : goal.collect-requires-clause-ready
 collect-requires-clause-ready g c κs within =
     let ends = c.into_par_iter.ensures in
     let pairs = c.args.table.now in
-    let inside = nat_range-All (λ i. (i < length pairs) × All (IsRowOf (length pairs)) pairs × (length pairs ≤ MAX_COUNT)) 0 (length pairs) (λ i low high. (high, c.requires.wide, c.requires.few)) in
+    let inside = nat_range-All (λ i. (i < length pairs) × AreDeltas pairs c.args.deltas.now × All (IsRowOf (length pairs)) pairs × (length pairs ≤ MAX_COUNT)) 0 (length pairs) (λ i low high. (high, c.requires.deltas, c.requires.wide, c.requires.few)) in
     rw (c.with_min_len.ensures.base, c.map.ensures.base, c.map.ensures.f, ends.0, ends.1) (λ k d lt. (inside k d lt, λ y p. tt))
 
 pub returns : goal.returns

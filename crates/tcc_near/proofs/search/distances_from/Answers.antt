@@ -1,4 +1,5 @@
 use Rattle.std.proofs.Common.{rules, ◌≡◌, ◌≢◌, ◌<◌, ◌+◌, ◌||◌, ◌↔◌, ℕ, true, [], slice_index, length, replicate, ◌∙◌, arith, refl, take_at, sym}
+use Rattle.std.proofs.lemmas.Bool.{false≢true}
 use Rattle.std.proofs.lemmas.List.{get_or_read, get_or-replicate, length-replicate}
 use Rattle.std.specs.List.{Contains}
 use Rattle.tcc_reads.specs.History.{count}
@@ -6,7 +7,7 @@ use Rattle.tcc_near.specs.Bits.{is_marked, IsRowOf, IsFresh}
 use Rattle.tcc_near.specs.Breadth.{marks_of, unnumbered, IsSpread}
 use Rattle.tcc_near.proofs.BitLemmas.{none_marked}
 use Rattle.tcc_near.proofs.BreadthLemmas.{searched_at_start, marked_at_start, unnumbered_at_start, searched_more, marked_more, row_at_end, row_full, all_numbered, known}
-use Rattle.tcc_near.proofs.FreshLemmas.{fresh_new, none_fresh, numbered_so, seen_so, fresh_at, spread_row}
+use Rattle.tcc_near.proofs.FreshLemmas.{fresh_new, none_fresh, numbered_so, seen_so, fresh_at, spread_row, seen_taken, taken_more}
 use Rattle.tcc_near.proofs.search.distances_from.Goals as goal
 use Rattle.tcc_near.specs.declared.distances.TheConstants.{NONE}
 
@@ -28,6 +29,7 @@ loop-before-init c =
       λ b below. (λ unseen. get_or-replicate n b NONE 0 (omega (arith, length-replicate n NONE)), λ none. none_marked c.len.result b),
       omega (arith, unnumbered_at_start n),
       λ h pairs. (searched_at_start h c.args.source n pairs.long, marked_at_start h c.args.source table c.in_ok-marks.marks.items pairs (omega (arith, pairs.long)) marks),
+      λ u b seen m. absurd (false≢true (sym (none_marked c.len.result u) ∙ seen)),
     )
 
 pub returns-then-is_empty : goal.returns-then-is_empty
@@ -68,7 +70,21 @@ spread-requires-clause-rows c =
     let fresh = c.take_fresh.new.fresh.items in
     let is : IsFresh seen marks fresh = rw (c.deref_mut.ensures.value, c.deref.ensures.value) at c.in_ok-take_fresh.ensures.fresh in
     let inside : (b : ℕ) → is_marked marks b ≡ true → b < length steps = λ b m. omega (arith, inv.1.inside b m, inv.0) in
-    rw (c.deref-in-loop-before-2.ensures.value) (λ k d l. omega (arith, (fresh_new steps marks seen fresh inside inv.3 is k d l).0, inv.0))
+    rw (c.deref-in-loop-before-3.ensures.value) (λ k d l. omega (arith, (fresh_new steps marks seen fresh inside inv.3 is k d l).0, inv.0))
+
+pub spread-requires-clause-taken : goal.spread-requires-clause-taken
+spread-requires-clause-taken c =
+    let inv = c.loop-before.invariant in
+    let marks = c.loop-before.marks.items in
+    let seen = c.loop-before.seen.items in
+    let fresh = c.take_fresh.new.fresh.items in
+    let met = c.take_fresh.new.seen in
+    let is : IsFresh seen marks fresh = rw (c.deref_mut.ensures.value, c.deref.ensures.value) at c.in_ok-take_fresh.ensures.fresh in
+    let joined : (b : ℕ) → is_marked met b ≡ (is_marked seen b || is_marked marks b) = rw (c.deref_mut.ensures.value, c.deref.ensures.value) at c.in_ok-take_fresh.ensures.seen in
+    let met_same : length met ≡ length seen = search rules in
+    let seen_long : c.loop-before.seen.len ≡ length seen = search rules in
+    rw (c.deref-in-loop-before-2.ensures.value, c.deref-in-loop-before-3.ensures.value, c.deref_mut-in-loop-before-2.ensures.value, take_at met _ c.loop-before.seen.len (met_same ∙ sym seen_long))
+    (seen_taken c.args.table.now marks seen met fresh is inv.6 joined)
 
 pub loop-before-preserved : goal.loop-before-preserved
 loop-before-preserved c =
@@ -87,7 +103,7 @@ loop-before-preserved c =
     let each : (b : ℕ) → Contains fresh b → slice_index new b ≡ n + 1 = rw c.deref-in-loop-before.ensures.value at c.number.ensures.each in
     let others : (b : ℕ) → (Contains fresh b → ⊥) → slice_index new b ≡ slice_index steps b = rw (c.deref-in-loop-before.ensures.value, c.deref_mut-in-loop-before.ensures.value) at c.number.ensures.others in
     let joined : (b : ℕ) → is_marked met b ≡ (is_marked seen b || is_marked marks b) = rw (c.deref_mut.ensures.value, c.deref.ensures.value) at c.in_ok-take_fresh.ensures.seen in
-    let spread : (b : ℕ) → (is_marked next b ≡ true) ↔ IsSpread marks c.args.table.now (Contains fresh) b = rw (c.deref-in-loop-before-2.ensures.value, c.deref_mut-in-loop-before-2.ensures.value) at c.spread.ensures.each in
+    let spread : (b : ℕ) → (is_marked next b ≡ true) ↔ IsSpread marks c.args.table.now (Contains fresh) b = rw (c.deref-in-loop-before-3.ensures.value, c.deref_mut-in-loop-before-2.ensures.value) at c.spread.ensures.each in
     let some : 0 < length fresh = search rules in
     let fewer : unnumbered new < unnumbered steps = rw (c.deref-in-loop-before.ensures.value, c.deref_mut-in-loop-before.ensures.value) at c.number.ensures.fewer some in
     let same : length new ≡ length steps = search rules in
@@ -110,6 +126,7 @@ loop-before-preserved c =
           let far : (u : ℕ) → u < count h → slice_index steps u ≢ n + 1 = λ u below e. absurd (omega (arith, (known h c.args.source n steps u so_far.0 below (λ none. absurd (omega (arith, e, none)))).0, e)) in
           let lasts = λ (u : ℕ) (below : u < count h). fresh_at steps marks seen fresh inside inv.3 is new (n + 1) small each others u (far u below) in
           (round, marked_more h c.args.source (n + 1) c.args.table.now new marks next (Contains fresh) pairs round so_far.1 (omega arith) small lasts (λ u x. omega (arith, from u x, pairs.long)) spread),
+      taken_more c.args.table.now marks next met fresh (seen_taken c.args.table.now marks seen met fresh is inv.6 joined) spread,
     )
 
 pub returns : goal.returns

@@ -1,7 +1,7 @@
-use Rattle.std.proofs.Common.{◌≡◌, ◌≤◌, ◌+◌, length}
+use Rattle.std.proofs.Common.{◌≡◌, ◌≤◌, ◌+◌, true, length}
 use Rattle.tcc_reads.specs.History.{History}
-use Rattle.tcc_near.specs.Bits.{IsRowOf}
-use Rattle.tcc_near.specs.Breadth.{IsPairTable, IsSearched, IsMarked, IsSeen, unnumbered}
+use Rattle.tcc_near.specs.Bits.{is_marked, IsRowOf}
+use Rattle.tcc_near.specs.Breadth.{IsPairTable, IsSearched, IsMarked, IsSeen, IsTaken, unnumbered}
 use Rattle.tcc_near.proofs.search.distances_from.Given as goal
 
 abbrev pub invariant-loop-before : goal.invariant-loop-before
@@ -12,3 +12,4 @@ invariant-loop-before l =
     × IsSeen l.steps.items l.seen.items
     × (unnumbered l.steps.items + l.before ≤ length l.table)
     × ((h : History) → IsPairTable h l.table → IsSearched h l.source l.before l.steps.items × IsMarked h l.source (l.before + 1) l.marks.items)
+    × IsTaken l.table l.marks.items (λ u. is_marked l.seen.items u ≡ true)

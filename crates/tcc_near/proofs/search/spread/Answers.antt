@@ -1,18 +1,17 @@
-use Rattle.std.proofs.Common.{◌≡◌, ◌<◌, ◌∙◌, [], get_or, length}
-use Rattle.std.proofs.lemmas.List.{get_or_read, take_all}
-use Rattle.tcc_near.specs.Breadth.{marks_of}
-use Rattle.tcc_near.proofs.FreshLemmas.{spread_more}
+use Rattle.std.proofs.Common.{◌∙◌, arith}
+use Rattle.std.proofs.lemmas.List.{take_all}
+use Rattle.tcc_near.proofs.FreshLemmas.{spread_none, spread_more, spread_whole}
 use Rattle.tcc_near.proofs.search.spread.Goals as goal
+
+pub loop-place-init : goal.loop-place-init
+loop-place-init c = spread_none c.args.marks.now c.args.table.now c.args.seen.now c.args.fresh.now
 
 pub loop-place-preserved : goal.loop-place-preserved
 loop-place-preserved c =
-    let inv = c.loop-place.invariant in
-    let table = c.args.table.now in
-    let fresh = c.args.fresh.now in
-    let n = c.loop-place.place-index in
-    let inside : get_or fresh n 0 < length table = c.requires.rows n 0 c.loop-place-test.true in
-    let row : c.values.result.now ≡ marks_of table (get_or fresh n 0) = c.values.ensures ∙ get_or_read table (get_or fresh n 0) c.index-table-place.result inside c.index-table-place.is [] in
-    (c.merge.ensures.same ∙ inv.0, spread_more c.args.marks.now c.loop-place.marks c.merge.new.words table fresh n c.loop-place-test.true inv.1 (rw row at c.merge.ensures.each))
+    let is = c.take_in.ensures in
+    spread_more c.args.marks.now c.loop-place.marks c.take_in.new.marks c.args.table.now c.args.seen.now c.args.fresh.now c.loop-place.place-index c.loop-place-test.true c.loop-place.invariant is.long is.kept is.sound is.taken
 
-pub returns-clause-each : goal.returns-clause-each
-returns-clause-each c = rw (take_all c.loop-place.place-index c.args.fresh.now c.loop-place-test.false) at c.loop-place.invariant.1
+pub returns : goal.returns
+returns c =
+    let so = rw (take_all c.loop-place.place-index c.args.fresh.now c.loop-place-test.false) at c.loop-place.invariant in
+    record { long = so.long; each = spread_whole c.args.marks.now c.loop-place.marks c.args.table.now c.args.seen.now c.args.fresh.now so c.requires.taken }

@@ -1,10 +1,7 @@
-use Rattle.std.proofs.Common.{◌≡◌, ◌↔◌, ℕ, true, length, take}
+use Rattle.std.proofs.Common.{take}
 use Rattle.std.specs.Prelude.{Contains}
-use Rattle.tcc_near.specs.Bits.{is_marked}
-use Rattle.tcc_near.specs.Breadth.{IsSpread}
+use Rattle.tcc_near.proofs.FreshLemmas.{IsSpreadSo}
 use Rattle.tcc_near.proofs.search.spread.Given as goal
 
 abbrev pub invariant-loop-place : goal.invariant-loop-place
-invariant-loop-place l =
-    (length l.marks ≡ length l.initial.marks)
-    × ((b : ℕ) → (is_marked l.marks b ≡ true) ↔ IsSpread l.initial.marks l.table (Contains (take l.place-index l.fresh)) b)
+invariant-loop-place l = IsSpreadSo l.initial.marks l.table l.seen l.marks (Contains (take l.place-index l.fresh))

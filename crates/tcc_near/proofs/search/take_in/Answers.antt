@@ -1,0 +1,17 @@
+use Rattle.std.proofs.Common.{◌≡◌, ◌<◌, ◌/◌, ◌∙◌, ◌↔◌, ◌⊎◌, ◌||◌, ℕ, true, [], length, arith, rules}
+use Rattle.std.specs.Prelude.{Contains}
+use Rattle.std.proofs.lemmas.List.{get_or_read}
+use Rattle.tcc_near.specs.Bits.{is_marked}
+use Rattle.tcc_near.specs.Breadth.{marks_of}
+use Rattle.tcc_near.proofs.FreshLemmas.{delta_inside, sound_delta, taken_delta, or_left, or_right, or_either}
+use Rattle.tcc_near.proofs.search.take_in.Goals as goal
+
+pub mark_each-requires : goal.mark_each-requires
+mark_each-requires c =
+    let table = c.args.table.now in
+    let deltas = c.args.deltas.now in
+    let u = c.args.place in
+    let are = c.requires.deltas in
+    let row : c.values.result.now ≡ marks_of deltas u = c.values.ensures ∙ get_or_read deltas u c.index-deltas-place.result (omega (arith, are.long, c.requires.inside)) c.index-deltas-place.is [] in
+    let wide : length (marks_of table u) ≡ length c.args.marks.now = c.requires.wide u [] c.requires.inside in
+    rw (row, ← wide) (delta_inside table deltas u are (omega (arith, c.if-place-gt0.true)) c.requires.inside)
