@@ -50,13 +50,7 @@ fn take_in(marks: &mut [u64], table: &[Row<u64>], deltas: &[Row<u32>], seen: &[u
 }
 
 /// Marks those to which a causal pair leads from one of these. All that is seen and isn't one of these was taken in before.
-fn spread(
-    marks: &mut [u64],
-    table: &[Row<u64>],
-    deltas: &[Row<u32>],
-    seen: &[u64],
-    fresh: &[u32],
-)
+fn spread(marks: &mut [u64], table: &[Row<u64>], deltas: &[Row<u32>], seen: &[u64], fresh: &[u32])
     requires rows { All (λ place. place < length table.now) fresh.now }
     requires wide { All (λ row. length row ≡ length marks.old) table.now }
     requires deltas { AreDeltas table.now deltas.now }

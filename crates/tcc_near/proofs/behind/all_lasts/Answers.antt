@@ -1,8 +1,5 @@
-use Rattle.std.proofs.Common.{◌<◌, [], length, rules, ◌∙◌}
+use Rattle.std.proofs.Common.{[], length, rules, ◌∙◌}
 use Rattle.std.specs.declared.alloc.AllocError.{AllocError}
-use Rattle.rayon.proofs.ToStd.{nat_range-All}
-use Rattle.tcc_graph.specs.Levels.{causally}
-use Rattle.tcc_near.specs.Distances.{IsNearOf}
 use Rattle.tcc_near.specs.ClockRows.{AreLasts}
 use Rattle.tcc_near.proofs.RowLemmas.{each_given, numbers_below}
 use Rattle.tcc_near.proofs.behind.all_lasts.Goals as goal

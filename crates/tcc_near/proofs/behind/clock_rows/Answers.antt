@@ -1,4 +1,4 @@
-use Rattle.std.proofs.Common.{rules, ◌≡◌, ◌<◌, ◌∷◌, ◌++◌, [], length, map, slice_index, length-append, ◌∙◌, arith}
+use Rattle.std.proofs.Common.{rules, ◌≡◌, ◌∷◌, ◌++◌, [], map, slice_index, length-append, ◌∙◌, arith}
 use Rattle.tcc_reads.specs.History.{count}
 use Rattle.tcc_near.proofs.ClockLemmas.{clocks_from_lasts}
 use Rattle.tcc_near.proofs.RowLemmas.{each_pushed}

@@ -1,4 +1,3 @@
-use Rattle.std.proofs.Common.{◌∙◌, arith}
 use Rattle.std.proofs.lemmas.List.{take_all}
 use Rattle.tcc_near.proofs.FreshLemmas.{spread_none, spread_more, spread_whole}
 use Rattle.tcc_near.proofs.search.spread.Goals as goal

@@ -1,9 +1,7 @@
-use Rattle.std.proofs.Common.{◌≡◌, ◌<◌, ◌/◌, ◌∙◌, ◌↔◌, ◌⊎◌, ◌||◌, ℕ, true, [], length, arith, rules}
-use Rattle.std.specs.Prelude.{Contains}
+use Rattle.std.proofs.Common.{◌≡◌, ◌∙◌, [], length, arith}
 use Rattle.std.proofs.lemmas.List.{get_or_read}
-use Rattle.tcc_near.specs.Bits.{is_marked}
 use Rattle.tcc_near.specs.Breadth.{marks_of}
-use Rattle.tcc_near.proofs.FreshLemmas.{delta_inside, sound_delta, taken_delta, or_left, or_right, or_either}
+use Rattle.tcc_near.proofs.FreshLemmas.{delta_inside}
 use Rattle.tcc_near.proofs.search.take_in.Goals as goal
 
 pub mark_each-requires : goal.mark_each-requires
