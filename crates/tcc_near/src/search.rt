@@ -31,7 +31,8 @@ fn number(steps: &mut [u16], fresh: &[u32], distance: u16)
     }
 }
 
-/// Marks what a row marks. Where the number before it is seen, whose row is taken in too, that is what the row has more.
+/// Marks what a row marks. Where the number before it is seen, whose row is taken in too, that is what the row has more,
+/// which is marked one by one where it is little beside the words of a row.
 fn take_in(marks: &mut [u64], table: &[Row<u64>], deltas: &[Row<u32>], seen: &[u64], place: usize)
     requires inside { place < length table.now }
     requires wide { All (λ row. length row ≡ length marks.old) table.now }
@@ -42,8 +43,9 @@ fn take_in(marks: &mut [u64], table: &[Row<u64>], deltas: &[Row<u32>], seen: &[u
         → (is_marked marks.old b ≡ true) ⊎ (is_marked (marks_of table.now place) b ≡ true) }
     ensures taken { IsTakenAfter table.now seen.now marks.new place }
 {
-    if place > 0 && is_marked(seen, place - 1) {
-        mark_each(marks, deltas[place].values());
+    let more = deltas[place].values();
+    if place > 0 && is_marked(seen, place - 1) && more.len() < marks.len() / 8 {
+        mark_each(marks, more);
     } else {
         merge(marks, table[place].values());
     }

@@ -10,6 +10,6 @@ mark_each-requires c =
     let deltas = c.args.deltas.now in
     let u = c.args.place in
     let are = c.requires.deltas in
-    let row : c.values.result.now ≡ marks_of deltas u = c.values.ensures ∙ get_or_read deltas u c.index-deltas-place.result (omega (arith, are.long, c.requires.inside)) c.index-deltas-place.is [] in
+    let row : c.values-more.result.now ≡ marks_of deltas u = c.values-more.ensures ∙ get_or_read deltas u c.index-deltas-place.result (omega (arith, are.long, c.requires.inside)) c.index-deltas-place.is [] in
     let wide : length (marks_of table u) ≡ length c.args.marks.now = c.requires.wide u [] c.requires.inside in
     rw (row, ← wide) (delta_inside table deltas u are (omega (arith, c.if-place-gt0.true)) c.requires.inside)
