@@ -8,7 +8,7 @@ use Rattle.tcc_reads.specs.History.{History, count}
 use Rattle.tcc_cert.specs.declared.version.Version.{Version}
 use Rattle.tcc_cert.specs.Tables.{entry, lowest, far_entry, row_of, HasSize, IsCapped, IsFirstPlace}
 use Rattle.tcc_cert.specs.Rules.{HoldsEverywhere}
-use Rattle.tcc_check.specs.Weights.{unlinked, PairWeighs, ContradictionWeighs, LinkWeighs, IsLeastRow, IsLeastTable, IsLowered, AreLowered, IsLongLink, IsLongStep}
+use Rattle.tcc_check.specs.Weights.{unlinked, PairWeighs, ContradictionWeighs, LinkWeighs, IsLeastRow, IsLeastTable, IsLowered, AreLowered, IsLongLink, IsLongStep, AreByWeight}
 use Rattle.tcc_graph.specs.Relations.{IsSessionPair}
 use Rattle.tcc_graph.proofs.Pairs.{session_below}
 use Rattle.tcc_check.specs.Runs.{IsInRun, AreRuns}
@@ -85,6 +85,10 @@ starts_inside least begins weights table size starts rows k d l j e m =
     let there : Contains (get_or starts k d) (get_or (get_or starts k d) j e) = (j, m, get_or_default (get_or starts k d) j (get_or (get_or starts k d) j e) e m) in
     let inside = ((rows.rows k (omega (arith, rows.long))).only (get_or (get_or starts k d) j e) (subst (λ (links : List (ℕ × ℕ)). Contains links (get_or (get_or starts k d) j e)) (get_or_default starts k d [] l) there)).0 in
     omega (arith, inside, size.wide k [] (omega (arith, rows.long)))
+
+-- and the lighter of them come first
+pub starts_sorted : (least : ℕ) (begins : List ℕ) (weights : List (List ℕ)) (starts : List (List (ℕ × ℕ))) → AreStartRows least begins weights starts → All (λ links. AreByWeight links) starts
+starts_sorted least begins weights starts rows k d l = rw (get_or_default starts k d [] l) ((rows.rows k (omega (arith, rows.long, l))).sorted)
 
 -- a search of the runs and the starts finds the long steps
 module _ (version : Version) (least : ℕ) (begins : List ℕ) (weights table : List (List ℕ)) (size : HasSize (length table) (length table) weights) (light : AreRunsLight begins weights) (cap : IsCapped least table) (starts : List (List (ℕ × ℕ))) (rows : AreStartRows least begins weights starts) where

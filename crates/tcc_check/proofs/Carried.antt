@@ -190,6 +190,14 @@ module _ (begins row : List ℕ) (low e : ℕ) (runs : HasRuns begins) (long : l
       go (inr g) = absurd (on (omega (arith, runs.within e (omega (arith, long)))))
 
   -- the number of e is looked at
+  -- the run is begun anew, or goes on
+  pub run_here : (opening least carried : ℕ) → IsCarried begins row low e opening least → (get_or begins e 0 ≡ e → carried ≡ opening) → ((get_or begins e 0 ≡ e → ⊥) → carried ≡ least) → IsRunLeast begins row low e carried
+  run_here opening least carried was anew on = go (cases_eq (get_or begins e 0) e)
+    where
+      go : (get_or begins e 0 ≡ e) ⊎ (get_or begins e 0 ≡ e → ⊥) → IsRunLeast begins row low e carried
+      go (inl same) = rw (anew same) (run_anew opening least same was)
+      go (inr apart) = rw (on apart) (run_on opening least apart was)
+
   pub carried_on : (opening old least new : ℕ) → IsCarried begins row low e old opening → IsRunLeast begins row low e least → new ≡ min least (get_or row (e - low) 0) → (next : ℕ) → (e ≡ 0 → next ≡ get_or row (e - low) 0) → ((e ≡ 0 → ⊥) → next ≡ old) → IsCarried begins row low (e + 1) next new
   carried_on opening old least new was here is next at_first later = record {
     opened = opened (cases_eq e 0);

@@ -4,7 +4,7 @@ use Rattle.std.specs.Prelude.{map}
 use Rattle.tcc_cert.specs.Parts.{IsFirst, Parts}
 use Rattle.tcc_cert.specs.declared.part.Part.{Part}
 use Rattle.tcc_cert.specs.declared.part.Part.TheVariants as part
-use Rattle.tcc_check.proofs.ComingFacts.{first-fault, first-line, first-parts}
+use Rattle.tcc_check.proofs.ComingFacts.{first-fault, first-line, first-parts, next-row, next-no-row, no-rows}
 
 -- behind these clocks come the others
 pub record AreClocksBehind (clocks : List (List ℕ)) (ahead rest : Parts) : Type 0 where
@@ -15,17 +15,8 @@ pub record AreClocksBehind (clocks : List (List ℕ)) (ahead rest : Parts) : Typ
 pub clocks-none : (ahead : Parts) → AreClocksBehind [] ahead ahead
 clocks-none ahead = record { line = refl; fault = refl; others = λ rows is. (rows, refl, is) }
 
-next-clocks : (row : List ℕ) (rest : List Part) (todo : List (List ℕ)) → part.Clocks row ∷ rest ≡ map part.Clocks todo → (later : List (List ℕ)) × (todo ≡ row ∷ later) × (rest ≡ map part.Clocks later)
-next-clocks row rest [] is = absurd cc
-next-clocks row rest (one ∷ later) is = (later, (let same : row ≡ one = cc in ap (λ r. r ∷ later) (sym same)), cc)
-
-next-not-clocks : (given : Part) (rest : List Part) (todo : List (List ℕ)) → given ∷ rest ≡ map part.Clocks todo → (row : List ℕ) × (given ≡ part.Clocks row)
-next-not-clocks given rest [] is = absurd cc
-next-not-clocks given rest (row ∷ later) is = (row, cc)
-
-no-clocks : (todo : List (List ℕ)) → [] ≡ map part.Clocks todo → todo ≡ []
-no-clocks [] is = refl
-no-clocks (row ∷ later) is = absurd cc
+exact : (row other : List ℕ) → part.Clocks row ≡ part.Clocks other → row ≡ other
+exact row other is = cc
 
 pub clocks-more : (clocks : List (List ℕ)) (row : List ℕ) (ahead now rest : Parts) → AreClocksBehind clocks ahead now → IsFirst (part.Clocks row) now rest → AreClocksBehind (clocks ++ row ∷ []) ahead rest
 clocks-more clocks row ahead now rest behind first = record {
@@ -33,7 +24,7 @@ clocks-more clocks row ahead now rest behind first = record {
   fault = first-fault (part.Clocks row) now rest first ∙ behind.fault;
   others = λ rows is.
       let old = behind.others rows is in
-      let next = next-clocks row rest.parts old.0 (sym (ap (λ p. p.parts) first) ∙ old.2) in
+      let next = next-row part.Clocks exact row rest.parts old.0 (sym (ap (λ p. p.parts) first) ∙ old.2) in
       (next.0, old.1 ∙ ap (λ t. clocks ++ t) next.1 ∙ sym (append_assoc clocks (row ∷ []) next.0), next.2);
 }
 
@@ -47,10 +38,10 @@ clocks-other clocks given ahead now rest other going behind first = record {
   where
     go : (todo : List (List ℕ)) → now.parts ≡ map part.Clocks todo → ((given ≡ part.End) × (now.parts ≡ []) × (now.fault ≡ None)) ⊎ (now.parts ≡ given ∷ rest.parts) → ⊥
     go todo left (inl end) = going end.0
-    go todo left (inr one) = let found = next-not-clocks given rest.parts todo (sym one ∙ left) in other found.0 found.1
+    go todo left (inr one) = let found = next-no-row part.Clocks exact given rest.parts todo (sym one ∙ left) in other found.0 found.1
 
 pub clocks-all : (clocks : List (List ℕ)) (ahead now rest : Parts) → AreClocksBehind clocks ahead now → IsFirst part.End now rest → (ahead.fault ≡ None) × ((rows : List (List ℕ)) → ahead.parts ≡ map part.Clocks rows → clocks ≡ rows)
-clocks-all clocks ahead now rest behind first = (sym behind.fault ∙ ap (λ p. p.fault) first.0, λ rows is. whole rows (behind.others rows is).0 (behind.others rows is).1 (no-clocks (behind.others rows is).0 (sym (ap (λ p. p.parts) first.0) ∙ (behind.others rows is).2)))
+clocks-all clocks ahead now rest behind first = (sym behind.fault ∙ ap (λ p. p.fault) first.0, λ rows is. whole rows (behind.others rows is).0 (behind.others rows is).1 (no-rows part.Clocks exact (behind.others rows is).0 (sym (ap (λ p. p.parts) first.0) ∙ (behind.others rows is).2)))
   where
     whole : (rows todo : List (List ℕ)) → rows ≡ clocks ++ todo → todo ≡ [] → clocks ≡ rows
     whole rows todo split none = sym (split ∙ ap (λ t. clocks ++ t) none ∙ append-nil clocks)

@@ -1,6 +1,6 @@
 -- Parts that are still to come, and how they end.
-use Rattle.std.proofs.Common.{◌≡◌, ℕ, ◌<◌, ◌⊎◌, Bool, true, false, cond, [], ◌∷◌, None, Result, Ok, Err, inl, inr, refl, sym, ap, subst, ◌∙◌, arith}
-use Rattle.std.specs.Prelude.{IsErrAnd}
+use Rattle.std.proofs.Common.{◌≡◌, ℕ, ◌<◌, ◌⊎◌, Bool, true, false, cond, List, [], ◌∷◌, None, Result, Ok, Err, inl, inr, refl, sym, ap, subst, ◌∙◌, arith}
+use Rattle.std.specs.Prelude.{IsErrAnd, map}
 use Rattle.tcc_cert.specs.Collecting.{EndsIn}
 use Rattle.tcc_cert.specs.Parts.{FaultsIn, IsFirst, Parts}
 use Rattle.tcc_cert.specs.declared.fault.CertFault.{CertFault}
@@ -40,21 +40,20 @@ fails-back ahead rest (Text fault) line same (inr cut, kind) =
 
 -- ---- the first of some parts
 
+-- it leaves the line of the end and the fault
+pub first-ends : (given : Part) (ahead rest : Parts) → IsFirst given ahead rest → (rest.line ≡ ahead.line) × (rest.fault ≡ ahead.fault)
+first-ends part.End ahead rest is = (ap (λ p. p.line) is.1, ap (λ p. p.fault) is.1)
+first-ends (part.Order v l o s) ahead rest is = (sym (ap (λ p. p.line) is), sym (ap (λ p. p.fault) is))
+first-ends (part.Cycle v l c ls n) ahead rest is = (sym (ap (λ p. p.line) is), sym (ap (λ p. p.fault) is))
+first-ends (part.Clocks row) ahead rest is = (sym (ap (λ p. p.line) is), sym (ap (λ p. p.fault) is))
+first-ends (part.Near row) ahead rest is = (sym (ap (λ p. p.line) is), sym (ap (λ p. p.fault) is))
+first-ends (part.Far row) ahead rest is = (sym (ap (λ p. p.line) is), sym (ap (λ p. p.fault) is))
+
 pub first-line : (given : Part) (ahead rest : Parts) → IsFirst given ahead rest → rest.line ≡ ahead.line
-first-line part.End ahead rest is = ap (λ p. p.line) is.1
-first-line (part.Order v l o s) ahead rest is = sym (ap (λ p. p.line) is)
-first-line (part.Cycle v l c ls n) ahead rest is = sym (ap (λ p. p.line) is)
-first-line (part.Clocks row) ahead rest is = sym (ap (λ p. p.line) is)
-first-line (part.Near row) ahead rest is = sym (ap (λ p. p.line) is)
-first-line (part.Far row) ahead rest is = sym (ap (λ p. p.line) is)
+first-line given ahead rest is = (first-ends given ahead rest is).0
 
 pub first-fault : (given : Part) (ahead rest : Parts) → IsFirst given ahead rest → rest.fault ≡ ahead.fault
-first-fault part.End ahead rest is = ap (λ p. p.fault) is.1
-first-fault (part.Order v l o s) ahead rest is = sym (ap (λ p. p.fault) is)
-first-fault (part.Cycle v l c ls n) ahead rest is = sym (ap (λ p. p.fault) is)
-first-fault (part.Clocks row) ahead rest is = sym (ap (λ p. p.fault) is)
-first-fault (part.Near row) ahead rest is = sym (ap (λ p. p.fault) is)
-first-fault (part.Far row) ahead rest is = sym (ap (λ p. p.fault) is)
+first-fault given ahead rest is = (first-ends given ahead rest is).1
 
 -- the end comes where no part is left
 pub first-parts : (given : Part) (ahead rest : Parts) → IsFirst given ahead rest → ((given ≡ part.End) × (ahead.parts ≡ []) × (ahead.fault ≡ None)) ⊎ (ahead.parts ≡ given ∷ rest.parts)
@@ -64,3 +63,18 @@ first-parts (part.Cycle v l c ls n) ahead rest is = inr (ap (λ p. p.parts) is)
 first-parts (part.Clocks row) ahead rest is = inr (ap (λ p. p.parts) is)
 first-parts (part.Near row) ahead rest is = inr (ap (λ p. p.parts) is)
 first-parts (part.Far row) ahead rest is = inr (ap (λ p. p.parts) is)
+
+-- ---- rows of one kind, each a part
+
+module _ (kind : List ℕ → Part) (exact : (row other : List ℕ) → kind row ≡ kind other → row ≡ other) where
+  pub next-row : (row : List ℕ) (rest : List Part) (todo : List (List ℕ)) → kind row ∷ rest ≡ map kind todo → (later : List (List ℕ)) × (todo ≡ row ∷ later) × (rest ≡ map kind later)
+  next-row row rest [] is = absurd cc
+  next-row row rest (one ∷ later) is = (later, ap (λ r. r ∷ later) (sym (exact row one cc)), cc)
+
+  pub next-no-row : (given : Part) (rest : List Part) (todo : List (List ℕ)) → given ∷ rest ≡ map kind todo → (row : List ℕ) × (given ≡ kind row)
+  next-no-row given rest [] is = absurd cc
+  next-no-row given rest (row ∷ later) is = (row, cc)
+
+  pub no-rows : (todo : List (List ℕ)) → [] ≡ map kind todo → todo ≡ []
+  no-rows [] is = refl
+  no-rows (row ∷ later) is = absurd cc

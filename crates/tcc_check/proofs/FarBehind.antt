@@ -14,7 +14,7 @@ use Rattle.tcc_check.specs.Judged.{AreAllFound}
 use Rattle.tcc_check.specs.Searches.{HoldsBelow, IsFirstBelow, IsLongEnd, IsLongStart, IsLongStartFrom}
 use Rattle.tcc_check.specs.Weights.{IsLongLink}
 use Rattle.tcc_check.specs.declared.far_rows.FarFaults.{FarFaults}
-use Rattle.tcc_check.proofs.ComingFacts.{first-fault, first-line, first-parts}
+use Rattle.tcc_check.proofs.ComingFacts.{first-fault, first-line, first-parts, next-row, next-no-row, no-rows}
 use Rattle.tcc_check.proofs.First.{first_in_row, holds_more}
 
 -- ---- one row more
@@ -68,17 +68,8 @@ pub record AreFarBehind (version : Version) (begins : List ℕ) (weights : List 
   pub fault : rest.fault ≡ ahead.fault
   pub rows : (far : List (List ℕ)) → ahead.parts ≡ map part.Far far → AreFarRows version begins weights starts least n far i faults rest
 
-next-far : (row : List ℕ) (rest : List Part) (todo : List (List ℕ)) → part.Far row ∷ rest ≡ map part.Far todo → (later : List (List ℕ)) × (todo ≡ row ∷ later) × (rest ≡ map part.Far later)
-next-far row rest [] is = absurd cc
-next-far row rest (one ∷ later) is = (later, (let same : row ≡ one = cc in ap (λ r. r ∷ later) (sym same)), cc)
-
-next-not-far : (given : Part) (rest : List Part) (todo : List (List ℕ)) → given ∷ rest ≡ map part.Far todo → (row : List ℕ) × (given ≡ part.Far row)
-next-not-far given rest [] is = absurd cc
-next-not-far given rest (row ∷ later) is = (row, cc)
-
-no-rows : (todo : List (List ℕ)) → [] ≡ map part.Far todo → todo ≡ []
-no-rows [] is = refl
-no-rows (row ∷ later) is = absurd cc
+exact : (row other : List ℕ) → part.Far row ≡ part.Far other → row ≡ other
+exact row other is = cc
 
 module _ (version : Version) (begins : List ℕ) (weights : List (List ℕ)) (starts : List (List (ℕ × ℕ))) (least : ℕ) (n : ℕ) where
   pub far-none : (faults : FarFaults) → faults.link ≡ None → faults.step ≡ None → faults.back ≡ None → (ahead : Parts) → AreFarBehind version begins weights starts least n 0 faults ahead ahead
@@ -111,16 +102,16 @@ module _ (version : Version) (begins : List ℕ) (weights : List (List ℕ)) (st
 
       go : ((given ≡ part.End) × (now.parts ≡ []) × (now.fault ≡ None)) ⊎ (now.parts ≡ given ∷ rest.parts) → ⊥
       go (inl end) =
-          let none = no-rows old.todo (sym end.1 ∙ old.left) in
+          let none = no-rows part.Far exact old.todo (sym end.1 ∙ old.left) in
           omega (arith, fewer, right.0.long, old.long, ap length old.split, length-append old.rows old.todo, ap length none)
-      go (inr one) = let found = next-not-far given rest.parts old.todo (sym one ∙ old.left) in other found.0 found.1
+      go (inr one) = let found = next-no-row part.Far exact given rest.parts old.todo (sym one ∙ old.left) in other found.0 found.1
 
   module _ (i : ℕ) (faults : FarFaults) (row : List ℕ) (ahead now rest : Parts) (behind : AreFarBehind version begins weights starts least n i faults ahead now) (first : IsFirst (part.Far row) now rest) (far : List (List ℕ)) (is : ahead.parts ≡ map part.Far far) where
     old : AreFarRows version begins weights starts least n far i faults now
     old = behind.rows far is
 
     next : (later : List (List ℕ)) × (old.todo ≡ row ∷ later) × (rest.parts ≡ map part.Far later)
-    next = next-far row rest.parts old.todo (sym (ap (λ p. p.parts) first) ∙ old.left)
+    next = next-row part.Far exact row rest.parts old.todo (sym (ap (λ p. p.parts) first) ∙ old.left)
 
     split : far ≡ old.rows ++ row ∷ next.0
     split = old.split ∙ ap (λ t. old.rows ++ t) next.1
@@ -183,7 +174,7 @@ module _ (version : Version) (begins : List ℕ) (weights : List (List ℕ)) (st
 
       right : now.parts ≡ [] → IsFarRight version n least far × AreFoundBefore version begins weights starts least far n faults
       right end =
-          let whole = long (no-rows old.todo (sym end ∙ old.left)) in
+          let whole = long (no-rows part.Far exact old.todo (sym end ∙ old.left)) in
           ((record { long = whole; wide = old.wide }, λ k d l. subst (λ r. All (λ number. number ≤ least) r) (same k d l) (old.cap k (omega (arith, l, whole)))), old.found whole)
         where
           same : (k : ℕ) (d : List ℕ) → k < length far → get_or far k [] ≡ get_or far k d

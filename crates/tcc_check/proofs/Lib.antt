@@ -5,6 +5,8 @@ pub mod Writers
 pub mod Keyed
 pub mod Rows
 pub mod First
+pub mod Passing
+pub mod LongRows
 pub mod Linked
 pub mod Placed
 pub mod Gaps

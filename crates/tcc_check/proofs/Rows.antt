@@ -4,12 +4,14 @@ use Rattle.std.specs.Prelude.{All}
 use Rattle.std.specs.List.{Contains}
 use Rattle.std.proofs.lemmas.Bool.{cases_eq, both_ways}
 use Rattle.std.proofs.lemmas.List.{get_or_append_left, get_or_push, length_push, get_or-set_same, get_or-set_other, length-set, get_or-replicate, length-replicate}
+use Rattle.std.specs.List.Sorted.{IsPermutation}
 use Rattle.std.proofs.lemmas.List.Elements.{Contains-append_cases}
+use Rattle.std.proofs.lemmas.List.Sorted.{Contains-permutation, IsPermutation-sym}
 use Rattle.tcc_reads.specs.History.{History, count}
 use Rattle.tcc_graph.specs.Relations.{causal_pair}
 use Rattle.tcc_cert.specs.Tables.{entry, row_of, HasSize}
 use Rattle.tcc_check.specs.Runs.{IsInRun}
-use Rattle.tcc_check.specs.Weights.{unlinked, PairWeighs, ContradictionWeighs, IsLeastRow, IsLeastTable, IsLowered, AreLowered, AreStarts}
+use Rattle.tcc_check.specs.Weights.{unlinked, PairWeighs, ContradictionWeighs, IsLeastRow, IsLeastTable, IsLowered, AreLowered, AreByWeight, AreStarts}
 use Rattle.tcc_check.specs.Searches.{starts_of, AreStartRows}
 use Rattle.tcc_graph.proofs.Pairs.{pair_kinds, pair_from_kinds}
 
@@ -137,8 +139,13 @@ start_added i least begin end row starts below h = record { each = λ u l p out.
     only s (inr (zero, l, e)) = rw (← e) (below, refl)
     only s (inr (suc k, l, e)) = absurd (omega arith)
 
-pub all_starts : (i least begin end : ℕ) (row : List ℕ) (starts : List (ℕ × ℕ)) → length row ≤ i → AreStartsTo i least begin end row starts → AreStarts least begin end row starts
-all_starts i least begin end row starts all h = record { each = λ u l p out. h.each u (omega arith) p out; only = h.only }
+-- all of them, the lighter first
+pub all_starts : (i least begin end : ℕ) (row : List ℕ) (starts sorted : List (ℕ × ℕ)) → length row ≤ i → IsPermutation starts sorted → AreByWeight sorted → AreStartsTo i least begin end row starts → AreStarts least begin end row sorted
+all_starts i least begin end row starts sorted all same by h = record {
+  each = λ u l p out. Contains-permutation starts sorted (u, get_or row u 0) same (h.each u (omega arith) p out);
+  only = λ s w. h.only s (Contains-permutation sorted starts s (IsPermutation-sym starts sorted same) w);
+  sorted = by;
+}
 
 -- the starts of the first rows
 pub record AreStartRowsTo (i : ℕ) (least : ℕ) (begins : List ℕ) (weights : List (List ℕ)) (starts : List (List (ℕ × ℕ))) : Type 0 where

@@ -1,5 +1,6 @@
 -- Weights of links: how many steps a link takes before its last one. A row of weights is of the links to one transaction, by their starts. Nobody has to believe it: private functions say it to one another.
 use Rattle.std.specs.Prelude.{ℕ, ◌<◌, ◌≤◌, ◌≡◌, ◌≢◌, ◌+◌, ◌⊎◌, List, length, slice_index, Contains}
+use Rattle.std.specs.List.Sorted.{IsNonDecreasingBy}
 use Rattle.tcc_reads.specs.History.{History, count}
 use Rattle.tcc_graph.specs.Relations.{IsCausalPair}
 use Rattle.tcc_graph.specs.Links.{MayContradict}
@@ -64,7 +65,12 @@ IsLongStep version weights table at =
     (at.0 < length table) × ((at.1 < length table) × ((lowest version at.0 ≤ at.1) × ((u : ℕ) × (u < length table) × (lowest version at.0 ≤ u)
     × (far_entry version table at.0 u + 1 + entry weights at.1 u < far_entry version table at.0 at.1))))
 
+-- of these starts the lighter come first
+abbrev pub AreByWeight : List (ℕ × ℕ) → Type 0
+AreByWeight starts = IsNonDecreasingBy (λ (start : ℕ × ℕ). start.1) starts
+
 -- the starts of the links to an end, with their weights, but those in the end's run and those that take the cost or more
 pub record AreStarts (least : ℕ) (begin : ℕ) (end : ℕ) (row : List ℕ) (starts : List (ℕ × ℕ)) : Type 0 where
   pub each : (u : ℕ) → u < length row → slice_index row u + 1 < least → (IsInRun begin end u → ⊥) → Contains starts (u, slice_index row u)
   pub only : (start : ℕ × ℕ) → Contains starts start → (start.0 < length row) × (slice_index row start.0 ≡ start.1)
+  pub sorted : AreByWeight starts

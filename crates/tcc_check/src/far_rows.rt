@@ -9,7 +9,7 @@ ghost use Rattle.tcc_reads.specs.History.{count};
 ghost use Rattle.tcc_check.specs.Judged.{AreAllFound, IsFarJudged};
 ghost use Rattle.tcc_check.specs.Runs.{AreRuns, HasRuns};
 ghost use Rattle.tcc_check.specs.Searches.{AreRunsLight};
-ghost use Rattle.tcc_check.specs.Weights.{IsLeastTable, LinkWeighs};
+ghost use Rattle.tcc_check.specs.Weights.{AreByWeight, IsLeastTable, LinkWeighs};
 
 use crate::StreamFault;
 use crate::coming::next_part;
@@ -72,6 +72,7 @@ fn with_row(
     requires long { length starts.now ≡ lowest version start + length row.now }
     requires begins { length begins.now ≡ lowest version start + length row.now }
     requires inside { All (λ links. All (λ link. link.0 < lowest version start + length row.now) links) starts.now }
+    requires sorted { All (λ links. AreByWeight links) starts.now }
     requires runs { HasRuns begins.now }
     requires few { lowest version start + length row.now < 2 ^ 32 }
     ensures { (far : List (List ℕ)) → row_of far start ≡ row.now → length far ≡ length weights.now → AreFoundBefore version begins.now weights.now starts.now least far start faults
@@ -104,6 +105,7 @@ pub(crate) fn far_rows<R: Read>(
     requires long { length starts.now ≡ count }
     requires begins { length begins.now ≡ count }
     requires inside { All (λ links. All (λ link. link.0 < count) links) starts.now }
+    requires sorted { All (λ links. AreByWeight links) starts.now }
     requires runs { HasRuns begins.now }
     ensures { (ahead : Parts) → IsAhead R.remaining parts.old ahead → Leaves R.remaining ahead parts.new (λ found rest. (far : List (List ℕ)) → ahead.parts ≡ map part.Far far
         → MatchOption found (IsFarRight version count least far → ⊥) (λ faults. AreAllFound version begins.now weights.now starts.now least count far faults rest)) result }

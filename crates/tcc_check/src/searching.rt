@@ -2,7 +2,7 @@
 ghost use Rattle.std.specs.Prelude.{◌≡◌, ◌<◌, ◌≤◌, ◌+◌, ◌^◌, ◌↔◌, length, All, IsTrue, MatchOption};
 ghost use Rattle.tcc_cert.specs.Tables.{lowest, HasSize, HasFarSize, IsFirstPlace};
 ghost use Rattle.tcc_cert.specs.Rules.{HoldsEverywhere};
-ghost use Rattle.tcc_check.specs.Weights.{IsLongLink};
+ghost use Rattle.tcc_check.specs.Weights.{AreByWeight, IsLongLink};
 ghost use Rattle.tcc_check.specs.Runs.{HasRuns};
 ghost use Rattle.tcc_check.specs.Searches.{HoldsBelow, IsFirstBelow, IsLongEnd, IsOvershot, IsLongStart, IsLongStartFrom, IsShortReturn};
 
@@ -53,12 +53,29 @@ pub(crate) fn first_long_link(
     None
 }
 
-/// Whether some link, after what the row has for its start, takes less than the number.
-fn is_overshot(starts: &[(u32, u32)], row: &[u32], low: u32, number: u32) -> bool
-    requires { All (λ link. link.0 < low + length row.now) starts.now }
+/// A number that none of the row is below.
+fn floor_of(row: &[u32]) -> u32
+    ensures { All (λ number. result ≤ number) row.now }
+{
+    let mut floor = UNLINKED;
+    for number in row {
+        floor = floor.min(*number);
+    }
+    floor
+}
+
+/// Whether some link, after what the row has for its start, takes less than the number. Behind the first link that takes
+/// as much even after the least of the row, none does.
+fn is_overshot(starts: &[(u32, u32)], row: &[u32], low: u32, floor: u32, number: u32) -> bool
+    requires inside { All (λ link. link.0 < low + length row.now) starts.now }
+    requires sorted { AreByWeight starts.now }
+    requires floor { All (λ other. floor ≤ other) row.now }
     ensures { IsTrue result ↔ IsOvershot starts.now row.now low number }
 {
     for (start, weight) in starts {
+        if u64::from(number) <= u64::from(floor) + 1 + u64::from(*weight) {
+            return false;
+        }
         if low <= *start {
             let before = row[(*start - low) as usize];
             if u64::from(before) + 1 + u64::from(*weight) < u64::from(number) {
@@ -67,6 +84,18 @@ fn is_overshot(starts: &[(u32, u32)], row: &[u32], low: u32, number: u32) -> boo
         }
     }
     false
+}
+
+/// The least number of the run of `end` before it: where the run begins, that of `init` alone, else what was carried along.
+fn run_least(begin: u32, end: usize, opening: u32, least: u32) -> u32
+    ensures anew { begin ≡ end → result ≡ opening }
+    ensures on { (begin ≡ end → ⊥) → result ≡ least }
+{
+    if begin as usize == end {
+        opening
+    } else {
+        least
+    }
 }
 
 /// The first end to which some link takes less than the row has, after what the row has for its start: a session pair
@@ -80,23 +109,23 @@ pub(crate) fn first_overshot(
     requires long { length starts.now ≡ low + length row.now }
     requires begins { length begins.now ≡ low + length row.now }
     requires inside { All (λ links. All (λ link. link.0 < low + length row.now) links) starts.now }
+    requires sorted { All (λ links. AreByWeight links) starts.now }
     requires runs { HasRuns begins.now }
     requires few { low + length row.now < 2 ^ 32 }
     ensures { MatchOption result
         (HoldsBelow (low + length row.now) (IsLongStart begins.now starts.now row.now low))
         (IsFirstBelow (low + length row.now) (IsLongStart begins.now starts.now row.now low)) }
 {
+    let floor = floor_of(row);
     let mut opening = UNLINKED;
     let mut least = UNLINKED;
     for (place, number) in row.iter().enumerate() {
         let end = low as usize + place;
-        if begins[end] as usize == end {
-            least = opening;
-        }
+        least = run_least(begins[end], end, opening, least);
         if u64::from(least) + 1 < u64::from(*number) {
             return Some(end as u32);
         }
-        if is_overshot(starts[end].as_slice(), row, low, *number) {
+        if is_overshot(starts[end].as_slice(), row, low, floor, *number) {
             return Some(end as u32);
         }
         least = least.min(*number);
@@ -117,6 +146,7 @@ pub(crate) fn first_long_step(
     requires long { length starts.now ≡ length table.now }
     requires begins { length begins.now ≡ length table.now }
     requires inside { All (λ links. All (λ link. link.0 < length table.now) links) starts.now }
+    requires sorted { All (λ links. AreByWeight links) starts.now }
     requires runs { HasRuns begins.now }
     requires table { HasFarSize version (length table.now) table.now }
     requires few { length table.now < 2 ^ 32 }

@@ -122,8 +122,8 @@ pub(crate) fn no_weights(alloc: Global, count: usize) -> Result<Table, NoMemory>
     Ok(Table::new(rows))
 }
 
-/// The starts of the other links to `end`, those that take less than `least`, with their weights; its session goes on
-/// from `begin`.
+/// The starts of the other links to `end`, those that take less than `least`, with their weights, the lighter first; its
+/// session goes on from `begin`.
 fn starts_in(
     alloc: Global,
     row: &[u32],
@@ -140,6 +140,7 @@ fn starts_in(
             starts.push((start as u32, *weight))?;
         }
     }
+    starts.sort_by_key(|start| start.1)?;
     Ok(Starts::new(starts))
 }
 

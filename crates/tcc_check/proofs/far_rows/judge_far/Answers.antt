@@ -5,7 +5,7 @@ use Rattle.tcc_reads.specs.History.{count}
 use Rattle.tcc_cert.specs.Tables.{HasSize}
 use Rattle.tcc_check.specs.Coming.{AreFoundBefore, IsFarRight}
 use Rattle.tcc_check.specs.Searches.{AreStartRows}
-use Rattle.tcc_check.proofs.Bounds.{starts_inside}
+use Rattle.tcc_check.proofs.Bounds.{starts_inside, starts_sorted}
 use Rattle.tcc_check.proofs.JudgedFacts.{far-judged}
 use Rattle.tcc_check.proofs.far_rows.judge_far.Goals as goal
 
@@ -20,6 +20,12 @@ far_rows-requires-clause-inside g c =
     rw c.deref-3.ensures.value
     (subst (λ (n : ℕ). All (λ (links : List (ℕ × ℕ)). All (λ (link : ℕ × ℕ). link.0 < n) links) c.in_ok-starts.starts.items) (c.requires.size.long ∙ sym c.count-count.ensures.value)
     (starts_inside c.args.least c.args.near.now.begins.items table table size c.in_ok-starts.starts.items rows))
+
+pub far_rows-requires-clause-sorted : goal.far_rows-requires-clause-sorted
+far_rows-requires-clause-sorted g c =
+    let table = c.args.near.now.weights in
+    let rows : AreStartRows c.args.least c.args.near.now.begins.items table c.in_ok-starts.starts.items = rw (← c.deref.ensures.value, ← c.rows-weights.ensures) c.in_ok-starts.ensures in
+    rw c.deref-3.ensures.value (starts_sorted c.args.least c.args.near.now.begins.items table c.in_ok-starts.starts.items rows)
 
 pub returns-in_default : goal.returns-in_default
 returns-in_default g c ahead is =

@@ -26,33 +26,25 @@ table_verdict-requires-clause-light g c =
     let runs : AreRuns h c.deref.result.now = rw c.deref.ensures.value c.in_ok-begins.ensures in
     light_runs h c.deref.result.now (PairWeighs h) c.rows.result.now runs (λ u v p. (inl p, refl)) table
 
-pub returns-clause-judged : goal.returns-clause-judged
-returns-clause-judged g c =
+pub returns : goal.returns
+returns g c =
     let h = c.args.graph.now in
     let near = c.in-Some.near.items in
     let judged : NearJudged = record { verdict = c.in_ok-verdict.verdict; begins = c.in_ok-begins.begins; weights = c.in_ok-weights.weights } in
     let right : IsNearRight (count h) c.args.least near = subst (λ (n : ℕ). IsNearRight n c.args.least near) c.count.ensures.value (rw c.in-Some.is at c.in_ok-near.ensures.right) in
     let said : IsAnswer (table_rules One c.in_ok-pairs.pairs near NearPairs (near_steps c.args.level)) c.in_ok-verdict.verdict = rw (← c.near_steps-steps.ensures, ← c.deref-2.ensures.value, ← c.rows.ensures) c.in_ok-verdict.ensures in
     let low : AreLowered h near c.in_ok-pairs.pairs c.in_ok-weights.weights = rw (← c.deref-3.ensures.value, ← c.rows-2.ensures) c.in_ok-weights.ensures in
-    (near, near-judged h c.args.level c.args.least near c.in_ok-pairs.pairs judged c.ranges.least.fits right c.in_ok-pairs.ensures said c.in_ok-begins.ensures low)
-
-pub returns-clause-parts : goal.returns-clause-parts
-returns-clause-parts g c ahead is =
-    let h = c.args.graph.now in
-    let near = c.in-Some.near.items in
-    let judged : NearJudged = record { verdict = c.in_ok-verdict.verdict; begins = c.in_ok-begins.begins; weights = c.in_ok-weights.weights } in
-    let right : IsNearRight (count h) c.args.least near = subst (λ (n : ℕ). IsNearRight n c.args.least near) c.count.ensures.value (rw c.in-Some.is at c.in_ok-near.ensures.right) in
-    let said : IsAnswer (table_rules One c.in_ok-pairs.pairs near NearPairs (near_steps c.args.level)) c.in_ok-verdict.verdict = rw (← c.near_steps-steps.ensures, ← c.deref-2.ensures.value, ← c.rows.ensures) c.in_ok-verdict.ensures in
-    let low : AreLowered h near c.in_ok-pairs.pairs c.in_ok-weights.weights = rw (← c.deref-3.ensures.value, ← c.rows-2.ensures) c.in_ok-weights.ensures in
-    let came = rw c.in-Some.is at (c.in_ok-near.ensures.parts ahead is) in (
-      came.0,
-      came.1,
-      came.2,
-      came.3,
-      λ table far long split.
-          let all = came.4 table far (long ∙ sym c.count.ensures.value) split in (
-            subst (λ (t : List (List ℕ)). IsNearJudged h c.args.level c.args.least t judged) all.0
-                (near-judged h c.args.level c.args.least near c.in_ok-pairs.pairs judged c.ranges.least.fits right c.in_ok-pairs.ensures said c.in_ok-begins.ensures low),
-            all.2,
-          ),
-    )
+    let known : IsNearJudged h c.args.level c.args.least near judged = near-judged h c.args.level c.args.least near c.in_ok-pairs.pairs judged c.ranges.least.fits right c.in_ok-pairs.ensures said c.in_ok-begins.ensures low in
+    record {
+      judged = (near, known);
+      parts = λ ahead is.
+          let came = rw c.in-Some.is at (c.in_ok-near.ensures.parts ahead is) in (
+            came.0,
+            came.1,
+            came.2,
+            came.3,
+            λ table far long split.
+                let all = came.4 table far (long ∙ sym c.count.ensures.value) split in
+                (subst (λ (t : List (List ℕ)). IsNearJudged h c.args.level c.args.least t judged) all.0 known, all.2),
+          );
+    }

@@ -3,20 +3,17 @@ use Rattle.std.proofs.lemmas.List.{get_or_read}
 use Rattle.std.proofs.lemmas.Bool.{iff_false}
 use Rattle.tcc_check.specs.Searches.{IsOvershot, IsLongStart, starts_of}
 use Rattle.tcc_check.proofs.First.{holds_below_more}
-use Rattle.tcc_check.proofs.Carried.{neither, IsCarried, IsRunLeast, run_anew, run_on, carried_on, run_long, run_short}
+use Rattle.tcc_check.proofs.Carried.{neither, IsCarried, run_here, carried_on, run_long, run_short}
 use Rattle.tcc_check.proofs.searching.first_overshot.Goals as goal
-use Rattle.tcc_check.proofs.searching.first_overshot.Goals.{then-begins-end, else-begins-end, then-end-eq0, else-end-eq0}
+use Rattle.tcc_check.proofs.searching.first_overshot.Goals.{then-end-eq0, else-end-eq0}
 
 pub returns-then-from : goal.returns-then-from
 returns-then-from c =
     let end = c.args.low + c.loop-place.place in
     let inside : end < c.args.low + length c.args.row.now = omega arith in
-    let here : IsRunLeast c.args.begins.now c.args.row.now c.args.low end c.if-begins-end.least = elim c.if-begins-end.branch [
-      | then-begins-end w ↦ rw w.least-is (run_anew c.args.begins.now c.args.row.now c.args.low end c.requires.runs c.requires.begins inside (omega arith) c.loop-place.opening c.loop-place.least w.if-begins-end.true c.loop-place.invariant.1)
-      | else-begins-end w ↦ rw w.least-is (run_on c.args.begins.now c.args.row.now c.args.low end c.requires.runs c.requires.begins inside (omega arith) c.loop-place.opening c.loop-place.least w.if-begins-end.false c.loop-place.invariant.1)
-    ] in
+    let here = run_here c.args.begins.now c.args.row.now c.args.low end c.requires.runs c.requires.begins inside (omega arith) c.loop-place.opening c.loop-place.least c.run_least-least.result c.loop-place.invariant.1 c.run_least-least.ensures.anew c.run_least-least.ensures.on in
     let number : get_or c.args.row.now c.loop-place.place 0 ≡ get_or c.args.row.now (end - c.args.low) 0 = ap (λ k. get_or c.args.row.now k 0) (omega arith) in
-    let long = run_long c.args.begins.now c.args.row.now c.args.low end c.requires.runs c.requires.begins inside (omega arith) c.if-begins-end.least (get_or c.args.row.now c.loop-place.place 0) number (omega (arith, c.type_inv.row c.loop-place.place)) here (omega (arith, c.if-from.true, c.from.ensures, c.from-in-loop-place.ensures)) in
+    let long = run_long c.args.begins.now c.args.row.now c.args.low end c.requires.runs c.requires.begins inside (omega arith) c.run_least-least.result (get_or c.args.row.now c.loop-place.place 0) number (omega (arith, c.type_inv.row c.loop-place.place)) here (omega (arith, c.if-from.true, c.from.ensures, c.from-in-loop-place.ensures)) in
     record { below = inside; here = (omega arith, inl long); first = λ earlier l p. c.loop-place.invariant.0 earlier l p }
 
 pub returns-then-is_overshot : goal.returns-then-is_overshot
@@ -33,21 +30,18 @@ pub loop-place-preserved : goal.loop-place-preserved
 loop-place-preserved c =
     let end = c.args.low + c.loop-place.place in
     let inside : end < c.args.low + length c.args.row.now = omega arith in
-    let here : IsRunLeast c.args.begins.now c.args.row.now c.args.low end c.if-begins-end.least = elim c.if-begins-end.branch [
-      | then-begins-end w ↦ rw w.least-is (run_anew c.args.begins.now c.args.row.now c.args.low end c.requires.runs c.requires.begins inside (omega arith) c.loop-place.opening c.loop-place.least w.if-begins-end.true c.loop-place.invariant.1)
-      | else-begins-end w ↦ rw w.least-is (run_on c.args.begins.now c.args.row.now c.args.low end c.requires.runs c.requires.begins inside (omega arith) c.loop-place.opening c.loop-place.least w.if-begins-end.false c.loop-place.invariant.1)
-    ] in
+    let here = run_here c.args.begins.now c.args.row.now c.args.low end c.requires.runs c.requires.begins inside (omega arith) c.loop-place.opening c.loop-place.least c.run_least-least.result c.loop-place.invariant.1 c.run_least-least.ensures.anew c.run_least-least.ensures.on in
     let same = c.as_slice.ensures ∙ get_or_read c.args.starts.now end c.index-starts-end.result (omega (arith, c.requires.long)) c.index-starts-end.is [] in
     let number : get_or c.args.row.now c.loop-place.place 0 ≡ get_or c.args.row.now (end - c.args.low) 0 = ap (λ k. get_or c.args.row.now k 0) (omega arith) in
-    let short = run_short c.args.begins.now c.args.row.now c.args.low end c.requires.runs c.requires.begins inside (omega arith) c.if-begins-end.least (get_or c.args.row.now c.loop-place.place 0) number here (λ l. absurd (omega (arith, l, c.if-from.false, c.from.ensures, c.from-in-loop-place.ensures))) in
+    let short = run_short c.args.begins.now c.args.row.now c.args.low end c.requires.runs c.requires.begins inside (omega arith) c.run_least-least.result (get_or c.args.row.now c.loop-place.place 0) number here (λ l. absurd (omega (arith, l, c.if-from.false, c.from.ensures, c.from-in-loop-place.ensures))) in
     let under : IsOvershot (starts_of c.args.starts.now end) c.args.row.now c.args.low (get_or c.args.row.now (end - c.args.low) 0) → ⊥ = λ over.
     iff_false c.is_overshot.ensures c.if-is_overshot.false (subst (λ (links : List (ℕ × ℕ)). IsOvershot links c.args.row.now c.args.low (get_or c.args.row.now c.loop-place.place 0)) (sym same)
     (subst (λ (n : ℕ). IsOvershot (starts_of c.args.starts.now end) c.args.row.now c.args.low n) (sym number) over)) in
     let none : IsLongStart c.args.begins.now c.args.starts.now c.args.row.now c.args.low end → ⊥ = λ p. neither short under p.1 in
-    let new : c.min-least.result ≡ min c.if-begins-end.least (get_or c.args.row.now (end - c.args.low) 0) = c.min-least.ensures ∙ ap (λ n. min c.if-begins-end.least n) number in
+    let new : c.min-least.result ≡ min c.run_least-least.result (get_or c.args.row.now (end - c.args.low) 0) = c.min-least.ensures ∙ ap (λ n. min c.run_least-least.result n) number in
     let carried : IsCarried c.args.begins.now c.args.row.now c.args.low (end + 1) c.if-end-eq0.opening c.min-least.result = elim c.if-end-eq0.branch [
-      | then-end-eq0 w ↦ carried_on c.args.begins.now c.args.row.now c.args.low end c.requires.runs c.requires.begins inside (omega arith) c.loop-place.least c.loop-place.opening c.if-begins-end.least c.min-least.result c.loop-place.invariant.1 here new c.if-end-eq0.opening (λ first. w.opening-is ∙ number) (λ other. absurd (other w.if-end-eq0.true))
-      | else-end-eq0 w ↦ carried_on c.args.begins.now c.args.row.now c.args.low end c.requires.runs c.requires.begins inside (omega arith) c.loop-place.least c.loop-place.opening c.if-begins-end.least c.min-least.result c.loop-place.invariant.1 here new c.if-end-eq0.opening (λ first. absurd (w.if-end-eq0.false first)) (λ other. w.opening-is)
+      | then-end-eq0 w ↦ carried_on c.args.begins.now c.args.row.now c.args.low end c.requires.runs c.requires.begins inside (omega arith) c.loop-place.least c.loop-place.opening c.run_least-least.result c.min-least.result c.loop-place.invariant.1 here new c.if-end-eq0.opening (λ first. w.opening-is ∙ number) (λ other. absurd (other w.if-end-eq0.true))
+      | else-end-eq0 w ↦ carried_on c.args.begins.now c.args.row.now c.args.low end c.requires.runs c.requires.begins inside (omega arith) c.loop-place.least c.loop-place.opening c.run_least-least.result c.min-least.result c.loop-place.invariant.1 here new c.if-end-eq0.opening (λ first. absurd (w.if-end-eq0.false first)) (λ other. w.opening-is)
     ] in (
       holds_below_more end (c.args.low + (c.loop-place.place + 1)) (IsLongStart c.args.begins.now c.args.starts.now c.args.row.now c.args.low) (omega arith) c.loop-place.invariant.0 none,
       subst (λ (e : ℕ). IsCarried c.args.begins.now c.args.row.now c.args.low e c.if-end-eq0.opening c.min-least.result) (omega arith) carried,

@@ -1,4 +1,5 @@
-use Rattle.std.proofs.Common.{◌≡◌, [], ◌∷◌, ◌++◌, get_or, arith, rules}
+use Rattle.std.proofs.Common.{◌≡◌, ℕ, [], ◌∷◌, ◌++◌, get_or, arith, rules}
+use Rattle.std.proofs.lemmas.List.Sorted.{IsNonDecreasingBy-from_sort_by_key}
 use Rattle.tcc_check.proofs.Rows.{no_starts, start_skipped, start_added, all_starts}
 use Rattle.tcc_check.proofs.weights.starts_in.Goals as goal
 use Rattle.tcc_check.proofs.weights.starts_in.Goals.{then-from+then-not-is_in_run+in_ok-push, else-from, else-from-via-then-from+else-not-is_in_run, else-from-via-else-from}
@@ -7,7 +8,9 @@ pub loop-start-init : goal.loop-start-init
 loop-start-init c = rw c.new-starts.ensures.items (no_starts c.args.least c.args.begin c.args.end c.args.row.now)
 
 pub returns : goal.returns
-returns c = rw c.new.ensures (all_starts c.loop-start.start c.args.least c.args.begin c.args.end c.args.row.now c.loop-start.starts.items c.loop-start-test.false c.loop-start.invariant)
+returns c =
+    let by = IsNonDecreasingBy-from_sort_by_key (λ (start : ℕ × ℕ). start.1) _ c.in_ok-sort_by_key.ensures.sorted (λ a r q k. search rules) in
+    rw c.new.ensures (all_starts c.loop-start.start c.args.least c.args.begin c.args.end c.args.row.now c.loop-start.starts.items _ c.loop-start-test.false c.in_ok-sort_by_key.ensures.permutation by c.loop-start.invariant)
 
 pub loop-start-preserved : goal.loop-start-preserved
 loop-start-preserved c =
