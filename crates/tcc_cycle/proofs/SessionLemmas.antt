@@ -21,14 +21,14 @@ module _ (s : Sessions) where
   abbrev list : List Entry
   list = map (entry_of (stands s)) (committed (stands s))
 
-  owned_of : (n : ℕ) → 0 < n → n < count (history s) → owner (history s) n < length (entries s)
+  pub owned_of : (n : ℕ) → 0 < n → n < count (history s) → owner (history s) n < length (entries s)
   owned_of zero some below = absurd (omega arith)
   owned_of (suc i) some below =
       each_at (λ (e : Entry). e.owner < length (entries s)) list i initial (omega arith)
       (each_map (λ (e : Entry). e.owner < length (entries s)) (entry_of (stands s)) (committed (stands s))
       (each_filter (λ (x : Stand). x.session < length (entries s)) is_committed (stands s) (from_below 0 (length (entries s)) (entries s) (omega arith))))
 
-  apart_of : (m n : ℕ) → 0 < m → m < n → n < count (history s) → owner (history s) m ≡ owner (history s) n → place (history s) m < place (history s) n
+  pub apart_of : (m n : ℕ) → 0 < m → m < n → n < count (history s) → owner (history s) m ≡ owner (history s) n → place (history s) m < place (history s) n
   apart_of zero n some less below = absurd (omega arith)
   apart_of (suc i) zero some less below = absurd (omega arith)
   apart_of (suc i) (suc k) some less below =
