@@ -6,23 +6,15 @@ use Rattle.tcc_world.proofs.Keeping.{happens_enabled}
 use Rattle.tcc_world.proofs.Settling.{run_sound, run_settles, one_word}
 use Rattle.tcc_world.proofs.laws.interleavings.Goals as goal
 
-pub returns-clause-enabled : goal.returns-clause-enabled
-returns-clause-enabled c = happens_enabled
-
-pub returns-clause-kept : goal.returns-clause-kept
-returns-clause-kept c = run_sound
-
-pub returns-clause-settled : goal.returns-clause-settled
-returns-clause-settled c = run_settles
-
-pub returns-clause-no_cycle : goal.returns-clause-no_cycle
-returns-clause-no_cycle c = λ j workers seed events world is runs finished.
-    word_or_cycle j (shares_of world) world.word (run_settles j workers seed events world is runs finished)
-
-pub returns-clause-least : goal.returns-clause-least
-returns-clause-least c = λ j workers seed events world b is runs finished word.
-    least_cycle j (shares_of world) b (subst (SettleAt j (shares_of world)) word (run_settles j workers seed events world is runs finished))
-
-pub returns-clause-same : goal.returns-clause-same
-returns-clause-same c = λ j workers others seed another events more world other is runs finished too ran done.
-    one_word j (shares_of world) (shares_of other) world.word other.word (run_settles j workers seed events world is runs finished) (run_settles j others another more other too ran done)
+pub returns : goal.returns
+returns c = record {
+  enabled = happens_enabled;
+  kept = run_sound;
+  settled = run_settles;
+  no_cycle = λ j workers seed events world is runs finished.
+    word_or_cycle j (shares_of world) world.word (run_settles j workers seed events world is runs finished);
+  least = λ j workers seed events world b is runs finished word.
+    least_cycle j (shares_of world) b (subst (SettleAt j (shares_of world)) word (run_settles j workers seed events world is runs finished));
+  same = λ j workers others seed another events more world other is runs finished too ran done.
+    one_word j (shares_of world) (shares_of other) world.word other.word (run_settles j workers seed events world is runs finished) (run_settles j others another more other too ran done);
+}
