@@ -1,8 +1,9 @@
 -- A history has one answer at most at a level, with one certificate: its tables are settled entry by entry.
-use Rattle.std.proofs.Common.{ℕ, suc, ◌≡◌, ◌<◌, ◌≤◌, ◌+◌, ◌-◌, inl, inr, List, [], ◌∷◌, length, get_or, Some, refl, sym, ◌∙◌, ap, ap₂, subst, arith}
+use Rattle.std.proofs.Common.{ℕ, suc, ◌≡◌, ◌<◌, ◌≤◌, ◌+◌, ◌-◌, ◌⊎◌, inl, inr, List, [], ◌∷◌, length, get_or, Some, refl, sym, ◌∙◌, ap, ap₂, subst, arith}
 use Rattle.tcc_reads.specs.History.{History, count}
-use Rattle.tcc_graph.specs.Levels.{Judged}
+use Rattle.tcc_graph.specs.Levels.{Judged, IsAllowedWalk}
 use Rattle.tcc_graph.specs.Links.{cost}
+use Rattle.tcc_graph.specs.Routes.{IsUpwardRoute}
 use Rattle.tcc_graph.specs.declared.level.Level.{Level}
 use Rattle.tcc_graph.specs.declared.level.Level.TheVariants.{Causal, Atomic}
 use Rattle.tcc_graph.specs.declared.link.Link.{Link}
@@ -32,31 +33,30 @@ same_table table other long wide same = same_list [] table other long (λ i low.
 
 -- ---- what stands at a place
 
+-- the size n is the least that something has, where that is below the cap; else the cap
+abbrev IsCapped : {X : Type 0} → (X → Type 0) → (X → ℕ) → ℕ → ℕ → Type 0
+IsCapped {X} Is size cap n =
+    ((n < cap) × ((x : X) × Is x × (size x ≡ n)) × ((x : X) → Is x → n ≤ size x)) ⊎ ((n ≡ cap) × ((x : X) → Is x → cap ≤ size x))
+
+one_capped : {X : Type 0} (Is : X → Type 0) (size : X → ℕ) (cap n m : ℕ) → IsCapped Is size cap n → IsCapped Is size cap m → n ≡ m
+one_capped Is size cap n m (inl (low, (x, is, at), least)) (inl (under, (y, also, other), most)) = omega (arith, least y also, most x is, at, other)
+one_capped Is size cap n m (inl (low, (x, is, at), least)) (inr (capped, high)) = absurd (omega (arith, high x is, at, low))
+one_capped Is size cap n m (inr (capped, high)) (inl (under, (y, also, other), most)) = absurd (omega (arith, high y also, other, under))
+one_capped Is size cap n m (inr (capped, high)) (inr (same, above)) = omega (arith, capped, same)
+
 one_shortest : (j : Judged) (cap a c n m : ℕ) → IsCappedShortest j cap a c n → IsCappedShortest j cap a c m → n ≡ m
-one_shortest j cap a c n m (inl (low, short)) (inl (under, other)) =
-    let (walk, leads, long) = short.attained in
-    let (way, goes, far) = other.attained in
-    omega (arith, short.least way goes, other.least walk leads, long, far)
-one_shortest j cap a c n m (inl (low, short)) (inr (capped, high)) =
-    let (walk, leads, long) = short.attained in
-    absurd (omega (arith, high walk leads, long, low))
-one_shortest j cap a c n m (inr (capped, high)) (inl (under, other)) =
-    let (walk, leads, long) = other.attained in
-    absurd (omega (arith, high walk leads, long, under))
-one_shortest j cap a c n m (inr (capped, high)) (inr (same, above)) = omega (arith, capped, same)
+one_shortest j cap a c n m is other = one_capped (IsAllowedWalk j a c) length cap n m (walks n is) (walks m other)
+  where
+    walks : (n : ℕ) → IsCappedShortest j cap a c n → IsCapped (IsAllowedWalk j a c) length cap n
+    walks n (inl (low, short)) = inl (low, short.attained, short.least)
+    walks n (inr high) = inr high
 
 one_distance : (j : Judged) (cap s v n m : ℕ) → IsCappedDistance j s v (Some cap) (Some n) → IsCappedDistance j s v (Some cap) (Some m) → n ≡ m
-one_distance j cap s v n m (inl (low, near)) (inl (under, other)) =
-    let (links, route, costs) = near.attained in
-    let (others, way, far) = other.attained in
-    omega (arith, near.least others way, other.least links route, costs, far)
-one_distance j cap s v n m (inl (low, near)) (inr (capped, high)) =
-    let (links, route, costs) = near.attained in
-    absurd (omega (arith, high links route, costs, low))
-one_distance j cap s v n m (inr (capped, high)) (inl (under, other)) =
-    let (links, route, costs) = other.attained in
-    absurd (omega (arith, high links route, costs, under))
-one_distance j cap s v n m (inr (capped, high)) (inr (same, above)) = omega (arith, capped, same)
+one_distance j cap s v n m is other = one_capped (IsUpwardRoute j s v) cost cap n m (routes n is) (routes m other)
+  where
+    routes : (n : ℕ) → IsCappedDistance j s v (Some cap) (Some n) → IsCapped (IsUpwardRoute j s v) cost cap n
+    routes n (inl (low, near)) = inl (low, near.attained, near.least)
+    routes n (inr high) = inr high
 
 up_to : (h : History) (t session n m : ℕ) → IsLast h t session n → IsLast h t session m → n ≤ m
 up_to h t session n m is other = elim is.attained [
