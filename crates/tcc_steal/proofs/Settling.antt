@@ -125,6 +125,10 @@ pub record IsLast (t : Tables) (known : Known) (word : ℕ) : Type 0 where
   pub above : least_cost t ≤ word
   pub small : word < 18446744073709551616
 
+-- it is at most all that a seat knows, and not below its floor
+pub last_of : (t : Tables) (known : Known) (word : ℕ) → known.floor ≡ least_cost t → IsAtMostAll word known → known.floor ≤ word → word < 18446744073709551616 → IsLast t known word
+last_of t known word floor most above small = record { most = most; above = omega (arith, floor, above); small = small }
+
 pub settled : (j : Judged) (t : Tables) (workers : ℕ) (id : BoundId) (seat : Seated) (es : List Searched) (word : ℕ) → IsPricesOf j t → IsSeat t id seat → IsLast t seat.known word → AreSearches t workers seat.known 0 es → length es ≡ length t.prices → SettleAt j (share_of seat.known es ∷ []) (cap_of word)
 settled j t workers id seat es word priced at last are long =
     let known = seat.known in

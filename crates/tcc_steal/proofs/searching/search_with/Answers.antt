@@ -1,5 +1,5 @@
 use Rattle.std.proofs.Common.{arith}
-use Rattle.tcc_steal.proofs.Settling.{IsLast, word_fits, found_at}
+use Rattle.tcc_steal.proofs.Settling.{last_of, word_fits, found_at}
 use Rattle.tcc_steal.proofs.searching.search_with.Goals.{then-is_empty, else-is_empty+in_ok-shares}
 use Rattle.tcc_steal.proofs.searching.search_with.Goals as goal
 
@@ -16,21 +16,15 @@ cost_in-least-requires g c =
     let t = c.args.prices.now in
     let seat = c.search_all.new.worker.seat in
     let ens = c.in_ok-searches.ensures in
-    let at = ens.worker.seat in
-    let floor = at.floor in
-    let last : IsLast t seat.known c.close.result = record { most = c.close.ensures.least; above = omega (arith, floor, c.close.ensures.floor); small = omega arith } in
-    λ other. word_fits j t c.args.workers c.in_ok-bound.bound seat c.in_ok-searches.searches.items c.close.result priced at last ens.all ens.long other
+    let last = last_of t seat.known c.close.result ens.worker.seat.floor c.close.ensures.least c.close.ensures.floor (omega arith) in
+    λ other. word_fits j t c.args.workers c.in_ok-bound.bound seat c.in_ok-searches.searches.items c.close.result priced ens.worker.seat last ens.all ens.long other
 
 pub returns : goal.returns
 returns g c = λ j priced.
     let t = c.args.prices.now in
     let seat = c.search_all.new.worker.seat in
     let ens = c.in_ok-searches.ensures in
-    let at = ens.worker.seat in
-    let floor = at.floor in
-    let last : IsLast t seat.known c.close.result = record { most = c.close.ensures.least; above = omega (arith, floor, c.close.ensures.floor); small = omega arith } in
+    let last = last_of t seat.known c.close.result ens.worker.seat.floor c.close.ensures.least c.close.ensures.floor (omega arith) in
     let found = c.in_ok-found.ensures in
-    let least = c.cost_in-least.result in
-    let answer = c.in_ok-found.found in
-    found_at j t c.args.workers c.in_ok-bound.bound seat c.in_ok-searches.searches.items c.close.result priced at last
+    found_at j t c.args.workers c.in_ok-bound.bound seat c.in_ok-searches.searches.items c.close.result priced ens.worker.seat last
     ens.all ens.long c.cost_in-least.result c.in_ok-found.found c.cost_in-least.ensures found.least found.first found.rows found.starts
