@@ -7,10 +7,12 @@ use Rattle.tcc_graph.specs.Relations.{session_pair, reads_from, causal_pair}
 use Rattle.tcc_graph.specs.Numbers.{at, label}
 use Rattle.tcc_graph.specs.Keys.{keys, writers, readers}
 use Rattle.tcc_graph.specs.Walks.{IsWalk}
-use Rattle.tcc_graph.specs.Levels.{causally, atomically}
+use Rattle.tcc_graph.specs.Levels.{IsAllowed, causally, atomically}
 use Rattle.tcc_graph.specs.Links.{IsLink, cost, link_cost}
 use Rattle.tcc_graph.specs.Routes.{IsCycle}
 use Rattle.tcc_graph.specs.Ties.{walk_cmp, link_cmp, cycle_cmp}
+use Rattle.tcc_graph.specs.declared.level.Level.{Level}
+use Rattle.tcc_graph.specs.declared.level.Level.TheVariants.{Causal, Atomic}
 use Rattle.tcc_graph.specs.declared.step.Step.{Step}
 use Rattle.tcc_graph.specs.declared.step.Step.TheVariants as step
 use Rattle.tcc_graph.specs.declared.link.Link.{Link}
@@ -160,46 +162,33 @@ two_values-readers = (refl, refl, refl)
 abbrev pub conflict_cycle : List Link
 conflict_cycle = link.Derived 1 2 x 3 (step.Reads 1 3 x ∷ []) ∷ link.Derived 2 1 x 3 (step.Reads 2 3 x ∷ []) ∷ []
 
-pub two_values-cycle : IsCycle (causally two_values) 1 conflict_cycle
-two_values-cycle = (
+-- a cycle at each level that allows its walks
+two_values-at : (level : Level) → IsAllowed level (step.Reads 1 3 x ∷ []) → IsAllowed level (step.Reads 2 3 x ∷ []) → IsCycle (record { history = two_values; level = level }) 1 conflict_cycle
+two_values-at level one two = (
   omega arith,
   (
     refl,
     (
       ((λ e. absurd (omega arith)), (omega arith, omega arith, (0, omega arith, refl)), (omega arith, refl)),
-      ((omega arith, (refl, (omega arith, omega arith, (0, omega arith, refl)), refl)), tt),
+      ((omega arith, (refl, (omega arith, omega arith, (0, omega arith, refl)), refl)), one),
     ),
     (
       refl,
       (
         ((λ e. absurd (omega arith)), (omega arith, omega arith, (0, omega arith, refl)), (omega arith, refl)),
-        ((omega arith, (refl, (omega arith, omega arith, (0, omega arith, refl)), refl)), tt),
+        ((omega arith, (refl, (omega arith, omega arith, (0, omega arith, refl)), refl)), two),
       ),
       refl,
     ),
   ),
 )
 
+pub two_values-cycle : IsCycle (causally two_values) 1 conflict_cycle
+two_values-cycle = two_values-at Causal tt tt
+
 -- each walk is one pair, so it is a cycle at `Atomic` too
 two_values-atomic : IsCycle (atomically two_values) 1 conflict_cycle
-two_values-atomic = (
-  omega arith,
-  (
-    refl,
-    (
-      ((λ e. absurd (omega arith)), (omega arith, omega arith, (0, omega arith, refl)), (omega arith, refl)),
-      ((omega arith, (refl, (omega arith, omega arith, (0, omega arith, refl)), refl)), refl),
-    ),
-    (
-      refl,
-      (
-        ((λ e. absurd (omega arith)), (omega arith, omega arith, (0, omega arith, refl)), (omega arith, refl)),
-        ((omega arith, (refl, (omega arith, omega arith, (0, omega arith, refl)), refl)), refl),
-      ),
-      refl,
-    ),
-  ),
-)
+two_values-atomic = two_values-at Atomic refl refl
 
 -- both reads are used twice, and counted twice
 two_values-cost : cost conflict_cycle ≡ 4
