@@ -3,7 +3,7 @@
 use Rattle.std.specs.Prelude.{ℕ, ◌<◌, ◌≤◌, ◌^◌, ◌≡◌, ◌+◌, ◌++◌, List, [], ◌∷◌, length, map, replicate, All, Contains, Option, None, Some, Result, IfOk, IfSome, slice_get}
 use Rattle.std.specs.declared.alloc.Global.{Global}
 use Rattle.atomic_blocks.specs.Lent.{RowsId}
-use Rattle.crossbeam_deque.specs.Handles.{view, IsPassOf}
+use Rattle.crossbeam_deque.specs.Handles.{view, IsPassOf, stealer_deque, worker_flavor, worker_view}
 use Rattle.tcc_txn.specs.declared.memory.NoMemory.{NoMemory}
 use Rattle.tcc_graph.specs.Levels.{Judged}
 use Rattle.tcc_graph.specs.Tables.{row_of}
@@ -16,6 +16,8 @@ use Rattle.tcc_core.specs.Shares.{IsCycleCost}
 use Rattle.tcc_steal.specs.Dealing.{IsTaker}
 use Rattle.tcc_steal.specs.Floors.{least_cost}
 use Rattle.tcc_steal.specs.declared.bringing.Searched.{Searched}
+use Rattle.tcc_steal.specs.declared.sharing.Hand.{Hand}
+use Rattle.tcc_steal.specs.declared.sharing.Hand.TheVariants.{Owner, Thief}
 use Rattle.tcc_steal.specs.declared.sharing.Job.{Job}
 use Rattle.tcc_steal.specs.declared.sharing.Share.{Share}
 use Rattle.tcc_steal.specs.declared.worker.Worker.{Worker}
@@ -86,6 +88,11 @@ pub record IsJob (t : Tables) (id : BoundId) (deque : RowsId × Global) (job : J
   pub worker : IsWorker t id job.worker
   pub pass : IsPassOf deque job.pass
   pub taker : IsTaker (length t.prices) (view job.pass)
+
+-- what a worker takes its starts by, where so many were pushed: the deque, first in first out, or a pass of it
+abbrev pub IsHand : ℕ → Hand → Type 0
+IsHand count (Owner owner) = (worker_flavor owner ≡ 0) × IsTaker count (worker_view owner)
+IsHand count (Thief thief pass retries) = IsPassOf (stealer_deque thief.now) pass × IsTaker count (view pass)
 
 -- what the thieves of so many workers begin with
 abbrev pub AreJobs : Tables → BoundId → RowsId × Global → ℕ → List Job → Type 0

@@ -5,7 +5,7 @@ ghost use Rattle.tcc_steal.specs.Dealing.{IsTaker};
 ghost use Rattle.tcc_steal.specs.Findings.{HasJudged};
 ghost use Rattle.tcc_steal.specs.Working.{IsSeat, IsWorker, IsJob, AreThieves, AreJobs, AreShares, IsShare};
 
-use crate::sharing::{Job, Share, owners_share, thiefs_share};
+use crate::sharing::{Hand, Job, Share, bring_back};
 use crate::taking::{Owner, Thief, cut, deal};
 use crate::worker::Worker;
 use crate::{Crew, Gate};
@@ -83,7 +83,10 @@ fn thieves_shares<R: Threads + Sync, G: Gate>(
         &|job: Job| -> Result<Share, NoMemory>
             requires { HasJudged prices.now × IsJob prices.now bound.now (stealer_deque thief.now) job × (job.worker.number < _workers) }
             ensures { IfOk result (IsShare prices.entry.now bound.entry.now _workers) }
-        { thiefs_share(alloc, prices, bound, gate, thief, job, _workers) },
+        {
+            let hand = Hand::Thief(thief, job.pass, job.retries);
+            bring_back(alloc, prices, bound, gate, hand, job.worker, _workers)
+        },
     )?;
     Ok(shares)
 }
@@ -123,7 +126,10 @@ pub(crate) fn shares_of_many<R: Threads + Sync, G: Gate, C: Crew>(
         move || -> Result<Share, NoMemory>
             requires { HasJudged prices.now × (worker_flavor owner ≡ 0) × IsTaker (length prices.now.prices) (worker_view owner) × IsWorker prices.now bound.now worker × (worker.number < _workers) }
             ensures { IfOk result (IsShare prices.entry.now bound.entry.now _workers) }
-        { owners_share(alloc, prices, bound, gate, owner, worker, _workers) },
+        {
+            let hand = Hand::Owner(owner);
+            bring_back(alloc, prices, bound, gate, hand, worker, _workers)
+        },
         move || -> Result<Vec<Result<Share, NoMemory>>, NoMemory>
             requires { HasJudged prices.now × AreJobs prices.now bound.now (stealer_deque thief.now) _workers jobs.items }
             ensures { IfOk result (λ shares. AreShares prices.entry.now bound.entry.now _workers shares.items) }

@@ -1,9 +1,7 @@
 //! What each worker does by itself, and brings back.
-ghost use Rattle.std.specs.Prelude.{◌≡◌, ◌<◌, length, IfOk};
-ghost use Rattle.crossbeam_deque.specs.Handles.{worker_flavor, worker_view, stealer_deque};
-ghost use Rattle.tcc_steal.specs.Dealing.{IsTaker};
+ghost use Rattle.std.specs.Prelude.{◌<◌, length, IfOk, IfSome};
 ghost use Rattle.tcc_steal.specs.Findings.{HasJudged};
-ghost use Rattle.tcc_steal.specs.Working.{IsWorker, IsJob, IsShare, AreBy};
+ghost use Rattle.tcc_steal.specs.Working.{IsWorker, IsHand, IsShare, AreBy};
 
 use crate::Gate;
 use crate::bringing::Searched;
@@ -24,6 +22,14 @@ pub(crate) struct Job {
     pub retries: u32,
 }
 
+/// What a worker takes its starts by: worker 0 by the deque that it owns, a thief by its pass, of which it ends after so
+/// many retries in a row.
+#[derive(Drop)]
+pub(crate) enum Hand<'a> {
+    Owner(Owner),
+    Thief(&'a Thief, Pass<u32, Taken>, u32),
+}
+
 /// What a worker brings back: its seat, and its searches in the order in which it made them.
 #[derive(Drop)]
 pub(crate) struct Share {
@@ -31,62 +37,39 @@ pub(crate) struct Share {
     pub searches: Vec<Searched>,
 }
 
-/// Worker 0 searches from the starts that it takes, until none is left.
-pub(crate) fn owners_share(
+/// The next start of as many as were pushed; none where none is left, or a thief was refused too often in a row.
+fn next(hand: &mut Hand<'_>, _count: u32) -> Option<u32>
+    requires { IsHand _count hand.old }
+    ensures hand { IsHand _count hand.new }
+    ensures start { IfSome result (λ start. start < _count) }
+{
+    match hand {
+        Hand::Owner(owner) => pop(owner),
+        Hand::Thief(thief, pass, retries) => steal(thief, pass, *retries),
+    }
+}
+
+/// A worker searches from the starts that it takes, until it gets no further one.
+pub(crate) fn bring_back(
     alloc: Global,
     prices: &Prices,
     bound: &Bound,
     gate: &impl Gate,
-    mut owner: Owner,
+    mut hand: Hand<'_>,
     mut worker: Worker,
     _workers: u32,
 ) -> Result<Share, NoMemory>
     requires prices { HasJudged prices.now }
-    requires fifo { worker_flavor owner ≡ 0 }
-    requires taker { IsTaker (length prices.now.prices) (worker_view owner) }
+    requires hand { IsHand (length prices.now.prices) hand }
     requires worker { IsWorker prices.now bound.now worker }
     requires number { worker.number < _workers }
     ensures share { IfOk result (IsShare prices.now bound.now _workers) }
     ensures by { IfOk result (λ share. AreBy worker.number share.searches.items) }
 {
+    let count = prices.count();
     let mut searches = Vec::new(alloc);
-    for _ in 0..prices.count() {
-        let Some(start) = pop(&mut owner) else {
-            break;
-        };
-        let searched = worker.search(alloc, prices, bound, gate, start)?;
-        searches.push(searched)?;
-    }
-    Ok(Share {
-        seat: worker.seat,
-        searches,
-    })
-}
-
-/// A thief searches from the starts that it steals, until none is left or it was refused too often in a row.
-pub(crate) fn thiefs_share(
-    alloc: Global,
-    prices: &Prices,
-    bound: &Bound,
-    gate: &impl Gate,
-    thief: &Thief,
-    job: Job,
-    _workers: u32,
-) -> Result<Share, NoMemory>
-    requires prices { HasJudged prices.now }
-    requires job { IsJob prices.now bound.now (stealer_deque thief.now) job }
-    requires number { job.worker.number < _workers }
-    ensures share { IfOk result (IsShare prices.now bound.now _workers) }
-    ensures by { IfOk result (λ share. AreBy job.worker.number share.searches.items) }
-{
-    let Job {
-        mut worker,
-        mut pass,
-        retries,
-    } = job;
-    let mut searches = Vec::new(alloc);
-    for _ in 0..prices.count() {
-        let Some(start) = steal(thief, &mut pass, retries) else {
+    for _ in 0..count {
+        let Some(start) = next(&mut hand, count) else {
             break;
         };
         let searched = worker.search(alloc, prices, bound, gate, start)?;
