@@ -101,13 +101,7 @@ fn assert_fault(
 
 /// The number of the line that begins behind the last line feed.
 fn line_begun(text: &[u8]) -> u64 {
-    let mut line: u64 = 1;
-    for byte in text {
-        if *byte == b'\n' {
-            line = line.saturating_add(1);
-        }
-    }
-    line
+    text.split(|&byte| byte == b'\n').count() as u64
 }
 
 // Cut after each byte but the last: the line that was begun has no line feed.

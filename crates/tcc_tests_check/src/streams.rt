@@ -84,13 +84,7 @@ fn first_rules(rt: HostRuntime) {
 
 /// How many line feeds there are, and 1.
 fn line_begun(text: &[u8]) -> u64 {
-    let mut line: u64 = 1;
-    for byte in text {
-        if *byte == b'\n' {
-            line = line.saturating_add(1);
-        }
-    }
-    line
+    text.split(|&byte| byte == b'\n').count() as u64
 }
 
 /// Cut anywhere, the text has that fault, also where rules are broken before.
