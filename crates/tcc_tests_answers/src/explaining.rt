@@ -1,6 +1,10 @@
 //! Worked histories at a level with their answers as text and as a certificate, worked out by hand.
 use crate::answers::{OWN, OWN_TEXT, STALE, TORN, answer_of, text_of};
+use std::alloc::Global;
+use std::process::Abort;
 use std::test::Fail;
+use std::thread::Threads;
+use tcc_answer::Answer;
 use tcc_cert::write;
 use tcc_explain::laws::{certificates, certified, one_answer};
 use tcc_explain::{ExplainFault, OpenGate, explain};
@@ -84,33 +88,49 @@ const CERTIFICATES: [(&str, Level, &str); 5] = [
     ),
 ];
 
-/// The text is the same by 1, 2 and 32 workers.
-#[test]
-fn texts(rt: HostRuntime) {
-    let alloc = rt.alloc();
-    for (records, level, text) in TEXTS {
-        for workers in [1, 2, 32] {
-            assert!(&rt; 0 < workers && workers <= 32);
-            let answer = answer_of(&rt, alloc, records, level, workers).expect(&rt, "an answer");
-            let out = text_of(alloc, &answer).expect(&rt, "a text");
-            assert_eq!(&rt; out.as_slice(), text.as_bytes(), "for {records}");
+/// What is said of an answer.
+#[derive(Clone, Copy)]
+enum Form {
+    Text,
+    Certificate,
+}
+
+fn said(alloc: Global, answer: &Answer, form: Form) -> Option<Vec<u8>> {
+    match form {
+        Form::Text => text_of(alloc, answer),
+        Form::Certificate => {
+            let mut out = Vec::new(alloc);
+            write(answer.certificate(), &mut out).ok()?;
+            Some(out)
         }
     }
 }
 
-/// So is the certificate.
-#[test]
-fn certificates_of_answers(rt: HostRuntime) {
-    let alloc = rt.alloc();
-    for (records, level, text) in CERTIFICATES {
+/// The same is said by 1, 2 and 32 workers.
+fn assert_said(
+    rt: &(impl Threads + Sync + Abort),
+    alloc: Global,
+    rows: &[(&str, Level, &str)],
+    form: Form,
+) {
+    for (records, level, text) in rows {
         for workers in [1, 2, 32] {
-            assert!(&rt; 0 < workers && workers <= 32);
-            let answer = answer_of(&rt, alloc, records, level, workers).expect(&rt, "an answer");
-            let mut out = Vec::new(alloc);
-            assert!(&rt; write(answer.certificate(), &mut out).is_ok());
-            assert_eq!(&rt; out.as_slice(), text.as_bytes(), "for {records}");
+            assert!(rt; 0 < workers && workers <= 32);
+            let answer = answer_of(rt, alloc, records, *level, workers).expect(rt, "an answer");
+            let out = said(alloc, &answer, form).expect(rt, "what is said");
+            assert_eq!(rt; out.as_slice(), text.as_bytes(), "for {records}");
         }
     }
+}
+
+#[test]
+fn texts(rt: HostRuntime) {
+    assert_said(&rt, rt.alloc(), &TEXTS, Form::Text);
+}
+
+#[test]
+fn certificates_of_answers(rt: HostRuntime) {
+    assert_said(&rt, rt.alloc(), &CERTIFICATES, Form::Certificate);
     certificates();
     certified();
     one_answer();

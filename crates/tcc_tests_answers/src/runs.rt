@@ -57,12 +57,12 @@ const CHECKED: [(&str, &str, &str, u8); 3] = [
 ];
 
 // Explains the records by one worker, and gives the number that the run ends with.
-fn explained<R: Read + Drop, W: Write, C: Write>(
+fn explained(
     rt: &(impl Threads + Sync),
     alloc: Global,
-    records: R,
-    out: &mut W,
-    file: &mut Option<C>,
+    records: impl Read + Drop,
+    out: &mut impl Write,
+    file: &mut Option<impl Write>,
     json: bool,
 ) -> u8 {
     let options = Options {
@@ -88,13 +88,9 @@ impl Read for Broken<'_> {
     }
 }
 
-// The line that a reader fails in, counted from 1, after some bytes.
-fn line_after(bytes: &[u8]) -> usize {
-    bytes
-        .iter()
-        .filter(|&&byte| byte == b'\n')
-        .count()
-        .saturating_add(1)
+// A reader that fails after these bytes, and the line that it fails in, counted from 1.
+fn broken_after(bytes: &[u8]) -> (Broken<'_>, usize) {
+    (Broken { bytes }, bytes.split(|&byte| byte == b'\n').count())
 }
 
 // A run whose reader of records fails tells the row, after the answers that stand.
@@ -102,13 +98,11 @@ fn line_after(bytes: &[u8]) -> usize {
 fn readers_of_records_fail(rt: HostRuntime) -> Result<(), Fail> {
     let alloc = rt.alloc();
     for bytes in 0..SEALED.len() + 1 {
-        let read = &SEALED.as_bytes()[..bytes];
-        let row = line_after(read);
+        let (broken, row) = broken_after(&SEALED.as_bytes()[..bytes]);
         let answered = if row > 7 { SEALED_TEXT } else { "" };
         let text = format!(in alloc; "{answered}row {row}: Read\n")?;
         let mut out = Vec::new(alloc);
         let mut file = Some(Vec::new(alloc));
-        let broken = Broken { bytes: read };
         let code = explained(&rt, alloc, broken, &mut out, &mut file, false);
         assert_eq!(&rt; out.as_slice(), text.as_bytes(), "after {bytes} bytes");
         assert!(&rt; file.is_some_and(|file: Vec<u8>| file.is_empty()));
@@ -122,11 +116,10 @@ fn readers_of_records_fail(rt: HostRuntime) -> Result<(), Fail> {
 fn readers_of_certificates_fail(rt: HostRuntime) -> Result<(), Fail> {
     let alloc = rt.alloc();
     for bytes in 0..OWN_CERTIFICATE.len() + 1 {
-        let read = &OWN_CERTIFICATE.as_bytes()[..bytes];
-        let line = line_after(read);
+        let (broken, line) = broken_after(&OWN_CERTIFICATE.as_bytes()[..bytes]);
         let text = format!(in alloc; "certificate line {line}: Read\n")?;
         let mut out = Vec::new(alloc);
-        let code = run_check(alloc, OWN.as_bytes(), Broken { bytes: read }, &mut out);
+        let code = run_check(alloc, OWN.as_bytes(), broken, &mut out);
         assert_eq!(&rt; out.as_slice(), text.as_bytes(), "after {bytes} bytes");
         assert_eq!(&rt; code, 6);
     }
