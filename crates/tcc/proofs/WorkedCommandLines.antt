@@ -1,10 +1,11 @@
 -- What some command lines ask for, by clap's own words.
-use Rattle.std.proofs.Common.{◌≡◌, true, [], ◌∷◌, Some, refl, codes}
+use Rattle.std.proofs.Common.{◌≡◌, true, List, [], ◌∷◌, map, Option, None, Some, refl, codes}
 use Rattle.std.specs.Prelude.{option_and_then, option_map}
 use Rattle.std.specs.Borrow.{Bor}
-use Rattle.clap.specs.Walk.{first_of}
+use Rattle.clap.specs.Walk.{Text, first_of}
 use Rattle.clap.specs.Faults.{fault_of, is_simple_and_free}
 use Rattle.clap.specs.Simple.{App, is_simple, subcommand_of}
+use Rattle.clap.specs.declared.error.kind.ErrorKind.{ErrorKind}
 use Rattle.clap.specs.declared.error.kind.ErrorKind.TheVariants.{ArgumentConflict, DisplayHelp, DisplayVersion, InvalidSubcommand, InvalidValue, MissingRequiredArgument, MissingSubcommand, TooManyValues, UnknownArgument, ValueValidation}
 use Rattle.clap.proofs.OnLiterals.{clap_on_literals}
 use Rattle.tcc_graph.specs.declared.level.Level.TheVariants.{Causal, Atomic}
@@ -32,152 +33,83 @@ are_levels = refl
 abbrev program : App
 program = tcc_command levels
 
-explain : fault_of program (codes "tcc" ∷ codes "explain" ∷ []) ≡ []
-unfolding clap_on_literals
-explain = refl
+-- what clap finds wrong with these words behind the program's name
+abbrev faults : List Text → List ErrorKind
+faults words = fault_of program (codes "tcc" ∷ words)
 
-explain_as_text : json_text (subcommand_of program (codes "tcc" ∷ codes "explain" ∷ [])) ≡ Some (codes "false")
-unfolding clap_on_literals
-explain_as_text = refl
+-- what it reads of the level, the number of workers, the flag, and the certificate's path, behind `explain`
+abbrev asks : List Text → Option Text × Option Text × Option Text × Option Text
+asks words =
+    let met = subcommand_of program (codes "tcc" ∷ codes "explain" ∷ words) in
+    (level_text met, workers_text met, json_text met, certificate_path met)
 
-as_json : fault_of program (codes "tcc" ∷ codes "explain" ∷ codes "--json" ∷ []) ≡ []
-unfolding clap_on_literals
-as_json = refl
+-- command lines with nothing wrong, each with all that is read of it
+abbrev explain_lines : List (List Text × (Option Text × Option Text × Option Text × Option Text))
+explain_lines =
+    ([], (Some (codes "causal"), Some (codes "1"), Some (codes "false"), None))
+    ∷ (codes "--json" ∷ [], (Some (codes "causal"), Some (codes "1"), Some (codes "true"), None))
+    ∷ (codes "--level" ∷ codes "atomic" ∷ [], (Some (codes "atomic"), Some (codes "1"), Some (codes "false"), None))
+    ∷ (codes "--level=atomic" ∷ codes "--json" ∷ [], (Some (codes "atomic"), Some (codes "1"), Some (codes "true"), None))
+    ∷ (codes "--certificate" ∷ codes "c.txt" ∷ [], (Some (codes "causal"), Some (codes "1"), Some (codes "false"), Some (codes "c.txt")))
+    ∷ (codes "--workers" ∷ codes "32" ∷ [], (Some (codes "causal"), Some (codes "32"), Some (codes "false"), None))
+    ∷ []
 
-explain_as_json : json_text (subcommand_of program (codes "tcc" ∷ codes "explain" ∷ codes "--json" ∷ [])) ≡ Some (codes "true")
+explain_faults : map (λ line. faults (codes "explain" ∷ line.0)) explain_lines ≡ map (λ line. []) explain_lines
 unfolding clap_on_literals
-explain_as_json = refl
+explain_faults = refl
 
-explain_as_causal : level_text (subcommand_of program (codes "tcc" ∷ codes "explain" ∷ [])) ≡ Some (codes "causal")
+explain_asks : map (λ line. asks line.0) explain_lines ≡ map (λ line. line.1) explain_lines
 unfolding clap_on_literals
-explain_as_causal = refl
+explain_asks = refl
 
-as_atomic : fault_of program (codes "tcc" ∷ codes "explain" ∷ codes "--level" ∷ codes "atomic" ∷ []) ≡ []
-unfolding clap_on_literals
-as_atomic = refl
+abbrev check_line : List Text
+check_line = codes "check" ∷ codes "h.csv" ∷ codes "c.txt" ∷ []
 
-explain_as_atomic : level_text (subcommand_of program (codes "tcc" ∷ codes "explain" ∷ codes "--level" ∷ codes "atomic" ∷ [])) ≡ Some (codes "atomic")
+check_faults : faults check_line ≡ []
 unfolding clap_on_literals
-explain_as_atomic = refl
+check_faults = refl
 
-certificate : certificate_path (subcommand_of program (codes "tcc" ∷ codes "explain" ∷ codes "--certificate" ∷ codes "c.txt" ∷ [])) ≡ Some (codes "c.txt")
-unfolding clap_on_literals
-certificate = refl
+-- the subcommand, and the two paths: the first word is the history's, and the second the certificate's
+abbrev check_asks : List Text → Option Text × Option Text × Option Text
+check_asks words =
+    let met = subcommand_of program (codes "tcc" ∷ words) in
+    (option_map (λ entered. entered.0) met, option_and_then (λ entered. first_of (codes "history") entered.1) met, option_and_then (λ entered. first_of (codes "certificate") entered.1) met)
 
-attached : level_text (subcommand_of program (codes "tcc" ∷ codes "explain" ∷ codes "--level=atomic" ∷ codes "--json" ∷ [])) ≡ Some (codes "atomic")
+check_reads : check_asks check_line ≡ (Some (codes "check"), Some (codes "h.csv"), Some (codes "c.txt"))
 unfolding clap_on_literals
-attached = refl
+check_reads = refl
 
-check : fault_of program (codes "tcc" ∷ codes "check" ∷ codes "h.csv" ∷ codes "c.txt" ∷ []) ≡ []
-unfolding clap_on_literals
-check = refl
+-- command lines with something wrong, each with what that is
+abbrev faulty_lines : List (List Text × List ErrorKind)
+faulty_lines =
+    ([], MissingSubcommand ∷ [])
+    ∷ (codes "--help" ∷ [], DisplayHelp ∷ [])
+    ∷ (codes "explain" ∷ codes "-h" ∷ [], DisplayHelp ∷ [])
+    -- the version is one of the program, and not of a subcommand
+    ∷ (codes "--version" ∷ [], DisplayVersion ∷ [])
+    ∷ (codes "explain" ∷ codes "--version" ∷ [], UnknownArgument ∷ [])
+    -- both paths have to be given, and no third
+    ∷ (codes "check" ∷ codes "h.csv" ∷ [], MissingRequiredArgument ∷ [])
+    ∷ (codes "check" ∷ codes "a" ∷ codes "b" ∷ codes "c" ∷ [], UnknownArgument ∷ [])
+    -- a certificate names its own level
+    ∷ (codes "check" ∷ codes "--level=atomic" ∷ codes "h.csv" ∷ codes "c.txt" ∷ [], UnknownArgument ∷ [])
+    -- no subcommand of this name, and no argument of it either
+    ∷ (codes "judge" ∷ [], UnknownArgument ∷ InvalidSubcommand ∷ [])
+    ∷ (codes "explain" ∷ codes "more" ∷ [], UnknownArgument ∷ [])
+    -- the flag is one of the subcommand alone, has no value, and isn't given twice
+    ∷ (codes "--json" ∷ codes "explain" ∷ [], UnknownArgument ∷ [])
+    ∷ (codes "explain" ∷ codes "--json=true" ∷ [], TooManyValues ∷ [])
+    ∷ (codes "explain" ∷ codes "--json" ∷ codes "--json" ∷ [], ArgumentConflict ∷ [])
+    ∷ (codes "explain" ∷ codes "--colour" ∷ [], UnknownArgument ∷ [])
+    -- the workers are a number from 1 to 32
+    ∷ (codes "explain" ∷ codes "--workers" ∷ codes "0" ∷ [], ValueValidation ∷ [])
+    ∷ (codes "explain" ∷ codes "--workers=33" ∷ [], ValueValidation ∷ [])
+    -- the level is named by one of its two words, once
+    ∷ (codes "explain" ∷ codes "--level" ∷ codes "Atomic" ∷ [], InvalidValue ∷ [])
+    ∷ (codes "explain" ∷ codes "--level" ∷ [], InvalidValue ∷ [])
+    ∷ (codes "explain" ∷ codes "--level=causal" ∷ codes "--level=causal" ∷ [], ArgumentConflict ∷ [])
+    ∷ []
 
--- the first word is the history's path, and the second the certificate's
-check_history : option_and_then (λ met. first_of (codes "history") met.1) (subcommand_of program (codes "tcc" ∷ codes "check" ∷ codes "h.csv" ∷ codes "c.txt" ∷ []))
-    ≡ Some (codes "h.csv")
+each_fault : map (λ line. faults line.0) faulty_lines ≡ map (λ line. line.1) faulty_lines
 unfolding clap_on_literals
-check_history = refl
-
-check_certificate : option_and_then (λ met. first_of (codes "certificate") met.1) (subcommand_of program (codes "tcc" ∷ codes "check" ∷ codes "h.csv" ∷ codes "c.txt" ∷ []))
-    ≡ Some (codes "c.txt")
-unfolding clap_on_literals
-check_certificate = refl
-
-check_by_name : option_map (λ met. met.0) (subcommand_of program (codes "tcc" ∷ codes "check" ∷ codes "h.csv" ∷ codes "c.txt" ∷ [])) ≡ Some (codes "check")
-unfolding clap_on_literals
-check_by_name = refl
-
--- both have to be given, and no third
-one_path : fault_of program (codes "tcc" ∷ codes "check" ∷ codes "h.csv" ∷ []) ≡ MissingRequiredArgument ∷ []
-unfolding clap_on_literals
-one_path = refl
-
-three_paths : fault_of program (codes "tcc" ∷ codes "check" ∷ codes "a" ∷ codes "b" ∷ codes "c" ∷ []) ≡ UnknownArgument ∷ []
-unfolding clap_on_literals
-three_paths = refl
-
-nothing : fault_of program (codes "tcc" ∷ []) ≡ MissingSubcommand ∷ []
-unfolding clap_on_literals
-nothing = refl
-
-help : fault_of program (codes "tcc" ∷ codes "--help" ∷ []) ≡ DisplayHelp ∷ []
-unfolding clap_on_literals
-help = refl
-
-help_of_explain : fault_of program (codes "tcc" ∷ codes "explain" ∷ codes "-h" ∷ []) ≡ DisplayHelp ∷ []
-unfolding clap_on_literals
-help_of_explain = refl
-
--- no subcommand of this name, and no argument of it either
-no_such_word : fault_of program (codes "tcc" ∷ codes "judge" ∷ []) ≡ UnknownArgument ∷ InvalidSubcommand ∷ []
-unfolding clap_on_literals
-no_such_word = refl
-
-a_word_too_many : fault_of program (codes "tcc" ∷ codes "explain" ∷ codes "more" ∷ []) ≡ UnknownArgument ∷ []
-unfolding clap_on_literals
-a_word_too_many = refl
-
--- the flag is one of the subcommand alone, has no value, and isn't given twice
-flag_before : fault_of program (codes "tcc" ∷ codes "--json" ∷ codes "explain" ∷ []) ≡ UnknownArgument ∷ []
-unfolding clap_on_literals
-flag_before = refl
-
-flag_with_value : fault_of program (codes "tcc" ∷ codes "explain" ∷ codes "--json=true" ∷ []) ≡ TooManyValues ∷ []
-unfolding clap_on_literals
-flag_with_value = refl
-
-flag_twice : fault_of program (codes "tcc" ∷ codes "explain" ∷ codes "--json" ∷ codes "--json" ∷ []) ≡ ArgumentConflict ∷ []
-unfolding clap_on_literals
-flag_twice = refl
-
-no_such_flag : fault_of program (codes "tcc" ∷ codes "explain" ∷ codes "--colour" ∷ []) ≡ UnknownArgument ∷ []
-unfolding clap_on_literals
-no_such_flag = refl
-
--- the workers are a number from 1 to 32, by default 1
-one_worker : workers_text (subcommand_of program (codes "tcc" ∷ codes "explain" ∷ [])) ≡ Some (codes "1")
-unfolding clap_on_literals
-one_worker = refl
-
-most_workers : fault_of program (codes "tcc" ∷ codes "explain" ∷ codes "--workers" ∷ codes "32" ∷ []) ≡ []
-unfolding clap_on_literals
-most_workers = refl
-
-so_many_workers : workers_text (subcommand_of program (codes "tcc" ∷ codes "explain" ∷ codes "--workers" ∷ codes "32" ∷ [])) ≡ Some (codes "32")
-unfolding clap_on_literals
-so_many_workers = refl
-
-no_worker : fault_of program (codes "tcc" ∷ codes "explain" ∷ codes "--workers" ∷ codes "0" ∷ []) ≡ ValueValidation ∷ []
-unfolding clap_on_literals
-no_worker = refl
-
-too_many_workers : fault_of program (codes "tcc" ∷ codes "explain" ∷ codes "--workers=33" ∷ []) ≡ ValueValidation ∷ []
-unfolding clap_on_literals
-too_many_workers = refl
-
--- the level is named by one of its two words, once
-no_such_level : fault_of program (codes "tcc" ∷ codes "explain" ∷ codes "--level" ∷ codes "Atomic" ∷ []) ≡ InvalidValue ∷ []
-unfolding clap_on_literals
-no_such_level = refl
-
-no_level : fault_of program (codes "tcc" ∷ codes "explain" ∷ codes "--level" ∷ []) ≡ InvalidValue ∷ []
-unfolding clap_on_literals
-no_level = refl
-
-level_twice : fault_of program (codes "tcc" ∷ codes "explain" ∷ codes "--level=causal" ∷ codes "--level=causal" ∷ []) ≡ ArgumentConflict ∷ []
-unfolding clap_on_literals
-level_twice = refl
-
--- a certificate names its own
-level_of_check : fault_of program (codes "tcc" ∷ codes "check" ∷ codes "--level=atomic" ∷ codes "h.csv" ∷ codes "c.txt" ∷ []) ≡ UnknownArgument ∷ []
-unfolding clap_on_literals
-level_of_check = refl
-
--- the version is one of the program, and not of a subcommand
-version : fault_of program (codes "tcc" ∷ codes "--version" ∷ []) ≡ DisplayVersion ∷ []
-unfolding clap_on_literals
-version = refl
-
-version_of_explain : fault_of program (codes "tcc" ∷ codes "explain" ∷ codes "--version" ∷ []) ≡ UnknownArgument ∷ []
-unfolding clap_on_literals
-version_of_explain = refl
+each_fault = refl

@@ -7,6 +7,7 @@ use Rattle.clap.specs.Values.{IsUnsignedIn}
 use Rattle.clap.specs.Walk.{Row, Rule, Text, first_of, one_of}
 use Rattle.clap.specs.Simple.{App, Shape, new_app, new_rule, on_top, subcommand_of, with_rule, with_subcommand}
 use Rattle.clap.specs.declared.builder.action.ArgAction.TheVariants.{SetTrue}
+use Rattle.clap.specs.declared.builder.value_parser.ValueParser.{ValueParser}
 use Rattle.clap.specs.declared.builder.value_parser.ValueParser.TheVariants.{Names, Unsigned}
 use Rattle.clap.specs.Faults.{fault_of}
 use Rattle.clap.specs.Kinds.{IsAmong}
@@ -44,23 +45,17 @@ Words = Bor (List (Bor Text))
 abbrev pub AreLevels : Words → Type 0
 AreLevels levels = map (λ word. word.now) levels.now ≡ level_word Causal ∷ level_word Atomic ∷ []
 
+-- an option by its own name, whose value this parser takes; without it, a word that stands for it
+abbrev pub valued_option : Text → ValueParser → Text → Rule
+valued_option id parser word = record (new_rule id) { long = Some id; value_names = 1; parser = Some parser; defaults = word ∷ [] }
+
 -- --level LEVEL, whose value is one of the words; without it, causal
 abbrev pub level_option : Words → Rule
-level_option levels = record (new_rule (codes "level")) {
-  long = Some (codes "level");
-  value_names = 1;
-  parser = Some (Names levels);
-  defaults = level_word Causal ∷ [];
-}
+level_option levels = valued_option (codes "level") (Names levels) (level_word Causal)
 
 -- --workers N, a number from 1 to 32; without it, 1
 abbrev pub workers_option : Rule
-workers_option = record (new_rule (codes "workers")) {
-  long = Some (codes "workers");
-  value_names = 1;
-  parser = Some (Unsigned 1 32);
-  defaults = codes "1" ∷ [];
-}
+workers_option = valued_option (codes "workers") (Unsigned 1 32) (codes "1")
 
 -- --certificate PATH
 abbrev pub certificate_option : Rule

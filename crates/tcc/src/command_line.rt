@@ -4,7 +4,7 @@ ghost use Rattle.std.specs.String.{string_bytes};
 ghost use Rattle.clap.specs.Words.{FailsBy, IsUnsignedIn, app_of, fault_of, found_of, kind_of, rows_of, rule_of, subcommand_rows_of};
 ghost use Rattle.clap.specs.declared.error.kind.ErrorKind.TheVariants.{OutOfMemory};
 ghost use Rattle.tcc_graph.specs.declared.level.Level.{Level};
-ghost use Rattle.tcc.specs.CommandLines.{Asks, AsksBy, AsksCheck, AsksExplain, EndsUnasked, HasWorkers, IsAsked, IsFlag, IsLevel, IsWorkers, PrintsHelp, SaysWorkers, certificate_option, certificate_path, check_command, explain_command, json_text, level_option, level_text, level_word, path, tcc_command, workers_option, workers_text};
+ghost use Rattle.tcc.specs.CommandLines.{Asks, AsksBy, AsksCheck, AsksExplain, EndsUnasked, HasWorkers, IsAsked, IsFlag, IsLevel, IsWorkers, PrintsHelp, SaysWorkers, certificate_option, certificate_path, check_command, explain_command, json_text, level_option, level_text, level_word, path, tcc_command, valued_option, workers_option, workers_text};
 
 use crate::help;
 use clap::builder::ValueParser;
@@ -36,17 +36,31 @@ pub enum Request {
     },
 }
 
+/// An option by its own name, with what help calls its value; without it, the word stands for the value.
+fn valued_option<'a>(
+    alloc: Global,
+    id: &'a str,
+    value: &'a str,
+    parser: ValueParser<'a>,
+    word: &'a str,
+) -> Arg<'a>
+    ensures rule { rule_of result ≡ valued_option id.now parser.entry word.now }
+    ensures own { result.global ≡ false }
+{
+    Arg::new(alloc, id)
+        .long(id)
+        .value_name(value)
+        .value_parser(parser)
+        .default_value(word)
+}
+
 /// The option for the level, whose value is one of these words.
 fn level_option<'a>(alloc: Global, levels: &'a [&'a str]) -> Arg<'a>
     ensures rule { rule_of result ≡ level_option levels.entry }
     ensures own { result.global ≡ false }
 {
-    Arg::new(alloc, "level")
-        .long("level")
-        .value_name("LEVEL")
-        .help("Judges at this level")
-        .value_parser(ValueParser::Names(levels))
-        .default_value("causal")
+    let parser = ValueParser::Names(levels);
+    valued_option(alloc, "level", "LEVEL", parser, "causal").help("Judges at this level")
 }
 
 /// The option for the number of workers.
@@ -54,12 +68,9 @@ fn workers_option<'a>(alloc: Global) -> Arg<'a>
     ensures rule { rule_of result ≡ workers_option }
     ensures own { result.global ≡ false }
 {
-    Arg::new(alloc, "workers")
-        .long("workers")
-        .value_name("N")
-        .help("Searches with so many workers, 1 to 32")
-        .value_parser(ValueParser::Unsigned(1, 32))
-        .default_value("1")
+    valued_option(alloc, "workers", "N", ValueParser::Unsigned(1, 32), "1").help(
+        "Searches with so many workers, 1 to 32",
+    )
 }
 
 /// The option for the file of the certificate.
