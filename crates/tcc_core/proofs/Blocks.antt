@@ -6,18 +6,18 @@ use Rattle.std.proofs.lemmas.Bool.Decides.{eqb_tells}
 use Rattle.tcc_near.specs.declared.distances.TheConstants.{NONE}
 use Rattle.tcc_derive.specs.Blocks.{HasLeastCosts}
 use Rattle.tcc_core.specs.declared.relaxing.TheConstants.{NO_WAY}
-use Rattle.tcc_core.specs.Relaxing.{IsMost, way_by, lesser}
+use Rattle.tcc_core.specs.Relaxing.{IsMost, IsRelaxed, way_by, lesser}
 use Rattle.tcc_core.proofs.Lowering.{way_by_link, way_by_none, fits}
 
 -- what was relaxed up to block k, and not touched from there on
-pub record IsUpTo (s : ℕ) (k : ℕ) (d : ℕ) (links : List ℕ) (initial : List ℕ) (costs : List ℕ) : Type 0 where
-  pub relaxed : (u : ℕ) → s ≤ u → u < k * 64 → u < length initial → get_or costs u 0 ≡ lesser (get_or initial u 0) (way_by d (get_or links u 0))
+pub record IsUpTo (cap : ℕ) (s : ℕ) (k : ℕ) (d : ℕ) (links : List ℕ) (initial : List ℕ) (costs : List ℕ) : Type 0 where
+  pub relaxed : (u : ℕ) → s ≤ u → u < k * 64 → u < length initial → IsRelaxed cap d (get_or links u 0) (get_or initial u 0) (get_or costs u 0)
   pub rest : (u : ℕ) → k * 64 ≤ u → get_or costs u 0 ≡ get_or initial u 0
   pub below : (u : ℕ) → u < s → get_or costs u 0 ≡ get_or initial u 0
 
 -- nothing from the start upward stands before the block of the start
-pub up_to_start : (s d : ℕ) (links costs : List ℕ) → IsUpTo s (s / 64) d links costs costs
-up_to_start s d links costs = record {
+pub up_to_start : (cap s d : ℕ) (links costs : List ℕ) → IsUpTo cap s (s / 64) d links costs costs
+up_to_start cap s d links costs = record {
   relaxed = λ u up before within. absurd (omega (arith, up, before, div-mul-le_self s 64));
   rest = λ u past. refl;
   below = λ u down. refl;
@@ -39,20 +39,25 @@ way_more d less more small up most = go (eqb_tells less NONE) (eqb_tells more NO
 lesser_kept : (a b : ℕ) → a ≤ b → lesser a b ≡ a
 lesser_kept a b up = cond-false (nat_lt b a) b a (le-ltb b a up)
 
-pub passed_over : (s k d : ℕ) (links least most initial costs : List ℕ) → d < 2147483648 → All (λ link. link ≤ NONE) links → HasLeastCosts links least → length links ≡ length initial → length costs ≡ length initial → k < length least → get_or most k 0 ≤ way_by d (get_or least k 0) → IsMost s most costs → IsUpTo s k d links initial costs → IsUpTo s (k + 1) d links initial costs
-passed_over s k d links least most initial costs small all cheapest wide long inside over is upto = record {
+pub passed_over : (cap s k d : ℕ) (links least most initial costs : List ℕ) → d < 2147483648 → All (λ link. link ≤ NONE) links → HasLeastCosts links least → length links ≡ length initial → length costs ≡ length initial → k < length least → (get_or most k 0 ≤ way_by d (get_or least k 0)) ⊎ (cap < way_by d (get_or least k 0)) → IsMost s most costs → IsUpTo cap s k d links initial costs → IsUpTo cap s (k + 1) d links initial costs
+passed_over cap s k d links least most initial costs small all cheapest wide long inside over is upto = record {
   relaxed = λ u up before within. low u up before within (cases_lt u (k * 64));
   rest = λ u past. upto.rest u (omega arith);
   below = upto.below;
 }
   where
-    low : (u : ℕ) → s ≤ u → u < (k + 1) * 64 → u < length initial → (u < k * 64) ⊎ (k * 64 ≤ u) → get_or costs u 0 ≡ lesser (get_or initial u 0) (way_by d (get_or links u 0))
+    low : (u : ℕ) → s ≤ u → u < (k + 1) * 64 → u < length initial → (u < k * 64) ⊎ (k * 64 ≤ u) → IsRelaxed cap d (get_or links u 0) (get_or initial u 0) (get_or costs u 0)
     low u up before within (inl done) = upto.relaxed u up done within
     low u up before within (inr here) =
         let same : get_or costs u 0 ≡ get_or initial u 0 = upto.rest u here in
         let cheap : get_or least k 0 ≤ get_or links u 0 = (cheapest.each k inside).least u here (omega arith) (omega arith) in
         let few : get_or costs u 0 ≤ get_or most k 0 = is.each k u here (omega arith) up (omega arith) in
-        same ∙ sym (lesser_kept (get_or initial u 0) (way_by d (get_or links u 0)) (omega (arith, same, few, over, way_more d (get_or least k 0) (get_or links u 0) small cheap (fits links all u))))
+        let dearer = way_more d (get_or least k 0) (get_or links u 0) small cheap (fits links all u) in
+        go same few dearer over
+      where
+        go : get_or costs u 0 ≡ get_or initial u 0 → get_or costs u 0 ≤ get_or most k 0 → way_by d (get_or least k 0) ≤ way_by d (get_or links u 0) → (get_or most k 0 ≤ way_by d (get_or least k 0)) ⊎ (cap < way_by d (get_or least k 0)) → IsRelaxed cap d (get_or links u 0) (get_or initial u 0) (get_or costs u 0)
+        go same few dearer (inl enough) = inl (same ∙ sym (lesser_kept (get_or initial u 0) (way_by d (get_or links u 0)) (omega (arith, same, few, enough, dearer))))
+        go same few dearer (inr past) = inr (same, inr (omega (arith, past, dearer)))
 
 -- ---- a block that is relaxed
 
@@ -99,19 +104,21 @@ places_of s k n from to ends begins = record {
     side v below (inl high) = inl (within_both v (omega (arith, below, le-max_right (k * 64) s)) high)
     side v below (inr past) = inr past
 
-pub block_relaxed : (s k d from to found : ℕ) (links initial old new : List ℕ) → length old ≡ length initial → ArePlaces s k (length initial) from to → IsBlockRelaxed from to d links old new found → IsUpTo s k d links initial old → IsUpTo s (k + 1) d links initial new
-block_relaxed s k d from to found links initial old new long places block upto = record {
+pub block_relaxed : (cap s k d from to found : ℕ) (links initial old new : List ℕ) → length old ≡ length initial → ArePlaces s k (length initial) from to → IsBlockRelaxed from to d links old new found → IsUpTo cap s k d links initial old → IsUpTo cap s (k + 1) d links initial new
+block_relaxed cap s k d from to found links initial old new long places block upto = record {
   relaxed = λ u up before within. low u up before within (cases_lt u (k * 64));
   rest = λ u past. block.behind u (omega (arith, places.behind)) ∙ upto.rest u (omega arith);
   below = λ u down. under u down (places.down u down) ∙ upto.below u down;
 }
   where
-    low : (u : ℕ) → s ≤ u → u < (k + 1) * 64 → u < length initial → (u < k * 64) ⊎ (k * 64 ≤ u) → get_or new u 0 ≡ lesser (get_or initial u 0) (way_by d (get_or links u 0))
-    low u up before within (inl done) = block.before u (places.before u done within) ∙ upto.relaxed u up done within
+    low : (u : ℕ) → s ≤ u → u < (k + 1) * 64 → u < length initial → (u < k * 64) ⊎ (k * 64 ≤ u) → IsRelaxed cap d (get_or links u 0) (get_or initial u 0) (get_or new u 0)
+    low u up before within (inl done) =
+        let same : get_or new u 0 ≡ get_or old u 0 = block.before u (places.before u done within) in
+        rw same (upto.relaxed u up done within)
     low u up before within (inr here) =
         let there = places.inside u up here (omega arith) within in
         let same : get_or old u 0 ≡ get_or initial u 0 = upto.rest u here in
-        rw same at (block.lowered u there.0 there.1)
+        inl (rw same at (block.lowered u there.0 there.1))
 
     under : (u : ℕ) → u < s → (u < from) ⊎ (to ≤ u) → get_or new u 0 ≡ get_or old u 0
     under u down (inl before) = block.before u before

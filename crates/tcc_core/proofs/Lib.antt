@@ -2,6 +2,7 @@ pub mod Settlement
 pub mod Frontier
 pub mod Lowering
 pub mod Steps
+pub mod Catching
 pub mod Floor
 pub mod Blocks
 pub mod Ending

@@ -1,8 +1,10 @@
 -- For the private stages and their proofs alone: nobody has to believe what stands here.
 -- Costs of ways, how links lower them, and how far they grow.
-use Rattle.std.specs.Prelude.{ℕ, ◌<◌, ◌≤◌, ◌≡◌, ◌≢◌, ◌+◌, ◌*◌, ◌==◌, List, [], ◌∷◌, length, Option, None, Some, nat_lt, if◌then◌else◌, slice_index}
+use Rattle.std.specs.Prelude.{ℕ, ◌<◌, ◌≤◌, ◌≡◌, ◌≢◌, ◌+◌, ◌*◌, ◌==◌, ◌⊎◌, List, [], ◌∷◌, length, Option, None, Some, nat_lt, if◌then◌else◌, slice_index}
 use Rattle.tcc_txn.specs.declared.limits.TheConstants.{MAX_COUNT}
 use Rattle.tcc_near.specs.declared.distances.TheConstants.{NONE}
+use Rattle.tcc_derive.specs.Prices.{Tables}
+use Rattle.tcc_graph.specs.Tables.{row_of}
 use Rattle.tcc_core.specs.Rows.{in_row}
 use Rattle.tcc_core.specs.Searches.{Search}
 use Rattle.tcc_core.specs.declared.relaxing.TheConstants.{NO_WAY}
@@ -36,6 +38,23 @@ way_by so_far link = if link == NONE then NO_WAY else (so_far + link)
 abbrev pub lesser : ℕ → ℕ → ℕ
 lesser a b = if nat_lt b a then b else a
 
+-- the cost is lowered to that of a way by a link from where d was spent; or it stays, and no such way costs at most the cap
+abbrev pub IsRelaxed : ℕ → ℕ → ℕ → ℕ → ℕ → Type 0
+IsRelaxed cap d link old new = (new ≡ lesser old (way_by d link)) ⊎ ((new ≡ old) × ((cap ≤ d) ⊎ (cap < way_by d link)))
+
+-- what a way costs that leads on from u to v, where c was spent before
+abbrev pub way_on : Tables → ℕ → ℕ → ℕ → ℕ
+way_on t u c v = way_by c (slice_index (row_of t.costs u) v)
+
+-- each cost from s upward is lowered to that of the cheapest way by one link from where the search has come to, if that
+-- is less
+pub record IsCaughtUp (Come : ℕ → ℕ → Type 0) (t : Tables) (s : ℕ) (old : List ℕ) (new : List ℕ) : Type 0 where
+  pub long : length new ≡ length old
+  pub fits : (u : ℕ) (c : ℕ) (v : ℕ) → Come u c → slice_index (row_of t.costs u) v ≤ NONE
+  pub lower : (v : ℕ) → v < length old → slice_index new v ≤ slice_index old v
+  pub least : (u : ℕ) (c : ℕ) (v : ℕ) → Come u c → s ≤ v → v < length old → slice_index new v ≤ way_on t u c v
+  pub attained : (v : ℕ) → v < length old → (slice_index new v ≡ slice_index old v) ⊎ ((s ≤ v) × (u : ℕ) × (c : ℕ) × Come u c × (slice_index new v ≡ way_on t u c v))
+
 -- blocks of 64 for so many transactions, and from s upward nothing in a block costs more than the most of the block
 pub record IsMost (s : ℕ) (most : List ℕ) (costs : List ℕ) : Type 0 where
   pub enough : length costs ≤ length most * 64
@@ -52,4 +71,5 @@ pub record IsBounded (search : Search) : Type 0 where
   pub below : search.start < length search.row
   pub few : length search.row ≤ MAX_COUNT
   pub long : length search.costs ≡ length search.row
+  pub joined : (v : ℕ) (c : ℕ) → in_row search.row v ≡ Some c → c ≤ NONE * count_joined search.row
   pub bounded : (v : ℕ) → v < length search.row → slice_index search.costs v ≢ NO_WAY → slice_index search.costs v ≤ NONE * (count_joined search.row + 1)

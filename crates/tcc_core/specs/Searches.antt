@@ -7,19 +7,20 @@ use Rattle.tcc_core.specs.Frontiers.{IsFrontier}
 use Rattle.tcc_core.specs.declared.settled.Settled.{Settled}
 use Rattle.tcc_core.specs.declared.settled.Settled.TheVariants as settled
 
--- a start, its row, and of each transaction outside the row what the way there over the row costs; nothing below the
--- start is ever looked at
+-- a start, its row, of each transaction outside the row what the way there over the row costs, and the limit up to which
+-- all ways are known; nothing below the start is ever looked at
 pub record Search : Type 0 where
   pub start : ℕ
   pub row : List (Option ℕ)
   pub costs : List ℕ
+  pub limit : ℕ
 
 -- a search from s of this history at this level, which begins so and stays so; what it says of the costs serves proofs alone
 pub record IsSearchOf (j : Judged) (s : ℕ) (search : Search) : Type 0 where
   pub start : search.start ≡ s
   pub below : s < count j.history
   pub row : IsSearchRow j s search.row
-  pub frontier : IsFrontier j s search.row search.costs
+  pub frontier : IsFrontier j s search.limit search.row search.costs
 
 -- one step of a search: one of the nearest outside the row and within the cap joins it, and where it is the start itself
 -- the search has returned with its distance; where there is none, the row stays, and the search is cut at the cap

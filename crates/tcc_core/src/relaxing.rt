@@ -1,13 +1,13 @@
 //! The frontier of a search: what the ways to the transactions outside its row cost. Nothing below the start is looked at.
-ghost use Rattle.std.specs.Prelude.{◌≡◌, ◌<◌, ◌≤◌, ◌^◌, ℕ, length, slice_index, All, IfNone, IfSome};
+ghost use Rattle.std.specs.Prelude.{◌≡◌, ◌<◌, ◌≤◌, ◌^◌, ℕ, Some, length, slice_index, All, IfNone, IfSome};
 ghost use Rattle.tcc_derive.specs.Blocks.{HasLeastCosts};
 ghost use Rattle.tcc_core.specs.Rows.{in_row, IsEmptyRow};
-ghost use Rattle.tcc_core.specs.Relaxing.{IsNearest, IsOutsideAt, IsFloor, IsMost, way_by, lesser};
+ghost use Rattle.tcc_core.specs.Relaxing.{IsNearest, IsOutsideAt, IsFloor, IsMost, IsRelaxed, IsCaughtUp, way_by, lesser};
 ghost use Rattle.tcc_txn.specs.declared.limits.TheConstants.{MAX_COUNT};
 ghost use Rattle.tcc_near.specs.declared.distances.TheConstants.{NONE};
 ghost use Rattle.tcc_core.specs.declared.relaxing.TheConstants.{NO_WAY};
 
-use tcc_derive::BLOCK;
+use tcc_derive::{BLOCK, Prices};
 use tcc_near::NONE;
 
 /// What the costs have where no way leads.
@@ -124,14 +124,16 @@ fn relax_block(from: usize, to: usize, costs: &mut [u32], so_far: u32, links: &[
     most
 }
 
-/// Lowers the costs from the start upward to those of the ways that lead on by these links from where so much was spent.
-/// A block is passed over where the cheapest link into it makes none of its costs less.
+/// Lowers the costs from the start upward to those of the ways that lead on by these links from where so much was spent, as
+/// far as they cost at most the cap. A block is passed over where the cheapest link into it makes none of its costs less,
+/// or makes a way that costs more than the cap; and each link costs something.
 pub(crate) fn relax(
     start: u32,
     costs: &mut [u32],
     so_far: u32,
     links: &[u16],
     least: &[u16],
+    cap: u64,
     most: &mut [u32],
 )
     requires small { so_far < 2 ^ 31 }
@@ -140,16 +142,44 @@ pub(crate) fn relax(
     requires most { IsMost start most.old costs.old }
     ensures links { All (λ link. link ≤ NONE) links.now }
     ensures lowered { (v : ℕ) → start ≤ v → v < length costs.old
-        → slice_index costs.new v ≡ lesser (slice_index costs.old v) (way_by so_far (slice_index links.now v)) }
+        → IsRelaxed cap so_far (slice_index links.now v) (slice_index costs.old v) (slice_index costs.new v) }
     ensures kept { (v : ℕ) → v < start → slice_index costs.new v ≡ slice_index costs.old v }
     ensures long { length costs.new ≡ length costs.old }
     ensures most { IsMost start most.new costs.new }
 {
+    if so_far as u64 >= cap {
+        return;
+    }
     for block in start as usize / BLOCK..least.len() {
-        if way_by(so_far, least[block]) < most[block] {
+        let way = way_by(so_far, least[block]);
+        if way < most[block] && way as u64 <= cap {
             let to = (block * BLOCK + BLOCK).min(costs.len());
             let from = (block * BLOCK).max(start as usize).min(to);
             most[block] = relax_block(from, to, costs, so_far, links);
+        }
+    }
+}
+
+/// Lowers the costs from the start upward to those of all ways that lead on by one link from what the row has.
+pub(crate) fn relax_row(
+    start: u32,
+    row: &[Option<u32>],
+    costs: &mut [u32],
+    prices: &Prices,
+    most: &mut [u32],
+)
+    requires long { length costs.old ≡ length row.now }
+    requires few { length row.now ≤ MAX_COUNT }
+    requires priced { length row.now ≡ length prices.now.prices }
+    requires small { (v : ℕ) (c : ℕ) → in_row row.now v ≡ Some c → c < 2 ^ 31 }
+    requires most { IsMost start most.old costs.old }
+    ensures caught { IsCaughtUp (λ u c. in_row row.now u ≡ Some c) prices.now start costs.old costs.new }
+    ensures most { IsMost start most.new costs.new }
+{
+    for u in 0..row.len() {
+        if let Some(so_far) = row[u] {
+            let u = u as u32;
+            relax(start, costs, so_far, prices.costs(u), prices.least_costs(u), u64::MAX, most);
         }
     }
 }

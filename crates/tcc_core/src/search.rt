@@ -6,7 +6,7 @@ ghost use Rattle.tcc_txn.specs.declared.limits.TheConstants.{MAX_COUNT};
 ghost use Rattle.tcc_graph.specs.Tables.{row_of};
 
 use crate::Settled;
-use crate::relaxing::{NO_WAY, empty, forget, nearest_from, relax};
+use crate::relaxing::{NO_WAY, empty, forget, nearest_from, relax, relax_row};
 use std::alloc::Global;
 use std::marker::Model;
 use tcc_derive::Prices;
@@ -25,6 +25,8 @@ pub struct Search {
     place: u32,
     /// For each block of transactions a cost that none of them from the start upward is above.
     most: Vec<u32>,
+    /// All ways are known that cost at most this; `u64::MAX` is no limit.
+    limit: u64,
 }
 
 impl Model for Search {
@@ -34,9 +36,9 @@ impl Model for Search {
 
     ghost Value = { searches.Search };
 
-    ghost view = { λ s. record { start = s.start; row = s.row.items; costs = s.costs.items } };
+    ghost view = { λ s. record { start = s.start; row = s.row.items; costs = s.costs.items; limit = s.limit } };
 
-    ghost invariant = { λ s. IsBounded (record { start = s.start; row = s.row.items; costs = s.costs.items })
+    ghost invariant = { λ s. IsBounded (record { start = s.start; row = s.row.items; costs = s.costs.items; limit = s.limit })
         × (IsFloor s.start s.place s.floor s.row.items s.costs.items × IsMost s.start s.most.items s.costs.items) };
 }
 
@@ -56,7 +58,7 @@ impl Search {
         let mut costs = vec![in alloc; NO_WAY; count]?;
         let least = prices.least_costs(start);
         let mut most = vec![in alloc; NO_WAY; least.len()]?;
-        relax(start, &mut costs, 0, prices.costs(start), least, &mut most);
+        relax(start, &mut costs, 0, prices.costs(start), least, u64::MAX, &mut most);
         let row = vec![in alloc; None; count]?;
         Ok(Search {
             start,
@@ -65,6 +67,7 @@ impl Search {
             floor: 0,
             place: count as u32,
             most,
+            limit: u64::MAX,
         })
     }
 
@@ -83,8 +86,9 @@ impl Search {
         let most = self.most.as_mut_slice();
         forget(most);
         let least = prices.least_costs(start);
-        relax(start, costs, 0, prices.costs(start), least, most);
+        relax(start, costs, 0, prices.costs(start), least, u64::MAX, most);
         self.start = start;
+        self.limit = u64::MAX;
         self.floor = 0;
         self.place = prices.count();
     }
@@ -93,6 +97,40 @@ impl Search {
     /// `u64::MAX` is none. The prices are those that the search began with.
     pub fn settle(&mut self, prices: &Prices, cap: u64) -> Settled
         requires { length self.old.row ≡ length prices.now.prices }
+        ensures start { self.new.start ≡ self.old.start }
+        ensures long { length self.new.row ≡ length self.old.row }
+        ensures search { (j : Judged) (s : ℕ) → IsPricesOf j prices.now → IsSearchOf j s self.old → IsSearchOf j s self.new }
+        ensures settled { (j : Judged) (s : ℕ) → IsPricesOf j prices.now → IsSearchOf j s self.old
+            → Settles j s cap self.old.row self.new.row result }
+    {
+        if cap > self.limit {
+            self.catch_up(prices);
+        }
+        self.step(prices, cap)
+    }
+
+    /// Makes all ways known, whatever they cost.
+    fn catch_up(&mut self, prices: &Prices)
+        requires { length self.old.row ≡ length prices.now.prices }
+        ensures start { self.new.start ≡ self.old.start }
+        ensures row { self.new.row ≡ self.old.row }
+        ensures limit { self.new.limit ≡ 18446744073709551615 }
+        ensures search { (j : Judged) (s : ℕ) → IsPricesOf j prices.now → IsSearchOf j s self.old → IsSearchOf j s self.new }
+    {
+        let costs = self.costs.as_mut_slice();
+        let most = self.most.as_mut_slice();
+        relax_row(self.start, &self.row, costs, prices, most);
+        let least = prices.least_costs(self.start);
+        relax(self.start, costs, 0, prices.costs(self.start), least, u64::MAX, most);
+        self.limit = u64::MAX;
+        self.floor = 0;
+        self.place = prices.count();
+    }
+
+    /// What `settle` does where all ways that cost at most the cap are known.
+    fn step(&mut self, prices: &Prices, cap: u64) -> Settled
+        requires long { length self.old.row ≡ length prices.now.prices }
+        requires known { cap ≤ self.old.limit }
         ensures start { self.new.start ≡ self.old.start }
         ensures long { length self.new.row ≡ length self.old.row }
         ensures search { (j : Judged) (s : ℕ) → IsPricesOf j prices.now → IsSearchOf j s self.old → IsSearchOf j s self.new }
@@ -114,8 +152,10 @@ impl Search {
             distance,
             prices.costs(next),
             prices.least_costs(next),
+            cap,
             &mut self.most,
         );
+        self.limit = cap;
         self.floor = distance;
         self.place = next + 1;
         if next == self.start {

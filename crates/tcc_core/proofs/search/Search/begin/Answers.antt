@@ -27,7 +27,7 @@ invariant_of-result c =
     let unspent = all_unspent n c.count-count.result old counted (c.in_ok-costs.ensures.items_if_clones_equal (λ y e. e)) in
     let same : length new ≡ length old = search rules in
     let long : c.in_ok-costs.costs.len ≡ length old = search rules in
-    let lowered : IsLowered c.args.start old new 0 c.costs.result.now = record { long = same; each = rw c.deref_mut.ensures.value at c.relax.ensures.lowered; kept = rw c.deref_mut.ensures.value at c.relax.ensures.kept } in
+    let lowered : IsLowered 18446744073709551615 c.args.start old new 0 c.costs.result.now = record { long = same; each = rw c.deref_mut.ensures.value at c.relax.ensures.lowered; kept = rw c.deref_mut.ensures.value at c.relax.ensures.kept } in
     let most = c.relax.new.most in
     let most_same : length most ≡ length c.in_ok-most.most.items = search rules in
     let most_long : c.in_ok-most.most.len ≡ length c.in_ok-most.most.items = search rules in
@@ -51,7 +51,7 @@ returns-clause-search c =
     let unspent = all_unspent n c.count-count.result old counted (c.in_ok-costs.ensures.items_if_clones_equal (λ y e. e)) in
     let same : length new ≡ length old = search rules in
     let long : c.in_ok-costs.costs.len ≡ length old = search rules in
-    let lowered : IsLowered c.args.start old new 0 (row_of t.costs c.args.start) = record { long = same; each = rw (c.deref_mut.ensures.value, c.costs.ensures.value) at c.relax.ensures.lowered; kept = rw c.deref_mut.ensures.value at c.relax.ensures.kept } in
+    let lowered : IsLowered 18446744073709551615 c.args.start old new 0 (row_of t.costs c.args.start) = record { long = same; each = rw (c.deref_mut.ensures.value, c.costs.ensures.value) at c.relax.ensures.lowered; kept = rw c.deref_mut.ensures.value at c.relax.ensures.kept } in
     rw (take_at new _ c.in_ok-costs.costs.len (same ∙ sym long)) (λ j priced.
     let wide : n ≡ count j.history = priced.prices.long in
     search_begun j t c.args.start c.in_ok-row.row.items old new priced (rw (← wide) c.requires) (rw (← wide) empty) (rw (← wide) unspent.0) (rw (← wide) unspent.1) (fits (row_of t.costs c.args.start) links) lowered)

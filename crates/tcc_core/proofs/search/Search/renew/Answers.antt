@@ -25,7 +25,7 @@ returns-clause-search c =
     let long : c.self.inside.costs.len ≡ length c.self.inside.costs.items = search rules in
     let empty : IsEmptyRow n row = record { long = row_same ∙ there; empty = c.empty.ensures.empty } in
     let unspent : (x : ℕ) → x < n → get_or old x 0 ≡ NO_WAY = λ x within. c.forget.ensures.none x (omega (arith, within, there, level, old_same, c.forget.ensures.long)) in
-    let lowered : IsLowered c.args.start old new 0 (row_of t.costs c.args.start) = record { long = new_same; each = rw c.costs.ensures.value at c.relax.ensures.lowered; kept = c.relax.ensures.kept } in
+    let lowered : IsLowered 18446744073709551615 c.args.start old new 0 (row_of t.costs c.args.start) = record { long = new_same; each = rw c.costs.ensures.value at c.relax.ensures.lowered; kept = c.relax.ensures.kept } in
     rw (take_at new _ c.self.inside.costs.len (new_same ∙ old_same ∙ sym long), take_at row _ c.self.inside.row.len (row_same ∙ sym row_long)) (λ j priced.
     let wide : n ≡ count j.history = priced.prices.long in
     search_begun j t c.args.start row old new priced (rw (← wide) c.requires.start) (rw (← wide) empty) (rw (← wide) (old_same ∙ level ∙ there)) (rw (← wide) unspent) (fits (row_of t.costs c.args.start) links) lowered)
@@ -48,7 +48,7 @@ invariant_of-self c =
     let most_long : c.self.inside.most.len ≡ length c.self.inside.most.items = search rules in
     let empty : IsEmptyRow n row = record { long = row_same ∙ there; empty = c.empty.ensures.empty } in
     let unspent : (x : ℕ) → x < n → get_or old x 0 ≡ NO_WAY = λ x within. c.forget.ensures.none x (omega (arith, within, there, level, old_same, c.forget.ensures.long)) in
-    let lowered : IsLowered c.args.start old new 0 c.costs.result.now = record { long = new_same; each = c.relax.ensures.lowered; kept = c.relax.ensures.kept } in
+    let lowered : IsLowered 18446744073709551615 c.args.start old new 0 c.costs.result.now = record { long = new_same; each = c.relax.ensures.lowered; kept = c.relax.ensures.kept } in
     rw (take_at new _ c.self.inside.costs.len (new_same ∙ old_same ∙ sym long), take_at row _ c.self.inside.row.len (row_same ∙ sym row_long), take_at most _ c.self.inside.most.len (most_same ∙ sym most_long)) (
       bounded_begun c.args.start n row old new c.costs.result.now c.requires.start (omega (arith, c.costs.ensures.few, c.costs.ensures.long)) empty (old_same ∙ level ∙ there) unspent (fits c.costs.result.now c.relax.ensures.links) lowered,
       (
