@@ -5,14 +5,11 @@ use Rattle.std.proofs.lemmas.Bool.{cases_lt}
 use Rattle.std.proofs.lemmas.Bool.Decides.{eqb_tells}
 use Rattle.tcc_reads.specs.History.{count}
 use Rattle.tcc_graph.specs.Levels.{Judged}
-use Rattle.tcc_graph.specs.Links.{link_cost}
-use Rattle.tcc_graph.specs.declared.link.Link.{Link}
 use Rattle.tcc_graph.specs.Tables.{row_of}
-use Rattle.tcc_graph.proofs.Pairs.{link_below}
-use Rattle.tcc_derive.specs.Prices.{Tables, IsLinkOf, IsPricesOf}
+use Rattle.tcc_derive.specs.Prices.{Tables, IsPricesOf}
 use Rattle.tcc_core.specs.Rows.{in_row}
 use Rattle.tcc_core.specs.Searches.{Search, IsSearchOf}
-use Rattle.tcc_core.specs.Frontiers.{HasCome, IsWay, IsFrontier}
+use Rattle.tcc_core.specs.Frontiers.{HasCome, IsWay}
 use Rattle.tcc_core.specs.Relaxing.{IsBounded, IsCaughtUp, count_joined, way_by, way_on}
 use Rattle.tcc_core.proofs.Lowering.{IsLowered, entry, relaxed_cases, relaxed_way, lowered_old, way_by_link, way_by_none, entry_of_link, link_of_entry, joined_most}
 use Rattle.tcc_core.proofs.Frontier.{way_below}

@@ -179,7 +179,15 @@ pub(crate) fn relax_row(
     for u in 0..row.len() {
         if let Some(so_far) = row[u] {
             let u = u as u32;
-            relax(start, costs, so_far, prices.costs(u), prices.least_costs(u), u64::MAX, most);
+            relax(
+                start,
+                costs,
+                so_far,
+                prices.costs(u),
+                prices.least_costs(u),
+                u64::MAX,
+                most,
+            );
         }
     }
 }

@@ -58,7 +58,15 @@ impl Search {
         let mut costs = vec![in alloc; NO_WAY; count]?;
         let least = prices.least_costs(start);
         let mut most = vec![in alloc; NO_WAY; least.len()]?;
-        relax(start, &mut costs, 0, prices.costs(start), least, u64::MAX, &mut most);
+        relax(
+            start,
+            &mut costs,
+            0,
+            prices.costs(start),
+            least,
+            u64::MAX,
+            &mut most,
+        );
         let row = vec![in alloc; None; count]?;
         Ok(Search {
             start,
@@ -117,11 +125,13 @@ impl Search {
         ensures limit { self.new.limit ≡ 18446744073709551615 }
         ensures search { (j : Judged) (s : ℕ) → IsPricesOf j prices.now → IsSearchOf j s self.old → IsSearchOf j s self.new }
     {
+        let start = self.start;
         let costs = self.costs.as_mut_slice();
         let most = self.most.as_mut_slice();
-        relax_row(self.start, &self.row, costs, prices, most);
-        let least = prices.least_costs(self.start);
-        relax(self.start, costs, 0, prices.costs(self.start), least, u64::MAX, most);
+        relax_row(start, &self.row, costs, prices, most);
+        let links = prices.costs(start);
+        let least = prices.least_costs(start);
+        relax(start, costs, 0, links, least, u64::MAX, most);
         self.limit = u64::MAX;
         self.floor = 0;
         self.place = prices.count();

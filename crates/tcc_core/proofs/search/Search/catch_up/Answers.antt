@@ -1,5 +1,4 @@
-use Rattle.std.proofs.Common.{rules, ◌≡◌, ◌<◌, ◌≤◌, ℕ, Some, length, All, get_or, arith, subst, take_at, sym, ◌∙◌}
-use Rattle.std.proofs.lemmas.Grind.{common_steps}
+use Rattle.std.proofs.Common.{rules, ◌≡◌, ◌≤◌, ℕ, Some, length, All, arith, subst, take_at, sym, ◌∙◌}
 use Rattle.tcc_graph.specs.Levels.{Judged}
 use Rattle.tcc_graph.specs.Tables.{row_of}
 use Rattle.tcc_derive.specs.Prices.{IsPricesOf}
@@ -24,9 +23,9 @@ invariant_of-self c =
     let mid = c.relax_row.new.costs in
     let new = c.relax.new.costs in
     let most = c.relax.new.most in
-    let links : All (λ link. link ≤ NONE) (row_of t.costs old.start) = rw c.costs.ensures.value at c.relax.ensures.links in
+    let links : All (λ link. link ≤ NONE) (row_of t.costs old.start) = rw c.costs-links.ensures.value at c.relax.ensures.links in
     let row : IsCaughtUp (λ u d. in_row old.row u ≡ Some d) t old.start old.costs mid = rw (c.deref.ensures.value, c.as_mut_slice-costs.ensures.value) at c.relax_row.ensures.caught in
-    let lowered : IsLowered 18446744073709551615 old.start mid new 0 (row_of t.costs old.start) = record { long = c.relax.ensures.long; each = rw c.costs.ensures.value at c.relax.ensures.lowered; kept = c.relax.ensures.kept } in
+    let lowered : IsLowered 18446744073709551615 old.start mid new 0 (row_of t.costs old.start) = record { long = c.relax.ensures.long; each = rw c.costs-links.ensures.value at c.relax.ensures.lowered; kept = c.relax.ensures.kept } in
     let caught : IsCaughtUp (HasCome old.start old.row) t old.start old.costs new = caught_start t old.start old.row old.costs mid new (fits (row_of t.costs old.start) links) row lowered in
     let there : length c.self.inside.row.items ≡ length c.args.prices.now.prices = search rules in
     let long : c.self.inside.costs.len ≡ length old.costs = search rules in
@@ -46,9 +45,9 @@ returns-clause-search c =
     let t = c.args.prices.now in
     let mid = c.relax_row.new.costs in
     let new = c.relax.new.costs in
-    let links : All (λ link. link ≤ NONE) (row_of t.costs old.start) = rw c.costs.ensures.value at c.relax.ensures.links in
+    let links : All (λ link. link ≤ NONE) (row_of t.costs old.start) = rw c.costs-links.ensures.value at c.relax.ensures.links in
     let row : IsCaughtUp (λ u d. in_row old.row u ≡ Some d) t old.start old.costs mid = rw (c.deref.ensures.value, c.as_mut_slice-costs.ensures.value) at c.relax_row.ensures.caught in
-    let lowered : IsLowered 18446744073709551615 old.start mid new 0 (row_of t.costs old.start) = record { long = c.relax.ensures.long; each = rw c.costs.ensures.value at c.relax.ensures.lowered; kept = c.relax.ensures.kept } in
+    let lowered : IsLowered 18446744073709551615 old.start mid new 0 (row_of t.costs old.start) = record { long = c.relax.ensures.long; each = rw c.costs-links.ensures.value at c.relax.ensures.lowered; kept = c.relax.ensures.kept } in
     let caught : IsCaughtUp (HasCome old.start old.row) t old.start old.costs new = caught_start t old.start old.row old.costs mid new (fits (row_of t.costs old.start) links) row lowered in
     let long : c.self.inside.costs.len ≡ length old.costs = search rules in
     rw (take_at new _ c.self.inside.costs.len (caught.long ∙ sym long)) (subst (λ (z : Search). (j : Judged) (s : ℕ) → IsPricesOf j t → IsSearchOf j s z → IsSearchOf j s (record { start = old.start; row = old.row; costs = new; limit = 18446744073709551615 })) c.self.view_is

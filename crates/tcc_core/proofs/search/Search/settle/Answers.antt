@@ -1,6 +1,4 @@
-use Rattle.std.proofs.Common.{◌≡◌, ℕ, refl}
-use Rattle.tcc_graph.specs.Levels.{Judged}
-use Rattle.tcc_derive.specs.Prices.{IsPricesOf}
+use Rattle.std.proofs.Common.{◌≡◌, refl}
 use Rattle.tcc_core.specs.Searches.{IsSearchOf}
 use Rattle.tcc_core.proofs.search.Search.settle.Goals.{then-cap-self, else-cap-self}
 use Rattle.tcc_core.proofs.search.Search.settle.Goals as goal

@@ -2,7 +2,6 @@ use Rattle.std.proofs.Common.{rules, ◌≡◌, ◌≤◌, ℕ, length, All, Som
 use Rattle.std.proofs.lemmas.Grind.{common_steps}
 use Rattle.tcc_graph.specs.Levels.{Judged}
 use Rattle.tcc_derive.specs.Prices.{IsPricesOf}
-use Rattle.tcc_core.specs.Rows.{cap_of}
 use Rattle.tcc_core.specs.Relaxing.{IsNearest}
 use Rattle.tcc_core.specs.Searches.{Search, IsSearchOf, Settles}
 use Rattle.tcc_core.specs.declared.settled.Settled.TheVariants as settled
