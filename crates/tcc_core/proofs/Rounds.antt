@@ -17,7 +17,7 @@ use Rattle.tcc_graph.proofs.Linking.{some_cost, cost_cons, cost_append, one_cost
 use Rattle.tcc_graph.proofs.Pairs.{step_below}
 use Rattle.tcc_graph.proofs.Walking.{walk_below}
 use Rattle.tcc_near.specs.Distances.{NearTable, IsNearOf, IsWalkDistance, IsShortest, least}
-use Rattle.tcc_derive.specs.Prices.{Tables, IsPricesOf, IsPrice, IsLeastPrice, IsDerived, IsLinkOf, price_at}
+use Rattle.tcc_derive.specs.Prices.{Tables, IsPricesOf, IsPrice, IsLeastAmong, IsDerived, IsLinkOf, price_at}
 use Rattle.tcc_derive.proofs.CostLemmas.{link_of}
 use Rattle.tcc_core.specs.Shares.{IsCycleCost}
 use Rattle.tcc_core.specs.Seeds.{IsSeed, HasNoSeed}
@@ -135,10 +135,10 @@ steps_of_walk j near a b walk is allowed =
     go (inl (test, same)) w = let none = rw test at w in absurd (none walk allowed)
     go (inr (test, other)) w = let some = rw test at w in (other, some.least walk allowed)
 
-price_some : (j : Judged) (t : Tables) (b a : ℕ) → IsPricesOf j t → b < count j.history → a < count j.history → price_in t b a ≢ NONE → IsLeastPrice j b a (price_in t b a)
+price_some : (j : Judged) (t : Tables) (b a : ℕ) → IsPricesOf j t → b < count j.history → a < count j.history → price_in t b a ≢ NONE → IsLeastAmong (IsDerived j b a) (price_in t b a)
 price_some j t b a is from to some = go (eqb_tells (price_in t b a) NONE) (is.priced b a from to)
   where
-    go : (((price_in t b a == NONE) ≡ true) × (price_in t b a ≡ NONE)) ⊎ (((price_in t b a == NONE) ≡ false) × (price_in t b a ≢ NONE)) → IsPrice j b a (price_at t b a) → IsLeastPrice j b a (price_in t b a)
+    go : (((price_in t b a == NONE) ≡ true) × (price_in t b a ≡ NONE)) ⊎ (((price_in t b a == NONE) ≡ false) × (price_in t b a ≢ NONE)) → IsPrice j b a (price_at t b a) → IsLeastAmong (IsDerived j b a) (price_in t b a)
     go (inl (test, same)) w = absurd (some same)
     go (inr (test, other)) w = rw test at w
 

@@ -12,7 +12,7 @@ use Rattle.tcc_graph.specs.declared.link.Link.{Link}
 use Rattle.tcc_graph.proofs.Pairs.{link_below}
 use Rattle.tcc_graph.proofs.Linking.{some_cost, cost_cons, cost_append, cost_around, some_links, lead_append, lead_split, lead_start, route_below}
 use Rattle.tcc_graph.proofs.Upward.{turn_lowest}
-use Rattle.tcc_derive.specs.Prices.{Tables, IsLinkOf, IsLeastCost, IsCost, IsPricesOf, cost_at}
+use Rattle.tcc_derive.specs.Prices.{Tables, IsLinkOf, IsLeastAmong, IsCost, IsPricesOf, cost_at}
 use Rattle.tcc_core.specs.Shares.{IsCappedDistance}
 use Rattle.tcc_cycle.specs.Returns.{IsFirstReturn, come_to}
 use Rattle.tcc_cycle.specs.Ways.{spent, IsBefore, IsFirstLink}
@@ -176,7 +176,7 @@ module _ (j : Judged) (t : Tables) (r : FirstReturn) (priced : IsPricesOf j t) (
       pub left_of : c + link_cost l ≡ left
       left_of =
           let (k, at, sum) = before.on in
-          let least : IsLeastCost j u end k = subst (λ (o : Option ℕ). IsCost j u end o) at (priced.costed u end from way.below) in
+          let least : IsLeastAmong (IsLinkOf j u end) k = subst (λ (o : Option ℕ). IsCost j u end o) at (priced.costed u end from way.below) in
           let (other, leads, costs) = least.attained in
           omega (arith, least.least l first.leads, first.least other leads)
 

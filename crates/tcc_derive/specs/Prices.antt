@@ -14,15 +14,19 @@ abbrev pub IsDerived : Judged → ℕ → ℕ → Link → Type 0
 IsDerived j b a l =
     (x : List ℕ) × (c : ℕ) × (walk : List Step) × (l ≡ link.Derived b a x c walk) × IsReason j b a x c walk
 
--- a derived link from b to a costs n, and none costs less
-pub record IsLeastPrice (j : Judged) (b : ℕ) (a : ℕ) (n : ℕ) : Type 0 where
-  pub attained : (l : Link) × IsDerived j b a l × (link_cost l ≡ n)
-  pub least : (l : Link) → IsDerived j b a l → n ≤ link_cost l
+-- one of these links costs n, and none of them costs less
+pub record IsLeastAmong (is_one : Link → Type 0) (n : ℕ) : Type 0 where
+  pub attained : (l : Link) × is_one l × (link_cost l ≡ n)
+  pub least : (l : Link) → is_one l → n ≤ link_cost l
+
+-- the least cost of these links; none where there is none of them
+abbrev pub IsLeastCostOf : (Link → Type 0) → Option ℕ → Type 0
+IsLeastCostOf is_one None = (l : Link) → is_one l → ⊥
+IsLeastCostOf is_one (Some n) = IsLeastAmong is_one n
 
 -- the least cost of a derived link from b to a, over all its reasons; none where there is no reason
 abbrev pub IsPrice : Judged → ℕ → ℕ → Option ℕ → Type 0
-IsPrice j b a None = (l : Link) → IsDerived j b a l → ⊥
-IsPrice j b a (Some n) = IsLeastPrice j b a n
+IsPrice j b a = IsLeastCostOf (IsDerived j b a)
 
 -- a link leads from a to b
 pub record IsLinkOf (j : Judged) (a : ℕ) (b : ℕ) (l : Link) : Type 0 where
@@ -30,15 +34,9 @@ pub record IsLinkOf (j : Judged) (a : ℕ) (b : ℕ) (l : Link) : Type 0 where
   pub to : link_to l ≡ b
   pub link : IsLink j l
 
--- a link from a to b costs n, and none costs less
-pub record IsLeastCost (j : Judged) (a : ℕ) (b : ℕ) (n : ℕ) : Type 0 where
-  pub attained : (l : Link) × IsLinkOf j a b l × (link_cost l ≡ n)
-  pub least : (l : Link) → IsLinkOf j a b l → n ≤ link_cost l
-
 -- the least cost of a link from a to b, of whatever kind; none where there is no link
 abbrev pub IsCost : Judged → ℕ → ℕ → Option ℕ → Type 0
-IsCost j a b None = (l : Link) → IsLinkOf j a b l → ⊥
-IsCost j a b (Some n) = IsLeastCost j a b n
+IsCost j a b = IsLeastCostOf (IsLinkOf j a b)
 
 -- a level, and two tables by transaction: what derived links cost at it, and what links of all kinds cost
 pub record Tables : Type 0 where

@@ -18,6 +18,15 @@ pub enum Halt {
     Script,
 }
 
+/// Why there is no further answer after a fault of the book, which is want of memory or says that the script is wrong.
+fn halt_by(is_memory: bool) -> Halt {
+    if is_memory {
+        Halt::NoMemory
+    } else {
+        Halt::Script
+    }
+}
+
 impl From<NoMemory> for Halt {
     fn from(_error: NoMemory) -> Halt {
         Halt::NoMemory
@@ -50,37 +59,25 @@ impl From<TxnFault> for Halt {
 
 impl From<OpenFault> for Halt {
     fn from(fault: OpenFault) -> Halt {
-        match fault {
-            OpenFault::NoMemory => Halt::NoMemory,
-            _ => Halt::Script,
-        }
+        halt_by(matches!(fault, OpenFault::NoMemory))
     }
 }
 
 impl From<RecordFault> for Halt {
     fn from(fault: RecordFault) -> Halt {
-        match fault {
-            RecordFault::NoMemory => Halt::NoMemory,
-            _ => Halt::Script,
-        }
+        halt_by(matches!(fault, RecordFault::NoMemory))
     }
 }
 
 impl From<SealFault> for Halt {
     fn from(fault: SealFault) -> Halt {
-        match fault {
-            SealFault::NoMemory => Halt::NoMemory,
-            _ => Halt::Script,
-        }
+        halt_by(matches!(fault, SealFault::NoMemory))
     }
 }
 
 impl From<WholeFault> for Halt {
     fn from(fault: WholeFault) -> Halt {
-        match fault {
-            WholeFault::NoMemory => Halt::NoMemory,
-            _ => Halt::Script,
-        }
+        halt_by(matches!(fault, WholeFault::NoMemory))
     }
 }
 

@@ -1,5 +1,5 @@
 //! How texts go out, and the number that a run then ends with.
-ghost use Rattle.std.specs.Prelude.{◌≡◌, ℕ, List, IfErr, IfOk, MatchResult, OnOk, false};
+ghost use Rattle.std.specs.Prelude.{◌≡◌, ℕ, List, IfErr, IfOk, MatchResult, OnOk, false, if◌then◌else◌};
 ghost use Rattle.std.specs.Io.KnownBytes.{Appends};
 ghost use Rattle.tcc_run.specs.Printed.{Prints, answered, check_text, device_line, halted, memory_line, unresolved};
 ghost use Rattle.tcc_run.specs.Stages.{CutsOff, EndsIn, PrintsOrMemory};
@@ -18,26 +18,25 @@ use tcc_check::Judgement;
 use tcc_reads::ReadFault;
 use tcc_txn::NoMemory;
 
+/// The one line or the other, by whether JSON is asked for.
+fn line_by(json: bool, object: &'static [u8], text: &'static [u8]) -> &'static [u8]
+    ensures { result.now ≡ (if json then object.now else text.now) }
+{
+    if json { object } else { text }
+}
+
 /// The line for want of memory.
 fn memory_line(json: bool) -> &'static [u8]
     ensures { result.now ≡ memory_line json }
 {
-    if json {
-        b"{\"answer\":\"memory\"}\n"
-    } else {
-        b"memory\n"
-    }
+    line_by(json, b"{\"answer\":\"memory\"}\n", b"memory\n")
 }
 
 /// The line for a file or a writer that failed.
 fn device_line(json: bool) -> &'static [u8]
     ensures { result.now ≡ device_line json }
 {
-    if json {
-        b"{\"answer\":\"device\"}\n"
-    } else {
-        b"device\n"
-    }
+    line_by(json, b"{\"answer\":\"device\"}\n", b"device\n")
 }
 
 /// Writes the text; else a writer that failed ends the run, with this number.
