@@ -1,5 +1,5 @@
 -- Blocks of transactions, relaxed or passed over one after another.
-use Rattle.std.proofs.Common.{◌≡◌, ◌≢◌, ◌<◌, ◌≤◌, ◌+◌, ◌*◌, ◌/◌, ◌==◌, ℕ, true, false, ◌⊎◌, inl, inr, List, length, length-set, All, get_or, get_or-set_same, get_or-set_other, set, min, max, nat_lt, refl, sym, ◌∙◌, arith}
+use Rattle.std.proofs.Common.{◌≡◌, ◌≢◌, ◌<◌, ◌≤◌, ◌+◌, ◌*◌, ◌/◌, ◌==◌, ℕ, zero, suc, true, false, ◌⊎◌, inl, inr, List, length, length-set, All, get_or, get_or-set_same, get_or-set_other, set, min, max, nat_lt, refl, sym, ◌∙◌, arith}
 use Rattle.std.proofs.Math.Nat.{div-mul-le_self, min-le_left, le-min, le-max_left, le-max_right, max-le}
 use Rattle.std.proofs.lemmas.Bool.{cases_lt, cases_eq, cond-false, le-ltb}
 use Rattle.std.proofs.lemmas.Bool.Decides.{eqb_tells}
@@ -16,9 +16,9 @@ pub record IsUpTo (cap : ℕ) (s : ℕ) (k : ℕ) (d : ℕ) (links : List ℕ) (
   pub below : (u : ℕ) → u < s → get_or costs u 0 ≡ get_or initial u 0
 
 -- nothing from the start upward stands before the block of the start
-pub up_to_start : (cap s d : ℕ) (links costs : List ℕ) → IsUpTo cap s (s / 64) d links costs costs
-up_to_start cap s d links costs = record {
-  relaxed = λ u up before within. absurd (omega (arith, up, before, div-mul-le_self s 64));
+up_to_start : (cap s k d : ℕ) (links costs : List ℕ) → k ≤ s / 64 → IsUpTo cap s k d links costs costs
+up_to_start cap s k d links costs low = record {
+  relaxed = λ u up before within. absurd (omega (arith, up, before, low, div-mul-le_self s 64));
   rest = λ u past. refl;
   below = λ u down. refl;
 }
@@ -58,6 +58,29 @@ passed_over cap s k d links least most initial costs small all cheapest wide lon
         go : get_or costs u 0 ≡ get_or initial u 0 → get_or costs u 0 ≤ get_or most k 0 → way_by d (get_or least k 0) ≤ way_by d (get_or links u 0) → (get_or most k 0 ≤ way_by d (get_or least k 0)) ⊎ (cap < way_by d (get_or least k 0)) → IsRelaxed cap d (get_or links u 0) (get_or initial u 0) (get_or costs u 0)
         go same few dearer (inl enough) = inl (same ∙ sym (lesser_kept (get_or initial u 0) (way_by d (get_or links u 0)) (omega (arith, same, few, enough, dearer))))
         go same few dearer (inr past) = inr (same, inr (omega (arith, past, dearer)))
+
+-- of the blocks from that of the start to before this one none is led to
+pub up_to_first : (cap s d first : ℕ) (links least most costs : List ℕ) → d < 2147483648 → All (λ link. link ≤ NONE) links → HasLeastCosts links least → length links ≡ length costs → IsMost s most costs → first ≤ length least → ((k : ℕ) → s / 64 ≤ k → k < first → (get_or most k 0 ≤ way_by d (get_or least k 0)) ⊎ (cap < way_by d (get_or least k 0))) → IsUpTo cap s first d links costs costs
+up_to_first cap s d first links least most costs small all cheapest wide is inside passed = go first (omega arith)
+  where
+    go : (k : ℕ) → k ≤ first → IsUpTo cap s k d links costs costs
+    go zero low = up_to_start cap s 0 d links costs (omega arith)
+    go (suc k) low = next (cases_lt k (s / 64)) (go k (omega arith))
+      where
+        next : (k < s / 64) ⊎ (s / 64 ≤ k) → IsUpTo cap s k d links costs costs → IsUpTo cap s (suc k) d links costs costs
+        next (inl before) upto = up_to_start cap s (suc k) d links costs (omega arith)
+        next (inr from) upto =
+            let same : suc k ≡ k + 1 = omega arith in
+            rw same (passed_over cap s k d links least most costs costs small all cheapest wide refl (omega arith) (passed k from (omega arith)) is upto)
+
+-- where it isn't so that a way costs less than the most and at most the cap
+pub not_led : (cap way most : ℕ) → ((way < most) × (way ≤ cap) → ⊥) → (most ≤ way) ⊎ (cap < way)
+not_led cap way most never = go (cases_lt way most) (cases_lt cap way)
+  where
+    go : (way < most) ⊎ (most ≤ way) → (cap < way) ⊎ (way ≤ cap) → (most ≤ way) ⊎ (cap < way)
+    go (inr past) any = inl past
+    go (inl under) (inl above) = inr above
+    go (inl under) (inr within) = absurd (never (under, within))
 
 -- ---- a block that is relaxed
 

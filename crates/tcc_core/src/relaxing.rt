@@ -1,5 +1,5 @@
 //! The frontier of a search: what the ways to the transactions outside its row cost. Nothing below the start is looked at.
-ghost use Rattle.std.specs.Prelude.{◌≡◌, ◌<◌, ◌≤◌, ◌^◌, ℕ, Some, length, slice_index, All, IfNone, IfSome};
+ghost use Rattle.std.specs.Prelude.{◌≡◌, ◌<◌, ◌≤◌, ◌^◌, ◌⊎◌, ◌↔◌, ℕ, Some, length, slice_index, All, IfNone, IfSome, IsTrue};
 ghost use Rattle.tcc_derive.specs.Blocks.{HasLeastCosts};
 ghost use Rattle.tcc_core.specs.Rows.{in_row, IsEmptyRow};
 ghost use Rattle.tcc_core.specs.Relaxing.{IsNearest, IsOutsideAt, IsFloor, IsMost, IsRelaxed, IsCaughtUp, way_by, lesser};
@@ -124,6 +124,31 @@ fn relax_block(from: usize, to: usize, costs: &mut [u32], so_far: u32, links: &[
     most
 }
 
+/// Whether the cheapest link into a block makes a way that costs less than the most in it, and at most the cap.
+fn leads_on(so_far: u32, least: u16, most: u32, cap: u64) -> bool
+    requires { so_far < 2 ^ 31 }
+    ensures { IsTrue result ↔ ((way_by so_far least < most) × (way_by so_far least ≤ cap)) }
+{
+    let way = way_by(so_far, least);
+    way < most && way as u64 <= cap
+}
+
+/// The first block from this one on that the cheapest link into it leads on to; the number of blocks where there is none.
+fn first_led_to(from: usize, so_far: u32, cap: u64, least: &[u16], most: &[u32]) -> usize
+    requires small { so_far < 2 ^ 31 }
+    requires long { length least.now ≤ length most.now }
+    ensures within { result ≤ length least.now }
+    ensures passed { (k : ℕ) → from ≤ k → k < result
+        → (slice_index most.now k ≤ way_by so_far (slice_index least.now k)) ⊎ (cap < way_by so_far (slice_index least.now k)) }
+{
+    for block in from..least.len() {
+        if leads_on(so_far, least[block], most[block], cap) {
+            return block;
+        }
+    }
+    least.len()
+}
+
 /// Lowers the costs from the start upward to those of the ways that lead on by these links from where so much was spent, as
 /// far as they cost at most the cap. A block is passed over where the cheapest link into it makes none of its costs less,
 /// or makes a way that costs more than the cap; and each link costs something.
@@ -150,9 +175,9 @@ pub(crate) fn relax(
     if so_far as u64 >= cap {
         return;
     }
-    for block in start as usize / BLOCK..least.len() {
-        let way = way_by(so_far, least[block]);
-        if way < most[block] && way as u64 <= cap {
+    let first = first_led_to(start as usize / BLOCK, so_far, cap, least, most);
+    for block in first..least.len() {
+        if leads_on(so_far, least[block], most[block], cap) {
             let to = (block * BLOCK + BLOCK).min(costs.len());
             let from = (block * BLOCK).max(start as usize).min(to);
             most[block] = relax_block(from, to, costs, so_far, links);
