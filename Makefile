@@ -1,25 +1,45 @@
-# make run      proves and builds the program, and prints its answer for a small history
+# make run      prints the program's answer for a small history; where it isn't built yet, by a trial build that proves nothing,
+#               within two minutes
+# make build    proves and builds the program, crates/tcc/out/tcc
+# make install  the same, and copies it to PREFIX/bin (PREFIX=/usr/local), its man page and bash completion to PREFIX/share
+# make demo     records clients of a real Redis and shows both answers (redis-server and redis-py have to be there)
 # make test     the merge gate, then the rows of tests/rows by 1, 2 and 32 workers, the altered certificates of
-#               tests/certificates and the refused allocations of tests/memory; the last line is `N passed, M failed`
-# make install  proves and builds the program, and copies it to PREFIX/bin (PREFIX=/usr/local)
+#               tests/certificates, the refused allocations of tests/memory, the recipes and what the documents name; the
+#               last line is `N passed, M failed`
 #
 # The toolchain's `rt` has to be on the path, and Python 3; nothing else is needed, and nothing to be done before.
 
 PREFIX ?= /usr/local
+# So many processors are used to prove the program.
+JOBS ?= $(shell nproc)
 
-.PHONY: run test install proofs
+HISTORY = ../../examples/long-fork.csv
+UNPROVED = the program is not built from these sources yet: this is a trial run of them (a minute or two), of which \
+nothing is proved; make build proves and builds the program
 
-run: proofs
-	@cd crates/tcc && rt run -- explain < ../../examples/long-fork.csv
+.PHONY: run build install demo test
+
+# A program that is older than a source is not run.
+run:
+	@cd crates/tcc && \
+	if test -x out/tcc && test -z "$$(find ../../crates.txt ../*/src ../*/specs -newer out/tcc -print -quit)"; \
+	then out/tcc explain < $(HISTORY); \
+	else echo '$(UNPROVED)' >&2; rt try -- explain < $(HISTORY); fi
+
+# The three crates that all others wait for are proved with several jobs each, and then all others side by side, with one
+# each. What was proved before and has not changed since is not proved again.
+build:
+	@cd crates/tcc_graph && rt lib --jobs $(JOBS) >&2
+	@cd crates/tcc && rt all check --jobs $(JOBS) >&2
+	@cd crates/tcc && rt run --jobs $(JOBS) -- explain < $(HISTORY) > /dev/null
+
+install: build
+	install -D -m 755 crates/tcc/out/tcc '$(DESTDIR)$(PREFIX)/bin/tcc'
+	install -D -m 644 docs/tcc.1 '$(DESTDIR)$(PREFIX)/share/man/man1/tcc.1'
+	install -D -m 644 docs/tcc.bash '$(DESTDIR)$(PREFIX)/share/bash-completion/completions/tcc'
+
+demo:
+	@python3 recipes/redis/demo.py
 
 test:
 	@python3 tests/run.py
-
-install: proofs
-	@cd crates/tcc && rt run -- explain < ../../examples/long-fork.csv > /dev/null
-	install -D -m 755 crates/tcc/out/tcc '$(DESTDIR)$(PREFIX)/bin/tcc'
-
-# Where nothing is built yet, the program and the crates that it stands on are proved with all processors: two crates
-# side by side, and one with several jobs where nothing can be proved beside it. What changed since, `rt run` proves.
-proofs:
-	@cd crates/tcc && { test -e out/tcc || rt all check >&2; }

@@ -5,9 +5,10 @@
 
 A line for each history has medians of milliseconds: what csv alone needs for the records (`csv_count`); reading them, and
 reading them into a snapshot; then, each without the stages before it (`tcc_bench_stages`), resolving the snapshot, building
-its graph, working out distances, prices and the order; at last the rest of `tcc explain`, which is the search, the tables
-and the text, and the whole of it, with its peak memory. Where a kind has several sizes, a line below each but the first
-says by how much each cell is greater than that of the size before. All programs take turns. Builds what isn't built.
+its graph, and looking for the order; working out distances and prices, of which `tcc explain` has need only where there is
+no order; at last the rest of `tcc explain`, which is the search, the tables and the text, and the whole of it, with its peak
+memory. Where a kind has several sizes, a line below each but the first says by how much each cell is greater than that of
+the size before. All programs take turns. Builds what isn't built.
 Peak memory is never below that of this script, about 15 MB.
 """
 import argparse
@@ -23,8 +24,8 @@ from histories import KINDS
 
 HERE = pathlib.Path(__file__).resolve().parent
 TOP = HERE.parent
-STAGES = ("rows", "snapshot", "resolve", "graph", "near", "derive", "order")
-HEAD = ("history", "records", "csv", "rows", "snapshot", "resolve", "graph", "near", "derive", "order", "rest", "tcc ms",
+STAGES = ("rows", "snapshot", "resolve", "graph", "order", "near", "derive")
+HEAD = ("history", "records", "csv", "rows", "snapshot", "resolve", "graph", "order", "near", "derive", "rest", "tcc ms",
         "peak MB", "status", "answer")
 GROWING = range(1, 13)
 
@@ -65,11 +66,13 @@ def row(programs, history, runs, answer):
         explained.append(measured([programs["tcc"], "explain"], history, answer))
     with open(answer) as text:
         first = text.readline().strip()
-    alone, rows, *later = map(statistics.median, times)
+    alone, rows, snapshot, resolve, graph, order, near, derive = map(statistics.median, times)
     wall, peak = (statistics.median(run[i] for run in explained) for i in (0, 1))
-    own = [max(now - before, 0) for before, now in zip([0] + later, later + [wall])]
-    cells = [history.stem, records] + [seconds * 1000 for seconds in [alone, rows] + own + [wall]]
-    return cells + [peak, "/".join(map(str, sorted({run[2] for run in explained}))), first[:40]]
+    statuses = sorted({run[2] for run in explained})
+    tables = 0 if statuses == [0] else derive - graph
+    own = [snapshot, resolve - snapshot, graph - resolve, order - graph, near - graph, derive - near, wall - order - tables]
+    cells = [history.stem, records] + [max(seconds, 0) * 1000 for seconds in [alone, rows] + own + [wall]]
+    return cells + [peak, "/".join(map(str, statuses)), first[:40]]
 
 
 def shown(cells):

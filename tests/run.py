@@ -1,6 +1,7 @@
 #!/usr/bin/env python3
 """All tests: the merge gate, which proves everything from nothing, and then on the program that it built the rows, by one
-worker and by many, the altered certificates, and the refused allocations.
+worker and by many, the altered certificates and the refused allocations; the scripts of recipes/ on stored inputs; and that
+what the documents name is there.
 
 The last line is `N passed, M failed`, the sum of all; the status is 0 only where all passed.
 """
@@ -11,7 +12,7 @@ import sys
 
 TOP = pathlib.Path(__file__).resolve().parent.parent
 ON_THE_PROGRAM = ("rows/run.py", "rows/run.py --workers 2", "rows/run.py --workers 32", "certificates/run.py",
-                  "memory/run.py")
+                  "memory/run.py", "recipes/run.py", "docs/run.py")
 CLOSING = re.compile(r"(\d+) passed, (\d+) failed$")
 
 

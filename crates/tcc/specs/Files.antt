@@ -2,10 +2,10 @@
 use Rattle.std.specs.Prelude.{ℕ, ◌⊎◌, Bool, List, Option, None, Some, false}
 use Rattle.std.specs.declared.io.ErrorKind.{ErrorKind}
 use Rattle.std.specs.declared.io.ErrorKind.TheVariants.{OutOfMemory}
-use Rattle.tcc_run.specs.declared.status.Status.{Status}
-use Rattle.tcc_run.specs.declared.status.Status.TheVariants.{Memory, Device}
-use Rattle.tcc_run.specs.Printed.{Prints, device_line, memory_line}
-use Rattle.tcc_run.specs.Checks.{PrintsSome}
+use Rattle.tcc_print.specs.declared.status.Status.{Status}
+use Rattle.tcc_print.specs.declared.status.Status.TheVariants.{Memory, Device}
+use Rattle.tcc_print.specs.Printed.{Prints, device_line, memory_line}
+use Rattle.tcc_verdict.specs.Checks.{PrintsSome}
 
 -- the line for the device, or for want of memory
 abbrev pub unopened_text : Bool → ErrorKind → List ℕ

@@ -1,12 +1,12 @@
 //! The files that the command line names.
 ghost use Rattle.std.specs.Prelude.{IfOk};
 ghost use Rattle.tcc.specs.Files.{AreBothGiven, PrintsFiles, unopened_text, unopened_status};
-ghost use Rattle.tcc_run.specs.Printed.{Prints};
+ghost use Rattle.tcc_print.specs.Printed.{Prints};
 
 use std::fs::{self, File};
 use std::io::{self, ErrorKind, Write};
-use tcc_run::printing::{print_device, print_memory};
-use tcc_run::run_check;
+use tcc_print::printing::{print_device, print_memory};
+use tcc_verdict::run_check;
 
 /// Opens both files, the history before the certificate.
 fn open_both(rt: &HostRuntime, history: &str, certificate: &str) -> io::Result<(File, File)> {

@@ -2,19 +2,17 @@
 //! that; `tcc check` judges one.
 #![tactic(auto)]
 
-mod command_line;
 mod files;
-mod help;
 
-use command_line::Request;
 use files::{check_files, make, print_unopened};
 use std::io;
 use std::process::ExitCode;
 use tcc_run::{OpenGate, Status, run_explain};
+use tcc_words::{Request, read};
 
 fn main(rt: HostRuntime) -> ExitCode {
     let mut out = io::writer(&rt);
-    let code = match command_line::read(&rt, &mut out) {
+    let code = match read(&rt, &mut out) {
         Ok(
             Request::Explain {
                 options,

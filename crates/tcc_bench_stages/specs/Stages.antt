@@ -1,13 +1,13 @@
 -- The words by which stages are asked for.
 use Rattle.std.specs.Prelude.{ℕ, List, codes}
 use Rattle.tcc_bench_stages.specs.declared.Stage.{Stage}
-use Rattle.tcc_bench_stages.specs.declared.Stage.TheVariants.{Rows, Snapshot, Resolve, Graph, Near, Derive, Order}
+use Rattle.tcc_bench_stages.specs.declared.Stage.TheVariants.{Rows, Snapshot, Resolve, Graph, Order, Near, Derive}
 
 abbrev pub word_of : Stage → List ℕ
 word_of Rows = codes "rows"
 word_of Snapshot = codes "snapshot"
 word_of Resolve = codes "resolve"
 word_of Graph = codes "graph"
+word_of Order = codes "order"
 word_of Near = codes "near"
 word_of Derive = codes "derive"
-word_of Order = codes "order"

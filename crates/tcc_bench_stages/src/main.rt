@@ -1,7 +1,7 @@
 //! Runs the first stages of an explanation alone, so that a script can time each of them: `rows` reads the records
 //! of standard input and keeps nothing, `snapshot` makes a snapshot of what they finish, `resolve` resolves it too,
-//! `graph` builds its graph too, `near` works out its distances too, `derive` its prices, and `order` its first commit
-//! order.
+//! `graph` builds its graph too. From there two ways lead on: `order` looks for the first commit order, and `near` works
+//! out the distances, `derive` the prices too.
 #![tactic(auto)]
 
 ghost use Rattle.std.specs.Prelude.{◌≡◌, ◌≢◌, IfNone, IfSome};
@@ -26,9 +26,9 @@ enum Stage {
     Snapshot,
     Resolve,
     Graph,
+    Order,
     Near,
     Derive,
-    Order,
 }
 
 /// How many transactions the records finish; none after a fault or a seal.
@@ -49,16 +49,16 @@ fn search(rt: &(impl Threads + Sync), alloc: Global, graph: &Graph, stage: Stage
     if stage == Stage::Graph {
         return Some(graph.count());
     }
+    if stage == Stage::Order {
+        let ordered = order(alloc, graph, Level::Causal).ok()?;
+        return u32::try_from(ordered.map_or(0, |numbers| numbers.len())).ok();
+    }
     let near = near(rt, alloc, graph, Level::Causal).ok()?;
     if stage == Stage::Near {
         return Some(graph.count());
     }
     let prices = derive(rt, alloc, graph, &near).ok()?;
-    if stage == Stage::Derive {
-        return Some(prices.count());
-    }
-    let ordered = order(alloc, &prices).ok()?;
-    u32::try_from(ordered.map_or(0, |numbers| numbers.len())).ok()
+    Some(prices.count())
 }
 
 /// Goes as far as asked, and says how many transactions there are at the end.
@@ -93,9 +93,9 @@ fn stage_of(word: &str) -> Option<Stage>
         "snapshot" => Some(Stage::Snapshot),
         "resolve" => Some(Stage::Resolve),
         "graph" => Some(Stage::Graph),
+        "order" => Some(Stage::Order),
         "near" => Some(Stage::Near),
         "derive" => Some(Stage::Derive),
-        "order" => Some(Stage::Order),
         _ => None,
     }
 }

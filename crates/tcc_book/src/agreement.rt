@@ -10,7 +10,7 @@ use crate::pass::Pass;
 use tcc_txn::{Name, Snapshot, Txn};
 
 /// What the session has in the snapshot.
-fn found<'a>(copy: &'a Snapshot, session: &Name) -> Option<&'a [Txn]>
+pub(crate) fn found<'a>(copy: &'a Snapshot, session: &Name) -> Option<&'a [Txn]>
     ensures { option_map (λ txns. txns.now) result ≡ get copy.now session.now }
 {
     for i in 0..copy.sessions() {

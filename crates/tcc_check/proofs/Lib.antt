@@ -24,3 +24,5 @@ pub mod ClocksBehind
 pub mod NearBehind
 pub mod FarBehind
 pub mod JudgedFacts
+pub mod Sessions
+pub mod Turned

@@ -1,17 +1,20 @@
 -- Orders by their places, and what the axiom asks of them.
-use Rattle.std.proofs.Common.{◌≡◌, ◌<◌, ◌≤◌, ℕ, ◌⊎◌, inl, inr, List, [], length, get_or, arith, refl, sym, subst, ◌∙◌, Option, Some, None, MatchOption}
+use Rattle.std.proofs.Common.{◌≡◌, ◌<◌, ◌≤◌, ℕ, ◌⊎◌, inl, inr, List, [], length, get_or, arith, refl, sym, ap, subst, ◌∙◌, Option, Some, None, MatchOption}
 use Rattle.std.proofs.lemmas.Bool.{cases_lt}
-use Rattle.tcc_reads.specs.History.{History, count}
-use Rattle.tcc_graph.specs.Relations.{IsCausalPair}
+use Rattle.tcc_reads.specs.History.{History, count, owner}
+use Rattle.tcc_graph.specs.Relations.{IsSessionPair, IsReadsPair, IsCausalPair}
 use Rattle.tcc_graph.specs.Orders.{Before, IsNumbering}
-use Rattle.tcc_cert.specs.Tables.{entry, row_of, IsFirstPlace}
+use Rattle.tcc_cert.specs.Tables.{entry, row_of, HasSize, IsFirstPlace}
 use Rattle.tcc_graph.specs.declared.level.Level.{Level}
-use Rattle.tcc_cert.specs.OrderRules.{KeepsPairs, BreaksAxiom}
+use Rattle.tcc_graph.specs.declared.level.Level.TheVariants.{Causal}
+use Rattle.tcc_cert.specs.OrderRules.{HasClocks, HasInClock, KeepsPairs, BreaksAxiom}
 use Rattle.tcc_cert.specs.Rules.{HoldsEverywhere}
 use Rattle.tcc_check.specs.Weights.{unlinked, ContradictionWeighs, IsLeastTable}
 use Rattle.tcc_check.specs.Places.{ArePlaces, IsKept, AreGaps, IsUnordered}
 use Rattle.tcc_graph.proofs.Numberings.{one_place}
-use Rattle.tcc_graph.proofs.Pairs.{pair_below}
+use Rattle.tcc_graph.proofs.Pairs.{session_below, pair_below}
+use Rattle.tcc_check.specs.Latest.{AreSessionsKept, AreApart, AreReadsKept}
+use Rattle.tcc_check.proofs.Entries.{entry_past}
 use Rattle.tcc_check.proofs.First.{first_as, nowhere_as}
 
 module _ (order places : List ℕ) (are : ArePlaces order places) where
@@ -61,3 +64,47 @@ module _ (h : History) (level : Level) (order places : List ℕ) (sessions : ℕ
     pub axiom_searched : (found : Option (ℕ × ℕ)) → MatchOption found (HoldsEverywhere (IsUnordered weights places)) (IsFirstPlace (IsUnordered weights places)) → MatchOption found (HoldsEverywhere (BreaksAxiom h (record { level = level; order = order; sessions = sessions; clocks = clocks }))) (IsFirstPlace (BreaksAxiom h (record { level = level; order = order; sessions = sessions; clocks = clocks })))
     axiom_searched None none = nowhere_as (IsUnordered weights places) (BreaksAxiom h (record { level = level; order = order; sessions = sessions; clocks = clocks })) breaks_unordered none
     axiom_searched (Some at) first = first_as (IsUnordered weights places) (BreaksAxiom h (record { level = level; order = order; sessions = sessions; clocks = clocks })) unordered_breaks breaks_unordered at first
+
+-- ---- what is kept by the pair before and by the next is kept by both
+
+module _ (h : History) (level : Level) (places : List ℕ) (clocks : List (List ℕ)) (sized : HasClocks level (count h) (length h.sessions) clocks) where
+  kept_on : (b m c column : ℕ) → level ≡ Causal → HasInClock h clocks m c → entry clocks m column ≤ entry clocks c column
+  kept_on b m c column causal next = go (cases_lt column (length h.sessions))
+    where
+      size : HasSize (count h) (length h.sessions) clocks
+      size = subst (λ (l : Level). HasClocks l (count h) (length h.sessions) clocks) causal sized
+
+      go : (column < length h.sessions) ⊎ (length h.sessions ≤ column) → entry clocks m column ≤ entry clocks c column
+      go (inl inside) = next.kept column inside
+      go (inr past) = omega (arith, entry_past (count h) (length h.sessions) clocks m column size past)
+
+  pub kept_along : (b m c : ℕ) → IsKept h level places clocks b m → IsKept h level places clocks m c → IsKept h level places clocks b c
+  kept_along b m c one two = (
+    omega (arith, one.0, two.0),
+    λ causal. record {
+      kept = λ session inside. let first = (one.1 causal).kept session inside in let second = (two.1 causal).kept session inside in omega (arith, first, second);
+      had = λ some. let had = (one.1 causal).had some in omega (arith, had, kept_on b m c (owner h b) causal (two.1 causal));
+    },
+  )
+
+  -- of session order the last before c is enough
+  pub kept_by_previous : (c before : ℕ) → ((b : ℕ) → IsSessionPair h b c → (b ≡ before) ⊎ IsSessionPair h b before) → ((b : ℕ) → IsCausalPair h b before → IsKept h level places clocks b before) → IsKept h level places clocks before c
+      → ((b : ℕ) (x : List ℕ) → IsReadsPair h b c x → IsKept h level places clocks b c) → (b : ℕ) → IsCausalPair h b c → IsKept h level places clocks b c
+  kept_by_previous c before last earlier next reads b (inr (x, p)) = reads b x p
+  kept_by_previous c before last earlier next reads b (inl p) = go (last b p)
+    where
+      go : (b ≡ before) ⊎ IsSessionPair h b before → IsKept h level places clocks b c
+      go (inl same) = subst (λ (n : ℕ). IsKept h level places clocks n c) (sym same) next
+      go (inr pair) = kept_along b before c (earlier b (inl pair)) next
+
+-- ---- what the pass over last writers says
+
+module _ (h : History) (level : Level) (order places : List ℕ) (sessions : ℕ) (clocks : List (List ℕ)) (are : ArePlaces order places) (long : length order ≡ count h) where
+  pub sessions_kept : KeepsPairs h (record { level = level; order = order; sessions = sessions; clocks = clocks }) → AreSessionsKept h places
+  sessions_kept kept b c p = let bounds = session_below h b c p in before_places order places are b c (omega (arith, bounds.0, long)) (omega (arith, bounds.1, long)) (kept.ordered b c (inl p))
+
+  pub axiom_kept : ((c : ℕ) → c < count h → AreReadsKept h level places clocks c) → HoldsEverywhere (BreaksAxiom h (record { level = level; order = order; sessions = sessions; clocks = clocks }))
+  axiom_kept all at (x, c, may, reach, not) = not (places_before order places are at.0 at.1 (omega (arith, may.2.0, long)) (omega (arith, may.1.0, long)) (all c may.1.1 x at.1 may.1 at.0 may reach))
+
+pub places_apart : (order places : List ℕ) → ArePlaces order places → AreApart places
+places_apart order places are a b one two same = sym (are.here a (omega (arith, one, are.long))) ∙ ap (λ n. get_or order n 0) same ∙ are.here b (omega (arith, two, are.long))

@@ -11,7 +11,7 @@ abbrev pub IsSeen : ℕ → List ℕ → ℕ → Type 0
 IsSeen i numbers u = (k : ℕ) × (k < i) × (get_or numbers k 0 ≡ u)
 
 abbrev pub SeenWriter : ℕ → List ℕ → List (List ℕ) → ℕ → ℕ → ℕ → ℕ → Type 0
-SeenWriter i numbers table v c u w = IsSeen i numbers u × ((u ≢ v) × (w ≡ entry table u c))
+SeenWriter i numbers table v c u w = IsSeen i numbers u × ((u ≢ v) × (w ≡ entry table c u))
 
 seen_more : (i : ℕ) (numbers : List ℕ) (u : ℕ) → IsSeen i numbers u → IsSeen (i + 1) numbers u
 seen_more i numbers u (k, l, e) = (k, omega arith, e)
@@ -37,16 +37,16 @@ module _ (numbers : List ℕ) (table : List (List ℕ)) (v c : ℕ) (old new : L
       back u ne (inl s) = s
       back u ne (inr e) = absurd (ne (e ∙ same))
 
-  pub writer_lowered : (i u n : ℕ) → get_or numbers i 0 ≡ u → u ≢ v → n ≡ entry table u c → u < length new → IsLowered (SeenWriter i numbers table v c) old new → IsLowered (SeenWriter (i + 1) numbers table v c) old (set new u (min (get_or new u 0) n))
+  pub writer_lowered : (i u n : ℕ) → get_or numbers i 0 ≡ u → u ≢ v → n ≡ entry table c u → u < length new → IsLowered (SeenWriter i numbers table v c) old new → IsLowered (SeenWriter (i + 1) numbers table v c) old (set new u (min (get_or new u 0) n))
   writer_lowered i u n at ne is below h = lowered_as _ _ old _ to back (lowered_then _ _ old new _ h (lowered_one new u n below))
     where
       to : (t w : ℕ) → SeenWriter i numbers table v c t w ⊎ ((t ≡ u) × (w ≡ n)) → SeenWriter (i + 1) numbers table v c t w
       to t w (inl s) = (seen_more i numbers t s.0, s.1)
-      to t w (inr s) = ((i, omega arith, at ∙ sym s.0), (subst (λ (z : ℕ). z ≢ v) (sym s.0) ne, s.1 ∙ is ∙ ap (λ z. entry table z c) (sym s.0)))
+      to t w (inr s) = ((i, omega arith, at ∙ sym s.0), (subst (λ (z : ℕ). z ≢ v) (sym s.0) ne, s.1 ∙ is ∙ ap (λ z. entry table c z) (sym s.0)))
 
-      go : (t w : ℕ) → (t ≢ v) × (w ≡ entry table t c) → IsSeen i numbers t ⊎ (t ≡ get_or numbers i 0) → SeenWriter i numbers table v c t w ⊎ ((t ≡ u) × (w ≡ n))
+      go : (t w : ℕ) → (t ≢ v) × (w ≡ entry table c t) → IsSeen i numbers t ⊎ (t ≡ get_or numbers i 0) → SeenWriter i numbers table v c t w ⊎ ((t ≡ u) × (w ≡ n))
       go t w s (inl old) = inl (old, s)
-      go t w s (inr e) = inr (e ∙ at, s.1 ∙ ap (λ z. entry table z c) (e ∙ at) ∙ sym is)
+      go t w s (inr e) = inr (e ∙ at, s.1 ∙ ap (λ z. entry table c z) (e ∙ at) ∙ sym is)
 
       back : (t w : ℕ) → SeenWriter (i + 1) numbers table v c t w → SeenWriter i numbers table v c t w ⊎ ((t ≡ u) × (w ≡ n))
       back t w s = go t w s.1 (seen_cases i numbers t s.0)

@@ -8,3 +8,4 @@ pub mod TableRules
 pub mod Streams
 pub mod Coming
 pub mod Judged
+pub mod Latest

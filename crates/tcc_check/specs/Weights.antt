@@ -41,13 +41,22 @@ pub record IsLowered (weighs : ℕ → ℕ → Type 0) (old : List ℕ) (new : L
   pub low : (u : ℕ) (w : ℕ) → u < length old → weighs u w → slice_index new u ≤ w
   pub from : (u : ℕ) → u < length old → (slice_index new u ≡ slice_index old u) ⊎ weighs u (slice_index new u)
 
--- u is one of these writers, other than v, and the table has w for it and c
+-- a table turned round: its rows are the columns of the other
+pub record IsTurned (n : ℕ) (table : List (List ℕ)) (turned : List (List ℕ)) : Type 0 where
+  pub size : HasSize n n turned
+  pub each : (a : ℕ) (b : ℕ) → a < n → b < n → entry turned b a ≡ entry table a b
+
+-- u is one of these writers, other than v, and the turned table has w for c and it
 abbrev pub WriterWeighs : List ℕ → List (List ℕ) → ℕ → ℕ → ℕ → ℕ → Type 0
-WriterWeighs numbers table v c u w = Contains numbers u × ((u ≢ v) × (w ≡ entry table u c))
+WriterWeighs numbers turned v c u w = Contains numbers u × ((u ≢ v) × (w ≡ entry turned c u))
 
 -- so for one of these keys
 abbrev pub KeyWeighs : History → List (List ℕ) → List (List ℕ) → ℕ → ℕ → ℕ → ℕ → Type 0
-KeyWeighs h keys table v c u w = (x : List ℕ) × Contains keys x × WriterWeighs (writers h x) table v c u w
+KeyWeighs h keys turned v c u w = (x : List ℕ) × Contains keys x × WriterWeighs (writers h x) turned v c u w
+
+-- so for one of the readers from v
+abbrev pub TurnedWeighs : History → List (List ℕ) → ℕ → ℕ → ℕ → Type 0
+TurnedWeighs h turned v u w = (x : List ℕ) × (c : ℕ) × MayContradict h u v x c × (w ≡ entry turned c u)
 
 -- in each row, by what is contradicted
 pub record AreLowered (h : History) (table : List (List ℕ)) (old : List (List ℕ)) (new : List (List ℕ)) : Type 0 where

@@ -16,7 +16,7 @@ use crate::runs::run_begins;
 use crate::searching::{first_long_link, first_long_step, first_short_return};
 use crate::sizes::{are_links_below, has_far_size, has_size, is_capped};
 use crate::verdict::{Rule, Verdict, rejected};
-use crate::weights::{lowered, pair_weights, start_rows};
+use crate::weights::{lowered, pair_weights, start_rows, turned};
 use std::alloc::Global;
 use tcc_cert::{Numbers, Version};
 use tcc_graph::{Graph, Level, Link};
@@ -119,7 +119,8 @@ fn bounds_verdict(
         Verdict::Accepted => {}
         of_near => return Ok(of_near),
     }
-    let links = lowered(alloc, graph, near, pairs.rows())?;
+    let turned = turned(alloc, near)?;
+    let links = lowered(alloc, graph, turned.rows(), pairs.rows())?;
     let steps = Some(Rule::FarSteps);
     match table_verdict(
         alloc,

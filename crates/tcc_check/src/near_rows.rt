@@ -13,7 +13,7 @@ use crate::cycle::{near_steps, table_verdict};
 use crate::runs::run_begins;
 use crate::sizes::is_row_right;
 use crate::verdict::{Rule, Verdict};
-use crate::weights::{lowered, pair_weights};
+use crate::weights::{lowered, pair_weights, turned};
 use std::alloc::Global;
 use std::io::Read;
 use tcc_cert::{CertReader, Numbers, Part, Table, Version};
@@ -80,7 +80,9 @@ pub(crate) fn judge_near<R: Read>(
         Rule::NearPairs,
         steps,
     )?;
-    let weights = lowered(alloc, graph, &near, pairs.rows())?;
+    let turned = turned(alloc, &near)?;
+    drop(near);
+    let weights = lowered(alloc, graph, turned.rows(), pairs.rows())?;
     Ok(Some(NearJudged {
         verdict,
         begins,

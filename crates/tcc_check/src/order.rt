@@ -1,8 +1,8 @@
 //! The rules on a claim that a list is a commit order.
-ghost use Rattle.std.specs.Prelude.{ℕ, ◌≡◌, ◌<◌, ◌≤◌, ◌↔◌, ◌^◌, length, slice_index, IsTrue, IfOk, MatchOption};
-ghost use Rattle.tcc_txn.specs.declared.limits.TheConstants.{MAX_COUNT};
-ghost use Rattle.tcc_reads.specs.History.{count};
-ghost use Rattle.tcc_graph.specs.Relations.{IsCausalPair};
+ghost use Rattle.std.specs.Prelude.{ℕ, ◌≡◌, ◌<◌, ◌≤◌, ◌↔◌, ◌^◌, List, length, slice_index, IsTrue, IfOk, MatchOption};
+ghost use Rattle.tcc_txn.specs.declared.limits.TheConstants.{MAX_COUNT, MAX_SESSIONS};
+ghost use Rattle.tcc_reads.specs.History.{IsBySession, count};
+ghost use Rattle.tcc_graph.specs.Relations.{IsCausalPair, IsReadsPair};
 ghost use Rattle.tcc_graph.specs.declared.level.Level.TheVariants.{Causal};
 ghost use Rattle.tcc_cert.specs.Tables.{entry, HasSize, IsFirstPlace};
 ghost use Rattle.tcc_cert.specs.OrderRules.{HasClocks, HasInClock, MayReach, HasOrderSizes, KeepsPairs, BreaksAxiom};
@@ -11,10 +11,12 @@ ghost use Rattle.tcc_check.specs.Searches.{HoldsBelow, IsFirstBelow};
 ghost use Rattle.tcc_check.specs.Places.{ArePlaces, IsKept, AreGaps, IsUnordered};
 ghost use Rattle.tcc_check.specs.Verdicts.{IsAnswer, order_rules};
 
+use crate::latest::keeps_axiom;
 use crate::places::places_of;
+use crate::previous::previous;
 use crate::sizes::has_size;
 use crate::verdict::{Rule, Verdict, rejected};
-use crate::weights::{lowered, no_weights};
+use crate::weights::{lowered, no_weights, turned};
 use std::alloc::Global;
 use tcc_cert::{Numbers, Table};
 use tcc_graph::{Graph, Level};
@@ -96,23 +98,40 @@ fn is_kept(graph: &Graph, level: Level, places: &[u32], clocks: &[Numbers], b: u
     }
 }
 
-/// Whether all causal pairs that end at `c` are kept.
-fn keeps_pairs_to(graph: &Graph, level: Level, places: &[u32], clocks: &[Numbers], c: u32) -> bool
+/// Whether all reads-from pairs that end at `c` are kept.
+fn keeps_sources(graph: &Graph, level: Level, places: &[u32], clocks: &[Numbers], c: u32) -> bool
     requires places { length places.now ≡ count graph.now }
     requires clocks { HasClocks level (count graph.now) (length graph.now.sessions) clocks.now }
     requires c { c < count graph.now }
-    ensures { IsTrue result ↔ ((b : ℕ) → IsCausalPair graph.now b c → IsKept graph.now level places.now clocks.now b c) }
+    ensures { IsTrue result ↔ ((b : ℕ) (x : List ℕ) → IsReadsPair graph.now b c x → IsKept graph.now level places.now clocks.now b c) }
 {
-    for b in 0..graph.count() {
-        if graph.causal(b, c) && !is_kept(graph, level, places, clocks, b, c) {
+    for (_key, source) in graph.reads(c) {
+        if !is_kept(graph, level, places, clocks, *source, c) {
             return false;
         }
     }
     true
 }
 
+/// Whether all causal pairs that end at `c` are kept, where those that end before it are: of session order it is enough
+/// to ask of the last transaction before `c`.
+fn keeps_pairs_to(graph: &Graph, level: Level, places: &[u32], clocks: &[Numbers], c: u32) -> bool
+    requires numbered { IsBySession graph.now.entries }
+    requires places { length places.now ≡ count graph.now }
+    requires clocks { HasClocks level (count graph.now) (length graph.now.sessions) clocks.now }
+    requires c { c < count graph.now }
+    requires earlier { (b : ℕ) (end : ℕ) → end < c → IsCausalPair graph.now b end → IsKept graph.now level places.now clocks.now b end }
+    ensures { IsTrue result ↔ ((b : ℕ) → IsCausalPair graph.now b c → IsKept graph.now level places.now clocks.now b c) }
+{
+    if 0 < c && !is_kept(graph, level, places, clocks, previous(graph, c), c) {
+        return false;
+    }
+    keeps_sources(graph, level, places, clocks, c)
+}
+
 /// Whether all causal pairs are kept.
 fn keeps_pairs(graph: &Graph, level: Level, places: &[u32], clocks: &[Numbers]) -> bool
+    requires numbered { IsBySession graph.now.entries }
     requires places { length places.now ≡ count graph.now }
     requires clocks { HasClocks level (count graph.now) (length graph.now.sessions) clocks.now }
     ensures { IsTrue result ↔ ((b : ℕ) (c : ℕ) → IsCausalPair graph.now b c → IsKept graph.now level places.now clocks.now b c) }
@@ -209,7 +228,8 @@ fn broken_axiom(
 {
     let gaps = gaps(alloc, graph, level, clocks)?;
     let none = no_weights(alloc, order.len())?;
-    let weights = lowered(alloc, graph, gaps.rows(), none.rows())?;
+    let turned = turned(alloc, gaps.rows())?;
+    let weights = lowered(alloc, graph, turned.rows(), none.rows())?;
     Ok(first_unordered(places, weights.rows()))
 }
 
@@ -232,6 +252,8 @@ fn has_order_sizes(
     clocks: &[Numbers],
 ) -> bool
     ensures few { count graph.now ≤ MAX_COUNT }
+    ensures few_sessions { length graph.now.sessions ≤ MAX_SESSIONS }
+    ensures numbered { IsBySession graph.now.entries }
     ensures sizes { IsTrue result ↔ HasOrderSizes graph.now (record { level = level; order = order.now; sessions = sessions; clocks = clocks.now }) }
 {
     let count = graph.count() as usize;
@@ -247,6 +269,7 @@ fn kept_places(
     order: &[u32],
     clocks: &[Numbers],
 ) -> Result<Option<Vec<u32>>, NoMemory>
+    requires numbered { IsBySession graph.now.entries }
     requires few { count graph.now ≤ MAX_COUNT }
     requires order { length order.now ≡ count graph.now }
     requires clocks { HasClocks level (count graph.now) (length graph.now.sessions) clocks.now }
@@ -280,6 +303,9 @@ pub(crate) fn order_verdict(
     let Some(places) = kept_places(alloc, graph, level, order, clocks)? else {
         return Ok(rejected(Rule::Pairs, 0));
     };
+    if keeps_axiom(graph, level, &places, clocks) {
+        return Ok(Verdict::Accepted);
+    }
     match broken_axiom(alloc, graph, level, order, &places, clocks)? {
         Some(at) => Ok(Verdict::Rejected {
             rule: Rule::Axiom,

@@ -1,8 +1,8 @@
 //! Weights of links: how many steps a link takes before its last one.
-ghost use Rattle.std.specs.Prelude.{ℕ, ◌≡◌, ◌<◌, ◌^◌, length, All, IfOk};
+ghost use Rattle.std.specs.Prelude.{ℕ, ◌≡◌, ◌<◌, ◌^◌, List, length, slice_index, All, IfOk};
 ghost use Rattle.tcc_reads.specs.History.{count};
 ghost use Rattle.tcc_cert.specs.Tables.{entry, HasSize};
-ghost use Rattle.tcc_check.specs.Weights.{unlinked, PairWeighs, ContradictionWeighs, WriterWeighs, KeyWeighs, IsLeastRow, IsLeastTable, IsLowered, AreLowered, AreStarts};
+ghost use Rattle.tcc_check.specs.Weights.{unlinked, PairWeighs, IsTurned, TurnedWeighs, WriterWeighs, KeyWeighs, IsLeastRow, IsLeastTable, IsLowered, AreLowered, AreStarts};
 ghost use Rattle.tcc_check.specs.Searches.{AreStartRows};
 
 use crate::runs::is_in_run;
@@ -41,16 +41,17 @@ pub(crate) fn pair_weights(alloc: Global, graph: &Graph) -> Result<Table, NoMemo
     Ok(Table::new(rows))
 }
 
-/// Lowers the numbers of these writers to those that the table has for them and the reader.
-fn lower_writers(row: &mut [u32], writers: &[u32], table: &[Numbers], end: u32, reader: u32)
-    requires size { HasSize (length row.old) (length row.old) table.now }
+/// Lowers the numbers of these writers to those that the turned table has for the reader and them.
+fn lower_writers(row: &mut [u32], writers: &[u32], turned: &[Numbers], end: u32, reader: u32)
+    requires size { HasSize (length row.old) (length row.old) turned.now }
     requires writers { All (λ u. u < length row.old) writers.now }
     requires reader { reader < length row.old }
-    ensures { IsLowered (WriterWeighs writers.now table.now end reader) row.old row.new }
+    ensures { IsLowered (WriterWeighs writers.now turned.now end reader) row.old row.new }
 {
+    let column = turned[reader as usize].as_slice();
     for writer in writers {
         if *writer != end {
-            let number = table[*writer as usize].as_slice()[reader as usize];
+            let number = column[*writer as usize];
             row[*writer as usize] = row[*writer as usize].min(number);
         }
     }
@@ -61,50 +62,77 @@ fn lower_keys(
     row: &mut [u32],
     graph: &Graph,
     keys: &[Name],
-    table: &[Numbers],
+    turned: &[Numbers],
     end: u32,
     reader: u32,
 )
     requires long { length row.old ≡ count graph.now }
-    requires size { HasSize (count graph.now) (count graph.now) table.now }
+    requires size { HasSize (count graph.now) (count graph.now) turned.now }
     requires reader { reader < count graph.now }
-    ensures { IsLowered (KeyWeighs graph.now keys.now table.now end reader) row.old row.new }
+    ensures { IsLowered (KeyWeighs graph.now keys.now turned.now end reader) row.old row.new }
 {
     for key in keys {
-        lower_writers(row, graph.writers(key), table, end, reader);
+        lower_writers(row, graph.writers(key), turned, end, reader);
     }
 }
 
 /// Does so for each reader from `end`.
-fn lower_readers(row: &mut [u32], graph: &Graph, table: &[Numbers], end: u32)
+fn lower_readers(row: &mut [u32], graph: &Graph, turned: &[Numbers], end: u32)
     requires long { length row.old ≡ count graph.now }
-    requires size { HasSize (count graph.now) (count graph.now) table.now }
+    requires size { HasSize (count graph.now) (count graph.now) turned.now }
     requires end { end < count graph.now }
-    ensures { IsLowered (ContradictionWeighs graph.now table.now end) row.old row.new }
+    ensures { IsLowered (TurnedWeighs graph.now turned.now end) row.old row.new }
 {
     for reader in 0..graph.count() {
         if graph.causal(end, reader) {
             let keys = graph.reads_from(end, reader);
-            lower_keys(row, graph, keys, table, end, reader);
+            lower_keys(row, graph, keys, turned, end, reader);
         }
     }
 }
 
-/// The weights, each lowered to what the table has for its start and a reader that it contradicts.
+/// A column of a table.
+fn column(alloc: Global, table: &[Numbers], place: usize) -> Result<Vec<u32>, NoMemory>
+    requires size { HasSize (length table.now) (length table.now) table.now }
+    requires inside { place < length table.now }
+    ensures long { IfOk result (λ column. length column.items ≡ length table.now) }
+    ensures each { IfOk result (λ column. (a : ℕ) → a < length table.now → slice_index column.items a ≡ entry table.now a place) }
+{
+    let mut column = Vec::new(alloc);
+    for row in table {
+        column.push(row.as_slice()[place])?;
+    }
+    Ok(column)
+}
+
+/// The table turned round, so that who asks for a column goes along a row.
+pub(crate) fn turned(alloc: Global, table: &[Numbers]) -> Result<Table, NoMemory>
+    requires size { HasSize (length table.now) (length table.now) table.now }
+    ensures { IfOk result (λ turned. IsTurned (length table.now) table.now turned) }
+{
+    let mut rows = Vec::new(alloc);
+    for place in 0..table.len() {
+        rows.push(Numbers::new(column(alloc, table, place)?))?;
+    }
+    Ok(Table::new(rows))
+}
+
+/// The weights, each lowered to what a table has for its start and a reader that it contradicts. The table comes turned
+/// round.
 pub(crate) fn lowered(
     alloc: Global,
     graph: &Graph,
-    table: &[Numbers],
+    turned: &[Numbers],
     weights: &[Numbers],
 ) -> Result<Table, NoMemory>
     requires weights { HasSize (count graph.now) (count graph.now) weights.now }
-    requires table { HasSize (count graph.now) (count graph.now) table.now }
-    ensures { IfOk result (λ lowered. AreLowered graph.now table.now weights.now lowered) }
+    requires turned { HasSize (count graph.now) (count graph.now) turned.now }
+    ensures { (table : List (List ℕ)) → IsTurned (count graph.now) table turned.now → IfOk result (λ lowered. AreLowered graph.now table weights.now lowered) }
 {
     let mut rows = Vec::new(alloc);
     for end in 0..graph.count() {
         let mut row = weights[end as usize].as_slice().to_vec(alloc)?;
-        lower_readers(&mut row, graph, table, end);
+        lower_readers(&mut row, graph, turned, end);
         rows.push(Numbers::new(row))?;
     }
     Ok(Table::new(rows))

@@ -1,3 +1,7 @@
+pub mod Filing
+pub mod RingHomes
+pub mod RingPairs
+pub mod RingCalls
 pub mod Settlement
 pub mod Frontier
 pub mod Lowering

@@ -5,3 +5,6 @@ pub mod Seeds
 pub mod Frontiers
 pub mod Relaxing
 pub mod Closing
+pub mod Rings
+pub mod RingLinks
+pub mod Queues

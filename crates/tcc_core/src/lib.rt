@@ -3,7 +3,9 @@
 #![tactic(auto)]
 
 pub mod laws;
+mod queue;
 mod relaxing;
+mod ring;
 mod search;
 mod seeding;
 mod settled;

@@ -15,7 +15,8 @@ use Rattle.tcc_graph.proofs.Pairs.{step_pair, step_below}
 use Rattle.tcc_graph.proofs.Walking.{leads_append, leads_split, walk_below}
 use Rattle.tcc_graph.proofs.Linking.{pair_link, cost_cons}
 use Rattle.tcc_cycle.proofs.Twice.{HasTwice, always, few_or_twice}
-use Rattle.tcc_cycle.proofs.SessionLemmas.{IsPlaced, pair_parts, pair_on, either_way, initial_pair}
+use Rattle.tcc_graph.proofs.Pairs.{pair_parts, initial_pair}
+use Rattle.tcc_cycle.proofs.SessionLemmas.{IsPlaced, pair_on, either_way}
 use Rattle.tcc_cycle.proofs.BoundLemmas.{shorter}
 
 -- numbers for session and mark tell both

@@ -1,7 +1,6 @@
 -- What links of all kinds cost, by the prices and the causal pairs; and the tables of all rows.
-use Rattle.std.proofs.Common.{ℕ, ◌<◌, ◌≡◌, ◌≢◌, ◌==◌, ◌⊎◌, inl, inr, Bool, true, false, List, [], length, get_or, slice_index, Option, None, Some, refl, sym, ◌∙◌, ap, subst, arith, eq-eqb}
+use Rattle.std.proofs.Common.{ℕ, ◌<◌, ◌≡◌, ◌≢◌, ◌==◌, ◌⊎◌, inl, inr, Bool, true, false, List, length, get_or, slice_index, Option, None, Some, refl, sym, ◌∙◌, ap, subst, arith, eq-eqb}
 use Rattle.std.proofs.lemmas.Bool.{false≢true, ne_eqb}
-use Rattle.std.proofs.lemmas.List.{get_or_default}
 use Rattle.tcc_reads.specs.History.{count}
 use Rattle.tcc_graph.specs.Levels.{Judged, IsAllowed}
 use Rattle.tcc_graph.specs.declared.level.Level.{Level}
@@ -15,9 +14,9 @@ use Rattle.tcc_near.specs.Distances.{least_in, NearTable, IsNearOf, IsWalkDistan
 use Rattle.tcc_near.specs.declared.distances.TheConstants.{NONE}
 use Rattle.tcc_near.proofs.Walks.{within_one, within_one_from}
 use Rattle.tcc_near.proofs.BreadthLemmas.{read}
-use Rattle.tcc_derive.specs.Prices.{IsDerived, IsLinkOf, IsPrice, IsCost, IsPricesOf}
+use Rattle.tcc_derive.specs.Prices.{IsDerived, IsLinkOf, IsPrice, IsCost}
 use Rattle.tcc_derive.specs.Lowering.{HasPairs}
-use Rattle.tcc_derive.specs.Rows.{IsPriceRow, IsCostRow, HasRows}
+use Rattle.tcc_derive.specs.Rows.{IsPriceRow, IsCostRow}
 use Rattle.tcc_graph.specs.Tables.{row_of}
 use Rattle.tcc_graph.proofs.Pairs.{pair_kinds, pair_from_session, pair_from_reads}
 use Rattle.tcc_graph.proofs.Linking.{some_cost, pair_link}
@@ -102,17 +101,3 @@ cost_row_of j near u prices costs is from priced pairs = record {
         let far : (slice_index (row_of near.rows u) v == 1) ≡ false = one_step_pair j near u v is from to ∙ e in
         let same : get_or costs v 0 ≡ get_or prices v 0 = rw far at (pairs.each v (omega (arith, priced.long))) in
         rw same (cost_from_price j u v e (least_in prices v) (priced.priced v to))
-
-pub prices_of : (j : Judged) (near : NearTable) (prices costs : List (List ℕ)) → IsNearOf j near → HasRows j.history (IsPriceRow j) prices → HasRows j.history (λ u row. HasPairs (row_of near.rows u) (row_of prices u) row) costs
-    → IsPricesOf j (record { level = j.level; prices = prices; costs = costs })
-prices_of j near prices costs is priced paired = record {
-  level = refl;
-  prices = record { long = priced.long; wide = λ k d l. rw (get_or_default prices k d [] l) (priced.each k (omega (arith, priced.long))).long };
-  costs = record { long = paired.long; wide = λ k d l. rw (get_or_default costs k d [] l) (cost_row k (omega (arith, paired.long))).long };
-  priced = λ b a from to. (priced.each b from).priced a to;
-  costed = λ a b from to. (cost_row a from).costed b to;
-  few = λ b a n from to. (priced.each b from).few a n to;
-}
-  where
-    cost_row : (u : ℕ) → u < count j.history → IsCostRow j u (row_of costs u)
-    cost_row u from = cost_row_of j near u (row_of prices u) (row_of costs u) is from (priced.each u from) (paired.each u from)

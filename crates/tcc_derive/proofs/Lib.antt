@@ -4,8 +4,11 @@ pub mod BucketLemmas
 pub mod ChoiceLemmas
 pub mod CostLemmas
 pub mod KeyLemmas
+pub mod LinksOnLemmas
 pub mod LoweringLemmas
+pub mod OthersLemmas
 pub mod PriceLemmas
+pub mod PricesLemmas
 pub mod ReasonLemmas
 pub mod StepLemmas
 pub mod TableLemmas

@@ -1,8 +1,8 @@
 -- Worked rows of the definitions.
-use Rattle.std.proofs.Common.{◌≡◌, [], ◌∷◌, true, false, None, Some, refl, inl}
+use Rattle.std.proofs.Common.{ℕ, ◌≡◌, [], ◌∷◌, true, false, None, Some, refl, inl, arith}
 use Rattle.tcc_graph.specs.declared.level.Level.TheVariants as level
 use Rattle.tcc_graph.specs.declared.step.Step.TheVariants as step
-use Rattle.tcc_derive.specs.Prices.{price_at, cost_at}
+use Rattle.tcc_derive.specs.Prices.{Tables, IsLater, price_at, cost_at, others_at}
 use Rattle.tcc_derive.specs.Lowering.{price_by}
 use Rattle.tcc_derive.specs.Backwards.{stands_at, Ahead}
 use Rattle.tcc_near.specs.declared.distances.TheConstants.{NONE}
@@ -14,15 +14,33 @@ one_more = refl
 out_of_reach : price_by (2 ∷ NONE ∷ []) (record { source = 0; reader = 1 }) ≡ NONE
 out_of_reach = refl
 
--- of two transactions, 1 contradicts a read from 0 by a walk of three steps
-price_of_four : price_at (record { level = level.Causal; prices = (NONE ∷ NONE ∷ []) ∷ (4 ∷ NONE ∷ []) ∷ []; costs = (NONE ∷ 1 ∷ []) ∷ (4 ∷ NONE ∷ []) ∷ [] }) 1 0 ≡ Some 4
+-- of two transactions, 1 contradicts a read from 0 by a walk of three steps, and 0 has a session pair to it
+abbrev two : Tables
+two = record {
+  level = level.Causal;
+  prices = (NONE ∷ NONE ∷ []) ∷ (4 ∷ NONE ∷ []) ∷ [];
+  costs = (NONE ∷ 1 ∷ []) ∷ (4 ∷ NONE ∷ []) ∷ [];
+  ends = 2 ∷ 2 ∷ [];
+  others = [] ∷ ((0, 4) ∷ []) ∷ [];
+}
+
+price_of_four : price_at two 1 0 ≡ Some 4
 price_of_four = refl
 
-no_price : price_at (record { level = level.Causal; prices = (NONE ∷ NONE ∷ []) ∷ (4 ∷ NONE ∷ []) ∷ []; costs = (NONE ∷ 1 ∷ []) ∷ (4 ∷ NONE ∷ []) ∷ [] }) 0 1 ≡ None
+no_price : price_at two 0 1 ≡ None
 no_price = refl
 
-cost_of_a_pair : cost_at (record { level = level.Causal; prices = (NONE ∷ NONE ∷ []) ∷ (4 ∷ NONE ∷ []) ∷ []; costs = (NONE ∷ 1 ∷ []) ∷ (4 ∷ NONE ∷ []) ∷ [] }) 0 1 ≡ Some 1
+cost_of_a_pair : cost_at two 0 1 ≡ Some 1
 cost_of_a_pair = refl
+
+later_of_init : IsLater two 0 1
+later_of_init = (omega arith, omega arith)
+
+none_later : (v : ℕ) → IsLater two 1 v → ⊥
+none_later v w = omega (arith, w.0, w.1)
+
+other_of_one : others_at two 1 ≡ (0, 4) ∷ []
+other_of_one = refl
 
 -- no steps lead to the start alone, some lead where the row says so
 at_start : stands_at (2 ∷ 1 ∷ []) 1 1 0 ≡ true

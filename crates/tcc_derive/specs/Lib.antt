@@ -6,6 +6,8 @@ pub mod Rows
 pub mod Buckets
 pub mod BlockTables
 pub mod KeyTables
+pub mod LinksOn
+pub mod Others
 pub mod Lowering
 pub mod Choices
 pub mod Backwards

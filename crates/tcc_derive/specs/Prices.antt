@@ -1,6 +1,9 @@
 -- What derived links and links of all kinds cost at a level, and tables of it.
-use Rattle.std.specs.Prelude.{ℕ, ◌<◌, ◌≤◌, ◌≡◌, ◌+◌, List, Option, None, Some}
-use Rattle.tcc_reads.specs.History.{count}
+use Rattle.std.specs.Prelude.{ℕ, ◌<◌, ◌≤◌, ◌≡◌, ◌+◌, ◌⊎◌, ◌↔◌, List, Option, None, Some, slice_index, Contains}
+use Rattle.std.specs.List.{AllPairs}
+use Rattle.tcc_reads.specs.History.{History, count}
+use Rattle.tcc_graph.specs.Relations.{IsSessionPair, IsReadsPair}
+use Rattle.tcc_graph.specs.Tables.{row_of}
 use Rattle.tcc_graph.specs.Levels.{Judged}
 use Rattle.tcc_graph.specs.Links.{IsReason, IsLink, link_from, link_to, link_cost}
 use Rattle.tcc_graph.specs.declared.level.Level.{Level}
@@ -38,17 +41,47 @@ pub record IsLinkOf (j : Judged) (a : ℕ) (b : ℕ) (l : Link) : Type 0 where
 abbrev pub IsCost : Judged → ℕ → ℕ → Option ℕ → Type 0
 IsCost j a b = IsLeastCostOf (IsLinkOf j a b)
 
--- a level, and two tables by transaction: what derived links cost at it, and what links of all kinds cost
+-- a level, and tables by transaction: what derived links cost at it, what links of all kinds cost, where the numbers end
+-- that session pairs lead to, and the numbers that other links lead to, each with the least cost of a link there
 pub record Tables : Type 0 where
   pub level : Level
   pub prices : List (List ℕ)
   pub costs : List (List ℕ)
+  pub ends : List ℕ
+  pub others : List (List (ℕ × ℕ))
 
 abbrev pub price_at : Tables → ℕ → ℕ → Option ℕ
 price_at t b a = least t.prices b a
 
 abbrev pub cost_at : Tables → ℕ → ℕ → Option ℕ
 cost_at t a b = least t.costs a b
+
+abbrev pub end_of : Tables → ℕ → ℕ
+end_of t u = slice_index t.ends u
+
+abbrev pub others_at : Tables → ℕ → List (ℕ × ℕ)
+others_at t u = row_of t.others u
+
+-- v is later than u in its session: a session pair leads there
+abbrev pub IsLater : Tables → ℕ → ℕ → Type 0
+IsLater t u v = (u + 1 ≤ v) × (v < end_of t u)
+
+-- the numbers with a session pair from u are those after it and below `end`
+pub record IsEnd (h : History) (u : ℕ) (end : ℕ) : Type 0 where
+  pub order : u + 1 ≤ end
+  pub few : end ≤ count h
+  pub pairs : (v : ℕ) → IsSessionPair h u v ↔ ((u + 1 ≤ v) × (v < end))
+
+-- v reads from u, or a derived link leads there
+pub record IsOther (j : Judged) (t : Tables) (u : ℕ) (v : ℕ) : Type 0 where
+  pub below : v < count j.history
+  pub why : ((x : List ℕ) × IsReadsPair j.history u v x) ⊎ ((n : ℕ) × (price_at t u v ≡ Some n))
+
+-- these are the others of u, ascending, each with the least cost of a link there
+pub record HasOthers (j : Judged) (t : Tables) (u : ℕ) (others : List (ℕ × ℕ)) : Type 0 where
+  pub ascending : AllPairs (λ p q. p.0 < q.0) others
+  pub only : (v : ℕ) (c : ℕ) → Contains others (v, c) → IsOther j t u v × (cost_at t u v ≡ Some c)
+  pub each : (v : ℕ) (c : ℕ) → IsOther j t u v → cost_at t u v ≡ Some c → Contains others (v, c)
 
 -- the tables have the least costs between all transactions at the level
 pub record IsPricesOf (j : Judged) (t : Tables) : Type 0 where
@@ -59,3 +92,5 @@ pub record IsPricesOf (j : Judged) (t : Tables) : Type 0 where
   pub costed : (a : ℕ) (b : ℕ) → a < count j.history → b < count j.history → IsCost j a b (cost_at t a b)
   -- a shortest walk has at most as many steps as there are transactions
   pub few : (b : ℕ) (a : ℕ) (n : ℕ) → b < count j.history → a < count j.history → price_at t b a ≡ Some n → n ≤ count j.history + 1
+  pub ended : (u : ℕ) → u < count j.history → IsEnd j.history u (end_of t u)
+  pub others : (u : ℕ) → u < count j.history → HasOthers j t u (others_at t u)

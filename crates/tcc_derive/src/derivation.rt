@@ -6,6 +6,7 @@ ghost use Rattle.tcc_derive.specs.Prices.{IsPricesOf};
 use crate::Prices;
 use crate::blocks::least_rows;
 use crate::costing::cost_rows;
+use crate::others::{other_rows, session_ends};
 use crate::pricing::price_rows;
 use crate::read_table::read_table;
 use crate::write_table::write_table;
@@ -30,5 +31,7 @@ pub fn derive(
     let prices = price_rows(rt, alloc, graph, near, &reads, &written)?;
     let costs = cost_rows(rt, alloc, graph, near, &prices)?;
     let least = least_rows(rt, alloc, &costs)?;
-    Ok(Prices::new(near.level(), prices, costs, least))
+    let others = other_rows(rt, alloc, graph, &prices, &costs)?;
+    let ends = session_ends(alloc, graph)?;
+    Ok(Prices::new(near.level(), prices, costs, least, ends, others))
 }

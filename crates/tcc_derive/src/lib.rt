@@ -6,6 +6,8 @@ mod bucket;
 mod choices;
 mod costing;
 mod derivation;
+pub mod laws;
+mod others;
 mod pricing;
 mod read;
 mod read_table;

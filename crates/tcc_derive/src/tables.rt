@@ -1,7 +1,8 @@
 //! The least costs of links between transactions at a level.
-ghost use Rattle.std.specs.Prelude.{◌≡◌, ◌<◌, ◌≤◌, ◌∷◌, [], length};
-ghost use Rattle.tcc_near.specs.Distances.{least_in, IsSquare};
-ghost use Rattle.tcc_derive.specs.Prices.{price_at, cost_at};
+ghost use Rattle.std.specs.Prelude.{◌≡◌, ◌<◌, ◌≤◌, ◌+◌, ◌∷◌, [], length, All};
+ghost use Rattle.tcc_near.specs.Distances.{least_in};
+ghost use Rattle.tcc_derive.specs.Prices.{price_at, cost_at, end_of, others_at};
+ghost use Rattle.tcc_derive.specs.Others.{IsShaped};
 ghost use Rattle.tcc_derive.specs.Blocks.{HasLeastCosts};
 ghost use Rattle.tcc_derive.specs.BlockTables.{HaveLeastCosts};
 ghost use Rattle.tcc_txn.specs.declared.limits.TheConstants.{MAX_COUNT};
@@ -19,21 +20,23 @@ pub struct Prices {
     costs: Vec<Row<u16>>,
     /// The least cost of a link into each block, a row for each row of costs.
     least: Vec<Row<u16>>,
+    ends: Vec<u32>,
+    others: Vec<Row<(u32, u32)>>,
 }
 
 impl Model for Prices {
-    ghost use Rattle.std.specs.Prelude.{length, ◌≤◌};
-    ghost use Rattle.tcc_near.specs.Distances.{IsSquare};
+    ghost use Rattle.std.specs.Prelude.{length};
     ghost use Rattle.tcc_derive.specs.Prices.{Tables};
+    ghost use Rattle.tcc_derive.specs.Others.{IsShaped};
     ghost use Rattle.tcc_derive.specs.BlockTables.{HaveLeastCosts};
-    ghost use Rattle.tcc_txn.specs.declared.limits.TheConstants.{MAX_COUNT};
 
     ghost Value = { Tables };
 
-    ghost view = { λ p. record { level = p.level; prices = p.prices.items; costs = p.costs.items } };
+    ghost view = { λ p. record { level = p.level; prices = p.prices.items; costs = p.costs.items; ends = p.ends.items; others = p.others.items } };
 
-    ghost invariant = { λ p. IsSquare (length p.prices.items) p.prices.items × (IsSquare (length p.prices.items) p.costs.items
-        × (HaveLeastCosts p.costs.items p.least.items × (length p.prices.items ≤ MAX_COUNT))) };
+    ghost invariant = { λ p. IsShaped (length p.prices.items)
+        (record { level = p.level; prices = p.prices.items; costs = p.costs.items; ends = p.ends.items; others = p.others.items })
+        × HaveLeastCosts p.costs.items p.least.items };
 }
 
 impl Prices {
@@ -43,18 +46,21 @@ impl Prices {
         prices: Vec<Row<u16>>,
         costs: Vec<Row<u16>>,
         least: Vec<Row<u16>>,
+        ends: Vec<u32>,
+        others: Vec<Row<(u32, u32)>>,
     ) -> Prices
-        requires prices { IsSquare (length prices.items) prices.items }
-        requires costs { IsSquare (length prices.items) costs.items }
+        requires shape { IsShaped (length prices.items)
+            (record { level = level; prices = prices.items; costs = costs.items; ends = ends.items; others = others.items }) }
         requires least { HaveLeastCosts costs.items least.items }
-        requires few { length prices.items ≤ MAX_COUNT }
-        ensures { result ≡ record { level = level; prices = prices.items; costs = costs.items } }
+        ensures { result ≡ record { level = level; prices = prices.items; costs = costs.items; ends = ends.items; others = others.items } }
     {
         Prices {
             level,
             prices,
             costs,
             least,
+            ends,
+            others,
         }
     }
 
@@ -89,6 +95,29 @@ impl Prices {
         ensures { result ≡ cost_at self.now u v }
     {
         cell(self.costs(u)[v as usize])
+    }
+
+    /// The first number with a session pair from `u`, and one past the last one, all between them having one too; both
+    /// `u + 1` where there is none.
+    pub fn later(&self, u: u32) -> (u32, u32)
+        requires { u < length self.now.prices }
+        ensures first { result.0 ≡ u + 1 }
+        ensures end { result.1 ≡ end_of self.now u }
+        ensures order { result.0 ≤ result.1 }
+        ensures few { result.1 ≤ length self.now.prices }
+    {
+        let end = self.ends[u as usize];
+        (u + 1, end)
+    }
+
+    /// The transactions that links other than session links lead to from `u`, ascending, those with a reads-from pair from
+    /// `u` or a price: each with the least cost of a link there.
+    pub fn others(&self, u: u32) -> &[(u32, u32)]
+        requires { u < length self.now.prices }
+        ensures value { result.now ≡ others_at self.now u }
+        ensures within { All (λ p. p.0 < length self.now.prices) result.now }
+    {
+        self.others[u as usize].values()
     }
 
     /// What derived links from `b` to each transaction cost, `NONE` where there is none.

@@ -96,16 +96,16 @@ fn history_answer<G: Gate>(
     requires workers { (0 < workers) × (workers ≤ 32) }
     ensures { IfOk result (IsAnswerOf (record { history = graph.now; level = level })) }
 {
-    let near = distances(rt, alloc, graph, level)?;
-    let prices = derive(rt, alloc, graph, &near)?;
     order_or_cycle();
-    if let Some(order) = order(alloc, &prices)? {
+    if let Some(order) = order(alloc, graph, level)? {
         let labels = Labels::of(alloc, graph)?;
         let sessions = graph.sessions().len() as u32;
-        let clocks = clocks_at(rt, alloc, graph, &near)?;
+        let clocks = clocks_at(rt, alloc, graph, level)?;
         let order = Numbers::new(order);
         return Ok(Answer::Commit(Commit::new(level, order, sessions, clocks, labels)));
     }
+    let near = distances(rt, alloc, graph, level)?;
+    let prices = derive(rt, alloc, graph, &near)?;
     let anomaly = anomaly(rt, alloc, graph, &near, &prices, workers, gate)?;
     Ok(Answer::Anomaly(anomaly))
 }

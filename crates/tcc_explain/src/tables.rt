@@ -11,7 +11,7 @@ use std::alloc::Global;
 use std::thread::Threads;
 use tcc_cert::{Numbers, Table};
 use tcc_graph::{Graph, Level};
-use tcc_near::{Clocks, NONE, Near, Row, clocks_of};
+use tcc_near::{Clocks, NONE, Near, Row, clocks};
 use tcc_txn::NoMemory;
 
 /// A number of steps, capped; the cap where no walk leads.
@@ -92,18 +92,17 @@ fn clock_table(alloc: Global, graph: &Graph, clocks: &Clocks) -> Result<Table, N
     Ok(Table::new(rows))
 }
 
-/// The clocks by which an order can be checked at the level of the distances: at `Atomic` there are none.
+/// The clocks by which an order can be checked at a level: at `Atomic` there are none.
 pub(crate) fn clocks_at(
     rt: &(impl Threads + Sync),
     alloc: Global,
     graph: &Graph,
-    near: &Near,
+    level: Level,
 ) -> Result<Table, NoMemory>
-    requires { IsNearOf (record { history = graph.now; level = near.now.level }) near.now }
-    ensures { IfOk result (IsClocksAt near.now.level graph.now) }
+    ensures { IfOk result (IsClocksAt level graph.now) }
 {
-    match near.level() {
-        Level::Causal => clock_table(alloc, graph, &clocks_of(rt, alloc, graph, near)?),
+    match level {
+        Level::Causal => clock_table(alloc, graph, &clocks(rt, alloc, graph)?),
         Level::Atomic => Ok(Table::new(Vec::new(alloc))),
     }
 }

@@ -1,16 +1,26 @@
 -- What the tables of a graph answer.
-use Rattle.std.proofs.Common.{ℕ, ◌<◌, ◌≡◌, true, false, List, [], length, get_or, refl, sym, ap, ◌∙◌, arith}
-use Rattle.std.specs.Prelude.{filter}
+use Rattle.std.proofs.Common.{ℕ, zero, suc, ◌+◌, ◌<◌, ◌≡◌, Bool, true, false, List, [], ◌∷◌, ◌++◌, length, get_or, refl, sym, ap, ◌∙◌, arith, zero-add, cond}
+use Rattle.std.specs.Prelude.{All, filter, map, zip, ◌↔◌, ◌==◌, ◌||◌}
+use Rattle.std.specs.List.{Contains, range_with_len}
+use Rattle.std.specs.List.Sorted.{IsStrictlySortedBy}
+use Rattle.std.proofs.lemmas.Bool.{lt-ltb}
 use Rattle.std.proofs.lemmas.List.{get_or_read}
-use Rattle.tcc_reads.specs.History.{Entry}
-use Rattle.tcc_graph.specs.Relations.{reads_from}
-use Rattle.tcc_graph.specs.Keys.{keys, is_key, writes, writers, readers, numbers}
-use Rattle.tcc_graph.specs.Grouped.{of_group}
-use Rattle.tcc_graph.specs.ReadTables.{over, IsReadTable}
-use Rattle.tcc_graph.specs.Places.{IsAbsent, StandsAt}
-use Rattle.tcc_graph.specs.KeyRows.{KeyRow, IsKeyTable}
-use Rattle.tcc_graph.proofs.GroupedLemmas.{of_group-groups}
+use Rattle.std.proofs.lemmas.List.Elements.{All-contains, All-map, filter_passes}
+use Rattle.std.proofs.lemmas.List.FromFn.{get_or-range_with_len, length-range_with_len}
+use Rattle.tcc_txn.proofs.Lists.{found_number, number_found}
+use Rattle.tcc_reads.specs.History.{Entry, History, count}
+use Rattle.tcc_reads.specs.Sources.{name_cmp}
+use Rattle.tcc_graph.specs.Relations.{session_pair, causal_pair, has_items, reads_from, IsReadsPair}
+use Rattle.tcc_graph.specs.Keys.{has_name, keys, is_key, writes, writers, readers}
+use Rattle.tcc_graph.specs.Grouped.{of_group, groups}
+use Rattle.tcc_graph.specs.ReadTables.{over, Placed, placed_of, values_from, IsReadTable, ArePlaced, IsPlaceTable}
+use Rattle.tcc_graph.specs.Places.{IsAbsent, name_of}
+use Rattle.tcc_graph.specs.KeyRows.{KeyRow, key_row_of, marked, writes_place, reads_place, IsKeyTable}
+use Rattle.tcc_graph.proofs.GroupedLemmas.{of_group-groups, zip-map, in_groups, from_groups}
 use Rattle.tcc_graph.proofs.KeysLemmas.{has_name-keys, present, absent, no_readers}
+use Rattle.tcc_graph.proofs.KeyTableLemmas.{filter_range-more, All-filter_range}
+use Rattle.tcc_graph.proofs.NameLemmas.{has_name-contains, contains-has_name}
+use Rattle.tcc_graph.proofs.PlacedLemmas.{stands_there, has_name-places, values_from-named, values_within, values_in_groups}
 
 pub reads_at : (entries : List Entry) (table : List (List (ℕ × List ℕ))) (a : ℕ) (b : ℕ) (row : List (ℕ × List ℕ)) → IsReadTable entries (length entries) table
     → a < length entries → b < length entries → row ≡ get_or table a row → of_group row b ≡ reads_from (over entries) a b
@@ -19,7 +29,21 @@ reads_at entries table a b row tables from to is =
     let whole = get_or_read table a row inside is [] ∙ tables.rows a from in
     ap (λ grouped. of_group grouped b) whole ∙ of_group-groups (reads_from (over entries) a) (length entries) b to
 
-module _ (entries : List Entry) (names : List (List ℕ)) (rows : List KeyRow) (keyed : names ≡ keys (over entries)) (x : List ℕ) where
+-- where no session pair is, a causal pair is one of reads
+pub causal_at : (h : History) (a b : ℕ) → a < count h → b < count h → session_pair h a b ≡ false → (r : Bool) → r ≡ has_items (reads_from h a b) → r ≡ causal_pair h a b
+causal_at h a b from to none r is = rw (none, lt-ltb a (count h) from, lt-ltb b (count h) to) is
+
+pub readings_at : (entries : List Entry) (table : List (List (ℕ × List ℕ))) (a : ℕ) (row : List (ℕ × List ℕ)) → IsReadTable entries (length entries) table
+    → a < length entries → row ≡ get_or table a row → (c : ℕ) (x : List ℕ) → Contains (zip (map (λ p. p.0) row) (map (λ p. p.1) row)) (c, x) ↔ IsReadsPair (over entries) a c x
+readings_at entries table a row tables from is c x = rw (zip-map row, whole) (
+  λ h. let w = from_groups (reads_from (over entries) a) (length entries) c x h in (from, w.0, w.1),
+  λ p. in_groups (reads_from (over entries) a) (length entries) c x p.1 p.2,
+)
+  where
+    whole : row ≡ groups (reads_from (over entries) a) (length entries)
+    whole = let inside : a < length table = omega (arith, tables.long) in get_or_read table a row inside is [] ∙ tables.rows a from
+
+module _ (entries : List Entry) (names : List (List ℕ)) (keyed : names ≡ keys (over entries)) (x : List ℕ) where
   no_key : IsAbsent names x → is_key (over entries) x ≡ false
   no_key none = sym (has_name-keys (over entries) x) ∙ rw (← keyed) (absent names x none)
 
@@ -29,17 +53,93 @@ module _ (entries : List Entry) (names : List (List ℕ)) (rows : List KeyRow) (
   pub readers_absent : (a : ℕ) → IsAbsent names x → [] ≡ readers (over entries) a x
   readers_absent a none = sym (no_readers (over entries) x a (no_key none))
 
-  module _ (tables : IsKeyTable entries names (length entries) (length entries) rows) (i : ℕ) (at : StandsAt names x i) (row : KeyRow) (is : row ≡ get_or rows i row) where
-    is_row : row ≡ get_or rows i (record { writers = []; readers = [] })
-    is_row = let inside : i < length rows = omega (arith, at.within, tables.long) in get_or_read rows i row inside is _
+-- ---- what is kept of a range
 
-    pub writers_at : row.writers ≡ writers (over entries) x
-    writers_at =
-        let key : is_key (over entries) x ≡ true = sym (has_name-keys (over entries) x) ∙ rw (← keyed) (present names x i at) in
-        rw key (ap (λ (r : KeyRow). r.writers) is_row ∙ tables.writers i at.within ∙ ap (λ name. filter (λ b. writes (over entries) b name) (numbers (over entries))) at.here)
+kept_filter : (p : ℕ → Bool) (xs : List ℕ) (x : ℕ) → Contains xs x → p x ≡ true → Contains (filter p xs) x
+kept_filter p [] x (k, l, e) t = absurd (omega arith)
+kept_filter p (y ∷ xs) x (zero, l, e) t = let here : p y ≡ true = rw e t in rw here (0, omega arith, e)
+kept_filter p (y ∷ xs) x (suc k, l, e) t = go (p y) (kept_filter p xs x (k, omega arith, e) t)
+  where
+    go : (b : Bool) → Contains (filter p xs) x → Contains (cond b (y ∷ filter p xs) (filter p xs)) x
+    go true w = (suc w.0, omega (arith, w.1), w.2)
+    go false w = w
 
-    pub readers_at : (a : ℕ) → a < length entries → of_group row.readers a ≡ readers (over entries) a x
-    readers_at a from =
-        ap (λ grouped. of_group grouped a) (ap (λ (r : KeyRow). r.readers) is_row ∙ tables.readers i at.within)
-        ∙ of_group-groups (λ s. readers (over entries) s _) (length entries) a from
-        ∙ ap (λ name. readers (over entries) a name) at.here
+in_filter : (p : ℕ → Bool) (n c : ℕ) → Contains (filter p (range_with_len 0 n)) c → (c < n) × (p c ≡ true)
+in_filter p n c w = (All-contains (λ m. m < n) (filter p (range_with_len 0 n)) c (All-filter_range p n) w, All-contains (λ m. p m ≡ true) (filter p (range_with_len 0 n)) c (filter_passes p (range_with_len 0 n)) w)
+
+to_filter : (p : ℕ → Bool) (n c : ℕ) → c < n → p c ≡ true → Contains (filter p (range_with_len 0 n)) c
+to_filter p n c h t = kept_filter p (range_with_len 0 n) c (c, omega (arith, length-range_with_len 0 n), get_or-range_with_len 0 n c c h ∙ zero-add c) t
+
+filter_same : (p q : ℕ → Bool) (n : ℕ) → ((b : ℕ) → b < n → p b ≡ q b) → filter p (range_with_len 0 n) ≡ filter q (range_with_len 0 n)
+filter_same p q zero same = refl
+filter_same p q (suc n) same =
+    let next : suc n ≡ n + 1 = omega arith in
+    ap (λ m. filter p (range_with_len 0 m)) next ∙ filter_range-more p n
+    ∙ ap (λ xs. xs ++ marked (p n) n) (filter_same p q n (λ b h. same b (omega arith)))
+    ∙ ap (λ b. filter q (range_with_len 0 n) ++ marked b n) (same n (omega arith))
+    ∙ sym (filter_range-more q n) ∙ ap (λ m. filter q (range_with_len 0 m)) (sym next)
+
+-- ---- by places
+
+module _ (entries : List Entry) (names : List (List ℕ)) (placed : List Placed) (sorted : IsStrictlySortedBy name_cmp names) (are : ArePlaced names entries placed) where
+  writes_same : (b k : ℕ) → b < length entries → k < length names → writes_place placed k b ≡ writes (over entries) b (name_of names k)
+  writes_same b k h i =
+      let at = are.each b h in
+      ap (λ z. (b == 0) || z) (sym (has_name-places names sorted (placed_of placed b).writes k at.writes_within i) ∙ ap (λ ws. has_name ws (name_of names k)) at.writes)
+
+  pub reads_same : (a b k : ℕ) → b < length entries → k < length names → reads_place placed k a b ≡ has_name (reads_from (over entries) a b) (name_of names k)
+  reads_same a b k h i =
+      let at = are.each b h in
+      sym (has_name-places names sorted (values_from (placed_of placed b).reads a) k (values_within (length names) (placed_of placed b).reads a at.reads_within) i)
+      ∙ ap (λ xs. has_name xs (name_of names k)) (sym (values_from-named names (placed_of placed b).reads a) ∙ ap (λ reads. values_from reads a) at.reads)
+
+  -- the readings of a source, by places
+  module _ (table : List (List (ℕ × ℕ))) (tables : IsPlaceTable (length entries) placed (length entries) table) (a : ℕ) (from : a < length entries) (row : List (ℕ × ℕ)) (is : row ≡ get_or table a row) where
+    whole_row : row ≡ groups (λ b. values_from (placed_of placed b).reads a) (length entries)
+    whole_row = let inside : a < length table = omega (arith, tables.long) in get_or_read table a row inside is [] ∙ tables.rows a from
+
+    pub places_within : All (λ place. place < length names) (map (λ p. p.1) row)
+    places_within = rw whole_row (All-map (λ place. place < length names) (λ p. p.1) (groups (λ b. values_from (placed_of placed b).reads a) (length entries))
+        (values_in_groups (λ place. place < length names) (λ b. values_from (placed_of placed b).reads a) (length entries)
+        (λ b h. values_within (length names) (placed_of placed b).reads a (are.each b h).reads_within)))
+
+    pub place_readings : (c k : ℕ) → Contains (zip (map (λ p. p.0) row) (map (λ p. p.1) row)) (c, k) ↔ ((k < length names) × IsReadsPair (over entries) a c (name_of names k))
+    place_readings c k = rw (zip-map row, whole_row) (
+      λ h.
+          let w = from_groups (λ b. values_from (placed_of placed b).reads a) (length entries) c k h in
+          let at = are.each c w.0 in
+          let below = All-contains (λ j. j < length names) (values_from (placed_of placed c).reads a) k (values_within (length names) (placed_of placed c).reads a at.reads_within) w.1 in
+          (below, (from, w.0, has_name-contains (reads_from (over entries) a c) (name_of names k) (sym (reads_same a c k w.0 below) ∙ number_found (values_from (placed_of placed c).reads a) k w.1))),
+      λ p. in_groups (λ b. values_from (placed_of placed b).reads a) (length entries) c k p.1.1
+          (found_number (values_from (placed_of placed c).reads a) k (reads_same a c k p.1.1 p.0 ∙ contains-has_name (reads_from (over entries) a c) (name_of names k) p.1.2)),
+    )
+
+  -- the rows of the keys
+  module _ (rows : List KeyRow) (tables : IsKeyTable placed (length names) (length entries) (length entries) rows) (k : ℕ) (within : k < length names) (row : KeyRow) (is : row ≡ get_or rows k row) where
+    is_row : row ≡ key_row_of rows k
+    is_row = let inside : k < length rows = omega (arith, tables.long) in get_or_read rows k row inside is _
+
+    pub writers_placed : names ≡ keys (over entries) → row.writers ≡ writers (over entries) (name_of names k)
+    writers_placed keyed =
+        let key : is_key (over entries) (name_of names k) ≡ true = sym (has_name-keys (over entries) (name_of names k)) ∙ rw (← keyed) (present names (name_of names k) k (stands_there names sorted k within)) in
+        rw key (ap (λ (r : KeyRow). r.writers) is_row ∙ tables.writers k within
+        ∙ filter_same (writes_place placed k) (λ b. writes (over entries) b (name_of names k)) (length entries) (λ b h. writes_same b k h within))
+
+    whole_readers : row.readers ≡ groups (λ a. filter (reads_place placed k a) (range_with_len 0 (length entries))) (length entries)
+    whole_readers = ap (λ (r : KeyRow). r.readers) is_row ∙ tables.readers k within ∙ ap (λ n. groups (λ a. filter (reads_place placed k a) (range_with_len 0 n)) (length entries)) are.long
+
+    pub readers_placed : (a : ℕ) → a < length entries → of_group row.readers a ≡ readers (over entries) a (name_of names k)
+    readers_placed a from =
+        ap (λ grouped. of_group grouped a) whole_readers
+        ∙ of_group-groups (λ s. filter (reads_place placed k s) (range_with_len 0 (length entries))) (length entries) a from
+        ∙ filter_same (reads_place placed k a) (λ b. has_name (reads_from (over entries) a b) (name_of names k)) (length entries) (λ b h. reads_same a b k h within)
+
+    pub key_readings : (a c : ℕ) → Contains (zip (map (λ p. p.0) row.readers) (map (λ p. p.1) row.readers)) (a, c) ↔ IsReadsPair (over entries) a c (name_of names k)
+    key_readings a c = rw (zip-map row.readers, whole_readers) (
+      λ h.
+          let w = from_groups (λ s. filter (reads_place placed k s) (range_with_len 0 (length entries))) (length entries) a c h in
+          let v = in_filter (reads_place placed k a) (length entries) c w.1 in
+          (w.0, v.0, has_name-contains (reads_from (over entries) a c) (name_of names k) (sym (reads_same a c k v.0 within) ∙ v.1)),
+      λ p. in_groups (λ s. filter (reads_place placed k s) (range_with_len 0 (length entries))) (length entries) a c p.0
+          (to_filter (reads_place placed k a) (length entries) c p.1 (reads_same a c k p.1 within ∙ contains-has_name (reads_from (over entries) a c) (name_of names k) p.2)),
+    )

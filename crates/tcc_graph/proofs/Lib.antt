@@ -12,16 +12,18 @@
 -- The others serve the proofs of this crate. Lemmas on lists, truth values and results alone: tcc_txn's proofs/Lists.
 pub mod GraphLemmas
 pub mod GroupedLemmas
+pub mod Judged
 pub mod KeyRowLemmas
 pub mod KeyTableLemmas
 pub mod KeysLemmas
 pub mod LastLemmas
+pub mod LaterLemmas
 pub mod Leveled
 pub mod Linking
-pub mod MarkLemmas
 pub mod NameLemmas
 pub mod Numberings
 pub mod Pairs
+pub mod PlacedLemmas
 pub mod TableLemmas
 pub mod Tied
 pub mod Upward

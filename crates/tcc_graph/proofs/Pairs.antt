@@ -1,7 +1,7 @@
 -- Causal pairs, by their test and by their kinds; steps and links, and where they end.
 use Rattle.std.proofs.Common.{◌≡◌, ◌<◌, ◌==◌, ℕ, true, ◌&&◌, ◌||◌, ◌⊎◌, inl, inr, List, [], ◌∷◌, refl, arith, nat_lt}
 use Rattle.std.specs.List.{Contains}
-use Rattle.std.proofs.lemmas.Bool.{or_cases, and_parts, and_from, or_left, or_right, ltb-true, lt-ltb, false≢true}
+use Rattle.std.proofs.lemmas.Bool.{or_cases, and_parts, and_from, or_left, or_right, ltb-true, lt-ltb, eq-eqb, eqb-true, false≢true}
 use Rattle.tcc_reads.specs.History.{History, count, owner, place}
 use Rattle.tcc_graph.specs.Relations.{session_pair, IsSessionPair, reads_from, IsReadsPair, has_items, causal_pair, IsCausalPair}
 use Rattle.tcc_graph.specs.Levels.{Judged}
@@ -79,3 +79,43 @@ pub link_below : (j : Judged) (l : Link) → IsLink j l → (link_from l < count
 link_below j (link.Session a b) p = session_below j.history a b p
 link_below j (link.Reads a b x) p = (p.0, p.1)
 link_below j (link.Derived b a x c walk) p = (p.0.2.0, p.0.1.0)
+
+-- ---- session pairs by session and place
+
+module _ (h : History) where
+  pub lower_first : (m n : ℕ) → 0 < m → m < count h → 0 < n → n < count h → owner h m ≡ owner h n → place h m < place h n → IsSessionPair h m n
+  lower_first m n some below more within same lower =
+      and_from _ _ (and_from _ _ (lt-ltb m (count h) below) (lt-ltb n (count h) within))
+      (or_right _ _ (and_from _ _ (and_from _ _ (and_from _ _ (lt-ltb 0 m some) (lt-ltb 0 n more)) (eq-eqb (owner h m) (owner h n) same)) (lt-ltb (place h m) (place h n) lower)))
+
+  -- `init` stands before all others
+  pub initial_pair : (a b : ℕ) → a ≡ 0 → a < count h → 0 < b → b < count h → IsSessionPair h a b
+  initial_pair a b none below some within = and_from _ _ (and_from _ _ (lt-ltb a (count h) below) (lt-ltb b (count h) within)) (or_left _ _ (and_from _ _ (eq-eqb a 0 none) (lt-ltb 0 b some)))
+
+  -- what a pair says of its two transactions
+  pub record PairParts (a : ℕ) (b : ℕ) : Type 0 where
+    pub from : a < count h
+    pub to : b < count h
+    pub some : 0 < b
+    pub same : 0 < a → owner h a ≡ owner h b
+    pub lower : 0 < a → place h a < place h b
+
+  pub pair_parts : (a b : ℕ) → IsSessionPair h a b → PairParts a b
+  pair_parts a b p = go (or_cases ((a == 0) && nat_lt 0 b) (nat_lt 0 a && nat_lt 0 b && (owner h a == owner h b) && nat_lt (place h a) (place h b)) parts.1)
+    where
+      parts : ((nat_lt a (count h) && nat_lt b (count h)) ≡ true) × ((((a == 0) && nat_lt 0 b) || (nat_lt 0 a && nat_lt 0 b && (owner h a == owner h b) && nat_lt (place h a) (place h b))) ≡ true)
+      parts = and_parts (nat_lt a (count h) && nat_lt b (count h)) (((a == 0) && nat_lt 0 b) || (nat_lt 0 a && nat_lt 0 b && (owner h a == owner h b) && nat_lt (place h a) (place h b))) p
+
+      ends : (a < count h) × (b < count h)
+      ends = let w = and_parts (nat_lt a (count h)) (nat_lt b (count h)) parts.0 in (ltb-true a (count h) w.0, ltb-true b (count h) w.1)
+
+      go : (((a == 0) && nat_lt 0 b) ≡ true) ⊎ ((nat_lt 0 a && nat_lt 0 b && (owner h a == owner h b) && nat_lt (place h a) (place h b)) ≡ true) → PairParts a b
+      go (inl first) =
+          let w = and_parts (a == 0) (nat_lt 0 b) first in
+          let none : a ≡ 0 = eqb-true a 0 w.0 in
+          record { from = ends.0; to = ends.1; some = ltb-true 0 b w.1; same = λ some. absurd (omega arith); lower = λ some. absurd (omega arith) }
+      go (inr second) =
+          let w = and_parts (nat_lt 0 a && nat_lt 0 b && (owner h a == owner h b)) (nat_lt (place h a) (place h b)) second in
+          let v = and_parts (nat_lt 0 a && nat_lt 0 b) (owner h a == owner h b) w.0 in
+          let u = and_parts (nat_lt 0 a) (nat_lt 0 b) v.0 in
+          record { from = ends.0; to = ends.1; some = ltb-true 0 b u.1; same = λ some. eqb-true (owner h a) (owner h b) v.1; lower = λ some. ltb-true (place h a) (place h b) w.1 }

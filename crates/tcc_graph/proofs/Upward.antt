@@ -1,10 +1,10 @@
 -- Routes over numbers from one on upward; every cycle is one such route from its lowest number, begun elsewhere.
-use Rattle.std.proofs.Common.{ℕ, ◌≡◌, ◌<◌, ◌≤◌, ◌+◌, ◌⊎◌, inl, inr, List, [], ◌∷◌, ◌++◌, length, length-append, All, refl, sym, subst, arith}
+use Rattle.std.proofs.Common.{ℕ, ◌≡◌, ◌<◌, ◌≤◌, ◌⊎◌, inl, inr, List, [], ◌∷◌, ◌++◌, All, refl, sym, subst, arith}
 use Rattle.std.proofs.lemmas.Bool.{cases_lt}
 use Rattle.std.proofs.lemmas.List.Elements.{All-nil, All-cons}
 use Rattle.tcc_graph.specs.Levels.{Judged}
 use Rattle.tcc_graph.specs.Links.{link_from, link_to, cost}
-use Rattle.tcc_graph.specs.Routes.{LinksLead, IsRoute, IsCycle, IsUpward, IsUpwardRoute}
+use Rattle.tcc_graph.specs.Routes.{LinksLead, IsCycle, IsUpward, IsUpwardRoute}
 use Rattle.tcc_graph.specs.declared.link.Link.{Link}
 use Rattle.tcc_graph.proofs.Linking.{cost_cons, cost_append, cost_around, lead_append, lead_split}
 

@@ -6,6 +6,7 @@ use Rattle.std.specs.Cmp.Lexicographic.{slice_cmp}
 use Rattle.std.specs.BTreeSet.{insert_key}
 use Rattle.tcc_reads.specs.History.{Entry, History, count, entry_at}
 use Rattle.tcc_graph.specs.Relations.{reads_from}
+use Rattle.tcc_graph.specs.Places.{name_of}
 
 -- a list of names has the name x
 abbrev pub has_name : List (List ℕ) → List ℕ → Bool
@@ -23,6 +24,10 @@ with_names sorted names = fold (insert_key (slice_cmp nat_cmp)) sorted names
 -- the keys in operations of committed transactions, in byte order, each once
 abbrev pub keys : History → List (List ℕ)
 keys h = with_names [] (flat_map keys_of h.entries)
+
+-- the key at a place among them
+abbrev pub key_at : History → ℕ → List ℕ
+key_at h k = name_of (keys h) k
 
 abbrev pub is_key : History → List ℕ → Bool
 is_key h x = list_any (λ e. has_name (keys_of e) x) h.entries

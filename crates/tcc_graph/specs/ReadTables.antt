@@ -1,29 +1,56 @@
--- Serves proofs alone; nobody has to believe it: the tables of reads and of marks, and how they are made.
-use Rattle.std.specs.Prelude.{ℕ, ◌<◌, ◌≤◌, ◌≡◌, ◌==◌, List, [], ◌++◌, length, map, filter, slice_index_or, All, Bool, false}
-use Rattle.std.specs.List.{list_any}
+-- Serves proofs alone; nobody has to believe it: the tables of reads, by names and by places, and how they are made.
+use Rattle.std.specs.Prelude.{ℕ, ◌<◌, ◌≤◌, ◌≡◌, ◌==◌, List, [], ◌++◌, length, map, filter, slice_index_or, All}
 use Rattle.tcc_txn.specs.declared.limits.TheConstants.{MAX_COUNT}
-use Rattle.tcc_reads.specs.History.{Entry, History, initial}
-use Rattle.tcc_graph.specs.Relations.{reads_from, has_items}
+use Rattle.tcc_reads.specs.History.{Entry, History, IsBySession, initial}
 use Rattle.tcc_graph.specs.Grouped.{as_group, groups}
+use Rattle.tcc_graph.specs.Places.{name_of}
 use Rattle.tcc_graph.specs.Tables.{row_of}
 
--- the keys read from a, of reads with their sources
-abbrev pub keys_from : List (List ℕ × ℕ) → ℕ → List (List ℕ)
-keys_from reads a = map (λ read. read.0) (filter (λ read. read.1 == a) reads)
+-- what is read from a, of reads with their sources
+abbrev pub values_from : {X : Type 0} → List (X × ℕ) → ℕ → List X
+values_from reads a = map (λ read. read.0) (filter (λ read. read.1 == a) reads)
 
 -- each read of a transaction went to the end of the row of its source
-pub record AddsReads (old : List (List (ℕ × List ℕ))) (new : List (List (ℕ × List ℕ))) (reader : ℕ) (reads : List (List ℕ × ℕ)) : Type 0 where
+pub record AddsReads (X : Type 0) (old : List (List (ℕ × X))) (new : List (List (ℕ × X))) (reader : ℕ) (reads : List (X × ℕ)) : Type 0 where
   pub long : length new ≡ length old
-  pub rows : (a : ℕ) → row_of new a ≡ row_of old a ++ as_group reader (keys_from reads a)
+  pub rows : (a : ℕ) → row_of new a ≡ row_of old a ++ as_group reader (values_from reads a)
+
+-- the row of each of `count` transactions has what the first n transactions read from it, each with its reader
+pub record IsSourceTable (X : Type 0) (count : ℕ) (reads : ℕ → List (X × ℕ)) (n : ℕ) (table : List (List (ℕ × X))) : Type 0 where
+  pub long : length table ≡ count
+  pub rows : (a : ℕ) → a < count → row_of table a ≡ groups (λ b. values_from (reads b) a) n
 
 -- the history of these transactions, with no sessions: the relations ask for none
 abbrev pub over : List Entry → History
 over entries = record { sessions = []; entries = entries }
 
 -- the row of each transaction has the keys that the first n transactions read from it, each with its reader
-pub record IsReadTable (entries : List Entry) (n : ℕ) (table : List (List (ℕ × List ℕ))) : Type 0 where
-  pub long : length table ≡ length entries
-  pub rows : (a : ℕ) → a < length entries → row_of table a ≡ groups (reads_from (over entries) a) n
+abbrev pub IsReadTable : List Entry → ℕ → List (List (ℕ × List ℕ)) → Type 0
+IsReadTable entries n table = IsSourceTable (List ℕ) (length entries) (λ b. (slice_index_or entries b initial).reads) n table
+
+-- what a transaction writes and reads, by the places of the keys
+pub record Placed : Type 0 where
+  pub writes : List ℕ
+  pub reads : List (ℕ × ℕ)
+
+abbrev pub placed_of : List Placed → ℕ → Placed
+placed_of placed n = slice_index_or placed n (record { writes = []; reads = [] })
+
+-- the places are those of the transaction's keys among these names
+pub record IsPlaced (names : List (List ℕ)) (e : Entry) (p : Placed) : Type 0 where
+  pub writes : map (name_of names) p.writes ≡ e.writes
+  pub reads : map (λ read. (name_of names read.0, read.1)) p.reads ≡ e.reads
+  pub writes_within : All (λ k. k < length names) p.writes
+  pub reads_within : All (λ read. read.0 < length names) p.reads
+
+-- so for each transaction
+pub record ArePlaced (names : List (List ℕ)) (entries : List Entry) (placed : List Placed) : Type 0 where
+  pub long : length placed ≡ length entries
+  pub each : (n : ℕ) → n < length entries → IsPlaced names (slice_index_or entries n initial) (placed_of placed n)
+
+-- the row of each transaction has the places of the keys that the first n transactions read from it, each with its reader
+abbrev pub IsPlaceTable : ℕ → List Placed → ℕ → List (List (ℕ × ℕ)) → Type 0
+IsPlaceTable count placed n table = IsSourceTable ℕ count (λ b. (placed_of placed b).reads) n table
 
 -- each read of a transaction has its source among n transactions
 abbrev pub HasSources : ℕ → Entry → Type 0
@@ -35,14 +62,5 @@ pub record IsListOf (h : History) (entries : List Entry) : Type 0 where
   pub some : 0 < length entries
   pub few : length entries ≤ MAX_COUNT
   pub owners : (n : ℕ) → 0 < n → n < length entries → (slice_index_or entries n initial).owner < length h.sessions
+  pub ordered : IsBySession entries
   pub sources : All (HasSources (length entries)) entries
-
--- of the first n rows, each has the marks of the groups in the row of the other table
-pub record MarksGroups (table : List (List (ℕ × List ℕ))) (n : ℕ) (marks : List (List Bool)) : Type 0 where
-  pub long : length marks ≡ n
-  pub rows : (a : ℕ) (b : ℕ) → a < n → slice_index_or (row_of marks a) b false ≡ list_any (λ m. m == b) (map (λ p. p.0) (row_of table a))
-
--- marked are the transactions that read some key from each transaction
-pub record IsMarkTable (entries : List Entry) (marks : List (List Bool)) : Type 0 where
-  pub long : length marks ≡ length entries
-  pub rows : (a : ℕ) (b : ℕ) → a < length entries → b < length entries → slice_index_or (row_of marks a) b false ≡ has_items (reads_from (over entries) a b)

@@ -1,18 +1,21 @@
 //! The graph of a resolved history.
-ghost use Rattle.std.specs.Prelude.{◌≡◌, ◌≤◌, ◌<◌, ◌++◌, length, IfOk, string_bytes};
+ghost use Rattle.std.specs.Prelude.{◌≡◌, ◌≤◌, ◌<◌, ◌+◌, ◌++◌, ◌↔◌, ℕ, List, length, zip, map, All, Contains, IfOk, IsTrue, string_bytes};
 ghost use Rattle.tcc_txn.specs.declared.limits.TheConstants.{MAX_COUNT, MAX_SESSIONS};
-ghost use Rattle.tcc_reads.specs.History.{History, count};
-ghost use Rattle.tcc_graph.specs.Relations.{session_pair, reads_from, causal_pair};
-ghost use Rattle.tcc_graph.specs.Keys.{keys, writers, readers};
+ghost use Rattle.tcc_reads.specs.History.{History, IsBySession, count, entry_at, owner};
+ghost use Rattle.tcc_graph.specs.Relations.{IsSessionPair, session_pair, reads_from, causal_pair, IsReadsPair};
+ghost use Rattle.tcc_graph.specs.Keys.{keys, key_at, writers, readers};
 ghost use Rattle.tcc_graph.specs.Numbers.{at, label};
+ghost use Rattle.tcc_graph.specs.Links.{IsLink};
 
 use crate::grouped::Grouped;
+use crate::judging::is_link;
 use crate::key_row::KeyRow;
 use crate::key_table::{key_table, place_of};
 use crate::keys::sorted_keys;
-use crate::marks::Marks;
-use crate::tables::{mark_table, read_table, transactions_of};
+use crate::placed::{Placed, placed_by};
+use crate::tables::{place_table, read_table, transactions_of};
 use crate::transaction::Transaction;
+use crate::{Level, Link};
 use std::alloc::Global;
 use std::marker::Model;
 use tcc_reads::Resolved;
@@ -25,8 +28,9 @@ pub struct Graph {
     sessions: Vec<Name>,
     transactions: Vec<Transaction>,
     reads: Vec<Grouped<Name>>,
-    marks: Vec<Marks>,
     keys: Vec<Name>,
+    placed: Vec<Placed>,
+    places: Vec<Grouped<u32>>,
     rows: Vec<KeyRow>,
 }
 
@@ -38,7 +42,7 @@ impl Model for Graph {
 
     ghost view = { λ g. record { sessions = g.sessions.items; entries = g.transactions.items } };
 
-    ghost invariant = { λ g. IsGraph g.sessions.items g.transactions.items g.reads.items g.marks.items g.keys.items g.rows.items };
+    ghost invariant = { λ g. IsGraph g.sessions.items g.transactions.items g.reads.items g.keys.items g.placed.items g.places.items g.rows.items };
 }
 
 impl Graph {
@@ -48,16 +52,18 @@ impl Graph {
     {
         let transactions = transactions_of(alloc, resolved)?;
         let reads = read_table(alloc, &transactions)?;
-        let marks = mark_table(alloc, &transactions, &reads)?;
         let keys = sorted_keys(alloc, &transactions)?;
-        let rows = key_table(alloc, &keys, &transactions, &reads, &marks)?;
+        let placed = placed_by(alloc, &keys, &transactions)?;
+        let places = place_table(alloc, &placed)?;
+        let rows = key_table(alloc, keys.len(), &placed, &places)?;
         let sessions = resolved.sessions().iter().copied().collect(alloc)?;
         Ok(Graph {
             sessions,
             transactions,
             reads,
-            marks,
             keys,
+            placed,
+            places,
             rows,
         })
     }
@@ -71,10 +77,13 @@ impl Graph {
         self.transactions.len() as u32
     }
 
-    /// The names of the sessions, in byte order, also of those without committed transactions.
+    /// The names of the sessions, in byte order, also of those without committed transactions. Transactions are numbered
+    /// by session in this order, and in a session by place.
     pub fn sessions(&self) -> &[Name]
         ensures value { result.now ≡ self.now.sessions }
         ensures few { length result.now ≤ MAX_SESSIONS }
+        ensures numbered { IsBySession self.now.entries }
+        ensures owners { (n : ℕ) → 0 < n → n < count self.now → owner self.now n < length result.now }
     {
         &self.sessions
     }
@@ -105,6 +114,25 @@ impl Graph {
         from.owner() == to.owner() && from.place() < to.place()
     }
 
+    /// The first number with a session pair from `u`, and one past the last one, all between them having one too; both
+    /// `u + 1` where there is none.
+    pub fn later(&self, u: u32) -> (u32, u32)
+        requires { u < count self.now }
+        ensures first { result.0 ≡ u + 1 }
+        ensures order { result.0 ≤ result.1 }
+        ensures few { result.1 ≤ count self.now }
+        ensures pairs { (v : ℕ) → IsSessionPair self.now u v ↔ ((result.0 ≤ v) × (v < result.1)) }
+    {
+        if u == 0 {
+            return (1, self.count());
+        }
+        let owner = self.transactions[u as usize].owner();
+        let end = self
+            .transactions
+            .partition_point(|other| other.owner() <= owner);
+        (u + 1, end as u32)
+    }
+
     /// The keys that `b` reads from `a`, in byte order.
     pub fn reads_from(&self, a: u32, b: u32) -> &[Name]
         requires from { a < count self.now }
@@ -114,13 +142,40 @@ impl Graph {
         self.reads[a as usize].get(b)
     }
 
+    /// The keys that a transaction reads, each with the transaction that it reads it from.
+    pub fn reads(&self, c: u32) -> &[(Name, u32)]
+        requires { c < count self.now }
+        ensures value { result.now ≡ (entry_at self.now c).reads }
+        ensures sources { All (λ read. read.1 < count self.now) result.now }
+    {
+        self.transactions[c as usize].reads()
+    }
+
+    /// The keys that a transaction writes visibly; none for `init`, which writes every key.
+    pub fn writes(&self, b: u32) -> &[Name]
+        requires { b < count self.now }
+        ensures { result.now ≡ (entry_at self.now b).writes }
+    {
+        self.transactions[b as usize].writes()
+    }
+
+    /// Who reads from `a`, by ascending number, and beside each the key that it reads there.
+    pub fn readings(&self, a: u32) -> (&[u32], &[Name])
+        requires { a < count self.now }
+        ensures long { length result.0.now ≡ length result.1.now }
+        ensures each { (c : ℕ) (x : List ℕ) → Contains (zip result.0.now result.1.now) (c, x) ↔ IsReadsPair self.now a c x }
+    {
+        let reads = &self.reads[a as usize];
+        (reads.groups(), reads.values())
+    }
+
     /// Whether `a` stands before `b` in session order, or `b` reads a key from `a`.
     pub fn causal(&self, a: u32, b: u32) -> bool
         requires from { a < count self.now }
         requires to { b < count self.now }
         ensures { result ≡ causal_pair self.now a b }
     {
-        self.session(a, b) || self.marks[a as usize].has(b)
+        self.session(a, b) || self.reads[a as usize].has(b)
     }
 
     /// The keys in operations of committed transactions, in byte order, each once.
@@ -149,6 +204,61 @@ impl Graph {
             Some(place) => self.rows[place].readers(a),
             None => &[],
         }
+    }
+
+    /// Whether the link is one of the history at the level. Its numbers may be any: past the last there is no link.
+    pub fn is_link(&self, level: Level, link: &Link) -> bool
+        ensures { IsTrue result ↔ IsLink (record { history = self.now; level = level }) link.now }
+    {
+        is_link(self, level, link)
+    }
+
+    /// The transactions that write the key at a place visibly, ascending, `init` first.
+    pub fn writers_at(&self, place: u32) -> &[u32]
+        requires { place < length (keys self.now) }
+        ensures { result.now ≡ writers self.now (key_at self.now place) }
+    {
+        self.rows[place as usize].writers()
+    }
+
+    /// Who reads the key at a place: the sources by ascending number, and beside each a reader of the key from it.
+    pub fn readings_of(&self, place: u32) -> (&[u32], &[u32])
+        requires { place < length (keys self.now) }
+        ensures long { length result.0.now ≡ length result.1.now }
+        ensures each { (a c : ℕ) → Contains (zip result.0.now result.1.now) (a, c) ↔ IsReadsPair self.now a c (key_at self.now place) }
+    {
+        let readers = self.rows[place as usize].all_readers();
+        (readers.groups(), readers.values())
+    }
+
+    /// Who reads from `a`, by ascending number, and beside each the place of the key that it reads there.
+    pub fn readings_at(&self, a: u32) -> (&[u32], &[u32])
+        requires { a < count self.now }
+        ensures long { length result.0.now ≡ length result.1.now }
+        ensures within { All (λ place. place < length (keys self.now)) result.1.now }
+        ensures each { (c place : ℕ) → Contains (zip result.0.now result.1.now) (c, place)
+            ↔ ((place < length (keys self.now)) × IsReadsPair self.now a c (key_at self.now place)) }
+    {
+        let places = &self.places[a as usize];
+        (places.groups(), places.values())
+    }
+
+    /// The places of the keys that a transaction reads, each with the transaction that it reads it from.
+    pub fn reads_at(&self, c: u32) -> &[(u32, u32)]
+        requires { c < count self.now }
+        ensures value { map (λ read. (key_at self.now read.0, read.1)) result.now ≡ (entry_at self.now c).reads }
+        ensures within { All (λ read. (read.0 < length (keys self.now)) × (read.1 < count self.now)) result.now }
+    {
+        self.placed[c as usize].reads()
+    }
+
+    /// The places of the keys that a transaction writes visibly, ascending; none for `init`, which writes every key.
+    pub fn writes_at(&self, b: u32) -> &[u32]
+        requires { b < count self.now }
+        ensures value { map (key_at self.now) result.now ≡ (entry_at self.now b).writes }
+        ensures within { All (λ place. place < length (keys self.now)) result.now }
+    {
+        self.placed[b as usize].writes()
     }
 
     /// `init` for number 0, else the name of the session, a slash and the place.

@@ -2,6 +2,7 @@
 ghost use Rattle.std.specs.Prelude.{◌≡◌, ◌≤◌, ◌++◌, [], ◌∷◌, map, All, OnOk};
 ghost use Rattle.std.specs.List.Sorted.{IsNonDecreasing};
 ghost use Rattle.tcc_graph.specs.Grouped.{of_group, IsSpan};
+ghost use Rattle.tcc_graph.specs.Relations.{has_items};
 ghost use Rattle.tcc_graph.specs.KeyRows.{is_last, is_last_pair};
 
 use std::alloc::Global;
@@ -65,6 +66,21 @@ impl<T: Copy> Grouped<T> {
         ensures { result.now ≡ map (λ p. p.0) self.now }
     {
         &self.groups
+    }
+
+    /// The values, in the order in which they came.
+    pub(crate) fn values(&self) -> &[T]
+        ensures { result.now ≡ map (λ p. p.1) self.now }
+    {
+        &self.values
+    }
+
+    /// Whether the group has values.
+    pub(crate) fn has(&self, group: u32) -> bool
+        ensures { result ≡ has_items (of_group self.now group) }
+    {
+        let (start, end) = span(&self.groups, group);
+        start < end
     }
 
     /// The values of a group, in the order in which they came.

@@ -70,6 +70,13 @@ impl KeyRow {
         &self.writers
     }
 
+    /// The readers, each in the group of its source.
+    pub(crate) fn all_readers(&self) -> &Grouped<u32>
+        ensures { result.now ≡ self.now.readers }
+    {
+        &self.readers
+    }
+
     /// The readers that read from a source.
     pub(crate) fn readers(&self, source: u32) -> &[u32]
         ensures { result.now ≡ of_group self.now.readers source }

@@ -1,5 +1,5 @@
 //! The keys of a history.
-ghost use Rattle.std.specs.Prelude.{◌≡◌, map, OnOk, IfOk};
+ghost use Rattle.std.specs.Prelude.{◌≡◌, ◌≤◌, length, map, OnOk, IfOk};
 ghost use Rattle.std.specs.List.Sorted.{IsStrictlySortedBy};
 ghost use Rattle.std.specs.Ordering.{nat_cmp};
 ghost use Rattle.std.specs.Cmp.Lexicographic.{slice_cmp};
@@ -43,13 +43,19 @@ fn key_set(alloc: Global, transactions: &[Transaction]) -> Result<BTreeSet<Name>
     Ok(set)
 }
 
-/// The keys that the transactions write and read, in byte order, each once.
+/// The keys that the transactions write and read, in byte order, each once. More than a number of 32 bits counts are
+/// answered as want of memory.
 pub(crate) fn sorted_keys(
     alloc: Global,
     transactions: &[Transaction],
 ) -> Result<Vec<Name>, NoMemory>
-    ensures { IfOk result (λ names. (names.items ≡ keys (over transactions.now)) × IsStrictlySortedBy (slice_cmp nat_cmp) names.items) }
+    ensures value { IfOk result (λ names. (names.items ≡ keys (over transactions.now)) × IsStrictlySortedBy (slice_cmp nat_cmp) names.items) }
+    ensures few { IfOk result (λ names. length names.items ≤ u32.MAX) }
 {
     let set = key_set(alloc, transactions)?;
-    Ok(set.into_iter().collect(alloc)?)
+    let names: Vec<Name> = set.into_iter().collect(alloc)?;
+    if names.len() > u32::MAX as usize {
+        return Err(NoMemory);
+    }
+    Ok(names)
 }

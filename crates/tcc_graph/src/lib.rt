@@ -3,6 +3,7 @@
 
 mod graph;
 mod grouped;
+mod judging;
 mod key_row;
 mod key_table;
 mod keys;
@@ -10,7 +11,7 @@ pub mod laws;
 mod level;
 mod limits;
 mod link;
-mod marks;
+mod placed;
 mod step;
 mod tables;
 mod transaction;

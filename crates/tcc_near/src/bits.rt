@@ -9,14 +9,14 @@ use std::alloc::AllocError;
 const WORD: usize = 64;
 
 /// How many words have room for this many marks.
-pub(crate) fn words_for(count: usize) -> usize
+pub fn words_for(count: usize) -> usize
     ensures { result ≡ words_for count }
 {
     count / WORD + 1
 }
 
 /// Whether the number is marked.
-pub(crate) fn is_marked(words: &[u64], number: usize) -> bool
+pub fn is_marked(words: &[u64], number: usize) -> bool
     ensures { result ≡ is_marked words.now number }
 {
     match words.get(number / WORD) {
@@ -26,7 +26,7 @@ pub(crate) fn is_marked(words: &[u64], number: usize) -> bool
 }
 
 /// Marks a number.
-pub(crate) fn mark(words: &mut [u64], number: usize)
+pub fn mark(words: &mut [u64], number: usize)
     requires { number / 64 < length words.old }
     ensures same { length words.new ≡ length words.old }
     ensures each { (b : ℕ) → is_marked words.new b ≡ (is_marked words.old b || (b == number)) }
@@ -35,7 +35,7 @@ pub(crate) fn mark(words: &mut [u64], number: usize)
 }
 
 /// Marks these numbers.
-pub(crate) fn mark_each(words: &mut [u64], numbers: &[u32])
+pub fn mark_each(words: &mut [u64], numbers: &[u32])
     requires { All (λ number. number / 64 < length words.old) numbers.now }
     ensures same { length words.new ≡ length words.old }
     ensures each { (b : ℕ) → (is_marked words.new b ≡ true) ↔ ((is_marked words.old b ≡ true) ⊎ Contains numbers.now b) }
@@ -46,7 +46,7 @@ pub(crate) fn mark_each(words: &mut [u64], numbers: &[u32])
 }
 
 /// Marks what the other row, of the same length, marks too.
-pub(crate) fn merge(words: &mut [u64], other: &[u64])
+pub fn merge(words: &mut [u64], other: &[u64])
     requires { length words.old ≡ length other.now }
     ensures same { length words.new ≡ length words.old }
     ensures each { (b : ℕ) → is_marked words.new b ≡ (is_marked words.old b || is_marked other.now b) }
@@ -72,11 +72,7 @@ fn push_marked(numbers: &mut Vec<u32>, word: u64, first: u32) -> Result<(), Allo
 }
 
 /// The numbers that are marked and have not been seen; they are seen from now on.
-pub(crate) fn take_fresh(
-    fresh: &mut Vec<u32>,
-    seen: &mut [u64],
-    marks: &[u64],
-) -> Result<(), AllocError>
+pub fn take_fresh(fresh: &mut Vec<u32>, seen: &mut [u64], marks: &[u64]) -> Result<(), AllocError>
     requires same { length seen.old ≡ length marks.now }
     requires few { length marks.now ≤ 2 ^ 20 }
     ensures same { length seen.new ≡ length seen.old }

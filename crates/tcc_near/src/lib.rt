@@ -3,7 +3,7 @@
 #![tactic(auto)]
 
 mod behind;
-mod bits;
+pub mod bits;
 mod clock;
 mod deltas;
 mod distances;

@@ -7,14 +7,19 @@ use Rattle.tcc_graph.specs.Orders.{Before, IsCommitOrder, IsFirstOrder}
 use Rattle.tcc_graph.specs.Routes.{LinksLead, IsRoute, HasCycle}
 use Rattle.tcc_graph.specs.declared.link.Link.{Link}
 use Rattle.tcc_graph.specs.declared.link.Link.TheVariants as link
-use Rattle.tcc_derive.specs.Prices.{IsLinkOf}
 use Rattle.tcc_graph.proofs.Pairs.{link_below}
 use Rattle.tcc_order.specs.Numbering.{IsOrderOf, IsFirstOf, Joins, HasCircle}
 use Rattle.tcc_order.proofs.Greedy.{IsBelow}
 
+-- a link with these ends
+pub record HasEnds (j : Judged) (a b : ℕ) (l : Link) : Type 0 where
+  pub from : link_from l ≡ a
+  pub to : link_to l ≡ b
+  pub link : IsLink j l
+
 -- some link leads from a to b
 abbrev pub IsLinked : Judged → ℕ → ℕ → Type 0
-IsLinked j a b = (l : Link) × IsLinkOf j a b l
+IsLinked j a b = (l : Link) × HasEnds j a b l
 
 -- the relation has the pairs that some link leads over, and no others
 abbrev pub IsPrecedence : Judged → (ℕ → ℕ → Bool) → Type 0

@@ -1,11 +1,17 @@
 pub mod Greedy
 pub mod Circle
-pub mod Leading
 pub mod Kept
 pub mod Within
 pub mod Reached
 pub mod Linked
 pub mod OrderOrCycle
-pub mod Passing
-pub mod Waiting
+pub mod KeyLemmas
+pub mod Reaching
+pub mod MissingBits
+pub mod Picking
+pub mod Links
+pub mod Rows
+pub mod Contradicting
+pub mod Heads
+pub mod LastLemmas
 mod Worked

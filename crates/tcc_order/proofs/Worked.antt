@@ -8,13 +8,12 @@ use Rattle.tcc_graph.specs.declared.level.Level.TheVariants as level
 use Rattle.tcc_graph.specs.Links.{IsReason}
 use Rattle.tcc_graph.specs.Orders.{IsCommitOrder}
 use Rattle.tcc_graph.specs.declared.step.Step.TheVariants as step
-use Rattle.tcc_derive.specs.Prices.{Tables}
-use Rattle.tcc_order.specs.Numbering.{Joins, HasCircle, passing}
-use Rattle.tcc_order.specs.Leads.{leads}
+use Rattle.tcc_order.specs.Numbering.{Joins, HasCircle}
+use Rattle.tcc_order.specs.Behind.{stands, session_parent, parents}
+use Rattle.tcc_near.specs.Bits.{is_marked}
 use Rattle.tcc_order.proofs.Reached.{walks}
 use Rattle.tcc_order.proofs.Linked.{linked, linked_precedence}
 use Rattle.tcc_order.proofs.OrderOrCycle.{no_cycle}
-use Rattle.tcc_near.specs.declared.distances.TheConstants.{NONE}
 use Rattle.tcc_graph.proofs.Worked.{x, y, entry, stale_read, stale_cycle, stale_read-cycle, long_chain, chain_link, long_chain-link}
 
 -- ---- a/1 writes x, and a/2 reads the initial value of x: there is a cycle, and so no order
@@ -74,33 +73,32 @@ later_writer-not_by_number k o =
     let w = o.axiom_of 2 1 x 3 (step.Reads 2 3 y ∷ []) (later_writer-reason k) in
     absurd (omega (arith, w.2, two_at w.0 w.4, one_at w.1 w.5))
 
--- ---- a table of costs: a link from 0 to 1 and one from 1 to 2, one of them derived
+-- ---- rows of marks: 0 stands before 1, and 0 and 1 stand before 2
 
-abbrev onward : Tables
-onward = record {
-  level = level.Causal;
-  prices = (NONE ∷ NONE ∷ NONE ∷ []) ∷ (NONE ∷ NONE ∷ 3 ∷ []) ∷ (NONE ∷ NONE ∷ NONE ∷ []) ∷ [];
-  costs = (NONE ∷ 1 ∷ NONE ∷ []) ∷ (NONE ∷ NONE ∷ 3 ∷ []) ∷ (NONE ∷ NONE ∷ NONE ∷ []) ∷ [];
-}
+abbrev onward : List (List ℕ)
+onward = (0 ∷ []) ∷ (1 ∷ []) ∷ (3 ∷ []) ∷ []
 
-onward-leads : (leads onward 0 1 ≡ true) × (leads onward 1 2 ≡ true) × (leads onward 1 0 ≡ false) × (leads onward 0 2 ≡ false) × (leads onward 2 3 ≡ false)
-onward-leads = (refl, refl, refl, refl, refl)
+onward-stands : (stands onward 0 1 ≡ true) × (stands onward 1 2 ≡ true) × (stands onward 1 0 ≡ false) × (stands onward 2 1 ≡ false) × (stands onward 2 3 ≡ false)
+unfolding is_marked
+onward-stands = (refl, refl, refl, refl, refl)
 
--- one number leads to 2, by its column and not by its row
-onward-counted : (passing (λ a. leads onward a 2) 3 ≡ 1) × (passing (λ a. leads onward a 0) 3 ≡ 0)
-unfolding passing
-onward-counted = (refl, refl)
-
-onward-joins : Joins (leads onward) 0 2 (1 ∷ [])
+onward-joins : Joins (stands onward) 0 2 (1 ∷ [])
+unfolding is_marked
 onward-joins = (refl, refl)
 
--- two numbers with links both ways lead in a circle
-abbrev crossed : Tables
-crossed = record {
-  level = level.Causal;
-  prices = (NONE ∷ NONE ∷ []) ∷ (2 ∷ NONE ∷ []) ∷ [];
-  costs = (NONE ∷ 1 ∷ []) ∷ (2 ∷ NONE ∷ []) ∷ [];
-}
+-- each marks the other: they stand in a circle
+abbrev crossed : List (List ℕ)
+crossed = (2 ∷ []) ∷ (1 ∷ []) ∷ []
 
-crossed-circle : HasCircle (leads crossed)
+crossed-circle : HasCircle (stands crossed)
+unfolding is_marked
 crossed-circle = (0, 1 ∷ [], (refl, refl))
+
+-- ---- parents: c/1 reads from a/1 and b/1, and nothing stands before it in its session but `init`
+
+later_writer-parents : (parents later_writer 3 ≡ 0 ∷ 1 ∷ 2 ∷ []) × (parents later_writer 1 ≡ 0 ∷ []) × (parents later_writer 0 ≡ [])
+later_writer-parents = (refl, refl, refl)
+
+-- in one session the one right before: of a/2 that is a/1
+stale_read-parent : session_parent stale_read 2 ≡ 1
+stale_read-parent = refl

@@ -1,2 +1,3 @@
 pub mod Numbering
-pub mod Leads
+pub mod Behind
+pub mod Lasts

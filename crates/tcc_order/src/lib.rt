@@ -1,8 +1,14 @@
-//! The first commit order of a history at a level, and the law that there is one exactly where there is no cycle.
+//! The first commit order of a history at a level, from rows of bits and with no tables of costs; and the law that there is
+//! one exactly where there is no cycle.
 #![tactic(auto)]
 
+mod before;
+mod behind;
+mod clocking;
+mod into;
 pub mod laws;
 mod numbering;
 mod ordering;
 
+pub use clocking::clocks;
 pub use ordering::order;

@@ -1,20 +1,60 @@
 //! The first commit order of a history at a level.
-ghost use Rattle.std.specs.Prelude.{IfOk, MatchOption};
-ghost use Rattle.tcc_graph.specs.Levels.{Judged};
+ghost use Rattle.std.specs.Prelude.{◌≡◌, length, IfOk, MatchOption};
+ghost use Rattle.tcc_reads.specs.History.{IsBySession, count};
+ghost use Rattle.tcc_graph.specs.Relations.{IsCausalPair};
 ghost use Rattle.tcc_graph.specs.Orders.{IsFirstOrder};
 ghost use Rattle.tcc_graph.specs.Routes.{HasCycle};
-ghost use Rattle.tcc_derive.specs.Prices.{IsPricesOf};
+ghost use Rattle.tcc_graph.specs.declared.level.Level.{Level};
+ghost use Rattle.tcc_order.specs.Behind.{IsTableOf, IsAllowedFrom, AreSessionParents};
 
+use crate::before::rows_before;
+use crate::behind::rows_behind;
+use crate::into::{pairs_into, session_parents};
 use crate::numbering::first_numbering;
 use std::alloc::Global;
-use tcc_derive::Prices;
+use tcc_graph::{Graph, Level};
+use tcc_near::Row;
 use tcc_txn::NoMemory;
 
-/// The first commit order at the level of the prices, compared as lists of numbers; none exactly where there is a cycle.
-pub fn order(alloc: Global, prices: &Prices) -> Result<Option<Vec<u32>>, NoMemory>
-    ensures { (j : Judged) → IsPricesOf j prices.now → IfOk result (λ found. MatchOption found
-        (HasCycle j)
-        (λ order. IsFirstOrder j order.items)) }
+/// The first commit order at the level by whose walks the rows say what stands behind each transaction.
+fn order_by(
+    alloc: Global,
+    graph: &Graph,
+    into: &[Row<u64>],
+    behind: &[Row<u64>],
+    parents: &[u32],
+) -> Result<Option<Vec<u32>>, NoMemory>
+    requires into { IsTableOf (count graph.now) (IsCausalPair graph.now) into.now }
+    requires long { length behind.now ≡ count graph.now }
+    requires numbered { IsBySession graph.now.entries }
+    requires parents { AreSessionParents graph.now parents.now }
+    ensures { IfOk result (λ found. (level : Level) → IsTableOf (count graph.now) (IsAllowedFrom (record { history = graph.now; level = level })) behind.now
+        → MatchOption found
+        (HasCycle (record { history = graph.now; level = level }))
+        (λ order. IsFirstOrder (record { history = graph.now; level = level }) order.items)) }
 {
-    first_numbering(alloc, prices)
+    let before = rows_before(alloc, graph, into, behind)?;
+    first_numbering(alloc, &before, parents)
+}
+
+/// The first commit order of a history at a level, compared as lists of numbers; none exactly where there is a cycle.
+pub fn order(alloc: Global, graph: &Graph, level: Level) -> Result<Option<Vec<u32>>, NoMemory>
+    ensures { IfOk result (λ found. MatchOption found
+        (HasCycle (record { history = graph.now; level = level }))
+        (λ order. IsFirstOrder (record { history = graph.now; level = level }) order.items)) }
+{
+    // transactions stand by session and by place, as this call says
+    graph.sessions();
+    let parents = session_parents(alloc, graph)?;
+    let into = pairs_into(alloc, graph)?;
+    match level {
+        Level::Atomic => order_by(alloc, graph, &into, &into, &parents),
+        Level::Causal => {
+            let Some(order) = first_numbering(alloc, &into, &parents)? else {
+                return Ok(None);
+            };
+            let behind = rows_behind(alloc, graph, &into, &order)?;
+            order_by(alloc, graph, &into, &behind, &parents)
+        }
+    }
 }

@@ -18,12 +18,13 @@ use Rattle.tcc_reads.specs.Sites.{Stand, is_committed, stands, committed}
 use Rattle.tcc_reads.specs.Numbers.{Numbered, numbered_from}
 use Rattle.tcc_reads.specs.Sources.{shows, source, external_reads, sorted_once, pair_cmp, entry_of, history}
 use Rattle.tcc_reads.specs.Faults.{writer, read_faults}
-use Rattle.tcc_reads.specs.History.{places_of}
+use Rattle.tcc_reads.specs.History.{IsBySession, places_of}
 use Rattle.tcc_reads.specs.Stored.{IsStored}
 use Rattle.tcc_reads.specs.Verdicts.{Writes, AreFirstWriters, faults_found, entries_found}
 use Rattle.tcc_reads.proofs.Counting.{length-numbered_from, stands_from-session}
 use Rattle.tcc_reads.proofs.Agreement.{Agree, agree_on, faults_agree}
 use Rattle.tcc_reads.proofs.Sourcing.{sourced, entries_agree}
+use Rattle.tcc_reads.proofs.Rising.{by_session}
 
 -- names, table, nodes and faults are as the resolver makes them
 pub record AreFindings (s : Sessions) (names : List (List ℕ)) (table : Writes) (nodes : List Entry) (faults : List ReadFault) : Type 0 where
@@ -154,4 +155,5 @@ module _ (s : Sessions) (names : List (List ℕ)) (table : Writes) (nodes : List
         few = omega (arith, count, length-filter is_committed (stands s), length-numbered_from 1 (stands s), found.few);
         owners = subst AreOwners (sym (are ∙ ap places_of (nodes_of_findings none))) (owners_stored (length names) (omega (arith, named)));
         sources = subst AreIn (sym (nodes_of_findings none)) (entries_stored (length nodes) count);
+        ordered = subst IsBySession (sym (nodes_of_findings none)) (by_session s);
       }

@@ -1,8 +1,12 @@
 -- Facts of each item of a list and of each two in their order; and where the transactions of a snapshot stand.
 use Rattle.std.proofs.Common.{ℕ, zero, suc, ◌≡◌, ◌<◌, ◌≤◌, ◌+◌, Bool, true, false, List, [], ◌∷◌, ◌++◌, length, map, get_or, cond, refl, arith}
 use Rattle.std.specs.Prelude.{filter}
+use Rattle.std.specs.FinMap.{entries}
+use Rattle.tcc_txn.specs.Snapshots.{Sessions}
 use Rattle.tcc_txn.specs.Transactions.{Transaction}
-use Rattle.tcc_reads.specs.Sites.{Stand, stands_in, stands_from}
+use Rattle.tcc_reads.specs.History.{Entry, IsBySession, initial}
+use Rattle.tcc_reads.specs.Sites.{Stand, is_committed, stands_in, stands_from, stands, committed}
+use Rattle.tcc_reads.specs.Sources.{entry_of, history}
 
 abbrev pub Each : {X : Type 0} → (X → Type 0) → List X → Type 0
 Each P [] = Unit {0}
@@ -105,3 +109,42 @@ from_order session (e ∷ later) =
     (each_more (λ x. x.session ≡ session) (λ x. Each (IsLater x) (stands_from (session + 1) later)) (stands_in session e.0 1 e.1)
     (λ x here. each_more (λ y. session + 1 ≤ y.session) (IsLater x) (stands_from (session + 1) later) (λ y l same. absurd (omega arith)) (from_sessions (session + 1) later))
     (in_session session e.0 1 e.1))
+
+-- ---- in which order
+
+in_rising : (session : ℕ) (name : List ℕ) (from : ℕ) (txns : List Transaction) → Rises (λ x y. x.session ≤ y.session) (stands_in session name from txns)
+in_rising session name from [] = tt
+in_rising session name from (txn ∷ later) = (
+  each_more (λ x. x.session ≡ session) (λ x. session ≤ x.session) (stands_in session name (from + 1) later) (λ x same. omega arith) (in_session session name (from + 1) later),
+  in_rising session name (from + 1) later,
+)
+
+from_rising : (session : ℕ) (named : List (List ℕ × List Transaction)) → Rises (λ x y. x.session ≤ y.session) (stands_from session named)
+from_rising session [] = tt
+from_rising session (e ∷ later) =
+    rises_append (λ x y. x.session ≤ y.session) (stands_in session e.0 1 e.1) (stands_from (session + 1) later) (in_rising session e.0 1 e.1) (from_rising (session + 1) later)
+    (each_more (λ x. x.session ≡ session) (λ x. Each (λ y. x.session ≤ y.session) (stands_from (session + 1) later)) (stands_in session e.0 1 e.1)
+    (λ x here. each_more (λ y. session + 1 ≤ y.session) (λ y. x.session ≤ y.session) (stands_from (session + 1) later) (λ y l. omega arith) (from_sessions (session + 1) later))
+    (in_session session e.0 1 e.1))
+
+module _ (s : Sessions) where
+  abbrev list : List Entry
+  list = map (entry_of (stands s)) (committed (stands s))
+
+  first : Each (λ (e : Entry). 1 ≤ e.place) list
+  first = each_map (λ (e : Entry). 1 ≤ e.place) (entry_of (stands s)) (committed (stands s)) (each_filter (λ (x : Stand). 1 ≤ x.place) is_committed (stands s) (from_placed 0 (entries s)))
+
+  rising : Rises (λ (a b : Entry). a.owner ≤ b.owner) list
+  rising = rises_map (λ (a b : Entry). a.owner ≤ b.owner) (entry_of (stands s)) (committed (stands s)) (rises_filter (λ x y. x.session ≤ y.session) is_committed (stands s) (from_rising 0 (entries s)))
+
+  placed : Rises (λ (a b : Entry). a.owner ≡ b.owner → a.place < b.place) list
+  placed = rises_map (λ (a b : Entry). a.owner ≡ b.owner → a.place < b.place) (entry_of (stands s)) (committed (stands s)) (rises_filter IsLater is_committed (stands s) (from_order 0 (entries s)))
+
+  -- the transactions of a snapshot stand by session and by place
+  pub by_session : IsBySession (history s).entries
+  by_session m zero less below = absurd (omega arith)
+  by_session zero (suc k) less below = (omega arith, λ same. each_at (λ (e : Entry). 1 ≤ e.place) list k initial (omega arith) first)
+  by_session (suc i) (suc k) less below = (
+    rises_at (λ (a b : Entry). a.owner ≤ b.owner) list i k initial (omega arith) (omega arith) rising,
+    rises_at (λ (a b : Entry). a.owner ≡ b.owner → a.place < b.place) list i k initial (omega arith) (omega arith) placed,
+  )

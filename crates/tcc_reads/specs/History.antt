@@ -1,5 +1,5 @@
 -- Histories whose reads are resolved: the committed transactions by number, and who read from whom.
-use Rattle.std.specs.Prelude.{ℕ, List, [], length, map, drop, slice_index_or}
+use Rattle.std.specs.Prelude.{ℕ, ◌<◌, ◌≤◌, ◌≡◌, List, [], length, map, drop, slice_index_or}
 
 -- a committed transaction, or `init`, as the graph sees it
 pub record Entry : Type 0 where
@@ -42,3 +42,10 @@ place h n = (entry_at h n).place
 -- index of the session and place of the transactions from number 1 on
 abbrev pub places_of : List Entry → List (ℕ × ℕ)
 places_of entries = map (λ e. (e.owner, e.place)) (drop 1 entries)
+
+-- transactions stand by session, and in one session by place; `init` stands as place 0 of the first session
+abbrev pub IsBySession : List Entry → Type 0
+IsBySession entries =
+    (m : ℕ) (n : ℕ) → m < n → n < length entries → ((slice_index_or entries m initial).owner ≤ (slice_index_or entries n initial).owner)
+    × ((slice_index_or entries m initial).owner ≡ (slice_index_or entries n initial).owner
+    → (slice_index_or entries m initial).place < (slice_index_or entries n initial).place)

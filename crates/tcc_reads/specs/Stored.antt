@@ -1,7 +1,7 @@
 -- Serves proofs alone; nobody has to believe it: how a resolved history lies in memory.
 use Rattle.std.specs.Prelude.{ℕ, ◌≡◌, ◌<◌, ◌≤◌, List, length, All, slice_index_or}
 use Rattle.tcc_txn.specs.declared.limits.TheConstants.{MAX_COUNT, MAX_SESSIONS}
-use Rattle.tcc_reads.specs.History.{Entry, initial, places_of}
+use Rattle.tcc_reads.specs.History.{Entry, IsBySession, initial, places_of}
 
 pub record IsStored (sessions : List (List ℕ)) (places : List (ℕ × ℕ)) (entries : List Entry) : Type 0 where
   pub places_again : places ≡ places_of entries
@@ -11,3 +11,4 @@ pub record IsStored (sessions : List (List ℕ)) (places : List (ℕ × ℕ)) (e
   pub few : length entries ≤ MAX_COUNT
   pub owners : All (λ p. p.0 < length sessions) places
   pub sources : All (λ e. All (λ r. r.1 < length entries) e.reads) entries
+  pub ordered : IsBySession entries

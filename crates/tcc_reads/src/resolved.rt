@@ -2,7 +2,7 @@
 ghost use Rattle.std.specs.Prelude.{◌≡◌, ◌<◌, ◌≤◌, ◌+◌, length, All};
 ghost use Rattle.tcc_txn.specs.declared.limits.TheConstants.{MAX_COUNT, MAX_SESSIONS};
 ghost use Rattle.tcc_reads.specs.History.{count, entry_at, initial};
-ghost use Rattle.tcc_reads.specs.History.{places_of};
+ghost use Rattle.tcc_reads.specs.History.{IsBySession, places_of};
 
 use std::marker::Model;
 use tcc_txn::Name;
@@ -64,6 +64,7 @@ impl Resolved {
         ensures few { count self.now ≤ MAX_COUNT }
         ensures initial { entry_at self.now 0 ≡ initial }
         ensures owners { All (λ p. p.0 < length self.now.sessions) result.now }
+        ensures ordered { IsBySession self.now.entries }
     {
         &self.places
     }

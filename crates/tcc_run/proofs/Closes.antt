@@ -1,5 +1,6 @@
 -- What a run puts into the file for the certificate of its last answer is the certificate of the answer for all that the records finish.
-use Rattle.std.proofs.Common.{ℕ, ◌≡◌, List, None, Some, Result, sym, ap, subst, ◌∙◌, inl, inr, ◌⊎◌}
+use Rattle.std.proofs.Common.{ℕ, ◌≡◌, ◌≢◌, List, [], Option, None, Some, Result, refl, sym, ap, subst, ◌∙◌, inl, inr, ◌⊎◌}
+use Rattle.std.specs.Prelude.{unwrap_or}
 use Rattle.std.specs.List.{last_or}
 use Rattle.tcc_txn.specs.Answers.{answers_of}
 use Rattle.tcc_txn.specs.Finished.{KeepsLimits, finished_in}
@@ -7,11 +8,14 @@ use Rattle.tcc_cert.specs.Texts.{certificate_text}
 use Rattle.tcc_cert.specs.declared.certificate.Certificate.{Certificate}
 use Rattle.tcc_answer.specs.Claims.{certificate_of}
 use Rattle.tcc_check.specs.declared.judgement.Judgement.{Judgement}
-use Rattle.tcc_run.specs.declared.halt.Halt.{Halt}
-use Rattle.tcc_run.specs.declared.options.Options.{Options}
-use Rattle.tcc_run.specs.Checks.{IsCheck, MayBeCheck}
+use Rattle.tcc_print.specs.declared.halt.Halt.{Halt}
+use Rattle.tcc_print.specs.declared.options.Options.{Options}
+use Rattle.tcc_verdict.specs.Checks.{IsCheck, MayBeCheck}
 use Rattle.tcc_run.specs.Closing.{IsAcceptance, acceptance}
-use Rattle.tcc_run.specs.Runs.{IsAnswered, IsEnded, IsWhole, Said, halt_said}
+use Rattle.tcc_print.specs.Printed.{Prints, device_line}
+use Rattle.tcc_print.specs.Statuses.{code_of}
+use Rattle.tcc_print.specs.declared.status.Status.TheVariants.{Device}
+use Rattle.tcc_run.specs.Runs.{IsAnswered, IsEnded, IsRun, IsWhole, Said, halt_said}
 use Rattle.tcc_run.proofs.Closing.{accepted, only}
 use Rattle.tcc_run.proofs.LastSnapshot.{last_said}
 use Rattle.tcc_run.proofs.Moments.{last-push}
@@ -42,3 +46,21 @@ module _ (options : Options) (records text : List ℕ) (limits : KeepsLimits (fi
       let pushed : last_or None said ≡ Some (halt_said options why) = ap (last_or None) same ∙ last-push None before (halt_said options why) in
       let halted : halt_said options why ≡ last = inside _ _ (sym pushed ∙ end) in
       absurd (nothing text (ap (λ (s : Said). s.certificate) halted ∙ has))
+
+-- what is printed for a device that failed has its status
+device_code : (before after : Option (List ℕ)) (text : List ℕ) (code : ℕ) → Prints before after text Device code → code ≡ code_of Device
+device_code before after text code (inl whole) = whole.1
+device_code before after text code (inr part) = part.1
+
+-- what stands in a file that was empty is the certificate of the last, where no device failed
+pub left : (options : Options) (records text : List ℕ) → KeepsLimits (finished_in (answers_of records).items) → (before after : Option (List ℕ)) (code : ℕ)
+    → IsRun options records before after (Some (Some [])) (Some (Some text)) code → text ≢ [] → code ≢ code_of Device → Accepts records text
+left options records text limits before after code (said, last, ends, end, inl (out, gains, is)) some fine = go last.certificate refl
+  where
+    go : (kept : Option (List ℕ)) → last.certificate ≡ kept → Accepts records text
+    go None has = absurd (some (gains ∙ ap (λ k. unwrap_or k []) has))
+    go (Some written) has =
+        let same : text ≡ written = gains ∙ ap (λ k. unwrap_or k []) has in
+        closes options records text limits said last end (has ∙ ap Some (sym same)) ends
+left options records text limits before after code (said, last, ends, end, inr (inl (part, gains, is))) some fine = absurd (fine is)
+left options records text limits before after code (said, last, ends, end, inr (inr failed)) some fine = absurd (fine (device_code failed.1.0 after (device_line options.json) code failed.1.2))

@@ -1,9 +1,11 @@
 -- What `explain` writes for records, `check` accepts with the same records.
 use Rattle.std.proofs.Common.{◌≡◌, ◌≢◌, ℕ, List, [], length, take, None, Result, Ok, Err, refl, sym, ap, subst, ◌∙◌, inl, inr}
+use Rattle.std.specs.Prelude.{IfOk}
 use Rattle.std.proofs.Math.Seq.{take-length}
 use Rattle.tcc_txn.specs.Answers.{answers_of}
 use Rattle.tcc_txn.specs.Finished.{KeepsLimits, finished_in}
 use Rattle.tcc_txn.specs.Snapshots.{Sessions}
+use Rattle.tcc_txn.specs.declared.memory.NoMemory as memory
 use Rattle.tcc_reads.specs.Faults.{read_faults}
 use Rattle.tcc_reads.specs.Sources.{history}
 use Rattle.tcc_graph.specs.declared.level.Level.{Level}
@@ -27,9 +29,9 @@ use Rattle.tcc_explain.proofs.CertifiedAnswer.{certified}
 use Rattle.tcc_explain.proofs.RecordedKeys.{recorded}
 use Rattle.tcc_explain.proofs.WrittenAnswer.{read_back}
 use Rattle.tcc_check.specs.declared.judgement.Judgement.{Judgement}
-use Rattle.tcc_run.specs.declared.halt.Halt.{Halt}
-use Rattle.tcc_run.specs.declared.halt.Halt.TheVariants.{Row, Reads, Text, NoMemory}
-use Rattle.tcc_run.specs.Checks.{IsCheck, IsRecordsCheck, IsSnapshotCheck, IsTextCheck, MayBeCheck}
+use Rattle.tcc_print.specs.declared.halt.Halt.{Halt}
+use Rattle.tcc_print.specs.declared.halt.Halt.TheVariants.{Row, Reads, Text, NoMemory}
+use Rattle.tcc_verdict.specs.Checks.{IsCheck, IsRecordsCheck, IsSnapshotCheck, IsTextCheck, MayBeCheck}
 use Rattle.tcc_run.specs.Closing.{IsAcceptance, acceptance}
 
 -- what all items finish keeps the limits, since what their first ones finish does, however many
@@ -93,3 +95,10 @@ module _ (records : List ℕ) (limits : KeepsLimits (all_of records)) (level : L
   only o (inl check) = of_snapshot o (subst (λ found. IsRecordsCheck (answers_of records).items found (certificate_text c) o) unfaulted check)
   only o (inr (inl failed)) = subst (IsAcceptance c) (sym failed.2) refl
   only o (inr (inr memory)) = subst (IsAcceptance c) (sym memory) tt
+
+-- what is no rejection is an acceptance
+pub own : (s : Sessions) (level : Level) (a : Answer) (checked : Result Verdict memory.NoMemory) → Certifies (history s) (certificate_of a)
+    → IfOk checked (IsVerdict (history s) (certificate_of a)) → IfOk checked (λ v. v ≡ verdict.Accepted)
+own s level a (Ok verdict.Accepted) keeps says = refl
+own s level a (Ok (verdict.Rejected rule at)) keeps says = absurd (rejected_false (history s) (certificate_of a) rule at says keeps)
+own s level a (Err e) keeps says = tt

@@ -16,16 +16,18 @@ use Rattle.tcc_txn.specs.declared.recording.Recording.{Recording}
 use Rattle.tcc_txn.specs.declared.rows.Item.{Item}
 use Rattle.tcc_txn.specs.declared.rows.Item.TheVariants as item
 use Rattle.tcc_txn.specs.declared.rows.RowFault.{RowFault}
-use Rattle.tcc_run.specs.declared.halt.Halt.{Halt}
-use Rattle.tcc_run.specs.declared.halt.Halt.TheVariants as halt
-use Rattle.tcc_run.specs.declared.options.Options.{Options}
-use Rattle.tcc_run.specs.declared.status.Status.TheVariants.{Memory}
+use Rattle.tcc_print.specs.declared.halt.Halt.{Halt}
+use Rattle.tcc_print.specs.declared.halt.Halt.TheVariants as halt
+use Rattle.tcc_print.specs.declared.options.Options.{Options}
+use Rattle.tcc_print.specs.declared.status.Status.TheVariants.{Memory}
 use Rattle.tcc_run.specs.declared.explain.Last.{Last}
 use Rattle.tcc_answer.specs.declared.answer.Answer.{Answer}
-use Rattle.tcc_run.specs.Printed.{Prints, halted, memory_line}
-use Rattle.tcc_run.specs.Statuses.{code_of, halt_status}
+use Rattle.tcc_print.specs.Printed.{Prints, halted, memory_line}
+use Rattle.tcc_print.specs.Statuses.{code_of, halt_status}
 use Rattle.tcc_run.specs.Runs.{AreAnswered, Contents, Gains, IsAnswered, IsRun, IsWhole, MayEnd, Said, at_end, halt_said, is_due_after, sealed_in, texts}
-use Rattle.tcc_run.specs.Stages.{AllAnswered, AnswersKept, Concludes, CutsOff, EndsAnswering, EndsEarly, Keeps, PrintsOrMemory, by_row, is_memory}
+use Rattle.tcc_run.specs.Stages.{AllAnswered, AnswersKept, Concludes, EndsAnswering, EndsEarly, Keeps}
+use Rattle.tcc_print.specs.Printed.{CutsOff, PrintsOrMemory}
+use Rattle.tcc_print.specs.Halts.{by_row, is_memory}
 use Rattle.tcc_run.proofs.Moments.{AllZip-append, all-fault, all-items, at_end-due, at_end-none, due-passed, due-seal, finished-seal, first-taken, last-push, part-of, sealed-passed, sealed-seal, still_due}
 
 texts-push : (said : List Said) (one : Said) → texts (said ++ one ∷ []) ≡ texts said ++ one.text

@@ -6,8 +6,8 @@ use Rattle.tcc_cert.specs.declared.fault.CertFaultKind.TheVariants as text_kind
 use Rattle.tcc_check.specs.Streams.{claim_of}
 use Rattle.tcc_check.specs.declared.verdict.Verdict.TheVariants as verdict
 use Rattle.tcc_check.specs.declared.judgement.Judgement.{Judgement}
-use Rattle.tcc_run.specs.declared.halt.Halt.{Halt}
-use Rattle.tcc_run.specs.declared.halt.Halt.TheVariants.{Row, Reads, Text, NoMemory}
+use Rattle.tcc_print.specs.declared.halt.Halt.{Halt}
+use Rattle.tcc_print.specs.declared.halt.Halt.TheVariants.{Row, Reads, Text, NoMemory}
 
 -- the claim of the certificate was accepted
 abbrev pub acceptance : Certificate → Result Judgement Halt

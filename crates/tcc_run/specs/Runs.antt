@@ -15,13 +15,13 @@ use Rattle.tcc_cert.specs.Texts.{certificate_text}
 use Rattle.tcc_explain.specs.Explained.{IsAnswerOf}
 use Rattle.tcc_answer.specs.Claims.{certificate_of}
 use Rattle.tcc_answer.specs.declared.answer.Answer.{Answer}
-use Rattle.tcc_run.specs.declared.halt.Halt.{Halt}
-use Rattle.tcc_run.specs.declared.halt.Halt.TheVariants as halt
-use Rattle.tcc_run.specs.declared.options.Options.{Options}
-use Rattle.tcc_run.specs.declared.status.Status.{Status}
-use Rattle.tcc_run.specs.declared.status.Status.TheVariants.{ReadFaults, Device}
-use Rattle.tcc_run.specs.Statuses.{answer_status, code_of, halt_status}
-use Rattle.tcc_run.specs.Printed.{answered, device_line, halted, unresolved, Prints}
+use Rattle.tcc_print.specs.declared.halt.Halt.{Halt}
+use Rattle.tcc_print.specs.declared.halt.Halt.TheVariants as halt
+use Rattle.tcc_print.specs.declared.options.Options.{Options}
+use Rattle.tcc_print.specs.declared.status.Status.{Status}
+use Rattle.tcc_print.specs.declared.status.Status.TheVariants.{ReadFaults, Device}
+use Rattle.tcc_print.specs.Statuses.{answer_status, code_of, halt_status}
+use Rattle.tcc_print.specs.Printed.{answered, device_line, halted, unresolved, Prints}
 
 -- ---- one answer
 

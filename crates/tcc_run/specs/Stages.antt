@@ -1,100 +1,25 @@
 -- How the stages of a run follow one another. Nobody has to believe these: the contracts of public calls cite none of them.
-use Rattle.std.specs.Prelude.{ℕ, ◌≡◌, ◌≢◌, ◌⊎◌, ◌+◌, ◌≤◌, Bool, true, false, List, [], length, take, slice_get, option_map, unwrap_or, Option, None, Some, Result, Ok, Err, if◌then◌else◌}
+use Rattle.std.specs.Prelude.{ℕ, ◌≡◌, ◌⊎◌, List, [], length, slice_get, option_map, unwrap_or, Option, None, Some}
 use Rattle.std.specs.Io.KnownBytes.{Appends}
 use Rattle.std.specs.List.{last_or}
 use Rattle.std.specs.Option.{option_map_or}
 use Rattle.tcc_txn.specs.Answers as rows
-use Rattle.tcc_txn.specs.Finished.{finished_in}
 use Rattle.tcc_txn.specs.Snapshots.{Sessions}
 use Rattle.tcc_txn.specs.Transactions.{Transaction}
-use Rattle.tcc_txn.specs.declared.rows.RowFault.{RowFault}
-use Rattle.tcc_txn.specs.declared.rows.RowFaultKind.{RowFaultKind}
-use Rattle.tcc_txn.specs.declared.rows.RowFaultKind.TheVariants as row_kind
-use Rattle.tcc_reads.specs.Faults.{read_faults}
-use Rattle.tcc_reads.specs.History.{History}
-use Rattle.tcc_reads.specs.Sources.{history}
-use Rattle.tcc_reads.specs.declared.fault.ResolveFault.{ResolveFault}
-use Rattle.tcc_reads.specs.declared.fault.ResolveFault.TheVariants as unresolved
 use Rattle.tcc_cert.specs.Texts.{certificate_text}
-use Rattle.tcc_check.specs.declared.stream_fault.StreamFault.{StreamFault}
-use Rattle.tcc_check.specs.declared.stream_fault.StreamFault.TheVariants as stream
 use Rattle.tcc_answer.specs.Claims.{certificate_of}
 use Rattle.tcc_answer.specs.declared.answer.Answer.{Answer}
-use Rattle.tcc_run.specs.declared.halt.Halt.{Halt}
-use Rattle.tcc_run.specs.declared.halt.Halt.TheVariants.{Row, Reads, Text, NoMemory}
-use Rattle.tcc_check.specs.declared.judgement.Judgement.{Judgement}
-use Rattle.tcc_run.specs.declared.status.Status.{Status}
-use Rattle.tcc_run.specs.declared.status.Status.TheVariants.{Device, Memory}
-use Rattle.tcc_run.specs.declared.options.Options.{Options}
-use Rattle.tcc_run.specs.Checks.{IsTextCheck}
+use Rattle.tcc_print.specs.declared.status.Status.TheVariants.{Device, Memory}
+use Rattle.tcc_print.specs.declared.options.Options.{Options}
 use Rattle.tcc_run.specs.Runs.{Contents, Gains, GainsPart, IsAnswered, IsEnded, IsWhole, Said, texts}
-use Rattle.tcc_run.specs.Statuses.{code_of, last_status}
-use Rattle.tcc_run.specs.Printed.{Prints, device_line, memory_line}
-
--- ---- why there is no answer or no verdict
-
-abbrev pub is_memory : RowFaultKind → Bool
-is_memory row_kind.NoMemory = true
-is_memory _ = false
-
--- want of memory stands by itself, and other faults with their rows
-abbrev pub by_row : RowFault → Halt
-by_row fault = if is_memory fault.kind then NoMemory else Row fault
-
--- want of memory stands by itself, and other faults with their lines
-abbrev pub by_stream : StreamFault → Halt
-by_stream (stream.Text fault) = Text fault
-by_stream stream.NoMemory = NoMemory
-
--- all read faults, or want of memory
-abbrev pub unresolved_by : ResolveFault → Halt
-unresolved_by (unresolved.Reads faults) = Reads faults
-unresolved_by unresolved.NoMemory = NoMemory
-
--- ---- the history of a check
-
--- the fault of the records, or that of a reader that failed
-abbrev pub IsRowHalt : List ℕ → RowFault → Type 0
-IsRowHalt records fault = ((rows.answers_of records).fault ≡ Some fault)
-    ⊎ ((fault.kind ≡ row_kind.Read) × (fault.row ≤ length (rows.records_of records) + 1))
-
--- the history of a snapshot whose reads have no faults, else all their faults
-abbrev pub IsResolution : Sessions → Result History Halt → Type 0
-IsResolution s (Ok h) = (read_faults s ≡ []) × (h ≡ history s)
-IsResolution s (Err (Reads faults)) = (read_faults s ≢ []) × (faults.items ≡ read_faults s)
-IsResolution s (Err _) = ⊥
-
--- the history of all that the records finish, or all its read faults, where the records have no fault; else why there is none
-abbrev pub IsHistoryOf : List ℕ → Result History Halt → Type 0
-IsHistoryOf records (Err (Row fault)) = IsRowHalt records fault
-IsHistoryOf records (Err NoMemory) = Unit {0}
-IsHistoryOf records (Err (Text fault)) = ⊥
-IsHistoryOf records o = ((rows.answers_of records).fault ≡ None) × IsResolution (finished_in (rows.answers_of records).items) o
+use Rattle.tcc_print.specs.Statuses.{code_of, last_status}
+use Rattle.tcc_print.specs.Printed.{CutsOff, Prints, device_line, memory_line}
 
 -- ---- what is answered
 
 -- how many transactions the session at this place has finished; past the last place, none
 abbrev pub count_at : List (List ℕ × List Transaction) → ℕ → ℕ
 count_at entries i = option_map_or (λ named. length named.1) (slice_get entries i) 0
-
--- ---- what goes out
-
--- what comes of the certificate's text for a history, or want of memory
-abbrev pub MayBeTextCheck : History → List ℕ → Result Judgement Halt → Type 0
-MayBeTextCheck h text o = IsTextCheck h text o ⊎ (o ≡ Err NoMemory)
-
--- a writer failed: a part of the text, from its front, went out
-abbrev pub CutsOff : Option (List ℕ) → Option (List ℕ) → List ℕ → ℕ → Type 0
-CutsOff before after text code = ((n : ℕ) × Appends before after (take n text)) × (code ≡ code_of Device)
-
--- the run ended in a text: a writer failed, or memory was wanting and that was said in its place
-abbrev pub EndsIn : Bool → Option (List ℕ) → Option (List ℕ) → List ℕ → ℕ → Type 0
-EndsIn json before after text code = CutsOff before after text code ⊎ Prints before after (memory_line json) Memory code
-
--- the text with its status, or want of memory in its place
-abbrev pub PrintsOrMemory : Bool → Option (List ℕ) → Option (List ℕ) → List ℕ → Status → ℕ → Type 0
-PrintsOrMemory json before after text status code =
-    Prints before after text status code ⊎ Prints before after (memory_line json) Memory code
 
 -- ---- one answer
 

@@ -11,16 +11,15 @@ ghost use Rattle.tcc_answer.specs.Claims.{certificate_of};
 ghost use Rattle.tcc_run.specs.Runs.{Gains, GainsPart, IsRun};
 ghost use Rattle.tcc_run.specs.Stages.{AllAnswered, AnswersKept, Concludes, EndsAnswering, EndsEarly, count_at};
 
-use crate::halt::Halt;
 use crate::headline::explain_snapshot;
-use crate::options::Options;
-use crate::printing::{print_device, print_halt, print_memory, send_answer, send_unresolved};
-use crate::status::last_status;
 use std::alloc::Global;
 use std::io::{Read, Write};
 use std::thread::Threads;
 use tcc_cert::{WriteFault, write};
 use tcc_explain::{Answer, ExplainFault, Gate};
+use tcc_print::printing::{print_device, print_halt, print_memory, send_answer, send_unresolved};
+use tcc_print::status::last_status;
+use tcc_print::{Halt, Options};
 use tcc_txn::{Moment, NoMemory, Recording, Snapshot};
 
 /// How many transactions the session at this place has finished; past the last place, none.

@@ -1,23 +1,33 @@
-//! The law that `check` accepts what `explain` writes.
-ghost use Rattle.std.specs.Prelude.{◌≡◌, ◌⊎◌, ℕ, List, Result, None, Some, []};
+//! The laws of runs: `check` accepts what `explain` writes, and what is said depends on the records, the level and the form
+//! alone.
+ghost use Rattle.std.specs.Prelude.{◌≡◌, ◌≢◌, ◌⊎◌, ℕ, List, Option, Result, None, Some, IfOk, []};
 ghost use Rattle.std.specs.List.{last_or};
 ghost use Rattle.tcc_txn.specs.Answers.{answers_of};
 ghost use Rattle.tcc_txn.specs.Finished.{finished_in};
+ghost use Rattle.tcc_txn.specs.Snapshots.{Sessions};
+ghost use Rattle.tcc_txn.specs.declared.memory.NoMemory.{NoMemory};
 ghost use Rattle.tcc_reads.specs.Faults.{read_faults};
 ghost use Rattle.tcc_reads.specs.Sources.{history};
 ghost use Rattle.tcc_graph.specs.declared.level.Level.{Level};
 ghost use Rattle.tcc_cert.specs.Texts.{certificate_text};
 ghost use Rattle.tcc_cert.specs.declared.certificate.Certificate.{Certificate};
+ghost use Rattle.tcc_check.specs.Verdicts.{IsVerdict};
 ghost use Rattle.tcc_check.specs.declared.judgement.Judgement.{Judgement};
+ghost use Rattle.tcc_check.specs.declared.verdict.Verdict.{Verdict};
+ghost use Rattle.tcc_check.specs.declared.verdict.Verdict.TheVariants.{Accepted};
 ghost use Rattle.tcc_answer.specs.Claims.{certificate_of};
 ghost use Rattle.tcc_answer.specs.declared.answer.Answer.{Answer};
 ghost use Rattle.tcc_explain.specs.Explained.{IsAnswerOf};
-ghost use Rattle.tcc_run.specs.Checks.{IsCheck, MayBeCheck};
+ghost use Rattle.tcc_verdict.specs.Checks.{IsCheck, MayBeCheck};
 ghost use Rattle.tcc_run.specs.Closing.{IsAcceptance, acceptance};
-ghost use Rattle.tcc_run.specs.Runs.{IsEnded, IsWhole, Said};
-ghost use Rattle.tcc_run.specs.declared.options.Options.{Options};
-ghost use Rattle.tcc_run.specs.declared.halt.Halt.{Halt};
+ghost use Rattle.tcc_run.specs.Runs.{IsEnded, IsRun, IsWhole, Said};
+ghost use Rattle.tcc_print.specs.Statuses.{code_of};
+ghost use Rattle.tcc_print.specs.declared.options.Options.{Options};
+ghost use Rattle.tcc_print.specs.declared.status.Status.TheVariants.{Device};
+ghost use Rattle.tcc_print.specs.declared.halt.Halt.{Halt};
 
+use tcc_explain::laws::{certified, one_answer};
+use tcc_txn::NoMemory;
 use tcc_txn::laws::finished_is_snapshot;
 
 /// For records without a fault, whose reads all have sources: the text of the certificate of their answer is accepted by
@@ -46,4 +56,34 @@ pub fn closes()
         × ((o : Result Judgement Halt) → MayBeCheck records text o → IsAcceptance c o) }
 {
     finished_is_snapshot();
+}
+
+/// The verdict on an answer's own certificate is `Accepted`; so what a check of it answers is that, or `NoMemory`.
+pub fn own_certificate()
+    ensures { (s : Sessions) (level : Level) (a : Answer) (checked : Result Verdict NoMemory)
+        → IsAnswerOf (record { history = history s; level = level }) a
+        → IfOk checked (IsVerdict (history s) (certificate_of a)) → IfOk checked (λ verdict. verdict ≡ Accepted) }
+{
+    certified();
+}
+
+/// What a run of `explain` leaves in a file that was empty, and is not empty then, the check of the same records accepts,
+/// unless a reader fails or memory is refused: where the status doesn't say that a device failed.
+pub fn left()
+    ensures { (options : Options) (records text : List ℕ) (before after : Option (List ℕ)) (code : ℕ)
+        → IsRun options records before after (Some (Some [])) (Some (Some text)) code → text ≢ [] → code ≢ code_of Device
+        → (c : Certificate) × IsCheck records text (acceptance c)
+        × ((o : Result Judgement Halt) → MayBeCheck records text o → IsAcceptance c o) }
+{
+    finished_is_snapshot();
+}
+
+/// Of the same records a whole run says the same, whatever the options tell beside the level and whether answers are JSON:
+/// so for every number of workers, and every order in which they search.
+pub fn one_run()
+    ensures { (options others : Options) (records : List ℕ) (said again : List Said) → options.json ≡ others.json
+        → options.level ≡ others.level → IsWhole options (answers_of records) said → IsWhole others (answers_of records) again
+        → said ≡ again }
+{
+    one_answer();
 }

@@ -2,5 +2,6 @@
 mod book;
 mod builders;
 mod graph;
+mod nesting;
 mod reads;
 mod txn;

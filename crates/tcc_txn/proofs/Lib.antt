@@ -14,6 +14,7 @@ mod WordOrder
 mod WorkedTexts
 pub mod Lists
 pub mod Parts
+pub mod SessionEntries
 pub mod SnapshotFaults
 pub mod SortedParts
 pub mod StoredSnapshot

@@ -6,6 +6,7 @@ pub mod Finished
 pub mod Lines
 pub mod Midway
 pub mod Names
+pub mod Nested
 pub mod Past
 pub mod Phases
 pub mod Reached

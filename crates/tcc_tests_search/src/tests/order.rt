@@ -1,21 +1,20 @@
 //! Worked histories, with their first commit orders worked out by hand.
-use crate::tests::histories::{LONG_WALK, STALE_READ, priced};
+use crate::tests::histories::{LONG_WALK, STALE_READ, graph_of};
 use std::alloc::Global;
 use std::process::Abort;
-use std::thread::Threads;
 use tcc_graph::Level;
 use tcc_order::order;
 
 /// The first commit order of these records at a level has to be this, or there has to be none.
 fn assert_order(
-    rt: &(impl Abort + Threads + Sync),
+    rt: &impl Abort,
     alloc: Global,
     records: &str,
     level: Level,
     wanted: Option<&[u32]>,
 ) {
-    let prices = priced(rt, alloc, records, level);
-    let Ok(found) = order(alloc, &prices) else {
+    let graph = graph_of(rt, alloc, records);
+    let Ok(found) = order(alloc, &graph, level) else {
         panic!(rt; "no memory");
     };
     match found {

@@ -1,5 +1,5 @@
 -- The rules on the one table, then those on the other, then the last.
-use Rattle.std.proofs.Common.{◌≡◌, ◌<◌, ℕ, inl, List, [], ◌∷◌, ◌++◌, refl, arith, rules, Some}
+use Rattle.std.proofs.Common.{◌≡◌, ◌<◌, ℕ, inl, List, [], ◌∷◌, ◌++◌, refl, arith, rules, sym, subst, Some}
 use Rattle.tcc_reads.specs.History.{History, count}
 use Rattle.tcc_graph.specs.declared.level.Level.{Level}
 use Rattle.tcc_cert.specs.declared.version.Version.{Version}
@@ -7,7 +7,7 @@ use Rattle.tcc_cert.specs.declared.version.Version.TheVariants.{One}
 use Rattle.tcc_cert.specs.Tables.{HasSize, HasFarSize, IsCapped}
 use Rattle.tcc_cert.specs.CycleRules.{BreaksNearPair, BreaksNearStep, BreaksFarLink, BreaksFarStep, BreaksReturn}
 use Rattle.tcc_check.specs.Runs.{AreRuns}
-use Rattle.tcc_check.specs.Weights.{unlinked, PairWeighs, LinkWeighs, AreLowered, IsLeastTable}
+use Rattle.tcc_check.specs.Weights.{unlinked, PairWeighs, LinkWeighs, AreLowered, IsLeastTable, IsTurned}
 use Rattle.tcc_check.specs.declared.verdict.Rule.TheVariants.{NearPairs, NearSteps, FarLinks, FarSteps, Returns}
 use Rattle.tcc_check.specs.declared.verdict.Verdict.{Verdict}
 use Rattle.tcc_check.specs.declared.verdict.Verdict.TheVariants as verdict
@@ -64,10 +64,10 @@ returns-in_default-2 c =
     let near = c.args.near.now in
     let far = c.args.far.now in
     let pairs = c.rows.result.now in
-    let links = c.rows-3.result.now in
+    let links = c.rows-4.result.now in
     let answer = c.in_ok-of_far.of_far in
     let table : IsLeastTable (count h) (PairWeighs h) pairs = search rules in
-    let low : AreLowered h near pairs links = search rules in
+    let low : AreLowered h near pairs links = let turn : IsTurned (count c.args.graph.now) c.args.near.now c.rows-2.result.now = rw c.rows-2.ensures (subst (λ (n : ℕ). IsTurned n c.args.near.now c.in_ok-turned.turned) c.requires.near.long c.in_ok-turned.ensures) in let given = c.in_ok-links.ensures c.args.near.now turn in search rules in
     let asked : IsAnswer (table_rules One pairs near NearPairs (near_steps c.args.level)) c.in_ok-of_near.of_near = rw (← c.near_steps-steps.ensures) c.in_ok-of_near.ensures in
     let before = of_near h c.args.level near pairs c.args.least c.in_ok-of_near.of_near c.ranges.least.fits c.requires.near c.requires.near_capped table asked in
     let hold = all_hold (near_rules h c.args.level near) c.in_ok-of_near.of_near c.in-Accepted.is before in
@@ -78,23 +78,31 @@ returns-in_default-2 c =
 pub returns-in-Some : goal.returns-in-Some
 returns-in-Some c =
     let table : IsLeastTable (count c.args.graph.now) (PairWeighs c.args.graph.now) c.rows.result.now = search rules in
-    let low : AreLowered c.args.graph.now c.args.near.now c.rows.result.now c.rows-3.result.now = search rules in
+    let low : AreLowered c.args.graph.now c.args.near.now c.rows.result.now c.rows-4.result.now = let turn : IsTurned (count c.args.graph.now) c.args.near.now c.rows-2.result.now = rw c.rows-2.ensures (subst (λ (n : ℕ). IsTurned n c.args.near.now c.in_ok-turned.turned) c.requires.near.long c.in_ok-turned.ensures) in let given = c.in_ok-links.ensures c.args.near.now turn in search rules in
     let asked : IsAnswer (table_rules One c.rows.result.now c.args.near.now NearPairs (near_steps c.args.level)) c.in_ok-of_near.of_near = rw (← c.near_steps-steps.ensures) c.in_ok-of_near.ensures in
-    of_last c.args.graph.now c.args.version c.args.level c.args.near.now c.args.far.now c.rows.result.now c.rows-3.result.now c.args.least c.in_ok-of_near.of_near c.in_ok-of_far.of_far (verdict.Rejected Returns (c.in-Some.start, c.in-Some.start)) c.ranges.least.fits c.requires.near c.requires.near_capped c.requires.far c.requires.far_capped table low asked c.in-Accepted.is c.in_ok-of_far.ensures c.in-Accepted-2.is
+    of_last c.args.graph.now c.args.version c.args.level c.args.near.now c.args.far.now c.rows.result.now c.rows-4.result.now c.args.least c.in_ok-of_near.of_near c.in_ok-of_far.of_far (verdict.Rejected Returns (c.in-Some.start, c.in-Some.start)) c.ranges.least.fits c.requires.near c.requires.near_capped c.requires.far c.requires.far_capped table low asked c.in-Accepted.is c.in_ok-of_far.ensures c.in-Accepted-2.is
     (inl (refl, return_first c.args.graph.now c.args.version c.args.far.now c.args.least c.requires.far.long c.in-Some.start c.in-Some.ensures))
 
 pub returns : goal.returns
 returns c =
     let table : IsLeastTable (count c.args.graph.now) (PairWeighs c.args.graph.now) c.rows.result.now = search rules in
-    let low : AreLowered c.args.graph.now c.args.near.now c.rows.result.now c.rows-3.result.now = search rules in
+    let low : AreLowered c.args.graph.now c.args.near.now c.rows.result.now c.rows-4.result.now = let turn : IsTurned (count c.args.graph.now) c.args.near.now c.rows-2.result.now = rw c.rows-2.ensures (subst (λ (n : ℕ). IsTurned n c.args.near.now c.in_ok-turned.turned) c.requires.near.long c.in_ok-turned.ensures) in let given = c.in_ok-links.ensures c.args.near.now turn in search rules in
     let asked : IsAnswer (table_rules One c.rows.result.now c.args.near.now NearPairs (near_steps c.args.level)) c.in_ok-of_near.of_near = rw (← c.near_steps-steps.ensures) c.in_ok-of_near.ensures in
-    of_last c.args.graph.now c.args.version c.args.level c.args.near.now c.args.far.now c.rows.result.now c.rows-3.result.now c.args.least c.in_ok-of_near.of_near c.in_ok-of_far.of_far verdict.Accepted c.ranges.least.fits c.requires.near c.requires.near_capped c.requires.far c.requires.far_capped table low asked c.in-Accepted.is c.in_ok-of_far.ensures c.in-Accepted-2.is
+    of_last c.args.graph.now c.args.version c.args.level c.args.near.now c.args.far.now c.rows.result.now c.rows-4.result.now c.args.least c.in_ok-of_near.of_near c.in_ok-of_far.of_far verdict.Accepted c.ranges.least.fits c.requires.near c.requires.near_capped c.requires.far c.requires.far_capped table low asked c.in-Accepted.is c.in_ok-of_far.ensures c.in-Accepted-2.is
     (return_holds c.args.graph.now c.args.version c.args.far.now c.args.least c.requires.far.long c.in-None.ensures, tt)
 
 pub table_verdict-requires-2-clause-light : goal.table_verdict-requires-2-clause-light
 table_verdict-requires-2-clause-light c =
     let h = c.args.graph.now in
     let table : IsLeastTable (count h) (PairWeighs h) c.rows.result.now = search rules in
-    let low : AreLowered h c.args.near.now c.rows.result.now c.rows-3.result.now = search rules in
+    let low : AreLowered h c.args.near.now c.rows.result.now c.rows-4.result.now = let turn : IsTurned (count c.args.graph.now) c.args.near.now c.rows-2.result.now = rw c.rows-2.ensures (subst (λ (n : ℕ). IsTurned n c.args.near.now c.in_ok-turned.turned) c.requires.near.long c.in_ok-turned.ensures) in let given = c.in_ok-links.ensures c.args.near.now turn in search rules in
     let runs : AreRuns h c.deref-2.result.now = rw c.deref-2.ensures.value c.in_ok-begins.ensures in
-    light_runs h c.deref-2.result.now (LinkWeighs h c.args.near.now) c.rows-3.result.now runs (λ u v p. inl (inl p, refl)) (link_table h c.args.near.now c.rows.result.now c.rows-3.result.now table low)
+    light_runs h c.deref-2.result.now (LinkWeighs h c.args.near.now) c.rows-4.result.now runs (λ u v p. inl (inl p, refl)) (link_table h c.args.near.now c.rows.result.now c.rows-4.result.now table low)
+
+pub table_verdict-requires-2-clause-weights : goal.table_verdict-requires-2-clause-weights
+table_verdict-requires-2-clause-weights c =
+    let h = c.args.graph.now in
+    let turn : IsTurned (count h) c.args.near.now c.rows-2.result.now = rw c.rows-2.ensures (subst (λ (n : ℕ). IsTurned n c.args.near.now c.in_ok-turned.turned) c.requires.near.long c.in_ok-turned.ensures) in
+    let given = c.in_ok-links.ensures c.args.near.now turn in
+    let low : AreLowered h c.args.near.now c.rows.result.now c.rows-4.result.now = search rules in
+    subst (λ (n : ℕ). HasSize n n c.rows-4.result.now) (sym c.requires.far.long) low.size

@@ -1,5 +1,5 @@
 -- The rows that came are the table.
-use Rattle.std.proofs.Common.{List, ℕ, inl, refl, sym, subst, ◌∙◌}
+use Rattle.std.proofs.Common.{◌≡◌, List, ℕ, length, inl, refl, sym, subst, ◌∙◌}
 use Rattle.tcc_reads.specs.History.{count}
 use Rattle.tcc_cert.specs.declared.version.Version.TheVariants.{One}
 use Rattle.tcc_check.specs.Coming.{IsNearRight}
@@ -7,7 +7,7 @@ use Rattle.tcc_check.specs.Judged.{IsNearJudged}
 use Rattle.tcc_check.specs.Runs.{AreRuns}
 use Rattle.tcc_check.specs.TableRules.{near_steps, table_rules}
 use Rattle.tcc_check.specs.Verdicts.{IsAnswer}
-use Rattle.tcc_check.specs.Weights.{AreLowered, IsLeastTable, PairWeighs}
+use Rattle.tcc_check.specs.Weights.{AreLowered, IsLeastTable, IsTurned, PairWeighs}
 use Rattle.tcc_check.specs.declared.near_rows.NearJudged.{NearJudged}
 use Rattle.tcc_check.specs.declared.verdict.Rule.TheVariants.{NearPairs}
 use Rattle.tcc_check.proofs.Bounds.{light_runs}
@@ -33,7 +33,9 @@ returns g c =
     let judged : NearJudged = record { verdict = c.in_ok-verdict.verdict; begins = c.in_ok-begins.begins; weights = c.in_ok-weights.weights } in
     let right : IsNearRight (count h) c.args.least near = subst (λ (n : ℕ). IsNearRight n c.args.least near) c.count.ensures.value (rw c.in-Some.is at c.in_ok-near.ensures.right) in
     let said : IsAnswer (table_rules One c.in_ok-pairs.pairs near NearPairs (near_steps c.args.level)) c.in_ok-verdict.verdict = rw (← c.near_steps-steps.ensures, ← c.deref-2.ensures.value, ← c.rows.ensures) c.in_ok-verdict.ensures in
-    let low : AreLowered h near c.in_ok-pairs.pairs c.in_ok-weights.weights = rw (← c.deref-3.ensures.value, ← c.rows-2.ensures) c.in_ok-weights.ensures in
+    let size : length near ≡ count h = right.0.long in
+    let turn : IsTurned (count h) near c.rows-2.result.now = rw c.rows-2.ensures (subst (λ (n : ℕ). IsTurned n near c.in_ok-turned.turned) size (rw (← c.deref-3.ensures.value) c.in_ok-turned.ensures)) in
+    let low : AreLowered h near c.in_ok-pairs.pairs c.in_ok-weights.weights = rw (← c.rows-3.ensures) (c.in_ok-weights.ensures near turn) in
     let known : IsNearJudged h c.args.level c.args.least near judged = near-judged h c.args.level c.args.least near c.in_ok-pairs.pairs judged c.ranges.least.fits right c.in_ok-pairs.ensures said c.in_ok-begins.ensures low in
     record {
       judged = (near, known);

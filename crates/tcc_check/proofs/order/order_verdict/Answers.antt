@@ -1,11 +1,42 @@
-use Rattle.std.proofs.Common.{inl, inr, refl, rules}
+use Rattle.std.proofs.Common.{◌≡◌, inl, inr, refl, rules, arith, sym, subst, ℕ, List}
+use Rattle.std.specs.Prelude.{IsTrue}
+use Rattle.tcc_cert.specs.OrderRules.{KeepsPairs}
+use Rattle.tcc_check.specs.Places.{ArePlaces}
+use Rattle.tcc_check.proofs.Ordered.{sessions_kept, axiom_kept, places_apart}
 use Rattle.tcc_check.proofs.order.order_verdict.Goals as goal
 
 pub returns-in_default : goal.returns-in_default
 returns-in_default c = let kept = c.in_ok-places.ensures c.args.sessions in search rules
 
+pub keeps_axiom-requires-clause-long : goal.keeps_axiom-requires-clause-long
+keeps_axiom-requires-clause-long c =
+    let kept = rw c.in-Some.is at c.in_ok-places.ensures c.args.sessions in
+    let are : ArePlaces c.args.order.now c.deref.result.now = rw c.deref.ensures.value kept.0 in
+    let sizes = c.has_order_sizes.ensures.sizes.0 c.if-not-has_order_sizes.false in
+    omega (arith, are.long, sizes.order)
+
+pub keeps_axiom-requires-clause-kept : goal.keeps_axiom-requires-clause-kept
+keeps_axiom-requires-clause-kept c =
+    let kept = rw c.in-Some.is at c.in_ok-places.ensures c.args.sessions in
+    let are : ArePlaces c.args.order.now c.deref.result.now = rw c.deref.ensures.value kept.0 in
+    let sizes = c.has_order_sizes.ensures.sizes.0 c.if-not-has_order_sizes.false in
+    sessions_kept c.args.graph.now c.args.level c.args.order.now c.deref.result.now c.args.sessions c.args.clocks.now are sizes.order kept.1
+
+pub keeps_axiom-requires-clause-apart : goal.keeps_axiom-requires-clause-apart
+keeps_axiom-requires-clause-apart c =
+    let kept = rw c.in-Some.is at c.in_ok-places.ensures c.args.sessions in
+    let are : ArePlaces c.args.order.now c.deref.result.now = rw c.deref.ensures.value kept.0 in
+    places_apart c.args.order.now c.deref.result.now are
+
+pub returns-then-keeps_axiom : goal.returns-then-keeps_axiom
+returns-then-keeps_axiom c =
+    let kept = rw c.in-Some.is at c.in_ok-places.ensures c.args.sessions in
+    let are : ArePlaces c.args.order.now c.deref.result.now = rw c.deref.ensures.value kept.0 in
+    let sizes = c.has_order_sizes.ensures.sizes.0 c.if-not-has_order_sizes.false in
+    (sizes, (kept.1, (axiom_kept c.args.graph.now c.args.level c.args.order.now c.deref.result.now c.args.sessions c.args.clocks.now are sizes.order (c.keeps_axiom.ensures c.if-keeps_axiom.true), tt)))
+
 pub broken_axiom-requires-clause-places : goal.broken_axiom-requires-clause-places
-broken_axiom-requires-clause-places c = let kept = c.in_ok-places.ensures c.args.sessions in search rules
+broken_axiom-requires-clause-places c = let kept = rw c.in-Some.is at c.in_ok-places.ensures c.args.sessions in rw c.deref-2.ensures.value kept.0
 
 pub returns-in-Some-2 : goal.returns-in-Some-2
 returns-in-Some-2 c =

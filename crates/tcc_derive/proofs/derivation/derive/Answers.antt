@@ -1,9 +1,22 @@
+use Rattle.std.proofs.Common.{◌≤◌, arith}
+use Rattle.tcc_reads.specs.History.{count}
 use Rattle.tcc_graph.specs.Levels.{Judged}
-use Rattle.tcc_derive.proofs.CostLemmas.{prices_of}
+use Rattle.tcc_txn.specs.declared.limits.TheConstants.{MAX_COUNT}
+use Rattle.tcc_derive.proofs.PricesLemmas.{prices_of, shaped}
 use Rattle.tcc_derive.proofs.derivation.derive.Goals as goal
 
 pub returns : goal.returns
 returns g c =
     let j : Judged = record { history = c.args.graph.now; level = c.args.near.now.level } in
     rw (c.new.ensures, c.level.ensures)
-    (prices_of j c.args.near.now c.in_ok-prices.prices.items c.in_ok-costs.costs.items c.requires c.in_ok-prices.ensures.rows (rw c.deref-3.ensures.value at c.in_ok-costs.ensures))
+    (prices_of j c.args.near.now c.in_ok-prices.prices.items c.in_ok-costs.costs.items c.in_ok-ends.ends.items c.in_ok-others.others.items c.requires c.in_ok-prices.ensures.rows
+    (rw c.deref-3.ensures.value at c.in_ok-costs.ensures) c.in_ok-ends.ensures (rw (c.deref-5.ensures.value, c.deref-6.ensures.value) at c.in_ok-others.ensures))
+
+pub new-requires-clause-shape : goal.new-requires-clause-shape
+new-requires-clause-shape g c =
+    let j : Judged = record { history = c.args.graph.now; level = c.args.near.now.level } in
+    let rows = c.in_ok-prices.ensures.rows in
+    let few : count c.args.graph.now ≤ MAX_COUNT = omega (arith, c.in_ok-prices.ensures.few, rows.long) in
+    rw c.level.ensures
+    (shaped j c.args.near.now c.in_ok-prices.prices.items c.in_ok-costs.costs.items c.in_ok-ends.ends.items c.in_ok-others.others.items c.requires rows
+    (rw c.deref-3.ensures.value at c.in_ok-costs.ensures) c.in_ok-ends.ensures (rw (c.deref-5.ensures.value, c.deref-6.ensures.value) at c.in_ok-others.ensures) few)

@@ -1,6 +1,7 @@
-use Rattle.std.proofs.Common.{length, ap, refl, sym, subst}
+use Rattle.std.proofs.Common.{length, ap, refl, subst}
 use Rattle.tcc_graph.specs.Levels.{Judged}
 use Rattle.tcc_graph.specs.declared.level.Level.{Level}
+use Rattle.tcc_graph.specs.Routes.{HasCycle}
 use Rattle.tcc_answer.specs.declared.answer.Answer.TheVariants as answer
 use Rattle.tcc_explain.specs.Explained.{IsAnswerOf}
 use Rattle.tcc_graph.specs.Orders.{IsFirstOrder}
@@ -8,15 +9,15 @@ use Rattle.tcc_explain.proofs.explaining.history_answer.Goals as goal
 
 pub returns-in-Some : goal.returns-in-Some
 returns-in-Some g c =
-    let j : Judged = record { history = c.args.graph.now; level = c.in_ok-near.near.level } in
-    let first : IsFirstOrder j c.in-Some.order.items = rw c.in-Some.is at (c.in_ok-order.ensures j c.in_ok-prices.ensures) in
-    rw (c.new.ensures, c.new-order.ensures, sym c.in_ok-near.ensures.level)
+    let j : Judged = record { history = c.args.graph.now; level = c.args.level } in
+    let first : IsFirstOrder j c.in-Some.order.items = rw c.in-Some.is at c.in_ok-order.ensures in
+    rw (c.new.ensures, c.new-order.ensures)
     (((c.order_or_cycle.ensures j).0 (c.in-Some.order.items, first.commit), first), refl, ap length c.sessions.ensures.value, c.in_ok-labels.ensures, c.in_ok-clocks.ensures)
 
 pub anomaly-requires-clause-cycle : goal.anomaly-requires-clause-cycle
 anomaly-requires-clause-cycle g c =
-    let j : Judged = record { history = c.args.graph.now; level = c.in_ok-near.near.level } in
-    λ κs lives. rw c.in_default.is at (c.in_ok-order.ensures j c.in_ok-prices.ensures)
+    let cycle : HasCycle (record { history = c.args.graph.now; level = c.args.level }) = rw c.in_default.is at c.in_ok-order.ensures in
+    λ κs lives. rw c.in_ok-near.ensures.level cycle
 
 pub returns : goal.returns
 returns g c =

@@ -1,14 +1,14 @@
-use Rattle.std.proofs.Common.{◌≡◌, ℕ, [], false, length, slice_index_or, vec_len}
-use Rattle.tcc_order.specs.Numbering.{IsWaiting}
-use Rattle.tcc_order.specs.Leads.{leads}
-use Rattle.tcc_order.proofs.Greedy.{has, Picks}
+use Rattle.std.proofs.Common.{◌≡◌, [], length}
+use Rattle.tcc_near.specs.Bits.{words_for}
+use Rattle.tcc_order.proofs.Greedy.{Picks}
+use Rattle.tcc_order.specs.Behind.{stands, AreHeads}
+use Rattle.tcc_order.proofs.Picking.{Says}
 use Rattle.tcc_order.proofs.numbering.first_numbering.Given as goal
 
 abbrev pub invariant-loop : goal.invariant-loop
 invariant-loop l =
-    (vec_len l.placed ≡ length l.prices.prices)
-    × (vec_len l.waiting ≡ length l.prices.prices)
+    (length l.placed.items ≡ words_for (length l.table))
     × (length l.order.items ≡ l.counter)
-    × IsWaiting (leads l.prices) (length l.prices.prices) l.placed.items l.waiting.items
-    × ((x : ℕ) → slice_index_or l.placed.items x false ≡ has l.order.items x)
-    × Picks (leads l.prices) (length l.prices.prices) [] l.order.items
+    × Says l.placed.items l.order.items
+    × Picks (stands l.table) (length l.table) [] l.order.items
+    × AreHeads l.parents l.placed.items l.heads.items

@@ -2,9 +2,10 @@
 use Rattle.std.proofs.Common.{◌+◌, ◌≤◌, length, subst, sym, Ok}
 use Rattle.tcc_txn.specs.Answers.{records_of}
 use Rattle.tcc_txn.specs.Recordings.{TakesMoment}
-use Rattle.tcc_run.specs.Printed.{halted}
-use Rattle.tcc_run.specs.Stages.{AllAnswered, EndsEarly, PrintsOrMemory}
-use Rattle.tcc_run.specs.Statuses.{halt_status}
+use Rattle.tcc_print.specs.Printed.{halted}
+use Rattle.tcc_run.specs.Stages.{AllAnswered, EndsEarly}
+use Rattle.tcc_print.specs.Printed.{PrintsOrMemory}
+use Rattle.tcc_print.specs.Statuses.{halt_status}
 use Rattle.tcc_run.proofs.Reach.{row_bound}
 use Rattle.tcc_run.proofs.Runs.{answered-seal, ended-end, ended-seal, stopped, wants_memory}
 use Rattle.tcc_run.proofs.Sent.{ended_by}

@@ -1,4 +1,4 @@
-use Rattle.tcc_run.proofs.Checked.{for_any}
+use Rattle.tcc_verdict.proofs.Checked.{for_any}
 use Rattle.tcc_run.proofs.Runs.{nothing_read}
 use Rattle.tcc_run.proofs.explain.answer_records.Goals as goal
 

@@ -1,0 +1,148 @@
+#!/usr/bin/env python3
+"""Runs the merge gate, or another command, and says where its processor time goes: by crate its proofs, its tests and its
+must-fail edits, in minutes, and the longest chain of crates.
+
+    gate.py [--save FILE] [COMMAND..]
+
+COMMAND is `rt ci` if none is given; `make build` and `make test` are others. What it prints goes on to standard output, and
+is read for the edits that were tried. The time is that of the processes that it starts, which the kernel counts: so other
+work on the machine hardly changes it, while the time by the clock (the last line) it does.
+"""
+import argparse
+import collections
+import os
+import pathlib
+import re
+import subprocess
+import sys
+import threading
+import time
+import uuid
+
+TOP = pathlib.Path(__file__).resolve().parent.parent
+TICKS = os.sysconf("SC_CLK_TCK")
+EVERY = 0.1
+KINDS = ("proofs", "tests", "edits")
+EDIT = re.compile(r"rt: must-fail (\w+)/")
+
+
+def text_of(path):
+    try:
+        with open(path, "rb") as it:
+            return it.read()
+    except OSError:
+        return b""
+
+
+def kind_of(process):
+    """The crate that a process works on, and which part of the gate it is; nothing where it is no check of a crate."""
+    words = text_of("/proc/%s/cmdline" % process).split(b"\0")
+    if b"--crate-name" not in words:
+        return None
+    crate = words[words.index(b"--crate-name") + 1].decode()
+    if b"--test" in words:
+        return crate, "tests"
+    try:
+        here = os.path.basename(os.readlink("/proc/%s/cwd" % process))
+    except OSError:
+        here = ""
+    return crate, "edits" if here.startswith("rt-edit") else "proofs"
+
+
+class Watch:
+    """Looks again and again at the processes that carry a mark in their environment, and keeps what each has used."""
+
+    def __init__(self, mark):
+        self.mark, self.known, self.used, self.ended = mark.encode(), {}, {}, threading.Event()
+
+    def look(self):
+        for process in filter(str.isdigit, os.listdir("/proc")):
+            stat = text_of("/proc/%s/stat" % process).rpartition(b") ")[2].split()
+            if not stat:
+                continue
+            key = process, stat[19]
+            if key not in self.known:
+                self.known[key] = self.mark in text_of("/proc/%s/environ" % process)
+            if self.known[key]:
+                kind = self.used.get(key, (None, 0))[0] or kind_of(process)
+                self.used[key] = kind, (int(stat[11]) + int(stat[12])) / TICKS
+
+    def watch(self):
+        while not self.ended.wait(EVERY):
+            self.look()
+
+    def seconds(self):
+        """Seconds by crate and part of the gate; those of no crate stand under none."""
+        found = collections.Counter()
+        for kind, seconds in self.used.values():
+            found[kind] += seconds
+        return found
+
+
+def crates():
+    """The crates of the repository in their order, each with the crates of the repository that it stands on."""
+    found = {}
+    for line in (TOP / "crates.txt").read_text().splitlines():
+        head, colon, libraries = line.partition("#")[0].partition(":")
+        if colon:
+            found[head.split()[0]] = libraries.split()
+    return {name: [it for it in below if it in found] for name, below in found.items()}
+
+
+def longest(below, seconds):
+    """The chain of crates whose proofs take longest one after the other."""
+    best = {}
+    for name in below:
+        chain = max((best[it] for it in below[name]), default=(0, []))
+        best[name] = chain[0] + seconds[name, "proofs"], chain[1] + [name]
+    return max(best.values())
+
+
+def table(seconds, edits):
+    below = crates()
+    lines = ["%-24s %8s %8s %8s %8s %6s" % ("processor minutes", *KINDS, "all", "edits")]
+    for name in below:
+        parts = [seconds[name, kind] / 60 for kind in KINDS]
+        if sum(parts):
+            lines.append("%-24s %8.1f %8.1f %8.1f %8.1f %6s" % (name, *parts, sum(parts), edits[name] or ""))
+    sums = [sum(seconds[name, kind] for name in below) / 60 for kind in KINDS]
+    lines.append("%-24s %8.1f %8.1f %8.1f %8.1f %6s" % ("all crates", *sums, sum(sums), sum(edits.values()) or ""))
+    lines.append("%-24s %35.1f" % ("the rest", seconds[None] / 60))
+    chain = longest(below, seconds)
+    lines.append("longest chain of proofs: %.1f: %s" % (chain[0] / 60, " ".join(chain[1])))
+    return lines
+
+
+def main():
+    reader = argparse.ArgumentParser(description=__doc__, formatter_class=argparse.RawDescriptionHelpFormatter)
+    reader.add_argument("--save", metavar="FILE", help="write the table to this file too")
+    reader.add_argument("command", nargs=argparse.REMAINDER)
+    asked = reader.parse_args()
+    command = [it for it in asked.command if it != "--"] or ["rt", "ci"]
+    mark = "TCC_GATE_MARK=" + uuid.uuid4().hex
+    name, _, value = mark.partition("=")
+    watch, edits, began = Watch(mark), collections.Counter(), time.time()
+    watching = threading.Thread(target=watch.watch)
+    watching.start()
+    try:
+        how = {"cwd": TOP, "stdout": subprocess.PIPE, "text": True, "errors": "replace"}
+        with subprocess.Popen(command, env={**os.environ, name: value}, **how) as running:
+            for line in running.stdout:
+                sys.stdout.write(line)
+                sys.stdout.flush()
+                found = EDIT.match(line)
+                if found:
+                    edits[found[1]] += 1
+    finally:
+        watch.ended.set()
+        watching.join()
+    lines = table(watch.seconds(), edits)
+    lines.append("by the clock: %.1f minutes; status %d" % ((time.time() - began) / 60, running.returncode))
+    print("\n".join(lines))
+    if asked.save:
+        pathlib.Path(asked.save).write_text("\n".join(lines) + "\n")
+    return running.returncode
+
+
+if __name__ == "__main__":
+    sys.exit(main())

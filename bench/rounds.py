@@ -1,0 +1,84 @@
+#!/usr/bin/env python3
+"""How likely a round finds an anomaly, by its number of transactions and of keys.
+
+    rounds.py [--tcc PATH] [--rounds N] [--keys N ..] [--transactions N ..]
+
+Plays rounds of a store of two replicas, from fixed seeds. Eight clients make transactions of four operations, a read or a
+write of any key each; what is written shows at the other replica sixteen transactions later, and a client goes over to the
+other one before one transaction in fifty, so that it may not see what it saw before. Prints for each number of keys, in a
+line, of how many rounds the answer is an anomaly.
+"""
+import argparse
+import pathlib
+import random
+import subprocess
+from collections import deque
+
+TOP = pathlib.Path(__file__).resolve().parent.parent
+CLIENTS, OPERATIONS, LAG, STAYS = 8, 4, 16, 50
+ANOMALY = 1
+
+
+class Replica:
+    """Values by key, each with the time at which it was written; of two writes of a key the later one stays."""
+
+    def __init__(self):
+        self.values = {}
+        self.coming = deque()
+
+    def take(self, key, value, time):
+        if self.values.get(key, (0, -1))[1] < time:
+            self.values[key] = (value, time)
+
+    def catch_up(self, time):
+        while self.coming and self.coming[0][0] + LAG <= time:
+            written, writes = self.coming.popleft()
+            for key, value in writes.items():
+                self.take(key, value, written)
+
+
+def records(keys, transactions, seed):
+    """The records of a round, as lines."""
+    chance, replicas, values = random.Random(seed), (Replica(), Replica()), iter(range(1, 2**63))
+    at = [client % 2 for client in range(CLIENTS)]
+    for time in range(transactions):
+        for replica in replicas:
+            replica.catch_up(time)
+        client = chance.randrange(CLIENTS)
+        at[client] ^= chance.randrange(STAYS) == 0
+        near, far, writes = replicas[at[client]], replicas[1 - at[client]], {}
+        yield "c%d,begin" % client
+        for _ in range(OPERATIONS):
+            key = chance.randrange(keys)
+            if chance.randrange(2):
+                writes[key] = next(values)
+                yield "c%d,w,k%d,%d" % (client, key, writes[key])
+            else:
+                yield "c%d,r,k%d,%d" % (client, key, writes.get(key, near.values.get(key, (0, 0))[0]))
+        yield "c%d,commit" % client
+        for key, value in writes.items():
+            near.take(key, value, time)
+        far.coming.append((time, writes))
+
+
+def is_anomaly(tcc, keys, transactions, seed):
+    given = "".join(record + "\n" for record in records(keys, transactions, seed))
+    return subprocess.run([tcc, "explain"], input=given.encode(), stdout=subprocess.DEVNULL).returncode == ANOMALY
+
+
+def main():
+    ask = argparse.ArgumentParser(description="How likely a round finds an anomaly.")
+    ask.add_argument("--tcc", default=str(TOP / "crates/tcc/out/tcc"), help="the program, by default the built one")
+    ask.add_argument("--rounds", type=int, default=20, metavar="N", help="so many for each cell, by default 20")
+    ask.add_argument("--keys", type=int, nargs="+", default=[4, 16, 64, 256, 1024], metavar="N")
+    ask.add_argument("--transactions", type=int, nargs="+", default=[50, 100, 200, 400, 800], metavar="N")
+    asked = ask.parse_args()
+    print("keys, then rounds of %d with an anomaly by transactions %s" % (
+        asked.rounds, " ".join(map(str, asked.transactions))))
+    for keys in asked.keys:
+        cells = [sum(is_anomaly(asked.tcc, keys, count, seed) for seed in range(asked.rounds)) for count in asked.transactions]
+        print(keys, *cells, flush=True)
+
+
+if __name__ == "__main__":
+    main()

@@ -1,0 +1,278 @@
+-- Session order: who stands right before a transaction, and the last that are no later than a place of a session.
+use Rattle.std.proofs.Common.{ℕ, zero, suc, ◌+◌, ◌-◌, ◌<◌, ◌≤◌, ◌≡◌, ◌≢◌, ◌==◌, ◌⊎◌, ◌&&◌, nat_lt, Bool, true, false, eqb, inl, inr, List, [], ◌∷◌, map, filter, length, get_or, cond, Option, Some, None, refl, sym, ap, subst, ◌∙◌, arith}
+use Rattle.std.specs.Prelude.{All, IsTrue, nat_le}
+use Rattle.std.specs.List.{Contains, AllPairs, range_with_len}
+use Rattle.std.specs.List.Sorted.{IsPartitionPoint, IsPartitionedBy, IsNonDecreasing, IsStrictlyIncreasing}
+use Rattle.std.proofs.lemmas.List.Kept.{IsStrictlyIncreasing-filter, AllPairs-from_increasing}
+use Rattle.std.proofs.lemmas.List.FromFn.{length-range_with_len, get_or-range_with_len}
+use Rattle.std.proofs.lemmas.Bool.{cases_lt, cases_eq, cases_Bool, and_parts, and_from, or_cases, or_left, or_right, lt-ltb, ltb-true, eqb-true, eq-eqb, leb-true, le-leb, false≢true, both_ways}
+use Rattle.std.proofs.lemmas.List.{get_or_default}
+use Rattle.tcc_txn.proofs.Lists.{in_filter, from_filter}
+use Rattle.tcc_reads.specs.History.{History, IsBySession, count, entry_at, owner, place}
+use Rattle.tcc_graph.specs.Numbers.{at}
+use Rattle.tcc_graph.specs.Relations.{IsSessionPair, session_pair, reads_from, IsReadsPair, IsCausalPair}
+use Rattle.tcc_graph.specs.Keys.{writers, writes, is_key, numbers}
+use Rattle.tcc_graph.specs.declared.level.Level.TheVariants.{Causal, Atomic}
+use Rattle.tcc_cert.specs.Tables.{row_of, entry}
+use Rattle.tcc_graph.proofs.Pairs.{PairParts, pair_parts, lower_first, initial_pair}
+use Rattle.tcc_check.specs.Latest.{is_within, IsLastWithin, AreSessionsKept, AreOwned, AreApart, StandBefore, StandAllBefore, IsReadKept}
+use Rattle.tcc_check.proofs.Writers.{writer_listed}
+
+module _ (h : History) (ordered : IsBySession h.entries) where
+  -- who stands before another, `init` aside, has the lower number
+  lower : (b c : ℕ) → 0 < b → IsSessionPair h b c → b < c
+  lower b c some p = go (cases_lt b c)
+    where
+      parts : PairParts h b c
+      parts = pair_parts h b c p
+
+      less : place h b < place h c
+      less = parts.lower some
+
+      back : (c < b) ⊎ (b ≤ c) → c ≤ b → b < c
+      back (inl under) more = let turned : place h c < place h b = (ordered c b under parts.from).1 (sym (parts.same some)) in absurd (omega (arith, less, turned))
+      back (inr over) more = let same : b ≡ c = omega (arith, over, more) in let itself : place h b ≡ place h c = ap (λ n. place h n) same in absurd (omega (arith, less, itself))
+
+      go : (b < c) ⊎ (c ≤ b) → b < c
+      go (inl less) = less
+      go (inr more) = back (cases_lt c b) more
+
+  -- all between the two are of their session
+  module _ (b c : ℕ) (some : 0 < b) (p : IsSessionPair h b c) (m : ℕ) (over : b < m) (under : m < c) where
+    parts : PairParts h b c
+    parts = pair_parts h b c p
+
+    same_owner : (owner h b ≡ owner h m) × (owner h m ≡ owner h c)
+    same_owner =
+        let one = (ordered b m over (omega (arith, under, parts.to))).0 in
+        let two = (ordered m c under parts.to).0 in
+        let same = parts.same some in
+        (omega (arith, one, two, same), omega (arith, one, two, same))
+
+    pub upto : IsSessionPair h b m
+    upto = let below : m < count h = omega (arith, under, parts.to) in lower_first h b m some parts.from (omega (arith, over)) below same_owner.0 ((ordered b m over below).1 same_owner.0)
+
+    pub onward : IsSessionPair h m c
+    onward = lower_first h m c (omega (arith, over)) (omega (arith, under, parts.to)) (omega (arith, under)) parts.to same_owner.1 ((ordered m c under parts.to).1 same_owner.1)
+
+  -- the number before, where it stands before it, else `init`
+  pub last_before : (b c : ℕ) → 0 < c → session_pair h (c - 1) c ≡ true → IsSessionPair h b c → (b ≡ c - 1) ⊎ IsSessionPair h b (c - 1)
+  last_before b c some there p = go (cases_eq b (c - 1)) (cases_lt 0 b)
+    where
+      parts : PairParts h b c
+      parts = pair_parts h b c p
+
+      go : (b ≡ c - 1) ⊎ (b ≡ c - 1 → ⊥) → (0 < b) ⊎ (b ≤ 0) → (b ≡ c - 1) ⊎ IsSessionPair h b (c - 1)
+      go (inl same) s = inl same
+      go (inr apart) (inl more) = let less = lower b c more p in inr (upto b c more p (c - 1) (omega (arith, less, apart)) (omega (arith, some)))
+      go (inr apart) (inr none) = let zeroth : b ≡ 0 = omega (arith, none) in inr (initial_pair h b (c - 1) zeroth parts.from (omega (arith, apart, zeroth)) (omega (arith, parts.to)))
+
+  pub first_of_session : (b c : ℕ) → 0 < c → session_pair h (c - 1) c ≡ false → IsSessionPair h b c → (b ≡ 0) ⊎ IsSessionPair h b 0
+  first_of_session b c some none p = go (cases_eq b (c - 1)) (cases_lt 0 b)
+    where
+      go : (b ≡ c - 1) ⊎ (b ≡ c - 1 → ⊥) → (0 < b) ⊎ (b ≤ 0) → (b ≡ 0) ⊎ IsSessionPair h b 0
+      go s (inr zeroth) = inl (omega (arith, zeroth))
+      go (inl same) (inl more) = absurd (both_ways (session_pair h (c - 1) c) none (subst (λ (m : ℕ). IsSessionPair h m c) same p))
+      go (inr apart) (inl more) = let less = lower b c more p in absurd (both_ways (session_pair h (c - 1) c) none (onward b c more p (c - 1) (omega (arith, less, apart)) (omega (arith, some))))
+
+-- ---- within a session, up to a place
+
+at_some : (h : History) (n : ℕ) → 0 < n → n < count h → at h n ≡ Some (owner h n, place h n)
+at_some h n some below = ap (λ t. cond t (Some (owner h n, place h n)) None) (and_from (nat_lt 0 n) (nat_lt n (count h)) (lt-ltb 0 n some) (lt-ltb n (count h) below))
+
+pub at_parts : (h : History) (n o p : ℕ) → at h n ≡ Some (o, p) → (0 < n) × (n < count h) × (o ≡ owner h n) × (p ≡ place h n)
+at_parts h n o p e = go (cases_Bool (nat_lt 0 n && nat_lt n (count h)))
+  where
+    go : ((nat_lt 0 n && nat_lt n (count h)) ≡ true) ⊎ ((nat_lt 0 n && nat_lt n (count h)) ≡ false) → (0 < n) × (n < count h) × (o ≡ owner h n) × (p ≡ place h n)
+    go (inl t) =
+        let w = and_parts (nat_lt 0 n) (nat_lt n (count h)) t in
+        let is : Some (o, p) ≡ Some (owner h n, place h n) = sym e ∙ ap (λ t. cond t (Some (owner h n, place h n)) None) t in
+        let both : (o, p) ≡ (owner h n, place h n) = cc in
+        (ltb-true 0 n w.0, ltb-true n (count h) w.1, ap (λ (s : ℕ × ℕ). s.0) both, ap (λ (s : ℕ × ℕ). s.1) both)
+    go (inr f) = let none : Some (o, p) ≡ None = sym e ∙ ap (λ t. cond t (Some (owner h n, place h n)) None) f in absurd cc
+
+module _ (h : History) (session number : ℕ) where
+  pub within_from : (n : ℕ) → 0 < n → n < count h → (owner h n < session) ⊎ ((owner h n ≡ session) × (place h n ≤ number)) → is_within h session number n ≡ true
+  within_from n some below (inl earlier) = rw (at_some h n some below) (or_left _ _ (lt-ltb (owner h n) session earlier))
+  within_from n some below (inr (same, upto)) = rw (at_some h n some below) (or_right _ _ (and_from _ _ (eq-eqb (owner h n) session same) (le-leb (place h n) number upto)))
+
+  pub within_words : (n : ℕ) → 0 < n → n < count h → is_within h session number n ≡ true → (owner h n < session) ⊎ ((owner h n ≡ session) × (place h n ≤ number))
+  within_words n some below e = go (or_cases (nat_lt (owner h n) session) (eqb (owner h n) session && nat_le (place h n) number) (rw (at_some h n some below) at e))
+    where
+      go : (nat_lt (owner h n) session ≡ true) ⊎ ((eqb (owner h n) session && nat_le (place h n) number) ≡ true) → (owner h n < session) ⊎ ((owner h n ≡ session) × (place h n ≤ number))
+      go (inl earlier) = inl (ltb-true (owner h n) session earlier)
+      go (inr same) = let w = and_parts (eqb (owner h n) session) (nat_le (place h n) number) same in inr (eqb-true (owner h n) session w.0, leb-true (place h n) number w.1)
+
+  module _ (ordered : IsBySession h.entries) where
+    falls : (m n : ℕ) → m ≤ n → n < count h → is_within h session number n ≡ true → is_within h session number m ≡ true
+    falls m n upto below e = go (cases_lt 0 m) (cases_lt m n)
+      where
+        words : 0 < m → m < n → (owner h n < session) ⊎ ((owner h n ≡ session) × (place h n ≤ number)) → (owner h m < session) ⊎ ((owner h m ≡ session) × (place h m ≤ number))
+        words some less (inl earlier) = let one = (ordered m n less below).0 in inl (omega (arith, one, earlier))
+        words some less (inr w) = split (cases_lt (owner h m) session)
+          where
+            split : (owner h m < session) ⊎ (session ≤ owner h m) → (owner h m < session) ⊎ ((owner h m ≡ session) × (place h m ≤ number))
+            split (inl earlier) = inl earlier
+            split (inr later) =
+                let step = ordered m n less below in
+                let same : owner h m ≡ owner h n = omega (arith, step.0, later, w.0) in
+                let lower = step.1 same in
+                inr (same ∙ w.0, omega (arith, lower, w.1))
+
+        go : (0 < m) ⊎ (m ≤ 0) → (m < n) ⊎ (n ≤ m) → is_within h session number m ≡ true
+        go (inr none) s = let zeroth : m ≡ 0 = omega (arith, none) in rw zeroth refl
+        go (inl some) (inl less) = within_from m some (omega (arith, less, below)) (words some less (within_words n (omega (arith, some, less)) below e))
+        go (inl some) (inr equal) = let same : m ≡ n = omega (arith, upto, equal) in rw same e
+
+    -- what a search for the last asks, and what its answer says
+    module _ (numbers : List ℕ) (rising : IsNonDecreasing numbers) (all : All (λ b. b < count h) numbers) where
+      pub parted_within : IsPartitionedBy (λ n. is_within h session number n) numbers
+      parted_within i j d upto below e = falls (get_or numbers i d) (get_or numbers j d) (rising i j d upto below) (all j d below) e
+
+      module _ (i : ℕ) (upto : i ≤ length numbers) (point : IsPartitionPoint (λ n. is_within h session number n ≡ true) (λ n. is_within h session number n ≡ false) numbers i) where
+        before : (k b : ℕ) → k < length numbers → get_or numbers k b ≡ b → is_within h session number b ≡ true → k < i
+        before k b below here e = go (cases_lt k i)
+          where
+            go : (k < i) ⊎ (i ≤ k) → k < i
+            go (inl less) = less
+            go (inr more) = absurd (both_ways (is_within h session number b) (rw here at (point.1 k b more below)) e)
+
+        pub none_within : i ≡ 0 → IsLastWithin h numbers session number None
+        none_within none b (k, below, here) e = let less = before k b below here e in absurd (omega (arith, less, none))
+
+        pub last_within : (i ≡ 0 → ⊥) → IsLastWithin h numbers session number (Some (get_or numbers (i - 1) 0))
+        last_within some = (
+          (i - 1, omega (arith, some, upto), get_or_default numbers (i - 1) _ 0 (omega (arith, some, upto))),
+          point.0 (i - 1) 0 (omega arith) (omega (arith, some)),
+          λ b w e.
+              let less = before w.0 b w.1 w.2 e in
+              let rise = rising w.0 (i - 1) 0 (omega (arith, less)) (omega (arith, some, upto)) in
+              let here : get_or numbers w.0 0 ≡ b = get_or_default numbers w.0 0 b w.1 ∙ w.2 in
+              omega (arith, rise, here),
+        )
+
+-- ---- the last alone is asked
+
+module _ (h : History) (ordered : IsBySession h.entries) (places writers : List ℕ) (session number source : ℕ) (all : All (λ b. b < count h) writers) where
+  reached : (b : ℕ) → b < count h → 0 < b → owner h b ≡ session → place h b ≤ number → is_within h session number b ≡ true
+  reached b below some same upto = within_from h session number b some below (inr (same, upto))
+
+  listed : (b : ℕ) → Contains writers b → b < count h
+  listed b (k, l, e) = rw (← e) (all k b l)
+
+  pub before_none : IsLastWithin h writers session number None → StandBefore h places writers session number source
+  before_none none b w some same upto = absurd (none b w (reached b (listed b w) some same upto))
+
+  pub before_earlier : (last : ℕ) → owner h last < session → IsLastWithin h writers session number (Some last) → StandBefore h places writers session number source
+  before_earlier last earlier is b w some same upto =
+      let rise = is.2 b w (reached b (listed b w) some same upto) in
+      go (cases_lt b last) rise
+    where
+      go : (b < last) ⊎ (last ≤ b) → b ≤ last → get_or places b 0 ≤ get_or places source 0
+      go (inl less) rise = let one = (ordered b last less (listed last is.0)).0 in absurd (omega (arith, one, same, earlier))
+      go (inr more) rise = let equal : b ≡ last = omega (arith, more, rise) in let one : owner h b ≡ owner h last = ap (λ n. owner h n) equal in absurd (omega (arith, one, same, earlier))
+
+  pub before_last : (last : ℕ) → owner h last ≡ session → get_or places last 0 ≤ get_or places source 0 → AreSessionsKept h places → IsLastWithin h writers session number (Some last) → StandBefore h places writers session number source
+  before_last last here stands kept is b w some same upto =
+      let rise = is.2 b w (reached b (listed b w) some same upto) in
+      go (cases_lt b last) rise
+    where
+      go : (b < last) ⊎ (last ≤ b) → b ≤ last → get_or places b 0 ≤ get_or places source 0
+      go (inl less) rise =
+          let below = listed last is.0 in
+          let one : owner h b ≡ owner h last = same ∙ sym here in
+          let pair = kept b last (lower_first h b last some (listed b w) (omega (arith, some, less)) below one ((ordered b last less below).1 one)) in
+          omega (arith, pair, stands)
+      go (inr more) rise = let equal : b ≡ last = omega (arith, more, rise) in rw equal stands
+
+-- ---- what the last writers of all sessions say of a read
+
+module _ (h : History) (places : List ℕ) (clocks : List (List ℕ)) (x : List ℕ) (a c : ℕ) (kept : AreSessionsKept h places) (apart : AreApart places) (long : length places ≡ count h) where
+  strictly : (b : ℕ) → b ≢ a → b < count h → a < count h → get_or places b 0 ≤ get_or places a 0 → get_or places b 0 < get_or places a 0
+  strictly b other below source upto = go (cases_lt (get_or places b 0) (get_or places a 0))
+    where
+      go : (get_or places b 0 < get_or places a 0) ⊎ (get_or places a 0 ≤ get_or places b 0) → get_or places b 0 < get_or places a 0
+      go (inl less) = less
+      go (inr more) = absurd (other (apart b a (omega (arith, below, long)) (omega (arith, source, long)) (omega (arith, upto, more))))
+
+  pub kept_by_last : AreOwned h → length (row_of clocks c) ≡ length h.sessions → StandAllBefore h places (row_of clocks c) (writers h x) a → IsReadKept h Causal places clocks x a c
+  kept_by_last owned wide stand b (other, reads, writer) reach = go (cases_lt 0 b) reach
+    where
+      go : (0 < b) ⊎ (b ≤ 0) → (b ≡ 0) ⊎ (place h b ≤ entry clocks c (owner h b)) → get_or places b 0 < get_or places a 0
+      go (inl some) (inl none) = absurd (omega (arith, some, none))
+      go (inl some) (inr upto) =
+          let inside = owned b some writer.0 in
+          strictly b other writer.0 reads.0 (stand (owner h b) (omega (arith, inside, wide)) b (writer_listed h x a c b reads writer) some refl upto)
+      go (inr none) r = let zeroth : b ≡ 0 = omega (arith, none) in kept b a (initial_pair h b a zeroth writer.0 (some_source zeroth (cases_lt 0 a)) reads.0)
+        where
+          some_source : b ≡ 0 → (0 < a) ⊎ (a ≤ 0) → 0 < a
+          some_source zeroth (inl some) = some
+          some_source zeroth (inr less) = absurd (other (omega (arith, zeroth, less)))
+
+  pub kept_by_pairs : ((b : ℕ) → Contains (writers h x) b → b ≢ a → IsCausalPair h b c → get_or places b 0 < get_or places a 0) → IsReadKept h Atomic places clocks x a c
+  kept_by_pairs each b (other, reads, writer) reach = each b (writer_listed h x a c b reads writer) other reach
+
+pub writers_rise : (h : History) (x : List ℕ) → IsNonDecreasing (writers h x)
+writers_rise h x = go (is_key h x)
+  where
+    range : IsStrictlyIncreasing (numbers h)
+    range k below =
+        let long = length-range_with_len 0 (count h) in
+        let one = get_or-range_with_len 0 (count h) k 0 (omega (arith, below, long)) in
+        let two = get_or-range_with_len 0 (count h) (k + 1) 0 (omega (arith, below, long)) in
+        omega (arith, one, two)
+
+    rises : (ns : List ℕ) → IsStrictlyIncreasing ns → IsNonDecreasing ns
+    rises ns up i j d upto below = let pairs = AllPairs-from_increasing ns up in split (cases_lt i j) pairs
+      where
+        split : (i < j) ⊎ (j ≤ i) → AllPairs (λ m n. m < n) ns → get_or ns i d ≤ get_or ns j d
+        split (inl less) pairs = let one = pairs i j d less below in omega (arith, one)
+        split (inr more) pairs = let same : i ≡ j = omega (arith, upto, more) in rw same (omega arith)
+
+    go : (k : Bool) → IsNonDecreasing (cond k (filter (λ u. writes h u x) (numbers h)) [])
+    go true = rises (filter (λ u. writes h u x) (numbers h)) (IsStrictlyIncreasing-filter (λ u. writes h u x) (numbers h) range)
+    go false = λ i j d upto below. absurd (omega (arith, below))
+
+in_map : {X Y : Type 0} (f : X → Y) (xs : List X) (x : X) → Contains xs x → Contains (map f xs) (f x)
+in_map f [] x (k, l, e) = absurd (omega arith)
+in_map f (y ∷ xs) x (zero, l, e) = (0, omega arith, ap f e)
+in_map f (y ∷ xs) x (suc k, l, e) = let w = in_map f xs x (k, omega arith, e) in (suc w.0, omega (arith, w.1), w.2)
+
+from_map : {X Y : Type 0} (f : X → Y) (xs : List X) (y : Y) → Contains (map f xs) y → (x : X) × Contains xs x × (f x ≡ y)
+from_map f [] y (k, l, e) = absurd (omega arith)
+from_map f (x ∷ xs) y (zero, l, e) = (x, (0, omega arith, refl), e)
+from_map f (x ∷ xs) y (suc k, l, e) = let w = from_map f xs y (k, omega arith, e) in (w.0, (suc w.1.0, omega (arith, w.1.1), w.1.2), w.2)
+
+-- a read is one of those that the transaction has
+pub read_listed : (h : History) (a c : ℕ) (x : List ℕ) → IsReadsPair h a c x → Contains (entry_at h c).reads (x, a)
+read_listed h a c x (from, to, there) =
+    let w = from_map (λ (read : List ℕ × ℕ). read.0) (filter (λ read. read.1 == a) (entry_at h c).reads) x there in
+    let v = from_filter (λ (read : List ℕ × ℕ). read.1 == a) (entry_at h c).reads w.0 w.1 in
+    let is : w.0 ≡ (x, a) = pair_is w.0 x a w.2 (eqb-true w.0.1 a v.1) in
+    subst (λ (r : List ℕ × ℕ). Contains (entry_at h c).reads r) is v.0
+  where
+    pair_is : (r : List ℕ × ℕ) (y : List ℕ) (b : ℕ) → r.0 ≡ y → r.1 ≡ b → r ≡ (y, b)
+    pair_is r y b one two = ap (λ z. (z, r.1)) one ∙ ap (λ z. (y, z)) two
+
+pub listed_read : (h : History) (a c : ℕ) (x : List ℕ) → a < count h → c < count h → Contains (entry_at h c).reads (x, a) → IsReadsPair h a c x
+listed_read h a c x from to there = (from, to, in_map (λ (read : List ℕ × ℕ). read.0) (filter (λ read. read.1 == a) (entry_at h c).reads) (x, a) (in_filter (λ (read : List ℕ × ℕ). read.1 == a) (entry_at h c).reads (x, a) there (eq-eqb a a refl)))
+
+-- one item more
+pub first_more : {X : Type 0} (P : X → Type 0) (xs : List X) (i : ℕ) (x : X) → i < length xs → x ≡ get_or xs i x → ((k : ℕ) (d : X) → k < i → P (get_or xs k d)) → P x → (k : ℕ) (d : X) → k < i + 1 → P (get_or xs k d)
+first_more P xs i x inside is before here k d below = go (cases_eq k i)
+  where
+    go : (k ≡ i) ⊎ (k ≡ i → ⊥) → P (get_or xs k d)
+    go (inl same) = subst (λ m. P (get_or xs m d)) (sym same) (subst P (is ∙ get_or_default xs i x d inside) here)
+    go (inr apart) = before k d (omega arith)
+
+-- so for all of them
+pub by_reads : (h : History) (c : ℕ) (P : List ℕ → ℕ → Type 0) (reads : List (List ℕ × ℕ)) → reads ≡ (entry_at h c).reads → ((k : ℕ) (d : List ℕ × ℕ) → k < length reads → P (get_or reads k d).0 (get_or reads k d).1) → (x : List ℕ) (a : ℕ) → IsReadsPair h a c x → P x a
+by_reads h c P reads is all x a p =
+    let w : Contains reads (x, a) = subst (λ (rs : List (List ℕ × ℕ)). Contains rs (x, a)) (sym is) (read_listed h a c x p) in
+    let here : P (get_or reads w.0 (x, a)).0 (get_or reads w.0 (x, a)).1 = all w.0 (x, a) w.1 in
+    subst (λ (r : List ℕ × ℕ). P r.0 r.1) w.2 here
+
+pub read_at : (h : History) (c : ℕ) (reads : List (List ℕ × ℕ)) (i : ℕ) (read : List ℕ × ℕ) → reads ≡ (entry_at h c).reads → All (λ r. r.1 < count h) reads → c < count h → i < length reads → read ≡ get_or reads i read → IsReadsPair h read.1 c read.0
+read_at h c reads i read is sources to below here =
+    let from : read.1 < count h = subst (λ (r : List ℕ × ℕ). r.1 < count h) (sym here) (sources i read below) in
+    listed_read h read.1 c read.0 from to (subst (λ (rs : List (List ℕ × ℕ)). Contains rs (read.0, read.1)) is (i, below, sym here))

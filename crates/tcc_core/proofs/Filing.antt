@@ -1,0 +1,314 @@
+-- What is open stands in the bucket of its cost, and each bucket has transactions of one cost.
+use Rattle.std.proofs.Common.{◌≡◌, ◌≢◌, ◌<◌, ◌≤◌, ◌+◌, ◌*◌, ◌/◌, ◌%◌, ◌==◌, ◌⊎◌, ℕ, zero, suc, true, false, inl, inr, List, [], ◌∷◌, length, length-set, set, take, get_or, slice_index, All, Contains, max, refl, ap, sym, ◌∙◌, arith}
+use Rattle.std.proofs.lemmas.Bool.{cases_order, cases_eq}
+use Rattle.std.proofs.lemmas.Bool.Decides.{eqb_tells, nat_tests}
+use Rattle.std.proofs.lemmas.List.{get_or-set_same, get_or-set_other, get_or-take, length-take-le}
+use Rattle.std.proofs.lemmas.Grind.{get_or_default_zero}
+use Rattle.std.proofs.lemmas.Nat.{div-add-mod', mod_below}
+use Rattle.std.proofs.Math.Nat.{mul-le-mul_right}
+use Rattle.tcc_txn.specs.declared.limits.TheConstants.{MAX_COUNT}
+use Rattle.tcc_core.specs.Rings.{StandsIn, IsOutOf}
+use Rattle.tcc_core.specs.Queues.{IsNearest, IsFiled, IsOpen, IsShut, IsListed, count_reached}
+use Rattle.tcc_core.specs.declared.ring.TheConstants.{BUCKETS}
+use Rattle.tcc_core.specs.declared.queue.TheConstants.{NO_WAY}
+
+-- numbers within n of each other with the same rest are the same
+pub one_in_window : (n f x y : ℕ) → f ≤ x → x < f + n → f ≤ y → y < f + n → x % n ≡ y % n → x ≡ y
+one_in_window n f x y x_least x_most y_least y_most rests = go (cases_order (x / n) (y / n))
+  where
+    x_parts : x / n * n + x % n ≡ x
+    x_parts = div-add-mod' x n
+
+    y_parts : y / n * n + y % n ≡ y
+    y_parts = div-add-mod' y n
+
+    go : (x / n ≡ y / n) ⊎ ((x / n < y / n) ⊎ (y / n < x / n)) → x ≡ y
+    go (inl same) = let whole : x / n * n ≡ y / n * n = ap (λ q. q * n) same in omega (arith, x_parts, y_parts)
+    go (inr (inl less)) = let up : (x / n + 1) * n ≤ y / n * n = mul-le-mul_right n (omega arith) in absurd (omega (arith, x_parts, y_parts))
+    go (inr (inr more)) = let up : (y / n + 1) * n ≤ x / n * n = mul-le-mul_right n (omega arith) in absurd (omega (arith, x_parts, y_parts))
+
+-- one list is the other but for what it has at v
+pub record IsOneSet (old new : List ℕ) (v a : ℕ) : Type 0 where
+  pub long : length new ≡ length old
+  pub here : slice_index new v ≡ a
+  pub kept : (x : ℕ) → x ≢ v → slice_index new x ≡ slice_index old x
+
+pub one_set : (xs : List ℕ) (v a : ℕ) → v < length xs → IsOneSet xs (set xs v a) v a
+one_set xs v a within = record {
+  long = length-set xs v a;
+  here = get_or-set_same xs v a 0 within;
+  kept = λ x other. get_or-set_other xs v x a 0 other;
+}
+
+pub two_set : (xs : List ℕ) (v a b : ℕ) → v < length xs → IsOneSet xs (set (set xs v a) v b) v b
+two_set xs v a b within =
+    let first = one_set xs v a within in
+    let then = one_set (set xs v a) v b (omega (arith, first.long)) in
+    record {
+      long = then.long ∙ first.long;
+      here = then.here;
+      kept = λ x other. then.kept x other ∙ first.kept x other;
+    }
+
+-- ---- one transaction is filed anew
+
+abbrev IsFiledAt : ℕ → ℕ → ℕ → ℕ → Type 0
+IsFiledAt floor most cost b = IsShut cost b ⊎ IsOpen floor most cost b
+
+higher : (floor most more cost b : ℕ) → most ≤ more → IsFiledAt floor most cost b → IsFiledAt floor more cost b
+higher floor most more cost b up (inl shut) = inl shut
+higher floor most more cost b up (inr open_at) = inr (record { some = open_at.some; above = open_at.above; below = omega (arith, open_at.below); at = open_at.at })
+
+pub filed_set : (floor most more : ℕ) (costs ring costs' ring' : List ℕ) (v c b : ℕ) → IsFiled floor most costs ring → v < length costs → most ≤ more → more < floor + BUCKETS → more < NO_WAY
+    → IsOneSet costs costs' v c → IsOneSet ring ring' v b → IsFiledAt floor more c b → IsFiled floor more costs' ring'
+filed_set floor most more costs ring costs' ring' v c b is within up window few costed ringed at = record {
+  long = omega (arith, is.long, costed.long, ringed.long);
+  window = window;
+  few = few;
+  each = λ u below. go u (omega (arith, costed.long, below)) (cases_eq u v);
+}
+  where
+    go : (u : ℕ) → u < length costs → (u ≡ v) ⊎ (u ≡ v → ⊥) → IsFiledAt floor more (slice_index costs' u) (slice_index ring' u)
+    go u below (inl same) = rw (same, costed.here, ringed.here) at
+    go u below (inr other) = rw (costed.kept u other, ringed.kept u other) (higher floor most more (slice_index costs u) (slice_index ring u) up (is.each u below))
+
+-- one of the nearest goes out
+pub filed_settled : (floor most : ℕ) (costs ring costs' ring' : List ℕ) (v b : ℕ) → IsFiled floor most costs ring → IsNearest costs v → slice_index costs v < floor + BUCKETS → floor ≤ slice_index costs v → BUCKETS ≤ b
+    → IsOneSet costs costs' v 0 → IsOneSet ring ring' v b → IsFiled (slice_index costs v) most costs' ring'
+filed_settled floor most costs ring costs' ring' v b is near low up out costed ringed = record {
+  long = omega (arith, is.long, costed.long, ringed.long);
+  window = omega (arith, is.window);
+  few = is.few;
+  each = λ u below. go u (omega (arith, costed.long, below)) (cases_eq u v);
+}
+  where
+    kept : (u : ℕ) → u < length costs → IsFiledAt floor most (slice_index costs u) (slice_index ring u) → IsFiledAt (slice_index costs v) most (slice_index costs u) (slice_index ring u)
+    kept u below (inl shut) = inl shut
+    kept u below (inr open_at) = inr (record { some = open_at.some; above = near.least u below open_at.some; below = open_at.below; at = open_at.at })
+
+    go : (u : ℕ) → u < length costs → (u ≡ v) ⊎ (u ≡ v → ⊥) → IsFiledAt (slice_index costs v) most (slice_index costs' u) (slice_index ring' u)
+    go u below (inl same) = rw (same, costed.here, ringed.here) (inl (record { none = inr refl; out = out }))
+    go u below (inr other) = rw (costed.kept u other, ringed.kept u other) (kept u below (is.each u below))
+
+-- what is open stands in a bucket
+pub open_stands : (floor most : ℕ) (costs ring : List ℕ) (v : ℕ) → IsFiled floor most costs ring → v < length costs → 0 < slice_index costs v → slice_index costs v < NO_WAY → IsOpen floor most (slice_index costs v) (slice_index ring v)
+open_stands floor most costs ring v is within some reached = go (is.each v within)
+  where
+    go : IsShut (slice_index costs v) (slice_index ring v) ⊎ IsOpen floor most (slice_index costs v) (slice_index ring v) → IsOpen floor most (slice_index costs v) (slice_index ring v)
+    go (inl shut) = none shut.none
+      where
+        none : (slice_index costs v ≡ NO_WAY) ⊎ (slice_index costs v ≡ 0) → IsOpen floor most (slice_index costs v) (slice_index ring v)
+        none (inl far) = absurd (omega arith)
+        none (inr past) = absurd (omega arith)
+    go (inr open_at) = open_at
+
+pub stands_low : (floor most cost b : ℕ) → IsOpen floor most cost b → b < BUCKETS
+stands_low floor most cost b open_at = omega (arith, open_at.at, mod_below cost BUCKETS (omega arith))
+
+-- what was not reached, or was settled, stands in none
+pub shut_out : (floor most : ℕ) (costs ring : List ℕ) (v : ℕ) → IsFiled floor most costs ring → v < length costs → slice_index costs v ≡ NO_WAY → BUCKETS ≤ slice_index ring v
+shut_out floor most costs ring v is within far = go (is.each v within)
+  where
+    go : IsShut (slice_index costs v) (slice_index ring v) ⊎ IsOpen floor most (slice_index costs v) (slice_index ring v) → BUCKETS ≤ slice_index ring v
+    go (inl shut) = shut.out
+    go (inr open_at) = absurd (omega (arith, open_at.below, is.few))
+
+-- ---- the nearest
+
+-- what stands in the bucket of a cost below which nothing is open is one of the nearest
+pub nearest_found : (floor most cost : ℕ) (costs ring : List ℕ) (v : ℕ) → IsFiled floor most costs ring → floor ≤ cost → cost ≤ most → StandsIn ring (cost % BUCKETS) v
+    → ((u : ℕ) → u < length costs → 0 < slice_index costs u → cost ≤ slice_index costs u)
+    → IsNearest costs v × (slice_index costs v ≡ cost)
+nearest_found floor most cost costs ring v is up down found low = go (is.each v (omega (arith, is.long, found.below)))
+  where
+    go : IsShut (slice_index costs v) (slice_index ring v) ⊎ IsOpen floor most (slice_index costs v) (slice_index ring v) → IsNearest costs v × (slice_index costs v ≡ cost)
+    go (inl shut) = absurd (omega (arith, found.at, shut.out, mod_below cost BUCKETS (omega arith)))
+    go (inr open_at) =
+        let same : slice_index costs v ≡ cost = one_in_window BUCKETS floor (slice_index costs v) cost open_at.above (omega (arith, open_at.below, is.window)) up (omega (arith, is.window)) (sym open_at.at ∙ found.at) in (
+          record {
+            below = omega (arith, is.long, found.below);
+            open_at = open_at.some;
+            reached = omega (arith, open_at.below, is.few);
+            least = λ u inside some. omega (arith, same, low u inside some);
+          },
+          same,
+        )
+
+-- where nobody stands in the bucket of a cost, what is open costs more
+pub none_at : (floor most cost : ℕ) (costs ring : List ℕ) → IsFiled floor most costs ring → cost ≤ most → ((v : ℕ) → IsOutOf ring (cost % BUCKETS) v)
+    → ((u : ℕ) → u < length costs → 0 < slice_index costs u → cost ≤ slice_index costs u)
+    → (u : ℕ) → u < length costs → 0 < slice_index costs u → cost + 1 ≤ slice_index costs u
+none_at floor most cost costs ring is down out low u within some = go (is.each u within) (cases_eq (slice_index costs u) cost)
+  where
+    go : IsShut (slice_index costs u) (slice_index ring u) ⊎ IsOpen floor most (slice_index costs u) (slice_index ring u) → (slice_index costs u ≡ cost) ⊎ (slice_index costs u ≡ cost → ⊥) → cost + 1 ≤ slice_index costs u
+    go any (inr other) = omega (arith, low u within some, other)
+    go (inr open_at) (inl same) = absurd (out u (omega (arith, is.long, within)) (open_at.at ∙ ap (λ n. n % BUCKETS) same))
+    go (inl shut) (inl same) = none shut.none
+      where
+        none : (slice_index costs u ≡ NO_WAY) ⊎ (slice_index costs u ≡ 0) → cost + 1 ≤ slice_index costs u
+        none (inl far) = omega (arith, is.few)
+        none (inr past) = absurd (omega arith)
+
+pub floor_low : (floor most : ℕ) (costs ring : List ℕ) → IsFiled floor most costs ring → (u : ℕ) → u < length costs → 0 < slice_index costs u → floor ≤ slice_index costs u ⊎ (slice_index costs u ≡ NO_WAY)
+floor_low floor most costs ring is u within some = go (is.each u within)
+  where
+    go : IsShut (slice_index costs u) (slice_index ring u) ⊎ IsOpen floor most (slice_index costs u) (slice_index ring u) → floor ≤ slice_index costs u ⊎ (slice_index costs u ≡ NO_WAY)
+    go (inr open_at) = inl open_at.above
+    go (inl shut) = none shut.none
+      where
+        none : (slice_index costs u ≡ NO_WAY) ⊎ (slice_index costs u ≡ 0) → floor ≤ slice_index costs u ⊎ (slice_index costs u ≡ NO_WAY)
+        none (inl far) = inr far
+        none (inr past) = absurd (omega arith)
+
+-- ---- those that were reached
+
+-- whether a cost is one of no way
+abbrev Tells : ℕ → Type 0
+Tells c = (((c == NO_WAY) ≡ true) × (c ≡ NO_WAY)) ⊎ (((c == NO_WAY) ≡ false) × (c ≢ NO_WAY))
+
+tells : (c : ℕ) → Tells c
+tells c = eqb_tells c NO_WAY
+
+reached_cons : (c : ℕ) (costs : List ℕ) → c ≢ NO_WAY → count_reached (c ∷ costs) ≡ count_reached costs + 1
+reached_cons c costs other = go (tells c)
+  where
+    go : Tells c → count_reached (c ∷ costs) ≡ count_reached costs + 1
+    go (inl (test, same)) = absurd (other same)
+    go (inr (test, apart)) = rw test refl
+
+far_cons : (c : ℕ) (costs : List ℕ) → c ≡ NO_WAY → count_reached (c ∷ costs) ≡ count_reached costs
+far_cons c costs same = go (tells c)
+  where
+    go : Tells c → count_reached (c ∷ costs) ≡ count_reached costs
+    go (inl (test, far)) = rw test refl
+    go (inr (test, apart)) = absurd (apart same)
+
+pub reached_most : (costs : List ℕ) → count_reached costs ≤ length costs
+reached_most [] = omega arith
+reached_most (c ∷ costs) = go (tells c) (reached_most costs)
+  where
+    go : Tells c → count_reached costs ≤ length costs → count_reached (c ∷ costs) ≤ length (c ∷ costs)
+    go (inl (test, same)) few = omega (arith, far_cons c costs same)
+    go (inr (test, other)) few = omega (arith, reached_cons c costs other)
+
+pub reached_more : (costs : List ℕ) (v c : ℕ) → v < length costs → slice_index costs v ≡ NO_WAY → c ≢ NO_WAY → count_reached (set costs v c) ≡ count_reached costs + 1
+reached_more [] v c within far some = absurd (omega arith)
+reached_more (d ∷ costs) zero c within far some = omega (arith, reached_cons c costs some, far_cons d costs far)
+reached_more (d ∷ costs) (suc v) c within far some = go (tells d) (reached_more costs v c (omega arith) far some)
+  where
+    go : Tells d → count_reached (set costs v c) ≡ count_reached costs + 1 → count_reached (set (d ∷ costs) (suc v) c) ≡ count_reached (d ∷ costs) + 1
+    go (inl (test, same)) again = omega (arith, far_cons d (set costs v c) same, far_cons d costs same, again)
+    go (inr (test, other)) again = omega (arith, reached_cons d (set costs v c) other, reached_cons d costs other, again)
+
+pub reached_kept : (costs : List ℕ) (v c : ℕ) → v < length costs → slice_index costs v ≢ NO_WAY → c ≢ NO_WAY → count_reached (set costs v c) ≡ count_reached costs
+reached_kept [] v c within known some = absurd (omega arith)
+reached_kept (d ∷ costs) zero c within known some = omega (arith, reached_cons c costs some, reached_cons d costs known)
+reached_kept (d ∷ costs) (suc v) c within known some = go (tells d) (reached_kept costs v c (omega arith) known some)
+  where
+    go : Tells d → count_reached (set costs v c) ≡ count_reached costs → count_reached (set (d ∷ costs) (suc v) c) ≡ count_reached (d ∷ costs)
+    go (inl (test, same)) again = omega (arith, far_cons d (set costs v c) same, far_cons d costs same, again)
+    go (inr (test, other)) again = omega (arith, reached_cons d (set costs v c) other, reached_cons d costs other, again)
+
+pub reached_below : (costs : List ℕ) (v : ℕ) → v < length costs → slice_index costs v ≡ NO_WAY → count_reached costs < length costs
+reached_below [] v within far = absurd (omega arith)
+reached_below (d ∷ costs) zero within far = omega (arith, far_cons d costs far, reached_most costs)
+reached_below (d ∷ costs) (suc v) within far = go (tells d) (reached_below costs v (omega arith) far)
+  where
+    go : Tells d → count_reached costs < length costs → count_reached (d ∷ costs) < length (d ∷ costs)
+    go (inl (test, same)) again = omega (arith, far_cons d costs same, again)
+    go (inr (test, other)) again = omega (arith, reached_cons d costs other, again)
+
+pub reached_none : (costs : List ℕ) → ((v : ℕ) → v < length costs → slice_index costs v ≡ NO_WAY) → count_reached costs ≡ 0
+reached_none [] all = refl
+reached_none (d ∷ costs) all = omega (arith, far_cons d costs (all 0 (omega arith)), reached_none costs (λ v within. all (suc v) (omega arith)))
+
+-- ---- the list of them
+
+pub listed_none : (listed costs : List ℕ) → length listed ≡ length costs → length listed ≤ MAX_COUNT → ((v : ℕ) → v < length costs → slice_index costs v ≡ NO_WAY) → IsListed 0 listed costs
+listed_none listed costs long few all = record {
+  long = long;
+  few = few;
+  counted = sym (reached_none costs all);
+  below = λ k low. absurd (omega arith);
+  each = λ v within some. absurd (some (all v within));
+}
+
+pub listed_more : (held : ℕ) (listed costs : List ℕ) (v c : ℕ) → IsListed held listed costs → v < length costs → slice_index costs v ≡ NO_WAY → c ≢ NO_WAY → IsListed (held + 1) (set listed held v) (set costs v c)
+listed_more held listed costs v c is within far some = record {
+  long = now.long ∙ is.long ∙ sym costed.long;
+  few = omega (arith, now.long, is.few);
+  counted = omega (arith, is.counted, reached_more costs v c within far some);
+  below = λ k low. below k low (cases_eq k held);
+  each = λ u inside reached. each u (omega (arith, costed.long, inside)) reached (cases_eq u v);
+}
+  where
+    costed : IsOneSet costs (set costs v c) v c
+    costed = one_set costs v c within
+
+    now : IsOneSet listed (set listed held v) held v
+    now = one_set listed held v (omega (arith, is.long, is.counted, reached_below costs v within far))
+
+    below : (k : ℕ) → k < held + 1 → (k ≡ held) ⊎ (k ≡ held → ⊥) → slice_index (set listed held v) k < length (set costs v c)
+    below k low (inl same) = rw same (omega (arith, now.here, costed.long, within))
+    below k low (inr other) = omega (arith, now.kept k other, costed.long, is.below k (omega arith))
+
+    each : (u : ℕ) → u < length costs → slice_index (set costs v c) u ≢ NO_WAY → (u ≡ v) ⊎ (u ≡ v → ⊥) → (k : ℕ) × (k < held + 1) × (slice_index (set listed held v) k ≡ u)
+    each u inside reached (inl same) = (held, omega arith, now.here ∙ sym same)
+    each u inside reached (inr other) =
+        let (k, low, at) = is.each u inside (λ e. reached (costed.kept u other ∙ e)) in
+        (k, omega arith, now.kept k (λ e. omega arith) ∙ at)
+
+pub listed_kept : (held : ℕ) (listed costs : List ℕ) (v c : ℕ) → IsListed held listed costs → v < length costs → slice_index costs v ≢ NO_WAY → c ≢ NO_WAY → IsListed held listed (set costs v c)
+listed_kept held listed costs v c is within known some = record {
+  long = is.long ∙ sym costed.long;
+  few = is.few;
+  counted = is.counted ∙ sym (reached_kept costs v c within known some);
+  below = λ k low. omega (arith, costed.long, is.below k low);
+  each = λ u inside reached. each u (omega (arith, costed.long, inside)) reached (cases_eq u v);
+}
+  where
+    costed : IsOneSet costs (set costs v c) v c
+    costed = one_set costs v c within
+
+    each : (u : ℕ) → u < length costs → slice_index (set costs v c) u ≢ NO_WAY → (u ≡ v) ⊎ (u ≡ v → ⊥) → (k : ℕ) × (k < held) × (slice_index listed k ≡ u)
+    each u inside reached (inl same) = is.each u inside (λ e. known (ap (slice_index costs) (sym same) ∙ e))
+    each u inside reached (inr other) = is.each u inside (λ e. reached (costed.kept u other ∙ e))
+
+-- ---- the part of the list that is held
+module _ (held : ℕ) (listed costs : List ℕ) (is : IsListed held listed costs) where
+  pub held_few : held ≤ length listed
+  held_few = omega (arith, is.long, is.counted, reached_most costs)
+
+  pub taken_long : held ≡ length (take held listed)
+  taken_long = sym (length-take-le held listed held_few)
+
+  taken_at : (k d : ℕ) → k < held → get_or (take held listed) k d ≡ slice_index listed k
+  taken_at k d low = get_or-take held listed k d low ∙ get_or_default_zero listed k d (omega (arith, held_few))
+
+  pub taken_below : All (λ v. v < length costs) (take held listed)
+  taken_below k d low = omega (arith, taken_at k d (omega (arith, taken_long)), is.below k (omega (arith, taken_long)))
+
+  pub taken_each : (v : ℕ) → v < length costs → slice_index costs v ≢ NO_WAY → Contains (take held listed) v
+  taken_each v within some =
+      let (k, low, at) = is.each v within some in
+      (k, omega (arith, taken_long), taken_at k v low ∙ at)
+
+-- what was reached is shut
+pub shut_all : (held : ℕ) (listed costs ring costs' ring' : List ℕ) (floor most : ℕ) → IsListed held listed costs → IsFiled floor most costs ring → length costs' ≡ length costs
+    → ((v : ℕ) → v < length costs → Contains (take held listed) v → (slice_index costs' v ≡ NO_WAY) × (BUCKETS ≤ slice_index ring' v))
+    → ((v : ℕ) → v < length costs → ((slice_index costs' v ≡ slice_index costs v) × (slice_index ring' v ≡ slice_index ring v)) ⊎ ((slice_index costs' v ≡ NO_WAY) × (BUCKETS ≤ slice_index ring' v)))
+    → (v : ℕ) → v < length costs → (slice_index costs' v ≡ NO_WAY) × (BUCKETS ≤ slice_index ring' v)
+shut_all held listed costs ring costs' ring' floor most is filed long shut kept v within = go (tells (slice_index costs v)) (kept v within)
+  where
+    go : Tells (slice_index costs v) → ((slice_index costs' v ≡ slice_index costs v) × (slice_index ring' v ≡ slice_index ring v)) ⊎ ((slice_index costs' v ≡ NO_WAY) × (BUCKETS ≤ slice_index ring' v)) → (slice_index costs' v ≡ NO_WAY) × (BUCKETS ≤ slice_index ring' v)
+    go any (inr now) = now
+    go (inr (test, other)) (inl same) = shut v within (taken_each held listed costs is v within other)
+    go (inl (test, far)) (inl (same, stood)) = (same ∙ far, omega (arith, stood, shut_out floor most costs ring v filed within far))
+
+pub filed_none : (costs ring : List ℕ) → length costs ≡ length ring → ((v : ℕ) → v < length costs → (slice_index costs v ≡ NO_WAY) × (BUCKETS ≤ slice_index ring v)) → IsFiled 0 0 costs ring
+filed_none costs ring long all = record {
+  long = long;
+  window = omega arith;
+  few = omega arith;
+  each = λ v within. let (far, out) = all v within in inl (record { none = inl far; out = out });
+}

@@ -1,0 +1,182 @@
+//! Transactions that are open at a cost, and the nearest of them. The costs of those that are open lie in a window as wide
+//! as there are buckets, so each bucket has transactions of one cost.
+ghost use Rattle.std.specs.Prelude.{◌≡◌, ◌≢◌, ◌<◌, ◌≤◌, ◌+◌, ◌⊎◌, ℕ, length, slice_index, slice_set, All, Contains, IfSome, IfNone, IfOk};
+ghost use Rattle.tcc_core.specs.Queues.{IsNearest, IsPast, IsUnreached, IsFiled, offered};
+ghost use Rattle.tcc_core.specs.Queues as queues;
+ghost use Rattle.tcc_core.specs.declared.ring.TheConstants.{BUCKETS};
+ghost use Rattle.tcc_txn.specs.declared.limits.TheConstants.{MAX_COUNT};
+
+use crate::ring::{BUCKETS, Ring};
+use std::alloc::{AllocError, Global};
+use std::marker::Model;
+
+/// What the costs have where no way leads.
+pub(crate) const NO_WAY: u32 = u32::MAX;
+
+/// Transactions that are open at a cost.
+#[derive(Drop)]
+pub(crate) struct Queue {
+    /// The cost of what was settled last; 0 at first.
+    floor: u32,
+    /// Nothing that is open costs more.
+    most: u32,
+    costs: Vec<u32>,
+    ring: Ring,
+    /// The transactions that were reached, as many as are held.
+    listed: Vec<u32>,
+    held: u32,
+}
+
+impl Model for Queue {
+    ghost use Rattle.tcc_core.specs.Queues as queues;
+    ghost use Rattle.tcc_core.specs.Queues.{IsFiled, IsListed};
+
+    ghost Value = { queues.Queue };
+
+    ghost view = { λ q. record { costs = q.costs.items; floor = q.floor } };
+
+    ghost invariant = { λ q. IsFiled q.floor q.most q.costs.items q.ring × IsListed q.held q.listed.items q.costs.items };
+}
+
+/// Takes each of these out of its bucket, and the ways to them away.
+fn shut(listed: &[u32], costs: &mut [u32], ring: &mut Ring)
+    requires long { length costs.old ≡ length ring.old }
+    requires below { All (λ v. v < length costs.old) listed.now }
+    ensures long { length costs.new ≡ length costs.old }
+    ensures same { length ring.new ≡ length ring.old }
+    ensures shut { (v : ℕ) → v < length costs.old → Contains listed.now v
+        → (slice_index costs.new v ≡ NO_WAY) × (BUCKETS ≤ slice_index ring.new v) }
+    ensures kept { (v : ℕ) → v < length costs.old
+        → ((slice_index costs.new v ≡ slice_index costs.old v) × (slice_index ring.new v ≡ slice_index ring.old v))
+        ⊎ ((slice_index costs.new v ≡ NO_WAY) × (BUCKETS ≤ slice_index ring.new v)) }
+{
+    for &v in listed {
+        if ring.stands(v) {
+            ring.take(v);
+        }
+        costs[v as usize] = NO_WAY;
+    }
+}
+
+impl Queue {
+    /// So many transactions, of which none is open.
+    pub(crate) fn begin(alloc: Global, count: u32) -> Result<Queue, AllocError>
+        requires { count ≤ MAX_COUNT }
+        ensures long { IfOk result (λ queue. length queue.costs ≡ count) }
+        ensures none { IfOk result (λ queue. IsUnreached queue.costs) }
+        ensures floor { IfOk result (λ queue. queue.floor ≡ 0) }
+    {
+        let ring = Ring::begin(alloc, count)?;
+        let costs = vec![in alloc; NO_WAY; count as usize]?;
+        let listed = vec![in alloc; 0; count as usize]?;
+        Ok(Queue {
+            floor: 0,
+            most: 0,
+            costs,
+            ring,
+            listed,
+            held: 0,
+        })
+    }
+
+    /// Opens a transaction at this cost, or moves it there from where it costs more.
+    fn lower(&mut self, v: u32, cost: u32)
+        requires within { v < length self.old.costs }
+        requires above { self.old.floor < cost }
+        requires window { cost < self.old.floor + BUCKETS }
+        requires few { cost < NO_WAY }
+        requires less { cost < slice_index self.old.costs v }
+        ensures { self.new ≡ record self.old { costs = slice_set self.old.costs v cost } }
+    {
+        if self.costs[v as usize] == NO_WAY {
+            self.listed[self.held as usize] = v;
+            self.held += 1;
+        } else {
+            self.ring.take(v);
+        }
+        self.ring.put(v, cost % BUCKETS);
+        self.costs[v as usize] = cost;
+        self.most = self.most.max(cost);
+    }
+
+    /// Offers a way to a transaction: it is open at this cost from now on, if it was open at a greater one or not at all.
+    /// A way that costs no more than the floor, or more than a link beyond it, is passed over.
+    pub(crate) fn offer(&mut self, v: u32, cost: u32)
+        requires { v < length self.old.costs }
+        ensures { self.new ≡ record self.old { costs = offered self.old.floor self.old.costs v cost } }
+    {
+        if self.floor < cost && cost - self.floor < BUCKETS && cost < self.costs[v as usize] {
+            self.lower(v, cost);
+        }
+    }
+
+    /// An open transaction that none is cheaper than, if it costs at most the cap.
+    pub(crate) fn nearest(&self, cap: u64) -> Option<u32>
+        ensures found { IfSome result (λ v. IsNearest self.now.costs v) }
+        ensures within { IfSome result (λ v. slice_index self.now.costs v ≤ cap) }
+        ensures window { IfSome result (λ v. slice_index self.now.costs v < self.now.floor + BUCKETS) }
+        ensures none { IfNone result (IsPast cap self.now.costs) }
+    {
+        let last = if cap < self.most as u64 {
+            cap as u32
+        } else {
+            self.most
+        };
+        for cost in self.floor..last + 1 {
+            if let Some(v) = self.ring.first(cost % BUCKETS) {
+                return Some(v);
+            }
+        }
+        None
+    }
+
+    /// Settles one of the nearest: its cost is the floor from now on.
+    pub(crate) fn settle(&mut self, v: u32)
+        requires { IsNearest self.old.costs v }
+        ensures costs { self.new.costs ≡ slice_set self.old.costs v 0 }
+        ensures floor { self.new.floor ≡ slice_index self.old.costs v }
+    {
+        self.floor = self.costs[v as usize];
+        self.ring.take(v);
+        self.costs[v as usize] = 0;
+    }
+
+    /// Takes all ways away, in time proportional to what was reached.
+    pub(crate) fn clear(&mut self)
+        ensures long { length self.new.costs ≡ length self.old.costs }
+        ensures none { IsUnreached self.new.costs }
+        ensures floor { self.new.floor ≡ 0 }
+    {
+        shut(
+            &self.listed[..self.held as usize],
+            &mut self.costs,
+            &mut self.ring,
+        );
+        self.held = 0;
+        self.most = 0;
+        self.floor = 0;
+    }
+
+    /// The cost of what was settled last; 0 at first.
+    pub(crate) fn floor(&self) -> u32
+        ensures { result ≡ self.now.floor }
+    {
+        self.floor
+    }
+
+    /// The cost at which a transaction is open.
+    pub(crate) fn cost(&self, v: u32) -> u32
+        requires { v < length self.now.costs }
+        ensures { result ≡ slice_index self.now.costs v }
+    {
+        self.costs[v as usize]
+    }
+
+    /// The transactions to which a way was offered, and perhaps others.
+    pub(crate) fn reached(&self) -> &[u32]
+        ensures below { All (λ v. v < length self.now.costs) result.now }
+        ensures each { (v : ℕ) → v < length self.now.costs → slice_index self.now.costs v ≢ NO_WAY → Contains result.now v }
+    {
+        &self.listed[..self.held as usize]
+    }
+}

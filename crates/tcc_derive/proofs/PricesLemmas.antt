@@ -1,0 +1,55 @@
+-- All rows together are the prices of a history at a level, and name no transactions that it doesn't have.
+use Rattle.std.proofs.Common.{ℕ, ◌<◌, ◌≤◌, ◌≡◌, List, [], length, refl, sym, subst, arith}
+use Rattle.std.proofs.lemmas.List.{get_or_default}
+use Rattle.tcc_txn.specs.declared.limits.TheConstants.{MAX_COUNT}
+use Rattle.tcc_reads.specs.History.{count}
+use Rattle.tcc_graph.specs.Levels.{Judged}
+use Rattle.tcc_graph.specs.Tables.{row_of}
+use Rattle.tcc_near.specs.Distances.{IsSquare, NearTable, IsNearOf}
+use Rattle.tcc_derive.specs.Prices.{Tables, IsPricesOf, HasOthers}
+use Rattle.tcc_derive.specs.Lowering.{HasPairs}
+use Rattle.tcc_derive.specs.Others.{HasOtherRows, HasEnds, IsShaped}
+use Rattle.tcc_derive.specs.Rows.{IsPriceRow, IsCostRow, HasRows}
+use Rattle.tcc_derive.proofs.CostLemmas.{cost_row_of}
+use Rattle.tcc_derive.proofs.OthersLemmas.{others_of, below}
+
+square : (n : ℕ) (rows : List (List ℕ)) → length rows ≡ n → ((u : ℕ) → u < n → length (row_of rows u) ≡ n) → IsSquare n rows
+square n rows long wide = record { long = long; wide = λ k d l. rw (get_or_default rows k d [] l) (wide k (omega arith)) }
+
+module _ (j : Judged) (near : NearTable) (prices costs : List (List ℕ)) (ends : List ℕ) (others : List (List (ℕ × ℕ)))
+    (is : IsNearOf j near) (priced : HasRows j.history (IsPriceRow j) prices) (paired : HasRows j.history (λ u row. HasPairs (row_of near.rows u) (row_of prices u) row) costs)
+    (ended : HasEnds j.history ends) (other : HasOtherRows j.history prices costs others) where
+  abbrev tables : Tables
+  tables = record { level = j.level; prices = prices; costs = costs; ends = ends; others = others }
+
+  cost_row : (u : ℕ) → u < count j.history → IsCostRow j u (row_of costs u)
+  cost_row u from = cost_row_of j near u (row_of prices u) (row_of costs u) is from (priced.each u from) (paired.each u from)
+
+  price_square : IsSquare (count j.history) prices
+  price_square = square (count j.history) prices priced.long (λ u from. (priced.each u from).long)
+
+  cost_square : IsSquare (count j.history) costs
+  cost_square = square (count j.history) costs paired.long (λ u from. (cost_row u from).long)
+
+  pub prices_of : IsPricesOf j tables
+  prices_of = record {
+    level = refl;
+    prices = price_square;
+    costs = cost_square;
+    priced = λ b a from to. (priced.each b from).priced a to;
+    costed = λ a b from to. (cost_row a from).costed b to;
+    few = λ b a n from to. (priced.each b from).few a n to;
+    ended = λ u from. ended.each u from;
+    others = λ u from. subst (λ (row : List (ℕ × ℕ)). HasOthers j tables u row) (sym (other.each u from)) (others_of j tables u from (priced.each u from) (cost_row u from));
+  }
+
+  pub shaped : count j.history ≤ MAX_COUNT → IsShaped (length prices) tables
+  shaped few = rw priced.long (record {
+    few = few;
+    prices = price_square;
+    costs = cost_square;
+    ends = ended.long;
+    ended = λ u from. let e = ended.each u from in (e.order, e.few);
+    others = other.long;
+    within = λ u from. rw (other.each u from) (below j tables u from (priced.each u from) (cost_row u from) (row_of prices u) (row_of costs u) (count j.history));
+  })

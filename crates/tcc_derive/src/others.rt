@@ -1,0 +1,83 @@
+//! The transactions that session pairs and other links lead to.
+ghost use Rattle.std.specs.Prelude.{◌≡◌, ◌<◌, ◌≤◌, length, IfOk};
+ghost use Rattle.tcc_txn.specs.declared.limits.TheConstants.{MAX_COUNT};
+ghost use Rattle.tcc_reads.specs.History.{count};
+ghost use Rattle.tcc_derive.specs.Others.{others_below, HasOtherRows, HasEnds};
+ghost use Rattle.tcc_derive.specs.Rows.{HasRows};
+ghost use Rattle.tcc_graph.specs.Tables.{row_of};
+
+use rayon::prelude::*;
+use std::alloc::Global;
+use std::thread::Threads;
+use tcc_graph::Graph;
+use tcc_near::{NONE, Row};
+use tcc_txn::NoMemory;
+
+/// Where the numbers end that session pairs lead to, for each transaction.
+pub(crate) fn session_ends(alloc: Global, graph: &Graph) -> Result<Vec<u32>, NoMemory>
+    ensures { IfOk result (λ ends. HasEnds graph.now ends.items) }
+{
+    let mut ends = Vec::with_capacity(alloc, graph.count() as usize)?;
+    for u in 0..graph.count() {
+        let (_first, end) = graph.later(u);
+        ends.push(end)?;
+    }
+    Ok(ends)
+}
+
+/// The transactions that read from `u` or have a price, ascending, each with what a link there costs.
+fn others_row(
+    alloc: Global,
+    graph: &Graph,
+    u: u32,
+    prices: &[u16],
+    costs: &[u16],
+) -> Result<Row<(u32, u32)>, NoMemory>
+    requires from { u < count graph.now }
+    requires prices { length prices.now ≡ count graph.now }
+    requires costs { length costs.now ≡ count graph.now }
+    ensures { IfOk result (λ row. row ≡ others_below graph.now u prices.now costs.now (count graph.now)) }
+{
+    let mut others = Vec::new(alloc);
+    for v in 0..graph.count() {
+        let cost = costs[v as usize];
+        if prices[v as usize] != NONE || (cost == 1 && !graph.reads_from(u, v).is_empty()) {
+            others.push((v, u32::from(cost)))?;
+        }
+    }
+    Ok(Row::new(others))
+}
+
+/// The same of each transaction.
+pub(crate) fn other_rows(
+    rt: &(impl Threads + Sync),
+    alloc: Global,
+    graph: &Graph,
+    prices: &[Row<u16>],
+    costs: &[Row<u16>],
+) -> Result<Vec<Row<(u32, u32)>>, NoMemory>
+    requires prices { HasRows graph.now (λ u row. length row ≡ count graph.now) prices.now }
+    requires costs { HasRows graph.now (λ u row. length row ≡ count graph.now) costs.now }
+    ensures { IfOk result (λ rows. HasOtherRows graph.now prices.now costs.now rows.items) }
+{
+    (0..graph.count() as usize)
+        .into_par_iter()
+        .map(
+            |u: usize| -> Result<Row<(u32, u32)>, NoMemory>
+                requires { (u < length prices.now) × (u < length costs.now) × (u < count graph.now) × (count graph.now ≤ MAX_COUNT)
+                    × (length (row_of prices.now u) ≡ count graph.now) × (length (row_of costs.now u) ≡ count graph.now) }
+                ensures { IfOk result (λ row. row
+                    ≡ others_below graph.entry.now u (row_of prices.entry.now u) (row_of costs.entry.now u) (count graph.entry.now)) }
+            {
+                others_row(
+                    alloc,
+                    graph,
+                    u as u32,
+                    prices[u].values(),
+                    costs[u].values(),
+                )
+            },
+        )
+        .with_min_len(1)
+        .collect::<Result<Vec<Row<(u32, u32)>>, NoMemory>>(rt, alloc)?
+}

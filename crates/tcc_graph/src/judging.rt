@@ -1,0 +1,103 @@
+//! Which links are those of a history.
+ghost use Rattle.std.specs.Prelude.{◌≡◌, ◌↔◌, IsTrue};
+ghost use Rattle.tcc_graph.specs.Relations.{IsSessionPair, IsReadsPair};
+ghost use Rattle.tcc_graph.specs.Keys.{IsWriter};
+ghost use Rattle.tcc_graph.specs.Walks.{IsStep, Leads};
+ghost use Rattle.tcc_graph.specs.Levels.{IsAllowed};
+ghost use Rattle.tcc_graph.specs.Links.{IsReason, IsLink};
+
+use crate::{Graph, Level, Link, Step};
+use tcc_txn::Name;
+
+/// Whether `from` stands before `to` in session order, whatever the numbers.
+fn is_session(graph: &Graph, from: u32, to: u32) -> bool
+    ensures { IsTrue result ↔ IsSessionPair graph.now from to }
+{
+    from < graph.count() && to < graph.count() && graph.session(from, to)
+}
+
+/// Whether `to` reads the key from `from`, whatever the numbers.
+fn is_read(graph: &Graph, from: u32, to: u32, key: &Name) -> bool
+    ensures { IsTrue result ↔ IsReadsPair graph.now from to key.now }
+{
+    from < graph.count() && to < graph.count() && graph.reads_from(from, to).contains(key)
+}
+
+/// Whether the transaction writes the key: `init` writes each, also one that nobody uses.
+fn is_writer(graph: &Graph, writer: u32, key: &Name) -> bool
+    ensures { IsTrue result ↔ IsWriter graph.now writer key.now }
+{
+    writer < graph.count() && (writer == 0 || graph.writes(writer).contains(key))
+}
+
+/// Whether the step is a pair of the history.
+fn is_step(graph: &Graph, step: &Step) -> bool
+    ensures { IsTrue result ↔ IsStep graph.now step.now }
+{
+    match step {
+        Step::Session { from, to } => is_session(graph, *from, *to),
+        Step::Reads { from, to, key } => is_read(graph, *from, *to, key),
+    }
+}
+
+/// Whether the steps, each a pair of the history, lead from one transaction to the other.
+fn leads(graph: &Graph, from: u32, to: u32, steps: &[Step]) -> bool
+    ensures { IsTrue result ↔ Leads graph.now from to steps.now }
+{
+    let mut at = from;
+    for step in steps {
+        if step.from() != at || !is_step(graph, step) {
+            return false;
+        }
+        at = step.to();
+    }
+    at == to
+}
+
+/// Whether the level allows the walk.
+fn is_allowed(level: Level, walk: &[Step]) -> bool
+    ensures { IsTrue result ↔ IsAllowed level walk.now }
+{
+    match level {
+        Level::Causal => true,
+        Level::Atomic => walk.len() == 1,
+    }
+}
+
+/// Whether `reader` reads the key from `to`, and `from`, another writer of it, reaches `reader` by the walk, which the
+/// level allows.
+fn is_reason(
+    graph: &Graph,
+    level: Level,
+    from: u32,
+    to: u32,
+    key: &Name,
+    reader: u32,
+    walk: &[Step],
+) -> bool
+    ensures { IsTrue result ↔ IsReason (record { history = graph.now; level = level }) from to key.now reader walk.now }
+{
+    from != to
+        && is_read(graph, to, reader, key)
+        && is_writer(graph, from, key)
+        && is_allowed(level, walk)
+        && !walk.is_empty()
+        && leads(graph, from, reader, walk)
+}
+
+/// Whether the link is one of the history at the level.
+pub(crate) fn is_link(graph: &Graph, level: Level, link: &Link) -> bool
+    ensures { IsTrue result ↔ IsLink (record { history = graph.now; level = level }) link.now }
+{
+    match link {
+        Link::Session { from, to } => is_session(graph, *from, *to),
+        Link::Reads { from, to, key } => is_read(graph, *from, *to, key),
+        Link::Derived {
+            from,
+            to,
+            key,
+            reader,
+            walk,
+        } => is_reason(graph, level, *from, *to, key, *reader, walk.steps()),
+    }
+}

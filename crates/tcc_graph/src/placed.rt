@@ -1,0 +1,121 @@
+//! What transactions write and read, by the places of the keys.
+ghost use Rattle.std.specs.Prelude.{◌≡◌, ◌<◌, ◌≤◌, true, map, length, All, IfOk};
+ghost use Rattle.std.specs.List.Sorted.{IsStrictlySortedBy};
+ghost use Rattle.std.specs.Ordering.{nat_cmp};
+ghost use Rattle.std.specs.Cmp.Lexicographic.{slice_cmp};
+ghost use Rattle.tcc_graph.specs.Keys.{has_name, keys_of};
+ghost use Rattle.tcc_graph.specs.Places.{name_of};
+ghost use Rattle.tcc_graph.specs.ReadTables.{IsPlaced, ArePlaced};
+
+use crate::key_table::place_of;
+use crate::transaction::Transaction;
+use std::alloc::Global;
+use std::marker::Model;
+use tcc_txn::{Name, NoMemory};
+
+/// What a transaction writes and reads: places among the keys, those read each with its source.
+#[derive(Drop)]
+pub(crate) struct Placed {
+    writes: Vec<u32>,
+    reads: Vec<(u32, u32)>,
+}
+
+impl Model for Placed {
+    ghost use Rattle.tcc_graph.specs.ReadTables.{Placed};
+
+    ghost Value = { Placed };
+
+    ghost view = { λ p. record { writes = p.writes.items; reads = p.reads.items } };
+}
+
+/// The place of a key that is among the sorted keys.
+fn place_in(keys: &[Name], key: &Name) -> u32
+    requires sorted { IsStrictlySortedBy (slice_cmp nat_cmp) keys.now }
+    requires few { length keys.now ≤ u32.MAX }
+    requires there { has_name keys.now key.now ≡ true }
+    ensures within { result < length keys.now }
+    ensures here { name_of keys.now result ≡ key.now }
+{
+    place_of(keys, key).unwrap() as u32
+}
+
+/// The places of names that are all among the sorted keys.
+fn places_of(alloc: Global, keys: &[Name], names: &[Name]) -> Result<Vec<u32>, NoMemory>
+    requires sorted { IsStrictlySortedBy (slice_cmp nat_cmp) keys.now }
+    requires few { length keys.now ≤ u32.MAX }
+    requires there { All (λ x. has_name keys.now x ≡ true) names.now }
+    ensures names { IfOk result (λ places. map (name_of keys.now) places.items ≡ names.now) }
+    ensures within { IfOk result (λ places. All (λ k. k < length keys.now) places.items) }
+{
+    let mut places = Vec::new(alloc);
+    for name in names {
+        places.push(place_in(keys, name))?;
+    }
+    Ok(places)
+}
+
+/// The places of keys that are read, each with its source; all keys are among the sorted ones.
+fn read_places(
+    alloc: Global,
+    keys: &[Name],
+    reads: &[(Name, u32)],
+) -> Result<Vec<(u32, u32)>, NoMemory>
+    requires sorted { IsStrictlySortedBy (slice_cmp nat_cmp) keys.now }
+    requires few { length keys.now ≤ u32.MAX }
+    requires there { All (λ read. has_name keys.now read.0 ≡ true) reads.now }
+    ensures names { IfOk result (λ places. map (λ read. (name_of keys.now read.0, read.1)) places.items ≡ reads.now) }
+    ensures within { IfOk result (λ places. All (λ read. read.0 < length keys.now) places.items) }
+{
+    let mut places = Vec::new(alloc);
+    for (key, source) in reads {
+        places.push((place_in(keys, key), *source))?;
+    }
+    Ok(places)
+}
+
+impl Placed {
+    /// What the transaction writes and reads.
+    fn of(alloc: Global, keys: &[Name], transaction: &Transaction) -> Result<Placed, NoMemory>
+        requires sorted { IsStrictlySortedBy (slice_cmp nat_cmp) keys.now }
+        requires few { length keys.now ≤ u32.MAX }
+        requires there { All (λ x. has_name keys.now x ≡ true) (keys_of transaction.now) }
+        ensures { IfOk result (λ placed. IsPlaced keys.now transaction.now placed) }
+    {
+        Ok(Placed {
+            writes: places_of(alloc, keys, transaction.writes())?,
+            reads: read_places(alloc, keys, transaction.reads())?,
+        })
+    }
+
+    /// The places of the keys that it writes visibly.
+    pub(crate) fn writes(&self) -> &[u32]
+        ensures { result.now ≡ self.now.writes }
+    {
+        &self.writes
+    }
+
+    /// Place and source of its external reads.
+    pub(crate) fn reads(&self) -> &[(u32, u32)]
+        ensures { result.now ≡ self.now.reads }
+    {
+        &self.reads
+    }
+}
+
+/// What each transaction writes and reads, by the places of the keys.
+pub(crate) fn placed_by(
+    alloc: Global,
+    keys: &[Name],
+    transactions: &[Transaction],
+) -> Result<Vec<Placed>, NoMemory>
+    requires sorted { IsStrictlySortedBy (slice_cmp nat_cmp) keys.now }
+    requires few { length keys.now ≤ u32.MAX }
+    requires there { All (λ e. All (λ x. has_name keys.now x ≡ true) (keys_of e)) transactions.now }
+    ensures { IfOk result (λ placed. ArePlaced keys.now transactions.now placed.items) }
+{
+    let mut placed = Vec::new(alloc);
+    for transaction in transactions {
+        placed.push(Placed::of(alloc, keys, transaction)?)?;
+    }
+    Ok(placed)
+}

@@ -1,0 +1,25 @@
+-- From snapshots to links, each file over those above it:
+--   Elements   elements of lists that are mapped, or sorted without repeats
+--   Placed     where transactions stand, by name and place; a snapshot that continues another has each of them
+--   Numbered   the transaction of each number
+--   Searching  a search for a label, place by place
+--   Labels     no two transactions have one label
+--   Meeting    the number of each transaction in a snapshot that continues its own
+--   Kept       what a map of numbers keeps of pairs, it keeps of walks, reasons, links and cycles
+--   Growth     a snapshot that continues another keeps its pairs
+--   Keeping    so it keeps its links, cycles and anomalies
+--   Nesting    what is finished later continues what was finished
+--   Carried    links in other numbers, as they are looked at one by one
+--   Worked     an anomaly in a snapshot that goes on, where numbers move
+pub mod Carried
+pub mod Elements
+pub mod Growth
+pub mod Keeping
+pub mod Kept
+pub mod Labels
+pub mod Meeting
+pub mod Nesting
+pub mod Numbered
+pub mod Placed
+pub mod Searching
+pub mod Worked

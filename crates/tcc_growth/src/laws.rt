@@ -1,0 +1,40 @@
+//! The law of growth: where a snapshot goes on, its anomalies stay, and the least never costs more.
+ghost use Rattle.std.specs.Prelude.{ℕ, ◌<◌, ◌≡◌, length, List, ◌++◌, map, All};
+ghost use Rattle.tcc_txn.specs.Finished.{finished_in};
+ghost use Rattle.tcc_txn.specs.Nested.{IsNested};
+ghost use Rattle.tcc_txn.specs.Snapshots.{Sessions};
+ghost use Rattle.tcc_txn.specs.declared.rows.Item.{Item};
+ghost use Rattle.tcc_graph.specs.Levels.{Judged};
+ghost use Rattle.tcc_graph.specs.Links.{IsLink, cost};
+ghost use Rattle.tcc_graph.specs.Routes.{IsCycle};
+ghost use Rattle.tcc_graph.specs.declared.level.Level.{Level};
+ghost use Rattle.tcc_graph.specs.declared.link.Link.{Link};
+ghost use Rattle.tcc_growth.specs.Moved.{link_by};
+ghost use Rattle.tcc_growth.specs.Growth.{Grows, IsFirstMissing, judged, link_in, KeepsLabels, KeepsLinks, KeepsCycles, KeepsAnomalies, CostsNoMore, LeadOn};
+
+/// If every list of one resolved snapshot is a prefix of the list of that session in another resolved one, each
+/// transaction of the first has a number in the second, that of its label, and each link of the first is, by its labels,
+/// a link of the second at the same cost. So each cycle of the first is one of the second, at each level, and a least
+/// cycle of the second costs no more than one of the first; and no link of a cycle of the first is missed in the second.
+pub fn growth()
+    ensures labels { (small large : Sessions) → Grows small large → KeepsLabels small large }
+    ensures links { (small large : Sessions) → Grows small large → KeepsLinks small large }
+    ensures cycles { (small large : Sessions) → Grows small large → KeepsCycles small large }
+    ensures anomalies { (small large : Sessions) → Grows small large → KeepsAnomalies small large }
+    ensures costs { (small large : Sessions) → Grows small large → CostsNoMore small large }
+    ensures missed { (small large : Sessions) (level : Level) (s : ℕ) (links : List Link) (n : ℕ) → Grows small large
+        → IsCycle (judged level small) s links → IsFirstMissing (judged level large) (map (link_in small large) links) n → ⊥ }
+{}
+
+/// Links that lead back to their start are, in other numbers, a cycle wherever each of them is a link, and cost the same:
+/// whatever becomes of the numbers, and whether or not one snapshot continues another.
+pub fn cycles()
+    ensures { (j : Judged) (f : ℕ → ℕ) (s : ℕ) (links : List Link) → 0 < length links → LeadOn s s links
+        → All (IsLink j) (map (link_by f) links)
+        → IsCycle j (f s) (map (link_by f) links) × (cost (map (link_by f) links) ≡ cost links) }
+{}
+
+/// What some items finish is continued by what they finish together with more.
+pub fn finished()
+    ensures { (items more : List Item) → IsNested (finished_in items) (finished_in (items ++ more)) }
+{}

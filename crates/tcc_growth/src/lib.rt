@@ -1,0 +1,8 @@
+//! Growing snapshots: what stays when every list of a snapshot goes on.
+#![tactic(auto)]
+
+mod carrying;
+pub mod laws;
+mod moving;
+
+pub use carrying::{first_missing, lead_back};

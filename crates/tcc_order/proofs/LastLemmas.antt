@@ -1,0 +1,209 @@
+-- Last places: of those meant so far, and of one more.
+use Rattle.std.proofs.Common.{◌≡◌, ◌≢◌, ◌<◌, ◌≤◌, ◌+◌, ◌==◌, ◌↔◌, ◌⊎◌, inl, inr, ℕ, Bool, true, false, ◌&&◌, nat_lt, List, [], length, get_or, set, take, replicate, slice_index, refl, sym, ◌∙◌, subst, arith}
+use Rattle.std.specs.Prelude.{max}
+use Rattle.std.specs.List.{All, Contains}
+use Rattle.std.proofs.lemmas.Bool.{cases_lt, cases_eq, cases_Bool, and_parts, and_from, ltb-true, lt-ltb, eqb-true, eq-eqb, false≢true}
+use Rattle.std.proofs.lemmas.List.{get_or-replicate, length-replicate, get_or-set_same, get_or-set_other, get_or_default, length-set}
+use Rattle.std.proofs.lemmas.List.Elements.{All-weaker, All-contains_itself}
+use Rattle.tcc_reads.specs.History.{History, IsBySession, count, owner, place}
+use Rattle.tcc_graph.specs.Walks.{IsReached}
+use Rattle.tcc_graph.specs.Levels.{causally}
+use Rattle.tcc_graph.specs.Orders.{Before, IsCommitOrder}
+use Rattle.tcc_graph.specs.Relations.{IsCausalPair}
+use Rattle.tcc_graph.specs.Tables.{row_of}
+use Rattle.tcc_graph.proofs.Numberings.{below_in}
+use Rattle.tcc_graph.proofs.Walking.{pair_walk}
+use Rattle.tcc_graph.proofs.Pairs.{pair_below}
+use Rattle.tcc_near.specs.Clocks.{IsBehind, IsLast, IsClocksOf}
+use Rattle.tcc_near.proofs.FreshLemmas.{one_of_taken, still_taken, last_taken, nothing_in}
+use Rattle.tcc_order.specs.Behind.{HasSourcesAt, parents}
+use Rattle.tcc_order.specs.Lasts.{IsOneOf, IsLastOf, AreLastsOf, IsBefore, IsUpTo, raised, HasLasts}
+use Rattle.tcc_order.proofs.Reaching.{reached_by, parents_all, parent_pair, IsBehindBy}
+use Rattle.tcc_order.proofs.Rows.{taken_before}
+
+-- ---- one session
+-- others are meant, of which each is one of these and the other way round
+one_same : (h : History) (P Q : ℕ → Type 0) (session b : ℕ) → (P b → Q b) → IsOneOf h P session b → IsOneOf h Q session b
+one_same h P Q session b to is = record { committed = is.committed; below = is.below; owned = is.owned; meant = to is.meant }
+
+last_same : (h : History) (P Q : ℕ → Type 0) (session last : ℕ) → ((b : ℕ) → P b ↔ Q b) → IsLastOf h P session last → IsLastOf h Q session last
+last_same h P Q session last same is = record {
+  attained = go is.attained;
+  greatest = λ b one. is.greatest b (one_same h Q P session b (same b).1 one);
+}
+  where
+    go : (last ≡ 0) ⊎ ((b : ℕ) × IsOneOf h P session b × (place h b ≡ last)) → (last ≡ 0) ⊎ ((b : ℕ) × IsOneOf h Q session b × (place h b ≡ last))
+    go (inl none) = inl none
+    go (inr (b, one, at)) = inr (b, one_same h P Q session b (same b).0 one, at)
+
+-- the greater of two is the last of both
+last_both : (h : History) (P Q : ℕ → Type 0) (session m n : ℕ) → IsLastOf h P session m → IsLastOf h Q session n → IsLastOf h (λ b. Q b ⊎ P b) session (max m n)
+last_both h P Q session m n first second = record {
+  attained = which (cases_lt n m);
+  greatest = λ b one. go b one one.meant;
+}
+  where
+    go : (b : ℕ) → IsOneOf h (λ x. Q x ⊎ P x) session b → Q b ⊎ P b → place h b ≤ max m n
+    go b one (inl q) = omega (arith, second.greatest b record { committed = one.committed; below = one.below; owned = one.owned; meant = q })
+    go b one (inr p) = omega (arith, first.greatest b record { committed = one.committed; below = one.below; owned = one.owned; meant = p })
+
+    from_first : n < m → (m ≡ 0) ⊎ ((b : ℕ) × IsOneOf h P session b × (place h b ≡ m)) → (max m n ≡ 0) ⊎ ((b : ℕ) × IsOneOf h (λ x. Q x ⊎ P x) session b × (place h b ≡ max m n))
+    from_first less (inl none) = absurd (omega arith)
+    from_first less (inr (b, one, at)) = let e : place h b ≡ max m n = omega arith in inr (b, one_same h P (λ x. Q x ⊎ P x) session b (λ p. inr p) one, e)
+
+    from_second : m ≤ n → (n ≡ 0) ⊎ ((b : ℕ) × IsOneOf h Q session b × (place h b ≡ n)) → (max m n ≡ 0) ⊎ ((b : ℕ) × IsOneOf h (λ x. Q x ⊎ P x) session b × (place h b ≡ max m n))
+    from_second more (inl none) = let e : max m n ≡ 0 = omega arith in inl e
+    from_second more (inr (b, one, at)) = let e : place h b ≡ max m n = omega arith in inr (b, one_same h Q (λ x. Q x ⊎ P x) session b (λ q. inl q) one, e)
+
+    which : (n < m) ⊎ (m ≤ n) → (max m n ≡ 0) ⊎ ((b : ℕ) × IsOneOf h (λ x. Q x ⊎ P x) session b × (place h b ≡ max m n))
+    which (inl less) = from_first less first.attained
+    which (inr more) = from_second more second.attained
+
+-- the last of one alone, and of others
+last_one : (h : History) (Q : ℕ → Type 0) (session p n : ℕ) → p < count h → IsLastOf h Q session n → IsLastOf h (λ b. Q b ⊎ (b ≡ p)) session (raised h p session n)
+last_one h Q session p n below is = go (cases_Bool (nat_lt 0 p && (owner h p == session)))
+  where
+    alone : nat_lt 0 p && (owner h p == session) ≡ true → IsLastOf h (λ b. b ≡ p) session (place h p)
+    alone t =
+        let w = and_parts (nat_lt 0 p) (owner h p == session) t in
+        record {
+          attained = inr (p, record { committed = ltb-true 0 p w.0; below = below; owned = eqb-true (owner h p) session w.1; meant = refl }, refl);
+          greatest = λ b one. rw one.meant (omega arith);
+        }
+
+    nobody : nat_lt 0 p && (owner h p == session) ≡ false → (b : ℕ) → IsOneOf h (λ x. x ≡ p) session b → ⊥
+    nobody f b one = false≢true (sym f ∙ subst (λ (z : ℕ). (nat_lt 0 z && (owner h z == session)) ≡ true) one.meant (and_from (nat_lt 0 b) (owner h b == session) (lt-ltb 0 b one.committed) (eq-eqb (owner h b) session one.owned)))
+
+    none : nat_lt 0 p && (owner h p == session) ≡ false → IsLastOf h (λ b. b ≡ p) session 0
+    none f = record { attained = inl refl; greatest = λ b one. absurd (nobody f b one) }
+
+    go : (nat_lt 0 p && (owner h p == session) ≡ true) ⊎ (nat_lt 0 p && (owner h p == session) ≡ false) → IsLastOf h (λ b. Q b ⊎ (b ≡ p)) session (raised h p session n)
+    go (inl t) = rw t (last_both h (λ b. b ≡ p) Q session (place h p) n (alone t) is)
+    go (inr f) =
+        let e : max 0 n ≡ n = omega arith in
+        rw f (subst (λ (z : ℕ). IsLastOf h (λ b. Q b ⊎ (b ≡ p)) session z) e (last_both h (λ b. b ≡ p) Q session 0 n (none f) is))
+
+-- ---- rows
+pub lasts_same : (h : History) (P Q : ℕ → Type 0) (row : List ℕ) → ((b : ℕ) → P b ↔ Q b) → AreLastsOf h P row → AreLastsOf h Q row
+lasts_same h P Q row same are = record { long = are.long; each = λ s of. last_same h P Q s (slice_index row s) same (are.each s of) }
+
+pub lasts_none : (h : History) (row : List ℕ) (n : ℕ) (numbers : List ℕ) → row ≡ replicate n 0 → n ≡ length h.sessions → AreLastsOf h (IsUpTo h (Contains (take 0 numbers))) row
+lasts_none h row n numbers is long = rw is record {
+  long = length-replicate n 0 ∙ long;
+  each = λ s of. record { attained = inl (get_or-replicate n s 0 0 (omega arith)); greatest = λ b one. absurd (nothing_in one.meant.0 one.meant.1) };
+}
+
+-- one more transaction, and what reaches it
+pub lasts_more : (h : History) (numbers : List ℕ) (k p : ℕ) (old mid new other : List ℕ) → k < length numbers → get_or numbers k 0 ≡ p → p < count h
+    → AreLastsOf h (IsUpTo h (Contains (take k numbers))) old → AreLastsOf h (IsBefore h p) other
+    → length mid ≡ length old → ((s : ℕ) → s < length old → slice_index mid s ≡ max (slice_index other s) (slice_index old s))
+    → length new ≡ length mid → ((s : ℕ) → s < length mid → slice_index new s ≡ raised h p s (slice_index mid s))
+    → AreLastsOf h (IsUpTo h (Contains (take (k + 1) numbers))) new
+lasts_more h numbers k p old mid new other inside here below are before long_mid each_mid long_new each_new = record {
+  long = long_new ∙ (long_mid ∙ are.long);
+  each = λ s of. last_same h (λ b. (IsUpTo h (Contains (take k numbers)) b ⊎ IsReached h b p) ⊎ (b ≡ p)) (IsUpTo h (Contains (take (k + 1) numbers))) s (slice_index new s) both (step s of);
+}
+  where
+    step : (s : ℕ) → s < length h.sessions → IsLastOf h (λ b. (IsUpTo h (Contains (take k numbers)) b ⊎ IsReached h b p) ⊎ (b ≡ p)) s (slice_index new s)
+    step s of =
+        rw (each_new s (omega (arith, are.long)), each_mid s (omega (arith, are.long)))
+        (last_one h (λ b. IsUpTo h (Contains (take k numbers)) b ⊎ IsReached h b p) s p (max (slice_index other s) (slice_index old s)) below
+        (last_both h (IsBefore h p) (IsUpTo h (Contains (take k numbers))) s (slice_index other s) (slice_index old s) (before.each s of) (are.each s of)))
+
+    there : (b : ℕ) → (IsUpTo h (Contains (take k numbers)) b ⊎ IsReached h b p) ⊎ (b ≡ p) → IsUpTo h (Contains (take (k + 1) numbers)) b
+    there b (inl (inl (q, taken, way))) = (q, still_taken numbers k inside q taken, way)
+    there b (inl (inr reached)) = (p, rw (← here) (last_taken numbers k inside), inr reached)
+    there b (inr same) = (p, rw (← here) (last_taken numbers k inside), inl same)
+
+    by : (b q : ℕ) → (b ≡ q) ⊎ IsReached h b q → Contains (take k numbers) q ⊎ (get_or numbers k 0 ≡ q) → (IsUpTo h (Contains (take k numbers)) b ⊎ IsReached h b p) ⊎ (b ≡ p)
+    by b q way (inl taken) = inl (inl (q, taken, way))
+    by b q (inl same) (inr is) = inr (same ∙ (sym is ∙ here))
+    by b q (inr reached) (inr is) = let at : q ≡ p = sym is ∙ here in inl (inr (rw at at reached))
+
+    both : (b : ℕ) → ((IsUpTo h (Contains (take k numbers)) b ⊎ IsReached h b p) ⊎ (b ≡ p)) ↔ IsUpTo h (Contains (take (k + 1) numbers)) b
+    both b = (there b, λ w. by b w.0 w.2 (one_of_taken numbers k inside w.0 w.1))
+
+-- what reaches c is what its parents are, and what reaches them
+pub up_to_parents : (h : History) → IsBySession h.entries → (c : ℕ) → c < count h → HasSourcesAt h c → (b : ℕ) → IsUpTo h (Contains (parents h c)) b ↔ IsBefore h c b
+up_to_parents h numbered c below all b = (λ w. (reached_by h numbered b c below all).0 (there w.0 w.1 w.2), λ r. back ((reached_by h numbered b c below all).1 r))
+  where
+    there : (p : ℕ) → Contains (parents h c) p → (b ≡ p) ⊎ IsReached h b p → IsBehindBy h b c
+    there p parent (inl same) = inl (rw same (parent_pair h numbered c below all p parent))
+    there p parent (inr reached) = inr (p, parent, reached)
+
+    one : Contains (parents h c) b ⊎ ((p : ℕ) × Contains (parents h c) p × IsCausalPair h b p) → IsUpTo h (Contains (parents h c)) b
+    one (inl parent) = (b, parent, inl refl)
+    one (inr (p, parent, pair)) = (p, parent, inr (let w = pair_walk h b p pair in (w.0, w.1)))
+
+    back : IsBehindBy h b c → IsUpTo h (Contains (parents h c)) b
+    back (inl pair) = one (parents_all h numbered c below all b pair)
+    back (inr (p, parent, reached)) = (p, parent, inr reached)
+
+-- ---- tables
+pub table_none : (h : History) (table : List (List ℕ)) (order : List ℕ) → length table ≡ count h → HasLasts h (Contains (take 0 order)) table
+table_none h table order long = record { long = long; each = λ c l there. absurd (nothing_in c there) }
+
+pub table_more : (h : History) (table : List (List ℕ)) (order row : List ℕ) (k : ℕ) → k < length order → get_or order k 0 < count h → HasLasts h (Contains (take k order)) table
+    → AreLastsOf h (IsBefore h (get_or order k 0)) row → HasLasts h (Contains (take (k + 1) order)) (set table (get_or order k 0) row)
+table_more h table order row k inside low before new = record {
+  long = omega (arith, before.long, length-set {A = List ℕ});
+  each = λ c l there. row_at c l (cases_eq c (get_or order k 0)) there;
+}
+  where
+    was : (c : ℕ) → c ≢ get_or order k 0 → Contains (take k order) c ⊎ (get_or order k 0 ≡ c) → Contains (take k order) c
+    was c other (inl there) = there
+    was c other (inr same) = absurd (other (sym same))
+
+    row_at : (c : ℕ) → c < count h → (c ≡ get_or order k 0) ⊎ (c ≢ get_or order k 0) → Contains (take (k + 1) order) c → AreLastsOf h (IsBefore h c) (row_of (set table (get_or order k 0) row) c)
+    row_at c l (inl same) there = rw (same, get_or-set_same table (get_or order k 0) row [] (omega (arith, low, before.long))) new
+    row_at c l (inr other) there = rw (get_or-set_other table (get_or order k 0) c row [] other) (before.each c l (was c other (one_of_taken order k inside c there)))
+
+pub table_whole : (h : History) (table : List (List ℕ)) (order : List ℕ) → ((c : ℕ) → c < count h → Contains order c) → HasLasts h (Contains order) table → IsClocksOf h table
+table_whole h table order each is = record {
+  long = is.long;
+  wide = λ i d l. wide i d l;
+  exact = λ t s at of. exact t s ((is.each t at (each t at)).each s of);
+}
+  where
+    wide : (i : ℕ) (d : List ℕ) → i < length table → length (get_or table i d) ≡ length h.sessions
+    wide i d l = rw (get_or_default table i d [] l) (is.each i (omega (arith, is.long)) (each i (omega (arith, is.long)))).long
+
+    behind : (t s b : ℕ) → IsOneOf h (IsBefore h t) s b → IsBehind h t s b
+    behind t s b one = record { committed = one.committed; below = one.below; owned = one.owned; reached = one.meant }
+
+    exact : (t s : ℕ) → IsLastOf h (IsBefore h t) s (slice_index (row_of table t) s) → IsLast h t s (slice_index (row_of table t) s)
+    exact t s last = record {
+      attained = go last.attained;
+      greatest = λ b is_behind. last.greatest b record { committed = is_behind.committed; below = is_behind.below; owned = is_behind.owned; meant = is_behind.reached };
+    }
+      where
+        go : (slice_index (row_of table t) s ≡ 0) ⊎ ((b : ℕ) × IsOneOf h (IsBefore h t) s b × (place h b ≡ slice_index (row_of table t) s)) → (slice_index (row_of table t) s ≡ 0) ⊎ ((b : ℕ) × IsBehind h t s b × (place h b ≡ slice_index (row_of table t) s))
+        go (inl none) = inl none
+        go (inr (b, one, at)) = inr (b, behind t s b one, at)
+
+-- ---- the order
+module _ (h : History) (numbered : IsBySession h.entries) (order : List ℕ) (k : ℕ) (table : List (List ℕ)) (commit : IsCommitOrder (causally h) order) (inside : k < length order) (all : HasSourcesAt h (get_or order k 0)) (done : HasLasts h (Contains (take k order)) table) where
+  abbrev c : ℕ
+  c = get_or order k 0
+
+  pub low : get_or order k 0 < count h
+  low = below_in commit.numbering k inside
+
+  before : (p : ℕ) → IsCausalPair h p c → Before order p c
+  before p (inl pair) = commit.sessions p c pair
+  before p (inr (x, pair)) = commit.reads p c x pair
+
+  pub parent_done : (p : ℕ) → Contains (parents h c) p → (p < count h) × AreLastsOf h (IsBefore h p) (row_of table p)
+  parent_done p parent = (pair_of.0, done.each p pair_of.0 (taken_before order k p commit.numbering inside (before p pair)))
+    where
+      pair : IsCausalPair h p c
+      pair = parent_pair h numbered c low all p parent
+
+      pair_of : (p < count h) × (c < count h)
+      pair_of = pair_below h p c pair
+
+  pub all_below : All (λ p. p < count h) (parents h c)
+  all_below = All-weaker (Contains (parents h c)) (λ p. p < count h) (λ p there. (parent_done p there).0) (parents h c) (All-contains_itself (parents h c))
+
+  pub all_done : All (λ p. AreLastsOf h (IsBefore h p) (row_of table p)) (parents h c)
+  all_done = All-weaker (Contains (parents h c)) (λ p. AreLastsOf h (IsBefore h p) (row_of table p)) (λ p there. (parent_done p there).1) (parents h c) (All-contains_itself (parents h c))

@@ -1,0 +1,76 @@
+//! How much of each session stands behind each transaction, worked out along a commit order.
+ghost use Rattle.std.specs.Prelude.{◌≡◌, ◌<◌, ℕ, max, length, slice_index, All, Contains, IfOk};
+ghost use Rattle.tcc_reads.specs.History.{count};
+ghost use Rattle.tcc_graph.specs.Levels.{causally};
+ghost use Rattle.tcc_graph.specs.Orders.{IsCommitOrder};
+ghost use Rattle.tcc_graph.specs.Tables.{row_of};
+ghost use Rattle.tcc_near.specs.Clocks.{IsClocksOf};
+ghost use Rattle.tcc_order.specs.Lasts.{AreLastsOf, IsBefore, IsUpTo, raised};
+
+use crate::behind::{empty_rows, parents_of};
+use std::alloc::{AllocError, Global};
+use tcc_graph::Graph;
+use tcc_near::Row;
+use tcc_txn::NoMemory;
+
+/// The greater of the two places of each session.
+fn raise_each(row: &mut [u32], other: &[u32])
+    requires { length row.old ≡ length other.now }
+    ensures same { length row.new ≡ length row.old }
+    ensures each { (s : ℕ) → s < length row.old → slice_index row.new s ≡ max (slice_index other.now s) (slice_index row.old s) }
+{
+    for (session, last) in row.iter_mut().enumerate() {
+        *last = other[session].max(*last);
+    }
+}
+
+/// Raises the place of a transaction's session to its own.
+fn raise_one(row: &mut [u32], graph: &Graph, p: u32)
+    requires { p < count graph.now }
+    ensures same { length row.new ≡ length row.old }
+    ensures each { (s : ℕ) → s < length row.old → slice_index row.new s ≡ raised graph.now p s (slice_index row.old s) }
+{
+    if let Some((owner, place)) = graph.at(p) {
+        let session = owner as usize;
+        if session < row.len() {
+            row[session] = place.max(row[session]);
+        }
+    }
+}
+
+/// The last place in each session of these transactions and of what reaches them, by the rows of what does.
+fn clock_row(
+    alloc: Global,
+    graph: &Graph,
+    table: &[Row<u32>],
+    numbers: &[u32],
+) -> Result<Row<u32>, AllocError>
+    requires inside { All (λ p. p < count graph.now) numbers.now }
+    requires long { length table.now ≡ count graph.now }
+    requires lasts { All (λ p. AreLastsOf graph.now (IsBefore graph.now p) (row_of table.now p)) numbers.now }
+    ensures { IfOk result (AreLastsOf graph.now (IsUpTo graph.now (Contains numbers.now))) }
+{
+    let mut row = vec![in alloc; 0; graph.sessions().len()]?;
+    for number in numbers {
+        raise_each(&mut row, table[*number as usize].values());
+        raise_one(&mut row, graph, *number);
+    }
+    Ok(Row::new(row))
+}
+
+/// Of each transaction and each session, the greatest place of a transaction of the session from which it is reached, 0
+/// for none; by a commit order.
+pub fn clocks(alloc: Global, graph: &Graph, order: &[u32]) -> Result<Vec<Row<u32>>, NoMemory>
+    requires { IsCommitOrder (causally graph.now) order.now }
+    ensures { IfOk result (λ rows. IsClocksOf graph.now rows.items) }
+{
+    // transactions stand by session and by place, as this call says
+    graph.sessions();
+    let mut table = empty_rows(alloc, graph.count())?;
+    for number in order {
+        let parents = parents_of(alloc, graph, *number)?;
+        let row = clock_row(alloc, graph, &table, &parents)?;
+        table[*number as usize] = row;
+    }
+    Ok(table)
+}

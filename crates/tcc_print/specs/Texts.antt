@@ -1,0 +1,111 @@
+-- The texts of faults and verdicts, as they go out: ASCII, each line ended by one line feed.
+use Rattle.std.specs.Prelude.{ℕ, List, [], ◌++◌, length, flat_map, codes, decimal}
+use Rattle.tcc_txn.specs.declared.rows.RowFault.{RowFault}
+use Rattle.tcc_txn.specs.declared.rows.RowFaultKind.{RowFaultKind}
+use Rattle.tcc_txn.specs.declared.rows.RowFaultKind.TheVariants.{FieldCount, BadSession, UnknownWord, BadKey, BadValue, WriteOfZero, NotBegun, AlreadyBegun, TooManyOps, TooManySessions, TooManyTransactions, TooManyKeys, TooManySeals, Unfinished, Read, NoMemory}
+use Rattle.tcc_reads.specs.declared.fault.ReadFault.{ReadFault}
+use Rattle.tcc_reads.specs.declared.fault.ReadFaultKind.{ReadFaultKind}
+use Rattle.tcc_reads.specs.declared.fault.ReadFaultKind.TheVariants.{Duplicate, BrokenInternal, ThinAir, Aborted, Intermediate, Future}
+use Rattle.tcc_cert.specs.declared.fault.CertFault.{CertFault}
+use Rattle.tcc_cert.specs.declared.fault.CertFaultKind.{CertFaultKind}
+use Rattle.tcc_cert.specs.declared.fault.CertFaultKind.TheVariants as text_kind
+use Rattle.tcc_check.specs.Verdicts.{rule_number}
+use Rattle.tcc_check.specs.declared.judgement.Claim.{Claim}
+use Rattle.tcc_check.specs.declared.judgement.Claim.TheVariants as claim
+use Rattle.tcc_check.specs.declared.verdict.Rule.{Rule}
+use Rattle.tcc_check.specs.declared.verdict.Verdict.{Verdict}
+use Rattle.tcc_check.specs.declared.verdict.Verdict.TheVariants as verdict
+use Rattle.tcc_print.specs.declared.halt.Halt.{Halt}
+use Rattle.tcc_print.specs.declared.halt.Halt.TheVariants as halt
+
+-- the place of a transaction in its session: SESSION/PLACE
+abbrev pub place_text : List ℕ → ℕ → List ℕ
+place_text session place = session ++ (codes "/" ++ decimal place)
+
+-- the word of a kind of row fault
+abbrev pub row_word : RowFaultKind → List ℕ
+row_word FieldCount = codes "FieldCount"
+row_word BadSession = codes "BadSession"
+row_word UnknownWord = codes "UnknownWord"
+row_word BadKey = codes "BadKey"
+row_word BadValue = codes "BadValue"
+row_word WriteOfZero = codes "WriteOfZero"
+row_word NotBegun = codes "NotBegun"
+row_word AlreadyBegun = codes "AlreadyBegun"
+row_word TooManyOps = codes "TooManyOps"
+row_word TooManySessions = codes "TooManySessions"
+row_word TooManyTransactions = codes "TooManyTransactions"
+row_word TooManyKeys = codes "TooManyKeys"
+row_word TooManySeals = codes "TooManySeals"
+row_word (Unfinished session) = codes "Unfinished"
+row_word Read = codes "Read"
+row_word NoMemory = codes "NoMemory"
+
+-- the session that is unfinished, after a space; of the other kinds nothing
+abbrev pub row_session : RowFaultKind → List ℕ
+row_session (Unfinished session) = codes " " ++ session
+row_session _ = []
+
+-- row N: KIND, or row N: Unfinished SESSION
+abbrev pub row_fault_text : RowFault → List ℕ
+row_fault_text fault =
+    codes "row " ++ (decimal fault.row ++ (codes ": " ++ (row_word fault.kind ++ (row_session fault.kind ++ codes "\n"))))
+
+-- the word of a kind of read fault
+abbrev pub read_word : ReadFaultKind → List ℕ
+read_word Duplicate = codes "Duplicate"
+read_word BrokenInternal = codes "BrokenInternal"
+read_word ThinAir = codes "ThinAir"
+read_word Aborted = codes "Aborted"
+read_word Intermediate = codes "Intermediate"
+read_word Future = codes "Future"
+
+-- KIND SESSION/PLACE op I KEY VALUE
+abbrev pub read_fault_text : ReadFault → List ℕ
+read_fault_text fault =
+    read_word fault.kind
+    ++ (codes " " ++ (place_text fault.session fault.place
+    ++ (codes " op " ++ (decimal fault.op
+    ++ (codes " " ++ (fault.key
+    ++ (codes " " ++ (decimal fault.value ++ codes "\n"))))))))
+
+-- the number of faults, and a line for each
+abbrev pub unresolved_text : List ReadFault → List ℕ
+unresolved_text faults = codes "unresolved: " ++ (decimal (length faults) ++ (codes " faults\n" ++ flat_map read_fault_text faults))
+
+-- the word of a kind of fault in the text of a certificate
+abbrev pub certificate_word : CertFaultKind → List ℕ
+certificate_word text_kind.Header = codes "Header"
+certificate_word text_kind.Word = codes "Word"
+certificate_word text_kind.Number = codes "Number"
+certificate_word text_kind.Count = codes "Count"
+certificate_word text_kind.TooLarge = codes "TooLarge"
+certificate_word text_kind.Truncated = codes "Truncated"
+certificate_word text_kind.Trailing = codes "Trailing"
+certificate_word text_kind.Read = codes "Read"
+certificate_word text_kind.NoMemory = codes "NoMemory"
+
+-- certificate line N: KIND
+abbrev pub certificate_fault_text : CertFault → List ℕ
+certificate_fault_text fault = codes "certificate line " ++ (decimal fault.line ++ (codes ": " ++ (certificate_word fault.kind ++ codes "\n")))
+
+-- accepted: order, or accepted: cycle, L steps
+abbrev pub accepted_text : Claim → List ℕ
+accepted_text claim.Order = codes "accepted: order\n"
+accepted_text (claim.Cycle least) = codes "accepted: cycle, " ++ (decimal least ++ codes " steps\n")
+
+-- rejected: rule K at I J
+abbrev pub rejected_text : Rule → ℕ × ℕ → List ℕ
+rejected_text rule at =
+    codes "rejected: rule " ++ (decimal (rule_number rule) ++ (codes " at " ++ (decimal at.0 ++ (codes " " ++ (decimal at.1 ++ codes "\n")))))
+
+abbrev pub verdict_text : Claim → Verdict → List ℕ
+verdict_text k verdict.Accepted = accepted_text k
+verdict_text k (verdict.Rejected rule at) = rejected_text rule at
+
+-- what stands in the place of an answer or a verdict
+abbrev pub halt_text : Halt → List ℕ
+halt_text (halt.Row fault) = row_fault_text fault
+halt_text (halt.Reads faults) = unresolved_text faults.items
+halt_text (halt.Text fault) = certificate_fault_text fault
+halt_text halt.NoMemory = codes "memory\n"

@@ -1,0 +1,63 @@
+//! Why a run has no answer or no verdict.
+ghost use Rattle.std.specs.Prelude.{◌≡◌};
+ghost use Rattle.tcc_print.specs.Halts.{by_row, by_stream, unresolved_by};
+ghost use Rattle.tcc_print.specs.declared.halt.Halt.TheVariants as halt;
+
+use tcc_cert::CertFault;
+use tcc_check::StreamFault;
+use tcc_reads::{ReadFault, ResolveFault};
+use tcc_txn::{NoMemory, RowFault, RowFaultKind};
+
+/// Why there is no answer for a history, or no verdict on a certificate for it.
+#[derive(Drop)]
+pub enum Halt {
+    /// A record has a fault, other than want of memory.
+    Row(RowFault),
+    /// The history has read faults; all of them.
+    Reads(Vec<ReadFault>),
+    /// The text of the certificate has a fault, other than want of memory.
+    Text(CertFault),
+    /// Memory was refused.
+    NoMemory,
+}
+
+impl From<NoMemory> for Halt {
+    ghost from_gives = { λ _ h. h ≡ halt.NoMemory };
+
+    fn from(_error: NoMemory) -> Halt {
+        Halt::NoMemory
+    }
+}
+
+impl From<RowFault> for Halt {
+    ghost from_gives = { λ fault h. h ≡ by_row fault };
+
+    fn from(fault: RowFault) -> Halt {
+        match fault.kind {
+            RowFaultKind::NoMemory => Halt::NoMemory,
+            _ => Halt::Row(fault),
+        }
+    }
+}
+
+impl From<ResolveFault> for Halt {
+    ghost from_gives = { λ fault h. h ≡ unresolved_by fault };
+
+    fn from(fault: ResolveFault) -> Halt {
+        match fault {
+            ResolveFault::Reads(faults) => Halt::Reads(faults),
+            ResolveFault::NoMemory => Halt::NoMemory,
+        }
+    }
+}
+
+impl From<StreamFault> for Halt {
+    ghost from_gives = { λ fault h. h ≡ by_stream fault };
+
+    fn from(fault: StreamFault) -> Halt {
+        match fault {
+            StreamFault::Text(fault) => Halt::Text(fault),
+            StreamFault::NoMemory => Halt::NoMemory,
+        }
+    }
+}

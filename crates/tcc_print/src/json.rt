@@ -1,0 +1,112 @@
+//! Faults as JSON, each line made as a whole before a byte of it goes out.
+ghost use Rattle.std.specs.Prelude.{◌≡◌, IfOk, false, map};
+ghost use Rattle.serde_json.specs.Data.{array};
+ghost use Rattle.serde_json.specs.View.{view, items_of};
+ghost use Rattle.serde_json.specs.Written.{has_float};
+ghost use Rattle.tcc_answer.specs.Json.{json_line};
+ghost use Rattle.tcc_print.specs.Json.{halt_line, read_fault_json, row_fault_json, unresolved_json};
+
+use crate::halt::Halt;
+use crate::texts::{certificate_fault, read_word, row_word};
+use serde_json::{Value, json};
+use std::alloc::{AllocError, Global};
+use tcc_answer::pieces::push;
+use tcc_reads::ReadFault;
+use tcc_txn::{NoMemory, RowFault, RowFaultKind};
+
+fn read_fault_json(alloc: Global, fault: &ReadFault) -> Result<Value, AllocError>
+    ensures { IfOk result (λ v. view v ≡ read_fault_json fault.now) }
+{
+    let key = fault.key.to_string(alloc)?;
+    let kind = read_word(fault.kind);
+    let op = fault.op;
+    let place = fault.place;
+    let session = fault.session.to_string(alloc)?;
+    let value = fault.value;
+    json!(in alloc; {
+        "key": key,
+        "kind": kind,
+        "op": op,
+        "place": place,
+        "session": session,
+        "value": value
+    })
+}
+
+fn read_faults_json(alloc: Global, faults: &[ReadFault]) -> Result<Value, AllocError>
+    ensures { IfOk result (λ v. view v ≡ array (items_of (map read_fault_json faults.now))) }
+{
+    let mut list = Vec::new(alloc);
+    for fault in faults {
+        list.push(read_fault_json(alloc, fault)?)?;
+    }
+    Ok(Value::Array(list))
+}
+
+fn unresolved_json(alloc: Global, faults: &[ReadFault]) -> Result<Value, AllocError>
+    ensures { IfOk result (λ v. view v ≡ unresolved_json faults.now) }
+{
+    let faults = read_faults_json(alloc, faults)?;
+    json!(in alloc; {
+        "answer": "unresolved",
+        "faults": faults
+    })
+}
+
+fn row_fault_json(alloc: Global, fault: &RowFault) -> Result<Value, AllocError>
+    ensures { IfOk result (λ v. view v ≡ row_fault_json fault.now) }
+{
+    let kind = row_word(&fault.kind);
+    let row = fault.row;
+    if let RowFaultKind::Unfinished { session } = &fault.kind {
+        let session = session.to_string(alloc)?;
+        return json!(in alloc; {
+            "answer": "row",
+            "kind": kind,
+            "row": row,
+            "session": session
+        });
+    }
+    json!(in alloc; {
+        "answer": "row",
+        "kind": kind,
+        "row": row
+    })
+}
+
+/// The text of an object, and a line feed.
+fn line(alloc: Global, object: &Value) -> Result<Vec<u8>, NoMemory>
+    requires { has_float (view object.now) ≡ false }
+    ensures { IfOk result (λ line. line.items ≡ json_line (view object.now)) }
+{
+    let text = object.to_string(alloc)?;
+    let mut line = Vec::new(alloc);
+    push(&mut line, &[text.as_bytes(), b"\n"])?;
+    Ok(line)
+}
+
+/// The line of a row fault.
+pub fn row_fault(alloc: Global, fault: &RowFault) -> Result<Vec<u8>, NoMemory>
+    ensures { IfOk result (λ line. line.items ≡ json_line (row_fault_json fault.now)) }
+{
+    line(alloc, &row_fault_json(alloc, fault)?)
+}
+
+/// The line of a snapshot with read faults.
+pub fn unresolved(alloc: Global, faults: &[ReadFault]) -> Result<Vec<u8>, NoMemory>
+    ensures { IfOk result (λ line. line.items ≡ json_line (unresolved_json faults.now)) }
+{
+    line(alloc, &unresolved_json(alloc, faults)?)
+}
+
+/// What stands in the place of an answer; what is no part of the answers as JSON is as in the text.
+pub fn halt_line(alloc: Global, halt: &Halt) -> Result<Vec<u8>, NoMemory>
+    ensures { IfOk result (λ line. line.items ≡ halt_line halt.now) }
+{
+    match halt {
+        Halt::Row(fault) => row_fault(alloc, fault),
+        Halt::Reads(faults) => unresolved(alloc, faults),
+        Halt::Text(fault) => certificate_fault(alloc, fault),
+        Halt::NoMemory => Err(NoMemory),
+    }
+}

@@ -1,0 +1,165 @@
+//! How texts go out, and the number that a run then ends with.
+ghost use Rattle.std.specs.Prelude.{◌≡◌, ℕ, List, IfErr, IfOk, MatchResult, OnOk, false, if◌then◌else◌};
+ghost use Rattle.std.specs.Io.KnownBytes.{Appends};
+ghost use Rattle.tcc_print.specs.Printed.{Prints, answered, check_text, device_line, halted, memory_line, unresolved};
+ghost use Rattle.tcc_print.specs.Printed.{CutsOff, EndsIn, PrintsOrMemory};
+ghost use Rattle.tcc_print.specs.Statuses.{check_status, code_of, halt_status};
+
+use crate::halt::Halt;
+use crate::json::{halt_line, unresolved as unresolved_line};
+use crate::status::{Status, halt_status, verdict_status};
+use crate::texts::{halt_text, unresolved as unresolved_text};
+use crate::verdicts::verdict_text;
+use std::alloc::Global;
+use std::io::Write;
+use tcc_answer::{Answer, WriteFault, write_json, write_text};
+use tcc_cert::sending::send;
+use tcc_check::Judgement;
+use tcc_reads::ReadFault;
+use tcc_txn::NoMemory;
+
+/// The one line or the other, by whether JSON is asked for.
+fn line_by(json: bool, object: &'static [u8], text: &'static [u8]) -> &'static [u8]
+    ensures { result.now ≡ (if json then object.now else text.now) }
+{
+    if json { object } else { text }
+}
+
+/// The line for want of memory.
+fn memory_line(json: bool) -> &'static [u8]
+    ensures { result.now ≡ memory_line json }
+{
+    line_by(json, b"{\"answer\":\"memory\"}\n", b"memory\n")
+}
+
+/// The line for a file or a writer that failed.
+fn device_line(json: bool) -> &'static [u8]
+    ensures { result.now ≡ device_line json }
+{
+    line_by(json, b"{\"answer\":\"device\"}\n", b"device\n")
+}
+
+/// Writes the text; else a writer that failed ends the run, with this number.
+fn send_text<W: Write>(out: &mut W, text: &[u8]) -> Result<(), u8>
+    ensures whole { OnOk result (Appends (W.contents out.old) (W.contents out.new) text.now) }
+    ensures ended { IfErr result (CutsOff (W.contents out.old) (W.contents out.new) text.now) }
+{
+    match send(out, text) {
+        Ok(()) => Ok(()),
+        Err(_) => Err(Status::Device.code()),
+    }
+}
+
+/// The number of a run whose last text has this status, if it went out.
+fn code_after(sent: Result<(), u8>, status: Status) -> u8
+    ensures { MatchResult sent (λ _. result ≡ code_of status) (λ code. result ≡ code) }
+{
+    match sent {
+        Ok(()) => status.code(),
+        Err(code) => code,
+    }
+}
+
+/// Writes the text, and gives the number that the run ends with: that of the status, or of a writer that failed.
+pub fn print_text<W: Write>(out: &mut W, text: &[u8], status: Status) -> u8
+    ensures { Prints (W.contents out.old) (W.contents out.new) text.now status result }
+{
+    match send_text(out, text) {
+        Ok(()) => status.code(),
+        Err(code) => code,
+    }
+}
+
+/// Writes that memory is wanting, as text or as a line of JSON, and gives the number that the run ends with. It takes no
+/// memory.
+pub fn print_memory<W: Write>(out: &mut W, json: bool) -> u8
+    ensures { Prints (W.contents out.old) (W.contents out.new) (memory_line json) Status.Memory result }
+{
+    print_text(out, memory_line(json), Status::Memory)
+}
+
+/// Writes that a file or a writer failed, as text or as a line of JSON, and gives the number that the run ends with. It
+/// takes no memory.
+pub fn print_device<W: Write>(out: &mut W, json: bool) -> u8
+    ensures { Prints (W.contents out.old) (W.contents out.new) (device_line json) Status.Device result }
+{
+    print_text(out, device_line(json), Status::Device)
+}
+
+/// Writes the text that was made; else a writer that failed, or want of memory for the text, ends the run, with this
+/// number.
+fn send_made<W: Write>(made: Result<Vec<u8>, NoMemory>, json: bool, out: &mut W) -> Result<(), u8>
+    ensures whole { (text : List ℕ) → IfOk made (λ bytes. bytes.items ≡ text) → OnOk result (Appends (W.contents out.old) (W.contents out.new) text) }
+    ensures ended { (text : List ℕ) → IfOk made (λ bytes. bytes.items ≡ text) → IfErr result (EndsIn json (W.contents out.old) (W.contents out.new) text) }
+{
+    match made {
+        Ok(text) => send_text(out, &text),
+        Err(NoMemory) => Err(print_memory(out, json)),
+    }
+}
+
+/// Writes the answer as text or as a line of JSON; else the run ends with this number.
+pub fn send_answer<W: Write>(
+    alloc: Global,
+    answer: &Answer,
+    json: bool,
+    out: &mut W,
+) -> Result<(), u8>
+    ensures whole { OnOk result (Appends (W.contents out.old) (W.contents out.new) (answered json answer.now)) }
+    ensures ended { IfErr result (EndsIn json (W.contents out.old) (W.contents out.new) (answered json answer.now)) }
+{
+    let written = if json {
+        write_json(alloc, answer, out)
+    } else {
+        write_text(alloc, answer, out)
+    };
+    match written {
+        Ok(()) => Ok(()),
+        Err(WriteFault::Device) => Err(Status::Device.code()),
+        Err(WriteFault::NoMemory) => Err(print_memory(out, json)),
+    }
+}
+
+/// Writes all read faults, as text or as a line of JSON; else the run ends with this number.
+pub fn send_unresolved<W: Write>(
+    alloc: Global,
+    faults: &[ReadFault],
+    json: bool,
+    out: &mut W,
+) -> Result<(), u8>
+    ensures whole { OnOk result (Appends (W.contents out.old) (W.contents out.new) (unresolved json faults.now)) }
+    ensures ended { IfErr result (EndsIn json (W.contents out.old) (W.contents out.new) (unresolved json faults.now)) }
+{
+    let made = if json {
+        unresolved_line(alloc, faults)
+    } else {
+        unresolved_text(alloc, faults)
+    };
+    send_made(made, json, out)
+}
+
+/// Writes what stands in the place of an answer or a verdict, and gives the number that the run ends with.
+pub fn print_halt<W: Write>(alloc: Global, halt: &Halt, json: bool, out: &mut W) -> u8
+    ensures { PrintsOrMemory json (W.contents out.old) (W.contents out.new) (halted json halt.now) (halt_status halt.now) result }
+{
+    let made = if json {
+        halt_line(alloc, halt)
+    } else {
+        halt_text(alloc, halt)
+    };
+    code_after(send_made(made, json, out), halt_status(halt))
+}
+
+/// Writes the outcome of a check, and gives the number that the run ends with. Where memory is wanting, that is written in
+/// its place.
+pub fn print_check<W: Write>(alloc: Global, outcome: &Result<Judgement, Halt>, out: &mut W) -> u8
+    ensures { PrintsOrMemory false (W.contents out.old) (W.contents out.new) (check_text outcome.now) (check_status outcome.now) result }
+{
+    match outcome {
+        Ok(judged) => {
+            let status = verdict_status(judged.verdict);
+            code_after(send_made(verdict_text(alloc, judged), false, out), status)
+        }
+        Err(halt) => print_halt(alloc, halt, false, out),
+    }
+}

@@ -1,0 +1,123 @@
+//! How a run ends, and the number that tells it.
+ghost use Rattle.std.specs.Prelude.{◌≡◌};
+ghost use Rattle.tcc_print.specs.Statuses.{answer_status, certificate_status, code_of, halt_status, last_status, row_status, verdict_status};
+
+use crate::halt::Halt;
+use tcc_answer::Answer;
+use tcc_cert::CertFaultKind;
+use tcc_check::Verdict;
+use tcc_txn::RowFaultKind;
+
+/// How a run ended; the process passes it on as its status.
+#[derive(Clone, Copy, Debug, PartialEq, Eq)]
+pub enum Status {
+    /// Consistent, accepted, or help was asked for.
+    Success,
+    /// The history is not causally consistent.
+    Anomaly,
+    /// Some operations read or write what no source explains.
+    ReadFaults,
+    /// A record breaks the rules, or the input ended inside a transaction.
+    RowFault,
+    /// The input is past a limit.
+    Limit,
+    /// Memory was refused.
+    Memory,
+    /// The reader or the writer failed.
+    Device,
+    /// The certificate breaks a rule.
+    Rejected,
+    /// The text of the certificate has a fault.
+    CertificateFault,
+    /// The command line is wrong.
+    Usage,
+}
+
+impl Status {
+    /// The number that the process ends with.
+    pub fn code(self) -> u8
+        ensures { result ≡ code_of self }
+    {
+        match self {
+            Status::Success => 0,
+            Status::Anomaly => 1,
+            Status::ReadFaults => 2,
+            Status::RowFault => 3,
+            Status::Limit => 4,
+            Status::Memory => 5,
+            Status::Device => 6,
+            Status::Rejected => 7,
+            Status::CertificateFault => 8,
+            Status::Usage => 64,
+        }
+    }
+}
+
+/// How a run ends that gave this answer.
+pub fn answer_status(answer: &Answer) -> Status
+    ensures { result ≡ answer_status answer.now }
+{
+    match answer {
+        Answer::Commit(_) => Status::Success,
+        Answer::Anomaly(_) => Status::Anomaly,
+    }
+}
+
+/// How a run ends whose last answer this is; none stands for read faults.
+pub fn last_status(answer: &Option<Answer>) -> Status
+    ensures { result ≡ last_status answer.now }
+{
+    match answer {
+        Some(answer) => answer_status(answer),
+        None => Status::ReadFaults,
+    }
+}
+
+/// How a run ends that gave this verdict.
+pub fn verdict_status(verdict: Verdict) -> Status
+    ensures { result ≡ verdict_status verdict }
+{
+    match verdict {
+        Verdict::Accepted => Status::Success,
+        Verdict::Rejected { .. } => Status::Rejected,
+    }
+}
+
+/// How a run ends that a row fault ended.
+pub fn row_status(kind: &RowFaultKind) -> Status
+    ensures { result ≡ row_status kind.now }
+{
+    match kind {
+        RowFaultKind::TooManyOps
+        | RowFaultKind::TooManySessions
+        | RowFaultKind::TooManyTransactions
+        | RowFaultKind::TooManyKeys
+        | RowFaultKind::TooManySeals => Status::Limit,
+        RowFaultKind::Read => Status::Device,
+        RowFaultKind::NoMemory => Status::Memory,
+        _ => Status::RowFault,
+    }
+}
+
+/// How a run ends that a fault in the text of a certificate ended.
+pub fn certificate_status(kind: CertFaultKind) -> Status
+    ensures { result ≡ certificate_status kind }
+{
+    match kind {
+        CertFaultKind::Read => Status::Device,
+        CertFaultKind::NoMemory => Status::Memory,
+        _ => Status::CertificateFault,
+    }
+}
+
+/// How a run ends that has no answer or no verdict.
+pub fn halt_status(halt: &Halt) -> Status
+    ensures { result ≡ halt_status halt.now }
+{
+    match halt {
+        Halt::Row(fault) => row_status(&fault.kind),
+        Halt::Reads(_) => Status::ReadFaults,
+        Halt::Text(fault) => certificate_status(fault.kind),
+        Halt::NoMemory => Status::Memory,
+    }
+}

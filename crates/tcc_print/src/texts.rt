@@ -1,0 +1,165 @@
+//! The texts of faults, each made as a whole before a byte of it goes out.
+ghost use Rattle.std.specs.Prelude.{◌≡◌, ◌++◌, IfOk, OnOk, length, flat_map};
+ghost use Rattle.tcc_print.specs.Texts.{certificate_fault_text, certificate_word, halt_text, read_fault_text, read_word, row_fault_text, row_word, unresolved_text};
+
+use crate::halt::Halt;
+use std::alloc::Global;
+use tcc_answer::pieces::push;
+use tcc_cert::{CertFault, CertFaultKind};
+use tcc_reads::{ReadFault, ReadFaultKind};
+use tcc_txn::{NoMemory, RowFault, RowFaultKind};
+
+/// The word for a kind of row fault.
+pub fn row_word(kind: &RowFaultKind) -> &'static str
+    ensures { result.now ≡ row_word kind.now }
+{
+    match kind {
+        RowFaultKind::FieldCount => "FieldCount",
+        RowFaultKind::BadSession => "BadSession",
+        RowFaultKind::UnknownWord => "UnknownWord",
+        RowFaultKind::BadKey => "BadKey",
+        RowFaultKind::BadValue => "BadValue",
+        RowFaultKind::WriteOfZero => "WriteOfZero",
+        RowFaultKind::NotBegun => "NotBegun",
+        RowFaultKind::AlreadyBegun => "AlreadyBegun",
+        RowFaultKind::TooManyOps => "TooManyOps",
+        RowFaultKind::TooManySessions => "TooManySessions",
+        RowFaultKind::TooManyTransactions => "TooManyTransactions",
+        RowFaultKind::TooManyKeys => "TooManyKeys",
+        RowFaultKind::TooManySeals => "TooManySeals",
+        RowFaultKind::Unfinished { .. } => "Unfinished",
+        RowFaultKind::Read => "Read",
+        RowFaultKind::NoMemory => "NoMemory",
+    }
+}
+
+/// The line of a row fault.
+pub fn row_fault(alloc: Global, fault: &RowFault) -> Result<Vec<u8>, NoMemory>
+    ensures { IfOk result (λ text. text.items ≡ row_fault_text fault.now) }
+{
+    let row = fault.row.to_string(alloc)?;
+    let word = row_word(&fault.kind);
+    let mut text = Vec::new(alloc);
+    push(
+        &mut text,
+        &[b"row ", row.as_bytes(), b": ", word.as_bytes()],
+    )?;
+    if let RowFaultKind::Unfinished { session } = &fault.kind {
+        push(&mut text, &[b" ", session.bytes()])?;
+    }
+    push(&mut text, &[b"\n"])?;
+    Ok(text)
+}
+
+/// The word for a kind of read fault.
+pub fn read_word(kind: ReadFaultKind) -> &'static str
+    ensures { result.now ≡ read_word kind }
+{
+    match kind {
+        ReadFaultKind::Duplicate => "Duplicate",
+        ReadFaultKind::BrokenInternal => "BrokenInternal",
+        ReadFaultKind::ThinAir => "ThinAir",
+        ReadFaultKind::Aborted => "Aborted",
+        ReadFaultKind::Intermediate => "Intermediate",
+        ReadFaultKind::Future => "Future",
+    }
+}
+
+/// Adds the line of a read fault.
+fn push_read_fault(alloc: Global, text: &mut Vec<u8>, fault: &ReadFault) -> Result<(), NoMemory>
+    ensures { OnOk result (text.new.items ≡ text.old.items ++ read_fault_text fault.now) }
+{
+    let ReadFault {
+        session,
+        place,
+        op,
+        key,
+        value,
+        kind,
+    } = *fault;
+    let place = place.to_string(alloc)?;
+    let op = op.to_string(alloc)?;
+    let value = value.to_string(alloc)?;
+    push(
+        text,
+        &[
+            read_word(kind).as_bytes(),
+            b" ",
+            session.bytes(),
+            b"/",
+            place.as_bytes(),
+            b" op ",
+            op.as_bytes(),
+            b" ",
+            key.bytes(),
+            b" ",
+            value.as_bytes(),
+            b"\n",
+        ],
+    )
+}
+
+/// The text of a snapshot with read faults: their number, and a line for each.
+pub fn unresolved(alloc: Global, faults: &[ReadFault]) -> Result<Vec<u8>, NoMemory>
+    ensures { IfOk result (λ text. text.items ≡ unresolved_text faults.now) }
+{
+    let count = faults.len().to_string(alloc)?;
+    let mut text = Vec::new(alloc);
+    push(
+        &mut text,
+        &[b"unresolved: ", count.as_bytes(), b" faults\n"],
+    )?;
+    for fault in faults {
+        push_read_fault(alloc, &mut text, fault)?;
+    }
+    Ok(text)
+}
+
+/// The word for a kind of fault in the text of a certificate.
+pub fn certificate_word(kind: CertFaultKind) -> &'static str
+    ensures { result.now ≡ certificate_word kind }
+{
+    match kind {
+        CertFaultKind::Header => "Header",
+        CertFaultKind::Word => "Word",
+        CertFaultKind::Number => "Number",
+        CertFaultKind::Count => "Count",
+        CertFaultKind::TooLarge => "TooLarge",
+        CertFaultKind::Truncated => "Truncated",
+        CertFaultKind::Trailing => "Trailing",
+        CertFaultKind::Read => "Read",
+        CertFaultKind::NoMemory => "NoMemory",
+    }
+}
+
+/// The line of a fault in the text of a certificate.
+pub fn certificate_fault(alloc: Global, fault: &CertFault) -> Result<Vec<u8>, NoMemory>
+    ensures { IfOk result (λ text. text.items ≡ certificate_fault_text fault.now) }
+{
+    let line = fault.line.to_string(alloc)?;
+    let word = certificate_word(fault.kind);
+    let mut text = Vec::new(alloc);
+    push(
+        &mut text,
+        &[
+            b"certificate line ",
+            line.as_bytes(),
+            b": ",
+            word.as_bytes(),
+            b"\n",
+        ],
+    )?;
+    Ok(text)
+}
+
+/// What stands in the place of an answer or a verdict; the line for want of memory is made without memory, elsewhere.
+pub fn halt_text(alloc: Global, halt: &Halt) -> Result<Vec<u8>, NoMemory>
+    ensures { IfOk result (λ text. text.items ≡ halt_text halt.now) }
+{
+    match halt {
+        Halt::Row(fault) => row_fault(alloc, fault),
+        Halt::Reads(faults) => unresolved(alloc, faults),
+        Halt::Text(fault) => certificate_fault(alloc, fault),
+        Halt::NoMemory => Err(NoMemory),
+    }
+}

@@ -1,0 +1,59 @@
+//! What is printed of a certificate that was judged.
+ghost use Rattle.std.specs.Prelude.{◌≡◌, IfOk};
+ghost use Rattle.tcc_print.specs.Texts.{accepted_text, rejected_text, verdict_text};
+
+use std::alloc::Global;
+use tcc_answer::pieces::push;
+use tcc_check::{Claim, Judgement, Rule, Verdict};
+use tcc_txn::NoMemory;
+
+/// The line of a certificate that was accepted.
+fn accepted(alloc: Global, claim: Claim) -> Result<Vec<u8>, NoMemory>
+    ensures { IfOk result (λ text. text.items ≡ accepted_text claim) }
+{
+    let mut text = Vec::new(alloc);
+    match claim {
+        Claim::Order => push(&mut text, &[b"accepted: order\n"])?,
+        Claim::Cycle { least } => {
+            let steps = least.to_string(alloc)?;
+            push(
+                &mut text,
+                &[b"accepted: cycle, ", steps.as_bytes(), b" steps\n"],
+            )?;
+        }
+    }
+    Ok(text)
+}
+
+/// The line of a certificate that was rejected.
+fn rejected(alloc: Global, rule: Rule, at: (u32, u32)) -> Result<Vec<u8>, NoMemory>
+    ensures { IfOk result (λ text. text.items ≡ rejected_text rule at) }
+{
+    let number = rule.number().to_string(alloc)?;
+    let first = at.0.to_string(alloc)?;
+    let second = at.1.to_string(alloc)?;
+    let mut text = Vec::new(alloc);
+    push(
+        &mut text,
+        &[
+            b"rejected: rule ",
+            number.as_bytes(),
+            b" at ",
+            first.as_bytes(),
+            b" ",
+            second.as_bytes(),
+            b"\n",
+        ],
+    )?;
+    Ok(text)
+}
+
+/// The line of a verdict.
+pub fn verdict_text(alloc: Global, judged: &Judgement) -> Result<Vec<u8>, NoMemory>
+    ensures { IfOk result (λ text. text.items ≡ verdict_text judged.now.claim judged.now.verdict) }
+{
+    match judged.verdict {
+        Verdict::Accepted => accepted(alloc, judged.claim),
+        Verdict::Rejected { rule, at } => rejected(alloc, rule, at),
+    }
+}

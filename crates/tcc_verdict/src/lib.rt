@@ -1,0 +1,6 @@
+//! The run of `tcc check`: from the bytes of a history and of a certificate to the verdict and the status.
+#![tactic(auto)]
+
+mod check;
+
+pub use check::run_check;

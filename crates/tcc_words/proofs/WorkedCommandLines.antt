@@ -1,0 +1,115 @@
+-- What some command lines ask for, by clap's own words.
+use Rattle.std.proofs.Common.{◌≡◌, true, List, [], ◌∷◌, map, Option, None, Some, refl, codes}
+use Rattle.std.specs.Prelude.{option_and_then, option_map}
+use Rattle.std.specs.Borrow.{Bor}
+use Rattle.clap.specs.Walk.{Text, first_of}
+use Rattle.clap.specs.Faults.{fault_of, is_simple_and_free}
+use Rattle.clap.specs.Simple.{App, is_simple, subcommand_of}
+use Rattle.clap.specs.declared.error.kind.ErrorKind.{ErrorKind}
+use Rattle.clap.specs.declared.error.kind.ErrorKind.TheVariants.{ArgumentConflict, DisplayHelp, DisplayVersion, InvalidSubcommand, InvalidValue, MissingRequiredArgument, MissingSubcommand, TooManyValues, UnknownArgument, ValueValidation}
+use Rattle.clap.proofs.OnLiterals.{clap_on_literals}
+use Rattle.tcc_graph.specs.declared.level.Level.TheVariants.{Causal, Atomic}
+use Rattle.tcc_words.specs.CommandLines.{AreLevels, Words, certificate_path, json_text, level_text, level_word, tcc_command, workers_text}
+
+-- clap says exactly when a parse by it fails, and of which kinds the fault may be
+pub is_exact : (levels : Words) → is_simple_and_free (tcc_command levels) ≡ true
+unfolding clap_on_literals
+is_exact levels = refl
+
+pub is_simple_command : (levels : Words) → is_simple (tcc_command levels) ≡ true
+unfolding clap_on_literals
+is_simple_command levels = refl
+
+-- a text that lies somewhere
+abbrev placed : {A : Type 0} → A → Bor A
+placed a = record { ref_ptr = (0, 0); now = a }
+
+abbrev levels : Words
+levels = placed (placed (level_word Causal) ∷ placed (level_word Atomic) ∷ [])
+
+are_levels : AreLevels levels
+are_levels = refl
+
+abbrev program : App
+program = tcc_command levels
+
+-- what clap finds wrong with these words behind the program's name
+abbrev faults : List Text → List ErrorKind
+faults words = fault_of program (codes "tcc" ∷ words)
+
+-- what it reads of the level, the number of workers, the flag, and the certificate's path, behind `explain`
+abbrev asks : List Text → Option Text × Option Text × Option Text × Option Text
+asks words =
+    let met = subcommand_of program (codes "tcc" ∷ codes "explain" ∷ words) in
+    (level_text met, workers_text met, json_text met, certificate_path met)
+
+-- command lines with nothing wrong, each with all that is read of it
+abbrev explain_lines : List (List Text × (Option Text × Option Text × Option Text × Option Text))
+explain_lines =
+    ([], (Some (codes "causal"), Some (codes "1"), Some (codes "false"), None))
+    ∷ (codes "--json" ∷ [], (Some (codes "causal"), Some (codes "1"), Some (codes "true"), None))
+    ∷ (codes "--level" ∷ codes "atomic" ∷ [], (Some (codes "atomic"), Some (codes "1"), Some (codes "false"), None))
+    ∷ (codes "--level=atomic" ∷ codes "--json" ∷ [], (Some (codes "atomic"), Some (codes "1"), Some (codes "true"), None))
+    ∷ (codes "--certificate" ∷ codes "c.txt" ∷ [], (Some (codes "causal"), Some (codes "1"), Some (codes "false"), Some (codes "c.txt")))
+    ∷ (codes "--workers" ∷ codes "32" ∷ [], (Some (codes "causal"), Some (codes "32"), Some (codes "false"), None))
+    ∷ []
+
+explain_faults : map (λ line. faults (codes "explain" ∷ line.0)) explain_lines ≡ map (λ line. []) explain_lines
+unfolding clap_on_literals
+explain_faults = refl
+
+explain_asks : map (λ line. asks line.0) explain_lines ≡ map (λ line. line.1) explain_lines
+unfolding clap_on_literals
+explain_asks = refl
+
+abbrev check_line : List Text
+check_line = codes "check" ∷ codes "h.csv" ∷ codes "c.txt" ∷ []
+
+check_faults : faults check_line ≡ []
+unfolding clap_on_literals
+check_faults = refl
+
+-- the subcommand, and the two paths: the first word is the history's, and the second the certificate's
+abbrev check_asks : List Text → Option Text × Option Text × Option Text
+check_asks words =
+    let met = subcommand_of program (codes "tcc" ∷ words) in
+    (option_map (λ entered. entered.0) met, option_and_then (λ entered. first_of (codes "history") entered.1) met, option_and_then (λ entered. first_of (codes "certificate") entered.1) met)
+
+check_reads : check_asks check_line ≡ (Some (codes "check"), Some (codes "h.csv"), Some (codes "c.txt"))
+unfolding clap_on_literals
+check_reads = refl
+
+-- command lines with something wrong, each with what that is
+abbrev faulty_lines : List (List Text × List ErrorKind)
+faulty_lines =
+    ([], MissingSubcommand ∷ [])
+    ∷ (codes "--help" ∷ [], DisplayHelp ∷ [])
+    ∷ (codes "explain" ∷ codes "-h" ∷ [], DisplayHelp ∷ [])
+    -- the version is one of the program, and not of a subcommand
+    ∷ (codes "--version" ∷ [], DisplayVersion ∷ [])
+    ∷ (codes "explain" ∷ codes "--version" ∷ [], UnknownArgument ∷ [])
+    -- both paths have to be given, and no third
+    ∷ (codes "check" ∷ codes "h.csv" ∷ [], MissingRequiredArgument ∷ [])
+    ∷ (codes "check" ∷ codes "a" ∷ codes "b" ∷ codes "c" ∷ [], UnknownArgument ∷ [])
+    -- a certificate names its own level
+    ∷ (codes "check" ∷ codes "--level=atomic" ∷ codes "h.csv" ∷ codes "c.txt" ∷ [], UnknownArgument ∷ [])
+    -- no subcommand of this name, and no argument of it either
+    ∷ (codes "judge" ∷ [], UnknownArgument ∷ InvalidSubcommand ∷ [])
+    ∷ (codes "explain" ∷ codes "more" ∷ [], UnknownArgument ∷ [])
+    -- the flag is one of the subcommand alone, has no value, and isn't given twice
+    ∷ (codes "--json" ∷ codes "explain" ∷ [], UnknownArgument ∷ [])
+    ∷ (codes "explain" ∷ codes "--json=true" ∷ [], TooManyValues ∷ [])
+    ∷ (codes "explain" ∷ codes "--json" ∷ codes "--json" ∷ [], ArgumentConflict ∷ [])
+    ∷ (codes "explain" ∷ codes "--colour" ∷ [], UnknownArgument ∷ [])
+    -- the workers are a number from 1 to 32
+    ∷ (codes "explain" ∷ codes "--workers" ∷ codes "0" ∷ [], ValueValidation ∷ [])
+    ∷ (codes "explain" ∷ codes "--workers=33" ∷ [], ValueValidation ∷ [])
+    -- the level is named by one of its two words, once
+    ∷ (codes "explain" ∷ codes "--level" ∷ codes "Atomic" ∷ [], InvalidValue ∷ [])
+    ∷ (codes "explain" ∷ codes "--level" ∷ [], InvalidValue ∷ [])
+    ∷ (codes "explain" ∷ codes "--level=causal" ∷ codes "--level=causal" ∷ [], ArgumentConflict ∷ [])
+    ∷ []
+
+each_fault : map (λ line. faults line.0) faulty_lines ≡ map (λ line. line.1) faulty_lines
+unfolding clap_on_literals
+each_fault = refl

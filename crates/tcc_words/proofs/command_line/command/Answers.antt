@@ -1,0 +1,26 @@
+-- What each call adds to the command.
+use Rattle.std.proofs.Common.{◌≡◌, ◌∙◌, ap, ap₂, rules, codes, Bool, true, false, refl}
+use Rattle.std.specs.Prelude.{◌&&◌, not}
+use Rattle.std.proofs.lemmas.Result.{IfOk-weaker}
+use Rattle.clap.specs.Words.{App, app_of, new_app, with_subcommand}
+use Rattle.clap.specs.Simple.{on_top}
+use Rattle.tcc_words.specs.CommandLines.{explain_command, with_subcommand_required, with_version}
+use Rattle.tcc_words.proofs.command_line.command.Goals as goal
+
+-- a plain command has no global argument
+no_globals : (groups external globals others : Bool) → (groups && (not external && (not globals && others))) ≡ true → globals ≡ false
+no_globals true false false others plain = refl
+no_globals true false true others plain = cc
+no_globals true true globals others plain = let bad : ⊥ = cc in absurd bad
+no_globals false external globals others plain = let bad : ⊥ = cc in absurd bad
+
+pub returns : goal.returns
+returns c =
+    let above_is : app_of c.subcommand_required.result ≡ on_top with_subcommand_required (on_top with_version (new_app (codes "tcc"))) = search rules in
+    let tcc_is : app_of c.in_ok-tcc.tcc ≡ with_subcommand (on_top with_subcommand_required (on_top with_version (new_app (codes "tcc")))) (explain_command c.args.levels).top
+    = c.in_ok-tcc.ensures.shape (no_globals _ _ _ _ (ap (λ (a : App). a.top.is_plain) c.in_ok-explain.ensures))
+    ∙ ap₂ with_subcommand above_is (ap (λ (a : App). a.top) c.in_ok-explain.ensures) in
+    IfOk-weaker c.subcommand-2.result _ _
+    (λ made adds. adds.shape (no_globals _ _ _ _ (ap (λ (a : App). a.top.is_plain) c.in_ok-check.ensures))
+    ∙ ap₂ with_subcommand tcc_is (ap (λ (a : App). a.top) c.in_ok-check.ensures))
+    c.subcommand-2.ensures

@@ -1,0 +1,15 @@
+-- The paths are the words that clap has for them.
+use Rattle.std.proofs.Common.{◌≡◌, ◌∙◌, ap, sym, Some, codes, string_bytes}
+use Rattle.clap.specs.Matches.{found_of}
+use Rattle.clap.proofs.WalkLemmas.{first_value-rows}
+use Rattle.tcc_words.proofs.command_line.paths_of.Goals as goal
+
+pub returns-in_ok-to_string-in-Some-Some-2-clause-asked :
+    goal.returns-in_ok-to_string-in-Some-Some-2-clause-asked
+returns-in_ok-to_string-in-Some-Some-2-clause-asked c =
+    let found = found_of c.args.matches.now in (
+      sym (first_value-rows found (codes "history")) ∙ sym c.in-Some-Some.ensures
+          ∙ ap Some (sym c.in_ok-to_string-in-Some-Some.ensures.ok),
+      sym (first_value-rows found (codes "certificate")) ∙ sym c.in-Some-Some.ensures'
+          ∙ ap Some (sym c.in_ok-to_string-in-Some-Some-2.ensures.ok),
+    )

@@ -1,0 +1,167 @@
+-- What the words of a command line ask for, and how a run ends that answers nothing.
+use Rattle.std.specs.Prelude.{ℕ, ◌≡◌, ◌≢◌, ◌<◌, ◌≤◌, ◌⊎◌, Bool, true, false, List, [], ◌∷◌, Option, None, Some, map, option_map, option_and_then, Result, Ok, Err, codes, unwrap_or}
+use Rattle.std.specs.Borrow.{Bor}
+use Rattle.std.specs.String.{string_bytes}
+use Rattle.std.specs.Str.Parse.{digits_value, without_leading_plus}
+use Rattle.clap.specs.Values.{IsUnsignedIn}
+use Rattle.clap.specs.Walk.{Row, Rule, Text, first_of, one_of}
+use Rattle.clap.specs.Simple.{App, Shape, new_app, new_rule, on_top, subcommand_of, with_rule, with_subcommand}
+use Rattle.clap.specs.declared.builder.action.ArgAction.TheVariants.{SetTrue}
+use Rattle.clap.specs.declared.builder.value_parser.ValueParser.{ValueParser}
+use Rattle.clap.specs.declared.builder.value_parser.ValueParser.TheVariants.{Names, Unsigned}
+use Rattle.clap.specs.Faults.{fault_of}
+use Rattle.clap.specs.Kinds.{IsAmong}
+use Rattle.clap.specs.declared.error.kind.ErrorKind.{ErrorKind}
+use Rattle.clap.specs.declared.error.kind.ErrorKind.TheVariants.{DisplayHelp, DisplayVersion, OutOfMemory}
+use Rattle.tcc_words.specs.declared.command_line.Request.{Request}
+use Rattle.tcc_words.specs.declared.command_line.Request.TheVariants.{Explain, Check}
+use Rattle.tcc_graph.specs.declared.level.Level.{Level}
+use Rattle.tcc_graph.specs.declared.level.Level.TheVariants.{Causal, Atomic}
+use Rattle.tcc_print.specs.declared.options.Options.{Options}
+use Rattle.tcc_print.specs.declared.status.Status.TheVariants.{Success, Memory, Usage}
+use Rattle.tcc_print.specs.Statuses.{code_of}
+use Rattle.tcc_print.specs.Printed.{Prints, memory_line}
+
+abbrev pub with_subcommand_required : Shape → Shape
+with_subcommand_required s = record s { subcommand_required = true }
+
+abbrev pub with_version : Shape → Shape
+with_version s = record s { has_version = true }
+
+-- --json, a flag without a value
+abbrev pub json_flag : Rule
+json_flag = record (new_rule (codes "json")) { long = Some (codes "json"); action = Some SetTrue }
+
+-- the word for a level
+abbrev pub level_word : Level → Text
+level_word Causal = codes "causal"
+level_word Atomic = codes "atomic"
+
+-- words, each where it lies in memory
+abbrev pub Words : Type 0
+Words = Bor (List (Bor Text))
+
+-- they are those for levels
+abbrev pub AreLevels : Words → Type 0
+AreLevels levels = map (λ word. word.now) levels.now ≡ level_word Causal ∷ level_word Atomic ∷ []
+
+-- an option by its own name, whose value this parser takes; without it, a word that stands for it
+abbrev pub valued_option : Text → ValueParser → Text → Rule
+valued_option id parser word = record (new_rule id) { long = Some id; value_names = 1; parser = Some parser; defaults = word ∷ [] }
+
+-- --level LEVEL, whose value is one of the words; without it, causal
+abbrev pub level_option : Words → Rule
+level_option levels = valued_option (codes "level") (Names levels) (level_word Causal)
+
+-- --workers N, a number from 1 to 32; without it, 1
+abbrev pub workers_option : Rule
+workers_option = valued_option (codes "workers") (Unsigned 1 32) (codes "1")
+
+-- --certificate PATH
+abbrev pub certificate_option : Rule
+certificate_option = record (new_rule (codes "certificate")) { long = Some (codes "certificate"); value_names = 1 }
+
+abbrev pub explain_command : Words → App
+explain_command levels =
+    with_rule (with_rule (with_rule (with_rule (new_app (codes "explain")) (level_option levels)) workers_option) json_flag) certificate_option
+
+-- a path, which has to be given, and which help calls by one name
+abbrev pub path : Text → Rule
+path id = record (new_rule id) { value_names = 1; required = true }
+
+abbrev pub check_command : App
+check_command = with_rule (with_rule (new_app (codes "check")) (path (codes "history"))) (path (codes "certificate"))
+
+-- tcc explain [--level LEVEL] [--workers N] [--json] [--certificate PATH], or tcc check HISTORY CERTIFICATE: the program's name and version, and its
+-- subcommands, one of which has to be given
+abbrev pub tcc_command : Words → App
+tcc_command levels =
+    let named : App = on_top with_subcommand_required (on_top with_version (new_app (codes "tcc"))) in
+    with_subcommand (with_subcommand named (explain_command levels).top) check_command.top
+
+-- what clap reads of the flag in the matches of a subcommand that was met
+abbrev pub json_text : Option (Text × List Row) → Option Text
+json_text met = option_and_then (one_of (codes "json")) (option_map (λ entered. entered.1) met)
+
+-- a flag is set where it is read as true, and isn't where it is read as false or stands in no subcommand
+abbrev pub IsFlag : Option Text → Bool → Type 0
+IsFlag text set =
+    (text ≡ Some (codes "true") → set ≡ true) × ((text ≡ Some (codes "false") → set ≡ false) × (text ≡ None → set ≡ false))
+
+-- what clap finds for the level in the matches of a subcommand that was met
+abbrev pub level_text : Option (Text × List Row) → Option Text
+level_text met = option_and_then (first_of (codes "level")) (option_map (λ entered. entered.1) met)
+
+-- the level is the one of the word, causal where there is none
+abbrev pub IsLevel : Option Text → Level → Type 0
+IsLevel word level = unwrap_or word (level_word Causal) ≡ level_word level
+
+-- what clap finds for the number of workers in the matches of a subcommand that was met
+abbrev pub workers_text : Option (Text × List Row) → Option Text
+workers_text met = option_and_then (first_of (codes "workers")) (option_map (λ entered. entered.1) met)
+
+-- the word says the number, from 1 to 32, in decimal
+abbrev pub SaysWorkers : Text → ℕ → Type 0
+SaysWorkers word workers = IsUnsignedIn 1 32 word × (workers ≡ digits_value 10 (without_leading_plus word))
+
+-- the number is the one that the word says, 1 where there is none
+abbrev pub IsWorkers : Option Text → ℕ → Type 0
+IsWorkers None workers = workers ≡ 1
+IsWorkers (Some word) workers = SaysWorkers word workers
+
+-- what clap finds for the path of the certificate in the matches of a subcommand that was met
+abbrev pub certificate_path : Option (Text × List Row) → Option Text
+certificate_path met = option_and_then (first_of (codes "certificate")) (option_map (λ entered. entered.1) met)
+
+-- the answers are as JSON by the flag, at the level of the word, and by as many workers as the word says; the certificate
+-- goes to the path, if there is one
+abbrev pub AsksExplain : Option (Text × List Row) → Request → Type 0
+AsksExplain met (Explain options certificate) =
+    IsFlag (json_text met) options.json × IsLevel (level_text met) options.level × IsWorkers (workers_text met) options.workers
+    × (option_map string_bytes certificate ≡ certificate_path met)
+AsksExplain met (Check history certificate) = ⊥
+
+-- the paths are those that clap finds
+abbrev pub AsksCheck : List Row → Request → Type 0
+AsksCheck rows (Explain options certificate) = ⊥
+AsksCheck rows (Check history certificate) =
+    (first_of (codes "history") rows ≡ Some (string_bytes history)) × (first_of (codes "certificate") rows ≡ Some (string_bytes certificate))
+
+-- what the subcommand that was met asks for: a check by its name with its two paths; else answers
+abbrev pub AsksBy : Option (Text × List Row) → Request → Type 0
+AsksBy met (Explain options certificate) =
+    (option_map (λ entered. entered.0) met ≢ Some (codes "check")) × AsksExplain met (Explain options certificate)
+AsksBy None (Check history certificate) = ⊥
+AsksBy (Some entered) (Check history certificate) = (entered.0 ≡ codes "check") × AsksCheck entered.1 (Check history certificate)
+
+abbrev pub Asks : App → List Text → Request → Type 0
+Asks app words request = AsksBy (subcommand_of app words) request
+
+-- where answers are asked for, it is by 1 to 32 workers
+abbrev pub HasWorkers : Request → Type 0
+HasWorkers (Explain options certificate) = (0 < options.workers) × (options.workers ≤ 32)
+HasWorkers (Check history certificate) = Unit {0}
+
+-- a text, or want of memory in its place, goes out with its status
+abbrev pub PrintsHelp : Option (List ℕ) → Option (List ℕ) → ℕ → Type 0
+PrintsHelp before after code =
+    ((text : List ℕ) × Prints before after text Success code) ⊎ Prints before after (memory_line false) Memory code
+
+-- how a run ends that answers nothing, by what clap says of its words: for help and the version some text, which no clause
+-- names, has to go out; or the line for want of memory; and for a fault of the words standard output stays empty
+abbrev pub EndsUnasked : ErrorKind → Option (List ℕ) → Option (List ℕ) → ℕ → Type 0
+EndsUnasked DisplayHelp before after code = PrintsHelp before after code
+EndsUnasked DisplayVersion before after code = PrintsHelp before after code
+EndsUnasked OutOfMemory before after code = Prints before after (memory_line false) Memory code
+EndsUnasked _ before after code = (after ≡ before) × (code ≡ code_of Usage)
+
+-- a run is asked for only where clap finds no fault in the words, and it is the one that they ask for; else the run ends as
+-- one of their faults has it, or for want of memory
+abbrev pub IsAskedBy : App → List (List ℕ) → Option (List ℕ) → Option (List ℕ) → Result Request ℕ → Type 0
+IsAskedBy app words before after (Ok request) = (fault_of app words ≡ []) × Asks app words request × (after ≡ before)
+IsAskedBy app words before after (Err code) =
+    EndsUnasked OutOfMemory before after code ⊎ ((kind : ErrorKind) × IsAmong kind (fault_of app words) × EndsUnasked kind before after code)
+
+-- the same by the command of the program, wherever the words for levels lie
+abbrev pub IsAsked : List (List ℕ) → Option (List ℕ) → Option (List ℕ) → Result Request ℕ → Type 0
+IsAsked words before after o = (levels : Words) × AreLevels levels × IsAskedBy (tcc_command levels) words before after o

@@ -1,0 +1,348 @@
+//! What the command line asks for.
+ghost use Rattle.std.specs.Prelude.{◌≡◌, ℕ, false, IfErr, IfOk, MatchOption, OnOk, map, option_map};
+ghost use Rattle.std.specs.String.{string_bytes};
+ghost use Rattle.clap.specs.Words.{FailsBy, IsUnsignedIn, app_of, fault_of, found_of, kind_of, rows_of, rule_of, subcommand_rows_of};
+ghost use Rattle.clap.specs.declared.error.kind.ErrorKind.TheVariants.{OutOfMemory};
+ghost use Rattle.tcc_graph.specs.declared.level.Level.{Level};
+ghost use Rattle.tcc_words.specs.CommandLines.{Asks, AsksBy, AsksCheck, AsksExplain, EndsUnasked, HasWorkers, IsAsked, IsFlag, IsLevel, IsWorkers, PrintsHelp, SaysWorkers, certificate_option, certificate_path, check_command, explain_command, json_text, level_option, level_text, level_word, path, tcc_command, valued_option, workers_option, workers_text};
+
+use crate::help;
+use clap::builder::ValueParser;
+use clap::error::ErrorKind;
+use clap::{Arg, ArgAction, ArgMatches, Command, Error};
+use std::alloc::{AllocError, Global};
+use std::env;
+use std::io::{self, Write};
+use tcc_graph::Level;
+use tcc_print::printing::{print_memory, print_text};
+use tcc_print::{Options, Status};
+
+/// What the program is asked to do.
+#[derive(Drop)]
+pub enum Request {
+    /// Answer for the records of the standard input.
+    Explain {
+        /// How answers are wanted.
+        options: Options,
+        /// The path of the file for the certificate of the last answer, if it is wanted.
+        certificate: Option<String>,
+    },
+    /// Judge a certificate for a history.
+    Check {
+        /// The path of the history's records.
+        history: String,
+        /// The path of the certificate's text.
+        certificate: String,
+    },
+}
+
+/// An option by its own name, with what help calls its value; without it, the word stands for the value.
+fn valued_option<'a>(
+    alloc: Global,
+    id: &'a str,
+    value: &'a str,
+    parser: ValueParser<'a>,
+    word: &'a str,
+) -> Arg<'a>
+    ensures rule { rule_of result ≡ valued_option id.now parser.entry word.now }
+    ensures own { result.global ≡ false }
+{
+    Arg::new(alloc, id)
+        .long(id)
+        .value_name(value)
+        .value_parser(parser)
+        .default_value(word)
+}
+
+/// The option for the level, whose value is one of these words.
+fn level_option<'a>(alloc: Global, levels: &'a [&'a str]) -> Arg<'a>
+    ensures rule { rule_of result ≡ level_option levels.entry }
+    ensures own { result.global ≡ false }
+{
+    let parser = ValueParser::Names(levels);
+    valued_option(alloc, "level", "LEVEL", parser, "causal").help("Judges at this level")
+}
+
+/// The option for the number of workers.
+fn workers_option<'a>(alloc: Global) -> Arg<'a>
+    ensures rule { rule_of result ≡ workers_option }
+    ensures own { result.global ≡ false }
+{
+    valued_option(alloc, "workers", "N", ValueParser::Unsigned(1, 32), "1").help(
+        "Searches with so many workers, 1 to 32",
+    )
+}
+
+/// The option for the file of the certificate.
+fn certificate_option<'a>(alloc: Global) -> Arg<'a>
+    ensures rule { rule_of result ≡ certificate_option }
+    ensures own { result.global ≡ false }
+{
+    Arg::new(alloc, "certificate")
+        .long("certificate")
+        .value_name("PATH")
+        .help("Writes the certificate of the last answer to this file")
+}
+
+/// The subcommand that explains, at one of these levels.
+fn explain_command<'a>(alloc: Global, levels: &'a [&'a str]) -> Result<Command<'a>, AllocError>
+    ensures { IfOk result (λ made. app_of made ≡ explain_command levels.entry) }
+{
+    let level = level_option(alloc, levels);
+    let json = Arg::new(alloc, "json")
+        .long("json")
+        .help("Answers in one line of JSON")
+        .action(ArgAction::SetTrue);
+    let workers = workers_option(alloc);
+    let certificate = certificate_option(alloc);
+    let first = Command::new(alloc, "explain")
+        .about(
+            "Reads records from standard input and says whether the history is consistent at a level",
+        )
+        .after_help(help::EXPLAIN)
+        .arg(level)?;
+    let second = first.arg(workers)?;
+    let third = second.arg(json)?;
+    third.arg(certificate)
+}
+
+/// A path, which has to be given.
+fn path<'a>(alloc: Global, id: &'a str, name: &'a str, help: &'a str) -> Arg<'a>
+    ensures rule { rule_of result ≡ path id.now }
+    ensures own { result.global ≡ false }
+{
+    Arg::new(alloc, id)
+        .value_name(name)
+        .help(help)
+        .required(true)
+}
+
+/// The subcommand that checks.
+fn check_command<'a>(alloc: Global) -> Result<Command<'a>, AllocError>
+    ensures { IfOk result (λ made. app_of made ≡ check_command) }
+{
+    let history = path(alloc, "history", "HISTORY", "The file of the records");
+    let certificate = path(
+        alloc,
+        "certificate",
+        "CERTIFICATE",
+        "The file of the certificate",
+    );
+    let half = Command::new(alloc, "check")
+        .about("Says whether a certificate proves its claim about a history")
+        .after_help(help::CHECK)
+        .arg(history)?;
+    half.arg(certificate)
+}
+
+/// The command by which words are read, with these words for levels.
+fn command<'a>(alloc: Global, levels: &'a [&'a str]) -> Result<Command<'a>, AllocError>
+    ensures { IfOk result (λ made. app_of made ≡ tcc_command levels.entry) }
+{
+    let explain = explain_command(alloc, levels)?;
+    let check = check_command(alloc)?;
+    let tcc = Command::new(alloc, "tcc")
+        .about("Checks and explains causal consistency of transaction histories")
+        .after_help(help::COMMANDS)
+        .version(help::VERSION)
+        .subcommand_required(true)
+        .subcommand(explain)?;
+    tcc.subcommand(check)
+}
+
+/// Whether the flag of the subcommand is set.
+fn is_json(matches: &ArgMatches) -> bool
+    ensures { IsFlag (json_text (subcommand_rows_of matches.now)) result }
+{
+    match matches.subcommand() {
+        Some((_name, explain)) => explain.get_flag("json"),
+        None => false,
+    }
+}
+
+/// The level of the word; none exactly by another word.
+fn level_named(word: &str) -> Option<Level>
+    ensures { MatchOption result ((level : Level) → word.now ≡ level_word level → ⊥) (λ level. word.now ≡ level_word level) }
+{
+    if word == "causal" {
+        return Some(Level::Causal);
+    }
+    if word == "atomic" {
+        return Some(Level::Atomic);
+    }
+    None
+}
+
+/// The level that the subcommand has a word for; none exactly by another word.
+fn level_of(matches: &ArgMatches) -> Option<Level>
+    ensures { MatchOption result ((level : Level) → IsLevel (level_text (subcommand_rows_of matches.now)) level → ⊥) (IsLevel (level_text (subcommand_rows_of matches.now))) }
+{
+    match matches.subcommand() {
+        Some((_name, explain)) => match explain.get_str("level") {
+            Some(word) => level_named(word),
+            None => Some(Level::Causal),
+        },
+        None => Some(Level::Causal),
+    }
+}
+
+/// The number of workers that the word says, in decimal; none exactly by another word.
+fn workers_named(word: &str) -> Option<u32>
+    ensures { MatchOption result (IsUnsignedIn 1 32 word.now → ⊥) (SaysWorkers word.now) }
+{
+    match word.parse::<u32>() {
+        Ok(workers) if 1 <= workers && workers <= 32 => Some(workers),
+        _ => None,
+    }
+}
+
+/// The number of workers that the subcommand has a word for; none exactly by another word.
+fn workers_of(matches: &ArgMatches) -> Option<u32>
+    ensures { MatchOption result ((workers : ℕ) → IsWorkers (workers_text (subcommand_rows_of matches.now)) workers → ⊥) (IsWorkers (workers_text (subcommand_rows_of matches.now))) }
+{
+    match matches.subcommand() {
+        Some((_name, explain)) => match explain.get_str("workers") {
+            Some(word) => workers_named(word),
+            None => Some(1),
+        },
+        None => Some(1),
+    }
+}
+
+/// The path that the subcommand has for the file of the certificate, if it has one.
+fn certificate_of(alloc: Global, matches: &ArgMatches) -> Result<Option<String>, Error>
+    ensures path { IfOk result (λ path. option_map string_bytes path ≡ certificate_path (subcommand_rows_of matches.now)) }
+    ensures fails { IfErr result (λ e. kind_of e ≡ OutOfMemory) }
+{
+    match matches.subcommand() {
+        Some((_name, explain)) => match explain.get_str("certificate") {
+            Some(path) => Ok(Some(path.to_string(alloc)?)),
+            None => Ok(None),
+        },
+        None => Ok(None),
+    }
+}
+
+/// How answers are wanted, and where the certificate goes.
+fn options_of(alloc: Global, matches: &ArgMatches) -> Result<Request, Error>
+    ensures asked { IfOk result (AsksExplain (subcommand_rows_of matches.now)) }
+    ensures fails { IfErr result (λ e. kind_of e ≡ OutOfMemory) }
+{
+    let (Some(level), Some(workers)) = (level_of(matches), workers_of(matches)) else {
+        // Another word is a fault by clap, so only memory can be wanting.
+        return Err(Error::from(AllocError));
+    };
+    let json = is_json(matches);
+    let certificate = certificate_of(alloc, matches)?;
+    Ok(Request::Explain {
+        options: Options {
+            level,
+            workers,
+            json,
+        },
+        certificate,
+    })
+}
+
+/// The two files to check.
+fn paths_of(alloc: Global, matches: &ArgMatches) -> Result<Request, Error>
+    ensures asked { IfOk result (AsksCheck (rows_of (found_of matches.now))) }
+    ensures fails { IfErr result (λ e. kind_of e ≡ OutOfMemory) }
+{
+    match (matches.get_str("history"), matches.get_str("certificate")) {
+        (Some(history), Some(certificate)) => Ok(Request::Check {
+            history: history.to_string(alloc)?,
+            certificate: certificate.to_string(alloc)?,
+        }),
+        // Words without both are a fault by clap, so only memory can be wanting.
+        _ => Err(Error::from(AllocError)),
+    }
+}
+
+/// What the matches ask for, by the subcommand that was met.
+fn asked_of(alloc: Global, matches: &ArgMatches) -> Result<Request, Error>
+    ensures asked { IfOk result (AsksBy (subcommand_rows_of matches.now)) }
+    ensures fails { IfErr result (λ e. kind_of e ≡ OutOfMemory) }
+{
+    match matches.subcommand() {
+        Some((name, check)) if name == "check" => paths_of(alloc, check),
+        _ => options_of(alloc, matches),
+    }
+}
+
+/// What the words ask for, with these words for levels.
+fn parse(alloc: Global, levels: &[&str], words: &[String]) -> Result<Request, Error>
+    ensures fails { FailsBy (fault_of (tcc_command levels.entry) (map string_bytes words.now)) result }
+    ensures asked { IfOk result (Asks (tcc_command levels.entry) (map string_bytes words.now)) }
+{
+    let matches = command(alloc, levels)?.try_get_matches_from(words)?;
+    asked_of(alloc, &matches)
+}
+
+/// Writes the help, or the version, that was asked for, and gives the number that the process ends with.
+fn print_help<W: Write>(alloc: Global, asked: &Error, out: &mut W) -> u8
+    ensures { PrintsHelp (W.contents out.old) (W.contents out.new) result }
+{
+    match asked.to_string(alloc) {
+        Ok(text) => print_text(out, text.as_bytes(), Status::Success),
+        Err(_) => print_memory(out, false),
+    }
+}
+
+/// Prints why the run asks for nothing, and gives the number that the process ends with. Help and the version go to `out`,
+/// a fault of the words to standard error.
+fn end_unasked<W: Write>(rt: &HostRuntime, error: &Error, out: &mut W) -> u8
+    ensures { EndsUnasked (kind_of error.now) (W.contents out.old) (W.contents out.new) result }
+{
+    match error.kind() {
+        ErrorKind::DisplayHelp | ErrorKind::DisplayVersion => print_help(rt.alloc(), error, out),
+        ErrorKind::OutOfMemory => print_memory(out, false),
+        _ => {
+            // What standard error takes changes nothing.
+            let _ = error.print(rt);
+            Status::Usage.code()
+        }
+    }
+}
+
+/// What the words ask for; else the number that the process ends with.
+fn read_words<W: Write>(rt: &HostRuntime, words: &[String], out: &mut W) -> Result<Request, u8>
+    ensures { IsAsked (map string_bytes words.now) (W.contents out.old) (W.contents out.new) result }
+{
+    let levels = ["causal", "atomic"];
+    match parse(rt.alloc(), levels.as_slice(), words) {
+        Ok(request) => Ok(request),
+        Err(error) => Err(end_unasked(rt, &error, out)),
+    }
+}
+
+/// The words of the process, of which nothing is known.
+fn words<W: Write>(rt: &HostRuntime, out: &mut W) -> Result<Vec<String>, u8>
+    ensures quiet { OnOk result (W.contents out.new ≡ W.contents out.old) }
+    ensures ends { IfErr result (λ code. (kind : ErrorKind) × EndsUnasked kind (W.contents out.old) (W.contents out.new) code) }
+{
+    let args = match env::args(rt) {
+        Ok(args) => args,
+        Err(error) if error.kind() == io::ErrorKind::OutOfMemory => {
+            return Err(print_memory(out, false));
+        }
+        Err(_) => {
+            let _ = eprintln!(rt; "error: an argument is not UTF-8");
+            return Err(Status::Usage.code());
+        }
+    };
+    match args.collect(rt.alloc()) {
+        Ok(words) => Ok(words),
+        Err(_) => Err(print_memory(out, false)),
+    }
+}
+
+/// What the process was asked for, as `read_words` has it; else the number that it ends with.
+pub fn read<W: Write>(rt: &HostRuntime, out: &mut W) -> Result<Request, u8>
+    ensures workers { IfOk result HasWorkers }
+    ensures quiet { OnOk result (W.contents out.new ≡ W.contents out.old) }
+    ensures ends { IfErr result (λ code. (kind : ErrorKind) × EndsUnasked kind (W.contents out.old) (W.contents out.new) code) }
+{
+    let words = words(rt, out)?;
+    read_words(rt, &words, out)
+}

@@ -1,0 +1,77 @@
+//! What help says below the arguments: what is read, an example, and how a run ends.
+
+/// The version of the program.
+pub const VERSION: &str = "0.1.0";
+
+/// Where the help on each command is.
+pub const COMMANDS: &str =
+    "'tcc explain --help' and 'tcc check --help' show what is read, an example and the statuses.
+README.md of the sources says how to record a history and how to read an answer.";
+
+/// The records, an example, and the statuses of an explained history.
+pub const EXPLAIN: &str = "Records, one a line (CSV without a header row):
+  SESSION,begin        a transaction of the session begins
+  SESSION,r,KEY,VALUE  it read the value at the key; 0 is the initial value
+  SESSION,w,KEY,VALUE  it wrote the value, which is not 0 and is written once per key
+  SESSION,commit       it is finished, and counts
+  SESSION,abort        it is finished, and its writes do not count
+  seal                 an answer is wanted for what was finished so far
+
+A session and a key are names: 1 to 32 of A-Z, a-z, 0-9, '_', '.' and '-'. A value is a decimal
+number up to 18446744073709551615. Transactions of different sessions may be interleaved.
+The end of the input wants an answer too, unless nothing was finished since the last 'seal'.
+A write is known by any chain of sessions and reads at the level causal, by one step at atomic.
+
+Example: a session writes x, and its next transaction reads the initial x.
+  $ printf 'a,begin\\na,w,x,1\\na,commit\\na,begin\\na,r,x,0\\na,commit\\n' | tcc explain
+  anomaly: 3 steps, stale-initial-read
+  session init -> a/1
+  derived a/1 -> init by x, read by a/2
+    session a/1 -> a/2
+    against init -> a/2 by x
+
+Statuses, of the last answer or of the fault that ended the run:
+  0   consistent: the order is one in which every read is explained
+  1   an anomaly: no order explains the reads, and no shorter cycle shows it
+  2   unresolved: reads that can't be traced to a write, or values written twice
+  3   a record breaks a rule, or the input ends inside a transaction
+  4   the input is past a limit
+  5   out of memory
+  6   reading or writing failed
+  64  the command line is wrong
+
+README.md of the sources says how to read an answer, docs/FORMATS.md has every text and every limit.";
+
+/// The files, an example, and the statuses of a checked certificate.
+pub const CHECK: &str =
+    "HISTORY has the records that 'tcc explain' reads, all of them one history; a 'seal' is passed over.
+CERTIFICATE claims that the history has a commit order, or that a cycle of it is a least one, at the
+level of its first line; 'tcc explain --certificate PATH' writes one of version 2:
+  tcc-certificate 2 causal  tcc-certificate 2 causal
+  order N S                 cycle N M L
+  (the N numbers)           (the M links)
+  clocks                    near
+  (N lines of S numbers)    (N lines of N numbers)
+  end                       far
+                            (N lines of N, N - 1, .. 1 numbers)
+                            end
+At 'tcc-certificate 2 atomic' an order has no clocks. Version 1 is read as well.
+
+Example: one transaction of one session, which stands after the initial one.
+  $ printf 'a,begin\\na,w,x,1\\na,commit\\n' > history.csv
+  $ printf 'tcc-certificate 2 causal\\norder 2 1\\n0 1\\nclocks\\n0\\n0\\nend\\n' > certificate.txt
+  $ tcc check history.csv certificate.txt
+  accepted: order
+
+Statuses:
+  0   accepted: what the certificate claims is true
+  2   unresolved: reads that can't be traced to a write, or values written twice
+  3   a record breaks a rule, or the history ends inside a transaction
+  4   the history is past a limit
+  5   out of memory
+  6   a file can't be opened or read, or writing failed
+  7   rejected: the certificate breaks a rule, named with its place
+  8   the text of the certificate has a fault, named with its line
+  64  the command line is wrong
+
+docs/FORMATS.md of the sources has the links, the rules and every text.";

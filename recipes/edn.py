@@ -1,0 +1,146 @@
+#!/usr/bin/env python3
+"""Turns values of EDN, such as the maps of Jepsen's history.edn, into lines of JSON, one a value.
+
+Keywords and symbols become texts without their colon, nil becomes null, vectors, lists and sets become arrays, and of a
+tagged value the tag is left out. A whole number stays one, whatever its size. A number with a point becomes JSON's, and a
+ratio, which JSON doesn't have, a text. Keys of a map that aren't texts become the text of their JSON.
+
+Where the input is no EDN nothing is printed, but the line where that shows, and the status is 1.
+"""
+import argparse
+import json
+import re
+import sys
+from dataclasses import dataclass
+from typing import Iterator, TextIO
+
+EXAMPLE = """example:
+  $ echo '{:type :ok, :process 3, :f :txn, :value [[:r :x nil] [:w :y 5]]}' | edn.py
+  {"type": "ok", "process": 3, "f": "txn", "value": [["r", "x", null], ["w", "y", 5]]}
+"""
+# Between tokens: whitespace, commas, comments. A token: a text, a character, a mark, or a word.
+GAP = re.compile(r"(?:[\s,]|;[^\n]*)*")
+TOKEN = re.compile(r'"(?:[^"\\]|\\.)*"|\\(?:u[0-9a-fA-F]{4}|[a-z]+|.)|#_|#\{|#[A-Za-z][^\s,;"(){}\[\]\\]*|[(){}\[\]]'
+                   r"|[^\s,;\"(){}\[\]\\#]+[^\s,;\"(){}\[\]\\]*|\#\#(?:-?Inf|NaN)", re.DOTALL)
+CLOSING = {"(": ")", "[": "]", "{": "}", "#{": "}"}
+WORDS = {"nil": None, "true": True, "false": False}
+WHOLE = re.compile(r"([+-]?[0-9]+)N?")
+POINTED = re.compile(r"[+-]?[0-9]+(?:\.[0-9]*)?(?:[eE][+-]?[0-9]+)?M?")
+ESCAPES = {"t": "\t", "r": "\r", "n": "\n", "b": "\b", "f": "\f", '"': '"', "\\": "\\"}
+CHARACTERS = {"newline": "\n", "return": "\r", "space": " ", "tab": "\t", "backspace": "\b", "formfeed": "\f"}
+
+
+class NoEdn(Exception):
+    """A place that is no EDN."""
+
+
+@dataclass
+class Reader:
+    """Reads the values of a text, one after the other."""
+
+    text: str
+    at: int = 0
+
+    def fails(self, why: str, at: int) -> NoEdn:
+        return NoEdn("line %d: %s" % (self.text.count("\n", 0, at) + 1, why))
+
+    def token(self) -> str:
+        """The next token; none at the end of the text."""
+        self.at = GAP.match(self.text, self.at).end()
+        if self.at == len(self.text):
+            return ""
+        found = TOKEN.match(self.text, self.at)
+        if not found:
+            raise self.fails("no EDN begins with %r" % self.text[self.at:self.at + 10], self.at)
+        self.at = found.end()
+        return found.group()
+
+    def values(self, closing: str = "") -> Iterator[object]:
+        """The values up to the closing token, which is the end of the text where there is none."""
+        opened = self.at
+        while (token := self.token()) != closing:
+            if not token:
+                raise self.fails("what begins here has no end: %r is missing" % closing, opened)
+            if token == "#_":
+                self.value(self.token())
+            else:
+                yield self.value(token)
+
+    def value(self, token: str):
+        while token == "#_":
+            self.value(self.token())
+            token = self.token()
+        if token in CLOSING:
+            inner = list(self.values(CLOSING[token]))
+            return self.map_of(inner) if token == "{" else inner
+        if token in ("", ")", "]", "}"):
+            raise self.fails("a value is missing", self.at)
+        if token[0] == '"':
+            return self.string(token[1:-1])
+        if token[0] == "\\":
+            return character(token[1:])
+        if token[0] == "#" and token[1] != "#":
+            return self.value(self.token())
+        return atom(token)
+
+    def map_of(self, inner: list) -> dict:
+        if len(inner) % 2:
+            raise self.fails("a map with a key that has no value", self.at - 1)
+        pairs = zip(inner[::2], inner[1::2])
+        return {key if isinstance(key, str) else json.dumps(key): value for key, value in pairs}
+
+    def string(self, inner: str) -> str:
+        def plain(found: "re.Match[str]") -> str:
+            one = found.group(1)
+            if one[0] == "u":
+                return chr(int(one[1:], 16))
+            if one not in ESCAPES:
+                raise self.fails("a text with the unknown escape \\%s" % one, self.at)
+            return ESCAPES[one]
+
+        return re.sub(r"\\(u[0-9a-fA-F]{4}|.)", plain, inner, flags=re.DOTALL)
+
+
+def character(name: str) -> str:
+    if len(name) == 5 and name[0] == "u":
+        return chr(int(name[1:], 16))
+    return CHARACTERS.get(name, name)
+
+
+def atom(word: str):
+    """A word: nil, true, false, a number, or the name of a keyword or a symbol."""
+    if word in WORDS:
+        return WORDS[word]
+    whole = WHOLE.fullmatch(word)
+    if whole:
+        return int(whole.group(1))
+    if POINTED.fullmatch(word):
+        return float(word.rstrip("M"))
+    return word[1:] if word[0] == ":" else word
+
+
+def arguments() -> argparse.Namespace:
+    ask = argparse.ArgumentParser(description=__doc__, epilog=EXAMPLE, formatter_class=argparse.RawDescriptionHelpFormatter)
+    ask.add_argument("file", nargs="?", metavar="FILE", help="the file of the values, by default standard input")
+    return ask.parse_args()
+
+
+def run(asked: argparse.Namespace, out: TextIO) -> None:
+    with open(asked.file, "rb") if asked.file else sys.stdin.buffer as file:
+        text = file.read().decode()
+    lines = [json.dumps(value, allow_nan=False) for value in Reader(text).values()]
+    out.writelines(line + "\n" for line in lines)
+    out.flush()
+
+
+def main() -> int:
+    try:
+        run(arguments(), sys.stdout)
+    except (NoEdn, OSError, ValueError, RecursionError) as error:
+        print("edn.py: %s" % error, file=sys.stderr)
+        return 1
+    return 0
+
+
+if __name__ == "__main__":
+    sys.exit(main())

@@ -1,0 +1,179 @@
+#!/usr/bin/env python3
+"""Whether what the documents name is there, and whether the man page and the completion have what the program has.
+
+    run.py [--tcc PATH]
+
+In the documents, a link has to lead to a file, and what stands in backquotes has to be there where it is
+
+    a path                `docs/MODEL.md`, `specs/Texts.antt`, `crates/tcc`: it or the end of a path of the repository
+    a crate               `tcc_run`
+    a name of a crate     `tcc_run::explain_snapshot`: its last word stands in the sources of that crate
+    a call of a type      `Book::new`: its last word stands in some source
+    a name before a file  `answer_text` (`tcc_answer/specs`): the files there have the name
+
+CHANGELOG tells of the past, and is left out. The man page and the completion for bash have to name each command and option
+of the program's help, and the completion to complete them; and the stack that README names has to be enough. Each
+difference is one line; the last line is `N passed, M failed`.
+"""
+import argparse
+import functools
+import pathlib
+import re
+import shlex
+import subprocess
+import sys
+import tempfile
+from typing import Iterator, List, Optional, Tuple
+
+TOP = pathlib.Path(__file__).resolve().parent.parent.parent
+CODE = re.compile(r"```.*?```", re.DOTALL)
+QUOTED = re.compile(r"`([^`\n]+)`")
+LINK = re.compile(r"\]\(([^)#\s]+)(?:#[^)]*)?\)")
+ENDINGS = ("antt", "bash", "csv", "edit", "json", "md", "py", "rt", "toml", "txt", "c", "certificate", "svg")
+PATH = re.compile(r"[A-Za-z0-9_.-]+(?:/[A-Za-z0-9_.-]+)*(?:/|\.(?:%s))" % "|".join(ENDINGS))
+FOLDERS = re.compile(r"(?:crates|docs|tests|bench|recipes|examples|tcc_[a-z_]+)(?:/[A-Za-z0-9_.-]+)+")
+CRATE = re.compile(r"tcc_[a-z_]+")
+OF_CRATE = re.compile(r"(tcc_[a-z_]+)(?:::[A-Za-z_]+)*::([A-Za-z_]+)")
+OF_TYPE = re.compile(r"[A-Z][A-Za-z]+::([A-Za-z_]+)")
+BEFORE_FILE = re.compile(r"`([A-Za-z_]+)` \(`((?:tcc_[a-z_]+)(?:/[A-Za-z_./]+)?)`")
+# Types of the toolchain, and files that a reader has, makes or names.
+ELSEWHERE = {"Vec", "String", "Option", "Result", "Ordering", "Rattle"}
+MADE = re.compile(r"(?:history|names|records|answer|client-|certificate)\S*|store/|.*\bNAME\b.*|.*\bout/.*")
+COMPLETED = (
+    ("tcc ", "explain check help --help --version"),
+    ("tcc ex", "explain"),
+    ("tcc explain --level ", "causal atomic"),
+    ("tcc explain --level = at", "atomic"),
+    ("tcc explain --j", "--json"),
+    ("tcc explain --certificate ", ""),
+    ("tcc check h", ""),
+    ("tcc help c", "check"),
+)
+COMPLETING = """source docs/tcc.bash; read -ra COMP_WORDS <<< "$1"; [[ $1 == *" " ]] && COMP_WORDS+=("")
+COMP_CWORD=$((${#COMP_WORDS[@]}-1)); _tcc; echo "${COMPREPLY[*]}" """
+
+
+@functools.lru_cache(maxsize=None)
+def files() -> Tuple[str, ...]:
+    """The files of the repository, and its folders with a slash in the end."""
+    found = []
+    for path in TOP.rglob("*"):
+        parts = path.relative_to(TOP).parts
+        if not {"out", ".git", "__pycache__"} & set(parts):
+            found.append("/" + "/".join(parts) + ("/" if path.is_dir() else ""))
+    return tuple(found)
+
+
+@functools.lru_cache(maxsize=None)
+def words(crate: str, part: str) -> frozenset:
+    """All words of the sources below that part of a crate; of all crates for an empty name."""
+    below = TOP / "crates" / crate
+    paths = [below / part] if (below / part).is_file() else (
+        path for ending in ("*.rt", "*.antt") for path in below.rglob(ending)
+        if path.relative_to(below).as_posix().startswith(part) or not crate)
+    return frozenset(word for path in paths if "/out/" not in str(path) and "/proofs/" not in str(path)
+                     for word in re.findall(r"[\w-]+", path.read_text(errors="replace")))
+
+
+def is_there(path: str) -> bool:
+    return any(one.rstrip("/").endswith("/" + path.rstrip("/")) for one in files())
+
+
+def outcome_of_name(name: str) -> Iterator[Optional[str]]:
+    """What is wrong with what stands in backquotes, None where nothing is; nothing where it is no name of this house."""
+    of_crate, of_type = OF_CRATE.fullmatch(name), OF_TYPE.fullmatch(name)
+    if CRATE.fullmatch(name):
+        yield None if is_there("crates/" + name) or name in words("", "") else "no such crate or name"
+    elif (PATH.fullmatch(name) or FOLDERS.fullmatch(name)) and not MADE.fullmatch(name):
+        yield None if is_there(name) else "no such path"
+    elif of_crate:
+        crate, last = of_crate.groups()
+        yield None if last in words(crate, "") else "the sources of %s have no %s" % (crate, last)
+    elif of_type and name.split("::")[0] not in ELSEWHERE:
+        yield None if of_type.group(1) in words("", "") else "no source has it"
+
+
+def faults_of(document: pathlib.Path) -> Iterator[Tuple[str, Optional[str]]]:
+    text = CODE.sub(lambda block: "\n" * block.group().count("\n"), document.read_text())
+    for number, line in enumerate(text.splitlines(), 1):
+        where = "%s, line %d: " % (document.relative_to(TOP), number)
+        for name in QUOTED.findall(line):
+            for wrong in outcome_of_name(name):
+                yield where + "`%s`" % name, wrong
+        for target in LINK.findall(line):
+            if "://" not in target:
+                yield where + target, None if (document.parent / target).exists() else "no such file"
+        for name, place in BEFORE_FILE.findall(line):
+            crate, _, part = place.partition("/")
+            there = name in words(crate, part) or not is_there("crates/" + place)
+            yield where + "`%s` (`%s`)" % (name, place), None if there else "it isn't there"
+
+
+def documents() -> List[pathlib.Path]:
+    found = [TOP / "README.md", TOP / "CONTRIBUTING.md", *(TOP / "docs").glob("*.md"), *TOP.glob("*/README.md"),
+             TOP / "tests/rows/README.md"]
+    return sorted(set(found))
+
+
+def options_of(tcc: List[str]) -> Iterator[str]:
+    """The commands and options that the program's help names."""
+    for command in ([], ["explain"], ["check"]):
+        shown = subprocess.run([*tcc, *command, "--help"], capture_output=True, text=True, timeout=60, check=False).stdout
+        usage = shown.split("Usage:")[-1].split("\n\n")
+        listed = "\n".join(part for part in usage if part.startswith(("Options:", "Commands:")))
+        yield from re.findall(r"--[a-z]+", listed)
+        yield from re.findall(r"^  ([a-z]+)  ", listed, re.MULTILINE)
+
+
+def faults_of_options(tcc: List[str]) -> Iterator[Tuple[str, Optional[str]]]:
+    options = sorted(set(options_of(tcc)))
+    yield "help", None if len(options) > 5 else "no options were found"
+    for name in ("docs/tcc.1", "docs/tcc.bash"):
+        text = (TOP / name).read_text().replace("\\-", "-")
+        for option in options:
+            yield "%s: %s" % (name, option), None if re.search(r"(?<![\w-])%s(?![\w-])" % option, text) else "isn't named"
+    for line, wanted in COMPLETED:
+        got = subprocess.run(["bash", "-c", COMPLETING, "bash", line], cwd=TOP, capture_output=True, text=True, timeout=60,
+                             check=False).stdout.strip()
+        yield "completion of '%s'" % line, None if got == wanted else "wanted '%s', got '%s'" % (wanted, got)
+
+
+def faults_of_stack(tcc: List[str]) -> Iterator[Tuple[str, Optional[str]]]:
+    """Whether the stack that README names is enough for an answer with its certificate, and for the check of that."""
+    stack = re.search(r"needs a stack of ([0-9]+) KB", (TOP / "README.md").read_text()).group(1)
+    history = str(TOP / "examples/stale-read.csv")
+    with tempfile.TemporaryDirectory() as folder:
+        certificate = str(pathlib.Path(folder, "certificate"))
+        runs = ((["explain", "--workers", "2", "--certificate", certificate], 1), (["check", history, certificate], 0))
+        for words_after, wanted in runs:
+            with open(history, "rb") as given:
+                limited = ["env", "-i", "bash", "-c", 'ulimit -s "$1"; shift; exec "$@"', "bash", stack]
+                done = subprocess.run([*limited, *tcc, *words_after], stdin=given, capture_output=True, timeout=60, check=False)
+            got = done.returncode
+            yield "%s in %s KB of stack" % (words_after[0], stack), None if got == wanted else "status %d" % got
+
+
+def outcomes(tcc: List[str]) -> Iterator[Tuple[str, Optional[str]]]:
+    for document in documents():
+        yield from faults_of(document)
+    yield from faults_of_options(tcc)
+    yield from faults_of_stack(tcc)
+
+
+def main() -> int:
+    ask = argparse.ArgumentParser(description="Whether what the documents name is there.")
+    ask.add_argument("--tcc", default=str(TOP / "crates/tcc/out/tcc"), help="the program, by default the built one")
+    asked = ask.parse_args()
+    passed = failed = 0
+    for name, wrong in outcomes(shlex.split(asked.tcc)):
+        if wrong is None:
+            passed += 1
+        else:
+            failed += 1
+            print("%s: %s" % (name, wrong), flush=True)
+    print("%d passed, %d failed" % (passed, failed))
+    return 1 if failed else 0
+
+
+if __name__ == "__main__":
+    sys.exit(main())

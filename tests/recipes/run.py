@@ -1,0 +1,266 @@
+#!/usr/bin/env python3
+"""Runs the scripts of recipes/ on the cases of this folder and compares what they do, byte by byte.
+
+    run.py [--tcc PATH] [NAME ..]
+
+A case is a JSON object:
+
+    about      what it shows
+    commands   a list of words for each command: a script of recipes/, `tcc` or `dot`, and its arguments; each command
+               reads what the one before it printed. @NAME is the path of NAME in a new folder of this run's own. Where
+               there is no `dot` on the path, the cases that want Graphviz's are passed over, which is said
+    input      what the first command reads, lines as parts; a part {"bytes": ".."} is bytes (latin-1) without a line
+               feed, a part {"json": ..} is a line of compact JSON, a part {"file": ".."} a file of the repository
+    files      files of that folder: names, and parts
+    statuses   the exit status of each command; all 0 if left out
+    output     what the last command prints, as parts
+    errors     what all commands together print on standard error, in their order, as parts
+    written    files of that folder after the run: names, and parts
+    runs       several runs, each with fields of its own over those of the case
+
+Behind the cases, the help of each script has to show an example, the clients in Python that README and RECORDING show have
+to write what they saw, and the demo of recipes/redis has to find its stale read;
+where there is no redis-server or no redis-py it is passed over, which is said.
+
+The wanted texts were worked out by hand from the definitions. Each difference is one line; the last line is
+`N passed, M failed`.
+"""
+import argparse
+import importlib.util
+import io
+import json
+import os
+import pathlib
+import re
+import shlex
+import shutil
+import subprocess
+import sys
+import tempfile
+from dataclasses import dataclass, field
+from typing import Dict, Iterator, List, Optional, Tuple
+
+HERE = pathlib.Path(__file__).resolve().parent
+TOP = HERE.parent.parent
+RECIPES = TOP / "recipes"
+SECONDS = 60
+WITHOUT_SERVER = 77
+
+
+@dataclass(frozen=True)
+class Run:
+    """What is run, and what it has to do."""
+
+    about: str
+    commands: List[List[str]]
+    input: list = field(default_factory=list)
+    files: Dict[str, list] = field(default_factory=dict)
+    statuses: Optional[List[int]] = None
+    output: list = field(default_factory=list)
+    errors: list = field(default_factory=list)
+    written: Dict[str, list] = field(default_factory=dict)
+
+
+@dataclass(frozen=True)
+class Done:
+    """What was done."""
+
+    statuses: List[int]
+    output: bytes
+    errors: bytes
+    written: Dict[str, bytes]
+
+
+def text(parts: list) -> bytes:
+    return b"".join(map(part, parts))
+
+
+def part(one) -> bytes:
+    if isinstance(one, str):
+        return one.encode() + b"\n"
+    if "json" in one:
+        return json.dumps(one["json"], separators=(",", ":")).encode() + b"\n"
+    return (TOP / one["file"]).read_bytes() if "file" in one else one["bytes"].encode("latin-1")
+
+
+def runs(path: pathlib.Path) -> Iterator[Tuple[str, Run]]:
+    """The runs of a case, each with its name."""
+    case = json.loads(path.read_text())
+    several = case.pop("runs", None)
+    if several is None:
+        yield path.stem, Run(**case)
+        return
+    for number, own in enumerate(several, 1):
+        yield "%s (run %d)" % (path.stem, number), Run(**{**case, **own})
+
+
+def words(command: List[str], tcc: List[str], folder: str) -> List[str]:
+    program, *others = command
+    placed = [os.path.join(folder, word[1:]) if word.startswith("@") else word for word in others]
+    programs = {"tcc": tcc, "dot": ["dot"]}
+    return programs.get(program, [sys.executable, str(RECIPES / program)]) + placed
+
+
+def done(run: Run, tcc: List[str]) -> Done:
+    """Runs the commands, one after the other."""
+    given, errors, statuses = text(run.input), b"", []
+    with tempfile.TemporaryDirectory() as folder:
+        for name, parts in run.files.items():
+            pathlib.Path(folder, name).write_bytes(text(parts))
+        for command in run.commands:
+            ended = subprocess.run(words(command, tcc, folder), input=given, capture_output=True, timeout=SECONDS, check=False)
+            given = ended.stdout
+            errors += ended.stderr.replace(os.fsencode(folder) + b"/", b"@")
+            statuses.append(ended.returncode)
+        written = {name: (pathlib.Path(folder, name).read_bytes() if pathlib.Path(folder, name).exists() else b"no such file")
+                   for name in run.written}
+    return Done(statuses, given, errors, written)
+
+
+def differences(run: Run, did: Done) -> Iterator[str]:
+    wanted = run.statuses or [0] * len(run.commands)
+    if wanted != did.statuses:
+        yield "statuses: wanted %s, got %s, standard error %s" % (wanted, did.statuses, shown(did.errors[-200:]))
+    yield from difference("output", text(run.output), did.output)
+    yield from difference("standard error", text(run.errors), did.errors)
+    for name, parts in run.written.items():
+        yield from difference(name, text(parts), did.written[name])
+
+
+def difference(what: str, wanted: bytes, got: bytes) -> Iterator[str]:
+    if wanted == got:
+        return
+    lines = list(zip(wanted.split(b"\n") + [b"no line"], got.split(b"\n") + [b"no line"]))
+    number, (one, other) = next(((n, pair) for n, pair in enumerate(lines, 1) if pair[0] != pair[1]), (0, (wanted, got)))
+    yield "%s, line %d: wanted %s, got %s" % (what, number, shown(one[:200]), shown(other[:200]))
+
+
+def shown(line: bytes) -> str:
+    return repr(line.decode(errors="backslashreplace"))
+
+
+def first_difference(run: Run, tcc: List[str]) -> Optional[str]:
+    try:
+        return next(differences(run, done(run, tcc)), None)
+    except (OSError, subprocess.TimeoutExpired) as error:
+        return str(error)
+
+
+def helps() -> Iterator[Tuple[str, Optional[str]]]:
+    """Whether the help of each script shows an example."""
+    for script in sorted(RECIPES.glob("**/*.py")):
+        ended = subprocess.run([sys.executable, str(script), "--help"], capture_output=True, timeout=SECONDS, check=False)
+        shown = ended.returncode == 0 and b"\nexample: " in ended.stdout.replace(b"example:\n", b"example: ")
+        yield "help of " + script.name, None if shown else "status %d, or no example" % ended.returncode
+
+
+def redis_demo(tcc: List[str]) -> Iterator[Tuple[str, Optional[str]]]:
+    """The demo with real servers, where they are there: the one answer is an order, the other a stale read of 3 steps."""
+    words = [sys.executable, str(RECIPES / "redis" / "demo.py"), "--tcc", tcc[-1]]
+    try:
+        ended = subprocess.run(words, capture_output=True, timeout=4 * SECONDS, check=False)
+    except subprocess.TimeoutExpired as error:
+        yield "demo", str(error)
+        return
+    if ended.returncode == WITHOUT_SERVER:
+        print("demo: passed over: no redis-server or redis-py here")
+        return
+    yield "demo", None if ended.returncode == 0 else "status %d, %s" % (ended.returncode, shown(ended.stdout + ended.stderr))
+
+
+def redis_outcomes() -> Iterator[Tuple[str, Optional[str]]]:
+    """What the recorder makes of outcomes that nobody told: a commit where somebody read a value at its key, else an abort."""
+    spec = importlib.util.spec_from_file_location("record", RECIPES / "redis" / "record.py")
+    record = importlib.util.module_from_spec(spec)
+    sys.modules["record"] = record
+    spec.loader.exec_module(record)
+    done = [record.Transaction("a", [("w", "x", 1)], None), record.Transaction("b", [("w", "x", 2)], None),
+            record.Transaction("c", [("w", "y", 2)], True), record.Transaction("c", [("r", "x", 1), ("r", "y", 2)], True)]
+    counts = record.settle(done)
+    wanted = ["a,begin", "a,w,x,1", "a,commit", "b,begin", "b,w,x,2", "b,abort", "c,begin", "c,w,y,2", "c,commit",
+              "c,begin", "c,r,x,1", "c,r,y,2", "c,commit"]
+    got = list(record.records(done))
+    yield "records of unknown outcomes", None if got == wanted else "wanted %s, got %s" % (wanted, got)
+    yield "count of unknown outcomes", None if list(counts.values()) == [1, 1] else str(counts)
+
+
+class Store:
+    """A store of one map, for the clients of the documents; at the calls named it refuses, or breaks off when it is done."""
+
+    def __init__(self, refused: type, refuses: int, breaks_off: int):
+        self.refused, self.refuses, self.breaks_off = refused, refuses, breaks_off
+        self.values: Dict[str, int] = {}
+        self.calls = 0
+
+    def transact(self, reads: list, written: list) -> list:
+        self.calls += 1
+        if self.calls == self.refuses:
+            raise self.refused()
+        values = [self.values.get(key) for key in reads]
+        self.values.update(step[-2:] for step in written)
+        if self.calls == self.breaks_off:
+            raise OSError()
+        return values
+
+
+def example(document: str) -> dict:
+    """The names that the Python of a document defines."""
+    names: dict = {}
+    exec(re.search("```python\n(.*?)```", (TOP / document).read_text(), re.DOTALL).group(1), names)
+    return names
+
+
+def documented_clients() -> Iterator[Tuple[str, Optional[str]]]:
+    """The clients that the documents show: what they write is what they saw, with each way in which a commit may end."""
+    names, done, out = example("docs/RECORDING.md"), [], io.StringIO()
+    store = Store(names["Refused"], 2, 3)
+    names["client"](1, store, [([], ["x"]), (["x"], ["y"]), (["x"], ["x", "z"]), ([], ["x"])], done)
+    names["client"](2, store, [(["x", "y"], [])], done)
+    names["client"](3, Store(names["Refused"], 0, 1), [([], ["x"])], done)
+    names["write_records"](done, out)
+    wanted = ["c1,begin", "c1,w,x,65", "c1,commit", "c1,begin", "c1,w,y,129", "c1,abort",
+              "c1,begin", "c1,w,x,193", "c1,w,z,257", "c1,commit", "c2,begin", "c2,r,x,193", "c2,r,y,0", "c2,commit",
+              "c3,begin", "c3,w,x,67", "c3,abort"]
+    yield "client of RECORDING", None if out.getvalue().split() == wanted else "wrote %s" % out.getvalue().split()
+    short, out = example("README.md"), io.StringIO()
+    short["client"]("a", Store(OSError, 0, 0), [(["x"], [("x", 5)]), (["x"], [])], out)
+    wanted = ["a,begin", "a,r,x,0", "a,w,x,5", "a,commit", "a,begin", "a,r,x,5", "a,commit"]
+    yield "client of README", None if out.getvalue().split() == wanted else "wrote %s" % out.getvalue().split()
+
+
+def outcomes(names: List[str], tcc: List[str]) -> Iterator[Tuple[str, Optional[str]]]:
+    for path in sorted((HERE / "cases").glob("*.json")):
+        if not names or path.stem in names:
+            for name, run in runs(path):
+                if ["dot"] in [command[:1] for command in run.commands] and not shutil.which("dot"):
+                    print("%s: passed over: no dot on the path" % name)
+                else:
+                    yield name, first_difference(run, tcc)
+    if not names:
+        yield from helps()
+        yield from documented_clients()
+        yield from redis_outcomes()
+        yield from redis_demo(tcc)
+
+
+def main() -> int:
+    ask = argparse.ArgumentParser(description="Runs the scripts of recipes/ on the cases of this folder.")
+    ask.add_argument("--tcc", default=str(TOP / "crates/tcc/out/tcc"), help="the program, by default the built one")
+    ask.add_argument("names", nargs="*", help="only these cases")
+    asked = ask.parse_args()
+    passed = failed = 0
+    for name, wrong in outcomes(asked.names, shlex.split(asked.tcc)):
+        if wrong is None:
+            passed += 1
+        else:
+            failed += 1
+            print("%s: %s" % (name, wrong), flush=True)
+    if passed + failed == 0:
+        print("no case has that name")
+        failed = 1
+    print("%d passed, %d failed" % (passed, failed))
+    return 1 if failed else 0
+
+
+if __name__ == "__main__":
+    sys.exit(main())
