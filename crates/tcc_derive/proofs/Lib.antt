@@ -1,6 +1,7 @@
 pub mod BackLemmas
 pub mod BlockLemmas
 pub mod BucketLemmas
+pub mod ByCostLemmas
 pub mod ChoiceLemmas
 pub mod CostLemmas
 pub mod KeyLemmas

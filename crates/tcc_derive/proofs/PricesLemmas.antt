@@ -1,5 +1,6 @@
 -- All rows together are the prices of a history at a level, and name no transactions that it doesn't have.
-use Rattle.std.proofs.Common.{ℕ, ◌<◌, ◌≤◌, ◌≡◌, List, [], length, refl, sym, subst, arith}
+use Rattle.std.proofs.Common.{ℕ, ◌+◌, ◌<◌, ◌≤◌, ◌≡◌, List, [], length, get_or, slice_index, refl, sym, ◌∙◌, subst, arith}
+use Rattle.std.specs.Prelude.{All}
 use Rattle.std.proofs.lemmas.List.{get_or_default}
 use Rattle.tcc_txn.specs.declared.limits.TheConstants.{MAX_COUNT}
 use Rattle.tcc_reads.specs.History.{count}
@@ -9,18 +10,21 @@ use Rattle.tcc_near.specs.Distances.{IsSquare, NearTable, IsNearOf}
 use Rattle.tcc_derive.specs.Prices.{Tables, IsPricesOf, HasOthers}
 use Rattle.tcc_derive.specs.Lowering.{HasPairs}
 use Rattle.tcc_derive.specs.Others.{HasOtherRows, HasEnds, IsShaped}
+use Rattle.tcc_derive.specs.ByCost.{IsByCost}
+use Rattle.tcc_derive.specs.CostBuckets.{costs_below, HaveByCost}
 use Rattle.tcc_derive.specs.Rows.{IsPriceRow, IsCostRow, HasRows}
+use Rattle.tcc_derive.proofs.ByCostLemmas.{by_cost_of}
 use Rattle.tcc_derive.proofs.CostLemmas.{cost_row_of}
 use Rattle.tcc_derive.proofs.OthersLemmas.{others_of, below}
 
 square : (n : ℕ) (rows : List (List ℕ)) → length rows ≡ n → ((u : ℕ) → u < n → length (row_of rows u) ≡ n) → IsSquare n rows
 square n rows long wide = record { long = long; wide = λ k d l. rw (get_or_default rows k d [] l) (wide k (omega arith)) }
 
-module _ (j : Judged) (near : NearTable) (prices costs : List (List ℕ)) (ends : List ℕ) (others : List (List (ℕ × ℕ)))
+module _ (j : Judged) (near : NearTable) (prices costs : List (List ℕ)) (ends : List ℕ) (others : List (List (ℕ × ℕ))) (limit : ℕ)
     (is : IsNearOf j near) (priced : HasRows j.history (IsPriceRow j) prices) (paired : HasRows j.history (λ u row. HasPairs (row_of near.rows u) (row_of prices u) row) costs)
     (ended : HasEnds j.history ends) (other : HasOtherRows j.history prices costs others) where
   abbrev tables : Tables
-  tables = record { level = j.level; prices = prices; costs = costs; ends = ends; others = others }
+  tables = record { level = j.level; prices = prices; costs = costs; ends = ends; others = others; limit = limit }
 
   cost_row : (u : ℕ) → u < count j.history → IsCostRow j u (row_of costs u)
   cost_row u from = cost_row_of j near u (row_of prices u) (row_of costs u) is from (priced.each u from) (paired.each u from)
@@ -53,3 +57,18 @@ module _ (j : Judged) (near : NearTable) (prices costs : List (List ℕ)) (ends 
     others = other.long;
     within = λ u from. rw (other.each u from) (below j tables u from (priced.each u from) (cost_row u from) (row_of prices u) (row_of costs u) (count j.history));
   })
+
+  pub others_within : count j.history ≤ MAX_COUNT → All (λ (row : List (ℕ × ℕ)). All (λ (p : ℕ × ℕ). p.0 < MAX_COUNT) row) others
+  others_within few = λ u d low.
+      let from : u < count j.history = omega (arith, low, other.long) in
+      let inside : All (λ (p : ℕ × ℕ). p.0 < length prices) (row_of others u) = (shaped few).within u (omega (arith, from, priced.long)) in
+      rw (get_or_default others u d [] low) (λ k e l. let less : (get_or (row_of others u) k e).0 < length prices = inside k e l in omega (arith, less, priced.long, few))
+
+  pub have_by_cost : (rows : List (List (ℕ × ℕ))) → length rows ≡ length others
+      → ((u : ℕ) → u < length others → row_of rows u ≡ costs_below (u + 1) (slice_index ends u) (row_of others u) (limit + 1)) → HaveByCost tables rows
+  have_by_cost rows long each = record {
+    long = omega (arith, long, other.long, priced.long);
+    each = λ u low.
+        let from : u < count j.history = omega (arith, low, priced.long) in
+        subst (λ (row : List (ℕ × ℕ)). IsByCost tables u row) (sym (each u (omega (arith, from, other.long)))) (by_cost_of j tables prices_of u from);
+  }

@@ -3,6 +3,7 @@ use Rattle.std.proofs.Common.{ℕ, ◌≡◌, [], ◌∷◌, true, false, None, 
 use Rattle.tcc_graph.specs.declared.level.Level.TheVariants as level
 use Rattle.tcc_graph.specs.declared.step.Step.TheVariants as step
 use Rattle.tcc_derive.specs.Prices.{Tables, IsLater, price_at, cost_at, others_at}
+use Rattle.tcc_derive.specs.CostBuckets.{costs_below}
 use Rattle.tcc_derive.specs.Lowering.{price_by}
 use Rattle.tcc_derive.specs.Backwards.{stands_at, Ahead}
 use Rattle.tcc_near.specs.declared.distances.TheConstants.{NONE}
@@ -22,6 +23,7 @@ two = record {
   costs = (NONE ∷ 1 ∷ []) ∷ (4 ∷ NONE ∷ []) ∷ [];
   ends = 2 ∷ 2 ∷ [];
   others = [] ∷ ((0, 4) ∷ []) ∷ [];
+  limit = 4;
 }
 
 price_of_four : price_at two 1 0 ≡ Some 4
@@ -41,6 +43,13 @@ none_later v w = omega (arith, w.0, w.1)
 
 other_of_one : others_at two 1 ≡ (0, 4) ∷ []
 other_of_one = refl
+
+-- of links by cost 1 has that one, and with a limit below its cost it would have none
+by_cost_of_one : costs_below 2 2 (others_at two 1) 5 ≡ (0, 4) ∷ []
+by_cost_of_one = refl
+
+past_the_limit : costs_below 2 2 (others_at two 1) 4 ≡ []
+past_the_limit = refl
 
 -- no steps lead to the start alone, some lead where the row says so
 at_start : stands_at (2 ∷ 1 ∷ []) 1 1 0 ≡ true

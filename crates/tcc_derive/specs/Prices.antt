@@ -42,13 +42,15 @@ abbrev pub IsCost : Judged → ℕ → ℕ → Option ℕ → Type 0
 IsCost j a b = IsLeastCostOf (IsLinkOf j a b)
 
 -- a level, and tables by transaction: what derived links cost at it, what links of all kinds cost, where the numbers end
--- that session pairs lead to, and the numbers that other links lead to, each with the least cost of a link there
+-- that session pairs lead to, and the numbers that other links lead to, each with the least cost of a link there; and what
+-- links cost at most that are kept by cost
 pub record Tables : Type 0 where
   pub level : Level
   pub prices : List (List ℕ)
   pub costs : List (List ℕ)
   pub ends : List ℕ
   pub others : List (List (ℕ × ℕ))
+  pub limit : ℕ
 
 abbrev pub price_at : Tables → ℕ → ℕ → Option ℕ
 price_at t b a = least t.prices b a

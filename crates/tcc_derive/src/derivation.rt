@@ -5,7 +5,9 @@ ghost use Rattle.tcc_derive.specs.Prices.{IsPricesOf};
 
 use crate::Prices;
 use crate::blocks::least_rows;
+use crate::by_cost::by_cost_rows;
 use crate::costing::cost_rows;
+use crate::limits::cost_limit;
 use crate::others::{other_rows, session_ends};
 use crate::pricing::price_rows;
 use crate::read_table::read_table;
@@ -33,5 +35,16 @@ pub fn derive(
     let least = least_rows(rt, alloc, &costs)?;
     let others = other_rows(rt, alloc, graph, &prices, &costs)?;
     let ends = session_ends(alloc, graph)?;
-    Ok(Prices::new(near.level(), prices, costs, least, ends, others))
+    let limit = cost_limit(near, &prices);
+    let by_cost = by_cost_rows(rt, alloc, &others, &ends, limit)?;
+    Ok(Prices::new(
+        near.level(),
+        prices,
+        costs,
+        least,
+        ends,
+        others,
+        limit,
+        by_cost,
+    ))
 }

@@ -3,10 +3,12 @@
 
 mod blocks;
 mod bucket;
+mod by_cost;
 mod choices;
 mod costing;
 mod derivation;
 pub mod laws;
+mod limits;
 mod others;
 mod pricing;
 mod read;

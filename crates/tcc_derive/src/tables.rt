@@ -5,6 +5,8 @@ ghost use Rattle.tcc_derive.specs.Prices.{price_at, cost_at, end_of, others_at};
 ghost use Rattle.tcc_derive.specs.Others.{IsShaped};
 ghost use Rattle.tcc_derive.specs.Blocks.{HasLeastCosts};
 ghost use Rattle.tcc_derive.specs.BlockTables.{HaveLeastCosts};
+ghost use Rattle.tcc_derive.specs.ByCost.{IsByCost};
+ghost use Rattle.tcc_derive.specs.CostBuckets.{HaveByCost};
 ghost use Rattle.tcc_txn.specs.declared.limits.TheConstants.{MAX_COUNT};
 ghost use Rattle.tcc_graph.specs.Tables.{row_of};
 
@@ -22,6 +24,9 @@ pub struct Prices {
     least: Vec<Row<u16>>,
     ends: Vec<u32>,
     others: Vec<Row<(u32, u32)>>,
+    limit: u16,
+    /// The links other than session links that cost at most the limit, a row for each row of others.
+    by_cost: Vec<Row<(u16, u16)>>,
 }
 
 impl Model for Prices {
@@ -29,14 +34,37 @@ impl Model for Prices {
     ghost use Rattle.tcc_derive.specs.Prices.{Tables};
     ghost use Rattle.tcc_derive.specs.Others.{IsShaped};
     ghost use Rattle.tcc_derive.specs.BlockTables.{HaveLeastCosts};
+    ghost use Rattle.tcc_derive.specs.CostBuckets.{HaveByCost};
 
     ghost Value = { Tables };
 
-    ghost view = { λ p. record { level = p.level; prices = p.prices.items; costs = p.costs.items; ends = p.ends.items; others = p.others.items } };
+    ghost view = { λ p. record {
+      level = p.level;
+      prices = p.prices.items;
+      costs = p.costs.items;
+      ends = p.ends.items;
+      others = p.others.items;
+      limit = p.limit;
+    } };
 
     ghost invariant = { λ p. IsShaped (length p.prices.items)
-        (record { level = p.level; prices = p.prices.items; costs = p.costs.items; ends = p.ends.items; others = p.others.items })
-        × HaveLeastCosts p.costs.items p.least.items };
+        (record {
+          level = p.level;
+          prices = p.prices.items;
+          costs = p.costs.items;
+          ends = p.ends.items;
+          others = p.others.items;
+          limit = p.limit;
+        })
+        × HaveLeastCosts p.costs.items p.least.items
+        × HaveByCost (record {
+          level = p.level;
+          prices = p.prices.items;
+          costs = p.costs.items;
+          ends = p.ends.items;
+          others = p.others.items;
+          limit = p.limit;
+        }) p.by_cost.items };
 }
 
 impl Prices {
@@ -48,11 +76,16 @@ impl Prices {
         least: Vec<Row<u16>>,
         ends: Vec<u32>,
         others: Vec<Row<(u32, u32)>>,
+        limit: u16,
+        by_cost: Vec<Row<(u16, u16)>>,
     ) -> Prices
         requires shape { IsShaped (length prices.items)
-            (record { level = level; prices = prices.items; costs = costs.items; ends = ends.items; others = others.items }) }
+            (record { level = level; prices = prices.items; costs = costs.items; ends = ends.items; others = others.items; limit = limit }) }
         requires least { HaveLeastCosts costs.items least.items }
-        ensures { result ≡ record { level = level; prices = prices.items; costs = costs.items; ends = ends.items; others = others.items } }
+        requires by_cost { HaveByCost
+            (record { level = level; prices = prices.items; costs = costs.items; ends = ends.items; others = others.items; limit = limit })
+            by_cost.items }
+        ensures { result ≡ record { level = level; prices = prices.items; costs = costs.items; ends = ends.items; others = others.items; limit = limit } }
     {
         Prices {
             level,
@@ -61,6 +94,8 @@ impl Prices {
             least,
             ends,
             others,
+            limit,
+            by_cost,
         }
     }
 
@@ -118,6 +153,23 @@ impl Prices {
         ensures within { All (λ p. p.0 < length self.now.prices) result.now }
     {
         self.others[u as usize].values()
+    }
+
+    /// What links cost at most that `by_cost` has.
+    pub fn limit(&self) -> u16
+        ensures { result ≡ self.now.limit }
+    {
+        self.limit
+    }
+
+    /// Of the links other than session links from `u`, those that cost at most `limit()`, in ascending cost: each
+    /// transaction that they lead to, with what the link costs.
+    pub fn by_cost(&self, u: u32) -> &[(u16, u16)]
+        requires { u < length self.now.prices }
+        ensures links { IsByCost self.now u result.now }
+        ensures within { All (λ p. p.0 < length self.now.prices) result.now }
+    {
+        self.by_cost[u as usize].values()
     }
 
     /// What derived links from `b` to each transaction cost, `NONE` where there is none.

@@ -2,14 +2,14 @@ use Rattle.std.proofs.Common.{◌≤◌, arith}
 use Rattle.tcc_reads.specs.History.{count}
 use Rattle.tcc_graph.specs.Levels.{Judged}
 use Rattle.tcc_txn.specs.declared.limits.TheConstants.{MAX_COUNT}
-use Rattle.tcc_derive.proofs.PricesLemmas.{prices_of, shaped}
+use Rattle.tcc_derive.proofs.PricesLemmas.{prices_of, shaped, others_within, have_by_cost}
 use Rattle.tcc_derive.proofs.derivation.derive.Goals as goal
 
 pub returns : goal.returns
 returns g c =
     let j : Judged = record { history = c.args.graph.now; level = c.args.near.now.level } in
     rw (c.new.ensures, c.level.ensures)
-    (prices_of j c.args.near.now c.in_ok-prices.prices.items c.in_ok-costs.costs.items c.in_ok-ends.ends.items c.in_ok-others.others.items c.requires c.in_ok-prices.ensures.rows
+    (prices_of j c.args.near.now c.in_ok-prices.prices.items c.in_ok-costs.costs.items c.in_ok-ends.ends.items c.in_ok-others.others.items c.cost_limit-limit.result c.requires c.in_ok-prices.ensures.rows
     (rw c.deref-3.ensures.value at c.in_ok-costs.ensures) c.in_ok-ends.ensures (rw (c.deref-5.ensures.value, c.deref-6.ensures.value) at c.in_ok-others.ensures))
 
 pub new-requires-clause-shape : goal.new-requires-clause-shape
@@ -18,5 +18,22 @@ new-requires-clause-shape g c =
     let rows = c.in_ok-prices.ensures.rows in
     let few : count c.args.graph.now ≤ MAX_COUNT = omega (arith, c.in_ok-prices.ensures.few, rows.long) in
     rw c.level.ensures
-    (shaped j c.args.near.now c.in_ok-prices.prices.items c.in_ok-costs.costs.items c.in_ok-ends.ends.items c.in_ok-others.others.items c.requires rows
+    (shaped j c.args.near.now c.in_ok-prices.prices.items c.in_ok-costs.costs.items c.in_ok-ends.ends.items c.in_ok-others.others.items c.cost_limit-limit.result c.requires rows
     (rw c.deref-3.ensures.value at c.in_ok-costs.ensures) c.in_ok-ends.ensures (rw (c.deref-5.ensures.value, c.deref-6.ensures.value) at c.in_ok-others.ensures) few)
+
+pub by_cost_rows-requires-clause-within : goal.by_cost_rows-requires-clause-within
+by_cost_rows-requires-clause-within g c κs inside =
+    let j : Judged = record { history = c.args.graph.now; level = c.args.near.now.level } in
+    let rows = c.in_ok-prices.ensures.rows in
+    let few : count c.args.graph.now ≤ MAX_COUNT = omega (arith, c.in_ok-prices.ensures.few, rows.long) in
+    rw c.deref-8.ensures.value
+    (others_within j c.args.near.now c.in_ok-prices.prices.items c.in_ok-costs.costs.items c.in_ok-ends.ends.items c.in_ok-others.others.items c.cost_limit-limit.result c.requires rows
+    (rw c.deref-3.ensures.value at c.in_ok-costs.ensures) c.in_ok-ends.ensures (rw (c.deref-5.ensures.value, c.deref-6.ensures.value) at c.in_ok-others.ensures) few)
+
+pub new-requires-clause-by_cost : goal.new-requires-clause-by_cost
+new-requires-clause-by_cost g c =
+    let j : Judged = record { history = c.args.graph.now; level = c.args.near.now.level } in
+    rw c.level.ensures
+    (have_by_cost j c.args.near.now c.in_ok-prices.prices.items c.in_ok-costs.costs.items c.in_ok-ends.ends.items c.in_ok-others.others.items c.cost_limit-limit.result c.requires c.in_ok-prices.ensures.rows
+    (rw c.deref-3.ensures.value at c.in_ok-costs.ensures) c.in_ok-ends.ensures (rw (c.deref-5.ensures.value, c.deref-6.ensures.value) at c.in_ok-others.ensures)
+    c.in_ok-by_cost.by_cost.items (rw c.deref-8.ensures.value at c.in_ok-by_cost.ensures.long) (rw (c.deref-8.ensures.value, c.deref-9.ensures.value) at c.in_ok-by_cost.ensures.each))
