@@ -3,11 +3,10 @@
 
     run.py [--kinds KIND ..] [--sizes N ..] [--runs N] [--tcc PATH] [--keep FOLDER]
 
-A line for each history has medians of milliseconds: what csv alone needs for the records (`csv_count`); reading them, and
-reading them into a snapshot; then, each without the stages before it (`tcc_bench_stages`), resolving the snapshot, building
-its graph, and looking for the order; working out distances and prices, of which `tcc explain` has need only where there is
-no order; at last the rest of `tcc explain`, which is the search, the tables and the text, and the whole of it, with its peak
-memory. Where a kind has several sizes, a line below each but the first says by how much each cell is greater than that of
+A line for each history has medians of milliseconds by `tcc_bench_stages`: what csv alone needs for the records; reading
+them, and reading them into a snapshot; then, each without the stages before it, resolving the snapshot, building its graph,
+and looking for the order; working out distances and prices, of which `tcc explain` has need only where there is no order; at
+last the rest of `tcc explain`, which is the search, the tables and the text, and the whole of it, with its peak memory. Where a kind has several sizes, a line below each but the first says by how much each cell is greater than that of
 the size before. All programs take turns. Builds what isn't built.
 Peak memory is never below that of this script, about 15 MB.
 """
@@ -24,7 +23,7 @@ from histories import KINDS
 
 HERE = pathlib.Path(__file__).resolve().parent
 TOP = HERE.parent
-STAGES = ("rows", "snapshot", "resolve", "graph", "order", "near", "derive")
+STAGES = ("csv", "rows", "snapshot", "resolve", "graph", "order", "near", "derive")
 HEAD = ("history", "records", "csv", "rows", "snapshot", "resolve", "graph", "order", "near", "derive", "rest", "tcc ms",
         "peak MB", "status", "answer")
 GROWING = range(1, 13)
@@ -55,8 +54,7 @@ def measured(words, history, answer):
 def row(programs, history, runs, answer):
     """The cells of one history's line, medians over the runs, each program in turn: its name, then numbers up to the peak
     memory, then words."""
-    stages = [[programs["csv_count"]]]
-    stages += [[programs["tcc_bench_stages"], stage] for stage in STAGES]
+    stages = [[programs["tcc_bench_stages"], stage] for stage in STAGES]
     times, explained = [[] for _ in stages], []
     for _ in range(runs):
         for stage, seconds in zip(stages, times):
@@ -105,8 +103,7 @@ def main():
     ask.add_argument("--tcc", help="another program than the built one")
     ask.add_argument("--keep", type=pathlib.Path, help="a folder for the histories, which stay there")
     asked = ask.parse_args()
-    programs = {crate: built(crate) for crate in ("csv_count", "tcc_bench_stages")}
-    programs["tcc"] = os.path.abspath(asked.tcc) if asked.tcc else built("tcc")
+    programs = {"tcc_bench_stages": built("tcc_bench_stages"), "tcc": os.path.abspath(asked.tcc) if asked.tcc else built("tcc")}
     with tempfile.TemporaryDirectory() as temporary:
         folder = asked.keep or pathlib.Path(temporary)
         folder.mkdir(parents=True, exist_ok=True)

@@ -1,9 +1,10 @@
 -- The words by which stages are asked for.
 use Rattle.std.specs.Prelude.{ℕ, List, codes}
 use Rattle.tcc_bench_stages.specs.declared.Stage.{Stage}
-use Rattle.tcc_bench_stages.specs.declared.Stage.TheVariants.{Rows, Snapshot, Resolve, Graph, Order, Near, Derive}
+use Rattle.tcc_bench_stages.specs.declared.Stage.TheVariants.{Csv, Rows, Snapshot, Resolve, Graph, Order, Near, Derive}
 
 abbrev pub word_of : Stage → List ℕ
+word_of Csv = codes "csv"
 word_of Rows = codes "rows"
 word_of Snapshot = codes "snapshot"
 word_of Resolve = codes "resolve"

@@ -1,5 +1,5 @@
-//! Runs the first stages of an explanation alone, so that a script can time each of them: `rows` reads the records
-//! of standard input and keeps nothing, `snapshot` makes a snapshot of what they finish, `resolve` resolves it too,
+//! Runs the first stages of an explanation alone, so that a script can time each of them: `csv` counts the
+//! records of standard input by csv alone, `rows` reads them and keeps nothing, `snapshot` makes a snapshot of what they finish, `resolve` resolves it too,
 //! `graph` builds its graph too. From there two ways lead on: `order` looks for the first commit order, and `near` works
 //! out the distances, `derive` the prices too.
 #![tactic(auto)]
@@ -7,6 +7,9 @@
 ghost use Rattle.std.specs.Prelude.{◌≡◌, ◌≢◌, IfNone, IfSome};
 ghost use Rattle.tcc_bench_stages.specs.Stages.{word_of};
 
+mod counting;
+
+use crate::counting::count_records;
 use std::alloc::Global;
 use std::env;
 use std::io::Read;
@@ -22,6 +25,7 @@ use tcc_txn::{Item, Rows, snapshot_of};
 /// How far a run goes.
 #[derive(Clone, Copy, PartialEq, Eq)]
 enum Stage {
+    Csv,
     Rows,
     Snapshot,
     Resolve,
@@ -61,13 +65,16 @@ fn search(rt: &(impl Threads + Sync), alloc: Global, graph: &Graph, stage: Stage
     Some(prices.count())
 }
 
-/// Goes as far as asked, and says how many transactions there are at the end.
+/// Goes as far as asked, and says how many records or transactions there are at the end.
 fn run<R: Read + Drop>(
     rt: &(impl Threads + Sync),
     alloc: Global,
     reader: R,
     stage: Stage,
 ) -> Option<u32> {
+    if stage == Stage::Csv {
+        return u32::try_from(count_records(alloc, reader).ok()?).ok();
+    }
     if stage == Stage::Rows {
         return count_finished(alloc, reader);
     }
@@ -89,6 +96,7 @@ fn stage_of(word: &str) -> Option<Stage>
     ensures unknown { IfNone result ((stage : Stage) → word_of stage ≢ word.now) }
 {
     match word {
+        "csv" => Some(Stage::Csv),
         "rows" => Some(Stage::Rows),
         "snapshot" => Some(Stage::Snapshot),
         "resolve" => Some(Stage::Resolve),

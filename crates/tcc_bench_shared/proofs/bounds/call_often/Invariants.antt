@@ -1,6 +1,6 @@
 use Rattle.std.proofs.Common.{◌≡◌, ◌<◌, Contains}
-use Rattle.tcc_bench_bound.specs.declared.Call.TheVariants.{Offer}
-use Rattle.tcc_bench_bound.proofs.call_often.Given as goal
+use Rattle.tcc_bench_shared.specs.declared.bounds.Call.TheVariants.{Offer}
+use Rattle.tcc_bench_shared.proofs.bounds.call_often.Given as goal
 
 -- counting down, the cost is that of the last call
 abbrev pub invariant-loop-cost : goal.invariant-loop-cost

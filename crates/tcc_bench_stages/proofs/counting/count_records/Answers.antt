@@ -4,7 +4,7 @@ use Rattle.csv.specs.Reading.{Reached, default_config, strip_bom}
 use Rattle.csv.specs.Records.{fields_of}
 use Rattle.csv.specs.declared.parser.State.TheVariants as st
 use Rattle.csv.proofs.ReadFacts.{rows-end, rows-more}
-use Rattle.csv_count.proofs.count_records.Goals as goal
+use Rattle.tcc_bench_stages.proofs.counting.count_records.Goals as goal
 
 pub loop-count-init : goal.loop-count-init
 unfolding Reached

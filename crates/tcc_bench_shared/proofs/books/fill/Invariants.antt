@@ -1,5 +1,5 @@
 use Rattle.std.proofs.Common.{◌≡◌, ◌+◌, length}
-use Rattle.tcc_bench_book.proofs.fill.Given as goal
+use Rattle.tcc_bench_shared.proofs.books.fill.Given as goal
 
 -- as many records as rounds
 abbrev pub invariant-loop-held : goal.invariant-loop-held

@@ -1,6 +1,4 @@
-//! Counts the records of standard input: what reading them by csv alone costs.
-#![tactic(auto)]
-
+//! Counts records by csv alone.
 ghost use Rattle.std.specs.Prelude.{◌≡◌, ◌<◌, ℕ, List, Some, IfOk, length};
 ghost use Rattle.csv.specs.Reading.{AreRecords, default_config, strip_bom};
 ghost use Rattle.csv.specs.declared.parser.State.TheVariants as st;
@@ -8,10 +6,9 @@ ghost use Rattle.csv.specs.declared.parser.State.TheVariants as st;
 use csv::{ByteRecord, Error, ReaderBuilder};
 use std::alloc::Global;
 use std::io::Read;
-use std::process::ExitCode;
 
 /// The number of records that `source` gives; `u64::MAX` also stands for more.
-fn count_records<R: Read + Drop>(alloc: Global, source: R) -> Result<u64, Error>
+pub fn count_records<R: Read + Drop>(alloc: Global, source: R) -> Result<u64, Error>
     ensures counts { IfOk result (λ n. (text : List ℕ) → R.remaining source ≡ Some text → n < 18446744073709551615
         → (rows : List (List (List ℕ))) × AreRecords default_config st.StartRecord (strip_bom text) rows × (length rows ≡ n)) }
 {
@@ -26,11 +23,4 @@ fn count_records<R: Read + Drop>(alloc: Global, source: R) -> Result<u64, Error>
         }
     }
     Ok(u64::MAX)
-}
-
-fn main(rt: HostRuntime) -> ExitCode {
-    match count_records(rt.alloc(), rt.reader()) {
-        Ok(count) if println!(rt; "{count}").is_ok() => ExitCode::SUCCESS,
-        _ => ExitCode::FAILURE,
-    }
 }

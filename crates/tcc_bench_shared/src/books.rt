@@ -1,13 +1,8 @@
 //! How long a copy of a book takes, which a seal makes under the lock, beside recording what it copies.
-//!
-//! `tcc_bench_book` fills books with more and more transactions. Standard output has how many were copied, and standard
-//! error the times.
-#![tactic(auto)]
-
 ghost use Rattle.std.specs.Prelude.{◌≡◌, ◌+◌, IfSome, length};
 
 use std::alloc::{Alloc, Global};
-use std::process::ExitCode;
+use std::io::{Eprint, Print};
 use std::time::{Clock, Instant};
 use tcc_book::BookState;
 use tcc_txn::{Name, Op, Txn};
@@ -78,21 +73,18 @@ fn least<R: Clock + Alloc<A = Global>>(rt: &R, count: u32) -> Option<Spent> {
     Some(least)
 }
 
-fn main(rt: HostRuntime) -> ExitCode {
+/// Fills books with more and more transactions, and copies them: standard output has how many were copied, and standard
+/// error the times. None where memory, the clock or an output failed.
+pub fn measure_copies<R: Clock + Print + Eprint + Alloc<A = Global>>(rt: &R) -> Option<()> {
     for count in [500, 1_000, 2_000, 4_000] {
-        let Some(spent) = least(&rt, count) else {
-            return ExitCode::from(1);
-        };
+        let spent = least(rt, count)?;
         let one = 1e9 / f64::from(count);
         let (record, copy) = (spent.record * one, spent.copy * one);
         let whole = spent.copy * 1e6;
-        let _ = eprintln!(rt;
+        eprintln!(rt;
             "{count}: {whole:.0} us for a copy, {copy:.0} ns of it for each transaction; {record:.0} ns for a record"
-        );
-        let printed = println!(rt; "transactions: {count}, copied: {}", spent.copied);
-        if printed.is_err() {
-            return ExitCode::from(6);
-        }
+        ).ok()?;
+        println!(rt; "transactions: {count}, copied: {}", spent.copied).ok()?;
     }
-    ExitCode::SUCCESS
+    Some(())
 }

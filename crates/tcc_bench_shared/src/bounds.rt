@@ -1,9 +1,4 @@
 //! How long a look and an offer at a shared bound take, from one thread and from four.
-//!
-//! `tcc_bench_bound TIMES` makes so many calls in each thread, a million if it isn't told. Standard output has what the calls come to, and
-//! standard error the time.
-#![tactic(auto)]
-
 ghost use Rattle.std.specs.Prelude.{◌≡◌, ◌<◌, Contains, IfOk};
 ghost use denote.Param.Send.{IsSync};
 
@@ -11,7 +6,7 @@ use std::alloc::{Alloc, Global};
 use std::io::{Eprint, Print};
 use std::thread::{Threads, join};
 use std::time::{Clock, Instant};
-use std::{env, fmt, io};
+use std::{fmt, io};
 use tcc_bound::{Bound, NoMemory, Seat};
 
 #[derive(Clone, Copy)]
@@ -118,14 +113,14 @@ fn measure<R: Threads + Clock + Print + Eprint + Alloc<A = Global> + Sync>(
     eprintln!(rt; "threads: {threads}, {nanoseconds:.1} ns for each {call} of a thread")
 }
 
-fn main(rt: HostRuntime) -> io::Result<()> {
-    let times = env::args(&rt)?
-        .nth(1)
-        .and_then(|word| word.as_str().parse().ok())
-        .unwrap_or(1_000_000);
+/// Makes so many calls of each kind in each thread: standard output has what they come to, and standard error the time.
+pub fn measure_calls<R: Threads + Clock + Print + Eprint + Alloc<A = Global> + Sync>(
+    rt: &R,
+    times: u32,
+) -> io::Result<()> {
     for threads in [1, 4] {
-        measure(&rt, threads, Call::Look, times)?;
-        measure(&rt, threads, Call::Offer, times)?;
+        measure(rt, threads, Call::Look, times)?;
+        measure(rt, threads, Call::Offer, times)?;
     }
     Ok(())
 }

@@ -1,5 +1,5 @@
 use Rattle.std.proofs.Common.{◌+◌, ◌*◌}
-use Rattle.tcc_bench_bound.proofs.+halving.Given as goal
+use Rattle.tcc_bench_shared.proofs.bounds.+halving.Given as goal
 
 abbrev pub decreases-join+arg2 : goal.decreases-join+arg2
 decreases-join+arg2 g l = 2 * l.half + 1

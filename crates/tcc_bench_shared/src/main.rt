@@ -1,0 +1,45 @@
+//! How long the calls take of what threads share: the bound of searches, and the book of recorders.
+//!
+//! `tcc_bench_shared TIMES` makes so many calls at the bound in each thread, a million if it isn't told. Standard output has
+//! what was counted, and standard error the times.
+#![tactic(auto)]
+
+mod books;
+mod bounds;
+
+use crate::books::measure_copies;
+use crate::bounds::measure_calls;
+use std::alloc::{Alloc, Global};
+use std::env;
+use std::io::{Eprint, Print};
+use std::process::ExitCode;
+use std::thread::Threads;
+use std::time::Clock;
+
+/// How many calls at the bound the first argument asks for.
+fn asked_times(rt: &HostRuntime) -> Option<u32> {
+    let word = env::args(rt).ok()?.nth(1);
+    Some(
+        word.and_then(|word| word.as_str().parse().ok())
+            .unwrap_or(1_000_000),
+    )
+}
+
+/// Measures the calls at the bound, and the copies of books behind them.
+fn run<R: Threads + Clock + Print + Eprint + Alloc<A = Global> + Sync>(
+    rt: &R,
+    times: u32,
+) -> Option<()> {
+    measure_calls(rt, times).ok()?;
+    measure_copies(rt)
+}
+
+fn main(rt: HostRuntime) -> ExitCode {
+    let Some(times) = asked_times(&rt) else {
+        return ExitCode::from(64);
+    };
+    match run(&rt, times) {
+        Some(()) => ExitCode::SUCCESS,
+        None => ExitCode::from(6),
+    }
+}
