@@ -1,3 +1,3 @@
 pub mod Sent
-pub mod NoFloats
 mod WorkedTexts
+pub mod JsonPieces

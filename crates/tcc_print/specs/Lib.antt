@@ -5,3 +5,4 @@ pub mod Json
 pub mod Printed
 -- what serves the proofs alone
 pub mod Halts
+pub mod Pieces

@@ -1,10 +1,10 @@
 //! Faults as JSON, each line made as a whole before a byte of it goes out.
-ghost use Rattle.std.specs.Prelude.{◌≡◌, IfOk, false, map};
-ghost use Rattle.serde_json.specs.Data.{array};
+ghost use Rattle.std.specs.Prelude.{◌≡◌, ◌++◌, IfOk, OnOk, false, flat_map, map};
 ghost use Rattle.serde_json.specs.View.{view, items_of};
-ghost use Rattle.serde_json.specs.Written.{has_float};
+ghost use Rattle.serde_json.specs.Written.{compact_text, has_float, items_text};
 ghost use Rattle.tcc_answer.specs.Json.{json_line};
 ghost use Rattle.tcc_print.specs.Json.{halt_line, read_fault_json, row_fault_json, unresolved_json};
+ghost use Rattle.tcc_print.specs.Pieces.{later_fault};
 
 use crate::halt::Halt;
 use crate::texts::{certificate_fault, read_word, row_word};
@@ -33,24 +33,40 @@ fn read_fault_json(alloc: Global, fault: &ReadFault) -> Result<Value, AllocError
     })
 }
 
-fn read_faults_json(alloc: Global, faults: &[ReadFault]) -> Result<Value, AllocError>
-    ensures { IfOk result (λ v. view v ≡ array (items_of (map read_fault_json faults.now))) }
+/// Adds the object of a read fault.
+fn push_read_fault(alloc: Global, line: &mut Vec<u8>, fault: &ReadFault) -> Result<(), NoMemory>
+    ensures { OnOk result (line.new.items ≡ line.old.items ++ compact_text (read_fault_json fault.now)) }
 {
-    let mut list = Vec::new(alloc);
-    for fault in faults {
-        list.push(read_fault_json(alloc, fault)?)?;
-    }
-    Ok(Value::Array(list))
+    let object = read_fault_json(alloc, fault)?;
+    let text = object.to_string(alloc)?;
+    push(line, &[text.as_bytes()])
 }
 
-fn unresolved_json(alloc: Global, faults: &[ReadFault]) -> Result<Value, AllocError>
-    ensures { IfOk result (λ v. view v ≡ unresolved_json faults.now) }
+/// Adds the objects of read faults, each behind a comma.
+fn push_later_faults(
+    alloc: Global,
+    line: &mut Vec<u8>,
+    faults: &[ReadFault],
+) -> Result<(), NoMemory>
+    ensures { OnOk result (line.new.items ≡ line.old.items ++ flat_map later_fault faults.now) }
 {
-    let faults = read_faults_json(alloc, faults)?;
-    json!(in alloc; {
-        "answer": "unresolved",
-        "faults": faults
-    })
+    for fault in faults {
+        push(line, &[b","])?;
+        push_read_fault(alloc, line, fault)?;
+    }
+    Ok(())
+}
+
+/// Adds the objects of read faults and the bracket behind them, one fault at a time, since they may be very many.
+fn push_read_faults(alloc: Global, line: &mut Vec<u8>, faults: &[ReadFault]) -> Result<(), NoMemory>
+    ensures { OnOk result (line.new.items ≡ line.old.items ++ items_text false (items_of (map read_fault_json faults.now))) }
+{
+    let Some((first, others)) = faults.split_first() else {
+        return push(line, &[b"]"]);
+    };
+    push_read_fault(alloc, line, first)?;
+    push_later_faults(alloc, line, others)?;
+    push(line, &[b"]"])
 }
 
 fn row_fault_json(alloc: Global, fault: &RowFault) -> Result<Value, AllocError>
@@ -96,7 +112,11 @@ pub fn row_fault(alloc: Global, fault: &RowFault) -> Result<Vec<u8>, NoMemory>
 pub fn unresolved(alloc: Global, faults: &[ReadFault]) -> Result<Vec<u8>, NoMemory>
     ensures { IfOk result (λ line. line.items ≡ json_line (unresolved_json faults.now)) }
 {
-    line(alloc, &unresolved_json(alloc, faults)?)
+    let mut line = Vec::new(alloc);
+    push(&mut line, &[b"{\"answer\":\"unresolved\",\"faults\":["])?;
+    push_read_faults(alloc, &mut line, faults)?;
+    push(&mut line, &[b"}\n"])?;
+    Ok(line)
 }
 
 /// What stands in the place of an answer; what is no part of the answers as JSON is as in the text.

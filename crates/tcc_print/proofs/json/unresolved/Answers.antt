@@ -1,7 +1,7 @@
-use Rattle.std.proofs.Common.{ap, ◌∙◌}
-use Rattle.serde_json.specs.Written.{has_float}
-use Rattle.tcc_print.proofs.NoFloats.{in_unresolved}
+-- the line is its pieces
+use Rattle.std.proofs.Common.{rules, ◌∙◌, sym, append_assoc}
+use Rattle.tcc_print.proofs.JsonPieces.{whole_line}
 use Rattle.tcc_print.proofs.json.unresolved.Goals as goal
 
-pub line-requires : goal.line-requires
-line-requires c = ap has_float c.in_ok-unresolved_json.ensures ∙ in_unresolved c.args.faults.now
+pub returns : goal.returns
+returns c = search (rules, append_assoc) ∙ sym (whole_line c.args.faults.now)
