@@ -225,39 +225,3 @@ fresh_whole seen marks fresh n all before b = (
   λ h. let is = (before b).0 h in (is.1, is.2),
   λ h. let below = marked_within marks b h.0 in (before b).1 (omega arith, h.0, h.1),
 )
-
--- ---- a row filled number by number
-pub one_marked : (old new : List ℕ) (n : ℕ) (Is : ℕ → Bool) → ((b : ℕ) → b < n → is_marked old b ≡ Is b) → ((b : ℕ) → is_marked old b ≡ true → b < n)
-    → ((b : ℕ) → is_marked new b ≡ (is_marked old b || (b == n))) → Is n ≡ true
-    → ((b : ℕ) → b < n + 1 → is_marked new b ≡ Is b) × ((b : ℕ) → is_marked new b ≡ true → b < n + 1)
-one_marked old new n Is before inside now is = (λ b below. each b below (cases_eq b n), λ b mark. within b mark (cases_eq b n))
-  where
-    or_true : (m : Bool) → (m || true) ≡ true
-    or_true true = refl
-    or_true false = refl
-
-    or_false : (m : Bool) → (m || false) ≡ m
-    or_false true = refl
-    or_false false = refl
-
-    each : (b : ℕ) → b < n + 1 → (b ≡ n) ⊎ (b ≢ n) → is_marked new b ≡ Is b
-    each b below (inl same) = now b ∙ (ap (λ e. is_marked old b || e) (eq-eqb b n same) ∙ (or_true (is_marked old b) ∙ sym (rw same is)))
-    each b below (inr other) = now b ∙ (ap (λ e. is_marked old b || e) (ne_eqb b n other) ∙ (or_false (is_marked old b) ∙ before b (omega arith)))
-
-    within : (b : ℕ) → is_marked new b ≡ true → (b ≡ n) ⊎ (b ≢ n) → b < n + 1
-    within b mark (inl same) = omega arith
-    within b mark (inr other) =
-        let was : is_marked old b ≡ true = sym (or_false (is_marked old b)) ∙ (sym (ap (λ e. is_marked old b || e) (ne_eqb b n other)) ∙ (sym (now b) ∙ mark)) in
-        omega (arith, inside b was)
-
-pub one_unmarked : (old : List ℕ) (n : ℕ) (Is : ℕ → Bool) → ((b : ℕ) → b < n → is_marked old b ≡ Is b) → ((b : ℕ) → is_marked old b ≡ true → b < n) → Is n ≡ false
-    → ((b : ℕ) → b < n + 1 → is_marked old b ≡ Is b) × ((b : ℕ) → is_marked old b ≡ true → b < n + 1)
-one_unmarked old n Is before inside not = (λ b below. each b below (cases_eq b n), λ b mark. omega (arith, inside b mark))
-  where
-    none : (m : Bool) → is_marked old n ≡ m → is_marked old n ≡ false
-    none true mark = absurd (omega (arith, inside n mark))
-    none false mark = mark
-
-    each : (b : ℕ) → b < n + 1 → (b ≡ n) ⊎ (b ≢ n) → is_marked old b ≡ Is b
-    each b below (inl same) = rw same (none (is_marked old n) refl ∙ sym not)
-    each b below (inr other) = before b (omega arith)

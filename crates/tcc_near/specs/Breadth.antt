@@ -14,6 +14,10 @@ use Rattle.tcc_near.specs.declared.distances.TheConstants.{NONE}
 abbrev pub marks_of : List (List ℕ) → ℕ → List ℕ
 marks_of table a = slice_index_or table a []
 
+-- the marks of a transaction are those to which a causal pair leads from it
+abbrev pub IsPairRow : History → ℕ → List ℕ → Type 0
+IsPairRow h a row = IsRowOf (count h) row × ((b : ℕ) → is_marked row b ≡ causal_pair h a b)
+
 -- the marks of each transaction are those to which a causal pair leads from it
 pub record IsPairTable (h : History) (table : List (List ℕ)) : Type 0 where
   pub long : length table ≡ count h

@@ -1,33 +1,41 @@
-use Rattle.std.proofs.Common.{◌≡◌, ◌<◌, ℕ, ◌+◌, List, [], ◌∷◌, ◌++◌, length, ◌∙◌, arith, inl, inr, ◌⊎◌, length-append, rules, ap}
-use Rattle.std.proofs.lemmas.Bool.{cases_eq}
-use Rattle.std.proofs.lemmas.List.{get_or_append_left, get_or_push}
-use Rattle.std.proofs.lemmas.List.Elements.{All-push}
-use Rattle.tcc_reads.specs.History.{History, count}
-use Rattle.tcc_graph.specs.Relations.{causal_pair}
-use Rattle.tcc_near.specs.Bits.{is_marked, IsRowOf}
-use Rattle.tcc_near.specs.Breadth.{marks_of}
+use Rattle.std.proofs.Common.{rules, ◌≡◌, ◌<◌, ◌≤◌, ◌+◌, ◌↔◌, ℕ, true, [], ◌∷◌, ◌++◌, length, replicate, sym, ◌∙◌, arith, take_at, length-append}
+use Rattle.std.proofs.lemmas.Bool.{false≢true}
+use Rattle.std.proofs.lemmas.List.{length-replicate}
+use Rattle.tcc_reads.specs.History.{count}
+use Rattle.tcc_near.specs.Bits.{is_marked, words_for}
+use Rattle.tcc_near.specs.Breadth.{IsPairRow}
+use Rattle.tcc_near.proofs.BitLemmas.{none_marked}
+use Rattle.tcc_near.proofs.RowLemmas.{each_pushed}
+use Rattle.tcc_near.proofs.MarkLemmas.{table_of_pairs}
 use Rattle.tcc_near.proofs.pairs.pair_table.Goals as goal
 
--- one more row at the end
-more : (h : History) (table : List (List ℕ)) (n : ℕ) (marks : List ℕ) → length table ≡ n → ((a b : ℕ) → a < n → b < count h → is_marked (marks_of table a) b ≡ causal_pair h a b) → ((b : ℕ) → b < count h → is_marked marks b ≡ causal_pair h n b)
-    → (a b : ℕ) → a < n + 1 → b < count h → is_marked (marks_of (table ++ marks ∷ []) a) b ≡ causal_pair h a b
-more h table n marks long before here a b from to = go (cases_eq a n)
-  where
-    go : (a ≡ n) ⊎ (a ≡ n → ⊥) → is_marked (marks_of (table ++ marks ∷ []) a) b ≡ causal_pair h a b
-    go (inl same) = rw same (ap (λ row. is_marked row b) (get_or_push table marks [] n long) ∙ here b to)
-    go (inr other) =
-        let inside : a < length table = omega arith in
-        ap (λ row. is_marked row b) (get_or_append_left table (marks ∷ []) [] a inside) ∙ before a b (omega arith) to
+pub loop-from-init : goal.loop-from-init
+loop-from-init c =
+    let n = words_for (count c.args.graph.now) in
+    let run : c.in_ok-run.run'.items ≡ replicate n 0 = search rules in
+    rw run (length-replicate n 0, λ b. (λ m. absurd (false≢true (sym (none_marked n b) ∙ m)), λ w. absurd (omega (arith, w.1))), search rules, λ i d l. absurd (omega arith))
 
 pub loop-from-preserved : goal.loop-from-preserved
 loop-from-preserved c =
-    let table = c.loop-from.table.items in
-    let marks = c.in_ok-pairs_from.field-0 in
-    let inv = c.loop-from.invariant in
     let h = c.args.graph.now in
-    let pushed : c.push.new.self.items ≡ table ++ marks ∷ [] = search rules in
-    rw pushed (
-      omega (arith, length-append table (marks ∷ []), inv.0),
-      All-push (IsRowOf (count h)) table marks inv.1 c.in_ok-pairs_from.ensures.row,
-      more h table c.loop-from.from marks inv.0 inv.2 c.in_ok-pairs_from.ensures.exact,
+    let inv = c.loop-from.invariant in
+    let n = c.loop-from.from in
+    let new = c.next_later.new.run in
+    let row = c.in_ok-pairs_from.field-0 in
+    let same : length new ≡ length c.loop-from.run.items = search rules in
+    let long : c.loop-from.run.len ≡ length c.loop-from.run.items = search rules in
+    let pushed : c.push.new.self.items ≡ c.loop-from.table.items ++ row ∷ [] = search rules in
+    let after : (b : ℕ) → (is_marked new b ≡ true) ↔ ((n + 1 ≤ b) × (b < c.later-first.result.1)) = rw c.later-first.ensures.first at c.next_later.ensures.after in
+    rw (take_at new _ c.loop-from.run.len (same ∙ sym long), pushed) (
+      same ∙ inv.0,
+      after,
+      omega (arith, length-append c.loop-from.table.items (row ∷ []), inv.2),
+      each_pushed (IsPairRow h) c.loop-from.table.items row n inv.2 inv.3 c.in_ok-pairs_from.ensures,
     )
+
+pub returns-clause-pairs : goal.returns-clause-pairs
+returns-clause-pairs c =
+    let h = c.args.graph.now in
+    let inv = c.loop-from.invariant in
+    let whole : c.loop-from.from ≡ count h = search rules in
+    table_of_pairs h c.loop-from.table.items (inv.2 ∙ whole) (rw whole at inv.3)

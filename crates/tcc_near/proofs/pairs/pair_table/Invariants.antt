@@ -1,12 +1,12 @@
-use Rattle.std.proofs.Common.{◌≡◌, ◌<◌, ℕ, length}
-use Rattle.std.specs.List.{All}
+use Rattle.std.proofs.Common.{◌≡◌, ◌<◌, ◌≤◌, ◌↔◌, ℕ, true, List, length, get_or}
 use Rattle.tcc_reads.specs.History.{count}
-use Rattle.tcc_graph.specs.Relations.{causal_pair}
-use Rattle.tcc_near.specs.Bits.{is_marked, IsRowOf}
-use Rattle.tcc_near.specs.Breadth.{marks_of}
+use Rattle.tcc_near.specs.Bits.{is_marked, words_for}
+use Rattle.tcc_near.specs.Breadth.{IsPairRow}
 use Rattle.tcc_near.proofs.pairs.pair_table.Given as goal
 
 abbrev pub invariant-loop-from : goal.invariant-loop-from
 invariant-loop-from l =
-    (length l.table.items ≡ l.from) × All (IsRowOf (count l.graph)) l.table.items
-    × ((a b : ℕ) → a < l.from → b < count l.graph → is_marked (marks_of l.table.items a) b ≡ causal_pair l.graph a b)
+    (length l.run.items ≡ words_for (count l.graph))
+    × ((b : ℕ) → (is_marked l.run.items b ≡ true) ↔ ((l.from ≤ b) × (b < l.known)))
+    × (length l.table.items ≡ l.from)
+    × ((i : ℕ) (d : List ℕ) → i < l.from → IsPairRow l.graph i (get_or l.table.items i d))

@@ -1,34 +1,28 @@
-use Rattle.std.proofs.Common.{rules, ◌≡◌, ◌∙◌, length, replicate, arith, take_at, sym}
-use Rattle.std.proofs.lemmas.List.{length-replicate}
-use Rattle.std.proofs.lemmas.Bool.{false≢true}
-use Rattle.tcc_graph.specs.Relations.{causal_pair}
+use Rattle.std.proofs.Common.{rules, ◌≡◌, ◌↔◌, ◌⊎◌, ℕ, true, length, refl, sym, ◌∙◌, take_at}
+use Rattle.std.specs.Prelude.{Contains}
 use Rattle.tcc_reads.specs.History.{count}
-use Rattle.tcc_near.specs.Bits.{words_for}
-use Rattle.tcc_near.proofs.BitLemmas.{none_marked, one_marked, one_unmarked}
+use Rattle.tcc_near.specs.Bits.{is_marked, words_for}
+use Rattle.tcc_near.proofs.MarkLemmas.{readers_fit, pairs_row, pairs_exact}
 use Rattle.tcc_near.proofs.pairs.pairs_from.Goals as goal
-use Rattle.tcc_near.proofs.pairs.pairs_from.Goals.{then-causal, else-causal}
 
-pub loop-to-init : goal.loop-to-init
-loop-to-init c =
-    let n = words_for (count c.args.graph.now) in
-    let marks : c.in_ok-marks.marks.items ≡ replicate n 0 = search rules in
-    rw marks (length-replicate n 0, λ b below. absurd (omega arith), λ b mark. absurd (false≢true (sym (none_marked n b) ∙ mark)))
+pub mark_each-requires : goal.mark_each-requires
+mark_each-requires c =
+    let run : c.in_ok-marks.marks.items ≡ c.args.run.now = search rules in
+    rw (c.deref_mut.ensures.value, run) (readers_fit c.args.graph.now c.args.from c.readings.result.0.now c.readings.result.1.now c.readings.ensures.long c.readings.ensures.each c.args.run.now c.requires.wide)
 
-pub loop-to-preserved : goal.loop-to-preserved
-loop-to-preserved c =
-    let inv = c.loop-to.invariant in
+pub returns : goal.returns
+returns c =
     let h = c.args.graph.now in
-    let old = c.loop-to.marks.items in
-    elim c.if-causal.branch [
-      | then-causal w ↦ (
-          let new = w.mark.new.words in
-          let same : length new ≡ length old = search rules in
-          let long : c.loop-to.marks.len ≡ length old = search rules in
-          let both = one_marked old new c.loop-to.to (causal_pair h c.args.from) inv.1 inv.2 (search rules) (search rules) in
-          rw (w.marks-is, take_at new _ c.loop-to.marks.len (same ∙ sym long)) (same ∙ inv.0, both.0, both.1)
-          )
-      | else-causal w ↦ (
-          let both = one_unmarked old c.loop-to.to (causal_pair h c.args.from) inv.1 inv.2 (search rules) in
-          rw w.marks-is (inv.0, both.0, both.1)
-          )
-    ]
+    let rs = c.readings.result.0.now in
+    let xs = c.readings.result.1.now in
+    let new = c.mark_each.new.words in
+    let run : c.in_ok-marks.marks.items ≡ c.args.run.now = search rules in
+    let same : length new ≡ length c.in_ok-marks.marks.items = c.mark_each.ensures.same ∙ rw c.deref_mut.ensures.value refl in
+    let long : c.in_ok-marks.marks.len ≡ length c.in_ok-marks.marks.items = search rules in
+    let made : c.new.result ≡ new = c.new.ensures ∙ take_at new _ c.in_ok-marks.marks.len (same ∙ sym long) in
+    let wide : length new ≡ words_for (count h) = same ∙ (rw run c.requires.wide) in
+    let marked : (b : ℕ) → (is_marked new b ≡ true) ↔ ((is_marked c.args.run.now b ≡ true) ⊎ Contains rs b) = rw (c.deref_mut.ensures.value, run) at c.mark_each.ensures.each in
+    rw made (
+      pairs_row h c.args.from rs xs c.readings.ensures.long c.readings.ensures.each c.args.run.now new c.requires.session marked wide,
+      pairs_exact h c.args.from rs xs c.readings.ensures.long c.readings.ensures.each c.args.run.now new c.requires.session marked,
+    )
