@@ -1,12 +1,12 @@
 -- The names of transactions, in a list by number.
 use Rattle.std.specs.Prelude.{ℕ, List, [], map, slice_index_or}
-use Rattle.std.specs.List.{range_with_len}
-use Rattle.tcc_reads.specs.History.{History, count}
+use Rattle.tcc_reads.specs.History.{History}
+use Rattle.tcc_graph.specs.Keys.{numbers}
 use Rattle.tcc_graph.specs.Numbers.{label}
 
 -- the names of all transactions of a history
 abbrev pub labels_of : History → List (List ℕ)
-labels_of h = map (label h) (range_with_len 0 (count h))
+labels_of h = map (label h) (numbers h)
 
 -- the name of a transaction; past the last one nothing
 abbrev pub label_at : List (List ℕ) → ℕ → List ℕ

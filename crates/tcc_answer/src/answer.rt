@@ -1,5 +1,5 @@
 //! Answers: a commit order, or an anomaly, each with its certificate.
-ghost use Rattle.std.specs.Prelude.{◌≡◌};
+ghost use Rattle.std.specs.Prelude.{◌≡◌, []};
 ghost use Rattle.tcc_graph.specs.Links.{cost};
 ghost use Rattle.tcc_cert.specs.declared.version.Version.TheVariants.{Two};
 ghost use Rattle.tcc_cert.specs.declared.certificate.Certificate.TheVariants as claim;
@@ -8,6 +8,7 @@ ghost use Rattle.tcc_answer.specs.Claims.{certificate_of};
 
 use crate::labels::Labels;
 use crate::shape::{Shape, shape_of};
+use std::alloc::Global;
 use std::marker::Model;
 use tcc_cert::{Certificate, Links, Numbers, Table, Version};
 use tcc_graph::{Level, Link};
@@ -152,6 +153,16 @@ impl Anomaly {
         }
     }
 
+    /// The level at which it is a cycle.
+    pub fn level(&self) -> Level
+        ensures { result ≡ self.now.level }
+    {
+        match &self.certificate {
+            Certificate::Order { level, .. } => *level,
+            Certificate::Cycle { level, .. } => *level,
+        }
+    }
+
     /// What the cycle looks like.
     pub fn shape(&self) -> Shape
         ensures { result ≡ shape_of self.now.links }
@@ -160,10 +171,22 @@ impl Anomaly {
     }
 
     /// The names of the transactions.
-    pub(crate) fn labels(&self) -> &Labels
+    pub fn labels(&self) -> &Labels
         ensures { result.now ≡ self.now.labels }
     {
         &self.labels
+    }
+
+    /// What the anomaly says, without the distances by which it can be checked. No memory is taken, and theirs is given back.
+    pub fn without_tables(self, alloc: Global) -> Anomaly
+        ensures { result ≡ record { level = self.level; links = self.links; near = []; far = []; labels = self.labels } }
+    {
+        let mut anomaly = self;
+        if let Certificate::Cycle { near, far, .. } = &mut anomaly.certificate {
+            *near = Table::new(Vec::new(alloc));
+            *far = Table::new(Vec::new(alloc));
+        }
+        anomaly
     }
 }
 

@@ -1,5 +1,5 @@
 //! The names of a history's transactions.
-ghost use Rattle.std.specs.Prelude.{◌≡◌, IfOk};
+ghost use Rattle.std.specs.Prelude.{◌≡◌, IfOk, map, string_bytes};
 ghost use Rattle.tcc_answer.specs.Labels.{labels_of, label_at};
 
 use std::alloc::Global;
@@ -31,6 +31,13 @@ impl Labels {
             labels.push(graph.label(alloc, number)?)?;
         }
         Ok(Labels { labels })
+    }
+
+    /// The names, by number.
+    pub fn names(&self) -> &[String]
+        ensures { map string_bytes result.now ≡ self.now }
+    {
+        &self.labels
     }
 
     /// The name of a transaction; past the last one nothing.

@@ -10,3 +10,6 @@ pub mod RecordedKeys
 pub mod WrittenAnswer
 pub mod FoundLemmas
 pub mod OneAnswer
+pub mod OfferLemmas
+pub mod GrownAnswer
+pub mod NextLemmas

@@ -6,7 +6,6 @@ use Rattle.std.proofs.lemmas.List.{get_or-map, length-map, get_or_default}
 use Rattle.tcc_reads.specs.History.{History, count}
 use Rattle.tcc_graph.specs.Levels.{Judged}
 use Rattle.tcc_graph.specs.declared.level.Level.{Level}
-use Rattle.tcc_near.specs.Clocks.{IsLast, IsClocksOf}
 use Rattle.tcc_near.specs.Distances.{IsNearOf, NearTable, IsWalkDistance, IsShortest}
 use Rattle.tcc_near.specs.declared.distances.TheConstants.{NONE}
 use Rattle.tcc_core.specs.Shares.{IsCappedDistance}
@@ -81,12 +80,3 @@ near_table j cap near rows is capped = record {
   where
     wide : (a : ℕ) → a < count j.history → length (row_of near.rows a) ≡ count j.history
     wide a low = is.square.wide a [] (omega (arith, is.square.long))
-
--- ---- clocks
-
-pub clock_table : (h : History) (clocks rows : List (List ℕ)) → IsClocksOf h clocks → AreRows (λ t row. row ≡ row_of clocks t) (count h) rows → IsClocksOf h rows
-clock_table h clocks rows is same = record {
-  long = same.long;
-  wide = (rows_size (λ t row. row ≡ row_of clocks t) (count h) (length h.sessions) rows same (λ t row low e. ap length e ∙ is.wide t [] (omega (arith, is.long)))).wide;
-  exact = λ t session from of. subst (λ (r : List ℕ). IsLast h t session (get_or r session 0)) (sym (same.each t from)) (is.exact t session from of);
-}

@@ -1,4 +1,5 @@
 pub mod Certificates
 pub mod Explained
+pub mod Next
 pub mod Keys
 pub mod Capping

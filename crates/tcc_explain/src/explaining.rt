@@ -5,9 +5,11 @@ ghost use Rattle.tcc_reads.specs.Sources.{history};
 ghost use Rattle.tcc_graph.specs.Routes.{HasCycle};
 ghost use Rattle.tcc_near.specs.Distances.{IsNearOf};
 ghost use Rattle.tcc_derive.specs.Prices.{IsPricesOf};
+ghost use Rattle.tcc_answer.specs.Labels.{labels_of};
 ghost use Rattle.tcc_answer.specs.declared.answer.Answer.TheVariants as answer;
 ghost use Rattle.tcc_explain.specs.Explained.{IsAnswerOf, IsRefusal};
 
+use crate::offering::{lesser, offered};
 use crate::refusal::ExplainFault;
 use crate::tables::{clocks_at, far_table, near_table};
 use std::alloc::Global;
@@ -17,7 +19,7 @@ use tcc_cert::{Links, Numbers};
 use tcc_core::seed;
 use tcc_cycle::{FirstReturn, first_cycle};
 use tcc_derive::{Prices, derive};
-use tcc_graph::{Graph, Level};
+use tcc_graph::{Graph, Level, Link};
 use tcc_near::{Near, near};
 use tcc_order::laws::order_or_cycle;
 use tcc_order::order;
@@ -39,24 +41,27 @@ fn distances(
     Ok(distances)
 }
 
-/// The first of the least cycles with its tables, by so many workers.
+/// The first of the least cycles with its tables, by so many workers; they begin with what a cycle costs that goes where
+/// the links of an earlier one go.
 fn anomaly<G: Gate>(
     rt: &(impl Threads + Sync),
     alloc: Global,
     graph: &Graph,
     near: &Near,
     prices: &Prices,
+    labels: Labels,
+    earlier: &[Link],
     workers: u32,
     gate: &G,
 ) -> Result<Anomaly, NoMemory>
     requires near { IsNearOf (record { history = graph.now; level = near.now.level }) near.now }
     requires prices { IsPricesOf (record { history = graph.now; level = near.now.level }) prices.now }
     requires cycle { HasCycle (record { history = graph.now; level = near.now.level }) }
+    requires labels { labels ≡ labels_of graph.now }
     requires workers { (0 < workers) × (workers ≤ 32) }
     ensures { IfOk result (λ anomaly. IsAnswerOf (record { history = graph.now; level = near.now.level }) (answer.Anomaly anomaly)) }
 {
-    let labels = Labels::of(alloc, graph)?;
-    let seed = seed(near, prices);
+    let seed = lesser(offered(prices, earlier), seed(near, prices));
     let found = search_with(rt, alloc, prices, seed, workers, gate, &AllStart)?;
     let Some(cost) = found.least else {
         unreachable!()
@@ -84,29 +89,34 @@ fn anomaly<G: Gate>(
     ))
 }
 
-/// The first answer for a history at a level: a commit order, or a cycle where there is none.
-fn history_answer<G: Gate>(
+/// The first answer for a history at a level: a commit order, or a cycle where there is none. It is the same whatever links
+/// of an earlier cycle the search begins with.
+pub(crate) fn history_answer<G: Gate>(
     rt: &(impl Threads + Sync),
     alloc: Global,
     graph: &Graph,
     level: Level,
+    labels: Labels,
+    earlier: &[Link],
     workers: u32,
     gate: &G,
 ) -> Result<Answer, NoMemory>
+    requires labels { labels ≡ labels_of graph.now }
     requires workers { (0 < workers) × (workers ≤ 32) }
     ensures { IfOk result (IsAnswerOf (record { history = graph.now; level = level })) }
 {
     order_or_cycle();
     if let Some(order) = order(alloc, graph, level)? {
-        let labels = Labels::of(alloc, graph)?;
         let sessions = graph.sessions().len() as u32;
-        let clocks = clocks_at(rt, alloc, graph, level)?;
+        let clocks = clocks_at(alloc, graph, level, &order)?;
         let order = Numbers::new(order);
         return Ok(Answer::Commit(Commit::new(level, order, sessions, clocks, labels)));
     }
     let near = distances(rt, alloc, graph, level)?;
     let prices = derive(rt, alloc, graph, &near)?;
-    let anomaly = anomaly(rt, alloc, graph, &near, &prices, workers, gate)?;
+    let anomaly = anomaly(
+        rt, alloc, graph, &near, &prices, labels, earlier, workers, gate,
+    )?;
     Ok(Answer::Anomaly(anomaly))
 }
 
@@ -130,7 +140,9 @@ pub fn explain<G: Gate>(
     match resolve(alloc, snapshot) {
         Ok(resolved) => {
             let graph = Graph::build(alloc, &resolved)?;
-            Ok(history_answer(rt, alloc, &graph, level, workers, gate)?)
+            let labels = Labels::of(alloc, &graph)?;
+            let answer = history_answer(rt, alloc, &graph, level, labels, &[], workers, gate)?;
+            Ok(answer)
         }
         Err(ResolveFault::Reads(faults)) => Err(ExplainFault::Reads(faults)),
         Err(ResolveFault::NoMemory) => Err(ExplainFault::NoMemory),

@@ -1,5 +1,6 @@
-//! The laws of answers: their certificates keep the rules and have texts, and a history has one first answer at most at a level.
-ghost use Rattle.std.specs.Prelude.{◌≡◌, ℕ, List, Ok, length, take};
+//! The laws of answers: their certificates keep the rules and have texts, a history has one first answer at most at a level,
+//! and an anomaly stays one where a snapshot goes on.
+ghost use Rattle.std.specs.Prelude.{◌≡◌, ◌≤◌, ℕ, List, Ok, length, take};
 ghost use Rattle.tcc_txn.specs.Answers.{answers_of};
 ghost use Rattle.tcc_txn.specs.Finished.{KeepsLimits, finished_in};
 ghost use Rattle.tcc_txn.specs.Snapshots.{Sessions};
@@ -16,13 +17,18 @@ ghost use Rattle.tcc_cert.specs.Texts.{HasText, certificate_text};
 ghost use Rattle.tcc_cert.specs.Reading.{certificate_read};
 ghost use Rattle.tcc_cert.specs.declared.version.Version.TheVariants.{Two};
 ghost use Rattle.tcc_cert.specs.declared.certificate.Certificate.TheVariants as claim;
+ghost use Rattle.tcc_answer.specs.Answers.{LabelledCycle};
 ghost use Rattle.tcc_answer.specs.Claims.{certificate_of};
 ghost use Rattle.tcc_answer.specs.Texts.{answer_text};
 ghost use Rattle.tcc_answer.specs.Json.{answer_json};
 ghost use Rattle.tcc_answer.specs.declared.answer.Answer.{Answer};
+ghost use Rattle.tcc_answer.specs.declared.answer.Answer.TheVariants as answer;
+ghost use Rattle.tcc_growth.specs.Growth.{Grows, judged};
 ghost use Rattle.tcc_explain.specs.Certificates.{IsNearTable, IsFarTable, IsClocksAt, IsNumbered};
 ghost use Rattle.tcc_explain.specs.Explained.{IsAnswerOf};
 ghost use Rattle.tcc_explain.specs.Keys.{HasNames};
+ghost use Rattle.tcc_explain.specs.Next.{IsAnomalyOf, IsNextRefusal};
+ghost use Rattle.tcc_explain.specs.declared.refusal.NextFault.TheVariants as refusal;
 
 /// A least cycle with the distances, capped at what it costs, is certified; so is a commit order with the clocks of the
 /// level, where transactions are numbered as in each snapshot's history.
@@ -69,4 +75,14 @@ pub fn one_answer()
     ensures json { (j : Judged) (some other : Answer) → IsAnswerOf j some → IsAnswerOf j other → answer_json some ≡ answer_json other }
     ensures certificate { (j : Judged) (some other : Answer) → IsAnswerOf j some → IsAnswerOf j other
         → certificate_of some ≡ certificate_of other }
+{}
+
+/// Of two resolved snapshots of which the second continues the first, no link of the first one's anomaly is missed in the
+/// second; and at the level of that anomaly the second has an anomaly too, which has at most as many steps.
+pub fn grown()
+    ensures nested { (small large : Sessions) (level : Level) (a : LabelledCycle) (n : ℕ) → Grows small large
+        → IsAnomalyOf (judged level small) a → IsNextRefusal large a (refusal.NotNested n) → ⊥ }
+    ensures steps { (small large : Sessions) (level : Level) (a : LabelledCycle) (b : Answer) → Grows small large
+        → IsAnswerOf (judged level small) (answer.Anomaly a) → IsAnswerOf (judged level large) b
+        → (c : LabelledCycle) × (b ≡ answer.Anomaly c) × (cost c.links ≤ cost a.links) }
 {}

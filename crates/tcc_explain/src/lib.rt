@@ -3,10 +3,13 @@
 
 mod explaining;
 pub mod laws;
+mod next;
+mod offering;
 mod refusal;
 mod tables;
 
 pub use explaining::explain;
-pub use refusal::ExplainFault;
+pub use next::explain_next;
+pub use refusal::{ExplainFault, NextFault};
 pub use tcc_answer::{Anomaly, Answer, Commit, Shape, WriteFault, write_json, write_text};
 pub use tcc_steal::{Gate, OpenGate};

@@ -1,17 +1,17 @@
 //! The tables of certificates, from the distances, the searches' rows and the clocks.
 ghost use Rattle.std.specs.Prelude.{◌≡◌, ◌<◌, IfOk, map, length};
 ghost use Rattle.tcc_graph.specs.Levels.{Judged};
+ghost use Rattle.tcc_graph.specs.Orders.{IsCommitOrder};
 ghost use Rattle.tcc_graph.specs.Tables.{row_of};
 ghost use Rattle.tcc_near.specs.Distances.{IsNearOf};
-ghost use Rattle.tcc_near.specs.Clocks.{IsClocksOf};
 ghost use Rattle.tcc_explain.specs.Certificates.{IsNearTable, IsFarTable, IsClocksAt};
 ghost use Rattle.tcc_explain.specs.Capping.{capped_steps, cost_or, AreFarRows};
 
 use std::alloc::Global;
-use std::thread::Threads;
 use tcc_cert::{Numbers, Table};
 use tcc_graph::{Graph, Level};
-use tcc_near::{Clocks, NONE, Near, Row, clocks};
+use tcc_near::{NONE, Near, Row};
+use tcc_order::clocks;
 use tcc_txn::NoMemory;
 
 /// A number of steps, capped; the cap where no walk leads.
@@ -81,28 +81,28 @@ pub(crate) fn far_table(
 }
 
 /// The clocks as a table.
-fn clock_table(alloc: Global, graph: &Graph, clocks: &Clocks) -> Result<Table, NoMemory>
-    requires { IsClocksOf graph.now clocks.now }
-    ensures { IfOk result (IsClocksOf graph.now) }
+fn clock_table(alloc: Global, clocks: &[Row<u32>]) -> Result<Table, NoMemory>
+    ensures { IfOk result (λ table. table ≡ clocks.now) }
 {
     let mut rows = Vec::new(alloc);
-    for t in 0..graph.count() {
-        rows.push(Numbers::new(clocks.row(t).iter().copied().collect(alloc)?))?;
+    for row in clocks {
+        rows.push(Numbers::new(row.values().iter().copied().collect(alloc)?))?;
     }
     Ok(Table::new(rows))
 }
 
-/// The clocks by which an order can be checked at a level: at `Atomic` there are none.
+/// The clocks by which a commit order can be checked at a level: at `Atomic` there are none.
 pub(crate) fn clocks_at(
-    rt: &(impl Threads + Sync),
     alloc: Global,
     graph: &Graph,
     level: Level,
+    order: &[u32],
 ) -> Result<Table, NoMemory>
+    requires { IsCommitOrder (record { history = graph.now; level = level }) order.now }
     ensures { IfOk result (IsClocksAt level graph.now) }
 {
     match level {
-        Level::Causal => clock_table(alloc, graph, &clocks(rt, alloc, graph)?),
+        Level::Causal => clock_table(alloc, &clocks(alloc, graph, order)?),
         Level::Atomic => Ok(Table::new(Vec::new(alloc))),
     }
 }

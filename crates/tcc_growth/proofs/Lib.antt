@@ -9,9 +9,8 @@
 --   Growth     a snapshot that continues another keeps its pairs
 --   Keeping    so it keeps its links, cycles and anomalies
 --   Nesting    what is finished later continues what was finished
---   Carried    links in other numbers, as they are looked at one by one
+--   OneByOne   links, as they are looked at one by one
 --   Worked     an anomaly in a snapshot that goes on, where numbers move
-pub mod Carried
 pub mod Elements
 pub mod Growth
 pub mod Keeping
@@ -20,6 +19,7 @@ pub mod Labels
 pub mod Meeting
 pub mod Nesting
 pub mod Numbered
+pub mod OneByOne
 pub mod Placed
 pub mod Searching
 pub mod Worked

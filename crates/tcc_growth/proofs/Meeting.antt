@@ -15,7 +15,8 @@ use Rattle.tcc_reads.specs.OneSource.{IsNumber}
 use Rattle.tcc_reads.proofs.Ties.{same_name, itself}
 use Rattle.tcc_graph.specs.Numbers.{session_name, label}
 use Rattle.tcc_txn.specs.Nested.{IsNested}
-use Rattle.tcc_growth.specs.Moved.{labels_of, number_among}
+use Rattle.tcc_answer.specs.Labels.{labels_of}
+use Rattle.tcc_growth.specs.Moved.{number_among}
 use Rattle.tcc_growth.specs.Growth.{number_in}
 use Rattle.tcc_growth.proofs.Labels.{label_other, label_at, label_once}
 use Rattle.tcc_growth.proofs.Placed.{IsAlike, carried}

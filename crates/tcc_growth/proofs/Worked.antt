@@ -22,7 +22,8 @@ use Rattle.tcc_graph.specs.declared.link.Link.TheVariants as link
 use Rattle.tcc_graph.specs.declared.step.Step.TheVariants as step
 use Rattle.tcc_txn.specs.Nested.{list_of, IsPrefix, IsNested}
 use Rattle.tcc_growth.specs.Growth.{Grows}
-use Rattle.tcc_growth.specs.Moved.{number_among, labels_of, moved}
+use Rattle.tcc_answer.specs.Labels.{labels_of}
+use Rattle.tcc_growth.specs.Moved.{number_among, moved}
 use Rattle.tcc_growth.specs.Growth.{judged, number_in, link_in}
 use Rattle.tcc_growth.proofs.Keeping.{keeps_cycles}
 

@@ -5,4 +5,4 @@ mod carrying;
 pub mod laws;
 mod moving;
 
-pub use carrying::{first_missing, lead_back};
+pub use carrying::{carried, first_missing};

@@ -36,7 +36,7 @@ returns g c =
     rw (c.new-2.ensures, c.new.ensures, c.level.ensures) (
       (c.in-Some-first.start, c.in_ok-links.ensures.first),
       refl,
-      c.in_ok-labels.ensures,
+      c.requires.labels,
       subst (λ (n : ℕ). IsNearTable j n c.in_ok-distances.distances) costs c.in_ok-distances.ensures,
       subst (λ (n : ℕ). IsFarTable j n c.in_ok-far.far) costs (c.in_ok-far.ensures j rows),
     )

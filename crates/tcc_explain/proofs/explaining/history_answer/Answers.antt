@@ -12,7 +12,7 @@ returns-in-Some g c =
     let j : Judged = record { history = c.args.graph.now; level = c.args.level } in
     let first : IsFirstOrder j c.in-Some.order.items = rw c.in-Some.is at c.in_ok-order.ensures in
     rw (c.new.ensures, c.new-order.ensures)
-    (((c.order_or_cycle.ensures j).0 (c.in-Some.order.items, first.commit), first), refl, ap length c.sessions.ensures.value, c.in_ok-labels.ensures, c.in_ok-clocks.ensures)
+    (((c.order_or_cycle.ensures j).0 (c.in-Some.order.items, first.commit), first), refl, ap length c.sessions.ensures.value, c.requires.labels, c.in_ok-clocks.ensures)
 
 pub anomaly-requires-clause-cycle : goal.anomaly-requires-clause-cycle
 anomaly-requires-clause-cycle g c =

@@ -1,0 +1,54 @@
+//! The answer for a snapshot that may continue one that had an anomaly.
+ghost use Rattle.std.specs.Prelude.{◌≡◌, ◌<◌, ◌≤◌, [], All, MatchResult};
+ghost use Rattle.tcc_reads.specs.Faults.{read_faults};
+ghost use Rattle.tcc_reads.specs.Sources.{history};
+ghost use Rattle.tcc_graph.specs.Links.{IsLink};
+ghost use Rattle.tcc_growth.specs.Growth.{judged};
+ghost use Rattle.tcc_explain.specs.Explained.{IsAnswerOf};
+ghost use Rattle.tcc_explain.specs.Next.{IsNextRefusal, links_in};
+
+use crate::explaining::history_answer;
+use crate::refusal::NextFault;
+use std::alloc::Global;
+use std::thread::Threads;
+use tcc_answer::{Anomaly, Answer, Labels};
+use tcc_graph::Graph;
+use tcc_growth::{carried, first_missing};
+use tcc_reads::{ResolveFault, resolve};
+use tcc_steal::Gate;
+use tcc_txn::Snapshot;
+
+/// The answer that `explain` gives for the history of a snapshot at the level of an earlier anomaly, where each link of that
+/// anomaly, found by the labels of its transactions, is a link of this history: the search begins with what such a cycle
+/// costs now. Else all read faults of the snapshot, where there are some, or the first link that isn't one, counted from 1.
+pub fn explain_next<G: Gate>(
+    rt: &(impl Threads + Sync),
+    alloc: Global,
+    snapshot: &Snapshot,
+    earlier: &Anomaly,
+    workers: u32,
+    gate: &G,
+) -> Result<Answer, NextFault>
+    requires workers { (0 < workers) × (workers ≤ 32) }
+    ensures { MatchResult result
+        (λ answer. (read_faults snapshot.now ≡ [])
+        × IsAnswerOf (record { history = history snapshot.now; level = earlier.now.level }) answer
+        × All (IsLink (judged earlier.now.level snapshot.now)) (links_in earlier.now snapshot.now))
+        (IsNextRefusal snapshot.now earlier.now) }
+{
+    let level = earlier.level();
+    match resolve(alloc, snapshot) {
+        Ok(resolved) => {
+            let graph = Graph::build(alloc, &resolved)?;
+            let labels = Labels::of(alloc, &graph)?;
+            let links = carried(alloc, &graph, earlier.labels(), &labels, earlier.links())?;
+            if let Some(link) = first_missing(&graph, level, &links) {
+                return Err(NextFault::NotNested { link });
+            }
+            let answer = history_answer(rt, alloc, &graph, level, labels, &links, workers, gate)?;
+            Ok(answer)
+        }
+        Err(ResolveFault::Reads(faults)) => Err(NextFault::Reads(faults)),
+        Err(ResolveFault::NoMemory) => Err(NextFault::NoMemory),
+    }
+}

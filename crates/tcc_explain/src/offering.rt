@@ -1,0 +1,63 @@
+//! What a search may begin with: what an earlier cycle costs now.
+ghost use Rattle.std.specs.Prelude.{◌≡◌, ◌⊎◌, IfSome};
+ghost use Rattle.tcc_graph.specs.Levels.{Judged};
+ghost use Rattle.tcc_graph.specs.Links.{link_from, link_to, link_cost};
+ghost use Rattle.tcc_graph.specs.declared.link.Link.{Link};
+ghost use Rattle.tcc_derive.specs.Prices.{IsPricesOf, IsLinkOf};
+ghost use Rattle.tcc_core.specs.Shares.{IsCycleCost};
+
+use tcc_derive::Prices;
+use tcc_graph::Link;
+
+/// The numbers from which and to which the link leads.
+fn ends(link: &Link) -> (u32, u32)
+    ensures from { result.0 ≡ link_from link.now }
+    ensures to { result.1 ≡ link_to link.now }
+{
+    match link {
+        Link::Session { from, to } => (*from, *to),
+        Link::Reads { from, to, .. } => (*from, *to),
+        Link::Derived { from, to, .. } => (*from, *to),
+    }
+}
+
+/// What a link there costs at least; none where there is no link, or not both numbers.
+fn least_cost(prices: &Prices, from: u32, to: u32) -> Option<u32>
+    ensures { (j : Judged) → IsPricesOf j prices.now → IfSome result (λ c. (l : Link) × IsLinkOf j from to l × (link_cost l ≡ c)) }
+{
+    if from < prices.count() && to < prices.count() {
+        prices.cost(from, to)
+    } else {
+        None
+    }
+}
+
+/// What a cycle costs that goes where these links go, by a cheapest link at each; none where some link is gone, or they do
+/// not lead back to where they begin.
+pub(crate) fn offered(prices: &Prices, links: &[Link]) -> Option<u32>
+    ensures { (j : Judged) → IsPricesOf j prices.now → IfSome result (IsCycleCost j) }
+{
+    let (start, _) = ends(links.first()?);
+    let mut at = start;
+    let mut total: u32 = 0;
+    for link in links {
+        let (from, to) = ends(link);
+        if from != at {
+            return None;
+        }
+        total = total.checked_add(least_cost(prices, from, to)?)?;
+        at = to;
+    }
+    if at == start { Some(total) } else { None }
+}
+
+/// The lesser of two costs, where there are two.
+pub(crate) fn lesser(some: Option<u32>, other: Option<u32>) -> Option<u32>
+    ensures { (result ≡ some) ⊎ (result ≡ other) }
+{
+    match (some, other) {
+        (Some(a), Some(b)) if b < a => other,
+        (None, _) => other,
+        _ => some,
+    }
+}

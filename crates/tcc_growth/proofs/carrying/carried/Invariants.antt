@@ -1,0 +1,6 @@
+use Rattle.std.proofs.Common.{◌≡◌, map, take, string_bytes}
+use Rattle.tcc_growth.specs.Moved.{moved, link_by}
+use Rattle.tcc_growth.proofs.carrying.carried.Given as goal
+
+abbrev pub invariant-loop-link : goal.invariant-loop-link
+invariant-loop-link l = l.found.items ≡ map (link_by (moved (map string_bytes l.old) (map string_bytes l.new))) (take l.link-index l.links)
