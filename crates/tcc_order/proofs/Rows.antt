@@ -1,7 +1,7 @@
 -- Rows of marks, worked out one by one.
-use Rattle.std.proofs.Common.{◌≡◌, ◌≢◌, ◌<◌, ◌≤◌, ◌+◌, ◌/◌, ◌%◌, ◌==◌, ◌||◌, ◌↔◌, ◌⊎◌, inl, inr, ℕ, Bool, true, false, List, [], length, get_or, set, take, refl, sym, ◌∙◌, arith}
+use Rattle.std.proofs.Common.{◌≡◌, ◌≢◌, ◌<◌, ◌+◌, ◌/◌, ◌==◌, ◌||◌, ◌↔◌, ◌⊎◌, inl, inr, ℕ, true, List, [], length, get_or, set, take, refl, sym, ◌∙◌, arith}
 use Rattle.std.specs.List.{All, Contains}
-use Rattle.std.proofs.lemmas.Bool.{cases_eq, cases_lt, or_cases, or_left, or_right, eqb-true, eq-eqb}
+use Rattle.std.proofs.lemmas.Bool.{cases_eq, eqb-true, eq-eqb}
 use Rattle.std.proofs.lemmas.List.{get_or-set_same, get_or-set_other, get_or_default, get_or-take, length-take-le, length-set}
 use Rattle.std.proofs.lemmas.List.Elements.{All-weaker, All-map, All-contains_itself}
 use Rattle.tcc_reads.specs.History.{History, count, entry_at}
@@ -13,21 +13,12 @@ use Rattle.tcc_graph.proofs.Walking.{walk_below}
 use Rattle.tcc_graph.proofs.Numberings.{one_place, below_in}
 use Rattle.tcc_near.specs.Bits.{is_marked, words_for}
 use Rattle.tcc_near.specs.Breadth.{marks_of, IsSpread}
-use Rattle.std.proofs.lemmas.Nat.Bits.{bit_at-zero}
-use Rattle.tcc_near.proofs.BitLemmas.{unmarked_from, unmarked_past}
+use Rattle.tcc_near.proofs.MarkLemmas.{or_marks}
 use Rattle.tcc_near.proofs.FreshLemmas.{one_of_taken, still_taken, last_taken, nothing_in}
 use Rattle.tcc_order.specs.Numbering.{IsOrderOf}
 use Rattle.tcc_reads.specs.History.{IsBySession}
 use Rattle.tcc_order.specs.Behind.{IsTableOf, IsRowFor, HasRows, HasSourcesAt, session_parent, sources, parents, stands}
 use Rattle.tcc_order.proofs.Reaching.{session_more, pairs_into, parent_pair, reached_by, IsBehindBy}
-
--- ---- marks that are joined
-pub or_marks : (old other new : Bool) → new ≡ (old || other) → (new ≡ true) ↔ ((old ≡ true) ⊎ (other ≡ true))
-or_marks old other new is = (λ m. or_cases old other (sym is ∙ m), back)
-  where
-    back : (old ≡ true) ⊎ (other ≡ true) → new ≡ true
-    back (inl o) = is ∙ or_left _ _ o
-    back (inr o) = is ∙ or_right _ _ o
 
 -- ---- tables and their rows
 pub table_of_rows : (n : ℕ) (R : ℕ → ℕ → Type 0) (table : List (List ℕ)) → length table ≡ n → ((i : ℕ) (d : List ℕ) → i < n → IsRowFor n R i (get_or table i d)) → IsTableOf n R table
@@ -187,14 +178,6 @@ into_row h c below all run new session now b = (λ m. both.1 (there ((now b).0 m
     back : IsSessionPair h b c ⊎ Contains (sources h c) b → (is_marked run b ≡ true) ⊎ Contains (sources h c) b
     back (inl p) = inl ((session b).1 p)
     back (inr s) = inr s
-
--- words that are 0 mark nothing
-pub zeros_marked : (words : List ℕ) → ((k : ℕ) → k < length words → get_or words k 0 ≡ 0) → (b : ℕ) → is_marked words b ≡ false
-zeros_marked words zeros b = go (cases_lt (b / 64) (length words))
-  where
-    go : (b / 64 < length words) ⊎ (length words ≤ b / 64) → is_marked words b ≡ false
-    go (inl inside) = unmarked_from words b (rw (zeros (b / 64) inside) (bit_at-zero (b % 64)))
-    go (inr past) = unmarked_past words b past
 
 pub rows_weaker : (n : ℕ) (R : ℕ → ℕ → Type 0) (P Q : ℕ → Type 0) (table : List (List ℕ)) → ((c : ℕ) → Q c → P c) → HasRows n R P table → HasRows n R Q table
 rows_weaker n R P Q table sub is = record { long = is.long; wide = λ c l q. is.wide c l (sub c q); exact = λ b c l q. is.exact b c l (sub c q) }

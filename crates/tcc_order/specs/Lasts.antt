@@ -1,6 +1,6 @@
 -- For the private stages and their proofs alone: nobody has to believe what stands here.
 -- The last places of sessions, of some transactions alone.
-use Rattle.std.specs.Prelude.{ℕ, ◌<◌, ◌≤◌, ◌≡◌, ◌⊎◌, ◌==◌, ◌&&◌, nat_lt, if◌then◌else◌, max, List, [], length, slice_index}
+use Rattle.std.specs.Prelude.{ℕ, ◌<◌, ◌≤◌, ◌≡◌, ◌⊎◌, ◌==◌, ◌&&◌, nat_lt, if◌then◌else◌, max, List, length, slice_index}
 use Rattle.tcc_reads.specs.History.{History, count, owner, place}
 use Rattle.tcc_graph.specs.Tables.{row_of}
 use Rattle.tcc_graph.specs.Walks.{IsReached}

@@ -41,9 +41,9 @@ fn row_before(
         ↔ ((is_marked into.now b ≡ true) ⊎ IsContradicted graph.now behind.now (IsReadsPair graph.now a) a b)) }
 {
     let mut marks = into.to_vec(alloc)?;
-    let (readers, keys) = graph.readings(a);
+    let (readers, places) = graph.readings_at(a);
     for (place, reader) in readers.iter().enumerate() {
-        let writers = graph.writers(&keys[place]);
+        let writers = graph.writers_at(places[place]);
         add_contradicting(&mut marks, behind[*reader as usize].values(), writers, a);
     }
     Ok(Row::new(marks))
