@@ -1,0 +1,164 @@
+//! Answers of histories that go on, and of others, after an anomaly: worked out by hand.
+use crate::answers::{OWN, OWN_TEXT, answer_of, text_of};
+use std::alloc::Global;
+use std::process::Abort;
+use std::test::Fail;
+use std::thread::Threads;
+use tcc_answer::{Anomaly, Answer, Labels};
+use tcc_cert::{Links, Table};
+use tcc_explain::laws::grown;
+use tcc_explain::{NextFault, OpenGate, explain_next};
+use tcc_graph::{Graph, Level, Link};
+use tcc_reads::resolve;
+use tcc_txn::{Snapshot, snapshot_of};
+
+/// Two writes of one session, of which another knows the later and misses the earlier.
+const MONOTONIC: &str = "a,begin\na,w,x,1\na,commit\na,begin\na,w,y,1\na,commit\n\
+    b,begin\nb,r,y,1\nb,r,x,0\nb,commit\n";
+
+/// Two transactions that read from each other.
+const CIRCLE: &str = "a,begin\na,w,x,1\na,r,y,1\na,commit\nb,begin\nb,w,y,1\nb,r,x,1\nb,commit\n";
+
+/// Two writes that two others see in opposite orders: each may be before the other.
+const FORK: &str = "a,begin\na,w,x,1\na,commit\nb,begin\nb,w,y,1\nb,commit\n\
+    c,begin\nc,r,x,1\nc,r,y,0\nc,commit\nd,begin\nd,r,x,0\nd,r,y,1\nd,commit\n";
+
+/// Records, those that follow them, a level, and the text of the answer after that of the first: the least anomaly falls
+/// from 4 steps to 3; it stays as it is where nothing follows; and so it does where a session follows that sorts first, so
+/// that all numbers move; a cycle of reads alone, and a level, stay too.
+const GROWN: [(&str, &str, Level, &str); 5] = [
+    (
+        MONOTONIC,
+        "a,begin\na,r,x,0\na,commit\n",
+        Level::Causal,
+        "anomaly: 3 steps, stale-initial-read\nsession init -> a/1\n\
+        derived a/1 -> init by x, read by a/3\n  session a/1 -> a/3\n  against init -> a/3 by x\n",
+    ),
+    (OWN, "", Level::Causal, OWN_TEXT),
+    (
+        OWN,
+        "A,begin\nA,r,x,1\nA,w,z,1\nA,commit\n",
+        Level::Causal,
+        OWN_TEXT,
+    ),
+    (
+        CIRCLE,
+        "A,begin\nA,commit\nb,begin\nb,abort\n",
+        Level::Causal,
+        "anomaly: 2 steps, cyclic-causality\nreads a/1 -> b/1 by x\nreads b/1 -> a/1 by y\n",
+    ),
+    (OWN, "b,begin\nb,r,x,1\nb,commit\n", Level::Atomic, OWN_TEXT),
+];
+
+/// The anomaly of these records, without its tables.
+fn anomaly_of(
+    rt: &(impl Threads + Sync),
+    alloc: Global,
+    records: &str,
+    level: Level,
+) -> Option<Anomaly> {
+    match answer_of(rt, alloc, records, level, 1)? {
+        Answer::Anomaly(anomaly) => Some(anomaly.without_tables(alloc)),
+        Answer::Commit(_) => None,
+    }
+}
+
+/// The answer for some records and those that follow them, after the anomaly of the first.
+fn assert_grown(
+    rt: &(impl Threads + Sync + Abort),
+    alloc: Global,
+    row: &(&str, &str, Level, &str),
+    workers: u32,
+) {
+    let (records, more, level, text) = row;
+    let earlier = anomaly_of(rt, alloc, records, *level).expect(rt, "an anomaly");
+    let later = format!(in alloc; "{records}{more}").expect(rt, "records");
+    let snapshot = snapshot_of(alloc, later.as_bytes()).expect(rt, "a snapshot");
+    assert!(rt; 0 < workers && workers <= 32);
+    match explain_next(rt, alloc, &snapshot, &earlier, workers, &OpenGate) {
+        Ok(answer) => {
+            let out = text_of(alloc, &answer).expect(rt, "a text");
+            assert_eq!(rt; out.as_slice(), text.as_bytes(), "for {later}");
+        }
+        Err(_) => panic!(rt; "no answer"),
+    }
+}
+
+#[test]
+fn anomalies_stay(rt: HostRuntime) {
+    for row in &GROWN {
+        for workers in [1, 2, 32] {
+            assert_grown(&rt, rt.alloc(), row, workers);
+        }
+    }
+    grown();
+}
+
+/// The first link that is none of a history which doesn't go on from where the anomaly was; but read faults before that.
+#[test]
+fn missing_links(rt: HostRuntime) -> Result<(), Fail> {
+    let alloc = rt.alloc();
+    let fork = snapshot_of(alloc, FORK.as_bytes())?;
+    for (records, missing) in [(OWN, 2), (CIRCLE, 1)] {
+        let earlier = anomaly_of(&rt, alloc, records, Level::Causal).expect(&rt, "an anomaly");
+        match explain_next(&rt, alloc, &fork, &earlier, 1, &OpenGate) {
+            Err(NextFault::NotNested { link }) => assert_eq!(&rt; link, missing),
+            _ => panic!(&rt; "each link is one"),
+        }
+        let thin = snapshot_of(alloc, "b,begin\nb,r,z,7\nb,commit\n".as_bytes())?;
+        match explain_next(&rt, alloc, &thin, &earlier, 1, &OpenGate) {
+            Err(NextFault::Reads(faults)) => assert_eq!(&rt; faults.len(), 1),
+            _ => panic!(&rt; "no read faults"),
+        }
+    }
+    Ok(())
+}
+
+/// An anomaly of one's own making: a link of a history that has none, and no cycle.
+fn made(alloc: Global, snapshot: &Snapshot) -> Option<Anomaly> {
+    let resolved = resolve(alloc, snapshot).ok()?;
+    let graph = Graph::build(alloc, &resolved).ok()?;
+    let labels = Labels::of(alloc, &graph).ok()?;
+    let mut links = Vec::new(alloc);
+    links.push(Link::Session { from: 0, to: 1 }).ok()?;
+    let near = Table::new(Vec::new(alloc));
+    let far = Table::new(Vec::new(alloc));
+    Some(Anomaly::new(Level::Causal, Links::new(links), 1, near, far, labels))
+}
+
+/// Links that are no cycle don't turn the answer.
+#[test]
+fn order_after_no_cycle(rt: HostRuntime) -> Result<(), Fail> {
+    let alloc = rt.alloc();
+    let fork = snapshot_of(alloc, FORK.as_bytes())?;
+    let earlier = made(alloc, &fork).expect(&rt, "links");
+    match explain_next(&rt, alloc, &fork, &earlier, 2, &OpenGate) {
+        Ok(answer) => {
+            let out = text_of(alloc, &answer).expect(&rt, "a text");
+            let text = "consistent: 4 transactions, 4 sessions\norder: init a/1 b/1 c/1 d/1\n";
+            assert_eq!(&rt; out.as_slice(), text.as_bytes());
+        }
+        Err(_) => panic!(&rt; "no answer"),
+    }
+    Ok(())
+}
+
+#[test]
+fn faults_as_text(rt: HostRuntime) -> Result<(), Fail> {
+    let alloc = rt.alloc();
+    let table = [
+        (
+            NextFault::Reads(Vec::new(alloc)),
+            "some operations read or write what no source explains",
+        ),
+        (NextFault::NoMemory, "out of memory"),
+        (
+            NextFault::NotNested { link: 2 },
+            "link 2 of the earlier anomaly is none of this history's",
+        ),
+    ];
+    for (fault, text) in table {
+        assert_eq!(&rt; fault.to_string(alloc)?.as_str(), text);
+    }
+    Ok(())
+}
