@@ -40,6 +40,10 @@ pub record IsSeat (t : Tables) (id : BoundId) (seat : Seated) : Type 0 where
   pub sight : seat.known.sight < 2 ^ 64
   pub offers : (j : Judged) → IsPricesOf j t → AreCosts j seat.known.offers
 
+-- the seed, if there is one, is among the offers
+abbrev pub HasSeed : Option ℕ → Known → Type 0
+HasSeed seed known = IfSome seed (Contains known.offers)
+
 -- a worker with a seat at this bound, whose search, if it has one yet, is over these prices
 pub record IsWorker (t : Tables) (id : BoundId) (worker : Worker) : Type 0 where
   pub seat : IsSeat t id worker.seat

@@ -1,7 +1,7 @@
 //! The searches of all starts.
 ghost use Rattle.std.specs.Prelude.{◌≡◌, ◌<◌, ◌^◌, length, replicate, None, IfOk, OnOk};
 ghost use Rattle.tcc_steal.specs.Findings.{HasJudged};
-ghost use Rattle.tcc_steal.specs.Working.{IsSeat, IsWorker, IsShare, AreShares, AreKept, AreSearches};
+ghost use Rattle.tcc_steal.specs.Working.{HasSeed, IsSeat, IsWorker, IsShare, AreShares, AreKept, AreSearches};
 
 use crate::Gate;
 use crate::bringing::Searched;
@@ -50,7 +50,7 @@ fn empty_places(alloc: Global, count: u32) -> Result<Vec<Option<Searched>>, NoMe
     Ok(places)
 }
 
-/// Takes in the shares one at a time. A worker that ended for want of memory ends this too.
+/// Takes in the shares one at a time, by the seat that offered the seed. A worker that ended for want of memory ends this too.
 pub(crate) fn gather(
     alloc: Global,
     prices: &Prices,
@@ -58,8 +58,10 @@ pub(crate) fn gather(
     seat: &mut Seat,
     mut shares: Vec<Result<Share, NoMemory>>,
     _workers: u32,
+    _seed: Option<u32>,
 ) -> Result<Vec<Option<Searched>>, NoMemory>
     requires seat { IsSeat prices.now bound.now seat.old }
+    requires seed { HasSeed _seed seat.old.known }
     requires shares { AreShares prices.now bound.now _workers shares.items }
     ensures seat { OnOk result (IsSeat prices.now bound.now seat.new) }
     ensures long { IfOk result (λ places. length places.items ≡ length prices.now.prices) }

@@ -7,7 +7,7 @@ ghost use Rattle.tcc_core.specs.Rows.{cap_of};
 ghost use Rattle.tcc_core.specs.Shares.{IsCycleCost, SettleAt, capped};
 ghost use Rattle.tcc_steal.specs.Findings.{HasJudged, IsFound};
 ghost use Rattle.tcc_steal.specs.Floors.{least_cost};
-ghost use Rattle.tcc_steal.specs.Working.{AreSearches, IsFirstBack, IsSeat, rows_of};
+ghost use Rattle.tcc_steal.specs.Working.{AreSearches, HasSeed, IsFirstBack, IsSeat, rows_of};
 
 use crate::bringing::Searched;
 use crate::gathering::{gather, search_all};
@@ -100,7 +100,7 @@ fn begin(alloc: Global, _prices: &Prices, seed: Option<u32>) -> Result<(Bound, S
     requires prices { HasJudged _prices.now }
     requires floor { floor ≡ least_cost _prices.now }
     requires seed { (j : Judged) → IsPricesOf j _prices.now → IfSome seed (IsCycleCost j) }
-    ensures { IfOk result (λ made. IsSeat _prices.now made.0 made.1) }
+    ensures { IfOk result (λ made. IsSeat _prices.now made.0 made.1 × HasSeed seed made.1.known) }
 {
     let (bound, mut seat) = Bound::new(alloc)?;
     match seed {
@@ -154,7 +154,7 @@ pub fn search_with<R: Threads + Sync, G: Gate, C: Crew>(
             rt, alloc, prices, &bound, gate, crew, &thieves, &mut seat, workers,
         )?
     };
-    let places = gather(alloc, prices, &bound, &mut seat, shares, workers)?;
+    let places = gather(alloc, prices, &bound, &mut seat, shares, workers, seed)?;
     let mut worker = Worker {
         number: 0,
         seat,

@@ -6,8 +6,15 @@ use Rattle.tcc_steal.proofs.searching.search_with.Goals as goal
 pub gather-requires-clause-seat : goal.gather-requires-clause-seat
 gather-requires-clause-seat g c =
     elim c.if-is_empty.branch [
-      | then-is_empty w ↦ rw w.seat-is c.in_ok-bound.ensures
-      | else-is_empty+in_ok-shares w ↦ rw (w.seat-is, w.shares_of_many.ensures.seat) c.in_ok-bound.ensures
+      | then-is_empty w ↦ rw w.seat-is c.in_ok-bound.ensures.0
+      | else-is_empty+in_ok-shares w ↦ rw (w.seat-is, w.shares_of_many.ensures.seat) c.in_ok-bound.ensures.0
+    ]
+
+pub gather-requires-clause-seed : goal.gather-requires-clause-seed
+gather-requires-clause-seed g c =
+    elim c.if-is_empty.branch [
+      | then-is_empty w ↦ rw w.seat-is c.in_ok-bound.ensures.1
+      | else-is_empty+in_ok-shares w ↦ rw (w.seat-is, w.shares_of_many.ensures.seat) c.in_ok-bound.ensures.1
     ]
 
 pub cost_in-least-requires : goal.cost_in-least-requires
