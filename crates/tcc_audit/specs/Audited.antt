@@ -5,6 +5,9 @@ use Rattle.tcc_reads.specs.Faults.{read_faults}
 use Rattle.tcc_reads.specs.Sources.{history}
 use Rattle.tcc_graph.specs.Levels.{Judged}
 use Rattle.tcc_graph.specs.declared.level.Level.{Level}
+use Rattle.tcc_cert.specs.Reading.{certificate_read}
+use Rattle.tcc_cert.specs.Texts.{HasText, certificate_text}
+use Rattle.tcc_answer.specs.Claims.{certificate_of}
 use Rattle.tcc_explain.specs.Explained.{IsAnswerOf, IsRefusal}
 use Rattle.tcc_answer.specs.declared.answer.Answer.{Answer}
 use Rattle.tcc_audit.specs.declared.fault.AuditFault.{AuditFault}
@@ -19,3 +22,8 @@ abbrev pub IsAudit : List Passed → Level → Result Answer AuditFault → Type
 IsAudit passes level (Ok answer) = (read_faults (recorded_by passes) ≡ []) × IsAnswerOf (judged_by passes level) answer
 IsAudit passes level (Err (fault.Whole whole)) = IsWhole passes (Err whole)
 IsAudit passes level (Err (fault.Explain refusal)) = IsRefusal (recorded_by passes) refusal
+
+-- the answer's certificate has a text, which is read as this certificate and nothing else
+abbrev pub IsReadBack : Answer → Type 0
+IsReadBack answer =
+    HasText (certificate_of answer) × (certificate_read (certificate_text (certificate_of answer)) ≡ Ok (certificate_of answer))

@@ -3,6 +3,8 @@
 
 mod auditing;
 mod fault;
+mod naming;
 
 pub use auditing::audit;
 pub use fault::AuditFault;
+pub use naming::names;

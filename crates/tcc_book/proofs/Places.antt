@@ -1,5 +1,6 @@
 -- Lemmas on books. Index: how many places a session has (length-places, few-places); one record more (places-more,
--- list-more); a session without records (no-places); the names of a map of places (open-found).
+-- list-more); a session without records (no-places); the names of a map of places (open-found); what is stored is a book
+-- (is-book).
 use Rattle.std.proofs.Common.{◌≡◌, ℕ, ◌+◌, ◌≤◌, Bool, true, false, cond, List, [], ◌∷◌, ◌++◌, length, None, refl, sym, ap, ◌∙◌, arith, is_some, true≢false}
 use Rattle.std.specs.List.{list_any, list_all}
 use Rattle.std.proofs.lemmas.Map.Made.{is_some-lookup}
@@ -7,8 +8,8 @@ use Rattle.std.proofs.lemmas.List.{length-map}
 use Rattle.indexmap.specs.IndexMap.{get, keys, index_map_len}
 use Rattle.tcc_txn.specs.Lines.{same}
 use Rattle.tcc_txn.proofs.SortedParts.{same_names}
-use Rattle.tcc_book.specs.Books.{list_of}
-use Rattle.tcc_book.specs.BookStorage.{Places, places_from}
+use Rattle.tcc_book.specs.Books.{IsBook, list_of}
+use Rattle.tcc_book.specs.BookStorage.{IsStored, Places, places_from}
 use Rattle.tcc_book.specs.declared.entry.Entry.{Entry}
 
 -- a session has as many places as transactions
@@ -82,3 +83,12 @@ no-places session places n (e ∷ es) none known = by (no-places session places 
 -- the map has as many names as entries
 pub length-keys : (places : Places) → length (keys places) ≡ index_map_len places
 length-keys places = length-map places.entries (λ e. e.0)
+
+-- a book that is stored so is one that can lie under a lock
+pub is-book : (places : Places) (journal : List Entry) → IsStored places journal → IsBook (record { names = keys places; journal = journal })
+is-book places journal is = record {
+  once = is.once;
+  known = (λ i. list_all (λ (e : Entry). open-found places e.session i) journal) ∙ is.known;
+  few = omega (arith, length-keys places, is.few);
+  short = is.short;
+}

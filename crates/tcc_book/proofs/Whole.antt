@@ -1,16 +1,12 @@
--- Lemmas on whole copies. Index: a session that was found has no pass (found-fails, no-pass); the name of a pass has one
--- (has-own); a map with which all passes agree, and whose sessions all have passes, is what the passes recorded (is-whole).
-use Rattle.std.proofs.Common.{◌≡◌, ℕ, All, Bool, true, false, not, ◌||◌, List, [], ◌∷◌, map, find, Option, None, Some, refl, sym, ap, ◌∙◌, subst, is_some, true≢false}
+-- A map with which all passes agree, and whose sessions all have passes, is what the passes recorded.
+use Rattle.std.proofs.Common.{◌≡◌, ℕ, All, Bool, true, false, not, ◌||◌, List, [], ◌∷◌, map, find, Option, None, Some, refl, sym, ap, ◌∙◌, is_some, true≢false}
 use Rattle.std.specs.FinMap as finite
 use Rattle.std.specs.Cmp.Lexicographic.{nat_list_cmp_total, texts_ties}
-use Rattle.std.specs.List.{Contains, list_any}
+use Rattle.std.specs.List.{list_any}
 use Rattle.std.specs.Ordering.{is_eq}
-use Rattle.std.proofs.lemmas.Cmp.{nat_list_eq_equiv}
 use Rattle.std.proofs.lemmas.List.Elements.{All-head, All-tail}
-use Rattle.std.proofs.lemmas.List.Folds.{list_any_at}
 use Rattle.std.proofs.lemmas.Map.Lookups.{exact_bytes}
-use Rattle.std.proofs.lemmas.Option.{none-some, same_Some}
-use Rattle.tcc_txn.specs.Lines.{same}
+use Rattle.std.proofs.lemmas.Option.{none-some}
 use Rattle.tcc_txn.specs.Snapshots.{Sessions}
 use Rattle.tcc_txn.specs.Transactions.{Transaction}
 use Rattle.tcc_txn.proofs.SortedParts.{name_cmp, same_names}
@@ -18,31 +14,6 @@ use Rattle.tcc_book.specs.Passes.{Agrees, Passed, has_pass, recorded_by}
 
 abbrev pub part_by : Passed → List ℕ × List Transaction
 part_by pass = (pass.session, pass.recorded)
-
--- what a search finds passes the test
-found-passes : (test : List ℕ → Bool) (ns : List (List ℕ)) (n : List ℕ) → find test ns ≡ Some n → test n ≡ true
-found-passes test [] n found = absurd (none-some n found)
-found-passes test (m ∷ ns) n found = by (found-passes test ns n) (test m) refl
-  where
-    by : (find test ns ≡ Some n → test n ≡ true) → (b : Bool) → test m ≡ b → test n ≡ true
-    by rest true is = subst (λ k. test k ≡ true) (same_Some m n (rw is at found)) is
-    by rest false is = rest (rw is at found)
-
-not-true-false : (b : Bool) → not b ≡ true → b ≡ false
-not-true-false true is = sym is
-not-true-false false is = refl
-
--- the session that was found has no pass
-pub no-pass : (passes : List Passed) (ns : List (List ℕ)) (n : List ℕ) → find (λ name. not (has_pass passes name)) ns ≡ Some n → has_pass passes n ≡ false
-no-pass passes ns n found = not-true-false (has_pass passes n) (found-passes (λ name. not (has_pass passes name)) ns n found)
-
-same-self : (n : List ℕ) → same n n ≡ true
-same-self n = nat_list_eq_equiv.refl n
-
--- the name of a pass has a pass
-pub has-own : (passes : List Passed) (pass : Passed) → Contains passes pass → has_pass passes pass.session ≡ true
-has-own passes pass within =
-    list_any_at (λ p. same pass.session p.session) passes within.0 pass within.1 (ap (λ p. same pass.session p.session) within.2 ∙ same-self pass.session)
 
 -- where none is missing the sessions have passes
 none-missing : (passes : List Passed) (ns : List (List ℕ)) (q : List ℕ) → find (λ name. not (has_pass passes name)) ns ≡ None

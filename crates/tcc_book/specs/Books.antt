@@ -1,6 +1,6 @@
 -- Books: which sessions were opened, and what was recorded, in the order of the lock.
-use Rattle.std.specs.Prelude.{◌≡◌, ℕ, ◌<◌, Bool, true, false, List, [], ◌∷◌, ◌++◌, map, filter, length, Result, Ok, Err}
-use Rattle.std.specs.List.{list_any}
+use Rattle.std.specs.Prelude.{◌≡◌, ℕ, ◌<◌, ◌≤◌, Bool, true, false, List, [], ◌∷◌, ◌++◌, map, filter, length, Result, Ok, Err}
+use Rattle.std.specs.List.{IsDistinct, list_all, list_any}
 use Rattle.std.specs.FinMap.{from_entries}
 use Rattle.tcc_txn.specs.Lines.{same}
 use Rattle.tcc_txn.specs.Snapshots.{Sessions}
@@ -35,6 +35,14 @@ held_by session book = length (list_of session book.journal)
 -- the map of all opened names to their lists
 abbrev pub copy_of : Book → Sessions
 copy_of book = from_entries (map (λ session. (session, list_of session book.journal)) book.names)
+
+-- what holds of every book that lies under a lock: no name is opened twice, each record is of an opened one, and there are
+-- not too many of either
+pub record IsBook (book : Book) : Type 0 where
+  pub once : IsDistinct same book.names
+  pub known : list_all (λ e. is_open e.session book) book.journal ≡ true
+  pub few : length book.names ≤ MAX_SESSIONS
+  pub short : length book.journal ≤ MAX_TRANSACTIONS
 
 -- a session is opened, or the first reason why not, and then nothing changes
 abbrev pub Opens : {U : Type 0} → Book → List ℕ → Result U OpenFault → Book → Type 0

@@ -1,9 +1,9 @@
 //! Whether a copy of the book has exactly what the passes recorded.
-ghost use Rattle.std.specs.Prelude.{◌≡◌, true, false, find, map, not, option_map, Some};
-ghost use Rattle.std.specs.FinMap.{entries, get};
+ghost use Rattle.std.specs.Prelude.{◌≡◌, true, false, option_map, Some};
+ghost use Rattle.std.specs.FinMap.{get};
 ghost use Rattle.std.specs.List.{list_any};
 ghost use Rattle.tcc_txn.specs.Lines.{same};
-ghost use Rattle.tcc_book.specs.Passes.{Agrees, LeastTorn, has_pass, lesser};
+ghost use Rattle.tcc_book.specs.Passes.{Agrees, LeastTorn, first_missing, has_pass, lesser};
 
 use crate::alike::are_same;
 use crate::pass::Pass;
@@ -44,7 +44,7 @@ fn has_pass(passes: &[Pass], session: &Name) -> bool
 
 /// The first session of the snapshot that has no pass.
 pub(crate) fn missing(copy: &Snapshot, passes: &[Pass]) -> Option<Name>
-    ensures { result ≡ find (λ name. not (has_pass passes.now name)) (map (λ e. e.0) (entries copy.now)) }
+    ensures { result ≡ first_missing copy.now passes.now }
 {
     for i in 0..copy.sessions() {
         let Some((name, _)) = copy.session(i) else {

@@ -2,7 +2,7 @@
 ghost use Rattle.std.specs.Prelude.{◌≡◌, ◌<◌, All, IfOk, length, map};
 ghost use Rattle.indexmap.specs.IndexMap.{IsUnique};
 ghost use Rattle.tcc_txn.specs.Lines.{same};
-ghost use Rattle.tcc_book.specs.Books.{Opens, Records, copy_of, no_book};
+ghost use Rattle.tcc_book.specs.Books.{IsBook, Opens, Records, copy_of, no_book};
 ghost use Rattle.tcc_txn.specs.Snapshots.{parts_of};
 ghost use Rattle.tcc_book.specs.BookStorage.{AddsPlace, AreWithin, part_at, txn_at};
 
@@ -96,7 +96,8 @@ impl BookState {
 
     /// Opens a session.
     pub fn open(&mut self, alloc: Global, session: Name) -> Result<(), OpenFault>
-        ensures { Opens self.old session result self.new }
+        ensures opens { Opens self.old session result self.new }
+        ensures lawful { IsBook self.old }
     {
         if let Some(places) = self.places.get(&session) {
             return Err(OpenFault::Taken {
@@ -117,7 +118,8 @@ impl BookState {
     /// Adds a transaction to the journal and to the list of its session, whose pass has recorded so many; a refused one
     /// comes back.
     pub fn record(&mut self, session: &Name, held: u32, txn: Txn) -> Result<(), (RecordFault, Txn)>
-        ensures { Records self.old session.now held txn result self.new }
+        ensures records { Records self.old session.now held txn result self.new }
+        ensures lawful { IsBook self.old }
     {
         let place = self.journal.len();
         if place >= MAX_TRANSACTIONS {
@@ -141,7 +143,8 @@ impl BookState {
 
     /// The map of all sessions to what each recorded. It takes time in proportion to all that is held.
     pub fn copy(&self, alloc: Global) -> Result<Snapshot, NoMemory>
-        ensures { IfOk result (λ copy. copy ≡ copy_of self.now) }
+        ensures copy { IfOk result (λ copy. copy ≡ copy_of self.now) }
+        ensures lawful { IsBook self.now }
     {
         let Ok(copy) = Snapshot::new(parts(alloc, &self.places, &self.journal)?) else {
             unreachable!()

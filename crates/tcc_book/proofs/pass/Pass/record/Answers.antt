@@ -4,7 +4,7 @@ use Rattle.tcc_book.proofs.pass.Pass.record.Goals as goal
 
 pub invariant_of-self-2 : goal.invariant_of-self-2
 invariant_of-self-2 c =
-    let is = c.in_ok-record.ensures in
+    let is = c.in_ok-record.ensures.records in
     let journal = c.args.book.now.journal in
     let session = c.self.inside.session in
     omega (

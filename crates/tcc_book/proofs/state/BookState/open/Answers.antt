@@ -1,7 +1,7 @@
 use Rattle.std.proofs.Common.{rules, ◌≡◌, length, sym, ap, ◌∙◌, arith, is_some, None, Some, refl}
 use Rattle.indexmap.specs.IndexMap.{get, Updates, insert_entry}
 use Rattle.tcc_txn.specs.Lines.{same}
-use Rattle.tcc_book.proofs.Places.{few-places, length-places, open-found, length-keys}
+use Rattle.tcc_book.proofs.Places.{few-places, is-book, length-places, open-found, length-keys}
 use Rattle.tcc_book.proofs.Opened.{opened, opened-names, unchanged}
 use Rattle.tcc_book.proofs.state.BookState.open.Goals as goal
 
@@ -11,8 +11,8 @@ overflow_cast-result c =
     let items = c.self.invariant.each c.args.session list (sym c.in-Some.ensures.value) in
     omega (arith, c.len.ensures, list.ok.0, ap length items, few-places c.args.session 0 c.self.inside.journal.items, c.self.invariant.short)
 
-pub returns-in-Some : goal.returns-in-Some
-returns-in-Some c =
+pub returns-in-Some-clause-opens : goal.returns-in-Some-clause-opens
+returns-in-Some-clause-opens c =
     let list = c.in-Some.places.now in
     let items = c.self.invariant.each c.args.session list (sym c.in-Some.ensures.value) in (
       rw (← c.self.view_is) (open-found c.self.inside.places c.args.session ∙ ap is_some (sym c.in-Some.ensures.value)),
@@ -20,8 +20,8 @@ returns-in-Some c =
       refl,
     )
 
-pub returns-then-len-ge-MAX_SESSIONS : goal.returns-then-len-ge-MAX_SESSIONS
-returns-then-len-ge-MAX_SESSIONS c =
+pub returns-then-len-ge-MAX_SESSIONS-clause-opens : goal.returns-then-len-ge-MAX_SESSIONS-clause-opens
+returns-then-len-ge-MAX_SESSIONS-clause-opens c =
     let none : get same c.self.inside.places c.args.session ≡ None = search rules in
     let many = c.if-len-ge-MAX_SESSIONS.true in
     let names = length-keys c.self.inside.places in (
@@ -44,8 +44,8 @@ invariant_of-self-2 c =
     opened c.self.inside.places c.insert.new.self c.self.inside.journal.items c.args.session c.new.result c.self.invariant none
     (omega (arith, c.len-2.ensures.len, c.if-len-ge-MAX_SESSIONS.false)) c.new.ensures.items updates entries c.insert.ensures.unique
 
-pub returns : goal.returns
-returns c =
+pub returns-clause-opens : goal.returns-clause-opens
+returns-clause-opens c =
     let none : get same c.self.inside.places c.args.session ≡ None = search rules in
     let entries : c.insert.new.self.entries ≡ insert_entry same c.self.inside.places.entries c.args.session c.new.result = search rules in
     let names = length-keys c.self.inside.places in (
@@ -54,3 +54,15 @@ returns c =
       rw (← c.self.view_is) (ap (λ names. record { names = names; journal = c.self.inside.journal.items })
           (opened-names c.self.inside.places c.insert.new.self c.args.session c.new.result none entries)),
     )
+
+pub returns-in-Some-clause-lawful : goal.returns-in-Some-clause-lawful
+returns-in-Some-clause-lawful c = rw (← c.self.view_is) (is-book c.self.inside.places c.self.inside.journal.items c.self.invariant)
+
+pub returns-then-len-ge-MAX_SESSIONS-clause-lawful : goal.returns-then-len-ge-MAX_SESSIONS-clause-lawful
+returns-then-len-ge-MAX_SESSIONS-clause-lawful c = rw (← c.self.view_is) (is-book c.self.inside.places c.self.inside.journal.items c.self.invariant)
+
+pub returns-then-is_err-clause-lawful : goal.returns-then-is_err-clause-lawful
+returns-then-is_err-clause-lawful c = rw (← c.self.view_is) (is-book c.self.inside.places c.self.inside.journal.items c.self.invariant)
+
+pub returns-clause-lawful : goal.returns-clause-lawful
+returns-clause-lawful c = rw (← c.self.view_is) (is-book c.self.inside.places c.self.inside.journal.items c.self.invariant)

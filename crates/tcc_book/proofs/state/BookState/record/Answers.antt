@@ -3,6 +3,7 @@ use Rattle.tcc_txn.specs.declared.limits.TheConstants.{MAX_TRANSACTIONS}
 use Rattle.tcc_book.specs.Books.{Book, Matches, Records}
 use Rattle.tcc_book.specs.BookStorage.{Relists}
 use Rattle.tcc_book.specs.declared.entry.Entry.{Entry}
+use Rattle.tcc_book.proofs.Places.{is-book}
 use Rattle.tcc_book.proofs.Recorded.{kept, matched, recorded, refusal-is, refusal-keeps, shown}
 use Rattle.tcc_book.proofs.state.BookState.record.Goals as goal
 
@@ -13,8 +14,8 @@ invariant_of-self-in-Err c =
     rw (c.reserve.ensures.items) (kept old new c.self.inside.journal.items c.args.session.now c.self.invariant
     (refusal-keeps old new c.args.session.now c.args.held c.len-place.result c.in-Err.fault c.in-Err.ensures))
 
-pub returns-in-Err : goal.returns-in-Err
-returns-in-Err c =
+pub returns-in-Err-clause-records : goal.returns-in-Err-clause-records
+returns-in-Err-clause-records c =
     let journal = c.self.inside.journal.items in
     let room : length journal < MAX_TRANSACTIONS = omega (arith, c.if-place-ge-MAX_TRANSACTIONS.false, c.len-place.ensures, c.self.inside.journal.ok.0) in
     let why = refusal-is c.self.inside.places c.add_place.new.places journal c.args.session.now c.args.held c.len-place.result c.args.txn c.in-Err.fault c.self.invariant room c.in-Err.ensures in
@@ -32,8 +33,8 @@ invariant_of-self-2 c =
     let changed = subst (λ n. Relists c.self.inside.places c.args.session.now is.0 (is.0.items ++ n ∷ []) c.add_place.new.places) place is.2 in
     rw all (recorded c.self.inside.places c.add_place.new.places journal entry is.0 c.self.invariant room changed)
 
-pub returns : goal.returns
-returns c =
+pub returns-clause-records : goal.returns-clause-records
+returns-clause-records c =
     let journal = c.self.inside.journal.items in
     let room : length journal < MAX_TRANSACTIONS = omega (arith, c.if-place-ge-MAX_TRANSACTIONS.false, c.len-place.ensures, c.self.inside.journal.ok.0) in
     let entry : Entry = record { session = c.args.session.now; txn = c.args.txn } in
@@ -46,3 +47,15 @@ returns c =
       matched c.self.inside.places journal c.args.session.now is.0 c.args.held c.self.invariant is.2.found is.1,
       (λ i. record { names = is.2.names i; journal = all i }),
     )
+
+pub returns-then-place-ge-MAX_TRANSACTIONS-clause-lawful : goal.returns-then-place-ge-MAX_TRANSACTIONS-clause-lawful
+returns-then-place-ge-MAX_TRANSACTIONS-clause-lawful c = rw (← c.self.view_is) (is-book c.self.inside.places c.self.inside.journal.items c.self.invariant)
+
+pub returns-then-is_err-clause-lawful : goal.returns-then-is_err-clause-lawful
+returns-then-is_err-clause-lawful c = rw (← c.self.view_is) (is-book c.self.inside.places c.self.inside.journal.items c.self.invariant)
+
+pub returns-in-Err-clause-lawful : goal.returns-in-Err-clause-lawful
+returns-in-Err-clause-lawful c = rw (← c.self.view_is) (is-book c.self.inside.places c.self.inside.journal.items c.self.invariant)
+
+pub returns-clause-lawful : goal.returns-clause-lawful
+returns-clause-lawful c = rw (← c.self.view_is) (is-book c.self.inside.places c.self.inside.journal.items c.self.invariant)
