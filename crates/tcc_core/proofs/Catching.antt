@@ -1,196 +1,159 @@
--- A search that catches up: all ways become known, whatever they cost.
-use Rattle.std.proofs.Common.{◌≡◌, ◌≢◌, ◌<◌, ◌≤◌, ◌+◌, ◌*◌, ◌==◌, ℕ, ◌⊎◌, inl, inr, true, false, List, length, Option, None, Some, get_or, refl, sym, ◌∙◌, subst, arith}
-use Rattle.std.proofs.Math.ListN.{get_or-eq_default}
+-- A search that catches up: all ways within a cap become known.
+use Rattle.std.proofs.Common.{◌≡◌, ◌≢◌, ◌<◌, ◌≤◌, ◌+◌, ℕ, ◌⊎◌, inl, inr, List, length, slice_index, Option, None, Some, refl, sym, ◌∙◌, arith}
 use Rattle.std.proofs.lemmas.Bool.{cases_lt}
-use Rattle.std.proofs.lemmas.Bool.Decides.{eqb_tells}
 use Rattle.tcc_reads.specs.History.{count}
 use Rattle.tcc_graph.specs.Levels.{Judged}
-use Rattle.tcc_graph.specs.Tables.{row_of}
-use Rattle.tcc_derive.specs.Prices.{Tables, IsPricesOf}
-use Rattle.tcc_core.specs.Rows.{in_row}
+use Rattle.tcc_graph.specs.Links.{link_cost}
+use Rattle.tcc_derive.specs.Prices.{Tables, cost_at, IsPricesOf}
+use Rattle.tcc_core.specs.Rows.{in_row, cap_of, IsWithin}
 use Rattle.tcc_core.specs.Searches.{Search, IsSearchOf}
 use Rattle.tcc_core.specs.Frontiers.{HasCome, IsWay}
-use Rattle.tcc_core.specs.Relaxing.{IsBounded, IsCaughtUp, count_joined, way_by, way_on}
-use Rattle.tcc_core.proofs.Lowering.{IsLowered, entry, relaxed_cases, relaxed_way, lowered_old, way_by_link, way_by_none, entry_of_link, link_of_entry, joined_most}
+use Rattle.tcc_core.specs.Offers.{IsLower, IsOffered, IsWayOn, IsWayOver}
+use Rattle.tcc_core.specs.Relaxing.{IsBounded}
+use Rattle.tcc_core.proofs.Costs.{cost_of_link, link_of_cost, cost_few}
+use Rattle.tcc_core.proofs.Lowering.{within_cap, capped_low, within_row}
+use Rattle.tcc_core.proofs.Offered.{lower_least, lower_some, offered_none, offered_then, offered_same}
+use Rattle.tcc_core.proofs.Steps.{floor_small}
 use Rattle.tcc_core.proofs.Frontier.{way_below}
-use Rattle.tcc_near.specs.declared.distances.TheConstants.{NONE}
-use Rattle.tcc_core.specs.declared.relaxing.TheConstants.{NO_WAY}
+use Rattle.tcc_core.specs.declared.queue.TheConstants.{NO_WAY}
 
--- ---- one more from where links lead on
+-- ---- from all that the row has
 
-pub caught_none : (t : Tables) (s : ℕ) (row : List (Option ℕ)) (costs : List ℕ) → IsCaughtUp (λ u c. (u < 0) × (in_row row u ≡ Some c)) t s costs costs
-caught_none t s row costs = record {
-  long = refl;
-  fits = λ u c v come. absurd (omega (arith, come.0));
-  lower = λ v within. omega arith;
-  least = λ u c v come up within. absurd (omega (arith, come.0));
-  attained = λ v within. inl refl;
-}
+-- a way on from what the row has below k
+abbrev pub IsWayBelow : Tables → ℕ → List (Option ℕ) → ℕ → ℕ → ℕ → ℕ → Type 0
+IsWayBelow t s row cap k v n = (u : ℕ) × (d : ℕ) × (u < k) × (in_row row u ≡ Some d) × IsWayOn t s u d cap v n
 
-pub caught_same : (Come More : ℕ → ℕ → Type 0) (t : Tables) (s : ℕ) (old new : List ℕ) → ((u c : ℕ) → Come u c → More u c) → ((u c : ℕ) → More u c → Come u c) → IsCaughtUp Come t s old new → IsCaughtUp More t s old new
-caught_same Come More t s old new into from is = record {
-  long = is.long;
-  fits = λ u c v come. is.fits u c v (from u c come);
-  lower = is.lower;
-  least = λ u c v come up within. is.least u c v (from u c come) up within;
-  attained = λ v within. go v (is.attained v within);
-}
-  where
-    go : (v : ℕ) → (get_or new v 0 ≡ get_or old v 0) ⊎ ((s ≤ v) × (u : ℕ) × (c : ℕ) × Come u c × (get_or new v 0 ≡ way_on t u c v)) → (get_or new v 0 ≡ get_or old v 0) ⊎ ((s ≤ v) × (u : ℕ) × (c : ℕ) × More u c × (get_or new v 0 ≡ way_on t u c v))
-    go v (inl same) = inl same
-    go v (inr (up, u, c, come, way)) = inr (up, u, c, into u c come, way)
+module _ (t : Tables) (s : ℕ) (row : List (Option ℕ)) (cap floor : ℕ) where
+  pub caught_none : (costs : List ℕ) → IsOffered (IsWayBelow t s row cap 0) floor costs costs
+  caught_none costs = offered_none (IsWayBelow t s row cap 0) floor costs (λ v n within (u, d, low, has, way) above. absurd (omega (arith, low)))
 
--- without a cap a way is as cheap as it can be
-way_few : (d link : ℕ) → d < 2147483648 → link ≤ NONE → way_by d link ≤ NO_WAY
-way_few d link small fits = go (eqb_tells link NONE)
-  where
-    go : (((link == NONE) ≡ true) × (link ≡ NONE)) ⊎ (((link == NONE) ≡ false) × (link ≢ NONE)) → way_by d link ≤ NO_WAY
-    go (inl (test, same)) = omega (arith, way_by_none d link same)
-    go (inr (test, other)) = omega (arith, way_by_link d link other)
+  pub caught_next : (k d : ℕ) (old mid new : List ℕ) → in_row row k ≡ Some d → IsOffered (IsWayBelow t s row cap k) floor old mid → IsOffered (IsWayOn t s k d cap) floor mid new → IsOffered (IsWayBelow t s row cap (k + 1)) floor old new
+  caught_next k d old mid new here first then =
+      offered_then (IsWayBelow t s row cap k) (IsWayOn t s k d cap) (IsWayBelow t s row cap (k + 1)) floor old mid new
+      (λ v n (u, c, low, has, way). split v n u c low has way (cases_lt u k))
+      (λ v n (u, c, low, has, way). (u, c, omega (arith, low), has, way))
+      (λ v n way. (k, d, omega arith, here, way))
+      first then
+    where
+      split : (v n u c : ℕ) → u < k + 1 → in_row row u ≡ Some c → IsWayOn t s u c cap v n → (u < k) ⊎ (k ≤ u) → IsWayBelow t s row cap k v n ⊎ IsWayOn t s k d cap v n
+      split v n u c low has way (inl less) = inl (u, c, less, has, way)
+      split v n u c low has way (inr more) =
+          let same : u ≡ k = omega arith in
+          let there : in_row row k ≡ Some c = rw same at has in
+          let equal : c ≡ d = cc in
+          inr (rw (same, equal) at way)
 
-pub caught_more : (Come More : ℕ → ℕ → Type 0) (t : Tables) (s k d : ℕ) (old mid new : List ℕ) → d < 2147483648 → ((x : ℕ) → get_or (row_of t.costs k) x 0 ≤ NONE) → ((u c : ℕ) → Come u c → More u c) → More k d → ((u c : ℕ) → More u c → Come u c ⊎ ((u ≡ k) × (c ≡ d))) → IsCaughtUp Come t s old mid → IsLowered 18446744073709551615 s mid new d (row_of t.costs k) → IsCaughtUp More t s old new
-caught_more Come More t s k d old mid new small fits into there split is lowered = record {
-  long = lowered.long ∙ is.long;
-  fits = λ u c v come. low u c v (split u c come);
-  lower = λ v within. omega (arith, is.lower v within, lowered_old 18446744073709551615 s mid new d (row_of t.costs k) v lowered (omega (arith, is.long, within)));
-  least = λ u c v come up within. least u c v up within (split u c come);
-  attained = λ v within. attained v within (cases_lt v s);
-}
-  where
-    low : (u c v : ℕ) → Come u c ⊎ ((u ≡ k) × (c ≡ d)) → get_or (row_of t.costs u) v 0 ≤ NONE
-    low u c v (inl come) = is.fits u c v come
-    low u c v (inr (same, equal)) = rw same (fits v)
+  pub caught_past : (k : ℕ) (old new : List ℕ) → in_row row k ≡ None → IsOffered (IsWayBelow t s row cap k) floor old new → IsOffered (IsWayBelow t s row cap (k + 1)) floor old new
+  caught_past k old new out is =
+      offered_same (IsWayBelow t s row cap k) (IsWayBelow t s row cap (k + 1)) floor old new
+      (λ v n within (u, d, low, has, way). (u, d, omega (arith, low), has, way))
+      (λ v n within (u, d, low, has, way) above. inl (less v n u d low has way (cases_lt u k)))
+      is
+    where
+      less : (v n u d : ℕ) → u < k + 1 → in_row row u ≡ Some d → IsWayOn t s u d cap v n → (u < k) ⊎ (k ≤ u) → IsWayBelow t s row cap k v n
+      less v n u d low has way (inl under) = (u, d, under, has, way)
+      less v n u d low has way (inr more) =
+          let same : u ≡ k = omega arith in
+          let here : in_row row k ≡ Some d = rw same at has in
+          let none : None ≡ Some d = sym out ∙ here in
+          cc
 
-    now : (v : ℕ) → s ≤ v → v < length old → get_or new v 0 ≤ way_on t k d v
-    now v up within =
-        relaxed_way 18446744073709551615 d (entry t k v) (get_or mid v 0) (get_or new v 0) (lowered.each v up (omega (arith, is.long, within))) (omega arith) (omega (arith, way_few d (entry t k v) small (fits v)))
+  pub caught_row : (k : ℕ) (old new : List ℕ) → length row ≤ k → IsOffered (IsWayBelow t s row cap k) floor old new → IsOffered (IsWayOver t s row cap) floor old new
+  caught_row k old new whole is =
+      offered_same (IsWayBelow t s row cap k) (IsWayOver t s row cap) floor old new
+      (λ v n within (u, d, low, has, way). (u, d, has, way))
+      (λ v n within (u, d, has, way) above. inl (u, d, omega (arith, whole, within_row row u d has), has, way))
+      is
 
-    least : (u c v : ℕ) → s ≤ v → v < length old → Come u c ⊎ ((u ≡ k) × (c ≡ d)) → get_or new v 0 ≤ way_on t u c v
-    least u c v up within (inl come) = omega (arith, is.least u c v come up within, lowered_old 18446744073709551615 s mid new d (row_of t.costs k) v lowered (omega (arith, is.long, within)))
-    least u c v up within (inr (same, equal)) = rw (same, equal) (now v up within)
+  -- ---- and from the start
 
-    before : (v : ℕ) → get_or new v 0 ≡ get_or mid v 0 → (get_or mid v 0 ≡ get_or old v 0) ⊎ ((s ≤ v) × (u : ℕ) × (c : ℕ) × Come u c × (get_or mid v 0 ≡ way_on t u c v)) → (get_or new v 0 ≡ get_or old v 0) ⊎ ((s ≤ v) × (u : ℕ) × (c : ℕ) × More u c × (get_or new v 0 ≡ way_on t u c v))
-    before v same (inl kept) = inl (same ∙ kept)
-    before v same (inr (up, u, c, come, way)) = inr (up, u, c, into u c come, same ∙ way)
+  -- a way on from where the search has come to
+  abbrev pub IsWayCome : ℕ → ℕ → Type 0
+  IsWayCome v n = (u : ℕ) × (d : ℕ) × HasCome s row u d × IsWayOn t s u d cap v n
 
-    by : (v : ℕ) → s ≤ v → v < length old → (get_or new v 0 ≡ get_or mid v 0) ⊎ (get_or new v 0 ≡ way_by d (get_or (row_of t.costs k) v 0)) → (get_or new v 0 ≡ get_or old v 0) ⊎ ((s ≤ v) × (u : ℕ) × (c : ℕ) × More u c × (get_or new v 0 ≡ way_on t u c v))
-    by v up within (inl same) = before v same (is.attained v within)
-    by v up within (inr way) = inr (up, k, d, there, way)
+  pub caught_both : (old mid new : List ℕ) → IsOffered (IsWayOn t s s 0 cap) floor old mid → IsOffered (IsWayOver t s row cap) floor mid new → IsOffered IsWayCome floor old new
+  caught_both old mid new first then =
+      offered_then (IsWayOn t s s 0 cap) (IsWayOver t s row cap) IsWayCome floor old mid new
+      (λ v n (u, d, come, way). split v n u d way come)
+      (λ v n way. (s, 0, inl (refl, refl), way))
+      (λ v n (u, d, has, way). (u, d, inr has, way))
+      first then
+    where
+      split : (v n u d : ℕ) → IsWayOn t s u d cap v n → HasCome s row u d → IsWayOn t s s 0 cap v n ⊎ IsWayOver t s row cap v n
+      split v n u d way (inl (same, nothing)) = inl (rw (same, nothing) at way)
+      split v n u d way (inr has) = inr (u, d, has, way)
 
-    attained : (v : ℕ) → v < length old → (v < s) ⊎ (s ≤ v) → (get_or new v 0 ≡ get_or old v 0) ⊎ ((s ≤ v) × (u : ℕ) × (c : ℕ) × More u c × (get_or new v 0 ≡ way_on t u c v))
-    attained v within (inl down) = before v (lowered.kept v down) (is.attained v within)
-    attained v within (inr up) = by v up within (relaxed_cases 18446744073709551615 d (entry t k v) (get_or mid v 0) (get_or new v 0) (lowered.each v up (omega (arith, is.long, within))))
-
--- the next of the row, which has it at d
-pub caught_next : (t : Tables) (s k d : ℕ) (row : List (Option ℕ)) (old mid new : List ℕ) → d < 2147483648 → ((x : ℕ) → get_or (row_of t.costs k) x 0 ≤ NONE) → in_row row k ≡ Some d → IsCaughtUp (λ u c. (u < k) × (in_row row u ≡ Some c)) t s old mid → IsLowered 18446744073709551615 s mid new d (row_of t.costs k) → IsCaughtUp (λ u c. (u < k + 1) × (in_row row u ≡ Some c)) t s old new
-caught_next t s k d row old mid new small fits there is lowered =
-    caught_more (λ u c. (u < k) × (in_row row u ≡ Some c)) (λ u c. (u < k + 1) × (in_row row u ≡ Some c)) t s k d old mid new small fits (λ u c (low, inside). (omega arith, inside)) (omega arith, there) (λ u c (low, inside). split u c low inside (cases_lt u k)) is lowered
-  where
-    split : (u c : ℕ) → u < k + 1 → in_row row u ≡ Some c → (u < k) ⊎ (k ≤ u) → ((u < k) × (in_row row u ≡ Some c)) ⊎ ((u ≡ k) × (c ≡ d))
-    split u c low inside (inl less) = inl (less, inside)
-    split u c low inside (inr more) =
-        let same : u ≡ k = omega arith in
-        let here : in_row row k ≡ Some c = rw same at inside in
-        inr (same, cc)
-
--- the next stands outside
-pub caught_past : (t : Tables) (s k : ℕ) (row : List (Option ℕ)) (old new : List ℕ) → in_row row k ≡ None → IsCaughtUp (λ u c. (u < k) × (in_row row u ≡ Some c)) t s old new → IsCaughtUp (λ u c. (u < k + 1) × (in_row row u ≡ Some c)) t s old new
-caught_past t s k row old new out is =
-    caught_same (λ u c. (u < k) × (in_row row u ≡ Some c)) (λ u c. (u < k + 1) × (in_row row u ≡ Some c)) t s old new (λ u c (low, inside). (omega arith, inside)) (λ u c (low, inside). (less u c low inside (cases_lt u k), inside)) is
-  where
-    less : (u c : ℕ) → u < k + 1 → in_row row u ≡ Some c → (u < k) ⊎ (k ≤ u) → u < k
-    less u c low inside (inl under) = under
-    less u c low inside (inr more) =
-        let same : u ≡ k = omega arith in
-        let here : in_row row k ≡ Some c = rw same at inside in
-        let none : None ≡ Some c = sym out ∙ here in
-        cc
-
-pub caught_row : (t : Tables) (s n : ℕ) (row : List (Option ℕ)) (old new : List ℕ) → length row ≤ n → IsCaughtUp (λ u c. (u < n) × (in_row row u ≡ Some c)) t s old new → IsCaughtUp (λ u c. in_row row u ≡ Some c) t s old new
-caught_row t s n row old new whole is =
-    caught_same (λ u c. (u < n) × (in_row row u ≡ Some c)) (λ u c. in_row row u ≡ Some c) t s old new (λ u c (low, inside). inside) (λ u c inside. (within u c inside (cases_lt u (length row)), inside)) is
-  where
-    within : (u c : ℕ) → in_row row u ≡ Some c → (u < length row) ⊎ (length row ≤ u) → u < n
-    within u c inside (inl low) = omega (arith, low, whole)
-    within u c inside (inr past) =
-        let none : in_row row u ≡ None = get_or-eq_default row None past in
-        cc
-
--- and the start
-pub caught_start : (t : Tables) (s : ℕ) (row : List (Option ℕ)) (old mid new : List ℕ) → ((x : ℕ) → get_or (row_of t.costs s) x 0 ≤ NONE) → IsCaughtUp (λ u c. in_row row u ≡ Some c) t s old mid → IsLowered 18446744073709551615 s mid new 0 (row_of t.costs s) → IsCaughtUp (HasCome s row) t s old new
-caught_start t s row old mid new fits is lowered =
-    caught_more (λ u c. in_row row u ≡ Some c) (HasCome s row) t s s 0 old mid new (omega arith) fits (λ u c inside. inr inside) (inl (refl, refl)) (λ u c come. split u c come) is lowered
-  where
-    split : (u c : ℕ) → HasCome s row u c → (in_row row u ≡ Some c) ⊎ ((u ≡ s) × (c ≡ 0))
-    split u c (inl start) = inr start
-    split u c (inr inside) = inl inside
+  pub caught_first : (old new : List ℕ) → ((u d : ℕ) → in_row row u ≡ Some d → ⊥) → IsOffered (IsWayOn t s s 0 cap) floor old new → IsOffered IsWayCome floor old new
+  caught_first old new nobody is =
+      offered_same (IsWayOn t s s 0 cap) IsWayCome floor old new
+      (λ v n within way. (s, 0, inl (refl, refl), way))
+      (λ v n within (u, d, come, way) above. inl (at_start v n u d way come))
+      is
+    where
+      at_start : (v n u d : ℕ) → IsWayOn t s u d cap v n → HasCome s row u d → IsWayOn t s s 0 cap v n
+      at_start v n u d way (inl (same, nothing)) = rw (same, nothing) at way
+      at_start v n u d way (inr has) = absurd (nobody u d has)
 
 -- ---- what is known then
 
-come_small : (search : Search) (u c : ℕ) → IsBounded search → HasCome search.start search.row u c → c ≤ NONE * count_joined search.row
-come_small search u c is (inl (same, nothing)) = omega (arith, nothing)
-come_small search u c is (inr inside) = is.joined u c inside
-
-pub bounded_caught : (search : Search) (t : Tables) (new : List ℕ) (limit : ℕ) → IsBounded search → IsCaughtUp (HasCome search.start search.row) t search.start search.costs new → IsBounded (record { start = search.start; row = search.row; costs = new; limit = limit })
-bounded_caught search t new limit is caught = record {
+pub bounded_caught : (search : Search) (floor cap : ℕ) (new : List ℕ) → IsBounded search floor → search.limit ≤ cap → IsLower floor search.costs new → IsBounded (record { start = search.start; row = search.row; costs = new; limit = cap }) floor
+bounded_caught search floor cap new is more lower = record {
   below = is.below;
   few = is.few;
-  long = caught.long ∙ is.long;
-  joined = is.joined;
-  bounded = λ v within some. bound v within some (caught.attained v (omega (arith, is.long, within)));
+  long = lower.long ∙ is.long;
+  joined = λ v c e. joined v c e;
+  outside = λ v inside out. lower_some floor search.costs new v lower (omega (arith, is.long, inside)) (is.outside v inside out);
+  spent = is.spent;
+  known = omega (arith, is.known, more);
 }
   where
-    linked : (u c v : ℕ) → c ≤ NONE * count_joined search.row → get_or (row_of t.costs u) v 0 ≤ NONE → get_or new v 0 ≢ NO_WAY → get_or new v 0 ≡ way_on t u c v → (((entry t u v == NONE) ≡ true) × (entry t u v ≡ NONE)) ⊎ (((entry t u v == NONE) ≡ false) × (entry t u v ≢ NONE)) → get_or new v 0 ≤ NONE * (count_joined search.row + 1)
-    linked u c v few fits some way (inl (test, none)) = absurd (some (way ∙ way_by_none c (entry t u v) none))
-    linked u c v few fits some way (inr (test, other)) = omega (arith, way, way_by_link c (entry t u v) other, few, fits)
-
-    bound : (v : ℕ) → v < length search.row → get_or new v 0 ≢ NO_WAY → (get_or new v 0 ≡ get_or search.costs v 0) ⊎ ((search.start ≤ v) × (u : ℕ) × (c : ℕ) × HasCome search.start search.row u c × (get_or new v 0 ≡ way_on t u c v)) → get_or new v 0 ≤ NONE * (count_joined search.row + 1)
-    bound v within some (inl same) = omega (arith, same, is.bounded v within (λ e. some (same ∙ e)))
-    bound v within some (inr (up, u, c, come, way)) = linked u c v (come_small search u c is come) (caught.fits u c v come) some way (eqb_tells (entry t u v) NONE)
+    joined : (v c : ℕ) → in_row search.row v ≡ Some c → (0 < c) × (c ≤ floor) × (slice_index new v ≡ 0)
+    joined v c e =
+        let (some, low, zero) = is.joined v c e in
+        (some, low, omega (arith, zero, lower_least floor search.costs new v lower (omega (arith, is.long, within_row search.row v c e))))
 
 come_below : (j : Judged) (s : ℕ) (search : Search) (u c : ℕ) → IsSearchOf j s search → HasCome s search.row u c → u < count j.history
 come_below j s search u c is (inl (same, nothing)) = omega (arith, same, is.below)
-come_below j s search u c is (inr inside) = go (cases_lt u (length search.row))
-  where
-    go : (u < length search.row) ⊎ (length search.row ≤ u) → u < count j.history
-    go (inl low) = omega (arith, low, is.row.long)
-    go (inr past) =
-        let none : in_row search.row u ≡ None = get_or-eq_default search.row None past in
-        cc
+come_below j s search u c is (inr inside) = omega (arith, within_row search.row u c inside, is.row.long)
 
-pub search_caught : (j : Judged) (t : Tables) (s : ℕ) (search : Search) (new : List ℕ) (limit : ℕ) → IsPricesOf j t → IsBounded search → IsCaughtUp (HasCome search.start search.row) t search.start search.costs new → IsSearchOf j s search → IsSearchOf j s (record { start = search.start; row = search.row; costs = new; limit = limit })
-search_caught j t s search new limit priced bounds starts is = record {
+come_small : (s : ℕ) (search : Search) (floor u c : ℕ) → IsBounded search floor → HasCome s search.row u c → c < 2147483648
+come_small s search floor u c is (inl (same, nothing)) = omega (arith, nothing)
+come_small s search floor u c is (inr inside) = omega (arith, (is.joined u c inside).1, floor_small search floor is)
+
+pub search_caught : (j : Judged) (t : Tables) (s : ℕ) (search : Search) (floor cap : ℕ) (new : List ℕ) → IsPricesOf j t → IsBounded search floor → IsSearchOf j s search → IsOffered (IsWayCome t s search.row cap floor) floor search.costs new → IsSearchOf j s (record { start = search.start; row = search.row; costs = new; limit = cap })
+search_caught j t s search floor cap new priced bounds is caught = record {
   start = is.start;
   below = is.below;
   row = is.row;
   frontier = record {
-    long = caught.long ∙ is.frontier.long;
-    attained = λ v within out some. attained v within out some (caught.attained v (omega (arith, is.frontier.long, within)));
-    least = λ v n out way within. least v n (way_below j s search.row v n way) way;
+    long = caught.lower.long ∙ is.frontier.long;
+    attained = λ v within out some. attained v within out some (caught.from v (omega (arith, is.frontier.long, within)));
+    least = λ v n out way within. least v n out within (way_below j s search.row v n way) way;
   };
 }
   where
-    caught : IsCaughtUp (HasCome s search.row) t s search.costs new
-    caught = subst (λ (z : ℕ). IsCaughtUp (HasCome z search.row) t z search.costs new) is.start starts
-
-    linked : (u c v : ℕ) → s ≤ v → v < count j.history → HasCome s search.row u c → get_or new v 0 ≢ NO_WAY → get_or new v 0 ≡ way_on t u c v → (((entry t u v == NONE) ≡ true) × (entry t u v ≡ NONE)) ⊎ (((entry t u v == NONE) ≡ false) × (entry t u v ≢ NONE)) → IsWay j s search.row v (get_or new v 0)
-    linked u c v up within come some way (inl (test, none)) = absurd (some (way ∙ way_by_none c (entry t u v) none))
-    linked u c v up within come some way (inr (test, other)) =
-        let (l, leads, paid) = link_of_entry j t u v priced (come_below j s search u c is come) within other in
-        (up, u, c, l, come, leads, omega (arith, paid, way, way_by_link c (entry t u v) other))
-
-    attained : (v : ℕ) → v < count j.history → in_row search.row v ≡ None → get_or new v 0 ≢ NO_WAY → (get_or new v 0 ≡ get_or search.costs v 0) ⊎ ((s ≤ v) × (u : ℕ) × (c : ℕ) × HasCome s search.row u c × (get_or new v 0 ≡ way_on t u c v)) → IsWay j s search.row v (get_or new v 0)
+    attained : (v : ℕ) → v < count j.history → in_row search.row v ≡ None → slice_index new v ≢ NO_WAY → (slice_index new v ≡ slice_index search.costs v) ⊎ IsWayCome t s search.row cap floor v (slice_index new v) → IsWay j s search.row v (slice_index new v)
     attained v within out some (inl same) = rw same (is.frontier.attained v within out (λ e. some (same ∙ e)))
-    attained v within out some (inr (up, u, c, come, way)) = linked u c v up within come some way (eqb_tells (entry t u v) NONE)
+    attained v within out some (inr (u, d, come, (up, c, has, low, equal))) =
+        let (l, leads, paid) = link_of_cost j t u v priced (come_below j s search u d is come) within c has in
+        (up, u, d, l, come, leads, omega (arith, paid, equal))
 
-    few : (u c : ℕ) → HasCome s search.row u c → c < 2147483648
-    few u c come =
-        let there : HasCome search.start search.row u c = rw is.start come in
-        omega (arith, come_small search u c bounds there, joined_most search.row, bounds.few)
-
-    least : (v n : ℕ) → v < count j.history → IsWay j s search.row v n → (get_or new v 0 < NO_WAY) × (get_or new v 0 ≤ n)
-    least v n within (up, u, c, l, come, leads, costs) =
-        let found = entry_of_link j t u v l priced (come_below j s search u c is come) within leads in
-        let low = caught.least u c v come up (omega (arith, is.frontier.long, within)) in
-        let way = way_by_link c (entry t u v) found.0 in
-        (omega (arith, low, way, few u c come, caught.fits u c v come), omega (arith, low, way, found.1, costs))
+    least : (v n : ℕ) → in_row search.row v ≡ None → IsWithin (cap_of cap) n → v < count j.history → IsWay j s search.row v n → (slice_index new v < NO_WAY) × (slice_index new v ≤ n)
+    least v n out capped within (up, u, d, l, come, leads, costs) =
+        let from = come_below j s search u d is come in
+        let (c, has, cheap) = cost_of_link j t u v priced from within l leads in
+        let few = cost_few j t u v priced from within c has in
+        let small = come_small s search floor u d bounds come in
+        let low : d + c ≤ cap = capped_low cap (d + c) n (omega (arith, cheap, costs)) (omega (arith, small, few, bounds.few, is.row.long)) capped in
+        let found = by c has low few small from (cases_lt floor (d + c)) in
+        (found.0, omega (arith, found.1, cheap, costs))
+      where
+        by : (c : ℕ) → cost_at t u v ≡ Some c → d + c ≤ cap → c ≤ count j.history + 1 → d < 2147483648 → u < count j.history → (floor < d + c) ⊎ (d + c ≤ floor) → (slice_index new v < NO_WAY) × (slice_index new v ≤ d + c)
+        by c has low few small from (inl above) =
+            let under = caught.least v (d + c) (omega (arith, is.frontier.long, within)) (u, d, come, (up, c, has, low, refl)) above in
+            (omega (arith, under, small, few, bounds.few, is.row.long), under)
+        by c has low few small from (inr down) =
+            let (cheapest, leads_on, paid) = link_of_cost j t u v priced from within c has in
+            let known = is.frontier.least v (d + link_cost cheapest) out (up, u, d, cheapest, come, leads_on, refl) (within_cap search.limit (d + link_cost cheapest) (omega (arith, paid, down, bounds.known))) in
+            let lower = lower_least floor search.costs new v caught.lower (omega (arith, is.frontier.long, within)) in
+            (omega (arith, known.0, lower), omega (arith, known.1, lower, paid))

@@ -1,4 +1,8 @@
 pub mod Filing
+pub mod Offered
+pub mod Marking
+pub mod Costs
+pub mod LedOn
 pub mod RingHomes
 pub mod RingPairs
 pub mod RingCalls
@@ -7,8 +11,6 @@ pub mod Frontier
 pub mod Lowering
 pub mod Steps
 pub mod Catching
-pub mod Floor
-pub mod Blocks
 pub mod Ending
 pub mod Rounds
 pub mod Worked

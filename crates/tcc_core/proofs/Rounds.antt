@@ -22,9 +22,9 @@ use Rattle.tcc_derive.proofs.CostLemmas.{link_of}
 use Rattle.tcc_core.specs.Shares.{IsCycleCost}
 use Rattle.tcc_core.specs.Seeds.{IsSeed, HasNoSeed}
 use Rattle.tcc_core.specs.Closing.{closing, closing_at, IsLeastOf}
-use Rattle.tcc_core.proofs.Lowering.{entry_of_link, link_of_entry}
+use Rattle.tcc_core.proofs.Costs.{cost_of_link, link_of_cost}
 use Rattle.tcc_near.specs.declared.distances.TheConstants.{NONE}
-use Rattle.tcc_core.specs.declared.relaxing.TheConstants.{NO_WAY}
+use Rattle.tcc_core.specs.declared.queue.TheConstants.{NO_WAY}
 use Rattle.tcc_txn.specs.declared.limits.TheConstants.{MAX_COUNT}
 
 -- ---- the least of two regions
@@ -100,9 +100,9 @@ step_path j k t s one other is =
     let ends = step_below j.history s is in
     let (l, leads, single) = step_link j s is in
     let same = same_count j k t one other in
-    let low = entry_of_link j t (step_from s) (step_to s) l one ends.0 ends.1 leads in
-    let (m, there, paid) = link_of_entry k t (step_from s) (step_to s) other (omega (arith, same, ends.0)) (omega (arith, same, ends.1)) low.0 in
-    (m, there, omega (arith, paid, low.1, single, some_cost m))
+    let (c, has, low) = cost_of_link j t (step_from s) (step_to s) one ends.0 ends.1 l leads in
+    let (m, there, paid) = link_of_cost k t (step_from s) (step_to s) other (omega (arith, same, ends.0)) (omega (arith, same, ends.1)) c has in
+    (m, there, omega (arith, paid, low, single, some_cost m))
 
 walk_path : (j k : Judged) (t : Tables) → IsPricesOf j t → IsPricesOf k t → (a b : ℕ) (walk : List Step) → Leads j.history a b walk → HasPath k a b (length walk)
 walk_path j k t one other a b [] leads = ([], leads, refl)

@@ -12,13 +12,12 @@ use Rattle.tcc_graph.specs.declared.link.Link.{Link}
 use Rattle.tcc_graph.specs.declared.link.Link.TheVariants as link
 use Rattle.tcc_core.specs.Rows.{in_row, cap_of, JoinsNearest}
 use Rattle.tcc_core.specs.Searches.{Settles}
-use Rattle.tcc_core.specs.Relaxing.{way_by, lesser, count_joined}
+use Rattle.tcc_core.specs.Queues.{offered}
+use Rattle.tcc_core.specs.Relaxing.{count_joined}
 use Rattle.tcc_core.specs.Shares.{Share, Finished, Returned, Cut, IsNotAbove, IsStopped, IsFinished, IsCycleCost, starts_of, SettleAt, capped}
 use Rattle.tcc_core.specs.declared.settled.Settled.TheVariants as settled
 use Rattle.tcc_graph.proofs.Linking.{cost_cons, some_cost}
 use Rattle.tcc_graph.proofs.Pairs.{link_below}
-use Rattle.tcc_near.specs.declared.distances.TheConstants.{NONE}
-use Rattle.tcc_core.specs.declared.relaxing.TheConstants.{NO_WAY}
 use Rattle.tcc_graph.proofs.Worked.{stale_read, stale_cycle, stale_read-cycle}
 
 -- ---- rows, caps and words
@@ -41,14 +40,11 @@ cap_of-less = refl
 count_joined-two : count_joined (Some 0 ∷ None ∷ Some 4 ∷ []) ≡ 2
 count_joined-two = refl
 
-way_by-link : way_by 3 2 ≡ 5
-way_by-link = refl
+offered-less : offered 3 (9 ∷ 0 ∷ []) 0 4 ≡ 4 ∷ 0 ∷ []
+offered-less = refl
 
-way_by-none : way_by 3 NONE ≡ NO_WAY
-way_by-none = refl
-
-lesser-two : (lesser 3 2 ≡ 2) × (lesser 2 3 ≡ 2)
-lesser-two = (refl, refl)
+offered-settled : offered 3 (9 ∷ 0 ∷ []) 1 4 ≡ 9 ∷ 0 ∷ []
+offered-settled = refl
 
 capped-below : (capped (Some 3) (Some 2) ≡ Some 2) × (capped (Some 3) (Some 3) ≡ Some 3)
 capped-below = (refl, refl)

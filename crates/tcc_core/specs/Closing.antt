@@ -5,7 +5,7 @@ use Rattle.tcc_graph.specs.Tables.{row_of}
 use Rattle.tcc_near.specs.Distances.{NearTable}
 use Rattle.tcc_derive.specs.Prices.{Tables}
 use Rattle.tcc_near.specs.declared.distances.TheConstants.{NONE}
-use Rattle.tcc_core.specs.declared.relaxing.TheConstants.{NO_WAY}
+use Rattle.tcc_core.specs.declared.queue.TheConstants.{NO_WAY}
 
 -- so many steps from a to b, and the price back; the steps alone where b is a
 abbrev pub closing : ℕ → ℕ → ℕ → ℕ → ℕ

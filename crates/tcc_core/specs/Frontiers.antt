@@ -7,7 +7,7 @@ use Rattle.tcc_graph.specs.Links.{link_cost}
 use Rattle.tcc_graph.specs.declared.link.Link.{Link}
 use Rattle.tcc_derive.specs.Prices.{IsLinkOf}
 use Rattle.tcc_core.specs.Rows.{in_row, cap_of, IsWithin}
-use Rattle.tcc_core.specs.declared.relaxing.TheConstants.{NO_WAY}
+use Rattle.tcc_core.specs.declared.queue.TheConstants.{NO_WAY}
 
 -- the search has come to u at this cost: u is the start, or the row has it
 abbrev pub HasCome : ℕ → List (Option ℕ) → ℕ → ℕ → Type 0

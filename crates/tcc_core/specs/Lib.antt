@@ -8,3 +8,4 @@ pub mod Closing
 pub mod Rings
 pub mod RingLinks
 pub mod Queues
+pub mod Offers

@@ -2,9 +2,11 @@
 //! cycle.
 #![tactic(auto)]
 
+mod again;
 pub mod laws;
+mod leading;
+mod offering;
 mod queue;
-mod relaxing;
 mod ring;
 mod search;
 mod seeding;

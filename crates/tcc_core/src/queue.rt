@@ -135,6 +135,7 @@ impl Queue {
         requires { IsNearest self.old.costs v }
         ensures costs { self.new.costs ≡ slice_set self.old.costs v 0 }
         ensures floor { self.new.floor ≡ slice_index self.old.costs v }
+        ensures rises { self.old.floor ≤ self.new.floor }
     {
         self.floor = self.costs[v as usize];
         self.ring.take(v);
@@ -162,14 +163,6 @@ impl Queue {
         ensures { result ≡ self.now.floor }
     {
         self.floor
-    }
-
-    /// The cost at which a transaction is open.
-    pub(crate) fn cost(&self, v: u32) -> u32
-        requires { v < length self.now.costs }
-        ensures { result ≡ slice_index self.now.costs v }
-    {
-        self.costs[v as usize]
     }
 
     /// The transactions to which a way was offered, and perhaps others.

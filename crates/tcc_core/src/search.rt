@@ -3,10 +3,10 @@ ghost use Rattle.std.specs.Prelude.{◌≡◌, ◌<◌, ◌≤◌, ℕ, length, 
 ghost use Rattle.tcc_graph.specs.Levels.{Judged};
 ghost use Rattle.tcc_derive.specs.Prices.{IsPricesOf};
 ghost use Rattle.tcc_txn.specs.declared.limits.TheConstants.{MAX_COUNT};
-ghost use Rattle.tcc_graph.specs.Tables.{row_of};
 
 use crate::Settled;
-use crate::relaxing::{NO_WAY, empty, forget, nearest_from, relax, relax_row};
+use crate::again::{empty, lead_on_again};
+use crate::leading::Frontier;
 use std::alloc::Global;
 use std::marker::Model;
 use tcc_derive::Prices;
@@ -18,28 +18,20 @@ use tcc_txn::NoMemory;
 pub struct Search {
     start: u32,
     row: Vec<Option<u32>>,
-    costs: Vec<u32>,
-    /// No way to a transaction outside the row costs less.
-    floor: u32,
-    /// From this place on transactions outside the row are looked for that cost as much as the floor.
-    place: u32,
-    /// For each block of transactions a cost that none of them from the start upward is above.
-    most: Vec<u32>,
-    /// All ways are known that cost at most this; `u64::MAX` is no limit.
+    frontier: Frontier,
+    /// All ways are known that cost at most this; `u64::MAX` is no limit. At the opening none is.
     limit: u64,
 }
 
 impl Model for Search {
-    ghost use Rattle.std.specs.Prelude.{length};
-    ghost use Rattle.tcc_core.specs.Relaxing.{IsBounded, IsFloor, IsMost};
+    ghost use Rattle.tcc_core.specs.Relaxing.{IsBounded};
     ghost use Rattle.tcc_core.specs.Searches as searches;
 
     ghost Value = { searches.Search };
 
-    ghost view = { λ s. record { start = s.start; row = s.row.items; costs = s.costs.items; limit = s.limit } };
+    ghost view = { λ s. record { start = s.start; row = s.row.items; costs = s.frontier.costs; limit = s.limit } };
 
-    ghost invariant = { λ s. IsBounded (record { start = s.start; row = s.row.items; costs = s.costs.items; limit = s.limit })
-        × (IsFloor s.start s.place s.floor s.row.items s.costs.items × IsMost s.start s.most.items s.costs.items) };
+    ghost invariant = { λ s. IsBounded (record { start = s.start; row = s.row.items; costs = s.frontier.costs; limit = s.limit }) s.frontier.floor };
 }
 
 impl Search {
@@ -54,28 +46,14 @@ impl Search {
         ensures empty { IfOk result (λ search. IsEmptyRow (length prices.now.prices) search.row) }
         ensures search { (j : Judged) → IsPricesOf j prices.now → IfOk result (IsSearchOf j start) }
     {
-        let count = prices.count() as usize;
-        let mut costs = vec![in alloc; NO_WAY; count]?;
-        let least = prices.least_costs(start);
-        let mut most = vec![in alloc; NO_WAY; least.len()]?;
-        relax(
-            start,
-            &mut costs,
-            0,
-            prices.costs(start),
-            least,
-            u64::MAX,
-            &mut most,
-        );
-        let row = vec![in alloc; None; count]?;
+        let count = prices.count();
+        let frontier = Frontier::begin(alloc, count)?;
+        let row = vec![in alloc; None; count as usize]?;
         Ok(Search {
             start,
             row,
-            costs,
-            floor: 0,
-            place: count as u32,
-            most,
-            limit: u64::MAX,
+            frontier,
+            limit: 0,
         })
     }
 
@@ -88,17 +66,10 @@ impl Search {
         ensures empty { IsEmptyRow (length prices.now.prices) self.new.row }
         ensures search { (j : Judged) → IsPricesOf j prices.now → IsSearchOf j start self.new }
     {
-        empty(&mut self.row);
-        let costs = self.costs.as_mut_slice();
-        forget(costs);
-        let most = self.most.as_mut_slice();
-        forget(most);
-        let least = prices.least_costs(start);
-        relax(start, costs, 0, prices.costs(start), least, u64::MAX, most);
+        empty(self.frontier.reached(), &mut self.row);
+        self.frontier.clear();
         self.start = start;
-        self.limit = u64::MAX;
-        self.floor = 0;
-        self.place = prices.count();
+        self.limit = 0;
     }
 
     /// Takes one of the nearest transactions outside the row into it, if its distance is at most the cap. A cap of
@@ -112,32 +83,29 @@ impl Search {
             → Settles j s cap self.old.row self.new.row result }
     {
         if cap > self.limit {
-            self.catch_up(prices);
+            self.catch_up(prices, cap);
         }
         self.step(prices, cap)
     }
 
-    /// Makes all ways known, whatever they cost.
-    fn catch_up(&mut self, prices: &Prices)
-        requires { length self.old.row ≡ length prices.now.prices }
+    /// Makes all ways known that cost at most a cap above the limit: those from the start, and from all that has joined.
+    fn catch_up(&mut self, prices: &Prices, cap: u64)
+        requires long { length self.old.row ≡ length prices.now.prices }
+        requires above { self.old.limit < cap }
         ensures start { self.new.start ≡ self.old.start }
         ensures row { self.new.row ≡ self.old.row }
-        ensures limit { self.new.limit ≡ 18446744073709551615 }
+        ensures limit { self.new.limit ≡ cap }
         ensures search { (j : Judged) (s : ℕ) → IsPricesOf j prices.now → IsSearchOf j s self.old → IsSearchOf j s self.new }
     {
         let start = self.start;
-        let costs = self.costs.as_mut_slice();
-        let most = self.most.as_mut_slice();
-        relax_row(start, &self.row, costs, prices, most);
-        let links = prices.costs(start);
-        let least = prices.least_costs(start);
-        relax(start, costs, 0, links, least, u64::MAX, most);
-        self.limit = u64::MAX;
-        self.floor = 0;
-        self.place = prices.count();
+        self.frontier.lead_on(prices, start, start, 0, cap);
+        if self.limit > 0 {
+            lead_on_again(&mut self.frontier, &self.row, prices, start, cap);
+        }
+        self.limit = cap;
     }
 
-    /// What `settle` does where all ways that cost at most the cap are known.
+    /// What `settle` does where all ways that cost at most the cap are known. The start was led on from at the opening.
     fn step(&mut self, prices: &Prices, cap: u64) -> Settled
         requires long { length self.old.row ≡ length prices.now.prices }
         requires known { cap ≤ self.old.limit }
@@ -147,32 +115,18 @@ impl Search {
         ensures settled { (j : Judged) (s : ℕ) → IsPricesOf j prices.now → IsSearchOf j s self.old
             → Settles j s cap self.old.row self.new.row result }
     {
-        let Some(next) = nearest_from(self.start, self.place, self.floor, &self.row, &self.costs)
-        else {
+        let Some(next) = self.frontier.nearest(cap) else {
             return Settled::Cut(cap);
         };
-        let distance = self.costs[next as usize];
-        if distance as u64 > cap {
-            return Settled::Cut(cap);
-        }
+        let start = self.start;
+        let distance = self.frontier.settle(next);
         self.row[next as usize] = Some(distance);
-        relax(
-            self.start,
-            &mut self.costs,
-            distance,
-            prices.costs(next),
-            prices.least_costs(next),
-            cap,
-            &mut self.most,
-        );
         self.limit = cap;
-        self.floor = distance;
-        self.place = next + 1;
-        if next == self.start {
-            Settled::Returned(distance)
-        } else {
-            Settled::More
+        if next == start {
+            return Settled::Returned(distance);
         }
+        self.frontier.lead_on(prices, start, next, distance, cap);
+        Settled::More
     }
 
     /// The start.

@@ -8,9 +8,9 @@ ghost use Rattle.tcc_core.specs.Seeds.{IsSeed, HasNoSeed};
 ghost use Rattle.tcc_core.specs.Closing.{closing, closing_at, IsLeastOf};
 ghost use Rattle.tcc_txn.specs.declared.limits.TheConstants.{MAX_COUNT};
 ghost use Rattle.tcc_near.specs.declared.distances.TheConstants.{NONE};
-ghost use Rattle.tcc_core.specs.declared.relaxing.TheConstants.{NO_WAY};
+ghost use Rattle.tcc_core.specs.declared.queue.TheConstants.{NO_WAY};
 
-use crate::relaxing::NO_WAY;
+use crate::queue::NO_WAY;
 use tcc_derive::Prices;
 use tcc_near::{NONE, Near};
 

@@ -1,7 +1,6 @@
-use Rattle.std.proofs.Common.{◌≡◌, ◌≢◌, ◌<◌, ◌≤◌, ◌+◌, length, slice_index, replicate, inl, refl, arith}
+use Rattle.std.proofs.Common.{◌≡◌, length, replicate, inl, arith}
 use Rattle.std.proofs.lemmas.List.{get_or-replicate, length-replicate}
 use Rattle.tcc_core.proofs.Filing.{listed_none}
-use Rattle.tcc_core.specs.declared.ring.TheConstants.{BUCKETS, NOWHERE}
 use Rattle.tcc_core.specs.declared.queue.TheConstants.{NO_WAY}
 use Rattle.tcc_core.proofs.queue.Queue.begin.Goals as goal
 

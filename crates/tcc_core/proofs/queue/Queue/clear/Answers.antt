@@ -1,4 +1,4 @@
-use Rattle.std.proofs.Common.{rules, ◌≡◌, ◌<◌, ◌≤◌, ◌∙◌, sym, ℕ, length, take, take_at, slice_index, All, arith}
+use Rattle.std.proofs.Common.{rules, ◌≡◌, ◌<◌, ◌≤◌, ◌∙◌, sym, ℕ, length, take_at, slice_index, arith}
 use Rattle.tcc_core.proofs.Filing.{taken_long, taken_below, shut_all, filed_none, listed_none}
 use Rattle.tcc_core.specs.declared.ring.TheConstants.{BUCKETS}
 use Rattle.tcc_core.specs.declared.queue.TheConstants.{NO_WAY}

@@ -1,8 +1,7 @@
-use Rattle.std.proofs.Common.{rules, ◌≡◌, ◌≢◌, ◌<◌, ◌≤◌, ◌+◌, ◌%◌, ◌∙◌, sym, max, inr, refl, length, slice_index, set, arith}
+use Rattle.std.proofs.Common.{rules, ◌≡◌, ◌<◌, ◌+◌, ◌%◌, ◌∙◌, sym, max, inr, refl, length, slice_index, set, arith}
 use Rattle.std.proofs.lemmas.Grind.{common_steps}
 use Rattle.tcc_core.proofs.Filing.{one_set, two_set, filed_set, listed_more, listed_kept, reached_below}
 use Rattle.tcc_core.specs.declared.ring.TheConstants.{BUCKETS, NOWHERE}
-use Rattle.tcc_core.specs.declared.queue.TheConstants.{NO_WAY}
 use Rattle.tcc_core.proofs.queue.Queue.lower.Goals.{then-index, else-index}
 use Rattle.tcc_core.proofs.queue.Queue.lower.Goals as goal
 

@@ -1,6 +1,4 @@
-use Rattle.std.proofs.Common.{◌≡◌, ◌<◌, ◌≤◌, ℕ, ◌+◌, length, slice_index, arith}
-use Rattle.tcc_core.specs.Queues.{IsNearest}
-use Rattle.tcc_core.specs.declared.ring.TheConstants.{BUCKETS}
+use Rattle.std.proofs.Common.{◌≤◌, arith}
 use Rattle.tcc_core.proofs.Filing.{nearest_found}
 use Rattle.tcc_core.proofs.queue.Queue.nearest.Goals.{then-cap-self, else-cap-self}
 use Rattle.tcc_core.proofs.queue.Queue.nearest.Goals as goal

@@ -1,4 +1,3 @@
-use Rattle.std.proofs.Common.{rules, ◌≡◌, ◌<◌, ℕ, length, take, All, arith}
 use Rattle.tcc_core.proofs.Filing.{taken_long, taken_below, taken_each}
 use Rattle.tcc_core.proofs.queue.Queue.reached.Goals as goal
 

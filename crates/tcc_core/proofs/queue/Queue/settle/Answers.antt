@@ -1,9 +1,8 @@
-use Rattle.std.proofs.Common.{◌≡◌, ◌<◌, ◌≢◌, ◌+◌, length, slice_index, set, arith}
+use Rattle.std.proofs.Common.{◌≡◌, slice_index, set, arith}
 use Rattle.std.proofs.lemmas.Grind.{common_steps}
 use Rattle.tcc_core.specs.Queues.{IsNearest, IsOpen}
 use Rattle.tcc_core.proofs.Filing.{one_set, open_stands, filed_settled, listed_kept}
-use Rattle.tcc_core.specs.declared.ring.TheConstants.{BUCKETS, NOWHERE}
-use Rattle.tcc_core.specs.declared.queue.TheConstants.{NO_WAY}
+use Rattle.tcc_core.specs.declared.ring.TheConstants.{NOWHERE}
 use Rattle.tcc_core.proofs.queue.Queue.settle.Goals as goal
 
 pub invariant_of-self : goal.invariant_of-self
@@ -19,3 +18,13 @@ invariant_of-self c =
       filed_settled q.floor q.most costs q.ring (set costs v 0) (set q.ring v NOWHERE) v NOWHERE filed near (omega (arith, open_at.below, filed.window)) open_at.above (omega arith) (one_set costs v 0 near.below) (one_set q.ring v NOWHERE (omega (arith, filed.long, near.below))),
       listed_kept q.held q.listed.items costs v 0 listed near.below (λ e. omega (arith, near.reached)) (omega arith),
     )
+
+pub returns-clause-rises : goal.returns-clause-rises
+returns-clause-rises c =
+    let q = c.self.inside in
+    let v = c.args.v in
+    let costs = q.costs.items in
+    let near : IsNearest costs v = rw (← c.self.view_is) at c.requires in
+    let at : c.index.result.now ≡ slice_index costs v = grind (arith, common_steps, near.below) in
+    let open_at : IsOpen q.floor q.most (slice_index costs v) (slice_index q.ring v) = open_stands q.floor q.most costs q.ring v c.self.invariant.0 near.below near.open_at near.reached in
+    rw (← c.self.view_is) (omega (arith, at, open_at.above))

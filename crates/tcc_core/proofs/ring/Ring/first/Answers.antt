@@ -1,7 +1,7 @@
 use Rattle.std.proofs.Common.{◌≡◌, ◌<◌, ◌+◌, length, slice_index, arith}
 use Rattle.std.proofs.lemmas.List.{get_or_read}
 use Rattle.tcc_core.proofs.RingCalls.{first_stands, first_none}
-use Rattle.tcc_core.specs.declared.ring.TheConstants.{BUCKETS, NOWHERE}
+use Rattle.tcc_core.specs.declared.ring.TheConstants.{BUCKETS}
 use Rattle.tcc_core.proofs.ring.Ring.first.Goals as goal
 
 pub returns-then-v-self-clause-some : goal.returns-then-v-self-clause-some

@@ -2,7 +2,7 @@ use Rattle.std.proofs.Common.{rules, ◌≡◌, ◌<◌, ◌≤◌, ◌+◌, ◌
 use Rattle.std.proofs.lemmas.List.{get_or_read}
 use Rattle.tcc_core.proofs.RingHomes.{home_end}
 use Rattle.tcc_core.proofs.RingCalls.{next_inside, ring_put}
-use Rattle.tcc_core.specs.declared.ring.TheConstants.{BUCKETS, NOWHERE}
+use Rattle.tcc_core.specs.declared.ring.TheConstants.{BUCKETS}
 use Rattle.tcc_core.proofs.ring.Ring.put.Goals as goal
 
 pub index_mut-requires-4 : goal.index_mut-requires-4
