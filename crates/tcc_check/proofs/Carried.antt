@@ -52,6 +52,7 @@ pub record AreRunsTo (e : ℕ) (h : History) (begin : ℕ) (begins : List ℕ) :
   pub within : (v : ℕ) → v < e → get_or begins v 0 ≤ v
   pub onward : (v : ℕ) → v + 1 < e → (get_or begins (v + 1) 0 ≡ v + 1) ⊎ (get_or begins (v + 1) 0 ≡ get_or begins v 0)
   pub pairs : (u v : ℕ) → v < e → IsInRun (get_or begins v 0) v u → IsSessionPair h u v
+  pub whole : (u v : ℕ) → v < e → IsSessionPair h u v → IsInRun (get_or begins v 0) v u
   pub last : (v : ℕ) → e ≡ v + 1 → begin ≡ get_or begins v 0
 
 pub no_runs : (h : History) → AreRunsTo 0 h 0 []
@@ -60,11 +61,12 @@ no_runs h = record {
   within = λ v l. absurd (omega arith);
   onward = λ v l. absurd (omega arith);
   pairs = λ u v l p. absurd (omega arith);
+  whole = λ u v l p. absurd (omega arith);
   last = λ v e. absurd (omega (arith, e));
 }
 
 -- one run more, whose numbers are known to be pairs with the last
-module _ (e : ℕ) (h : History) (old begin : ℕ) (begins : List ℕ) (was : AreRunsTo e h old begins) (within : begin ≤ e) (onward : (v : ℕ) → e ≡ v + 1 → (begin ≡ e) ⊎ (begin ≡ get_or begins v 0)) (pairs : (u : ℕ) → IsInRun begin e u → IsSessionPair h u e) where
+module _ (e : ℕ) (h : History) (old begin : ℕ) (begins : List ℕ) (was : AreRunsTo e h old begins) (within : begin ≤ e) (onward : (v : ℕ) → e ≡ v + 1 → (begin ≡ e) ⊎ (begin ≡ get_or begins v 0)) (pairs : (u : ℕ) → IsInRun begin e u → IsSessionPair h u e) (all : (u : ℕ) → IsSessionPair h u e → IsInRun begin e u) where
   here : get_or (begins ++ begin ∷ []) e 0 ≡ begin
   here = get_or_push begins begin 0 e (was.long)
 
@@ -77,9 +79,17 @@ module _ (e : ℕ) (h : History) (old begin : ℕ) (begins : List ℕ) (was : Ar
     within = λ v l. inside v l (cases_eq v e);
     onward = λ v l. on v l (cases_eq (v + 1) e);
     pairs = λ u v l p. pair u v l p (cases_eq v e);
+    whole = λ u v l p. whole u v l p (cases_eq v e);
     last = λ v is. ends v (omega (arith, is));
   }
     where
+      whole : (u v : ℕ) → v < e + 1 → IsSessionPair h u v → (v ≡ e) ⊎ (v ≡ e → ⊥) → IsInRun (get_or (begins ++ begin ∷ []) v 0) v u
+      whole u v l p (inl same) =
+          let run : IsInRun begin e u = all u (subst (λ (z : ℕ). IsSessionPair h u z) same p) in
+          let at : get_or (begins ++ begin ∷ []) v 0 ≡ begin = ap (λ k. get_or (begins ++ begin ∷ []) k 0) same ∙ here in
+          subst (λ (z : ℕ). IsInRun z v u) (sym at) (subst (λ (z : ℕ). IsInRun begin z u) (sym same) run)
+      whole u v l p (inr apart) = subst (λ (z : ℕ). IsInRun z v u) (sym (before v (omega (arith, l, apart)))) (was.whole u v (omega (arith, l, apart)) p)
+
       ends : (v : ℕ) → v ≡ e → begin ≡ get_or (begins ++ begin ∷ []) v 0
       ends v same = rw same (sym here)
 
@@ -102,20 +112,50 @@ module _ (e : ℕ) (h : History) (old begin : ℕ) (begins : List ℕ) (was : Ar
       pair u v l p (inl same) = subst (λ (z : ℕ). IsSessionPair h u z) (sym same) (pairs u (subst (λ (z : ℕ). IsInRun z e u) (ap (λ k. get_or (begins ++ begin ∷ []) k 0) same ∙ here) (subst (λ (z : ℕ). IsInRun (get_or (begins ++ begin ∷ []) v 0) z u) same p)))
       pair u v l p (inr apart) = was.pairs u v (omega arith) (subst (λ (z : ℕ). IsInRun z v u) (before v (omega arith)) p)
 
--- a run that begins anew
-pub run_begun : (e : ℕ) (h : History) (old : ℕ) (begins : List ℕ) → e < count h → AreRunsTo e h old begins → AreRunsTo (e + 1) h e (begins ++ e ∷ [])
-run_begun e h old begins below was = one_more_run e h old e begins was (omega arith) (λ v is. inl refl) pairs
+-- what has no session pair with `init` alone comes after another
+no_pair : (h : History) (u : ℕ) → IsSessionPair h u 0 → ⊥
+no_pair h u p = go (pair_parts h u 0 p)
+  where
+    go : ((u ≡ 0) × (0 < 0)) ⊎ AreOwned h u 0 → ⊥
+    go (inl first) = omega (arith, first.1)
+    go (inr second) = omega (arith, second.1)
+
+-- who stands right before e, where somebody does
+abbrev pub IsLastBefore : History → ℕ → ℕ → Type 0
+IsLastBefore h e last = (u : ℕ) → IsSessionPair h u e → (u ≡ last) ⊎ IsSessionPair h u last
+
+pub last_at : (h : History) (e last other : ℕ) → last ≡ other → IsLastBefore h e last → IsLastBefore h e other
+last_at h e last other same is = subst (λ (z : ℕ). IsLastBefore h e z) same is
+
+-- a run that begins anew, where `init` alone stands before
+pub run_begun : (e : ℕ) (h : History) (old : ℕ) (begins : List ℕ) → e < count h → (0 < e → IsLastBefore h e 0) → AreRunsTo e h old begins → AreRunsTo (e + 1) h e (begins ++ e ∷ [])
+run_begun e h old begins below last was = one_more_run e h old e begins was (omega arith) (λ v is. inl refl) pairs all
   where
     pairs : (u : ℕ) → IsInRun e e u → IsSessionPair h u e
     pairs u (l, inl first) = rw first (init_pair h e (omega (arith, first)) below)
     pairs u (l, inr none) = absurd (omega arith)
 
+    all : (u : ℕ) → IsSessionPair h u e → IsInRun e e u
+    all u p = go (cases_eq e 0)
+      where
+        turn : 0 < e → (u ≡ 0) ⊎ IsSessionPair h u 0 → IsInRun e e u
+        turn some (inl first) = (omega (arith, first, some), inl first)
+        turn some (inr none) = absurd (no_pair h u none)
+
+        go : (e ≡ 0) ⊎ (e ≡ 0 → ⊥) → IsInRun e e u
+        go (inl none) = absurd (no_pair h u (subst (λ (z : ℕ). IsSessionPair h u z) none p))
+        go (inr some) = let more : 0 < e = omega (arith, some) in turn more (last more u p)
+
 -- one that goes on
-pub run_kept : (e : ℕ) (h : History) (begin : ℕ) (begins : List ℕ) → e < count h → 0 < e → session_pair h (e - 1) e ≡ true → AreRunsTo e h begin begins → AreRunsTo (e + 1) h begin (begins ++ begin ∷ [])
-run_kept e h begin begins below some goes was = one_more_run e h begin begin begins was (omega (arith, is, was.within (e - 1) (omega arith))) (λ v e. inr (was.last v e)) pairs
+pub run_kept : (e : ℕ) (h : History) (begin : ℕ) (begins : List ℕ) → e < count h → 0 < e → session_pair h (e - 1) e ≡ true → IsLastBefore h e (e - 1) → AreRunsTo e h begin begins → AreRunsTo (e + 1) h begin (begins ++ begin ∷ [])
+run_kept e h begin begins below some goes last was = one_more_run e h begin begin begins was (omega (arith, is, was.within (e - 1) (omega arith))) (λ v e. inr (was.last v e)) pairs (λ u p. all u (last u p))
   where
     is : begin ≡ get_or begins (e - 1) 0
     is = was.last (e - 1) (omega arith)
+
+    all : (u : ℕ) → (u ≡ e - 1) ⊎ IsSessionPair h u (e - 1) → IsInRun begin e u
+    all u (inl same) = (omega (arith, same, some), inr (omega (arith, same, is, was.within (e - 1) (omega (arith, some)))))
+    all u (inr pair) = let run = was.whole u (e - 1) (omega (arith, some)) pair in (omega (arith, run.0), subst (λ (z : ℕ). (u ≡ 0) ⊎ (z ≤ u)) (sym is) run.1)
 
     in_run : (u : ℕ) → u < e → begin ≤ u → (u ≡ e - 1) ⊎ (u ≡ e - 1 → ⊥) → IsSessionPair h u e
     in_run u l low (inl same) = rw same goes
@@ -130,23 +170,10 @@ all_runs e h begin begins all was = record {
   long = was.long ∙ all;
   runs = record { within = λ v l. was.within v (omega (arith, was.long)); onward = λ v l. was.onward v (omega (arith, was.long)) };
   pairs = λ u v l p. was.pairs u v (omega arith) p;
+  whole = λ u v p. was.whole u v (omega (arith, (session_below h u v p).1, all)) p;
 }
 
 -- ---- the least number in a run
-
--- whether one is in the run
-pub in_run : (begin end u : ℕ) → IsInRun begin end u ⊎ (IsInRun begin end u → ⊥)
-in_run begin end u = go (cases_lt u end) (cases_eq u 0) (cases_lt u begin)
-  where
-    go : (u < end) ⊎ (end ≤ u) → (u ≡ 0) ⊎ (u ≡ 0 → ⊥) → (u < begin) ⊎ (begin ≤ u) → IsInRun begin end u ⊎ (IsInRun begin end u → ⊥)
-    go (inr above) zero_or low = inr (λ p. absurd (omega (arith, p.0)))
-    go (inl l) (inl first) low = inl (l, inl first)
-    go (inl l) (inr other) (inr low) = inl (l, inr low)
-    go (inl l) (inr other) (inl high) = inr (λ p. none p.1)
-      where
-        none : (u ≡ 0) ⊎ (begin ≤ u) → ⊥
-        none (inl first) = other first
-        none (inr low) = absurd (omega arith)
 
 -- what is carried along a row before the number of e: what the row has for `init`, and the least of the run that goes on to e
 pub record IsCarried (begins row : List ℕ) (low e opening least : ℕ) : Type 0 where
@@ -248,7 +275,3 @@ module _ (begins row : List ℕ) (low e : ℕ) (runs : HasRuns begins) (long : l
 
   pub run_short : (least number : ℕ) → number ≡ get_or row (e - low) 0 → IsRunLeast begins row low e least → (least + 1 < number → ⊥) → IsLongRun (get_or begins e 0) row low e → ⊥
   run_short least number is here not (u, run, low_u, more) = not (omega (arith, here.lower u run low_u))
-
-pub neither : {P Q : Type 0} → (P → ⊥) → (Q → ⊥) → P ⊎ Q → ⊥
-neither p q (inl h) = p h
-neither p q (inr h) = q h

@@ -6,7 +6,10 @@ pub mod Keyed
 pub mod Rows
 pub mod First
 pub mod Passing
-pub mod LongRows
+pub mod Found
+pub mod Overshot
+pub mod RowRules
+pub mod LinksFrom
 pub mod Linked
 pub mod Placed
 pub mod Gaps

@@ -1,16 +1,16 @@
 -- Session order: who stands right before a transaction, and the last that are no later than a place of a session.
-use Rattle.std.proofs.Common.{ℕ, zero, suc, ◌+◌, ◌-◌, ◌<◌, ◌≤◌, ◌≡◌, ◌≢◌, ◌==◌, ◌⊎◌, ◌&&◌, nat_lt, Bool, true, false, eqb, inl, inr, List, [], ◌∷◌, map, filter, length, get_or, cond, Option, Some, None, refl, sym, ap, subst, ◌∙◌, arith}
-use Rattle.std.specs.Prelude.{All, IsTrue, nat_le}
-use Rattle.std.specs.List.{Contains, AllPairs, range_with_len}
+use Rattle.std.proofs.Common.{ℕ, zero, suc, ◌+◌, ◌-◌, ◌<◌, ◌≤◌, ◌≡◌, ◌≢◌, ◌==◌, ◌⊎◌, ◌&&◌, nat_lt, Bool, true, false, eqb, inl, inr, List, [], ◌∷◌, map, filter, length, get_or, cond, Some, None, refl, sym, ap, subst, ◌∙◌, arith}
+use Rattle.std.specs.Prelude.{All, nat_le}
+use Rattle.std.specs.List.{Contains, AllPairs}
 use Rattle.std.specs.List.Sorted.{IsPartitionPoint, IsPartitionedBy, IsNonDecreasing, IsStrictlyIncreasing}
 use Rattle.std.proofs.lemmas.List.Kept.{IsStrictlyIncreasing-filter, AllPairs-from_increasing}
 use Rattle.std.proofs.lemmas.List.FromFn.{length-range_with_len, get_or-range_with_len}
-use Rattle.std.proofs.lemmas.Bool.{cases_lt, cases_eq, cases_Bool, and_parts, and_from, or_cases, or_left, or_right, lt-ltb, ltb-true, eqb-true, eq-eqb, leb-true, le-leb, false≢true, both_ways}
+use Rattle.std.proofs.lemmas.Bool.{cases_lt, cases_eq, cases_Bool, and_parts, and_from, or_cases, or_left, or_right, lt-ltb, ltb-true, eqb-true, eq-eqb, leb-true, le-leb, both_ways}
 use Rattle.std.proofs.lemmas.List.{get_or_default}
 use Rattle.tcc_txn.proofs.Lists.{in_filter, from_filter}
 use Rattle.tcc_reads.specs.History.{History, IsBySession, count, entry_at, owner, place}
 use Rattle.tcc_graph.specs.Numbers.{at}
-use Rattle.tcc_graph.specs.Relations.{IsSessionPair, session_pair, reads_from, IsReadsPair, IsCausalPair}
+use Rattle.tcc_graph.specs.Relations.{IsSessionPair, session_pair, IsReadsPair, IsCausalPair}
 use Rattle.tcc_graph.specs.Keys.{writers, writes, is_key, numbers}
 use Rattle.tcc_graph.specs.declared.level.Level.TheVariants.{Causal, Atomic}
 use Rattle.tcc_cert.specs.Tables.{row_of, entry}
@@ -233,12 +233,12 @@ writers_rise h x = go (is_key h x)
     go true = rises (filter (λ u. writes h u x) (numbers h)) (IsStrictlyIncreasing-filter (λ u. writes h u x) (numbers h) range)
     go false = λ i j d upto below. absurd (omega (arith, below))
 
-in_map : {X Y : Type 0} (f : X → Y) (xs : List X) (x : X) → Contains xs x → Contains (map f xs) (f x)
+pub in_map : {X Y : Type 0} (f : X → Y) (xs : List X) (x : X) → Contains xs x → Contains (map f xs) (f x)
 in_map f [] x (k, l, e) = absurd (omega arith)
 in_map f (y ∷ xs) x (zero, l, e) = (0, omega arith, ap f e)
 in_map f (y ∷ xs) x (suc k, l, e) = let w = in_map f xs x (k, omega arith, e) in (suc w.0, omega (arith, w.1), w.2)
 
-from_map : {X Y : Type 0} (f : X → Y) (xs : List X) (y : Y) → Contains (map f xs) y → (x : X) × Contains xs x × (f x ≡ y)
+pub from_map : {X Y : Type 0} (f : X → Y) (xs : List X) (y : Y) → Contains (map f xs) y → (x : X) × Contains xs x × (f x ≡ y)
 from_map f [] y (k, l, e) = absurd (omega arith)
 from_map f (x ∷ xs) y (zero, l, e) = (x, (0, omega arith, refl), e)
 from_map f (x ∷ xs) y (suc k, l, e) = let w = from_map f xs y (k, omega arith, e) in (w.0, (suc w.1.0, omega (arith, w.1.1), w.1.2), w.2)

@@ -1,10 +1,9 @@
 -- Tables turned round, as far as they are.
-use Rattle.std.proofs.Common.{◌≡◌, ◌<◌, ◌+◌, ℕ, ◌⊎◌, inl, inr, List, [], ◌∷◌, ◌++◌, length, get_or, arith, refl, sym, ap, subst, ◌∙◌}
-use Rattle.std.specs.Prelude.{All}
+use Rattle.std.proofs.Common.{◌≡◌, ◌<◌, ◌+◌, ℕ, ◌⊎◌, inl, inr, List, [], ◌∷◌, ◌++◌, length, get_or, arith, refl, sym, ap, ◌∙◌}
 use Rattle.std.proofs.lemmas.Bool.{cases_eq}
 use Rattle.std.proofs.lemmas.List.{get_or_append_left, get_or_push, length_push, get_or_default}
 use Rattle.tcc_reads.specs.History.{History, count}
-use Rattle.tcc_cert.specs.Tables.{entry, row_of, HasSize}
+use Rattle.tcc_cert.specs.Tables.{entry, row_of}
 use Rattle.tcc_check.specs.Weights.{IsTurned, ContradictionWeighs, TurnedWeighs, IsLowered}
 use Rattle.tcc_check.proofs.Lowering.{lowered_as}
 

@@ -1,21 +1,23 @@
 -- What the rules say of the parts of a text that are still to come. Nobody has to believe it: private functions say it to one another.
-use Rattle.std.specs.Prelude.{ℕ, ◌≡◌, ◌≢◌, ◌<◌, List, length, Option, None, Some, Result, Ok, Err}
+use Rattle.std.specs.Prelude.{ℕ, ◌≡◌, ◌≢◌, ◌<◌, List, Option, None, Some, Result, Ok, Err}
 use Rattle.tcc_cert.specs.Ahead.{IsAhead}
 use Rattle.tcc_cert.specs.Collecting.{EndsIn}
 use Rattle.tcc_cert.specs.Parts.{Parts, IsFirst}
-use Rattle.tcc_cert.specs.Tables.{HasSize, HasFarSize, IsCapped, IsFirstPlace, far_entry}
+use Rattle.tcc_reads.specs.History.{History}
+use Rattle.tcc_graph.specs.declared.level.Level.{Level}
+use Rattle.tcc_cert.specs.CycleRules.{BreaksNearPair, BreaksNearStep, BreaksFarLink, BreaksFarStep, BreaksReturn}
+use Rattle.tcc_cert.specs.Tables.{HasSize, HasFarSize, IsCapped, IsFirstPlace}
 use Rattle.tcc_cert.specs.declared.fault.CertFaultKind.TheVariants as kind
 use Rattle.tcc_cert.specs.declared.part.Part.{Part}
 use Rattle.tcc_cert.specs.declared.reading.parts.CertReader.{CertReader}
 use Rattle.tcc_cert.specs.declared.version.Version.{Version}
 use Rattle.tcc_check.specs.declared.far_rows.FarFaults.{FarFaults}
+use Rattle.tcc_check.specs.declared.near_rows.NearFaults.{NearFaults}
 use Rattle.tcc_check.specs.declared.stream_fault.StreamFault.{StreamFault}
 use Rattle.tcc_check.specs.declared.stream_fault.StreamFault.TheVariants.{Text, NoMemory}
-use Rattle.tcc_check.specs.declared.verdict.Rule.TheVariants.{FarLinks, FarSteps, Returns}
+use Rattle.tcc_check.specs.declared.verdict.Rule.TheVariants.{NearPairs, NearSteps, FarLinks, FarSteps, Returns}
 use Rattle.tcc_check.specs.declared.verdict.Verdict.{Verdict}
 use Rattle.tcc_check.specs.declared.verdict.Verdict.TheVariants as verdict
-use Rattle.tcc_check.specs.Searches.{IsLongStartFrom}
-use Rattle.tcc_check.specs.Weights.{IsLongLink}
 
 -- the parts end in this fault, unless the reader failed or memory was refused
 abbrev pub FailsAs : Parts → StreamFault → Type 0
@@ -46,20 +48,21 @@ IsNearRight n least near = HasSize n n near × IsCapped least near
 abbrev pub IsFarRight : Version → ℕ → ℕ → List (List ℕ) → Type 0
 IsFarRight version n least far = HasFarSize version n far × IsCapped least far
 
--- the way back is cheaper than the cycle, by a place
-abbrev pub IsShortAt : ℕ → Version → ℕ → List (List ℕ) → ℕ × ℕ → Type 0
-IsShortAt n version least far at = (at.0 < n) × ((at.1 ≡ at.0) × (far_entry version far at.0 at.0 < least))
-
 -- the first place in the first n rows at which something is broken
 abbrev pub IsFoundBefore : ℕ → (ℕ × ℕ → Type 0) → Option (ℕ × ℕ) → Type 0
 IsFoundBefore n broken None = (a b : ℕ) → a < n → broken (a, b) → ⊥
 IsFoundBefore n broken (Some at) = (at.0 < n) × IsFirstPlace broken at
 
--- so for each rule on costs
-pub record AreFoundBefore (version : Version) (begins : List ℕ) (weights : List (List ℕ)) (starts : List (List (ℕ × ℕ))) (least : ℕ) (far : List (List ℕ)) (n : ℕ) (faults : FarFaults) : Type 0 where
-  pub links : IsFoundBefore n (IsLongLink version weights far) faults.link
-  pub steps : IsFoundBefore n (IsLongStartFrom version begins starts far) faults.step
-  pub returns : IsFoundBefore n (IsShortAt (length far) version least far) faults.back
+-- so for each rule on lengths
+pub record IsNearFoundTo (h : History) (level : Level) (near : List (List ℕ)) (n : ℕ) (faults : NearFaults) : Type 0 where
+  pub pairs : IsFoundBefore n (BreaksNearPair h near) faults.pair
+  pub steps : IsFoundBefore n (BreaksNearStep h level near) faults.step
+
+-- and on costs
+pub record AreFoundBefore (h : History) (version : Version) (least : ℕ) (near : List (List ℕ)) (far : List (List ℕ)) (n : ℕ) (faults : FarFaults) : Type 0 where
+  pub links : IsFoundBefore n (BreaksFarLink h version near far) faults.link
+  pub steps : IsFoundBefore n (BreaksFarStep h version near far) faults.step
+  pub returns : IsFoundBefore n (BreaksReturn h version least far) faults.back
 
 -- the place that was found, or else that in one row more
 abbrev pub first_of : Option (ℕ × ℕ) → ℕ → Option ℕ → Option (ℕ × ℕ)
@@ -71,6 +74,12 @@ first_of None start (Some end) = Some (start, end)
 abbrev pub first_rejected : Verdict → Verdict → Verdict
 first_rejected verdict.Accepted later = later
 first_rejected (verdict.Rejected rule at) later = verdict.Rejected rule at
+
+-- the first broken rule of those on lengths, and where
+abbrev pub near_verdict : Option (ℕ × ℕ) → Option (ℕ × ℕ) → Verdict
+near_verdict (Some at) step = verdict.Rejected NearPairs at
+near_verdict None (Some at) = verdict.Rejected NearSteps at
+near_verdict None None = verdict.Accepted
 
 -- the first broken rule of those on costs, and where
 abbrev pub verdict_by : Option (ℕ × ℕ) → Option (ℕ × ℕ) → Option (ℕ × ℕ) → Verdict

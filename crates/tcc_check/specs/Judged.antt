@@ -1,19 +1,23 @@
 -- What the rules say of the tables of a claim, one after the other. Nobody has to believe it: private functions say it to one another.
-use Rattle.std.specs.Prelude.{ℕ, ◌≡◌, List, [], ◌∷◌}
+use Rattle.std.specs.Prelude.{ℕ, ◌≡◌, List, [], ◌∷◌, length}
 use Rattle.tcc_reads.specs.History.{History, count}
 use Rattle.tcc_graph.specs.declared.level.Level.{Level}
 use Rattle.tcc_cert.specs.CycleRules.{CycleClaim, HasRightSizes, BreaksNearPair, BreaksNearStep, BreaksFarLink, BreaksFarStep, BreaksReturn}
 use Rattle.tcc_cert.specs.Parts.{Parts}
 use Rattle.tcc_cert.specs.Rules.{IsRightCycle}
+use Rattle.tcc_cert.specs.Tables.{row_of}
 use Rattle.tcc_cert.specs.declared.version.Version.{Version}
 use Rattle.tcc_check.specs.declared.far_rows.FarFaults.{FarFaults}
 use Rattle.tcc_check.specs.declared.near_rows.NearJudged.{NearJudged}
+use Rattle.tcc_check.specs.declared.near_rows.NearRows.{NearRows}
+use Rattle.tcc_check.specs.declared.pairs.Pairs.{Pairs}
 use Rattle.tcc_check.specs.declared.verdict.Rule.TheVariants.{Links, NearPairs, NearSteps, FarLinks, FarSteps, Returns}
 use Rattle.tcc_check.specs.declared.verdict.Verdict.{Verdict}
-use Rattle.tcc_check.specs.Coming.{AreFoundBefore, IsFarRight, IsNearRight}
+use Rattle.tcc_check.specs.Coming.{AreFoundBefore, IsFarRight, IsNearFoundTo, near_verdict}
+use Rattle.tcc_check.specs.Pairs.{AreOrderly}
 use Rattle.tcc_check.specs.Runs.{AreRuns}
 use Rattle.tcc_check.specs.Verdicts.{Asked, IsAnswer, IsCycleFault, bounds_rules, by_places}
-use Rattle.tcc_check.specs.Weights.{IsLeastTable, LinkWeighs}
+use Rattle.tcc_check.specs.WeightsFrom.{AreAllEnds, AreEndsTo, WeighsFrom}
 
 -- the rule on links
 abbrev pub links_rules : History → CycleClaim → List Asked
@@ -33,17 +37,34 @@ abbrev pub claim_rules : History → CycleClaim → List Asked
 claim_rules h k =
     record { rule = Links; holds = IsRightCycle h k; broken = IsCycleFault h k } ∷ bounds_rules h k.version k.level k.least k.near k.far
 
--- what is kept of a table of lengths
+-- what was found in the first rows of a table of lengths, and the links that they tell of
+pub record AreNearRowsTo (h : History) (level : Level) (least : ℕ) (near : List (List ℕ)) (n : ℕ) (rows : NearRows) : Type 0 where
+  pub found : IsNearFoundTo h level near n rows.faults
+  pub links : AreEndsTo n (λ u. WeighsFrom h (row_of near u) u) (count h) least rows.links.items
+
+-- what is kept of all of them
+abbrev pub judged : Pairs → NearRows → NearJudged
+judged pairs rows = record { verdict = near_verdict rows.faults.pair rows.faults.step; begins = pairs.begins; links = rows.links }
+
+-- the links that a table of lengths tells of
+abbrev pub AreLinksOf : History → ℕ → List (List ℕ) → NearJudged → Type 0
+AreLinksOf h least near judged = AreAllEnds (λ u. WeighsFrom h (row_of near u) u) (count h) least judged.links.items
+
+-- what the rules on lengths say, and those links
 pub record IsNearJudged (h : History) (level : Level) (least : ℕ) (near : List (List ℕ)) (judged : NearJudged) : Type 0 where
-  pub right : IsNearRight (count h) least near
   pub answer : IsAnswer (near_rules h level near) judged.verdict
+  pub links : AreLinksOf h least near judged
+
+-- whatever the table: where runs begin, and the ends of links from each transaction
+pub record IsOrderly (h : History) (judged : NearJudged) : Type 0 where
   pub runs : AreRuns h judged.begins.items
-  pub weights : IsLeastTable (count h) (LinkWeighs h near) judged.weights
+  pub long : length judged.links.items ≡ count h
+  pub links : AreOrderly (count h) judged.links.items
 
 -- where no part is left behind the rows, they are the whole table, and what was found is all there is
-pub record AreAllFound (version : Version) (begins : List ℕ) (weights : List (List ℕ)) (starts : List (List (ℕ × ℕ))) (least : ℕ) (n : ℕ) (far : List (List ℕ)) (faults : FarFaults) (rest : Parts) : Type 0 where
-  pub right : rest.parts ≡ [] → IsFarRight version n least far × AreFoundBefore version begins weights starts least far n faults
-  pub more : IsFarRight version n least far → rest.parts ≡ []
+pub record AreAllFound (h : History) (version : Version) (least : ℕ) (near : List (List ℕ)) (far : List (List ℕ)) (faults : FarFaults) (rest : Parts) : Type 0 where
+  pub right : rest.parts ≡ [] → IsFarRight version (count h) least far × AreFoundBefore h version least near far (count h) faults
+  pub more : IsFarRight version (count h) least far → rest.parts ≡ []
 
 -- so the rules on costs say
 pub record IsFarJudged (h : History) (version : Version) (least : ℕ) (near : List (List ℕ)) (far : List (List ℕ)) (rest : Parts) (verdict : Verdict) : Type 0 where

@@ -1,10 +1,11 @@
 pub mod Runs
 pub mod Weights
+pub mod WeightsFrom
+pub mod Pairs
 pub mod Searches
 pub mod Links
 pub mod Places
 pub mod Verdicts
-pub mod TableRules
 pub mod Streams
 pub mod Coming
 pub mod Judged

@@ -12,8 +12,9 @@ pub record HasRuns (begins : List ℕ) : Type 0 where
   pub within : (v : ℕ) → v < length begins → slice_index begins v ≤ v
   pub onward : (v : ℕ) → v + 1 < length begins → (slice_index begins (v + 1) ≡ v + 1) ⊎ (slice_index begins (v + 1) ≡ slice_index begins v)
 
--- what is in a transaction's run stands before it in session order
+-- what is in a transaction's run stands before it in session order, and nothing else does
 pub record AreRuns (h : History) (begins : List ℕ) : Type 0 where
   pub long : length begins ≡ count h
   pub runs : HasRuns begins
   pub pairs : (u : ℕ) (v : ℕ) → v < count h → IsInRun (slice_index begins v) v u → IsSessionPair h u v
+  pub whole : (u : ℕ) (v : ℕ) → IsSessionPair h u v → IsInRun (slice_index begins v) v u

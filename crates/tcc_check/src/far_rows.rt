@@ -1,24 +1,21 @@
 //! The rows of costs, each judged as it comes.
-ghost use Rattle.std.specs.Prelude.{◌≡◌, ◌<◌, ◌≤◌, ◌+◌, ◌-◌, ◌^◌, All, List, MatchOption, length, map, slice_index, ℕ};
+ghost use Rattle.std.specs.Prelude.{◌≡◌, ◌<◌, ◌≤◌, ◌+◌, ◌-◌, All, List, MatchOption, length, map, slice_index, ℕ};
+ghost use Rattle.tcc_txn.specs.declared.limits.TheConstants.{MAX_COUNT};
+ghost use Rattle.tcc_reads.specs.History.{count};
 ghost use Rattle.tcc_cert.specs.Ahead.{IsAhead};
 ghost use Rattle.tcc_cert.specs.Parts.{Parts};
-ghost use Rattle.tcc_cert.specs.Tables.{HasSize, row_of, lowest};
+ghost use Rattle.tcc_cert.specs.Tables.{HasFarSize, IsCapped, row_of, lowest};
 ghost use Rattle.tcc_cert.specs.declared.part.Part.TheVariants as part;
-ghost use Rattle.tcc_check.specs.Coming.{AreFoundBefore, IsFarRight, Leaves, first_of, far_verdict};
-ghost use Rattle.tcc_reads.specs.History.{count};
-ghost use Rattle.tcc_check.specs.Judged.{AreAllFound, IsFarJudged};
-ghost use Rattle.tcc_check.specs.Runs.{AreRuns, HasRuns};
-ghost use Rattle.tcc_check.specs.Searches.{AreRunsLight};
-ghost use Rattle.tcc_check.specs.Weights.{AreByWeight, IsLeastTable, LinkWeighs};
+ghost use Rattle.tcc_check.specs.Coming.{AreFoundBefore, IsFarRight, Leaves, far_verdict};
+ghost use Rattle.tcc_check.specs.Judged.{AreAllFound, AreLinksOf, IsFarJudged, IsOrderly, far_rules};
+ghost use Rattle.tcc_check.specs.Verdicts.{IsAnswer};
 
 use crate::StreamFault;
 use crate::coming::next_part;
 use crate::near_rows::NearJudged;
-use crate::searching::{first_long_end, first_overshot};
+use crate::searching::{long_link, long_step};
 use crate::sizes::{is_row_right, lowest};
-use crate::starts::Starts;
-use crate::verdict::{Rule, Verdict};
-use crate::weights::start_rows;
+use crate::verdict::{Rule, Verdict, first_of};
 use std::alloc::Global;
 use std::io::Read;
 use tcc_cert::{CertReader, Numbers, Part, Version};
@@ -32,16 +29,12 @@ pub(crate) struct FarFaults {
     pub(crate) back: Option<(u32, u32)>,
 }
 
-/// The place that was found, or else that in the row of `start`.
-fn first_of(found: Option<(u32, u32)>, start: u32, end: Option<u32>) -> Option<(u32, u32)>
-    ensures { result ≡ first_of found start end }
-{
-    match (found, end) {
-        (Some(at), _) => Some(at),
-        (None, Some(end)) => Some((start, end)),
-        (None, None) => None,
-    }
-}
+/// Nothing, before the first row.
+const NO_FAULTS: FarFaults = FarFaults {
+    link: None,
+    step: None,
+    back: None,
+};
 
 /// The row's own start, where the row has less than `least` back to it.
 fn short_return(row: &[u32], low: u32, start: u32, least: u32) -> Option<u32>
@@ -59,74 +52,31 @@ fn short_return(row: &[u32], low: u32, start: u32, least: u32) -> Option<u32>
 /// What is found with one row more.
 fn with_row(
     faults: FarFaults,
+    graph: &Graph,
     version: Version,
-    begins: &[u32],
-    weights: &[Numbers],
-    starts: &[Starts],
+    near: &NearJudged,
     least: u32,
     start: u32,
     row: &[u32],
 ) -> FarFaults
-    requires size { HasSize (lowest version start + length row.now) (lowest version start + length row.now) weights.now }
-    requires start { start < lowest version start + length row.now }
-    requires long { length starts.now ≡ lowest version start + length row.now }
-    requires begins { length begins.now ≡ lowest version start + length row.now }
-    requires inside { All (λ links. All (λ link. link.0 < lowest version start + length row.now) links) starts.now }
-    requires sorted { All (λ links. AreByWeight links) starts.now }
-    requires runs { HasRuns begins.now }
-    requires few { lowest version start + length row.now < 2 ^ 32 }
-    ensures { (far : List (List ℕ)) → row_of far start ≡ row.now → length far ≡ length weights.now → AreFoundBefore version begins.now weights.now starts.now least far start faults
-        → AreFoundBefore version begins.now weights.now starts.now least far (start + 1) result }
+    requires few { count graph.now ≤ MAX_COUNT }
+    requires orderly { IsOrderly graph.now near.now }
+    requires long { lowest version start + length row.now ≡ count graph.now }
+    requires start { start < count graph.now }
+    requires capped { All (λ number. number ≤ least) row.now }
+    ensures { (table far : List (List ℕ)) → AreLinksOf graph.now least table near.now → row_of far start ≡ row.now
+        → AreFoundBefore graph.now version least table far start faults → AreFoundBefore graph.now version least table far (start + 1) result }
 {
     let low = lowest(version, start);
-    let link = first_long_end(weights, row, low, start);
-    let step = first_overshot(begins, starts, row, low);
+    let links = near.links.as_slice();
+    let link = long_link(graph, &links[start as usize], row, low, start, least);
+    let step = long_step(&near.begins, links, row, low, least);
     let back = short_return(row, low, start, least);
     FarFaults {
         link: first_of(faults.link, start, link),
         step: first_of(faults.step, start, step),
         back: first_of(faults.back, start, back),
     }
-}
-
-/// The first broken places in the rows of costs that come, none where there are not so many of the sizes of the version,
-/// or a number is above the cost.
-pub(crate) fn far_rows<R: Read>(
-    alloc: Global,
-    parts: &mut CertReader<R>,
-    version: Version,
-    count: u32,
-    begins: &[u32],
-    weights: &[Numbers],
-    starts: &[Starts],
-    least: u32,
-) -> Result<Option<FarFaults>, StreamFault>
-    requires size { HasSize count count weights.now }
-    requires long { length starts.now ≡ count }
-    requires begins { length begins.now ≡ count }
-    requires inside { All (λ links. All (λ link. link.0 < count) links) starts.now }
-    requires sorted { All (λ links. AreByWeight links) starts.now }
-    requires runs { HasRuns begins.now }
-    ensures { (ahead : Parts) → IsAhead R.remaining parts.old ahead → Leaves R.remaining ahead parts.new (λ found rest. (far : List (List ℕ)) → ahead.parts ≡ map part.Far far
-        → MatchOption found (IsFarRight version count least far → ⊥) (λ faults. AreAllFound version begins.now weights.now starts.now least count far faults rest)) result }
-{
-    let mut faults = FarFaults {
-        link: None,
-        step: None,
-        back: None,
-    };
-    for start in 0..count {
-        let Part::Far(row) = next_part(alloc, parts)? else {
-            return Ok(None);
-        };
-        let row = row.as_slice();
-        let wide = count - lowest(version, start);
-        if !is_row_right(row, wide as usize, least) {
-            return Ok(None);
-        }
-        faults = with_row(faults, version, begins, weights, starts, least, start, row);
-    }
-    Ok(Some(faults))
 }
 
 /// The first broken rule of those on costs, and where.
@@ -142,6 +92,57 @@ fn far_verdict(faults: FarFaults) -> Verdict
     Verdict::Rejected { rule, at }
 }
 
+/// Judges a table of costs.
+pub(crate) fn far_table(
+    graph: &Graph,
+    version: Version,
+    near: &NearJudged,
+    far: &[Numbers],
+    least: u32,
+) -> Verdict
+    requires orderly { IsOrderly graph.now near.now }
+    requires size { HasFarSize version (count graph.now) far.now }
+    requires capped { IsCapped least far.now }
+    ensures { (table : List (List ℕ)) → AreLinksOf graph.now least table near.now → IsAnswer (far_rules graph.now version least table far.now) result }
+{
+    let mut faults = NO_FAULTS;
+    for start in 0..graph.count() {
+        let row = far[start as usize].as_slice();
+        faults = with_row(faults, graph, version, near, least, start, row);
+    }
+    far_verdict(faults)
+}
+
+/// The first broken places in the rows of costs that come, none where there are not so many of the sizes of the version,
+/// or a number is above the cost.
+fn far_rows<R: Read>(
+    alloc: Global,
+    graph: &Graph,
+    parts: &mut CertReader<R>,
+    version: Version,
+    near: &NearJudged,
+    least: u32,
+) -> Result<Option<FarFaults>, StreamFault>
+    requires orderly { IsOrderly graph.now near.now }
+    ensures { (ahead : Parts) → IsAhead R.remaining parts.old ahead → Leaves R.remaining ahead parts.new (λ found rest. (table far : List (List ℕ)) → AreLinksOf graph.now least table near.now → ahead.parts ≡ map part.Far far
+        → MatchOption found (IsFarRight version (count graph.now) least far → ⊥) (λ faults. AreAllFound graph.now version least table far faults rest)) result }
+{
+    let mut faults = NO_FAULTS;
+    let count = graph.count();
+    for start in 0..count {
+        let Part::Far(row) = next_part(alloc, parts)? else {
+            return Ok(None);
+        };
+        let row = row.as_slice();
+        let wide = count - lowest(version, start);
+        if !is_row_right(row, wide as usize, least) {
+            return Ok(None);
+        }
+        faults = with_row(faults, graph, version, near, least, start, row);
+    }
+    Ok(Some(faults))
+}
+
 /// Judges the table of costs that comes, none where it has not the size of the history, or a number above the cost.
 pub(crate) fn judge_far<R: Read>(
     alloc: Global,
@@ -151,21 +152,12 @@ pub(crate) fn judge_far<R: Read>(
     near: &NearJudged,
     least: u32,
 ) -> Result<Option<Verdict>, StreamFault>
-    requires size { HasSize (count graph.now) (count graph.now) near.now.weights }
-    requires runs { AreRuns graph.now near.now.begins.items }
-    requires light { AreRunsLight near.now.begins.items near.now.weights }
-    ensures { (ahead : Parts) → IsAhead R.remaining parts.old ahead → Leaves R.remaining ahead parts.new (λ found rest. (table far : List (List ℕ)) → IsLeastTable (count graph.now) (LinkWeighs graph.now table) near.now.weights → ahead.parts ≡ map part.Far far
+    requires orderly { IsOrderly graph.now near.now }
+    ensures { (ahead : Parts) → IsAhead R.remaining parts.old ahead → Leaves R.remaining ahead parts.new (λ found rest. (table far : List (List ℕ)) → AreLinksOf graph.now least table near.now → ahead.parts ≡ map part.Far far
         → MatchOption found (IsFarRight version (count graph.now) least far → ⊥) (IsFarJudged graph.now version least table far rest)) result }
 {
-    let count = graph.count();
-    let weights = near.weights.rows();
-    let starts = start_rows(alloc, &near.begins, weights, least)?;
-    let begins = &near.begins;
-    let Some(faults) = far_rows(
-        alloc, parts, version, count, begins, weights, &starts, least,
-    )?
-    else {
-        return Ok(None);
-    };
-    Ok(Some(far_verdict(faults)))
+    match far_rows(alloc, graph, parts, version, near, least)? {
+        Some(faults) => Ok(Some(far_verdict(faults))),
+        None => Ok(None),
+    }
 }

@@ -3,20 +3,22 @@
 
 mod coming;
 mod cycle;
+mod ends;
 mod far_rows;
 mod judgement;
 mod judging;
 mod latest;
 pub mod laws;
 mod links;
+mod links_from;
 mod near_rows;
 mod order;
+mod pairs;
 mod places;
 mod previous;
 mod runs;
 mod searching;
 mod sizes;
-mod starts;
 mod stream_fault;
 mod streaming;
 mod verdict;

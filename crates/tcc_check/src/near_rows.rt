@@ -1,58 +1,199 @@
-//! The rows of lengths as they come.
-ghost use Rattle.std.specs.Prelude.{◌≡◌, ◌<◌, ◌≤◌, ◌^◌, ◌++◌, ◌↔◌, All, IfOk, IfSome, IsTrue, List, MatchOption, length, map, ℕ};
-ghost use Rattle.tcc_reads.specs.History.{count};
+//! The rows of lengths, each judged as it comes: what is kept of it are the links that it tells of.
+ghost use Rattle.std.specs.Prelude.{◌≡◌, ◌<◌, ◌≤◌, ◌+◌, ◌++◌, [], All, IfOk, IfSome, OnOk, List, MatchOption, length, map, ℕ};
+ghost use Rattle.tcc_txn.specs.declared.limits.TheConstants.{MAX_COUNT};
+ghost use Rattle.tcc_reads.specs.History.{History, count};
+ghost use Rattle.tcc_graph.specs.declared.level.Level.{Level};
 ghost use Rattle.tcc_cert.specs.Ahead.{IsAhead};
 ghost use Rattle.tcc_cert.specs.Parts.{Parts};
+ghost use Rattle.tcc_cert.specs.Tables.{HasSize, IsCapped, row_of};
 ghost use Rattle.tcc_cert.specs.declared.part.Part.TheVariants as part;
-ghost use Rattle.tcc_check.specs.Coming.{IsNearRight, Leaves};
-ghost use Rattle.tcc_check.specs.Judged.{IsNearJudged};
+ghost use Rattle.tcc_check.specs.Coming.{IsNearFoundTo, IsNearRight, Leaves, near_verdict};
+ghost use Rattle.tcc_check.specs.Judged.{AreNearRowsTo, IsNearJudged, IsOrderly, judged};
+ghost use Rattle.tcc_check.specs.Pairs.{AreOrderly, ArePairs};
 
 use crate::StreamFault;
 use crate::coming::next_part;
-use crate::cycle::{near_steps, table_verdict};
-use crate::runs::run_begins;
+use crate::ends::Ends;
+use crate::links_from::link_ends;
+use crate::pairs::{Pairs, pairs_of};
+use crate::searching::{long_link, long_step};
 use crate::sizes::is_row_right;
-use crate::verdict::{Rule, Verdict};
-use crate::weights::{lowered, pair_weights, turned};
+use crate::verdict::{Rule, Verdict, first_of};
 use std::alloc::Global;
 use std::io::Read;
-use tcc_cert::{CertReader, Numbers, Part, Table, Version};
+use tcc_cert::{CertReader, Numbers, Part};
 use tcc_graph::{Graph, Level};
+use tcc_txn::NoMemory;
 
-/// What is kept of a table of lengths: what the rules on it say, where the runs of sessions begin, and the weights of
-/// links by it.
+/// For each rule on lengths the first place at which it is broken, in the rows that came.
+#[derive(Clone, Copy)]
+pub(crate) struct NearFaults {
+    pub(crate) pair: Option<(u32, u32)>,
+    pub(crate) step: Option<(u32, u32)>,
+}
+
+/// What is kept of the rows that came: what was found in them, and the links from their starts.
+#[derive(Drop)]
+pub(crate) struct NearRows {
+    pub(crate) faults: NearFaults,
+    pub(crate) links: Vec<Ends>,
+}
+
+/// What is kept of a table of lengths: what the rules on it say, where the runs of sessions begin, and the other links
+/// from each transaction.
 #[derive(Drop)]
 pub(crate) struct NearJudged {
     pub(crate) verdict: Verdict,
     pub(crate) begins: Vec<u32>,
-    pub(crate) weights: Table,
+    pub(crate) links: Vec<Ends>,
 }
 
-/// The table of lengths that comes, none where it has not so many rows of as many numbers, or one above the cost.
+/// What is found with one row more. At `Atomic` no walk has a second step, so the rule on these isn't asked.
+fn with_row(
+    faults: NearFaults,
+    graph: &Graph,
+    level: Level,
+    pairs: &Pairs,
+    least: u32,
+    start: u32,
+    row: &[u32],
+) -> NearFaults
+    requires few { count graph.now ≤ MAX_COUNT }
+    requires pairs { ArePairs graph.now least pairs.now }
+    requires long { length row.now ≡ count graph.now }
+    requires start { start < count graph.now }
+    requires capped { All (λ number. number ≤ least) row.now }
+    ensures { (near : List (List ℕ)) → row_of near start ≡ row.now → IsNearFoundTo graph.now level near start faults → IsNearFoundTo graph.now level near (start + 1) result }
+{
+    let reads = pairs.reads.as_slice();
+    let pair = long_link(graph, &reads[start as usize], row, 0, start, least);
+    let step = match level {
+        Level::Causal => long_step(&pairs.begins, reads, row, 0, least),
+        Level::Atomic => None,
+    };
+    NearFaults {
+        pair: first_of(faults.pair, start, pair),
+        step: first_of(faults.step, start, step),
+    }
+}
+
+/// Takes one row more: judges it, and keeps the links that it tells of.
+fn take_row(
+    alloc: Global,
+    graph: &Graph,
+    level: Level,
+    pairs: &Pairs,
+    least: u32,
+    start: u32,
+    row: &[u32],
+    rows: &mut NearRows,
+) -> Result<(), NoMemory>
+    requires few { count graph.now ≤ MAX_COUNT }
+    requires pairs { ArePairs graph.now least pairs.now }
+    requires long { length row.now ≡ count graph.now }
+    requires start { start < count graph.now }
+    requires capped { All (λ number. number ≤ least) row.now }
+    requires orderly { AreOrderly (count graph.now) rows.old.links.items }
+    ensures taken { OnOk result ((near : List (List ℕ)) → row_of near start ≡ row.now → AreNearRowsTo graph.now level least near start rows.old → AreNearRowsTo graph.now level least near (start + 1) rows.new) }
+    ensures orderly { OnOk result (AreOrderly (count graph.now) rows.new.links.items) }
+    ensures long { OnOk result (length rows.new.links.items ≡ length rows.old.links.items + 1) }
+{
+    rows.faults = with_row(rows.faults, graph, level, pairs, least, start, row);
+    rows.links
+        .push(link_ends(alloc, graph, row, start, least)?)?;
+    Ok(())
+}
+
+/// Nothing, before the first row.
+fn no_rows(alloc: Global) -> NearRows
+    ensures none { result.links.items ≡ [] }
+    ensures rows { (h : History) (level : Level) (least : ℕ) (near : List (List ℕ)) → AreNearRowsTo h level least near 0 result }
+{
+    NearRows {
+        faults: NearFaults {
+            pair: None,
+            step: None,
+        },
+        links: Vec::new(alloc),
+    }
+}
+
+/// The first broken rule of those on lengths, and where.
+fn near_verdict(faults: NearFaults) -> Verdict
+    ensures { result ≡ near_verdict faults.pair faults.step }
+{
+    let (rule, at) = match (faults.pair, faults.step) {
+        (Some(at), _) => (Rule::NearPairs, at),
+        (None, Some(at)) => (Rule::NearSteps, at),
+        (None, None) => return Verdict::Accepted,
+    };
+    Verdict::Rejected { rule, at }
+}
+
+/// What is kept of all rows.
+fn judged(pairs: Pairs, rows: NearRows) -> NearJudged
+    ensures { result ≡ judged pairs rows }
+{
+    NearJudged {
+        verdict: near_verdict(rows.faults),
+        begins: pairs.begins,
+        links: rows.links,
+    }
+}
+
+/// Judges a table of lengths.
+pub(crate) fn near_table(
+    alloc: Global,
+    graph: &Graph,
+    level: Level,
+    near: &[Numbers],
+    least: u32,
+) -> Result<NearJudged, NoMemory>
+    requires size { HasSize (count graph.now) (count graph.now) near.now }
+    requires capped { IsCapped least near.now }
+    ensures judged { IfOk result (IsNearJudged graph.now level least near.now) }
+    ensures orderly { IfOk result (IsOrderly graph.now) }
+{
+    let pairs = pairs_of(alloc, graph, least)?;
+    let mut rows = no_rows(alloc);
+    for start in 0..graph.count() {
+        let row = near[start as usize].as_slice();
+        take_row(alloc, graph, level, &pairs, least, start, row, &mut rows)?;
+    }
+    Ok(judged(pairs, rows))
+}
+
+/// What is kept of the rows of lengths that come, none where they are not those of a table of the size of the history, or
+/// a number is above the cost.
 fn near_rows<R: Read>(
     alloc: Global,
+    graph: &Graph,
     parts: &mut CertReader<R>,
-    count: u32,
+    level: Level,
+    pairs: &Pairs,
     least: u32,
-) -> Result<Option<Vec<Numbers>>, StreamFault>
-    ensures right { IfOk result (λ found. IfSome found (λ rows. IsNearRight count least rows.items)) }
-    ensures parts { (ahead : Parts) → IsAhead R.remaining parts.old ahead → Leaves R.remaining ahead parts.new (λ found rest. (near far : List (List ℕ)) → length near ≡ count → ahead.parts ≡ map part.Near near ++ map part.Far far
-        → MatchOption found (IsNearRight count least near → ⊥) (λ rows. (rows.items ≡ near) × IsNearRight count least near × (rest.parts ≡ map part.Far far))) result }
+) -> Result<Option<NearRows>, StreamFault>
+    requires pairs { ArePairs graph.now least pairs.now }
+    ensures orderly { IfOk result (λ found. IfSome found (λ rows. (length rows.links.items ≡ count graph.now) × AreOrderly (count graph.now) rows.links.items)) }
+    ensures parts { (ahead : Parts) → IsAhead R.remaining parts.old ahead → Leaves R.remaining ahead parts.new (λ found rest. (near far : List (List ℕ)) → length near ≡ count graph.now → ahead.parts ≡ map part.Near near ++ map part.Far far
+        → MatchOption found (IsNearRight (count graph.now) least near → ⊥) (λ rows. IsNearRight (count graph.now) least near × AreNearRowsTo graph.now level least near (count graph.now) rows × (rest.parts ≡ map part.Far far))) result }
 {
-    let mut near = Vec::new(alloc);
-    for _row in 0..count {
+    let mut rows = no_rows(alloc);
+    for start in 0..graph.count() {
         let Part::Near(row) = next_part(alloc, parts)? else {
             return Ok(None);
         };
-        if !is_row_right(row.as_slice(), count as usize, least) {
+        let row = row.as_slice();
+        if !is_row_right(row, graph.count() as usize, least) {
             return Ok(None);
         }
-        near.push(row)?;
+        take_row(alloc, graph, level, pairs, least, start, row, &mut rows)?;
     }
-    Ok(Some(near))
+    Ok(Some(rows))
 }
 
-/// Judges the table of lengths that comes, none where it has not the size of the history, or a number above the cost.
+/// Judges the table of lengths that comes, none where it has not the size of the history, or a number above the cost. One
+/// row of it is held at a time.
 pub(crate) fn judge_near<R: Read>(
     alloc: Global,
     graph: &Graph,
@@ -60,32 +201,13 @@ pub(crate) fn judge_near<R: Read>(
     level: Level,
     least: u32,
 ) -> Result<Option<NearJudged>, StreamFault>
-    ensures judged { IfOk result (λ found. IfSome found (λ judged. (near : List (List ℕ)) × IsNearJudged graph.now level least near judged)) }
+    ensures orderly { IfOk result (λ found. IfSome found (IsOrderly graph.now)) }
     ensures parts { (ahead : Parts) → IsAhead R.remaining parts.old ahead → Leaves R.remaining ahead parts.new (λ found rest. (near far : List (List ℕ)) → length near ≡ count graph.now → ahead.parts ≡ map part.Near near ++ map part.Far far
-        → MatchOption found (IsNearRight (count graph.now) least near → ⊥) (λ judged. IsNearJudged graph.now level least near judged × (rest.parts ≡ map part.Far far))) result }
+        → MatchOption found (IsNearRight (count graph.now) least near → ⊥) (λ judged. IsNearRight (count graph.now) least near × IsNearJudged graph.now level least near judged × (rest.parts ≡ map part.Far far))) result }
 {
-    let Some(near) = near_rows(alloc, parts, graph.count(), least)? else {
+    let pairs = pairs_of(alloc, graph, least)?;
+    let Some(rows) = near_rows(alloc, graph, parts, level, &pairs, least)? else {
         return Ok(None);
     };
-    let begins = run_begins(alloc, graph)?;
-    let pairs = pair_weights(alloc, graph)?;
-    let steps = near_steps(level);
-    let verdict = table_verdict(
-        alloc,
-        Version::One,
-        least,
-        &begins,
-        pairs.rows(),
-        &near,
-        Rule::NearPairs,
-        steps,
-    )?;
-    let turned = turned(alloc, &near)?;
-    drop(near);
-    let weights = lowered(alloc, graph, turned.rows(), pairs.rows())?;
-    Ok(Some(NearJudged {
-        verdict,
-        begins,
-        weights,
-    }))
+    Ok(Some(judged(pairs, rows)))
 }

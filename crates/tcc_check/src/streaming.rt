@@ -5,7 +5,7 @@ ghost use Rattle.tcc_cert.specs.Ahead.{IsAhead, is_new};
 ghost use Rattle.tcc_cert.specs.CycleRules.{HasRightSizes, IsLinkBelow};
 ghost use Rattle.tcc_cert.specs.Parts.{Parts, parts_read};
 ghost use Rattle.tcc_cert.specs.declared.part.Part.TheVariants as part;
-ghost use Rattle.tcc_check.specs.Coming.{Finishes, Leaves, first_rejected};
+ghost use Rattle.tcc_check.specs.Coming.{Finishes, Leaves};
 ghost use Rattle.tcc_check.specs.Judged.{IsClaimJudged};
 ghost use Rattle.tcc_check.specs.Streams.{IsJudged, IsStreamed};
 ghost use Rattle.tcc_check.specs.Verdicts.{IsAnswer, cycle_rules, order_rules};
@@ -16,22 +16,12 @@ use crate::far_rows::judge_far;
 use crate::near_rows::judge_near;
 use crate::order::order_verdict;
 use crate::sizes::are_links_below;
-use crate::verdict::{Rule, rejected};
+use crate::verdict::{Rule, first_rejected, rejected};
 use crate::{Claim, Judgement, StreamFault, Verdict};
 use std::alloc::Global;
 use std::io::Read;
 use tcc_cert::{CertReader, Part, Version};
 use tcc_graph::{Graph, Level, Link};
-
-/// The first of two verdicts that is no acceptance.
-fn first_rejected(earlier: Verdict, later: Verdict) -> Verdict
-    ensures { result ≡ first_rejected earlier later }
-{
-    match earlier {
-        Verdict::Accepted => later,
-        Verdict::Rejected { .. } => earlier,
-    }
-}
 
 /// What the rules behind that on sizes say of a claim that a cycle is least, whose tables come; none where the rule on
 /// sizes is broken.
@@ -152,7 +142,7 @@ fn judge_parts<R: Read>(
 }
 
 /// Judges the certificate whose text the reader gives, as it comes: what it claims, and the verdict of the rules on it,
-/// or the fault of the text. Of the table of costs one row at a time is held.
+/// or the fault of the text. Of each table one row at a time is held.
 pub fn judge_stream<R: Read + Drop>(
     alloc: Global,
     graph: &Graph,

@@ -1,5 +1,6 @@
 //! What is answered of a certificate, and the rules that it names.
 ghost use Rattle.std.specs.Prelude.{◌≡◌};
+ghost use Rattle.tcc_check.specs.Coming.{first_of, first_rejected};
 ghost use Rattle.tcc_check.specs.Verdicts.{rule_number};
 ghost use Rattle.tcc_check.specs.declared.verdict.Verdict.TheVariants as verdict;
 
@@ -64,5 +65,30 @@ pub(crate) fn rejected(rule: Rule, place: u32) -> Verdict
     Verdict::Rejected {
         rule,
         at: (place, 0),
+    }
+}
+
+/// The place that was found, or else that in the row of `start`.
+pub(crate) fn first_of(
+    found: Option<(u32, u32)>,
+    start: u32,
+    end: Option<u32>,
+) -> Option<(u32, u32)>
+    ensures { result ≡ first_of found start end }
+{
+    match (found, end) {
+        (Some(at), _) => Some(at),
+        (None, Some(end)) => Some((start, end)),
+        (None, None) => None,
+    }
+}
+
+/// The first of two verdicts that is no acceptance.
+pub(crate) fn first_rejected(earlier: Verdict, later: Verdict) -> Verdict
+    ensures { result ≡ first_rejected earlier later }
+{
+    match earlier {
+        Verdict::Accepted => later,
+        Verdict::Rejected { .. } => earlier,
     }
 }

@@ -1,12 +1,9 @@
 //! Weights of links: how many steps a link takes before its last one.
-ghost use Rattle.std.specs.Prelude.{ℕ, ◌≡◌, ◌<◌, ◌^◌, List, length, slice_index, All, IfOk};
+ghost use Rattle.std.specs.Prelude.{ℕ, ◌≡◌, ◌<◌, List, length, slice_index, All, IfOk};
 ghost use Rattle.tcc_reads.specs.History.{count};
 ghost use Rattle.tcc_cert.specs.Tables.{entry, HasSize};
-ghost use Rattle.tcc_check.specs.Weights.{unlinked, PairWeighs, IsTurned, TurnedWeighs, WriterWeighs, KeyWeighs, IsLeastRow, IsLeastTable, IsLowered, AreLowered, AreStarts};
-ghost use Rattle.tcc_check.specs.Searches.{AreStartRows};
+ghost use Rattle.tcc_check.specs.Weights.{unlinked, IsTurned, TurnedWeighs, WriterWeighs, KeyWeighs, IsLowered, AreLowered};
 
-use crate::runs::is_in_run;
-use crate::starts::Starts;
 use std::alloc::Global;
 use tcc_cert::{Numbers, Table};
 use tcc_graph::Graph;
@@ -14,32 +11,6 @@ use tcc_txn::{Name, NoMemory};
 
 /// Stands where there is no link; no number of a table is above it.
 pub(crate) const UNLINKED: u32 = u32::MAX;
-
-/// For each start the weight of its pair with `end`.
-fn pair_row(alloc: Global, graph: &Graph, end: u32) -> Result<Vec<u32>, NoMemory>
-    requires { end < count graph.now }
-    ensures long { IfOk result (λ row. length row.items ≡ count graph.now) }
-    ensures least { IfOk result (λ row. IsLeastRow (PairWeighs graph.now end) row.items) }
-{
-    let mut row = vec![in alloc; UNLINKED; graph.count() as usize]?;
-    for start in 0..graph.count() {
-        if graph.causal(start, end) {
-            row[start as usize] = 0;
-        }
-    }
-    Ok(row)
-}
-
-/// The weights of causal pairs, a row for each end.
-pub(crate) fn pair_weights(alloc: Global, graph: &Graph) -> Result<Table, NoMemory>
-    ensures { IfOk result (λ weights. IsLeastTable (count graph.now) (PairWeighs graph.now) weights) }
-{
-    let mut rows = Vec::new(alloc);
-    for end in 0..graph.count() {
-        rows.push(Numbers::new(pair_row(alloc, graph, end)?))?;
-    }
-    Ok(Table::new(rows))
-}
 
 /// Lowers the numbers of these writers to those that the turned table has for the reader and them.
 fn lower_writers(row: &mut [u32], writers: &[u32], turned: &[Numbers], end: u32, reader: u32)
@@ -148,45 +119,4 @@ pub(crate) fn no_weights(alloc: Global, count: usize) -> Result<Table, NoMemory>
         rows.push(Numbers::new(vec![in alloc; UNLINKED; count]?))?;
     }
     Ok(Table::new(rows))
-}
-
-/// The starts of the other links to `end`, those that take less than `least`, with their weights, the lighter first; its
-/// session goes on from `begin`.
-fn starts_in(
-    alloc: Global,
-    row: &[u32],
-    begin: u32,
-    end: u32,
-    least: u32,
-) -> Result<Starts, NoMemory>
-    requires { length row.now < 2 ^ 32 }
-    ensures { IfOk result (λ starts. AreStarts least begin end row.now starts) }
-{
-    let mut starts = Vec::new(alloc);
-    for (start, weight) in row.iter().enumerate() {
-        if u64::from(*weight) + 1 < u64::from(least) && !is_in_run(begin, end, start as u32) {
-            starts.push((start as u32, *weight))?;
-        }
-    }
-    starts.sort_by_key(|start| start.1)?;
-    Ok(Starts::new(starts))
-}
-
-/// The starts of the other links to each end.
-pub(crate) fn start_rows(
-    alloc: Global,
-    begins: &[u32],
-    weights: &[Numbers],
-    least: u32,
-) -> Result<Vec<Starts>, NoMemory>
-    requires size { HasSize (length weights.now) (length weights.now) weights.now }
-    requires begins { length begins.now ≡ length weights.now }
-    requires few { length weights.now < 2 ^ 32 }
-    ensures { IfOk result (λ starts. AreStartRows least begins.now weights.now starts.items) }
-{
-    let mut starts = Vec::new(alloc);
-    for (end, row) in weights.iter().enumerate() {
-        starts.push(starts_in(alloc, row.as_slice(), begins[end], end as u32, least)?)?;
-    }
-    Ok(starts)
 }

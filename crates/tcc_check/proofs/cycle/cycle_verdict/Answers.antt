@@ -10,9 +10,6 @@ use Rattle.tcc_check.proofs.cycle.cycle_verdict.Goals as goal
 pub returns-then-not-has_right_sizes : goal.returns-then-not-has_right_sizes
 returns-then-not-has_right_sizes c = let sizes = c.has_right_sizes.ensures.sizes c.args.level in search rules
 
-pub links_verdict-requires : goal.links_verdict-requires
-links_verdict-requires c = ((c.has_right_sizes.ensures.sizes c.args.level).0 c.if-not-has_right_sizes.false).links
-
 pub returns-in_default : goal.returns-in_default
 returns-in_default c =
     let h = c.args.graph.now in

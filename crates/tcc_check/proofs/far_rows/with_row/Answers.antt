@@ -1,20 +1,30 @@
 -- Each search of the row is one of the table.
-use Rattle.std.proofs.Common.{◌≡◌, ◌+◌, length, ◌∙◌}
+use Rattle.std.proofs.Common.{◌+◌, ℕ, List, [], length, ap, subst, arith, ◌∙◌}
+use Rattle.std.proofs.lemmas.List.{get_or_read}
+use Rattle.tcc_reads.specs.History.{count}
 use Rattle.tcc_cert.specs.Tables.{lowest}
-use Rattle.tcc_check.specs.Coming.{IsShortAt}
-use Rattle.tcc_check.specs.Searches.{IsLongStartFrom}
-use Rattle.tcc_check.specs.Weights.{IsLongLink}
-use Rattle.tcc_check.proofs.FarBehind.{found-more, link-row, return-row, step-row}
+use Rattle.tcc_cert.specs.CycleRules.{BreaksFarLink, BreaksFarStep, BreaksReturn}
+use Rattle.tcc_check.specs.Searches.{IsFoundBelow, IsLongSingle, IsLongStep}
+use Rattle.tcc_check.specs.WeightsFrom.{ends_of}
+use Rattle.tcc_check.proofs.RowRules.{far-link-row, far-step-row, found-more, return-row}
 use Rattle.tcc_check.proofs.far_rows.with_row.Goals as goal
 
 pub returns : goal.returns
-returns c far is long before =
-    let wide : length far ≡ lowest c.args.version c.args.start + length c.args.row.now = long ∙ c.requires.size.long in
+returns c table far of is before =
+    let h = c.args.graph.now in
+    let version = c.args.version in
+    let links = c.args.near.now.links.items in
+    let row = c.args.row.now in
+    let start = c.args.start in
+    let same = get_or_read c.as_slice-links.result.now start c.index-links-start.result (omega (arith, ap length c.as_slice-links.ensures.value, c.requires.orderly.long, c.requires.start)) c.index-links-start.is [] ∙ ap (λ (r : List (List (ℕ × ℕ))). ends_of r start) c.as_slice-links.ensures.value in
+    let single : IsFoundBelow (count h) (IsLongSingle h (ends_of links start) row (lowest version start) start) c.long_link-link.result =
+    subst (λ (e : List (ℕ × ℕ)). IsFoundBelow (count h) (IsLongSingle h e row (lowest version start) start) c.long_link-link.result) same (rw (← c.lowest-low.ensures.value) c.long_link-link.ensures) in
+    let step : IsFoundBelow (lowest version start + length row) (IsLongStep c.args.near.now.begins.items links row (lowest version start)) c.long_step-step.result = rw (← c.deref.ensures.value, ← c.as_slice-links.ensures.value, ← c.lowest-low.ensures.value) c.long_step-step.ensures in
     record {
-      links = rw c.first_of.ensures (found-more c.args.start (IsLongLink c.args.version c.args.weights.now far) c.args.faults.link c.first_long_end-link.result before.links
-          (link-row c.args.version c.args.begins.now c.args.weights.now c.args.starts.now c.args.least far c.args.start c.args.row.now is wide c.requires.start c.first_long_end-link.result (rw (← c.lowest-low.ensures.value) c.first_long_end-link.ensures)));
-      steps = rw c.first_of-2.ensures (found-more c.args.start (IsLongStartFrom c.args.version c.args.begins.now c.args.starts.now far) c.args.faults.step c.first_overshot-step.result before.steps
-          (step-row c.args.version c.args.begins.now c.args.weights.now c.args.starts.now c.args.least far c.args.start c.args.row.now is wide c.requires.start c.first_overshot-step.result (rw (← c.lowest-low.ensures.value) c.first_overshot-step.ensures)));
-      returns = rw c.first_of-3.ensures (found-more c.args.start (IsShortAt (length far) c.args.version c.args.least far) c.args.faults.back c.short_return-back.result before.returns
-          (return-row c.args.version c.args.begins.now c.args.weights.now c.args.starts.now c.args.least far c.args.start c.args.row.now is wide c.requires.start c.short_return-back.result (rw (← c.lowest-low.ensures.value) c.short_return-back.ensures)));
+      links = rw c.first_of.ensures (found-more start (BreaksFarLink h version table far) c.args.faults.link c.long_link-link.result before.links
+          (far-link-row h version c.args.least table far start row is c.requires.start c.requires.long c.requires.capped links of c.long_link-link.result single));
+      steps = rw c.first_of-2.ensures (found-more start (BreaksFarStep h version table far) c.args.faults.step c.long_step-step.result before.steps
+          (far-step-row h version c.args.least table far start row is c.requires.start c.requires.long c.requires.capped links of c.args.near.now.begins.items c.requires.orderly.runs c.long_step-step.result step));
+      returns = rw c.first_of-3.ensures (found-more start (BreaksReturn h version c.args.least far) c.args.faults.back c.short_return-back.result before.returns
+          (return-row h version c.args.least table far start row is c.requires.start c.requires.long c.requires.capped links of c.short_return-back.result (rw (← c.lowest-low.ensures.value) c.short_return-back.ensures)));
     }

@@ -1,4 +1,4 @@
-use Rattle.std.proofs.Common.{ℕ, ◌<◌, List, get_or, refl, arith}
+use Rattle.std.proofs.Common.{ℕ, List, arith}
 use Rattle.tcc_check.specs.Latest.{IsReadKept}
 use Rattle.tcc_check.proofs.Sessions.{first_more, by_reads}
 use Rattle.tcc_check.proofs.latest.are_reads_kept.Goals as goal

@@ -1,6 +1,4 @@
-use Rattle.std.proofs.Common.{◌≡◌, ◌<◌, ℕ, ◌⊎◌, inl, inr, arith, subst}
-use Rattle.tcc_graph.specs.Relations.{IsCausalPair}
-use Rattle.tcc_check.specs.Places.{IsKept}
+use Rattle.std.proofs.Common.{inl, inr, arith}
 use Rattle.tcc_graph.proofs.Pairs.{PairParts, pair_parts}
 use Rattle.tcc_check.proofs.Ordered.{kept_by_previous}
 use Rattle.tcc_check.proofs.order.keeps_pairs_to.Goals as goal

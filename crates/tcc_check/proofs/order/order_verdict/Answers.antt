@@ -1,6 +1,4 @@
-use Rattle.std.proofs.Common.{◌≡◌, inl, inr, refl, rules, arith, sym, subst, ℕ, List}
-use Rattle.std.specs.Prelude.{IsTrue}
-use Rattle.tcc_cert.specs.OrderRules.{KeepsPairs}
+use Rattle.std.proofs.Common.{inl, inr, refl, rules, arith}
 use Rattle.tcc_check.specs.Places.{ArePlaces}
 use Rattle.tcc_check.proofs.Ordered.{sessions_kept, axiom_kept, places_apart}
 use Rattle.tcc_check.proofs.order.order_verdict.Goals as goal

@@ -2,7 +2,7 @@ use Rattle.std.proofs.Common.{◌≡◌, ◌<◌, ℕ, List, [], ◌∷◌, ◌+
 use Rattle.std.proofs.lemmas.List.{get_or_read}
 use Rattle.tcc_reads.specs.History.{count}
 use Rattle.tcc_cert.specs.Tables.{row_of}
-use Rattle.tcc_check.specs.Weights.{IsTurned, TurnedWeighs, ContradictionWeighs, IsLowered}
+use Rattle.tcc_check.specs.Weights.{TurnedWeighs, ContradictionWeighs, IsLowered}
 use Rattle.tcc_check.proofs.Rows.{no_rows, one_more_row, all_lowered}
 use Rattle.tcc_check.proofs.Turned.{lowered_by}
 use Rattle.tcc_txn.proofs.Lists.{whole}

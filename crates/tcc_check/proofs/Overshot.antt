@@ -1,0 +1,131 @@
+-- What the first links of a list tell of a row.
+use Rattle.std.proofs.Common.{◌≡◌, ◌<◌, ◌≤◌, ◌+◌, ◌-◌, ℕ, ◌⊎◌, inl, inr, List, length, get_or, Option, None, Some, arith, sym, ap, subst, ◌∙◌}
+use Rattle.std.specs.Prelude.{All}
+use Rattle.std.proofs.lemmas.Bool.{cases_eq, cases_lt}
+use Rattle.std.proofs.lemmas.List.{get_or_default, get_or_past}
+use Rattle.tcc_check.specs.Weights.{AreByWeight}
+use Rattle.tcc_check.specs.Searches.{IsFoundBelow, IsOvershot, IsLongOther, lesser}
+use Rattle.tcc_check.specs.WeightsFrom.{ends_of}
+use Rattle.tcc_check.proofs.Found.{found_as, found_either, found_here}
+
+-- one of the first i links takes less
+abbrev pub SeenOver : ℕ → List (ℕ × ℕ) → List ℕ → ℕ → ℕ → ℕ → Type 0
+SeenOver i ends row low before v =
+    (low ≤ v) × (k : ℕ) × (k < i) × ((get_or ends k (0, 0)).0 ≡ v) × (before + 1 + (get_or ends k (0, 0)).1 < get_or row (v - low) 0)
+
+module _ (ends : List (ℕ × ℕ)) (row : List ℕ) (low before : ℕ) where
+  abbrev n : ℕ
+  n = low + length row
+
+  pub none_over : IsFoundBelow n (SeenOver 0 ends row low before) None
+  none_over = λ a l p. absurd (omega (arith, p.2))
+
+  older : (i v : ℕ) → SeenOver i ends row low before v → SeenOver (i + 1) ends row low before v
+  older i v (low_v, k, l, is, more) = (low_v, k, omega (arith, l), is, more)
+
+  newer : (i v : ℕ) → SeenOver (i + 1) ends row low before v → SeenOver i ends row low before v ⊎ ((low ≤ v) × ((get_or ends i (0, 0)).0 ≡ v) × (before + 1 + (get_or ends i (0, 0)).1 < get_or row (v - low) 0))
+  newer i v (low_v, k, l, is, more) = go (cases_eq k i)
+    where
+      go : (k ≡ i) ⊎ (k ≡ i → ⊥) → SeenOver i ends row low before v ⊎ ((low ≤ v) × ((get_or ends i (0, 0)).0 ≡ v) × (before + 1 + (get_or ends i (0, 0)).1 < get_or row (v - low) 0))
+      go (inl same) = inr (low_v, subst (λ (z : ℕ). (get_or ends z (0, 0)).0 ≡ v) same is, subst (λ (z : ℕ). before + 1 + (get_or ends z (0, 0)).1 < get_or row (v - low) 0) same more)
+      go (inr apart) = inl (low_v, k, omega (arith, l, apart), is, more)
+
+  pub over_skipped : (i : ℕ) (found : Option ℕ) → (low ≤ (get_or ends i (0, 0)).0 → before + 1 + (get_or ends i (0, 0)).1 < get_or row ((get_or ends i (0, 0)).0 - low) 0 → ⊥) → IsFoundBelow n (SeenOver i ends row low before) found → IsFoundBelow n (SeenOver (i + 1) ends row low before) found
+  over_skipped i found not = found_as n (SeenOver i ends row low before) (SeenOver (i + 1) ends row low before) (older i) (λ v p. back v (newer i v p)) found
+    where
+      back : (v : ℕ) → SeenOver i ends row low before v ⊎ ((low ≤ v) × ((get_or ends i (0, 0)).0 ≡ v) × (before + 1 + (get_or ends i (0, 0)).1 < get_or row (v - low) 0)) → SeenOver i ends row low before v
+      back v (inl old) = old
+      back v (inr (low_v, is, more)) = absurd (not (omega (arith, low_v, is)) (subst (λ (z : ℕ). before + 1 + (get_or ends i (0, 0)).1 < get_or row (z - low) 0) (sym is) more))
+
+  pub over_found : (i e : ℕ) (found : Option ℕ) → (get_or ends i (0, 0)).0 ≡ e → e < n → low ≤ e → before + 1 + (get_or ends i (0, 0)).1 < get_or row (e - low) 0 → IsFoundBelow n (SeenOver i ends row low before) found → IsFoundBelow n (SeenOver (i + 1) ends row low before) (lesser found (Some e))
+  over_found i e found is below low_e more old =
+      found_as n (λ v. SeenOver i ends row low before v ⊎ (v ≡ e)) (SeenOver (i + 1) ends row low before) to (λ v p. back v (newer i v p)) (lesser found (Some e))
+      (found_either n (SeenOver i ends row low before) (λ v. v ≡ e) found (Some e) old (found_here n e below))
+    where
+      to : (v : ℕ) → SeenOver i ends row low before v ⊎ (v ≡ e) → SeenOver (i + 1) ends row low before v
+      to v (inl old) = older i v old
+      to v (inr same) = rw same (low_e, i, omega arith, is, more)
+
+      back : (v : ℕ) → SeenOver i ends row low before v ⊎ ((low ≤ v) × ((get_or ends i (0, 0)).0 ≡ v) × (before + 1 + (get_or ends i (0, 0)).1 < get_or row (v - low) 0)) → SeenOver i ends row low before v ⊎ (v ≡ e)
+      back v (inl old) = inl old
+      back v (inr (low_v, here, most)) = inr (sym here ∙ is)
+
+  to_over : (i v : ℕ) → i ≤ length ends → SeenOver i ends row low before v → IsOvershot ends row low before v
+  to_over i v upto (low_v, k, l, is, more) = (
+    low_v,
+    (get_or ends k (0, 0)).1,
+    (k, omega (arith, l, upto), get_or_default ends k _ (0, 0) (omega (arith, l, upto)) ∙ whole (get_or ends k (0, 0)) is),
+    more,
+  )
+    where
+      whole : (link : ℕ × ℕ) → link.0 ≡ v → link ≡ (v, link.1)
+      whole link same = ap (λ z. (z, link.1)) same
+
+  from_over : (v : ℕ) → IsOvershot ends row low before v → SeenOver (length ends) ends row low before v
+  from_over v (low_v, w, (k, l, is), more) =
+      let here : get_or ends k (0, 0) ≡ (v, w) = get_or_default ends k (0, 0) (v, w) l ∙ is in
+      (low_v, k, l, ap (λ (z : ℕ × ℕ). z.0) here, omega (arith, ap (λ (z : ℕ × ℕ). z.1) here, more))
+
+  pub all_over : (i : ℕ) (found : Option ℕ) → i ≡ length ends → IsFoundBelow n (SeenOver i ends row low before) found → IsFoundBelow n (IsOvershot ends row low before) found
+  all_over i found all = found_as n (SeenOver i ends row low before) (IsOvershot ends row low before) (λ v p. to_over i v (omega (arith, all)) p) (λ v p. subst (λ (z : ℕ). SeenOver z ends row low before v) (sym all) (from_over v p)) found
+
+  -- behind a link that takes as much as anything the row has, none takes less
+  pub rest_over : (i most : ℕ) (found : Option ℕ) → i < length ends → AreByWeight ends → All (λ number. number ≤ most) row → most ≤ before + 1 + (get_or ends i (0, 0)).1 → IsFoundBelow n (SeenOver i ends row low before) found → IsFoundBelow n (IsOvershot ends row low before) found
+  rest_over i most found inside sorted capped enough = found_as n (SeenOver i ends row low before) (IsOvershot ends row low before) (λ v p. to_over i v (omega (arith, inside)) p) (λ v p. back v (from_over v p)) found
+    where
+      under : (k : ℕ) → get_or row k 0 ≤ most
+      under k = go (cases_lt k (length row))
+        where
+          go : (k < length row) ⊎ (length row ≤ k) → get_or row k 0 ≤ most
+          go (inl l) = capped k 0 l
+          go (inr l) = omega (arith, get_or_past row k 0 l)
+
+      back : (v : ℕ) → SeenOver (length ends) ends row low before v → SeenOver i ends row low before v
+      back v (low_v, k, l, is, more) = go (cases_lt k i)
+        where
+          go : (k < i) ⊎ (i ≤ k) → SeenOver i ends row low before v
+          go (inl less) = (low_v, k, less, is, more)
+          go (inr later) = absurd (omega (arith, sorted i k (0, 0) later l, more, under (v - low), enough))
+
+-- one of the links from the first starts takes less
+abbrev pub SeenOther : ℕ → List (List (ℕ × ℕ)) → List ℕ → ℕ → ℕ → Type 0
+SeenOther i others row low v =
+    (u : ℕ) × (low ≤ u) × (u < low + i) × IsOvershot (ends_of others u) row low (get_or row (u - low) 0) v
+
+module _ (others : List (List (ℕ × ℕ))) (row : List ℕ) (low : ℕ) (P : ℕ → Type 0) where
+  abbrev m : ℕ
+  m = low + length row
+
+  pub none_other : (found : Option ℕ) → IsFoundBelow m P found → IsFoundBelow m (λ v. P v ⊎ SeenOther 0 others row low v) found
+  none_other found = found_as m P (λ v. P v ⊎ SeenOther 0 others row low v) (λ v p. inl p) back found
+    where
+      back : (v : ℕ) → P v ⊎ SeenOther 0 others row low v → P v
+      back v (inl p) = p
+      back v (inr (u, low_u, less, over)) = absurd (omega (arith, low_u, less))
+
+  pub more_other : (i : ℕ) (found end : Option ℕ) (ends : List (ℕ × ℕ)) (before : ℕ) → ends ≡ ends_of others (low + i) → before ≡ get_or row i 0 → IsFoundBelow m (λ v. P v ⊎ SeenOther i others row low v) found → IsFoundBelow m (IsOvershot ends row low before) end
+      → IsFoundBelow m (λ v. P v ⊎ SeenOther (i + 1) others row low v) (lesser found end)
+  more_other i found end ends before are is old new =
+      found_as m (λ v. (P v ⊎ SeenOther i others row low v) ⊎ IsOvershot ends row low before v) (λ v. P v ⊎ SeenOther (i + 1) others row low v) to back (lesser found end)
+      (found_either m (λ v. P v ⊎ SeenOther i others row low v) (IsOvershot ends row low before) found end old new)
+    where
+      number : before ≡ get_or row ((low + i) - low) 0
+      number = is ∙ ap (λ k. get_or row k 0) (omega arith)
+
+      to : (v : ℕ) → (P v ⊎ SeenOther i others row low v) ⊎ IsOvershot ends row low before v → P v ⊎ SeenOther (i + 1) others row low v
+      to v (inl (inl p)) = inl p
+      to v (inl (inr (u, low_u, less, over))) = inr (u, low_u, omega (arith, less), over)
+      to v (inr over) = inr (low + i, omega arith, omega arith, subst (λ (z : ℕ). IsOvershot (ends_of others (low + i)) row low z v) number (subst (λ (e : List (ℕ × ℕ)). IsOvershot e row low before v) are over))
+
+      back : (v : ℕ) → P v ⊎ SeenOther (i + 1) others row low v → (P v ⊎ SeenOther i others row low v) ⊎ IsOvershot ends row low before v
+      back v (inl p) = inl (inl p)
+      back v (inr (u, low_u, less, over)) = go (cases_eq u (low + i))
+        where
+          go : (u ≡ low + i) ⊎ (u ≡ low + i → ⊥) → (P v ⊎ SeenOther i others row low v) ⊎ IsOvershot ends row low before v
+          go (inl same) =
+              let here : IsOvershot (ends_of others (low + i)) row low (get_or row ((low + i) - low) 0) v = subst (λ (z : ℕ). IsOvershot (ends_of others z) row low (get_or row (z - low) 0) v) same over in
+              inr (subst (λ (e : List (ℕ × ℕ)). IsOvershot e row low before v) (sym are) (subst (λ (z : ℕ). IsOvershot (ends_of others (low + i)) row low z v) (sym number) here))
+          go (inr apart) = inl (inr (u, low_u, omega (arith, less, apart), over))
+
+  pub all_other : (i : ℕ) (found : Option ℕ) → i ≡ length row → IsFoundBelow m (λ v. P v ⊎ SeenOther i others row low v) found → IsFoundBelow m (λ v. P v ⊎ IsLongOther others row low v) found
+  all_other i found all old = subst (λ (z : ℕ). IsFoundBelow m (λ v. P v ⊎ SeenOther z others row low v) found) all old

@@ -1,0 +1,18 @@
+use Rattle.std.proofs.Common.{arith, refl, get_or}
+use Rattle.tcc_check.proofs.links_from.lower_readings.Goals.{then-source-start, else-source-start}
+use Rattle.tcc_check.proofs.LinksFrom.{no-reading, reading-skipped, reading-lowered, all-readings}
+use Rattle.tcc_check.proofs.links_from.lower_readings.Goals as goal
+
+pub loop-place-init : goal.loop-place-init
+loop-place-init c = no-reading c.args.sources.now c.args.readers.now c.args.row.now c.args.start c.args.weights.now c.args.weights.now
+
+pub loop-place-preserved : goal.loop-place-preserved
+loop-place-preserved c =
+    let below = c.requires.sources c.loop-place.place 0 c.loop-place-test.true in
+    elim c.if-source-start.branch [
+      | then-source-start w ↦ rw (w.weights-is, w.min.ensures) (reading-lowered c.args.sources.now c.args.readers.now c.args.row.now c.args.start c.args.weights.now c.loop-place.weights c.loop-place.place (get_or c.args.sources.now c.loop-place.place 0) _ refl w.if-source-start.true refl (omega (arith, below, c.loop-place.auto.weights)) c.loop-place.invariant)
+      | else-source-start w ↦ rw w.weights-is (reading-skipped c.args.sources.now c.args.readers.now c.args.row.now c.args.start c.args.weights.now c.loop-place.weights c.loop-place.place w.if-source-start.false c.loop-place.invariant)
+    ]
+
+pub returns : goal.returns
+returns c = all-readings c.args.sources.now c.args.readers.now c.args.row.now c.args.start c.args.weights.now c.loop-place.weights c.loop-place.place (omega arith) c.loop-place.invariant

@@ -1,0 +1,30 @@
+-- Where nothing is linked, who reads from the start is marked.
+use Rattle.std.proofs.Common.{◌≡◌, ◌<◌, [], replicate, length, rules, ap, ◌∙◌}
+use Rattle.std.proofs.lemmas.List.{length-replicate}
+use Rattle.tcc_reads.specs.History.{count}
+use Rattle.tcc_txn.proofs.Lists.{whole}
+use Rattle.tcc_check.specs.Weights.{unlinked, IsLowered}
+use Rattle.tcc_check.specs.WeightsFrom.{MarkWeighs, ReadWeighs}
+use Rattle.tcc_check.proofs.LinksFrom.{bare-lowered, firsts-by, marks-reads}
+use Rattle.tcc_check.proofs.links_from.read_weights.Goals as goal
+
+pub returns : goal.returns
+returns c =
+    let h = c.args.graph.now in
+    let bare = c.in_ok-weights.weights.items in
+    let new = c.mark.new.weights in
+    let made : bare ≡ replicate c.count.result unlinked = search rules in
+    let lowered : IsLowered (MarkWeighs c.readings.result.0.now) bare new = rw (← c.deref_mut.ensures.value) c.mark.ensures in
+    let long : length new ≡ count h = lowered.long ∙ ap length made ∙ length-replicate c.count.result unlinked ∙ c.count.ensures.value in
+    rw (whole new bare c.in_ok-weights.weights.len lowered.long (search rules)) (record {
+      long = long;
+      least = bare-lowered c.count.result (ReadWeighs h c.args.start) bare new made
+          (marks-reads h c.args.start c.readings.result.0.now c.readings.result.1.now bare new c.readings.ensures.long (λ k x w. (c.readings.ensures.each k x).0 w) (λ k x w. (c.readings.ensures.each k x).1 w) lowered);
+    })
+
+pub mark-requires : goal.mark-requires
+mark-requires c =
+    let h = c.args.graph.now in
+    let made : c.in_ok-weights.weights.items ≡ replicate c.count.result unlinked = search rules in
+    let long : length c.deref_mut.result.now ≡ count h = ap length (c.deref_mut.ensures.value ∙ made) ∙ length-replicate c.count.result unlinked ∙ c.count.ensures.value in
+    rw long (firsts-by [] (λ k. k < count h) c.readings.result.0.now c.readings.result.1.now c.readings.ensures.long (λ k x w. ((c.readings.ensures.each k x).0 w).1))

@@ -1,0 +1,156 @@
+//! The links from one transaction other than session pairs, by its row of lengths: how many steps each of them takes
+//! before its last one.
+ghost use Rattle.std.specs.Prelude.{◌≡◌, ◌<◌, ◌≤◌, ◌^◌, All, IfOk, length};
+ghost use Rattle.tcc_txn.specs.declared.limits.TheConstants.{MAX_COUNT};
+ghost use Rattle.tcc_reads.specs.History.{count};
+ghost use Rattle.tcc_graph.specs.Keys.{keys};
+ghost use Rattle.tcc_check.specs.Weights.{IsLeastRow, IsLowered};
+ghost use Rattle.tcc_check.specs.WeightsFrom.{AreAllEnds, AreEnds, AreLightEnds, ContradictsBy, InitContradictsBy, MarkWeighs, PlaceWeighs, ReadWeighs, ReadingWeighs, SourceWeighs, WeighsFrom};
+
+use crate::ends::Ends;
+use crate::weights::UNLINKED;
+use std::alloc::Global;
+use tcc_graph::Graph;
+use tcc_txn::NoMemory;
+
+/// Lowers the weights of these readers to 0.
+fn mark(weights: &mut [u32], readers: &[u32])
+    requires { All (λ reader. reader < length weights.old) readers.now }
+    ensures { IsLowered (MarkWeighs readers.now) weights.old weights.new }
+{
+    for reader in readers {
+        weights[*reader as usize] = 0;
+    }
+}
+
+/// The weights of reads-from pairs from `start`, by their ends.
+fn read_weights(alloc: Global, graph: &Graph, start: u32) -> Result<Vec<u32>, NoMemory>
+    requires { start < count graph.now }
+    ensures long { IfOk result (λ weights. length weights.items ≡ count graph.now) }
+    ensures least { IfOk result (λ weights. IsLeastRow (ReadWeighs graph.now start) weights.items) }
+{
+    let mut weights = vec![in alloc; UNLINKED; graph.count() as usize]?;
+    mark(&mut weights, graph.readings(start).0);
+    Ok(weights)
+}
+
+/// Lowers the weight of each of these sources but `start` to what the row has for the reader beside it.
+fn lower_readings(weights: &mut [u32], sources: &[u32], readers: &[u32], row: &[u32], start: u32)
+    requires long { length sources.now ≡ length readers.now }
+    requires sources { All (λ source. source < length weights.old) sources.now }
+    requires readers { All (λ reader. reader < length row.now) readers.now }
+    ensures { IsLowered (ReadingWeighs sources.now readers.now row.now start) weights.old weights.new }
+{
+    for (place, source) in sources.iter().enumerate() {
+        if *source != start {
+            let number = row[readers[place] as usize];
+            weights[*source as usize] = weights[*source as usize].min(number);
+        }
+    }
+}
+
+/// Does so for all who read the keys at these places.
+fn lower_places(weights: &mut [u32], graph: &Graph, places: &[u32], row: &[u32], start: u32)
+    requires weights { length weights.old ≡ count graph.now }
+    requires row { length row.now ≡ count graph.now }
+    requires places { All (λ place. place < length (keys graph.now)) places.now }
+    ensures { IsLowered (PlaceWeighs graph.now places.now row.now start) weights.old weights.new }
+{
+    for place in places {
+        let (sources, readers) = graph.readings_of(*place);
+        lower_readings(weights, sources, readers, row, start);
+    }
+}
+
+/// Lowers the weight of the source to what the row has for each of these readers.
+fn lower_source(weights: &mut [u32], source: u32, readers: &[u32], row: &[u32])
+    requires source { source < length weights.old }
+    requires readers { All (λ reader. reader < length row.now) readers.now }
+    ensures { IsLowered (SourceWeighs source readers.now row.now) weights.old weights.new }
+{
+    for reader in readers {
+        let number = row[*reader as usize];
+        weights[source as usize] = weights[source as usize].min(number);
+    }
+}
+
+/// Does so for each source but `init`, which writes every key.
+fn lower_sources(weights: &mut [u32], graph: &Graph, row: &[u32])
+    requires weights { length weights.old ≡ count graph.now }
+    requires row { length row.now ≡ count graph.now }
+    ensures { IsLowered (InitContradictsBy graph.now row.now) weights.old weights.new }
+{
+    for source in 1..graph.count() {
+        lower_source(weights, source, graph.readings(source).0, row);
+    }
+}
+
+/// Lowers the weights to what the row has for the readers that `start` may contradict.
+fn lower_contradicted(weights: &mut [u32], graph: &Graph, row: &[u32], start: u32)
+    requires weights { length weights.old ≡ count graph.now }
+    requires row { length row.now ≡ count graph.now }
+    requires start { start < count graph.now }
+    ensures { IsLowered (ContradictsBy graph.now row.now start) weights.old weights.new }
+{
+    if start == 0 {
+        lower_sources(weights, graph, row);
+    } else {
+        lower_places(weights, graph, graph.writes_at(start), row, start);
+    }
+}
+
+/// The ends whose weights are less than `least` together with their last steps, the lighter first.
+fn light_ends(alloc: Global, weights: &[u32], least: u32) -> Result<Ends, NoMemory>
+    requires { length weights.now < 2 ^ 32 }
+    ensures { IfOk result (AreLightEnds weights.now least) }
+{
+    let mut ends = Vec::new(alloc);
+    for (end, weight) in weights.iter().enumerate() {
+        if u64::from(*weight) + 1 < u64::from(least) {
+            ends.push((end as u32, *weight))?;
+        }
+    }
+    ends.sort_by_key(|end| end.1)?;
+    Ok(Ends::new(ends))
+}
+
+/// The links from `start`, by its row of lengths, that take less than `least`.
+pub(crate) fn link_ends(
+    alloc: Global,
+    graph: &Graph,
+    row: &[u32],
+    start: u32,
+    least: u32,
+) -> Result<Ends, NoMemory>
+    requires few { count graph.now ≤ MAX_COUNT }
+    requires row { length row.now ≡ count graph.now }
+    requires start { start < count graph.now }
+    ensures { IfOk result (AreEnds (WeighsFrom graph.now row.now start) (count graph.now) least) }
+{
+    let mut weights = read_weights(alloc, graph, start)?;
+    lower_contradicted(&mut weights, graph, row, start);
+    let ends = light_ends(alloc, &weights, least)?;
+    Ok(ends)
+}
+
+/// The reads-from pairs from `start`, where a single step is less than `least`.
+fn read_ends_of(alloc: Global, graph: &Graph, start: u32, least: u32) -> Result<Ends, NoMemory>
+    requires few { count graph.now ≤ MAX_COUNT }
+    requires start { start < count graph.now }
+    ensures { IfOk result (AreEnds (ReadWeighs graph.now start) (count graph.now) least) }
+{
+    let weights = read_weights(alloc, graph, start)?;
+    let ends = light_ends(alloc, &weights, least)?;
+    Ok(ends)
+}
+
+/// Those from each transaction.
+pub(crate) fn read_ends(alloc: Global, graph: &Graph, least: u32) -> Result<Vec<Ends>, NoMemory>
+    ensures { IfOk result (λ ends. AreAllEnds (ReadWeighs graph.now) (count graph.now) least ends.items) }
+{
+    let mut ends = Vec::new(alloc);
+    for start in 0..graph.count() {
+        ends.push(read_ends_of(alloc, graph, start, least)?)?;
+    }
+    Ok(ends)
+}

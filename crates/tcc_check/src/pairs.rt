@@ -1,0 +1,28 @@
+//! What is known of the causal pairs of a history before a table comes.
+ghost use Rattle.std.specs.Prelude.{IfOk};
+ghost use Rattle.tcc_check.specs.Pairs.{ArePairs};
+
+use crate::ends::Ends;
+use crate::links_from::read_ends;
+use crate::runs::run_begins;
+use std::alloc::Global;
+use tcc_graph::Graph;
+use tcc_txn::NoMemory;
+
+/// Where the runs of sessions begin, and the reads-from pairs from each transaction.
+#[derive(Drop)]
+pub(crate) struct Pairs {
+    pub(crate) begins: Vec<u32>,
+    pub(crate) reads: Vec<Ends>,
+}
+
+/// Those of a history, where costs below `least` are asked of.
+pub(crate) fn pairs_of(alloc: Global, graph: &Graph, least: u32) -> Result<Pairs, NoMemory>
+    ensures { IfOk result (ArePairs graph.now least) }
+{
+    // the transactions are numbered by session
+    let _sessions = graph.sessions();
+    let begins = run_begins(alloc, graph)?;
+    let reads = read_ends(alloc, graph, least)?;
+    Ok(Pairs { begins, reads })
+}
