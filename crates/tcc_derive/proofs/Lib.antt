@@ -1,5 +1,4 @@
 pub mod BackLemmas
-pub mod BlockLemmas
 pub mod BucketLemmas
 pub mod ByCostLemmas
 pub mod ChoiceLemmas

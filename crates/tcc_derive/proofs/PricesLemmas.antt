@@ -58,11 +58,11 @@ module _ (j : Judged) (near : NearTable) (prices costs : List (List ℕ)) (ends 
     within = λ u from. rw (other.each u from) (below j tables u from (priced.each u from) (cost_row u from) (row_of prices u) (row_of costs u) (count j.history));
   })
 
-  pub others_within : count j.history ≤ MAX_COUNT → All (λ (row : List (ℕ × ℕ)). All (λ (p : ℕ × ℕ). p.0 < MAX_COUNT) row) others
-  others_within few = λ u d low.
+  pub others_within : (m : ℕ) → count j.history ≤ m → All (λ (row : List (ℕ × ℕ)). All (λ (p : ℕ × ℕ). p.0 < m) row) others
+  others_within m few = λ u d low.
       let from : u < count j.history = omega (arith, low, other.long) in
-      let inside : All (λ (p : ℕ × ℕ). p.0 < length prices) (row_of others u) = (shaped few).within u (omega (arith, from, priced.long)) in
-      rw (get_or_default others u d [] low) (λ k e l. let less : (get_or (row_of others u) k e).0 < length prices = inside k e l in omega (arith, less, priced.long, few))
+      let inside : All (λ (p : ℕ × ℕ). p.0 < count j.history) (row_of others u) = rw (other.each u from) (below j tables u from (priced.each u from) (cost_row u from) (row_of prices u) (row_of costs u) (count j.history)) in
+      rw (get_or_default others u d [] low) (λ k e l. let less : (get_or (row_of others u) k e).0 < count j.history = inside k e l in omega (arith, less, few))
 
   pub have_by_cost : (rows : List (List (ℕ × ℕ))) → length rows ≡ length others
       → ((u : ℕ) → u < length others → row_of rows u ≡ costs_below (u + 1) (slice_index ends u) (row_of others u) (limit + 1)) → HaveByCost tables rows

@@ -1,11 +1,9 @@
 pub mod Prices
-pub mod Blocks
 pub mod Reasons
 pub mod ByCost
 pub mod Names
 pub mod Rows
 pub mod Buckets
-pub mod BlockTables
 pub mod CostBuckets
 pub mod KeyTables
 pub mod LinksOn

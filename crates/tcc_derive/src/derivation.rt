@@ -4,7 +4,6 @@ ghost use Rattle.tcc_near.specs.Distances.{IsNearOf};
 ghost use Rattle.tcc_derive.specs.Prices.{IsPricesOf};
 
 use crate::Prices;
-use crate::blocks::least_rows;
 use crate::by_cost::by_cost_rows;
 use crate::costing::cost_rows;
 use crate::limits::cost_limit;
@@ -32,19 +31,9 @@ pub fn derive(
     let written = write_table(alloc, graph)?;
     let prices = price_rows(rt, alloc, graph, near, &reads, &written)?;
     let costs = cost_rows(rt, alloc, graph, near, &prices)?;
-    let least = least_rows(rt, alloc, &costs)?;
     let others = other_rows(rt, alloc, graph, &prices, &costs)?;
     let ends = session_ends(alloc, graph)?;
-    let limit = cost_limit(near, &prices);
+    let limit = cost_limit(near, &prices, &others);
     let by_cost = by_cost_rows(rt, alloc, &others, &ends, limit)?;
-    Ok(Prices::new(
-        near.level(),
-        prices,
-        costs,
-        least,
-        ends,
-        others,
-        limit,
-        by_cost,
-    ))
+    Ok(Prices::new(near.level(), prices, costs, ends, others, limit, by_cost))
 }

@@ -1,7 +1,6 @@
 //! What each pair of transactions costs as a link, and the first of the cheapest reasons.
 #![tactic(auto)]
 
-mod blocks;
 mod bucket;
 mod by_cost;
 mod choices;
@@ -18,7 +17,6 @@ mod tables;
 mod walking;
 mod write_table;
 
-pub use blocks::BLOCK;
 pub use derivation::derive;
 pub use reasons::reason;
 pub use tables::Prices;

@@ -8,6 +8,9 @@ use tcc_near::{NONE, Near, Row};
 /// So many rows of distances are read side by side, so that a row of prices is read once for all of them.
 const BLOCK: usize = 32;
 
+/// A row of others is looked through one by one where it is at most this part of all transactions.
+const PART: usize = 16;
+
 /// The limit where no such cycle is.
 const AT_MOST: u16 = 64;
 
@@ -25,33 +28,72 @@ fn least_back(near: &Near, prices: &[u16], from: usize, to: usize, b: usize) -> 
     least
 }
 
-/// The least cost of a walk from one of these transactions, and back to it by the walk itself or by one derived link.
-fn least_from(near: &Near, prices: &[Row<u16>], from: usize, to: usize) -> u16
+/// The same from the others of `b` alone.
+fn least_of_others(near: &Near, prices: &[u16], others: &[(u32, u32)], b: usize) -> u16
+    requires within { All (λ p. p.0 < length near.now.rows) others.now }
+    requires long { length prices.now ≡ length near.now.rows }
+    requires below { b < length near.now.rows }
+{
+    let mut least = NONE;
+    for other in others {
+        let (a, _cost) = *other;
+        least = least.min(near.row(a)[b].saturating_add(prices[a as usize]));
+    }
+    least
+}
+
+/// The least cost of a walk from one of these transactions to one that has many others, and back by a derived link.
+fn least_from(
+    near: &Near,
+    prices: &[Row<u16>],
+    others: &[Row<(u32, u32)>],
+    from: usize,
+    to: usize,
+) -> u16
     requires within { to ≤ length near.now.rows }
     requires square { IsSquare (length near.now.rows) prices.now }
+    requires same { length others.now ≡ length near.now.rows }
     requires few { length near.now.rows ≤ MAX_COUNT }
 {
     let mut least = NONE;
-    for a in from..to {
-        least = least.min(near.row(a as u32)[a]);
-    }
     for (b, row) in prices.iter().enumerate() {
-        least = least.min(least_back(near, row.values(), from, to, b));
+        if others[b].values().len() > prices.len() / PART {
+            least = least.min(least_back(near, row.values(), from, to, b));
+        }
+    }
+    least
+}
+
+/// The least cost of a walk back to its start, or to one that has few others and back by a derived link.
+fn least_of_few(near: &Near, prices: &[Row<u16>], others: &[Row<(u32, u32)>]) -> u16
+    requires square { IsSquare (length near.now.rows) prices.now }
+    requires same { length others.now ≡ length near.now.rows }
+    requires within { All (λ row. All (λ p. p.0 < length near.now.rows) row) others.now }
+    requires few { length near.now.rows ≤ MAX_COUNT }
+{
+    let mut least = NONE;
+    for (b, row) in prices.iter().enumerate() {
+        least = least.min(near.row(b as u32)[b]);
+        if others[b].values().len() <= prices.len() / PART {
+            least = least.min(least_of_others(near, row.values(), others[b].values(), b));
+        }
     }
     least
 }
 
 /// What links are kept by cost: up to the least cost of a cycle that a walk makes, or a walk and one derived link back. No
 /// search leads on by a link that costs more. Whatever the limit, what is kept is right.
-pub(crate) fn cost_limit(near: &Near, prices: &[Row<u16>]) -> u16
+pub(crate) fn cost_limit(near: &Near, prices: &[Row<u16>], others: &[Row<(u32, u32)>]) -> u16
     requires square { IsSquare (length near.now.rows) prices.now }
+    requires same { length others.now ≡ length near.now.rows }
+    requires within { All (λ row. All (λ p. p.0 < length near.now.rows) row) others.now }
     requires few { length near.now.rows ≤ MAX_COUNT }
 {
-    let mut least = NONE;
-    let blocks = prices.len().div_ceil(BLOCK);
-    for block in 0..blocks {
+    let count = prices.len();
+    let mut least = least_of_few(near, prices, others);
+    for block in 0..count.div_ceil(BLOCK) {
         let from = block * BLOCK;
-        least = least.min(least_from(near, prices, from, prices.len().min(from + BLOCK)));
+        least = least.min(least_from(near, prices, others, from, count.min(from + BLOCK)));
     }
     if least == NONE { AT_MOST } else { least }
 }

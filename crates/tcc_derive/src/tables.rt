@@ -3,8 +3,6 @@ ghost use Rattle.std.specs.Prelude.{◌≡◌, ◌<◌, ◌≤◌, ◌+◌, ◌�
 ghost use Rattle.tcc_near.specs.Distances.{least_in};
 ghost use Rattle.tcc_derive.specs.Prices.{price_at, cost_at, end_of, others_at};
 ghost use Rattle.tcc_derive.specs.Others.{IsShaped};
-ghost use Rattle.tcc_derive.specs.Blocks.{HasLeastCosts};
-ghost use Rattle.tcc_derive.specs.BlockTables.{HaveLeastCosts};
 ghost use Rattle.tcc_derive.specs.ByCost.{IsByCost};
 ghost use Rattle.tcc_derive.specs.CostBuckets.{HaveByCost};
 ghost use Rattle.tcc_txn.specs.declared.limits.TheConstants.{MAX_COUNT};
@@ -20,8 +18,6 @@ pub struct Prices {
     level: Level,
     prices: Vec<Row<u16>>,
     costs: Vec<Row<u16>>,
-    /// The least cost of a link into each block, a row for each row of costs.
-    least: Vec<Row<u16>>,
     ends: Vec<u32>,
     others: Vec<Row<(u32, u32)>>,
     limit: u16,
@@ -33,7 +29,6 @@ impl Model for Prices {
     ghost use Rattle.std.specs.Prelude.{length};
     ghost use Rattle.tcc_derive.specs.Prices.{Tables};
     ghost use Rattle.tcc_derive.specs.Others.{IsShaped};
-    ghost use Rattle.tcc_derive.specs.BlockTables.{HaveLeastCosts};
     ghost use Rattle.tcc_derive.specs.CostBuckets.{HaveByCost};
 
     ghost Value = { Tables };
@@ -56,7 +51,6 @@ impl Model for Prices {
           others = p.others.items;
           limit = p.limit;
         })
-        × HaveLeastCosts p.costs.items p.least.items
         × HaveByCost (record {
           level = p.level;
           prices = p.prices.items;
@@ -73,7 +67,6 @@ impl Prices {
         level: Level,
         prices: Vec<Row<u16>>,
         costs: Vec<Row<u16>>,
-        least: Vec<Row<u16>>,
         ends: Vec<u32>,
         others: Vec<Row<(u32, u32)>>,
         limit: u16,
@@ -81,7 +74,6 @@ impl Prices {
     ) -> Prices
         requires shape { IsShaped (length prices.items)
             (record { level = level; prices = prices.items; costs = costs.items; ends = ends.items; others = others.items; limit = limit }) }
-        requires least { HaveLeastCosts costs.items least.items }
         requires by_cost { HaveByCost
             (record { level = level; prices = prices.items; costs = costs.items; ends = ends.items; others = others.items; limit = limit })
             by_cost.items }
@@ -91,7 +83,6 @@ impl Prices {
             level,
             prices,
             costs,
-            least,
             ends,
             others,
             limit,
@@ -129,7 +120,7 @@ impl Prices {
         requires to { v < length self.now.prices }
         ensures { result ≡ cost_at self.now u v }
     {
-        cell(self.costs(u)[v as usize])
+        cell(self.costs[u as usize].values()[v as usize])
     }
 
     /// The first number with a session pair from `u`, and one past the last one, all between them having one too; both
@@ -179,24 +170,6 @@ impl Prices {
         ensures long { length result.now ≡ length self.now.prices }
     {
         self.prices[b as usize].values()
-    }
-
-    /// What links from `u` to each transaction cost, `NONE` where there is none.
-    pub fn costs(&self, u: u32) -> &[u16]
-        requires { u < length self.now.prices }
-        ensures value { result.now ≡ row_of self.now.costs u }
-        ensures long { length result.now ≡ length self.now.prices }
-        ensures few { length result.now ≤ MAX_COUNT }
-    {
-        self.costs[u as usize].values()
-    }
-
-    /// The least cost of a link from `u` into each block of transactions, `NONE` where no link leads there.
-    pub fn least_costs(&self, u: u32) -> &[u16]
-        requires { u < length self.now.prices }
-        ensures { HasLeastCosts (row_of self.now.costs u) result.now }
-    {
-        self.least[u as usize].values()
     }
 }
 

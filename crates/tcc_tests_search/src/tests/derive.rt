@@ -5,9 +5,8 @@ use crate::tests::histories::{
 use std::alloc::Global;
 use std::process::Abort;
 use std::thread::Threads;
-use tcc_derive::{BLOCK, first_name, reason};
+use tcc_derive::{first_name, reason};
 use tcc_graph::{Level, Link, Step, Walk};
-use tcc_near::NONE;
 use tcc_txn::Name;
 
 /// A step, from and to, with its key; a session step has an empty one.
@@ -75,8 +74,6 @@ fn assert_tables(
             let cost = if is_pair { Some(1) } else { price };
             assert_eq!(rt; prices.price(from, to), price, "of {records}");
             assert_eq!(rt; prices.cost(from, to), cost, "of {records}");
-            let none = prices.costs(from)[to as usize] == NONE;
-            assert_eq!(rt; none, cost.is_none());
         }
     }
 }
@@ -214,36 +211,36 @@ fn first_reasons(rt: HostRuntime) {
     }
 }
 
-/// One session of 139 writers of x, and a reader of one of their values: from the last of them no link leads into the first
-/// of the blocks.
-fn long_records(rt: &impl Abort, alloc: Global) -> String {
-    let mut text = String::new(alloc);
-    for number in 1..140 {
-        let row = format!(in alloc; "a,begin\na,w,x,{number}\na,commit\n").expect(rt, "no memory");
-        text.push_str(row.as_str()).expect(rt, "no memory");
-    }
-    text.push_str("b,begin\nb,r,x,70\nb,commit\n")
-        .expect(rt, "no memory");
-    text
-}
-
-/// The least costs into blocks are those of the rows of costs, and there are no more of them.
-fn assert_least(rt: &(impl Abort + Threads + Sync), alloc: Global, level: Level, records: &str) {
+/// Of all links outside the rest of the session those that cost at most the limit, and each cost at least that before it.
+fn assert_by_cost(rt: &(impl Abort + Threads + Sync), alloc: Global, level: Level, records: &str) {
     let prices = priced(rt, alloc, records, level);
     for from in 0..prices.count() {
-        let least = prices.least_costs(from);
-        let costs = prices.costs(from);
-        assert_eq!(rt; least.len(), costs.len().div_ceil(BLOCK), "of {records}");
-        for (block, links) in costs.chunks(BLOCK).enumerate() {
-            assert_eq!(rt; least.get(block), links.iter().min(), "of {records}");
+        let (first, end) = prices.later(from);
+        let cheap = (0..prices.count()).filter(|to| {
+            let within = prices
+                .cost(from, *to)
+                .is_some_and(|cost| cost <= u32::from(prices.limit()));
+            within && (*to < first || end <= *to)
+        });
+        let links = prices.by_cost(from);
+        assert_eq!(rt; links.len(), cheap.count(), "of {records}");
+        let mut least = 0;
+        for link in links {
+            let (to, cost) = *link;
+            assert!(rt; least <= cost, "of {records}");
+            assert_eq!(rt;
+                prices.cost(from, u32::from(to)),
+                Some(u32::from(cost)),
+                "of {records}"
+            );
+            least = cost;
         }
     }
 }
 
 #[test]
-fn least_costs_row_by_row(rt: HostRuntime) {
+fn links_by_cost(rt: HostRuntime) {
     let alloc = rt.alloc();
-    let long = long_records(&rt, alloc);
     let cases = [
         FRACTURED,
         STALE_READ,
@@ -255,11 +252,10 @@ fn least_costs_row_by_row(rt: HostRuntime) {
         NEARER_KEY,
         TWO_WALKS,
         TWO_STEPS,
-        long.as_str(),
     ];
     for records in cases {
-        assert_least(&rt, alloc, Level::Causal, records);
-        assert_least(&rt, alloc, Level::Atomic, records);
+        assert_by_cost(&rt, alloc, Level::Causal, records);
+        assert_by_cost(&rt, alloc, Level::Atomic, records);
     }
 }
 

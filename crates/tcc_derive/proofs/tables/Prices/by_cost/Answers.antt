@@ -9,9 +9,9 @@ pub returns-clause-links : goal.returns-clause-links
 returns-clause-links c =
     let below = rw (← c.self.view_is) at c.requires in
     let rows = c.self.inside.by_cost.items in
-    let inside : c.args.u < length rows = omega (arith, below, c.self.invariant.2.long) in
+    let inside : c.args.u < length rows = omega (arith, below, c.self.invariant.1.long) in
     let value : c.values.result.now ≡ row_of rows c.args.u = c.values.ensures ∙ get_or_read rows c.args.u c.index.result.now inside c.index.ensures [] in
-    rw (← c.self.view_is) (rw value (c.self.invariant.2.each c.args.u below))
+    rw (← c.self.view_is) (rw value (c.self.invariant.1.each c.args.u below))
 
 pub returns-clause-within : goal.returns-clause-within
 returns-clause-within c =
