@@ -68,30 +68,38 @@ due-seal taken passed =
     due-append true taken (passed ++ item.Seal ∷ []) ∙ due-append (is_due_after true taken) passed (item.Seal ∷ [])
 
 -- items without a seal finish something, and an answer is due; or they change nothing
-abbrev pub Passed : Bool → Bool → ℕ → ℕ → Type 0
-Passed before after old new = ((after ≡ true) × (old < new)) ⊎ ((after ≡ before) × (old ≡ new))
+abbrev pub Passed : Bool → Bool → Sessions → Sessions → Type 0
+Passed before after old new = ((after ≡ true) × (transaction_count old < transaction_count new)) ⊎ ((after ≡ before) × (new ≡ old))
 
 passed-from : (due : Bool) (s : Sessions) (passed : List Item) → has_seal passed ≡ false
-    → Passed due (is_due_after due passed) (transaction_count s) (transaction_count (fold with_item s passed))
+    → Passed due (is_due_after due passed) s (fold with_item s passed)
 passed-from due s [] none = inr (refl, refl)
 passed-from due s (item.Finished session txn ∷ passed) none =
     let more = grows s session txn in
     let new = with_transaction s session txn in
     elim (passed-from true new passed none) [
       | inl rise ↦ inl (rise.0, omega (arith, more, rise.1))
-      | inr same ↦ inl (same.0, omega (arith, more, same.1))
+      | inr same ↦ inl (same.0, omega (arith, more, ap transaction_count same.1))
     ]
 passed-from due s (item.Seal ∷ passed) none = cc
 passed-from due s (item.End ∷ passed) none = passed-from due s passed none
 
 pub due-passed : (taken passed : List Item) → has_seal passed ≡ false
-    → Passed (is_due_after true taken) (is_due_after true (taken ++ passed)) (transaction_count (finished_in taken)) (transaction_count (finished_in (taken ++ passed)))
+    → Passed (is_due_after true taken) (is_due_after true (taken ++ passed)) (finished_in taken) (finished_in (taken ++ passed))
 due-passed taken passed none =
-    subst (λ due. Passed (is_due_after true taken) due (transaction_count (finished_in taken)) (transaction_count (finished_in (taken ++ passed))))
+    subst (λ due. Passed (is_due_after true taken) due (finished_in taken) (finished_in (taken ++ passed)))
     (sym (due-append true taken passed))
-    (subst (λ s. Passed (is_due_after true taken) (is_due_after (is_due_after true taken) passed) (transaction_count (finished_in taken)) (transaction_count s))
+    (subst (Passed (is_due_after true taken) (is_due_after (is_due_after true taken) passed) (finished_in taken))
     (sym (fold-append with_item finite.empty taken passed))
     (passed-from (is_due_after true taken) (finished_in taken) passed none))
+
+-- where no more transactions are finished, nothing is
+pub same-passed : (taken passed : List Item) → has_seal passed ≡ false
+    → transaction_count (finished_in (taken ++ passed)) ≡ transaction_count (finished_in taken) → finished_in (taken ++ passed) ≡ finished_in taken
+same-passed taken passed none counted = elim (due-passed taken passed none) [
+  | inl rise ↦ absurd (omega (arith, rise.1, counted))
+  | inr same ↦ same.1
+]
 
 -- where an answer was due it still is
 pub still_due : (taken passed : List Item) → has_seal passed ≡ false → is_due_after true taken ≡ true → is_due_after true (taken ++ passed) ≡ true

@@ -1,18 +1,13 @@
 -- A whole run says the same whatever the options tell beside the level and the form of its texts.
-use Rattle.std.proofs.Common.{◌≡◌, Bool, List, [], ◌∷◌, ◌++◌, Some, refl, sym, ap, subst, ◌∙◌, inl, inr}
+use Rattle.std.proofs.Common.{◌≡◌, List, [], ◌∷◌, ◌++◌, refl, sym, ap, subst, ◌∙◌, inl, inr}
 use Rattle.tcc_txn.specs.Answers as rows
 use Rattle.tcc_txn.specs.Snapshots.{Sessions}
-use Rattle.tcc_reads.specs.Faults.{read_faults}
 use Rattle.tcc_reads.specs.Sources.{history}
 use Rattle.tcc_graph.specs.Levels.{Judged}
-use Rattle.tcc_cert.specs.Texts.{certificate_text}
-use Rattle.tcc_answer.specs.Claims.{certificate_of}
 use Rattle.tcc_answer.specs.declared.answer.Answer.{Answer}
 use Rattle.tcc_explain.specs.Explained.{IsAnswerOf}
-use Rattle.tcc_print.specs.Printed.{answered, unresolved}
-use Rattle.tcc_print.specs.Statuses.{answer_status}
 use Rattle.tcc_print.specs.declared.options.Options.{Options}
-use Rattle.tcc_run.specs.Runs.{AreAnswered, IsAnswered, IsWhole, Said, answer_said, faults_said, at_end, sealed_in}
+use Rattle.tcc_run.specs.Runs.{AreAnswered, IsAnswered, IsWhole, Said, answer_said, at_end, sealed_in}
 
 module _ (one : (j : Judged) (some other : Answer) → IsAnswerOf j some → IsAnswerOf j other → some ≡ other) (options others : Options) (form : options.json ≡ others.json) (level : options.level ≡ others.level) where
   answer_again : (a b : Answer) → a ≡ b → answer_said options a ≡ answer_said others b

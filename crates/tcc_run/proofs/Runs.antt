@@ -21,14 +21,16 @@ use Rattle.tcc_print.specs.declared.halt.Halt.TheVariants as halt
 use Rattle.tcc_print.specs.declared.options.Options.{Options}
 use Rattle.tcc_print.specs.declared.status.Status.TheVariants.{Memory}
 use Rattle.tcc_run.specs.declared.explain.Last.{Last}
+use Rattle.tcc_run.specs.declared.outcome.Outcome.{Outcome}
+use Rattle.tcc_run.specs.declared.outcome.Outcome.TheVariants as outcome
 use Rattle.tcc_answer.specs.declared.answer.Answer.{Answer}
 use Rattle.tcc_print.specs.Printed.{Prints, halted, memory_line}
 use Rattle.tcc_print.specs.Statuses.{code_of, halt_status}
-use Rattle.tcc_run.specs.Runs.{AreAnswered, Contents, Gains, IsAnswered, IsRun, IsWhole, MayEnd, Said, at_end, halt_said, is_due_after, sealed_in, texts}
-use Rattle.tcc_run.specs.Stages.{AllAnswered, AnswersKept, Concludes, EndsAnswering, EndsEarly, Keeps}
+use Rattle.tcc_run.specs.Runs.{AreAnswered, Contents, Gains, IsAnswered, IsRun, IsWhole, MayEnd, Said, at_end, faults_said, halt_said, is_due_after, sealed_in, texts}
+use Rattle.tcc_run.specs.Stages.{AllAnswered, AnswersKept, Concludes, EndsAnswering, EndsEarly, IsFor, IsOutcome, IsStill, Keeps, SaysLast, answer_in, outcome_said, outcome_text}
 use Rattle.tcc_print.specs.Printed.{CutsOff, PrintsOrMemory}
 use Rattle.tcc_print.specs.Halts.{by_row, is_memory}
-use Rattle.tcc_run.proofs.Moments.{AllZip-append, all-fault, all-items, at_end-due, at_end-none, due-passed, due-seal, finished-seal, first-taken, last-push, part-of, sealed-passed, sealed-seal, still_due}
+use Rattle.tcc_run.proofs.Moments.{AllZip-append, all-fault, all-items, at_end-due, at_end-none, due-passed, due-seal, finished-seal, first-taken, last-push, part-of, same-passed, sealed-passed, sealed-seal, still_due}
 
 texts-push : (said : List Said) (one : Said) → texts (said ++ one ∷ []) ≡ texts said ++ one.text
 texts-push said one = flat_map-append (λ (one : Said). one.text) said (one ∷ []) ∙ ap (λ t. texts said ++ t) (append-nil one.text)
@@ -96,13 +98,26 @@ module _ (options : Options) (text : List ℕ) (before : Option (List ℕ)) wher
         ),
       )
 
--- what is known of the last answer: none was given, and one is due; or nothing is due, and it is kept, with the number of
--- its transactions
-abbrev pub IsLast : Option Last → List Item → List Said → Type 0
-IsLast None taken said = is_due_after true taken ≡ true
-IsLast (Some last) taken said =
-    (is_due_after true taken ≡ false) × (last.transactions ≡ transaction_count (finished_in taken))
-    × ((one : Said) × (last_or None said ≡ Some one) × Keeps one last.answer)
+-- what is to be said of a snapshot is what is answered for it
+pub said_of : (options : Options) (s : Sessions) (o : Outcome) → IsOutcome options.level s o → IsAnswered options s (outcome_said options o)
+said_of options s (outcome.Answered a) is = inl (is.0, a, is.1, refl)
+said_of options s (outcome.Unresolved faults) is = inr (is.0, ap (faults_said options) is.1)
+
+pub text_of : (options : Options) (o : Outcome) → (outcome_said options o).text ≡ outcome_text options.json o
+text_of options (outcome.Answered a) = refl
+text_of options (outcome.Unresolved faults) = refl
+
+pub keeps_of : (options : Options) (o : Outcome) → Keeps (outcome_said options o) (answer_in o)
+keeps_of options (outcome.Answered a) = (refl, refl)
+keeps_of options (outcome.Unresolved faults) = (refl, refl)
+
+-- what is known of what was said last: nothing was, and an answer is due; or nothing is due, and it is that of all that was
+-- finished
+abbrev pub IsLast : Options → Option Last → List Item → List Said → Type 0
+IsLast options None taken said = is_due_after true taken ≡ true
+IsLast options (Some last) taken said =
+    (is_due_after true taken ≡ false) × IsFor options.level (finished_in taken) last
+    × (last_or None said ≡ Some (outcome_said options last.outcome))
 
 -- some items of all were taken, and the snapshots at the seals among them were answered
 pub record HasAnswered {R : Type 0} (remaining : R → Option (List ℕ)) (options : Options) (text : List ℕ) (recording : Recording R)
@@ -114,7 +129,7 @@ pub record HasAnswered {R : Type 0} (remaining : R → Option (List ℕ)) (optio
   pub recorded : IsRecording remaining recording taken ahead
   pub answers : AreAnswered options (sealed_in taken) said
   pub out : Appends before now (texts said)
-  pub last : IsLast answered taken said
+  pub last : IsLast options answered taken said
 
 Appends-none : (a : Option (List ℕ)) → Appends a a []
 Appends-none None = tt
@@ -172,20 +187,32 @@ module _ {R : Type 0} (remaining : R → Option (List ℕ)) (options : Options) 
         (AllZip-append (IsAnswered options) (sealed_in way.taken) (finished_in (way.taken ++ at.0) ∷ []) way.said (one ∷ []) way.answers
         (subst (λ s. IsAnswered options s one) (same ∙ finished-seal way.taken at.0) answer, tt))
 
-    -- the answer goes out, and is kept
+    -- where nothing was finished since, what was said last is said of this snapshot, too
+    pub still-seal : (s : Sessions) → s ≡ finished_in sealed_past → IsStill options.level s answered
+    still-seal s same = by answered way.last
+      where
+        by : (o : Option Last) → IsLast options o way.taken way.said → IsStill options.level s o
+        by None known = tt
+        by (Some last) known = λ counted.
+            let now : s ≡ finished_in (way.taken ++ at.0) = same ∙ finished-seal way.taken at.0 in
+            let still = same-passed way.taken at.0 at.2.0 (sym (ap transaction_count now) ∙ sym counted ∙ known.1.0) in
+            subst (λ s. IsOutcome options.level s last.outcome) (sym (now ∙ still)) known.1.1
+
+    -- it is said, and is what was said last
     pub answered-seal : (s : Sessions) (last : Last) (after : Option (List ℕ)) → s ≡ finished_in sealed_past
-        → last.transactions ≡ transaction_count s → AnswersKept options s now after last.answer
-        → HasAnswered remaining options text new before after (Some last)
-    answered-seal s last after same counted (one, answer, keeps, out) = record {
-      taken = sealed_past;
-      ahead = at.1;
-      said = way.said ++ one ∷ [];
-      whole = past-whole;
-      recorded = at.3;
-      answers = past-answered s one same answer;
-      out = one-more one after out;
-      last = (due-seal way.taken at.0, counted ∙ ap transaction_count same, (one, last-push None way.said one, keeps));
-    }
+        → SaysLast options s now after last → HasAnswered remaining options text new before after (Some last)
+    answered-seal s last after same (is, out) =
+        let one = outcome_said options last.outcome in
+        record {
+          taken = sealed_past;
+          ahead = at.1;
+          said = way.said ++ one ∷ [];
+          whole = past-whole;
+          recorded = at.3;
+          answers = past-answered s one same (said_of options s last.outcome is.1);
+          out = one-more one after (subst (Appends now after) (sym (text_of options last.outcome)) out);
+          last = (due-seal way.taken at.0, subst (λ s. IsFor options.level s last) same is, last-push None way.said one);
+        }
 
     -- or the run ends in it
     pub ended-seal : (s : Sessions) (after : Option (List ℕ)) (code : ℕ) → s ≡ finished_in sealed_past → EndsAnswering options s now after code
@@ -218,19 +245,19 @@ module _ {R : Type 0} (remaining : R → Option (List ℕ)) (options : Options) 
 
     -- nothing was finished since the last answer, which has said all
     said_all : (last : Last) → answered ≡ Some last → last.transactions ≡ transaction_count (finished_in all_past)
-        → AllAnswered options text before now last.answer
+        → AllAnswered options text before now (answer_in last.outcome)
     said_all last is counted =
-        let known = subst (λ o. IsLast o way.taken way.said) is way.last in
+        let known = subst (λ o. IsLast options o way.taken way.said) is way.last in
         let none : is_due_after true all_past ≡ false = elim (due-passed way.taken at.0 at.1.0) [
-          | inl rise ↦ absurd (omega (arith, rise.1, known.1, counted))
+          | inl rise ↦ absurd (omega (arith, rise.1, known.1.0, counted))
           | inr same ↦ same.0 ∙ known.0
         ] in (
           way.said,
-          known.2.0,
+          outcome_said options last.outcome,
           whole-by way.said (subst (λ end. AreAnswered options (sealed_in way.taken ++ end) way.said) (sym (at_end-none all_past none))
               (subst (λ snapshots. AreAnswered options snapshots way.said) (sym (append-nil (sealed_in way.taken))) way.answers)),
-          known.2.1,
-          known.2.2,
+          known.2,
+          keeps_of options last.outcome,
           way.out,
         )
 
@@ -238,12 +265,12 @@ module _ {R : Type 0} (remaining : R → Option (List ℕ)) (options : Options) 
     is_due : IfSome answered (λ last. last.transactions ≢ transaction_count (finished_in all_past)) → is_due_after true all_past ≡ true
     is_due other = by answered other way.last
       where
-        by : (o : Option Last) → IfSome o (λ last. last.transactions ≢ transaction_count (finished_in all_past)) → IsLast o way.taken way.said
+        by : (o : Option Last) → IfSome o (λ last. last.transactions ≢ transaction_count (finished_in all_past)) → IsLast options o way.taken way.said
             → is_due_after true all_past ≡ true
         by None other known = still_due way.taken at.0 at.1.0 known
         by (Some last) other known = elim (due-passed way.taken at.0 at.1.0) [
           | inl rise ↦ rise.0
-          | inr same ↦ absurd (other (known.1 ∙ same.1))
+          | inr same ↦ absurd (other (known.1.0 ∙ sym (ap transaction_count same.1)))
         ]
 
     module _ (s : Sessions) (same : s ≡ finished_in all_past) (due : is_due_after true all_past ≡ true) where
@@ -279,16 +306,16 @@ module _ {R : Type 0} (remaining : R → Option (List ℕ)) (options : Options) 
 
     -- what the answer at the end says of the run
     pub ended-end : (s : Sessions) (after : Option (List ℕ)) (r : Result (Option Answer) ℕ) → s ≡ finished_in all_past
-        → IfSome answered (λ last. last.transactions ≡ transaction_count s → (after ≡ now) × (r ≡ Ok last.answer))
+        → IfSome answered (λ last. last.transactions ≡ transaction_count s → (after ≡ now) × (r ≡ Ok (answer_in last.outcome)))
         → (IfSome answered (λ last. last.transactions ≢ transaction_count s) → MatchResult r (AnswersKept options s now after) (EndsAnswering options s now after))
         → MatchResult r (AllAnswered options text before after) (EndsEarly options text before after)
     ended-end s after r same said due = by answered refl said due
       where
-        again : (last : Last) → answered ≡ Some last → last.transactions ≡ transaction_count s → (after ≡ now) × (r ≡ Ok last.answer)
+        again : (last : Last) → answered ≡ Some last → last.transactions ≡ transaction_count s → (after ≡ now) × (r ≡ Ok (answer_in last.outcome))
             → MatchResult r (AllAnswered options text before after) (EndsEarly options text before after)
         again last is counted sent =
             subst (λ r. MatchResult r (AllAnswered options text before after) (EndsEarly options text before after)) (sym sent.1)
-            (subst (λ o. AllAnswered options text before o last.answer) (sym sent.0) (said_all last is (counted ∙ ap transaction_count same)))
+            (subst (λ o. AllAnswered options text before o (answer_in last.outcome)) (sym sent.0) (said_all last is (counted ∙ ap transaction_count same)))
 
         fresh : IfSome answered (λ last. last.transactions ≢ transaction_count s) → MatchResult r (AnswersKept options s now after) (EndsAnswering options s now after)
             → MatchResult r (AllAnswered options text before after) (EndsEarly options text before after)
@@ -303,7 +330,7 @@ module _ {R : Type 0} (remaining : R → Option (List ℕ)) (options : Options) 
             by_result (Err code) is = end-cut s same late after code is
 
         by : (o : Option Last) → answered ≡ o
-            → IfSome o (λ last. last.transactions ≡ transaction_count s → (after ≡ now) × (r ≡ Ok last.answer))
+            → IfSome o (λ last. last.transactions ≡ transaction_count s → (after ≡ now) × (r ≡ Ok (answer_in last.outcome)))
             → (IfSome o (λ last. last.transactions ≢ transaction_count s) → MatchResult r (AnswersKept options s now after) (EndsAnswering options s now after))
             → MatchResult r (AllAnswered options text before after) (EndsEarly options text before after)
         by None is said due = fresh (subst (λ (o : Option Last). IfSome o (λ last. last.transactions ≢ transaction_count s)) (sym is) tt) (due tt)

@@ -1,19 +1,27 @@
 -- How the stages of a run follow one another. Nobody has to believe these: the contracts of public calls cite none of them.
-use Rattle.std.specs.Prelude.{ℕ, ◌≡◌, ◌⊎◌, List, [], length, slice_get, option_map, unwrap_or, Option, None, Some}
+use Rattle.std.specs.Prelude.{ℕ, ◌≡◌, ◌≢◌, ◌⊎◌, Bool, List, [], length, slice_get, option_map, unwrap_or, Option, None, Some, IfSome}
 use Rattle.std.specs.Io.KnownBytes.{Appends}
 use Rattle.std.specs.List.{last_or}
 use Rattle.std.specs.Option.{option_map_or}
 use Rattle.tcc_txn.specs.Answers as rows
+use Rattle.tcc_txn.specs.Finished.{transaction_count}
 use Rattle.tcc_txn.specs.Snapshots.{Sessions}
 use Rattle.tcc_txn.specs.Transactions.{Transaction}
+use Rattle.tcc_reads.specs.Faults.{read_faults}
+use Rattle.tcc_reads.specs.Sources.{history}
+use Rattle.tcc_graph.specs.declared.level.Level.{Level}
 use Rattle.tcc_cert.specs.Texts.{certificate_text}
 use Rattle.tcc_answer.specs.Claims.{certificate_of}
 use Rattle.tcc_answer.specs.declared.answer.Answer.{Answer}
+use Rattle.tcc_explain.specs.Explained.{IsAnswerOf}
 use Rattle.tcc_print.specs.declared.status.Status.TheVariants.{Device, Memory}
 use Rattle.tcc_print.specs.declared.options.Options.{Options}
-use Rattle.tcc_run.specs.Runs.{Contents, Gains, GainsPart, IsAnswered, IsEnded, IsWhole, Said, texts}
+use Rattle.tcc_run.specs.Runs.{Contents, Gains, GainsPart, IsAnswered, IsEnded, IsWhole, Said, answer_said, faults_said, texts}
+use Rattle.tcc_run.specs.declared.explain.Last.{Last}
+use Rattle.tcc_run.specs.declared.outcome.Outcome.{Outcome}
+use Rattle.tcc_run.specs.declared.outcome.Outcome.TheVariants as outcome
 use Rattle.tcc_print.specs.Statuses.{code_of, last_status}
-use Rattle.tcc_print.specs.Printed.{CutsOff, Prints, device_line, memory_line}
+use Rattle.tcc_print.specs.Printed.{CutsOff, Prints, answered, device_line, memory_line, unresolved}
 
 -- ---- what is answered
 
@@ -22,6 +30,37 @@ abbrev pub count_at : List (List ℕ × List Transaction) → ℕ → ℕ
 count_at entries i = option_map_or (λ named. length named.1) (slice_get entries i) 0
 
 -- ---- one answer
+
+-- what is to be said of a snapshot at a level: its first answer where all its reads have sources, else all its read faults
+abbrev pub IsOutcome : Level → Sessions → Outcome → Type 0
+IsOutcome level s (outcome.Answered a) = (read_faults s ≡ []) × IsAnswerOf (record { history = history s; level = level }) a
+IsOutcome level s (outcome.Unresolved faults) = (read_faults s ≢ []) × (faults.items ≡ read_faults s)
+
+-- the answer; none where there are read faults in its place
+abbrev pub answer_in : Outcome → Option Answer
+answer_in (outcome.Answered a) = Some a
+answer_in (outcome.Unresolved faults) = None
+
+-- how it goes out
+abbrev pub outcome_text : Bool → Outcome → List ℕ
+outcome_text json (outcome.Answered a) = answered json a
+outcome_text json (outcome.Unresolved faults) = unresolved json faults.items
+
+abbrev pub outcome_said : Options → Outcome → Said
+outcome_said options (outcome.Answered a) = answer_said options a
+outcome_said options (outcome.Unresolved faults) = faults_said options faults.items
+
+-- what was said last was said of this snapshot
+abbrev pub IsFor : Level → Sessions → Last → Type 0
+IsFor level s last = (last.transactions ≡ transaction_count s) × IsOutcome level s last.outcome
+
+-- what was said last, if anything was, is to be said of this snapshot too, if it was said for as many transactions
+abbrev pub IsStill : Level → Sessions → Option Last → Type 0
+IsStill level s last = IfSome last (λ last. last.transactions ≡ transaction_count s → IsOutcome level s last.outcome)
+
+-- what is to be said of the snapshot was said, and is what was said last from then on
+abbrev pub SaysLast : Options → Sessions → Option (List ℕ) → Option (List ℕ) → Last → Type 0
+SaysLast options s before after last = IsFor options.level s last × Appends before after (outcome_text options.json last.outcome)
 
 -- the text of a certificate, where there is an answer
 abbrev pub certificate_kept : Option Answer → Option (List ℕ)

@@ -1,5 +1,5 @@
 //! From the bytes of records to their answers: at each seal, and at the end.
-ghost use Rattle.std.specs.Prelude.{◌≡◌, ◌≢◌, ◌<◌, ◌≤◌, ℕ, List, [], None, Some, Ok, IfErr, IfOk, IfSome, MatchResult, OnErr, OnOk, option_map};
+ghost use Rattle.std.specs.Prelude.{◌≡◌, ◌≢◌, ◌<◌, ◌≤◌, ℕ, List, [], true, false, None, Some, Ok, IfSome, MatchResult, OnErr, OnOk, option_map};
 ghost use Rattle.std.specs.FinMap as sessions;
 ghost use Rattle.tcc_txn.specs.Ahead.{fault_met};
 ghost use Rattle.tcc_txn.specs.Answers.{answers_of, records_of};
@@ -8,18 +8,19 @@ ghost use Rattle.tcc_txn.specs.Reached.{IsWithin};
 ghost use Rattle.tcc_txn.specs.Recordings.{IsRecording};
 ghost use Rattle.tcc_cert.specs.Texts.{certificate_text};
 ghost use Rattle.tcc_answer.specs.Claims.{certificate_of};
+ghost use Rattle.tcc_print.specs.Printed.{Prints, memory_line};
 ghost use Rattle.tcc_run.specs.Runs.{Gains, GainsPart, IsRun};
-ghost use Rattle.tcc_run.specs.Stages.{AllAnswered, AnswersKept, Concludes, EndsAnswering, EndsEarly, count_at};
+ghost use Rattle.tcc_run.specs.Stages.{AllAnswered, AnswersKept, Concludes, EndsAnswering, EndsEarly, IsFor, IsStill, SaysLast, answer_in, count_at};
 
-use crate::headline::explain_snapshot;
+use crate::outcome::Outcome;
 use std::alloc::Global;
 use std::io::{Read, Write};
 use std::thread::Threads;
 use tcc_cert::{WriteFault, write};
-use tcc_explain::{Answer, ExplainFault, Gate};
-use tcc_print::printing::{print_device, print_halt, print_memory, send_answer, send_unresolved};
+use tcc_explain::{Answer, Gate};
+use tcc_print::printing::{print_device, print_halt, print_memory};
 use tcc_print::status::last_status;
-use tcc_print::{Halt, Options};
+use tcc_print::{Halt, Options, Status};
 use tcc_txn::{Moment, NoMemory, Recording, Snapshot};
 
 /// How many transactions the session at this place has finished; past the last place, none.
@@ -43,44 +44,80 @@ fn transaction_count(snapshot: &Snapshot) -> usize
     count
 }
 
-/// The last answer of a run so far.
+/// What a run said last.
 #[derive(Drop)]
 struct Last {
-    /// None where the reads had faults, which were told.
-    answer: Option<Answer>,
-    /// How many transactions it was for.
+    outcome: Outcome,
+    /// How many transactions it was said for.
     transactions: usize,
 }
 
-/// Writes the answer for the snapshot at the level, as text or as a line of JSON, and gives it, none where the reads have
-/// faults, which are told in its place; else the run ends with this number.
-fn answer<W: Write, G: Gate>(
-    rt: &(impl Threads + Sync),
-    alloc: Global,
-    snapshot: &Snapshot,
-    options: Options,
-    gate: &G,
-    out: &mut W,
-) -> Result<Option<Answer>, u8>
-    requires workers { (0 < options.workers) × (options.workers ≤ 32) }
-    ensures kept { IfOk result (AnswersKept options snapshot.now (W.contents out.old) (W.contents out.new)) }
-    ensures ended { IfErr result (EndsAnswering options snapshot.now (W.contents out.old) (W.contents out.new)) }
+/// Whether something is to be said at the end of so many transactions: not where the last was said for as many.
+fn is_due(last: &Option<Last>, transactions: usize) -> bool
+    ensures due { result ≡ true → IfSome last.now (λ last. last.transactions ≢ transactions) }
+    ensures said { result ≡ false → IfSome last.now (λ last. last.transactions ≢ transactions) → ⊥ }
 {
-    match explain_snapshot(rt, alloc, snapshot, options.level, options.workers, gate) {
-        Ok(answer) => {
-            send_answer(alloc, &answer, options.json, out)?;
-            Ok(Some(answer))
-        }
-        Err(ExplainFault::Reads(faults)) => {
-            send_unresolved(alloc, &faults, options.json, out)?;
-            Ok(None)
-        }
-        Err(ExplainFault::NoMemory) => Err(print_memory(out, options.json)),
+    match last {
+        Some(last) => last.transactions != transactions,
+        None => true,
     }
 }
 
-/// Writes the answer at the end, unless the last one was for as many transactions, and gives the last answer of the run;
-/// else the run ends with this number.
+/// What is to be said of the snapshot: what was said last, if that was for as many transactions, else what is worked out;
+/// or want of memory was said, and the run ends with this number.
+fn renew<W: Write, G: Gate>(
+    rt: &(impl Threads + Sync),
+    alloc: Global,
+    snapshot: &Snapshot,
+    last: Option<Last>,
+    options: Options,
+    gate: &G,
+    out: &mut W,
+) -> Result<Last, u8>
+    requires workers { (0 < options.workers) × (options.workers ≤ 32) }
+    ensures again { IfSome last (λ last. last.transactions ≡ transaction_count snapshot.now → (W.contents out.new ≡ W.contents out.old) × (result ≡ Ok last)) }
+    ensures anew { IfSome last (λ last. last.transactions ≢ transaction_count snapshot.now)
+        → MatchResult result (λ next. (W.contents out.new ≡ W.contents out.old) × IsFor options.level snapshot.now next)
+        (Prints (W.contents out.old) (W.contents out.new) (memory_line options.json) Status.Memory) }
+{
+    let transactions = transaction_count(snapshot);
+    // One answer is held at a time: the certificate of a large history fills much memory.
+    if let Some(last) = last {
+        if last.transactions == transactions {
+            return Ok(last);
+        }
+    }
+    match Outcome::of(rt, alloc, snapshot, options, gate) {
+        Ok(outcome) => Ok(Last {
+            outcome,
+            transactions,
+        }),
+        Err(NoMemory) => Err(print_memory(out, options.json)),
+    }
+}
+
+/// Says what is to be said of the snapshot at a seal, as text or as a line of JSON, and keeps it; else the run ends with
+/// this number.
+fn answer_seal<W: Write, G: Gate>(
+    rt: &(impl Threads + Sync),
+    alloc: Global,
+    snapshot: &Snapshot,
+    last: Option<Last>,
+    options: Options,
+    gate: &G,
+    out: &mut W,
+) -> Result<Last, u8>
+    requires workers { (0 < options.workers) × (options.workers ≤ 32) }
+    ensures { IsStill options.level snapshot.now last
+        → MatchResult result (SaysLast options snapshot.now (W.contents out.old) (W.contents out.new)) (EndsAnswering options snapshot.now (W.contents out.old) (W.contents out.new)) }
+{
+    let said = renew(rt, alloc, snapshot, last, options, gate, out)?;
+    said.outcome.send(alloc, options.json, out)?;
+    Ok(said)
+}
+
+/// Says at the end what is to be said of the snapshot, unless it was said last, and gives the last answer of the run, none
+/// where that was read faults; else the run ends with this number.
 fn answer_last<W: Write, G: Gate>(
     rt: &(impl Threads + Sync),
     alloc: Global,
@@ -91,17 +128,16 @@ fn answer_last<W: Write, G: Gate>(
     out: &mut W,
 ) -> Result<Option<Answer>, u8>
     requires workers { (0 < options.workers) × (options.workers ≤ 32) }
-    ensures said { IfSome last (λ last. last.transactions ≡ transaction_count snapshot.now → (W.contents out.new ≡ W.contents out.old) × (result ≡ Ok last.answer)) }
+    ensures said { IfSome last (λ last. last.transactions ≡ transaction_count snapshot.now → (W.contents out.new ≡ W.contents out.old) × (result ≡ Ok (answer_in last.outcome))) }
     ensures due { IfSome last (λ last. last.transactions ≢ transaction_count snapshot.now)
         → MatchResult result (AnswersKept options snapshot.now (W.contents out.old) (W.contents out.new)) (EndsAnswering options snapshot.now (W.contents out.old) (W.contents out.new)) }
 {
-    if let Some(last) = last {
-        if last.transactions == transaction_count(snapshot) {
-            return Ok(last.answer);
-        }
+    let due = is_due(&last, transaction_count(snapshot));
+    let last = renew(rt, alloc, snapshot, last, options, gate, out)?;
+    if due {
+        last.outcome.send(alloc, options.json, out)?;
     }
-    let answer = answer(rt, alloc, snapshot, options, gate, out)?;
-    Ok(answer)
+    Ok(last.outcome.into_answer())
 }
 
 /// Writes the answers at the seals that are still to come and the one at the end, if it is due, and gives the last; or
@@ -122,14 +158,9 @@ fn answer_all<R: Read + Drop, W: Write, G: Gate>(
     'moments: for _turn in 0..u64::MAX {
         match recording.advance(alloc) {
             Ok(Moment::Seal) => {
-                // One answer is held at a time: the certificate of a large history fills much memory.
-                last = None;
                 let snapshot = recording.snapshot();
-                let answer = answer(rt, alloc, snapshot, options, gate, out)?;
-                last = Some(Last {
-                    answer,
-                    transactions: transaction_count(snapshot),
-                });
+                let said = answer_seal(rt, alloc, snapshot, last, options, gate, out)?;
+                last = Some(said);
             }
             Ok(Moment::End) => {
                 return answer_last(rt, alloc, recording.snapshot(), last, options, gate, out);

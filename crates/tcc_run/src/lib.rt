@@ -5,6 +5,7 @@
 mod explain;
 mod headline;
 pub mod laws;
+mod outcome;
 
 pub use explain::run_explain;
 pub use headline::explain_snapshot;

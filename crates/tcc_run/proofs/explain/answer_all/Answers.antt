@@ -7,7 +7,7 @@ use Rattle.tcc_run.specs.Stages.{AllAnswered, EndsEarly}
 use Rattle.tcc_print.specs.Printed.{PrintsOrMemory}
 use Rattle.tcc_print.specs.Statuses.{halt_status}
 use Rattle.tcc_run.proofs.Reach.{row_bound}
-use Rattle.tcc_run.proofs.Runs.{answered-seal, ended-end, ended-seal, stopped, wants_memory}
+use Rattle.tcc_run.proofs.Runs.{answered-seal, ended-end, ended-seal, still-seal, stopped, wants_memory}
 use Rattle.tcc_run.proofs.Sent.{ended_by}
 use Rattle.tcc_run.proofs.explain.answer_all.Goals as goal
 
@@ -17,21 +17,26 @@ moments-preserved g c = record {
       let way = c.moments.invariant.way text recording in
       let at = subst (λ m. TakesMoment g.R.Read.remaining way.taken way.ahead (Ok m) c.advance.new.self) c.in-Ok-Seal.field-0-is
       (c.in-Ok-Seal.ensures.moment way.taken way.ahead way.recorded) in
+      let same = c.snapshot-snapshot.ensures.finished _ _ at.3 in
       answered-seal g.R.Read.remaining c.args.options text c.moments.recording c.advance.new.self _ _ c.moments.last way at
-      c.snapshot-snapshot.result.now (record { answer = c.in_ok-answer-in-Ok-Seal.answer; transactions = c.transaction_count.result }) _
-      (c.snapshot-snapshot.ensures.finished _ _ at.3) c.transaction_count.ensures c.in_ok-answer-in-Ok-Seal.ensures.kept;
+      c.snapshot-snapshot.result.now c.in_ok-said-in-Ok-Seal.said _ same
+      (c.in_ok-said-in-Ok-Seal.ensures (still-seal g.R.Read.remaining c.args.options text c.moments.recording c.advance.new.self _ _ c.moments.last way at
+      c.snapshot-snapshot.result.now same));
   within = λ records within. c.in-Ok-Seal.ensures.within records (c.moments.invariant.within records within);
   going = λ none. c.in-Ok-Seal.ensures.goes_on;
 }
 
-pub returns-in_err-answer-in-Ok-Seal : goal.returns-in_err-answer-in-Ok-Seal
-returns-in_err-answer-in-Ok-Seal g c text recording within fresh =
+pub returns-in_err-said-in-Ok-Seal : goal.returns-in_err-said-in-Ok-Seal
+returns-in_err-said-in-Ok-Seal g c text recording within fresh =
     let way = c.moments.invariant.way text recording in
     let at = subst (λ m. TakesMoment g.R.Read.remaining way.taken way.ahead (Ok m) c.advance.new.self) c.in-Ok-Seal.field-0-is
     (c.in-Ok-Seal.ensures.moment way.taken way.ahead way.recorded) in
-    ended_by (AllAnswered c.args.options text _ _) (EndsEarly c.args.options text _ _) c.from_residual.result c.in_err-answer-in-Ok-Seal.field-0.0 c.from_residual.ensures.1
+    let same = c.snapshot-snapshot.ensures.finished _ _ at.3 in
+    ended_by (AllAnswered c.args.options text _ _) (EndsEarly c.args.options text _ _) c.from_residual.result c.in_err-said-in-Ok-Seal.field-0.0 c.from_residual.ensures.1
     (ended-seal g.R.Read.remaining c.args.options text c.moments.recording c.advance.new.self _ _ c.moments.last way at
-    c.snapshot-snapshot.result.now _ c.in_err-answer-in-Ok-Seal.field-0.0 (c.snapshot-snapshot.ensures.finished _ _ at.3) c.in_err-answer-in-Ok-Seal.ensures.ended)
+    c.snapshot-snapshot.result.now _ c.in_err-said-in-Ok-Seal.field-0.0 same
+    (c.in_err-said-in-Ok-Seal.ensures (still-seal g.R.Read.remaining c.args.options text c.moments.recording c.advance.new.self _ _ c.moments.last way at
+    c.snapshot-snapshot.result.now same)))
 
 pub returns-in-Ok-End : goal.returns-in-Ok-End
 returns-in-Ok-End g c text recording within fresh =

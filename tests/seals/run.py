@@ -1,0 +1,121 @@
+#!/usr/bin/env python3
+"""Seals while a history grows: each answer of one run is that of the records up to its seal as an input of their own.
+
+    run.py [--tcc PATH]
+
+The input has 100 seals. First writes go from session to session, each answered by an order. Then a session reads a value
+that is gone by the first of these writes, over a chain of 18 reads: an anomaly of 20 steps. Readers at earlier places of
+the chain make it cheaper by one step each, down to 3, and each such answer is followed by four more: at a seal with nothing
+new, at one where a read can't be traced, at one where it can, and at one behind a session that sorts first, so that all
+transactions have other numbers. Both levels, 1, 2 and 32 workers.
+
+Each difference is one line; the last line is `N passed, M failed`.
+"""
+import argparse
+import pathlib
+import shlex
+import subprocess
+import sys
+
+TOP = pathlib.Path(__file__).resolve().parent.parent.parent
+CHAIN = 19
+LEVELS = ("causal", "atomic")
+WORKERS = ("1", "2", "32")
+FIRST_COST, LAST_COST = 20, 3
+
+
+def transaction(session, *operations):
+    """The records of a transaction, each operation as `r KEY VALUE` or `w KEY VALUE`."""
+    inside = ["%s,%s" % (session, operation.replace(" ", ",")) for operation in operations]
+    return ["%s,begin" % session, *inside, "%s,commit" % session]
+
+
+def link(place):
+    """The session at this place of the chain reads what the one before it wrote, and writes its own."""
+    return transaction("p%02d" % place, *(["r v%d 1" % (place - 1)] if place > 1 else []), "w v%d 1" % place)
+
+
+def stale_reader(place):
+    """A session that knows the chain up to this place, and reads the value before the first write."""
+    return transaction("q%02d" % place, "r v%d 1" % place, "r v1 0")
+
+
+def parts():
+    """The records before each seal since the one before it, and what the causal answer begins with."""
+    for place in range(1, 11):
+        yield link(place), "consistent: %d transactions" % place
+    rest = [record for place in range(11, CHAIN) for record in link(place)]
+    for cost in range(FIRST_COST, LAST_COST - 1, -1):
+        least = "anomaly: %d steps, stale-initial-read" % cost
+        yield rest + stale_reader(cost - 2), least
+        yield [], least
+        yield transaction("t", "r k%d 1" % cost), "unresolved: 1 faults"
+        yield transaction("u", "w k%d 1" % cost), least
+        yield transaction("a%02d" % cost), least
+        rest = []
+
+
+def explained(tcc, options, records):
+    """What a run prints, and its status."""
+    done = subprocess.run(tcc + ["explain", *options], input="".join(record + "\n" for record in records).encode(),
+                          stdout=subprocess.PIPE, check=False)
+    return done.stdout.decode(), done.returncode
+
+
+def alone(tcc, level, sealed):
+    """The text for the records up to each seal, as an input of their own, and the status of the last."""
+    so_far, texts = [], []
+    for records, _ in sealed:
+        so_far += records
+        said, status = explained(tcc, ["--level", level], so_far)
+        texts.append(said)
+    return texts, status
+
+
+def differences(got, texts):
+    """For each of the texts whether it comes next in what was printed; None where it does."""
+    at = 0
+    for number, text in enumerate(texts, 1):
+        yield None if text and got.startswith(text, at) else "answer %d isn't that of its records alone" % number
+        at += len(text)
+    yield None if at == len(got) else "%d characters, wanted %d" % (len(got), at)
+
+
+def beginnings(texts, sealed):
+    """Whether each of the texts begins as the definitions say."""
+    for number, (text, (_, begins)) in enumerate(zip(texts, sealed), 1):
+        yield None if text.startswith(begins) else "answer %d: wanted %s, got %s" % (number, begins, text.split("\n")[0])
+
+
+def outcomes(tcc, sealed):
+    """What was compared, each with what is wrong, or None."""
+    whole = [record for records, _ in sealed for record in [*records, "seal"]]
+    for level in LEVELS:
+        texts, status = alone(tcc, level, sealed)
+        if level == "causal":
+            yield from (("alone", wrong) for wrong in beginnings(texts, sealed))
+        for workers in WORKERS:
+            options = ["--level", level, "--workers", workers]
+            got, status_got = explained(tcc, options, whole)
+            which = " ".join(options)
+            yield from ((which, wrong) for wrong in differences(got, texts))
+            yield which, None if status_got == status else "status %d, alone %d" % (status_got, status)
+
+
+def main():
+    ask = argparse.ArgumentParser(description="Seals while a history grows.")
+    ask.add_argument("--tcc", default=str(TOP / "crates/tcc/out/tcc"), help="the program, by default the built one")
+    tcc = shlex.split(ask.parse_args().tcc)
+    sealed = list(parts())
+    passed = failed = 0
+    for which, wrong in outcomes(tcc, sealed):
+        passed += wrong is None
+        failed += wrong is not None
+        if wrong:
+            print("%s: %s" % (which, wrong), flush=True)
+    print("%d passed, %d failed" % (passed, failed))
+    return 1 if failed else 0
+
+
+if __name__ == "__main__":
+    sys.exit(main())
