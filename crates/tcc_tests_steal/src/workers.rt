@@ -1,5 +1,8 @@
 //! Searches over worked histories, by one worker and by many, with distances worked out by hand.
-ghost use Rattle.std.specs.Prelude.{◌<◌, ◌≤◌, IfOk};
+ghost use Rattle.std.specs.Prelude.{◌<◌, ◌≤◌, IfOk, IfSome};
+ghost use Rattle.tcc_graph.specs.Levels.{Judged};
+ghost use Rattle.tcc_derive.specs.Prices.{IsPricesOf};
+ghost use Rattle.tcc_core.specs.Shares.{IsCycleCost};
 ghost use Rattle.tcc_steal.specs.Findings.{HasJudged};
 
 use std::alloc::Global;
@@ -8,6 +11,7 @@ use std::sync::atomic::{AtomicU64, Ordering};
 use std::test::Fail;
 use std::thread;
 use std::thread::Threads;
+use tcc_core::seed;
 use tcc_derive::{Prices, derive};
 use tcc_graph::{Graph, Level};
 use tcc_near::near;
@@ -23,12 +27,32 @@ const TWO_STALE_READS: &str = "a,begin\na,w,x,1\na,commit\na,begin\na,r,x,0\na,c
 /// b/1 reads what a/1 wrote.
 const ONE_READ: &str = "a,begin\na,w,x,1\na,commit\nb,begin\nb,r,x,1\nb,commit\n";
 
+/// a/1 and b/1 write x, and c/1 reads both values: a cycle of four steps, over a/1. d/1 writes z, which f/2 doesn't read,
+/// though it knows of it by way of e/1 and f/1: a cycle of five, over `init`.
+const TWO_CYCLES: &str = "a,begin\na,w,x,1\na,commit\nb,begin\nb,w,x,2\nb,commit\n\
+    c,begin\nc,r,x,1\nc,r,x,2\nc,commit\nd,begin\nd,w,z,1\nd,commit\n\
+    e,begin\ne,r,z,1\ne,w,y,1\ne,commit\nf,begin\nf,r,y,1\nf,commit\nf,begin\nf,r,z,0\nf,commit\n";
+
+/// The prices of a graph, and what a cycle costs that its distances show.
+fn seeded(
+    rt: &(impl Threads + Sync),
+    alloc: Global,
+    graph: &Graph,
+) -> Result<(Prices, Option<u32>), NoMemory>
+    ensures prices { IfOk result (λ made. HasJudged made.0) }
+    ensures seed { IfOk result (λ made. (j : Judged) → IsPricesOf j made.0 → IfSome made.1 (IsCycleCost j)) }
+{
+    let near = near(rt, alloc, graph, Level::Causal)?;
+    let prices = derive(rt, alloc, graph, &near)?;
+    let seed = seed(&near, &prices);
+    Ok((prices, seed))
+}
+
 /// The prices of a graph.
 fn prices_of(rt: &(impl Threads + Sync), alloc: Global, graph: &Graph) -> Result<Prices, NoMemory>
     ensures { IfOk result HasJudged }
 {
-    let near = near(rt, alloc, graph, Level::Causal)?;
-    let prices = derive(rt, alloc, graph, &near)?;
+    let (prices, _) = seeded(rt, alloc, graph)?;
     Ok(prices)
 }
 
@@ -64,6 +88,28 @@ fn assert_found(
     }
 }
 
+/// The prices of the two stale reads.
+fn stale_prices(rt: &(impl Abort + Threads + Sync), alloc: Global) -> Result<Prices, Fail>
+    ensures { IfOk result HasJudged }
+{
+    let Some(graph) = graph_of(alloc, TWO_STALE_READS) else {
+        panic!(rt; "no graph");
+    };
+    Ok(prices_of(rt, alloc, &graph)?)
+}
+
+/// What is found of the two stale reads has their distances.
+fn assert_stale(rt: &impl Abort, found: &Found, workers: u32) {
+    let rows: &[&[Option<u32>]] = &[
+        &[Some(3), Some(1), Some(1), Some(1), Some(1)],
+        &[Some(3), Some(1), Some(3), Some(3)],
+        &[Some(3), Some(3), Some(3)],
+        &[Some(3), Some(1)],
+        &[Some(3)],
+    ];
+    assert_found(rt, found, workers, Some(3), Some(0), rows);
+}
+
 /// What these workers find of the two stale reads, which has their distances.
 fn assert_stale_reads(
     rt: &(impl Abort + Threads + Sync),
@@ -74,19 +120,9 @@ fn assert_stale_reads(
 ) -> Result<Found, Fail>
     requires { (0 < workers) × (workers ≤ 32) }
 {
-    let Some(graph) = graph_of(alloc, TWO_STALE_READS) else {
-        panic!(rt; "no graph");
-    };
-    let prices = prices_of(rt, alloc, &graph)?;
+    let prices = stale_prices(rt, alloc)?;
     let found = search_with(rt, alloc, &prices, None, workers, gate, crew)?;
-    let rows: &[&[Option<u32>]] = &[
-        &[Some(3), Some(1), Some(1), Some(1), Some(1)],
-        &[Some(3), Some(1), Some(3), Some(3)],
-        &[Some(3), Some(3), Some(3)],
-        &[Some(3), Some(1)],
-        &[Some(3)],
-    ];
-    assert_found(rt, &found, workers, Some(3), Some(0), rows);
+    assert_stale(rt, &found, workers);
     Ok(found)
 }
 
@@ -107,11 +143,109 @@ fn any_workers(rt: HostRuntime) -> Result<(), Fail> {
     Ok(())
 }
 
-/// Every so many thieves one starts, none at 0, and ends after so many retries in a row.
+/// Searches that begin with a seed find the least cost, also where the seed is that very cost, or above it: a body fails that
+/// cuts what costs as much as the seed, or answers the seed.
+#[test]
+fn seeds(rt: HostRuntime) -> Result<(), Fail> {
+    let alloc = rt.alloc();
+    let cases = [(TWO_STALE_READS, 3, 3, 0), (TWO_CYCLES, 5, 4, 1)];
+    for (records, wanted, least, first) in cases {
+        let Some(graph) = graph_of(alloc, records) else {
+            panic!(rt; "no graph");
+        };
+        let (prices, seed) = seeded(&rt, alloc, &graph)?;
+        assert!(rt; seed == Some(wanted), "of {records}");
+        for workers in [1, 2, 32] {
+            assert!(rt; 0 < workers && workers <= 32);
+            let found = search_with(&rt, alloc, &prices, seed, workers, &OpenGate, &AllStart)?;
+            assert!(rt; found.least == Some(least) && found.first == Some(first));
+        }
+    }
+    Ok(())
+}
+
+/// Counts the calls of each worker for each start.
+#[derive(Drop)]
+struct Counting {
+    calls: Vec<Vec<AtomicU64>>,
+}
+
+impl Counting {
+    /// A count of so many workers, none of which searched yet, for so many starts.
+    fn new(alloc: Global, workers: u32, starts: u32) -> Result<Counting, NoMemory> {
+        let mut calls = Vec::new(alloc);
+        for _ in 0..workers {
+            calls.push(no_calls(alloc, starts)?)?;
+        }
+        Ok(Counting { calls })
+    }
+
+    /// How often the worker was seen at the start.
+    fn of(&self, worker: u32, start: u32) -> Option<u64> {
+        let calls = self.calls.get(worker as usize)?.get(start as usize)?;
+        Some(calls.load(Ordering::SeqCst))
+    }
+
+    /// How often the worker was seen.
+    fn all_of(&self, worker: u32) -> u64 {
+        let mut all = 0u64;
+        if let Some(starts) = self.calls.get(worker as usize) {
+            for calls in starts {
+                all = all.saturating_add(calls.load(Ordering::SeqCst));
+            }
+        }
+        all
+    }
+
+    /// How often any of so many workers was seen.
+    fn all(&self, workers: u32) -> u64 {
+        let mut all = 0u64;
+        for worker in 0..workers {
+            all = all.saturating_add(self.all_of(worker));
+        }
+        all
+    }
+}
+
+/// A count of each start, none of which was seen yet.
+fn no_calls(alloc: Global, starts: u32) -> Result<Vec<AtomicU64>, NoMemory> {
+    let mut calls = Vec::new(alloc);
+    for _ in 0..starts {
+        calls.push(AtomicU64::new(0))?;
+    }
+    Ok(calls)
+}
+
+impl Gate for Counting {
+    fn enter(&self, worker: u32, start: u32) {
+        if let Some(starts) = self.calls.get(worker as usize) {
+            if let Some(calls) = starts.get(start as usize) {
+                calls.fetch_add(1, Ordering::SeqCst);
+            }
+        }
+    }
+}
+
+/// The gate is called once for each start, by the worker that stands beside it in `starts`.
+#[test]
+fn gate_sees_each_start_once(rt: HostRuntime) -> Result<(), Fail> {
+    let alloc = rt.alloc();
+    let gate = Counting::new(alloc, 2, 5)?;
+    let found = assert_stale_reads(&rt, alloc, 2, &gate, &AllStart)?;
+    for (worker, start) in &found.starts {
+        assert_eq!(rt; gate.of(*worker, *start), Some(1));
+    }
+    assert_eq!(rt; gate.all(2), 5);
+    Ok(())
+}
+
+/// Every so many thieves one starts, none at 0, and ends after so many retries in a row; it counts how often it was asked
+/// for these.
 #[derive(Drop)]
 struct Few {
     step: u32,
     retries: u32,
+    asked: AtomicU64,
 }
 
 impl Crew for Few {
@@ -120,76 +254,33 @@ impl Crew for Few {
     }
 
     fn retries(&self, _worker: u32) -> u32 {
+        self.asked.fetch_add(1, Ordering::SeqCst);
         self.retries
     }
 }
 
-/// Thieves that are missing or give up at once change nothing.
+/// Thieves that are missing or give up at once change nothing of what is found, and who doesn't start searches nothing: with
+/// no thief worker 0 has all starts. Each thief that starts is asked for its retries. So a body fails that starts all
+/// thieves, or has retries of its own.
 #[test]
 fn any_crew(rt: HostRuntime) -> Result<(), Fail> {
     let alloc = rt.alloc();
-    for (step, retries) in [(0, 1024), (2, 1024), (1, 0)] {
-        assert_stale_reads(&rt, alloc, 32, &OpenGate, &Few { step, retries })?;
-    }
-    Ok(())
-}
-
-/// Counts the calls of the first and of the second worker for each start.
-#[derive(Drop)]
-struct Counting {
-    first: [AtomicU64; 5],
-    second: [AtomicU64; 5],
-}
-
-/// A count of each start, none of which was seen yet.
-fn no_calls() -> [AtomicU64; 5] {
-    [
-        AtomicU64::new(0),
-        AtomicU64::new(0),
-        AtomicU64::new(0),
-        AtomicU64::new(0),
-        AtomicU64::new(0),
-    ]
-}
-
-impl Counting {
-    /// The calls of a worker.
-    fn of(&self, worker: u32) -> &[AtomicU64] {
-        if worker == 0 {
-            &self.first
-        } else {
-            &self.second
-        }
-    }
-}
-
-impl Gate for Counting {
-    fn enter(&self, worker: u32, start: u32) {
-        if let Some(calls) = self.of(worker).get(start as usize) {
-            calls.fetch_add(1, Ordering::SeqCst);
-        }
-    }
-}
-
-/// The gate is called once for each start, by the worker that stands beside it in `starts`.
-#[test]
-fn gate_sees_each_start_once(rt: HostRuntime) -> Result<(), Fail> {
-    let gate = Counting {
-        first: no_calls(),
-        second: no_calls(),
-    };
-    let found = assert_stale_reads(&rt, rt.alloc(), 2, &gate, &AllStart)?;
-    for (worker, start) in &found.starts {
-        let Some(calls) = gate.of(*worker).get(*start as usize) else {
-            panic!(rt; "no such start");
+    for (step, retries, thieves) in [(0, 1024, 0), (2, 1024, 15), (1, 0, 31)] {
+        let asked = AtomicU64::new(0);
+        let crew = Few {
+            step,
+            retries,
+            asked,
         };
-        assert_eq!(rt; calls.load(Ordering::SeqCst), 1);
+        let gate = Counting::new(alloc, 32, 5)?;
+        let found = assert_stale_reads(&rt, alloc, 32, &gate, &crew)?;
+        for (worker, start) in &found.starts {
+            assert!(rt; *worker == 0 || crew.starts(*worker));
+            assert_eq!(rt; gate.of(*worker, *start), Some(1));
+        }
+        assert_eq!(rt; gate.all(32), 5);
+        assert_eq!(rt; crew.asked.load(Ordering::SeqCst), thieves);
     }
-    let mut all = 0u64;
-    for calls in gate.first.iter().chain(gate.second.iter()) {
-        all = all.saturating_add(calls.load(Ordering::SeqCst));
-    }
-    assert_eq!(rt; all, 5);
     Ok(())
 }
 
@@ -200,6 +291,24 @@ struct Meeting {
     until: u64,
     entered: AtomicU64,
     missed: AtomicU64,
+}
+
+impl Meeting {
+    fn new(held: u64, until: u64) -> Meeting {
+        Meeting {
+            held,
+            until,
+            entered: AtomicU64::new(0),
+            missed: AtomicU64::new(0),
+        }
+    }
+
+    /// All that were held met the others, and no start was entered twice: so what each worker brought back was taken in as a
+    /// whole, and none of it searched again.
+    fn assert_met(&self, rt: &impl Abort) {
+        assert_eq!(rt; self.missed.load(Ordering::SeqCst), 0);
+        assert_eq!(rt; self.entered.load(Ordering::SeqCst), 5);
+    }
 }
 
 impl Gate for Meeting {
@@ -216,7 +325,7 @@ impl Gate for Meeting {
     }
 }
 
-/// So many workers meet: the gate holds the first callers until so many starts were entered.
+/// So many workers meet, by both calls: the gate holds the first callers until so many starts were entered.
 fn assert_meet(
     rt: &(impl Abort + Threads + Sync),
     alloc: Global,
@@ -226,14 +335,14 @@ fn assert_meet(
 ) -> Result<(), Fail>
     requires { (0 < workers) × (workers ≤ 32) }
 {
-    let gate = Meeting {
-        held,
-        until,
-        entered: AtomicU64::new(0),
-        missed: AtomicU64::new(0),
-    };
+    let gate = Meeting::new(held, until);
     assert_stale_reads(rt, alloc, workers, &gate, &AllStart)?;
-    assert_eq!(rt; gate.missed.load(Ordering::SeqCst), 0);
+    gate.assert_met(rt);
+    let gate = Meeting::new(held, until);
+    let prices = stale_prices(rt, alloc)?;
+    let found = search(rt, alloc, &prices, workers, &gate)?;
+    assert_stale(rt, &found, workers);
+    gate.assert_met(rt);
     Ok(())
 }
 
