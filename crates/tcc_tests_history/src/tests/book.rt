@@ -226,13 +226,22 @@ fn openings(rt: HostRuntime) {
     assert_eq!(rt; many, Some(OpenFault::TooManySessions { held: 64 }));
 }
 
-/// A full book hands the transaction back.
+/// Whether one session has all that a book can hold, and the other nothing.
+fn is_full(rt: &impl Abort, snapshot: &Snapshot) -> bool {
+    let writes = [name(rt, "a"), name(rt, "b")].map(|name| writes_of(snapshot, &name));
+    writes == [Some(4095), Some(0)]
+}
+
+/// A full book hands the transaction back, and is sealed, made whole and closed with all that it holds: so no call gives up
+/// at fewer.
 #[test]
 fn full_book(rt: HostRuntime) {
     let alloc = rt.alloc();
     let book = new_book(&rt, alloc);
+    let mut passes = Vec::new(alloc);
     for mut a in opened(&rt, alloc, &book, b"a") {
         assert_records(&rt, alloc, &book, &mut a, MAX_TRANSACTIONS as u64);
+        assert!(rt; passes.push(a).is_ok());
     }
     for mut b in opened(&rt, alloc, &book, b"b") {
         let Some(Err((fault, back))) = record(&rt, alloc, &book, &mut b, 7) else {
@@ -241,5 +250,14 @@ fn full_book(rt: HostRuntime) {
         assert_eq!(rt; fault, RecordFault::Full { held: 4095 });
         assert!(rt; back.ops().first().is_some_and(|op| op.value() == 7));
         assert!(rt; b.recorded().is_empty());
+        assert!(rt; passes.push(b).is_ok());
     }
+    for pass in &passes {
+        let sealed = book.seal(&rt, alloc, pass);
+        assert!(rt; sealed.is_ok_and(|sealed| is_full(&rt, &sealed)));
+    }
+    let whole = book.whole(&rt, alloc, &passes);
+    assert!(rt; whole.is_ok_and(|whole| is_full(&rt, &whole)));
+    let closed = book.close(&rt, alloc, passes);
+    assert!(rt; closed.is_ok_and(|closed| is_full(&rt, &closed)));
 }
