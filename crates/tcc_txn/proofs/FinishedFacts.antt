@@ -72,34 +72,34 @@ limits-before xs ys limits =
     (omega (arith, whole.0, sessions), omega (arith, whole.1, transactions))
 
 -- the items of some lines, which stand newest first
-abbrev pushed : Option Item → List Item → List Item
+abbrev pub pushed : Option Item → List Item → List Item
 pushed None items = items
 pushed (Some last) items = items ++ last ∷ []
 
-abbrev items_in : List Line → List Item
+abbrev pub items_in : List Line → List Item
 items_in [] = []
 items_in (last ∷ past) = pushed (item_of past last) (items_in past)
 
-abbrev finished_by : List Line → Sessions
+abbrev pub finished_by : List Line → Sessions
 finished_by past = finished_in (items_in past)
 
 -- each line is lawful after those before it
-abbrev AreLawful : List Line → Type 0
+abbrev pub AreLawful : List Line → Type 0
 AreLawful [] = Unit {0}
 AreLawful (last ∷ past) = (fault_of past last ≡ None) × AreLawful past
 
 -- a faultless begin
-no-begin-fault : {X : Type 0} (a b c : Bool) (x y z : X) → cond a (Some x) (cond b (Some y) (cond c (Some z) None)) ≡ None → (a ≡ false) × (b ≡ false) × (c ≡ false)
+pub no-begin-fault : {X : Type 0} (a b c : Bool) (x y z : X) → cond a (Some x) (cond b (Some y) (cond c (Some z) None)) ≡ None → (a ≡ false) × (b ≡ false) × (c ≡ false)
 no-begin-fault true b c x y z e = cc
 no-begin-fault false true c x y z e = cc
 no-begin-fault false false true x y z e = cc
 no-begin-fault false false false x y z e = (refl, refl, refl)
 
-no-finish-fault : {X : Type 0} (a : Bool) (x : X) → cond a None (Some x) ≡ None → a ≡ true
+pub no-finish-fault : {X : Type 0} (a : Bool) (x : X) → cond a None (Some x) ≡ None → a ≡ true
 no-finish-fault true x e = refl
 no-finish-fault false x e = cc
 
-fits : (most n : ℕ) → nat_lt most n ≡ false → n ≤ most
+pub fits : (most n : ℕ) → nat_lt most n ≡ false → n ≤ most
 fits most n e = grind (arith, nat_tests, e)
 
 faultless-begin : (past : List Line) (session : List ℕ) → fault_of past (line.Begin session) ≡ None
@@ -109,14 +109,14 @@ faultless-begin past session none =
     (nat_lt MAX_TRANSACTIONS (begin_count (line.Begin session ∷ past))) kind.AlreadyBegun kind.TooManySessions kind.TooManyTransactions none in
     (all.1, all.2)
 
-few_begun : (past : List Line) → AreLawful past → begin_count past ≤ MAX_TRANSACTIONS
+pub few_begun : (past : List Line) → AreLawful past → begin_count past ≤ MAX_TRANSACTIONS
 few_begun [] lawful = omega arith
 few_begun (line.Seal ∷ past) lawful = few_begun past lawful.1
 few_begun (line.Begin session ∷ past) lawful = fits MAX_TRANSACTIONS _ (faultless-begin past session lawful.0).1
 few_begun (line.Finish session committed ∷ past) lawful = few_begun past lawful.1
 few_begun (line.Operation session op ∷ past) lawful = few_begun past lawful.1
 
-few_seated : (past : List Line) → AreLawful past → length (sessions past) ≤ MAX_SESSIONS
+pub few_seated : (past : List Line) → AreLawful past → length (sessions past) ≤ MAX_SESSIONS
 few_seated [] lawful = omega arith
 few_seated (line.Seal ∷ past) lawful = few_seated past lawful.1
 few_seated (line.Begin session ∷ past) lawful = fits MAX_SESSIONS _ (faultless-begin past session lawful.0).0
@@ -127,14 +127,14 @@ exact-same : (a b : List ℕ) → same a b ≡ true → a ≡ b
 exact-same a b e = same-name a b e
 
 -- names in a map
-tied-same : (q s : List ℕ) → eq_by_cmp name_cmp q s ≡ same s q
+pub tied-same : (q s : List ℕ) → eq_by_cmp name_cmp q s ≡ same s q
 tied-same q s = sym (texts_ties q s) ∙ same-swap q s
 
 some-not-none : {X : Type 0} (o : Option X) → is_some o ≡ false → o ≡ None
 some-not-none None e = refl
 some-not-none (Some x) e = cc
 
-is-false : (b : Bool) → (b ≡ true → ⊥) → b ≡ false
+pub is-false : (b : Bool) → (b ≡ true → ⊥) → b ≡ false
 is-false b never = by b refl
   where
     by : (c : Bool) → b ≡ c → b ≡ false
@@ -274,7 +274,7 @@ lawful-limits past lawful =
     (omega (arith, few-finished past lawful, few_seated past lawful), omega (arith, transactions, few_begun past lawful))
 
 -- a record that is taken is lawful
-judged-free : (past : List Line) (fields : Record) (last : Line) → judged past fields ≡ Ok last → fault_of past last ≡ None
+pub judged-free : (past : List Line) (fields : Record) (last : Line) → judged past fields ≡ Ok last → fault_of past last ≡ None
 judged-free past fields last = by (is_cut fields) (line_of fields) refl refl
   where
     of : (found : Line) (o : Option RowFaultKind) → fault_of past found ≡ o → option_map_or Err o (Ok found) ≡ Ok last → fault_of past last ≡ None

@@ -3,6 +3,7 @@ mod FieldBytes
 mod FinishedFacts
 mod Growing
 mod GrownSnapshot
+mod Interleaving
 mod LeastOpen
 mod LimitFacts
 mod LineFacts

@@ -3,6 +3,7 @@ pub mod Answers
 pub mod ByteLimit
 pub mod Drafts
 pub mod Finished
+pub mod Interleaved
 pub mod Lines
 pub mod Midway
 pub mod Names
