@@ -11,7 +11,8 @@ In the documents, a link has to lead to a file, and what stands in backquotes ha
     a call of a type      `Book::new`: its last word stands in some source
     a name before a file  `answer_text` (`tcc_answer/specs`): the files there have the name
 
-CHANGELOG tells of the past, and is left out. The man page and the completion for bash have to name each command and option
+ARCHITECTURE has to name the modules of each crate, all of them and no others, and what a crate stands on as `crates.txt` has
+it. CHANGELOG tells of the past, and is left out. The man page and the completion for bash have to name each command and option
 of the program's help, and the completion to complete them; and the stack that README names has to be enough. Each
 difference is one line; the last line is `N passed, M failed`.
 """
@@ -23,7 +24,7 @@ import shlex
 import subprocess
 import sys
 import tempfile
-from typing import Iterator, List, Optional, Tuple
+from typing import Dict, Iterator, List, Optional, Tuple
 
 TOP = pathlib.Path(__file__).resolve().parent.parent.parent
 CODE = re.compile(r"```.*?```", re.DOTALL)
@@ -36,6 +37,7 @@ CRATE = re.compile(r"tcc_[a-z_]+")
 OF_CRATE = re.compile(r"(tcc_[a-z_]+)(?:::[A-Za-z_]+)*::([A-Za-z_]+)")
 OF_TYPE = re.compile(r"[A-Z][A-Za-z]+::([A-Za-z_]+)")
 BEFORE_FILE = re.compile(r"`([A-Za-z_]+)` \(`((?:tcc_[a-z_]+)(?:/[A-Za-z_./]+)?)`")
+WORD = re.compile(r"`([a-z0-9_/]+)`")
 # Types of the toolchain, and files that a reader has, makes or names.
 ELSEWHERE = {"Vec", "String", "Option", "Result", "Ordering", "Rattle"}
 MADE = re.compile(r"(?:history|names|records|answer|client-|certificate)\S*|store/|.*\bNAME\b.*|.*\bout/.*")
@@ -109,6 +111,56 @@ def faults_of(document: pathlib.Path) -> Iterator[Tuple[str, Optional[str]]]:
             yield where + "`%s` (`%s`)" % (name, place), None if there else "it isn't there"
 
 
+def table(heading: str) -> Iterator[List[str]]:
+    """The cells of the rows of ARCHITECTURE's table that begins so."""
+    text = (TOP / "docs/ARCHITECTURE.md").read_text().partition(heading)[2].partition("\n\n")[0]
+    for line in text.splitlines()[2:]:
+        yield [cell.strip() for cell in line.strip("|").split("|")]
+
+
+def stands_on() -> Dict[str, List[str]]:
+    """What each crate of crates.txt names."""
+    lines = [line.partition("#")[0].partition(":") for line in (TOP / "crates.txt").read_text().splitlines()]
+    return {before.split()[0]: after.split() for before, colon, after in lines if colon}
+
+
+def faults_of_modules() -> Iterator[Tuple[str, Optional[str]]]:
+    """Whether the table of modules names those of each crate, by their paths or the ends of these."""
+    told = {WORD.findall(crate)[0]: [one for one in WORD.findall(modules) if not one.startswith("tcc_")]
+            for crate, modules in table("| crate | its modules |")}
+    for crate in stands_on():
+        if crate.startswith(("tcc_tests_", "tcc_bench_")):
+            continue
+        source = TOP / "crates" / crate / "src"
+        there = [path.relative_to(source).as_posix()[:-3] for path in source.rglob("*.rt") if path.name != "lib.rt"]
+        named = told.get(crate, [])
+        for module in there:
+            is_named = any(("/" + module).endswith("/" + name) for name in named)
+            yield "modules of %s: %s" % (crate, module), None if is_named else "ARCHITECTURE doesn't name it"
+        for name in named:
+            is_module = any(("/" + module).endswith("/" + name) for module in there)
+            yield "modules of %s: `%s`" % (crate, name), None if is_module else "no such module"
+
+
+def faults_of_crates() -> Iterator[Tuple[str, Optional[str]]]:
+    """Whether the table of crates has for each one what it stands on, beside what these stand on."""
+    told: Dict[str, List[str]] = {}
+    for crates, _, below in table("| crate | what it is |"):
+        names, parts = WORD.findall(crates), below.split(";")
+        for place, name in enumerate(names):
+            told[name] = WORD.findall(parts[place] if len(parts) == len(names) else below)
+
+    def all_below(crate: str) -> set:
+        return set(told.get(crate, [])).union(*(all_below(one) for one in told.get(crate, [])))
+
+    for crate, wanted in stands_on().items():
+        if crate.startswith("tcc_tests_"):
+            continue
+        more, less = sorted(set(told.get(crate, [])) - set(wanted)), sorted(set(wanted) - all_below(crate))
+        wrong = ["stands not on " + one for one in more] + ["stands on %s, of which ARCHITECTURE says nothing" % one for one in less]
+        yield "crate %s" % crate, None if crate in told and not wrong else "; ".join(wrong) or "ARCHITECTURE has no row"
+
+
 def documents() -> List[pathlib.Path]:
     found = [TOP / "README.md", TOP / "CONTRIBUTING.md", *(TOP / "docs").glob("*.md"), *TOP.glob("*/README.md"),
              TOP / "tests/rows/README.md"]
@@ -156,6 +208,8 @@ def faults_of_stack(tcc: List[str]) -> Iterator[Tuple[str, Optional[str]]]:
 def outcomes(tcc: List[str]) -> Iterator[Tuple[str, Optional[str]]]:
     for document in documents():
         yield from faults_of(document)
+    yield from faults_of_modules()
+    yield from faults_of_crates()
     yield from faults_of_options(tcc)
     yield from faults_of_stack(tcc)
 
