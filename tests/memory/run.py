@@ -1,6 +1,6 @@
 #!/usr/bin/env python3
-"""Refuses each allocation of the built programs in turn: the answers stay, or one of them and all after it are the line
-for want of memory, status 5.
+"""Refuses each allocation of the built programs in turn: the answers stay, or in place of one of them and all
+after it stands the line `memory`, status 5.
 
     run.py [--tcc PATH] [--recorders PATH]
 
