@@ -12,7 +12,7 @@ In the documents, a link has to lead to a file, and what stands in backquotes ha
     a name before a file  `answer_text` (`tcc_answer/specs`): the files there have the name
 
 ARCHITECTURE has to name the modules of each crate, all of them and no others, and what a crate stands on as `crates.txt` has
-it. CHANGELOG tells of the past, and is left out. The man page and the completion for bash have to name each command and option
+it; PROOFS each public call of a library, in the part of its crate. CHANGELOG tells of the past, and is left out. The man page and the completion for bash have to name each command and option
 of the program's help, and the completion to complete them; and the stack that README names has to be enough. Each
 difference is one line; the last line is `N passed, M failed`.
 """
@@ -38,6 +38,10 @@ OF_CRATE = re.compile(r"(tcc_[a-z_]+)(?:::[A-Za-z_]+)*::([A-Za-z_]+)")
 OF_TYPE = re.compile(r"[A-Z][A-Za-z]+::([A-Za-z_]+)")
 BEFORE_FILE = re.compile(r"`([A-Za-z_]+)` \(`((?:tcc_[a-z_]+)(?:/[A-Za-z_./]+)?)`")
 WORD = re.compile(r"`([a-z0-9_/]+)`")
+PUBLIC_MODULE = re.compile(r"^pub mod (\w+);", re.MULTILINE)
+PASSED_ON = re.compile(r"^pub use (?!tcc_)[\w:]+::(\{[^}]*\}|\w+);", re.MULTILINE)
+METHODS = re.compile(r"impl(?:<[^>]*>)? (\w+)")
+CALL = re.compile(r"( *)pub (?:const )?fn (\w+)")
 # Types of the toolchain, and files that a reader has, makes or names.
 ELSEWHERE = {"Vec", "String", "Option", "Result", "Ordering", "Rattle"}
 MADE = re.compile(r"(?:history|names|records|answer|client-|certificate)\S*|store/|.*\bNAME\b.*|.*\bout/.*")
@@ -161,6 +165,32 @@ def faults_of_crates() -> Iterator[Tuple[str, Optional[str]]]:
         yield "crate %s" % crate, None if crate in told and not wrong else "; ".join(wrong) or "ARCHITECTURE has no row"
 
 
+def public_calls(crate: str) -> Iterator[str]:
+    """The functions that the root of a library makes public, and those of its public types."""
+    source = TOP / "crates" / crate / "src"
+    root = (source / "lib.rt").read_text()
+    modules, names = set(PUBLIC_MODULE.findall(root)), set(re.findall(r"\w+", " ".join(PASSED_ON.findall(root))))
+    for path in source.rglob("*.rt"):
+        of = ""
+        for line in path.read_text().splitlines():
+            methods, call = METHODS.match(line), CALL.match(line)
+            of = methods.group(1) if methods else of
+            if call and (path.stem in modules or (of if call.group(1) else call.group(2)) in names):
+                yield call.group(2)
+
+
+def faults_of_calls() -> Iterator[Tuple[str, Optional[str]]]:
+    """Whether PROOFS names each public call of each library, in the part of its crate."""
+    parts = re.split(r"^## `?(\w+)`?.*$", (TOP / "docs/PROOFS.md").read_text(), flags=re.MULTILINE)
+    told = dict(zip(parts[1::2], parts[2::2]))
+    for crate in stands_on():
+        if crate.startswith("tcc_tests_") or not (TOP / "crates" / crate / "src/lib.rt").exists():
+            continue
+        quoted = set(re.findall(r"\w+", " ".join(QUOTED.findall(told.get(crate, "")))))
+        for call in sorted(set(public_calls(crate))):
+            yield "call %s of %s" % (call, crate), None if call in quoted else "PROOFS doesn't name it"
+
+
 def documents() -> List[pathlib.Path]:
     found = [TOP / "README.md", TOP / "CONTRIBUTING.md", *(TOP / "docs").glob("*.md"), *TOP.glob("*/README.md"),
              TOP / "tests/rows/README.md"]
@@ -210,6 +240,7 @@ def outcomes(tcc: List[str]) -> Iterator[Tuple[str, Optional[str]]]:
         yield from faults_of(document)
     yield from faults_of_modules()
     yield from faults_of_crates()
+    yield from faults_of_calls()
     yield from faults_of_options(tcc)
     yield from faults_of_stack(tcc)
 
