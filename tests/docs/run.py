@@ -12,7 +12,8 @@ In the documents, a link has to lead to a file, and what stands in backquotes ha
     a name before a file  `answer_text` (`tcc_answer/specs`): the files there have the name
 
 ARCHITECTURE has to name the modules of each crate, all of them and no others, and what a crate stands on as `crates.txt` has
-it; PROOFS each public call of a library, in the part of its crate. CHANGELOG tells of the past, and is left out. The man page and the completion for bash have to name each command and option
+it; PROOFS each public call of a library, in the part of its crate. Where a `specs/Lib.antt` says what serves proofs alone, the
+files below that line have to be those that say in the beginning that nobody has to believe them. CHANGELOG tells of the past, and is left out. The man page and the completion for bash have to name each command and option
 of the program's help, and the completion to complete them; and the stack that README names has to be enough. Each
 difference is one line; the last line is `N passed, M failed`.
 """
@@ -191,6 +192,17 @@ def faults_of_calls() -> Iterator[Tuple[str, Optional[str]]]:
             yield "call %s of %s" % (call, crate), None if call in quoted else "PROOFS doesn't name it"
 
 
+def faults_of_specs() -> Iterator[Tuple[str, Optional[str]]]:
+    """Whether the parts of an index of specs are those that the files themselves tell."""
+    for index in sorted((TOP / "crates").glob("*/specs/Lib.antt")):
+        believed, line, rest = index.read_text().partition("-- What serves proofs alone:\n")
+        for part, private in ((believed, False), (rest, True)):
+            for name in re.findall(r"^pub mod (\w+)$", part, re.MULTILINE) if line else ():
+                begins = (index.parent / (name + ".antt")).read_text().split("\n")[:2]
+                says = "nobody has to believe" in " ".join(begins).lower()
+                yield "specs of %s: %s" % (index.parts[-3], name), None if says == private else "it stands in the other part"
+
+
 def documents() -> List[pathlib.Path]:
     found = [TOP / "README.md", TOP / "CONTRIBUTING.md", *(TOP / "docs").glob("*.md"), *TOP.glob("*/README.md"),
              TOP / "tests/rows/README.md"]
@@ -241,6 +253,7 @@ def outcomes(tcc: List[str]) -> Iterator[Tuple[str, Optional[str]]]:
     yield from faults_of_modules()
     yield from faults_of_crates()
     yield from faults_of_calls()
+    yield from faults_of_specs()
     yield from faults_of_options(tcc)
     yield from faults_of_stack(tcc)
 

@@ -1,3 +1,4 @@
+-- What contracts of public calls cite:
 pub mod Labels
 pub mod Shapes
 pub mod Answers

@@ -1,3 +1,4 @@
+-- What serves proofs alone:
 pub mod Numbering
 pub mod Behind
 pub mod Lasts

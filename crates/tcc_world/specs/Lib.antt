@@ -1,3 +1,4 @@
+-- What contracts of public calls cite:
 pub mod Worlds
 pub mod Steps
 pub mod Soundness
