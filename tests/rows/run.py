@@ -63,6 +63,8 @@ def part(p, known=None):
         return table(p["table"], p["rows"], p["columns"], p.get("where", {}))
     if "when" in p:
         return text(p["of"], known) if value(p["when"], known) else b""
+    if "times" in p:
+        return text(p["of"], known) * value(p["times"], known or {})
     if "repeat" in p and not any(map(is_ruled, p["of"])):
         return text(p["of"]) * p["repeat"]
     return b"".join(text(p["of"], {**(known or {}), **names}) for names in repeated(p, known or {}))
@@ -227,7 +229,13 @@ def compared(run, output, errors, certificate):
     yield stream_difference("standard error", run.get("errors", []), errors)
     if "certificate" in run:
         got = certificate.read_bytes() if certificate.exists() else b"no such file"
-        yield first_difference("certificate", text(run["certificate"]), got)
+        yield first_difference("certificate", text(certificate_wanted(run)), got)
+
+
+def certificate_wanted(run):
+    """The parts of the certificate that is wanted: its own, or those of the file that it names."""
+    wanted = run["certificate"]
+    return run["files"][wanted[1:]] if isinstance(wanted, str) else wanted
 
 
 def main():
