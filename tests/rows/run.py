@@ -25,7 +25,7 @@ import threading
 HERE = pathlib.Path(__file__).resolve().parent
 TOP = HERE.parent.parent
 NEEDED = {"about", "arguments", "status"}
-FIELDS = NEEDED | {"input", "input_from", "typed", "cut", "files", "output", "output_to", "taken", "errors",
+FIELDS = NEEDED | {"input", "input_from", "typed", "cut", "closed", "files", "output", "output_to", "taken", "errors",
                    "certificate", "seconds"}
 COMMAND_LINE = 64
 
@@ -150,8 +150,10 @@ def finished(words, run, folder, seconds):
         if "taken" in run:
             out = broken_off(run["taken"], held)
         else:
-            out = held.enter_context(open(run.get("output_to", output), "wb"))
+            out = held.enter_context(open(place(run.get("output_to", output), folder), "wb"))
         streams = {"stdout": out, "stderr": subprocess.PIPE, "timeout": seconds}
+        if "closed" in run:
+            streams["preexec_fn"] = lambda: [os.close(stream) for stream in run["closed"]]
         if "input_from" in run:
             given = os.open(place(run["input_from"], folder), os.O_RDONLY)
             held.callback(os.close, given)

@@ -3,25 +3,26 @@ ghost use Rattle.std.specs.Prelude.{IfOk};
 ghost use Rattle.tcc.specs.Files.{AreBothGiven, PrintsFiles, unopened_text, unopened_status};
 ghost use Rattle.tcc_print.specs.Printed.{Prints};
 
-use std::fs::{self, File};
+use crate::opening;
+use std::fs::File;
 use std::io::{self, ErrorKind, Write};
 use tcc_print::printing::{print_device, print_memory};
 use tcc_verdict::run_check;
 
 /// Opens both files, the history before the certificate.
 fn open_both(rt: &HostRuntime, history: &str, certificate: &str) -> io::Result<(File, File)> {
-    let history = fs::open(rt, history)?;
-    let certificate = fs::open(rt, certificate)?;
+    let history = opening::open(rt, history)?;
+    let certificate = opening::open(rt, certificate)?;
     Ok((history, certificate))
 }
 
-/// Makes the file if a path is given, and makes it empty where it is there.
+/// Makes the file if a path is given, and makes it empty where it is there. The standard input or output is no file for it.
 pub fn make(rt: &HostRuntime, path: &Option<String>) -> io::Result<Option<File>>
     ensures { IfOk result (AreBothGiven path.now) }
 {
     match path {
         Some(path) => {
-            let file = fs::create(rt, path.as_str())?;
+            let file = opening::make(rt, path.as_str())?;
             Ok(Some(file))
         }
         None => Ok(None),

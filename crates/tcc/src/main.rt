@@ -3,6 +3,7 @@
 #![tactic(auto)]
 
 mod files;
+mod opening;
 
 use files::{check_files, make, print_unopened};
 use std::io;
