@@ -26,7 +26,7 @@ HERE = pathlib.Path(__file__).resolve().parent
 TOP = HERE.parent.parent
 NEEDED = {"about", "arguments", "status"}
 FIELDS = NEEDED | {"input", "input_from", "typed", "cut", "closed", "files", "output", "output_to", "taken", "errors",
-                   "certificate", "seconds"}
+                   "watched", "certificate", "seconds"}
 COMMAND_LINE = 64
 
 
@@ -145,23 +145,34 @@ def shown(line):
 
 def finished(words, run, folder, seconds):
     """The run of the program, once it has ended; what it printed is in the folder's file `standard-output`."""
-    output = os.path.join(folder, "standard-output")
     with contextlib.ExitStack() as held:
         if "taken" in run:
             out = broken_off(run["taken"], held)
         else:
-            out = held.enter_context(open(place(run.get("output_to", output), folder), "wb"))
-        streams = {"stdout": out, "stderr": subprocess.PIPE, "timeout": seconds}
+            output = place(run.get("output_to", os.path.join(folder, "standard-output")), folder)
+            out = held.enter_context(open(output, "wb"))
+        streams = {"stdout": out, "stderr": subprocess.PIPE, "timeout": seconds, **given(run, folder, held)}
         if "closed" in run:
             streams["preexec_fn"] = lambda: [os.close(stream) for stream in run["closed"]]
-        if "input_from" in run:
-            given = os.open(place(run["input_from"], folder), os.O_RDONLY)
-            held.callback(os.close, given)
-        elif "typed" in run:
-            given = terminal(text(run["typed"]), held)
-        else:
-            return subprocess.run(words, input=text(run.get("input", []))[: run.get("cut")], **streams)
-        return subprocess.run(words, stdin=given, **streams)
+        if "watched" not in run:
+            return subprocess.run(words, **streams)
+        screen, streams["stderr"] = terminal(held)
+        done = subprocess.run(words, **streams)
+        done.stderr = os.read(screen, 1 << 16)
+        return done
+
+
+def given(run, folder, held):
+    """Where standard input comes from."""
+    if "input_from" in run:
+        file = os.open(place(run["input_from"], folder), os.O_RDONLY)
+        held.callback(os.close, file)
+        return {"stdin": file}
+    if "typed" in run:
+        keys, typed = terminal(held)
+        os.write(keys, text(run["typed"]))
+        return {"stdin": typed}
+    return {"input": text(run.get("input", []))[: run.get("cut")]}
 
 
 def broken_off(taken, held):
@@ -183,16 +194,16 @@ def broken_off(taken, held):
     return writing
 
 
-def terminal(keys, held):
-    """A terminal that shows nothing, at which these keys were typed."""
-    typing, given = os.openpty()
-    held.callback(os.close, typing)
-    held.callback(os.close, given)
-    mode = termios.tcgetattr(given)
-    mode[3] = termios.ICANON
-    termios.tcsetattr(given, termios.TCSANOW, mode)
-    os.write(typing, keys)
-    return given
+def terminal(held):
+    """A terminal that shows no key and changes no line feed: the end of whoever sits there, and that of the program."""
+    person, program = os.openpty()
+    held.callback(os.close, person)
+    held.callback(os.close, program)
+    os.set_blocking(person, False)
+    mode = termios.tcgetattr(program)
+    mode[1], mode[3] = 0, termios.ICANON
+    termios.tcsetattr(program, termios.TCSANOW, mode)
+    return person, program
 
 
 def by_workers(run, workers):

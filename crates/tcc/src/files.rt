@@ -5,14 +5,25 @@ ghost use Rattle.tcc_print.specs.Printed.{Prints};
 
 use crate::opening;
 use std::fs::File;
-use std::io::{self, ErrorKind, Write};
+use std::io::{self, ErrorKind, IsTerminal, Write};
 use tcc_print::printing::{print_device, print_memory};
 use tcc_verdict::run_check;
 
+/// The file, if it could be opened or made. Which one could not, and why, is said only to a person at a terminal: what
+/// else reads standard error finds the one line by which it knows the end of the run.
+fn told(rt: &HostRuntime, path: &str, opened: io::Result<File>) -> io::Result<File> {
+    if let Err(error) = &opened {
+        if rt.stderr().is_terminal() {
+            let _ = eprintln!(rt; "{path}: {error}");
+        }
+    }
+    opened
+}
+
 /// Opens both files, the history before the certificate.
 fn open_both(rt: &HostRuntime, history: &str, certificate: &str) -> io::Result<(File, File)> {
-    let history = opening::open(rt, history)?;
-    let certificate = opening::open(rt, certificate)?;
+    let history = told(rt, history, opening::open(rt, history))?;
+    let certificate = told(rt, certificate, opening::open(rt, certificate))?;
     Ok((history, certificate))
 }
 
@@ -22,7 +33,8 @@ pub fn make(rt: &HostRuntime, path: &Option<String>) -> io::Result<Option<File>>
 {
     match path {
         Some(path) => {
-            let file = opening::make(rt, path.as_str())?;
+            let made = opening::make(rt, path.as_str());
+            let file = told(rt, path.as_str(), made)?;
             Ok(Some(file))
         }
         None => Ok(None),

@@ -42,11 +42,22 @@ fn is_same(one: Option<Place>, other: Option<Place>) -> bool
     }
 }
 
+/// The place of the file that a standard stream is open on.
+fn stream(rt: &HostRuntime, link: &str) -> io::Result<Option<Place>> {
+    match fs::metadata(rt, link) {
+        Ok(metadata) => Ok(Place::of(&metadata)),
+        Err(error) => {
+            let message = "nothing tells what the input and the output are";
+            Err(io::Error::new(error.kind(), message))
+        }
+    }
+}
+
 /// Whether the file at this place is the standard input or output; an error where one of these is closed, or the system
 /// doesn't tell.
 fn is_standard(rt: &HostRuntime, file: Option<Place>) -> io::Result<bool> {
-    let input = Place::of(&fs::metadata(rt, INPUT)?);
-    let output = Place::of(&fs::metadata(rt, OUTPUT)?);
+    let input = stream(rt, INPUT)?;
+    let output = stream(rt, OUTPUT)?;
     Ok(is_same(file, input) || is_same(file, output))
 }
 
@@ -68,7 +79,8 @@ pub fn make(rt: &HostRuntime, path: &str) -> io::Result<File> {
     let file = aside(opened)?;
     let metadata = file.metadata()?;
     if is_standard(rt, Place::of(&metadata))? {
-        return Err(io::Error::from(ErrorKind::ResourceBusy));
+        let message = "it is the input or the output";
+        return Err(io::Error::new(ErrorKind::ResourceBusy, message));
     }
     if metadata.is_file() {
         file.set_len(0)?;
