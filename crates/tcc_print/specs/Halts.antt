@@ -14,16 +14,16 @@ abbrev pub is_memory : RowFaultKind → Bool
 is_memory row_kind.NoMemory = true
 is_memory _ = false
 
--- want of memory stands by itself, and other faults with their rows
+-- `NoMemory` stands by itself, and other faults with their rows
 abbrev pub by_row : RowFault → Halt
 by_row fault = if is_memory fault.kind then NoMemory else Row fault
 
--- want of memory stands by itself, and other faults with their lines
+-- `NoMemory` stands by itself, and other faults with their lines
 abbrev pub by_stream : StreamFault → Halt
 by_stream (stream.Text fault) = Text fault
 by_stream stream.NoMemory = NoMemory
 
--- all read faults, or want of memory
+-- all read faults, or `NoMemory`
 abbrev pub unresolved_by : ResolveFault → Halt
 unresolved_by (unresolved.Reads faults) = Reads faults
 unresolved_by unresolved.NoMemory = NoMemory

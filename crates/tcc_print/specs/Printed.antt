@@ -26,7 +26,7 @@ unresolved json faults = if json then json_line (unresolved_json faults) else un
 abbrev pub halted : Bool → Halt → List ℕ
 halted json why = if json then halt_line why else halt_text why
 
--- the line for want of memory
+-- the line that says that memory is out
 abbrev pub memory_line : Bool → List ℕ
 memory_line json = halted json NoMemory
 
@@ -49,11 +49,11 @@ Prints before after text status code =
 abbrev pub CutsOff : Option (List ℕ) → Option (List ℕ) → List ℕ → ℕ → Type 0
 CutsOff before after text code = ((n : ℕ) × Appends before after (take n text)) × (code ≡ code_of Device)
 
--- the run ended in a text: a writer failed, or memory was wanting and that was said in its place
+-- the run ended in a text: a writer failed, or memory was out and that was said in its place
 abbrev pub EndsIn : Bool → Option (List ℕ) → Option (List ℕ) → List ℕ → ℕ → Type 0
 EndsIn json before after text code = CutsOff before after text code ⊎ Prints before after (memory_line json) Memory code
 
--- the text with its status, or want of memory in its place
+-- the text with its status, or in its place the line that says that memory is out
 abbrev pub PrintsOrMemory : Bool → Option (List ℕ) → Option (List ℕ) → List ℕ → Status → ℕ → Type 0
 PrintsOrMemory json before after text status code =
     Prints before after text status code ⊎ Prints before after (memory_line json) Memory code

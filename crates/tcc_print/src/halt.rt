@@ -11,11 +11,11 @@ use tcc_txn::{NoMemory, RowFault, RowFaultKind};
 /// Why there is no answer for a history, or no verdict on a certificate for it.
 #[derive(Drop)]
 pub enum Halt {
-    /// A record has a fault, other than want of memory.
+    /// A record has a fault, other than `NoMemory`.
     Row(RowFault),
     /// The history has read faults; all of them.
     Reads(Vec<ReadFault>),
-    /// The text of the certificate has a fault, other than want of memory.
+    /// The text of the certificate has a fault, other than `NoMemory`.
     Text(CertFault),
     /// Memory was refused.
     NoMemory,

@@ -25,7 +25,7 @@ fn line_by(json: bool, object: &'static [u8], text: &'static [u8]) -> &'static [
     if json { object } else { text }
 }
 
-/// The line for want of memory.
+/// The line that says that memory is out.
 fn memory_line(json: bool) -> &'static [u8]
     ensures { result.now ≡ memory_line json }
 {
@@ -70,7 +70,7 @@ pub fn print_text<W: Write>(out: &mut W, text: &[u8], status: Status) -> u8
     }
 }
 
-/// Writes that memory is wanting, as text or as a line of JSON, and gives the number that the run ends with. It takes no
+/// Writes that memory is out, as text or as a line of JSON, and gives the number that the run ends with. It takes no
 /// memory.
 pub fn print_memory<W: Write>(out: &mut W, json: bool) -> u8
     ensures { Prints (W.contents out.old) (W.contents out.new) (memory_line json) Status.Memory result }
@@ -86,7 +86,7 @@ pub fn print_device<W: Write>(out: &mut W, json: bool) -> u8
     print_text(out, device_line(json), Status::Device)
 }
 
-/// Writes the text that was made; else a writer that failed, or want of memory for the text, ends the run, with this
+/// Writes the text that was made; else a writer that failed, or no memory for the text, ends the run, with this
 /// number.
 fn send_made<W: Write>(made: Result<Vec<u8>, NoMemory>, json: bool, out: &mut W) -> Result<(), u8>
     ensures whole { (text : List ℕ) → IfOk made (λ bytes. bytes.items ≡ text) → OnOk result (Appends (W.contents out.old) (W.contents out.new) text) }
@@ -150,7 +150,7 @@ pub fn print_halt<W: Write>(alloc: Global, halt: &Halt, json: bool, out: &mut W)
     code_after(send_made(made, json, out), halt_status(halt))
 }
 
-/// Writes the outcome of a check, and gives the number that the run ends with. Where memory is wanting, that is written in
+/// Writes the outcome of a check, and gives the number that the run ends with. Where memory is out, that is written in
 /// its place.
 pub fn print_check<W: Write>(alloc: Global, outcome: &Result<Judgement, Halt>, out: &mut W) -> u8
     ensures { PrintsOrMemory false (W.contents out.old) (W.contents out.new) (check_text outcome.now) (check_status outcome.now) result }

@@ -152,7 +152,7 @@ pub fn certificate_fault(alloc: Global, fault: &CertFault) -> Result<Vec<u8>, No
     Ok(text)
 }
 
-/// What stands in the place of an answer or a verdict; the line for want of memory is made without memory, elsewhere.
+/// What stands in the place of an answer or a verdict; the line `memory` is made without memory, elsewhere.
 pub fn halt_text(alloc: Global, halt: &Halt) -> Result<Vec<u8>, NoMemory>
     ensures { IfOk result (λ text. text.items ≡ halt_text halt.now) }
 {

@@ -18,7 +18,7 @@ pub enum Halt {
     Script,
 }
 
-/// Why there is no further answer after a fault of the book, which is want of memory or says that the script is wrong.
+/// Why there is no further answer after a fault of the book, which is that memory is out, or says that the script is wrong.
 fn halt_by(is_memory: bool) -> Halt {
     if is_memory {
         Halt::NoMemory

@@ -97,7 +97,7 @@ fn answer_so_far<W: Write>(
     Ok(())
 }
 
-/// The clients' passes; what was recorded again for want of memory is said on standard error.
+/// The clients' passes; what was recorded again since memory was out is said on standard error.
 fn passes_of(rt: &impl Eprint, alloc: Global, clients: Vec<Client>) -> Result<Vec<Pass>, Halt> {
     let mut passes = Vec::new(alloc);
     for client in clients {

@@ -21,7 +21,7 @@ use Rattle.tcc_verdict.specs.Checks.{IsTextCheck, IsRecordsCheck, MayBeCheck}
 
 -- ---- the history
 
--- the fault of the records, a reader that fails, or want of memory
+-- the fault of the records, a reader that fails, or `NoMemory`
 pub unrecorded : (records : List ℕ) (fault : RowFault) (o : Result History Halt) → IsRecorded records (Err fault)
     → IsErrAnd o (λ why. why ≡ by_row fault) → IsHistoryOf records o
 unrecorded records fault (Ok h) fails is = absurd is
@@ -56,7 +56,7 @@ pub resolved : (records : List ℕ) (s : Sessions) (h : History)
     → read_faults s ≡ [] → h ≡ history s → IsHistoryOf records (Ok h)
 resolved records s h none same unfaulted is = (none, subst (λ snapshot. IsResolution snapshot (Ok h)) same (unfaulted, is))
 
--- for want of memory anything is left open
+-- out of memory anything is left open
 pub without_memory : (records : List ℕ) (o : Result History Halt) → IsErrAnd o (λ why. why ≡ NoMemory) → IsHistoryOf records o
 without_memory records (Ok h) is = absurd is
 without_memory records (Err why) is = subst (λ u. IsHistoryOf records (Err u)) (sym is) tt

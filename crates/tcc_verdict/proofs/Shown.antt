@@ -115,7 +115,7 @@ module _ (certified : (h : History) (k : Certificate) → Certifies h k → IsTr
   shown records text before after code (o, may, inl whole) zero = of_outcome records text o may (sym whole.1 ∙ zero)
   shown records text before after code (o, may, inr part) zero = absurd (not_zero (sym part.1 ∙ zero))
 
--- what is printed of the outcome, or of want of memory in its place, is what a run may print
+-- what is printed of the outcome, or of `NoMemory` in its place, is what a run may print
 pub runs : (records text : List ℕ) (before after : Option (List ℕ)) (o : Result Judgement Halt) (code : ℕ)
     → MayBeCheck records text o → PrintsOrMemory false before after (check_text o) (check_status o) code
     → IsCheckRun records text before after code

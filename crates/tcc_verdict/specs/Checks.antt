@@ -51,7 +51,7 @@ abbrev pub IsRecordsFailure : List ℕ → Result Judgement Halt → Type 0
 IsRecordsFailure records o =
     (row : ℕ) × (row ≤ length (rows.records_of records) + 1) × (o ≡ Err (Row (record { row = row; kind = row_kind.Read })))
 
--- what may come of the bytes: what their definition says, the fault of a reader that fails, or want of memory
+-- what may come of the bytes: what their definition says, the fault of a reader that fails, or `NoMemory`
 abbrev pub MayBeCheck : List ℕ → List ℕ → Result Judgement Halt → Type 0
 MayBeCheck records text o = IsCheck records text o ⊎ (IsRecordsFailure records o ⊎ (o ≡ Err NoMemory))
 

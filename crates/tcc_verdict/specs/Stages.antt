@@ -31,6 +31,6 @@ IsHistoryOf records (Err NoMemory) = Unit {0}
 IsHistoryOf records (Err (Text fault)) = ⊥
 IsHistoryOf records o = ((rows.answers_of records).fault ≡ None) × IsResolution (finished_in (rows.answers_of records).items) o
 
--- what comes of the certificate's text for a history, or want of memory
+-- what comes of the certificate's text for a history, or `NoMemory`
 abbrev pub MayBeTextCheck : History → List ℕ → Result Judgement Halt → Type 0
 MayBeTextCheck h text o = IsTextCheck h text o ⊎ (o ≡ Err NoMemory)
