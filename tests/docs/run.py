@@ -28,6 +28,9 @@ import tempfile
 from typing import Dict, Iterator, List, Optional, Tuple
 
 TOP = pathlib.Path(__file__).resolve().parent.parent.parent
+sys.path.insert(0, str(TOP / "tests"))
+from counted import status_of  # noqa: E402
+
 CODE = re.compile(r"```.*?```", re.DOTALL)
 QUOTED = re.compile(r"`([^`\n]+)`")
 LINK = re.compile(r"\]\(([^)#\s]+)(?:#[^)]*)?\)")
@@ -261,16 +264,7 @@ def outcomes(tcc: List[str]) -> Iterator[Tuple[str, Optional[str]]]:
 def main() -> int:
     ask = argparse.ArgumentParser(description="Whether what the documents name is there.")
     ask.add_argument("--tcc", default=str(TOP / "crates/tcc/out/tcc"), help="the program, by default the built one")
-    asked = ask.parse_args()
-    passed = failed = 0
-    for name, wrong in outcomes(shlex.split(asked.tcc)):
-        if wrong is None:
-            passed += 1
-        else:
-            failed += 1
-            print("%s: %s" % (name, wrong), flush=True)
-    print("%d passed, %d failed" % (passed, failed))
-    return 1 if failed else 0
+    return status_of(outcomes(shlex.split(ask.parse_args().tcc)))
 
 
 if __name__ == "__main__":

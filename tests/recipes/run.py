@@ -42,6 +42,9 @@ from typing import Dict, Iterator, List, Optional, Tuple
 
 HERE = pathlib.Path(__file__).resolve().parent
 TOP = HERE.parent.parent
+sys.path.insert(0, str(TOP / "tests"))
+from counted import status_of  # noqa: E402
+
 RECIPES = TOP / "recipes"
 SECONDS = 60
 WITHOUT_SERVER = 77
@@ -248,18 +251,7 @@ def main() -> int:
     ask.add_argument("--tcc", default=str(TOP / "crates/tcc/out/tcc"), help="the program, by default the built one")
     ask.add_argument("names", nargs="*", help="only these cases")
     asked = ask.parse_args()
-    passed = failed = 0
-    for name, wrong in outcomes(asked.names, shlex.split(asked.tcc)):
-        if wrong is None:
-            passed += 1
-        else:
-            failed += 1
-            print("%s: %s" % (name, wrong), flush=True)
-    if passed + failed == 0:
-        print("no case has that name")
-        failed = 1
-    print("%d passed, %d failed" % (passed, failed))
-    return 1 if failed else 0
+    return status_of(outcomes(asked.names, shlex.split(asked.tcc)))
 
 
 if __name__ == "__main__":
