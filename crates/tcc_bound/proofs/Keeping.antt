@@ -1,5 +1,6 @@
 -- Each step keeps the rule, and what it tells follows from the rule.
-use Rattle.std.proofs.Common.{◌≡◌, ℕ, zero, suc, ◌≤◌, ◌≢◌, ◌++◌, List, [], ◌∷◌, min, set, slice_index, slice_set, inl, inr, refl, sym, subst, ap, ◌∙◌, ⊎_elim, le_trans, le_refl, arith}
+use Rattle.std.proofs.Common.{◌≡◌, ℕ, zero, suc, ◌≤◌, ◌≢◌, ◌++◌, List, [], ◌∷◌, min, set, slice_index, slice_set, inl, inr, refl, sym, subst, ap, ◌∙◌, ⊎_elim}
+use Rattle.std.proofs.Common.{le_trans, le_refl, arith}
 use Rattle.std.proofs.lemmas.List.Elements.{All-append, All-push, All-nil}
 use Rattle.std.proofs.Math.Nat.{min-le_left, min-le_right, le-min}
 use mathlib.Core.Option.{some, some-injective, some-ne-none}
@@ -36,7 +37,8 @@ grows : (views : List View) (word floor : ℕ) (new : View) → Agrees word floo
     → ((i : ℕ) (view : View) → get_elem? views i ≡ some view → Agrees word floor view)
     → (i : ℕ) (view : View) → get_elem? (views ++ new ∷ []) i ≡ some view → Agrees word floor view
 grows views word floor new fits others i view at =
-    ⊎_elim (λ (was : get_elem? views i ≡ some view). others i view was) (λ (same : new ≡ view). subst (Agrees word floor) same fits) (at_snoc views new view i at)
+    ⊎_elim (λ (was : get_elem? views i ≡ some view). others i view was) (λ (same : new ≡ view). subst (Agrees word floor) same fits)
+    (at_snoc views new view i at)
 
 only_unnamed : (seat : ℕ) (known : Known) → get_elem? (Unnamed ∷ []) seat ≡ some (Live known) → ⊥
 only_unnamed zero known at = let e : Unnamed ≡ Live known = some-injective _ _ at in cc
@@ -44,7 +46,8 @@ only_unnamed (suc seat) known at = some-ne-none (Live known) (sym at)
 
 -- once a seat was handed out, the bound has its floor
 kept_of : (words : List ℕ) (views : List View) (seat : ℕ) (known : Known) → Holds words views → get_elem? views seat ≡ some (Live known) → IsKept words views
-kept_of words views seat known (inl new) at = absurd (only_unnamed seat known (subst (λ (vs : List View). get_elem? vs seat ≡ some (Live known)) new.one_seat at))
+kept_of words views seat known (inl new) at =
+    absurd (only_unnamed seat known (subst (λ (vs : List View). get_elem? vs seat ≡ some (Live known)) new.one_seat at))
 kept_of words views seat known (inr kept) at = kept
 
 -- what is below some number is below all that it is below
@@ -84,7 +87,8 @@ looks_as slots seat known s holds homes at small =
 pub looks : (slots seat : ℕ) (me : Own) → IsLive me → Allows Ruled slots seat me 0 (λ n. n) (Looks me)
 looks slots seat me is = subst (λ (m : Own). Allows Ruled slots seat m 0 (λ n. n) (Looks m)) (sym is) (looks_as slots seat (known_of me.0))
 
-offers_as : (slots seat cost : ℕ) (known : Known) → known.floor ≤ cost → Allows Ruled slots seat (Live known, []) 0 (λ n. min n cost) (Offers cost (Live known, []))
+offers_as : (slots seat cost : ℕ) (known : Known) → known.floor ≤ cost
+    → Allows Ruled slots seat (Live known, []) 0 (λ n. min n cost) (Offers cost (Live known, []))
 offers_as slots seat cost known dear s holds homes at small =
     let kept = kept_of s.words s.views seat known holds at in
     let n : ℕ = slice_index s.words 0 in
@@ -101,13 +105,15 @@ offers_as slots seat cost known dear s holds homes at small =
       new,
       keeps,
       tt,
-      turned s.words s.views kept seat low new (omega arith) (omega arith) ((le_refl low, All-push (λ (c : ℕ). low ≤ c) known.offers cost below.1 right), one_floor),
+      turned s.words s.views kept seat low new (omega arith) (omega arith)
+          ((le_refl low, All-push (λ (c : ℕ). low ≤ c) known.offers cost below.1 right), one_floor),
       (below, (refl, over)),
     )
 
 -- a `fetch_min` tells its seat what the word has become, and notes the cost
 pub offers : (slots seat cost : ℕ) (me : Own) → IsLive me → (known_of me.0).floor ≤ cost → Allows Ruled slots seat me 0 (λ n. min n cost) (Offers cost me)
-offers slots seat cost me is dear = subst (λ (m : Own). Allows Ruled slots seat m 0 (λ n. min n cost) (Offers cost m)) (sym is) (offers_as slots seat cost (known_of me.0) dear)
+offers slots seat cost me is dear =
+    subst (λ (m : Own). Allows Ruled slots seat m 0 (λ n. min n cost) (Offers cost m)) (sym is) (offers_as slots seat cost (known_of me.0) dear)
 
 splits_as : (seat : ℕ) (known : Known) → Splits Ruled seat (Live known) (Live known) (split_view (Live known))
 splits_as seat known s holds at =
@@ -134,7 +140,8 @@ joins_as seat other known more s holds at apart there =
     let both : View = joint_view (Live known) (Live more) in
     let fits : Agrees kept.word kept.floor (Live known) = kept.agree seat (Live known) at in
     let theirs : Agrees kept.word kept.floor (Live more) = kept.agree other (Live more) (sym (set_else s.views seat other both apart) ∙ there) in
-    let new : Agrees kept.word kept.floor both = ((le-min fits.0.0 theirs.0.0, All-append (λ (c : ℕ). kept.word ≤ c) known.offers more.offers fits.0.1 theirs.0.1), fits.1) in
+    let new : Agrees kept.word kept.floor both
+    = ((le-min fits.0.0 theirs.0.0, All-append (λ (c : ℕ). kept.word ≤ c) known.offers more.offers fits.0.1 theirs.0.1), fits.1) in
     inr record {
       word = kept.word;
       floor = kept.floor;
@@ -148,7 +155,8 @@ joins_as seat other known more s holds at apart there =
 pub joins : (seat other : ℕ) (me them : Own) → IsLive me → IsLive them → Joins Ruled seat me.0 other them.0 (joint_view me.0 them.0) Spent
 joins seat other me them is theirs =
     subst (λ (m : Own). Joins Ruled seat m.0 other them.0 (joint_view m.0 them.0) Spent) (sym is)
-    (subst (λ (m : Own). Joins Ruled seat (Live (known_of me.0)) other m.0 (joint_view (Live (known_of me.0)) m.0) Spent) (sym theirs) (joins_as seat other (known_of me.0) (known_of them.0)))
+    (subst (λ (m : Own). Joins Ruled seat (Live (known_of me.0)) other m.0 (joint_view (Live (known_of me.0)) m.0) Spent) (sym theirs)
+    (joins_as seat other (known_of me.0) (known_of them.0)))
 
 first_alone : (seat : ℕ) → get_elem? (Unnamed ∷ []) seat ≡ some Unnamed → seat ≡ 0
 first_alone zero at = refl
@@ -173,21 +181,25 @@ names_as seat number fits words views new at =
     } in
     let one_word : slice_set words 0 (slice_index words 0) ≡ no_cost ∷ [] = ap (λ (ws : List ℕ). slice_set ws 0 (slice_index ws 0)) new.one_word in
     let one_view : set views seat (Live known) ≡ Live known ∷ [] = rw (new.one_seat, here) refl in
-    inr (subst (λ (ws : List ℕ). IsKept ws (set views seat (Live known))) (sym one_word) (subst (λ (vs : List View). IsKept (no_cost ∷ []) vs) (sym one_view) named))
+    inr (subst (λ (ws : List ℕ). IsKept ws (set views seat (Live known))) (sym one_word)
+    (subst (λ (vs : List View). IsKept (no_cost ∷ []) vs) (sym one_view) named))
 
 names_from : (slots seat number : ℕ) → number ≤ no_cost → Allows Ruled slots seat (Unnamed, []) 0 (λ n. n) (λ found after. after ≡ own_of (newcomer number))
 names_from slots seat number fits s (inl new) homes at small = (Live (newcomer number), keeps, tt, names_as seat number fits s.words s.views new at, refl)
 names_from slots seat number fits s (inr kept) homes at small = absurd (kept.agree seat Unnamed at)
 
 -- the load that names the floor
-pub names : (slots seat number : ℕ) (me : Own) → me ≡ (Unnamed, []) → number ≤ no_cost → Allows Ruled slots seat me 0 (λ n. n) (λ found after. after ≡ own_of (newcomer number))
-names slots seat number me is fits = subst (λ (m : Own). Allows Ruled slots seat m 0 (λ n. n) (λ found after. after ≡ own_of (newcomer number))) (sym is) (names_from slots seat number fits)
+pub names : (slots seat number : ℕ) (me : Own) → me ≡ (Unnamed, []) → number ≤ no_cost
+    → Allows Ruled slots seat me 0 (λ n. n) (λ found after. after ≡ own_of (newcomer number))
+names slots seat number me is fits =
+    subst (λ (m : Own). Allows Ruled slots seat m 0 (λ n. n) (λ found after. after ≡ own_of (newcomer number))) (sym is) (names_from slots seat number fits)
 
 -- a bound begins with nothing offered
 pub begins : Holds (no_cost ∷ []) (Unnamed ∷ [])
 begins = inl record { one_word = refl; one_seat = refl }
 
-ends_as : (seat word : ℕ) (known : Known) (s : State (Unit {0}) View) → Holds s.words s.views → get_elem? s.views seat ≡ some (Live known) → get_elem? s.words 0 ≡ some word
+ends_as : (seat word : ℕ) (known : Known) (s : State (Unit {0}) View) → Holds s.words s.views → get_elem? s.views seat ≡ some (Live known)
+    → get_elem? s.words 0 ≡ some word
     → IsAtMostAll word known × (known.floor ≤ word)
 ends_as seat word known s holds at read =
     let kept = kept_of s.words s.views seat known holds at in
@@ -198,7 +210,8 @@ ends_as seat word known s holds at read =
     (under word kept.word known (omega arith) fits.0, omega arith)
 
 -- the word of a bound that is closed
-pub ends : (seat word : ℕ) (me : Own) (words : List ℕ) (slots : List (Unit {0})) → IsLive me → Final (Seen Ruled seat me.0) words slots → get_elem? words 0 ≡ some word
+pub ends : (seat word : ℕ) (me : Own) (words : List ℕ) (slots : List (Unit {0})) → IsLive me → Final (Seen Ruled seat me.0) words slots
+    → get_elem? words 0 ≡ some word
     → IsAtMostAll word (known_of me.0) × ((known_of me.0).floor ≤ word)
 ends seat word me words slots is last read =
     let s : State (Unit {0}) View = last.0 in

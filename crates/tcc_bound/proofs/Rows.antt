@@ -27,7 +27,8 @@ seats_joined : both_of (known 3 7 (7 ∷ [])) (known 3 5 (9 ∷ 5 ∷ [])) ≡ k
 seats_joined = refl
 
 five_is_at_most_all : IsAtMostAll 5 (known 3 6 (9 ∷ 5 ∷ []))
-five_is_at_most_all = (omega arith, All-cons (λ (c : ℕ). 5 ≤ c) 9 (5 ∷ []) (omega arith) (All-cons (λ (c : ℕ). 5 ≤ c) 5 [] (omega arith) (All-nil (λ (c : ℕ). 5 ≤ c))))
+five_is_at_most_all =
+    (omega arith, All-cons (λ (c : ℕ). 5 ≤ c) 9 (5 ∷ []) (omega arith) (All-cons (λ (c : ℕ). 5 ≤ c) 5 [] (omega arith) (All-nil (λ (c : ℕ). 5 ≤ c))))
 
 -- it is above an offer
 six_is_not : IsAtMostAll 6 (known 3 6 (5 ∷ 9 ∷ [])) → ⊥
