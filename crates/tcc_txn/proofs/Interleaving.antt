@@ -72,10 +72,10 @@ whose q (session ∷ word ∷ key ∷ value ∷ []) l e =
     by false false false e = cc e
 whose q (a ∷ b ∷ c ∷ d ∷ f ∷ more) l e = cc e
 
-keeps : {X : Type 0} (p : X → Bool) (x : X) (xs : List X) → p x ≡ true → filter p (x ∷ xs) ≡ x ∷ filter p xs
+pub keeps : {X : Type 0} (p : X → Bool) (x : X) (xs : List X) → p x ≡ true → filter p (x ∷ xs) ≡ x ∷ filter p xs
 keeps p x xs t = rw t refl
 
-drops : {X : Type 0} (p : X → Bool) (x : X) (xs : List X) → p x ≡ false → filter p (x ∷ xs) ≡ filter p xs
+pub drops : {X : Type 0} (p : X → Bool) (x : X) (xs : List X) → p x ≡ false → filter p (x ∷ xs) ≡ filter p xs
 drops p x xs t = rw t refl
 
 -- a test of lines that agrees with one of records: the lines that pass it are those of the records that pass

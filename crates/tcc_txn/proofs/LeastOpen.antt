@@ -92,7 +92,7 @@ least-is test s (n ∷ ns) passes among below =
     by false false false here is later among more = cc among
 
 -- no name passes
-none-open : (test : List ℕ → Bool) (names : List (List ℕ)) → ((t : List ℕ) → test t ≡ true → ⊥) → filter test names ≡ []
+pub none-open : (test : List ℕ → Bool) (names : List (List ℕ)) → ((t : List ℕ) → test t ≡ true → ⊥) → filter test names ≡ []
 none-open test [] none = refl
 none-open test (n ∷ ns) none = by (test n) refl (none-open test ns none)
   where

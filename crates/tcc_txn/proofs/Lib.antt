@@ -3,6 +3,7 @@ mod FieldBytes
 mod FinishedFacts
 mod Growing
 mod GrownSnapshot
+mod InterleavedFaults
 mod Interleaving
 mod LeastOpen
 mod LimitFacts

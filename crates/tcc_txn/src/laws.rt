@@ -1,9 +1,10 @@
 //! The laws of records: what they finish keeps the limits of a snapshot, and depends on the records of each session alone.
-ghost use Rattle.std.specs.Prelude.{◌≡◌, ℕ, List, None, take};
+ghost use Rattle.std.specs.Prelude.{◌≡◌, ℕ, List, [], None, false, take};
 ghost use Rattle.std.specs.FinMap as sessions;
 ghost use Rattle.tcc_txn.specs.Answers.{answers_of, records_of};
 ghost use Rattle.tcc_txn.specs.Finished.{KeepsLimits, finished_in};
-ghost use Rattle.tcc_txn.specs.Interleaved.{AreInterleaved};
+ghost use Rattle.tcc_txn.specs.Interleaved.{AreInterleaved, records_by_none};
+ghost use Rattle.tcc_txn.specs.Recordings.{has_seal};
 ghost use Rattle.tcc_txn.specs.Snapshots.{snapshot_fault};
 
 /// What the first items of a text finish, however many, is a snapshot: there are not too many sessions and transactions.
@@ -12,9 +13,14 @@ pub fn finished_is_snapshot()
     ensures taken { (text : List ℕ) (n : ℕ) → snapshot_fault (sessions.entries (finished_in (take n (answers_of text).items))) ≡ None }
 {}
 
-/// Two texts without a fault that have the same records of each session, interleaved anyhow, finish the same, wherever they
-/// seal.
+/// Of two texts with the same records of each session, interleaved anyhow: where both have no fault they finish the same,
+/// wherever they seal; and where they have the same records without a session too, one has no fault where the other has none.
+/// No text seals whose records all have a session.
 pub fn interleaved()
     ensures finished { (text other : List ℕ) → AreInterleaved (records_of text) (records_of other) → (answers_of text).fault ≡ None
         → (answers_of other).fault ≡ None → finished_in (answers_of text).items ≡ finished_in (answers_of other).items }
+    ensures lawful { (text other : List ℕ) → AreInterleaved (records_of text) (records_of other)
+        → records_by_none (records_of text) ≡ records_by_none (records_of other) → (answers_of text).fault ≡ None
+        → (answers_of other).fault ≡ None }
+    ensures unsealed { (text : List ℕ) → records_by_none (records_of text) ≡ [] → has_seal (answers_of text).items ≡ false }
 {}

@@ -1,5 +1,12 @@
 use Rattle.tcc_txn.proofs.Interleaving.{interleaved-finished}
+use Rattle.tcc_txn.proofs.InterleavedFaults.{interleaved-lawful, unsealed}
 use Rattle.tcc_txn.proofs.laws.interleaved.Goals as goal
 
-pub returns : goal.returns
-returns c = record { finished = interleaved-finished }
+pub returns-clause-finished : goal.returns-clause-finished
+returns-clause-finished c = interleaved-finished
+
+pub returns-clause-lawful : goal.returns-clause-lawful
+returns-clause-lawful c = interleaved-lawful
+
+pub returns-clause-unsealed : goal.returns-clause-unsealed
+returns-clause-unsealed c = unsealed
