@@ -1,12 +1,10 @@
--- Gaps of clocks, as far as they are made.
+-- Gaps of a row of clocks, as far as they are made.
 use Rattle.std.proofs.Common.{◌≡◌, ◌<◌, ◌+◌, ◌↔◌, ℕ, ◌⊎◌, inl, inr, List, [], ◌∷◌, ◌++◌, length, get_or, arith, refl, sym, ap, subst, ◌∙◌}
 use Rattle.std.proofs.lemmas.Bool.{cases_eq}
 use Rattle.std.proofs.lemmas.List.{get_or_append_left, get_or_push, length_push}
-use Rattle.tcc_reads.specs.History.{History, count}
+use Rattle.tcc_reads.specs.History.{History}
 use Rattle.tcc_graph.specs.declared.level.Level.{Level}
 use Rattle.tcc_cert.specs.OrderRules.{MayReach}
-use Rattle.tcc_check.specs.Places.{AreGaps}
-use Rattle.tcc_check.proofs.Rows.{AreRowsTo}
 
 -- the first gaps of a row
 pub record IsGapRowTo (i : ℕ) (h : History) (level : Level) (clocks : List (List ℕ)) (b : ℕ) (row : List ℕ) : Type 0 where
@@ -25,12 +23,3 @@ one_more_gap i h level clocks b row g is w = record {
     none : (c : ℕ) → c < i + 1 → (c ≡ i) ⊎ (c ≡ i → ⊥) → (get_or (row ++ g ∷ []) c 0 ≡ 0) ↔ MayReach h level clocks b c
     none c l (inl same) = rw (get_or_push row g 0 c (w.long ∙ sym same)) (subst (λ (z : ℕ). (g ≡ 0) ↔ MayReach h level clocks b z) (sym same) is)
     none c l (inr apart) = rw (get_or_append_left row (g ∷ []) 0 c (omega (arith, w.long))) (w.none c (omega arith))
-
-abbrev pub AreGapsTo : ℕ → History → Level → List (List ℕ) → List (List ℕ) → Type 0
-AreGapsTo i h level clocks rows = AreRowsTo i (count h) (λ b row. (c : ℕ) → c < count h → (get_or row c 0 ≡ 0) ↔ MayReach h level clocks b c) rows
-
-pub all_gaps : (i : ℕ) (h : History) (level : Level) (clocks rows : List (List ℕ)) → i ≡ count h → AreGapsTo i h level clocks rows → AreGaps h level clocks rows
-all_gaps i h level clocks rows all w = record {
-  size = record { long = w.long ∙ all; wide = w.wide };
-  none = λ b c l m. w.each b (omega arith) c m;
-}

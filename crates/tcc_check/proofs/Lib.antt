@@ -1,9 +1,6 @@
 pub mod Carried
 pub mod Lowering
-pub mod Seen
 pub mod Writers
-pub mod Keyed
-pub mod Rows
 pub mod First
 pub mod Passing
 pub mod Found
@@ -28,4 +25,3 @@ pub mod NearBehind
 pub mod FarBehind
 pub mod JudgedFacts
 pub mod Sessions
-pub mod Turned

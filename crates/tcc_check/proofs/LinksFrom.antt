@@ -1,5 +1,5 @@
 -- What the first items of a list lower in a row of weights by ends.
-use Rattle.std.proofs.Common.{◌≡◌, ◌≢◌, ◌<◌, ◌≤◌, ◌+◌, ℕ, zero, suc, true, eqb, ◌⊎◌, inl, inr, List, [], ◌∷◌, ◌++◌, length, get_or, set, min, replicate, arith, refl, sym, ap, subst, ◌∙◌}
+use Rattle.std.proofs.Common.{◌≡◌, ◌≢◌, ◌<◌, ◌≤◌, ◌+◌, ◌↔◌, ℕ, zero, suc, true, eqb, ◌⊎◌, inl, inr, List, [], ◌∷◌, ◌++◌, length, get_or, set, min, replicate, arith, refl, sym, ap, subst, ◌∙◌}
 use Rattle.std.specs.Prelude.{All, map}
 use Rattle.std.specs.List.{Contains, zip}
 use Rattle.std.proofs.lemmas.Bool.{cases_eq, or_cases, or_right, eqb-true}
@@ -10,12 +10,12 @@ use Rattle.std.proofs.lemmas.List.Sorted.{Contains-permutation, IsPermutation-sy
 use Rattle.std.proofs.lemmas.Slice.Zip.{get_or-zip, length-zip}
 use Rattle.std.proofs.Math.Nat.{min-zero}
 use Rattle.tcc_reads.specs.History.{History, count, entry_at}
-use Rattle.tcc_graph.specs.Relations.{IsReadsPair}
+use Rattle.tcc_graph.specs.Relations.{IsCausalPair, IsReadsPair, IsSessionPair}
 use Rattle.tcc_graph.specs.Keys.{has_name, key_at}
 use Rattle.tcc_graph.proofs.NameLemmas.{has_name-contains, contains-has_name}
 use Rattle.tcc_check.specs.Pairs.{AreOrderly}
 use Rattle.tcc_check.specs.Weights.{unlinked, AreByWeight, IsLeastRow, IsLowered}
-use Rattle.tcc_check.specs.WeightsFrom.{AreAllEnds, AreEnds, AreEndsTo, AreLightEnds, ends_of, ContradictsBy, InitContradictsBy, MarkWeighs, PlaceWeighs, ReadWeighs, ReadingWeighs, SourceWeighs}
+use Rattle.tcc_check.specs.WeightsFrom.{AreAllEnds, AreEnds, AreEndsTo, AreLightEnds, ends_of, BetweenWeighs, ContradictsBy, InitContradictsBy, MarkWeighs, PlaceWeighs, ReadWeighs, ReadingWeighs, SourceWeighs}
 use Rattle.tcc_check.proofs.Lowering.{lowered_none, lowered_as, lowered_then, lowered_one}
 use Rattle.tcc_check.proofs.Sessions.{from_map, in_map}
 
@@ -81,6 +81,39 @@ marks-reads h u readers names old new long to back = lowered_as _ _ old new ther
 
     here : (v w : ℕ) → ReadWeighs h u v w → MarkWeighs readers v w
     here v w (x, reads, none) = let at = zip-from readers names long v x (back v x reads) in ((at.0, at.1, at.2), none)
+
+-- ---- marks between two numbers
+
+module _ (first : ℕ) (old new : List ℕ) where
+  pub none-between : IsLowered (BetweenWeighs first first) old old
+  none-between = lowered_none _ old (λ v w s. absurd (omega (arith, s.0, s.1)))
+
+  pub one-between : (i : ℕ) → first ≤ i → i < length new → IsLowered (BetweenWeighs first i) old new → IsLowered (BetweenWeighs first (i + 1)) old (set new i 0)
+  one-between i from below lowered = rw (← min-zero (get_or new i 0)) (one-lowered (BetweenWeighs first i) (BetweenWeighs first (i + 1)) old new lowered i 0 below to (λ v w s. go v w s (cases_eq v i)))
+    where
+      to : (v w : ℕ) → BetweenWeighs first i v w ⊎ ((v ≡ i) × (w ≡ 0)) → BetweenWeighs first (i + 1) v w
+      to v w (inl s) = (s.0, omega (arith, s.1), s.2)
+      to v w (inr s) = (omega (arith, s.0, from), omega (arith, s.0), s.1)
+
+      go : (v w : ℕ) (s : BetweenWeighs first (i + 1) v w) → (v ≡ i) ⊎ (v ≡ i → ⊥) → BetweenWeighs first i v w ⊎ ((v ≡ i) × (w ≡ 0))
+      go v w s (inl same) = inr (same, s.2)
+      go v w s (inr apart) = inl (s.0, omega (arith, s.1, apart), s.2)
+
+-- marked are reads-from pairs and session pairs, and no others
+pub causal-weights : (h : History) (u first end : ℕ) (weights : List ℕ) → length weights ≡ count h → ((v : ℕ) → IsSessionPair h u v ↔ ((first ≤ v) × (v < end))) → IsLeastRow (λ v w. ReadWeighs h u v w ⊎ BetweenWeighs first end v w) weights → (c : ℕ) → c < count h → (get_or weights c 0 ≡ 0) ↔ IsCausalPair h u c
+causal-weights h u first end weights long pairs least c inside = (λ none. go none (least.from c below), λ pair. omega (arith, least.low c 0 below (weighs pair)))
+  where
+    below : c < length weights
+    below = omega (arith, inside, long)
+
+    go : get_or weights c 0 ≡ 0 → (get_or weights c 0 ≡ unlinked) ⊎ (ReadWeighs h u c (get_or weights c 0) ⊎ BetweenWeighs first end c (get_or weights c 0)) → IsCausalPair h u c
+    go none (inl heavy) = absurd (omega (arith, none, heavy))
+    go none (inr (inl (x, reads, zeroth))) = inr (x, reads)
+    go none (inr (inr (low, high, zeroth))) = inl ((pairs c).1 (low, high))
+
+    weighs : IsCausalPair h u c → ReadWeighs h u c 0 ⊎ BetweenWeighs first end c 0
+    weighs (inl pair) = inr (let at = (pairs c).0 pair in (at.0, at.1, refl))
+    weighs (inr (x, reads)) = inl (x, reads, refl)
 
 -- ---- readings of a key
 

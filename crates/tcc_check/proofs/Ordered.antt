@@ -1,21 +1,23 @@
 -- Orders by their places, and what the axiom asks of them.
-use Rattle.std.proofs.Common.{◌≡◌, ◌<◌, ◌≤◌, ℕ, ◌⊎◌, inl, inr, List, [], length, get_or, arith, refl, sym, ap, subst, ◌∙◌, Option, Some, None, MatchOption}
+use Rattle.std.proofs.Common.{◌≡◌, ◌<◌, ◌≤◌, ◌↔◌, ℕ, ◌⊎◌, inl, inr, List, length, get_or, arith, refl, sym, ap, subst, ◌∙◌, Option}
 use Rattle.std.proofs.lemmas.Bool.{cases_lt}
 use Rattle.tcc_reads.specs.History.{History, count, owner}
 use Rattle.tcc_graph.specs.Relations.{IsSessionPair, IsReadsPair, IsCausalPair}
 use Rattle.tcc_graph.specs.Orders.{Before, IsNumbering}
-use Rattle.tcc_cert.specs.Tables.{entry, row_of, HasSize, IsFirstPlace}
+use Rattle.tcc_cert.specs.Tables.{entry, HasSize}
 use Rattle.tcc_graph.specs.declared.level.Level.{Level}
 use Rattle.tcc_graph.specs.declared.level.Level.TheVariants.{Causal}
-use Rattle.tcc_cert.specs.OrderRules.{HasClocks, HasInClock, KeepsPairs, BreaksAxiom}
+use Rattle.tcc_cert.specs.OrderRules.{HasClocks, HasInClock, MayReach, KeepsPairs, BreaksAxiom}
 use Rattle.tcc_cert.specs.Rules.{HoldsEverywhere}
-use Rattle.tcc_check.specs.Weights.{unlinked, ContradictionWeighs, IsLeastTable}
-use Rattle.tcc_check.specs.Places.{ArePlaces, IsKept, AreGaps, IsUnordered}
+use Rattle.tcc_check.specs.Searches.{IsFoundBelow}
+use Rattle.tcc_check.specs.Weights.{unlinked, IsLeastRow}
+use Rattle.tcc_check.specs.WeightsFrom.{ContradictsBy}
+use Rattle.tcc_check.specs.Places.{ArePlaces, IsKept, IsBehind}
 use Rattle.tcc_graph.proofs.Numberings.{one_place}
 use Rattle.tcc_graph.proofs.Pairs.{session_below, pair_below}
 use Rattle.tcc_check.specs.Latest.{AreSessionsKept, AreApart, AreReadsKept}
 use Rattle.tcc_check.proofs.Entries.{entry_past}
-use Rattle.tcc_check.proofs.First.{first_as, nowhere_as}
+use Rattle.tcc_check.proofs.Found.{found_as}
 
 module _ (order places : List ℕ) (are : ArePlaces order places) where
   pub before_places : (a b : ℕ) → a < length order → b < length order → Before order a b → get_or places a 0 < get_or places b 0
@@ -38,32 +40,27 @@ module _ (h : History) (level : Level) (order places : List ℕ) (sessions : ℕ
   pub kept_pairs : KeepsPairs h (record { level = level; order = order; sessions = sessions; clocks = clocks }) → (b c : ℕ) → IsCausalPair h b c → IsKept h level places clocks b c
   kept_pairs k b c p = let bounds = pair_below h b c p in (before_places order places are b c (omega (arith, bounds.0)) (omega (arith, bounds.1)) (k.ordered b c p), λ causal. k.clocks causal b c p)
 
-  module _ (gaps weights : List (List ℕ)) (made : AreGaps h level clocks gaps) (table : IsLeastTable (count h) (ContradictionWeighs h gaps) weights) where
-    width : (v : ℕ) → v < count h → length (row_of weights v) ≡ count h
-    width v l = table.size.wide v [] (omega (arith, table.size.long))
-
-    unordered_breaks : (at : ℕ × ℕ) → IsUnordered weights places at → BreaksAxiom h (record { level = level; order = order; sessions = sessions; clocks = clocks }) at
-    unordered_breaks at (l, (m, (none, low))) =
-        go ((table.rows at.1 (omega (arith, are.long))).from at.0 (omega (arith, are.long, width at.1 (omega (arith, are.long)))))
+  module _ (b : ℕ) (gaps weights : List ℕ) (none : (c : ℕ) → c < count h → (get_or gaps c 0 ≡ 0) ↔ MayReach h level clocks b c) (wide : length weights ≡ count h) (least : IsLeastRow (ContradictsBy h gaps b) weights) (inside : b < count h) where
+    behind_breaks : (a : ℕ) → IsBehind weights places b a → BreaksAxiom h (record { level = level; order = order; sessions = sessions; clocks = clocks }) (b, a)
+    behind_breaks a (l, is_none, low) = go (least.from a (omega (arith, l, are.long, long, wide)))
       where
-        go : (entry weights at.1 at.0 ≡ unlinked) ⊎ ContradictionWeighs h gaps at.1 at.0 (entry weights at.1 at.0) → BreaksAxiom h (record { level = level; order = order; sessions = sessions; clocks = clocks }) at
-        go (inl e) = absurd (omega arith)
+        go : (get_or weights a 0 ≡ unlinked) ⊎ ContradictsBy h gaps b a (get_or weights a 0) → BreaksAxiom h (record { level = level; order = order; sessions = sessions; clocks = clocks }) (b, a)
+        go (inl e) = absurd (omega (arith, e, is_none))
         go (inr (x, c, may, is)) =
-            (x, c, may, (made.none at.0 c may.2.0 may.1.1).0 (sym is ∙ none), λ before. absurd (omega (arith, before_places order places are at.0 at.1 (omega (arith, are.long)) (omega (arith, are.long)) before)))
+            (x, c, may, (none c may.1.1).0 (sym is ∙ is_none), λ before. absurd (omega (arith, low, before_places order places are b a (omega (arith, inside, long)) (omega (arith, l, are.long)) before)))
 
-    breaks_unordered : (at : ℕ × ℕ) → BreaksAxiom h (record { level = level; order = order; sessions = sessions; clocks = clocks }) at → IsUnordered weights places at
-    breaks_unordered at (x, c, may, reach, not) =
-        let none = (made.none at.0 c may.2.0 may.1.1).1 reach in
-        let low = (table.rows at.1 may.1.0).low at.0 (entry gaps at.0 c) (omega (arith, may.2.0, width at.1 may.1.0)) (x, c, may, refl) in
-        (omega (arith, are.long, may.2.0), (omega (arith, are.long, may.1.0), (omega arith, go (cases_lt (get_or places at.0 0) (get_or places at.1 0)))))
+    breaks_behind : (a : ℕ) → BreaksAxiom h (record { level = level; order = order; sessions = sessions; clocks = clocks }) (b, a) → IsBehind weights places b a
+    breaks_behind a (x, c, may, reach, not) =
+        let gap = (none c may.1.1).1 reach in
+        let low = least.low a (get_or gaps c 0) (omega (arith, may.1.0, wide)) (x, c, may, refl) in
+        (omega (arith, are.long, long, may.1.0), omega (arith, gap, low), go (cases_lt (get_or places b 0) (get_or places a 0)))
       where
-        go : (get_or places at.0 0 < get_or places at.1 0) ⊎ (get_or places at.1 0 ≤ get_or places at.0 0) → get_or places at.1 0 ≤ get_or places at.0 0
-        go (inl first) = absurd (not (places_before order places are at.0 at.1 (omega (arith, may.2.0)) (omega (arith, may.1.0)) first))
+        go : (get_or places b 0 < get_or places a 0) ⊎ (get_or places a 0 ≤ get_or places b 0) → get_or places a 0 ≤ get_or places b 0
+        go (inl first) = absurd (not (places_before order places are b a (omega (arith, inside, long)) (omega (arith, may.1.0, long)) first))
         go (inr le) = le
 
-    pub axiom_searched : (found : Option (ℕ × ℕ)) → MatchOption found (HoldsEverywhere (IsUnordered weights places)) (IsFirstPlace (IsUnordered weights places)) → MatchOption found (HoldsEverywhere (BreaksAxiom h (record { level = level; order = order; sessions = sessions; clocks = clocks }))) (IsFirstPlace (BreaksAxiom h (record { level = level; order = order; sessions = sessions; clocks = clocks })))
-    axiom_searched None none = nowhere_as (IsUnordered weights places) (BreaksAxiom h (record { level = level; order = order; sessions = sessions; clocks = clocks })) breaks_unordered none
-    axiom_searched (Some at) first = first_as (IsUnordered weights places) (BreaksAxiom h (record { level = level; order = order; sessions = sessions; clocks = clocks })) unordered_breaks breaks_unordered at first
+    pub axiom_asked : (found : Option ℕ) → IsFoundBelow (length places) (IsBehind weights places b) found → IsFoundBelow (count h) (λ a. BreaksAxiom h (record { level = level; order = order; sessions = sessions; clocks = clocks }) (b, a)) found
+    axiom_asked found is = subst (λ (n : ℕ). IsFoundBelow n (λ a. BreaksAxiom h (record { level = level; order = order; sessions = sessions; clocks = clocks }) (b, a)) found) (are.long ∙ long) (found_as (length places) (IsBehind weights places b) (λ a. BreaksAxiom h (record { level = level; order = order; sessions = sessions; clocks = clocks }) (b, a)) behind_breaks breaks_behind found is)
 
 -- ---- what is kept by the pair before and by the next is kept by both
 

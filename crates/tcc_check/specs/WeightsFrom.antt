@@ -21,6 +21,10 @@ WeighsFrom h row u v w = ReadWeighs h u v w ⊎ ContradictsBy h row u v w
 abbrev pub MarkWeighs : List ℕ → ℕ → ℕ → Type 0
 MarkWeighs readers v w = Contains readers v × (w ≡ 0)
 
+-- v is between these
+abbrev pub BetweenWeighs : ℕ → ℕ → ℕ → ℕ → Type 0
+BetweenWeighs first end v w = (first ≤ v) × (v < end) × (w ≡ 0)
+
 -- v is one of these sources, other than u, and the row has w for the reader beside it
 abbrev pub ReadingWeighs : List ℕ → List ℕ → List ℕ → ℕ → ℕ → ℕ → Type 0
 ReadingWeighs sources readers row u v w =

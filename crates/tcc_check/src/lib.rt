@@ -22,7 +22,6 @@ mod sizes;
 mod stream_fault;
 mod streaming;
 mod verdict;
-mod weights;
 
 pub use judgement::{Claim, Judgement};
 pub use judging::check;

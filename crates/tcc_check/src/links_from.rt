@@ -1,17 +1,20 @@
 //! The links from one transaction other than session pairs, by its row of lengths: how many steps each of them takes
 //! before its last one.
-ghost use Rattle.std.specs.Prelude.{◌≡◌, ◌<◌, ◌≤◌, ◌^◌, All, IfOk, length};
+ghost use Rattle.std.specs.Prelude.{ℕ, ◌≡◌, ◌<◌, ◌≤◌, ◌^◌, ◌↔◌, All, IfOk, length, slice_index};
 ghost use Rattle.tcc_txn.specs.declared.limits.TheConstants.{MAX_COUNT};
 ghost use Rattle.tcc_reads.specs.History.{count};
 ghost use Rattle.tcc_graph.specs.Keys.{keys};
+ghost use Rattle.tcc_graph.specs.Relations.{IsCausalPair};
 ghost use Rattle.tcc_check.specs.Weights.{IsLeastRow, IsLowered};
-ghost use Rattle.tcc_check.specs.WeightsFrom.{AreAllEnds, AreEnds, AreLightEnds, ContradictsBy, InitContradictsBy, MarkWeighs, PlaceWeighs, ReadWeighs, ReadingWeighs, SourceWeighs, WeighsFrom};
+ghost use Rattle.tcc_check.specs.WeightsFrom.{AreAllEnds, AreEnds, AreLightEnds, BetweenWeighs, ContradictsBy, InitContradictsBy, MarkWeighs, PlaceWeighs, ReadWeighs, ReadingWeighs, SourceWeighs, WeighsFrom};
 
 use crate::ends::Ends;
-use crate::weights::UNLINKED;
 use std::alloc::Global;
 use tcc_graph::Graph;
 use tcc_txn::NoMemory;
+
+/// Stands where there is no link; no number of a table is above it.
+pub(crate) const UNLINKED: u32 = u32::MAX;
 
 /// Lowers the weights of these readers to 0.
 fn mark(weights: &mut [u32], readers: &[u32])
@@ -31,6 +34,29 @@ fn read_weights(alloc: Global, graph: &Graph, start: u32) -> Result<Vec<u32>, No
 {
     let mut weights = vec![in alloc; UNLINKED; graph.count() as usize]?;
     mark(&mut weights, graph.readings(start).0);
+    Ok(weights)
+}
+
+/// Lowers the weights from `first` to before `end` to 0.
+fn mark_between(weights: &mut [u32], first: u32, end: u32)
+    requires order { first ≤ end }
+    requires inside { end ≤ length weights.old }
+    ensures { IsLowered (BetweenWeighs first end) weights.old weights.new }
+{
+    for number in first..end {
+        weights[number as usize] = 0;
+    }
+}
+
+/// The weights of causal pairs from `start`, by their ends.
+pub(crate) fn pair_weights(alloc: Global, graph: &Graph, start: u32) -> Result<Vec<u32>, NoMemory>
+    requires { start < count graph.now }
+    ensures long { IfOk result (λ weights. length weights.items ≡ count graph.now) }
+    ensures none { IfOk result (λ weights. (c : ℕ) → c < count graph.now → (slice_index weights.items c ≡ 0) ↔ IsCausalPair graph.now start c) }
+{
+    let mut weights = read_weights(alloc, graph, start)?;
+    let (first, end) = graph.later(start);
+    mark_between(&mut weights, first, end);
     Ok(weights)
 }
 
@@ -97,6 +123,23 @@ fn lower_contradicted(weights: &mut [u32], graph: &Graph, row: &[u32], start: u3
     } else {
         lower_places(weights, graph, graph.writes_at(start), row, start);
     }
+}
+
+/// The weights of what `start` contradicts, by its row.
+pub(crate) fn contradicted_weights(
+    alloc: Global,
+    graph: &Graph,
+    row: &[u32],
+    start: u32,
+) -> Result<Vec<u32>, NoMemory>
+    requires row { length row.now ≡ count graph.now }
+    requires start { start < count graph.now }
+    ensures long { IfOk result (λ weights. length weights.items ≡ count graph.now) }
+    ensures least { IfOk result (λ weights. IsLeastRow (ContradictsBy graph.now row.now start) weights.items) }
+{
+    let mut weights = vec![in alloc; UNLINKED; graph.count() as usize]?;
+    lower_contradicted(&mut weights, graph, row, start);
+    Ok(weights)
 }
 
 /// The ends whose weights are less than `least` together with their last steps, the lighter first.

@@ -7,18 +7,18 @@ ghost use Rattle.tcc_graph.specs.declared.level.Level.TheVariants.{Causal};
 ghost use Rattle.tcc_cert.specs.Tables.{entry, HasSize, IsFirstPlace};
 ghost use Rattle.tcc_cert.specs.OrderRules.{HasClocks, HasInClock, MayReach, HasOrderSizes, KeepsPairs, BreaksAxiom};
 ghost use Rattle.tcc_cert.specs.Rules.{HoldsEverywhere};
-ghost use Rattle.tcc_check.specs.Searches.{HoldsBelow, IsFirstBelow};
-ghost use Rattle.tcc_check.specs.Places.{ArePlaces, IsKept, AreGaps, IsUnordered};
+ghost use Rattle.tcc_check.specs.Searches.{IsFoundBelow};
+ghost use Rattle.tcc_check.specs.Places.{ArePlaces, IsKept, IsBehind};
 ghost use Rattle.tcc_check.specs.Verdicts.{IsAnswer, order_rules};
 
 use crate::latest::keeps_axiom;
+use crate::links_from::{contradicted_weights, pair_weights};
 use crate::places::places_of;
 use crate::previous::previous;
 use crate::sizes::has_size;
 use crate::verdict::{Rule, Verdict, rejected};
-use crate::weights::{lowered, no_weights, turned};
 use std::alloc::Global;
-use tcc_cert::{Numbers, Table};
+use tcc_cert::Numbers;
 use tcc_graph::{Graph, Level};
 use tcc_txn::NoMemory;
 
@@ -40,20 +40,6 @@ fn clock_gap(graph: &Graph, clocks: &[Numbers], b: u32, c: u32) -> u32
     match graph.at(b) {
         None => 0,
         Some((session, place)) => place.saturating_sub(clock_at(clocks, c, session)),
-    }
-}
-
-/// How much lacks for `b` to reach `c`, so far as the level asks: at `Atomic` there are no clocks, and all lacks where
-/// the two are no causal pair.
-fn gap(graph: &Graph, level: Level, clocks: &[Numbers], b: u32, c: u32) -> u32
-    requires clocks { HasClocks level (count graph.now) (length graph.now.sessions) clocks.now }
-    requires b { b < count graph.now }
-    requires c { c < count graph.now }
-    ensures { (result ≡ 0) ↔ MayReach graph.now level clocks.now b c }
-{
-    match level {
-        Level::Causal => clock_gap(graph, clocks, b, c),
-        Level::Atomic => { if graph.causal(b, c) { 0 } else { 1 } }
     }
 }
 
@@ -144,8 +130,28 @@ fn keeps_pairs(graph: &Graph, level: Level, places: &[u32], clocks: &[Numbers]) 
     true
 }
 
-/// The gaps from one transaction to each.
-fn gap_row(
+/// How much the clock of each transaction lacks to have `b`.
+fn clock_gaps(
+    alloc: Global,
+    graph: &Graph,
+    clocks: &[Numbers],
+    b: u32,
+) -> Result<Vec<u32>, NoMemory>
+    requires b { b < count graph.now }
+    requires clocks { length clocks.now ≡ count graph.now }
+    ensures long { IfOk result (λ row. length row.items ≡ count graph.now) }
+    ensures none { IfOk result (λ row. (c : ℕ) → c < count graph.now → (slice_index row.items c ≡ 0) ↔ MayReach graph.now Causal clocks.now b c) }
+{
+    let mut row = Vec::new(alloc);
+    for c in 0..graph.count() {
+        row.push(clock_gap(graph, clocks, b, c))?;
+    }
+    Ok(row)
+}
+
+/// How much lacks for `b` to reach each transaction, so far as the level asks: at `Atomic` there are no clocks, and
+/// nothing lacks for causal pairs alone.
+fn gaps(
     alloc: Global,
     graph: &Graph,
     level: Level,
@@ -157,56 +163,47 @@ fn gap_row(
     ensures long { IfOk result (λ row. length row.items ≡ count graph.now) }
     ensures none { IfOk result (λ row. (c : ℕ) → c < count graph.now → (slice_index row.items c ≡ 0) ↔ MayReach graph.now level clocks.now b c) }
 {
-    let mut row = Vec::new(alloc);
-    for c in 0..graph.count() {
-        row.push(gap(graph, level, clocks, b, c))?;
+    match level {
+        Level::Causal => clock_gaps(alloc, graph, clocks, b),
+        Level::Atomic => pair_weights(alloc, graph, b),
     }
-    Ok(row)
 }
 
-/// The gaps from each transaction to each.
-fn gaps(alloc: Global, graph: &Graph, level: Level, clocks: &[Numbers]) -> Result<Table, NoMemory>
-    requires { HasClocks level (count graph.now) (length graph.now.sessions) clocks.now }
-    ensures { IfOk result (λ gaps. AreGaps graph.now level clocks.now gaps) }
-{
-    let mut rows = Vec::new(alloc);
-    for b in 0..graph.count() {
-        rows.push(Numbers::new(gap_row(alloc, graph, level, clocks, b)?))?;
-    }
-    Ok(Table::new(rows))
-}
-
-/// The first transaction that `b` contradicts and does not stand before.
-fn first_behind(places: &[u32], weights: &[Numbers], b: u32) -> Option<u32>
-    requires size { HasSize (length places.now) (length places.now) weights.now }
+/// The first transaction that `b`, by these weights, contradicts, and does not stand before.
+fn first_behind(places: &[u32], weights: &[u32], b: u32) -> Option<u32>
+    requires size { length weights.now ≡ length places.now }
     requires b { b < length places.now }
     requires few { length places.now < 2 ^ 32 }
-    ensures { MatchOption result
-        (HoldsBelow (length places.now) (λ a. IsUnordered weights.now places.now (b, a)))
-        (IsFirstBelow (length places.now) (λ a. IsUnordered weights.now places.now (b, a))) }
+    ensures { IsFoundBelow (length places.now) (IsBehind weights.now places.now b) result }
 {
     for (a, place) in places.iter().enumerate() {
-        if weights[a].as_slice()[b as usize] == 0 && *place <= places[b as usize] {
+        if weights[a] == 0 && *place <= places[b as usize] {
             return Some(a as u32);
         }
     }
     None
 }
 
-/// The first two transactions of which the one contradicts the other and does not stand before it.
-fn first_unordered(places: &[u32], weights: &[Numbers]) -> Option<(u32, u32)>
-    requires size { HasSize (length places.now) (length places.now) weights.now }
-    requires few { length places.now < 2 ^ 32 }
-    ensures { MatchOption result
-        (HoldsEverywhere (IsUnordered weights.now places.now))
-        (IsFirstPlace (IsUnordered weights.now places.now)) }
+/// The first transaction before which the axiom wants `b`, which does not stand there.
+fn broken_by(
+    alloc: Global,
+    graph: &Graph,
+    level: Level,
+    order: &[u32],
+    places: &[u32],
+    clocks: &[Numbers],
+    b: u32,
+) -> Result<Option<u32>, NoMemory>
+    requires few { count graph.now ≤ MAX_COUNT }
+    requires order { length order.now ≡ count graph.now }
+    requires places { ArePlaces order.now places.now }
+    requires clocks { HasClocks level (count graph.now) (length graph.now.sessions) clocks.now }
+    requires b { b < count graph.now }
+    ensures { (sessions : ℕ) → IfOk result (IsFoundBelow (count graph.now) (λ a. BreaksAxiom graph.now (record { level = level; order = order.now; sessions = sessions; clocks = clocks.now }) (b, a))) }
 {
-    for b in 0..places.len() {
-        if let Some(a) = first_behind(places, weights, b as u32) {
-            return Some((b as u32, a));
-        }
-    }
-    None
+    let row = gaps(alloc, graph, level, clocks, b)?;
+    let weights = contradicted_weights(alloc, graph, &row, b)?;
+    Ok(first_behind(places, &weights, b))
 }
 
 /// The first place at which the axiom is broken.
@@ -226,11 +223,12 @@ fn broken_axiom(
         (HoldsEverywhere (BreaksAxiom graph.now (record { level = level; order = order.now; sessions = sessions; clocks = clocks.now })))
         (IsFirstPlace (BreaksAxiom graph.now (record { level = level; order = order.now; sessions = sessions; clocks = clocks.now })))) }
 {
-    let gaps = gaps(alloc, graph, level, clocks)?;
-    let none = no_weights(alloc, order.len())?;
-    let turned = turned(alloc, gaps.rows())?;
-    let weights = lowered(alloc, graph, turned.rows(), none.rows())?;
-    Ok(first_unordered(places, weights.rows()))
+    for b in 0..graph.count() {
+        if let Some(a) = broken_by(alloc, graph, level, order, places, clocks, b)? {
+            return Ok(Some((b, a)));
+        }
+    }
+    Ok(None)
 }
 
 /// Whether the clocks have the size of the history; at `Atomic` there are none.

@@ -6,7 +6,7 @@ ghost use Rattle.tcc_check.specs.Searches.{IsFoundBelow, IsLongPair, IsLongRunTo
 ghost use Rattle.tcc_check.specs.Weights.{AreByWeight};
 
 use crate::ends::Ends;
-use crate::weights::UNLINKED;
+use crate::links_from::UNLINKED;
 use tcc_graph::Graph;
 
 /// The lesser of what was found.

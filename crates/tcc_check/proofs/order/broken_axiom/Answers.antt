@@ -1,35 +1,28 @@
-use Rattle.std.proofs.Common.{◌≡◌, ◌<◌, ℕ, length, rules, sym, subst, ◌∙◌}
+-- Row by row.
+use Rattle.std.proofs.Common.{◌≡◌, arith, rules}
 use Rattle.tcc_reads.specs.History.{count}
-use Rattle.tcc_cert.specs.Tables.{entry, HasSize}
-use Rattle.tcc_check.specs.Weights.{unlinked, AreLowered, IsTurned}
-use Rattle.tcc_check.specs.Places.{AreGaps}
-use Rattle.tcc_check.proofs.Bounds.{contradiction_table}
-use Rattle.tcc_check.proofs.Ordered.{axiom_searched}
+use Rattle.tcc_cert.specs.OrderRules.{BreaksAxiom, OrderClaim}
+use Rattle.tcc_check.proofs.First.{first_in_row, holds_more, nowhere}
 use Rattle.tcc_check.proofs.order.broken_axiom.Goals as goal
+
+pub loop-b-init : goal.loop-b-init
+loop-b-init c = λ sessions a b l p. absurd (omega (arith, l))
+
+pub returns-in-Some : goal.returns-in-Some
+returns-in-Some c = λ sessions.
+    let first = rw c.in-Some.is at c.in_ok-a.ensures sessions in
+    first_in_row _ c.loop-b.b c.in-Some.a (c.loop-b.invariant sessions) first.here first.first
+
+pub loop-b-preserved : goal.loop-b-preserved
+loop-b-preserved c = λ sessions.
+    let h = c.args.graph.now in
+    let claim : OrderClaim = record { level = c.args.level; order = c.args.order.now; sessions = sessions; clocks = c.args.clocks.now } in
+    let none = rw c.in_default.is at c.in_ok-a.ensures sessions in
+    holds_more c.loop-b.b (BreaksAxiom h claim) (c.loop-b.invariant sessions) (λ a (broken : BreaksAxiom h claim (c.loop-b.b, a)). none a broken.2.1.0 broken)
 
 pub returns : goal.returns
 returns c = λ sessions.
     let h = c.args.graph.now in
-    let order = c.args.order.now in
-    let clocks = c.args.clocks.now in
-    let gaps = c.rows.result.now in
-    let none = c.rows-3.result.now in
-    let weights = c.rows-4.result.now in
-    let made : AreGaps h c.args.level clocks gaps = search rules in
-    let size : HasSize (length order) (length order) none = search rules in
-    let empty : (a b : ℕ) → a < length order → b < length order → entry none a b ≡ unlinked = search rules in
-    let turn : IsTurned (count h) gaps c.rows-2.result.now = rw c.rows-2.ensures (subst (λ (n : ℕ). IsTurned n gaps c.in_ok-turned.turned) made.size.long (search rules)) in
-    let given = c.in_ok-weights.ensures gaps turn in
-    let low : AreLowered h gaps none weights = search rules in
-    let table = contradiction_table h gaps none weights (subst (λ (n : ℕ). HasSize n n none) c.requires.order size) (subst (λ (n : ℕ). (a b : ℕ) → a < n → b < n → entry none a b ≡ unlinked) c.requires.order empty) low in
-    axiom_searched h c.args.level order c.args.places.now sessions clocks c.requires.places c.requires.order gaps weights made table c.first_unordered.result c.first_unordered.ensures
-
-pub first_unordered-requires-clause-size : goal.first_unordered-requires-clause-size
-first_unordered-requires-clause-size c =
-    let h = c.args.graph.now in
-    let gaps = c.rows.result.now in
-    let made : AreGaps h c.args.level c.args.clocks.now gaps = search rules in
-    let turn : IsTurned (count h) gaps c.rows-2.result.now = rw c.rows-2.ensures (subst (λ (n : ℕ). IsTurned n gaps c.in_ok-turned.turned) made.size.long (search rules)) in
-    let given = c.in_ok-weights.ensures gaps turn in
-    let low : AreLowered h gaps c.rows-3.result.now c.rows-4.result.now = search rules in
-    subst (λ (n : ℕ). HasSize n n c.rows-4.result.now) (sym (c.requires.places.long ∙ c.requires.order)) low.size
+    let claim : OrderClaim = record { level = c.args.level; order = c.args.order.now; sessions = sessions; clocks = c.args.clocks.now } in
+    let all : c.loop-b.b ≡ count h = search rules in
+    nowhere c.loop-b.b (BreaksAxiom h claim) (λ a b (broken : BreaksAxiom h claim (a, b)). omega (arith, all, broken.2.2.0)) (c.loop-b.invariant sessions)

@@ -1,6 +1,6 @@
 use Rattle.tcc_check.specs.Searches.{HoldsBelow}
-use Rattle.tcc_check.specs.Places.{IsUnordered}
+use Rattle.tcc_check.specs.Places.{IsBehind}
 use Rattle.tcc_check.proofs.order.first_behind.Given as goal
 
 abbrev pub invariant-loop-a : goal.invariant-loop-a
-invariant-loop-a l = HoldsBelow l.a (λ a. IsUnordered l.weights l.places (l.b, a))
+invariant-loop-a l = HoldsBelow l.a (IsBehind l.weights l.places l.b)
