@@ -37,7 +37,8 @@ to_member : (precedes : ℕ → ℕ → Bool) (x : ℕ) (ys : List ℕ) (z : ℕ
 to_member precedes x [] z chain h = absurd (false≢true h)
 to_member precedes x (y ∷ ys) z chain h = go (or_cases (eqb z y) (has ys z) h) (λ t. to_member precedes y ys z chain.1 t)
   where
-    go : (eqb z y ≡ true) ⊎ (has ys z ≡ true) → (has ys z ≡ true → (between : List ℕ) × Joins precedes y z between) → (between : List ℕ) × Joins precedes x z between
+    go : (eqb z y ≡ true) ⊎ (has ys z ≡ true) → (has ys z ≡ true → (between : List ℕ) × Joins precedes y z between)
+        → (between : List ℕ) × Joins precedes x z between
     go (inl same) rest = ([], rw (eqb-true z y same) chain.0)
     go (inr later) rest = let w = rest later in (y ∷ w.0, (chain.0, w.1))
 
@@ -67,15 +68,18 @@ record IsTrail (precedes : ℕ → ℕ → Bool) (n : ℕ) (done : List ℕ) (x 
 first_below : (precedes : ℕ → ℕ → Bool) (n : ℕ) (done : List ℕ) (x : ℕ) (xs : List ℕ) → IsTrail precedes n done x xs → x < n
 first_below precedes n done x xs trail = trail.below x (rw (eq-eqb x x refl) refl)
 
-back : (precedes : ℕ → ℕ → Bool) (n : ℕ) (done : List ℕ) → HasBefore precedes n done → (fuel : ℕ) (x : ℕ) (xs : List ℕ) → n ≤ fuel + length xs → IsTrail precedes n done x xs → HasCircle precedes
+back : (precedes : ℕ → ℕ → Bool) (n : ℕ) (done : List ℕ) → HasBefore precedes n done → (fuel : ℕ) (x : ℕ) (xs : List ℕ) → n ≤ fuel + length xs
+    → IsTrail precedes n done x xs → HasCircle precedes
 back precedes n done prior zero x xs enough trail = absurd (omega (arith, length-le_from_distinct_below (x ∷ xs) n trail.distinct trail.below))
-back precedes n done prior (suc fuel) x xs enough trail = step (prior x (first_below precedes n done x xs trail) trail.left) (λ a t. back precedes n done prior fuel a (x ∷ xs) (omega arith) t)
+back precedes n done prior (suc fuel) x xs enough trail =
+    step (prior x (first_below precedes n done x xs trail) trail.left) (λ a t. back precedes n done prior fuel a (x ∷ xs) (omega arith) t)
   where
     below : (a : ℕ) → a < n → (q : ℕ) → (eqb q a ≡ true) ⊎ (has (x ∷ xs) q ≡ true) → q < n
     below a l q (inl same) = rw (eqb-true q a same) l
     below a l q (inr old) = trail.below q old
 
-    go : (a : ℕ) → a < n → precedes a x ≡ true → has done a ≡ false → (IsTrail precedes n done a (x ∷ xs) → HasCircle precedes) → (has (x ∷ xs) a ≡ true) ⊎ (has (x ∷ xs) a ≡ false) → HasCircle precedes
+    go : (a : ℕ) → a < n → precedes a x ≡ true → has done a ≡ false → (IsTrail precedes n done a (x ∷ xs) → HasCircle precedes)
+        → (has (x ∷ xs) a ≡ true) ⊎ (has (x ∷ xs) a ≡ false) → HasCircle precedes
     go a l p left rest (inl met) = let w = to_member precedes a (x ∷ xs) a (p, trail.chain) met in (a, w.0, w.1)
     go a l p left rest (inr new) = rest (record {
       left = left;
@@ -84,7 +88,8 @@ back precedes n done prior (suc fuel) x xs enough trail = step (prior x (first_b
       distinct = distinct_cons a (x ∷ xs) new trail.distinct;
     })
 
-    step : (a : ℕ) × (a < n) × (precedes a x ≡ true) × (has done a ≡ false) → ((a : ℕ) → IsTrail precedes n done a (x ∷ xs) → HasCircle precedes) → HasCircle precedes
+    step : (a : ℕ) × (a < n) × (precedes a x ≡ true) × (has done a ≡ false) → ((a : ℕ) → IsTrail precedes n done a (x ∷ xs) → HasCircle precedes)
+        → HasCircle precedes
     step (a, l, p, left) rest = go a l p left (rest a) (cases_Bool (has (x ∷ xs) a))
 
 -- a number before x that is left
@@ -98,11 +103,13 @@ prior_of precedes n done bounds stuck x l left = go (search_below (lacks precede
     seen none a p = not-false (has done a) (rw p at (none a (bounds a x p).0))
 
     go : Search (lacks precedes done x) n → (a : ℕ) × (a < n) × (precedes a x ≡ true) × (has done a ≡ false)
-    go (inl found) = let w = and_parts (precedes found.0 x) (not (has done found.0)) found.1.passes in (found.0, found.1.below, w.0, not-true (has done found.0) w.1)
+    go (inl found) =
+        let w = and_parts (precedes found.0 x) (not (has done found.0)) found.1.passes in (found.0, found.1.below, w.0, not-true (has done found.0) w.1)
     go (inr none) = absurd (stuck x (record { below = l; new = left; ready = seen none }))
 
 -- where some number is left and none can be picked, there is a circle
-pub stuck_circle : (precedes : ℕ → ℕ → Bool) (n : ℕ) (done : List ℕ) → IsBelow precedes n → ((x : ℕ) → IsFree precedes n done x → ⊥) → (x : ℕ) → x < n → has done x ≡ false → HasCircle precedes
+pub stuck_circle : (precedes : ℕ → ℕ → Bool) (n : ℕ) (done : List ℕ) → IsBelow precedes n → ((x : ℕ) → IsFree precedes n done x → ⊥) → (x : ℕ) → x < n
+    → has done x ≡ false → HasCircle precedes
 stuck_circle precedes n done bounds stuck x l left =
     back precedes n done (prior_of precedes n done bounds stuck) n x [] (omega arith) (record {
       left = left;
@@ -123,7 +130,8 @@ some_left n done short = go (search_below (λ x. not (has done x)) n)
     go (inl found) = (found.0, found.1.below, not-true (has done found.0) found.1.passes)
     go (inr none) = absurd (omega (arith, le-length_from_below done n (λ q l. not-false (has done q) (none q l))))
 
-pub short_circle : (precedes : ℕ → ℕ → Bool) (n : ℕ) (done : List ℕ) → IsBelow precedes n → ((x : ℕ) → IsFree precedes n done x → ⊥) → length done < n → HasCircle precedes
+pub short_circle : (precedes : ℕ → ℕ → Bool) (n : ℕ) (done : List ℕ) → IsBelow precedes n → ((x : ℕ) → IsFree precedes n done x → ⊥) → length done < n
+    → HasCircle precedes
 short_circle precedes n done bounds stuck short =
     let w = some_left n done short in
     stuck_circle precedes n done bounds stuck w.0 w.1 w.2

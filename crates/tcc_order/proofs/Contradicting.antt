@@ -1,5 +1,6 @@
 -- Rows of what stands before a transaction, reading by reading.
-use Rattle.std.proofs.Common.{◌≡◌, ◌≢◌, ◌<◌, ◌+◌, ◌/◌, ◌==◌, ◌||◌, ◌↔◌, ◌⊎◌, inl, inr, ℕ, zero, suc, true, List, [], ◌∷◌, ◌++◌, length, map, get_or, take, refl, sym, ap, subst, ◌∙◌, arith}
+use Rattle.std.proofs.Common.{◌≡◌, ◌≢◌, ◌<◌, ◌+◌, ◌/◌, ◌==◌, ◌||◌, ◌↔◌, ◌⊎◌, inl, inr, ℕ, zero, suc, true, List, [], ◌∷◌, ◌++◌, length, map, get_or, take, refl}
+use Rattle.std.proofs.Common.{sym, ap, subst, ◌∙◌, arith}
 use Rattle.std.specs.Prelude.{zip}
 use Rattle.std.specs.List.{All, Contains}
 use Rattle.std.proofs.lemmas.Bool.{eqb-true, eq-eqb}
@@ -43,7 +44,8 @@ key_place h a c x pair =
     let there = has_name-contains (keys h) x (has_name-keys h x ∙ read_is_key h a c x pair) in
     (there.0, there.1, get_or_default (keys h) there.0 [] x there.1 ∙ there.2)
 
-module _ (h : History) (a : ℕ) (rs ps : List ℕ) (long : length rs ≡ length ps) (each : (c p : ℕ) → Contains (zip rs ps) (c, p) ↔ ((p < length (keys h)) × IsReadsPair h a c (key_at h p))) where
+module _ (h : History) (a : ℕ) (rs ps : List ℕ) (long : length rs ≡ length ps)
+    (each : (c p : ℕ) → Contains (zip rs ps) (c, p) ↔ ((p < length (keys h)) × IsReadsPair h a c (key_at h p))) where
   pub named_long : length rs ≡ length (map (key_at h) ps)
   named_long = long ∙ sym (length-map ps (key_at h))
 
@@ -57,7 +59,8 @@ module _ (h : History) (a : ℕ) (rs ps : List ℕ) (long : length rs ≡ length
       back pair =
           let place = key_place h a c x pair in
           let read = subst (λ (y : List ℕ). IsReadsPair h a c y) (sym place.2) pair in
-          subst (λ (y : List ℕ). Contains (zip rs (map (key_at h) ps)) (c, y)) place.2 (mapped_in (key_at h) rs ps c place.0 ((each c place.0).1 (place.1, read)))
+          subst (λ (y : List ℕ). Contains (zip rs (map (key_at h) ps)) (c, y)) place.2
+          (mapped_in (key_at h) rs ps c place.0 ((each c place.0).1 (place.1, read)))
 
   pub named_at : (k : ℕ) → k < length rs → get_or (map (key_at h) ps) k [] ≡ key_at h (get_or ps k 0)
   named_at k l = mapped_at (key_at h) ps k [] (omega (arith, long))
@@ -92,7 +95,8 @@ module _ (old mid numbers behind : List ℕ) (a n : ℕ) (inside : n < length nu
       back (inl m) = (before b).1 (inl m)
       back (inr w) = by w.1 w.2 (one_of_taken numbers n inside b w.0)
 
-  pub among_marked : (new : List ℕ) → get_or numbers n 0 ≢ a → is_marked behind (get_or numbers n 0) ≡ true → ((b : ℕ) → is_marked new b ≡ (is_marked mid b || (b == get_or numbers n 0))) → AddsAmong old new (take (n + 1) numbers) behind a
+  pub among_marked : (new : List ℕ) → get_or numbers n 0 ≢ a → is_marked behind (get_or numbers n 0) ≡ true
+      → ((b : ℕ) → is_marked new b ≡ (is_marked mid b || (b == get_or numbers n 0))) → AddsAmong old new (take (n + 1) numbers) behind a
   among_marked new other marked now b = (λ m. there (both.0 m), back)
     where
       both : (is_marked new b ≡ true) ↔ ((is_marked mid b ≡ true) ⊎ ((b == get_or numbers n 0) ≡ true))
@@ -128,22 +132,26 @@ module _ (h : History) (behind : List (List ℕ)) (a : ℕ) (old : List ℕ) whe
       back (inl m) = m
       back (inr (c, x, (k, l, e), writer, apart, m)) = absurd (omega arith)
 
-  pub contradicted_more : (pairs : List (ℕ × List ℕ)) (n c : ℕ) (x : List ℕ) (mid new : List ℕ) → n < length pairs → get_or pairs n (0, []) ≡ (c, x) → AddsContradicted (IsTaken pairs n) mid
+  pub contradicted_more : (pairs : List (ℕ × List ℕ)) (n c : ℕ) (x : List ℕ) (mid new : List ℕ) → n < length pairs → get_or pairs n (0, []) ≡ (c, x)
+      → AddsContradicted (IsTaken pairs n) mid
       → AddsAmong mid new (writers h x) (marks_of behind c) a → AddsContradicted (IsTaken pairs (n + 1)) new
   contradicted_more pairs n c x mid new inside at before now b = (λ m. there ((now b).0 m), back)
     where
       taken : take (n + 1) pairs ≡ take n pairs ++ (c, x) ∷ []
       taken = take_more pairs n (0, []) inside ∙ ap (λ p. take n pairs ++ p ∷ []) at
 
-      still : (is_marked old b ≡ true) ⊎ IsContradicted h behind (IsTaken pairs n) a b → (is_marked old b ≡ true) ⊎ IsContradicted h behind (IsTaken pairs (n + 1)) a b
+      still : (is_marked old b ≡ true) ⊎ IsContradicted h behind (IsTaken pairs n) a b
+          → (is_marked old b ≡ true) ⊎ IsContradicted h behind (IsTaken pairs (n + 1)) a b
       still (inl m) = inl m
       still (inr (d, y, was, writer, apart, m)) = inr (d, y, rw taken (Contains-append_left (take n pairs) ((c, x) ∷ []) (d, y) was), writer, apart, m)
 
-      there : (is_marked mid b ≡ true) ⊎ IsAmong (writers h x) (marks_of behind c) a b → (is_marked old b ≡ true) ⊎ IsContradicted h behind (IsTaken pairs (n + 1)) a b
+      there : (is_marked mid b ≡ true) ⊎ IsAmong (writers h x) (marks_of behind c) a b
+          → (is_marked old b ≡ true) ⊎ IsContradicted h behind (IsTaken pairs (n + 1)) a b
       there (inl m) = still ((before b).0 m)
       there (inr w) = inr (c, x, rw taken (Contains-push (take n pairs) (c, x)), w.0, w.1, w.2)
 
-      by : (d : ℕ) (y : List ℕ) → Contains (writers h y) b → b ≢ a → is_marked (marks_of behind d) b ≡ true → (let one : ℕ × List ℕ = (c, x) in let other : ℕ × List ℕ = (d, y) in Contains (take n pairs) other ⊎ (one ≡ other)) → is_marked new b ≡ true
+      by : (d : ℕ) (y : List ℕ) → Contains (writers h y) b → b ≢ a → is_marked (marks_of behind d) b ≡ true
+          → (let one : ℕ × List ℕ = (c, x) in let other : ℕ × List ℕ = (d, y) in Contains (take n pairs) other ⊎ (one ≡ other)) → is_marked new b ≡ true
       by d y writer apart m (inl was) = (now b).1 (inl ((before b).1 (inr (d, y, was, writer, apart, m))))
       by d y writer apart m (inr same) =
           let first : c ≡ d = ap (λ p. p.0) same in
@@ -154,7 +162,8 @@ module _ (h : History) (behind : List (List ℕ)) (a : ℕ) (old : List ℕ) whe
       back (inl m) = (now b).1 (inl ((before b).1 (inl m)))
       back (inr (d, y, t, writer, apart, m)) = by d y writer apart m (Contains-push_cases (take n pairs) (c, x) (d, y) (rw taken at t))
 
-  pub contradicted_whole : (IsOne IsOther : ℕ → List ℕ → Type 0) (new : List ℕ) → ((c : ℕ) (x : List ℕ) → IsOne c x ↔ IsOther c x) → AddsContradicted IsOne new → AddsContradicted IsOther new
+  pub contradicted_whole : (IsOne IsOther : ℕ → List ℕ → Type 0) (new : List ℕ) → ((c : ℕ) (x : List ℕ) → IsOne c x ↔ IsOther c x) → AddsContradicted IsOne new
+      → AddsContradicted IsOther new
   contradicted_whole IsOne IsOther new same is b = (λ m. there ((is b).0 m), λ w. (is b).1 (back w))
     where
       there : (is_marked old b ≡ true) ⊎ IsContradicted h behind IsOne a b → (is_marked old b ≡ true) ⊎ IsContradicted h behind IsOther a b
@@ -173,9 +182,11 @@ before_bounded h behind a b (inl p) = (pair_below h b a p).0
 before_bounded h behind a b (inr (c, x, reads, writer, apart, m)) = All-contains (λ (n : ℕ). n < count h) (writers h x) b (writers_below h x) writer
 
 -- the row, by the pairs and the readings
-pub before_row : (h : History) (behind : List (List ℕ)) (a : ℕ) (into new : List ℕ) → length new ≡ words_for (count h) → ((b : ℕ) → (is_marked into b ≡ true) ↔ IsCausalPair h b a)
+pub before_row : (h : History) (behind : List (List ℕ)) (a : ℕ) (into new : List ℕ) → length new ≡ words_for (count h)
+    → ((b : ℕ) → (is_marked into b ≡ true) ↔ IsCausalPair h b a)
     → AddsContradicted h behind a into (IsReadsPair h a) new → IsRowFor (count h) (IsBefore h behind) a new
-before_row h behind a into new wide pairs is = row_for (count h) (IsBefore h behind) a new wide (before_bounded h behind a) (λ b. (λ m. there b ((is b).0 m), λ w. (is b).1 (back b w)))
+before_row h behind a into new wide pairs is =
+    row_for (count h) (IsBefore h behind) a new wide (before_bounded h behind a) (λ b. (λ m. there b ((is b).0 m), λ w. (is b).1 (back b w)))
   where
     there : (b : ℕ) → (is_marked into b ≡ true) ⊎ IsContradicted h behind (IsReadsPair h a) a b → IsBefore h behind b a
     there b (inl m) = inl ((pairs b).0 m)

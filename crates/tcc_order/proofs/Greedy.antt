@@ -1,6 +1,7 @@
 -- Orders that are picked from the front, always the least number all of whose predecessors were picked: each is a
 -- numbering with all pairs in order, and none comes before it.
-use Rattle.std.proofs.Common.{◌≡◌, ◌<◌, ◌≢◌, ℕ, zero, suc, Bool, true, false, ◌⊎◌, inl, inr, List, [], ◌∷◌, ◌++◌, length, take, get_or, slice_index, eqb, refl, sym, ◌∙◌, append_assoc, append-nil, length-append, arith, subst}
+use Rattle.std.proofs.Common.{◌≡◌, ◌<◌, ◌≢◌, ℕ, zero, suc, Bool, true, false, ◌⊎◌, inl, inr, List, [], ◌∷◌, ◌++◌, length, take, get_or, slice_index, eqb, refl}
+use Rattle.std.proofs.Common.{sym, ◌∙◌, append_assoc, append-nil, length-append, arith, subst}
 use Rattle.std.specs.List.{list_any, IsDistinct, Contains}
 use Rattle.std.specs.Cmp.Lexicographic.{slice_cmp}
 use Rattle.std.specs.Ordering.{nat_cmp}
@@ -35,25 +36,29 @@ abbrev pub Picks : (ℕ → ℕ → Bool) → ℕ → List ℕ → List ℕ → 
 Picks precedes n done [] = Unit {0}
 Picks precedes n done (x ∷ xs) = IsNext precedes n done x × Picks precedes n (done ++ x ∷ []) xs
 
-pub Picks-push : (precedes : ℕ → ℕ → Bool) (n : ℕ) (done xs : List ℕ) (y : ℕ) → Picks precedes n done xs → IsNext precedes n (done ++ xs) y → Picks precedes n done (xs ++ y ∷ [])
+pub Picks-push : (precedes : ℕ → ℕ → Bool) (n : ℕ) (done xs : List ℕ) (y : ℕ) → Picks precedes n done xs → IsNext precedes n (done ++ xs) y
+    → Picks precedes n done (xs ++ y ∷ [])
 Picks-push precedes n done [] y p h = (rw (append-nil done) at h, tt)
 Picks-push precedes n done (x ∷ xs) y p h = (p.0, Picks-push precedes n (done ++ x ∷ []) xs y p.1 (rw append_assoc h))
 
-Picks-at : (precedes : ℕ → ℕ → Bool) (n : ℕ) (done xs : List ℕ) (i : ℕ) → Picks precedes n done xs → i < length xs → IsNext precedes n (done ++ take i xs) (slice_index xs i)
+Picks-at : (precedes : ℕ → ℕ → Bool) (n : ℕ) (done xs : List ℕ) (i : ℕ) → Picks precedes n done xs → i < length xs
+    → IsNext precedes n (done ++ take i xs) (slice_index xs i)
 Picks-at precedes n done [] i p l = absurd (omega arith)
 Picks-at precedes n done (x ∷ xs) zero p l = rw (append-nil done) p.0
 Picks-at precedes n done (x ∷ xs) (suc i) p l = rw (← append_assoc done (x ∷ []) (take i xs)) (Picks-at precedes n (done ++ x ∷ []) xs i p.1 (omega arith))
 
 Picks-distinct : (precedes : ℕ → ℕ → Bool) (n : ℕ) (done xs : List ℕ) → IsDistinct eqb done → Picks precedes n done xs → IsDistinct eqb (done ++ xs)
 Picks-distinct precedes n done [] d p = rw (append-nil done) d
-Picks-distinct precedes n done (x ∷ xs) d p = rw (← append_assoc done (x ∷ []) xs) (Picks-distinct precedes n (done ++ x ∷ []) xs (IsDistinct-push nat_eq_equiv done x d p.0.free.new) p.1)
+Picks-distinct precedes n done (x ∷ xs) d p =
+    rw (← append_assoc done (x ∷ []) xs) (Picks-distinct precedes n (done ++ x ∷ []) xs (IsDistinct-push nat_eq_equiv done x d p.0.free.new) p.1)
 
 -- where an element is
 pub place_of : (xs : List ℕ) (x : ℕ) → has xs x ≡ true → (i : ℕ) × (i < length xs) × (slice_index xs i ≡ x)
 place_of [] x h = absurd (false≢true h)
 place_of (y ∷ xs) x h = go (or_cases (eqb x y) (has xs x) h) (λ t. place_of xs x t)
   where
-    go : (eqb x y ≡ true) ⊎ (has xs x ≡ true) → (has xs x ≡ true → (i : ℕ) × (i < length xs) × (slice_index xs i ≡ x)) → (i : ℕ) × (i < length (y ∷ xs)) × (slice_index (y ∷ xs) i ≡ x)
+    go : (eqb x y ≡ true) ⊎ (has xs x ≡ true) → (has xs x ≡ true → (i : ℕ) × (i < length xs) × (slice_index xs i ≡ x))
+        → (i : ℕ) × (i < length (y ∷ xs)) × (slice_index (y ∷ xs) i ≡ x)
     go (inl same) rest = (0, omega arith, sym (eqb-true x y same))
     go (inr later) rest = let w = rest later in (suc w.0, omega (arith, w.1), w.2)
 
@@ -78,9 +83,16 @@ next_free precedes n done y ys h =
     }
   where
     found : slice_index (done ++ y ∷ ys) (length done) ≡ y → length done < length (done ++ y ∷ ys) → (i : ℕ) × (i < length done) × (slice_index done i ≡ y) → ⊥
-    found here long w = absurd (omega (arith, w.1, one_place h.numbering w.0 (length done) (omega (arith, w.1)) long (get_or_append_left done (y ∷ ys) 0 w.0 w.1 ∙ w.2 ∙ sym here)))
+    found here long w =
+        absurd (omega (
+          arith,
+          w.1,
+          one_place h.numbering w.0 (length done) (omega (arith, w.1)) long
+              (get_or_append_left done (y ∷ ys) 0 w.0 w.1 ∙ w.2 ∙ sym here),
+        ))
 
-    fresh_by : slice_index (done ++ y ∷ ys) (length done) ≡ y → length done < length (done ++ y ∷ ys) → (has done y ≡ true) ⊎ (has done y ≡ false) → has done y ≡ false
+    fresh_by : slice_index (done ++ y ∷ ys) (length done) ≡ y → length done < length (done ++ y ∷ ys) → (has done y ≡ true) ⊎ (has done y ≡ false)
+        → has done y ≡ false
     fresh_by here long (inl old) = absurd (found here long (place_of done y old))
     fresh_by here long (inr new) = new
 
@@ -93,7 +105,8 @@ next_free precedes n done y ys h =
         before_here done (y ∷ ys) i a (omega arith) at_a
 
 -- no order comes before one that was picked
-pub Picks-first : (precedes : ℕ → ℕ → Bool) (n : ℕ) (done xs ys : List ℕ) → Picks precedes n done xs → IsOrderOf precedes n (done ++ ys) → slice_cmp nat_cmp xs ys ≢ Greater
+pub Picks-first : (precedes : ℕ → ℕ → Bool) (n : ℕ) (done xs ys : List ℕ) → Picks precedes n done xs → IsOrderOf precedes n (done ++ ys)
+    → slice_cmp nat_cmp xs ys ≢ Greater
 Picks-first precedes n done [] [] p h = λ e. cc
 Picks-first precedes n done [] (y ∷ ys) p h = λ e. cc
 Picks-first precedes n done (x ∷ xs) [] p h =
@@ -141,18 +154,26 @@ all_picked precedes n order p full x l = go (cases_Bool (has order x))
 
     go : (has order x ≡ true) ⊎ (has order x ≡ false) → has order x ≡ true
     go (inl there) = there
-    go (inr new) = absurd (omega (arith, length-append order (x ∷ []), length-le_from_distinct_below (order ++ x ∷ []) (n) (IsDistinct-push nat_eq_equiv order x distinct new) (λ q h. below q (has-push order x q h))))
+    go (inr new) =
+        absurd (omega (
+          arith,
+          length-append order (x ∷ []),
+          length-le_from_distinct_below (order ++ x ∷ []) (n) (IsDistinct-push nat_eq_equiv order x distinct new) (λ q h. below q (has-push order x q h)),
+        ))
 
 -- two places of what was picked hold two numbers
-apart : (precedes : ℕ → ℕ → Bool) (n : ℕ) (order : List ℕ) (i j : ℕ) → Picks precedes n [] order → i < j → j < length order → slice_index order i ≡ slice_index order j → ⊥
+apart : (precedes : ℕ → ℕ → Bool) (n : ℕ) (order : List ℕ) (i j : ℕ) → Picks precedes n [] order → i < j → j < length order
+    → slice_index order i ≡ slice_index order j → ⊥
 apart precedes n order i j p l within e =
-    absurd (false≢true (sym (Picks-at precedes n [] order j p within).free.new ∙ has_at (take j order) i (slice_index order j) (rw (length-take-le j order (omega arith)) l) (get_or-take j order i 0 l ∙ e)))
+    absurd (false≢true (sym (Picks-at precedes n [] order j p within).free.new
+    ∙ has_at (take j order) i (slice_index order j) (rw (length-take-le j order (omega arith)) l) (get_or-take j order i 0 l ∙ e)))
 
 -- the numbers of all pairs are below the count
 abbrev pub IsBelow : (ℕ → ℕ → Bool) → ℕ → Type 0
 IsBelow precedes n = (a b : ℕ) → precedes a b ≡ true → (a < n) × (b < n)
 
-pub Picks-order : (precedes : ℕ → ℕ → Bool) (n : ℕ) (order : List ℕ) → IsBelow precedes n → Picks precedes n [] order → length order ≡ n → IsOrderOf precedes n order
+pub Picks-order : (precedes : ℕ → ℕ → Bool) (n : ℕ) (order : List ℕ) → IsBelow precedes n → Picks precedes n [] order → length order ≡ n
+    → IsOrderOf precedes n order
 Picks-order precedes n order bounds p full = record {
   numbering = record {
     below = λ i d l. subst (λ (z : ℕ). z < n) (get_or_default order i 0 d l) (Picks-at precedes n [] order i p l).free.below;
@@ -165,7 +186,8 @@ Picks-order precedes n order bounds p full = record {
     found : (x : ℕ) → (i : ℕ) × (i < length order) × (slice_index order i ≡ x) → Contains order x
     found x w = (w.0, w.1, get_or_default order w.0 x 0 w.1 ∙ w.2)
 
-    placed : (a b j : ℕ) → j < length order → slice_index order j ≡ b → (i : ℕ) × (i < length (take j order)) × (slice_index (take j order) i ≡ a) → Before order a b
+    placed : (a b j : ℕ) → j < length order → slice_index order j ≡ b → (i : ℕ) × (i < length (take j order)) × (slice_index (take j order) i ≡ a)
+        → Before order a b
     placed a b j within at_b (i, l, at_a) =
         let low : i < j = omega (arith, length-take-le j order (omega arith)) in
         (i, j, low, within, sym (get_or-take j order i 0 low) ∙ at_a, at_b)

@@ -38,7 +38,8 @@ has_link j l p = (l, record { from = refl; to = refl; link = p })
 
 -- ---- the orders of the relation are the commit orders
 
-pub commit_from_order : (j : Judged) (precedes : ℕ → ℕ → Bool) (order : List ℕ) → IsPrecedence j precedes → IsOrderOf precedes (count j.history) order → IsCommitOrder j order
+pub commit_from_order : (j : Judged) (precedes : ℕ → ℕ → Bool) (order : List ℕ) → IsPrecedence j precedes → IsOrderOf precedes (count j.history) order
+    → IsCommitOrder j order
 commit_from_order j precedes order exact o = record {
   numbering = o.numbering;
   sessions = λ a b p. o.ordered a b ((exact a b).1 (has_link j (link.Session a b) p));
@@ -54,13 +55,15 @@ link_before j order o (link.Derived b a x c walk) p = o.axiom_of b a x c walk p
 linked_before : (j : Judged) (order : List ℕ) → IsCommitOrder j order → (a b : ℕ) → IsLinked j a b → Before order a b
 linked_before j order o a b w = rw (← w.1.from, ← w.1.to) (link_before j order o w.0 w.1.link)
 
-order_from_commit : (j : Judged) (precedes : ℕ → ℕ → Bool) (order : List ℕ) → IsPrecedence j precedes → IsCommitOrder j order → IsOrderOf precedes (count j.history) order
+order_from_commit : (j : Judged) (precedes : ℕ → ℕ → Bool) (order : List ℕ) → IsPrecedence j precedes → IsCommitOrder j order
+    → IsOrderOf precedes (count j.history) order
 order_from_commit j precedes order exact o = record {
   numbering = o.numbering;
   ordered = λ a b p. linked_before j order o a b ((exact a b).0 p);
 }
 
-pub first_from_first : (j : Judged) (precedes : ℕ → ℕ → Bool) (order : List ℕ) → IsPrecedence j precedes → IsFirstOf precedes (count j.history) order → IsFirstOrder j order
+pub first_from_first : (j : Judged) (precedes : ℕ → ℕ → Bool) (order : List ℕ) → IsPrecedence j precedes → IsFirstOf precedes (count j.history) order
+    → IsFirstOrder j order
 first_from_first j precedes order exact o = record {
   commit = commit_from_order j precedes order exact o.is_order;
   first = λ other p. o.first other (order_from_commit j precedes other exact p);
@@ -71,7 +74,8 @@ first_from_first j precedes order exact o = record {
 lead_on : (j : Judged) (a b c : ℕ) (w : IsLinked j a b) (links : List Link) → LinksLead j b c links → LinksLead j a c (w.0 ∷ links)
 lead_on j a b c w links p = (w.1.from, w.1.link, subst (λ (z : ℕ). LinksLead j z c links) (sym w.1.to) p)
 
-route_from_joins : (j : Judged) (precedes : ℕ → ℕ → Bool) → IsPrecedence j precedes → (a b : ℕ) (between : List ℕ) → Joins precedes a b between → (links : List Link) × IsRoute j a b links
+route_from_joins : (j : Judged) (precedes : ℕ → ℕ → Bool) → IsPrecedence j precedes → (a b : ℕ) (between : List ℕ) → Joins precedes a b between
+    → (links : List Link) × IsRoute j a b links
 route_from_joins j precedes exact a b [] p =
     let w = (exact a b).0 p in
     (w.0 ∷ [], (omega arith, lead_on j a b b w [] refl))

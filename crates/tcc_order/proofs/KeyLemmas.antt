@@ -1,5 +1,6 @@
 -- What is read is a key, and who its writers are.
-use Rattle.std.proofs.Common.{ℕ, zero, suc, ◌<◌, ◌≡◌, ◌==◌, Bool, true, false, cond, ◌⊎◌, inl, inr, List, [], ◌∷◌, get_or, map, refl, sym, ap, ◌∙◌, subst, arith, zero-add, bytes_eq}
+use Rattle.std.proofs.Common.{ℕ, zero, suc, ◌<◌, ◌≡◌, ◌==◌, Bool, true, false, cond, ◌⊎◌, inl, inr, List, [], ◌∷◌, get_or, map, refl, sym, ap, ◌∙◌, subst}
+use Rattle.std.proofs.Common.{arith, zero-add, bytes_eq}
 use Rattle.std.specs.List.{All, Contains, filter, list_any}
 use Rattle.std.proofs.lemmas.Bool.{or_right, or_cases, cond-true}
 use Rattle.std.proofs.lemmas.List.Elements.{All-filter, All-contains, All-nil, filter_passes}
@@ -13,28 +14,36 @@ use Rattle.tcc_graph.specs.Keys.{has_name, keys_of, is_key, writes, IsWriter, nu
 -- ---- what is read is a key
 
 -- a test of what a filter kept
-list_any_kept : {X Y : Type 0} (test : Y → Bool) (f : X → Y) (p : X → Bool) (xs : List X) → list_any test (map f (filter p xs)) ≡ true → list_any test (map f xs) ≡ true
+list_any_kept : {X Y : Type 0} (test : Y → Bool) (f : X → Y) (p : X → Bool) (xs : List X) → list_any test (map f (filter p xs)) ≡ true
+    → list_any test (map f xs) ≡ true
 list_any_kept test f p [] h = h
 list_any_kept test f p (y ∷ ys) h = go (p y) (list_any_kept test f p ys) h
   where
-    first : (list_any test (map f (filter p ys)) ≡ true → list_any test (map f ys) ≡ true) → (test (f y) ≡ true) ⊎ (list_any test (map f (filter p ys)) ≡ true) → list_any test (map f (y ∷ ys)) ≡ true
+    first : (list_any test (map f (filter p ys)) ≡ true → list_any test (map f ys) ≡ true) → (test (f y) ≡ true) ⊎ (list_any test (map f (filter p ys)) ≡ true)
+        → list_any test (map f (y ∷ ys)) ≡ true
     first rest (inl here) = rw here refl
     first rest (inr later) = or_right _ _ (rest later)
 
-    go : (b : Bool) → (list_any test (map f (filter p ys)) ≡ true → list_any test (map f ys) ≡ true) → list_any test (map f (cond b (y ∷ filter p ys) (filter p ys))) ≡ true → list_any test (map f (y ∷ ys)) ≡ true
+    go : (b : Bool) → (list_any test (map f (filter p ys)) ≡ true → list_any test (map f ys) ≡ true)
+        → list_any test (map f (cond b (y ∷ filter p ys) (filter p ys))) ≡ true → list_any test (map f (y ∷ ys)) ≡ true
     go true rest h = first rest (or_cases (test (f y)) (list_any test (map f (filter p ys))) h)
     go false rest h = or_right _ _ (rest h)
 
 pub read_is_key : (h : History) (a c : ℕ) (x : List ℕ) → IsReadsPair h a c x → is_key h x ≡ true
 read_is_key h a c x (from, to, (k, within, e)) =
-    let named : list_any (bytes_eq x) (reads_from h a c) ≡ true = list_any_at (bytes_eq x) (reads_from h a c) k x within ((bytes_eq-Decides x (get_or (reads_from h a c) k x)).1 (sym e)) in
-    let read : list_any (bytes_eq x) (map (λ read. read.0) (entry_at h c).reads) ≡ true = list_any_kept (bytes_eq x) (λ read. read.0) (λ read. read.1 == a) (entry_at h c).reads named in
-    list_any_at (λ e. has_name (keys_of e) x) h.entries c initial to (list_any-append (bytes_eq x) (entry_at h c).writes (map (λ read. read.0) (entry_at h c).reads) ∙ or_right _ _ read)
+    let named : list_any (bytes_eq x) (reads_from h a c) ≡ true
+    = list_any_at (bytes_eq x) (reads_from h a c) k x within ((bytes_eq-Decides x (get_or (reads_from h a c) k x)).1 (sym e)) in
+    let read : list_any (bytes_eq x) (map (λ read. read.0) (entry_at h c).reads) ≡ true
+    = list_any_kept (bytes_eq x) (λ read. read.0) (λ read. read.1 == a) (entry_at h c).reads named in
+    list_any_at (λ e. has_name (keys_of e) x) h.entries c initial to
+    (list_any-append (bytes_eq x) (entry_at h c).writes (map (λ read. read.0) (entry_at h c).reads) ∙ or_right _ _ read)
 
 -- ---- writers
 
 pub numbers_below : (h : History) → All (λ b. b < count h) (numbers h)
-numbers_below h = λ k d l. subst (λ (z : ℕ). z < count h) (sym (get_or-range_with_len 0 (count h) k d (omega (arith, length-range_with_len 0 (count h))))) (omega (arith, length-range_with_len 0 (count h)))
+numbers_below h =
+    λ k d l. subst (λ (z : ℕ). z < count h) (sym (get_or-range_with_len 0 (count h) k d (omega (arith, length-range_with_len 0 (count h)))))
+    (omega (arith, length-range_with_len 0 (count h)))
 
 pub number_in : (h : History) (b : ℕ) → b < count h → Contains (numbers h) b
 number_in h b l = (b, omega (arith, length-range_with_len 0 (count h)), get_or-range_with_len 0 (count h) b b l ∙ zero-add b)

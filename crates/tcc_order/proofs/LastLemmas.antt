@@ -1,5 +1,6 @@
 -- Last places: of those meant so far, and of one more.
-use Rattle.std.proofs.Common.{◌≡◌, ◌≢◌, ◌<◌, ◌≤◌, ◌+◌, ◌==◌, ◌↔◌, ◌⊎◌, inl, inr, ℕ, true, false, ◌&&◌, nat_lt, List, [], length, get_or, set, take, replicate, slice_index, refl, sym, ◌∙◌, subst, arith}
+use Rattle.std.proofs.Common.{◌≡◌, ◌≢◌, ◌<◌, ◌≤◌, ◌+◌, ◌==◌, ◌↔◌, ◌⊎◌, inl, inr, ℕ, true, false, ◌&&◌, nat_lt, List, [], length, get_or, set, take, replicate}
+use Rattle.std.proofs.Common.{slice_index, refl, sym, ◌∙◌, subst, arith}
 use Rattle.std.specs.Prelude.{max}
 use Rattle.std.specs.List.{All, Contains}
 use Rattle.std.proofs.lemmas.Bool.{cases_lt, cases_eq, cases_Bool, and_parts, and_from, ltb-true, lt-ltb, eqb-true, eq-eqb, false≢true}
@@ -47,11 +48,13 @@ last_both h P Q session m n first second = record {
     go b one (inl q) = omega (arith, second.greatest b record { committed = one.committed; below = one.below; owned = one.owned; meant = q })
     go b one (inr p) = omega (arith, first.greatest b record { committed = one.committed; below = one.below; owned = one.owned; meant = p })
 
-    from_first : n < m → (m ≡ 0) ⊎ ((b : ℕ) × IsOneOf h P session b × (place h b ≡ m)) → (max m n ≡ 0) ⊎ ((b : ℕ) × IsOneOf h (λ x. Q x ⊎ P x) session b × (place h b ≡ max m n))
+    from_first : n < m → (m ≡ 0) ⊎ ((b : ℕ) × IsOneOf h P session b × (place h b ≡ m))
+        → (max m n ≡ 0) ⊎ ((b : ℕ) × IsOneOf h (λ x. Q x ⊎ P x) session b × (place h b ≡ max m n))
     from_first less (inl none) = absurd (omega arith)
     from_first less (inr (b, one, at)) = let e : place h b ≡ max m n = omega arith in inr (b, one_same h P (λ x. Q x ⊎ P x) session b (λ p. inr p) one, e)
 
-    from_second : m ≤ n → (n ≡ 0) ⊎ ((b : ℕ) × IsOneOf h Q session b × (place h b ≡ n)) → (max m n ≡ 0) ⊎ ((b : ℕ) × IsOneOf h (λ x. Q x ⊎ P x) session b × (place h b ≡ max m n))
+    from_second : m ≤ n → (n ≡ 0) ⊎ ((b : ℕ) × IsOneOf h Q session b × (place h b ≡ n))
+        → (max m n ≡ 0) ⊎ ((b : ℕ) × IsOneOf h (λ x. Q x ⊎ P x) session b × (place h b ≡ max m n))
     from_second more (inl none) = let e : max m n ≡ 0 = omega arith in inl e
     from_second more (inr (b, one, at)) = let e : place h b ≡ max m n = omega arith in inr (b, one_same h Q (λ x. Q x ⊎ P x) session b (λ q. inl q) one, e)
 
@@ -60,7 +63,8 @@ last_both h P Q session m n first second = record {
     which (inr more) = from_second more second.attained
 
 -- the last of one alone, and of others
-last_one : (h : History) (Q : ℕ → Type 0) (session p n : ℕ) → p < count h → IsLastOf h Q session n → IsLastOf h (λ b. Q b ⊎ (b ≡ p)) session (raised h p session n)
+last_one : (h : History) (Q : ℕ → Type 0) (session p n : ℕ) → p < count h → IsLastOf h Q session n
+    → IsLastOf h (λ b. Q b ⊎ (b ≡ p)) session (raised h p session n)
 last_one h Q session p n below is = go (cases_Bool (nat_lt 0 p && (owner h p == session)))
   where
     alone : nat_lt 0 p && (owner h p == session) ≡ true → IsLastOf h (λ b. b ≡ p) session (place h p)
@@ -72,12 +76,15 @@ last_one h Q session p n below is = go (cases_Bool (nat_lt 0 p && (owner h p == 
         }
 
     nobody : nat_lt 0 p && (owner h p == session) ≡ false → (b : ℕ) → IsOneOf h (λ x. x ≡ p) session b → ⊥
-    nobody f b one = false≢true (sym f ∙ subst (λ (z : ℕ). (nat_lt 0 z && (owner h z == session)) ≡ true) one.meant (and_from (nat_lt 0 b) (owner h b == session) (lt-ltb 0 b one.committed) (eq-eqb (owner h b) session one.owned)))
+    nobody f b one =
+        false≢true (sym f ∙ subst (λ (z : ℕ). (nat_lt 0 z && (owner h z == session)) ≡ true) one.meant
+        (and_from (nat_lt 0 b) (owner h b == session) (lt-ltb 0 b one.committed) (eq-eqb (owner h b) session one.owned)))
 
     none : nat_lt 0 p && (owner h p == session) ≡ false → IsLastOf h (λ b. b ≡ p) session 0
     none f = record { attained = inl refl; greatest = λ b one. absurd (nobody f b one) }
 
-    go : (nat_lt 0 p && (owner h p == session) ≡ true) ⊎ (nat_lt 0 p && (owner h p == session) ≡ false) → IsLastOf h (λ b. Q b ⊎ (b ≡ p)) session (raised h p session n)
+    go : (nat_lt 0 p && (owner h p == session) ≡ true) ⊎ (nat_lt 0 p && (owner h p == session) ≡ false)
+        → IsLastOf h (λ b. Q b ⊎ (b ≡ p)) session (raised h p session n)
     go (inl t) = rw t (last_both h (λ b. b ≡ p) Q session (place h p) n (alone t) is)
     go (inr f) =
         let e : max 0 n ≡ n = omega arith in
@@ -87,7 +94,8 @@ last_one h Q session p n below is = go (cases_Bool (nat_lt 0 p && (owner h p == 
 pub lasts_same : (h : History) (P Q : ℕ → Type 0) (row : List ℕ) → ((b : ℕ) → P b ↔ Q b) → AreLastsOf h P row → AreLastsOf h Q row
 lasts_same h P Q row same are = record { long = are.long; each = λ s of. last_same h P Q s (slice_index row s) same (are.each s of) }
 
-pub lasts_none : (h : History) (row : List ℕ) (n : ℕ) (numbers : List ℕ) → row ≡ replicate n 0 → n ≡ length h.sessions → AreLastsOf h (IsUpTo h (Contains (take 0 numbers))) row
+pub lasts_none : (h : History) (row : List ℕ) (n : ℕ) (numbers : List ℕ) → row ≡ replicate n 0 → n ≡ length h.sessions
+    → AreLastsOf h (IsUpTo h (Contains (take 0 numbers))) row
 lasts_none h row n numbers is long = rw is record {
   long = length-replicate n 0 ∙ long;
   each = λ s of. record { attained = inl (get_or-replicate n s 0 0 (omega arith)); greatest = λ b one. absurd (nothing_in one.meant.0 one.meant.1) };
@@ -101,7 +109,8 @@ pub lasts_more : (h : History) (numbers : List ℕ) (k p : ℕ) (old mid new oth
     → AreLastsOf h (IsUpTo h (Contains (take (k + 1) numbers))) new
 lasts_more h numbers k p old mid new other inside here below are before long_mid each_mid long_new each_new = record {
   long = long_new ∙ (long_mid ∙ are.long);
-  each = λ s of. last_same h (λ b. (IsUpTo h (Contains (take k numbers)) b ⊎ IsReached h b p) ⊎ (b ≡ p)) (IsUpTo h (Contains (take (k + 1) numbers))) s (slice_index new s) both (step s of);
+  each = λ s of. last_same h (λ b. (IsUpTo h (Contains (take k numbers)) b ⊎ IsReached h b p) ⊎ (b ≡ p)) (IsUpTo h (Contains (take (k + 1) numbers))) s
+      (slice_index new s) both (step s of);
 }
   where
     step : (s : ℕ) → s < length h.sessions → IsLastOf h (λ b. (IsUpTo h (Contains (take k numbers)) b ⊎ IsReached h b p) ⊎ (b ≡ p)) s (slice_index new s)
@@ -115,7 +124,8 @@ lasts_more h numbers k p old mid new other inside here below are before long_mid
     there b (inl (inr reached)) = (p, rw (← here) (last_taken numbers k inside), inr reached)
     there b (inr same) = (p, rw (← here) (last_taken numbers k inside), inl same)
 
-    by : (b q : ℕ) → (b ≡ q) ⊎ IsReached h b q → Contains (take k numbers) q ⊎ (get_or numbers k 0 ≡ q) → (IsUpTo h (Contains (take k numbers)) b ⊎ IsReached h b p) ⊎ (b ≡ p)
+    by : (b q : ℕ) → (b ≡ q) ⊎ IsReached h b q → Contains (take k numbers) q ⊎ (get_or numbers k 0 ≡ q)
+        → (IsUpTo h (Contains (take k numbers)) b ⊎ IsReached h b p) ⊎ (b ≡ p)
     by b q way (inl taken) = inl (inl (q, taken, way))
     by b q (inl same) (inr is) = inr (same ∙ (sym is ∙ here))
     by b q (inr reached) (inr is) = let at : q ≡ p = sym is ∙ here in inl (inr (rw at at reached))
@@ -124,8 +134,10 @@ lasts_more h numbers k p old mid new other inside here below are before long_mid
     both b = (there b, λ w. by b w.0 w.2 (one_of_taken numbers k inside w.0 w.1))
 
 -- what reaches c is what its parents are, and what reaches them
-pub up_to_parents : (h : History) → IsBySession h.entries → (c : ℕ) → c < count h → HasSourcesAt h c → (b : ℕ) → IsUpTo h (Contains (parents h c)) b ↔ IsBefore h c b
-up_to_parents h numbered c below all b = (λ w. (reached_by h numbered b c below all).0 (there w.0 w.1 w.2), λ r. back ((reached_by h numbered b c below all).1 r))
+pub up_to_parents : (h : History) → IsBySession h.entries → (c : ℕ) → c < count h → HasSourcesAt h c → (b : ℕ)
+    → IsUpTo h (Contains (parents h c)) b ↔ IsBefore h c b
+up_to_parents h numbered c below all b =
+    (λ w. (reached_by h numbered b c below all).0 (there w.0 w.1 w.2), λ r. back ((reached_by h numbered b c below all).1 r))
   where
     there : (p : ℕ) → Contains (parents h c) p → (b ≡ p) ⊎ IsReached h b p → IsBehindBy h b c
     there p parent (inl same) = inl (rw same (parent_pair h numbered c below all p parent))
@@ -143,7 +155,8 @@ up_to_parents h numbered c below all b = (λ w. (reached_by h numbered b c below
 pub table_none : (h : History) (table : List (List ℕ)) (order : List ℕ) → length table ≡ count h → HasLasts h (Contains (take 0 order)) table
 table_none h table order long = record { long = long; each = λ c l there. absurd (nothing_in c there) }
 
-pub table_more : (h : History) (table : List (List ℕ)) (order row : List ℕ) (k : ℕ) → k < length order → get_or order k 0 < count h → HasLasts h (Contains (take k order)) table
+pub table_more : (h : History) (table : List (List ℕ)) (order row : List ℕ) (k : ℕ) → k < length order → get_or order k 0 < count h
+    → HasLasts h (Contains (take k order)) table
     → AreLastsOf h (IsBefore h (get_or order k 0)) row → HasLasts h (Contains (take (k + 1) order)) (set table (get_or order k 0) row)
 table_more h table order row k inside low before new = record {
   long = omega (arith, before.long, length-set {A = List ℕ});
@@ -154,11 +167,14 @@ table_more h table order row k inside low before new = record {
     was c other (inl there) = there
     was c other (inr same) = absurd (other (sym same))
 
-    row_at : (c : ℕ) → c < count h → (c ≡ get_or order k 0) ⊎ (c ≢ get_or order k 0) → Contains (take (k + 1) order) c → AreLastsOf h (IsBefore h c) (row_of (set table (get_or order k 0) row) c)
+    row_at : (c : ℕ) → c < count h → (c ≡ get_or order k 0) ⊎ (c ≢ get_or order k 0) → Contains (take (k + 1) order) c
+        → AreLastsOf h (IsBefore h c) (row_of (set table (get_or order k 0) row) c)
     row_at c l (inl same) there = rw (same, get_or-set_same table (get_or order k 0) row [] (omega (arith, low, before.long))) new
-    row_at c l (inr other) there = rw (get_or-set_other table (get_or order k 0) c row [] other) (before.each c l (was c other (one_of_taken order k inside c there)))
+    row_at c l (inr other) there =
+        rw (get_or-set_other table (get_or order k 0) c row [] other) (before.each c l (was c other (one_of_taken order k inside c there)))
 
-pub table_whole : (h : History) (table : List (List ℕ)) (order : List ℕ) → ((c : ℕ) → c < count h → Contains order c) → HasLasts h (Contains order) table → IsClocksOf h table
+pub table_whole : (h : History) (table : List (List ℕ)) (order : List ℕ) → ((c : ℕ) → c < count h → Contains order c) → HasLasts h (Contains order) table
+    → IsClocksOf h table
 table_whole h table order each is = record {
   long = is.long;
   wide = λ i d l. wide i d l;
@@ -174,15 +190,22 @@ table_whole h table order each is = record {
     exact : (t s : ℕ) → IsLastOf h (IsBefore h t) s (slice_index (row_of table t) s) → IsLast h t s (slice_index (row_of table t) s)
     exact t s last = record {
       attained = go last.attained;
-      greatest = λ b is_behind. last.greatest b record { committed = is_behind.committed; below = is_behind.below; owned = is_behind.owned; meant = is_behind.reached };
+      greatest = λ b is_behind. last.greatest b record {
+        committed = is_behind.committed;
+        below = is_behind.below;
+        owned = is_behind.owned;
+        meant = is_behind.reached;
+      };
     }
       where
-        go : (slice_index (row_of table t) s ≡ 0) ⊎ ((b : ℕ) × IsOneOf h (IsBefore h t) s b × (place h b ≡ slice_index (row_of table t) s)) → (slice_index (row_of table t) s ≡ 0) ⊎ ((b : ℕ) × IsBehind h t s b × (place h b ≡ slice_index (row_of table t) s))
+        go : (slice_index (row_of table t) s ≡ 0) ⊎ ((b : ℕ) × IsOneOf h (IsBefore h t) s b × (place h b ≡ slice_index (row_of table t) s))
+            → (slice_index (row_of table t) s ≡ 0) ⊎ ((b : ℕ) × IsBehind h t s b × (place h b ≡ slice_index (row_of table t) s))
         go (inl none) = inl none
         go (inr (b, one, at)) = inr (b, behind t s b one, at)
 
 -- ---- the order
-module _ (h : History) (numbered : IsBySession h.entries) (order : List ℕ) (k : ℕ) (table : List (List ℕ)) (commit : IsCommitOrder (causally h) order) (inside : k < length order) (all : HasSourcesAt h (get_or order k 0)) (done : HasLasts h (Contains (take k order)) table) where
+module _ (h : History) (numbered : IsBySession h.entries) (order : List ℕ) (k : ℕ) (table : List (List ℕ)) (commit : IsCommitOrder (causally h) order)
+    (inside : k < length order) (all : HasSourcesAt h (get_or order k 0)) (done : HasLasts h (Contains (take k order)) table) where
   abbrev c : ℕ
   c = get_or order k 0
 
@@ -206,4 +229,5 @@ module _ (h : History) (numbered : IsBySession h.entries) (order : List ℕ) (k 
   all_below = All-weaker (Contains (parents h c)) (λ p. p < count h) (λ p there. (parent_done p there).0) (parents h c) (All-contains_itself (parents h c))
 
   pub all_done : All (λ p. AreLastsOf h (IsBefore h p) (row_of table p)) (parents h c)
-  all_done = All-weaker (Contains (parents h c)) (λ p. AreLastsOf h (IsBefore h p) (row_of table p)) (λ p there. (parent_done p there).1) (parents h c) (All-contains_itself (parents h c))
+  all_done = All-weaker (Contains (parents h c)) (λ p. AreLastsOf h (IsBefore h p) (row_of table p)) (λ p there. (parent_done p there).1) (parents h c)
+      (All-contains_itself (parents h c))

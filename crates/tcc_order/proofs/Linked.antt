@@ -73,7 +73,9 @@ reason_there : (j : Judged) (b a : ℕ) (x : List ℕ) (c : ℕ) (walk : List St
 reason_there j b a x c walk ((apart, (to, reader, (k, within, here)), (from, written)), (path, allowed)) =
     and_from _ _
     (and_from _ _ (rw (ne_eqb b a apart) refl) (and_from _ _ (lt-ltb b (count j.history) from) (lt-ltb a (count j.history) to)))
-    (any_below_at (contradicts j b a) (count j.history) c reader (and_from _ _ (walks_of_walk j.level j.history b c walk path allowed) (list_any_at (writes j.history b) (reads_from j.history a c) k x within (rw here written))))
+    (any_below_at (contradicts j b a) (count j.history) c reader
+    (and_from _ _ (walks_of_walk j.level j.history b c walk path allowed)
+    (list_any_at (writes j.history b) (reads_from j.history a c) k x within (rw here written))))
 
 causal_found : (j : Judged) (a b : ℕ) → IsCausalPair j.history a b → IsLinked j a b
 causal_found j a b (inl session) = has_link j (link.Session a b) session

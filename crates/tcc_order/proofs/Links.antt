@@ -51,12 +51,14 @@ exact_of n R table bounded is b c = (
   λ r. (is.exact b c (bounded b c r)).1 r,
 )
 
-pub first_order : (j : Judged) (table : List (List ℕ)) (order : List ℕ) → IsTableOf (count j.history) (IsLinked j) table → IsFirstOf (stands table) (length table) order → IsFirstOrder j order
+pub first_order : (j : Judged) (table : List (List ℕ)) (order : List ℕ) → IsTableOf (count j.history) (IsLinked j) table
+    → IsFirstOf (stands table) (length table) order → IsFirstOrder j order
 first_order j table order is first =
     first_from_first j (stands table) order (exact_of (count j.history) (IsLinked j) table (λ b c w. (linked_below j b c w).1) is) (rw is.long at first)
 
 pub cycle_of_links : (j : Judged) (table : List (List ℕ)) → IsTableOf (count j.history) (IsLinked j) table → HasCircle (stands table) → HasCycle j
-cycle_of_links j table is circle = cycle_from_circle j (stands table) (exact_of (count j.history) (IsLinked j) table (λ b c w. (linked_below j b c w).1) is) circle
+cycle_of_links j table is circle =
+    cycle_from_circle j (stands table) (exact_of (count j.history) (IsLinked j) table (λ b c w. (linked_below j b c w).1) is) circle
 
 -- ---- rows by which orders are made
 pub table_same : (n : ℕ) (R S : ℕ → ℕ → Type 0) (table : List (List ℕ)) → ((b c : ℕ) → c < n → R b c ↔ S b c) → IsTableOf n R table → IsTableOf n S table
@@ -66,8 +68,11 @@ table_same n R S table same is = record {
   exact = λ b c l. (λ m. (same b c l).0 ((is.exact b c l).0 m), λ w. (is.exact b c l).1 ((same b c l).1 w));
 }
 
-pub linked_table : (j : Judged) (behind table : List (List ℕ)) → IsTableOf (count j.history) (IsBefore j.history behind) table → IsTableOf (count j.history) (IsAllowedFrom j) behind → IsTableOf (count j.history) (IsLinked j) table
-linked_table j behind table is allowed = table_same (count j.history) (IsBefore j.history behind) (IsLinked j) table (λ b a l. (λ w. (linked_by j b a).0 (there b a w), λ w. back b a ((linked_by j b a).1 w))) is
+pub linked_table : (j : Judged) (behind table : List (List ℕ)) → IsTableOf (count j.history) (IsBefore j.history behind) table
+    → IsTableOf (count j.history) (IsAllowedFrom j) behind → IsTableOf (count j.history) (IsLinked j) table
+linked_table j behind table is allowed =
+    table_same (count j.history) (IsBefore j.history behind) (IsLinked j) table
+    (λ b a l. (λ w. (linked_by j b a).0 (there b a w), λ w. back b a ((linked_by j b a).1 w))) is
   where
     there : (b a : ℕ) → IsBefore j.history behind b a → IsLinkedBy j b a
     there b a (inl p) = inl p
@@ -78,7 +83,8 @@ linked_table j behind table is allowed = table_same (count j.history) (IsBefore 
     back b a (inr (c, x, reads, writer, apart, w)) = inr (c, x, reads, writer, apart, (allowed.exact b c reads.1).1 w)
 
 -- at `Atomic` what stands behind is what causal pairs lead from
-pub allowed_atomic : (h : History) (table : List (List ℕ)) → IsTableOf (count h) (IsCausalPair h) table → IsTableOf (count h) (IsAllowedFrom (atomically h)) table
+pub allowed_atomic : (h : History) (table : List (List ℕ)) → IsTableOf (count h) (IsCausalPair h) table
+    → IsTableOf (count h) (IsAllowedFrom (atomically h)) table
 allowed_atomic h table is = table_same (count h) (IsCausalPair h) (IsAllowedFrom (atomically h)) table (λ b c l. (there b c, λ w. back b c w.0 w.1)) is
   where
     there : (b c : ℕ) → IsCausalPair h b c → IsAllowedFrom (atomically h) b c
@@ -94,7 +100,8 @@ pub allowed_causal : (h : History) (table : List (List ℕ)) → IsTableOf (coun
 allowed_causal h table is = table_same (count h) (IsReached h) (IsAllowedFrom (causally h)) table (λ b c l. (λ w. (w.0, (w.1, tt)), λ w. (w.0, w.1.0))) is
 
 -- ---- causal pairs in a circle
-route_of_joins : (j : Judged) (precedes : ℕ → ℕ → Bool) → ((a b : ℕ) → precedes a b ≡ true → IsLinked j a b) → (a b : ℕ) (between : List ℕ) → Joins precedes a b between → (links : List Link) × IsRoute j a b links
+route_of_joins : (j : Judged) (precedes : ℕ → ℕ → Bool) → ((a b : ℕ) → precedes a b ≡ true → IsLinked j a b) → (a b : ℕ) (between : List ℕ)
+    → Joins precedes a b between → (links : List Link) × IsRoute j a b links
 route_of_joins j precedes sound a b [] p = let w = sound a b p in (w.0 ∷ [], link_route j a b w.0 w.1.from w.1.to w.1.link)
 route_of_joins j precedes sound a b (m ∷ between) p =
     let w = sound a m p.0 in
@@ -114,7 +121,8 @@ cycle_of_pairs j into is (a, between, p) = let w = route_of_joins j (stands into
 abbrev pub IsFound : Judged → Option (Vec ℕ) → Type 0
 IsFound j found = MatchOption found (HasCycle j) (λ order. IsFirstOrder j order.items)
 
-pub found_by : (j : Judged) (behind table : List (List ℕ)) (found : Option (Vec ℕ)) → IsTableOf (count j.history) (IsBefore j.history behind) table → IsTableOf (count j.history) (IsAllowedFrom j) behind
+pub found_by : (j : Judged) (behind table : List (List ℕ)) (found : Option (Vec ℕ)) → IsTableOf (count j.history) (IsBefore j.history behind) table
+    → IsTableOf (count j.history) (IsAllowedFrom j) behind
     → MatchOption found (HasCircle (stands table)) (λ order. IsFirstOf (stands table) (length table) order.items) → IsFound j found
 found_by j behind table None is allowed circle = cycle_of_links j table (linked_table j behind table is allowed) circle
 found_by j behind table (Some order) is allowed first = first_order j table order.items (linked_table j behind table is allowed) first

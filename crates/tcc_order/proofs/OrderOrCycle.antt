@@ -1,5 +1,6 @@
 -- A commit order exists exactly where there is no cycle.
-use Rattle.std.proofs.Common.{◌≡◌, ◌<◌, ℕ, zero, suc, ◌+◌, Bool, true, false, ◌&&◌, ◌⊎◌, inl, inr, List, [], ◌∷◌, ◌++◌, length, length-append, not, refl, sym, ◌∙◌, arith, subst}
+use Rattle.std.proofs.Common.{◌≡◌, ◌<◌, ℕ, zero, suc, ◌+◌, Bool, true, false, ◌&&◌, ◌⊎◌, inl, inr, List, [], ◌∷◌, ◌++◌, length, length-append, not, refl, sym}
+use Rattle.std.proofs.Common.{◌∙◌, arith, subst}
 use Rattle.std.proofs.lemmas.Bool.{and_parts, and_from, cases_Bool, false≢true, not-true}
 use Rattle.tcc_reads.specs.History.{count}
 use Rattle.tcc_graph.specs.Levels.{Judged}
@@ -44,17 +45,24 @@ true_not : (b : Bool) → b ≡ false → not b ≡ true
 true_not true h = absurd (false≢true (sym h))
 true_not false h = refl
 
-free_from_test : (precedes : ℕ → ℕ → Bool) (n : ℕ) (done : List ℕ) (x : ℕ) → IsBelow precedes n → x < n → free precedes n done x ≡ true → IsFree precedes n done x
+free_from_test : (precedes : ℕ → ℕ → Bool) (n : ℕ) (done : List ℕ) (x : ℕ) → IsBelow precedes n → x < n → free precedes n done x ≡ true
+    → IsFree precedes n done x
 free_from_test precedes n done x bounds l p =
     let w = and_parts (not (has done x)) (not (any_below (lacks precedes done x) n)) p in
-    record { below = l; new = not-true (has done x) w.0; ready = λ a q. seen (not-true (any_below (lacks precedes done x) n) w.1) a q (cases_Bool (has done a)) }
+    record {
+      below = l;
+      new = not-true (has done x) w.0;
+      ready = λ a q. seen (not-true (any_below (lacks precedes done x) n) w.1) a q (cases_Bool (has done a));
+    }
   where
     seen : any_below (lacks precedes done x) n ≡ false → (a : ℕ) → precedes a x ≡ true → (has done a ≡ true) ⊎ (has done a ≡ false) → has done a ≡ true
     seen none a q (inl there) = there
-    seen none a q (inr missing) = absurd (false≢true (sym none ∙ any_below_at (lacks precedes done x) n a (bounds a x q).0 (and_from _ _ q (true_not (has done a) missing))))
+    seen none a q (inr missing) =
+        absurd (false≢true (sym none ∙ any_below_at (lacks precedes done x) n a (bounds a x q).0 (and_from _ _ q (true_not (has done a) missing))))
 
 test_from_free : (precedes : ℕ → ℕ → Bool) (n : ℕ) (done : List ℕ) (x : ℕ) → IsFree precedes n done x → free precedes n done x ≡ true
-test_from_free precedes n done x h = and_from _ _ (true_not (has done x) h.new) (true_not (any_below (lacks precedes done x) n) (none (cases_Bool (any_below (lacks precedes done x) n))))
+test_from_free precedes n done x h =
+    and_from _ _ (true_not (has done x) h.new) (true_not (any_below (lacks precedes done x) n) (none (cases_Bool (any_below (lacks precedes done x) n))))
   where
     none : (any_below (lacks precedes done x) n ≡ true) ⊎ (any_below (lacks precedes done x) n ≡ false) → any_below (lacks precedes done x) n ≡ false
     none (inr f) = f
@@ -66,9 +74,12 @@ test_from_free precedes n done x h = and_from _ _ (true_not (has done x) h.new) 
 abbrev Outcome : (ℕ → ℕ → Bool) → ℕ → Type 0
 Outcome precedes n = ((order : List ℕ) × IsOrderOf precedes n order) ⊎ HasCircle precedes
 
-pick : (precedes : ℕ → ℕ → Bool) (n : ℕ) → IsBelow precedes n → (left : ℕ) (done : List ℕ) → left + length done ≡ n → Picks precedes n [] done → Outcome precedes n
+pick : (precedes : ℕ → ℕ → Bool) (n : ℕ) → IsBelow precedes n → (left : ℕ) (done : List ℕ) → left + length done ≡ n → Picks precedes n [] done
+    → Outcome precedes n
 pick precedes n bounds zero done full p = inl (done, Picks-order precedes n done bounds p (omega arith))
-pick precedes n bounds (suc left) done full p = go (search_below (free precedes n done) n) (λ x next. pick precedes n bounds left (done ++ x ∷ []) (rw length-append (omega arith)) (Picks-push precedes n [] done x p next))
+pick precedes n bounds (suc left) done full p =
+    go (search_below (free precedes n done) n)
+    (λ x next. pick precedes n bounds left (done ++ x ∷ []) (rw length-append (omega arith)) (Picks-push precedes n [] done x p next))
   where
     next : (x : ℕ) → IsLeastPassing (free precedes n done) n x → IsNext precedes n done x
     next x h = record {
@@ -78,7 +89,8 @@ pick precedes n bounds (suc left) done full p = go (search_below (free precedes 
 
     go : Search (free precedes n done) n → ((x : ℕ) → IsNext precedes n done x → Outcome precedes n) → Outcome precedes n
     go (inl found) rest = rest found.0 (next found.0 found.1)
-    go (inr none) rest = inr (short_circle precedes n done bounds (λ x f. absurd (false≢true (sym (none x f.below) ∙ test_from_free precedes n done x f))) (omega arith))
+    go (inr none) rest =
+        inr (short_circle precedes n done bounds (λ x f. absurd (false≢true (sym (none x f.below) ∙ test_from_free precedes n done x f))) (omega arith))
 
 commit_of : (j : Judged) → (HasCycle j → ⊥) → Outcome (linked j) (count j.history) → (order : List ℕ) × IsCommitOrder j order
 commit_of j none (inl o) = (o.0, commit_from_order j (linked j) o.0 (linked_precedence j) o.1)

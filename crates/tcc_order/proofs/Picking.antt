@@ -22,7 +22,8 @@ abbrev pub Says : List ℕ → List ℕ → Type 0
 Says placed done = (x : ℕ) → is_marked placed x ≡ has done x
 
 pub says_more : (old new done : List ℕ) (x : ℕ) → Says old done → ((b : ℕ) → is_marked new b ≡ (is_marked old b || (b == x))) → Says new (done ++ x ∷ [])
-says_more old new done x says now q = now q ∙ (ap (λ m. m || (q == x)) (says q) ∙ sym (list_any-append (eqb q) done (x ∷ []) ∙ ap (λ m. has done q || m) (or-false (eqb q x))))
+says_more old new done x says now q =
+    now q ∙ (ap (λ m. m || (q == x)) (says q) ∙ sym (list_any-append (eqb q) done (x ∷ []) ∙ ap (λ m. has done q || m) (or-false (eqb q x))))
 
 module _ (table : List (List ℕ)) (placed done : List ℕ) (says : Says placed done) (bounds : IsBelow (stands table) (length table)) where
   free_from_ready : (x : ℕ) → IsReady table placed x → IsFree (stands table) (length table) done x

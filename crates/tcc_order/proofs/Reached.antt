@@ -19,7 +19,8 @@ reaches h a b = within (causal_pair h) (count h) a b
 
 pub walk_of_reaches : (h : History) (a b : ℕ) → reaches h a b ≡ true → IsReached h a b
 unfolding reaches
-walk_of_reaches h a b p = within_sound (causal_pair h) (IsReached h) (λ x y p. let w = pair_walk h x y (pair_kinds h x y p) in (w.0, w.1)) (reached_append h) (count h) a b p
+walk_of_reaches h a b p =
+    within_sound (causal_pair h) (IsReached h) (λ x y p. let w = pair_walk h x y (pair_kinds h x y p) in (w.0, w.1)) (reached_append h) (count h) a b p
 
 within_of_step : (h : History) (a b : ℕ) (s : Step) → step_from s ≡ a → IsStep h s → step_to s ≡ b → within (causal_pair h) (count h) a b ≡ true
 within_of_step h a b s from p to = within_pair (causal_pair h) (count h) a b (rw (← from, ← to) (pair_from_step h s p))
@@ -27,7 +28,8 @@ within_of_step h a b s from p to = within_pair (causal_pair h) (count h) a b (rw
 within_of_steps : (h : History) (a b : ℕ) (s : Step) (steps : List Step) → Leads h a b (s ∷ steps) → within (causal_pair h) (count h) a b ≡ true
 within_of_steps h a b s [] w = within_of_step h a b s w.0 w.1 w.2
 within_of_steps h a b s (t ∷ steps) w =
-    within_join (causal_pair h) (count h) a (step_to s) b (step_below h s w.1).1 (within_of_step h a (step_to s) s w.0 w.1 refl) (within_of_steps h (step_to s) b t steps w.2)
+    within_join (causal_pair h) (count h) a (step_to s) b (step_below h s w.1).1 (within_of_step h a (step_to s) s w.0 w.1 refl)
+    (within_of_steps h (step_to s) b t steps w.2)
 
 pub reaches_of_walk : (h : History) (a b : ℕ) (walk : List Step) → IsWalk h a b walk → reaches h a b ≡ true
 unfolding reaches

@@ -1,7 +1,9 @@
 -- Who reaches whom in a numbered history: session pairs, parents, and walks by their last pair.
-use Rattle.std.proofs.Common.{◌≡◌, ◌≢◌, ◌<◌, ◌-◌, ◌==◌, ◌↔◌, ◌⊎◌, inl, inr, ℕ, zero, suc, Bool, true, false, ◌&&◌, ◌||◌, List, [], ◌∷◌, map, filter, nat_lt, refl, sym, ap, ◌∙◌, subst, arith}
+use Rattle.std.proofs.Common.{◌≡◌, ◌≢◌, ◌<◌, ◌-◌, ◌==◌, ◌↔◌, ◌⊎◌, inl, inr, ℕ, zero, suc, Bool, true, false, ◌&&◌, ◌||◌, List, [], ◌∷◌, map, filter, nat_lt}
+use Rattle.std.proofs.Common.{refl, sym, ap, ◌∙◌, subst, arith}
 use Rattle.std.specs.List.{Contains}
-use Rattle.std.proofs.lemmas.Bool.{cases_Bool, cases_eq, cases_order, or_cases, or_left, or_right, and_parts, and_from, ltb-true, lt-ltb, eqb-true, eq-eqb, ne_eqb, false≢true}
+use Rattle.std.proofs.lemmas.Bool.{cases_Bool, cases_eq, cases_order, or_cases, or_left, or_right, and_parts, and_from, ltb-true, lt-ltb, eqb-true, eq-eqb}
+use Rattle.std.proofs.lemmas.Bool.{ne_eqb, false≢true}
 use Rattle.std.proofs.lemmas.List.Elements.{All-contains, Contains-append_left, Contains-append_right, Contains-append_cases}
 use Rattle.tcc_txn.proofs.Lists.{in_filter, from_filter}
 use Rattle.tcc_reads.specs.History.{History, count, entry_at, owner, place}
@@ -47,7 +49,8 @@ session_init h b some below =
 session_from : (h : History) (a b : ℕ) → a < count h → b < count h → IsInSession h a b → IsSessionPair h a b
 session_from h a b from to (some, more, same, less) =
     and_from _ _ (and_from _ _ (lt-ltb a (count h) from) (lt-ltb b (count h) to))
-    (or_right _ _ (and_from _ _ (and_from _ _ (and_from _ _ (lt-ltb 0 a some) (lt-ltb 0 b more)) (eq-eqb (owner h a) (owner h b) same)) (lt-ltb (place h a) (place h b) less)))
+    (or_right _ _ (and_from _ _ (and_from _ _ (and_from _ _ (lt-ltb 0 a some) (lt-ltb 0 b more)) (eq-eqb (owner h a) (owner h b) same))
+    (lt-ltb (place h a) (place h b) less)))
 
 -- nothing stands before `init` in its session
 pub none_before : (h : History) (a : ℕ) → IsSessionPair h a 0 → ⊥
@@ -93,14 +96,17 @@ module _ (h : History) (numbered : IsBySession h.entries) where
 
       after : ((a ≡ 0) × (0 < c)) ⊎ IsInSession h a c → (a ≡ c - 1) ⊎ (a ≢ c - 1) → (a ≡ c - 1) ⊎ IsSessionPair h a (c - 1)
       after kind (inl same) = inl same
-      after (inl first) (inr other) = inr (subst (λ (z : ℕ). IsSessionPair h z (c - 1)) (sym first.0) (session_init h (c - 1) (omega (arith, first.0, first.1)) (omega (arith, below))))
-      after (inr one) (inr other) = inr (session_from h a (c - 1) (omega (arith, less, below)) (omega (arith, below)) (between a c one (omega (arith, less)) below).0)
+      after (inl first) (inr other) =
+          inr (subst (λ (z : ℕ). IsSessionPair h z (c - 1)) (sym first.0) (session_init h (c - 1) (omega (arith, first.0, first.1)) (omega (arith, below))))
+      after (inr one) (inr other) =
+          inr (session_from h a (c - 1) (omega (arith, less, below)) (omega (arith, below)) (between a c one (omega (arith, less)) below).0)
 
       alone : session_pair h (c - 1) c ≡ false → IsInSession h a c → (a ≡ c - 1) ⊎ (a ≢ c - 1) → ⊥
       alone miss one (inl same) = false≢true (sym miss ∙ (ap (λ x. session_pair h x c) (sym same) ∙ p))
       alone miss one (inr other) = false≢true (sym miss ∙ session_from h (c - 1) c (omega (arith, below)) below (between a c one (omega (arith, less)) below).1)
 
-      go : (session_pair h (c - 1) c ≡ true) ⊎ (session_pair h (c - 1) c ≡ false) → ((a ≡ 0) × (0 < c)) ⊎ IsInSession h a c → (a ≡ session_parent h c) ⊎ IsSessionPair h a (session_parent h c)
+      go : (session_pair h (c - 1) c ≡ true) ⊎ (session_pair h (c - 1) c ≡ false) → ((a ≡ 0) × (0 < c)) ⊎ IsInSession h a c
+          → (a ≡ session_parent h c) ⊎ IsSessionPair h a (session_parent h c)
       go (inl yes_pair) kind = rw yes_pair (after kind (cases_eq a (c - 1)))
       go (inr miss) (inl first) = rw miss (inl first.0)
       go (inr miss) (inr one) = absurd (alone miss one (cases_eq a (c - 1)))
@@ -165,8 +171,11 @@ from_map f (x ∷ xs) y (suc k, l, e) = let w = from_map f xs y (k, omega arith,
 
 pub source_reads : (h : History) (a c : ℕ) → Contains (sources h c) a → (x : List ℕ) × Contains (reads_from h a c) x
 source_reads h a c there =
-    let w = from_map (λ (read : List ℕ × ℕ). read.1) (entry_at h c).reads a there in
-    (w.0.0, in_map (λ (read : List ℕ × ℕ). read.0) (filter (λ read. read.1 == a) (entry_at h c).reads) w.0 (in_filter (λ (read : List ℕ × ℕ). read.1 == a) (entry_at h c).reads w.0 w.1 (eq-eqb w.0.1 a w.2)))
+    let w = from_map (λ (read : List ℕ × ℕ). read.1) (entry_at h c).reads a there in (
+      w.0.0,
+      in_map (λ (read : List ℕ × ℕ). read.0) (filter (λ read. read.1 == a) (entry_at h c).reads) w.0
+          (in_filter (λ (read : List ℕ × ℕ). read.1 == a) (entry_at h c).reads w.0 w.1 (eq-eqb w.0.1 a w.2)),
+    )
 
 pub reads_source : (h : History) (a c : ℕ) (x : List ℕ) → Contains (reads_from h a c) x → Contains (sources h c) a
 reads_source h a c x there =
@@ -226,7 +235,8 @@ module _ (h : History) (numbered : IsBySession h.entries) (c : ℕ) (below : c <
       mine : Contains (parents h c) (session_parent h c)
       mine = Contains-append_left (session_parents h c) (sources h c) (session_parent h c) (one_parent h c (omega (arith, session_rises h numbered a c p)))
 
-      go : (a ≡ session_parent h c) ⊎ IsSessionPair h a (session_parent h c) → Contains (parents h c) a ⊎ ((p : ℕ) × Contains (parents h c) p × IsCausalPair h a p)
+      go : (a ≡ session_parent h c) ⊎ IsSessionPair h a (session_parent h c)
+          → Contains (parents h c) a ⊎ ((p : ℕ) × Contains (parents h c) p × IsCausalPair h a p)
       go (inl same) = inl (rw same mine)
       go (inr before) = inr (session_parent h c, mine, inl before)
 

@@ -37,7 +37,8 @@ from_middle : (e : ℕ → ℕ → Bool) (k b : ℕ) → Ways e k k b → within
 from_middle e k b (inl p) = p
 from_middle e k b (inr p) = p.1
 
-join_ways : (e : ℕ → ℕ → Bool) (k a m b : ℕ) → ((x y : ℕ) → within e k x m ≡ true → within e k m y ≡ true → within e k x y ≡ true) → Ways e k a m → Ways e k m b → within e (suc k) a b ≡ true
+join_ways : (e : ℕ → ℕ → Bool) (k a m b : ℕ) → ((x y : ℕ) → within e k x m ≡ true → within e k m y ≡ true → within e k x y ≡ true) → Ways e k a m
+    → Ways e k m b → within e (suc k) a b ≡ true
 join_ways e k a m b join (inl p) (inl q) = within_one_more e k a b (join a b p q)
 join_ways e k a m b join (inl p) (inr q) = within_through e k a b (join a k p q.0) q.1
 join_ways e k a m b join (inr p) (inl q) = within_through e k a b p.0 (join k b p.1 q)
@@ -52,7 +53,8 @@ within_join e (suc k) a m b l p q = go (λ h x y. within_join e k x m y h) (case
     go join (inr apart) = join_ways e k a m b (join (omega arith)) (ways e k a m p) (ways e k m b q)
 
 -- what joins holds of each pair and of two that meet
-pub within_sound : (e : ℕ → ℕ → Bool) (R : ℕ → ℕ → Type 0) → ((a b : ℕ) → e a b ≡ true → R a b) → ((a m b : ℕ) → R a m → R m b → R a b) → (k a b : ℕ) → within e k a b ≡ true → R a b
+pub within_sound : (e : ℕ → ℕ → Bool) (R : ℕ → ℕ → Type 0) → ((a b : ℕ) → e a b ≡ true → R a b) → ((a m b : ℕ) → R a m → R m b → R a b) → (k a b : ℕ)
+    → within e k a b ≡ true → R a b
 unfolding within
 within_sound e R one join zero a b h = one a b h
 within_sound e R one join (suc k) a b h = go (λ x y. within_sound e R one join k x y) (ways e k a b h)

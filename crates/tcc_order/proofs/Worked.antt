@@ -78,7 +78,8 @@ later_writer-not_by_number k o =
 abbrev onward : List (List ℕ)
 onward = (0 ∷ []) ∷ (1 ∷ []) ∷ (3 ∷ []) ∷ []
 
-onward-stands : (stands onward 0 1 ≡ true) × (stands onward 1 2 ≡ true) × (stands onward 1 0 ≡ false) × (stands onward 2 1 ≡ false) × (stands onward 2 3 ≡ false)
+onward-stands : (stands onward 0 1 ≡ true) × (stands onward 1 2 ≡ true) × (stands onward 1 0 ≡ false) × (stands onward 2 1 ≡ false)
+    × (stands onward 2 3 ≡ false)
 unfolding is_marked
 onward-stands = (refl, refl, refl, refl, refl)
 

@@ -1,5 +1,6 @@
 //! The first order of numbers in which each stands behind all that its row marks.
-ghost use Rattle.std.specs.Prelude.{◌≡◌, ◌≢◌, ◌<◌, ◌≤◌, ◌+◌, ◌^◌, ◌↔◌, ℕ, true, false, length, slice_index, All, Contains, IsTrue, IfOk, IfNone, IfSome, MatchOption};
+ghost use Rattle.std.specs.Prelude.{◌≡◌, ◌≢◌, ◌<◌, ◌≤◌, ◌+◌, ◌^◌, ◌↔◌, ℕ, true, false, length, slice_index, All, Contains, IsTrue, IfOk, IfNone, IfSome};
+ghost use Rattle.std.specs.Prelude.{MatchOption};
 ghost use Rattle.tcc_txn.specs.declared.limits.TheConstants.{MAX_COUNT};
 ghost use Rattle.tcc_near.specs.Bits.{is_marked, IsRowOf, words_for};
 ghost use Rattle.tcc_order.specs.Numbering.{IsFirstOf, HasCircle};

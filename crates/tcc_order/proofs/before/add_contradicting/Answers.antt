@@ -3,7 +3,8 @@ use Rattle.std.proofs.lemmas.Bool.{false≢true}
 use Rattle.std.proofs.lemmas.List.{take_all}
 use Rattle.tcc_order.proofs.Contradicting.{among_skipped, among_marked}
 use Rattle.tcc_order.proofs.before.add_contradicting.Goals as goal
-use Rattle.tcc_order.proofs.before.add_contradicting.Goals.{then-writer-a+then-is_marked, else-writer-a, else-writer-a-via-then-writer-a+else-is_marked, else-writer-a-via-else-writer-a}
+use Rattle.tcc_order.proofs.before.add_contradicting.Goals.{then-writer-a+then-is_marked, else-writer-a, else-writer-a-via-then-writer-a+else-is_marked}
+use Rattle.tcc_order.proofs.before.add_contradicting.Goals.{else-writer-a-via-else-writer-a}
 
 pub loop-writer-preserved : goal.loop-writer-preserved
 loop-writer-preserved c =
@@ -17,7 +18,8 @@ loop-writer-preserved c =
     elim c.if-writer-a.branch [
       | then-writer-a+then-is_marked w ↦ rw w.marks-is (
         w.mark.ensures.same ∙ inv.0,
-        among_marked old mid numbers behind a n c.loop-writer-test.true inv.1 w.mark.new.words w.if-writer-a.true (sym w.is_marked.ensures ∙ w.if-is_marked.true) w.mark.ensures.each,
+        among_marked old mid numbers behind a n c.loop-writer-test.true inv.1 w.mark.new.words w.if-writer-a.true
+            (sym w.is_marked.ensures ∙ w.if-is_marked.true) w.mark.ensures.each,
       )
       | else-writer-a w ↦ rw w.marks-is (
         inv.0,

@@ -13,12 +13,14 @@ bounds-behind-reader c =
     let h = c.args.graph.now in
     let rs = c.readings_at.result.0.now in
     let ps = c.readings_at.result.1.now in
-    let pair = reading_at h c.args.a rs (map (key_at h) ps) (named_long h c.args.a rs ps c.readings_at.ensures.long c.readings_at.ensures.each) (named_each h c.args.a rs ps c.readings_at.ensures.long c.readings_at.ensures.each) c.loop-place.place c.loop-place-test.true in
+    let pair = reading_at h c.args.a rs (map (key_at h) ps) (named_long h c.args.a rs ps c.readings_at.ensures.long c.readings_at.ensures.each)
+    (named_each h c.args.a rs ps c.readings_at.ensures.long c.readings_at.ensures.each) c.loop-place.place c.loop-place-test.true in
     omega (arith, pair.1, c.requires.long)
 
 pub add_contradicting-requires : goal.add_contradicting-requires
 add_contradicting-requires c =
-    rw (c.writers_at-writers.ensures, c.deref_mut.ensures.value) (writers_fit c.args.graph.now _ c.loop-place.marks.items (c.loop-place.invariant.0 ∙ c.requires.wide))
+    rw (c.writers_at-writers.ensures, c.deref_mut.ensures.value)
+    (writers_fit c.args.graph.now _ c.loop-place.marks.items (c.loop-place.invariant.0 ∙ c.requires.wide))
 
 pub loop-place-preserved : goal.loop-place-preserved
 loop-place-preserved c =
@@ -33,16 +35,19 @@ loop-place-preserved c =
     let r : ℕ = get_or rs k 0 in
     let x : List ℕ = get_or xs k [] in
     let pair = reading_at h a rs xs same_long (named_each h a rs ps c.readings_at.ensures.long c.readings_at.ensures.each) k c.loop-place-test.true in
-    let row : c.values.result.now ≡ marks_of behind r = c.values.ensures ∙ get_or_read behind r c.index-behind-reader.result (omega (arith, pair.1, c.requires.long)) c.index-behind-reader.is [] in
+    let row : c.values.result.now ≡ marks_of behind r
+    = c.values.ensures ∙ get_or_read behind r c.index-behind-reader.result (omega (arith, pair.1, c.requires.long)) c.index-behind-reader.is [] in
     let key : key_at h (get_or ps k 0) ≡ x = sym (named_at h a rs ps c.readings_at.ensures.long c.readings_at.ensures.each k c.loop-place-test.true) in
     let new = c.add_contradicting.new.marks in
     let mid = c.loop-place.marks.items in
-    let among : AddsAmong mid new (writers h x) (marks_of behind r) a = rw (c.deref_mut.ensures.value, c.writers_at-writers.ensures, key, row) at c.add_contradicting.ensures.each in
+    let among : AddsAmong mid new (writers h x) (marks_of behind r) a
+    = rw (c.deref_mut.ensures.value, c.writers_at-writers.ensures, key, row) at c.add_contradicting.ensures.each in
     let same : length new ≡ length mid = c.add_contradicting.ensures.same ∙ rw c.deref_mut.ensures.value refl in
     let long : c.loop-place.marks.len ≡ length mid = search rules in
     rw (take_at new _ c.loop-place.marks.len (same ∙ sym long)) (
       same ∙ c.loop-place.invariant.0,
-      contradicted_more h behind a c.args.into.now (zip rs xs) k r x mid new (omega (arith, zip-long rs xs same_long)) (zip_at rs xs k 0 [] same_long c.loop-place-test.true) c.loop-place.invariant.1 among,
+      contradicted_more h behind a c.args.into.now (zip rs xs) k r x mid new (omega (arith, zip-long rs xs same_long))
+          (zip_at rs xs k 0 [] same_long c.loop-place-test.true) c.loop-place.invariant.1 among,
     )
 
 pub returns-clause-each : goal.returns-clause-each
@@ -56,4 +61,5 @@ returns-clause-each c =
     let same_long : length rs ≡ length xs = named_long h a rs ps c.readings_at.ensures.long c.readings_at.ensures.each in
     let each = named_each h a rs ps c.readings_at.ensures.long c.readings_at.ensures.each in
     let all = take_all k (zip rs xs) (omega (arith, zip-long rs xs same_long)) in
-    rw c.new.ensures (contradicted_whole h c.args.behind.now a c.args.into.now (IsTaken (zip rs xs) k) (IsReadsPair h a) c.loop-place.marks.items (λ r x. rw all (each r x)) c.loop-place.invariant.1)
+    rw c.new.ensures (contradicted_whole h c.args.behind.now a c.args.into.now (IsTaken (zip rs xs) k) (IsReadsPair h a) c.loop-place.marks.items
+    (λ r x. rw all (each r x)) c.loop-place.invariant.1)

@@ -16,7 +16,12 @@ loop-c-init c =
     let h = c.args.graph.now in
     let n = words_for (count h) in
     let run : c.in_ok-run.run'.items ≡ replicate n 0 = search rules in
-    rw run (length-replicate n 0, λ b. (λ m. absurd (false≢true (sym (none_marked n b) ∙ m)), λ p. absurd (none_before h b p)), search rules, λ i d l. absurd (omega arith))
+    rw run (
+      length-replicate n 0,
+      λ b. (λ m. absurd (false≢true (sym (none_marked n b) ∙ m)), λ p. absurd (none_before h b p)),
+      search rules,
+      λ i d l. absurd (omega arith),
+    )
 
 pub loop-c-preserved : goal.loop-c-preserved
 loop-c-preserved c =

@@ -11,7 +11,8 @@ pub mark_each-requires : goal.mark_each-requires
 mark_each-requires c =
     let h = c.args.graph.now in
     let run : c.in_ok-marks.marks.items ≡ c.args.run.now = search rules in
-    rw (c.deref.ensures.value, c.deref_mut.ensures.value, c.in_ok-sources.ensures.found, run) (sources_fit h c.args.c c.args.run.now c.requires.wide c.in_ok-sources.ensures.sources)
+    rw (c.deref.ensures.value, c.deref_mut.ensures.value, c.in_ok-sources.ensures.found, run)
+    (sources_fit h c.args.c c.args.run.now c.requires.wide c.in_ok-sources.ensures.sources)
 
 -- the row that is made
 module _ (c : goal.After-drop-sources) where
@@ -33,8 +34,10 @@ module _ (c : goal.After-drop-sources) where
   row =
       let h = c.args.graph.now in
       let wide : length new ≡ words_for (count h) = same ∙ (rw run c.requires.wide) in
-      let marked : (b : ℕ) → (is_marked new b ≡ true) ↔ ((is_marked c.args.run.now b ≡ true) ⊎ Contains (sources h c.args.c) b) = rw (c.deref.ensures.value, c.deref_mut.ensures.value, c.in_ok-sources.ensures.found, run) at c.mark_each.ensures.each in
-      row_for (count h) (IsCausalPair h) c.args.c new wide (pairs_bounded h c.args.c) (into_row h c.args.c c.requires.below c.in_ok-sources.ensures.sources c.args.run.now new c.requires.session marked)
+      let marked : (b : ℕ) → (is_marked new b ≡ true) ↔ ((is_marked c.args.run.now b ≡ true) ⊎ Contains (sources h c.args.c) b)
+      = rw (c.deref.ensures.value, c.deref_mut.ensures.value, c.in_ok-sources.ensures.found, run) at c.mark_each.ensures.each in
+      row_for (count h) (IsCausalPair h) c.args.c new wide (pairs_bounded h c.args.c)
+      (into_row h c.args.c c.requires.below c.in_ok-sources.ensures.sources c.args.run.now new c.requires.session marked)
 
 pub returns-clause-row : goal.returns-clause-row
 returns-clause-row c = rw (made c) (row c).0

@@ -5,7 +5,8 @@ use Rattle.tcc_order.proofs.numbering.advance.Goals as goal
 pub returns-after-loop-head-clause-inside : goal.returns-after-loop-head-clause-inside
 returns-after-loop-head-clause-inside c =
     let inv = c.loop-head.invariant in
-    replaced_inside c.args.heads.now c.loop-head.heads c.args.next (c.args.next + 1) inv.0 (λ k l. inv.1 k (omega (arith, inv.0))) (length c.args.parents.now) (search rules) c.requires.inside
+    replaced_inside c.args.heads.now c.loop-head.heads c.args.next (c.args.next + 1) inv.0 (λ k l. inv.1 k (omega (arith, inv.0))) (length c.args.parents.now)
+    (search rules) c.requires.inside
 
 pub returns-after-loop-head-clause-kept : goal.returns-after-loop-head-clause-kept
 returns-after-loop-head-clause-kept c =

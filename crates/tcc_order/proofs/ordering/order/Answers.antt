@@ -22,7 +22,8 @@ pub returns-in_default : goal.returns-in_default
 returns-in_default c =
     let h = c.args.graph.now in
     let into = c.in_ok-into.into.items in
-    cycle_of_pairs (record { history = h; level = c.args.level }) into c.in_ok-into.ensures.table (rw (c.deref-in-Causal.ensures.value, c.in_default.is) at c.in_ok-order-in-Causal.ensures)
+    cycle_of_pairs (record { history = h; level = c.args.level }) into c.in_ok-into.ensures.table
+    (rw (c.deref-in-Causal.ensures.value, c.in_default.is) at c.in_ok-order-in-Causal.ensures)
 
 pub returns : goal.returns
 returns c =
@@ -37,4 +38,6 @@ returns c =
 pub first_numbering-requires-clause-parents : goal.first_numbering-requires-clause-parents
 first_numbering-requires-clause-parents c =
     let h = c.args.graph.now in
-    rw (c.deref-in-Causal.ensures.value, c.deref-in-Causal-2.ensures.value) (session_heads h c.sessions.ensures.numbered (IsCausalPair h) c.in_ok-into.into.items c.in_ok-parents.parents.items (λ b a p. p) c.in_ok-into.ensures.table c.in_ok-parents.ensures)
+    rw (c.deref-in-Causal.ensures.value, c.deref-in-Causal-2.ensures.value)
+    (session_heads h c.sessions.ensures.numbered (IsCausalPair h) c.in_ok-into.into.items c.in_ok-parents.parents.items
+    (λ b a p. p) c.in_ok-into.ensures.table c.in_ok-parents.ensures)

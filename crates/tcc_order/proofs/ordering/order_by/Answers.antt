@@ -15,11 +15,13 @@ returns c =
     let table = c.in_ok-before.before.items in
     IfOk-weaker c.first_numbering.result
     (λ found. MatchOption found (HasCircle (stands table)) (λ order. IsFirstOf (stands table) (length table) order.items))
-    (λ found. (k : Level) → IsTableOf (count h) (IsAllowedFrom (record { history = h; level = k })) c.args.behind.now → IsFound (record { history = h; level = k }) found)
+    (λ found. (k : Level) → IsTableOf (count h) (IsAllowedFrom (record { history = h; level = k })) c.args.behind.now
+    → IsFound (record { history = h; level = k }) found)
     (λ found p k allowed. found_by (record { history = h; level = k }) c.args.behind.now table found c.in_ok-before.ensures.table allowed p)
     (rw c.deref.ensures.value at c.first_numbering.ensures)
 
 pub first_numbering-requires-clause-parents : goal.first_numbering-requires-clause-parents
 first_numbering-requires-clause-parents c =
     let h = c.args.graph.now in
-    rw c.deref.ensures.value (session_heads h c.requires.numbered (IsBefore h c.args.behind.now) c.in_ok-before.before.items c.args.parents.now (λ b a p. inl p) c.in_ok-before.ensures.table c.requires.parents)
+    rw c.deref.ensures.value (session_heads h c.requires.numbered (IsBefore h c.args.behind.now) c.in_ok-before.before.items c.args.parents.now
+    (λ b a p. inl p) c.in_ok-before.ensures.table c.requires.parents)
