@@ -27,7 +27,8 @@ around links i l lt is =
     (sym (take-append-drop i links) ∙ at_drop_more (λ rest. take i links ++ rest) links i l lt)
 
 -- an end that was met, and one more
-two_ends : (end : Option ℕ) (before : List ℕ) (a : ℕ) (after : List ℕ) → before ≡ end_of end → true ≡ is_some end → shape_by (before ++ a ∷ after) ≡ ConflictCycle
+two_ends : (end : Option ℕ) (before : List ℕ) (a : ℕ) (after : List ℕ) → before ≡ end_of end → true ≡ is_some end
+    → shape_by (before ++ a ∷ after) ≡ ConflictCycle
 two_ends None before a after is some = absurd (false≢true (sym some))
 two_ends (Some e) before a after is some = ap (λ ends. shape_by (ends ++ a ∷ after)) is
 

@@ -30,7 +30,8 @@ overwritten_read : answer_text (anomaly (link.Session 1 2 ∷ link.Derived 2 1 (
 overwritten_read = rw (decimal_digit 4 (lit< tt)) refl
 
 -- two writes, both read by one transaction: both reads are used twice, and counted twice
-two_writes : answer_text (anomaly (link.Derived 1 2 (codes "x") 3 (step.Reads 1 3 (codes "x") ∷ []) ∷ link.Derived 2 1 (codes "x") 3 (step.Reads 2 3 (codes "x") ∷ []) ∷ [])
+two_writes : answer_text (anomaly
+    (link.Derived 1 2 (codes "x") 3 (step.Reads 1 3 (codes "x") ∷ []) ∷ link.Derived 2 1 (codes "x") 3 (step.Reads 2 3 (codes "x") ∷ []) ∷ [])
     (codes "init" ∷ codes "a/1" ∷ codes "b/1" ∷ codes "c/1" ∷ []))
     ≡ codes "anomaly: 4 steps, conflict-cycle\nderived a/1 -> b/1 by x, read by c/1\n  reads a/1 -> c/1 by x\n  against b/1 -> c/1 by x\nderived b/1 -> a/1 by x, read by c/1\n  reads b/1 -> c/1 by x\n  against a/1 -> c/1 by x\n"
 two_writes = rw (decimal_digit 4 (lit< tt)) refl

@@ -25,7 +25,13 @@ impl Model for Commit {
 
     ghost Value = { LabelledOrder };
 
-    ghost view = { λ c. record { level = level_in c.certificate; order = order_in c.certificate; sessions = sessions_in c.certificate; clocks = clocks_in c.certificate; labels = c.labels } };
+    ghost view = { λ c. record {
+      level = level_in c.certificate;
+      order = order_in c.certificate;
+      sessions = sessions_in c.certificate;
+      clocks = clocks_in c.certificate;
+      labels = c.labels;
+    } };
 
     ghost invariant = { λ c. ClaimsOrder c.certificate };
 }
@@ -94,7 +100,13 @@ impl Model for Anomaly {
 
     ghost Value = { LabelledCycle };
 
-    ghost view = { λ a. record { level = level_in a.certificate; links = links_in a.certificate; near = near_in a.certificate; far = far_in a.certificate; labels = a.labels } };
+    ghost view = { λ a. record {
+      level = level_in a.certificate;
+      links = links_in a.certificate;
+      near = near_in a.certificate;
+      far = far_in a.certificate;
+      labels = a.labels;
+    } };
 
     ghost invariant = { λ a. ClaimsCycle a.certificate };
 }
