@@ -1,5 +1,6 @@
 -- A snapshot that grows keeps its pairs, and so its links and cycles.
-use Rattle.std.proofs.Common.{ℕ, zero, suc, ◌≡◌, ◌<◌, ◌==◌, ◌⊎◌, inl, inr, true, List, [], ◌∷◌, ◌++◌, map, filter, filter_map, get_or, Some, refl, sym, ap, subst, ◌∙◌, arith}
+use Rattle.std.proofs.Common.{ℕ, zero, suc, ◌≡◌, ◌<◌, ◌==◌, ◌⊎◌, inl, inr, true, List, [], ◌∷◌, ◌++◌, map, filter, filter_map, get_or, Some, refl, sym, ap}
+use Rattle.std.proofs.Common.{subst, ◌∙◌, arith}
 use Rattle.std.specs.List.{Contains, cons_option}
 use Rattle.std.specs.Option.{option_eq}
 use Rattle.std.specs.FinMap.{entries}
@@ -55,7 +56,8 @@ module _ (small large : Sessions) (grows : Grows small large) where
   -- ---- sources
 
   -- the source of a read in the larger snapshot is the one that it has in the smaller
-  source_moved : (b : ℕ) (t : Stand) (x : List ℕ) (v : ℕ) → IsNumber small b t → Contains (external_reads t) (x, v) → f (source (stands small) x v) ≡ source (stands large) x v
+  source_moved : (b : ℕ) (t : Stand) (x : List ℕ) (v : ℕ) → IsNumber small b t → Contains (external_reads t) (x, v)
+      → f (source (stands small) x v) ≡ source (stands large) x v
   source_moved b t x v is reads = go (cases_eq v 0)
     where
       w : IsMoved small large b t
@@ -65,7 +67,8 @@ module _ (small large : Sessions) (grows : Grows small large) where
       here = one_source small grows.before b x v (t, is, reads)
 
       there : HasOneSource large (f b) x v
-      there = one_source large grows.later (f b) x v (w.there, w.number, subst (λ (z : List (List ℕ × ℕ)). Contains z (x, v)) (sym (same_reads t w.there w.alike)) reads)
+      there = one_source large grows.later (f b) x v
+          (w.there, w.number, subst (λ (z : List (List ℕ × ℕ)). Contains z (x, v)) (sym (same_reads t w.there w.alike)) reads)
 
       go : (v ≡ 0) ⊎ (v ≡ 0 → ⊥) → f (source (stands small) x v) ≡ source (stands large) x v
       go (inl nought) = ap f (here.initial nought) ∙ moved_zero small large ∙ sym (there.initial nought)
@@ -77,7 +80,9 @@ module _ (small large : Sessions) (grows : Grows small large) where
   -- ---- pairs
 
   moved_read : (a b : ℕ) (t : Stand) (x : List ℕ) → IsNumber small b t → Contains (reads_from h a b) x → Contains (reads_from k (f a) (f b)) x
-  moved_read a b t x is c = subst (λ (z : List ℕ). Contains (reads_from k (f a) (f b)) z) key_is (in_map (λ read. read.0) (filter (λ read. read.1 == f a) (entry_at k (f b)).reads) q' in_k)
+  moved_read a b t x is c =
+      subst (λ (z : List ℕ). Contains (reads_from k (f a) (f b)) z) key_is
+      (in_map (λ read. read.0) (filter (λ read. read.1 == f a) (entry_at k (f b)).reads) q' in_k)
     where
       w : IsMoved small large b t
       w = moves small large grows.limits grows.nested b t is
@@ -160,7 +165,8 @@ module _ (small large : Sessions) (grows : Grows small large) where
       ∙ ap (λ (z : ℕ). get_or (map (λ named. named.0) (entries small)) z []) (sym (owner_is small a v.0 v.1) ∙ same ∙ owner_is small b w.0 w.1)
       ∙ session_named small w.0 (number_stands small b w.0 w.1).0 in
       owner_is large (f a) v.2.there v.2.number
-      ∙ same_session large v.2.there w.2.there (number_stands large (f a) v.2.there v.2.number).0 (number_stands large (f b) w.2.there w.2.number).0 (v.2.alike.name ∙ name ∙ sym w.2.alike.name)
+      ∙ same_session large v.2.there w.2.there (number_stands large (f a) v.2.there v.2.number).0 (number_stands large (f b) w.2.there w.2.number).0
+      (v.2.alike.name ∙ name ∙ sym w.2.alike.name)
       ∙ sym (owner_is large (f b) w.2.there w.2.number)
 
   f_places : (n : ℕ) → 0 < n → n < count h → place k (f n) ≡ place h n

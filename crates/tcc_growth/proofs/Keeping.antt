@@ -29,7 +29,8 @@ module _ (small large : Sessions) (grows : Grows small large) where
   keeps_links level l is =
       (kept_link (history small) (history large) (number_in small large) (grown small large grows) level l is, moved_cost (number_in small large) l)
 
-  links_there : (level : Level) (s : ℕ) (links : List Link) → IsCycle (judged level small) s links → All (IsLink (judged level large)) (map (link_in small large) links)
+  links_there : (level : Level) (s : ℕ) (links : List Link) → IsCycle (judged level small) s links
+      → All (IsLink (judged level large)) (map (link_in small large) links)
   links_there level s links cycle =
       all_kept (history small) (history large) (number_in small large) (grown small large grows) level s s links cycle.1
 
@@ -45,6 +46,8 @@ module _ (small large : Sessions) (grows : Grows small large) where
       let w = keeps_cycles level s links here.cycle in
       omega (arith, there.least (number_in small large s) (map (link_in small large) links) w.0, w.1)
 
-  pub none_missing : (level : Level) (s : ℕ) (links : List Link) (n : ℕ) → IsCycle (judged level small) s links → IsFirstMissing (judged level large) (map (link_in small large) links) n → ⊥
+  pub none_missing : (level : Level) (s : ℕ) (links : List Link) (n : ℕ) → IsCycle (judged level small) s links
+      → IsFirstMissing (judged level large) (map (link_in small large) links) n → ⊥
   none_missing level s links n cycle m =
-      m.wrong (All-contains (IsLink (judged level large)) (map (link_in small large) links) m.missing (links_there level s links cycle) (m.before, m.within, m.here))
+      m.wrong (All-contains (IsLink (judged level large)) (map (link_in small large) links) m.missing (links_there level s links cycle)
+      (m.before, m.within, m.here))

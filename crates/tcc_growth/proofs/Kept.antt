@@ -57,12 +57,14 @@ module _ (f : ℕ → ℕ) where
       omega (arith, cost_cons (link_by f l) (map (link_by f) links), cost_cons l links, moved_cost l, moved_costs links)
 
   -- where each of them is a link, links lead on as they do here
-  lead_by : (j : Judged) (a b : ℕ) (links : List Link) → LeadOn a b links → All (IsLink j) (map (link_by f) links) → LinksLead j (f a) (f b) (map (link_by f) links)
+  lead_by : (j : Judged) (a b : ℕ) (links : List Link) → LeadOn a b links → All (IsLink j) (map (link_by f) links)
+      → LinksLead j (f a) (f b) (map (link_by f) links)
   lead_by j a b [] p all = ap f p
   lead_by j a b (l ∷ links) p all = (
     from_link l ∙ ap f p.0,
     All-head (IsLink j) (link_by f l) (map (link_by f) links) all,
-    subst (λ (z : ℕ). LinksLead j z (f b) (map (link_by f) links)) (sym (to_link l)) (lead_by j (link_to l) b links p.1 (All-tail (IsLink j) (link_by f l) (map (link_by f) links) all)),
+    subst (λ (z : ℕ). LinksLead j z (f b) (map (link_by f) links)) (sym (to_link l))
+        (lead_by j (link_to l) b links p.1 (All-tail (IsLink j) (link_by f l) (map (link_by f) links) all)),
   )
 
   pub cycle_by : (j : Judged) (s : ℕ) (links : List Link) → 0 < length links → LeadOn s s links → All (IsLink j) (map (link_by f) links)
@@ -90,7 +92,11 @@ module _ (h k : History) (f : ℕ → ℕ) (kept : IsKept h k f) where
 
   pub kept_writer : (b : ℕ) (x : List ℕ) → IsWriter h b x → IsWriter k (f b) x
   kept_writer zero x w = (kept.below 0 w.0, or_left _ _ (eq-eqb (f 0) 0 kept.first))
-  kept_writer (suc i) x w = (kept.below (suc i) w.0, or_right _ _ (kept.written (suc i) x (omega arith) w.0 (go (or_cases (suc i == 0) (has_name (entry_at h (suc i)).writes x) w.1))))
+  kept_writer (suc i) x w = (
+    kept.below (suc i) w.0,
+    or_right _ _
+        (kept.written (suc i) x (omega arith) w.0 (go (or_cases (suc i == 0) (has_name (entry_at h (suc i)).writes x) w.1))),
+  )
     where
       go : ((suc i == 0) ≡ true) ⊎ (has_name (entry_at h (suc i)).writes x ≡ true) → has_name (entry_at h (suc i)).writes x ≡ true
       go (inl first) = let none : suc i ≡ 0 = eqb-true (suc i) 0 first in absurd (omega arith)
@@ -112,8 +118,11 @@ module _ (h k : History) (f : ℕ → ℕ) (kept : IsKept h k f) where
 
   pub kept_leads : (a b : ℕ) (steps : List Step) → Leads h a b steps → Leads k (f a) (f b) (map (step_by f) steps)
   kept_leads a b [] p = ap f p
-  kept_leads a b (s ∷ steps) p =
-      (from_step s ∙ ap f p.0, kept_step s p.1, subst (λ (z : ℕ). Leads k z (f b) (map (step_by f) steps)) (sym (to_step s)) (kept_leads (step_to s) b steps p.2))
+  kept_leads a b (s ∷ steps) p = (
+    from_step s ∙ ap f p.0,
+    kept_step s p.1,
+    subst (λ (z : ℕ). Leads k z (f b) (map (step_by f) steps)) (sym (to_step s)) (kept_leads (step_to s) b steps p.2),
+  )
 
   pub kept_walk : (a b : ℕ) (walk : List Step) → IsWalk h a b walk → IsWalk k (f a) (f b) (map (step_by f) walk)
   kept_walk a b walk w = (omega (arith, length-map walk (step_by f), w.0), kept_leads a b walk w.1)

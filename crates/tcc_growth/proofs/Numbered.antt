@@ -32,8 +32,10 @@ module _ (s : Sessions) where
   pub of_number : (n : ℕ) → 0 < n → n < count (history s) → (t : Stand) × IsNumber s n t
   of_number zero some below = absurd (omega arith)
   of_number (suc i) some below =
-      let within : i < length (committed (stands s)) = omega (arith, length-map (committed (stands s)) (entry_of (stands s))) in
-      (get_or (committed (stands s)) i nobody, (i, within, omega arith, get_or_default (committed (stands s)) i (get_or (committed (stands s)) i nobody) nobody within))
+      let within : i < length (committed (stands s)) = omega (arith, length-map (committed (stands s)) (entry_of (stands s))) in (
+        get_or (committed (stands s)) i nobody,
+        (i, within, omega arith, get_or_default (committed (stands s)) i (get_or (committed (stands s)) i nobody) nobody within),
+      )
 
   pub number_of : (t : Stand) → Contains (stands s) t → t.txn.committed ≡ true → (n : ℕ) × IsNumber s n t
   number_of t there ended = let w = in_filter is_committed (stands s) t there ended in (w.0 + 1, (w.0, w.1, refl, w.2))

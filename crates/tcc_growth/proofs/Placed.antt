@@ -1,5 +1,6 @@
 -- Where the transactions of a snapshot stand, by name and place; in a larger one they stand there too.
-use Rattle.std.proofs.Common.{length-append, ℕ, zero, suc, ◌≡◌, ◌<◌, ◌+◌, ◌⊎◌, inl, inr, List, [], ◌∷◌, ◌++◌, length, map, get_or, Option, None, Some, append_assoc, refl, sym, ap, subst, ◌∙◌, arith}
+use Rattle.std.proofs.Common.{length-append, ℕ, zero, suc, ◌≡◌, ◌<◌, ◌+◌, ◌⊎◌, inl, inr, List, [], ◌∷◌, ◌++◌, length, map, get_or, Option, None, Some}
+use Rattle.std.proofs.Common.{append_assoc, refl, sym, ap, subst, ◌∙◌, arith}
 use Rattle.std.specs.Prelude.{unwrap_or}
 use Rattle.std.specs.List.{Contains}
 use Rattle.std.specs.FinMap.{get, entries}
@@ -34,7 +35,8 @@ stand_at session name place txn = record { session = session; name = name; place
 
 -- ---- in one session
 
-in_stands : (session : ℕ) (name : List ℕ) (from : ℕ) (txns : List Transaction) (k : ℕ) (txn : Transaction) → k < length txns → get_or txns k txn ≡ txn → Contains (stands_in session name from txns) (stand_at session name (from + k) txn)
+in_stands : (session : ℕ) (name : List ℕ) (from : ℕ) (txns : List Transaction) (k : ℕ) (txn : Transaction) → k < length txns → get_or txns k txn ≡ txn
+    → Contains (stands_in session name from txns) (stand_at session name (from + k) txn)
 in_stands session name from [] k txn l e = absurd (omega arith)
 in_stands session name from (t ∷ later) zero txn l e =
     let here : from ≡ from + 0 = omega arith in
@@ -42,7 +44,8 @@ in_stands session name from (t ∷ later) zero txn l e =
 in_stands session name from (t ∷ later) (suc k) txn l e =
     let next : from + 1 + k ≡ from + suc k = omega arith in
     after (stand_at session name from t) (stand_at session name (from + suc k) txn) (stands_in session name (from + 1) later)
-    (subst (λ (z : ℕ). Contains (stands_in session name (from + 1) later) (stand_at session name z txn)) next (in_stands session name (from + 1) later k txn (omega arith) e))
+    (subst (λ (z : ℕ). Contains (stands_in session name (from + 1) later) (stand_at session name z txn)) next
+    (in_stands session name (from + 1) later k txn (omega arith) e))
 
 -- what a transaction of a session is
 record IsIn (name : List ℕ) (session : ℕ) (from : ℕ) (txns : List Transaction) (t : Stand) : Type 0 where
@@ -53,7 +56,8 @@ record IsIn (name : List ℕ) (session : ℕ) (from : ℕ) (txns : List Transact
   place_is : t.place ≡ from + k
   txn_is : get_or txns k t.txn ≡ t.txn
 
-from_stands : (session : ℕ) (name : List ℕ) (from : ℕ) (txns : List Transaction) (t : Stand) → Contains (stands_in session name from txns) t → IsIn name session from txns t
+from_stands : (session : ℕ) (name : List ℕ) (from : ℕ) (txns : List Transaction) (t : Stand) → Contains (stands_in session name from txns) t
+    → IsIn name session from txns t
 from_stands session name from [] t (i, l, e) = absurd (omega arith)
 from_stands session name from (txn ∷ later) t (zero, l, e) =
     let at : from ≡ t.place = ap (λ (z : Stand). z.place) e in
@@ -79,9 +83,11 @@ from_stands session name from (txn ∷ later) t (suc i, l, e) =
 -- ---- in all sessions
 
 -- a transaction of a snapshot stands in the list of its session's name
-pub entry_of_stand : (session : ℕ) (es : List Named) (t : Stand) → Contains (stands_from session es) t → (e : Named) × Contains es e × (t.name ≡ e.0) × HasAt e.1 t.place t.txn
+pub entry_of_stand : (session : ℕ) (es : List Named) (t : Stand) → Contains (stands_from session es) t
+    → (e : Named) × Contains es e × (t.name ≡ e.0) × HasAt e.1 t.place t.txn
 entry_of_stand session [] t (i, l, e) = absurd (omega arith)
-entry_of_stand session (named ∷ later) t c = go (Contains-append_cases (stands_in session named.0 1 named.1) (stands_from (session + 1) later) t c) (λ d. entry_of_stand (session + 1) later t d)
+entry_of_stand session (named ∷ later) t c =
+    go (Contains-append_cases (stands_in session named.0 1 named.1) (stands_from (session + 1) later) t c) (λ d. entry_of_stand (session + 1) later t d)
   where
     go : Contains (stands_in session named.0 1 named.1) t ⊎ Contains (stands_from (session + 1) later) t
         → (Contains (stands_from (session + 1) later) t → (e : Named) × Contains later e × (t.name ≡ e.0) × HasAt e.1 t.place t.txn)
@@ -99,7 +105,8 @@ stand_of_entry session (named ∷ later) e place txn (zero, l, is) (k, within, p
     let within' : k < length named.1 = subst (λ (z : Named). k < length z.1) (sym is) within in
     let here : get_or named.1 k txn ≡ txn = subst (λ (z : Named). get_or z.1 k txn ≡ txn) (sym is) txn_is in (
       stand_at session named.0 (1 + k) txn,
-      Contains-append_left (stands_in session named.0 1 named.1) (stands_from (session + 1) later) (stand_at session named.0 (1 + k) txn) (in_stands session named.0 1 named.1 k txn within' here),
+      Contains-append_left (stands_in session named.0 1 named.1) (stands_from (session + 1) later) (stand_at session named.0 (1 + k) txn)
+          (in_stands session named.0 1 named.1 k txn within' here),
       ap (λ (z : Named). z.0) is,
       omega arith,
       refl,
@@ -132,7 +139,8 @@ carried small large nested t there = by (get large name) refl in_larger
     in_larger : HasAt (list_of large name) t.place t.txn
     in_larger =
         let w = nested name in
-        subst (λ (z : List Transaction). HasAt z t.place t.txn) (sym (w.1 ∙ ap (λ (z : List Transaction). z ++ w.0) list_is)) (has_longer from.0.1 w.0 t.place t.txn from.3)
+        subst (λ (z : List Transaction). HasAt z t.place t.txn) (sym (w.1 ∙ ap (λ (z : List Transaction). z ++ w.0) list_is))
+        (has_longer from.0.1 w.0 t.place t.txn from.3)
 
     by : (o : Option (List Transaction)) → get large name ≡ o → HasAt (unwrap_or o []) t.place t.txn → (u : Stand) × Contains (stands large) u × IsAlike t u
     by None found (k, within, place_is, txn_is) = absurd (omega arith)
@@ -155,7 +163,8 @@ named_from front session (named ∷ later) t long c =
     names = map (λ (e : Named). e.0) later
 
     go : Contains (stands_in session named.0 1 named.1) t ⊎ Contains (stands_from (session + 1) later) t
-        → (Contains (stands_from (session + 1) later) t → (t.session < length ((front ++ named.0 ∷ []) ++ names)) × (get_or ((front ++ named.0 ∷ []) ++ names) t.session [] ≡ t.name))
+        → (Contains (stands_from (session + 1) later) t
+        → (t.session < length ((front ++ named.0 ∷ []) ++ names)) × (get_or ((front ++ named.0 ∷ []) ++ names) t.session [] ≡ t.name))
         → (t.session < length (front ++ named.0 ∷ names)) × (get_or (front ++ named.0 ∷ names) t.session [] ≡ t.name)
     go (inl here) rest =
         let w = from_stands session named.0 1 named.1 t here in
@@ -163,7 +172,8 @@ named_from front session (named ∷ later) t long c =
           omega (arith, at, length-append front (named.0 ∷ names)),
           ap (λ (z : ℕ). get_or (front ++ named.0 ∷ names) z []) at ∙ get_or-append_seam front named.0 names [] ∙ sym w.name_is,
         )
-    go (inr there) rest = subst (λ (z : List (List ℕ)). (t.session < length z) × (get_or z t.session [] ≡ t.name)) (append_assoc front (named.0 ∷ []) names) (rest there)
+    go (inr there) rest =
+        subst (λ (z : List (List ℕ)). (t.session < length z) × (get_or z t.session [] ≡ t.name)) (append_assoc front (named.0 ∷ []) names) (rest there)
 
 module _ (s : Sessions) where
   abbrev names : List (List ℕ)

@@ -1,5 +1,6 @@
 -- A search for a label, place by place.
-use Rattle.std.proofs.Common.{ℕ, zero, suc, ◌∷◌, ◌≡◌, ◌<◌, ◌≤◌, ◌+◌, ◌⊎◌, inl, inr, Bool, true, false, List, [], length, map, get_or, sym, ap, subst, ◌∙◌, arith}
+use Rattle.std.proofs.Common.{ℕ, zero, suc, ◌∷◌, ◌≡◌, ◌<◌, ◌≤◌, ◌+◌, ◌⊎◌, inl, inr, Bool, true, false, List, [], length, map, get_or, sym, ap, subst, ◌∙◌}
+use Rattle.std.proofs.Common.{arith}
 use Rattle.std.specs.Str.{bytes_eq}
 use Rattle.std.proofs.lemmas.Bool.{cases_lt}
 use Rattle.std.proofs.lemmas.List.{get_or-map}
@@ -9,7 +10,8 @@ use Rattle.tcc_growth.specs.Moved.{number_among}
 abbrev pub NotBefore : List (List ℕ) → List ℕ → ℕ → Type 0
 NotBefore labels label n = (k : ℕ) → k < n → bytes_eq label (get_or labels k []) ≡ false
 
-pub found : (labels : List (List ℕ)) (label : List ℕ) (n : ℕ) → n < length labels → bytes_eq label (get_or labels n []) ≡ true → NotBefore labels label n → n ≡ number_among labels label
+pub found : (labels : List (List ℕ)) (label : List ℕ) (n : ℕ) → n < length labels → bytes_eq label (get_or labels n []) ≡ true → NotBefore labels label n
+    → n ≡ number_among labels label
 unfolding number_among
 found labels label n within here before = sym (position_or_len_is (bytes_eq label) labels n [] (omega arith) before (λ _. here))
 
@@ -18,7 +20,8 @@ unfolding number_among
 missed labels label n past before =
     sym (position_or_len_is (bytes_eq label) labels (length labels) [] (omega arith) (λ k less. before k (omega arith)) (λ less. absurd (omega arith)))
 
-pub passed : (labels : List (List ℕ)) (label : List ℕ) (n : ℕ) → bytes_eq label (get_or labels n []) ≡ false → NotBefore labels label n → NotBefore labels label (n + 1)
+pub passed : (labels : List (List ℕ)) (label : List ℕ) (n : ℕ) → bytes_eq label (get_or labels n []) ≡ false → NotBefore labels label n
+    → NotBefore labels label (n + 1)
 passed labels label n here before k less = go (cases_lt k n)
   where
     go : (k < n) ⊎ (n ≤ k) → bytes_eq label (get_or labels k []) ≡ false
@@ -26,7 +29,8 @@ passed labels label n here before k less = go (cases_lt k n)
     go (inr high) = let same : n ≡ k = omega arith in subst (λ (z : ℕ). bytes_eq label (get_or labels z []) ≡ false) same here
 
 -- the text at a place, as a read of it answers
-pub read_there : {X : Type 0} (text : X → List ℕ) (xs : List X) (n : ℕ) (x : X) (label now : List ℕ) (b : Bool) → n < length xs → x ≡ get_or xs n x → now ≡ text x → b ≡ bytes_eq label now
+pub read_there : {X : Type 0} (text : X → List ℕ) (xs : List X) (n : ℕ) (x : X) (label now : List ℕ) (b : Bool) → n < length xs → x ≡ get_or xs n x
+    → now ≡ text x → b ≡ bytes_eq label now
     → bytes_eq label (get_or (map text xs) n []) ≡ b
 read_there text xs n x label now b within is reads tests =
     ap (λ (z : List ℕ). bytes_eq label z) (get_or-map text xs n x [] within ∙ ap text (sym is) ∙ sym reads) ∙ sym tests

@@ -1,5 +1,6 @@
 -- A snapshot with an anomaly and one that continues it: the premises of the law are met, and numbers move.
-use Rattle.std.proofs.Common.{ℕ, ◌≡◌, ◌≤◌, Bool, true, false, cond, List, [], ◌∷◌, ◌++◌, length, map, sum_by, Some, None, refl, sym, ap, subst, ◌∙◌, arith, codes}
+use Rattle.std.proofs.Common.{ℕ, ◌≡◌, ◌≤◌, Bool, true, false, cond, List, [], ◌∷◌, ◌++◌, length, map, sum_by, Some, None, refl, sym, ap, subst, ◌∙◌, arith}
+use Rattle.std.proofs.Common.{codes}
 use Rattle.std.specs.Prelude.{unwrap_or}
 use Rattle.std.specs.Fmt.{digits}
 use Rattle.std.specs.FinMap.{entries, entries-from_sorted, from_sorted, get-from_sorted, len-entries, find}
@@ -96,12 +97,24 @@ abbrev cycle : List Link
 cycle = link.Session 0 1 ∷ link.Derived 1 0 x 2 (step.Session 1 2 ∷ []) ∷ []
 
 is_cycle : IsCycle (judged Causal small) 0 cycle
-is_cycle = subst (λ (z : List Named). IsCycle (record { history = history_of (map (λ named. named.0) z) (stands_from 0 z); level = Causal }) 0 cycle) (sym small_is)
-    (omega arith, (refl, refl, (refl, (((λ e. absurd (omega arith)), (omega arith, omega arith, (0, omega arith, refl)), (omega arith, refl)), ((omega arith, (refl, refl, refl)), tt)), refl)))
+is_cycle = subst (λ (z : List Named). IsCycle (record { history = history_of (map (λ named. named.0) z) (stands_from 0 z); level = Causal }) 0 cycle)
+    (sym small_is) (
+      omega arith,
+      (
+        refl,
+        refl,
+        (
+          refl,
+          (((λ e. absurd (omega arith)), (omega arith, omega arith, (0, omega arith, refl)), (omega arith, refl)), ((omega arith, (refl, refl, refl)), tt)),
+          refl,
+        ),
+      ),
+    )
 
 -- what number that of one list has in another
 abbrev number_of : List Named → List Named → ℕ → ℕ
-number_of es fs = moved (labels_of (history_of (map (λ named. named.0) es) (stands_from 0 es))) (labels_of (history_of (map (λ named. named.0) fs) (stands_from 0 fs)))
+number_of es fs =
+    moved (labels_of (history_of (map (λ named. named.0) es) (stands_from 0 es))) (labels_of (history_of (map (λ named. named.0) fs) (stands_from 0 fs)))
 
 abbrev IsShifted : List Named → List Named → Type 0
 IsShifted es fs = (number_of es fs 1 ≡ 2) × (number_of es fs 2 ≡ 3)

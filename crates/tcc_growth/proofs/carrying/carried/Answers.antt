@@ -7,4 +7,12 @@ use Rattle.tcc_growth.proofs.carrying.carried.Goals as goal
 
 pub moved_link-requires : goal.moved_link-requires
 moved_link-requires c =
-    omega (arith, ap length c.names-new.ensures, ap length c.requires, length-map c.names-new.result.now string_bytes, length-map-range_with_len (label c.args.graph.now) 0 (count c.args.graph.now), c.count-count.ensures.value, c.count-count.type_inv)
+    omega (
+      arith,
+      ap length c.names-new.ensures,
+      ap length c.requires,
+      length-map c.names-new.result.now string_bytes,
+      length-map-range_with_len (label c.args.graph.now) 0 (count c.args.graph.now),
+      c.count-count.ensures.value,
+      c.count-count.type_inv,
+    )

@@ -6,4 +6,5 @@ use Rattle.tcc_growth.proofs.moving.moved.Goals as goal
 pub returns-then-place-earlier : goal.returns-then-place-earlier
 returns-then-place-earlier c =
     c.number_of.ensures.value ∙ ap (number_among (map string_bytes c.args.later.now)) c.as_str.ensures.value
-    ∙ sym (looked string_bytes (number_among (map string_bytes c.args.later.now)) c.args.earlier.now c.args.number c.index-earlier-place.result (length (map string_bytes c.args.later.now)) c.if-place-earlier.true c.index-earlier-place.is)
+    ∙ sym (looked string_bytes (number_among (map string_bytes c.args.later.now)) c.args.earlier.now c.args.number c.index-earlier-place.result
+    (length (map string_bytes c.args.later.now)) c.if-place-earlier.true c.index-earlier-place.is)
