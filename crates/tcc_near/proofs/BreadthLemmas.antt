@@ -11,7 +11,7 @@ use Rattle.tcc_graph.specs.Walks.{IsReached}
 use Rattle.tcc_graph.specs.declared.level.Level.{Level}
 use Rattle.tcc_near.specs.Distances.{IsShortest, IsWalkDistance, IsNearOf, least_in}
 use Rattle.tcc_near.specs.Bits.{is_marked}
-use Rattle.tcc_near.specs.Breadth.{marks_of, IsPairTable, IsWithin, IsMarked, IsDistanceWithin, IsSearched, HasDistances, IsSpread, numbered, one_step, unnumbered}
+use Rattle.tcc_near.specs.Breadth.{IsWithin, IsMarked, IsDistanceWithin, IsSearched, HasDistances, IsLedTo, numbered, one_step, unnumbered}
 use Rattle.tcc_near.proofs.Walks.{within_more, within_one, within_one_from, within_pair, IsStepAfter, last_step, within_closed, within_below, shortest_at}
 use Rattle.tcc_near.specs.declared.distances.TheConstants.{NONE}
 
@@ -63,13 +63,8 @@ searched_at_start h a n long = record {
   exact = λ b below. none_is h a 0 (replicate n NONE) b (get_or-replicate n b NONE 0 (omega arith)) (λ w. absurd (omega (arith, w.1.0, w.2)));
 }
 
-pub marked_at_start : (h : History) (a : ℕ) (table : List (List ℕ)) (marks : List ℕ) → IsPairTable h table → a < count h → marks ≡ marks_of table a → IsMarked h a 1 marks
-marked_at_start h a table marks pairs below is = record {
-  exact = λ b to. (
-    λ m. within_one_from h a b (sym (pairs.exact a b below to) ∙ (sym (ap (λ r. is_marked r b) is) ∙ m)),
-    λ w. ap (λ r. is_marked r b) is ∙ (pairs.exact a b below to ∙ within_one h a b w),
-  );
-}
+pub marked_at_start : (h : History) (a : ℕ) (marks : List ℕ) → ((b : ℕ) → (is_marked marks b ≡ true) ↔ (causal_pair h a b ≡ true)) → IsMarked h a 1 marks
+marked_at_start h a marks pairs = record { exact = λ b to. (λ m. within_one_from h a b ((pairs b).0 m), λ w. (pairs b).1 (within_one h a b w)) }
 
 -- the three ways to number
 pub numbered_kept : (row : List ℕ) (marks : List ℕ) (d b : ℕ) → slice_index row b ≢ NONE → numbered row marks d b ≡ slice_index row b
@@ -100,32 +95,32 @@ searched_more h a n row new marks searched marked small same each = record { lon
     go b below (inl none) false e =
         none_is h a (n + 1) new b (each b ∙ (numbered_unmarked row marks (n + 1) b e ∙ none)) (λ w. absurd (false≢true (sym e ∙ (marked.exact b below).1 w)))
 
--- the rows of those that have the number n mark what is within n + 1 steps
-pub marked_more : (h : History) (a n : ℕ) (table : List (List ℕ)) (row : List ℕ) (marks new : List ℕ) (IsLast : ℕ → Type 0) → IsPairTable h table → IsSearched h a n row → IsMarked h a n marks → 0 < n → n < NONE
-    → ((u : ℕ) → u < count h → IsLast u ↔ (slice_index row u ≡ n)) → ((u : ℕ) → IsLast u → u < count h) → ((b : ℕ) → (is_marked new b ≡ true) ↔ IsSpread marks table IsLast b) → IsMarked h a (n + 1) new
-marked_more h a n table row marks new IsLast pairs searched marked some small lasts below_all each = record {
+-- the pairs of those that have the number n lead to what is within n + 1 steps
+pub marked_more : (h : History) (a n : ℕ) (row : List ℕ) (marks new : List ℕ) (IsLast : ℕ → Type 0) → IsSearched h a n row → IsMarked h a n marks → 0 < n → n < NONE
+    → ((u : ℕ) → u < count h → IsLast u ↔ (slice_index row u ≡ n)) → ((u : ℕ) → IsLast u → u < count h) → ((b : ℕ) → (is_marked new b ≡ true) ↔ IsLedTo h marks IsLast b) → IsMarked h a (n + 1) new
+marked_more h a n row marks new IsLast searched marked some small lasts below_all each = record {
   exact = λ b below. (λ m. sound b below ((each b).0 m), λ w. (each b).1 (complete b below (last_step h a n b some w)));
 }
   where
-    sound : (b : ℕ) → b < count h → IsSpread marks table IsLast b → IsWithin h a (n + 1) b
+    sound : (b : ℕ) → b < count h → IsLedTo h marks IsLast b → IsWithin h a (n + 1) b
     sound b below (inl m) = within_more h a n (n + 1) b (omega arith) ((marked.exact b below).0 m)
-    sound b below (inr (u, last, m)) =
+    sound b below (inr (u, last, p)) =
         let from : u < count h = below_all u last in
         let at : slice_index row u ≡ n = (lasts u from).0 last in
         let here : slice_index row u ≢ NONE = λ e. absurd (omega arith) in
         let walk = (known h a n row u searched from here).1.attained in
-        within_pair h a n u b (walk.0, walk.1.0, omega (arith, walk.2)) (sym (pairs.exact u b from below) ∙ m)
+        within_pair h a n u b (walk.0, walk.1.0, omega (arith, walk.2)) p
 
-    by : (b u : ℕ) → b < count h → causal_pair h u b ≡ true → u < count h → (slice_index row u ≤ n) × IsShortest (causally h) a u (slice_index row u) → (slice_index row u < n) ⊎ (n ≤ slice_index row u) → IsSpread marks table IsLast b
+    by : (b u : ℕ) → b < count h → causal_pair h u b ≡ true → u < count h → (slice_index row u ≤ n) × IsShortest (causally h) a u (slice_index row u) → (slice_index row u < n) ⊎ (n ≤ slice_index row u) → IsLedTo h marks IsLast b
     by b u below p from is (inr far) =
         let at : slice_index row u ≡ n = omega (arith, is.0) in
-        inr (u, (lasts u from).1 at, pairs.exact u b from below ∙ p)
+        inr (u, (lasts u from).1 at, p)
     by b u below p from is (inl low) =
         let walk = is.1.attained in
         let near = within_pair h a (slice_index row u) u b (walk.0, walk.1.0, omega (arith, walk.2)) p in
         inl ((marked.exact b below).1 (within_more h a (slice_index row u + 1) n b (omega arith) near))
 
-    complete : (b : ℕ) → b < count h → IsWithin h a n b ⊎ IsStepAfter h a n b → IsSpread marks table IsLast b
+    complete : (b : ℕ) → b < count h → IsWithin h a n b ⊎ IsStepAfter h a n b → IsLedTo h marks IsLast b
     complete b below (inl w) = inl ((marked.exact b below).1 w)
     complete b below (inr (u, walk, is, long, p)) =
         let within : IsWithin h a n u = (walk, is, omega arith) in
@@ -189,46 +184,40 @@ all_numbered row none b l e =
 pub unnumbered_at_start : (n : ℕ) → unnumbered (replicate n NONE) ≡ n
 unnumbered_at_start n = sum_by-replicate without n NONE ∙ omega arith
 
--- the pairs of the source are its distances by walks of one step
-pub row_of_steps : (h : History) (a : ℕ) (table : List (List ℕ)) (row : List ℕ) → IsPairTable h table → a < count h → length row ≡ length table
-    → ((b : ℕ) → b < length table → slice_index row b ≡ one_step (is_marked (marks_of table a) b)) → HasDistances (atomically h) a row
-row_of_steps h a table row pairs from long each = record {
-  long = long ∙ pairs.long;
-  exact = λ b to. exact b to (is_marked (marks_of table a) b) refl (read row b);
-  short = λ b n to some. short b n some (is_marked (marks_of table a) b) (entry b to) (read row b);
+-- what is within one step of the source has its distances by walks of one step
+pub row_of_steps : (h : History) (a : ℕ) (marks row : List ℕ) → IsMarked h a 1 marks → length row ≡ count h
+    → ((b : ℕ) → b < count h → slice_index row b ≡ one_step (is_marked marks b)) → HasDistances (atomically h) a row
+row_of_steps h a marks row marked long each = record {
+  long = long;
+  exact = λ b to. exact b to (is_marked marks b) refl (read row b);
+  short = λ b n to some. short b n to some (is_marked marks b) (each b to) (read row b);
 }
   where
-    entry : (b : ℕ) → b < count h → slice_index row b ≡ one_step (is_marked (marks_of table a) b)
-    entry b to = each b (omega (arith, pairs.long))
-
-    exact : (b : ℕ) → b < count h → (m : Bool) → is_marked (marks_of table a) b ≡ m → Read row b → IsWalkDistance (atomically h) a b (least_in row b)
-    exact b to true mark (inl r) = absurd (let one : slice_index row b ≡ 1 = entry b to ∙ ap one_step mark in omega (arith, one, r.0))
-    exact b to false mark (inr r) = absurd (r.0 (entry b to ∙ ap one_step mark))
-    exact b to false mark (inl r) = rw r.1 (λ walk step. false≢true (sym mark ∙ (pairs.exact a b from to ∙ within_one h a b (walk, step.0, omega (arith, step.1)))))
+    exact : (b : ℕ) → b < count h → (m : Bool) → is_marked marks b ≡ m → Read row b → IsWalkDistance (atomically h) a b (least_in row b)
+    exact b to true mark (inl r) = absurd (let one : slice_index row b ≡ 1 = each b to ∙ ap one_step mark in omega (arith, one, r.0))
+    exact b to false mark (inr r) = absurd (r.0 (each b to ∙ ap one_step mark))
+    exact b to false mark (inl r) = rw r.1 (λ walk step. false≢true (sym mark ∙ (marked.exact b to).1 (walk, step.0, omega (arith, step.1))))
     exact b to true mark (inr r) =
-        let one : slice_index row b ≡ 1 = entry b to ∙ ap one_step mark in
-        let w = within_one_from h a b (sym (pairs.exact a b from to) ∙ mark) in
+        let one : slice_index row b ≡ 1 = each b to ∙ ap one_step mark in
+        let w = (marked.exact b to).0 mark in
         let long : length w.0 ≡ 1 = omega (arith, w.1.0, w.2) in
         rw (r.1, one) record { attained = (w.0, (w.1, long), long); least = λ walk step. omega (arith, step.1) }
 
-    short : (b n : ℕ) → least_in row b ≡ Some n → (m : Bool) → slice_index row b ≡ one_step m → Read row b → n ≤ count h
-    short b n some m at (inl r) = absurd (let e : None ≡ Some n = sym r.1 ∙ some in cc)
-    short b n some true at (inr r) =
+    short : (b n : ℕ) → b < count h → least_in row b ≡ Some n → (m : Bool) → slice_index row b ≡ one_step m → Read row b → n ≤ count h
+    short b n to some m at (inl r) = absurd (let e : None ≡ Some n = sym r.1 ∙ some in cc)
+    short b n to some true at (inr r) =
         let e : Some (slice_index row b) ≡ Some n = sym r.1 ∙ some in
         let same : slice_index row b ≡ n = cc in
         omega arith
-    short b n some false at (inr r) = absurd (r.0 at)
+    short b n to some false at (inr r) = absurd (r.0 at)
 
 -- rows that are right one by one are the table
-pub near_from_rows : (h : History) (level : Level) (table : List (List ℕ)) (rows : List (List ℕ)) → IsPairTable h table
-    → (length rows ≡ length table) × ((a : ℕ) (d : List ℕ) → a < length table → (g : History) → IsPairTable g table → HasDistances (record { history = g; level = level }) a (get_or rows a d))
+pub near_from_rows : (h : History) (level : Level) (rows : List (List ℕ))
+    → (length rows ≡ count h) × ((a : ℕ) (d : List ℕ) → a < count h → HasDistances (record { history = h; level = level }) a (get_or rows a d))
     → IsNearOf (record { history = h; level = level }) (record { level = level; rows = rows })
-near_from_rows h level table rows pairs (long, each) = record {
+near_from_rows h level rows (long, each) = record {
   level = refl;
-  square = record { long = long ∙ pairs.long; wide = λ a d l. (row a d (omega (arith, pairs.long))).long };
-  exact = λ a b from to. (row a [] from).exact b to;
-  short = λ a b n from to is. (row a [] from).short b n to is;
+  square = record { long = long; wide = λ a d l. (each a d (omega (arith, long))).long };
+  exact = λ a b from to. (each a [] from).exact b to;
+  short = λ a b n from to is. (each a [] from).short b n to is;
 }
-  where
-    row : (a : ℕ) (d : List ℕ) → a < count h → HasDistances (record { history = h; level = level }) a (get_or rows a d)
-    row a d l = each a d (omega (arith, pairs.long)) h pairs

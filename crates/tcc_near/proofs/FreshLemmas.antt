@@ -6,8 +6,10 @@ use Rattle.std.proofs.lemmas.List.{get_or-set_same, get_or-set_other, take_more}
 use Rattle.std.proofs.lemmas.List.Elements.{All-weaker, All-contains_itself, Contains-append_left, Contains-push, Contains-push_cases}
 use Rattle.std.proofs.lemmas.List.Sums.{sum_by-set}
 use Rattle.tcc_near.specs.Bits.{is_marked, IsFresh, IsRowOf}
-use Rattle.tcc_near.specs.Breadth.{numbered, unnumbered, IsSeen, IsSpread, AreDeltas, IsTaken, IsTakenAfter, marks_of}
-use Rattle.tcc_near.proofs.BitLemmas.{marked_within}
+use Rattle.tcc_near.specs.Breadth.{numbered, unnumbered, IsSeen, IsLedTo}
+use Rattle.tcc_graph.specs.Relations.{causal_pair}
+use Rattle.tcc_graph.proofs.Pairs.{pair_kinds, pair_below}
+use Rattle.tcc_reads.specs.History.{History, count}
 use Rattle.tcc_near.proofs.BreadthLemmas.{numbered_kept, numbered_unmarked, numbered_new}
 use Rattle.tcc_near.specs.declared.distances.TheConstants.{NONE}
 
@@ -67,143 +69,42 @@ mark_more old mid new numbers n inside before now b = (λ m. onward (is_marked m
         go (inl was) = old_one ((before b).1 (inr was))
         go (inr is) = now b ∙ (ap (λ x. is_marked mid b || x) (eq-eqb b (get_or numbers n 0) (sym is)) ∙ or_true (is_marked mid b))
 
--- what a row has more than the row before it, whose number is seen
-pub taken_delta : (table deltas : List (List ℕ)) (seen old new : List ℕ) (u : ℕ) → AreDeltas table deltas → 0 < u → u < length table → is_marked seen (u - 1) ≡ true
-    → ((b : ℕ) → (is_marked new b ≡ true) ↔ ((is_marked old b ≡ true) ⊎ Contains (marks_of deltas u) b)) → IsTakenAfter table seen new u
-taken_delta table deltas seen old new u are some inside before each b mark = go (is_marked (marks_of table (u - 1)) b) refl
+-- nothing led on yet
+pub led_none : (h : History) (old fresh : List ℕ) (b : ℕ) → (is_marked old b ≡ true) ↔ IsLedTo h old (Contains (take 0 fresh)) b
+led_none h old fresh b = (inl, back)
   where
-    go : (m : Bool) → is_marked (marks_of table (u - 1)) b ≡ m → (is_marked new b ≡ true) ⊎ ((0 < u) × (is_marked seen (u - 1) ≡ true) × (is_marked (marks_of table (u - 1)) b ≡ true))
-    go true m = inr (some, before, m)
-    go false m = inl ((each b).1 (inr ((are.each u some inside b).1 (mark, m))))
+    back : IsLedTo h old (Contains (take 0 fresh)) b → is_marked old b ≡ true
+    back (inl m) = m
+    back (inr (u, c, p)) = absurd (nothing_in u c)
 
--- what stands in such a row is among the words of the row that it is taken from
-pub delta_inside : (table deltas : List (List ℕ)) (u : ℕ) → AreDeltas table deltas → 0 < u → u < length table → All (λ b. b / 64 < length (marks_of table u)) (marks_of deltas u)
-delta_inside table deltas u are some inside = λ k d l.
-    let c = All-contains_itself (marks_of deltas u) k d l in
-    let low = marked_within (marks_of table u) (get_or (marks_of deltas u) k d) ((are.each u some inside (get_or (marks_of deltas u) k d)).0 c).0 in
-    omega (arith, low)
-
-pub sound_delta : (table deltas : List (List ℕ)) (old new : List ℕ) (u : ℕ) → AreDeltas table deltas → 0 < u → u < length table
-    → ((b : ℕ) → (is_marked new b ≡ true) ↔ ((is_marked old b ≡ true) ⊎ Contains (marks_of deltas u) b)) → (b : ℕ) → is_marked new b ≡ true → (is_marked old b ≡ true) ⊎ (is_marked (marks_of table u) b ≡ true)
-sound_delta table deltas old new u are some inside each b mark = go ((each b).0 mark)
+-- one more leads on
+pub led_more : (h : History) (old mid new fresh : List ℕ) (n : ℕ) → n < length fresh → ((b : ℕ) → (is_marked mid b ≡ true) ↔ IsLedTo h old (Contains (take n fresh)) b)
+    → ((b : ℕ) → (is_marked new b ≡ true) ↔ ((is_marked mid b ≡ true) ⊎ (causal_pair h (get_or fresh n 0) b ≡ true))) → (b : ℕ) → (is_marked new b ≡ true) ↔ IsLedTo h old (Contains (take (n + 1) fresh)) b
+led_more h old mid new fresh n inside before now b = (λ m. onward ((now b).0 m), back)
   where
-    go : (is_marked old b ≡ true) ⊎ Contains (marks_of deltas u) b → (is_marked old b ≡ true) ⊎ (is_marked (marks_of table u) b ≡ true)
-    go (inl m) = inl m
-    go (inr c) = inr ((are.each u some inside b).0 c).0
+    more : IsLedTo h old (Contains (take n fresh)) b → IsLedTo h old (Contains (take (n + 1) fresh)) b
+    more (inl m) = inl m
+    more (inr (u, c, p)) = inr (u, still_taken fresh n inside u c, p)
 
--- where two rows are joined, what one of them marks is marked, and nothing else
-pub or_left : (m n : Bool) → m ≡ true → (m || n) ≡ true
-or_left m n e = ap (λ x. x || n) e
+    onward : (is_marked mid b ≡ true) ⊎ (causal_pair h (get_or fresh n 0) b ≡ true) → IsLedTo h old (Contains (take (n + 1) fresh)) b
+    onward (inl m) = more ((before b).0 m)
+    onward (inr p) = inr (get_or fresh n 0, last_taken fresh n inside, p)
 
-pub or_right : (m n : Bool) → n ≡ true → (m || n) ≡ true
-or_right true n e = refl
-or_right false n e = e
+    by : (u : ℕ) → causal_pair h u b ≡ true → Contains (take n fresh) u ⊎ (get_or fresh n 0 ≡ u) → is_marked new b ≡ true
+    by u p (inl was) = (now b).1 (inl ((before b).1 (inr (u, was, p))))
+    by u p (inr is) = (now b).1 (inr (subst (λ (z : ℕ). causal_pair h z b ≡ true) (sym is) p))
 
-pub or_either : (m n : Bool) → (m || n) ≡ true → (m ≡ true) ⊎ (n ≡ true)
-or_either true n e = inl refl
-or_either false n e = inr e
+    back : IsLedTo h old (Contains (take (n + 1) fresh)) b → is_marked new b ≡ true
+    back (inl m) = (now b).1 (inl ((before b).1 (inl m)))
+    back (inr (u, c, p)) = by u p (one_of_taken fresh n inside u c)
 
--- what was taken in so far
-pub record IsSpreadSo (old : List ℕ) (table : List (List ℕ)) (seen new : List ℕ) (IsOne : ℕ → Type 0) : Type 0 where
-  pub long : length new ≡ length old
-  pub kept : (b : ℕ) → is_marked old b ≡ true → is_marked new b ≡ true
-  pub sound : (b : ℕ) → is_marked new b ≡ true → IsSpread old table IsOne b
-  pub taken : (u : ℕ) → IsOne u → IsTakenAfter table seen new u
-
-pub spread_none : (old : List ℕ) (table : List (List ℕ)) (seen fresh : List ℕ) → IsSpreadSo old table seen old (Contains (take 0 fresh))
-spread_none old table seen fresh = record {
-  long = refl;
-  kept = λ b m. m;
-  sound = λ b m. inl m;
-  taken = λ u c. absurd (nothing_in u c);
-}
-
--- one more row
-pub spread_more : (old mid new : List ℕ) (table : List (List ℕ)) (seen fresh : List ℕ) (n : ℕ) → n < length fresh → IsSpreadSo old table seen mid (Contains (take n fresh)) → length new ≡ length mid
-    → ((b : ℕ) → is_marked mid b ≡ true → is_marked new b ≡ true) → ((b : ℕ) → is_marked new b ≡ true → (is_marked mid b ≡ true) ⊎ (is_marked (marks_of table (get_or fresh n 0)) b ≡ true))
-    → IsTakenAfter table seen new (get_or fresh n 0) → IsSpreadSo old table seen new (Contains (take (n + 1) fresh))
-spread_more old mid new table seen fresh n inside before same kept sound taken = record {
-  long = same ∙ before.long;
-  kept = λ b m. kept b (before.kept b m);
-  sound = λ b m. go b (sound b m);
-  taken = λ u c b m. whole u b m (one_of_taken fresh n inside u c);
-}
+-- marks of transactions stay marks of transactions
+pub led_row : (h : History) (marks new : List ℕ) (IsOne : ℕ → Type 0) → IsRowOf (count h) marks → length new ≡ length marks → ((b : ℕ) → (is_marked new b ≡ true) ↔ IsLedTo h marks IsOne b) → IsRowOf (count h) new
+led_row h marks new IsOne row same led = record { wide = same ∙ row.wide; inside = λ b mark. go b ((led b).0 mark) }
   where
-    more : (b : ℕ) → IsSpread old table (Contains (take n fresh)) b → IsSpread old table (Contains (take (n + 1) fresh)) b
-    more b (inl m) = inl m
-    more b (inr (u, c, m)) = inr (u, still_taken fresh n inside u c, m)
-
-    go : (b : ℕ) → (is_marked mid b ≡ true) ⊎ (is_marked (marks_of table (get_or fresh n 0)) b ≡ true) → IsSpread old table (Contains (take (n + 1) fresh)) b
-    go b (inl m) = more b (before.sound b m)
-    go b (inr m) = inr (get_or fresh n 0, last_taken fresh n inside, m)
-
-    later : (u b : ℕ) → (is_marked mid b ≡ true) ⊎ ((0 < u) × (is_marked seen (u - 1) ≡ true) × (is_marked (marks_of table (u - 1)) b ≡ true))
-        → (is_marked new b ≡ true) ⊎ ((0 < u) × (is_marked seen (u - 1) ≡ true) × (is_marked (marks_of table (u - 1)) b ≡ true))
-    later u b (inl m) = inl (kept b m)
-    later u b (inr r) = inr r
-
-    whole : (u b : ℕ) → is_marked (marks_of table u) b ≡ true → Contains (take n fresh) u ⊎ (get_or fresh n 0 ≡ u)
-        → (is_marked new b ≡ true) ⊎ ((0 < u) × (is_marked seen (u - 1) ≡ true) × (is_marked (marks_of table (u - 1)) b ≡ true))
-    whole u b m (inl was) = later u b (before.taken u was b m)
-    whole u b m (inr is) = subst (λ (x : ℕ). IsTakenAfter table seen new x) is taken b m
-
--- one number after another, all rows are taken in
-pub spread_whole : (old new : List ℕ) (table : List (List ℕ)) (seen fresh : List ℕ) → IsSpreadSo old table seen new (Contains fresh)
-    → ((u : ℕ) → is_marked seen u ≡ true → Contains fresh u ⊎ ((b : ℕ) → is_marked (marks_of table u) b ≡ true → is_marked old b ≡ true))
-    → (b : ℕ) → (is_marked new b ≡ true) ↔ IsSpread old table (Contains fresh) b
-spread_whole old new table seen fresh so known b = (so.sound b, back)
-  where
-    all_in : (u : ℕ) → Contains fresh u → is_marked (marks_of table u) b ≡ true → is_marked new b ≡ true
-    all_in zero c m = go (so.taken zero c b m)
-      where
-        go : (is_marked new b ≡ true) ⊎ ((0 < zero) × (is_marked seen (zero - 1) ≡ true) × (is_marked (marks_of table (zero - 1)) b ≡ true)) → is_marked new b ≡ true
-        go (inl m) = m
-        go (inr r) = absurd (omega (arith, r.0))
-    all_in (suc u) c m = go (λ d n. all_in u d n) (so.taken (suc u) c b m)
-      where
-        last : (Contains fresh u → is_marked (marks_of table u) b ≡ true → is_marked new b ≡ true) → Contains fresh u ⊎ ((b : ℕ) → is_marked (marks_of table u) b ≡ true → is_marked old b ≡ true) → is_marked (marks_of table u) b ≡ true → is_marked new b ≡ true
-        last below (inl d) n = below d n
-        last below (inr was) n = so.kept b (was b n)
-
-        go : (Contains fresh u → is_marked (marks_of table u) b ≡ true → is_marked new b ≡ true)
-            → (is_marked new b ≡ true) ⊎ ((0 < suc u) × (is_marked seen (suc u - 1) ≡ true) × (is_marked (marks_of table (suc u - 1)) b ≡ true)) → is_marked new b ≡ true
-        go below (inl m) = m
-        go below (inr (some, at, n)) =
-            let e : suc u - 1 ≡ u = omega arith in
-            let seen_at : is_marked seen u ≡ true = subst (λ (x : ℕ). is_marked seen x ≡ true) e at in
-            last below (known u seen_at) (subst (λ (x : ℕ). is_marked (marks_of table x) b ≡ true) e n)
-
-    back : IsSpread old table (Contains fresh) b → is_marked new b ≡ true
-    back (inl m) = so.kept b m
-    back (inr (u, c, m)) = all_in u c m
-
--- what is seen now is fresh, or its row was taken in before
-pub seen_taken : (table : List (List ℕ)) (marks seen now fresh : List ℕ) → IsFresh seen marks fresh → IsTaken table marks (λ u. is_marked seen u ≡ true) → ((b : ℕ) → is_marked now b ≡ (is_marked seen b || is_marked marks b))
-    → (u : ℕ) → is_marked now u ≡ true → Contains fresh u ⊎ ((b : ℕ) → is_marked (marks_of table u) b ≡ true → is_marked marks b ≡ true)
-seen_taken table marks seen now fresh is taken joined u mark = go (is_marked seen u) refl (is_marked marks u) refl (sym (joined u) ∙ mark)
-  where
-    go : (s : Bool) → is_marked seen u ≡ s → (m : Bool) → is_marked marks u ≡ m → (is_marked seen u || is_marked marks u) ≡ true → Contains fresh u ⊎ ((b : ℕ) → is_marked (marks_of table u) b ≡ true → is_marked marks b ≡ true)
-    go true s m _ e = inr (λ b n. taken u b s n)
-    go false s true m e = inl ((is u).1 (m, s))
-    go false s false m e = absurd (false≢true (sym (rw (s, m) refl) ∙ e))
-
--- then all rows of what is seen are taken in
-pub taken_more : (table : List (List ℕ)) (marks new now fresh : List ℕ) → ((u : ℕ) → is_marked now u ≡ true → Contains fresh u ⊎ ((b : ℕ) → is_marked (marks_of table u) b ≡ true → is_marked marks b ≡ true))
-    → ((b : ℕ) → (is_marked new b ≡ true) ↔ IsSpread marks table (Contains fresh) b) → IsTaken table new (λ u. is_marked now u ≡ true)
-taken_more table marks new now fresh known spread u b s m = go (known u s)
-  where
-    go : Contains fresh u ⊎ ((b : ℕ) → is_marked (marks_of table u) b ≡ true → is_marked marks b ≡ true) → is_marked new b ≡ true
-    go (inl c) = (spread b).1 (inr (u, c, m))
-    go (inr was) = (spread b).1 (inl (was b m))
-
--- a row that takes in rows for the same numbers is one
-pub spread_row : (table : List (List ℕ)) (n : ℕ) (marks new : List ℕ) (IsOne : ℕ → Type 0) → IsRowOf n marks → length new ≡ length marks → All (IsRowOf n) table → ((u : ℕ) → IsOne u → u < length table)
-    → ((b : ℕ) → (is_marked new b ≡ true) ↔ IsSpread marks table IsOne b) → IsRowOf n new
-spread_row table n marks new IsOne row same rows within spread = record { wide = same ∙ row.wide; inside = λ b mark. go b ((spread b).0 mark) }
-  where
-    go : (b : ℕ) → IsSpread marks table IsOne b → b < n
+    go : (b : ℕ) → IsLedTo h marks IsOne b → b < count h
     go b (inl mark) = row.inside b mark
-    go b (inr (u, one, mark)) = (rows u [] (within u one)).inside b mark
+    go b (inr (u, one, p)) = (pair_below h u b (pair_kinds h u b p)).1
 
 -- ---- numbering
 -- whether a distance is none, as a number

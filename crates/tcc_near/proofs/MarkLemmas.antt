@@ -1,17 +1,15 @@
--- Marks between two numbers, and marks of those that read.
-use Rattle.std.proofs.Common.{◌≡◌, ◌≢◌, ◌<◌, ◌≤◌, ◌+◌, ◌-◌, ◌*◌, ◌/◌, ◌%◌, ◌^◌, ◌==◌, ◌||◌, ◌↔◌, ◌⊎◌, inl, inr, ℕ, zero, suc, Bool, true, false, List, [], ◌∷◌, length, get_or, set, slice_index, refl, sym, ◌∙◌, ap, arith, subst, w64}
-use Rattle.std.specs.Prelude.{bit_and, zip}
-use Rattle.std.specs.Int.{bit_at, bit_not}
+-- Marks between two numbers, suffixes of sessions, and marks of those that read.
+use Rattle.std.proofs.Common.{◌≡◌, ◌≢◌, ◌<◌, ◌≤◌, ◌+◌, ◌-◌, ◌/◌, ◌==◌, ◌||◌, ◌↔◌, ◌⊎◌, inl, inr, ℕ, zero, suc, Bool, true, false, List, [], ◌∷◌, length, length-set, get_or, set, slice_index, refl, sym, ◌∙◌, ap, arith, subst}
+use Rattle.std.specs.Prelude.{zip}
 use Rattle.std.specs.List.{All, Contains}
 use Rattle.std.proofs.lemmas.Bool.{cases_eq, cases_lt, false≢true, or_cases, or_left, or_right, eqb-true, eq-eqb}
-use Rattle.std.proofs.lemmas.Nat.Bits.{bit_at-zero, bit_at_clear_same, bit_at_clear_other}
 use Rattle.std.proofs.lemmas.List.{get_or-set_same, get_or-set_other, get_or_default}
+use Rattle.std.proofs.lemmas.List.Elements.{All-contains_itself}
 use Rattle.tcc_reads.specs.History.{History, count}
-use Rattle.tcc_graph.specs.Relations.{IsSessionPair, IsReadsPair, IsCausalPair, causal_pair}
+use Rattle.tcc_graph.specs.Relations.{IsReadsPair, IsCausalPair, causal_pair}
 use Rattle.tcc_graph.proofs.Pairs.{pair_kinds, pair_from_kinds, pair_below}
-use Rattle.tcc_near.specs.Bits.{is_marked, words_for, IsRowOf}
-use Rattle.tcc_near.specs.Breadth.{IsPairRow, IsPairTable}
-use Rattle.tcc_near.proofs.BitLemmas.{bit_from, marked_from, unmarked_from, unmarked_past}
+use Rattle.tcc_near.specs.Bits.{is_marked, words_for, IsRowOf, IsFresh}
+use Rattle.tcc_near.specs.Breadth.{IsSessionEnd, IsPairsFrom, AreSuffixes}
 
 -- ---- marks that are joined
 pub or_marks : (old other new : Bool) → new ≡ (old || other) → (new ≡ true) ↔ ((old ≡ true) ⊎ (other ≡ true))
@@ -20,46 +18,6 @@ or_marks old other new is = (λ m. or_cases old other (sym is ∙ m), back)
     back : (old ≡ true) ⊎ (other ≡ true) → new ≡ true
     back (inl o) = is ∙ or_left _ _ o
     back (inr o) = is ∙ or_right _ _ o
-
--- ---- a mark that is taken away
-module _ (words : List ℕ) (p : ℕ) (inside : p / 64 < length words) where
-  abbrev pub word : ℕ
-  word = bit_and (slice_index words (p / 64)) (bit_not w64 (1 * 2 ^ (p % 64) % 2 ^ 64))
-
-  abbrev pub left : List ℕ
-  left = set words (p / 64) word
-
-  abbrev bit : List ℕ → ℕ → ℕ
-  bit ws b = bit_at (slice_index ws (b / 64)) (b % 64)
-
-  gone : bit left p ≡ 0
-  gone = ap (λ w. bit_at w (p % 64)) (get_or-set_same words (p / 64) word 0 inside) ∙ bit_at_clear_same w64 (slice_index words (p / 64)) (p % 64) (omega arith)
-
-  others : (b : ℕ) → b ≢ p → bit left b ≡ bit words b
-  others b other = go (cases_eq (b / 64) (p / 64))
-    where
-      go : (b / 64 ≡ p / 64) ⊎ (b / 64 ≢ p / 64) → bit left b ≡ bit words b
-      go (inr far) = ap (λ w. bit_at w (b % 64)) (get_or-set_other words (p / 64) (b / 64) word 0 far)
-      go (inl near) =
-          let apart : b % 64 ≢ p % 64 = λ e. other (omega arith) in
-          rw near (ap (λ w. bit_at w (b % 64)) (get_or-set_same words (p / 64) word 0 inside) ∙ bit_at_clear_other w64 (slice_index words (p / 64)) (p % 64) (omega arith) (b % 64) (omega arith) apart)
-
-  pub marked_clear : (b : ℕ) → (is_marked left b ≡ true) ↔ ((is_marked words b ≡ true) × (b ≢ p))
-  marked_clear b = (onward, λ h. marked_from left b (others b h.1 ∙ bit_from words b h.0))
-    where
-      onward : is_marked left b ≡ true → (is_marked words b ≡ true) × (b ≢ p)
-      onward m = (marked_from words b (sym (others b apart) ∙ bit_from left b m), apart)
-        where
-          apart : b ≢ p
-          apart same = false≢true (sym (unmarked_from left p gone) ∙ (ap (is_marked left) (sym same) ∙ m))
-
--- words that are 0 mark nothing
-pub zeros_marked : (words : List ℕ) → ((k : ℕ) → k < length words → get_or words k 0 ≡ 0) → (b : ℕ) → is_marked words b ≡ false
-zeros_marked words zeros b = go (cases_lt (b / 64) (length words))
-  where
-    go : (b / 64 < length words) ⊎ (length words ≤ b / 64) → is_marked words b ≡ false
-    go (inl inside) = unmarked_from words b (rw (zeros (b / 64) inside) (bit_at-zero (b % 64)))
-    go (inr past) = unmarked_past words b past
 
 -- ---- marks between two numbers
 abbrev pub AddsBetween : List ℕ → List ℕ → ℕ → ℕ → Type 0
@@ -94,31 +52,53 @@ between_more old mid new first n from before now b = (λ m. there (both.0 m), ba
     back (inl m) = both.1 (inl ((before b).1 (inl m)))
     back (inr w) = by w (cases_eq b n)
 
--- the first one is taken away
-pub between_less : (old new : List ℕ) (first end : ℕ) → 0 < first → ((b : ℕ) → (is_marked old b ≡ true) ↔ ((first ≤ b + 1) × (b < end)))
-    → ((b : ℕ) → (is_marked new b ≡ true) ↔ ((is_marked old b ≡ true) × (b ≢ first - 1))) → (b : ℕ) → (is_marked new b ≡ true) ↔ ((first ≤ b) × (b < end))
-between_less old new first end some before now b = (onward, back)
+-- what stands from `known` on is marked
+pub between_known : (old new : List ℕ) (first known end : ℕ) → known ≤ end → ((b : ℕ) → known ≤ b → b < end → is_marked old b ≡ true) → AddsBetween old new first known → AddsBetween old new first end
+between_known old new first known end low marked is b = (λ m. onward ((is b).0 m), back)
   where
-    onward : is_marked new b ≡ true → (first ≤ b) × (b < end)
-    onward m =
-        let is = (now b).0 m in
-        let was = (before b).0 is.0 in
-        (go (cases_lt b first) is.1 was.0, was.1)
-      where
-        go : (b < first) ⊎ (first ≤ b) → b ≢ first - 1 → first ≤ b + 1 → first ≤ b
-        go (inl low) other near = absurd (other (omega arith))
-        go (inr high) other near = high
+    onward : (is_marked old b ≡ true) ⊎ ((first ≤ b) × (b < known)) → (is_marked old b ≡ true) ⊎ ((first ≤ b) × (b < end))
+    onward (inl m) = inl m
+    onward (inr w) = inr (w.0, omega (arith, w.1))
 
-    back : (first ≤ b) × (b < end) → is_marked new b ≡ true
-    back w = (now b).1 ((before b).1 (omega (arith, w.0), w.1), λ e. absurd (omega (arith, w.0, e)))
+    by : (first ≤ b) × (b < end) → (b < known) ⊎ (known ≤ b) → is_marked new b ≡ true
+    by w (inl before) = (is b).1 (inr (w.0, before))
+    by w (inr from) = (is b).1 (inl (marked b from w.1))
 
--- from no marks
-pub between_alone : (old new : List ℕ) (first end : ℕ) → ((b : ℕ) → is_marked old b ≡ false) → AddsBetween old new first end → (b : ℕ) → (is_marked new b ≡ true) ↔ ((first ≤ b) × (b < end))
-between_alone old new first end none is b = (λ m. go ((is b).0 m), λ w. (is b).1 (inr w))
+    back : (is_marked old b ≡ true) ⊎ ((first ≤ b) × (b < end)) → is_marked new b ≡ true
+    back (inl m) = (is b).1 (inl m)
+    back (inr w) = by w (cases_lt b known)
+
+-- all of these are marked
+pub between_marked : (old : List ℕ) (first end : ℕ) → ((b : ℕ) → first ≤ b → b < end → is_marked old b ≡ true) → AddsBetween old old first end
+between_marked old first end marked b = (inl, back)
   where
-    go : (is_marked old b ≡ true) ⊎ ((first ≤ b) × (b < end)) → (first ≤ b) × (b < end)
-    go (inl m) = absurd (false≢true (sym (none b) ∙ m))
-    go (inr w) = w
+    back : (is_marked old b ≡ true) ⊎ ((first ≤ b) × (b < end)) → is_marked old b ≡ true
+    back (inl m) = m
+    back (inr w) = marked b w.0 w.1
+
+-- ---- suffixes
+-- no suffix yet
+pub suffixes_none : (suffixes words : List ℕ) → ((last : ℕ) → last < length suffixes → last < slice_index suffixes last) → AreSuffixes suffixes words
+suffixes_none suffixes words none last b inside from to = absurd (omega (arith, none last inside))
+
+-- more marks
+pub suffixes_kept : (suffixes old new : List ℕ) → AreSuffixes suffixes old → ((b : ℕ) → is_marked old b ≡ true → is_marked new b ≡ true) → AreSuffixes suffixes new
+suffixes_kept suffixes old new are kept last b inside from to = kept b (are last b inside from to)
+
+-- what is marked up to the end of a session is its suffix
+pub suffixes_set : (suffixes old new : List ℕ) (first end : ℕ) → 0 < end → end ≤ length suffixes → AreSuffixes suffixes old → AddsBetween old new first end → AreSuffixes (set suffixes (end - 1) first) new
+suffixes_set suffixes old new first end some within are is last b inside from to = go (cases_eq last (end - 1))
+  where
+    long : length (set suffixes (end - 1) first) ≡ length suffixes
+    long = length-set suffixes (end - 1) first
+
+    go : (last ≡ end - 1) ⊎ (last ≢ end - 1) → is_marked new b ≡ true
+    go (inl same) =
+        let at : slice_index (set suffixes (end - 1) first) last ≡ first = rw same (get_or-set_same suffixes (end - 1) first 0 (omega (arith, some, within))) in
+        (is b).1 (inr (omega (arith, at, from), omega (arith, same, to, some)))
+    go (inr other) =
+        let at : slice_index (set suffixes (end - 1) first) last ≡ slice_index suffixes last = get_or-set_other suffixes (end - 1) last first 0 other in
+        (is b).1 (inl (are last b (omega (arith, long, inside)) (omega (arith, at, from)) to))
 
 -- ---- those that read
 pub zip_at : {X : Type 0} (rs : List ℕ) (xs : List X) (k e : ℕ) (d : X) → length rs ≡ length xs → k < length rs → get_or (zip rs xs) k (e, d) ≡ (get_or rs k e, get_or xs k d)
@@ -156,41 +136,80 @@ module _ (h : History) (a : ℕ) (rs : List ℕ) (xs : List (List ℕ)) (long : 
   reader_of : (c : ℕ) → Contains rs c → (x : List ℕ) × IsReadsPair h a c x
   reader_of c (k, l, e) = (get_or xs k [], subst (λ (z : ℕ). IsReadsPair h a z (get_or xs k [])) (sym (get_or_default rs k c 0 l) ∙ e) (reading_at k l))
 
-  pub readers_fit : (words : List ℕ) → length words ≡ words_for (count h) → All (λ c. c / 64 < length words) rs
-  readers_fit words wide = λ k d l.
+  pub readings_fit : (words : List ℕ) → length words ≡ words_for (count h) → All (λ c. c / 64 < length words) rs
+  readings_fit words wide = λ k d l.
       let at = reading_at k l in
       let same : get_or rs k d ≡ get_or rs k 0 = get_or_default rs k d 0 l in
       omega (arith, at.1, same, wide)
 
-  -- session pairs and readers make the causal pairs
-  module _ (run row : List ℕ) (session : (b : ℕ) → (is_marked run b ≡ true) ↔ IsSessionPair h a b) (now : (b : ℕ) → (is_marked row b ≡ true) ↔ ((is_marked run b ≡ true) ⊎ Contains rs b)) where
-    kinds : (b : ℕ) → (is_marked row b ≡ true) ↔ IsCausalPair h a b
-    kinds b = (λ m. onward ((now b).0 m), λ p. (now b).1 (back p))
-      where
-        onward : (is_marked run b ≡ true) ⊎ Contains rs b → IsCausalPair h a b
-        onward (inl m) = inl ((session b).0 m)
-        onward (inr c) = inr (reader_of b c)
+  -- session pairs and the readers beside them make the causal pairs
+  pub pairs_apart : (later marks others : List ℕ) (end : ℕ) → IsSessionEnd h a end → ((b : ℕ) → (is_marked later b ≡ true) ↔ ((a + 1 ≤ b) × (b < end)))
+      → ((b : ℕ) → (is_marked marks b ≡ true) ↔ Contains rs b) → IsFresh later marks others → IsPairsFrom h a end others
+  pairs_apart later marks others end is session readers fresh b = (λ p. by (pair_kinds h a b p), back)
+    where
+      apart : (m : Bool) → is_marked later b ≡ m → Contains rs b → ((a + 1 ≤ b) × (b < end)) ⊎ Contains others b
+      apart true m c = inl ((session b).0 m)
+      apart false m c = inr ((fresh b).1 ((readers b).1 c, m))
 
-        back : IsCausalPair h a b → (is_marked run b ≡ true) ⊎ Contains rs b
-        back (inl p) = inl ((session b).1 p)
-        back (inr (x, pair)) = inr (reader_in b x pair)
+      by : IsCausalPair h a b → ((a + 1 ≤ b) × (b < end)) ⊎ Contains others b
+      by (inl p) = inl ((is.pairs b).0 p)
+      by (inr (x, pair)) = apart (is_marked later b) refl (reader_in b x pair)
 
-    pub pairs_row : length row ≡ words_for (count h) → IsRowOf (count h) row
-    pairs_row wide = record { wide = wide; inside = λ b m. (pair_below h a b ((kinds b).0 m)).1 }
+      back : ((a + 1 ≤ b) × (b < end)) ⊎ Contains others b → causal_pair h a b ≡ true
+      back (inl w) = pair_from_kinds h a b (inl ((is.pairs b).1 w))
+      back (inr c) = pair_from_kinds h a b (inr (reader_of b ((readers b).0 ((fresh b).0 c).0)))
 
-    pub pairs_exact : (b : ℕ) → is_marked row b ≡ causal_pair h a b
-    pairs_exact b = go (is_marked row b) refl (causal_pair h a b) refl
-      where
-        go : (m : Bool) → is_marked row b ≡ m → (p : Bool) → causal_pair h a b ≡ p → m ≡ p
-        go true m true p = refl
-        go false m false p = refl
-        go true m false p = absurd (false≢true (sym p ∙ pair_from_kinds h a b ((kinds b).0 m)))
-        go false m true p = absurd (false≢true (sym m ∙ (kinds b).1 (pair_kinds h a b p)))
+module _ (h : History) (a end : ℕ) (rs : List ℕ) (pairs : IsPairsFrom h a end rs) where
+  pub readers_fit : (words : List ℕ) → length words ≡ words_for (count h) → All (λ c. c / 64 < length words) rs
+  readers_fit words wide = λ k d l.
+      let b = get_or rs k d in
+      let low = (pair_below h a b (pair_kinds h a b ((pairs b).1 (inr (All-contains_itself rs k d l))))).1 in
+      omega (arith, low, wide)
 
--- ---- the table, row by row
-pub table_of_pairs : (h : History) (table : List (List ℕ)) → length table ≡ count h → ((i : ℕ) (d : List ℕ) → i < count h → IsPairRow h i (get_or table i d)) → IsPairTable h table
-table_of_pairs h table long each = record {
-  long = long;
-  wide = λ i d l. (each i d (omega (arith, long))).0;
-  exact = λ a b from to. (each a [] from).1 b;
-}
+  pub pairs_taken : (old mid new : List ℕ) → AddsBetween old mid (a + 1) end → ((b : ℕ) → (is_marked new b ≡ true) ↔ ((is_marked mid b ≡ true) ⊎ Contains rs b))
+      → (b : ℕ) → (is_marked new b ≡ true) ↔ ((is_marked old b ≡ true) ⊎ (causal_pair h a b ≡ true))
+  pairs_taken old mid new later now b = (λ m. onward ((now b).0 m), back)
+    where
+      first_part : (is_marked old b ≡ true) ⊎ ((a + 1 ≤ b) × (b < end)) → (is_marked old b ≡ true) ⊎ (causal_pair h a b ≡ true)
+      first_part (inl m) = inl m
+      first_part (inr w) = inr ((pairs b).1 (inl w))
+
+      onward : (is_marked mid b ≡ true) ⊎ Contains rs b → (is_marked old b ≡ true) ⊎ (causal_pair h a b ≡ true)
+      onward (inl m) = first_part ((later b).0 m)
+      onward (inr c) = inr ((pairs b).1 (inr c))
+
+      by : ((a + 1 ≤ b) × (b < end)) ⊎ Contains rs b → is_marked new b ≡ true
+      by (inl w) = (now b).1 (inl ((later b).1 (inr w)))
+      by (inr c) = (now b).1 (inr c)
+
+      back : (is_marked old b ≡ true) ⊎ (causal_pair h a b ≡ true) → is_marked new b ≡ true
+      back (inl m) = (now b).1 (inl ((later b).1 (inl m)))
+      back (inr p) = by ((pairs b).0 p)
+
+-- from no marks, marks between two numbers
+pub between_alone : (old new : List ℕ) (first end : ℕ) → ((b : ℕ) → is_marked old b ≡ false) → AddsBetween old new first end → (b : ℕ) → (is_marked new b ≡ true) ↔ ((first ≤ b) × (b < end))
+between_alone old new first end none is b = (λ m. go ((is b).0 m), λ w. (is b).1 (inr w))
+  where
+    go : (is_marked old b ≡ true) ⊎ ((first ≤ b) × (b < end)) → (first ≤ b) × (b < end)
+    go (inl m) = absurd (false≢true (sym (none b) ∙ m))
+    go (inr w) = w
+
+-- and marks of these
+pub each_alone : (old new numbers : List ℕ) → ((b : ℕ) → is_marked old b ≡ false) → ((b : ℕ) → (is_marked new b ≡ true) ↔ ((is_marked old b ≡ true) ⊎ Contains numbers b)) → (b : ℕ) → (is_marked new b ≡ true) ↔ Contains numbers b
+each_alone old new numbers none is b = (λ m. go ((is b).0 m), λ w. (is b).1 (inr w))
+  where
+    go : (is_marked old b ≡ true) ⊎ Contains numbers b → Contains numbers b
+    go (inl m) = absurd (false≢true (sym (none b) ∙ m))
+    go (inr w) = w
+
+-- and of the pairs
+pub pairs_alone : (h : History) (a : ℕ) (old new : List ℕ) → ((b : ℕ) → is_marked old b ≡ false) → ((b : ℕ) → (is_marked new b ≡ true) ↔ ((is_marked old b ≡ true) ⊎ (causal_pair h a b ≡ true)))
+    → (b : ℕ) → (is_marked new b ≡ true) ↔ (causal_pair h a b ≡ true)
+pairs_alone h a old new none is b = (λ m. go ((is b).0 m), λ p. (is b).1 (inr p))
+  where
+    go : (is_marked old b ≡ true) ⊎ (causal_pair h a b ≡ true) → causal_pair h a b ≡ true
+    go (inl m) = absurd (false≢true (sym (none b) ∙ m))
+    go (inr p) = p
+
+pub pairs_inside : (h : History) (a : ℕ) (new : List ℕ) → length new ≡ words_for (count h) → ((b : ℕ) → (is_marked new b ≡ true) ↔ (causal_pair h a b ≡ true)) → IsRowOf (count h) new
+pairs_inside h a new wide is = record { wide = wide; inside = λ b m. (pair_below h a b (pair_kinds h a b ((is b).0 m))).1 }

@@ -1,12 +1,12 @@
 -- For the private stages and their proofs alone: nobody has to believe what stands here.
 -- The search breadth first: what is known after walks of so many steps.
-use Rattle.std.specs.Prelude.{ℕ, ◌<◌, ◌≤◌, ◌-◌, ◌≡◌, ◌⊎◌, ◌↔◌, ◌==◌, ◌&&◌, Bool, true, false, if◌then◌else◌, List, [], length, All, count_by, Option, None, Some, slice_index, slice_index_or}
+use Rattle.std.specs.Prelude.{ℕ, ◌+◌, ◌<◌, ◌≤◌, ◌≡◌, ◌⊎◌, ◌↔◌, ◌==◌, ◌&&◌, Bool, true, false, if◌then◌else◌, List, [], length, count_by, Option, None, Some, slice_index, slice_index_or, Contains}
 use Rattle.tcc_reads.specs.History.{History, count}
-use Rattle.tcc_graph.specs.Relations.{causal_pair}
+use Rattle.tcc_graph.specs.Relations.{IsSessionPair, causal_pair}
 use Rattle.tcc_graph.specs.Levels.{Judged, causally}
 use Rattle.tcc_graph.specs.Walks.{IsWalk}
 use Rattle.tcc_graph.specs.declared.step.Step.{Step}
-use Rattle.tcc_near.specs.Bits.{is_marked, IsFresh, IsRowOf}
+use Rattle.tcc_near.specs.Bits.{is_marked}
 use Rattle.tcc_near.specs.Distances.{IsShortest, IsWalkDistance, least_in}
 use Rattle.tcc_near.specs.declared.distances.TheConstants.{NONE}
 
@@ -14,15 +14,30 @@ use Rattle.tcc_near.specs.declared.distances.TheConstants.{NONE}
 abbrev pub marks_of : List (List ℕ) → ℕ → List ℕ
 marks_of table a = slice_index_or table a []
 
--- the marks of a transaction are those to which a causal pair leads from it
-abbrev pub IsPairRow : History → ℕ → List ℕ → Type 0
-IsPairRow h a row = IsRowOf (count h) row × ((b : ℕ) → is_marked row b ≡ causal_pair h a b)
+-- the numbers that session pairs lead to from u are those after it and below `end`
+pub record IsSessionEnd (h : History) (u : ℕ) (end : ℕ) : Type 0 where
+  pub order : u + 1 ≤ end
+  pub few : end ≤ count h
+  pub pairs : (v : ℕ) → IsSessionPair h u v ↔ ((u + 1 ≤ v) × (v < end))
 
--- the marks of each transaction are those to which a causal pair leads from it
-pub record IsPairTable (h : History) (table : List (List ℕ)) : Type 0 where
-  pub long : length table ≡ count h
-  pub wide : All (IsRowOf (count h)) table
-  pub exact : (a : ℕ) (b : ℕ) → a < count h → b < count h → is_marked (marks_of table a) b ≡ causal_pair h a b
+-- so for each transaction
+pub record AreEnds (h : History) (ends : List ℕ) : Type 0 where
+  pub long : length ends ≡ count h
+  pub each : (u : ℕ) → u < count h → IsSessionEnd h u (slice_index ends u)
+
+-- session pairs and these readers are the causal pairs from u
+abbrev pub IsPairsFrom : History → ℕ → ℕ → List ℕ → Type 0
+IsPairsFrom h u end readers = (b : ℕ) → (causal_pair h u b ≡ true) ↔ (((u + 1 ≤ b) × (b < end)) ⊎ Contains readers b)
+
+-- tables of the causal pairs from each transaction: where those of session pairs end, and the readers among the others
+pub record ArePairs (h : History) (ends : List ℕ) (readers : List (List ℕ)) : Type 0 where
+  pub ended : AreEnds h ends
+  pub long : length readers ≡ count h
+  pub each : (u : ℕ) → u < count h → IsPairsFrom h u (slice_index ends u) (marks_of readers u)
+
+-- a place for each number: from the number that stands there up to the number itself all are marked
+abbrev pub AreSuffixes : List ℕ → List ℕ → Type 0
+AreSuffixes suffixes words = (last : ℕ) (b : ℕ) → last < length suffixes → slice_index suffixes last ≤ b → b ≤ last → is_marked words b ≡ true
 
 -- a walk of at most n steps leads from a to b
 abbrev pub IsWithin : History → ℕ → ℕ → ℕ → Type 0
@@ -52,19 +67,9 @@ pub record HasDistances (j : Judged) (a : ℕ) (row : List ℕ) : Type 0 where
 abbrev pub IsSpread : List ℕ → List (List ℕ) → (ℕ → Type 0) → ℕ → Type 0
 IsSpread marks table IsOne b = (is_marked marks b ≡ true) ⊎ ((u : ℕ) × IsOne u × (is_marked (marks_of table u) b ≡ true))
 
--- of each row but the first, what it marks and the row before it doesn't
-pub record AreDeltas (table : List (List ℕ)) (deltas : List (List ℕ)) : Type 0 where
-  pub long : length deltas ≡ length table
-  pub each : (u : ℕ) → 0 < u → u < length table → IsFresh (marks_of table (u - 1)) (marks_of table u) (marks_of deltas u)
-
--- all that these rows mark is marked
-abbrev pub IsTaken : List (List ℕ) → List ℕ → (ℕ → Type 0) → Type 0
-IsTaken table marks IsOne = (u b : ℕ) → IsOne u → is_marked (marks_of table u) b ≡ true → is_marked marks b ≡ true
-
--- what the row of u marks is marked, or marked by the row before it, whose number is seen
-abbrev pub IsTakenAfter : List (List ℕ) → List ℕ → List ℕ → ℕ → Type 0
-IsTakenAfter table seen marks u = (b : ℕ) → is_marked (marks_of table u) b ≡ true
-    → (is_marked marks b ≡ true) ⊎ ((0 < u) × (is_marked seen (u - 1) ≡ true) × (is_marked (marks_of table (u - 1)) b ≡ true))
+-- b is marked, or a causal pair leads there from one of these
+abbrev pub IsLedTo : History → List ℕ → (ℕ → Type 0) → ℕ → Type 0
+IsLedTo h marks IsOne b = (is_marked marks b ≡ true) ⊎ ((u : ℕ) × IsOne u × (causal_pair h u b ≡ true))
 
 -- the distance of b once what is marked and had none got this one
 abbrev pub numbered : List ℕ → List ℕ → ℕ → ℕ → ℕ

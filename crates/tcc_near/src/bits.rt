@@ -1,5 +1,5 @@
 //! Rows of marks, 64 in a word: number b is bit b % 64 of word b / 64.
-ghost use Rattle.std.specs.Prelude.{◌≡◌, ◌≢◌, ◌<◌, ◌≤◌, ◌+◌, ◌/◌, ◌^◌, ◌==◌, ◌||◌, ◌↔◌, ◌⊎◌, ℕ, true, length, All, Contains, OnOk};
+ghost use Rattle.std.specs.Prelude.{◌≡◌, ◌<◌, ◌≤◌, ◌+◌, ◌/◌, ◌^◌, ◌==◌, ◌||◌, ◌↔◌, ◌⊎◌, ℕ, true, length, All, Contains, OnOk};
 ghost use Rattle.std.specs.Int.{bit_at};
 ghost use Rattle.tcc_near.specs.Bits.{is_marked, words_for, IsFresh};
 
@@ -32,15 +32,6 @@ pub fn mark(words: &mut [u64], number: usize)
     ensures each { (b : ℕ) → is_marked words.new b ≡ (is_marked words.old b || (b == number)) }
 {
     words[number / WORD] |= 1 << (number % WORD);
-}
-
-/// Takes the mark of a number away.
-pub fn unmark(words: &mut [u64], number: usize)
-    requires { number / 64 < length words.old }
-    ensures same { length words.new ≡ length words.old }
-    ensures each { (b : ℕ) → (is_marked words.new b ≡ true) ↔ ((is_marked words.old b ≡ true) × (b ≢ number)) }
-{
-    words[number / WORD] &= !(1 << (number % WORD));
 }
 
 /// Marks these numbers.

@@ -5,7 +5,6 @@
 mod behind;
 pub mod bits;
 mod clock;
-mod deltas;
 mod distances;
 mod pairs;
 mod row;

@@ -1,15 +1,29 @@
-//! The causal pairs of a graph, as a table that is quick to read.
-ghost use Rattle.std.specs.Prelude.{◌≡◌, ◌<◌, ◌≤◌, ◌+◌, ◌*◌, ◌/◌, ◌↔◌, ◌⊎◌, ℕ, true, length, IfOk};
+//! The causal pairs from a transaction, taken into a row of marks. Session pairs lead to whole ends of sessions, so of each
+//! session the place is kept from which on all are marked: what a session pair leads to is marked once.
+ghost use Rattle.std.specs.Prelude.{◌≡◌, ◌<◌, ◌≤◌, ◌+◌, ◌*◌, ◌/◌, ◌↔◌, ◌⊎◌, ℕ, true, length, IfOk, slice_index};
 ghost use Rattle.tcc_reads.specs.History.{count};
-ghost use Rattle.tcc_graph.specs.Relations.{IsSessionPair};
-ghost use Rattle.tcc_near.specs.Bits.{is_marked, words_for};
-ghost use Rattle.tcc_near.specs.Breadth.{IsPairRow, IsPairTable};
+ghost use Rattle.tcc_graph.specs.Relations.{causal_pair};
+ghost use Rattle.tcc_near.specs.Bits.{is_marked, words_for, IsRowOf};
+ghost use Rattle.tcc_near.specs.Breadth.{IsSessionEnd, AreEnds, IsPairsFrom, ArePairs, AreSuffixes, IsMarked};
 ghost use Rattle.tcc_txn.specs.declared.limits.TheConstants.{MAX_COUNT};
 
 use crate::Row;
-use crate::bits::{mark, mark_each, unmark, words_for};
+use crate::bits::{mark, mark_each, take_fresh, words_for};
 use std::alloc::{AllocError, Global};
 use tcc_graph::Graph;
+
+/// Where the numbers end that session pairs lead to, for each transaction.
+pub(crate) fn session_ends(alloc: Global, graph: &Graph) -> Result<Vec<u32>, AllocError>
+    ensures ends { IfOk result (λ ends. AreEnds graph.now ends.items) }
+    ensures few { count graph.now ≤ MAX_COUNT }
+{
+    let mut ends = Vec::new(alloc);
+    for from in 0..graph.count() {
+        let (_first, end) = graph.later(from);
+        ends.push(end)?;
+    }
+    Ok(ends)
+}
 
 /// Marks the numbers from `first` to before `end`.
 fn mark_between(words: &mut [u64], first: u32, end: u32)
@@ -23,48 +37,103 @@ fn mark_between(words: &mut [u64], first: u32, end: u32)
     }
 }
 
-/// From the numbers that begin one before `first` and end before `known`, those from `first` to before `end`.
-fn next_later(run: &mut [u64], known: u32, first: u32, end: u32)
-    requires some { 0 < first }
-    requires order { first ≤ end }
-    requires wide { end ≤ 64 * length run.old }
-    requires before { (b : ℕ) → (is_marked run.old b ≡ true) ↔ ((first ≤ b + 1) × (b < known)) }
-    ensures same { length run.new ≡ length run.old }
-    ensures after { (b : ℕ) → (is_marked run.new b ≡ true) ↔ ((first ≤ b) × (b < end)) }
-{
-    if end == known {
-        unmark(run, first as usize - 1);
-    } else {
-        run.fill(0);
-        mark_between(run, first, end);
-    }
-}
-
-/// The transactions to which a causal pair leads from this one: those of the session pairs, and its readers.
-fn pairs_from(alloc: Global, graph: &Graph, run: &[u64], from: u32) -> Result<Row<u64>, AllocError>
+/// The readers of this transaction that no session pair leads to, each once: session pairs lead to those before `end`.
+fn other_readers(alloc: Global, graph: &Graph, from: u32, end: u32) -> Result<Row<u32>, AllocError>
     requires below { from < count graph.now }
-    requires wide { length run.now ≡ words_for (count graph.now) }
-    requires session { (b : ℕ) → (is_marked run.now b ≡ true) ↔ IsSessionPair graph.now from b }
-    ensures { IfOk result (IsPairRow graph.now from) }
+    requires end { IsSessionEnd graph.now from end }
+    requires few { count graph.now ≤ MAX_COUNT }
+    ensures { IfOk result (IsPairsFrom graph.now from end) }
 {
-    let mut marks = run.to_vec(alloc)?;
-    mark_each(&mut marks, graph.readings(from).0);
-    Ok(Row::new(marks))
+    let words = words_for(graph.count() as usize);
+    let mut later = vec![in alloc; 0; words]?;
+    mark_between(&mut later, from + 1, end);
+    let mut readers = vec![in alloc; 0; words]?;
+    mark_each(&mut readers, graph.readings(from).0);
+    let mut others = Vec::new(alloc);
+    take_fresh(&mut others, &mut later, &readers)?;
+    Ok(Row::new(others))
 }
 
-/// Of each transaction, those to which a causal pair leads from it.
-pub(crate) fn pair_table(alloc: Global, graph: &Graph) -> Result<Vec<Row<u64>>, AllocError>
-    ensures pairs { IfOk result (λ table. IsPairTable graph.now table.items) }
-    ensures few { IfOk result (λ table. length table.items ≤ MAX_COUNT) }
+/// The same of each transaction.
+pub(crate) fn readers_apart(
+    alloc: Global,
+    graph: &Graph,
+    ends: &[u32],
+) -> Result<Vec<Row<u32>>, AllocError>
+    requires ends { AreEnds graph.now ends.now }
+    requires few { count graph.now ≤ MAX_COUNT }
+    ensures { IfOk result (λ readers. ArePairs graph.now ends.now readers.items) }
 {
-    let mut run = vec![in alloc; 0; words_for(graph.count() as usize)]?;
-    let mut known = 0;
-    let mut table = Vec::new(alloc);
-    for from in 0..graph.count() {
-        let (first, end) = graph.later(from);
-        next_later(&mut run, known, first, end);
-        known = end;
-        table.push(pairs_from(alloc, graph, &run, from)?)?;
+    let mut readers = Vec::new(alloc);
+    for (from, end) in ends.iter().enumerate() {
+        readers.push(other_readers(alloc, graph, from as u32, *end)?)?;
     }
-    Ok(table)
+    Ok(readers)
+}
+
+/// Marks the transactions of a session from `first` to before `end`, where the session ends: those before its suffix, as
+/// the suffix is marked.
+fn mark_later(words: &mut [u64], suffixes: &mut [u32], first: u32, end: u32)
+    requires order { first ≤ end }
+    requires some { 0 < end }
+    requires within { end ≤ length suffixes.old }
+    requires wide { end ≤ 64 * length words.old }
+    requires suffixes { AreSuffixes suffixes.old words.old }
+    ensures same { length words.new ≡ length words.old }
+    ensures long { length suffixes.new ≡ length suffixes.old }
+    ensures suffixes { AreSuffixes suffixes.new words.new }
+    ensures each { (b : ℕ) → (is_marked words.new b ≡ true) ↔ ((is_marked words.old b ≡ true) ⊎ ((first ≤ b) × (b < end))) }
+{
+    let last = end as usize - 1;
+    let known = suffixes[last].min(end);
+    if first < known {
+        mark_between(words, first, known);
+        suffixes[last] = first;
+    }
+}
+
+/// Marks the transactions to which a causal pair leads from this one: those of the session pairs, and its readers.
+pub(crate) fn take_in(
+    _graph: &Graph,
+    ends: &[u32],
+    readers: &[Row<u32>],
+    words: &mut [u64],
+    suffixes: &mut [u32],
+    from: u32,
+)
+    requires below { from < count _graph.now }
+    requires pairs { ArePairs _graph.now ends.now readers.now }
+    requires wide { length words.old ≡ words_for (count _graph.now) }
+    requires within { length suffixes.old ≡ count _graph.now }
+    requires suffixes { AreSuffixes suffixes.old words.old }
+    ensures same { length words.new ≡ length words.old }
+    ensures long { length suffixes.new ≡ length suffixes.old }
+    ensures suffixes { AreSuffixes suffixes.new words.new }
+    ensures each { (b : ℕ) → (is_marked words.new b ≡ true) ↔ ((is_marked words.old b ≡ true) ⊎ (causal_pair _graph.now from b ≡ true)) }
+{
+    mark_later(words, suffixes, from + 1, ends[from as usize]);
+    mark_each(words, readers[from as usize].values());
+}
+
+/// The marks of the transactions to which a causal pair leads from this one, with the suffixes of sessions that they have.
+pub(crate) fn first_marks(
+    alloc: Global,
+    graph: &Graph,
+    ends: &[u32],
+    readers: &[Row<u32>],
+    from: u32,
+) -> Result<(Vec<u64>, Vec<u32>), AllocError>
+    requires below { from < count graph.now }
+    requires pairs { ArePairs graph.now ends.now readers.now }
+    requires few { count graph.now ≤ MAX_COUNT }
+    ensures row { IfOk result (λ made. IsRowOf (count graph.now) made.0.items) }
+    ensures marked { IfOk result (λ made. IsMarked graph.now from 1 made.0.items) }
+    ensures long { IfOk result (λ made. length made.1.items ≡ count graph.now) }
+    ensures suffixes { IfOk result (λ made. AreSuffixes made.1.items made.0.items) }
+{
+    let count = ends.len();
+    let mut words = vec![in alloc; 0; words_for(count)]?;
+    let mut suffixes = vec![in alloc; u32::MAX; count]?;
+    take_in(graph, ends, readers, &mut words, &mut suffixes, from);
+    Ok((words, suffixes))
 }

@@ -1,16 +1,15 @@
 //! The search for all distances of a graph: from each transaction breadth first, in several threads.
-ghost use Rattle.std.specs.Prelude.{◌≡◌, ◌<◌, ◌≤◌, ◌↔◌, ◌⊎◌, ℕ, true, length, All, Contains, IfOk, slice_index};
-ghost use Rattle.tcc_reads.specs.History.{History, count};
+ghost use Rattle.std.specs.Prelude.{◌≡◌, ◌<◌, ◌≤◌, ◌↔◌, ℕ, true, length, All, Contains, IfOk, slice_index};
+ghost use Rattle.tcc_reads.specs.History.{count};
 ghost use Rattle.tcc_graph.specs.Levels.{causally};
 ghost use Rattle.tcc_near.specs.Distances.{IsNearOf};
-ghost use Rattle.tcc_near.specs.Bits.{is_marked, IsRowOf};
-ghost use Rattle.tcc_near.specs.Breadth.{IsPairTable, HasDistances, IsSpread, AreDeltas, IsTakenAfter, marks_of, one_step, unnumbered};
+ghost use Rattle.tcc_near.specs.Bits.{is_marked, words_for};
+ghost use Rattle.tcc_near.specs.Breadth.{ArePairs, AreSuffixes, HasDistances, IsLedTo, one_step, unnumbered};
 ghost use Rattle.tcc_near.specs.declared.distances.TheConstants.{NONE};
 ghost use Rattle.tcc_txn.specs.declared.limits.TheConstants.{MAX_COUNT};
 
-use crate::bits::{is_marked, mark_each, merge, take_fresh};
-use crate::deltas::deltas;
-use crate::pairs::pair_table;
+use crate::bits::{is_marked, take_fresh};
+use crate::pairs::{first_marks, readers_apart, session_ends, take_in};
 use crate::{NONE, Near, Row};
 use rayon::prelude::*;
 use std::alloc::{AllocError, Global};
@@ -31,38 +30,27 @@ fn number(steps: &mut [u16], fresh: &[u32], distance: u16)
     }
 }
 
-/// Marks what a row marks. Where the number before it is seen, whose row is taken in too, that is what the row has more,
-/// which is marked one by one where it is little beside the words of a row.
-fn take_in(marks: &mut [u64], table: &[Row<u64>], deltas: &[Row<u32>], seen: &[u64], place: usize)
-    requires inside { place < length table.now }
-    requires wide { All (λ row. length row ≡ length marks.old) table.now }
-    requires deltas { AreDeltas table.now deltas.now }
-    ensures long { length marks.new ≡ length marks.old }
-    ensures kept { (b : ℕ) → is_marked marks.old b ≡ true → is_marked marks.new b ≡ true }
-    ensures sound { (b : ℕ) → is_marked marks.new b ≡ true
-        → (is_marked marks.old b ≡ true) ⊎ (is_marked (marks_of table.now place) b ≡ true) }
-    ensures taken { IsTakenAfter table.now seen.now marks.new place }
-{
-    let more = deltas[place].values();
-    if place > 0 && is_marked(seen, place - 1) && more.len() < marks.len() / 8 {
-        mark_each(marks, more);
-    } else {
-        merge(marks, table[place].values());
-    }
-}
-
-/// Marks those to which a causal pair leads from one of these. All that is seen and isn't one of these was taken in before.
-fn spread(marks: &mut [u64], table: &[Row<u64>], deltas: &[Row<u32>], seen: &[u64], fresh: &[u32])
-    requires rows { All (λ place. place < length table.now) fresh.now }
-    requires wide { All (λ row. length row ≡ length marks.old) table.now }
-    requires deltas { AreDeltas table.now deltas.now }
-    requires taken { (u : ℕ) → is_marked seen.now u ≡ true
-        → Contains fresh.now u ⊎ ((b : ℕ) → is_marked (marks_of table.now u) b ≡ true → is_marked marks.old b ≡ true) }
-    ensures long { length marks.new ≡ length marks.old }
-    ensures each { (b : ℕ) → (is_marked marks.new b ≡ true) ↔ IsSpread marks.old table.now (Contains fresh.now) b }
+/// Marks those to which a causal pair leads from one of these.
+fn spread(
+    graph: &Graph,
+    ends: &[u32],
+    readers: &[Row<u32>],
+    words: &mut [u64],
+    suffixes: &mut [u32],
+    fresh: &[u32],
+)
+    requires below { All (λ place. place < count graph.now) fresh.now }
+    requires pairs { ArePairs graph.now ends.now readers.now }
+    requires wide { length words.old ≡ words_for (count graph.now) }
+    requires within { length suffixes.old ≡ count graph.now }
+    requires suffixes { AreSuffixes suffixes.old words.old }
+    ensures same { length words.new ≡ length words.old }
+    ensures long { length suffixes.new ≡ length suffixes.old }
+    ensures suffixes { AreSuffixes suffixes.new words.new }
+    ensures each { (b : ℕ) → (is_marked words.new b ≡ true) ↔ IsLedTo graph.now words.old (Contains fresh.now) b }
 {
     for place in fresh {
-        take_in(marks, table, deltas, seen, *place as usize);
+        take_in(graph, ends, readers, words, suffixes, *place);
     }
 }
 
@@ -70,27 +58,27 @@ fn spread(marks: &mut [u64], table: &[Row<u64>], deltas: &[Row<u32>], seen: &[u6
 /// the next step reaches from there; the search ends where there is nothing to number.
 fn distances_from(
     alloc: Global,
-    table: &[Row<u64>],
-    deltas: &[Row<u32>],
-    source: usize,
+    graph: &Graph,
+    ends: &[u32],
+    readers: &[Row<u32>],
+    source: u32,
 ) -> Result<Row<u16>, AllocError>
-    requires source { source < length table.now }
-    requires deltas { AreDeltas table.now deltas.now }
-    requires wide { All (IsRowOf (length table.now)) table.now }
-    requires few { length table.now ≤ MAX_COUNT }
-    ensures { IfOk result (λ row. (h : History) → IsPairTable h table.now → HasDistances (causally h) source row) }
+    requires source { source < count graph.now }
+    requires few { count graph.now ≤ MAX_COUNT }
+    requires pairs { ArePairs graph.now ends.now readers.now }
+    ensures { IfOk result (HasDistances (causally graph.now) source) }
 {
-    let mut steps = vec![in alloc; NONE; table.len()]?;
-    let mut marks = table[source].values().to_vec(alloc)?;
-    let mut seen = vec![in alloc; 0; marks.len()]?;
+    let (mut words, mut suffixes) = first_marks(alloc, graph, ends, readers, source)?;
+    let mut steps = vec![in alloc; NONE; ends.len()]?;
+    let mut seen = vec![in alloc; 0; words.len()]?;
     let mut fresh = Vec::new(alloc);
-    for before in 0..table.len() {
-        take_fresh(&mut fresh, &mut seen, &marks)?;
+    for before in 0..ends.len() {
+        take_fresh(&mut fresh, &mut seen, &words)?;
         if fresh.is_empty() {
             return Ok(Row::new(steps));
         }
         number(&mut steps, &fresh, before as u16 + 1);
-        spread(&mut marks, table, deltas, &seen, &fresh);
+        spread(graph, ends, readers, &mut words, &mut suffixes, &fresh);
     }
     Ok(Row::new(steps))
 }
@@ -110,21 +98,23 @@ fn steps_to(alloc: Global, marks: &[u64], count: usize) -> Result<Row<u16>, Allo
 /// The distances from one transaction by the walks that the level allows.
 fn row_from(
     alloc: Global,
-    table: &[Row<u64>],
-    deltas: &[Row<u32>],
+    graph: &Graph,
+    ends: &[u32],
+    readers: &[Row<u32>],
     level: Level,
-    source: usize,
+    source: u32,
 ) -> Result<Row<u16>, AllocError>
-    requires source { source < length table.now }
-    requires deltas { AreDeltas table.now deltas.now }
-    requires wide { All (IsRowOf (length table.now)) table.now }
-    requires few { length table.now ≤ MAX_COUNT }
-    ensures { IfOk result (λ row. (h : History) → IsPairTable h table.now
-        → HasDistances (record { history = h; level = level }) source row) }
+    requires source { source < count graph.now }
+    requires few { count graph.now ≤ MAX_COUNT }
+    requires pairs { ArePairs graph.now ends.now readers.now }
+    ensures { IfOk result (HasDistances (record { history = graph.now; level = level }) source) }
 {
     match level {
-        Level::Causal => distances_from(alloc, table, deltas, source),
-        Level::Atomic => steps_to(alloc, table[source].values(), table.len()),
+        Level::Causal => distances_from(alloc, graph, ends, readers, source),
+        Level::Atomic => {
+            let (words, _suffixes) = first_marks(alloc, graph, ends, readers, source)?;
+            steps_to(alloc, &words, ends.len())
+        }
     }
 }
 
@@ -132,25 +122,22 @@ fn row_from(
 fn all_distances(
     rt: &(impl Threads + Sync),
     alloc: Global,
-    table: &[Row<u64>],
-    deltas: &[Row<u32>],
+    graph: &Graph,
+    ends: &[u32],
+    readers: &[Row<u32>],
     level: Level,
 ) -> Result<Vec<Row<u16>>, AllocError>
-    requires deltas { AreDeltas table.now deltas.now }
-    requires wide { All (IsRowOf (length table.now)) table.now }
-    requires few { length table.now ≤ MAX_COUNT }
-    ensures { IfOk result (λ rows. (h : History) → IsPairTable h table.now
-        → IsNearOf (record { history = h; level = level }) (record { level = level; rows = rows.items })) }
+    requires few { count graph.now ≤ MAX_COUNT }
+    requires pairs { ArePairs graph.now ends.now readers.now }
+    ensures { IfOk result (λ rows. IsNearOf (record { history = graph.now; level = level }) (record { level = level; rows = rows.items })) }
 {
-    (0..table.len())
+    (0..ends.len())
         .into_par_iter()
         .map(
             |source: usize| -> Result<Row<u16>, AllocError>
-                requires { (source < length table.now) × AreDeltas table.now deltas.now
-                    × All (IsRowOf (length table.now)) table.now × (length table.now ≤ MAX_COUNT) }
-                ensures { IfOk result (λ row. (h : History) → IsPairTable h table.entry.now
-                    → HasDistances (record { history = h; level = level }) source row) }
-            { row_from(alloc, table, deltas, level, source) },
+                requires { (source < count graph.now) × (count graph.now ≤ MAX_COUNT) × ArePairs graph.now ends.now readers.now }
+                ensures { IfOk result (HasDistances (record { history = graph.entry.now; level = level }) source) }
+            { row_from(alloc, graph, ends, readers, level, source as u32) },
         )
         .with_min_len(1)
         .collect::<Result<Vec<Row<u16>>, AllocError>>(rt, alloc)?
@@ -165,8 +152,8 @@ pub fn near(
 ) -> Result<Near, NoMemory>
     ensures { IfOk result (IsNearOf (record { history = graph.now; level = level })) }
 {
-    let table = pair_table(alloc, graph)?;
-    let deltas = deltas(alloc, &table)?;
-    let rows = all_distances(rt, alloc, &table, &deltas, level)?;
+    let ends = session_ends(alloc, graph)?;
+    let readers = readers_apart(alloc, graph, &ends)?;
+    let rows = all_distances(rt, alloc, graph, &ends, &readers, level)?;
     Ok(Near::new(level, rows))
 }

@@ -1,15 +1,17 @@
-use Rattle.std.proofs.Common.{◌≡◌, ◌≤◌, ◌+◌, true, length}
-use Rattle.tcc_reads.specs.History.{History}
-use Rattle.tcc_near.specs.Bits.{is_marked, IsRowOf}
-use Rattle.tcc_near.specs.Breadth.{IsPairTable, IsSearched, IsMarked, IsSeen, IsTaken, unnumbered}
+use Rattle.std.proofs.Common.{◌≡◌, ◌≤◌, ◌+◌, length}
+use Rattle.tcc_reads.specs.History.{count}
+use Rattle.tcc_near.specs.Bits.{IsRowOf}
+use Rattle.tcc_near.specs.Breadth.{IsSearched, IsMarked, IsSeen, AreSuffixes, unnumbered}
 use Rattle.tcc_near.proofs.search.distances_from.Given as goal
 
 abbrev pub invariant-loop-before : goal.invariant-loop-before
 invariant-loop-before l =
-    (length l.steps.items ≡ length l.table)
-    × IsRowOf (length l.table) l.marks.items
-    × (length l.seen.items ≡ length l.marks.items)
+    (length l.steps.items ≡ count l.graph)
+    × IsRowOf (count l.graph) l.words.items
+    × (length l.seen.items ≡ length l.words.items)
     × IsSeen l.steps.items l.seen.items
-    × (unnumbered l.steps.items + l.before ≤ length l.table)
-    × ((h : History) → IsPairTable h l.table → IsSearched h l.source l.before l.steps.items × IsMarked h l.source (l.before + 1) l.marks.items)
-    × IsTaken l.table l.marks.items (λ u. is_marked l.seen.items u ≡ true)
+    × (unnumbered l.steps.items + l.before ≤ count l.graph)
+    × IsSearched l.graph l.source l.before l.steps.items
+    × IsMarked l.graph l.source (l.before + 1) l.words.items
+    × (length l.suffixes.items ≡ count l.graph)
+    × AreSuffixes l.suffixes.items l.words.items
