@@ -65,14 +65,14 @@ module _ (j : Judged) (near : NearTable) (reads : List (List Read)) (written : L
       let place = read_place j.history a c x pair in
       in_flat_map (bucket reads) (bucket written b) place.0 (record { source = a; reader = c })
       (wrote.each b place.0 from place.1 (rw place.2 writer))
-      (read.each place.0 a c place.1 tt (rw place.2 pair))
+      ((read.each place.0 place.1 (record { source = a; reader = c })).1 (rw place.2 pair))
 
   -- and each of those may be contradicted
   read_reason : (r : Read) → Contains (flat_map (bucket reads) (bucket written b)) r → r.source ≢ b → (x : List ℕ) × MayContradict j.history b r.source x r.reader
   read_reason r there ne =
       let w = from_flat_map (bucket reads) (bucket written b) r there in
       let by = wrote.wrote b w.0 from w.1 in
-      (name_of (keys j.history) w.0, ((λ e. ne (sym e)), read.read w.0 r by.0 w.2, by.1))
+      (name_of (keys j.history) w.0, ((λ e. ne (sym e)), (read.each w.0 by.0 r).0 w.2, by.1))
 
   -- no reason costs less
   record IsAtMost (a : ℕ) (n : ℕ) : Type 0 where

@@ -1,27 +1,20 @@
 -- The tables of reads and of writes, as they grow.
-use Rattle.std.proofs.Common.{ℕ, ◌+◌, ◌<◌, ◌≤◌, ◌≡◌, false, ◌⊎◌, inl, inr, List, [], length, get_or, sym, ◌∙◌, subst, arith, ⊎_elim}
+use Rattle.std.proofs.Common.{ℕ, ◌+◌, ◌<◌, ◌≤◌, ◌≡◌, ◌⊎◌, inl, inr, List, [], length, get_or, refl, sym, ap, ◌∙◌, arith, ⊎_elim}
 use Rattle.std.specs.List.{All, Contains}
-use Rattle.std.proofs.lemmas.Bool.{cases_eq, cases_lt, eqb-true, false≢true}
+use Rattle.std.specs.Prelude.{zip, ◌↔◌}
+use Rattle.tcc_near.proofs.MarkLemmas.{zip_at, zip_has, zip-long}
+use Rattle.std.proofs.lemmas.Bool.{cases_eq, cases_lt}
 use Rattle.std.proofs.lemmas.List.{get_or_default, get_or_past}
 use Rattle.std.proofs.lemmas.List.Elements.{Contains-get_or}
 use Rattle.tcc_reads.specs.History.{History, count}
-use Rattle.tcc_graph.specs.Relations.{reads_from, IsReadsPair, causal_pair}
+use Rattle.tcc_graph.specs.Relations.{IsReadsPair}
 use Rattle.tcc_graph.specs.Keys.{keys, writers, IsWriter}
-use Rattle.tcc_graph.specs.KeyRows.{IsAbsent, StandsAt, name_of}
-use Rattle.tcc_graph.proofs.NameLemmas.{bytes_eq-same}
+use Rattle.tcc_graph.specs.KeyRows.{name_of}
 use Rattle.tcc_derive.specs.Buckets.{bucket, Puts}
-use Rattle.tcc_derive.specs.KeyTables.{HasReads, IsReadsOf, HasWrites, IsWritesOf}
+use Rattle.tcc_derive.specs.KeyTables.{AreReadsAt, IsReadsOf, HasWrites, IsWritesOf}
 use Rattle.tcc_derive.specs.Lowering.{HaveReads}
 use Rattle.tcc_derive.specs.declared.read.Read.{Read}
-use Rattle.tcc_graph.proofs.Pairs.{pair_from_reads}
 use Rattle.tcc_derive.proofs.KeyLemmas.{key_at, writer_writes, writer_in}
-
--- two names at one place
-pub same_place : (keys : List (List ℕ)) (x : List ℕ) (p i : ℕ) → StandsAt keys x p → i < length keys → x ≡ name_of keys i → i ≡ p
-same_place keys x p i at l same = eqb-true i p (sym (at.only i l) ∙ bytes_eq-same (name_of keys i) x (sym same))
-
-pub not_there : (keys : List (List ℕ)) (x : List ℕ) (i : ℕ) → IsAbsent keys x → i < length keys → x ≡ name_of keys i → ⊥
-not_there keys x i none l same = false≢true (sym (none i l) ∙ bytes_eq-same (name_of keys i) x (sym same))
 
 no_items : {X : Type 0} (table : List (List X)) (i : ℕ) (x : X) → All (λ bucket. bucket ≡ []) table → Contains (bucket table i) x → ⊥
 no_items table i x empty h = go (rw (nothing (cases_lt i (length table))) at h)
@@ -33,50 +26,31 @@ no_items table i x empty h = go (rw (nothing (cases_lt i (length table))) at h)
     go : Contains {X = _} [] x → ⊥
     go (k, l, e) = absurd (omega arith)
 
+-- reads that stand as their sources and their readers do are the reads of a key
+pub reads_listed : (h : History) (k : ℕ) (sources readers : List ℕ) (reads : List Read) → length sources ≡ length readers
+    → ((a c : ℕ) → Contains (zip sources readers) (a, c) ↔ IsReadsPair h a c (name_of (keys h) k)) → length reads ≡ length sources
+    → ((i : ℕ) (d : Read) → i < length sources → get_or reads i d ≡ record { source = get_or sources i 0; reader = get_or readers i 0 }) → AreReadsAt h k reads
+reads_listed h k sources readers reads same pairs long each r = (onward, back)
+  where
+    onward : Contains reads r → IsReadsPair h r.source r.reader (name_of (keys h) k)
+    onward (i, l, e) =
+        let inside : i < length sources = omega (arith, long) in
+        let is : record { source = get_or sources i 0; reader = get_or readers i 0 } ≡ r = sym (each i r inside) ∙ (sym (get_or_default reads i r _ l) ∙ e) in
+        rw (← is) ((pairs (get_or sources i 0) (get_or readers i 0)).0 (zip_has sources readers i 0 same inside))
+
+    back : IsReadsPair h r.source r.reader (name_of (keys h) k) → Contains reads r
+    back pair = go ((pairs r.source r.reader).1 pair)
+      where
+        go : Contains (zip sources readers) (r.source, r.reader) → Contains reads r
+        go (i, l, e) =
+            let inside : i < length sources = omega (arith, zip-long sources readers same) in
+            let both : (get_or sources i r.source, get_or readers i r.reader) ≡ (r.source, r.reader) = sym (zip_at sources readers i r.source r.reader same inside) ∙ e in
+            let first : get_or sources i 0 ≡ r.source = sym (get_or_default sources i r.source 0 inside) ∙ ap (λ (p : ℕ × ℕ). p.0) both in
+            let second : get_or readers i 0 ≡ r.reader = sym (get_or_default readers i r.reader 0 (omega (arith, same, inside))) ∙ ap (λ (p : ℕ × ℕ). p.1) both in
+            let is : record { source = get_or sources i 0; reader = get_or readers i 0 } ≡ r = rw (first, second) refl in
+            (i, omega (arith, long), each i _ inside ∙ is)
+
 module _ (h : History) where
-  pub no_reads_yet : (reads : List (List Read)) → length reads ≡ length (keys h) → All (λ bucket. bucket ≡ []) reads → HasReads h (λ a c. a < 0) reads
-  no_reads_yet reads long empty = record {
-    long = long;
-    read = λ k r l there. absurd (no_items reads k r empty there);
-    each = λ k a c l v p. absurd (omega arith);
-  }
-
-  -- other pairs were visited, as far as there are any
-  pub reads_visited : (V W : ℕ → ℕ → Type 0) (reads : List (List Read)) → HasReads h V reads → ((a c : ℕ) → a < count h → c < count h → W a c → V a c) → HasReads h W reads
-  reads_visited V W reads before weaker = record {
-    long = before.long;
-    read = before.read;
-    each = λ k a c l w p. before.each k a c l (weaker a c p.0 p.1 w) p;
-  }
-
-  -- nobody reads here
-  pub reads_skipped : (V W : ℕ → ℕ → Type 0) (reads : List (List Read)) (s n : ℕ) → HasReads h V reads → causal_pair h s n ≡ false
-      → ((a c : ℕ) → W a c → V a c ⊎ ((a ≡ s) × (c ≡ n))) → HasReads h W reads
-  reads_skipped V W reads s n before none parts = record {
-    long = before.long;
-    read = before.read;
-    each = λ k a c l w p. ⊎_elim
-        (λ v. before.each k a c l v p)
-        (λ e. absurd (false≢true (sym none ∙ pair_from_reads h s n (name_of (keys h) k) (rw (e.0, e.1) at p))))
-        (parts a c w);
-  }
-
-  -- and here are reads
-  pub reads_added : (V W : ℕ → ℕ → Type 0) (old new : List (List Read)) (s n : ℕ) → HasReads h V old → s < count h → n < count h
-      → Puts old new (λ k. Contains (reads_from h s n) (name_of (keys h) k)) (record { source = s; reader = n })
-      → ((a c : ℕ) → W a c → V a c ⊎ ((a ≡ s) × (c ≡ n))) → HasReads h W new
-  reads_added V W old new s n before from to puts parts = record {
-    long = puts.long ∙ before.long;
-    read = λ k r l there. ⊎_elim
-        (λ was. before.read k r l was)
-        (λ w. subst (λ (t : Read). IsReadsPair h t.source t.reader (name_of (keys h) k)) (sym w.1) (from, to, w.0))
-        (puts.only k r there);
-    each = λ k a c l w p. ⊎_elim
-        (λ v. puts.kept k (record { source = a; reader = c }) (before.each k a c l v p))
-        (λ e. rw (e.0, e.1) (puts.put k (omega (arith, before.long)) (rw (e.0, e.1) at p.2)))
-        (parts a c w);
-  }
-
   pub no_writes_yet : (written : List (List ℕ)) → length written ≡ count h → All (λ bucket. bucket ≡ []) written → HasWrites h 0 written
   no_writes_yet written long empty = record {
     long = long;
@@ -108,4 +82,4 @@ module _ (h : History) where
   }
     where
       pair : (k : ℕ) (d : List Read) → k < length reads → (j : ℕ) (e : Read) → j < length (get_or reads k d) → IsReadsPair h (get_or (get_or reads k d) j e).source (get_or (get_or reads k d) j e).reader (name_of (keys h) k)
-      pair k d l j e m = read.read k (get_or (get_or reads k d) j e) (omega (arith, read.long)) (rw (get_or_default reads k [] d l) (Contains-get_or (get_or reads k d) j e m))
+      pair k d l j e m = (read.each k (omega (arith, read.long)) (get_or (get_or reads k d) j e)).0 (rw (get_or_default reads k [] d l) (Contains-get_or (get_or reads k d) j e m))

@@ -1,11 +1,24 @@
-use Rattle.std.proofs.Common.{◌≡◌, length, sym, ap, ◌∙◌, take_at}
+use Rattle.std.proofs.Common.{rules, ◌≡◌, ℕ, [], ◌∷◌, ◌++◌, length, length-append, arith}
+use Rattle.tcc_graph.specs.Keys.{keys}
+use Rattle.tcc_near.proofs.RowLemmas.{each_pushed}
+use Rattle.tcc_derive.specs.KeyTables.{AreReadsAt}
 use Rattle.tcc_derive.proofs.read_table.read_table.Goals as goal
 
-pub add_reads_from-requires-clause-before : goal.add_reads_from-requires-clause-before
-add_reads_from-requires-clause-before c = rw c.deref_mut.ensures.value c.loop-source.invariant
+pub loop-place-preserved : goal.loop-place-preserved
+loop-place-preserved c =
+    let rows = c.loop-place.reads.items in
+    let made = c.in_ok-reads_at.field-0 in
+    let inv = c.loop-place.invariant in
+    let same : c.in-Ok.place ≡ c.loop-place.place = search rules in
+    let here : AreReadsAt c.args.graph.now c.loop-place.place made = rw same at c.in_ok-reads_at.ensures in
+    let pushed : c.push.new.self.items ≡ rows ++ made ∷ [] = search rules in
+    rw pushed (
+      omega (arith, length-append rows (made ∷ []), inv.0),
+      each_pushed (AreReadsAt c.args.graph.now) rows made c.loop-place.place inv.0 inv.1 here,
+    )
 
-pub loop-source-preserved : goal.loop-source-preserved
-loop-source-preserved c =
-    let long : length c.add_reads_from.new.reads ≡ c.loop-source.reads.len
-    = c.in_ok-add_reads_from.ensures.long ∙ sym c.loop-source.invariant.long ∙ sym (ap length c.deref_mut.ensures.value) ∙ c.deref_mut.ensures.len in
-    rw (take_at c.add_reads_from.new.reads _ c.loop-source.reads.len long) c.in_ok-add_reads_from.ensures
+pub returns : goal.returns
+returns c =
+    let inv = c.loop-place.invariant in
+    let whole : c.loop-place.place ≡ length (keys c.args.graph.now) = search rules in
+    record { long = omega (arith, inv.0, whole); each = λ k l. inv.1 k [] (omega (arith, l, whole)) }

@@ -1,6 +1,9 @@
-use Rattle.std.proofs.Common.{◌<◌}
-use Rattle.tcc_derive.specs.KeyTables.{HasReads}
+use Rattle.std.proofs.Common.{◌≡◌, ◌<◌, ℕ, List, length, get_or}
+use Rattle.tcc_derive.specs.KeyTables.{AreReadsAt}
+use Rattle.tcc_derive.specs.declared.read.Read.{Read}
 use Rattle.tcc_derive.proofs.read_table.read_table.Given as goal
 
-abbrev pub invariant-loop-source : goal.invariant-loop-source
-invariant-loop-source l = HasReads l.graph (λ a c. a < l.source) l.reads.items
+abbrev pub invariant-loop-place : goal.invariant-loop-place
+invariant-loop-place l =
+    (length l.reads.items ≡ l.place)
+    × ((k : ℕ) (d : List Read) → k < l.place → AreReadsAt l.graph k (get_or l.reads.items k d))
