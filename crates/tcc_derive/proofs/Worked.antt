@@ -20,7 +20,6 @@ abbrev two : Tables
 two = record {
   level = level.Causal;
   prices = (NONE ∷ NONE ∷ []) ∷ (4 ∷ NONE ∷ []) ∷ [];
-  costs = (NONE ∷ 1 ∷ []) ∷ (4 ∷ NONE ∷ []) ∷ [];
   ends = 2 ∷ 2 ∷ [];
   others = [] ∷ ((0, 4) ∷ []) ∷ [];
   limit = 4;
@@ -33,7 +32,16 @@ no_price : price_at two 0 1 ≡ None
 no_price = refl
 
 cost_of_a_pair : cost_at two 0 1 ≡ Some 1
+unfolding cost_at
 cost_of_a_pair = refl
+
+cost_of_an_other : cost_at two 1 0 ≡ Some 4
+unfolding cost_at
+cost_of_an_other = refl
+
+no_cost : cost_at two 0 0 ≡ None
+unfolding cost_at
+no_cost = refl
 
 later_of_init : IsLater two 0 1
 later_of_init = (omega arith, omega arith)

@@ -1,5 +1,5 @@
 -- What derived links and links of all kinds cost at a level, and tables of it.
-use Rattle.std.specs.Prelude.{ℕ, ◌<◌, ◌≤◌, ◌≡◌, ◌+◌, ◌⊎◌, ◌↔◌, List, Option, None, Some, slice_index, Contains}
+use Rattle.std.specs.Prelude.{ℕ, ◌<◌, ◌≤◌, ◌≡◌, ◌+◌, ◌⊎◌, ◌↔◌, ◌==◌, ◌&&◌, nat_lt, if◌then◌else◌, List, [], ◌∷◌, Option, None, Some, slice_index, Contains}
 use Rattle.std.specs.List.{AllPairs}
 use Rattle.tcc_reads.specs.History.{History, count}
 use Rattle.tcc_graph.specs.Relations.{IsSessionPair, IsReadsPair}
@@ -41,13 +41,12 @@ pub record IsLinkOf (j : Judged) (a : ℕ) (b : ℕ) (l : Link) : Type 0 where
 abbrev pub IsCost : Judged → ℕ → ℕ → Option ℕ → Type 0
 IsCost j a b = IsLeastCostOf (IsLinkOf j a b)
 
--- a level, and tables by transaction: what derived links cost at it, what links of all kinds cost, where the numbers end
--- that session pairs lead to, and the numbers that other links lead to, each with the least cost of a link there; and what
--- links cost at most that are kept by cost
+-- a level, and tables by transaction: what derived links cost at it, where the numbers end that session pairs lead to, and
+-- the numbers that other links lead to, each with the least cost of a link there; and what links cost at most that are kept
+-- by cost
 pub record Tables : Type 0 where
   pub level : Level
   pub prices : List (List ℕ)
-  pub costs : List (List ℕ)
   pub ends : List ℕ
   pub others : List (List (ℕ × ℕ))
   pub limit : ℕ
@@ -55,14 +54,20 @@ pub record Tables : Type 0 where
 abbrev pub price_at : Tables → ℕ → ℕ → Option ℕ
 price_at t b a = least t.prices b a
 
-abbrev pub cost_at : Tables → ℕ → ℕ → Option ℕ
-cost_at t a b = least t.costs a b
-
 abbrev pub end_of : Tables → ℕ → ℕ
 end_of t u = slice_index t.ends u
 
 abbrev pub others_at : Tables → ℕ → List (ℕ × ℕ)
 others_at t u = row_of t.others u
+
+-- what stands beside a number in a list; none where it doesn't stand there
+abbrev pub cost_among : List (ℕ × ℕ) → ℕ → Option ℕ
+cost_among [] v = None
+cost_among (p ∷ others) v = if p.0 == v then Some p.1 else cost_among others v
+
+-- the least cost of a link from u to v: 1 where a session pair leads there, else what stands beside v among the others of u
+unfoldable pub cost_at : Tables → ℕ → ℕ → Option ℕ
+cost_at t u v = if nat_lt u v && nat_lt v (end_of t u) then Some 1 else cost_among (others_at t u) v
 
 -- v is later than u in its session: a session pair leads there
 abbrev pub IsLater : Tables → ℕ → ℕ → Type 0
@@ -89,7 +94,6 @@ pub record HasOthers (j : Judged) (t : Tables) (u : ℕ) (others : List (ℕ × 
 pub record IsPricesOf (j : Judged) (t : Tables) : Type 0 where
   pub level : t.level ≡ j.level
   pub prices : IsSquare (count j.history) t.prices
-  pub costs : IsSquare (count j.history) t.costs
   pub priced : (b : ℕ) (a : ℕ) → b < count j.history → a < count j.history → IsPrice j b a (price_at t b a)
   pub costed : (a : ℕ) (b : ℕ) → a < count j.history → b < count j.history → IsCost j a b (cost_at t a b)
   -- a shortest walk has at most as many steps as there are transactions

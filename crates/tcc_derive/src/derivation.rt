@@ -5,7 +5,6 @@ ghost use Rattle.tcc_derive.specs.Prices.{IsPricesOf};
 
 use crate::Prices;
 use crate::by_cost::by_cost_rows;
-use crate::costing::cost_rows;
 use crate::limits::cost_limit;
 use crate::others::{other_rows, session_ends};
 use crate::pricing::price_rows;
@@ -30,10 +29,9 @@ pub fn derive(
     let reads = read_table(alloc, graph)?;
     let written = write_table(alloc, graph)?;
     let prices = price_rows(rt, alloc, graph, near, &reads, &written)?;
-    let costs = cost_rows(rt, alloc, graph, near, &prices)?;
-    let others = other_rows(rt, alloc, graph, &prices, &costs)?;
+    let others = other_rows(rt, alloc, graph, near, &prices)?;
     let ends = session_ends(alloc, graph)?;
     let limit = cost_limit(near, &prices, &others);
     let by_cost = by_cost_rows(rt, alloc, &others, &ends, limit)?;
-    Ok(Prices::new(near.level(), prices, costs, ends, others, limit, by_cost))
+    Ok(Prices::new(near.level(), prices, ends, others, limit, by_cost))
 }

@@ -2,15 +2,17 @@
 ghost use Rattle.std.specs.Prelude.{◌≡◌, ◌<◌, ◌≤◌, length, IfOk};
 ghost use Rattle.tcc_txn.specs.declared.limits.TheConstants.{MAX_COUNT};
 ghost use Rattle.tcc_reads.specs.History.{count};
-ghost use Rattle.tcc_derive.specs.Others.{others_below, HasOtherRows, HasEnds};
+ghost use Rattle.tcc_derive.specs.Others.{others_below, IsOtherRow, HasOtherRows, HasEnds};
 ghost use Rattle.tcc_derive.specs.Rows.{HasRows};
 ghost use Rattle.tcc_graph.specs.Tables.{row_of};
+ghost use Rattle.tcc_near.specs.Distances.{IsSquare};
 
+use crate::costing::cost_row;
 use rayon::prelude::*;
 use std::alloc::Global;
 use std::thread::Threads;
 use tcc_graph::Graph;
-use tcc_near::{NONE, Row};
+use tcc_near::{NONE, Near, Row};
 use tcc_txn::NoMemory;
 
 /// Where the numbers end that session pairs lead to, for each transaction.
@@ -48,34 +50,45 @@ fn others_row(
     Ok(Row::new(others))
 }
 
+/// The same of one transaction, by the steps from it: its row of costs is made for this alone.
+fn others_of(
+    alloc: Global,
+    graph: &Graph,
+    u: u32,
+    steps: &[u16],
+    prices: &[u16],
+) -> Result<Row<(u32, u32)>, NoMemory>
+    requires from { u < count graph.now }
+    requires steps { length steps.now ≡ count graph.now }
+    requires prices { length prices.now ≡ count graph.now }
+    ensures { IfOk result (IsOtherRow graph.now u steps.now prices.now) }
+{
+    let costs = cost_row(alloc, steps, prices)?;
+    others_row(alloc, graph, u, prices, costs.values())
+}
+
 /// The same of each transaction.
 pub(crate) fn other_rows(
     rt: &(impl Threads + Sync),
     alloc: Global,
     graph: &Graph,
+    near: &Near,
     prices: &[Row<u16>],
-    costs: &[Row<u16>],
 ) -> Result<Vec<Row<(u32, u32)>>, NoMemory>
+    requires near { IsSquare (count graph.now) near.now.rows }
     requires prices { HasRows graph.now (λ u row. length row ≡ count graph.now) prices.now }
-    requires costs { HasRows graph.now (λ u row. length row ≡ count graph.now) costs.now }
-    ensures { IfOk result (λ rows. HasOtherRows graph.now prices.now costs.now rows.items) }
+    ensures { IfOk result (λ rows. HasOtherRows graph.now near.now.rows prices.now rows.items) }
 {
     (0..graph.count() as usize)
         .into_par_iter()
         .map(
             |u: usize| -> Result<Row<(u32, u32)>, NoMemory>
-                requires { (u < length prices.now) × (u < length costs.now) × (u < count graph.now) × (count graph.now ≤ MAX_COUNT)
-                    × (length (row_of prices.now u) ≡ count graph.now) × (length (row_of costs.now u) ≡ count graph.now) }
-                ensures { IfOk result (λ row. row
-                    ≡ others_below graph.entry.now u (row_of prices.entry.now u) (row_of costs.entry.now u) (count graph.entry.now)) }
+                requires { (u < length prices.now) × (u < length near.now.rows) × (u < count graph.now) × (count graph.now ≤ MAX_COUNT)
+                    × (length (row_of prices.now u) ≡ count graph.now) × (length (row_of near.now.rows u) ≡ count graph.now) }
+                ensures { IfOk result (IsOtherRow graph.entry.now u (row_of near.entry.now.rows u) (row_of prices.entry.now u)) }
             {
-                others_row(
-                    alloc,
-                    graph,
-                    u as u32,
-                    prices[u].values(),
-                    costs[u].values(),
-                )
+                let steps = near.row(u as u32);
+                others_of(alloc, graph, u as u32, steps, prices[u].values())
             },
         )
         .with_min_len(1)

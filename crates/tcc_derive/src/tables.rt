@@ -1,7 +1,8 @@
 //! The least costs of links between transactions at a level.
 ghost use Rattle.std.specs.Prelude.{◌≡◌, ◌<◌, ◌≤◌, ◌+◌, ◌∷◌, [], length, All};
+ghost use Rattle.std.specs.List.{AllPairs};
 ghost use Rattle.tcc_near.specs.Distances.{least_in};
-ghost use Rattle.tcc_derive.specs.Prices.{price_at, cost_at, end_of, others_at};
+ghost use Rattle.tcc_derive.specs.Prices.{price_at, cost_at, cost_among, end_of, others_at};
 ghost use Rattle.tcc_derive.specs.Others.{IsShaped};
 ghost use Rattle.tcc_derive.specs.ByCost.{IsByCost};
 ghost use Rattle.tcc_derive.specs.CostBuckets.{HaveByCost};
@@ -17,7 +18,6 @@ use tcc_near::{NONE, Row};
 pub struct Prices {
     level: Level,
     prices: Vec<Row<u16>>,
-    costs: Vec<Row<u16>>,
     ends: Vec<u32>,
     others: Vec<Row<(u32, u32)>>,
     limit: u16,
@@ -36,7 +36,6 @@ impl Model for Prices {
     ghost view = { λ p. record {
       level = p.level;
       prices = p.prices.items;
-      costs = p.costs.items;
       ends = p.ends.items;
       others = p.others.items;
       limit = p.limit;
@@ -46,7 +45,6 @@ impl Model for Prices {
         (record {
           level = p.level;
           prices = p.prices.items;
-          costs = p.costs.items;
           ends = p.ends.items;
           others = p.others.items;
           limit = p.limit;
@@ -54,7 +52,6 @@ impl Model for Prices {
         × HaveByCost (record {
           level = p.level;
           prices = p.prices.items;
-          costs = p.costs.items;
           ends = p.ends.items;
           others = p.others.items;
           limit = p.limit;
@@ -66,23 +63,21 @@ impl Prices {
     pub(crate) fn new(
         level: Level,
         prices: Vec<Row<u16>>,
-        costs: Vec<Row<u16>>,
         ends: Vec<u32>,
         others: Vec<Row<(u32, u32)>>,
         limit: u16,
         by_cost: Vec<Row<(u16, u16)>>,
     ) -> Prices
         requires shape { IsShaped (length prices.items)
-            (record { level = level; prices = prices.items; costs = costs.items; ends = ends.items; others = others.items; limit = limit }) }
+            (record { level = level; prices = prices.items; ends = ends.items; others = others.items; limit = limit }) }
         requires by_cost { HaveByCost
-            (record { level = level; prices = prices.items; costs = costs.items; ends = ends.items; others = others.items; limit = limit })
+            (record { level = level; prices = prices.items; ends = ends.items; others = others.items; limit = limit })
             by_cost.items }
-        ensures { result ≡ record { level = level; prices = prices.items; costs = costs.items; ends = ends.items; others = others.items; limit = limit } }
+        ensures { result ≡ record { level = level; prices = prices.items; ends = ends.items; others = others.items; limit = limit } }
     {
         Prices {
             level,
             prices,
-            costs,
             ends,
             others,
             limit,
@@ -120,7 +115,11 @@ impl Prices {
         requires to { v < length self.now.prices }
         ensures { result ≡ cost_at self.now u v }
     {
-        cell(self.costs[u as usize].values()[v as usize])
+        let end = self.ends[u as usize];
+        if u < v && v < end {
+            return Some(1);
+        }
+        cost_among(self.others[u as usize].values(), v)
     }
 
     /// The first number with a session pair from `u`, and one past the last one, all between them having one too; both
@@ -170,6 +169,18 @@ impl Prices {
         ensures long { length result.now ≡ length self.now.prices }
     {
         self.prices[b as usize].values()
+    }
+}
+
+/// What stands beside a number, in a list of ascending numbers; none where it doesn't stand there.
+fn cost_among(others: &[(u32, u32)], v: u32) -> Option<u32>
+    requires { AllPairs (λ p q. p.0 < q.0) others.now }
+    ensures { result ≡ cost_among others.now v }
+{
+    let place = others.partition_point(|other| other.0 < v);
+    match others.get(place) {
+        Some(&(number, cost)) if number == v => Some(cost),
+        _ => None,
     }
 }
 

@@ -9,8 +9,8 @@ pub returns : goal.returns
 returns g c =
     let j : Judged = record { history = c.args.graph.now; level = c.args.near.now.level } in
     rw (c.new.ensures, c.level.ensures)
-    (prices_of j c.args.near.now c.in_ok-prices.prices.items c.in_ok-costs.costs.items c.in_ok-ends.ends.items c.in_ok-others.others.items c.cost_limit-limit.result c.requires c.in_ok-prices.ensures.rows
-    (rw c.deref-3.ensures.value at c.in_ok-costs.ensures) c.in_ok-ends.ensures (rw (c.deref-4.ensures.value, c.deref-5.ensures.value) at c.in_ok-others.ensures))
+    (prices_of j c.args.near.now c.in_ok-prices.prices.items c.in_ok-ends.ends.items c.in_ok-others.others.items c.cost_limit-limit.result c.requires c.in_ok-prices.ensures.rows
+    c.in_ok-ends.ensures (rw c.deref-3.ensures.value at c.in_ok-others.ensures))
 
 pub new-requires-clause-shape : goal.new-requires-clause-shape
 new-requires-clause-shape g c =
@@ -18,29 +18,29 @@ new-requires-clause-shape g c =
     let rows = c.in_ok-prices.ensures.rows in
     let few : count c.args.graph.now ≤ MAX_COUNT = omega (arith, c.in_ok-prices.ensures.few, rows.long) in
     rw c.level.ensures
-    (shaped j c.args.near.now c.in_ok-prices.prices.items c.in_ok-costs.costs.items c.in_ok-ends.ends.items c.in_ok-others.others.items c.cost_limit-limit.result c.requires rows
-    (rw c.deref-3.ensures.value at c.in_ok-costs.ensures) c.in_ok-ends.ensures (rw (c.deref-4.ensures.value, c.deref-5.ensures.value) at c.in_ok-others.ensures) few)
+    (shaped j c.args.near.now c.in_ok-prices.prices.items c.in_ok-ends.ends.items c.in_ok-others.others.items c.cost_limit-limit.result c.requires rows
+    c.in_ok-ends.ensures (rw c.deref-3.ensures.value at c.in_ok-others.ensures) few)
 
 pub by_cost_rows-requires-clause-within : goal.by_cost_rows-requires-clause-within
 by_cost_rows-requires-clause-within g c κs inside =
     let j : Judged = record { history = c.args.graph.now; level = c.args.near.now.level } in
     let rows = c.in_ok-prices.ensures.rows in
     let few : count c.args.graph.now ≤ MAX_COUNT = omega (arith, c.in_ok-prices.ensures.few, rows.long) in
-    rw c.deref-8.ensures.value
-    (others_within j c.args.near.now c.in_ok-prices.prices.items c.in_ok-costs.costs.items c.in_ok-ends.ends.items c.in_ok-others.others.items c.cost_limit-limit.result c.requires rows
-    (rw c.deref-3.ensures.value at c.in_ok-costs.ensures) c.in_ok-ends.ensures (rw (c.deref-4.ensures.value, c.deref-5.ensures.value) at c.in_ok-others.ensures) MAX_COUNT few)
+    rw c.deref-6.ensures.value
+    (others_within j c.args.near.now c.in_ok-prices.prices.items c.in_ok-ends.ends.items c.in_ok-others.others.items c.cost_limit-limit.result c.requires rows
+    c.in_ok-ends.ensures (rw c.deref-3.ensures.value at c.in_ok-others.ensures) MAX_COUNT few)
 
 pub new-requires-clause-by_cost : goal.new-requires-clause-by_cost
 new-requires-clause-by_cost g c =
     let j : Judged = record { history = c.args.graph.now; level = c.args.near.now.level } in
     rw c.level.ensures
-    (have_by_cost j c.args.near.now c.in_ok-prices.prices.items c.in_ok-costs.costs.items c.in_ok-ends.ends.items c.in_ok-others.others.items c.cost_limit-limit.result c.requires c.in_ok-prices.ensures.rows
-    (rw c.deref-3.ensures.value at c.in_ok-costs.ensures) c.in_ok-ends.ensures (rw (c.deref-4.ensures.value, c.deref-5.ensures.value) at c.in_ok-others.ensures)
-    c.in_ok-by_cost.by_cost.items (rw c.deref-8.ensures.value at c.in_ok-by_cost.ensures.long) (rw (c.deref-8.ensures.value, c.deref-9.ensures.value) at c.in_ok-by_cost.ensures.each))
+    (have_by_cost j c.args.near.now c.in_ok-prices.prices.items c.in_ok-ends.ends.items c.in_ok-others.others.items c.cost_limit-limit.result c.requires c.in_ok-prices.ensures.rows
+    c.in_ok-ends.ensures (rw c.deref-3.ensures.value at c.in_ok-others.ensures)
+    c.in_ok-by_cost.by_cost.items (rw c.deref-6.ensures.value at c.in_ok-by_cost.ensures.long) (rw (c.deref-6.ensures.value, c.deref-7.ensures.value) at c.in_ok-by_cost.ensures.each))
 
 pub cost_limit-limit-requires-clause-within : goal.cost_limit-limit-requires-clause-within
 cost_limit-limit-requires-clause-within g c =
     let j : Judged = record { history = c.args.graph.now; level = c.args.near.now.level } in
-    rw c.deref-7.ensures.value
-    (others_within j c.args.near.now c.in_ok-prices.prices.items c.in_ok-costs.costs.items c.in_ok-ends.ends.items c.in_ok-others.others.items 0 c.requires c.in_ok-prices.ensures.rows
-    (rw c.deref-3.ensures.value at c.in_ok-costs.ensures) c.in_ok-ends.ensures (rw (c.deref-4.ensures.value, c.deref-5.ensures.value) at c.in_ok-others.ensures) (length c.args.near.now.rows) (omega (arith, c.requires.square.long)))
+    rw c.deref-5.ensures.value
+    (others_within j c.args.near.now c.in_ok-prices.prices.items c.in_ok-ends.ends.items c.in_ok-others.others.items 0 c.requires c.in_ok-prices.ensures.rows
+    c.in_ok-ends.ensures (rw c.deref-3.ensures.value at c.in_ok-others.ensures) (length c.args.near.now.rows) (omega (arith, c.requires.square.long)))
