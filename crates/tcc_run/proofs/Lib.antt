@@ -2,6 +2,7 @@ pub mod Closing
 pub mod Reach
 pub mod Counted
 pub mod Moments
+pub mod Interleaving
 pub mod LastSnapshot
 pub mod Closes
 pub mod OneRun

@@ -1,5 +1,5 @@
-//! The laws of runs: `check` accepts what `explain` writes, and what is said depends on the records, the level and the form
-//! alone.
+//! The laws of runs: `check` accepts what `explain` writes, and what is said depends on the records of each session, the level
+//! and the form alone.
 ghost use Rattle.std.specs.Prelude.{◌≡◌, ◌≢◌, ◌⊎◌, ℕ, List, Option, Result, None, Some, IfOk, []};
 ghost use Rattle.std.specs.List.{last_or};
 ghost use Rattle.tcc_txn.specs.Answers.{answers_of};
@@ -20,6 +20,7 @@ ghost use Rattle.tcc_answer.specs.declared.answer.Answer.{Answer};
 ghost use Rattle.tcc_explain.specs.Explained.{IsAnswerOf};
 ghost use Rattle.tcc_verdict.specs.Checks.{IsCheck, MayBeCheck};
 ghost use Rattle.tcc_run.specs.Closing.{IsAcceptance, acceptance};
+ghost use Rattle.tcc_run.specs.Interleaved.{AreInterleaved};
 ghost use Rattle.tcc_run.specs.Runs.{IsEnded, IsRun, IsWhole, Said};
 ghost use Rattle.tcc_print.specs.Statuses.{code_of};
 ghost use Rattle.tcc_print.specs.declared.options.Options.{Options};
@@ -28,6 +29,7 @@ ghost use Rattle.tcc_print.specs.declared.halt.Halt.{Halt};
 
 use tcc_explain::laws::{certified, one_answer};
 use tcc_txn::NoMemory;
+use tcc_txn::laws;
 use tcc_txn::laws::finished_is_snapshot;
 
 /// For records without a fault, whose reads all have sources: the text of the certificate of their answer is accepted by
@@ -86,4 +88,18 @@ pub fn one_run()
         → said ≡ again }
 {
     one_answer();
+}
+
+/// Of two inputs with the same records of each session, interleaved anyhow and without a seal: what a whole run says of the
+/// one, a whole run says of the other, and nothing else, whatever the options tell beside the level and whether answers are
+/// JSON.
+pub fn interleaved()
+    ensures same { (options others : Options) (records other : List ℕ) (said again : List Said) → options.json ≡ others.json
+        → options.level ≡ others.level → AreInterleaved records other → IsWhole options (answers_of records) said
+        → IsWhole others (answers_of other) again → said ≡ again }
+    ensures whole { (options : Options) (records other : List ℕ) (said : List Said) → AreInterleaved records other
+        → IsWhole options (answers_of records) said → IsWhole options (answers_of other) said }
+{
+    one_answer();
+    laws::interleaved();
 }
