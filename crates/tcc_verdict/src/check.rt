@@ -51,7 +51,8 @@ pub fn run_check<H: Read + Drop, C: Read + Drop, W: Write>(
     certificate: C,
     out: &mut W,
 ) -> u8
-    ensures run { IfSome (H.remaining history) (λ records. IfSome (C.remaining certificate) (λ text. IsCheckRun records text (W.contents out.old) (W.contents out.new) result)) }
+    ensures run { IfSome (H.remaining history)
+        (λ records. IfSome (C.remaining certificate) (λ text. IsCheckRun records text (W.contents out.old) (W.contents out.new) result)) }
     ensures printed { PrintsSome (W.contents out.old) (W.contents out.new) result }
     ensures shown { IfSome (H.remaining history) (λ records. IfSome (C.remaining certificate) (λ text. result ≡ 0 → IsShown records text)) }
 {

@@ -10,4 +10,5 @@ returns g c =
     let made : IfOk c.if-json.made (λ bytes. bytes.items ≡ halted c.args.json c.args.halt.now) = search rules in
     printed _ _ (halted c.args.json c.args.halt.now) (halt_status c.args.halt.now) c.args.json c.send_made.result c.code_after.result
     (c.send_made.ensures.whole _ made) (c.send_made.ensures.ended _ made)
-    (subst (λ status. MatchResult c.send_made.result (λ _. c.code_after.result ≡ code_of status) (λ code. c.code_after.result ≡ code)) c.halt_status.ensures c.code_after.ensures)
+    (subst (λ status. MatchResult c.send_made.result (λ _. c.code_after.result ≡ code_of status)
+    (λ code. c.code_after.result ≡ code)) c.halt_status.ensures c.code_after.ensures)
