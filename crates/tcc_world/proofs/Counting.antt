@@ -1,5 +1,6 @@
 -- How often a number stands in a list, and lists that have each number once.
-use Rattle.std.proofs.Common.{◌≡◌, ◌≢◌, ◌<◌, ◌≤◌, ◌+◌, ◌==◌, ℕ, zero, suc, Bool, true, false, ◌⊎◌, inl, inr, List, [], ◌∷◌, ◌++◌, length, flat_map, Contains, get_or, set, get_or-set_same, length-set, refl, sym, ◌∙◌, ap, arith}
+use Rattle.std.proofs.Common.{◌≡◌, ◌≢◌, ◌<◌, ◌≤◌, ◌+◌, ◌==◌, ℕ, zero, suc, Bool, true, false, ◌⊎◌, inl, inr, List, [], ◌∷◌, ◌++◌, length, flat_map, Contains}
+use Rattle.std.proofs.Common.{get_or, set, get_or-set_same, length-set, refl, sym, ◌∙◌, ap, arith}
 use Rattle.std.proofs.lemmas.Bool.{cases_eq, eq-eqb, ne_eqb}
 use Rattle.std.proofs.lemmas.List.{get_or_default}
 use Rattle.std.proofs.lemmas.List.Elements.{All-contains, Contains-get_or}
@@ -75,7 +76,8 @@ times_once x (y ∷ xs) apart = go (cases_eq y x) (times_once x xs (λ i j less 
 -- a list of some of the numbers of a numbering that has each is one
 pub fewer : (n : ℕ) (xs ys : List ℕ) → IsNumbering n xs → ((x : ℕ) → times x ys ≤ times x xs) → ((a : ℕ) → a < n → Contains ys a) → IsNumbering n ys
 fewer n xs ys is low each = record {
-  below = λ i d within. let a = get_or ys i d in All-contains (λ a. a < n) xs a is.below (in_times a xs (omega (arith, low a, times_in a ys (Contains-get_or ys i d within))));
+  below = λ i d within. let a =
+      get_or ys i d in All-contains (λ a. a < n) xs a is.below (in_times a xs (omega (arith, low a, times_in a ys (Contains-get_or ys i d within))));
   each = each;
   once = λ i j less within same. let a = get_or ys j 0 in omega (arith, low a, times_once a xs is.once, times_twice a ys i j less within same refl);
 }
@@ -116,10 +118,12 @@ pub set_here : {X : Type 0} (xs : List X) (i : ℕ) (a : X) → i < length xs �
 set_here xs i a within = (i, omega (arith, length-set xs i a), get_or-set_same xs i a a within)
 
 module _ {X : Type 0} (f : X → List ℕ) where
-  pub times_set : (xs : List X) (i : ℕ) (a d : X) (x : ℕ) → i < length xs → times x (flat_map f (set xs i a)) + times x (f (get_or xs i d)) ≡ times x (flat_map f xs) + times x (f a)
+  pub times_set : (xs : List X) (i : ℕ) (a d : X) (x : ℕ) → i < length xs
+      → times x (flat_map f (set xs i a)) + times x (f (get_or xs i d)) ≡ times x (flat_map f xs) + times x (f a)
   times_set [] i a d x within = absurd (omega arith)
   times_set (y ∷ xs) zero a d x within = omega (arith, times_append x (f a) (flat_map f xs), times_append x (f y) (flat_map f xs))
-  times_set (y ∷ xs) (suc i) a d x within = omega (arith, times_set xs i a d x (omega arith), times_append x (f y) (flat_map f xs), times_append x (f y) (flat_map f (set xs i a)))
+  times_set (y ∷ xs) (suc i) a d x within =
+      omega (arith, times_set xs i a d x (omega arith), times_append x (f y) (flat_map f xs), times_append x (f y) (flat_map f (set xs i a)))
 
   times_bound : (xs : List X) (i : ℕ) (a : X) (x : ℕ) → times x (flat_map f (set xs i a)) ≤ times x (flat_map f xs) + times x (f a)
   times_bound [] i a x = omega arith
@@ -145,6 +149,7 @@ module _ {X : Type 0} (f : X → List ℕ) where
       go (inr here) = inr (in_times c (f a) here)
 
   -- what the parts had they have, where the one that has changed kept its own
-  pub into_set : (xs : List X) (i : ℕ) (a d : X) (c : ℕ) → i < length xs → times c (f (get_or xs i d)) ≤ times c (f a) → Contains (flat_map f xs) c → Contains (flat_map f (set xs i a)) c
+  pub into_set : (xs : List X) (i : ℕ) (a d : X) (c : ℕ) → i < length xs → times c (f (get_or xs i d)) ≤ times c (f a) → Contains (flat_map f xs) c
+      → Contains (flat_map f (set xs i a)) c
   into_set xs i a d c within more inside =
       in_times c (flat_map f (set xs i a)) (omega (arith, times_set xs i a d c within, more, times_in c (flat_map f xs) inside))

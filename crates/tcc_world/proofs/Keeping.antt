@@ -1,8 +1,10 @@
 -- Every event keeps what is sound.
-use Rattle.std.proofs.Common.{◌≡◌, ◌<◌, ◌≤◌, ℕ, zero, suc, ◌⊎◌, inl, inr, List, [], ◌∷◌, ◌++◌, length, map, flat_map, Option, None, Some, All, Contains, get_or, set, refl, sym, ap, subst, arith}
+use Rattle.std.proofs.Common.{◌≡◌, ◌<◌, ◌≤◌, ℕ, zero, suc, ◌⊎◌, inl, inr, List, [], ◌∷◌, ◌++◌, length, map, flat_map, Option, None, Some, All, Contains, get_or}
+use Rattle.std.proofs.Common.{set, refl, sym, ap, subst, arith}
 use Rattle.std.proofs.lemmas.Bool.{cases_eq}
 use Rattle.std.proofs.lemmas.List.{map-append}
-use Rattle.std.proofs.lemmas.List.Elements.{All-contains, All-set, All-push, All-weaker, All-get_or, Contains-append_left, Contains-append_right, Contains-append_cases, Contains-push, Contains-push_cases, Contains-get_or}
+use Rattle.std.proofs.lemmas.List.Elements.{All-contains, All-set, All-push, All-weaker, All-get_or, Contains-append_left, Contains-append_right}
+use Rattle.std.proofs.lemmas.List.Elements.{Contains-append_cases, Contains-push, Contains-push_cases, Contains-get_or}
 use Rattle.std.proofs.lemmas.Option.{none-some}
 use Rattle.tcc_reads.specs.History.{count}
 use Rattle.tcc_graph.specs.Levels.{Judged}
@@ -14,8 +16,10 @@ use Rattle.tcc_world.specs.Soundness.{IsLeastOf, IsBegun, IsBegunIfAny, IsWorkin
 use Rattle.tcc_world.specs.declared.stage.Stage.TheVariants as stage
 use Rattle.tcc_world.specs.declared.event.Event.{Event}
 use Rattle.tcc_world.specs.declared.event.Event.TheVariants as event
-use Rattle.tcc_world.proofs.Counting.{times, times_append, times_here, other_here, set_here, times_in, times_once, renumbered, without_other, without_itself, times_set, from_set, into_set}
-use Rattle.tcc_world.proofs.Sharing.{not_above_itself, not_above_join, lowered_word, lowered_low, lowered_is, IsMore, finished_kept, begun_kept, empty_row, grown, returned_row, returned_cost, ended}
+use Rattle.tcc_world.proofs.Counting.{times, times_append, times_here, other_here, set_here, times_in, times_once, renumbered, without_other, without_itself}
+use Rattle.tcc_world.proofs.Counting.{times_set, from_set, into_set}
+use Rattle.tcc_world.proofs.Sharing.{not_above_itself, not_above_join, lowered_word, lowered_low, lowered_is, IsMore, finished_kept, begun_kept, empty_row}
+use Rattle.tcc_world.proofs.Sharing.{grown, returned_row, returned_cost, ended}
 
 -- ---- a worker that has a search is there
 
@@ -31,7 +35,8 @@ working_at : (j : Judged) (world : World) (w : ℕ) → IsSound j world → w < 
 working_at j world w is within = All-get_or (IsWorking j world.word) world.workers w new_worker within is.workers
 
 -- the search of a worker that is there
-begun_at : (j : Judged) (world : World) (w : ℕ) (search : Searching) → IsSound j world → search_of world w ≡ Some search → IsBegun j (worker_at world w).share search
+begun_at : (j : Judged) (world : World) (w : ℕ) (search : Searching) → IsSound j world → search_of world w ≡ Some search
+    → IsBegun j (worker_at world w).share search
 begun_at j world w search is e =
     subst (λ (o : Option Searching). IsBegunIfAny j (worker_at world w).share o) e (working_at j world w is (there world w search e)).search
 
@@ -53,7 +58,9 @@ abbrev changed : World → List ℕ → ℕ → Worker → World
 changed old left w worker =
     record { word = old.word; left = left; seeds = old.seeds; workers = set old.workers w worker }
 
-sound_change : (j : Judged) (old : World) (left : List ℕ) (w : ℕ) (a : Worker) → IsSound j old → a.share.offers ≡ (worker_at old w).share.offers → IsWorking j old.word a → ((x : ℕ) → times x (left ++ flat_map starts_with (set old.workers w a)) ≡ times x (all_starts old)) → IsSound j (changed old left w a)
+sound_change : (j : Judged) (old : World) (left : List ℕ) (w : ℕ) (a : Worker) → IsSound j old → a.share.offers ≡ (worker_at old w).share.offers
+    → IsWorking j old.word a → ((x : ℕ) → times x (left ++ flat_map starts_with (set old.workers w a)) ≡ times x (all_starts old))
+    → IsSound j (changed old left w a)
 sound_change j old left w a is same working count_same = record {
   least = subst (IsLeastOf old.word) (sym offers) is.least;
   offered = subst (All (IsCycleCost j)) (sym offers) is.offered;
@@ -65,31 +72,54 @@ sound_change j old left w a is same working count_same = record {
     offers = ap (λ ys. old.seeds ++ ys) (flat_same (λ worker. worker.share.offers) old.workers w a new_worker same)
 
 -- the worker has the starts that it had
-same_starts : (old : World) (w : ℕ) (a : Worker) → starts_with a ≡ starts_with (worker_at old w) → (x : ℕ) → times x (old.left ++ flat_map starts_with (set old.workers w a)) ≡ times x (all_starts old)
+same_starts : (old : World) (w : ℕ) (a : Worker) → starts_with a ≡ starts_with (worker_at old w) → (x : ℕ)
+    → times x (old.left ++ flat_map starts_with (set old.workers w a)) ≡ times x (all_starts old)
 same_starts old w a same x = ap (λ ys. times x (old.left ++ ys)) (flat_same starts_with old.workers w a new_worker same)
 
 -- ---- Take
 
-taken_starts : (left : List ℕ) (workers : List Worker) (w s : ℕ) (a : Worker) → w < length workers → times s left ≡ 1 → starts_with a ≡ s ∷ starts_with (get_or workers w new_worker) → (x : ℕ) → times x (without s left ++ flat_map starts_with (set workers w a)) ≡ times x (left ++ flat_map starts_with workers)
+taken_starts : (left : List ℕ) (workers : List Worker) (w s : ℕ) (a : Worker) → w < length workers → times s left ≡ 1
+    → starts_with a ≡ s ∷ starts_with (get_or workers w new_worker) → (x : ℕ)
+    → times x (without s left ++ flat_map starts_with (set workers w a)) ≡ times x (left ++ flat_map starts_with workers)
 taken_starts left workers w s a within one more x = go (cases_eq x s)
   where
     before : List ℕ
     before = starts_with (get_or workers w new_worker)
 
     go : (x ≡ s) ⊎ (x ≡ s → ⊥) → times x (without s left ++ flat_map starts_with (set workers w a)) ≡ times x (left ++ flat_map starts_with workers)
-    go (inl same) = rw same (omega (arith, one, times_append s (without s left) (flat_map starts_with (set workers w a)), times_append s left (flat_map starts_with workers), without_itself s left, times_set starts_with workers w a new_worker s within, times_here s before, ap (times s) more))
+    go (inl same) =
+        rw same (omega (
+          arith,
+          one,
+          times_append s (without s left) (flat_map starts_with (set workers w a)),
+          times_append s left (flat_map starts_with workers),
+          without_itself s left,
+          times_set starts_with workers w a new_worker s within,
+          times_here s before,
+          ap (times s) more,
+        ))
     go (inr other) =
-        omega (arith, other_here s x before (λ e. other (sym e)), times_append x (without s left) (flat_map starts_with (set workers w a)), times_append x left (flat_map starts_with workers), without_other s x left other, times_set starts_with workers w a new_worker x within, ap (times x) more)
+        omega (
+          arith,
+          other_here s x before (λ e. other (sym e)),
+          times_append x (without s left) (flat_map starts_with (set workers w a)),
+          times_append x left (flat_map starts_with workers),
+          without_other s x left other,
+          times_set starts_with workers w a new_worker x within,
+          ap (times x) more,
+        )
 
 take_kept : (j : Judged) (old new : World) (w s : ℕ) → IsSound j old → Takes j old w s new → IsSound j new
 take_kept j old new w s is ((within, idle), here, row, empty, e) =
     let at = working_at j old w is within in
     let a = searching (worker_at old w) (Some (record { start = s; row = row; stage = stage.Open })) in
-    let working : IsWorking j old.word a = record { below_sight = at.below_sight; finished = at.finished; search = record { row = empty_row j s row empty; at = empty.empty s } } in
+    let working : IsWorking j old.word a
+    = record { below_sight = at.below_sight; finished = at.finished; search = record { row = empty_row j s row empty; at = empty.empty s } } in
     let some : 1 ≤ times s old.left = times_in s old.left here in
     let most : times s (all_starts old) ≤ 1 = times_once s (all_starts old) is.once.once in
     let one : times s old.left ≡ 1 = omega (arith, some, most, times_append s old.left (flat_map starts_with old.workers)) in
-    let more : starts_with a ≡ s ∷ starts_with (worker_at old w) = ap (λ o. s ∷ (start_of o ++ map (λ f. f.start) (worker_at old w).share.finished)) (sym idle) in
+    let more : starts_with a ≡ s ∷ starts_with (worker_at old w)
+    = ap (λ o. s ∷ (start_of o ++ map (λ f. f.start) (worker_at old w).share.finished)) (sym idle) in
     subst (IsSound j) (sym e) (sound_change j old (without s old.left) w a is refl working (taken_starts old.left old.workers w s a within one more))
 
 -- ---- Look
@@ -101,7 +131,8 @@ look_kept j old new w is (search, has, e) =
     let more : IsMore (worker_at old w).share a.share = record { sight = at.below_sight; offers = λ c inside. inside } in
     let working : IsWorking j old.word a = record {
       below_sight = not_above_itself old.word;
-      finished = All-weaker (IsFinished j (worker_at old w).share) (IsFinished j a.share) (λ f. finished_kept j (worker_at old w).share a.share f more) (worker_at old w).share.finished at.finished;
+      finished = All-weaker (IsFinished j (worker_at old w).share) (IsFinished j a.share) (λ f. finished_kept j (worker_at old w).share a.share f more)
+          (worker_at old w).share.finished at.finished;
       search = begun_kept j (worker_at old w).share a.share (worker_at old w).search more at.search;
     } in
     subst (IsSound j) (sym e) (sound_change j old old.left w a is refl working (same_starts old w a refl))
@@ -121,7 +152,8 @@ step_kept j old new w is (search, has, going, row, to, grows, e) =
 
 -- ---- End
 
-ended_starts : (old : World) (w : ℕ) (search : Searching) (stop : Stop) → search_of old w ≡ Some search → (x : ℕ) → times x (old.left ++ flat_map starts_with (set old.workers w (finishing (worker_at old w) search stop))) ≡ times x (all_starts old)
+ended_starts : (old : World) (w : ℕ) (search : Searching) (stop : Stop) → search_of old w ≡ Some search → (x : ℕ)
+    → times x (old.left ++ flat_map starts_with (set old.workers w (finishing (worker_at old w) search stop))) ≡ times x (all_starts old)
 ended_starts old w search stop has x =
     let a = finishing (worker_at old w) search stop in
     let f : Finished = record { start = search.start; row = search.row; stop = stop } in
@@ -129,7 +161,15 @@ ended_starts old w search stop has x =
     let starts : List ℕ = map (λ f. f.start) finished in
     let after : starts_with a ≡ starts ++ search.start ∷ [] = map-append (λ f. f.start) finished (f ∷ []) in
     let before : starts_with (worker_at old w) ≡ search.start ∷ starts = ap (λ o. start_of o ++ starts) has in
-    omega (arith, ap (times x) after, ap (times x) before, times_append x starts (search.start ∷ []), times_set starts_with old.workers w a new_worker x (there old w search has), times_append x old.left (flat_map starts_with old.workers), times_append x old.left (flat_map starts_with (set old.workers w a)))
+    omega (
+      arith,
+      ap (times x) after,
+      ap (times x) before,
+      times_append x starts (search.start ∷ []),
+      times_set starts_with old.workers w a new_worker x (there old w search has),
+      times_append x old.left (flat_map starts_with old.workers),
+      times_append x old.left (flat_map starts_with (set old.workers w a)),
+    )
 
 end_kept : (j : Judged) (old new : World) (w : ℕ) → IsSound j old → Ends old w new → IsSound j new
 end_kept j old new w is (search, has, stop, over, e) =
@@ -142,7 +182,8 @@ end_kept j old new w is (search, has, stop, over, e) =
     let more : IsMore share a.share = record { sight = not_above_itself share.sight; offers = λ c inside. inside } in
     let working : IsWorking j old.word a = record {
       below_sight = at.below_sight;
-      finished = All-weaker (IsFinished j share) (IsFinished j a.share) (λ g. finished_kept j share a.share g more) (share.finished ++ f ∷ []) (All-push (IsFinished j share) share.finished f at.finished done);
+      finished = All-weaker (IsFinished j share) (IsFinished j a.share) (λ g. finished_kept j share a.share g more) (share.finished ++ f ∷ [])
+          (All-push (IsFinished j share) share.finished f at.finished done);
       search = tt;
     } in
     subst (IsSound j) (sym e) (sound_change j old old.left w a is refl working (ended_starts old w search stop has))
@@ -179,7 +220,12 @@ offer_kept j old new w c is (search, has, returned, e) = subst (IsSound j) (sym 
     costs = returned_cost j search.start search.row c begun.row (returned_row j share search.start search.row search.stage c begun.at returned)
 
     below : (worker : Worker) → IsWorking j old.word worker → IsWorking j (Some low) worker
-    below worker at = record { below_sight = not_above_join (Some low) old.word worker.share.sight (lowered_word old.word c) at.below_sight; finished = at.finished; search = at.search }
+    below worker at =
+        record {
+          below_sight = not_above_join (Some low) old.word worker.share.sight (lowered_word old.word c) at.below_sight;
+          finished = at.finished;
+          search = at.search;
+        }
 
     more : IsMore share a.share
     more = record {
@@ -190,7 +236,8 @@ offer_kept j old new w c is (search, has, returned, e) = subst (IsSound j) (sym 
     working : IsWorking j (Some low) a
     working = record {
       below_sight = omega arith;
-      finished = All-weaker (IsFinished j share) (IsFinished j a.share) (λ f. finished_kept j share a.share f more) share.finished (working_at j old w is within).finished;
+      finished = All-weaker (IsFinished j share) (IsFinished j a.share) (λ f. finished_kept j share a.share f more) share.finished
+          (working_at j old w is within).finished;
       search = record { row = begun.row; at = (returned_row j share search.start search.row search.stage c begun.at returned, Contains-push share.offers c) };
     }
 
@@ -203,7 +250,9 @@ offer_kept j old new w c is (search, has, returned, e) = subst (IsSound j) (sym 
       where
         go : Contains old.seeds d ⊎ Contains (flat_map (λ worker. worker.share.offers) old.workers) d → Contains offers d
         go (inl seed) = Contains-append_left old.seeds (flat_map (λ worker. worker.share.offers) (set old.workers w a)) d seed
-        go (inr made) = Contains-append_right old.seeds (flat_map (λ worker. worker.share.offers) (set old.workers w a)) d (into_set (λ worker. worker.share.offers) old.workers w a new_worker d within (omega (arith, times_append d share.offers (c ∷ []))) made)
+        go (inr made) =
+            Contains-append_right old.seeds (flat_map (λ worker. worker.share.offers) (set old.workers w a)) d
+            (into_set (λ worker. worker.share.offers) old.workers w a new_worker d within (omega (arith, times_append d share.offers (c ∷ []))) made)
 
     new_one : Contains offers c
     new_one = Contains-append_right old.seeds (flat_map (λ worker. worker.share.offers) (set old.workers w a)) c
@@ -211,7 +260,8 @@ offer_kept j old new w c is (search, has, returned, e) = subst (IsSound j) (sym 
 
     attained : (low ≡ c) ⊎ (old.word ≡ Some low) → Contains offers low
     attained (inl equal) = subst (Contains offers) (sym equal) new_one
-    attained (inr stays) = let least : IsLeastOf (Some low) (offers_of old) = subst (λ (o : Option ℕ). IsLeastOf o (offers_of old)) stays is.least in kept low least.0
+    attained (inr stays) =
+        let least : IsLeastOf (Some low) (offers_of old) = subst (λ (o : Option ℕ). IsLeastOf o (offers_of old)) stays is.least in kept low least.0
 
     cases : (d : ℕ) → Contains offers d → Contains (offers_of old) d ⊎ (c ≡ d)
     cases d inside = go (Contains-append_cases old.seeds (flat_map (λ worker. worker.share.offers) (set old.workers w a)) d inside)
@@ -220,7 +270,8 @@ offer_kept j old new w c is (search, has, returned, e) = subst (IsSound j) (sym 
         old_one made = Contains-append_right old.seeds (flat_map (λ worker. worker.share.offers) old.workers) d made
 
         pushed : Contains share.offers d ⊎ (c ≡ d) → Contains (offers_of old) d ⊎ (c ≡ d)
-        pushed (inl before) = inl (old_one (in_flat_map (λ worker. worker.share.offers) old.workers (worker_at old w) d (Contains-get_or old.workers w new_worker within) before))
+        pushed (inl before) =
+            inl (old_one (in_flat_map (λ worker. worker.share.offers) old.workers (worker_at old w) d (Contains-get_or old.workers w new_worker within) before))
         pushed (inr equal) = inr equal
 
         by : Contains (flat_map (λ worker. worker.share.offers) old.workers) d ⊎ Contains (share.offers ++ c ∷ []) d → Contains (offers_of old) d ⊎ (c ≡ d)

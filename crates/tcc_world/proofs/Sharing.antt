@@ -1,5 +1,6 @@
 -- Shares that saw less and offered more, rows that one more transaction joins, and how searches end.
-use Rattle.std.proofs.Common.{◌≡◌, ◌≢◌, ◌<◌, ◌≤◌, ℕ, ◌⊎◌, inl, inr, List, [], ◌∷◌, length, Option, None, Some, Contains, get_or-set_same, get_or-set_other, length-set, refl, sym, ◌∙◌, ap, subst, arith, nat_lt}
+use Rattle.std.proofs.Common.{◌≡◌, ◌≢◌, ◌<◌, ◌≤◌, ℕ, ◌⊎◌, inl, inr, List, [], ◌∷◌, length, Option, None, Some, Contains, get_or-set_same, get_or-set_other}
+use Rattle.std.proofs.Common.{length-set, refl, sym, ◌∙◌, ap, subst, arith, nat_lt}
 use Rattle.std.proofs.lemmas.Bool.{cond_both, ltb-true, ltb-false}
 use Rattle.std.proofs.lemmas.Option.{none-some, same_Some}
 use Rattle.tcc_reads.specs.History.{count}
@@ -47,7 +48,8 @@ pub record IsMore (old new : Share) : Type 0 where
   pub sight : IsNotAbove new.sight old.sight
   pub offers : (c : ℕ) → Contains old.offers c → Contains new.offers c
 
-stopped_kept : (j : Judged) (old new : Share) (s : ℕ) (row : List (Option ℕ)) (stop : Stop) → IsMore old new → IsStopped j old s row stop → IsStopped j new s row stop
+stopped_kept : (j : Judged) (old new : Share) (s : ℕ) (row : List (Option ℕ)) (stop : Stop) → IsMore old new → IsStopped j old s row stop
+    → IsStopped j new s row stop
 stopped_kept j old new s row (Returned c) more (here, offered) = (here, more.offers c offered)
 stopped_kept j old new s row (Cut cap) more (above, out, past) = (not_above_join new.sight old.sight cap more.sight above, out, past)
 
@@ -75,13 +77,15 @@ end_below : (j : Judged) (s v : ℕ) (links : List Link) → IsUpwardRoute j s v
 end_below j s v [] ((some, lead), up) = absurd (omega arith)
 end_below j s v (l ∷ links) ((some, lead), up) = lead_end_below j s v l links lead
 
-joined_below : (j : Judged) (s : ℕ) (cap : Option ℕ) (old new : List (Option ℕ)) (v d : ℕ) → IsSearchRow j s old → JoinsNearest j s cap old new v d → v < length old
+joined_below : (j : Judged) (s : ℕ) (cap : Option ℕ) (old new : List (Option ℕ)) (v d : ℕ) → IsSearchRow j s old → JoinsNearest j s cap old new v d
+    → v < length old
 joined_below j s cap old new v d is joins =
     let (links, route, costs) = joins.exact.attained in
     omega (arith, is.long, end_below j s v links route)
 
 -- the row that one of the nearest has joined
-joined_row : (j : Judged) (s : ℕ) (cap : Option ℕ) (old new : List (Option ℕ)) (v d : ℕ) → IsSearchRow j s old → JoinsNearest j s cap old new v d → IsSearchRow j s new
+joined_row : (j : Judged) (s : ℕ) (cap : Option ℕ) (old new : List (Option ℕ)) (v d : ℕ) → IsSearchRow j s old → JoinsNearest j s cap old new v d
+    → IsSearchRow j s new
 joined_row j s cap old new v d is joins = rw joins.joined (record {
   long = length-set old v (Some d) ∙ is.long;
   exact = λ u c e. exact u c (in_set old v d u c within e);
@@ -95,7 +99,8 @@ joined_row j s cap old new v d is joins = rw joins.joined (record {
     exact u c (inl (same, equal)) = rw (same, equal) joins.exact
     exact u c (inr inside) = is.exact u c inside
 
-    closed : (u w c : ℕ) (links : List Link) → ((u ≡ v) × (c ≡ d)) ⊎ (in_row old u ≡ Some c) → (w ≢ v) × (in_row old w ≡ None) → IsUpwardRoute j s w links → c ≤ cost links
+    closed : (u w c : ℕ) (links : List Link) → ((u ≡ v) × (c ≡ d)) ⊎ (in_row old u ≡ Some c) → (w ≢ v) × (in_row old w ≡ None) → IsUpwardRoute j s w links
+        → c ≤ cost links
     closed u w c links (inl (same, equal)) (other, out) route = rw equal (joins.nearest w links out route)
     closed u w c links (inr inside) (other, out) route = is.closed u w c links inside out route
 
@@ -110,7 +115,8 @@ empty_row j s row is = record {
     none v d e = none-some d (sym (is.empty v) ∙ e)
 
 -- a step of a search that goes on
-pub grown : (j : Judged) (share : Share) (s : ℕ) (old new : List (Option ℕ)) (at : Stage) → IsSearchRow j s old → in_row old s ≡ None → Grows j s share.sight old new at → IsSearchRow j s new × IsAtStage j share s new at
+pub grown : (j : Judged) (share : Share) (s : ℕ) (old new : List (Option ℕ)) (at : Stage) → IsSearchRow j s old → in_row old s ≡ None
+    → Grows j s share.sight old new at → IsSearchRow j s new × IsAtStage j share s new at
 grown j share s old new stage.Open is out (v, d, other, joins) =
     let apart : s ≢ v = λ e. other (sym e) in
     (joined_row j s share.sight old new v d is joins, rw joins.joined (get_or-set_other old v s (Some d) None apart ∙ out))
@@ -123,7 +129,8 @@ grown j share s old new (stage.Offered c) is out grows = absurd grows
 -- ---- ends
 
 -- a search that returned shows a cycle
-pub returned_row : (j : Judged) (share : Share) (s : ℕ) (row : List (Option ℕ)) (at : Stage) (c : ℕ) → IsAtStage j share s row at → HasReturned at c → in_row row s ≡ Some c
+pub returned_row : (j : Judged) (share : Share) (s : ℕ) (row : List (Option ℕ)) (at : Stage) (c : ℕ) → IsAtStage j share s row at → HasReturned at c
+    → in_row row s ≡ Some c
 returned_row j share s row (stage.Returned d) c is same = is ∙ ap Some same
 returned_row j share s row (stage.Offered d) c is same = is.0 ∙ ap Some same
 returned_row j share s row stage.Open c is same = absurd same
@@ -134,7 +141,8 @@ returned_cost j s row c is here =
     let (links, route, costs) = (is.exact s c here).attained in
     (s, links, route.0, costs)
 
-pub ended : (j : Judged) (share : Share) (s : ℕ) (row : List (Option ℕ)) (at : Stage) (stop : Stop) → IsAtStage j share s row at → end_of at ≡ Some stop → IsStopped j share s row stop
+pub ended : (j : Judged) (share : Share) (s : ℕ) (row : List (Option ℕ)) (at : Stage) (stop : Stop) → IsAtStage j share s row at → end_of at ≡ Some stop
+    → IsStopped j share s row stop
 ended j share s row (stage.Offered c) stop is e = subst (λ (z : Stop). IsStopped j share s row z) (same_Some (Returned c) stop e) is
 ended j share s row (stage.Cut cap) stop is e = subst (λ (z : Stop). IsStopped j share s row z) (same_Some (Cut cap) stop e) is
 ended j share s row (stage.Returned c) stop is e = absurd (none-some stop e)

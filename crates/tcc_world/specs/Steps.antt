@@ -76,7 +76,11 @@ offering worker search c sight =
 abbrev pub finishing : Worker → Searching → Stop → Worker
 finishing worker search stop =
     record {
-      share = record { finished = worker.share.finished ++ record { start = search.start; row = search.row; stop = stop } ∷ []; offers = worker.share.offers; sight = worker.share.sight };
+      share = record {
+        finished = worker.share.finished ++ record { start = search.start; row = search.row; stop = stop } ∷ [];
+        offers = worker.share.offers;
+        sight = worker.share.sight;
+      };
       search = None;
     }
 

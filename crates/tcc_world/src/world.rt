@@ -115,7 +115,8 @@ impl World {
         requires { self.old.starts ≡ length prices.now.prices }
         ensures starts { self.new.starts ≡ self.old.starts }
         ensures machine { (j : Judged) → IsPricesOf j prices.now → IsMachineOf j self.old → IsMachineOf j self.new }
-        ensures happens { (j : Judged) → IsPricesOf j prices.now → IsMachineOf j self.old → OnOk result (Happens j (world_of self.old) (event.Take worker start) (world_of self.new)) }
+        ensures happens { (j : Judged) → IsPricesOf j prices.now → IsMachineOf j self.old
+            → OnOk result (Happens j (world_of self.old) (event.Take worker start) (world_of self.new)) }
         ensures answers { Answers self.old (event.Take worker start) result self.new }
     {
         if !is_left(&self.left, start) {
@@ -160,7 +161,8 @@ impl World {
         requires { self.old.starts ≡ length prices.now.prices }
         ensures starts { self.new.starts ≡ self.old.starts }
         ensures machine { (j : Judged) → IsPricesOf j prices.now → IsMachineOf j self.old → IsMachineOf j self.new }
-        ensures happens { (j : Judged) → IsPricesOf j prices.now → IsMachineOf j self.old → OnOk result (Happens j (world_of self.old) (event.Settle worker) (world_of self.new)) }
+        ensures happens { (j : Judged) → IsPricesOf j prices.now → IsMachineOf j self.old
+            → OnOk result (Happens j (world_of self.old) (event.Settle worker) (world_of self.new)) }
         ensures answers { Answers self.old (event.Settle worker) result self.new }
     {
         let Some(desk) = self.desks.get_mut(worker as usize) else {

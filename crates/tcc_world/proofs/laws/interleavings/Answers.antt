@@ -16,5 +16,6 @@ returns c = record {
   least = λ j workers seed events world b is runs finished word.
       least_cycle j (shares_of world) b (subst (SettleAt j (shares_of world)) word (run_settles j workers seed events world is runs finished));
   same = λ j workers others seed another events more world other is runs finished too ran done.
-      one_word j (shares_of world) (shares_of other) world.word other.word (run_settles j workers seed events world is runs finished) (run_settles j others another more other too ran done);
+      one_word j (shares_of world) (shares_of other) world.word other.word (run_settles j workers seed events world is runs finished)
+      (run_settles j others another more other too ran done);
 }

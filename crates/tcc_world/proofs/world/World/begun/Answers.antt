@@ -13,5 +13,6 @@ invariant_of-result c =
       most = c.count-starts.ensures.few;
       few = omega (arith, length-range_with_len 0 n);
       below = (numbers n).below;
-      rows = All-weaker (λ (desk : Desk). desk.search ≡ None) (λ desk. HasRow n desk.search) (λ desk none. rw none tt) c.in_ok-desks.desks.items c.in_ok-desks.ensures.idle;
+      rows = All-weaker (λ (desk : Desk). desk.search ≡ None) (λ desk. HasRow n desk.search)
+          (λ desk none. rw none tt) c.in_ok-desks.desks.items c.in_ok-desks.ensures.idle;
     })

@@ -12,15 +12,23 @@ returns-then-is_err-clause-answers c =
 
 pub returns-clause-happens : goal.returns-clause-happens
 returns-clause-happens c =
-    let (at, has) = held c.self.inside c.args.worker c.in-Some.desk.now c.in-Some-take.begun (c.in-Some.ensures.variant.0 refl) c.in-Some.ensures.value c.take.ensures.value c.in-Some-take.is in
+    let (at, has)
+    = held c.self.inside c.args.worker c.in-Some.desk.now c.in-Some-take.begun
+    (c.in-Some.ensures.variant.0 refl) c.in-Some.ensures.value c.take.ensures.value c.in-Some-take.is in
     let one : c.in-Some-search.begun ≡ c.in-Some-take.begun = search rules in
-    let returned : HasReturned c.in-Some-take.begun.stage c.args.cost = subst (λ (x : Begun). HasReturned x.stage c.args.cost) one (c.if-not-has_returned.ensures.0 refl) in
+    let returned : HasReturned c.in-Some-take.begun.stage c.args.cost
+    = subst (λ (x : Begun). HasReturned x.stage c.args.cost) one (c.if-not-has_returned.ensures.0 refl) in
     let pushed : c.push.new.self.items ≡ c.in-Some.desk.now.offers.items ++ c.args.cost ∷ [] = search rules in
-    rw (sym c.self.view_is) (λ j is. offer_made (machine_in c.self.inside) c.args.worker c.args.cost c.lowered-word.result c.in-Some.desk.now c.push.new.self c.in-Some-take.begun at has returned c.lowered-word.ensures pushed)
+    rw (sym c.self.view_is) (λ j is. offer_made
+    (machine_in c.self.inside) c.args.worker c.args.cost c.lowered-word.result c.in-Some.desk.now c.push.new.self c.in-Some-take.begun at has returned
+    c.lowered-word.ensures pushed)
 
 pub returns-clause-answers : goal.returns-clause-answers
 returns-clause-answers c =
-    let (at, has) = held c.self.inside c.args.worker c.in-Some.desk.now c.in-Some-take.begun (c.in-Some.ensures.variant.0 refl) c.in-Some.ensures.value c.take.ensures.value c.in-Some-take.is in
+    let (at, has)
+    = held c.self.inside c.args.worker c.in-Some.desk.now c.in-Some-take.begun
+    (c.in-Some.ensures.variant.0 refl) c.in-Some.ensures.value c.take.ensures.value c.in-Some-take.is in
     let one : c.in-Some-search.begun ≡ c.in-Some-take.begun = search rules in
-    let returned : HasReturned c.in-Some-take.begun.stage c.args.cost = subst (λ (x : Begun). HasReturned x.stage c.args.cost) one (c.if-not-has_returned.ensures.0 refl) in
+    let returned : HasReturned c.in-Some-take.begun.stage c.args.cost
+    = subst (λ (x : Begun). HasReturned x.stage c.args.cost) one (c.if-not-has_returned.ensures.0 refl) in
     rw (sym c.self.view_is) (_, begun_search (machine_in c.self.inside) c.args.worker c.in-Some.desk.now c.in-Some-take.begun at has, returned)

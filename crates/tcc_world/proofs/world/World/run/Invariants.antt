@@ -8,4 +8,5 @@ use Rattle.tcc_world.proofs.world.World.run.Given as goal
 abbrev pub invariant-loop-at : goal.invariant-loop-at
 invariant-loop-at l =
     (l.self.starts ≡ l.fn.self.starts)
-    × ((j : Judged) → IsPricesOf j l.prices → IsMachineOf j l.fn.self → IsMachineOf j l.self × Runs j (world_of l.fn.self) (take l.at l.events) (world_of l.self))
+    × ((j : Judged) → IsPricesOf j l.prices → IsMachineOf j l.fn.self
+    → IsMachineOf j l.self × Runs j (world_of l.fn.self) (take l.at l.events) (world_of l.self))

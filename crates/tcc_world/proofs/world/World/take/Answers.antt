@@ -24,11 +24,19 @@ returns-clause-happens c =
     let idle : c.in-Some.desk.now.search ≡ None = search rules in
     let here : Contains c.self.inside.left.items c.args.start = search rules in
     let same : c.in-Ok.search.start ≡ c.args.start = search rules in
-    rw (sym c.self.view_is) (λ j priced is. take_made j (machine_in c.self.inside) c.take_out.new.left.items c.args.worker c.args.start c.in-Some.desk.now c.in-Ok.search is at idle here c.take_out.ensures same (subst (λ (n : ℕ). IsEmptyRow n c.in-Ok.search.row) (sym (ap (λ (z : Machine). z.starts) c.self.view_is ∙ c.requires)) c.in-Ok.ensures.empty))
+    rw (sym c.self.view_is) (λ j priced is. take_made j
+    (machine_in c.self.inside) c.take_out.new.left.items c.args.worker c.args.start c.in-Some.desk.now c.in-Ok.search is at idle here c.take_out.ensures
+    same (subst (λ (n : ℕ). IsEmptyRow n c.in-Ok.search.row) (sym (ap (λ (z : Machine). z.starts) c.self.view_is ∙ c.requires)) c.in-Ok.ensures.empty))
 
 pub returns-clause-answers : goal.returns-clause-answers
 returns-clause-answers c =
     let at = found c.self.inside c.args.worker c.in-Some.desk.now (c.in-Some.ensures.variant.0 refl) c.in-Some.ensures.value in
     let idle : c.in-Some.desk.now.search ≡ None = search rules in
     let here : Contains c.self.inside.left.items c.args.start = search rules in
-    rw (sym c.self.view_is) ((omega (arith, length-map c.self.inside.desks.items worker_of, c.in-Some.ensures.variant.0 refl, c.self.inside.desks.ok.0), idle_search (machine_in c.self.inside) c.args.worker c.in-Some.desk.now at idle), here)
+    rw (sym c.self.view_is) (
+      (
+        omega (arith, length-map c.self.inside.desks.items worker_of, c.in-Some.ensures.variant.0 refl, c.self.inside.desks.ok.0),
+        idle_search (machine_in c.self.inside) c.args.worker c.in-Some.desk.now at idle,
+      ),
+      here,
+    )
