@@ -25,7 +25,8 @@ returns-then-not-branch g c =
     record {
       counts = (λ text known small.
           let know = inv.3 text known in
-          let end = rows-end g.R.Read.remaining c.loop-count.rows c.read_byte_record.new.self (fields_of c.read_byte_record.new.row) default_config know.1 inv.2 know.2 read in
+          let end = rows-end g.R.Read.remaining c.loop-count.rows c.read_byte_record.new.self
+          (fields_of c.read_byte_record.new.row) default_config know.1 inv.2 know.2 read in
           (know.0, (c.loop-count.rows.state, know.1, know.3, end), know.4));
     }
 
@@ -39,7 +40,8 @@ loop-count-preserved g c =
       read.2 ∙ inv.2,
       (λ text known.
           let know = inv.3 text known in
-          let more = rows-more g.R.Read.remaining c.loop-count.rows c.read_byte_record.new.self row default_config st.StartRecord (strip_bom text) know.1 know.0 inv.2 know.2 know.3 read in
+          let more = rows-more g.R.Read.remaining c.loop-count.rows c.read_byte_record.new.self row default_config st.StartRecord
+          (strip_bom text) know.1 know.0 inv.2 know.2 know.3 read in
           let size = length-append know.0 (row ∷ []) in
           (know.0 ++ (row ∷ []), more.0, more.1, more.2, omega arith)),
     )
