@@ -2,6 +2,7 @@ pub mod Walks
 pub mod BreadthLemmas
 pub mod BitLemmas
 pub mod MarkLemmas
+pub mod Unmarking
 pub mod FreshLemmas
 pub mod RowLemmas
 pub mod ClockLemmas

@@ -14,4 +14,5 @@ pub mod Rows
 pub mod Contradicting
 pub mod Heads
 pub mod LastLemmas
+pub mod WriterRows
 mod Worked

@@ -9,6 +9,7 @@ mod into;
 pub mod laws;
 mod numbering;
 mod ordering;
+mod written;
 
 pub use clocking::clocks;
 pub use ordering::order;

@@ -1,10 +1,11 @@
 //! The first commit order of a history at a level.
-ghost use Rattle.std.specs.Prelude.{◌≡◌, length, IfOk, MatchOption};
+ghost use Rattle.std.specs.Prelude.{◌≡◌, length, All, IfOk, MatchOption};
 ghost use Rattle.tcc_reads.specs.History.{IsBySession, count};
 ghost use Rattle.tcc_graph.specs.Relations.{IsCausalPair};
 ghost use Rattle.tcc_graph.specs.Orders.{IsFirstOrder};
 ghost use Rattle.tcc_graph.specs.Routes.{HasCycle};
 ghost use Rattle.tcc_graph.specs.declared.level.Level.{Level};
+ghost use Rattle.tcc_near.specs.Bits.{IsRowOf};
 ghost use Rattle.tcc_order.specs.Behind.{IsTableOf, IsAllowedFrom, AreSessionParents};
 
 use crate::before::rows_before;
@@ -26,6 +27,7 @@ fn order_by(
 ) -> Result<Option<Vec<u32>>, NoMemory>
     requires into { IsTableOf (count graph.now) (IsCausalPair graph.now) into.now }
     requires long { length behind.now ≡ count graph.now }
+    requires rows { All (IsRowOf (count graph.now)) behind.now }
     requires numbered { IsBySession graph.now.entries }
     requires parents { AreSessionParents graph.now parents.now }
     ensures { IfOk result (λ found. (level : Level) → IsTableOf (count graph.now) (IsAllowedFrom (record { history = graph.now; level = level })) behind.now

@@ -19,8 +19,8 @@ loop-a-preserved c =
     let table = c.loop-a.table.items in
     let row = c.in_ok-row_before.field-0 in
     let low : n < count h = search rules in
-    let from : c.values.result.now ≡ marks_of c.args.into.now n
-    = c.values.ensures ∙ get_or_read c.args.into.now n c.index-into-a.result (omega (arith, low, c.requires.into.long)) c.index-into-a.is [] in
+    let from : c.values-into.result.now ≡ marks_of c.args.into.now n
+    = c.values-into.ensures ∙ get_or_read c.args.into.now n c.index-into-a.result (omega (arith, low, c.requires.into.long)) c.index-into-a.is [] in
     let old = row_at (count h) (IsCausalPair h) c.args.into.now n c.requires.into low in
     let wide : length row ≡ words_for (count h) = rw from at c.in_ok-row_before.ensures.long ∙ old.0.wide in
     let made : AddsContradicted h behind n (marks_of c.args.into.now n) (IsReadsPair h n) row = rw from at c.in_ok-row_before.ensures.each in

@@ -4,7 +4,7 @@ use Rattle.tcc_graph.specs.Relations.{IsSessionPair}
 use Rattle.tcc_near.specs.Bits.{is_marked}
 use Rattle.tcc_order.specs.Behind.{session_parent}
 use Rattle.tcc_order.proofs.Reaching.{none_before, parent_or_init}
-use Rattle.tcc_near.proofs.MarkLemmas.{zeros_marked}
+use Rattle.tcc_near.proofs.Unmarking.{zeros_marked}
 use Rattle.tcc_order.proofs.Rows.{session_row}
 use Rattle.tcc_order.proofs.into.next_in_session.Goals as goal
 use Rattle.tcc_order.proofs.into.next_in_session.Goals.{then-parent-eq0, else-parent-eq0}
