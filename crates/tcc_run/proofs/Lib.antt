@@ -9,3 +9,4 @@ pub mod OneRun
 pub mod Runs
 pub mod Sent
 pub mod Explains
+pub mod Earlier

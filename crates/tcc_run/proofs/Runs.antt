@@ -101,15 +101,15 @@ module _ (options : Options) (text : List ℕ) (before : Option (List ℕ)) wher
 -- what is to be said of a snapshot is what is answered for it
 pub said_of : (options : Options) (s : Sessions) (o : Outcome) → IsOutcome options.level s o → IsAnswered options s (outcome_said options o)
 said_of options s (outcome.Answered a) is = inl (is.0, a, is.1, refl)
-said_of options s (outcome.Unresolved faults) is = inr (is.0, ap (faults_said options) is.1)
+said_of options s (outcome.Unresolved faults earlier) is = inr (is.0, ap (faults_said options) is.1)
 
 pub text_of : (options : Options) (o : Outcome) → (outcome_said options o).text ≡ outcome_text options.json o
 text_of options (outcome.Answered a) = refl
-text_of options (outcome.Unresolved faults) = refl
+text_of options (outcome.Unresolved faults earlier) = refl
 
 pub keeps_of : (options : Options) (o : Outcome) → Keeps (outcome_said options o) (answer_in o)
 keeps_of options (outcome.Answered a) = (refl, refl)
-keeps_of options (outcome.Unresolved faults) = (refl, refl)
+keeps_of options (outcome.Unresolved faults earlier) = (refl, refl)
 
 -- what is known of what was said last: nothing was, and an answer is due; or nothing is due, and it is that of all that was
 -- finished

@@ -1,5 +1,5 @@
 -- How a run goes on after a text was sent.
-use Rattle.std.proofs.Common.{◌≡◌, ◌≢◌, ℕ, Bool, true, false, List, Option, None, Some, Result, Ok, Err, refl, sym, subst, arith, inl, inr, nat_eq}
+use Rattle.std.proofs.Common.{◌≡◌, ◌≢◌, ℕ, Bool, true, false, List, Option, None, Some, Result, Ok, Err, ap, refl, sym, subst, ◌∙◌, arith, inl, inr, nat_eq}
 use Rattle.std.specs.Prelude.{IfSome, IsErrAnd, MatchResult}
 use Rattle.std.specs.Io.KnownBytes.{Appends}
 use Rattle.std.proofs.lemmas.Bool.Decides.{nat_tests}
@@ -35,6 +35,13 @@ kept_saying options s o kept before now after is answer same out = (
 
 abbrev given : Last → Result Last ℕ
 given last = Ok last
+
+abbrev kept_given : Option Answer → Result (Option Answer) ℕ
+kept_given kept = Ok kept
+
+-- the answer of what was said last is given again
+pub given_again : (next last : Last) (kept : Option Answer) → kept ≡ answer_in next.outcome → given next ≡ given last → kept_given kept ≡ kept_given (answer_in last.outcome)
+given_again next last kept answer again = let same : next ≡ last = cc again in ap kept_given (answer ∙ ap (λ (l : Last). answer_in l.outcome) same)
 
 -- what was worked out, or was said last, is to be said of the snapshot
 pub renewed : (level : Level) (s : Sessions) (last : Option Last) (next : Last) (before now : Option (List ℕ)) → IsStill level s last

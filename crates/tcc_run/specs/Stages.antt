@@ -5,6 +5,7 @@ use Rattle.std.specs.List.{last_or}
 use Rattle.std.specs.Option.{option_map_or}
 use Rattle.tcc_txn.specs.Answers as rows
 use Rattle.tcc_txn.specs.Finished.{transaction_count}
+use Rattle.tcc_txn.specs.Nested.{IsNested}
 use Rattle.tcc_txn.specs.Snapshots.{Sessions}
 use Rattle.tcc_txn.specs.Transactions.{Transaction}
 use Rattle.tcc_reads.specs.Faults.{read_faults}
@@ -12,8 +13,12 @@ use Rattle.tcc_reads.specs.Sources.{history}
 use Rattle.tcc_graph.specs.declared.level.Level.{Level}
 use Rattle.tcc_cert.specs.Texts.{certificate_text}
 use Rattle.tcc_answer.specs.Claims.{certificate_of}
+use Rattle.tcc_answer.specs.Answers.{LabelledCycle}
 use Rattle.tcc_answer.specs.declared.answer.Answer.{Answer}
+use Rattle.tcc_answer.specs.declared.answer.Answer.TheVariants as answer
 use Rattle.tcc_explain.specs.Explained.{IsAnswerOf}
+use Rattle.tcc_explain.specs.Next.{IsAnomalyOf}
+use Rattle.tcc_run.specs.Headline.{judged}
 use Rattle.tcc_print.specs.declared.status.Status.TheVariants.{Device, Memory}
 use Rattle.tcc_print.specs.declared.options.Options.{Options}
 use Rattle.tcc_run.specs.Runs.{Contents, Gains, GainsPart, IsAnswered, IsEnded, IsWhole, Said, answer_said, faults_said, texts}
@@ -34,25 +39,43 @@ count_at entries i = option_map_or (λ named. length named.1) (slice_get entries
 -- what is to be said of a snapshot at a level: its first answer where all its reads have sources, else all its read faults
 abbrev pub IsOutcome : Level → Sessions → Outcome → Type 0
 IsOutcome level s (outcome.Answered a) = (read_faults s ≡ []) × IsAnswerOf (record { history = history s; level = level }) a
-IsOutcome level s (outcome.Unresolved faults) = (read_faults s ≢ []) × (faults.items ≡ read_faults s)
+IsOutcome level s (outcome.Unresolved faults earlier) = (read_faults s ≢ []) × (faults.items ≡ read_faults s)
 
 -- the answer; none where there are read faults in its place
 abbrev pub answer_in : Outcome → Option Answer
 answer_in (outcome.Answered a) = Some a
-answer_in (outcome.Unresolved faults) = None
+answer_in (outcome.Unresolved faults earlier) = None
+
+-- the last anomaly, of this answer or of one before read faults; none where there was none
+abbrev pub anomaly_in : Outcome → Option LabelledCycle
+anomaly_in (outcome.Answered (answer.Commit c)) = None
+anomaly_in (outcome.Answered (answer.Anomaly a)) = Some a
+anomaly_in (outcome.Unresolved faults earlier) = earlier
+
+-- an anomaly of a resolved snapshot that this one continues, whatever its tables
+abbrev pub IsEarlier : Level → Sessions → LabelledCycle → Type 0
+IsEarlier level s a = (small : Sessions) × IsNested small s × (read_faults small ≡ []) × IsAnomalyOf (judged small level) a
+
+-- the last anomaly, if there was one, is one of a snapshot that this one continues
+abbrev pub HasEarlier : Level → Sessions → Outcome → Type 0
+HasEarlier level s o = IfSome (anomaly_in o) (IsEarlier level s)
 
 -- how it goes out
 abbrev pub outcome_text : Bool → Outcome → List ℕ
 outcome_text json (outcome.Answered a) = answered json a
-outcome_text json (outcome.Unresolved faults) = unresolved json faults.items
+outcome_text json (outcome.Unresolved faults earlier) = unresolved json faults.items
 
 abbrev pub outcome_said : Options → Outcome → Said
 outcome_said options (outcome.Answered a) = answer_said options a
-outcome_said options (outcome.Unresolved faults) = faults_said options faults.items
+outcome_said options (outcome.Unresolved faults earlier) = faults_said options faults.items
 
 -- what was said last was said of this snapshot
 abbrev pub IsFor : Level → Sessions → Last → Type 0
 IsFor level s last = (last.transactions ≡ transaction_count s) × IsOutcome level s last.outcome
+
+-- what was said last was said of a snapshot that this one continues, as far as an anomaly goes
+abbrev pub Follows : Level → Sessions → Last → Type 0
+Follows level s last = HasEarlier level s last.outcome
 
 -- what was said last, if anything was, is to be said of this snapshot too, if it was said for as many transactions
 abbrev pub IsStill : Level → Sessions → Option Last → Type 0

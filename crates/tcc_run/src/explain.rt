@@ -1,5 +1,5 @@
 //! From the bytes of records to their answers: at each seal, and at the end.
-ghost use Rattle.std.specs.Prelude.{◌≡◌, ◌≢◌, ◌<◌, ◌≤◌, ℕ, List, [], true, false, None, Some, Ok, IfSome, MatchResult, OnErr, OnOk, option_map};
+ghost use Rattle.std.specs.Prelude.{◌≡◌, ◌≢◌, ◌<◌, ◌≤◌, ℕ, List, [], true, false, None, Some, Ok, IfOk, IfSome, MatchResult, OnErr, OnOk, option_map};
 ghost use Rattle.std.specs.FinMap as sessions;
 ghost use Rattle.tcc_txn.specs.Ahead.{fault_met};
 ghost use Rattle.tcc_txn.specs.Answers.{answers_of, records_of};
@@ -10,7 +10,7 @@ ghost use Rattle.tcc_cert.specs.Texts.{certificate_text};
 ghost use Rattle.tcc_answer.specs.Claims.{certificate_of};
 ghost use Rattle.tcc_print.specs.Printed.{Prints, memory_line};
 ghost use Rattle.tcc_run.specs.Runs.{Gains, GainsPart, IsRun};
-ghost use Rattle.tcc_run.specs.Stages.{AllAnswered, AnswersKept, Concludes, EndsAnswering, EndsEarly, IsFor, IsStill, SaysLast, answer_in, count_at};
+ghost use Rattle.tcc_run.specs.Stages.{AllAnswered, AnswersKept, Concludes, EndsAnswering, EndsEarly, Follows, IsFor, IsStill, SaysLast, answer_in, count_at};
 
 use crate::outcome::Outcome;
 use std::alloc::Global;
@@ -75,19 +75,23 @@ fn renew<W: Write, G: Gate>(
     out: &mut W,
 ) -> Result<Last, u8>
     requires workers { (0 < options.workers) × (options.workers ≤ 32) }
+    requires earlier { IfSome last (Follows options.level snapshot.now) }
     ensures again { IfSome last (λ last. last.transactions ≡ transaction_count snapshot.now → (W.contents out.new ≡ W.contents out.old) × (result ≡ Ok last)) }
     ensures anew { IfSome last (λ last. last.transactions ≢ transaction_count snapshot.now)
         → MatchResult result (λ next. (W.contents out.new ≡ W.contents out.old) × IsFor options.level snapshot.now next)
         (Prints (W.contents out.old) (W.contents out.new) (memory_line options.json) Status.Memory) }
+    ensures earlier { IfOk result (Follows options.level snapshot.now) }
 {
     let transactions = transaction_count(snapshot);
-    // One answer is held at a time: the certificate of a large history fills much memory.
+    let mut earlier = None;
     if let Some(last) = last {
         if last.transactions == transactions {
             return Ok(last);
         }
+        // One answer is held at a time: the certificate of a large history fills much memory.
+        earlier = last.outcome.into_anomaly(alloc);
     }
-    match Outcome::of(rt, alloc, snapshot, options, gate) {
+    match Outcome::of(rt, alloc, snapshot, earlier, options, gate) {
         Ok(outcome) => Ok(Last {
             outcome,
             transactions,
@@ -108,7 +112,9 @@ fn answer_seal<W: Write, G: Gate>(
     out: &mut W,
 ) -> Result<Last, u8>
     requires workers { (0 < options.workers) × (options.workers ≤ 32) }
-    ensures { IsStill options.level snapshot.now last
+    requires earlier { IfSome last (Follows options.level snapshot.now) }
+    ensures earlier { IfOk result (Follows options.level snapshot.now) }
+    ensures said { IsStill options.level snapshot.now last
         → MatchResult result (SaysLast options snapshot.now (W.contents out.old) (W.contents out.new)) (EndsAnswering options snapshot.now (W.contents out.old) (W.contents out.new)) }
 {
     let said = renew(rt, alloc, snapshot, last, options, gate, out)?;
@@ -128,6 +134,7 @@ fn answer_last<W: Write, G: Gate>(
     out: &mut W,
 ) -> Result<Option<Answer>, u8>
     requires workers { (0 < options.workers) × (options.workers ≤ 32) }
+    requires earlier { IfSome last (Follows options.level snapshot.now) }
     ensures said { IfSome last (λ last. last.transactions ≡ transaction_count snapshot.now → (W.contents out.new ≡ W.contents out.old) × (result ≡ Ok (answer_in last.outcome))) }
     ensures due { IfSome last (λ last. last.transactions ≢ transaction_count snapshot.now)
         → MatchResult result (AnswersKept options snapshot.now (W.contents out.old) (W.contents out.new)) (EndsAnswering options snapshot.now (W.contents out.old) (W.contents out.new)) }

@@ -1,13 +1,14 @@
-//! The main theorem, as the contract of one call.
+//! The main theorem, as the contract of one call, and of the same after an earlier anomaly.
 ghost use Rattle.std.specs.Prelude.{◌<◌, ◌≤◌, IfOk, MatchResult};
 ghost use Rattle.tcc_explain.specs.Explained.{IsAnswerOf, IsRefusal};
+ghost use Rattle.tcc_explain.specs.Next.{IsNextRefusal};
 ghost use Rattle.tcc_run.specs.Headline.{IsExplained, judged};
 
 use std::alloc::Global;
 use std::thread::Threads;
 use tcc_check::laws::certified as certified_claim;
 use tcc_explain::laws::certified as certified_answer;
-use tcc_explain::{Answer, ExplainFault, Gate, explain};
+use tcc_explain::{Anomaly, Answer, ExplainFault, Gate, NextFault, explain, explain_next};
 use tcc_graph::Level;
 use tcc_txn::Snapshot;
 
@@ -30,6 +31,30 @@ pub fn explain_snapshot<G: Gate>(
     certified_answer();
     certified_claim();
     match explain(rt, alloc, snapshot, level, workers, gate) {
+        Ok(answer) => Ok(answer),
+        Err(fault) => Err(fault),
+    }
+}
+
+/// Explains a snapshot after an earlier anomaly, at its level: what `explain_snapshot` says of an answer holds of this one,
+/// whose search begins with what the earlier cycle costs now. Where there are no read faults it may tell the first link of
+/// that cycle that is none of this history's; `tcc_explain::laws::grown` says that it tells none where the snapshot continues
+/// the one of the anomaly.
+pub fn explain_snapshot_next<G: Gate>(
+    rt: &(impl Threads + Sync),
+    alloc: Global,
+    snapshot: &Snapshot,
+    earlier: &Anomaly,
+    workers: u32,
+    gate: &G,
+) -> Result<Answer, NextFault>
+    requires workers { (0 < workers) × (workers ≤ 32) }
+    ensures headline { MatchResult result (IsExplained snapshot.now earlier.now.level) (IsNextRefusal snapshot.now earlier.now) }
+    ensures first { IfOk result (IsAnswerOf (judged snapshot.now earlier.now.level)) }
+{
+    certified_answer();
+    certified_claim();
+    match explain_next(rt, alloc, snapshot, earlier, workers, gate) {
         Ok(answer) => Ok(answer),
         Err(fault) => Err(fault),
     }

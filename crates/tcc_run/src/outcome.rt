@@ -1,14 +1,21 @@
 //! What is said of a snapshot: its answer, or all its read faults.
-ghost use Rattle.std.specs.Prelude.{◌≡◌, ◌<◌, ◌≤◌, IfErr, IfOk, OnOk};
+ghost use Rattle.std.specs.Prelude.{◌≡◌, ◌<◌, ◌≤◌, [], IfErr, IfOk, IfSome, MatchResult, OnOk};
 ghost use Rattle.std.specs.Io.KnownBytes.{Appends};
+ghost use Rattle.tcc_txn.specs.Finished.{KeepsLimits};
+ghost use Rattle.tcc_txn.specs.Snapshots.{Sessions};
+ghost use Rattle.tcc_reads.specs.Faults.{read_faults};
+ghost use Rattle.tcc_graph.specs.declared.level.Level.{Level};
+ghost use Rattle.tcc_explain.specs.Explained.{IsAnswerOf, IsRefusal};
 ghost use Rattle.tcc_print.specs.Printed.{EndsIn};
-ghost use Rattle.tcc_run.specs.Stages.{IsOutcome, answer_in, outcome_text};
+ghost use Rattle.tcc_run.specs.Headline.{judged};
+ghost use Rattle.tcc_run.specs.Stages.{HasEarlier, IsEarlier, IsOutcome, answer_in, outcome_text};
 
-use crate::headline::explain_snapshot;
+use crate::headline::{explain_snapshot, explain_snapshot_next};
 use std::alloc::Global;
 use std::io::Write;
 use std::thread::Threads;
-use tcc_explain::{Answer, ExplainFault, Gate};
+use tcc_explain::laws::grown;
+use tcc_explain::{Anomaly, Answer, ExplainFault, Gate, NextFault};
 use tcc_print::Options;
 use tcc_print::printing::{send_answer, send_unresolved};
 use tcc_reads::ReadFault;
@@ -18,24 +25,67 @@ use tcc_txn::{NoMemory, Snapshot};
 #[derive(Drop)]
 pub(crate) enum Outcome {
     Answered(Answer),
-    Unresolved(Vec<ReadFault>),
+    Unresolved {
+        faults: Vec<ReadFault>,
+        /// The anomaly that was answered last, if there was one; it is still one once these reads are resolved.
+        earlier: Option<Anomaly>,
+    },
+}
+
+/// Snapshots keep the limits.
+fn keeps_limits(snapshot: &Snapshot)
+    ensures { KeepsLimits snapshot.now }
+{
+    let _sessions = snapshot.sessions();
+}
+
+/// The answer for a snapshot at the level; after an anomaly the search begins with what that one costs now.
+fn work_out<G: Gate>(
+    rt: &(impl Threads + Sync),
+    alloc: Global,
+    snapshot: &Snapshot,
+    earlier: &Option<Anomaly>,
+    options: Options,
+    gate: &G,
+) -> Result<Answer, ExplainFault>
+    requires workers { (0 < options.workers) × (options.workers ≤ 32) }
+    requires earlier { IfSome earlier.now (IsEarlier options.level snapshot.now) }
+    ensures { MatchResult result
+        (λ answer. (read_faults snapshot.now ≡ []) × IsAnswerOf (judged snapshot.now options.level) answer)
+        (IsRefusal snapshot.now) }
+{
+    let Some(anomaly) = earlier else {
+        return explain_snapshot(rt, alloc, snapshot, options.level, options.workers, gate);
+    };
+    grown();
+    keeps_limits(snapshot);
+    match explain_snapshot_next(rt, alloc, snapshot, anomaly, options.workers, gate) {
+        Ok(answer) => Ok(answer),
+        Err(NextFault::Reads(faults)) => Err(ExplainFault::Reads(faults)),
+        Err(NextFault::NoMemory) => Err(ExplainFault::NoMemory),
+        Err(NextFault::NotNested { .. }) => unreachable!(),
+    }
 }
 
 impl Outcome {
-    /// What is to be said of the snapshot at the level, worked out by so many workers.
+    /// What is to be said of the snapshot at the level, worked out by so many workers; it continues that of the earlier
+    /// anomaly, if there was one.
     pub(crate) fn of<G: Gate>(
         rt: &(impl Threads + Sync),
         alloc: Global,
         snapshot: &Snapshot,
+        earlier: Option<Anomaly>,
         options: Options,
         gate: &G,
     ) -> Result<Outcome, NoMemory>
         requires workers { (0 < options.workers) × (options.workers ≤ 32) }
-        ensures { IfOk result (IsOutcome options.level snapshot.now) }
+        requires earlier { IfSome earlier (IsEarlier options.level snapshot.now) }
+        ensures outcome { IfOk result (IsOutcome options.level snapshot.now) }
+        ensures earlier { IfOk result (HasEarlier options.level snapshot.now) }
     {
-        match explain_snapshot(rt, alloc, snapshot, options.level, options.workers, gate) {
+        match work_out(rt, alloc, snapshot, &earlier, options, gate) {
             Ok(answer) => Ok(Outcome::Answered(answer)),
-            Err(ExplainFault::Reads(faults)) => Ok(Outcome::Unresolved(faults)),
+            Err(ExplainFault::Reads(faults)) => Ok(Outcome::Unresolved { faults, earlier }),
             Err(ExplainFault::NoMemory) => Err(NoMemory),
         }
     }
@@ -47,7 +97,7 @@ impl Outcome {
     {
         match self {
             Outcome::Answered(answer) => send_answer(alloc, answer, json, out),
-            Outcome::Unresolved(faults) => send_unresolved(alloc, faults, json, out),
+            Outcome::Unresolved { faults, .. } => send_unresolved(alloc, faults, json, out),
         }
     }
 
@@ -57,7 +107,18 @@ impl Outcome {
     {
         match self {
             Outcome::Answered(answer) => Some(answer),
-            Outcome::Unresolved(_) => None,
+            Outcome::Unresolved { .. } => None,
+        }
+    }
+
+    /// The last anomaly, without its tables; none where there was none.
+    pub(crate) fn into_anomaly(self, alloc: Global) -> Option<Anomaly>
+        ensures { (level : Level) (s : Sessions) → HasEarlier level s self → IfSome result (IsEarlier level s) }
+    {
+        match self {
+            Outcome::Answered(Answer::Commit(_)) => None,
+            Outcome::Answered(Answer::Anomaly(anomaly)) => Some(anomaly.without_tables(alloc)),
+            Outcome::Unresolved { earlier, .. } => earlier,
         }
     }
 }

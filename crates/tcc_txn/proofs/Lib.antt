@@ -15,6 +15,7 @@ mod StandingFacts
 mod WordOrder
 mod WorkedTexts
 pub mod Lists
+pub mod Nesting
 pub mod Parts
 pub mod SessionEntries
 pub mod SnapshotFaults

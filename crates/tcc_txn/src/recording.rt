@@ -4,6 +4,7 @@ ghost use Rattle.tcc_txn.specs.Ahead.{fault_met, has_ended};
 ghost use Rattle.tcc_txn.specs.Answers.{Answers, answers_of, records_of};
 ghost use Rattle.tcc_txn.specs.Finished.{KeepsLimits, finished_in, with_transaction};
 ghost use Rattle.tcc_txn.specs.Lines.{Record};
+ghost use Rattle.tcc_txn.specs.Nested.{IsNested};
 ghost use Rattle.tcc_txn.specs.Reached.{IsWithin, ReaderFailed, row_reached};
 ghost use Rattle.tcc_txn.specs.Recordings.{IsRecorded, IsRecording, TakesMoment};
 ghost use Rattle.tcc_txn.specs.declared.rows.Item.{Item};
@@ -46,6 +47,9 @@ impl<R: Read + Drop> Recording<R> {
     pub fn advance(&mut self, alloc: Global) -> Result<Moment, RowFault>
         ensures moment { (taken : List Item) (ahead : Answers) → IsRecording R.remaining self.old taken ahead → TakesMoment R.remaining taken ahead result self.new }
         ensures within { (all : List Record) → IsWithin R.remaining self.old.rows all → IsWithin R.remaining self.new.rows all }
+
+        // Whatever is known of the bytes, what was finished stays, and each session only goes on.
+        ensures continues { IsNested self.old.snapshot self.new.snapshot }
 
         // Whatever is known of the bytes, a fault stands at the record that was read last, or at the
         // one after it where its reading failed; and only a reader that failed makes it `Read`.

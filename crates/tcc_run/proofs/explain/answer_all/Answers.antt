@@ -1,11 +1,13 @@
 -- What comes of each moment of the recording.
 use Rattle.std.proofs.Common.{◌+◌, ◌≤◌, length, subst, sym, Ok}
 use Rattle.tcc_txn.specs.Answers.{records_of}
+use Rattle.tcc_txn.specs.Nested.{IsNested}
 use Rattle.tcc_txn.specs.Recordings.{TakesMoment}
 use Rattle.tcc_print.specs.Printed.{halted}
-use Rattle.tcc_run.specs.Stages.{AllAnswered, EndsEarly}
+use Rattle.tcc_run.specs.Stages.{AllAnswered, EndsEarly, Follows}
 use Rattle.tcc_print.specs.Printed.{PrintsOrMemory}
 use Rattle.tcc_print.specs.Statuses.{halt_status}
+use Rattle.tcc_run.proofs.Earlier.{follows_on}
 use Rattle.tcc_run.proofs.Reach.{row_bound}
 use Rattle.tcc_run.proofs.Runs.{answered-seal, ended-end, ended-seal, still-seal, stopped, wants_memory}
 use Rattle.tcc_run.proofs.Sent.{ended_by}
@@ -20,9 +22,10 @@ moments-preserved g c = record {
       let same = c.snapshot-snapshot.ensures.finished _ _ at.3 in
       answered-seal g.R.Read.remaining c.args.options text c.moments.recording c.advance.new.self _ _ c.moments.last way at
       c.snapshot-snapshot.result.now c.in_ok-said-in-Ok-Seal.said _ same
-      (c.in_ok-said-in-Ok-Seal.ensures (still-seal g.R.Read.remaining c.args.options text c.moments.recording c.advance.new.self _ _ c.moments.last way at
+      (c.in_ok-said-in-Ok-Seal.ensures.said (still-seal g.R.Read.remaining c.args.options text c.moments.recording c.advance.new.self _ _ c.moments.last way at
       c.snapshot-snapshot.result.now same));
   within = λ records within. c.in-Ok-Seal.ensures.within records (c.moments.invariant.within records within);
+  earlier = subst (λ s. Follows c.args.options.level s c.in_ok-said-in-Ok-Seal.said) c.snapshot-snapshot.ensures.value c.in_ok-said-in-Ok-Seal.ensures.earlier;
   going = λ none. c.in-Ok-Seal.ensures.goes_on;
 }
 
@@ -35,7 +38,7 @@ returns-in_err-said-in-Ok-Seal g c text recording within fresh =
     ended_by (AllAnswered c.args.options text _ _) (EndsEarly c.args.options text _ _) c.from_residual.result c.in_err-said-in-Ok-Seal.field-0.0 c.from_residual.ensures.1
     (ended-seal g.R.Read.remaining c.args.options text c.moments.recording c.advance.new.self _ _ c.moments.last way at
     c.snapshot-snapshot.result.now _ c.in_err-said-in-Ok-Seal.field-0.0 same
-    (c.in_err-said-in-Ok-Seal.ensures (still-seal g.R.Read.remaining c.args.options text c.moments.recording c.advance.new.self _ _ c.moments.last way at
+    (c.in_err-said-in-Ok-Seal.ensures.said (still-seal g.R.Read.remaining c.args.options text c.moments.recording c.advance.new.self _ _ c.moments.last way at
     c.snapshot-snapshot.result.now same)))
 
 pub returns-in-Ok-End : goal.returns-in-Ok-End
@@ -62,3 +65,13 @@ returns g c text recording within fresh =
     let way = c.moments.invariant.way text recording in
     wants_memory g.R.Read.remaining c.args.options text c.moments.recording c.moments.recording _ _ c.moments.last way _
     c.print_memory.result c.print_memory.ensures
+
+pub answer_seal-requires-clause-earlier : goal.answer_seal-requires-clause-earlier
+answer_seal-requires-clause-earlier g c κs within =
+    follows_on c.args.options.level c.moments.recording.snapshot c.snapshot-snapshot.result.now c.moments.last
+    (subst (IsNested c.moments.recording.snapshot) (sym c.snapshot-snapshot.ensures.value) c.in-Ok-Seal.ensures.continues) c.moments.invariant.earlier
+
+pub answer_last-requires-clause-earlier : goal.answer_last-requires-clause-earlier
+answer_last-requires-clause-earlier g c κs within =
+    follows_on c.args.options.level c.moments.recording.snapshot c.snapshot.result.now c.moments.last
+    (subst (IsNested c.moments.recording.snapshot) (sym c.snapshot.ensures.value) c.in-Ok-End.ensures.continues) c.moments.invariant.earlier

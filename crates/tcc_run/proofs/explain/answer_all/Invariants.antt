@@ -1,10 +1,13 @@
--- the snapshots at the seals so far were answered, and the other items are ahead
+-- the snapshots at the seals so far were answered, the other items are ahead, and an anomaly that was answered is one of a
+-- snapshot that went on
 use Rattle.std.proofs.Common.{◌≡◌, ℕ, List, [], None}
+use Rattle.std.specs.Prelude.{IfSome}
 use Rattle.tcc_txn.specs.Ahead.{fault_met}
 use Rattle.tcc_txn.specs.Answers.{answers_of}
 use Rattle.tcc_txn.specs.Lines.{Record}
 use Rattle.tcc_txn.specs.Reached.{IsWithin}
 use Rattle.tcc_txn.specs.Recordings.{IsRecording}
+use Rattle.tcc_run.specs.Stages.{Follows}
 use Rattle.tcc_run.proofs.Runs.{HasAnswered}
 use Rattle.tcc_run.proofs.explain.answer_all.Given as goal
 
@@ -13,5 +16,6 @@ invariant-moments g l = record {
   way : (text : List ℕ) → IsRecording g.R.Read.remaining l.initial.recording [] (answers_of text)
       → HasAnswered g.R.Read.remaining l.options text l.recording (g.W.Write.contents l.initial.out) (g.W.Write.contents l.out) l.last;
   within : (records : List Record) → IsWithin g.R.Read.remaining l.initial.recording.rows records → IsWithin g.R.Read.remaining l.recording.rows records;
+  earlier : IfSome l.last (Follows l.options.level l.recording.snapshot);
   going : fault_met l.initial.recording.rows ≡ None → fault_met l.recording.rows ≡ None;
 }

@@ -1,15 +1,18 @@
 use Rattle.std.proofs.Common.{Ok, refl, sym, ap, subst, ◌∙◌, arith}
 use Rattle.tcc_txn.specs.Ahead.{TakesAnswer, fault_met}
+use Rattle.tcc_txn.specs.Nested.{IsNested}
 use Rattle.tcc_txn.specs.Phases.{phase_after}
 use Rattle.tcc_txn.specs.Reached.{IsWithin}
 use Rattle.tcc_txn.specs.Recordings.{TakesMoment}
 use Rattle.tcc_txn.specs.declared.rows.Item.TheVariants as item
+use Rattle.tcc_txn.proofs.Nesting.{nested_itself, nested_on, nested_transaction}
 use Rattle.tcc_txn.proofs.RecordingSteps.{err-of, gives_up, goes_on, has-room, loses_one, met-itself, never-stopped, not-begun, not-end, stops, within-stopped}
 use Rattle.tcc_txn.proofs.recording.Recording.advance.Goals as goal
 
 pub items-init : goal.items-init
 items-init g c = record {
   way = λ taken ahead recording. not-begun g.R.Read.remaining taken ahead c.args.self.now recording;
+  continues = nested_itself c.args.self.now.snapshot;
   within = λ all within. within;
   stopped = met-itself (fault_met c.args.self.now.rows);
   going = λ none. none;
@@ -50,6 +53,9 @@ items-preserved g c = record {
       goes_on g.R.Read.remaining taken ahead c.items.self c.take.new.self way c.in-Finished.session c.in-Finished.txn
       (subst (λ rows. TakesAnswer g.R.Read.remaining way.1 (Ok (item.Finished c.in-Finished.session c.in-Finished.txn)) rows) (sym c.in_ok-take-in-Finished.ensures.taken.1) answer)
       c.in_ok-take-in-Finished.ensures.taken.0;
+  continues =
+      nested_on c.args.self.now.snapshot c.items.self.snapshot c.take.new.self.snapshot c.items.invariant.continues
+      (subst (IsNested c.items.self.snapshot) (sym c.in_ok-take-in-Finished.ensures.taken.0) (nested_transaction c.items.self.snapshot c.in-Finished.session c.in-Finished.txn));
   within = λ all within. subst (λ rows. IsWithin g.R.Read.remaining rows all) (sym c.in_ok-take-in-Finished.ensures.taken.1) (c.in_ok-session.ensures.within all (c.items.invariant.within all within));
   stopped = never-stopped (fault_met c.args.self.now.rows) (fault_met c.items.self.rows) c.in_ok-session.field-0 (fault_met c.take.new.self.rows) c.items.invariant.stopped c.in_ok-session.ensures.stays_stopped;
   going = λ none. ap (λ rows. fault_met rows) c.in_ok-take-in-Finished.ensures.taken.1 ∙ c.in_ok-session.ensures.goes_on;
@@ -62,3 +68,7 @@ returns-clause-moment g c taken ahead recording =
     let way = c.items.invariant.way taken ahead recording in
     gives_up g.R.Read.remaining taken ahead c.items.self (record { rows = c.give_up.new.self; snapshot = c.items.self.snapshot }) way c.give_up.result
     (ap (λ fault. fault.kind) c.give_up.ensures.fault) (ap (λ rows. rows.phase) c.give_up.ensures.stopped) refl
+
+pub returns-in_err-take-in-Finished-clause-continues : goal.returns-in_err-take-in-Finished-clause-continues
+returns-in_err-take-in-Finished-clause-continues g c =
+    subst (IsNested c.args.self.now.snapshot) (sym c.in_err-take-in-Finished.ensures.kept) c.items.invariant.continues

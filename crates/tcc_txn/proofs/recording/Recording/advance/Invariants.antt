@@ -4,6 +4,7 @@ use Rattle.std.specs.Prelude.{IfSome}
 use Rattle.tcc_txn.specs.Ahead.{fault_met, has_ended}
 use Rattle.tcc_txn.specs.Answers.{Answers}
 use Rattle.tcc_txn.specs.Lines.{Record}
+use Rattle.tcc_txn.specs.Nested.{IsNested}
 use Rattle.tcc_txn.specs.Reached.{IsWithin}
 use Rattle.tcc_txn.specs.Recordings.{IsRecording}
 use Rattle.tcc_txn.specs.declared.rows.Item.{Item}
@@ -15,6 +16,7 @@ abbrev pub invariant-items : goal.invariant-items
 invariant-items g l =
     record {
       way : (taken : List Item) (ahead : Answers) → IsRecording g.R.Read.remaining l.initial.self taken ahead → HasPassed g.R.Read.remaining l.self taken ahead;
+      continues : IsNested l.initial.self.snapshot l.self.snapshot;
       within : (all : List Record) → IsWithin g.R.Read.remaining l.initial.self.rows all → IsWithin g.R.Read.remaining l.self.rows all;
       stopped : IfSome (fault_met l.initial.self.rows) (λ fault. fault_met l.self.rows ≡ Some fault);
       going : fault_met l.initial.self.rows ≡ None → fault_met l.self.rows ≡ None;

@@ -1,0 +1,53 @@
+-- The anomaly with which the next answer begins.
+use Rattle.std.proofs.Common.{ℕ, ◌≡◌, [], Option, None, Some, subst, sym}
+use Rattle.std.specs.Prelude.{IfSome}
+use Rattle.tcc_txn.specs.Nested.{IsNested}
+use Rattle.tcc_txn.specs.Snapshots.{Sessions}
+use Rattle.tcc_txn.proofs.Nesting.{nested_itself, nested_on}
+use Rattle.tcc_reads.specs.Faults.{read_faults}
+use Rattle.tcc_graph.specs.declared.level.Level.{Level}
+use Rattle.tcc_answer.specs.Answers.{LabelledCycle}
+use Rattle.tcc_answer.specs.declared.answer.Answer.{Answer}
+use Rattle.tcc_answer.specs.declared.answer.Answer.TheVariants as answer
+use Rattle.tcc_explain.specs.Explained.{IsAnswerOf}
+use Rattle.tcc_explain.specs.Next.{IsAnomalyOf, IsNextRefusal}
+use Rattle.tcc_explain.specs.declared.refusal.NextFault.TheVariants as refusal
+use Rattle.tcc_run.specs.Headline.{IsExplained, judged}
+use Rattle.tcc_run.specs.Stages.{Follows, HasEarlier, IsEarlier, anomaly_in}
+use Rattle.tcc_run.specs.declared.explain.Last.{Last}
+use Rattle.tcc_run.specs.declared.outcome.Outcome.TheVariants as outcome
+
+-- an answer's own anomaly is one of its snapshot
+pub own_earlier : (level : Level) (s : Sessions) (a : Answer) → read_faults s ≡ [] → IsAnswerOf (judged s level) a → HasEarlier level s (outcome.Answered a)
+own_earlier level s (answer.Commit c) resolved is = tt
+own_earlier level s (answer.Anomaly a) resolved is = (s, nested_itself s, resolved, (is.0, is.1, is.2))
+
+-- what a snapshot continues, one that continues it does, too
+pub earlier_on : (level : Level) (s t : Sessions) (a : LabelledCycle) → IsNested s t → IsEarlier level s a → IsEarlier level t a
+earlier_on level s t a more (small, nested, resolved, is) = (small, nested_on small s t nested more, resolved, is)
+
+pub follows_on : (level : Level) (s t : Sessions) (last : Option Last) → IsNested s t → IfSome last (Follows level s) → IfSome last (Follows level t)
+follows_on level s t None more follows = tt
+follows_on level s t (Some last) more follows = by (anomaly_in last.outcome) follows
+  where
+    by : (o : Option LabelledCycle) → IfSome o (IsEarlier level s) → IfSome o (IsEarlier level t)
+    by None none = tt
+    by (Some a) earlier = earlier_on level s t a more earlier
+
+-- its tables don't matter
+pub without_tables : (level : Level) (s : Sessions) (a b : LabelledCycle)
+    → b ≡ record { level = a.level; links = a.links; near = []; far = []; labels = a.labels } → IsEarlier level s a → IsEarlier level s b
+without_tables level s a b is (small, nested, resolved, anomaly) =
+    subst (IsEarlier level s) (sym is) (small, nested, resolved, (anomaly.0, anomaly.1, anomaly.2))
+
+-- what is answered at its level is answered at that of the run
+pub at_its_level : (level : Level) (s : Sessions) (e : LabelledCycle) (a : Answer) → IsEarlier level s e → IsExplained s e.level a
+    → IsAnswerOf (judged s e.level) a → (read_faults s ≡ []) × IsAnswerOf (judged s level) a
+at_its_level level s e a (small, nested, resolved, anomaly) explained is =
+    (explained.resolved, subst (λ (l : Level). IsAnswerOf (judged s l) a) anomaly.1 is)
+
+-- in a resolved snapshot no link of such an anomaly is missed, where none is missed of one of a snapshot that it continues
+pub none_missed : (level : Level) (s : Sessions) (a : LabelledCycle) (n : ℕ)
+    → ((small : Sessions) → IsNested small s → read_faults small ≡ [] → read_faults s ≡ [] → IsAnomalyOf (judged small level) a → IsNextRefusal s a (refusal.NotNested n) → ⊥)
+    → IsEarlier level s a → IsNextRefusal s a (refusal.NotNested n) → ⊥
+none_missed level s a n law (small, nested, resolved, is) missing = law small nested resolved missing.0 is missing
