@@ -10,8 +10,8 @@ where the allocations of all runs are the same, each recorder's last one has to 
 Two workers share the allocations out anew in each run: there the refusals go on until so many runs in a row as CALM says had
 no allocation left to refuse. A thread that is refused changes no answer.
 
-Wants a C compiler on the path (`cc` or `clang`); where there is none it says so and tests nothing. Each difference
-is one line; the last line is `N passed, M failed`, a run a refused allocation.
+Needs a C compiler on the path (`cc` or `clang`); where there is none it says so and has failed. Each difference is one
+line; the last line is `N passed, M failed`, a run a refused allocation.
 """
 import argparse
 import os
@@ -184,7 +184,8 @@ def main():
     compiler = shutil.which("cc") or shutil.which("clang")
     passed = failed = 0
     if not compiler:
-        print("no C compiler: refused memory is not tested")
+        print("no C compiler (cc or clang): refused memory can't be tested")
+        failed = 1
     with tempfile.TemporaryDirectory() as folder:
         shim, mark = pathlib.Path(folder, "refuse.so"), pathlib.Path(folder, "refused")
         pathlib.Path(folder, "certificate").write_bytes(FORK_CERTIFICATE)

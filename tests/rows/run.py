@@ -26,7 +26,7 @@ HERE = pathlib.Path(__file__).resolve().parent
 TOP = HERE.parent.parent
 NEEDED = {"about", "arguments", "status"}
 FIELDS = NEEDED | {"input", "input_from", "typed", "cut", "closed", "files", "output", "output_to", "taken", "errors",
-                   "watched", "certificate", "seconds"}
+                   "watched", "certificate", "checked", "seconds"}
 COMMAND_LINE = 64
 
 
@@ -233,7 +233,24 @@ def difference(tcc, run, seconds):
         if done.returncode != run["status"]:
             return "status: wanted %d, got %d, output %s, standard error %s" % (
                 run["status"], done.returncode, shown(output), shown(done.stderr))
-        return next(filter(None, compared(run, output, done.stderr, pathlib.Path(folder, "certificate"))), None)
+        wrong = next(filter(None, compared(run, output, done.stderr, pathlib.Path(folder, "certificate"))), None)
+        return wrong or checked(tcc, run, folder, seconds)
+
+
+def checked(tcc, run, folder, seconds):
+    """What `check` of the input and the certificate that was written says otherwise than wanted, or None."""
+    if "checked" not in run:
+        return None
+    history = pathlib.Path(folder, "history-to-check")
+    history.write_bytes(text(run["input"]))
+    words = [*tcc, "check", history, pathlib.Path(folder, "certificate")]
+    try:
+        done = subprocess.run(words, capture_output=True, timeout=seconds)
+    except subprocess.TimeoutExpired:
+        return "check: no end after %g seconds" % seconds
+    if done.returncode or done.stderr:
+        return "check: status %d, standard error %s" % (done.returncode, shown(done.stderr))
+    return first_difference("check", text(run["checked"]), done.stdout)
 
 
 def compared(run, output, errors, certificate):
