@@ -4,6 +4,7 @@ pub mod Writers
 pub mod First
 pub mod Passing
 pub mod Found
+pub mod Grouped
 pub mod Overshot
 pub mod RowRules
 pub mod LinksFrom

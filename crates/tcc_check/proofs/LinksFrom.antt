@@ -333,6 +333,9 @@ module _ (weights : List ℕ) (least : ℕ) where
           go (inl none) = absurd (omega (arith, none, is, less, fits))
           go (inr p) = subst (λ (z : ℕ). weighs link.0 z) is p
 
+pub light-inside : (weights : List ℕ) (least m : ℕ) (ends : List (ℕ × ℕ)) → length weights ≤ m → AreLightEnds weights least ends → All (λ (link : ℕ × ℕ). link.0 < m) ends
+light-inside weights least m ends few are k d l = let w = are.only (get_or ends k d) (k, l, get_or_default ends k _ d l) in omega (arith, w.0, few)
+
 -- a row where nothing is linked, lowered
 pub bare-lowered : (n : ℕ) (weighs : ℕ → ℕ → Type 0) (bare row : List ℕ) → bare ≡ replicate n unlinked → IsLowered weighs bare row → IsLeastRow weighs row
 bare-lowered n weighs bare row is lowered = record {

@@ -1,12 +1,14 @@
 -- What the first links of a list tell of a row.
-use Rattle.std.proofs.Common.{◌≡◌, ◌<◌, ◌≤◌, ◌+◌, ◌-◌, ℕ, ◌⊎◌, inl, inr, List, length, get_or, Option, None, Some, arith, sym, ap, subst, ◌∙◌}
+use Rattle.std.proofs.Common.{◌≡◌, ◌<◌, ◌≤◌, ◌+◌, ◌-◌, ℕ, ◌⊎◌, inl, inr, List, length, get_or, take, Option, None, Some, arith, sym, ap, subst, ◌∙◌}
 use Rattle.std.specs.Prelude.{All}
 use Rattle.std.proofs.lemmas.Bool.{cases_eq, cases_lt}
 use Rattle.std.proofs.lemmas.List.{get_or_default, get_or_past}
 use Rattle.tcc_check.specs.Weights.{AreByWeight}
-use Rattle.tcc_check.specs.Searches.{IsFoundBelow, IsOvershot, IsLongOther, lesser}
+use Rattle.tcc_check.specs.Groups.{AreGroupsOf, links_by, total}
+use Rattle.tcc_check.specs.Searches.{IsFoundBelow, IsOvershot, IsOvershotAt, IsLongOther, lesser}
 use Rattle.tcc_check.specs.WeightsFrom.{ends_of}
 use Rattle.tcc_check.proofs.Found.{found_as, found_either, found_here}
+use Rattle.tcc_check.proofs.Grouped.{in-group, length-links, total-more, total-within}
 
 -- one of the first i links takes less
 abbrev pub SeenOver : ℕ → List (ℕ × ℕ) → List ℕ → ℕ → ℕ → ℕ → Type 0
@@ -129,3 +131,114 @@ module _ (others : List (List (ℕ × ℕ))) (row : List ℕ) (low : ℕ) (P : �
 
   pub all_other : (i : ℕ) (found : Option ℕ) → i ≡ length row → IsFoundBelow m (λ v. P v ⊎ SeenOther i others row low v) found → IsFoundBelow m (λ v. P v ⊎ IsLongOther others row low v) found
   all_other i found all old = subst (λ (z : ℕ). IsFoundBelow m (λ v. P v ⊎ SeenOther z others row low v) found) all old
+
+-- ---- ends of one group
+
+-- one of the first i ends is overshot
+abbrev pub SeenAt : ℕ → List ℕ → List ℕ → ℕ → ℕ → ℕ → Type 0
+SeenAt i ends row low cost v = (low ≤ v) × (k : ℕ) × (k < i) × (get_or ends k 0 ≡ v) × (cost < get_or row (v - low) 0)
+
+module _ (ends row : List ℕ) (low cost : ℕ) where
+  abbrev o : ℕ
+  o = low + length row
+
+  pub none_at : IsFoundBelow o (SeenAt 0 ends row low cost) None
+  none_at = λ a l p. absurd (omega (arith, p.2))
+
+  older_at : (i v : ℕ) → SeenAt i ends row low cost v → SeenAt (i + 1) ends row low cost v
+  older_at i v (low_v, k, l, is, more) = (low_v, k, omega (arith, l), is, more)
+
+  newer_at : (i v : ℕ) → SeenAt (i + 1) ends row low cost v → SeenAt i ends row low cost v ⊎ ((low ≤ v) × (get_or ends i 0 ≡ v) × (cost < get_or row (v - low) 0))
+  newer_at i v (low_v, k, l, is, more) = go (cases_eq k i)
+    where
+      go : (k ≡ i) ⊎ (k ≡ i → ⊥) → SeenAt i ends row low cost v ⊎ ((low ≤ v) × (get_or ends i 0 ≡ v) × (cost < get_or row (v - low) 0))
+      go (inl same) = inr (low_v, subst (λ (z : ℕ). get_or ends z 0 ≡ v) same is, more)
+      go (inr apart) = inl (low_v, k, omega (arith, l, apart), is, more)
+
+  pub skipped_at : (i : ℕ) (found : Option ℕ) → (low ≤ get_or ends i 0 → cost < get_or row (get_or ends i 0 - low) 0 → ⊥) → IsFoundBelow o (SeenAt i ends row low cost) found → IsFoundBelow o (SeenAt (i + 1) ends row low cost) found
+  skipped_at i found not = found_as o (SeenAt i ends row low cost) (SeenAt (i + 1) ends row low cost) (older_at i) (λ v p. back v (newer_at i v p)) found
+    where
+      back : (v : ℕ) → SeenAt i ends row low cost v ⊎ ((low ≤ v) × (get_or ends i 0 ≡ v) × (cost < get_or row (v - low) 0)) → SeenAt i ends row low cost v
+      back v (inl old) = old
+      back v (inr (low_v, is, more)) = absurd (not (omega (arith, low_v, is)) (subst (λ (z : ℕ). cost < get_or row (z - low) 0) (sym is) more))
+
+  pub found_at : (i e : ℕ) (found : Option ℕ) → get_or ends i 0 ≡ e → e < o → low ≤ e → cost < get_or row (e - low) 0 → IsFoundBelow o (SeenAt i ends row low cost) found → IsFoundBelow o (SeenAt (i + 1) ends row low cost) (lesser found (Some e))
+  found_at i e found is below low_e more old =
+      found_as o (λ v. SeenAt i ends row low cost v ⊎ (v ≡ e)) (SeenAt (i + 1) ends row low cost) to (λ v p. back v (newer_at i v p)) (lesser found (Some e))
+      (found_either o (SeenAt i ends row low cost) (λ v. v ≡ e) found (Some e) old (found_here o e below))
+    where
+      to : (v : ℕ) → SeenAt i ends row low cost v ⊎ (v ≡ e) → SeenAt (i + 1) ends row low cost v
+      to v (inl old) = older_at i v old
+      to v (inr same) = rw same (low_e, i, omega arith, is, more)
+
+      back : (v : ℕ) → SeenAt i ends row low cost v ⊎ ((low ≤ v) × (get_or ends i 0 ≡ v) × (cost < get_or row (v - low) 0)) → SeenAt i ends row low cost v ⊎ (v ≡ e)
+      back v (inl old) = inl old
+      back v (inr (low_v, here, most)) = inr (sym here ∙ is)
+
+  pub all_at : (i : ℕ) (found : Option ℕ) → i ≡ length ends → IsFoundBelow o (SeenAt i ends row low cost) found → IsFoundBelow o (IsOvershotAt ends row low cost) found
+  all_at i found all = found_as o (SeenAt i ends row low cost) (IsOvershotAt ends row low cost) to back found
+    where
+      to : (v : ℕ) → SeenAt i ends row low cost v → IsOvershotAt ends row low cost v
+      to v (low_v, k, l, is, more) = (low_v, (k, omega (arith, l, all), get_or_default ends k v 0 (omega (arith, l, all)) ∙ is), more)
+
+      back : (v : ℕ) → IsOvershotAt ends row low cost v → SeenAt i ends row low cost v
+      back v (low_v, (k, l, is), more) = (low_v, k, omega (arith, l, all), get_or_default ends k 0 v l ∙ is, more)
+
+-- ---- one group more
+
+module _ (groups : List (ℕ × ℕ)) (ends row : List ℕ) (low before : ℕ) (are : AreGroupsOf groups ends) where
+  abbrev q : ℕ
+  q = low + length row
+
+  -- a group is not empty, and begins inside
+  pub group_inside : (i : ℕ) → i < length groups → total (take i groups) + (get_or groups i (0, 0)).1 ≤ length ends
+  group_inside i inside = omega (arith, total-more groups i inside, total-within groups (i + 1), are.all)
+
+  pub group_begins : (i : ℕ) → i < length groups → total (take i groups) < length (links_by groups ends)
+  group_begins i inside = omega (arith, group_inside i inside, are.some i (0, 0) inside, length-links groups ends are.all)
+
+  -- its first link has its weight
+  pub group_weight : (i : ℕ) → i < length groups → (get_or (links_by groups ends) (total (take i groups)) (0, 0)).1 ≡ (get_or groups i (0, 0)).0
+  group_weight i inside = ap (λ k. (get_or (links_by groups ends) k (0, 0)).1) (omega arith) ∙ ap (λ (z : ℕ × ℕ). z.1) (in-group groups ends i 0 are.all inside (are.some i (0, 0) inside))
+
+  module _ (i : ℕ) (run : List ℕ) (inside : i < length groups) (long : length run ≡ (get_or groups i (0, 0)).1) (are_run : (k d : ℕ) → k < length run → get_or run k d ≡ get_or ends (total (take i groups) + k) 0) where
+    abbrev from : ℕ
+    from = total (take i groups)
+
+    abbrev group : ℕ × ℕ
+    group = get_or groups i (0, 0)
+
+    abbrev links : List (ℕ × ℕ)
+    links = links_by groups ends
+
+    -- its ends are below the number that all links' ends are below
+    pub group_below : (m : ℕ) → All (λ (link : ℕ × ℕ). link.0 < m) links → All (λ end. end < m) run
+    group_below m all k d l =
+        let at = in-group groups ends i k are.all inside (omega (arith, l, long)) in
+        let link = all (from + k) (0, 0) (omega (arith, l, long, group_inside i inside, length-links groups ends are.all)) in
+        omega (arith, are_run k d l, ap (λ (z : ℕ × ℕ). z.0) at, link)
+
+    at_run : (k : ℕ) → k < group.1 → get_or links (from + k) (0, 0) ≡ (get_or run k 0, group.0)
+    at_run k l = in-group groups ends i k are.all inside l ∙ ap (λ (z : ℕ). (z, group.0)) (sym (are_run k 0 (omega (arith, l, long))))
+
+    to_group : (v : ℕ) → SeenOver from links row low before v ⊎ IsOvershotAt run row low (before + 1 + group.0) v → SeenOver (from + group.1) links row low before v
+    to_group v (inl (low_v, k, l, is, more)) = (low_v, k, omega (arith, l), is, more)
+    to_group v (inr (low_v, (k, l, is), more)) =
+        let here = at_run k (omega (arith, l, long)) in
+        (low_v, from + k, omega (arith, l, long), ap (λ (z : ℕ × ℕ). z.0) here ∙ get_or_default run k 0 v l ∙ is, omega (arith, ap (λ (z : ℕ × ℕ). z.1) here, more))
+
+    from_group : (v : ℕ) → SeenOver (from + group.1) links row low before v → SeenOver from links row low before v ⊎ IsOvershotAt run row low (before + 1 + group.0) v
+    from_group v (low_v, k, l, is, more) = go (cases_lt k from)
+      where
+        go : (k < from) ⊎ (from ≤ k) → SeenOver from links row low before v ⊎ IsOvershotAt run row low (before + 1 + group.0) v
+        go (inl less) = inl (low_v, k, less, is, more)
+        go (inr later) =
+            let same : from + (k - from) ≡ k = omega (arith, later) in
+            let short : k - from < group.1 = omega (arith, l, later) in
+            let here : get_or links k (0, 0) ≡ (get_or run (k - from) 0, group.0) = ap (λ (z : ℕ). get_or links z (0, 0)) (sym same) ∙ at_run (k - from) short in
+            inr (low_v, (k - from, omega (arith, short, long), get_or_default run (k - from) v 0 (omega (arith, short, long)) ∙ sym (ap (λ (z : ℕ × ℕ). z.0) here) ∙ is), omega (arith, ap (λ (z : ℕ × ℕ). z.1) here, more))
+
+    pub more_group : (found end : Option ℕ) → IsFoundBelow q (SeenOver from links row low before) found → IsFoundBelow q (IsOvershotAt run row low (before + 1 + group.0)) end → IsFoundBelow q (SeenOver (from + group.1) links row low before) (lesser found end)
+    more_group found end old new =
+        found_as q (λ v. SeenOver from links row low before v ⊎ IsOvershotAt run row low (before + 1 + group.0) v) (SeenOver (from + group.1) links row low before) to_group from_group (lesser found end)
+        (found_either q (SeenOver from links row low before) (IsOvershotAt run row low (before + 1 + group.0)) found end old new)

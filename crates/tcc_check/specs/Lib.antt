@@ -1,4 +1,5 @@
 pub mod Runs
+pub mod Groups
 pub mod Weights
 pub mod WeightsFrom
 pub mod Pairs

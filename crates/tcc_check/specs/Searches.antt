@@ -30,6 +30,10 @@ abbrev pub IsOvershot : List (ℕ × ℕ) → List ℕ → ℕ → ℕ → ℕ �
 IsOvershot ends row low before v =
     (low ≤ v) × (w : ℕ) × Contains ends (v, w) × (before + 1 + w < slice_index row (v - low))
 
+-- one of these ends is v, and the row has more for it than the cost
+abbrev pub IsOvershotAt : List ℕ → List ℕ → ℕ → ℕ → ℕ → Type 0
+IsOvershotAt ends row low cost v = (low ≤ v) × Contains ends v × (cost < slice_index row (v - low))
+
 -- a session pair of the end's run, after what the row has for its start, takes less than the row has
 abbrev pub IsLongRun : ℕ → List ℕ → ℕ → ℕ → Type 0
 IsLongRun begin row low end = (u : ℕ) × IsInRun begin end u × (low ≤ u) × (slice_index row (u - low) + 1 < slice_index row (end - low))

@@ -144,7 +144,7 @@ pub(crate) fn contradicted_weights(
 
 /// The ends whose weights are less than `least` together with their last steps, the lighter first.
 fn light_ends(alloc: Global, weights: &[u32], least: u32) -> Result<Ends, NoMemory>
-    requires { length weights.now < 2 ^ 32 }
+    requires { length weights.now < 2 ^ 16 }
     ensures { IfOk result (AreLightEnds weights.now least) }
 {
     let mut ends = Vec::new(alloc);
@@ -154,7 +154,7 @@ fn light_ends(alloc: Global, weights: &[u32], least: u32) -> Result<Ends, NoMemo
         }
     }
     ends.sort_by_key(|end| end.1)?;
-    Ok(Ends::new(ends))
+    Ok(Ends::new(alloc, &ends)?)
 }
 
 /// The links from `start`, by its row of lengths, that take less than `least`.

@@ -2,7 +2,7 @@
 ghost use Rattle.std.specs.Prelude.{◌≡◌, ◌<◌, ◌≤◌, ◌+◌, ◌^◌, length, All};
 ghost use Rattle.tcc_reads.specs.History.{count};
 ghost use Rattle.tcc_check.specs.Runs.{HasRuns};
-ghost use Rattle.tcc_check.specs.Searches.{IsFoundBelow, IsLongPair, IsLongRunTo, IsLongSingle, IsLongStep, IsOvershot, lesser};
+ghost use Rattle.tcc_check.specs.Searches.{IsFoundBelow, IsLongPair, IsLongRunTo, IsLongSingle, IsLongStep, IsOvershot, IsOvershotAt, lesser};
 ghost use Rattle.tcc_check.specs.Weights.{AreByWeight};
 
 use crate::ends::Ends;
@@ -20,23 +20,40 @@ fn lesser(one: Option<u32>, other: Option<u32>) -> Option<u32>
     }
 }
 
-/// The first end of these links to which the link takes less than the row has, after so many steps: the row's numbers
-/// are those from `low` upward, none above `most`. Behind the first link that takes so many none is looked at.
-fn overshot(ends: &[(u32, u32)], row: &[u32], low: u32, before: u32, most: u32) -> Option<u32>
-    requires inside { All (λ link. link.0 < low + length row.now) ends.now }
-    requires sorted { AreByWeight ends.now }
-    requires capped { All (λ number. number ≤ most) row.now }
-    ensures { IsFoundBelow (low + length row.now) (IsOvershot ends.now row.now low before) result }
+/// The first of these ends for which the row has more than the cost: its numbers are those from `low` upward.
+fn overshot_at(ends: &[u16], row: &[u32], low: u32, cost: u64) -> Option<u32>
+    requires { All (λ end. end < low + length row.now) ends.now }
+    ensures { IsFoundBelow (low + length row.now) (IsOvershotAt ends.now row.now low cost) result }
 {
     let mut found = None;
-    for (end, weight) in ends {
+    for end in ends {
+        let end = u32::from(*end);
+        if low <= end && cost < u64::from(row[(end - low) as usize]) {
+            found = lesser(found, Some(end));
+        }
+    }
+    found
+}
+
+/// The first end of these links to which the link takes less than the row has, after so many steps: the row's numbers
+/// are those from `low` upward, none above `most`. Behind the first link that takes so many none is looked at.
+fn overshot(links: &Ends, row: &[u32], low: u32, before: u32, most: u32) -> Option<u32>
+    requires inside { All (λ link. link.0 < low + length row.now) links.now }
+    requires sorted { AreByWeight links.now }
+    requires capped { All (λ number. number ≤ most) row.now }
+    ensures { IsFoundBelow (low + length row.now) (IsOvershot links.now row.now low before) result }
+{
+    let (ends, groups) = links.parts();
+    let mut found = None;
+    let mut first = 0;
+    for (weight, count) in groups {
         let cost = u64::from(before) + 1 + u64::from(*weight);
         if u64::from(most) <= cost {
             return found;
         }
-        if low <= *end && cost < u64::from(row[(*end - low) as usize]) {
-            found = lesser(found, Some(*end));
-        }
+        let behind = first + *count as usize;
+        found = lesser(found, overshot_at(&ends[first..behind], row, low, cost));
+        first = behind;
     }
     found
 }
@@ -98,7 +115,7 @@ pub(crate) fn long_step(
     let mut found = long_run(begins, row, low);
     for (place, before) in row.iter().enumerate() {
         let start = low as usize + place;
-        let end = overshot(others[start].as_slice(), row, low, *before, most);
+        let end = overshot(&others[start], row, low, *before, most);
         found = lesser(found, end);
     }
     found
@@ -138,5 +155,5 @@ pub(crate) fn long_link(
     ensures { IsFoundBelow (count graph.now) (IsLongSingle graph.now others.now row.now low start) result }
 {
     let pair = long_pair(graph, row, low, start);
-    lesser(pair, overshot(others.as_slice(), row, low, 0, most))
+    lesser(pair, overshot(others, row, low, 0, most))
 }
