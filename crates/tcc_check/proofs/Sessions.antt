@@ -15,6 +15,7 @@ use Rattle.tcc_graph.specs.Keys.{writers, writes, is_key, numbers}
 use Rattle.tcc_graph.specs.declared.level.Level.TheVariants.{Causal, Atomic}
 use Rattle.tcc_cert.specs.Tables.{row_of, entry}
 use Rattle.tcc_graph.proofs.Pairs.{PairParts, pair_parts, lower_first, initial_pair}
+use Rattle.tcc_cert.specs.OrderRules.{MayReach}
 use Rattle.tcc_check.specs.Latest.{is_within, IsLastWithin, AreSessionsKept, AreOwned, AreApart, StandBefore, StandAllBefore, IsReadKept}
 use Rattle.tcc_check.proofs.Writers.{writer_listed}
 
@@ -211,6 +212,9 @@ module _ (h : History) (places : List ℕ) (clocks : List (List ℕ)) (x : List 
 
   pub kept_by_pairs : ((b : ℕ) → Contains (writers h x) b → b ≢ a → IsCausalPair h b c → get_or places b 0 < get_or places a 0) → IsReadKept h Atomic places clocks x a c
   kept_by_pairs each b (other, reads, writer) reach = each b (writer_listed h x a c b reads writer) other reach
+
+  pub kept_by_reached : ((b : ℕ) → Contains (writers h x) b → b ≢ a → MayReach h Causal clocks b c → get_or places b 0 < get_or places a 0) → IsReadKept h Causal places clocks x a c
+  kept_by_reached each b (other, reads, writer) reach = each b (writer_listed h x a c b reads writer) other reach
 
 pub writers_rise : (h : History) (x : List ℕ) → IsNonDecreasing (writers h x)
 writers_rise h x = go (is_key h x)

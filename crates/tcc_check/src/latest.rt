@@ -1,16 +1,22 @@
-//! The axiom, asked of few: of each session only the last writer that a reader's clock reaches. Those before it stand
-//! before it in the order too.
+//! The axiom, asked of few: of the writers that stand behind what is read, or, where the writers are many, of each session
+//! only the last one that a reader's clock reaches. Those before it stand before it in the order too.
 ghost use Rattle.std.specs.Prelude.{ℕ, ◌≡◌, ◌≢◌, ◌<◌, ◌≤◌, ◌^◌, List, All, Contains, length, slice_index, IsTrue};
 ghost use Rattle.std.specs.List.Sorted.{IsNonDecreasing};
 ghost use Rattle.tcc_reads.specs.History.{IsBySession, count, owner};
 ghost use Rattle.tcc_txn.specs.declared.limits.TheConstants.{MAX_SESSIONS};
 ghost use Rattle.tcc_graph.specs.Relations.{IsCausalPair};
-ghost use Rattle.tcc_cert.specs.OrderRules.{HasClocks};
+ghost use Rattle.tcc_graph.specs.declared.level.Level.TheVariants.{Causal};
+ghost use Rattle.tcc_cert.specs.OrderRules.{HasClocks, MayReach};
+ghost use Rattle.tcc_cert.specs.Tables.{HasSize};
 ghost use Rattle.tcc_check.specs.Latest.{is_within, IsLastWithin, AreOwned, AreApart, AreSessionsKept, StandBefore, StandAllBefore, IsReadKept, AreReadsKept};
 
+use crate::order::clock_gap;
 use tcc_cert::Numbers;
 use tcc_graph::{Graph, Level};
 use tcc_txn::Name;
+
+/// To look for the last writer of a session takes about as long as to ask so many writers.
+const WRITERS_ASKED: usize = 16;
 
 /// Whether a transaction is of an earlier session, or of this one and no later than the place, or `init`.
 fn is_within(graph: &Graph, session: u32, place: u32, number: u32) -> bool
@@ -104,6 +110,62 @@ fn pairs_before(graph: &Graph, places: &[u32], writers: &[u32], source: u32, c: 
     true
 }
 
+/// Whether none of these that the clock of the source's reader has stands behind the source. Each of them is asked.
+fn reached_before(
+    graph: &Graph,
+    places: &[u32],
+    clocks: &[Numbers],
+    writers: &[u32],
+    source: u32,
+    c: u32,
+) -> bool
+    requires long { length places.now ≡ count graph.now }
+    requires below { All (λ b. b < count graph.now) writers.now }
+    requires source { source < count graph.now }
+    requires reader { c < length clocks.now }
+    ensures { IsTrue result → ((b : ℕ) → Contains writers.now b → b ≢ source → MayReach graph.now Causal clocks.now b c → slice_index places.now b < slice_index places.now source) }
+{
+    for writer in writers {
+        if *writer != source
+            && places[source as usize] <= places[*writer as usize]
+            && clock_gap(graph, clocks, *writer, c) == 0
+        {
+            return false;
+        }
+    }
+    true
+}
+
+/// Whether none of these that the clock of the source's reader reaches stands behind the source: each is asked, or, where
+/// they are many, the last of each session.
+fn clock_before(
+    graph: &Graph,
+    places: &[u32],
+    clocks: &[Numbers],
+    key: &Name,
+    source: u32,
+    c: u32,
+) -> bool
+    requires numbered { IsBySession graph.now.entries }
+    requires owners { AreOwned graph.now }
+    requires few { length graph.now.sessions ≤ MAX_SESSIONS }
+    requires long { length places.now ≡ count graph.now }
+    requires kept { AreSessionsKept graph.now places.now }
+    requires apart { AreApart places.now }
+    requires clocks { HasSize (count graph.now) (length graph.now.sessions) clocks.now }
+    requires source { source < count graph.now }
+    requires reader { c < count graph.now }
+    ensures { IsTrue result → IsReadKept graph.now Causal places.now clocks.now key.now source c }
+{
+    let writers = graph.writers(key);
+    let clock = clocks[c as usize].as_slice();
+    if writers.len() / WRITERS_ASKED <= clock.len() {
+        reached_before(graph, places, clocks, writers, source, c)
+    } else {
+        stand_before(graph, places, clock, writers, source)
+    }
+}
+
 /// Whether the axiom is kept by a read of `c`: no other writer of the key that may reach `c` stands behind the source.
 fn is_read_kept(
     graph: &Graph,
@@ -125,13 +187,9 @@ fn is_read_kept(
     requires reader { c < count graph.now }
     ensures { IsTrue result → IsReadKept graph.now level places.now clocks.now key.now source c }
 {
-    let writers = graph.writers(key);
     match level {
-        Level::Causal => {
-            let clock = clocks[c as usize].as_slice();
-            stand_before(graph, places, clock, writers, source)
-        }
-        Level::Atomic => pairs_before(graph, places, writers, source, c),
+        Level::Causal => clock_before(graph, places, clocks, key, source, c),
+        Level::Atomic => pairs_before(graph, places, graph.writers(key), source, c),
     }
 }
 

@@ -32,7 +32,7 @@ fn clock_at(clocks: &[Numbers], number: u32, session: u32) -> u32
 }
 
 /// How much the clock of `c` lacks to have `b`: nothing where, by the clock, `b` may reach `c`.
-fn clock_gap(graph: &Graph, clocks: &[Numbers], b: u32, c: u32) -> u32
+pub(crate) fn clock_gap(graph: &Graph, clocks: &[Numbers], b: u32, c: u32) -> u32
     requires b { b < count graph.now }
     requires c { c < length clocks.now }
     ensures { (result ≡ 0) ↔ MayReach graph.now Causal clocks.now b c }
