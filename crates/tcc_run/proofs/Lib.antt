@@ -1,5 +1,4 @@
 pub mod Closing
-pub mod Reach
 pub mod Counted
 pub mod Moments
 pub mod Interleaving

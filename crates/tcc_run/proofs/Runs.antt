@@ -8,14 +8,17 @@ use Rattle.std.proofs.lemmas.Grind.{flat_map-append}
 use Rattle.std.proofs.lemmas.Bool.Decides.{nat_tests}
 use Rattle.std.proofs.Math.Seq.{take-append-add, take-length}
 use Rattle.tcc_txn.specs.Answers.{Answers, answers_of, ending, records_of}
+use Rattle.tcc_txn.specs.Failing.{items_before}
 use Rattle.tcc_txn.specs.Finished.{finished_in, transaction_count}
-use Rattle.tcc_txn.specs.Recordings.{IsRecording, TakesMoment, after_items}
+use Rattle.tcc_txn.specs.Recordings.{FailsBehind, IsRecording, TakesMoment, after_items}
 use Rattle.tcc_txn.specs.Snapshots.{Sessions}
 use Rattle.tcc_txn.specs.declared.recording.Moment.TheVariants as moment
 use Rattle.tcc_txn.specs.declared.recording.Recording.{Recording}
 use Rattle.tcc_txn.specs.declared.rows.Item.{Item}
 use Rattle.tcc_txn.specs.declared.rows.Item.TheVariants as item
 use Rattle.tcc_txn.specs.declared.rows.RowFault.{RowFault}
+use Rattle.tcc_txn.specs.declared.rows.RowFaultKind.TheVariants as kind
+use Rattle.tcc_txn.proofs.FailingFacts.{front-items}
 use Rattle.tcc_print.specs.declared.halt.Halt.{Halt}
 use Rattle.tcc_print.specs.declared.halt.Halt.TheVariants as halt
 use Rattle.tcc_print.specs.declared.options.Options.{Options}
@@ -363,9 +366,9 @@ module _ {R : Type 0} (remaining : R → Option (List ℕ)) (options : Options) 
         (subst (λ snapshots. AreAnswered options snapshots way.said) (sym (ap sealed_in taken ∙ none)) way.answers) way.out prints
 
     -- the fault of the records, a reader that failed, or want of memory
-    pub stopped : (after : Option (List ℕ)) (code : ℕ) → fault.row ≤ length (records_of text) + 1
+    pub stopped : (after : Option (List ℕ)) (code : ℕ) → (fault.kind ≡ kind.Read → FailsBehind way.taken fault.row (records_of text))
         → PrintsOrMemory options.json now after (halted options.json (by_row fault)) (halt_status (by_row fault)) code → EndsEarly options text before after code
-    stopped after code within = by_test (is_memory fault.kind) refl
+    stopped after code failed = by_test (is_memory fault.kind) refl
       where
         by_test : (b : Bool) → is_memory fault.kind ≡ b
             → PrintsOrMemory options.json now after (halted options.json (cond b halt.NoMemory (halt.Row fault))) (halt_status (cond b halt.NoMemory (halt.Row fault))) code
@@ -378,7 +381,11 @@ module _ {R : Type 0} (remaining : R → Option (List ℕ)) (options : Options) 
               (inl (all-fault (answers_of text) way.taken at.0 at.1 way.ahead way.whole at.2 ∙ ap (λ (rest : Answers). rest.fault) last.0, refl))
               (take-length (answers_of text).items ∙ items) (sealed-passed way.taken at.0 at.2.0) prints
           | inr fails ↦ elim fails.0 [
-            | inl read ↦ by_halt (length way.taken) (halt.Row fault) way.taken after code (inr (read, within)) kept refl prints
+            | inl read ↦
+                let behind = failed read in
+                let before = items_before fault.row (records_of text) in
+                by_halt (length before) (halt.Row fault) before after code (inr (read, behind.0, refl)) (front-items fault.row (records_of text) behind.0.1)
+                (ap sealed_in behind.3 ∙ sealed-passed way.taken behind.1 behind.2) prints
             | inr memory ↦ absurd (no_memory (sym (ap is_memory memory) ∙ e))
           ]
         ]

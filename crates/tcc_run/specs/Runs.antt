@@ -1,8 +1,9 @@
 -- What is answered for the records of an input, and what a run of explain does with their bytes.
-use Rattle.std.specs.Prelude.{ℕ, ◌≡◌, ◌≢◌, ◌⊎◌, ◌+◌, ◌≤◌, Bool, true, false, List, [], ◌∷◌, ◌++◌, length, take, flat_map, unwrap_or, Option, None, Some, if◌then◌else◌}
+use Rattle.std.specs.Prelude.{ℕ, ◌≡◌, ◌≢◌, ◌⊎◌, Bool, true, false, List, [], ◌∷◌, ◌++◌, length, take, flat_map, unwrap_or, Option, None, Some, if◌then◌else◌}
 use Rattle.std.specs.Io.KnownBytes.{Appends}
 use Rattle.std.specs.List.{AllZip, last_or}
 use Rattle.tcc_txn.specs.Answers as rows
+use Rattle.tcc_txn.specs.Failing.{FailsAt, items_before}
 use Rattle.tcc_txn.specs.Finished.{finished_in}
 use Rattle.tcc_txn.specs.Snapshots.{Sessions}
 use Rattle.tcc_txn.specs.declared.rows.Item.{Item}
@@ -87,12 +88,12 @@ at_end items = if is_due_after true items then finished_in items ∷ [] else []
 abbrev pub IsWhole : Options → rows.Answers → List Said → Type 0
 IsWhole options all said = (all.fault ≡ None) × AreAnswered options (sealed_in all.items ++ at_end all.items) said
 
--- why a run may end after so many items: by the fault of the records, after all items; by the fault of a reader that failed,
--- at one of the records or behind the last; or for want of memory
+-- why a run may end after so many items: by the fault of the records, after all items; by the fault of a reader that failed
+-- at one of the records or behind the last, all before which are lawful, after the items of these; or for want of memory
 abbrev pub MayEnd : List ℕ → ℕ → Halt → Type 0
 MayEnd text n (halt.Row fault) =
     (((rows.answers_of text).fault ≡ Some fault) × (n ≡ length (rows.answers_of text).items))
-    ⊎ ((fault.kind ≡ kind.Read) × (fault.row ≤ length (rows.records_of text) + 1))
+    ⊎ ((fault.kind ≡ kind.Read) × FailsAt fault.row (rows.records_of text) × (n ≡ length (items_before fault.row (rows.records_of text))))
 MayEnd text n halt.NoMemory = Unit {0}
 MayEnd text n _ = ⊥
 

@@ -28,9 +28,8 @@ ghost use Rattle.tcc_print.specs.declared.status.Status.TheVariants.{Device};
 ghost use Rattle.tcc_print.specs.declared.halt.Halt.{Halt};
 
 use tcc_explain::laws::{certified, one_answer};
-use tcc_txn::NoMemory;
-use tcc_txn::laws;
 use tcc_txn::laws::finished_is_snapshot;
+use tcc_txn::{NoMemory, laws};
 
 /// For records without a fault, whose reads all have sources: the text of the certificate of their answer is accepted by
 /// the check of the same records; and nothing else comes of that check, unless a reader fails or memory is refused.

@@ -9,6 +9,7 @@ use Rattle.csv.specs.declared.parser.Config.{Config}
 use Rattle.csv.specs.declared.parser.State.{State}
 use Rattle.csv.specs.declared.parser.State.TheVariants as st
 use Rattle.tcc_txn.specs.Ahead.{FaultsIn, IsFailure}
+use Rattle.tcc_txn.specs.Failing.{FailsIn}
 use Rattle.tcc_txn.specs.Midway.{IsMidway}
 use Rattle.tcc_txn.specs.Answers.{Answers, after_item, answers_after, answers_of, ending, fault_at_end, judged, records_of}
 use Rattle.tcc_txn.specs.ByteLimit.{marked, past_limit}
@@ -190,6 +191,24 @@ pub reading-failed : {R : Type 0} (remaining : R → Option (List ℕ)) (old : R
 reading-failed remaining old records ahead reading k counts failure =
     let row : row_in records.course records.count ≡ length reading.past + 1 = rw counts.1 (omega (arith, counts.0, reading.counted, reading.fits)) in
     inr (failure, reading.past, reading.left, reading.answers, row)
+
+-- two lists of the records that a reader has left are one
+same-left : {R : Type 0} (remaining : R → Option (List ℕ)) (records : Records R) (xs ys : List Record) → HasLeft remaining records xs → HasLeft remaining records ys → xs ≡ ys
+same-left remaining records xs ys one two = (let both : ◌≡◌ {A = Option (List Record)} (Some xs) (Some ys) = sym one.known ∙ two.known in cc both)
+
+-- which records were judged before it failed
+pub failed-reading : {R : Type 0} (remaining : R → Option (List ℕ)) (old : Rows R) (records : Records R) (all : List Record) (ahead : Answers)
+    → IsMidway remaining old ahead → StandsIn remaining old.records all → (k : RowFaultKind) → Counts old.records (Err k) records
+    → FailsIn all ahead (row_in records.course records.count)
+failed-reading remaining old records all ahead reading stands k counts = record {
+  first = stands.first;
+  left = stands.left;
+  past = reading.past;
+  whole = stands.whole;
+  long = sym reading.counted ∙ stands.counted;
+  answers = reading.answers ∙ ap (answers_after reading.past) (same-left remaining old.records reading.left stands.left reading.records stands.rest);
+  here = rw counts.1 (omega (arith, counts.0, stands.counted, reading.counted, reading.fits));
+}
 
 -- the row where the records end
 pub row-ended : {R : Type 0} (remaining : R → Option (List ℕ)) (old : Rows R) (records : Records R) (ahead : Answers) (reading : IsMidway remaining old ahead)

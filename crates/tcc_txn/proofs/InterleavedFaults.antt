@@ -1,35 +1,33 @@
 -- Records without a fault have none however they are interleaved.
-use Rattle.std.proofs.Common.{◌≡◌, ℕ, zero, suc, ◌+◌, ◌≤◌, Bool, true, false, not, cond, ◌||◌, List, [], ◌∷◌, ◌++◌, filter, length, refl, sym, ap, subst, ◌∙◌, arith, Option, None, Some, Result, Ok, Err, append-nil, nat_lt}
-use Rattle.std.specs.Prelude.{codes, is_some, option_map, ◌<◌}
-use Rattle.std.specs.Option.{option_map_or}
+use Rattle.std.proofs.Common.{◌≡◌, ℕ, zero, suc, ◌+◌, ◌≤◌, Bool, true, false, not, cond, ◌||◌, List, [], ◌∷◌, ◌++◌, filter, length, refl, sym, ap, subst, ◌∙◌, arith, Option, None, Some, Result, Ok, Err, nat_lt}
+use Rattle.std.specs.Prelude.{codes, is_some, option_map}
 use Rattle.std.specs.List.{AllByRecursion, Contains, IsDistinct, list_any}
 use Rattle.std.specs.Cmp.Lexicographic.{nat_list_eq_equiv}
-use Rattle.std.proofs.lemmas.Bool.{or_left, or_right, or_cases}
+use Rattle.std.proofs.lemmas.Bool.{or_left, or_right}
 use Rattle.std.proofs.lemmas.Bool.Decides.{nat_tests}
 use Rattle.std.proofs.lemmas.List.Elements.{filter-append}
 use Rattle.std.proofs.lemmas.Map.Keys.{IsDistinct-cons}
 use Rattle.std.proofs.lemmas.Map.Made.{length-le_from_is_member}
 use Rattle.tcc_txn.specs.Answers.{Answers, after_item, answers_after, answers_of, fault_at_end, go_on, judged, records_of}
-use Rattle.tcc_txn.specs.Interleaved.{AreInterleaved, is_by, is_by_none, records_by, records_by_none}
+use Rattle.tcc_txn.specs.Interleaved.{AreInterleaved, is_by, is_by_none, records_by_none}
 use Rattle.tcc_txn.specs.Lines.{Record, in_session, is_cut, line_of, op_of, same}
 use Rattle.tcc_txn.specs.Names.{name_fault}
-use Rattle.tcc_txn.specs.Past.{begin_count, begins, fault_of, is_begun, is_mark, item_of, keys, least, open_sessions, ops_since, seal_count, seals, sessions, with_name}
-use Rattle.tcc_txn.specs.Recordings.{has_seal, is_seal}
+use Rattle.tcc_txn.specs.Past.{begin_count, begins, fault_of, is_begun, item_of, keys, least, open_sessions, ops_since, seal_count, seals, sessions, with_name}
+use Rattle.tcc_txn.specs.Recordings.{has_seal}
 use Rattle.tcc_txn.specs.Transactions.{op_key}
 use Rattle.tcc_txn.specs.declared.limits.TheConstants.{MAX_KEYS, MAX_OPERATIONS, MAX_SEALS, MAX_SESSIONS, MAX_TRANSACTIONS}
 use Rattle.tcc_txn.specs.declared.op.Op.{Op}
 use Rattle.tcc_txn.specs.declared.rows.Item.{Item}
-use Rattle.tcc_txn.specs.declared.rows.Item.TheVariants as item
 use Rattle.tcc_txn.specs.declared.rows.RowFault.{RowFault}
 use Rattle.tcc_txn.specs.declared.rows.RowFaultKind.{RowFaultKind}
 use Rattle.tcc_txn.specs.declared.rows.RowFaultKind.TheVariants as kind
 use Rattle.tcc_txn.specs.declared.rows.line.Line.{Line}
 use Rattle.tcc_txn.specs.declared.rows.line.Line.TheVariants as line
-use Rattle.tcc_txn.proofs.FinishedFacts.{AreLawful, few_begun, few_seated, fits, is-false, judged-free, no-begin-fault, no-finish-fault}
-use Rattle.tcc_txn.proofs.Interleaving.{SameLines, does, drops, judged-line, keeps, lines-filter, lines_after, noted, ops-kept, same-lines}
+use Rattle.tcc_txn.proofs.FinishedFacts.{AreLawful, few_begun, few_seated, fits, judged-free, no-begin-fault, no-finish-fault}
+use Rattle.tcc_txn.proofs.Interleaving.{does, drops, judged-line, keeps, lines-filter, lines_after, noted, ops-kept, same-lines}
 use Rattle.tcc_txn.proofs.LeastOpen.{none-open}
 use Rattle.tcc_txn.proofs.Lists.{from_filter, in_filter}
-use Rattle.tcc_txn.proofs.PastFacts.{begun-seen, same-itself, same-name, same-swap, seen-noted, seen-other}
+use Rattle.tcc_txn.proofs.PastFacts.{begun-seen, same-itself, same-name, seen-noted, seen-other}
 
 -- ---- the lines of one session among all
 

@@ -1,5 +1,5 @@
 -- What records finish depends on the records of each session alone, however these are interleaved.
-use Rattle.std.proofs.Common.{◌≡◌, ℕ, Bool, true, false, cond, List, [], ◌∷◌, ◌++◌, filter, refl, sym, ap, subst, ◌∙◌, Option, None, Some, Result, Ok, Err, append_assoc, append-nil}
+use Rattle.std.proofs.Common.{◌≡◌, ℕ, Bool, true, false, cond, List, [], ◌∷◌, ◌++◌, filter, refl, sym, ap, ◌∙◌, Option, None, Some, Result, Ok, Err, append_assoc, append-nil}
 use Rattle.std.specs.Prelude.{codes, is_some, unwrap_or}
 use Rattle.std.specs.Option.{option_map_or}
 use Rattle.std.specs.FinMap as finite
@@ -7,10 +7,10 @@ use Rattle.std.specs.Cmp.Lexicographic.{nat_list_cmp_total}
 use Rattle.std.proofs.lemmas.Map.Lookups.{exact_bytes}
 use Rattle.tcc_txn.specs.Answers.{Answers, after_item, answers_after, answers_of, go_on, judged, records_of}
 use Rattle.tcc_txn.specs.Finished.{finished_in}
-use Rattle.tcc_txn.specs.Interleaved.{AreInterleaved, is_by, records_by}
+use Rattle.tcc_txn.specs.Interleaved.{AreInterleaved, is_by}
 use Rattle.tcc_txn.specs.Lines.{Record, in_session, is_cut, line_of, op_of, same}
 use Rattle.tcc_txn.specs.Names.{name_fault}
-use Rattle.tcc_txn.specs.Past.{fault_of, is_mark, item_of, ops_in, ops_since}
+use Rattle.tcc_txn.specs.Past.{fault_of, item_of, ops_since}
 use Rattle.tcc_txn.specs.Transactions.{Transaction}
 use Rattle.tcc_txn.specs.declared.op.Op.{Op}
 use Rattle.tcc_txn.specs.declared.rows.Item.{Item}

@@ -9,11 +9,13 @@ mod LeastOpen
 mod LimitFacts
 mod LineFacts
 mod PastFacts
+mod PastLimit
 mod RecordSteps
 mod RecordingSteps
 mod StandingFacts
 mod WordOrder
 mod WorkedTexts
+pub mod FailingFacts
 pub mod Lists
 pub mod Nesting
 pub mod Parts

@@ -67,9 +67,9 @@ step-between st.AfterCr c =
     either-between (c == 10) (st.StartRecord, act.Skip) (start_record default_config c) (goes-on st.StartRecord act.Skip refl) (start_record-between c)
 
 -- what a read of a record leaves: a state between two records, and no more bytes than there were
-record Leaves (text : List ℕ) (p : Read) : Type 0 where
-  between : ends_at_end p.1 ≡ false
-  shorter : length p.2 ≤ length text
+pub record Leaves (text : List ℕ) (p : Read) : Type 0 where
+  pub between : ends_at_end p.1 ≡ false
+  pub shorter : length p.2 ≤ length text
 
 at-text-end : (fields : List (List ℕ)) (p : Read) → ◌≡◌ {A = Option Read} (Some (fields, st.StartRecord, [])) (Some p) → Leaves [] p
 at-text-end fields p e =
@@ -92,7 +92,7 @@ no-record fields p f e = cc (rw f at e)
 some-rest : (fields : List (List ℕ)) (s : State) (rest : List ℕ) (p : Read) → ◌≡◌ {A = Option Read} (Some (fields, s, rest)) (Some p) → rest ≡ p.2
 some-rest fields s rest p e = let same : ◌≡◌ {A = Read} (fields, s, rest) p = cc e in ap (λ q. q.2) same
 
-next_record-leaves : (s : State) (fields : List (List ℕ)) (field text : List ℕ) (p : Read)
+pub next_record-leaves : (s : State) (fields : List (List ℕ)) (field text : List ℕ) (p : Read)
     → next_record default_config s fields field text ≡ Some p → Leaves text p
 unfolding next_record
 next_record-leaves s fields field [] p e = by (ends_at_end s) e
@@ -116,7 +116,7 @@ between-records : (s : State) (text : List ℕ) (p : Read) → next_record defau
 between-records s text p e = (next_record-leaves s [] [] text p e).between
 
 -- between two records each record takes a byte at least
-next_record-shorter : (s : State) (text : List ℕ) (p : Read) → ends_at_end s ≡ false
+pub next_record-shorter : (s : State) (text : List ℕ) (p : Read) → ends_at_end s ≡ false
     → next_record default_config s [] [] text ≡ Some p → length p.2 < length text
 unfolding next_record
 next_record-shorter s [] p between e = absurd (no-record _ p between e)

@@ -1,15 +1,16 @@
 -- A recording after one more item.
 use Rattle.std.proofs.Common.{◌≡◌, ℕ, ◌+◌, ◌≤◌, false, List, [], ◌∷◌, ◌++◌, length, refl, sym, ap, subst, ◌∙◌, arith, Some, None, Option, Result, Ok, Err, inl, inr, append_assoc, append-nil, length-append}
-use Rattle.std.specs.Prelude.{◌||◌, IsErrAnd, MatchResult, IfSome}
+use Rattle.std.specs.Prelude.{◌||◌, IfErr, IsErrAnd, MatchResult, IfSome}
 use Rattle.std.specs.FinMap as map
 use Rattle.std.proofs.lemmas.List.Folds.{list_any-append}
 use Rattle.std.proofs.lemmas.Option.{none-some}
 use Rattle.tcc_txn.specs.Ahead.{IsAhead, TakesAnswer}
-use Rattle.tcc_txn.specs.Answers.{Answers, after_item, answers_of, ending, records_of}
+use Rattle.tcc_txn.specs.Answers.{Answers, after_item, answers_after, answers_of, ending, records_of}
+use Rattle.tcc_txn.specs.Failing.{FailsAt, items_before}
 use Rattle.tcc_txn.specs.Finished.{KeepsLimits, finished_in, with_item, with_transaction}
 use Rattle.tcc_txn.specs.Lines.{Record}
 use Rattle.tcc_txn.specs.Reached.{IsWithin, StandsBy, row_in, row_reached}
-use Rattle.tcc_txn.specs.Recordings.{IsRecorded, IsRecording, Passes, TakesMoment, after_items, has_seal, is_seal}
+use Rattle.tcc_txn.specs.Recordings.{FailsBehind, IsRecorded, IsRecording, Passes, TakesMoment, after_items, has_seal, is_seal}
 use Rattle.tcc_txn.specs.Transactions.{Transaction}
 use Rattle.tcc_txn.specs.declared.recording.Moment.TheVariants as moment
 use Rattle.tcc_txn.specs.declared.recording.Recording.{Recording}
@@ -139,6 +140,20 @@ module _ {R : Type 0} (remaining : R → Option (List ℕ)) (taken : List Item) 
     inr (inr memory, way.0, item.Finished session txn ∷ [], refl, stays remaining old new (taken ++ way.0) way.1 (Some fault) way.3 (rw stopped refl) same),
   )
 
+  -- the reading of one more record fails
+  pub fails-behind : (row : ℕ) (all : List Record) → answers_after [] all ≡ after_items taken ahead
+      → (answers_after [] all ≡ after_items (taken ++ way.0) way.1 → FailsAt row all × (taken ++ way.0 ≡ items_before row all)) → FailsBehind taken row all
+  fails-behind row all answers next =
+      let whole : answers_after [] all ≡ after_items (taken ++ way.0) way.1
+      = answers ∙ ap (after_items taken) way.2.1 ∙ ap (λ items. record { items = items; fault = way.1.fault }) (sym (append_assoc taken way.0 way.1.items)) in
+      let at = next whole in
+      (at.0, way.0, way.2.0, sym at.1)
+
+-- what holds of a fault that is passed on
+pub if-err-of : {A : Type 0} (P : RowFault → Type 0) (r : Result A RowFault) (fault : RowFault) → IsErrAnd r (λ why. why ≡ fault) → P fault → IfErr r P
+if-err-of P (Ok _) fault is p = tt
+if-err-of P (Err why) fault is p = subst P (sym is) p
+
 -- the records that were read are some of all
 pub count-within : {R : Type 0} (remaining : R → Option (List ℕ)) (rows : Rows R) (all : List Record) → IsWithin remaining rows all → rows.records.count ≤ length all
 count-within remaining rows all within = by rows.phase within
@@ -206,12 +221,16 @@ module _ {R : Type 0} (remaining : R → Option (List ℕ)) (text : List ℕ) (o
         at.2.snapshot ∙ ap finished_in (sym (ap (λ (all : Answers). all.items) whole ∙ ap (λ items. way.0 ++ items) (append-nil at.0))),
       )
 
-  pub fails : (fault : RowFault) → TakesMoment remaining way.0 way.1 (Err fault) new → fault.row ≤ length (records_of text) + 1 → IsRecorded text (Err fault)
-  fails fault at within =
+  pub fails : (fault : RowFault) → TakesMoment remaining way.0 way.1 (Err fault) new → fault.row ≤ length (records_of text) + 1
+      → (fault.kind ≡ kind.Read → FailsAt fault.row (records_of text)) → IsRecorded text (Err fault)
+  fails fault at within failed =
       let whole = way.2 ∙ ap (after_items way.0) at.2.1 in
       elim at.3 [
         | inl faulty ↦ inl (ap (λ (all : Answers). all.fault) (whole ∙ ap (λ rest. after_items way.0 (after_items at.0 rest)) faulty.0))
-        | inr failure ↦ inr (failure.0, within)
+        | inr failure ↦ elim failure.0 [
+          | inl read ↦ inr (inl (read, failed read))
+          | inr memory ↦ inr (inr (memory, within))
+        ]
       ]
 
 -- nothing of a text is taken yet

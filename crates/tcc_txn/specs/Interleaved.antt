@@ -1,5 +1,5 @@
 -- Lists of records that have the same records of each session, however these are interleaved.
-use Rattle.std.specs.Prelude.{ℕ, ◌≡◌, Bool, true, false, List, [], ◌∷◌, filter}
+use Rattle.std.specs.Prelude.{ℕ, ◌≡◌, Bool, true, false, List, ◌∷◌, filter}
 use Rattle.tcc_txn.specs.Lines.{Record, same}
 
 -- the record is one of the session: it names it first, and then what was done there

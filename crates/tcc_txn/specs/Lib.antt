@@ -2,6 +2,7 @@ pub mod Ahead
 pub mod Answers
 pub mod ByteLimit
 pub mod Drafts
+pub mod Failing
 pub mod Finished
 pub mod Interleaved
 pub mod Lines

@@ -3,7 +3,9 @@ use Rattle.std.specs.Prelude.{ℕ, ◌+◌, ◌≡◌, ◌≤◌, ◌⊎◌, Boo
 use Rattle.std.specs.List.{list_any}
 use Rattle.tcc_txn.specs.Ahead.{IsAhead, IsFailure}
 use Rattle.tcc_txn.specs.Answers.{Answers, answers_of, ending, records_of}
+use Rattle.tcc_txn.specs.Failing.{FailsAt, items_before}
 use Rattle.tcc_txn.specs.Finished.{KeepsLimits, finished_in}
+use Rattle.tcc_txn.specs.Lines.{Record}
 use Rattle.tcc_txn.specs.Snapshots.{Sessions}
 use Rattle.tcc_txn.specs.declared.recording.Moment.{Moment}
 use Rattle.tcc_txn.specs.declared.recording.Moment.TheVariants as moment
@@ -11,6 +13,7 @@ use Rattle.tcc_txn.specs.declared.recording.Recording.{Recording}
 use Rattle.tcc_txn.specs.declared.rows.Item.{Item}
 use Rattle.tcc_txn.specs.declared.rows.Item.TheVariants as item
 use Rattle.tcc_txn.specs.declared.rows.RowFault.{RowFault}
+use Rattle.tcc_txn.specs.declared.rows.RowFaultKind.TheVariants as kind
 
 abbrev pub is_seal : Item → Bool
 is_seal (item.Finished session txn) = false
@@ -49,7 +52,14 @@ TakesMoment remaining taken ahead (Ok moment.End) new = (passed : List Item)
 TakesMoment remaining taken ahead (Err fault) new = (passed : List Item) × (rest : Answers)
     × Passes ahead passed rest × StopsWith remaining taken passed rest fault new
 
--- what comes of a text: the snapshot of all that its records finish where they have no fault, else the fault; or the reader failed or memory was refused at some record
+-- the reading fails at a row, and the items of the records before it are these and then some without a seal
+abbrev pub FailsBehind : List Item → ℕ → List Record → Type 0
+FailsBehind taken row all = FailsAt row all × (passed : List Item) × (has_seal passed ≡ false) × (items_before row all ≡ taken ++ passed)
+
+-- what comes of a text: the snapshot of all that its records finish where they have no fault, else the fault; or its reading failed behind lawful records, or memory was refused at some record
 abbrev pub IsRecorded : List ℕ → Result Sessions RowFault → Type 0
 IsRecorded text (Ok s) = ((answers_of text).fault ≡ None) × (s ≡ finished_in (answers_of text).items)
-IsRecorded text (Err fault) = ((answers_of text).fault ≡ Some fault) ⊎ (IsFailure fault.kind × (fault.row ≤ length (records_of text) + 1))
+IsRecorded text (Err fault) =
+    ((answers_of text).fault ≡ Some fault)
+    ⊎ (((fault.kind ≡ kind.Read) × FailsAt fault.row (records_of text))
+    ⊎ ((fault.kind ≡ kind.NoMemory) × (fault.row ≤ length (records_of text) + 1)))

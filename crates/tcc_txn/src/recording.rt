@@ -1,12 +1,12 @@
 //! What records have finished so far, as a snapshot that grows.
 ghost use Rattle.std.specs.Prelude.{◌≡◌, ◌≢◌, ℕ, List, [], true, IfErr, IfOk, IfSome, OnErr, OnOk, None, Some, Ok, MatchResult};
 ghost use Rattle.tcc_txn.specs.Ahead.{fault_met, has_ended};
-ghost use Rattle.tcc_txn.specs.Answers.{Answers, answers_of, records_of};
+ghost use Rattle.tcc_txn.specs.Answers.{Answers, answers_after, answers_of, records_of};
 ghost use Rattle.tcc_txn.specs.Finished.{KeepsLimits, finished_in, with_transaction};
 ghost use Rattle.tcc_txn.specs.Lines.{Record};
 ghost use Rattle.tcc_txn.specs.Nested.{IsNested};
 ghost use Rattle.tcc_txn.specs.Reached.{IsWithin, ReaderFailed, row_reached};
-ghost use Rattle.tcc_txn.specs.Recordings.{IsRecorded, IsRecording, TakesMoment};
+ghost use Rattle.tcc_txn.specs.Recordings.{FailsBehind, IsRecorded, IsRecording, TakesMoment, after_items};
 ghost use Rattle.tcc_txn.specs.declared.rows.Item.{Item};
 ghost use Rattle.tcc_txn.specs.declared.rows.Phase.TheVariants as phase;
 
@@ -55,6 +55,12 @@ impl<R: Read + Drop> Recording<R> {
         // one after it where its reading failed; and only a reader that failed makes it `Read`.
         ensures row { IfErr result (λ fault. fault_met self.old.rows ≡ None → fault.row ≡ row_reached self.new.rows) }
         ensures read { IfErr result (λ fault. fault_met self.old.rows ≡ None → fault.kind ≡ RowFaultKind.Read → ReaderFailed self.new.rows) }
+
+        // Where a record can't be read, all before it are lawful, and the items so far are theirs: those that were taken, and
+        // then some without a seal.
+        ensures failed { IfErr result (λ fault. fault_met self.old.rows ≡ None → fault.kind ≡ RowFaultKind.Read
+            → (all : List Record) (taken : List Item) (ahead : Answers) → answers_after [] all ≡ after_items taken ahead
+            → IsWithin R.remaining self.old.rows all → IsRecording R.remaining self.old taken ahead → FailsBehind taken fault.row all) }
 
         // A fault stays, and so does the end.
         ensures stops { IfErr result (λ fault. fault_met self.new.rows ≡ Some fault) }

@@ -1,6 +1,6 @@
 //! Transactions and seals as they come out of records.
-ghost use Rattle.std.specs.Prelude.{◌≡◌, ◌≢◌, ◌+◌, ◌^◌, ◌<◌, ◌≤◌, List, length, true, IfOk, IfErr, IfSome, OnOk, MatchResult, None, Some, false, Ok, Err};
-ghost use Rattle.tcc_txn.specs.Answers.{Answers, answers_of, fault_at_end, records_of};
+ghost use Rattle.std.specs.Prelude.{◌≡◌, ◌≢◌, ◌+◌, ◌^◌, ◌<◌, ◌≤◌, List, [], length, true, IfOk, IfErr, IfSome, OnOk, MatchResult, None, Some, false, Ok, Err};
+ghost use Rattle.tcc_txn.specs.Answers.{Answers, answers_after, answers_of, fault_at_end, records_of};
 ghost use Rattle.tcc_txn.specs.Standing.{IsAfter, writes_no_zero};
 ghost use Rattle.tcc_txn.specs.declared.rows.line.Line.{Line};
 
@@ -116,10 +116,13 @@ pub struct Rows<R> {
 
 impl<R: Read + Drop> Rows<R> {
     ghost use Rattle.tcc_txn.specs.Ahead.{FaultsIn, IsAhead, TakesAnswer, fault_met, has_ended};
+    ghost use Rattle.tcc_txn.specs.Failing.{FailsAt, FailsIn, items_before};
     ghost use Rattle.tcc_txn.specs.Midway.{IsMidway};
     ghost use Rattle.tcc_txn.specs.Lines.{Record, is_cut, line_of};
     ghost use Rattle.tcc_txn.specs.Phases.{phase_after, phase_after_step};
     ghost use Rattle.tcc_txn.specs.Reached.{HasGivenUp, IsWithin, ReaderFailed, StandsBy, StandsIn, row_reached};
+    ghost use Rattle.tcc_txn.specs.Recordings.{after_items};
+    ghost use Rattle.tcc_txn.specs.declared.rows.Item.{Item};
     ghost use Rattle.tcc_txn.specs.Stages.{LeavesIn, MeetsLine, TakesFields, TakesItem, TakesStep};
     ghost use Rattle.tcc_txn.specs.declared.rows.records.Course.TheVariants as course;
 
@@ -148,6 +151,12 @@ impl<R: Read + Drop> Rows<R> {
         // one after it where its reading failed; and only a reader that failed makes it `Read`.
         ensures row { IfErr result (λ fault. fault_met self.old ≡ None → fault.row ≡ row_reached self.new) }
         ensures read { IfErr result (λ fault. fault_met self.old ≡ None → fault.kind ≡ RowFaultKind.Read → ReaderFailed self.new) }
+
+        // Where a record can't be read, all before it are lawful, and the items so far are theirs.
+        ensures failed { IfErr result (λ fault. fault_met self.old ≡ None → fault.kind ≡ RowFaultKind.Read
+            → (all : List Record) (taken : List Item) (ahead : Answers) → answers_after [] all ≡ after_items taken ahead
+            → IsWithin R.remaining self.old all → IsAhead R.remaining self.old ahead
+            → FailsAt fault.row all × (taken ≡ items_before fault.row all)) }
 
         // A fault stays, and so does the end, whatever is known of the bytes.
         ensures stops { IfErr result (λ fault. fault_met self.new ≡ Some fault) }
@@ -204,6 +213,8 @@ impl<R: Read + Drop> Rows<R> {
         ensures item { IfOk result (λ given. (ahead : Answers) → IsMidway R.remaining self.old ahead → TakesItem R.remaining ahead given self.new) }
         ensures phase { IfOk result (λ given. self.new.phase ≡ phase_after given) }
         ensures fault { IfErr result (λ fault. (ahead : Answers) → IsMidway R.remaining self.old ahead → FaultsIn ahead fault) }
+        ensures failed { IfErr result (λ fault. fault.kind ≡ RowFaultKind.Read → (all : List Record) (ahead : Answers)
+            → StandsIn R.remaining self.old.records all → IsMidway R.remaining self.old ahead → FailsIn all ahead fault.row) }
         ensures row { IfErr result (λ fault. fault.row ≡ row_reached self.new) }
         ensures read { IfErr result (λ fault. fault.kind ≡ RowFaultKind.Read → ReaderFailed self.new) }
         ensures within { (all : List Record) → StandsIn R.remaining self.old.records all
@@ -225,6 +236,8 @@ impl<R: Read + Drop> Rows<R> {
         ensures phase { IfOk result (λ given. self.new.phase ≡ phase_after_step given) }
         ensures row { IfErr result (λ fault. fault.row ≡ row_reached self.new) }
         ensures read { IfErr result (λ fault. fault.kind ≡ RowFaultKind.Read → ReaderFailed self.new) }
+        ensures failed { IfErr result (λ fault. fault.kind ≡ RowFaultKind.Read → (all : List Record) (ahead : Answers)
+            → StandsIn R.remaining self.old.records all → IsMidway R.remaining self.old ahead → FailsIn all ahead fault.row) }
         ensures within { (all : List Record) → StandsIn R.remaining self.old.records all
             → MatchResult result (λ given. StandsBy self.new.phase R.remaining self.new.records all) (λ fault. self.new.records.count ≤ length all) }
         ensures more { result ≡ Ok None → self.old.records.count < self.new.records.count }
@@ -243,6 +256,8 @@ impl<R: Read + Drop> Rows<R> {
         ensures phase { self.new.phase ≡ self.old.phase }
         ensures no_zero { IfOk result (λ found. IfSome found writes_no_zero) }
         ensures read { IfErr result (λ kind. kind ≡ RowFaultKind.Read → HasGivenUp self.new.records) }
+        ensures failed { IfErr result (λ kind. kind ≡ RowFaultKind.Read → (all : List Record) (ahead : Answers)
+            → StandsIn R.remaining self.old.records all → IsMidway R.remaining self.old ahead → FailsIn all ahead (row_reached self.new)) }
         ensures within { (all : List Record) → StandsIn R.remaining self.old.records all → LeavesIn R.remaining all result self.new.records }
         ensures more { IfOk result (λ found. IfSome found (λ line. self.old.records.count < self.new.records.count)) }
         ensures fits { IfOk result (λ found. IfSome found (λ line. self.new.records.count < 2 ^ 64)) }

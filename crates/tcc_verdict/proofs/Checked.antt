@@ -34,9 +34,9 @@ unrecorded records fault (Err why) fails is = subst (λ u. IsHistoryOf records (
     by_test true e = tt
     by_test false e = elim fails [
       | inl same ↦ inl same
-      | inr failed ↦ elim failed.0 [
-        | inl read ↦ inr (read, failed.1)
-        | inr memory ↦ absurd (no_memory (sym (ap is_memory memory) ∙ e))
+      | inr failed ↦ elim failed [
+        | inl read ↦ inr read
+        | inr memory ↦ absurd (no_memory (sym (ap is_memory memory.0) ∙ e))
       ]
     ]
 

@@ -1,7 +1,8 @@
 -- What comes of a history and a certificate, and what a run of the check does with their bytes.
-use Rattle.std.specs.Prelude.{ℕ, ◌≡◌, ◌≢◌, ◌⊎◌, ◌+◌, ◌≤◌, List, [], length, Option, None, Some, Result, Ok, Err}
+use Rattle.std.specs.Prelude.{ℕ, ◌≡◌, ◌≢◌, ◌⊎◌, List, [], Option, None, Some, Result, Ok, Err}
 use Rattle.tcc_txn.specs.Snapshots.{Sessions}
 use Rattle.tcc_txn.specs.Answers as rows
+use Rattle.tcc_txn.specs.Failing.{FailsAt}
 use Rattle.tcc_txn.specs.Finished.{finished_in}
 use Rattle.tcc_txn.specs.declared.rows.Item.{Item}
 use Rattle.tcc_txn.specs.declared.rows.RowFault.{RowFault}
@@ -46,10 +47,10 @@ IsRecordsCheck items (Some fault) text o = o ≡ Err (Row fault)
 abbrev pub IsCheck : List ℕ → List ℕ → Result Judgement Halt → Type 0
 IsCheck records text o = IsRecordsCheck (rows.answers_of records).items (rows.answers_of records).fault text o
 
--- the reader of the records failed, at one of them or behind the last
+-- the reader of the records failed, at one of them or behind the last, and all before it are lawful
 abbrev pub IsRecordsFailure : List ℕ → Result Judgement Halt → Type 0
 IsRecordsFailure records o =
-    (row : ℕ) × (row ≤ length (rows.records_of records) + 1) × (o ≡ Err (Row (record { row = row; kind = row_kind.Read })))
+    (row : ℕ) × FailsAt row (rows.records_of records) × (o ≡ Err (Row (record { row = row; kind = row_kind.Read })))
 
 -- what may come of the bytes: what their definition says, the fault of a reader that fails, or `NoMemory`
 abbrev pub MayBeCheck : List ℕ → List ℕ → Result Judgement Halt → Type 0

@@ -1,6 +1,7 @@
 -- How the stages of a check follow one another. Nobody has to believe these: the contracts of public calls cite none of them.
-use Rattle.std.specs.Prelude.{ℕ, ◌≡◌, ◌≢◌, ◌⊎◌, ◌+◌, ◌≤◌, List, [], length, None, Some, Result, Ok, Err}
+use Rattle.std.specs.Prelude.{ℕ, ◌≡◌, ◌≢◌, ◌⊎◌, List, [], None, Some, Result, Ok, Err}
 use Rattle.tcc_txn.specs.Answers as rows
+use Rattle.tcc_txn.specs.Failing.{FailsAt}
 use Rattle.tcc_txn.specs.Finished.{finished_in}
 use Rattle.tcc_txn.specs.Snapshots.{Sessions}
 use Rattle.tcc_txn.specs.declared.rows.RowFault.{RowFault}
@@ -13,10 +14,10 @@ use Rattle.tcc_print.specs.declared.halt.Halt.{Halt}
 use Rattle.tcc_print.specs.declared.halt.Halt.TheVariants.{Row, Reads, Text, NoMemory}
 use Rattle.tcc_verdict.specs.Checks.{IsTextCheck}
 
--- the fault of the records, or that of a reader that failed
+-- the fault of the records, or that of a reader that failed behind lawful ones
 abbrev pub IsRowHalt : List ℕ → RowFault → Type 0
 IsRowHalt records fault = ((rows.answers_of records).fault ≡ Some fault)
-    ⊎ ((fault.kind ≡ row_kind.Read) × (fault.row ≤ length (rows.records_of records) + 1))
+    ⊎ ((fault.kind ≡ row_kind.Read) × FailsAt fault.row (rows.records_of records))
 
 -- the history of a snapshot whose reads have no faults, else all their faults
 abbrev pub IsResolution : Sessions → Result History Halt → Type 0

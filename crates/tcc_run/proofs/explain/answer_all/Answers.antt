@@ -1,5 +1,5 @@
 -- What comes of each moment of the recording.
-use Rattle.std.proofs.Common.{◌+◌, ◌≤◌, length, subst, sym, Ok}
+use Rattle.std.proofs.Common.{subst, Ok}
 use Rattle.tcc_txn.specs.Answers.{records_of}
 use Rattle.tcc_txn.specs.Nested.{IsNested}
 use Rattle.tcc_txn.specs.Recordings.{TakesMoment}
@@ -8,7 +8,6 @@ use Rattle.tcc_run.specs.Stages.{AllAnswered, EndsEarly, Follows}
 use Rattle.tcc_print.specs.Printed.{PrintsOrMemory}
 use Rattle.tcc_print.specs.Statuses.{halt_status}
 use Rattle.tcc_run.proofs.Earlier.{follows_on}
-use Rattle.tcc_run.proofs.Reach.{row_bound}
 use Rattle.tcc_run.proofs.Runs.{answered-seal, ended-end, ended-seal, still-seal, stopped, wants_memory}
 use Rattle.tcc_run.proofs.Sent.{ended_by}
 use Rattle.tcc_run.proofs.explain.answer_all.Goals as goal
@@ -52,12 +51,9 @@ returns-in-Ok-End g c text recording within fresh =
 pub returns-in-Err : goal.returns-in-Err
 returns-in-Err g c text recording within fresh =
     let way = c.moments.invariant.way text recording in
-    let bound : c.in-Err.fault.row ≤ length (records_of text) + 1 = subst (λ n. n ≤ length (records_of text) + 1)
-    (sym (c.in-Err.ensures.row (c.moments.invariant.going fresh)))
-    (row_bound g.R.Read.remaining c.advance.new.self.rows (records_of text)
-    (c.in-Err.ensures.within (records_of text) (c.moments.invariant.within (records_of text) within))) in
     stopped g.R.Read.remaining c.args.options text c.moments.recording c.advance.new.self _ _ c.moments.last way
-    c.in-Err.fault (c.in-Err.ensures.moment way.taken way.ahead way.recorded) _ c.print_halt.result bound
+    c.in-Err.fault (c.in-Err.ensures.moment way.taken way.ahead way.recorded) _ c.print_halt.result
+    (λ read. c.in-Err.ensures.failed (c.moments.invariant.going fresh) read (records_of text) way.taken way.ahead way.whole (c.moments.invariant.within (records_of text) within) way.recorded)
     (subst (λ why. PrintsOrMemory c.args.options.json (g.W.Write.contents c.moments.out) (g.W.Write.contents c.print_halt.new.out) (halted c.args.options.json why) (halt_status why) c.print_halt.result) c.from.ensures c.print_halt.ensures)
 
 pub returns : goal.returns

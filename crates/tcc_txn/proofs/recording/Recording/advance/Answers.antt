@@ -1,4 +1,4 @@
-use Rattle.std.proofs.Common.{Ok, refl, sym, ap, subst, ◌∙◌, arith}
+use Rattle.std.proofs.Common.{Ok, ◌++◌, refl, sym, ap, subst, ◌∙◌, arith}
 use Rattle.tcc_txn.specs.Ahead.{TakesAnswer, fault_met}
 use Rattle.tcc_txn.specs.Nested.{IsNested}
 use Rattle.tcc_txn.specs.Phases.{phase_after}
@@ -6,7 +6,7 @@ use Rattle.tcc_txn.specs.Reached.{IsWithin}
 use Rattle.tcc_txn.specs.Recordings.{TakesMoment}
 use Rattle.tcc_txn.specs.declared.rows.Item.TheVariants as item
 use Rattle.tcc_txn.proofs.Nesting.{nested_itself, nested_on, nested_transaction}
-use Rattle.tcc_txn.proofs.RecordingSteps.{err-of, gives_up, goes_on, has-room, loses_one, met-itself, never-stopped, not-begun, not-end, stops, within-stopped}
+use Rattle.tcc_txn.proofs.RecordingSteps.{err-of, fails-behind, gives_up, goes_on, has-room, if-err-of, loses_one, met-itself, never-stopped, not-begun, not-end, stops, within-stopped}
 use Rattle.tcc_txn.proofs.recording.Recording.advance.Goals as goal
 
 pub items-init : goal.items-init
@@ -28,6 +28,14 @@ returns-in_err-session-clause-moment g c taken ahead recording =
     (sym (err-of c.from_residual.result c.in_err-session.field-0.0 c.from_residual.ensures.1))
     (stops g.R.Read.remaining taken ahead c.items.self (record { rows = c.next.new.self; snapshot = c.items.self.snapshot }) way c.in_err-session.field-0.0
     (c.in_err-session.ensures.answers way.1 way.3.answers) refl)
+
+pub returns-in_err-session-clause-failed : goal.returns-in_err-session-clause-failed
+returns-in_err-session-clause-failed g c =
+    if-err-of _ c.from_residual.result c.in_err-session.field-0.0 c.from_residual.ensures.1
+    (λ fresh read all taken ahead answers within recording.
+    let way = c.items.invariant.way taken ahead recording in
+    fails-behind g.R.Read.remaining taken ahead c.items.self c.items.self way c.in_err-session.field-0.0.row all answers
+    (λ whole. c.in_err-session.ensures.failed (c.items.invariant.going fresh) read all (taken ++ way.0) way.1 whole (c.items.invariant.within all within) way.3.answers))
 
 pub returns-in_err-take-in-Finished-clause-moment : goal.returns-in_err-take-in-Finished-clause-moment
 returns-in_err-take-in-Finished-clause-moment g c taken ahead recording =

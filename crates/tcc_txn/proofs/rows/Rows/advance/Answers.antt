@@ -6,3 +6,7 @@ returns-in-Ok-Some-clause-item g c ahead reading =
 
 pub returns-in-Err-clause-fault : goal.returns-in-Err-clause-fault
 returns-in-Err-clause-fault g c ahead reading = c.in-Err.ensures.step ahead (c.records.invariant.reading ahead reading)
+
+pub returns-in-Err-clause-failed : goal.returns-in-Err-clause-failed
+returns-in-Err-clause-failed g c read all ahead stands reading =
+    c.in-Err.ensures.failed read all ahead (c.records.invariant.stands all stands) (c.records.invariant.reading ahead reading)

@@ -1,7 +1,7 @@
 use Rattle.std.proofs.Common.{refl, sym, ap, arith, inl, ◌∙◌}
 use Rattle.tcc_txn.specs.Answers.{answers_after}
 use Rattle.tcc_txn.specs.RecordsLeft.{record_of}
-use Rattle.tcc_txn.proofs.AheadFacts.{judged-refused, judged-unlawful, line-met, operation-passed, reading-failed, record-refused, row-ended}
+use Rattle.tcc_txn.proofs.AheadFacts.{failed-reading, judged-refused, judged-unlawful, line-met, operation-passed, reading-failed, record-refused, row-ended}
 use Rattle.tcc_txn.proofs.RecordSteps.{stands-within}
 use Rattle.tcc_txn.proofs.rows.Rows.next_line.Goals as goal
 
@@ -20,6 +20,11 @@ pub returns-in-Err-clause-line : goal.returns-in-Err-clause-line
 returns-in-Err-clause-line g c ahead reading =
     let now = c.records.invariant.reading ahead reading in
     reading-failed g.R.Read.remaining c.records.self c.read.new.self ahead now c.in-Err.kind c.in-Err.ensures.counts c.in-Err.ensures.failure
+
+pub returns-in-Err-clause-failed : goal.returns-in-Err-clause-failed
+returns-in-Err-clause-failed g c read all ahead stands reading =
+    failed-reading g.R.Read.remaining c.records.self c.read.new.self all ahead (c.records.invariant.reading ahead reading) (c.records.invariant.stands all stands)
+    c.in-Err.kind c.in-Err.ensures.counts
 
 pub returns-in-Ok-clause-line : goal.returns-in-Ok-clause-line
 returns-in-Ok-clause-line g c ahead reading =

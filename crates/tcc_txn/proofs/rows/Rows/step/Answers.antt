@@ -1,5 +1,6 @@
-use Rattle.std.proofs.Common.{◌∙◌}
+use Rattle.std.proofs.Common.{ap, sym, ◌∙◌}
 use Rattle.tcc_txn.proofs.AheadFacts.{closed-after, end-taken, line-taken, row-at, unfinished-after}
+use Rattle.tcc_txn.proofs.Growing.{if-err-then}
 use Rattle.tcc_txn.proofs.RecordSteps.{all-read, line-stands}
 use Rattle.tcc_txn.proofs.rows.Rows.step.Goals as goal
 
@@ -31,3 +32,14 @@ returns-in-Ok-None-clause-within g c all stands =
 
 pub returns-in-Err-clause-step : goal.returns-in-Err-clause-step
 returns-in-Err-clause-step g c ahead reading = rw c.fault.ensures (c.in-Err.ensures.line ahead reading)
+
+pub returns-in-Ok-Some-clause-failed : goal.returns-in-Ok-Some-clause-failed
+returns-in-Ok-Some-clause-failed g c = if-err-then c.take_line.result (λ fault other read. absurd (other read)) c.take_line.ensures.read
+
+pub returns-in-Ok-None-clause-failed : goal.returns-in-Ok-None-clause-failed
+returns-in-Ok-None-clause-failed g c = if-err-then c.finish.result (λ fault other read. absurd (other read)) c.finish.ensures.read
+
+pub returns-in-Err-clause-failed : goal.returns-in-Err-clause-failed
+returns-in-Err-clause-failed g c read all ahead stands reading =
+    let kind = sym (ap (λ fault. fault.kind) c.fault.ensures) ∙ read in
+    rw c.fault.ensures (c.in-Err.ensures.failed kind all ahead stands reading)

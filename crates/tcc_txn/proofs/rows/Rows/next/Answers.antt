@@ -1,0 +1,12 @@
+use Rattle.std.proofs.Common.{subst}
+use Rattle.tcc_txn.specs.Ahead.{IsAheadIn}
+use Rattle.tcc_txn.specs.Reached.{StandsBy}
+use Rattle.tcc_txn.proofs.FailingFacts.{fails-at}
+use Rattle.tcc_txn.proofs.rows.Rows.next.Goals as goal
+
+pub returns-in-Err-clause-failed : goal.returns-in-Err-clause-failed
+returns-in-Err-clause-failed g c fresh read all taken ahead answers within coming =
+    let self = c.args.self.now in
+    let stands = subst (λ phase. StandsBy phase g.R.Read.remaining self.records all) c.in-Reading.is within in
+    let reading = subst (λ phase. IsAheadIn phase g.R.Read.remaining self ahead) c.in-Reading.is coming in
+    fails-at all taken ahead c.in-Err.fault.row answers (c.in-Err.ensures.failed read all ahead stands reading)
