@@ -1,5 +1,5 @@
 -- What comes of each moment of the recording.
-use Rattle.std.proofs.Common.{subst, Ok}
+use Rattle.std.proofs.Common.{subst, sym, Ok}
 use Rattle.tcc_txn.specs.Answers.{records_of}
 use Rattle.tcc_txn.specs.Nested.{IsNested}
 use Rattle.tcc_txn.specs.Recordings.{TakesMoment}
