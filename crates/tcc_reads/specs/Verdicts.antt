@@ -1,9 +1,7 @@
 -- Serves proofs alone; nobody has to believe it: what the resolver finds out about the operations, in the terms of its
 -- table of first writes. That this is what Faults and Sources say is proved.
-use Rattle.std.specs.Prelude.{ℕ, ◌≡◌, ◌<◌, Bool, false, ◌&&◌, ◌==◌, not, if◌then◌else◌, List, [], ◌∷◌, ◌++◌, map, filter, filter_map, length, ◌+◌, Option, None, Some, option_and_then}
+use Rattle.std.specs.Prelude.{ℕ, ◌≡◌, ◌<◌, nat_eq, Bool, false, ◌&&◌, ◌==◌, not, if◌then◌else◌, List, [], ◌∷◌, ◌++◌, map, filter, filter_map, length, ◌+◌, Option, None, Some, option_and_then}
 use Rattle.std.specs.List.{list_any}
-use Rattle.std.specs.Ordering.{nat_cmp}
-use Rattle.std.specs.BTreeMap as tree
 use Rattle.std.specs.HashMap as hash
 use Rattle.std.specs.HashMap.{HashMap}
 use Rattle.std.specs.Str.{bytes_eq}
@@ -53,7 +51,7 @@ Writes = List ℕ → ℕ → Option Writer
 
 -- the writers in a table of the resolver
 abbrev pub writers_in : {S : Type 0} → HashMap (List ℕ) KeyWrites S → Writes
-writers_in table x v = option_and_then (λ writes. tree.get nat_cmp writes.first v) (hash.get bytes_eq table x)
+writers_in table x v = option_and_then (λ writes. hash.get nat_eq writes.first v) (hash.get bytes_eq table x)
 
 -- the table has the first writes of these transactions
 abbrev pub AreFirstWriters : Writes → List Numbered → Type 0
