@@ -12,7 +12,7 @@ use rayon::prelude::*;
 use std::alloc::Global;
 use std::thread::Threads;
 use tcc_graph::Graph;
-use tcc_near::{NONE, Near, Row};
+use tcc_near::{NONE, Near, ROWS_A_THREAD, Row};
 use tcc_txn::NoMemory;
 
 /// Where the numbers end that session pairs lead to, for each transaction.
@@ -91,6 +91,6 @@ pub(crate) fn other_rows(
                 others_of(alloc, graph, u as u32, steps, prices[u].values())
             },
         )
-        .with_min_len(1)
+        .with_min_len(ROWS_A_THREAD)
         .collect::<Result<Vec<Row<(u32, u32)>>, NoMemory>>(rt, alloc)?
 }

@@ -15,7 +15,7 @@ use rayon::prelude::*;
 use std::alloc::Global;
 use std::thread::Threads;
 use tcc_graph::Graph;
-use tcc_near::{NONE, Near, Row};
+use tcc_near::{NONE, Near, ROWS_A_THREAD, Row};
 use tcc_txn::NoMemory;
 
 /// Lowers what links from `b` cost by the reads of one key that `b` writes: a step more than the way to the reader.
@@ -80,6 +80,6 @@ pub(crate) fn price_rows(
                 price_row(alloc, reads, keys, near.row(b as u32), b as u32)
             },
         )
-        .with_min_len(1)
+        .with_min_len(ROWS_A_THREAD)
         .collect::<Result<Vec<Row<u16>>, NoMemory>>(rt, alloc)?
 }

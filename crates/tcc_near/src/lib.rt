@@ -13,5 +13,5 @@ mod search;
 pub use behind::{clocks, clocks_of};
 pub use clock::Clocks;
 pub use distances::{NONE, Near};
-pub use row::Row;
+pub use row::{ROWS_A_THREAD, Row};
 pub use search::near;

@@ -4,6 +4,10 @@ ghost use Rattle.std.specs.Prelude.{◌≡◌, ◌++◌, ◌∷◌, [], OnOk, On
 use std::marker::Model;
 use tcc_txn::NoMemory;
 
+/// So many rows of a table are worked out by a thread at least: for fewer none is started, since its stack takes more than
+/// they do.
+pub const ROWS_A_THREAD: usize = 128;
+
 /// One row of a table, which contracts see as a list: a table of rows is a list of lists.
 #[derive(Drop)]
 pub struct Row<T: Copy> {

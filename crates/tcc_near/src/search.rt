@@ -10,7 +10,7 @@ ghost use Rattle.tcc_txn.specs.declared.limits.TheConstants.{MAX_COUNT};
 
 use crate::bits::{is_marked, take_fresh};
 use crate::pairs::{first_marks, readers_apart, session_ends, take_in};
-use crate::{NONE, Near, Row};
+use crate::{NONE, Near, ROWS_A_THREAD, Row};
 use rayon::prelude::*;
 use std::alloc::{AllocError, Global};
 use std::thread::Threads;
@@ -139,7 +139,7 @@ fn all_distances(
                 ensures { IfOk result (HasDistances (record { history = graph.entry.now; level = level }) source) }
             { row_from(alloc, graph, ends, readers, level, source as u32) },
         )
-        .with_min_len(1)
+        .with_min_len(ROWS_A_THREAD)
         .collect::<Result<Vec<Row<u16>>, AllocError>>(rt, alloc)?
 }
 
