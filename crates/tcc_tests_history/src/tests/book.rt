@@ -209,12 +209,14 @@ fn torn_passes(rt: HostRuntime) {
     assert_eq!(rt; book.whole(&rt, alloc, &passes).err(), torn);
 }
 
-/// A session is opened once, and up to so many are.
+/// A session is opened once, also where it has recorded nothing yet, and up to so many are.
 #[test]
 fn openings(rt: HostRuntime) {
     let alloc = rt.alloc();
     let book = new_book(&rt, alloc);
     for mut pass in opened(&rt, alloc, &book, b"0") {
+        let again = book.open(&rt, alloc, *pass.session()).err();
+        assert_eq!(rt; again, Some(OpenFault::Taken { held: 0 }));
         assert_records(&rt, alloc, &book, &mut pass, 3);
         let again = book.open(&rt, alloc, *pass.session()).err();
         assert_eq!(rt; again, Some(OpenFault::Taken { held: 3 }));
