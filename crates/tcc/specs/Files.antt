@@ -7,7 +7,7 @@ use Rattle.tcc_print.specs.declared.status.Status.TheVariants.{Memory, Device}
 use Rattle.tcc_print.specs.Printed.{Prints, device_line, memory_line}
 use Rattle.tcc_verdict.specs.Checks.{PrintsSome}
 
--- the line for the device, or for want of memory
+-- the line for the device, or the one that says that memory is out
 abbrev pub unopened_text : Bool → ErrorKind → List ℕ
 unopened_text json OutOfMemory = memory_line json
 unopened_text json _ = device_line json

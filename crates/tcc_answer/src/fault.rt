@@ -13,7 +13,7 @@ pub enum WriteFault {
     /// A write failed, was interrupted, or took no bytes.
     #[error("the answer could not be written")]
     Device,
-    /// Want of memory; nothing was written.
+    /// Out of memory; nothing was written.
     #[error("out of memory")]
     NoMemory,
 }

@@ -12,7 +12,7 @@ pub enum OpenFault {
     /// So many sessions are open, as many as can be.
     #[error("{held} sessions are open, as many as can be")]
     TooManySessions { held: u32 },
-    /// Want of memory.
+    /// Out of memory.
     #[error("out of memory")]
     NoMemory,
 }
@@ -26,7 +26,7 @@ pub enum RecordFault {
     /// The book has no list of the session, or one that isn't as long as what was recorded by the pass.
     #[error("the book's list of {session} is not the one of its pass")]
     Torn { session: Name },
-    /// Want of memory.
+    /// Out of memory.
     #[error("out of memory")]
     NoMemory,
 }
@@ -37,7 +37,7 @@ pub enum SealFault {
     /// The book has no list of the session, or one that isn't what was recorded by the pass.
     #[error("the book's list of {session} is not the one of its pass")]
     Torn { session: Name },
-    /// Want of memory.
+    /// Out of memory.
     #[error("out of memory")]
     NoMemory,
 }
@@ -51,7 +51,7 @@ pub enum WholeFault {
     /// The least name of a pass with which the book's list doesn't agree.
     #[error("the book's list of {session} is not the one of its pass")]
     Torn { session: Name },
-    /// Want of memory.
+    /// Out of memory.
     #[error("out of memory")]
     NoMemory,
 }

@@ -20,7 +20,7 @@ abbrev pub is_want_of_memory : CertFaultKind → Bool
 is_want_of_memory kind.NoMemory = true
 is_want_of_memory _ = false
 
--- want of memory stands by itself, and other faults with their lines
+-- `NoMemory` stands by itself, and other faults with their lines
 abbrev pub fault_of : CertFault → StreamFault
 fault_of fault = if is_want_of_memory fault.kind then NoMemory else Text fault
 

@@ -1,4 +1,4 @@
--- Shares that settle: the word undercuts no cycle, and the rows are exact up to it.
+-- Shares that settle: the word is not below the cost of a least cycle, and the rows are exact up to it.
 use Rattle.std.proofs.Common.{◌≡◌, ◌<◌, ◌≤◌, ℕ, zero, suc, inl, inr, List, [], ◌∷◌, length, map, Option, None, Some, All, Contains, get_or, refl, sym, ap, subst, arith, nat_lt}
 use Rattle.std.proofs.lemmas.Bool.{cond_both, ltb-true, ltb-false}
 use Rattle.std.proofs.lemmas.List.Elements.{All-contains}
@@ -28,7 +28,7 @@ search_from shares s c =
     let v = from_map (λ f. f.start) w.0.finished s w.2.0 w.2.1 w.2.2 in
     (w.0, w.1, v.0, v.1, v.2)
 
--- ---- nothing outside a finished row undercuts the word
+-- ---- nothing outside a finished row costs less than the word
 
 not_above_join : (a b c : Option ℕ) → IsNotAbove a b → IsNotAbove b c → IsNotAbove a c
 not_above_join a b None p q = tt

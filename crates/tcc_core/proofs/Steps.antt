@@ -67,7 +67,7 @@ module _ (j : Judged) (s : ℕ) (search : Search) (floor v : ℕ) (is : IsSearch
   pub near_outside : in_row search.row v ≡ None
   near_outside = open_outside search floor v bounds near.open_at
 
-  -- no upward route to anything outside undercuts the cost of the nearest, where that is within the limit
+  -- no upward route to anything outside costs less than the nearest, where that is within the limit
   pub nearest_least : slice_index search.costs v ≤ search.limit → (u : ℕ) (links : List Link) → in_row search.row u ≡ None → IsUpwardRoute j s u links → slice_index search.costs v ≤ cost links
   nearest_least known u links out route =
       let (w, k, outside, way, low) = way_within j s search.row is.row u links out route in

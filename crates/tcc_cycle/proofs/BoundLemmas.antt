@@ -49,7 +49,7 @@ few_at : (h : History) (at : Level) (b c : ℕ) (walk : List Step) → IsWalk h 
 few_at h level.Causal b c walk is allowed least = few_steps h b c walk is (λ others leads. least others leads tt)
 few_at h level.Atomic b c walk is allowed least = let ends = walk_below h b c walk is in omega (arith, allowed, ends.0)
 
--- ---- a link that none undercuts between its ends
+-- ---- a cheapest link between its ends
 
 few_in_link : (j : Judged) (l : Link) → IsLink j l → ((o : Link) → link_from o ≡ link_from l → link_to o ≡ link_to l → IsLink j o → link_cost l ≤ link_cost o) → link_cost l ≤ count j.history + 1
 few_in_link j (link.Session a b) is least = omega arith

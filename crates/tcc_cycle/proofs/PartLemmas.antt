@@ -25,7 +25,7 @@ start_same j a b c d (l ∷ links) some p q = (sym p.0 ∙ q.0, lead_end j (link
 pub none_below : (j : Judged) (s : ℕ) (links : List Link) → IsFirstCycle j s links → (front : List Link) (l : Link) (rest : List Link) → IsLeastCycle j s (front ++ l ∷ rest) → s ≤ link_from l
 none_below j s links first = begins_above j s (first_lowest j s links first)
 
--- ---- no route undercuts a part of a least cycle
+-- ---- no route costs less than a part of a least cycle
 
 pub part_least : (j : Judged) (s u v : ℕ) (front part rest others : List Link) → IsLeastCycle j s (front ++ (part ++ rest)) → IsRoute j u v part → IsRoute j u v others → cost part ≤ cost others
 part_least j s u v front part rest others is route other =

@@ -79,7 +79,7 @@ module _ (j : Judged) (t : Tables) (r : FirstReturn) (priced : IsPricesOf j t) (
       record { below = start_below; back = refl; costs = omega arith; way = (others, cycle.0.1, costs); picks = tt }
 
   module _ (end left : ℕ) (picked : List Link) (way : IsUnderWay j r end left picked) where
-    -- no way over a last link undercuts the least cycle
+    -- no way over a last link costs less than the least cycle
     around : (u : ℕ) (front : List Link) (o : Link) → LinksLead j r.start u front → IsLinkOf j u end o → r.cost ≤ cost front + (link_cost o + cost (reverse picked))
     around u front o lead leads =
         let on : LinksLead j u r.start (o ∷ reverse picked) = (leads.from, leads.link, subst (λ (z : ℕ). LinksLead j z r.start (reverse picked)) (sym leads.to) way.back) in

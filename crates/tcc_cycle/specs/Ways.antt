@@ -18,7 +18,7 @@ pub record IsBefore (t : Tables) (back : FirstReturn) (v : ℕ) (left : ℕ) (u 
   pub come : spent back u ≡ Some c
   pub on : (k : ℕ) × (cost_at t u v ≡ Some k) × (c + k ≡ left)
 
--- a link from a to b that none undercuts, and of those that cost as much the first
+-- a cheapest link from a to b, and of those that cost as much the first
 pub record IsFirstLink (j : Judged) (a : ℕ) (b : ℕ) (l : Link) : Type 0 where
   pub leads : IsLinkOf j a b l
   pub least : (other : Link) → IsLinkOf j a b other → link_cost l ≤ link_cost other

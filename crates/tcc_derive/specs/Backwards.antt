@@ -1,5 +1,5 @@
--- For the private stages and their proofs alone: nobody has to believe what stands here.
--- Walks that a level allows, from the last step backwards.
+-- Walks that a level allows, from the last step backwards. The law `picked` of tcc_cycle speaks of `IsFirstWalk`; what else
+-- stands here serves the private stages and their proofs alone.
 use Rattle.std.specs.Prelude.{ℕ, ◌<◌, ◌≤◌, ◌≡◌, ◌≢◌, ◌⊎◌, ◌==◌, Bool, true, List, [], ◌∷◌, length, slice_index, if◌then◌else◌}
 use Rattle.std.specs.declared.cmp.Ordering.TheVariants.{Less, Greater}
 use Rattle.tcc_reads.specs.History.{History}

@@ -7,7 +7,7 @@ use Rattle.tcc_graph.specs.Ties.{link_cmp}
 use Rattle.tcc_graph.specs.declared.link.Link.{Link}
 use Rattle.tcc_derive.specs.Prices.{IsDerived}
 
--- a derived link from b to a that none undercuts, and of those that cost as much the first by key, reader and walk
+-- a derived link from b to a; none costs less, and of those that cost as much it is the first by key, reader and walk
 pub record IsFirstReason (j : Judged) (b : ℕ) (a : ℕ) (l : Link) : Type 0 where
   pub derived : IsDerived j b a l
   pub least : (other : Link) → IsDerived j b a other → link_cost l ≤ link_cost other

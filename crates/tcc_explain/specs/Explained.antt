@@ -22,7 +22,7 @@ IsAnswerOf j (answer.Anomaly a) =
     ((s : ℕ) × first.IsFirstAnswer j (first.Cycle s a.links)) × (a.level ≡ j.level) × (a.labels ≡ labels_of j.history)
     × IsNearTable j (cost a.links) a.near × IsFarTable j (cost a.links) a.far
 
--- the list has exactly the read faults of the snapshot, of which there is one at least; or memory was wanting
+-- the list has exactly the read faults of the snapshot, of which there is one at least; or memory is out
 abbrev pub IsRefusal : Sessions → ExplainFault → Type 0
 IsRefusal s (refusal.Reads faults) = (faults.items ≡ read_faults s) × (read_faults s ≢ [])
 IsRefusal s refusal.NoMemory = Unit {0}

@@ -20,7 +20,7 @@ IsCycle j s links = IsRoute j s s links
 abbrev pub HasCycle : Judged → Type 0
 HasCycle j = (s : ℕ) × (links : List Link) × IsCycle j s links
 
--- a cycle that no cycle undercuts
+-- a cycle, and no cycle costs less
 pub record IsLeastCycle (j : Judged) (s : ℕ) (links : List Link) : Type 0 where
   pub cycle : IsCycle j s links
   pub least : (t : ℕ) (others : List Link) → IsCycle j t others → cost links ≤ cost others

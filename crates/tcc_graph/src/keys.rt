@@ -44,7 +44,7 @@ fn key_set(alloc: Global, transactions: &[Transaction]) -> Result<BTreeSet<Name>
 }
 
 /// The keys that the transactions write and read, in byte order, each once. More than a number of 32 bits counts are
-/// answered as want of memory.
+/// answered as `NoMemory`.
 pub(crate) fn sorted_keys(
     alloc: Global,
     transactions: &[Transaction],

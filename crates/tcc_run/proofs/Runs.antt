@@ -158,7 +158,7 @@ module _ {R : Type 0} (remaining : R → Option (List ℕ)) (options : Options) 
   kept : take (length way.taken) (answers_of text).items ≡ way.taken
   kept = first-taken (answers_of text) way.taken way.ahead way.whole
 
-  -- memory is wanting before the next answer
+  -- memory is out before the next answer
   pub wants_memory : (after : Option (List ℕ)) (code : ℕ) → Prints now after (memory_line options.json) Memory code → EndsEarly options text before after code
   wants_memory after code prints =
       ended options text before (length way.taken) halt.NoMemory way.said now after code tt
@@ -365,7 +365,7 @@ module _ {R : Type 0} (remaining : R → Option (List ℕ)) (options : Options) 
         ended_or options text before n why way.said now after code may
         (subst (λ snapshots. AreAnswered options snapshots way.said) (sym (ap sealed_in taken ∙ none)) way.answers) way.out prints
 
-    -- the fault of the records, a reader that failed, or want of memory
+    -- the fault of the records, a reader that failed, or `NoMemory`
     pub stopped : (after : Option (List ℕ)) (code : ℕ) → (fault.kind ≡ kind.Read → FailsBehind way.taken fault.row (records_of text))
         → PrintsOrMemory options.json now after (halted options.json (by_row fault)) (halt_status (by_row fault)) code → EndsEarly options text before after code
     stopped after code failed = by_test (is_memory fault.kind) refl
@@ -421,7 +421,7 @@ concluded options text before now after file file' kept code (said, last, is, en
 concluded options text before now after file file' kept code (said, last, is, ends, keeps, out) (inr (part, prints)) =
     (said, last, inl is, ends, inr (inr ((part.0, keeps.1 ∙ part.1, part.2), (now, out, prints))))
 
--- memory is wanting before anything is read
+-- memory is out before anything is read
 pub nothing_read : (options : Options) (text : List ℕ) (before after : Option (List ℕ)) (code : ℕ)
     → Prints before after (memory_line options.json) Memory code → EndsEarly options text before after code
 nothing_read options text before after code prints = ended options text before 0 halt.NoMemory [] before after code tt tt (Appends-none before) prints

@@ -19,7 +19,7 @@ abbrev pub judged : Sessions → Level → Judged
 judged s level = record { history = history s; level = level }
 
 -- a commit order, which satisfies the axiom of the level; or a cycle of session, reads-from and derived links, each derived
--- link with its reason, that no cycle undercuts in steps
+-- link with its reason, and no cycle has fewer steps
 abbrev pub Explains : Judged → Answer → Type 0
 Explains j (answer.Commit c) = IsCommitOrder j c.order
 Explains j (answer.Anomaly a) = (s : ℕ) × IsLeastCycle j s a.links

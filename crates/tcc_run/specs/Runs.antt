@@ -89,7 +89,7 @@ abbrev pub IsWhole : Options → rows.Answers → List Said → Type 0
 IsWhole options all said = (all.fault ≡ None) × AreAnswered options (sealed_in all.items ++ at_end all.items) said
 
 -- why a run may end after so many items: by the fault of the records, after all items; by the fault of a reader that failed
--- at one of the records or behind the last, all before which are lawful, after the items of these; or for want of memory
+-- at one of the records or behind the last, all before which are lawful, after the items of these; or out of memory
 abbrev pub MayEnd : List ℕ → ℕ → Halt → Type 0
 MayEnd text n (halt.Row fault) =
     (((rows.answers_of text).fault ≡ Some fault) × (n ≡ length (rows.answers_of text).items))

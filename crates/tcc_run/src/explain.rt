@@ -64,7 +64,7 @@ fn is_due(last: &Option<Last>, transactions: usize) -> bool
 }
 
 /// What is to be said of the snapshot: what was said last, if that was for as many transactions, else what is worked out;
-/// or want of memory was said, and the run ends with this number.
+/// or that memory is out was said, and the run ends with this number.
 fn renew<W: Write, G: Gate>(
     rt: &(impl Threads + Sync),
     alloc: Global,

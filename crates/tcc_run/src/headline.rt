@@ -13,8 +13,8 @@ use tcc_graph::Level;
 use tcc_txn::Snapshot;
 
 /// Explains a snapshot at a level by 1 to 32 workers. Whatever their number and the order in which they search, the answer
-/// is either a commit order that satisfies the axiom of the level, or a cycle, each derived link with its reason, that no
-/// cycle undercuts in steps; and the certificate given with it is accepted by the checker, whose yes alone implies this. Or
+/// is either a commit order that satisfies the axiom of the level, or a cycle, each derived link with its reason, and
+/// no cycle has fewer steps; and the certificate given with it is accepted by the checker, whose yes alone implies this. Or
 /// these are all read faults of the snapshot. `tcc_explain::laws::one_answer` says that there is one such first answer.
 pub fn explain_snapshot<G: Gate>(
     rt: &(impl Threads + Sync),

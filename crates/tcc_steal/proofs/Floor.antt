@@ -92,7 +92,7 @@ not_less c d low = go (nat_lt c d) refl
     go true e = let less : c < d = ltb-true c d e in absurd (omega arith)
     go false e = refl
 
--- links that lead are undercut by cheapest ones, which are as many and of which each costs something
+-- links that lead cost no less than cheapest ones, which are as many and of which each costs something
 record Cheap (t : Tables) (u v most some : ℕ) : Type 0 where
   paid : ℕ
   low : paid ≤ most

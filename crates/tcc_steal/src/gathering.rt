@@ -50,7 +50,7 @@ fn empty_places(alloc: Global, count: u32) -> Result<Vec<Option<Searched>>, NoMe
     Ok(places)
 }
 
-/// Takes in the shares one at a time, by the seat that offered the seed. A worker that ended for want of memory ends this too.
+/// Takes in the shares one at a time, by the seat that offered the seed. A worker that ended out of memory ends this too.
 pub(crate) fn gather(
     alloc: Global,
     prices: &Prices,

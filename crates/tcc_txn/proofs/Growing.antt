@@ -262,6 +262,6 @@ pub ok-always : {A E : Type 0} {P : Type 0} (r : Result A E) → P → OnOk r P
 ok-always (Ok a) p = p
 ok-always (Err e) p = tt
 
--- want of memory is no failed reader
+-- memory that is out is no failed reader
 pub not-read : (k : RowFaultKind) → k ≡ kind.NoMemory → k ≢ kind.Read
 not-read k memory read = (let e : kind.NoMemory ≡ kind.Read = sym memory ∙ read in cc)

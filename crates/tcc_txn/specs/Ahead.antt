@@ -40,7 +40,7 @@ ended_in (phase.Stopped fault) = false
 abbrev pub has_ended : {R : Type 0} → Rows R → Bool
 has_ended rows = ended_in rows.phase
 
--- what comes of a reader that fails and of want of memory
+-- what comes of a reader that fails, and where memory is out
 abbrev pub IsFailure : RowFaultKind → Type 0
 IsFailure k = (k ≡ kind.Read) ⊎ (k ≡ kind.NoMemory)
 

@@ -1,4 +1,4 @@
-//! Want of memory, as the one answer of a call that has no other refusal.
+//! Out of memory, as the one answer of a call that has no other refusal.
 
 use std::alloc::{AllocError, AllocFailed};
 use thiserror::Error;

@@ -29,7 +29,7 @@ pub enum NameFault {
     /// The first byte that no name has, counted from 1.
     #[error("byte {at} cannot stand in a name")]
     BadByte { at: usize },
-    /// Want of memory; never answered, since a name lies in itself.
+    /// Out of memory; never answered, since a name lies in itself.
     #[error("out of memory")]
     NoMemory,
 }

@@ -79,7 +79,7 @@ pub enum RowFaultKind {
     /// The reader failed, or gave more than `MAX_INPUT_BYTES` bytes.
     #[error("the reader failed")]
     Read,
-    /// Want of memory.
+    /// Out of memory.
     #[error("out of memory")]
     NoMemory,
 }

@@ -28,7 +28,7 @@ pub enum SnapshotFault {
     /// There are more than `MAX_TRANSACTIONS` transactions, aborted ones counted.
     #[error("there are too many transactions")]
     TooManyTransactions,
-    /// Want of memory; never answered, since the parts are sorted where they lie.
+    /// Out of memory; never answered, since the parts are sorted where they lie.
     #[error("out of memory")]
     NoMemory,
 }

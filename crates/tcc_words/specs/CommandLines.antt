@@ -142,13 +142,13 @@ abbrev pub HasWorkers : Request → Type 0
 HasWorkers (Explain options certificate) = (0 < options.workers) × (options.workers ≤ 32)
 HasWorkers (Check history certificate) = Unit {0}
 
--- a text, or want of memory in its place, goes out with its status
+-- a text, or the line `memory` in its place, goes out with its status
 abbrev pub PrintsHelp : Option (List ℕ) → Option (List ℕ) → ℕ → Type 0
 PrintsHelp before after code =
     ((text : List ℕ) × Prints before after text Success code) ⊎ Prints before after (memory_line false) Memory code
 
 -- how a run ends that answers nothing, by what clap says of its words: for help and the version some text, which no clause
--- names, has to go out; or the line for want of memory; and for a fault of the words standard output stays empty
+-- names, has to go out; or the line `memory`; and for a fault of the words standard output stays empty
 abbrev pub EndsUnasked : ErrorKind → Option (List ℕ) → Option (List ℕ) → ℕ → Type 0
 EndsUnasked DisplayHelp before after code = PrintsHelp before after code
 EndsUnasked DisplayVersion before after code = PrintsHelp before after code
@@ -156,7 +156,7 @@ EndsUnasked OutOfMemory before after code = Prints before after (memory_line fal
 EndsUnasked _ before after code = (after ≡ before) × (code ≡ code_of Usage)
 
 -- a run is asked for only where clap finds no fault in the words, and it is the one that they ask for; else the run ends as
--- one of their faults has it, or for want of memory
+-- one of their faults has it, or out of memory
 abbrev pub IsAskedBy : App → List (List ℕ) → Option (List ℕ) → Option (List ℕ) → Result Request ℕ → Type 0
 IsAskedBy app words before after (Ok request) = (fault_of app words ≡ []) × Asks app words request × (after ≡ before)
 IsAskedBy app words before after (Err code) =

@@ -30,7 +30,7 @@ pub fn resolved(rt: &impl Abort, alloc: Global, records: &str) -> Resolved {
     }
 }
 
-/// The graph of what these records finish; none where memory is wanting.
+/// The graph of what these records finish; none where memory is out.
 pub fn try_graph(alloc: Global, records: &str) -> Option<Graph> {
     let snapshot = snapshot_of(alloc, records.as_bytes()).ok()?;
     let resolved = resolve(alloc, &snapshot).ok()?;

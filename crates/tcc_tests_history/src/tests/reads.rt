@@ -75,7 +75,7 @@ fn faults_of_records(rt: HostRuntime) -> Result<(), Fail> {
     Ok(())
 }
 
-/// For runs in which an allocation is refused: then memory is wanting, or the faults are exact.
+/// For runs in which an allocation is refused: then memory is out, or the faults are exact.
 #[test]
 fn exact_faults_or_want_of_memory(rt: HostRuntime) {
     let alloc = rt.alloc();

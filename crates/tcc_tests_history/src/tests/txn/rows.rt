@@ -193,7 +193,7 @@ fn the_end_is_final(rt: HostRuntime) {
     }
 }
 
-// Whatever allocation is refused, there is the end, or want of memory at a row that was reached.
+// Whatever allocation is refused, there is the end, or `NoMemory` at a row that was reached.
 #[test]
 fn memory_refused(rt: HostRuntime) {
     let alloc = rt.alloc();

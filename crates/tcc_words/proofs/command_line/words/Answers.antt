@@ -1,4 +1,4 @@
--- Each end without words is that of a fault of them, or of want of memory.
+-- Each end without words is that of a fault of them, or the one out of memory.
 use Rattle.std.proofs.Common.{refl, rules}
 use Rattle.clap.specs.declared.error.kind.ErrorKind.TheVariants.{InvalidValue, OutOfMemory}
 use Rattle.tcc_words.proofs.command_line.words.Goals as goal
