@@ -1,1 +1,2 @@
+-- What contracts of public calls cite:
 pub mod Files

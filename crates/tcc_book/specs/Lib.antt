@@ -1,3 +1,5 @@
+-- What contracts of public calls cite:
 pub mod Books
-pub mod BookStorage
 pub mod Passes
+-- What serves proofs alone:
+pub mod BookStorage

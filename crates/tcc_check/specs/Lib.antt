@@ -1,3 +1,7 @@
+-- What contracts of public calls cite:
+pub mod Verdicts
+pub mod Streams
+-- What serves proofs alone:
 pub mod Runs
 pub mod Groups
 pub mod Weights
@@ -6,8 +10,6 @@ pub mod Pairs
 pub mod Searches
 pub mod Links
 pub mod Places
-pub mod Verdicts
-pub mod Streams
 pub mod Coming
 pub mod Judged
 pub mod Latest

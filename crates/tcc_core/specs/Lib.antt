@@ -1,7 +1,9 @@
+-- What contracts of public calls cite:
 pub mod Rows
 pub mod Searches
 pub mod Shares
 pub mod Seeds
+-- What serves proofs alone:
 pub mod Frontiers
 pub mod Relaxing
 pub mod Closing

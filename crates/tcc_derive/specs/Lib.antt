@@ -1,13 +1,15 @@
+-- What contracts of public calls cite:
 pub mod Prices
 pub mod Reasons
 pub mod ByCost
 pub mod Names
+pub mod LinksOn
+pub mod Backwards
+-- What serves proofs alone:
 pub mod Rows
 pub mod Buckets
 pub mod CostBuckets
 pub mod KeyTables
-pub mod LinksOn
 pub mod Others
 pub mod Lowering
 pub mod Choices
-pub mod Backwards

@@ -1,5 +1,4 @@
--- For the private stages and their proofs alone: nobody has to believe what stands here.
--- Rows of marks, 64 in a word.
+-- Rows of marks, 64 in a word. The calls of `bits` speak of them, for the crates above; no answer is told by them.
 use Rattle.std.specs.Prelude.{ℕ, ◌<◌, ◌≡◌, ◌↔◌, ◌+◌, ◌/◌, ◌%◌, ◌==◌, Bool, true, false, List, length, slice_index, Contains}
 use Rattle.std.specs.Int.{bit_at}
 

@@ -1,8 +1,8 @@
--- what has to be believed: what is printed, and the status
+-- What contracts of public calls cite:
 pub mod Statuses
 pub mod Texts
 pub mod Json
 pub mod Printed
--- what serves the proofs alone
+-- What serves proofs alone:
 pub mod Halts
 pub mod Pieces

@@ -1,7 +1,7 @@
--- what has to be believed: what a run prints and ends with
+-- What contracts of public calls cite:
 pub mod Headline
 pub mod Interleaved
 pub mod Runs
 pub mod Closing
--- what serves the proofs alone
+-- What serves proofs alone:
 pub mod Stages

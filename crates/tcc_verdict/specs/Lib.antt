@@ -1,4 +1,4 @@
--- what has to be believed: what comes of a history and a certificate
+-- What contracts of public calls cite:
 pub mod Checks
--- what serves the proofs alone
+-- What serves proofs alone:
 pub mod Stages
