@@ -6,17 +6,17 @@ use Rattle.std.specs.List.Sorted.{IsNonDecreasingBy, IsPartitionPoint}
 use Rattle.std.proofs.lemmas.List.Sorted.{IsNonDecreasingBy-from_default}
 use Rattle.std.proofs.lemmas.List.{append-nil}
 use Rattle.std.proofs.lemmas.List.Kept.{AllPairs-cons}
-use Rattle.std.proofs.lemmas.Bool.{cases_eq, cases_lt, lt-ltb, ltb-true, ltb-false, or_cases, and_parts, and_from, or_left, or_right, eqb-true, ne_eqb, not-true, false≢true}
+use Rattle.std.proofs.lemmas.Bool.{cases_eq, cases_lt, lt-ltb, ltb-true, ltb-false, or_cases, and_parts, and_from, or_left, or_right, ne_eqb, not-true, false≢true}
 use Rattle.std.proofs.lemmas.List.Elements.{Contains-append_left, Contains-push, Contains-append_cases, All-nil, All-cons, All-append}
 use Rattle.tcc_reads.specs.History.{History, count}
 use Rattle.tcc_graph.specs.Relations.{IsSessionPair, IsReadsPair, reads_from, has_items}
 use Rattle.tcc_graph.specs.Links.{IsReason}
 use Rattle.tcc_graph.specs.Levels.{Judged}
-use Rattle.tcc_graph.specs.declared.step.Step.{Step}
 use Rattle.tcc_graph.specs.declared.link.Link.{Link}
 use Rattle.tcc_graph.specs.declared.link.Link.TheVariants as link
 use Rattle.tcc_graph.specs.Tables.{row_of}
 use Rattle.tcc_graph.proofs.Linking.{some_cost}
+use Rattle.tcc_graph.proofs.Pairs.{first_item, some_items}
 use Rattle.tcc_near.specs.Distances.{least_in}
 use Rattle.tcc_near.specs.declared.distances.TheConstants.{NONE}
 use Rattle.tcc_near.proofs.BreadthLemmas.{Read, read}
@@ -24,14 +24,6 @@ use Rattle.tcc_derive.specs.Prices.{Tables, IsPrice, IsCost, IsLinkOf, IsOther, 
 use Rattle.tcc_derive.specs.Others.{is_other, others_below}
 use Rattle.tcc_derive.specs.Rows.{IsPriceRow, IsCostRow}
 use Rattle.tcc_derive.proofs.CostLemmas.{link_of}
-
-first_item : {X : Type 0} (xs : List X) → has_items xs ≡ true → (x : X) × Contains xs x
-first_item [] h = absurd (false≢true h)
-first_item (x ∷ xs) h = (x, (0, omega arith, refl))
-
-some_items : {X : Type 0} (xs : List X) (x : X) → Contains xs x → has_items xs ≡ true
-some_items [] x (k, l, e) = absurd (omega arith)
-some_items (y ∷ xs) x h = refl
 
 module _ (h : History) (u : ℕ) (prices costs : List ℕ) where
   passed : (n v c : ℕ) → Contains (others_below h u prices costs n) (v, c) → (v < n) × (is_other h u prices costs v ≡ true) × (c ≡ slice_index costs v)

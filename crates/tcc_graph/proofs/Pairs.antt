@@ -12,12 +12,12 @@ use Rattle.tcc_graph.specs.declared.step.Step.TheVariants as step
 use Rattle.tcc_graph.specs.declared.link.Link.{Link}
 use Rattle.tcc_graph.specs.declared.link.Link.TheVariants as link
 
--- the first of some items
-first_item : {X : Type 0} (xs : List X) → has_items xs ≡ true → (x : X) × Contains xs x
+-- the first of some items; and where one is, there are some
+pub first_item : {X : Type 0} (xs : List X) → has_items xs ≡ true → (x : X) × Contains xs x
 first_item [] h = absurd (false≢true h)
 first_item (x ∷ xs) h = (x, (0, omega arith, refl))
 
-some_items : {X : Type 0} (xs : List X) (x : X) → Contains xs x → has_items xs ≡ true
+pub some_items : {X : Type 0} (xs : List X) (x : X) → Contains xs x → has_items xs ≡ true
 some_items [] x (k, l, e) = absurd (omega arith)
 some_items (y ∷ xs) x h = refl
 
