@@ -20,10 +20,11 @@ use Rattle.tcc_graph.specs.Links.{MayContradict}
 use Rattle.tcc_reads.specs.Sources.{name_cmp}
 use Rattle.tcc_derive.specs.Choices.{IsNearest, IsNearestReader, IsChoice}
 use Rattle.tcc_derive.proofs.BucketLemmas.{Contains-taken, Contains-still, Contains-last}
-use Rattle.tcc_derive.proofs.KeyLemmas.{read_place, read_is_key, numbers_below, number_in, writer_writes, writer_in, Contains-filter}
+use Rattle.tcc_graph.proofs.WriterLemmas.{numbers_below, number_in, writer_writes, writer_listed}
+use Rattle.tcc_derive.proofs.KeyLemmas.{read_place}
 use Rattle.tcc_near.specs.declared.distances.TheConstants.{NONE}
 use Rattle.tcc_graph.proofs.NameLemmas.{has_name-contains}
-use Rattle.tcc_txn.proofs.Lists.{found_number, number_found}
+use Rattle.tcc_txn.proofs.Lists.{in_filter, found_number, number_found}
 
 -- ---- the nearest reader
 
@@ -99,12 +100,12 @@ reader_reads h a x c from there = (
 )
 
 pub reads_reader : (h : History) (a : ℕ) (x : List ℕ) (c : ℕ) → IsReadsPair h a c x → Contains (readers h a x) c
-reads_reader h a x c (from, to, (k, l, e)) = Contains-filter (λ d. has_name (reads_from h a d) x) (numbers h) c (number_in h c to)
+reads_reader h a x c (from, to, (k, l, e)) = in_filter (λ d. has_name (reads_from h a d) x) (numbers h) c (number_in h c to)
     (list_any_at (bytes_eq x) (reads_from h a c) k x l ((bytes_eq-Decides x (get_or (reads_from h a c) k x)).1 (sym e)))
 
 -- b may contradict no read of a key that it does not write
 pub writes_not : (h : History) (b a : ℕ) (x : List ℕ) (c : ℕ) → list_any (λ y. y == b) (writers h x) ≡ false → MayContradict h b a x c → ⊥
-writes_not h b a x c none (other, pair, writer) = false≢true (sym none ∙ number_found (writers h x) b (writer_in h x b (read_is_key h a c x pair) writer))
+writes_not h b a x c none (other, pair, writer) = false≢true (sym none ∙ number_found (writers h x) b (writer_listed h x a c b pair writer))
 
 pub nearest_reader_of : (h : History) (steps : List ℕ) (b a : ℕ) (x : List ℕ) (c : ℕ) → b ≢ a → a < count h → list_any (λ y. y == b) (writers h x) ≡ true → IsNearest (readers h a x) steps c → IsNearestReader h steps b a x c
 nearest_reader_of h steps b a x c other to writes nearest = record {

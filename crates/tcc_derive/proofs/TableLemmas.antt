@@ -14,7 +14,8 @@ use Rattle.tcc_derive.specs.Buckets.{bucket, Puts}
 use Rattle.tcc_derive.specs.KeyTables.{AreReadsAt, IsReadsOf, HasWrites, IsWritesOf}
 use Rattle.tcc_derive.specs.Lowering.{HaveReads}
 use Rattle.tcc_derive.specs.declared.read.Read.{Read}
-use Rattle.tcc_derive.proofs.KeyLemmas.{key_at, writer_writes, writer_in}
+use Rattle.tcc_graph.proofs.WriterLemmas.{writer_writes, writer_in}
+use Rattle.tcc_derive.proofs.KeyLemmas.{key_at}
 
 no_items : {X : Type 0} (table : List (List X)) (i : ℕ) (x : X) → All (λ bucket. bucket ≡ []) table → Contains (bucket table i) x → ⊥
 no_items table i x empty h = go (rw (nothing (cases_lt i (length table))) at h)

@@ -8,6 +8,7 @@
 --   Numberings   where numbers stand in an order
 --   NameLemmas   names in lists: found by a test, and by place in a sorted list
 --   KeysLemmas   which names are keys
+--   WriterLemmas what is read is a key, and who its writers are
 --   Worked       small histories worked out by hand
 -- The others serve the proofs of this crate. Lemmas on lists, truth values and results alone: tcc_txn's proofs/Lists.
 pub mod GraphLemmas
@@ -29,3 +30,4 @@ pub mod Tied
 pub mod Upward
 pub mod Walking
 pub mod Worked
+pub mod WriterLemmas

@@ -12,7 +12,7 @@ use Rattle.tcc_graph.specs.Keys.{keys, key_at, writers}
 use Rattle.tcc_graph.proofs.KeysLemmas.{has_name-keys}
 use Rattle.tcc_graph.proofs.NameLemmas.{has_name-contains}
 use Rattle.tcc_graph.proofs.Pairs.{pair_below}
-use Rattle.tcc_order.proofs.KeyLemmas.{read_is_key, writers_below}
+use Rattle.tcc_graph.proofs.WriterLemmas.{read_is_key, writers_below}
 use Rattle.tcc_near.specs.Bits.{is_marked, words_for}
 use Rattle.tcc_near.specs.Breadth.{marks_of}
 use Rattle.tcc_near.proofs.FreshLemmas.{one_of_taken, still_taken, last_taken, nothing_in}

@@ -5,7 +5,6 @@ pub mod Within
 pub mod Reached
 pub mod Linked
 pub mod OrderOrCycle
-pub mod KeyLemmas
 pub mod Reaching
 pub mod MissingBits
 pub mod Picking

@@ -17,7 +17,7 @@ use Rattle.tcc_graph.specs.Routes.{IsRoute, LinksLead, HasCycle}
 use Rattle.tcc_graph.specs.Orders.{IsFirstOrder}
 use Rattle.tcc_graph.specs.declared.link.Link.{Link}
 use Rattle.tcc_graph.specs.declared.link.Link.TheVariants as link
-use Rattle.tcc_order.proofs.KeyLemmas.{writer_writes, writer_in, read_is_key}
+use Rattle.tcc_graph.proofs.WriterLemmas.{writer_writes, writer_in, read_is_key}
 use Rattle.tcc_order.specs.Numbering.{IsFirstOf, Joins, HasCircle}
 use Rattle.tcc_order.proofs.Kept.{IsLinked, has_link, linked_below, first_from_first, cycle_from_circle}
 use Rattle.tcc_order.specs.Behind.{IsTableOf, IsBefore, stands, IsAllowedFrom}

@@ -9,7 +9,7 @@ use Rattle.tcc_near.specs.Bits.{is_marked, words_for}
 use Rattle.tcc_near.specs.Breadth.{marks_of}
 use Rattle.tcc_near.proofs.BitLemmas.{none_marked}
 use Rattle.tcc_order.specs.Behind.{IsWriterRow, AreWriterRows}
-use Rattle.tcc_order.proofs.KeyLemmas.{writers_below}
+use Rattle.tcc_graph.proofs.WriterLemmas.{writers_below}
 use Rattle.tcc_order.proofs.Contradicting.{IsAmong, AddsAmong}
 
 -- what was marked in a row that marked nothing

@@ -1,5 +1,5 @@
 -- What is read is a key, and who its writers are.
-use Rattle.std.proofs.Common.{ℕ, zero, suc, ◌<◌, ◌≡◌, ◌==◌, Bool, true, false, cond, ◌⊎◌, inl, inr, List, [], ◌∷◌, get_or, map, refl, sym, ap, ◌∙◌, subst}
+use Rattle.std.proofs.Common.{ℕ, ◌<◌, ◌≡◌, ◌==◌, Bool, true, false, cond, ◌⊎◌, inl, inr, List, [], ◌∷◌, get_or, map, refl, sym, ◌∙◌, subst}
 use Rattle.std.proofs.Common.{arith, zero-add, bytes_eq}
 use Rattle.std.specs.List.{All, Contains, filter, list_any}
 use Rattle.std.proofs.lemmas.Bool.{or_right, or_cases, cond-true}
@@ -7,6 +7,7 @@ use Rattle.std.proofs.lemmas.List.Elements.{All-filter, All-contains, All-nil, f
 use Rattle.std.proofs.lemmas.List.Folds.{list_any_at, list_any-append}
 use Rattle.std.proofs.lemmas.List.FromFn.{length-range_with_len, get_or-range_with_len}
 use Rattle.std.proofs.lemmas.Slice.Eq.{bytes_eq-Decides}
+use Rattle.tcc_txn.proofs.Lists.{in_filter}
 use Rattle.tcc_reads.specs.History.{History, count, entry_at, initial}
 use Rattle.tcc_graph.specs.Relations.{reads_from, IsReadsPair}
 use Rattle.tcc_graph.specs.Keys.{has_name, keys_of, is_key, writes, IsWriter, numbers, writers}
@@ -67,16 +68,10 @@ writer_writes h x b there = (
   All-contains (λ b. writes h b x ≡ true) (writers h x) b (writers_write h x) there,
 )
 
-kept_by : {X : Type 0} (b : Bool) (y : X) (ys : List X) (x : X) → Contains ys x → Contains (cond b (y ∷ ys) ys) x
-kept_by true y ys x (k, l, e) = (suc k, omega arith, e)
-kept_by false y ys x h = h
-
--- what passes stays
-pub Contains-filter : {X : Type 0} (p : X → Bool) (xs : List X) (x : X) → Contains xs x → p x ≡ true → Contains (filter p xs) x
-Contains-filter p [] x (k, l, e) t = absurd (omega arith)
-Contains-filter p (y ∷ ys) x (zero, l, e) t = rw (ap p e ∙ t) (0, omega arith, e)
-Contains-filter p (y ∷ ys) x (suc k, l, e) t = kept_by (p y) y (filter p ys) x (Contains-filter p ys x (k, omega arith, e) t)
-
 pub writer_in : (h : History) (x : List ℕ) (b : ℕ) → is_key h x ≡ true → IsWriter h b x → Contains (writers h x) b
 writer_in h x b key (l, w) = subst (λ (bs : List ℕ). Contains bs b) (sym (cond-true (is_key h x) (filter (λ b. writes h b x) (numbers h)) [] key))
-    (Contains-filter (λ b. writes h b x) (numbers h) b (number_in h b l) w)
+    (in_filter (λ b. writes h b x) (numbers h) b (number_in h b l) w)
+
+-- who writes a key that somebody reads is in the list
+pub writer_listed : (h : History) (x : List ℕ) (a c b : ℕ) → IsReadsPair h a c x → IsWriter h b x → Contains (writers h x) b
+writer_listed h x a c b reads writer = writer_in h x b (read_is_key h a c x reads) writer
