@@ -1,5 +1,5 @@
 -- What the tables of a graph answer.
-use Rattle.std.proofs.Common.{ℕ, zero, suc, ◌+◌, ◌<◌, ◌≡◌, Bool, true, false, List, [], ◌∷◌, ◌++◌, length, get_or, refl, sym, ap, ◌∙◌, arith, zero-add, cond}
+use Rattle.std.proofs.Common.{ℕ, zero, suc, ◌+◌, ◌<◌, ◌≡◌, Bool, true, false, List, [], ◌++◌, length, get_or, refl, sym, ap, ◌∙◌, arith, zero-add}
 use Rattle.std.specs.Prelude.{All, filter, map, zip, ◌↔◌, ◌==◌, ◌||◌}
 use Rattle.std.specs.List.{Contains, range_with_len}
 use Rattle.std.specs.List.Sorted.{IsStrictlySortedBy}
@@ -7,6 +7,7 @@ use Rattle.std.proofs.lemmas.Bool.{lt-ltb}
 use Rattle.std.proofs.lemmas.List.{get_or_read}
 use Rattle.std.proofs.lemmas.List.Elements.{All-contains, All-map, filter_passes}
 use Rattle.std.proofs.lemmas.List.FromFn.{get_or-range_with_len, length-range_with_len}
+use Rattle.tcc_txn.proofs.Lists as lists
 use Rattle.tcc_txn.proofs.Lists.{found_number, number_found}
 use Rattle.tcc_reads.specs.History.{Entry, History, count}
 use Rattle.tcc_reads.specs.Sources.{name_cmp}
@@ -55,20 +56,11 @@ module _ (entries : List Entry) (names : List (List ℕ)) (keyed : names ≡ key
 
 -- ---- what is kept of a range
 
-kept_filter : (p : ℕ → Bool) (xs : List ℕ) (x : ℕ) → Contains xs x → p x ≡ true → Contains (filter p xs) x
-kept_filter p [] x (k, l, e) t = absurd (omega arith)
-kept_filter p (y ∷ xs) x (zero, l, e) t = let here : p y ≡ true = rw e t in rw here (0, omega arith, e)
-kept_filter p (y ∷ xs) x (suc k, l, e) t = go (p y) (kept_filter p xs x (k, omega arith, e) t)
-  where
-    go : (b : Bool) → Contains (filter p xs) x → Contains (cond b (y ∷ filter p xs) (filter p xs)) x
-    go true w = (suc w.0, omega (arith, w.1), w.2)
-    go false w = w
-
 in_filter : (p : ℕ → Bool) (n c : ℕ) → Contains (filter p (range_with_len 0 n)) c → (c < n) × (p c ≡ true)
 in_filter p n c w = (All-contains (λ m. m < n) (filter p (range_with_len 0 n)) c (All-filter_range p n) w, All-contains (λ m. p m ≡ true) (filter p (range_with_len 0 n)) c (filter_passes p (range_with_len 0 n)) w)
 
 to_filter : (p : ℕ → Bool) (n c : ℕ) → c < n → p c ≡ true → Contains (filter p (range_with_len 0 n)) c
-to_filter p n c h t = kept_filter p (range_with_len 0 n) c (c, omega (arith, length-range_with_len 0 n), get_or-range_with_len 0 n c c h ∙ zero-add c) t
+to_filter p n c h t = lists.in_filter p (range_with_len 0 n) c (c, omega (arith, length-range_with_len 0 n), get_or-range_with_len 0 n c c h ∙ zero-add c) t
 
 filter_same : (p q : ℕ → Bool) (n : ℕ) → ((b : ℕ) → b < n → p b ≡ q b) → filter p (range_with_len 0 n) ≡ filter q (range_with_len 0 n)
 filter_same p q zero same = refl
