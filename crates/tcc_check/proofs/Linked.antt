@@ -1,56 +1,13 @@
--- Walks and links, one after the other.
+-- Links, one after the other: which is the first that is wrong.
 use Rattle.std.proofs.Common.{◌≡◌, ◌<◌, ◌≤◌, ◌+◌, ℕ, ◌⊎◌, inl, inr, List, ◌∷◌, ◌++◌, length, get_or, take, drop, arith, sym, ap, subst, ◌∙◌, length-append}
-use Rattle.std.specs.Prelude.{flat_map}
 use Rattle.std.proofs.lemmas.Bool.{cases_eq}
-use Rattle.std.proofs.lemmas.List.{drop_more, drop_all, take_more, take_at, get_or_at, take-append-drop, length-take-le}
-use Rattle.tcc_reads.specs.History.{History}
+use Rattle.std.proofs.lemmas.List.{drop_more, take_more, take_at, get_or_at, take-append-drop, length-take-le}
 use Rattle.tcc_graph.specs.Levels.{Judged}
-use Rattle.tcc_graph.specs.Walks.{step_from, step_to, IsStep, Leads}
-use Rattle.tcc_graph.specs.Links.{link_to, unfolding_of, link_cost, cost}
-use Rattle.tcc_graph.specs.declared.step.Step.{Step}
+use Rattle.tcc_graph.specs.Links.{link_to}
 use Rattle.tcc_graph.specs.declared.link.Link.{Link}
 use Rattle.tcc_cert.specs.CycleRules.{IsLinkRight, ends_at, IsLinkWrong}
 use Rattle.tcc_check.specs.Links.{AreLinksRight, IsFirstWrong}
 use Rattle.tcc_cert.proofs.Ends.{ends_at-push}
-
--- the steps lead from the start exactly where those after the first i lead from here
-pub record IsRestOf (h : History) (from at to i : ℕ) (steps : List Step) : Type 0 where
-  pub forth : Leads h from to steps → Leads h at to (drop i steps)
-  pub back : Leads h at to (drop i steps) → Leads h from to steps
-
-pub whole_rest : (h : History) (from to : ℕ) (steps : List Step) → IsRestOf h from from to 0 steps
-whole_rest h from to steps = record { forth = λ w. w; back = λ w. w }
-
-pub rest_more : (h : History) (from at to i : ℕ) (steps : List Step) (s : Step) → i < length steps → s ≡ get_or steps i s → step_from s ≡ at → IsStep h s → IsRestOf h from at to i steps → IsRestOf h from (step_to s) to (i + 1) steps
-rest_more h from at to i steps s inside is begins right w = record {
-  forth = λ all. (subst (λ (z : List Step). Leads h at to z) split (w.forth all)).2;
-  back = λ rest. w.back (subst (λ (z : List Step). Leads h at to z) (sym split) (begins, right, rest));
-}
-  where
-    split : drop i steps ≡ s ∷ drop (i + 1) steps
-    split = drop_more steps i s inside ∙ ap (λ z. z ∷ drop (i + 1) steps) (sym is)
-
-pub not_led : (h : History) (from at to i : ℕ) (steps : List Step) (s : Step) → i < length steps → s ≡ get_or steps i s → IsRestOf h from at to i steps → (step_from s ≡ at → IsStep h s → ⊥) → Leads h from to steps → ⊥
-not_led h from at to i steps s inside is w wrong all =
-    let split = drop_more steps i s inside ∙ ap (λ z. z ∷ drop (i + 1) steps) (sym is) in
-    let led = subst (λ (z : List Step). Leads h at to z) split (w.forth all) in
-    wrong led.0 led.1
-
-pub led : (h : History) (from at to i : ℕ) (steps : List Step) → length steps ≤ i → IsRestOf h from at to i steps → at ≡ to → Leads h from to steps
-led h from at to i steps all w e = w.back (subst (λ (z : List Step). Leads h at to z) (sym (drop_all i steps all)) e)
-
-pub led_back : (h : History) (from at to i : ℕ) (steps : List Step) → length steps ≤ i → IsRestOf h from at to i steps → Leads h from to steps → at ≡ to
-led_back h from at to i steps all w l = subst (λ (z : List Step). Leads h at to z) (drop_all i steps all) (w.forth l)
-
--- ---- costs
-
-pub cost_more : (links : List Link) (i : ℕ) (l : Link) → i < length links → l ≡ get_or links i l → cost (drop i links) ≡ link_cost l + cost (drop (i + 1) links)
-cost_more links i l inside is = ap cost (drop_more links i l inside ∙ ap (λ z. z ∷ drop (i + 1) links) (sym is)) ∙ length-append (unfolding_of l) (flat_map unfolding_of (drop (i + 1) links))
-
-pub cost_end : (links : List Link) (i : ℕ) → length links ≤ i → cost (drop i links) ≡ 0
-cost_end links i all = ap cost (drop_all i links all)
-
--- ---- the first wrong link
 
 -- the first i links are right, and end here
 pub record AreRightTo (j : Judged) (links : List Link) (i : ℕ) (at : ℕ) : Type 0 where
