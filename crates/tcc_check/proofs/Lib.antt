@@ -1,6 +1,5 @@
 pub mod Carried
 pub mod Lowering
-pub mod Writers
 pub mod First
 pub mod Passing
 pub mod Found

@@ -17,7 +17,7 @@ use Rattle.tcc_cert.specs.Tables.{row_of, entry}
 use Rattle.tcc_graph.proofs.Pairs.{PairParts, pair_parts, lower_first, initial_pair}
 use Rattle.tcc_cert.specs.OrderRules.{MayReach}
 use Rattle.tcc_check.specs.Latest.{is_within, IsLastWithin, AreSessionsKept, AreOwned, AreApart, StandBefore, StandAllBefore, IsReadKept}
-use Rattle.tcc_check.proofs.Writers.{writer_listed}
+use Rattle.tcc_graph.proofs.WriterLemmas.{writer_listed}
 
 module _ (h : History) (ordered : IsBySession h.entries) where
   -- who stands before another, `init` aside, has the lower number

@@ -5,7 +5,7 @@ use Rattle.std.proofs.lemmas.List.{get_or_default}
 use Rattle.tcc_reads.specs.History.{count}
 use Rattle.tcc_cert.specs.Tables.{row_of}
 use Rattle.tcc_check.specs.Latest.{StandAllBefore}
-use Rattle.tcc_check.proofs.Writers.{writers_below}
+use Rattle.tcc_graph.proofs.WriterLemmas.{writers_below}
 use Rattle.tcc_check.proofs.Sessions.{writers_rise, kept_by_last, kept_by_reached}
 use Rattle.tcc_check.proofs.latest.clock_before.Goals as goal
 

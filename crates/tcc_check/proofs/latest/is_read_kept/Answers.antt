@@ -4,7 +4,7 @@ use Rattle.tcc_reads.specs.History.{count}
 use Rattle.tcc_graph.specs.declared.level.Level.{Level}
 use Rattle.tcc_cert.specs.OrderRules.{HasClocks}
 use Rattle.tcc_check.specs.Latest.{IsReadKept}
-use Rattle.tcc_check.proofs.Writers.{writers_below}
+use Rattle.tcc_graph.proofs.WriterLemmas.{writers_below}
 use Rattle.tcc_check.proofs.Sessions.{kept_by_pairs}
 use Rattle.tcc_check.proofs.latest.is_read_kept.Goals as goal
 
