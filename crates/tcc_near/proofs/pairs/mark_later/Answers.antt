@@ -1,5 +1,4 @@
-use Rattle.std.proofs.Common.{◌≡◌, ◌≤◌, ◌<◌, ◌-◌, ◌⊎◌, ℕ, inl, inr, true, min, length-set, slice_index, refl, arith}
-use Rattle.std.proofs.lemmas.Bool.{cases_lt}
+use Rattle.std.proofs.Common.{◌≡◌, ◌≤◌, ◌<◌, ◌-◌, ℕ, true, min, length-set, slice_index, refl, arith}
 use Rattle.tcc_near.specs.Bits.{is_marked}
 use Rattle.tcc_near.proofs.MarkLemmas.{AddsBetween, between_known, between_marked, suffixes_set}
 use Rattle.tcc_near.proofs.pairs.mark_later.Goals as goal
