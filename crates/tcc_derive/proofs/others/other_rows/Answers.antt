@@ -1,5 +1,4 @@
 use Rattle.std.proofs.Common.{ℕ, ◌<◌, ◌≤◌, ◌≡◌, List, [], length, ◌∙◌, arith}
-use Rattle.std.proofs.lemmas.List.{get_or_default}
 use Rattle.rayon.proofs.ToStd.{nat_range-All}
 use Rattle.tcc_reads.specs.History.{count}
 use Rattle.tcc_txn.specs.declared.limits.TheConstants.{MAX_COUNT}

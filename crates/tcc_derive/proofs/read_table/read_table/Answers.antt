@@ -1,4 +1,4 @@
-use Rattle.std.proofs.Common.{rules, ◌≡◌, ℕ, [], ◌∷◌, ◌++◌, length, length-append, arith}
+use Rattle.std.proofs.Common.{rules, ◌≡◌, [], ◌∷◌, ◌++◌, length, length-append, arith}
 use Rattle.tcc_graph.specs.Keys.{keys}
 use Rattle.tcc_near.proofs.RowLemmas.{each_pushed}
 use Rattle.tcc_derive.specs.KeyTables.{AreReadsAt}
