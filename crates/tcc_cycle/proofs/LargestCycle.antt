@@ -3,6 +3,7 @@
 use Rattle.std.proofs.Common.{ℕ, ◌≡◌, ◌≢◌, ◌<◌, ◌≤◌, ◌+◌, ◌*◌, ◌==◌, ◌⊎◌, inl, inr, Bool, true, false, cond, if◌then◌else◌, List, [], ◌∷◌, ◌++◌, filter, length, append_assoc, refl, sym, ◌∙◌, subst, arith}
 use Rattle.std.specs.List.{AllByRecursion}
 use Rattle.std.proofs.lemmas.Bool.{cases_eq, eq-eqb, ne_eqb}
+use Rattle.tcc_txn.specs.declared.limits.TheConstants.{MAX_SESSIONS}
 use Rattle.tcc_reads.specs.History.{count, owner}
 use Rattle.tcc_graph.specs.Relations.{session_pair, IsSessionPair}
 use Rattle.tcc_graph.specs.Walks.{IsWalk}
@@ -24,20 +25,20 @@ use Rattle.tcc_cycle.proofs.LargestWalk.{told_apart, marked_below, walk_short}
 use Rattle.tcc_cycle.proofs.BoundLemmas.{link_least, link_there, part_cycle}
 use Rattle.tcc_cycle.proofs.PartLemmas.{part_least}
 
-module _ (j : Judged) (placed : IsPlaced j.history 64) where
+module _ (j : Judged) (placed : IsPlaced j.history MAX_SESSIONS) where
   -- ---- a link
 
   walk_few : (b c : ℕ) (walk : List Step) (at : Level) → IsWalk j.history b c walk → IsAllowed at walk → ((others : List Step) → IsWalk j.history b c others → IsAllowed at others → length walk ≤ length others)
-      → ((t : ℕ) (others : List Link) → IsCycle j t others → length walk < cost others) → length walk ≤ 128
+      → ((t : ℕ) (others : List Link) → IsCycle j t others → length walk < cost others) → length walk ≤ 2 * MAX_SESSIONS
   walk_few b c walk level.Causal is allowed least low = walk_short j placed b c walk is (λ others leads. least others leads tt) low
   walk_few b c walk level.Atomic is allowed least low = omega (arith, allowed)
 
-  link_few : (s : ℕ) (front : List Link) (l : Link) (rest : List Link) → IsLeastCycle j s (front ++ l ∷ rest) → link_cost l ≤ 129
+  link_few : (s : ℕ) (front : List Link) (l : Link) (rest : List Link) → IsLeastCycle j s (front ++ l ∷ rest) → link_cost l ≤ 2 * MAX_SESSIONS + 1
   link_few s front (link.Session a b) rest least = omega arith
   link_few s front (link.Reads a b x) rest least = omega arith
   link_few s front (link.Derived b a x c walk) rest least =
       let is : IsLink j (link.Derived b a x c walk) = link_there j s front (link.Derived b a x c walk) rest least in
-      let few : length walk ≤ 128 = walk_few b c walk j.level is.1.0 is.1.1
+      let few : length walk ≤ 2 * MAX_SESSIONS = walk_few b c walk j.level is.1.0 is.1.1
       (λ others leads allowed.
       let low : link_cost (link.Derived b a x c walk) ≤ link_cost (link.Derived b a x c others) = link_least j s front (link.Derived b a x c walk) rest least (link.Derived b a x c others) refl refl (is.0, (leads, allowed)) in
       omega (arith, low, derived_cost b a x c walk, derived_cost b a x c others))
@@ -96,20 +97,20 @@ module _ (j : Judged) (placed : IsPlaced j.history 64) where
     other_below = (link_below j other other_leads.1).0
 
     ordered : 0 < link_from one → 0 < link_from other → owner j.history (link_from one) ≡ owner j.history (link_from other) → IsSessionPair j.history (link_from one) (link_from other) ⊎ IsSessionPair j.history (link_from other) (link_from one)
-    ordered some more same = either_way j.history 64 placed (link_from one) (link_from other) some one_below more other_below differ same
+    ordered some more same = either_way j.history MAX_SESSIONS placed (link_from one) (link_from other) some one_below more other_below differ same
 
   -- ---- numbers of links
 
   -- `init` apart, the session of its start, and whether it is followed there
   marked : Link → ℕ
-  marked l = owner j.history (link_from l) + cond (session_pair j.history (link_from l) (link_to l)) 64 0
+  marked l = owner j.history (link_from l) + cond (session_pair j.history (link_from l) (link_to l)) MAX_SESSIONS 0
 
   link_number : Link → ℕ
-  link_number l = if link_from l == 0 then 128 else marked l
+  link_number l = if link_from l == 0 then 2 * MAX_SESSIONS else marked l
 
   -- `init` apart, the session of its start
   group : Link → ℕ
-  group l = if link_from l == 0 then 64 else owner j.history (link_from l)
+  group l = if link_from l == 0 then MAX_SESSIONS else owner j.history (link_from l)
 
   abbrev derived : Link → Bool
   derived l = link_kind l == 2
@@ -124,15 +125,15 @@ module _ (j : Judged) (placed : IsPlaced j.history 64) where
   others_cost (link.Reads a b x) e = omega arith
   others_cost (link.Derived b a x c walk) e = absurd cc
 
-  number_cases : (l : Link) → ((link_from l ≡ 0) × (link_number l ≡ 128) × (group l ≡ 64)) ⊎ ((0 < link_from l) × (link_number l ≡ marked l) × (group l ≡ owner j.history (link_from l)))
+  number_cases : (l : Link) → ((link_from l ≡ 0) × (link_number l ≡ 2 * MAX_SESSIONS) × (group l ≡ MAX_SESSIONS)) ⊎ ((0 < link_from l) × (link_number l ≡ marked l) × (group l ≡ owner j.history (link_from l)))
   unfolding link_number group
   number_cases l = go (cases_eq (link_from l) 0)
     where
-      go : (link_from l ≡ 0) ⊎ (link_from l ≢ 0) → ((link_from l ≡ 0) × ((if link_from l == 0 then 128 else marked l) ≡ 128) × ((if link_from l == 0 then 64 else owner j.history (link_from l)) ≡ 64)) ⊎ ((0 < link_from l) × ((if link_from l == 0 then 128 else marked l) ≡ marked l) × ((if link_from l == 0 then 64 else owner j.history (link_from l)) ≡ owner j.history (link_from l)))
+      go : (link_from l ≡ 0) ⊎ (link_from l ≢ 0) → ((link_from l ≡ 0) × ((if link_from l == 0 then 2 * MAX_SESSIONS else marked l) ≡ 2 * MAX_SESSIONS) × ((if link_from l == 0 then MAX_SESSIONS else owner j.history (link_from l)) ≡ MAX_SESSIONS)) ⊎ ((0 < link_from l) × ((if link_from l == 0 then 2 * MAX_SESSIONS else marked l) ≡ marked l) × ((if link_from l == 0 then MAX_SESSIONS else owner j.history (link_from l)) ≡ owner j.history (link_from l)))
       go (inl none) = let e = eq-eqb (link_from l) 0 none in inl (none, rw e refl, rw e refl)
       go (inr some) = let e = ne_eqb (link_from l) 0 some in inr (omega arith, rw e refl, rw e refl)
 
-  numbers_below : (a b : ℕ) (links : List Link) → LinksLead j a b links → AllByRecursion (λ l. link_number l < 129) links × AllByRecursion (λ l. group l < 65) links
+  numbers_below : (a b : ℕ) (links : List Link) → LinksLead j a b links → AllByRecursion (λ l. link_number l < 2 * MAX_SESSIONS + 1) links × AllByRecursion (λ l. group l < MAX_SESSIONS + 1) links
   unfolding marked
   numbers_below a b [] lead = (tt, tt)
   numbers_below a b (l ∷ links) lead =
@@ -140,10 +141,10 @@ module _ (j : Judged) (placed : IsPlaced j.history 64) where
       let here = one (number_cases l) in
       ((here.0, rest.0), (here.1, rest.1))
     where
-      one : ((link_from l ≡ 0) × (link_number l ≡ 128) × (group l ≡ 64)) ⊎ ((0 < link_from l) × (link_number l ≡ marked l) × (group l ≡ owner j.history (link_from l))) → (link_number l < 129) × (group l < 65)
+      one : ((link_from l ≡ 0) × (link_number l ≡ 2 * MAX_SESSIONS) × (group l ≡ MAX_SESSIONS)) ⊎ ((0 < link_from l) × (link_number l ≡ marked l) × (group l ≡ owner j.history (link_from l))) → (link_number l < 2 * MAX_SESSIONS + 1) × (group l < MAX_SESSIONS + 1)
       one (inl w) = (omega (arith, w.1), omega (arith, w.2))
       one (inr w) =
-          let owned : owner j.history (link_from l) < 64 = placed.owned (link_from l) w.0 (link_below j l lead.1).0 in
+          let owned : owner j.history (link_from l) < MAX_SESSIONS = placed.owned (link_from l) w.0 (link_below j l lead.1).0 in
           (omega (arith, w.1, marked_below (owner j.history (link_from l)) (session_pair j.history (link_from l) (link_to l)) owned), omega (arith, w.2, owned))
 
   module _ (s : ℕ) (links : List Link) (least : IsLeastCycle j s links) where
@@ -158,21 +159,21 @@ module _ (j : Judged) (placed : IsPlaced j.history 64) where
       apart : link_from t.one ≢ link_from t.other
       apart = differ s t.front t.one t.middle t.other t.rest there
 
-      owned : (l : Link) → link_from l < count j.history → 0 < link_from l → owner j.history (link_from l) < 64
+      owned : (l : Link) → link_from l < count j.history → 0 < link_from l → owner j.history (link_from l) < MAX_SESSIONS
       owned l below some = placed.owned (link_from l) some below
 
-      one_owned : 0 < link_from t.one → owner j.history (link_from t.one) < 64
+      one_owned : 0 < link_from t.one → owner j.history (link_from t.one) < MAX_SESSIONS
       one_owned = owned t.one (one_below s t.front t.one t.middle t.other t.rest there)
 
-      other_owned : 0 < link_from t.other → owner j.history (link_from t.other) < 64
+      other_owned : 0 < link_from t.other → owner j.history (link_from t.other) < MAX_SESSIONS
       other_owned = owned t.other (other_below s t.front t.one t.middle t.other t.rest there)
 
       either : 0 < link_from t.one → 0 < link_from t.other → owner j.history (link_from t.one) ≡ owner j.history (link_from t.other) → IsSessionPair j.history (link_from t.one) (link_from t.other) ⊎ IsSessionPair j.history (link_from t.other) (link_from t.one)
       either = ordered s t.front t.one t.middle t.other t.rest there
 
-    links_few : length links ≤ 129
+    links_few : length links ≤ 2 * MAX_SESSIONS + 1
     unfolding marked
-    links_few = go (few_or_twice link_number 129 links (numbers_below s s links least.cycle.1).0)
+    links_few = go (few_or_twice link_number (2 * MAX_SESSIONS + 1) links (numbers_below s s links least.cycle.1).0)
       where
         same_session : (t : HasTwice link_number always links) → 0 < link_from t.one → 0 < link_from t.other → (owner j.history (link_from t.one) ≡ owner j.history (link_from t.other)) × (session_pair j.history (link_from t.one) (link_to t.one) ≡ session_pair j.history (link_from t.other) (link_to t.other)) → ⊥
         same_session t some more alike = which (either always link_number t some more alike.0)
@@ -184,21 +185,21 @@ module _ (j : Judged) (placed : IsPlaced j.history 64) where
         told : (t : HasTwice link_number always links) → 0 < link_from t.one → 0 < link_from t.other → marked t.one ≡ marked t.other → ⊥
         told t some more same = same_session t some more (told_apart (owner j.history (link_from t.one)) (owner j.history (link_from t.other)) (session_pair j.history (link_from t.one) (link_to t.one)) (session_pair j.history (link_from t.other) (link_to t.other)) (one_owned always link_number t some) (other_owned always link_number t more) same)
 
-        below_128 : (l : Link) → owner j.history (link_from l) < 64 → marked l < 128
-        below_128 l low = marked_below (owner j.history (link_from l)) (session_pair j.history (link_from l) (link_to l)) low
+        marked_low : (l : Link) → owner j.history (link_from l) < MAX_SESSIONS → marked l < 2 * MAX_SESSIONS
+        marked_low l low = marked_below (owner j.history (link_from l)) (session_pair j.history (link_from l) (link_to l)) low
 
-        by : (t : HasTwice link_number always links) → ((link_from t.one ≡ 0) × (link_number t.one ≡ 128) × (group t.one ≡ 64)) ⊎ ((0 < link_from t.one) × (link_number t.one ≡ marked t.one) × (group t.one ≡ owner j.history (link_from t.one))) → ((link_from t.other ≡ 0) × (link_number t.other ≡ 128) × (group t.other ≡ 64)) ⊎ ((0 < link_from t.other) × (link_number t.other ≡ marked t.other) × (group t.other ≡ owner j.history (link_from t.other))) → ⊥
+        by : (t : HasTwice link_number always links) → ((link_from t.one ≡ 0) × (link_number t.one ≡ 2 * MAX_SESSIONS) × (group t.one ≡ MAX_SESSIONS)) ⊎ ((0 < link_from t.one) × (link_number t.one ≡ marked t.one) × (group t.one ≡ owner j.history (link_from t.one))) → ((link_from t.other ≡ 0) × (link_number t.other ≡ 2 * MAX_SESSIONS) × (group t.other ≡ MAX_SESSIONS)) ⊎ ((0 < link_from t.other) × (link_number t.other ≡ marked t.other) × (group t.other ≡ owner j.history (link_from t.other))) → ⊥
         by t (inl w) (inl v) = apart always link_number t (w.0 ∙ sym v.0)
-        by t (inl w) (inr v) = absurd (omega (arith, w.1, v.1, t.same, below_128 t.other (other_owned always link_number t v.0)))
-        by t (inr w) (inl v) = absurd (omega (arith, w.1, v.1, t.same, below_128 t.one (one_owned always link_number t w.0)))
+        by t (inl w) (inr v) = absurd (omega (arith, w.1, v.1, t.same, marked_low t.other (other_owned always link_number t v.0)))
+        by t (inr w) (inl v) = absurd (omega (arith, w.1, v.1, t.same, marked_low t.one (one_owned always link_number t w.0)))
         by t (inr w) (inr v) = told t w.0 v.0 (sym w.1 ∙ t.same ∙ v.1)
 
-        go : (length links ≤ 129) ⊎ HasTwice link_number always links → length links ≤ 129
+        go : (length links ≤ 2 * MAX_SESSIONS + 1) ⊎ HasTwice link_number always links → length links ≤ 2 * MAX_SESSIONS + 1
         go (inl few) = few
         go (inr t) = absurd (by t (number_cases t.one) (number_cases t.other))
 
-    derived_few : length (filter derived links) ≤ 65
-    derived_few = go (counted_or_twice group derived 65 links (numbers_below s s links least.cycle.1).1)
+    derived_few : length (filter derived links) ≤ MAX_SESSIONS + 1
+    derived_few = go (counted_or_twice group derived (MAX_SESSIONS + 1) links (numbers_below s s links least.cycle.1).1)
       where
         same_session : (t : HasTwice group derived links) → 0 < link_from t.one → 0 < link_from t.other → owner j.history (link_from t.one) ≡ owner j.history (link_from t.other) → ⊥
         same_session t some more same = which (either derived group t some more same)
@@ -211,26 +212,26 @@ module _ (j : Judged) (placed : IsPlaced j.history 64) where
                 let single = (cheap (link_from t.other) [] t.other (t.rest ++ t.front) t.one t.middle (back derived group t) pair).1 in
                 absurd (omega (arith, single, derived_costs t.other (other_leads s t.front t.one t.middle t.other t.rest (there derived group t)).1 t.other_passes))
 
-        by : (t : HasTwice group derived links) → ((link_from t.one ≡ 0) × (link_number t.one ≡ 128) × (group t.one ≡ 64)) ⊎ ((0 < link_from t.one) × (link_number t.one ≡ marked t.one) × (group t.one ≡ owner j.history (link_from t.one))) → ((link_from t.other ≡ 0) × (link_number t.other ≡ 128) × (group t.other ≡ 64)) ⊎ ((0 < link_from t.other) × (link_number t.other ≡ marked t.other) × (group t.other ≡ owner j.history (link_from t.other))) → ⊥
+        by : (t : HasTwice group derived links) → ((link_from t.one ≡ 0) × (link_number t.one ≡ 2 * MAX_SESSIONS) × (group t.one ≡ MAX_SESSIONS)) ⊎ ((0 < link_from t.one) × (link_number t.one ≡ marked t.one) × (group t.one ≡ owner j.history (link_from t.one))) → ((link_from t.other ≡ 0) × (link_number t.other ≡ 2 * MAX_SESSIONS) × (group t.other ≡ MAX_SESSIONS)) ⊎ ((0 < link_from t.other) × (link_number t.other ≡ marked t.other) × (group t.other ≡ owner j.history (link_from t.other))) → ⊥
         by t (inl w) (inl v) = apart derived group t (w.0 ∙ sym v.0)
         by t (inl w) (inr v) = absurd (omega (arith, w.2, v.2, t.same, other_owned derived group t v.0))
         by t (inr w) (inl v) = absurd (omega (arith, w.2, v.2, t.same, one_owned derived group t w.0))
         by t (inr w) (inr v) = same_session t w.0 v.0 (sym w.2 ∙ t.same ∙ v.2)
 
-        go : (length (filter derived links) ≤ 65) ⊎ HasTwice group derived links → length (filter derived links) ≤ 65
+        go : (length (filter derived links) ≤ MAX_SESSIONS + 1) ⊎ HasTwice group derived links → length (filter derived links) ≤ MAX_SESSIONS + 1
         go (inl few) = few
         go (inr t) = absurd (by t (number_cases t.one) (number_cases t.other))
 
-  costs_sum : (s : ℕ) (done links : List Link) → IsLeastCycle j s (done ++ links) → cost links ≤ length links + 128 * length (filter derived links)
+  costs_sum : (s : ℕ) (done links : List Link) → IsLeastCycle j s (done ++ links) → cost links ≤ length links + 2 * MAX_SESSIONS * length (filter derived links)
   costs_sum s done [] least = omega arith
   costs_sum s done (l ∷ links) least = go (derived l) refl (costs_sum s (done ++ l ∷ []) links (rw append_assoc least))
     where
-      go : (b : Bool) → derived l ≡ b → cost links ≤ length links + 128 * length (filter derived links) → cost (l ∷ links) ≤ length (l ∷ links) + 128 * length (cond b (l ∷ filter derived links) (filter derived links))
+      go : (b : Bool) → derived l ≡ b → cost links ≤ length links + 2 * MAX_SESSIONS * length (filter derived links) → cost (l ∷ links) ≤ length (l ∷ links) + 2 * MAX_SESSIONS * length (cond b (l ∷ filter derived links) (filter derived links))
       go true e others = omega (arith, cost_cons l links, link_few s done l links least, others)
       go false e others = omega (arith, cost_cons l links, others_cost l e, others)
 
-  pub few_derived : (s : ℕ) (links : List Link) → IsLeastCycle j s links → length (filter (λ l. link_kind l == 2) links) ≤ 65
+  pub few_derived : (s : ℕ) (links : List Link) → IsLeastCycle j s links → length (filter (λ l. link_kind l == 2) links) ≤ MAX_SESSIONS + 1
   few_derived s links least = derived_few s links least
 
-  pub largest : (s : ℕ) (links : List Link) → IsLeastCycle j s links → cost links ≤ 8449
+  pub largest : (s : ℕ) (links : List Link) → IsLeastCycle j s links → cost links ≤ (2 * MAX_SESSIONS + 1) + 2 * MAX_SESSIONS * (MAX_SESSIONS + 1)
   largest s links least = omega (arith, costs_sum s [] links least, links_few s links least, derived_few s links least)

@@ -1,7 +1,8 @@
 -- The longest walk of a least cycle's link: it begins two steps at most at transactions of one session.
-use Rattle.std.proofs.Common.{ℕ, ◌≡◌, ◌≢◌, ◌<◌, ◌≤◌, ◌+◌, ◌⊎◌, inl, inr, Bool, true, false, cond, List, [], ◌∷◌, ◌++◌, length, length-append, refl, sym, ◌∙◌, ap, subst, arith}
+use Rattle.std.proofs.Common.{ℕ, ◌≡◌, ◌≢◌, ◌<◌, ◌≤◌, ◌+◌, ◌*◌, ◌⊎◌, inl, inr, Bool, true, false, cond, List, [], ◌∷◌, ◌++◌, length, length-append, refl, sym, ◌∙◌, ap, subst, arith}
 use Rattle.std.specs.List.{AllByRecursion}
 use Rattle.std.proofs.lemmas.Bool.{cases_eq}
+use Rattle.tcc_txn.specs.declared.limits.TheConstants.{MAX_SESSIONS}
 use Rattle.tcc_reads.specs.History.{owner}
 use Rattle.tcc_graph.specs.Relations.{session_pair, IsSessionPair}
 use Rattle.tcc_graph.specs.Walks.{step_from, step_to, IsStep, Leads, IsWalk}
@@ -20,13 +21,13 @@ use Rattle.tcc_cycle.proofs.SessionLemmas.{IsPlaced, pair_on, either_way}
 use Rattle.tcc_cycle.proofs.BoundLemmas.{shorter}
 
 -- numbers for session and mark tell both
-pub told_apart : (x y : ℕ) (p q : Bool) → x < 64 → y < 64 → x + cond p 64 0 ≡ y + cond q 64 0 → (x ≡ y) × (p ≡ q)
+pub told_apart : (x y : ℕ) (p q : Bool) → x < MAX_SESSIONS → y < MAX_SESSIONS → x + cond p MAX_SESSIONS 0 ≡ y + cond q MAX_SESSIONS 0 → (x ≡ y) × (p ≡ q)
 told_apart x y true true l m e = (omega arith, refl)
 told_apart x y true false l m e = absurd (omega arith)
 told_apart x y false true l m e = absurd (omega arith)
 told_apart x y false false l m e = (omega arith, refl)
 
-pub marked_below : (x : ℕ) (p : Bool) → x < 64 → x + cond p 64 0 < 128
+pub marked_below : (x : ℕ) (p : Bool) → x < MAX_SESSIONS → x + cond p MAX_SESSIONS 0 < 2 * MAX_SESSIONS
 marked_below x true l = omega arith
 marked_below x false l = omega arith
 
@@ -38,7 +39,7 @@ links_of j a b (s ∷ walk) leads =
     let (links, lead, costs, long) = links_of j (step_to s) b walk leads.2 in
     (l ∷ links, (from ∙ leads.0, is, subst (λ (z : ℕ). LinksLead j z b links) (sym to) lead), omega (arith, cost_cons l links), omega arith)
 
-module _ (j : Judged) (placed : IsPlaced j.history 64) where
+module _ (j : Judged) (placed : IsPlaced j.history MAX_SESSIONS) where
   step_some : (s : Step) → IsStep j.history s → 0 < step_to s
   step_some (step.Session a b) is = (pair_parts j.history a b is).some
   step_some (step.Reads a b x) is = go (cases_eq b 0)
@@ -53,9 +54,9 @@ module _ (j : Judged) (placed : IsPlaced j.history 64) where
 
   -- the session of its start, and whether it is followed there
   step_number : Step → ℕ
-  step_number s = owner j.history (step_from s) + cond (session_pair j.history (step_from s) (step_to s)) 64 0
+  step_number s = owner j.history (step_from s) + cond (session_pair j.history (step_from s) (step_to s)) MAX_SESSIONS 0
 
-  numbers_below : (a b : ℕ) (walk : List Step) → 0 < a → Leads j.history a b walk → AllByRecursion (λ s. step_number s < 128) walk
+  numbers_below : (a b : ℕ) (walk : List Step) → 0 < a → Leads j.history a b walk → AllByRecursion (λ s. step_number s < 2 * MAX_SESSIONS) walk
   unfolding step_number
   numbers_below a b [] some leads = tt
   numbers_below a b (s ∷ walk) some leads =
@@ -136,17 +137,17 @@ module _ (j : Judged) (placed : IsPlaced j.history 64) where
           absurd (omega (arith, low (step_from t.one) links (omega (arith, size, steps), lead), costs, steps, long))
 
       never : ⊥
-      never = go (either_way j.history 64 placed (step_from t.one) (step_from t.other) one_some (step_below j.history t.one one_leads.1).0 other_some (step_below j.history t.other other_leads.1).0 differ alike.0)
+      never = go (either_way j.history MAX_SESSIONS placed (step_from t.one) (step_from t.other) one_some (step_below j.history t.one one_leads.1).0 other_some (step_below j.history t.other other_leads.1).0 differ alike.0)
         where
           go : IsSessionPair j.history (step_from t.one) (step_from t.other) ⊎ IsSessionPair j.history (step_from t.other) (step_from t.one) → ⊥
           go (inl pair) = forward pair
           go (inr pair) = back pair
 
-    -- it has 128 steps at most
-    pub walk_short : length walk ≤ 128
+    -- it has two steps for each session at most
+    pub walk_short : length walk ≤ 2 * MAX_SESSIONS
     walk_short = from (cases_eq b 0)
       where
-        by : 0 < b → (length walk ≤ 128) ⊎ HasTwice step_number always walk → length walk ≤ 128
+        by : 0 < b → (length walk ≤ 2 * MAX_SESSIONS) ⊎ HasTwice step_number always walk → length walk ≤ 2 * MAX_SESSIONS
         by some (inl few) = few
         by some (inr t) = absurd (never some t)
 
@@ -154,7 +155,7 @@ module _ (j : Judged) (placed : IsPlaced j.history 64) where
         last_some a [] long leads = absurd (omega arith)
         last_some a (s ∷ steps) long leads = leads_some (step_to s) c steps (step_some s leads.1) leads.2
 
-        from : (b ≡ 0) ⊎ (b ≢ 0) → length walk ≤ 128
+        from : (b ≡ 0) ⊎ (b ≢ 0) → length walk ≤ 2 * MAX_SESSIONS
         from (inl none) =
             let some : 0 < c = last_some b walk is.0 is.1 in
             let ends = walk_below j.history b c walk is in
@@ -162,4 +163,4 @@ module _ (j : Judged) (placed : IsPlaced j.history 64) where
             omega (arith, least (step.Session b c ∷ []) (omega arith, (refl, pair, refl)))
         from (inr other) =
             let some : 0 < b = omega arith in
-            by some (few_or_twice step_number 128 walk (numbers_below b c walk some is.1))
+            by some (few_or_twice step_number (2 * MAX_SESSIONS) walk (numbers_below b c walk some is.1))

@@ -1,6 +1,6 @@
 //! The laws of least cycles: the first one is picked from the back, and so are the walks of its links; what its parts
 //! cost, and what it can cost at most.
-ghost use Rattle.std.specs.Prelude.{◌≡◌, ◌≤◌, ◌↔◌, ◌==◌, ◌∷◌, ◌++◌, ℕ, List, All, filter, length};
+ghost use Rattle.std.specs.Prelude.{◌≡◌, ◌≤◌, ◌↔◌, ◌==◌, ◌∷◌, ◌++◌, ◌+◌, ◌*◌, ℕ, List, All, filter, length};
 ghost use Rattle.std.specs.FinMap.{entries};
 ghost use Rattle.tcc_txn.specs.declared.limits.TheConstants.{MAX_COUNT, MAX_SESSIONS};
 ghost use Rattle.tcc_txn.specs.Snapshots.{Sessions};
@@ -46,7 +46,8 @@ pub fn parts()
 /// and none of its links takes a longer walk than over all of them once (`walks`). That a graph has no more than `MAX_COUNT`, `Graph::count` says.
 /// And in the history of a snapshot by its sessions alone, however many transactions they have: beside `init`, a least
 /// cycle meets two transactions of a session at most, and one derived link at most begins there; and the walk of such a
-/// link begins two steps at most in a session.
+/// link begins two steps at most in a session. With 64 sessions these are 129 links, of which 65 are derived, and walks of
+/// 128 steps: 8,449 in all.
 pub fn bounded()
     ensures transactions { (j : Judged) (s : ℕ) (links : List Link) → count j.history ≤ MAX_COUNT → IsLeastCycle j s links
         → cost links ≤ MAX_CYCLE_COST }
@@ -55,5 +56,6 @@ pub fn bounded()
         → All (λ l. length (link_walk l) ≤ count j.history) links }
     ensures sessions { (snapshot : Sessions) (level : Level) (s : ℕ) (links : List Link) → length (entries snapshot) ≤ MAX_SESSIONS
         → IsLeastCycle (record { history = history snapshot; level = level }) s links
-        → (length (filter (λ l. link_kind l == 2) links) ≤ 65) × (cost links ≤ 8449) }
+        → (length (filter (λ l. link_kind l == 2) links) ≤ MAX_SESSIONS + 1)
+        × (cost links ≤ (2 * MAX_SESSIONS + 1) + 2 * MAX_SESSIONS * (MAX_SESSIONS + 1)) }
 {}

@@ -1,4 +1,5 @@
 use Rattle.std.proofs.Common.{[]}
+use Rattle.tcc_txn.specs.declared.limits.TheConstants.{MAX_SESSIONS}
 use Rattle.tcc_reads.specs.Sources.{history}
 use Rattle.tcc_cycle.proofs.BoundLemmas.{cycle_bounded, few_links, walks_few}
 use Rattle.tcc_cycle.proofs.SessionLemmas.{history_placed}
@@ -16,6 +17,6 @@ returns-clause-walks c = λ j s links least. walks_few j s [] links least
 
 pub returns-clause-sessions : goal.returns-clause-sessions
 returns-clause-sessions c = λ snapshot level s links few least. (
-  few_derived (record { history = history snapshot; level = level }) (history_placed snapshot 64 few) s links least,
-  largest (record { history = history snapshot; level = level }) (history_placed snapshot 64 few) s links least,
+  few_derived (record { history = history snapshot; level = level }) (history_placed snapshot MAX_SESSIONS few) s links least,
+  largest (record { history = history snapshot; level = level }) (history_placed snapshot MAX_SESSIONS few) s links least,
 )
