@@ -1,12 +1,11 @@
 -- Rows of the writers of a key.
-use Rattle.std.proofs.Common.{◌≡◌, ◌≢◌, ◌<◌, ◌/◌, ◌↔◌, ◌⊎◌, inl, inr, ℕ, true, List, [], ◌∷◌, length, replicate, get_or, sym, ◌∙◌, arith}
+use Rattle.std.proofs.Common.{◌≡◌, ◌≢◌, ◌<◌, ◌/◌, ◌↔◌, ◌⊎◌, inl, inr, ℕ, true, List, [], length, replicate, get_or, sym, ◌∙◌, arith}
 use Rattle.std.specs.List.{All, Contains}
 use Rattle.std.proofs.lemmas.Bool.{false≢true}
 use Rattle.std.proofs.lemmas.List.Elements.{All-weaker}
 use Rattle.tcc_reads.specs.History.{History, count}
-use Rattle.tcc_graph.specs.Keys.{keys, key_at, writers}
+use Rattle.tcc_graph.specs.Keys.{keys, writers}
 use Rattle.tcc_near.specs.Bits.{is_marked, words_for}
-use Rattle.tcc_near.specs.Breadth.{marks_of}
 use Rattle.tcc_near.proofs.BitLemmas.{none_marked}
 use Rattle.tcc_order.specs.Behind.{IsWriterRow, AreWriterRows}
 use Rattle.tcc_graph.proofs.WriterLemmas.{writers_below}

@@ -1,9 +1,7 @@
-use Rattle.std.proofs.Common.{rules, ◌≡◌, ◌<◌, ◌+◌, ◌∷◌, ◌++◌, ◌∙◌, ap, [], length, arith, length-append}
+use Rattle.std.proofs.Common.{rules, ◌≡◌, ◌+◌, ◌∷◌, ◌++◌, ◌∙◌, ap, [], length, arith, length-append}
 use Rattle.std.proofs.lemmas.List.{get_or_read}
-use Rattle.tcc_reads.specs.History.{count}
 use Rattle.tcc_graph.specs.Keys.{keys, key_at}
 use Rattle.tcc_graph.specs.Places.{name_of}
-use Rattle.tcc_near.specs.Bits.{words_for}
 use Rattle.tcc_near.proofs.RowLemmas.{each_pushed}
 use Rattle.tcc_order.specs.Behind.{IsWriterRow}
 use Rattle.tcc_order.proofs.WriterRows.{writers_within, rows_of_all}
