@@ -1,11 +1,12 @@
 -- Words of a line, and digits one after the other.
-use Rattle.std.proofs.Common.{◌≡◌, ℕ, ◌+◌, ◌*◌, ◌-◌, ◌<◌, ◌≤◌, true, false, min, ltb, List, [], ◌∷◌, length, take, drop, get_or, map, ◌++◌, Result, Ok, Err, ◌≢◌, append_assoc, append-nil, refl, sym, ap, ◌∙◌, arith}
+use Rattle.std.proofs.Common.{◌≡◌, ℕ, ◌+◌, ◌*◌, ◌/◌, ◌%◌, decimal, ◌-◌, ◌<◌, ◌≤◌, true, false, min, ltb, List, [], ◌∷◌, length, take, drop, get_or, map, ◌++◌, Result, Ok, Err, ◌≢◌, append_assoc, append-nil, refl, sym, ap, ◌∙◌, arith}
 use Rattle.std.specs.Char.{digit_value, is_ascii_digit}
 use Rattle.std.specs.Str.{all_ascii_digits}
 use Rattle.std.specs.Str.Parse.{digits_value}
 use Rattle.std.proofs.lemmas.Bool.Decides.{nat_tests}
 use Rattle.std.proofs.lemmas.List.{at_drop_more, drop_all}
 use Rattle.std.proofs.lemmas.Int.Digits.{digits_value_more}
+use Rattle.std.proofs.lemmas.Fmt.{decimal_digit, decimal_step}
 use Rattle.tcc_cert.specs.declared.fault.CertFaultKind.{CertFaultKind}
 use Rattle.tcc_cert.specs.declared.fault.CertFaultKind.TheVariants.{Count}
 use Rattle.tcc_cert.specs.Texts.{Words}
@@ -94,3 +95,8 @@ pub numbers-all : (most : ℕ) (words : Words) (front : List ℕ) (i : ℕ) → 
 numbers-all most words front i is =
     let none : drop i words ≡ [] = drop_all i words (omega arith) in
     rw none (ap Ok (append-nil front))
+
+-- ---- numbers of two digits
+
+pub decimal-two : (n : ℕ) → 10 ≤ n → n < 100 → decimal n ≡ (48 + n / 10) ∷ (48 + n % 10) ∷ []
+decimal-two n low high = decimal_step n low (omega arith) ∙ ap (λ front. front ++ ((48 + n % 10) ∷ [])) (decimal_digit (n / 10) (omega arith))

@@ -40,13 +40,28 @@ pub(crate) fn line<W: Write>(
     outgoing.put(out, b"\n")
 }
 
+/// A number after a space. Most numbers of a row have one digit or two.
+fn later_number<W: Write>(outgoing: &mut Outgoing, out: &mut W, number: u32) -> io::Result<()>
+    ensures { IsSent result (W.contents out.old) outgoing.old (W.contents out.new) outgoing.new (codes " " ++ decimal number) }
+{
+    if number < 10 {
+        outgoing.put(out, &[b' ', b'0' + number as u8])
+    } else if number < 100 {
+        outgoing.put(
+            out,
+            &[b' ', b'0' + (number / 10) as u8, b'0' + (number % 10) as u8],
+        )
+    } else {
+        later_word(outgoing, out, Buffer::new().format(number).as_bytes())
+    }
+}
+
 /// Numbers, each after a space.
 fn later_numbers<W: Write>(outgoing: &mut Outgoing, out: &mut W, numbers: &[u32]) -> io::Result<()>
     ensures { IsSent result (W.contents out.old) outgoing.old (W.contents out.new) outgoing.new (flat_map (λ number. codes " " ++ decimal number) numbers.now) }
 {
-    let mut buffer = Buffer::new();
     for number in numbers {
-        later_word(outgoing, out, buffer.format(*number).as_bytes())?;
+        later_number(outgoing, out, *number)?;
     }
     Ok(())
 }

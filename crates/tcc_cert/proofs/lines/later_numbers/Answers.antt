@@ -4,13 +4,13 @@ use Rattle.tcc_cert.proofs.SentFacts.{failed}
 use Rattle.tcc_cert.proofs.Items.{Sends-item, Stops-item}
 use Rattle.tcc_cert.proofs.lines.later_numbers.Goals as goal
 
-pub returns-in_err-later_word : goal.returns-in_err-later_word
-returns-in_err-later_word g c =
+pub returns-in_err-later_number : goal.returns-in_err-later_number
+returns-in_err-later_number g c =
     failed c.from_residual.result _ _ _ _ _ c.from_residual.ensures.0
     (Stops-item (λ number. codes " " ++ decimal number) c.args.numbers.now c.loop-number.number-index 0 c.loop-number-test.true c.loop-number.invariant
-    (rw (← c.format.ensures.text, ← c.as_bytes.ensures.value) c.in_err-later_word.ensures))
+    c.in_err-later_number.ensures)
 
 pub loop-number-preserved : goal.loop-number-preserved
 loop-number-preserved g c =
     Sends-item (λ number. codes " " ++ decimal number) c.args.numbers.now c.loop-number.number-index 0 c.loop-number-test.true c.loop-number.invariant
-    (rw (← c.format.ensures.text, ← c.as_bytes.ensures.value) c.in_ok-later_word.ensures)
+    c.in_ok-later_number.ensures
