@@ -45,11 +45,11 @@ fn later_number<W: Write>(outgoing: &mut Outgoing, out: &mut W, number: u32) -> 
     ensures { IsSent result (W.contents out.old) outgoing.old (W.contents out.new) outgoing.new (codes " " ++ decimal number) }
 {
     if number < 10 {
-        outgoing.put(out, &[b' ', b'0' + number as u8])
+        outgoing.put_few(out, [b' ', b'0' + number as u8])
     } else if number < 100 {
-        outgoing.put(
+        outgoing.put_few(
             out,
-            &[b' ', b'0' + (number / 10) as u8, b'0' + (number % 10) as u8],
+            [b' ', b'0' + (number / 10) as u8, b'0' + (number % 10) as u8],
         )
     } else {
         later_word(outgoing, out, Buffer::new().format(number).as_bytes())

@@ -80,4 +80,20 @@ impl Outgoing {
         self.keep(piece);
         Ok(())
     }
+
+    /// The same of a few bytes, so many that it is known when the program is built.
+    pub(crate) fn put_few<W: Write, const N: usize>(
+        &mut self,
+        out: &mut W,
+        few: [u8; N],
+    ) -> io::Result<()>
+        requires { N ≤ OUTGOING_BYTES }
+        ensures { IsSent result (W.contents out.old) self.old (W.contents out.new) self.new few.entry }
+    {
+        if N > OUTGOING_BYTES - self.len {
+            self.send(out)?;
+        }
+        self.keep(&few);
+        Ok(())
+    }
 }
