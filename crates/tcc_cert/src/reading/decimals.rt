@@ -1,5 +1,5 @@
 //! Words that write numbers.
-ghost use Rattle.std.specs.Prelude.{◌≡◌, ◌-◌, ◌^◌, false, min, true, MatchOption};
+ghost use Rattle.std.specs.Prelude.{[], ◌∷◌, ◌≡◌, ◌-◌, ◌^◌, false, min, true, MatchOption};
 ghost use Rattle.std.specs.Str.{all_ascii_digits};
 ghost use Rattle.std.specs.Str.Parse.{digits_value};
 ghost use Rattle.tcc_cert.specs.Reading.{is_decimal, number_of};
@@ -23,6 +23,30 @@ fn saturated(digits: &[u8]) -> Option<u64>
     Some(value)
 }
 
+/// The same of one digit.
+fn one_digit(digit: u8) -> Option<u64>
+    ensures { MatchOption result (all_ascii_digits (digit ∷ []) ≡ false)
+        (λ value. (all_ascii_digits (digit ∷ []) ≡ true) × (value ≡ min (digits_value 10 (digit ∷ [])) (2 ^ 64 - 1))) }
+{
+    if digit.is_ascii_digit() {
+        Some(u64::from(digit - b'0'))
+    } else {
+        None
+    }
+}
+
+/// The same of two digits.
+fn two_digits(tens: u8, ones: u8) -> Option<u64>
+    ensures { MatchOption result (all_ascii_digits (tens ∷ ones ∷ []) ≡ false)
+        (λ value. (all_ascii_digits (tens ∷ ones ∷ []) ≡ true) × (value ≡ min (digits_value 10 (tens ∷ ones ∷ [])) (2 ^ 64 - 1))) }
+{
+    if tens.is_ascii_digit() && ones.is_ascii_digit() {
+        Some(u64::from(tens - b'0') * 10 + u64::from(ones - b'0'))
+    } else {
+        None
+    }
+}
+
 /// The same of digits without leading zeros.
 fn decimal(word: &[u8]) -> Option<u64>
     ensures { MatchOption result (is_decimal word.now ≡ false)
@@ -30,6 +54,8 @@ fn decimal(word: &[u8]) -> Option<u64>
 {
     match word {
         [] | [b'0', _, ..] => None,
+        [digit] => one_digit(*digit),
+        [tens, ones] => two_digits(*tens, *ones),
         _ => saturated(word),
     }
 }
