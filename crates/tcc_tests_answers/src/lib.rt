@@ -10,8 +10,6 @@ mod cycles;
 #[cfg(test)]
 mod explaining;
 #[cfg(test)]
-mod gates;
-#[cfg(test)]
 mod growing;
 #[cfg(test)]
 mod runs;
