@@ -1,12 +1,14 @@
 -- Worked lines of JSON agree with the definitions.
-use Rattle.std.proofs.Common.{◌≡◌, refl, codes, lit<}
+use Rattle.std.proofs.Common.{◌≡◌, ◌++◌, refl, codes, lit<}
 use Rattle.std.proofs.lemmas.Fmt.{decimal_digit}
 use Rattle.serde_json.proofs.OnLiterals.{serde_json_on_literals}
 use Rattle.tcc_answer.specs.Json.{answer_json, json_line}
 use Rattle.tcc_answer.proofs.WorkedAnswers.{stale_read, long_fork}
 
 stale_read_line : json_line (answer_json stale_read)
-    ≡ codes "{\"answer\":\"anomaly\",\"cycle\":[{\"from\":\"init\",\"kind\":\"session\",\"to\":\"a/1\"},{\"from\":\"a/1\",\"key\":\"x\",\"kind\":\"derived\",\"reader\":\"a/2\",\"to\":\"init\",\"walk\":[{\"from\":\"a/1\",\"kind\":\"session\",\"to\":\"a/2\"}]}],\"shape\":\"stale-initial-read\",\"steps\":3}\n"
+    ≡ codes "{\"answer\":\"anomaly\",\"cycle\":[{\"from\":\"init\",\"kind\":\"session\",\"to\":\"a/1\"},"
+    ++ codes "{\"from\":\"a/1\",\"key\":\"x\",\"kind\":\"derived\",\"reader\":\"a/2\",\"to\":\"init\","
+    ++ codes "\"walk\":[{\"from\":\"a/1\",\"kind\":\"session\",\"to\":\"a/2\"}]}],\"shape\":\"stale-initial-read\",\"steps\":3}\n"
 unfolding serde_json_on_literals
 stale_read_line = rw (decimal_digit 3 (lit< tt)) refl
 

@@ -1,6 +1,8 @@
 -- Lemmas on agreement. Index: what a look through the sessions has found so far (found-here, unfound-more, unfound-all); the
 -- first without a pass (first-here, none-more, none-all); the least torn pass so far (torn-same, torn-more).
-use Rattle.std.proofs.Common.{◌≡◌, ◌⊎◌, ℕ, suc, zero, ◌+◌, ◌≤◌, Bool, true, false, cond, List, [], ◌∷◌, ◌++◌, length, map, take, find, Option, None, Some, refl, sym, ap, ◌∙◌, arith, inl, inr, true≢false, ⊎_elim}
+use Rattle.std.proofs.Common.{◌≡◌, ◌⊎◌, ℕ, suc, zero, ◌+◌, ◌≤◌, Bool, true, false, cond, List, [], ◌∷◌, ◌++◌, length}
+use Rattle.std.proofs.Common.{map, take, find, Option, None, Some, refl, sym, ap, ◌∙◌, arith, inl, inr, true≢false}
+use Rattle.std.proofs.Common.⊎_elim
 use Rattle.std.specs.Prelude.{slice_get}
 use Rattle.std.specs.FinMap as finite
 use Rattle.std.specs.Cmp.Lexicographic.{nat_list_cmp_total, texts_ties}
@@ -24,10 +26,12 @@ module _ {X : Type 0} (q : List ℕ) where
   found-here (e ∷ es) zero n v none here alike =
       let is : e ≡ (n, v) = same_Some e (n, v) here in
       let test : is_eq (name_cmp q n) ≡ true = sym (texts_ties q n) ∙ sym (nat_list_eq_equiv.symm n q) ∙ alike in
-      ap (λ (f : List ℕ × X). cond (is_eq (name_cmp q f.0)) (Some f.1) (finite.find name_cmp q es)) is ∙ ap (λ b. cond b (Some v) (finite.find name_cmp q es)) test
+      ap (λ (f : List ℕ × X). cond (is_eq (name_cmp q f.0)) (Some f.1) (finite.find name_cmp q es)) is
+      ∙ ap (λ b. cond b (Some v) (finite.find name_cmp q es)) test
   found-here (e ∷ es) (suc i) n v none here alike = by (λ before. found-here es i n v before here alike) (is_eq (name_cmp q e.0)) refl
     where
-      by : (finite.find name_cmp q (take i es) ≡ None → finite.find name_cmp q es ≡ Some v) → (b : Bool) → is_eq (name_cmp q e.0) ≡ b → finite.find name_cmp q (e ∷ es) ≡ Some v
+      by : (finite.find name_cmp q (take i es) ≡ None → finite.find name_cmp q es ≡ Some v) → (b : Bool) → is_eq (name_cmp q e.0) ≡ b
+          → finite.find name_cmp q (e ∷ es) ≡ Some v
       by rest true is = absurd (none-some e.1 (sym (rw is at none)))
       by rest false is = rw is (rest (rw is at none))
 
@@ -40,7 +44,8 @@ module _ {X : Type 0} (q : List ℕ) where
       ap (λ (f : List ℕ × X). cond (is_eq (name_cmp q f.0)) (Some f.1) None) is ∙ ap (λ b. cond b (Some v) None) test
   unfound-suc (e ∷ es) (suc i) n v none here other = by (λ before. unfound-suc es i n v before here other) (is_eq (name_cmp q e.0)) refl
     where
-      by : (finite.find name_cmp q (take i es) ≡ None → finite.find name_cmp q (take (suc i) es) ≡ None) → (b : Bool) → is_eq (name_cmp q e.0) ≡ b → finite.find name_cmp q (take (suc (suc i)) (e ∷ es)) ≡ None
+      by : (finite.find name_cmp q (take i es) ≡ None → finite.find name_cmp q (take (suc i) es) ≡ None) → (b : Bool) → is_eq (name_cmp q e.0) ≡ b
+          → finite.find name_cmp q (take (suc (suc i)) (e ∷ es)) ≡ None
       by rest true is = absurd (none-some e.1 (sym (rw is at none)))
       by rest false is = rw is (rest (rw is at none))
 
@@ -65,7 +70,8 @@ module _ {X : Type 0} (test : List ℕ → Bool) where
       ap (λ (f : List ℕ × X). cond (test f.0) (Some f.0) (find test (map (λ e. e.0) es))) is ∙ ap (λ b. cond b (Some n) (find test (map (λ e. e.0) es))) passes
   first-here (e ∷ es) (suc i) n v none here passes = by (λ before. first-here es i n v before here passes) (test e.0) refl
     where
-      by : (find test (map (λ e. e.0) (take i es)) ≡ None → find test (map (λ e. e.0) es) ≡ Some n) → (b : Bool) → test e.0 ≡ b → find test (map (λ e. e.0) (e ∷ es)) ≡ Some n
+      by : (find test (map (λ e. e.0) (take i es)) ≡ None → find test (map (λ e. e.0) es) ≡ Some n) → (b : Bool) → test e.0 ≡ b
+          → find test (map (λ e. e.0) (e ∷ es)) ≡ Some n
       by rest true is = absurd (none-some e.0 (sym (rw is at none)))
       by rest false is = rw is (rest (rw is at none))
 
@@ -77,7 +83,8 @@ module _ {X : Type 0} (test : List ℕ → Bool) where
       ap (λ (f : List ℕ × X). cond (test f.0) (Some f.0) None) is ∙ ap (λ b. cond b (Some n) None) fails
   none-suc (e ∷ es) (suc i) n v none here fails = by (λ before. none-suc es i n v before here fails) (test e.0) refl
     where
-      by : (find test (map (λ e. e.0) (take i es)) ≡ None → find test (map (λ e. e.0) (take (suc i) es)) ≡ None) → (b : Bool) → test e.0 ≡ b → find test (map (λ e. e.0) (take (suc (suc i)) (e ∷ es))) ≡ None
+      by : (find test (map (λ e. e.0) (take i es)) ≡ None → find test (map (λ e. e.0) (take (suc i) es)) ≡ None) → (b : Bool) → test e.0 ≡ b
+          → find test (map (λ e. e.0) (take (suc (suc i)) (e ∷ es))) ≡ None
       by rest true is = absurd (none-some e.0 (sym (rw is at none)))
       by rest false is = rw is (rest (rw is at none))
 
@@ -157,6 +164,7 @@ torn-more s ps p (Some m) least torn = by (is_lt (name_cmp m p.session)) refl
     by false up = rw up (
       (p, Contains-push ps p, refl, torn),
       All-push (NoLess p.session) ps p
-          (All-weaker (NoLess m) (NoLess p.session) (λ pass is. ⊎_elim (λ agrees. inl agrees) (λ no_less. inr (still-no-less pass.session m p.session no_less up)) is) ps least.1)
+          (All-weaker (NoLess m) (NoLess p.session)
+          (λ pass is. ⊎_elim (λ agrees. inl agrees) (λ no_less. inr (still-no-less pass.session m p.session no_less up)) is) ps least.1)
           (inr (no-less p.session)),
     )

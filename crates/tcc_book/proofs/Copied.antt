@@ -1,6 +1,8 @@
 -- The copy of a book. Index: what stands at a session's places (taken); each place is in the journal (within); the parts of
 -- the copy (parts-shown); no more transactions than records (few-listed); the parts make a snapshot (no-fault).
-use Rattle.std.proofs.Common.{◌≡◌, ℕ, ◌+◌, ◌≤◌, ◌<◌, All, Bool, true, false, cond, List, [], ◌∷◌, ◌++◌, length, map, None, Some, refl, sym, ap, ◌∙◌, subst, arith, sum_by, append_assoc, length-append}
+use Rattle.std.proofs.Common.{◌≡◌, ℕ, ◌+◌, ◌≤◌, ◌<◌, All, Bool, true, false, cond, List, [], ◌∷◌, ◌++◌, length}
+use Rattle.std.proofs.Common.{map, None, Some, refl, sym, ap, ◌∙◌, subst, arith, sum_by, append_assoc}
+use Rattle.std.proofs.Common.length-append
 use Rattle.std.specs.Prelude.{slice_index_or}
 use Rattle.std.specs.List.{list_any, IsDistinct, AllByRecursion}
 use Rattle.std.specs.Map.{keys_of}
@@ -155,7 +157,8 @@ apart : (earlier : List (List ℕ)) (name : List ℕ) (later : List (List ℕ)) 
 apart earlier name later distinct = list_any_none (same name) earlier (λ k d inside.
     let all = earlier ++ name ∷ later in
     let long : length earlier < length all = omega (arith, length-append earlier (name ∷ later)) in
-    let other : same (slice_index_or all k d) (slice_index_or all (length earlier) d) ≡ false = apart_from_distinct same all k (length earlier) d distinct inside long in
+    let other : same (slice_index_or all k d) (slice_index_or all (length earlier) d) ≡ false =
+    apart_from_distinct same all k (length earlier) d distinct inside long in
     let here : slice_index_or all k d ≡ slice_index_or earlier k d = get_or_append_left earlier (name ∷ later) d k inside in
     let there : slice_index_or all (length earlier) d ≡ name = get_or-append_seam earlier name later d in
     sym (nat_list_eq_equiv.symm (slice_index_or earlier k d) name) ∙ (λ i. same (sym here i) (sym there i)) ∙ other)
@@ -168,12 +171,14 @@ unrepeated earlier (name ∷ later) distinct =
     ∙ unrepeated (earlier ++ name ∷ []) later (subst (IsDistinct same) (sym (append_assoc earlier (name ∷ []) later)) distinct)
 
 -- the names of the parts, and how much they have
-part-names : (journal : List Entry) (names : List (List ℕ)) → map (λ (part : List ℕ × List Transaction). part.0) (map (λ session. (session, list_of session journal)) names) ≡ names
+part-names : (journal : List Entry) (names : List (List ℕ)) → map (λ (part : List ℕ × List Transaction). part.0)
+    (map (λ session. (session, list_of session journal)) names) ≡ names
 part-names journal [] = refl
 part-names journal (n ∷ ns) = ap (λ ms. n ∷ ms) (part-names journal ns)
 
 part-sums : (journal : List Entry) (names : List (List ℕ))
-    → sum_by (λ (part : List ℕ × List Transaction). length part.1) (map (λ session. (session, list_of session journal)) names) ≡ sum_by (λ session. length (list_of session journal)) names
+    → sum_by (λ (part : List ℕ × List Transaction). length part.1) (map (λ session. (session, list_of session journal)) names)
+    ≡ sum_by (λ session. length (list_of session journal)) names
 part-sums journal [] = refl
 part-sums journal (n ∷ ns) =
     sum_by-cons (λ (part : List ℕ × List Transaction). length part.1) (n, list_of n journal) (map (λ session. (session, list_of session journal)) ns)
@@ -186,9 +191,11 @@ pub no-fault : (places : Places) (journal : List Entry) → IsStored places jour
 no-fault places journal is =
     let names = keys places in
     let parts : List (List ℕ × List Transaction) = map (λ session. (session, list_of session journal)) names in
-    let once : first_repeated [] (map (λ (part : List ℕ × List Transaction). part.0) parts) ≡ None = ap (first_repeated []) (part-names journal names) ∙ unrepeated [] names is.once in
+    let once : first_repeated [] (map (λ (part : List ℕ × List Transaction). part.0) parts) ≡ None =
+    ap (first_repeated []) (part-names journal names) ∙ unrepeated [] names is.once in
     let part : List ℕ → List ℕ × List Transaction = λ session. (session, list_of session journal) in
     let few : length parts ≤ MAX_SESSIONS = omega (arith, length-map names part, length-keys places, is.few) in
-    let short : sum_by (λ (part : List ℕ × List Transaction). length part.1) parts ≤ MAX_TRANSACTIONS = omega (arith, part-sums journal names, few-listed names journal is.once, is.short) in
+    let short : sum_by (λ (part : List ℕ × List Transaction). length part.1) parts ≤ MAX_TRANSACTIONS =
+    omega (arith, part-sums journal names, few-listed names journal is.once, is.short) in
     ap (λ repeated. fault_by repeated (length parts) (sum_by (λ (part : List ℕ × List Transaction). length part.1) parts)) once
     ∙ no_fault (length parts) (sum_by (λ (part : List ℕ × List Transaction). length part.1) parts) few (grind (arith, nat_tests, short))

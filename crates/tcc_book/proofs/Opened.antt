@@ -1,5 +1,7 @@
 -- A book after one session more.
-use Rattle.std.proofs.Common.{◌≡◌, ℕ, ◌≤◌, ◌<◌, Bool, true, false, cond, List, [], ◌∷◌, ◌++◌, length, None, Some, refl, sym, ap, ◌∙◌, subst, arith, is_some, length-append}
+use Rattle.std.proofs.Common.{◌≡◌, ℕ, ◌≤◌, ◌<◌, Bool, true, false, cond, List, [], ◌∷◌, ◌++◌}
+use Rattle.std.proofs.Common.{length, None, Some, refl, sym, ap, ◌∙◌, subst, arith, is_some}
+use Rattle.std.proofs.Common.length-append
 use Rattle.std.proofs.lemmas.List.{map-append}
 use Rattle.tcc_txn.proofs.SortedParts.{same_names}
 use Rattle.std.specs.List.{list_all, IsDistinct}
@@ -18,7 +20,8 @@ still-known : (old new : Places) (session : List ℕ) (list : Vec ℕ) (es : Lis
     → ((q : List ℕ) → get same new q ≡ cond (same session q) (Some list) (get same old q))
     → list_all (λ e. is_some (get same old e.session)) es ≡ true → list_all (λ e. is_some (get same new e.session)) es ≡ true
 still-known old new session list [] more known = refl
-still-known old new session list (e ∷ es) more known = by (still-known old new session list es more) (is_some (get same old e.session)) refl (same session e.session) refl
+still-known old new session list (e ∷ es) more known =
+    by (still-known old new session list es more) (is_some (get same old e.session)) refl (same session e.session) refl
   where
     by : (list_all (λ d. is_some (get same old d.session)) es ≡ true → list_all (λ d. is_some (get same new d.session)) es ≡ true)
         → (f : Bool) → is_some (get same old e.session) ≡ f → (b : Bool) → same session e.session ≡ b

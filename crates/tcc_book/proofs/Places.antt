@@ -65,7 +65,8 @@ open-found places session = sym (is_some-lookup (same session) places.entries)
 pub no-places : (session : List ℕ) (places : Places) (n : ℕ) (es : List Entry) → get same places session ≡ None
     → list_all (λ e. is_some (get same places e.session)) es ≡ true → places_from session n es ≡ []
 no-places session places n [] none known = refl
-no-places session places n (e ∷ es) none known = by (no-places session places (n + 1) es none) (same session e.session) refl (is_some (get same places e.session)) refl
+no-places session places n (e ∷ es) none known =
+    by (no-places session places (n + 1) es none) (same session e.session) refl (is_some (get same places e.session)) refl
   where
     by : (list_all (λ d. is_some (get same places d.session)) es ≡ true → places_from session (n + 1) es ≡ [])
         → (b : Bool) → same session e.session ≡ b → (f : Bool) → is_some (get same places e.session) ≡ f → places_from session n (e ∷ es) ≡ []

@@ -1,5 +1,7 @@
 -- Prefixes of lists, and the sessions of a snapshot whose lists are continued in another.
-use Rattle.std.proofs.Common.{◌≡◌, ℕ, ◌+◌, ◌<◌, ◌≤◌, ◌⊎◌, inl, inr, List, [], ◌++◌, length, take, drop, Option, None, Some, sym, ap, subst, refl, ◌∙◌, arith, length-append}
+use Rattle.std.proofs.Common.{◌≡◌, ℕ, ◌+◌, ◌<◌, ◌≤◌, ◌⊎◌, inl, inr, List, [], ◌++◌, length, take}
+use Rattle.std.proofs.Common.{drop, Option, None, Some, sym, ap, subst, refl, ◌∙◌, arith}
+use Rattle.std.proofs.Common.length-append
 use Rattle.std.specs.Prelude.{slice_get, unwrap_or}
 use Rattle.std.specs.FinMap.{entries, get}
 use Rattle.std.specs.List.{Contains}
@@ -37,7 +39,8 @@ module _ (small large : Sessions) where
   stands i e within at = (i, within, get_or_from_slice_get (entries small) i e e at)
 
   -- what stands at a place is the list of its session, and what a search finds there is the list in the other
-  module _ (i : ℕ) (e : Named) (within : i < length (entries small)) (at : slice_get (entries small) i ≡ Some e) (found : List Transaction) (found_is : found ≡ list_of large e.0) where
+  module _ (i : ℕ) (e : Named) (within : i < length (entries small)) (at : slice_get (entries small) i ≡ Some e) (found : List Transaction)
+      (found_is : found ≡ list_of large e.0) where
     list_is : list_of small e.0 ≡ e.1
     list_is = list_of_entry small e (stands i e within at)
 
@@ -67,7 +70,8 @@ module _ (small large : Sessions) where
             let w = entry_of_name small other v some in
             let lower : w.1.0 < i =
             lesser_first small w.1.0 i w.0 w.1.1 within
-            ((λ t. name_cmp ((ap (λ (z : Named). z.0) w.1.2 ∙ w.2) t) ((ap (λ (z : Named). z.0) (get_or_from_slice_get (entries small) i e w.0 at)) t)) ∙ less) in
+            ((λ t. name_cmp ((ap (λ (z : Named). z.0) w.1.2 ∙ w.2) t) ((ap (λ (z : Named). z.0) (get_or_from_slice_get (entries small) i e w.0 at)) t))
+            ∙ less) in
             subst GoesOn w.2 (before w.1.0 w.0 lower (slice_get-get_or (entries small) w.1.0 w.0 w.1.1 ∙ ap Some w.1.2))
 
   pub all_go_on : (n : ℕ) → length (entries small) ≤ n → GoOn n → IsNested small large

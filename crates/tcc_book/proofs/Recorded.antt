@@ -1,5 +1,7 @@
 -- A book after one record more.
-use Rattle.std.proofs.Common.{◌≡◌, ℕ, ◌+◌, ◌≤◌, ◌<◌, Bool, true, false, cond, List, [], ◌∷◌, ◌++◌, length, Option, None, Some, refl, sym, ap, ◌∙◌, subst, arith, is_some, ◌&&◌, length-append, append-nil, inl, inr, Err, true≢false, ◌≢◌}
+use Rattle.std.proofs.Common.{◌≡◌, ℕ, ◌+◌, ◌≤◌, ◌<◌, Bool, true, false, cond, List, [], ◌∷◌, ◌++◌, length, Option, None, Some}
+use Rattle.std.proofs.Common.{refl, sym, ap, ◌∙◌, subst, arith, is_some, ◌&&◌, length-append, append-nil, inl, inr, Err}
+use Rattle.std.proofs.Common.{true≢false, ◌≢◌}
 use Rattle.std.specs.List.{list_all}
 use Rattle.std.specs.Global.{Vec}
 use Rattle.std.proofs.lemmas.Cmp.{nat_list_eq_equiv}
@@ -34,7 +36,8 @@ still : (old new : Places) (session : List ℕ) (list list' : Vec ℕ) (q : List
 still old new session list list' q found updated = by (same session q) refl
   where
     by : (b : Bool) → same session q ≡ b → is_some (get same new q) ≡ is_some (get same old q)
-    by true is = ap is_some (updated ∙ ap (λ b. cond b (Some list') (get same old q)) is) ∙ sym (ap is_some (ap (get same old) (sym (same_names session q is)) ∙ found))
+    by true is =
+        ap is_some (updated ∙ ap (λ b. cond b (Some list') (get same old q)) is) ∙ sym (ap is_some (ap (get same old) (sym (same_names session q is)) ∙ found))
     by false is = ap is_some (updated ∙ ap (λ b. cond b (Some list') (get same old q)) is)
 
 all-still : (old new : Places) (es : List Entry) → ((q : List ℕ) → is_some (get same new q) ≡ is_some (get same old q))
@@ -87,18 +90,21 @@ recorded old new journal entry list is room changed = record {
         list_all-append (λ e. is_some (get same new e.session)) journal (entry ∷ [])
         ∙ (λ i. (all-still old new journal kept ∙ is.known) i && ((kept entry.session ∙ ap is_some changed.found) i && true))
 
-    by : (q : List ℕ) (found : Vec ℕ) → get same new q ≡ Some found → (b : Bool) → same entry.session q ≡ b → found.items ≡ places_from q 0 (journal ++ entry ∷ [])
+    by : (q : List ℕ) (found : Vec ℕ) → get same new q ≡ Some found → (b : Bool) → same entry.session q ≡ b
+        → found.items ≡ places_from q 0 (journal ++ entry ∷ [])
     by q found at true alike =
         let first : Some changed.list' ≡ Some found = sym (ap (λ b. cond b (Some changed.list') (get same old q)) alike) ∙ sym (changed.updates.0 q) ∙ at in
         let one : changed.list' ≡ found = cc first in
         let name : entry.session ≡ q = same_names entry.session q alike in
         let before : get same old q ≡ Some list = ap (get same old) (sym name) ∙ changed.found in
-        let more : places_from q 0 (journal ++ entry ∷ []) ≡ places_from q 0 journal ++ cond (same q entry.session) ((0 + length journal) ∷ []) [] = places-more q 0 journal entry in
+        let more : places_from q 0 (journal ++ entry ∷ []) ≡ places_from q 0 journal ++ cond (same q entry.session) ((0 + length journal) ∷ []) [] =
+        places-more q 0 journal entry in
         let mine : same q entry.session ≡ true = subst (λ s. same s entry.session ≡ true) name (subst (λ s. same entry.session s ≡ true) (sym name) alike) in
         ap (λ v. v.items) (sym one) ∙ changed.listed ∙ ap (λ ps. ps ++ length journal ∷ []) (is.each q list before)
         ∙ sym (more ∙ ap (λ b. places_from q 0 journal ++ cond b ((0 + length journal) ∷ []) []) mine ∙ ap (λ n. places_from q 0 journal ++ n ∷ []) next)
     by q found at false apart =
-        let more : places_from q 0 (journal ++ entry ∷ []) ≡ places_from q 0 journal ++ cond (same q entry.session) ((0 + length journal) ∷ []) [] = places-more q 0 journal entry in
+        let more : places_from q 0 (journal ++ entry ∷ []) ≡ places_from q 0 journal ++ cond (same q entry.session) ((0 + length journal) ∷ []) [] =
+        places-more q 0 journal entry in
         let other : same q entry.session ≡ false = sym (nat_list_eq_equiv.symm entry.session q) ∙ apart in
         is.each q found (sym (ap (λ b. cond b (Some changed.list') (get same old q)) apart) ∙ sym (changed.updates.0 q) ∙ at)
         ∙ sym (more ∙ ap (λ b. places_from q 0 journal ++ cond b ((0 + length journal) ∷ []) []) other ∙ append-nil (places_from q 0 journal))
@@ -143,7 +149,12 @@ pub refusal-is : (old new : Places) (journal : List Entry) (session : List ℕ) 
     → AddsPlace {U = Unit {0}} old session held place (Err fault) new
     → Records {U = Unit {0}} (shown old journal) session held txn (Err (fault, txn)) (shown new journal)
 refusal-is old new journal session held place txn (refused.Full most) stored room is = absurd is
-refusal-is old new journal session held place txn (refused.Torn torn) stored room is =
-    (room, is.0, unmatched old journal session held stored is.1, refl, ap (λ names. record { names = names; journal = journal }) (kept-names old new session is.2))
+refusal-is old new journal session held place txn (refused.Torn torn) stored room is = (
+  room,
+  is.0,
+  unmatched old journal session held stored is.1,
+  refl,
+  ap (λ names. record { names = names; journal = journal }) (kept-names old new session is.2),
+)
 refusal-is old new journal session held place txn refused.NoMemory stored room is =
     (refl, ap (λ names. record { names = names; journal = journal }) (kept-names old new session is))

@@ -1,5 +1,7 @@
 -- How a book lies in memory. Nobody has to believe this: it serves the proofs.
-use Rattle.std.specs.Prelude.{◌≡◌, ◌≢◌, ◌⊎◌, ℕ, ◌+◌, ◌<◌, ◌≤◌, All, true, if◌then◌else◌, List, [], ◌∷◌, ◌++◌, length, map, slice_index_or, Some, is_some, Result, Ok, Err, false}
+use Rattle.std.specs.Prelude.{◌≡◌, ◌≢◌, ◌⊎◌, ℕ, ◌+◌, ◌<◌, ◌≤◌, All, true, if◌then◌else◌, List, []}
+use Rattle.std.specs.Prelude.{◌∷◌, ◌++◌, length, map, slice_index_or, Some, is_some, Result, Ok}
+use Rattle.std.specs.Prelude.{Err, false}
 use Rattle.std.specs.List.{list_all}
 use Rattle.std.specs.Global.{Vec}
 use Rattle.std.specs.declared.hash.BuildHasherDefault.{BuildHasherDefault}

@@ -1,5 +1,6 @@
 -- The rows of a certificate's tables among its parts.
-use Rattle.std.proofs.Common.{◌≡◌, ℕ, ◌<◌, ◌≤◌, ◌≢◌, false, List, [], ◌∷◌, ◌++◌, Option, None, Ok, Err, inl, inr, refl, sym, ap, ◌∙◌, arith, append_assoc, append-nil}
+use Rattle.std.proofs.Common.{◌≡◌, ℕ, ◌<◌, ◌≤◌, ◌≢◌, false, List, [], ◌∷◌, ◌++◌, Option, None, Ok}
+use Rattle.std.proofs.Common.{Err, inl, inr, refl, sym, ap, ◌∙◌, arith, append_assoc, append-nil}
 use Rattle.std.specs.Prelude.{map}
 use Rattle.tcc_graph.specs.declared.level.Level.{Level}
 use Rattle.tcc_graph.specs.declared.link.Link.{Link}
@@ -55,12 +56,14 @@ rows-before part.End rest = (refl, refl, refl)
 rows-more : (old new one rest both all : List (List ℕ)) → all ≡ old ++ both → both ≡ one ++ rest → new ≡ old ++ one → all ≡ new ++ rest
 rows-more old new one rest both all is split more = is ∙ ap (λ rows. old ++ rows) split ∙ sym (append_assoc old one rest) ∙ ap (λ rows. rows ++ rest) (sym more)
 
-pub kept-more : (old new : Tables) (given : Part) (ahead now rest : Parts) → IsKept old.clocks.items old.near.items old.far.items ahead now → now ≡ after_part given rest → HasRow given old new
+pub kept-more : (old new : Tables) (given : Part) (ahead now rest : Parts) → IsKept old.clocks.items old.near.items old.far.items ahead now
+    → now ≡ after_part given rest → HasRow given old new
     → IsKept new.clocks.items new.near.items new.far.items ahead rest
 kept-more old new given ahead now rest kept is more =
     let before = rows-before given rest.parts in
     record {
-      clocks_kept = rows-more old.clocks.items new.clocks.items _ _ _ _ (kept.clocks_kept ∙ ap (λ p. old.clocks.items ++ clocks_in p.parts) is) before.0 more.clocks;
+      clocks_kept =
+          rows-more old.clocks.items new.clocks.items _ _ _ _ (kept.clocks_kept ∙ ap (λ p. old.clocks.items ++ clocks_in p.parts) is) before.0 more.clocks;
       near_kept = rows-more old.near.items new.near.items _ _ _ _ (kept.near_kept ∙ ap (λ p. old.near.items ++ near_in p.parts) is) before.1 more.near;
       far_kept = rows-more old.far.items new.far.items _ _ _ _ (kept.far_kept ∙ ap (λ p. old.far.items ++ far_in p.parts) is) before.2 more.far;
       line = sym (ap (λ p. p.line) is) ∙ kept.line;
@@ -83,7 +86,8 @@ first-rest (part.Near row) ahead rest goes is = is
 first-rest (part.Far row) ahead rest goes is = is
 first-rest part.End ahead rest goes is = absurd cc
 
-pub kept-all : (tables : Tables) (ahead now : Parts) → IsKept tables.clocks.items tables.near.items tables.far.items ahead now → now ≡ ending now.line None → HasRowsOf ahead tables
+pub kept-all : (tables : Tables) (ahead now : Parts) → IsKept tables.clocks.items tables.near.items tables.far.items ahead now → now ≡ ending now.line None
+    → HasRowsOf ahead tables
 kept-all tables ahead now kept is =
     record {
       clocks = sym (kept.clocks_kept ∙ ap (λ p. tables.clocks.items ++ clocks_in p.parts) is ∙ append-nil tables.clocks.items);
@@ -97,18 +101,21 @@ told F kind (inl read) = inl (read.0, tt)
 told F kind (inr memory) = inr memory
 
 -- a fault among the parts that were left
-pub faults-end : {F : Type 0} (ahead now : Parts) (wanted : ℕ) (fault : CertFault) → now.line ≡ ahead.line → now.fault ≡ ahead.fault → 0 < wanted → FaultsIn F wanted now fault → EndsIn ahead fault
+pub faults-end : {F : Type 0} (ahead now : Parts) (wanted : ℕ) (fault : CertFault) → now.line ≡ ahead.line → now.fault ≡ ahead.fault → 0 < wanted
+    → FaultsIn F wanted now fault → EndsIn ahead fault
 faults-end ahead now wanted fault line same counted (inl is) = inl (sym same ∙ ap (λ p. p.fault) is, sym line ∙ ap (λ p. p.line) is)
 faults-end {F} ahead now wanted fault line same counted (inr cut) =
     inr (record { failure = told F fault.kind cut.failure; counted = omega (arith, counted, cut.first); last = omega (arith, cut.last, line) })
 
-within-in : {R : Type 0} (remaining : R → Option (List ℕ)) (input : Input R) (at : Phase) (ahead : Parts) → IsAheadIn remaining input at ahead → ended_in at ≡ false → fault_in at ≡ None → input.number ≤ ahead.line
+within-in : {R : Type 0} (remaining : R → Option (List ℕ)) (input : Input R) (at : Phase) (ahead : Parts) → IsAheadIn remaining input at ahead
+    → ended_in at ≡ false → fault_in at ≡ None → input.number ≤ ahead.line
 within-in remaining input (phase.Going s) ahead is going well = omega (arith, is.1.number, onward-stage s is.0 ahead is.2)
 within-in remaining input phase.Ended ahead is going well = absurd cc
 within-in remaining input (phase.Stopped fault) ahead is going well = absurd cc
 
 -- memory was refused behind a part
-pub refused-end : {R : Type 0} (remaining : R → Option (List ℕ)) (reader : CertReader R) (ahead now : Parts) (fault : CertFault) → now.line ≡ ahead.line → IsAhead remaining reader now → has_ended reader ≡ false → fault_met reader ≡ None
+pub refused-end : {R : Type 0} (remaining : R → Option (List ℕ)) (reader : CertReader R) (ahead now : Parts) (fault : CertFault) → now.line ≡ ahead.line
+    → IsAhead remaining reader now → has_ended reader ≡ false → fault_met reader ≡ None
     → 0 < fault.line → fault ≡ record { line = line_wanted reader; kind = NoMemory } → EndsIn ahead fault
 refused-end remaining reader ahead now fault line is going well counted refused =
     let within = within-in remaining reader.input reader.phase now is going well in
@@ -121,9 +128,11 @@ ends-read bytes fault (inl is) = inl (read-fault bytes fault is.0 is.1)
 ends-read bytes fault (inr cut) = inr (record { failure = cut.failure; first = omega (arith, cut.counted); last = omega (arith, cut.last, line-reached bytes) })
 
 -- a fault among the parts, where those before it were given
-pub read-faults : {F : Type 0} (bytes : List ℕ) (ahead : Parts) (wanted : ℕ) (fault : CertFault) → 0 < wanted → ahead.line ≡ (parts_read bytes).line → ahead.fault ≡ (parts_read bytes).fault → FaultsIn F wanted ahead fault
+pub read-faults : {F : Type 0} (bytes : List ℕ) (ahead : Parts) (wanted : ℕ) (fault : CertFault) → 0 < wanted → ahead.line ≡ (parts_read bytes).line
+    → ahead.fault ≡ (parts_read bytes).fault → FaultsIn F wanted ahead fault
     → IsReading bytes (Err fault)
-read-faults bytes ahead wanted fault counted line same faults = ends-read bytes fault (faults-end (parts_read bytes) ahead wanted fault line same counted faults)
+read-faults bytes ahead wanted fault counted line same faults =
+    ends-read bytes fault (faults-end (parts_read bytes) ahead wanted fault line same counted faults)
 
 clocks-of : (clocks : List (List ℕ)) → clocks_in (map part.Clocks clocks) ≡ clocks
 clocks-of [] = refl
@@ -146,7 +155,8 @@ far-of [] far = far-all far
 far-of (row ∷ near) far = far-of near far
 
 -- a claim of an order by its parts
-pub order-is : (c : Certificate) (version : Version) (level : Level) (order : List ℕ) (sessions : ℕ) (rest : List Part) (clocks : List (List ℕ)) → part.Order version level order sessions ∷ rest ≡ parts_of c → clocks ≡ clocks_in rest
+pub order-is : (c : Certificate) (version : Version) (level : Level) (order : List ℕ) (sessions : ℕ) (rest : List Part) (clocks : List (List ℕ))
+    → part.Order version level order sessions ∷ rest ≡ parts_of c → clocks ≡ clocks_in rest
     → c ≡ claim.Order version level order sessions clocks
 order-is (claim.Order v l o s cs) version level order sessions rest clocks is all =
     let tail : rest ≡ map part.Clocks cs = cc in
@@ -155,7 +165,8 @@ order-is (claim.Order v l o s cs) version level order sessions rest clocks is al
 order-is (claim.Cycle v l ls n ns fs) version level order sessions rest clocks is all = absurd cc
 
 -- a claim of a cycle by its parts
-pub cycle-is : (c : Certificate) (version : Version) (level : Level) (count : ℕ) (links : List Link) (least : ℕ) (rest : List Part) (near far : List (List ℕ)) → part.Cycle version level count links least ∷ rest ≡ parts_of c
+pub cycle-is : (c : Certificate) (version : Version) (level : Level) (count : ℕ) (links : List Link) (least : ℕ) (rest : List Part)
+    (near far : List (List ℕ)) → part.Cycle version level count links least ∷ rest ≡ parts_of c
     → near ≡ near_in rest → far ≡ far_in rest → c ≡ claim.Cycle version level links least near far
 cycle-is (claim.Order v l o s cs) version level count links least rest near far is all others = absurd cc
 cycle-is (claim.Cycle v l ls n ns fs) version level count links least rest near far is all others =
@@ -165,20 +176,24 @@ cycle-is (claim.Cycle v l ls n ns fs) version level count links least rest near 
     cc
 
 -- all parts were collected
-pub order-read : (bytes : List ℕ) (version : Version) (level : Level) (order : List ℕ) (sessions : ℕ) (rest : Parts) (tables : Tables) → parts_read bytes ≡ after_part (part.Order version level order sessions) rest → HasRowsOf rest tables
+pub order-read : (bytes : List ℕ) (version : Version) (level : Level) (order : List ℕ) (sessions : ℕ) (rest : Parts) (tables : Tables)
+    → parts_read bytes ≡ after_part (part.Order version level order sessions) rest → HasRowsOf rest tables
     → certificate_read bytes ≡ Ok (claim.Order version level order sessions tables.clocks.items)
 order-read bytes version level order sessions rest tables is has =
     let whole = read-whole bytes (ap (λ p. p.fault) is ∙ has.ended) in
     whole.1 ∙ ap Ok (order-is whole.0 version level order sessions rest.parts tables.clocks.items (sym (ap (λ p. p.parts) is) ∙ whole.2) has.clocks)
 
-pub cycle-read : (bytes : List ℕ) (version : Version) (level : Level) (count : ℕ) (links : List Link) (least : ℕ) (rest : Parts) (tables : Tables) → parts_read bytes ≡ after_part (part.Cycle version level count links least) rest → HasRowsOf rest tables
+pub cycle-read : (bytes : List ℕ) (version : Version) (level : Level) (count : ℕ) (links : List Link) (least : ℕ) (rest : Parts) (tables : Tables)
+    → parts_read bytes ≡ after_part (part.Cycle version level count links least) rest → HasRowsOf rest tables
     → certificate_read bytes ≡ Ok (claim.Cycle version level links least tables.near.items tables.far.items)
 cycle-read bytes version level count links least rest tables is has =
     let whole = read-whole bytes (ap (λ p. p.fault) is ∙ has.ended) in
-    whole.1 ∙ ap Ok (cycle-is whole.0 version level count links least rest.parts tables.near.items tables.far.items (sym (ap (λ p. p.parts) is) ∙ whole.2) has.near has.far)
+    whole.1 ∙ ap Ok (cycle-is whole.0 version level count links least rest.parts tables.near.items tables.far.items
+    (sym (ap (λ p. p.parts) is) ∙ whole.2) has.near has.far)
 
 -- a fault behind the first part is one of the whole text
-pub behind-end : (bytes : List ℕ) (first : Part) (rest : Parts) (fault : CertFault) → parts_read bytes ≡ after_part first rest → EndsIn rest fault → IsReading bytes (Err fault)
+pub behind-end : (bytes : List ℕ) (first : Part) (rest : Parts) (fault : CertFault) → parts_read bytes ≡ after_part first rest → EndsIn rest fault
+    → IsReading bytes (Err fault)
 behind-end bytes first rest fault is (inl end) = ends-read bytes fault (inl (ap (λ p. p.fault) is ∙ end.0, ap (λ p. p.line) is ∙ end.1))
 behind-end bytes first rest fault is (inr cut) =
     ends-read bytes fault (inr (record { failure = cut.failure; counted = cut.counted; last = omega (arith, cut.last, ap (λ p. p.line) is) }))

@@ -39,24 +39,48 @@ later-short : (v : Version) (numbers : List ℕ) → AreAtMost (ranges_of v).cos
 later-short One [] all = lit≤ tt
 later-short Two [] all = lit≤ tt
 later-short One (n ∷ numbers) all =
-    omega (arith, length-append (decimal n) (later (numbers_words numbers)), length-decimal-le 7 n (lit< tt) (omega (arith, all.0)) (omega (arith, all.0)), later-short One numbers all.1)
+    omega (
+      arith,
+      length-append (decimal n) (later (numbers_words numbers)),
+      length-decimal-le 7 n (lit< tt) (omega (arith, all.0)) (omega (arith, all.0)),
+      later-short One numbers all.1,
+    )
 later-short Two (n ∷ numbers) all =
-    omega (arith, length-append (decimal n) (later (numbers_words numbers)), length-decimal-le 8 n (lit< tt) (omega (arith, all.0)) (omega (arith, all.0)), later-short Two numbers all.1)
+    omega (
+      arith,
+      length-append (decimal n) (later (numbers_words numbers)),
+      length-decimal-le 8 n (lit< tt) (omega (arith, all.0)) (omega (arith, all.0)),
+      later-short Two numbers all.1,
+    )
 
-numbers-short : (v : Version) (numbers : List ℕ) → AreAtMost (ranges_of v).cost numbers → length numbers ≤ (ranges_of v).count → length (words_text (numbers_words numbers)) ≤ (ranges_of v).line_bytes
+numbers-short : (v : Version) (numbers : List ℕ) → AreAtMost (ranges_of v).cost numbers → length numbers ≤ (ranges_of v).count
+    → length (words_text (numbers_words numbers)) ≤ (ranges_of v).line_bytes
 numbers-short One [] all few = lit≤ tt
 numbers-short Two [] all few = lit≤ tt
 numbers-short One (n ∷ numbers) all few =
-    omega (arith, few, length-append (decimal n) (later (numbers_words numbers)), length-decimal-le 7 n (lit< tt) (omega (arith, all.0)) (omega (arith, all.0)), later-short One numbers all.1)
+    omega (
+      arith,
+      few,
+      length-append (decimal n) (later (numbers_words numbers)),
+      length-decimal-le 7 n (lit< tt) (omega (arith, all.0)) (omega (arith, all.0)),
+      later-short One numbers all.1,
+    )
 numbers-short Two (n ∷ numbers) all few =
-    omega (arith, few, length-append (decimal n) (later (numbers_words numbers)), length-decimal-le 8 n (lit< tt) (omega (arith, all.0)) (omega (arith, all.0)), later-short Two numbers all.1)
+    omega (
+      arith,
+      few,
+      length-append (decimal n) (later (numbers_words numbers)),
+      length-decimal-le 8 n (lit< tt) (omega (arith, all.0)) (omega (arith, all.0)),
+      later-short Two numbers all.1,
+    )
 
 at_most-less : (most more : ℕ) (numbers : List ℕ) → most ≤ more → AreAtMost most numbers → AreAtMost more numbers
 at_most-less most more [] le all = tt
 at_most-less most more (n ∷ numbers) le all = (omega (arith, all.0), at_most-less most more numbers le all.1)
 
 -- a row of a table
-pub row-back : (v : Version) (columns most : ℕ) (row : List ℕ) → most ≤ (ranges_of v).cost → columns ≤ (ranges_of v).count → length row ≡ columns → AreAtMost most row
+pub row-back : (v : Version) (columns most : ℕ) (row : List ℕ) → most ≤ (ranges_of v).cost → columns ≤ (ranges_of v).count → length row ≡ columns
+    → AreAtMost most row
     → IsReadBack v (numbers_line columns most) numbers_words row
 row-back v columns most row le few long all =
     let small : most < 2 ^ 64 = omega (arith, le, costs v) in

@@ -49,7 +49,10 @@ module _ {W : Type 0} (contents : W → Option (List ℕ)) where
       → IsSent s (contents old.out.now) old.outgoing (contents new.out.now) new.outgoing (line_text (numbers_words row)) → OnOk s (new.stage ≡ old.stage)
       → OnOk s (HasTaken contents before count (with_near k row) new)
   near_whole (Ok x) old new before count k row h none sent stage =
-      record { lines = subst (Sends before [] (contents new.out.now) new.outgoing) (sym (one_near count k row none)) (Sends-then h.lines sent); stage = stage ∙ h.stage }
+      record {
+        lines = subst (Sends before [] (contents new.out.now) new.outgoing) (sym (one_near count k row none)) (Sends-then h.lines sent);
+        stage = stage ∙ h.stage;
+      }
   near_whole (Err e) old new before count k row h none sent stage = tt
 
   pub near_part : {E : Type 0} (s : Result Unit E) (old new : CycleWriter W) (before : Option (List ℕ)) (count : ℕ) (k : CycleClaim) (row : List ℕ)
@@ -63,10 +66,14 @@ module _ {W : Type 0} (contents : W → Option (List ℕ)) where
   -- a row of `far`, behind the mark if it is the first
   pub far_whole : {E : Type 0} (s : Result Unit E) (old new : CycleWriter W) (before : Option (List ℕ)) (count : ℕ) (k : CycleClaim) (row : List ℕ)
       → HasTaken contents before count k old
-      → IsSent s (contents old.out.now) old.outgoing (contents new.out.now) new.outgoing (far_mark old.stage ++ line_text (numbers_words row)) → OnOk s (new.stage ≡ Far)
+      → IsSent s (contents old.out.now) old.outgoing (contents new.out.now) new.outgoing (far_mark old.stage ++ line_text (numbers_words row))
+      → OnOk s (new.stage ≡ Far)
       → OnOk s (HasTaken contents before count (with_far k row) new)
   far_whole (Ok x) old new before count k row h sent stage = record {
-    lines = subst (Sends before [] (contents new.out.now) new.outgoing) (ap (λ st. lines_text (given_lines count k) ++ (far_mark st ++ line_text (numbers_words row))) h.stage ∙ sym (one_far count k row)) (Sends-then h.lines sent);
+    lines =
+        subst (Sends before [] (contents new.out.now) new.outgoing)
+        (ap (λ st. lines_text (given_lines count k) ++ (far_mark st ++ line_text (numbers_words row))) h.stage ∙ sym (one_far count k row))
+        (Sends-then h.lines sent);
     stage = stage ∙ sym (stage_more k.far row);
   }
   far_whole (Err e) old new before count k row h sent stage = tt
@@ -77,7 +84,8 @@ module _ {W : Type 0} (contents : W → Option (List ℕ)) where
       → OnErr s (IsPart before (contents new.out.now) (lines_text (given_lines count (with_far k row))))
   far_part (Ok x) old new before count k row h sent = tt
   far_part (Err e) old new before count k row h sent =
-      subst (IsPart before (contents new.out.now)) (ap (λ st. lines_text (given_lines count k) ++ (far_mark st ++ line_text (numbers_words row))) h.stage ∙ sym (one_far count k row))
+      subst (IsPart before (contents new.out.now))
+      (ap (λ st. lines_text (given_lines count k) ++ (far_mark st ++ line_text (numbers_words row))) h.stage ∙ sym (one_far count k row))
       (Appends-part (Stops-then h.lines sent))
 
   -- the end
@@ -85,19 +93,25 @@ module _ {W : Type 0} (contents : W → Option (List ℕ)) where
       → Sends (contents old.out.now) old.outgoing (contents after) left (far_mark old.stage ++ line_text (codes "end" ∷ [])) → left ≡ []
       → Appends before (contents after) (certificate_text (claim.Cycle k.version k.level k.links k.least k.near k.far))
   end_whole old after left before k h sent none =
-      subst (Appends before (contents after)) (ap (λ st. lines_text (given_lines (length k.near) k) ++ (far_mark st ++ line_text (codes "end" ∷ []))) h.stage ∙ sym (whole_text k))
-      (Appends-whole (subst (λ l. Sends before [] (contents after) l (lines_text (given_lines (length k.near) k) ++ (far_mark old.stage ++ line_text (codes "end" ∷ [])))) none (Sends-then h.lines sent)))
+      subst (Appends before (contents after)) (ap (λ st. lines_text (given_lines (length k.near) k) ++ (far_mark st ++ line_text (codes "end" ∷ [])))
+      h.stage ∙ sym (whole_text k))
+      (Appends-whole (subst
+      (λ l. Sends before [] (contents after) l (lines_text (given_lines (length k.near) k) ++ (far_mark old.stage ++ line_text (codes "end" ∷ []))))
+      none (Sends-then h.lines sent)))
 
   pub end_part : (old : CycleWriter W) (after : W) (before : Option (List ℕ)) (k : CycleClaim) → HasTaken contents before (length k.near) k old
       → Stops (contents old.out.now) old.outgoing (contents after) (far_mark old.stage ++ line_text (codes "end" ∷ []))
       → IsPart before (contents after) (certificate_text (claim.Cycle k.version k.level k.links k.least k.near k.far))
   end_part old after before k h sent =
-      subst (IsPart before (contents after)) (ap (λ st. lines_text (given_lines (length k.near) k) ++ (far_mark st ++ line_text (codes "end" ∷ []))) h.stage ∙ sym (whole_text k))
+      subst (IsPart before (contents after)) (ap (λ st. lines_text (given_lines (length k.near) k) ++ (far_mark st ++ line_text (codes "end" ∷ []))) h.stage
+      ∙ sym (whole_text k))
       (Appends-part (Stops-then h.lines sent))
 
   -- the lines before the rows are on their way
-  pub begun : (before : Option (List ℕ)) (count : ℕ) (version : Version) (level : Level) (links : List Link) (least : ℕ) (w : CycleWriter W) (after : W) (left : List ℕ)
-      → Sends before [] (contents after) left (lines_text (begun_lines version level count links least)) → w.out.now ≡ after → w.outgoing ≡ left → w.stage ≡ Near
+  pub begun : (before : Option (List ℕ)) (count : ℕ) (version : Version) (level : Level) (links : List Link) (least : ℕ) (w : CycleWriter W) (after : W)
+      (left : List ℕ)
+      → Sends before [] (contents after) left (lines_text (begun_lines version level count links least)) → w.out.now ≡ after → w.outgoing ≡ left
+      → w.stage ≡ Near
       → HasTaken contents before count (record { version = version; level = level; links = links; least = least; near = []; far = [] }) w
   begun before count version level links least w after left sent out outgoing stage =
       let lines = begun_lines version level count links least in
@@ -110,10 +124,14 @@ module _ {W : Type 0} (contents : W → Option (List ℕ)) where
       }
 
   -- the rows up to the next one were given
-  pub near_next : (before : Option (List ℕ)) (count : ℕ) (k : CycleClaim) (rows : List (List ℕ)) (i : ℕ) (slice : List ℕ) (w : CycleWriter W) → take i rows ++ slice ∷ [] ≡ take (i + 1) rows
-      → HasTaken contents before count (with_near (record k { near = take i rows }) slice) w → HasTaken contents before count (record k { near = take (i + 1) rows }) w
+  pub near_next : (before : Option (List ℕ)) (count : ℕ) (k : CycleClaim) (rows : List (List ℕ)) (i : ℕ) (slice : List ℕ) (w : CycleWriter W)
+      → take i rows ++ slice ∷ [] ≡ take (i + 1) rows
+      → HasTaken contents before count (with_near (record k { near = take i rows }) slice) w
+      → HasTaken contents before count (record k { near = take (i + 1) rows }) w
   near_next before count k rows i slice w is h = subst (λ near. HasTaken contents before count (record k { near = near }) w) is h
 
-  pub far_next : (before : Option (List ℕ)) (count : ℕ) (k : CycleClaim) (rows : List (List ℕ)) (i : ℕ) (slice : List ℕ) (w : CycleWriter W) → take i rows ++ slice ∷ [] ≡ take (i + 1) rows
-      → HasTaken contents before count (with_far (record k { far = take i rows }) slice) w → HasTaken contents before count (record k { far = take (i + 1) rows }) w
+  pub far_next : (before : Option (List ℕ)) (count : ℕ) (k : CycleClaim) (rows : List (List ℕ)) (i : ℕ) (slice : List ℕ) (w : CycleWriter W)
+      → take i rows ++ slice ∷ [] ≡ take (i + 1) rows
+      → HasTaken contents before count (with_far (record k { far = take i rows }) slice) w
+      → HasTaken contents before count (record k { far = take (i + 1) rows }) w
   far_next before count k rows i slice w is h = subst (λ far. HasTaken contents before count (record k { far = far }) w) is h

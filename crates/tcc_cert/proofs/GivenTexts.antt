@@ -1,5 +1,7 @@
 -- The text of what was given, and one row more.
-use Rattle.std.proofs.Common.{◌≡◌, ℕ, ◌+◌, ◌<◌, List, [], ◌∷◌, ◌++◌, Option, length, refl, sym, ap, subst, ◌∙◌, append_assoc, append-nil, take, drop, get_or, take-append-drop, codes, decimal, flat_map}
+use Rattle.std.proofs.Common.{◌≡◌, ℕ, ◌+◌, ◌<◌, List, [], ◌∷◌, ◌++◌, Option, length, refl, sym, ap, subst, ◌∙◌}
+use Rattle.std.proofs.Common.{append_assoc, append-nil, take, drop, get_or, take-append-drop, codes, decimal}
+use Rattle.std.proofs.Common.flat_map
 use Rattle.std.proofs.lemmas.List.{map-append}
 use Rattle.std.proofs.lemmas.Grind.{take_at_read, flat_map-append}
 use Rattle.std.specs.Io.KnownBytes.{Appends}
@@ -32,7 +34,8 @@ near_text count k more none =
     let l = begun_lines k.version k.level count k.links k.least in
     apart l (table_lines (k.near ++ more)) (far_lines k.far)
     ∙ ap (λ t. lines_text l ++ (t ++ lines_text (far_lines k.far))) (rows_text k.near more)
-    ∙ last_of_two (lines_text l) (lines_text (table_lines k.near)) (lines_text (far_lines k.far)) (lines_text (table_lines more)) (ap (λ far. lines_text (far_lines far)) none)
+    ∙ last_of_two (lines_text l) (lines_text (table_lines k.near)) (lines_text (far_lines k.far)) (lines_text (table_lines more))
+    (ap (λ far. lines_text (far_lines far)) none)
     ∙ ap (λ t. t ++ lines_text (table_lines more)) (sym (apart l (table_lines k.near) (far_lines k.far)))
 
 pub one_near : (count : ℕ) (k : CycleClaim) (row : List ℕ) → k.far ≡ []
@@ -50,7 +53,8 @@ behind_far count k far t more =
     ∙ last_of_three (lines_text l) (lines_text (table_lines k.near)) (lines_text (far_lines k.far)) t
     ∙ ap (λ s. s ++ t) (sym (apart l (table_lines k.near) (far_lines k.far)))
 
-marked : (far : List (List ℕ)) (row : List ℕ) → lines_text (far_lines (far ++ row ∷ [])) ≡ lines_text (far_lines far) ++ (far_mark (stage_of far) ++ line_text (numbers_words row))
+marked : (far : List (List ℕ)) (row : List ℕ) → lines_text (far_lines (far ++ row ∷ [])) ≡ lines_text (far_lines far)
+    ++ (far_mark (stage_of far) ++ line_text (numbers_words row))
 marked [] row = ap (λ t. line_text (codes "far" ∷ []) ++ t) (append-nil (line_text (numbers_words row)))
 marked (x ∷ xs) row =
     ap (λ l. flat_map line_text ((codes "far" ∷ []) ∷ l)) (map-append numbers_words (x ∷ xs) (row ∷ []))
@@ -70,7 +74,8 @@ more_marked (x ∷ xs) more = (
 )
 
 -- the end
-ended : (far : List (List ℕ)) → lines_text ((codes "far" ∷ []) ∷ (table_lines far ++ (codes "end" ∷ []) ∷ [])) ≡ lines_text (far_lines far) ++ (far_mark (stage_of far) ++ line_text (codes "end" ∷ []))
+ended : (far : List (List ℕ)) → lines_text ((codes "far" ∷ []) ∷ (table_lines far ++ (codes "end" ∷ []) ∷ [])) ≡ lines_text (far_lines far)
+    ++ (far_mark (stage_of far) ++ line_text (codes "end" ∷ []))
 ended [] = ap (λ t. line_text (codes "far" ∷ []) ++ t) (append-nil (line_text (codes "end" ∷ [])))
 ended (x ∷ xs) =
     flat_map-append line_text ((codes "far" ∷ []) ∷ table_lines (x ∷ xs)) ((codes "end" ∷ []) ∷ [])
@@ -82,7 +87,8 @@ whole_text k =
     let l = begun_lines k.version k.level (length k.near) k.links k.least in
     let f = (codes "far" ∷ []) ∷ (table_lines k.far ++ (codes "end" ∷ []) ∷ []) in
     let m = far_mark (stage_of k.far) ++ line_text (codes "end" ∷ []) in
-    ap (λ r. line_text (header_words k.version k.level) ++ (line_text (codes "cycle" ∷ decimal (length k.near) ∷ decimal (length k.links) ∷ decimal k.least ∷ []) ++ lines_text r))
+    ap (λ r. line_text (header_words k.version k.level)
+    ++ (line_text (codes "cycle" ∷ decimal (length k.near) ∷ decimal (length k.links) ∷ decimal k.least ∷ []) ++ lines_text r))
     (sym (append_assoc (flat_map link_lines k.links) ((codes "near" ∷ []) ∷ []) (table_lines k.near ++ f)))
     ∙ apart l (table_lines k.near) f
     ∙ ap (λ s. lines_text l ++ (lines_text (table_lines k.near) ++ s)) (ended k.far)
@@ -100,14 +106,16 @@ part_early a b s t (n, h) = Appends-part (Stops-early t (drop n s, record { sent
 pub part_near : (a b : Option (List ℕ)) (count : ℕ) (k : CycleClaim) (rows : List (List ℕ)) (i : ℕ) → k.far ≡ []
     → IsPart a b (lines_text (given_lines count (record k { near = take i rows }))) → IsPart a b (lines_text (given_lines count (record k { near = rows })))
 part_near a b count k rows i none h =
-    rw (ap (λ near. lines_text (given_lines count (record k { near = near }))) (sym (take-append-drop i rows)) ∙ near_text count (record k { near = take i rows }) (drop i rows) none)
+    rw (ap (λ near. lines_text (given_lines count (record k { near = near }))) (sym (take-append-drop i rows))
+    ∙ near_text count (record k { near = take i rows }) (drop i rows) none)
     (part_early a b _ _ h)
 
 pub part_far : (a b : Option (List ℕ)) (count : ℕ) (k : CycleClaim) (rows : List (List ℕ)) (i : ℕ)
     → IsPart a b (lines_text (given_lines count (record k { far = take i rows }))) → IsPart a b (lines_text (given_lines count (record k { far = rows })))
 part_far a b count k rows i h =
     let more = more_marked (take i rows) (drop i rows) in
-    rw (ap (λ far. lines_text (given_lines count (record k { far = far }))) (sym (take-append-drop i rows)) ∙ behind_far count (record k { far = take i rows }) (take i rows ++ drop i rows) more.0 more.1)
+    rw (ap (λ far. lines_text (given_lines count (record k { far = far }))) (sym (take-append-drop i rows))
+    ∙ behind_far count (record k { far = take i rows }) (take i rows ++ drop i rows) more.0 more.1)
     (part_early a b _ _ h)
 
 -- the rows up to the next one
@@ -115,17 +123,22 @@ pub rows_more : (rows : List (List ℕ)) (i : ℕ) (row : List ℕ) → i < leng
 rows_more rows i row lt is = ap (λ y. take i rows ++ y ∷ []) is ∙ sym (take_at_read rows i row lt).1
 
 -- the rows up to the next one, whose numbers were lent
-pub rows_next : (rows : List (List ℕ)) (i : ℕ) (row slice : List ℕ) → slice ≡ row → i < length rows → row ≡ get_or rows i row → take i rows ++ slice ∷ [] ≡ take (i + 1) rows
+pub rows_next : (rows : List (List ℕ)) (i : ℕ) (row slice : List ℕ) → slice ≡ row → i < length rows → row ≡ get_or rows i row
+    → take i rows ++ slice ∷ [] ≡ take (i + 1) rows
 rows_next rows i row slice same lt is = ap (λ y. take i rows ++ y ∷ []) same ∙ rows_more rows i row lt is
 
 -- a part of the text up to the next row is one of the text up to the last
-pub part_near_row : (a b : Option (List ℕ)) (count : ℕ) (k : CycleClaim) (rows : List (List ℕ)) (i : ℕ) (slice : List ℕ) → k.far ≡ [] → take i rows ++ slice ∷ [] ≡ take (i + 1) rows
-    → IsPart a b (lines_text (given_lines count (with_near (record k { near = take i rows }) slice))) → IsPart a b (lines_text (given_lines count (record k { near = rows })))
+pub part_near_row : (a b : Option (List ℕ)) (count : ℕ) (k : CycleClaim) (rows : List (List ℕ)) (i : ℕ) (slice : List ℕ) → k.far ≡ []
+    → take i rows ++ slice ∷ [] ≡ take (i + 1) rows
+    → IsPart a b (lines_text (given_lines count (with_near (record k { near = take i rows }) slice)))
+    → IsPart a b (lines_text (given_lines count (record k { near = rows })))
 part_near_row a b count k rows i slice none is h =
     part_near a b count k rows (i + 1) none (subst (λ near. IsPart a b (lines_text (given_lines count (record k { near = near })))) is h)
 
-pub part_far_row : (a b : Option (List ℕ)) (count : ℕ) (k : CycleClaim) (rows : List (List ℕ)) (i : ℕ) (slice : List ℕ) → take i rows ++ slice ∷ [] ≡ take (i + 1) rows
-    → IsPart a b (lines_text (given_lines count (with_far (record k { far = take i rows }) slice))) → IsPart a b (lines_text (given_lines count (record k { far = rows })))
+pub part_far_row : (a b : Option (List ℕ)) (count : ℕ) (k : CycleClaim) (rows : List (List ℕ)) (i : ℕ) (slice : List ℕ)
+    → take i rows ++ slice ∷ [] ≡ take (i + 1) rows
+    → IsPart a b (lines_text (given_lines count (with_far (record k { far = take i rows }) slice)))
+    → IsPart a b (lines_text (given_lines count (record k { far = rows })))
 part_far_row a b count k rows i slice is h =
     part_far a b count k rows (i + 1) (subst (λ far. IsPart a b (lines_text (given_lines count (record k { far = far })))) is h)
 
@@ -133,7 +146,9 @@ part_far_row a b count k rows i slice is h =
 pub part_before_far : (a b : Option (List ℕ)) (count : ℕ) (k : CycleClaim) (far : List (List ℕ)) → k.far ≡ []
     → IsPart a b (lines_text (given_lines count k)) → IsPart a b (lines_text (given_lines count (record k { far = far })))
 part_before_far a b count k far none h =
-    subst (IsPart a b) (sym (behind_far count k far (lines_text (far_lines far)) (ap (λ f. lines_text (far_lines f) ++ lines_text (far_lines far)) (sym none)))) (part_early a b _ _ h)
+    subst (IsPart a b)
+    (sym (behind_far count k far (lines_text (far_lines far)) (ap (λ f. lines_text (far_lines f) ++ lines_text (far_lines far)) (sym none))))
+    (part_early a b _ _ h)
 
 -- a part of the text of what was given is one of the whole text
 pub part_given : (a b : Option (List ℕ)) (k : CycleClaim)
@@ -142,7 +157,8 @@ part_given a b k h = subst (IsPart a b) (sym (whole_text k)) (part_early a b _ _
 
 -- and so is one of the lines before the rows
 pub part_begun : (a b : Option (List ℕ)) (k : CycleClaim)
-    → IsPart a b (lines_text (begun_lines k.version k.level (length k.near) k.links k.least)) → IsPart a b (certificate_text (claim.Cycle k.version k.level k.links k.least k.near k.far))
+    → IsPart a b (lines_text (begun_lines k.version k.level (length k.near) k.links k.least))
+    → IsPart a b (certificate_text (claim.Cycle k.version k.level k.links k.least k.near k.far))
 part_begun a b k h =
     let begun = begun_lines k.version k.level (length k.near) k.links k.least in
     part_given a b k (subst (IsPart a b) (sym (flat_map-append line_text begun (table_lines k.near ++ far_lines k.far))) (part_early a b _ _ h))

@@ -1,5 +1,7 @@
 -- Lines among the bytes that wait and those that are still to come.
-use Rattle.std.proofs.Common.{◌≡◌, ℕ, ◌+◌, ◌-◌, ◌<◌, ◌≤◌, ◌⊎◌, Bool, true, false, not, cond, eqb, ltb, List, [], ◌∷◌, ◌++◌, length, take, drop, Option, None, Some, Ok, Err, refl, sym, ap, ◌∙◌, arith, append_assoc, append-nil, length-append, take-append-drop, inl, inr}
+use Rattle.std.proofs.Common.{◌≡◌, ℕ, ◌+◌, ◌-◌, ◌<◌, ◌≤◌, ◌⊎◌, Bool, true, false, not, cond, eqb, ltb, List, [], ◌∷◌, ◌++◌, length, take, drop}
+use Rattle.std.proofs.Common.{Option, None, Some, Ok, Err, refl, sym, ap, ◌∙◌, arith, append_assoc, append-nil, length-append, take-append-drop}
+use Rattle.std.proofs.Common.{inl, inr}
 use Rattle.std.specs.Prelude.{position}
 use Rattle.std.specs.Io.KnownBytes.{Consumes, IsAtEnd, prepend_known}
 use Rattle.std.proofs.lemmas.Bool.{cases_lt}
@@ -12,7 +14,8 @@ use Rattle.tcc_cert.specs.Reading.{line_length, line_of}
 
 -- ---- where a line ends
 
-goes_on : (front rest : List ℕ) → line_length (front ++ rest) ≡ cond (eqb (line_length front) (length front)) (length front + line_length rest) (line_length front)
+goes_on : (front rest : List ℕ) → line_length (front ++ rest)
+    ≡ cond (eqb (line_length front) (length front)) (length front + line_length rest) (line_length front)
 goes_on front rest = prefix_len-append (λ byte. not (eqb byte 10)) front rest
 
 pub length-within : (bytes : List ℕ) → line_length bytes ≤ length bytes
@@ -58,7 +61,9 @@ pub length-none : (bytes : List ℕ) (n : ℕ) → n ≤ length bytes → line_l
     → None ≡ position (λ byte. eqb byte 10) (take (length bytes - n) (drop n bytes)) → length bytes ≡ line_length bytes
 length-none bytes n within none is =
     let rest = drop n bytes in
-    let all = place-none (line_length rest) (length rest) (ltb (line_length rest) (length rest)) None refl (is ∙ ap (position (λ byte. eqb byte 10)) (from_place bytes n)) in
+    let all =
+    place-none (line_length rest) (length rest) (ltb (line_length rest) (length rest)) None refl
+    (is ∙ ap (position (λ byte. eqb byte 10)) (from_place bytes n)) in
     let le = length-within rest in
     let long = length-drop n bytes in
     let whole = searched-on bytes n within none in
@@ -66,7 +71,8 @@ length-none bytes n within none is =
 
 -- ---- the bytes that are still to come
 
-pub moved-in : (old new : Option (List ℕ)) (held more bytes : List ℕ) → prepend_known held old ≡ Some bytes → Consumes old new more → prepend_known (held ++ more) new ≡ Some bytes
+pub moved-in : (old new : Option (List ℕ)) (held more bytes : List ℕ) → prepend_known held old ≡ Some bytes → Consumes old new more
+    → prepend_known (held ++ more) new ≡ Some bytes
 moved-in None new held more bytes known read = absurd cc
 moved-in (Some xs) None held more bytes known read = absurd read
 moved-in (Some xs) (Some ys) held more bytes known read =
@@ -82,7 +88,8 @@ known-all (Some xs) held bytes known end =
     let is : bytes ≡ held ++ xs = cc in
     is ∙ ap (λ t. held ++ t) end ∙ append-nil held
 
-pub passed-front : (left : Option (List ℕ)) (held bytes : List ℕ) (n : ℕ) → n ≤ length held → prepend_known held left ≡ Some bytes → prepend_known (drop n held) left ≡ Some (drop n bytes)
+pub passed-front : (left : Option (List ℕ)) (held bytes : List ℕ) (n : ℕ) → n ≤ length held → prepend_known held left ≡ Some bytes
+    → prepend_known (drop n held) left ≡ Some (drop n bytes)
 passed-front None held bytes n within known = absurd cc
 passed-front (Some xs) held bytes n within known =
     let is : held ++ xs ≡ bytes = cc in
@@ -90,7 +97,8 @@ passed-front (Some xs) held bytes n within known =
 
 -- ---- the next line
 
-pub line-found : (most : ℕ) (held rest : List ℕ) → line_length held < length held → line_length held ≤ most → line_of most (held ++ rest) ≡ Ok (take (line_length held) held)
+pub line-found : (most : ℕ) (held rest : List ℕ) → line_length held < length held → line_length held ≤ most
+    → line_of most (held ++ rest) ≡ Ok (take (line_length held) held)
 line-found most held rest lt fits =
     let within : ltb most (line_length held) ≡ false = grind (arith, nat_tests) in
     let there : ltb (line_length held) (length (held ++ rest)) ≡ true = grind (arith, nat_tests, length-append held rest) in
@@ -107,7 +115,8 @@ line-too-long most held rest full =
     let over : ltb most (line_length (held ++ rest)) ≡ true = grind (arith, nat_tests) in
     rw over refl
 
-pub line-cut : (most : ℕ) (held more : List ℕ) → length more ≡ 0 → line_length held ≡ length held → length held ≤ most → line_of most (held ++ more) ≡ Err Truncated
+pub line-cut : (most : ℕ) (held more : List ℕ) → length more ≡ 0 → line_length held ≡ length held → length held ≤ most
+    → line_of most (held ++ more) ≡ Err Truncated
 line-cut most held [] end none short =
     let within : ltb most (length held) ≡ false = grind (arith, nat_tests) in
     let last : ltb (length held) (length held) ≡ false = grind (arith, nat_tests) in

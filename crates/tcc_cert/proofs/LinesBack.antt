@@ -37,11 +37,17 @@ words-above : (words : Words) → AreWords words → IsAbove 31 (words_text word
 words-above [] are = tt
 words-above (word ∷ words) are = IsAbove-append 31 word (later words) (IsAbove-less 32 31 word (lit≤ tt) are.1) (later-above words are.2)
 
-pub words-line : {X : Type 0} (v : Version) (form : Words → Result X CertFaultKind) (n : ℕ) (line : Words) (rest : List ℕ) → AreWords line → length (words_text line) ≤ (ranges_of v).line_bytes → (x : X) → form line ≡ Ok x
+pub words-line : {X : Type 0} (v : Version) (form : Words → Result X CertFaultKind) (n : ℕ) (line : Words) (rest : List ℕ) → AreWords line
+    → length (words_text line) ≤ (ranges_of v).line_bytes → (x : X) → form line ≡ Ok x
     → words v form (at n (line_text line ++ rest)) ≡ Ok (x, at (n + 1) rest)
 words-line v form n line rest are short x is =
     let split : line_text line ++ rest ≡ words_text line ++ 10 ∷ rest = append_assoc (words_text line) (10 ∷ []) rest in
-    rw (split, next-line (ranges_of v).line_bytes (λ bytes. form (words_of bytes)) n (words_text line) rest (words-above line are) short, words_of-words line are, is) refl
+    rw (
+      split,
+      next-line (ranges_of v).line_bytes (λ bytes. form (words_of bytes)) n (words_text line) rest (words-above line are) short,
+      words_of-words line are,
+      is,
+    ) refl
 
 -- a value whose line is read as it
 pub record IsReadBack {X : Type 0} (v : Version) (form : Words → Result X CertFaultKind) (spelled : X → Words) (x : X) : Type 0 where
@@ -53,7 +59,8 @@ pub record IsReadBack {X : Type 0} (v : Version) (form : Words → Result X Cert
 abbrev pub IsReadAt : {X : Type 0} → (Place → Reads X) → (X → List ℕ) → X → Type 0
 IsReadAt read text x = (n : ℕ) (rest : List ℕ) → (end : ℕ) × (read (at n (text x ++ rest)) ≡ Ok (x, at end rest))
 
-pub line-at : {X : Type 0} (v : Version) (form : Words → Result X CertFaultKind) (spelled : X → Words) (x : X) → IsReadBack v form spelled x → IsReadAt (words v form) (λ y. line_text (spelled y)) x
+pub line-at : {X : Type 0} (v : Version) (form : Words → Result X CertFaultKind) (spelled : X → Words) (x : X) → IsReadBack v form spelled x
+    → IsReadAt (words v form) (λ y. line_text (spelled y)) x
 line-at v form spelled x back n rest = (n + 1, words-line v form n (spelled x) rest back.are back.short x back.back)
 
 -- values that are read, one after the other

@@ -1,5 +1,7 @@
 -- Keys, steps and links are read as they were written.
-use Rattle.std.proofs.Common.{◌≡◌, ℕ, ◌+◌, ◌<◌, ◌≤◌, Bool, true, false, not, cond, eqb, ltb, List, [], ◌∷◌, ◌++◌, length, map, All, Option, Some, None, Ok, refl, ap, ◌∙◌, arith, append_assoc, append-nil, inl, inr, codes, decimal, lit<}
+use Rattle.std.proofs.Common.{◌≡◌, ℕ, ◌+◌, ◌<◌, ◌≤◌, Bool, true, false, not, cond, eqb, ltb, List, [], ◌∷◌, ◌++◌, length, map}
+use Rattle.std.proofs.Common.{All, Option, Some, None, Ok, refl, ap, ◌∙◌, arith, append_assoc, append-nil, inl, inr, codes}
+use Rattle.std.proofs.Common.{decimal, lit<}
 use Rattle.tcc_cert.specs.declared.version.Version.{Version}
 use Rattle.tcc_cert.specs.Ranges.{ranges_of}
 use Rattle.std.specs.Prelude.{nat_le, position, option_map}
@@ -76,7 +78,17 @@ reads-back v a b key h =
     let second = number-word v b h.1 in
     record {
       are = (lit< tt, (lit< tt, tt), (first.0, first.1, (second.0, second.1, (k.0, k.2, tt))));
-      short = omega (arith, lines v, length-append (decimal a) (later (decimal b ∷ key ∷ [])), length-append (decimal b) (later (key ∷ [])), length-append key [], four_digits v a h.0, four_digits v b h.1, k.1);
+      short =
+          omega (
+            arith,
+            lines v,
+            length-append (decimal a) (later (decimal b ∷ key ∷ [])),
+            length-append (decimal b) (later (key ∷ [])),
+            length-append key [],
+            four_digits v a h.0,
+            four_digits v b h.1,
+            k.1,
+          );
       back = rw (number-back v a h.0, number-back v b h.1, h.2) refl;
     }
 
@@ -94,26 +106,41 @@ pub walk-at : (v : Version) (walk : List Step) → All (HasStepText v) walk → 
     → (end : ℕ) × (repeated (words v (step_line v)) (length walk) (at n (lines_text (map step_words walk) ++ rest)) ≡ Ok (walk, at end rest))
 walk-at v walk h n rest =
     rw (flat_map-map line_text step_words walk)
-    (repeated-back (words v (step_line v)) (λ s. line_text (step_words s)) walk (each walk (λ s t. line-at v (step_line v) step_words s (step-back v s t)) (recursion_from_All (HasStepText v) walk h)) n rest)
+    (repeated-back (words v (step_line v)) (λ s. line_text (step_words s)) walk
+    (each walk (λ s t. line-at v (step_line v) step_words s (step-back v s t)) (recursion_from_All (HasStepText v) walk h)) n rest)
 
 session-head : (v : Version) (a b : ℕ) → HasStepText v (step.Session a b) → head_line v (step_words (step.Session a b)) ≡ Ok (head_of_step (step.Session a b))
 session-head v a b h = rw (number-back v a h.0, number-back v b h.1) refl
 
-reads-head : (v : Version) (a b : ℕ) (key : List ℕ) → HasStepText v (step.Reads a b key) → head_line v (step_words (step.Reads a b key)) ≡ Ok (head_of_step (step.Reads a b key))
+reads-head : (v : Version) (a b : ℕ) (key : List ℕ) → HasStepText v (step.Reads a b key)
+    → head_line v (step_words (step.Reads a b key)) ≡ Ok (head_of_step (step.Reads a b key))
 reads-head v a b key h = rw (number-back v a h.0, number-back v b h.1, h.2) refl
 
 abbrev derived_words : ℕ → ℕ → List ℕ → ℕ → ℕ → Words
 derived_words b a key c w = codes "D" ∷ decimal b ∷ decimal a ∷ key ∷ decimal c ∷ decimal w ∷ []
 
-derived-are : (v : Version) (b a : ℕ) (key : List ℕ) (c w : ℕ) → IsNumber v b → IsNumber v a → IsKey key → IsNumber v c → IsCount v w → AreWords (derived_words b a key c w)
+derived-are : (v : Version) (b a : ℕ) (key : List ℕ) (c w : ℕ) → IsNumber v b → IsNumber v a → IsKey key → IsNumber v c → IsCount v w
+    → AreWords (derived_words b a key c w)
 derived-are v b a key c w hb ha hk hc hw =
     let k = key-parts key hk in
     let first = number-word v b hb in
     let second = number-word v a ha in
-    let third = number-word v c hc in
-    (lit< tt, (lit< tt, tt), (first.0, first.1, (second.0, second.1, (k.0, k.2, (third.0, third.1, (decimal_nonempty w (omega (arith, hw.limit, counts v)), decimal-above w (omega (arith, hw.limit, counts v)), tt))))))
+    let third = number-word v c hc in (
+      lit< tt,
+      (lit< tt, tt),
+      (
+        first.0,
+        first.1,
+        (
+          second.0,
+          second.1,
+          (k.0, k.2, (third.0, third.1, (decimal_nonempty w (omega (arith, hw.limit, counts v)), decimal-above w (omega (arith, hw.limit, counts v)), tt))),
+        ),
+      ),
+    )
 
-derived-short : (v : Version) (b a : ℕ) (key : List ℕ) (c w : ℕ) → IsNumber v b → IsNumber v a → IsKey key → IsNumber v c → IsCount v w → length (words_text (derived_words b a key c w)) ≤ (ranges_of v).line_bytes
+derived-short : (v : Version) (b a : ℕ) (key : List ℕ) (c w : ℕ) → IsNumber v b → IsNumber v a → IsKey key → IsNumber v c → IsCount v w
+    → length (words_text (derived_words b a key c w)) ≤ (ranges_of v).line_bytes
 derived-short v b a key c w hb ha hk hc hw =
     let k = key-parts key hk in
     omega (
@@ -152,7 +179,8 @@ link-back v (link.Session a b) h n rest =
     (n + 1, ap (λ bytes. link_at v (at n bytes)) (one_line (line_text (step_words (step.Session a b))) rest) ∙ then_ok (walk_of v) head)
 link-back v (link.Reads a b key) h n rest =
     let back = reads-back v a b key h in
-    let head = words-line v (head_line v) n (step_words (step.Reads a b key)) rest back.are back.short (head_of_step (step.Reads a b key)) (reads-head v a b key h) in
+    let head =
+    words-line v (head_line v) n (step_words (step.Reads a b key)) rest back.are back.short (head_of_step (step.Reads a b key)) (reads-head v a b key h) in
     (n + 1, ap (λ bytes. link_at v (at n bytes)) (one_line (line_text (step_words (step.Reads a b key))) rest) ∙ then_ok (walk_of v) head)
 link-back v (link.Derived b a key c walk) h n rest =
     let later_lines = lines_text (map step_words walk) ++ rest in

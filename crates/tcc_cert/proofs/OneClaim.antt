@@ -1,5 +1,7 @@
 -- A certificate that was read has a text, and was read from that text alone.
-use Rattle.std.proofs.Common.{◌≡◌, ◌⊎◌, ℕ, ◌^◌, ◌-◌, ◌<◌, ◌≤◌, true, false, cond, eqb, List, [], ◌∷◌, ◌++◌, length, flat_map, All, Result, Ok, Err, inl, inr, refl, sym, ap, subst, ◌∙◌, arith, append_assoc, codes, decimal}
+use Rattle.std.proofs.Common.{◌≡◌, ◌⊎◌, ℕ, ◌^◌, ◌-◌, ◌<◌, ◌≤◌, true, false, cond, eqb, List, [], ◌∷◌, ◌++◌, length}
+use Rattle.std.proofs.Common.{flat_map, All, Result, Ok, Err, inl, inr, refl, sym, ap, subst, ◌∙◌, arith, append_assoc}
+use Rattle.std.proofs.Common.{codes, decimal}
 use Rattle.tcc_graph.specs.declared.level.Level.{Level}
 use Rattle.tcc_graph.specs.declared.level.Level.TheVariants.{Causal, Atomic}
 use Rattle.tcc_cert.specs.declared.version.Version.{Version}
@@ -18,31 +20,45 @@ use Rattle.tcc_cert.specs.declared.fault.CertFaultKind.TheVariants.{Header, Word
 use Rattle.tcc_cert.specs.declared.reading.forms.Sizes.{Sizes}
 use Rattle.tcc_cert.specs.declared.reading.forms.Sizes.TheVariants.{Order, Cycle}
 use Rattle.tcc_cert.specs.Tables.{lowest}
-use Rattle.tcc_cert.specs.Texts.{Words, line_text, lines_text, numbers_words, table_lines, link_lines, header_words, clocks_lines, claim_lines, header_of, certificate_text, IsNumber, IsCount, HasTableText, HasClocksText, HasText, HasLinkText}
-use Rattle.tcc_cert.specs.Reading.{count_of, number_of, word_line, numbers_line, two_words, three_words, order_sizes, cycle_sizes, sizes_line, Place, next, words, repeated, header_line, link_at, table_at, clocks_at, order_at, cycle_at, claim_at, behind_header, certificate_at, start_of, certificate_read}
+use Rattle.tcc_cert.specs.Texts.{Words, line_text, lines_text, numbers_words, table_lines, link_lines, header_words, clocks_lines}
+use Rattle.tcc_cert.specs.Texts.{claim_lines, header_of, certificate_text, IsNumber, IsCount, HasTableText, HasClocksText, HasText}
+use Rattle.tcc_cert.specs.Texts.HasLinkText
+use Rattle.tcc_cert.specs.Reading.{count_of, number_of, word_line, numbers_line, two_words, three_words}
+use Rattle.tcc_cert.specs.Reading.{order_sizes, cycle_sizes, sizes_line, Place, next, words, repeated}
+use Rattle.tcc_cert.specs.Reading.{header_line, link_at, table_at, clocks_at, order_at, cycle_at, claim_at}
+use Rattle.tcc_cert.specs.Reading.{behind_header, certificate_at, start_of, certificate_read}
 use Rattle.tcc_cert.proofs.Items.{flat_map-map, flat_map-flat_map}
 use Rattle.tcc_cert.proofs.RangeFacts.{costs, numbers, sessions_are}
 use Rattle.tcc_cert.proofs.Numbered.{each-one, from-widths, same-each}
 use Rattle.tcc_cert.proofs.ClaimsBack.{order_text, cycle_text}
-use Rattle.tcc_cert.proofs.OneText.{then_parts, allowed_parts, same_ok, same_pair, number-text, count, same-bytes, two_parts, three_parts, two_equal, three_equal, choice, mark, row-text, next-text, words-text, IsReadFrom, numbered-text, repeated-text, link-from}
+use Rattle.tcc_cert.proofs.OneText.{then_parts, allowed_parts, same_ok, same_pair, number-text, count, same-bytes, two_parts, three_parts}
+use Rattle.tcc_cert.proofs.OneText.{two_equal, three_equal, choice, mark, row-text, next-text, words-text, IsReadFrom, numbered-text}
+use Rattle.tcc_cert.proofs.OneText.{repeated-text, link-from}
 
 -- ---- tables
 
 abbrev pub IsRowText : ℕ → ℕ → List ℕ → Type 0
 IsRowText columns most row = (length row ≡ columns) × AllByRecursion (λ n. n ≤ most) row
 
-row-from : (v : Version) (columns most : ℕ) → most < 2 ^ 64 → IsReadFrom (words v (numbers_line columns most)) (IsRowText columns most) (λ row. line_text (numbers_words row))
+row-from : (v : Version) (columns most : ℕ) → most < 2 ^ 64 → IsReadFrom (words v (numbers_line columns most)) (IsRowText columns most)
+    (λ row. line_text (numbers_words row))
 row-from v columns most small at after row e =
     let line = words-text v (numbers_line columns most) at after row e in
     let is = row-text columns most line.0 row small line.1 in
     ((is.0, is.1.high), line.2 ∙ ap (λ ws. line_text ws ++ after.bytes) is.1.text)
 
-table-text : (v : Version) (rows : ℕ) (columns : ℕ → ℕ) (most : ℕ) (at after : Place) (table : List (List ℕ)) → most < 2 ^ 64 → table_at v rows columns most at ≡ Ok (table, after)
+table-text : (v : Version) (rows : ℕ) (columns : ℕ → ℕ) (most : ℕ) (at after : Place) (table : List (List ℕ)) → most < 2 ^ 64
+    → table_at v rows columns most at ≡ Ok (table, after)
     → HasTableText rows columns most table × (at.bytes ≡ lines_text (table_lines table) ++ after.bytes)
 table-text v rows columns most at after table small e =
-    let read = numbered-text (λ i. words v (numbers_line (columns i) most)) (λ i. IsRowText (columns i) most) (λ row. line_text (numbers_words row)) (λ i. row-from v (columns i) most small) 0 rows at after table e in
+    let read =
+    numbered-text (λ i. words v (numbers_line (columns i) most)) (λ i. IsRowText (columns i) most) (λ row. line_text (numbers_words row))
+    (λ i. row-from v (columns i) most small) 0 rows at after table e in
     let wide = from-widths columns 0 table (each-one (λ i. IsRowText (columns i) most) (λ i row. length row ≡ columns i) 0 table (λ i row p. p.0) read.0) in
-    let capped = same-each (λ row. All (λ n. n ≤ most) row) 0 table (each-one (λ i. IsRowText (columns i) most) (λ i row. All (λ n. n ≤ most) row) 0 table (λ i row p. All-from_recursion (λ n. n ≤ most) row p.1) read.0) in (
+    let capped =
+    same-each (λ row. All (λ n. n ≤ most) row) 0 table
+    (each-one (λ i. IsRowText (columns i) most) (λ i row. All (λ n. n ≤ most) row) 0 table
+    (λ i row p. All-from_recursion (λ n. n ≤ most) row p.1) read.0) in (
       record {
         size = record { long = read.1; wide = λ s lt. wide s (omega (arith, lt, read.1)) ∙ ap columns (omega arith) };
         capped = All-from_recursion (λ row. All (λ n. n ≤ most) row) table capped;
@@ -58,7 +74,8 @@ number-small v = omega (arith, numbers v)
 
 -- ---- marks
 
-mark-text : (v : Version) (wanted : List ℕ) (at after : Place) (done : Unit {0}) → words v (word_line wanted) at ≡ Ok (done, after) → at.bytes ≡ line_text (wanted ∷ []) ++ after.bytes
+mark-text : (v : Version) (wanted : List ℕ) (at after : Place) (done : Unit {0}) → words v (word_line wanted) at ≡ Ok (done, after)
+    → at.bytes ≡ line_text (wanted ∷ []) ++ after.bytes
 mark-text v wanted at after done e =
     let line = words-text v (word_line wanted) at after done e in
     line.2 ∙ ap (λ ws. line_text ws ++ after.bytes) (mark wanted line.0 done line.1)
@@ -70,8 +87,11 @@ clocks-text : (v : Version) (level : Level) (n s : ℕ) (at after : Place) (cloc
 clocks-text v Causal n s at after clocks e =
     let first = then_parts (words v (word_line (codes "clocks")) at) _ (clocks, after) e in
     let middle = mark-text v (codes "clocks") at first.0.1 first.0.0 first.1 in
-    let table = table-text v n (λ t. s) (ranges_of v).number first.0.1 after clocks (number-small v) first.2 in
-    (table.0, middle ∙ ap (λ t. line_text (codes "clocks" ∷ []) ++ t) table.1 ∙ sym (append_assoc (line_text (codes "clocks" ∷ [])) (lines_text (table_lines clocks)) after.bytes))
+    let table = table-text v n (λ t. s) (ranges_of v).number first.0.1 after clocks (number-small v) first.2 in (
+      table.0,
+      middle ∙ ap (λ t. line_text (codes "clocks" ∷ []) ++ t) table.1
+          ∙ sym (append_assoc (line_text (codes "clocks" ∷ [])) (lines_text (table_lines clocks)) after.bytes),
+    )
 clocks-text v Atomic n s at after clocks e =
     let is = same_pair e in
     (sym is.0, ap (λ p. p.bytes) is.1)
@@ -85,7 +105,8 @@ pub record IsOrderText (v : Version) (level : Level) (n s : ℕ) (at : Place) (c
   pub table : HasClocksText v level n s clocks
   pub text : at.bytes ≡ lines_text (numbers_words order ∷ (clocks_lines level clocks ++ (codes "end" ∷ []) ∷ []))
 
-order-read : (v : Version) (level : Level) (n s : ℕ) (at after : Place) (certificate : Certificate) → order_at v level n s at ≡ Ok (certificate, after) → after.bytes ≡ [] → IsOrderText v level n s at certificate
+order-read : (v : Version) (level : Level) (n s : ℕ) (at after : Place) (certificate : Certificate) → order_at v level n s at ≡ Ok (certificate, after)
+    → after.bytes ≡ [] → IsOrderText v level n s at certificate
 order-read v level n s at after certificate e end =
     let first = then_parts (words v (numbers_line n (ranges_of v).number) at) _ (certificate, after) e in
     let second = then_parts (clocks_at v level n s first.0.1) _ (certificate, after) first.2 in
@@ -122,9 +143,11 @@ pub record IsCycleText (v : Version) (level : Level) (n m l : ℕ) (at : Place) 
   pub each_link : All (HasLinkText v) links
   pub near_table : HasTableText n (λ a. n) (ranges_of v).cost near
   pub far_table : HasTableText n (λ s. n - lowest v s) (ranges_of v).cost far
-  pub text : at.bytes ≡ lines_text (flat_map link_lines links ++ (codes "near" ∷ []) ∷ (table_lines near ++ (codes "far" ∷ []) ∷ (table_lines far ++ (codes "end" ∷ []) ∷ [])))
+  pub text : at.bytes
+      ≡ lines_text (flat_map link_lines links ++ (codes "near" ∷ []) ∷ (table_lines near ++ (codes "far" ∷ []) ∷ (table_lines far ++ (codes "end" ∷ []) ∷ [])))
 
-cycle-read : (v : Version) (level : Level) (n m l : ℕ) (at after : Place) (certificate : Certificate) → cycle_at v level n m l at ≡ Ok (certificate, after) → after.bytes ≡ [] → IsCycleText v level n m l at certificate
+cycle-read : (v : Version) (level : Level) (n m l : ℕ) (at after : Place) (certificate : Certificate) → cycle_at v level n m l at ≡ Ok (certificate, after)
+    → after.bytes ≡ [] → IsCycleText v level n m l at certificate
 cycle-read v level n m l at after certificate e end =
     let first = then_parts (repeated (link_at v) m at) _ (certificate, after) e in
     let second = then_parts (words v (word_line (codes "near")) first.0.1) _ (certificate, after) first.2 in
@@ -188,7 +211,8 @@ cycle-sizes v a b c sizes e =
     subst (IsSizesText v (codes "cycle" ∷ a ∷ b ∷ c ∷ [])) (same_ok third.2) (n.1, m.1, l.high, three_equal (codes "cycle") n.0 m.0 l.text)
 
 sizes-choice : (v : Version) (word : List ℕ) (fields : Words) (sizes : Sizes)
-    → ((same word (codes "order") ≡ true) × (two_words (order_sizes v) fields ≡ Ok sizes)) ⊎ ((same word (codes "order") ≡ false) × (cond (same word (codes "cycle")) (three_words (cycle_sizes v) fields) (Err Word) ≡ Ok sizes))
+    → ((same word (codes "order") ≡ true) × (two_words (order_sizes v) fields ≡ Ok sizes))
+    ⊎ ((same word (codes "order") ≡ false) × (cond (same word (codes "cycle")) (three_words (cycle_sizes v) fields) (Err Word) ≡ Ok sizes))
     → IsSizesText v (word ∷ fields) sizes
 sizes-choice v word fields sizes (inl is) =
     let parts = two_parts (order_sizes v) fields sizes is.1 in
@@ -214,7 +238,8 @@ header-or : (line text : List ℕ) (said : Version × Level) (rest : Result (Ver
     → cond (same line text) (Ok said) rest ≡ Ok header → line ++ 10 ∷ [] ≡ header_text header
 header-or line text said rest header spelled later e = go (choice (same line text) (Ok said) rest (Ok header) e)
   where
-    go : ((same line text ≡ true) × ◌≡◌ {A = Result (Version × Level) CertFaultKind} (Ok said) (Ok header)) ⊎ ((same line text ≡ false) × (rest ≡ Ok header)) → line ++ 10 ∷ [] ≡ header_text header
+    go : ((same line text ≡ true) × ◌≡◌ {A = Result (Version × Level) CertFaultKind} (Ok said) (Ok header))
+        ⊎ ((same line text ≡ false) × (rest ≡ Ok header)) → line ++ 10 ∷ [] ≡ header_text header
     go (inl is) = ap (λ l. l ++ 10 ∷ []) (same-bytes line text is.0) ∙ sym spelled ∙ ap header_text (same_ok is.1)
     go (inr is) = later is.1
 
@@ -225,7 +250,8 @@ header-line line header e =
     (header-or line (codes "tcc-certificate 2 causal") (Two, Causal) _ header refl
     (header-or line (codes "tcc-certificate 2 atomic") (Two, Atomic) (Err Header) header refl (λ none. absurd cc)))) e
 
-header-read : (at after : Place) (header : Version × Level) → next MAX_HEADER_BYTES header_line at ≡ Ok (header, after) → at.bytes ≡ header_text header ++ after.bytes
+header-read : (at after : Place) (header : Version × Level) → next MAX_HEADER_BYTES header_line at ≡ Ok (header, after)
+    → at.bytes ≡ header_text header ++ after.bytes
 header-read at after header e =
     let line = next-text MAX_HEADER_BYTES header_line at after header e in
     line.2 ∙ sym (append_assoc line.0 (10 ∷ []) after.bytes) ∙ ap (λ l. l ++ after.bytes) (header-line line.0 header line.1)
@@ -236,7 +262,8 @@ header-read at after header e =
 abbrev pub IsWhole : Version → Level → List ℕ → Certificate → Type 0
 IsWhole v level text certificate = HasText certificate × (header_of certificate ≡ header_words v level) × (text ≡ lines_text (claim_lines certificate))
 
-order-whole : (v : Version) (level : Level) (n s : ℕ) (at : Place) (ws : Words) (text : List ℕ) (certificate : Certificate) → IsSizesText v ws (Order n s) → text ≡ line_text ws ++ at.bytes → IsOrderText v level n s at certificate
+order-whole : (v : Version) (level : Level) (n s : ℕ) (at : Place) (ws : Words) (text : List ℕ) (certificate : Certificate) → IsSizesText v ws (Order n s)
+    → text ≡ line_text ws ++ at.bytes → IsOrderText v level n s at certificate
     → IsWhole v level text certificate
 order-whole v level n s at ws text certificate sizes is o =
     let has : HasText (claim.Order v level o.order s o.clocks) = record {
@@ -249,7 +276,8 @@ order-whole v level n s at ws text certificate sizes is o =
     is ∙ ap (λ w. line_text w ++ at.bytes) sizes.2 ∙ rw o.count (ap (λ t. line_text (codes "order" ∷ decimal n ∷ decimal s ∷ []) ++ t) o.text) in
     subst (IsWhole v level text) o.is (has, refl, whole)
 
-cycle-whole : (v : Version) (level : Level) (n m l : ℕ) (at : Place) (ws : Words) (text : List ℕ) (certificate : Certificate) → IsSizesText v ws (Cycle n m l) → text ≡ line_text ws ++ at.bytes → IsCycleText v level n m l at certificate
+cycle-whole : (v : Version) (level : Level) (n m l : ℕ) (at : Place) (ws : Words) (text : List ℕ) (certificate : Certificate)
+    → IsSizesText v ws (Cycle n m l) → text ≡ line_text ws ++ at.bytes → IsCycleText v level n m l at certificate
     → IsWhole v level text certificate
 cycle-whole v level n m l at ws text certificate sizes is o =
     let rows : length o.near ≡ n = o.near_table.size.long in
@@ -262,20 +290,25 @@ cycle-whole v level n m l at ws text certificate sizes is o =
       far = subst (λ k. HasTableText k (λ s. k - lowest v s) (ranges_of v).cost o.far) (sym rows) o.far_table;
     } in
     let whole : text ≡ lines_text (claim_lines (claim.Cycle v level o.links l o.near o.far)) =
-    is ∙ ap (λ w. line_text w ++ at.bytes) sizes.3 ∙ rw (o.count, rows) (ap (λ t. line_text (codes "cycle" ∷ decimal n ∷ decimal m ∷ decimal l ∷ []) ++ t) o.text) in
+    is ∙ ap (λ w. line_text w ++ at.bytes) sizes.3 ∙ rw (o.count, rows)
+    (ap (λ t. line_text (codes "cycle" ∷ decimal n ∷ decimal m ∷ decimal l ∷ []) ++ t) o.text) in
     subst (IsWhole v level text) o.is (has, refl, whole)
 
-claim-whole : (v : Version) (level : Level) (sizes : Sizes) (at after : Place) (ws : Words) (text : List ℕ) (certificate : Certificate) → IsSizesText v ws sizes → text ≡ line_text ws ++ at.bytes → claim_at v level sizes at ≡ Ok (certificate, after) → after.bytes ≡ []
+claim-whole : (v : Version) (level : Level) (sizes : Sizes) (at after : Place) (ws : Words) (text : List ℕ) (certificate : Certificate)
+    → IsSizesText v ws sizes → text ≡ line_text ws ++ at.bytes → claim_at v level sizes at ≡ Ok (certificate, after) → after.bytes ≡ []
     → IsWhole v level text certificate
-claim-whole v level (Order n s) at after ws text certificate sizes is e end = order-whole v level n s at ws text certificate sizes is (order-read v level n s at after certificate e end)
-claim-whole v level (Cycle n m l) at after ws text certificate sizes is e end = cycle-whole v level n m l at ws text certificate sizes is (cycle-read v level n m l at after certificate e end)
+claim-whole v level (Order n s) at after ws text certificate sizes is e end =
+    order-whole v level n s at ws text certificate sizes is (order-read v level n s at after certificate e end)
+claim-whole v level (Cycle n m l) at after ws text certificate sizes is e end =
+    cycle-whole v level n m l at ws text certificate sizes is (cycle-read v level n m l at after certificate e end)
 
 no-bytes : (bytes : List ℕ) → eqb (length bytes) 0 ≡ true → bytes ≡ []
 no-bytes [] e = refl
 no-bytes (byte ∷ bytes) e = absurd (grind (arith, nat_tests))
 
 -- what was read has one text, that from which it was read
-pub one-text : (bytes : List ℕ) (certificate : Certificate) → certificate_read bytes ≡ Ok certificate → HasText certificate × (bytes ≡ certificate_text certificate)
+pub one-text : (bytes : List ℕ) (certificate : Certificate) → certificate_read bytes ≡ Ok certificate
+    → HasText certificate × (bytes ≡ certificate_text certificate)
 one-text bytes certificate e =
     let read = then_parts (certificate_at (start_of bytes)) _ certificate e in
     let last = allowed_parts (eqb (length read.0.1.bytes) 0) (record { line = read.0.1.line; kind = Trailing }) (Ok read.0.0) certificate read.2 in
@@ -284,7 +317,10 @@ one-text bytes certificate e =
     let level = header.0.0.1 in
     let sizes = then_parts (words v (sizes_line v) header.0.1) _ read.0 header.2 in
     let line = words-text v (sizes_line v) header.0.1 sizes.0.1 sizes.0.0 sizes.1 in
-    let whole = claim-whole v level sizes.0.0 sizes.0.1 read.0.1 line.0 header.0.1.bytes read.0.0 (sizes-text v line.0 sizes.0.0 line.1) line.2 sizes.2 (no-bytes read.0.1.bytes last.0) in
+    let whole =
+    claim-whole v level sizes.0.0 sizes.0.1 read.0.1 line.0 header.0.1.bytes read.0.0 (sizes-text v line.0 sizes.0.0 line.1) line.2 sizes.2
+    (no-bytes read.0.1.bytes last.0) in
     let text : bytes ≡ certificate_text read.0.0 =
-    header-read (start_of bytes) header.0.1 header.0.0 header.1 ∙ ap (λ t. line_text (header_words v level) ++ t) whole.2 ∙ ap (λ words. line_text words ++ lines_text (claim_lines read.0.0)) (sym whole.1) in
+    header-read (start_of bytes) header.0.1 header.0.0 header.1 ∙ ap (λ t. line_text (header_words v level) ++ t) whole.2
+    ∙ ap (λ words. line_text words ++ lines_text (claim_lines read.0.0)) (sym whole.1) in
     subst (λ c. HasText c × (bytes ≡ certificate_text c)) (same_ok last.1) (whole.0, text)

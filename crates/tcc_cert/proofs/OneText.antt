@@ -1,5 +1,8 @@
 -- What is read has a text, and was read from that text alone.
-use Rattle.std.proofs.Common.{◌≡◌, ◌⊎◌, ℕ, zero, suc, ◌+◌, ◌^◌, ◌<◌, ◌≤◌, Bool, true, false, not, ◌&&◌, ◌||◌, cond, eqb, ltb, List, [], ◌∷◌, ◌++◌, length, get_or, take, drop, map, flat_map, Option, None, Some, Result, Ok, Err, inl, inr, refl, sym, ap, subst, ◌∙◌, arith, append_assoc, append-nil, codes, decimal}
+use Rattle.std.proofs.Common.{◌≡◌, ◌⊎◌, ℕ, zero, suc, ◌+◌, ◌^◌, ◌<◌, ◌≤◌, Bool, true, false, not, ◌&&◌, ◌||◌, cond}
+use Rattle.std.proofs.Common.{eqb, ltb, List, [], ◌∷◌, ◌++◌, length, get_or, take, drop, map, flat_map, Option}
+use Rattle.std.proofs.Common.{None, Some, Result, Ok, Err, inl, inr, refl, sym, ap, subst, ◌∙◌, arith, append_assoc}
+use Rattle.std.proofs.Common.{append-nil, codes, decimal}
 use Rattle.tcc_cert.specs.declared.version.Version.{Version}
 use Rattle.tcc_cert.specs.Ranges.{ranges_of}
 use Rattle.std.specs.Prelude.{is_some}
@@ -24,8 +27,13 @@ use Rattle.tcc_graph.specs.declared.link.Link.TheVariants as link
 use Rattle.tcc_cert.specs.declared.fault.CertFaultKind.{CertFaultKind}
 use Rattle.tcc_cert.specs.declared.fault.CertFaultKind.TheVariants.{Word, Number, Count, TooLarge, Truncated}
 use Rattle.tcc_cert.specs.declared.reading.forms.Head.{Head}
-use Rattle.tcc_cert.specs.Texts.{Words, words_text, line_text, lines_text, numbers_words, step_words, link_lines, IsNumber, IsCount, IsKey, HasStepText, HasLinkText}
-use Rattle.tcc_cert.specs.Reading.{◌>>=◌, words_of, parted, is_decimal, number_of, transaction_of, count_of, key_of, word_line, numbers_of, numbers_line, two_words, three_words, five_words, session_of, reads_of, step_line, head_of_step, derived_of, head_line, Place, Reads, judged, line_length, line_of, behind, next, words, numbered, repeated, walk_of, link_at}
+use Rattle.tcc_cert.specs.Texts.{Words, words_text, line_text, lines_text, numbers_words}
+use Rattle.tcc_cert.specs.Texts.{step_words, link_lines, IsNumber, IsCount, IsKey, HasStepText}
+use Rattle.tcc_cert.specs.Texts.HasLinkText
+use Rattle.tcc_cert.specs.Reading.{◌>>=◌, words_of, parted, is_decimal, number_of, transaction_of, count_of, key_of, word_line}
+use Rattle.tcc_cert.specs.Reading.{numbers_of, numbers_line, two_words, three_words, five_words, session_of, reads_of, step_line}
+use Rattle.tcc_cert.specs.Reading.{head_of_step, derived_of, head_line, Place, Reads, judged, line_length, line_of, behind, next}
+use Rattle.tcc_cert.specs.Reading.{words, numbered, repeated, walk_of, link_at}
 use Rattle.tcc_cert.proofs.RangeFacts.{numbers, counts}
 use Rattle.tcc_cert.proofs.Numbered.{EachFrom, same-each}
 use Rattle.tcc_cert.proofs.Items.{flat_map-map}
@@ -85,7 +93,8 @@ number-text least most word n small e =
     let some : 0 < length word = grind (arith, nat_tests, parts.0) in
     let low : least ≤ value = grind (arith, nat_tests, good.1) in
     let high : value ≤ most = grind (arith, nat_tests, second.0) in
-    let spelled = decimal-digits_value (numerals_by_value _ tells_all_ascii_digits) word parts.1 some (λ is_zero. lone-zero word parts.2 is_zero some) (omega arith) in
+    let spelled =
+    decimal-digits_value (numerals_by_value _ tells_all_ascii_digits) word parts.1 some (λ is_zero. lone-zero word parts.2 is_zero some) (omega arith) in
     record { low = omega arith; high = omega arith; text = sym spelled ∙ ap decimal is }
 
 pub number : (v : Version) (word : List ℕ) (n : ℕ) → transaction_of v word ≡ Ok n → IsNumeralOf 0 (ranges_of v).number word n
@@ -117,7 +126,8 @@ same-bytes (x ∷ a) (y ∷ b) e =
     let rest = same-bytes a b parts.1 in
     cc
 
-pub two_parts : {X : Type 0} (form : List ℕ → List ℕ → Result X CertFaultKind) (ws : Words) (x : X) → two_words form ws ≡ Ok x → (a b : List ℕ) × (ws ≡ a ∷ b ∷ []) × (form a b ≡ Ok x)
+pub two_parts : {X : Type 0} (form : List ℕ → List ℕ → Result X CertFaultKind) (ws : Words) (x : X) → two_words form ws ≡ Ok x
+    → (a b : List ℕ) × (ws ≡ a ∷ b ∷ []) × (form a b ≡ Ok x)
 two_parts form [] x e = absurd cc
 two_parts form (a ∷ []) x e = absurd cc
 two_parts form (a ∷ b ∷ []) x e = (a, b, refl, e)
@@ -183,13 +193,15 @@ reads version u v w s e =
     let a = number version u first.0 first.1 in
     let b = number version v second.0 second.1 in
     let k = key w third.0 third.1 in
-    subst (λ t. HasStepText version t × (codes "R" ∷ u ∷ v ∷ w ∷ [] ≡ step_words t)) (same_ok third.2) ((a.high, b.high, k.1), three_equal (codes "R") a.text b.text k.0)
+    subst (λ t. HasStepText version t × (codes "R" ∷ u ∷ v ∷ w ∷ [] ≡ step_words t)) (same_ok third.2)
+    ((a.high, b.high, k.1), three_equal (codes "R") a.text b.text k.0)
 
 pub choice : {A : Type 0} (t : Bool) (x y z : A) → cond t x y ≡ z → ((t ≡ true) × (x ≡ z)) ⊎ ((t ≡ false) × (y ≡ z))
 choice true x y z e = inl (refl, e)
 choice false x y z e = inr (refl, e)
 
-step-second : (version : Version) (word : List ℕ) (fields : Words) (s : Step) → cond (same word (codes "R")) (three_words (reads_of version) fields) (Err Word) ≡ Ok s → HasStepText version s × (word ∷ fields ≡ step_words s)
+step-second : (version : Version) (word : List ℕ) (fields : Words) (s : Step)
+    → cond (same word (codes "R")) (three_words (reads_of version) fields) (Err Word) ≡ Ok s → HasStepText version s × (word ∷ fields ≡ step_words s)
 step-second version word fields s e =
     let is = allowed_parts (same word (codes "R")) Word (three_words (reads_of version) fields) s e in
     let parts = three_parts (reads_of version) fields s is.1 in
@@ -197,7 +209,8 @@ step-second version word fields s e =
     (read.0, rw (same-bytes word (codes "R") is.0, parts.3) read.1)
 
 step-choice : (version : Version) (word : List ℕ) (fields : Words) (s : Step)
-    → ((same word (codes "S") ≡ true) × (two_words (session_of version) fields ≡ Ok s)) ⊎ ((same word (codes "S") ≡ false) × (cond (same word (codes "R")) (three_words (reads_of version) fields) (Err Word) ≡ Ok s))
+    → ((same word (codes "S") ≡ true) × (two_words (session_of version) fields ≡ Ok s))
+    ⊎ ((same word (codes "S") ≡ false) × (cond (same word (codes "R")) (three_words (reads_of version) fields) (Err Word) ≡ Ok s))
     → HasStepText version s × (word ∷ fields ≡ step_words s)
 step-choice version word fields s (inl is) =
     let parts = two_parts (session_of version) fields s is.1 in
@@ -224,7 +237,8 @@ numbers-text most (word ∷ ws) numbers small e =
     let rest = numbers-text most ws others.0 small others.1 in
     subst (AreNumeralsOf most (word ∷ ws)) (same_ok others.2) (record { high = (one.high, rest.high); text = more_equal one.text rest.text })
 
-pub row-text : (count most : ℕ) (ws : Words) (numbers : List ℕ) → most < 2 ^ 64 → numbers_line count most ws ≡ Ok numbers → (length numbers ≡ count) × AreNumeralsOf most ws numbers
+pub row-text : (count most : ℕ) (ws : Words) (numbers : List ℕ) → most < 2 ^ 64 → numbers_line count most ws ≡ Ok numbers
+    → (length numbers ≡ count) × AreNumeralsOf most ws numbers
 row-text count most ws numbers small e =
     let is = allowed_parts (eqb (length ws) count) Count (numbers_of most ws) numbers e in
     let read = numbers-text most ws numbers small is.1 in
@@ -241,7 +255,8 @@ pub words-back : (line : List ℕ) → words_text (words_of line) ≡ line
 words-back [] = refl
 words-back (byte ∷ bytes) = join-same (parted (byte ∷ bytes)) ∙ join_with_byte-slice_split 32 (byte ∷ bytes)
 
-judged-parts : {X : Type 0} (at after : Place) (shown : Result X CertFaultKind) (x : X) (end : Place) → judged at after shown ≡ Ok (x, end) → (shown ≡ Ok x) × (after ≡ end)
+judged-parts : {X : Type 0} (at after : Place) (shown : Result X CertFaultKind) (x : X) (end : Place) → judged at after shown ≡ Ok (x, end)
+    → (shown ≡ Ok x) × (after ≡ end)
 judged-parts at after (Ok y) x end e =
     let is = same_pair e in
     (ap Ok is.0, is.1)
@@ -281,7 +296,8 @@ words-text v form at after x e =
 abbrev pub IsReadFrom : {X : Type 0} → (Place → Reads X) → (X → Type 0) → (X → List ℕ) → Type 0
 IsReadFrom {X = X} read property text = (at after : Place) (x : X) → read at ≡ Ok (x, after) → property x × (at.bytes ≡ text x ++ after.bytes)
 
-pub numbered-text : {X : Type 0} (read : ℕ → Place → Reads X) (property : ℕ → X → Type 0) (text : X → List ℕ) → ((i : ℕ) → IsReadFrom (read i) (property i) text) → (from n : ℕ) (at after : Place) (xs : List X)
+pub numbered-text : {X : Type 0} (read : ℕ → Place → Reads X) (property : ℕ → X → Type 0) (text : X → List ℕ)
+    → ((i : ℕ) → IsReadFrom (read i) (property i) text) → (from n : ℕ) (at after : Place) (xs : List X)
     → numbered read from n at ≡ Ok (xs, after) → EachFrom property from xs × (length xs ≡ n) × (at.bytes ≡ flat_map text xs ++ after.bytes)
 numbered-text read property text each_from from zero at after xs e =
     let is = same_pair e in
@@ -297,7 +313,8 @@ numbered-text {X} read property text each_from from (suc n) at after xs e =
     subst (λ ys. EachFrom property from ys × (length ys ≡ suc n) × (at.bytes ≡ flat_map text ys ++ after.bytes)) is.0
     ((one.0, rest.0), ap (λ m. suc m) rest.1, whole ∙ ap (λ p. flat_map text (first.0.0 ∷ others.0.0) ++ p.bytes) is.1)
 
-pub repeated-text : {X : Type 0} (read : Place → Reads X) (property : X → Type 0) (text : X → List ℕ) → IsReadFrom read property text → (n : ℕ) (at after : Place) (xs : List X) → repeated read n at ≡ Ok (xs, after)
+pub repeated-text : {X : Type 0} (read : Place → Reads X) (property : X → Type 0) (text : X → List ℕ) → IsReadFrom read property text
+    → (n : ℕ) (at after : Place) (xs : List X) → repeated read n at ≡ Ok (xs, after)
     → AllByRecursion property xs × (length xs ≡ n) × (at.bytes ≡ flat_map text xs ++ after.bytes)
 repeated-text read property text from n at after xs e =
     let all = numbered-text (λ i. read) (λ i. property) text (λ i. from) 0 n at after xs e in
@@ -332,7 +349,8 @@ pub record IsStepHead (version : Version) (ws : Words) (head : Head) : Type 0 wh
   pub text : ws ≡ step_words step_of
   pub is : head ≡ head_of_step step_of
 
-derived : (version : Version) (t u v w x : List ℕ) (head : Head) → derived_of version t u v w x ≡ Ok head → IsDerivedHead version (codes "D" ∷ t ∷ u ∷ v ∷ w ∷ x ∷ []) head
+derived : (version : Version) (t u v w x : List ℕ) (head : Head) → derived_of version t u v w x ≡ Ok head
+    → IsDerivedHead version (codes "D" ∷ t ∷ u ∷ v ∷ w ∷ x ∷ []) head
 derived version t u v w x head e =
     let first = then_parts (transaction_of version t) _ head e in
     let second = then_parts (transaction_of version u) _ head first.2 in
@@ -360,7 +378,8 @@ derived version t u v w x head e =
     }
 
 head-choice : (version : Version) (word : List ℕ) (fields : Words) (head : Head)
-    → ((same word (codes "D") ≡ true) × (five_words (derived_of version) fields ≡ Ok head)) ⊎ ((same word (codes "D") ≡ false) × ((step_line version (word ∷ fields) >>= λ s. Ok (head_of_step s)) ≡ Ok head))
+    → ((same word (codes "D") ≡ true) × (five_words (derived_of version) fields ≡ Ok head))
+    ⊎ ((same word (codes "D") ≡ false) × ((step_line version (word ∷ fields) >>= λ s. Ok (head_of_step s)) ≡ Ok head))
     → IsDerivedHead version (word ∷ fields) head ⊎ IsStepHead version (word ∷ fields) head
 head-choice version word fields head (inl is) =
     let parts = five_parts (derived_of version) fields head is.1 in
@@ -372,30 +391,44 @@ head-choice version word fields head (inr is) =
 
 pub head-text : (version : Version) (ws : Words) (head : Head) → head_line version ws ≡ Ok head → IsDerivedHead version ws head ⊎ IsStepHead version ws head
 head-text version [] head e = absurd cc
-head-text version (word ∷ fields) head e = head-choice version word fields head (choice (same word (codes "D")) (five_words (derived_of version) fields) _ (Ok head) e)
+head-text version (word ∷ fields) head e =
+    head-choice version word fields head (choice (same word (codes "D")) (five_words (derived_of version) fields) _ (Ok head) e)
 
 -- a link of one step
-one-step : (version : Version) (s : Step) (at mid after : Place) (l : Link) → HasStepText version s → at.bytes ≡ line_text (step_words s) ++ mid.bytes → walk_of version (head_of_step s, mid) ≡ Ok (l, after)
+one-step : (version : Version) (s : Step) (at mid after : Place) (l : Link) → HasStepText version s → at.bytes ≡ line_text (step_words s) ++ mid.bytes
+    → walk_of version (head_of_step s, mid) ≡ Ok (l, after)
     → HasLinkText version l × (at.bytes ≡ lines_text (link_lines l) ++ after.bytes)
 one-step version (step.Session u v) at mid after l has text e =
     let is = same_pair e in
-    subst (λ m. HasLinkText version m × (at.bytes ≡ lines_text (link_lines m) ++ after.bytes)) is.0
-    (has, text ∙ ap (λ t. t ++ mid.bytes) (sym (append-nil (line_text (step_words (step.Session u v))))) ∙ ap (λ p. lines_text (link_lines (link.Session u v)) ++ p.bytes) is.1)
+    subst (λ m. HasLinkText version m × (at.bytes ≡ lines_text (link_lines m) ++ after.bytes)) is.0 (
+      has,
+      text ∙ ap (λ t. t ++ mid.bytes) (sym (append-nil (line_text (step_words (step.Session u v)))))
+          ∙ ap (λ p. lines_text (link_lines (link.Session u v)) ++ p.bytes) is.1,
+    )
 one-step version (step.Reads u v k) at mid after l has text e =
     let is = same_pair e in
-    subst (λ m. HasLinkText version m × (at.bytes ≡ lines_text (link_lines m) ++ after.bytes)) is.0
-    (has, text ∙ ap (λ t. t ++ mid.bytes) (sym (append-nil (line_text (step_words (step.Reads u v k))))) ∙ ap (λ p. lines_text (link_lines (link.Reads u v k)) ++ p.bytes) is.1)
+    subst (λ m. HasLinkText version m × (at.bytes ≡ lines_text (link_lines m) ++ after.bytes)) is.0 (
+      has,
+      text ∙ ap (λ t. t ++ mid.bytes) (sym (append-nil (line_text (step_words (step.Reads u v k)))))
+          ∙ ap (λ p. lines_text (link_lines (link.Reads u v k)) ++ p.bytes) is.1,
+    )
 
-link-choice : (version : Version) (ws : Words) (head : Head) (at mid after : Place) (l : Link) → at.bytes ≡ line_text ws ++ mid.bytes → walk_of version (head, mid) ≡ Ok (l, after) → IsDerivedHead version ws head ⊎ IsStepHead version ws head
+link-choice : (version : Version) (ws : Words) (head : Head) (at mid after : Place) (l : Link) → at.bytes ≡ line_text ws ++ mid.bytes
+    → walk_of version (head, mid) ≡ Ok (l, after) → IsDerivedHead version ws head ⊎ IsStepHead version ws head
     → HasLinkText version l × (at.bytes ≡ lines_text (link_lines l) ++ after.bytes)
 link-choice version ws head at mid after l text e (inr h) =
-    one-step version h.step_of at mid after l h.has (text ∙ ap (λ words. line_text words ++ mid.bytes) h.text) (subst (λ read. walk_of version (read, mid) ≡ Ok (l, after)) h.is e)
+    one-step version h.step_of at mid after l h.has (text ∙ ap (λ words. line_text words ++ mid.bytes) h.text)
+    (subst (λ read. walk_of version (read, mid) ≡ Ok (l, after)) h.is e)
 link-choice version ws head at mid after l text e (inl h) =
     let derived_link : List Step → Link = λ walk. link.Derived h.b h.a h.name h.c walk in
-    let walked = then_parts (repeated (words version (step_line version)) h.w mid) (λ walk. Ok (derived_link walk.0, walk.1)) (l, after) (subst (λ read. walk_of version (read, mid) ≡ Ok (l, after)) h.is e) in
+    let walked =
+    then_parts (repeated (words version (step_line version)) h.w mid) (λ walk. Ok (derived_link walk.0, walk.1)) (l, after)
+    (subst (λ read. walk_of version (read, mid) ≡ Ok (l, after)) h.is e) in
     let walk = walked.0.0 in
     let is = same_pair walked.2 in
-    let read = repeated-text (words version (step_line version)) (HasStepText version) (λ s. line_text (step_words s)) (step-from version) h.w mid walked.0.1 walk walked.1 in
+    let read =
+    repeated-text (words version (step_line version)) (HasStepText version) (λ s. line_text (step_words s))
+    (step-from version) h.w mid walked.0.1 walk walked.1 in
     let first : Words = codes "D" ∷ decimal h.b ∷ decimal h.a ∷ h.name ∷ decimal h.c ∷ decimal h.w ∷ [] in
     let counted : IsCount version (length walk) = subst (IsCount version) (sym read.1) h.steps in
     let has : HasLinkText version (derived_link walk) = (h.from, h.to, h.is_key, h.reader, counted, All-from_recursion (HasStepText version) walk read.0) in
@@ -404,8 +437,10 @@ link-choice version ws head at mid after l text e (inl h) =
     ∙ ap (λ words. line_text words ++ mid.bytes) h.text
     ∙ ap (λ t. line_text first ++ t) (read.2 ∙ ap (λ t. t ++ walked.0.1.bytes) (sym (flat_map-map line_text step_words walk)))
     ∙ sym (append_assoc (line_text first) (lines_text (map step_words walk)) walked.0.1.bytes)
-    ∙ ap (λ n. line_text (codes "D" ∷ decimal h.b ∷ decimal h.a ∷ h.name ∷ decimal h.c ∷ decimal n ∷ []) ++ lines_text (map step_words walk) ++ walked.0.1.bytes) (sym read.1) in
-    subst (λ m. HasLinkText version m × (at.bytes ≡ lines_text (link_lines m) ++ after.bytes)) is.0 (has, whole ∙ ap (λ p. lines_text (link_lines (derived_link walk)) ++ p.bytes) is.1)
+    ∙ ap (λ n. line_text (codes "D" ∷ decimal h.b ∷ decimal h.a ∷ h.name ∷ decimal h.c ∷ decimal n ∷ []) ++ lines_text (map step_words walk)
+    ++ walked.0.1.bytes) (sym read.1) in
+    subst (λ m. HasLinkText version m × (at.bytes ≡ lines_text (link_lines m) ++ after.bytes)) is.0
+    (has, whole ∙ ap (λ p. lines_text (link_lines (derived_link walk)) ++ p.bytes) is.1)
 
 pub link-from : (version : Version) → IsReadFrom (link_at version) (HasLinkText version) (λ l. lines_text (link_lines l))
 link-from version at after l e =

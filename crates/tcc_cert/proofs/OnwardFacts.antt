@@ -6,13 +6,16 @@ use Rattle.tcc_cert.specs.declared.fault.CertFaultKind.{CertFaultKind}
 use Rattle.tcc_cert.specs.declared.reading.forms.Head.{Head}
 use Rattle.tcc_cert.specs.Outcomes.{reached}
 use Rattle.tcc_cert.specs.Texts.{Words}
-use Rattle.tcc_cert.specs.Reading.{◌>>=◌, Place, Reads, judged, behind, line_of, next, words, numbered, repeated, words_of, step_line, with_walk, head_line, walk_of, link_at}
+use Rattle.tcc_cert.specs.Reading.{◌>>=◌, Place, Reads, judged, behind, line_of, next, words}
+use Rattle.tcc_cert.specs.Reading.{numbered, repeated, words_of, step_line, with_walk, head_line}
+use Rattle.tcc_cert.specs.Reading.{walk_of, link_at}
 
 -- from this place the reading ended at no line before it
 pub record IsOnward {X : Type 0} (at : Place) (read : Reads X) : Type 0 where
   pub onward : at.line ≤ reached read
 
-pub onward-then : {A B : Type 0} (at : Place) (read : Reads A) (go : A × Place → Reads B) → IsOnward at read → ((x : A × Place) → IsOnward x.1 (go x)) → IsOnward at (read >>= go)
+pub onward-then : {A B : Type 0} (at : Place) (read : Reads A) (go : A × Place → Reads B) → IsOnward at read → ((x : A × Place) → IsOnward x.1 (go x))
+    → IsOnward at (read >>= go)
 onward-then at (Ok x) go here later = record { onward = omega (arith, here.onward, (later x).onward) }
 onward-then at (Err fault) go here later = record { onward = here.onward }
 
@@ -31,10 +34,12 @@ onward-next most form at = next-form form at (line_of most at.bytes)
 pub onward-ok : {X : Type 0} (x : X) (at after : Place) → at.line ≤ after.line → IsOnward at (Ok (x, after))
 onward-ok x at after le = record { onward = le }
 
-pub onward-numbered : {X : Type 0} (read : ℕ → Place → Reads X) (from n : ℕ) → ((i : ℕ) (at : Place) → IsOnward at (read i at)) → (at : Place) → IsOnward at (numbered read from n at)
+pub onward-numbered : {X : Type 0} (read : ℕ → Place → Reads X) (from n : ℕ) → ((i : ℕ) (at : Place) → IsOnward at (read i at)) → (at : Place)
+    → IsOnward at (numbered read from n at)
 onward-numbered read from zero on at = onward-ok [] at at (omega arith)
 onward-numbered read from (suc n) on at =
-    onward-then at (read from at) _ (on from at) (λ first. onward-then first.1 (numbered read (from + 1) n first.1) _ (onward-numbered read (from + 1) n on first.1)
+    onward-then at (read from at) _ (on from at) (λ first. onward-then first.1 (numbered read (from + 1) n first.1)
+    _ (onward-numbered read (from + 1) n on first.1)
     (λ others. onward-ok (first.0 ∷ others.0) others.1 others.1 (omega arith)))
 
 pub onward-words : {X : Type 0} (version : Version) (form : Words → Result X CertFaultKind) (at : Place) → IsOnward at (words version form at)
@@ -49,7 +54,8 @@ onward-walk version head =
     (λ walk. onward-ok (with_walk head.0.link walk.0) walk.1 walk.1 (omega arith))
 
 pub onward-link : (version : Version) (at : Place) → IsOnward at (link_at version at)
-onward-link version at = onward-then at (words version (head_line version) at) (walk_of version) (onward-words version (head_line version) at) (onward-walk version)
+onward-link version at =
+    onward-then at (words version (head_line version) at) (walk_of version) (onward-words version (head_line version) at) (onward-walk version)
 
 pub onward-links : (version : Version) (count : ℕ) (at : Place) → IsOnward at (repeated (link_at version) count at)
 onward-links version count at = onward-numbered (λ i. link_at version) 0 count (λ i place. onward-link version place) at

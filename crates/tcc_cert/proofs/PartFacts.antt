@@ -1,5 +1,7 @@
 -- The parts that a text gives are those of the certificate that it is the text of, and end where its reading ends.
-use Rattle.std.proofs.Common.{◌≡◌, ℕ, zero, suc, ◌+◌, ◌-◌, Bool, true, false, cond, eqb, length, List, [], ◌∷◌, ◌++◌, Option, None, Some, Result, Ok, Err, refl, sym, ap, subst, ◌∙◌, append_assoc, append-nil, codes}
+use Rattle.std.proofs.Common.{◌≡◌, ℕ, zero, suc, ◌+◌, ◌-◌, Bool, true, false, cond, eqb, length, List, [], ◌∷◌, ◌++◌}
+use Rattle.std.proofs.Common.{Option, None, Some, Result, Ok, Err, refl, sym, ap, subst, ◌∙◌, append_assoc, append-nil}
+use Rattle.std.proofs.Common.codes
 use Rattle.std.specs.Prelude.{map}
 use Rattle.tcc_graph.specs.declared.level.Level.{Level}
 use Rattle.tcc_graph.specs.declared.level.Level.TheVariants.{Causal, Atomic}
@@ -18,8 +20,12 @@ use Rattle.tcc_cert.specs.declared.reading.forms.Sizes.TheVariants.{Order, Cycle
 use Rattle.tcc_cert.specs.Ranges.{ranges_of}
 use Rattle.tcc_cert.specs.Tables.{lowest}
 use Rattle.tcc_cert.specs.Outcomes.{reached}
-use Rattle.tcc_cert.specs.Parts.{◌>>>◌, Parts, after_part, claim_parts, cycle_parts, end_parts, far_parts, near_parts, order_parts, order_rest, parts_behind, parts_of, parts_read, rows_then, whole_parts}
-use Rattle.tcc_cert.specs.Reading.{◌>>=◌, Place, Reads, behind_header, certificate_at, certificate_read, claim_at, clocks_at, cycle_at, ended, header_line, link_at, next, numbered, numbers_line, order_at, repeated, sizes_line, start_of, word_line, words}
+use Rattle.tcc_cert.specs.Parts.{◌>>>◌, Parts, after_part, claim_parts, cycle_parts, end_parts, far_parts}
+use Rattle.tcc_cert.specs.Parts.{near_parts, order_parts, order_rest, parts_behind, parts_of, parts_read}
+use Rattle.tcc_cert.specs.Parts.{rows_then, whole_parts}
+use Rattle.tcc_cert.specs.Reading.{◌>>=◌, Place, Reads, behind_header, certificate_at, certificate_read, claim_at, clocks_at, cycle_at}
+use Rattle.tcc_cert.specs.Reading.{ended, header_line, link_at, next, numbered, numbers_line, order_at, repeated, sizes_line, start_of}
+use Rattle.tcc_cert.specs.Reading.{word_line, words}
 
 -- the fault of what stands behind the end
 abbrev fault_behind : Place → Option CertFaultKind
@@ -34,50 +40,68 @@ bind-assoc : {A B C : Type 0} (read : Reads A) (f : A × Place → Reads B) (g :
 bind-assoc (Ok x) f g = refl
 bind-assoc (Err fault) f g = refl
 
-told-behind : {X : Type 0} (front : List Part) (read : Reads X) (go : X × Place → Reads Certificate) (behind : X × Place → Parts) → ((x : X × Place) → IsTold front (go x) (behind x))
+told-behind : {X : Type 0} (front : List Part) (read : Reads X) (go : X × Place → Reads Certificate) (behind : X × Place → Parts)
+    → ((x : X × Place) → IsTold front (go x) (behind x))
     → IsTold front (read >>= go) (read >>> behind)
 told-behind front (Ok x) go behind later = later x
 told-behind front (Err fault) go behind later = (refl, refl)
 
-told-part : (front : List Part) (first : Part) (read : Reads Certificate) (told : Parts) → IsTold (front ++ first ∷ []) read told → IsTold front read (after_part first told)
+told-part : (front : List Part) (first : Part) (read : Reads Certificate) (told : Parts) → IsTold (front ++ first ∷ []) read told
+    → IsTold front read (after_part first told)
 told-part front first (Ok x) told is = (is.0 ∙ append_assoc front (first ∷ []) told.parts, is.1, is.2)
 told-part front first (Err fault) told is = is
 
-told-rows : (form : List ℕ → Part) (read : ℕ → Place → Reads (List ℕ)) (behind : Place → Parts) (n from : ℕ) (at : Place) (front : List Part) (go : List (List ℕ) × Place → Reads Certificate)
+told-rows : (form : List ℕ → Part) (read : ℕ → Place → Reads (List ℕ)) (behind : Place → Parts) (n from : ℕ) (at : Place) (front : List Part)
+    (go : List (List ℕ) × Place → Reads Certificate)
     → ((rows : List (List ℕ)) (after : Place) → length rows ≡ n → IsTold (front ++ map form rows) (go (rows, after)) (behind after))
     → IsTold front (numbered read from n at >>= go) (rows_then form read behind from n at)
 told-rows form read behind zero from at front go later = subst (λ l. IsTold l (go ([], at)) (behind at)) (append-nil front) (later [] at refl)
 told-rows form read behind (suc n) from at front go later =
     let others : (first : List ℕ × Place) → List (List ℕ) × Place → Reads (List (List ℕ)) = λ first rest. Ok (first.0 ∷ rest.0, rest.1) in
-    subst (λ r. IsTold front r (rows_then form read behind from (suc n) at)) (sym (bind-assoc (read from at) (λ first. numbered read (from + 1) n first.1 >>= others first) go))
-    (told-behind front (read from at) (λ first. (numbered read (from + 1) n first.1 >>= others first) >>= go) (λ row. after_part (form row.0) (rows_then form read behind (from + 1) n row.1))
+    subst (λ r. IsTold front r (rows_then form read behind from (suc n) at))
+    (sym (bind-assoc (read from at) (λ first. numbered read (from + 1) n first.1 >>= others first) go))
+    (told-behind front (read from at) (λ first. (numbered read (from + 1) n first.1 >>= others first) >>= go)
+    (λ row. after_part (form row.0) (rows_then form read behind (from + 1) n row.1))
     (λ first. told-part front (form first.0) ((numbered read (from + 1) n first.1 >>= others first) >>= go) (rows_then form read behind (from + 1) n first.1)
-    (subst (λ r. IsTold (front ++ form first.0 ∷ []) r (rows_then form read behind (from + 1) n first.1)) (sym (bind-assoc (numbered read (from + 1) n first.1) (others first) go))
+    (subst (λ r. IsTold (front ++ form first.0 ∷ []) r (rows_then form read behind (from + 1) n first.1))
+    (sym (bind-assoc (numbered read (from + 1) n first.1) (others first) go))
     (told-rows form read behind n (from + 1) first.1 (front ++ form first.0 ∷ []) (λ rest. go (first.0 ∷ rest.0, rest.1))
-    (λ rows after long. subst (λ l. IsTold l (go (first.0 ∷ rows, after)) (behind after)) (sym (append_assoc front (form first.0 ∷ []) (map form rows))) (later (first.0 ∷ rows) after (ap suc long)))))))
+    (λ rows after long. subst (λ l. IsTold l (go (first.0 ∷ rows, after)) (behind after)) (sym (append_assoc front (form first.0 ∷ []) (map form rows)))
+    (later (first.0 ∷ rows) after (ap suc long)))))))
 
-told-end : (front : List Part) (version : Version) (c : Certificate) (at : Place) → parts_of c ≡ front → IsTold front (words version (word_line (codes "end")) at >>= λ end. Ok (c, end.1)) (end_parts version at)
+told-end : (front : List Part) (version : Version) (c : Certificate) (at : Place) → parts_of c ≡ front
+    → IsTold front (words version (word_line (codes "end")) at >>= λ end. Ok (c, end.1)) (end_parts version at)
 told-end front version c at is = told-behind front (words version (word_line (codes "end")) at) _ _ (λ end. (is ∙ sym (append-nil front), refl, refl))
 
 told-clocks : (version : Version) (level : Level) (n s : ℕ) (order : List ℕ) (at : Place)
-    → IsTold (part.Order version level order s ∷ []) (clocks_at version level n s at >>= λ clocks. words version (word_line (codes "end")) clocks.1 >>= λ end. Ok (claim.Order version level order s clocks.0, end.1)) (order_rest version level n s at)
+    → IsTold (part.Order version level order s ∷ [])
+    (clocks_at version level n s at >>= λ clocks. words version (word_line (codes "end")) clocks.1 >>= λ end. Ok
+    (claim.Order version level order s clocks.0, end.1)) (order_rest version level n s at)
 told-clocks version Causal n s order at =
     let front = part.Order version Causal order s ∷ [] in
     let row : ℕ → Place → Reads (List ℕ) = λ t. words version (numbers_line s (ranges_of version).number) in
-    let end : List (List ℕ) × Place → Reads Certificate = λ clocks. words version (word_line (codes "end")) clocks.1 >>= λ end. Ok (claim.Order version Causal order s clocks.0, end.1) in
-    subst (λ r. IsTold front r (order_rest version Causal n s at)) (sym (bind-assoc (words version (word_line (codes "clocks")) at) (λ mark. numbered row 0 n mark.1) end))
-    (told-behind front (words version (word_line (codes "clocks")) at) (λ mark. numbered row 0 n mark.1 >>= end) (λ mark. rows_then part.Clocks row (end_parts version) 0 n mark.1)
-    (λ mark. told-rows part.Clocks row (end_parts version) n 0 mark.1 front end (λ rows after long. told-end (front ++ map part.Clocks rows) version (claim.Order version Causal order s rows) after refl)))
+    let end : List (List ℕ) × Place → Reads Certificate =
+    λ clocks. words version (word_line (codes "end")) clocks.1 >>= λ end. Ok (claim.Order version Causal order s clocks.0, end.1) in
+    subst (λ r. IsTold front r (order_rest version Causal n s at))
+    (sym (bind-assoc (words version (word_line (codes "clocks")) at) (λ mark. numbered row 0 n mark.1) end))
+    (told-behind front (words version (word_line (codes "clocks")) at) (λ mark. numbered row 0 n mark.1 >>= end)
+    (λ mark. rows_then part.Clocks row (end_parts version) 0 n mark.1)
+    (λ mark. told-rows part.Clocks row (end_parts version) n 0 mark.1 front end
+    (λ rows after long. told-end (front ++ map part.Clocks rows) version (claim.Order version Causal order s rows) after refl)))
 told-clocks version Atomic n s order at = told-end (part.Order version Atomic order s ∷ []) version (claim.Order version Atomic order s []) at refl
 
 told-order : (version : Version) (level : Level) (n s : ℕ) (at : Place) → IsTold [] (order_at version level n s at) (order_parts version level n s at)
 told-order version level n s at =
     let go : List ℕ × Place → Reads Certificate =
-    λ order. clocks_at version level n s order.1 >>= λ clocks. words version (word_line (codes "end")) clocks.1 >>= λ end. Ok (claim.Order version level order.0 s clocks.0, end.1) in
-    told-behind [] (words version (numbers_line n (ranges_of version).number) at) go (λ order. after_part (part.Order version level order.0 s) (order_rest version level n s order.1))
-    (λ order. told-part [] (part.Order version level order.0 s) (go order) (order_rest version level n s order.1) (told-clocks version level n s order.0 order.1))
+    λ order. clocks_at version level n s order.1 >>= λ clocks. words version (word_line (codes "end")) clocks.1 >>= λ end. Ok
+    (claim.Order version level order.0 s clocks.0, end.1) in
+    told-behind [] (words version (numbers_line n (ranges_of version).number) at) go
+    (λ order. after_part (part.Order version level order.0 s) (order_rest version level n s order.1))
+    (λ order. told-part [] (part.Order version level order.0 s) (go order) (order_rest version level n s order.1)
+    (told-clocks version level n s order.0 order.1))
 
-told-cycle : (version : Version) (level : Level) (n count least : ℕ) (at : Place) → IsTold [] (cycle_at version level n count least at) (cycle_parts version level n count least at)
+told-cycle : (version : Version) (level : Level) (n count least : ℕ) (at : Place)
+    → IsTold [] (cycle_at version level n count least at) (cycle_parts version level n count least at)
 told-cycle version level n count least at =
     let near_row : ℕ → Place → Reads (List ℕ) = λ a. words version (numbers_line n (ranges_of version).cost) in
     let far_row : ℕ → Place → Reads (List ℕ) = λ s. words version (numbers_line (n - lowest version s) (ranges_of version).cost) in
@@ -90,12 +114,15 @@ told-cycle version level n count least at =
     (λ links. after_part (part.Cycle version level n links.0 least) (near_parts version n links.1))
     (λ links.
     let first = part.Cycle version level n links.0 least ∷ [] in
-    told-part [] (part.Cycle version level n links.0 least) (words version (word_line (codes "near")) links.1 >>= λ mark. numbered near_row 0 n mark.1 >>= far links.0) (near_parts version n links.1)
-    (told-behind first (words version (word_line (codes "near")) links.1) (λ mark. numbered near_row 0 n mark.1 >>= far links.0) (λ mark. rows_then part.Near near_row (far_parts version n) 0 n mark.1)
+    told-part [] (part.Cycle version level n links.0 least)
+    (words version (word_line (codes "near")) links.1 >>= λ mark. numbered near_row 0 n mark.1 >>= far links.0) (near_parts version n links.1)
+    (told-behind first (words version (word_line (codes "near")) links.1) (λ mark. numbered near_row 0 n mark.1 >>= far links.0)
+    (λ mark. rows_then part.Near near_row (far_parts version n) 0 n mark.1)
     (λ mark. told-rows part.Near near_row (far_parts version n) n 0 mark.1 first (far links.0)
     (λ near after long.
     let front = first ++ map part.Near near in
-    told-behind front (words version (word_line (codes "far")) after) (λ mark. numbered far_row 0 n mark.1 >>= end links.0 near) (λ mark. rows_then part.Far far_row (end_parts version) 0 n mark.1)
+    told-behind front (words version (word_line (codes "far")) after) (λ mark. numbered far_row 0 n mark.1 >>= end links.0 near)
+    (λ mark. rows_then part.Far far_row (end_parts version) 0 n mark.1)
     (λ mark. told-rows part.Far far_row (end_parts version) n 0 mark.1 front (end links.0 near)
     (λ far last wide. told-end (front ++ map part.Far far) version (claim.Cycle version level links.0 least near far) last
     (ap (λ m. part.Cycle version level m links.0 least ∷ map part.Near near ++ map part.Far far) long)))))))
@@ -107,7 +134,8 @@ told-claim version level (Cycle n count least) at = told-cycle version level n c
 pub told-whole : (at : Place) → IsTold [] (certificate_at at) (whole_parts at)
 told-whole at =
     told-behind [] (next MAX_HEADER_BYTES header_line at) behind_header parts_behind
-    (λ header. told-behind [] (words header.0.0 (sizes_line header.0.0) header.1) (λ sizes. claim_at header.0.0 header.0.1 sizes.0 sizes.1) (λ sizes. claim_parts header.0.0 header.0.1 sizes.0 sizes.1)
+    (λ header. told-behind [] (words header.0.0 (sizes_line header.0.0) header.1) (λ sizes. claim_at header.0.0 header.0.1 sizes.0 sizes.1)
+    (λ sizes. claim_parts header.0.0 header.0.1 sizes.0 sizes.1)
     (λ sizes. told-claim header.0.0 header.0.1 sizes.0 sizes.1))
 
 -- ---- the whole text
@@ -128,24 +156,29 @@ all-told (Ok x) told is = by (eqb (length x.1.bytes) 0) is.2
 told-read : (bytes : List ℕ) → IsAllTold (certificate_read bytes) (parts_read bytes)
 told-read bytes = all-told (certificate_at (start_of bytes)) (parts_read bytes) (told-whole (start_of bytes))
 
-pub parts-read : (bytes : List ℕ) (c : Certificate) → certificate_read bytes ≡ Ok c → ((parts_read bytes).parts ≡ parts_of c) × ((parts_read bytes).fault ≡ None)
+pub parts-read : (bytes : List ℕ) (c : Certificate) → certificate_read bytes ≡ Ok c
+    → ((parts_read bytes).parts ≡ parts_of c) × ((parts_read bytes).fault ≡ None)
 parts-read bytes c is = subst (λ r. IsAllTold r (parts_read bytes)) is (told-read bytes)
 
-pub parts-fault : (bytes : List ℕ) (fault : CertFault) → certificate_read bytes ≡ Err fault → ((parts_read bytes).fault ≡ Some fault.kind) × ((parts_read bytes).line ≡ fault.line)
+pub parts-fault : (bytes : List ℕ) (fault : CertFault) → certificate_read bytes ≡ Err fault
+    → ((parts_read bytes).fault ≡ Some fault.kind) × ((parts_read bytes).line ≡ fault.line)
 parts-fault bytes fault is = subst (λ r. IsAllTold r (parts_read bytes)) is (told-read bytes)
 
 -- parts that end without a fault are those of a certificate
-pub read-whole : (bytes : List ℕ) → (parts_read bytes).fault ≡ None → (c : Certificate) × (certificate_read bytes ≡ Ok c) × ((parts_read bytes).parts ≡ parts_of c)
+pub read-whole : (bytes : List ℕ) → (parts_read bytes).fault ≡ None
+    → (c : Certificate) × (certificate_read bytes ≡ Ok c) × ((parts_read bytes).parts ≡ parts_of c)
 read-whole bytes none = by (certificate_read bytes) refl (told-read bytes)
   where
-    by : (r : Result Certificate CertFault) → certificate_read bytes ≡ r → IsAllTold r (parts_read bytes) → (c : Certificate) × (certificate_read bytes ≡ Ok c) × ((parts_read bytes).parts ≡ parts_of c)
+    by : (r : Result Certificate CertFault) → certificate_read bytes ≡ r → IsAllTold r (parts_read bytes)
+        → (c : Certificate) × (certificate_read bytes ≡ Ok c) × ((parts_read bytes).parts ≡ parts_of c)
     by (Ok c) is told = (c, is, told.0)
     by (Err fault) is told =
         let bad : None ≡ Some fault.kind = sym none ∙ told.0 in
         absurd cc
 
 -- parts that end in a fault are those before the fault of the text
-pub read-fault : (bytes : List ℕ) (fault : CertFault) → (parts_read bytes).fault ≡ Some fault.kind → (parts_read bytes).line ≡ fault.line → certificate_read bytes ≡ Err fault
+pub read-fault : (bytes : List ℕ) (fault : CertFault) → (parts_read bytes).fault ≡ Some fault.kind → (parts_read bytes).line ≡ fault.line
+    → certificate_read bytes ≡ Err fault
 read-fault bytes fault kind line = by (certificate_read bytes) refl (told-read bytes)
   where
     by : (r : Result Certificate CertFault) → certificate_read bytes ≡ r → IsAllTold r (parts_read bytes) → certificate_read bytes ≡ Err fault

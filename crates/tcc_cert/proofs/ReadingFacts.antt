@@ -1,5 +1,7 @@
 -- Lines and words of a text are read as they were written.
-use Rattle.std.proofs.Common.{◌≡◌, ℕ, zero, suc, ◌+◌, ◌^◌, ◌<◌, ◌≤◌, true, false, eqb, ltb, List, [], ◌∷◌, ◌++◌, length, get_or, Ok, refl, ap, ◌∙◌, arith, append-nil, decimal, lit<, lit≤}
+use Rattle.std.proofs.Common.{◌≡◌, ℕ, zero, suc, ◌+◌, ◌^◌, ◌<◌, ◌≤◌, true, false, eqb, ltb, List, []}
+use Rattle.std.proofs.Common.{◌∷◌, ◌++◌, length, get_or, Ok, refl, ap, ◌∙◌, arith, append-nil, decimal}
+use Rattle.std.proofs.Common.{lit<, lit≤}
 use Rattle.std.specs.Prelude.{flat_map}
 use Rattle.std.specs.Str.{all_ascii_digits}
 use Rattle.std.proofs.lemmas.Bool.Decides.{nat_tests}
@@ -42,7 +44,8 @@ line_of-line most line rest above short =
 -- ---- words
 
 -- a word up to a space
-parted-space : (word rest : List ℕ) (next : List ℕ) (words : Words) → IsAbove 32 word → parted rest ≡ next ∷ words → parted (word ++ 32 ∷ rest) ≡ word ∷ next ∷ words
+parted-space : (word rest : List ℕ) (next : List ℕ) (words : Words) → IsAbove 32 word → parted rest ≡ next ∷ words
+    → parted (word ++ 32 ∷ rest) ≡ word ∷ next ∷ words
 parted-space [] rest next words above is = rw is refl
 parted-space (byte ∷ word) rest next words above is =
     rw (parted-space word rest next words above.1 is) (rw (unequal 32 byte 32 (lit≤ tt) above.0) refl)

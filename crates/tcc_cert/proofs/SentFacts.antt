@@ -1,5 +1,6 @@
 -- Texts sent one after the other.
-use Rattle.std.proofs.Common.{ℕ, List, [], ◌++◌, Option, Result, Ok, Err, refl, sym, ap, subst, ◌∙◌, append_assoc, append-nil, length, take, drop, take-append-drop}
+use Rattle.std.proofs.Common.{ℕ, List, [], ◌++◌, Option, Result, Ok, Err, refl, sym, ap, subst, ◌∙◌}
+use Rattle.std.proofs.Common.{append_assoc, append-nil, length, take, drop, take-append-drop}
 use Rattle.std.proofs.lemmas.List.{take_at}
 use Rattle.std.specs.Result.{OnOk, OnErr, IsErr}
 use Rattle.std.specs.Io.KnownBytes.{Appends}
@@ -39,7 +40,8 @@ failed (Ok x) a b f g t h stops = absurd cc
 failed (Err e) a b f g t h stops = stops
 
 -- a last call
-pub IsSent-then : {X E : Type 0} (r : Result X E) (a b c : Option (List ℕ)) (f g h s t : List ℕ) → Sends a f b g s → IsSent r b g c h t → IsSent r a f c h (s ++ t)
+pub IsSent-then : {X E : Type 0} (r : Result X E) (a b c : Option (List ℕ)) (f g h s t : List ℕ) → Sends a f b g s → IsSent r b g c h t
+    → IsSent r a f c h (s ++ t)
 IsSent-then (Ok x) a b c f g h s t p q = Sends-then p q
 IsSent-then (Err e) a b c f g h s t p q = Stops-then p q
 
@@ -68,7 +70,8 @@ pub Appends-whole : {a b : Option (List ℕ)} {t : List ℕ} → Sends a [] b []
 Appends-whole {a} {b} {t} p = subst (Appends a b) (sym (p.whole ∙ append-nil p.sent)) p.appended
 
 -- a part went out where nothing was held, and the rest was still to be sent
-pub part_out : {X E : Type 0} (r : Result X E) (a b c : Option (List ℕ)) (g h t : List ℕ) → Sends a [] b g t → IsSent r b g c h [] → OnErr r ((n : ℕ) × Appends a c (take n t))
+pub part_out : {X E : Type 0} (r : Result X E) (a b c : Option (List ℕ)) (g h t : List ℕ) → Sends a [] b g t → IsSent r b g c h []
+    → OnErr r ((n : ℕ) × Appends a c (take n t))
 part_out (Ok x) a b c g h t p q = tt
 part_out (Err e) a b c g h t p q = Appends-part (Stops-out p q)
 

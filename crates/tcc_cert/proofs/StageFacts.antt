@@ -1,5 +1,6 @@
 -- Parts of a text given one after the other, where a reader may fail and memory may be refused.
-use Rattle.std.proofs.Common.{◌≡◌, ℕ, zero, suc, ◌+◌, ◌≤◌, cond, eqb, length, List, Option, None, Some, Result, Ok, Err, inl, inr, refl, sym, ap, subst, arith, codes}
+use Rattle.std.proofs.Common.{◌≡◌, ℕ, zero, suc, ◌+◌, ◌≤◌, cond, eqb, length, List, Option, None}
+use Rattle.std.proofs.Common.{Some, Result, Ok, Err, inl, inr, refl, sym, ap, subst, arith, codes}
 use Rattle.tcc_graph.specs.declared.level.Level.{Level}
 use Rattle.tcc_graph.specs.declared.level.Level.TheVariants.{Causal, Atomic}
 use Rattle.tcc_cert.specs.declared.ranges.TheConstants.{MAX_HEADER_BYTES}
@@ -18,7 +19,9 @@ use Rattle.tcc_cert.specs.declared.reading.stages.Stage.TheVariants as stage
 use Rattle.tcc_cert.specs.Ranges.{ranges_of}
 use Rattle.tcc_cert.specs.Inputs.{Ends, HasFailed}
 use Rattle.tcc_cert.specs.Outcomes.{Faults}
-use Rattle.tcc_cert.specs.Parts.{◌>>>◌, FaultsIn, IsFirst, Parts, after_part, claim_parts, end_parts, ending, far_parts, far_rows, order_rest, parts_behind, rows_then, whole_parts}
+use Rattle.tcc_cert.specs.Parts.{◌>>>◌, FaultsIn, IsFirst, Parts, after_part, claim_parts, end_parts}
+use Rattle.tcc_cert.specs.Parts.{ending, far_parts, far_rows, order_rest, parts_behind, rows_then}
+use Rattle.tcc_cert.specs.Parts.whole_parts
 use Rattle.tcc_cert.specs.Shapes.{behind_table, columns_in, height, most_in, part_of, table_parts, table_rows, word_before}
 use Rattle.tcc_cert.specs.Reading.{Place, Reads, header_line, link_at, next, numbers_line, repeated, sizes_line, word_line, words}
 use Rattle.tcc_cert.specs.Stages.{IsBehind, TakesStep}
@@ -27,25 +30,32 @@ use Rattle.tcc_cert.proofs.StepFacts.{onward-at, some-left}
 
 -- ---- parts go on from line to line, and never back
 
-onward-then : {X : Type 0} (at : Place) (read : Reads X) (behind : X × Place → Parts) → IsOnward at read → ((x : X × Place) → x.1.line ≤ (behind x).line) → at.line ≤ (read >>> behind).line
+onward-then : {X : Type 0} (at : Place) (read : Reads X) (behind : X × Place → Parts) → IsOnward at read → ((x : X × Place) → x.1.line ≤ (behind x).line)
+    → at.line ≤ (read >>> behind).line
 onward-then at (Ok x) behind on later = omega (arith, on.onward, later x)
 onward-then at (Err fault) behind on later = on.onward
 
-pub onward-rows : (form : List ℕ → Part) (read : ℕ → Place → Reads (List ℕ)) (behind : Place → Parts) (from n : ℕ) → ((i : ℕ) (p : Place) → IsOnward p (read i p)) → ((p : Place) → p.line ≤ (behind p).line)
+pub onward-rows : (form : List ℕ → Part) (read : ℕ → Place → Reads (List ℕ)) (behind : Place → Parts) (from n : ℕ)
+    → ((i : ℕ) (p : Place) → IsOnward p (read i p)) → ((p : Place) → p.line ≤ (behind p).line)
     → (at : Place) → at.line ≤ (rows_then form read behind from n at).line
 onward-rows form read behind from zero on later at = later at
-onward-rows form read behind from (suc n) on later at = onward-then at (read from at) _ (on from at) (λ row. onward-rows form read behind (from + 1) n on later row.1)
+onward-rows form read behind from (suc n) on later at =
+    onward-then at (read from at) _ (on from at) (λ row. onward-rows form read behind (from + 1) n on later row.1)
 
 pub onward-end : (version : Version) (at : Place) → at.line ≤ (end_parts version at).line
 onward-end version at = onward-then at (words version (word_line (codes "end")) at) _ (onward-words version (word_line (codes "end")) at) (λ end. omega arith)
 
-onward-table_rows : (version : Version) (table : TableShape) (from left : ℕ) → ((p : Place) → p.line ≤ (behind_table version table p).line) → (at : Place) → at.line ≤ (table_rows version table from left at).line
+onward-table_rows : (version : Version) (table : TableShape) (from left : ℕ) → ((p : Place) → p.line ≤ (behind_table version table p).line) → (at : Place)
+    → at.line ≤ (table_rows version table from left at).line
 onward-table_rows version table from left later at =
-    onward-rows (part_of table) (λ row. words version (numbers_line (columns_in version table row) (most_in version table))) (behind_table version table) from left
+    onward-rows (part_of table) (λ row. words version (numbers_line (columns_in version table row) (most_in version table)))
+    (behind_table version table) from left
     (λ row p. onward-words version (numbers_line (columns_in version table row) (most_in version table)) p) later at
 
-pub onward-mark : (version : Version) (word : List ℕ) (behind : Place → Parts) → ((p : Place) → p.line ≤ (behind p).line) → (at : Place) → at.line ≤ (words version (word_line word) at >>> λ mark. behind mark.1).line
-onward-mark version word behind later at = onward-then at (words version (word_line word) at) _ (onward-words version (word_line word) at) (λ mark. later mark.1)
+pub onward-mark : (version : Version) (word : List ℕ) (behind : Place → Parts) → ((p : Place) → p.line ≤ (behind p).line) → (at : Place)
+    → at.line ≤ (words version (word_line word) at >>> λ mark. behind mark.1).line
+onward-mark version word behind later at =
+    onward-then at (words version (word_line word) at) _ (onward-words version (word_line word) at) (λ mark. later mark.1)
 
 pub onward-far : (version : Version) (n : ℕ) (at : Place) → at.line ≤ (far_parts version n at).line
 onward-far version n at = onward-mark version (codes "far") (far_rows version n 0 n) (onward-table_rows version (shape.Far n) 0 n (onward-end version)) at
@@ -59,19 +69,24 @@ pub onward-table : (version : Version) (table : TableShape) (from left : ℕ) (a
 onward-table version table from left at = onward-table_rows version table from left (onward-behind_table version table) at
 
 pub onward-marked : (version : Version) (table : TableShape) (at : Place) → at.line ≤ (table_parts version table at).line
-onward-marked version table at = onward-mark version (word_before table) (table_rows version table 0 (height table)) (onward-table version table 0 (height table)) at
+onward-marked version table at =
+    onward-mark version (word_before table) (table_rows version table 0 (height table)) (onward-table version table 0 (height table)) at
 
 pub onward-rest : (version : Version) (level : Level) (n s : ℕ) (at : Place) → at.line ≤ (order_rest version level n s at).line
 onward-rest version Causal n s at = onward-marked version (shape.Clocks n s) at
 onward-rest version Atomic n s at = onward-end version at
 
 pub onward-claim : (version : Version) (level : Level) (sizes : Sizes) (at : Place) → at.line ≤ (claim_parts version level sizes at).line
-onward-claim version level (Order n s) at = onward-then at (words version (numbers_line n (ranges_of version).number) at) _ (onward-words version (numbers_line n (ranges_of version).number) at) (λ order. onward-rest version level n s order.1)
-onward-claim version level (Cycle n count least) at = onward-then at (repeated (link_at version) count at) _ (onward-links version count at) (λ links. onward-marked version (shape.Near n) links.1)
+onward-claim version level (Order n s) at =
+    onward-then at (words version (numbers_line n (ranges_of version).number) at) _ (onward-words version (numbers_line n (ranges_of version).number) at)
+    (λ order. onward-rest version level n s order.1)
+onward-claim version level (Cycle n count least) at =
+    onward-then at (repeated (link_at version) count at) _ (onward-links version count at) (λ links. onward-marked version (shape.Near n) links.1)
 
 pub onward-behind : (header : (Version × Level) × Place) → header.1.line ≤ (parts_behind header).line
 onward-behind header =
-    onward-then header.1 (words header.0.0 (sizes_line header.0.0) header.1) _ (onward-words header.0.0 (sizes_line header.0.0) header.1) (λ sizes. onward-claim header.0.0 header.0.1 sizes.0 sizes.1)
+    onward-then header.1 (words header.0.0 (sizes_line header.0.0) header.1) _ (onward-words header.0.0 (sizes_line header.0.0) header.1)
+    (λ sizes. onward-claim header.0.0 header.0.1 sizes.0 sizes.1)
 
 onward-whole : (at : Place) → at.line ≤ (whole_parts at).line
 onward-whole at = onward-then at (next MAX_HEADER_BYTES header_line at) parts_behind (onward-next MAX_HEADER_BYTES header_line at) onward-behind
@@ -84,40 +99,52 @@ onward-stage (stage.Rows version table left) at ahead is = rw is.2 (onward-table
 -- ---- what comes of a part
 
 -- it had a fault
-pub part-faults : {A F : Type 0} {at : Place} (read : Reads A) (behind : A × Place → Parts) (fault : CertFault) → ((x : A × Place) → x.1.line ≤ (behind x).line) → Faults F at read fault
+pub part-faults : {A F : Type 0} {at : Place} (read : Reads A) (behind : A × Place → Parts) (fault : CertFault)
+    → ((x : A × Place) → x.1.line ≤ (behind x).line) → Faults F at read fault
     → FaultsIn F at.line (read >>> behind) fault
 part-faults read behind fault later (inl is) = inl (rw is refl)
 part-faults (Ok x) behind fault later (inr cut) = inr (record { failure = cut.failure; first = cut.first; last = omega (arith, cut.last, later x) })
 part-faults (Err e) behind fault later (inr cut) = inr (record { failure = cut.failure; first = cut.first; last = cut.last })
 
 -- the line that was wanted is no later
-wanted-earlier : {F : Type 0} (wanted earlier : ℕ) (ahead : Parts) (fault : CertFault) → earlier ≤ wanted → FaultsIn F wanted ahead fault → FaultsIn F earlier ahead fault
+wanted-earlier : {F : Type 0} (wanted earlier : ℕ) (ahead : Parts) (fault : CertFault) → earlier ≤ wanted → FaultsIn F wanted ahead fault
+    → FaultsIn F earlier ahead fault
 wanted-earlier wanted earlier ahead fault le (inl is) = inl is
 wanted-earlier wanted earlier ahead fault le (inr cut) = inr (record { failure = cut.failure; first = omega (arith, le, cut.first); last = cut.last })
 
-step-earlier : {R : Type 0} (remaining : R → Option (List ℕ)) (wanted earlier : ℕ) (ahead : Parts) (result : Result (Part × Phase) CertFault) (new : Input R) → earlier ≤ wanted
+step-earlier : {R : Type 0} (remaining : R → Option (List ℕ)) (wanted earlier : ℕ) (ahead : Parts) (result : Result (Part × Phase) CertFault)
+    (new : Input R) → earlier ≤ wanted
     → TakesStep remaining wanted ahead result new → TakesStep remaining earlier ahead result new
 step-earlier remaining wanted earlier ahead (Ok given) new le taken = taken
 step-earlier remaining wanted earlier ahead (Err fault) new le faults = wanted-earlier wanted earlier ahead fault le faults
 
 -- it was read, and what comes behind it is given
-pub part-then : {A R : Type 0} (remaining : R → Option (List ℕ)) (at : Place) {after : Place} {x : A} (read : Reads A) (behind : A × Place → Parts) (result : Result (Part × Phase) CertFault) (new : Input R)
-    → read ≡ Ok (x, after) → at.line ≤ after.line → TakesStep remaining after.line (behind (x, after)) result new → TakesStep remaining at.line (read >>> behind) result new
+pub part-then : {A R : Type 0} (remaining : R → Option (List ℕ)) (at : Place) {after : Place} {x : A} (read : Reads A) (behind : A × Place → Parts)
+    (result : Result (Part × Phase) CertFault) (new : Input R)
+    → read ≡ Ok (x, after) → at.line ≤ after.line → TakesStep remaining after.line (behind (x, after)) result new
+    → TakesStep remaining at.line (read >>> behind) result new
 part-then remaining at {after} {x} read behind result new is on taken =
-    subst (λ r. TakesStep remaining at.line (r >>> behind) result new) (sym is) (step-earlier remaining after.line at.line (behind (x, after)) result new on taken)
+    subst (λ r. TakesStep remaining at.line (r >>> behind) result new) (sym is)
+    (step-earlier remaining after.line at.line (behind (x, after)) result new on taken)
 
 -- the line before the rows had a fault, or was read, and what comes behind it is given
-pub mark-faults : {F : Type 0} (version : Version) (word : List ℕ) (behind : Place → Parts) (at : Place) (fault : CertFault) → ((p : Place) → p.line ≤ (behind p).line) → Faults F at (words version (word_line word) at) fault
+pub mark-faults : {F : Type 0} (version : Version) (word : List ℕ) (behind : Place → Parts) (at : Place) (fault : CertFault)
+    → ((p : Place) → p.line ≤ (behind p).line) → Faults F at (words version (word_line word) at) fault
     → FaultsIn F at.line (words version (word_line word) at >>> λ mark. behind mark.1) fault
-mark-faults version word behind at fault later faults = part-faults (words version (word_line word) at) (λ mark. behind mark.1) fault (λ mark. later mark.1) faults
+mark-faults version word behind at fault later faults =
+    part-faults (words version (word_line word) at) (λ mark. behind mark.1) fault (λ mark. later mark.1) faults
 
-pub mark-then : {R : Type 0} (remaining : R → Option (List ℕ)) (version : Version) (word : List ℕ) (behind : Place → Parts) (at : Place) {after : Place} {done : Unit {0}} (result : Result (Part × Phase) CertFault) (new : Input R)
-    → words version (word_line word) at ≡ Ok (done, after) → TakesStep remaining after.line (behind after) result new → TakesStep remaining at.line (words version (word_line word) at >>> λ mark. behind mark.1) result new
+pub mark-then : {R : Type 0} (remaining : R → Option (List ℕ)) (version : Version) (word : List ℕ) (behind : Place → Parts)
+    (at : Place) {after : Place} {done : Unit {0}} (result : Result (Part × Phase) CertFault) (new : Input R)
+    → words version (word_line word) at ≡ Ok (done, after) → TakesStep remaining after.line (behind after) result new
+    → TakesStep remaining at.line (words version (word_line word) at >>> λ mark. behind mark.1) result new
 mark-then remaining version word behind at result new is taken =
-    part-then remaining at (words version (word_line word) at) (λ mark. behind mark.1) result new is (onward-at (words version (word_line word) at) (onward-words version (word_line word) at) is) taken
+    part-then remaining at (words version (word_line word) at) (λ mark. behind mark.1) result new is
+    (onward-at (words version (word_line word) at) (onward-words version (word_line word) at) is) taken
 
 -- one row more
-pub row-more : (version : Version) (table : TableShape) (from left n : ℕ) (at after : Place) (row : List ℕ) → n ≡ suc left → words version (numbers_line (columns_in version table from) (most_in version table)) at ≡ Ok (row, after)
+pub row-more : (version : Version) (table : TableShape) (from left n : ℕ) (at after : Place) (row : List ℕ) → n ≡ suc left
+    → words version (numbers_line (columns_in version table from) (most_in version table)) at ≡ Ok (row, after)
     → table_rows version table from n at ≡ after_part (part_of table row) (table_rows version table (from + 1) left after)
 row-more version table from left n at after row more is = rw more (rw is refl)
 
@@ -126,13 +153,16 @@ row-first (shape.Clocks n s) row ahead rest is = is
 row-first (shape.Near n) row ahead rest is = is
 row-first (shape.Far n) row ahead rest is = is
 
-pub row-faults : {F : Type 0} (version : Version) (table : TableShape) (from left n : ℕ) (at : Place) (fault : CertFault) → n ≡ suc left → Faults F at (words version (numbers_line (columns_in version table from) (most_in version table)) at) fault
+pub row-faults : {F : Type 0} (version : Version) (table : TableShape) (from left n : ℕ) (at : Place) (fault : CertFault) → n ≡ suc left
+    → Faults F at (words version (numbers_line (columns_in version table from) (most_in version table)) at) fault
     → FaultsIn F at.line (table_rows version table from n at) fault
 row-faults version table from left n at fault more faults =
-    rw more (part-faults (words version (numbers_line (columns_in version table from) (most_in version table)) at) _ fault (λ row. onward-table version table (from + 1) left row.1) faults)
+    rw more (part-faults (words version (numbers_line (columns_in version table from) (most_in version table)) at) _ fault
+    (λ row. onward-table version table (from + 1) left row.1) faults)
 
 -- the line `end` was read, and something stands behind it, or the reader failed
-pub end-faults : {R : Type 0} (version : Version) (at after : Place) (done : Unit {0}) (fault : CertFault) (new : Input R) → words version (word_line (codes "end")) at ≡ Ok (done, after) → at.line ≤ after.line
+pub end-faults : {R : Type 0} (version : Version) (at after : Place) (done : Unit {0}) (fault : CertFault) (new : Input R)
+    → words version (word_line (codes "end")) at ≡ Ok (done, after) → at.line ≤ after.line
     → Ends after (Err fault) new → FaultsIn (HasFailed new) at.line (end_parts version at) fault
 end-faults version at after done fault new is on (line, inl more) = inl (rw (is, some-left after.bytes more.1, line, more.0) refl)
 end-faults version at after done fault new is on (line, inr failed) =

@@ -1,5 +1,7 @@
 -- Parts of a text read one after the other, where a reader may fail and memory may be refused.
-use Rattle.std.proofs.Common.{◌≡◌, ℕ, suc, ◌+◌, ◌-◌, ◌<◌, ◌≤◌, ◌≢◌, false, eqb, length, List, [], ◌∷◌, ◌++◌, Option, Result, Ok, Err, inl, inr, refl, sym, ap, subst, ◌∙◌, arith, append_assoc, append-nil}
+use Rattle.std.proofs.Common.{◌≡◌, ℕ, suc, ◌+◌, ◌-◌, ◌<◌, ◌≤◌, ◌≢◌, false, eqb, length, List, [], ◌∷◌, ◌++◌}
+use Rattle.std.proofs.Common.{Option, Result, Ok, Err, inl, inr, refl, sym, ap, subst, ◌∙◌, arith, append_assoc}
+use Rattle.std.proofs.Common.append-nil
 use Rattle.std.proofs.lemmas.Bool.Decides.{nat_tests}
 use Rattle.tcc_cert.specs.declared.fault.CertFault.{CertFault}
 use Rattle.tcc_cert.specs.declared.fault.CertFaultKind.{CertFaultKind}
@@ -10,9 +12,11 @@ use Rattle.tcc_cert.specs.Reading.{◌>>=◌, Place, Reads, behind, next, number
 use Rattle.tcc_cert.proofs.OnwardFacts.{IsOnward, onward-then, onward-ok, onward-next, onward-numbered}
 
 -- the first part had a fault
-pub first-faults : {A B F : Type 0} {at : Place} (read : Reads A) (go : A × Place → Reads B) (fault : CertFault) → ((x : A × Place) → IsOnward x.1 (go x)) → Faults F at read fault → Faults F at (read >>= go) fault
+pub first-faults : {A B F : Type 0} {at : Place} (read : Reads A) (go : A × Place → Reads B) (fault : CertFault) → ((x : A × Place) → IsOnward x.1 (go x))
+    → Faults F at read fault → Faults F at (read >>= go) fault
 first-faults read go fault later (inl is) = inl (rw is refl)
-first-faults (Ok x) go fault later (inr stopped) = inr (record { failure = stopped.failure; first = stopped.first; last = omega (arith, stopped.last, (later x).onward) })
+first-faults (Ok x) go fault later (inr stopped) =
+    inr (record { failure = stopped.failure; first = stopped.first; last = omega (arith, stopped.last, (later x).onward) })
 first-faults (Err e) go fault later (inr stopped) = inr (record { failure = stopped.failure; first = stopped.first; last = stopped.last })
 
 -- the reading began no later
@@ -21,9 +25,11 @@ faults-from read fault on (inl is) = inl is
 faults-from read fault on (inr stopped) = inr (record { failure = stopped.failure; first = omega (arith, on, stopped.first); last = stopped.last })
 
 -- a later part had a fault
-pub later-faults : {A B F : Type 0} {at after : Place} {x : A} (read : Reads A) (go : A × Place → Reads B) (fault : CertFault) → read ≡ Ok (x, after) → at.line ≤ after.line
+pub later-faults : {A B F : Type 0} {at after : Place} {x : A} (read : Reads A) (go : A × Place → Reads B) (fault : CertFault) → read ≡ Ok (x, after)
+    → at.line ≤ after.line
     → Faults F after (go (x, after)) fault → Faults F at (read >>= go) fault
-later-faults {A} {B} {F} {at} {after} {x} read go fault is on faults = subst (λ r. Faults F at (r >>= go) fault) (sym is) (faults-from (go (x, after)) fault on faults)
+later-faults {A} {B} {F} {at} {after} {x} read go fault is on faults =
+    subst (λ r. Faults F at (r >>= go) fault) (sym is) (faults-from (go (x, after)) fault on faults)
 
 -- a part that was read ends no line before its first
 pub onward-at : {A : Type 0} {at after : Place} {x : A} (read : Reads A) → IsOnward at read → read ≡ Ok (x, after) → at.line ≤ after.line
@@ -46,7 +52,8 @@ rest-none (Err e) = refl
 pub part-none : {X : Type 0} (read : ℕ → Place → Reads X) (count : ℕ) (at : Place) → IsPart read count at [] 0 at
 part-none read count at = record { on = omega arith; part = ap (λ n. numbered read 0 n at) (omega arith) ∙ rest-none _ }
 
-rest-more : {X : Type 0} (front : List X) (x : X) (read : Reads (List X)) → before_rest front (read >>= λ others. Ok (x ∷ others.0, others.1)) ≡ before_rest (front ++ x ∷ []) read
+rest-more : {X : Type 0} (front : List X) (x : X) (read : Reads (List X))
+    → before_rest front (read >>= λ others. Ok (x ∷ others.0, others.1)) ≡ before_rest (front ++ x ∷ []) read
 rest-more front x (Ok others) = ap (λ l. Ok (l, others.1)) (sym (append_assoc front (x ∷ []) others.0))
 rest-more front x (Err e) = refl
 
@@ -54,7 +61,8 @@ one-more : {X : Type 0} (read : ℕ → Place → Reads X) (i n : ℕ) (now afte
     → numbered read i (suc n) now ≡ (numbered read (i + 1) n after >>= λ others. Ok (x ∷ others.0, others.1))
 one-more read i n now after x is = rw is refl
 
-pub part-more : {X : Type 0} (read : ℕ → Place → Reads X) (count : ℕ) (at : Place) (front : List X) (i : ℕ) (now after : Place) (x : X) → i < count → IsOnward now (read i now)
+pub part-more : {X : Type 0} (read : ℕ → Place → Reads X) (count : ℕ) (at : Place) (front : List X) (i : ℕ) (now after : Place) (x : X) → i < count
+    → IsOnward now (read i now)
     → IsPart read count at front i now → read i now ≡ Ok (x, after) → IsPart read count at (front ++ x ∷ []) (i + 1) after
 part-more read count at front i now after x lt on so_far is =
     let left : count - i ≡ suc (count - (i + 1)) = omega arith in
@@ -67,7 +75,8 @@ part-more read count at front i now after x lt on so_far is =
           ∙ rest-more front x (numbered read (i + 1) (count - (i + 1)) after);
     }
 
-pub part-all : {X : Type 0} (read : ℕ → Place → Reads X) (count : ℕ) (at : Place) (front : List X) (i : ℕ) (now : Place) → count ≤ i → IsPart read count at front i now
+pub part-all : {X : Type 0} (read : ℕ → Place → Reads X) (count : ℕ) (at : Place) (front : List X) (i : ℕ) (now : Place) → count ≤ i
+    → IsPart read count at front i now
     → numbered read 0 count at ≡ Ok (front, now)
 part-all read count at front i now le so_far =
     let left : count - i ≡ 0 = omega arith in
@@ -79,17 +88,25 @@ on-rest now front (Err e) = refl
 
 -- the next of them had a fault
 pub part-faults : {X F : Type 0} (read : ℕ → Place → Reads X) (count : ℕ) (at : Place) (front : List X) (i : ℕ) (now : Place) (fault : CertFault) → i < count
-    → ((k : ℕ) (p : Place) → IsOnward p (read k p)) → IsPart read count at front i now → Faults F now (read i now) fault → Faults F at (numbered read 0 count at) fault
+    → ((k : ℕ) (p : Place) → IsOnward p (read k p)) → IsPart read count at front i now → Faults F now (read i now) fault
+    → Faults F at (numbered read 0 count at) fault
 part-faults {X} {F} read count at front i now fault lt on so_far faults =
     let left : count - i ≡ suc (count - (i + 1)) = omega arith in
     let n = count - (i + 1) in
-    let one = first-faults (read i now) (λ first. numbered read (i + 1) n first.1 >>= λ others. Ok (first.0 ∷ others.0, others.1)) fault (λ first. onward-then first.1 (numbered read (i + 1) n first.1) _ (onward-numbered read (i + 1) n on first.1) (λ others. onward-ok (first.0 ∷ others.0) others.1 others.1 (omega arith))) faults in
-    let whole = first-faults (numbered read i (suc n) now) (λ rest. Ok (front ++ rest.0, rest.1)) fault (λ rest. onward-ok (front ++ rest.0) rest.1 rest.1 (omega arith)) one in
-    subst (λ r. Faults F at r fault) (sym (so_far.part ∙ ap (λ m. before_rest front (numbered read i m now)) left)) (faults-from (before_rest front (numbered read i (suc n) now)) fault so_far.on whole)
+    let one =
+    first-faults (read i now) (λ first. numbered read (i + 1) n first.1 >>= λ others. Ok (first.0 ∷ others.0, others.1)) fault
+    (λ first. onward-then first.1 (numbered read (i + 1) n first.1) _ (onward-numbered read (i + 1) n on first.1)
+    (λ others. onward-ok (first.0 ∷ others.0) others.1 others.1 (omega arith))) faults in
+    let whole =
+    first-faults (numbered read i (suc n) now) (λ rest. Ok (front ++ rest.0, rest.1)) fault
+    (λ rest. onward-ok (front ++ rest.0) rest.1 rest.1 (omega arith)) one in
+    subst (λ r. Faults F at r fault) (sym (so_far.part ∙ ap (λ m. before_rest front (numbered read i m now)) left))
+    (faults-from (before_rest front (numbered read i (suc n) now)) fault so_far.on whole)
 
 -- memory was refused between two of them
 pub part-refused : {X F : Type 0} (read : ℕ → Place → Reads X) (count : ℕ) (at : Place) (front : List X) (i : ℕ) (now : Place) (kind : CertFaultKind)
-    → ((k : ℕ) (p : Place) → IsOnward p (read k p)) → IsPart read count at front i now → IsFailure F kind → Faults F at (numbered read 0 count at) (record { line = now.line; kind = kind })
+    → ((k : ℕ) (p : Place) → IsOnward p (read k p)) → IsPart read count at front i now → IsFailure F kind
+    → Faults F at (numbered read 0 count at) (record { line = now.line; kind = kind })
 part-refused read count at front i now kind on so_far failure =
     let end = (onward-numbered read i (count - i) on now).onward in
     let same = ap reached so_far.part ∙ on-rest now front (numbered read i (count - i) now) in
@@ -98,7 +115,8 @@ part-refused read count at front i now kind on so_far failure =
 -- ---- the next line
 
 -- the next line was read and judged
-pub line-shows : {R X : Type 0} (remaining : R → Option (List ℕ)) (most : ℕ) (at : Place) (number : ℕ) (form : List ℕ → Result X CertFaultKind) (shown : Result X CertFaultKind) (new : Input R)
+pub line-shows : {R X : Type 0} (remaining : R → Option (List ℕ)) (most : ℕ) (at : Place) (number : ℕ) (form : List ℕ → Result X CertFaultKind)
+    (shown : Result X CertFaultKind) (new : Input R)
     → TakesLine remaining most at (Ok number) new → Shows shown (form (line_in new)) → Gives remaining at (next most form at) (at_line number shown) new
 line-shows remaining most at number form (Ok x) new taken shows = (behind at (line_in new), rw (taken.0, shows) refl, taken.2)
 line-shows remaining most at number form (Err kind) new taken (inl shows) = inl (rw (taken.0, shows, taken.1) refl)

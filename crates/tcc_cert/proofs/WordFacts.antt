@@ -1,5 +1,7 @@
 -- Words of a line, and digits one after the other.
-use Rattle.std.proofs.Common.{◌≡◌, ℕ, ◌+◌, ◌*◌, ◌/◌, ◌%◌, decimal, ◌-◌, ◌<◌, ◌≤◌, true, false, min, ltb, List, [], ◌∷◌, length, take, drop, get_or, map, ◌++◌, Result, Ok, Err, ◌≢◌, append_assoc, append-nil, refl, sym, ap, ◌∙◌, arith}
+use Rattle.std.proofs.Common.{◌≡◌, ℕ, ◌+◌, ◌*◌, ◌/◌, ◌%◌, decimal, ◌-◌, ◌<◌, ◌≤◌, true, false, min, ltb, List, [], ◌∷◌, length}
+use Rattle.std.proofs.Common.{take, drop, get_or, map, ◌++◌, Result, Ok, Err, ◌≢◌, append_assoc, append-nil, refl, sym, ap, ◌∙◌}
+use Rattle.std.proofs.Common.arith
 use Rattle.std.specs.Char.{digit_value, is_ascii_digit}
 use Rattle.std.specs.Str.{all_ascii_digits}
 use Rattle.std.specs.Str.Parse.{digits_value}
@@ -17,7 +19,8 @@ words_of-some [] some = absurd (omega arith)
 words_of-some (byte ∷ bytes) some = refl
 
 -- one more digit
-pub digits-more : (ds : List ℕ) (i : ℕ) → i < length ds → is_ascii_digit (get_or ds i 0) ≡ true → all_ascii_digits (drop i ds) ≡ all_ascii_digits (drop (i + 1) ds)
+pub digits-more : (ds : List ℕ) (i : ℕ) → i < length ds → is_ascii_digit (get_or ds i 0) ≡ true
+    → all_ascii_digits (drop i ds) ≡ all_ascii_digits (drop (i + 1) ds)
 digits-more ds i lt is = at_drop_more all_ascii_digits ds i 0 lt ∙ rw is refl
 
 pub digit-bounds : (c : ℕ) → is_ascii_digit c ≡ true → (48 ≤ c) × (c ≤ 57)
@@ -53,7 +56,8 @@ three_words-other form text (a ∷ b ∷ []) other = refl
 three_words-other form text (a ∷ b ∷ c ∷ []) other = absurd (other refl)
 three_words-other form text (a ∷ b ∷ c ∷ d ∷ words) other = refl
 
-pub five_words-other : {X A : Type 0} (form : List ℕ → List ℕ → List ℕ → List ℕ → List ℕ → Result X CertFaultKind) (text : A → List ℕ) (words : List A) → length words ≢ 5
+pub five_words-other : {X A : Type 0} (form : List ℕ → List ℕ → List ℕ → List ℕ → List ℕ → Result X CertFaultKind) (text : A → List ℕ) (words : List A)
+    → length words ≢ 5
     → Err Count ≡ five_words form (map text words)
 five_words-other form text [] other = refl
 five_words-other form text (a ∷ []) other = refl
@@ -73,18 +77,21 @@ pub with_front-none : (read : Result (List ℕ) CertFaultKind) → with_front []
 with_front-none (Ok numbers) = refl
 with_front-none (Err kind) = refl
 
-front-more : (front : List ℕ) (n : ℕ) (read : Result (List ℕ) CertFaultKind) → with_front (front ++ n ∷ []) read ≡ with_front front (read >>= λ numbers. Ok (n ∷ numbers))
+front-more : (front : List ℕ) (n : ℕ) (read : Result (List ℕ) CertFaultKind)
+    → with_front (front ++ n ∷ []) read ≡ with_front front (read >>= λ numbers. Ok (n ∷ numbers))
 front-more front n (Ok numbers) = ap Ok (append_assoc front (n ∷ []) numbers)
 front-more front n (Err kind) = refl
 
 -- one more word
-pub numbers-more : (most : ℕ) (words : Words) (i : ℕ) (w : List ℕ) (n : ℕ) (front : List ℕ) → i < length words → w ≡ get_or words i w → number_of 0 most w ≡ Ok n
+pub numbers-more : (most : ℕ) (words : Words) (i : ℕ) (w : List ℕ) (n : ℕ) (front : List ℕ) → i < length words → w ≡ get_or words i w
+    → number_of 0 most w ≡ Ok n
     → with_front (front ++ n ∷ []) (numbers_of most (drop (i + 1) words)) ≡ with_front front (numbers_of most (drop i words))
 numbers-more most words i w n front lt is read =
     front-more front n (numbers_of most (drop (i + 1) words))
     ∙ sym (ap (with_front front) (at_drop_more (numbers_of most) words i w lt ∙ rw (← is, read) refl))
 
-pub numbers-fault : (most : ℕ) (words : Words) (i : ℕ) (w : List ℕ) (kind : CertFaultKind) (front : List ℕ) → i < length words → w ≡ get_or words i w → number_of 0 most w ≡ Err kind
+pub numbers-fault : (most : ℕ) (words : Words) (i : ℕ) (w : List ℕ) (kind : CertFaultKind) (front : List ℕ) → i < length words → w ≡ get_or words i w
+    → number_of 0 most w ≡ Err kind
     → with_front front (numbers_of most (drop i words)) ≡ Err kind
 numbers-fault most words i w kind front lt is read =
     let here : numbers_of most (drop i words) ≡ Err kind = at_drop_more (numbers_of most) words i w lt ∙ rw (← is, read) refl in

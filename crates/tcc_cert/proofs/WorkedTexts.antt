@@ -43,7 +43,15 @@ long_fork : certificate_text (claim.Order
     4
     ((0 ∷ 0 ∷ 0 ∷ 0 ∷ []) ∷ (0 ∷ 0 ∷ 0 ∷ 0 ∷ []) ∷ (0 ∷ 0 ∷ 0 ∷ 0 ∷ []) ∷ (1 ∷ 0 ∷ 0 ∷ 0 ∷ []) ∷ (0 ∷ 1 ∷ 0 ∷ 0 ∷ []) ∷ []))
     ≡ codes "tcc-certificate 1\norder 5 4\n0 1 2 3 4\nclocks\n0 0 0 0\n0 0 0 0\n0 0 0 0\n1 0 0 0\n0 1 0 0\nend\n"
-long_fork = rw (decimal_digit 0 (lit< tt), decimal_digit 1 (lit< tt), decimal_digit 2 (lit< tt), decimal_digit 3 (lit< tt), decimal_digit 4 (lit< tt), decimal_digit 5 (lit< tt)) refl
+long_fork =
+    rw (
+      decimal_digit 0 (lit< tt),
+      decimal_digit 1 (lit< tt),
+      decimal_digit 2 (lit< tt),
+      decimal_digit 3 (lit< tt),
+      decimal_digit 4 (lit< tt),
+      decimal_digit 5 (lit< tt),
+    ) refl
 
 -- rows of version 2 begin at their own number
 two_reads_upward : certificate_text (claim.Cycle

@@ -12,6 +12,7 @@ abbrev pub HasFailed : {W : Type 0} → CycleWriter W → Type 0
 HasFailed writer = writer.stage ≡ Failed
 
 -- of a claim about so many transactions it was given these rows: behind what its output had before, their lines went out or wait to
-pub record HasTaken {W : Type 0} (contents : W → Option (List ℕ)) (before : Option (List ℕ)) (count : ℕ) (k : CycleClaim) (writer : CycleWriter W) : Type 0 where
+pub record HasTaken {W : Type 0} (contents : W → Option (List ℕ)) (before : Option (List ℕ)) (count : ℕ) (k : CycleClaim)
+    (writer : CycleWriter W) : Type 0 where
   pub lines : Sends before [] (contents writer.out.now) writer.outgoing (lines_text (given_lines count k))
   pub stage : writer.stage ≡ stage_of k.far

@@ -49,7 +49,8 @@ behind_table version (shape.Far transactions) at = end_parts version at
 -- its rows from a row on, so many are left, and what comes behind them
 abbrev pub table_rows : Version → TableShape → ℕ → ℕ → Place → Parts
 table_rows version table from left at =
-    rows_then (part_of table) (λ row. words version (numbers_line (columns_in version table row) (most_in version table))) (behind_table version table) from left at
+    rows_then (part_of table) (λ row. words version (numbers_line (columns_in version table row) (most_in version table)))
+    (behind_table version table) from left at
 
 -- the line before its rows, and these
 abbrev pub table_parts : Version → TableShape → Place → Parts

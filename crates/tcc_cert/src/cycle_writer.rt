@@ -212,7 +212,8 @@ impl<'w, W: Write> CycleWriter<'w, W> {
         ensures whole { (before : Option (List ℕ)) (k : CycleClaim) → HasTaken W.contents before (length k.near) k self.entry
             → OnOk result (Appends before (W.contents self.exit.0.now) (certificate_text (claim.Cycle k.version k.level k.links k.least k.near k.far))) }
         ensures part { (before : Option (List ℕ)) (k : CycleClaim) → HasTaken W.contents before (length k.near) k self.entry
-            → OnErr result ((n : ℕ) × Appends before (W.contents self.exit.0.now) (take n (certificate_text (claim.Cycle k.version k.level k.links k.least k.near k.far)))) }
+            → OnErr result ((n : ℕ) × Appends before (W.contents self.exit.0.now)
+            (take n (certificate_text (claim.Cycle k.version k.level k.links k.least k.near k.far)))) }
         ensures stays_failed { HasFailed self.entry → (result ≡ Err Device) × Keeps (W.contents self.entry.out.now) (W.contents self.exit.0.now) }
     {
         let CycleWriter {
@@ -266,8 +267,10 @@ pub(crate) fn write_cycle<W: Write>(
     near: &Table,
     far: &Table,
 ) -> Result<(), WriteFault>
-    ensures whole { OnOk result (Appends (W.contents out.old) (W.contents out.new) (certificate_text (claim.Cycle version level parts.now least near.now far.now))) }
-    ensures part { OnErr result ((n : ℕ) × Appends (W.contents out.old) (W.contents out.new) (take n (certificate_text (claim.Cycle version level parts.now least near.now far.now)))) }
+    ensures whole { OnOk result
+        (Appends (W.contents out.old) (W.contents out.new) (certificate_text (claim.Cycle version level parts.now least near.now far.now))) }
+    ensures part { OnErr result ((n : ℕ) × Appends (W.contents out.old) (W.contents out.new)
+        (take n (certificate_text (claim.Cycle version level parts.now least near.now far.now)))) }
 {
     let mut outgoing = Outgoing::new();
     first_lines(

@@ -23,5 +23,6 @@ pub fn parts_of_what_is_read()
 
 /// The parts of any other text end in its first fault.
 pub fn parts_before_the_fault()
-    ensures { (bytes : List ℕ) (f : CertFault) → certificate_read bytes ≡ Err f → ((parts_read bytes).fault ≡ Some f.kind) × ((parts_read bytes).line ≡ f.line) }
+    ensures { (bytes : List ℕ) (f : CertFault) → certificate_read bytes ≡ Err f
+        → ((parts_read bytes).fault ≡ Some f.kind) × ((parts_read bytes).line ≡ f.line) }
 {}

@@ -75,7 +75,8 @@ fn derived<W: Write>(
     reader: u32,
     steps: usize,
 ) -> io::Result<()>
-    ensures { IsSent result (W.contents out.old) outgoing.old (W.contents out.new) outgoing.new (line_text (codes "D" ∷ decimal from ∷ decimal to ∷ key.now ∷ decimal reader ∷ decimal steps ∷ [])) }
+    ensures { IsSent result (W.contents out.old) outgoing.old (W.contents out.new) outgoing.new
+        (line_text (codes "D" ∷ decimal from ∷ decimal to ∷ key.now ∷ decimal reader ∷ decimal steps ∷ [])) }
 {
     let mut first = Buffer::new();
     let mut second = Buffer::new();
@@ -127,7 +128,8 @@ fn order_sizes<W: Write>(
     transactions: usize,
     sessions: u32,
 ) -> io::Result<()>
-    ensures { IsSent result (W.contents out.old) outgoing.old (W.contents out.new) outgoing.new (line_text (codes "order" ∷ decimal transactions ∷ decimal sessions ∷ [])) }
+    ensures { IsSent result (W.contents out.old) outgoing.old (W.contents out.new) outgoing.new
+        (line_text (codes "order" ∷ decimal transactions ∷ decimal sessions ∷ [])) }
 {
     let mut first = Buffer::new();
     let mut second = Buffer::new();
@@ -181,7 +183,8 @@ pub(crate) fn cycle_sizes<W: Write>(
     links: usize,
     least: u32,
 ) -> io::Result<()>
-    ensures { IsSent result (W.contents out.old) outgoing.old (W.contents out.new) outgoing.new (line_text (codes "cycle" ∷ decimal transactions ∷ decimal links ∷ decimal least ∷ [])) }
+    ensures { IsSent result (W.contents out.old) outgoing.old (W.contents out.new) outgoing.new
+        (line_text (codes "cycle" ∷ decimal transactions ∷ decimal links ∷ decimal least ∷ [])) }
 {
     let mut first = Buffer::new();
     let mut second = Buffer::new();
@@ -235,8 +238,10 @@ fn write_order<W: Write>(
     sessions: u32,
     clocks: &Table,
 ) -> io::Result<()>
-    ensures whole { OnOk result (Appends (W.contents out.old) (W.contents out.new) (certificate_text (claim.Order version level numbers.now sessions clocks.now))) }
-    ensures part { OnErr result ((n : ℕ) × Appends (W.contents out.old) (W.contents out.new) (take n (certificate_text (claim.Order version level numbers.now sessions clocks.now)))) }
+    ensures whole { OnOk result
+        (Appends (W.contents out.old) (W.contents out.new) (certificate_text (claim.Order version level numbers.now sessions clocks.now))) }
+    ensures part { OnErr result ((n : ℕ) × Appends (W.contents out.old) (W.contents out.new)
+        (take n (certificate_text (claim.Order version level numbers.now sessions clocks.now)))) }
 {
     let mut outgoing = Outgoing::new();
     header_line(&mut outgoing, out, version, level)?;

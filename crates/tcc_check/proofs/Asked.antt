@@ -24,7 +24,8 @@ answer_later [] later answer hold said = said
 answer_later (asked ∷ rules) later verdict.Accepted hold said = (hold.0, answer_later rules later verdict.Accepted hold.1 said)
 answer_later (asked ∷ rules) later (verdict.Rejected rule at) hold said = inr (hold.0, answer_later rules later (verdict.Rejected rule at) hold.1 said)
 
-pub ok_later : {E : Type 0} (rules later : List Asked) (result : Result Verdict E) → AllHold rules → IfOk result (IsAnswer later) → IfOk result (IsAnswer (rules ++ later))
+pub ok_later : {E : Type 0} (rules later : List Asked) (result : Result Verdict E) → AllHold rules → IfOk result (IsAnswer later)
+    → IfOk result (IsAnswer (rules ++ later))
 ok_later rules later (Ok answer) hold said = answer_later rules later answer hold said
 ok_later rules later (Err e) hold said = said
 
@@ -33,7 +34,8 @@ all_hold rules verdict.Accepted accepted said = said
 all_hold rules (verdict.Rejected rule at) accepted said = absurd cc
 
 -- the same places of a rule by other words, before one that is broken nowhere
-pub one_as : (a b : Rule) (P P' Q : ℕ × ℕ → Type 0) → ((at : ℕ × ℕ) → P at ↔ P' at) → ((at : ℕ × ℕ) → Q at → ⊥) → (answer : Verdict) → IsAnswer (by_places a P ∷ []) answer → IsAnswer (by_places a P' ∷ by_places b Q ∷ []) answer
+pub one_as : (a b : Rule) (P P' Q : ℕ × ℕ → Type 0) → ((at : ℕ × ℕ) → P at ↔ P' at) → ((at : ℕ × ℕ) → Q at → ⊥) → (answer : Verdict)
+    → IsAnswer (by_places a P ∷ []) answer → IsAnswer (by_places a P' ∷ by_places b Q ∷ []) answer
 one_as a b P P' Q p none verdict.Accepted said = (nowhere_as P P' (λ at. (p at).1) said.0, (none, tt))
 one_as a b P P' Q p none (verdict.Rejected rule at) (inl here) = inl (here.0, first_as P P' (λ at. (p at).0) (λ at. (p at).1) at here.1)
 one_as a b P P' Q p none (verdict.Rejected rule at) (inr behind) = absurd behind.1
@@ -43,7 +45,8 @@ module _ (a b : Rule) (P Q P' Q' : ℕ × ℕ → Type 0) (p : (at : ℕ × ℕ)
   pub two_as : (answer : Verdict) → IsAnswer (by_places a P ∷ by_places b Q ∷ []) answer → IsAnswer (by_places a P' ∷ by_places b Q' ∷ []) answer
   two_as verdict.Accepted said = (nowhere_as P P' (λ at. (p at).1) said.0, (nowhere_as Q Q' (λ at. (q at).1) said.1.0, tt))
   two_as (verdict.Rejected rule at) (inl here) = inl (here.0, first_as P P' (λ at. (p at).0) (λ at. (p at).1) at here.1)
-  two_as (verdict.Rejected rule at) (inr (holds, inl here)) = inr (nowhere_as P P' (λ at. (p at).1) holds, inl (here.0, first_as Q Q' (λ at. (q at).0) (λ at. (q at).1) at here.1))
+  two_as (verdict.Rejected rule at) (inr (holds, inl here)) =
+      inr (nowhere_as P P' (λ at. (p at).1) holds, inl (here.0, first_as Q Q' (λ at. (q at).0) (λ at. (q at).1) at here.1))
   two_as (verdict.Rejected rule at) (inr (holds, inr none)) = absurd none.1
 
 -- the first of two verdicts that is no acceptance, on the first rules and on the later ones

@@ -12,7 +12,8 @@ lowered_row P Q old new was h = record {
     low u w l (inl p) = omega (arith, was.low u w l p, h.kept u l)
     low u w l (inr q) = h.low u w l q
 
-    from : (u : ℕ) → (get_or new u 0 ≡ get_or old u 0) ⊎ Q u (get_or new u 0) → (get_or old u 0 ≡ unlinked) ⊎ P u (get_or old u 0) → (get_or new u 0 ≡ unlinked) ⊎ (P u (get_or new u 0) ⊎ Q u (get_or new u 0))
+    from : (u : ℕ) → (get_or new u 0 ≡ get_or old u 0) ⊎ Q u (get_or new u 0) → (get_or old u 0 ≡ unlinked) ⊎ P u (get_or old u 0)
+        → (get_or new u 0 ≡ unlinked) ⊎ (P u (get_or new u 0) ⊎ Q u (get_or new u 0))
     from u (inr q) older = inr (inr q)
     from u (inl same) (inl none) = inl (same ∙ none)
     from u (inl same) (inr p) = inr (inl (subst (λ z. P u z) (sym same) p))

@@ -1,5 +1,7 @@
 -- Runs of session pairs, as far as they are found.
-use Rattle.std.proofs.Common.{◌≡◌, ◌<◌, ◌≤◌, ◌+◌, ◌-◌, ◌==◌, ℕ, min, true, ◌&&◌, ◌⊎◌, inl, inr, List, [], ◌∷◌, ◌++◌, length, get_or, arith, nat_lt, refl, sym, ap, subst, ◌∙◌}
+use Rattle.std.proofs.Common.{◌≡◌, ◌<◌, ◌≤◌, ◌+◌, ◌-◌, ◌==◌, ℕ, min, true, ◌&&◌, ◌⊎◌, inl, inr}
+use Rattle.std.proofs.Common.{List, [], ◌∷◌, ◌++◌, length, get_or, arith, nat_lt, refl, sym, ap}
+use Rattle.std.proofs.Common.{subst, ◌∙◌}
 use Rattle.std.proofs.lemmas.Bool.{cases_eq, cases_lt, or_cases, and_parts, and_from, or_left, or_right, ltb-true, lt-ltb, eqb-true, eq-eqb}
 use Rattle.std.proofs.lemmas.List.{get_or_append_left, get_or_push, length_push}
 use Rattle.tcc_reads.specs.History.{History, count, owner, place}
@@ -11,14 +13,17 @@ use Rattle.tcc_check.specs.Searches.{IsLongRun}
 
 -- `init` stands before every other transaction
 pub init_pair : (h : History) (v : ℕ) → 0 < v → v < count h → IsSessionPair h 0 v
-init_pair h v some below = and_from _ _ (and_from _ _ (lt-ltb 0 (count h) (omega arith)) (lt-ltb v (count h) below)) (or_left _ _ (and_from _ _ refl (lt-ltb 0 v some)))
+init_pair h v some below =
+    and_from _ _ (and_from _ _ (lt-ltb 0 (count h) (omega arith)) (lt-ltb v (count h) below)) (or_left _ _ (and_from _ _ refl (lt-ltb 0 v some)))
 
 -- of two transactions after `init`, in one session
 abbrev AreOwned : History → ℕ → ℕ → Type 0
 AreOwned h a b = (0 < a) × (0 < b) × (owner h a ≡ owner h b) × (place h a < place h b)
 
 pair_parts : (h : History) (a b : ℕ) → IsSessionPair h a b → ((a ≡ 0) × (0 < b)) ⊎ AreOwned h a b
-pair_parts h a b p = go (or_cases ((a == 0) && nat_lt 0 b) (nat_lt 0 a && nat_lt 0 b && (owner h a == owner h b) && nat_lt (place h a) (place h b)) (and_parts (nat_lt a (count h) && nat_lt b (count h)) _ p).1)
+pair_parts h a b p =
+    go (or_cases ((a == 0) && nat_lt 0 b) (nat_lt 0 a && nat_lt 0 b && (owner h a == owner h b) && nat_lt (place h a) (place h b))
+    (and_parts (nat_lt a (count h) && nat_lt b (count h)) _ p).1)
   where
     owned : (nat_lt 0 a && nat_lt 0 b && (owner h a == owner h b) && nat_lt (place h a) (place h b)) ≡ true → AreOwned h a b
     owned e =
@@ -27,14 +32,16 @@ pair_parts h a b p = go (or_cases ((a == 0) && nat_lt 0 b) (nat_lt 0 a && nat_lt
         let some = and_parts (nat_lt 0 a) (nat_lt 0 b) one.0 in
         (ltb-true 0 a some.0, ltb-true 0 b some.1, eqb-true (owner h a) (owner h b) one.1, ltb-true (place h a) (place h b) placed.1)
 
-    go : (((a == 0) && nat_lt 0 b) ≡ true) ⊎ ((nat_lt 0 a && nat_lt 0 b && (owner h a == owner h b) && nat_lt (place h a) (place h b)) ≡ true) → ((a ≡ 0) × (0 < b)) ⊎ AreOwned h a b
+    go : (((a == 0) && nat_lt 0 b) ≡ true) ⊎ ((nat_lt 0 a && nat_lt 0 b && (owner h a == owner h b) && nat_lt (place h a) (place h b)) ≡ true)
+        → ((a ≡ 0) × (0 < b)) ⊎ AreOwned h a b
     go (inl e) = let parts = and_parts (a == 0) (nat_lt 0 b) e in inl (eqb-true a 0 parts.0, ltb-true 0 b parts.1)
     go (inr e) = inr (owned e)
 
 owned_pair : (h : History) (a b : ℕ) → a < count h → b < count h → AreOwned h a b → IsSessionPair h a b
 owned_pair h a b l m (some, more, same, less) =
     let one : (owner h a == owner h b) ≡ true = eq-eqb (owner h a) (owner h b) same in
-    and_from _ _ (and_from _ _ (lt-ltb a (count h) l) (lt-ltb b (count h) m)) (or_right _ _ (and_from _ _ (and_from _ _ (and_from _ _ (lt-ltb 0 a some) (lt-ltb 0 b more)) one) (lt-ltb (place h a) (place h b) less)))
+    and_from _ _ (and_from _ _ (lt-ltb a (count h) l) (lt-ltb b (count h) m))
+    (or_right _ _ (and_from _ _ (and_from _ _ (and_from _ _ (lt-ltb 0 a some) (lt-ltb 0 b more)) one) (lt-ltb (place h a) (place h b) less)))
 
 -- session order goes on from one pair to the next
 pub pair_onward : (h : History) (a b c : ℕ) → IsSessionPair h a b → IsSessionPair h b c → IsSessionPair h a c
@@ -44,7 +51,8 @@ pair_onward h a b c p q = go (pair_parts h a b p) (pair_parts h b c q)
     go (inl first) (inl second) = absurd (omega (arith, first.1, second.0))
     go (inl first) (inr second) = rw first.0 (init_pair h c second.1 (session_below h b c q).1)
     go (inr first) (inl second) = absurd (omega (arith, first.1, second.0))
-    go (inr first) (inr second) = owned_pair h a c (session_below h a b p).0 (session_below h b c q).1 (first.0, second.1, first.2 ∙ second.2, omega (arith, first.3, second.3))
+    go (inr first) (inr second) =
+        owned_pair h a c (session_below h a b p).0 (session_below h b c q).1 (first.0, second.1, first.2 ∙ second.2, omega (arith, first.3, second.3))
 
 -- the runs of the first numbers, the last of which goes on from `begin`
 pub record AreRunsTo (e : ℕ) (h : History) (begin : ℕ) (begins : List ℕ) : Type 0 where
@@ -66,7 +74,9 @@ no_runs h = record {
 }
 
 -- one run more, whose numbers are known to be pairs with the last
-module _ (e : ℕ) (h : History) (old begin : ℕ) (begins : List ℕ) (was : AreRunsTo e h old begins) (within : begin ≤ e) (onward : (v : ℕ) → e ≡ v + 1 → (begin ≡ e) ⊎ (begin ≡ get_or begins v 0)) (pairs : (u : ℕ) → IsInRun begin e u → IsSessionPair h u e) (all : (u : ℕ) → IsSessionPair h u e → IsInRun begin e u) where
+module _ (e : ℕ) (h : History) (old begin : ℕ) (begins : List ℕ) (was : AreRunsTo e h old begins) (within : begin ≤ e)
+    (onward : (v : ℕ) → e ≡ v + 1 → (begin ≡ e) ⊎ (begin ≡ get_or begins v 0)) (pairs : (u : ℕ) → IsInRun begin e u → IsSessionPair h u e)
+    (all : (u : ℕ) → IsSessionPair h u e → IsInRun begin e u) where
   here : get_or (begins ++ begin ∷ []) e 0 ≡ begin
   here = get_or_push begins begin 0 e (was.long)
 
@@ -97,19 +107,24 @@ module _ (e : ℕ) (h : History) (old begin : ℕ) (begins : List ℕ) (was : Ar
       inside v l (inl same) = rw (same, here) within
       inside v l (inr apart) = rw (before v (omega arith)) (was.within v (omega arith))
 
-      on : (v : ℕ) → v + 1 < e + 1 → (v + 1 ≡ e) ⊎ (v + 1 ≡ e → ⊥) → (get_or (begins ++ begin ∷ []) (v + 1) 0 ≡ v + 1) ⊎ (get_or (begins ++ begin ∷ []) (v + 1) 0 ≡ get_or (begins ++ begin ∷ []) v 0)
+      on : (v : ℕ) → v + 1 < e + 1 → (v + 1 ≡ e) ⊎ (v + 1 ≡ e → ⊥)
+          → (get_or (begins ++ begin ∷ []) (v + 1) 0 ≡ v + 1) ⊎ (get_or (begins ++ begin ∷ []) (v + 1) 0 ≡ get_or (begins ++ begin ∷ []) v 0)
       on v l (inl same) = turn (onward v (sym same))
         where
           at : get_or (begins ++ begin ∷ []) (v + 1) 0 ≡ begin
           at = ap (λ k. get_or (begins ++ begin ∷ []) k 0) same ∙ here
 
-          turn : (begin ≡ e) ⊎ (begin ≡ get_or begins v 0) → (get_or (begins ++ begin ∷ []) (v + 1) 0 ≡ v + 1) ⊎ (get_or (begins ++ begin ∷ []) (v + 1) 0 ≡ get_or (begins ++ begin ∷ []) v 0)
+          turn : (begin ≡ e) ⊎ (begin ≡ get_or begins v 0) → (get_or (begins ++ begin ∷ []) (v + 1) 0 ≡ v + 1)
+              ⊎ (get_or (begins ++ begin ∷ []) (v + 1) 0 ≡ get_or (begins ++ begin ∷ []) v 0)
           turn (inl new) = inl (at ∙ new ∙ sym same)
           turn (inr kept) = inr (at ∙ kept ∙ sym (before v (omega (arith, same))))
       on v l (inr apart) = rw (before (v + 1) (omega arith), before v (omega arith)) (was.onward v (omega arith))
 
       pair : (u v : ℕ) → v < e + 1 → IsInRun (get_or (begins ++ begin ∷ []) v 0) v u → (v ≡ e) ⊎ (v ≡ e → ⊥) → IsSessionPair h u v
-      pair u v l p (inl same) = subst (λ (z : ℕ). IsSessionPair h u z) (sym same) (pairs u (subst (λ (z : ℕ). IsInRun z e u) (ap (λ k. get_or (begins ++ begin ∷ []) k 0) same ∙ here) (subst (λ (z : ℕ). IsInRun (get_or (begins ++ begin ∷ []) v 0) z u) same p)))
+      pair u v l p (inl same) =
+          subst (λ (z : ℕ). IsSessionPair h u z) (sym same)
+          (pairs u (subst (λ (z : ℕ). IsInRun z e u) (ap (λ k. get_or (begins ++ begin ∷ []) k 0) same ∙ here)
+          (subst (λ (z : ℕ). IsInRun (get_or (begins ++ begin ∷ []) v 0) z u) same p)))
       pair u v l p (inr apart) = was.pairs u v (omega arith) (subst (λ (z : ℕ). IsInRun z v u) (before v (omega arith)) p)
 
 -- what has no session pair with `init` alone comes after another
@@ -128,7 +143,8 @@ pub last_at : (h : History) (e last other : ℕ) → last ≡ other → IsLastBe
 last_at h e last other same is = subst (λ (z : ℕ). IsLastBefore h e z) same is
 
 -- a run that begins anew, where `init` alone stands before
-pub run_begun : (e : ℕ) (h : History) (old : ℕ) (begins : List ℕ) → e < count h → (0 < e → IsLastBefore h e 0) → AreRunsTo e h old begins → AreRunsTo (e + 1) h e (begins ++ e ∷ [])
+pub run_begun : (e : ℕ) (h : History) (old : ℕ) (begins : List ℕ) → e < count h → (0 < e → IsLastBefore h e 0) → AreRunsTo e h old begins
+    → AreRunsTo (e + 1) h e (begins ++ e ∷ [])
 run_begun e h old begins below last was = one_more_run e h old e begins was (omega arith) (λ v is. inl refl) pairs all
   where
     pairs : (u : ℕ) → IsInRun e e u → IsSessionPair h u e
@@ -147,8 +163,10 @@ run_begun e h old begins below last was = one_more_run e h old e begins was (ome
         go (inr some) = let more : 0 < e = omega (arith, some) in turn more (last more u p)
 
 -- one that goes on
-pub run_kept : (e : ℕ) (h : History) (begin : ℕ) (begins : List ℕ) → e < count h → 0 < e → session_pair h (e - 1) e ≡ true → IsLastBefore h e (e - 1) → AreRunsTo e h begin begins → AreRunsTo (e + 1) h begin (begins ++ begin ∷ [])
-run_kept e h begin begins below some goes last was = one_more_run e h begin begin begins was (omega (arith, is, was.within (e - 1) (omega arith))) (λ v e. inr (was.last v e)) pairs (λ u p. all u (last u p))
+pub run_kept : (e : ℕ) (h : History) (begin : ℕ) (begins : List ℕ) → e < count h → 0 < e → session_pair h (e - 1) e ≡ true → IsLastBefore h e (e - 1)
+    → AreRunsTo e h begin begins → AreRunsTo (e + 1) h begin (begins ++ begin ∷ [])
+run_kept e h begin begins below some goes last was =
+    one_more_run e h begin begin begins was (omega (arith, is, was.within (e - 1) (omega arith))) (λ v e. inr (was.last v e)) pairs (λ u p. all u (last u p))
   where
     is : begin ≡ get_or begins (e - 1) 0
     is = was.last (e - 1) (omega arith)
@@ -179,7 +197,8 @@ all_runs e h begin begins all was = record {
 pub record IsCarried (begins row : List ℕ) (low e opening least : ℕ) : Type 0 where
   pub opened : (opening ≡ unlinked) ⊎ ((low ≡ 0) × (0 < e) × (opening ≡ get_or row 0 0))
   pub opens : low ≡ 0 → 0 < e → opening ≤ get_or row 0 0
-  pub from : e < low + length row → get_or begins e 0 < e → (least ≡ unlinked) ⊎ ((u : ℕ) × IsInRun (get_or begins e 0) e u × (low ≤ u) × (get_or row (u - low) 0 ≡ least))
+  pub from : e < low + length row → get_or begins e 0 < e → (least ≡ unlinked)
+      ⊎ ((u : ℕ) × IsInRun (get_or begins e 0) e u × (low ≤ u) × (get_or row (u - low) 0 ≡ least))
   pub lower : e < low + length row → get_or begins e 0 < e → (u : ℕ) → IsInRun (get_or begins e 0) e u → low ≤ u → least ≤ get_or row (u - low) 0
 
 -- so where e is looked at
@@ -195,11 +214,13 @@ nothing_carried begins row low = record {
   lower = λ l goes u run from. absurd (omega (arith, run.0));
 }
 
-module _ (begins row : List ℕ) (low e : ℕ) (runs : HasRuns begins) (long : length begins ≡ low + length row) (inside : e < low + length row) (above : low ≤ e) where
+module _ (begins row : List ℕ) (low e : ℕ) (runs : HasRuns begins) (long : length begins ≡ low + length row) (inside : e < low + length row)
+    (above : low ≤ e) where
   pub run_anew : (opening least : ℕ) → get_or begins e 0 ≡ e → IsCarried begins row low e opening least → IsRunLeast begins row low e opening
   run_anew opening least anew was = record { from = from was.opened; lower = λ u run low_u. lower u run.0 run.1 low_u }
     where
-      from : (opening ≡ unlinked) ⊎ ((low ≡ 0) × (0 < e) × (opening ≡ get_or row 0 0)) → (opening ≡ unlinked) ⊎ ((u : ℕ) × IsInRun (get_or begins e 0) e u × (low ≤ u) × (get_or row (u - low) 0 ≡ opening))
+      from : (opening ≡ unlinked) ⊎ ((low ≡ 0) × (0 < e) × (opening ≡ get_or row 0 0))
+          → (opening ≡ unlinked) ⊎ ((u : ℕ) × IsInRun (get_or begins e 0) e u × (low ≤ u) × (get_or row (u - low) 0 ≡ opening))
       from (inl none) = inl none
       from (inr (first, some, is)) = inr (0, (some, inl refl), omega (arith, first), rw first (sym is))
 
@@ -218,14 +239,17 @@ module _ (begins row : List ℕ) (low e : ℕ) (runs : HasRuns begins) (long : l
 
   -- the number of e is looked at
   -- the run is begun anew, or goes on
-  pub run_here : (opening least carried : ℕ) → IsCarried begins row low e opening least → (get_or begins e 0 ≡ e → carried ≡ opening) → ((get_or begins e 0 ≡ e → ⊥) → carried ≡ least) → IsRunLeast begins row low e carried
+  pub run_here : (opening least carried : ℕ) → IsCarried begins row low e opening least → (get_or begins e 0 ≡ e → carried ≡ opening)
+      → ((get_or begins e 0 ≡ e → ⊥) → carried ≡ least) → IsRunLeast begins row low e carried
   run_here opening least carried was anew on = go (cases_eq (get_or begins e 0) e)
     where
       go : (get_or begins e 0 ≡ e) ⊎ (get_or begins e 0 ≡ e → ⊥) → IsRunLeast begins row low e carried
       go (inl same) = rw (anew same) (run_anew opening least same was)
       go (inr apart) = rw (on apart) (run_on opening least apart was)
 
-  pub carried_on : (opening old least new : ℕ) → IsCarried begins row low e old opening → IsRunLeast begins row low e least → new ≡ min least (get_or row (e - low) 0) → (next : ℕ) → (e ≡ 0 → next ≡ get_or row (e - low) 0) → ((e ≡ 0 → ⊥) → next ≡ old) → IsCarried begins row low (e + 1) next new
+  pub carried_on : (opening old least new : ℕ) → IsCarried begins row low e old opening → IsRunLeast begins row low e least
+      → new ≡ min least (get_or row (e - low) 0) → (next : ℕ) → (e ≡ 0 → next ≡ get_or row (e - low) 0) → ((e ≡ 0 → ⊥) → next ≡ old)
+      → IsCarried begins row low (e + 1) next new
   carried_on opening old least new was here is next at_first later = record {
     opened = opened (cases_eq e 0);
     opens = λ bottom some. opens bottom (cases_eq e 0);
@@ -254,24 +278,33 @@ module _ (begins row : List ℕ) (low e : ℕ) (runs : HasRuns begins) (long : l
       in_next : (u : ℕ) → get_or begins (e + 1) 0 ≡ get_or begins e 0 → IsInRun (get_or begins e 0) e u → IsInRun (get_or begins (e + 1) 0) (e + 1) u
       in_next u same (l, which) = (omega arith, subst (λ (z : ℕ). (u ≡ 0) ⊎ (z ≤ u)) (sym same) which)
 
-      from : e + 1 < low + length row → (get_or begins (e + 1) 0 ≡ e + 1) ⊎ (get_or begins (e + 1) 0 ≡ get_or begins e 0) → get_or begins (e + 1) 0 < e + 1 → (get_or row (e - low) 0 < least) ⊎ (least ≤ get_or row (e - low) 0) → (least ≡ unlinked) ⊎ ((u : ℕ) × IsInRun (get_or begins e 0) e u × (low ≤ u) × (get_or row (u - low) 0 ≡ least)) → Found
+      from : e + 1 < low + length row → (get_or begins (e + 1) 0 ≡ e + 1) ⊎ (get_or begins (e + 1) 0 ≡ get_or begins e 0) → get_or begins (e + 1) 0 < e + 1
+          → (get_or row (e - low) 0 < least) ⊎ (least ≤ get_or row (e - low) 0)
+          → (least ≡ unlinked) ⊎ ((u : ℕ) × IsInRun (get_or begins e 0) e u × (low ≤ u) × (get_or row (u - low) 0 ≡ least)) → Found
       from l (inl anew) goes smaller found = absurd (omega (arith, anew))
-      from l (inr same) goes (inl smaller) found = inr (e, (omega arith, inr (omega (arith, same, runs.within e (omega (arith, long))))), above, omega (arith, is))
+      from l (inr same) goes (inl smaller) found =
+          inr (e, (omega arith, inr (omega (arith, same, runs.within e (omega (arith, long))))), above, omega (arith, is))
       from l (inr same) goes (inr larger) (inl none) = inl (omega (arith, is))
       from l (inr same) goes (inr larger) (inr (u, run, low_u, found)) = inr (u, in_next u same run, low_u, omega (arith, is))
 
-      lower : (u : ℕ) → IsInRun (get_or begins (e + 1) 0) (e + 1) u → e + 1 < low + length row → (get_or begins (e + 1) 0 ≡ e + 1) ⊎ (get_or begins (e + 1) 0 ≡ get_or begins e 0) → get_or begins (e + 1) 0 < e + 1 → low ≤ u → (u ≡ e) ⊎ (u ≡ e → ⊥) → new ≤ get_or row (u - low) 0
+      lower : (u : ℕ) → IsInRun (get_or begins (e + 1) 0) (e + 1) u → e + 1 < low + length row
+          → (get_or begins (e + 1) 0 ≡ e + 1) ⊎ (get_or begins (e + 1) 0 ≡ get_or begins e 0) → get_or begins (e + 1) 0 < e + 1 → low ≤ u
+          → (u ≡ e) ⊎ (u ≡ e → ⊥) → new ≤ get_or row (u - low) 0
       lower u run l (inl anew) goes low_u which = absurd (omega (arith, anew))
       lower u run l (inr same) goes low_u (inl last) = omega (arith, is, ap (λ k. get_or row (k - low) 0) last)
-      lower u run l (inr same) goes low_u (inr apart) = omega (arith, is, here.lower u (omega (arith, run.0), subst (λ (z : ℕ). (u ≡ 0) ⊎ (z ≤ u)) same run.1) low_u)
+      lower u run l (inr same) goes low_u (inr apart) =
+          omega (arith, is, here.lower u (omega (arith, run.0), subst (λ (z : ℕ). (u ≡ 0) ⊎ (z ≤ u)) same run.1) low_u)
 
   -- the least of the run tells whether a pair of it is too long
-  pub run_long : (least number : ℕ) → number ≡ get_or row (e - low) 0 → number ≤ unlinked → IsRunLeast begins row low e least → least + 1 < number → IsLongRun (get_or begins e 0) row low e
+  pub run_long : (least number : ℕ) → number ≡ get_or row (e - low) 0 → number ≤ unlinked → IsRunLeast begins row low e least → least + 1 < number
+      → IsLongRun (get_or begins e 0) row low e
   run_long least number is fits here long_run = go here.from
     where
-      go : (least ≡ unlinked) ⊎ ((u : ℕ) × IsInRun (get_or begins e 0) e u × (low ≤ u) × (get_or row (u - low) 0 ≡ least)) → IsLongRun (get_or begins e 0) row low e
+      go : (least ≡ unlinked) ⊎ ((u : ℕ) × IsInRun (get_or begins e 0) e u × (low ≤ u) × (get_or row (u - low) 0 ≡ least))
+          → IsLongRun (get_or begins e 0) row low e
       go (inl none) = absurd (omega arith)
       go (inr (u, run, low_u, same)) = (u, run, low_u, omega arith)
 
-  pub run_short : (least number : ℕ) → number ≡ get_or row (e - low) 0 → IsRunLeast begins row low e least → (least + 1 < number → ⊥) → IsLongRun (get_or begins e 0) row low e → ⊥
+  pub run_short : (least number : ℕ) → number ≡ get_or row (e - low) 0 → IsRunLeast begins row low e least → (least + 1 < number → ⊥)
+      → IsLongRun (get_or begins e 0) row low e → ⊥
   run_short least number is here not (u, run, low_u, more) = not (omega (arith, here.lower u run low_u))

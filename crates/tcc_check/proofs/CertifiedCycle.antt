@@ -1,4 +1,5 @@
--- A certified cycle is a least one: `near` bounds the lengths of walks from below, `far` the costs of routes from its starts upward, and no way back is cheaper than the cycle.
+-- A certified cycle is a least one: `near` bounds the lengths of walks from below, `far` the
+-- costs of routes from its starts upward, and no way back is cheaper than the cycle.
 use Rattle.std.proofs.Common.{◌≡◌, ◌<◌, ◌≤◌, ◌+◌, ℕ, ◌⊎◌, inl, inr, List, [], ◌∷◌, ◌++◌, length, length-append, append_assoc, arith, refl, sym, subst, ◌∙◌}
 use Rattle.std.specs.Prelude.{flat_map, All}
 use Rattle.std.proofs.lemmas.Bool.{cases_lt}
@@ -54,7 +55,8 @@ module _ (h : History) (k : CycleClaim) (good : CertifiesCycle h k) where
       omega (arith, one, near_along causal a (step_to s) c walk from w.2)
 
   -- at `Atomic` a walk is one pair, and the rule on pairs is enough
-  near_rest : (l : Level) → k.level ≡ l → (a b c : ℕ) (s : Step) (walk : List Step) → a < count h → Leads h b c walk → IsAllowed l (s ∷ walk) → entry k.near a c ≤ entry k.near a b + length walk
+  near_rest : (l : Level) → k.level ≡ l → (a b c : ℕ) (s : Step) (walk : List Step) → a < count h → Leads h b c walk → IsAllowed l (s ∷ walk)
+      → entry k.near a c ≤ entry k.near a b + length walk
   near_rest level.Causal is a b c s walk from w allowed = near_along is a b c walk from w
   near_rest level.Atomic is a b c s [] from w allowed = rw w (omega arith)
   near_rest level.Atomic is a b c s (t ∷ walk) from w allowed = absurd (omega (arith, allowed))
@@ -66,26 +68,31 @@ module _ (h : History) (k : CycleClaim) (good : CertifiesCycle h k) where
       omega (arith, near_pair b (step_to s) pair, near_rest k.level refl b (step_to s) c s walk (pair_below h b (step_to s) pair).0 w.0.1.2 w.1)
 
   -- one link takes no more than it costs
-  far_link : (l : Link) → IsLink (cycle_judged h k) l → lowest k.version (link_from l) ≤ link_to l → far_entry k.version k.far (link_from l) (link_to l) ≤ link_cost l
+  far_link : (l : Link) → IsLink (cycle_judged h k) l → lowest k.version (link_from l) ≤ link_to l
+      → far_entry k.version k.far (link_from l) (link_to l) ≤ link_cost l
   far_link (link.Session a b) p low = not_above _ _ (λ m. good.far_links (a, b) (low, inl (inl p, m)))
   far_link (link.Reads a b x) p low = not_above _ _ (λ m. good.far_links (a, b) (low, inl (inr (x, p), m)))
   far_link (link.Derived b a x c walk) p low =
       let most : far_entry k.version k.far b a ≤ 1 + entry k.near b c = not_above _ _ (λ m. good.far_links (b, a) (low, inr (x, c, p.0, m))) in
       omega (arith, most, near_walk b c walk p.1, length-append walk (step.Reads a c x ∷ []))
 
-  far_step : (s : ℕ) (l : Link) → s < count h → IsLink (cycle_judged h k) l → IsUpward (lowest k.version s) l → far_entry k.version k.far s (link_to l) ≤ far_entry k.version k.far s (link_from l) + link_cost l
+  far_step : (s : ℕ) (l : Link) → s < count h → IsLink (cycle_judged h k) l → IsUpward (lowest k.version s) l
+      → far_entry k.version k.far s (link_to l) ≤ far_entry k.version k.far s (link_from l) + link_cost l
   far_step s (link.Session a b) from p up = not_above _ _ (λ m. good.far_steps (s, b) (from, (up.1, (a, up.0, inl (inl p, m)))))
   far_step s (link.Reads a b x) from p up = not_above _ _ (λ m. good.far_steps (s, b) (from, (up.1, (a, up.0, inl (inr (x, p), m)))))
   far_step s (link.Derived b a x c walk) from p up =
-      let most : far_entry k.version k.far s a ≤ far_entry k.version k.far s b + 1 + entry k.near b c = not_above _ _ (λ m. good.far_steps (s, a) (from, (up.1, (b, up.0, inr (x, c, p.0, m))))) in
+      let most : far_entry k.version k.far s a ≤ far_entry k.version k.far s b + 1 + entry k.near b c =
+      not_above _ _ (λ m. good.far_steps (s, a) (from, (up.1, (b, up.0, inr (x, c, p.0, m))))) in
       omega (arith, most, near_walk b c walk p.1, length-append walk (step.Reads a c x ∷ []))
 
-  far_along : (s u v : ℕ) (links : List Link) → s < count h → LinksLead (cycle_judged h k) u v links → All (IsUpward (lowest k.version s)) links → far_entry k.version k.far s v ≤ far_entry k.version k.far s u + cost links
+  far_along : (s u v : ℕ) (links : List Link) → s < count h → LinksLead (cycle_judged h k) u v links → All (IsUpward (lowest k.version s)) links
+      → far_entry k.version k.far s v ≤ far_entry k.version k.far s u + cost links
   far_along s u v [] from w up = rw w (omega arith)
   far_along s u v (l ∷ links) from w up =
       let first = All-head (IsUpward (lowest k.version s)) l links up in
       let later = All-tail (IsUpward (lowest k.version s)) l links up in
-      let one : far_entry k.version k.far s (link_to l) ≤ far_entry k.version k.far s u + link_cost l = subst (λ (z : ℕ). far_entry k.version k.far s (link_to l) ≤ far_entry k.version k.far s z + link_cost l) w.0 (far_step s l from w.1 first) in
+      let one : far_entry k.version k.far s (link_to l) ≤ far_entry k.version k.far s u + link_cost l =
+      subst (λ (z : ℕ). far_entry k.version k.far s (link_to l) ≤ far_entry k.version k.far s z + link_cost l) w.0 (far_step s l from w.1 first) in
       omega (arith, one, far_along s (link_to l) v links from w.2 later, length-append (unfolding_of l) (flat_map unfolding_of links))
 
   -- a route over numbers from its start upward
@@ -94,8 +101,10 @@ module _ (h : History) (k : CycleClaim) (good : CertifiesCycle h k) where
   far_route s v (l ∷ links) w =
       let up = upward_lower (lowest k.version s) s (l ∷ links) (low_start k.version s) w.1 in
       let later = All-tail (IsUpward (lowest k.version s)) l links up in
-      let first : lowest k.version (link_from l) ≤ link_to l = subst (λ (z : ℕ). lowest k.version z ≤ link_to l) (sym w.0.1.0) (All-head (IsUpward (lowest k.version s)) l links up).1 in
-      let one : far_entry k.version k.far s (link_to l) ≤ link_cost l = subst (λ (z : ℕ). far_entry k.version k.far z (link_to l) ≤ link_cost l) w.0.1.0 (far_link l w.0.1.1 first) in
+      let first : lowest k.version (link_from l) ≤ link_to l =
+      subst (λ (z : ℕ). lowest k.version z ≤ link_to l) (sym w.0.1.0) (All-head (IsUpward (lowest k.version s)) l links up).1 in
+      let one : far_entry k.version k.far s (link_to l) ≤ link_cost l =
+      subst (λ (z : ℕ). far_entry k.version k.far z (link_to l) ≤ link_cost l) w.0.1.0 (far_link l w.0.1.1 first) in
       let from : s < count h = subst (λ (z : ℕ). z < count h) w.0.1.0 (link_below (cycle_judged h k) l w.0.1.1).0 in
       omega (arith, one, far_along s (link_to l) v links from w.0.1.2 later, length-append (unfolding_of l) (flat_map unfolding_of links))
 
@@ -106,15 +115,31 @@ module _ (h : History) (k : CycleClaim) (good : CertifiesCycle h k) where
   -- a cycle, begun at its lowest number, is such a route
   no_less : (s : ℕ) (links : List Link) → IsTurned (cycle_judged h k) s links → k.least ≤ cost links
   no_less s links w =
-      let back : k.least ≤ far_entry k.version k.far w.lowest w.lowest = not_above _ _ (λ m. good.returns (w.lowest, w.lowest) (route_from w.lowest w.lowest w.turned w.route.0, (refl, m))) in
+      let back : k.least ≤ far_entry k.version k.far w.lowest w.lowest =
+      not_above _ _ (λ m. good.returns (w.lowest, w.lowest) (route_from w.lowest w.lowest w.turned w.route.0, (refl, m))) in
       omega (arith, back, far_route w.lowest w.lowest w.turned w.route, w.costs)
 
   -- each link right, the links lead on from where those before them end
-  lead : (before : List Link) (links : List Link) (at : ℕ) → k.links ≡ before ++ links → at ≡ ends_at (ends_at 0 k.links) before → LinksLead (cycle_judged h k) at (ends_at at links) links
+  lead : (before : List Link) (links : List Link) (at : ℕ) → k.links ≡ before ++ links → at ≡ ends_at (ends_at 0 k.links) before
+      → LinksLead (cycle_judged h k) at (ends_at at links) links
   lead before [] at split here = refl
   lead before (l ∷ links) at split here =
-      let right = true_at_last (link_right (cycle_judged h k) at l) (λ wrong. good.cycle.right (length before + 1) (record { before = before; link = l; after = links; split = split; place = refl; wrong = subst (λ (z : ℕ). IsLinkRight (cycle_judged h k) z l → ⊥) here wrong })) in
-      (right.0, right.1, lead (before ++ l ∷ []) links (link_to l) (split ∙ sym (append_assoc before (l ∷ []) links)) (sym (ends_at-push (ends_at 0 k.links) before l)))
+      let right =
+      true_at_last (link_right (cycle_judged h k) at l)
+      (λ wrong. good.cycle.right (length before + 1)
+      (record {
+        before = before;
+        link = l;
+        after = links;
+        split = split;
+        place = refl;
+        wrong = subst (λ (z : ℕ). IsLinkRight (cycle_judged h k) z l → ⊥) here wrong;
+      })) in (
+        right.0,
+        right.1,
+        lead (before ++ l ∷ []) links (link_to l) (split ∙ sym (append_assoc before (l ∷ []) links))
+            (sym (ends_at-push (ends_at 0 k.links) before l)),
+      )
 
   pub least_cycle : ((s : ℕ) × IsLeastCycle (cycle_judged h k) s k.links) × (cost k.links ≡ k.least)
   least_cycle =
@@ -122,7 +147,11 @@ module _ (h : History) (k : CycleClaim) (good : CertifiesCycle h k) where
         (
           s,
           record {
-            cycle = (good.cycle.some, subst (λ (z : ℕ). LinksLead (cycle_judged h k) s z k.links) (ends_at_some s 0 k.links good.cycle.some) (lead [] k.links s refl refl));
+            cycle = (
+              good.cycle.some,
+              subst (λ (z : ℕ). LinksLead (cycle_judged h k) s z k.links) (ends_at_some s 0 k.links good.cycle.some)
+                  (lead [] k.links s refl refl),
+            );
             least = λ t others w. omega (arith, no_less t others (turn_lowest (cycle_judged h k) t others w), good.cycle.costs);
           },
         ),

@@ -13,8 +13,10 @@ use Rattle.tcc_check.proofs.CertifiedCycle.{least_cycle}
 use Rattle.tcc_check.proofs.CertifiedOrder.{commit_order}
 
 pub true_claim : (h : History) (k : Certificate) → Certifies h k → IsTrueClaim h k
-true_claim h (claim.Order version level order sessions clocks) good = commit_order h (record { level = level; order = order; sessions = sessions; clocks = clocks }) good
-true_claim h (claim.Cycle version level links least near far) good = least_cycle h (record { version = version; level = level; links = links; least = least; near = near; far = far }) good
+true_claim h (claim.Order version level order sessions clocks) good =
+    commit_order h (record { level = level; order = order; sessions = sessions; clocks = clocks }) good
+true_claim h (claim.Cycle version level links least near far) good =
+    least_cycle h (record { version = version; level = level; links = links; least = least; near = near; far = far }) good
 
 -- ---- the rules in a list, and as one record
 
@@ -62,7 +64,10 @@ plain h (claim.Cycle version level links least near far) = (
   λ at b. b.1,
   (
     fault_false h (record { version = version; level = level; links = links; least = least; near = near; far = far }),
-    (λ at b holds. holds at b.here, (λ at b holds. holds at b.here, (λ at b holds. holds at b.here, (λ at b holds. holds at b.here, (λ at b holds. holds at b.here, tt))))),
+    (
+      λ at b holds. holds at b.here,
+      (λ at b holds. holds at b.here, (λ at b holds. holds at b.here, (λ at b holds. holds at b.here, (λ at b holds. holds at b.here, tt)))),
+    ),
   ),
 )
 

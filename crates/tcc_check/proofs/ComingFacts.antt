@@ -13,7 +13,8 @@ use Rattle.tcc_check.specs.declared.stream_fault.StreamFault.{StreamFault}
 use Rattle.tcc_check.specs.declared.stream_fault.StreamFault.TheVariants.{Text, NoMemory}
 
 -- what holds of an error holds of the result that is it
-pub by-error : {X : Type 0} (P : Result X StreamFault → Type 0) (o : Result X StreamFault) (fault : StreamFault) → IsErrAnd o (λ why. why ≡ fault) → P (Err fault) → P o
+pub by-error : {X : Type 0} (P : Result X StreamFault → Type 0) (o : Result X StreamFault) (fault : StreamFault) → IsErrAnd o (λ why. why ≡ fault)
+    → P (Err fault) → P o
 by-error P (Ok x) fault is p = absurd is
 by-error P (Err why) fault is p = subst (λ u. P (Err u)) (sym is) p
 
@@ -56,7 +57,8 @@ pub first-fault : (given : Part) (ahead rest : Parts) → IsFirst given ahead re
 first-fault given ahead rest is = (first-ends given ahead rest is).1
 
 -- the end comes where no part is left
-pub first-parts : (given : Part) (ahead rest : Parts) → IsFirst given ahead rest → ((given ≡ part.End) × (ahead.parts ≡ []) × (ahead.fault ≡ None)) ⊎ (ahead.parts ≡ given ∷ rest.parts)
+pub first-parts : (given : Part) (ahead rest : Parts) → IsFirst given ahead rest
+    → ((given ≡ part.End) × (ahead.parts ≡ []) × (ahead.fault ≡ None)) ⊎ (ahead.parts ≡ given ∷ rest.parts)
 first-parts part.End ahead rest is = inl (refl, ap (λ p. p.parts) is.0, ap (λ p. p.fault) is.0)
 first-parts (part.Order v l o s) ahead rest is = inr (ap (λ p. p.parts) is)
 first-parts (part.Cycle v l c ls n) ahead rest is = inr (ap (λ p. p.parts) is)
@@ -67,7 +69,8 @@ first-parts (part.Far row) ahead rest is = inr (ap (λ p. p.parts) is)
 -- ---- rows of one kind, each a part
 
 module _ (kind : List ℕ → Part) (exact : (row other : List ℕ) → kind row ≡ kind other → row ≡ other) where
-  pub next-row : (row : List ℕ) (rest : List Part) (todo : List (List ℕ)) → kind row ∷ rest ≡ map kind todo → (later : List (List ℕ)) × (todo ≡ row ∷ later) × (rest ≡ map kind later)
+  pub next-row : (row : List ℕ) (rest : List Part) (todo : List (List ℕ)) → kind row ∷ rest ≡ map kind todo
+      → (later : List (List ℕ)) × (todo ≡ row ∷ later) × (rest ≡ map kind later)
   next-row row rest [] is = absurd cc
   next-row row rest (one ∷ later) is = (later, ap (λ r. r ∷ later) (sym (exact row one cc)), cc)
 

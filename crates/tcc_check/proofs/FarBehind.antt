@@ -1,5 +1,6 @@
 -- Rows of costs so far, and those to come: of those so far something is known.
-use Rattle.std.proofs.Common.{◌≡◌, ℕ, ◌<◌, ◌≤◌, ◌+◌, ◌-◌, ◌⊎◌, List, [], ◌∷◌, ◌++◌, length, get_or, None, inl, inr, refl, sym, ap, subst, ◌∙◌, arith, append_assoc}
+use Rattle.std.proofs.Common.{◌≡◌, ℕ, ◌<◌, ◌≤◌, ◌+◌, ◌-◌, ◌⊎◌, List, [], ◌∷◌, ◌++◌, length, get_or}
+use Rattle.std.proofs.Common.{None, inl, inr, refl, sym, ap, subst, ◌∙◌, arith, append_assoc}
 use Rattle.std.specs.Prelude.{All, map}
 use Rattle.std.proofs.lemmas.Bool.{cases_eq}
 use Rattle.std.proofs.lemmas.List.{get_or_default, length-append}
@@ -13,7 +14,8 @@ use Rattle.tcc_check.specs.Coming.{IsFarRight}
 use Rattle.tcc_check.specs.declared.far_rows.FarFaults.{FarFaults}
 use Rattle.tcc_check.proofs.ComingFacts.{first-fault, first-line, first-parts, next-row, next-no-row, no-rows}
 
-pub record AreFarRows (version : Version) (least : ℕ) (n : ℕ) (P : List (List ℕ) → ℕ → FarFaults → Type 0) (far : List (List ℕ)) (i : ℕ) (faults : FarFaults) (rest : Parts) : Type 0 where
+pub record AreFarRows (version : Version) (least : ℕ) (n : ℕ) (P : List (List ℕ) → ℕ → FarFaults → Type 0) (far : List (List ℕ)) (i : ℕ)
+    (faults : FarFaults) (rest : Parts) : Type 0 where
   pub rows : List (List ℕ)
   pub todo : List (List ℕ)
   pub split : far ≡ rows ++ todo
@@ -23,7 +25,8 @@ pub record AreFarRows (version : Version) (least : ℕ) (n : ℕ) (P : List (Lis
   pub cap : (s : ℕ) → s < i → All (λ number. number ≤ least) (row_of far s)
   pub found : P far i faults
 
-pub record AreFarBehind (version : Version) (least : ℕ) (n : ℕ) (P : List (List ℕ) → ℕ → FarFaults → Type 0) (i : ℕ) (faults : FarFaults) (ahead rest : Parts) : Type 0 where
+pub record AreFarBehind (version : Version) (least : ℕ) (n : ℕ) (P : List (List ℕ) → ℕ → FarFaults → Type 0) (i : ℕ) (faults : FarFaults)
+    (ahead rest : Parts) : Type 0 where
   pub line : rest.line ≡ ahead.line
   pub fault : rest.fault ≡ ahead.fault
   pub rows : (far : List (List ℕ)) → ahead.parts ≡ map part.Far far → AreFarRows version least n P far i faults rest
@@ -49,7 +52,8 @@ module _ (version : Version) (least : ℕ) (n : ℕ) (P : List (List ℕ) → �
   }
 
   -- another part comes only where there are fewer rows
-  pub far-other : (i : ℕ) (faults : FarFaults) (given : Part) (ahead now rest : Parts) → ((row : List ℕ) → given ≡ part.Far row → ⊥) → i < n → AreFarBehind version least n P i faults ahead now → IsFirst given now rest
+  pub far-other : (i : ℕ) (faults : FarFaults) (given : Part) (ahead now rest : Parts) → ((row : List ℕ) → given ≡ part.Far row → ⊥) → i < n
+      → AreFarBehind version least n P i faults ahead now → IsFirst given now rest
       → (far : List (List ℕ)) → ahead.parts ≡ map part.Far far → IsFarRight version n least far → ⊥
   far-other i faults given ahead now rest other fewer behind first far is right = go (first-parts given now rest first)
     where
@@ -62,7 +66,8 @@ module _ (version : Version) (least : ℕ) (n : ℕ) (P : List (List ℕ) → �
           omega (arith, fewer, right.0.long, old.long, ap length old.split, length-append old.rows old.todo, ap length none)
       go (inr one) = let found = next-no-row part.Far exact given rest.parts old.todo (sym one ∙ old.left) in other found.0 found.1
 
-  module _ (i : ℕ) (faults : FarFaults) (row : List ℕ) (ahead now rest : Parts) (behind : AreFarBehind version least n P i faults ahead now) (first : IsFirst (part.Far row) now rest) (far : List (List ℕ)) (is : ahead.parts ≡ map part.Far far) where
+  module _ (i : ℕ) (faults : FarFaults) (row : List ℕ) (ahead now rest : Parts) (behind : AreFarBehind version least n P i faults ahead now)
+      (first : IsFirst (part.Far row) now rest) (far : List (List ℕ)) (is : ahead.parts ≡ map part.Far far) where
     old : AreFarRows version least n P far i faults now
     old = behind.rows far is
 
@@ -93,7 +98,8 @@ module _ (version : Version) (least : ℕ) (n : ℕ) (P : List (List ℕ) → �
         go (inr apart) = below s (omega (arith, l, apart))
 
     -- one row more, of the right size and capped
-    pub far-rows-more : (more : FarFaults) → length row ≡ n - lowest version i → All (λ number. number ≤ least) row → P far (i + 1) more → AreFarRows version least n P far (i + 1) more rest
+    pub far-rows-more : (more : FarFaults) → length row ≡ n - lowest version i → All (λ number. number ≤ least) row → P far (i + 1) more
+        → AreFarRows version least n P far (i + 1) more rest
     far-rows-more more long capped found = record {
       rows = old.rows ++ row ∷ [];
       todo = next.0;
@@ -108,7 +114,8 @@ module _ (version : Version) (least : ℕ) (n : ℕ) (P : List (List ℕ) → �
     pub far-found : P far i faults
     far-found = old.found
 
-  pub far-more : (i : ℕ) (faults more : FarFaults) (row : List ℕ) (ahead now rest : Parts) (behind : AreFarBehind version least n P i faults ahead now) (first : IsFirst (part.Far row) now rest) → length row ≡ n - lowest version i → All (λ number. number ≤ least) row
+  pub far-more : (i : ℕ) (faults more : FarFaults) (row : List ℕ) (ahead now rest : Parts) (behind : AreFarBehind version least n P i faults ahead now)
+      (first : IsFirst (part.Far row) now rest) → length row ≡ n - lowest version i → All (λ number. number ≤ least) row
       → ((far : List (List ℕ)) → row_of far i ≡ row → P far i faults → P far (i + 1) more)
       → AreFarBehind version least n P (i + 1) more ahead rest
   far-more i faults more row ahead now rest behind first long capped found = record {
@@ -119,7 +126,8 @@ module _ (version : Version) (least : ℕ) (n : ℕ) (P : List (List ℕ) → �
   }
 
   -- all rows came
-  pub far-all : (faults : FarFaults) (ahead now : Parts) → AreFarBehind version least n P n faults ahead now → (far : List (List ℕ)) → ahead.parts ≡ map part.Far far → (now.parts ≡ [] → IsFarRight version n least far × P far n faults) × (IsFarRight version n least far → now.parts ≡ [])
+  pub far-all : (faults : FarFaults) (ahead now : Parts) → AreFarBehind version least n P n faults ahead now → (far : List (List ℕ))
+      → ahead.parts ≡ map part.Far far → (now.parts ≡ [] → IsFarRight version n least far × P far n faults) × (IsFarRight version n least far → now.parts ≡ [])
   far-all faults ahead now behind far is = (right, more)
     where
       old : AreFarRows version least n P far n faults now
@@ -130,8 +138,14 @@ module _ (version : Version) (least : ℕ) (n : ℕ) (P : List (List ℕ) → �
 
       right : now.parts ≡ [] → IsFarRight version n least far × P far n faults
       right end =
-          let whole = long (no-rows part.Far exact old.todo (sym end ∙ old.left)) in
-          ((record { long = whole; wide = old.wide }, λ k d l. subst (λ r. All (λ number. number ≤ least) r) (same k d l) (old.cap k (omega (arith, l, whole)))), old.found)
+          let whole = long (no-rows part.Far exact old.todo (sym end ∙ old.left)) in (
+            (
+              record { long = whole; wide = old.wide },
+              λ k d l. subst (λ r. All (λ number. number ≤ least) r) (same k d l)
+                  (old.cap k (omega (arith, l, whole))),
+            ),
+            old.found,
+          )
         where
           same : (k : ℕ) (d : List ℕ) → k < length far → get_or far k [] ≡ get_or far k d
           same k d l = get_or_default far k [] d l

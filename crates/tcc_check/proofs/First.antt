@@ -25,7 +25,8 @@ holds_more i broken before row a b l p = go (cases_eq a i)
     go (inl same) = row b (subst (λ (z : ℕ). broken (z, b)) same p)
     go (inr apart) = before a b (omega arith) p
 
-pub first_in_row : (broken : ℕ × ℕ → Type 0) (a b : ℕ) → HoldsAbove a broken → broken (a, b) → ((c : ℕ) → c < b → broken (a, c) → ⊥) → IsFirstPlace broken (a, b)
+pub first_in_row : (broken : ℕ × ℕ → Type 0) (a b : ℕ) → HoldsAbove a broken → broken (a, b) → ((c : ℕ) → c < b → broken (a, c) → ⊥)
+    → IsFirstPlace broken (a, b)
 first_in_row broken a b before here first = record {
   here = here;
   first = λ earlier l p. go earlier p l;

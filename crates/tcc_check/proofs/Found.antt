@@ -13,7 +13,8 @@ either p q (inl h) = p h
 either p q (inr h) = q h
 
 -- the lesser of the firsts of two is the first of both
-pub found_either : (n : ℕ) (P Q : ℕ → Type 0) (one other : Option ℕ) → IsFoundBelow n P one → IsFoundBelow n Q other → IsFoundBelow n (λ v. P v ⊎ Q v) (lesser one other)
+pub found_either : (n : ℕ) (P Q : ℕ → Type 0) (one other : Option ℕ) → IsFoundBelow n P one → IsFoundBelow n Q other
+    → IsFoundBelow n (λ v. P v ⊎ Q v) (lesser one other)
 found_either n P Q None None p q = λ a l w. either (p a l) (q a l) w
 found_either n P Q None (Some e) p q = record { below = q.below; here = inr q.here; first = λ a l w. either (p a (omega (arith, l, q.below))) (q.first a l) w }
 found_either n P Q (Some e) None p q = record { below = p.below; here = inl p.here; first = λ a l w. either (p.first a l) (q a (omega (arith, l, p.below))) w }

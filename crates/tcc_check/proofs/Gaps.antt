@@ -14,7 +14,8 @@ pub record IsGapRowTo (i : ℕ) (h : History) (level : Level) (clocks : List (Li
 pub no_gap : (h : History) (level : Level) (clocks : List (List ℕ)) (b : ℕ) → IsGapRowTo 0 h level clocks b []
 no_gap h level clocks b = record { long = refl; none = λ c l. absurd (omega arith) }
 
-pub one_more_gap : (i : ℕ) (h : History) (level : Level) (clocks : List (List ℕ)) (b : ℕ) (row : List ℕ) (g : ℕ) → ((g ≡ 0) ↔ MayReach h level clocks b i) → IsGapRowTo i h level clocks b row → IsGapRowTo (i + 1) h level clocks b (row ++ g ∷ [])
+pub one_more_gap : (i : ℕ) (h : History) (level : Level) (clocks : List (List ℕ)) (b : ℕ) (row : List ℕ) (g : ℕ) → ((g ≡ 0) ↔ MayReach h level clocks b i)
+    → IsGapRowTo i h level clocks b row → IsGapRowTo (i + 1) h level clocks b (row ++ g ∷ [])
 one_more_gap i h level clocks b row g is w = record {
   long = length_push row g ∙ ap (λ k. k + 1) w.long;
   none = λ c l. none c l (cases_eq c i);

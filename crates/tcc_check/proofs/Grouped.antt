@@ -1,8 +1,12 @@
 -- Groups of links, as they are made and as they are gone through.
-use Rattle.std.proofs.Common.{◌≡◌, ◌<◌, ◌≤◌, ◌+◌, ◌-◌, ◌^◌, ℕ, zero, suc, List, [], ◌∷◌, ◌++◌, length, get_or, take, drop, append_assoc, append-nil, arith, refl, sym, ap, ◌∙◌}
+use Rattle.std.proofs.Common.{◌≡◌, ◌<◌, ◌≤◌, ◌+◌, ◌-◌, ◌^◌, ℕ, zero, suc, List, [], ◌∷◌, ◌++◌}
+use Rattle.std.proofs.Common.{length, get_or, take, drop, append_assoc, append-nil, arith, refl}
+use Rattle.std.proofs.Common.{sym, ap, ◌∙◌}
 use Rattle.std.specs.Prelude.{All}
 use Rattle.std.proofs.lemmas.List.Elements.{All-push}
-use Rattle.std.proofs.lemmas.List.{drop-append-le, get_or_default, get_or-append-add, get_or_append_left, get_or-drop, get_or-map, get_or-take, length-append, length-drop, length-map, length-take-le, length_push, map_push, take-append-le, take_all, take_more}
+use Rattle.std.proofs.lemmas.List.{drop-append-le, get_or_default, get_or-append-add, get_or_append_left, get_or-drop, get_or-map}
+use Rattle.std.proofs.lemmas.List.{get_or-take, length-append, length-drop, length-map, length-take-le, length_push, map_push}
+use Rattle.std.proofs.lemmas.List.{take-append-le, take_all, take_more}
 use Rattle.tcc_check.specs.Groups.{AreGroupsOf, links_by, total, weighed}
 
 length-weighed : (weight : ℕ) (ends : List ℕ) → length (weighed weight ends) ≡ length ends
@@ -23,10 +27,12 @@ total-push (first ∷ groups) group = omega (arith, total-push groups group)
 -- an empty group changes nothing
 pub empty-group : (groups : List (ℕ × ℕ)) (weight : ℕ) (ends : List ℕ) → links_by (groups ++ (weight, 0) ∷ []) ends ≡ links_by groups ends
 empty-group [] weight ends = refl
-empty-group (first ∷ groups) weight ends = ap (λ (rest : List (ℕ × ℕ)). weighed first.0 (take first.1 ends) ++ rest) (empty-group groups weight (drop first.1 ends))
+empty-group (first ∷ groups) weight ends =
+    ap (λ (rest : List (ℕ × ℕ)). weighed first.0 (take first.1 ends) ++ rest) (empty-group groups weight (drop first.1 ends))
 
 -- one end more in the last group
-pub more-in-group : (groups : List (ℕ × ℕ)) (weight n : ℕ) (ends : List ℕ) (end : ℕ) → total groups + n ≡ length ends → links_by (groups ++ (weight, n + 1) ∷ []) (ends ++ end ∷ []) ≡ links_by (groups ++ (weight, n) ∷ []) ends ++ (end, weight) ∷ []
+pub more-in-group : (groups : List (ℕ × ℕ)) (weight n : ℕ) (ends : List ℕ) (end : ℕ) → total groups + n ≡ length ends
+    → links_by (groups ++ (weight, n + 1) ∷ []) (ends ++ end ∷ []) ≡ links_by (groups ++ (weight, n) ∷ []) ends ++ (end, weight) ∷ []
 more-in-group [] weight n ends end all =
     let whole : take (n + 1) (ends ++ end ∷ []) ≡ ends ++ end ∷ [] = take_all (n + 1) (ends ++ end ∷ []) (omega (arith, length_push ends end, all)) in
     let before : take n ends ≡ ends = take_all n ends (omega (arith, all)) in
@@ -35,7 +41,11 @@ more-in-group [] weight n ends end all =
 more-in-group (first ∷ groups) weight n ends end all =
     let inside : first.1 ≤ length ends = omega (arith, all) in
     let left : total groups + n ≡ length (drop first.1 ends) = omega (arith, all, length-drop first.1 ends) in
-    rw (take-append-le first.1 ends (end ∷ []) inside, drop-append-le first.1 ends (end ∷ []) inside, more-in-group groups weight n (drop first.1 ends) end left)
+    rw (
+      take-append-le first.1 ends (end ∷ []) inside,
+      drop-append-le first.1 ends (end ∷ []) inside,
+      more-in-group groups weight n (drop first.1 ends) end left,
+    )
     (sym (append_assoc (weighed first.0 (take first.1 ends)) (links_by (groups ++ (weight, n) ∷ []) (drop first.1 ends)) ((end, weight) ∷ [])))
 
 -- of the first i links, all but those of the group that is still open
@@ -48,7 +58,8 @@ pub record AreGroupsTo (i : ℕ) (links groups : List (ℕ × ℕ)) (weight n : 
 pub no-groups : (links : List (ℕ × ℕ)) → AreGroupsTo 0 links [] 0 0 []
 no-groups links = record { made = refl; all = refl; long = refl; some = λ k d l. absurd (omega (arith, l)) }
 
-pub group-closed : (i : ℕ) (links groups : List (ℕ × ℕ)) (weight n next : ℕ) (ends : List ℕ) → 0 < n → AreGroupsTo i links groups weight n ends → AreGroupsTo i links (groups ++ (weight, n) ∷ []) next 0 ends
+pub group-closed : (i : ℕ) (links groups : List (ℕ × ℕ)) (weight n next : ℕ) (ends : List ℕ) → 0 < n → AreGroupsTo i links groups weight n ends
+    → AreGroupsTo i links (groups ++ (weight, n) ∷ []) next 0 ends
 group-closed i links groups weight n next ends some are = record {
   made = empty-group (groups ++ (weight, n) ∷ []) next ends ∙ are.made;
   all = omega (arith, total-push groups (weight, n), are.all);
@@ -56,7 +67,8 @@ group-closed i links groups weight n next ends some are = record {
   some = All-push (λ (group : ℕ × ℕ). 0 < group.1) groups (weight, n) are.some some;
 }
 
-pub group-anew : (i : ℕ) (links groups : List (ℕ × ℕ)) (weight n next : ℕ) (ends : List ℕ) → n ≡ 0 → AreGroupsTo i links groups weight n ends → AreGroupsTo i links groups next n ends
+pub group-anew : (i : ℕ) (links groups : List (ℕ × ℕ)) (weight n next : ℕ) (ends : List ℕ) → n ≡ 0 → AreGroupsTo i links groups weight n ends
+    → AreGroupsTo i links groups next n ends
 group-anew i links groups weight n next ends none are = record {
   made = rw none (empty-group groups next ends ∙ sym (empty-group groups weight ends)) ∙ are.made;
   all = are.all;
@@ -64,15 +76,19 @@ group-anew i links groups weight n next ends none are = record {
   some = are.some;
 }
 
-pub group-grown : (i : ℕ) (links groups : List (ℕ × ℕ)) (weight n end : ℕ) (ends : List ℕ) → i < length links → get_or links i (0, 0) ≡ (end, weight) → AreGroupsTo i links groups weight n ends → AreGroupsTo (i + 1) links groups weight (n + 1) (ends ++ end ∷ [])
+pub group-grown : (i : ℕ) (links groups : List (ℕ × ℕ)) (weight n end : ℕ) (ends : List ℕ) → i < length links → get_or links i (0, 0) ≡ (end, weight)
+    → AreGroupsTo i links groups weight n ends → AreGroupsTo (i + 1) links groups weight (n + 1) (ends ++ end ∷ [])
 group-grown i links groups weight n end ends inside is are = record {
-  made = more-in-group groups weight n ends end are.all ∙ ap (λ (front : List (ℕ × ℕ)). front ++ (end, weight) ∷ []) are.made ∙ sym (take_more links i (0, 0) inside ∙ ap (λ (z : ℕ × ℕ). take i links ++ z ∷ []) is);
+  made =
+      more-in-group groups weight n ends end are.all ∙ ap (λ (front : List (ℕ × ℕ)). front ++ (end, weight) ∷ []) are.made
+      ∙ sym (take_more links i (0, 0) inside ∙ ap (λ (z : ℕ × ℕ). take i links ++ z ∷ []) is);
   all = omega (arith, are.all, length_push ends end);
   long = omega (arith, are.long, length_push ends end);
   some = are.some;
 }
 
-pub all-groups : (i : ℕ) (links groups : List (ℕ × ℕ)) (weight n : ℕ) (ends : List ℕ) → i ≡ length links → length links < 2 ^ 32 → 0 < n → AreGroupsTo i links groups weight n ends → (links_by (groups ++ (weight, n) ∷ []) ends ≡ links) × AreGroupsOf (groups ++ (weight, n) ∷ []) ends
+pub all-groups : (i : ℕ) (links groups : List (ℕ × ℕ)) (weight n : ℕ) (ends : List ℕ) → i ≡ length links → length links < 2 ^ 32 → 0 < n
+    → AreGroupsTo i links groups weight n ends → (links_by (groups ++ (weight, n) ∷ []) ends ≡ links) × AreGroupsOf (groups ++ (weight, n) ∷ []) ends
 all-groups i links groups weight n ends all few some are = (
   are.made ∙ take_all i links (omega (arith, all)),
   record {
@@ -82,7 +98,8 @@ all-groups i links groups weight n ends all few some are = (
   },
 )
 
-pub all-closed : (i : ℕ) (links groups : List (ℕ × ℕ)) (weight n : ℕ) (ends : List ℕ) → i ≡ length links → length links < 2 ^ 32 → n ≡ 0 → AreGroupsTo i links groups weight n ends → (links_by groups ends ≡ links) × AreGroupsOf groups ends
+pub all-closed : (i : ℕ) (links groups : List (ℕ × ℕ)) (weight n : ℕ) (ends : List ℕ) → i ≡ length links → length links < 2 ^ 32 → n ≡ 0
+    → AreGroupsTo i links groups weight n ends → (links_by groups ends ≡ links) × AreGroupsOf groups ends
 all-closed i links groups weight n ends all few none are = (
   sym (empty-group groups weight ends) ∙ rw (← none) (are.made ∙ take_all i links (omega (arith, all))),
   record { all = omega (arith, are.all, none); some = are.some; few = omega (arith, are.long, all, few) },
@@ -95,7 +112,15 @@ length-links [] ends all = omega (arith, all)
 length-links (first ∷ groups) ends all =
     let inside : first.1 ≤ length ends = omega (arith, all) in
     let left : total groups ≡ length (drop first.1 ends) = omega (arith, all, length-drop first.1 ends) in
-    omega (arith, length-append (weighed first.0 (take first.1 ends)) (links_by groups (drop first.1 ends)), length-weighed first.0 (take first.1 ends), length-take-le first.1 ends inside, length-links groups (drop first.1 ends) left, length-drop first.1 ends, all)
+    omega (
+      arith,
+      length-append (weighed first.0 (take first.1 ends)) (links_by groups (drop first.1 ends)),
+      length-weighed first.0 (take first.1 ends),
+      length-take-le first.1 ends inside,
+      length-links groups (drop first.1 ends) left,
+      length-drop first.1 ends,
+      all,
+    )
 
 -- how many ends are before a group and in it
 pub total-more : (groups : List (ℕ × ℕ)) (i : ℕ) → i < length groups → total (take (i + 1) groups) ≡ total (take i groups) + (get_or groups i (0, 0)).1
@@ -107,13 +132,15 @@ total-within [] (suc i) = omega arith
 total-within (first ∷ groups) (suc i) = omega (arith, total-within groups i)
 
 -- what stands in a group
-pub in-group : (groups : List (ℕ × ℕ)) (ends : List ℕ) (i k : ℕ) → total groups ≡ length ends → i < length groups → k < (get_or groups i (0, 0)).1 → get_or (links_by groups ends) (total (take i groups) + k) (0, 0) ≡ (get_or ends (total (take i groups) + k) 0, (get_or groups i (0, 0)).0)
+pub in-group : (groups : List (ℕ × ℕ)) (ends : List ℕ) (i k : ℕ) → total groups ≡ length ends → i < length groups → k < (get_or groups i (0, 0)).1
+    → get_or (links_by groups ends) (total (take i groups) + k) (0, 0) ≡ (get_or ends (total (take i groups) + k) 0, (get_or groups i (0, 0)).0)
 in-group [] ends i k all inside here = absurd (omega (arith, inside))
 in-group (first ∷ groups) ends zero k all inside here =
     let long : length (take first.1 ends) ≡ first.1 = length-take-le first.1 ends (omega (arith, all)) in
     let at : 0 + k ≡ k = omega arith in
     rw at (
-    get_or_append_left (weighed first.0 (take first.1 ends)) (links_by groups (drop first.1 ends)) (0, 0) k (omega (arith, length-weighed first.0 (take first.1 ends), long, here))
+    get_or_append_left (weighed first.0 (take first.1 ends)) (links_by groups (drop first.1 ends)) (0, 0) k
+    (omega (arith, length-weighed first.0 (take first.1 ends), long, here))
     ∙ weighed-at first.0 (take first.1 ends) k (omega (arith, long, here))
     ∙ ap (λ (z : ℕ). (z, first.0)) (get_or-take first.1 ends k 0 here)
     )
@@ -132,5 +159,8 @@ in-group (first ∷ groups) ends (suc i) k all inside here =
 pub part-long : (ends : List ℕ) (first n : ℕ) → first + n ≤ length ends → length (take (first + n - first) (drop first ends)) ≡ n
 part-long ends first n inside = length-take-le (first + n - first) (drop first ends) (omega (arith, length-drop first ends, inside)) ∙ omega arith
 
-pub part-at : (ends : List ℕ) (first n k d : ℕ) → first + n ≤ length ends → k < n → get_or (take (first + n - first) (drop first ends)) k d ≡ get_or ends (first + k) 0
-part-at ends first n k d inside l = get_or-take (first + n - first) (drop first ends) k d (omega (arith, l)) ∙ get_or-drop first ends k d ∙ get_or_default ends (first + k) d 0 (omega (arith, inside, l))
+pub part-at : (ends : List ℕ) (first n k d : ℕ) → first + n ≤ length ends → k < n
+    → get_or (take (first + n - first) (drop first ends)) k d ≡ get_or ends (first + k) 0
+part-at ends first n k d inside l =
+    get_or-take (first + n - first) (drop first ends) k d (omega (arith, l)) ∙ get_or-drop first ends k d
+    ∙ get_or_default ends (first + k) d 0 (omega (arith, inside, l))

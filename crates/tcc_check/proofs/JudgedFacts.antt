@@ -25,8 +25,10 @@ stream-fault bytes (Text fault) fails = (ends-read bytes fault fails.0, fails.1)
 stream-fault bytes NoMemory fails = tt
 
 -- the verdict on the parts of a certificate is that on the certificate
-pub order-judged : (h : History) (c : Certificate) (version : Version) (level : Level) (order : List ℕ) (sessions : ℕ) (rest : List Part) (answer : Verdict) → part.Order version level order sessions ∷ rest ≡ parts_of c
-    → ((clocks : List (List ℕ)) → rest ≡ map part.Clocks clocks → IsAnswer (order_rules h (record { level = level; order = order; sessions = sessions; clocks = clocks })) answer)
+pub order-judged : (h : History) (c : Certificate) (version : Version) (level : Level) (order : List ℕ) (sessions : ℕ) (rest : List Part) (answer : Verdict)
+    → part.Order version level order sessions ∷ rest ≡ parts_of c
+    → ((clocks : List (List ℕ)) → rest ≡ map part.Clocks clocks
+    → IsAnswer (order_rules h (record { level = level; order = order; sessions = sessions; clocks = clocks })) answer)
     → (claim.Order ≡ claim_of c) × IsVerdict h c answer
 order-judged h (certificate.Order v l o s cs) version level order sessions rest answer is said =
     let tail : rest ≡ map part.Clocks cs = cc in
@@ -34,8 +36,10 @@ order-judged h (certificate.Order v l o s cs) version level order sessions rest 
     (refl, subst (λ c. IsVerdict h c answer) (sym whole) (verdict_of h (certificate.Order version level order sessions cs) answer (said cs tail)))
 order-judged h (certificate.Cycle v l ls n ns fs) version level order sessions rest answer is said = absurd cc
 
-pub cycle-judged : (h : History) (c : Certificate) (version : Version) (level : Level) (size : ℕ) (links : List Link) (least : ℕ) (rest : List Part) (answer : Verdict) → part.Cycle version level size links least ∷ rest ≡ parts_of c
-    → ((near far : List (List ℕ)) → length near ≡ size → rest ≡ map part.Near near ++ map part.Far far → IsAnswer (cycle_rules h (record { version = version; level = level; links = links; least = least; near = near; far = far })) answer)
+pub cycle-judged : (h : History) (c : Certificate) (version : Version) (level : Level) (size : ℕ) (links : List Link) (least : ℕ) (rest : List Part)
+    (answer : Verdict) → part.Cycle version level size links least ∷ rest ≡ parts_of c
+    → ((near far : List (List ℕ)) → length near ≡ size → rest ≡ map part.Near near ++ map part.Far far
+    → IsAnswer (cycle_rules h (record { version = version; level = level; links = links; least = least; near = near; far = far })) answer)
     → (claim.Cycle least ≡ claim_of c) × IsVerdict h c answer
 cycle-judged h (certificate.Order v l o s cs) version level size links least rest answer is said = absurd cc
 cycle-judged h (certificate.Cycle v l ls n ns fs) version level size links least rest answer is said =

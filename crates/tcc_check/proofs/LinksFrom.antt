@@ -1,5 +1,7 @@
 -- What the first items of a list lower in a row of weights by ends.
-use Rattle.std.proofs.Common.{◌≡◌, ◌≢◌, ◌<◌, ◌≤◌, ◌+◌, ◌↔◌, ℕ, zero, suc, true, eqb, ◌⊎◌, inl, inr, List, [], ◌∷◌, ◌++◌, length, get_or, set, min, replicate, arith, refl, sym, ap, subst, ◌∙◌}
+use Rattle.std.proofs.Common.{◌≡◌, ◌≢◌, ◌<◌, ◌≤◌, ◌+◌, ◌↔◌, ℕ, zero, suc, true, eqb, ◌⊎◌, inl, inr, List}
+use Rattle.std.proofs.Common.{[], ◌∷◌, ◌++◌, length, get_or, set, min, replicate, arith, refl, sym, ap}
+use Rattle.std.proofs.Common.{subst, ◌∙◌}
 use Rattle.std.specs.Prelude.{All, map}
 use Rattle.std.specs.List.{Contains, zip}
 use Rattle.std.proofs.lemmas.Bool.{cases_eq, or_cases, or_right, eqb-true}
@@ -15,7 +17,9 @@ use Rattle.tcc_graph.specs.Keys.{has_name, key_at}
 use Rattle.tcc_graph.proofs.NameLemmas.{has_name-contains, contains-has_name}
 use Rattle.tcc_check.specs.Pairs.{AreOrderly}
 use Rattle.tcc_check.specs.Weights.{unlinked, AreByWeight, IsLeastRow, IsLowered}
-use Rattle.tcc_check.specs.WeightsFrom.{AreAllEnds, AreEnds, AreEndsTo, AreLightEnds, ends_of, BetweenWeighs, ContradictsBy, InitContradictsBy, MarkWeighs, PlaceWeighs, ReadWeighs, ReadingWeighs, SourceWeighs}
+use Rattle.tcc_check.specs.WeightsFrom.{AreAllEnds, AreEnds, AreEndsTo, AreLightEnds, ends_of, BetweenWeighs}
+use Rattle.tcc_check.specs.WeightsFrom.{ContradictsBy, InitContradictsBy, MarkWeighs, PlaceWeighs, ReadWeighs}
+use Rattle.tcc_check.specs.WeightsFrom.{ReadingWeighs, SourceWeighs}
 use Rattle.tcc_check.proofs.Lowering.{lowered_none, lowered_as, lowered_then, lowered_one}
 use Rattle.tcc_check.proofs.Sessions.{from_map, in_map}
 
@@ -23,7 +27,12 @@ use Rattle.tcc_check.proofs.Sessions.{from_map, in_map}
 
 module _ {A B : Type 0} (ks : List A) (vs : List B) (long : length ks ≡ length vs) where
   pub zip-at : (k : ℕ) (a : A) (b : B) → k < length ks → get_or ks k a ≡ a → get_or vs k b ≡ b → Contains (zip ks vs) (a, b)
-  zip-at k a b l one two = (k, omega (arith, length-zip ks vs, l, long), get_or-zip ks vs k (a, b) l (omega (arith, l, long)) ∙ ap (λ z. (z, get_or vs k b)) one ∙ ap (λ z. (a, z)) two)
+  zip-at k a b l one two = (
+    k,
+    omega (arith, length-zip ks vs, l, long),
+    get_or-zip ks vs k (a, b) l (omega (arith, l, long)) ∙ ap (λ z. (z, get_or vs k b)) one
+        ∙ ap (λ z. (a, z)) two,
+  )
 
   pub zip-from : (a : A) (b : B) → Contains (zip ks vs) (a, b) → (k : ℕ) × (k < length ks) × (get_or ks k a ≡ a) × (get_or vs k b ≡ b)
   zip-from a b (k, l, e) =
@@ -32,17 +41,23 @@ module _ {A B : Type 0} (ks : List A) (vs : List B) (long : length ks ≡ length
       (k, inside, ap (λ (z : A × B). z.0) both, ap (λ (z : A × B). z.1) both)
 
 -- what is known of each two that stand beside one another is known of each
-pub firsts-by : {B : Type 0} (x : B) (P : ℕ → Type 0) (ks : List ℕ) (vs : List B) → length ks ≡ length vs → ((k : ℕ) (v : B) → Contains (zip ks vs) (k, v) → P k) → All P ks
-firsts-by x P ks vs long each k d l = each (get_or ks k d) (get_or vs k x) (zip-at ks vs long k (get_or ks k d) (get_or vs k x) l (get_or_default ks k _ d l) (get_or_default vs k _ x (omega (arith, l, long))))
+pub firsts-by : {B : Type 0} (x : B) (P : ℕ → Type 0) (ks : List ℕ) (vs : List B) → length ks ≡ length vs
+    → ((k : ℕ) (v : B) → Contains (zip ks vs) (k, v) → P k) → All P ks
+firsts-by x P ks vs long each k d l =
+    each (get_or ks k d) (get_or vs k x) (zip-at ks vs long k (get_or ks k d) (get_or vs k x) l (get_or_default ks k _ d l)
+    (get_or_default vs k _ x (omega (arith, l, long))))
 
 pub seconds-by : (P : ℕ → Type 0) (ks vs : List ℕ) → length ks ≡ length vs → ((k v : ℕ) → Contains (zip ks vs) (k, v) → P v) → All P vs
-seconds-by P ks vs long each k d l = each (get_or ks k 0) (get_or vs k d) (zip-at ks vs long k (get_or ks k 0) (get_or vs k d) (omega (arith, l, long)) (get_or_default ks k _ 0 (omega (arith, l, long))) (get_or_default vs k _ d l))
+seconds-by P ks vs long each k d l =
+    each (get_or ks k 0) (get_or vs k d) (zip-at ks vs long k (get_or ks k 0) (get_or vs k d) (omega (arith, l, long))
+    (get_or_default ks k _ 0 (omega (arith, l, long))) (get_or_default vs k _ d l))
 
 -- ---- one number more
 
 -- what the first lower, one number more
 module _ (P Q : ℕ → ℕ → Type 0) (old new : List ℕ) (lowered : IsLowered P old new) where
-  pub one-lowered : (a n : ℕ) → a < length new → ((v w : ℕ) → P v w ⊎ ((v ≡ a) × (w ≡ n)) → Q v w) → ((v w : ℕ) → Q v w → P v w ⊎ ((v ≡ a) × (w ≡ n))) → IsLowered Q old (set new a (min (get_or new a 0) n))
+  pub one-lowered : (a n : ℕ) → a < length new → ((v w : ℕ) → P v w ⊎ ((v ≡ a) × (w ≡ n)) → Q v w) → ((v w : ℕ) → Q v w → P v w ⊎ ((v ≡ a) × (w ≡ n)))
+      → IsLowered Q old (set new a (min (get_or new a 0) n))
   one-lowered a n below to back = lowered_as _ _ old _ to back (lowered_then _ _ old new _ lowered (lowered_one new a n below))
 
 -- ---- marks
@@ -54,8 +69,11 @@ module _ (readers old new : List ℕ) where
   pub no-mark : IsLowered (SeenMark 0 readers) old old
   no-mark = lowered_none _ old (λ v w s. absurd (omega (arith, s.1)))
 
-  pub one-mark : (i a : ℕ) → get_or readers i 0 ≡ a → a < length new → IsLowered (SeenMark i readers) old new → IsLowered (SeenMark (i + 1) readers) old (set new a 0)
-  one-mark i a is below lowered = rw (← min-zero (get_or new a 0)) (one-lowered (SeenMark i readers) (SeenMark (i + 1) readers) old new lowered a 0 below to (λ v w s. go v w s (cases_eq s.0 i)))
+  pub one-mark : (i a : ℕ) → get_or readers i 0 ≡ a → a < length new → IsLowered (SeenMark i readers) old new
+      → IsLowered (SeenMark (i + 1) readers) old (set new a 0)
+  one-mark i a is below lowered =
+      rw (← min-zero (get_or new a 0)) (one-lowered (SeenMark i readers) (SeenMark (i + 1) readers) old new lowered a 0 below to
+      (λ v w s. go v w s (cases_eq s.0 i)))
     where
       to : (v w : ℕ) → SeenMark i readers v w ⊎ ((v ≡ a) × (w ≡ 0)) → SeenMark (i + 1) readers v w
       to v w (inl s) = (s.0, omega (arith, s.1), s.2, s.3)
@@ -72,12 +90,19 @@ module _ (readers old new : List ℕ) where
       lowered
 
 -- who reads from u is marked
-pub marks-reads : (h : History) (u : ℕ) (readers : List ℕ) (names : List (List ℕ)) (old new : List ℕ) → length readers ≡ length names → ((c : ℕ) (x : List ℕ) → Contains (zip readers names) (c, x) → IsReadsPair h u c x) → ((c : ℕ) (x : List ℕ) → IsReadsPair h u c x → Contains (zip readers names) (c, x))
+pub marks-reads : (h : History) (u : ℕ) (readers : List ℕ) (names : List (List ℕ)) (old new : List ℕ) → length readers ≡ length names
+    → ((c : ℕ) (x : List ℕ) → Contains (zip readers names) (c, x) → IsReadsPair h u c x)
+    → ((c : ℕ) (x : List ℕ) → IsReadsPair h u c x → Contains (zip readers names) (c, x))
     → IsLowered (MarkWeighs readers) old new → IsLowered (ReadWeighs h u) old new
 marks-reads h u readers names old new long to back = lowered_as _ _ old new there here
   where
     there : (v w : ℕ) → MarkWeighs readers v w → ReadWeighs h u v w
-    there v w ((k, l, e), none) = (get_or names k [], to v (get_or names k []) (zip-at readers names long k v (get_or names k []) l e (get_or_default names k _ [] (omega (arith, l, long)))), none)
+    there v w ((k, l, e), none) = (
+      get_or names k [],
+      to v (get_or names k []) (zip-at readers names long k v (get_or names k []) l e
+          (get_or_default names k _ [] (omega (arith, l, long)))),
+      none,
+    )
 
     here : (v w : ℕ) → ReadWeighs h u v w → MarkWeighs readers v w
     here v w (x, reads, none) = let at = zip-from readers names long v x (back v x reads) in ((at.0, at.1, at.2), none)
@@ -89,7 +114,9 @@ module _ (first : ℕ) (old new : List ℕ) where
   none-between = lowered_none _ old (λ v w s. absurd (omega (arith, s.0, s.1)))
 
   pub one-between : (i : ℕ) → first ≤ i → i < length new → IsLowered (BetweenWeighs first i) old new → IsLowered (BetweenWeighs first (i + 1)) old (set new i 0)
-  one-between i from below lowered = rw (← min-zero (get_or new i 0)) (one-lowered (BetweenWeighs first i) (BetweenWeighs first (i + 1)) old new lowered i 0 below to (λ v w s. go v w s (cases_eq v i)))
+  one-between i from below lowered =
+      rw (← min-zero (get_or new i 0)) (one-lowered (BetweenWeighs first i) (BetweenWeighs first (i + 1)) old new lowered i 0 below to
+      (λ v w s. go v w s (cases_eq v i)))
     where
       to : (v w : ℕ) → BetweenWeighs first i v w ⊎ ((v ≡ i) × (w ≡ 0)) → BetweenWeighs first (i + 1) v w
       to v w (inl s) = (s.0, omega (arith, s.1), s.2)
@@ -100,13 +127,17 @@ module _ (first : ℕ) (old new : List ℕ) where
       go v w s (inr apart) = inl (s.0, omega (arith, s.1, apart), s.2)
 
 -- marked are reads-from pairs and session pairs, and no others
-pub causal-weights : (h : History) (u first end : ℕ) (weights : List ℕ) → length weights ≡ count h → ((v : ℕ) → IsSessionPair h u v ↔ ((first ≤ v) × (v < end))) → IsLeastRow (λ v w. ReadWeighs h u v w ⊎ BetweenWeighs first end v w) weights → (c : ℕ) → c < count h → (get_or weights c 0 ≡ 0) ↔ IsCausalPair h u c
-causal-weights h u first end weights long pairs least c inside = (λ none. go none (least.from c below), λ pair. omega (arith, least.low c 0 below (weighs pair)))
+pub causal-weights : (h : History) (u first end : ℕ) (weights : List ℕ) → length weights ≡ count h
+    → ((v : ℕ) → IsSessionPair h u v ↔ ((first ≤ v) × (v < end))) → IsLeastRow (λ v w. ReadWeighs h u v w ⊎ BetweenWeighs first end v w) weights → (c : ℕ)
+    → c < count h → (get_or weights c 0 ≡ 0) ↔ IsCausalPair h u c
+causal-weights h u first end weights long pairs least c inside =
+    (λ none. go none (least.from c below), λ pair. omega (arith, least.low c 0 below (weighs pair)))
   where
     below : c < length weights
     below = omega (arith, inside, long)
 
-    go : get_or weights c 0 ≡ 0 → (get_or weights c 0 ≡ unlinked) ⊎ (ReadWeighs h u c (get_or weights c 0) ⊎ BetweenWeighs first end c (get_or weights c 0)) → IsCausalPair h u c
+    go : get_or weights c 0 ≡ 0 → (get_or weights c 0 ≡ unlinked) ⊎ (ReadWeighs h u c (get_or weights c 0) ⊎ BetweenWeighs first end c (get_or weights c 0))
+        → IsCausalPair h u c
     go none (inl heavy) = absurd (omega (arith, none, heavy))
     go none (inr (inl (x, reads, zeroth))) = inr (x, reads)
     go none (inr (inr (low, high, zeroth))) = inl ((pairs c).1 (low, high))
@@ -125,32 +156,40 @@ module _ (sources readers row : List ℕ) (u : ℕ) (old new : List ℕ) where
   pub no-reading : IsLowered (SeenReading 0 sources readers row u) old old
   no-reading = lowered_none _ old (λ v w s. absurd (omega (arith, s.1)))
 
-  cases : (i v w : ℕ) → SeenReading (i + 1) sources readers row u v w → SeenReading i sources readers row u v w ⊎ ((get_or sources i 0 ≡ v) × (v ≢ u) × (w ≡ get_or row (get_or readers i 0) 0))
+  cases : (i v w : ℕ) → SeenReading (i + 1) sources readers row u v w
+      → SeenReading i sources readers row u v w ⊎ ((get_or sources i 0 ≡ v) × (v ≢ u) × (w ≡ get_or row (get_or readers i 0) 0))
   cases i v w (k, l, is, apart, has) = go (cases_eq k i)
     where
       go : (k ≡ i) ⊎ (k ≡ i → ⊥) → SeenReading i sources readers row u v w ⊎ ((get_or sources i 0 ≡ v) × (v ≢ u) × (w ≡ get_or row (get_or readers i 0) 0))
       go (inl same) = inr (subst (λ (z : ℕ). get_or sources z 0 ≡ v) same is, apart, subst (λ (z : ℕ). w ≡ get_or row (get_or readers z 0) 0) same has)
       go (inr other) = inl (k, omega (arith, l, other), is, apart, has)
 
-  pub reading-skipped : (i : ℕ) → get_or sources i 0 ≡ u → IsLowered (SeenReading i sources readers row u) old new → IsLowered (SeenReading (i + 1) sources readers row u) old new
+  pub reading-skipped : (i : ℕ) → get_or sources i 0 ≡ u → IsLowered (SeenReading i sources readers row u) old new
+      → IsLowered (SeenReading (i + 1) sources readers row u) old new
   reading-skipped i same lowered = lowered_as _ _ old new (λ v w s. (s.0, omega (arith, s.1), s.2, s.3, s.4)) (λ v w s. back v w (cases i v w s)) lowered
     where
-      back : (v w : ℕ) → SeenReading i sources readers row u v w ⊎ ((get_or sources i 0 ≡ v) × (v ≢ u) × (w ≡ get_or row (get_or readers i 0) 0)) → SeenReading i sources readers row u v w
+      back : (v w : ℕ) → SeenReading i sources readers row u v w ⊎ ((get_or sources i 0 ≡ v) × (v ≢ u) × (w ≡ get_or row (get_or readers i 0) 0))
+          → SeenReading i sources readers row u v w
       back v w (inl s) = s
       back v w (inr (is, apart, has)) = absurd (apart (sym is ∙ same))
 
-  pub reading-lowered : (i a n : ℕ) → get_or sources i 0 ≡ a → a ≢ u → n ≡ get_or row (get_or readers i 0) 0 → a < length new → IsLowered (SeenReading i sources readers row u) old new → IsLowered (SeenReading (i + 1) sources readers row u) old (set new a (min (get_or new a 0) n))
-  reading-lowered i a n is apart has below lowered = one-lowered (SeenReading i sources readers row u) (SeenReading (i + 1) sources readers row u) old new lowered a n below to (λ v w s. back v w (cases i v w s))
+  pub reading-lowered : (i a n : ℕ) → get_or sources i 0 ≡ a → a ≢ u → n ≡ get_or row (get_or readers i 0) 0 → a < length new
+      → IsLowered (SeenReading i sources readers row u) old new → IsLowered (SeenReading (i + 1) sources readers row u) old (set new a (min (get_or new a 0) n))
+  reading-lowered i a n is apart has below lowered =
+      one-lowered (SeenReading i sources readers row u) (SeenReading (i + 1) sources readers row u) old new lowered a n below to
+      (λ v w s. back v w (cases i v w s))
     where
       to : (v w : ℕ) → SeenReading i sources readers row u v w ⊎ ((v ≡ a) × (w ≡ n)) → SeenReading (i + 1) sources readers row u v w
       to v w (inl s) = (s.0, omega (arith, s.1), s.2, s.3, s.4)
       to v w (inr s) = (i, omega arith, is ∙ sym s.0, (λ e. apart (sym s.0 ∙ e)), s.1 ∙ has)
 
-      back : (v w : ℕ) → SeenReading i sources readers row u v w ⊎ ((get_or sources i 0 ≡ v) × (v ≢ u) × (w ≡ get_or row (get_or readers i 0) 0)) → SeenReading i sources readers row u v w ⊎ ((v ≡ a) × (w ≡ n))
+      back : (v w : ℕ) → SeenReading i sources readers row u v w ⊎ ((get_or sources i 0 ≡ v) × (v ≢ u) × (w ≡ get_or row (get_or readers i 0) 0))
+          → SeenReading i sources readers row u v w ⊎ ((v ≡ a) × (w ≡ n))
       back v w (inl s) = inl s
       back v w (inr (here, other, number)) = inr (sym here ∙ is, number ∙ sym has)
 
-  pub all-readings : (i : ℕ) → i ≡ length sources → IsLowered (SeenReading i sources readers row u) old new → IsLowered (ReadingWeighs sources readers row u) old new
+  pub all-readings : (i : ℕ) → i ≡ length sources → IsLowered (SeenReading i sources readers row u) old new
+      → IsLowered (ReadingWeighs sources readers row u) old new
   all-readings i all lowered = subst (λ (z : ℕ). IsLowered (SeenReading z sources readers row u) old new) all lowered
 
 -- ---- places of keys
@@ -159,19 +198,32 @@ abbrev pub ReadsThere : History → List ℕ → ℕ → ℕ → ℕ → ℕ →
 ReadsThere h row u k v w = (c : ℕ) × IsReadsPair h v c (key_at h k) × (v ≢ u) × (w ≡ get_or row c 0)
 
 -- the readings of a key are those of the list
-pub readings-there : (h : History) (row : List ℕ) (u k : ℕ) (sources readers old new : List ℕ) → length sources ≡ length readers → ((a c : ℕ) → Contains (zip sources readers) (a, c) → IsReadsPair h a c (key_at h k)) → ((a c : ℕ) → IsReadsPair h a c (key_at h k) → Contains (zip sources readers) (a, c))
+pub readings-there : (h : History) (row : List ℕ) (u k : ℕ) (sources readers old new : List ℕ) → length sources ≡ length readers
+    → ((a c : ℕ) → Contains (zip sources readers) (a, c) → IsReadsPair h a c (key_at h k))
+    → ((a c : ℕ) → IsReadsPair h a c (key_at h k) → Contains (zip sources readers) (a, c))
     → IsLowered (ReadingWeighs sources readers row u) old new → IsLowered (ReadsThere h row u k) old new
 readings-there h row u k sources readers old new long to back = lowered_as _ _ old new there here
   where
     there : (v w : ℕ) → ReadingWeighs sources readers row u v w → ReadsThere h row u k v w
     there v w (j, l, is, apart, has) =
-        let inside : j < length readers = omega (arith, l, long) in
-        (get_or readers j 0, to v (get_or readers j 0) (zip-at sources readers long j v (get_or readers j 0) l (get_or_default sources j v 0 l ∙ is) (get_or_default readers j _ 0 inside)), apart, has)
+        let inside : j < length readers = omega (arith, l, long) in (
+          get_or readers j 0,
+          to v (get_or readers j 0) (zip-at sources readers long j v (get_or readers j 0) l (get_or_default sources j v 0 l ∙ is)
+              (get_or_default readers j _ 0 inside)),
+          apart,
+          has,
+        )
 
     here : (v w : ℕ) → ReadsThere h row u k v w → ReadingWeighs sources readers row u v w
     here v w (c, reads, apart, has) =
-        let at = zip-from sources readers long v c (back v c reads) in
-        (at.0, at.1, get_or_default sources at.0 0 v at.1 ∙ at.2, apart, has ∙ ap (λ z. get_or row z 0) (sym (get_or_default readers at.0 0 c (omega (arith, at.1, long)) ∙ at.3)))
+        let at = zip-from sources readers long v c (back v c reads) in (
+          at.0,
+          at.1,
+          get_or_default sources at.0 0 v at.1 ∙ at.2,
+          apart,
+          has
+              ∙ ap (λ z. get_or row z 0) (sym (get_or_default readers at.0 0 c (omega (arith, at.1, long)) ∙ at.3)),
+        )
 
 abbrev pub SeenPlace : ℕ → History → List ℕ → List ℕ → ℕ → ℕ → ℕ → Type 0
 SeenPlace i h places row u v w = (j : ℕ) × (j < i) × ReadsThere h row u (get_or places j 0) v w
@@ -180,7 +232,8 @@ module _ (h : History) (places row : List ℕ) (u : ℕ) (old new : List ℕ) wh
   pub no-place : IsLowered (SeenPlace 0 h places row u) old old
   no-place = lowered_none _ old (λ v w s. absurd (omega (arith, s.1)))
 
-  pub one-place : (i k : ℕ) (newer : List ℕ) → get_or places i 0 ≡ k → IsLowered (SeenPlace i h places row u) old new → IsLowered (ReadsThere h row u k) new newer → IsLowered (SeenPlace (i + 1) h places row u) old newer
+  pub one-place : (i k : ℕ) (newer : List ℕ) → get_or places i 0 ≡ k → IsLowered (SeenPlace i h places row u) old new
+      → IsLowered (ReadsThere h row u k) new newer → IsLowered (SeenPlace (i + 1) h places row u) old newer
   one-place i k newer is before more = lowered_as _ _ old newer to (λ v w s. back v w s (cases_eq s.0 i)) (lowered_then _ _ old new newer before more)
     where
       to : (v w : ℕ) → SeenPlace i h places row u v w ⊎ ReadsThere h row u k v w → SeenPlace (i + 1) h places row u v w
@@ -194,16 +247,23 @@ module _ (h : History) (places row : List ℕ) (u : ℕ) (old new : List ℕ) wh
   pub all-places : (i : ℕ) → i ≡ length places → IsLowered (SeenPlace i h places row u) old new → IsLowered (PlaceWeighs h places row u) old new
   all-places i all lowered = lowered_as _ _ old new
       (λ v w s. (get_or places s.0 0, (s.0, omega (arith, s.1, all), get_or_default places s.0 _ 0 (omega (arith, s.1, all))), s.2.0, s.2.1, s.2.2, s.2.3))
-      (λ v w s. (s.1.0, omega (arith, s.1.1, all), subst (λ (z : ℕ). ReadsThere h row u z v w) (sym (get_or_default places s.1.0 0 s.0 s.1.1 ∙ s.1.2)) (s.2, s.3, s.4, s.5)))
+      (λ v w s. (
+        s.1.0,
+        omega (arith, s.1.1, all),
+        subst (λ (z : ℕ). ReadsThere h row u z v w) (sym (get_or_default places s.1.0 0 s.0 s.1.1 ∙ s.1.2))
+            (s.2, s.3, s.4, s.5),
+      ))
       lowered
 
   -- the places of the keys that u writes
-  pub places-written : (u ≡ 0 → ⊥) → u < count h → map (key_at h) places ≡ (entry_at h u).writes → IsLowered (PlaceWeighs h places row u) old new → IsLowered (ContradictsBy h row u) old new
+  pub places-written : (u ≡ 0 → ⊥) → u < count h → map (key_at h) places ≡ (entry_at h u).writes → IsLowered (PlaceWeighs h places row u) old new
+      → IsLowered (ContradictsBy h row u) old new
   places-written other below are lowered = lowered_as _ _ old new to back lowered
     where
       to : (v w : ℕ) → PlaceWeighs h places row u v w → ContradictsBy h row u v w
       to v w (k, there, c, reads, apart, has) =
-          let named : Contains (entry_at h u).writes (key_at h k) = subst (λ (names : List (List ℕ)). Contains names (key_at h k)) are (in_map (key_at h) places k there) in
+          let named : Contains (entry_at h u).writes (key_at h k) =
+          subst (λ (names : List (List ℕ)). Contains names (key_at h k)) are (in_map (key_at h) places k there) in
           (key_at h k, c, ((λ e. apart (sym e)), reads, (below, or_right _ _ (contains-has_name (entry_at h u).writes (key_at h k) named))), has)
 
       back : (v w : ℕ) → ContradictsBy h row u v w → PlaceWeighs h places row u v w
@@ -224,14 +284,18 @@ module _ (source : ℕ) (readers row old new : List ℕ) where
   pub no-reader : IsLowered (SeenReader 0 source readers row) old old
   no-reader = lowered_none _ old (λ v w s. absurd (omega (arith, s.2)))
 
-  pub one-reader : (i n : ℕ) → n ≡ get_or row (get_or readers i 0) 0 → source < length new → IsLowered (SeenReader i source readers row) old new → IsLowered (SeenReader (i + 1) source readers row) old (set new source (min (get_or new source 0) n))
-  one-reader i n has below lowered = one-lowered (SeenReader i source readers row) (SeenReader (i + 1) source readers row) old new lowered source n below to (λ v w s. back v w s (cases_eq s.1 i))
+  pub one-reader : (i n : ℕ) → n ≡ get_or row (get_or readers i 0) 0 → source < length new → IsLowered (SeenReader i source readers row) old new
+      → IsLowered (SeenReader (i + 1) source readers row) old (set new source (min (get_or new source 0) n))
+  one-reader i n has below lowered =
+      one-lowered (SeenReader i source readers row) (SeenReader (i + 1) source readers row) old new lowered source n below to
+      (λ v w s. back v w s (cases_eq s.1 i))
     where
       to : (v w : ℕ) → SeenReader i source readers row v w ⊎ ((v ≡ source) × (w ≡ n)) → SeenReader (i + 1) source readers row v w
       to v w (inl s) = (s.0, s.1, omega (arith, s.2), s.3)
       to v w (inr s) = (s.0, i, omega arith, s.1 ∙ has)
 
-      back : (v w : ℕ) (s : SeenReader (i + 1) source readers row v w) → (s.1 ≡ i) ⊎ (s.1 ≡ i → ⊥) → SeenReader i source readers row v w ⊎ ((v ≡ source) × (w ≡ n))
+      back : (v w : ℕ) (s : SeenReader (i + 1) source readers row v w) → (s.1 ≡ i) ⊎ (s.1 ≡ i → ⊥)
+          → SeenReader i source readers row v w ⊎ ((v ≡ source) × (w ≡ n))
       back v w s (inl same) = inr (s.0, s.3 ∙ ap (λ z. get_or row (get_or readers z 0) 0) same ∙ sym has)
       back v w s (inr apart) = inl (s.0, s.1, omega (arith, s.2, apart), s.3)
 
@@ -248,14 +312,18 @@ module _ (h : History) (row old new : List ℕ) where
   pub no-source : IsLowered (SeenSource 1 h row) old old
   no-source = lowered_none _ old (λ v w s. absurd (omega (arith, s.0, s.1)))
 
-  pub one-source : (i : ℕ) (readers : List ℕ) (names : List (List ℕ)) (newer : List ℕ) → 0 < i → length readers ≡ length names → ((c : ℕ) (x : List ℕ) → Contains (zip readers names) (c, x) → IsReadsPair h i c x) → ((c : ℕ) (x : List ℕ) → IsReadsPair h i c x → Contains (zip readers names) (c, x))
+  pub one-source : (i : ℕ) (readers : List ℕ) (names : List (List ℕ)) (newer : List ℕ) → 0 < i → length readers ≡ length names
+      → ((c : ℕ) (x : List ℕ) → Contains (zip readers names) (c, x) → IsReadsPair h i c x)
+      → ((c : ℕ) (x : List ℕ) → IsReadsPair h i c x → Contains (zip readers names) (c, x))
       → IsLowered (SeenSource i h row) old new → IsLowered (SourceWeighs i readers row) new newer → IsLowered (SeenSource (i + 1) h row) old newer
-  one-source i readers names newer some long there here before more = lowered_as _ _ old newer to (λ v w s. back v w s (cases_eq v i)) (lowered_then _ _ old new newer before more)
+  one-source i readers names newer some long there here before more =
+      lowered_as _ _ old newer to (λ v w s. back v w s (cases_eq v i)) (lowered_then _ _ old new newer before more)
     where
       to : (v w : ℕ) → SeenSource i h row v w ⊎ SourceWeighs i readers row v w → SeenSource (i + 1) h row v w
       to v w (inl s) = (s.0, omega (arith, s.1), s.2, s.3, s.4, s.5)
       to v w (inr (same, c, (k, l, e), has)) =
-          let reads : IsReadsPair h i c (get_or names k []) = there c (get_or names k []) (zip-at readers names long k c (get_or names k []) l e (get_or_default names k _ [] (omega (arith, l, long)))) in
+          let reads : IsReadsPair h i c (get_or names k []) =
+          there c (get_or names k []) (zip-at readers names long k c (get_or names k []) l e (get_or_default names k _ [] (omega (arith, l, long)))) in
           (omega (arith, same, some), omega (arith, same), get_or names k [], c, subst (λ (z : ℕ). IsReadsPair h z c (get_or names k [])) (sym same) reads, has)
 
       back : (v w : ℕ) → SeenSource (i + 1) h row v w → (v ≡ i) ⊎ (v ≡ i → ⊥) → SeenSource i h row v w ⊎ SourceWeighs i readers row v w
@@ -265,7 +333,8 @@ module _ (h : History) (row old new : List ℕ) where
       back v w (positive, l, x, c, reads, has) (inr apart) = inl (positive, omega (arith, l, apart), x, c, reads, has)
 
   pub all-sources : (i : ℕ) → count h ≤ i → IsLowered (SeenSource i h row) old new → IsLowered (InitContradictsBy h row) old new
-  all-sources i all lowered = lowered_as _ _ old new (λ v w s. (s.0, s.2, s.3, s.4, s.5)) (λ v w s. (s.0, omega (arith, s.3.0, all), s.1, s.2, s.3, s.4)) lowered
+  all-sources i all lowered =
+      lowered_as _ _ old new (λ v w s. (s.0, s.2, s.3, s.4, s.5)) (λ v w s. (s.0, omega (arith, s.3.0, all), s.1, s.2, s.3, s.4)) lowered
 
   pub init-contradicts : 0 < count h → IsLowered (InitContradictsBy h row) old new → IsLowered (ContradictsBy h row 0) old new
   init-contradicts some lowered = lowered_as _ _ old new to back lowered
@@ -290,28 +359,42 @@ module _ (weights : List ℕ) (least : ℕ) where
   pub no-light : AreLightTo 0 weights least []
   no-light = record { each = λ v l p. absurd (omega (arith, l)); only = λ s w. absurd (omega (arith, w.1)) }
 
-  pub light-skipped : (i : ℕ) (ends : List (ℕ × ℕ)) → (get_or weights i 0 + 1 < least → ⊥) → AreLightTo i weights least ends → AreLightTo (i + 1) weights least ends
+  pub light-skipped : (i : ℕ) (ends : List (ℕ × ℕ)) → (get_or weights i 0 + 1 < least → ⊥) → AreLightTo i weights least ends
+      → AreLightTo (i + 1) weights least ends
   light-skipped i ends heavy h = record { each = λ v l p. go v l p (cases_eq v i); only = h.only }
     where
       go : (v : ℕ) → v < i + 1 → get_or weights v 0 + 1 < least → (v ≡ i) ⊎ (v ≡ i → ⊥) → Contains ends (v, get_or weights v 0)
       go v l p (inl same) = absurd (heavy (subst (λ (z : ℕ). get_or weights z 0 + 1 < least) same p))
       go v l p (inr apart) = h.each v (omega (arith, l, apart)) p
 
-  pub light-added : (i : ℕ) (ends : List (ℕ × ℕ)) → i < length weights → get_or weights i 0 + 1 < least → AreLightTo i weights least ends → AreLightTo (i + 1) weights least (ends ++ (i, get_or weights i 0) ∷ [])
-  light-added i ends below light h = record { each = λ v l p. go v l p (cases_eq v i); only = λ s w. only s (Contains-append_cases ends ((i, get_or weights i 0) ∷ []) s w) }
+  pub light-added : (i : ℕ) (ends : List (ℕ × ℕ)) → i < length weights → get_or weights i 0 + 1 < least → AreLightTo i weights least ends
+      → AreLightTo (i + 1) weights least (ends ++ (i, get_or weights i 0) ∷ [])
+  light-added i ends below light h =
+      record { each = λ v l p. go v l p (cases_eq v i); only = λ s w. only s (Contains-append_cases ends ((i, get_or weights i 0) ∷ []) s w) }
     where
-      go : (v : ℕ) → v < i + 1 → get_or weights v 0 + 1 < least → (v ≡ i) ⊎ (v ≡ i → ⊥) → Contains (ends ++ (i, get_or weights i 0) ∷ []) (v, get_or weights v 0)
-      go v l p (inl same) = rw same (length ends, omega (arith, length_push ends (i, get_or weights i 0)), get_or_push ends (i, get_or weights i 0) (i, get_or weights i 0) (length ends) refl)
+      go : (v : ℕ) → v < i + 1 → get_or weights v 0 + 1 < least → (v ≡ i) ⊎ (v ≡ i → ⊥)
+          → Contains (ends ++ (i, get_or weights i 0) ∷ []) (v, get_or weights v 0)
+      go v l p (inl same) =
+          rw same (
+            length ends,
+            omega (arith, length_push ends (i, get_or weights i 0)),
+            get_or_push ends (i, get_or weights i 0) (i, get_or weights i 0) (length ends) refl,
+          )
       go v l p (inr apart) =
-          let w = h.each v (omega (arith, l, apart)) p in
-          (w.0, omega (arith, w.1, length_push ends (i, get_or weights i 0)), get_or_append_left ends ((i, get_or weights i 0) ∷ []) (v, get_or weights v 0) w.0 w.1 ∙ w.2)
+          let w = h.each v (omega (arith, l, apart)) p in (
+            w.0,
+            omega (arith, w.1, length_push ends (i, get_or weights i 0)),
+            get_or_append_left ends ((i, get_or weights i 0) ∷ []) (v, get_or weights v 0) w.0 w.1 ∙ w.2,
+          )
 
-      only : (s : ℕ × ℕ) → Contains ends s ⊎ Contains ((i, get_or weights i 0) ∷ []) s → (s.0 < length weights) × (get_or weights s.0 0 ≡ s.1) × (s.1 + 1 < least)
+      only : (s : ℕ × ℕ) → Contains ends s ⊎ Contains ((i, get_or weights i 0) ∷ []) s
+          → (s.0 < length weights) × (get_or weights s.0 0 ≡ s.1) × (s.1 + 1 < least)
       only s (inl w) = h.only s w
       only s (inr (zero, l, e)) = rw (← e) (below, refl, light)
       only s (inr (suc k, l, e)) = absurd (omega (arith, l))
 
-  pub all-light : (i : ℕ) (ends sorted : List (ℕ × ℕ)) → length weights ≤ i → IsPermutation ends sorted → AreByWeight sorted → AreLightTo i weights least ends → AreLightEnds weights least sorted
+  pub all-light : (i : ℕ) (ends sorted : List (ℕ × ℕ)) → length weights ≤ i → IsPermutation ends sorted → AreByWeight sorted
+      → AreLightTo i weights least ends → AreLightEnds weights least sorted
   all-light i ends sorted all same by h = record {
     each = λ v l p. Contains-permutation ends sorted (v, get_or weights v 0) same (h.each v (omega (arith, l, all)) p);
     only = λ s w. h.only s (Contains-permutation sorted ends s (IsPermutation-sym ends sorted same) w);
@@ -319,9 +402,11 @@ module _ (weights : List ℕ) (least : ℕ) where
   }
 
   -- of the least weights the light ones are the links that take less
-  pub ends-light : (n : ℕ) (weighs : ℕ → ℕ → Type 0) (ends : List (ℕ × ℕ)) → length weights ≡ n → least < 4294967296 → IsLeastRow weighs weights → AreLightEnds weights least ends → AreEnds weighs n least ends
+  pub ends-light : (n : ℕ) (weighs : ℕ → ℕ → Type 0) (ends : List (ℕ × ℕ)) → length weights ≡ n → least < 4294967296 → IsLeastRow weighs weights
+      → AreLightEnds weights least ends → AreEnds weighs n least ends
   ends-light n weighs ends long fits row light = record {
-    each = λ v w below p less. let low = row.low v w (omega (arith, below, long)) p in (get_or weights v 0, low, light.each v (omega (arith, below, long)) (omega (arith, low, less)));
+    each = λ v w below p less. let low =
+        row.low v w (omega (arith, below, long)) p in (get_or weights v 0, low, light.each v (omega (arith, below, long)) (omega (arith, low, less)));
     only = λ link w. only link (light.only link w);
     sorted = light.sorted;
   }
@@ -333,7 +418,8 @@ module _ (weights : List ℕ) (least : ℕ) where
           go (inl none) = absurd (omega (arith, none, is, less, fits))
           go (inr p) = subst (λ (z : ℕ). weighs link.0 z) is p
 
-pub light-inside : (weights : List ℕ) (least m : ℕ) (ends : List (ℕ × ℕ)) → length weights ≤ m → AreLightEnds weights least ends → All (λ (link : ℕ × ℕ). link.0 < m) ends
+pub light-inside : (weights : List ℕ) (least m : ℕ) (ends : List (ℕ × ℕ)) → length weights ≤ m → AreLightEnds weights least ends
+    → All (λ (link : ℕ × ℕ). link.0 < m) ends
 light-inside weights least m ends few are k d l = let w = are.only (get_or ends k d) (k, l, get_or_default ends k _ d l) in omega (arith, w.0, few)
 
 -- a row where nothing is linked, lowered
@@ -344,7 +430,8 @@ bare-lowered n weighs bare row is lowered = record {
 }
   where
     go : (u : ℕ) → u < length row → (get_or row u 0 ≡ get_or bare u 0) ⊎ weighs u (get_or row u 0) → (get_or row u 0 ≡ unlinked) ⊎ weighs u (get_or row u 0)
-    go u l (inl same) = inl (same ∙ ap (λ r. get_or r u 0) is ∙ get_or-replicate n u unlinked 0 (omega (arith, l, lowered.long, ap length is, length-replicate n unlinked)))
+    go u l (inl same) =
+        inl (same ∙ ap (λ r. get_or r u 0) is ∙ get_or-replicate n u unlinked 0 (omega (arith, l, lowered.long, ap length is, length-replicate n unlinked)))
     go u l (inr p) = inr p
 
 -- ---- rows of ends
@@ -352,7 +439,8 @@ bare-lowered n weighs bare row is lowered = record {
 pub no-ends : (weighs : ℕ → ℕ → ℕ → Type 0) (n least : ℕ) → AreEndsTo 0 weighs n least []
 no-ends weighs n least = record { long = refl; rows = λ u l. absurd (omega (arith, l)) }
 
-pub more-ends : (i : ℕ) (weighs : ℕ → ℕ → ℕ → Type 0) (n least : ℕ) (ends : List (List (ℕ × ℕ))) (more : List (ℕ × ℕ)) → AreEnds (weighs i) n least more → AreEndsTo i weighs n least ends → AreEndsTo (i + 1) weighs n least (ends ++ more ∷ [])
+pub more-ends : (i : ℕ) (weighs : ℕ → ℕ → ℕ → Type 0) (n least : ℕ) (ends : List (List (ℕ × ℕ))) (more : List (ℕ × ℕ)) → AreEnds (weighs i) n least more
+    → AreEndsTo i weighs n least ends → AreEndsTo (i + 1) weighs n least (ends ++ more ∷ [])
 more-ends i weighs n least ends more are h = record {
   long = length_push ends more ∙ ap (λ k. k + 1) h.long;
   rows = λ u l. rows u l (cases_eq u i);
@@ -360,15 +448,18 @@ more-ends i weighs n least ends more are h = record {
   where
     rows : (u : ℕ) → u < i + 1 → (u ≡ i) ⊎ (u ≡ i → ⊥) → AreEnds (weighs u) n least (ends_of (ends ++ more ∷ []) u)
     rows u l (inl same) = rw (get_or_push ends more [] u (h.long ∙ sym same)) (subst (λ (z : ℕ). AreEnds (weighs z) n least more) (sym same) are)
-    rows u l (inr apart) = let inside : u < length ends = omega (arith, l, apart, h.long) in rw (get_or_append_left ends (more ∷ []) [] u inside) (h.rows u (omega (arith, l, apart)))
+    rows u l (inr apart) = let inside : u < length ends =
+        omega (arith, l, apart, h.long) in rw (get_or_append_left ends (more ∷ []) [] u inside) (h.rows u (omega (arith, l, apart)))
 
 pub ends-inside : (n least : ℕ) (weighs : ℕ → ℕ → Type 0) (ends : List (ℕ × ℕ)) → AreEnds weighs n least ends → All (λ link. link.0 < n) ends
 ends-inside n least weighs ends are k d l = (are.only (get_or ends k d) (k, l, get_or_default ends k _ d l)).0
 
 -- all ends are below n, and the lighter come first
-pub orderly-more : (n least : ℕ) (weighs : ℕ → ℕ → Type 0) (ends : List (List (ℕ × ℕ))) (more : List (ℕ × ℕ)) → AreEnds weighs n least more → AreOrderly n ends → AreOrderly n (ends ++ more ∷ [])
+pub orderly-more : (n least : ℕ) (weighs : ℕ → ℕ → Type 0) (ends : List (List (ℕ × ℕ))) (more : List (ℕ × ℕ)) → AreEnds weighs n least more
+    → AreOrderly n ends → AreOrderly n (ends ++ more ∷ [])
 orderly-more n least weighs ends more are old = record {
-  inside = All-push (λ links. All (λ link. link.0 < n) links) ends more old.inside (λ k d l. (are.only (get_or more k d) (k, l, get_or_default more k _ d l)).0);
+  inside =
+      All-push (λ links. All (λ link. link.0 < n) links) ends more old.inside (λ k d l. (are.only (get_or more k d) (k, l, get_or_default more k _ d l)).0);
   sorted = All-push (λ links. AreByWeight links) ends more old.sorted are.sorted;
 }
 
@@ -377,6 +468,8 @@ orderly-none n = record { inside = λ k d l. absurd (omega (arith, l)); sorted =
 
 pub orderly-all : (n least : ℕ) (weighs : ℕ → ℕ → ℕ → Type 0) (ends : List (List (ℕ × ℕ))) → AreAllEnds weighs n least ends → AreOrderly n ends
 orderly-all n least weighs ends are = record {
-  inside = λ k d l. rw (get_or_default ends k d [] l) (λ j e m. ((are.rows k (omega (arith, l, are.long))).only (get_or (ends_of ends k) j e) (j, m, get_or_default (ends_of ends k) j _ e m)).0);
+  inside =
+      λ k d l. rw (get_or_default ends k d [] l)
+      (λ j e m. ((are.rows k (omega (arith, l, are.long))).only (get_or (ends_of ends k) j e) (j, m, get_or_default (ends_of ends k) j _ e m)).0);
   sorted = λ k d l. rw (get_or_default ends k d [] l) (are.rows k (omega (arith, l, are.long))).sorted;
 }

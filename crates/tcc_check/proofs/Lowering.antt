@@ -13,7 +13,8 @@ lowered_none P row none = record {
   from = λ u l. inl refl;
 }
 
-pub lowered_as : (P Q : ℕ → ℕ → Type 0) (old new : List ℕ) → ((u w : ℕ) → P u w → Q u w) → ((u w : ℕ) → Q u w → P u w) → IsLowered P old new → IsLowered Q old new
+pub lowered_as : (P Q : ℕ → ℕ → Type 0) (old new : List ℕ) → ((u w : ℕ) → P u w → Q u w) → ((u w : ℕ) → Q u w → P u w) → IsLowered P old new
+    → IsLowered Q old new
 lowered_as P Q old new to back h = record {
   long = h.long;
   kept = h.kept;
@@ -37,7 +38,8 @@ lowered_then P Q one two three g h = record {
     under u w l (inl p) = omega (arith, g.low u w l p, h.kept u (omega (arith, g.long)))
     under u w l (inr q) = h.low u w (omega (arith, g.long)) q
 
-    found : (u : ℕ) → (get_or two u 0 ≡ get_or one u 0) ⊎ P u (get_or two u 0) → (get_or three u 0 ≡ get_or two u 0) ⊎ Q u (get_or three u 0) → (get_or three u 0 ≡ get_or one u 0) ⊎ (P u (get_or three u 0) ⊎ Q u (get_or three u 0))
+    found : (u : ℕ) → (get_or two u 0 ≡ get_or one u 0) ⊎ P u (get_or two u 0) → (get_or three u 0 ≡ get_or two u 0) ⊎ Q u (get_or three u 0)
+        → (get_or three u 0 ≡ get_or one u 0) ⊎ (P u (get_or three u 0) ⊎ Q u (get_or three u 0))
     found u first (inr q) = inr (inr q)
     found u (inl before) (inl same) = inl (same ∙ before)
     found u (inr p) (inl same) = inr (inl (subst (λ (z : ℕ). P u z) (sym same) p))
@@ -61,7 +63,8 @@ lowered_one row u w below = record {
     low : (t z : ℕ) → (t ≡ u) × (z ≡ w) → get_or (set row u (min (get_or row u 0) w)) t 0 ≤ z
     low t z p = omega (arith, here t p.0, p.1)
 
-    split : (t : ℕ) → t ≡ u → (get_or row u 0 ≤ w) ⊎ (w < get_or row u 0) → (get_or (set row u (min (get_or row u 0) w)) t 0 ≡ get_or row t 0) ⊎ ((t ≡ u) × (get_or (set row u (min (get_or row u 0) w)) t 0 ≡ w))
+    split : (t : ℕ) → t ≡ u → (get_or row u 0 ≤ w) ⊎ (w < get_or row u 0)
+        → (get_or (set row u (min (get_or row u 0) w)) t 0 ≡ get_or row t 0) ⊎ ((t ≡ u) × (get_or (set row u (min (get_or row u 0) w)) t 0 ≡ w))
     split t e (inl small) = inl (omega (arith, here t e, ap (λ z. get_or row z 0) e))
     split t e (inr large) = inr (e, omega (arith, here t e))
 
@@ -69,6 +72,7 @@ lowered_one row u w below = record {
     turn (inl l) = inr l
     turn (inr l) = inl l
 
-    from : (t : ℕ) → (t ≡ u) ⊎ (t ≡ u → ⊥) → (get_or (set row u (min (get_or row u 0) w)) t 0 ≡ get_or row t 0) ⊎ ((t ≡ u) × (get_or (set row u (min (get_or row u 0) w)) t 0 ≡ w))
+    from : (t : ℕ) → (t ≡ u) ⊎ (t ≡ u → ⊥) → (get_or (set row u (min (get_or row u 0) w)) t 0 ≡ get_or row t 0)
+        ⊎ ((t ≡ u) × (get_or (set row u (min (get_or row u 0) w)) t 0 ≡ w))
     from t (inl e) = split t e (turn (cases_lt w (get_or row u 0)))
     from t (inr ne) = inl (get_or-set_other row u t (min (get_or row u 0) w) 0 ne)

@@ -1,5 +1,6 @@
 -- Rows of lengths so far, and those to come.
-use Rattle.std.proofs.Common.{◌≡◌, ℕ, ◌<◌, ◌≤◌, ◌+◌, ◌⊎◌, List, [], ◌∷◌, ◌++◌, length, get_or, None, inl, inr, refl, sym, ap, subst, ◌∙◌, arith, append_assoc, append-nil}
+use Rattle.std.proofs.Common.{◌≡◌, ℕ, ◌<◌, ◌≤◌, ◌+◌, ◌⊎◌, List, [], ◌∷◌, ◌++◌, length, get_or, None}
+use Rattle.std.proofs.Common.{inl, inr, refl, sym, ap, subst, ◌∙◌, arith, append_assoc, append-nil}
 use Rattle.std.specs.Prelude.{All, map}
 use Rattle.std.proofs.lemmas.List.{length-append}
 use Rattle.std.proofs.lemmas.List.Elements.{All-push}
@@ -30,7 +31,8 @@ next-near row rest [] (one ∷ far) is = absurd cc
 next-near row rest (one ∷ later) far is = (later, (let same : row ≡ one = cc in ap (λ r. r ∷ later) (sym same)), cc)
 
 -- the next part of them is such a row
-next-not-near : (given : Part) (rest : List Part) (todo far : List (List ℕ)) → 0 < length todo → given ∷ rest ≡ map part.Near todo ++ map part.Far far → (row : List ℕ) × (given ≡ part.Near row)
+next-not-near : (given : Part) (rest : List Part) (todo far : List (List ℕ)) → 0 < length todo → given ∷ rest ≡ map part.Near todo ++ map part.Far far
+    → (row : List ℕ) × (given ≡ part.Near row)
 next-not-near given rest [] far some is = absurd (omega (arith, some))
 next-not-near given rest (row ∷ later) far some is = (row, cc)
 
@@ -41,7 +43,8 @@ none-left (row ∷ later) far some is = cc
 some-left : (rows near todo : List (List ℕ)) (n : ℕ) → length near ≡ n → near ≡ rows ++ todo → length rows < n → 0 < length todo
 some-left rows near todo n long split l = omega (arith, long, l, ap length split, length-append rows todo)
 
-pub near-more : (rows : List (List ℕ)) (n : ℕ) (row : List ℕ) (ahead now rest : Parts) → IsNearBehind rows n ahead now → IsFirst (part.Near row) now rest → IsNearBehind (rows ++ row ∷ []) n ahead rest
+pub near-more : (rows : List (List ℕ)) (n : ℕ) (row : List ℕ) (ahead now rest : Parts) → IsNearBehind rows n ahead now → IsFirst (part.Near row) now rest
+    → IsNearBehind (rows ++ row ∷ []) n ahead rest
 near-more rows n row ahead now rest behind first = record {
   line = first-line (part.Near row) now rest first ∙ behind.line;
   fault = first-fault (part.Near row) now rest first ∙ behind.fault;
@@ -52,7 +55,8 @@ near-more rows n row ahead now rest behind first = record {
 }
 
 -- another part comes only where there are fewer rows
-pub near-other : (rows : List (List ℕ)) (n : ℕ) (given : Part) (ahead now rest : Parts) → ((row : List ℕ) → given ≡ part.Near row → ⊥) → length rows < n → IsNearBehind rows n ahead now → IsFirst given now rest
+pub near-other : (rows : List (List ℕ)) (n : ℕ) (given : Part) (ahead now rest : Parts) → ((row : List ℕ) → given ≡ part.Near row → ⊥) → length rows < n
+    → IsNearBehind rows n ahead now → IsFirst given now rest
     → (near far : List (List ℕ)) → length near ≡ n → ahead.parts ≡ map part.Near near ++ map part.Far far → ⊥
 near-other rows n given ahead now rest other fewer behind first near far long is = go (first-parts given now rest first)
   where
@@ -76,7 +80,8 @@ near-here rows n row ahead now rest behind first near far long is =
 
 -- so it is right, where the table is
 pub near-row : (rows : List (List ℕ)) (n least : ℕ) (row : List ℕ) (ahead now rest : Parts) → IsNearBehind rows n ahead now → IsFirst (part.Near row) now rest
-    → (near far : List (List ℕ)) → length near ≡ n → ahead.parts ≡ map part.Near near ++ map part.Far far → IsNearRight n least near → (length row ≡ n) × All (λ number. number ≤ least) row
+    → (near far : List (List ℕ)) → length near ≡ n → ahead.parts ≡ map part.Near near ++ map part.Far far → IsNearRight n least near
+    → (length row ≡ n) × All (λ number. number ≤ least) row
 near-row rows n least row ahead now rest behind first near far long is right = (
   subst (λ r. length r ≡ n) here (right.0.wide (length rows) [] inside),
   subst (λ r. All (λ number. number ≤ least) r) here (right.1 (length rows) [] inside),
@@ -110,7 +115,8 @@ near-all rows n ahead now behind whole near far long is = go old.0 old.1 old.2
     go (row ∷ later) split left = absurd (omega (arith, whole, long, ap length split, length-append rows (row ∷ later)))
 
 -- the same, where of the rows so far something is known
-pub record AreNearBehind (n : ℕ) (least : ℕ) (P : List (List ℕ) → ℕ → NearRows → Type 0) (i : ℕ) (state : NearRows) (rows : List (List ℕ)) (ahead : Parts) (rest : Parts) : Type 0 where
+pub record AreNearBehind (n : ℕ) (least : ℕ) (P : List (List ℕ) → ℕ → NearRows → Type 0) (i : ℕ) (state : NearRows) (rows : List (List ℕ)) (ahead : Parts)
+    (rest : Parts) : Type 0 where
   pub behind : IsNearBehind rows n ahead rest
   pub long : length rows ≡ i
   pub wide : All (λ row. length row ≡ n) rows
@@ -127,17 +133,21 @@ module _ (n least : ℕ) (P : List (List ℕ) → ℕ → NearRows → Type 0) w
     found = λ near far long is. nothing near;
   }
 
-  pub near-goes-on : (i : ℕ) (state new : NearRows) (rows : List (List ℕ)) (row : List ℕ) (ahead now rest : Parts) → AreNearBehind n least P i state rows ahead now → IsFirst (part.Near row) now rest → length row ≡ n → All (λ number. number ≤ least) row
+  pub near-goes-on : (i : ℕ) (state new : NearRows) (rows : List (List ℕ)) (row : List ℕ) (ahead now rest : Parts)
+      → AreNearBehind n least P i state rows ahead now → IsFirst (part.Near row) now rest → length row ≡ n → All (λ number. number ≤ least) row
       → ((near : List (List ℕ)) → row_of near i ≡ row → P near i state → P near (i + 1) new) → AreNearBehind n least P (i + 1) new (rows ++ row ∷ []) ahead rest
   near-goes-on i state new rows row ahead now rest old first long capped more = record {
     behind = near-more rows n row ahead now rest old.behind first;
     long = length-append rows (row ∷ []) ∙ omega (arith, old.long);
     wide = All-push (λ row. length row ≡ n) rows row old.wide long;
     cap = All-push (λ row. All (λ number. number ≤ least) row) rows row old.cap capped;
-    found = λ near far whole is. more near (ap (λ k. get_or near k []) (sym old.long) ∙ near-here rows n row ahead now rest old.behind first near far whole is) (old.found near far whole is);
+    found =
+        λ near far whole is. more near (ap (λ k. get_or near k []) (sym old.long) ∙ near-here rows n row ahead now rest old.behind first near far whole is)
+        (old.found near far whole is);
   }
 
-  pub near-ended : (state : NearRows) (rows : List (List ℕ)) (ahead now : Parts) → AreNearBehind n least P n state rows ahead now → (near far : List (List ℕ)) → length near ≡ n → ahead.parts ≡ map part.Near near ++ map part.Far far
+  pub near-ended : (state : NearRows) (rows : List (List ℕ)) (ahead now : Parts) → AreNearBehind n least P n state rows ahead now
+      → (near far : List (List ℕ)) → length near ≡ n → ahead.parts ≡ map part.Near near ++ map part.Far far
       → IsNearRight n least near × P near n state × (now.parts ≡ map part.Far far)
   near-ended state rows ahead now old near far long is =
       let all = near-all rows n ahead now old.behind old.long near far long is in

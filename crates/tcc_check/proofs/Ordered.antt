@@ -29,25 +29,39 @@ module _ (order places : List ℕ) (are : ArePlaces order places) where
   pub places_before : (a b : ℕ) → a < length order → b < length order → get_or places a 0 < get_or places b 0 → Before order a b
   places_before a b l m low = (get_or places a 0, get_or places b 0, low, are.within b m, are.here a l, are.here b m)
 
-module _ (h : History) (level : Level) (order places : List ℕ) (sessions : ℕ) (clocks : List (List ℕ)) (are : ArePlaces order places) (long : length order ≡ count h) where
-  pub pairs_kept : ((b c : ℕ) → IsCausalPair h b c → IsKept h level places clocks b c) → KeepsPairs h (record { level = level; order = order; sessions = sessions; clocks = clocks })
+module _ (h : History) (level : Level) (order places : List ℕ) (sessions : ℕ) (clocks : List (List ℕ)) (are : ArePlaces order places)
+    (long : length order ≡ count h) where
+  pub pairs_kept : ((b c : ℕ) → IsCausalPair h b c → IsKept h level places clocks b c)
+      → KeepsPairs h (record { level = level; order = order; sessions = sessions; clocks = clocks })
   pairs_kept kept = record {
     numbering = subst (λ n. IsNumbering n order) long are.numbering;
     ordered = λ a b p. let bounds = pair_below h a b p in places_before order places are a b (omega (arith, bounds.0)) (omega (arith, bounds.1)) (kept a b p).0;
     clocks = λ causal b c p. (kept b c p).1 causal;
   }
 
-  pub kept_pairs : KeepsPairs h (record { level = level; order = order; sessions = sessions; clocks = clocks }) → (b c : ℕ) → IsCausalPair h b c → IsKept h level places clocks b c
-  kept_pairs k b c p = let bounds = pair_below h b c p in (before_places order places are b c (omega (arith, bounds.0)) (omega (arith, bounds.1)) (k.ordered b c p), λ causal. k.clocks causal b c p)
+  pub kept_pairs : KeepsPairs h (record { level = level; order = order; sessions = sessions; clocks = clocks }) → (b c : ℕ) → IsCausalPair h b c
+      → IsKept h level places clocks b c
+  kept_pairs k b c p = let bounds =
+      pair_below h b c p in (
+        before_places order places are b c (omega (arith, bounds.0)) (omega (arith, bounds.1)) (k.ordered b c p),
+        λ causal. k.clocks causal b c p,
+      )
 
-  module _ (b : ℕ) (gaps weights : List ℕ) (none : (c : ℕ) → c < count h → (get_or gaps c 0 ≡ 0) ↔ MayReach h level clocks b c) (wide : length weights ≡ count h) (least : IsLeastRow (ContradictsBy h gaps b) weights) (inside : b < count h) where
+  module _ (b : ℕ) (gaps weights : List ℕ) (none : (c : ℕ) → c < count h → (get_or gaps c 0 ≡ 0) ↔ MayReach h level clocks b c)
+      (wide : length weights ≡ count h) (least : IsLeastRow (ContradictsBy h gaps b) weights) (inside : b < count h) where
     behind_breaks : (a : ℕ) → IsBehind weights places b a → BreaksAxiom h (record { level = level; order = order; sessions = sessions; clocks = clocks }) (b, a)
     behind_breaks a (l, is_none, low) = go (least.from a (omega (arith, l, are.long, long, wide)))
       where
-        go : (get_or weights a 0 ≡ unlinked) ⊎ ContradictsBy h gaps b a (get_or weights a 0) → BreaksAxiom h (record { level = level; order = order; sessions = sessions; clocks = clocks }) (b, a)
+        go : (get_or weights a 0 ≡ unlinked) ⊎ ContradictsBy h gaps b a (get_or weights a 0)
+            → BreaksAxiom h (record { level = level; order = order; sessions = sessions; clocks = clocks }) (b, a)
         go (inl e) = absurd (omega (arith, e, is_none))
-        go (inr (x, c, may, is)) =
-            (x, c, may, (none c may.1.1).0 (sym is ∙ is_none), λ before. absurd (omega (arith, low, before_places order places are b a (omega (arith, inside, long)) (omega (arith, l, are.long)) before)))
+        go (inr (x, c, may, is)) = (
+          x,
+          c,
+          may,
+          (none c may.1.1).0 (sym is ∙ is_none),
+          λ before. absurd (omega (arith, low, before_places order places are b a (omega (arith, inside, long)) (omega (arith, l, are.long)) before)),
+        )
 
     breaks_behind : (a : ℕ) → BreaksAxiom h (record { level = level; order = order; sessions = sessions; clocks = clocks }) (b, a) → IsBehind weights places b a
     breaks_behind a (x, c, may, reach, not) =
@@ -59,8 +73,13 @@ module _ (h : History) (level : Level) (order places : List ℕ) (sessions : ℕ
         go (inl first) = absurd (not (places_before order places are b a (omega (arith, inside, long)) (omega (arith, may.1.0, long)) first))
         go (inr le) = le
 
-    pub axiom_asked : (found : Option ℕ) → IsFoundBelow (length places) (IsBehind weights places b) found → IsFoundBelow (count h) (λ a. BreaksAxiom h (record { level = level; order = order; sessions = sessions; clocks = clocks }) (b, a)) found
-    axiom_asked found is = subst (λ (n : ℕ). IsFoundBelow n (λ a. BreaksAxiom h (record { level = level; order = order; sessions = sessions; clocks = clocks }) (b, a)) found) (are.long ∙ long) (found_as (length places) (IsBehind weights places b) (λ a. BreaksAxiom h (record { level = level; order = order; sessions = sessions; clocks = clocks }) (b, a)) behind_breaks breaks_behind found is)
+    pub axiom_asked : (found : Option ℕ) → IsFoundBelow (length places) (IsBehind weights places b) found
+        → IsFoundBelow (count h) (λ a. BreaksAxiom h (record { level = level; order = order; sessions = sessions; clocks = clocks }) (b, a)) found
+    axiom_asked found is =
+        subst (λ (n : ℕ). IsFoundBelow n (λ a. BreaksAxiom h (record { level = level; order = order; sessions = sessions; clocks = clocks }) (b, a)) found)
+        (are.long ∙ long)
+        (found_as (length places) (IsBehind weights places b)
+        (λ a. BreaksAxiom h (record { level = level; order = order; sessions = sessions; clocks = clocks }) (b, a)) behind_breaks breaks_behind found is)
 
 -- ---- what is kept by the pair before and by the next is kept by both
 
@@ -79,13 +98,15 @@ module _ (h : History) (level : Level) (places : List ℕ) (clocks : List (List 
   kept_along b m c one two = (
     omega (arith, one.0, two.0),
     λ causal. record {
-      kept = λ session inside. let first = (one.1 causal).kept session inside in let second = (two.1 causal).kept session inside in omega (arith, first, second);
+      kept = λ session inside. let first = (one.1 causal).kept session inside in let second =
+          (two.1 causal).kept session inside in omega (arith, first, second);
       had = λ some. let had = (one.1 causal).had some in omega (arith, had, kept_on b m c (owner h b) causal (two.1 causal));
     },
   )
 
   -- of session order the last before c is enough
-  pub kept_by_previous : (c before : ℕ) → ((b : ℕ) → IsSessionPair h b c → (b ≡ before) ⊎ IsSessionPair h b before) → ((b : ℕ) → IsCausalPair h b before → IsKept h level places clocks b before) → IsKept h level places clocks before c
+  pub kept_by_previous : (c before : ℕ) → ((b : ℕ) → IsSessionPair h b c → (b ≡ before) ⊎ IsSessionPair h b before)
+      → ((b : ℕ) → IsCausalPair h b before → IsKept h level places clocks b before) → IsKept h level places clocks before c
       → ((b : ℕ) (x : List ℕ) → IsReadsPair h b c x → IsKept h level places clocks b c) → (b : ℕ) → IsCausalPair h b c → IsKept h level places clocks b c
   kept_by_previous c before last earlier next reads b (inr (x, p)) = reads b x p
   kept_by_previous c before last earlier next reads b (inl p) = go (last b p)
@@ -96,12 +117,17 @@ module _ (h : History) (level : Level) (places : List ℕ) (clocks : List (List 
 
 -- ---- what the pass over last writers says
 
-module _ (h : History) (level : Level) (order places : List ℕ) (sessions : ℕ) (clocks : List (List ℕ)) (are : ArePlaces order places) (long : length order ≡ count h) where
+module _ (h : History) (level : Level) (order places : List ℕ) (sessions : ℕ) (clocks : List (List ℕ)) (are : ArePlaces order places)
+    (long : length order ≡ count h) where
   pub sessions_kept : KeepsPairs h (record { level = level; order = order; sessions = sessions; clocks = clocks }) → AreSessionsKept h places
-  sessions_kept kept b c p = let bounds = session_below h b c p in before_places order places are b c (omega (arith, bounds.0, long)) (omega (arith, bounds.1, long)) (kept.ordered b c (inl p))
+  sessions_kept kept b c p = let bounds =
+      session_below h b c p in before_places order places are b c (omega (arith, bounds.0, long)) (omega (arith, bounds.1, long)) (kept.ordered b c (inl p))
 
-  pub axiom_kept : ((c : ℕ) → c < count h → AreReadsKept h level places clocks c) → HoldsEverywhere (BreaksAxiom h (record { level = level; order = order; sessions = sessions; clocks = clocks }))
-  axiom_kept all at (x, c, may, reach, not) = not (places_before order places are at.0 at.1 (omega (arith, may.2.0, long)) (omega (arith, may.1.0, long)) (all c may.1.1 x at.1 may.1 at.0 may reach))
+  pub axiom_kept : ((c : ℕ) → c < count h → AreReadsKept h level places clocks c)
+      → HoldsEverywhere (BreaksAxiom h (record { level = level; order = order; sessions = sessions; clocks = clocks }))
+  axiom_kept all at (x, c, may, reach, not) =
+      not (places_before order places are at.0 at.1 (omega (arith, may.2.0, long)) (omega (arith, may.1.0, long)) (all c may.1.1 x at.1 may.1 at.0 may reach))
 
 pub places_apart : (order places : List ℕ) → ArePlaces order places → AreApart places
-places_apart order places are a b one two same = sym (are.here a (omega (arith, one, are.long))) ∙ ap (λ n. get_or order n 0) same ∙ are.here b (omega (arith, two, are.long))
+places_apart order places are a b one two same =
+    sym (are.here a (omega (arith, one, are.long))) ∙ ap (λ n. get_or order n 0) same ∙ are.here b (omega (arith, two, are.long))

@@ -25,30 +25,46 @@ module _ (ends : List (ℕ × ℕ)) (row : List ℕ) (low before : ℕ) where
   older : (i v : ℕ) → SeenOver i ends row low before v → SeenOver (i + 1) ends row low before v
   older i v (low_v, k, l, is, more) = (low_v, k, omega (arith, l), is, more)
 
-  newer : (i v : ℕ) → SeenOver (i + 1) ends row low before v → SeenOver i ends row low before v ⊎ ((low ≤ v) × ((get_or ends i (0, 0)).0 ≡ v) × (before + 1 + (get_or ends i (0, 0)).1 < get_or row (v - low) 0))
+  newer : (i v : ℕ) → SeenOver (i + 1) ends row low before v → SeenOver i ends row low before v
+      ⊎ ((low ≤ v) × ((get_or ends i (0, 0)).0 ≡ v) × (before + 1 + (get_or ends i (0, 0)).1 < get_or row (v - low) 0))
   newer i v (low_v, k, l, is, more) = go (cases_eq k i)
     where
-      go : (k ≡ i) ⊎ (k ≡ i → ⊥) → SeenOver i ends row low before v ⊎ ((low ≤ v) × ((get_or ends i (0, 0)).0 ≡ v) × (before + 1 + (get_or ends i (0, 0)).1 < get_or row (v - low) 0))
-      go (inl same) = inr (low_v, subst (λ (z : ℕ). (get_or ends z (0, 0)).0 ≡ v) same is, subst (λ (z : ℕ). before + 1 + (get_or ends z (0, 0)).1 < get_or row (v - low) 0) same more)
+      go : (k ≡ i) ⊎ (k ≡ i → ⊥) → SeenOver i ends row low before v
+          ⊎ ((low ≤ v) × ((get_or ends i (0, 0)).0 ≡ v) × (before + 1 + (get_or ends i (0, 0)).1 < get_or row (v - low) 0))
+      go (inl same) =
+          inr (
+            low_v,
+            subst (λ (z : ℕ). (get_or ends z (0, 0)).0 ≡ v) same is,
+            subst (λ (z : ℕ). before + 1 + (get_or ends z (0, 0)).1 < get_or row (v - low) 0) same more,
+          )
       go (inr apart) = inl (low_v, k, omega (arith, l, apart), is, more)
 
-  pub over_skipped : (i : ℕ) (found : Option ℕ) → (low ≤ (get_or ends i (0, 0)).0 → before + 1 + (get_or ends i (0, 0)).1 < get_or row ((get_or ends i (0, 0)).0 - low) 0 → ⊥) → IsFoundBelow n (SeenOver i ends row low before) found → IsFoundBelow n (SeenOver (i + 1) ends row low before) found
+  pub over_skipped : (i : ℕ) (found : Option ℕ) → (low ≤ (get_or ends i (0, 0)).0 → before + 1 + (get_or ends i (0, 0)).1
+      < get_or row ((get_or ends i (0, 0)).0 - low) 0 → ⊥) → IsFoundBelow n (SeenOver i ends row low before) found
+      → IsFoundBelow n (SeenOver (i + 1) ends row low before) found
   over_skipped i found not = found_as n (SeenOver i ends row low before) (SeenOver (i + 1) ends row low before) (older i) (λ v p. back v (newer i v p)) found
     where
-      back : (v : ℕ) → SeenOver i ends row low before v ⊎ ((low ≤ v) × ((get_or ends i (0, 0)).0 ≡ v) × (before + 1 + (get_or ends i (0, 0)).1 < get_or row (v - low) 0)) → SeenOver i ends row low before v
+      back : (v : ℕ) → SeenOver i ends row low before v
+          ⊎ ((low ≤ v) × ((get_or ends i (0, 0)).0 ≡ v) × (before + 1 + (get_or ends i (0, 0)).1 < get_or row (v - low) 0)) → SeenOver i ends row low before v
       back v (inl old) = old
-      back v (inr (low_v, is, more)) = absurd (not (omega (arith, low_v, is)) (subst (λ (z : ℕ). before + 1 + (get_or ends i (0, 0)).1 < get_or row (z - low) 0) (sym is) more))
+      back v (inr (low_v, is, more)) =
+          absurd (not (omega (arith, low_v, is)) (subst (λ (z : ℕ). before + 1 + (get_or ends i (0, 0)).1 < get_or row (z - low) 0) (sym is) more))
 
-  pub over_found : (i e : ℕ) (found : Option ℕ) → (get_or ends i (0, 0)).0 ≡ e → e < n → low ≤ e → before + 1 + (get_or ends i (0, 0)).1 < get_or row (e - low) 0 → IsFoundBelow n (SeenOver i ends row low before) found → IsFoundBelow n (SeenOver (i + 1) ends row low before) (lesser found (Some e))
+  pub over_found : (i e : ℕ) (found : Option ℕ) → (get_or ends i (0, 0)).0 ≡ e → e < n → low ≤ e
+      → before + 1 + (get_or ends i (0, 0)).1 < get_or row (e - low) 0 → IsFoundBelow n (SeenOver i ends row low before) found
+      → IsFoundBelow n (SeenOver (i + 1) ends row low before) (lesser found (Some e))
   over_found i e found is below low_e more old =
-      found_as n (λ v. SeenOver i ends row low before v ⊎ (v ≡ e)) (SeenOver (i + 1) ends row low before) to (λ v p. back v (newer i v p)) (lesser found (Some e))
+      found_as n (λ v. SeenOver i ends row low before v ⊎ (v ≡ e)) (SeenOver (i + 1) ends row low before) to (λ v p. back v (newer i v p))
+      (lesser found (Some e))
       (found_either n (SeenOver i ends row low before) (λ v. v ≡ e) found (Some e) old (found_here n e below))
     where
       to : (v : ℕ) → SeenOver i ends row low before v ⊎ (v ≡ e) → SeenOver (i + 1) ends row low before v
       to v (inl old) = older i v old
       to v (inr same) = rw same (low_e, i, omega arith, is, more)
 
-      back : (v : ℕ) → SeenOver i ends row low before v ⊎ ((low ≤ v) × ((get_or ends i (0, 0)).0 ≡ v) × (before + 1 + (get_or ends i (0, 0)).1 < get_or row (v - low) 0)) → SeenOver i ends row low before v ⊎ (v ≡ e)
+      back : (v : ℕ) → SeenOver i ends row low before v
+          ⊎ ((low ≤ v) × ((get_or ends i (0, 0)).0 ≡ v) × (before + 1 + (get_or ends i (0, 0)).1 < get_or row (v - low) 0))
+          → SeenOver i ends row low before v ⊎ (v ≡ e)
       back v (inl old) = inl old
       back v (inr (low_v, here, most)) = inr (sym here ∙ is)
 
@@ -68,12 +84,19 @@ module _ (ends : List (ℕ × ℕ)) (row : List ℕ) (low before : ℕ) where
       let here : get_or ends k (0, 0) ≡ (v, w) = get_or_default ends k (0, 0) (v, w) l ∙ is in
       (low_v, k, l, ap (λ (z : ℕ × ℕ). z.0) here, omega (arith, ap (λ (z : ℕ × ℕ). z.1) here, more))
 
-  pub all_over : (i : ℕ) (found : Option ℕ) → i ≡ length ends → IsFoundBelow n (SeenOver i ends row low before) found → IsFoundBelow n (IsOvershot ends row low before) found
-  all_over i found all = found_as n (SeenOver i ends row low before) (IsOvershot ends row low before) (λ v p. to_over i v (omega (arith, all)) p) (λ v p. subst (λ (z : ℕ). SeenOver z ends row low before v) (sym all) (from_over v p)) found
+  pub all_over : (i : ℕ) (found : Option ℕ) → i ≡ length ends → IsFoundBelow n (SeenOver i ends row low before) found
+      → IsFoundBelow n (IsOvershot ends row low before) found
+  all_over i found all =
+      found_as n (SeenOver i ends row low before) (IsOvershot ends row low before) (λ v p. to_over i v (omega (arith, all)) p)
+      (λ v p. subst (λ (z : ℕ). SeenOver z ends row low before v) (sym all) (from_over v p)) found
 
   -- behind a link that takes as much as anything the row has, none takes less
-  pub rest_over : (i most : ℕ) (found : Option ℕ) → i < length ends → AreByWeight ends → All (λ number. number ≤ most) row → most ≤ before + 1 + (get_or ends i (0, 0)).1 → IsFoundBelow n (SeenOver i ends row low before) found → IsFoundBelow n (IsOvershot ends row low before) found
-  rest_over i most found inside sorted capped enough = found_as n (SeenOver i ends row low before) (IsOvershot ends row low before) (λ v p. to_over i v (omega (arith, inside)) p) (λ v p. back v (from_over v p)) found
+  pub rest_over : (i most : ℕ) (found : Option ℕ) → i < length ends → AreByWeight ends → All (λ number. number ≤ most) row
+      → most ≤ before + 1 + (get_or ends i (0, 0)).1 → IsFoundBelow n (SeenOver i ends row low before) found
+      → IsFoundBelow n (IsOvershot ends row low before) found
+  rest_over i most found inside sorted capped enough =
+      found_as n (SeenOver i ends row low before) (IsOvershot ends row low before) (λ v p. to_over i v (omega (arith, inside)) p)
+      (λ v p. back v (from_over v p)) found
     where
       under : (k : ℕ) → get_or row k 0 ≤ most
       under k = go (cases_lt k (length row))
@@ -105,10 +128,12 @@ module _ (others : List (List (ℕ × ℕ))) (row : List ℕ) (low : ℕ) (P : �
       back v (inl p) = p
       back v (inr (u, low_u, less, over)) = absurd (omega (arith, low_u, less))
 
-  pub more_other : (i : ℕ) (found end : Option ℕ) (ends : List (ℕ × ℕ)) (before : ℕ) → ends ≡ ends_of others (low + i) → before ≡ get_or row i 0 → IsFoundBelow m (λ v. P v ⊎ SeenOther i others row low v) found → IsFoundBelow m (IsOvershot ends row low before) end
+  pub more_other : (i : ℕ) (found end : Option ℕ) (ends : List (ℕ × ℕ)) (before : ℕ) → ends ≡ ends_of others (low + i) → before ≡ get_or row i 0
+      → IsFoundBelow m (λ v. P v ⊎ SeenOther i others row low v) found → IsFoundBelow m (IsOvershot ends row low before) end
       → IsFoundBelow m (λ v. P v ⊎ SeenOther (i + 1) others row low v) (lesser found end)
   more_other i found end ends before are is old new =
-      found_as m (λ v. (P v ⊎ SeenOther i others row low v) ⊎ IsOvershot ends row low before v) (λ v. P v ⊎ SeenOther (i + 1) others row low v) to back (lesser found end)
+      found_as m (λ v. (P v ⊎ SeenOther i others row low v) ⊎ IsOvershot ends row low before v) (λ v. P v ⊎ SeenOther (i + 1) others row low v) to back
+      (lesser found end)
       (found_either m (λ v. P v ⊎ SeenOther i others row low v) (IsOvershot ends row low before) found end old new)
     where
       number : before ≡ get_or row ((low + i) - low) 0
@@ -117,7 +142,14 @@ module _ (others : List (List (ℕ × ℕ))) (row : List ℕ) (low : ℕ) (P : �
       to : (v : ℕ) → (P v ⊎ SeenOther i others row low v) ⊎ IsOvershot ends row low before v → P v ⊎ SeenOther (i + 1) others row low v
       to v (inl (inl p)) = inl p
       to v (inl (inr (u, low_u, less, over))) = inr (u, low_u, omega (arith, less), over)
-      to v (inr over) = inr (low + i, omega arith, omega arith, subst (λ (z : ℕ). IsOvershot (ends_of others (low + i)) row low z v) number (subst (λ (e : List (ℕ × ℕ)). IsOvershot e row low before v) are over))
+      to v (inr over) =
+          inr (
+            low + i,
+            omega arith,
+            omega arith,
+            subst (λ (z : ℕ). IsOvershot (ends_of others (low + i)) row low z v) number
+                (subst (λ (e : List (ℕ × ℕ)). IsOvershot e row low before v) are over),
+          )
 
       back : (v : ℕ) → P v ⊎ SeenOther (i + 1) others row low v → (P v ⊎ SeenOther i others row low v) ⊎ IsOvershot ends row low before v
       back v (inl p) = inl (inl p)
@@ -125,11 +157,14 @@ module _ (others : List (List (ℕ × ℕ))) (row : List ℕ) (low : ℕ) (P : �
         where
           go : (u ≡ low + i) ⊎ (u ≡ low + i → ⊥) → (P v ⊎ SeenOther i others row low v) ⊎ IsOvershot ends row low before v
           go (inl same) =
-              let here : IsOvershot (ends_of others (low + i)) row low (get_or row ((low + i) - low) 0) v = subst (λ (z : ℕ). IsOvershot (ends_of others z) row low (get_or row (z - low) 0) v) same over in
-              inr (subst (λ (e : List (ℕ × ℕ)). IsOvershot e row low before v) (sym are) (subst (λ (z : ℕ). IsOvershot (ends_of others (low + i)) row low z v) (sym number) here))
+              let here : IsOvershot (ends_of others (low + i)) row low (get_or row ((low + i) - low) 0) v =
+              subst (λ (z : ℕ). IsOvershot (ends_of others z) row low (get_or row (z - low) 0) v) same over in
+              inr (subst (λ (e : List (ℕ × ℕ)). IsOvershot e row low before v) (sym are)
+              (subst (λ (z : ℕ). IsOvershot (ends_of others (low + i)) row low z v) (sym number) here))
           go (inr apart) = inl (inr (u, low_u, omega (arith, less, apart), over))
 
-  pub all_other : (i : ℕ) (found : Option ℕ) → i ≡ length row → IsFoundBelow m (λ v. P v ⊎ SeenOther i others row low v) found → IsFoundBelow m (λ v. P v ⊎ IsLongOther others row low v) found
+  pub all_other : (i : ℕ) (found : Option ℕ) → i ≡ length row → IsFoundBelow m (λ v. P v ⊎ SeenOther i others row low v) found
+      → IsFoundBelow m (λ v. P v ⊎ IsLongOther others row low v) found
   all_other i found all old = subst (λ (z : ℕ). IsFoundBelow m (λ v. P v ⊎ SeenOther z others row low v) found) all old
 
 -- ---- ends of one group
@@ -148,21 +183,24 @@ module _ (ends row : List ℕ) (low cost : ℕ) where
   older_at : (i v : ℕ) → SeenAt i ends row low cost v → SeenAt (i + 1) ends row low cost v
   older_at i v (low_v, k, l, is, more) = (low_v, k, omega (arith, l), is, more)
 
-  newer_at : (i v : ℕ) → SeenAt (i + 1) ends row low cost v → SeenAt i ends row low cost v ⊎ ((low ≤ v) × (get_or ends i 0 ≡ v) × (cost < get_or row (v - low) 0))
+  newer_at : (i v : ℕ) → SeenAt (i + 1) ends row low cost v → SeenAt i ends row low cost v
+      ⊎ ((low ≤ v) × (get_or ends i 0 ≡ v) × (cost < get_or row (v - low) 0))
   newer_at i v (low_v, k, l, is, more) = go (cases_eq k i)
     where
       go : (k ≡ i) ⊎ (k ≡ i → ⊥) → SeenAt i ends row low cost v ⊎ ((low ≤ v) × (get_or ends i 0 ≡ v) × (cost < get_or row (v - low) 0))
       go (inl same) = inr (low_v, subst (λ (z : ℕ). get_or ends z 0 ≡ v) same is, more)
       go (inr apart) = inl (low_v, k, omega (arith, l, apart), is, more)
 
-  pub skipped_at : (i : ℕ) (found : Option ℕ) → (low ≤ get_or ends i 0 → cost < get_or row (get_or ends i 0 - low) 0 → ⊥) → IsFoundBelow o (SeenAt i ends row low cost) found → IsFoundBelow o (SeenAt (i + 1) ends row low cost) found
+  pub skipped_at : (i : ℕ) (found : Option ℕ) → (low ≤ get_or ends i 0 → cost < get_or row (get_or ends i 0 - low) 0 → ⊥)
+      → IsFoundBelow o (SeenAt i ends row low cost) found → IsFoundBelow o (SeenAt (i + 1) ends row low cost) found
   skipped_at i found not = found_as o (SeenAt i ends row low cost) (SeenAt (i + 1) ends row low cost) (older_at i) (λ v p. back v (newer_at i v p)) found
     where
       back : (v : ℕ) → SeenAt i ends row low cost v ⊎ ((low ≤ v) × (get_or ends i 0 ≡ v) × (cost < get_or row (v - low) 0)) → SeenAt i ends row low cost v
       back v (inl old) = old
       back v (inr (low_v, is, more)) = absurd (not (omega (arith, low_v, is)) (subst (λ (z : ℕ). cost < get_or row (z - low) 0) (sym is) more))
 
-  pub found_at : (i e : ℕ) (found : Option ℕ) → get_or ends i 0 ≡ e → e < o → low ≤ e → cost < get_or row (e - low) 0 → IsFoundBelow o (SeenAt i ends row low cost) found → IsFoundBelow o (SeenAt (i + 1) ends row low cost) (lesser found (Some e))
+  pub found_at : (i e : ℕ) (found : Option ℕ) → get_or ends i 0 ≡ e → e < o → low ≤ e → cost < get_or row (e - low) 0
+      → IsFoundBelow o (SeenAt i ends row low cost) found → IsFoundBelow o (SeenAt (i + 1) ends row low cost) (lesser found (Some e))
   found_at i e found is below low_e more old =
       found_as o (λ v. SeenAt i ends row low cost v ⊎ (v ≡ e)) (SeenAt (i + 1) ends row low cost) to (λ v p. back v (newer_at i v p)) (lesser found (Some e))
       (found_either o (SeenAt i ends row low cost) (λ v. v ≡ e) found (Some e) old (found_here o e below))
@@ -171,11 +209,13 @@ module _ (ends row : List ℕ) (low cost : ℕ) where
       to v (inl old) = older_at i v old
       to v (inr same) = rw same (low_e, i, omega arith, is, more)
 
-      back : (v : ℕ) → SeenAt i ends row low cost v ⊎ ((low ≤ v) × (get_or ends i 0 ≡ v) × (cost < get_or row (v - low) 0)) → SeenAt i ends row low cost v ⊎ (v ≡ e)
+      back : (v : ℕ) → SeenAt i ends row low cost v ⊎ ((low ≤ v) × (get_or ends i 0 ≡ v) × (cost < get_or row (v - low) 0))
+          → SeenAt i ends row low cost v ⊎ (v ≡ e)
       back v (inl old) = inl old
       back v (inr (low_v, here, most)) = inr (sym here ∙ is)
 
-  pub all_at : (i : ℕ) (found : Option ℕ) → i ≡ length ends → IsFoundBelow o (SeenAt i ends row low cost) found → IsFoundBelow o (IsOvershotAt ends row low cost) found
+  pub all_at : (i : ℕ) (found : Option ℕ) → i ≡ length ends → IsFoundBelow o (SeenAt i ends row low cost) found
+      → IsFoundBelow o (IsOvershotAt ends row low cost) found
   all_at i found all = found_as o (SeenAt i ends row low cost) (IsOvershotAt ends row low cost) to back found
     where
       to : (v : ℕ) → SeenAt i ends row low cost v → IsOvershotAt ends row low cost v
@@ -199,9 +239,12 @@ module _ (groups : List (ℕ × ℕ)) (ends row : List ℕ) (low before : ℕ) (
 
   -- its first link has its weight
   pub group_weight : (i : ℕ) → i < length groups → (get_or (links_by groups ends) (total (take i groups)) (0, 0)).1 ≡ (get_or groups i (0, 0)).0
-  group_weight i inside = ap (λ k. (get_or (links_by groups ends) k (0, 0)).1) (omega arith) ∙ ap (λ (z : ℕ × ℕ). z.1) (in-group groups ends i 0 are.all inside (are.some i (0, 0) inside))
+  group_weight i inside =
+      ap (λ k. (get_or (links_by groups ends) k (0, 0)).1) (omega arith)
+      ∙ ap (λ (z : ℕ × ℕ). z.1) (in-group groups ends i 0 are.all inside (are.some i (0, 0) inside))
 
-  module _ (i : ℕ) (run : List ℕ) (inside : i < length groups) (long : length run ≡ (get_or groups i (0, 0)).1) (are_run : (k d : ℕ) → k < length run → get_or run k d ≡ get_or ends (total (take i groups) + k) 0) where
+  module _ (i : ℕ) (run : List ℕ) (inside : i < length groups) (long : length run ≡ (get_or groups i (0, 0)).1)
+      (are_run : (k d : ℕ) → k < length run → get_or run k d ≡ get_or ends (total (take i groups) + k) 0) where
     abbrev from : ℕ
     from = total (take i groups)
 
@@ -221,13 +264,20 @@ module _ (groups : List (ℕ × ℕ)) (ends row : List ℕ) (low before : ℕ) (
     at_run : (k : ℕ) → k < group.1 → get_or links (from + k) (0, 0) ≡ (get_or run k 0, group.0)
     at_run k l = in-group groups ends i k are.all inside l ∙ ap (λ (z : ℕ). (z, group.0)) (sym (are_run k 0 (omega (arith, l, long))))
 
-    to_group : (v : ℕ) → SeenOver from links row low before v ⊎ IsOvershotAt run row low (before + 1 + group.0) v → SeenOver (from + group.1) links row low before v
+    to_group : (v : ℕ) → SeenOver from links row low before v ⊎ IsOvershotAt run row low (before + 1 + group.0) v
+        → SeenOver (from + group.1) links row low before v
     to_group v (inl (low_v, k, l, is, more)) = (low_v, k, omega (arith, l), is, more)
     to_group v (inr (low_v, (k, l, is), more)) =
-        let here = at_run k (omega (arith, l, long)) in
-        (low_v, from + k, omega (arith, l, long), ap (λ (z : ℕ × ℕ). z.0) here ∙ get_or_default run k 0 v l ∙ is, omega (arith, ap (λ (z : ℕ × ℕ). z.1) here, more))
+        let here = at_run k (omega (arith, l, long)) in (
+          low_v,
+          from + k,
+          omega (arith, l, long),
+          ap (λ (z : ℕ × ℕ). z.0) here ∙ get_or_default run k 0 v l ∙ is,
+          omega (arith, ap (λ (z : ℕ × ℕ). z.1) here, more),
+        )
 
-    from_group : (v : ℕ) → SeenOver (from + group.1) links row low before v → SeenOver from links row low before v ⊎ IsOvershotAt run row low (before + 1 + group.0) v
+    from_group : (v : ℕ) → SeenOver (from + group.1) links row low before v
+        → SeenOver from links row low before v ⊎ IsOvershotAt run row low (before + 1 + group.0) v
     from_group v (low_v, k, l, is, more) = go (cases_lt k from)
       where
         go : (k < from) ⊎ (from ≤ k) → SeenOver from links row low before v ⊎ IsOvershotAt run row low (before + 1 + group.0) v
@@ -235,10 +285,23 @@ module _ (groups : List (ℕ × ℕ)) (ends row : List ℕ) (low before : ℕ) (
         go (inr later) =
             let same : from + (k - from) ≡ k = omega (arith, later) in
             let short : k - from < group.1 = omega (arith, l, later) in
-            let here : get_or links k (0, 0) ≡ (get_or run (k - from) 0, group.0) = ap (λ (z : ℕ). get_or links z (0, 0)) (sym same) ∙ at_run (k - from) short in
-            inr (low_v, (k - from, omega (arith, short, long), get_or_default run (k - from) v 0 (omega (arith, short, long)) ∙ sym (ap (λ (z : ℕ × ℕ). z.0) here) ∙ is), omega (arith, ap (λ (z : ℕ × ℕ). z.1) here, more))
+            let here : get_or links k (0, 0) ≡ (get_or run (k - from) 0, group.0) =
+            ap (λ (z : ℕ). get_or links z (0, 0)) (sym same) ∙ at_run (k - from) short in
+            inr (
+              low_v,
+              (
+                k - from,
+                omega (arith, short, long),
+                get_or_default run (k - from) v 0 (omega (arith, short, long))
+                    ∙ sym (ap (λ (z : ℕ × ℕ). z.0) here) ∙ is,
+              ),
+              omega (arith, ap (λ (z : ℕ × ℕ). z.1) here, more),
+            )
 
-    pub more_group : (found end : Option ℕ) → IsFoundBelow q (SeenOver from links row low before) found → IsFoundBelow q (IsOvershotAt run row low (before + 1 + group.0)) end → IsFoundBelow q (SeenOver (from + group.1) links row low before) (lesser found end)
+    pub more_group : (found end : Option ℕ) → IsFoundBelow q (SeenOver from links row low before) found
+        → IsFoundBelow q (IsOvershotAt run row low (before + 1 + group.0)) end
+        → IsFoundBelow q (SeenOver (from + group.1) links row low before) (lesser found end)
     more_group found end old new =
-        found_as q (λ v. SeenOver from links row low before v ⊎ IsOvershotAt run row low (before + 1 + group.0) v) (SeenOver (from + group.1) links row low before) to_group from_group (lesser found end)
+        found_as q (λ v. SeenOver from links row low before v ⊎ IsOvershotAt run row low (before + 1 + group.0) v)
+        (SeenOver (from + group.1) links row low before) to_group from_group (lesser found end)
         (found_either q (SeenOver from links row low before) (IsOvershotAt run row low (before + 1 + group.0)) found end old new)

@@ -1,5 +1,7 @@
 -- The places of an order, as far as they are seen.
-use Rattle.std.proofs.Common.{◌≡◌, ◌≢◌, ◌<◌, ◌≤◌, ◌+◌, ℕ, zero, suc, true, false, eqb, ◌⊎◌, inl, inr, List, [], ◌∷◌, length, get_or, set, replicate, arith, sym, ap, ◌∙◌}
+use Rattle.std.proofs.Common.{◌≡◌, ◌≢◌, ◌<◌, ◌≤◌, ◌+◌, ℕ, zero, suc, true, false, eqb, ◌⊎◌, inl}
+use Rattle.std.proofs.Common.{inr, List, [], ◌∷◌, length, get_or, set, replicate, arith, sym, ap}
+use Rattle.std.proofs.Common.◌∙◌
 use Rattle.std.specs.List.{Contains, list_any}
 use Rattle.std.proofs.lemmas.Bool.{cases_eq, false≢true, or_cases, or_parts, eqb-true, eq-eqb, both_ways}
 use Rattle.std.proofs.lemmas.List.{get_or_default, get_or-set_same, get_or-set_other, length-set, get_or-replicate, length-replicate}
@@ -25,7 +27,8 @@ none_placed order n is = record {
   from = λ a l. inl (get_or-replicate n a unplaced 0 (omega arith));
 }
 
-pub one_placed : (i : ℕ) (order places : List ℕ) (t : ℕ) → i < length order → length order < 4294967295 → get_or order i 0 ≡ t → t < length order → get_or places t 0 ≡ unplaced → ArePlacesTo i order places → ArePlacesTo (i + 1) order (set places t i)
+pub one_placed : (i : ℕ) (order places : List ℕ) (t : ℕ) → i < length order → length order < 4294967295 → get_or order i 0 ≡ t → t < length order
+    → get_or places t 0 ≡ unplaced → ArePlacesTo i order places → ArePlacesTo (i + 1) order (set places t i)
 one_placed i order places t inside few here within free w = record {
   long = length-set places t i ∙ w.long;
   below = λ k l. below k l (cases_eq k i);
@@ -47,11 +50,13 @@ one_placed i order places t inside few here within free w = record {
     seen k l (inl same) = rw (same, here) (get_or-set_same places t i 0 there)
     seen k l (inr apart) = let low : k < i = omega arith in get_or-set_other places t (get_or order k 0) i 0 (other k low) ∙ w.seen k low
 
-    older : (a : ℕ) → (get_or places a 0 ≡ unplaced) ⊎ ((get_or places a 0 < i) × (get_or order (get_or places a 0) 0 ≡ a)) → (get_or places a 0 ≡ unplaced) ⊎ ((get_or places a 0 < i + 1) × (get_or order (get_or places a 0) 0 ≡ a))
+    older : (a : ℕ) → (get_or places a 0 ≡ unplaced) ⊎ ((get_or places a 0 < i) × (get_or order (get_or places a 0) 0 ≡ a))
+        → (get_or places a 0 ≡ unplaced) ⊎ ((get_or places a 0 < i + 1) × (get_or order (get_or places a 0) 0 ≡ a))
     older a (inl none) = inl none
     older a (inr p) = inr (omega (arith, p.0), p.1)
 
-    from : (a : ℕ) → a < length order → (a ≡ t) ⊎ (a ≡ t → ⊥) → (get_or (set places t i) a 0 ≡ unplaced) ⊎ ((get_or (set places t i) a 0 < i + 1) × (get_or order (get_or (set places t i) a 0) 0 ≡ a))
+    from : (a : ℕ) → a < length order → (a ≡ t) ⊎ (a ≡ t → ⊥)
+        → (get_or (set places t i) a 0 ≡ unplaced) ⊎ ((get_or (set places t i) a 0 < i + 1) × (get_or order (get_or (set places t i) a 0) 0 ≡ a))
     from a l (inl same) = rw (same, get_or-set_same places t i 0 there) (inr (omega arith, here))
     from a l (inr apart) = rw (get_or-set_other places t a i 0 apart) (older a (w.from a l))
 
@@ -60,14 +65,16 @@ one_placed i order places t inside few here within free w = record {
 pub too_great : (i : ℕ) (order : List ℕ) (t : ℕ) → i < length order → get_or order i 0 ≡ t → length order ≤ t → IsNumbering (length order) order → ⊥
 too_great i order t inside here above h = absurd (omega (arith, h.below i 0 inside))
 
-pub twice : (i : ℕ) (order places : List ℕ) (t : ℕ) → i < length order → get_or order i 0 ≡ t → t < length order → (get_or places t 0 ≡ unplaced → ⊥) → ArePlacesTo i order places → IsNumbering (length order) order → ⊥
+pub twice : (i : ℕ) (order places : List ℕ) (t : ℕ) → i < length order → get_or order i 0 ≡ t → t < length order → (get_or places t 0 ≡ unplaced → ⊥)
+    → ArePlacesTo i order places → IsNumbering (length order) order → ⊥
 twice i order places t inside here within seen w h = go (w.from t within)
   where
     go : (get_or places t 0 ≡ unplaced) ⊎ ((get_or places t 0 < i) × (get_or order (get_or places t 0) 0 ≡ t)) → ⊥
     go (inl none) = seen none
     go (inr p) = h.once (get_or places t 0) i p.0 inside (p.1 ∙ sym here)
 
-pub missing : (i : ℕ) (order places : List ℕ) → length order ≤ i → length order < 4294967295 → ArePlacesTo i order places → Contains places unplaced → IsNumbering (length order) order → ⊥
+pub missing : (i : ℕ) (order places : List ℕ) → length order ≤ i → length order < 4294967295 → ArePlacesTo i order places → Contains places unplaced
+    → IsNumbering (length order) order → ⊥
 missing i order places all few w (a, l, e) h =
     let k = h.each a (omega (arith, w.long)) in
     let at : get_or order k.0 0 ≡ a = get_or_default order k.0 0 a k.1 ∙ k.2 in
@@ -91,13 +98,16 @@ all_placed i order places all w none = record {
 
     each : (a : ℕ) → a < length order → (get_or places a 0 ≡ unplaced) ⊎ ((get_or places a 0 < i) × (get_or order (get_or places a 0) 0 ≡ a)) → Contains order a
     each a l (inl e) = absurd (free a l e)
-    each a l (inr p) = let low : get_or places a 0 < length order = omega (arith, p.0) in (get_or places a 0, low, get_or_default order (get_or places a 0) a 0 low ∙ p.1)
+    each a l (inr p) = let low : get_or places a 0 < length order =
+        omega (arith, p.0) in (get_or places a 0, low, get_or_default order (get_or places a 0) a 0 low ∙ p.1)
 
-    within : (a : ℕ) → a < length order → (get_or places a 0 ≡ unplaced) ⊎ ((get_or places a 0 < i) × (get_or order (get_or places a 0) 0 ≡ a)) → get_or places a 0 < length order
+    within : (a : ℕ) → a < length order → (get_or places a 0 ≡ unplaced) ⊎ ((get_or places a 0 < i) × (get_or order (get_or places a 0) 0 ≡ a))
+        → get_or places a 0 < length order
     within a l (inl e) = absurd (free a l e)
     within a l (inr p) = omega (arith, p.0)
 
-    here : (a : ℕ) → a < length order → (get_or places a 0 ≡ unplaced) ⊎ ((get_or places a 0 < i) × (get_or order (get_or places a 0) 0 ≡ a)) → get_or order (get_or places a 0) 0 ≡ a
+    here : (a : ℕ) → a < length order → (get_or places a 0 ≡ unplaced) ⊎ ((get_or places a 0 < i) × (get_or order (get_or places a 0) 0 ≡ a))
+        → get_or order (get_or places a 0) 0 ≡ a
     here a l (inl e) = absurd (free a l e)
     here a l (inr p) = p.1
 
@@ -107,11 +117,13 @@ pub found_unplaced : (places : List ℕ) → list_any (λ y. eqb y unplaced) pla
 found_unplaced [] h = absurd (false≢true h)
 found_unplaced (x ∷ places) h = go (found_unplaced places) (or_cases (eqb x unplaced) (list_any (λ y. eqb y unplaced) places) h)
   where
-    go : (list_any (λ y. eqb y unplaced) places ≡ true → Contains places unplaced) → (eqb x unplaced ≡ true) ⊎ (list_any (λ y. eqb y unplaced) places ≡ true) → Contains (x ∷ places) unplaced
+    go : (list_any (λ y. eqb y unplaced) places ≡ true → Contains places unplaced)
+        → (eqb x unplaced ≡ true) ⊎ (list_any (λ y. eqb y unplaced) places ≡ true) → Contains (x ∷ places) unplaced
     go rest (inl e) = (0, omega arith, eqb-true x unplaced e)
     go rest (inr r) = let w = rest r in (suc w.0, omega (arith, w.1), w.2)
 
 pub no_unplaced : (places : List ℕ) → list_any (λ y. eqb y unplaced) places ≡ false → Contains places unplaced → ⊥
 no_unplaced [] h (k, l, e) = absurd (omega arith)
-no_unplaced (x ∷ places) h (zero, l, e) = both_ways (eqb x unplaced) (or_parts (eqb x unplaced) (list_any (λ y. eqb y unplaced) places) h).0 (eq-eqb x unplaced e)
+no_unplaced (x ∷ places) h (zero, l, e) =
+    both_ways (eqb x unplaced) (or_parts (eqb x unplaced) (list_any (λ y. eqb y unplaced) places) h).0 (eq-eqb x unplaced e)
 no_unplaced (x ∷ places) h (suc k, l, e) = no_unplaced places (or_parts (eqb x unplaced) (list_any (λ y. eqb y unplaced) places) h).1 (k, omega arith, e)

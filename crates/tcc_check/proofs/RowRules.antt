@@ -21,13 +21,15 @@ use Rattle.tcc_check.proofs.First.{first_in_row, holds_more}
 abbrev pub InRow : (ℕ × ℕ → Type 0) → ℕ → Option ℕ → Type 0
 InRow broken s end = MatchOption end ((b : ℕ) → broken (s, b) → ⊥) (λ b. broken (s, b) × ((c : ℕ) → c < b → broken (s, c) → ⊥))
 
-pub found-more : (n : ℕ) (broken : ℕ × ℕ → Type 0) (found : Option (ℕ × ℕ)) (end : Option ℕ) → IsFoundBefore n broken found → InRow broken n end → IsFoundBefore (n + 1) broken (first_of found n end)
+pub found-more : (n : ℕ) (broken : ℕ × ℕ → Type 0) (found : Option (ℕ × ℕ)) (end : Option ℕ) → IsFoundBefore n broken found → InRow broken n end
+    → IsFoundBefore (n + 1) broken (first_of found n end)
 found-more n broken (Some at) end before row = (omega (arith, before.0), before.1)
 found-more n broken None None before row = holds_more n broken before row
 found-more n broken None (Some b) before row = (omega arith, first_in_row broken n b before row.0 row.1)
 
 -- the first number of a row of n at which it is broken
-row-by : (n s : ℕ) (P : ℕ → Type 0) (broken : ℕ × ℕ → Type 0) (end : Option ℕ) → ((b : ℕ) → broken (s, b) → (b < n) × P b) → ((b : ℕ) → b < n → P b → broken (s, b)) → IsFoundBelow n P end → InRow broken s end
+row-by : (n s : ℕ) (P : ℕ → Type 0) (broken : ℕ × ℕ → Type 0) (end : Option ℕ) → ((b : ℕ) → broken (s, b) → (b < n) × P b)
+    → ((b : ℕ) → b < n → P b → broken (s, b)) → IsFoundBelow n P end → InRow broken s end
 row-by n s P broken None to back none = λ b p. let q = to b p in none b q.0 q.1
 row-by n s P broken (Some b) to back first = (back b first.below first.here, λ c l p. first.first c l (to c p).1)
 
@@ -55,12 +57,16 @@ module _ (h : History) (weighs : ℕ → ℕ → ℕ → Type 0) (low least : �
       inr (low_v, light.0, light.2, omega (arith, light.1, more))
 
   abbrev Step : ℕ → Type 0
-  Step v = (low ≤ v) × (u : ℕ) × (low ≤ u) × ((IsSessionPair h u v × (get_or row (u - low) 0 + 1 < get_or row (v - low) 0)) ⊎ ((w : ℕ) × weighs u v w × (get_or row (u - low) 0 + 1 + w < get_or row (v - low) 0)))
+  Step v =
+      (low ≤ v) × (u : ℕ) × (low ≤ u) × ((IsSessionPair h u v × (get_or row (u - low) 0 + 1 < get_or row (v - low) 0))
+      ⊎ ((w : ℕ) × weighs u v w × (get_or row (u - low) 0 + 1 + w < get_or row (v - low) 0)))
 
-  module _ (begins : List ℕ) (others : List (List (ℕ × ℕ))) (runs : AreRuns h begins) (are : AreAllEnds weighs (count h) least others) (long : low + length row ≡ count h) where
+  module _ (begins : List ℕ) (others : List (List (ℕ × ℕ))) (runs : AreRuns h begins) (are : AreAllEnds weighs (count h) least others)
+      (long : low + length row ≡ count h) where
     step-to : (v : ℕ) → v < count h → IsLongStep begins others row low v → Step v
     step-to v below (inl (low_v, (u, run, low_u, more))) = (low_v, u, low_u, inl (runs.pairs u v below run, more))
-    step-to v below (inr (u, low_u, less, (low_v, w, there, more))) = (low_v, u, low_u, inr (w, ((are.rows u (omega (arith, less, long))).only (v, w) there).1, more))
+    step-to v below (inr (u, low_u, less, (low_v, w, there, more))) =
+        (low_v, u, low_u, inr (w, ((are.rows u (omega (arith, less, long))).only (v, w) there).1, more))
 
     step-from : (v : ℕ) → v < count h → ((u w : ℕ) → weighs u v w → u < count h) → Step v → IsLongStep begins others row low v
     step-from v below bound (low_v, u, low_u, inl (pair, more)) = inl (low_v, (u, runs.whole u v pair, low_u, more))
@@ -71,7 +77,9 @@ module _ (h : History) (weighs : ℕ → ℕ → ℕ → Type 0) (low least : �
 
 -- ---- rows of lengths
 
-module _ (h : History) (least : ℕ) (near : List (List ℕ)) (s : ℕ) (row : List ℕ) (is : row_of near s ≡ row) (start : s < count h) (long : length row ≡ count h) (capped : All (λ number. number ≤ least) row) (reads : List (List (ℕ × ℕ))) (are : AreAllEnds (ReadWeighs h) (count h) least reads) where
+module _ (h : History) (least : ℕ) (near : List (List ℕ)) (s : ℕ) (row : List ℕ) (is : row_of near s ≡ row) (start : s < count h)
+    (long : length row ≡ count h) (capped : All (λ number. number ≤ least) row) (reads : List (List (ℕ × ℕ)))
+    (are : AreAllEnds (ReadWeighs h) (count h) least reads) where
   number : (v : ℕ) → entry near s v ≡ get_or row (v - 0) 0
   number v = ap (λ r. get_or r v 0) is ∙ ap (λ k. get_or row k 0) (omega arith)
 
@@ -94,8 +102,11 @@ module _ (h : History) (least : ℕ) (near : List (List ℕ)) (s : ℕ) (row : L
       back : (v : ℕ) → v < count h → IsLongSingle h (ends_of reads s) row 0 s v → BreaksNearPair h near (s, v)
       back v below p = turn v (single-to h (ReadWeighs h) 0 least row capped s (ends_of reads s) (are.rows s start) v p)
 
-  pub near-step-row : (begins : List ℕ) → AreRuns h begins → (end : Option ℕ) → IsFoundBelow (0 + length row) (IsLongStep begins reads row 0) end → InRow (BreaksNearStep h level.Causal near) s end
-  near-step-row begins runs end found = row-by (count h) s (IsLongStep begins reads row 0) (BreaksNearStep h level.Causal near) end to back (subst (λ (n : ℕ). IsFoundBelow n (IsLongStep begins reads row 0) end) whole found)
+  pub near-step-row : (begins : List ℕ) → AreRuns h begins → (end : Option ℕ) → IsFoundBelow (0 + length row) (IsLongStep begins reads row 0) end
+      → InRow (BreaksNearStep h level.Causal near) s end
+  near-step-row begins runs end found =
+      row-by (count h) s (IsLongStep begins reads row 0) (BreaksNearStep h level.Causal near) end to back
+      (subst (λ (n : ℕ). IsFoundBelow n (IsLongStep begins reads row 0) end) whole found)
     where
       whole : 0 + length row ≡ count h
       whole = omega (arith, long)
@@ -124,12 +135,15 @@ near-step-none h near s = λ b p. not p.0
     not e = cc
 
 -- so at the level that is asked
-pub at-level : (h : History) (near : List (List ℕ)) (s : ℕ) (asked known : Level) (end : Option ℕ) → asked ≡ known → InRow (BreaksNearStep h known near) s end → InRow (BreaksNearStep h asked near) s end
+pub at-level : (h : History) (near : List (List ℕ)) (s : ℕ) (asked known : Level) (end : Option ℕ) → asked ≡ known
+    → InRow (BreaksNearStep h known near) s end → InRow (BreaksNearStep h asked near) s end
 at-level h near s asked known end is row = subst (λ (l : Level). InRow (BreaksNearStep h l near) s end) (sym is) row
 
 -- ---- rows of costs
 
-module _ (h : History) (version : Version) (least : ℕ) (near far : List (List ℕ)) (s : ℕ) (row : List ℕ) (is : row_of far s ≡ row) (start : s < count h) (long : lowest version s + length row ≡ count h) (capped : All (λ number. number ≤ least) row) (links : List (List (ℕ × ℕ))) (are : AreAllEnds (λ u. WeighsFrom h (row_of near u) u) (count h) least links) where
+module _ (h : History) (version : Version) (least : ℕ) (near far : List (List ℕ)) (s : ℕ) (row : List ℕ) (is : row_of far s ≡ row) (start : s < count h)
+    (long : lowest version s + length row ≡ count h) (capped : All (λ number. number ≤ least) row) (links : List (List (ℕ × ℕ)))
+    (are : AreAllEnds (λ u. WeighsFrom h (row_of near u) u) (count h) least links) where
   abbrev low : ℕ
   low = lowest version s
 
@@ -158,13 +172,19 @@ module _ (h : History) (version : Version) (least : ℕ) (near far : List (List 
       back : (v : ℕ) → v < count h → IsLongSingle h (ends_of links s) row low s v → BreaksFarLink h version near far (s, v)
       back v below p = turn v (single-to h weighs low least row capped s (ends_of links s) (are.rows s start) v p)
 
-  pub far-step-row : (begins : List ℕ) → AreRuns h begins → (end : Option ℕ) → IsFoundBelow (low + length row) (IsLongStep begins links row low) end → InRow (BreaksFarStep h version near far) s end
-  far-step-row begins runs end found = row-by (count h) s (IsLongStep begins links row low) (BreaksFarStep h version near far) end to back (subst (λ (n : ℕ). IsFoundBelow n (IsLongStep begins links row low) end) long found)
+  pub far-step-row : (begins : List ℕ) → AreRuns h begins → (end : Option ℕ) → IsFoundBelow (low + length row) (IsLongStep begins links row low) end
+      → InRow (BreaksFarStep h version near far) s end
+  far-step-row begins runs end found =
+      row-by (count h) s (IsLongStep begins links row low) (BreaksFarStep h version near far) end to back
+      (subst (λ (n : ℕ). IsFoundBelow n (IsLongStep begins links row low) end) long found)
     where
       words : (v : ℕ) → BreaksFarStep h version near far (s, v) → (v < count h) × Step h weighs low least row capped v
-      words v (first, (low_v, (u, low_u, inl (inl pair, more)))) = ((pair_below h u v (inl pair)).1, (low_v, u, low_u, inl (pair, omega (arith, more, cost v, cost u))))
-      words v (first, (low_v, (u, low_u, inl (inr (x, reads), more)))) = (reads.1, (low_v, u, low_u, inr (0, inl (x, reads, refl), omega (arith, more, cost v, cost u))))
-      words v (first, (low_v, (u, low_u, inr (x, c, may, more)))) = (may.1.0, (low_v, u, low_u, inr (entry near u c, inr (x, c, may, refl), omega (arith, more, cost v, cost u))))
+      words v (first, (low_v, (u, low_u, inl (inl pair, more)))) =
+          ((pair_below h u v (inl pair)).1, (low_v, u, low_u, inl (pair, omega (arith, more, cost v, cost u))))
+      words v (first, (low_v, (u, low_u, inl (inr (x, reads), more)))) =
+          (reads.1, (low_v, u, low_u, inr (0, inl (x, reads, refl), omega (arith, more, cost v, cost u))))
+      words v (first, (low_v, (u, low_u, inr (x, c, may, more)))) =
+          (may.1.0, (low_v, u, low_u, inr (entry near u c, inr (x, c, may, refl), omega (arith, more, cost v, cost u))))
 
       bound : (v u w : ℕ) → weighs u v w → u < count h
       bound v u w (inl (x, reads, none)) = reads.0
@@ -181,6 +201,7 @@ module _ (h : History) (version : Version) (least : ℕ) (near far : List (List 
       back : (v : ℕ) → v < count h → IsLongStep begins links row low v → BreaksFarStep h version near far (s, v)
       back v below p = turn v (step-to h weighs low least row capped begins links runs are long v below p)
 
-  pub return-row : (end : Option ℕ) → MatchOption end (least ≤ get_or row (s - low) 0) (λ e. (e ≡ s) × (get_or row (s - low) 0 < least)) → InRow (BreaksReturn h version least far) s end
+  pub return-row : (end : Option ℕ) → MatchOption end (least ≤ get_or row (s - low) 0) (λ e. (e ≡ s) × (get_or row (s - low) 0 < least))
+      → InRow (BreaksReturn h version least far) s end
   return-row None found = λ b p. omega (arith, found, p.1.1, cost s)
   return-row (Some e) found = ((start, (found.0, omega (arith, found.1, cost s))), λ c l p. omega (arith, l, p.1.0, found.0))

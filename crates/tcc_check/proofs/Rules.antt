@@ -13,12 +13,17 @@ use Rattle.tcc_check.specs.Verdicts.{IsAnswer}
 use Rattle.tcc_check.proofs.First.{nowhere}
 
 module _ (h : History) (level : Level) (near : List (List ℕ)) where
-  near-told : (pair step : Option (ℕ × ℕ)) → IsFoundBefore (count h) (BreaksNearPair h near) pair → IsFoundBefore (count h) (BreaksNearStep h level near) step → IsAnswer (near_rules h level near) (near_verdict pair step)
+  near-told : (pair step : Option (ℕ × ℕ)) → IsFoundBefore (count h) (BreaksNearPair h near) pair
+      → IsFoundBefore (count h) (BreaksNearStep h level near) step → IsAnswer (near_rules h level near) (near_verdict pair step)
   near-told (Some at) step p q = inl (refl, p.1)
   near-told None (Some at) p q = inr (nowhere (count h) (BreaksNearPair h near) (λ a b w. (pair_below h a b w.0).0) p, inl (refl, q.1))
-  near-told None None p q = (nowhere (count h) (BreaksNearPair h near) (λ a b w. (pair_below h a b w.0).0) p, (nowhere (count h) (BreaksNearStep h level near) (λ a b w. w.1.0) q, tt))
+  near-told None None p q = (
+    nowhere (count h) (BreaksNearPair h near) (λ a b w. (pair_below h a b w.0).0) p,
+    (nowhere (count h) (BreaksNearStep h level near) (λ a b w. w.1.0) q, tt),
+  )
 
-  pub near-answer : (faults : NearFaults) → IsNearFoundTo h level near (count h) faults → IsAnswer (near_rules h level near) (near_verdict faults.pair faults.step)
+  pub near-answer : (faults : NearFaults) → IsNearFoundTo h level near (count h) faults
+      → IsAnswer (near_rules h level near) (near_verdict faults.pair faults.step)
   near-answer faults found = near-told faults.pair faults.step found.pairs found.steps
 
 module _ (h : History) (version : Version) (least : ℕ) (near far : List (List ℕ)) where
@@ -26,11 +31,21 @@ module _ (h : History) (version : Version) (least : ℕ) (near far : List (List 
   link-start a b (low, inl p) = (pair_below h a b p.0).0
   link-start a b (low, inr (x, c, may, more)) = may.2.0
 
-  far-told : (link step back : Option (ℕ × ℕ)) → IsFoundBefore (count h) (BreaksFarLink h version near far) link → IsFoundBefore (count h) (BreaksFarStep h version near far) step → IsFoundBefore (count h) (BreaksReturn h version least far) back → IsAnswer (far_rules h version least near far) (verdict_by link step back)
+  far-told : (link step back : Option (ℕ × ℕ)) → IsFoundBefore (count h) (BreaksFarLink h version near far) link
+      → IsFoundBefore (count h) (BreaksFarStep h version near far) step → IsFoundBefore (count h) (BreaksReturn h version least far) back
+      → IsAnswer (far_rules h version least near far) (verdict_by link step back)
   far-told (Some at) step back p q r = inl (refl, p.1)
   far-told None (Some at) back p q r = inr (nowhere (count h) (BreaksFarLink h version near far) link-start p, inl (refl, q.1))
-  far-told None None (Some at) p q r = inr (nowhere (count h) (BreaksFarLink h version near far) link-start p, inr (nowhere (count h) (BreaksFarStep h version near far) (λ a b w. w.0) q, inl (refl, r.1)))
-  far-told None None None p q r = (nowhere (count h) (BreaksFarLink h version near far) link-start p, (nowhere (count h) (BreaksFarStep h version near far) (λ a b w. w.0) q, (nowhere (count h) (BreaksReturn h version least far) (λ a b w. w.0) r, tt)))
+  far-told None None (Some at) p q r =
+      inr (
+        nowhere (count h) (BreaksFarLink h version near far) link-start p,
+        inr (nowhere (count h) (BreaksFarStep h version near far) (λ a b w. w.0) q, inl (refl, r.1)),
+      )
+  far-told None None None p q r = (
+    nowhere (count h) (BreaksFarLink h version near far) link-start p,
+    (nowhere (count h) (BreaksFarStep h version near far) (λ a b w. w.0) q, (nowhere (count h) (BreaksReturn h version least far) (λ a b w. w.0) r, tt)),
+  )
 
-  pub far-answer : (faults : FarFaults) → AreFoundBefore h version least near far (count h) faults → IsAnswer (far_rules h version least near far) (far_verdict faults)
+  pub far-answer : (faults : FarFaults) → AreFoundBefore h version least near far (count h) faults
+      → IsAnswer (far_rules h version least near far) (far_verdict faults)
   far-answer faults found = far-told faults.link faults.step faults.back found.links found.steps found.returns

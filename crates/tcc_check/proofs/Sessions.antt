@@ -1,11 +1,15 @@
 -- Session order: who stands right before a transaction, and the last that are no later than a place of a session.
-use Rattle.std.proofs.Common.{ℕ, zero, suc, ◌+◌, ◌-◌, ◌<◌, ◌≤◌, ◌≡◌, ◌≢◌, ◌==◌, ◌⊎◌, ◌&&◌, nat_lt, Bool, true, false, eqb, inl, inr, List, [], ◌∷◌, map, filter, length, get_or, cond, Some, None, refl, sym, ap, subst, ◌∙◌, arith}
+use Rattle.std.proofs.Common.{ℕ, zero, suc, ◌+◌, ◌-◌, ◌<◌, ◌≤◌, ◌≡◌, ◌≢◌, ◌==◌, ◌⊎◌, ◌&&◌, nat_lt, Bool, true, false, eqb}
+use Rattle.std.proofs.Common.{inl, inr, List, [], ◌∷◌, map, filter, length, get_or, cond, Some, None, refl, sym, ap, subst}
+use Rattle.std.proofs.Common.{◌∙◌, arith}
 use Rattle.std.specs.Prelude.{All, nat_le}
 use Rattle.std.specs.List.{Contains, AllPairs}
 use Rattle.std.specs.List.Sorted.{IsPartitionPoint, IsPartitionedBy, IsNonDecreasing, IsStrictlyIncreasing}
 use Rattle.std.proofs.lemmas.List.Kept.{IsStrictlyIncreasing-filter, AllPairs-from_increasing}
 use Rattle.std.proofs.lemmas.List.FromFn.{length-range_with_len, get_or-range_with_len}
-use Rattle.std.proofs.lemmas.Bool.{cases_lt, cases_eq, cases_Bool, and_parts, and_from, or_cases, or_left, or_right, lt-ltb, ltb-true, eqb-true, eq-eqb, leb-true, le-leb, both_ways}
+use Rattle.std.proofs.lemmas.Bool.{cases_lt, cases_eq, cases_Bool, and_parts, and_from, or_cases}
+use Rattle.std.proofs.lemmas.Bool.{or_left, or_right, lt-ltb, ltb-true, eqb-true, eq-eqb, leb-true}
+use Rattle.std.proofs.lemmas.Bool.{le-leb, both_ways}
 use Rattle.std.proofs.lemmas.List.{get_or_default}
 use Rattle.tcc_txn.proofs.Lists.{in_filter, from_filter}
 use Rattle.tcc_reads.specs.History.{History, IsBySession, count, entry_at, owner, place}
@@ -31,8 +35,10 @@ module _ (h : History) (ordered : IsBySession h.entries) where
       less = parts.lower some
 
       back : (c < b) ⊎ (b ≤ c) → c ≤ b → b < c
-      back (inl under) more = let turned : place h c < place h b = (ordered c b under parts.from).1 (sym (parts.same some)) in absurd (omega (arith, less, turned))
-      back (inr over) more = let same : b ≡ c = omega (arith, over, more) in let itself : place h b ≡ place h c = ap (λ n. place h n) same in absurd (omega (arith, less, itself))
+      back (inl under) more = let turned : place h c < place h b =
+          (ordered c b under parts.from).1 (sym (parts.same some)) in absurd (omega (arith, less, turned))
+      back (inr over) more = let same : b ≡ c = omega (arith, over, more) in let itself : place h b ≡ place h c =
+          ap (λ n. place h n) same in absurd (omega (arith, less, itself))
 
       go : (b < c) ⊎ (c ≤ b) → b < c
       go (inl less) = less
@@ -51,10 +57,13 @@ module _ (h : History) (ordered : IsBySession h.entries) where
         (omega (arith, one, two, same), omega (arith, one, two, same))
 
     pub upto : IsSessionPair h b m
-    upto = let below : m < count h = omega (arith, under, parts.to) in lower_first h b m some parts.from (omega (arith, over)) below same_owner.0 ((ordered b m over below).1 same_owner.0)
+    upto = let below : m < count h =
+        omega (arith, under, parts.to) in lower_first h b m some parts.from (omega (arith, over)) below same_owner.0 ((ordered b m over below).1 same_owner.0)
 
     pub onward : IsSessionPair h m c
-    onward = lower_first h m c (omega (arith, over)) (omega (arith, under, parts.to)) (omega (arith, under)) parts.to same_owner.1 ((ordered m c under parts.to).1 same_owner.1)
+    onward =
+        lower_first h m c (omega (arith, over)) (omega (arith, under, parts.to)) (omega (arith, under)) parts.to same_owner.1
+        ((ordered m c under parts.to).1 same_owner.1)
 
   -- the number before, where it stands before it, else `init`
   pub last_before : (b c : ℕ) → 0 < c → session_pair h (c - 1) c ≡ true → IsSessionPair h b c → (b ≡ c - 1) ⊎ IsSessionPair h b (c - 1)
@@ -66,7 +75,8 @@ module _ (h : History) (ordered : IsBySession h.entries) where
       go : (b ≡ c - 1) ⊎ (b ≡ c - 1 → ⊥) → (0 < b) ⊎ (b ≤ 0) → (b ≡ c - 1) ⊎ IsSessionPair h b (c - 1)
       go (inl same) s = inl same
       go (inr apart) (inl more) = let less = lower b c more p in inr (upto b c more p (c - 1) (omega (arith, less, apart)) (omega (arith, some)))
-      go (inr apart) (inr none) = let zeroth : b ≡ 0 = omega (arith, none) in inr (initial_pair h b (c - 1) zeroth parts.from (omega (arith, apart, zeroth)) (omega (arith, parts.to)))
+      go (inr apart) (inr none) = let zeroth : b ≡ 0 =
+          omega (arith, none) in inr (initial_pair h b (c - 1) zeroth parts.from (omega (arith, apart, zeroth)) (omega (arith, parts.to)))
 
   pub first_of_session : (b c : ℕ) → 0 < c → session_pair h (c - 1) c ≡ false → IsSessionPair h b c → (b ≡ 0) ⊎ IsSessionPair h b 0
   first_of_session b c some none p = go (cases_eq b (c - 1)) (cases_lt 0 b)
@@ -74,17 +84,20 @@ module _ (h : History) (ordered : IsBySession h.entries) where
       go : (b ≡ c - 1) ⊎ (b ≡ c - 1 → ⊥) → (0 < b) ⊎ (b ≤ 0) → (b ≡ 0) ⊎ IsSessionPair h b 0
       go s (inr zeroth) = inl (omega (arith, zeroth))
       go (inl same) (inl more) = absurd (both_ways (session_pair h (c - 1) c) none (subst (λ (m : ℕ). IsSessionPair h m c) same p))
-      go (inr apart) (inl more) = let less = lower b c more p in absurd (both_ways (session_pair h (c - 1) c) none (onward b c more p (c - 1) (omega (arith, less, apart)) (omega (arith, some))))
+      go (inr apart) (inl more) = let less =
+          lower b c more p in absurd (both_ways (session_pair h (c - 1) c) none (onward b c more p (c - 1) (omega (arith, less, apart)) (omega (arith, some))))
 
 -- ---- within a session, up to a place
 
 at_some : (h : History) (n : ℕ) → 0 < n → n < count h → at h n ≡ Some (owner h n, place h n)
-at_some h n some below = ap (λ t. cond t (Some (owner h n, place h n)) None) (and_from (nat_lt 0 n) (nat_lt n (count h)) (lt-ltb 0 n some) (lt-ltb n (count h) below))
+at_some h n some below =
+    ap (λ t. cond t (Some (owner h n, place h n)) None) (and_from (nat_lt 0 n) (nat_lt n (count h)) (lt-ltb 0 n some) (lt-ltb n (count h) below))
 
 pub at_parts : (h : History) (n o p : ℕ) → at h n ≡ Some (o, p) → (0 < n) × (n < count h) × (o ≡ owner h n) × (p ≡ place h n)
 at_parts h n o p e = go (cases_Bool (nat_lt 0 n && nat_lt n (count h)))
   where
-    go : ((nat_lt 0 n && nat_lt n (count h)) ≡ true) ⊎ ((nat_lt 0 n && nat_lt n (count h)) ≡ false) → (0 < n) × (n < count h) × (o ≡ owner h n) × (p ≡ place h n)
+    go : ((nat_lt 0 n && nat_lt n (count h)) ≡ true) ⊎ ((nat_lt 0 n && nat_lt n (count h)) ≡ false)
+        → (0 < n) × (n < count h) × (o ≡ owner h n) × (p ≡ place h n)
     go (inl t) =
         let w = and_parts (nat_lt 0 n) (nat_lt n (count h)) t in
         let is : Some (o, p) ≡ Some (owner h n, place h n) = sym e ∙ ap (λ t. cond t (Some (owner h n, place h n)) None) t in
@@ -95,20 +108,26 @@ at_parts h n o p e = go (cases_Bool (nat_lt 0 n && nat_lt n (count h)))
 module _ (h : History) (session number : ℕ) where
   pub within_from : (n : ℕ) → 0 < n → n < count h → (owner h n < session) ⊎ ((owner h n ≡ session) × (place h n ≤ number)) → is_within h session number n ≡ true
   within_from n some below (inl earlier) = rw (at_some h n some below) (or_left _ _ (lt-ltb (owner h n) session earlier))
-  within_from n some below (inr (same, upto)) = rw (at_some h n some below) (or_right _ _ (and_from _ _ (eq-eqb (owner h n) session same) (le-leb (place h n) number upto)))
+  within_from n some below (inr (same, upto)) =
+      rw (at_some h n some below) (or_right _ _ (and_from _ _ (eq-eqb (owner h n) session same) (le-leb (place h n) number upto)))
 
-  pub within_words : (n : ℕ) → 0 < n → n < count h → is_within h session number n ≡ true → (owner h n < session) ⊎ ((owner h n ≡ session) × (place h n ≤ number))
-  within_words n some below e = go (or_cases (nat_lt (owner h n) session) (eqb (owner h n) session && nat_le (place h n) number) (rw (at_some h n some below) at e))
+  pub within_words : (n : ℕ) → 0 < n → n < count h → is_within h session number n ≡ true
+      → (owner h n < session) ⊎ ((owner h n ≡ session) × (place h n ≤ number))
+  within_words n some below e =
+      go (or_cases (nat_lt (owner h n) session) (eqb (owner h n) session && nat_le (place h n) number) (rw (at_some h n some below) at e))
     where
-      go : (nat_lt (owner h n) session ≡ true) ⊎ ((eqb (owner h n) session && nat_le (place h n) number) ≡ true) → (owner h n < session) ⊎ ((owner h n ≡ session) × (place h n ≤ number))
+      go : (nat_lt (owner h n) session ≡ true) ⊎ ((eqb (owner h n) session && nat_le (place h n) number) ≡ true)
+          → (owner h n < session) ⊎ ((owner h n ≡ session) × (place h n ≤ number))
       go (inl earlier) = inl (ltb-true (owner h n) session earlier)
-      go (inr same) = let w = and_parts (eqb (owner h n) session) (nat_le (place h n) number) same in inr (eqb-true (owner h n) session w.0, leb-true (place h n) number w.1)
+      go (inr same) = let w =
+          and_parts (eqb (owner h n) session) (nat_le (place h n) number) same in inr (eqb-true (owner h n) session w.0, leb-true (place h n) number w.1)
 
   module _ (ordered : IsBySession h.entries) where
     falls : (m n : ℕ) → m ≤ n → n < count h → is_within h session number n ≡ true → is_within h session number m ≡ true
     falls m n upto below e = go (cases_lt 0 m) (cases_lt m n)
       where
-        words : 0 < m → m < n → (owner h n < session) ⊎ ((owner h n ≡ session) × (place h n ≤ number)) → (owner h m < session) ⊎ ((owner h m ≡ session) × (place h m ≤ number))
+        words : 0 < m → m < n → (owner h n < session) ⊎ ((owner h n ≡ session) × (place h n ≤ number))
+            → (owner h m < session) ⊎ ((owner h m ≡ session) × (place h m ≤ number))
         words some less (inl earlier) = let one = (ordered m n less below).0 in inl (omega (arith, one, earlier))
         words some less (inr w) = split (cases_lt (owner h m) session)
           where
@@ -130,7 +149,8 @@ module _ (h : History) (session number : ℕ) where
       pub parted_within : IsPartitionedBy (λ n. is_within h session number n) numbers
       parted_within i j d upto below e = falls (get_or numbers i d) (get_or numbers j d) (rising i j d upto below) (all j d below) e
 
-      module _ (i : ℕ) (upto : i ≤ length numbers) (point : IsPartitionPoint (λ n. is_within h session number n ≡ true) (λ n. is_within h session number n ≡ false) numbers i) where
+      module _ (i : ℕ) (upto : i ≤ length numbers)
+          (point : IsPartitionPoint (λ n. is_within h session number n ≡ true) (λ n. is_within h session number n ≡ false) numbers i) where
         before : (k b : ℕ) → k < length numbers → get_or numbers k b ≡ b → is_within h session number b ≡ true → k < i
         before k b below here e = go (cases_lt k i)
           where
@@ -164,16 +184,19 @@ module _ (h : History) (ordered : IsBySession h.entries) (places writers : List 
   pub before_none : IsLastWithin h writers session number None → StandBefore h places writers session number source
   before_none none b w some same upto = absurd (none b w (reached b (listed b w) some same upto))
 
-  pub before_earlier : (last : ℕ) → owner h last < session → IsLastWithin h writers session number (Some last) → StandBefore h places writers session number source
+  pub before_earlier : (last : ℕ) → owner h last < session → IsLastWithin h writers session number (Some last)
+      → StandBefore h places writers session number source
   before_earlier last earlier is b w some same upto =
       let rise = is.2 b w (reached b (listed b w) some same upto) in
       go (cases_lt b last) rise
     where
       go : (b < last) ⊎ (last ≤ b) → b ≤ last → get_or places b 0 ≤ get_or places source 0
       go (inl less) rise = let one = (ordered b last less (listed last is.0)).0 in absurd (omega (arith, one, same, earlier))
-      go (inr more) rise = let equal : b ≡ last = omega (arith, more, rise) in let one : owner h b ≡ owner h last = ap (λ n. owner h n) equal in absurd (omega (arith, one, same, earlier))
+      go (inr more) rise = let equal : b ≡ last = omega (arith, more, rise) in let one : owner h b ≡ owner h last =
+          ap (λ n. owner h n) equal in absurd (omega (arith, one, same, earlier))
 
-  pub before_last : (last : ℕ) → owner h last ≡ session → get_or places last 0 ≤ get_or places source 0 → AreSessionsKept h places → IsLastWithin h writers session number (Some last) → StandBefore h places writers session number source
+  pub before_last : (last : ℕ) → owner h last ≡ session → get_or places last 0 ≤ get_or places source 0 → AreSessionsKept h places
+      → IsLastWithin h writers session number (Some last) → StandBefore h places writers session number source
   before_last last here stands kept is b w some same upto =
       let rise = is.2 b w (reached b (listed b w) some same upto) in
       go (cases_lt b last) rise
@@ -188,7 +211,8 @@ module _ (h : History) (ordered : IsBySession h.entries) (places writers : List 
 
 -- ---- what the last writers of all sessions say of a read
 
-module _ (h : History) (places : List ℕ) (clocks : List (List ℕ)) (x : List ℕ) (a c : ℕ) (kept : AreSessionsKept h places) (apart : AreApart places) (long : length places ≡ count h) where
+module _ (h : History) (places : List ℕ) (clocks : List (List ℕ)) (x : List ℕ) (a c : ℕ) (kept : AreSessionsKept h places) (apart : AreApart places)
+    (long : length places ≡ count h) where
   strictly : (b : ℕ) → b ≢ a → b < count h → a < count h → get_or places b 0 ≤ get_or places a 0 → get_or places b 0 < get_or places a 0
   strictly b other below source upto = go (cases_lt (get_or places b 0) (get_or places a 0))
     where
@@ -196,7 +220,8 @@ module _ (h : History) (places : List ℕ) (clocks : List (List ℕ)) (x : List 
       go (inl less) = less
       go (inr more) = absurd (other (apart b a (omega (arith, below, long)) (omega (arith, source, long)) (omega (arith, upto, more))))
 
-  pub kept_by_last : AreOwned h → length (row_of clocks c) ≡ length h.sessions → StandAllBefore h places (row_of clocks c) (writers h x) a → IsReadKept h Causal places clocks x a c
+  pub kept_by_last : AreOwned h → length (row_of clocks c) ≡ length h.sessions → StandAllBefore h places (row_of clocks c) (writers h x) a
+      → IsReadKept h Causal places clocks x a c
   kept_by_last owned wide stand b (other, reads, writer) reach = go (cases_lt 0 b) reach
     where
       go : (0 < b) ⊎ (b ≤ 0) → (b ≡ 0) ⊎ (place h b ≤ entry clocks c (owner h b)) → get_or places b 0 < get_or places a 0
@@ -210,10 +235,12 @@ module _ (h : History) (places : List ℕ) (clocks : List (List ℕ)) (x : List 
           some_source zeroth (inl some) = some
           some_source zeroth (inr less) = absurd (other (omega (arith, zeroth, less)))
 
-  pub kept_by_pairs : ((b : ℕ) → Contains (writers h x) b → b ≢ a → IsCausalPair h b c → get_or places b 0 < get_or places a 0) → IsReadKept h Atomic places clocks x a c
+  pub kept_by_pairs : ((b : ℕ) → Contains (writers h x) b → b ≢ a → IsCausalPair h b c → get_or places b 0 < get_or places a 0)
+      → IsReadKept h Atomic places clocks x a c
   kept_by_pairs each b (other, reads, writer) reach = each b (writer_listed h x a c b reads writer) other reach
 
-  pub kept_by_reached : ((b : ℕ) → Contains (writers h x) b → b ≢ a → MayReach h Causal clocks b c → get_or places b 0 < get_or places a 0) → IsReadKept h Causal places clocks x a c
+  pub kept_by_reached : ((b : ℕ) → Contains (writers h x) b → b ≢ a → MayReach h Causal clocks b c → get_or places b 0 < get_or places a 0)
+      → IsReadKept h Causal places clocks x a c
   kept_by_reached each b (other, reads, writer) reach = each b (writer_listed h x a c b reads writer) other reach
 
 pub writers_rise : (h : History) (x : List ℕ) → IsNonDecreasing (writers h x)
@@ -259,10 +286,16 @@ read_listed h a c x (from, to, there) =
     pair_is r y b one two = ap (λ z. (z, r.1)) one ∙ ap (λ z. (y, z)) two
 
 pub listed_read : (h : History) (a c : ℕ) (x : List ℕ) → a < count h → c < count h → Contains (entry_at h c).reads (x, a) → IsReadsPair h a c x
-listed_read h a c x from to there = (from, to, in_map (λ (read : List ℕ × ℕ). read.0) (filter (λ read. read.1 == a) (entry_at h c).reads) (x, a) (in_filter (λ (read : List ℕ × ℕ). read.1 == a) (entry_at h c).reads (x, a) there (eq-eqb a a refl)))
+listed_read h a c x from to there = (
+  from,
+  to,
+  in_map (λ (read : List ℕ × ℕ). read.0) (filter (λ read. read.1 == a) (entry_at h c).reads) (x, a)
+      (in_filter (λ (read : List ℕ × ℕ). read.1 == a) (entry_at h c).reads (x, a) there (eq-eqb a a refl)),
+)
 
 -- one item more
-pub first_more : {X : Type 0} (P : X → Type 0) (xs : List X) (i : ℕ) (x : X) → i < length xs → x ≡ get_or xs i x → ((k : ℕ) (d : X) → k < i → P (get_or xs k d)) → P x → (k : ℕ) (d : X) → k < i + 1 → P (get_or xs k d)
+pub first_more : {X : Type 0} (P : X → Type 0) (xs : List X) (i : ℕ) (x : X) → i < length xs → x ≡ get_or xs i x
+    → ((k : ℕ) (d : X) → k < i → P (get_or xs k d)) → P x → (k : ℕ) (d : X) → k < i + 1 → P (get_or xs k d)
 first_more P xs i x inside is before here k d below = go (cases_eq k i)
   where
     go : (k ≡ i) ⊎ (k ≡ i → ⊥) → P (get_or xs k d)
@@ -270,13 +303,15 @@ first_more P xs i x inside is before here k d below = go (cases_eq k i)
     go (inr apart) = before k d (omega arith)
 
 -- so for all of them
-pub by_reads : (h : History) (c : ℕ) (P : List ℕ → ℕ → Type 0) (reads : List (List ℕ × ℕ)) → reads ≡ (entry_at h c).reads → ((k : ℕ) (d : List ℕ × ℕ) → k < length reads → P (get_or reads k d).0 (get_or reads k d).1) → (x : List ℕ) (a : ℕ) → IsReadsPair h a c x → P x a
+pub by_reads : (h : History) (c : ℕ) (P : List ℕ → ℕ → Type 0) (reads : List (List ℕ × ℕ)) → reads ≡ (entry_at h c).reads
+    → ((k : ℕ) (d : List ℕ × ℕ) → k < length reads → P (get_or reads k d).0 (get_or reads k d).1) → (x : List ℕ) (a : ℕ) → IsReadsPair h a c x → P x a
 by_reads h c P reads is all x a p =
     let w : Contains reads (x, a) = subst (λ (rs : List (List ℕ × ℕ)). Contains rs (x, a)) (sym is) (read_listed h a c x p) in
     let here : P (get_or reads w.0 (x, a)).0 (get_or reads w.0 (x, a)).1 = all w.0 (x, a) w.1 in
     subst (λ (r : List ℕ × ℕ). P r.0 r.1) w.2 here
 
-pub read_at : (h : History) (c : ℕ) (reads : List (List ℕ × ℕ)) (i : ℕ) (read : List ℕ × ℕ) → reads ≡ (entry_at h c).reads → All (λ r. r.1 < count h) reads → c < count h → i < length reads → read ≡ get_or reads i read → IsReadsPair h read.1 c read.0
+pub read_at : (h : History) (c : ℕ) (reads : List (List ℕ × ℕ)) (i : ℕ) (read : List ℕ × ℕ) → reads ≡ (entry_at h c).reads → All (λ r. r.1 < count h) reads
+    → c < count h → i < length reads → read ≡ get_or reads i read → IsReadsPair h read.1 c read.0
 read_at h c reads i read is sources to below here =
     let from : read.1 < count h = subst (λ (r : List ℕ × ℕ). r.1 < count h) (sym here) (sources i read below) in
     listed_read h read.1 c read.0 from to (subst (λ (rs : List (List ℕ × ℕ)). Contains rs (read.0, read.1)) is (i, below, sym here))

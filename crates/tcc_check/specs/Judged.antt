@@ -30,7 +30,8 @@ near_rules h level near = by_places NearPairs (BreaksNearPair h near) ∷ by_pla
 -- those on costs
 abbrev pub far_rules : History → Version → ℕ → List (List ℕ) → List (List ℕ) → List Asked
 far_rules h version least near far =
-    by_places FarLinks (BreaksFarLink h version near far) ∷ by_places FarSteps (BreaksFarStep h version near far) ∷ by_places Returns (BreaksReturn h version least far) ∷ []
+    by_places FarLinks (BreaksFarLink h version near far) ∷ by_places FarSteps (BreaksFarStep h version near far)
+    ∷ by_places Returns (BreaksReturn h version least far) ∷ []
 
 -- all but the rule on sizes
 abbrev pub claim_rules : History → CycleClaim → List Asked
@@ -62,12 +63,14 @@ pub record IsOrderly (h : History) (judged : NearJudged) : Type 0 where
   pub links : AreOrderly (count h) judged.links.items
 
 -- where no part is left behind the rows, they are the whole table, and what was found is all there is
-pub record AreAllFound (h : History) (version : Version) (least : ℕ) (near : List (List ℕ)) (far : List (List ℕ)) (faults : FarFaults) (rest : Parts) : Type 0 where
+pub record AreAllFound (h : History) (version : Version) (least : ℕ) (near : List (List ℕ)) (far : List (List ℕ)) (faults : FarFaults)
+    (rest : Parts) : Type 0 where
   pub right : rest.parts ≡ [] → IsFarRight version (count h) least far × AreFoundBefore h version least near far (count h) faults
   pub more : IsFarRight version (count h) least far → rest.parts ≡ []
 
 -- so the rules on costs say
-pub record IsFarJudged (h : History) (version : Version) (least : ℕ) (near : List (List ℕ)) (far : List (List ℕ)) (rest : Parts) (verdict : Verdict) : Type 0 where
+pub record IsFarJudged (h : History) (version : Version) (least : ℕ) (near : List (List ℕ)) (far : List (List ℕ)) (rest : Parts)
+    (verdict : Verdict) : Type 0 where
   pub right : rest.parts ≡ [] → IsFarRight version (count h) least far × IsAnswer (far_rules h version least near far) verdict
   pub more : IsFarRight version (count h) least far → rest.parts ≡ []
 

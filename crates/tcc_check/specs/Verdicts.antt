@@ -4,7 +4,9 @@ use Rattle.tcc_reads.specs.History.{History}
 use Rattle.tcc_graph.specs.declared.level.Level.{Level}
 use Rattle.tcc_cert.specs.declared.version.Version.{Version}
 use Rattle.tcc_cert.specs.Tables.{IsFirstPlace}
-use Rattle.tcc_cert.specs.CycleRules.{CycleClaim, cycle_judged, HasRightSizes, IsLinkWrong, BreaksNearPair, BreaksNearStep, BreaksFarLink, BreaksFarStep, BreaksReturn}
+use Rattle.tcc_cert.specs.CycleRules.{CycleClaim, cycle_judged, HasRightSizes, IsLinkWrong}
+use Rattle.tcc_cert.specs.CycleRules.{BreaksNearPair, BreaksNearStep, BreaksFarLink, BreaksFarStep}
+use Rattle.tcc_cert.specs.CycleRules.BreaksReturn
 use Rattle.tcc_cert.specs.OrderRules.{OrderClaim, HasOrderSizes, KeepsPairs, BreaksAxiom}
 use Rattle.tcc_cert.specs.Rules.{HoldsEverywhere, IsRightCycle, Certifies}
 use Rattle.tcc_graph.specs.Links.{cost}

@@ -55,7 +55,8 @@ pub(crate) fn clock_rows<R: Read>(
     parts: &mut CertReader<R>,
 ) -> Result<Table, StreamFault>
     requires { is_new parts.old ≡ false }
-    ensures { (ahead : Parts) → IsAhead R.remaining parts.old ahead → Finishes ahead (λ clocks. (rows : List (List ℕ)) → ahead.parts ≡ map part.Clocks rows → clocks ≡ rows) result }
+    ensures { (ahead : Parts) → IsAhead R.remaining parts.old ahead
+        → Finishes ahead (λ clocks. (rows : List (List ℕ)) → ahead.parts ≡ map part.Clocks rows → clocks ≡ rows) result }
 {
     let mut clocks = Vec::new(alloc);
     'parts: loop {

@@ -26,7 +26,8 @@ fn has_right_sizes(
     near: &[Numbers],
     far: &[Numbers],
 ) -> bool
-    ensures sizes { (level : Level) → IsTrue result ↔ HasRightSizes graph.now (record { version = version; level = level; links = links.now; least = least; near = near.now; far = far.now }) }
+    ensures sizes { (level : Level) → IsTrue result ↔ HasRightSizes graph.now
+        (record { version = version; level = level; links = links.now; least = least; near = near.now; far = far.now }) }
 {
     let count = graph.count();
     has_size(near, count as usize, count as usize)
@@ -64,7 +65,8 @@ pub(crate) fn links_verdict(
     links: &[Link],
     least: u32,
 ) -> Result<Verdict, NoMemory>
-    ensures { (version : Version) (near far : List (List ℕ)) → IfOk result (IsAnswer (links_rules graph.now (record { version = version; level = level; links = links.now; least = least; near = near; far = far }))) }
+    ensures { (version : Version) (near far : List (List ℕ)) → IfOk result
+        (IsAnswer (links_rules graph.now (record { version = version; level = level; links = links.now; least = least; near = near; far = far }))) }
 {
     if let Some(place) = first_wrong_link(graph, level, links) {
         let Ok(place) = u32::try_from(place) else {
@@ -89,7 +91,8 @@ pub(crate) fn cycle_verdict(
     near: &[Numbers],
     far: &[Numbers],
 ) -> Result<Verdict, NoMemory>
-    ensures { IfOk result (IsAnswer (cycle_rules graph.now (record { version = version; level = level; links = links.now; least = least; near = near.now; far = far.now }))) }
+    ensures { IfOk result
+        (IsAnswer (cycle_rules graph.now (record { version = version; level = level; links = links.now; least = least; near = near.now; far = far.now }))) }
 {
     if !has_right_sizes(graph, version, links, least, near, far) {
         return Ok(rejected(Rule::Sizes, 0));

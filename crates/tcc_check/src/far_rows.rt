@@ -124,7 +124,9 @@ fn far_rows<R: Read>(
     least: u32,
 ) -> Result<Option<FarFaults>, StreamFault>
     requires orderly { IsOrderly graph.now near.now }
-    ensures { (ahead : Parts) → IsAhead R.remaining parts.old ahead → Leaves R.remaining ahead parts.new (λ found rest. (table far : List (List ℕ)) → AreLinksOf graph.now least table near.now → ahead.parts ≡ map part.Far far
+    ensures { (ahead : Parts) → IsAhead R.remaining parts.old ahead
+        → Leaves R.remaining ahead parts.new (λ found rest. (table far : List (List ℕ)) → AreLinksOf graph.now least table near.now
+        → ahead.parts ≡ map part.Far far
         → MatchOption found (IsFarRight version (count graph.now) least far → ⊥) (λ faults. AreAllFound graph.now version least table far faults rest)) result }
 {
     let mut faults = NO_FAULTS;
@@ -153,7 +155,9 @@ pub(crate) fn judge_far<R: Read>(
     least: u32,
 ) -> Result<Option<Verdict>, StreamFault>
     requires orderly { IsOrderly graph.now near.now }
-    ensures { (ahead : Parts) → IsAhead R.remaining parts.old ahead → Leaves R.remaining ahead parts.new (λ found rest. (table far : List (List ℕ)) → AreLinksOf graph.now least table near.now → ahead.parts ≡ map part.Far far
+    ensures { (ahead : Parts) → IsAhead R.remaining parts.old ahead
+        → Leaves R.remaining ahead parts.new (λ found rest. (table far : List (List ℕ)) → AreLinksOf graph.now least table near.now
+        → ahead.parts ≡ map part.Far far
         → MatchOption found (IsFarRight version (count graph.now) least far → ⊥) (IsFarJudged graph.now version least table far rest)) result }
 {
     match far_rows(alloc, graph, parts, version, near, least)? {

@@ -97,7 +97,8 @@ fn pairs_before(graph: &Graph, places: &[u32], writers: &[u32], source: u32, c: 
     requires below { All (λ b. b < count graph.now) writers.now }
     requires source { source < count graph.now }
     requires reader { c < count graph.now }
-    ensures { IsTrue result → ((b : ℕ) → Contains writers.now b → b ≢ source → IsCausalPair graph.now b c → slice_index places.now b < slice_index places.now source) }
+    ensures { IsTrue result → ((b : ℕ) → Contains writers.now b → b ≢ source → IsCausalPair graph.now b c
+        → slice_index places.now b < slice_index places.now source) }
 {
     for writer in writers {
         if *writer != source
@@ -123,7 +124,8 @@ fn reached_before(
     requires below { All (λ b. b < count graph.now) writers.now }
     requires source { source < count graph.now }
     requires reader { c < length clocks.now }
-    ensures { IsTrue result → ((b : ℕ) → Contains writers.now b → b ≢ source → MayReach graph.now Causal clocks.now b c → slice_index places.now b < slice_index places.now source) }
+    ensures { IsTrue result → ((b : ℕ) → Contains writers.now b → b ≢ source → MayReach graph.now Causal clocks.now b c
+        → slice_index places.now b < slice_index places.now source) }
 {
     for writer in writers {
         if *writer != source

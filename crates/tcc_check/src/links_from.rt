@@ -6,7 +6,9 @@ ghost use Rattle.tcc_reads.specs.History.{count};
 ghost use Rattle.tcc_graph.specs.Keys.{keys};
 ghost use Rattle.tcc_graph.specs.Relations.{IsCausalPair};
 ghost use Rattle.tcc_check.specs.Weights.{IsLeastRow, IsLowered};
-ghost use Rattle.tcc_check.specs.WeightsFrom.{AreAllEnds, AreEnds, AreLightEnds, BetweenWeighs, ContradictsBy, InitContradictsBy, MarkWeighs, PlaceWeighs, ReadWeighs, ReadingWeighs, SourceWeighs, WeighsFrom};
+ghost use Rattle.tcc_check.specs.WeightsFrom.{AreAllEnds, AreEnds, AreLightEnds, BetweenWeighs, ContradictsBy};
+ghost use Rattle.tcc_check.specs.WeightsFrom.{InitContradictsBy, MarkWeighs, PlaceWeighs, ReadWeighs};
+ghost use Rattle.tcc_check.specs.WeightsFrom.{ReadingWeighs, SourceWeighs, WeighsFrom};
 
 use crate::ends::Ends;
 use std::alloc::Global;

@@ -63,7 +63,8 @@ fn with_row(
     requires long { length row.now ≡ count graph.now }
     requires start { start < count graph.now }
     requires capped { All (λ number. number ≤ least) row.now }
-    ensures { (near : List (List ℕ)) → row_of near start ≡ row.now → IsNearFoundTo graph.now level near start faults → IsNearFoundTo graph.now level near (start + 1) result }
+    ensures { (near : List (List ℕ)) → row_of near start ≡ row.now → IsNearFoundTo graph.now level near start faults
+        → IsNearFoundTo graph.now level near (start + 1) result }
 {
     let reads = pairs.reads.as_slice();
     let pair = long_link(graph, &reads[start as usize], row, 0, start, least);
@@ -94,7 +95,8 @@ fn take_row(
     requires start { start < count graph.now }
     requires capped { All (λ number. number ≤ least) row.now }
     requires orderly { AreOrderly (count graph.now) rows.old.links.items }
-    ensures taken { OnOk result ((near : List (List ℕ)) → row_of near start ≡ row.now → AreNearRowsTo graph.now level least near start rows.old → AreNearRowsTo graph.now level least near (start + 1) rows.new) }
+    ensures taken { OnOk result ((near : List (List ℕ)) → row_of near start ≡ row.now → AreNearRowsTo graph.now level least near start rows.old
+        → AreNearRowsTo graph.now level least near (start + 1) rows.new) }
     ensures orderly { OnOk result (AreOrderly (count graph.now) rows.new.links.items) }
     ensures long { OnOk result (length rows.new.links.items ≡ length rows.old.links.items + 1) }
 {
@@ -174,9 +176,14 @@ fn near_rows<R: Read>(
     least: u32,
 ) -> Result<Option<NearRows>, StreamFault>
     requires pairs { ArePairs graph.now least pairs.now }
-    ensures orderly { IfOk result (λ found. IfSome found (λ rows. (length rows.links.items ≡ count graph.now) × AreOrderly (count graph.now) rows.links.items)) }
-    ensures parts { (ahead : Parts) → IsAhead R.remaining parts.old ahead → Leaves R.remaining ahead parts.new (λ found rest. (near far : List (List ℕ)) → length near ≡ count graph.now → ahead.parts ≡ map part.Near near ++ map part.Far far
-        → MatchOption found (IsNearRight (count graph.now) least near → ⊥) (λ rows. IsNearRight (count graph.now) least near × AreNearRowsTo graph.now level least near (count graph.now) rows × (rest.parts ≡ map part.Far far))) result }
+    ensures orderly { IfOk result
+        (λ found. IfSome found (λ rows. (length rows.links.items ≡ count graph.now) × AreOrderly (count graph.now) rows.links.items)) }
+    ensures parts { (ahead : Parts) → IsAhead R.remaining parts.old ahead
+        → Leaves R.remaining ahead parts.new (λ found rest. (near far : List (List ℕ)) → length near ≡ count graph.now
+        → ahead.parts ≡ map part.Near near ++ map part.Far far
+        → MatchOption found (IsNearRight (count graph.now) least near → ⊥)
+        (λ rows. IsNearRight (count graph.now) least near × AreNearRowsTo graph.now level least near (count graph.now) rows
+        × (rest.parts ≡ map part.Far far))) result }
 {
     let mut rows = no_rows(alloc);
     for start in 0..graph.count() {
@@ -202,8 +209,11 @@ pub(crate) fn judge_near<R: Read>(
     least: u32,
 ) -> Result<Option<NearJudged>, StreamFault>
     ensures orderly { IfOk result (λ found. IfSome found (IsOrderly graph.now)) }
-    ensures parts { (ahead : Parts) → IsAhead R.remaining parts.old ahead → Leaves R.remaining ahead parts.new (λ found rest. (near far : List (List ℕ)) → length near ≡ count graph.now → ahead.parts ≡ map part.Near near ++ map part.Far far
-        → MatchOption found (IsNearRight (count graph.now) least near → ⊥) (λ judged. IsNearRight (count graph.now) least near × IsNearJudged graph.now level least near judged × (rest.parts ≡ map part.Far far))) result }
+    ensures parts { (ahead : Parts) → IsAhead R.remaining parts.old ahead
+        → Leaves R.remaining ahead parts.new (λ found rest. (near far : List (List ℕ)) → length near ≡ count graph.now
+        → ahead.parts ≡ map part.Near near ++ map part.Far far
+        → MatchOption found (IsNearRight (count graph.now) least near → ⊥)
+        (λ judged. IsNearRight (count graph.now) least near × IsNearJudged graph.now level least near judged × (rest.parts ≡ map part.Far far))) result }
 {
     let pairs = pairs_of(alloc, graph, least)?;
     let Some(rows) = near_rows(alloc, graph, parts, level, &pairs, least)? else {

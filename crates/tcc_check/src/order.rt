@@ -199,7 +199,10 @@ fn broken_by(
     requires places { ArePlaces order.now places.now }
     requires clocks { HasClocks level (count graph.now) (length graph.now.sessions) clocks.now }
     requires b { b < count graph.now }
-    ensures { (sessions : ℕ) → IfOk result (IsFoundBelow (count graph.now) (λ a. BreaksAxiom graph.now (record { level = level; order = order.now; sessions = sessions; clocks = clocks.now }) (b, a))) }
+    ensures { (sessions : ℕ)
+        → IfOk result
+        (IsFoundBelow (count graph.now) (λ a. BreaksAxiom graph.now (record { level = level; order = order.now; sessions = sessions; clocks = clocks.now })
+        (b, a))) }
 {
     let row = gaps(alloc, graph, level, clocks, b)?;
     let weights = contradicted_weights(alloc, graph, &row, b)?;
@@ -273,7 +276,8 @@ fn kept_places(
     requires clocks { HasClocks level (count graph.now) (length graph.now.sessions) clocks.now }
     ensures { (sessions : ℕ) → IfOk result (λ found. MatchOption found
         (KeepsPairs graph.now (record { level = level; order = order.now; sessions = sessions; clocks = clocks.now }) → ⊥)
-        (λ places. ArePlaces order.now places.items × KeepsPairs graph.now (record { level = level; order = order.now; sessions = sessions; clocks = clocks.now }))) }
+        (λ places. ArePlaces order.now places.items × KeepsPairs graph.now
+        (record { level = level; order = order.now; sessions = sessions; clocks = clocks.now }))) }
 {
     let Some(places) = places_of(alloc, order)? else {
         return Ok(None);

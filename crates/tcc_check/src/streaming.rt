@@ -35,7 +35,9 @@ fn judge_tables<R: Read>(
     links: &[Link],
     least: u32,
 ) -> Result<Option<Verdict>, StreamFault>
-    ensures { (ahead : Parts) → IsAhead R.remaining parts.old ahead → Leaves R.remaining ahead parts.new (λ found rest. (near far : List (List ℕ)) → length near ≡ count → ahead.parts ≡ map part.Near near ++ map part.Far far
+    ensures { (ahead : Parts) → IsAhead R.remaining parts.old ahead
+        → Leaves R.remaining ahead parts.new (λ found rest. (near far : List (List ℕ)) → length near ≡ count
+        → ahead.parts ≡ map part.Near near ++ map part.Far far
         → MatchOption found
         (HasRightSizes graph.now (record { version = version; level = level; links = links.now; least = least; near = near; far = far }) → ⊥)
         (IsClaimJudged graph.now (record { version = version; level = level; links = links.now; least = least; near = near; far = far }) rest)) result }
@@ -65,8 +67,10 @@ fn judge_cycle<R: Read>(
     links: &[Link],
     least: u32,
 ) -> Result<Verdict, StreamFault>
-    ensures { (ahead : Parts) → IsAhead R.remaining parts.old ahead → Finishes ahead (λ verdict. (near far : List (List ℕ)) → length near ≡ count → ahead.parts ≡ map part.Near near ++ map part.Far far
-        → IsAnswer (cycle_rules graph.now (record { version = version; level = level; links = links.now; least = least; near = near; far = far })) verdict) result }
+    ensures { (ahead : Parts) → IsAhead R.remaining parts.old ahead
+        → Finishes ahead (λ verdict. (near far : List (List ℕ)) → length near ≡ count → ahead.parts ≡ map part.Near near ++ map part.Far far
+        → IsAnswer (cycle_rules graph.now (record { version = version; level = level; links = links.now; least = least; near = near; far = far })) verdict)
+        result }
 {
     let found = judge_tables(alloc, graph, parts, version, level, count, links, least)?;
     let at_once = ends(alloc, parts)?;

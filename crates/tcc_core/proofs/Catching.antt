@@ -27,7 +27,8 @@ module _ (t : Tables) (s : ℕ) (row : List (Option ℕ)) (cap floor : ℕ) wher
   pub caught_none : (costs : List ℕ) → IsOffered (IsWayBelow t s row cap 0) floor costs costs
   caught_none costs = offered_none (IsWayBelow t s row cap 0) floor costs (λ v n within (u, d, low, has, way) above. absurd (omega (arith, low)))
 
-  pub caught_next : (k d : ℕ) (old mid new : List ℕ) → in_row row k ≡ Some d → IsOffered (IsWayBelow t s row cap k) floor old mid → IsOffered (IsWayOn t s k d cap) floor mid new → IsOffered (IsWayBelow t s row cap (k + 1)) floor old new
+  pub caught_next : (k d : ℕ) (old mid new : List ℕ) → in_row row k ≡ Some d → IsOffered (IsWayBelow t s row cap k) floor old mid
+      → IsOffered (IsWayOn t s k d cap) floor mid new → IsOffered (IsWayBelow t s row cap (k + 1)) floor old new
   caught_next k d old mid new here first then =
       offered_then (IsWayBelow t s row cap k) (IsWayOn t s k d cap) (IsWayBelow t s row cap (k + 1)) floor old mid new
       (λ v n (u, c, low, has, way). split v n u c low has way (cases_lt u k))
@@ -35,7 +36,8 @@ module _ (t : Tables) (s : ℕ) (row : List (Option ℕ)) (cap floor : ℕ) wher
       (λ v n way. (k, d, omega arith, here, way))
       first then
     where
-      split : (v n u c : ℕ) → u < k + 1 → in_row row u ≡ Some c → IsWayOn t s u c cap v n → (u < k) ⊎ (k ≤ u) → IsWayBelow t s row cap k v n ⊎ IsWayOn t s k d cap v n
+      split : (v n u c : ℕ) → u < k + 1 → in_row row u ≡ Some c → IsWayOn t s u c cap v n → (u < k) ⊎ (k ≤ u)
+          → IsWayBelow t s row cap k v n ⊎ IsWayOn t s k d cap v n
       split v n u c low has way (inl less) = inl (u, c, less, has, way)
       split v n u c low has way (inr more) =
           let same : u ≡ k = omega arith in
@@ -43,7 +45,8 @@ module _ (t : Tables) (s : ℕ) (row : List (Option ℕ)) (cap floor : ℕ) wher
           let equal : c ≡ d = cc in
           inr (rw (same, equal) at way)
 
-  pub caught_past : (k : ℕ) (old new : List ℕ) → in_row row k ≡ None → IsOffered (IsWayBelow t s row cap k) floor old new → IsOffered (IsWayBelow t s row cap (k + 1)) floor old new
+  pub caught_past : (k : ℕ) (old new : List ℕ) → in_row row k ≡ None → IsOffered (IsWayBelow t s row cap k) floor old new
+      → IsOffered (IsWayBelow t s row cap (k + 1)) floor old new
   caught_past k old new out is =
       offered_same (IsWayBelow t s row cap k) (IsWayBelow t s row cap (k + 1)) floor old new
       (λ v n within (u, d, low, has, way). (u, d, omega (arith, low), has, way))
@@ -58,7 +61,8 @@ module _ (t : Tables) (s : ℕ) (row : List (Option ℕ)) (cap floor : ℕ) wher
           let none : None ≡ Some d = sym out ∙ here in
           cc
 
-  pub caught_row : (k : ℕ) (old new : List ℕ) → length row ≤ k → IsOffered (IsWayBelow t s row cap k) floor old new → IsOffered (IsWayOver t s row cap) floor old new
+  pub caught_row : (k : ℕ) (old new : List ℕ) → length row ≤ k → IsOffered (IsWayBelow t s row cap k) floor old new
+      → IsOffered (IsWayOver t s row cap) floor old new
   caught_row k old new whole is =
       offered_same (IsWayBelow t s row cap k) (IsWayOver t s row cap) floor old new
       (λ v n within (u, d, low, has, way). (u, d, has, way))
@@ -71,7 +75,8 @@ module _ (t : Tables) (s : ℕ) (row : List (Option ℕ)) (cap floor : ℕ) wher
   abbrev pub IsWayCome : ℕ → ℕ → Type 0
   IsWayCome v n = (u : ℕ) × (d : ℕ) × HasCome s row u d × IsWayOn t s u d cap v n
 
-  pub caught_both : (old mid new : List ℕ) → IsOffered (IsWayOn t s s 0 cap) floor old mid → IsOffered (IsWayOver t s row cap) floor mid new → IsOffered IsWayCome floor old new
+  pub caught_both : (old mid new : List ℕ) → IsOffered (IsWayOn t s s 0 cap) floor old mid → IsOffered (IsWayOver t s row cap) floor mid new
+      → IsOffered IsWayCome floor old new
   caught_both old mid new first then =
       offered_then (IsWayOn t s s 0 cap) (IsWayOver t s row cap) IsWayCome floor old mid new
       (λ v n (u, d, come, way). split v n u d way come)
@@ -83,7 +88,8 @@ module _ (t : Tables) (s : ℕ) (row : List (Option ℕ)) (cap floor : ℕ) wher
       split v n u d way (inl (same, nothing)) = inl (rw (same, nothing) at way)
       split v n u d way (inr has) = inr (u, d, has, way)
 
-  pub caught_first : (old new : List ℕ) → ((u d : ℕ) → in_row row u ≡ Some d → ⊥) → IsOffered (IsWayOn t s s 0 cap) floor old new → IsOffered IsWayCome floor old new
+  pub caught_first : (old new : List ℕ) → ((u d : ℕ) → in_row row u ≡ Some d → ⊥) → IsOffered (IsWayOn t s s 0 cap) floor old new
+      → IsOffered IsWayCome floor old new
   caught_first old new nobody is =
       offered_same (IsWayOn t s s 0 cap) IsWayCome floor old new
       (λ v n within way. (s, 0, inl (refl, refl), way))
@@ -96,7 +102,8 @@ module _ (t : Tables) (s : ℕ) (row : List (Option ℕ)) (cap floor : ℕ) wher
 
 -- ---- what is known then
 
-pub bounded_caught : (search : Search) (floor cap : ℕ) (new : List ℕ) → IsBounded search floor → search.limit ≤ cap → IsLower floor search.costs new → IsBounded (record { start = search.start; row = search.row; costs = new; limit = cap }) floor
+pub bounded_caught : (search : Search) (floor cap : ℕ) (new : List ℕ) → IsBounded search floor → search.limit ≤ cap → IsLower floor search.costs new
+    → IsBounded (record { start = search.start; row = search.row; costs = new; limit = cap }) floor
 bounded_caught search floor cap new is more lower = record {
   below = is.below;
   few = is.few;
@@ -120,7 +127,9 @@ come_small : (s : ℕ) (search : Search) (floor u c : ℕ) → IsBounded search 
 come_small s search floor u c is (inl (same, nothing)) = omega (arith, nothing)
 come_small s search floor u c is (inr inside) = omega (arith, (is.joined u c inside).1, floor_small search floor is)
 
-pub search_caught : (j : Judged) (t : Tables) (s : ℕ) (search : Search) (floor cap : ℕ) (new : List ℕ) → IsPricesOf j t → IsBounded search floor → IsSearchOf j s search → IsOffered (IsWayCome t s search.row cap floor) floor search.costs new → IsSearchOf j s (record { start = search.start; row = search.row; costs = new; limit = cap })
+pub search_caught : (j : Judged) (t : Tables) (s : ℕ) (search : Search) (floor cap : ℕ) (new : List ℕ) → IsPricesOf j t → IsBounded search floor
+    → IsSearchOf j s search → IsOffered (IsWayCome t s search.row cap floor) floor search.costs new
+    → IsSearchOf j s (record { start = search.start; row = search.row; costs = new; limit = cap })
 search_caught j t s search floor cap new priced bounds is caught = record {
   start = is.start;
   below = is.below;
@@ -132,13 +141,16 @@ search_caught j t s search floor cap new priced bounds is caught = record {
   };
 }
   where
-    attained : (v : ℕ) → v < count j.history → in_row search.row v ≡ None → slice_index new v ≢ NO_WAY → (slice_index new v ≡ slice_index search.costs v) ⊎ IsWayCome t s search.row cap floor v (slice_index new v) → IsWay j s search.row v (slice_index new v)
+    attained : (v : ℕ) → v < count j.history → in_row search.row v ≡ None → slice_index new v ≢ NO_WAY
+        → (slice_index new v ≡ slice_index search.costs v) ⊎ IsWayCome t s search.row cap floor v (slice_index new v)
+        → IsWay j s search.row v (slice_index new v)
     attained v within out some (inl same) = rw same (is.frontier.attained v within out (λ e. some (same ∙ e)))
     attained v within out some (inr (u, d, come, (up, c, has, low, equal))) =
         let (l, leads, paid) = link_of_cost j t u v priced (come_below j s search u d is come) within c has in
         (up, u, d, l, come, leads, omega (arith, paid, equal))
 
-    least : (v n : ℕ) → in_row search.row v ≡ None → IsWithin (cap_of cap) n → v < count j.history → IsWay j s search.row v n → (slice_index new v < NO_WAY) × (slice_index new v ≤ n)
+    least : (v n : ℕ) → in_row search.row v ≡ None → IsWithin (cap_of cap) n → v < count j.history → IsWay j s search.row v n
+        → (slice_index new v < NO_WAY) × (slice_index new v ≤ n)
     least v n out capped within (up, u, d, l, come, leads, costs) =
         let from = come_below j s search u d is come in
         let (c, has, cheap) = cost_of_link j t u v priced from within l leads in
@@ -148,12 +160,15 @@ search_caught j t s search floor cap new priced bounds is caught = record {
         let found = by c has low few small from (cases_lt floor (d + c)) in
         (found.0, omega (arith, found.1, cheap, costs))
       where
-        by : (c : ℕ) → cost_at t u v ≡ Some c → d + c ≤ cap → c ≤ count j.history + 1 → d < 2147483648 → u < count j.history → (floor < d + c) ⊎ (d + c ≤ floor) → (slice_index new v < NO_WAY) × (slice_index new v ≤ d + c)
+        by : (c : ℕ) → cost_at t u v ≡ Some c → d + c ≤ cap → c ≤ count j.history + 1 → d < 2147483648 → u < count j.history
+            → (floor < d + c) ⊎ (d + c ≤ floor) → (slice_index new v < NO_WAY) × (slice_index new v ≤ d + c)
         by c has low few small from (inl above) =
             let under = caught.least v (d + c) (omega (arith, is.frontier.long, within)) (u, d, come, (up, c, has, low, refl)) above in
             (omega (arith, under, small, few, bounds.few, is.row.long), under)
         by c has low few small from (inr down) =
             let (cheapest, leads_on, paid) = link_of_cost j t u v priced from within c has in
-            let known = is.frontier.least v (d + link_cost cheapest) out (up, u, d, cheapest, come, leads_on, refl) (within_cap search.limit (d + link_cost cheapest) (omega (arith, paid, down, bounds.known))) in
+            let known =
+            is.frontier.least v (d + link_cost cheapest) out (up, u, d, cheapest, come, leads_on, refl)
+            (within_cap search.limit (d + link_cost cheapest) (omega (arith, paid, down, bounds.known))) in
             let lower = lower_least floor search.costs new v caught.lower (omega (arith, is.frontier.long, within)) in
             (omega (arith, known.0, lower), omega (arith, known.1, lower, paid))

@@ -1,5 +1,7 @@
 -- What is open stands in the bucket of its cost, and each bucket has transactions of one cost.
-use Rattle.std.proofs.Common.{◌≡◌, ◌≢◌, ◌<◌, ◌≤◌, ◌+◌, ◌*◌, ◌/◌, ◌%◌, ◌==◌, ◌⊎◌, ℕ, zero, suc, true, false, inl, inr, List, [], ◌∷◌, length, length-set, set, take, get_or, slice_index, All, Contains, refl, ap, sym, ◌∙◌, arith}
+use Rattle.std.proofs.Common.{◌≡◌, ◌≢◌, ◌<◌, ◌≤◌, ◌+◌, ◌*◌, ◌/◌, ◌%◌, ◌==◌, ◌⊎◌, ℕ, zero, suc, true, false, inl, inr, List}
+use Rattle.std.proofs.Common.{[], ◌∷◌, length, length-set, set, take, get_or, slice_index, All, Contains, refl, ap, sym, ◌∙◌}
+use Rattle.std.proofs.Common.arith
 use Rattle.std.proofs.lemmas.Bool.{cases_order, cases_eq}
 use Rattle.std.proofs.lemmas.Bool.Decides.{eqb_tells}
 use Rattle.std.proofs.lemmas.List.{get_or-set_same, get_or-set_other, get_or-take, length-take-le}
@@ -57,9 +59,11 @@ IsFiledAt floor most cost b = IsShut cost b ⊎ IsOpen floor most cost b
 
 higher : (floor most more cost b : ℕ) → most ≤ more → IsFiledAt floor most cost b → IsFiledAt floor more cost b
 higher floor most more cost b up (inl shut) = inl shut
-higher floor most more cost b up (inr open_at) = inr (record { some = open_at.some; above = open_at.above; below = omega (arith, open_at.below); at = open_at.at })
+higher floor most more cost b up (inr open_at) =
+    inr (record { some = open_at.some; above = open_at.above; below = omega (arith, open_at.below); at = open_at.at })
 
-pub filed_set : (floor most more : ℕ) (costs ring costs' ring' : List ℕ) (v c b : ℕ) → IsFiled floor most costs ring → v < length costs → most ≤ more → more < floor + BUCKETS → more < NO_WAY
+pub filed_set : (floor most more : ℕ) (costs ring costs' ring' : List ℕ) (v c b : ℕ) → IsFiled floor most costs ring → v < length costs → most ≤ more
+    → more < floor + BUCKETS → more < NO_WAY
     → IsOneSet costs costs' v c → IsOneSet ring ring' v b → IsFiledAt floor more c b → IsFiled floor more costs' ring'
 filed_set floor most more costs ring costs' ring' v c b is within up window few costed ringed at = record {
   long = omega (arith, is.long, costed.long, ringed.long);
@@ -70,10 +74,12 @@ filed_set floor most more costs ring costs' ring' v c b is within up window few 
   where
     go : (u : ℕ) → u < length costs → (u ≡ v) ⊎ (u ≡ v → ⊥) → IsFiledAt floor more (slice_index costs' u) (slice_index ring' u)
     go u below (inl same) = rw (same, costed.here, ringed.here) at
-    go u below (inr other) = rw (costed.kept u other, ringed.kept u other) (higher floor most more (slice_index costs u) (slice_index ring u) up (is.each u below))
+    go u below (inr other) =
+        rw (costed.kept u other, ringed.kept u other) (higher floor most more (slice_index costs u) (slice_index ring u) up (is.each u below))
 
 -- one of the nearest goes out
-pub filed_settled : (floor most : ℕ) (costs ring costs' ring' : List ℕ) (v b : ℕ) → IsFiled floor most costs ring → IsNearest costs v → slice_index costs v < floor + BUCKETS → floor ≤ slice_index costs v → BUCKETS ≤ b
+pub filed_settled : (floor most : ℕ) (costs ring costs' ring' : List ℕ) (v b : ℕ) → IsFiled floor most costs ring → IsNearest costs v
+    → slice_index costs v < floor + BUCKETS → floor ≤ slice_index costs v → BUCKETS ≤ b
     → IsOneSet costs costs' v 0 → IsOneSet ring ring' v b → IsFiled (slice_index costs v) most costs' ring'
 filed_settled floor most costs ring costs' ring' v b is near low up out costed ringed = record {
   long = omega (arith, is.long, costed.long, ringed.long);
@@ -82,7 +88,8 @@ filed_settled floor most costs ring costs' ring' v b is near low up out costed r
   each = λ u below. go u (omega (arith, costed.long, below)) (cases_eq u v);
 }
   where
-    kept : (u : ℕ) → u < length costs → IsFiledAt floor most (slice_index costs u) (slice_index ring u) → IsFiledAt (slice_index costs v) most (slice_index costs u) (slice_index ring u)
+    kept : (u : ℕ) → u < length costs → IsFiledAt floor most (slice_index costs u) (slice_index ring u)
+        → IsFiledAt (slice_index costs v) most (slice_index costs u) (slice_index ring u)
     kept u below (inl shut) = inl shut
     kept u below (inr open_at) = inr (record { some = open_at.some; above = near.least u below open_at.some; below = open_at.below; at = open_at.at })
 
@@ -91,10 +98,12 @@ filed_settled floor most costs ring costs' ring' v b is near low up out costed r
     go u below (inr other) = rw (costed.kept u other, ringed.kept u other) (kept u below (is.each u below))
 
 -- what is open stands in a bucket
-pub open_stands : (floor most : ℕ) (costs ring : List ℕ) (v : ℕ) → IsFiled floor most costs ring → v < length costs → 0 < slice_index costs v → slice_index costs v < NO_WAY → IsOpen floor most (slice_index costs v) (slice_index ring v)
+pub open_stands : (floor most : ℕ) (costs ring : List ℕ) (v : ℕ) → IsFiled floor most costs ring → v < length costs → 0 < slice_index costs v
+    → slice_index costs v < NO_WAY → IsOpen floor most (slice_index costs v) (slice_index ring v)
 open_stands floor most costs ring v is within some reached = go (is.each v within)
   where
-    go : IsShut (slice_index costs v) (slice_index ring v) ⊎ IsOpen floor most (slice_index costs v) (slice_index ring v) → IsOpen floor most (slice_index costs v) (slice_index ring v)
+    go : IsShut (slice_index costs v) (slice_index ring v) ⊎ IsOpen floor most (slice_index costs v) (slice_index ring v)
+        → IsOpen floor most (slice_index costs v) (slice_index ring v)
     go (inl shut) = none shut.none
       where
         none : (slice_index costs v ≡ NO_WAY) ⊎ (slice_index costs v ≡ 0) → IsOpen floor most (slice_index costs v) (slice_index ring v)
@@ -106,7 +115,8 @@ pub stands_low : (floor most cost b : ℕ) → IsOpen floor most cost b → b < 
 stands_low floor most cost b open_at = omega (arith, open_at.at, mod_below cost BUCKETS (omega arith))
 
 -- what was not reached, or was settled, stands in none
-pub shut_out : (floor most : ℕ) (costs ring : List ℕ) (v : ℕ) → IsFiled floor most costs ring → v < length costs → slice_index costs v ≡ NO_WAY → BUCKETS ≤ slice_index ring v
+pub shut_out : (floor most : ℕ) (costs ring : List ℕ) (v : ℕ) → IsFiled floor most costs ring → v < length costs → slice_index costs v ≡ NO_WAY
+    → BUCKETS ≤ slice_index ring v
 shut_out floor most costs ring v is within far = go (is.each v within)
   where
     go : IsShut (slice_index costs v) (slice_index ring v) ⊎ IsOpen floor most (slice_index costs v) (slice_index ring v) → BUCKETS ≤ slice_index ring v
@@ -116,15 +126,19 @@ shut_out floor most costs ring v is within far = go (is.each v within)
 -- ---- the nearest
 
 -- what stands in the bucket of a cost below which nothing is open is one of the nearest
-pub nearest_found : (floor most cost : ℕ) (costs ring : List ℕ) (v : ℕ) → IsFiled floor most costs ring → floor ≤ cost → cost ≤ most → StandsIn ring (cost % BUCKETS) v
+pub nearest_found : (floor most cost : ℕ) (costs ring : List ℕ) (v : ℕ) → IsFiled floor most costs ring → floor ≤ cost → cost ≤ most
+    → StandsIn ring (cost % BUCKETS) v
     → ((u : ℕ) → u < length costs → 0 < slice_index costs u → cost ≤ slice_index costs u)
     → IsNearest costs v × (slice_index costs v ≡ cost)
 nearest_found floor most cost costs ring v is up down found low = go (is.each v (omega (arith, is.long, found.below)))
   where
-    go : IsShut (slice_index costs v) (slice_index ring v) ⊎ IsOpen floor most (slice_index costs v) (slice_index ring v) → IsNearest costs v × (slice_index costs v ≡ cost)
+    go : IsShut (slice_index costs v) (slice_index ring v) ⊎ IsOpen floor most (slice_index costs v) (slice_index ring v)
+        → IsNearest costs v × (slice_index costs v ≡ cost)
     go (inl shut) = absurd (omega (arith, found.at, shut.out, mod_below cost BUCKETS (omega arith)))
     go (inr open_at) =
-        let same : slice_index costs v ≡ cost = one_in_window BUCKETS floor (slice_index costs v) cost open_at.above (omega (arith, open_at.below, is.window)) up (omega (arith, is.window)) (sym open_at.at ∙ found.at) in (
+        let same : slice_index costs v ≡ cost =
+        one_in_window BUCKETS floor (slice_index costs v) cost open_at.above (omega (arith, open_at.below, is.window)) up (omega (arith, is.window))
+        (sym open_at.at ∙ found.at) in (
           record {
             below = omega (arith, is.long, found.below);
             open_at = open_at.some;
@@ -140,7 +154,8 @@ pub none_at : (floor most cost : ℕ) (costs ring : List ℕ) → IsFiled floor 
     → (u : ℕ) → u < length costs → 0 < slice_index costs u → cost + 1 ≤ slice_index costs u
 none_at floor most cost costs ring is down out low u within some = go (is.each u within) (cases_eq (slice_index costs u) cost)
   where
-    go : IsShut (slice_index costs u) (slice_index ring u) ⊎ IsOpen floor most (slice_index costs u) (slice_index ring u) → (slice_index costs u ≡ cost) ⊎ (slice_index costs u ≡ cost → ⊥) → cost + 1 ≤ slice_index costs u
+    go : IsShut (slice_index costs u) (slice_index ring u) ⊎ IsOpen floor most (slice_index costs u) (slice_index ring u)
+        → (slice_index costs u ≡ cost) ⊎ (slice_index costs u ≡ cost → ⊥) → cost + 1 ≤ slice_index costs u
     go any (inr other) = omega (arith, low u within some, other)
     go (inr open_at) (inl same) = absurd (out u (omega (arith, is.long, within)) (open_at.at ∙ ap (λ n. n % BUCKETS) same))
     go (inl shut) (inl same) = none shut.none
@@ -149,10 +164,12 @@ none_at floor most cost costs ring is down out low u within some = go (is.each u
         none (inl far) = omega (arith, is.few)
         none (inr past) = absurd (omega arith)
 
-pub floor_low : (floor most : ℕ) (costs ring : List ℕ) → IsFiled floor most costs ring → (u : ℕ) → u < length costs → 0 < slice_index costs u → floor ≤ slice_index costs u ⊎ (slice_index costs u ≡ NO_WAY)
+pub floor_low : (floor most : ℕ) (costs ring : List ℕ) → IsFiled floor most costs ring → (u : ℕ) → u < length costs → 0 < slice_index costs u
+    → floor ≤ slice_index costs u ⊎ (slice_index costs u ≡ NO_WAY)
 floor_low floor most costs ring is u within some = go (is.each u within)
   where
-    go : IsShut (slice_index costs u) (slice_index ring u) ⊎ IsOpen floor most (slice_index costs u) (slice_index ring u) → floor ≤ slice_index costs u ⊎ (slice_index costs u ≡ NO_WAY)
+    go : IsShut (slice_index costs u) (slice_index ring u) ⊎ IsOpen floor most (slice_index costs u) (slice_index ring u)
+        → floor ≤ slice_index costs u ⊎ (slice_index costs u ≡ NO_WAY)
     go (inr open_at) = inl open_at.above
     go (inl shut) = none shut.none
       where
@@ -191,7 +208,8 @@ reached_most (c ∷ costs) = go (tells c) (reached_most costs)
     go (inl (test, same)) few = omega (arith, far_cons c costs same)
     go (inr (test, other)) few = omega (arith, reached_cons c costs other)
 
-pub reached_more : (costs : List ℕ) (v c : ℕ) → v < length costs → slice_index costs v ≡ NO_WAY → c ≢ NO_WAY → count_reached (set costs v c) ≡ count_reached costs + 1
+pub reached_more : (costs : List ℕ) (v c : ℕ) → v < length costs → slice_index costs v ≡ NO_WAY → c ≢ NO_WAY
+    → count_reached (set costs v c) ≡ count_reached costs + 1
 reached_more [] v c within far some = absurd (omega arith)
 reached_more (d ∷ costs) zero c within far some = omega (arith, reached_cons c costs some, far_cons d costs far)
 reached_more (d ∷ costs) (suc v) c within far some = go (tells d) (reached_more costs v c (omega arith) far some)
@@ -200,7 +218,8 @@ reached_more (d ∷ costs) (suc v) c within far some = go (tells d) (reached_mor
     go (inl (test, same)) again = omega (arith, far_cons d (set costs v c) same, far_cons d costs same, again)
     go (inr (test, other)) again = omega (arith, reached_cons d (set costs v c) other, reached_cons d costs other, again)
 
-pub reached_kept : (costs : List ℕ) (v c : ℕ) → v < length costs → slice_index costs v ≢ NO_WAY → c ≢ NO_WAY → count_reached (set costs v c) ≡ count_reached costs
+pub reached_kept : (costs : List ℕ) (v c : ℕ) → v < length costs → slice_index costs v ≢ NO_WAY → c ≢ NO_WAY
+    → count_reached (set costs v c) ≡ count_reached costs
 reached_kept [] v c within known some = absurd (omega arith)
 reached_kept (d ∷ costs) zero c within known some = omega (arith, reached_cons c costs some, reached_cons d costs known)
 reached_kept (d ∷ costs) (suc v) c within known some = go (tells d) (reached_kept costs v c (omega arith) known some)
@@ -224,7 +243,8 @@ reached_none (d ∷ costs) all = omega (arith, far_cons d costs (all 0 (omega ar
 
 -- ---- the list of them
 
-pub listed_none : (listed costs : List ℕ) → length listed ≡ length costs → length listed ≤ MAX_COUNT → ((v : ℕ) → v < length costs → slice_index costs v ≡ NO_WAY) → IsListed 0 listed costs
+pub listed_none : (listed costs : List ℕ) → length listed ≡ length costs → length listed ≤ MAX_COUNT
+    → ((v : ℕ) → v < length costs → slice_index costs v ≡ NO_WAY) → IsListed 0 listed costs
 listed_none listed costs long few all = record {
   long = long;
   few = few;
@@ -233,7 +253,8 @@ listed_none listed costs long few all = record {
   each = λ v within some. absurd (some (all v within));
 }
 
-pub listed_more : (held : ℕ) (listed costs : List ℕ) (v c : ℕ) → IsListed held listed costs → v < length costs → slice_index costs v ≡ NO_WAY → c ≢ NO_WAY → IsListed (held + 1) (set listed held v) (set costs v c)
+pub listed_more : (held : ℕ) (listed costs : List ℕ) (v c : ℕ) → IsListed held listed costs → v < length costs → slice_index costs v ≡ NO_WAY → c ≢ NO_WAY
+    → IsListed (held + 1) (set listed held v) (set costs v c)
 listed_more held listed costs v c is within far some = record {
   long = now.long ∙ is.long ∙ sym costed.long;
   few = omega (arith, now.long, is.few);
@@ -252,13 +273,15 @@ listed_more held listed costs v c is within far some = record {
     below k low (inl same) = rw same (omega (arith, now.here, costed.long, within))
     below k low (inr other) = omega (arith, now.kept k other, costed.long, is.below k (omega arith))
 
-    each : (u : ℕ) → u < length costs → slice_index (set costs v c) u ≢ NO_WAY → (u ≡ v) ⊎ (u ≡ v → ⊥) → (k : ℕ) × (k < held + 1) × (slice_index (set listed held v) k ≡ u)
+    each : (u : ℕ) → u < length costs → slice_index (set costs v c) u ≢ NO_WAY → (u ≡ v) ⊎ (u ≡ v → ⊥)
+        → (k : ℕ) × (k < held + 1) × (slice_index (set listed held v) k ≡ u)
     each u inside reached (inl same) = (held, omega arith, now.here ∙ sym same)
     each u inside reached (inr other) =
         let (k, low, at) = is.each u inside (λ e. reached (costed.kept u other ∙ e)) in
         (k, omega arith, now.kept k (λ e. omega arith) ∙ at)
 
-pub listed_kept : (held : ℕ) (listed costs : List ℕ) (v c : ℕ) → IsListed held listed costs → v < length costs → slice_index costs v ≢ NO_WAY → c ≢ NO_WAY → IsListed held listed (set costs v c)
+pub listed_kept : (held : ℕ) (listed costs : List ℕ) (v c : ℕ) → IsListed held listed costs → v < length costs → slice_index costs v ≢ NO_WAY → c ≢ NO_WAY
+    → IsListed held listed (set costs v c)
 listed_kept held listed costs v c is within known some = record {
   long = is.long ∙ sym costed.long;
   few = is.few;
@@ -294,18 +317,22 @@ module _ (held : ℕ) (listed costs : List ℕ) (is : IsListed held listed costs
       (k, omega (arith, taken_long), taken_at k v low ∙ at)
 
 -- what was reached is shut
-pub shut_all : (held : ℕ) (listed costs ring costs' ring' : List ℕ) (floor most : ℕ) → IsListed held listed costs → IsFiled floor most costs ring → length costs' ≡ length costs
+pub shut_all : (held : ℕ) (listed costs ring costs' ring' : List ℕ) (floor most : ℕ) → IsListed held listed costs → IsFiled floor most costs ring
+    → length costs' ≡ length costs
     → ((v : ℕ) → v < length costs → Contains (take held listed) v → (slice_index costs' v ≡ NO_WAY) × (BUCKETS ≤ slice_index ring' v))
-    → ((v : ℕ) → v < length costs → ((slice_index costs' v ≡ slice_index costs v) × (slice_index ring' v ≡ slice_index ring v)) ⊎ ((slice_index costs' v ≡ NO_WAY) × (BUCKETS ≤ slice_index ring' v)))
+    → ((v : ℕ) → v < length costs → ((slice_index costs' v ≡ slice_index costs v) × (slice_index ring' v ≡ slice_index ring v))
+    ⊎ ((slice_index costs' v ≡ NO_WAY) × (BUCKETS ≤ slice_index ring' v)))
     → (v : ℕ) → v < length costs → (slice_index costs' v ≡ NO_WAY) × (BUCKETS ≤ slice_index ring' v)
 shut_all held listed costs ring costs' ring' floor most is filed long shut kept v within = go (tells (slice_index costs v)) (kept v within)
   where
-    go : Tells (slice_index costs v) → ((slice_index costs' v ≡ slice_index costs v) × (slice_index ring' v ≡ slice_index ring v)) ⊎ ((slice_index costs' v ≡ NO_WAY) × (BUCKETS ≤ slice_index ring' v)) → (slice_index costs' v ≡ NO_WAY) × (BUCKETS ≤ slice_index ring' v)
+    go : Tells (slice_index costs v) → ((slice_index costs' v ≡ slice_index costs v) × (slice_index ring' v ≡ slice_index ring v))
+        ⊎ ((slice_index costs' v ≡ NO_WAY) × (BUCKETS ≤ slice_index ring' v)) → (slice_index costs' v ≡ NO_WAY) × (BUCKETS ≤ slice_index ring' v)
     go any (inr now) = now
     go (inr (test, other)) (inl same) = shut v within (taken_each held listed costs is v within other)
     go (inl (test, far)) (inl (same, stood)) = (same ∙ far, omega (arith, stood, shut_out floor most costs ring v filed within far))
 
-pub filed_none : (costs ring : List ℕ) → length costs ≡ length ring → ((v : ℕ) → v < length costs → (slice_index costs v ≡ NO_WAY) × (BUCKETS ≤ slice_index ring v)) → IsFiled 0 0 costs ring
+pub filed_none : (costs ring : List ℕ) → length costs ≡ length ring
+    → ((v : ℕ) → v < length costs → (slice_index costs v ≡ NO_WAY) × (BUCKETS ≤ slice_index ring v)) → IsFiled 0 0 costs ring
 filed_none costs ring long all = record {
   long = long;
   window = omega arith;

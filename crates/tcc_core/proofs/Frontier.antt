@@ -68,7 +68,8 @@ route_of_way j s row v n exact (to, u, c, l, come, leads, costs) =
 abbrev pub HasWayWithin : Judged → ℕ → List (Option ℕ) → ℕ → Type 0
 HasWayWithin j s row n = (w : ℕ) × (k : ℕ) × (in_row row w ≡ None) × IsWay j s row w k × (k ≤ n)
 
-way_along : (j : Judged) (s : ℕ) (row : List (Option ℕ)) → IsSearchRow j s row → (u c v : ℕ) (l : Link) (links : List Link) → HasCome s row u c → LinksLead j u v (l ∷ links) → All (IsUpward s) (l ∷ links) → in_row row v ≡ None → HasWayWithin j s row (c + cost (l ∷ links))
+way_along : (j : Judged) (s : ℕ) (row : List (Option ℕ)) → IsSearchRow j s row → (u c v : ℕ) (l : Link) (links : List Link) → HasCome s row u c
+    → LinksLead j u v (l ∷ links) → All (IsUpward s) (l ∷ links) → in_row row v ≡ None → HasWayWithin j s row (c + cost (l ∷ links))
 way_along j s row exact u c v l [] come lead up out =
     let first = All-head (IsUpward s) l [] up in
     let to : s ≤ v = subst (λ (z : ℕ). s ≤ z) lead.2 first.1 in
@@ -82,7 +83,8 @@ way_along j s row exact u c v l (next ∷ links) come lead up out =
     leads : IsLinkOf j u (link_to l) l
     leads = record { from = lead.0; to = refl; link = lead.1 }
 
-    go : (o : Option ℕ) → in_row row (link_to l) ≡ o → ((d : ℕ) → HasCome s row (link_to l) d → HasWayWithin j s row (d + cost (next ∷ links))) → HasWayWithin j s row (c + cost (l ∷ (next ∷ links)))
+    go : (o : Option ℕ) → in_row row (link_to l) ≡ o → ((d : ℕ) → HasCome s row (link_to l) d → HasWayWithin j s row (d + cost (next ∷ links)))
+        → HasWayWithin j s row (c + cost (l ∷ (next ∷ links)))
     go None e rest = (link_to l, c + link_cost l, e, (to, u, c, l, come, leads, refl), omega (arith, cost_cons l (next ∷ links)))
     go (Some d) e rest =
         let (w, k, outside, way, low) = rest d (inr e) in
@@ -90,7 +92,8 @@ way_along j s row exact u c v l (next ∷ links) come lead up out =
         let near : d ≤ cost others = (exact.exact (link_to l) d e).least others route in
         (w, k, outside, way, omega (arith, cost_cons l (next ∷ links)))
 
-pub way_within : (j : Judged) (s : ℕ) (row : List (Option ℕ)) → IsSearchRow j s row → (v : ℕ) (links : List Link) → in_row row v ≡ None → IsUpwardRoute j s v links → HasWayWithin j s row (cost links)
+pub way_within : (j : Judged) (s : ℕ) (row : List (Option ℕ)) → IsSearchRow j s row → (v : ℕ) (links : List Link) → in_row row v ≡ None
+    → IsUpwardRoute j s v links → HasWayWithin j s row (cost links)
 way_within j s row exact v [] out ((some, lead), up) = absurd (omega arith)
 way_within j s row exact v (l ∷ links) out ((some, lead), up) =
     let (w, k, outside, way, low) = way_along j s row exact s 0 v l links (inl (refl, refl)) lead up out in

@@ -29,7 +29,8 @@ module _ (j : Judged) (t : Tables) (s u d cap left floor : ℕ) (priced : IsPric
       cheap : (v c : ℕ) → v < count j.history → cost_at t u v ≡ Some c → c ≤ t.limit → (IsLater t u v → ⊥) → (IsLater t u v × (c ≡ 1)) ⊎ Contains links (v, c)
       cheap v c to has low other = inr ((is.each v c).1 (omega (arith, to, priced.prices.long), other, has, low))
 
-      go : (v c : ℕ) → v < count j.history → cost_at t u v ≡ Some c → c ≤ t.limit → (v < u + 1) ⊎ (u + 1 ≤ v) → (v < end_of t u) ⊎ (end_of t u ≤ v) → (IsLater t u v × (c ≡ 1)) ⊎ Contains links (v, c)
+      go : (v c : ℕ) → v < count j.history → cost_at t u v ≡ Some c → c ≤ t.limit → (v < u + 1) ⊎ (u + 1 ≤ v) → (v < end_of t u) ⊎ (end_of t u ≤ v)
+          → (IsLater t u v × (c ≡ 1)) ⊎ Contains links (v, c)
       go v c to has low (inl before) any = cheap v c to has low (λ is_later. absurd (omega (arith, before, is_later.0)))
       go v c to has low (inr after) (inr past) = cheap v c to has low (λ is_later. absurd (omega (arith, past, is_later.1)))
       go v c to has low (inr after) (inl inside) =
@@ -41,9 +42,11 @@ module _ (j : Judged) (t : Tables) (s u d cap left floor : ℕ) (priced : IsPric
   -- where the cap is as low as what was spent, no way is within it
   pub led_nowhere : (costs : List ℕ) → cap ≤ d → length costs ≡ count j.history → IsOffered (IsWayOn t s u d cap) floor costs costs
   led_nowhere costs spent long =
-      offered_none (IsWayOn t s u d cap) floor costs (λ v n within (up, c, has, low, equal) above. absurd (omega (arith, low, spent, cost_paid j t u v priced from (omega (arith, within, long)) c has)))
+      offered_none (IsWayOn t s u d cap) floor costs
+      (λ v n within (up, c, has, low, equal) above. absurd (omega (arith, low, spent, cost_paid j t u v priced from (omega (arith, within, long)) c has)))
 
-  module _ (links : List (ℕ × ℕ)) (has_links : HasLinks t (count j.history) u left links) (few : count j.history ≤ MAX_COUNT) (low : d < cap) (least : left ≡ min (cap - d) (BUCKETS - 1)) where
+  module _ (links : List (ℕ × ℕ)) (has_links : HasLinks t (count j.history) u left links) (few : count j.history ≤ MAX_COUNT) (low : d < cap)
+      (least : left ≡ min (cap - d) (BUCKETS - 1)) where
     -- a way by a link is one by a session pair or by one of the list
     apart : (v n : ℕ) → v < count j.history → IsWayOn t s u d cap v n → ((s ≤ v) × IsLater t u v × (d + 1 ≡ n)) ⊎ IsWayBy links s d left v n
     apart v n to (up, c, has, within, equal) = go (has_links.each v c to has (omega (arith, least, within, few, cost_few j t u v priced from to c has)))
@@ -56,7 +59,8 @@ module _ (j : Judged) (t : Tables) (s u d cap left floor : ℕ) (priced : IsPric
     by_link v n to (up, c, there, cheap, equal) = (up, c, has_links.only v c to there, omega (arith, cheap, least, low), equal)
 
     -- from where less than the floor was spent, session pairs lead to no way above the floor
-    pub led_by_links : (old new : List ℕ) → length old ≡ count j.history → d < floor → IsOffered (IsWayBy links s d left) floor old new → IsOffered (IsWayOn t s u d cap) floor old new
+    pub led_by_links : (old new : List ℕ) → length old ≡ count j.history → d < floor → IsOffered (IsWayBy links s d left) floor old new
+        → IsOffered (IsWayOn t s u d cap) floor old new
     led_by_links old new long below is =
         offered_same (IsWayBy links s d left) (IsWayOn t s u d cap) floor old new
         (λ v n within way. by_link v n (omega (arith, within, long)) way)
@@ -67,12 +71,15 @@ module _ (j : Judged) (t : Tables) (s u d cap left floor : ℕ) (priced : IsPric
         go v n above (inl (up, later, equal)) = absurd (omega (arith, equal, above, below))
         go v n above (inr way) = way
 
-    pub led_by_both : (first : ℕ) (old mid new : List ℕ) → length old ≡ count j.history → d ≡ floor → first ≡ max (u + 1) s → IsOffered (IsLaterWay floor first (end_of t u)) floor old mid → IsOffered (IsWayBy links s d left) floor mid new → IsOffered (IsWayOn t s u d cap) floor old new
+    pub led_by_both : (first : ℕ) (old mid new : List ℕ) → length old ≡ count j.history → d ≡ floor → first ≡ max (u + 1) s
+        → IsOffered (IsLaterWay floor first (end_of t u)) floor old mid → IsOffered (IsWayBy links s d left) floor mid new
+        → IsOffered (IsWayOn t s u d cap) floor old new
     led_by_both first old mid new long same highest later then =
         offered_same Either (IsWayOn t s u d cap) floor old new
         (λ v n within way. into v n (omega (arith, within, long)) way)
         (λ v n within way above. inl (go v n (apart v n (omega (arith, within, long)) way)))
-        (offered_then (IsLaterWay floor first (end_of t u)) (IsWayBy links s d left) Either floor old mid new (λ v n way. way) (λ v n way. inl way) (λ v n way. inr way) later then)
+        (offered_then (IsLaterWay floor first (end_of t u)) (IsWayBy links s d left) Either floor old mid new (λ v n way. way) (λ v n way. inl way)
+        (λ v n way. inr way) later then)
       where
         Either : ℕ → ℕ → Type 0
         Either v n = IsLaterWay floor first (end_of t u) v n ⊎ IsWayBy links s d left v n
@@ -83,6 +90,7 @@ module _ (j : Judged) (t : Tables) (s u d cap left floor : ℕ) (priced : IsPric
             (omega (arith, up, highest), 1, (links_of j t priced u v 1 from to).1 (inl (is_later, refl)), omega (arith, low), omega (arith, equal, same))
         into v n to (inr way) = by_link v n to way
 
-        go : (v n : ℕ) → ((s ≤ v) × IsLater t u v × (d + 1 ≡ n)) ⊎ IsWayBy links s d left v n → IsLaterWay floor first (end_of t u) v n ⊎ IsWayBy links s d left v n
+        go : (v n : ℕ) → ((s ≤ v) × IsLater t u v × (d + 1 ≡ n)) ⊎ IsWayBy links s d left v n
+            → IsLaterWay floor first (end_of t u) v n ⊎ IsWayBy links s d left v n
         go v n (inl (up, is_later, equal)) = inl (omega (arith, up, highest, is_later.0), is_later.1, omega (arith, equal, same))
         go v n (inr way) = inr way

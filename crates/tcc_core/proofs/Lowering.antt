@@ -1,5 +1,6 @@
 -- Caps and limits, and how many a row has.
-use Rattle.std.proofs.Common.{◌≡◌, ◌≢◌, ◌<◌, ◌≤◌, ◌+◌, ◌==◌, ℕ, zero, suc, true, false, ◌⊎◌, inl, inr, List, [], ◌∷◌, length, Option, None, Some, set, refl, ap, arith}
+use Rattle.std.proofs.Common.{◌≡◌, ◌≢◌, ◌<◌, ◌≤◌, ◌+◌, ◌==◌, ℕ, zero, suc, true, false, ◌⊎◌, inl}
+use Rattle.std.proofs.Common.{inr, List, [], ◌∷◌, length, Option, None, Some, set, refl, ap, arith}
 use Rattle.std.proofs.Math.ListN.{get_or-eq_default}
 use Rattle.std.proofs.lemmas.Bool.{cases_lt, cond_both}
 use Rattle.std.proofs.lemmas.Bool.Decides.{eqb_tells}
@@ -15,7 +16,8 @@ within_cap cap d low = cond_both (cap == 18446744073709551615) None (Some cap) (
 pub capped_low : (cap m n : ℕ) → m ≤ n → m ≤ NO_WAY → IsWithin (cap_of cap) n → m ≤ cap
 capped_low cap m n low few = go (eqb_tells cap 18446744073709551615)
   where
-    go : (((cap == 18446744073709551615) ≡ true) × (cap ≡ 18446744073709551615)) ⊎ (((cap == 18446744073709551615) ≡ false) × (cap ≢ 18446744073709551615)) → IsWithin (cap_of cap) n → m ≤ cap
+    go : (((cap == 18446744073709551615) ≡ true) × (cap ≡ 18446744073709551615)) ⊎ (((cap == 18446744073709551615) ≡ false) × (cap ≢ 18446744073709551615))
+        → IsWithin (cap_of cap) n → m ≤ cap
     go (inl (test, same)) within = omega (arith, same, few)
     go (inr (test, other)) within = let under : n ≤ cap = rw test at within in omega (arith, under, low)
 
@@ -23,7 +25,9 @@ capped_low cap m n low few = go (eqb_tells cap 18446744073709551615)
 pub within_down : (cap limit m n : ℕ) → m ≤ n → cap ≤ limit → limit ≤ 18446744073709551615 → IsWithin (cap_of cap) n → IsWithin (cap_of limit) m
 within_down cap limit m n low up most = go (eqb_tells cap 18446744073709551615) (eqb_tells limit 18446744073709551615)
   where
-    go : (((cap == 18446744073709551615) ≡ true) × (cap ≡ 18446744073709551615)) ⊎ (((cap == 18446744073709551615) ≡ false) × (cap ≢ 18446744073709551615)) → (((limit == 18446744073709551615) ≡ true) × (limit ≡ 18446744073709551615)) ⊎ (((limit == 18446744073709551615) ≡ false) × (limit ≢ 18446744073709551615)) → IsWithin (cap_of cap) n → IsWithin (cap_of limit) m
+    go : (((cap == 18446744073709551615) ≡ true) × (cap ≡ 18446744073709551615)) ⊎ (((cap == 18446744073709551615) ≡ false) × (cap ≢ 18446744073709551615))
+        → (((limit == 18446744073709551615) ≡ true) × (limit ≡ 18446744073709551615))
+        ⊎ (((limit == 18446744073709551615) ≡ false) × (limit ≢ 18446744073709551615)) → IsWithin (cap_of cap) n → IsWithin (cap_of limit) m
     go any (inl (check, none)) within = rw check tt
     go (inl (test, same)) (inr (check, some)) within = absurd (some (omega (arith, same, up, most)))
     go (inr (test, other)) (inr (check, some)) within = let under : n ≤ cap = rw test at within in within_cap limit m (omega (arith, under, low, up))

@@ -7,13 +7,15 @@ use Rattle.tcc_txn.specs.declared.limits.TheConstants.{MAX_COUNT}
 use Rattle.tcc_core.specs.declared.leading.TheConstants.{UNMARKED}
 use Rattle.tcc_core.specs.declared.queue.TheConstants.{NO_WAY}
 
-pub marked_none : (floor : ℕ) (costs marks : List ℕ) → length marks ≡ length costs → ((v : ℕ) → v < length costs → v < slice_index marks v) → IsMarked floor costs marks
+pub marked_none : (floor : ℕ) (costs marks : List ℕ) → length marks ≡ length costs → ((v : ℕ) → v < length costs → v < slice_index marks v)
+    → IsMarked floor costs marks
 marked_none floor costs marks long none = record {
   long = long;
   each = λ last v inside from to. absurd (omega (arith, none last inside));
 }
 
-pub marked_settled : (floor : ℕ) (costs marks : List ℕ) (v : ℕ) → IsMarked floor costs marks → v < length costs → floor ≤ slice_index costs v → IsMarked (slice_index costs v) (set costs v 0) marks
+pub marked_settled : (floor : ℕ) (costs marks : List ℕ) (v : ℕ) → IsMarked floor costs marks → v < length costs → floor ≤ slice_index costs v
+    → IsMarked (slice_index costs v) (set costs v 0) marks
 marked_settled floor costs marks v is within up = record {
   long = is.long ∙ sym (length-set costs v 0);
   each = λ last u inside from to. each u (is.each last u (omega (arith, length-set costs v 0)) from to) (cases_eq u v);
@@ -24,7 +26,8 @@ marked_settled floor costs marks v is within up = record {
     each u low (inr other) = omega (arith, get_or-set_other costs v u 0 0 other)
 
 -- what has a mark in front of it was reached
-pub marked_reached : (floor : ℕ) (costs marks : List ℕ) (v : ℕ) → IsMarked floor costs marks → floor < 2147483648 → v < length costs → slice_index marks v ≤ v → slice_index costs v ≢ NO_WAY
+pub marked_reached : (floor : ℕ) (costs marks : List ℕ) (v : ℕ) → IsMarked floor costs marks → floor < 2147483648 → v < length costs
+    → slice_index marks v ≤ v → slice_index costs v ≢ NO_WAY
 marked_reached floor costs marks v is small within marked e = omega (arith, is.each v v within marked (omega arith))
 
 -- ---- the transactions of a session from one place to before another, each at one more than the floor
@@ -34,7 +37,8 @@ IsLaterWay floor from end v n = (from ≤ v) × (v < end) × (floor + 1 ≡ n)
 
 -- ---- all marks away
 
-pub unmarked_all : (floor : ℕ) (costs marks marks' new : List ℕ) → IsMarked floor costs marks → floor < 2147483648 → length costs ≤ MAX_COUNT → length marks' ≡ length marks → length new ≡ length costs
+pub unmarked_all : (floor : ℕ) (costs marks marks' new : List ℕ) → IsMarked floor costs marks → floor < 2147483648 → length costs ≤ MAX_COUNT
+    → length marks' ≡ length marks → length new ≡ length costs
     → ((v : ℕ) → v < length marks → slice_index costs v ≢ NO_WAY → slice_index marks' v ≡ UNMARKED)
     → ((v : ℕ) → v < length marks → (slice_index marks' v ≡ slice_index marks v) ⊎ (slice_index marks' v ≡ UNMARKED))
     → IsMarked 0 new marks'

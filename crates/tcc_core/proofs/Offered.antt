@@ -1,6 +1,8 @@
 -- Costs after ways were offered, one by one and together.
 use Rattle.std.specs.List.{AllPairs}
-use Rattle.std.proofs.Common.{◌≡◌, ◌≢◌, ◌<◌, ◌≤◌, ◌+◌, ◌-◌, ◌&&◌, ℕ, zero, suc, [], ◌∷◌, get_or, ap, ◌⊎◌, inl, inr, true, false, Bool, cond, nat_lt, List, length, length-set, slice_index, slice_set, refl, sym, ◌∙◌, subst, arith}
+use Rattle.std.proofs.Common.{◌≡◌, ◌≢◌, ◌<◌, ◌≤◌, ◌+◌, ◌-◌, ◌&&◌, ℕ, zero, suc, [], ◌∷◌, get_or, ap, ◌⊎◌, inl, inr, true}
+use Rattle.std.proofs.Common.{false, Bool, cond, nat_lt, List, length, length-set, slice_index, slice_set, refl, sym, ◌∙◌}
+use Rattle.std.proofs.Common.{subst, arith}
 use Rattle.std.proofs.lemmas.Bool.{cases_lt, cases_eq, ltb-true, ltb-false}
 use Rattle.std.proofs.lemmas.List.{get_or-set_same, get_or-set_other}
 use Rattle.tcc_core.specs.Queues.{offered}
@@ -15,7 +17,8 @@ lower_same floor costs = record { long = refl; each = λ v within. inl refl }
 pub lower_least : (floor : ℕ) (old new : List ℕ) (v : ℕ) → IsLower floor old new → v < length old → slice_index new v ≤ slice_index old v
 lower_least floor old new v is within = go (is.each v within)
   where
-    go : (slice_index new v ≡ slice_index old v) ⊎ ((floor < slice_index new v) × (slice_index new v ≤ slice_index old v)) → slice_index new v ≤ slice_index old v
+    go : (slice_index new v ≡ slice_index old v) ⊎ ((floor < slice_index new v) × (slice_index new v ≤ slice_index old v))
+        → slice_index new v ≤ slice_index old v
     go (inl same) = omega (arith, same)
     go (inr less) = less.1
 
@@ -33,13 +36,15 @@ lower_then floor old mid new first then = record {
   each = λ v within. go v within (then.each v (omega (arith, first.long)));
 }
   where
-    go : (v : ℕ) → v < length old → (slice_index new v ≡ slice_index mid v) ⊎ ((floor < slice_index new v) × (slice_index new v ≤ slice_index mid v)) → (slice_index new v ≡ slice_index old v) ⊎ ((floor < slice_index new v) × (slice_index new v ≤ slice_index old v))
+    go : (v : ℕ) → v < length old → (slice_index new v ≡ slice_index mid v) ⊎ ((floor < slice_index new v) × (slice_index new v ≤ slice_index mid v))
+        → (slice_index new v ≡ slice_index old v) ⊎ ((floor < slice_index new v) × (slice_index new v ≤ slice_index old v))
     go v within (inl same) = rw same (first.each v within)
     go v within (inr (above, less)) = inr (above, omega (arith, less, lower_least floor old mid v first within))
 
 -- ---- offers together
 
-pub offered_none : (IsOne : ℕ → ℕ → Type 0) (floor : ℕ) (costs : List ℕ) → ((v n : ℕ) → v < length costs → IsOne v n → floor < n → slice_index costs v ≤ n) → IsOffered IsOne floor costs costs
+pub offered_none : (IsOne : ℕ → ℕ → Type 0) (floor : ℕ) (costs : List ℕ) → ((v n : ℕ) → v < length costs → IsOne v n → floor < n → slice_index costs v ≤ n)
+    → IsOffered IsOne floor costs costs
 offered_none IsOne floor costs known = record {
   lower = lower_same floor costs;
   least = known;
@@ -47,7 +52,8 @@ offered_none IsOne floor costs known = record {
 }
 
 -- those of one kind after those of another
-pub offered_then : (First Then Both : ℕ → ℕ → Type 0) (floor : ℕ) (old mid new : List ℕ) → ((v n : ℕ) → Both v n → First v n ⊎ Then v n) → ((v n : ℕ) → First v n → Both v n) → ((v n : ℕ) → Then v n → Both v n)
+pub offered_then : (First Then Both : ℕ → ℕ → Type 0) (floor : ℕ) (old mid new : List ℕ) → ((v n : ℕ) → Both v n → First v n ⊎ Then v n)
+    → ((v n : ℕ) → First v n → Both v n) → ((v n : ℕ) → Then v n → Both v n)
     → IsOffered First floor old mid → IsOffered Then floor mid new → IsOffered Both floor old new
 offered_then First Then Both floor old mid new split one other first then = record {
   lower = lower_then floor old mid new first.lower then.lower;
@@ -59,13 +65,15 @@ offered_then First Then Both floor old mid new split one other first then = reco
     least v n within above (inl is) = omega (arith, first.least v n within is above, lower_least floor mid new v then.lower (omega (arith, first.lower.long)))
     least v n within above (inr is) = then.least v n (omega (arith, first.lower.long)) is above
 
-    from : (v : ℕ) → (slice_index new v ≡ slice_index mid v) ⊎ Then v (slice_index new v) → (slice_index mid v ≡ slice_index old v) ⊎ First v (slice_index mid v) → (slice_index new v ≡ slice_index old v) ⊎ Both v (slice_index new v)
+    from : (v : ℕ) → (slice_index new v ≡ slice_index mid v) ⊎ Then v (slice_index new v)
+        → (slice_index mid v ≡ slice_index old v) ⊎ First v (slice_index mid v) → (slice_index new v ≡ slice_index old v) ⊎ Both v (slice_index new v)
     from v (inr is) any = inr (other v (slice_index new v) is)
     from v (inl same) (inl kept) = inl (same ∙ kept)
     from v (inl same) (inr is) = inr (one v (slice_index new v) (subst (λ (n : ℕ). First v n) (sym same) is))
 
 -- the same offers in other words
-pub offered_same : (One Other : ℕ → ℕ → Type 0) (floor : ℕ) (old new : List ℕ) → ((v n : ℕ) → v < length old → One v n → Other v n) → ((v n : ℕ) → v < length old → Other v n → floor < n → One v n ⊎ (slice_index old v ≤ n)) → IsOffered One floor old new → IsOffered Other floor old new
+pub offered_same : (One Other : ℕ → ℕ → Type 0) (floor : ℕ) (old new : List ℕ) → ((v n : ℕ) → v < length old → One v n → Other v n)
+    → ((v n : ℕ) → v < length old → Other v n → floor < n → One v n ⊎ (slice_index old v ≤ n)) → IsOffered One floor old new → IsOffered Other floor old new
 offered_same One Other floor old new into back is = record {
   lower = is.lower;
   least = λ v n within other above. least v n within above (back v n within other above);
@@ -76,7 +84,8 @@ offered_same One Other floor old new into back is = record {
     least v n within above (inl one) = is.least v n within one above
     least v n within above (inr low) = omega (arith, low, lower_least floor old new v is.lower within)
 
-    from : (v : ℕ) → v < length old → (slice_index new v ≡ slice_index old v) ⊎ One v (slice_index new v) → (slice_index new v ≡ slice_index old v) ⊎ Other v (slice_index new v)
+    from : (v : ℕ) → v < length old → (slice_index new v ≡ slice_index old v) ⊎ One v (slice_index new v)
+        → (slice_index new v ≡ slice_index old v) ⊎ Other v (slice_index new v)
     from v within (inl same) = inl same
     from v within (inr one) = inr (into v (slice_index new v) within one)
 
@@ -92,7 +101,8 @@ record IsTaken (floor : ℕ) (costs new : List ℕ) (v n : ℕ) : Type 0 where
 taken : (floor : ℕ) (costs : List ℕ) (v n : ℕ) → v < length costs → n < floor + BUCKETS → IsTaken floor costs (offered floor costs v n) v n
 taken floor costs v n within window = go (nat_lt floor n) refl (nat_lt (n - floor) BUCKETS) refl (nat_lt n (slice_index costs v)) refl
   where
-    go : (a : Bool) → nat_lt floor n ≡ a → (b : Bool) → nat_lt (n - floor) BUCKETS ≡ b → (c : Bool) → nat_lt n (slice_index costs v) ≡ c → IsTaken floor costs (cond (a && (b && c)) (slice_set costs v n) costs) v n
+    go : (a : Bool) → nat_lt floor n ≡ a → (b : Bool) → nat_lt (n - floor) BUCKETS ≡ b → (c : Bool) → nat_lt n (slice_index costs v) ≡ c
+        → IsTaken floor costs (cond (a && (b && c)) (slice_set costs v n) costs) v n
     go true above true near true less = record {
       long = length-set costs v n;
       other = λ u apart. get_or-set_other costs v u n 0 apart;
@@ -103,7 +113,8 @@ taken floor costs v n within window = go (nat_lt floor n) refl (nat_lt (n - floo
     go true above false far c any = absurd (omega (arith, ltb-true floor n above, ltb-false (n - floor) BUCKETS far))
     go false below b any c also = record { long = refl; other = λ u apart. refl; here = inl refl; low = λ up. absurd (omega (arith, ltb-false floor n below)) }
 
-pub offered_one : (floor : ℕ) (costs : List ℕ) (v n : ℕ) → v < length costs → n < floor + BUCKETS → IsOffered (λ u m. (u ≡ v) × (n ≡ m)) floor costs (offered floor costs v n)
+pub offered_one : (floor : ℕ) (costs : List ℕ) (v n : ℕ) → v < length costs → n < floor + BUCKETS
+    → IsOffered (λ u m. (u ≡ v) × (n ≡ m)) floor costs (offered floor costs v n)
 offered_one floor costs v n within window = record {
   lower = record { long = is.long; each = λ u inside. lower u (cases_eq u v) };
   least = λ u m inside (same, equal) above. rw same (omega (arith, is.low (omega (arith, equal)), equal));
@@ -116,15 +127,18 @@ offered_one floor costs v n within window = record {
     is : IsTaken floor costs new v n
     is = taken floor costs v n within window
 
-    here : (slice_index new v ≡ slice_index costs v) ⊎ ((floor < n) × (n < slice_index costs v) × (slice_index new v ≡ n)) → (slice_index new v ≡ slice_index costs v) ⊎ ((floor < slice_index new v) × (slice_index new v ≤ slice_index costs v))
+    here : (slice_index new v ≡ slice_index costs v) ⊎ ((floor < n) × (n < slice_index costs v) × (slice_index new v ≡ n))
+        → (slice_index new v ≡ slice_index costs v) ⊎ ((floor < slice_index new v) × (slice_index new v ≤ slice_index costs v))
     here (inl same) = inl same
     here (inr (above, less, equal)) = inr (omega (arith, equal), omega (arith, equal))
 
-    lower : (u : ℕ) → (u ≡ v) ⊎ (u ≡ v → ⊥) → (slice_index new u ≡ slice_index costs u) ⊎ ((floor < slice_index new u) × (slice_index new u ≤ slice_index costs u))
+    lower : (u : ℕ) → (u ≡ v) ⊎ (u ≡ v → ⊥) → (slice_index new u ≡ slice_index costs u)
+        ⊎ ((floor < slice_index new u) × (slice_index new u ≤ slice_index costs u))
     lower u (inl same) = rw same (here is.here)
     lower u (inr other) = inl (is.other u other)
 
-    there : (u : ℕ) → u ≡ v → (slice_index new v ≡ slice_index costs v) ⊎ ((floor < n) × (n < slice_index costs v) × (slice_index new v ≡ n)) → (slice_index new u ≡ slice_index costs u) ⊎ ((u ≡ v) × (n ≡ slice_index new u))
+    there : (u : ℕ) → u ≡ v → (slice_index new v ≡ slice_index costs v) ⊎ ((floor < n) × (n < slice_index costs v) × (slice_index new v ≡ n))
+        → (slice_index new u ≡ slice_index costs u) ⊎ ((u ≡ v) × (n ≡ slice_index new u))
     there u same (inl kept) = inl (rw same kept)
     there u same (inr (above, less, equal)) = inr (same, rw same (sym equal))
 
@@ -150,7 +164,8 @@ module _ (links : List (ℕ × ℕ)) (s d left floor : ℕ) where
   pub upto_none : (costs : List ℕ) → IsOffered (IsWayUpTo links 0 s d left) floor costs costs
   upto_none costs = offered_none (IsWayUpTo links 0 s d left) floor costs (λ v n within (up, i, low, to, few, equal) above. absurd (omega (arith, low)))
 
-  pub upto_next : (k : ℕ) (old mid new : List ℕ) → s ≤ (at links k).0 → (at links k).1 ≤ left → IsOffered (IsWayUpTo links k s d left) floor old mid → IsOffered (λ u m. (u ≡ (at links k).0) × (d + (at links k).1 ≡ m)) floor mid new → IsOffered (IsWayUpTo links (k + 1) s d left) floor old new
+  pub upto_next : (k : ℕ) (old mid new : List ℕ) → s ≤ (at links k).0 → (at links k).1 ≤ left → IsOffered (IsWayUpTo links k s d left) floor old mid
+      → IsOffered (λ u m. (u ≡ (at links k).0) × (d + (at links k).1 ≡ m)) floor mid new → IsOffered (IsWayUpTo links (k + 1) s d left) floor old new
   upto_next k old mid new from few first then =
       offered_then (IsWayUpTo links k s d left) (λ u m. (u ≡ (at links k).0) × (d + (at links k).1 ≡ m)) (IsWayUpTo links (k + 1) s d left) floor old mid new
       (λ v n (up, i, low, to, cheap, equal). split v n i up low to cheap equal (cases_eq i k))
@@ -158,30 +173,35 @@ module _ (links : List (ℕ × ℕ)) (s d left floor : ℕ) where
       (λ v n (same, equal). (omega (arith, same, from), k, omega arith, sym same, few, equal))
       first then
     where
-      split : (v n i : ℕ) → s ≤ v → i < k + 1 → (at links i).0 ≡ v → (at links i).1 ≤ left → d + (at links i).1 ≡ n → (i ≡ k) ⊎ (i ≡ k → ⊥) → IsWayUpTo links k s d left v n ⊎ ((v ≡ (at links k).0) × (d + (at links k).1 ≡ n))
+      split : (v n i : ℕ) → s ≤ v → i < k + 1 → (at links i).0 ≡ v → (at links i).1 ≤ left → d + (at links i).1 ≡ n → (i ≡ k) ⊎ (i ≡ k → ⊥)
+          → IsWayUpTo links k s d left v n ⊎ ((v ≡ (at links k).0) × (d + (at links k).1 ≡ n))
       split v n i up low to cheap equal (inr other) = inl (up, i, omega (arith, low, other), to, cheap, equal)
       split v n i up low to cheap equal (inl same) =
           let there : (at links k).0 ≡ v = rw same at to in
           inr (sym there, rw same at equal)
 
-  pub upto_past : (k : ℕ) (old new : List ℕ) → ((at links k).0 < s) ⊎ (left < (at links k).1) → IsOffered (IsWayUpTo links k s d left) floor old new → IsOffered (IsWayUpTo links (k + 1) s d left) floor old new
+  pub upto_past : (k : ℕ) (old new : List ℕ) → ((at links k).0 < s) ⊎ (left < (at links k).1) → IsOffered (IsWayUpTo links k s d left) floor old new
+      → IsOffered (IsWayUpTo links (k + 1) s d left) floor old new
   upto_past k old new out is =
       offered_same (IsWayUpTo links k s d left) (IsWayUpTo links (k + 1) s d left) floor old new
       (λ v n within (up, i, low, to, cheap, equal). (up, i, omega (arith, low), to, cheap, equal))
       (λ v n within (up, i, low, to, cheap, equal) above. inl (less v n i up low to cheap equal (cases_eq i k) out))
       is
     where
-      less : (v n i : ℕ) → s ≤ v → i < k + 1 → (at links i).0 ≡ v → (at links i).1 ≤ left → d + (at links i).1 ≡ n → (i ≡ k) ⊎ (i ≡ k → ⊥) → ((at links k).0 < s) ⊎ (left < (at links k).1) → IsWayUpTo links k s d left v n
+      less : (v n i : ℕ) → s ≤ v → i < k + 1 → (at links i).0 ≡ v → (at links i).1 ≤ left → d + (at links i).1 ≡ n → (i ≡ k) ⊎ (i ≡ k → ⊥)
+          → ((at links k).0 < s) ⊎ (left < (at links k).1) → IsWayUpTo links k s d left v n
       less v n i up low to cheap equal (inr other) any = (up, i, omega (arith, low, other), to, cheap, equal)
       less v n i up low to cheap equal (inl same) (inl below) = let there : (at links k).0 ≡ v = rw same at to in absurd (omega (arith, there, below, up))
       less v n i up low to cheap equal (inl same) (inr dear) = let there : (at links k).1 ≤ left = rw same at cheap in absurd (omega (arith, there, dear))
 
   -- each of those behind costs more
-  pub upto_all : (k : ℕ) (old new : List ℕ) → k ≤ length links → ((i : ℕ) → k ≤ i → i < length links → left < (at links i).1) → IsOffered (IsWayUpTo links k s d left) floor old new → IsOffered (IsWayBy links s d left) floor old new
+  pub upto_all : (k : ℕ) (old new : List ℕ) → k ≤ length links → ((i : ℕ) → k ≤ i → i < length links → left < (at links i).1)
+      → IsOffered (IsWayUpTo links k s d left) floor old new → IsOffered (IsWayBy links s d left) floor old new
   upto_all k old new few dear is =
       offered_same (IsWayUpTo links k s d left) (IsWayBy links s d left) floor old new
       (λ v n within (up, i, low, to, cheap, equal). (up, (at links i).1, (i, omega (arith, low, few), there v i (omega (arith, low, few)) to), cheap, equal))
-      (λ v n within (up, c, (i, low, e), cheap, equal) above. inl (back v n c i up low (sym (same_at links i (v, c) (0, 0) low) ∙ e) cheap equal (cases_lt i k)))
+      (λ v n within (up, c, (i, low, e), cheap, equal) above. inl
+      (back v n c i up low (sym (same_at links i (v, c) (0, 0) low) ∙ e) cheap equal (cases_lt i k)))
       is
     where
       there : (v i : ℕ) → i < length links → (at links i).0 ≡ v → get_or links i (v, (at links i).1) ≡ (v, (at links i).1)

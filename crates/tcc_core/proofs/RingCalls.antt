@@ -1,5 +1,7 @@
 -- What the calls leave is a ring again, and what a ring says of its ends.
-use Rattle.std.proofs.Common.{◌≡◌, ◌≢◌, ◌<◌, ◌≤◌, ◌+◌, ◌==◌, ◌⊎◌, ℕ, zero, suc, inl, inr, cond, List, length, set, length-set, slice_index, refl, sym, ◌∙◌, ap, arith, eq-eqb}
+use Rattle.std.proofs.Common.{◌≡◌, ◌≢◌, ◌<◌, ◌≤◌, ◌+◌, ◌==◌, ◌⊎◌, ℕ, zero, suc, inl, inr, cond}
+use Rattle.std.proofs.Common.{List, length, set, length-set, slice_index, refl, sym, ◌∙◌, ap, arith}
+use Rattle.std.proofs.Common.eq-eqb
 use Rattle.std.proofs.lemmas.Bool.{cases_lt, ne_eqb}
 use Rattle.std.proofs.lemmas.List.{get_or-set_same, get_or-set_other}
 use Rattle.tcc_core.specs.RingLinks.{home, IsPaired, IsRing}
@@ -51,7 +53,8 @@ module _ (size : ℕ) (next prev bucket : List ℕ) (ring : IsRing size next pre
   -- from what stands, the steps onward lead to the end of the bucket
   leads_back : (b k x : ℕ) → b < size → length bucket ≤ slice_index next (length bucket + b) → ring.rank x < k → x < length bucket → home bucket x ≡ b → ⊥
   leads_back b zero x within empty low below at = absurd (omega arith)
-  leads_back b (suc k) x within empty low below at = go (ring.falls x below (omega arith)) (cases_lt (slice_index next x) (length bucket)) (leads_back b k (slice_index next x) within empty)
+  leads_back b (suc k) x within empty low below at =
+      go (ring.falls x below (omega arith)) (cases_lt (slice_index next x) (length bucket)) (leads_back b k (slice_index next x) within empty)
     where
       y : ℕ
       y = slice_index next x
@@ -70,7 +73,8 @@ module _ (size : ℕ) (next prev bucket : List ℕ) (ring : IsRing size next pre
           let same : x ≡ e = sym x_prev ∙ (ap (slice_index prev) (y_end ∙ sym first) ∙ e_prev) in
           omega arith
 
-      go : (length bucket ≤ y) ⊎ (ring.rank y < ring.rank x) → (y < length bucket) ⊎ (length bucket ≤ y) → (ring.rank y < k → y < length bucket → home bucket y ≡ b → ⊥) → ⊥
+      go : (length bucket ≤ y) ⊎ (ring.rank y < ring.rank x) → (y < length bucket) ⊎ (length bucket ≤ y)
+          → (ring.rank y < k → y < length bucket → home bucket y ≡ b → ⊥) → ⊥
       go _ (inr past) again = end past
       go (inl past) (inl low_y) again = absurd (omega arith)
       go (inr less) (inl low_y) again = again (omega arith) low_y y_home
@@ -89,7 +93,9 @@ module _ (size : ℕ) (next prev bucket : List ℕ) (ring : IsRing size next pre
     onward = put_paired size v b s h _ _ _ _ _ _ ring.onward homes nexts prevs v_out within s_home refl;
     back = put_paired size v b h s _ _ _ _ _ _ ring.back homes prevs nexts v_out within h_home h_prev;
     rank = raised ring.rank v (ring.rank h + 1);
-    falls = rw long (put_falls (length bucket) size v b s h _ _ _ _ _ _ _ ring.onward homes nexts (raised_off ring.rank v (ring.rank h + 1)) v_out within s_home refl (omega arith) ring.falls);
+    falls =
+        rw long (put_falls (length bucket) size v b s h _ _ _ _ _ _ _ ring.onward homes nexts
+        (raised_off ring.rank v (ring.rank h + 1)) v_out within s_home refl (omega arith) ring.falls);
   }
     where
       s : ℕ
@@ -174,7 +180,8 @@ module _ (size : ℕ) (next prev bucket : List ℕ) (ring : IsRing size next pre
       prevs = one_off prev n p (omega (arith, ring.prev_long, next_inside v v_home))
 
 -- ---- no number anywhere
-pub ring_empty : (size : ℕ) (next prev bucket : List ℕ) → length next ≡ length bucket + size → length prev ≡ length bucket + size → length bucket + size < 4294967295
+pub ring_empty : (size : ℕ) (next prev bucket : List ℕ) → length next ≡ length bucket + size → length prev ≡ length bucket + size
+    → length bucket + size < 4294967295
     → ((v : ℕ) → v < length bucket → slice_index bucket v ≡ 4294967295)
     → ((s : ℕ) → length bucket ≤ s → s < length next → slice_index next s ≡ s) → ((s : ℕ) → length bucket ≤ s → s < length prev → slice_index prev s ≡ s)
     → IsRing size next prev bucket
@@ -195,7 +202,8 @@ ring_empty size next prev bucket next_long prev_long few none next_ends prev_end
         go (inl below) = absurd (omega (arith, home_number bucket x below, none x below))
         go (inr up) = up
 
-    paired : (N P : ℕ → ℕ) → ((s : ℕ) → length bucket ≤ s → s < length bucket + size → N s ≡ s) → ((s : ℕ) → length bucket ≤ s → s < length bucket + size → P s ≡ s) → IsPaired size N P (home bucket)
+    paired : (N P : ℕ → ℕ) → ((s : ℕ) → length bucket ≤ s → s < length bucket + size → N s ≡ s)
+        → ((s : ℕ) → length bucket ≤ s → s < length bucket + size → P s ≡ s) → IsPaired size N P (home bucket)
     paired N P n_ends p_ends = record {
       same = λ x stands. ap (home bucket) (n_ends x (past x stands) (home_inside bucket size x stands));
       back = λ x stands. ap P (n_ends x (past x stands) (home_inside bucket size x stands)) ∙ p_ends x (past x stands) (home_inside bucket size x stands);

@@ -1,5 +1,6 @@
 -- The least cost of a cycle that a walk makes, or a walk and one derived link back.
-use Rattle.std.proofs.Common.{◌≡◌, ◌≢◌, ◌<◌, ◌≤◌, ◌+◌, ◌==◌, ℕ, ◌⊎◌, inl, inr, true, false, List, [], ◌∷◌, ◌++◌, length, min, get_or, refl, sym, ◌∙◌, subst, arith}
+use Rattle.std.proofs.Common.{◌≡◌, ◌≢◌, ◌<◌, ◌≤◌, ◌+◌, ◌==◌, ℕ, ◌⊎◌, inl, inr, true, false, List}
+use Rattle.std.proofs.Common.{[], ◌∷◌, ◌++◌, length, min, get_or, refl, sym, ◌∙◌, subst, arith}
 use Rattle.std.proofs.Math.Nat.{min-le_left, min-le_right, min-eq_left, min-eq_right}
 use Rattle.std.proofs.lemmas.Bool.{cases_lt, ne_eqb}
 use Rattle.std.proofs.lemmas.Bool.Decides.{eqb_tells}
@@ -37,7 +38,8 @@ min_cases p q = go (cases_lt p q)
     go (inr more) = inr (min-eq_right more)
 
 -- what two regions have together
-pub of_both : (In More Out : ℕ → ℕ → Type 0) (at : ℕ → ℕ → ℕ) (p q : ℕ) → IsLeastOf In at p → IsLeastOf More at q → ((x y : ℕ) → In x y → Out x y) → ((x y : ℕ) → More x y → Out x y) → ((x y : ℕ) → Out x y → In x y ⊎ More x y) → IsLeastOf Out at (min p q)
+pub of_both : (In More Out : ℕ → ℕ → Type 0) (at : ℕ → ℕ → ℕ) (p q : ℕ) → IsLeastOf In at p → IsLeastOf More at q → ((x y : ℕ) → In x y → Out x y)
+    → ((x y : ℕ) → More x y → Out x y) → ((x y : ℕ) → Out x y → In x y ⊎ More x y) → IsLeastOf Out at (min p q)
 of_both In More Out at p q first second from_in from_more split = record {
   attained = λ some. found (min_cases p q) some;
   least = λ x y inside. low x y (split x y inside);
@@ -68,7 +70,8 @@ of_none In at none = record {
   least = λ x y inside. absurd (none x y inside);
 }
 
-pub of_same : (In Out : ℕ → ℕ → Type 0) (at : ℕ → ℕ → ℕ) (p : ℕ) → IsLeastOf In at p → ((x y : ℕ) → In x y → Out x y) → ((x y : ℕ) → Out x y → In x y) → IsLeastOf Out at p
+pub of_same : (In Out : ℕ → ℕ → Type 0) (at : ℕ → ℕ → ℕ) (p : ℕ) → IsLeastOf In at p → ((x y : ℕ) → In x y → Out x y) → ((x y : ℕ) → Out x y → In x y)
+    → IsLeastOf Out at p
 of_same In Out at p is to from = record {
   attained = λ some. let (a, b, inside, here) = is.attained some in (a, b, to a b inside, here);
   least = λ x y inside. is.least x y (from x y inside);
@@ -95,7 +98,8 @@ step_link j (step.Reads a b x) is = (link.Reads a b x, record { from = refl; to 
 same_count : (j k : Judged) (t : Tables) → IsPricesOf j t → IsPricesOf k t → count j.history ≡ count k.history
 same_count j k t one other = sym one.prices.long ∙ other.prices.long
 
-step_path : (j k : Judged) (t : Tables) (s : Step) → IsPricesOf j t → IsPricesOf k t → IsStep j.history s → (l : Link) × IsLinkOf k (step_from s) (step_to s) l × (link_cost l ≡ 1)
+step_path : (j k : Judged) (t : Tables) (s : Step) → IsPricesOf j t → IsPricesOf k t → IsStep j.history s
+    → (l : Link) × IsLinkOf k (step_from s) (step_to s) l × (link_cost l ≡ 1)
 step_path j k t s one other is =
     let ends = step_below j.history s is in
     let (l, leads, single) = step_link j s is in
@@ -104,7 +108,8 @@ step_path j k t s one other is =
     let (m, there, paid) = link_of_cost k t (step_from s) (step_to s) other (omega (arith, same, ends.0)) (omega (arith, same, ends.1)) c has in
     (m, there, omega (arith, paid, low, single, some_cost m))
 
-walk_path : (j k : Judged) (t : Tables) → IsPricesOf j t → IsPricesOf k t → (a b : ℕ) (walk : List Step) → Leads j.history a b walk → HasPath k a b (length walk)
+walk_path : (j k : Judged) (t : Tables) → IsPricesOf j t → IsPricesOf k t → (a b : ℕ) (walk : List Step) → Leads j.history a b walk
+    → HasPath k a b (length walk)
 walk_path j k t one other a b [] leads = ([], leads, refl)
 walk_path j k t one other a b (s ∷ walk) (from, is, rest) =
     let (l, there, single) = step_path j k t s one other is in
@@ -119,33 +124,41 @@ steps_at near a b = get_or (row_of near.rows a) b 0
 abbrev price_in : Tables → ℕ → ℕ → ℕ
 price_in t b a = get_or (row_of t.prices b) a 0
 
-steps_some : (j : Judged) (near : NearTable) (a b : ℕ) → IsNearOf j near → a < count j.history → b < count j.history → steps_at near a b ≢ NONE → IsShortest j a b (steps_at near a b)
+steps_some : (j : Judged) (near : NearTable) (a b : ℕ) → IsNearOf j near → a < count j.history → b < count j.history → steps_at near a b ≢ NONE
+    → IsShortest j a b (steps_at near a b)
 steps_some j near a b is from to some = go (eqb_tells (steps_at near a b) NONE) (is.exact a b from to)
   where
-    go : (((steps_at near a b == NONE) ≡ true) × (steps_at near a b ≡ NONE)) ⊎ (((steps_at near a b == NONE) ≡ false) × (steps_at near a b ≢ NONE)) → IsWalkDistance j a b (least near.rows a b) → IsShortest j a b (steps_at near a b)
+    go : (((steps_at near a b == NONE) ≡ true) × (steps_at near a b ≡ NONE)) ⊎ (((steps_at near a b == NONE) ≡ false) × (steps_at near a b ≢ NONE))
+        → IsWalkDistance j a b (least near.rows a b) → IsShortest j a b (steps_at near a b)
     go (inl (test, same)) w = absurd (some same)
     go (inr (test, other)) w = rw test at w
 
-steps_of_walk : (j : Judged) (near : NearTable) (a b : ℕ) (walk : List Step) → IsNearOf j near → IsAllowedWalk j a b walk → (steps_at near a b ≢ NONE) × (steps_at near a b ≤ length walk)
+steps_of_walk : (j : Judged) (near : NearTable) (a b : ℕ) (walk : List Step) → IsNearOf j near → IsAllowedWalk j a b walk
+    → (steps_at near a b ≢ NONE) × (steps_at near a b ≤ length walk)
 steps_of_walk j near a b walk is allowed =
     let ends = walk_below j.history a b walk allowed.0 in
     go (eqb_tells (steps_at near a b) NONE) (is.exact a b ends.0 ends.1)
   where
-    go : (((steps_at near a b == NONE) ≡ true) × (steps_at near a b ≡ NONE)) ⊎ (((steps_at near a b == NONE) ≡ false) × (steps_at near a b ≢ NONE)) → IsWalkDistance j a b (least near.rows a b) → (steps_at near a b ≢ NONE) × (steps_at near a b ≤ length walk)
+    go : (((steps_at near a b == NONE) ≡ true) × (steps_at near a b ≡ NONE)) ⊎ (((steps_at near a b == NONE) ≡ false) × (steps_at near a b ≢ NONE))
+        → IsWalkDistance j a b (least near.rows a b) → (steps_at near a b ≢ NONE) × (steps_at near a b ≤ length walk)
     go (inl (test, same)) w = let none = rw test at w in absurd (none walk allowed)
     go (inr (test, other)) w = let some = rw test at w in (other, some.least walk allowed)
 
-price_some : (j : Judged) (t : Tables) (b a : ℕ) → IsPricesOf j t → b < count j.history → a < count j.history → price_in t b a ≢ NONE → IsLeastAmong (IsDerived j b a) (price_in t b a)
+price_some : (j : Judged) (t : Tables) (b a : ℕ) → IsPricesOf j t → b < count j.history → a < count j.history → price_in t b a ≢ NONE
+    → IsLeastAmong (IsDerived j b a) (price_in t b a)
 price_some j t b a is from to some = go (eqb_tells (price_in t b a) NONE) (is.priced b a from to)
   where
-    go : (((price_in t b a == NONE) ≡ true) × (price_in t b a ≡ NONE)) ⊎ (((price_in t b a == NONE) ≡ false) × (price_in t b a ≢ NONE)) → IsPrice j b a (price_at t b a) → IsLeastAmong (IsDerived j b a) (price_in t b a)
+    go : (((price_in t b a == NONE) ≡ true) × (price_in t b a ≡ NONE)) ⊎ (((price_in t b a == NONE) ≡ false) × (price_in t b a ≢ NONE))
+        → IsPrice j b a (price_at t b a) → IsLeastAmong (IsDerived j b a) (price_in t b a)
     go (inl (test, same)) w = absurd (some same)
     go (inr (test, other)) w = rw test at w
 
-price_of_derived : (j : Judged) (t : Tables) (b a : ℕ) (l : Link) → IsPricesOf j t → b < count j.history → a < count j.history → IsDerived j b a l → (price_in t b a ≢ NONE) × (price_in t b a ≤ link_cost l)
+price_of_derived : (j : Judged) (t : Tables) (b a : ℕ) (l : Link) → IsPricesOf j t → b < count j.history → a < count j.history → IsDerived j b a l
+    → (price_in t b a ≢ NONE) × (price_in t b a ≤ link_cost l)
 price_of_derived j t b a l is from to derived = go (eqb_tells (price_in t b a) NONE) (is.priced b a from to)
   where
-    go : (((price_in t b a == NONE) ≡ true) × (price_in t b a ≡ NONE)) ⊎ (((price_in t b a == NONE) ≡ false) × (price_in t b a ≢ NONE)) → IsPrice j b a (price_at t b a) → (price_in t b a ≢ NONE) × (price_in t b a ≤ link_cost l)
+    go : (((price_in t b a == NONE) ≡ true) × (price_in t b a ≡ NONE)) ⊎ (((price_in t b a == NONE) ≡ false) × (price_in t b a ≢ NONE))
+        → IsPrice j b a (price_at t b a) → (price_in t b a ≢ NONE) × (price_in t b a ≤ link_cost l)
     go (inl (test, same)) w = let none = rw test at w in absurd (none l derived)
     go (inr (test, other)) w = let some = rw test at w in (other, some.least l derived)
 
@@ -160,10 +173,14 @@ path_back j a b n l (links, lead, paid) leads =
     (links ++ l ∷ [], lead_append j a b a links (l ∷ []) lead (leads.from, leads.link, leads.to), omega (arith, cost_append links (l ∷ []), one_cost l, paid))
 
 -- how the cost comes about
-closing_cases : (steps price a b c : ℕ) → closing steps price a b ≡ c → c ≢ NO_WAY → (steps ≢ NONE) × (((a ≡ b) × (steps ≡ c)) ⊎ ((price ≢ NONE) × (steps + price ≡ c)))
+closing_cases : (steps price a b c : ℕ) → closing steps price a b ≡ c → c ≢ NO_WAY
+    → (steps ≢ NONE) × (((a ≡ b) × (steps ≡ c)) ⊎ ((price ≢ NONE) × (steps + price ≡ c)))
 closing_cases steps price a b c is some = go (eqb_tells steps NONE) (eqb_tells a b) (eqb_tells price NONE)
   where
-    go : (((steps == NONE) ≡ true) × (steps ≡ NONE)) ⊎ (((steps == NONE) ≡ false) × (steps ≢ NONE)) → (((a == b) ≡ true) × (a ≡ b)) ⊎ (((a == b) ≡ false) × (a ≢ b)) → (((price == NONE) ≡ true) × (price ≡ NONE)) ⊎ (((price == NONE) ≡ false) × (price ≢ NONE)) → (steps ≢ NONE) × (((a ≡ b) × (steps ≡ c)) ⊎ ((price ≢ NONE) × (steps + price ≡ c)))
+    go : (((steps == NONE) ≡ true) × (steps ≡ NONE)) ⊎ (((steps == NONE) ≡ false) × (steps ≢ NONE))
+        → (((a == b) ≡ true) × (a ≡ b)) ⊎ (((a == b) ≡ false) × (a ≢ b))
+        → (((price == NONE) ≡ true) × (price ≡ NONE)) ⊎ (((price == NONE) ≡ false) × (price ≢ NONE))
+        → (steps ≢ NONE) × (((a ≡ b) × (steps ≡ c)) ⊎ ((price ≢ NONE) × (steps + price ≡ c)))
     go (inl (test, same)) q r = let e = rw test at is in absurd (some (sym e))
     go (inr (test, other)) (inl (equal, is_a)) r = let e = rw (test, equal) at is in (other, inl (is_a, e))
     go (inr (test, other)) (inr (apart, not_a)) (inl (none, unpaid)) = let e = rw (test, apart, none) at is in absurd (some (sym e))
@@ -182,7 +199,8 @@ closing_back steps price a b some apart paid = rw (ne_eqb steps NONE some, ne_eq
 abbrev Whole : Tables → ℕ → ℕ → Type 0
 Whole t x y = (x < length t.prices) × (y < length t.prices)
 
-pub seed_cycle : (j k : Judged) (near : NearTable) (t : Tables) (c : ℕ) → IsNearOf j near → IsPricesOf j t → IsPricesOf k t → IsLeastOf (Whole t) (closing_at near t) c → c ≢ NO_WAY → IsCycleCost k c
+pub seed_cycle : (j k : Judged) (near : NearTable) (t : Tables) (c : ℕ) → IsNearOf j near → IsPricesOf j t → IsPricesOf k t
+    → IsLeastOf (Whole t) (closing_at near t) c → c ≢ NO_WAY → IsCycleCost k c
 seed_cycle j k near t c is one other found some =
     let (a, b, (from, to), costs) = found.attained some in
     let below : a < count j.history = omega (arith, from, one.prices.long) in
@@ -191,7 +209,8 @@ seed_cycle j k near t c is one other found some =
     let (walk, allowed, long) = (steps_some j near a b is below above stepped).attained in
     go a b walk below above allowed long ways
   where
-    go : (a b : ℕ) (walk : List Step) → a < count j.history → b < count j.history → IsAllowedWalk j a b walk → length walk ≡ steps_at near a b → ((a ≡ b) × (steps_at near a b ≡ c)) ⊎ ((price_in t b a ≢ NONE) × (steps_at near a b + price_in t b a ≡ c)) → IsCycleCost k c
+    go : (a b : ℕ) (walk : List Step) → a < count j.history → b < count j.history → IsAllowedWalk j a b walk → length walk ≡ steps_at near a b
+        → ((a ≡ b) × (steps_at near a b ≡ c)) ⊎ ((price_in t b a ≢ NONE) × (steps_at near a b + price_in t b a ≡ c)) → IsCycleCost k c
     go a b walk below above allowed long (inl (same, paid)) =
         let path = walk_path j k t one other a b walk allowed.0.1 in
         let round : HasPath k a a c = rw (sym paid, sym long) (rw (← same) at path) in
@@ -207,14 +226,16 @@ seed_cycle j k near t c is one other found some =
 apart_of : (j : Judged) (b a : ℕ) (l : Link) → IsDerived j b a l → a ≢ b
 apart_of j b a l (x, c, walk, is, (may, allowed)) = λ e. may.0 (sym e)
 
-low_around : (j : Judged) (near : NearTable) (t : Tables) (c a : ℕ) (walk : List Step) → IsNearOf j near → IsPricesOf j t → IsLeastOf (Whole t) (closing_at near t) c → IsAllowedWalk j a a walk → c ≤ length walk
+low_around : (j : Judged) (near : NearTable) (t : Tables) (c a : ℕ) (walk : List Step) → IsNearOf j near → IsPricesOf j t
+    → IsLeastOf (Whole t) (closing_at near t) c → IsAllowedWalk j a a walk → c ≤ length walk
 low_around j near t c a walk is one found allowed =
     let ends = walk_below j.history a a walk allowed.0 in
     let steps = steps_of_walk j near a a walk is allowed in
     let low = found.least a a (omega (arith, ends.0, one.prices.long), omega (arith, ends.0, one.prices.long)) in
     omega (arith, low, closing_around (steps_at near a a) (price_in t a a) a steps.0, steps.1)
 
-low_back : (j : Judged) (near : NearTable) (t : Tables) (c a b : ℕ) (walk : List Step) (l : Link) → IsNearOf j near → IsPricesOf j t → IsLeastOf (Whole t) (closing_at near t) c → IsAllowedWalk j a b walk → IsDerived j b a l → c ≤ length walk + link_cost l
+low_back : (j : Judged) (near : NearTable) (t : Tables) (c a b : ℕ) (walk : List Step) (l : Link) → IsNearOf j near → IsPricesOf j t
+    → IsLeastOf (Whole t) (closing_at near t) c → IsAllowedWalk j a b walk → IsDerived j b a l → c ≤ length walk + link_cost l
 low_back j near t c a b walk l is one found allowed derived =
     let ends = walk_below j.history a b walk allowed.0 in
     let steps = steps_of_walk j near a b walk is allowed in
@@ -222,7 +243,8 @@ low_back j near t c a b walk l is one found allowed derived =
     let low = found.least a b (omega (arith, ends.0, one.prices.long), omega (arith, ends.1, one.prices.long)) in
     omega (arith, low, closing_back (steps_at near a b) (price_in t b a) a b steps.0 (apart_of j b a l derived) price.0, steps.1, price.1)
 
-pub seed_is : (j : Judged) (near : NearTable) (t : Tables) (c : ℕ) → IsNearOf j near → IsPricesOf j t → IsLeastOf (Whole t) (closing_at near t) c → c ≢ NO_WAY → IsSeed j c
+pub seed_is : (j : Judged) (near : NearTable) (t : Tables) (c : ℕ) → IsNearOf j near → IsPricesOf j t → IsLeastOf (Whole t) (closing_at near t) c
+    → c ≢ NO_WAY → IsSeed j c
 seed_is j near t c is one found some = record {
   cycle = seed_cycle j j near t c is one one found some;
   around = λ a walk allowed. low_around j near t c a walk is one found allowed;
@@ -231,28 +253,41 @@ seed_is j near t c is one found some = record {
 
 -- ---- nothing
 
-few_steps : (j : Judged) (near : NearTable) (a b : ℕ) → IsNearOf j near → a < count j.history → b < count j.history → steps_at near a b ≢ NONE → steps_at near a b ≤ count j.history
+few_steps : (j : Judged) (near : NearTable) (a b : ℕ) → IsNearOf j near → a < count j.history → b < count j.history → steps_at near a b ≢ NONE
+    → steps_at near a b ≤ count j.history
 few_steps j near a b is from to some = is.short a b (steps_at near a b) from to (rw (ne_eqb (steps_at near a b) NONE some) refl)
 
-few_paid : (j : Judged) (t : Tables) (b a : ℕ) → IsPricesOf j t → b < count j.history → a < count j.history → price_in t b a ≢ NONE → price_in t b a ≤ count j.history + 1
+few_paid : (j : Judged) (t : Tables) (b a : ℕ) → IsPricesOf j t → b < count j.history → a < count j.history → price_in t b a ≢ NONE
+    → price_in t b a ≤ count j.history + 1
 few_paid j t b a is from to some = is.few b a (price_in t b a) from to (rw (ne_eqb (price_in t b a) NONE some) refl)
 
-none_around : (j : Judged) (near : NearTable) (t : Tables) (a : ℕ) (walk : List Step) → IsNearOf j near → IsPricesOf j t → length t.prices ≤ MAX_COUNT → IsLeastOf (Whole t) (closing_at near t) NO_WAY → IsAllowedWalk j a a walk → ⊥
+none_around : (j : Judged) (near : NearTable) (t : Tables) (a : ℕ) (walk : List Step) → IsNearOf j near → IsPricesOf j t → length t.prices ≤ MAX_COUNT
+    → IsLeastOf (Whole t) (closing_at near t) NO_WAY → IsAllowedWalk j a a walk → ⊥
 none_around j near t a walk is one few found allowed =
     let ends = walk_below j.history a a walk allowed.0 in
     let steps = steps_of_walk j near a a walk is allowed in
     let low = found.least a a (omega (arith, ends.0, one.prices.long), omega (arith, ends.0, one.prices.long)) in
     omega (arith, low, closing_around (steps_at near a a) (price_in t a a) a steps.0, few_steps j near a a is ends.0 ends.0 steps.0, few, one.prices.long)
 
-none_back : (j : Judged) (near : NearTable) (t : Tables) (a b : ℕ) (walk : List Step) (l : Link) → IsNearOf j near → IsPricesOf j t → length t.prices ≤ MAX_COUNT → IsLeastOf (Whole t) (closing_at near t) NO_WAY → IsAllowedWalk j a b walk → IsDerived j b a l → ⊥
+none_back : (j : Judged) (near : NearTable) (t : Tables) (a b : ℕ) (walk : List Step) (l : Link) → IsNearOf j near → IsPricesOf j t
+    → length t.prices ≤ MAX_COUNT → IsLeastOf (Whole t) (closing_at near t) NO_WAY → IsAllowedWalk j a b walk → IsDerived j b a l → ⊥
 none_back j near t a b walk l is one few found allowed derived =
     let ends = walk_below j.history a b walk allowed.0 in
     let steps = steps_of_walk j near a b walk is allowed in
     let price = price_of_derived j t b a l one ends.1 ends.0 derived in
     let low = found.least a b (omega (arith, ends.0, one.prices.long), omega (arith, ends.1, one.prices.long)) in
-    omega (arith, low, closing_back (steps_at near a b) (price_in t b a) a b steps.0 (apart_of j b a l derived) price.0, few_steps j near a b is ends.0 ends.1 steps.0, few_paid j t b a one ends.1 ends.0 price.0, few, one.prices.long)
+    omega (
+      arith,
+      low,
+      closing_back (steps_at near a b) (price_in t b a) a b steps.0 (apart_of j b a l derived) price.0,
+      few_steps j near a b is ends.0 ends.1 steps.0,
+      few_paid j t b a one ends.1 ends.0 price.0,
+      few,
+      one.prices.long,
+    )
 
-pub no_seed : (j : Judged) (near : NearTable) (t : Tables) → IsNearOf j near → IsPricesOf j t → length t.prices ≤ MAX_COUNT → IsLeastOf (Whole t) (closing_at near t) NO_WAY → HasNoSeed j
+pub no_seed : (j : Judged) (near : NearTable) (t : Tables) → IsNearOf j near → IsPricesOf j t → length t.prices ≤ MAX_COUNT
+    → IsLeastOf (Whole t) (closing_at near t) NO_WAY → HasNoSeed j
 no_seed j near t is one few found = record {
   around = λ a walk allowed. none_around j near t a walk is one few found allowed;
   back = λ a b walk l allowed derived. none_back j near t a b walk l is one few found allowed derived;

@@ -205,7 +205,9 @@ seeded j shares b c settle cycle low = record {
   once = settle.once;
   finished = All-cons (λ share. All (IsFinished j share) share.finished) (seed c) shares (All-nil (IsFinished j (seed c))) settle.finished;
   offered = All-cons (λ share. All (IsCycleCost j) share.offers) (seed c) shares (All-cons (IsCycleCost j) c [] cycle (All-nil (IsCycleCost j))) settle.offered;
-  below_offers = All-cons (λ share. All (λ o. IsNotAbove (Some b) (Some o)) share.offers) (seed c) shares (All-cons (λ o. IsNotAbove (Some b) (Some o)) c [] low (All-nil (λ o. IsNotAbove (Some b) (Some o)))) settle.below_offers;
+  below_offers =
+      All-cons (λ share. All (λ o. IsNotAbove (Some b) (Some o)) share.offers) (seed c) shares
+      (All-cons (λ o. IsNotAbove (Some b) (Some o)) c [] low (All-nil (λ o. IsNotAbove (Some b) (Some o)))) settle.below_offers;
   below_sights = All-cons (λ share. IsNotAbove (Some b) share.sight) (seed c) shares tt settle.below_sights;
   not_below = settle.not_below;
 }
@@ -271,9 +273,16 @@ one_start-settles k = record {
     each = λ a within. (0, omega arith, omega arith);
     once = λ i j low high. absurd (omega arith);
   };
-  finished = All-cons (λ share. All (IsFinished (alone k) share) share.finished) lone_share [] (All-cons (IsFinished (alone k) lone_share) lone_search [] (lone_finished k) (All-nil (IsFinished (alone k) lone_share))) (All-nil (λ share. All (IsFinished (alone k) share) share.finished));
-  offered = All-cons (λ share. All (IsCycleCost (alone k)) share.offers) lone_share [] (All-nil (IsCycleCost (alone k))) (All-nil (λ share. All (IsCycleCost (alone k)) share.offers));
-  below_offers = All-cons (λ share. All (λ c. IsNotAbove None (Some c)) share.offers) lone_share [] (All-nil (λ c. IsNotAbove None (Some c))) (All-nil (λ share. All (λ c. IsNotAbove None (Some c)) share.offers));
+  finished =
+      All-cons (λ share. All (IsFinished (alone k) share) share.finished) lone_share []
+      (All-cons (IsFinished (alone k) lone_share) lone_search [] (lone_finished k) (All-nil (IsFinished (alone k) lone_share)))
+      (All-nil (λ share. All (IsFinished (alone k) share) share.finished));
+  offered =
+      All-cons (λ share. All (IsCycleCost (alone k)) share.offers) lone_share [] (All-nil (IsCycleCost (alone k)))
+      (All-nil (λ share. All (IsCycleCost (alone k)) share.offers));
+  below_offers =
+      All-cons (λ share. All (λ c. IsNotAbove None (Some c)) share.offers) lone_share [] (All-nil (λ c. IsNotAbove None (Some c)))
+      (All-nil (λ share. All (λ c. IsNotAbove None (Some c)) share.offers));
   below_sights = All-cons (λ share. IsNotAbove None share.sight) lone_share [] tt (All-nil (λ share. IsNotAbove None share.sight));
   not_below = tt;
 }

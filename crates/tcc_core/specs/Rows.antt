@@ -15,7 +15,8 @@ in_row row v = slice_index_or row v None
 pub record IsSearchRow (j : Judged) (s : ℕ) (row : List (Option ℕ)) : Type 0 where
   pub long : length row ≡ count j.history
   pub exact : (v : ℕ) (distance : ℕ) → in_row row v ≡ Some distance → IsDistance j s v distance
-  pub closed : (v : ℕ) (u : ℕ) (distance : ℕ) (links : List Link) → in_row row v ≡ Some distance → in_row row u ≡ None → IsUpwardRoute j s u links → distance ≤ cost links
+  pub closed : (v : ℕ) (u : ℕ) (distance : ℕ) (links : List Link) → in_row row v ≡ Some distance → in_row row u ≡ None → IsUpwardRoute j s u links
+      → distance ≤ cost links
 
 -- a place for each of n transactions, and all of them outside
 pub record IsEmptyRow (n : ℕ) (row : List (Option ℕ)) : Type 0 where

@@ -64,7 +64,8 @@ module _ {X : Type 0} (cmp : X → X → Ordering) (S : List X → Type 0) where
     one_picked total [] (y ∷ ys) done p q s t = absurd (ends done y ys t (rw (append-nil done) at s))
     one_picked total (x ∷ xs) [] done p q s t = absurd (ends done x xs s (rw (append-nil done) at t))
     one_picked total (x ∷ xs) (y ∷ ys) done p q s t =
-        go (cmp x y) refl (λ e. one_picked total xs ys (done ++ x ∷ []) p.1 (subst (λ (z : X). Picks (done ++ z ∷ []) ys) (sym e) q.1) (rw append_assoc s) (rw append_assoc (subst (λ (z : X). S (done ++ z ∷ ys)) (sym e) t)))
+        go (cmp x y) refl (λ e. one_picked total xs ys (done ++ x ∷ []) p.1 (subst (λ (z : X). Picks (done ++ z ∷ []) ys) (sym e) q.1) (rw append_assoc s)
+        (rw append_assoc (subst (λ (z : X). S (done ++ z ∷ ys)) (sym e) t)))
       where
         join : x ≡ y → xs ≡ ys → (x ∷ xs) ≡ (y ∷ ys)
         join e f = cc

@@ -1,6 +1,8 @@
 -- What a least cycle costs at most: it begins one link at most at each transaction, and none of its links takes a longer
 -- walk than over all transactions once.
-use Rattle.std.proofs.Common.{ℕ, ◌≡◌, ◌<◌, ◌≤◌, ◌+◌, ◌*◌, ◌⊎◌, inl, inr, List, [], ◌∷◌, ◌++◌, length, All, length-append, append_assoc, refl, sym, ◌∙◌, subst, arith}
+use Rattle.std.proofs.Common.{ℕ, ◌≡◌, ◌<◌, ◌≤◌, ◌+◌, ◌*◌, ◌⊎◌, inl, inr, List, [], ◌∷◌, ◌++◌}
+use Rattle.std.proofs.Common.{length, All, length-append, append_assoc, refl, sym, ◌∙◌, subst}
+use Rattle.std.proofs.Common.arith
 use Rattle.std.specs.List.{AllByRecursion}
 use Rattle.std.proofs.lemmas.List.Elements.{All-nil, All-cons}
 use Rattle.tcc_txn.specs.declared.limits.TheConstants.{MAX_COUNT}
@@ -28,35 +30,49 @@ steps_below h a b [] leads = tt
 steps_below h a b (s ∷ walk) leads = ((step_below h s leads.1).0, steps_below h (step_to s) b walk leads.2)
 
 -- without what lies between two steps that begin at one number
-pub shorter : (h : History) (a b : ℕ) (front : List Step) (one : Step) (middle : List Step) (other : Step) (rest : List Step) → step_from one ≡ step_from other → IsWalk h a b (front ++ one ∷ (middle ++ other ∷ rest)) → IsWalk h a b (front ++ other ∷ rest)
+pub shorter : (h : History) (a b : ℕ) (front : List Step) (one : Step) (middle : List Step) (other : Step) (rest : List Step)
+    → step_from one ≡ step_from other → IsWalk h a b (front ++ one ∷ (middle ++ other ∷ rest)) → IsWalk h a b (front ++ other ∷ rest)
 shorter h a b front one middle other rest same is =
     let (m, before, on) = leads_split h a b front (one ∷ (middle ++ other ∷ rest)) is.1 in
     let (n, between, last) = leads_split h (step_to one) b middle (other ∷ rest) on.2 in
     let long : length (front ++ other ∷ rest) ≡ length front + length (other ∷ rest) = length-append front (other ∷ rest) in
     (omega (arith, long), leads_append h a m b front (other ∷ rest) before (sym same ∙ on.0, last.1, last.2))
 
-few_steps : (h : History) (a b : ℕ) (walk : List Step) → IsWalk h a b walk → ((others : List Step) → IsWalk h a b others → length walk ≤ length others) → length walk ≤ count h
+few_steps : (h : History) (a b : ℕ) (walk : List Step) → IsWalk h a b walk → ((others : List Step) → IsWalk h a b others → length walk ≤ length others)
+    → length walk ≤ count h
 few_steps h a b walk is least = go (few_or_twice step_from (count h) walk (steps_below h a b walk is.1))
   where
     go : (length walk ≤ count h) ⊎ HasTwice step_from always walk → length walk ≤ count h
     go (inl few) = few
     go (inr t) =
-        let low : length walk ≤ length (t.front ++ t.other ∷ t.rest) = least (t.front ++ t.other ∷ t.rest) (shorter h a b t.front t.one t.middle t.other t.rest t.same (subst (λ (w : List Step). IsWalk h a b w) t.split is)) in
+        let low : length walk ≤ length (t.front ++ t.other ∷ t.rest) =
+        least (t.front ++ t.other ∷ t.rest) (shorter h a b t.front t.one t.middle t.other t.rest t.same
+        (subst (λ (w : List Step). IsWalk h a b w) t.split is)) in
         let long : length walk ≡ length (t.front ++ t.one ∷ (t.middle ++ t.other ∷ t.rest)) = subst (λ (w : List Step). length walk ≡ length w) t.split refl in
-        absurd (omega (arith, low, long, length-append t.front (t.other ∷ t.rest), length-append t.front (t.one ∷ (t.middle ++ t.other ∷ t.rest)), length-append t.middle (t.other ∷ t.rest)))
+        absurd (omega (
+          arith,
+          low,
+          long,
+          length-append t.front (t.other ∷ t.rest),
+          length-append t.front (t.one ∷ (t.middle ++ t.other ∷ t.rest)),
+          length-append t.middle (t.other ∷ t.rest),
+        ))
 
-few_at : (h : History) (at : Level) (b c : ℕ) (walk : List Step) → IsWalk h b c walk → IsAllowed at walk → ((others : List Step) → IsWalk h b c others → IsAllowed at others → length walk ≤ length others) → length walk ≤ count h
+few_at : (h : History) (at : Level) (b c : ℕ) (walk : List Step) → IsWalk h b c walk → IsAllowed at walk
+    → ((others : List Step) → IsWalk h b c others → IsAllowed at others → length walk ≤ length others) → length walk ≤ count h
 few_at h level.Causal b c walk is allowed least = few_steps h b c walk is (λ others leads. least others leads tt)
 few_at h level.Atomic b c walk is allowed least = let ends = walk_below h b c walk is in omega (arith, allowed, ends.0)
 
 -- ---- a cheapest link between its ends
 
-few_in_link : (j : Judged) (l : Link) → IsLink j l → ((o : Link) → link_from o ≡ link_from l → link_to o ≡ link_to l → IsLink j o → link_cost l ≤ link_cost o) → link_cost l ≤ count j.history + 1
+few_in_link : (j : Judged) (l : Link) → IsLink j l
+    → ((o : Link) → link_from o ≡ link_from l → link_to o ≡ link_to l → IsLink j o → link_cost l ≤ link_cost o) → link_cost l ≤ count j.history + 1
 few_in_link j (link.Session a b) is least = omega arith
 few_in_link j (link.Reads a b x) is least = omega arith
 few_in_link j (link.Derived b a x c walk) is least =
     let few : length walk ≤ count j.history = few_at j.history j.level b c walk is.1.0 is.1.1 (λ others leads allowed.
-    let low : link_cost (link.Derived b a x c walk) ≤ link_cost (link.Derived b a x c others) = least (link.Derived b a x c others) refl refl (is.0, (leads, allowed)) in
+    let low : link_cost (link.Derived b a x c walk) ≤ link_cost (link.Derived b a x c others) =
+    least (link.Derived b a x c others) refl refl (is.0, (leads, allowed)) in
     omega (arith, low, derived_cost b a x c walk, derived_cost b a x c others)) in
     omega (arith, few, derived_cost b a x c walk)
 
@@ -69,7 +85,8 @@ walk_in_link (link.Derived b a x c walk) n few = omega (arith, few, derived_cost
 
 module _ (j : Judged) (s : ℕ) where
   -- another link in the place of one
-  pub link_least : (front : List Link) (l : Link) (rest : List Link) → IsLeastCycle j s (front ++ l ∷ rest) → (o : Link) → link_from o ≡ link_from l → link_to o ≡ link_to l → IsLink j o → link_cost l ≤ link_cost o
+  pub link_least : (front : List Link) (l : Link) (rest : List Link) → IsLeastCycle j s (front ++ l ∷ rest) → (o : Link) → link_from o ≡ link_from l
+      → link_to o ≡ link_to l → IsLink j o → link_cost l ≤ link_cost o
   link_least front l rest least o from to is =
       let (m, lead, on) = lead_split j s s front (l ∷ rest) least.cycle.1 in
       let long : length (front ++ o ∷ rest) ≡ length front + length (o ∷ rest) = length-append front (o ∷ rest) in
@@ -101,7 +118,8 @@ module _ (j : Judged) (s : ℕ) where
   starts_below a b (l ∷ links) lead = ((link_below j l lead.1).0, starts_below (link_to l) b links lead.2)
 
   -- what lies between two links that begin at one number is a cycle that costs less
-  pub part_cycle : (front : List Link) (one : Link) (middle : List Link) (other : Link) (rest : List Link) → link_from one ≡ link_from other → IsCycle j s (front ++ one ∷ (middle ++ other ∷ rest)) → IsCycle j (link_from one) (one ∷ middle)
+  pub part_cycle : (front : List Link) (one : Link) (middle : List Link) (other : Link) (rest : List Link) → link_from one ≡ link_from other
+      → IsCycle j s (front ++ one ∷ (middle ++ other ∷ rest)) → IsCycle j (link_from one) (one ∷ middle)
   part_cycle front one middle other rest same cycle =
       let (m, before, on) = lead_split j s s front (one ∷ (middle ++ other ∷ rest)) cycle.1 in
       let (n, between, last) = lead_split j (link_to one) s middle (other ∷ rest) on.2 in
@@ -114,8 +132,18 @@ module _ (j : Judged) (s : ℕ) where
       go (inl few) = few
       go (inr t) =
           let whole : cost links ≡ cost (t.front ++ t.one ∷ (t.middle ++ t.other ∷ t.rest)) = subst (λ (ls : List Link). cost links ≡ cost ls) t.split refl in
-          let low : cost links ≤ cost (t.one ∷ t.middle) = least.least (link_from t.one) (t.one ∷ t.middle) (part_cycle t.front t.one t.middle t.other t.rest t.same (subst (λ (ls : List Link). IsCycle j s ls) t.split least.cycle)) in
-          absurd (omega (arith, whole, low, cost_around t.front t.one (t.middle ++ t.other ∷ t.rest), cost_around t.middle t.other t.rest, cost_cons t.one t.middle, some_cost t.other))
+          let low : cost links ≤ cost (t.one ∷ t.middle) =
+          least.least (link_from t.one) (t.one ∷ t.middle)
+          (part_cycle t.front t.one t.middle t.other t.rest t.same (subst (λ (ls : List Link). IsCycle j s ls) t.split least.cycle)) in
+          absurd (omega (
+            arith,
+            whole,
+            low,
+            cost_around t.front t.one (t.middle ++ t.other ∷ t.rest),
+            cost_around t.middle t.other t.rest,
+            cost_cons t.one t.middle,
+            some_cost t.other,
+          ))
 
   pub cycle_bounded : (links : List Link) → count j.history ≤ MAX_COUNT → IsLeastCycle j s links → cost links ≤ MAX_CYCLE_COST
   cycle_bounded links few least = omega (arith, few, few_links links least, links_cost few [] links least)

@@ -1,5 +1,7 @@
 -- The longest walk of a least cycle's link: it begins two steps at most at transactions of one session.
-use Rattle.std.proofs.Common.{ℕ, ◌≡◌, ◌≢◌, ◌<◌, ◌≤◌, ◌+◌, ◌*◌, ◌⊎◌, inl, inr, Bool, true, false, cond, List, [], ◌∷◌, ◌++◌, length, length-append, refl, sym, ◌∙◌, ap, subst, arith}
+use Rattle.std.proofs.Common.{ℕ, ◌≡◌, ◌≢◌, ◌<◌, ◌≤◌, ◌+◌, ◌*◌, ◌⊎◌, inl, inr, Bool, true, false, cond}
+use Rattle.std.proofs.Common.{List, [], ◌∷◌, ◌++◌, length, length-append, refl, sym, ◌∙◌, ap, subst}
+use Rattle.std.proofs.Common.arith
 use Rattle.std.specs.List.{AllByRecursion}
 use Rattle.std.proofs.lemmas.Bool.{cases_eq}
 use Rattle.tcc_txn.specs.declared.limits.TheConstants.{MAX_SESSIONS}
@@ -32,7 +34,8 @@ marked_below x true l = omega arith
 marked_below x false l = omega arith
 
 -- a walk as links
-pub links_of : (j : Judged) (a b : ℕ) (walk : List Step) → Leads j.history a b walk → (links : List Link) × LinksLead j a b links × (cost links ≡ length walk) × (length links ≡ length walk)
+pub links_of : (j : Judged) (a b : ℕ) (walk : List Step) → Leads j.history a b walk
+    → (links : List Link) × LinksLead j a b links × (cost links ≡ length walk) × (length links ≡ length walk)
 links_of j a b [] leads = ([], leads, refl, refl)
 links_of j a b (s ∷ walk) leads =
     let (l, from, to, is, one) = pair_link j (step_from s) (step_to s) (step_pair j.history s leads.1) in
@@ -60,10 +63,14 @@ module _ (j : Judged) (placed : IsPlaced j.history MAX_SESSIONS) where
   unfolding step_number
   numbers_below a b [] some leads = tt
   numbers_below a b (s ∷ walk) some leads =
-      let ends = step_below j.history s leads.1 in
-      (marked_below (owner j.history (step_from s)) (session_pair j.history (step_from s) (step_to s)) (placed.owned (step_from s) (omega (arith, leads.0)) ends.0), numbers_below (step_to s) b walk (step_some s leads.1) leads.2)
+      let ends = step_below j.history s leads.1 in (
+        marked_below (owner j.history (step_from s)) (session_pair j.history (step_from s) (step_to s))
+            (placed.owned (step_from s) (omega (arith, leads.0)) ends.0),
+        numbers_below (step_to s) b walk (step_some s leads.1) leads.2,
+      )
 
-  module _ (b c : ℕ) (walk : List Step) (is : IsWalk j.history b c walk) (least : (others : List Step) → IsWalk j.history b c others → length walk ≤ length others)
+  module _ (b c : ℕ) (walk : List Step) (is : IsWalk j.history b c walk)
+      (least : (others : List Step) → IsWalk j.history b c others → length walk ≤ length others)
       (low : (t : ℕ) (others : List Link) → IsCycle j t others → length walk < cost others) where
     module _ (some : 0 < b) (t : HasTwice step_number always walk) where
       whole : IsWalk j.history b c (t.front ++ t.one ∷ (t.middle ++ t.other ∷ t.rest))
@@ -98,22 +105,34 @@ module _ (j : Judged) (placed : IsPlaced j.history MAX_SESSIONS) where
       other_some : 0 < step_from t.other
       other_some = leads_some (step_to t.one) (step_from t.other) t.middle (step_some t.one one_leads.1) middle_leads
 
-      alike : (owner j.history (step_from t.one) ≡ owner j.history (step_from t.other)) × (session_pair j.history (step_from t.one) (step_to t.one) ≡ session_pair j.history (step_from t.other) (step_to t.other))
+      alike : (owner j.history (step_from t.one) ≡ owner j.history (step_from t.other))
+          × (session_pair j.history (step_from t.one) (step_to t.one) ≡ session_pair j.history (step_from t.other) (step_to t.other))
       unfolding step_number
-      alike = told_apart (owner j.history (step_from t.one)) (owner j.history (step_from t.other)) (session_pair j.history (step_from t.one) (step_to t.one)) (session_pair j.history (step_from t.other) (step_to t.other))
-          (placed.owned (step_from t.one) one_some (step_below j.history t.one one_leads.1).0) (placed.owned (step_from t.other) other_some (step_below j.history t.other other_leads.1).0) t.same
+      alike =
+          told_apart (owner j.history (step_from t.one)) (owner j.history (step_from t.other)) (session_pair j.history (step_from t.one) (step_to t.one))
+          (session_pair j.history (step_from t.other) (step_to t.other))
+          (placed.owned (step_from t.one) one_some (step_below j.history t.one one_leads.1).0)
+          (placed.owned (step_from t.other) other_some (step_below j.history t.other other_leads.1).0) t.same
 
       differ : step_from t.one ≢ step_from t.other
       differ same =
-          let few : length walk ≤ length (t.front ++ t.other ∷ t.rest) = least (t.front ++ t.other ∷ t.rest) (shorter j.history b c t.front t.one t.middle t.other t.rest same whole) in
+          let few : length walk ≤ length (t.front ++ t.other ∷ t.rest) =
+          least (t.front ++ t.other ∷ t.rest) (shorter j.history b c t.front t.one t.middle t.other t.rest same whole) in
           absurd (omega (arith, few, long, length-append t.front (t.other ∷ t.rest)))
 
       -- a session step in place of the steps between
-      straight : (v : ℕ) (steps : List Step) → IsSessionPair j.history (step_from t.one) v → Leads j.history v c steps → length walk ≤ length t.front + (1 + length steps)
+      straight : (v : ℕ) (steps : List Step) → IsSessionPair j.history (step_from t.one) v → Leads j.history v c steps
+          → length walk ≤ length t.front + (1 + length steps)
       straight v steps pair leads =
           let new : List Step = t.front ++ step.Session (step_from t.one) v ∷ steps in
-          let size : length (t.front ++ step.Session (step_from t.one) v ∷ steps) ≡ length t.front + (1 + length steps) = omega (arith, length-append t.front (step.Session (step_from t.one) v ∷ steps)) in
-          let few : length walk ≤ length (t.front ++ step.Session (step_from t.one) v ∷ steps) = least (t.front ++ step.Session (step_from t.one) v ∷ steps) (omega (arith, size), leads_append j.history b (step_from t.one) c t.front (step.Session (step_from t.one) v ∷ steps) front_leads (refl, pair, leads)) in
+          let size : length (t.front ++ step.Session (step_from t.one) v ∷ steps) ≡ length t.front + (1 + length steps) =
+          omega (arith, length-append t.front (step.Session (step_from t.one) v ∷ steps)) in
+          let few : length walk ≤ length (t.front ++ step.Session (step_from t.one) v ∷ steps) =
+          least (t.front ++ step.Session (step_from t.one) v ∷ steps) (
+            omega (arith, size),
+            leads_append j.history b (step_from t.one) c t.front (step.Session (step_from t.one) v ∷ steps) front_leads
+                (refl, pair, leads),
+          ) in
           omega (arith, few, size)
 
       next_is : (middle : List Step) → length middle ≡ 0 → Leads j.history (step_to t.one) (step_from t.other) middle → step_to t.one ≡ step_from t.other
@@ -124,20 +143,28 @@ module _ (j : Judged) (placed : IsPlaced j.history MAX_SESSIONS) where
       forward pair =
           let few : length walk ≤ length t.front + (1 + length (t.other ∷ t.rest)) = straight (step_from t.other) (t.other ∷ t.rest) pair other_leads in
           let next : step_to t.one ≡ step_from t.other = next_is t.middle (omega (arith, few, long)) middle_leads in
-          let mark : session_pair j.history (step_from t.one) (step_to t.one) ≡ true = subst (λ (z : ℕ). IsSessionPair j.history (step_from t.one) z) (sym next) pair in
+          let mark : session_pair j.history (step_from t.one) (step_to t.one) ≡ true =
+          subst (λ (z : ℕ). IsSessionPair j.history (step_from t.one) z) (sym next) pair in
           let on : IsSessionPair j.history (step_from t.other) (step_to t.other) = sym alike.1 ∙ mark in
-          let past : IsSessionPair j.history (step_from t.one) (step_to t.other) = pair_on j.history (step_from t.one) (step_from t.other) (step_to t.other) one_some pair on in
+          let past : IsSessionPair j.history (step_from t.one) (step_to t.other) =
+          pair_on j.history (step_from t.one) (step_from t.other) (step_to t.other) one_some pair on in
           absurd (omega (arith, straight (step_to t.other) t.rest past other_leads.2, long))
 
       back : IsSessionPair j.history (step_from t.other) (step_from t.one) → ⊥
       back pair =
-          let around : Leads j.history (step_from t.one) (step_from t.one) ((t.one ∷ t.middle) ++ step.Session (step_from t.other) (step_from t.one) ∷ []) = leads_append j.history (step_from t.one) (step_from t.other) (step_from t.one) (t.one ∷ t.middle) (step.Session (step_from t.other) (step_from t.one) ∷ []) (refl, one_leads.1, middle_leads) (refl, pair, refl) in
-          let (links, lead, costs, size) = links_of j (step_from t.one) (step_from t.one) ((t.one ∷ t.middle) ++ step.Session (step_from t.other) (step_from t.one) ∷ []) around in
-          let steps : length ((t.one ∷ t.middle) ++ step.Session (step_from t.other) (step_from t.one) ∷ []) ≡ length t.middle + 2 = omega (arith, length-append (t.one ∷ t.middle) (step.Session (step_from t.other) (step_from t.one) ∷ [])) in
+          let around : Leads j.history (step_from t.one) (step_from t.one) ((t.one ∷ t.middle) ++ step.Session (step_from t.other) (step_from t.one) ∷ []) =
+          leads_append j.history (step_from t.one) (step_from t.other) (step_from t.one) (t.one ∷ t.middle)
+          (step.Session (step_from t.other) (step_from t.one) ∷ []) (refl, one_leads.1, middle_leads) (refl, pair, refl) in
+          let (links, lead, costs, size) =
+          links_of j (step_from t.one) (step_from t.one) ((t.one ∷ t.middle) ++ step.Session (step_from t.other) (step_from t.one) ∷ []) around in
+          let steps : length ((t.one ∷ t.middle) ++ step.Session (step_from t.other) (step_from t.one) ∷ []) ≡ length t.middle + 2 =
+          omega (arith, length-append (t.one ∷ t.middle) (step.Session (step_from t.other) (step_from t.one) ∷ [])) in
           absurd (omega (arith, low (step_from t.one) links (omega (arith, size, steps), lead), costs, steps, long))
 
       never : ⊥
-      never = go (either_way j.history MAX_SESSIONS placed (step_from t.one) (step_from t.other) one_some (step_below j.history t.one one_leads.1).0 other_some (step_below j.history t.other other_leads.1).0 differ alike.0)
+      never =
+          go (either_way j.history MAX_SESSIONS placed (step_from t.one) (step_from t.other) one_some (step_below j.history t.one one_leads.1).0 other_some
+          (step_below j.history t.other other_leads.1).0 differ alike.0)
         where
           go : IsSessionPair j.history (step_from t.one) (step_from t.other) ⊎ IsSessionPair j.history (step_from t.other) (step_from t.one) → ⊥
           go (inl pair) = forward pair

@@ -24,14 +24,16 @@ use Rattle.tcc_derive.proofs.CostLemmas.{link_of}
 use Rattle.tcc_cycle.specs.Ways.{IsFirstLink}
 
 -- without a session pair, the read of the first key
-pub reads_first : (j : Judged) (a b : ℕ) (x : List ℕ) → a < count j.history → b < count j.history → session_pair j.history a b ≡ false → IsFirstName (reads_from j.history a b) x → IsFirstLink j a b (link.Reads a b x)
+pub reads_first : (j : Judged) (a b : ℕ) (x : List ℕ) → a < count j.history → b < count j.history → session_pair j.history a b ≡ false
+    → IsFirstName (reads_from j.history a b) x → IsFirstLink j a b (link.Reads a b x)
 reads_first j a b x from to none named = record {
   leads = record { from = refl; to = refl; link = (from, to, named.0) };
   least = λ o leads. some_cost o;
   first = λ o leads same. up_to o leads;
 }
   where
-    by_name : (y : List ℕ) → Contains (reads_from j.history a b) y → (o : Ordering) → name_cmp x y ≡ o → link_cmp (link.Reads a b x) (link.Reads a b y) ≢ Greater
+    by_name : (y : List ℕ) → Contains (reads_from j.history a b) y → (o : Ordering) → name_cmp x y ≡ o
+        → link_cmp (link.Reads a b x) (link.Reads a b y) ≢ Greater
     by_name y there Less e = let tie : nat_cmp a a ≡ Equal = tied_itself nat_cmp_total a in rw (tie, e) (λ g. cc)
     by_name y there Equal e = let tie : nat_cmp a a ≡ Equal = tied_itself nat_cmp_total a in rw (tie, e) (λ g. cc)
     by_name y there Greater e = absurd (not_above x y (All-contains (λ z. is_lt (name_cmp z x) ≡ false) (reads_from j.history a b) y named.1 there) e)
@@ -48,7 +50,8 @@ reads_first j a b x from to none named = record {
         rw (leads.from, tie) (λ g. cc)
 
 -- where nothing else leads from a to b, a link is derived
-derived_of : (j : Judged) (a b : ℕ) → session_pair j.history a b ≡ false → length (reads_from j.history a b) ≡ 0 → (o : Link) → IsLinkOf j a b o → IsDerived j a b o
+derived_of : (j : Judged) (a b : ℕ) → session_pair j.history a b ≡ false → length (reads_from j.history a b) ≡ 0 → (o : Link) → IsLinkOf j a b o
+    → IsDerived j a b o
 derived_of j a b none empty (link.Session c d) leads =
     let pair : IsSessionPair j.history a b = rw (leads.from, leads.to) at leads.link in
     absurd (false≢true (sym none ∙ pair))
@@ -60,7 +63,8 @@ derived_of j a b none empty (link.Derived c d y e walk) leads =
     let reason : IsReason j a b y e walk = rw (leads.from, leads.to) at leads.link in
     (y, e, walk, rw (leads.from, leads.to) refl, reason)
 
-pub reason_first : (j : Judged) (a b : ℕ) → session_pair j.history a b ≡ false → length (reads_from j.history a b) ≡ 0 → (found : Option Link) → MatchOption found ((l : Link) → IsDerived j a b l → ⊥) (IsFirstReason j a b)
+pub reason_first : (j : Judged) (a b : ℕ) → session_pair j.history a b ≡ false → length (reads_from j.history a b) ≡ 0 → (found : Option Link)
+    → MatchOption found ((l : Link) → IsDerived j a b l → ⊥) (IsFirstReason j a b)
     → MatchOption found ((l : Link) → IsLinkOf j a b l → ⊥) (IsFirstLink j a b)
 reason_first j a b none empty None nothing = λ l leads. nothing l (derived_of j a b none empty l leads)
 reason_first j a b none empty (Some l) is = record {

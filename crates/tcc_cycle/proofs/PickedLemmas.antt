@@ -26,9 +26,12 @@ pub back_of : (j : Judged) (s : ℕ) (links : List Link) → IsLeastCycle j s li
 back_of j s links is = rw reverse-reverse is
 
 -- the links that stand before these, from the last backwards
-pub ends_back : (j : Judged) (s : ℕ) (front : List Link) (l : Link) (picked : List Link) → IsLeastCycle j s (front ++ l ∷ picked) → IsBack j s (reverse picked ++ l ∷ reverse front)
+pub ends_back : (j : Judged) (s : ℕ) (front : List Link) (l : Link) (picked : List Link) → IsLeastCycle j s (front ++ l ∷ picked)
+    → IsBack j s (reverse picked ++ l ∷ reverse front)
 ends_back j s front l picked is =
-    let e : reverse (reverse picked ++ l ∷ reverse front) ≡ front ++ l ∷ picked = turned (reverse picked) l (reverse front) ∙ ap (λ zs. zs ++ l ∷ reverse (reverse picked)) (reverse-reverse front) ∙ ap (λ zs. front ++ l ∷ zs) (reverse-reverse picked) in
+    let e : reverse (reverse picked ++ l ∷ reverse front) ≡ front ++ l ∷ picked =
+    turned (reverse picked) l (reverse front) ∙ ap (λ zs. zs ++ l ∷ reverse (reverse picked)) (reverse-reverse front)
+    ∙ ap (λ zs. front ++ l ∷ zs) (reverse-reverse picked) in
     subst (λ (zs : List Link). IsLeastCycle j s zs) (sym e) is
 
 -- ---- a least cycle doesn't go on past another, and tied links are the same
@@ -38,7 +41,8 @@ never_past j s done l rest p q =
     let costs : cost (reverse (done ++ l ∷ rest)) ≡ cost (reverse done) = same_cost j s s (reverse (done ++ l ∷ rest)) (reverse done) p q in
     omega (arith, costs, ap cost (turned done l rest), cost_around (reverse rest) l (reverse done), some_cost l)
 
-tied_same : (j : Judged) (s : ℕ) (done : List Link) (l o : Link) (rest others : List Link) → IsBack j s (done ++ l ∷ rest) → IsBack j s (done ++ o ∷ others) → link_cmp l o ≡ Equal → l ≡ o
+tied_same : (j : Judged) (s : ℕ) (done : List Link) (l o : Link) (rest others : List Link) → IsBack j s (done ++ l ∷ rest) → IsBack j s (done ++ o ∷ others)
+    → link_cmp l o ≡ Equal → l ≡ o
 tied_same j s done l o rest others p q e =
     let ours = lead_split j s s (reverse rest) (l ∷ reverse done) (rw turned at p.cycle.1) in
     let theirs = lead_split j s s (reverse others) (o ∷ reverse done) (rw turned at q.cycle.1) in
@@ -86,7 +90,8 @@ first_from_picked j s links is = record { least = is.least; first = λ t others 
   where
     up_to : (others : List Link) → IsLeastCycle j s others → slice_cmp link_cmp (reverse links) (reverse others) ≢ Greater
     up_to others other =
-        first_picked link_cmp (IsBack j s) (never_past j s) (tied_same j s) (reverse links) (reverse others) [] (picks_of j s links is) (back_of j s links is.least) (back_of j s others other)
+        first_picked link_cmp (IsBack j s) (never_past j s) (tied_same j s) (reverse links) (reverse others) [] (picks_of j s links is)
+        (back_of j s links is.least) (back_of j s others other)
 
     go : (t : ℕ) (others : List Link) → IsLeastCycle j t others → (s ≡ t) ⊎ ((s < t) ⊎ (t < s)) → cycle_cmp (s, links) (t, others) ≢ Greater
     go t others other (inl same) =
@@ -101,5 +106,7 @@ pub one_first : (j : Judged) (s t : ℕ) (links others : List Link) → IsFirstC
 one_first j s t links others p q =
     let same : s ≡ t = omega (arith, first_lowest j s links p t others q.least, first_lowest j t others q s links p.least) in
     let there : IsFirstCycle j s others = subst (λ (z : ℕ). IsFirstCycle j z others) (sym same) q in
-    let backs = one_picked link_cmp (IsBack j s) (never_past j s) (tied_same j s) link_total (reverse links) (reverse others) [] (first_picks j s links p) (first_picks j s others there) (back_of j s links p.least) (back_of j s others there.least) in
+    let backs =
+    one_picked link_cmp (IsBack j s) (never_past j s) (tied_same j s) link_total (reverse links) (reverse others) [] (first_picks j s links p)
+    (first_picks j s others there) (back_of j s links p.least) (back_of j s others there.least) in
     (same, sym (reverse-reverse links) ∙ ap reverse backs ∙ reverse-reverse others)

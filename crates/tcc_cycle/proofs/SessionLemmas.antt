@@ -50,7 +50,8 @@ module _ (h : History) where
       lower_first h a c some one.from two.some two.to (one.same some ∙ two.same one.some) (omega (arith, one.lower some, two.lower one.some))
 
   -- of two transactions of one session one stands before the other
-  pub either_way : (n : ℕ) → IsPlaced h n → (a b : ℕ) → 0 < a → a < count h → 0 < b → b < count h → a ≢ b → owner h a ≡ owner h b → IsSessionPair h a b ⊎ IsSessionPair h b a
+  pub either_way : (n : ℕ) → IsPlaced h n → (a b : ℕ) → 0 < a → a < count h → 0 < b → b < count h → a ≢ b → owner h a ≡ owner h b
+      → IsSessionPair h a b ⊎ IsSessionPair h b a
   either_way n placed a b some below more within differ same = go (cases_order a b)
     where
       go : (a ≡ b) ⊎ ((a < b) ⊎ (b < a)) → IsSessionPair h a b ⊎ IsSessionPair h b a

@@ -28,7 +28,8 @@ steps_tied h b v (s ∷ ss) (o ∷ os) p q e =
     let rest = steps_tied h b (step_from o) ss os (subst (λ (z : Step). LeadsBack h b (step_from z) ss) same p.2) q.2 w.1 in
     cc
 
-walks_tied : (h : History) (b c : ℕ) (walk other : List Step) → LeadsBack h b c (reverse walk) → LeadsBack h b c (reverse other) → walk_cmp walk other ≡ Equal → walk ≡ other
+walks_tied : (h : History) (b c : ℕ) (walk other : List Step) → LeadsBack h b c (reverse walk) → LeadsBack h b c (reverse other)
+    → walk_cmp walk other ≡ Equal → walk ≡ other
 walks_tied h b c walk other p q e =
     sym (reverse-reverse walk) ∙ ap reverse (steps_tied h b c (reverse walk) (reverse other) p q e) ∙ reverse-reverse other
 

@@ -32,10 +32,22 @@ always x = true
 
 module _ {X : Type 0} (f : X → ℕ) (p : X → Bool) where
   later_same : (n : ℕ) (x : X) (xs : List X) → HasSame f p n xs → HasSame f p n (x ∷ xs)
-  later_same n x xs later = record { front = x ∷ later.front; one = later.one; rest = later.rest; split = ap (λ zs. x ∷ zs) later.split; same = later.same; passes = later.passes }
+  later_same n x xs later =
+      record { front = x ∷ later.front; one = later.one; rest = later.rest; split = ap (λ zs. x ∷ zs) later.split; same = later.same; passes = later.passes }
 
   later_twice : (x : X) (xs : List X) → HasTwice f p xs → HasTwice f p (x ∷ xs)
-  later_twice x xs t = record { front = x ∷ t.front; one = t.one; middle = t.middle; other = t.other; rest = t.rest; split = ap (λ zs. x ∷ zs) t.split; same = t.same; one_passes = t.one_passes; other_passes = t.other_passes }
+  later_twice x xs t =
+      record {
+        front = x ∷ t.front;
+        one = t.one;
+        middle = t.middle;
+        other = t.other;
+        rest = t.rest;
+        split = ap (λ zs. x ∷ zs) t.split;
+        same = t.same;
+        one_passes = t.one_passes;
+        other_passes = t.other_passes;
+      }
 
   Differ : ℕ → List X → Type 0
   Differ n xs = AllByRecursion (λ y. eqb n y ≡ false) (map f xs)
@@ -45,7 +57,8 @@ module _ {X : Type 0} (f : X → ℕ) (p : X → Bool) where
   find_same n [] = inr tt
   find_same n (x ∷ xs) = here (p x) refl (cases_eq n (f x)) (find_same n xs)
     where
-      here : (b : Bool) → p x ≡ b → (n ≡ f x) ⊎ (n ≢ f x) → HasSame f p n xs ⊎ AllByRecursion (λ y. eqb n y ≡ false) (map f (filter p xs)) → HasSame f p n (x ∷ xs) ⊎ AllByRecursion (λ y. eqb n y ≡ false) (map f (cond b (x ∷ filter p xs) (filter p xs)))
+      here : (b : Bool) → p x ≡ b → (n ≡ f x) ⊎ (n ≢ f x) → HasSame f p n xs ⊎ AllByRecursion (λ y. eqb n y ≡ false) (map f (filter p xs))
+          → HasSame f p n (x ∷ xs) ⊎ AllByRecursion (λ y. eqb n y ≡ false) (map f (cond b (x ∷ filter p xs) (filter p xs)))
       here b e test (inl later) = inl (later_same n x xs later)
       here true e (inl same) (inr none) = inl (record { front = []; one = x; rest = xs; split = refl; same = same; passes = e })
       here true e (inr other) (inr none) = inr (ne_eqb n (f x) other, none)
@@ -56,9 +69,21 @@ module _ {X : Type 0} (f : X → ℕ) (p : X → Bool) where
   distinct_or_twice [] = inl tt
   distinct_or_twice (x ∷ xs) = here (p x) refl (find_same (f x) xs) (distinct_or_twice xs)
     where
-      here : (b : Bool) → p x ≡ b → HasSame f p (f x) xs ⊎ AllByRecursion (λ y. eqb (f x) y ≡ false) (map f (filter p xs)) → IsDistinct eqb (map f (filter p xs)) ⊎ HasTwice f p xs → IsDistinct eqb (map f (cond b (x ∷ filter p xs) (filter p xs))) ⊎ HasTwice f p (x ∷ xs)
+      here : (b : Bool) → p x ≡ b → HasSame f p (f x) xs ⊎ AllByRecursion (λ y. eqb (f x) y ≡ false) (map f (filter p xs))
+          → IsDistinct eqb (map f (filter p xs)) ⊎ HasTwice f p xs → IsDistinct eqb (map f (cond b (x ∷ filter p xs) (filter p xs))) ⊎ HasTwice f p (x ∷ xs)
       here b e found (inr t) = inr (later_twice x xs t)
-      here true e (inl s) (inl apart) = inr (record { front = []; one = x; middle = s.front; other = s.one; rest = s.rest; split = ap (λ zs. x ∷ zs) s.split; same = s.same; one_passes = e; other_passes = s.passes })
+      here true e (inl s) (inl apart) =
+          inr (record {
+            front = [];
+            one = x;
+            middle = s.front;
+            other = s.one;
+            rest = s.rest;
+            split = ap (λ zs. x ∷ zs) s.split;
+            same = s.same;
+            one_passes = e;
+            other_passes = s.passes;
+          })
       here true e (inr none) (inl apart) = inl (none, apart)
       here false e found (inl apart) = inl apart
 
@@ -66,7 +91,8 @@ module _ {X : Type 0} (f : X → ℕ) (p : X → Bool) where
   below_all n [] below q has = absurd cc
   below_all n (x ∷ xs) below q has = here (p x) (cases_eq q (f x)) (below_all n xs below.1 q) has
     where
-      here : (b : Bool) → (q ≡ f x) ⊎ (q ≢ f x) → (list_any (eqb q) (map f (filter p xs)) ≡ true → q < n) → list_any (eqb q) (map f (cond b (x ∷ filter p xs) (filter p xs))) ≡ true → q < n
+      here : (b : Bool) → (q ≡ f x) ⊎ (q ≢ f x) → (list_any (eqb q) (map f (filter p xs)) ≡ true → q < n)
+          → list_any (eqb q) (map f (cond b (x ∷ filter p xs) (filter p xs))) ≡ true → q < n
       here true (inl same) later found = omega (arith, below.0)
       here true (inr other) later found = later (rw (ne_eqb q (f x) other) at found)
       here false test later found = later found

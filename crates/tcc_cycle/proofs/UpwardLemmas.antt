@@ -8,11 +8,13 @@ use Rattle.tcc_graph.proofs.Linking.{cost_cons, cost_append, cost_around, lead_a
 use Rattle.tcc_graph.proofs.Upward.{BeginFrom, ends_upward}
 
 -- a least cycle, begun elsewhere
-pub turn : (j : Judged) (s : ℕ) (front : List Link) (l : Link) (rest : List Link) → IsLeastCycle j s (front ++ l ∷ rest) → IsLeastCycle j (link_from l) (l ∷ rest ++ front)
+pub turn : (j : Judged) (s : ℕ) (front : List Link) (l : Link) (rest : List Link) → IsLeastCycle j s (front ++ l ∷ rest)
+    → IsLeastCycle j (link_from l) (l ∷ rest ++ front)
 turn j s front l rest is =
     let (m, lead, on) = lead_split j s s front (l ∷ rest) is.cycle.1 in
     let back : LinksLead j s (link_from l) front = subst (λ (z : ℕ). LinksLead j s z front) (sym on.0) lead in
-    let costs : cost (l ∷ rest ++ front) ≡ cost (front ++ l ∷ rest) = omega (arith, cost_around front l rest, cost_cons l (rest ++ front), cost_append rest front) in
+    let costs : cost (l ∷ rest ++ front) ≡ cost (front ++ l ∷ rest) =
+    omega (arith, cost_around front l rest, cost_cons l (rest ++ front), cost_append rest front) in
     record {
       cycle = (omega arith, (refl, on.1, lead_append j (link_to l) s (link_from l) rest front on.2 back));
       least = λ t others other. omega (arith, is.least t others other);

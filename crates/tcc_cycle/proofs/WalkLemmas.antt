@@ -26,7 +26,8 @@ never_past j b c done s rest p q =
     let low : length (reverse (done ++ s ∷ rest)) ≤ length (reverse done) = p.least (reverse done) q.leads in
     omega (arith, low, length-reverse (done ++ s ∷ rest), length-reverse done, length-append done (s ∷ rest))
 
-tied_same : (j : Judged) (b c : ℕ) (done : List Step) (s o : Step) (rest others : List Step) → IsBack j b c (done ++ s ∷ rest) → IsBack j b c (done ++ o ∷ others) → step_cmp s o ≡ Equal → s ≡ o
+tied_same : (j : Judged) (b c : ℕ) (done : List Step) (s o : Step) (rest others : List Step) → IsBack j b c (done ++ s ∷ rest)
+    → IsBack j b c (done ++ o ∷ others) → step_cmp s o ≡ Equal → s ≡ o
 tied_same j b c done s o rest others p q e =
     let ours = leads_split j.history b c (reverse rest) (s ∷ reverse done) (rw turned at p.leads.0.1) in
     let theirs = leads_split j.history b c (reverse others) (o ∷ reverse done) (rw turned at q.leads.0.1) in
@@ -42,11 +43,17 @@ pub picked_from_first : (j : Judged) (b c : ℕ) (walk : List Step) → IsFirstW
 picked_from_first j b c walk is = record {
   shortest = shortest_of j b c walk is;
   each = λ front s picked e other (others, ends).
-      let picks : Picks step_cmp (IsBack j b c) [] (reverse walk) = Picks-first step_cmp (IsBack j b c) step_total (reverse walk) [] (λ steps back above. is.first (reverse steps) back.leads (same_length j b c walk (reverse steps) (shortest_of j b c walk is) back) (rw (reverse-reverse steps) above)) in
+      let picks : Picks step_cmp (IsBack j b c) [] (reverse walk) =
+      Picks-first step_cmp (IsBack j b c) step_total (reverse walk) []
+      (λ steps back above. is.first (reverse steps) back.leads (same_length j b c walk (reverse steps) (shortest_of j b c walk is) back)
+      (rw (reverse-reverse steps) above)) in
       let back : reverse walk ≡ reverse picked ++ s ∷ reverse front = ap reverse e ∙ turned front s picked in
       let here = subst (λ (zs : List Step). Picks step_cmp (IsBack j b c) [] zs) back picks in
-      let around : reverse (reverse picked ++ other ∷ reverse others) ≡ others ++ other ∷ picked = turned (reverse picked) other (reverse others) ∙ ap (λ zs. zs ++ other ∷ reverse (reverse picked)) (reverse-reverse others) ∙ ap (λ zs. others ++ other ∷ zs) (reverse-reverse picked) in
-      Picks-at step_cmp (IsBack j b c) [] (reverse picked) s (reverse front) here other (reverse others) (subst (λ (zs : List Step). IsShortestWalk j b c zs) (sym around) ends);
+      let around : reverse (reverse picked ++ other ∷ reverse others) ≡ others ++ other ∷ picked =
+      turned (reverse picked) other (reverse others) ∙ ap (λ zs. zs ++ other ∷ reverse (reverse picked)) (reverse-reverse others)
+      ∙ ap (λ zs. others ++ other ∷ zs) (reverse-reverse picked) in
+      Picks-at step_cmp (IsBack j b c) [] (reverse picked) s (reverse front) here other (reverse others)
+      (subst (λ (zs : List Step). IsShortestWalk j b c zs) (sym around) ends);
 }
 
 pub first_from_picked : (j : Judged) (b c : ℕ) (walk : List Step) → IsPickedWalk j b c walk → IsFirstWalk j b c walk
@@ -55,7 +62,8 @@ first_from_picked j b c walk is = record {
   least = is.shortest.least;
   first = λ others leads same.
       let other : IsShortestWalk j b c others = record { leads = leads; least = λ w walks. omega (arith, is.shortest.least w walks) } in
-      first_picked step_cmp (IsBack j b c) (never_past j b c) (tied_same j b c) (reverse walk) (reverse others) [] picks (rw reverse-reverse is.shortest) (rw reverse-reverse other);
+      first_picked step_cmp (IsBack j b c) (never_past j b c) (tied_same j b c) (reverse walk) (reverse others) [] picks (rw reverse-reverse is.shortest)
+      (rw reverse-reverse other);
 }
   where
     picks : Picks step_cmp (IsBack j b c) [] (reverse walk)

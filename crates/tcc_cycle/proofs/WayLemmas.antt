@@ -1,5 +1,7 @@
 -- The way back from the start of the first cycle, link by link.
-use Rattle.std.proofs.Common.{ℕ, ◌≡◌, ◌≢◌, ◌<◌, ◌≤◌, ◌+◌, ◌⊎◌, inl, inr, List, [], ◌∷◌, ◌++◌, length, length-append, append_assoc, reverse, Option, None, Some, refl, sym, ◌∙◌, ap, subst, arith}
+use Rattle.std.proofs.Common.{ℕ, ◌≡◌, ◌≢◌, ◌<◌, ◌≤◌, ◌+◌, ◌⊎◌, inl, inr, List, [], ◌∷◌, ◌++◌, length}
+use Rattle.std.proofs.Common.{length-append, append_assoc, reverse, Option, None, Some, refl, sym, ◌∙◌, ap}
+use Rattle.std.proofs.Common.{subst, arith}
 use Rattle.std.specs.declared.cmp.Ordering.TheVariants.{Greater}
 use Rattle.std.proofs.lemmas.Bool.{cases_order, cases_eq, cases_lt, eq-eqb, ne_eqb, lt-ltb}
 use Rattle.std.proofs.lemmas.List.{reverse-reverse}
@@ -69,7 +71,8 @@ module _ (j : Judged) (t : Tables) (r : FirstReturn) (priced : IsPricesOf j t) (
           let high : cost others ≤ cost links = other.least r.start links cycle.0 in
           let low : r.cost ≤ cost others = least_of u others other.cycle in
           let same : cost w.turned ≡ r.cost = omega (arith, high, low, costs, w.costs) in
-          absurd (is.first w.lowest (omega (arith, w.low)) (record { attained = (w.turned, w.route, same); least = λ ways route. least_of w.lowest ways route.0 }))
+          absurd (is.first w.lowest (omega (arith, w.low))
+          (record { attained = (w.turned, w.route, same); least = λ ways route. least_of w.lowest ways route.0 }))
       go (inr higher) = higher
 
   -- nothing was picked so far
@@ -80,11 +83,14 @@ module _ (j : Judged) (t : Tables) (r : FirstReturn) (priced : IsPricesOf j t) (
 
   module _ (end left : ℕ) (picked : List Link) (way : IsUnderWay j r end left picked) where
     -- no way over a last link costs less than the least cycle
-    around : (u : ℕ) (front : List Link) (o : Link) → LinksLead j r.start u front → IsLinkOf j u end o → r.cost ≤ cost front + (link_cost o + cost (reverse picked))
+    around : (u : ℕ) (front : List Link) (o : Link) → LinksLead j r.start u front → IsLinkOf j u end o
+        → r.cost ≤ cost front + (link_cost o + cost (reverse picked))
     around u front o lead leads =
-        let on : LinksLead j u r.start (o ∷ reverse picked) = (leads.from, leads.link, subst (λ (z : ℕ). LinksLead j z r.start (reverse picked)) (sym leads.to) way.back) in
+        let on : LinksLead j u r.start (o ∷ reverse picked) =
+        (leads.from, leads.link, subst (λ (z : ℕ). LinksLead j z r.start (reverse picked)) (sym leads.to) way.back) in
         let long : 0 < length (front ++ o ∷ reverse picked) = rw length-append (omega arith) in
-        let low : r.cost ≤ cost (front ++ o ∷ reverse picked) = least_of r.start (front ++ o ∷ reverse picked) (long, lead_append j r.start u r.start front (o ∷ reverse picked) lead on) in
+        let low : r.cost ≤ cost (front ++ o ∷ reverse picked) =
+        least_of r.start (front ++ o ∷ reverse picked) (long, lead_append j r.start u r.start front (o ∷ reverse picked) lead on) in
         omega (arith, cost_around front o (reverse picked))
 
     -- a link that ends some least cycle together with those picked
@@ -135,7 +141,9 @@ module _ (j : Judged) (t : Tables) (r : FirstReturn) (priced : IsPricesOf j t) (
         where
           go : (link_from o ≡ r.start) ⊎ (link_from o ≡ r.start → ⊥) → spent r (link_from o) ≡ Some (cost front)
           go (inl same) = rw (eq-eqb (link_from o) r.start same) (ap (λ z. Some z) (sym (no_front same front leads_there refl)))
-          go (inr other) = rw (ne_eqb (link_from o) r.start other) (in_row_there other (come_to r (link_from o)) (is.exact (link_from o) above_there (link_below j o link_there.link).0))
+          go (inr other) =
+              rw (ne_eqb (link_from o) r.start other)
+              (in_row_there other (come_to r (link_from o)) (is.exact (link_from o) above_there (link_below j o link_there.link).0))
 
       cost_there : (k : Option ℕ) → IsCost j (link_from o) end k → k ≡ Some (link_cost o)
       cost_there None none = absurd (none o link_there)
@@ -164,15 +172,19 @@ module _ (j : Judged) (t : Tables) (r : FirstReturn) (priced : IsPricesOf j t) (
         go : (links : List Link) → LinksLead j r.start end links → cost links ≡ left → 0 < length links → ⊥
         go links lead costs long =
             let (front, o, e) = last_link links long in
-            let joined : links ++ reverse picked ≡ front ++ o ∷ reverse picked = ap (λ ls. ls ++ reverse picked) e ∙ append_assoc front (o ∷ []) (reverse picked) in
+            let joined : links ++ reverse picked ≡ front ++ o ∷ reverse picked =
+            ap (λ ls. ls ++ reverse picked) e ∙ append_assoc front (o ∷ []) (reverse picked) in
             let whole : cost (links ++ reverse picked) ≡ r.cost = omega (arith, cost_append links (reverse picked), way.costs) in
-            let cycle : IsCycle j r.start (links ++ reverse picked) = (rw length-append (omega arith), lead_append j r.start end r.start links (reverse picked) lead way.back) in
-            let least : IsLeastCycle j r.start (links ++ reverse picked) = record { cycle = cycle; least = λ u others other. omega (arith, least_of u others other) } in
+            let cycle : IsCycle j r.start (links ++ reverse picked) =
+            (rw length-append (omega arith), lead_append j r.start end r.start links (reverse picked) lead way.back) in
+            let least : IsLeastCycle j r.start (links ++ reverse picked) =
+            record { cycle = cycle; least = λ u others other. omega (arith, least_of u others other) } in
             let ends : IsLeastCycle j r.start (front ++ o ∷ reverse picked) = subst (λ (ls : List Link). IsLeastCycle j r.start ls) joined least in
             none (link_from o) (cost front) (above_there front o ends) (link_below j o (link_there front o ends).link).0 (before_there front o ends)
 
     -- the first link from the least number is the one to pick
-    module _ (u c : ℕ) (l : Link) (above : r.start ≤ u) (from : u < count j.history) (before : IsBefore t r end left u c) (lowest : (w d : ℕ) → r.start ≤ w → w < u → IsBefore t r end left w d → ⊥) (first : IsFirstLink j u end l) where
+    module _ (u c : ℕ) (l : Link) (above : r.start ≤ u) (from : u < count j.history) (before : IsBefore t r end left u c)
+        (lowest : (w d : ℕ) → r.start ≤ w → w < u → IsBefore t r end left w d → ⊥) (first : IsFirstLink j u end l) where
       pub left_of : c + link_cost l ≡ left
       left_of =
           let (k, at, sum) = before.on in
@@ -221,7 +233,8 @@ module _ (j : Judged) (t : Tables) (r : FirstReturn) (priced : IsPricesOf j t) (
 
       pub one_more : IsUnderWay j r u c (picked ++ l ∷ [])
       one_more =
-          let from_back : LinksLead j u r.start (l ∷ reverse picked) = (first.leads.from, first.leads.link, subst (λ (z : ℕ). LinksLead j z r.start (reverse picked)) (sym first.leads.to) way.back) in
+          let from_back : LinksLead j u r.start (l ∷ reverse picked) =
+          (first.leads.from, first.leads.link, subst (λ (z : ℕ). LinksLead j z r.start (reverse picked)) (sym first.leads.to) way.back) in
           record {
             below = from;
             back = rw (turned picked l []) from_back;

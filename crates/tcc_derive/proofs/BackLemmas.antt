@@ -1,5 +1,6 @@
 -- Walks from the last step backwards, and the first of them.
-use Rattle.std.proofs.Common.{ℕ, ◌+◌, ◌<◌, ◌≡◌, ◌≢◌, ◌⊎◌, inl, inr, true, List, [], ◌∷◌, ◌++◌, length, length-append, get_or, reverse, refl, sym, ◌∙◌, subst, arith}
+use Rattle.std.proofs.Common.{ℕ, ◌+◌, ◌<◌, ◌≡◌, ◌≢◌, ◌⊎◌, inl, inr, true, List, [], ◌∷◌, ◌++◌}
+use Rattle.std.proofs.Common.{length, length-append, get_or, reverse, refl, sym, ◌∙◌, subst, arith}
 use Rattle.std.specs.Cmp.Lexicographic.{slice_cmp}
 use Rattle.std.specs.declared.cmp.Ordering.TheVariants.{Greater}
 use Rattle.std.proofs.lemmas.Bool.{eqb-true, eq-eqb, ne_eqb, cases_eq}
@@ -38,10 +39,12 @@ module _ (h : History) where
       (leads_append h a (step_from s) c (reverse ss) (s ∷ []) (leads_of_back a (step_from s) ss w.2) (refl, w.1, w.0))
 
   -- one step more keeps the steps first
-  ahead_more : (b c v : ℕ) (taken others : List Step) (s : Step) (n : ℕ) → Ahead taken others → LeadsBack h v c taken → LeadsBack h b c others → length others ≡ length taken + (n + 1)
+  ahead_more : (b c v : ℕ) (taken others : List Step) (s : Step) (n : ℕ) → Ahead taken others → LeadsBack h v c taken → LeadsBack h b c others
+      → length others ≡ length taken + (n + 1)
       → ((o : Step) (os : List Step) → LeadsBack h b v (o ∷ os) → length os ≡ n → IsUpTo s o) → Ahead (taken ++ s ∷ []) others
   ahead_more b c v [] [] s n ahead back other long pick = absurd (omega (arith, long))
-  ahead_more b c v [] (o ∷ os) s n ahead back other long pick = go (pick o os (subst (λ (z : ℕ). LeadsBack h b z (o ∷ os)) (sym back) other) (omega (arith, long)))
+  ahead_more b c v [] (o ∷ os) s n ahead back other long pick =
+      go (pick o os (subst (λ (z : ℕ). LeadsBack h b z (o ∷ os)) (sym back) other) (omega (arith, long)))
     where
       go : IsUpTo s o → Ahead (s ∷ []) (o ∷ os)
       go (inl less) = inl less
@@ -49,7 +52,11 @@ module _ (h : History) where
   ahead_more b c v (t ∷ taken) [] s n ahead back other long pick = absurd ahead
   ahead_more b c v (t ∷ taken) (o ∷ os) s n (inl less) back other long pick = inl less
   ahead_more b c v (t ∷ taken) (o ∷ os) s n (inr (same, ahead)) back other long pick =
-      inr (same, ahead_more b (step_from o) v taken os s n ahead (subst (λ (z : Step). LeadsBack h v (step_from z) taken) same back.2) other.2 (omega (arith, long)) pick)
+      inr (
+        same,
+        ahead_more b (step_from o) v taken os s n ahead (subst (λ (z : Step). LeadsBack h v (step_from z) taken) same back.2) other.2
+            (omega (arith, long)) pick,
+      )
 
   ahead_cmp : (ss os : List Step) → Ahead ss os → length os ≡ length ss → slice_cmp step_cmp ss os ≢ Greater
   ahead_cmp [] [] ahead long e = absurd cc
@@ -80,7 +87,8 @@ module _ (j : Judged) (near : NearTable) (b : ℕ) (nears : IsNearOf j near) (fr
   several_allowed v n other shortest some = let walk = shortest.attained in any_allowed j.level walk.0 other walk.1.1 (omega (arith, walk.2))
 
   -- and so what is left of it before its last step
-  way_allowed : (v n : ℕ) (o : Step) (os : List Step) → IsShortest j b v (n + 1) → LeadsBack j.history b v (o ∷ os) → length os ≡ n → 0 < n → IsAllowedWalk j b (step_from o) (reverse os)
+  way_allowed : (v n : ℕ) (o : Step) (os : List Step) → IsShortest j b v (n + 1) → LeadsBack j.history b v (o ∷ os) → length os ≡ n → 0 < n
+      → IsAllowedWalk j b (step_from o) (reverse os)
   way_allowed v n o os shortest back long some =
       ((omega (arith, length-reverse os), leads_of_back j.history b (step_from o) os back.2), several_allowed v n (reverse os) shortest some)
 
@@ -95,14 +103,17 @@ module _ (j : Judged) (near : NearTable) (b : ℕ) (nears : IsNearOf j near) (fr
       let longer = shortest.least (walk.0 ++ o ∷ []) (whole, several_allowed v n (walk.0 ++ o ∷ []) shortest some) in
       omega (arith, at_most, longer, walk.2, length-append walk.0 (o ∷ []), length-reverse os, long)
 
-  pub stands_of : (v n : ℕ) (o : Step) (os : List Step) → IsLeft j b v (n + 1) → LeadsBack j.history b v (o ∷ os) → length os ≡ n → stands_at (row_of near.rows b) b (step_from o) n ≡ true
+  pub stands_of : (v n : ℕ) (o : Step) (os : List Step) → IsLeft j b v (n + 1) → LeadsBack j.history b v (o ∷ os) → length os ≡ n
+      → stands_at (row_of near.rows b) b (step_from o) n ≡ true
   stands_of v n o os left back long = go (cases_eq n 0)
     where
       go : (n ≡ 0) ⊎ (n ≡ 0 → ⊥) → stands_at (row_of near.rows b) b (step_from o) n ≡ true
       go (inl none) = rw none (eq-eqb (step_from o) b (sym (no_steps (step_from o) os (long ∙ none) back.2)))
       go (inr some) =
           let at : get_or (row_of near.rows b) (step_from o) 0 ≡ n
-          = stands_nearby v n o os (left.some (omega arith)) back long (omega arith) (distance_cases j near b (step_from o) nears from (step_below j.history o back.1).0) in
+          =
+          stands_nearby v n o os (left.some (omega arith)) back long (omega arith)
+          (distance_cases j near b (step_from o) nears from (step_below j.history o back.1).0) in
           rw (ne_eqb n 0 some) (eq-eqb (get_or (row_of near.rows b) (step_from o) 0) n at)
 
   pub left_of : (u n : ℕ) → u < count j.history → n < NONE → stands_at (row_of near.rows b) b u n ≡ true → IsLeft j b u n
@@ -137,7 +148,8 @@ module _ (j : Judged) (near : NearTable) (b : ℕ) (nears : IsNearOf j near) (fr
   nothing_taken c n = record { back = refl; first = λ others back long. tt }
 
   -- there is a step to take
-  pub never_stuck : (v n : ℕ) → IsLeft j b v (n + 1) → ((o : Step) → IsStep j.history o → step_to o ≡ v → stands_at (row_of near.rows b) b (step_from o) n ≡ true → ⊥) → ⊥
+  pub never_stuck : (v n : ℕ) → IsLeft j b v (n + 1)
+      → ((o : Step) → IsStep j.history o → step_to o ≡ v → stands_at (row_of near.rows b) b (step_from o) n ≡ true → ⊥) → ⊥
   never_stuck v n left none =
       let walk = (left.some (omega arith)).attained in
       go (reverse walk.0) (back_of_leads j.history b v walk.0 walk.1.0.1) (omega (arith, walk.2, length-reverse walk.0))
@@ -146,7 +158,8 @@ module _ (j : Judged) (near : NearTable) (b : ℕ) (nears : IsNearOf j near) (fr
       go [] back long = omega (arith, long)
       go (o ∷ os) back long = none o back.1 back.0 (stands_of v n o os left back (omega (arith, long)))
 
-  pub taken_more : (c total v n : ℕ) (taken : List Step) (s : Step) → IsTakenBack j.history b c total v taken → IsLeft j b v (n + 1) → IsLastStep j.history (row_of near.rows b) b v n s → total ≡ length taken + (n + 1)
+  pub taken_more : (c total v n : ℕ) (taken : List Step) (s : Step) → IsTakenBack j.history b c total v taken → IsLeft j b v (n + 1)
+      → IsLastStep j.history (row_of near.rows b) b v n s → total ≡ length taken + (n + 1)
       → IsTakenBack j.history b c total (step_from s) (taken ++ s ∷ [])
   taken_more c total v n taken s before left last long = record {
     back = back_join j.history (step_from s) v c taken (s ∷ []) before.back (last.to, last.step, refl);
@@ -157,7 +170,8 @@ module _ (j : Judged) (near : NearTable) (b : ℕ) (nears : IsNearOf j near) (fr
   pub walk_of : (c n : ℕ) (taken : List Step) → IsTakenBack j.history b c n b taken → length taken ≡ n → IsShortest j b c n → IsFirstWalk j b c (reverse taken)
   walk_of c n taken back long shortest = record {
     leads =
-        let way : IsWalk j.history b c (reverse taken) = (omega (arith, length-reverse taken, some_left c n shortest), leads_of_back j.history b c taken back.back) in
+        let way : IsWalk j.history b c (reverse taken) =
+        (omega (arith, length-reverse taken, some_left c n shortest), leads_of_back j.history b c taken back.back) in
         let walk = shortest.attained in
         (way, same_allowed j.level walk.0 (reverse taken) walk.1.1 (omega (arith, walk.2, length-reverse taken)));
     least = λ others walk. let low = shortest.least others walk in omega (arith, length-reverse taken);

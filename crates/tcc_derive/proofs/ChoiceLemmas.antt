@@ -1,5 +1,7 @@
 -- The first of the nearest readers, and of all keys the first with the nearest reader.
-use Rattle.std.proofs.Common.{ℕ, ◌+◌, ◌<◌, ◌≤◌, ◌≡◌, ◌≢◌, ◌==◌, true, false, List, [], length, get_or, take, Option, None, Some, MatchOption, refl, sym, ◌∙◌, arith, ⊎_elim, bytes_eq}
+use Rattle.std.proofs.Common.{ℕ, ◌+◌, ◌<◌, ◌≤◌, ◌≡◌, ◌≢◌, ◌==◌, true, false, List, [], length, get_or}
+use Rattle.std.proofs.Common.{take, Option, None, Some, MatchOption, refl, sym, ◌∙◌, arith, ⊎_elim}
+use Rattle.std.proofs.Common.bytes_eq
 use Rattle.std.specs.List.{All, Contains, list_any}
 use Rattle.std.specs.Ordering.{nat_cmp}
 use Rattle.std.specs.List.Sorted.{IsStrictlySortedBy}
@@ -33,7 +35,8 @@ IsBest readers steps least None = (least ≡ NONE) × ((d : ℕ) → Contains re
 IsBest readers steps least (Some c) = (least ≡ get_or steps c 0) × IsNearest readers steps c
 
 -- what stands before a place of an ascending list is below what stands there
-earlier_below : (readers : List ℕ) (i r c : ℕ) → IsStrictlySortedBy nat_cmp readers → i < length readers → r ≡ get_or readers i r → Contains (take i readers) c → c < r
+earlier_below : (readers : List ℕ) (i r c : ℕ) → IsStrictlySortedBy nat_cmp readers → i < length readers → r ≡ get_or readers i r
+    → Contains (take i readers) c → c < r
 earlier_below readers i r c sorted l is (j, m, e) =
     let low : j < i = omega (arith, length-take-le i readers) in
     let below : get_or readers j 0 < get_or readers i 0 = below_from_sorted readers j i 0 sorted low l in
@@ -41,24 +44,32 @@ earlier_below readers i r c sorted l is (j, m, e) =
     let there : r ≡ get_or readers i 0 = is ∙ get_or_default readers i r 0 l in
     omega arith
 
-module _ (readers steps : List ℕ) (i r : ℕ) (sorted : IsStrictlySortedBy nat_cmp readers) (within : i < length readers) (is : r ≡ get_or readers i r) (range : (d : ℕ) → get_or steps d 0 ≤ NONE) where
-  bound : (least : ℕ) (best : Option ℕ) → IsBest (take i readers) steps least best → (least ≤ NONE) × ((d : ℕ) → Contains (take i readers) d → least ≤ get_or steps d 0)
+module _ (readers steps : List ℕ) (i r : ℕ) (sorted : IsStrictlySortedBy nat_cmp readers) (within : i < length readers) (is : r ≡ get_or readers i r)
+    (range : (d : ℕ) → get_or steps d 0 ≤ NONE) where
+  bound : (least : ℕ) (best : Option ℕ) → IsBest (take i readers) steps least best
+      → (least ≤ NONE) × ((d : ℕ) → Contains (take i readers) d → least ≤ get_or steps d 0)
   bound least None b = (omega (arith, b.0), λ d h. omega (arith, b.0, b.1 d h))
   bound least (Some c) b = (omega (arith, b.0, b.1.reached), λ d h. omega (arith, b.0, b.1.least d h))
 
-  pub nearer : (least : ℕ) (best : Option ℕ) → IsBest (take i readers) steps least best → get_or steps r 0 < least → IsBest (take (i + 1) readers) steps (get_or steps r 0) (Some r)
+  pub nearer : (least : ℕ) (best : Option ℕ) → IsBest (take i readers) steps least best → get_or steps r 0 < least
+      → IsBest (take (i + 1) readers) steps (get_or steps r 0) (Some r)
   nearer least best b low = (
     refl,
     record {
       there = Contains-last readers i r within is;
       reached = omega (arith, (bound least best b).0);
-      least = λ d h. ⊎_elim (λ before. omega (arith, (bound least best b).1 d before)) (λ same. rw same (omega arith)) (Contains-taken readers i r d within is h);
-      first = λ d h e. ⊎_elim (λ before. absurd (omega (arith, (bound least best b).1 d before))) (λ same. rw same (omega arith)) (Contains-taken readers i r d within is h);
+      least =
+          λ d h. ⊎_elim (λ before. omega (arith, (bound least best b).1 d before)) (λ same. rw same (omega arith)) (Contains-taken readers i r d within is h);
+      first =
+          λ d h e. ⊎_elim (λ before. absurd (omega (arith, (bound least best b).1 d before))) (λ same. rw same (omega arith))
+          (Contains-taken readers i r d within is h);
     },
   )
 
-  pub no_nearer : (least : ℕ) (best : Option ℕ) → IsBest (take i readers) steps least best → least ≤ get_or steps r 0 → IsBest (take (i + 1) readers) steps least best
-  no_nearer least None b high = (b.0, λ d h. ⊎_elim (λ before. b.1 d before) (λ same. rw (← same) (omega (arith, b.0, range r))) (Contains-taken readers i r d within is h))
+  pub no_nearer : (least : ℕ) (best : Option ℕ) → IsBest (take i readers) steps least best → least ≤ get_or steps r 0
+      → IsBest (take (i + 1) readers) steps least best
+  no_nearer least None b high =
+      (b.0, λ d h. ⊎_elim (λ before. b.1 d before) (λ same. rw (← same) (omega (arith, b.0, range r))) (Contains-taken readers i r d within is h))
   no_nearer least (Some c) b high = (
     b.0,
     record {
@@ -96,7 +107,8 @@ pub reader_reads : (h : History) (a : ℕ) (x : List ℕ) (c : ℕ) → a < coun
 reader_reads h a x c from there = (
   from,
   All-contains (λ d. d < count h) (readers h a x) c (readers_below h a x) there,
-  has_name-contains (reads_from h a c) x (All-contains (λ d. has_name (reads_from h a d) x ≡ true) (readers h a x) c (filter_passes (λ d. has_name (reads_from h a d) x) (numbers h)) there),
+  has_name-contains (reads_from h a c) x (All-contains (λ d. has_name (reads_from h a d) x ≡ true) (readers h a x) c
+      (filter_passes (λ d. has_name (reads_from h a d) x) (numbers h)) there),
 )
 
 pub reads_reader : (h : History) (a : ℕ) (x : List ℕ) (c : ℕ) → IsReadsPair h a c x → Contains (readers h a x) c
@@ -107,7 +119,8 @@ reads_reader h a x c (from, to, (k, l, e)) = in_filter (λ d. has_name (reads_fr
 pub writes_not : (h : History) (b a : ℕ) (x : List ℕ) (c : ℕ) → list_any (λ y. y == b) (writers h x) ≡ false → MayContradict h b a x c → ⊥
 writes_not h b a x c none (other, pair, writer) = false≢true (sym none ∙ number_found (writers h x) b (writer_listed h x a c b pair writer))
 
-pub nearest_reader_of : (h : History) (steps : List ℕ) (b a : ℕ) (x : List ℕ) (c : ℕ) → b ≢ a → a < count h → list_any (λ y. y == b) (writers h x) ≡ true → IsNearest (readers h a x) steps c → IsNearestReader h steps b a x c
+pub nearest_reader_of : (h : History) (steps : List ℕ) (b a : ℕ) (x : List ℕ) (c : ℕ) → b ≢ a → a < count h → list_any (λ y. y == b) (writers h x) ≡ true
+    → IsNearest (readers h a x) steps c → IsNearestReader h steps b a x c
 nearest_reader_of h steps b a x c other to writes nearest = record {
   may = (other, reader_reads h a x c to nearest.there, writer_writes h x b (found_number (writers h x) b writes));
   reached = nearest.reached;
@@ -132,7 +145,8 @@ not_above_itself : (x : List ℕ) → name_cmp x x ≢ Greater
 not_above_itself x e = let tie : name_cmp x x ≡ Equal = tied_itself nat_list_cmp_total x in cc
 
 -- what stands before a place among the keys comes before what stands there
-earlier_key : (ks : List (List ℕ)) (i : ℕ) (y x : List ℕ) → IsStrictlySortedBy name_cmp ks → i < length ks → y ≡ get_or ks i y → Contains (take i ks) x → name_cmp x y ≢ Greater
+earlier_key : (ks : List (List ℕ)) (i : ℕ) (y x : List ℕ) → IsStrictlySortedBy name_cmp ks → i < length ks → y ≡ get_or ks i y → Contains (take i ks) x
+    → name_cmp x y ≢ Greater
 earlier_key ks i y x sorted l is (j, m, e) above =
     let low : j < i = omega (arith, length-take-le i ks) in
     let below : name_cmp (get_or ks j []) (get_or ks i []) ≡ Less = Less-from_sorted name_cmp ks j i [] sorted low l in
@@ -141,13 +155,15 @@ earlier_key ks i y x sorted l is (j, m, e) above =
     let less : name_cmp x y ≡ Less = rw (here, there) below in
     cc
 
-module _ (h : History) (steps : List ℕ) (b a : ℕ) (ks : List (List ℕ)) (i : ℕ) (y : List ℕ) (sorted : IsStrictlySortedBy name_cmp ks) (within : i < length ks) (is : y ≡ get_or ks i y) (range : (d : ℕ) → get_or steps d 0 ≤ NONE) where
+module _ (h : History) (steps : List ℕ) (b a : ℕ) (ks : List (List ℕ)) (i : ℕ) (y : List ℕ) (sorted : IsStrictlySortedBy name_cmp ks)
+    (within : i < length ks) (is : y ≡ get_or ks i y) (range : (d : ℕ) → get_or steps d 0 ≤ NONE) where
   pub choice_bound : (least : ℕ) (best : Option (List ℕ × ℕ)) → IsBestChoice h steps b a (take i ks) least best
       → (least ≤ NONE) × ((z : List ℕ) (d : ℕ) → Contains (take i ks) z → MayContradict h b a z d → least ≤ get_or steps d 0)
   choice_bound least None best = (omega (arith, best.0), λ z d t may. omega (arith, best.0, best.1 z d t may))
   choice_bound least (Some found) best = (omega (arith, best.0, best.1.nearest.reached), λ z d t may. omega (arith, best.0, best.1.least z d t may))
 
-  pub nearer_key : (least : ℕ) (best : Option (List ℕ × ℕ)) (c : ℕ) → IsBestChoice h steps b a (take i ks) least best → IsNearestReader h steps b a y c → get_or steps c 0 < least
+  pub nearer_key : (least : ℕ) (best : Option (List ℕ × ℕ)) (c : ℕ) → IsBestChoice h steps b a (take i ks) least best → IsNearestReader h steps b a y c
+      → get_or steps c 0 < least
       → IsBestChoice h steps b a (take (i + 1) ks) (get_or steps c 0) (Some (y, c))
   nearer_key least best c before nearest low = (
     refl,
@@ -166,7 +182,8 @@ module _ (h : History) (steps : List ℕ) (b a : ℕ) (ks : List (List ℕ)) (i 
   )
 
   -- the key has no reader, or none that is nearer
-  pub no_nearer_key : (least : ℕ) (best : Option (List ℕ × ℕ)) → IsBestChoice h steps b a (take i ks) least best → ((d : ℕ) → MayContradict h b a y d → least ≤ get_or steps d 0)
+  pub no_nearer_key : (least : ℕ) (best : Option (List ℕ × ℕ)) → IsBestChoice h steps b a (take i ks) least best
+      → ((d : ℕ) → MayContradict h b a y d → least ≤ get_or steps d 0)
       → IsBestChoice h steps b a (take (i + 1) ks) least best
   no_nearer_key least None before high = (
     before.0,

@@ -1,5 +1,7 @@
 -- What links of all kinds cost, by the prices and the causal pairs; and the tables of all rows.
-use Rattle.std.proofs.Common.{ℕ, ◌<◌, ◌≡◌, ◌≢◌, ◌==◌, ◌⊎◌, inl, inr, Bool, true, false, List, length, get_or, slice_index, Option, None, Some, refl, sym, ◌∙◌, ap, subst, arith, eq-eqb}
+use Rattle.std.proofs.Common.{ℕ, ◌<◌, ◌≡◌, ◌≢◌, ◌==◌, ◌⊎◌, inl, inr, Bool, true, false, List, length}
+use Rattle.std.proofs.Common.{get_or, slice_index, Option, None, Some, refl, sym, ◌∙◌, ap, subst, arith}
+use Rattle.std.proofs.Common.eq-eqb
 use Rattle.std.proofs.lemmas.Bool.{false≢true, ne_eqb}
 use Rattle.tcc_reads.specs.History.{count}
 use Rattle.tcc_graph.specs.Levels.{Judged, IsAllowed}
@@ -50,7 +52,8 @@ allowed_one level.Causal walk one = tt
 allowed_one level.Atomic walk one = one
 
 -- the distance is 1 on the causal pairs alone
-pub one_step_pair : (j : Judged) (near : NearTable) (u v : ℕ) → IsNearOf j near → u < count j.history → v < count j.history → (slice_index (row_of near.rows u) v == 1) ≡ causal_pair j.history u v
+pub one_step_pair : (j : Judged) (near : NearTable) (u v : ℕ) → IsNearOf j near → u < count j.history → v < count j.history
+    → (slice_index (row_of near.rows u) v == 1) ≡ causal_pair j.history u v
 one_step_pair j near u v is from to = go (causal_pair j.history u v) refl (read row v)
   where
     row : List ℕ
@@ -71,7 +74,8 @@ one_step_pair j near u v is from to = go (causal_pair j.history u v) refl (read 
     back : IsWalkDistance j u v (Some 1) → causal_pair j.history u v ≡ true
     back short = within_one j.history u v (short.attained.0, short.attained.1.0, omega (arith, short.attained.2))
 
-    go : (t : Bool) → causal_pair j.history u v ≡ t → ((slice_index row v ≡ NONE) × (least_in row v ≡ None)) ⊎ ((slice_index row v ≢ NONE) × (least_in row v ≡ Some (slice_index row v)))
+    go : (t : Bool) → causal_pair j.history u v ≡ t → ((slice_index row v ≡ NONE) × (least_in row v ≡ None))
+        ⊎ ((slice_index row v ≢ NONE) × (least_in row v ≡ Some (slice_index row v)))
         → (slice_index row v == 1) ≡ causal_pair j.history u v
     go true p (inl r) = absurd (let e : None ≡ Some 1 = sym r.1 ∙ there (least_in row v) (is.exact u v from to) p in cc)
     go true p (inr r) =
@@ -86,7 +90,8 @@ one_step_pair j near u v is from to = go (causal_pair j.history u v) refl (read 
             let d : least_in row v ≡ Some 1 = r.1 ∙ ap Some one in
             false≢true (sym p ∙ back (subst (λ (o : Option ℕ). IsWalkDistance j u v o) d (is.exact u v from to)))
 
-pub cost_row_of : (j : Judged) (near : NearTable) (u : ℕ) (prices costs : List ℕ) → IsNearOf j near → u < count j.history → IsPriceRow j u prices → HasPairs (row_of near.rows u) prices costs → IsCostRow j u costs
+pub cost_row_of : (j : Judged) (near : NearTable) (u : ℕ) (prices costs : List ℕ) → IsNearOf j near → u < count j.history → IsPriceRow j u prices
+    → HasPairs (row_of near.rows u) prices costs → IsCostRow j u costs
 cost_row_of j near u prices costs is from priced pairs = record {
   long = pairs.long ∙ priced.long;
   costed = λ v to. go v to (causal_pair j.history u v) refl;
@@ -96,7 +101,11 @@ cost_row_of j near u prices costs is from priced pairs = record {
     go v to true e =
         let direct : (slice_index (row_of near.rows u) v == 1) ≡ true = one_step_pair j near u v is from to ∙ e in
         let one : get_or costs v 0 ≡ 1 = rw direct at (pairs.each v (omega (arith, priced.long))) in
-        rw one (record { attained = let l = pair_link j u v (pair_kinds j.history u v e) in (l.0, record { from = l.1; to = l.2; link = l.3 }, l.4); least = λ l w. some_cost l })
+        rw one (record {
+          attained = let l = pair_link j u v (pair_kinds j.history u v e) in
+              (l.0, record { from = l.1; to = l.2; link = l.3 }, l.4);
+          least = λ l w. some_cost l;
+        })
     go v to false e =
         let far : (slice_index (row_of near.rows u) v == 1) ≡ false = one_step_pair j near u v is from to ∙ e in
         let same : get_or costs v 0 ≡ get_or prices v 0 = rw far at (pairs.each v (omega (arith, priced.long))) in

@@ -41,10 +41,12 @@ insert_sorted : (xs : List (List ℕ)) (k : List ℕ) → IsStrictlySortedBy nam
 insert_sorted [] k sorted = sorted_cons k [] (All-nil (λ y. name_cmp k y ≡ Less)) sorted_none
 insert_sorted (x ∷ xs) k sorted = go (name_cmp k x) refl (insert_sorted xs k (sorted_tail name_cmp x xs sorted))
   where
-    go : (o : Ordering) → name_cmp k x ≡ o → IsStrictlySortedBy name_cmp (insert_key name_cmp xs k) → IsStrictlySortedBy name_cmp (insert_key name_cmp (x ∷ xs) k)
+    go : (o : Ordering) → name_cmp k x ≡ o → IsStrictlySortedBy name_cmp (insert_key name_cmp xs k)
+        → IsStrictlySortedBy name_cmp (insert_key name_cmp (x ∷ xs) k)
     go Less e rest = rw e
         (sorted_cons k (x ∷ xs)
-        (All-cons (λ y. name_cmp k y ≡ Less) x xs e (All-weaker (λ y. name_cmp x y ≡ Less) (λ y. name_cmp k y ≡ Less) (λ y l. nat_list_cmp_total.trans k x y e l) xs (below_head x xs sorted))) sorted)
+        (All-cons (λ y. name_cmp k y ≡ Less) x xs e
+        (All-weaker (λ y. name_cmp x y ≡ Less) (λ y. name_cmp k y ≡ Less) (λ y l. nat_list_cmp_total.trans k x y e l) xs (below_head x xs sorted))) sorted)
     go Equal e rest = rw e sorted
     go Greater e rest =
         let over : name_cmp x k ≡ Less = rw (nat_list_cmp_total.antisymm x k, e) refl in
@@ -65,4 +67,6 @@ read_place h a c x p =
     (any.0, any.2, get_or_default (keys h) any.0 [] any.1 any.2 ∙ any.3 ∙ sym ((bytes_eq-Decides x any.1).0 any.4))
 
 pub key_at : (h : History) (k : ℕ) → k < length (keys h) → is_key h (name_of (keys h) k) ≡ true
-key_at h k within = sym (has_name-keys h (name_of (keys h) k)) ∙ list_any_at (bytes_eq (name_of (keys h) k)) (keys h) k [] within ((bytes_eq-Decides (name_of (keys h) k) (name_of (keys h) k)).1 refl)
+key_at h k within =
+    sym (has_name-keys h (name_of (keys h) k)) ∙ list_any_at (bytes_eq (name_of (keys h) k)) (keys h) k [] within
+    ((bytes_eq-Decides (name_of (keys h) k) (name_of (keys h) k)).1 refl)

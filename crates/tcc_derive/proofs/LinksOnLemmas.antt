@@ -20,11 +20,13 @@ module _ (j : Judged) (t : Tables) (is : IsPricesOf j t) (u : ℕ) (from : u < c
   has = is.others u from
 
   -- where a reason is, there is a price
-  priced : (v : ℕ) → v < count j.history → (x : List ℕ) (c : ℕ) (walk : List Step) → IsReason j u v x c walk → (o : Option ℕ) → price_at t u v ≡ o → IsPrice j u v o → IsOther j t u v
+  priced : (v : ℕ) → v < count j.history → (x : List ℕ) (c : ℕ) (walk : List Step) → IsReason j u v x c walk → (o : Option ℕ) → price_at t u v ≡ o
+      → IsPrice j u v o → IsOther j t u v
   priced v to x c walk reason None e none = absurd (none (link.Derived u v x c walk) (x, c, walk, refl, reason))
   priced v to x c walk reason (Some n) e least = record { below = to; why = inr (n, e) }
 
-  lead : (v c : ℕ) → v < count j.history → cost_at t u v ≡ Some c → (l : Link) → IsLinkOf j u v l → link_cost l ≡ c → (IsLater t u v × (c ≡ 1)) ⊎ Contains (others_at t u) (v, c)
+  lead : (v c : ℕ) → v < count j.history → cost_at t u v ≡ Some c → (l : Link) → IsLinkOf j u v l → link_cost l ≡ c
+      → (IsLater t u v × (c ≡ 1)) ⊎ Contains (others_at t u) (v, c)
   lead v c to e (link.Session a b) w costs =
       let pair : IsSessionPair j.history u v = rw (w.from, w.to) at w.link in
       let later = (ended.pairs v).0 pair in

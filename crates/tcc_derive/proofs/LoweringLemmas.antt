@@ -43,7 +43,8 @@ module _ (steps : List ℕ) (b : ℕ) where
     from = λ a. inl refl;
   }
 
-  module _ (r : Read) (old new : List ℕ) (other : r.source ≢ b) (inside : r.source < length old) (now : new ≡ set old r.source (min (get_or old r.source 0) (price_by steps r))) where
+  module _ (r : Read) (old new : List ℕ) (other : r.source ≢ b) (inside : r.source < length old)
+      (now : new ≡ set old r.source (min (get_or old r.source 0) (price_by steps r))) where
     here : get_or new r.source 0 ≡ min (get_or old r.source 0) (price_by steps r)
     here = rw now (get_or-set_same old r.source (min (get_or old r.source 0) (price_by steps r)) 0 inside)
 
@@ -57,11 +58,14 @@ module _ (steps : List ℕ) (b : ℕ) where
     price_there : get_or new r.source 0 ≤ price_by steps r
     price_there = omega (arith, here)
 
-    least : (price_by steps r < get_or old r.source 0) ⊎ (get_or old r.source 0 ≤ price_by steps r) → (get_or new r.source 0 ≡ get_or old r.source 0) ⊎ ((s : Read) × Contains (r ∷ []) s × (s.source ≡ r.source) × (r.source ≢ b) × (get_or new r.source 0 ≡ price_by steps s))
+    least : (price_by steps r < get_or old r.source 0) ⊎ (get_or old r.source 0 ≤ price_by steps r)
+        → (get_or new r.source 0 ≡ get_or old r.source 0)
+        ⊎ ((s : Read) × Contains (r ∷ []) s × (s.source ≡ r.source) × (r.source ≢ b) × (get_or new r.source 0 ≡ price_by steps s))
     least (inl low) = inr (r, (0, omega arith, refl), refl, other, omega (arith, here))
     least (inr high) = inl (omega (arith, here))
 
-    comes : (a : ℕ) → (a ≡ r.source) ⊎ (a ≡ r.source → ⊥) → (get_or new a 0 ≡ get_or old a 0) ⊎ ((s : Read) × Contains (r ∷ []) s × (s.source ≡ a) × (a ≢ b) × (get_or new a 0 ≡ price_by steps s))
+    comes : (a : ℕ) → (a ≡ r.source) ⊎ (a ≡ r.source → ⊥) → (get_or new a 0 ≡ get_or old a 0)
+        ⊎ ((s : Read) × Contains (r ∷ []) s × (s.source ≡ a) × (a ≢ b) × (get_or new a 0 ≡ price_by steps s))
     comes a (inr ne) = inl (elsewhere a ne)
     comes a (inl same) = rw same (least (cases_lt (price_by steps r) (get_or old r.source 0)))
 

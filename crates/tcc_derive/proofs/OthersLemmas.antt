@@ -1,12 +1,16 @@
 -- What passes the test of others below a number are the others of a transaction.
-use Rattle.std.proofs.Common.{ℕ, zero, suc, ◌<◌, ◌≡◌, ◌+◌, ◌≢◌, ◌≤◌, ◌==◌, ◌⊎◌, inl, inr, Bool, true, false, not, ◌&&◌, cond, if◌then◌else◌, length, List, [], ◌∷◌, ◌++◌, slice_index, get_or, Option, None, Some, refl, sym, ap, ◌∙◌, subst, arith, eq-eqb}
+use Rattle.std.proofs.Common.{ℕ, zero, suc, ◌<◌, ◌≡◌, ◌+◌, ◌≢◌, ◌≤◌, ◌==◌, ◌⊎◌, inl, inr, Bool, true, false, not, ◌&&◌, cond}
+use Rattle.std.proofs.Common.{if◌then◌else◌, length, List, [], ◌∷◌, ◌++◌, slice_index, get_or, Option, None, Some, refl, sym, ap, ◌∙◌}
+use Rattle.std.proofs.Common.{subst, arith, eq-eqb}
 use Rattle.std.specs.Prelude.{Contains, All, nat_lt}
 use Rattle.std.specs.List.{AllPairs}
 use Rattle.std.specs.List.Sorted.{IsNonDecreasingBy, IsPartitionPoint}
 use Rattle.std.proofs.lemmas.List.Sorted.{IsNonDecreasingBy-from_default}
 use Rattle.std.proofs.lemmas.List.{append-nil}
 use Rattle.std.proofs.lemmas.List.Kept.{AllPairs-cons}
-use Rattle.std.proofs.lemmas.Bool.{cases_eq, cases_lt, lt-ltb, ltb-true, ltb-false, or_cases, and_parts, and_from, or_left, or_right, ne_eqb, not-true, false≢true}
+use Rattle.std.proofs.lemmas.Bool.{cases_eq, cases_lt, lt-ltb, ltb-true, ltb-false, or_cases}
+use Rattle.std.proofs.lemmas.Bool.{and_parts, and_from, or_left, or_right, ne_eqb, not-true}
+use Rattle.std.proofs.lemmas.Bool.false≢true
 use Rattle.std.proofs.lemmas.List.Elements.{Contains-append_left, Contains-push, Contains-append_cases, All-nil, All-cons, All-append}
 use Rattle.tcc_reads.specs.History.{History, count}
 use Rattle.tcc_graph.specs.Relations.{IsSessionPair, IsReadsPair, reads_from, has_items}
@@ -28,9 +32,12 @@ use Rattle.tcc_derive.proofs.CostLemmas.{link_of}
 module _ (h : History) (u : ℕ) (prices costs : List ℕ) where
   passed : (n v c : ℕ) → Contains (others_below h u prices costs n) (v, c) → (v < n) × (is_other h u prices costs v ≡ true) × (c ≡ slice_index costs v)
   passed zero v c (k, l, e) = absurd (omega arith)
-  passed (suc n) v c there = go (λ before. passed n v c before) (Contains-append_cases (others_below h u prices costs n) (cond (is_other h u prices costs n) ((n, slice_index costs n) ∷ []) []) (v, c) there)
+  passed (suc n) v c there =
+      go (λ before. passed n v c before) (Contains-append_cases (others_below h u prices costs n)
+      (cond (is_other h u prices costs n) ((n, slice_index costs n) ∷ []) []) (v, c) there)
     where
-      here : (t : Bool) → is_other h u prices costs n ≡ t → Contains {X = ℕ × ℕ} (cond t ((n, slice_index costs n) ∷ []) []) (v, c) → (v < suc n) × (is_other h u prices costs v ≡ true) × (c ≡ slice_index costs v)
+      here : (t : Bool) → is_other h u prices costs n ≡ t → Contains {X = ℕ × ℕ} (cond t ((n, slice_index costs n) ∷ []) []) (v, c)
+          → (v < suc n) × (is_other h u prices costs v ≡ true) × (c ≡ slice_index costs v)
       here false e (k, l, same) = absurd (omega arith)
       here true e (zero, l, same) =
           let number : v ≡ n = sym (ap (λ (p : ℕ × ℕ). p.0) same) in
@@ -38,7 +45,9 @@ module _ (h : History) (u : ℕ) (prices costs : List ℕ) where
           (omega (arith, number), subst (λ (w : ℕ). is_other h u prices costs w ≡ true) (sym number) e, cost ∙ ap (λ w. slice_index costs w) (sym number))
       here true e (suc k, l, same) = absurd (omega arith)
 
-      go : (Contains (others_below h u prices costs n) (v, c) → (v < n) × (is_other h u prices costs v ≡ true) × (c ≡ slice_index costs v)) → Contains (others_below h u prices costs n) (v, c) ⊎ Contains {X = ℕ × ℕ} (cond (is_other h u prices costs n) ((n, slice_index costs n) ∷ []) []) (v, c)
+      go : (Contains (others_below h u prices costs n) (v, c) → (v < n) × (is_other h u prices costs v ≡ true) × (c ≡ slice_index costs v))
+          → Contains (others_below h u prices costs n) (v, c)
+          ⊎ Contains {X = ℕ × ℕ} (cond (is_other h u prices costs n) ((n, slice_index costs n) ∷ []) []) (v, c)
           → (v < suc n) × (is_other h u prices costs v ≡ true) × (c ≡ slice_index costs v)
       go f (inl before) = let w = f before in (omega (arith, w.0), w.1, w.2)
       go f (inr last) = here (is_other h u prices costs n) refl last
@@ -47,12 +56,14 @@ module _ (h : History) (u : ℕ) (prices costs : List ℕ) where
   kept zero v low e = absurd (omega arith)
   kept (suc n) v low e = go (λ before. kept n v before e) (cases_eq v n)
     where
-      go : (v < n → Contains (others_below h u prices costs n) (v, slice_index costs v)) → (v ≡ n) ⊎ (v ≢ n) → Contains (others_below h u prices costs (suc n)) (v, slice_index costs v)
+      go : (v < n → Contains (others_below h u prices costs n) (v, slice_index costs v)) → (v ≡ n) ⊎ (v ≢ n)
+          → Contains (others_below h u prices costs (suc n)) (v, slice_index costs v)
       go f (inl is) =
           rw (← is) (rw e (Contains-push (others_below h u prices costs v) (v, slice_index costs v)))
       go f (inr other) =
           let before : v < n = omega (arith, other, low) in
-          Contains-append_left (others_below h u prices costs n) (cond (is_other h u prices costs n) ((n, slice_index costs n) ∷ []) []) (v, slice_index costs v) (f before)
+          Contains-append_left (others_below h u prices costs n) (cond (is_other h u prices costs n) ((n, slice_index costs n) ∷ []) [])
+          (v, slice_index costs v) (f before)
 
 module _ (h : History) (u : ℕ) where
   pub below : (prices costs : List ℕ) (n : ℕ) → All (λ (p : ℕ × ℕ). p.0 < n) (others_below h u prices costs n)
@@ -66,18 +77,21 @@ module _ (h : History) (u : ℕ) where
       last true = All-cons (λ (p : ℕ × ℕ). p.0 < suc n) (n, slice_index costs n) [] (omega arith) (All-nil (λ (p : ℕ × ℕ). p.0 < suc n))
       last false = All-nil (λ (p : ℕ × ℕ). p.0 < suc n)
 
-  rise : (xs : List (ℕ × ℕ)) (n c : ℕ) → All (λ (p : ℕ × ℕ). p.0 < n) xs → AllPairs (λ (p q : ℕ × ℕ). p.0 < q.0) xs → AllPairs (λ (p q : ℕ × ℕ). p.0 < q.0) (xs ++ (n, c) ∷ [])
+  rise : (xs : List (ℕ × ℕ)) (n c : ℕ) → All (λ (p : ℕ × ℕ). p.0 < n) xs → AllPairs (λ (p q : ℕ × ℕ). p.0 < q.0) xs
+      → AllPairs (λ (p q : ℕ × ℕ). p.0 < q.0) (xs ++ (n, c) ∷ [])
   rise [] n c low pairs = AllPairs-cons (λ (p q : ℕ × ℕ). p.0 < q.0) (n, c) [] (All-nil (λ (q : ℕ × ℕ). n < q.0)) pairs
   rise (x ∷ xs) n c low pairs =
       AllPairs-cons (λ (p q : ℕ × ℕ). p.0 < q.0) x (xs ++ (n, c) ∷ [])
-      (All-append (λ (q : ℕ × ℕ). x.0 < q.0) xs ((n, c) ∷ []) (λ k d l. pairs 0 (suc k) d (omega arith) (omega arith)) (All-cons (λ (q : ℕ × ℕ). x.0 < q.0) (n, c) [] (low 0 x (omega arith)) (All-nil (λ (q : ℕ × ℕ). x.0 < q.0))))
+      (All-append (λ (q : ℕ × ℕ). x.0 < q.0) xs ((n, c) ∷ []) (λ k d l. pairs 0 (suc k) d (omega arith) (omega arith))
+      (All-cons (λ (q : ℕ × ℕ). x.0 < q.0) (n, c) [] (low 0 x (omega arith)) (All-nil (λ (q : ℕ × ℕ). x.0 < q.0))))
       (rise xs n c (λ k d l. low (suc k) d (omega arith)) (λ i k d l m. pairs (suc i) (suc k) d (omega arith) (omega arith)))
 
   pub ascends : (prices costs : List ℕ) (n : ℕ) → AllPairs (λ (p q : ℕ × ℕ). p.0 < q.0) (others_below h u prices costs n)
   ascends prices costs zero = λ i k d l m. absurd (omega arith)
   ascends prices costs (suc n) = go (is_other h u prices costs n) (ascends prices costs n)
     where
-      go : (t : Bool) → AllPairs (λ (p q : ℕ × ℕ). p.0 < q.0) (others_below h u prices costs n) → AllPairs (λ (p q : ℕ × ℕ). p.0 < q.0) (others_below h u prices costs n ++ cond t ((n, slice_index costs n) ∷ []) [])
+      go : (t : Bool) → AllPairs (λ (p q : ℕ × ℕ). p.0 < q.0) (others_below h u prices costs n)
+          → AllPairs (λ (p q : ℕ × ℕ). p.0 < q.0) (others_below h u prices costs n ++ cond t ((n, slice_index costs n) ∷ []) [])
       go true so_far = rise (others_below h u prices costs n) n (slice_index costs n) (below prices costs n) so_far
       go false so_far = rw (append-nil (others_below h u prices costs n)) so_far
 
@@ -107,19 +121,26 @@ among_lower (p ∷ xs) v low =
     rw (ne_eqb p.0 v (λ e. absurd (omega (arith, e, less)))) (among_lower xs v (λ k d l. low (suc k) d (omega arith)))
 
 -- what passes stands there with its cost, and nothing else stands there
-among_kept : (h : History) (u : ℕ) (prices costs : List ℕ) (n v : ℕ) → v < n → is_other h u prices costs v ≡ true → cost_among (others_below h u prices costs n) v ≡ Some (slice_index costs v)
+among_kept : (h : History) (u : ℕ) (prices costs : List ℕ) (n v : ℕ) → v < n → is_other h u prices costs v ≡ true
+    → cost_among (others_below h u prices costs n) v ≡ Some (slice_index costs v)
 among_kept h u prices costs zero v low e = absurd (omega arith)
 among_kept h u prices costs (suc n) v low e = go (λ before. among_kept h u prices costs n v before e) (cases_eq v n)
   where
-    go : (v < n → cost_among (others_below h u prices costs n) v ≡ Some (slice_index costs v)) → (v ≡ n) ⊎ (v ≢ n) → cost_among (others_below h u prices costs (suc n)) v ≡ Some (slice_index costs v)
+    go : (v < n → cost_among (others_below h u prices costs n) v ≡ Some (slice_index costs v)) → (v ≡ n) ⊎ (v ≢ n)
+        → cost_among (others_below h u prices costs (suc n)) v ≡ Some (slice_index costs v)
     go f (inl is) =
-        rw (← is) (rw e (among_append (others_below h u prices costs v) ((v, slice_index costs v) ∷ []) v (among_lower (others_below h u prices costs v) v (below h u prices costs v)) ∙ rw (eq-eqb v v refl) refl))
-    go f (inr other) = among_before (others_below h u prices costs n) (cond (is_other h u prices costs n) ((n, slice_index costs n) ∷ []) []) v (slice_index costs v) (f (omega (arith, other, low)))
+        rw (← is) (rw e (among_append (others_below h u prices costs v) ((v, slice_index costs v) ∷ []) v
+        (among_lower (others_below h u prices costs v) v (below h u prices costs v)) ∙ rw (eq-eqb v v refl) refl))
+    go f (inr other) =
+        among_before (others_below h u prices costs n) (cond (is_other h u prices costs n) ((n, slice_index costs n) ∷ []) []) v (slice_index costs v)
+        (f (omega (arith, other, low)))
 
-among_none : (h : History) (u : ℕ) (prices costs : List ℕ) (n v : ℕ) → is_other h u prices costs v ≡ false → cost_among (others_below h u prices costs n) v ≡ None
+among_none : (h : History) (u : ℕ) (prices costs : List ℕ) (n v : ℕ) → is_other h u prices costs v ≡ false
+    → cost_among (others_below h u prices costs n) v ≡ None
 among_none h u prices costs zero v e = refl
 among_none h u prices costs (suc n) v e =
-    among_append (others_below h u prices costs n) (cond (is_other h u prices costs n) ((n, slice_index costs n) ∷ []) []) v (among_none h u prices costs n v e) ∙ last (is_other h u prices costs n) refl
+    among_append (others_below h u prices costs n) (cond (is_other h u prices costs n) ((n, slice_index costs n) ∷ []) []) v
+    (among_none h u prices costs n v e) ∙ last (is_other h u prices costs n) refl
   where
     last : (t : Bool) → is_other h u prices costs n ≡ t → cost_among (cond t ((n, slice_index costs n) ∷ []) []) v ≡ None
     last false f = refl
@@ -130,7 +151,8 @@ pub cost_other : (t : Tables) (u v : ℕ) → (IsLater t u v → ⊥) → cost_a
 unfolding cost_at
 cost_other t u v not_later = go (nat_lt u v && nat_lt v (end_of t u)) refl
   where
-    go : (b : Bool) → (nat_lt u v && nat_lt v (end_of t u)) ≡ b → (if nat_lt u v && nat_lt v (end_of t u) then Some 1 else cost_among (others_at t u) v) ≡ cost_among (others_at t u) v
+    go : (b : Bool) → (nat_lt u v && nat_lt v (end_of t u)) ≡ b
+        → (if nat_lt u v && nat_lt v (end_of t u) then Some 1 else cost_among (others_at t u) v) ≡ cost_among (others_at t u) v
     go false e = rw e refl
     go true e = let w = and_parts (nat_lt u v) (nat_lt v (end_of t u)) e in
         absurd (not_later (omega (arith, ltb-true u v w.0), ltb-true v (end_of t u) w.1))
@@ -139,7 +161,8 @@ pub cost_later : (t : Tables) (u v : ℕ) → IsLater t u v → cost_at t u v �
 unfolding cost_at
 cost_later t u v later = rw (and_from (nat_lt u v) (nat_lt v (end_of t u)) (lt-ltb u v (omega (arith, later.0))) (lt-ltb v (end_of t u) later.1)) refl
 
-module _ (j : Judged) (t : Tables) (u : ℕ) (from : u < count j.history) (priced : IsPriceRow j u (row_of t.prices u)) (costs : List ℕ) (costed : IsCostRow j u costs)
+module _ (j : Judged) (t : Tables) (u : ℕ) (from : u < count j.history) (priced : IsPriceRow j u (row_of t.prices u)) (costs : List ℕ)
+    (costed : IsCostRow j u costs)
     (ended : IsEnd j.history u (end_of t u)) (is : others_at t u ≡ others_below j.history u (row_of t.prices u) costs (count j.history)) where
   abbrev row : List (ℕ × ℕ)
   row = others_below j.history u (row_of t.prices u) costs (count j.history)
@@ -148,7 +171,8 @@ module _ (j : Judged) (t : Tables) (u : ℕ) (from : u < count j.history) (price
   IsWhy v = ((x : List ℕ) × IsReadsPair j.history u v x) ⊎ ((n : ℕ) × (price_at t u v ≡ Some n))
 
   -- what reads from u or has a price passes
-  passes : (v c : ℕ) → IsCost j u v (Some c) → slice_index costs v ≡ c → IsWhy v → Read (row_of t.prices u) v → is_other j.history u (row_of t.prices u) costs v ≡ true
+  passes : (v c : ℕ) → IsCost j u v (Some c) → slice_index costs v ≡ c → IsWhy v → Read (row_of t.prices u) v
+      → is_other j.history u (row_of t.prices u) costs v ≡ true
   passes v c least cost (inl (x, pair)) r =
       let low = least.least (link.Reads u v x) (record { from = refl; to = refl; link = pair }) in
       let some = some_cost least.attained.0 in
@@ -208,9 +232,12 @@ module _ (j : Judged) (t : Tables) (u : ℕ) (from : u < count j.history) (price
   cost_is v to = go (cases_lt u v) (cases_lt v (end_of t u))
     where
       far : (IsLater t u v → ⊥) → cost_at t u v ≡ least_in costs v
-      far not_later = cost_other t u v not_later ∙ (ap (λ (xs : List (ℕ × ℕ)). cost_among xs v) is ∙ by (is_other j.history u (row_of t.prices u) costs v) refl (read costs v) (costed.costed v to))
+      far not_later =
+          cost_other t u v not_later ∙ (ap (λ (xs : List (ℕ × ℕ)). cost_among xs v) is ∙ by (is_other j.history u (row_of t.prices u) costs v) refl
+          (read costs v) (costed.costed v to))
         where
-          by : (b : Bool) → is_other j.history u (row_of t.prices u) costs v ≡ b → Read costs v → IsCost j u v (least_in costs v) → cost_among row v ≡ least_in costs v
+          by : (b : Bool) → is_other j.history u (row_of t.prices u) costs v ≡ b → Read costs v → IsCost j u v (least_in costs v)
+              → cost_among row v ≡ least_in costs v
           by true e (inl w) cost = absurd (let l = some_link v to (why v to e) in (subst (λ (o : Option ℕ). IsCost j u v o) w.1 cost) l.0 l.1)
           by true e (inr w) cost = among_kept j.history u (row_of t.prices u) costs (count j.history) v to e ∙ sym w.1
           by false e (inl w) cost = among_none j.history u (row_of t.prices u) costs (count j.history) v e ∙ sym w.1
@@ -229,8 +256,11 @@ module _ (j : Judged) (t : Tables) (u : ℕ) (from : u < count j.history) (price
   pub only : (v c : ℕ) → Contains row (v, c) → IsOther j t u v × (cost_at t u v ≡ Some c)
   only v c there =
       let found = passed j.history u (row_of t.prices u) costs (count j.history) v c there in
-      let reason : IsWhy v = why v found.0 found.1 in
-      (record { below = found.0; why = reason }, cost_is v found.0 ∙ (go (some_link v found.0 reason) (read costs v) (costed.costed v found.0) ∙ ap Some (sym found.2)))
+      let reason : IsWhy v = why v found.0 found.1 in (
+        record { below = found.0; why = reason },
+        cost_is v found.0
+            ∙ (go (some_link v found.0 reason) (read costs v) (costed.costed v found.0) ∙ ap Some (sym found.2)),
+      )
     where
       go : (l : Link) × IsLinkOf j u v l → Read costs v → IsCost j u v (least_in costs v) → least_in costs v ≡ Some (slice_index costs v)
       go l (inl w) cost = absurd ((subst (λ (o : Option ℕ). IsCost j u v o) w.1 cost) l.0 l.1)
@@ -250,7 +280,8 @@ module _ (j : Judged) (t : Tables) (u : ℕ) (from : u < count j.history) (price
       go (inr w) =
           let both : Some (slice_index costs v) ≡ Some c = sym w.1 ∙ stands in
           let cost : slice_index costs v ≡ c = cc in
-          subst (λ (d : ℕ). Contains {X = ℕ × ℕ} row (v, d)) cost (kept j.history u (row_of t.prices u) costs (count j.history) v other.below (passes v c least cost other.why (read (row_of t.prices u) v)))
+          subst (λ (d : ℕ). Contains {X = ℕ × ℕ} row (v, d)) cost
+          (kept j.history u (row_of t.prices u) costs (count j.history) v other.below (passes v c least cost other.why (read (row_of t.prices u) v)))
 
   pub others_of : HasOthers j t u row
   others_of = record { ascending = ascends j.history u (row_of t.prices u) costs (count j.history); only = only; each = each }
@@ -268,7 +299,8 @@ numbers_rise xs pairs = IsNonDecreasingBy-from_default (λ (p : ℕ × ℕ). p.0
     go i j below (inr more) upto = let same : i ≡ j = omega (arith, more, upto) in rw same (omega arith)
 
 -- what stands at some place
-pub among_found : (xs : List (ℕ × ℕ)) (k v c : ℕ) → AllPairs (λ (p q : ℕ × ℕ). p.0 < q.0) xs → k < length xs → get_or xs k (0, 0) ≡ (v, c) → cost_among xs v ≡ Some c
+pub among_found : (xs : List (ℕ × ℕ)) (k v c : ℕ) → AllPairs (λ (p q : ℕ × ℕ). p.0 < q.0) xs → k < length xs → get_or xs k (0, 0) ≡ (v, c)
+    → cost_among xs v ≡ Some c
 among_found [] k v c pairs inside is = absurd (omega arith)
 among_found (p ∷ xs) zero v c pairs inside is =
     let number : p.0 ≡ v = ap (λ (q : ℕ × ℕ). q.0) is in
@@ -277,7 +309,8 @@ among_found (p ∷ xs) zero v c pairs inside is =
 among_found (p ∷ xs) (suc k) v c pairs inside is =
     let less : p.0 < (get_or xs k (0, 0)).0 = pairs 0 (suc k) (0, 0) (omega arith) inside in
     let number : (get_or xs k (0, 0)).0 ≡ v = ap (λ (q : ℕ × ℕ). q.0) is in
-    rw (ne_eqb p.0 v (λ e. absurd (omega (arith, e, less, number)))) (among_found xs k v c (λ i m d l n. pairs (suc i) (suc m) d (omega arith) (omega arith)) (omega arith) is)
+    rw (ne_eqb p.0 v (λ e. absurd (omega (arith, e, less, number))))
+    (among_found xs k v c (λ i m d l n. pairs (suc i) (suc m) d (omega arith) (omega arith)) (omega arith) is)
 
 -- where no place has the number
 pub among_absent : (xs : List (ℕ × ℕ)) (v : ℕ) → ((i : ℕ) → i < length xs → (get_or xs i (0, 0)).0 ≢ v) → cost_among xs v ≡ None

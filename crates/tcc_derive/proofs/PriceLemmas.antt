@@ -1,5 +1,7 @@
 -- A row that all reads lowered that b may contradict has the prices from b.
-use Rattle.std.proofs.Common.{ℕ, ◌+◌, ◌<◌, ◌≤◌, ◌≡◌, ◌≢◌, ◌==◌, ◌⊎◌, inl, inr, Bool, true, false, List, length, get_or, flat_map, replicate, if◌then◌else◌, None, Some, refl, sym, ◌∙◌, subst, arith, ⊎_elim}
+use Rattle.std.proofs.Common.{ℕ, ◌+◌, ◌<◌, ◌≤◌, ◌≡◌, ◌≢◌, ◌==◌, ◌⊎◌, inl, inr, Bool, true, false, List, length}
+use Rattle.std.proofs.Common.{get_or, flat_map, replicate, if◌then◌else◌, None, Some, refl, sym, ◌∙◌, subst}
+use Rattle.std.proofs.Common.{arith, ⊎_elim}
 use Rattle.std.specs.List.{Contains}
 use Rattle.std.proofs.lemmas.Bool.{eqb-true, eq-eqb, false≢true}
 use Rattle.std.proofs.lemmas.List.{get_or-replicate, length-replicate}
@@ -38,29 +40,35 @@ pub distance_cases : (j : Judged) (near : NearTable) (b c : ℕ) → IsNearOf j 
     → IsOut j b c ⊎ IsNearby j b c (get_or (row_of near.rows b) c 0)
 distance_cases j near b c nears from to = go (get_or (row_of near.rows b) c 0 == NONE) (nears.exact b c from to) (λ n. nears.short b c n from to)
   where
-    go : (t : Bool) → IsWalkDistance j b c (if t then None else Some (get_or (row_of near.rows b) c 0)) → ((n : ℕ) → (if t then None else Some (get_or (row_of near.rows b) c 0)) ≡ Some n → n ≤ count j.history)
+    go : (t : Bool) → IsWalkDistance j b c (if t then None else Some (get_or (row_of near.rows b) c 0))
+        → ((n : ℕ) → (if t then None else Some (get_or (row_of near.rows b) c 0)) ≡ Some n → n ≤ count j.history)
         → IsOut j b c ⊎ IsNearby j b c (get_or (row_of near.rows b) c 0)
     go true d s = inl d
     go false d s = inr (record { shortest = d; few = s _ refl })
 
-pub no_distance : (j : Judged) (near : NearTable) (b c : ℕ) → IsNearOf j near → b < count j.history → c < count j.history → IsOut j b c → get_or (row_of near.rows b) c 0 ≡ NONE
+pub no_distance : (j : Judged) (near : NearTable) (b c : ℕ) → IsNearOf j near → b < count j.history → c < count j.history → IsOut j b c
+    → get_or (row_of near.rows b) c 0 ≡ NONE
 no_distance j near b c nears from to none = go (get_or (row_of near.rows b) c 0 == NONE) refl (nears.exact b c from to)
   where
-    go : (t : Bool) → (get_or (row_of near.rows b) c 0 == NONE) ≡ t → IsWalkDistance j b c (if t then None else Some (get_or (row_of near.rows b) c 0)) → get_or (row_of near.rows b) c 0 ≡ NONE
+    go : (t : Bool) → (get_or (row_of near.rows b) c 0 == NONE) ≡ t → IsWalkDistance j b c (if t then None else Some (get_or (row_of near.rows b) c 0))
+        → get_or (row_of near.rows b) c 0 ≡ NONE
     go true e d = eqb-true (get_or (row_of near.rows b) c 0) NONE e
     go false e d = absurd (none d.attained.0 d.attained.1)
 
-pub out_of_reach : (j : Judged) (near : NearTable) (b c : ℕ) → IsNearOf j near → b < count j.history → c < count j.history → get_or (row_of near.rows b) c 0 ≡ NONE → IsOut j b c
+pub out_of_reach : (j : Judged) (near : NearTable) (b c : ℕ) → IsNearOf j near → b < count j.history → c < count j.history
+    → get_or (row_of near.rows b) c 0 ≡ NONE → IsOut j b c
 out_of_reach j near b c nears from to none = go (nears.exact b c from to)
   where
     go : IsWalkDistance j b c (least_in (row_of near.rows b) c) → IsOut j b c
     go d = rw none at d
 
 module _ (j : Judged) (near : NearTable) (reads : List (List Read)) (written : List (List ℕ)) (b : ℕ) (row : List ℕ)
-    (small : count j.history ≤ MAX_COUNT) (from : b < count j.history) (nears : IsNearOf j near) (read : IsReadsOf j.history reads) (wrote : IsWritesOf j.history written)
+    (small : count j.history ≤ MAX_COUNT) (from : b < count j.history) (nears : IsNearOf j near) (read : IsReadsOf j.history reads)
+    (wrote : IsWritesOf j.history written)
     (lowered : Lowers (flat_map (bucket reads) (bucket written b)) (row_of near.rows b) b (replicate (length near.rows) NONE) row) where
   -- the read of each reason is among those that lowered the row
-  reason_read : (a : ℕ) (x : List ℕ) (c : ℕ) → MayContradict j.history b a x c → Contains (flat_map (bucket reads) (bucket written b)) (record { source = a; reader = c })
+  reason_read : (a : ℕ) (x : List ℕ) (c : ℕ) → MayContradict j.history b a x c
+      → Contains (flat_map (bucket reads) (bucket written b)) (record { source = a; reader = c })
   reason_read a x c (other, pair, writer) =
       let place = read_place j.history a c x pair in
       in_flat_map (bucket reads) (bucket written b) place.0 (record { source = a; reader = c })
@@ -68,7 +76,8 @@ module _ (j : Judged) (near : NearTable) (reads : List (List Read)) (written : L
       ((read.each place.0 place.1 (record { source = a; reader = c })).1 (rw place.2 pair))
 
   -- and each of those may be contradicted
-  read_reason : (r : Read) → Contains (flat_map (bucket reads) (bucket written b)) r → r.source ≢ b → (x : List ℕ) × MayContradict j.history b r.source x r.reader
+  read_reason : (r : Read) → Contains (flat_map (bucket reads) (bucket written b)) r → r.source ≢ b
+      → (x : List ℕ) × MayContradict j.history b r.source x r.reader
   read_reason r there ne =
       let w = from_flat_map (bucket reads) (bucket written b) r there in
       let by = wrote.wrote b w.0 from w.1 in
@@ -102,11 +111,15 @@ module _ (j : Judged) (near : NearTable) (reads : List (List Read)) (written : L
   origin a to = go (lowered.from a)
     where
       by : (r : Read) → Contains (flat_map (bucket reads) (bucket written b)) r → r.source ≡ a → a ≢ b → get_or row a 0 ≡ price_by (row_of near.rows b) r
-          → IsOut j b r.reader ⊎ IsNearby j b r.reader (get_or (row_of near.rows b) r.reader 0) → r.reader < count j.history → (get_or row a 0 ≡ NONE) ⊎ ((s : Read) × IsFrom a s)
+          → IsOut j b r.reader ⊎ IsNearby j b r.reader (get_or (row_of near.rows b) r.reader 0) → r.reader < count j.history
+          → (get_or row a 0 ≡ NONE) ⊎ ((s : Read) × IsFrom a s)
       by r there source other cost (inl none) below = inl (omega (arith, no_distance j near b r.reader nears from below none))
-      by r there source other cost (inr near') below = inr (r, record { there = there; source = source; other = other; near' = near'; cost = omega (arith, near'.few) })
+      by r there source other cost (inr near') below =
+          inr (r, record { there = there; source = source; other = other; near' = near'; cost = omega (arith, near'.few) })
 
-      go : (get_or row a 0 ≡ get_or (replicate (length near.rows) NONE) a 0) ⊎ ((r : Read) × Contains (flat_map (bucket reads) (bucket written b)) r × (r.source ≡ a) × (a ≢ b) × (get_or row a 0 ≡ price_by (row_of near.rows b) r))
+      go : (get_or row a 0 ≡ get_or (replicate (length near.rows) NONE) a 0)
+          ⊎ ((r : Read) × Contains (flat_map (bucket reads) (bucket written b)) r × (r.source ≡ a) × (a ≢ b)
+          × (get_or row a 0 ≡ price_by (row_of near.rows b) r))
           → (get_or row a 0 ≡ NONE) ⊎ ((r : Read) × IsFrom a r)
       go (inl e) = inl (e ∙ get_or-replicate (length near.rows) a NONE 0 (omega (arith, nears.square.long)))
       go (inr w) =
@@ -128,8 +141,12 @@ module _ (j : Judged) (near : NearTable) (reads : List (List Read)) (written : L
   derived a r from' =
       let by = read_reason r from'.there (λ e. from'.other (sym from'.source ∙ e)) in
       let walk = from'.near'.shortest.attained in
-      let may = subst (λ (s : ℕ). MayContradict j.history b s by.0 r.reader) from'.source by.1 in
-      (link.Derived b a by.0 r.reader walk.0, (by.0, r.reader, walk.0, refl, (may, walk.1)), derived_cost b a by.0 r.reader walk.0 ∙ omega (arith, walk.2, from'.cost))
+      let may = subst (λ (s : ℕ). MayContradict j.history b s by.0 r.reader) from'.source by.1 in (
+        link.Derived b a by.0 r.reader walk.0,
+        (by.0, r.reader, walk.0, refl, (may, walk.1)),
+        derived_cost b a by.0 r.reader walk.0
+            ∙ omega (arith, walk.2, from'.cost),
+      )
 
   some : (a : ℕ) → get_or row a 0 ≢ NONE → a < count j.history → (r : Read) × IsFrom a r
   some a ne to = ⊎_elim (λ e. absurd (ne e)) (λ w. w) (origin a to)
@@ -141,7 +158,8 @@ module _ (j : Judged) (near : NearTable) (reads : List (List Read)) (written : L
   price a to true e = nothing a (eqb-true (get_or row a 0) NONE e)
   price a to false e = let w = some a (not_none a e) to in record { attained = derived a w.0 w.1; least = least a }
 
-  few_steps : (a : ℕ) (n : ℕ) → a < count j.history → (t : Bool) → (get_or row a 0 == NONE) ≡ t → (if t then None else Some (get_or row a 0)) ≡ Some n → n ≤ count j.history + 1
+  few_steps : (a : ℕ) (n : ℕ) → a < count j.history → (t : Bool) → (get_or row a 0 == NONE) ≡ t → (if t then None else Some (get_or row a 0)) ≡ Some n
+      → n ≤ count j.history + 1
   few_steps a n to true e is = absurd cc
   few_steps a n to false e is =
       let w = some a (not_none a e) to in

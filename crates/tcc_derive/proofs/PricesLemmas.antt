@@ -21,7 +21,8 @@ square : (n : ℕ) (rows : List (List ℕ)) → length rows ≡ n → ((u : ℕ)
 square n rows long wide = record { long = long; wide = λ k d l. rw (get_or_default rows k d [] l) (wide k (omega arith)) }
 
 module _ (j : Judged) (near : NearTable) (prices : List (List ℕ)) (ends : List ℕ) (others : List (List (ℕ × ℕ))) (limit : ℕ)
-    (is : IsNearOf j near) (priced : HasRows j.history (IsPriceRow j) prices) (ended : HasEnds j.history ends) (other : HasOtherRows j.history near.rows prices others) where
+    (is : IsNearOf j near) (priced : HasRows j.history (IsPriceRow j) prices) (ended : HasEnds j.history ends)
+    (other : HasOtherRows j.history near.rows prices others) where
   abbrev tables : Tables
   tables = record { level = j.level; prices = prices; ends = ends; others = others; limit = limit }
 
@@ -36,7 +37,9 @@ module _ (j : Judged) (near : NearTable) (prices : List (List ℕ)) (ends : List
     others_are = (other.each u from).2
 
     has_others : HasOthers j tables u (row_of others u)
-    has_others = subst (λ (row : List (ℕ × ℕ)). HasOthers j tables u row) (sym others_are) (others_of j tables u from (priced.each u from) costs cost_row (ended.each u from) others_are)
+    has_others =
+        subst (λ (row : List (ℕ × ℕ)). HasOthers j tables u row) (sym others_are)
+        (others_of j tables u from (priced.each u from) costs cost_row (ended.each u from) others_are)
 
     costed_there : (v : ℕ) → v < count j.history → IsCost j u v (cost_at tables u v)
     costed_there = costed_at j tables u from (priced.each u from) costs cost_row (ended.each u from) others_are

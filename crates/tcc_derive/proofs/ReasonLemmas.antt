@@ -39,7 +39,8 @@ module _ (j : Judged) (near : NearTable) (b a : ℕ) (nears : IsNearOf j near) (
 
   module _ (x : List ℕ) (c : ℕ) (walk : List Step) (choice : IsChoice j.history (row_of near.rows b) b a x c) (first : IsFirstWalk j b c walk) where
     -- no other walk is shorter than what the row says of its reader, and ours is no longer
-    at_least : (y : List ℕ) (d : ℕ) (other : List Step) → MayContradict j.history b a y d → IsAllowedWalk j b d other → get_or (row_of near.rows b) d 0 ≤ length other
+    at_least : (y : List ℕ) (d : ℕ) (other : List Step) → MayContradict j.history b a y d → IsAllowedWalk j b d other
+        → get_or (row_of near.rows b) d 0 ≤ length other
     at_least y d other may leads = go (distance_cases j near b d nears from may.1.1)
       where
         go : IsOut j b d ⊎ IsNearby j b d (get_or (row_of near.rows b) d 0) → get_or (row_of near.rows b) d 0 ≤ length other
@@ -59,7 +60,8 @@ module _ (j : Judged) (near : NearTable) (b a : ℕ) (nears : IsNearOf j near) (
     undercut : (y : List ℕ) (d : ℕ) (other : List Step) → MayContradict j.history b a y d → IsAllowedWalk j b d other → length walk ≤ length other
     undercut y d other may leads = omega (arith, at_most, choice.least y d may, at_least y d other may leads)
 
-    same_steps : (y : List ℕ) (d : ℕ) (other : List Step) → MayContradict j.history b a y d → IsAllowedWalk j b d other → length other ≡ length walk → get_or (row_of near.rows b) d 0 ≡ get_or (row_of near.rows b) c 0
+    same_steps : (y : List ℕ) (d : ℕ) (other : List Step) → MayContradict j.history b a y d → IsAllowedWalk j b d other → length other ≡ length walk
+        → get_or (row_of near.rows b) d 0 ≡ get_or (row_of near.rows b) c 0
     same_steps y d other may leads same = omega (arith, at_most, choice.least y d may, at_least y d other may leads)
 
     walk_up_to : (d : ℕ) (other : List Step) → c ≡ d → IsAllowedWalk j b d other → length other ≡ length walk → walk_cmp walk other ≢ Greater

@@ -31,7 +31,8 @@ not_above x y none above =
     absurd (false≢true (sym none ∙ ap is_lt less))
 
 -- without one, the read of the first key does
-pub reads_step : (h : History) (u v : ℕ) (x : List ℕ) → u < count h → v < count h → session_pair h u v ≡ false → IsFirstName (reads_from h u v) x → IsFirstStep h u v (step.Reads u v x)
+pub reads_step : (h : History) (u v : ℕ) (x : List ℕ) → u < count h → v < count h → session_pair h u v ≡ false → IsFirstName (reads_from h u v) x
+    → IsFirstStep h u v (step.Reads u v x)
 reads_step h u v x from' to' none named = record { step = (from', to', named.0); from = refl; to = refl; first = λ o is from to. first o is from to }
   where
     by_name : (y : List ℕ) → Contains (reads_from h u v) y → (o : Ordering) → name_cmp x y ≡ o → IsUpTo (step.Reads u v x) (step.Reads u v y)
@@ -47,7 +48,8 @@ reads_step h u v x from' to' none named = record { step = (from', to', named.0);
         let pair : IsReadsPair h u v y = rw (from, to) at is in
         rw (from, to) (by_name y pair.2 (name_cmp x y) refl)
 
-pub no_step : (h : History) (u v : ℕ) → session_pair h u v ≡ false → length (reads_from h u v) ≡ 0 → (o : Step) → IsStep h o → step_from o ≡ u → step_to o ≡ v → ⊥
+pub no_step : (h : History) (u v : ℕ) → session_pair h u v ≡ false → length (reads_from h u v) ≡ 0 → (o : Step) → IsStep h o → step_from o ≡ u
+    → step_to o ≡ v → ⊥
 no_step h u v none empty (step.Session a b) is from to =
     let pair : IsSessionPair h u v = rw (from, to) at is in
     false≢true (sym none ∙ pair)

@@ -45,9 +45,11 @@ reads_listed h k sources readers reads same pairs long each r = (onward, back)
         go : Contains (zip sources readers) (r.source, r.reader) → Contains reads r
         go (i, l, e) =
             let inside : i < length sources = omega (arith, zip-long sources readers same) in
-            let both : (get_or sources i r.source, get_or readers i r.reader) ≡ (r.source, r.reader) = sym (zip_at sources readers i r.source r.reader same inside) ∙ e in
+            let both : (get_or sources i r.source, get_or readers i r.reader) ≡ (r.source, r.reader) =
+            sym (zip_at sources readers i r.source r.reader same inside) ∙ e in
             let first : get_or sources i 0 ≡ r.source = sym (get_or_default sources i r.source 0 inside) ∙ ap (λ (p : ℕ × ℕ). p.0) both in
-            let second : get_or readers i 0 ≡ r.reader = sym (get_or_default readers i r.reader 0 (omega (arith, same, inside))) ∙ ap (λ (p : ℕ × ℕ). p.1) both in
+            let second : get_or readers i 0 ≡ r.reader =
+            sym (get_or_default readers i r.reader 0 (omega (arith, same, inside))) ∙ ap (λ (p : ℕ × ℕ). p.1) both in
             let is : record { source = get_or sources i 0; reader = get_or readers i 0 } ≡ r = rw (first, second) refl in
             (i, omega (arith, long), each i _ inside ∙ is)
 
@@ -71,16 +73,21 @@ module _ (h : History) where
   }
     where
       go : (b k : ℕ) → b < count h → k < n + 1 → IsWriter h b (name_of (keys h) k) → (k ≡ n) ⊎ (k ≡ n → ⊥) → Contains (bucket new b) k
-      go b k l m w (inl same) = rw same (puts.put b (omega (arith, before.long)) (rw is (writer_in h (name_of (keys h) n) b (key_at h n within) (rw same at w))))
+      go b k l m w (inl same) =
+          rw same (puts.put b (omega (arith, before.long)) (rw is (writer_in h (name_of (keys h) n) b (key_at h n within) (rw same at w))))
       go b k l m w (inr other) = puts.kept b k (before.each b k l (omega arith) w)
 
   -- what the rows of a transaction need
-  pub have_reads : (n : ℕ) (reads : List (List Read)) (written : List (List ℕ)) (b : ℕ) → n ≡ count h → IsReadsOf h reads → IsWritesOf h written → b < count h → HaveReads n reads (bucket written b)
+  pub have_reads : (n : ℕ) (reads : List (List Read)) (written : List (List ℕ)) (b : ℕ) → n ≡ count h → IsReadsOf h reads → IsWritesOf h written
+      → b < count h → HaveReads n reads (bucket written b)
   have_reads n reads written b long read wrote from = record {
     places = λ k d l. rw read.long (wrote.wrote b (get_or (bucket written b) k d) from (Contains-get_or (bucket written b) k d l)).0;
     sources = λ k d l j e m. rw long (pair k d l j e m).0;
     readers = λ k d l j e m. rw long (pair k d l j e m).1;
   }
     where
-      pair : (k : ℕ) (d : List Read) → k < length reads → (j : ℕ) (e : Read) → j < length (get_or reads k d) → IsReadsPair h (get_or (get_or reads k d) j e).source (get_or (get_or reads k d) j e).reader (name_of (keys h) k)
-      pair k d l j e m = (read.each k (omega (arith, read.long)) (get_or (get_or reads k d) j e)).0 (rw (get_or_default reads k [] d l) (Contains-get_or (get_or reads k d) j e m))
+      pair : (k : ℕ) (d : List Read) → k < length reads → (j : ℕ) (e : Read) → j < length (get_or reads k d)
+          → IsReadsPair h (get_or (get_or reads k d) j e).source (get_or (get_or reads k d) j e).reader (name_of (keys h) k)
+      pair k d l j e m =
+          (read.each k (omega (arith, read.long)) (get_or (get_or reads k d) j e)).0
+          (rw (get_or_default reads k [] d l) (Contains-get_or (get_or reads k d) j e m))

@@ -11,7 +11,8 @@ use Rattle.tcc_explain.proofs.CertifiedCycle as cycle
 use Rattle.tcc_explain.proofs.CertifiedOrder as order
 use Rattle.tcc_explain.proofs.Numbered.{numbered}
 
-pub certified : (s : Sessions) (level : Level) (a : Answer) → IsAnswerOf (record { history = history s; level = level }) a → Certifies (history s) (certificate_of a)
+pub certified : (s : Sessions) (level : Level) (a : Answer) → IsAnswerOf (record { history = history s; level = level }) a
+    → Certifies (history s) (certificate_of a)
 certified s level (answer.Commit c) (first, at, sessions, labels, clocks) =
     rw (at, sessions) (order.certified (record { history = history s; level = level }) c.order c.clocks (numbered s) first.1.commit clocks)
 certified s level (answer.Anomaly a) ((start, first), at, labels, near, far) =

@@ -17,7 +17,9 @@ use Rattle.tcc_graph.proofs.Walking.{pair_walk, walk_on}
 use Rattle.tcc_graph.proofs.Linking.{derived_cost, one_cost, pair_link, link_route, lead_split, route_on}
 use Rattle.tcc_core.specs.Shares.{IsCappedDistance}
 use Rattle.tcc_cert.specs.Tables.{row_of, entry, far_entry, HasSize, HasFarSize, IsCapped}
-use Rattle.tcc_cert.specs.CycleRules.{IsStepBelow, IsLinkBelow, ends_at, IsLinkWrong, BreaksNearPair, BreaksNearStep, BreaksFarLink, BreaksFarStep, BreaksReturn}
+use Rattle.tcc_cert.specs.CycleRules.{IsStepBelow, IsLinkBelow, ends_at, IsLinkWrong}
+use Rattle.tcc_cert.specs.CycleRules.{BreaksNearPair, BreaksNearStep, BreaksFarLink, BreaksFarStep}
+use Rattle.tcc_cert.specs.CycleRules.BreaksReturn
 use Rattle.tcc_cert.specs.Rules.{HoldsEverywhere, CertifiesCycle}
 use Rattle.tcc_cert.specs.declared.version.Version.TheVariants.{Two}
 use Rattle.tcc_cert.proofs.Ends.{ends_at_some}
@@ -54,11 +56,13 @@ distance_capped j cap s v n (inl (low, distance)) = omega arith
 distance_capped j cap s v n (inr (same, far)) = omega arith
 
 -- a number of a row of the table, at whatever default
-number_at : (table : List (List ℕ)) (s k d e : ℕ) (r : List ℕ) → s < length table → k < length (get_or table s r) → get_or (row_of table s) k d ≡ get_or (get_or table s r) k e
+number_at : (table : List (List ℕ)) (s k d e : ℕ) (r : List ℕ) → s < length table → k < length (get_or table s r)
+    → get_or (row_of table s) k d ≡ get_or (get_or table s r) k e
 number_at table s k d e r here there = ap (λ (row : List ℕ). get_or row k d) (get_or_default table s [] r here) ∙ get_or_default (get_or table s r) k d e there
 
 -- a table whose entries are at most the cap
-pub capped_table : (n columns cap : ℕ) (table : List (List ℕ)) → HasSize n columns table → ((a c : ℕ) → a < n → c < columns → entry table a c ≤ cap) → IsCapped cap table
+pub capped_table : (n columns cap : ℕ) (table : List (List ℕ)) → HasSize n columns table → ((a c : ℕ) → a < n → c < columns → entry table a c ≤ cap)
+    → IsCapped cap table
 capped_table n columns cap table size low = λ a d l. λ c e k.
     let wide : length (get_or table a d) ≡ columns = size.wide a d l in
     let at : entry table a c ≡ get_or (get_or table a d) c e = number_at table a c 0 e d l k in
@@ -105,7 +109,8 @@ cycle_right j s links route i wrong =
 
 -- ---- the rules
 
-module _ (j : Judged) (s : ℕ) (links : List Link) (near far : List (List ℕ)) (least : IsLeastCycle j s links) (walks : IsNearTable j (cost links) near) (routes : IsFarTable j (cost links) far) where
+module _ (j : Judged) (s : ℕ) (links : List Link) (near far : List (List ℕ)) (least : IsLeastCycle j s links) (walks : IsNearTable j (cost links) near)
+    (routes : IsFarTable j (cost links) far) where
   abbrev n : ℕ
   n = count j.history
 
@@ -168,14 +173,16 @@ module _ (j : Judged) (s : ℕ) (links : List Link) (near far : List (List ℕ))
       go (inr (l, from, to, is, costs)) = omega (arith, far_link at.0 at.1 l up may.1.0 from to is)
 
   -- a route to u and a link on
-  far_on : (t u v : ℕ) (l : Link) → t ≤ u → u < n → t ≤ v → v < n → link_from l ≡ u → link_to l ≡ v → IsLink j l → far_entry Two far t v ≤ far_entry Two far t u + link_cost l
+  far_on : (t u v : ℕ) (l : Link) → t ≤ u → u < n → t ≤ v → v < n → link_from l ≡ u → link_to l ≡ v → IsLink j l
+      → far_entry Two far t v ≤ far_entry Two far t u + link_cost l
   far_on t u v l low from up to begins ends is = go (routes.exact t u low from)
     where
       go : IsCappedDistance j t u (Some (cost links)) (Some (far_entry Two far t u)) → far_entry Two far t v ≤ far_entry Two far t u + link_cost l
       go (inl (less, distance)) =
           let (others, route, exact) = distance.attained in
           let (longer, costs) = route_on j t u v others l route.0 begins ends is in
-          let upward : All (IsUpward t) (others ++ l ∷ []) = All-append (IsUpward t) others (l ∷ []) route.1 (one_upward t l (omega (arith, begins)) (omega (arith, ends))) in
+          let upward : All (IsUpward t) (others ++ l ∷ []) =
+          All-append (IsUpward t) others (l ∷ []) route.1 (one_upward t l (omega (arith, begins)) (omega (arith, ends))) in
           omega (arith, far_low t v (others ++ l ∷ []) up to (longer, upward))
       go (inr (same, none)) = omega (arith, far_capped t v up to)
 

@@ -28,17 +28,21 @@ use Rattle.tcc_explain.specs.Certificates.{IsClocksAt, IsNumbered}
 -- ---- session pairs
 
 initial_first : (h : History) (n : ℕ) → 0 < n → n < count h → IsSessionPair h 0 n
-initial_first h n some below = and_from _ _ (and_from _ _ (lt-ltb 0 (count h) (omega arith)) (lt-ltb n (count h) below)) (or_left _ _ (and_from _ _ refl (lt-ltb 0 n some)))
+initial_first h n some below =
+    and_from _ _ (and_from _ _ (lt-ltb 0 (count h) (omega arith)) (lt-ltb n (count h) below)) (or_left _ _ (and_from _ _ refl (lt-ltb 0 n some)))
 
 lower_first : (h : History) (m n : ℕ) → 0 < m → m < count h → 0 < n → n < count h → owner h m ≡ owner h n → place h m < place h n → IsSessionPair h m n
 lower_first h m n some below more within same lower =
     and_from _ _ (and_from _ _ (lt-ltb m (count h) below) (lt-ltb n (count h) within))
-    (or_right _ _ (and_from _ _ (and_from _ _ (and_from _ _ (lt-ltb 0 m some) (lt-ltb 0 n more)) (eq-eqb (owner h m) (owner h n) same)) (lt-ltb (place h m) (place h n) lower)))
+    (or_right _ _ (and_from _ _ (and_from _ _ (and_from _ _ (lt-ltb 0 m some) (lt-ltb 0 n more)) (eq-eqb (owner h m) (owner h n) same))
+    (lt-ltb (place h m) (place h n) lower)))
 
 -- a list with each number below n once has n numbers
 pub numbering_long : (n : ℕ) (order : List ℕ) → IsNumbering n order → length order ≡ n
 numbering_long n order is =
-    let few : length order ≤ n = length-le_from_distinct_below order n (IsDistinct-from_apart eqb order distinct) (λ q any. All-contains (λ a. a < n) order q is.below (Contains-from_any eqb-true q order any)) in
+    let few : length order ≤ n =
+    length-le_from_distinct_below order n (IsDistinct-from_apart eqb order distinct)
+    (λ q any. All-contains (λ a. a < n) order q is.below (Contains-from_any eqb-true q order any)) in
     let many : n ≤ length order = le-length_from_below order n (λ q below. found q (is.each q below)) in
     omega arith
   where
@@ -57,7 +61,8 @@ module _ (h : History) (clocks : List (List ℕ)) (numbered : IsNumbered h) (are
       let last : IsLast h c session (entry clocks c session) = are.exact c session ends.1 of in
       go last (are.exact b session ends.0 of).attained
     where
-      go : IsLast h c session (entry clocks c session) → (entry clocks b session ≡ 0) ⊎ ((t : ℕ) × IsBehind h b session t × (place h t ≡ entry clocks b session)) → entry clocks b session ≤ entry clocks c session
+      go : IsLast h c session (entry clocks c session) → (entry clocks b session ≡ 0)
+          ⊎ ((t : ℕ) × IsBehind h b session t × (place h t ≡ entry clocks b session)) → entry clocks b session ≤ entry clocks c session
       go last (inl none) = omega arith
       go last (inr (t, behind, at)) =
           let (walk, is) = behind.reached in
@@ -69,7 +74,8 @@ module _ (h : History) (clocks : List (List ℕ)) (numbered : IsNumbered h) (are
       let ends = pair_below h b c p in
       let (walk, is, single) = pair_walk h b c p in
       let committed : 0 < b = omega arith in
-      (are.exact c (owner h b) ends.1 (numbered.owned b committed ends.0)).greatest b (record { committed = committed; below = ends.0; owned = refl; reached = (walk, is) })
+      (are.exact c (owner h b) ends.1 (numbered.owned b committed ends.0)).greatest b
+      (record { committed = committed; below = ends.0; owned = refl; reached = (walk, is) })
 
   pub in_clock : (b c : ℕ) → IsCausalPair h b c → HasInClock h clocks b c
   in_clock b c p = record { kept = λ session of. clock_kept b c session p of; had = clock_had b c p }
@@ -113,7 +119,8 @@ allowed Causal h clocks b c numbered are some below within (inr low) =
     (walk, is, tt)
 allowed Atomic h clocks b c numbered none some below within pair = pair_walk h b c pair
 
-module _ (j : Judged) (order : List ℕ) (clocks : List (List ℕ)) (numbered : IsNumbered j.history) (commit : IsCommitOrder j order) (are : IsClocksAt j.level j.history clocks) where
+module _ (j : Judged) (order : List ℕ) (clocks : List (List ℕ)) (numbered : IsNumbered j.history) (commit : IsCommitOrder j order)
+    (are : IsClocksAt j.level j.history clocks) where
   abbrev h : History
   h = j.history
 

@@ -22,14 +22,17 @@ few_kept {X} p (x ∷ xs) = go (p x) (few_kept p xs)
     go false few = omega (arith, few)
 
 -- no session has a place past the last of its transactions
-in_session : (session : ℕ) (name : List ℕ) (from bound : ℕ) (txns : List Transaction) → from + length txns ≤ bound + 1 → Each (λ (x : Stand). x.place ≤ bound) (stands_in session name from txns)
+in_session : (session : ℕ) (name : List ℕ) (from bound : ℕ) (txns : List Transaction) → from + length txns ≤ bound + 1
+    → Each (λ (x : Stand). x.place ≤ bound) (stands_in session name from txns)
 in_session session name from bound [] few = tt
 in_session session name from bound (txn ∷ later) few = (omega (arith, few), in_session session name (from + 1) bound later (omega (arith, few)))
 
-in_sessions : (session bound : ℕ) (named : List (List ℕ × List Transaction)) → sum_by (λ e. length e.1) named ≤ bound → Each (λ (x : Stand). x.place ≤ bound) (stands_from session named)
+in_sessions : (session bound : ℕ) (named : List (List ℕ × List Transaction)) → sum_by (λ e. length e.1) named ≤ bound
+    → Each (λ (x : Stand). x.place ≤ bound) (stands_from session named)
 in_sessions session bound [] few = tt
 in_sessions session bound (e ∷ later) few =
-    let parts : sum_by (λ (x : List ℕ × List Transaction). length x.1) (e ∷ later) ≡ length e.1 + sum_by (λ (x : List ℕ × List Transaction). length x.1) later = sum_by-cons (λ x. length x.1) e later in
+    let parts : sum_by (λ (x : List ℕ × List Transaction). length x.1) (e ∷ later)
+    ≡ length e.1 + sum_by (λ (x : List ℕ × List Transaction). length x.1) later = sum_by-cons (λ x. length x.1) e later in
     each_append (λ (x : Stand). x.place ≤ bound) (stands_in session e.0 1 e.1) (stands_from (session + 1) later)
     (in_session session e.0 1 bound e.1 (omega (arith, few, parts))) (in_sessions (session + 1) bound later (omega (arith, few, parts)))
 

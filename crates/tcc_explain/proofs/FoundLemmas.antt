@@ -33,7 +33,9 @@ module _ (j : Judged) (workers : ℕ) (found : Found) (is : IsFound j workers fo
     far_rows = record {
       long = is.long;
       places = is.places;
-      exact = λ s v up below. subst (λ (o : Option ℕ). IsCappedDistance j s v o (slice_index_or (row_of found.rows.items s) (v - s) None)) least (is.exact s v up below);
+      exact =
+          λ s v up below. subst (λ (o : Option ℕ). IsCappedDistance j s v o (slice_index_or (row_of found.rows.items s) (v - s) None)) least
+          (is.exact s v up below);
     }
 
     module _ (s : ℕ) (first : found.first ≡ Some s) where

@@ -24,7 +24,8 @@ module _ (s : Sessions) (e : LabelledCycle) (h : History) (graph : h ≡ history
   pub answer_here : (a : Answer) → IsAnswerOf (record { history = h; level = level }) a → IsAnswerOf (record { history = history s; level = e.level }) a
   answer_here a = there (λ (j : Judged). IsAnswerOf j a)
 
-  module _ (old new : List (List ℕ)) (before found links : List Link) (labels : old ≡ e.labels) (lent : before ≡ e.links) (named : new ≡ labels_of h) (carried : found ≡ map (link_by (moved old new)) before) (given : links ≡ found) where
+  module _ (old new : List (List ℕ)) (before found links : List Link) (labels : old ≡ e.labels) (lent : before ≡ e.links) (named : new ≡ labels_of h)
+      (carried : found ≡ map (link_by (moved old new)) before) (given : links ≡ found) where
     all : links ≡ links_in e s
     all =
         given ∙ (carried ∙ (ap (λ (ls : List Link). map (link_by (moved old new)) ls) lent

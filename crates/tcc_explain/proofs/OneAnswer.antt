@@ -24,12 +24,14 @@ same_list : {X : Type 0} (d : X) (xs ys : List X) → length xs ≡ length ys �
 same_list d [] [] long same = refl
 same_list d [] (y ∷ ys) long same = absurd (omega arith)
 same_list d (x ∷ xs) [] long same = absurd (omega arith)
-same_list d (x ∷ xs) (y ∷ ys) long same = ap₂ (λ a rest. a ∷ rest) (same 0 (omega arith)) (same_list d xs ys (omega arith) (λ i low. same (suc i) (omega arith)))
+same_list d (x ∷ xs) (y ∷ ys) long same =
+    ap₂ (λ a rest. a ∷ rest) (same 0 (omega arith)) (same_list d xs ys (omega arith) (λ i low. same (suc i) (omega arith)))
 
 -- tables with as many rows, each with as many numbers, that agree at each place
 same_table : (table other : List (List ℕ)) → length table ≡ length other → ((i : ℕ) → i < length table → length (row_of table i) ≡ length (row_of other i))
     → ((i k : ℕ) → i < length table → k < length (row_of table i) → entry table i k ≡ entry other i k) → table ≡ other
-same_table table other long wide same = same_list [] table other long (λ i low. same_list 0 (row_of table i) (row_of other i) (wide i low) (λ k within. same i k low within))
+same_table table other long wide same =
+    same_list [] table other long (λ i low. same_list 0 (row_of table i) (row_of other i) (wide i low) (λ k within. same i k low within))
 
 -- ---- what stands at a place
 
@@ -87,7 +89,8 @@ one_far j cap table other is also =
     let to : i + k < count j.history = omega (arith, is.size.wide i from) in
     let back : i + k - i ≡ k = omega arith in
     let at : (some : List (List ℕ)) → far_entry Two some i (i + k) ≡ entry some i k = λ some. ap (λ (z : ℕ). entry some i z) back in
-    sym (at table) ∙ (one_distance j cap i (i + k) (far_entry Two table i (i + k)) (far_entry Two other i (i + k)) (is.exact i (i + k) (omega arith) to) (also.exact i (i + k) (omega arith) to) ∙ at other))
+    sym (at table) ∙ (one_distance j cap i (i + k) (far_entry Two table i (i + k)) (far_entry Two other i (i + k)) (is.exact i (i + k) (omega arith) to)
+    (also.exact i (i + k) (omega arith) to) ∙ at other))
 
 one_clocks : (h : History) (table other : List (List ℕ)) → IsClocksOf h table → IsClocksOf h other → table ≡ other
 one_clocks h table other is also =
@@ -104,18 +107,23 @@ one_clocks_at h Atomic table other is also = is ∙ sym also
 
 -- ---- whole answers
 
-commit_of : (level also : Level) (order others : List ℕ) (n m : ℕ) (clocks rows labels names : List (List ℕ)) → level ≡ also → order ≡ others → n ≡ m → clocks ≡ rows → labels ≡ names
-    → answer.Commit (record { level = level; order = order; sessions = n; clocks = clocks; labels = labels }) ≡ answer.Commit (record { level = also; order = others; sessions = m; clocks = rows; labels = names })
+commit_of : (level also : Level) (order others : List ℕ) (n m : ℕ) (clocks rows labels names : List (List ℕ)) → level ≡ also → order ≡ others → n ≡ m
+    → clocks ≡ rows → labels ≡ names
+    → answer.Commit (record { level = level; order = order; sessions = n; clocks = clocks; labels = labels })
+    ≡ answer.Commit (record { level = also; order = others; sessions = m; clocks = rows; labels = names })
 commit_of level also order others n m clocks rows labels names p q r s t = rw (p, q, r, s, t) refl
 
-anomaly_of : (level also : Level) (links others : List Link) (near rows far table labels names : List (List ℕ)) → level ≡ also → links ≡ others → near ≡ rows → far ≡ table → labels ≡ names
-    → answer.Anomaly (record { level = level; links = links; near = near; far = far; labels = labels }) ≡ answer.Anomaly (record { level = also; links = others; near = rows; far = table; labels = names })
+anomaly_of : (level also : Level) (links others : List Link) (near rows far table labels names : List (List ℕ)) → level ≡ also → links ≡ others
+    → near ≡ rows → far ≡ table → labels ≡ names
+    → answer.Anomaly (record { level = level; links = links; near = near; far = far; labels = labels })
+    ≡ answer.Anomaly (record { level = also; links = others; near = rows; far = table; labels = names })
 anomaly_of level also links others near rows far table labels names p q r s t = rw (p, q, r, s, t) refl
 
 pub one_whole : (j : Judged) (some other : Answer) → IsAnswerOf j some → IsAnswerOf j other → some ≡ other
 one_whole j (answer.Commit c) (answer.Commit d) (first, level, sessions, labels, clocks) (again, also, as_many, names, rows) =
     commit_of c.level d.level c.order d.order c.sessions d.sessions c.clocks d.clocks c.labels d.labels
-    (level ∙ sym also) (one_order j c.order d.order first.1 again.1) (sessions ∙ sym as_many) (one_clocks_at j.history j.level c.clocks d.clocks clocks rows) (labels ∙ sym names)
+    (level ∙ sym also) (one_order j c.order d.order first.1 again.1) (sessions ∙ sym as_many)
+    (one_clocks_at j.history j.level c.clocks d.clocks clocks rows) (labels ∙ sym names)
 one_whole j (answer.Commit c) (answer.Anomaly b) is found = absurd (is.0.0 (found.0.0, b.links, found.0.1.least.cycle))
 one_whole j (answer.Anomaly a) (answer.Commit d) is found = absurd (found.0.0 (is.0.0, a.links, is.0.1.least.cycle))
 one_whole j (answer.Anomaly a) (answer.Anomaly b) ((s, first), level, labels, near, far) ((t, again), also, names, rows, table) =

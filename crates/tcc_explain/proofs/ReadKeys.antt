@@ -23,7 +23,8 @@ IsNamedRead read = IsKey read.0
 
 -- ---- the stands
 
-in_session : (session : ℕ) (name : List ℕ) (from : ℕ) (txns : List Transaction) → All NamesKeys txns → All (λ (x : Stand). NamesKeys x.txn) (stands_in session name from txns)
+in_session : (session : ℕ) (name : List ℕ) (from : ℕ) (txns : List Transaction) → All NamesKeys txns
+    → All (λ (x : Stand). NamesKeys x.txn) (stands_in session name from txns)
 in_session session name from [] named = All-nil (λ (x : Stand). NamesKeys x.txn)
 in_session session name from (txn ∷ later) named =
     All-cons (λ (x : Stand). NamesKeys x.txn) _ (stands_in session name (from + 1) later)
@@ -55,7 +56,8 @@ part_named (Put key value) own named = tt
 filter_map_named : (stand : Stand) (before ops : List Op) → All NamesKey ops → All IsNamedRead (filter_map external_read (sites_from stand before ops))
 filter_map_named stand before [] named = All-nil IsNamedRead
 filter_map_named stand before (op ∷ after) named =
-    go (external_read site) (part_named op _ (All-head NamesKey op after named)) (filter_map_named stand (before ++ op ∷ []) after (All-tail NamesKey op after named))
+    go (external_read site) (part_named op _ (All-head NamesKey op after named))
+    (filter_map_named stand (before ++ op ∷ []) after (All-tail NamesKey op after named))
   where
     site : Site
     site = record { stand = stand; before = before; op = op; after = after }

@@ -1,5 +1,7 @@
 -- What records finish has names for keys: a field that is to be a key is taken where it is a name.
-use Rattle.std.proofs.Common.{ℕ, ◌≡◌, ◌==◌, Bool, true, false, cond, List, [], ◌∷◌, ◌++◌, length, All, Option, None, Some, Result, Ok, Err, refl, sym, subst, ◌∙◌, arith}
+use Rattle.std.proofs.Common.{ℕ, ◌≡◌, ◌==◌, Bool, true, false, cond, List, [], ◌∷◌, ◌++◌, length}
+use Rattle.std.proofs.Common.{All, Option, None, Some, Result, Ok, Err, refl, sym, subst, ◌∙◌}
+use Rattle.std.proofs.Common.arith
 use Rattle.std.specs.Prelude.{fold, is_some, unwrap_or, codes, take}
 use Rattle.std.specs.Option.{option_map_or}
 use Rattle.std.specs.FinMap as finite
@@ -47,7 +49,9 @@ ItemNames item.End = Unit {0}
 
 -- and what it finishes after others
 abbrev IsSound : Line → Type 0
-IsSound l = LineNames l × ((past : List Line) → All LineNames past → (rest : Answers) → All ItemNames rest.items → All ItemNames (after_item (item_of past l) rest).items)
+IsSound l =
+    LineNames l × ((past : List Line) → All LineNames past → (rest : Answers) → All ItemNames rest.items
+    → All ItemNames (after_item (item_of past l) rest).items)
 
 ops_named : (name : List ℕ) (past : List Line) → All LineNames past → All NamesKey (ops_since name past)
 ops_named name [] all = All-nil NamesKey
@@ -74,7 +78,8 @@ accessed_named true key value op named e = go (value == 0) e
 op_named : (writes : Bool) (key value : List ℕ) (op : Op) → op_of writes key value ≡ Ok op → NamesKey op
 op_named writes key value op e = go (is_some (name_fault key)) refl (value_of value) e
   where
-    go : (b : Bool) → is_some (name_fault key) ≡ b → (o : Option ℕ) → cond b (Err kind.BadKey) (option_map_or (accessed writes key) o (Err kind.BadValue)) ≡ Ok op → NamesKey op
+    go : (b : Bool) → is_some (name_fault key) ≡ b → (o : Option ℕ)
+        → cond b (Err kind.BadKey) (option_map_or (accessed writes key) o (Err kind.BadValue)) ≡ Ok op → NamesKey op
     go true is o e = cc e
     go false is None e = cc e
     go false is (Some v) e = accessed_named writes key v op (no_fault (name_fault key) is) e
@@ -95,13 +100,15 @@ module _ {X : Type 0} (P : X → Type 0) where
   of_word x l k true e here = of_ok x l e here
   of_word x l k false e here = cc e
 
-  of_words : (x y z l : X) (j k : RowFaultKind) (a b c d : Bool) → cond a (Err j) (cond b (Ok x) (cond c (Ok y) (cond d (Ok z) (Err k)))) ≡ Ok l → P x → P y → P z → P l
+  of_words : (x y z l : X) (j k : RowFaultKind) (a b c d : Bool) → cond a (Err j) (cond b (Ok x) (cond c (Ok y) (cond d (Ok z) (Err k)))) ≡ Ok l → P x → P y
+      → P z → P l
   of_words x y z l j k true b c d e first second third = cc e
   of_words x y z l j k false true c d e first second third = of_ok x l e first
   of_words x y z l j k false false true d e first second third = of_ok y l e second
   of_words x y z l j k false false false d e first second third = of_word z l k d e third
 
-  of_either : (r s : Result X RowFaultKind) (l : X) (j k : RowFaultKind) (a b c : Bool) → cond a (Err j) (cond b r (cond c s (Err k))) ≡ Ok l → (r ≡ Ok l → P l) → (s ≡ Ok l → P l) → P l
+  of_either : (r s : Result X RowFaultKind) (l : X) (j k : RowFaultKind) (a b c : Bool) → cond a (Err j) (cond b r (cond c s (Err k))) ≡ Ok l
+      → (r ≡ Ok l → P l) → (s ≡ Ok l → P l) → P l
   of_either r s l j k true b c e first second = cc e
   of_either r s l j k false true c e first second = first e
   of_either r s l j k false false true e first second = second e
@@ -165,11 +172,13 @@ name_cmp = slice_cmp nat_cmp
 abbrev AreNamed : List ℕ × List Transaction → Type 0
 AreNamed named = All NamesKeys named.1
 
-put_named : (session : List ℕ) (txns : List Transaction) (es : List (List ℕ × List Transaction)) → All NamesKeys txns → All AreNamed es → All AreNamed (put name_cmp session txns es)
+put_named : (session : List ℕ) (txns : List Transaction) (es : List (List ℕ × List Transaction)) → All NamesKeys txns → All AreNamed es
+    → All AreNamed (put name_cmp session txns es)
 put_named session txns [] named all = All-cons AreNamed (session, txns) [] named (All-nil AreNamed)
 put_named session txns (e ∷ es) named all = go (name_cmp session e.0) (put_named session txns es named (All-tail AreNamed e es all))
   where
-    go : (o : Ordering) → All AreNamed (put name_cmp session txns es) → All AreNamed (by_order o ((session, txns) ∷ e ∷ es) ((e.0, txns) ∷ es) (e ∷ put name_cmp session txns es))
+    go : (o : Ordering) → All AreNamed (put name_cmp session txns es)
+        → All AreNamed (by_order o ((session, txns) ∷ e ∷ es) ((e.0, txns) ∷ es) (e ∷ put name_cmp session txns es))
     go Less later = All-cons AreNamed (session, txns) (e ∷ es) named all
     go Equal later = All-cons AreNamed (e.0, txns) es named (All-tail AreNamed e es all)
     go Greater later = All-cons AreNamed e (put name_cmp session txns es) (All-head AreNamed e es all) later
@@ -204,7 +213,9 @@ no_entries (x ∷ es) e = absurd (omega arith)
 
 none_named : HasNames finite.empty
 none_named =
-    subst (All AreNamed) (sym (no_entries (finite.entries finite.empty) (sym (finite.len-entries finite.empty) ∙ finite.len-empty name_cmp (List Transaction)))) (All-nil AreNamed)
+    subst (All AreNamed)
+    (sym (no_entries (finite.entries finite.empty) (sym (finite.len-entries finite.empty) ∙ finite.len-empty name_cmp (List Transaction))))
+    (All-nil AreNamed)
 
 -- what the first items of a text finish, however many
 pub recorded : (text : List ℕ) (n : ℕ) → HasNames (finished_in (take n (answers_of text).items))

@@ -1,5 +1,7 @@
 -- Tables of certificates, row by row.
-use Rattle.std.proofs.Common.{ℕ, ◌≡◌, ◌<◌, ◌≤◌, ◌-◌, ◌==◌, Bool, true, false, cond, ◌⊎◌, inl, inr, List, [], length, map, get_or, Option, None, Some, refl, sym, ◌∙◌, ap, subst, arith}
+use Rattle.std.proofs.Common.{ℕ, ◌≡◌, ◌<◌, ◌≤◌, ◌-◌, ◌==◌, Bool, true, false, cond, ◌⊎◌, inl, inr}
+use Rattle.std.proofs.Common.{List, [], length, map, get_or, Option, None, Some, refl, sym, ◌∙◌, ap}
+use Rattle.std.proofs.Common.{subst, arith}
 use Rattle.std.specs.Prelude.{min, slice_index}
 use Rattle.std.proofs.lemmas.Bool.{cases_lt}
 use Rattle.std.proofs.lemmas.List.{get_or-map, length-map, get_or_default}
@@ -19,7 +21,8 @@ pub so_many : (fact : ℕ → List ℕ → Type 0) (n m : ℕ) (rows : List (Lis
 so_many fact n m rows same are = subst (λ (k : ℕ). AreRows fact k rows) same are
 
 -- a table of rows that are so long
-rows_size : (P : ℕ → List ℕ → Type 0) (n columns : ℕ) (rows : List (List ℕ)) → AreRows P n rows → ((i : ℕ) (row : List ℕ) → i < n → P i row → length row ≡ columns) → HasSize n columns rows
+rows_size : (P : ℕ → List ℕ → Type 0) (n columns : ℕ) (rows : List (List ℕ)) → AreRows P n rows
+    → ((i : ℕ) (row : List ℕ) → i < n → P i row → length row ≡ columns) → HasSize n columns rows
 rows_size P n columns rows are long = record {
   long = are.long;
   wide = λ i d low. ap length (get_or_default rows i d [] low) ∙ long i (row_of rows i) (omega (arith, are.long)) (are.each i (omega (arith, are.long)));
@@ -37,7 +40,8 @@ far_table j cap costs are = record {
   exact = λ s v up to.
       let from : s < count j.history = omega arith in
       let within : v - s < length (row_of costs s) = omega (arith, are.places s from) in
-      let at : far_entry Two table s v ≡ cost_or cap (get_or (row_of costs s) (v - s) None) = ap (λ (r : List ℕ). get_or r (v - s) 0) (row s from) ∙ get_or-map (cost_or cap) (row_of costs s) (v - s) None 0 within in
+      let at : far_entry Two table s v ≡ cost_or cap (get_or (row_of costs s) (v - s) None) =
+      ap (λ (r : List ℕ). get_or r (v - s) 0) (row s from) ∙ get_or-map (cost_or cap) (row_of costs s) (v - s) None 0 within in
       subst (λ (z : ℕ). IsCappedDistance j s v (Some cap) (Some z)) (sym at) (some_distance s v (get_or (row_of costs s) (v - s) None) (are.exact s v up to));
 }
   where
@@ -54,10 +58,12 @@ far_table j cap costs are = record {
 -- ---- distances
 
 -- distances at a level that they name
-pub own_level : (h : History) (level : Level) (near : NearTable) → IsNearOf (record { history = h; level = level }) near → IsNearOf (record { history = h; level = near.level }) near
+pub own_level : (h : History) (level : Level) (near : NearTable) → IsNearOf (record { history = h; level = level }) near
+    → IsNearOf (record { history = h; level = near.level }) near
 own_level h level near is = subst (λ (l : Level). IsNearOf (record { history = h; level = l }) near) (sym is.level) is
 
-near_entry : (j : Judged) (a c cap steps : ℕ) (b : Bool) → (steps == NONE) ≡ b → IsWalkDistance j a c (cond b None (Some steps)) → IsCappedShortest j cap a c (cond b cap (min cap steps))
+near_entry : (j : Judged) (a c cap steps : ℕ) (b : Bool) → (steps == NONE) ≡ b → IsWalkDistance j a c (cond b None (Some steps))
+    → IsCappedShortest j cap a c (cond b cap (min cap steps))
 near_entry j a c cap steps true e none = inr (refl, λ walk is. absurd (none walk is))
 near_entry j a c cap steps false e shortest = go (cases_lt steps cap)
   where
@@ -69,12 +75,17 @@ near_entry j a c cap steps false e shortest = go (cases_lt steps cap)
         let same : min cap steps ≡ cap = omega arith in
         inr (same, λ walk is. omega (arith, shortest.least walk is))
 
-pub near_table : (j : Judged) (cap : ℕ) (near : NearTable) (rows : List (List ℕ)) → IsNearOf j near → AreRows (λ a row. row ≡ map (capped_steps cap) (row_of near.rows a)) (count j.history) rows → IsNearTable j cap rows
+pub near_table : (j : Judged) (cap : ℕ) (near : NearTable) (rows : List (List ℕ)) → IsNearOf j near
+    → AreRows (λ a row. row ≡ map (capped_steps cap) (row_of near.rows a)) (count j.history) rows → IsNearTable j cap rows
 near_table j cap near rows is capped = record {
-  size = rows_size (λ a row. row ≡ map (capped_steps cap) (row_of near.rows a)) (count j.history) (count j.history) rows capped (λ a row low same. ap length same ∙ (length-map (row_of near.rows a) (capped_steps cap) ∙ wide a low));
+  size =
+      rows_size (λ a row. row ≡ map (capped_steps cap) (row_of near.rows a)) (count j.history) (count j.history) rows capped
+      (λ a row low same. ap length same ∙ (length-map (row_of near.rows a) (capped_steps cap) ∙ wide a low));
   exact = λ a c from to.
-      let at : entry rows a c ≡ capped_steps cap (slice_index (row_of near.rows a) c) = ap (λ (r : List ℕ). get_or r c 0) (capped.each a from) ∙ get_or-map (capped_steps cap) (row_of near.rows a) c 0 0 (omega (arith, wide a from)) in
-      let exact : IsCappedShortest j cap a c (capped_steps cap (slice_index (row_of near.rows a) c)) = near_entry j a c cap (slice_index (row_of near.rows a) c) (slice_index (row_of near.rows a) c == NONE) refl (is.exact a c from to) in
+      let at : entry rows a c ≡ capped_steps cap (slice_index (row_of near.rows a) c) =
+      ap (λ (r : List ℕ). get_or r c 0) (capped.each a from) ∙ get_or-map (capped_steps cap) (row_of near.rows a) c 0 0 (omega (arith, wide a from)) in
+      let exact : IsCappedShortest j cap a c (capped_steps cap (slice_index (row_of near.rows a) c)) =
+      near_entry j a c cap (slice_index (row_of near.rows a) c) (slice_index (row_of near.rows a) c == NONE) refl (is.exact a c from to) in
       subst (λ (z : ℕ). IsCappedShortest j cap a c z) (sym at) exact;
 }
   where

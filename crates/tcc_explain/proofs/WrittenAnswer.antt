@@ -69,10 +69,12 @@ module _ (s : Sessions) (limits : KeepsLimits s) where
         go (inr (b, behind, here)) = omega (arith, here, place_few s b behind.below, limits.1)
 
     clocks_capped : IsClocksOf (history s) clocks → IsCapped V2_MAX_NUMBER clocks
-    clocks_capped are = least_cycle.capped_table (count (history s)) (length (history s).sessions) V2_MAX_NUMBER clocks (record { long = are.long; wide = are.wide })
+    clocks_capped are =
+        least_cycle.capped_table (count (history s)) (length (history s).sessions) V2_MAX_NUMBER clocks (record { long = are.long; wide = are.wide })
         (λ t session from of. last_few t session (entry clocks t session) (are.exact t session from of))
 
-    clocks_text : (level : Level) (n : ℕ) → n ≡ count (history s) → IsClocksAt level (history s) clocks → HasClocksText Two level n (length (history s).sessions) clocks
+    clocks_text : (level : Level) (n : ℕ) → n ≡ count (history s) → IsClocksAt level (history s) clocks
+        → HasClocksText Two level n (length (history s).sessions) clocks
     clocks_text Causal n same are = record {
       size = subst (λ (k : ℕ). HasRows k (λ t. length (history s).sessions) clocks) (sym same)
           (rows_sized (count (history s)) (length (history s).sessions) clocks (record { long = are.long; wide = are.wide }));
@@ -80,7 +82,8 @@ module _ (s : Sessions) (limits : KeepsLimits s) where
     }
     clocks_text Atomic n same none = none
 
-  order_text : (level : Level) (order : List ℕ) (clocks : List (List ℕ)) → IsCommitOrder (record { history = history s; level = level }) order → IsClocksAt level (history s) clocks
+  order_text : (level : Level) (order : List ℕ) (clocks : List (List ℕ)) → IsCommitOrder (record { history = history s; level = level }) order
+      → IsClocksAt level (history s) clocks
       → HasOrderText Two (record { level = level; order = order; sessions = length (history s).sessions; clocks = clocks })
   order_text level order clocks commit are =
       let long : length order ≡ count (history s) = commit_order.numbering_long (count (history s)) order commit.numbering in
@@ -120,15 +123,19 @@ module _ (s : Sessions) (limits : KeepsLimits s) where
         steps_text b c walk is.1.0.1 ends.1.1.1,
       )
 
-      links_text : (a b : ℕ) (links : List Link) → LinksLead j a b links → All (IsLinkBelow (count (history s))) links → All (λ l. length (link_walk l) ≤ count (history s)) links
+      links_text : (a b : ℕ) (links : List Link) → LinksLead j a b links → All (IsLinkBelow (count (history s))) links
+          → All (λ l. length (link_walk l) ≤ count (history s)) links
           → All (HasLinkText Two) links
       links_text a b [] leads below short = All-nil (HasLinkText Two)
       links_text a b (l ∷ links) leads below short =
           All-cons (HasLinkText Two) l links
-          (link_text l leads.1 (All-head (IsLinkBelow (count (history s))) l links below) (All-head (λ (m : Link). length (link_walk m) ≤ count (history s)) l links short))
-          (links_text (link_to l) b links leads.2 (All-tail (IsLinkBelow (count (history s))) l links below) (All-tail (λ (m : Link). length (link_walk m) ≤ count (history s)) l links short))
+          (link_text l leads.1 (All-head (IsLinkBelow (count (history s))) l links below)
+          (All-head (λ (m : Link). length (link_walk m) ≤ count (history s)) l links short))
+          (links_text (link_to l) b links leads.2 (All-tail (IsLinkBelow (count (history s))) l links below)
+          (All-tail (λ (m : Link). length (link_walk m) ≤ count (history s)) l links short))
 
-      cycle_text : (start : ℕ) (links : List Link) (near far : List (List ℕ)) → IsLeastCycle j start links → IsNearTable j (cost links) near → IsFarTable j (cost links) far
+      cycle_text : (start : ℕ) (links : List Link) (near far : List (List ℕ)) → IsLeastCycle j start links → IsNearTable j (cost links) near
+          → IsFarTable j (cost links) far
           → HasCycleText (record { version = Two; level = level; links = links; least = cost links; near = near; far = far })
       cycle_text start links near far least walks routes =
           let sizes = (least_cycle.certified j start links near far least walks routes).sizes in
@@ -156,5 +163,6 @@ module _ (s : Sessions) (limits : KeepsLimits s) where
       rw at (cycle_text named level start a.links a.near a.far first.least near far)
 
   -- and the text is read as it
-  pub read_back : HasNames s → (level : Level) (a : Answer) → IsAnswerOf (record { history = history s; level = level }) a → certificate_read (certificate_text (certificate_of a)) ≡ Ok (certificate_of a)
+  pub read_back : HasNames s → (level : Level) (a : Answer) → IsAnswerOf (record { history = history s; level = level }) a
+      → certificate_read (certificate_text (certificate_of a)) ≡ Ok (certificate_of a)
   read_back named level a is = text-back (certificate_of a) (written named level a is)

@@ -31,11 +31,13 @@ reads_at entries table a b row tables from to is =
     ap (λ grouped. of_group grouped b) whole ∙ of_group-groups (reads_from (over entries) a) (length entries) b to
 
 -- where no session pair is, a causal pair is one of reads
-pub causal_at : (h : History) (a b : ℕ) → a < count h → b < count h → session_pair h a b ≡ false → (r : Bool) → r ≡ has_items (reads_from h a b) → r ≡ causal_pair h a b
+pub causal_at : (h : History) (a b : ℕ) → a < count h → b < count h → session_pair h a b ≡ false → (r : Bool) → r ≡ has_items (reads_from h a b)
+    → r ≡ causal_pair h a b
 causal_at h a b from to none r is = rw (none, lt-ltb a (count h) from, lt-ltb b (count h) to) is
 
 pub readings_at : (entries : List Entry) (table : List (List (ℕ × List ℕ))) (a : ℕ) (row : List (ℕ × List ℕ)) → IsReadTable entries (length entries) table
-    → a < length entries → row ≡ get_or table a row → (c : ℕ) (x : List ℕ) → Contains (zip (map (λ p. p.0) row) (map (λ p. p.1) row)) (c, x) ↔ IsReadsPair (over entries) a c x
+    → a < length entries → row ≡ get_or table a row → (c : ℕ) (x : List ℕ)
+    → Contains (zip (map (λ p. p.0) row) (map (λ p. p.1) row)) (c, x) ↔ IsReadsPair (over entries) a c x
 readings_at entries table a row tables from is c x = rw (zip-map row, whole) (
   λ h. let w = from_groups (reads_from (over entries) a) (length entries) c x h in (from, w.0, w.1),
   λ p. in_groups (reads_from (over entries) a) (length entries) c x p.1 p.2,
@@ -57,7 +59,10 @@ module _ (entries : List Entry) (names : List (List ℕ)) (keyed : names ≡ key
 -- ---- what is kept of a range
 
 in_filter : (p : ℕ → Bool) (n c : ℕ) → Contains (filter p (range_with_len 0 n)) c → (c < n) × (p c ≡ true)
-in_filter p n c w = (All-contains (λ m. m < n) (filter p (range_with_len 0 n)) c (All-filter_range p n) w, All-contains (λ m. p m ≡ true) (filter p (range_with_len 0 n)) c (filter_passes p (range_with_len 0 n)) w)
+in_filter p n c w = (
+  All-contains (λ m. m < n) (filter p (range_with_len 0 n)) c (All-filter_range p n) w,
+  All-contains (λ m. p m ≡ true) (filter p (range_with_len 0 n)) c (filter_passes p (range_with_len 0 n)) w,
+)
 
 to_filter : (p : ℕ → Bool) (n c : ℕ) → c < n → p c ≡ true → Contains (filter p (range_with_len 0 n)) c
 to_filter p n c h t = lists.in_filter p (range_with_len 0 n) c (c, omega (arith, length-range_with_len 0 n), get_or-range_with_len 0 n c c h ∙ zero-add c) t
@@ -73,20 +78,24 @@ filter_same p q (suc n) same =
 
 -- ---- by places
 
-module _ (entries : List Entry) (names : List (List ℕ)) (placed : List Placed) (sorted : IsStrictlySortedBy name_cmp names) (are : ArePlaced names entries placed) where
+module _ (entries : List Entry) (names : List (List ℕ)) (placed : List Placed) (sorted : IsStrictlySortedBy name_cmp names)
+    (are : ArePlaced names entries placed) where
   writes_same : (b k : ℕ) → b < length entries → k < length names → writes_place placed k b ≡ writes (over entries) b (name_of names k)
   writes_same b k h i =
       let at = are.each b h in
-      ap (λ z. (b == 0) || z) (sym (has_name-places names sorted (placed_of placed b).writes k at.writes_within i) ∙ ap (λ ws. has_name ws (name_of names k)) at.writes)
+      ap (λ z. (b == 0) || z) (sym (has_name-places names sorted (placed_of placed b).writes k at.writes_within i)
+      ∙ ap (λ ws. has_name ws (name_of names k)) at.writes)
 
   pub reads_same : (a b k : ℕ) → b < length entries → k < length names → reads_place placed k a b ≡ has_name (reads_from (over entries) a b) (name_of names k)
   reads_same a b k h i =
       let at = are.each b h in
-      sym (has_name-places names sorted (values_from (placed_of placed b).reads a) k (values_within (length names) (placed_of placed b).reads a at.reads_within) i)
+      sym (has_name-places names sorted (values_from (placed_of placed b).reads a) k
+      (values_within (length names) (placed_of placed b).reads a at.reads_within) i)
       ∙ ap (λ xs. has_name xs (name_of names k)) (sym (values_from-named names (placed_of placed b).reads a) ∙ ap (λ reads. values_from reads a) at.reads)
 
   -- the readings of a source, by places
-  module _ (table : List (List (ℕ × ℕ))) (tables : IsPlaceTable (length entries) placed (length entries) table) (a : ℕ) (from : a < length entries) (row : List (ℕ × ℕ)) (is : row ≡ get_or table a row) where
+  module _ (table : List (List (ℕ × ℕ))) (tables : IsPlaceTable (length entries) placed (length entries) table) (a : ℕ) (from : a < length entries)
+      (row : List (ℕ × ℕ)) (is : row ≡ get_or table a row) where
     whole_row : row ≡ groups (λ b. values_from (placed_of placed b).reads a) (length entries)
     whole_row = let inside : a < length table = omega (arith, tables.long) in get_or_read table a row inside is [] ∙ tables.rows a from
 
@@ -95,43 +104,61 @@ module _ (entries : List Entry) (names : List (List ℕ)) (placed : List Placed)
         (values_in_groups (λ place. place < length names) (λ b. values_from (placed_of placed b).reads a) (length entries)
         (λ b h. values_within (length names) (placed_of placed b).reads a (are.each b h).reads_within)))
 
-    pub place_readings : (c k : ℕ) → Contains (zip (map (λ p. p.0) row) (map (λ p. p.1) row)) (c, k) ↔ ((k < length names) × IsReadsPair (over entries) a c (name_of names k))
+    pub place_readings : (c k : ℕ) → Contains (zip (map (λ p. p.0) row) (map (λ p. p.1) row)) (c, k) ↔
+        ((k < length names) × IsReadsPair (over entries) a c (name_of names k))
     place_readings c k = rw (zip-map row, whole_row) (
       λ h.
           let w = from_groups (λ b. values_from (placed_of placed b).reads a) (length entries) c k h in
           let at = are.each c w.0 in
-          let below = All-contains (λ j. j < length names) (values_from (placed_of placed c).reads a) k (values_within (length names) (placed_of placed c).reads a at.reads_within) w.1 in
-          (below, (from, w.0, has_name-contains (reads_from (over entries) a c) (name_of names k) (sym (reads_same a c k w.0 below) ∙ number_found (values_from (placed_of placed c).reads a) k w.1))),
+          let below =
+          All-contains (λ j. j < length names) (values_from (placed_of placed c).reads a) k
+          (values_within (length names) (placed_of placed c).reads a at.reads_within) w.1 in (
+            below,
+            (
+              from,
+              w.0,
+              has_name-contains (reads_from (over entries) a c) (name_of names k)
+                  (sym (reads_same a c k w.0 below) ∙ number_found (values_from (placed_of placed c).reads a) k w.1),
+            ),
+          ),
       λ p. in_groups (λ b. values_from (placed_of placed b).reads a) (length entries) c k p.1.1
-          (found_number (values_from (placed_of placed c).reads a) k (reads_same a c k p.1.1 p.0 ∙ contains-has_name (reads_from (over entries) a c) (name_of names k) p.1.2)),
+          (found_number (values_from (placed_of placed c).reads a) k
+          (reads_same a c k p.1.1 p.0 ∙ contains-has_name (reads_from (over entries) a c) (name_of names k) p.1.2)),
     )
 
   -- the rows of the keys
-  module _ (rows : List KeyRow) (tables : IsKeyTable placed (length names) (length entries) (length entries) rows) (k : ℕ) (within : k < length names) (row : KeyRow) (is : row ≡ get_or rows k row) where
+  module _ (rows : List KeyRow) (tables : IsKeyTable placed (length names) (length entries) (length entries) rows) (k : ℕ) (within : k < length names)
+      (row : KeyRow) (is : row ≡ get_or rows k row) where
     is_row : row ≡ key_row_of rows k
     is_row = let inside : k < length rows = omega (arith, tables.long) in get_or_read rows k row inside is _
 
     pub writers_placed : names ≡ keys (over entries) → row.writers ≡ writers (over entries) (name_of names k)
     writers_placed keyed =
-        let key : is_key (over entries) (name_of names k) ≡ true = sym (has_name-keys (over entries) (name_of names k)) ∙ rw (← keyed) (present names (name_of names k) k (stands_there names sorted k within)) in
+        let key : is_key (over entries) (name_of names k) ≡ true =
+        sym (has_name-keys (over entries) (name_of names k)) ∙ rw (← keyed) (present names (name_of names k) k (stands_there names sorted k within)) in
         rw key (ap (λ (r : KeyRow). r.writers) is_row ∙ tables.writers k within
         ∙ filter_same (writes_place placed k) (λ b. writes (over entries) b (name_of names k)) (length entries) (λ b h. writes_same b k h within))
 
     whole_readers : row.readers ≡ groups (λ a. filter (reads_place placed k a) (range_with_len 0 (length entries))) (length entries)
-    whole_readers = ap (λ (r : KeyRow). r.readers) is_row ∙ tables.readers k within ∙ ap (λ n. groups (λ a. filter (reads_place placed k a) (range_with_len 0 n)) (length entries)) are.long
+    whole_readers =
+        ap (λ (r : KeyRow). r.readers) is_row ∙ tables.readers k within
+        ∙ ap (λ n. groups (λ a. filter (reads_place placed k a) (range_with_len 0 n)) (length entries)) are.long
 
     pub readers_placed : (a : ℕ) → a < length entries → of_group row.readers a ≡ readers (over entries) a (name_of names k)
     readers_placed a from =
         ap (λ grouped. of_group grouped a) whole_readers
         ∙ of_group-groups (λ s. filter (reads_place placed k s) (range_with_len 0 (length entries))) (length entries) a from
-        ∙ filter_same (reads_place placed k a) (λ b. has_name (reads_from (over entries) a b) (name_of names k)) (length entries) (λ b h. reads_same a b k h within)
+        ∙ filter_same (reads_place placed k a) (λ b. has_name (reads_from (over entries) a b) (name_of names k)) (length entries)
+        (λ b h. reads_same a b k h within)
 
-    pub key_readings : (a c : ℕ) → Contains (zip (map (λ p. p.0) row.readers) (map (λ p. p.1) row.readers)) (a, c) ↔ IsReadsPair (over entries) a c (name_of names k)
+    pub key_readings : (a c : ℕ) → Contains (zip (map (λ p. p.0) row.readers) (map (λ p. p.1) row.readers)) (a, c) ↔ IsReadsPair (over entries) a c
+        (name_of names k)
     key_readings a c = rw (zip-map row.readers, whole_readers) (
       λ h.
           let w = from_groups (λ s. filter (reads_place placed k s) (range_with_len 0 (length entries))) (length entries) a c h in
           let v = in_filter (reads_place placed k a) (length entries) c w.1 in
           (w.0, v.0, has_name-contains (reads_from (over entries) a c) (name_of names k) (sym (reads_same a c k v.0 within) ∙ v.1)),
       λ p. in_groups (λ s. filter (reads_place placed k s) (range_with_len 0 (length entries))) (length entries) a c p.0
-          (to_filter (reads_place placed k a) (length entries) c p.1 (reads_same a c k p.1 within ∙ contains-has_name (reads_from (over entries) a c) (name_of names k) p.2)),
+          (to_filter (reads_place placed k a) (length entries) c p.1
+          (reads_same a c k p.1 within ∙ contains-has_name (reads_from (over entries) a c) (name_of names k) p.2)),
     )

@@ -13,7 +13,8 @@ pub record IsRestOf (h : History) (from at to i : ℕ) (steps : List Step) : Typ
 pub whole_rest : (h : History) (from to : ℕ) (steps : List Step) → IsRestOf h from from to 0 steps
 whole_rest h from to steps = record { forth = λ w. w; back = λ w. w }
 
-pub rest_more : (h : History) (from at to i : ℕ) (steps : List Step) (s : Step) → i < length steps → s ≡ get_or steps i s → step_from s ≡ at → IsStep h s → IsRestOf h from at to i steps → IsRestOf h from (step_to s) to (i + 1) steps
+pub rest_more : (h : History) (from at to i : ℕ) (steps : List Step) (s : Step) → i < length steps → s ≡ get_or steps i s → step_from s ≡ at → IsStep h s
+    → IsRestOf h from at to i steps → IsRestOf h from (step_to s) to (i + 1) steps
 rest_more h from at to i steps s inside is begins right w = record {
   forth = λ all. (subst (λ (z : List Step). Leads h at to z) split (w.forth all)).2;
   back = λ rest. w.back (subst (λ (z : List Step). Leads h at to z) (sym split) (begins, right, rest));
@@ -22,7 +23,8 @@ rest_more h from at to i steps s inside is begins right w = record {
     split : drop i steps ≡ s ∷ drop (i + 1) steps
     split = drop_more steps i s inside ∙ ap (λ z. z ∷ drop (i + 1) steps) (sym is)
 
-pub not_led : (h : History) (from at to i : ℕ) (steps : List Step) (s : Step) → i < length steps → s ≡ get_or steps i s → IsRestOf h from at to i steps → (step_from s ≡ at → IsStep h s → ⊥) → Leads h from to steps → ⊥
+pub not_led : (h : History) (from at to i : ℕ) (steps : List Step) (s : Step) → i < length steps → s ≡ get_or steps i s → IsRestOf h from at to i steps
+    → (step_from s ≡ at → IsStep h s → ⊥) → Leads h from to steps → ⊥
 not_led h from at to i steps s inside is w wrong all =
     let split = drop_more steps i s inside ∙ ap (λ z. z ∷ drop (i + 1) steps) (sym is) in
     let led = subst (λ (z : List Step). Leads h at to z) split (w.forth all) in

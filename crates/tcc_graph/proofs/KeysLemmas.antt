@@ -36,7 +36,8 @@ has_name-insert : (names : List (List ℕ)) (n : List ℕ) (x : List ℕ) → ha
 has_name-insert [] n x = refl
 has_name-insert (y ∷ ys) n x = go (has_name-insert ys n x) (name_cmp n y) refl
   where
-    go : has_name (insert_key name_cmp ys n) x ≡ (bytes_eq x n || has_name ys x) → (o : Ordering) → name_cmp n y ≡ o → has_name (insert_key name_cmp (y ∷ ys) n) x ≡ (bytes_eq x n || has_name (y ∷ ys) x)
+    go : has_name (insert_key name_cmp ys n) x ≡ (bytes_eq x n || has_name ys x) → (o : Ordering) → name_cmp n y ≡ o
+        → has_name (insert_key name_cmp (y ∷ ys) n) x ≡ (bytes_eq x n || has_name (y ∷ ys) x)
     go rest Less e = rw e refl
     go rest Equal e = let same : n ≡ y = exact_bytes n y e in rw e (rw same (or_again (bytes_eq x y) (has_name ys x)))
     go rest Greater e = rw e (ap (λ b. bytes_eq x y || b) rest ∙ or_swap (bytes_eq x y) (bytes_eq x n) (has_name ys x))
@@ -72,13 +73,15 @@ list_any-at p (x ∷ xs) none zero d h = (or_parts (p x) (list_any p xs) none).0
 list_any-at p (x ∷ xs) none (suc k) d h = list_any-at p xs (or_parts (p x) (list_any p xs) none).1 k d (omega arith)
 
 -- some of the reads read no key that all of them don't read
-has_name-filter : (p : List ℕ × ℕ → Bool) (reads : List (List ℕ × ℕ)) (x : List ℕ) → has_name (map (λ read. read.0) reads) x ≡ false → has_name (map (λ read. read.0) (filter p reads)) x ≡ false
+has_name-filter : (p : List ℕ × ℕ → Bool) (reads : List (List ℕ × ℕ)) (x : List ℕ) → has_name (map (λ read. read.0) reads) x ≡ false
+    → has_name (map (λ read. read.0) (filter p reads)) x ≡ false
 has_name-filter p [] x none = refl
 has_name-filter p (r ∷ reads) x none =
     let parts = or_parts (bytes_eq x r.0) (has_name (map (λ read. read.0) reads) x) none in
     go (has_name-filter p reads x parts.1) parts.0 (p r) refl
   where
-    go : has_name (map (λ read. read.0) (filter p reads)) x ≡ false → bytes_eq x r.0 ≡ false → (b : Bool) → p r ≡ b → has_name (map (λ read. read.0) (filter p (r ∷ reads))) x ≡ false
+    go : has_name (map (λ read. read.0) (filter p reads)) x ≡ false → bytes_eq x r.0 ≡ false → (b : Bool) → p r ≡ b
+        → has_name (map (λ read. read.0) (filter p (r ∷ reads))) x ≡ false
     go rest other true e = rw e (rw (other, rest) refl)
     go rest other false e = rw e rest
 

@@ -50,7 +50,8 @@ module _ (h : History) (ordered : IsBySession h.entries) (u end : ℕ) (some : 0
 
           go' : (v < u) ⊎ (u ≤ v) → u < v
           go' (inl less) = let back : place h v < place h u = (ordered v u less below).1 (sym (parts.same some)) in absurd (omega (arith, lower, back))
-          go' (inr equal) = let same : u ≡ v = omega (arith, more, equal) in let itself : place h u ≡ place h v = ap (λ n. place h n) same in absurd (omega (arith, lower, itself))
+          go' (inr equal) = let same : u ≡ v = omega (arith, more, equal) in let itself : place h u ≡ place h v =
+              ap (λ n. place h n) same in absurd (omega (arith, lower, itself))
 
   pub later : (v : ℕ) → IsSessionPair h u v ↔ ((u + 1 ≤ v) × (v < end))
   later v = (

@@ -79,7 +79,8 @@ pub link_route : (j : Judged) (a b : ℕ) (l : Link) → link_from l ≡ a → l
 link_route j a b l from to is = (omega arith, (from, is, to))
 
 -- one link more
-pub route_on : (j : Judged) (s a b : ℕ) (links : List Link) (l : Link) → IsRoute j s a links → link_from l ≡ a → link_to l ≡ b → IsLink j l → IsRoute j s b (links ++ l ∷ []) × (cost (links ++ l ∷ []) ≡ cost links + link_cost l)
+pub route_on : (j : Judged) (s a b : ℕ) (links : List Link) (l : Link) → IsRoute j s a links → link_from l ≡ a → link_to l ≡ b → IsLink j l
+    → IsRoute j s b (links ++ l ∷ []) × (cost (links ++ l ∷ []) ≡ cost links + link_cost l)
 route_on j s a b links l route from to is =
     let long : length (links ++ l ∷ []) ≡ length links + 1 = length-append links (l ∷ []) in
     ((omega (arith, route.0), lead_append j s a b links (l ∷ []) route.1 (from, is, to)), omega (arith, cost_append links (l ∷ []), one_cost l))

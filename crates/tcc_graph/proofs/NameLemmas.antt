@@ -1,5 +1,7 @@
 -- Names in lists, sorted and not.
-use Rattle.std.proofs.Common.{ℕ, zero, suc, ◌⊎◌, ◌+◌, ◌<◌, ◌≡◌, ◌≢◌, true, false, List, [], ◌∷◌, length, get_or, take, refl, sym, ap, ◌∙◌, arith, inl, inr, Result, Ok, Err}
+use Rattle.std.proofs.Common.{ℕ, zero, suc, ◌⊎◌, ◌+◌, ◌<◌, ◌≡◌, ◌≢◌, true, false, List, [], ◌∷◌}
+use Rattle.std.proofs.Common.{length, get_or, take, refl, sym, ap, ◌∙◌, arith, inl, inr, Result, Ok}
+use Rattle.std.proofs.Common.Err
 use Rattle.std.specs.Prelude.{bytes_eq, ◌||◌, MatchOption}
 use Rattle.std.specs.Ordering.{is_lt}
 use Rattle.std.specs.declared.cmp.Ordering.{Ordering}
@@ -36,18 +38,22 @@ apart_above : {o : Ordering} → o ≡ Greater → o ≡ Equal → ⊥
 apart_above e f = cc
 
 -- two places of a sorted list have different names
-pub places_differ : (names : List (List ℕ)) (i : ℕ) (j : ℕ) → IsStrictlySortedBy name_cmp names → i < length names → j < length names → i ≢ j → name_of names i ≢ name_of names j
+pub places_differ : (names : List (List ℕ)) (i : ℕ) (j : ℕ) → IsStrictlySortedBy name_cmp names → i < length names → j < length names → i ≢ j
+    → name_of names i ≢ name_of names j
 places_differ names i j sorted h k ne same =
     elim (cases_order i j) [
       | inl e ↦ ne e
       | inr less ↦ elim less [
-        | inl below ↦ (let low = Less-from_sorted name_cmp names i j [] sorted below k in let tie = tied_itself nat_list_cmp_total (name_of names j) in absurd (apart (rw same at low) tie))
-        | inr above ↦ (let low = Less-from_sorted name_cmp names j i [] sorted above h in let tie = tied_itself nat_list_cmp_total (name_of names j) in absurd (apart (rw same at low) tie))
+        | inl below ↦ (let low = Less-from_sorted name_cmp names i j [] sorted below k in let tie = tied_itself nat_list_cmp_total (name_of names j) in
+            absurd (apart (rw same at low) tie))
+        | inr above ↦ (let low = Less-from_sorted name_cmp names j i [] sorted above h in let tie = tied_itself nat_list_cmp_total (name_of names j) in
+            absurd (apart (rw same at low) tie))
       ]
     ]
 
 pub sorted_names : (names : List (List ℕ)) → IsStrictlySortedBy name_cmp names → IsSortedBy (λ a b. is_lt (name_cmp a b)) names
-sorted_names names sorted k d h i = rw (nat_list_cmp_total.antisymm (get_or names (k + 1) d) (get_or names k d), Less-from_sorted name_cmp names k (k + 1) d sorted (omega arith) i) refl
+sorted_names names sorted k d h i =
+    rw (nat_list_cmp_total.antisymm (get_or names (k + 1) d) (get_or names k d), Less-from_sorted name_cmp names k (k + 1) d sorted (omega arith) i) refl
 
 pub place_found : (names : List (List ℕ)) (x : List ℕ) (r : Result ℕ ℕ) → IsStrictlySortedBy name_cmp names → IsSearchInRange r (length names)
     → IsBinarySearchResult (λ y. name_cmp y x) names r → MatchOption (result_ok r) (IsAbsent names x) (λ i. StandsAt names x i)
@@ -75,7 +81,8 @@ place_found names x (Err i) sorted range found = λ k h. bytes_eq-other (name_of
 pub has_name-more : (names : List (List ℕ)) (j : ℕ) (name : List ℕ) (x : List ℕ) → j < length names → name ≡ get_or names j name
     → has_name (take (j + 1) names) x ≡ (has_name (take j names) x || bytes_eq x name)
 has_name-more names j name x h is =
-    rw (take_more names j name h, list_any-append (bytes_eq x) (take j names) (get_or names j name ∷ []), ← is) (ap (λ b. has_name (take j names) x || b) (or-false (bytes_eq x name)))
+    rw (take_more names j name h, list_any-append (bytes_eq x) (take j names) (get_or names j name ∷ []), ← is)
+    (ap (λ b. has_name (take j names) x || b) (or-false (bytes_eq x name)))
 
 -- a name is found exactly where it stands in the list
 pub has_name-contains : (names : List (List ℕ)) (x : List ℕ) → has_name names x ≡ true → Contains names x

@@ -19,7 +19,8 @@ has_place {n} {order} h a below = let w = h.each a below in (w.0, w.1, get_or_de
 pub below_in : {n : ℕ} {order : List ℕ} → IsNumbering n order → (i : ℕ) → i < length order → get_or order i 0 < n
 below_in h i l = h.below i 0 l
 
-pub not_the_other_way : {n : ℕ} {order : List ℕ} → IsNumbering n order → (i j a b : ℕ) → i < length order → j < length order → get_or order i 0 ≡ a → get_or order j 0 ≡ b → i ≤ j → Before order b a → ⊥
+pub not_the_other_way : {n : ℕ} {order : List ℕ} → IsNumbering n order → (i j a b : ℕ) → i < length order → j < length order → get_or order i 0 ≡ a
+    → get_or order j 0 ≡ b → i ≤ j → Before order b a → ⊥
 not_the_other_way h i j a b l m at_a at_b low (p, q, less, within, here_b, here_a) =
     let one = one_place h i q l within (at_a ∙ sym here_a) in
     let two = one_place h j p m (omega arith) (at_b ∙ sym here_b) in

@@ -39,7 +39,8 @@ pub pair_from_session : (h : History) (a b : ℕ) → IsSessionPair h a b → ca
 pair_from_session h a b p = or_left _ _ p
 
 pub pair_from_reads : (h : History) (a b : ℕ) (x : List ℕ) → IsReadsPair h a b x → causal_pair h a b ≡ true
-pair_from_reads h a b x (from, to, there) = or_right _ _ (and_from _ _ (and_from _ _ (lt-ltb a (count h) from) (lt-ltb b (count h) to)) (some_items (reads_from h a b) x there))
+pair_from_reads h a b x (from, to, there) =
+    or_right _ _ (and_from _ _ (and_from _ _ (lt-ltb a (count h) from) (lt-ltb b (count h) to)) (some_items (reads_from h a b) x there))
 
 -- a pair of either kind passes the test
 pub pair_from_kinds : (h : History) (a b : ℕ) → IsCausalPair h a b → causal_pair h a b ≡ true
@@ -65,7 +66,10 @@ step_from_pair h a b p = step_of_kind h a b (pair_kinds h a b p)
 -- the ends of pairs, steps and links are numbers of transactions
 pub session_below : (h : History) (a b : ℕ) → IsSessionPair h a b → (a < count h) × (b < count h)
 session_below h a b p =
-    let both = and_parts (nat_lt a (count h)) (nat_lt b (count h)) (and_parts (nat_lt a (count h) && nat_lt b (count h)) (((a == 0) && nat_lt 0 b) || (nat_lt 0 a && nat_lt 0 b && (owner h a == owner h b) && nat_lt (place h a) (place h b))) p).0 in
+    let both =
+    and_parts (nat_lt a (count h)) (nat_lt b (count h))
+    (and_parts (nat_lt a (count h) && nat_lt b (count h))
+    (((a == 0) && nat_lt 0 b) || (nat_lt 0 a && nat_lt 0 b && (owner h a == owner h b) && nat_lt (place h a) (place h b))) p).0 in
     (ltb-true a (count h) both.0, ltb-true b (count h) both.1)
 
 pub pair_below : (h : History) (a b : ℕ) → IsCausalPair h a b → (a < count h) × (b < count h)
@@ -86,11 +90,13 @@ module _ (h : History) where
   pub lower_first : (m n : ℕ) → 0 < m → m < count h → 0 < n → n < count h → owner h m ≡ owner h n → place h m < place h n → IsSessionPair h m n
   lower_first m n some below more within same lower =
       and_from _ _ (and_from _ _ (lt-ltb m (count h) below) (lt-ltb n (count h) within))
-      (or_right _ _ (and_from _ _ (and_from _ _ (and_from _ _ (lt-ltb 0 m some) (lt-ltb 0 n more)) (eq-eqb (owner h m) (owner h n) same)) (lt-ltb (place h m) (place h n) lower)))
+      (or_right _ _ (and_from _ _ (and_from _ _ (and_from _ _ (lt-ltb 0 m some) (lt-ltb 0 n more)) (eq-eqb (owner h m) (owner h n) same))
+      (lt-ltb (place h m) (place h n) lower)))
 
   -- `init` stands before all others
   pub initial_pair : (a b : ℕ) → a ≡ 0 → a < count h → 0 < b → b < count h → IsSessionPair h a b
-  initial_pair a b none below some within = and_from _ _ (and_from _ _ (lt-ltb a (count h) below) (lt-ltb b (count h) within)) (or_left _ _ (and_from _ _ (eq-eqb a 0 none) (lt-ltb 0 b some)))
+  initial_pair a b none below some within =
+      and_from _ _ (and_from _ _ (lt-ltb a (count h) below) (lt-ltb b (count h) within)) (or_left _ _ (and_from _ _ (eq-eqb a 0 none) (lt-ltb 0 b some)))
 
   -- what a pair says of its two transactions
   pub record PairParts (a : ℕ) (b : ℕ) : Type 0 where
@@ -103,8 +109,11 @@ module _ (h : History) where
   pub pair_parts : (a b : ℕ) → IsSessionPair h a b → PairParts a b
   pair_parts a b p = go (or_cases ((a == 0) && nat_lt 0 b) (nat_lt 0 a && nat_lt 0 b && (owner h a == owner h b) && nat_lt (place h a) (place h b)) parts.1)
     where
-      parts : ((nat_lt a (count h) && nat_lt b (count h)) ≡ true) × ((((a == 0) && nat_lt 0 b) || (nat_lt 0 a && nat_lt 0 b && (owner h a == owner h b) && nat_lt (place h a) (place h b))) ≡ true)
-      parts = and_parts (nat_lt a (count h) && nat_lt b (count h)) (((a == 0) && nat_lt 0 b) || (nat_lt 0 a && nat_lt 0 b && (owner h a == owner h b) && nat_lt (place h a) (place h b))) p
+      parts : ((nat_lt a (count h) && nat_lt b (count h)) ≡ true)
+          × ((((a == 0) && nat_lt 0 b) || (nat_lt 0 a && nat_lt 0 b && (owner h a == owner h b) && nat_lt (place h a) (place h b))) ≡ true)
+      parts =
+          and_parts (nat_lt a (count h) && nat_lt b (count h))
+          (((a == 0) && nat_lt 0 b) || (nat_lt 0 a && nat_lt 0 b && (owner h a == owner h b) && nat_lt (place h a) (place h b))) p
 
       ends : (a < count h) × (b < count h)
       ends = let w = and_parts (nat_lt a (count h)) (nat_lt b (count h)) parts.0 in (ltb-true a (count h) w.0, ltb-true b (count h) w.1)
@@ -118,4 +127,10 @@ module _ (h : History) where
           let w = and_parts (nat_lt 0 a && nat_lt 0 b && (owner h a == owner h b)) (nat_lt (place h a) (place h b)) second in
           let v = and_parts (nat_lt 0 a && nat_lt 0 b) (owner h a == owner h b) w.0 in
           let u = and_parts (nat_lt 0 a) (nat_lt 0 b) v.0 in
-          record { from = ends.0; to = ends.1; some = ltb-true 0 b u.1; same = λ some. eqb-true (owner h a) (owner h b) v.1; lower = λ some. ltb-true (place h a) (place h b) w.1 }
+          record {
+            from = ends.0;
+            to = ends.1;
+            some = ltb-true 0 b u.1;
+            same = λ some. eqb-true (owner h a) (owner h b) v.1;
+            lower = λ some. ltb-true (place h a) (place h b) w.1;
+          }

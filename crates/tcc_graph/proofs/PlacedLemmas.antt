@@ -1,5 +1,7 @@
 -- What the places of keys say of their names.
-use Rattle.std.proofs.Common.{ℕ, zero, suc, ◌+◌, ◌<◌, ◌≡◌, ◌⊎◌, Bool, true, false, List, [], ◌∷◌, ◌++◌, length, get_or, take, refl, sym, ap, ◌∙◌, arith, inl, inr, length-append, Option, None, Some}
+use Rattle.std.proofs.Common.{ℕ, zero, suc, ◌+◌, ◌<◌, ◌≡◌, ◌⊎◌, Bool, true, false, List, [], ◌∷◌, ◌++◌}
+use Rattle.std.proofs.Common.{length, get_or, take, refl, sym, ap, ◌∙◌, arith, inl, inr, length-append}
+use Rattle.std.proofs.Common.{Option, None, Some}
 use Rattle.std.specs.Prelude.{All, map, ◌==◌, ◌||◌, bytes_eq, MatchOption, IsSome}
 use Rattle.std.specs.List.{list_any}
 use Rattle.std.specs.List.Sorted.{IsStrictlySortedBy}
@@ -45,7 +47,8 @@ module _ (names : List (List ℕ)) (sorted : IsStrictlySortedBy name_cmp names) 
       ]
 
   -- a name is among those at the places where its own place is among them
-  pub has_name-places : (places : List ℕ) (k : ℕ) → All (λ j. j < length names) places → k < length names → has_name (map (name_of names) places) (name_of names k) ≡ list_any (λ j. j == k) places
+  pub has_name-places : (places : List ℕ) (k : ℕ) → All (λ j. j < length names) places → k < length names
+      → has_name (map (name_of names) places) (name_of names k) ≡ list_any (λ j. j == k) places
   has_name-places [] k all h = refl
   has_name-places (j ∷ places) k all h =
       rw (same_place j k (all 0 j (omega arith)) h) (ap (λ b. (j == k) || b) (has_name-places places k (λ i d l. all (suc i) d (omega arith)) h))
@@ -67,7 +70,8 @@ values_within n (read ∷ reads) a all = go (read.1 == a) refl (values_within n 
     go : (b : Bool) → (read.1 == a) ≡ b → All (λ j. j < n) (values_from reads a) → All (λ j. j < n) (values_from (read ∷ reads) a)
     go true e rest = rw e (λ k d h. here k d h rest)
       where
-        here : (k : ℕ) (d : ℕ) → k < length (read.0 ∷ values_from reads a) → All (λ j. j < n) (values_from reads a) → get_or (read.0 ∷ values_from reads a) k d < n
+        here : (k : ℕ) (d : ℕ) → k < length (read.0 ∷ values_from reads a) → All (λ j. j < n) (values_from reads a)
+            → get_or (read.0 ∷ values_from reads a) k d < n
         here zero d h rest = all 0 read (omega arith)
         here (suc k) d h rest = rest k d (omega arith)
     go false e rest = rw e rest
@@ -75,7 +79,8 @@ values_within n (read ∷ reads) a all = go (read.1 == a) refl (values_within n 
 -- where each of some reads by places has its source below n, those by names have, and the other way round
 pub sources_named : (names : List (List ℕ)) (n : ℕ) (reads : List (ℕ × ℕ)) → All (λ read. read.1 < n) (named names reads) → All (λ read. read.1 < n) reads
 sources_named names n [] all = λ k d h. absurd (omega arith)
-sources_named names n (read ∷ reads) all = both (sources_named names n reads (λ i e l. all (suc i) e (omega arith))) (all 0 (name_of names read.0, read.1) (omega arith))
+sources_named names n (read ∷ reads) all =
+    both (sources_named names n reads (λ i e l. all (suc i) e (omega arith))) (all 0 (name_of names read.0, read.1) (omega arith))
   where
     both : All (λ (r : ℕ × ℕ). r.1 < n) reads → read.1 < n → All (λ (r : ℕ × ℕ). r.1 < n) (read ∷ reads)
     both rest here = λ k d h. item k d h rest here
@@ -85,7 +90,8 @@ sources_named names n (read ∷ reads) all = both (sources_named names n reads (
         item (suc k) d h rest here = rest k d (omega arith)
 
 -- a name that is there has a place
-pub place_there : (names : List (List ℕ)) (x : List ℕ) (r : Option ℕ) → has_name names x ≡ true → MatchOption r (IsAbsent names x) (λ i. StandsAt names x i) → IsSome r
+pub place_there : (names : List (List ℕ)) (x : List ℕ) (r : Option ℕ) → has_name names x ≡ true → MatchOption r (IsAbsent names x) (λ i. StandsAt names x i)
+    → IsSome r
 place_there names x None there none = absurd (both_ways (has_name names x) (absent names x none) there)
 place_there names x (Some i) there at = refl
 
@@ -97,9 +103,11 @@ values_in_groups P values (suc m) all =
     (All-map (λ p. P p.1) (λ x. (m, x)) (values m) (all m (omega arith)))
 
 -- the places of a row of the table are below those of the reads
-pub row_within : (placed : List Placed) (n : ℕ) → All (λ p. All (λ read. read.0 < n) p.reads) placed → (table : List (List (ℕ × ℕ))) → IsPlaceTable (length placed) placed (length placed) table
+pub row_within : (placed : List Placed) (n : ℕ) → All (λ p. All (λ read. read.0 < n) p.reads) placed → (table : List (List (ℕ × ℕ)))
+    → IsPlaceTable (length placed) placed (length placed) table
     → (a : ℕ) → a < length table → (row : List (ℕ × ℕ)) → row ≡ get_or table a row → All (λ p. p.1 < n) row
-row_within placed n within table tables a inside row is = rw whole (values_in_groups (λ j. j < n) (λ b. values_from (placed_of placed b).reads a) (length placed)
+row_within placed n within table tables a inside row is =
+    rw whole (values_in_groups (λ j. j < n) (λ b. values_from (placed_of placed b).reads a) (length placed)
     (λ b h. values_within n (placed_of placed b).reads a (within b _ h)))
   where
     whole : row ≡ groups (λ b. values_from (placed_of placed b).reads a) (length placed)
@@ -117,7 +125,8 @@ keys_read P e all k d h =
 pub none_placed : (names : List (List ℕ)) (entries : List Entry) → ArePlaced names (take 0 entries) []
 none_placed names entries = record { long = refl; each = λ n h. absurd (omega (arith, h)) }
 
-pub more_placed : (names : List (List ℕ)) (entries : List Entry) (i : ℕ) (placed : List Placed) (e : Entry) (p : Placed) → ArePlaced names (take i entries) placed
+pub more_placed : (names : List (List ℕ)) (entries : List Entry) (i : ℕ) (placed : List Placed) (e : Entry) (p : Placed)
+    → ArePlaced names (take i entries) placed
     → i < length entries → e ≡ get_or entries i e → IsPlaced names e p → ArePlaced names (take (i + 1) entries) (placed ++ p ∷ [])
 more_placed names entries i placed e p before inside is here = record {
   long = omega (arith, length-append placed (p ∷ []), before.long, taken, length-take-le (i + 1) entries (omega arith));
@@ -128,8 +137,19 @@ more_placed names entries i placed e p before inside is here = record {
     taken = length-take-le i entries (omega arith)
 
     go : (n : ℕ) → (n ≡ i) ⊎ (n ≡ i → ⊥) → n < i + 1 → IsPlaced names (get_or (take (i + 1) entries) n initial) (placed_of (placed ++ p ∷ []) n)
-    go n (inl e') low = rw (e', get_or_push placed p (record { writes = []; reads = [] }) i (before.long ∙ taken), get_or-take (i + 1) entries i initial (omega arith), ← get_or_read entries i e inside is initial) here
-    go n (inr ne) low = rw (get_or_append_left placed (p ∷ []) (record { writes = []; reads = [] }) n (omega (arith, before.long, taken)), get_or-take (i + 1) entries n initial low, ← get_or-take i entries n initial (omega arith))
+    go n (inl e') low =
+        rw (
+          e',
+          get_or_push placed p (record { writes = []; reads = [] }) i (before.long ∙ taken),
+          get_or-take (i + 1) entries i initial (omega arith),
+          ← get_or_read entries i e inside is initial,
+        ) here
+    go n (inr ne) low =
+        rw (
+          get_or_append_left placed (p ∷ []) (record { writes = []; reads = [] }) n (omega (arith, before.long, taken)),
+          get_or-take (i + 1) entries n initial low,
+          ← get_or-take i entries n initial (omega arith),
+        )
         (before.each n (omega (arith, taken)))
 
 module _ (names : List (List ℕ)) (entries : List Entry) (placed : List Placed) (are : ArePlaced names entries placed) where
@@ -148,11 +168,15 @@ module _ (names : List (List ℕ)) (entries : List Entry) (placed : List Placed)
     pub placed_sources : All (λ p. All (λ read. read.1 < length placed) p.reads) placed
     placed_sources n d h = rw (get_or_default placed n d (record { writes = []; reads = [] }) h, are.long) (from_sources n (omega (arith, are.long)))
 
-    pub reads_below : (c : ℕ) → c < length entries → (p : Placed) → p ≡ get_or placed c p → All (λ read. (read.0 < length names) × (read.1 < length entries)) p.reads
-    reads_below c h p is = rw (get_or_read placed c p (omega (arith, are.long)) is (record { writes = []; reads = [] })) (λ k d l. ((are.each c h).reads_within k d l, from_sources c h k d l))
+    pub reads_below : (c : ℕ) → c < length entries → (p : Placed) → p ≡ get_or placed c p
+        → All (λ read. (read.0 < length names) × (read.1 < length entries)) p.reads
+    reads_below c h p is =
+        rw (get_or_read placed c p (omega (arith, are.long)) is (record { writes = []; reads = [] }))
+        (λ k d l. ((are.each c h).reads_within k d l, from_sources c h k d l))
 
 -- the keys of each transaction are among the history's
 pub all_keyed : (entries : List Entry) → All (λ e. All (λ x. has_name (keys (over entries)) x ≡ true) (keys_of e)) entries
 all_keyed entries n d h k x l =
     has_name-keys (over entries) _
-    ∙ list_any_at (λ e. has_name (keys_of e) (get_or (keys_of (get_or entries n d)) k x)) entries n d h (contains-has_name (keys_of (get_or entries n d)) _ (k, l, get_or_default (keys_of (get_or entries n d)) k _ x l))
+    ∙ list_any_at (λ e. has_name (keys_of e) (get_or (keys_of (get_or entries n d)) k x)) entries n d h
+    (contains-has_name (keys_of (get_or entries n d)) _ (k, l, get_or_default (keys_of (get_or entries n d)) k _ x l))

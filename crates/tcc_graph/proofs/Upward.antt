@@ -47,8 +47,17 @@ lowest_of l (k ∷ links) = go (lowest_of k links)
         pick : (link_from l < link_from w.link) ⊎ (link_from w.link ≤ link_from l) → HasLowest (l ∷ k ∷ links)
         pick (inr low) = record { front = l ∷ w.front; link = w.link; rest = w.rest; split = rw w.split refl; before = (low, w.before); after = w.after }
         pick (inl low) =
-            let all : BeginFrom (link_from w.link) (w.front ++ w.link ∷ w.rest) = begin_append (link_from w.link) w.front (w.link ∷ w.rest) w.before (omega arith, w.after) in
-            record { front = []; link = l; rest = k ∷ links; split = refl; before = tt; after = begin_lower (link_from l) (link_from w.link) (k ∷ links) (omega (arith, low)) (subst (λ (z : List Link). BeginFrom (link_from w.link) z) (sym w.split) all) }
+            let all : BeginFrom (link_from w.link) (w.front ++ w.link ∷ w.rest) =
+            begin_append (link_from w.link) w.front (w.link ∷ w.rest) w.before (omega arith, w.after) in
+            record {
+              front = [];
+              link = l;
+              rest = k ∷ links;
+              split = refl;
+              before = tt;
+              after = begin_lower (link_from l) (link_from w.link) (k ∷ links) (omega (arith, low))
+                  (subst (λ (z : List Link). BeginFrom (link_from w.link) z) (sym w.split) all);
+            }
 
 -- a cycle, begun at its lowest number: it is a route over numbers from there upward, and costs the same
 pub record IsTurned (j : Judged) (s : ℕ) (links : List Link) : Type 0 where
@@ -58,11 +67,13 @@ pub record IsTurned (j : Judged) (s : ℕ) (links : List Link) : Type 0 where
   pub costs : cost turned ≡ cost links
   pub low : lowest ≤ s
 
-first_from : (j : Judged) (s t m : ℕ) (front : List Link) (l : Link) (rest : List Link) → LinksLead j s t (front ++ l ∷ rest) → BeginFrom m front → m ≤ link_from l → m ≤ s
+first_from : (j : Judged) (s t m : ℕ) (front : List Link) (l : Link) (rest : List Link) → LinksLead j s t (front ++ l ∷ rest) → BeginFrom m front
+    → m ≤ link_from l → m ≤ s
 first_from j s t m [] l rest lead before here = subst (λ (z : ℕ). m ≤ z) lead.0 here
 first_from j s t m (k ∷ front) l rest lead before here = subst (λ (z : ℕ). m ≤ z) lead.0 before.0
 
-turn_at : (j : Judged) (s : ℕ) (front : List Link) (l : Link) (rest : List Link) → IsCycle j s (front ++ l ∷ rest) → BeginFrom (link_from l) front → BeginFrom (link_from l) rest → IsTurned j s (front ++ l ∷ rest)
+turn_at : (j : Judged) (s : ℕ) (front : List Link) (l : Link) (rest : List Link) → IsCycle j s (front ++ l ∷ rest) → BeginFrom (link_from l) front
+    → BeginFrom (link_from l) rest → IsTurned j s (front ++ l ∷ rest)
 turn_at j s front l rest cycle before after =
     let (m, lead, on) = lead_split j s s front (l ∷ rest) cycle.1 in
     let back : LinksLead j s (link_from l) front = subst (λ (z : ℕ). LinksLead j s z front) (sym on.0) lead in
@@ -81,4 +92,6 @@ turn_lowest j s [] cycle = absurd (omega (arith, cycle.0))
 turn_lowest j s (l ∷ links) cycle = go (lowest_of l links)
   where
     go : HasLowest (l ∷ links) → IsTurned j s (l ∷ links)
-    go w = subst (λ (z : List Link). IsTurned j s z) (sym w.split) (turn_at j s w.front w.link w.rest (subst (λ (z : List Link). IsCycle j s z) w.split cycle) w.before w.after)
+    go w =
+        subst (λ (z : List Link). IsTurned j s z) (sym w.split)
+        (turn_at j s w.front w.link w.rest (subst (λ (z : List Link). IsCycle j s z) w.split cycle) w.before w.after)

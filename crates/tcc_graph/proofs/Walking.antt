@@ -26,7 +26,8 @@ pub pair_walk : (h : History) (a b : ℕ) → IsCausalPair h a b → (walk : Lis
 pair_walk h a b p = let s = step_of_kind h a b p in (s.0 ∷ [], (omega arith, (s.1, s.3, s.2)), refl)
 
 -- one pair more
-pub walk_on : (h : History) (a b c : ℕ) (walk : List Step) → IsWalk h a b walk → IsCausalPair h b c → (longer : List Step) × IsWalk h a c longer × (length longer ≡ length walk + 1)
+pub walk_on : (h : History) (a b c : ℕ) (walk : List Step) → IsWalk h a b walk → IsCausalPair h b c
+    → (longer : List Step) × IsWalk h a c longer × (length longer ≡ length walk + 1)
 walk_on h a b c walk is p =
     let one = pair_walk h b c p in
     (walk ++ one.0, walk_append h a b c walk one.0 is one.1.1, omega (arith, one.2, length-append walk one.0))

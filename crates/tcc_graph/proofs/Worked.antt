@@ -163,7 +163,8 @@ abbrev pub conflict_cycle : List Link
 conflict_cycle = link.Derived 1 2 x 3 (step.Reads 1 3 x ∷ []) ∷ link.Derived 2 1 x 3 (step.Reads 2 3 x ∷ []) ∷ []
 
 -- a cycle at each level that allows its walks
-two_values-at : (level : Level) → IsAllowed level (step.Reads 1 3 x ∷ []) → IsAllowed level (step.Reads 2 3 x ∷ []) → IsCycle (record { history = two_values; level = level }) 1 conflict_cycle
+two_values-at : (level : Level) → IsAllowed level (step.Reads 1 3 x ∷ []) → IsAllowed level (step.Reads 2 3 x ∷ [])
+    → IsCycle (record { history = two_values; level = level }) 1 conflict_cycle
 two_values-at level one two = (
   omega arith,
   (

@@ -10,7 +10,8 @@ use Rattle.tcc_graph.specs.ReadTables.{over, HasSources, Placed, IsReadTable, Ar
 use Rattle.tcc_graph.specs.KeyRows.{KeyRow, IsKeyTable}
 
 -- the tables are those of these transactions
-pub record IsGraph (sessions : List (List ℕ)) (entries : List Entry) (reads : List (List (ℕ × List ℕ))) (names : List (List ℕ)) (places : List Placed) (read_places : List (List (ℕ × ℕ))) (rows : List KeyRow) : Type 0 where
+pub record IsGraph (sessions : List (List ℕ)) (entries : List Entry) (reads : List (List (ℕ × List ℕ))) (names : List (List ℕ)) (places : List Placed)
+    (read_places : List (List (ℕ × ℕ))) (rows : List KeyRow) : Type 0 where
   pub few_sessions : length sessions ≤ MAX_SESSIONS
   pub some : 0 < length entries
   pub few : length entries ≤ MAX_COUNT

@@ -1,10 +1,14 @@
 -- Rows of marks, 64 in a word.
-use Rattle.std.proofs.Common.{◌≡◌, ◌≢◌, ◌<◌, ◌≤◌, ◌+◌, ◌*◌, ◌/◌, ◌%◌, ◌^◌, ◌==◌, ◌||◌, ◌&&◌, ◌↔◌, ◌⊎◌, ℕ, zero, suc, inl, inr, Bool, true, false, List, [], ◌∷◌, ◌++◌, length, set, replicate, slice_index, refl, sym, ◌∙◌, ap, arith, eq-eqb, eqb-true, w64}
+use Rattle.std.proofs.Common.{◌≡◌, ◌≢◌, ◌<◌, ◌≤◌, ◌+◌, ◌*◌, ◌/◌, ◌%◌, ◌^◌, ◌==◌, ◌||◌, ◌&&◌, ◌↔◌, ◌⊎◌, ℕ, zero, suc, inl, inr, Bool, true}
+use Rattle.std.proofs.Common.{false, List, [], ◌∷◌, ◌++◌, length, set, replicate, slice_index, refl, sym, ◌∙◌, ap, arith, eq-eqb}
+use Rattle.std.proofs.Common.{eqb-true, w64}
 use Rattle.std.specs.Prelude.{bit_and, bit_or, max, min}
 use Rattle.std.specs.Int.{bit_at, bit_not}
 use Rattle.std.proofs.lemmas.Bool.{cases_eq, cases_lt, false≢true, ne_eqb}
 use Rattle.std.proofs.lemmas.Nat.{and_le_l}
-use Rattle.std.proofs.lemmas.Nat.Bits.{bit_at-lt, bit_at_or, bit_at_and, bit_at_not, bit_at-zero, bit_at_set_same, bit_at_set_other, bit_at_clear_same, bit_at_clear_other}
+use Rattle.std.proofs.lemmas.Nat.Bits.{bit_at-lt, bit_at_or, bit_at_and, bit_at_not, bit_at-zero}
+use Rattle.std.proofs.lemmas.Nat.Bits.{bit_at_set_same, bit_at_set_other, bit_at_clear_same}
+use Rattle.std.proofs.lemmas.Nat.Bits.bit_at_clear_other
 use Rattle.std.proofs.lemmas.List.{get_or-set_same, get_or-set_other, get_or_past}
 use Rattle.std.specs.List.{Contains}
 use Rattle.std.proofs.lemmas.List.Elements.{Contains-append_left, Contains-push, Contains-push_cases}
@@ -49,14 +53,16 @@ either (suc zero) (suc (suc y)) l m = absurd (omega arith)
 either (suc (suc x)) y l m = absurd (omega arith)
 
 -- words that are joined mark what either marks
-pub joined : (old other new : List ℕ) (b : ℕ) → slice_index new (b / 64) ≡ bit_or (slice_index old (b / 64)) (slice_index other (b / 64)) → is_marked new b ≡ (is_marked old b || is_marked other b)
+pub joined : (old other new : List ℕ) (b : ℕ) → slice_index new (b / 64) ≡ bit_or (slice_index old (b / 64)) (slice_index other (b / 64))
+    → is_marked new b ≡ (is_marked old b || is_marked other b)
 unfolding is_marked
 joined old other new b is =
     ap (λ w. bit_at w (b % 64) == 1) is
     ∙ (ap (λ x. x == 1) (bit_at_or (slice_index old (b / 64)) (slice_index other (b / 64)) (b % 64))
     ∙ either (bit_of old b) (bit_of other b) (bit_at-lt (slice_index old (b / 64)) (b % 64)) (bit_at-lt (slice_index other (b / 64)) (b % 64)))
 
-pub joined_all : (old other new : List ℕ) → length new ≡ length old → length old ≡ length other → ((k : ℕ) → k < length old → slice_index new k ≡ bit_or (slice_index old k) (slice_index other k))
+pub joined_all : (old other new : List ℕ) → length new ≡ length old → length old ≡ length other
+    → ((k : ℕ) → k < length old → slice_index new k ≡ bit_or (slice_index old k) (slice_index other k))
     → (b : ℕ) → is_marked new b ≡ (is_marked old b || is_marked other b)
 joined_all old other new same long each b = go (cases_lt (b / 64) (length old))
   where
@@ -101,7 +107,8 @@ common_all old one other new same long wide each b = go (cases_lt (b / 64) (leng
     go (inr past) = rw (unmarked_past new b (omega (arith, same)), unmarked_past old b past, unmarked_past one b (omega (arith, long))) refl
 
 -- one more mark
-pub marked_set : (words : List ℕ) (p b : ℕ) → p / 64 < length words → is_marked (set words (p / 64) (bit_or (slice_index words (p / 64)) (1 * 2 ^ (p % 64) % 2 ^ 64))) b ≡ (is_marked words b || (b == p))
+pub marked_set : (words : List ℕ) (p b : ℕ) → p / 64 < length words
+    → is_marked (set words (p / 64) (bit_or (slice_index words (p / 64)) (1 * 2 ^ (p % 64) % 2 ^ 64))) b ≡ (is_marked words b || (b == p))
 unfolding is_marked
 marked_set words p b inside = go (cases_eq (b / 64) (p / 64)) (cases_eq b p)
   where
@@ -116,17 +123,22 @@ marked_set words p b inside = go (cases_eq (b / 64) (p / 64)) (cases_eq b p)
     or_true true = refl
     or_true false = refl
 
-    go : (b / 64 ≡ p / 64) ⊎ (b / 64 ≢ p / 64) → (b ≡ p) ⊎ (b ≢ p) → (bit_at (slice_index (set words (p / 64) word) (b / 64)) (b % 64) == 1) ≡ ((bit_of words b == 1) || (b == p))
+    go : (b / 64 ≡ p / 64) ⊎ (b / 64 ≢ p / 64) → (b ≡ p) ⊎ (b ≢ p)
+        → (bit_at (slice_index (set words (p / 64) word) (b / 64)) (b % 64) == 1) ≡ ((bit_of words b == 1) || (b == p))
     go _ (inl same) =
         let one : bit_at (slice_index (set words (p / 64) word) (p / 64)) (p % 64) ≡ 1
-        = ap (λ w. bit_at w (p % 64)) (get_or-set_same words (p / 64) word 0 inside) ∙ bit_at_set_same w64 (slice_index words (p / 64)) (p % 64) (omega arith) in
+        =
+        ap (λ w. bit_at w (p % 64)) (get_or-set_same words (p / 64) word 0 inside)
+        ∙ bit_at_set_same w64 (slice_index words (p / 64)) (p % 64) (omega arith) in
         rw (same, one, eq-eqb p p refl) (or_true (bit_of words p == 1))
     go (inr far) (inr other) =
         rw (get_or-set_other words (p / 64) (b / 64) word 0 far, ne_eqb b p other) (or_false (bit_of words b == 1))
     go (inl near) (inr other) =
         let bit : b % 64 ≢ p % 64 = λ e. other (omega arith) in
         let kept : bit_at (slice_index (set words (p / 64) word) (b / 64)) (b % 64) ≡ bit_of words b
-        = rw near (ap (λ w. bit_at w (b % 64)) (get_or-set_same words (p / 64) word 0 inside) ∙ bit_at_set_other w64 (slice_index words (p / 64)) (p % 64) (omega arith) (b % 64) bit) in
+        =
+        rw near (ap (λ w. bit_at w (b % 64)) (get_or-set_same words (p / 64) word 0 inside)
+        ∙ bit_at_set_other w64 (slice_index words (p / 64)) (p % 64) (omega arith) (b % 64) bit) in
         rw (kept, ne_eqb b p other) (or_false (bit_of words b == 1))
 
 -- words that are 0 mark nothing
@@ -167,8 +179,10 @@ pub push_more : (old numbers : List ℕ) (word left first t : ℕ) → (t < 64) 
     → ((b : ℕ) → Contains numbers b ↔ (Contains old b ⊎ ((i : ℕ) × (i < 64) × (bit_at word i ≡ 1) × (bit_at left i ≡ 0) × (b ≡ first + i))))
     → let less = bit_and left (bit_not w64 (1 * 2 ^ t % 2 ^ 64)) in
     ((i : ℕ) → i < 64 → bit_at less i ≤ bit_at word i)
-    × ((b : ℕ) → Contains (numbers ++ (first + t) ∷ []) b ↔ (Contains old b ⊎ ((i : ℕ) × (i < 64) × (bit_at word i ≡ 1) × (bit_at less i ≡ 0) × (b ≡ first + i))))
-push_more old numbers word left first t inside one within before = (λ i small. few i small (cases_eq i t), λ b. (λ h. onward b (Contains-push_cases numbers (first + t) b h), back b))
+    × ((b : ℕ) → Contains (numbers ++ (first + t) ∷ []) b ↔
+    (Contains old b ⊎ ((i : ℕ) × (i < 64) × (bit_at word i ≡ 1) × (bit_at less i ≡ 0) × (b ≡ first + i))))
+push_more old numbers word left first t inside one within before =
+    (λ i small. few i small (cases_eq i t), λ b. (λ h. onward b (Contains-push_cases numbers (first + t) b h), back b))
   where
     less : ℕ
     less = bit_and left (bit_not w64 (1 * 2 ^ t % 2 ^ 64))
@@ -183,19 +197,22 @@ push_more old numbers word left first t inside one within before = (λ i small. 
     few i small (inl same) = rw same (omega (arith, gone))
     few i small (inr other) = omega (arith, others i small other, within i small)
 
-    onward : (b : ℕ) → Contains numbers b ⊎ (first + t ≡ b) → Contains old b ⊎ ((i : ℕ) × (i < 64) × (bit_at word i ≡ 1) × (bit_at less i ≡ 0) × (b ≡ first + i))
+    onward : (b : ℕ) → Contains numbers b ⊎ (first + t ≡ b) → Contains old b
+        ⊎ ((i : ℕ) × (i < 64) × (bit_at word i ≡ 1) × (bit_at less i ≡ 0) × (b ≡ first + i))
     onward b (inr last) =
         let set_bit : bit_at word t ≡ 1 = omega (arith, within t inside, bit_at-lt word t) in
         inr (t, inside, set_bit, gone, sym last)
     onward b (inl was) = go ((before b).0 was)
       where
-        go : Contains old b ⊎ ((i : ℕ) × (i < 64) × (bit_at word i ≡ 1) × (bit_at left i ≡ 0) × (b ≡ first + i)) → Contains old b ⊎ ((i : ℕ) × (i < 64) × (bit_at word i ≡ 1) × (bit_at less i ≡ 0) × (b ≡ first + i))
+        go : Contains old b ⊎ ((i : ℕ) × (i < 64) × (bit_at word i ≡ 1) × (bit_at left i ≡ 0) × (b ≡ first + i))
+            → Contains old b ⊎ ((i : ℕ) × (i < 64) × (bit_at word i ≡ 1) × (bit_at less i ≡ 0) × (b ≡ first + i))
         go (inl h) = inl h
         go (inr (i, small, set_bit, none, at)) =
             let far : i ≢ t = λ e. absurd (let same : bit_at left i ≡ bit_at left t = ap (bit_at left) e in omega arith) in
             inr (i, small, set_bit, others i small far ∙ none, at)
 
-    back : (b : ℕ) → Contains old b ⊎ ((i : ℕ) × (i < 64) × (bit_at word i ≡ 1) × (bit_at less i ≡ 0) × (b ≡ first + i)) → Contains (numbers ++ (first + t) ∷ []) b
+    back : (b : ℕ) → Contains old b ⊎ ((i : ℕ) × (i < 64) × (bit_at word i ≡ 1) × (bit_at less i ≡ 0) × (b ≡ first + i))
+        → Contains (numbers ++ (first + t) ∷ []) b
     back b (inl h) = Contains-append_left numbers ((first + t) ∷ []) b ((before b).1 (inl h))
     back b (inr (i, small, set_bit, none, at)) = go (cases_eq i t)
       where
@@ -209,11 +226,13 @@ pub push_done : (old numbers : List ℕ) (word left first : ℕ) → left ≡ 0
     → (b : ℕ) → Contains numbers b ↔ (Contains old b ⊎ ((i : ℕ) × (i < 64) × (bit_at word i ≡ 1) × (b ≡ first + i)))
 push_done old numbers word left first none before b = (λ h. onward ((before b).0 h), λ h. (before b).1 (back h))
   where
-    onward : Contains old b ⊎ ((i : ℕ) × (i < 64) × (bit_at word i ≡ 1) × (bit_at left i ≡ 0) × (b ≡ first + i)) → Contains old b ⊎ ((i : ℕ) × (i < 64) × (bit_at word i ≡ 1) × (b ≡ first + i))
+    onward : Contains old b ⊎ ((i : ℕ) × (i < 64) × (bit_at word i ≡ 1) × (bit_at left i ≡ 0) × (b ≡ first + i))
+        → Contains old b ⊎ ((i : ℕ) × (i < 64) × (bit_at word i ≡ 1) × (b ≡ first + i))
     onward (inl h) = inl h
     onward (inr (i, small, set_bit, gone, at)) = inr (i, small, set_bit, at)
 
-    back : Contains old b ⊎ ((i : ℕ) × (i < 64) × (bit_at word i ≡ 1) × (b ≡ first + i)) → Contains old b ⊎ ((i : ℕ) × (i < 64) × (bit_at word i ≡ 1) × (bit_at left i ≡ 0) × (b ≡ first + i))
+    back : Contains old b ⊎ ((i : ℕ) × (i < 64) × (bit_at word i ≡ 1) × (b ≡ first + i))
+        → Contains old b ⊎ ((i : ℕ) × (i < 64) × (bit_at word i ≡ 1) × (bit_at left i ≡ 0) × (b ≡ first + i))
     back (inl h) = inl h
     back (inr (i, small, set_bit, at)) = inr (i, small, set_bit, rw none (bit_at-zero i), at)
 
@@ -230,14 +249,17 @@ abbrev pub FreshBelow : List ℕ → List ℕ → List ℕ → ℕ → Type 0
 FreshBelow seen marks fresh n = (b : ℕ) → Contains fresh b ↔ ((b < 64 * n) × (is_marked marks b ≡ true) × (is_marked seen b ≡ false))
 
 pub fresh_more : (seen marks fresh new : List ℕ) (n : ℕ) → slice_index seen n < 2 ^ 64 → FreshBelow seen marks fresh n
-    → ((b : ℕ) → Contains new b ↔ (Contains fresh b ⊎ ((i : ℕ) × (i < 64) × (bit_at (bit_and (slice_index marks n) (bit_not w64 (slice_index seen n))) i ≡ 1) × (b ≡ n * 64 + i))))
+    → ((b : ℕ) → Contains new b ↔
+    (Contains fresh b ⊎ ((i : ℕ) × (i < 64) × (bit_at (bit_and (slice_index marks n) (bit_not w64 (slice_index seen n))) i ≡ 1) × (b ≡ n * 64 + i))))
     → FreshBelow seen marks new (n + 1)
 fresh_more seen marks fresh new n small before pushed b = (λ h. onward ((pushed b).0 h), λ h. (pushed b).1 (back h (cases_lt b (64 * n))))
   where
-    bits : (i : ℕ) → i < 64 → (bit_at (bit_and (slice_index marks n) (bit_not w64 (slice_index seen n))) i ≡ 1) ↔ ((bit_at (slice_index marks n) i ≡ 1) × (bit_at (slice_index seen n) i ≡ 0))
+    bits : (i : ℕ) → i < 64 → (bit_at (bit_and (slice_index marks n) (bit_not w64 (slice_index seen n))) i ≡ 1) ↔
+        ((bit_at (slice_index marks n) i ≡ 1) × (bit_at (slice_index seen n) i ≡ 0))
     bits i within = fresh_bits (slice_index marks n) (slice_index seen n) i small within
 
-    onward : Contains fresh b ⊎ ((i : ℕ) × (i < 64) × (bit_at (bit_and (slice_index marks n) (bit_not w64 (slice_index seen n))) i ≡ 1) × (b ≡ n * 64 + i)) → (b < 64 * (n + 1)) × (is_marked marks b ≡ true) × (is_marked seen b ≡ false)
+    onward : Contains fresh b ⊎ ((i : ℕ) × (i < 64) × (bit_at (bit_and (slice_index marks n) (bit_not w64 (slice_index seen n))) i ≡ 1) × (b ≡ n * 64 + i))
+        → (b < 64 * (n + 1)) × (is_marked marks b ≡ true) × (is_marked seen b ≡ false)
     onward (inl h) = let was = (before b).0 h in (omega (arith, was.0), was.1, was.2)
     onward (inr (i, within, one, at)) =
         let is = (bits i within).0 one in

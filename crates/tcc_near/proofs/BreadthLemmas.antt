@@ -1,5 +1,7 @@
 -- One round of a search after another.
-use Rattle.std.proofs.Common.{◌≡◌, ◌≢◌, ◌<◌, ◌≤◌, ◌+◌, ◌==◌, ◌&&◌, ◌↔◌, ◌⊎◌, ℕ, inl, inr, Bool, true, false, cond, if◌then◌else◌, List, [], length, replicate, get_or, slice_index, Option, Some, None, refl, sym, ◌∙◌, ap, subst, arith, eqb}
+use Rattle.std.proofs.Common.{◌≡◌, ◌≢◌, ◌<◌, ◌≤◌, ◌+◌, ◌==◌, ◌&&◌, ◌↔◌, ◌⊎◌, ℕ, inl, inr, Bool, true, false, cond, if◌then◌else◌}
+use Rattle.std.proofs.Common.{List, [], length, replicate, get_or, slice_index, Option, Some, None, refl, sym, ◌∙◌, ap, subst}
+use Rattle.std.proofs.Common.{arith, eqb}
 use Rattle.std.proofs.lemmas.Bool.{cases_lt, cases_eq, false≢true, ne_eqb}
 use Rattle.std.proofs.lemmas.List.{length-replicate, get_or-replicate}
 use Rattle.std.proofs.lemmas.List.Sums.{sum_by-set}
@@ -34,7 +36,8 @@ further h a n row b searched below none = go (read row b)
     go (inl r) = subst (λ (d : Option ℕ). IsDistanceWithin h a n b d) r.1 (searched.exact b below)
     go (inr r) = absurd (r.0 none)
 
-pub known : (h : History) (a n : ℕ) (row : List ℕ) (b : ℕ) → IsSearched h a n row → b < count h → slice_index row b ≢ NONE → (slice_index row b ≤ n) × IsShortest (causally h) a b (slice_index row b)
+pub known : (h : History) (a n : ℕ) (row : List ℕ) (b : ℕ) → IsSearched h a n row → b < count h → slice_index row b ≢ NONE
+    → (slice_index row b ≤ n) × IsShortest (causally h) a b (slice_index row b)
 known h a n row b searched below some = go (read row b)
   where
     go : Read row b → (slice_index row b ≤ n) × IsShortest (causally h) a b (slice_index row b)
@@ -42,7 +45,8 @@ known h a n row b searched below some = go (read row b)
     go (inr r) = subst (λ (d : Option ℕ). IsDistanceWithin h a n b d) r.1 (searched.exact b below)
 
 -- a distance that stands in a row
-distance_is : (h : History) (a n : ℕ) (row : List ℕ) (b d : ℕ) → slice_index row b ≡ d → d < NONE → d ≤ n → IsShortest (causally h) a b d → IsDistanceWithin h a n b (least_in row b)
+distance_is : (h : History) (a n : ℕ) (row : List ℕ) (b d : ℕ) → slice_index row b ≡ d → d < NONE → d ≤ n → IsShortest (causally h) a b d
+    → IsDistanceWithin h a n b (least_in row b)
 distance_is h a n row b d is small few shortest = go (read row b)
   where
     go : Read row b → IsDistanceWithin h a n b (least_in row b)
@@ -83,21 +87,26 @@ numbered_new row marks d b mark none = rw (mark, none) refl
 -- what is marked within n + 1 steps gets the number n + 1
 pub searched_more : (h : History) (a n : ℕ) (row new : List ℕ) (marks : List ℕ) → IsSearched h a n row → IsMarked h a (n + 1) marks → n + 1 < NONE
     → length new ≡ length row → ((b : ℕ) → slice_index new b ≡ numbered row marks (n + 1) b) → IsSearched h a (n + 1) new
-searched_more h a n row new marks searched marked small same each = record { long = same ∙ searched.long; exact = λ b below. go b below (cases_eq (slice_index row b) NONE) (is_marked marks b) refl }
+searched_more h a n row new marks searched marked small same each =
+    record { long = same ∙ searched.long; exact = λ b below. go b below (cases_eq (slice_index row b) NONE) (is_marked marks b) refl }
   where
-    go : (b : ℕ) → b < count h → (slice_index row b ≡ NONE) ⊎ (slice_index row b ≢ NONE) → (m : Bool) → is_marked marks b ≡ m → IsDistanceWithin h a (n + 1) b (least_in new b)
+    go : (b : ℕ) → b < count h → (slice_index row b ≡ NONE) ⊎ (slice_index row b ≢ NONE) → (m : Bool) → is_marked marks b ≡ m
+        → IsDistanceWithin h a (n + 1) b (least_in new b)
     go b below (inr some) m e =
         let old = known h a n row b searched below some in
         let now : slice_index new b ≡ slice_index row b = each b ∙ numbered_kept row marks (n + 1) b some in
         distance_is h a (n + 1) new b (slice_index row b) now (omega (arith, old.0)) (omega (arith, old.0)) old.1
     go b below (inl none) true e =
-        distance_is h a (n + 1) new b (n + 1) (each b ∙ numbered_new row marks (n + 1) b e none) small (omega arith) (shortest_at h a n b (further h a n row b searched below none) ((marked.exact b below).0 e))
+        distance_is h a (n + 1) new b (n + 1) (each b ∙ numbered_new row marks (n + 1) b e none) small (omega arith)
+        (shortest_at h a n b (further h a n row b searched below none) ((marked.exact b below).0 e))
     go b below (inl none) false e =
         none_is h a (n + 1) new b (each b ∙ (numbered_unmarked row marks (n + 1) b e ∙ none)) (λ w. absurd (false≢true (sym e ∙ (marked.exact b below).1 w)))
 
 -- the pairs of those that have the number n lead to what is within n + 1 steps
-pub marked_more : (h : History) (a n : ℕ) (row : List ℕ) (marks new : List ℕ) (IsLast : ℕ → Type 0) → IsSearched h a n row → IsMarked h a n marks → 0 < n → n < NONE
-    → ((u : ℕ) → u < count h → IsLast u ↔ (slice_index row u ≡ n)) → ((u : ℕ) → IsLast u → u < count h) → ((b : ℕ) → (is_marked new b ≡ true) ↔ IsLedTo h marks IsLast b) → IsMarked h a (n + 1) new
+pub marked_more : (h : History) (a n : ℕ) (row : List ℕ) (marks new : List ℕ) (IsLast : ℕ → Type 0) → IsSearched h a n row → IsMarked h a n marks → 0 < n
+    → n < NONE
+    → ((u : ℕ) → u < count h → IsLast u ↔ (slice_index row u ≡ n)) → ((u : ℕ) → IsLast u → u < count h)
+    → ((b : ℕ) → (is_marked new b ≡ true) ↔ IsLedTo h marks IsLast b) → IsMarked h a (n + 1) new
 marked_more h a n row marks new IsLast searched marked some small lasts below_all each = record {
   exact = λ b below. (λ m. sound b below ((each b).0 m), λ w. (each b).1 (complete b below (last_step h a n b some w)));
 }
@@ -111,7 +120,8 @@ marked_more h a n row marks new IsLast searched marked some small lasts below_al
         let walk = (known h a n row u searched from here).1.attained in
         within_pair h a n u b (walk.0, walk.1.0, omega (arith, walk.2)) p
 
-    by : (b u : ℕ) → b < count h → causal_pair h u b ≡ true → u < count h → (slice_index row u ≤ n) × IsShortest (causally h) a u (slice_index row u) → (slice_index row u < n) ⊎ (n ≤ slice_index row u) → IsLedTo h marks IsLast b
+    by : (b u : ℕ) → b < count h → causal_pair h u b ≡ true → u < count h → (slice_index row u ≤ n) × IsShortest (causally h) a u (slice_index row u)
+        → (slice_index row u < n) ⊎ (n ≤ slice_index row u) → IsLedTo h marks IsLast b
     by b u below p from is (inr far) =
         let at : slice_index row u ≡ n = omega (arith, is.0) in
         inr (u, (lasts u from).1 at, p)
@@ -128,7 +138,8 @@ marked_more h a n row marks new IsLast searched marked some small lasts below_al
         by b u below p from (known h a n row u searched from (λ e. further h a n row u searched from e within)) (cases_lt (slice_index row u) n)
 
 -- a row of which nothing is further away than n is whole
-pub row_done : (h : History) (a n : ℕ) (row : List ℕ) → IsSearched h a n row → n ≤ count h → ((b : ℕ) → IsReached h a b → IsWithin h a n b) → HasDistances (causally h) a row
+pub row_done : (h : History) (a n : ℕ) (row : List ℕ) → IsSearched h a n row → n ≤ count h → ((b : ℕ) → IsReached h a b → IsWithin h a n b)
+    → HasDistances (causally h) a row
 row_done h a n row searched few near = record {
   long = searched.long;
   exact = λ b below. go b below (read row b);
@@ -150,7 +161,8 @@ row_done h a n row searched few near = record {
 pub row_at_end : (h : History) (a n : ℕ) (row new : List ℕ) (marks : List ℕ) → IsSearched h a n row → IsMarked h a (n + 1) marks → n + 1 ≤ count h
     → ((b : ℕ) → is_marked marks b ≡ true → slice_index row b ≢ NONE) → IsSearched h a (n + 1) new → HasDistances (causally h) a new
 row_at_end h a n row new marks searched marked few none round =
-    row_done h a (n + 1) new round few (λ b reached. within_more h a n (n + 1) b (omega arith) (within_closed h a n closed (length reached.0) b (reached.0, reached.1, omega arith)))
+    row_done h a (n + 1) new round few (λ b reached. within_more h a n (n + 1) b (omega arith)
+    (within_closed h a n closed (length reached.0) b (reached.0, reached.1, omega arith)))
   where
     closed : (b : ℕ) → IsWithin h a (n + 1) b → IsWithin h a n b
     closed b w =
@@ -160,7 +172,8 @@ row_at_end h a n row new marks searched marked few none round =
         (walk.0, walk.1.0, omega (arith, is.0, walk.2))
 
 -- where each has a number, the search has ended
-pub row_full : (h : History) (a n : ℕ) (row : List ℕ) → IsSearched h a n row → n ≤ count h → ((b : ℕ) → b < length row → slice_index row b ≢ NONE) → HasDistances (causally h) a row
+pub row_full : (h : History) (a n : ℕ) (row : List ℕ) → IsSearched h a n row → n ≤ count h → ((b : ℕ) → b < length row → slice_index row b ≢ NONE)
+    → HasDistances (causally h) a row
 row_full h a n row searched few all = row_done h a n row searched few near
   where
     near : (b : ℕ) → IsReached h a b → IsWithin h a n b

@@ -32,7 +32,8 @@ last_kept h t session n last before not = record {
     go b low behind (inr other) = before.greatest b (omega arith) behind
 
 -- one more transaction that does
-pub last_raised : (h : History) (t session n last : ℕ) → IsLastBelow h t session n last → IsBehind h t session n → IsLastBelow h t session (n + 1) (max (place h n) last)
+pub last_raised : (h : History) (t session n last : ℕ) → IsLastBelow h t session n last → IsBehind h t session n
+    → IsLastBelow h t session (n + 1) (max (place h n) last)
 last_raised h t session n last before behind = record {
   attained = which (cases_lt last (place h n)) before.attained;
   greatest = λ b low other. go b low other (cases_eq b n);
@@ -63,8 +64,10 @@ lasts_kept h session n row before other = record {
 }
 
 -- one more transaction of the session
-pub lasts_raised : (h : History) (near : NearTable) (session n : ℕ) (row new : List ℕ) → IsNearOf (causally h) near → AreLastsBelow h session n row → 0 < n → n < count h → owner h n ≡ session → length new ≡ length row
-    → ((t : ℕ) → t < length row → slice_index new t ≡ raised (place h n) (slice_index (row_of near.rows n) t) (slice_index row t)) → AreLastsBelow h session (n + 1) new
+pub lasts_raised : (h : History) (near : NearTable) (session n : ℕ) (row new : List ℕ) → IsNearOf (causally h) near → AreLastsBelow h session n row → 0 < n
+    → n < count h → owner h n ≡ session → length new ≡ length row
+    → ((t : ℕ) → t < length row → slice_index new t ≡ raised (place h n) (slice_index (row_of near.rows n) t) (slice_index row t))
+    → AreLastsBelow h session (n + 1) new
 lasts_raised h near session n row new is before some below owned same each = record {
   long = same ∙ before.long;
   exact = λ t to. go t to (read (row_of near.rows n) t);
@@ -72,23 +75,29 @@ lasts_raised h near session n row new is before some below owned same each = rec
   where
     go : (t : ℕ) → t < count h → Read (row_of near.rows n) t → IsLastBelow h t session (n + 1) (slice_index new t)
     go t to (inl r) =
-        let away : (walk : List Step) → IsAllowedWalk (causally h) n t walk → ⊥ = subst (λ (d : Option ℕ). IsWalkDistance (causally h) n t d) r.1 (is.exact n t below to) in
-        rw (each t (omega (arith, before.long)), r.0) (last_kept h t session n (slice_index row t) (before.exact t to) (λ behind. away behind.reached.0 (behind.reached.1, tt)))
+        let away : (walk : List Step) → IsAllowedWalk (causally h) n t walk → ⊥ =
+        subst (λ (d : Option ℕ). IsWalkDistance (causally h) n t d) r.1 (is.exact n t below to) in
+        rw (each t (omega (arith, before.long)), r.0)
+        (last_kept h t session n (slice_index row t) (before.exact t to) (λ behind. away behind.reached.0 (behind.reached.1, tt)))
     go t to (inr r) =
-        let shortest : IsShortest (causally h) n t (slice_index (row_of near.rows n) t) = subst (λ (d : Option ℕ). IsWalkDistance (causally h) n t d) r.1 (is.exact n t below to) in
+        let shortest : IsShortest (causally h) n t (slice_index (row_of near.rows n) t) =
+        subst (λ (d : Option ℕ). IsWalkDistance (causally h) n t d) r.1 (is.exact n t below to) in
         let walk = shortest.attained in
         rw (each t (omega (arith, before.long)), ne_eqb (slice_index (row_of near.rows n) t) NONE r.0)
-        (last_raised h t session n (slice_index row t) (before.exact t to) record { committed = some; below = below; owned = owned; reached = (walk.0, walk.1.0) })
+        (last_raised h t session n (slice_index row t) (before.exact t to)
+        record { committed = some; below = below; owned = owned; reached = (walk.0, walk.1.0) })
 
 -- all transactions were looked at
 pub lasts_whole : (h : History) (session n : ℕ) (row : List ℕ) → count h ≤ n → AreLastsBelow h session n row → AreLasts h session row
 lasts_whole h session n row all is = record {
   long = is.long;
-  exact = λ t below. record { attained = (is.exact t below).attained; greatest = λ b behind. (is.exact t below).greatest b (omega (arith, behind.below)) behind };
+  exact =
+      λ t below. record { attained = (is.exact t below).attained; greatest = λ b behind. (is.exact t below).greatest b (omega (arith, behind.below)) behind };
 }
 
 -- the rows of sessions, turned round, are the clocks
-pub clocks_from_lasts : (h : History) (lasts rows : List (List ℕ)) → HaveLasts h lasts → length rows ≡ count h → ((t : ℕ) (d : List ℕ) → t < count h → get_or rows t d ≡ map (λ row. slice_index row t) lasts) → IsClocksOf h rows
+pub clocks_from_lasts : (h : History) (lasts rows : List (List ℕ)) → HaveLasts h lasts → length rows ≡ count h
+    → ((t : ℕ) (d : List ℕ) → t < count h → get_or rows t d ≡ map (λ row. slice_index row t) lasts) → IsClocksOf h rows
 clocks_from_lasts h lasts rows are long each = record {
   long = long;
   wide = λ t d l. ap length (each t d (omega arith)) ∙ (length-map lasts (λ row. slice_index row t) ∙ are.long);

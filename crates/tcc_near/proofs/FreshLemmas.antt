@@ -1,5 +1,7 @@
 -- One round's new numbers.
-use Rattle.std.proofs.Common.{◌≡◌, ◌≢◌, ◌<◌, ◌≤◌, ◌+◌, ◌-◌, ◌==◌, ◌||◌, ◌↔◌, ◌⊎◌, ℕ, inl, inr, Bool, true, false, cond, List, [], ◌∷◌, ◌++◌, length, get_or, set, take, slice_index, refl, sym, ◌∙◌, ap, arith, subst, eqb, eq-eqb, eqb-true}
+use Rattle.std.proofs.Common.{◌≡◌, ◌≢◌, ◌<◌, ◌≤◌, ◌+◌, ◌-◌, ◌==◌, ◌||◌, ◌↔◌, ◌⊎◌, ℕ, inl, inr, Bool, true, false, cond, List, []}
+use Rattle.std.proofs.Common.{◌∷◌, ◌++◌, length, get_or, set, take, slice_index, refl, sym, ◌∙◌, ap, arith, subst, eqb, eq-eqb}
+use Rattle.std.proofs.Common.eqb-true
 use Rattle.std.specs.List.{All, Contains}
 use Rattle.std.proofs.lemmas.Bool.{cases_eq, false≢true, ne_eqb}
 use Rattle.std.proofs.lemmas.List.{get_or-set_same, get_or-set_other, take_more}
@@ -40,11 +42,14 @@ marks_none words numbers b = (inl, back)
     back (inr c) = absurd (nothing_in b c)
 
 -- one more number
-pub mark_more : (old mid new numbers : List ℕ) (n : ℕ) → n < length numbers → ((b : ℕ) → (is_marked mid b ≡ true) ↔ ((is_marked old b ≡ true) ⊎ Contains (take n numbers) b))
-    → ((b : ℕ) → is_marked new b ≡ (is_marked mid b || (b == get_or numbers n 0))) → (b : ℕ) → (is_marked new b ≡ true) ↔ ((is_marked old b ≡ true) ⊎ Contains (take (n + 1) numbers) b)
+pub mark_more : (old mid new numbers : List ℕ) (n : ℕ) → n < length numbers
+    → ((b : ℕ) → (is_marked mid b ≡ true) ↔ ((is_marked old b ≡ true) ⊎ Contains (take n numbers) b))
+    → ((b : ℕ) → is_marked new b ≡ (is_marked mid b || (b == get_or numbers n 0))) → (b : ℕ)
+    → (is_marked new b ≡ true) ↔ ((is_marked old b ≡ true) ⊎ Contains (take (n + 1) numbers) b)
 mark_more old mid new numbers n inside before now b = (λ m. onward (is_marked mid b) refl (sym (now b) ∙ m), back)
   where
-    onward : (s : Bool) → is_marked mid b ≡ s → (is_marked mid b || (b == get_or numbers n 0)) ≡ true → (is_marked old b ≡ true) ⊎ Contains (take (n + 1) numbers) b
+    onward : (s : Bool) → is_marked mid b ≡ s → (is_marked mid b || (b == get_or numbers n 0)) ≡ true
+        → (is_marked old b ≡ true) ⊎ Contains (take (n + 1) numbers) b
     onward true s e = go ((before b).0 s)
       where
         go : (is_marked old b ≡ true) ⊎ Contains (take n numbers) b → (is_marked old b ≡ true) ⊎ Contains (take (n + 1) numbers) b
@@ -78,8 +83,10 @@ led_none h old fresh b = (inl, back)
     back (inr (u, c, p)) = absurd (nothing_in u c)
 
 -- one more leads on
-pub led_more : (h : History) (old mid new fresh : List ℕ) (n : ℕ) → n < length fresh → ((b : ℕ) → (is_marked mid b ≡ true) ↔ IsLedTo h old (Contains (take n fresh)) b)
-    → ((b : ℕ) → (is_marked new b ≡ true) ↔ ((is_marked mid b ≡ true) ⊎ (causal_pair h (get_or fresh n 0) b ≡ true))) → (b : ℕ) → (is_marked new b ≡ true) ↔ IsLedTo h old (Contains (take (n + 1) fresh)) b
+pub led_more : (h : History) (old mid new fresh : List ℕ) (n : ℕ) → n < length fresh
+    → ((b : ℕ) → (is_marked mid b ≡ true) ↔ IsLedTo h old (Contains (take n fresh)) b)
+    → ((b : ℕ) → (is_marked new b ≡ true) ↔ ((is_marked mid b ≡ true) ⊎ (causal_pair h (get_or fresh n 0) b ≡ true))) → (b : ℕ)
+    → (is_marked new b ≡ true) ↔ IsLedTo h old (Contains (take (n + 1) fresh)) b
 led_more h old mid new fresh n inside before now b = (λ m. onward ((now b).0 m), back)
   where
     more : IsLedTo h old (Contains (take n fresh)) b → IsLedTo h old (Contains (take (n + 1) fresh)) b
@@ -99,7 +106,8 @@ led_more h old mid new fresh n inside before now b = (λ m. onward ((now b).0 m)
     back (inr (u, c, p)) = by u p (one_of_taken fresh n inside u c)
 
 -- marks of transactions stay marks of transactions
-pub led_row : (h : History) (marks new : List ℕ) (IsOne : ℕ → Type 0) → IsRowOf (count h) marks → length new ≡ length marks → ((b : ℕ) → (is_marked new b ≡ true) ↔ IsLedTo h marks IsOne b) → IsRowOf (count h) new
+pub led_row : (h : History) (marks new : List ℕ) (IsOne : ℕ → Type 0) → IsRowOf (count h) marks → length new ≡ length marks
+    → ((b : ℕ) → (is_marked new b ≡ true) ↔ IsLedTo h marks IsOne b) → IsRowOf (count h) new
 led_row h marks new IsOne row same led = record { wide = same ∙ row.wide; inside = λ b mark. go b ((led b).0 mark) }
   where
     go : (b : ℕ) → IsLedTo h marks IsOne b → b < count h
@@ -129,7 +137,8 @@ numbered_none old places distance = record {
 }
 
 pub numbered_one : (old mid places : List ℕ) (n distance : ℕ) → IsNumbered old mid places n distance → n < length places → distance < NONE
-    → (get_or places n 0 < length old) × (slice_index old (get_or places n 0) ≡ NONE) → length (set mid (get_or places n 0) distance) ≡ length mid → IsNumbered old (set mid (get_or places n 0) distance) places (n + 1) distance
+    → (get_or places n 0 < length old) × (slice_index old (get_or places n 0) ≡ NONE) → length (set mid (get_or places n 0) distance) ≡ length mid
+    → IsNumbered old (set mid (get_or places n 0) distance) places (n + 1) distance
 numbered_one old mid places n distance before inside small at long = record {
   long = long ∙ before.long;
   each = λ b h. now b h (cases_eq b p);
@@ -171,7 +180,8 @@ numbered_one old mid places n distance before inside small at long = record {
         omega (arith, here, gone, one, before.no_more)
 
 -- ---- a round
-module _ (row marks seen fresh : List ℕ) (inside : (b : ℕ) → is_marked marks b ≡ true → b < length row) (known : IsSeen row seen) (is : IsFresh seen marks fresh) where
+module _ (row marks seen fresh : List ℕ) (inside : (b : ℕ) → is_marked marks b ≡ true → b < length row) (known : IsSeen row seen)
+    (is : IsFresh seen marks fresh) where
   -- the new ones have no distance
   pub fresh_new : All (λ p. (p < length row) × (slice_index row p ≡ NONE)) fresh
   fresh_new = All-weaker (Contains fresh) (λ p. (p < length row) × (slice_index row p ≡ NONE)) one fresh (All-contains_itself fresh)
@@ -203,12 +213,16 @@ module _ (row marks seen fresh : List ℕ) (inside : (b : ℕ) → is_marked mar
 
     -- what is marked is seen now
     pub seen_so : (now : List ℕ) → length new ≡ length row → ((b : ℕ) → is_marked now b ≡ (is_marked seen b || is_marked marks b)) → IsSeen new now
-    seen_so now long joined b below = (λ unseen. onward (is_marked seen b) refl (is_marked marks b) refl (sym (joined b) ∙ unseen), λ none. back none (is_marked seen b) refl (is_marked marks b) refl)
+    seen_so now long joined b below = (
+      λ unseen. onward (is_marked seen b) refl (is_marked marks b) refl (sym (joined b) ∙ unseen),
+      λ none. back none (is_marked seen b) refl (is_marked marks b) refl,
+    )
       where
         within : b < length row
         within = omega (arith, long)
 
-        onward : (s : Bool) → is_marked seen b ≡ s → (m : Bool) → is_marked marks b ≡ m → (is_marked seen b || is_marked marks b) ≡ false → slice_index new b ≡ NONE
+        onward : (s : Bool) → is_marked seen b ≡ s → (m : Bool) → is_marked marks b ≡ m → (is_marked seen b || is_marked marks b) ≡ false
+            → slice_index new b ≡ NONE
         onward false s false m e = others b (λ c. false≢true (sym m ∙ ((is b).0 c).0)) ∙ (known b within).0 s
         onward true s m _ e = absurd (false≢true (sym e ∙ rw s refl))
         onward false s true m e = absurd (false≢true (sym e ∙ rw (s, m) refl))

@@ -1,5 +1,7 @@
 -- Marks between two numbers, suffixes of sessions, and marks of those that read.
-use Rattle.std.proofs.Common.{◌≡◌, ◌≢◌, ◌<◌, ◌≤◌, ◌+◌, ◌-◌, ◌/◌, ◌==◌, ◌||◌, ◌↔◌, ◌⊎◌, inl, inr, ℕ, zero, suc, Bool, true, false, List, [], ◌∷◌, length, length-set, get_or, set, slice_index, refl, sym, ◌∙◌, ap, arith, subst}
+use Rattle.std.proofs.Common.{◌≡◌, ◌≢◌, ◌<◌, ◌≤◌, ◌+◌, ◌-◌, ◌/◌, ◌==◌, ◌||◌, ◌↔◌, ◌⊎◌, inl, inr, ℕ, zero, suc, Bool, true}
+use Rattle.std.proofs.Common.{false, List, [], ◌∷◌, length, length-set, get_or, set, slice_index, refl, sym, ◌∙◌, ap, arith}
+use Rattle.std.proofs.Common.subst
 use Rattle.std.specs.Prelude.{zip}
 use Rattle.std.specs.List.{All, Contains}
 use Rattle.std.proofs.lemmas.Bool.{cases_eq, cases_lt, false≢true, or_cases, or_left, or_right, eqb-true, eq-eqb}
@@ -30,7 +32,8 @@ between_none old first end none b = (inl, back)
     back (inl m) = m
     back (inr w) = absurd (omega (arith, w.0, w.1))
 
-pub between_more : (old mid new : List ℕ) (first n : ℕ) → first ≤ n → AddsBetween old mid first n → ((b : ℕ) → is_marked new b ≡ (is_marked mid b || (b == n))) → AddsBetween old new first (n + 1)
+pub between_more : (old mid new : List ℕ) (first n : ℕ) → first ≤ n → AddsBetween old mid first n
+    → ((b : ℕ) → is_marked new b ≡ (is_marked mid b || (b == n))) → AddsBetween old new first (n + 1)
 between_more old mid new first n from before now b = (λ m. there (both.0 m), back)
   where
     both : (is_marked new b ≡ true) ↔ ((is_marked mid b ≡ true) ⊎ ((b == n) ≡ true))
@@ -53,7 +56,8 @@ between_more old mid new first n from before now b = (λ m. there (both.0 m), ba
     back (inr w) = by w (cases_eq b n)
 
 -- what stands from `known` on is marked
-pub between_known : (old new : List ℕ) (first known end : ℕ) → known ≤ end → ((b : ℕ) → known ≤ b → b < end → is_marked old b ≡ true) → AddsBetween old new first known → AddsBetween old new first end
+pub between_known : (old new : List ℕ) (first known end : ℕ) → known ≤ end → ((b : ℕ) → known ≤ b → b < end → is_marked old b ≡ true)
+    → AddsBetween old new first known → AddsBetween old new first end
 between_known old new first known end low marked is b = (λ m. onward ((is b).0 m), back)
   where
     onward : (is_marked old b ≡ true) ⊎ ((first ≤ b) × (b < known)) → (is_marked old b ≡ true) ⊎ ((first ≤ b) × (b < end))
@@ -82,11 +86,13 @@ pub suffixes_none : (suffixes words : List ℕ) → ((last : ℕ) → last < len
 suffixes_none suffixes words none last b inside from to = absurd (omega (arith, none last inside))
 
 -- more marks
-pub suffixes_kept : (suffixes old new : List ℕ) → AreSuffixes suffixes old → ((b : ℕ) → is_marked old b ≡ true → is_marked new b ≡ true) → AreSuffixes suffixes new
+pub suffixes_kept : (suffixes old new : List ℕ) → AreSuffixes suffixes old → ((b : ℕ) → is_marked old b ≡ true → is_marked new b ≡ true)
+    → AreSuffixes suffixes new
 suffixes_kept suffixes old new are kept last b inside from to = kept b (are last b inside from to)
 
 -- what is marked up to the end of a session is its suffix
-pub suffixes_set : (suffixes old new : List ℕ) (first end : ℕ) → 0 < end → end ≤ length suffixes → AreSuffixes suffixes old → AddsBetween old new first end → AreSuffixes (set suffixes (end - 1) first) new
+pub suffixes_set : (suffixes old new : List ℕ) (first end : ℕ) → 0 < end → end ≤ length suffixes → AreSuffixes suffixes old → AddsBetween old new first end
+    → AreSuffixes (set suffixes (end - 1) first) new
 suffixes_set suffixes old new first end some within are is last b inside from to = go (cases_eq last (end - 1))
   where
     long : length (set suffixes (end - 1) first) ≡ length suffixes
@@ -101,7 +107,8 @@ suffixes_set suffixes old new first end some within are is last b inside from to
         (is b).1 (inl (are last b (omega (arith, long, inside)) (omega (arith, at, from)) to))
 
 -- ---- those that read
-pub zip_at : {X : Type 0} (rs : List ℕ) (xs : List X) (k e : ℕ) (d : X) → length rs ≡ length xs → k < length rs → get_or (zip rs xs) k (e, d) ≡ (get_or rs k e, get_or xs k d)
+pub zip_at : {X : Type 0} (rs : List ℕ) (xs : List X) (k e : ℕ) (d : X) → length rs ≡ length xs → k < length rs
+    → get_or (zip rs xs) k (e, d) ≡ (get_or rs k e, get_or xs k d)
 zip_at [] xs k e d same l = absurd (omega arith)
 zip_at (r ∷ rs) [] k e d same l = absurd (omega arith)
 zip_at (r ∷ rs) (x ∷ xs) zero e d same l = refl
@@ -112,7 +119,8 @@ zip-long [] xs same = refl
 zip-long (r ∷ rs) [] same = absurd (omega arith)
 zip-long (r ∷ rs) (x ∷ xs) same = let rest = zip-long rs xs (omega arith) in omega arith
 
-pub zip_has : {X : Type 0} (rs : List ℕ) (xs : List X) (k : ℕ) (d : X) → length rs ≡ length xs → k < length rs → Contains (zip rs xs) (get_or rs k 0, get_or xs k d)
+pub zip_has : {X : Type 0} (rs : List ℕ) (xs : List X) (k : ℕ) (d : X) → length rs ≡ length xs → k < length rs
+    → Contains (zip rs xs) (get_or rs k 0, get_or xs k d)
 zip_has rs xs k d same l =
     let r : ℕ = get_or rs k 0 in
     let x = get_or xs k d in
@@ -120,7 +128,8 @@ zip_has rs xs k d same l =
     let second : get_or xs k x ≡ x = get_or_default xs k x d (omega arith) in
     (k, omega (arith, zip-long rs xs same), zip_at rs xs k r x same l ∙ rw (first, second) refl)
 
-module _ (h : History) (a : ℕ) (rs : List ℕ) (xs : List (List ℕ)) (long : length rs ≡ length xs) (each : (c : ℕ) (x : List ℕ) → Contains (zip rs xs) (c, x) ↔ IsReadsPair h a c x) where
+module _ (h : History) (a : ℕ) (rs : List ℕ) (xs : List (List ℕ)) (long : length rs ≡ length xs)
+    (each : (c : ℕ) (x : List ℕ) → Contains (zip rs xs) (c, x) ↔ IsReadsPair h a c x) where
   pub reading_at : (k : ℕ) → k < length rs → IsReadsPair h a (get_or rs k 0) (get_or xs k [])
   reading_at k l = (each (get_or rs k 0) (get_or xs k [])).0 (zip_has rs xs k [] long l)
 
@@ -187,7 +196,8 @@ module _ (h : History) (a end : ℕ) (rs : List ℕ) (pairs : IsPairsFrom h a en
       back (inr p) = by ((pairs b).0 p)
 
 -- from no marks, marks between two numbers
-pub between_alone : (old new : List ℕ) (first end : ℕ) → ((b : ℕ) → is_marked old b ≡ false) → AddsBetween old new first end → (b : ℕ) → (is_marked new b ≡ true) ↔ ((first ≤ b) × (b < end))
+pub between_alone : (old new : List ℕ) (first end : ℕ) → ((b : ℕ) → is_marked old b ≡ false) → AddsBetween old new first end → (b : ℕ)
+    → (is_marked new b ≡ true) ↔ ((first ≤ b) × (b < end))
 between_alone old new first end none is b = (λ m. go ((is b).0 m), λ w. (is b).1 (inr w))
   where
     go : (is_marked old b ≡ true) ⊎ ((first ≤ b) × (b < end)) → (first ≤ b) × (b < end)
@@ -195,7 +205,8 @@ between_alone old new first end none is b = (λ m. go ((is b).0 m), λ w. (is b)
     go (inr w) = w
 
 -- and marks of these
-pub each_alone : (old new numbers : List ℕ) → ((b : ℕ) → is_marked old b ≡ false) → ((b : ℕ) → (is_marked new b ≡ true) ↔ ((is_marked old b ≡ true) ⊎ Contains numbers b)) → (b : ℕ) → (is_marked new b ≡ true) ↔ Contains numbers b
+pub each_alone : (old new numbers : List ℕ) → ((b : ℕ) → is_marked old b ≡ false)
+    → ((b : ℕ) → (is_marked new b ≡ true) ↔ ((is_marked old b ≡ true) ⊎ Contains numbers b)) → (b : ℕ) → (is_marked new b ≡ true) ↔ Contains numbers b
 each_alone old new numbers none is b = (λ m. go ((is b).0 m), λ w. (is b).1 (inr w))
   where
     go : (is_marked old b ≡ true) ⊎ Contains numbers b → Contains numbers b
@@ -203,7 +214,8 @@ each_alone old new numbers none is b = (λ m. go ((is b).0 m), λ w. (is b).1 (i
     go (inr w) = w
 
 -- and of the pairs
-pub pairs_alone : (h : History) (a : ℕ) (old new : List ℕ) → ((b : ℕ) → is_marked old b ≡ false) → ((b : ℕ) → (is_marked new b ≡ true) ↔ ((is_marked old b ≡ true) ⊎ (causal_pair h a b ≡ true)))
+pub pairs_alone : (h : History) (a : ℕ) (old new : List ℕ) → ((b : ℕ) → is_marked old b ≡ false)
+    → ((b : ℕ) → (is_marked new b ≡ true) ↔ ((is_marked old b ≡ true) ⊎ (causal_pair h a b ≡ true)))
     → (b : ℕ) → (is_marked new b ≡ true) ↔ (causal_pair h a b ≡ true)
 pairs_alone h a old new none is b = (λ m. go ((is b).0 m), λ p. (is b).1 (inr p))
   where
@@ -211,5 +223,6 @@ pairs_alone h a old new none is b = (λ m. go ((is b).0 m), λ p. (is b).1 (inr 
     go (inl m) = absurd (false≢true (sym (none b) ∙ m))
     go (inr p) = p
 
-pub pairs_inside : (h : History) (a : ℕ) (new : List ℕ) → length new ≡ words_for (count h) → ((b : ℕ) → (is_marked new b ≡ true) ↔ (causal_pair h a b ≡ true)) → IsRowOf (count h) new
+pub pairs_inside : (h : History) (a : ℕ) (new : List ℕ) → length new ≡ words_for (count h)
+    → ((b : ℕ) → (is_marked new b ≡ true) ↔ (causal_pair h a b ≡ true)) → IsRowOf (count h) new
 pairs_inside h a new wide is = record { wide = wide; inside = λ b m. (pair_below h a b (pair_kinds h a b ((is b).0 m))).1 }

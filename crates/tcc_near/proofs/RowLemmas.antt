@@ -35,7 +35,8 @@ module _ {V : Type 0} (E : Type 0) (P : ℕ → V → Type 0) where
       zip = subst (λ (rs : List (Result V E)). AllZip (λ x r. IfOk r (P x)) xs rs) all given
 
       long : length items ≡ n
-      long = ap length same ∙ (sym (length-map ys Ok) ∙ (AllZip-long (λ x r. IfOk r (P x)) xs (values ys) zip ∙ (ap length numbers ∙ length-range_with_len 0 n)))
+      long =
+          ap length same ∙ (sym (length-map ys Ok) ∙ (AllZip-long (λ x r. IfOk r (P x)) xs (values ys) zip ∙ (ap length numbers ∙ length-range_with_len 0 n)))
 
       at : (i : ℕ) (d : V) → i < n → P i (get_or items i d)
       at i d l =
@@ -44,7 +45,8 @@ module _ {V : Type 0} (E : Type 0) (P : ℕ → V → Type 0) where
           subst (λ (j : ℕ). P j (get_or items i d)) number (subst (λ (zs : List V). P (get_or xs i 0) (get_or zs i d)) (sym same) is)
 
 -- one more row at the end
-pub each_pushed : {V : Type 0} (P : ℕ → V → Type 0) (items : List V) (v : V) (n : ℕ) → length items ≡ n → ((i : ℕ) (d : V) → i < n → P i (get_or items i d)) → P n v → (i : ℕ) (d : V) → i < n + 1 → P i (get_or (items ++ v ∷ []) i d)
+pub each_pushed : {V : Type 0} (P : ℕ → V → Type 0) (items : List V) (v : V) (n : ℕ) → length items ≡ n → ((i : ℕ) (d : V) → i < n → P i (get_or items i d))
+    → P n v → (i : ℕ) (d : V) → i < n + 1 → P i (get_or (items ++ v ∷ []) i d)
 each_pushed P items v n long before here i d l = go (cases_eq i n)
   where
     go : (i ≡ n) ⊎ (i ≡ n → ⊥) → P i (get_or (items ++ v ∷ []) i d)

@@ -22,7 +22,8 @@ split_last h a b s (t ∷ steps) w =
     (rest.0, s ∷ rest.1, (w.0, w.1, rest.2), rest.3, omega (arith, rest.4))
 
 -- one more step at the end
-join_last : (h : History) (a u b : ℕ) (front : List Step) → Leads h a u front → causal_pair h u b ≡ true → (walk : List Step) × Leads h a b walk × (length walk ≡ length front + 1)
+join_last : (h : History) (a u b : ℕ) (front : List Step) → Leads h a u front → causal_pair h u b ≡ true
+    → (walk : List Step) × Leads h a b walk × (length walk ≡ length front + 1)
 join_last h a u b front w p =
     let s = step_from_pair h u b p in
     (front ++ s.0 ∷ [], leads_append h a u b front (s.0 ∷ []) w (s.1, s.3, s.2), omega (arith, length-append front (s.0 ∷ [])))
@@ -67,7 +68,8 @@ pub within_closed : (h : History) (a n : ℕ) → ((b : ℕ) → IsWithin h a (n
 within_closed h a n closed zero b ([], w, l) = absurd (omega (arith, w.0))
 within_closed h a n closed zero b (s ∷ steps, w, l) = absurd (omega arith)
 within_closed h a n closed (suc zero) b w = closed b (within_more h a 1 (n + 1) b (omega arith) w)
-within_closed h a n closed (suc (suc m)) b w = go (λ x. within_closed h a n closed (suc m) x) (last_step h a (suc m) b (omega arith) (within_more h a (suc (suc m)) (suc m + 1) b (omega arith) w))
+within_closed h a n closed (suc (suc m)) b w =
+    go (λ x. within_closed h a n closed (suc m) x) (last_step h a (suc m) b (omega arith) (within_more h a (suc (suc m)) (suc m + 1) b (omega arith) w))
   where
     go : ((x : ℕ) → IsWithin h a (suc m) x → IsWithin h a n x) → IsWithin h a (suc m) b ⊎ IsStepAfter h a (suc m) b → IsWithin h a n b
     go before (inl few) = before b few

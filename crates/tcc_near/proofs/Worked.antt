@@ -29,7 +29,8 @@ nothing_from_last : (b : ℕ) → causal_pair stale_read 2 b ≡ true → ⊥
 nothing_from_last zero p = false≢true p
 nothing_from_last (suc zero) p = false≢true p
 nothing_from_last (suc (suc zero)) p = false≢true p
-nothing_from_last (suc (suc (suc b))) p = let below = pair_below stale_read 2 (suc (suc (suc b))) (pair_kinds stale_read 2 (suc (suc (suc b))) p) in omega (arith, below.1)
+nothing_from_last (suc (suc (suc b))) p = let below =
+    pair_below stale_read 2 (suc (suc (suc b))) (pair_kinds stale_read 2 (suc (suc (suc b))) p) in omega (arith, below.1)
 
 stale_read-back : IsReached stale_read 2 1 → ⊥
 stale_read-back ([], w) = absurd (omega (arith, w.0))
@@ -48,12 +49,17 @@ nothing_between (suc zero) p q = false≢true p
 nothing_between (suc (suc zero)) p q = false≢true q
 nothing_between (suc (suc (suc zero))) p q = false≢true p
 nothing_between (suc (suc (suc (suc zero)))) p q = false≢true p
-nothing_between (suc (suc (suc (suc (suc m))))) p q = let below = pair_below chain 1 (suc (suc (suc (suc (suc m))))) (pair_kinds chain 1 (suc (suc (suc (suc (suc m))))) p) in omega (arith, below.1)
+nothing_between (suc (suc (suc (suc (suc m))))) p q = let below =
+    pair_below chain 1 (suc (suc (suc (suc (suc m))))) (pair_kinds chain 1 (suc (suc (suc (suc (suc m))))) p) in omega (arith, below.1)
 
 -- two reads and a session step
 chain-onwards : IsShortest (causally chain) 1 4 3
 chain-onwards = record {
-  attained = (step.Reads 1 2 x ∷ step.Reads 2 3 y ∷ step.Session 3 4 ∷ [], ((omega arith, (refl, (lit< tt, lit< tt, (0, omega arith, refl)), (refl, (lit< tt, lit< tt, (0, omega arith, refl)), (refl, refl, refl)))), tt), refl);
+  attained = (
+    step.Reads 1 2 x ∷ step.Reads 2 3 y ∷ step.Session 3 4 ∷ [],
+    ((omega arith, (refl, (lit< tt, lit< tt, (0, omega arith, refl)), (refl, (lit< tt, lit< tt, (0, omega arith, refl)), (refl, refl, refl)))), tt),
+    refl,
+  );
   least = λ walk is. none_shorter walk is.0;
 }
   where
@@ -88,7 +94,11 @@ circle = record {
 -- from a transaction to itself at least one step is taken
 circle-round : IsShortest (causally circle) 1 1 2
 circle-round = record {
-  attained = (step.Reads 1 2 x ∷ step.Reads 2 1 y ∷ [], ((omega arith, (refl, (lit< tt, lit< tt, (0, omega arith, refl)), (refl, (lit< tt, lit< tt, (0, omega arith, refl)), refl))), tt), refl);
+  attained = (
+    step.Reads 1 2 x ∷ step.Reads 2 1 y ∷ [],
+    ((omega arith, (refl, (lit< tt, lit< tt, (0, omega arith, refl)), (refl, (lit< tt, lit< tt, (0, omega arith, refl)), refl))), tt),
+    refl,
+  );
   least = λ walk is. none_shorter walk is.0;
 }
   where
@@ -107,7 +117,17 @@ fork = record {
 -- a/1 stands behind c/1
 fork-behind : IsLast fork 3 0 1
 fork-behind = record {
-  attained = inr (1, record { committed = omega arith; below = lit< tt; owned = refl; reached = (step.Reads 1 3 x ∷ [], (omega arith, (refl, (lit< tt, lit< tt, (0, omega arith, refl)), refl))) }, refl);
+  attained =
+      inr (
+        1,
+        record {
+          committed = omega arith;
+          below = lit< tt;
+          owned = refl;
+          reached = (step.Reads 1 3 x ∷ [], (omega arith, (refl, (lit< tt, lit< tt, (0, omega arith, refl)), refl)));
+        },
+        refl,
+      );
   greatest = places;
 }
   where
@@ -129,7 +149,8 @@ fork-init = record { attained = inl refl; greatest = λ b behind. absurd (not_re
     into_init (suc (suc zero)) p = false≢true p
     into_init (suc (suc (suc zero))) p = false≢true p
     into_init (suc (suc (suc (suc zero)))) p = false≢true p
-    into_init (suc (suc (suc (suc (suc b))))) p = let below = pair_below fork (suc (suc (suc (suc (suc b))))) 0 (pair_kinds fork (suc (suc (suc (suc (suc b))))) 0 p) in omega (arith, below.0)
+    into_init (suc (suc (suc (suc (suc b))))) p = let below =
+        pair_below fork (suc (suc (suc (suc (suc b))))) 0 (pair_kinds fork (suc (suc (suc (suc (suc b))))) 0 p) in omega (arith, below.0)
 
     leads : (b : ℕ) (s : Step) (steps : List Step) → Leads fork b 0 (s ∷ steps) → ⊥
     leads b s [] w = into_init b (subst (λ (u : ℕ). causal_pair fork b u ≡ true) w.2 (first_pair fork b 0 s [] w))

@@ -1,5 +1,7 @@
 -- The resolver's table and judgements agree with the definitions.
-use Rattle.std.proofs.Common.{◌≡◌, ℕ, Bool, true, false, cond, ◌&&◌, List, [], ◌∷◌, ◌++◌, find, filter_map, flat_map, Option, None, Some, option_map, refl, ap, sym, ◌∙◌, is_some}
+use Rattle.std.proofs.Common.{◌≡◌, ℕ, Bool, true, false, cond, ◌&&◌, List, [], ◌∷◌, ◌++◌, find}
+use Rattle.std.proofs.Common.{filter_map, flat_map, Option, None, Some, option_map, refl, ap, sym}
+use Rattle.std.proofs.Common.{◌∙◌, is_some}
 use Rattle.std.specs.Prelude.{◌==◌}
 use Rattle.std.specs.List.{cons_option}
 use Rattle.std.proofs.lemmas.List.Elements.{filter_map-append}
@@ -16,7 +18,9 @@ use Rattle.tcc_reads.specs.Numbers.{Numbered, next_number, numbered_from}
 use Rattle.tcc_reads.specs.Sources.{visible_write}
 use Rattle.tcc_reads.specs.Faults.{puts, writer, is_last_at_key, is_same_transaction, is_same_site, write_kind, external_kind, read_kind, kind_at, fault_at}
 use Rattle.tcc_txn.specs.Transactions.{op_key, op_value}
-use Rattle.tcc_reads.specs.Verdicts.{writer_at, first_in, first_writer, is_in, write_judgement, judgement_from, read_judgement, own_judgement, site_judgement, fault_in, fault_found, faults_found}
+use Rattle.tcc_reads.specs.Verdicts.{writer_at, first_in, first_writer, is_in, write_judgement}
+use Rattle.tcc_reads.specs.Verdicts.{judgement_from, read_judgement, own_judgement, site_judgement, fault_in}
+use Rattle.tcc_reads.specs.Verdicts.{fault_found, faults_found}
 
 -- the table's record of a write is right
 pub record Records (first : Writer) (site : Site) : Type 0 where
@@ -43,7 +47,8 @@ agree_in : (n : Numbered) (before ops : List Op) (x : List ℕ) (v : ℕ) (other
 agree_in n before [] x v others otherwise agree = agree
 agree_in n before (op ∷ after) x v others otherwise agree =
     elim (puts x v op) as (λ b. Agree (cond b (Some (writer_at n before (op_key op) after)) (first_in n (before ++ op ∷ []) after x v otherwise))
-    (cond b (Some (record { stand = n.stand; before = before; op = op; after = after })) (find (λ site. puts x v site.op) (sites_from n.stand (before ++ op ∷ []) after ++ others)))) [
+    (cond b (Some (record { stand = n.stand; before = before; op = op; after = after }))
+    (find (λ site. puts x v site.op) (sites_from n.stand (before ++ op ∷ []) after ++ others)))) [
       | true ↦ record { session = refl; place = refl; op = refl; number = is_some-if n.stand.txn.committed n.number; last = refl }
       | false ↦ agree_in n (before ++ op ∷ []) after x v others otherwise agree
     ]
@@ -98,10 +103,12 @@ module _ (n : Numbered) (before : List Op) (op : Op) (after : List Op) where
       by_number None none = rw (← none) refl
       by_number (Some m) some =
           rw (← some, same_place first write agree, agree.last)
-          (elim (is_same_transaction write.stand n.stand) as (λ b. kind_in (cond b (Faulty Future) (cond (is_last_at_key write) (ReadsFrom m) (Faulty Intermediate)))
+          (elim (is_same_transaction write.stand n.stand) as
+          (λ b. kind_in (cond b (Faulty Future) (cond (is_last_at_key write) (ReadsFrom m) (Faulty Intermediate)))
           ≡ cond b (Some Future) (cond (is_last_at_key write) None (Some Intermediate))) [
             | true ↦ refl
-            | false ↦ elim (is_last_at_key write) as (λ b. kind_in (cond b (ReadsFrom m) (Faulty Intermediate)) ≡ cond b None (Some Intermediate)) [ true ↦ refl | false ↦ refl ]
+            | false ↦ elim (is_last_at_key write) as
+                (λ b. kind_in (cond b (ReadsFrom m) (Faulty Intermediate)) ≡ cond b None (Some Intermediate)) [ true ↦ refl | false ↦ refl ]
           ])
 
 module _ (all : List Stand) (table : List ℕ → ℕ → Option Writer) (agrees : (x : List ℕ) (v : ℕ) → Agree (table x v) (writer all x v)) where
@@ -112,7 +119,8 @@ module _ (all : List Stand) (table : List ℕ → ℕ → Option Writer) (agrees
       elim (own == value) as (λ b. kind_in (cond b Silent (Faulty BrokenInternal)) ≡ cond b None (Some BrokenInternal)) [ true ↦ refl | false ↦ refl ]
   own_kinds n before after key value None =
       let read : Site = record { stand = n.stand; before = before; op = Get key value; after = after } in
-      elim (value == 0) as (λ b. kind_in (cond b (ReadsFrom 0) (read_judgement n (table key value))) ≡ cond b None (external_kind read (writer all key value))) [
+      elim (value == 0) as (λ b. kind_in (cond b (ReadsFrom 0) (read_judgement n (table key value)))
+      ≡ cond b None (external_kind read (writer all key value))) [
         | true ↦ refl
         | false ↦ external_kinds n before (Get key value) after (table key value) (writer all key value) (agrees key value)
       ]

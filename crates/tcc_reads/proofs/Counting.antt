@@ -1,5 +1,7 @@
 -- How many transactions a snapshot has, and which sessions they are of.
-use Rattle.std.proofs.Common.{◌≡◌, ℕ, zero, suc, ◌+◌, ◌<◌, ◌≤◌, List, [], ◌∷◌, length, drop, All, sum_by, Option, None, Some, IsSome, refl, ap, sym, ◌∙◌, arith, length-append, is_some, option_map, slice_get}
+use Rattle.std.proofs.Common.{◌≡◌, ℕ, zero, suc, ◌+◌, ◌<◌, ◌≤◌, List, [], ◌∷◌, length, drop, All, sum_by, Option}
+use Rattle.std.proofs.Common.{None, Some, IsSome, refl, ap, sym, ◌∙◌, arith, length-append, is_some, option_map}
+use Rattle.std.proofs.Common.slice_get
 use Rattle.std.proofs.Math.ListN.{drop_of_length-le}
 use Rattle.std.proofs.lemmas.List.Sums.{sum_by-cons}
 use Rattle.std.proofs.lemmas.List.Elements.{All-nil, All-cons, All-append}
@@ -51,7 +53,8 @@ stands_in-session : (session : ℕ) (name : List ℕ) (place : ℕ) (txns : List
     → All (λ stand. stand.session < bound) (stands_in session name place txns)
 stands_in-session session name place [] bound below = All-nil (λ (stand : Stand). stand.session < bound)
 stands_in-session session name place (txn ∷ later) bound below =
-    All-cons (λ (stand : Stand). stand.session < bound) _ (stands_in session name (place + 1) later) below (stands_in-session session name (place + 1) later bound below)
+    All-cons (λ (stand : Stand). stand.session < bound) _ (stands_in session name (place + 1) later) below
+    (stands_in-session session name (place + 1) later bound below)
 
 pub stands_from-session : (session : ℕ) (named : List (List ℕ × List Transaction)) (bound : ℕ) → session + length named ≤ bound
     → All (λ stand. stand.session < bound) (stands_from session named)

@@ -1,5 +1,7 @@
 -- Where nothing is faulty each external read has one source, and that is another transaction.
-use Rattle.std.proofs.Common.{ℕ, zero, suc, ◌≡◌, ◌≢◌, ◌<◌, ◌+◌, ◌⊎◌, inl, inr, Bool, true, false, cond, not, List, [], ◌∷◌, ◌++◌, length, get_or, filter_map, Option, None, Some, option_map, is_none, unwrap_or, append_assoc, refl, sym, ap, subst, ◌∙◌, arith}
+use Rattle.std.proofs.Common.{ℕ, zero, suc, ◌≡◌, ◌≢◌, ◌<◌, ◌+◌, ◌⊎◌, inl, inr, Bool, true, false, cond, not, List, [], ◌∷◌, ◌++◌, length}
+use Rattle.std.proofs.Common.{get_or, filter_map, Option, None, Some, option_map, is_none, unwrap_or, append_assoc, refl, sym, ap, subst}
+use Rattle.std.proofs.Common.{◌∙◌, arith}
 use Rattle.std.specs.Prelude.{◌==◌, find}
 use Rattle.std.specs.List.{Contains, list_any, cons_option, position_from}
 use Rattle.std.specs.Str.{bytes_eq}
@@ -13,7 +15,9 @@ use Rattle.tcc_txn.proofs.Lists.{in_filter, from_filter, in_flat_map, from_flat_
 use Rattle.tcc_reads.specs.declared.fault.ReadFaultKind.TheVariants.{Duplicate, Aborted, Intermediate, Future}
 use Rattle.tcc_reads.specs.Sites.{Stand, Site, is_committed, stands, committed, sites_from, sites_of, sites}
 use Rattle.tcc_reads.specs.Sources.{visible_write, external_part, external_read, external_reads, shows, source}
-use Rattle.tcc_reads.specs.Faults.{puts, writer, is_same_transaction, is_same_site, is_last_at_key, write_kind, external_kind, read_kind, kind_at, fault_at, read_faults}
+use Rattle.tcc_reads.specs.Faults.{puts, writer, is_same_transaction, is_same_site, is_last_at_key}
+use Rattle.tcc_reads.specs.Faults.{write_kind, external_kind, read_kind, kind_at, fault_at}
+use Rattle.tcc_reads.specs.Faults.read_faults
 use Rattle.tcc_reads.specs.OneSource.{IsNumber, ReadsFromOthers, Gives, HasOneSource}
 use Rattle.tcc_reads.proofs.Ties.{same_name}
 use Rattle.tcc_reads.proofs.Sourcing.{has, has-kept, never_shown, last_shown, no_pair}
@@ -33,7 +37,8 @@ from_filter_map {X} {Y} f (x ∷ xs) y c = go (f x) refl c (λ rest. from_filter
     later : (z : X) × Contains xs z × (f z ≡ Some y) → (z : X) × Contains (x ∷ xs) z × (f z ≡ Some y)
     later (z, (k, l, e), is) = (z, (suc k, omega arith, e), is)
 
-    go : (o : Option Y) → f x ≡ o → Contains (cons_option o (filter_map f xs)) y → (Contains (filter_map f xs) y → (z : X) × Contains xs z × (f z ≡ Some y)) → (z : X) × Contains (x ∷ xs) z × (f z ≡ Some y)
+    go : (o : Option Y) → f x ≡ o → Contains (cons_option o (filter_map f xs)) y → (Contains (filter_map f xs) y → (z : X) × Contains xs z × (f z ≡ Some y))
+        → (z : X) × Contains (x ∷ xs) z × (f z ≡ Some y)
     go None is c rest = later (rest c)
     go (Some z) is (zero, l, e) rest = (x, (0, omega arith, refl), is ∙ ap Some e)
     go (Some z) is (suc k, l, e) rest = later (rest (k, omega arith, e))
@@ -51,11 +56,13 @@ found_there {X} p (y ∷ xs) x found = go (p y) refl found (λ rest. found_there
 only_position : {X : Type 0} (p : X → Bool) (from : ℕ) (xs : List X) (i : ℕ) (d : X) → i < length xs → p (get_or xs i d) ≡ true
     → ((j : ℕ) → j < length xs → p (get_or xs j d) ≡ true → j ≡ i) → position_from p from xs ≡ Some (from + i)
 only_position p from [] i d l here only = absurd (omega arith)
-only_position p from (x ∷ xs) zero d l here only = let e : from ≡ from + 0 = omega arith in ap (λ b. cond b (Some from) (position_from p (from + 1) xs)) here ∙ ap Some e
+only_position p from (x ∷ xs) zero d l here only = let e : from ≡ from + 0 =
+    omega arith in ap (λ b. cond b (Some from) (position_from p (from + 1) xs)) here ∙ ap Some e
 only_position p from (x ∷ xs) (suc i) d l here only =
     go (p x) refl (only_position p (from + 1) xs i d (omega arith) here (λ j m t. let same : suc j ≡ suc i = only (suc j) (omega arith) t in omega arith))
   where
-    go : (b : Bool) → p x ≡ b → position_from p (from + 1) xs ≡ Some (from + 1 + i) → cond (p x) (Some from) (position_from p (from + 1) xs) ≡ Some (from + suc i)
+    go : (b : Bool) → p x ≡ b → position_from p (from + 1) xs ≡ Some (from + 1 + i)
+        → cond (p x) (Some from) (position_from p (from + 1) xs) ≡ Some (from + suc i)
     go true first rest = let same : 0 ≡ suc i = only 0 (omega arith) first in absurd (omega arith)
     go false other rest =
         let next : from + 1 + i ≡ from + suc i = omega arith in
@@ -63,18 +70,22 @@ only_position p from (x ∷ xs) (suc i) d l here only =
 
 -- ---- sites
 
-site_parts : (stand : Stand) (before ops : List Op) (site : Site) → Contains (sites_from stand before ops) site → (site.stand ≡ stand) × (site.before ++ site.op ∷ site.after ≡ before ++ ops)
+site_parts : (stand : Stand) (before ops : List Op) (site : Site) → Contains (sites_from stand before ops) site
+    → (site.stand ≡ stand) × (site.before ++ site.op ∷ site.after ≡ before ++ ops)
 site_parts stand before [] site (k, l, e) = absurd (omega arith)
 site_parts stand before (op ∷ after) site (zero, l, e) = (ap (λ (z : Site). z.stand) (sym e), ap (λ (z : Site). z.before ++ z.op ∷ z.after) (sym e))
 site_parts stand before (op ∷ after) site (suc k, l, e) =
     let w = site_parts stand (before ++ op ∷ []) after site (k, omega arith, e) in
     (w.0, w.1 ∙ append_assoc before (op ∷ []) after)
 
-site_of : (stand : Stand) (p : Op → Bool) (before ops : List Op) → list_any p ops ≡ true → (site : Site) × Contains (sites_from stand before ops) site × (p site.op ≡ true)
+site_of : (stand : Stand) (p : Op → Bool) (before ops : List Op) → list_any p ops ≡ true
+    → (site : Site) × Contains (sites_from stand before ops) site × (p site.op ≡ true)
 site_of stand p before [] some = absurd (false≢true some)
 site_of stand p before (op ∷ after) some = go (or_cases (p op) (list_any p after) some) (λ rest. site_of stand p (before ++ op ∷ []) after rest)
   where
-    go : (p op ≡ true) ⊎ (list_any p after ≡ true) → (list_any p after ≡ true → (site : Site) × Contains (sites_from stand (before ++ op ∷ []) after) site × (p site.op ≡ true)) → (site : Site) × Contains (sites_from stand before (op ∷ after)) site × (p site.op ≡ true)
+    go : (p op ≡ true) ⊎ (list_any p after ≡ true)
+        → (list_any p after ≡ true → (site : Site) × Contains (sites_from stand (before ++ op ∷ []) after) site × (p site.op ≡ true))
+        → (site : Site) × Contains (sites_from stand before (op ∷ after)) site × (p site.op ≡ true)
     go (inl here) rest = (record { stand = stand; before = before; op = op; after = after }, (0, omega arith, refl), here)
     go (inr there) rest = let w = rest there in (w.0, (suc w.1.0, omega (arith, w.1.1), w.1.2), w.2)
 
@@ -127,10 +138,13 @@ same_number s m k a b (i, l, m_is, at_a) (j, p, k_is, at_b) same = go (cases_ord
     go : (i ≡ j) ⊎ ((i < j) ⊎ (j < i)) → m ≡ k
     go (inl e) = omega (arith, m_is, k_is, e)
     go (inr (inl low)) =
-        let over : a.place < b.place = subst (λ (z : Stand). IsLater a z) at_b (subst (λ (z : Stand). IsLater z (get_or (committed (stands s)) j b)) first (later i j low p)) session in
+        let over : a.place < b.place =
+        subst (λ (z : Stand). IsLater a z) at_b (subst (λ (z : Stand). IsLater z (get_or (committed (stands s)) j b)) first (later i j low p)) session in
         absurd (omega (arith, place))
     go (inr (inr high)) =
-        let over : b.place < a.place = subst (λ (z : Stand). IsLater b z) first (subst (λ (z : Stand). IsLater z (get_or (committed (stands s)) i b)) at_b (later j i high l)) (sym session) in
+        let over : b.place < a.place =
+        subst (λ (z : Stand). IsLater b z) first (subst (λ (z : Stand). IsLater z (get_or (committed (stands s)) i b)) at_b (later j i high l))
+        (sym session) in
         absurd (omega (arith, place))
 
 number_ended : (s : Sessions) (n : ℕ) (t : Stand) → IsNumber s n t → Contains (stands s) t × (t.txn.committed ≡ true)
@@ -170,7 +184,9 @@ module _ (s : Sessions) (none : read_faults s ≡ []) where
           let parts = and_parts (bytes_eq key x) (value == v) puts_it in
           let key_is : key ≡ x = same_name key x parts.0 in
           let value_is : value ≡ v = eqb-true value v parts.1 in
-          by_writer one is (writer (stands s) x v) refl (subst (λ (z : ℕ). write_kind one (writer (stands s) x z) ≡ None) value_is (subst (λ (z : List ℕ). write_kind one (writer (stands s) z value) ≡ None) key_is q))
+          by_writer one is (writer (stands s) x v) refl
+          (subst (λ (z : ℕ). write_kind one (writer (stands s) x z) ≡ None) value_is
+          (subst (λ (z : List ℕ). write_kind one (writer (stands s) z value) ≡ None) key_is q))
 
   -- the writer of a value that is read stands in another transaction, which is committed, and is its last write there
   record IsReadFrom (t : Stand) (x : List ℕ) (v : ℕ) (first : Site) : Type 0 where
@@ -179,7 +195,8 @@ module _ (s : Sessions) (none : read_faults s ≡ []) where
     apart : is_same_transaction first.stand t ≡ false
     last : is_last_at_key first ≡ true
 
-  read_from : (t : Stand) (x : List ℕ) (v : ℕ) → Contains (stands s) t → t.txn.committed ≡ true → Contains (external_reads t) (x, v) → v ≢ 0 → (first : Site) × IsReadFrom t x v first
+  read_from : (t : Stand) (x : List ℕ) (v : ℕ) → Contains (stands s) t → t.txn.committed ≡ true → Contains (external_reads t) (x, v) → v ≢ 0
+      → (first : Site) × IsReadFrom t x v first
   read_from t x v there ended reads some = by_op at.0 at.0.op inside.0 at.2 (quiet at.0 (in_flat_map sites_of (stands s) t at.0 there at.1))
     where
       at : (site : Site) × Contains (sites_of t) site × (external_read site ≡ Some (x, v))
@@ -188,15 +205,19 @@ module _ (s : Sessions) (none : read_faults s ≡ []) where
       inside : (at.0.stand ≡ t) × (at.0.before ++ at.0.op ∷ at.0.after ≡ [] ++ t.txn.ops)
       inside = site_parts t [] t.txn.ops at.0 at.1
 
-      by_last : (first : Site) → writer (stands s) x v ≡ Some first → first.stand.txn.committed ≡ true → is_same_transaction first.stand t ≡ false → (b : Bool) → is_last_at_key first ≡ b → cond b None (Some Intermediate) ≡ None → (f : Site) × IsReadFrom t x v f
+      by_last : (first : Site) → writer (stands s) x v ≡ Some first → first.stand.txn.committed ≡ true → is_same_transaction first.stand t ≡ false
+          → (b : Bool) → is_last_at_key first ≡ b → cond b None (Some Intermediate) ≡ None → (f : Site) × IsReadFrom t x v f
       by_last first found ended apart true last q = (first, record { found = found; ended = ended; apart = apart; last = last })
       by_last first found ended apart false last q = absurd cc
 
-      by_apart : (first : Site) → writer (stands s) x v ≡ Some first → first.stand.txn.committed ≡ true → (b : Bool) → is_same_transaction first.stand t ≡ b → cond b (Some Future) (cond (is_last_at_key first) None (Some Intermediate)) ≡ None → (f : Site) × IsReadFrom t x v f
+      by_apart : (first : Site) → writer (stands s) x v ≡ Some first → first.stand.txn.committed ≡ true → (b : Bool) → is_same_transaction first.stand t ≡ b
+          → cond b (Some Future) (cond (is_last_at_key first) None (Some Intermediate)) ≡ None → (f : Site) × IsReadFrom t x v f
       by_apart first found ended true same q = absurd cc
       by_apart first found ended false apart q = by_last first found ended apart (is_last_at_key first) refl q
 
-      by_ended : (first : Site) → writer (stands s) x v ≡ Some first → (b : Bool) → first.stand.txn.committed ≡ b → cond (not b) (Some Aborted) (cond (is_same_transaction first.stand t) (Some Future) (cond (is_last_at_key first) None (Some Intermediate))) ≡ None → (f : Site) × IsReadFrom t x v f
+      by_ended : (first : Site) → writer (stands s) x v ≡ Some first → (b : Bool) → first.stand.txn.committed ≡ b
+          → cond (not b) (Some Aborted) (cond (is_same_transaction first.stand t) (Some Future) (cond (is_last_at_key first) None (Some Intermediate)))
+          ≡ None → (f : Site) × IsReadFrom t x v f
       by_ended first found false gone q = absurd cc
       by_ended first found true ended q = by_apart first found ended (is_same_transaction first.stand t) refl q
 
@@ -204,32 +225,43 @@ module _ (s : Sessions) (none : read_faults s ≡ []) where
       by_writer site is None found q = absurd cc
       by_writer site is (Some first) found q =
           by_ended first found first.stand.txn.committed refl
-          (subst (λ (z : Stand). cond (not first.stand.txn.committed) (Some Aborted) (cond (is_same_transaction first.stand z) (Some Future) (cond (is_last_at_key first) None (Some Intermediate))) ≡ None) is q)
+          (subst (λ (z : Stand). cond (not first.stand.txn.committed) (Some Aborted)
+          (cond (is_same_transaction first.stand z) (Some Future) (cond (is_last_at_key first) None (Some Intermediate))) ≡ None) is q)
 
-      by_own : (site : Site) → site.stand ≡ t → (key : List ℕ) (value : ℕ) (o : Option ℕ) → cond {A = Option (List ℕ × ℕ)} (is_none o) (Some (key, value)) None ≡ Some (x, v) → read_kind (stands s) site key value o ≡ None → (f : Site) × IsReadFrom t x v f
+      by_own : (site : Site) → site.stand ≡ t → (key : List ℕ) (value : ℕ) (o : Option ℕ)
+          → cond {A = Option (List ℕ × ℕ)} (is_none o) (Some (key, value)) None ≡ Some (x, v) → read_kind (stands s) site key value o ≡ None
+          → (f : Site) × IsReadFrom t x v f
       by_own site is key value (Some own) same q = absurd cc
       by_own site is key value None same q =
           let pair : (key, value) ≡ (x, v) = same_some same in
           let key_is : key ≡ x = ap (λ (p : List ℕ × ℕ). p.0) pair in
           let value_is : value ≡ v = ap (λ (p : List ℕ × ℕ). p.1) pair in
           let here : cond (v == 0) None (external_kind site (writer (stands s) x v)) ≡ None
-          = subst (λ (z : ℕ). cond (z == 0) None (external_kind site (writer (stands s) x z)) ≡ None) value_is (subst (λ (z : List ℕ). cond (value == 0) None (external_kind site (writer (stands s) z value)) ≡ None) key_is q) in
+          =
+          subst (λ (z : ℕ). cond (z == 0) None (external_kind site (writer (stands s) x z)) ≡ None) value_is
+          (subst (λ (z : List ℕ). cond (value == 0) None (external_kind site (writer (stands s) z value)) ≡ None) key_is q) in
           by_writer site is (writer (stands s) x v) refl (sym (ap (λ b. cond b None (external_kind site (writer (stands s) x v))) (ne_eqb v 0 some)) ∙ here)
 
-      by_op : (site : Site) (op : Op) → site.stand ≡ t → external_part op (λ y. visible_write y site.before) ≡ Some (x, v) → kind_at (stands s) site op ≡ None → (f : Site) × IsReadFrom t x v f
+      by_op : (site : Site) (op : Op) → site.stand ≡ t → external_part op (λ y. visible_write y site.before) ≡ Some (x, v)
+          → kind_at (stands s) site op ≡ None → (f : Site) × IsReadFrom t x v f
       by_op site (Put key value) is part q = absurd cc
       by_op site (Get key value) is part q =
           by_own site is key value (visible_write key site.before) part
-          (sym (ap (λ (b : Bool). cond b (read_kind (stands s) site key value (visible_write key site.before)) None) (ap (λ (z : Stand). z.txn.committed) is ∙ ended)) ∙ q)
+          (sym (ap (λ (b : Bool). cond b (read_kind (stands s) site key value (visible_write key site.before)) None)
+          (ap (λ (z : Stand). z.txn.committed) is ∙ ended)) ∙ q)
 
   -- what the writer that a read has its value from gives: its transaction shows the value
   writer_shows : (t : Stand) (x : List ℕ) (v : ℕ) (first : Site) → IsReadFrom t x v first → Contains (stands s) first.stand × (shows x v first.stand ≡ true)
   writer_shows t x v first r =
       let w = found_there (λ site. puts x v site.op) (sites (stands s)) first r.found in
-      let parts = site_stands first w.0 in
-      (parts.0, subst (λ (ops : List Op). has v (visible_write x ops) ≡ true) parts.1 (shown_after x v first.before (first.op ∷ first.after) (last_shown x v first.op first.after w.1 r.last)))
+      let parts = site_stands first w.0 in (
+        parts.0,
+        subst (λ (ops : List Op). has v (visible_write x ops) ≡ true) parts.1
+            (shown_after x v first.before (first.op ∷ first.after) (last_shown x v first.op first.after w.1 r.last)),
+      )
     where
-      site_stands : (site : Site) → Contains (sites (stands s)) site → Contains (stands s) site.stand × (site.before ++ site.op ∷ site.after ≡ site.stand.txn.ops)
+      site_stands : (site : Site) → Contains (sites (stands s)) site
+          → Contains (stands s) site.stand × (site.before ++ site.op ∷ site.after ≡ site.stand.txn.ops)
       site_stands site c =
           let w = from_flat_map sites_of (stands s) site c in
           let parts = site_parts w.0 [] w.0.txn.ops site w.2 in
@@ -264,13 +296,17 @@ module _ (s : Sessions) (none : read_faults s ≡ []) where
               let there : i + 1 ≡ 1 + i = omega arith in
               let found : position_from (shows x v) 1 (committed (stands s)) ≡ Some (1 + i)
               = only_position (shows x v) 1 (committed (stands s)) i first.stand l (subst (λ (z : Stand). shows x v z ≡ true) (sym at) shown)
-              (λ j p gives. let same : j + 1 ≡ i + 1 = unique (j + 1) (get_or (committed (stands s)) j first.stand) (j, p, refl, get_or_default (committed (stands s)) j (get_or (committed (stands s)) j first.stand) first.stand p) gives in omega arith) in
-              ap (λ b. cond b 0 (unwrap_or (position_from (shows x v) 1 (committed (stands s))) 0)) (ne_eqb v 0 some) ∙ ap (λ o. unwrap_or o 0) found ∙ sym there
+              (λ j p gives. let same : j + 1 ≡ i + 1 = unique (j + 1) (get_or (committed (stands s)) j first.stand)
+              (j, p, refl, get_or_default (committed (stands s)) j (get_or (committed (stands s)) j first.stand) first.stand p) gives in omega arith) in
+              ap (λ b. cond b 0 (unwrap_or (position_from (shows x v) 1 (committed (stands s))) 0)) (ne_eqb v 0 some) ∙ ap (λ o. unwrap_or o 0) found
+              ∙ sym there
 
           meets : i + 1 ≡ n → is_same_transaction first.stand reader ≡ true
           meets e =
               let place : i ≡ number.0 = omega (arith, e, number.2) in
-              let same : first.stand ≡ reader = sym at ∙ get_or_default (committed (stands s)) i first.stand reader l ∙ ap (λ (k : ℕ). get_or (committed (stands s)) k reader) place ∙ number.3 in
+              let same : first.stand ≡ reader =
+              sym at ∙ get_or_default (committed (stands s)) i first.stand reader l ∙ ap (λ (k : ℕ). get_or (committed (stands s)) k reader) place
+              ∙ number.3 in
               subst (λ (z : Stand). is_same_transaction first.stand z ≡ true) same (same_true first.stand)
 
   pub one_source : (n : ℕ) (x : List ℕ) (v : ℕ) → ReadsFromOthers s n x v → HasOneSource s n x v

@@ -74,13 +74,17 @@ in_session session name from (txn ∷ later) = (refl, in_session session name (f
 
 pub in_places : (session : ℕ) (name : List ℕ) (from : ℕ) (txns : List Transaction) → Each (λ x. from ≤ x.place) (stands_in session name from txns)
 in_places session name from [] = tt
-in_places session name from (txn ∷ later) =
-    (omega arith, each_more (λ x. from + 1 ≤ x.place) (λ x. from ≤ x.place) (stands_in session name (from + 1) later) (λ x l. omega arith) (in_places session name (from + 1) later))
+in_places session name from (txn ∷ later) = (
+  omega arith,
+  each_more (λ x. from + 1 ≤ x.place) (λ x. from ≤ x.place) (stands_in session name (from + 1) later) (λ x l. omega arith)
+      (in_places session name (from + 1) later),
+)
 
 pub in_order : (session : ℕ) (name : List ℕ) (from : ℕ) (txns : List Transaction) → Rises IsLater (stands_in session name from txns)
 in_order session name from [] = tt
 in_order session name from (txn ∷ later) = (
-  each_more (λ x. from + 1 ≤ x.place) (IsLater (record { session = session; name = name; place = from; txn = txn })) (stands_in session name (from + 1) later) (λ x l same. omega arith) (in_places session name (from + 1) later),
+  each_more (λ x. from + 1 ≤ x.place) (IsLater (record { session = session; name = name; place = from; txn = txn }))
+      (stands_in session name (from + 1) later) (λ x l same. omega arith) (in_places session name (from + 1) later),
   in_order session name (from + 1) later,
 )
 
@@ -89,9 +93,11 @@ from_sessions session [] = tt
 from_sessions session (e ∷ later) =
     each_append (λ x. session ≤ x.session) (stands_in session e.0 1 e.1) (stands_from (session + 1) later)
     (each_more (λ x. x.session ≡ session) (λ x. session ≤ x.session) (stands_in session e.0 1 e.1) (λ x same. omega arith) (in_session session e.0 1 e.1))
-    (each_more (λ x. session + 1 ≤ x.session) (λ x. session ≤ x.session) (stands_from (session + 1) later) (λ x l. omega arith) (from_sessions (session + 1) later))
+    (each_more (λ x. session + 1 ≤ x.session) (λ x. session ≤ x.session) (stands_from (session + 1) later) (λ x l. omega arith)
+    (from_sessions (session + 1) later))
 
-pub from_below : (session bound : ℕ) (named : List (List ℕ × List Transaction)) → session + length named ≤ bound → Each (λ x. x.session < bound) (stands_from session named)
+pub from_below : (session bound : ℕ) (named : List (List ℕ × List Transaction)) → session + length named ≤ bound
+    → Each (λ x. x.session < bound) (stands_from session named)
 from_below session bound [] within = tt
 from_below session bound (e ∷ later) within =
     each_append (λ x. x.session < bound) (stands_in session e.0 1 e.1) (stands_from (session + 1) later)
@@ -100,14 +106,17 @@ from_below session bound (e ∷ later) within =
 
 pub from_placed : (session : ℕ) (named : List (List ℕ × List Transaction)) → Each (λ x. 1 ≤ x.place) (stands_from session named)
 from_placed session [] = tt
-from_placed session (e ∷ later) = each_append (λ x. 1 ≤ x.place) (stands_in session e.0 1 e.1) (stands_from (session + 1) later) (in_places session e.0 1 e.1) (from_placed (session + 1) later)
+from_placed session (e ∷ later) =
+    each_append (λ x. 1 ≤ x.place) (stands_in session e.0 1 e.1) (stands_from (session + 1) later) (in_places session e.0 1 e.1)
+    (from_placed (session + 1) later)
 
 pub from_order : (session : ℕ) (named : List (List ℕ × List Transaction)) → Rises IsLater (stands_from session named)
 from_order session [] = tt
 from_order session (e ∷ later) =
     rises_append IsLater (stands_in session e.0 1 e.1) (stands_from (session + 1) later) (in_order session e.0 1 e.1) (from_order (session + 1) later)
     (each_more (λ x. x.session ≡ session) (λ x. Each (IsLater x) (stands_from (session + 1) later)) (stands_in session e.0 1 e.1)
-    (λ x here. each_more (λ y. session + 1 ≤ y.session) (IsLater x) (stands_from (session + 1) later) (λ y l same. absurd (omega arith)) (from_sessions (session + 1) later))
+    (λ x here. each_more (λ y. session + 1 ≤ y.session) (IsLater x) (stands_from (session + 1) later) (λ y l same. absurd (omega arith))
+    (from_sessions (session + 1) later))
     (in_session session e.0 1 e.1))
 
 -- ---- in which order
@@ -115,16 +124,19 @@ from_order session (e ∷ later) =
 in_rising : (session : ℕ) (name : List ℕ) (from : ℕ) (txns : List Transaction) → Rises (λ x y. x.session ≤ y.session) (stands_in session name from txns)
 in_rising session name from [] = tt
 in_rising session name from (txn ∷ later) = (
-  each_more (λ x. x.session ≡ session) (λ x. session ≤ x.session) (stands_in session name (from + 1) later) (λ x same. omega arith) (in_session session name (from + 1) later),
+  each_more (λ x. x.session ≡ session) (λ x. session ≤ x.session) (stands_in session name (from + 1) later) (λ x same. omega arith)
+      (in_session session name (from + 1) later),
   in_rising session name (from + 1) later,
 )
 
 from_rising : (session : ℕ) (named : List (List ℕ × List Transaction)) → Rises (λ x y. x.session ≤ y.session) (stands_from session named)
 from_rising session [] = tt
 from_rising session (e ∷ later) =
-    rises_append (λ x y. x.session ≤ y.session) (stands_in session e.0 1 e.1) (stands_from (session + 1) later) (in_rising session e.0 1 e.1) (from_rising (session + 1) later)
+    rises_append (λ x y. x.session ≤ y.session) (stands_in session e.0 1 e.1) (stands_from (session + 1) later) (in_rising session e.0 1 e.1)
+    (from_rising (session + 1) later)
     (each_more (λ x. x.session ≡ session) (λ x. Each (λ y. x.session ≤ y.session) (stands_from (session + 1) later)) (stands_in session e.0 1 e.1)
-    (λ x here. each_more (λ y. session + 1 ≤ y.session) (λ y. x.session ≤ y.session) (stands_from (session + 1) later) (λ y l. omega arith) (from_sessions (session + 1) later))
+    (λ x here. each_more (λ y. session + 1 ≤ y.session) (λ y. x.session ≤ y.session) (stands_from (session + 1) later) (λ y l. omega arith)
+    (from_sessions (session + 1) later))
     (in_session session e.0 1 e.1))
 
 module _ (s : Sessions) where
@@ -132,13 +144,19 @@ module _ (s : Sessions) where
   list = map (entry_of (stands s)) (committed (stands s))
 
   first : Each (λ (e : Entry). 1 ≤ e.place) list
-  first = each_map (λ (e : Entry). 1 ≤ e.place) (entry_of (stands s)) (committed (stands s)) (each_filter (λ (x : Stand). 1 ≤ x.place) is_committed (stands s) (from_placed 0 (entries s)))
+  first =
+      each_map (λ (e : Entry). 1 ≤ e.place) (entry_of (stands s)) (committed (stands s))
+      (each_filter (λ (x : Stand). 1 ≤ x.place) is_committed (stands s) (from_placed 0 (entries s)))
 
   rising : Rises (λ (a b : Entry). a.owner ≤ b.owner) list
-  rising = rises_map (λ (a b : Entry). a.owner ≤ b.owner) (entry_of (stands s)) (committed (stands s)) (rises_filter (λ x y. x.session ≤ y.session) is_committed (stands s) (from_rising 0 (entries s)))
+  rising =
+      rises_map (λ (a b : Entry). a.owner ≤ b.owner) (entry_of (stands s)) (committed (stands s))
+      (rises_filter (λ x y. x.session ≤ y.session) is_committed (stands s) (from_rising 0 (entries s)))
 
   placed : Rises (λ (a b : Entry). a.owner ≡ b.owner → a.place < b.place) list
-  placed = rises_map (λ (a b : Entry). a.owner ≡ b.owner → a.place < b.place) (entry_of (stands s)) (committed (stands s)) (rises_filter IsLater is_committed (stands s) (from_order 0 (entries s)))
+  placed =
+      rises_map (λ (a b : Entry). a.owner ≡ b.owner → a.place < b.place) (entry_of (stands s)) (committed (stands s))
+      (rises_filter IsLater is_committed (stands s) (from_order 0 (entries s)))
 
   -- the transactions of a snapshot stand by session and by place
   pub by_session : IsBySession (history s).entries

@@ -1,5 +1,7 @@
 -- Where nothing is faulty, the sources found are the sources.
-use Rattle.std.proofs.Common.{◌≡◌, ℕ, ◌+◌, Bool, true, false, cond, not, ◌&&◌, ◌||◌, List, [], ◌∷◌, ◌++◌, length, map, filter, filter_map, flat_map, Option, None, Some, option_map, unwrap_or, refl, ap, sym, ◌∙◌, is_none, nat_eq}
+use Rattle.std.proofs.Common.{◌≡◌, ℕ, ◌+◌, Bool, true, false, cond, not, ◌&&◌, ◌||◌, List, [], ◌∷◌, ◌++◌, length, map, filter}
+use Rattle.std.proofs.Common.{filter_map, flat_map, Option, None, Some, option_map, unwrap_or, refl, ap, sym, ◌∙◌, is_none}
+use Rattle.std.proofs.Common.nat_eq
 use Rattle.std.specs.Prelude.{◌==◌}
 use Rattle.std.specs.List.{list_any, cons_option, position_from}
 use Rattle.std.specs.Option.{option_or, option_eq}
@@ -15,7 +17,9 @@ use Rattle.tcc_reads.specs.Numbers.{Numbered, next_number, numbered_from}
 use Rattle.tcc_reads.specs.Sources.{puts_at, value_put, visible_write, shows, source, external_read, external_reads, sorted_once, pair_cmp, writes_of, entry_of}
 use Rattle.tcc_reads.specs.Faults.{puts}
 use Rattle.tcc_txn.specs.Transactions.{op_key}
-use Rattle.tcc_reads.specs.Verdicts.{writer_at, first_in, first_writer, is_in, write_judgement, judgement_from, read_judgement, own_judgement, site_judgement, fault_in, source_in, fault_found, source_found, faults_found, sources_found, entry_found, entries_found}
+use Rattle.tcc_reads.specs.Verdicts.{writer_at, first_in, first_writer, is_in, write_judgement, judgement_from, read_judgement, own_judgement}
+use Rattle.tcc_reads.specs.Verdicts.{site_judgement, fault_in, source_in, fault_found, source_found, faults_found, sources_found, entry_found}
+use Rattle.tcc_reads.specs.Verdicts.entries_found
 use Rattle.std.proofs.lemmas.Bool.{and_parts, or_parts, not-true}
 use Rattle.tcc_reads.proofs.Ties.{same_name}
 use Rattle.tcc_reads.proofs.Agreement.{kind_in}
@@ -111,14 +115,16 @@ sourced number (stand ∷ later) x v first m found is last =
     by_ops (list_any (puts x v) stand.txn.ops) refl (λ in_rest. sourced (next_number number stand) later x v first m in_rest is last)
   where
     by_ops : (b : Bool) → list_any (puts x v) stand.txn.ops ≡ b
-        → (first_writer (numbered_from (next_number number stand) later) x v ≡ Some first → position_from (shows x v) (next_number number stand) (committed later) ≡ Some m)
+        → (first_writer (numbered_from (next_number number stand) later) x v ≡ Some first
+        → position_from (shows x v) (next_number number stand) (committed later) ≡ Some m)
         → position_from (shows x v) number (committed (stand ∷ later)) ≡ Some m
     by_ops true here deeper = by_end stand.txn.committed refl
       where
         facts : IsFoundIn (numbered number stand) stand.txn.ops x v first
         facts = found_in (numbered number stand) [] stand.txn.ops x v (first_writer (numbered_from (next_number number stand) later) x v) first here found
 
-        by_end : (b : Bool) → stand.txn.committed ≡ b → position_from (shows x v) number (cond stand.txn.committed (stand ∷ committed later) (committed later)) ≡ Some m
+        by_end : (b : Bool) → stand.txn.committed ≡ b → position_from (shows x v) number
+            (cond stand.txn.committed (stand ∷ committed later) (committed later)) ≡ Some m
         by_end true ended =
             let same_number : Some number ≡ Some m = sym (ap (λ b. cond b (Some number) None) ended) ∙ sym facts.number ∙ is in
             ap (λ b. position_from (shows x v) number (cond b (stand ∷ committed later) (committed later))) ended
@@ -130,7 +136,9 @@ sourced number (stand ∷ later) x v first m found is last =
     by_ops false absent deeper = by_end stand.txn.committed refl deeper_here
       where
         deeper_here : position_from (shows x v) (next_number number stand) (committed later) ≡ Some m
-        deeper_here = deeper (sym (none_in (numbered number stand) [] stand.txn.ops x v (first_writer (numbered_from (next_number number stand) later) x v) absent) ∙ found)
+        deeper_here =
+            deeper (sym (none_in (numbered number stand) [] stand.txn.ops x v (first_writer (numbered_from (next_number number stand) later) x v) absent)
+            ∙ found)
 
         by_end : (b : Bool) → stand.txn.committed ≡ b → position_from (shows x v) (next_number number stand) (committed later) ≡ Some m
             → position_from (shows x v) number (cond stand.txn.committed (stand ∷ committed later) (committed later)) ≡ Some m
@@ -177,7 +185,8 @@ module _ (all : List Stand) (table : List ℕ → ℕ → Option Writer)
 
       by_place : (first : Writer) (m : ℕ) → table key value ≡ Some first → first.number ≡ Some m → (b : Bool)
           → kind_in (cond b (Faulty Future) (cond first.last (ReadsFrom m) (Faulty Intermediate))) ≡ None
-          → source_in (Get key value) (cond b (Faulty Future) (cond first.last (ReadsFrom m) (Faulty Intermediate))) ≡ Some (key, unwrap_or (position_from (shows key value) 1 (committed all)) 0)
+          → source_in (Get key value) (cond b (Faulty Future) (cond first.last (ReadsFrom m) (Faulty Intermediate)))
+          ≡ Some (key, unwrap_or (position_from (shows key value) 1 (committed all)) 0)
       by_place first m found is true none = cc
       by_place first m found is false none = by_last first m found is first.last refl none
 
@@ -252,10 +261,14 @@ module _ (all : List Stand) (table : List ℕ → ℕ → Option Writer)
           = sources_in (numbered number stand) ended [] stand.txn.ops parts.0 in
           let entry : entry_found table (numbered number stand) ≡ entry_of all stand
           = ap (λ rs. record { owner = stand.session; place = stand.place; writes = writes_of stand; reads = sorted_once pair_cmp rs }) reads in
-          ap (λ b. map (entry_found table) (cond b (numbered number stand ∷ filter (λ n. n.stand.txn.committed) (numbered_from (next_number number stand) later)) (filter (λ n. n.stand.txn.committed) (numbered_from (next_number number stand) later)))) ended
+          ap (λ b. map (entry_found table)
+          (cond b (numbered number stand ∷ filter (λ n. n.stand.txn.committed) (numbered_from (next_number number stand) later))
+          (filter (λ n. n.stand.txn.committed) (numbered_from (next_number number stand) later)))) ended
           ∙ (λ i. entry i ∷ rest i)
           ∙ sym (ap (λ b. map (entry_of all) (cond b (stand ∷ committed later) (committed later))) ended)
       by_end false gone rest =
-          ap (λ b. map (entry_found table) (cond b (numbered number stand ∷ filter (λ n. n.stand.txn.committed) (numbered_from (next_number number stand) later)) (filter (λ n. n.stand.txn.committed) (numbered_from (next_number number stand) later)))) gone
+          ap (λ b. map (entry_found table)
+          (cond b (numbered number stand ∷ filter (λ n. n.stand.txn.committed) (numbered_from (next_number number stand) later))
+          (filter (λ n. n.stand.txn.committed) (numbered_from (next_number number stand) later)))) gone
           ∙ rest
           ∙ sym (ap (λ b. map (entry_of all) (cond b (stand ∷ committed later) (committed later))) gone)

@@ -110,7 +110,8 @@ pub own_is_silent : (table : Writes) (n : Numbered) (before after : List Op) (op
 own_is_silent table n before after (Get key value) place counted own = tt
 own_is_silent table n before after (Put key value) place counted own =
     ap (write_judgement n place) own.0
-    ∙ (λ i. cond ((numbers_same n.stand.session i && numbers_same n.stand.place i) && ((ap (λ k. k == place) counted ∙ numbers_same place) i)) Silent (Faulty Duplicate))
+    ∙ (λ i. cond ((numbers_same n.stand.session i && numbers_same n.stand.place i) && ((ap (λ k. k == place) counted ∙ numbers_same place) i)) Silent
+    (Faulty Duplicate))
 
 pub own_after : (table : Writes) (n : Numbered) (before after : List Op) (op : Op)
     → AreOwnIn table n before (op ∷ after) → AreOwnIn table n (before ++ op ∷ []) after

@@ -92,5 +92,9 @@ pub numbers_and_sources : history_of (a ∷ b ∷ c ∷ []) (stands_from 0 (
     (a, aborted (Put x 9 ∷ []) ∷ committed (Put y 1 ∷ Put x 1 ∷ Put x 2 ∷ Get x 2 ∷ []) ∷ []) ∷
     (b, []) ∷
     (c, committed (Get y 1 ∷ Get x 2 ∷ Get z 0 ∷ Get y 1 ∷ Get y 0 ∷ []) ∷ committed [] ∷ []) ∷ []))
-    ≡ record { sessions = a ∷ b ∷ c ∷ []; entries = initial ∷ entry 0 2 (x ∷ y ∷ []) [] ∷ entry 2 1 [] ((x, 1) ∷ (y, 0) ∷ (y, 1) ∷ (z, 0) ∷ []) ∷ entry 2 2 [] [] ∷ [] }
+    ≡ record {
+      sessions = a ∷ b ∷ c ∷ [];
+      entries = initial ∷ entry 0 2 (x ∷ y ∷ []) [] ∷ entry 2 1 [] ((x, 1) ∷ (y, 0) ∷ (y, 1) ∷ (z, 0) ∷ [])
+          ∷ entry 2 2 [] [] ∷ [];
+    }
 numbers_and_sources = refl

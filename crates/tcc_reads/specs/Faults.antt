@@ -59,7 +59,14 @@ kind_at all site (Get key value) =
 -- what is wrong with an operation
 abbrev pub fault_at : List Stand → Site → Option ReadFault
 fault_at all site =
-    option_map (λ kind. record { session = site.stand.name; place = site.stand.place; op = at site; key = op_key site.op; value = op_value site.op; kind = kind })
+    option_map (λ kind. record {
+      session = site.stand.name;
+      place = site.stand.place;
+      op = at site;
+      key = op_key site.op;
+      value = op_value site.op;
+      kind = kind;
+    })
     (kind_at all site site.op)
 
 abbrev pub faults_of : List Stand → List ReadFault

@@ -1,6 +1,8 @@
 -- Serves proofs alone; nobody has to believe it: what the resolver finds out about the operations, in the terms of its
 -- table of first writes. That this is what Faults and Sources say is proved.
-use Rattle.std.specs.Prelude.{ℕ, ◌≡◌, ◌<◌, nat_eq, Bool, false, ◌&&◌, ◌==◌, not, if◌then◌else◌, List, [], ◌∷◌, ◌++◌, map, filter, filter_map, length, ◌+◌, Option, None, Some, option_and_then}
+use Rattle.std.specs.Prelude.{ℕ, ◌≡◌, ◌<◌, nat_eq, Bool, false, ◌&&◌, ◌==◌, not, if◌then◌else◌, List, []}
+use Rattle.std.specs.Prelude.{◌∷◌, ◌++◌, map, filter, filter_map, length, ◌+◌, Option, None, Some}
+use Rattle.std.specs.Prelude.option_and_then
 use Rattle.std.specs.List.{list_any}
 use Rattle.std.specs.HashMap as hash
 use Rattle.std.specs.HashMap.{HashMap}

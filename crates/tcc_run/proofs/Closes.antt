@@ -30,7 +30,8 @@ inside x y e = cc e
 nothing : {X : Type 0} (x : X) → None ≡ Some x → ⊥
 nothing x e = cc e
 
-module _ (options : Options) (records text : List ℕ) (limits : KeepsLimits (finished_in (answers_of records).items)) (said : List Said) (last : Said) (end : last_or None said ≡ Some last) (has : last.certificate ≡ Some text) where
+module _ (options : Options) (records text : List ℕ) (limits : KeepsLimits (finished_in (answers_of records).items)) (said : List Said) (last : Said)
+    (end : last_or None said ≡ Some last) (has : last.certificate ≡ Some text) where
   of_answer : (answers_of records).fault ≡ None → IsAnswered options (finished_in (answers_of records).items) last → Accepts records text
   of_answer unfaulted (inl (resolved, a, is, same)) =
       let at : certificate_text (certificate_of a) ≡ text = inside _ _ (sym (ap (λ (s : Said). s.certificate) same) ∙ has) in (
@@ -63,4 +64,5 @@ left options records text limits before after code (said, last, ends, end, inl (
         let same : text ≡ written = gains ∙ ap (λ k. unwrap_or k []) has in
         closes options records text limits said last end (has ∙ ap Some (sym same)) ends
 left options records text limits before after code (said, last, ends, end, inr (inl (part, gains, is))) some fine = absurd (fine is)
-left options records text limits before after code (said, last, ends, end, inr (inr failed)) some fine = absurd (fine (device_code failed.1.0 after (device_line options.json) code failed.1.2))
+left options records text limits before after code (said, last, ends, end, inr (inr failed)) some fine =
+    absurd (fine (device_code failed.1.0 after (device_line options.json) code failed.1.2))

@@ -35,7 +35,8 @@ use Rattle.tcc_verdict.specs.Checks.{IsCheck, IsRecordsCheck, IsSnapshotCheck, I
 use Rattle.tcc_run.specs.Closing.{IsAcceptance, acceptance}
 
 -- what all items finish keeps the limits, since what their first ones finish does, however many
-pub of_all : ((text : List ℕ) (n : ℕ) → KeepsLimits (finished_in (take n (answers_of text).items))) → (records : List ℕ) → KeepsLimits (finished_in (answers_of records).items)
+pub of_all : ((text : List ℕ) (n : ℕ) → KeepsLimits (finished_in (take n (answers_of text).items))) → (records : List ℕ)
+    → KeepsLimits (finished_in (answers_of records).items)
 of_all law records = subst (λ items. KeepsLimits (finished_in items)) (take-length (answers_of records).items) (law records (length (answers_of records).items))
 
 ok_not_err : {X E : Type 0} (o : Result X E) (x : X) (e : E) → o ≡ Ok x → o ≡ Err e → ⊥
@@ -45,7 +46,8 @@ ok_not_err o x e fine failed = (let both : Ok x ≡ Err e = sym fine ∙ failed 
 abbrev all_of : List ℕ → Sessions
 all_of records = finished_in (answers_of records).items
 
-module _ (records : List ℕ) (limits : KeepsLimits (all_of records)) (level : Level) (a : Answer) (unfaulted : (answers_of records).fault ≡ None) (resolved : read_faults (all_of records) ≡ [])
+module _ (records : List ℕ) (limits : KeepsLimits (all_of records)) (level : Level) (a : Answer) (unfaulted : (answers_of records).fault ≡ None)
+    (resolved : read_faults (all_of records) ≡ [])
     (is : IsAnswerOf (record { history = history (all_of records); level = level }) a) where
   abbrev c : Certificate
   c = certificate_of a
@@ -67,7 +69,8 @@ module _ (records : List ℕ) (limits : KeepsLimits (all_of records)) (level : L
 
   by_verdict : (read : Certificate) (v : Verdict) → c ≡ read → IsVerdict (history (all_of records)) read v → v ≡ verdict.Accepted
   by_verdict read verdict.Accepted same says = refl
-  by_verdict read (verdict.Rejected rule at) same says = absurd (rejected_false (history (all_of records)) read rule at says (subst (Certifies (history (all_of records))) same keeps))
+  by_verdict read (verdict.Rejected rule at) same says =
+      absurd (rejected_false (history (all_of records)) read rule at says (subst (Certifies (history (all_of records))) same keeps))
 
   failed_reading : (fault : CertFault) → IsReading (certificate_text c) (Err fault) → fault.kind ≢ text_kind.NoMemory → fault.kind ≡ text_kind.Read
   failed_reading fault (inl other) kind = absurd (ok_not_err (certificate_read (certificate_text c)) c fault back other)

@@ -48,6 +48,7 @@ at_its_level level s e a (small, nested, resolved, anomaly) explained is =
 
 -- in a resolved snapshot no link of such an anomaly is missed, where none is missed of one of a snapshot that it continues
 pub none_missed : (level : Level) (s : Sessions) (a : LabelledCycle) (n : ℕ)
-    → ((small : Sessions) → IsNested small s → read_faults small ≡ [] → read_faults s ≡ [] → IsAnomalyOf (judged small level) a → IsNextRefusal s a (refusal.NotNested n) → ⊥)
+    → ((small : Sessions) → IsNested small s → read_faults small ≡ [] → read_faults s ≡ [] → IsAnomalyOf (judged small level) a
+    → IsNextRefusal s a (refusal.NotNested n) → ⊥)
     → IsEarlier level s a → IsNextRefusal s a (refusal.NotNested n) → ⊥
 none_missed level s a n law (small, nested, resolved, is) missing = law small nested resolved missing.0 is missing

@@ -19,6 +19,7 @@ pub answered-alike : (items others : List Item) → has_seal items ≡ false →
 answered-alike items others none neither same = answered-once items none ∙ ap (λ s. s ∷ []) same ∙ sym (answered-once others neither)
 
 -- so what a whole run says of one of them, it says of the other, if that has no fault
-pub whole-alike : (options : Options) (all more : rows.Answers) (said : List Said) → sealed_in all.items ++ at_end all.items ≡ sealed_in more.items ++ at_end more.items
+pub whole-alike : (options : Options) (all more : rows.Answers) (said : List Said)
+    → sealed_in all.items ++ at_end all.items ≡ sealed_in more.items ++ at_end more.items
     → more.fault ≡ None → IsWhole options all said → IsWhole options more said
 whole-alike options all more said same clean is = (clean, subst (λ snapshots. AreAnswered options snapshots said) same is.1)

@@ -1,5 +1,6 @@
 -- The last of the snapshots that a run answers is that of all that was finished.
-use Rattle.std.proofs.Common.{◌≡◌, Bool, true, false, cond, List, [], ◌∷◌, ◌++◌, Option, None, Some, refl, sym, ap, subst, ◌∙◌, inl, inr, ◌⊎◌, append_assoc, append-nil}
+use Rattle.std.proofs.Common.{◌≡◌, Bool, true, false, cond, List, [], ◌∷◌, ◌++◌, Option, None, Some}
+use Rattle.std.proofs.Common.{refl, sym, ap, subst, ◌∙◌, inl, inr, ◌⊎◌, append_assoc, append-nil}
 use Rattle.std.specs.List.{AllZip, last_or}
 use Rattle.std.specs.FinMap as finite
 use Rattle.std.proofs.lemmas.List.Sums.{fold-append}
@@ -16,18 +17,23 @@ EndsWith snapshots s = (front : List Sessions) × (snapshots ≡ front ++ s ∷ 
 -- there are none, and nothing was finished since; or they end with what was finished
 abbrev EndsSince : List Item → List Item → Type 0
 EndsSince before items =
-    ((sealed_after before items ≡ []) × (finished_in (before ++ items) ≡ finished_in before)) ⊎ EndsWith (sealed_after before items) (finished_in (before ++ items))
+    ((sealed_after before items ≡ []) × (finished_in (before ++ items) ≡ finished_in before))
+    ⊎ EndsWith (sealed_after before items) (finished_in (before ++ items))
 
 finished_on : (before : List Item) (one : Item) → finished_in (before ++ one ∷ []) ≡ with_item (finished_in before) one
 finished_on before one = fold-append with_item finite.empty before (one ∷ [])
 
-moved : (before : List Item) (one : Item) (items : List Item) (snapshots : List Sessions) → EndsWith snapshots (finished_in ((before ++ one ∷ []) ++ items)) → EndsWith snapshots (finished_in (before ++ one ∷ items))
+moved : (before : List Item) (one : Item) (items : List Item) (snapshots : List Sessions) → EndsWith snapshots (finished_in ((before ++ one ∷ []) ++ items))
+    → EndsWith snapshots (finished_in (before ++ one ∷ items))
 moved before one items snapshots ends = subst (λ all. EndsWith snapshots (finished_in all)) (append_assoc before (one ∷ []) items) ends
 
 -- at a seal, after which nothing is due at the end
-from_seal : (before items : List Item) → EndsSince (before ++ item.Seal ∷ []) items → EndsWith (sealed_after before (item.Seal ∷ items)) (finished_in (before ++ item.Seal ∷ items))
-from_seal before items (inl (none, same)) = moved before item.Seal items (sealed_after before (item.Seal ∷ items)) ([], rw none (ap (λ s. s ∷ []) (sym (same ∙ finished_on before item.Seal))))
-from_seal before items (inr (front, is)) = moved before item.Seal items (sealed_after before (item.Seal ∷ items)) (finished_in before ∷ front, ap (λ rest. finished_in before ∷ rest) is)
+from_seal : (before items : List Item) → EndsSince (before ++ item.Seal ∷ []) items
+    → EndsWith (sealed_after before (item.Seal ∷ items)) (finished_in (before ++ item.Seal ∷ items))
+from_seal before items (inl (none, same)) =
+    moved before item.Seal items (sealed_after before (item.Seal ∷ items)) ([], rw none (ap (λ s. s ∷ []) (sym (same ∙ finished_on before item.Seal))))
+from_seal before items (inr (front, is)) =
+    moved before item.Seal items (sealed_after before (item.Seal ∷ items)) (finished_in before ∷ front, ap (λ rest. finished_in before ∷ rest) is)
 
 -- the same of what follows some items, by whether an answer is due after those
 abbrev Since : Bool → List Item → List Item → Type 0
@@ -56,14 +62,16 @@ last_snapshot items = go (is_due_after true items) refl
     go false e = let (front, is) = since items true [] e in (front, append-nil (sealed_in items) ∙ is)
 
 -- what is said last is said of the last
-last_paired : {S T : Type 0} (R : S → T → Type 0) (front : List S) (x : S) (said : List T) (before : Option T) (last : T) → AllZip R (front ++ x ∷ []) said → last_or before said ≡ Some last → R x last
+last_paired : {S T : Type 0} (R : S → T → Type 0) (front : List S) (x : S) (said : List T) (before : Option T) (last : T) → AllZip R (front ++ x ∷ []) said
+    → last_or before said ≡ Some last → R x last
 last_paired R [] x [] before last all e = absurd all
 last_paired R [] x (y ∷ []) before last all e = let same : y ≡ last = cc e in subst (R x) same all.0
 last_paired R [] x (y ∷ z ∷ said) before last all e = absurd all.1
 last_paired R (w ∷ front) x [] before last all e = absurd all
 last_paired R (w ∷ front) x (y ∷ said) before last all e = last_paired R front x said (Some y) last all.1 e
 
-pub last_said : {T : Type 0} (R : Sessions → T → Type 0) (items : List Item) (said : List T) (last : T) → AllZip R (sealed_in items ++ at_end items) said → last_or None said ≡ Some last → R (finished_in items) last
+pub last_said : {T : Type 0} (R : Sessions → T → Type 0) (items : List Item) (said : List T) (last : T) → AllZip R (sealed_in items ++ at_end items) said
+    → last_or None said ≡ Some last → R (finished_in items) last
 last_said R items said last all e =
     let (front, is) = last_snapshot items in
     last_paired R front (finished_in items) said None last (subst (λ snapshots. AllZip R snapshots said) is all) e

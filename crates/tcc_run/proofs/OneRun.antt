@@ -9,13 +9,16 @@ use Rattle.tcc_explain.specs.Explained.{IsAnswerOf}
 use Rattle.tcc_print.specs.declared.options.Options.{Options}
 use Rattle.tcc_run.specs.Runs.{AreAnswered, IsAnswered, IsWhole, Said, answer_said, at_end, sealed_in}
 
-module _ (one : (j : Judged) (some other : Answer) → IsAnswerOf j some → IsAnswerOf j other → some ≡ other) (options others : Options) (form : options.json ≡ others.json) (level : options.level ≡ others.level) where
+module _ (one : (j : Judged) (some other : Answer) → IsAnswerOf j some → IsAnswerOf j other → some ≡ other) (options others : Options)
+    (form : options.json ≡ others.json) (level : options.level ≡ others.level) where
   answer_again : (a b : Answer) → a ≡ b → answer_said options a ≡ answer_said others b
   answer_again a b same = rw form (ap (answer_said others) same)
 
   said_again : (s : Sessions) (x y : Said) → IsAnswered options s x → IsAnswered others s y → x ≡ y
   said_again s x y (inl (resolved, a, is, e)) (inl (again, b, too, f)) =
-      let same : a ≡ b = one (record { history = history s; level = options.level }) a b is (subst (λ l. IsAnswerOf (record { history = history s; level = l }) b) (sym level) too) in
+      let same : a ≡ b =
+      one (record { history = history s; level = options.level }) a b is
+      (subst (λ l. IsAnswerOf (record { history = history s; level = l }) b) (sym level) too) in
       e ∙ answer_again a b same ∙ sym f
   said_again s x y (inl (resolved, a, is, e)) (inr (faulty, f)) = absurd (faulty resolved)
   said_again s x y (inr (faulty, e)) (inl (resolved, b, is, f)) = absurd (faulty resolved)
@@ -34,4 +37,5 @@ module _ (one : (j : Judged) (some other : Answer) → IsAnswerOf j some → IsA
 
   pub whole_again : (all more : rows.Answers) (xs ys : List Said) → sealed_in all.items ++ at_end all.items ≡ sealed_in more.items ++ at_end more.items
       → IsWhole options all xs → IsWhole others more ys → xs ≡ ys
-  whole_again all more xs ys same is too = all_again (sealed_in all.items ++ at_end all.items) xs ys is.1 (subst (λ snapshots. AreAnswered others snapshots ys) (sym same) too.1)
+  whole_again all more xs ys same is too =
+      all_again (sealed_in all.items ++ at_end all.items) xs ys is.1 (subst (λ snapshots. AreAnswered others snapshots ys) (sym same) too.1)

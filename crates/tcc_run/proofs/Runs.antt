@@ -1,5 +1,7 @@
 -- What a run does with its bytes, from how a recording of them went on.
-use Rattle.std.proofs.Common.{◌≡◌, ◌≢◌, ℕ, ◌+◌, ◌≤◌, arith, Bool, true, false, cond, List, [], ◌∷◌, ◌++◌, length, take, Option, None, Some, Result, Ok, Err, refl, sym, ap, subst, ◌∙◌, inl, inr, append_assoc, append-nil}
+use Rattle.std.proofs.Common.{◌≡◌, ◌≢◌, ℕ, ◌+◌, ◌≤◌, arith, Bool, true, false, cond, List, [], ◌∷◌, ◌++◌, length, take}
+use Rattle.std.proofs.Common.{Option, None, Some, Result, Ok, Err, refl, sym, ap, subst, ◌∙◌, inl, inr, append_assoc}
+use Rattle.std.proofs.Common.append-nil
 use Rattle.std.specs.Prelude.{nat_eq, IfSome, MatchResult, unwrap_or}
 use Rattle.std.specs.List.{last_or}
 use Rattle.std.specs.Io.KnownBytes.{Appends}
@@ -29,11 +31,16 @@ use Rattle.tcc_run.specs.declared.outcome.Outcome.TheVariants as outcome
 use Rattle.tcc_answer.specs.declared.answer.Answer.{Answer}
 use Rattle.tcc_print.specs.Printed.{Prints, halted, memory_line}
 use Rattle.tcc_print.specs.Statuses.{code_of, halt_status}
-use Rattle.tcc_run.specs.Runs.{AreAnswered, Contents, Gains, IsAnswered, IsRun, IsWhole, MayEnd, Said, at_end, faults_said, halt_said, is_due_after, sealed_in, texts}
-use Rattle.tcc_run.specs.Stages.{AllAnswered, AnswersKept, Concludes, EndsAnswering, EndsEarly, IsFor, IsOutcome, IsStill, Keeps, SaysLast, answer_in, outcome_said, outcome_text}
+use Rattle.tcc_run.specs.Runs.{AreAnswered, Contents, Gains, IsAnswered, IsRun, IsWhole, MayEnd}
+use Rattle.tcc_run.specs.Runs.{Said, at_end, faults_said, halt_said, is_due_after, sealed_in, texts}
+use Rattle.tcc_run.specs.Stages.{AllAnswered, AnswersKept, Concludes, EndsAnswering, EndsEarly}
+use Rattle.tcc_run.specs.Stages.{IsFor, IsOutcome, IsStill, Keeps, SaysLast, answer_in, outcome_said}
+use Rattle.tcc_run.specs.Stages.outcome_text
 use Rattle.tcc_print.specs.Printed.{CutsOff, PrintsOrMemory}
 use Rattle.tcc_print.specs.Halts.{by_row, is_memory}
-use Rattle.tcc_run.proofs.Moments.{AllZip-append, all-fault, all-items, at_end-due, at_end-none, due-passed, due-seal, finished-seal, first-taken, last-push, part-of, same-passed, sealed-passed, sealed-seal, still_due}
+use Rattle.tcc_run.proofs.Moments.{AllZip-append, all-fault, all-items, at_end-due, at_end-none, due-passed, due-seal}
+use Rattle.tcc_run.proofs.Moments.{finished-seal, first-taken, last-push, part-of, same-passed, sealed-passed}
+use Rattle.tcc_run.proofs.Moments.{sealed-seal, still_due}
 
 texts-push : (said : List Said) (one : Said) → texts (said ++ one ∷ []) ≡ texts said ++ one.text
 texts-push said one = flat_map-append (λ (one : Said). one.text) said (one ∷ []) ∙ ap (λ t. texts said ++ t) (append-nil one.text)
@@ -310,7 +317,8 @@ module _ {R : Type 0} (remaining : R → Option (List ℕ)) (options : Options) 
     -- what the answer at the end says of the run
     pub ended-end : (s : Sessions) (after : Option (List ℕ)) (r : Result (Option Answer) ℕ) → s ≡ finished_in all_past
         → IfSome answered (λ last. last.transactions ≡ transaction_count s → (after ≡ now) × (r ≡ Ok (answer_in last.outcome)))
-        → (IfSome answered (λ last. last.transactions ≢ transaction_count s) → MatchResult r (AnswersKept options s now after) (EndsAnswering options s now after))
+        → (IfSome answered (λ last. last.transactions ≢ transaction_count s)
+        → MatchResult r (AnswersKept options s now after) (EndsAnswering options s now after))
         → MatchResult r (AllAnswered options text before after) (EndsEarly options text before after)
     ended-end s after r same said due = by answered refl said due
       where
@@ -320,7 +328,8 @@ module _ {R : Type 0} (remaining : R → Option (List ℕ)) (options : Options) 
             subst (λ r. MatchResult r (AllAnswered options text before after) (EndsEarly options text before after)) (sym sent.1)
             (subst (λ o. AllAnswered options text before o (answer_in last.outcome)) (sym sent.0) (said_all last is (counted ∙ ap transaction_count same)))
 
-        fresh : IfSome answered (λ last. last.transactions ≢ transaction_count s) → MatchResult r (AnswersKept options s now after) (EndsAnswering options s now after)
+        fresh : IfSome answered (λ last. last.transactions ≢ transaction_count s)
+            → MatchResult r (AnswersKept options s now after) (EndsAnswering options s now after)
             → MatchResult r (AllAnswered options text before after) (EndsEarly options text before after)
         fresh other = by_result r
           where
@@ -367,16 +376,20 @@ module _ {R : Type 0} (remaining : R → Option (List ℕ)) (options : Options) 
 
     -- the fault of the records, a reader that failed, or `NoMemory`
     pub stopped : (after : Option (List ℕ)) (code : ℕ) → (fault.kind ≡ kind.Read → FailsBehind way.taken fault.row (records_of text))
-        → PrintsOrMemory options.json now after (halted options.json (by_row fault)) (halt_status (by_row fault)) code → EndsEarly options text before after code
+        → PrintsOrMemory options.json now after (halted options.json (by_row fault)) (halt_status (by_row fault)) code
+        → EndsEarly options text before after code
     stopped after code failed = by_test (is_memory fault.kind) refl
       where
         by_test : (b : Bool) → is_memory fault.kind ≡ b
-            → PrintsOrMemory options.json now after (halted options.json (cond b halt.NoMemory (halt.Row fault))) (halt_status (cond b halt.NoMemory (halt.Row fault))) code
+            → PrintsOrMemory options.json now after (halted options.json (cond b halt.NoMemory (halt.Row fault)))
+            (halt_status (cond b halt.NoMemory (halt.Row fault))) code
             → EndsEarly options text before after code
         by_test true e prints = by_halt (length way.taken) halt.NoMemory way.taken after code tt kept refl prints
         by_test false e prints = elim at.3 [
           | inl last ↦
-              let items = all-items (answers_of text) way.taken at.0 at.1 way.ahead way.whole at.2 ∙ ap (λ (rest : Answers). (way.taken ++ at.0) ++ rest.items) last.0 ∙ append-nil (way.taken ++ at.0) in
+              let items =
+              all-items (answers_of text) way.taken at.0 at.1 way.ahead way.whole at.2
+              ∙ ap (λ (rest : Answers). (way.taken ++ at.0) ++ rest.items) last.0 ∙ append-nil (way.taken ++ at.0) in
               by_halt (length (answers_of text).items) (halt.Row fault) (way.taken ++ at.0) after code
               (inl (all-fault (answers_of text) way.taken at.0 at.1 way.ahead way.whole at.2 ∙ ap (λ (rest : Answers). rest.fault) last.0, refl))
               (take-length (answers_of text).items ∙ items) (sealed-passed way.taken at.0 at.2.0) prints

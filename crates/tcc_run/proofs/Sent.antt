@@ -40,7 +40,8 @@ abbrev kept_given : Option Answer → Result (Option Answer) ℕ
 kept_given kept = Ok kept
 
 -- the answer of what was said last is given again
-pub given_again : (next last : Last) (kept : Option Answer) → kept ≡ answer_in next.outcome → given next ≡ given last → kept_given kept ≡ kept_given (answer_in last.outcome)
+pub given_again : (next last : Last) (kept : Option Answer) → kept ≡ answer_in next.outcome → given next ≡ given last
+    → kept_given kept ≡ kept_given (answer_in last.outcome)
 given_again next last kept answer again = let same : next ≡ last = cc again in ap kept_given (answer ∙ ap (λ (l : Last). answer_in l.outcome) same)
 
 -- what was worked out, or was said last, is to be said of the snapshot

@@ -115,7 +115,8 @@ fn answer_seal<W: Write, G: Gate>(
     requires earlier { IfSome last (Follows options.level snapshot.now) }
     ensures earlier { IfOk result (Follows options.level snapshot.now) }
     ensures said { IsStill options.level snapshot.now last
-        → MatchResult result (SaysLast options snapshot.now (W.contents out.old) (W.contents out.new)) (EndsAnswering options snapshot.now (W.contents out.old) (W.contents out.new)) }
+        → MatchResult result (SaysLast options snapshot.now (W.contents out.old) (W.contents out.new))
+        (EndsAnswering options snapshot.now (W.contents out.old) (W.contents out.new)) }
 {
     let said = renew(rt, alloc, snapshot, last, options, gate, out)?;
     said.outcome.send(alloc, options.json, out)?;
@@ -135,9 +136,11 @@ fn answer_last<W: Write, G: Gate>(
 ) -> Result<Option<Answer>, u8>
     requires workers { (0 < options.workers) × (options.workers ≤ 32) }
     requires earlier { IfSome last (Follows options.level snapshot.now) }
-    ensures said { IfSome last (λ last. last.transactions ≡ transaction_count snapshot.now → (W.contents out.new ≡ W.contents out.old) × (result ≡ Ok (answer_in last.outcome))) }
+    ensures said { IfSome last (λ last. last.transactions ≡ transaction_count snapshot.now → (W.contents out.new ≡ W.contents out.old)
+        × (result ≡ Ok (answer_in last.outcome))) }
     ensures due { IfSome last (λ last. last.transactions ≢ transaction_count snapshot.now)
-        → MatchResult result (AnswersKept options snapshot.now (W.contents out.old) (W.contents out.new)) (EndsAnswering options snapshot.now (W.contents out.old) (W.contents out.new)) }
+        → MatchResult result (AnswersKept options snapshot.now (W.contents out.old) (W.contents out.new))
+        (EndsAnswering options snapshot.now (W.contents out.old) (W.contents out.new)) }
 {
     let due = is_due(&last, transaction_count(snapshot));
     let last = renew(rt, alloc, snapshot, last, options, gate, out)?;
@@ -158,8 +161,10 @@ fn answer_all<R: Read + Drop, W: Write, G: Gate>(
     out: &mut W,
 ) -> Result<Option<Answer>, u8>
     requires workers { (0 < options.workers) × (options.workers ≤ 32) }
-    ensures { (bytes : List ℕ) → IsRecording R.remaining recording.old [] (answers_of bytes) → IsWithin R.remaining recording.old.rows (records_of bytes) → fault_met recording.old.rows ≡ None
-        → MatchResult result (AllAnswered options bytes (W.contents out.old) (W.contents out.new)) (EndsEarly options bytes (W.contents out.old) (W.contents out.new)) }
+    ensures { (bytes : List ℕ) → IsRecording R.remaining recording.old [] (answers_of bytes) → IsWithin R.remaining recording.old.rows (records_of bytes)
+        → fault_met recording.old.rows ≡ None
+        → MatchResult result (AllAnswered options bytes (W.contents out.old) (W.contents out.new))
+        (EndsEarly options bytes (W.contents out.old) (W.contents out.new)) }
 {
     let mut last: Option<Last> = None;
     'moments: for _turn in 0..u64::MAX {
@@ -190,7 +195,8 @@ fn answer_records<R: Read + Drop, W: Write, G: Gate>(
     out: &mut W,
 ) -> Result<Option<Answer>, u8>
     requires workers { (0 < options.workers) × (options.workers ≤ 32) }
-    ensures { IfSome (R.remaining reader) (λ bytes. MatchResult result (AllAnswered options bytes (W.contents out.old) (W.contents out.new)) (EndsEarly options bytes (W.contents out.old) (W.contents out.new))) }
+    ensures { IfSome (R.remaining reader) (λ bytes. MatchResult result (AllAnswered options bytes (W.contents out.old) (W.contents out.new))
+        (EndsEarly options bytes (W.contents out.old) (W.contents out.new))) }
 {
     match Recording::new(alloc, reader) {
         Ok(recording) => {
@@ -247,7 +253,8 @@ pub fn run_explain<R: Read + Drop, W: Write, C: Write, G: Gate>(
     gate: &G,
 ) -> u8
     requires workers { (0 < options.workers) × (options.workers ≤ 32) }
-    ensures { IfSome (R.remaining reader) (λ bytes. IsRun options bytes (W.contents out.old) (W.contents out.new) (option_map C.contents certificate.old) (option_map C.contents certificate.new) result) }
+    ensures { IfSome (R.remaining reader) (λ bytes. IsRun options bytes (W.contents out.old) (W.contents out.new) (option_map C.contents certificate.old)
+        (option_map C.contents certificate.new) result) }
 {
     match answer_records(rt, alloc, reader, options, gate, out) {
         Ok(last) => conclude(&last, certificate, options, out),

@@ -1,5 +1,7 @@
 -- Each step on the deque of starts keeps the rule, and what it tells follows from the rule.
-use Rattle.std.proofs.Common.{◌≡◌, ◌≢◌, ◌<◌, ◌+◌, ℕ, zero, suc, true, List, [], ◌∷◌, ◌++◌, length, length-set, length-append, set, nat_lt, if◌then◌else◌, refl, sym, ap, subst, ⊎_elim, arith}
+use Rattle.std.proofs.Common.{◌≡◌, ◌≢◌, ◌<◌, ◌+◌, ℕ, zero, suc, true, List, [], ◌∷◌, ◌++◌, length}
+use Rattle.std.proofs.Common.{length-set, length-append, set, nat_lt, if◌then◌else◌, refl, sym, ap, subst}
+use Rattle.std.proofs.Common.{⊎_elim, arith}
 use Rattle.std.proofs.lemmas.Bool.{false≢true}
 use Rattle.std.proofs.lemmas.Bool.Decides.{nat_tests}
 use Rattle.std.proofs.lemmas.List.Elements.{All-nil, All-cons}
@@ -17,9 +19,11 @@ below_length [] pass view at = absurd (some-ne-none view (sym at))
 below_length (v ∷ views) zero view at = omega arith
 below_length (v ∷ views) (suc pass) view at = let rest = below_length views pass view at in omega arith
 
-taken_set : (x : ℕ) (views : List Taken) (pass : ℕ) (old new : Taken) → get_elem? views pass ≡ some old → times_taken x (set views pass new) + times x old.starts ≡ times_taken x views + times x new.starts
+taken_set : (x : ℕ) (views : List Taken) (pass : ℕ) (old new : Taken) → get_elem? views pass ≡ some old
+    → times_taken x (set views pass new) + times x old.starts ≡ times_taken x views + times x new.starts
 taken_set x [] pass old new at = absurd (some-ne-none old (sym at))
-taken_set x (v ∷ views) zero old new at = let same : times x v.starts ≡ times x old.starts = ap (λ (u : Taken). times x u.starts) (some-injective v old at) in omega arith
+taken_set x (v ∷ views) zero old new at = let same : times x v.starts ≡ times x old.starts =
+    ap (λ (u : Taken). times x u.starts) (some-injective v old at) in omega arith
 taken_set x (v ∷ views) (suc pass) old new at = let rest = taken_set x views pass old new at in omega arith
 
 taken_last : (x : ℕ) (views : List Taken) (new : Taken) → times_taken x (views ++ new ∷ []) ≡ times_taken x views + times x new.starts
@@ -35,11 +39,14 @@ run_last first [] x run is = (omega (arith, is), tt)
 run_last first (y ∷ xs) x run is = (run.0, run_last (first + 1) xs x run.1 (omega (arith, is)))
 
 -- a fact of one view, and of each other
-each_set : (P : Taken → Type 0) (views : List Taken) (pass : ℕ) (new : Taken) → P new → ((j : ℕ) (u : Taken) → j ≢ pass → get_elem? views j ≡ some u → P u) → (j : ℕ) (u : Taken) → get_elem? (set views pass new) j ≡ some u → P u
+each_set : (P : Taken → Type 0) (views : List Taken) (pass : ℕ) (new : Taken) → P new → ((j : ℕ) (u : Taken) → j ≢ pass → get_elem? views j ≡ some u → P u)
+    → (j : ℕ) (u : Taken) → get_elem? (set views pass new) j ≡ some u → P u
 each_set P views pass new mine others j u at =
-    ⊎_elim (λ (t : (j ≡ pass) × (new ≡ u)). subst P t.1 mine) (λ (t : (j ≢ pass) × (get_elem? views j ≡ some u)). others j u t.0 t.1) (at_set views pass j new u at)
+    ⊎_elim (λ (t : (j ≡ pass) × (new ≡ u)). subst P t.1 mine) (λ (t : (j ≢ pass) × (get_elem? views j ≡ some u)). others j u t.0 t.1)
+    (at_set views pass j new u at)
 
-each_last : (P : Taken → Type 0) (views : List Taken) (new : Taken) → P new → ((j : ℕ) (u : Taken) → get_elem? views j ≡ some u → P u) → (j : ℕ) (u : Taken) → get_elem? (views ++ new ∷ []) j ≡ some u → P u
+each_last : (P : Taken → Type 0) (views : List Taken) (new : Taken) → P new → ((j : ℕ) (u : Taken) → get_elem? views j ≡ some u → P u) → (j : ℕ) (u : Taken)
+    → get_elem? (views ++ new ∷ []) j ≡ some u → P u
 each_last P views new mine others j u at =
     ⊎_elim (λ (t : get_elem? views j ≡ some u). others j u t) (λ (t : new ≡ u). subst P t mine) (at_snoc views new u j at)
 
@@ -65,7 +72,8 @@ begins = record {
     one P is zero u at = subst P (some-injective dealer u at) is
     one P is (suc j) u at = absurd (some-ne-none u (sym at))
 
-pub pushes : (pass : ℕ) (view : Taken) (x : ℕ) → view.deals ≡ true → view.live ≡ true → x ≡ view.pushed → tasks.Pushes IsDealt pass view (x ∷ []) (Pushes view (x ∷ []))
+pub pushes : (pass : ℕ) (view : Taken) (x : ℕ) → view.deals ≡ true → view.live ≡ true → x ≡ view.pushed
+    → tasks.Pushes IsDealt pass view (x ∷ []) (Pushes view (x ∷ []))
 pushes pass view x deals live is items views h at =
     let new : Taken = record view { pushed = view.pushed + 1 } in
     let all : view.pushed ≡ h.first + length items = h.known pass view at live in
@@ -74,7 +82,9 @@ pushes pass view x deals live is items views h at =
       record {
         first = h.first;
         run = run_last h.first items x h.run (omega (arith, is, all));
-        known = each_set (λ u. u.live ≡ true → u.pushed ≡ h.first + length (items ++ x ∷ [])) views pass new (λ _. omega (arith, all, length-append items (x ∷ []))) (λ j u apart there _. absurd (no_other views pass j view u one at there apart));
+        known =
+            each_set (λ u. u.live ≡ true → u.pushed ≡ h.first + length (items ++ x ∷ [])) views pass new
+            (λ _. omega (arith, all, length-append items (x ∷ []))) (λ j u apart there _. absurd (no_other views pass j view u one at there apart));
         alone = λ j u there _. omega (arith, one, length-set views pass new);
         once = λ y. let same = taken_set y views pass view new at in let old = h.once y in omega arith;
       },
@@ -96,9 +106,15 @@ takes pass view live (x ∷ []) items views long few h at =
       record {
         first = h.first + 1;
         run = h.run.1;
-        known = each_set (λ u. u.live ≡ true → u.pushed ≡ h.first + 1 + length items) views pass new (λ _. omega (arith, all)) (λ j u apart there alive. omega (arith, h.known j u there alive));
-        alone = each_set (λ u. u.deals ≡ true → length (set views pass new) ≡ 1) views pass new (λ deals. omega (arith, h.alone pass view at deals, length-set views pass new)) (λ j u apart there deals. omega (arith, h.alone j u there deals, length-set views pass new));
-        once = λ y. let same = taken_set y views pass view new at in let old = h.once y in let more = times_append y view.starts (x ∷ []) in let next = one_more y h.first in let is : times y (x ∷ []) ≡ times y (h.first ∷ []) = ap (λ (k : ℕ). times y (k ∷ [])) here in omega arith;
+        known =
+            each_set (λ u. u.live ≡ true → u.pushed ≡ h.first + 1 + length items) views pass new (λ _. omega (arith, all))
+            (λ j u apart there alive. omega (arith, h.known j u there alive));
+        alone =
+            each_set (λ u. u.deals ≡ true → length (set views pass new) ≡ 1) views pass new
+            (λ deals. omega (arith, h.alone pass view at deals, length-set views pass new))
+            (λ j u apart there deals. omega (arith, h.alone j u there deals, length-set views pass new));
+        once = λ y. let same = taken_set y views pass view new at in let old = h.once y in let more = times_append y view.starts (x ∷ []) in let next =
+            one_more y h.first in let is : times y (x ∷ []) ≡ times y (h.first ∷ []) = ap (λ (k : ℕ). times y (k ∷ [])) here in omega arith;
       },
       (refl, All-cons (λ z. z < view.pushed) x [] (omega (arith, all, here)) (All-nil (λ z. z < view.pushed))),
     )
@@ -113,11 +129,14 @@ forks pass view items views h at =
     let Known : Taken → Type 0 = λ u. u.live ≡ true → u.pushed ≡ h.first + length items in
     let Quiet : Taken → Type 0 = λ u. u.deals ≡ true → ⊥ in
     let quiet : (j : ℕ) (u : Taken) → get_elem? (set views pass left ++ right ∷ []) j ≡ some u → Quiet u =
-    each_last Quiet (set views pass left) right (λ e. false≢true e) (each_set Quiet views pass left (λ e. false≢true e) (λ j u apart there deals. no_other views pass j view u (h.alone j u there deals) at there apart)) in
+    each_last Quiet (set views pass left) right (λ e. false≢true e)
+    (each_set Quiet views pass left (λ e. false≢true e) (λ j u apart there deals. no_other views pass j view u (h.alone j u there deals) at there apart)) in
     record {
       first = h.first;
       run = h.run;
-      known = each_last Known (set views pass left) right (λ live. h.known pass view at live) (each_set Known views pass left (λ live. h.known pass view at live) (λ j u apart there live. h.known j u there live));
+      known =
+          each_last Known (set views pass left) right (λ live. h.known pass view at live)
+          (each_set Known views pass left (λ live. h.known pass view at live) (λ j u apart there live. h.known j u there live));
       alone = λ j u there deals. absurd (quiet j u there deals);
       once = λ x. let same = taken_set x views pass view left at in let more = taken_last x (set views pass left) right in let old = h.once x in omega arith;
     }

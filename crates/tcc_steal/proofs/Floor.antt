@@ -1,5 +1,7 @@
 -- The floor of the bound: no cycle costs less, and it is what some cycle costs, or there is none.
-use Rattle.std.proofs.Common.{◌≡◌, ◌<◌, ◌≤◌, ◌+◌, ◌-◌, ◌==◌, ◌⊎◌, ◌&&◌, ℕ, zero, suc, Bool, true, false, inl, inr, List, [], ◌∷◌, length, Option, None, Some, cond, nat_lt, refl, sym, ◌∙◌, ap, subst, le_trans, arith}
+use Rattle.std.proofs.Common.{◌≡◌, ◌<◌, ◌≤◌, ◌+◌, ◌-◌, ◌==◌, ◌⊎◌, ◌&&◌, ℕ, zero, suc, Bool, true, false, inl, inr}
+use Rattle.std.proofs.Common.{List, [], ◌∷◌, length, Option, None, Some, cond, nat_lt, refl, sym, ◌∙◌, ap, subst}
+use Rattle.std.proofs.Common.{le_trans, arith}
 use Rattle.std.specs.List.{list_any}
 use Rattle.std.proofs.lemmas.Bool.{false≢true, cond_both, cases_order, or_cases, or_left, or_right, and_parts, eqb-true, eq-eqb, ltb-true, ltb-false, lt-ltb}
 use Rattle.tcc_reads.specs.History.{count}
@@ -36,19 +38,23 @@ below_any p (suc n) k l t = go (λ lower. below_any p n k lower t) (cases_order 
 
 first_most : (n : ℕ) (p : ℕ → Bool) → first_below n p ≤ n
 first_most zero p = omega arith
-first_most (suc n) p = let rest = first_most n (λ k. p (suc k)) in cond_both (p zero) zero (suc (first_below n (λ k. p (suc k)))) (λ z. z ≤ suc n) (λ e. omega arith) (λ e. omega arith)
+first_most (suc n) p = let rest =
+    first_most n (λ k. p (suc k)) in cond_both (p zero) zero (suc (first_below n (λ k. p (suc k)))) (λ z. z ≤ suc n) (λ e. omega arith) (λ e. omega arith)
 
 first_found : (n : ℕ) (p : ℕ → Bool) → (first_below n p ≡ n) ⊎ (p (first_below n p) ≡ true)
 first_found zero p = inl refl
-first_found (suc n) p = cond_both (p zero) zero (suc (first_below n (λ k. p (suc k)))) (λ z. (z ≡ suc n) ⊎ (p z ≡ true)) (λ e. inr e) (λ e. go (first_found n (λ k. p (suc k))))
+first_found (suc n) p =
+    cond_both (p zero) zero (suc (first_below n (λ k. p (suc k)))) (λ z. (z ≡ suc n) ⊎ (p z ≡ true)) (λ e. inr e) (λ e. go (first_found n (λ k. p (suc k))))
   where
-    go : (first_below n (λ k. p (suc k)) ≡ n) ⊎ (p (suc (first_below n (λ k. p (suc k)))) ≡ true) → (suc (first_below n (λ k. p (suc k))) ≡ suc n) ⊎ (p (suc (first_below n (λ k. p (suc k)))) ≡ true)
+    go : (first_below n (λ k. p (suc k)) ≡ n) ⊎ (p (suc (first_below n (λ k. p (suc k)))) ≡ true)
+        → (suc (first_below n (λ k. p (suc k))) ≡ suc n) ⊎ (p (suc (first_below n (λ k. p (suc k)))) ≡ true)
     go (inl most) = inl (ap suc most)
     go (inr found) = inr found
 
 first_least : (n : ℕ) (p : ℕ → Bool) (k : ℕ) → p k ≡ true → first_below n p ≤ k
 first_least zero p k t = omega arith
-first_least (suc n) p zero t = cond_both (p zero) zero (suc (first_below n (λ k. p (suc k)))) (λ z. z ≤ zero) (λ e. omega arith) (λ e. absurd (false≢true (sym e ∙ t)))
+first_least (suc n) p zero t =
+    cond_both (p zero) zero (suc (first_below n (λ k. p (suc k)))) (λ z. z ≤ zero) (λ e. omega arith) (λ e. absurd (false≢true (sym e ∙ t)))
 first_least (suc n) p (suc k) t =
     let rest = first_least n (λ i. p (suc i)) k t in
     cond_both (p zero) zero (suc (first_below n (λ k. p (suc k)))) (λ z. z ≤ suc k) (λ e. omega arith) (λ e. omega arith)
@@ -60,12 +66,16 @@ past true r e = absurd (false≢true e)
 past false r e = (refl, e)
 
 -- cheapest links that lead are links that lead
-leads_links : (j : Judged) (t : Tables) → IsPricesOf j t → (k u v c : ℕ) → u < count j.history → leads t k u v c ≡ true → (links : List Link) × LinksLead j u v links × (cost links ≡ c)
+leads_links : (j : Judged) (t : Tables) → IsPricesOf j t → (k u v c : ℕ) → u < count j.history → leads t k u v c ≡ true
+    → (links : List Link) × LinksLead j u v links × (cost links ≡ c)
 leads_links j t is zero u v c low e = let w = and_parts (u == v) (c == 0) e in ([], eqb-true u v w.0, sym (eqb-true c 0 w.1))
-leads_links j t is (suc k) u v c low e = go (or_cases ((u == v) && (c == 0)) (list_any (λ w. after_step (cost_at t u w) (λ left. leads t k w v left) c) (below (length t.prices))) e)
+leads_links j t is (suc k) u v c low e =
+    go (or_cases ((u == v) && (c == 0)) (list_any (λ w. after_step (cost_at t u w) (λ left. leads t k w v left) c) (below (length t.prices))) e)
     (λ w left less goes. leads_links j t is k w v left less goes)
   where
-    on : ((w left : ℕ) → w < count j.history → leads t k w v left ≡ true → (links : List Link) × LinksLead j w v links × (cost links ≡ left)) → (w : ℕ) → w < count j.history → (o : Option ℕ) → IsCost j u w o → after_step o (λ left. leads t k w v left) c ≡ true → (links : List Link) × LinksLead j u v links × (cost links ≡ c)
+    on : ((w left : ℕ) → w < count j.history → leads t k w v left ≡ true → (links : List Link) × LinksLead j w v links × (cost links ≡ left)) → (w : ℕ)
+        → w < count j.history → (o : Option ℕ) → IsCost j u w o → after_step o (λ left. leads t k w v left) c ≡ true
+        → (links : List Link) × LinksLead j u v links × (cost links ≡ c)
     on rest w less None is_cost x = absurd (false≢true x)
     on rest w less (Some d) is_cost x =
         let (fits, goes) = past (nat_lt c d) (leads t k w v (c - d)) x in
@@ -74,7 +84,9 @@ leads_links j t is (suc k) u v c low e = go (or_cases ((u == v) && (c == 0)) (li
         let (links, lead, left) = rest w (c - d) less goes in
         (l ∷ links, (of.from, of.link, subst (λ (z : ℕ). LinksLead j z v links) (sym of.to) lead), omega (arith, cost_cons l links))
 
-    go : (((u == v) && (c == 0)) ≡ true) ⊎ (list_any (λ w. after_step (cost_at t u w) (λ left. leads t k w v left) c) (below (length t.prices)) ≡ true) → ((w left : ℕ) → w < count j.history → leads t k w v left ≡ true → (links : List Link) × LinksLead j w v links × (cost links ≡ left)) → (links : List Link) × LinksLead j u v links × (cost links ≡ c)
+    go : (((u == v) && (c == 0)) ≡ true) ⊎ (list_any (λ w. after_step (cost_at t u w) (λ left. leads t k w v left) c) (below (length t.prices)) ≡ true)
+        → ((w left : ℕ) → w < count j.history → leads t k w v left ≡ true → (links : List Link) × LinksLead j w v links × (cost links ≡ left))
+        → (links : List Link) × LinksLead j u v links × (cost links ≡ c)
     go (inl here) rest = let w = and_parts (u == v) (c == 0) here in ([], eqb-true u v w.0, sym (eqb-true c 0 w.1))
     go (inr there) rest =
         let (w, less, x) = any_below (λ w. after_step (cost_at t u w) (λ left. leads t k w v left) c) (length t.prices) there in
@@ -104,27 +116,33 @@ cheap j t is u v [] lead = record { paid = 0; low = omega arith; long = omega ar
   where
     here : (k : ℕ) → 0 ≤ k → leads t k u v 0 ≡ true
     here zero l = both_true (u == v) (0 == 0) (eq-eqb u v lead) refl
-    here (suc k) l = or_left ((u == v) && (0 == 0)) (list_any (λ w. after_step (cost_at t u w) (λ left. leads t k w v left) 0) (below (length t.prices))) (both_true (u == v) (0 == 0) (eq-eqb u v lead) refl)
+    here (suc k) l =
+        or_left ((u == v) && (0 == 0)) (list_any (λ w. after_step (cost_at t u w) (λ left. leads t k w v left) 0) (below (length t.prices)))
+        (both_true (u == v) (0 == 0) (eq-eqb u v lead) refl)
 cheap j t is u v (l ∷ links) lead =
     let ends = link_below j l lead.1 in
     let low : u < count j.history = subst (λ (z : ℕ). z < count j.history) lead.0 ends.0 in
     on (cost_at t u (link_to l)) refl (is.costed u (link_to l) low ends.1) (cheap j t is (link_to l) v links lead.2)
   where
-    on : (o : Option ℕ) → cost_at t u (link_to l) ≡ o → IsCost j u (link_to l) o → Cheap t (link_to l) v (cost links) (length links) → Cheap t u v (cost (l ∷ links)) (length (l ∷ links))
+    on : (o : Option ℕ) → cost_at t u (link_to l) ≡ o → IsCost j u (link_to l) o → Cheap t (link_to l) v (cost links) (length links)
+        → Cheap t u v (cost (l ∷ links)) (length (l ∷ links))
     on None at none rest = absurd (none l (record { from = lead.0; to = refl; link = lead.1 }))
     on (Some d) at is_cost rest =
         let most : d ≤ link_cost l = is_cost.least l (record { from = lead.0; to = refl; link = lead.1 }) in
         let some : 1 ≤ d = let (other, of, costs) = is_cost.attained in omega (arith, some_cost other) in
         let paid : ℕ = d + rest.paid in
         let left : paid - d ≡ rest.paid = omega arith in
-        let goes : (k : ℕ) → length (l ∷ links) ≤ k → leads t k u v paid ≡ true = λ k long. step d at paid (not_less paid d (omega arith)) k (rest.paid) left long (λ i few. rest.leads i few) in
+        let goes : (k : ℕ) → length (l ∷ links) ≤ k → leads t k u v paid ≡ true =
+        λ k long. step d at paid (not_less paid d (omega arith)) k (rest.paid) left long (λ i few. rest.leads i few) in
         record { paid = paid; low = omega (arith, cost_cons l links, rest.low); long = omega (arith, rest.long); leads = goes }
       where
-        step : (d : ℕ) → cost_at t u (link_to l) ≡ Some d → (paid : ℕ) → nat_lt paid d ≡ false → (k left : ℕ) → paid - d ≡ left → length (l ∷ links) ≤ k → ((i : ℕ) → length links ≤ i → leads t i (link_to l) v left ≡ true) → leads t k u v paid ≡ true
+        step : (d : ℕ) → cost_at t u (link_to l) ≡ Some d → (paid : ℕ) → nat_lt paid d ≡ false → (k left : ℕ) → paid - d ≡ left → length (l ∷ links) ≤ k
+            → ((i : ℕ) → length links ≤ i → leads t i (link_to l) v left ≡ true) → leads t k u v paid ≡ true
         step d at paid fits zero left rest_is long rest = absurd (omega arith)
         step d at paid fits (suc k) left rest_is long rest =
             let less : link_to l < length t.prices = omega (arith, is.prices.long, (link_below j l lead.1).1) in
-            let here : after_step (cost_at t u (link_to l)) (λ left. leads t k (link_to l) v left) paid ≡ true = rw (at, fits, rest_is) (rest k (omega arith)) in
+            let here : after_step (cost_at t u (link_to l)) (λ left. leads t k (link_to l) v left) paid ≡ true =
+            rw (at, fits, rest_is) (rest k (omega arith)) in
             or_right ((u == v) && (paid == 0)) (list_any (λ w. after_step (cost_at t u w) (λ left. leads t k w v left) paid) (below (length t.prices)))
             (below_any (λ w. after_step (cost_at t u w) (λ left. leads t k w v left) paid) (length t.prices) (link_to l) less here)
 
@@ -146,8 +164,12 @@ cost_of j t is s links cycle =
     let w = cheap j t is s s links cycle.1 in
     let c : ℕ = w.paid in
     let some : nat_lt 0 c ≡ true = positive c (omega (arith, w.long, cycle.0)) in
-    let less : s < length t.prices = omega (arith, is.prices.long, route_below j s s links cycle) in
-    (c, w.low, both_true (nat_lt 0 c) (list_any (λ s. leads t c s s c) (below (length t.prices))) some (below_any (λ s. leads t c s s c) (length t.prices) s less (w.leads c w.long)))
+    let less : s < length t.prices = omega (arith, is.prices.long, route_below j s s links cycle) in (
+      c,
+      w.low,
+      both_true (nat_lt 0 c) (list_any (λ s. leads t c s s c) (below (length t.prices))) some
+          (below_any (λ s. leads t c s s c) (length t.prices) s less (w.leads c w.long)),
+    )
   where
     positive : (c : ℕ) → 0 < c → nat_lt 0 c ≡ true
     positive c l = lt-ltb 0 c l

@@ -1,5 +1,7 @@
 -- Searches that workers bring back, in any order, and the places that they have by their starts.
-use Rattle.std.proofs.Common.{◌≡◌, ◌<◌, ◌++◌, ◌⊎◌, inl, inr, ℕ, zero, suc, List, [], ◌∷◌, length, set, replicate, get_or, All, Option, None, Some, slice_get, refl, sym, ◌∙◌, ap, subst}
+use Rattle.std.proofs.Common.{◌≡◌, ◌<◌, ◌++◌, ◌⊎◌, inl, inr, ℕ, zero, suc, List, [], ◌∷◌, length, set}
+use Rattle.std.proofs.Common.{replicate, get_or, All, Option, None, Some, slice_get, refl, sym, ◌∙◌, ap}
+use Rattle.std.proofs.Common.subst
 use Rattle.std.proofs.lemmas.List.Elements.{All-push, All-weaker}
 use Rattle.std.proofs.lemmas.Option.{slice_get_read}
 use Rattle.tcc_derive.specs.Prices.{Tables}
@@ -16,13 +18,15 @@ one_search a b same = cc
 
 module _ (t : Tables) (workers : ℕ) where
   pub knows_more : (old new : Known) → KnowsMore old new → (e : Searched) → IsSearched t workers old e → IsSearched t workers new e
-  knows_more old new more e is = record { start = is.start; worker = is.worker; done = λ j priced. ended_more j old new e.start (whole_row e.start e.row.items) more (is.done j priced) }
+  knows_more old new more e is =
+      record { start = is.start; worker = is.worker; done = λ j priced. ended_more j old new e.start (whole_row e.start e.row.items) more (is.done j priced) }
 
   pub all_more : (old new : Known) → KnowsMore old new → (es : List Searched) → All (IsSearched t workers old) es → All (IsSearched t workers new) es
   all_more old new more es all = All-weaker (IsSearched t workers old) (IsSearched t workers new) (knows_more old new more) es all
 
   -- one search more, made when more was known
-  pub one_more : (old new : Known) → KnowsMore old new → (es : List Searched) (e : Searched) → All (IsSearched t workers old) es → IsSearched t workers new e → All (IsSearched t workers new) (es ++ e ∷ [])
+  pub one_more : (old new : Known) → KnowsMore old new → (es : List Searched) (e : Searched) → All (IsSearched t workers old) es
+      → IsSearched t workers new e → All (IsSearched t workers new) (es ++ e ∷ [])
   one_more old new more es e all is = All-push (IsSearched t workers new) es e (all_more old new more es all) is
 
   pub kept_more : (old new : Known) → KnowsMore old new → (places : List (Option Searched)) → AreKept t workers old places → AreKept t workers new places
@@ -43,7 +47,8 @@ module _ (t : Tables) (workers : ℕ) where
       none_at (suc n) (suc k) at = none_at n k at
 
   -- what stands at a place once one is set
-  at_place : (places : List (Option Searched)) (i k : ℕ) (o : Option Searched) (e : Searched) → slice_get (set places i o) k ≡ Some (Some e) → ((k ≡ i) × (o ≡ Some e)) ⊎ (slice_get places k ≡ Some (Some e))
+  at_place : (places : List (Option Searched)) (i k : ℕ) (o : Option Searched) (e : Searched) → slice_get (set places i o) k ≡ Some (Some e)
+      → ((k ≡ i) × (o ≡ Some e)) ⊎ (slice_get places k ≡ Some (Some e))
   at_place [] i k o e at = inr at
   at_place (p ∷ places) zero zero o e at = inl (refl, inside o at)
     where
@@ -57,14 +62,16 @@ module _ (t : Tables) (workers : ℕ) where
       go (inl here) = inl (ap suc here.0, here.1)
       go (inr there) = inr there
 
-  pub kept_emptied : (known : Known) (places : List (Option Searched)) (i : ℕ) (o : Option Searched) → o ≡ None → AreKept t workers known places → AreKept t workers known (set places i o)
+  pub kept_emptied : (known : Known) (places : List (Option Searched)) (i : ℕ) (o : Option Searched) → o ≡ None → AreKept t workers known places
+      → AreKept t workers known (set places i o)
   kept_emptied known places i o none kept k e at = go (at_place places i k o e at)
     where
       go : ((k ≡ i) × (o ≡ Some e)) ⊎ (slice_get places k ≡ Some (Some e)) → (e.start ≡ k) × IsSearched t workers known e
       go (inl here) = absurd (no_search e (sym none ∙ here.1))
       go (inr there) = kept k e there
 
-  pub kept_filled : (known : Known) (places : List (Option Searched)) (i : ℕ) (o : Option Searched) (x : Searched) → o ≡ Some x → x.start ≡ i → IsSearched t workers known x → AreKept t workers known places → AreKept t workers known (set places i o)
+  pub kept_filled : (known : Known) (places : List (Option Searched)) (i : ℕ) (o : Option Searched) (x : Searched) → o ≡ Some x → x.start ≡ i
+      → IsSearched t workers known x → AreKept t workers known places → AreKept t workers known (set places i o)
   kept_filled known places i o x some start is kept k e at = go (at_place places i k o e at)
     where
       go : ((k ≡ i) × (o ≡ Some e)) ⊎ (slice_get places k ≡ Some (Some e)) → (e.start ≡ k) × IsSearched t workers known e
@@ -72,5 +79,7 @@ module _ (t : Tables) (workers : ℕ) where
       go (inr there) = kept k e there
 
   -- the search that stands at a place
-  pub kept_at : (known : Known) (places : List (Option Searched)) (i : ℕ) (o : Option Searched) (e : Searched) → AreKept t workers known places → i < length places → o ≡ get_or places i o → o ≡ Some e → (e.start ≡ i) × IsSearched t workers known e
-  kept_at known places i o e kept inside here some = kept i e (slice_get_read places (length places) i o refl inside here ∙ ap (λ (x : Option Searched). Some x) some)
+  pub kept_at : (known : Known) (places : List (Option Searched)) (i : ℕ) (o : Option Searched) (e : Searched) → AreKept t workers known places
+      → i < length places → o ≡ get_or places i o → o ≡ Some e → (e.start ≡ i) × IsSearched t workers known e
+  kept_at known places i o e kept inside here some =
+      kept i e (slice_get_read places (length places) i o refl inside here ∙ ap (λ (x : Option Searched). Some x) some)

@@ -1,5 +1,6 @@
 -- Rows of searches that have ended, and what a search does on its way there.
-use Rattle.std.proofs.Common.{◌≡◌, ◌<◌, ◌≤◌, ◌+◌, ◌==◌, ℕ, zero, suc, List, [], ◌∷◌, length, drop, Option, None, Some, Contains, refl, sym, ◌∙◌, ap, subst, arith}
+use Rattle.std.proofs.Common.{◌≡◌, ◌<◌, ◌≤◌, ◌+◌, ◌==◌, ℕ, zero, suc, List, [], ◌∷◌, length, drop}
+use Rattle.std.proofs.Common.{Option, None, Some, Contains, refl, sym, ◌∙◌, ap, subst, arith}
 use Rattle.std.proofs.lemmas.Bool.{cond_both, eqb-true, eqb-false}
 use Rattle.tcc_txn.specs.declared.limits.TheConstants.{MAX_COUNT}
 use Rattle.tcc_reads.specs.History.{count}
@@ -52,7 +53,8 @@ pub length_whole : (s : ℕ) (row : List (Option ℕ)) → length (whole_row s r
 length_whole zero row = omega arith
 length_whole (suc s) row = omega (arith, length_whole s row)
 
-pub ended_upward : (j : Judged) (known : Known) (s : ℕ) (row : List (Option ℕ)) → s < length row → HasEnded j known s row → HasEnded j known s (whole_row s (drop s row))
+pub ended_upward : (j : Judged) (known : Known) (s : ℕ) (row : List (Option ℕ)) → s < length row → HasEnded j known s row
+    → HasEnded j known s (whole_row s (drop s row))
 ended_upward j known s row fits ended =
     subst (HasEnded j known s) (sym (whole s row (omega arith) (below_outside j s row ended.exact))) ended
 
@@ -60,10 +62,14 @@ ended_upward j known s row fits ended =
 
 within_more : (a b c : ℕ) → a ≤ b → b < 18446744073709551616 → IsWithin (cap_of a) c → IsWithin (cap_of b) c
 within_more a b c low small =
-    cond_both (b == 18446744073709551615) None (Some b) (λ o. IsWithin (cap_of a) c → IsWithin o c) (λ e within. tt) (λ e. over (eqb-false b 18446744073709551615 e))
+    cond_both (b == 18446744073709551615) None (Some b) (λ o. IsWithin (cap_of a) c → IsWithin o c) (λ e within. tt)
+    (λ e. over (eqb-false b 18446744073709551615 e))
   where
     over : (b ≡ 18446744073709551615 → ⊥) → IsWithin (cap_of a) c → c ≤ b
-    over other = cond_both (a == 18446744073709551615) None (Some a) (λ o. IsWithin o c → c ≤ b) (λ e within. let top : a ≡ 18446744073709551615 = eqb-true a 18446744073709551615 e in absurd (other (omega arith))) (λ e within. let less : c ≤ a = within in omega arith)
+    over other =
+        cond_both (a == 18446744073709551615) None (Some a) (λ o. IsWithin o c → c ≤ b)
+        (λ e within. let top : a ≡ 18446744073709551615 = eqb-true a 18446744073709551615 e in absurd (other (omega arith)))
+        (λ e within. let less : c ≤ a = within in omega arith)
 
 pub ended_more : (j : Judged) (old new : Known) (s : ℕ) (row : List (Option ℕ)) → KnowsMore old new → HasEnded j old s row → HasEnded j new s row
 ended_more j old new s row more ended = record {
@@ -88,7 +94,8 @@ route_ends_below : (j : Judged) (s v : ℕ) (links : List Link) → IsRoute j s 
 route_ends_below j s v [] (some, lead) = absurd (omega arith)
 route_ends_below j s v (l ∷ links) (some, lead) = ends_below j s v l links lead
 
-pub on_more : (j : Judged) (s cap n : ℕ) (old new : Search) → IsOn j s n old → IsSearchOf j s new → Settles j s cap old.row new.row settled.More → IsOn j s (n + 1) new
+pub on_more : (j : Judged) (s cap n : ℕ) (old new : Search) → IsOn j s n old → IsSearchOf j s new → Settles j s cap old.row new.row settled.More
+    → IsOn j s (n + 1) new
 on_more j s cap n old new on is settles = record { search_of = is; outside = still_outside j s cap old.row new.row settles on.outside; many = many settles }
   where
     many : Settles j s cap old.row new.row settled.More → n + 1 ≤ count_joined new.row + 1
@@ -112,7 +119,8 @@ returned_cost j s cap c old new joins =
 no_other : (a b : ℕ) → Some a ≡ Some b → a ≡ b
 no_other a b e = cc
 
-pub ended_returned : (j : Judged) (s cap c : ℕ) (old : List (Option ℕ)) (new : Search) (known : Known) → IsSearchOf j s new → Settles j s cap old new.row (settled.Returned c) → Contains known.offers c → HasEnded j known s new.row
+pub ended_returned : (j : Judged) (s cap c : ℕ) (old : List (Option ℕ)) (new : Search) (known : Known) → IsSearchOf j s new
+    → Settles j s cap old new.row (settled.Returned c) → Contains known.offers c → HasEnded j known s new.row
 ended_returned j s cap c old new known is settles offered =
     let finished = finished_returned j s cap c old new (record { finished = []; offers = known.offers; sight = None }) is settles offered in
     let back : in_row new.row s ≡ Some c = finished.stopped.0 in
@@ -125,7 +133,8 @@ ended_returned j s cap c old new known is settles offered =
     not_both : (c : ℕ) → Some c ≡ None → ⊥
     not_both c e = cc
 
-pub ended_cut : (j : Judged) (s cap k n : ℕ) (old new : Search) (known : Known) → cap ≡ known.sight → IsOn j s n old → IsSearchOf j s new → Settles j s cap old.row new.row (settled.Cut k) → HasEnded j known s new.row
+pub ended_cut : (j : Judged) (s cap k n : ℕ) (old new : Search) (known : Known) → cap ≡ known.sight → IsOn j s n old → IsSearchOf j s new
+    → Settles j s cap old.row new.row (settled.Cut k) → HasEnded j known s new.row
 ended_cut j s cap k n old new known seen on is (same, kept, past) =
     let out : in_row new.row s ≡ None = ap (λ (row : List (Option ℕ)). in_row row s) kept ∙ on.outside in
     record {

@@ -1,5 +1,7 @@
 -- What the workers brought settles the cost of a least cycle, and what is told of it is so.
-use Rattle.std.proofs.Common.{◌≡◌, ◌≢◌, ◌<◌, ◌≤◌, ◌+◌, ◌-◌, ◌==◌, ◌⊎◌, inl, inr, ℕ, zero, suc, List, [], ◌∷◌, ◌++◌, append-nil, length, map, drop, get_or, Option, None, Some, All, Contains, refl, sym, ◌∙◌, ap, subst, arith}
+use Rattle.std.proofs.Common.{◌≡◌, ◌≢◌, ◌<◌, ◌≤◌, ◌+◌, ◌-◌, ◌==◌, ◌⊎◌, inl, inr, ℕ, zero, suc, List, [], ◌∷◌, ◌++◌}
+use Rattle.std.proofs.Common.{append-nil, length, map, drop, get_or, Option, None, Some, All, Contains, refl, sym, ◌∙◌, ap}
+use Rattle.std.proofs.Common.{subst, arith}
 use Rattle.std.specs.Prelude.{slice_index_or}
 use Rattle.std.proofs.lemmas.Bool.{cond_both, eqb-true, eqb-false}
 use Rattle.std.proofs.lemmas.List.{length-map}
@@ -16,7 +18,9 @@ use Rattle.tcc_bound.specs.Seated.{BoundId, Seated}
 use Rattle.tcc_bound.specs.Knowing.{IsAtMostAll}
 use Rattle.tcc_bound.specs.declared.known.Known.{Known}
 use Rattle.tcc_core.specs.Rows.{in_row, cap_of}
-use Rattle.tcc_core.specs.Shares.{Share, Finished, Stop, Returned, Cut, IsNotAbove, IsStopped, IsFinished, IsCycleCost, IsNotBelowLeast, starts_of, EachFinished, SettleAt, capped, IsCappedDistance}
+use Rattle.tcc_core.specs.Shares.{Share, Finished, Stop, Returned, Cut, IsNotAbove, IsStopped, IsFinished}
+use Rattle.tcc_core.specs.Shares.{IsCycleCost, IsNotBelowLeast, starts_of, EachFinished, SettleAt, capped}
+use Rattle.tcc_core.specs.Shares.IsCappedDistance
 use Rattle.tcc_core.proofs.Settlement.{least_cycle, capped_rows, returned_starts}
 use Rattle.tcc_steal.specs.Findings.{IsFirst, IsFound}
 use Rattle.tcc_steal.specs.Floors.{least_cost}
@@ -28,29 +32,39 @@ use Rattle.tcc_steal.proofs.Rows.{drop_whole, in_whole, length_whole, ended_more
 
 -- ---- searches in order
 
-pub searches_at : (t : Tables) (workers : ℕ) (known : Known) (s : ℕ) (es : List Searched) → AreSearches t workers known s es → (k : ℕ) (d : Searched) → k < length es → ((get_or es k d).start ≡ s + k) × IsSearched t workers known (get_or es k d)
+pub searches_at : (t : Tables) (workers : ℕ) (known : Known) (s : ℕ) (es : List Searched) → AreSearches t workers known s es → (k : ℕ) (d : Searched)
+    → k < length es → ((get_or es k d).start ≡ s + k) × IsSearched t workers known (get_or es k d)
 searches_at t workers known s [] are k d l = absurd (omega arith)
 searches_at t workers known s (e ∷ es) are zero d l = (omega (arith, are.0), are.1)
 searches_at t workers known s (e ∷ es) are (suc k) d l = let w = searches_at t workers known (s + 1) es are.2 k d (omega arith) in (omega (arith, w.0), w.1)
 
-searches_know : (t : Tables) (workers : ℕ) (old new : Known) (s : ℕ) (es : List Searched) → KnowsMore old new → AreSearches t workers old s es → AreSearches t workers new s es
+searches_know : (t : Tables) (workers : ℕ) (old new : Known) (s : ℕ) (es : List Searched) → KnowsMore old new → AreSearches t workers old s es
+    → AreSearches t workers new s es
 searches_know t workers old new s [] more are = tt
 searches_know t workers old new s (e ∷ es) more are = (
   are.0,
-  record { start = are.1.start; worker = are.1.worker; done = λ j priced. ended_more j old new e.start (whole_row e.start e.row.items) more (are.1.done j priced) },
+  record {
+    start = are.1.start;
+    worker = are.1.worker;
+    done = λ j priced. ended_more j old new e.start (whole_row e.start e.row.items) more
+        (are.1.done j priced);
+  },
   searches_know t workers old new (s + 1) es more are.2,
 )
 
-searches_last : (t : Tables) (workers : ℕ) (known : Known) (s : ℕ) (es : List Searched) (e : Searched) → AreSearches t workers known s es → e.start ≡ s + length es → IsSearched t workers known e → AreSearches t workers known s (es ++ e ∷ [])
+searches_last : (t : Tables) (workers : ℕ) (known : Known) (s : ℕ) (es : List Searched) (e : Searched) → AreSearches t workers known s es
+    → e.start ≡ s + length es → IsSearched t workers known e → AreSearches t workers known s (es ++ e ∷ [])
 searches_last t workers known s [] e are start is = (omega (arith, start), is, tt)
 searches_last t workers known s (x ∷ es) e are start is = (are.0, are.1, searches_last t workers known (s + 1) es e are.2 (omega (arith, start)) is)
 
 -- one search more, made when more was known
-pub searches_more : (t : Tables) (workers : ℕ) (old new : Known) (es : List Searched) (e : Searched) → KnowsMore old new → AreSearches t workers old 0 es → e.start ≡ length es → IsSearched t workers new e → AreSearches t workers new 0 (es ++ e ∷ [])
+pub searches_more : (t : Tables) (workers : ℕ) (old new : Known) (es : List Searched) (e : Searched) → KnowsMore old new → AreSearches t workers old 0 es
+    → e.start ≡ length es → IsSearched t workers new e → AreSearches t workers new 0 (es ++ e ∷ [])
 searches_more t workers old new es e more are start is =
     searches_last t workers new 0 es e (searches_know t workers old new 0 es more are) (omega (arith, start)) is
 
-starts_in : (t : Tables) (workers : ℕ) (known : Known) (es : List Searched) → AreSearches t workers known 0 es → (f : Searched → ℕ) → ((e : Searched) → f e ≡ e.start) → (n : ℕ) → length es ≡ n → IsNumbering n (map f es)
+starts_in : (t : Tables) (workers : ℕ) (known : Known) (es : List Searched) → AreSearches t workers known 0 es → (f : Searched → ℕ)
+    → ((e : Searched) → f e ≡ e.start) → (n : ℕ) → length es ≡ n → IsNumbering n (map f es)
 starts_in t workers known es are f is n long = record {
   below = λ k d inside. let w = at k d inside in omega (arith, w, length-map es f);
   each = λ a low. (a, omega (arith, length-map es f), at a a (omega (arith, length-map es f)));
@@ -72,7 +86,8 @@ stop_of sight None = Cut (cap_of sight)
 stop_of sight (Some c) = Returned c
 
 abbrev pub finished_of : Known → Searched → Finished
-finished_of known e = record { start = e.start; row = whole_row e.start e.row.items; stop = stop_of known.sight (in_row (whole_row e.start e.row.items) e.start) }
+finished_of known e =
+    record { start = e.start; row = whole_row e.start e.row.items; stop = stop_of known.sight (in_row (whole_row e.start e.row.items) e.start) }
 
 abbrev pub share_of : Known → List Searched → Share
 share_of known es = record { finished = map (finished_of known) es; offers = known.offers; sight = cap_of known.sight }
@@ -81,19 +96,28 @@ not_above_itself : (o : Option ℕ) → IsNotAbove o o
 not_above_itself None = tt
 not_above_itself (Some c) = omega arith
 
-stopped : (j : Judged) (share : Share) (known : Known) (s : ℕ) (row : List (Option ℕ)) → share.offers ≡ known.offers → share.sight ≡ cap_of known.sight → HasEnded j known s row → (o : Option ℕ) → in_row row s ≡ o → IsStopped j share s row (stop_of known.sight o)
-stopped j share known s row same seen ended None out = (subst (λ (o : Option ℕ). IsNotAbove o (cap_of known.sight)) (sym seen) (not_above_itself (cap_of known.sight)), out, ended.cut out)
+stopped : (j : Judged) (share : Share) (known : Known) (s : ℕ) (row : List (Option ℕ)) → share.offers ≡ known.offers → share.sight ≡ cap_of known.sight
+    → HasEnded j known s row → (o : Option ℕ) → in_row row s ≡ o → IsStopped j share s row (stop_of known.sight o)
+stopped j share known s row same seen ended None out =
+    (subst (λ (o : Option ℕ). IsNotAbove o (cap_of known.sight)) (sym seen) (not_above_itself (cap_of known.sight)), out, ended.cut out)
 stopped j share known s row same seen ended (Some c) back = (back, subst (λ (offers : List ℕ). Contains offers c) (sym same) (ended.returned c back))
 
-finished_is : (j : Judged) (t : Tables) (workers : ℕ) (known : Known) (es : List Searched) (e : Searched) → IsPricesOf j t → IsSearched t workers known e → IsFinished j (share_of known es) (finished_of known e)
+finished_is : (j : Judged) (t : Tables) (workers : ℕ) (known : Known) (es : List Searched) (e : Searched) → IsPricesOf j t → IsSearched t workers known e
+    → IsFinished j (share_of known es) (finished_of known e)
 finished_is j t workers known es e priced is =
     let ended = is.done j priced in
-    record { row = ended.exact; stopped = stopped j (share_of known es) known e.start (whole_row e.start e.row.items) refl refl ended (in_row (whole_row e.start e.row.items) e.start) refl }
+    record {
+      row = ended.exact;
+      stopped = stopped j (share_of known es) known e.start (whole_row e.start e.row.items) refl refl ended
+          (in_row (whole_row e.start e.row.items) e.start) refl;
+    }
 
 -- a fact of each search is one of each that is finished
-each_of : (t : Tables) (workers : ℕ) (known : Known) (P : Finished → Type 0) (s : ℕ) (es : List Searched) → AreSearches t workers known s es → ((e : Searched) → IsSearched t workers known e → P (finished_of known e)) → All P (map (finished_of known) es)
+each_of : (t : Tables) (workers : ℕ) (known : Known) (P : Finished → Type 0) (s : ℕ) (es : List Searched) → AreSearches t workers known s es
+    → ((e : Searched) → IsSearched t workers known e → P (finished_of known e)) → All P (map (finished_of known) es)
 each_of t workers known P s [] are holds = All-nil P
-each_of t workers known P s (e ∷ es) are holds = All-cons P (finished_of known e) (map (finished_of known) es) (holds e are.1) (each_of t workers known P (s + 1) es are.2 holds)
+each_of t workers known P s (e ∷ es) are holds =
+    All-cons P (finished_of known e) (map (finished_of known) es) (holds e are.1) (each_of t workers known P (s + 1) es are.2 holds)
 
 one_share : (P : Share → Type 0) (share : Share) → P share → All P (share ∷ [])
 one_share P share holds = All-cons P share [] holds (All-nil P)
@@ -104,16 +128,23 @@ starts_are known (e ∷ es) = ap (λ (l : List ℕ). e.start ∷ l) (starts_are 
 
 -- a number of 64 bits that is at most another is not above it, none being the greatest
 not_above : (w n : ℕ) → w ≤ n → n < 18446744073709551616 → IsNotAbove (cap_of w) (cap_of n)
-not_above w n low small = cond_both (n == 18446744073709551615) None (Some n) (λ o. IsNotAbove (cap_of w) o) (λ e. tt) (λ e. under (eqb-false n 18446744073709551615 e))
+not_above w n low small =
+    cond_both (n == 18446744073709551615) None (Some n) (λ o. IsNotAbove (cap_of w) o) (λ e. tt) (λ e. under (eqb-false n 18446744073709551615 e))
   where
     under : (n ≡ 18446744073709551615 → ⊥) → IsNotAbove (cap_of w) (Some n)
-    under other = cond_both (w == 18446744073709551615) None (Some w) (λ o. IsNotAbove o (Some n)) (λ e. let top : w ≡ 18446744073709551615 = eqb-true w 18446744073709551615 e in absurd (other (omega arith))) (λ e. low)
+    under other =
+        cond_both (w == 18446744073709551615) None (Some w) (λ o. IsNotAbove o (Some n))
+        (λ e. let top : w ≡ 18446744073709551615 = eqb-true w 18446744073709551615 e in absurd (other (omega arith))) (λ e. low)
 
 not_above_cost : (w c : ℕ) → w ≤ c → c < 4294967296 → IsNotAbove (cap_of w) (Some c)
-not_above_cost w c low small = cond_both (w == 18446744073709551615) None (Some w) (λ o. IsNotAbove o (Some c)) (λ e. let top : w ≡ 18446744073709551615 = eqb-true w 18446744073709551615 e in absurd (omega arith)) (λ e. low)
+not_above_cost w c low small =
+    cond_both (w == 18446744073709551615) None (Some w) (λ o. IsNotAbove o (Some c))
+    (λ e. let top : w ≡ 18446744073709551615 = eqb-true w 18446744073709551615 e in absurd (omega arith)) (λ e. low)
 
 not_below : (j : Judged) (t : Tables) (w : ℕ) → IsPricesOf j t → least_cost t ≤ w → w < 18446744073709551616 → IsNotBelowLeast j (cap_of w)
-not_below j t w priced above small = cond_both (w == 18446744073709551615) None (Some w) (IsNotBelowLeast j) (λ e. tt) (λ e. some (eqb-false w 18446744073709551615 e) (floor_attained j t priced))
+not_below j t w priced above small =
+    cond_both (w == 18446744073709551615) None (Some w) (IsNotBelowLeast j) (λ e. tt)
+    (λ e. some (eqb-false w 18446744073709551615 e) (floor_attained j t priced))
   where
     some : (w ≡ 18446744073709551615 → ⊥) → (least_cost t ≡ 18446744073709551615) ⊎ IsCycleCost j (least_cost t) → IsNotBelowLeast j (Some w)
     some other (inl none) = absurd (other (omega arith))
@@ -126,18 +157,27 @@ pub record IsLast (t : Tables) (known : Known) (word : ℕ) : Type 0 where
   pub small : word < 18446744073709551616
 
 -- it is at most all that a seat knows, and not below its floor
-pub last_of : (t : Tables) (known : Known) (word : ℕ) → known.floor ≡ least_cost t → IsAtMostAll word known → known.floor ≤ word → word < 18446744073709551616 → IsLast t known word
+pub last_of : (t : Tables) (known : Known) (word : ℕ) → known.floor ≡ least_cost t → IsAtMostAll word known → known.floor ≤ word
+    → word < 18446744073709551616 → IsLast t known word
 last_of t known word floor most above small = record { most = most; above = omega (arith, floor, above); small = small }
 
-pub settled : (j : Judged) (t : Tables) (workers : ℕ) (id : BoundId) (seat : Seated) (es : List Searched) (word : ℕ) → IsPricesOf j t → IsSeat t id seat → IsLast t seat.known word → AreSearches t workers seat.known 0 es → length es ≡ length t.prices → SettleAt j (share_of seat.known es ∷ []) (cap_of word)
+pub settled : (j : Judged) (t : Tables) (workers : ℕ) (id : BoundId) (seat : Seated) (es : List Searched) (word : ℕ) → IsPricesOf j t → IsSeat t id seat
+    → IsLast t seat.known word → AreSearches t workers seat.known 0 es → length es ≡ length t.prices → SettleAt j (share_of seat.known es ∷ []) (cap_of word)
 settled j t workers id seat es word priced at last are long =
     let known = seat.known in
     let share = share_of known es in
-    let starts : starts_of (share ∷ []) ≡ map (λ (e : Searched). e.start) es = append-nil (map (λ f. f.start) (map (finished_of known) es)) ∙ starts_are known es in
+    let starts : starts_of (share ∷ []) ≡ map (λ (e : Searched). e.start) es =
+    append-nil (map (λ f. f.start) (map (finished_of known) es)) ∙ starts_are known es in
     record {
-      once = subst (IsNumbering (count j.history)) (sym starts) (starts_in t workers known es are (λ (e : Searched). e.start) (λ e. refl) (count j.history) (omega (arith, long, priced.prices.long)));
-      finished = one_share (λ share. All (IsFinished j share) share.finished) share (each_of t workers known (IsFinished j share) 0 es are (λ e is. finished_is j t workers known es e priced is));
-      offered = one_share (λ share. All (IsCycleCost j) share.offers) share (All-weaker (λ c. IsCycleCost j c × (c < 4294967296)) (IsCycleCost j) (λ c both. both.0) known.offers (at.offers j priced));
+      once =
+          subst (IsNumbering (count j.history)) (sym starts)
+          (starts_in t workers known es are (λ (e : Searched). e.start) (λ e. refl) (count j.history) (omega (arith, long, priced.prices.long)));
+      finished =
+          one_share (λ share. All (IsFinished j share) share.finished) share
+          (each_of t workers known (IsFinished j share) 0 es are (λ e is. finished_is j t workers known es e priced is));
+      offered =
+          one_share (λ share. All (IsCycleCost j) share.offers) share
+          (All-weaker (λ c. IsCycleCost j c × (c < 4294967296)) (IsCycleCost j) (λ c both. both.0) known.offers (at.offers j priced));
       below_offers = one_share (λ share. All (λ c. IsNotAbove (cap_of word) (Some c)) share.offers) share
           (λ k d inside. not_above_cost word (get_or known.offers k d) (last.most.1 k d inside) (at.offers j priced k d inside).1);
       below_sights = one_share (λ share. IsNotAbove (cap_of word) share.sight) share (not_above word known.sight last.most.0 at.sight);
@@ -158,7 +198,8 @@ pub row_here : (es : List Searched) (k : ℕ) (e : Searched) → k < length es �
 row_here es k e l here = map_at (λ (x : Searched). x.row.items) es k [] e l ∙ ap (λ (x : Searched). x.row.items) (sym here)
 
 -- searches of all starts that settle at a word
-module _ (j : Judged) (t : Tables) (workers : ℕ) (known : Known) (es : List Searched) (word : Option ℕ) (priced : IsPricesOf j t) (are : AreSearches t workers known 0 es) (long : length es ≡ length t.prices) (settle : SettleAt j (share_of known es ∷ []) word) where
+module _ (j : Judged) (t : Tables) (workers : ℕ) (known : Known) (es : List Searched) (word : Option ℕ) (priced : IsPricesOf j t)
+    (are : AreSearches t workers known 0 es) (long : length es ≡ length t.prices) (settle : SettleAt j (share_of known es ∷ []) word) where
   ended_at : (s : ℕ) (e : Searched) → s < length es → get_or es s e ≡ e → (e.start ≡ s) × HasEnded j known s (whole_row s e.row.items)
   ended_at s e l here =
       let w = searches_at t workers known 0 es are s e l in
@@ -212,10 +253,12 @@ module _ (j : Judged) (t : Tables) (workers : ℕ) (known : Known) (es : List Se
       same : (c b : ℕ) → Returned c ≡ Returned b → c ≡ b
       same c b e = cc
 
-  all_of : (P : Finished → Type 0) → EachFinished (share_of known es ∷ []) P → (s : ℕ) (e : Searched) → s < length es → ((d : Searched) → get_or es s d ≡ e) → P (finished_of known e)
+  all_of : (P : Finished → Type 0) → EachFinished (share_of known es ∷ []) P → (s : ℕ) (e : Searched) → s < length es → ((d : Searched) → get_or es s d ≡ e)
+      → P (finished_of known e)
   all_of P each s e l here =
       let all : All P (map (finished_of known) es) = All-head (λ (share : Share). All P share.finished) (share_of known es) [] each in
-      subst P (map_at (finished_of known) es s (finished_of known e) e l ∙ ap (finished_of known) (here e)) (all s (finished_of known e) (omega (arith, length-map es (finished_of known))))
+      subst P (map_at (finished_of known) es s (finished_of known e) e l ∙ ap (finished_of known) (here e))
+      (all s (finished_of known e) (omega (arith, length-map es (finished_of known))))
 
   returned_at : (b s : ℕ) → word ≡ Some b → s < length es → IsDistance j s s b → CameBack es s b × Contains known.offers b
   returned_at b s some l distance =
@@ -236,8 +279,14 @@ module _ (j : Judged) (t : Tables) (workers : ℕ) (known : Known) (es : List Se
       let settle_b : SettleAt j (share_of known es ∷ []) (Some b) = subst (SettleAt j (share_of known es ∷ [])) some settle in
       let (s, links, cycle, costs) = least_cycle j (share_of known es ∷ []) b settle_b in
       let turned = turn_lowest j s links cycle.cycle in
-      let low : turned.lowest < length es = omega (arith, route_below j turned.lowest turned.lowest turned.turned turned.route.0, priced.prices.long, long) in
-      (turned.lowest, low, record { attained = (turned.turned, turned.route, turned.costs ∙ costs); least = λ others other. omega (arith, costs, cycle.least turned.lowest others other.0) })
+      let low : turned.lowest < length es = omega (arith, route_below j turned.lowest turned.lowest turned.turned turned.route.0, priced.prices.long, long) in (
+        turned.lowest,
+        low,
+        record {
+          attained = (turned.turned, turned.route, turned.costs ∙ costs);
+          least = λ others other. omega (arith, costs, cycle.least turned.lowest others other.0);
+        },
+      )
 
   pub least_offered : (b : ℕ) → word ≡ Some b → Contains known.offers b
   least_offered b some = let (s, low, distance) = least_start b some in (returned_at b s some low distance).1
@@ -251,27 +300,33 @@ module _ (j : Judged) (t : Tables) (workers : ℕ) (known : Known) (es : List Se
     λ k less distance. is.2 k less (returned_at b k some (omega (arith, is.0)) distance).0,
   )
 
-  rows_at : (rows : List (List (Option ℕ))) → rows ≡ map (map (capped word)) (rows_of es) → (s : ℕ) → s < length es → (w : IsAt s) → row_of rows s ≡ map (capped word) w.search.row.items
+  rows_at : (rows : List (List (Option ℕ))) → rows ≡ map (map (capped word)) (rows_of es) → (s : ℕ) → s < length es → (w : IsAt s)
+      → row_of rows s ≡ map (capped word) w.search.row.items
   rows_at rows e s l w =
       let inside : s < length (rows_of es) = omega (arith, length-map es (λ (x : Searched). x.row.items)) in
       ap (λ (r : List (List (Option ℕ))). row_of r s) e ∙ (map_at (map (capped word)) (rows_of es) s [] [] inside ∙ ap (map (capped word)) w.row_is)
 
-  exact_at : (rows : List (List (Option ℕ))) → rows ≡ map (map (capped word)) (rows_of es) → (s v : ℕ) → s ≤ v → v < count j.history → IsCappedDistance j s v word (slice_index_or (row_of rows s) (v - s) None)
+  exact_at : (rows : List (List (Option ℕ))) → rows ≡ map (map (capped word)) (rows_of es) → (s v : ℕ) → s ≤ v → v < count j.history
+      → IsCappedDistance j s v word (slice_index_or (row_of rows s) (v - s) None)
   exact_at rows e s v up below =
       let l : s < length es = omega (arith, long, priced.prices.long) in
       let w = at_place s l in
       let row = w.search.row.items in
       let P : Finished → Type 0 = λ f. (v : ℕ) → IsCappedDistance j f.start v word (capped word (in_row f.row v)) in
-      let all : IsCappedDistance j w.search.start v word (capped word (in_row (whole_row w.search.start row) v)) = all_of P (capped_rows j (share_of known es ∷ []) word settle) s w.search l w.here v in
-      let here : IsCappedDistance j s v word (capped word (in_row (whole_row s row) v)) = subst (λ (k : ℕ). IsCappedDistance j k v word (capped word (in_row (whole_row k row) v))) w.start all in
+      let all : IsCappedDistance j w.search.start v word (capped word (in_row (whole_row w.search.start row) v)) =
+      all_of P (capped_rows j (share_of known es ∷ []) word settle) s w.search l w.here v in
+      let here : IsCappedDistance j s v word (capped word (in_row (whole_row s row) v)) =
+      subst (λ (k : ℕ). IsCappedDistance j k v word (capped word (in_row (whole_row k row) v))) w.start all in
       let same : s + (v - s) ≡ v = omega arith in
       let entry : in_row (whole_row s row) v ≡ in_row row (v - s) = ap (in_row (whole_row s row)) (sym same) ∙ in_whole s (v - s) row in
       let wide : length (whole_row s row) ≡ count j.history = w.ended.exact.long in
       let inside : v - s < length row = omega (arith, length_whole s row, wide) in
-      let cell : slice_index_or (row_of rows s) (v - s) None ≡ capped word (in_row row (v - s)) = ap (λ (r : List (Option ℕ)). slice_index_or r (v - s) None) (rows_at rows e s l w) ∙ map_at (capped word) row (v - s) None None inside in
+      let cell : slice_index_or (row_of rows s) (v - s) None ≡ capped word (in_row row (v - s)) =
+      ap (λ (r : List (Option ℕ)). slice_index_or r (v - s) None) (rows_at rows e s l w) ∙ map_at (capped word) row (v - s) None None inside in
       subst (IsCappedDistance j s v word) (ap (capped word) entry ∙ sym cell) here
 
-  places_at : (rows : List (List (Option ℕ))) → rows ≡ map (map (capped word)) (rows_of es) → (s : ℕ) → s < count j.history → length (row_of rows s) ≡ count j.history - s
+  places_at : (rows : List (List (Option ℕ))) → rows ≡ map (map (capped word)) (rows_of es) → (s : ℕ) → s < count j.history
+      → length (row_of rows s) ≡ count j.history - s
   places_at rows e s below =
       let l : s < length es = omega (arith, long, priced.prices.long) in
       let w = at_place s l in
@@ -279,7 +334,8 @@ module _ (j : Judged) (t : Tables) (workers : ℕ) (known : Known) (es : List Se
       let wide : length (whole_row s row) ≡ count j.history = w.ended.exact.long in
       omega (arith, ap (λ (r : List (Option ℕ)). length r) (rows_at rows e s l w), length-map row (capped word), length_whole s row, wide)
 
-  each_row : (rows : List (List (Option ℕ))) → rows ≡ map (map (capped word)) (rows_of es) → EachFinished (share_of known es ∷ []) (λ f. row_of rows f.start ≡ map (capped word) (drop f.start f.row))
+  each_row : (rows : List (List (Option ℕ))) → rows ≡ map (map (capped word)) (rows_of es)
+      → EachFinished (share_of known es ∷ []) (λ f. row_of rows f.start ≡ map (capped word) (drop f.start f.row))
   each_row rows e = one_share (λ share. All P share.finished) (share_of known es) (λ i d inside.
       let l : i < length es = omega (arith, length-map es (finished_of known)) in
       let w = at_place i l in
@@ -291,16 +347,32 @@ module _ (j : Judged) (t : Tables) (workers : ℕ) (known : Known) (es : List Se
       P : Finished → Type 0
       P f = row_of rows f.start ≡ map (capped word) (drop f.start f.row)
 
-  pub found_is : (found : Found) → found.least ≡ word → IsFirstBack es word found.first → found.rows.items ≡ map (map (capped word)) (rows_of es) → found.starts.items ≡ map (λ (e : Searched). (e.worker, e.start)) es → IsFound j workers found
+  pub found_is : (found : Found) → found.least ≡ word → IsFirstBack es word found.first → found.rows.items ≡ map (map (capped word)) (rows_of es)
+      → found.starts.items ≡ map (λ (e : Searched). (e.worker, e.start)) es → IsFound j workers found
   found_is found least first rows starts = record {
     shares = share_of known es ∷ [];
     settle = subst (SettleAt j (share_of known es ∷ [])) (sym least) settle;
-    long = omega (arith, ap (λ (r : List (List (Option ℕ))). length r) rows, length-map (rows_of es) (map (capped word)), length-map es (λ (x : Searched). x.row.items), long, priced.prices.long);
-    rows = subst (λ (o : Option ℕ). EachFinished (share_of known es ∷ []) (λ f. row_of found.rows.items f.start ≡ map (capped o) (drop f.start f.row))) (sym least) (each_row found.rows.items rows);
+    long =
+        omega (
+          arith,
+          ap (λ (r : List (List (Option ℕ))). length r) rows,
+          length-map (rows_of es) (map (capped word)),
+          length-map es (λ (x : Searched). x.row.items),
+          long,
+          priced.prices.long,
+        );
+    rows =
+        subst (λ (o : Option ℕ). EachFinished (share_of known es ∷ []) (λ f. row_of found.rows.items f.start ≡ map (capped o) (drop f.start f.row)))
+        (sym least) (each_row found.rows.items rows);
     places = places_at found.rows.items rows;
-    exact = λ s v up below. subst (λ (o : Option ℕ). IsCappedDistance j s v o (slice_index_or (row_of found.rows.items s) (v - s) None)) (sym least) (exact_at found.rows.items rows s v up below);
+    exact =
+        λ s v up below. subst (λ (o : Option ℕ). IsCappedDistance j s v o (slice_index_or (row_of found.rows.items s) (v - s) None)) (sym least)
+        (exact_at found.rows.items rows s v up below);
     first = subst (λ (o : Option ℕ). IsFirst j o found.first) (sym least) (first_is found.first word refl first);
-    once = subst (λ (l : List (ℕ × ℕ)). IsNumbering (count j.history) (map (λ p. p.1) l)) (sym starts) (subst (IsNumbering (count j.history)) (sym (seconds es)) (starts_in t workers known es are (λ (e : Searched). e.start) (λ e. refl) (count j.history) (omega (arith, long, priced.prices.long))));
+    once =
+        subst (λ (l : List (ℕ × ℕ)). IsNumbering (count j.history) (map (λ p. p.1) l)) (sym starts)
+        (subst (IsNumbering (count j.history)) (sym (seconds es))
+        (starts_in t workers known es are (λ (e : Searched). e.start) (λ e. refl) (count j.history) (omega (arith, long, priced.prices.long))));
     by = subst (All (λ (p : ℕ × ℕ). p.0 < workers)) (sym starts) (numbers 0 es are);
   }
     where
@@ -308,9 +380,11 @@ module _ (j : Judged) (t : Tables) (workers : ℕ) (known : Known) (es : List Se
       seconds [] = refl
       seconds (e ∷ xs) = ap (λ (l : List ℕ). e.start ∷ l) (seconds xs)
 
-      numbers : (s : ℕ) (xs : List Searched) → AreSearches t workers known s xs → All (λ (p : ℕ × ℕ). p.0 < workers) (map (λ (e : Searched). (e.worker, e.start)) xs)
+      numbers : (s : ℕ) (xs : List Searched) → AreSearches t workers known s xs
+          → All (λ (p : ℕ × ℕ). p.0 < workers) (map (λ (e : Searched). (e.worker, e.start)) xs)
       numbers s [] are = All-nil (λ (p : ℕ × ℕ). p.0 < workers)
-      numbers s (e ∷ xs) are = All-cons (λ (p : ℕ × ℕ). p.0 < workers) (e.worker, e.start) (map (λ (e : Searched). (e.worker, e.start)) xs) are.1.worker (numbers (s + 1) xs are.2)
+      numbers s (e ∷ xs) are =
+          All-cons (λ (p : ℕ × ℕ). p.0 < workers) (e.worker, e.start) (map (λ (e : Searched). (e.worker, e.start)) xs) are.1.worker (numbers (s + 1) xs are.2)
 
 cap_some : (w : ℕ) → w ≢ 18446744073709551615 → cap_of w ≡ Some w
 cap_some w other = cond_both (w == 18446744073709551615) None (Some w) (λ o. o ≡ Some w) (λ e. absurd (other (eqb-true w 18446744073709551615 e))) (λ e. refl)
@@ -320,13 +394,18 @@ both_maps g [] = refl
 both_maps g (e ∷ es) = ap (λ (l : List (List (Option ℕ))). map g e.row.items ∷ l) (both_maps g es)
 
 -- one worker's or many workers' searches, at the last word of the bound
-module _ (j : Judged) (t : Tables) (workers : ℕ) (id : BoundId) (seat : Seated) (es : List Searched) (word : ℕ) (priced : IsPricesOf j t) (at : IsSeat t id seat) (last : IsLast t seat.known word) (are : AreSearches t workers seat.known 0 es) (long : length es ≡ length t.prices) where
+module _ (j : Judged) (t : Tables) (workers : ℕ) (id : BoundId) (seat : Seated) (es : List Searched) (word : ℕ) (priced : IsPricesOf j t)
+    (at : IsSeat t id seat) (last : IsLast t seat.known word) (are : AreSearches t workers seat.known 0 es) (long : length es ≡ length t.prices) where
   pub word_fits : word ≢ 18446744073709551615 → word < 4294967296
   word_fits other =
-      let here = least_offered j t workers seat.known es (cap_of word) priced are long (settled j t workers id seat es word priced at last are long) word (cap_some word other) in
+      let here =
+      least_offered j t workers seat.known es (cap_of word) priced are long (settled j t workers id seat es word priced at last are long) word
+      (cap_some word other) in
       (All-contains (λ c. IsCycleCost j c × (c < 4294967296)) seat.known.offers word (at.offers j priced) here).1
 
-  pub found_at : (least : Option ℕ) (found : Found) → least ≡ cap_of word → found.least ≡ least → IsFirstBack es least found.first → found.rows.items ≡ map (λ (e : Searched). map (capped least) e.row.items) es → found.starts.items ≡ map (λ (e : Searched). (e.worker, e.start)) es → IsFound j workers found
+  pub found_at : (least : Option ℕ) (found : Found) → least ≡ cap_of word → found.least ≡ least → IsFirstBack es least found.first
+      → found.rows.items ≡ map (λ (e : Searched). map (capped least) e.row.items) es → found.starts.items ≡ map (λ (e : Searched). (e.worker, e.start)) es
+      → IsFound j workers found
   found_at least found same is first rows starts =
       found_is j t workers seat.known es (cap_of word) priced are long (settled j t workers id seat es word priced at last are long) found (is ∙ same)
       (subst (λ (o : Option ℕ). IsFirstBack es o found.first) same first)

@@ -44,7 +44,8 @@ fn jobs(
     requires taker { IsTaker (length _prices.now.prices) (worker_view owner.old) }
     requires thieves { AreThieves _workers thieves.now }
     ensures seat { seat.new ≡ seat.old }
-    ensures owner { OnOk result ((worker_deque owner.new ≡ worker_deque owner.old) × (worker_flavor owner.new ≡ worker_flavor owner.old) × IsTaker (length _prices.now.prices) (worker_view owner.new)) }
+    ensures owner { OnOk result ((worker_deque owner.new ≡ worker_deque owner.old) × (worker_flavor owner.new ≡ worker_flavor owner.old)
+        × IsTaker (length _prices.now.prices) (worker_view owner.new)) }
     ensures jobs { IfOk result (λ jobs. AreJobs _prices.now bound.now (worker_deque owner.old) _workers jobs.items) }
 {
     let mut jobs = Vec::new(alloc);
@@ -124,7 +125,8 @@ pub(crate) fn shares_of_many<R: Threads + Sync, G: Gate, C: Crew>(
     let (own, others) = thread::join(
         rt,
         move || -> Result<Share, NoMemory>
-            requires { HasJudged prices.now × (worker_flavor owner ≡ 0) × IsTaker (length prices.now.prices) (worker_view owner) × IsWorker prices.now bound.now worker × (worker.number < _workers) }
+            requires { HasJudged prices.now × (worker_flavor owner ≡ 0) × IsTaker (length prices.now.prices) (worker_view owner)
+                × IsWorker prices.now bound.now worker × (worker.number < _workers) }
             ensures { IfOk result (IsShare prices.entry.now bound.entry.now _workers) }
         {
             let hand = Hand::Owner(owner);

@@ -1,5 +1,7 @@
 -- The answers that are still to come, after one more record.
-use Rattle.std.proofs.Common.{◌≡◌, ℕ, zero, suc, ◌+◌, ◌^◌, ◌<◌, ◌≤◌, ◌⊎◌, List, [], ◌∷◌, length, take, Option, None, Some, Result, Ok, Err, refl, sym, ap, ◌∙◌, arith, inl, inr, length-append, length-take, true, false, Bool, cond}
+use Rattle.std.proofs.Common.{◌≡◌, ℕ, zero, suc, ◌+◌, ◌^◌, ◌<◌, ◌≤◌, ◌⊎◌, List, [], ◌∷◌, length, take, Option, None, Some}
+use Rattle.std.proofs.Common.{Result, Ok, Err, refl, sym, ap, ◌∙◌, arith, inl, inr, length-append, length-take, true, false}
+use Rattle.std.proofs.Common.{Bool, cond}
 use Rattle.std.specs.Prelude.{IfErr, IfOk, IfSome, OnOk}
 use Rattle.std.proofs.lemmas.Bool.{cases_lt}
 use Rattle.std.proofs.Math.Logic.{⊎_elim}
@@ -67,7 +69,8 @@ length-marked limit text = ⊎_elim long short (cases_lt limit (length text))
 few-records : (text : List ℕ) → length (records_of text) + 1 < 2 ^ 64
 few-records text =
     let cut = marked MAX_INPUT_BYTES text in
-    let turns : length (records_of text) ≤ length (strip_bom cut) + 1 = length-records_from default_config (length (strip_bom cut) + 1) st.StartRecord (strip_bom cut) in
+    let turns : length (records_of text) ≤ length (strip_bom cut) + 1 =
+    length-records_from default_config (length (strip_bom cut) + 1) st.StartRecord (strip_bom cut) in
     omega (arith, turns, length-strip_bom cut, length-marked MAX_INPUT_BYTES text)
 
 if-some : {A : Type 0} {P Q : A → Type 0} (o : Option A) → ((x : A) → P x → Q x) → IfSome o P → IfSome o Q
@@ -134,7 +137,8 @@ judged-lawful : (past : List Line) (fields : Record) (last : Line) → is_cut fi
     → judged past fields ≡ Ok last
 judged-lawful past fields last whole e free = rw (whole, e, free) refl
 
-pub judged-faulty : (past : List Line) (fields : Record) (last : Line) (k : RowFaultKind) → is_cut fields ≡ false → line_of fields ≡ Ok last → fault_of past last ≡ Some k
+pub judged-faulty : (past : List Line) (fields : Record) (last : Line) (k : RowFaultKind) → is_cut fields ≡ false → line_of fields ≡ Ok last
+    → fault_of past last ≡ Some k
     → judged past fields ≡ Err k
 judged-faulty past fields last k whole e fault = rw (whole, e, fault) refl
 
@@ -142,7 +146,8 @@ pub judged-unlawful : (past : List Line) (fields : Record) (k : RowFaultKind) �
 judged-unlawful past fields k whole e = rw (whole, e) refl
 
 -- what is judged of a record that is no operation that can be passed
-pub judged-refused : (past : List Line) (fields : Record) (k : RowFaultKind) (p : Progress) → is_cut fields ≡ false → PassesOperation {U = Unit {0}} past fields (Err k) p
+pub judged-refused : (past : List Line) (fields : Record) (k : RowFaultKind) (p : Progress) → is_cut fields ≡ false
+    → PassesOperation {U = Unit {0}} past fields (Err k) p
     → (judged past fields ≡ Err k) ⊎ (k ≡ kind.NoMemory)
 judged-refused past fields k p whole (inl unlawful) = inl (judged-unlawful past fields k whole unlawful)
 judged-refused past fields k p whole (inr (inl fault)) = inl (judged-faulty past fields fault.0 k whole fault.1 fault.2)
@@ -154,8 +159,10 @@ answers-read : {R : Type 0} (remaining : R → Option (List ℕ)) (old : Rows R)
 answers-read remaining old records ahead reading taken = reading.answers ∙ ap (answers_after reading.past) taken.1
 
 -- an operation was passed
-pub operation-passed : {R : Type 0} {U : Type 0} (remaining : R → Option (List ℕ)) (old new : Rows R) (records : Records R) (ahead : Answers) (reading : IsMidway remaining old ahead)
-    → TakesRecord remaining reading.left true records → Counts {E = RowFaultKind} old.records (Ok true) records → new.records ≡ records → is_cut (record_of records) ≡ false
+pub operation-passed : {R : Type 0} {U : Type 0} (remaining : R → Option (List ℕ)) (old new : Rows R) (records : Records R) (ahead : Answers)
+    (reading : IsMidway remaining old ahead)
+    → TakesRecord remaining reading.left true records → Counts {E = RowFaultKind} old.records (Ok true) records → new.records ≡ records
+    → is_cut (record_of records) ≡ false
     → (done : U) → PassesOperation reading.past (record_of records) (Ok done) new.progress → IsMidway remaining new ahead
 operation-passed remaining old new records ahead reading taken counts kept whole done (session, op, e, free, progress) =
     let last = line.Operation session op in
@@ -174,7 +181,8 @@ row-read remaining old records ahead reading counts =
     rw going (counts.0 ∙ ap (λ n. n + 1) reading.counted)
 
 -- a record was met that has a fault, or memory was refused
-pub record-refused : {R : Type 0} (remaining : R → Option (List ℕ)) (old : Rows R) (records : Records R) (ahead : Answers) (reading : IsMidway remaining old ahead)
+pub record-refused : {R : Type 0} (remaining : R → Option (List ℕ)) (old : Rows R) (records : Records R) (ahead : Answers)
+    (reading : IsMidway remaining old ahead)
     → TakesRecord remaining reading.left true records → Counts {E = RowFaultKind} old.records (Ok true) records
     → (k : RowFaultKind) → (judged reading.past (record_of records) ≡ Err k) ⊎ (k ≡ kind.NoMemory)
     → FaultsIn ahead (record { row = row_in records.course records.count; kind = k })
@@ -185,7 +193,8 @@ record-refused remaining old records ahead reading taken counts k (inr want) =
     inr (inr want, reading.past, reading.left, reading.answers, row-read remaining old records ahead reading counts)
 
 -- the reader failed
-pub reading-failed : {R : Type 0} (remaining : R → Option (List ℕ)) (old : Rows R) (records : Records R) (ahead : Answers) (reading : IsMidway remaining old ahead)
+pub reading-failed : {R : Type 0} (remaining : R → Option (List ℕ)) (old : Rows R) (records : Records R) (ahead : Answers)
+    (reading : IsMidway remaining old ahead)
     → (k : RowFaultKind) → Counts old.records (Err k) records → IsFailure k
     → FaultsIn ahead (record { row = row_in records.course records.count; kind = k })
 reading-failed remaining old records ahead reading k counts failure =
@@ -193,7 +202,8 @@ reading-failed remaining old records ahead reading k counts failure =
     inr (failure, reading.past, reading.left, reading.answers, row)
 
 -- two lists of the records that a reader has left are one
-same-left : {R : Type 0} (remaining : R → Option (List ℕ)) (records : Records R) (xs ys : List Record) → HasLeft remaining records xs → HasLeft remaining records ys → xs ≡ ys
+same-left : {R : Type 0} (remaining : R → Option (List ℕ)) (records : Records R) (xs ys : List Record) → HasLeft remaining records xs
+    → HasLeft remaining records ys → xs ≡ ys
 same-left remaining records xs ys one two = (let both : ◌≡◌ {A = Option (List Record)} (Some xs) (Some ys) = sym one.known ∙ two.known in cc both)
 
 -- which records were judged before it failed
@@ -216,8 +226,10 @@ pub row-ended : {R : Type 0} (remaining : R → Option (List ℕ)) (old : Rows R
 row-ended remaining old records ahead reading counts = rw counts.1 (counts.0 ∙ reading.counted)
 
 -- the line was met of the record that was read
-pub line-met : {R : Type 0} (remaining : R → Option (List ℕ)) (old new : Rows R) (records : Records R) (ahead : Answers) (reading : IsMidway remaining old ahead)
-    → TakesRecord remaining reading.left true records → Counts {E = RowFaultKind} old.records (Ok true) records → new.records ≡ records → new.progress ≡ old.progress
+pub line-met : {R : Type 0} (remaining : R → Option (List ℕ)) (old new : Rows R) (records : Records R) (ahead : Answers)
+    (reading : IsMidway remaining old ahead)
+    → TakesRecord remaining reading.left true records → Counts {E = RowFaultKind} old.records (Ok true) records → new.records ≡ records
+    → new.progress ≡ old.progress
     → is_cut (record_of records) ≡ false → (last : Line) → line_of (record_of records) ≡ Ok last → IsAtLine remaining new ahead last
 line-met remaining old new records ahead reading taken counts kept same_progress whole last e =
     record {
@@ -256,7 +268,8 @@ line-taken {R = R} remaining at new ahead last here kept result fields = by resu
 
     by : (result : Result (Option Item) RowFault) → TakesFields here.past here.fields result new → TakesStep remaining ahead result new
     by (Ok None) f =
-        let e : ahead ≡ answers_after (f.0 ∷ here.past) here.left = here.answers ∙ lawful here.past here.fields here.left f.0 f.1 ∙ ap (λ o. after_item o (answers_after (f.0 ∷ here.past) here.left)) (sym f.2) in
+        let e : ahead ≡ answers_after (f.0 ∷ here.past) here.left =
+        here.answers ∙ lawful here.past here.fields here.left f.0 f.1 ∙ ap (λ o. after_item o (answers_after (f.0 ∷ here.past) here.left)) (sym f.2) in
         rw e (going-on remaining new here.past here.left f.0 has f.3 counted going here.fits)
     by (Ok (Some item.End)) f = absurd (no-end here.past f.0 f.2)
     by (Ok (Some item.Seal)) f = (
@@ -293,6 +306,7 @@ closed-after (Ok given) p past is all = all past is
 closed-after (Err e) p past is all = tt
 
 pub unfinished-after : (result : Result (Option Item) RowFault) (row : ℕ) (p : Progress) (past : List Line) → IsAfter past p → row ≡ length past
-    → IfErr result (λ fault. (lines : List Line) → IsAfter lines p → row ≡ length lines → fault_at_end lines ≡ Some fault) → IfErr result (λ fault. fault_at_end past ≡ Some fault)
+    → IfErr result (λ fault. (lines : List Line) → IsAfter lines p → row ≡ length lines → fault_at_end lines ≡ Some fault)
+    → IfErr result (λ fault. fault_at_end past ≡ Some fault)
 unfinished-after (Ok given) row p past is counted all = tt
 unfinished-after (Err fault) row p past is counted all = all past is counted

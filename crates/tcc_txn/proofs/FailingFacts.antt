@@ -1,5 +1,7 @@
 -- What was taken where the reading of a text fails are the items of the records before.
-use Rattle.std.proofs.Common.{◌≡◌, ℕ, suc, ◌+◌, ◌-◌, ◌≤◌, ◌<◌, ◌⊎◌, inl, inr, Bool, true, false, not, cond, List, [], ◌∷◌, ◌++◌, length, take, drop, refl, sym, ap, subst, ◌∙◌, arith, Option, None, Some, Result, Ok, Err, length-append, nat_lt}
+use Rattle.std.proofs.Common.{◌≡◌, ℕ, suc, ◌+◌, ◌-◌, ◌≤◌, ◌<◌, ◌⊎◌, inl, inr, Bool, true, false, not, cond, List, [], ◌∷◌, ◌++◌}
+use Rattle.std.proofs.Common.{length, take, drop, refl, sym, ap, subst, ◌∙◌, arith, Option, None, Some, Result, Ok, Err}
+use Rattle.std.proofs.Common.{length-append, nat_lt}
 use Rattle.std.specs.Prelude.{codes, is_some, option_map, ◌==◌}
 use Rattle.std.specs.Option.{option_map_or}
 use Rattle.std.proofs.Math.Seq.{take-append_seam}
@@ -64,7 +66,8 @@ line-of_record (a ∷ b ∷ c ∷ []) = refl
 line-of_record (session ∷ word ∷ key ∷ value ∷ []) =
     either (is_some (name_fault session)) (Err kind.BadSession) _ refl
     (either (same word (codes "r")) (in_session session (op_of false key value)) _ (in-of_record session _ (op-of_record false key value))
-    (either (same word (codes "w")) (in_session session (op_of true key value)) (Err kind.UnknownWord) (in-of_record session _ (op-of_record true key value)) refl))
+    (either (same word (codes "w")) (in_session session (op_of true key value)) (Err kind.UnknownWord)
+    (in-of_record session _ (op-of_record true key value)) refl))
 line-of_record (a ∷ b ∷ c ∷ d ∷ e ∷ more) = refl
 
 -- the same of a kind that there may be
@@ -100,7 +103,9 @@ judged-of_record past fields k e = by (is_cut fields) (line_of fields) refl refl
     of found (Some j) sound e = let is : j ≡ k = cc e in subst (λ x. at_end x ≡ false) is (no (at_end j) sound)
 
     by : (cut : Bool) (r : Result Line RowFaultKind) → is_cut fields ≡ cut → line_of fields ≡ r → is_of_record r ≡ true → at_end k ≡ false
-    by true r whole is sound = (let faulty : judged past fields ≡ Err kind.Read = rw whole refl in let same_kind : kind.Read ≡ k = cc (faulty, e) in subst (λ x. at_end x ≡ false) same_kind refl)
+    by true r whole is sound =
+        (let faulty : judged past fields ≡ Err kind.Read = rw whole refl in let same_kind : kind.Read ≡ k = cc (faulty, e) in
+        subst (λ x. at_end x ≡ false) same_kind refl)
     by false (Err j) whole is sound =
         let faulty : judged past fields ≡ Err j = rw (whole, is) refl in
         let same_kind : j ≡ k = cc (faulty, e) in
@@ -123,7 +128,8 @@ same-fault (Some first) ahead = refl
 behind : (left : List Record) (past : List Line) → StandsBehind (length past) (answers_after past left).fault
 behind [] past = by (least (open_sessions past))
   where
-    by : (o : Option (List ℕ)) → StandsBehind (length past) (option_map {U = RowFault} (λ session. record { row = length past; kind = kind.Unfinished session }) o)
+    by : (o : Option (List ℕ))
+        → StandsBehind (length past) (option_map {U = RowFault} (λ session. record { row = length past; kind = kind.Unfinished session }) o)
     by None = tt
     by (Some session) = inl refl
 behind (fields ∷ rest) past = by (judged past fields) (behind rest)
@@ -137,7 +143,8 @@ behind (fields ∷ rest) past = by (judged past fields) (behind rest)
         → StandsBehind (length past) (go_on past (λ lines. answers_after lines rest) r).fault
     by (Err k) next = inr (omega arith)
     by (Ok last) next =
-        subst (StandsBehind (length past)) (sym (same-fault (item_of past last) (answers_after (last ∷ past) rest))) (earlier (length past) _ (next (last ∷ past)))
+        subst (StandsBehind (length past)) (sym (same-fault (item_of past last) (answers_after (last ∷ past) rest)))
+        (earlier (length past) _ (next (last ∷ past)))
 
 -- the fault of a record is none of the answers to what follows it, or something later
 not-later : (n row : ℕ) (k : RowFaultKind) (o : Option RowFault) → o ≡ Some (record { row = row; kind = k }) → at_end k ≡ false → row ≤ n → StandsBehind n o → ⊥
@@ -152,14 +159,16 @@ not-later n row k (Some fault) e record_fault early b =
 
 -- ---- as many items, whatever the lines before
 
-of-one : (p q : List Line) (l : Line) (a b : Answers) → length a.items ≡ length b.items → length (after_item (item_of p l) a).items ≡ length (after_item (item_of q l) b).items
+of-one : (p q : List Line) (l : Line) (a b : Answers) → length a.items ≡ length b.items
+    → length (after_item (item_of p l) a).items ≡ length (after_item (item_of q l) b).items
 of-one p q line.Seal a b e = omega (arith, e)
 of-one p q (line.Begin session) a b e = e
 of-one p q (line.Finish session committed) a b e = omega (arith, e)
 of-one p q (line.Operation session op) a b e = e
 
 same-line : (p q : List Line) (fields : Record) (l m : Line) → judged p fields ≡ Ok l → judged q fields ≡ Ok m → l ≡ m
-same-line p q fields l m e f = (let both : ◌≡◌ {A = Result Line RowFaultKind} (Ok l) (Ok m) = sym (judged-line p fields l e) ∙ judged-line q fields m f in cc both)
+same-line p q fields l m e f =
+    (let both : ◌≡◌ {A = Result Line RowFaultKind} (Ok l) (Ok m) = sym (judged-line p fields l e) ∙ judged-line q fields m f in cc both)
 
 as-many : (left : List Record) (p q : List Line) → length p ≡ length q → (answers_after p left).fault ≡ (answers_after q left).fault
     → length (answers_after p left).items ≡ length (answers_after q left).items
@@ -174,7 +183,8 @@ as-many (fields ∷ rest) p q long fault = by (judged p fields) (judged q fields
 
     by : (r s : Result Line RowFaultKind) → judged p fields ≡ r → judged q fields ≡ s
         → (go_on p (λ lines. answers_after lines rest) r).fault ≡ (go_on q (λ lines. answers_after lines rest) s).fault
-        → ((p q : List Line) → length p ≡ length q → (answers_after p rest).fault ≡ (answers_after q rest).fault → length (answers_after p rest).items ≡ length (answers_after q rest).items)
+        → ((p q : List Line) → length p ≡ length q → (answers_after p rest).fault ≡ (answers_after q rest).fault
+        → length (answers_after p rest).items ≡ length (answers_after q rest).items)
         → length (go_on p (λ lines. answers_after lines rest) r).items ≡ length (go_on q (λ lines. answers_after lines rest) s).items
     by (Err j) (Err k) e f fault next = refl
     by (Err k) (Ok m) e f fault next = absurd (apart p q k m long e fault)
@@ -196,7 +206,8 @@ record Split (q : List Line) (first left : List Record) (n : ℕ) : Type 0 where
   items : (answers_after q (first ++ left)).items ≡ (answers_after q first).items ++ (answers_after lines left).items
   fault : (answers_after q (first ++ left)).fault ≡ (answers_after lines left).fault
 
-item-before : (o : Option Item) (a : Answers) (xs ys : List Item) → a.items ≡ xs ++ ys → (after_item o a).items ≡ (after_item o (record { items = xs; fault = None })).items ++ ys
+item-before : (o : Option Item) (a : Answers) (xs ys : List Item) → a.items ≡ xs ++ ys
+    → (after_item o a).items ≡ (after_item o (record { items = xs; fault = None })).items ++ ys
 item-before None a xs ys e = e
 item-before (Some first) a xs ys e = ap (λ items. first ∷ items) e
 
@@ -209,11 +220,14 @@ split : (left : List Record) (past : List Line) (first : List Record) (q : List 
 split left past [] q long fault = record { lawful = tt; lines = q; long = omega (arith, long); items = refl; fault = refl }
 split left past (fields ∷ rest) q long fault = by (judged q fields) refl fault (split left past rest)
   where
-    by : (r : Result Line RowFaultKind) → judged q fields ≡ r → (go_on q (λ lines. answers_after lines (rest ++ left)) r).fault ≡ (answers_after past left).fault
-        → ((q : List Line) → length past ≡ length q + length rest → (answers_after q (rest ++ left)).fault ≡ (answers_after past left).fault → Split q rest left (length past))
+    by : (r : Result Line RowFaultKind) → judged q fields ≡ r
+        → (go_on q (λ lines. answers_after lines (rest ++ left)) r).fault ≡ (answers_after past left).fault
+        → ((q : List Line) → length past ≡ length q + length rest → (answers_after q (rest ++ left)).fault ≡ (answers_after past left).fault
+        → Split q rest left (length past))
         → Split q (fields ∷ rest) left (length past)
     by (Err k) e fault next =
-        absurd (not-later (length past) (length q + 1) k (answers_after past left).fault (sym fault) (judged-of_record q fields k e) (omega (arith, long)) (behind left past))
+        absurd (not-later (length past) (length q + 1) k (answers_after past left).fault (sym fault) (judged-of_record q fields k e) (omega (arith, long))
+        (behind left past))
     by (Ok last) e fault next =
         let ahead = answers_after (last ∷ q) (rest ++ left) in
         let after = next (last ∷ q) (omega (arith, long)) (sym (same-fault (item_of q last) ahead) ∙ fault) in
@@ -221,7 +235,9 @@ split left past (fields ∷ rest) q long fault = by (judged q fields) refl fault
           lawful = (last, e, after.lawful);
           lines = after.lines;
           long = after.long;
-          items = rw e (item-before (item_of q last) ahead _ _ after.items ∙ ap (λ xs. xs ++ (answers_after after.lines left).items) (sym (plain-item (item_of q last) (answers_after (last ∷ q) rest))));
+          items =
+              rw e (item-before (item_of q last) ahead _ _ after.items
+              ∙ ap (λ xs. xs ++ (answers_after after.lines left).items) (sym (plain-item (item_of q last) (answers_after (last ∷ q) rest))));
           fault = rw e (same-fault (item_of q last) ahead ∙ after.fault);
         }
 
@@ -231,7 +247,8 @@ same-front xs ys us vs e long =
     sym (take-append_seam xs us) ∙ ap (take (length xs)) e ∙ ap (λ n. take n (ys ++ vs)) short ∙ take-append_seam ys vs
 
 -- the items that were taken are those of the records before the row, and these are lawful
-pub fails-at : (all : List Record) (taken : List Item) (ahead : Answers) (row : ℕ) → answers_after [] all ≡ after_items taken ahead → failing.FailsIn all ahead row
+pub fails-at : (all : List Record) (taken : List Item) (ahead : Answers) (row : ℕ) → answers_after [] all ≡ after_items taken ahead
+    → failing.FailsIn all ahead row
     → FailsAt row all × (taken ≡ items_before row all)
 fails-at all taken ahead row answers at =
     let fault : (answers_after [] (at.first ++ at.left)).fault ≡ (answers_after at.past at.left).fault
@@ -240,7 +257,9 @@ fails-at all taken ahead row answers at =
     let many : length (answers_after at.past at.left).items ≡ length (answers_after front.lines at.left).items
     = as-many at.left at.past front.lines (sym front.long) (sym fault ∙ front.fault) in
     let both : taken ++ (answers_after at.past at.left).items ≡ (answers_after [] at.first).items ++ (answers_after front.lines at.left).items
-    = sym (ap (λ (a : Answers). a.items) (answers ∙ ap (after_items taken) at.answers)) ∙ ap (λ records. (answers_after [] records).items) at.whole ∙ front.items in
+    =
+    sym (ap (λ (a : Answers). a.items) (answers ∙ ap (after_items taken) at.answers)) ∙ ap (λ records. (answers_after [] records).items) at.whole
+    ∙ front.items in
     let before : at.first ≡ records_before row all
     = sym (take-append_seam at.first at.left) ∙ ap (take (length at.first)) (sym at.whole) ∙ ap (λ n. take n all) (omega (arith, at.here)) in (
       (
@@ -256,8 +275,11 @@ front : (left first : List Record) (q : List Line) → AreLawful q first
 front left [] q lawful = (q, refl)
 front left (fields ∷ rest) q (last, e, lawful) =
     let (lines, is) = front left rest (last ∷ q) lawful in
-    let ahead = answers_after (last ∷ q) (rest ++ left) in
-    (lines, rw e (item-before (item_of q last) ahead _ _ is ∙ ap (λ xs. xs ++ (answers_after lines left).items) (sym (plain-item (item_of q last) (answers_after (last ∷ q) rest)))))
+    let ahead = answers_after (last ∷ q) (rest ++ left) in (
+      lines,
+      rw e (item-before (item_of q last) ahead _ _ is ∙ ap (λ xs. xs ++ (answers_after lines left).items)
+          (sym (plain-item (item_of q last) (answers_after (last ∷ q) rest)))),
+    )
 
 -- those of the records before a row are the first of all
 pub front-items : (row : ℕ) (all : List Record) → AreLawful [] (records_before row all)

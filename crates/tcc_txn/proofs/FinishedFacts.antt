@@ -1,5 +1,7 @@
 -- What lawful lines finish keeps the limits of a snapshot: each finished transaction was begun, and each session with one has begun one.
-use Rattle.std.proofs.Common.{◌≡◌, ℕ, ◌+◌, ◌-◌, ◌≤◌, Bool, true, false, cond, ◌||◌, T, List, [], ◌∷◌, ◌++◌, map, length, sum_by, refl, sym, ap, subst, ◌∙◌, arith, Option, None, Some, Result, Ok, Err, append_assoc, append-nil, nat_lt}
+use Rattle.std.proofs.Common.{◌≡◌, ℕ, ◌+◌, ◌-◌, ◌≤◌, Bool, true, false, cond, ◌||◌, T, List, [], ◌∷◌, ◌++◌, map, length, sum_by}
+use Rattle.std.proofs.Common.{refl, sym, ap, subst, ◌∙◌, arith, Option, None, Some, Result, Ok, Err, append_assoc, append-nil}
+use Rattle.std.proofs.Common.nat_lt
 use Rattle.std.specs.Prelude.{fold, is_some, unwrap_or}
 use Rattle.std.specs.Option.{option_map_or}
 use Rattle.std.specs.List.{AllByRecursion, IsDistinct, list_any}
@@ -89,7 +91,8 @@ AreLawful [] = Unit {0}
 AreLawful (last ∷ past) = (fault_of past last ≡ None) × AreLawful past
 
 -- a faultless begin
-pub no-begin-fault : {X : Type 0} (a b c : Bool) (x y z : X) → cond a (Some x) (cond b (Some y) (cond c (Some z) None)) ≡ None → (a ≡ false) × (b ≡ false) × (c ≡ false)
+pub no-begin-fault : {X : Type 0} (a b c : Bool) (x y z : X) → cond a (Some x) (cond b (Some y) (cond c (Some z) None)) ≡ None
+    → (a ≡ false) × (b ≡ false) × (c ≡ false)
 no-begin-fault true b c x y z e = cc
 no-begin-fault false true c x y z e = cc
 no-begin-fault false false true x y z e = cc
@@ -103,7 +106,8 @@ pub fits : (most n : ℕ) → nat_lt most n ≡ false → n ≤ most
 fits most n e = grind (arith, nat_tests, e)
 
 faultless-begin : (past : List Line) (session : List ℕ) → fault_of past (line.Begin session) ≡ None
-    → (nat_lt MAX_SESSIONS (length (sessions (line.Begin session ∷ past))) ≡ false) × (nat_lt MAX_TRANSACTIONS (begin_count (line.Begin session ∷ past)) ≡ false)
+    → (nat_lt MAX_SESSIONS (length (sessions (line.Begin session ∷ past))) ≡ false)
+    × (nat_lt MAX_TRANSACTIONS (begin_count (line.Begin session ∷ past)) ≡ false)
 faultless-begin past session none =
     let all = no-begin-fault (is_begun session past) (nat_lt MAX_SESSIONS (length (sessions (line.Begin session ∷ past))))
     (nat_lt MAX_TRANSACTIONS (begin_count (line.Begin session ∷ past))) kind.AlreadyBegun kind.TooManySessions kind.TooManyTransactions none in
@@ -182,7 +186,8 @@ no-entries (x ∷ es) e = absurd (omega arith)
 
 count-empty : transaction_count finite.empty ≡ 0
 count-empty =
-    ap (sum_by (λ named. length named.1)) (no-entries (finite.entries finite.empty) (sym (finite.len-entries finite.empty) ∙ finite.len-empty name_cmp (List Transaction)))
+    ap (sum_by (λ named. length named.1))
+    (no-entries (finite.entries finite.empty) (sym (finite.len-entries finite.empty) ∙ finite.len-empty name_cmp (List Transaction)))
 
 -- each finished transaction was begun, and so was each one that sessions of a map have begun
 begun-finished : (past : List Line) → AreLawful past → (m : Sessions) → ((q : List ℕ) → has m q ≡ true → is_begun q past ≡ true)
@@ -206,7 +211,9 @@ begun-finished (line.Finish s committed ∷ past) lawful m begun =
     let started : is_begun s past ≡ true = no-finish-fault (is_begun s past) kind.NotBegun lawful.0 in
     let absent : has m s ≡ false = is-false (has m s) (λ h. closed (same s s) (is_begun s past) (same-itself s) (begun s h)) in
     let others : (q : List ℕ) → has (finite.insert m s []) q ≡ true → is_begun q past ≡ true
-    = λ q h. other (same s q) (has m q) (is_begun q past) (sym (has-insert m s q []) ∙ h) (begun q) (λ e. subst (λ n. is_begun n past ≡ true) (exact-same s q e) started) in
+    =
+    λ q h. other (same s q) (has m q) (is_begun q past) (sym (has-insert m s q []) ∙ h) (begun q)
+    (λ e. subst (λ n. is_begun n past ≡ true) (exact-same s q e) started) in
     let more = begun-finished past lawful.1 (finite.insert m s []) others in
     let longer : finite.len (finite.insert m s []) ≡ finite.len m + 1
     = finite.len-insert nat_list_cmp_total m s [] ∙ ap (λ b. cond b (finite.len m) (finite.len m + 1)) absent in
@@ -237,7 +244,8 @@ seated-finished (line.Begin s ∷ past) lawful q h = by (same s q) refl (seated-
 seated-finished (line.Finish s committed ∷ past) lawful q h =
     let txn : Transaction = record { ops = ops_since s past; committed = committed } in
     let found = ap (λ m. has m q) (sym (finished_in-push (items_in past) (item.Finished s txn))) ∙ h in
-    by (same s q) refl (sym (has-insert (finished_by past) s q (unwrap_or (finite.get (finished_by past) s) [] ++ txn ∷ [])) ∙ found) (seated-finished past lawful.1 q)
+    by (same s q) refl (sym (has-insert (finished_by past) s q (unwrap_or (finite.get (finished_by past) s) [] ++ txn ∷ [])) ∙ found)
+    (seated-finished past lawful.1 q)
   where
     by : (b : Bool) → same s q ≡ b → cond b true (has (finished_by past) q) ≡ true
         → (has (finished_by past) q ≡ true → list_any (same q) (sessions past) ≡ true) → list_any (same q) (sessions past) ≡ true
@@ -293,12 +301,14 @@ limits-after : (left : List Record) (past : List Line) → AreLawful past → Ke
 limits-after [] past lawful = subst (λ items. KeepsLimits (finished_in items)) (sym (append-nil (items_in past))) (lawful-limits past lawful)
 limits-after (fields ∷ rest) past lawful = by (judged past fields) refl (limits-after rest)
   where
-    more : (o : Option Item) (ahead : Answers) → KeepsLimits (finished_in (pushed o (items_in past) ++ ahead.items)) → KeepsLimits (finished_in (items_in past ++ (after_item o ahead).items))
+    more : (o : Option Item) (ahead : Answers) → KeepsLimits (finished_in (pushed o (items_in past) ++ ahead.items))
+        → KeepsLimits (finished_in (items_in past ++ (after_item o ahead).items))
     more None ahead limits = limits
     more (Some first) ahead limits = subst (λ items. KeepsLimits (finished_in items)) (append_assoc (items_in past) (first ∷ []) ahead.items) limits
 
     by : (r : Result Line RowFaultKind) → judged past fields ≡ r
-        → ((lines : List Line) → AreLawful lines → KeepsLimits (finished_in (items_in lines ++ (answers_after lines rest).items))) → KeepsLimits (finished_in (items_in past ++ (go_on past (λ lines. answers_after lines rest) r).items))
+        → ((lines : List Line) → AreLawful lines → KeepsLimits (finished_in (items_in lines ++ (answers_after lines rest).items)))
+        → KeepsLimits (finished_in (items_in past ++ (go_on past (λ lines. answers_after lines rest) r).items))
     by (Err k) e next = subst (λ items. KeepsLimits (finished_in items)) (sym (append-nil (items_in past))) (lawful-limits past lawful)
     by (Ok last) e next = more (item_of past last) (answers_after (last ∷ past) rest) (next (last ∷ past) (judged-free past fields last e, lawful))
 

@@ -1,5 +1,7 @@
 -- One more transaction of a session among sorted parts.
-use Rattle.std.proofs.Common.{◌≡◌, ◌≢◌, ℕ, zero, suc, ◌+◌, ◌≤◌, ◌<◌, Bool, true, false, cond, ◌&&◌, T, List, [], ◌∷◌, ◌++◌, length, get_or, set, sum_by, refl, ap, sym, ◌∙◌, subst, arith, Option, None, Some, Result, Ok, Err, length-append, nat_eq}
+use Rattle.std.proofs.Common.{◌≡◌, ◌≢◌, ℕ, zero, suc, ◌+◌, ◌≤◌, ◌<◌, Bool, true, false, cond, ◌&&◌, T, List, [], ◌∷◌, ◌++◌, length}
+use Rattle.std.proofs.Common.{get_or, set, sum_by, refl, ap, sym, ◌∙◌, subst, arith, Option, None, Some, Result, Ok, Err}
+use Rattle.std.proofs.Common.{length-append, nat_eq}
 use Rattle.std.specs.Prelude.{is_some, unwrap_or, OnOk, OnErr, IfErr}
 use Rattle.std.proofs.lemmas.Option.{none-some}
 use Rattle.std.proofs.Math.Seq.{map-set_same}
@@ -61,7 +63,8 @@ pub place_in-is : {X : Type 0} (session : List ℕ) (es : List (List ℕ × X)) 
 place_in-is session [] i within before after = omega arith
 place_in-is session (e ∷ es) zero within before after = rw (after e (omega arith)) refl
 place_in-is session (e ∷ es) (suc i) within before after =
-    rw (before zero e (omega arith)) (ap suc (place_in-is session es i (omega arith) (λ k d less. before (suc k) d (omega arith)) (λ d less. after d (omega arith))))
+    rw (before zero e (omega arith))
+    (ap suc (place_in-is session es i (omega arith) (λ k d less. before (suc k) d (omega arith)) (λ d less. after d (omega arith))))
 
 pub place_in-within : {X : Type 0} (session : List ℕ) (es : List (List ℕ × X)) → place_in session es ≤ length es
 place_in-within session [] = omega arith
@@ -84,7 +87,8 @@ put-present {X} k v (e ∷ es) d = by (name_cmp e.0 k) refl (nat_list_cmp_total.
     apart e = cc
 
     by : (r : Ordering) → name_cmp e.0 k ≡ r → name_cmp k e.0 ≡ ordering_reverse (name_cmp e.0 k)
-        → (StandsAt es k (place_in k es) → (put name_cmp k v es ≡ set es (place_in k es) ((get_or es (place_in k es) d).0, v)) × (find name_cmp k es ≡ Some (get_or es (place_in k es) d).1))
+        → (StandsAt es k (place_in k es) → (put name_cmp k v es ≡ set es (place_in k es) ((get_or es (place_in k es) d).0, v))
+        × (find name_cmp k es ≡ Some (get_or es (place_in k es) d).1))
         → StandsAt (e ∷ es) k (at r)
         → (by_order (name_cmp k e.0) ((k, v) ∷ e ∷ es) ((e.0, v) ∷ es) (e ∷ put name_cmp k v es) ≡ set (e ∷ es) (at r) ((get_or (e ∷ es) (at r) d).0, v))
         × (cond (is_eq (name_cmp k e.0)) (Some e.1) (find name_cmp k es) ≡ Some (get_or (e ∷ es) (at r) d).1)
@@ -216,7 +220,8 @@ module _ (es : List (List ℕ × Vec Transaction)) (k : List ℕ) (at : ℕ) whe
       let d : List ℕ × List Transaction = (part.0, part.1.items) in
       let here : get_or (parts_of es) at d ≡ d = get_or-parts_of es at part d (omega (arith, stands.0, length-parts_of es)) is in
       let present = put-present k (unwrap_or (find name_cmp k (parts_of es)) [] ++ txn ∷ []) (parts_of es) d (subst (StandsAt (parts_of es) k) place stands) in
-      let found : find name_cmp k (parts_of es) ≡ Some part.1.items = present.1 ∙ ap (λ i. Some (get_or (parts_of es) i d).1) (sym place) ∙ ap (λ p. Some p.1) here in
+      let found : find name_cmp k (parts_of es) ≡ Some part.1.items =
+      present.1 ∙ ap (λ i. Some (get_or (parts_of es) i d).1) (sym place) ∙ ap (λ p. Some p.1) here in
       parts_of-set es at part.0 new
       ∙ ap (λ items. set (parts_of es) at (part.0, items)) (grown ∙ ap (λ o. unwrap_or o [] ++ txn ∷ []) (sym found))
       ∙ ap (λ p. set (parts_of es) at (p.0, unwrap_or (find name_cmp k (parts_of es)) [] ++ txn ∷ [])) (sym here)

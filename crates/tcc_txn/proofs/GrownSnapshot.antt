@@ -1,5 +1,7 @@
 -- A snapshot after one more transaction.
-use Rattle.std.proofs.Common.{◌≡◌, ℕ, ◌+◌, ◌≤◌, ◌<◌, false, cond, T, List, [], ◌∷◌, ◌++◌, length, sum_by, refl, ap, sym, subst, ◌∙◌, arith, Option, None, Some, Result, Ok, Err}
+use Rattle.std.proofs.Common.{◌≡◌, ℕ, ◌+◌, ◌≤◌, ◌<◌, false, cond, T, List, [], ◌∷◌, ◌++◌, length}
+use Rattle.std.proofs.Common.{sum_by, refl, ap, sym, subst, ◌∙◌, arith, Option, None, Some, Result}
+use Rattle.std.proofs.Common.{Ok, Err}
 use Rattle.std.specs.Prelude.{is_some, unwrap_or, OnErr, OnOk}
 use Rattle.std.specs.FinMap as map
 use Rattle.std.specs.FinMap.Entries.{find, is_sorted, is_sorted-put, put, length-put}
@@ -55,14 +57,24 @@ module _ (old new : List (List ℕ × Vec Transaction)) (session : List ℕ) (tx
       → sum_by (λ part. length part.1.items) old < MAX_TRANSACTIONS → IsStored new
   stored-grown stored same room short =
       let longer : length (parts_of new) ≡ cond (is_some (find name_cmp session (parts_of old))) (length (parts_of old)) (length (parts_of old) + 1)
-      = ap length same ∙ length-put name_cmp nat_list_cmp_total session (unwrap_or (find name_cmp session (parts_of old)) [] ++ txn ∷ []) (parts_of old) stored.sorted in
+      =
+      ap length same ∙ length-put name_cmp nat_list_cmp_total session (unwrap_or (find name_cmp session (parts_of old)) [] ++ txn ∷ [])
+      (parts_of old) stored.sorted in
       let fits = no_longer (find name_cmp session (parts_of old)) (length (parts_of old)) MAX_SESSIONS (omega (arith, stored.few, length-parts_of old))
       (λ none. (let less = room none in omega (arith, less, length-parts_of old))) in
       record {
         sorted = subst (λ es. T (is_sorted name_cmp es)) (sym same)
             (is_sorted-put name_cmp nat_list_cmp_total session (unwrap_or (find name_cmp session (parts_of old)) [] ++ txn ∷ []) (parts_of old) stored.sorted);
         few = omega (arith, fits, longer, length-parts_of new);
-        short = omega (arith, short, ap (sum_by (λ part. length part.1)) same, count-put session txn (parts_of old) stored.sorted, sum_by-parts_of old, sum_by-parts_of new);
+        short =
+            omega (
+              arith,
+              short,
+              ap (sum_by (λ part. length part.1)) same,
+              count-put session txn (parts_of old) stored.sorted,
+              sum_by-parts_of old,
+              sum_by-parts_of new,
+            );
       }
 
   pub shown-kept : IsStored old → IsStored new → parts_of new ≡ parts_of old → shown new ≡ shown old
@@ -82,7 +94,8 @@ full parts session txn stored most limits =
 pub crowded : (parts : List (List ℕ × Vec Transaction)) (session : List ℕ) (txn : Transaction) → IsStored parts → MAX_SESSIONS ≤ length parts
     → find name_cmp session (parts_of parts) ≡ None → KeepsLimits (with_transaction (shown parts) session txn) → ⊥
 crowded parts session txn stored most none limits =
-    let new : map.contains_key (shown parts) session ≡ false = ap is_some (map.get-entries (shown parts) session ∙ ap (find name_cmp session) (entries-shown parts stored) ∙ none) in
+    let new : map.contains_key (shown parts) session ≡ false =
+    ap is_some (map.get-entries (shown parts) session ∙ ap (find name_cmp session) (entries-shown parts stored) ∙ none) in
     let longer : map.len (with_transaction (shown parts) session txn) ≡ map.len (shown parts) + 1
     = len-with_transaction (shown parts) session txn ∙ ap (λ b. cond b (map.len (shown parts)) (map.len (shown parts) + 1)) new in
     absurd (omega (arith, limits.0, longer, len-shown parts stored))

@@ -1,5 +1,7 @@
 -- Records without a fault have none however they are interleaved.
-use Rattle.std.proofs.Common.{◌≡◌, ℕ, zero, suc, ◌+◌, ◌≤◌, Bool, true, false, not, cond, ◌||◌, List, [], ◌∷◌, ◌++◌, filter, length, refl, sym, ap, subst, ◌∙◌, arith, Option, None, Some, Result, Ok, Err, nat_lt}
+use Rattle.std.proofs.Common.{◌≡◌, ℕ, zero, suc, ◌+◌, ◌≤◌, Bool, true, false, not, cond, ◌||◌, List, [], ◌∷◌, ◌++◌}
+use Rattle.std.proofs.Common.{filter, length, refl, sym, ap, subst, ◌∙◌, arith, Option, None, Some, Result, Ok, Err}
+use Rattle.std.proofs.Common.nat_lt
 use Rattle.std.specs.Prelude.{codes, is_some, option_map}
 use Rattle.std.specs.List.{AllByRecursion, Contains, IsDistinct, list_any}
 use Rattle.std.specs.Cmp.Lexicographic.{nat_list_eq_equiv}
@@ -113,7 +115,8 @@ sealed-count : (past : List Line) → seal_count past ≡ length (filter seals p
 sealed-count [] = refl
 sealed-count (l ∷ past) = by (seals l) (sealed-count past)
   where
-    by : (b : Bool) → seal_count past ≡ length (filter seals past) → cond b (seal_count past + 1) (seal_count past) ≡ length (cond b (l ∷ filter seals past) (filter seals past))
+    by : (b : Bool) → seal_count past ≡ length (filter seals past)
+        → cond b (seal_count past + 1) (seal_count past) ≡ length (cond b (l ∷ filter seals past) (filter seals past))
     by true more = omega (arith, more)
     by false more = more
 
@@ -168,7 +171,8 @@ has_key q (line.Begin session) = false
 has_key q (line.Finish session committed) = false
 has_key q (line.Operation session op) = same (op_key op) q
 
-seen-by : (name q : List ℕ) (names : List (List ℕ)) (rest : Bool) → list_any (same q) names ≡ rest → list_any (same q) (with_name name names) ≡ (same name q || rest)
+seen-by : (name q : List ℕ) (names : List (List ℕ)) (rest : Bool) → list_any (same q) names ≡ rest
+    → list_any (same q) (with_name name names) ≡ (same name q || rest)
 seen-by name q names rest e = by (same name q) refl
   where
     by : (b : Bool) → same name q ≡ b → list_any (same q) (with_name name names) ≡ (b || rest)
@@ -208,7 +212,8 @@ any-kept : (p s : Line → Bool) (past : List Line) → list_any p (filter s pas
 any-kept p s [] e = cc e
 any-kept p s (l ∷ past) e = by (s l) e (any-kept p s past)
   where
-    by : (b : Bool) → list_any p (cond b (l ∷ filter s past) (filter s past)) ≡ true → (list_any p (filter s past) ≡ true → list_any p past ≡ true) → (p l || list_any p past) ≡ true
+    by : (b : Bool) → list_any p (cond b (l ∷ filter s past) (filter s past)) ≡ true → (list_any p (filter s past) ≡ true → list_any p past ≡ true)
+        → (p l || list_any p past) ≡ true
     by true e more = rejoin (p l) (list_any p (filter s past)) e more
       where
         rejoin : (a b : Bool) → (a || b) ≡ true → (b ≡ true → list_any p past ≡ true) → (a || list_any p past) ≡ true
@@ -283,13 +288,16 @@ follow-back : (q : List ℕ) (past : List Line) → FollowBy q (filter (does q) 
 follow-back q [] all = tt
 follow-back q (l ∷ past) all = by (does q l) refl all (follow-back q past)
   where
-    by : (b : Bool) → does q l ≡ b → FollowBy q (cond b (l ∷ filter (does q) past) (filter (does q) past)) → (FollowBy q (filter (does q) past) → FollowBy q past)
+    by : (b : Bool) → does q l ≡ b → FollowBy q (cond b (l ∷ filter (does q) past) (filter (does q) past))
+        → (FollowBy q (filter (does q) past) → FollowBy q past)
         → (does q l ≡ true → FollowsIn (is_begun q past) (ops_since q past) l) × FollowBy q past
-    by true e all more = (λ own. follows-as l _ (is_begun q past) _ (ops_since q past) (sym (begun-kept q past)) (sym (ops-kept q past)) (all.0 own), more all.1)
+    by true e all more =
+        (λ own. follows-as l _ (is_begun q past) _ (ops_since q past) (sym (begun-kept q past)) (sym (ops-kept q past)) (all.0 own), more all.1)
     by false e all more = (λ own. cc (e, own), more all)
 
 -- no fault of an operation
-no-operation-fault : {X : Type 0} (a b c : Bool) (x y z : X) → cond (not a) (Some x) (cond b (Some y) (cond c (Some z) None)) ≡ None → (a ≡ true) × (b ≡ false) × (c ≡ false)
+no-operation-fault : {X : Type 0} (a b c : Bool) (x y z : X) → cond (not a) (Some x) (cond b (Some y) (cond c (Some z) None)) ≡ None
+    → (a ≡ true) × (b ≡ false) × (c ≡ false)
 no-operation-fault false b c x y z e = cc e
 no-operation-fault true true c x y z e = cc e
 no-operation-fault true false true x y z e = cc e
@@ -329,12 +337,18 @@ follow-lawful q (line.Begin session ∷ past) lawful = (
       (no-begin-fault (is_begun session past) _ _ kind.AlreadyBegun kind.TooManySessions kind.TooManyTransactions lawful.0).0,
   follow-lawful q past lawful.1,
 )
-follow-lawful q (line.Finish session committed ∷ past) lawful =
-    (λ own. subst (λ name. is_begun name past ≡ true) (same-name session q own) (no-finish-fault (is_begun session past) kind.NotBegun lawful.0), follow-lawful q past lawful.1)
+follow-lawful q (line.Finish session committed ∷ past) lawful = (
+  λ own. subst (λ name. is_begun name past ≡ true) (same-name session q own) (no-finish-fault (is_begun session past) kind.NotBegun lawful.0),
+  follow-lawful q past lawful.1,
+)
 follow-lawful q (line.Operation session op ∷ past) lawful =
     let free = operation-free past session op lawful.0 in
-    let room : length (ops_since session past ++ op ∷ []) ≤ MAX_OPERATIONS = subst (λ ops. length ops ≤ MAX_OPERATIONS) (own-ops session op past) (fits MAX_OPERATIONS _ free.1) in
-    (λ own. subst (λ name. (is_begun name past ≡ true) × (length (ops_since name past ++ op ∷ []) ≤ MAX_OPERATIONS)) (same-name session q own) (free.0, room), follow-lawful q past lawful.1)
+    let room : length (ops_since session past ++ op ∷ []) ≤ MAX_OPERATIONS =
+    subst (λ ops. length ops ≤ MAX_OPERATIONS) (own-ops session op past) (fits MAX_OPERATIONS _ free.1) in (
+      λ own. subst (λ name. (is_begun name past ≡ true) × (length (ops_since name past ++ op ∷ []) ≤ MAX_OPERATIONS)) (same-name session q own)
+          (free.0, room),
+      follow-lawful q past lawful.1,
+    )
 
 -- the lines keep the limits of an input
 record Keeps (past : List Line) : Type 0 where
@@ -356,7 +370,12 @@ no-longer name names = by (list_any (same name) names)
 keeps-before : (l : Line) (past : List Line) → Keeps (l ∷ past) → Keeps past
 keeps-before line.Seal past k = record { transactions = k.transactions; sessions = k.sessions; keys = k.keys; seals = omega (arith, k.seals) }
 keeps-before (line.Begin session) past k =
-    record { transactions = omega (arith, k.transactions); sessions = omega (arith, k.sessions, no-longer session (sessions past)); keys = k.keys; seals = k.seals }
+    record {
+      transactions = omega (arith, k.transactions);
+      sessions = omega (arith, k.sessions, no-longer session (sessions past));
+      keys = k.keys;
+      seals = k.seals;
+    }
 keeps-before (line.Finish session committed) past k = record { transactions = k.transactions; sessions = k.sessions; keys = k.keys; seals = k.seals }
 keeps-before (line.Operation session op) past k =
     record { transactions = k.transactions; sessions = k.sessions; keys = omega (arith, k.keys, no-longer (op_key op) (keys past)); seals = k.seals }
@@ -408,7 +427,8 @@ least-none (name ∷ names) e = cc e
 no-open : (past : List Line) → fault_at_end past ≡ None → open_sessions past ≡ []
 no-open past = by (least (open_sessions past)) refl
   where
-    by : (o : Option (List ℕ)) → least (open_sessions past) ≡ o → option_map {U = RowFault} (λ session. record { row = length past; kind = kind.Unfinished session }) o ≡ None → open_sessions past ≡ []
+    by : (o : Option (List ℕ)) → least (open_sessions past) ≡ o
+        → option_map {U = RowFault} (λ session. record { row = length past; kind = kind.Unfinished session }) o ≡ None → open_sessions past ≡ []
     by None is e = least-none (open_sessions past) is
     by (Some name) is e = cc e
 
@@ -466,7 +486,8 @@ clean-after (fields ∷ rest) past lawful free = by (judged past fields) refl fr
     by (Err k) e free next = cc free
     by (Ok last) e free next =
         let is = judged-line past fields last e in
-        let after = next (last ∷ past) (judged-free past fields last e, lawful) (sym (same-fault (item_of past last) (answers_after (last ∷ past) rest)) ∙ free) in
+        let after =
+        next (last ∷ past) (judged-free past fields last e, lawful) (sym (same-fault (item_of past last) (answers_after (last ∷ past) rest)) ∙ free) in
         record {
           each = head-or-later IsLine fields rest (judged-clean past fields last e, last, is) after.each;
           lawful = rw is after.lawful;
@@ -481,14 +502,16 @@ lawful-before (fields ∷ rest) past lawful = by (line_of fields) (lawful-before
     by (Ok l) lawful = lawful.1
     by (Err k) lawful = lawful
 
-judged-as : (past : List Line) (fields : Record) (last : Line) → is_cut fields ≡ false → line_of fields ≡ Ok last → fault_of past last ≡ None → judged past fields ≡ Ok last
+judged-as : (past : List Line) (fields : Record) (last : Line) → is_cut fields ≡ false → line_of fields ≡ Ok last → fault_of past last ≡ None
+    → judged past fields ≡ Ok last
 judged-as past fields last whole e free = rw (whole, e, free) refl
 
 clean-before : (left : List Record) (past : List Line) → IsClean past left → (answers_after past left).fault ≡ None
 clean-before [] past clean = clean.ended
 clean-before (fields ∷ rest) past clean = by (clean.each fields (0, omega arith, refl)) (clean-before rest)
   where
-    by : IsLine fields → ((lines : List Line) → IsClean lines rest → (answers_after lines rest).fault ≡ None) → (go_on past (λ lines. answers_after lines rest) (judged past fields)).fault ≡ None
+    by : IsLine fields → ((lines : List Line) → IsClean lines rest → (answers_after lines rest).fault ≡ None)
+        → (go_on past (λ lines. answers_after lines rest) (judged past fields)).fault ≡ None
     by (whole, last, is) next =
         let noted_as : lines_after past (fields ∷ rest) ≡ lines_after (last ∷ past) rest = ap (λ r. lines_after (noted r past) rest) is in
         let lawful : AreLawful (lines_after (last ∷ past) rest) = subst AreLawful noted_as clean.lawful in
@@ -528,7 +551,10 @@ sealed-by (word ∷ []) l e = by (same word (codes "seal")) e
 sealed-by (session ∷ word ∷ []) l e =
     by (is_some (name_fault session)) (same word (codes "begin")) (same word (codes "commit")) (same word (codes "abort")) e
   where
-    by : (a b c d : Bool) → cond a (Err kind.BadSession) (cond b (Ok (line.Begin session)) (cond c (Ok (line.Finish session true)) (cond d (Ok (line.Finish session false)) (Err kind.UnknownWord)))) ≡ Ok l → seals l ≡ false
+    by : (a b c d : Bool)
+        → cond a (Err kind.BadSession)
+        (cond b (Ok (line.Begin session)) (cond c (Ok (line.Finish session true)) (cond d (Ok (line.Finish session false)) (Err kind.UnknownWord)))) ≡ Ok l
+        → seals l ≡ false
     by true b c d e = cc e
     by false true c d e = let at : line.Begin session ≡ l = cc e in rw (← at) refl
     by false false true d e = let at : line.Finish session true ≡ l = cc e in rw (← at) refl
@@ -538,18 +564,22 @@ sealed-by (a ∷ b ∷ c ∷ []) l e = cc e
 sealed-by (session ∷ word ∷ key ∷ value ∷ []) l e =
     by (is_some (name_fault session)) (same word (codes "r")) (same word (codes "w")) e
   where
-    by : (a b c : Bool) → cond a (Err kind.BadSession) (cond b (in_session session (op_of false key value)) (cond c (in_session session (op_of true key value)) (Err kind.UnknownWord))) ≡ Ok l → seals l ≡ false
+    by : (a b c : Bool) → cond a (Err kind.BadSession) (cond b (in_session session (op_of false key value))
+        (cond c (in_session session (op_of true key value)) (Err kind.UnknownWord))) ≡ Ok l → seals l ≡ false
     by true b c e = cc e
     by false true c e = sealed-operation session _ l e
     by false false true e = sealed-operation session _ l e
     by false false false e = cc e
 sealed-by (a ∷ b ∷ c ∷ d ∷ f ∷ more) l e = cc e
 
-all-same : (some other : List Record) → AreInterleaved some other → records_by_none some ≡ records_by_none other → AreSame (lines_after [] some) (lines_after [] other)
-all-same some other same none None = lines-filter seals is_by_none sealed-by some [] ∙ ap (lines_after []) none ∙ sym (lines-filter seals is_by_none sealed-by other [])
+all-same : (some other : List Record) → AreInterleaved some other → records_by_none some ≡ records_by_none other
+    → AreSame (lines_after [] some) (lines_after [] other)
+all-same some other same none None =
+    lines-filter seals is_by_none sealed-by some [] ∙ ap (lines_after []) none ∙ sym (lines-filter seals is_by_none sealed-by other [])
 all-same some other same none (Some q) = same-lines some other same q
 
-pub interleaved-lawful : (text other : List ℕ) → AreInterleaved (records_of text) (records_of other) → records_by_none (records_of text) ≡ records_by_none (records_of other)
+pub interleaved-lawful : (text other : List ℕ) → AreInterleaved (records_of text) (records_of other)
+    → records_by_none (records_of text) ≡ records_by_none (records_of other)
     → (answers_of text).fault ≡ None → (answers_of other).fault ≡ None
 interleaved-lawful text other same none free =
     let lines = all-same (records_of text) (records_of other) same none in
@@ -582,11 +612,13 @@ unsealed-after (fields ∷ rest) past none = by (judged past fields) refl (unsea
     first : (is_by_none fields ≡ false) × (records_by_none rest ≡ [])
     first = none-first is_by_none fields rest none
 
-    by : (r : Result Line RowFaultKind) → judged past fields ≡ r → ((lines : List Line) → records_by_none rest ≡ [] → has_seal (answers_after lines rest).items ≡ false)
+    by : (r : Result Line RowFaultKind) → judged past fields ≡ r
+        → ((lines : List Line) → records_by_none rest ≡ [] → has_seal (answers_after lines rest).items ≡ false)
         → has_seal (go_on past (λ lines. answers_after lines rest) r).items ≡ false
     by (Err k) e next = refl
     by (Ok last) e next =
-        unsealed-item past last (answers_after (last ∷ past) rest) (sealed-by fields last (judged-line past fields last e) ∙ first.0) ∙ next (last ∷ past) first.1
+        unsealed-item past last (answers_after (last ∷ past) rest) (sealed-by fields last (judged-line past fields last e) ∙ first.0)
+        ∙ next (last ∷ past) first.1
 
 pub unsealed : (text : List ℕ) → records_by_none (records_of text) ≡ [] → has_seal (answers_of text).items ≡ false
 unsealed text none = unsealed-after (records_of text) [] none

@@ -1,5 +1,7 @@
 -- What records finish depends on the records of each session alone, however these are interleaved.
-use Rattle.std.proofs.Common.{◌≡◌, ℕ, Bool, true, false, cond, List, [], ◌∷◌, ◌++◌, filter, refl, sym, ap, ◌∙◌, Option, None, Some, Result, Ok, Err, append_assoc, append-nil}
+use Rattle.std.proofs.Common.{◌≡◌, ℕ, Bool, true, false, cond, List, [], ◌∷◌, ◌++◌, filter, refl}
+use Rattle.std.proofs.Common.{sym, ap, ◌∙◌, Option, None, Some, Result, Ok, Err, append_assoc}
+use Rattle.std.proofs.Common.append-nil
 use Rattle.std.specs.Prelude.{codes, is_some, unwrap_or}
 use Rattle.std.specs.Option.{option_map_or}
 use Rattle.std.specs.FinMap as finite
@@ -55,7 +57,10 @@ whose q (word ∷ []) l e = by (same word (codes "seal")) e
 whose q (session ∷ word ∷ []) l e =
     by (is_some (name_fault session)) (same word (codes "begin")) (same word (codes "commit")) (same word (codes "abort")) e
   where
-    by : (a b c d : Bool) → cond a (Err kind.BadSession) (cond b (Ok (line.Begin session)) (cond c (Ok (line.Finish session true)) (cond d (Ok (line.Finish session false)) (Err kind.UnknownWord)))) ≡ Ok l → does q l ≡ same session q
+    by : (a b c d : Bool)
+        → cond a (Err kind.BadSession)
+        (cond b (Ok (line.Begin session)) (cond c (Ok (line.Finish session true)) (cond d (Ok (line.Finish session false)) (Err kind.UnknownWord)))) ≡ Ok l
+        → does q l ≡ same session q
     by true b c d e = cc e
     by false true c d e = let at : line.Begin session ≡ l = cc e in rw (← at) refl
     by false false true d e = let at : line.Finish session true ≡ l = cc e in rw (← at) refl
@@ -65,7 +70,8 @@ whose q (a ∷ b ∷ c ∷ []) l e = cc e
 whose q (session ∷ word ∷ key ∷ value ∷ []) l e =
     by (is_some (name_fault session)) (same word (codes "r")) (same word (codes "w")) e
   where
-    by : (a b c : Bool) → cond a (Err kind.BadSession) (cond b (in_session session (op_of false key value)) (cond c (in_session session (op_of true key value)) (Err kind.UnknownWord))) ≡ Ok l → does q l ≡ same session q
+    by : (a b c : Bool) → cond a (Err kind.BadSession) (cond b (in_session session (op_of false key value))
+        (cond c (in_session session (op_of true key value)) (Err kind.UnknownWord))) ≡ Ok l → does q l ≡ same session q
     by true b c e = cc e
     by false true c e = operation-of q session _ l e
     by false false true e = operation-of q session _ l e
@@ -84,7 +90,8 @@ module _ (p : Line → Bool) (s : Record → Bool) (agree : (fields : Record) (l
   lines-filter [] past = refl
   lines-filter (fields ∷ rest) past = by (line_of fields) refl (s fields) refl (lines-filter rest)
     where
-      first : (r : Result Line RowFaultKind) → line_of fields ≡ r → (lines : List Line) → lines_after (noted r lines) (filter s rest) ≡ lines_after lines (fields ∷ filter s rest)
+      first : (r : Result Line RowFaultKind) → line_of fields ≡ r → (lines : List Line)
+          → lines_after (noted r lines) (filter s rest) ≡ lines_after lines (fields ∷ filter s rest)
       first r e lines = ap (λ x. lines_after (noted x lines) (filter s rest)) (sym e)
 
       by : (r : Result Line RowFaultKind) → line_of fields ≡ r → (b : Bool) → s fields ≡ b
@@ -149,7 +156,8 @@ done-kept q (line.Begin s ∷ past) = by (same s q) (done-kept q past)
     by false more = more
 done-kept q (line.Operation s op ∷ past) = by (same s q) (done-kept q past)
   where
-    by : (b : Bool) → done q past ≡ done q (filter (does q) past) → done q past ≡ done q (cond b (line.Operation s op ∷ filter (does q) past) (filter (does q) past))
+    by : (b : Bool) → done q past ≡ done q (filter (does q) past)
+        → done q past ≡ done q (cond b (line.Operation s op ∷ filter (does q) past) (filter (does q) past))
     by true more = more
     by false more = more
 done-kept q (line.Finish s committed ∷ past) = by (same s q) refl (done-kept q past)
@@ -179,7 +187,8 @@ get-done (line.Finish s committed ∷ past) q =
     ∙ by (same s q) refl (get-done past q)
   where
     by : (b : Bool) → same s q ≡ b → finite.get (finished_by past) q ≡ done q past
-        → cond b (Some (unwrap_or (finite.get (finished_by past) s) [] ++ record { ops = ops_since s past; committed = committed } ∷ [])) (finite.get (finished_by past) q)
+        → cond b (Some (unwrap_or (finite.get (finished_by past) s) [] ++ record { ops = ops_since s past; committed = committed } ∷ []))
+        (finite.get (finished_by past) q)
         ≡ one_more b (record { ops = ops_since q past; committed = committed }) (done q past)
     by true e more =
         ap (λ n. Some (unwrap_or (finite.get (finished_by past) n) [] ++ record { ops = ops_since n past; committed = committed } ∷ [])) (same-name s q e)
@@ -221,7 +230,8 @@ items-of (fields ∷ rest) past free = by (judged past fields) refl free (items-
     same-fault (Some first) ahead = refl
 
     by : (r : Result Line RowFaultKind) → judged past fields ≡ r → (go_on past (λ lines. answers_after lines rest) r).fault ≡ None
-        → ((lines : List Line) → (answers_after lines rest).fault ≡ None → items_in lines ++ (answers_after lines rest).items ≡ items_in (lines_after lines rest))
+        → ((lines : List Line) → (answers_after lines rest).fault ≡ None
+        → items_in lines ++ (answers_after lines rest).items ≡ items_in (lines_after lines rest))
         → items_in past ++ (go_on past (λ lines. answers_after lines rest) r).items ≡ items_in (lines_after (noted (line_of fields) past) rest)
     by (Err k) e free next = cc free
     by (Ok last) e free next =

@@ -67,7 +67,8 @@ least-passes test (n ∷ ns) m e = by (test n) refl e (least-passes test ns)
         let at : lesser n k ≡ m = cc e in
         rw at at (lesser-one (λ x. test x ≡ true) n k here (more k refl))
 
-    by : (b : Bool) → test n ≡ b → least (cond b (n ∷ filter test ns) (filter test ns)) ≡ Some m → ((m : List ℕ) → least (filter test ns) ≡ Some m → test m ≡ true) → test m ≡ true
+    by : (b : Bool) → test n ≡ b → least (cond b (n ∷ filter test ns) (filter test ns)) ≡ Some m
+        → ((m : List ℕ) → least (filter test ns) ≡ Some m → test m ≡ true) → test m ≡ true
     by true here e more = of (least (filter test ns)) here more e
     by false there e more = more m e
 
@@ -186,7 +187,8 @@ open-taken None e = cc e
 open-taken (Some ops) e = (ops, refl)
 
 -- an entry of one that has begun
-entry-begun : (past : List Line) (seats : Seats) → HoldsSeats past seats → (e : Entry) → get same seats e.0 ≡ Some e.1 → is_some e.1 ≡ true → is_begun e.0 past ≡ true
+entry-begun : (past : List Line) (seats : Seats) → HoldsSeats past seats → (e : Entry) → get same seats e.0 ≡ Some e.1 → is_some e.1 ≡ true
+    → is_begun e.0 past ≡ true
 entry-begun past seats holds e there is_open =
     let (ops, taken) = open-taken e.1 is_open in
     (seat-taken _ _ _ ops (sym (holds.each e.0) ∙ there ∙ ap Some taken)).0
@@ -211,5 +213,7 @@ fold-is-least past seats holds found = by (fold lower None seats.entries) refl
     by : (o : Option (List ℕ)) → fold lower None seats.entries ≡ o → o ≡ least (open_sessions past)
     by None f = rw (none-open (λ t. is_begun t past) (sessions past) (none f)) refl
     by (Some s) f =
-        let begun : is_begun s past ≡ true = least-begun (λ t. is_begun t past ≡ true) seats.entries None s (λ a at. cc at) (λ k d inside. entry-begun past seats holds _ (found k d inside)) f in
+        let begun : is_begun s past ≡ true =
+        least-begun (λ t. is_begun t past ≡ true) seats.entries None s (λ a at. cc at)
+        (λ k d inside. entry-begun past seats holds _ (found k d inside)) f in
         sym (least-is (λ t. is_begun t past) s (sessions past) begun (begun-seen s past begun) (below s f))

@@ -1,5 +1,7 @@
 -- A text under a limit on its bytes, read in parts.
-use Rattle.std.proofs.Common.{◌≡◌, ℕ, ◌+◌, ◌-◌, ◌<◌, ◌≤◌, true, false, nat_le, List, [], ◌∷◌, ◌++◌, length, take, Option, option_map, None, Some, refl, sym, ap, ◌∙◌, arith, length-append, append_assoc, length-take-le, zero-le}
+use Rattle.std.proofs.Common.{◌≡◌, ℕ, ◌+◌, ◌-◌, ◌<◌, ◌≤◌, true, false, nat_le, List, [], ◌∷◌, ◌++◌, length, take, Option}
+use Rattle.std.proofs.Common.{option_map, None, Some, refl, sym, ap, ◌∙◌, arith, length-append, append_assoc, length-take-le}
+use Rattle.std.proofs.Common.zero-le
 use Rattle.std.proofs.lemmas.Bool.{cases_lt}
 use Rattle.std.proofs.lemmas.Bool.Decides.{nat_tests}
 use Rattle.std.proofs.Math.Logic.{⊎_elim}
@@ -64,9 +66,11 @@ past-limit-kept (Some xs) (Some ys) bytes some read =
     sym (marked-past 0 xs (omega (arith, ap length read, length-append bytes ys)))
 
 -- a read that the limit lets through
-pub limit-consumes : (old new : Option (List ℕ)) (part rest : List ℕ) (limit n : ℕ) → n ≤ length part → n ≤ limit → (0 < length (part ++ rest) → 0 < length part)
+pub limit-consumes : (old new : Option (List ℕ)) (part rest : List ℕ) (limit n : ℕ) → n ≤ length part → n ≤ limit
+    → (0 < length (part ++ rest) → 0 < length part)
     → Consumes old new (take n part) → (n ≡ 0 → 0 < length part → IsAtEnd new)
-    → Consumes (option_map (marked limit) old) (option_map (marked (limit - n)) new) (take n (part ++ rest)) × (n ≡ 0 → 0 < length (part ++ rest) → IsAtEnd (option_map (marked (limit - n)) new))
+    → Consumes (option_map (marked limit) old) (option_map (marked (limit - n)) new) (take n (part ++ rest))
+    × (n ≡ 0 → 0 < length (part ++ rest) → IsAtEnd (option_map (marked (limit - n)) new))
 limit-consumes None new part rest limit n fits within room read end =
     (tt, λ zero some. at-end (limit - n) new (end zero (room some)))
 limit-consumes (Some xs) None part rest limit n fits within room read end = absurd read

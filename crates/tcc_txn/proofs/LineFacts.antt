@@ -1,5 +1,7 @@
 -- The fields of a record, and the number that a field writes.
-use Rattle.std.proofs.Common.{◌≡◌, ◌≢◌, ℕ, zero, suc, ◌<◌, ◌^◌, Bool, true, false, List, [], ◌∷◌, length, get_or, refl, sym, ap, rules, arith, cond, nat_lt, inl, inr, ◌∙◌}
+use Rattle.std.proofs.Common.{◌≡◌, ◌≢◌, ℕ, zero, suc, ◌<◌, ◌^◌, Bool, true, false, List, [], ◌∷◌}
+use Rattle.std.proofs.Common.{length, get_or, refl, sym, ap, rules, arith, cond, nat_lt, inl, inr}
+use Rattle.std.proofs.Common.◌∙◌
 use Rattle.std.specs.Prelude.{IsSome, option_map, Option, None, Some, Result, Ok, Err, IsUtf8, ◌&&◌, ◌==◌, is_some, codes}
 use Rattle.std.specs.Result.{result_ok, OkIff}
 use Rattle.std.specs.Str.{all_ascii_digits}
@@ -45,7 +47,8 @@ below m n e = grind (arith, nat_tests)
 pub digits_of-parsed : {E : Type 0} (bytes : List ℕ) (r : Result ℕ E) → ParsesUnsigned 64 10 bytes r → get_or bytes 0 0 ≢ 43 → result_ok r ≡ digits_of bytes
 digits_of-parsed bytes r parsed unsigned = by bytes r (parse_plain (numerals_by_value _ tells_all_ascii_digits) 64 bytes r parsed unsigned)
   where
-    by : {E : Type 0} (bytes : List ℕ) (r : Result ℕ E) → OkIff r ((all_ascii_digits bytes ≡ true) × (0 < length bytes) × (digits_value 10 bytes < 2 ^ 64)) (digits_value 10 bytes) → result_ok r ≡ digits_of bytes
+    by : {E : Type 0} (bytes : List ℕ) (r : Result ℕ E) → OkIff r ((all_ascii_digits bytes ≡ true) × (0 < length bytes) × (digits_value 10 bytes < 2 ^ 64))
+        (digits_value 10 bytes) → result_ok r ≡ digits_of bytes
     by [] (Ok x) is = absurd (omega (arith, is.0.1))
     by (c ∷ cs) (Ok x) is =
         let small : nat_lt (digits_value 10 (c ∷ cs)) (2 ^ 64) ≡ true = grind (arith, nat_tests, is.0.2) in
@@ -55,7 +58,8 @@ digits_of-parsed bytes r parsed unsigned = by bytes r (parse_plain (numerals_by_
         sym (digits-by _ _ _ (λ digits small. is (digits, omega arith, below _ _ small)))
 
 -- each place of a record has a field
-pub field-there : {A : Type 0} (f : A → List ℕ) (o : Option A) (fields : Record) (place : ℕ) → place < length fields → option_map f o ≡ field_at fields place → IsSome o
+pub field-there : {A : Type 0} (f : A → List ℕ) (o : Option A) (fields : Record) (place : ℕ) → place < length fields
+    → option_map f o ≡ field_at fields place → IsSome o
 unfolding field_at
 field-there f (Some a) fields place within e = search rules
 field-there f None [] place within e = absurd (omega arith)
@@ -118,7 +122,10 @@ line_of-no_zero (word ∷ []) l e = by (same word (codes "seal")) e
 line_of-no_zero (session ∷ word ∷ []) l e =
     by (is_some (name_fault session)) (same word (codes "begin")) (same word (codes "commit")) (same word (codes "abort")) e
   where
-    by : (a b c d : Bool) → cond a (Err kind.BadSession) (cond b (Ok (line.Begin session)) (cond c (Ok (line.Finish session true)) (cond d (Ok (line.Finish session false)) (Err kind.UnknownWord)))) ≡ Ok l → writes_no_zero l
+    by : (a b c d : Bool)
+        → cond a (Err kind.BadSession)
+        (cond b (Ok (line.Begin session)) (cond c (Ok (line.Finish session true)) (cond d (Ok (line.Finish session false)) (Err kind.UnknownWord)))) ≡ Ok l
+        → writes_no_zero l
     by true b c d e = cc e
     by false true c d e = let at : line.Begin session ≡ l = cc e in rw (← at) tt
     by false false true d e = let at : line.Finish session true ≡ l = cc e in rw (← at) tt
@@ -128,7 +135,8 @@ line_of-no_zero (a ∷ b ∷ c ∷ []) l e = cc e
 line_of-no_zero (session ∷ word ∷ key ∷ value ∷ []) l e =
     by (is_some (name_fault session)) (same word (codes "r")) (same word (codes "w")) e
   where
-    by : (a b c : Bool) → cond a (Err kind.BadSession) (cond b (in_session session (op_of false key value)) (cond c (in_session session (op_of true key value)) (Err kind.UnknownWord))) ≡ Ok l → writes_no_zero l
+    by : (a b c : Bool) → cond a (Err kind.BadSession) (cond b (in_session session (op_of false key value))
+        (cond c (in_session session (op_of true key value)) (Err kind.UnknownWord))) ≡ Ok l → writes_no_zero l
     by true b c e = cc e
     by false true c e = in_session-no_zero session _ l (op_of-no_zero false key value) e
     by false false true e = in_session-no_zero session _ l (op_of-no_zero true key value) e

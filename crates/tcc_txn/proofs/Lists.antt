@@ -10,7 +10,9 @@
 --   from_flat_map     an element of the parts put together is one of some part
 -- In std: `or-false` (Math.Bool), `not-true`, `not-false`, `and_parts`, `or_parts` (lemmas.Bool), `Equal-is` (specs.Cmp),
 -- `bytes_eq-Decides` (lemmas.Slice.Eq), `exact_bytes`, `exact_unsigned` (lemmas.Map.Lookups).
-use Rattle.std.proofs.Common.{◌≡◌, ◌==◌, ◌⊎◌, ℕ, zero, suc, Bool, true, false, ◌||◌, inl, inr, List, [], ◌∷◌, ◌++◌, length, take, drop, filter, flat_map, cond, refl, sym, ap, ◌∙◌, arith, subst}
+use Rattle.std.proofs.Common.{◌≡◌, ◌==◌, ◌⊎◌, ℕ, zero, suc, Bool, true, false, ◌||◌, inl, inr, List, []}
+use Rattle.std.proofs.Common.{◌∷◌, ◌++◌, length, take, drop, filter, flat_map, cond, refl, sym, ap, ◌∙◌}
+use Rattle.std.proofs.Common.{arith, subst}
 use Rattle.std.specs.Prelude.{Ok, Err, IfOk, MatchResult}
 use Rattle.std.specs.declared.result.Result.{Result}
 use Rattle.std.specs.List.{Contains, list_any}
@@ -60,7 +62,8 @@ module _ {X : Type 0} (p : X → Bool) where
   from_filter [] x (k, l, e) = absurd (omega arith)
   from_filter (y ∷ xs) x c = go (p y) refl c (λ w. from_filter xs x w)
     where
-      go : (b : Bool) → p y ≡ b → Contains (cond b (y ∷ filter p xs) (filter p xs)) x → (Contains (filter p xs) x → Contains xs x × (p x ≡ true)) → Contains (y ∷ xs) x × (p x ≡ true)
+      go : (b : Bool) → p y ≡ b → Contains (cond b (y ∷ filter p xs) (filter p xs)) x → (Contains (filter p xs) x → Contains xs x × (p x ≡ true))
+          → Contains (y ∷ xs) x × (p x ≡ true)
       go true t (zero, l, e) rest = ((0, omega arith, e), ap p (sym e) ∙ t)
       go true t (suc k, l, e) rest = let w = rest (k, omega arith, e) in (later y x xs w.0, w.1)
       go false t c rest = let w = rest c in (later y x xs w.0, w.1)
@@ -75,6 +78,7 @@ module _ {X Y : Type 0} (f : X → List Y) where
   from_flat_map [] y (k, l, e) = absurd (omega arith)
   from_flat_map (z ∷ xs) y h = go (from_flat_map xs y) (Contains-append_cases (f z) (flat_map f xs) y h)
     where
-      go : (Contains (flat_map f xs) y → (x : X) × Contains xs x × Contains (f x) y) → Contains (f z) y ⊎ Contains (flat_map f xs) y → (x : X) × Contains (z ∷ xs) x × Contains (f x) y
+      go : (Contains (flat_map f xs) y → (x : X) × Contains xs x × Contains (f x) y) → Contains (f z) y ⊎ Contains (flat_map f xs) y
+          → (x : X) × Contains (z ∷ xs) x × Contains (f x) y
       go rest (inl here) = (z, (0, omega arith, refl), here)
       go rest (inr there) = let w = rest there in (w.0, later z w.0 xs w.1, w.2)

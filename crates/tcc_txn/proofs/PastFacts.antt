@@ -66,7 +66,8 @@ begun-seen q (line.Begin s ∷ past) e = by (same s q) refl e (begun-seen q past
     by false t e more = seen-other s q (sessions past) t ∙ more e
 begun-seen q (line.Finish s committed ∷ past) e = by (same s q) e (begun-seen q past)
   where
-    by : (b : Bool) → cond b false (is_begun q past) ≡ true → (is_begun q past ≡ true → list_any (same q) (sessions past) ≡ true) → list_any (same q) (sessions past) ≡ true
+    by : (b : Bool) → cond b false (is_begun q past) ≡ true → (is_begun q past ≡ true → list_any (same q) (sessions past) ≡ true)
+        → list_any (same q) (sessions past) ≡ true
     by true e more = cc e
     by false e more = more e
 begun-seen q (line.Operation s op ∷ past) e = begun-seen q past e
@@ -92,7 +93,8 @@ pub seat-begun : (s q : List ℕ) (past : List Line) → seat_of q (line.Begin s
 seat-begun s q past = by (same s q) refl
   where
     by : (b : Bool) → same s q ≡ b
-        → seat (cond b true (is_begun q past)) (cond b [] (ops_since q past ++ [])) (list_any (same q) (with_name s (sessions past))) ≡ cond b (Some (Some [])) (seat_of q past)
+        → seat (cond b true (is_begun q past)) (cond b [] (ops_since q past ++ [])) (list_any (same q) (with_name s (sessions past)))
+        ≡ cond b (Some (Some [])) (seat_of q past)
     by true e = refl
     by false e = rw (append-nil (ops_since q past), seen-other s q (sessions past) e) refl
 

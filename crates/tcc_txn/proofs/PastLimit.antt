@@ -1,11 +1,14 @@
 -- The last record of a text that is longer than the limit on bytes is cut.
-use Rattle.std.proofs.Common.{◌≡◌, ◌≢◌, ℕ, zero, suc, ◌+◌, ◌-◌, ◌<◌, ◌⊎◌, inl, inr, Bool, true, false, cond, List, [], ◌∷◌, ◌++◌, length, take, refl, sym, ap, subst, ◌∙◌, arith, Option, None, Some, Result, Ok, Err, length-append}
+use Rattle.std.proofs.Common.{◌≡◌, ◌≢◌, ℕ, zero, suc, ◌+◌, ◌-◌, ◌<◌, ◌⊎◌, inl, inr, Bool, true, false, cond, List, [], ◌∷◌}
+use Rattle.std.proofs.Common.{◌++◌, length, take, refl, sym, ap, subst, ◌∙◌, arith, Option, None, Some, Result, Ok, Err}
+use Rattle.std.proofs.Common.length-append
 use Rattle.std.specs.Prelude.{◌==◌, ◌&&◌}
 use Rattle.std.specs.List.{list_any}
 use Rattle.std.proofs.lemmas.Bool.{or_left, or_right}
 use Rattle.std.proofs.lemmas.List.Folds.{list_any-append}
 use Rattle.std.proofs.Math.Seq.{take-append_seam}
-use Rattle.csv.specs.Machine.{Read, after_end, ends_at_end, ends_with, field_after, fields_after, in_field, is_end, next_record, start_field, start_record, step}
+use Rattle.csv.specs.Machine.{Read, after_end, ends_at_end, ends_with, field_after, fields_after}
+use Rattle.csv.specs.Machine.{in_field, is_end, next_record, start_field, start_record, step}
 use Rattle.csv.specs.Reading.{default_config, is_bom, records_from, records_next, strip_bom}
 use Rattle.csv.specs.declared.parser.State.{State}
 use Rattle.csv.specs.declared.parser.State.TheVariants as st
@@ -99,7 +102,8 @@ marked-field fields field =
 abbrev Goes : Option Read → Type 0
 Goes o = (p : Read) × (o ≡ Some p) × (((p.2 ≡ []) × (is_cut p.0 ≡ true)) ⊎ ((rest : List ℕ) × (p.2 ≡ rest ++ past_limit ∷ [])))
 
-goes : (ys : List ℕ) (s : State) (fields : Record) (field : List ℕ) → in_comment s ≡ false → Goes (next_record default_config s fields field (ys ++ past_limit ∷ []))
+goes : (ys : List ℕ) (s : State) (fields : Record) (field : List ℕ) → in_comment s ≡ false
+    → Goes (next_record default_config s fields field (ys ++ past_limit ∷ []))
 unfolding next_record
 goes [] s fields field none =
     let (copy, inside) = copied s none in
@@ -115,7 +119,8 @@ goes (c ∷ ys) s fields field none =
     by (step default_config s c) (no-comment s c none) (λ s' none fields field. goes ys s' fields field none)
   where
     by : (p : State × Action) → in_comment p.0 ≡ false
-        → ((s' : State) → in_comment s' ≡ false → (fields : Record) (field : List ℕ) → Goes (next_record default_config s' fields field (ys ++ past_limit ∷ [])))
+        → ((s' : State) → in_comment s' ≡ false → (fields : Record) (field : List ℕ)
+        → Goes (next_record default_config s' fields field (ys ++ past_limit ∷ [])))
         → Goes (cond (is_end p.1) (Some (fields_after p.1 fields field, p.0, ys ++ past_limit ∷ []))
         (next_record default_config p.0 (fields_after p.1 fields field) (field_after p.1 c field) (ys ++ past_limit ∷ [])))
     by (s', act.EndRecord) none more = ((fields ++ field ∷ [], s', ys ++ past_limit ∷ []), refl, inr (ys, refl))
@@ -132,7 +137,8 @@ unfolding records_from next_record
 none-left zero s between = refl
 none-left (suc n) s between = rw between refl
 
-ends-cut : (n : ℕ) (s : State) (ys : List ℕ) → ends_at_end s ≡ false → length (ys ++ past_limit ∷ []) < n → EndsCut (records_from default_config n s (ys ++ past_limit ∷ []))
+ends-cut : (n : ℕ) (s : State) (ys : List ℕ) → ends_at_end s ≡ false → length (ys ++ past_limit ∷ []) < n
+    → EndsCut (records_from default_config n s (ys ++ past_limit ∷ []))
 unfolding records_from
 ends-cut zero s ys between room = absurd (omega (arith, room))
 ends-cut (suc n) s ys between room =
@@ -143,7 +149,8 @@ ends-cut (suc n) s ys between room =
   where
     by : (p : Read) → ends_at_end p.1 ≡ false → length p.2 < length (ys ++ past_limit ∷ [])
         → ((p.2 ≡ []) × (is_cut p.0 ≡ true)) ⊎ ((rest : List ℕ) × (p.2 ≡ rest ++ past_limit ∷ []))
-        → ((s : State) (ys : List ℕ) → ends_at_end s ≡ false → length (ys ++ past_limit ∷ []) < n → EndsCut (records_from default_config n s (ys ++ past_limit ∷ [])))
+        → ((s : State) (ys : List ℕ) → ends_at_end s ≡ false → length (ys ++ past_limit ∷ []) < n
+        → EndsCut (records_from default_config n s (ys ++ past_limit ∷ [])))
         → EndsCut (p.0 ∷ records_from default_config n p.1 p.2)
     by p later shorter (inl (none, cut)) more =
         ([], p.0, ap (λ text. p.0 ∷ records_from default_config n p.1 text) none ∙ ap (λ rest. p.0 ∷ rest) (none-left n p.1 later), cut)
@@ -184,10 +191,13 @@ cut-judged : (past : List Line) (last : Record) → is_cut last ≡ true → jud
 cut-judged past last cut = rw cut refl
 
 always : (front : List Record) (last : Record) (past : List Line) → is_cut last ≡ true → (answers_after past (front ++ last ∷ [])).fault ≢ None
-always [] last past cut none = (let e : (answers_after past (last ∷ [])).fault ≡ Some (record { row = length past + 1; kind = kind.Read }) = rw (cut-judged past last cut) refl in cc (e, none))
+always [] last past cut none =
+    (let e : (answers_after past (last ∷ [])).fault ≡ Some (record { row = length past + 1; kind = kind.Read }) = rw (cut-judged past last cut) refl in
+    cc (e, none))
 always (fields ∷ rest) last past cut none = by (judged past fields) (λ lines. always rest last lines cut) none
   where
-    by : (r : Result Line RowFaultKind) → ((lines : List Line) → (answers_after lines (rest ++ last ∷ [])).fault ≢ None) → (go_on past (λ lines. answers_after lines (rest ++ last ∷ [])) r).fault ≢ None
+    by : (r : Result Line RowFaultKind) → ((lines : List Line) → (answers_after lines (rest ++ last ∷ [])).fault ≢ None)
+        → (go_on past (λ lines. answers_after lines (rest ++ last ∷ [])) r).fault ≢ None
     by (Err k) more none = cc none
     by (Ok l) more none = more (l ∷ past) (sym (kept-fault (item_of past l) (answers_after (l ∷ past) (rest ++ last ∷ []))) ∙ none)
 
@@ -214,4 +224,5 @@ read-at text long lawful =
     let before : records_before (length (records_of text)) (records_of text) ≡ front
     = ap (λ records. take (length records - 1) records) all
     ∙ ap (λ n. take n (front ++ last ∷ [])) (omega (arith, length-append front (last ∷ []))) ∙ take-append_seam front (last ∷ []) in
-    ap (λ records. (answers_after [] records).fault) all ∙ at-last front last [] (length (records_of text)) cut (omega (arith, many)) (subst (AreLawful []) before lawful)
+    ap (λ records. (answers_after [] records).fault) all ∙ at-last front last [] (length (records_of text)) cut (omega (arith, many))
+    (subst (AreLawful []) before lawful)

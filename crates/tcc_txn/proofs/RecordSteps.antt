@@ -1,7 +1,11 @@
 -- One record taken off what a reader has left.
-use Rattle.std.proofs.Common.{◌≡◌, ℕ, zero, suc, ◌+◌, ◌<◌, ◌≤◌, Bool, true, false, List, [], ◌∷◌, ◌++◌, length, Option, option_map, None, Some, refl, sym, ap, ◌∙◌, arith, append_assoc, cond, add-one, length-append}
+use Rattle.std.proofs.Common.{◌≡◌, ℕ, zero, suc, ◌+◌, ◌<◌, ◌≤◌, Bool, true, false, List, [], ◌∷◌, ◌++◌, length, Option}
+use Rattle.std.proofs.Common.{option_map, None, Some, refl, sym, ap, ◌∙◌, arith, append_assoc, cond, add-one}
+use Rattle.std.proofs.Common.length-append
 use Rattle.std.specs.Prelude.{◌==◌, MatchResult, OnOk, Result, Ok, Err}
-use Rattle.csv.specs.Machine.{Read, step, next_record, ends_at_end, is_end, fields_after, field_after, in_field, start_field, start_record, after_end, ends_with}
+use Rattle.csv.specs.Machine.{Read, step, next_record, ends_at_end, is_end, fields_after}
+use Rattle.csv.specs.Machine.{field_after, in_field, start_field, start_record, after_end}
+use Rattle.csv.specs.Machine.ends_with
 use Rattle.csv.specs.Reading.{ReadRecord, Reached, default_config, reader_state, records_from, records_next}
 use Rattle.csv.specs.declared.parser.State.{State}
 use Rattle.csv.specs.declared.parser.State.TheVariants as st
@@ -50,7 +54,8 @@ start_field-between c =
 
 start_record-between : (c : ℕ) → IsBetween (start_record default_config c)
 start_record-between c =
-    either-between (ends_with term.CRLF c) (st.StartRecord, act.Skip) (start_field default_config c) (goes-on st.StartRecord act.Skip refl) (start_field-between c)
+    either-between (ends_with term.CRLF c) (st.StartRecord, act.Skip) (start_field default_config c) (goes-on st.StartRecord act.Skip refl)
+    (start_field-between c)
 
 step-between : (s : State) (c : ℕ) → IsBetween (step default_config s c)
 step-between st.StartRecord c = start_record-between c
@@ -102,12 +107,15 @@ next_record-leaves s fields field [] p e = by (ends_at_end s) e
     by false e = cc e
 next_record-leaves s fields field (c ∷ rest) p e =
     by (is_end (step default_config s c).1) refl e
-    (next_record-leaves (step default_config s c).0 (fields_after (step default_config s c).1 fields field) (field_after (step default_config s c).1 c field) rest p)
+    (next_record-leaves (step default_config s c).0 (fields_after (step default_config s c).1 fields field)
+    (field_after (step default_config s c).1 c field) rest p)
   where
     by : (b : Bool) → is_end (step default_config s c).1 ≡ b
         → cond b (Some (fields_after (step default_config s c).1 fields field, (step default_config s c).0, rest))
-        (next_record default_config (step default_config s c).0 (fields_after (step default_config s c).1 fields field) (field_after (step default_config s c).1 c field) rest) ≡ Some p
-        → (next_record default_config (step default_config s c).0 (fields_after (step default_config s c).1 fields field) (field_after (step default_config s c).1 c field) rest ≡ Some p → Leaves rest p)
+        (next_record default_config (step default_config s c).0 (fields_after (step default_config s c).1 fields field)
+        (field_after (step default_config s c).1 c field) rest) ≡ Some p
+        → (next_record default_config (step default_config s c).0 (fields_after (step default_config s c).1 fields field)
+        (field_after (step default_config s c).1 c field) rest ≡ Some p → Leaves rest p)
         → Leaves (c ∷ rest) p
     by true t e more = at-record-end s c rest _ p t e
     by false t e more = longer c rest p (more e)
@@ -125,7 +133,8 @@ next_record-shorter s (c ∷ rest) p between e =
   where
     by : (b : Bool) → is_end (step default_config s c).1 ≡ b
         → cond b (Some (fields_after (step default_config s c).1 [] [], (step default_config s c).0, rest))
-        (next_record default_config (step default_config s c).0 (fields_after (step default_config s c).1 [] []) (field_after (step default_config s c).1 c []) rest) ≡ Some p
+        (next_record default_config (step default_config s c).0 (fields_after (step default_config s c).1 [] [])
+        (field_after (step default_config s c).1 c []) rest) ≡ Some p
         → length p.2 < length (c ∷ rest)
     by true t e = let at : rest ≡ p.2 = some-rest _ _ _ p e in omega (arith, ap length at)
     by false t e = let h : length p.2 ≤ length rest = (next_record-leaves _ _ _ rest p e).shorter in omega arith
@@ -140,7 +149,8 @@ records_from-turns (suc m) (suc n) s text between a b =
     by (next_record default_config s [] [] text) refl (λ p. records_from-turns m n p.1 p.2)
   where
     by : (o : Option Read) → next_record default_config s [] [] text ≡ o
-        → ((p : Read) → ends_at_end p.1 ≡ false → length p.2 < m → length p.2 < n → records_from default_config m p.1 p.2 ≡ records_from default_config n p.1 p.2)
+        → ((p : Read) → ends_at_end p.1 ≡ false → length p.2 < m → length p.2 < n
+        → records_from default_config m p.1 p.2 ≡ records_from default_config n p.1 p.2)
         → records_next (records_from default_config m) o ≡ records_next (records_from default_config n) o
     by None e more = refl
     by (Some p) e more =
@@ -154,7 +164,8 @@ unfolding records_from
 records_after-some s text p between e =
     let turns : length text + 1 ≡ suc (length text) = add-one _ in
     let left : length p.2 < length text = next_record-shorter s text p between e in
-    rw (turns, e) (ap (λ rest. p.0 ∷ rest) (records_from-turns (length text) (length p.2 + 1) p.1 p.2 (next_record-leaves s [] [] text p e).between left (omega arith)))
+    rw (turns, e) (ap (λ rest. p.0 ∷ rest) (records_from-turns (length text) (length p.2 + 1) p.1 p.2 (next_record-leaves s [] [] text p e).between left
+    (omega arith)))
 
 -- no record, and none after it
 pub records_after-none : (s : State) (text : List ℕ) → next_record default_config s [] [] text ≡ None → records_after s text ≡ []
@@ -178,7 +189,9 @@ pub takes-record : {R : Type 0} (remaining : R → Option (List ℕ)) (old new :
 unfolding Reached
 takes-record remaining old new left true has read plain =
     let (text, known, all) = from-map _ _ _ has.known in
-    let (rest, known_rest, reached) = rows-more (limited_remaining remaining) old.reader new.reader (record_of new) default_config (reader_state old.reader) text text [] has.plain.config known (refl, refl) read in
+    let (rest, known_rest, reached) =
+    rows-more (limited_remaining remaining) old.reader new.reader (record_of new) default_config
+    (reader_state old.reader) text text [] has.plain.config known (refl, refl) read in
     let (p, next, fields, at) = reached in
     let first : records_after (reader_state old.reader) text ≡ p.0 ∷ records_after p.1 p.2 = records_after-some _ text p has.between next in
     let later : ends_at_end p.1 ≡ false = between-records _ text p next in (

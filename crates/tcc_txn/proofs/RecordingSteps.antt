@@ -1,5 +1,7 @@
 -- A recording after one more item.
-use Rattle.std.proofs.Common.{◌≡◌, ℕ, ◌+◌, ◌≤◌, false, List, [], ◌∷◌, ◌++◌, length, refl, sym, ap, subst, ◌∙◌, arith, Some, None, Option, Result, Ok, Err, inl, inr, append_assoc, append-nil, length-append}
+use Rattle.std.proofs.Common.{◌≡◌, ℕ, ◌+◌, ◌≤◌, false, List, [], ◌∷◌, ◌++◌, length, refl, sym, ap, subst, ◌∙◌}
+use Rattle.std.proofs.Common.{arith, Some, None, Option, Result, Ok, Err, inl, inr, append_assoc, append-nil}
+use Rattle.std.proofs.Common.length-append
 use Rattle.std.specs.Prelude.{◌||◌, IfErr, IsErrAnd, MatchResult, IfSome}
 use Rattle.std.specs.FinMap as map
 use Rattle.std.proofs.lemmas.List.Folds.{list_any-append}
@@ -27,7 +29,8 @@ use Rattle.tcc_txn.specs.declared.rows.Rows.{Rows}
 
 -- some items were passed since these were taken, and others are still to come
 abbrev pub HasPassed : {R : Type 0} → (R → Option (List ℕ)) → Recording R → List Item → Answers → Type 0
-HasPassed remaining recording taken ahead = (passed : List Item) × (rest : Answers) × Passes ahead passed rest × IsRecording remaining recording (taken ++ passed) rest
+HasPassed remaining recording taken ahead =
+    (passed : List Item) × (rest : Answers) × Passes ahead passed rest × IsRecording remaining recording (taken ++ passed) rest
 
 -- some items of all were taken, and others are still to come
 abbrev pub HasTaken : {R : Type 0} → (R → Option (List ℕ)) → Recording R → Answers → Type 0
@@ -43,7 +46,8 @@ module _ {R : Type 0} (remaining : R → Option (List ℕ)) where
   begins recording all ahead none limits = record { answers = ahead; snapshot = none; limits = limits }
 
   -- one more item is taken
-  takes : (old new : Recording R) (taken : List Item) (x : Item) (rest rest' : Answers) → IsRecording remaining old taken rest → rest ≡ after_item (Some x) rest'
+  takes : (old new : Recording R) (taken : List Item) (x : Item) (rest rest' : Answers) → IsRecording remaining old taken rest
+      → rest ≡ after_item (Some x) rest'
       → IsAhead remaining new.rows rest' → new.snapshot ≡ with_item old.snapshot x → IsRecording remaining new (taken ++ x ∷ []) rest'
   takes old new taken x rest rest' recording is ahead grown = record {
     answers = ahead;
@@ -62,7 +66,8 @@ module _ {R : Type 0} (remaining : R → Option (List ℕ)) where
   }
 
   -- one more item is passed
-  passes : (ahead : Answers) (passed : List Item) (x : Item) (rest rest' : Answers) → Passes ahead passed rest → is_seal x ≡ false → rest ≡ after_item (Some x) rest'
+  passes : (ahead : Answers) (passed : List Item) (x : Item) (rest rest' : Answers) → Passes ahead passed rest → is_seal x ≡ false
+      → rest ≡ after_item (Some x) rest'
       → Passes ahead (passed ++ x ∷ []) rest'
   passes ahead passed x rest rest' before unsealed is = (
     list_any-append is_seal passed (x ∷ []) ∙ none before.0 unsealed,
@@ -73,12 +78,14 @@ module _ {R : Type 0} (remaining : R → Option (List ℕ)) where
       none a b = rw (a, b) refl
 
 -- nothing is passed yet
-pub not-begun : {R : Type 0} (remaining : R → Option (List ℕ)) (taken : List Item) (ahead : Answers) (recording : Recording R) → IsRecording remaining recording taken ahead
+pub not-begun : {R : Type 0} (remaining : R → Option (List ℕ)) (taken : List Item) (ahead : Answers) (recording : Recording R)
+    → IsRecording remaining recording taken ahead
     → HasPassed remaining recording taken ahead
 not-begun remaining taken ahead recording is =
     ([], ahead, (refl, refl), subst (λ items. IsRecording remaining recording items ahead) (sym (append-nil taken)) is)
 
-module _ {R : Type 0} (remaining : R → Option (List ℕ)) (taken : List Item) (ahead : Answers) (old new : Recording R) (way : HasPassed remaining old taken ahead) where
+module _ {R : Type 0} (remaining : R → Option (List ℕ)) (taken : List Item) (ahead : Answers) (old new : Recording R)
+    (way : HasPassed remaining old taken ahead) where
   -- the session has finished one more transaction
   pub goes_on : (session : List ℕ) (txn : Transaction) → TakesAnswer remaining way.1 (Ok (item.Finished session txn)) new.rows
       → new.snapshot ≡ with_transaction old.snapshot session txn → HasPassed remaining new taken ahead
@@ -113,7 +120,8 @@ module _ {R : Type 0} (remaining : R → Option (List ℕ)) (taken : List Item) 
   comes_to_end answer same =
       (way.0, (way.2.0, way.2.1 ∙ ap (after_items way.0) answer.0), stays remaining old new (taken ++ way.0) way.1 None way.3 answer.1 same)
 
-  pub stops : (fault : RowFault) → TakesAnswer remaining way.1 (Err fault) new.rows → new.snapshot ≡ old.snapshot → TakesMoment remaining taken ahead (Err fault) new
+  pub stops : (fault : RowFault) → TakesAnswer remaining way.1 (Err fault) new.rows → new.snapshot ≡ old.snapshot
+      → TakesMoment remaining taken ahead (Err fault) new
   stops fault answer same = (
     way.0,
     way.1,
@@ -127,8 +135,19 @@ module _ {R : Type 0} (remaining : R → Option (List ℕ)) (taken : List Item) 
   -- memory is refused
   pub gives_up : (fault : RowFault) → fault.kind ≡ kind.NoMemory → new.rows.phase ≡ phase.Stopped fault → new.snapshot ≡ old.snapshot
       → TakesMoment remaining taken ahead (Err fault) new
-  gives_up fault memory stopped same =
-      (way.0, way.1, way.2, inr (inr memory, way.0, [], sym (append-nil way.0), stays remaining old new (taken ++ way.0) way.1 (Some fault) way.3 (rw stopped refl) same))
+  gives_up fault memory stopped same = (
+    way.0,
+    way.1,
+    way.2,
+    inr (
+      inr memory,
+      way.0,
+      [],
+      sym (append-nil way.0),
+      stays remaining old new (taken ++ way.0) way.1 (Some fault) way.3
+          (rw stopped refl) same,
+    ),
+  )
 
   -- memory is refused for one more transaction
   pub loses_one : (session : List ℕ) (txn : Transaction) (rows : Rows R) (fault : RowFault) → TakesAnswer remaining way.1 (Ok (item.Finished session txn)) rows
@@ -155,7 +174,8 @@ if-err-of P (Ok _) fault is p = tt
 if-err-of P (Err why) fault is p = subst P (sym is) p
 
 -- the records that were read are some of all
-pub count-within : {R : Type 0} (remaining : R → Option (List ℕ)) (rows : Rows R) (all : List Record) → IsWithin remaining rows all → rows.records.count ≤ length all
+pub count-within : {R : Type 0} (remaining : R → Option (List ℕ)) (rows : Rows R) (all : List Record) → IsWithin remaining rows all
+    → rows.records.count ≤ length all
 count-within remaining rows all within = by rows.phase within
   where
     by : (p : Phase) → StandsBy p remaining rows.records all → rows.records.count ≤ length all
@@ -163,7 +183,8 @@ count-within remaining rows all within = by rows.phase within
     by phase.Ended stands = omega (arith, stands)
     by (phase.Stopped fault) stands = stands
 
-pub row-within : {R : Type 0} (remaining : R → Option (List ℕ)) (rows : Rows R) (all : List Record) → IsWithin remaining rows all → row_reached rows ≤ length all + 1
+pub row-within : {R : Type 0} (remaining : R → Option (List ℕ)) (rows : Rows R) (all : List Record) → IsWithin remaining rows all
+    → row_reached rows ≤ length all + 1
 row-within remaining rows all within = by rows.records.course
   where
     by : (c : Course) → row_in c rows.records.count ≤ length all + 1
@@ -177,7 +198,8 @@ err-of (Ok _) fault is = absurd is
 err-of (Err why) fault is = ap Err is
 
 -- what a recording that was given up says of the records
-pub within-stopped : {R : Type 0} (remaining : R → Option (List ℕ)) (old new : Rows R) (fault : RowFault) (all : List Record) → new ≡ record old { phase = phase.Stopped fault }
+pub within-stopped : {R : Type 0} (remaining : R → Option (List ℕ)) (old new : Rows R) (fault : RowFault) (all : List Record)
+    → new ≡ record old { phase = phase.Stopped fault }
     → IsWithin remaining old all → IsWithin remaining new all
 within-stopped remaining old new fault all stopped within = rw stopped (count-within remaining old all within)
 
@@ -192,7 +214,8 @@ never-stopped None now given next same stays = tt
 never-stopped (Some fault) None given next same stays = absurd (none-some fault same)
 never-stopped (Some fault) (Some met) given next same stays = cc
 
-pub not-end : (given : Item) (session : List ℕ) (txn : Transaction) → ◌≡◌ {A = Result Item RowFault} (Ok given) (Ok item.End) → given ≡ item.Finished session txn → ⊥
+pub not-end : (given : Item) (session : List ℕ) (txn : Transaction) → ◌≡◌ {A = Result Item RowFault} (Ok given) (Ok item.End)
+    → given ≡ item.Finished session txn → ⊥
 not-end given session txn end is = apart (ok-of end)
   where
     ok-of : ◌≡◌ {A = Result Item RowFault} (Ok given) (Ok item.End) → given ≡ item.End
@@ -234,9 +257,11 @@ module _ {R : Type 0} (remaining : R → Option (List ℕ)) (text : List ℕ) (o
       ]
 
 -- nothing of a text is taken yet
-pub none-taken : {R : Type 0} (remaining : R → Option (List ℕ)) (recording : Recording R) (all : Answers) → IsRecording remaining recording [] all → HasTaken remaining recording all
+pub none-taken : {R : Type 0} (remaining : R → Option (List ℕ)) (recording : Recording R) (all : Answers) → IsRecording remaining recording [] all
+    → HasTaken remaining recording all
 none-taken remaining recording all is = ([], all, refl, is)
 
-pub matched-err : {A : Type 0} (P : A → Type 0) (Q : RowFault → Type 0) (r : Result A RowFault) (fault : RowFault) → IsErrAnd r (λ why. why ≡ fault) → Q fault → MatchResult r P Q
+pub matched-err : {A : Type 0} (P : A → Type 0) (Q : RowFault → Type 0) (r : Result A RowFault) (fault : RowFault) → IsErrAnd r (λ why. why ≡ fault)
+    → Q fault → MatchResult r P Q
 matched-err P Q (Ok _) fault is q = absurd is
 matched-err P Q (Err why) fault is q = subst Q (sym is) q

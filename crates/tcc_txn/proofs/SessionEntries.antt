@@ -1,5 +1,7 @@
 -- The sessions of a snapshot as entries in byte order of their names: what stands under a name, and which name comes first.
-use Rattle.std.proofs.Common.{ℕ, zero, suc, ◌≡◌, ◌<◌, ◌⊎◌, inl, inr, Bool, true, false, cond, T, List, [], ◌∷◌, length, map, get_or, Some, refl, sym, ap, subst, ◌∙◌, arith}
+use Rattle.std.proofs.Common.{ℕ, zero, suc, ◌≡◌, ◌<◌, ◌⊎◌, inl, inr, Bool, true, false, cond, T}
+use Rattle.std.proofs.Common.{List, [], ◌∷◌, length, map, get_or, Some, refl, sym, ap, subst, ◌∙◌}
+use Rattle.std.proofs.Common.arith
 use Rattle.std.specs.Prelude.{unwrap_or}
 use Rattle.std.specs.List.{AllByRecursion, Contains}
 use Rattle.std.specs.List.Sorted.{IsStrictlySortedBy}
@@ -33,13 +35,15 @@ equal-if Greater e = cc
 
 below_at : (name : List ℕ) (es : List Named) (e : Named) → T (below_all name_cmp name es) → Contains es e → name_cmp name e.0 ≡ Less
 below_at name [] e below (i, l, is) = absurd (omega arith)
-below_at name (f ∷ es) e below (zero, l, is) = subst (λ (z : Named). name_cmp name z.0 ≡ Less) is (less-if _ (both-parts _ (below_all name_cmp name es) below).0)
+below_at name (f ∷ es) e below (zero, l, is) =
+    subst (λ (z : Named). name_cmp name z.0 ≡ Less) is (less-if _ (both-parts _ (below_all name_cmp name es) below).0)
 below_at name (f ∷ es) e below (suc i, l, is) = below_at name es e (both-parts (is_lt (name_cmp name f.0)) _ below).1 (i, omega arith, is)
 
 found_entry : (es : List Named) (e : Named) → T (is_sorted name_cmp es) → Contains es e → find name_cmp e.0 es ≡ Some e.1
 found_entry [] e sorted (i, l, is) = absurd (omega arith)
 found_entry (f ∷ es) e sorted (zero, l, is) =
-    subst (λ (z : Named). find name_cmp z.0 (f ∷ es) ≡ Some z.1) is (ap (λ r. cond (is_eq r) (Some f.1) (find name_cmp f.0 es)) (tied_itself nat_list_cmp_total f.0))
+    subst (λ (z : Named). find name_cmp z.0 (f ∷ es) ≡ Some z.1) is
+    (ap (λ r. cond (is_eq r) (Some f.1) (find name_cmp f.0 es)) (tied_itself nat_list_cmp_total f.0))
 found_entry (f ∷ es) e sorted (suc i, l, is) =
     let parts = both-parts (below_all name_cmp f.0 es) (is_sorted name_cmp es) sorted in
     let high : name_cmp e.0 f.0 ≡ Greater = nat_list_cmp_total.antisymm e.0 f.0 ∙ ap ordering_reverse (below_at f.0 es e parts.0 (i, omega arith, is)) in
@@ -50,7 +54,8 @@ entry_found [] name v found = absurd cc
 entry_found (f ∷ es) name v found = go (is_eq (name_cmp name f.0)) refl found (λ rest. entry_found es name v rest)
   where
     go : (b : Bool) → is_eq (name_cmp name f.0) ≡ b → cond b (Some f.1) (find name_cmp name es) ≡ Some v
-        → (find name_cmp name es ≡ Some v → (e : Named) × Contains es e × (e.0 ≡ name) × (e.1 ≡ v)) → (e : Named) × Contains (f ∷ es) e × (e.0 ≡ name) × (e.1 ≡ v)
+        → (find name_cmp name es ≡ Some v → (e : Named) × Contains es e × (e.0 ≡ name) × (e.1 ≡ v))
+        → (e : Named) × Contains (f ∷ es) e × (e.0 ≡ name) × (e.1 ≡ v)
     go true tied same rest =
         let value : f.1 ≡ v = cc in
         (f, (0, omega arith, refl), sym (exact_bytes name f.0 (equal-if _ tied)), value)
@@ -100,11 +105,15 @@ module _ (s : Sessions) where
       go : (i ≡ j) ⊎ ((i < j) ⊎ (j < i)) → i < j
       go (inl same) =
           let tie : name_cmp (get_or (entries s) i d).0 (get_or (entries s) j d).0 ≡ Equal =
-          ap (λ (k : ℕ). name_cmp (get_or (entries s) i d).0 (get_or (entries s) k d).0) (sym same) ∙ tied_itself nat_list_cmp_total (get_or (entries s) i d).0 in
+          ap (λ (k : ℕ). name_cmp (get_or (entries s) i d).0 (get_or (entries s) k d).0) (sym same)
+          ∙ tied_itself nat_list_cmp_total (get_or (entries s) i d).0 in
           absurd cc
       go (inr (inl lower)) = lower
       go (inr (inr higher)) =
-          let back : name_cmp (name j) (name i) ≡ Less = Less-from_sorted name_cmp names_in j i [] sorted_names higher (omega (arith, within, length-map (entries s) (λ e. e.0))) in
-          let low : name_cmp (get_or (entries s) j d).0 (get_or (entries s) i d).0 ≡ Less = (λ t. name_cmp (sym (name_is j inside) t) (sym (name_is i within) t)) ∙ back in
-          let turned : name_cmp (get_or (entries s) i d).0 (get_or (entries s) j d).0 ≡ Greater = nat_list_cmp_total.antisymm (get_or (entries s) i d).0 (get_or (entries s) j d).0 ∙ ap ordering_reverse low in
+          let back : name_cmp (name j) (name i) ≡ Less =
+          Less-from_sorted name_cmp names_in j i [] sorted_names higher (omega (arith, within, length-map (entries s) (λ e. e.0))) in
+          let low : name_cmp (get_or (entries s) j d).0 (get_or (entries s) i d).0 ≡ Less =
+          (λ t. name_cmp (sym (name_is j inside) t) (sym (name_is i within) t)) ∙ back in
+          let turned : name_cmp (get_or (entries s) i d).0 (get_or (entries s) j d).0 ≡ Greater =
+          nat_list_cmp_total.antisymm (get_or (entries s) i d).0 (get_or (entries s) j d).0 ∙ ap ordering_reverse low in
           absurd cc

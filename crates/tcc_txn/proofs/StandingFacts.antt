@@ -1,5 +1,7 @@
 -- What is kept of the lines, after one more of them.
-use Rattle.std.proofs.Common.{◌≡◌, ℕ, ◌+◌, ◌<◌, ◌≤◌, ◌⊎◌, Bool, true, false, List, [], ◌∷◌, ◌++◌, length, Option, None, Some, Ok, Err, Result, length-append, refl, sym, ap, ◌∙◌, rules, arith, cond, nat_lt, inl, inr}
+use Rattle.std.proofs.Common.{◌≡◌, ℕ, ◌+◌, ◌<◌, ◌≤◌, ◌⊎◌, Bool, true, false, List, [], ◌∷◌, ◌++◌, length, Option, None}
+use Rattle.std.proofs.Common.{Some, Ok, Err, Result, length-append, refl, sym, ap, ◌∙◌, rules, arith, cond, nat_lt}
+use Rattle.std.proofs.Common.{inl, inr}
 use Rattle.std.specs.Prelude.{IsSome, is_some}
 use Rattle.std.specs.List.{list_any}
 use Rattle.std.specs.HashMap.{get, hash_map_len, Updates}
@@ -17,7 +19,9 @@ use Rattle.tcc_txn.specs.declared.rows.RowFaultKind.TheVariants as kind
 use Rattle.tcc_txn.specs.declared.rows.line.Line.{Line}
 use Rattle.tcc_txn.specs.declared.rows.line.Line.TheVariants as line
 use Rattle.tcc_txn.specs.declared.rows.progress.Progress.{Progress}
-use Rattle.tcc_txn.proofs.PastFacts.{seat-begun, seat-finished, seat-free, seat-none, seat-taken, same-itself, seat-operated, seen-noted, seen-other, with_name-new, with_name-seen}
+use Rattle.tcc_txn.proofs.PastFacts.{seat-begun, seat-finished, seat-free, seat-none, seat-taken}
+use Rattle.tcc_txn.proofs.PastFacts.{same-itself, seat-operated, seen-noted, seen-other}
+use Rattle.tcc_txn.proofs.PastFacts.{with_name-new, with_name-seen}
 use Rattle.tcc_txn.specs.declared.limits.TheConstants.{MAX_KEYS, MAX_OPERATIONS, MAX_SESSIONS, MAX_TRANSACTIONS}
 
 within : (m n : ℕ) → m ≤ n → nat_lt n m ≡ false
@@ -151,7 +155,8 @@ operation-refused past s op k None seats new holds place refused =
     inl (rw (free.0, refused) refl)
 operation-refused past s op k (Some ops) seats new holds place (inl full) =
     let there = begun-there past s seats ops holds place in
-    let many : nat_lt MAX_OPERATIONS (length (ops_since s (line.Operation s op ∷ past))) ≡ true = above _ _ (omega (arith, more-ops past s op, ap length there.1, full.1)) in
+    let many : nat_lt MAX_OPERATIONS (length (ops_since s (line.Operation s op ∷ past))) ≡ true =
+    above _ _ (omega (arith, more-ops past s op, ap length there.1, full.1)) in
     inl (rw (there.0, many, full.0) refl)
 operation-refused past s op k (Some ops) seats new holds place (inr want) = inr want
 

@@ -69,7 +69,9 @@ rising_parts sorted distinct rising = is_sorted-parts_of sorted ∙ rising_names
 pub stored_sorted : (parts sorted : List (List ℕ × Vec Transaction)) → snapshot_fault (parts_of parts) ≡ None → IsPermutation parts sorted
     → IsSortedByKey (λ part. part.0) (slice_cmp nat_cmp) sorted → IsStored sorted
 stored_sorted parts sorted none moved rising =
-    let facts = faultless (first_repeated [] (names_of parts)) (length parts) (sum_by (λ part. length part.1.items) parts) (sym (snapshot_fault-parts_of parts) ∙ none) in
+    let facts =
+    faultless (first_repeated [] (names_of parts)) (length parts) (sum_by (λ part. length part.1.items) parts)
+    (sym (snapshot_fault-parts_of parts) ∙ none) in
     let distinct : IsDistinct same_name (names_of parts) = distinct_names [] (names_of parts) facts.distinct distinct_none in
     record {
       sorted = subst T (sym (rising_parts sorted (distinct_IsPermutation parts sorted distinct moved) rising)) tt;
@@ -81,7 +83,9 @@ stored_sorted parts sorted none moved rising =
 pub shown_parts : (parts sorted : List (List ℕ × Vec Transaction)) → snapshot_fault (parts_of parts) ≡ None → IsPermutation parts sorted
     → IsSortedByKey (λ part. part.0) (slice_cmp nat_cmp) sorted → shown sorted ≡ finite.from_entries (parts_of parts)
 shown_parts parts sorted none moved rising =
-    let facts = faultless (first_repeated [] (names_of parts)) (length parts) (sum_by (λ part. length part.1.items) parts) (sym (snapshot_fault-parts_of parts) ∙ none) in
+    let facts =
+    faultless (first_repeated [] (names_of parts)) (length parts) (sum_by (λ part. length part.1.items) parts)
+    (sym (snapshot_fault-parts_of parts) ∙ none) in
     let distinct : IsDistinct same_name (names_of parts) = distinct_names [] (names_of parts) facts.distinct distinct_none in
     let parts_distinct : IsDistinct same_name (names_of (parts_of parts)) = subst (IsDistinct same_name) (sym (names_of-parts_of parts)) distinct in
     shown_sorted (parts_of parts) (parts_of sorted) parts_distinct

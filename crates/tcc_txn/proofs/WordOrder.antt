@@ -1,5 +1,7 @@
 -- The order of names is that of their padded bytes, eight by eight, read as numbers.
-use Rattle.std.proofs.Common.{◌≡◌, ℕ, zero, suc, ◌+◌, ◌-◌, ◌*◌, ◌≤◌, ◌<◌, true, List, [], ◌∷◌, ◌++◌, length, take, drop, get_or, refl, sym, ap, subst, ◌∙◌, arith, None, Ordering, Less, Equal, Greater}
+use Rattle.std.proofs.Common.{◌≡◌, ℕ, zero, suc, ◌+◌, ◌-◌, ◌*◌, ◌≤◌, ◌<◌, true, List, [], ◌∷◌, ◌++◌, length}
+use Rattle.std.proofs.Common.{take, drop, get_or, refl, sym, ap, subst, ◌∙◌, arith, None, Ordering, Less, Equal}
+use Rattle.std.proofs.Common.Greater
 use Rattle.std.proofs.lemmas.Bool.Decides.{nat_tests}
 use Rattle.std.proofs.lemmas.List.{get_or-drop, drop-drop, drop_all, length-take, length-drop, take_all}
 use Rattle.std.proofs.lemmas.List.Sums.{prefix_len_passes}
@@ -60,7 +62,8 @@ cmp-four xs ys e f =
     ∙ cmp-from (word_cmp 0 xs ys) 8 xs ys
     ∙ cmp-from two 16 xs ys
     ∙ cmp-from three 24 xs ys
-    ∙ (λ i. ordering_then (ordering_then three (word_cmp 24 xs ys)) (slice_cmp nat_cmp (drop_all 32 xs (omega (arith, e)) i) (drop_all 32 ys (omega (arith, f)) i)))
+    ∙ (λ i. ordering_then (ordering_then three (word_cmp 24 xs ys))
+    (slice_cmp nat_cmp (drop_all 32 xs (omega (arith, e)) i) (drop_all 32 ys (omega (arith, f)) i)))
     ∙ sym (then_equal (ordering_then three (word_cmp 24 xs ys)))
 
 -- the number that `high` makes with n bytes from a place on behind it
@@ -82,7 +85,8 @@ cmp-number_from a b at zero xs ys e f p q = then_equal (nat_cmp a b)
 cmp-number_from a b at (suc n) xs ys e f p q =
     rw (drop-cons xs at 0 (omega (arith, e)), drop-cons ys at 0 (omega (arith, f)))
     (cmp-number_from (a * 256 + get_or xs at 0) (b * 256 + get_or ys at 0) (suc at) n xs ys (omega (arith, e)) (omega (arith, f)) p q
-    ∙ ap (λ o. ordering_then o (slice_cmp nat_cmp (take n (drop (suc at) xs)) (take n (drop (suc at) ys)))) (cmp-digit a b (get_or xs at 0) (get_or ys at 0) (p at) (q at))
+    ∙ ap (λ o. ordering_then o (slice_cmp nat_cmp (take n (drop (suc at) xs)) (take n (drop (suc at) ys))))
+    (cmp-digit a b (get_or xs at 0) (get_or ys at 0) (p at) (q at))
     ∙ sym (then_assoc (nat_cmp a b) (nat_cmp (get_or xs at 0) (get_or ys at 0)) _))
 
 number_from-word : (bytes : List ℕ) → from_be_bytes w64 bytes ≡ number_from 0 0 8 bytes

@@ -41,7 +41,8 @@ Passes ahead passed rest = (has_seal passed ≡ false) × (ahead ≡ after_items
 abbrev pub StopsWith : {R : Type 0} → (R → Option (List ℕ)) → List Item → List Item → Answers → RowFault → Recording R → Type 0
 StopsWith remaining taken passed rest fault new =
     ((rest ≡ ending (Some fault)) × IsRecording remaining new (taken ++ passed) (ending (Some fault)))
-    ⊎ (IsFailure fault.kind × (kept : List Item) × (lost : List Item) × (passed ≡ kept ++ lost) × IsRecording remaining new (taken ++ kept) (ending (Some fault)))
+    ⊎ (IsFailure fault.kind × (kept : List Item) × (lost : List Item) × (passed ≡ kept ++ lost)
+    × IsRecording remaining new (taken ++ kept) (ending (Some fault)))
 
 -- the recording went on to the next seal, to the end or to a fault
 abbrev pub TakesMoment : {R : Type 0} → (R → Option (List ℕ)) → List Item → Answers → Result Moment RowFault → Recording R → Type 0
@@ -56,7 +57,8 @@ TakesMoment remaining taken ahead (Err fault) new = (passed : List Item) × (res
 abbrev pub FailsBehind : List Item → ℕ → List Record → Type 0
 FailsBehind taken row all = FailsAt row all × (passed : List Item) × (has_seal passed ≡ false) × (items_before row all ≡ taken ++ passed)
 
--- what comes of a text: the snapshot of all that its records finish where they have no fault, else the fault; or its reading failed behind lawful records, or memory was refused at some record
+-- what comes of a text: the snapshot of all that its records finish where they have no fault, else
+-- the fault; or its reading failed behind lawful records, or memory was refused at some record
 abbrev pub IsRecorded : List ℕ → Result Sessions RowFault → Type 0
 IsRecorded text (Ok s) = ((answers_of text).fault ≡ None) × (s ≡ finished_in (answers_of text).items)
 IsRecorded text (Err fault) =

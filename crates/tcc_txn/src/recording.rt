@@ -45,7 +45,8 @@ impl<R: Read + Drop> Recording<R> {
 
     /// Reads on to the next seal or to the end; after the end there is the end, after a fault that fault.
     pub fn advance(&mut self, alloc: Global) -> Result<Moment, RowFault>
-        ensures moment { (taken : List Item) (ahead : Answers) → IsRecording R.remaining self.old taken ahead → TakesMoment R.remaining taken ahead result self.new }
+        ensures moment { (taken : List Item) (ahead : Answers) → IsRecording R.remaining self.old taken ahead
+            → TakesMoment R.remaining taken ahead result self.new }
         ensures within { (all : List Record) → IsWithin R.remaining self.old.rows all → IsWithin R.remaining self.new.rows all }
 
         // Whatever is known of the bytes, what was finished stays, and each session only goes on.
@@ -84,7 +85,8 @@ impl<R: Read + Drop> Recording<R> {
     fn take(&mut self, alloc: Global, session: Name, txn: Txn) -> Result<(), RowFault>
         ensures taken { OnOk result ((self.new.snapshot ≡ with_transaction self.old.snapshot session txn) × (self.new.rows ≡ self.old.rows)) }
         ensures kept { OnErr result (self.new.snapshot ≡ self.old.snapshot) }
-        ensures stopped { IfErr result (λ fault. (self.new.rows ≡ record self.old.rows { phase = phase.Stopped fault }) × (fault.row ≡ row_reached self.old.rows)) }
+        ensures stopped { IfErr result (λ fault. (self.new.rows ≡ record self.old.rows { phase = phase.Stopped fault })
+            × (fault.row ≡ row_reached self.old.rows)) }
         ensures known { IfErr result (λ fault. fault.kind ≢ RowFaultKind.Read) }
         ensures memory { KeepsLimits (with_transaction self.old.snapshot session txn) → IfErr result (λ fault. fault.kind ≡ RowFaultKind.NoMemory) }
     {
@@ -96,7 +98,8 @@ impl<R: Read + Drop> Recording<R> {
 
     /// Reads on to the end, whatever is sealed.
     fn pass_seals(&mut self, alloc: Global) -> Result<(), RowFault>
-        ensures { (text : List ℕ) → IsRecording R.remaining self.old [] (answers_of text) → IsWithin R.remaining self.old.rows (records_of text) → fault_met self.old.rows ≡ None
+        ensures { (text : List ℕ) → IsRecording R.remaining self.old [] (answers_of text) → IsWithin R.remaining self.old.rows (records_of text)
+            → fault_met self.old.rows ≡ None
             → MatchResult result (λ done. IsRecorded text (Ok self.new.snapshot)) (λ fault. IsRecorded text (Err fault)) }
     {
         'seals: for _turn in 0..u64::MAX {

@@ -300,7 +300,8 @@ impl<R: Read + Drop> Rows<R> {
 
     /// The end of the records.
     fn finish(&mut self) -> Result<Option<Item>, RowFault>
-        ensures unfinished { IfErr result (λ fault. (past : List Line) → IsAfter past self.old.progress → row_reached self.old ≡ length past → fault_at_end past ≡ Some fault) }
+        ensures unfinished { IfErr result (λ fault. (past : List Line) → IsAfter past self.old.progress → row_reached self.old ≡ length past
+            → fault_at_end past ≡ Some fault) }
         ensures closed { OnOk result ((past : List Line) → IsAfter past self.old.progress → fault_at_end past ≡ None) }
         ensures end { IfOk result (λ given. given ≡ Some Item.End) }
         ensures phase { OnOk result (self.new.phase ≡ Phase.Ended) }

@@ -1,5 +1,7 @@
 //! Snapshots: what the sessions had finished at one moment.
-ghost use Rattle.std.specs.Prelude.{◌≡◌, ◌≢◌, ◌≤◌, ◌<◌, ◌⊎◌, ◌++◌, ◌∷◌, [], T, true, false, nat_eq, nat_lt, map, length, sum_by, None, Some, IfErr, MatchResult, OnErr, OnOk, option_map, slice_get, unwrap_or};
+ghost use Rattle.std.specs.Prelude.{◌≡◌, ◌≢◌, ◌≤◌, ◌<◌, ◌⊎◌, ◌++◌, ◌∷◌, [], T, true, false, nat_eq, nat_lt, map};
+ghost use Rattle.std.specs.Prelude.{length, sum_by, None, Some, IfErr, MatchResult, OnErr, OnOk, option_map};
+ghost use Rattle.std.specs.Prelude.{slice_get, unwrap_or};
 ghost use Rattle.std.specs.FinMap as sessions;
 ghost use Rattle.std.specs.FinMap.Entries.{find, is_sorted, put};
 ghost use Rattle.std.specs.List.{insert, list_any};
@@ -168,11 +170,13 @@ fn add_to(
     txn: Txn,
 ) -> Result<(), RowFaultKind>
     requires { T (is_sorted (slice_cmp nat_cmp) (parts_of parts.old.items)) }
-    ensures added { OnOk result (parts_of parts.new.items ≡ put (slice_cmp nat_cmp) session (unwrap_or (find (slice_cmp nat_cmp) session (parts_of parts.old.items)) [] ++ txn ∷ []) (parts_of parts.old.items)) }
+    ensures added { OnOk result (parts_of parts.new.items ≡ put (slice_cmp nat_cmp) session
+        (unwrap_or (find (slice_cmp nat_cmp) session (parts_of parts.old.items)) [] ++ txn ∷ []) (parts_of parts.old.items)) }
     ensures kept { OnErr result (parts_of parts.new.items ≡ parts_of parts.old.items) }
     ensures few { OnOk result ((find (slice_cmp nat_cmp) session (parts_of parts.old.items) ≡ None) → length parts.old.items < MAX_SESSIONS) }
     ensures known { IfErr result (λ k. k ≢ RowFaultKind.Read) }
-    ensures refused { IfErr result (λ k. (k ≡ RowFaultKind.NoMemory) ⊎ ((MAX_SESSIONS ≤ length parts.old.items) × (find (slice_cmp nat_cmp) session (parts_of parts.old.items) ≡ None))) }
+    ensures refused { IfErr result
+        (λ k. (k ≡ RowFaultKind.NoMemory) ⊎ ((MAX_SESSIONS ≤ length parts.old.items) × (find (slice_cmp nat_cmp) session (parts_of parts.old.items) ≡ None))) }
 {
     let at = place_of(parts, &session);
     if stands_at(parts, at, &session) {

@@ -6,7 +6,9 @@ use Rattle.clap.specs.Walk.{Text, first_of}
 use Rattle.clap.specs.Faults.{fault_of, is_simple_and_free}
 use Rattle.clap.specs.Simple.{App, is_simple, subcommand_of}
 use Rattle.clap.specs.declared.error.kind.ErrorKind.{ErrorKind}
-use Rattle.clap.specs.declared.error.kind.ErrorKind.TheVariants.{ArgumentConflict, DisplayHelp, DisplayVersion, InvalidSubcommand, InvalidValue, MissingRequiredArgument, MissingSubcommand, TooManyValues, UnknownArgument, ValueValidation}
+use Rattle.clap.specs.declared.error.kind.ErrorKind.TheVariants.{ArgumentConflict, DisplayHelp, DisplayVersion, InvalidSubcommand}
+use Rattle.clap.specs.declared.error.kind.ErrorKind.TheVariants.{InvalidValue, MissingRequiredArgument, MissingSubcommand}
+use Rattle.clap.specs.declared.error.kind.ErrorKind.TheVariants.{TooManyValues, UnknownArgument, ValueValidation}
 use Rattle.clap.proofs.OnLiterals.{clap_on_literals}
 use Rattle.tcc_graph.specs.declared.level.Level.TheVariants.{Causal, Atomic}
 use Rattle.tcc_words.specs.CommandLines.{AreLevels, Words, certificate_path, json_text, level_text, level_word, tcc_command, workers_text}
@@ -72,8 +74,11 @@ check_faults = refl
 -- the subcommand, and the two paths: the first word is the history's, and the second the certificate's
 abbrev check_asks : List Text → Option Text × Option Text × Option Text
 check_asks words =
-    let met = subcommand_of program (codes "tcc" ∷ words) in
-    (option_map (λ entered. entered.0) met, option_and_then (λ entered. first_of (codes "history") entered.1) met, option_and_then (λ entered. first_of (codes "certificate") entered.1) met)
+    let met = subcommand_of program (codes "tcc" ∷ words) in (
+      option_map (λ entered. entered.0) met,
+      option_and_then (λ entered. first_of (codes "history") entered.1) met,
+      option_and_then (λ entered. first_of (codes "certificate") entered.1) met,
+    )
 
 check_reads : check_asks check_line ≡ (Some (codes "check"), Some (codes "h.csv"), Some (codes "c.txt"))
 unfolding clap_on_literals

@@ -4,7 +4,10 @@ ghost use Rattle.std.specs.String.{string_bytes};
 ghost use Rattle.clap.specs.Words.{FailsBy, IsUnsignedIn, app_of, fault_of, found_of, kind_of, rows_of, rule_of, subcommand_rows_of};
 ghost use Rattle.clap.specs.declared.error.kind.ErrorKind.TheVariants.{OutOfMemory};
 ghost use Rattle.tcc_graph.specs.declared.level.Level.{Level};
-ghost use Rattle.tcc_words.specs.CommandLines.{Asks, AsksBy, AsksCheck, AsksExplain, EndsUnasked, HasWorkers, IsAsked, IsFlag, IsLevel, IsWorkers, PrintsHelp, SaysWorkers, certificate_option, certificate_path, check_command, explain_command, json_text, level_option, level_text, level_word, path, tcc_command, valued_option, workers_option, workers_text};
+ghost use Rattle.tcc_words.specs.CommandLines.{Asks, AsksBy, AsksCheck, AsksExplain, EndsUnasked, HasWorkers, IsAsked, IsFlag};
+ghost use Rattle.tcc_words.specs.CommandLines.{IsLevel, IsWorkers, PrintsHelp, SaysWorkers, certificate_option, certificate_path};
+ghost use Rattle.tcc_words.specs.CommandLines.{check_command, explain_command, json_text, level_option, level_text, level_word};
+ghost use Rattle.tcc_words.specs.CommandLines.{path, tcc_command, valued_option, workers_option, workers_text};
 
 use crate::help;
 use clap::builder::ValueParser;
@@ -175,7 +178,8 @@ fn level_named(word: &str) -> Option<Level>
 
 /// The level that the subcommand has a word for; none exactly by another word.
 fn level_of(matches: &ArgMatches) -> Option<Level>
-    ensures { MatchOption result ((level : Level) → IsLevel (level_text (subcommand_rows_of matches.now)) level → ⊥) (IsLevel (level_text (subcommand_rows_of matches.now))) }
+    ensures { MatchOption result ((level : Level) → IsLevel (level_text (subcommand_rows_of matches.now)) level → ⊥)
+        (IsLevel (level_text (subcommand_rows_of matches.now))) }
 {
     match matches.subcommand() {
         Some((_name, explain)) => match explain.get_str("level") {
@@ -198,7 +202,8 @@ fn workers_named(word: &str) -> Option<u32>
 
 /// The number of workers that the subcommand has a word for; none exactly by another word.
 fn workers_of(matches: &ArgMatches) -> Option<u32>
-    ensures { MatchOption result ((workers : ℕ) → IsWorkers (workers_text (subcommand_rows_of matches.now)) workers → ⊥) (IsWorkers (workers_text (subcommand_rows_of matches.now))) }
+    ensures { MatchOption result ((workers : ℕ) → IsWorkers (workers_text (subcommand_rows_of matches.now)) workers → ⊥)
+        (IsWorkers (workers_text (subcommand_rows_of matches.now))) }
 {
     match matches.subcommand() {
         Some((_name, explain)) => match explain.get_str("workers") {

@@ -181,7 +181,8 @@ fn order<R: Read>(
     transactions: u32,
     sessions: u32,
 ) -> Result<(Part, Phase), CertFault>
-    ensures step { (at : Place) → IsAt R.remaining input.old at → TakesStep R.remaining at.line (order_parts version level transactions sessions at) result input.new }
+    ensures step { (at : Place) → IsAt R.remaining input.old at
+        → TakesStep R.remaining at.line (order_parts version level transactions sessions at) result input.new }
     ensures claim { IfOk result IsClaimStep }
 {
     let order = row(
@@ -211,7 +212,8 @@ fn cycle<R: Read>(
     count: u32,
     least: u32,
 ) -> Result<(Part, Phase), CertFault>
-    ensures step { (at : Place) → IsAt R.remaining input.old at → TakesStep R.remaining at.line (cycle_parts version level transactions count least at) result input.new }
+    ensures step { (at : Place) → IsAt R.remaining input.old at
+        → TakesStep R.remaining at.line (cycle_parts version level transactions count least at) result input.new }
     ensures claim { IfOk result IsClaimStep }
 {
     let links = links(alloc, input, version, count)?;
@@ -264,7 +266,8 @@ pub(crate) fn step<R: Read>(
     input: &mut Input<R>,
     stage: Stage,
 ) -> Result<(Part, Phase), CertFault>
-    ensures step { (at : Place) (ahead : Parts) → IsAt R.remaining input.old at → IsBehind stage at ahead → TakesStep R.remaining at.line ahead result input.new }
+    ensures step { (at : Place) (ahead : Parts) → IsAt R.remaining input.old at → IsBehind stage at ahead
+        → TakesStep R.remaining at.line ahead result input.new }
     ensures follows { IfOk result (λ given. IsStepAt stage given) }
 {
     match stage {

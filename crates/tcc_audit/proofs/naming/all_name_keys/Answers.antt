@@ -9,6 +9,7 @@ loop-txn-preserved c =
     let txns = c.args.txns.now in
     let front = take c.loop-txn.txn-index txns in
     let txn = c.txn-item.result in
-    let longer : take (c.loop-txn.txn-index + 1) txns ≡ front ++ txn ∷ [] = take_more txns c.loop-txn.txn-index txn c.loop-txn-test.true ∙ ap (λ p. front ++ p ∷ []) (sym c.txn-item.is) in
+    let longer : take (c.loop-txn.txn-index + 1) txns ≡ front ++ txn ∷ [] =
+    take_more txns c.loop-txn.txn-index txn c.loop-txn-test.true ∙ ap (λ p. front ++ p ∷ []) (sym c.txn-item.is) in
     let here : NamesKeys txn = subst (All NamesKey) c.ops.ensures.value c.names_keys.ensures in
     rw longer (All-push NamesKeys front txn c.loop-txn.invariant here)

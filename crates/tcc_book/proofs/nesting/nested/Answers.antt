@@ -17,14 +17,16 @@ pub returns-then-not-begins_with : goal.returns-then-not-begins_with
 returns-then-not-begins_with c =
     let here : slice_get (entries c.args.earlier.now) c.loop-i.i ≡ Some (c.in-Some.name.now, c.in-Some.txns.now) = search rules in
     first_cut c.args.earlier.now c.args.later.now c.loop-i.i (c.in-Some.name.now, c.in-Some.txns.now)
-    (omega (arith, c.sessions-i-end.ensures.value, len-entries c.args.earlier.now, c.loop-i-test.true)) here c.list_of.result.now c.list_of.ensures c.loop-i.invariant
+    (omega (arith, c.sessions-i-end.ensures.value, len-entries c.args.earlier.now, c.loop-i-test.true)) here c.list_of.result.now c.list_of.ensures
+    c.loop-i.invariant
     (c.begins_with.ensures.no c.if-not-begins_with.true)
 
 pub loop-i-preserved : goal.loop-i-preserved
 loop-i-preserved c =
     let here : slice_get (entries c.args.earlier.now) c.loop-i.i ≡ Some (c.in-Some.name.now, c.in-Some.txns.now) = search rules in
     one_more c.args.earlier.now c.args.later.now c.loop-i.i (c.in-Some.name.now, c.in-Some.txns.now)
-    (omega (arith, c.sessions-i-end.ensures.value, len-entries c.args.earlier.now, c.loop-i-test.true)) here c.list_of.result.now c.list_of.ensures c.loop-i.invariant
+    (omega (arith, c.sessions-i-end.ensures.value, len-entries c.args.earlier.now, c.loop-i-test.true)) here c.list_of.result.now c.list_of.ensures
+    c.loop-i.invariant
     (c.begins_with.ensures.yes c.if-not-begins_with.false)
 
 pub returns : goal.returns

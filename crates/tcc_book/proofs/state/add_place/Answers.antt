@@ -10,13 +10,18 @@ returns-in-Ok c =
     let list = c.in-Some.list.now in (
       list,
       sym list.ok.0 ∙ sym c.len.ensures ∙ c.if-len-held.false,
-      relists c.args.places.now (c.get_mut.follows.lender c.push.new.self) c.args.session.now list c.push.new.self _ (sym c.in-Some.ensures.value) c.in-Ok.ensures.items (c.get_mut.follows.holds c.push.new.self),
+      relists c.args.places.now (c.get_mut.follows.lender c.push.new.self) c.args.session.now list c.push.new.self _ (sym c.in-Some.ensures.value)
+          c.in-Ok.ensures.items (c.get_mut.follows.holds c.push.new.self),
     )
 
 pub returns-in-Err : goal.returns-in-Err
 returns-in-Err c =
     let list = c.in-Some.list.now in
-    inr (list, relists c.args.places.now (c.get_mut.follows.lender c.push.new.self) c.args.session.now list c.push.new.self _ (sym c.in-Some.ensures.value) c.in-Err.ensures.items (c.get_mut.follows.holds c.push.new.self))
+    inr (
+      list,
+      relists c.args.places.now (c.get_mut.follows.lender c.push.new.self) c.args.session.now list c.push.new.self _ (sym c.in-Some.ensures.value)
+          c.in-Err.ensures.items (c.get_mut.follows.holds c.push.new.self),
+    )
 
 pub returns-then-len-held : goal.returns-then-len-held
 returns-then-len-held c =

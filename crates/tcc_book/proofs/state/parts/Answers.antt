@@ -17,7 +17,9 @@ loop-session-preserved c =
     ∙ map-append (λ (part : List ℕ × Vec Transaction). (part.0, part.1.items)) c.loop-session.parts.items ((c.in-Some.session.now, c.in_ok-listed.field-0) ∷ [])
     ∙ ap (λ p. parts_of c.loop-session.parts.items ++ p ∷ []) (sym recorded) in (
       ap (λ ps. ps ++ map (part_at journal) c.next.new.self) longer
-          ∙ append_assoc (parts_of c.loop-session.parts.items) (part_at journal (c.in-Some.session.now, c.in-Some.list.now) ∷ []) (map (part_at journal) c.next.new.self)
+          ∙ append_assoc (parts_of c.loop-session.parts.items) (part_at journal (c.in-Some.session.now, c.in-Some.list.now) ∷ [])
+          (map (part_at journal) c.next.new.self)
           ∙ ap (λ es. parts_of c.loop-session.parts.items ++ map (part_at journal) es) (sym first) ∙ c.loop-session.invariant.0,
-      All-tail (λ (e : List ℕ × Vec ℕ). All (λ place. place < length journal) e.1.items) (c.in-Some.session.now, c.in-Some.list.now) c.next.new.self (subst (AreWithin journal) first c.loop-session.invariant.1),
+      All-tail (λ (e : List ℕ × Vec ℕ). All (λ place. place < length journal) e.1.items) (c.in-Some.session.now, c.in-Some.list.now) c.next.new.self
+          (subst (AreWithin journal) first c.loop-session.invariant.1),
     )

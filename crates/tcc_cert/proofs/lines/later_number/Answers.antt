@@ -8,4 +8,5 @@ pub returns-then-number-lt10 : goal.returns-then-number-lt10
 returns-then-number-lt10 g c = rw (decimal_digit c.args.number (omega (arith, c.if-number-lt10.true))) c.put_few.ensures
 
 pub returns-then-number-lt100 : goal.returns-then-number-lt100
-returns-then-number-lt100 g c = rw (decimal-two c.args.number (omega (arith, c.if-number-lt10.false)) (omega (arith, c.if-number-lt100.true))) c.put_few-then-number-lt100.ensures
+returns-then-number-lt100 g c =
+    rw (decimal-two c.args.number (omega (arith, c.if-number-lt10.false)) (omega (arith, c.if-number-lt100.true))) c.put_few-then-number-lt100.ensures

@@ -5,4 +5,5 @@ use Rattle.tcc_cert.proofs.lines.later_words.Given as goal
 
 abbrev pub invariant-loop-word : goal.invariant-loop-word
 invariant-loop-word g l =
-    Sends (g.W.Write.contents l.initial.out) l.initial.outgoing (g.W.Write.contents l.out) l.outgoing (flat_map (λ word. codes " " ++ word.now) (take l.word-index l.words))
+    Sends (g.W.Write.contents l.initial.out) l.initial.outgoing (g.W.Write.contents l.out) l.outgoing
+    (flat_map (λ word. codes " " ++ word.now) (take l.word-index l.words))

@@ -14,4 +14,5 @@ returns-in_err-later_words g c =
 
 pub returns : goal.returns
 returns g c =
-    rw (flat_map-map (λ t. codes " " ++ t) (λ word. word.now) c.args.later.now) (IsSent-then _ _ _ _ _ _ _ _ _ (Sends-then c.in_ok-put.ensures c.in_ok-later_words.ensures) c.put-2.ensures)
+    rw (flat_map-map (λ t. codes " " ++ t) (λ word. word.now) c.args.later.now)
+    (IsSent-then _ _ _ _ _ _ _ _ _ (Sends-then c.in_ok-put.ensures c.in_ok-later_words.ensures) c.put-2.ensures)

@@ -18,4 +18,5 @@ returns-in_err-later_numbers g c =
 pub returns : goal.returns
 returns g c =
     rw c.in-Some.ensures.cases.0 (rw (flat_map-map (λ t. codes " " ++ t) decimal c.in-Some.later.now)
-    (IsSent-then _ _ _ _ _ _ _ _ _ (Sends-then (rw (c.as_bytes.ensures.value, c.format.ensures.text) at c.in_ok-put.ensures) c.in_ok-later_numbers.ensures) c.put-3.ensures))
+    (IsSent-then _ _ _ _ _ _ _ _ _ (Sends-then (rw (c.as_bytes.ensures.value, c.format.ensures.text) at c.in_ok-put.ensures) c.in_ok-later_numbers.ensures)
+    c.put-3.ensures))

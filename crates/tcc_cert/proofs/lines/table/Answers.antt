@@ -8,12 +8,14 @@ pub returns-in_err-number_line : goal.returns-in_err-number_line
 returns-in_err-number_line g c =
     failed c.from_residual.result _ _ _ _ _ c.from_residual.ensures.0
     (rw (flat_map-map line_text numbers_words c.args.table.now, ← c.rows-row-items.ensures)
-    (Stops-read (λ row. line_text (numbers_words row)) c.rows-row-items.result.now c.loop-row.row-index c.row-item.result c.loop-row-test.true c.row-item.is c.loop-row.invariant
+    (Stops-read (λ row. line_text (numbers_words row)) c.rows-row-items.result.now c.loop-row.row-index c.row-item.result c.loop-row-test.true c.row-item.is
+    c.loop-row.invariant
     (rw (← c.as_slice.ensures) c.in_err-number_line.ensures)))
 
 pub loop-row-preserved : goal.loop-row-preserved
 loop-row-preserved g c =
-    Sends-read (λ row. line_text (numbers_words row)) c.rows-row-items.result.now c.loop-row.row-index c.row-item.result c.loop-row-test.true c.row-item.is c.loop-row.invariant
+    Sends-read (λ row. line_text (numbers_words row)) c.rows-row-items.result.now c.loop-row.row-index c.row-item.result c.loop-row-test.true c.row-item.is
+    c.loop-row.invariant
     (rw (← c.as_slice.ensures) c.in_ok-number_line.ensures)
 
 pub returns : goal.returns

@@ -6,4 +6,5 @@ use Rattle.tcc_cert.proofs.lines.table.Given as goal
 
 abbrev pub invariant-loop-row : goal.invariant-loop-row
 invariant-loop-row g l =
-    Sends (g.W.Write.contents l.initial.out) l.initial.outgoing (g.W.Write.contents l.out) l.outgoing (flat_map (λ row. line_text (numbers_words row)) (take l.row-index l.row-items))
+    Sends (g.W.Write.contents l.initial.out) l.initial.outgoing (g.W.Write.contents l.out) l.outgoing
+    (flat_map (λ row. line_text (numbers_words row)) (take l.row-index l.row-items))

@@ -23,4 +23,5 @@ returns-in_err-keep g c ahead is =
     let goes = goes-on c.in_ok-part.part c.in_default.not-End in
     let first = first-rest c.in_ok-part.part now.0 taken.0 goes taken.1 in
     rw (p.1, p.2)
-    (refused-end g.R.Read.remaining c.next.new.self ahead taken.0 _ (sym (ap (λ a. a.line) first) ∙ now.1.line) taken.2 (c.in_ok-part.ensures.ends ∙ goes) c.in_ok-part.ensures.goes_on c.in_err-keep.ensures.counted c.in_err-keep.ensures.refused)
+    (refused-end g.R.Read.remaining c.next.new.self ahead taken.0 _ (sym (ap (λ a. a.line) first) ∙ now.1.line) taken.2
+    (c.in_ok-part.ensures.ends ∙ goes) c.in_ok-part.ensures.goes_on c.in_err-keep.ensures.counted c.in_err-keep.ensures.refused)

@@ -9,4 +9,5 @@ use Rattle.tcc_cert.proofs.sending.send.Goals as goal
 pub returns-clause-part : goal.returns-clause-part
 returns-clause-part g c =
     let text = c.args.text.now in
-    on_err c.flush.result (length text, subst (Appends _ _) (sym (take-length text)) (Appends-kept _ _ _ text c.in_ok-write_out.ensures.whole c.flush.ensures.bytes))
+    on_err c.flush.result
+    (length text, subst (Appends _ _) (sym (take-length text)) (Appends-kept _ _ _ text c.in_ok-write_out.ensures.whole c.flush.ensures.bytes))

@@ -6,4 +6,5 @@ use Rattle.tcc_cert.proofs.writing.links.Given as goal
 
 abbrev pub invariant-loop-one : goal.invariant-loop-one
 invariant-loop-one g l =
-    Sends (g.W.Write.contents l.initial.out) l.initial.outgoing (g.W.Write.contents l.out) l.outgoing (flat_map (λ link. lines_text (link_lines link)) (take l.one-index l.one-items))
+    Sends (g.W.Write.contents l.initial.out) l.initial.outgoing (g.W.Write.contents l.out) l.outgoing
+    (flat_map (λ link. lines_text (link_lines link)) (take l.one-index l.one-items))

@@ -6,4 +6,5 @@ use Rattle.tcc_cert.proofs.writing.steps.Given as goal
 
 abbrev pub invariant-loop-one : goal.invariant-loop-one
 invariant-loop-one g l =
-    Sends (g.W.Write.contents l.initial.out) l.initial.outgoing (g.W.Write.contents l.out) l.outgoing (flat_map (λ step. line_text (step_words step)) (take l.one-index l.steps))
+    Sends (g.W.Write.contents l.initial.out) l.initial.outgoing (g.W.Write.contents l.out) l.outgoing
+    (flat_map (λ step. line_text (step_words step)) (take l.one-index l.steps))

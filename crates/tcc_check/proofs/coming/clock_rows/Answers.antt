@@ -18,8 +18,19 @@ parts-preserved-after-branch-2-4 g c = record {
       let now = c.parts.invariant.rows ahead is in
       let taken = c.in_ok-row.ensures.parts now.0 now.2 in
       elim c.match-branch-2.branch [
-        | in-Clocks+in_ok-push-in-Clocks w ↦ let first = rw w.in-Clocks.is at taken in (first.0, rw (w.clocks-is, w.in_ok-push-in-Clocks.ensures.items) (clocks-more c.parts.clocks.items w.in-Clocks.row ahead now.0 first.0 now.1 first.1), first.2)
-        | in_default w ↦ (taken.0, rw w.clocks-is (clocks-other c.parts.clocks.items c.in_ok-row.field-0 ahead now.0 taken.0 w.in_default.not-Clocks w.in_default.not-End now.1 taken.1), taken.2)
+        | in-Clocks+in_ok-push-in-Clocks w ↦ let first =
+            rw w.in-Clocks.is at taken in (
+              first.0,
+              rw (w.clocks-is, w.in_ok-push-in-Clocks.ensures.items)
+                  (clocks-more c.parts.clocks.items w.in-Clocks.row ahead now.0 first.0 now.1 first.1),
+              first.2,
+            )
+        | in_default w ↦ (
+          taken.0,
+          rw w.clocks-is (clocks-other c.parts.clocks.items c.in_ok-row.field-0 ahead now.0 taken.0 w.in_default.not-Clocks w.in_default.not-End
+              now.1 taken.1),
+          taken.2,
+        )
       ];
 }
 
@@ -30,8 +41,19 @@ parts-preserved-after-branch-2-5 g c = record {
       let now = c.parts.invariant.rows ahead is in
       let taken = c.in_ok-row.ensures.parts now.0 now.2 in
       elim c.match-branch-2.branch [
-        | in-Clocks+in_ok-push-in-Clocks w ↦ let first = rw w.in-Clocks.is at taken in (first.0, rw (w.clocks-is, w.in_ok-push-in-Clocks.ensures.items) (clocks-more c.parts.clocks.items w.in-Clocks.row ahead now.0 first.0 now.1 first.1), first.2)
-        | in_default w ↦ (taken.0, rw w.clocks-is (clocks-other c.parts.clocks.items c.in_ok-row.field-0 ahead now.0 taken.0 w.in_default.not-Clocks w.in_default.not-End now.1 taken.1), taken.2)
+        | in-Clocks+in_ok-push-in-Clocks w ↦ let first =
+            rw w.in-Clocks.is at taken in (
+              first.0,
+              rw (w.clocks-is, w.in_ok-push-in-Clocks.ensures.items)
+                  (clocks-more c.parts.clocks.items w.in-Clocks.row ahead now.0 first.0 now.1 first.1),
+              first.2,
+            )
+        | in_default w ↦ (
+          taken.0,
+          rw w.clocks-is (clocks-other c.parts.clocks.items c.in_ok-row.field-0 ahead now.0 taken.0 w.in_default.not-Clocks w.in_default.not-End
+              now.1 taken.1),
+          taken.2,
+        )
       ];
 }
 
@@ -42,7 +64,18 @@ parts-preserved g c = record {
       let now = c.parts.invariant.rows ahead is in
       let taken = c.in_ok-row.ensures.parts now.0 now.2 in
       elim c.match-branch-2.branch [
-        | in-Clocks+in_ok-push-in-Clocks w ↦ let first = rw w.in-Clocks.is at taken in (first.0, rw (w.clocks-is, w.in_ok-push-in-Clocks.ensures.items) (clocks-more c.parts.clocks.items w.in-Clocks.row ahead now.0 first.0 now.1 first.1), first.2)
-        | in_default w ↦ (taken.0, rw w.clocks-is (clocks-other c.parts.clocks.items c.in_ok-row.field-0 ahead now.0 taken.0 w.in_default.not-Clocks w.in_default.not-End now.1 taken.1), taken.2)
+        | in-Clocks+in_ok-push-in-Clocks w ↦ let first =
+            rw w.in-Clocks.is at taken in (
+              first.0,
+              rw (w.clocks-is, w.in_ok-push-in-Clocks.ensures.items)
+                  (clocks-more c.parts.clocks.items w.in-Clocks.row ahead now.0 first.0 now.1 first.1),
+              first.2,
+            )
+        | in_default w ↦ (
+          taken.0,
+          rw w.clocks-is (clocks-other c.parts.clocks.items c.in_ok-row.field-0 ahead now.0 taken.0 w.in_default.not-Clocks w.in_default.not-End
+              now.1 taken.1),
+          taken.2,
+        )
       ];
 }

@@ -13,10 +13,18 @@ returns-then-not-has_right_sizes c = let sizes = c.has_right_sizes.ensures.sizes
 pub returns-in_default : goal.returns-in_default
 returns-in_default c =
     let h = c.args.graph.now in
-    let k : CycleClaim = record { version = c.args.version; level = c.args.level; links = c.args.links.now; least = c.args.least; near = c.args.near.now; far = c.args.far.now } in
+    let k : CycleClaim = record {
+      version = c.args.version;
+      level = c.args.level;
+      links = c.args.links.now;
+      least = c.args.least;
+      near = c.args.near.now;
+      far = c.args.far.now;
+    } in
     let sizes = (c.has_right_sizes.ensures.sizes c.args.level).0 c.if-not-has_right_sizes.false in
     answer_later (as_whole Sizes (HasRightSizes h k) ∷ []) (claim_rules h k) c.in_ok-of_links.of_links (sizes, tt)
-    (answer_early (links_rules h k) (bounds_rules h k.version k.level k.least k.near k.far) c.in_ok-of_links.of_links c.in_default.not-Accepted (c.in_ok-of_links.ensures c.args.version c.args.near.now c.args.far.now))
+    (answer_early (links_rules h k) (bounds_rules h k.version k.level k.least k.near k.far) c.in_ok-of_links.of_links c.in_default.not-Accepted
+    (c.in_ok-of_links.ensures c.args.version c.args.near.now c.args.far.now))
 
 pub bounds_verdict-requires-clause-near : goal.bounds_verdict-requires-clause-near
 bounds_verdict-requires-clause-near c = ((c.has_right_sizes.ensures.sizes c.args.level).0 c.if-not-has_right_sizes.false).near
@@ -33,7 +41,16 @@ bounds_verdict-requires-clause-far_capped c = ((c.has_right_sizes.ensures.sizes 
 pub returns : goal.returns
 returns c =
     let h = c.args.graph.now in
-    let k : CycleClaim = record { version = c.args.version; level = c.args.level; links = c.args.links.now; least = c.args.least; near = c.args.near.now; far = c.args.far.now } in
+    let k : CycleClaim = record {
+      version = c.args.version;
+      level = c.args.level;
+      links = c.args.links.now;
+      least = c.args.least;
+      near = c.args.near.now;
+      far = c.args.far.now;
+    } in
     let sizes = (c.has_right_sizes.ensures.sizes c.args.level).0 c.if-not-has_right_sizes.false in
-    let right = all_hold (links_rules h k) c.in_ok-of_links.of_links c.in-Accepted.is (c.in_ok-of_links.ensures c.args.version c.args.near.now c.args.far.now) in
-    ok_later (as_whole Sizes (HasRightSizes h k) ∷ links_rules h k) (bounds_rules h k.version k.level k.least k.near k.far) c.bounds_verdict.result (sizes, right) c.bounds_verdict.ensures
+    let right =
+    all_hold (links_rules h k) c.in_ok-of_links.of_links c.in-Accepted.is (c.in_ok-of_links.ensures c.args.version c.args.near.now c.args.far.now) in
+    ok_later (as_whole Sizes (HasRightSizes h k) ∷ links_rules h k) (bounds_rules h k.version k.level k.least k.near k.far) c.bounds_verdict.result
+    (sizes, right) c.bounds_verdict.ensures

@@ -20,7 +20,9 @@ returns-in_default g c ahead is =
       first-fault c.in_ok-row.field-0 now.0 taken.0 taken.1 ∙ now.2,
       taken.2,
       λ table far of split right.
-          far-other c.args.version c.args.least (count h) (λ far i faults. AreFoundBefore h c.args.version c.args.least table far i faults) c.loop-start.start c.loop-start.faults c.in_ok-row.field-0 ahead now.0 taken.0 c.in_default.not-Far (omega (arith, c.loop-start-test.true, c.count-count.ensures.value)) (now.4 table of) taken.1 far split right,
+          far-other c.args.version c.args.least (count h) (λ far i faults. AreFoundBefore h c.args.version c.args.least table far i faults)
+          c.loop-start.start c.loop-start.faults c.in_ok-row.field-0 ahead now.0 taken.0 c.in_default.not-Far
+          (omega (arith, c.loop-start-test.true, c.count-count.ensures.value)) (now.4 table of) taken.1 far split right,
     )
 
 pub returns-then-not-is_row_right : goal.returns-then-not-is_row_right
@@ -34,7 +36,8 @@ returns-then-not-is_row_right g c ahead is =
       taken.2,
       λ table far of split right.
           iff_false c.is_row_right.ensures c.if-not-is_row_right.true (rw (c.as_slice-row.ensures, c.lowest.ensures.value, c.count-count.ensures.value)
-          (far-row c.args.version c.args.least (count h) (λ far i faults. AreFoundBefore h c.args.version c.args.least table far i faults) c.loop-start.start c.loop-start.faults c.in-Far.row ahead now.0 taken.0 (now.4 table of) taken.1 far split right)),
+          (far-row c.args.version c.args.least (count h) (λ far i faults. AreFoundBefore h c.args.version c.args.least table far i faults)
+          c.loop-start.start c.loop-start.faults c.in-Far.row ahead now.0 taken.0 (now.4 table of) taken.1 far split right)),
     )
 
 pub loop-start-preserved : goal.loop-start-preserved
@@ -49,7 +52,8 @@ loop-start-preserved g c ahead is =
       first-fault (part.Far c.in-Far.row) now.0 taken.0 taken.1 ∙ now.2,
       taken.2,
       λ table of.
-          far-more c.args.version c.args.least (count h) (λ far i faults. AreFoundBefore h c.args.version c.args.least table far i faults) c.loop-start.start c.loop-start.faults c.with_row-faults.result c.in-Far.row ahead now.0 taken.0 (now.4 table of) taken.1 right.0 right.1
+          far-more c.args.version c.args.least (count h) (λ far i faults. AreFoundBefore h c.args.version c.args.least table far i faults)
+          c.loop-start.start c.loop-start.faults c.with_row-faults.result c.in-Far.row ahead now.0 taken.0 (now.4 table of) taken.1 right.0 right.1
           (λ far here before. c.with_row-faults.ensures table far of (here ∙ sym c.as_slice-row.ensures) before),
     )
 
@@ -63,7 +67,11 @@ returns g c ahead is =
       now.2,
       now.3,
       λ table far of split.
-          let all = far-all c.args.version c.args.least (count h) (λ far i faults. AreFoundBefore h c.args.version c.args.least table far i faults) c.loop-start.faults ahead now.0
-          (subst (λ (i : ℕ). AreFarBehind c.args.version c.args.least (count h) (λ far i faults. AreFoundBefore h c.args.version c.args.least table far i faults) i c.loop-start.faults ahead now.0) whole (now.4 table of)) far split in
+          let all =
+          far-all c.args.version c.args.least (count h) (λ far i faults. AreFoundBefore h c.args.version c.args.least table far i faults)
+          c.loop-start.faults ahead now.0
+          (subst (λ (i : ℕ). AreFarBehind c.args.version c.args.least (count h)
+          (λ far i faults. AreFoundBefore h c.args.version c.args.least table far i faults) i c.loop-start.faults ahead now.0) whole (now.4 table of))
+          far split in
           record { right = all.0; more = all.1 },
     )

@@ -12,4 +12,6 @@ abbrev pub invariant-loop-start : goal.invariant-loop-start
 invariant-loop-start g l =
     (ahead : Parts) → IsAhead g.R.Read.remaining l.initial.parts ahead
     → (rest : Parts) × (rest.line ≡ ahead.line) × (rest.fault ≡ ahead.fault) × IsAhead g.R.Read.remaining l.parts rest
-    × ((table : List (List ℕ)) → AreLinksOf l.graph l.least table l.near → AreFarBehind l.version l.least (count l.graph) (λ far i faults. AreFoundBefore l.graph l.version l.least table far i faults) l.start l.faults ahead rest)
+    × ((table : List (List ℕ)) → AreLinksOf l.graph l.least table l.near
+    → AreFarBehind l.version l.least (count l.graph) (λ far i faults. AreFoundBefore l.graph l.version l.least table far i faults) l.start l.faults
+    ahead rest)

@@ -15,5 +15,7 @@ returns c table of =
 
 pub loop-start-preserved : goal.loop-start-preserved
 loop-start-preserved c table of =
-    let here = c.as_slice-row.ensures ∙ get_or_read c.args.far.now c.loop-start.start c.index-far-start.result (omega (arith, c.requires.size.long, c.loop-start-test.true, c.count-start-end.ensures.value)) c.index-far-start.is [] in
+    let here =
+    c.as_slice-row.ensures ∙ get_or_read c.args.far.now c.loop-start.start c.index-far-start.result
+    (omega (arith, c.requires.size.long, c.loop-start-test.true, c.count-start-end.ensures.value)) c.index-far-start.is [] in
     c.with_row-faults.ensures table c.args.far.now of (sym here) (c.loop-start.invariant table of)

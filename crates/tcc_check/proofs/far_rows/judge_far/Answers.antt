@@ -12,7 +12,8 @@ returns-in-Some g c ahead is =
       λ table far of split.
           let found = said.4 table far of split in
           record {
-            right = λ end. let all = found.right end in (all.0, rw c.far_verdict.ensures (far-answer c.args.graph.now c.args.version c.args.least table far c.in-Some.faults all.1));
+            right = λ end. let all =
+                found.right end in (all.0, rw c.far_verdict.ensures (far-answer c.args.graph.now c.args.version c.args.least table far c.in-Some.faults all.1));
             more = found.more;
           },
     )

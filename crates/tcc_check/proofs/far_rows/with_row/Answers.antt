@@ -16,15 +16,24 @@ returns c table far of is before =
     let links = c.args.near.now.links.items in
     let row = c.args.row.now in
     let start = c.args.start in
-    let same = get_or_read c.as_slice-links.result.now start c.index-links-start.result (omega (arith, ap length c.as_slice-links.ensures.value, c.requires.orderly.long, c.requires.start)) c.index-links-start.is [] ∙ ap (λ (r : List (List (ℕ × ℕ))). ends_of r start) c.as_slice-links.ensures.value in
+    let same =
+    get_or_read c.as_slice-links.result.now start c.index-links-start.result
+    (omega (arith, ap length c.as_slice-links.ensures.value, c.requires.orderly.long, c.requires.start)) c.index-links-start.is []
+    ∙ ap (λ (r : List (List (ℕ × ℕ))). ends_of r start) c.as_slice-links.ensures.value in
     let single : IsFoundBelow (count h) (IsLongSingle h (ends_of links start) row (lowest version start) start) c.long_link-link.result =
-    subst (λ (e : List (ℕ × ℕ)). IsFoundBelow (count h) (IsLongSingle h e row (lowest version start) start) c.long_link-link.result) same (rw (← c.lowest-low.ensures.value) c.long_link-link.ensures) in
-    let step : IsFoundBelow (lowest version start + length row) (IsLongStep c.args.near.now.begins.items links row (lowest version start)) c.long_step-step.result = rw (← c.deref.ensures.value, ← c.as_slice-links.ensures.value, ← c.lowest-low.ensures.value) c.long_step-step.ensures in
+    subst (λ (e : List (ℕ × ℕ)). IsFoundBelow (count h) (IsLongSingle h e row (lowest version start) start) c.long_link-link.result) same
+    (rw (← c.lowest-low.ensures.value) c.long_link-link.ensures) in
+    let step : IsFoundBelow (lowest version start + length row)
+    (IsLongStep c.args.near.now.begins.items links row (lowest version start)) c.long_step-step.result =
+    rw (← c.deref.ensures.value, ← c.as_slice-links.ensures.value, ← c.lowest-low.ensures.value) c.long_step-step.ensures in
     record {
       links = rw c.first_of.ensures (found-more start (BreaksFarLink h version table far) c.args.faults.link c.long_link-link.result before.links
-          (far-link-row h version c.args.least table far start row is c.requires.start c.requires.long c.requires.capped links of c.long_link-link.result single));
+          (far-link-row h version c.args.least table far start row is c.requires.start c.requires.long c.requires.capped links of c.long_link-link.result
+          single));
       steps = rw c.first_of-2.ensures (found-more start (BreaksFarStep h version table far) c.args.faults.step c.long_step-step.result before.steps
-          (far-step-row h version c.args.least table far start row is c.requires.start c.requires.long c.requires.capped links of c.args.near.now.begins.items c.requires.orderly.runs c.long_step-step.result step));
+          (far-step-row h version c.args.least table far start row is c.requires.start c.requires.long c.requires.capped links of
+          c.args.near.now.begins.items c.requires.orderly.runs c.long_step-step.result step));
       returns = rw c.first_of-3.ensures (found-more start (BreaksReturn h version c.args.least far) c.args.faults.back c.short_return-back.result before.returns
-          (return-row h version c.args.least table far start row is c.requires.start c.requires.long c.requires.capped links of c.short_return-back.result (rw (← c.lowest-low.ensures.value) c.short_return-back.ensures)));
+          (return-row h version c.args.least table far start row is c.requires.start c.requires.long c.requires.capped links of c.short_return-back.result
+          (rw (← c.lowest-low.ensures.value) c.short_return-back.ensures)));
     }

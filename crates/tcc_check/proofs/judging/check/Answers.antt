@@ -14,10 +14,12 @@ judged h k (Err e) said = said
 
 pub returns-in-Order : goal.returns-in-Order
 returns-in-Order c =
-    let said : IfOk c.order_verdict.result (IsAnswer (rules_of c.args.graph.now c.args.certificate.now)) = rw (c.in-Order.is, ← c.as_slice-order.ensures, ← c.rows.ensures) c.order_verdict.ensures in
+    let said : IfOk c.order_verdict.result (IsAnswer (rules_of c.args.graph.now c.args.certificate.now)) =
+    rw (c.in-Order.is, ← c.as_slice-order.ensures, ← c.rows.ensures) c.order_verdict.ensures in
     judged c.args.graph.now c.args.certificate.now c.order_verdict.result said
 
 pub returns-in-Cycle : goal.returns-in-Cycle
 returns-in-Cycle c =
-    let said : IfOk c.cycle_verdict.result (IsAnswer (rules_of c.args.graph.now c.args.certificate.now)) = rw (c.in-Cycle.is, ← c.as_slice.ensures, ← c.rows-in-Cycle.ensures, ← c.rows-in-Cycle-2.ensures) c.cycle_verdict.ensures in
+    let said : IfOk c.cycle_verdict.result (IsAnswer (rules_of c.args.graph.now c.args.certificate.now)) =
+    rw (c.in-Cycle.is, ← c.as_slice.ensures, ← c.rows-in-Cycle.ensures, ← c.rows-in-Cycle-2.ensures) c.cycle_verdict.ensures in
     judged c.args.graph.now c.args.certificate.now c.cycle_verdict.result said

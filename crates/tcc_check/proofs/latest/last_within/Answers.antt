@@ -9,13 +9,19 @@ returns-then-count-eq0 c =
     let h = c.args.graph.now in
     let numbers = c.args.writers.now in
     let parted = parted_within h c.args.session c.args.place c.requires.numbered numbers c.requires.rising c.requires.below in
-    let point = IsPartitionPoint-from_clause (λ n. is_within h c.args.session c.args.place n) numbers c.partition_point-count.result c.partition_point-count.ensures.partitioned parted (λ a r f' k. search rules) in
-    none_within h c.args.session c.args.place c.requires.numbered numbers c.requires.rising c.requires.below c.partition_point-count.result c.partition_point-count.ensures.bound point c.if-count-eq0.true
+    let point =
+    IsPartitionPoint-from_clause (λ n. is_within h c.args.session c.args.place n) numbers c.partition_point-count.result
+    c.partition_point-count.ensures.partitioned parted (λ a r f' k. search rules) in
+    none_within h c.args.session c.args.place c.requires.numbered numbers c.requires.rising c.requires.below c.partition_point-count.result
+    c.partition_point-count.ensures.bound point c.if-count-eq0.true
 
 pub returns : goal.returns
 returns c =
     let h = c.args.graph.now in
     let numbers = c.args.writers.now in
     let parted = parted_within h c.args.session c.args.place c.requires.numbered numbers c.requires.rising c.requires.below in
-    let point = IsPartitionPoint-from_clause (λ n. is_within h c.args.session c.args.place n) numbers c.partition_point-count.result c.partition_point-count.ensures.partitioned parted (λ a r f' k. search rules) in
-    last_within h c.args.session c.args.place c.requires.numbered numbers c.requires.rising c.requires.below c.partition_point-count.result c.partition_point-count.ensures.bound point c.if-count-eq0.false
+    let point =
+    IsPartitionPoint-from_clause (λ n. is_within h c.args.session c.args.place n) numbers c.partition_point-count.result
+    c.partition_point-count.ensures.partitioned parted (λ a r f' k. search rules) in
+    last_within h c.args.session c.args.place c.requires.numbered numbers c.requires.rising c.requires.below c.partition_point-count.result
+    c.partition_point-count.ensures.bound point c.if-count-eq0.false

@@ -5,7 +5,9 @@ use Rattle.tcc_graph.specs.Relations.{IsCausalPair, causal_pair}
 use Rattle.tcc_graph.proofs.Pairs.{pair_from_kinds}
 use Rattle.tcc_check.proofs.Sessions.{first_more}
 use Rattle.tcc_check.proofs.latest.pairs_before.Goals as goal
-use Rattle.tcc_check.proofs.latest.pairs_before.Goals.{else-writer-source-via-then-writer-source+then-places-source+else-causal, else-writer-source-via-then-writer-source+else-places-source, else-writer-source-via-else-writer-source}
+use Rattle.tcc_check.proofs.latest.pairs_before.Goals.else-writer-source-via-then-writer-source+then-places-source+else-causal
+use Rattle.tcc_check.proofs.latest.pairs_before.Goals.else-writer-source-via-then-writer-source+else-places-source
+use Rattle.tcc_check.proofs.latest.pairs_before.Goals.else-writer-source-via-else-writer-source
 
 pub loop-writer-init : goal.loop-writer-init
 loop-writer-init c = λ k d l. absurd (omega arith)
@@ -14,9 +16,12 @@ pub loop-writer-preserved : goal.loop-writer-preserved
 loop-writer-preserved c =
     let h = c.args.graph.now in
     let b : ℕ = get_or c.args.writers.now c.loop-writer.writer-index 0 in
-    first_more (λ (b : ℕ). b ≢ c.args.source → IsCausalPair h b c.args.c → get_or c.args.places.now b 0 < get_or c.args.places.now c.args.source 0) c.args.writers.now c.loop-writer.writer-index b c.loop-writer-test.true (get_or_default c.args.writers.now c.loop-writer.writer-index 0 b c.loop-writer-test.true) c.loop-writer.invariant
+    first_more (λ (b : ℕ). b ≢ c.args.source → IsCausalPair h b c.args.c
+    → get_or c.args.places.now b 0 < get_or c.args.places.now c.args.source 0) c.args.writers.now c.loop-writer.writer-index b c.loop-writer-test.true
+    (get_or_default c.args.writers.now c.loop-writer.writer-index 0 b c.loop-writer-test.true) c.loop-writer.invariant
     (elim c.else-writer-source.branch [
-      | else-writer-source-via-then-writer-source+then-places-source+else-causal w ↦ (λ other p. absurd (both_ways (causal_pair h b c.args.c) (sym w.causal.ensures ∙ w.if-causal.false) (pair_from_kinds h b c.args.c p)))
+      | else-writer-source-via-then-writer-source+then-places-source+else-causal w ↦
+          (λ other p. absurd (both_ways (causal_pair h b c.args.c) (sym w.causal.ensures ∙ w.if-causal.false) (pair_from_kinds h b c.args.c p)))
       | else-writer-source-via-then-writer-source+else-places-source w ↦ (λ other p. w.if-places-source.false)
       | else-writer-source-via-else-writer-source w ↦ (λ other p. absurd (other w.if-writer-source.false))
     ])
@@ -25,4 +30,5 @@ pub returns : goal.returns
 returns c = λ t b w other p.
     let here : get_or c.args.writers.now w.0 b ≡ b = w.2 in
     subst (λ (n : ℕ). get_or c.args.places.now n 0 < get_or c.args.places.now c.args.source 0) here
-    (c.loop-writer.invariant w.0 b (omega (arith, w.1, c.loop-writer-test.false)) (λ e. other (sym here ∙ e)) (subst (λ (n : ℕ). IsCausalPair c.args.graph.now n c.args.c) (sym here) p))
+    (c.loop-writer.invariant w.0 b (omega (arith, w.1, c.loop-writer-test.false)) (λ e. other (sym here ∙ e))
+    (subst (λ (n : ℕ). IsCausalPair c.args.graph.now n c.args.c) (sym here) p))

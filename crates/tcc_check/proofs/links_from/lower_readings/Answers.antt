@@ -10,9 +10,15 @@ pub loop-place-preserved : goal.loop-place-preserved
 loop-place-preserved c =
     let below = c.requires.sources c.loop-place.place 0 c.loop-place-test.true in
     elim c.if-source-start.branch [
-      | then-source-start w ↦ rw (w.weights-is, w.min.ensures) (reading-lowered c.args.sources.now c.args.readers.now c.args.row.now c.args.start c.args.weights.now c.loop-place.weights c.loop-place.place (get_or c.args.sources.now c.loop-place.place 0) _ refl w.if-source-start.true refl (omega (arith, below, c.loop-place.auto.weights)) c.loop-place.invariant)
-      | else-source-start w ↦ rw w.weights-is (reading-skipped c.args.sources.now c.args.readers.now c.args.row.now c.args.start c.args.weights.now c.loop-place.weights c.loop-place.place w.if-source-start.false c.loop-place.invariant)
+      | then-source-start w ↦ rw (w.weights-is, w.min.ensures)
+          (reading-lowered c.args.sources.now c.args.readers.now c.args.row.now c.args.start c.args.weights.now c.loop-place.weights c.loop-place.place
+          (get_or c.args.sources.now c.loop-place.place 0) _ refl w.if-source-start.true refl
+          (omega (arith, below, c.loop-place.auto.weights)) c.loop-place.invariant)
+      | else-source-start w ↦ rw w.weights-is (reading-skipped c.args.sources.now c.args.readers.now c.args.row.now c.args.start c.args.weights.now
+          c.loop-place.weights c.loop-place.place w.if-source-start.false c.loop-place.invariant)
     ]
 
 pub returns : goal.returns
-returns c = all-readings c.args.sources.now c.args.readers.now c.args.row.now c.args.start c.args.weights.now c.loop-place.weights c.loop-place.place (omega arith) c.loop-place.invariant
+returns c =
+    all-readings c.args.sources.now c.args.readers.now c.args.row.now c.args.start c.args.weights.now c.loop-place.weights c.loop-place.place
+    (omega arith) c.loop-place.invariant

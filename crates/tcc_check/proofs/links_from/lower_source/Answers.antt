@@ -7,7 +7,10 @@ loop-reader-init c = no-reader c.args.source c.args.readers.now c.args.row.now c
 
 pub loop-reader-preserved : goal.loop-reader-preserved
 loop-reader-preserved c =
-    rw c.min.ensures (one-reader c.args.source c.args.readers.now c.args.row.now c.args.weights.now c.loop-reader.weights c.loop-reader.reader-index _ refl (omega (arith, c.requires.source, c.loop-reader.auto.weights)) c.loop-reader.invariant)
+    rw c.min.ensures (one-reader c.args.source c.args.readers.now c.args.row.now c.args.weights.now c.loop-reader.weights c.loop-reader.reader-index _ refl
+    (omega (arith, c.requires.source, c.loop-reader.auto.weights)) c.loop-reader.invariant)
 
 pub returns : goal.returns
-returns c = all-readers c.args.source c.args.readers.now c.args.row.now c.args.weights.now c.loop-reader.weights c.loop-reader.reader-index (omega arith) c.loop-reader.invariant
+returns c =
+    all-readers c.args.source c.args.readers.now c.args.row.now c.args.weights.now c.loop-reader.weights c.loop-reader.reader-index
+    (omega arith) c.loop-reader.invariant

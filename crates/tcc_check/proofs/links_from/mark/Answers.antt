@@ -8,7 +8,8 @@ loop-reader-init c = no-mark c.args.readers.now c.args.weights.now c.args.weight
 pub loop-reader-preserved : goal.loop-reader-preserved
 loop-reader-preserved c =
     let below = c.requires c.loop-reader.reader-index 0 c.loop-reader-test.true in
-    one-mark c.args.readers.now c.args.weights.now c.loop-reader.weights c.loop-reader.reader-index (get_or c.args.readers.now c.loop-reader.reader-index 0) refl (omega (arith, below, c.loop-reader.auto.weights)) c.loop-reader.invariant
+    one-mark c.args.readers.now c.args.weights.now c.loop-reader.weights c.loop-reader.reader-index
+    (get_or c.args.readers.now c.loop-reader.reader-index 0) refl (omega (arith, below, c.loop-reader.auto.weights)) c.loop-reader.invariant
 
 pub returns : goal.returns
 returns c = all-marks c.args.readers.now c.args.weights.now c.loop-reader.weights c.loop-reader.reader-index (omega arith) c.loop-reader.invariant

@@ -18,7 +18,8 @@ returns c =
     let end = c.later-first.result.1 in
     let lowered : IsLowered (BetweenWeighs first end) old new = rw (← c.deref_mut.ensures.value) c.mark_between.ensures in
     let long : length new ≡ count h = lowered.long ∙ c.in_ok-weights.ensures.long in
-    let least : IsLeastRow (λ v w. ReadWeighs h u v w ⊎ BetweenWeighs first end v w) new = lowered_row (ReadWeighs h u) (BetweenWeighs first end) old new c.in_ok-weights.ensures.least lowered in
+    let least : IsLeastRow (λ v w. ReadWeighs h u v w ⊎ BetweenWeighs first end v w) new =
+    lowered_row (ReadWeighs h u) (BetweenWeighs first end) old new c.in_ok-weights.ensures.least lowered in
     rw (whole new old c.in_ok-weights.weights.len lowered.long (search rules)) (record {
       long = long;
       none = causal-weights h u first end new long c.later-first.ensures.pairs least;

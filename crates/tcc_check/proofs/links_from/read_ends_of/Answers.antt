@@ -11,4 +11,6 @@ light_ends-requires c = omega (arith, ap length c.deref.ensures.value, c.in_ok-w
 pub returns : goal.returns
 returns c =
     let h = c.args.graph.now in
-    ends-light c.deref.result.now c.args.least (count h) (ReadWeighs h c.args.start) c.in_ok-ends.ends (ap length c.deref.ensures.value ∙ c.in_ok-weights.ensures.long) c.ranges.least.fits (rw c.deref.ensures.value c.in_ok-weights.ensures.least) c.in_ok-ends.ensures
+    ends-light c.deref.result.now c.args.least (count h) (ReadWeighs h c.args.start) c.in_ok-ends.ends
+    (ap length c.deref.ensures.value ∙ c.in_ok-weights.ensures.long) c.ranges.least.fits
+    (rw c.deref.ensures.value c.in_ok-weights.ensures.least) c.in_ok-ends.ensures

@@ -19,12 +19,15 @@ returns c =
     rw (whole new bare c.in_ok-weights.weights.len lowered.long (search rules)) (record {
       long = long;
       least = bare-lowered c.count.result (ReadWeighs h c.args.start) bare new made
-          (marks-reads h c.args.start c.readings.result.0.now c.readings.result.1.now bare new c.readings.ensures.long (λ k x w. (c.readings.ensures.each k x).0 w) (λ k x w. (c.readings.ensures.each k x).1 w) lowered);
+          (marks-reads h c.args.start c.readings.result.0.now c.readings.result.1.now bare new c.readings.ensures.long
+          (λ k x w. (c.readings.ensures.each k x).0 w) (λ k x w. (c.readings.ensures.each k x).1 w) lowered);
     })
 
 pub mark-requires : goal.mark-requires
 mark-requires c =
     let h = c.args.graph.now in
     let made : c.in_ok-weights.weights.items ≡ replicate c.count.result unlinked = search rules in
-    let long : length c.deref_mut.result.now ≡ count h = ap length (c.deref_mut.ensures.value ∙ made) ∙ length-replicate c.count.result unlinked ∙ c.count.ensures.value in
-    rw long (firsts-by [] (λ k. k < count h) c.readings.result.0.now c.readings.result.1.now c.readings.ensures.long (λ k x w. ((c.readings.ensures.each k x).0 w).1))
+    let long : length c.deref_mut.result.now ≡ count h =
+    ap length (c.deref_mut.ensures.value ∙ made) ∙ length-replicate c.count.result unlinked ∙ c.count.ensures.value in
+    rw long (firsts-by [] (λ k. k < count h) c.readings.result.0.now c.readings.result.1.now c.readings.ensures.long
+    (λ k x w. ((c.readings.ensures.each k x).0 w).1))

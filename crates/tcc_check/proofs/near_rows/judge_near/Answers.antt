@@ -18,7 +18,10 @@ returns g c =
             came.2,
             came.3,
             λ near far long split.
-                let all = came.4 near far long split in
-                (all.0, rw c.judged.ensures (record { answer = near-answer h c.args.level near c.in-Some.rows.faults all.1.found; links = all.1.links }), all.2),
+                let all = came.4 near far long split in (
+                  all.0,
+                  rw c.judged.ensures (record { answer = near-answer h c.args.level near c.in-Some.rows.faults all.1.found; links = all.1.links }),
+                  all.2,
+                ),
           );
     }

@@ -12,7 +12,15 @@ use Rattle.tcc_check.proofs.near_rows.near_rows.Goals as goal
 
 pub loop-start-init : goal.loop-start-init
 loop-start-init g c = record {
-  rows = λ ahead is. (ahead, [], near-begun (count c.args.graph.now) c.args.least (λ near i state. AreNearRowsTo c.args.graph.now c.args.level c.args.least near i state) c.no_rows-rows.result ahead (λ near. c.no_rows-rows.ensures.rows c.args.graph.now c.args.level c.args.least near), is);
+  rows =
+      λ ahead is. (
+        ahead,
+        [],
+        near-begun (count c.args.graph.now) c.args.least
+            (λ near i state. AreNearRowsTo c.args.graph.now c.args.level c.args.least near i state) c.no_rows-rows.result ahead
+            (λ near. c.no_rows-rows.ensures.rows c.args.graph.now c.args.level c.args.least near),
+        is,
+      );
   long = rw c.no_rows-rows.ensures.none (omega arith);
   orderly = rw c.no_rows-rows.ensures.none (orderly-none (count c.args.graph.now));
 }
@@ -28,7 +36,8 @@ returns-in_default g c = record {
         first-fault c.in_ok-row.field-0 now.0 taken.0 taken.1 ∙ now.2.behind.fault,
         taken.2,
         λ near far long split right.
-            near-other now.1 (count c.args.graph.now) c.in_ok-row.field-0 ahead now.0 taken.0 c.in_default.not-Near (omega (arith, now.2.long, c.loop-start-test.true, c.count-start-end.ensures.value)) now.2.behind taken.1 near far long split,
+            near-other now.1 (count c.args.graph.now) c.in_ok-row.field-0 ahead now.0 taken.0 c.in_default.not-Near
+            (omega (arith, now.2.long, c.loop-start-test.true, c.count-start-end.ensures.value)) now.2.behind taken.1 near far long split,
       );
 }
 
@@ -56,7 +65,8 @@ loop-start-preserved g c =
           let taken = rw c.in-Near.is at (c.in_ok-row.ensures.parts now.0 now.3) in (
             taken.0,
             now.1 ++ c.in-Near.row ∷ [],
-            near-goes-on (count h) c.args.least (λ near i state. AreNearRowsTo h c.args.level c.args.least near i state) c.loop-start.start c.loop-start.rows c.take_row.new.rows now.1 c.in-Near.row ahead now.0 taken.0 now.2 taken.1 right.0 right.1
+            near-goes-on (count h) c.args.least (λ near i state. AreNearRowsTo h c.args.level c.args.least near i state) c.loop-start.start
+                c.loop-start.rows c.take_row.new.rows now.1 c.in-Near.row ahead now.0 taken.0 now.2 taken.1 right.0 right.1
                 (λ near here before. c.in_ok-take_row.ensures.taken near (here ∙ sym c.as_slice-row.ensures) before),
             taken.2,
           );
@@ -78,6 +88,8 @@ returns g c =
             now.3,
             λ near far long split.
                 near-ended (count h) c.args.least (λ near i state. AreNearRowsTo h c.args.level c.args.least near i state) c.loop-start.rows now.1 ahead now.0
-                (subst (λ (i : ℕ). AreNearBehind (count h) c.args.least (λ near i state. AreNearRowsTo h c.args.level c.args.least near i state) i c.loop-start.rows now.1 ahead now.0) whole now.2) near far long split,
+                (subst (λ (i : ℕ). AreNearBehind (count h) c.args.least
+                (λ near i state. AreNearRowsTo h c.args.level c.args.least near i state) i c.loop-start.rows now.1 ahead now.0) whole now.2) near far
+                long split,
           );
     }

@@ -12,7 +12,8 @@ abbrev pub invariant-loop-start : goal.invariant-loop-start
 invariant-loop-start g l =
     record {
       rows : (ahead : Parts) → IsAhead g.R.Read.remaining l.initial.parts ahead
-          → (rest : Parts) × (rows : List (List ℕ)) × AreNearBehind (count l.graph) l.least (λ near i state. AreNearRowsTo l.graph l.level l.least near i state) l.start l.rows rows ahead rest × IsAhead g.R.Read.remaining l.parts rest;
+          → (rest : Parts) × (rows : List (List ℕ)) × AreNearBehind (count l.graph) l.least
+          (λ near i state. AreNearRowsTo l.graph l.level l.least near i state) l.start l.rows rows ahead rest × IsAhead g.R.Read.remaining l.parts rest;
       long : length l.rows.links.items ≡ l.start;
       orderly : AreOrderly (count l.graph) l.rows.links.items;
     }

@@ -17,7 +17,9 @@ loop-start-init c = record {
 pub loop-start-preserved : goal.loop-start-preserved
 loop-start-preserved c =
     let below = c.loop-start-test.true in
-    let here = c.as_slice-row.ensures ∙ get_or_read c.args.near.now c.loop-start.start c.index-near-start.result (omega (arith, c.requires.size.long, c.count-start-end.ensures.value)) c.index-near-start.is [] in
+    let here =
+    c.as_slice-row.ensures ∙ get_or_read c.args.near.now c.loop-start.start c.index-near-start.result
+    (omega (arith, c.requires.size.long, c.count-start-end.ensures.value)) c.index-near-start.is [] in
     record {
       rows = c.in_ok-take_row.ensures.taken c.args.near.now (sym here) c.loop-start.invariant.rows;
       long = omega (arith, c.in_ok-take_row.ensures.long, c.loop-start.invariant.long);
@@ -28,8 +30,11 @@ pub returns : goal.returns
 returns c =
     let h = c.args.graph.now in
     let whole : c.loop-start.start ≡ count h = omega (arith, c.loop-start-test.false, c.loop-start.auto.start-end, c.count-start-end.ensures.value) in
-    let all : AreNearRowsTo h c.args.level c.args.least c.args.near.now (count h) c.loop-start.rows = subst (λ (i : ℕ). AreNearRowsTo h c.args.level c.args.least c.args.near.now i c.loop-start.rows) whole c.loop-start.invariant.rows in
+    let all : AreNearRowsTo h c.args.level c.args.least c.args.near.now (count h) c.loop-start.rows =
+    subst (λ (i : ℕ). AreNearRowsTo h c.args.level c.args.least c.args.near.now i c.loop-start.rows) whole c.loop-start.invariant.rows in
     record {
       judged = rw c.judged.ensures (record { answer = near-answer h c.args.level c.args.near.now c.loop-start.rows.faults all.found; links = all.links });
-      orderly = rw c.judged.ensures (record { runs = c.in_ok-pairs.ensures.runs; long = c.loop-start.invariant.long ∙ whole; links = c.loop-start.invariant.orderly });
+      orderly =
+          rw c.judged.ensures
+          (record { runs = c.in_ok-pairs.ensures.runs; long = c.loop-start.invariant.long ∙ whole; links = c.loop-start.invariant.orderly });
     }

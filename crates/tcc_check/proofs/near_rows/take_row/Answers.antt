@@ -18,7 +18,9 @@ returns c =
     record {
       taken = λ near is before. record {
         found = c.with_row-rows.ensures near is before.found;
-        links = rw pushed (more-ends start (λ u. WeighsFrom h (row_of near u) u) (count h) c.args.least links new (subst (λ (r : List ℕ). AreEnds (WeighsFrom h r start) (count h) c.args.least new) (sym is) are) before.links);
+        links =
+            rw pushed (more-ends start (λ u. WeighsFrom h (row_of near u) u) (count h) c.args.least links new
+            (subst (λ (r : List ℕ). AreEnds (WeighsFrom h r start) (count h) c.args.least new) (sym is) are) before.links);
       };
       orderly = rw pushed (orderly-more (count h) c.args.least (WeighsFrom h c.args.row.now start) links new are c.requires.orderly);
       long = rw pushed (length_push links new);

@@ -16,12 +16,19 @@ pub long_link-pair-requires-clause-inside : goal.long_link-pair-requires-clause-
 long_link-pair-requires-clause-inside c =
     let h = c.args.graph.now in
     let reads = c.args.pairs.now.reads.items in
-    let same = get_or_read c.as_slice-reads.result.now c.args.start c.index-reads-start.result (omega (arith, ap length c.as_slice-reads.ensures.value, c.requires.pairs.reads.long, c.requires.start)) c.index-reads-start.is [] ∙ ap (λ (r : List (List (ℕ × ℕ))). ends_of r c.args.start) c.as_slice-reads.ensures.value in
-    rw same (ends-inside (count h) c.args.least (ReadWeighs h c.args.start) (ends_of reads c.args.start) (c.requires.pairs.reads.rows c.args.start c.requires.start))
+    let same =
+    get_or_read c.as_slice-reads.result.now c.args.start c.index-reads-start.result
+    (omega (arith, ap length c.as_slice-reads.ensures.value, c.requires.pairs.reads.long, c.requires.start)) c.index-reads-start.is []
+    ∙ ap (λ (r : List (List (ℕ × ℕ))). ends_of r c.args.start) c.as_slice-reads.ensures.value in
+    rw same (ends-inside (count h) c.args.least (ReadWeighs h c.args.start) (ends_of reads c.args.start)
+    (c.requires.pairs.reads.rows c.args.start c.requires.start))
 
 pub long_link-pair-requires-clause-sorted : goal.long_link-pair-requires-clause-sorted
 long_link-pair-requires-clause-sorted c =
-    let same = get_or_read c.as_slice-reads.result.now c.args.start c.index-reads-start.result (omega (arith, ap length c.as_slice-reads.ensures.value, c.requires.pairs.reads.long, c.requires.start)) c.index-reads-start.is [] ∙ ap (λ (r : List (List (ℕ × ℕ))). ends_of r c.args.start) c.as_slice-reads.ensures.value in
+    let same =
+    get_or_read c.as_slice-reads.result.now c.args.start c.index-reads-start.result
+    (omega (arith, ap length c.as_slice-reads.ensures.value, c.requires.pairs.reads.long, c.requires.start)) c.index-reads-start.is []
+    ∙ ap (λ (r : List (List (ℕ × ℕ))). ends_of r c.args.start) c.as_slice-reads.ensures.value in
     rw same (c.requires.pairs.reads.rows c.args.start c.requires.start).sorted
 
 pub long_step-step-requires-clause-inside : goal.long_step-step-requires-clause-inside
@@ -29,7 +36,8 @@ long_step-step-requires-clause-inside c =
     let h = c.args.graph.now in
     let reads = c.args.pairs.now.reads.items in
     let whole : count h ≡ 0 + length c.args.row.now = omega (arith, c.requires.long) in
-    rw c.as_slice-reads.ensures.value (subst (λ (n : ℕ). All (λ (ends : List (ℕ × ℕ)). All (λ (link : ℕ × ℕ). link.0 < n) ends) reads) whole (orderly-all (count h) c.args.least (ReadWeighs h) reads c.requires.pairs.reads).inside)
+    rw c.as_slice-reads.ensures.value (subst (λ (n : ℕ). All (λ (ends : List (ℕ × ℕ)). All (λ (link : ℕ × ℕ). link.0 < n) ends) reads) whole
+    (orderly-all (count h) c.args.least (ReadWeighs h) reads c.requires.pairs.reads).inside)
 
 pub long_step-step-requires-clause-sorted : goal.long_step-step-requires-clause-sorted
 long_step-step-requires-clause-sorted c =
@@ -42,16 +50,24 @@ returns c near is before =
     let reads = c.args.pairs.now.reads.items in
     let row = c.args.row.now in
     let start = c.args.start in
-    let same = get_or_read c.as_slice-reads.result.now start c.index-reads-start.result (omega (arith, ap length c.as_slice-reads.ensures.value, c.requires.pairs.reads.long, c.requires.start)) c.index-reads-start.is [] ∙ ap (λ (r : List (List (ℕ × ℕ))). ends_of r start) c.as_slice-reads.ensures.value in
-    let single : IsFoundBelow (count h) (IsLongSingle h (ends_of reads start) row 0 start) c.long_link-pair.result = subst (λ (e : List (ℕ × ℕ)). IsFoundBelow (count h) (IsLongSingle h e row 0 start) c.long_link-pair.result) same c.long_link-pair.ensures in
+    let same =
+    get_or_read c.as_slice-reads.result.now start c.index-reads-start.result
+    (omega (arith, ap length c.as_slice-reads.ensures.value, c.requires.pairs.reads.long, c.requires.start)) c.index-reads-start.is []
+    ∙ ap (λ (r : List (List (ℕ × ℕ))). ends_of r start) c.as_slice-reads.ensures.value in
+    let single : IsFoundBelow (count h) (IsLongSingle h (ends_of reads start) row 0 start) c.long_link-pair.result =
+    subst (λ (e : List (ℕ × ℕ)). IsFoundBelow (count h) (IsLongSingle h e row 0 start) c.long_link-pair.result) same c.long_link-pair.ensures in
     let step : InRow (BreaksNearStep h c.args.level near) start c.match-level.step = elim c.match-level.branch [
       | in-Causal w ↦
-          (let found : IsFoundBelow (0 + length row) (IsLongStep c.args.pairs.now.begins.items reads row 0) w.long_step-step.result = rw (← w.deref.ensures.value, ← c.as_slice-reads.ensures.value) w.long_step-step.ensures in
-          rw w.step-is (at-level h near start c.args.level level.Causal w.long_step-step.result w.in-Causal.is (near-step-row h c.args.least near start row is c.requires.start c.requires.long c.requires.capped reads c.requires.pairs.reads c.args.pairs.now.begins.items c.requires.pairs.runs w.long_step-step.result found)))
+          (let found : IsFoundBelow (0 + length row) (IsLongStep c.args.pairs.now.begins.items reads row 0) w.long_step-step.result = rw
+          (← w.deref.ensures.value, ← c.as_slice-reads.ensures.value) w.long_step-step.ensures in
+          rw w.step-is (at-level h near start c.args.level level.Causal w.long_step-step.result w.in-Causal.is
+          (near-step-row h c.args.least near start row is c.requires.start c.requires.long c.requires.capped reads c.requires.pairs.reads
+          c.args.pairs.now.begins.items c.requires.pairs.runs w.long_step-step.result found)))
       | in-Atomic w ↦ rw w.step-is (at-level h near start c.args.level level.Atomic None w.in-Atomic.is (near-step-none h near start))
     ] in
     record {
       pairs = rw c.first_of.ensures (found-more start (BreaksNearPair h near) c.args.faults.pair c.long_link-pair.result before.pairs
-          (near-pair-row h c.args.least near start row is c.requires.start c.requires.long c.requires.capped reads c.requires.pairs.reads c.long_link-pair.result single));
+          (near-pair-row h c.args.least near start row is c.requires.start c.requires.long c.requires.capped reads c.requires.pairs.reads
+          c.long_link-pair.result single));
       steps = rw c.first_of-2.ensures (found-more start (BreaksNearStep h c.args.level near) c.args.faults.step c.match-level.step before.steps step);
     }

@@ -14,7 +14,11 @@ returns c =
                 kept_by_previous h c.args.level c.args.places.now c.args.clocks.now c.requires.clocks c.args.c w.previous.result w.previous.ensures.last
                 (λ b p. c.requires.earlier b w.previous.result w.previous.ensures.earlier p) (w.is_kept.ensures.0 w.if-not-is_kept.false) sources
             | else-c-gt0-via-else-c-gt0 w ↦
-                (λ b p. elim p [ inl s ↦ (let parts : PairParts h b c.args.c = pair_parts h b c.args.c s in absurd (omega (arith, parts.some, w.if-c-gt0.false))) | inr r ↦ sources b r.0 r.1 ])
+                (λ b p. elim p [
+                  | inl s ↦ (let parts : PairParts h b c.args.c = pair_parts h b c.args.c s in
+                      absurd (omega (arith, parts.some, w.if-c-gt0.false)))
+                  | inr r ↦ sources b r.0 r.1
+                ])
           ],
       λ all. c.keeps_sources.ensures.1 (λ b x p. all b (inr (x, p))),
     )

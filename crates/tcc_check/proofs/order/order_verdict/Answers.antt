@@ -30,8 +30,17 @@ pub returns-then-keeps_axiom : goal.returns-then-keeps_axiom
 returns-then-keeps_axiom c =
     let kept = rw c.in-Some.is at c.in_ok-places.ensures c.args.sessions in
     let are : ArePlaces c.args.order.now c.deref.result.now = rw c.deref.ensures.value kept.0 in
-    let sizes = c.has_order_sizes.ensures.sizes.0 c.if-not-has_order_sizes.false in
-    (sizes, (kept.1, (axiom_kept c.args.graph.now c.args.level c.args.order.now c.deref.result.now c.args.sessions c.args.clocks.now are sizes.order (c.keeps_axiom.ensures c.if-keeps_axiom.true), tt)))
+    let sizes = c.has_order_sizes.ensures.sizes.0 c.if-not-has_order_sizes.false in (
+      sizes,
+      (
+        kept.1,
+        (
+          axiom_kept c.args.graph.now c.args.level c.args.order.now c.deref.result.now c.args.sessions c.args.clocks.now are sizes.order
+              (c.keeps_axiom.ensures c.if-keeps_axiom.true),
+          tt,
+        ),
+      ),
+    )
 
 pub broken_axiom-requires-clause-places : goal.broken_axiom-requires-clause-places
 broken_axiom-requires-clause-places c = let kept = rw c.in-Some.is at c.in_ok-places.ensures c.args.sessions in rw c.deref-2.ensures.value kept.0

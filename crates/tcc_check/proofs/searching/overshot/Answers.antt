@@ -14,17 +14,23 @@ loop-weight-init c = (refl, none_over (links_by c.parts.result.1.now c.parts.res
 
 pub overflow_add-behind : goal.overflow_add-behind
 overflow_add-behind c =
-    let inside = group_inside c.parts.result.1.now c.parts.result.0.now c.args.row.now c.args.low c.args.before c.parts.ensures.groups c.loop-weight.weight-index c.loop-weight-test.true in
+    let inside =
+    group_inside c.parts.result.1.now c.parts.result.0.now c.args.row.now c.args.low c.args.before c.parts.ensures.groups c.loop-weight.weight-index
+    c.loop-weight-test.true in
     omega (arith, inside, c.loop-weight.invariant.0, c.parts.ensures.groups.few)
 
 pub offset_bounds-ends-first : goal.offset_bounds-ends-first
 offset_bounds-ends-first c =
-    let inside = group_inside c.parts.result.1.now c.parts.result.0.now c.args.row.now c.args.low c.args.before c.parts.ensures.groups c.loop-weight.weight-index c.loop-weight-test.true in
+    let inside =
+    group_inside c.parts.result.1.now c.parts.result.0.now c.args.row.now c.args.low c.args.before c.parts.ensures.groups c.loop-weight.weight-index
+    c.loop-weight-test.true in
     omega (arith, inside, c.loop-weight.invariant.0, c.parts.ensures.groups.few)
 
 pub slice_bounds-overshot_at-end : goal.slice_bounds-overshot_at-end
 slice_bounds-overshot_at-end c =
-    let inside = group_inside c.parts.result.1.now c.parts.result.0.now c.args.row.now c.args.low c.args.before c.parts.ensures.groups c.loop-weight.weight-index c.loop-weight-test.true in
+    let inside =
+    group_inside c.parts.result.1.now c.parts.result.0.now c.args.row.now c.args.low c.args.before c.parts.ensures.groups c.loop-weight.weight-index
+    c.loop-weight-test.true in
     omega (arith, inside, c.loop-weight.invariant.0)
 
 pub returns-then-from-cost : goal.returns-then-from-cost
@@ -36,7 +42,9 @@ returns-then-from-cost c =
     let i = c.loop-weight.weight-index in
     let begins = group_begins groups ends row low c.args.before c.parts.ensures.groups i c.loop-weight-test.true in
     let weight = group_weight groups ends row low c.args.before c.parts.ensures.groups i c.loop-weight-test.true in
-    let seen : IsFoundBelow (low + length row) (SeenOver (total (take i groups)) (links_by groups ends) row low c.args.before) c.loop-weight.found = subst (λ (first : ℕ). IsFoundBelow (low + length row) (SeenOver first (links_by groups ends) row low c.args.before) c.loop-weight.found) c.loop-weight.invariant.0 c.loop-weight.invariant.1 in
+    let seen : IsFoundBelow (low + length row) (SeenOver (total (take i groups)) (links_by groups ends) row low c.args.before) c.loop-weight.found =
+    subst (λ (first : ℕ). IsFoundBelow (low + length row) (SeenOver first (links_by groups ends) row low c.args.before) c.loop-weight.found)
+    c.loop-weight.invariant.0 c.loop-weight.invariant.1 in
     let sorted : AreByWeight (links_by groups ends) = subst (λ (links : List (ℕ × ℕ)). AreByWeight links) (sym c.parts.ensures.links) c.requires.sorted in
     subst (λ (links : List (ℕ × ℕ)). IsFoundBelow (low + length row) (IsOvershot links row low c.args.before) c.loop-weight.found) c.parts.ensures.links
     (rest_over (links_by groups ends) row low c.args.before (total (take i groups)) c.args.most c.loop-weight.found begins sorted c.requires.capped
@@ -50,11 +58,15 @@ overshot_at-requires c =
     let low = c.args.low in
     let i = c.loop-weight.weight-index in
     let n = (get_or groups i (0, 0)).1 in
-    let inside : c.loop-weight.first + n ≤ length ends = omega (arith, group_inside groups ends row low c.args.before c.parts.ensures.groups i c.loop-weight-test.true, c.loop-weight.invariant.0) in
+    let inside : c.loop-weight.first + n ≤ length ends =
+    omega (arith, group_inside groups ends row low c.args.before c.parts.ensures.groups i c.loop-weight-test.true, c.loop-weight.invariant.0) in
     let long = part-long ends c.loop-weight.first n inside in
-    let all : All (λ (link : ℕ × ℕ). link.0 < low + length row) (links_by groups ends) = subst (λ (links : List (ℕ × ℕ)). All (λ (link : ℕ × ℕ). link.0 < low + length row) links) (sym c.parts.ensures.links) c.requires.inside in
-    group_below groups ends row low c.args.before c.parts.ensures.groups i (take (c.loop-weight.first + n - c.loop-weight.first) (drop c.loop-weight.first ends)) c.loop-weight-test.true long
-    (λ k d l. part-at ends c.loop-weight.first n k d inside (omega (arith, l, long)) ∙ ap (λ (first : ℕ). get_or ends (first + k) 0) c.loop-weight.invariant.0) (low + length row) all
+    let all : All (λ (link : ℕ × ℕ). link.0 < low + length row) (links_by groups ends) =
+    subst (λ (links : List (ℕ × ℕ)). All (λ (link : ℕ × ℕ). link.0 < low + length row) links) (sym c.parts.ensures.links) c.requires.inside in
+    group_below groups ends row low c.args.before c.parts.ensures.groups i
+    (take (c.loop-weight.first + n - c.loop-weight.first) (drop c.loop-weight.first ends)) c.loop-weight-test.true long
+    (λ k d l. part-at ends c.loop-weight.first n k d inside (omega (arith, l, long))
+    ∙ ap (λ (first : ℕ). get_or ends (first + k) 0) c.loop-weight.invariant.0) (low + length row) all
 
 pub loop-weight-preserved : goal.loop-weight-preserved
 loop-weight-preserved c =
@@ -66,13 +78,19 @@ loop-weight-preserved c =
     let n = (get_or groups i (0, 0)).1 in
     let is = c.loop-weight.invariant.0 in
     let run = take (c.loop-weight.first + n - c.loop-weight.first) (drop c.loop-weight.first ends) in
-    let inside : c.loop-weight.first + n ≤ length ends = omega (arith, group_inside groups ends row low c.args.before c.parts.ensures.groups i c.loop-weight-test.true, is) in
+    let inside : c.loop-weight.first + n ≤ length ends =
+    omega (arith, group_inside groups ends row low c.args.before c.parts.ensures.groups i c.loop-weight-test.true, is) in
     let long = part-long ends c.loop-weight.first n inside in
-    let seen : IsFoundBelow (low + length row) (SeenOver (total (take i groups)) (links_by groups ends) row low c.args.before) c.loop-weight.found = subst (λ (first : ℕ). IsFoundBelow (low + length row) (SeenOver first (links_by groups ends) row low c.args.before) c.loop-weight.found) is c.loop-weight.invariant.1 in
-    let cost : c.from.result + 1 + c.from-in-loop-weight.result ≡ c.args.before + 1 + (get_or groups i (0, 0)).0 = omega (arith, c.from.ensures, c.from-in-loop-weight.ensures) in
-    let new : IsFoundBelow (low + length row) (IsOvershotAt run row low (c.args.before + 1 + (get_or groups i (0, 0)).0)) c.overshot_at.result = subst (λ (z : ℕ). IsFoundBelow (low + length row) (IsOvershotAt run row low z) c.overshot_at.result) cost c.overshot_at.ensures in
+    let seen : IsFoundBelow (low + length row) (SeenOver (total (take i groups)) (links_by groups ends) row low c.args.before) c.loop-weight.found =
+    subst (λ (first : ℕ). IsFoundBelow (low + length row) (SeenOver first (links_by groups ends) row low c.args.before) c.loop-weight.found) is
+    c.loop-weight.invariant.1 in
+    let cost : c.from.result + 1 + c.from-in-loop-weight.result ≡ c.args.before + 1 + (get_or groups i (0, 0)).0 =
+    omega (arith, c.from.ensures, c.from-in-loop-weight.ensures) in
+    let new : IsFoundBelow (low + length row) (IsOvershotAt run row low (c.args.before + 1 + (get_or groups i (0, 0)).0)) c.overshot_at.result =
+    subst (λ (z : ℕ). IsFoundBelow (low + length row) (IsOvershotAt run row low z) c.overshot_at.result) cost c.overshot_at.ensures in
     let more = more_group groups ends row low c.args.before c.parts.ensures.groups i run c.loop-weight-test.true long
-    (λ k d l. part-at ends c.loop-weight.first n k d inside (omega (arith, l, long)) ∙ ap (λ (first : ℕ). get_or ends (first + k) 0) is) c.loop-weight.found c.overshot_at.result seen new in (
+    (λ k d l. part-at ends c.loop-weight.first n k d inside (omega (arith, l, long)) ∙ ap (λ (first : ℕ). get_or ends (first + k) 0) is) c.loop-weight.found
+    c.overshot_at.result seen new in (
       ap (λ (first : ℕ). first + n) is ∙ sym (total-more groups i c.loop-weight-test.true),
       rw (c.lesser-found.ensures, is) more,
     )
@@ -85,6 +103,7 @@ returns c =
     let low = c.args.low in
     let end : c.loop-weight.weight-index ≡ length groups = omega arith in
     let whole : take c.loop-weight.weight-index groups ≡ groups = take_all c.loop-weight.weight-index groups (omega (arith, end)) in
-    let all : c.loop-weight.first ≡ length (links_by groups ends) = c.loop-weight.invariant.0 ∙ ap total whole ∙ c.parts.ensures.groups.all ∙ sym (length-links groups ends c.parts.ensures.groups.all) in
+    let all : c.loop-weight.first ≡ length (links_by groups ends) =
+    c.loop-weight.invariant.0 ∙ ap total whole ∙ c.parts.ensures.groups.all ∙ sym (length-links groups ends c.parts.ensures.groups.all) in
     subst (λ (links : List (ℕ × ℕ)). IsFoundBelow (low + length row) (IsOvershot links row low c.args.before) c.loop-weight.found) c.parts.ensures.links
     (all_over (links_by groups ends) row low c.args.before c.loop-weight.first c.loop-weight.found all c.loop-weight.invariant.1)

@@ -5,4 +5,6 @@ use Rattle.tcc_check.proofs.Overshot.{SeenOver}
 use Rattle.tcc_check.proofs.searching.overshot.Given as goal
 
 abbrev pub invariant-loop-weight : goal.invariant-loop-weight
-invariant-loop-weight l = (l.first ≡ total (take l.weight-index l.groups)) × IsFoundBelow (l.low + length l.row) (SeenOver l.first (links_by l.groups l.ends) l.row l.low l.before) l.found
+invariant-loop-weight l =
+    (l.first ≡ total (take l.weight-index l.groups)) × IsFoundBelow (l.low + length l.row)
+    (SeenOver l.first (links_by l.groups l.ends) l.row l.low l.before) l.found

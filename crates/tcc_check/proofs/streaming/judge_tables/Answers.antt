@@ -10,8 +10,14 @@ use Rattle.tcc_check.proofs.streaming.judge_tables.Goals as goal
 
 pub returns-in_default : goal.returns-in_default
 returns-in_default g c ahead is =
-    let said = rw c.in_default.is at (c.in_ok-near.ensures.parts ahead is) in
-    (said.0, said.1, said.2, said.3, λ near far long split right. said.4 near far (long ∙ c.if-count.false ∙ c.count.ensures.value) split (right.near, right.near_capped))
+    let said = rw c.in_default.is at (c.in_ok-near.ensures.parts ahead is) in (
+      said.0,
+      said.1,
+      said.2,
+      said.3,
+      λ near far long split right. said.4 near far (long ∙ c.if-count.false ∙ c.count.ensures.value) split
+          (right.near, right.near_capped),
+    )
 
 pub judge_far-requires : goal.judge_far-requires
 judge_far-requires g c = record { orderly = rw c.in-Some.is at c.in_ok-near.ensures.orderly }
@@ -39,17 +45,29 @@ returns g c ahead is =
       of_far.2 ∙ of_near.2,
       of_far.3,
       λ near far long split.
-          let k : CycleClaim = record { version = c.args.version; level = c.args.level; links = c.args.links.now; least = c.args.least; near = near; far = far } in
+          let k : CycleClaim = record {
+            version = c.args.version;
+            level = c.args.level;
+            links = c.args.links.now;
+            least = c.args.least;
+            near = near;
+            far = far;
+          } in
           let one = of_near.4 near far (long ∙ c.if-count.false ∙ c.count.ensures.value) split in
           let two = of_far.4 near far one.1.links one.2 in
-          let below : All (IsLinkBelow (count h)) c.args.links.now = subst (λ (n : ℕ). All (IsLinkBelow n) c.args.links.now) (c.if-count.false ∙ c.count.ensures.value) (c.are_links_below.ensures.0 c.if-not-are_links_below.false) in
+          let below : All (IsLinkBelow (count h)) c.args.links.now =
+          subst (λ (n : ℕ). All (IsLinkBelow n) c.args.links.now) (c.if-count.false ∙ c.count.ensures.value)
+          (c.are_links_below.ensures.0 c.if-not-are_links_below.false) in
           record {
             right = λ end.
                 let last = two.right end in (
                   record { near = one.0.0; far = last.0.0; links = below; near_capped = one.0.1; far_capped = last.0.1 },
                   rw (c.first_rejected.ensures, c.first_rejected-of_tables.ensures)
-                      (answer_first (links_rules h k) (near_rules h c.args.level near ++ far_rules h c.args.version c.args.least near far) c.in_ok-of_links.of_links (first_rejected c.in-Some.near.verdict c.in-Some-2.of_far) (c.in_ok-of_links.ensures c.args.version near far)
-                      (answer_first (near_rules h c.args.level near) (far_rules h c.args.version c.args.least near far) c.in-Some.near.verdict c.in-Some-2.of_far one.1.answer last.1)),
+                      (answer_first (links_rules h k) (near_rules h c.args.level near ++ far_rules h c.args.version c.args.least near far)
+                      c.in_ok-of_links.of_links (first_rejected c.in-Some.near.verdict c.in-Some-2.of_far)
+                      (c.in_ok-of_links.ensures c.args.version near far)
+                      (answer_first (near_rules h c.args.level near)
+                      (far_rules h c.args.version c.args.least near far) c.in-Some.near.verdict c.in-Some-2.of_far one.1.answer last.1)),
                 );
             more = λ right. two.more (right.far, right.far_capped);
           },

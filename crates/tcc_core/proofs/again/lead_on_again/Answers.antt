@@ -44,9 +44,11 @@ loop-u-preserved c =
           })
       | in_default w ↦
           let out : in_row row k ≡ None = none_here (in_row row k) w.in_default.not-Some in
-          rw w.frontier-is (record { floor = inv.floor; lower = inv.lower; offered = λ j priced. caught_past t s row cap floor k old mid out (inv.offered j priced) })
+          rw w.frontier-is
+          (record { floor = inv.floor; lower = inv.lower; offered = λ j priced. caught_past t s row cap floor k old mid out (inv.offered j priced) })
     ]
 
 pub returns-clause-offered : goal.returns-clause-offered
 returns-clause-offered c = λ j priced.
-    caught_row c.args.prices.now c.args.start c.args.row.now c.args.cap c.args.frontier.now.floor c.loop-u.u c.args.frontier.now.costs c.loop-u.frontier.costs (omega (arith, c.loop-u-test.false)) (c.loop-u.invariant.offered j priced)
+    caught_row c.args.prices.now c.args.start c.args.row.now c.args.cap c.args.frontier.now.floor c.loop-u.u c.args.frontier.now.costs
+    c.loop-u.frontier.costs (omega (arith, c.loop-u-test.false)) (c.loop-u.invariant.offered j priced)

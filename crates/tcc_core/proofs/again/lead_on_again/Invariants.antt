@@ -9,5 +9,6 @@ abbrev pub invariant-loop-u : goal.invariant-loop-u
 invariant-loop-u l = record {
   floor : l.frontier.floor ≡ l.initial.frontier.floor;
   lower : IsLower l.initial.frontier.floor l.initial.frontier.costs l.frontier.costs;
-  offered : (j : Judged) → IsPricesOf j l.prices → IsOffered (IsWayBelow l.prices l.start l.row l.cap l.u) l.initial.frontier.floor l.initial.frontier.costs l.frontier.costs;
+  offered : (j : Judged) → IsPricesOf j l.prices → IsOffered (IsWayBelow l.prices l.start l.row l.cap l.u) l.initial.frontier.floor l.initial.frontier.costs
+      l.frontier.costs;
 }

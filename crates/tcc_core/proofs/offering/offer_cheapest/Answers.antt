@@ -6,7 +6,8 @@ use Rattle.tcc_core.proofs.offering.offer_cheapest.Goals.{then-to-start, else-to
 use Rattle.tcc_core.proofs.offering.offer_cheapest.Goals as goal
 
 pub loop-to-init : goal.loop-to-init
-loop-to-init c = record { floor = refl; offered = upto_none c.args.links.now c.args.start c.args.so_far c.args.left c.args.queue.now.floor c.args.queue.now.costs }
+loop-to-init c =
+    record { floor = refl; offered = upto_none c.args.links.now c.args.start c.args.so_far c.args.left c.args.queue.now.floor c.args.queue.now.costs }
 
 pub loop-to-preserved : goal.loop-to-preserved
 loop-to-preserved c =
@@ -23,18 +24,24 @@ loop-to-preserved c =
           let window : c.args.so_far + (get_or links k (0, 0)).1 < floor + BUCKETS = omega (arith, c.requires.so_far, c.requires.left, c.if-cost-left.false) in
           rw (w.queue-is, w.offer.ensures, same) (record {
             floor = refl;
-            offered = upto_next links c.args.start c.args.so_far c.args.left floor k old mid (offered floor mid (get_or links k (0, 0)).0 (c.args.so_far + (get_or links k (0, 0)).1)) w.if-to-start.true c.if-cost-left.false is
+            offered =
+                upto_next links c.args.start c.args.so_far c.args.left floor k old mid
+                (offered floor mid (get_or links k (0, 0)).0 (c.args.so_far + (get_or links k (0, 0)).1)) w.if-to-start.true c.if-cost-left.false is
                 (offered_one floor mid (get_or links k (0, 0)).0 (c.args.so_far + (get_or links k (0, 0)).1) to window);
           })
-      | else-to-start w ↦ rw w.queue-is (record { floor = same; offered = upto_past links c.args.start c.args.so_far c.args.left floor k old mid (inl w.if-to-start.false) is })
+      | else-to-start w ↦ rw w.queue-is
+          (record { floor = same; offered = upto_past links c.args.start c.args.so_far c.args.left floor k old mid (inl w.if-to-start.false) is })
     ]
 
 pub returns-then-cost-left-clause-offered : goal.returns-then-cost-left-clause-offered
 returns-then-cost-left-clause-offered c =
-    upto_all c.args.links.now c.args.start c.args.so_far c.args.left c.args.queue.now.floor c.loop-to.to-index c.args.queue.now.costs c.loop-to.queue.costs (omega (arith, c.loop-to-test.true))
-    (dear_behind c.args.links.now c.args.start c.args.so_far c.args.left c.args.queue.now.floor c.loop-to.to-index c.requires.ascending c.if-cost-left.true) c.loop-to.invariant.offered
+    upto_all c.args.links.now c.args.start c.args.so_far c.args.left c.args.queue.now.floor c.loop-to.to-index c.args.queue.now.costs c.loop-to.queue.costs
+    (omega (arith, c.loop-to-test.true))
+    (dear_behind c.args.links.now c.args.start c.args.so_far c.args.left c.args.queue.now.floor c.loop-to.to-index c.requires.ascending c.if-cost-left.true)
+    c.loop-to.invariant.offered
 
 pub returns-clause-offered : goal.returns-clause-offered
 returns-clause-offered c =
-    upto_all c.args.links.now c.args.start c.args.so_far c.args.left c.args.queue.now.floor c.loop-to.to-index c.args.queue.now.costs c.loop-to.queue.costs (omega (arith, c.loop-to.auto.to-index-end))
+    upto_all c.args.links.now c.args.start c.args.so_far c.args.left c.args.queue.now.floor c.loop-to.to-index c.args.queue.now.costs c.loop-to.queue.costs
+    (omega (arith, c.loop-to.auto.to-index-end))
     (λ i behind low. absurd (omega (arith, behind, low, c.loop-to-test.false))) c.loop-to.invariant.offered

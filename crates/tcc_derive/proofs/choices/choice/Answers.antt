@@ -25,7 +25,8 @@ loop-key-preserved c =
       | in-Some+then-distance-least w ↦ rw (w.least-is, w.best-is)
           (nearer_key h steps b a (keys h) i y (keys_sorted h) within is range least best w.in-Some.reader inv w.in-Some.ensures w.if-distance-least.true)
       | in-Some+else-distance-least w ↦ rw (w.least-is, w.best-is)
-          (no_nearer_key h steps b a (keys h) i y (keys_sorted h) within is range least best inv (λ d may. omega (arith, w.in-Some.ensures.least d may, w.if-distance-least.false)))
+          (no_nearer_key h steps b a (keys h) i y (keys_sorted h) within is range least best inv
+          (λ d may. omega (arith, w.in-Some.ensures.least d may, w.if-distance-least.false)))
       | in_default w ↦ rw (w.least-is, w.best-is)
           (no_nearer_key h steps b a (keys h) i y (keys_sorted h) within is range least best inv
           (λ d may. omega (arith, w.in_default.ensures d may, (choice_bound h steps b a (keys h) i y (keys_sorted h) within is range least best inv).0)))
@@ -36,4 +37,5 @@ returns c =
     let h = c.args.graph.now in
     let past : length (keys h) ≤ c.loop-key.key-index = rw c.keys-key-items.ensures at c.loop-key-test.false in
     choice_of h c.args.steps.now c.args.b c.args.a c.loop-key.least c.loop-key.best
-    (subst (λ ks. IsBestChoice h c.args.steps.now c.args.b c.args.a ks c.loop-key.least c.loop-key.best) (take_all c.loop-key.key-index (keys h) past) c.loop-key.invariant)
+    (subst (λ ks. IsBestChoice h c.args.steps.now c.args.b c.args.a ks c.loop-key.least c.loop-key.best)
+    (take_all c.loop-key.key-index (keys h) past) c.loop-key.invariant)

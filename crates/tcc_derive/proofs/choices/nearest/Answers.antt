@@ -15,11 +15,14 @@ loop-reader-preserved c =
     let within : i < length readers = c.loop-reader-test.true in
     let is : r ≡ get_or readers i r = get_or_default readers i 0 r within in
     elim c.if-count-least.branch [
-      | then-count-least w ↦ rw (w.least-is, w.best-is) (nearer readers steps i r c.requires.order within is range c.loop-reader.least c.loop-reader.best c.loop-reader.invariant w.if-count-least.true)
-      | else-count-least w ↦ rw (w.least-is, w.best-is) (no_nearer readers steps i r c.requires.order within is range c.loop-reader.least c.loop-reader.best c.loop-reader.invariant w.if-count-least.false)
+      | then-count-least w ↦ rw (w.least-is, w.best-is)
+          (nearer readers steps i r c.requires.order within is range c.loop-reader.least c.loop-reader.best c.loop-reader.invariant w.if-count-least.true)
+      | else-count-least w ↦ rw (w.least-is, w.best-is)
+          (no_nearer readers steps i r c.requires.order within is range c.loop-reader.least c.loop-reader.best c.loop-reader.invariant w.if-count-least.false)
     ]
 
 pub returns : goal.returns
 returns c =
     nearest_of c.args.readers.now c.args.steps.now c.loop-reader.least c.loop-reader.best
-    (subst (λ rs. IsBest rs c.args.steps.now c.loop-reader.least c.loop-reader.best) (take_all c.loop-reader.reader-index c.args.readers.now c.loop-reader-test.false) c.loop-reader.invariant)
+    (subst (λ rs. IsBest rs c.args.steps.now c.loop-reader.least c.loop-reader.best)
+    (take_all c.loop-reader.reader-index c.args.readers.now c.loop-reader-test.false) c.loop-reader.invariant)

@@ -13,7 +13,8 @@ pub returns-then-b-a : goal.returns-then-b-a
 returns-then-b-a c = elim c.then-b-a.branch [
   | then-b-a-via-then-b-a w ↦ λ d may. absurd (may.0 w.if-b-a.true)
   | then-b-a-via-else-b-a+then-not-contains w ↦ λ d may.
-      absurd (writes_not c.args.graph.now c.args.b c.args.a c.args.key.now d (ap (λ bs. list_any (λ y. y == c.args.b) bs) (sym w.writers.ensures) ∙ sym w.contains.ensures.value ∙ w.if-not-contains.true) may)
+      absurd (writes_not c.args.graph.now c.args.b c.args.a c.args.key.now d
+      (ap (λ bs. list_any (λ y. y == c.args.b) bs) (sym w.writers.ensures) ∙ sym w.contains.ensures.value ∙ w.if-not-contains.true) may)
 ]
 
 pub nearest-requires-clause-order : goal.nearest-requires-clause-order
@@ -22,7 +23,8 @@ nearest-requires-clause-order c = rw c.readers.ensures (readers_sorted c.args.gr
 pub nearest-requires-clause-below : goal.nearest-requires-clause-below
 nearest-requires-clause-below c = rw (c.readers.ensures, c.requires.long) (readers_below c.args.graph.now c.args.a c.args.key.now)
 
-by_result : (h : History) (steps : List ℕ) (b a : ℕ) (x : List ℕ) (r : Option ℕ) → ((c : ℕ) → IsNearest (readers h a x) steps c → IsNearestReader h steps b a x c)
+by_result : (h : History) (steps : List ℕ) (b a : ℕ) (x : List ℕ) (r : Option ℕ)
+    → ((c : ℕ) → IsNearest (readers h a x) steps c → IsNearestReader h steps b a x c)
     → MatchOption r ((d : ℕ) → Contains (readers h a x) d → get_or steps d 0 ≡ NONE) (IsNearest (readers h a x) steps)
     → MatchOption r ((d : ℕ) → MayContradict h b a x d → get_or steps d 0 ≡ NONE) (IsNearestReader h steps b a x)
 by_result h steps b a x None turn none = λ d may. none d (reads_reader h a x d may.1)
@@ -31,7 +33,8 @@ by_result h steps b a x (Some c) turn nearest = turn c nearest
 pub returns : goal.returns
 returns c =
     let h = c.args.graph.now in
-    let writes : list_any (λ y. y == c.args.b) (writers h c.args.key.now) ≡ true = ap (λ bs. list_any (λ y. y == c.args.b) bs) (sym c.writers.ensures) ∙ sym c.contains.ensures.value ∙ c.if-not-contains.false in
+    let writes : list_any (λ y. y == c.args.b) (writers h c.args.key.now) ≡ true =
+    ap (λ bs. list_any (λ y. y == c.args.b) bs) (sym c.writers.ensures) ∙ sym c.contains.ensures.value ∙ c.if-not-contains.false in
     by_result h c.args.steps.now c.args.b c.args.a c.args.key.now c.nearest.result
     (λ d nearest. nearest_reader_of h c.args.steps.now c.args.b c.args.a c.args.key.now d c.if-b-a.false c.requires.to writes nearest)
     (rw c.readers.ensures at c.nearest.ensures)

@@ -15,11 +15,19 @@ collect-requires-clause-ready g c κs within =
     let prices = c.args.prices.now in
     let rows = c.args.near.now.rows in
     let ends = c.into_par_iter.ensures in
-    let ready = nat_range-All (λ u. (u < length prices) × (u < length rows) × (u < count h) × (count h ≤ MAX_COUNT) × (length (row_of prices u) ≡ count h) × (length (row_of rows u) ≡ count h)) 0 c.count.result
+    let ready =
+    nat_range-All (λ u. (u < length prices) × (u < length rows) × (u < count h) × (count h ≤ MAX_COUNT) × (length (row_of prices u) ≡ count h)
+    × (length (row_of rows u) ≡ count h)) 0 c.count.result
     (λ u low high.
     let from : u < count h = omega (arith, c.count.ensures.value) in
-    let low : u < length rows = omega (arith, from, c.requires.near.long) in
-    (omega (arith, c.requires.prices.long), low, from, omega (arith, c.count.ensures.value, c.count.ensures.few), c.requires.prices.each u from, c.requires.near.wide u [] low)) in
+    let low : u < length rows = omega (arith, from, c.requires.near.long) in (
+      omega (arith, c.requires.prices.long),
+      low,
+      from,
+      omega (arith, c.count.ensures.value, c.count.ensures.few),
+      c.requires.prices.each u from,
+      c.requires.near.wide u [] low,
+    )) in
     rw (c.with_min_len.ensures.base, c.map.ensures.base, c.map.ensures.f, ends.0, ends.1) (λ k d lt. (ready k d lt, λ y p. tt))
 
 pub returns : goal.returns

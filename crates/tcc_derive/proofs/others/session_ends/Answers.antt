@@ -12,7 +12,10 @@ loop-u-preserved c =
     let later = c.later-first.ensures in
     let first = later.first in
     let here : IsEnd h u end = record { order = rw first at later.order; few = later.few; pairs = rw first at later.pairs } in
-    rw c.in_ok-push.ensures.items (omega (arith, length-append old (end ∷ []), c.loop-u.invariant.0), each_pushed (IsEnd h) old end u c.loop-u.invariant.0 (λ w d l. c.loop-u.invariant.1 w d l) here)
+    rw c.in_ok-push.ensures.items (
+      omega (arith, length-append old (end ∷ []), c.loop-u.invariant.0),
+      each_pushed (IsEnd h) old end u c.loop-u.invariant.0 (λ w d l. c.loop-u.invariant.1 w d l) here,
+    )
 
 pub returns : goal.returns
 returns c =

@@ -24,10 +24,16 @@ collect-requires-clause-ready g c κs within =
     let written = c.args.written.now in
     let ends = c.into_par_iter.ensures in
     let square : length near.rows ≡ count h = c.requires.near.square.long in
-    let ready = nat_range-All (λ b. (b < length near.rows) × (length near.rows ≤ MAX_COUNT) × (length written ≡ length near.rows) × HaveReads (length near.rows) reads (bucket written b)) 0 c.count.result
+    let ready =
+    nat_range-All (λ b. (b < length near.rows) × (length near.rows ≤ MAX_COUNT) × (length written ≡ length near.rows)
+    × HaveReads (length near.rows) reads (bucket written b)) 0 c.count.result
     (λ b low high.
-    let from : b < count h = omega (arith, c.count.ensures.value) in
-    (omega arith, omega (arith, c.count.ensures.value, c.count.ensures.few), c.requires.written.long ∙ sym square, have_reads h (length near.rows) reads written b square c.requires.reads c.requires.written from)) in
+    let from : b < count h = omega (arith, c.count.ensures.value) in (
+      omega arith,
+      omega (arith, c.count.ensures.value, c.count.ensures.few),
+      c.requires.written.long ∙ sym square,
+      have_reads h (length near.rows) reads written b square c.requires.reads c.requires.written from,
+    )) in
     rw (c.with_min_len.ensures.base, c.map.ensures.base, c.map.ensures.f, ends.0, ends.1) (λ k d lt. (ready k d lt, λ y p. tt))
 
 pub returns : goal.returns
@@ -44,7 +50,8 @@ returns g c =
     let whole : n - 0 ≡ n = omega arith in
     let chain = rw (c.with_min_len.ensures.base, c.map.ensures.base, c.map.ensures.f) at got.1 in
     let places : chain.0 ≡ range_with_len 0 n = chain.1 ∙ (λ i. nat_range (ends.0 i) (ends.1 i)) ∙ ap (range_with_len 0) whole in
-    let IsLowered : ℕ → List ℕ → Type 0 = λ b row. Lowers (flat_map (bucket reads) (bucket written b)) (row_of near.rows b) b (replicate (length near.rows) NONE) row in
+    let IsLowered : ℕ → List ℕ → Type 0 =
+    λ b row. Lowers (flat_map (bucket reads) (bucket written b)) (row_of near.rows b) b (replicate (length near.rows) NONE) row in
     record {
       rows = matched c.in_ok-collect.field-0 _ _ _ got.2 (λ rows made.
           let each = each_given NoMemory IsLowered n chain.0 got.0 rows.items places chain.2 made in

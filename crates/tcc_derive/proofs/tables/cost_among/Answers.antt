@@ -24,7 +24,9 @@ returns-in_default c =
     let is : found ≡ get_or xs k (0, 0) = search rules in
     let other : found.0 ≢ v = search rules in
     let point : IsPartitionPoint (λ (p : ℕ × ℕ). nat_lt p.0 v ≡ true) (λ (p : ℕ × ℕ). nat_lt p.0 v ≡ false) xs k
-    = IsPartitionPoint-from_clause (λ (p : ℕ × ℕ). nat_lt p.0 v) xs k c.partition_point-place.ensures.partitioned (IsPartitionedBy-ltb (λ (p : ℕ × ℕ). p.0) xs v (numbers_rise xs c.requires)) (λ a r f' called. search rules) in
+    =
+    IsPartitionPoint-from_clause (λ (p : ℕ × ℕ). nat_lt p.0 v) xs k c.partition_point-place.ensures.partitioned
+    (IsPartitionedBy-ltb (λ (p : ℕ × ℕ). p.0) xs v (numbers_rise xs c.requires)) (λ a r f' called. search rules) in
     sym (among_past xs k v point c.requires (λ inside e. absurd (other (ap (λ (p : ℕ × ℕ). p.0) is ∙ e))))
 
 pub returns-in_default-2 : goal.returns-in_default-2
@@ -34,5 +36,7 @@ returns-in_default-2 c =
     let k = c.partition_point-place.result in
     let past : length xs ≤ k = search rules in
     let point : IsPartitionPoint (λ (p : ℕ × ℕ). nat_lt p.0 v ≡ true) (λ (p : ℕ × ℕ). nat_lt p.0 v ≡ false) xs k
-    = IsPartitionPoint-from_clause (λ (p : ℕ × ℕ). nat_lt p.0 v) xs k c.partition_point-place.ensures.partitioned (IsPartitionedBy-ltb (λ (p : ℕ × ℕ). p.0) xs v (numbers_rise xs c.requires)) (λ a r f' called. search rules) in
+    =
+    IsPartitionPoint-from_clause (λ (p : ℕ × ℕ). nat_lt p.0 v) xs k c.partition_point-place.ensures.partitioned
+    (IsPartitionedBy-ltb (λ (p : ℕ × ℕ). p.0) xs v (numbers_rise xs c.requires)) (λ a r f' called. search rules) in
     sym (among_past xs k v point c.requires (λ inside. absurd (omega arith)))

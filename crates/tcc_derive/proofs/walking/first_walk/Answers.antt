@@ -39,7 +39,8 @@ loop-done-preserved c =
     let below = (step_below j.history step last.step).0 in
     let few : total - done - 1 < NONE = omega (arith, c.requires.reached) in
     rw (c.row-steps.ensures.value, c.in_ok-push.ensures.items, c.from-end.ensures) (
-      taken_more j near b c.requires.near c.requires.from c.args.c total c.loop-done.end (total - done - 1) taken step inv.0 (subst (λ (n : ℕ). IsLeft j b c.loop-done.end n) more inv.2) last whole,
+      taken_more j near b c.requires.near c.requires.from c.args.c total c.loop-done.end (total - done - 1) taken step inv.0
+          (subst (λ (n : ℕ). IsLeft j b c.loop-done.end n) more inv.2) last whole,
       omega (arith, length-append taken (step ∷ []), inv.1),
       rw less at (left_of j near b c.requires.near c.requires.from (step_from step) (total - done - 1) below few last.stands),
       below,
@@ -57,4 +58,5 @@ returns c =
     let none : total - c.loop-done.done ≡ 0 = omega arith in
     let back = subst (λ (v : ℕ). IsTakenBack j.history b c.args.c total v c.loop-done.taken.items) (sym (inv.2.none none)) inv.0 in
     rw (c.new.ensures, c.reverse.ensures.items)
-    (walk_of j near b c.requires.near c.requires.from c.args.c total c.loop-done.taken.items back (omega (arith, inv.1)) (at_end j near b c.requires.near c.requires.from c.args.c c.requires.to c.requires.reached))
+    (walk_of j near b c.requires.near c.requires.from c.args.c total c.loop-done.taken.items back (omega (arith, inv.1))
+    (at_end j near b c.requires.near c.requires.from c.args.c c.requires.to c.requires.reached))

@@ -15,7 +15,9 @@ loop-place-preserved c =
     let n = c.loop-place.place in
     let within : n < length (keys h) = rw c.keys-key-items.ensures at c.loop-place-test.true in
     let is : c.key-item.result ≡ name_of (keys h) n
-    = get_or_read c.keys-key-items.result.now n c.key-item.result c.loop-place-test.true c.key-item.is [] ∙ ap (λ names. name_of names n) c.keys-key-items.ensures in
+    =
+    get_or_read c.keys-key-items.result.now n c.key-item.result c.loop-place-test.true c.key-item.is []
+    ∙ ap (λ names. name_of names n) c.keys-key-items.ensures in
     let added = writes_added h n c.loop-place.written.items c.add_key.new.written c.key-item.result c.loop-place.invariant within is
     (rw (c.deref_mut.ensures.value, c.writers.ensures) at c.in_ok-add_key.ensures) in
     let long : length c.add_key.new.written ≡ c.loop-place.written.len

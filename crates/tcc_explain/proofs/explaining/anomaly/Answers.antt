@@ -20,19 +20,29 @@ unreachable-requires-in_default-first g c =
 pub index-requires : goal.index-requires
 index-requires g c =
     let j : Judged = record { history = c.args.graph.now; level = c.args.near.now.level } in
-    omega (arith, start_below j c.args.workers c.in_ok-found.found (c.in_ok-found.ensures j c.requires.prices) c.in-Some.cost c.in-Some.is c.in-Some-first.start c.in-Some-first.is, c.in_ok-found.found.rows.ok)
+    omega (
+      arith,
+      start_below j c.args.workers c.in_ok-found.found
+          (c.in_ok-found.ensures j c.requires.prices) c.in-Some.cost c.in-Some.is c.in-Some-first.start c.in-Some-first.is,
+      c.in_ok-found.found.rows.ok,
+    )
 
 pub first_cycle-requires-clause-back : goal.first_cycle-requires-clause-back
 first_cycle-requires-clause-back g c =
     let j : Judged = record { history = c.args.graph.now; level = c.args.near.now.level } in
-    let below = start_below j c.args.workers c.in_ok-found.found (c.in_ok-found.ensures j c.requires.prices) c.in-Some.cost c.in-Some.is c.in-Some-first.start c.in-Some-first.is in
-    first_return j c.args.workers c.in_ok-found.found (c.in_ok-found.ensures j c.requires.prices) c.in-Some.cost c.in-Some.is c.in-Some-first.start c.in-Some-first.is _ refl refl (c.values-row.ensures ∙ (c.index.ensures ∙ get_or_default c.in_ok-found.found.rows.items c.in-Some-first.start c.index.result.now [] below))
+    let below =
+    start_below j c.args.workers c.in_ok-found.found (c.in_ok-found.ensures j c.requires.prices) c.in-Some.cost c.in-Some.is c.in-Some-first.start
+    c.in-Some-first.is in
+    first_return j c.args.workers c.in_ok-found.found (c.in_ok-found.ensures j c.requires.prices) c.in-Some.cost c.in-Some.is c.in-Some-first.start
+    c.in-Some-first.is _ refl refl
+    (c.values-row.ensures ∙ (c.index.ensures ∙ get_or_default c.in_ok-found.found.rows.items c.in-Some-first.start c.index.result.now [] below))
 
 pub returns : goal.returns
 returns g c =
     let j : Judged = record { history = c.args.graph.now; level = c.args.near.now.level } in
     let costs : c.in-Some.cost ≡ cost c.in_ok-links.links.items = sym c.in_ok-links.ensures.cost in
-    let rows : AreFarRows j c.in-Some.cost c.deref.result.now = rw c.deref.ensures.value (far_rows j c.args.workers c.in_ok-found.found (c.in_ok-found.ensures j c.requires.prices) c.in-Some.cost c.in-Some.is) in
+    let rows : AreFarRows j c.in-Some.cost c.deref.result.now =
+    rw c.deref.ensures.value (far_rows j c.args.workers c.in_ok-found.found (c.in_ok-found.ensures j c.requires.prices) c.in-Some.cost c.in-Some.is) in
     rw (c.new-2.ensures, c.new.ensures, c.level.ensures) (
       (c.in-Some-first.start, c.in_ok-links.ensures.first),
       refl,

@@ -11,8 +11,13 @@ pub returns-in-Some : goal.returns-in-Some
 returns-in-Some g c =
     let j : Judged = record { history = c.args.graph.now; level = c.args.level } in
     let first : IsFirstOrder j c.in-Some.order.items = rw c.in-Some.is at c.in_ok-order.ensures in
-    rw (c.new.ensures, c.new-order.ensures)
-    (((c.order_or_cycle.ensures j).0 (c.in-Some.order.items, first.commit), first), refl, ap length c.sessions.ensures.value, c.requires.labels, c.in_ok-clocks.ensures)
+    rw (c.new.ensures, c.new-order.ensures) (
+      ((c.order_or_cycle.ensures j).0 (c.in-Some.order.items, first.commit), first),
+      refl,
+      ap length c.sessions.ensures.value,
+      c.requires.labels,
+      c.in_ok-clocks.ensures,
+    )
 
 pub anomaly-requires-clause-cycle : goal.anomaly-requires-clause-cycle
 anomaly-requires-clause-cycle g c =
@@ -21,4 +26,5 @@ anomaly-requires-clause-cycle g c =
 
 pub returns : goal.returns
 returns g c =
-    subst (λ (level : Level). IsAnswerOf (record { history = c.args.graph.now; level = level }) (answer.Anomaly c.in_ok-anomaly.anomaly)) c.in_ok-near.ensures.level c.in_ok-anomaly.ensures
+    subst (λ (level : Level). IsAnswerOf (record { history = c.args.graph.now; level = level }) (answer.Anomaly c.in_ok-anomaly.anomaly))
+    c.in_ok-near.ensures.level c.in_ok-anomaly.ensures

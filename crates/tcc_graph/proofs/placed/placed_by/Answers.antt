@@ -13,5 +13,6 @@ of-requires-clause-there c =
 pub loop-transaction-preserved : goal.loop-transaction-preserved
 loop-transaction-preserved c =
     rw c.in_ok-push.ensures.items
-    (more_placed c.args.keys.now c.args.transactions.now c.loop-transaction.transaction-index c.loop-transaction.placed.items c.transaction-item.result c.in_ok-of.field-0 c.loop-transaction.invariant
+    (more_placed c.args.keys.now c.args.transactions.now c.loop-transaction.transaction-index c.loop-transaction.placed.items c.transaction-item.result
+    c.in_ok-of.field-0 c.loop-transaction.invariant
     c.loop-transaction-test.true c.transaction-item.is c.in_ok-of.ensures)

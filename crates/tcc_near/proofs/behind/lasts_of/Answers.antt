@@ -23,7 +23,8 @@ loop-b-preserved c =
           let new = w.raise.new.lasts in
           let same : length new ≡ length old = search rules in
           let long : c.loop-b.lasts.len ≡ length old = search rules in
-          let each : (t : ℕ) → t < length old → slice_index new t ≡ raised (place h n) (slice_index (row_of c.args.near.now.rows n) t) (slice_index old t) = rw (w.deref_mut.ensures.value, w.row.ensures.value, is.1) at w.raise.ensures.each in
+          let each : (t : ℕ) → t < length old → slice_index new t ≡ raised (place h n) (slice_index (row_of c.args.near.now.rows n) t) (slice_index old t) =
+          rw (w.deref_mut.ensures.value, w.row.ensures.value, is.1) at w.raise.ensures.each in
           rw (w.lasts-is, take_at new _ c.loop-b.lasts.len (same ∙ sym long))
           (lasts_raised h c.args.near.now c.args.session n old new c.requires inv (omega arith) (omega (arith, c.count-b-end.ensures.value)) is.0 same each)
           )
@@ -31,4 +32,6 @@ loop-b-preserved c =
     ]
 
 pub returns : goal.returns
-returns c = rw c.new.ensures (lasts_whole c.args.graph.now c.args.session c.loop-b.b c.loop-b.lasts.items (omega (arith, c.loop-b-test.false, c.count-b-end.ensures.value)) c.loop-b.invariant)
+returns c =
+    rw c.new.ensures (lasts_whole c.args.graph.now c.args.session c.loop-b.b c.loop-b.lasts.items
+    (omega (arith, c.loop-b-test.false, c.count-b-end.ensures.value)) c.loop-b.invariant)

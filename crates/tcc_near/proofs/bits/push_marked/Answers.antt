@@ -14,7 +14,9 @@ loop-left-preserved c =
     let lowest = bit_at-trailing_zeros w64 c.loop-left.left (omega arith) (search rules) in
     let inv = c.loop-left.invariant in
     let pushed : c.push.new.self.items ≡ c.loop-left.numbers.items ++ (c.args.first + trailing_zeros w64 c.loop-left.left) ∷ [] = search rules in
-    rw pushed (push_more c.args.numbers.now.items c.loop-left.numbers.items c.args.word c.loop-left.left c.args.first (trailing_zeros w64 c.loop-left.left) lowest.0 lowest.1 inv.0 inv.1)
+    rw pushed (push_more c.args.numbers.now.items c.loop-left.numbers.items c.args.word c.loop-left.left c.args.first
+    (trailing_zeros w64 c.loop-left.left) lowest.0 lowest.1 inv.0 inv.1)
 
 pub returns : goal.returns
-returns c = push_done c.args.numbers.now.items c.loop-left.numbers.items c.args.word c.loop-left.left c.args.first c.loop-left-test.false c.loop-left.invariant.1
+returns c =
+    push_done c.args.numbers.now.items c.loop-left.numbers.items c.args.word c.loop-left.left c.args.first c.loop-left-test.false c.loop-left.invariant.1

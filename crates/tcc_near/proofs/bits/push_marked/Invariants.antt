@@ -6,7 +6,8 @@ use Rattle.tcc_near.proofs.bits.push_marked.Given as goal
 abbrev pub invariant-loop-left : goal.invariant-loop-left
 invariant-loop-left l =
     ((i : ℕ) → i < 64 → bit_at l.left i ≤ bit_at l.word i)
-    × ((b : ℕ) → Contains l.numbers.items b ↔ (Contains l.initial.numbers.items b ⊎ ((i : ℕ) × (i < 64) × (bit_at l.word i ≡ 1) × (bit_at l.left i ≡ 0) × (b ≡ l.first + i))))
+    × ((b : ℕ) → Contains l.numbers.items b ↔
+    (Contains l.initial.numbers.items b ⊎ ((i : ℕ) × (i < 64) × (bit_at l.word i ≡ 1) × (bit_at l.left i ≡ 0) × (b ≡ l.first + i))))
 
 abbrev pub decreases-loop-left : goal.decreases-loop-left
 decreases-loop-left l = l.left

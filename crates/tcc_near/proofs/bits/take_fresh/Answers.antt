@@ -8,8 +8,13 @@ loop-place-preserved c =
     let n = c.loop-place.place in
     let seen = c.args.seen.now in
     let kept : slice_index c.loop-place.seen n ≡ slice_index seen n = inv.2 n (omega arith) in
-    let small : slice_index seen n < 2 ^ 64 = rw (← kept) (search rules) in
-    (search rules, search rules, search rules, fresh_more seen c.args.marks.now c.loop-place.fresh.items c.push_marked.new.numbers.items n small inv.3 (rw (← kept) c.in_ok-push_marked.ensures))
+    let small : slice_index seen n < 2 ^ 64 = rw (← kept) (search rules) in (
+      search rules,
+      search rules,
+      search rules,
+      fresh_more seen c.args.marks.now c.loop-place.fresh.items c.push_marked.new.numbers.items n small inv.3
+          (rw (← kept) c.in_ok-push_marked.ensures),
+    )
 
 pub returns-clause-seen : goal.returns-clause-seen
 returns-clause-seen c =

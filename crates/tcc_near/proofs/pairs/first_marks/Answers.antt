@@ -24,7 +24,8 @@ returns c =
     let tails_same : length tails ≡ length suffixes = rw c.deref_mut-2.ensures.value at c.take_in.ensures.long in
     let suffixes_long : c.in_ok-suffixes.suffixes.len ≡ length suffixes = search rules in
     let count_long : length suffixes ≡ count h = search rules in
-    let each : (b : ℕ) → (is_marked new b ≡ true) ↔ ((is_marked words b ≡ true) ⊎ (causal_pair h a b ≡ true)) = rw c.deref_mut.ensures.value at c.take_in.ensures.each in
+    let each : (b : ℕ) → (is_marked new b ≡ true) ↔ ((is_marked words b ≡ true) ⊎ (causal_pair h a b ≡ true)) =
+    rw c.deref_mut.ensures.value at c.take_in.ensures.each in
     let none : (b : ℕ) → is_marked words b ≡ false = rw zeros (none_marked m) in
     let pairs = pairs_alone h a words new none each in
     rw (take_at new _ c.in_ok-words.words.len (same ∙ sym words_long), take_at tails _ c.in_ok-suffixes.suffixes.len (tails_same ∙ sym suffixes_long)) (record {
@@ -40,4 +41,10 @@ take_in-requires-clause-suffixes c =
     let none : ℕ = 4294967295 in
     let suffixes : c.in_ok-suffixes.suffixes.items ≡ replicate n none = search rules in
     rw (c.deref_mut-2.ensures.value, suffixes) (suffixes_none (replicate n none) c.deref_mut.result.now
-    (λ last inside. omega (arith, get_or-replicate n last none 0 (omega (arith, length-replicate n none)), length-replicate n none, c.requires.pairs.ended.long, c.requires.few)))
+    (λ last inside. omega (
+      arith,
+      get_or-replicate n last none 0 (omega (arith, length-replicate n none)),
+      length-replicate n none,
+      c.requires.pairs.ended.long,
+      c.requires.few,
+    )))

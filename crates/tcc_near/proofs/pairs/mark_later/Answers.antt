@@ -11,8 +11,10 @@ returns-then-first-known c =
     let end = c.args.end in
     let known = c.min-known.result in
     let least : known ≡ min (slice_index suffixes (end - 1)) end = c.min-known.ensures in
-    let marked : (b : ℕ) → known ≤ b → b < end → is_marked words b ≡ true = λ b from below. c.requires.suffixes (end - 1) b (omega (arith, c.requires.some, c.requires.within)) (omega (arith, least)) (omega arith) in
-    let is : AddsBetween words c.mark_between.new.words first end = between_known words c.mark_between.new.words first known end (omega (arith, least)) marked c.mark_between.ensures.each in
+    let marked : (b : ℕ) → known ≤ b → b < end → is_marked words b ≡ true =
+    λ b from below. c.requires.suffixes (end - 1) b (omega (arith, c.requires.some, c.requires.within)) (omega (arith, least)) (omega arith) in
+    let is : AddsBetween words c.mark_between.new.words first end =
+    between_known words c.mark_between.new.words first known end (omega (arith, least)) marked c.mark_between.ensures.each in
     record {
       same = c.mark_between.ensures.same;
       long = length-set suffixes (end - 1) first;
@@ -31,5 +33,7 @@ returns-else-first-known c =
       same = refl;
       long = refl;
       suffixes = c.requires.suffixes;
-      each = between_marked words first end (λ b from below. c.requires.suffixes (end - 1) b (omega (arith, c.requires.some, c.requires.within)) (omega (arith, least, c.if-first-known.false)) (omega arith));
+      each =
+          between_marked words first end (λ b from below. c.requires.suffixes (end - 1) b (omega (arith, c.requires.some, c.requires.within))
+          (omega (arith, least, c.if-first-known.false)) (omega arith));
     }

@@ -11,11 +11,16 @@ loop-from-preserved c =
     let pushed : c.push.new.self.items ≡ rows ++ made ∷ [] = search rules in
     rw pushed (
       omega (arith, length-append rows (made ∷ []), inv.0),
-      each_pushed (λ (u : ℕ) row. IsPairsFrom c.args.graph.now u (slice_index c.args.ends.now u) row) rows made c.loop-from.from inv.0 inv.1 c.in_ok-other_readers.ensures,
+      each_pushed (λ (u : ℕ) row. IsPairsFrom c.args.graph.now u (slice_index c.args.ends.now u) row) rows made c.loop-from.from inv.0 inv.1
+          c.in_ok-other_readers.ensures,
     )
 
 pub returns : goal.returns
 returns c =
     let inv = c.loop-from.invariant in
     let all : c.loop-from.from ≡ length c.args.ends.now = omega (arith, c.loop-from-test.false, c.loop-from.auto.from-end) in
-    record { ended = c.requires.ends; long = inv.0 ∙ (all ∙ c.requires.ends.long); each = λ u from. inv.1 u [] (omega (arith, all, from, c.requires.ends.long)) }
+    record {
+      ended = c.requires.ends;
+      long = inv.0 ∙ (all ∙ c.requires.ends.long);
+      each = λ u from. inv.1 u [] (omega (arith, all, from, c.requires.ends.long));
+    }

@@ -14,7 +14,9 @@ collect-requires-clause-ready g c κs within =
     let h = c.args.graph.now in
     let n = length c.args.ends.now in
     let ends = c.into_par_iter.ensures in
-    let inside = nat_range-All (λ i. (i < count h) × (count h ≤ MAX_COUNT) × ArePairs h c.args.ends.now c.args.readers.now) 0 n (λ i low high. (omega (arith, high, c.requires.pairs.ended.long), c.requires.few, c.requires.pairs)) in
+    let inside =
+    nat_range-All (λ i. (i < count h) × (count h ≤ MAX_COUNT) × ArePairs h c.args.ends.now c.args.readers.now) 0 n
+    (λ i low high. (omega (arith, high, c.requires.pairs.ended.long), c.requires.few, c.requires.pairs)) in
     rw (c.with_min_len.ensures.base, c.map.ensures.base, c.map.ensures.f, ends.0, ends.1) (λ k d lt. (inside k d lt, λ y p. tt))
 
 pub returns : goal.returns
@@ -25,5 +27,6 @@ returns g c =
     let chain = rw (c.with_min_len.ensures.base, c.map.ensures.base, c.map.ensures.f) at gave.1 in
     let numbers = chain.1 ∙ numbers_below _ _ n c.into_par_iter.ensures.0 c.into_par_iter.ensures.1 in
     matched c.in_ok-collect.field-0 _ _ _ gave.2 (λ v made.
-    let each = each_given AllocError (λ a row. HasDistances (record { history = h; level = c.args.level }) a row) n chain.0 gave.0 v.items numbers chain.2 made in
+    let each =
+    each_given AllocError (λ a row. HasDistances (record { history = h; level = c.args.level }) a row) n chain.0 gave.0 v.items numbers chain.2 made in
     near_from_rows h c.args.level v.items (each.0 ∙ c.requires.pairs.ended.long, λ a d l. each.1 a d (omega (arith, l, c.requires.pairs.ended.long))))

@@ -86,11 +86,15 @@ loop-before-preserved c =
     let met = c.take_fresh.new.seen in
     let small : n + 1 < NONE = omega arith in
     let each : (b : ℕ) → Contains fresh b → slice_index new b ≡ n + 1 = rw c.deref-in-loop-before.ensures.value at c.number.ensures.each in
-    let others : (b : ℕ) → (Contains fresh b → ⊥) → slice_index new b ≡ slice_index steps b = rw (c.deref-in-loop-before.ensures.value, c.deref_mut-in-loop-before.ensures.value) at c.number.ensures.others in
-    let joined : (b : ℕ) → is_marked met b ≡ (is_marked seen b || is_marked marks b) = rw (c.deref_mut.ensures.value, c.deref.ensures.value) at c.in_ok-take_fresh.ensures.seen in
-    let led : (b : ℕ) → (is_marked next b ≡ true) ↔ IsLedTo h marks (Contains fresh) b = rw (c.deref-in-loop-before-2.ensures.value, c.deref_mut-in-loop-before-2.ensures.value) at c.spread.ensures.each in
+    let others : (b : ℕ) → (Contains fresh b → ⊥) → slice_index new b ≡ slice_index steps b =
+    rw (c.deref-in-loop-before.ensures.value, c.deref_mut-in-loop-before.ensures.value) at c.number.ensures.others in
+    let joined : (b : ℕ) → is_marked met b ≡ (is_marked seen b || is_marked marks b) =
+    rw (c.deref_mut.ensures.value, c.deref.ensures.value) at c.in_ok-take_fresh.ensures.seen in
+    let led : (b : ℕ) → (is_marked next b ≡ true) ↔ IsLedTo h marks (Contains fresh) b =
+    rw (c.deref-in-loop-before-2.ensures.value, c.deref_mut-in-loop-before-2.ensures.value) at c.spread.ensures.each in
     let some : 0 < length fresh = search rules in
-    let fewer : unnumbered new < unnumbered steps = rw (c.deref-in-loop-before.ensures.value, c.deref_mut-in-loop-before.ensures.value) at c.number.ensures.fewer some in
+    let fewer : unnumbered new < unnumbered steps =
+    rw (c.deref-in-loop-before.ensures.value, c.deref_mut-in-loop-before.ensures.value) at c.number.ensures.fewer some in
     let same : length new ≡ length steps = search rules in
     let steps_long : c.loop-before.steps.len ≡ length steps = search rules in
     let met_same : length met ≡ length seen = search rules in
@@ -100,10 +104,16 @@ loop-before-preserved c =
     let tails_same : length tails ≡ length c.loop-before.suffixes.items = search rules in
     let tails_long : c.loop-before.suffixes.len ≡ length c.loop-before.suffixes.items = search rules in
     let from : (u : ℕ) → Contains fresh u → u < count h = λ u h. omega (arith, inside u ((is u).0 h).0, inv.0) in
-    rw (take_at new _ c.loop-before.steps.len (same ∙ sym steps_long), take_at met _ c.loop-before.seen.len (met_same ∙ sym seen_long), take_at next _ c.loop-before.words.len (next_same ∙ sym marks_long), take_at tails _ c.loop-before.suffixes.len (tails_same ∙ sym tails_long)) (
+    rw (
+      take_at new _ c.loop-before.steps.len (same ∙ sym steps_long),
+      take_at met _ c.loop-before.seen.len (met_same ∙ sym seen_long),
+      take_at next _ c.loop-before.words.len (next_same ∙ sym marks_long),
+      take_at tails _ c.loop-before.suffixes.len (tails_same ∙ sym tails_long),
+    ) (
     let numbers = numbered_so steps marks seen fresh inside inv.3 is new (n + 1) small each others in
     let round : IsSearched h c.args.source (n + 1) new = searched_more h c.args.source n steps new marks inv.5 inv.6 small same numbers in
-    let far : (u : ℕ) → u < count h → slice_index steps u ≢ n + 1 = λ u below e. absurd (omega (arith, (known h c.args.source n steps u inv.5 below (λ none. absurd (omega (arith, e, none)))).0, e)) in
+    let far : (u : ℕ) → u < count h → slice_index steps u ≢ n + 1 =
+    λ u below e. absurd (omega (arith, (known h c.args.source n steps u inv.5 below (λ none. absurd (omega (arith, e, none)))).0, e)) in
     let lasts = λ (u : ℕ) (below : u < count h). fresh_at steps marks seen fresh inside inv.3 is new (n + 1) small each others u (far u below) in (
       same ∙ inv.0,
       led_row h marks next (Contains fresh) inv.1 next_same led,
@@ -122,4 +132,5 @@ returns c =
     let h = c.args.graph.now in
     let inv = c.loop-before.invariant in
     let n = c.loop-before.before in
-    rw c.new-2.ensures (row_full h c.args.source n c.loop-before.steps.items inv.5 (omega arith) (all_numbered c.loop-before.steps.items (omega (arith, inv.4, c.requires.pairs.ended.long))))
+    rw c.new-2.ensures (row_full h c.args.source n c.loop-before.steps.items inv.5 (omega arith)
+    (all_numbered c.loop-before.steps.items (omega (arith, inv.4, c.requires.pairs.ended.long))))

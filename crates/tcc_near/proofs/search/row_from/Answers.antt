@@ -9,4 +9,6 @@ returns-in_ok-words-in-Atomic c =
     let h = c.args.graph.now in
     let long : length c.args.ends.now ≡ count h = c.requires.pairs.ended.long in
     let marked = c.in_ok-words-in-Atomic.ensures.marked in
-    rw c.in-Atomic.is (IfOk-weaker c.steps_to.result _ _ (λ made is. row_of_steps h c.args.source c.in_ok-words-in-Atomic.words.items made marked (is.0 ∙ long) (λ b to. is.1 b (omega (arith, to, long)))) (rw c.deref.ensures.value at c.steps_to.ensures))
+    rw c.in-Atomic.is
+    (IfOk-weaker c.steps_to.result _ _ (λ made is. row_of_steps h c.args.source c.in_ok-words-in-Atomic.words.items made marked (is.0 ∙ long)
+    (λ b to. is.1 b (omega (arith, to, long)))) (rw c.deref.ensures.value at c.steps_to.ensures))

@@ -13,7 +13,8 @@ loop-place-preserved c =
       is.same ∙ inv.0,
       is.long ∙ inv.1,
       is.suffixes,
-      led_more c.args.graph.now c.args.words.now c.loop-place.words c.take_in.new.words c.args.fresh.now c.loop-place.place-index c.loop-place-test.true inv.3 is.each,
+      led_more c.args.graph.now c.args.words.now c.loop-place.words c.take_in.new.words c.args.fresh.now c.loop-place.place-index c.loop-place-test.true
+          inv.3 is.each,
     )
 
 pub returns : goal.returns

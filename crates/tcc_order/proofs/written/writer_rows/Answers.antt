@@ -19,7 +19,9 @@ loop-key-preserved c =
     let rows = c.loop-key.rows.items in
     let row = c.in_ok-writer_row.field-0 in
     let is : c.key-item.result ≡ key_at h n
-    = get_or_read c.keys-key-items.result.now n c.key-item.result c.loop-key-test.true c.key-item.is [] ∙ ap (λ names. name_of names n) c.keys-key-items.ensures in
+    =
+    get_or_read c.keys-key-items.result.now n c.key-item.result c.loop-key-test.true c.key-item.is []
+    ∙ ap (λ names. name_of names n) c.keys-key-items.ensures in
     let made : IsWriterRow h n row = rw (c.writers.ensures, is, inv.0) at c.in_ok-writer_row.ensures in
     let pushed : c.push.new.self.items ≡ rows ++ row ∷ [] = search rules in
     rw pushed (

@@ -10,6 +10,7 @@ invariant-loop-before l =
     record {
       own : AreVisibleWrites l.own (take l.before l.ops);
       writes : l.distinct ≡ true → AreOwnIn (writers_in l.writers) l.standing (take l.before l.ops) (drop l.before l.ops);
-      faults : l.faults.items ++ filter_map (fault_found (writers_in l.writers) l.standing) ahead ≡ l.initial.faults.items ++ faults_found (writers_in l.writers) l.standing;
+      faults : l.faults.items ++ filter_map (fault_found (writers_in l.writers) l.standing) ahead ≡ l.initial.faults.items
+          ++ faults_found (writers_in l.writers) l.standing;
       reads : l.reads.items ++ filter_map (source_found (writers_in l.writers) l.standing) ahead ≡ sources_found (writers_in l.writers) l.standing;
     }

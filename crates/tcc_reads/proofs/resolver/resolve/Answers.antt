@@ -24,5 +24,8 @@ pub returns-else-is_empty : goal.returns-else-is_empty
 returns-else-is_empty c =
     let found = findings c.args.snapshot.now _ (writers_in c.in_ok-first.first.writers) _ _ _ _ _
     c.in_ok-sessions.ensures.value c.in_ok-sessions.ensures.few c.in_ok-standings.ensures.value c.in_ok-standings.ensures.few
-    c.deref.ensures.value c.in_ok-first.ensures.first c.deref-2.ensures.value c.in_ok-nodes.ensures.nodes c.in_ok-nodes.ensures.faults in
-    (faults_of_findings c.args.snapshot.now _ _ _ _ found, some_left _ c.in_ok-nodes.field-0.faults.items c.in_ok-nodes.field-0.faults.ok.0 (sym c.if-is_empty.false ∙ c.is_empty.ensures))
+    c.deref.ensures.value c.in_ok-first.ensures.first c.deref-2.ensures.value c.in_ok-nodes.ensures.nodes c.in_ok-nodes.ensures.faults in (
+      faults_of_findings c.args.snapshot.now _ _ _ _ found,
+      some_left _ c.in_ok-nodes.field-0.faults.items c.in_ok-nodes.field-0.faults.ok.0
+          (sym c.if-is_empty.false ∙ c.is_empty.ensures),
+    )

@@ -34,7 +34,8 @@ returns-in_err-said-in-Ok-Seal g c text recording within fresh =
     let at = subst (λ m. TakesMoment g.R.Read.remaining way.taken way.ahead (Ok m) c.advance.new.self) c.in-Ok-Seal.field-0-is
     (c.in-Ok-Seal.ensures.moment way.taken way.ahead way.recorded) in
     let same = c.snapshot-snapshot.ensures.finished _ _ at.3 in
-    ended_by (AllAnswered c.args.options text _ _) (EndsEarly c.args.options text _ _) c.from_residual.result c.in_err-said-in-Ok-Seal.field-0.0 c.from_residual.ensures.1
+    ended_by (AllAnswered c.args.options text _ _) (EndsEarly c.args.options text _ _) c.from_residual.result c.in_err-said-in-Ok-Seal.field-0.0
+    c.from_residual.ensures.1
     (ended-seal g.R.Read.remaining c.args.options text c.moments.recording c.advance.new.self _ _ c.moments.last way at
     c.snapshot-snapshot.result.now _ c.in_err-said-in-Ok-Seal.field-0.0 same
     (c.in_err-said-in-Ok-Seal.ensures.said (still-seal g.R.Read.remaining c.args.options text c.moments.recording c.advance.new.self _ _ c.moments.last way at
@@ -53,8 +54,10 @@ returns-in-Err g c text recording within fresh =
     let way = c.moments.invariant.way text recording in
     stopped g.R.Read.remaining c.args.options text c.moments.recording c.advance.new.self _ _ c.moments.last way
     c.in-Err.fault (c.in-Err.ensures.moment way.taken way.ahead way.recorded) _ c.print_halt.result
-    (λ read. c.in-Err.ensures.failed (c.moments.invariant.going fresh) read (records_of text) way.taken way.ahead way.whole (c.moments.invariant.within (records_of text) within) way.recorded)
-    (subst (λ why. PrintsOrMemory c.args.options.json (g.W.Write.contents c.moments.out) (g.W.Write.contents c.print_halt.new.out) (halted c.args.options.json why) (halt_status why) c.print_halt.result) c.from.ensures c.print_halt.ensures)
+    (λ read. c.in-Err.ensures.failed (c.moments.invariant.going fresh) read (records_of text) way.taken way.ahead way.whole
+    (c.moments.invariant.within (records_of text) within) way.recorded)
+    (subst (λ why. PrintsOrMemory c.args.options.json (g.W.Write.contents c.moments.out) (g.W.Write.contents c.print_halt.new.out)
+    (halted c.args.options.json why) (halt_status why) c.print_halt.result) c.from.ensures c.print_halt.ensures)
 
 pub returns : goal.returns
 returns g c text recording within fresh =

@@ -19,8 +19,10 @@ returns-clause-due g c other =
     elim c.if-due.branch [
       | then-due+in_ok-send w ↦
           kept_saying c.args.options c.args.snapshot.now c.in_ok-last.last.outcome c.into_answer.result _ _ _ known.1.1 c.into_answer.ensures known.0
-          (subst (λ o. Appends (g.W.Write.contents c.renew.new.out) (g.W.Write.contents o) (outcome_text c.args.options.json c.in_ok-last.last.outcome)) (sym w.out-is) w.in_ok-send.ensures.whole)
-      | else-due w ↦ absurd (c.is_due-due.ensures.said w.if-due.false (subst (λ n. IfSome c.args.last (λ last. last.transactions ≢ n)) (sym c.transaction_count.ensures) other))
+          (subst (λ o. Appends (g.W.Write.contents c.renew.new.out) (g.W.Write.contents o) (outcome_text c.args.options.json c.in_ok-last.last.outcome))
+          (sym w.out-is) w.in_ok-send.ensures.whole)
+      | else-due w ↦ absurd
+          (c.is_due-due.ensures.said w.if-due.false (subst (λ n. IfSome c.args.last (λ last. last.transactions ≢ n)) (sym c.transaction_count.ensures) other))
     ]
 
 pub returns-clause-said : goal.returns-clause-said
@@ -29,5 +31,8 @@ returns-clause-said g c = elim c.if-due.branch [
       IfSome_then c.args.last (c.is_due-due.ensures.due w.if-due.true) (λ last other same. absurd (other (same ∙ sym c.transaction_count.ensures)))
   | else-due w ↦
       IfSome_then c.args.last c.in_ok-last.ensures.again
-      (λ last again same. (ap g.W.Write.contents w.out-is ∙ (again same).0, given_again c.in_ok-last.last last c.into_answer.result c.into_answer.ensures (again same).1))
+      (λ last again same. (
+        ap g.W.Write.contents w.out-is ∙ (again same).0,
+        given_again c.in_ok-last.last last c.into_answer.result c.into_answer.ensures (again same).1,
+      ))
 ]

@@ -6,7 +6,13 @@ use Rattle.tcc_run.proofs.explain.transaction_count.Goals as goal
 
 pub overflow_add-count : goal.overflow_add-count
 overflow_add-count c =
-    omega (arith, count-from (finite.entries c.args.snapshot.now) c.loop-session.session, c.loop-session.invariant, c.session_count-count.ensures, c.sessions-session-end.ensures.few_transactions)
+    omega (
+      arith,
+      count-from (finite.entries c.args.snapshot.now) c.loop-session.session,
+      c.loop-session.invariant,
+      c.session_count-count.ensures,
+      c.sessions-session-end.ensures.few_transactions,
+    )
 
 pub loop-session-preserved : goal.loop-session-preserved
 loop-session-preserved c =

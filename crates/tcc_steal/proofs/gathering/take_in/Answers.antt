@@ -21,7 +21,9 @@ loop-searched-preserved-then-is_none c =
     let e = c.in-Some.searched in
     let known = c.join.new.seat.known in
     let inv = c.loop-searched.invariant in
-    let left = All-pop (IsSearched t c.args._workers known) c.loop-searched.searches.items c.pop.new.self.items (Some e) c.in-Some.ensures.items c.loop-searched.invariant.0 in (
+    let left =
+    All-pop (IsSearched t c.args._workers known) c.loop-searched.searches.items c.pop.new.self.items
+    (Some e) c.in-Some.ensures.items c.loop-searched.invariant.0 in (
       left.0,
       kept_filled t c.args._workers known c.loop-searched.places e.start (Some e) e refl refl left.1 c.loop-searched.invariant.1,
       length-set c.loop-searched.places e.start (Some e) ∙ c.loop-searched.invariant.2,
@@ -32,7 +34,9 @@ loop-searched-preserved-then-is_none-2 c =
     let t = c.args._prices.now in
     let e = c.in-Some.searched in
     let known = c.join.new.seat.known in
-    let left = All-pop (IsSearched t c.args._workers known) c.loop-searched.searches.items c.pop.new.self.items (Some e) c.in-Some.ensures.items c.loop-searched.invariant.0 in (
+    let left =
+    All-pop (IsSearched t c.args._workers known) c.loop-searched.searches.items c.pop.new.self.items
+    (Some e) c.in-Some.ensures.items c.loop-searched.invariant.0 in (
       left.0,
       kept_filled t c.args._workers known c.loop-searched.places e.start (Some e) e refl refl left.1 c.loop-searched.invariant.1,
       length-set c.loop-searched.places e.start (Some e) ∙ c.loop-searched.invariant.2,
@@ -41,8 +45,11 @@ loop-searched-preserved-then-is_none-2 c =
 pub loop-searched-preserved : goal.loop-searched-preserved
 loop-searched-preserved c =
     let known = c.join.new.seat.known in
-    let left = All-pop (IsSearched c.args._prices.now c.args._workers known) c.loop-searched.searches.items c.pop.new.self.items (Some c.in-Some.searched) c.in-Some.ensures.items c.loop-searched.invariant.0 in
+    let left =
+    All-pop (IsSearched c.args._prices.now c.args._workers known) c.loop-searched.searches.items c.pop.new.self.items
+    (Some c.in-Some.searched) c.in-Some.ensures.items c.loop-searched.invariant.0 in
     (left.0, c.loop-searched.invariant.1, c.loop-searched.invariant.2)
 
 pub returns-clause-seat : goal.returns-clause-seat
-returns-clause-seat c = (joined c.args._prices.now c.args.bound.now c.args.seat.now c.requires.seat c.args.share.seat c.join.new.seat c.requires.share.seat c.join.ensures).0
+returns-clause-seat c =
+    (joined c.args._prices.now c.args.bound.now c.args.seat.now c.requires.seat c.args.share.seat c.join.new.seat c.requires.share.seat c.join.ensures).0

@@ -13,7 +13,9 @@ use Rattle.tcc_steal.proofs.running.run.Goals as goal
 
 pub loop-settled-init : goal.loop-settled-init
 loop-settled-init c =
-    let at = looked c.args.prices.now c.args.bound.now c.args.seat.now c.requires.seat c.look-cap.new.seat c.look-cap.result c.look-cap.ensures.seat c.look-cap.ensures.least (omega arith) in (
+    let at =
+    looked c.args.prices.now c.args.bound.now c.args.seat.now c.requires.seat c.look-cap.new.seat c.look-cap.result c.look-cap.ensures.seat
+    c.look-cap.ensures.least (omega arith) in (
       refl,
       refl,
       sym (ap (λ (s : Seated). s.known.sight) c.look-cap.ensures.seat),
@@ -27,40 +29,55 @@ offer-requires-clause-cost c =
     let (j, priced) = c.requires.prices in
     let s = c.args.search.now.start in
     let on = c.loop-settled.invariant.5 j priced in
-    let settles : Settles j s c.loop-settled.cap c.loop-settled.search.row c.settle.new.self.row (settled.Returned c.in-Returned.cost) = c.in-Returned.ensures.settled j s priced on.search_of in
-    let low = floor_below j c.args.prices.now priced c.in-Returned.cost (returned_cost j s c.loop-settled.cap c.in-Returned.cost c.loop-settled.search.row c.settle.new.self.row settles) in
+    let settles : Settles j s c.loop-settled.cap c.loop-settled.search.row c.settle.new.self.row (settled.Returned c.in-Returned.cost) =
+    c.in-Returned.ensures.settled j s priced on.search_of in
+    let low =
+    floor_below j c.args.prices.now priced c.in-Returned.cost
+    (returned_cost j s c.loop-settled.cap c.in-Returned.cost c.loop-settled.search.row c.settle.new.self.row settles) in
     let floor = c.loop-settled.invariant.3.floor in
     (omega (arith, low, floor), omega arith)
 
 pub returns-in-Returned-clause-seat : goal.returns-in-Returned-clause-seat
 returns-in-Returned-clause-seat c =
     let s = c.args.search.now.start in
-    (offered c.args.prices.now c.args.bound.now c.loop-settled.seat c.loop-settled.invariant.3 c.offer.new.seat c.in-Returned.cost c.offer.result c.offer.ensures.seat c.offer.ensures.least (omega arith) (omega arith)
-    (λ j priced. returned_cost j s c.loop-settled.cap c.in-Returned.cost c.loop-settled.search.row c.settle.new.self.row (c.in-Returned.ensures.settled j s priced (c.loop-settled.invariant.5 j priced).search_of))).0
+    (offered c.args.prices.now c.args.bound.now c.loop-settled.seat c.loop-settled.invariant.3 c.offer.new.seat c.in-Returned.cost c.offer.result
+    c.offer.ensures.seat c.offer.ensures.least (omega arith) (omega arith)
+    (λ j priced. returned_cost j s c.loop-settled.cap c.in-Returned.cost c.loop-settled.search.row c.settle.new.self.row
+    (c.in-Returned.ensures.settled j s priced (c.loop-settled.invariant.5 j priced).search_of))).0
 
 pub returns-in-Returned-clause-knows : goal.returns-in-Returned-clause-knows
 returns-in-Returned-clause-knows c =
     let s = c.args.search.now.start in
-    let at = offered c.args.prices.now c.args.bound.now c.loop-settled.seat c.loop-settled.invariant.3 c.offer.new.seat c.in-Returned.cost c.offer.result c.offer.ensures.seat c.offer.ensures.least (omega arith) (omega arith)
-    (λ j priced. returned_cost j s c.loop-settled.cap c.in-Returned.cost c.loop-settled.search.row c.settle.new.self.row (c.in-Returned.ensures.settled j s priced (c.loop-settled.invariant.5 j priced).search_of)) in
+    let at =
+    offered c.args.prices.now c.args.bound.now c.loop-settled.seat c.loop-settled.invariant.3 c.offer.new.seat c.in-Returned.cost c.offer.result
+    c.offer.ensures.seat c.offer.ensures.least (omega arith) (omega arith)
+    (λ j priced. returned_cost j s c.loop-settled.cap c.in-Returned.cost c.loop-settled.search.row c.settle.new.self.row
+    (c.in-Returned.ensures.settled j s priced (c.loop-settled.invariant.5 j priced).search_of)) in
     knows_join c.args.seat.now.known c.loop-settled.seat.known c.offer.new.seat.known c.loop-settled.invariant.4 at.1
 
 pub returns-in-Returned-clause-ended : goal.returns-in-Returned-clause-ended
 returns-in-Returned-clause-ended c =
     let s = c.args.search.now.start in
-    let at = offered c.args.prices.now c.args.bound.now c.loop-settled.seat c.loop-settled.invariant.3 c.offer.new.seat c.in-Returned.cost c.offer.result c.offer.ensures.seat c.offer.ensures.least (omega arith) (omega arith)
-    (λ j priced. returned_cost j s c.loop-settled.cap c.in-Returned.cost c.loop-settled.search.row c.settle.new.self.row (c.in-Returned.ensures.settled j s priced (c.loop-settled.invariant.5 j priced).search_of)) in
+    let at =
+    offered c.args.prices.now c.args.bound.now c.loop-settled.seat c.loop-settled.invariant.3 c.offer.new.seat c.in-Returned.cost c.offer.result
+    c.offer.ensures.seat c.offer.ensures.least (omega arith) (omega arith)
+    (λ j priced. returned_cost j s c.loop-settled.cap c.in-Returned.cost c.loop-settled.search.row c.settle.new.self.row
+    (c.in-Returned.ensures.settled j s priced (c.loop-settled.invariant.5 j priced).search_of)) in
     λ j priced.
     let on = c.loop-settled.invariant.5 j priced in
-    let settles : Settles j s c.loop-settled.cap c.loop-settled.search.row c.settle.new.self.row (settled.Returned c.in-Returned.cost) = c.in-Returned.ensures.settled j s priced on.search_of in
-    ended_returned j s c.loop-settled.cap c.in-Returned.cost c.loop-settled.search.row c.settle.new.self c.offer.new.seat.known (c.settle.ensures.search j s priced on.search_of) settles at.2
+    let settles : Settles j s c.loop-settled.cap c.loop-settled.search.row c.settle.new.self.row (settled.Returned c.in-Returned.cost) =
+    c.in-Returned.ensures.settled j s priced on.search_of in
+    ended_returned j s c.loop-settled.cap c.in-Returned.cost c.loop-settled.search.row c.settle.new.self c.offer.new.seat.known
+    (c.settle.ensures.search j s priced on.search_of) settles at.2
 
 pub returns-in-Cut-clause-ended : goal.returns-in-Cut-clause-ended
 returns-in-Cut-clause-ended c = λ j priced.
     let s = c.args.search.now.start in
     let on = c.loop-settled.invariant.5 j priced in
-    let settles : Settles j s c.loop-settled.cap c.loop-settled.search.row c.settle.new.self.row (settled.Cut c.in-Cut.field-0) = c.in-Cut.ensures.settled j s priced on.search_of in
-    ended_cut j s c.loop-settled.cap c.in-Cut.field-0 c.loop-settled.settled c.loop-settled.search c.settle.new.self c.loop-settled.seat.known c.loop-settled.invariant.2 on (c.settle.ensures.search j s priced on.search_of) settles
+    let settles : Settles j s c.loop-settled.cap c.loop-settled.search.row c.settle.new.self.row (settled.Cut c.in-Cut.field-0) =
+    c.in-Cut.ensures.settled j s priced on.search_of in
+    ended_cut j s c.loop-settled.cap c.in-Cut.field-0 c.loop-settled.settled c.loop-settled.search c.settle.new.self c.loop-settled.seat.known
+    c.loop-settled.invariant.2 on (c.settle.ensures.search j s priced on.search_of) settles
 
 pub loop-settled-preserved : goal.loop-settled-preserved
 loop-settled-preserved c =
@@ -69,12 +86,16 @@ loop-settled-preserved c =
     let inv = c.loop-settled.invariant in
     let next : (j : Judged) → IsPricesOf j t → IsOn j s (c.loop-settled.settled + 1) c.settle.new.self = λ j priced.
     let on = c.loop-settled.invariant.5 j priced in
-    let settles : Settles j s c.loop-settled.cap c.loop-settled.search.row c.settle.new.self.row settled.More = c.in-More.ensures.settled j s priced on.search_of in
-    on_more j s c.loop-settled.cap c.loop-settled.settled c.loop-settled.search c.settle.new.self on (c.settle.ensures.search j s priced on.search_of) settles in
+    let settles : Settles j s c.loop-settled.cap c.loop-settled.search.row c.settle.new.self.row settled.More =
+    c.in-More.ensures.settled j s priced on.search_of in
+    on_more j s c.loop-settled.cap c.loop-settled.settled c.loop-settled.search c.settle.new.self on
+    (c.settle.ensures.search j s priced on.search_of) settles in
     elim c.if-settled-eq0.branch [
       | then-settled-eq0 w ↦
           let look = w.look-cap-then-settled-eq0 in
-          let at = looked t c.args.bound.now c.loop-settled.seat c.loop-settled.invariant.3 look.new.seat look.result look.ensures.seat look.ensures.least (omega arith) in
+          let at =
+          looked t c.args.bound.now c.loop-settled.seat c.loop-settled.invariant.3 look.new.seat look.result look.ensures.seat look.ensures.least
+          (omega arith) in
           rw (w.cap-is, w.seat-is) (
             c.settle.ensures.start ∙ c.loop-settled.invariant.0,
             c.settle.ensures.long ∙ c.loop-settled.invariant.1,

@@ -20,7 +20,9 @@ pub returns-in-Some : goal.returns-in-Some
 returns-in-Some g c =
     let t = c.args._prices.now in
     let old : IsSeat t c.in_ok-bound.bound c.in_ok-bound.seat = rw (c.in_ok-bound.ensures, c.requires.1.0) (new_seat t c.in_ok-bound.bound) in
-    let (taken, knows, within) = offered t c.in_ok-bound.bound c.in_ok-bound.seat old c.offer.new.seat c.in-Some.cost c.offer.result c.offer.ensures.seat c.offer.ensures.least (omega arith) (omega arith)
+    let (taken, knows, within) =
+    offered t c.in_ok-bound.bound c.in_ok-bound.seat old c.offer.new.seat c.in-Some.cost c.offer.result c.offer.ensures.seat c.offer.ensures.least
+    (omega arith) (omega arith)
     (λ j priced. rw c.in-Some.is at (c.requires.1.1 j priced)) in
     (taken, rw c.in-Some.is within)
 

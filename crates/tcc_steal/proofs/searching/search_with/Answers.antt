@@ -24,7 +24,8 @@ cost_in-least-requires g c =
     let seat = c.search_all.new.worker.seat in
     let ens = c.in_ok-searches.ensures in
     let last = last_of t seat.known c.close.result ens.worker.seat.floor c.close.ensures.least c.close.ensures.floor (omega arith) in
-    λ other. word_fits j t c.args.workers c.in_ok-bound.bound seat c.in_ok-searches.searches.items c.close.result priced ens.worker.seat last ens.all ens.long other
+    λ other. word_fits j t c.args.workers c.in_ok-bound.bound seat c.in_ok-searches.searches.items c.close.result priced ens.worker.seat last ens.all
+    ens.long other
 
 pub returns : goal.returns
 returns g c = λ j priced.

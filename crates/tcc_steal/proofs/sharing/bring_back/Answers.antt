@@ -17,6 +17,10 @@ loop-preserved g c =
       ens.worker,
       ens.number ∙ number,
       rw pushed (one_more t c.args._workers c.loop.worker.seat.known c.search.new.self.seat.known ens.knows es e searches
-          (record { start = omega (arith, ens.searched.0, c.in-Some.ensures.start, c.count-count.ensures.value); worker = omega (arith, ens.searched.1, number, c.requires.number); done = ens.done })),
+          (record {
+            start = omega (arith, ens.searched.0, c.in-Some.ensures.start, c.count-count.ensures.value);
+            worker = omega (arith, ens.searched.1, number, c.requires.number);
+            done = ens.done;
+          })),
       rw pushed (All-push (λ (x : Searched). x.worker ≡ c.args.worker.number) es e by (ens.searched.1 ∙ number)),
     )

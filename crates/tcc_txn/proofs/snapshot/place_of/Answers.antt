@@ -14,4 +14,5 @@ returns c =
     let sorted : T (is_sorted name_cmp parts) = subst T (is_sorted-parts_of parts) c.requires in
     let point = c.partition_point.ensures.partitioned (λ part. is_lt (name_cmp part.0 session)) (always_returns_same _ _ _ (λ a r f k. search (rules)))
     (λ i j d order within before. sorted-before parts session i j d sorted order within before) in
-    sym (place_in-parts_of session parts ∙ place_in-is session parts c.partition_point.result c.partition_point.ensures.bound (λ k d less. point.0 k d (omega arith) less) (λ d within. point.1 c.partition_point.result d (omega arith) within))
+    sym (place_in-parts_of session parts ∙ place_in-is session parts c.partition_point.result c.partition_point.ensures.bound
+    (λ k d less. point.0 k d (omega arith) less) (λ d within. point.1 c.partition_point.result d (omega arith) within))

@@ -17,7 +17,8 @@ no_globals false external globals others plain = let bad : ⊥ = cc in absurd ba
 pub returns : goal.returns
 returns c =
     let above_is : app_of c.subcommand_required.result ≡ on_top with_subcommand_required (on_top with_version (new_app (codes "tcc"))) = search rules in
-    let tcc_is : app_of c.in_ok-tcc.tcc ≡ with_subcommand (on_top with_subcommand_required (on_top with_version (new_app (codes "tcc")))) (explain_command c.args.levels).top
+    let tcc_is : app_of c.in_ok-tcc.tcc ≡ with_subcommand (on_top with_subcommand_required (on_top with_version (new_app (codes "tcc"))))
+    (explain_command c.args.levels).top
     = c.in_ok-tcc.ensures.shape (no_globals _ _ _ _ (ap (λ (a : App). a.top.is_plain) c.in_ok-explain.ensures))
     ∙ ap₂ with_subcommand above_is (ap (λ (a : App). a.top) c.in_ok-explain.ensures) in
     IfOk-weaker c.subcommand-2.result _ _

@@ -13,7 +13,9 @@ returns c =
     = c.in_ok-first.ensures.shape c.level_option-level.ensures.own ∙ ap₂ with_rule bare_is c.level_option-level.ensures.rule in
     let second_is : app_of c.in_ok-second.second ≡ with_rule (with_rule (new_app (codes "explain")) (level_option c.args.levels)) workers_option
     = c.in_ok-second.ensures.shape c.workers_option-workers.ensures.own ∙ ap₂ with_rule first_is c.workers_option-workers.ensures.rule in
-    let third_is : app_of c.in_ok-third.third ≡ with_rule (with_rule (with_rule (new_app (codes "explain")) (level_option c.args.levels)) workers_option) json_flag
+    let third_is : app_of c.in_ok-third.third ≡ with_rule (with_rule (with_rule (new_app (codes "explain")) (level_option c.args.levels)) workers_option)
+    json_flag
     = c.in_ok-third.ensures.shape (search rules) ∙ ap₂ with_rule second_is flag_is in
     IfOk-weaker c.arg-4.result _ _
-    (λ made adds. adds.shape c.certificate_option-certificate.ensures.own ∙ ap₂ with_rule third_is c.certificate_option-certificate.ensures.rule) c.arg-4.ensures
+    (λ made adds. adds.shape c.certificate_option-certificate.ensures.own ∙ ap₂ with_rule third_is c.certificate_option-certificate.ensures.rule)
+    c.arg-4.ensures

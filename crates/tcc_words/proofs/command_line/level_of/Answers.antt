@@ -14,7 +14,8 @@ returns-in-Some-get_str c =
     let found = found_of c.in-Some.explain.now in
     let text_is : first_value found (codes "level") ≡ level_text (subcommand_rows_of c.args.matches.now)
     = first_value-rows found (codes "level") ∙ ap (option_and_then (first_of (codes "level"))) c.in-Some.ensures.rows in
-    subst (λ text. MatchOption c.level_named.result ((level : Level) → IsLevel text level → ⊥) (IsLevel text)) (c.in-Some-get_str.ensures ∙ text_is) c.level_named.ensures
+    subst (λ text. MatchOption c.level_named.result ((level : Level) → IsLevel text level → ⊥) (IsLevel text))
+    (c.in-Some-get_str.ensures ∙ text_is) c.level_named.ensures
 
 pub returns-in-None-get_str : goal.returns-in-None-get_str
 returns-in-None-get_str c =

@@ -34,7 +34,8 @@ workers_asked words before after (Err code) asked = tt
 
 pub returns-clause-workers : goal.returns-clause-workers
 returns-clause-workers g c =
-    workers_asked (map string_bytes c.deref.result.now) (g.W.Write.contents c.words.new.out) (g.W.Write.contents c.read_words.new.out) c.read_words.result c.read_words.ensures
+    workers_asked (map string_bytes c.deref.result.now) (g.W.Write.contents c.words.new.out)
+    (g.W.Write.contents c.read_words.new.out) c.read_words.result c.read_words.ensures
 
 pub returns-clause-ends : goal.returns-clause-ends
 returns-clause-ends g c =

@@ -18,8 +18,12 @@ pub returns-in-Err-clause-records : goal.returns-in-Err-clause-records
 returns-in-Err-clause-records c =
     let journal = c.self.inside.journal.items in
     let room : length journal < MAX_TRANSACTIONS = omega (arith, c.if-place-ge-MAX_TRANSACTIONS.false, c.len-place.ensures, c.self.inside.journal.ok.0) in
-    let why = refusal-is c.self.inside.places c.add_place.new.places journal c.args.session.now c.args.held c.len-place.result c.args.txn c.in-Err.fault c.self.invariant room c.in-Err.ensures in
-    let Is : Book → List Entry → Type 0 = λ old items. Records {U = Unit {0}} old c.args.session.now c.args.held c.args.txn (Err (c.in-Err.fault, c.args.txn)) (shown c.add_place.new.places items) in
+    let why =
+    refusal-is c.self.inside.places c.add_place.new.places journal c.args.session.now c.args.held c.len-place.result c.args.txn c.in-Err.fault
+    c.self.invariant room c.in-Err.ensures in
+    let Is : Book → List Entry → Type 0 =
+    λ old items. Records {U = Unit {0}} old c.args.session.now c.args.held c.args.txn (Err (c.in-Err.fault, c.args.txn))
+    (shown c.add_place.new.places items) in
     subst (λ items. Is c.args.self.now items) (sym c.reserve.ensures.items) (subst (λ old. Is old journal) c.self.view_is why)
 
 pub invariant_of-self-2 : goal.invariant_of-self-2

@@ -7,4 +7,5 @@ returns-in_err-send g c = failed c.from_residual.result _ _ _ _ _ c.from_residua
 
 pub returns-then-piece-gt-OUTGOING_BYTES : goal.returns-then-piece-gt-OUTGOING_BYTES
 returns-then-piece-gt-OUTGOING_BYTES g c =
-    rw c.in_ok-send.ensures.none (IsSent-then c.write_out.result _ _ _ _ _ _ _ _ (rw c.in_ok-send.ensures.none at c.in_ok-send.ensures.sent) (IsSent-bare c.write_out.result _ _ _ c.write_out.ensures.whole c.write_out.ensures.part))
+    rw c.in_ok-send.ensures.none (IsSent-then c.write_out.result _ _ _ _ _ _ _ _ (rw c.in_ok-send.ensures.none at c.in_ok-send.ensures.sent)
+    (IsSent-bare c.write_out.result _ _ _ c.write_out.ensures.whole c.write_out.ensures.part))

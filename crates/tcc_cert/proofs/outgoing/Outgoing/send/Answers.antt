@@ -4,4 +4,5 @@ use Rattle.tcc_cert.proofs.outgoing.Outgoing.send.Goals as goal
 
 pub returns-in_err-write_out-clause-sent : goal.returns-in_err-write_out-clause-sent
 returns-in_err-write_out-clause-sent g c =
-    failed c.from_residual.result _ _ _ _ _ c.from_residual.ensures.0 (rw (← c.self.view_is) (Stops-held c.in_err-write_out.ensures.part.0 _ c.in_err-write_out.ensures.part.1))
+    failed c.from_residual.result _ _ _ _ _ c.from_residual.ensures.0
+    (rw (← c.self.view_is) (Stops-held c.in_err-write_out.ensures.part.0 _ c.in_err-write_out.ensures.part.1))

@@ -13,5 +13,7 @@ loop-digit-preserved c =
     let bounds = digit-bounds (get_or ds i 0) is in
     record {
       digits = c.loop-digit.invariant.digits ∙ digits-more ds i c.loop-digit-test.true is;
-      value = rw (c.saturating_add-value.ensures, c.saturating_mul.ensures, c.from.ensures) (value-more ds i _ _ c.loop-digit-test.true bounds.0 bounds.1 c.loop-digit.invariant.value);
+      value =
+          rw (c.saturating_add-value.ensures, c.saturating_mul.ensures, c.from.ensures)
+          (value-more ds i _ _ c.loop-digit-test.true bounds.0 bounds.1 c.loop-digit.invariant.value);
     }

@@ -10,5 +10,6 @@ pub returns-in_default : goal.returns-in_default
 returns-in_default c =
     elim c.in_default.branch [
       | in_default-via-then-fields-lt3 w ↦ three_words-other (reads_of c.args.version) (λ word. word.now) c.args.fields.now (grind (arith, nat_tests))
-      | in_default-via-else-fields-lt3+else-fields-lt4 w ↦ three_words-other (reads_of c.args.version) (λ word. word.now) c.args.fields.now (grind (arith, nat_tests))
+      | in_default-via-else-fields-lt3+else-fields-lt4 w ↦ three_words-other (reads_of c.args.version) (λ word. word.now) c.args.fields.now
+          (grind (arith, nat_tests))
     ]

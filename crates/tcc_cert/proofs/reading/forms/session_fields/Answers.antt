@@ -10,5 +10,6 @@ pub returns-in_default : goal.returns-in_default
 returns-in_default c =
     elim c.in_default.branch [
       | in_default-via-then-fields-lt2 w ↦ two_words-other (session_of c.args.version) (λ word. word.now) c.args.fields.now (grind (arith, nat_tests))
-      | in_default-via-else-fields-lt2+else-fields-lt3 w ↦ two_words-other (session_of c.args.version) (λ word. word.now) c.args.fields.now (grind (arith, nat_tests))
+      | in_default-via-else-fields-lt2+else-fields-lt3 w ↦ two_words-other (session_of c.args.version) (λ word. word.now) c.args.fields.now
+          (grind (arith, nat_tests))
     ]

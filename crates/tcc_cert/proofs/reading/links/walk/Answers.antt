@@ -14,21 +14,33 @@ pub returns-in_err-one : goal.returns-in_err-one
 returns-in_err-one g c at before =
     let now = c.lines.invariant at before in
     let p = err_from_is_err_and c.from_residual.result c.from_residual.ensures.1 in
-    rw (p.1, p.2) (part-faults (λ i. words c.args.version (step_line c.args.version)) c.args.count at c.lines.steps.items c.lines.counter now.0 _ c.lines-test.true (λ i place. onward-words c.args.version (step_line c.args.version) place) now.1 (c.in_err-one.ensures now.0 now.2))
+    rw (p.1, p.2) (part-faults (λ i. words c.args.version (step_line c.args.version)) c.args.count at c.lines.steps.items c.lines.counter now.0 _
+    c.lines-test.true (λ i place. onward-words c.args.version (step_line c.args.version) place) now.1 (c.in_err-one.ensures now.0 now.2))
 
 pub returns-in-Err : goal.returns-in-Err
 returns-in-Err g c at before =
     let now = c.lines.invariant at before in
     let one = c.in_ok-one.ensures now.0 now.2 in
-    rw (c.fault.ensures, one.2.number) (part-refused (λ i. words c.args.version (step_line c.args.version)) c.args.count at _ _ one.0 NoMemory (λ i place. onward-words c.args.version (step_line c.args.version) place) (part-more (λ i. words c.args.version (step_line c.args.version)) c.args.count at c.lines.steps.items c.lines.counter now.0 one.0 c.in_ok-one.one c.lines-test.true (onward-words c.args.version (step_line c.args.version) now.0) now.1 one.1) (inr refl))
+    rw (c.fault.ensures, one.2.number) (part-refused (λ i. words c.args.version (step_line c.args.version)) c.args.count at _ _ one.0 NoMemory
+    (λ i place. onward-words c.args.version (step_line c.args.version) place)
+    (part-more (λ i. words c.args.version (step_line c.args.version)) c.args.count at c.lines.steps.items c.lines.counter now.0 one.0 c.in_ok-one.one
+    c.lines-test.true (onward-words c.args.version (step_line c.args.version) now.0) now.1 one.1) (inr refl))
 
 pub lines-preserved : goal.lines-preserved
 lines-preserved g c at before =
     let now = c.lines.invariant at before in
-    let one = c.in_ok-one.ensures now.0 now.2 in
-    (one.0, rw c.in-Ok.ensures.items (part-more (λ i. words c.args.version (step_line c.args.version)) c.args.count at c.lines.steps.items c.lines.counter now.0 one.0 c.in_ok-one.one c.lines-test.true (onward-words c.args.version (step_line c.args.version) now.0) now.1 one.1), one.2)
+    let one = c.in_ok-one.ensures now.0 now.2 in (
+      one.0,
+      rw c.in-Ok.ensures.items (part-more (λ i. words c.args.version (step_line c.args.version)) c.args.count at c.lines.steps.items c.lines.counter
+          now.0 one.0 c.in_ok-one.one c.lines-test.true (onward-words c.args.version (step_line c.args.version) now.0) now.1 one.1),
+      one.2,
+    )
 
 pub returns : goal.returns
 returns g c at before =
-    let now = c.lines.invariant at before in
-    (now.0, rw c.new.ensures (part-all (λ i. words c.args.version (step_line c.args.version)) c.args.count at c.lines.steps.items c.lines.counter now.0 c.lines-test.false now.1), now.2)
+    let now = c.lines.invariant at before in (
+      now.0,
+      rw c.new.ensures (part-all (λ i. words c.args.version (step_line c.args.version)) c.args.count at c.lines.steps.items c.lines.counter now.0
+          c.lines-test.false now.1),
+      now.2,
+    )

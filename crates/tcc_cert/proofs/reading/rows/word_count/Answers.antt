@@ -11,5 +11,9 @@ use Rattle.tcc_cert.proofs.reading.rows.word_count.Goals as goal
 pub returns : goal.returns
 returns c =
     let some : 0 < length c.args.line.now = grind (arith, nat_tests) in
-    let counted = count_from_yields_List c.filter.result _ c.count.ensures.ran (YieldsList-from_filter _ (λ byte. eqb byte 32) (YieldsList-from_slice c.args.line.now cc) c.filter.ensures.closure (λ x r q k. search (rules, tests))) in
-    ap (λ n. n + 1) (counted ∙ length-filter (λ byte. eqb byte 32) c.args.line.now) ∙ sym (ap length (words_of-some c.args.line.now some) ∙ length-slice_split (λ byte. eqb byte 32) c.args.line.now)
+    let counted =
+    count_from_yields_List c.filter.result _ c.count.ensures.ran
+    (YieldsList-from_filter _ (λ byte. eqb byte 32) (YieldsList-from_slice c.args.line.now cc) c.filter.ensures.closure
+    (λ x r q k. search (rules, tests))) in
+    ap (λ n. n + 1) (counted ∙ length-filter (λ byte. eqb byte 32) c.args.line.now)
+    ∙ sym (ap length (words_of-some c.args.line.now some) ∙ length-slice_split (λ byte. eqb byte 32) c.args.line.now)

@@ -16,10 +16,12 @@ pub returns-in-Order-clause-step : goal.returns-in-Order-clause-step
 returns-in-Order-clause-step g c at before =
     let v = c.args.version in
     let sizes = c.in_ok-transactions.ensures at before in
-    part-then g.R.Read.remaining at (words v (sizes_line v) at) _ c.order.result c.order.new.input sizes.1 (onward-at _ (onward-words v (sizes_line v) at) sizes.1) (rw c.in-Order.is (c.order.ensures.step sizes.0 sizes.2))
+    part-then g.R.Read.remaining at (words v (sizes_line v) at) _ c.order.result c.order.new.input sizes.1
+    (onward-at _ (onward-words v (sizes_line v) at) sizes.1) (rw c.in-Order.is (c.order.ensures.step sizes.0 sizes.2))
 
 pub returns-in-Cycle-clause-step : goal.returns-in-Cycle-clause-step
 returns-in-Cycle-clause-step g c at before =
     let v = c.args.version in
     let sizes = c.in_ok-transactions.ensures at before in
-    part-then g.R.Read.remaining at (words v (sizes_line v) at) _ c.cycle.result c.cycle.new.input sizes.1 (onward-at _ (onward-words v (sizes_line v) at) sizes.1) (rw c.in-Cycle.is (c.cycle.ensures.step sizes.0 sizes.2))
+    part-then g.R.Read.remaining at (words v (sizes_line v) at) _ c.cycle.result c.cycle.new.input sizes.1
+    (onward-at _ (onward-words v (sizes_line v) at) sizes.1) (rw c.in-Cycle.is (c.cycle.ensures.step sizes.0 sizes.2))

@@ -11,7 +11,8 @@ pub returns-in_err-links-clause-step : goal.returns-in_err-links-clause-step
 returns-in_err-links-clause-step g c at before =
     let v = c.args.version in
     let p = err_from_is_err_and c.from_residual.result c.from_residual.ensures.1 in
-    rw (p.1, p.2) (part-faults (repeated (link_at v) c.args.count at) _ _ (λ links. onward-marked v (shape.Near c.args.transactions) links.1) (c.in_err-links.ensures at before))
+    rw (p.1, p.2) (part-faults (repeated (link_at v) c.args.count at) _ _ (λ links. onward-marked v (shape.Near c.args.transactions) links.1)
+    (c.in_err-links.ensures at before))
 
 pub returns-clause-step : goal.returns-clause-step
 returns-clause-step g c at before =

@@ -9,7 +9,8 @@ pub returns-in_err-mark-clause-step : goal.returns-in_err-mark-clause-step
 returns-in_err-mark-clause-step g c at before =
     let t = c.args.table in
     let p = err_from_is_err_and c.from_residual.result c.from_residual.ensures.1 in
-    rw (p.1, p.2) (mark-faults c.args.version (word_before t) (table_rows c.args.version t 0 (height t)) at _ (onward-table c.args.version t 0 (height t)) (rw c.word.ensures at (c.in_err-mark.ensures at before)))
+    rw (p.1, p.2) (mark-faults c.args.version (word_before t) (table_rows c.args.version t 0 (height t)) at _ (onward-table c.args.version t 0 (height t))
+    (rw c.word.ensures at (c.in_err-mark.ensures at before)))
 
 pub returns-clause-step : goal.returns-clause-step
 returns-clause-step g c at before =

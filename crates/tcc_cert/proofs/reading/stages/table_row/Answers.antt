@@ -10,7 +10,8 @@ returns-in_err-numbers-clause-step g c at from all before =
     let p = err_from_is_err_and c.from_residual.result c.from_residual.ensures.1 in
     let more : c.args.left ≡ suc (c.args.left - 1) = omega (arith, c.requires) in
     rw (p.1, p.2)
-    (row-faults c.args.version c.args.table from (c.args.left - 1) c.args.left at _ more (rw (c.columns-columns.ensures from all, c.most.ensures) at (c.in_err-numbers.ensures at before)))
+    (row-faults c.args.version c.args.table from (c.args.left - 1) c.args.left at _ more
+    (rw (c.columns-columns.ensures from all, c.most.ensures) at (c.in_err-numbers.ensures at before)))
 
 pub returns-clause-step : goal.returns-clause-step
 returns-clause-step g c at from all before =
@@ -18,6 +19,8 @@ returns-clause-step g c at from all before =
     let more : c.args.left ≡ suc left = omega (arith, c.requires) in
     let row = rw (c.columns-columns.ensures from all, c.most.ensures) at (c.in_ok-numbers.ensures at before) in (
       table_rows c.args.version c.args.table (from + 1) left row.0,
-      rw c.part.ensures (row-first c.args.table c.in_ok-numbers.numbers _ _ (row-more c.args.version c.args.table from left c.args.left at row.0 c.in_ok-numbers.numbers more row.1)),
+      rw c.part.ensures
+          (row-first c.args.table c.in_ok-numbers.numbers _
+          _ (row-more c.args.version c.args.table from left c.args.left at row.0 c.in_ok-numbers.numbers more row.1)),
       (row.0, row.2, (from + 1, omega (arith, more, all), refl)),
     )

@@ -16,4 +16,5 @@ returns-in_err-version-clause-step g c at before =
 pub returns-clause-step : goal.returns-clause-step
 returns-clause-step g c at before =
     let header = c.in_ok-version.ensures at before in
-    part-then g.R.Read.remaining at (next MAX_HEADER_BYTES header_line at) parts_behind c.claim.result c.claim.new.input header.1 (onward-at _ (onward-next MAX_HEADER_BYTES header_line at) header.1) (c.claim.ensures.step header.0 header.2)
+    part-then g.R.Read.remaining at (next MAX_HEADER_BYTES header_line at) parts_behind c.claim.result c.claim.new.input header.1
+    (onward-at _ (onward-next MAX_HEADER_BYTES header_line at) header.1) (c.claim.ensures.step header.0 header.2)

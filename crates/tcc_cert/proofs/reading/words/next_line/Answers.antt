@@ -7,4 +7,5 @@ use Rattle.tcc_cert.proofs.reading.words.next_line.Goals as goal
 pub returns : goal.returns
 returns g c at before =
     rw c.at_line.ensures
-    (line-shows g.R.Read.remaining (ranges_of c.args.version).line_bytes at c.in_ok-line.line (λ line. g.L.WordLine.form c.args.version (words_of line)) c.line_of.result _ (c.in_ok-line.ensures at before) (rw c.line.ensures at c.line_of.ensures))
+    (line-shows g.R.Read.remaining (ranges_of c.args.version).line_bytes at c.in_ok-line.line
+    (λ line. g.L.WordLine.form c.args.version (words_of line)) c.line_of.result _ (c.in_ok-line.ensures at before) (rw c.line.ensures at c.line_of.ensures))

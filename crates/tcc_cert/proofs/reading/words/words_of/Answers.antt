@@ -10,4 +10,5 @@ pub returns : goal.returns
 returns c =
     let some : 0 < length c.args.line.now = grind (arith, nat_tests) in
     rw (words_of-some c.args.line.now some)
-    (map_from_collect _ c.collect.ensures.ran (YieldsList-from_slice_split _ _ c.args.line.now c.split.ensures.rest c.split.ensures.done c.split.ensures.closure (λ x r q k. search (rules, tests))))
+    (map_from_collect _ c.collect.ensures.ran (YieldsList-from_slice_split _ _ c.args.line.now c.split.ensures.rest c.split.ensures.done
+    c.split.ensures.closure (λ x r q k. search (rules, tests))))

@@ -2,7 +2,9 @@
 use Rattle.std.proofs.Common.{◌≡◌, ℕ, [], ◌∷◌, ◌++◌, length, get_or, arith, refl, rules, subst}
 use Rattle.tcc_check.proofs.Grouped.{AreGroupsTo, all-closed, all-groups, group-anew, group-closed, group-grown}
 use Rattle.tcc_check.proofs.ends.Ends.new.Goals as goal
-use Rattle.tcc_check.proofs.ends.Ends.new.Goals.{then-next-weight+then-count-gt0+in_ok-push, else-next-weight, else-next-weight-via-then-next-weight+else-count-gt0, else-next-weight-via-else-next-weight, then-count-gt0-2+in_ok-push-3, else-count-gt0-2}
+use Rattle.tcc_check.proofs.ends.Ends.new.Goals.{then-next-weight+then-count-gt0+in_ok-push, else-next-weight}
+use Rattle.tcc_check.proofs.ends.Ends.new.Goals.else-next-weight-via-then-next-weight+else-count-gt0
+use Rattle.tcc_check.proofs.ends.Ends.new.Goals.{else-next-weight-via-else-next-weight, then-count-gt0-2+in_ok-push-3, else-count-gt0-2}
 
 pub loop-end-preserved : goal.loop-end-preserved
 loop-end-preserved c =
@@ -18,7 +20,8 @@ loop-end-preserved c =
           (let closed : c.if-next-weight.groups.items ≡ groups ++ (c.loop-end.weight, c.loop-end.count) ∷ [] = rw w.groups-is (search rules) in
           rw (closed, w.count-is) (group-closed i links groups c.loop-end.weight c.loop-end.count link.1 ends (omega (arith, w.if-count-gt0.true)) inv))
       | else-next-weight w ↦ rw (w.groups-is, w.count-is) (elim w.else-next-weight.branch [
-        | else-next-weight-via-then-next-weight+else-count-gt0 v ↦ group-anew i links groups c.loop-end.weight c.loop-end.count link.1 ends (omega (arith, v.if-count-gt0.false)) inv
+        | else-next-weight-via-then-next-weight+else-count-gt0 v ↦ group-anew i links groups c.loop-end.weight c.loop-end.count link.1 ends
+            (omega (arith, v.if-count-gt0.false)) inv
         | else-next-weight-via-else-next-weight v ↦
             (let same : c.loop-end.weight ≡ link.1 = omega (arith, v.if-next-weight.false) in
             subst (λ (weight : ℕ). AreGroupsTo i links groups weight c.loop-end.count ends) same inv)
@@ -34,8 +37,10 @@ invariant_of-result c =
     elim c.if-count-gt0-2.branch [
       | then-count-gt0-2+in_ok-push-3 w ↦
           (let closed : c.if-count-gt0-2.groups.items ≡ groups ++ (c.loop-end.weight, c.loop-end.count) ∷ [] = rw w.groups-is (search rules) in
-          rw closed (all-groups c.loop-end.end-index links groups c.loop-end.weight c.loop-end.count c.loop-end.ends.items end c.requires.few (omega (arith, w.if-count-gt0-2.true)) c.loop-end.invariant).1)
-      | else-count-gt0-2 w ↦ rw w.groups-is (all-closed c.loop-end.end-index links groups c.loop-end.weight c.loop-end.count c.loop-end.ends.items end c.requires.few (omega (arith, w.if-count-gt0-2.false)) c.loop-end.invariant).1
+          rw closed (all-groups c.loop-end.end-index links groups c.loop-end.weight c.loop-end.count c.loop-end.ends.items end c.requires.few
+          (omega (arith, w.if-count-gt0-2.true)) c.loop-end.invariant).1)
+      | else-count-gt0-2 w ↦ rw w.groups-is (all-closed c.loop-end.end-index links groups c.loop-end.weight c.loop-end.count c.loop-end.ends.items end
+          c.requires.few (omega (arith, w.if-count-gt0-2.false)) c.loop-end.invariant).1
     ]
 
 pub returns : goal.returns
@@ -46,6 +51,8 @@ returns c =
     elim c.if-count-gt0-2.branch [
       | then-count-gt0-2+in_ok-push-3 w ↦
           (let closed : c.if-count-gt0-2.groups.items ≡ groups ++ (c.loop-end.weight, c.loop-end.count) ∷ [] = rw w.groups-is (search rules) in
-          rw closed (all-groups c.loop-end.end-index links groups c.loop-end.weight c.loop-end.count c.loop-end.ends.items end c.requires.few (omega (arith, w.if-count-gt0-2.true)) c.loop-end.invariant).0)
-      | else-count-gt0-2 w ↦ rw w.groups-is (all-closed c.loop-end.end-index links groups c.loop-end.weight c.loop-end.count c.loop-end.ends.items end c.requires.few (omega (arith, w.if-count-gt0-2.false)) c.loop-end.invariant).0
+          rw closed (all-groups c.loop-end.end-index links groups c.loop-end.weight c.loop-end.count c.loop-end.ends.items end c.requires.few
+          (omega (arith, w.if-count-gt0-2.true)) c.loop-end.invariant).0)
+      | else-count-gt0-2 w ↦ rw w.groups-is (all-closed c.loop-end.end-index links groups c.loop-end.weight c.loop-end.count c.loop-end.ends.items end
+          c.requires.few (omega (arith, w.if-count-gt0-2.false)) c.loop-end.invariant).0
     ]

@@ -17,7 +17,13 @@ invariant_of-result c =
         long = omega (arith, long, c.in_ok-ring.ensures.long);
         window = omega arith;
         few = omega arith;
-        each = λ v below. inl (record { none = inl (rw all (get_or-replicate n v NO_WAY 0 (omega (arith, long, below)))); out = c.in_ok-ring.ensures.none v (omega (arith, long, below, c.in_ok-ring.ensures.long)) });
+        each =
+            λ v below. inl
+            (record {
+              none = inl (rw all (get_or-replicate n v NO_WAY 0 (omega (arith, long, below))));
+              out = c.in_ok-ring.ensures.none v (omega (arith, long, below, c.in_ok-ring.ensures.long));
+            });
       },
-      listed_none listed costs (omega (arith, long, listed_long)) (omega (arith, listed_long, c.requires)) (λ v below. rw all (get_or-replicate n v NO_WAY 0 (omega (arith, long, below)))),
+      listed_none listed costs (omega (arith, long, listed_long)) (omega (arith, listed_long, c.requires))
+          (λ v below. rw all (get_or-replicate n v NO_WAY 0 (omega (arith, long, below)))),
     )

@@ -22,7 +22,9 @@ invariant_of-self c =
     let (filed, listed) = c.self.invariant in
     let long : length costs ≡ length q.costs.items = rw c.deref_mut.ensures.value at c.shut.ensures.long in
     let len : q.costs.len ≡ length q.costs.items = search rules in
-    let all = shut_all q.held q.listed.items q.costs.items q.ring costs ring q.floor q.most listed filed long (rw (c.deref.ensures.value, c.deref_mut.ensures.value) at c.shut.ensures.shut) (rw c.deref_mut.ensures.value at c.shut.ensures.kept) in
+    let all =
+    shut_all q.held q.listed.items q.costs.items q.ring costs ring q.floor q.most listed filed long
+    (rw (c.deref.ensures.value, c.deref_mut.ensures.value) at c.shut.ensures.shut) (rw c.deref_mut.ensures.value at c.shut.ensures.kept) in
     let far : (v : ℕ) → v < length costs → (slice_index costs v ≡ NO_WAY) × (BUCKETS ≤ slice_index ring v) = λ v within. all v (omega (arith, long)) in
     rw (take_at costs _ q.costs.len (long ∙ sym len)) (
       filed_none costs ring (omega (arith, long, filed.long, c.shut.ensures.same)) far,
@@ -37,5 +39,7 @@ returns-clause-none c =
     let (filed, listed) = c.self.invariant in
     let long : length costs ≡ length q.costs.items = rw c.deref_mut.ensures.value at c.shut.ensures.long in
     let len : q.costs.len ≡ length q.costs.items = search rules in
-    let all = shut_all q.held q.listed.items q.costs.items q.ring costs ring q.floor q.most listed filed long (rw (c.deref.ensures.value, c.deref_mut.ensures.value) at c.shut.ensures.shut) (rw c.deref_mut.ensures.value at c.shut.ensures.kept) in
+    let all =
+    shut_all q.held q.listed.items q.costs.items q.ring costs ring q.floor q.most listed filed long
+    (rw (c.deref.ensures.value, c.deref_mut.ensures.value) at c.shut.ensures.shut) (rw c.deref_mut.ensures.value at c.shut.ensures.kept) in
     rw (take_at costs _ q.costs.len (long ∙ sym len)) (λ v within. (all v (omega (arith, long))).0)

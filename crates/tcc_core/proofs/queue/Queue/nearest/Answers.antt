@@ -10,7 +10,9 @@ returns-in-Some-clause-found c =
       | then-cap-self w ↦ omega (arith, w.last-is, w.if-cap-self.true)
       | else-cap-self w ↦ omega (arith, w.last-is)
     ] in
-    let found = nearest_found q.floor q.most c.loop-cost.cost q.costs.items q.ring c.in-Some.v c.self.invariant.0 c.loop-cost.auto.cost (omega (arith, c.loop-cost-test.true, last)) c.in-Some.ensures.some (rw (← c.self.view_is) at c.loop-cost.invariant) in
+    let found =
+    nearest_found q.floor q.most c.loop-cost.cost q.costs.items q.ring c.in-Some.v c.self.invariant.0 c.loop-cost.auto.cost
+    (omega (arith, c.loop-cost-test.true, last)) c.in-Some.ensures.some (rw (← c.self.view_is) at c.loop-cost.invariant) in
     rw (← c.self.view_is) (found.0)
 
 pub returns-in-Some-clause-window : goal.returns-in-Some-clause-window
@@ -20,5 +22,7 @@ returns-in-Some-clause-window c =
       | then-cap-self w ↦ omega (arith, w.last-is, w.if-cap-self.true)
       | else-cap-self w ↦ omega (arith, w.last-is)
     ] in
-    let found = nearest_found q.floor q.most c.loop-cost.cost q.costs.items q.ring c.in-Some.v c.self.invariant.0 c.loop-cost.auto.cost (omega (arith, c.loop-cost-test.true, last)) c.in-Some.ensures.some (rw (← c.self.view_is) at c.loop-cost.invariant) in
+    let found =
+    nearest_found q.floor q.most c.loop-cost.cost q.costs.items q.ring c.in-Some.v c.self.invariant.0 c.loop-cost.auto.cost
+    (omega (arith, c.loop-cost-test.true, last)) c.in-Some.ensures.some (rw (← c.self.view_is) at c.loop-cost.invariant) in
     rw (← c.self.view_is) (omega (arith, found.1, c.self.invariant.0.window, c.loop-cost-test.true, last))

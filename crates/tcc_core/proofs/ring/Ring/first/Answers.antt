@@ -10,7 +10,8 @@ returns-then-v-self-clause-some c =
     let bucket = s.bucket.items in
     let counted = c.self.invariant.0 in
     let within : c.args.b < BUCKETS = c.requires in
-    let v : c.index-v.result.now ≡ slice_index s.next.items (length bucket + c.args.b) = rw (← counted) (get_or_read s.next.items (s.count + c.args.b) c.index-v.result.now (omega (arith, c.self.invariant.1.next_long)) c.index-v.ensures 0) in
+    let v : c.index-v.result.now ≡ slice_index s.next.items (length bucket + c.args.b) =
+    rw (← counted) (get_or_read s.next.items (s.count + c.args.b) c.index-v.result.now (omega (arith, c.self.invariant.1.next_long)) c.index-v.ensures 0) in
     rw (← c.self.view_is) record {
       below = omega arith;
       at = rw v (first_stands BUCKETS s.next.items s.prev.items bucket c.self.invariant.1 c.args.b within (omega arith));
@@ -22,5 +23,6 @@ returns-else-v-self-clause-none c =
     let bucket = s.bucket.items in
     let counted = c.self.invariant.0 in
     let within : c.args.b < BUCKETS = c.requires in
-    let v : c.index-v.result.now ≡ slice_index s.next.items (length bucket + c.args.b) = rw (← counted) (get_or_read s.next.items (s.count + c.args.b) c.index-v.result.now (omega (arith, c.self.invariant.1.next_long)) c.index-v.ensures 0) in
+    let v : c.index-v.result.now ≡ slice_index s.next.items (length bucket + c.args.b) =
+    rw (← counted) (get_or_read s.next.items (s.count + c.args.b) c.index-v.result.now (omega (arith, c.self.invariant.1.next_long)) c.index-v.ensures 0) in
     rw (← c.self.view_is) (first_none BUCKETS s.next.items s.prev.items bucket c.self.invariant.1 c.args.b within (omega arith))

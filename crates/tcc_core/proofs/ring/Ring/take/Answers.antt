@@ -12,8 +12,10 @@ index_mut-requires c =
     let ring = c.self.invariant.1 in
     let below : c.args.v < length bucket = rw (← c.self.view_is) at c.requires.within in
     let stands : slice_index bucket c.args.v < BUCKETS = rw (← c.self.view_is) at c.requires.stands in
-    let before : c.index-before.result.now ≡ slice_index s.prev.items c.args.v = get_or_read s.prev.items c.args.v c.index-before.result.now (omega (arith, ring.prev_long)) c.index-before.ensures 0 in
-    let low : slice_index s.prev.items c.args.v < length bucket + BUCKETS = prev_inside BUCKETS s.next.items s.prev.items bucket ring c.args.v (omega (arith, home_number bucket c.args.v below)) in
+    let before : c.index-before.result.now ≡ slice_index s.prev.items c.args.v =
+    get_or_read s.prev.items c.args.v c.index-before.result.now (omega (arith, ring.prev_long)) c.index-before.ensures 0 in
+    let low : slice_index s.prev.items c.args.v < length bucket + BUCKETS =
+    prev_inside BUCKETS s.next.items s.prev.items bucket ring c.args.v (omega (arith, home_number bucket c.args.v below)) in
     let long : s.next.len ≡ length s.next.items = search rules in
     omega (arith, ring.next_long)
 
@@ -24,8 +26,10 @@ index_mut-requires-2 c =
     let ring = c.self.invariant.1 in
     let below : c.args.v < length bucket = rw (← c.self.view_is) at c.requires.within in
     let stands : slice_index bucket c.args.v < BUCKETS = rw (← c.self.view_is) at c.requires.stands in
-    let behind : c.index-behind.result.now ≡ slice_index s.next.items c.args.v = get_or_read s.next.items c.args.v c.index-behind.result.now (omega (arith, ring.next_long)) c.index-behind.ensures 0 in
-    let low : slice_index s.next.items c.args.v < length bucket + BUCKETS = next_inside BUCKETS s.next.items s.prev.items bucket ring c.args.v (omega (arith, home_number bucket c.args.v below)) in
+    let behind : c.index-behind.result.now ≡ slice_index s.next.items c.args.v =
+    get_or_read s.next.items c.args.v c.index-behind.result.now (omega (arith, ring.next_long)) c.index-behind.ensures 0 in
+    let low : slice_index s.next.items c.args.v < length bucket + BUCKETS =
+    next_inside BUCKETS s.next.items s.prev.items bucket ring c.args.v (omega (arith, home_number bucket c.args.v below)) in
     let long : s.prev.len ≡ length s.prev.items = search rules in
     omega (arith, ring.prev_long)
 
@@ -37,8 +41,10 @@ invariant_of-self c =
     let ring = c.self.invariant.1 in
     let below : c.args.v < length bucket = rw (← c.self.view_is) at c.requires.within in
     let stands : slice_index bucket c.args.v < BUCKETS = rw (← c.self.view_is) at c.requires.stands in
-    let before : c.index-before.result.now ≡ slice_index s.prev.items c.args.v = get_or_read s.prev.items c.args.v c.index-before.result.now (omega (arith, ring.prev_long)) c.index-before.ensures 0 in
-    let behind : c.index-behind.result.now ≡ slice_index s.next.items c.args.v = get_or_read s.next.items c.args.v c.index-behind.result.now (omega (arith, ring.next_long)) c.index-behind.ensures 0 in (
+    let before : c.index-before.result.now ≡ slice_index s.prev.items c.args.v =
+    get_or_read s.prev.items c.args.v c.index-before.result.now (omega (arith, ring.prev_long)) c.index-before.ensures 0 in
+    let behind : c.index-behind.result.now ≡ slice_index s.next.items c.args.v =
+    get_or_read s.next.items c.args.v c.index-behind.result.now (omega (arith, ring.next_long)) c.index-behind.ensures 0 in (
       counted ∙ sym (length-set bucket c.args.v NOWHERE),
       rw (before, behind) (ring_take BUCKETS s.next.items s.prev.items bucket ring c.args.v NOWHERE below stands (omega (arith, ring.few))),
     )

@@ -10,7 +10,8 @@ invariant_of-result c =
     let n = length c.args.prices.now.prices in
     let counted : c.count-count.result ≡ n = c.count-count.ensures.value in
     let empty : IsEmptyRow n c.in_ok-row.row.items = record { long = grind (arith, common_steps); empty = λ v. grind (arith, common_steps) } in
-    rw c.in_ok-frontier.ensures.floor (bounded_begun c.args.start n c.in_ok-row.row.items c.in_ok-frontier.frontier.costs c.requires (omega (arith, c.count-count.ensures.few, counted)) empty (omega (arith, c.in_ok-frontier.ensures.long, counted)) c.in_ok-frontier.ensures.none)
+    rw c.in_ok-frontier.ensures.floor (bounded_begun c.args.start n c.in_ok-row.row.items c.in_ok-frontier.frontier.costs c.requires
+    (omega (arith, c.count-count.ensures.few, counted)) empty (omega (arith, c.in_ok-frontier.ensures.long, counted)) c.in_ok-frontier.ensures.none)
 
 pub returns-clause-search : goal.returns-clause-search
 returns-clause-search c = λ j priced.
@@ -18,4 +19,5 @@ returns-clause-search c = λ j priced.
     let wide : n ≡ count j.history = priced.prices.long in
     let counted : c.count-count.result ≡ n = c.count-count.ensures.value in
     let empty : IsEmptyRow n c.in_ok-row.row.items = record { long = grind (arith, common_steps); empty = λ v. grind (arith, common_steps) } in
-    search_begun j c.args.start c.in_ok-row.row.items c.in_ok-frontier.frontier.costs (rw (← wide) c.requires) (rw (← wide) empty) (omega (arith, c.in_ok-frontier.ensures.long, counted, wide)) c.in_ok-frontier.ensures.none
+    search_begun j c.args.start c.in_ok-row.row.items c.in_ok-frontier.frontier.costs (rw (← wide) c.requires) (rw (← wide) empty)
+    (omega (arith, c.in_ok-frontier.ensures.long, counted, wide)) c.in_ok-frontier.ensures.none

@@ -14,7 +14,8 @@ returns-clause-order c =
     let mine : ℕ = c.owner-owner.result in
     let end : ℕ = c.partition_point-end.result in
     let below : u < count h = subst (λ (g : History). u < count g) (sym c.self.view_is) c.requires in
-    let is : mine ≡ owner h u = c.owner-owner.ensures ∙ ap (λ (e : Entry). e.owner) (get_or_read h.entries u c.index.result.now below c.index.ensures initial) in
+    let is : mine ≡ owner h u =
+    c.owner-owner.ensures ∙ ap (λ (e : Entry). e.owner) (get_or_read h.entries u c.index.result.now below c.index.ensures initial) in
     let within : end ≤ count h = omega (arith, c.partition_point-end.ensures.bound, ap length c.deref.ensures.value) in
     let point : IsPartitionPoint (λ (e : Entry). nat_le e.owner mine ≡ true) (λ (e : Entry). nat_le e.owner mine ≡ false) h.entries end
     = rw (← c.deref.ensures.value)
@@ -29,7 +30,8 @@ returns-clause-pairs c = rw (← c.self.view_is)
     let mine : ℕ = c.owner-owner.result in
     let end : ℕ = c.partition_point-end.result in
     let below : u < count h = subst (λ (g : History). u < count g) (sym c.self.view_is) c.requires in
-    let is : mine ≡ owner h u = c.owner-owner.ensures ∙ ap (λ (e : Entry). e.owner) (get_or_read h.entries u c.index.result.now below c.index.ensures initial) in
+    let is : mine ≡ owner h u =
+    c.owner-owner.ensures ∙ ap (λ (e : Entry). e.owner) (get_or_read h.entries u c.index.result.now below c.index.ensures initial) in
     let within : end ≤ count h = omega (arith, c.partition_point-end.ensures.bound, ap length c.deref.ensures.value) in
     let point : IsPartitionPoint (λ (e : Entry). nat_le e.owner mine ≡ true) (λ (e : Entry). nat_le e.owner mine ≡ false) h.entries end
     = rw (← c.deref.ensures.value)

@@ -31,11 +31,14 @@ pub returns-in_err-advance : goal.returns-in_err-advance
 returns-in_err-advance g c text recording within fresh =
     let way = c.seals.invariant.way text recording in
     let fault = c.in_err-advance.field-0.0 in
-    let row = row-within g.R.Read.remaining c.advance.new.self.rows (records_of text) (c.in_err-advance.ensures.within (records_of text) (c.seals.invariant.within (records_of text) within)) in
+    let row =
+    row-within g.R.Read.remaining c.advance.new.self.rows (records_of text)
+    (c.in_err-advance.ensures.within (records_of text) (c.seals.invariant.within (records_of text) within)) in
     matched-err _ (λ why. IsRecorded text (Err why)) c.from_residual.result fault c.from_residual.ensures.1
     (fails g.R.Read.remaining text c.seals.self c.advance.new.self way fault (c.in_err-advance.ensures.moment way.0 way.1 way.3)
     (omega (arith, row, c.in_err-advance.ensures.row (c.seals.invariant.going fresh)))
-    (λ read. (c.in_err-advance.ensures.failed (c.seals.invariant.going fresh) read (records_of text) way.0 way.1 way.2 (c.seals.invariant.within (records_of text) within) way.3).0))
+    (λ read. (c.in_err-advance.ensures.failed (c.seals.invariant.going fresh) read (records_of text) way.0 way.1 way.2
+    (c.seals.invariant.within (records_of text) within) way.3).0))
 
 pub returns : goal.returns
 returns g c text recording within fresh =

@@ -23,7 +23,8 @@ returns-in-Err-clause-line g c ahead reading =
 
 pub returns-in-Err-clause-failed : goal.returns-in-Err-clause-failed
 returns-in-Err-clause-failed g c read all ahead stands reading =
-    failed-reading g.R.Read.remaining c.records.self c.read.new.self all ahead (c.records.invariant.reading ahead reading) (c.records.invariant.stands all stands)
+    failed-reading g.R.Read.remaining c.records.self c.read.new.self all ahead (c.records.invariant.reading ahead reading)
+    (c.records.invariant.stands all stands)
     c.in-Err.kind c.in-Err.ensures.counts
 
 pub returns-in-Ok-clause-line : goal.returns-in-Ok-clause-line

@@ -14,7 +14,8 @@ returns-in-Ok-Some-clause-step g c ahead reading =
 pub returns-in-Ok-Some-clause-within : goal.returns-in-Ok-Some-clause-within
 returns-in-Ok-Some-clause-within g c all stands =
     let now = rw c.in-Ok-Some.field-0-is at (c.in-Ok-Some.ensures.within all stands) in
-    line-stands g.R.Read.remaining c.next_line.new.self c.take_line.new.self all c.take_line.result now c.take_line.ensures.records (c.take_line.ensures.going (c.in-Ok-Some.ensures.phase ∙ c.requires))
+    line-stands g.R.Read.remaining c.next_line.new.self c.take_line.new.self all c.take_line.result now c.take_line.ensures.records
+    (c.take_line.ensures.going (c.in-Ok-Some.ensures.phase ∙ c.requires))
 
 pub returns-in-Ok-None-clause-step : goal.returns-in-Ok-None-clause-step
 returns-in-Ok-None-clause-step g c ahead reading =

@@ -29,7 +29,9 @@ returns-in-Ok-eq0-clause-found g c at before =
     let long = ap length c.as_slice-bytes.ensures.value in
     let within = length-within held in
     let more = c.in-Ok-eq0.ensures.more in
-    let all = known-all _ (held ++ more.0) at.bytes (moved-in _ _ held more.0 at.bytes (rw c.reads.invariant.passed at now.bytes) more.3) (c.in-Ok-eq0.ensures.end c.in-Ok-eq0.field-0-test) in
+    let all =
+    known-all _ (held ++ more.0) at.bytes (moved-in _ _ held more.0 at.bytes (rw c.reads.invariant.passed at now.bytes) more.3)
+    (c.in-Ok-eq0.ensures.end c.in-Ok-eq0.field-0-test) in
     let full : line_length held ≡ length held = omega (arith, same, long, within, c.if-length-held.false) in
     inl (rw all (line-cut c.args.most held more.0 (more.1 ∙ c.in-Ok-eq0.field-0-test) full (omega (arith, same, full, c.if-length-most.false))))
 

@@ -6,4 +6,5 @@ pub returns-in-Ok-Some-Some-clause-passed : goal.returns-in-Ok-Some-Some-clause-
 returns-in-Ok-Some-Some-clause-passed c past is =
     let found = c.in-Ok-Some-Some in
     let place = sym found.ensures.old ∙ found.field-0-is ∙ ap Some found.field-0-0-is in
-    after-finish past c.args.session c.args.committed _ c.args.self.now _ is place found.ensures.updates (rw found.field-0-is at found.ensures.len ∙ omega arith) refl refl refl
+    after-finish past c.args.session c.args.committed _ c.args.self.now _ is place found.ensures.updates
+    (rw found.field-0-is at found.ensures.len ∙ omega arith) refl refl refl

@@ -21,7 +21,14 @@ returns-in-Ok-true-clause-taken g c left has =
     let e = c.in-Ok-true.ensures in
     let read = e.reads has.plain.trim has.plain.ready in
     let plain = still-plain _ c.read_byte_record.new.self has.plain (inl (e.ready has.plain.trim)) read.2 read.3 e.flexible e.goes in
-    rw c.in-Ok-true.field-0-test at (takes-record g.R.Read.remaining c.args.self.now (record { reader = c.read_byte_record.new.self; «record» = c.read_byte_record.new.row; count = c.in-Some.count; course = c.args.self.now.course }) left c.in-Ok-true.field-0 has read plain)
+    rw c.in-Ok-true.field-0-test at
+    (takes-record g.R.Read.remaining c.args.self.now
+    (record {
+      reader = c.read_byte_record.new.self;
+      «record» = c.read_byte_record.new.row;
+      count = c.in-Some.count;
+      course = c.args.self.now.course;
+    }) left c.in-Ok-true.field-0 has read plain)
 
 pub returns-in-Ok-true-clause-stands : goal.returns-in-Ok-true-clause-stands
 returns-in-Ok-true-clause-stands g c all stands =
@@ -32,7 +39,14 @@ returns-in-Ok-false-clause-taken g c left has =
     let e = c.in-Ok-false.ensures in
     let read = e.reads has.plain.trim has.plain.ready in
     let plain = still-plain _ c.read_byte_record.new.self has.plain (inl (e.ready has.plain.trim)) read.2 read.3 e.flexible e.goes in
-    rw c.in-Ok-false.field-0-test at (takes-record g.R.Read.remaining c.args.self.now (record { reader = c.read_byte_record.new.self; «record» = c.read_byte_record.new.row; count = c.args.self.now.count; course = c.args.self.now.course }) left c.in-Ok-false.field-0 has read plain)
+    rw c.in-Ok-false.field-0-test at
+    (takes-record g.R.Read.remaining c.args.self.now
+    (record {
+      reader = c.read_byte_record.new.self;
+      «record» = c.read_byte_record.new.row;
+      count = c.args.self.now.count;
+      course = c.args.self.now.course;
+    }) left c.in-Ok-false.field-0 has read plain)
 
 pub returns-in-Ok-false-clause-stands : goal.returns-in-Ok-false-clause-stands
 returns-in-Ok-false-clause-stands g c all stands =
