@@ -2,7 +2,7 @@
 -- first without a pass (first-here, none-more, none-all); the least torn pass so far (torn-same, torn-more).
 use Rattle.std.proofs.Common.{◌≡◌, ◌⊎◌, ℕ, suc, zero, ◌+◌, ◌≤◌, Bool, true, false, cond, List, [], ◌∷◌, ◌++◌, length}
 use Rattle.std.proofs.Common.{map, take, find, Option, None, Some, refl, sym, ap, ◌∙◌, arith, inl, inr, true≢false}
-use Rattle.std.proofs.Common.⊎_elim
+use Rattle.std.proofs.Common.{⊎_elim}
 use Rattle.std.specs.Prelude.{slice_get}
 use Rattle.std.specs.FinMap as finite
 use Rattle.std.specs.Cmp.Lexicographic.{nat_list_cmp_total, texts_ties}

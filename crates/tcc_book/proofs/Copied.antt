@@ -2,7 +2,7 @@
 -- the copy (parts-shown); no more transactions than records (few-listed); the parts make a snapshot (no-fault).
 use Rattle.std.proofs.Common.{◌≡◌, ℕ, ◌+◌, ◌≤◌, ◌<◌, All, Bool, true, false, cond, List, [], ◌∷◌, ◌++◌, length}
 use Rattle.std.proofs.Common.{map, None, Some, refl, sym, ap, ◌∙◌, subst, arith, sum_by, append_assoc}
-use Rattle.std.proofs.Common.length-append
+use Rattle.std.proofs.Common.{length-append}
 use Rattle.std.specs.Prelude.{slice_index_or}
 use Rattle.std.specs.List.{list_any, IsDistinct, AllByRecursion}
 use Rattle.std.specs.Map.{keys_of}

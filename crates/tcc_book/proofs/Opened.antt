@@ -1,7 +1,7 @@
 -- A book after one session more.
 use Rattle.std.proofs.Common.{◌≡◌, ℕ, ◌≤◌, ◌<◌, Bool, true, false, cond, List, [], ◌∷◌, ◌++◌}
 use Rattle.std.proofs.Common.{length, None, Some, refl, sym, ap, ◌∙◌, subst, arith, is_some}
-use Rattle.std.proofs.Common.length-append
+use Rattle.std.proofs.Common.{length-append}
 use Rattle.std.proofs.lemmas.List.{map-append}
 use Rattle.tcc_txn.proofs.SortedParts.{same_names}
 use Rattle.std.specs.List.{list_all, IsDistinct}

@@ -1,7 +1,7 @@
 -- Prefixes of lists, and the sessions of a snapshot whose lists are continued in another.
 use Rattle.std.proofs.Common.{◌≡◌, ℕ, ◌+◌, ◌<◌, ◌≤◌, ◌⊎◌, inl, inr, List, [], ◌++◌, length, take}
 use Rattle.std.proofs.Common.{drop, Option, None, Some, sym, ap, subst, refl, ◌∙◌, arith}
-use Rattle.std.proofs.Common.length-append
+use Rattle.std.proofs.Common.{length-append}
 use Rattle.std.specs.Prelude.{slice_get, unwrap_or}
 use Rattle.std.specs.FinMap.{entries, get}
 use Rattle.std.specs.List.{Contains}

@@ -1,7 +1,7 @@
 -- The text of what was given, and one row more.
 use Rattle.std.proofs.Common.{◌≡◌, ℕ, ◌+◌, ◌<◌, List, [], ◌∷◌, ◌++◌, Option, length, refl, sym, ap, subst, ◌∙◌}
 use Rattle.std.proofs.Common.{append_assoc, append-nil, take, drop, get_or, take-append-drop, codes, decimal}
-use Rattle.std.proofs.Common.flat_map
+use Rattle.std.proofs.Common.{flat_map}
 use Rattle.std.proofs.lemmas.List.{map-append}
 use Rattle.std.proofs.lemmas.Grind.{take_at_read, flat_map-append}
 use Rattle.std.specs.Io.KnownBytes.{Appends}

@@ -1,7 +1,7 @@
 -- Texts of the items of a list, sent one after the other.
 use Rattle.std.proofs.Common.{◌≡◌, ℕ, ◌+◌, ◌<◌, ◌≤◌, List, [], ◌∷◌, ◌++◌, length, Option, refl, sym}
 use Rattle.std.proofs.Common.{ap, subst, ◌∙◌, append-nil, take, drop, get_or, map, flat_map}
-use Rattle.std.proofs.Common.take-append-drop
+use Rattle.std.proofs.Common.{take-append-drop}
 use Rattle.std.proofs.lemmas.List.{at_drop_more, take_all}
 use Rattle.std.proofs.lemmas.Grind.{take_at_read, flat_map-append}
 use Rattle.tcc_cert.specs.Writing.{Sends, Stops}

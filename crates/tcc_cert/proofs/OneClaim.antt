@@ -22,7 +22,7 @@ use Rattle.tcc_cert.specs.declared.reading.forms.Sizes.TheVariants.{Order, Cycle
 use Rattle.tcc_cert.specs.Tables.{lowest}
 use Rattle.tcc_cert.specs.Texts.{Words, line_text, lines_text, numbers_words, table_lines, link_lines, header_words, clocks_lines}
 use Rattle.tcc_cert.specs.Texts.{claim_lines, header_of, certificate_text, IsNumber, IsCount, HasTableText, HasClocksText, HasText}
-use Rattle.tcc_cert.specs.Texts.HasLinkText
+use Rattle.tcc_cert.specs.Texts.{HasLinkText}
 use Rattle.tcc_cert.specs.Reading.{count_of, number_of, word_line, numbers_line, two_words, three_words}
 use Rattle.tcc_cert.specs.Reading.{order_sizes, cycle_sizes, sizes_line, Place, next, words, repeated}
 use Rattle.tcc_cert.specs.Reading.{header_line, link_at, table_at, clocks_at, order_at, cycle_at, claim_at}

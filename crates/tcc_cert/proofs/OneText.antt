@@ -29,7 +29,7 @@ use Rattle.tcc_cert.specs.declared.fault.CertFaultKind.TheVariants.{Word, Number
 use Rattle.tcc_cert.specs.declared.reading.forms.Head.{Head}
 use Rattle.tcc_cert.specs.Texts.{Words, words_text, line_text, lines_text, numbers_words}
 use Rattle.tcc_cert.specs.Texts.{step_words, link_lines, IsNumber, IsCount, IsKey, HasStepText}
-use Rattle.tcc_cert.specs.Texts.HasLinkText
+use Rattle.tcc_cert.specs.Texts.{HasLinkText}
 use Rattle.tcc_cert.specs.Reading.{◌>>=◌, words_of, parted, is_decimal, number_of, transaction_of, count_of, key_of, word_line}
 use Rattle.tcc_cert.specs.Reading.{numbers_of, numbers_line, two_words, three_words, five_words, session_of, reads_of, step_line}
 use Rattle.tcc_cert.specs.Reading.{head_of_step, derived_of, head_line, Place, Reads, judged, line_length, line_of, behind, next}

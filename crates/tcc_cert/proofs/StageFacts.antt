@@ -21,7 +21,7 @@ use Rattle.tcc_cert.specs.Inputs.{Ends, HasFailed}
 use Rattle.tcc_cert.specs.Outcomes.{Faults}
 use Rattle.tcc_cert.specs.Parts.{◌>>>◌, FaultsIn, IsFirst, Parts, after_part, claim_parts, end_parts}
 use Rattle.tcc_cert.specs.Parts.{ending, far_parts, far_rows, order_rest, parts_behind, rows_then}
-use Rattle.tcc_cert.specs.Parts.whole_parts
+use Rattle.tcc_cert.specs.Parts.{whole_parts}
 use Rattle.tcc_cert.specs.Shapes.{behind_table, columns_in, height, most_in, part_of, table_parts, table_rows, word_before}
 use Rattle.tcc_cert.specs.Reading.{Place, Reads, header_line, link_at, next, numbers_line, repeated, sizes_line, word_line, words}
 use Rattle.tcc_cert.specs.Stages.{IsBehind, TakesStep}

@@ -1,7 +1,7 @@
 -- Words of a line, and digits one after the other.
 use Rattle.std.proofs.Common.{◌≡◌, ℕ, ◌+◌, ◌*◌, ◌/◌, ◌%◌, decimal, ◌-◌, ◌<◌, ◌≤◌, true, false, min, ltb, List, [], ◌∷◌, length}
 use Rattle.std.proofs.Common.{take, drop, get_or, map, ◌++◌, Result, Ok, Err, ◌≢◌, append_assoc, append-nil, refl, sym, ap, ◌∙◌}
-use Rattle.std.proofs.Common.arith
+use Rattle.std.proofs.Common.{arith}
 use Rattle.std.specs.Char.{digit_value, is_ascii_digit}
 use Rattle.std.specs.Str.{all_ascii_digits}
 use Rattle.std.specs.Str.Parse.{digits_value}

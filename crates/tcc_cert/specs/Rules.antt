@@ -4,7 +4,7 @@ use Rattle.tcc_reads.specs.History.{History}
 use Rattle.tcc_graph.specs.Links.{cost}
 use Rattle.tcc_cert.specs.CycleRules.{CycleClaim, cycle_judged, HasRightSizes, IsLinkWrong}
 use Rattle.tcc_cert.specs.CycleRules.{BreaksNearPair, BreaksNearStep, BreaksFarLink, BreaksFarStep}
-use Rattle.tcc_cert.specs.CycleRules.BreaksReturn
+use Rattle.tcc_cert.specs.CycleRules.{BreaksReturn}
 use Rattle.tcc_cert.specs.OrderRules.{OrderClaim, HasOrderSizes, KeepsPairs, BreaksAxiom}
 use Rattle.tcc_cert.specs.declared.certificate.Certificate.{Certificate}
 use Rattle.tcc_cert.specs.declared.certificate.Certificate.TheVariants as claim

@@ -6,7 +6,7 @@ use Rattle.tcc_cert.specs.declared.version.Version.{Version}
 use Rattle.tcc_cert.specs.Tables.{IsFirstPlace}
 use Rattle.tcc_cert.specs.CycleRules.{CycleClaim, cycle_judged, HasRightSizes, IsLinkWrong}
 use Rattle.tcc_cert.specs.CycleRules.{BreaksNearPair, BreaksNearStep, BreaksFarLink, BreaksFarStep}
-use Rattle.tcc_cert.specs.CycleRules.BreaksReturn
+use Rattle.tcc_cert.specs.CycleRules.{BreaksReturn}
 use Rattle.tcc_cert.specs.OrderRules.{OrderClaim, HasOrderSizes, KeepsPairs, BreaksAxiom}
 use Rattle.tcc_cert.specs.Rules.{HoldsEverywhere, IsRightCycle, Certifies}
 use Rattle.tcc_graph.specs.Links.{cost}

@@ -1,7 +1,7 @@
 -- A search that has returned or was cut is one that a share may bring.
 use Rattle.std.proofs.Common.{◌≡◌, ◌≢◌, ◌<◌, ℕ, List, length, Option, None, Some, Contains}
 use Rattle.std.proofs.Common.{get_or-set_same, get_or-set_other, length-set, sym, ◌∙◌, ap, subst}
-use Rattle.std.proofs.Common.arith
+use Rattle.std.proofs.Common.{arith}
 use Rattle.tcc_graph.specs.Levels.{Judged}
 use Rattle.tcc_core.specs.Rows.{in_row, cap_of, IsCutOff}
 use Rattle.tcc_core.specs.Searches.{Search, IsSearchOf, Settles}

@@ -1,7 +1,7 @@
 -- What is open stands in the bucket of its cost, and each bucket has transactions of one cost.
 use Rattle.std.proofs.Common.{◌≡◌, ◌≢◌, ◌<◌, ◌≤◌, ◌+◌, ◌*◌, ◌/◌, ◌%◌, ◌==◌, ◌⊎◌, ℕ, zero, suc, true, false, inl, inr, List}
 use Rattle.std.proofs.Common.{[], ◌∷◌, length, length-set, set, take, get_or, slice_index, All, Contains, refl, ap, sym, ◌∙◌}
-use Rattle.std.proofs.Common.arith
+use Rattle.std.proofs.Common.{arith}
 use Rattle.std.proofs.lemmas.Bool.{cases_order, cases_eq}
 use Rattle.std.proofs.lemmas.Bool.Decides.{eqb_tells}
 use Rattle.std.proofs.lemmas.List.{get_or-set_same, get_or-set_other, get_or-take, length-take-le}

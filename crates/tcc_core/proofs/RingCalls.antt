@@ -1,7 +1,7 @@
 -- What the calls leave is a ring again, and what a ring says of its ends.
 use Rattle.std.proofs.Common.{◌≡◌, ◌≢◌, ◌<◌, ◌≤◌, ◌+◌, ◌==◌, ◌⊎◌, ℕ, zero, suc, inl, inr, cond}
 use Rattle.std.proofs.Common.{List, length, set, length-set, slice_index, refl, sym, ◌∙◌, ap, arith}
-use Rattle.std.proofs.Common.eq-eqb
+use Rattle.std.proofs.Common.{eq-eqb}
 use Rattle.std.proofs.lemmas.Bool.{cases_lt, ne_eqb}
 use Rattle.std.proofs.lemmas.List.{get_or-set_same, get_or-set_other}
 use Rattle.tcc_core.specs.RingLinks.{home, IsPaired, IsRing}

@@ -2,7 +2,7 @@
 -- walk than over all transactions once.
 use Rattle.std.proofs.Common.{ℕ, ◌≡◌, ◌<◌, ◌≤◌, ◌+◌, ◌*◌, ◌⊎◌, inl, inr, List, [], ◌∷◌, ◌++◌}
 use Rattle.std.proofs.Common.{length, All, length-append, append_assoc, refl, sym, ◌∙◌, subst}
-use Rattle.std.proofs.Common.arith
+use Rattle.std.proofs.Common.{arith}
 use Rattle.std.specs.List.{AllByRecursion}
 use Rattle.std.proofs.lemmas.List.Elements.{All-nil, All-cons}
 use Rattle.tcc_txn.specs.declared.limits.TheConstants.{MAX_COUNT}

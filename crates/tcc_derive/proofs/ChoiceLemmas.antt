@@ -1,7 +1,7 @@
 -- The first of the nearest readers, and of all keys the first with the nearest reader.
 use Rattle.std.proofs.Common.{ℕ, ◌+◌, ◌<◌, ◌≤◌, ◌≡◌, ◌≢◌, ◌==◌, true, false, List, [], length, get_or}
 use Rattle.std.proofs.Common.{take, Option, None, Some, MatchOption, refl, sym, ◌∙◌, arith, ⊎_elim}
-use Rattle.std.proofs.Common.bytes_eq
+use Rattle.std.proofs.Common.{bytes_eq}
 use Rattle.std.specs.List.{All, Contains, list_any}
 use Rattle.std.specs.Ordering.{nat_cmp}
 use Rattle.std.specs.List.Sorted.{IsStrictlySortedBy}

@@ -19,7 +19,7 @@ use Rattle.tcc_core.specs.Shares.{IsCappedDistance}
 use Rattle.tcc_cert.specs.Tables.{row_of, entry, far_entry, HasSize, HasFarSize, IsCapped}
 use Rattle.tcc_cert.specs.CycleRules.{IsStepBelow, IsLinkBelow, ends_at, IsLinkWrong}
 use Rattle.tcc_cert.specs.CycleRules.{BreaksNearPair, BreaksNearStep, BreaksFarLink, BreaksFarStep}
-use Rattle.tcc_cert.specs.CycleRules.BreaksReturn
+use Rattle.tcc_cert.specs.CycleRules.{BreaksReturn}
 use Rattle.tcc_cert.specs.Rules.{HoldsEverywhere, CertifiesCycle}
 use Rattle.tcc_cert.specs.declared.version.Version.TheVariants.{Two}
 use Rattle.tcc_cert.proofs.Ends.{ends_at_some}

@@ -1,7 +1,7 @@
 -- What records finish has names for keys: a field that is to be a key is taken where it is a name.
 use Rattle.std.proofs.Common.{ℕ, ◌≡◌, ◌==◌, Bool, true, false, cond, List, [], ◌∷◌, ◌++◌, length}
 use Rattle.std.proofs.Common.{All, Option, None, Some, Result, Ok, Err, refl, sym, subst, ◌∙◌}
-use Rattle.std.proofs.Common.arith
+use Rattle.std.proofs.Common.{arith}
 use Rattle.std.specs.Prelude.{fold, is_some, unwrap_or, codes, take}
 use Rattle.std.specs.Option.{option_map_or}
 use Rattle.std.specs.FinMap as finite

@@ -1,7 +1,7 @@
 -- Names in lists, sorted and not.
 use Rattle.std.proofs.Common.{ℕ, zero, suc, ◌⊎◌, ◌+◌, ◌<◌, ◌≡◌, ◌≢◌, true, false, List, [], ◌∷◌}
 use Rattle.std.proofs.Common.{length, get_or, take, refl, sym, ap, ◌∙◌, arith, inl, inr, Result, Ok}
-use Rattle.std.proofs.Common.Err
+use Rattle.std.proofs.Common.{Err}
 use Rattle.std.specs.Prelude.{bytes_eq, ◌||◌, MatchOption}
 use Rattle.std.specs.Ordering.{is_lt}
 use Rattle.std.specs.declared.cmp.Ordering.{Ordering}

@@ -1,7 +1,7 @@
 -- Marks between two numbers, suffixes of sessions, and marks of those that read.
 use Rattle.std.proofs.Common.{◌≡◌, ◌≢◌, ◌<◌, ◌≤◌, ◌+◌, ◌-◌, ◌/◌, ◌==◌, ◌||◌, ◌↔◌, ◌⊎◌, inl, inr, ℕ, zero, suc, Bool, true}
 use Rattle.std.proofs.Common.{false, List, [], ◌∷◌, length, length-set, get_or, set, slice_index, refl, sym, ◌∙◌, ap, arith}
-use Rattle.std.proofs.Common.subst
+use Rattle.std.proofs.Common.{subst}
 use Rattle.std.specs.Prelude.{zip}
 use Rattle.std.specs.List.{All, Contains}
 use Rattle.std.proofs.lemmas.Bool.{cases_eq, cases_lt, false≢true, or_cases, or_left, or_right, eqb-true, eq-eqb}

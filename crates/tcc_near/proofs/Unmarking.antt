@@ -1,7 +1,7 @@
 -- Marks that are taken away, and words without marks.
 use Rattle.std.proofs.Common.{◌≡◌, ◌≢◌, ◌<◌, ◌≤◌, ◌*◌, ◌/◌, ◌%◌, ◌^◌, ◌↔◌, ◌⊎◌, inl, inr, ℕ, true}
 use Rattle.std.proofs.Common.{false, List, length, get_or, set, slice_index, sym, ◌∙◌, ap, arith}
-use Rattle.std.proofs.Common.w64
+use Rattle.std.proofs.Common.{w64}
 use Rattle.std.specs.Prelude.{bit_and}
 use Rattle.std.specs.Int.{bit_at, bit_not}
 use Rattle.std.proofs.lemmas.Bool.{cases_eq, cases_lt, false≢true}

@@ -2,7 +2,7 @@
 -- The search breadth first: what is known after walks of so many steps.
 use Rattle.std.specs.Prelude.{ℕ, ◌+◌, ◌<◌, ◌≤◌, ◌≡◌, ◌⊎◌, ◌↔◌, ◌==◌, ◌&&◌, Bool, true, false, if◌then◌else◌}
 use Rattle.std.specs.Prelude.{List, [], length, count_by, Option, None, Some, slice_index, slice_index_or}
-use Rattle.std.specs.Prelude.Contains
+use Rattle.std.specs.Prelude.{Contains}
 use Rattle.tcc_reads.specs.History.{History, count}
 use Rattle.tcc_graph.specs.Relations.{IsSessionPair, causal_pair}
 use Rattle.tcc_graph.specs.Levels.{Judged, causally}

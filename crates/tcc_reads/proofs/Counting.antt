@@ -1,7 +1,7 @@
 -- How many transactions a snapshot has, and which sessions they are of.
 use Rattle.std.proofs.Common.{◌≡◌, ℕ, zero, suc, ◌+◌, ◌<◌, ◌≤◌, List, [], ◌∷◌, length, drop, All, sum_by, Option}
 use Rattle.std.proofs.Common.{None, Some, IsSome, refl, ap, sym, ◌∙◌, arith, length-append, is_some, option_map}
-use Rattle.std.proofs.Common.slice_get
+use Rattle.std.proofs.Common.{slice_get}
 use Rattle.std.proofs.Math.ListN.{drop_of_length-le}
 use Rattle.std.proofs.lemmas.List.Sums.{sum_by-cons}
 use Rattle.std.proofs.lemmas.List.Elements.{All-nil, All-cons, All-append}

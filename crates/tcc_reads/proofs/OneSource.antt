@@ -17,7 +17,7 @@ use Rattle.tcc_reads.specs.Sites.{Stand, Site, is_committed, stands, committed, 
 use Rattle.tcc_reads.specs.Sources.{visible_write, external_part, external_read, external_reads, shows, source}
 use Rattle.tcc_reads.specs.Faults.{puts, writer, is_same_transaction, is_same_site, is_last_at_key}
 use Rattle.tcc_reads.specs.Faults.{write_kind, external_kind, read_kind, kind_at, fault_at}
-use Rattle.tcc_reads.specs.Faults.read_faults
+use Rattle.tcc_reads.specs.Faults.{read_faults}
 use Rattle.tcc_reads.specs.OneSource.{IsNumber, ReadsFromOthers, Gives, HasOneSource}
 use Rattle.tcc_reads.proofs.Ties.{same_name}
 use Rattle.tcc_reads.proofs.Sourcing.{has, has-kept, never_shown, last_shown, no_pair}

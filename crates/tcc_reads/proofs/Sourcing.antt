@@ -1,7 +1,7 @@
 -- Where nothing is faulty, the sources found are the sources.
 use Rattle.std.proofs.Common.{◌≡◌, ℕ, ◌+◌, Bool, true, false, cond, not, ◌&&◌, ◌||◌, List, [], ◌∷◌, ◌++◌, length, map, filter}
 use Rattle.std.proofs.Common.{filter_map, flat_map, Option, None, Some, option_map, unwrap_or, refl, ap, sym, ◌∙◌, is_none}
-use Rattle.std.proofs.Common.nat_eq
+use Rattle.std.proofs.Common.{nat_eq}
 use Rattle.std.specs.Prelude.{◌==◌}
 use Rattle.std.specs.List.{list_any, cons_option, position_from}
 use Rattle.std.specs.Option.{option_or, option_eq}
@@ -19,7 +19,7 @@ use Rattle.tcc_reads.specs.Faults.{puts}
 use Rattle.tcc_txn.specs.Transactions.{op_key}
 use Rattle.tcc_reads.specs.Verdicts.{writer_at, first_in, first_writer, is_in, write_judgement, judgement_from, read_judgement, own_judgement}
 use Rattle.tcc_reads.specs.Verdicts.{site_judgement, fault_in, source_in, fault_found, source_found, faults_found, sources_found, entry_found}
-use Rattle.tcc_reads.specs.Verdicts.entries_found
+use Rattle.tcc_reads.specs.Verdicts.{entries_found}
 use Rattle.std.proofs.lemmas.Bool.{and_parts, or_parts, not-true}
 use Rattle.tcc_reads.proofs.Ties.{same_name}
 use Rattle.tcc_reads.proofs.Agreement.{kind_in}

@@ -2,7 +2,7 @@
 -- table of first writes. That this is what Faults and Sources say is proved.
 use Rattle.std.specs.Prelude.{ℕ, ◌≡◌, ◌<◌, nat_eq, Bool, false, ◌&&◌, ◌==◌, not, if◌then◌else◌, List, []}
 use Rattle.std.specs.Prelude.{◌∷◌, ◌++◌, map, filter, filter_map, length, ◌+◌, Option, None, Some}
-use Rattle.std.specs.Prelude.option_and_then
+use Rattle.std.specs.Prelude.{option_and_then}
 use Rattle.std.specs.List.{list_any}
 use Rattle.std.specs.HashMap as hash
 use Rattle.std.specs.HashMap.{HashMap}

@@ -1,7 +1,7 @@
 -- What a run does with its bytes, from how a recording of them went on.
 use Rattle.std.proofs.Common.{◌≡◌, ◌≢◌, ℕ, ◌+◌, ◌≤◌, arith, Bool, true, false, cond, List, [], ◌∷◌, ◌++◌, length, take}
 use Rattle.std.proofs.Common.{Option, None, Some, Result, Ok, Err, refl, sym, ap, subst, ◌∙◌, inl, inr, append_assoc}
-use Rattle.std.proofs.Common.append-nil
+use Rattle.std.proofs.Common.{append-nil}
 use Rattle.std.specs.Prelude.{nat_eq, IfSome, MatchResult, unwrap_or}
 use Rattle.std.specs.List.{last_or}
 use Rattle.std.specs.Io.KnownBytes.{Appends}
@@ -35,7 +35,7 @@ use Rattle.tcc_run.specs.Runs.{AreAnswered, Contents, Gains, IsAnswered, IsRun, 
 use Rattle.tcc_run.specs.Runs.{Said, at_end, faults_said, halt_said, is_due_after, sealed_in, texts}
 use Rattle.tcc_run.specs.Stages.{AllAnswered, AnswersKept, Concludes, EndsAnswering, EndsEarly}
 use Rattle.tcc_run.specs.Stages.{IsFor, IsOutcome, IsStill, Keeps, SaysLast, answer_in, outcome_said}
-use Rattle.tcc_run.specs.Stages.outcome_text
+use Rattle.tcc_run.specs.Stages.{outcome_text}
 use Rattle.tcc_print.specs.Printed.{CutsOff, PrintsOrMemory}
 use Rattle.tcc_print.specs.Halts.{by_row, is_memory}
 use Rattle.tcc_run.proofs.Moments.{AllZip-append, all-fault, all-items, at_end-due, at_end-none, due-passed, due-seal}

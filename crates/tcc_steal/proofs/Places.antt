@@ -1,7 +1,7 @@
 -- Searches that workers bring back, in any order, and the places that they have by their starts.
 use Rattle.std.proofs.Common.{◌≡◌, ◌<◌, ◌++◌, ◌⊎◌, inl, inr, ℕ, zero, suc, List, [], ◌∷◌, length, set}
 use Rattle.std.proofs.Common.{replicate, get_or, All, Option, None, Some, slice_get, refl, sym, ◌∙◌, ap}
-use Rattle.std.proofs.Common.subst
+use Rattle.std.proofs.Common.{subst}
 use Rattle.std.proofs.lemmas.List.Elements.{All-push, All-weaker}
 use Rattle.std.proofs.lemmas.Option.{slice_get_read}
 use Rattle.tcc_derive.specs.Prices.{Tables}

@@ -20,7 +20,7 @@ use Rattle.tcc_bound.specs.declared.known.Known.{Known}
 use Rattle.tcc_core.specs.Rows.{in_row, cap_of}
 use Rattle.tcc_core.specs.Shares.{Share, Finished, Stop, Returned, Cut, IsNotAbove, IsStopped, IsFinished}
 use Rattle.tcc_core.specs.Shares.{IsCycleCost, IsNotBelowLeast, starts_of, EachFinished, SettleAt, capped}
-use Rattle.tcc_core.specs.Shares.IsCappedDistance
+use Rattle.tcc_core.specs.Shares.{IsCappedDistance}
 use Rattle.tcc_core.proofs.Settlement.{least_cycle, capped_rows, returned_starts}
 use Rattle.tcc_steal.specs.Findings.{IsFirst, IsFound}
 use Rattle.tcc_steal.specs.Floors.{least_cost}

@@ -1,7 +1,7 @@
 -- What lawful lines finish keeps the limits of a snapshot: each finished transaction was begun, and each session with one has begun one.
 use Rattle.std.proofs.Common.{◌≡◌, ℕ, ◌+◌, ◌-◌, ◌≤◌, Bool, true, false, cond, ◌||◌, T, List, [], ◌∷◌, ◌++◌, map, length, sum_by}
 use Rattle.std.proofs.Common.{refl, sym, ap, subst, ◌∙◌, arith, Option, None, Some, Result, Ok, Err, append_assoc, append-nil}
-use Rattle.std.proofs.Common.nat_lt
+use Rattle.std.proofs.Common.{nat_lt}
 use Rattle.std.specs.Prelude.{fold, is_some, unwrap_or}
 use Rattle.std.specs.Option.{option_map_or}
 use Rattle.std.specs.List.{AllByRecursion, IsDistinct, list_any}

@@ -1,7 +1,7 @@
 -- Records without a fault have none however they are interleaved.
 use Rattle.std.proofs.Common.{◌≡◌, ℕ, zero, suc, ◌+◌, ◌≤◌, Bool, true, false, not, cond, ◌||◌, List, [], ◌∷◌, ◌++◌}
 use Rattle.std.proofs.Common.{filter, length, refl, sym, ap, subst, ◌∙◌, arith, Option, None, Some, Result, Ok, Err}
-use Rattle.std.proofs.Common.nat_lt
+use Rattle.std.proofs.Common.{nat_lt}
 use Rattle.std.specs.Prelude.{codes, is_some, option_map}
 use Rattle.std.specs.List.{AllByRecursion, Contains, IsDistinct, list_any}
 use Rattle.std.specs.Cmp.Lexicographic.{nat_list_eq_equiv}

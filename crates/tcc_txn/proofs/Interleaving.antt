@@ -1,7 +1,7 @@
 -- What records finish depends on the records of each session alone, however these are interleaved.
 use Rattle.std.proofs.Common.{◌≡◌, ℕ, Bool, true, false, cond, List, [], ◌∷◌, ◌++◌, filter, refl}
 use Rattle.std.proofs.Common.{sym, ap, ◌∙◌, Option, None, Some, Result, Ok, Err, append_assoc}
-use Rattle.std.proofs.Common.append-nil
+use Rattle.std.proofs.Common.{append-nil}
 use Rattle.std.specs.Prelude.{codes, is_some, unwrap_or}
 use Rattle.std.specs.Option.{option_map_or}
 use Rattle.std.specs.FinMap as finite

@@ -1,7 +1,7 @@
 -- A text under a limit on its bytes, read in parts.
 use Rattle.std.proofs.Common.{◌≡◌, ℕ, ◌+◌, ◌-◌, ◌<◌, ◌≤◌, true, false, nat_le, List, [], ◌∷◌, ◌++◌, length, take, Option}
 use Rattle.std.proofs.Common.{option_map, None, Some, refl, sym, ap, ◌∙◌, arith, length-append, append_assoc, length-take-le}
-use Rattle.std.proofs.Common.zero-le
+use Rattle.std.proofs.Common.{zero-le}
 use Rattle.std.proofs.lemmas.Bool.{cases_lt}
 use Rattle.std.proofs.lemmas.Bool.Decides.{nat_tests}
 use Rattle.std.proofs.Math.Logic.{⊎_elim}

@@ -1,7 +1,7 @@
 -- The fields of a record, and the number that a field writes.
 use Rattle.std.proofs.Common.{◌≡◌, ◌≢◌, ℕ, zero, suc, ◌<◌, ◌^◌, Bool, true, false, List, [], ◌∷◌}
 use Rattle.std.proofs.Common.{length, get_or, refl, sym, ap, rules, arith, cond, nat_lt, inl, inr}
-use Rattle.std.proofs.Common.◌∙◌
+use Rattle.std.proofs.Common.{◌∙◌}
 use Rattle.std.specs.Prelude.{IsSome, option_map, Option, None, Some, Result, Ok, Err, IsUtf8, ◌&&◌, ◌==◌, is_some, codes}
 use Rattle.std.specs.Result.{result_ok, OkIff}
 use Rattle.std.specs.Str.{all_ascii_digits}

@@ -1,7 +1,7 @@
 -- The named lists that a snapshot is made of.
 use Rattle.std.proofs.Common.{◌≡◌, ℕ, suc, ◌+◌, ◌<◌, Bool, cond, ◌||◌, List, [], ◌∷◌, ◌++◌, map}
 use Rattle.std.proofs.Common.{length, take, drop, get_or, sum_by, refl, ap, sym, ◌∙◌, add-one, Some}
-use Rattle.std.proofs.Common.nat_eq
+use Rattle.std.proofs.Common.{nat_eq}
 use Rattle.std.proofs.Math.Seq.{take-suc, drop-cons}
 use Rattle.std.proofs.lemmas.List.{map-append}
 use Rattle.std.proofs.lemmas.List.Sums.{sum_by-cons}

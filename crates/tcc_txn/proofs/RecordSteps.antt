@@ -1,11 +1,11 @@
 -- One record taken off what a reader has left.
 use Rattle.std.proofs.Common.{◌≡◌, ℕ, zero, suc, ◌+◌, ◌<◌, ◌≤◌, Bool, true, false, List, [], ◌∷◌, ◌++◌, length, Option}
 use Rattle.std.proofs.Common.{option_map, None, Some, refl, sym, ap, ◌∙◌, arith, append_assoc, cond, add-one}
-use Rattle.std.proofs.Common.length-append
+use Rattle.std.proofs.Common.{length-append}
 use Rattle.std.specs.Prelude.{◌==◌, MatchResult, OnOk, Result, Ok, Err}
 use Rattle.csv.specs.Machine.{Read, step, next_record, ends_at_end, is_end, fields_after}
 use Rattle.csv.specs.Machine.{field_after, in_field, start_field, start_record, after_end}
-use Rattle.csv.specs.Machine.ends_with
+use Rattle.csv.specs.Machine.{ends_with}
 use Rattle.csv.specs.Reading.{ReadRecord, Reached, default_config, reader_state, records_from, records_next}
 use Rattle.csv.specs.declared.parser.State.{State}
 use Rattle.csv.specs.declared.parser.State.TheVariants as st

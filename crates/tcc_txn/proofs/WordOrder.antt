@@ -1,7 +1,7 @@
 -- The order of names is that of their padded bytes, eight by eight, read as numbers.
 use Rattle.std.proofs.Common.{◌≡◌, ℕ, zero, suc, ◌+◌, ◌-◌, ◌*◌, ◌≤◌, ◌<◌, true, List, [], ◌∷◌, ◌++◌, length}
 use Rattle.std.proofs.Common.{take, drop, get_or, refl, sym, ap, subst, ◌∙◌, arith, None, Ordering, Less, Equal}
-use Rattle.std.proofs.Common.Greater
+use Rattle.std.proofs.Common.{Greater}
 use Rattle.std.proofs.lemmas.Bool.Decides.{nat_tests}
 use Rattle.std.proofs.lemmas.List.{get_or-drop, drop-drop, drop_all, length-take, length-drop, take_all}
 use Rattle.std.proofs.lemmas.List.Sums.{prefix_len_passes}

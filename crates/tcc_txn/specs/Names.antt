@@ -1,7 +1,7 @@
 -- The names of sessions and keys.
 use Rattle.std.specs.Prelude.{ℕ, ◌+◌, ◌-◌, ◌≤◌, ◌≡◌, Bool, ◌||◌, ◌&&◌, ◌==◌, nat_lt, nat_le, if◌then◌else◌, List}
 use Rattle.std.specs.Prelude.{◌++◌, length, take, Option, None, Some, Result, Ok, Err, not, position, option_map}
-use Rattle.std.specs.Prelude.replicate
+use Rattle.std.specs.Prelude.{replicate}
 use Rattle.std.specs.Option.{option_map_or}
 use Rattle.tcc_txn.specs.declared.limits.TheConstants.{MAX_NAME_BYTES}
 use Rattle.tcc_txn.specs.declared.name.NameFault.{NameFault}

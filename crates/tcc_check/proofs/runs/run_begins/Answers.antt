@@ -3,8 +3,8 @@ use Rattle.tcc_reads.specs.History.{count}
 use Rattle.tcc_check.proofs.Carried.{all_runs, last_at, run_begun, run_kept}
 use Rattle.tcc_check.proofs.runs.run_begins.Goals as goal
 use Rattle.tcc_check.proofs.runs.run_begins.Goals.{then-end-eq0, else-end-eq0+else-previous-end}
-use Rattle.tcc_check.proofs.runs.run_begins.Goals.then-end-eq0-via-else-end-eq0+then-previous-end
-use Rattle.tcc_check.proofs.runs.run_begins.Goals.then-end-eq0-via-then-end-eq0
+use Rattle.tcc_check.proofs.runs.run_begins.Goals.{then-end-eq0-via-else-end-eq0+then-previous-end}
+use Rattle.tcc_check.proofs.runs.run_begins.Goals.{then-end-eq0-via-then-end-eq0}
 
 pub returns : goal.returns
 returns c =

@@ -3,8 +3,8 @@ use Rattle.std.proofs.Common.{arith, sym}
 use Rattle.tcc_check.proofs.Overshot.{all_at, none_at, found_at, skipped_at}
 use Rattle.tcc_check.proofs.searching.overshot_at.Goals as goal
 use Rattle.tcc_check.proofs.searching.overshot_at.Goals.{then-low-end+then-cost-from, else-low-end}
-use Rattle.tcc_check.proofs.searching.overshot_at.Goals.else-low-end-via-then-low-end+else-cost-from
-use Rattle.tcc_check.proofs.searching.overshot_at.Goals.else-low-end-via-else-low-end
+use Rattle.tcc_check.proofs.searching.overshot_at.Goals.{else-low-end-via-then-low-end+else-cost-from}
+use Rattle.tcc_check.proofs.searching.overshot_at.Goals.{else-low-end-via-else-low-end}
 
 pub loop-end-init : goal.loop-end-init
 loop-end-init c = none_at c.args.ends.now c.args.row.now c.args.low c.args.cost

@@ -3,8 +3,8 @@ use Rattle.tcc_core.specs.Queues.{offered}
 use Rattle.tcc_core.specs.declared.ring.TheConstants.{BUCKETS}
 use Rattle.tcc_core.proofs.Offered.{upto_none, upto_next, upto_past, upto_all, offered_one}
 use Rattle.tcc_core.proofs.offering.offer_within.Goals.{then-cost-left+then-to-start, else-cost-left}
-use Rattle.tcc_core.proofs.offering.offer_within.Goals.else-cost-left-via-then-cost-left+else-to-start
-use Rattle.tcc_core.proofs.offering.offer_within.Goals.else-cost-left-via-else-cost-left
+use Rattle.tcc_core.proofs.offering.offer_within.Goals.{else-cost-left-via-then-cost-left+else-to-start}
+use Rattle.tcc_core.proofs.offering.offer_within.Goals.{else-cost-left-via-else-cost-left}
 use Rattle.tcc_core.proofs.offering.offer_within.Goals as goal
 
 pub loop-to-init : goal.loop-to-init

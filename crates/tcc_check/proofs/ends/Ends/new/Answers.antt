@@ -3,7 +3,7 @@ use Rattle.std.proofs.Common.{◌≡◌, ℕ, [], ◌∷◌, ◌++◌, length, g
 use Rattle.tcc_check.proofs.Grouped.{AreGroupsTo, all-closed, all-groups, group-anew, group-closed, group-grown}
 use Rattle.tcc_check.proofs.ends.Ends.new.Goals as goal
 use Rattle.tcc_check.proofs.ends.Ends.new.Goals.{then-next-weight+then-count-gt0+in_ok-push, else-next-weight}
-use Rattle.tcc_check.proofs.ends.Ends.new.Goals.else-next-weight-via-then-next-weight+else-count-gt0
+use Rattle.tcc_check.proofs.ends.Ends.new.Goals.{else-next-weight-via-then-next-weight+else-count-gt0}
 use Rattle.tcc_check.proofs.ends.Ends.new.Goals.{else-next-weight-via-else-next-weight, then-count-gt0-2+in_ok-push-3, else-count-gt0-2}
 
 pub loop-end-preserved : goal.loop-end-preserved
