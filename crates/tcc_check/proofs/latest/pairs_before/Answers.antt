@@ -5,9 +5,9 @@ use Rattle.tcc_graph.specs.Relations.{IsCausalPair, causal_pair}
 use Rattle.tcc_graph.proofs.Pairs.{pair_from_kinds}
 use Rattle.tcc_check.proofs.Sessions.{first_more}
 use Rattle.tcc_check.proofs.latest.pairs_before.Goals as goal
-use Rattle.tcc_check.proofs.latest.pairs_before.Goals.else-writer-source-via-then-writer-source+then-places-source+else-causal
-use Rattle.tcc_check.proofs.latest.pairs_before.Goals.else-writer-source-via-then-writer-source+else-places-source
-use Rattle.tcc_check.proofs.latest.pairs_before.Goals.else-writer-source-via-else-writer-source
+use Rattle.tcc_check.proofs.latest.pairs_before.Goals.{else-writer-source-via-then-writer-source+then-places-source+else-causal}
+use Rattle.tcc_check.proofs.latest.pairs_before.Goals.{else-writer-source-via-then-writer-source+else-places-source}
+use Rattle.tcc_check.proofs.latest.pairs_before.Goals.{else-writer-source-via-else-writer-source}
 
 pub loop-writer-init : goal.loop-writer-init
 loop-writer-init c = λ k d l. absurd (omega arith)

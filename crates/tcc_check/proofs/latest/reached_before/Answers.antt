@@ -4,9 +4,9 @@ use Rattle.tcc_graph.specs.declared.level.Level.TheVariants.{Causal}
 use Rattle.tcc_cert.specs.OrderRules.{MayReach}
 use Rattle.tcc_check.proofs.Sessions.{first_more}
 use Rattle.tcc_check.proofs.latest.reached_before.Goals as goal
-use Rattle.tcc_check.proofs.latest.reached_before.Goals.else-writer-source-via-then-writer-source+then-places-source+else-clock_gap-eq0
-use Rattle.tcc_check.proofs.latest.reached_before.Goals.else-writer-source-via-then-writer-source+else-places-source
-use Rattle.tcc_check.proofs.latest.reached_before.Goals.else-writer-source-via-else-writer-source
+use Rattle.tcc_check.proofs.latest.reached_before.Goals.{else-writer-source-via-then-writer-source+then-places-source+else-clock_gap-eq0}
+use Rattle.tcc_check.proofs.latest.reached_before.Goals.{else-writer-source-via-then-writer-source+else-places-source}
+use Rattle.tcc_check.proofs.latest.reached_before.Goals.{else-writer-source-via-else-writer-source}
 
 pub loop-writer-init : goal.loop-writer-init
 loop-writer-init c = λ k d l. absurd (omega arith)
