@@ -6,11 +6,12 @@ use std::sync::Wait;
 use std::test::Fail;
 use std::thread;
 use std::thread::Threads;
+use tcc_answer::Answer;
 use tcc_audit::{AuditFault, audit};
 use tcc_book::{Book, Pass, WholeFault};
 use tcc_explain::{ExplainFault, OpenGate};
 use tcc_graph::Level;
-use tcc_txn::{Name, Op, Txn};
+use tcc_txn::{MAX_SESSIONS, MAX_TRANSACTIONS, Name, Op, Txn};
 
 /// The key of a session's writes.
 fn key_of(session: &Name) -> Option<Name> {
@@ -127,5 +128,48 @@ fn unresolved(rt: HostRuntime) {
             }
             _ => panic!(rt; "no read fault"),
         }
+    }
+}
+
+/// The sessions of a full book.
+const LETTERS: &[u8] = b"0123456789abcdefghijklmnopqrstuvwxyzABCDEFGHIJKLMNOPQRSTUVWXYZ_.";
+
+/// Records so many transactions without operations.
+fn idle(rt: &impl Wait, alloc: Global, book: &Book, pass: &mut Pass, times: usize) -> Option<()> {
+    for _ in 0..times {
+        let txn = Txn::new(Vec::new(alloc), true).ok()?;
+        book.record(rt, alloc, pass, txn).ok()?;
+    }
+    Some(())
+}
+
+/// The passes of as many sessions as there may be, which have recorded 64 transactions each, and the last one fewer: as many
+/// as there may be.
+fn full(rt: &impl Wait, alloc: Global, book: &Book) -> Option<Vec<Pass>> {
+    let mut passes = Vec::new(alloc);
+    let mut left = MAX_TRANSACTIONS;
+    for letter in LETTERS {
+        let mut pass = book.open(rt, alloc, Name::read(&[*letter]).ok()?).ok()?;
+        let times = left.min(64);
+        idle(rt, alloc, book, &mut pass, times)?;
+        left -= times;
+        passes.push(pass).ok()?;
+    }
+    Some(passes)
+}
+
+/// A full book of 64 sessions has an answer for all that they recorded: no call gives up at fewer.
+#[test]
+fn full_book(rt: HostRuntime) {
+    let alloc = rt.alloc();
+    assert_eq!(&rt; LETTERS.len(), MAX_SESSIONS);
+    let book = Book::new(alloc).expect(&rt, "a book");
+    let passes = full(&rt, alloc, &book).expect(&rt, "room");
+    match audit(&rt, alloc, &book, &passes, Level::Causal, 1, &OpenGate) {
+        Ok(Answer::Commit(commit)) => {
+            assert_eq!(&rt; commit.sessions(), 64);
+            assert_eq!(&rt; commit.order().len(), 4096);
+        }
+        _ => panic!(&rt; "no order"),
     }
 }

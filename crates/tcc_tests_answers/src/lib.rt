@@ -10,6 +10,8 @@ mod cycles;
 #[cfg(test)]
 mod explaining;
 #[cfg(test)]
+mod gates;
+#[cfg(test)]
 mod growing;
 #[cfg(test)]
 mod runs;

@@ -1,0 +1,172 @@
+//! Workers and gate reach the threads by every call that searches: a body fails that goes on with one worker, or with a gate
+//! of its own.
+use crate::answers::{OWN_TEXT, answer_of, text_of};
+use std::alloc::Global;
+use std::process::Abort;
+use std::sync::Wait;
+use std::sync::atomic::{AtomicU64, Ordering};
+use std::thread;
+use std::thread::Threads;
+use tcc_answer::Answer;
+use tcc_audit::audit;
+use tcc_book::{Book, Pass};
+use tcc_explain::{explain, explain_next};
+use tcc_graph::Level;
+use tcc_run::{Gate, Options, explain_snapshot, run_explain};
+use tcc_txn::{Name, Op, Snapshot, Txn, snapshot_of};
+
+/// A read of the initial value behind an own write, once in each of two sessions: five starts.
+const TWICE: &str = "a,begin\na,w,x,1\na,commit\na,begin\na,r,x,0\na,commit\n\
+    b,begin\nb,w,y,1\nb,commit\nb,begin\nb,r,y,0\nb,commit\n";
+
+const STARTS: u64 = 5;
+
+/// Holds its first caller until so many starts were entered.
+#[derive(Drop)]
+struct Holding {
+    until: u64,
+    entered: AtomicU64,
+    missed: AtomicU64,
+}
+
+impl Holding {
+    fn new(until: u64) -> Holding {
+        Holding {
+            until,
+            entered: AtomicU64::new(0),
+            missed: AtomicU64::new(0),
+        }
+    }
+
+    /// The caller that was held met the others, and each start was entered once.
+    fn assert_met(&self, rt: &impl Abort) {
+        assert_eq!(rt; self.missed.load(Ordering::SeqCst), 0);
+        assert_eq!(rt; self.entered.load(Ordering::SeqCst), STARTS);
+    }
+}
+
+impl Gate for Holding {
+    fn enter(&self, _worker: u32, _start: u32) {
+        if self.entered.fetch_add(1, Ordering::SeqCst) == 0 {
+            for _ in 0..100_000_000u32 {
+                if self.until <= self.entered.load(Ordering::SeqCst) {
+                    return;
+                }
+                thread::yield_now();
+            }
+            self.missed.fetch_add(1, Ordering::SeqCst);
+        }
+    }
+}
+
+/// The answer is that of the history, and the workers met.
+fn assert_answer(rt: &impl Abort, alloc: Global, answer: Option<Answer>, gate: &Holding) {
+    let answer = answer.expect(rt, "an answer");
+    let out = text_of(alloc, &answer).expect(rt, "a text");
+    assert_eq!(rt; out.as_slice(), OWN_TEXT.as_bytes());
+    gate.assert_met(rt);
+}
+
+/// What the history's records finish.
+fn twice(rt: &impl Abort, alloc: Global) -> Snapshot {
+    match snapshot_of(alloc, TWICE.as_bytes()) {
+        Ok(snapshot) => snapshot,
+        Err(_) => panic!(rt; "no snapshot"),
+    }
+}
+
+/// By the calls that explain a snapshot one worker is held until the other has entered a start, and until it has entered all.
+#[test]
+fn snapshots(rt: HostRuntime) {
+    let alloc = rt.alloc();
+    let snapshot = twice(&rt, alloc);
+    for until in [2, STARTS] {
+        let gate = Holding::new(until);
+        let answer = explain(&rt, alloc, &snapshot, Level::Causal, 2, &gate);
+        assert_answer(&rt, alloc, answer.ok(), &gate);
+        let gate = Holding::new(until);
+        let answer = explain_snapshot(&rt, alloc, &snapshot, Level::Causal, 2, &gate);
+        assert_answer(&rt, alloc, answer.ok(), &gate);
+    }
+}
+
+/// So it is by the call that goes on after an earlier anomaly.
+#[test]
+fn histories_that_go_on(rt: HostRuntime) {
+    let alloc = rt.alloc();
+    let snapshot = twice(&rt, alloc);
+    let Some(Answer::Anomaly(earlier)) = answer_of(&rt, alloc, TWICE, Level::Causal, 1) else {
+        panic!(&rt; "no anomaly");
+    };
+    for until in [2, STARTS] {
+        let gate = Holding::new(until);
+        let answer = explain_next(&rt, alloc, &snapshot, &earlier, 2, &gate);
+        assert_answer(&rt, alloc, answer.ok(), &gate);
+    }
+}
+
+/// And by a run.
+#[test]
+fn runs(rt: HostRuntime) {
+    let alloc = rt.alloc();
+    let options = Options {
+        level: Level::Causal,
+        workers: 2,
+        json: false,
+    };
+    for until in [2, STARTS] {
+        let gate = Holding::new(until);
+        let mut out = Vec::new(alloc);
+        let mut file: Option<Vec<u8>> = None;
+        let code = run_explain(
+            &rt,
+            alloc,
+            TWICE.as_bytes(),
+            &mut out,
+            &mut file,
+            options,
+            &gate,
+        );
+        assert_eq!(&rt; code, 1);
+        assert_eq!(&rt; out.as_slice(), OWN_TEXT.as_bytes());
+        gate.assert_met(&rt);
+    }
+}
+
+/// Records a transaction of one operation.
+fn record(rt: &impl Wait, alloc: Global, book: &Book, pass: &mut Pass, op: Op) -> Option<()> {
+    let mut ops = Vec::new(alloc);
+    ops.push(op).ok()?;
+    let txn = Txn::new(ops, true).ok()?;
+    book.record(rt, alloc, pass, txn).ok()?;
+    Some(())
+}
+
+/// The pass of a session that has recorded a write and a read of the initial value behind it.
+fn stale(rt: &impl Wait, alloc: Global, book: &Book, session: &[u8], key: &[u8]) -> Option<Pass> {
+    let mut pass = book.open(rt, alloc, Name::read(session).ok()?).ok()?;
+    let key = Name::read(key).ok()?;
+    record(rt, alloc, book, &mut pass, Op::Put { key, value: 1 })?;
+    record(rt, alloc, book, &mut pass, Op::Get { key, value: 0 })?;
+    Some(pass)
+}
+
+/// The answer for a book with the same history.
+fn audited(rt: &(impl Threads + Wait + Sync), alloc: Global, gate: &Holding) -> Option<Answer> {
+    let book = Book::new(alloc).ok()?;
+    let mut passes = Vec::new(alloc);
+    passes.push(stale(rt, alloc, &book, b"a", b"x")?).ok()?;
+    passes.push(stale(rt, alloc, &book, b"b", b"y")?).ok()?;
+    audit(rt, alloc, &book, &passes, Level::Causal, 2, gate).ok()
+}
+
+/// And by an audit.
+#[test]
+fn audits(rt: HostRuntime) {
+    let alloc = rt.alloc();
+    for until in [2, STARTS] {
+        let gate = Holding::new(until);
+        let answer = audited(&rt, alloc, &gate);
+        assert_answer(&rt, alloc, answer, &gate);
+    }
+}
