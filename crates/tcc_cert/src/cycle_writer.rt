@@ -46,21 +46,34 @@ impl<W: Write> Drop for CycleWriter<'_, W> {
     }
 }
 
-/// The lines before the rows.
+/// What a claim of a cycle says beside its tables.
+#[derive(Drop)]
+pub(crate) struct CycleHead<'c> {
+    pub(crate) version: Version,
+    pub(crate) level: Level,
+    pub(crate) links: &'c Links,
+    pub(crate) least: u32,
+}
+
+/// The lines before the rows, of which each table has `count`.
 fn first_lines<W: Write>(
     outgoing: &mut Outgoing,
     out: &mut W,
-    version: Version,
-    level: Level,
+    head: &CycleHead,
     count: usize,
-    parts: &Links,
-    least: u32,
 ) -> io::Result<()>
-    ensures { IsSent result (W.contents out.old) outgoing.old (W.contents out.new) outgoing.new (lines_text (begun_lines version level count parts.now least)) }
+    ensures { IsSent result (W.contents out.old) outgoing.old (W.contents out.new) outgoing.new
+        (lines_text (begun_lines head.now.version head.now.level count head.now.links.now head.now.least)) }
 {
-    header_line(outgoing, out, version, level)?;
-    cycle_sizes(outgoing, out, count, parts.as_slice().len(), least)?;
-    links(outgoing, out, parts)?;
+    header_line(outgoing, out, head.version, head.level)?;
+    cycle_sizes(
+        outgoing,
+        out,
+        count,
+        head.links.as_slice().len(),
+        head.least,
+    )?;
+    links(outgoing, out, head.links)?;
     line(outgoing, out, b"near", &[])
 }
 
@@ -126,8 +139,14 @@ impl<'w, W: Write> CycleWriter<'w, W> {
         ensures begun { IfOk result (HasTaken W.contents (W.contents out.old) count
             (record { version = version; level = level; links = links.now; least = least; near = []; far = [] })) }
     {
+        let head = CycleHead {
+            version,
+            level,
+            links,
+            least,
+        };
         let mut outgoing = Outgoing::new();
-        first_lines(&mut outgoing, out, version, level, count, links, least)?;
+        first_lines(&mut outgoing, out, &head, count)?;
         Ok(CycleWriter::behind(out, outgoing))
     }
 
@@ -260,28 +279,17 @@ impl<'w, W: Write> CycleWriter<'w, W> {
 /// Writes a claim of a cycle whose tables are there.
 pub(crate) fn write_cycle<W: Write>(
     out: &mut W,
-    version: Version,
-    level: Level,
-    parts: &Links,
-    least: u32,
+    head: &CycleHead,
     near: &Table,
     far: &Table,
 ) -> Result<(), WriteFault>
-    ensures whole { OnOk result
-        (Appends (W.contents out.old) (W.contents out.new) (certificate_text (claim.Cycle version level parts.now least near.now far.now))) }
-    ensures part { OnErr result ((n : ℕ) × Appends (W.contents out.old) (W.contents out.new)
-        (take n (certificate_text (claim.Cycle version level parts.now least near.now far.now)))) }
+    ensures whole { OnOk result (Appends (W.contents out.old) (W.contents out.new) (certificate_text
+        (claim.Cycle head.now.version head.now.level head.now.links.now head.now.least near.now far.now))) }
+    ensures part { OnErr result ((n : ℕ) × Appends (W.contents out.old) (W.contents out.new) (take n (certificate_text
+        (claim.Cycle head.now.version head.now.level head.now.links.now head.now.least near.now far.now)))) }
 {
     let mut outgoing = Outgoing::new();
-    first_lines(
-        &mut outgoing,
-        out,
-        version,
-        level,
-        near.rows().len(),
-        parts,
-        least,
-    )?;
+    first_lines(&mut outgoing, out, head, near.rows().len())?;
     let mut writer = CycleWriter::behind(out, outgoing);
     writer.near_table(near)?;
     writer.far_table(far)?;

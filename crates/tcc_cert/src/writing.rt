@@ -7,7 +7,7 @@ ghost use Rattle.tcc_cert.specs.declared.certificate.Certificate.TheVariants as 
 ghost use Rattle.tcc_cert.specs.Writing.{IsSent};
 ghost use Rattle.tcc_cert.specs.Texts.{line_text, lines_text, step_words, link_lines, header_words, clocks_lines, order_lines, certificate_text};
 
-use crate::cycle_writer::write_cycle;
+use crate::cycle_writer::{CycleHead, write_cycle};
 use crate::lines::{line, number_line, table};
 use crate::outgoing::Outgoing;
 use crate::{Certificate, Links, Numbers, Table, Version, WriteFault};
@@ -273,6 +273,14 @@ pub fn write<W: Write>(certificate: &Certificate, out: &mut W) -> Result<(), Wri
             least,
             near,
             far,
-        } => write_cycle(out, *version, *level, links, *least, near, far),
+        } => {
+            let head = CycleHead {
+                version: *version,
+                level: *level,
+                links,
+                least: *least,
+            };
+            write_cycle(out, &head, near, far)
+        }
     }
 }

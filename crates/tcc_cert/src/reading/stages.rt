@@ -202,30 +202,41 @@ fn order<R: Read>(
     Ok((claim, Phase::Going(stage)))
 }
 
+/// What the lines before the links of a cycle say.
+#[derive(Clone, Copy)]
+struct CycleStart {
+    version: Version,
+    level: Level,
+    transactions: u32,
+    links: u32,
+    least: u32,
+}
+
 /// The claim of a cycle.
 fn cycle<R: Read>(
     alloc: Global,
     input: &mut Input<R>,
-    version: Version,
-    level: Level,
-    transactions: u32,
-    count: u32,
-    least: u32,
+    start: CycleStart,
 ) -> Result<(Part, Phase), CertFault>
     ensures step { (at : Place) → IsAt R.remaining input.old at
-        → TakesStep R.remaining at.line (cycle_parts version level transactions count least at) result input.new }
+        → TakesStep R.remaining at.line (cycle_parts start.version start.level start.transactions start.links start.least at) result input.new }
     ensures claim { IfOk result IsClaimStep }
 {
-    let links = links(alloc, input, version, count)?;
+    let links = links(alloc, input, start.version, start.links)?;
     let claim = Part::Cycle {
-        version,
-        level,
-        count: transactions,
+        version: start.version,
+        level: start.level,
+        count: start.transactions,
         links,
-        least,
+        least: start.least,
     };
-    let table = TableShape::Near { transactions };
-    Ok((claim, Phase::Going(Stage::Mark { version, table })))
+    let stage = Stage::Mark {
+        version: start.version,
+        table: TableShape::Near {
+            transactions: start.transactions,
+        },
+    };
+    Ok((claim, Phase::Going(stage)))
 }
 
 /// What stands behind the first line, up to the tables.
@@ -247,7 +258,16 @@ fn claim<R: Read>(
             transactions,
             links,
             least,
-        } => cycle(alloc, input, version, level, transactions, links, least),
+        } => {
+            let start = CycleStart {
+                version,
+                level,
+                transactions,
+                links,
+                least,
+            };
+            cycle(alloc, input, start)
+        }
     }
 }
 

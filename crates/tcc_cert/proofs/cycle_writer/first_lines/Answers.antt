@@ -15,13 +15,13 @@ returns-in_err-cycle_sizes g c =
 
 pub returns-in_err-links : goal.returns-in_err-links
 returns-in_err-links g c =
-    rw (flat_map-append line_text (flat_map link_lines c.args.parts.now) ((codes "near" ∷ []) ∷ []))
+    rw (flat_map-append line_text (flat_map link_lines c.args.head.now.links.now) ((codes "near" ∷ []) ∷ []))
     (failed c.from_residual-in_err-links.result _ _ _ _ _ c.from_residual-in_err-links.ensures.0
     (Stops-then c.in_ok-header_line.ensures (Stops-then (rw c.as_slice.ensures at c.in_ok-cycle_sizes.ensures) (Stops-early _ c.in_err-links.ensures))))
 
 pub returns : goal.returns
 returns g c =
-    rw (flat_map-append line_text (flat_map link_lines c.args.parts.now) ((codes "near" ∷ []) ∷ []))
+    rw (flat_map-append line_text (flat_map link_lines c.args.head.now.links.now) ((codes "near" ∷ []) ∷ []))
     (IsSent-then c.line.result _ _ _ _ _ _ _ _ c.in_ok-header_line.ensures
     (IsSent-then c.line.result _ _ _ _ _ _ _ _ (rw c.as_slice.ensures at c.in_ok-cycle_sizes.ensures)
     (IsSent-then c.line.result _ _ _ _ _ _ _ _ c.in_ok-links.ensures c.line.ensures)))
