@@ -7,7 +7,7 @@ use Rattle.tcc_cert.specs.declared.fault.CertFaultKind.TheVariants.{Read, NoMemo
 use Rattle.tcc_cert.specs.declared.certificate.Certificate.{Certificate}
 use Rattle.tcc_cert.specs.Reading.{Place, Reads, certificate_at, certificate_read, start_of}
 
--- what comes of a reader that failed, if it did, and of want of memory
+-- what comes of a reader that failed, if it did, or where a run is out of memory
 abbrev pub IsFailure : Type 0 → CertFaultKind → Type 0
 IsFailure failed kind = ((kind ≡ Read) × failed) ⊎ (kind ≡ NoMemory)
 

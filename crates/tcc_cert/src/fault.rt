@@ -47,7 +47,7 @@ pub enum CertFaultKind {
     /// The reader failed.
     #[error("the reader failed")]
     Read,
-    /// Want of memory.
+    /// Out of memory.
     #[error("out of memory")]
     NoMemory,
 }
