@@ -11,7 +11,6 @@ use Rattle.tcc_cert.specs.Ranges.{ranges_of}
 use Rattle.std.proofs.lemmas.Bool.{and_parts}
 use Rattle.std.proofs.lemmas.Bool.Decides.{nat_tests}
 use Rattle.std.proofs.lemmas.Grind.{flat_map-append}
-use Rattle.std.proofs.lemmas.List.{length-append}
 use Rattle.std.proofs.lemmas.List.Elements.{recursion_from_All}
 use Rattle.std.proofs.lemmas.Fmt.{decimal_nonempty, length-decimal-le}
 use Rattle.tcc_graph.specs.declared.link.Link.{Link}
@@ -20,14 +19,14 @@ use Rattle.tcc_cert.specs.declared.certificate.Certificate.TheVariants as claim
 use Rattle.tcc_cert.specs.Tables.{lowest}
 use Rattle.tcc_cert.specs.CycleRules.{CycleClaim}
 use Rattle.tcc_cert.specs.OrderRules.{OrderClaim}
-use Rattle.tcc_cert.specs.Texts.{Words, words_text, line_text, lines_text, numbers_words, table_lines, link_lines, header_words, clocks_lines}
+use Rattle.tcc_cert.specs.Texts.{Words, line_text, lines_text, numbers_words, table_lines, link_lines, header_words, clocks_lines}
 use Rattle.tcc_cert.specs.Texts.{claim_lines, certificate_text, IsNumber, IsCount, HasTableText, HasClocksText, HasOrderText, HasCycleText}
 use Rattle.tcc_cert.specs.Texts.{HasText, HasLinkText}
-use Rattle.tcc_cert.specs.Reading.{words, repeated, next, header_line, ended, numbers_line, word_line}
+use Rattle.tcc_cert.specs.Reading.{words, repeated, judged, next, header_line, ended, numbers_line, word_line}
 use Rattle.tcc_cert.specs.Reading.{sizes_line, link_at, table_at, clocks_at, order_at, cycle_at}
 use Rattle.tcc_cert.specs.Reading.{behind_header, certificate_read}
 use Rattle.tcc_cert.specs.declared.reading.forms.Sizes.TheVariants.{Order, Cycle}
-use Rattle.tcc_cert.proofs.ReadingFacts.{IsAbove, later, decimal-above, number_of-decimal}
+use Rattle.tcc_cert.proofs.ReadingFacts.{IsAbove, IsAbove-tested, is_above, words-short, decimal-above, number_of-decimal}
 use Rattle.tcc_cert.proofs.Items.{flat_map-map, flat_map-flat_map}
 use Rattle.tcc_cert.proofs.RangeFacts.{costs, counts, lines, numbers_costs, sessions_are, sessions_counts}
 use Rattle.tcc_cert.proofs.Numbered.{each-two, widths-from}
@@ -55,26 +54,19 @@ table-at v rows columns most table le few h n rest =
 
 -- ---- lines of one word
 
-clocks-mark : (v : Version) (n : ℕ) (rest : List ℕ) → words v (word_line (codes "clocks")) (at n (line_text (codes "clocks" ∷ []) ++ rest))
-    ≡ Ok (tt, at (n + 1) rest)
-clocks-mark v n rest =
-    words-line v (word_line (codes "clocks")) n (codes "clocks" ∷ []) rest
-    (lit< tt, (lit< tt, (lit< tt, (lit< tt, (lit< tt, (lit< tt, (lit< tt, tt)))))), tt) (omega (arith, lines v)) tt refl
+-- a few bytes without a space
+abbrev is_mark : List ℕ → Bool
+is_mark word = ltb 0 (length word) && (ltb (length word) 9 && is_above 32 word)
 
-near-at : (v : Version) (n : ℕ) (rest : List ℕ) → words v (word_line (codes "near")) (at n (line_text (codes "near" ∷ []) ++ rest)) ≡ Ok (tt, at (n + 1) rest)
-near-at v n rest =
-    words-line v (word_line (codes "near")) n (codes "near" ∷ []) rest
-    (lit< tt, (lit< tt, (lit< tt, (lit< tt, (lit< tt, tt)))), tt) (omega (arith, lines v)) tt refl
-
-far-at : (v : Version) (n : ℕ) (rest : List ℕ) → words v (word_line (codes "far")) (at n (line_text (codes "far" ∷ []) ++ rest)) ≡ Ok (tt, at (n + 1) rest)
-far-at v n rest =
-    words-line v (word_line (codes "far")) n (codes "far" ∷ []) rest
-    (lit< tt, (lit< tt, (lit< tt, (lit< tt, tt))), tt) (omega (arith, lines v)) tt refl
-
-end-at : (v : Version) (n : ℕ) (rest : List ℕ) → words v (word_line (codes "end")) (at n (line_text (codes "end" ∷ []) ++ rest)) ≡ Ok (tt, at (n + 1) rest)
-end-at v n rest =
-    words-line v (word_line (codes "end")) n (codes "end" ∷ []) rest
-    (lit< tt, (lit< tt, (lit< tt, (lit< tt, tt))), tt) (omega (arith, lines v)) tt refl
+mark-at : (v : Version) (word : List ℕ) (n : ℕ) (rest : List ℕ) → is_mark word ≡ true → word_line word (word ∷ []) ≡ Ok tt
+    → words v (word_line word) (at n (line_text (word ∷ []) ++ rest)) ≡ Ok (tt, at (n + 1) rest)
+mark-at v word n rest is shown =
+    let some = and_parts (ltb 0 (length word)) (ltb (length word) 9 && is_above 32 word) is in
+    let few = and_parts (ltb (length word) 9) (is_above 32 word) some.1 in
+    let long : 0 < length word = grind (arith, nat_tests, some.0) in
+    let short : length word ≤ 8 = grind (arith, nat_tests, few.0) in
+    words-line v (word_line word) n (word ∷ []) rest (long, IsAbove-tested 32 word few.1, tt)
+    (omega (arith, lines v, words-short 8 word [] short tt)) tt shown
 
 -- ---- claims of orders
 
@@ -91,7 +83,7 @@ clocks-at v Causal n s clocks few h line rest =
     let read = table-at v n (λ t. s) (ranges_of v).number clocks (numbers_costs v) (λ t. omega (arith, few, sessions_counts v)) h (line + 1) rest in (
       read.0,
       ap (λ bytes. clocks_at v Causal n s (at line bytes)) (append_assoc (line_text (codes "clocks" ∷ [])) (lines_text (table_lines clocks)) rest)
-          ∙ then_ok _ (clocks-mark v line (lines_text (table_lines clocks) ++ rest))
+          ∙ then_ok _ (mark-at v (codes "clocks") line (lines_text (table_lines clocks) ++ rest) refl refl)
           ∙ read.1,
     )
 clocks-at v Atomic n s clocks few h line rest = (line, rw h refl)
@@ -108,7 +100,7 @@ order-back v k h n =
     words-line v (numbers_line count (ranges_of v).number) n (numbers_words k.order)
     (lines_text (clocks_lines k.level k.clocks) ++ last) row.are row.short k.order row.back in
     let clocks = clocks-at v k.level count k.sessions k.clocks h.sessions h.clocks (n + 1) last in
-    let end = end-at v clocks.0 [] in (
+    let end = mark-at v (codes "end") clocks.0 [] refl refl in (
       clocks.0 + 1,
       ap (λ bytes. order_at v k.level count k.sessions (at n bytes)) (order_text k.level (numbers_words k.order) k.clocks)
           ∙ then_ok _ order
@@ -148,13 +140,13 @@ cycle-back k h n =
     let far_lines = lines_text (table_lines k.far) ++ last in
     let near_lines = lines_text (table_lines k.near) ++ (line_text (codes "far" ∷ []) ++ far_lines) in
     let links = links-at v k.links h.links n (line_text (codes "near" ∷ []) ++ near_lines) in
-    let near_mark = near-at v links.0 near_lines in
+    let near_mark = mark-at v (codes "near") links.0 near_lines refl refl in
     let near =
     table-at v count (λ a. count) (ranges_of v).cost k.near (omega arith) (λ a. h.count.limit) h.near (links.0 + 1)
     (line_text (codes "far" ∷ []) ++ far_lines) in
-    let far_mark = far-at v near.0 far_lines in
+    let far_mark = mark-at v (codes "far") near.0 far_lines refl refl in
     let far = table-at v count (λ s. count - lowest v s) (ranges_of v).cost k.far (omega arith) (λ s. omega (arith, h.count.limit)) h.far (near.0 + 1) last in
-    let end = end-at v far.0 [] in (
+    let end = mark-at v (codes "end") far.0 [] refl refl in (
       far.0 + 1,
       ap (λ bytes. cycle_at v k.level count (length k.links) k.least (at n bytes)) (cycle_text k.links k.near k.far)
           ∙ then_ok _ links.1
@@ -167,39 +159,13 @@ cycle-back k h n =
 
 -- ---- certificates
 
-sizes-short : (v : Version) (word : List ℕ) (a b c : ℕ) → length word ≤ 5 → a ≤ 16781312 → b ≤ 16781312 → c ≤ 16781312
-    → (length (words_text (word ∷ decimal a ∷ decimal b ∷ [])) ≤ (ranges_of v).line_bytes)
-    × (length (words_text (word ∷ decimal a ∷ decimal b ∷ decimal c ∷ [])) ≤ (ranges_of v).line_bytes)
-sizes-short v word a b c hw ha hb hc =
-    let la = length-decimal-le 8 a (lit< tt) (omega (arith, ha)) (omega (arith, ha)) in
-    let lb = length-decimal-le 8 b (lit< tt) (omega (arith, hb)) (omega (arith, hb)) in
-    let lc = length-decimal-le 8 c (lit< tt) (omega (arith, hc)) (omega (arith, hc)) in (
-      omega (
-        arith,
-        lines v,
-        hw,
-        la,
-        lb,
-        length-append word (later (decimal a ∷ decimal b ∷ [])),
-        length-append (decimal a) (later (decimal b ∷ [])),
-        length-append (decimal b) [],
-      ),
-      omega (
-        arith,
-        lines v,
-        hw,
-        la,
-        lb,
-        lc,
-        length-append word (later (decimal a ∷ decimal b ∷ decimal c ∷ [])),
-        length-append (decimal a) (later (decimal b ∷ decimal c ∷ [])),
-        length-append (decimal b) (later (decimal c ∷ [])),
-        length-append (decimal c) [],
-      ),
-    )
-
-numeral : (n : ℕ) → n ≤ 16781312 → (0 < length (decimal n)) × IsAbove 32 (decimal n)
-numeral n h = (decimal_nonempty n (omega (arith, h)), decimal-above n (omega (arith, h)))
+-- the numeral of a size
+numeral : (n : ℕ) → n ≤ 16781312 → (0 < length (decimal n)) × IsAbove 32 (decimal n) × (length (decimal n) ≤ 8)
+numeral n h = (
+  decimal_nonempty n (omega (arith, h)),
+  decimal-above n (omega (arith, h)),
+  length-decimal-le 8 n (lit< tt) (omega (arith, h)) (omega (arith, h)),
+)
 
 order_sizes-at : (v : Version) (n s at_line : ℕ) (rest : List ℕ) → IsCount v n → s ≤ (ranges_of v).sessions
     → words v (sizes_line v) (at at_line (line_text (codes "order" ∷ decimal n ∷ decimal s ∷ []) ++ rest)) ≡ Ok (Order n s, at (at_line + 1) rest)
@@ -209,8 +175,8 @@ order_sizes-at v n s at_line rest hn hs =
     let first = numeral n few in
     let second = numeral s sessions in
     words-line v (sizes_line v) at_line (codes "order" ∷ decimal n ∷ decimal s ∷ []) rest
-    (lit< tt, (lit< tt, (lit< tt, (lit< tt, (lit< tt, (lit< tt, tt))))), (first.0, first.1, (second.0, second.1, tt)))
-    (sizes-short v (codes "order") n s 0 (lit≤ tt) few sessions (lit≤ tt)).0
+    (lit< tt, IsAbove-tested 32 (codes "order") refl, (first.0, first.1, (second.0, second.1, tt)))
+    (omega (arith, lines v, words-short 8 (codes "order") (decimal n ∷ decimal s ∷ []) (lit≤ tt) (first.2, (second.2, tt))))
     (Order n s)
     (rw (
       number_of-decimal 1 (ranges_of v).count n hn.some hn.limit (omega (arith, few)),
@@ -227,8 +193,8 @@ cycle_sizes-at v n m l at_line rest hn hm hl =
     let second = numeral m links in
     let third = numeral l least in
     words-line v (sizes_line v) at_line (codes "cycle" ∷ decimal n ∷ decimal m ∷ decimal l ∷ []) rest
-    (lit< tt, (lit< tt, (lit< tt, (lit< tt, (lit< tt, (lit< tt, tt))))), (first.0, first.1, (second.0, second.1, (third.0, third.1, tt))))
-    (sizes-short v (codes "cycle") n m l (lit≤ tt) few links least).1
+    (lit< tt, IsAbove-tested 32 (codes "cycle") refl, (first.0, first.1, (second.0, second.1, (third.0, third.1, tt))))
+    (omega (arith, lines v, words-short 8 (codes "cycle") (decimal n ∷ decimal m ∷ decimal l ∷ []) (lit≤ tt) (first.2, (second.2, (third.2, tt)))))
     (Cycle n m l)
     (rw (
       number_of-decimal 1 (ranges_of v).count n hn.some hn.limit (omega (arith, few)),
@@ -238,27 +204,16 @@ cycle_sizes-at v n m l at_line rest hn hm hl =
 
 -- ---- first lines
 
--- all bytes stand on paper
-abbrev printable : List ℕ → Bool
-printable [] = true
-printable (byte ∷ bytes) = ltb 31 byte && printable bytes
-
-above-printable : (line : List ℕ) → printable line ≡ true → IsAbove 31 line
-above-printable [] is = tt
-above-printable (byte ∷ bytes) is =
-    let parts = and_parts (ltb 31 byte) (printable bytes) is in
-    (grind (arith, nat_tests, parts.0), above-printable bytes parts.1)
+first-line : (line rest : List ℕ) → is_above 31 line ≡ true → length line ≤ MAX_HEADER_BYTES
+    → next MAX_HEADER_BYTES header_line (at 1 (line ++ 10 ∷ rest)) ≡ judged (at 1 (line ++ 10 ∷ rest)) (at 2 rest) (header_line line)
+first-line line rest above short = next-line MAX_HEADER_BYTES header_line 1 line rest (IsAbove-tested 31 line above) short
 
 header-at : (v : Version) (level : Level) (rest : List ℕ) → next MAX_HEADER_BYTES header_line (at 1 (line_text (header_words v level) ++ rest))
     ≡ Ok ((v, level), at 2 rest)
-header-at One Causal rest =
-    next-line MAX_HEADER_BYTES header_line 1 (codes "tcc-certificate 1") rest (above-printable (codes "tcc-certificate 1") refl) (lit≤ tt)
-header-at One Atomic rest =
-    next-line MAX_HEADER_BYTES header_line 1 (codes "tcc-certificate 1 atomic") rest (above-printable (codes "tcc-certificate 1 atomic") refl) (lit≤ tt)
-header-at Two Causal rest =
-    next-line MAX_HEADER_BYTES header_line 1 (codes "tcc-certificate 2 causal") rest (above-printable (codes "tcc-certificate 2 causal") refl) (lit≤ tt)
-header-at Two Atomic rest =
-    next-line MAX_HEADER_BYTES header_line 1 (codes "tcc-certificate 2 atomic") rest (above-printable (codes "tcc-certificate 2 atomic") refl) (lit≤ tt)
+header-at One Causal rest = first-line (codes "tcc-certificate 1") rest refl (lit≤ tt)
+header-at One Atomic rest = first-line (codes "tcc-certificate 1 atomic") rest refl (lit≤ tt)
+header-at Two Causal rest = first-line (codes "tcc-certificate 2 causal") rest refl (lit≤ tt)
+header-at Two Atomic rest = first-line (codes "tcc-certificate 2 atomic") rest refl (lit≤ tt)
 
 -- what has a text is read from it
 pub text-back : (c : Certificate) → HasText c → certificate_read (certificate_text c) ≡ Ok c

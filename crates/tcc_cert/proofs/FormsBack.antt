@@ -1,16 +1,16 @@
 -- Each line of a certificate's text is read as what it was written of.
-use Rattle.std.proofs.Common.{◌≡◌, ℕ, ◌*◌, ◌<◌, ◌≤◌, ◌^◌, true, eqb, List, [], ◌∷◌, length, Ok, refl, arith, decimal, lit≤, lit<}
+use Rattle.std.proofs.Common.{◌≡◌, ℕ, ◌+◌, ◌*◌, ◌<◌, ◌≤◌, ◌^◌, true, eqb, List, [], ◌∷◌, length, Ok, refl, arith, codes, decimal, lit≤, lit<}
 use Rattle.tcc_cert.specs.declared.version.Version.{Version}
 use Rattle.tcc_cert.specs.declared.version.Version.TheVariants.{One, Two}
 use Rattle.tcc_cert.specs.Ranges.{ranges_of}
 use Rattle.std.specs.List.{AllByRecursion}
 use Rattle.std.proofs.lemmas.Bool.Decides.{nat_tests}
-use Rattle.std.proofs.lemmas.List.{length-append, length-map}
+use Rattle.std.proofs.lemmas.List.{length-map}
 use Rattle.std.proofs.lemmas.Fmt.{length-decimal-le, decimal_nonempty}
 use Rattle.tcc_graph.specs.declared.step.Step.TheVariants as step
 use Rattle.tcc_cert.specs.Texts.{words_text, numbers_words, step_words, IsNumber, HasStepText}
 use Rattle.tcc_cert.specs.Reading.{number_of, numbers_of, numbers_line, step_line}
-use Rattle.tcc_cert.proofs.ReadingFacts.{IsAbove, AreWords, later, decimal-above, number_of-decimal}
+use Rattle.tcc_cert.proofs.ReadingFacts.{IsAbove, AreWords, words-short, decimal-above, number_of-decimal}
 use Rattle.tcc_cert.proofs.RangeFacts.{costs, numbers, lines}
 use Rattle.tcc_cert.proofs.LinesBack.{IsReadBack}
 
@@ -30,48 +30,34 @@ numbers-back most [] small all = refl
 numbers-back most (n ∷ numbers) small all =
     rw (number_of-decimal 0 most n (omega arith) all.0 (omega (arith, all.0)), numbers-back most numbers small all.1) refl
 
--- the most bytes of a number and the space before it
-abbrev width : Version → ℕ
-width One = 8
-width Two = 9
+-- the most digits of a number
+abbrev digits : Version → ℕ
+digits One = 7
+digits Two = 8
 
-later-short : (v : Version) (numbers : List ℕ) → AreAtMost (ranges_of v).cost numbers → length (later (numbers_words numbers)) ≤ width v * length numbers
-later-short One [] all = lit≤ tt
-later-short Two [] all = lit≤ tt
-later-short One (n ∷ numbers) all =
-    omega (
-      arith,
-      length-append (decimal n) (later (numbers_words numbers)),
-      length-decimal-le 7 n (lit< tt) (omega (arith, all.0)) (omega (arith, all.0)),
-      later-short One numbers all.1,
-    )
-later-short Two (n ∷ numbers) all =
-    omega (
-      arith,
-      length-append (decimal n) (later (numbers_words numbers)),
-      length-decimal-le 8 n (lit< tt) (omega (arith, all.0)) (omega (arith, all.0)),
-      later-short Two numbers all.1,
-    )
+number-short : (v : Version) (n : ℕ) → n ≤ (ranges_of v).cost → length (decimal n) ≤ digits v
+number-short One n le = length-decimal-le 7 n (lit< tt) (omega (arith, le)) (omega (arith, le))
+number-short Two n le = length-decimal-le 8 n (lit< tt) (omega (arith, le)) (omega (arith, le))
+
+each-short : (v : Version) (numbers : List ℕ) → AreAtMost (ranges_of v).cost numbers
+    → AllByRecursion (λ word. length word ≤ digits v) (numbers_words numbers)
+each-short v [] all = tt
+each-short v (n ∷ numbers) all = (number-short v n all.0, each-short v numbers all.1)
+
+-- a line has room for so many, with the bytes between them
+room : (v : Version) (count : ℕ) → count ≤ (ranges_of v).count → (digits v + 1) * count ≤ (ranges_of v).line_bytes + 1
+room One count few = omega (arith, few)
+room Two count few = omega (arith, few)
 
 numbers-short : (v : Version) (numbers : List ℕ) → AreAtMost (ranges_of v).cost numbers → length numbers ≤ (ranges_of v).count
     → length (words_text (numbers_words numbers)) ≤ (ranges_of v).line_bytes
-numbers-short One [] all few = lit≤ tt
-numbers-short Two [] all few = lit≤ tt
-numbers-short One (n ∷ numbers) all few =
+numbers-short v [] all few = omega arith
+numbers-short v (n ∷ numbers) all few =
+    let long = length-map (n ∷ numbers) decimal in
     omega (
       arith,
-      few,
-      length-append (decimal n) (later (numbers_words numbers)),
-      length-decimal-le 7 n (lit< tt) (omega (arith, all.0)) (omega (arith, all.0)),
-      later-short One numbers all.1,
-    )
-numbers-short Two (n ∷ numbers) all few =
-    omega (
-      arith,
-      few,
-      length-append (decimal n) (later (numbers_words numbers)),
-      length-decimal-le 8 n (lit< tt) (omega (arith, all.0)) (omega (arith, all.0)),
-      later-short Two numbers all.1,
+      words-short (digits v) (decimal n) (numbers_words numbers) (number-short v n all.0) (each-short v numbers all.1),
+      room v (length (numbers_words (n ∷ numbers))) (omega (arith, few, long)),
     )
 
 at_most-less : (most more : ℕ) (numbers : List ℕ) → most ≤ more → AreAtMost most numbers → AreAtMost more numbers
@@ -116,6 +102,6 @@ four_digits v n h = length-decimal-le 4 n (lit< tt) (omega (arith, h, numbers v)
 pub session-back : (v : Version) (a b : ℕ) → HasStepText v (step.Session a b) → IsReadBack v (step_line v) step_words (step.Session a b)
 session-back v a b h = record {
   are = (lit< tt, (lit< tt, tt), numbers-two v a b h.0 h.1);
-  short = omega (arith, lines v, length-append (decimal a) (later (decimal b ∷ [])), length-append (decimal b) [], four_digits v a h.0, four_digits v b h.1);
+  short = omega (arith, lines v, words-short 4 (codes "S") (decimal a ∷ decimal b ∷ []) (lit≤ tt) (four_digits v a h.0, (four_digits v b h.1, tt)));
   back = rw (number-back v a h.0, number-back v b h.1) refl;
 }

@@ -1,14 +1,13 @@
 -- Keys, steps and links are read as they were written.
 use Rattle.std.proofs.Common.{◌≡◌, ℕ, ◌+◌, ◌<◌, ◌≤◌, Bool, true, false, not, cond, eqb, ltb, List, [], ◌∷◌, ◌++◌, length, map}
 use Rattle.std.proofs.Common.{All, Option, Some, None, Ok, refl, ap, ◌∙◌, arith, append_assoc, append-nil, inl, inr, codes}
-use Rattle.std.proofs.Common.{decimal, lit<}
+use Rattle.std.proofs.Common.{decimal, lit≤, lit<}
 use Rattle.tcc_cert.specs.declared.version.Version.{Version}
 use Rattle.tcc_cert.specs.Ranges.{ranges_of}
 use Rattle.std.specs.Prelude.{nat_le, position, option_map}
 use Rattle.std.specs.List.{AllByRecursion, prefix_len}
 use Rattle.std.proofs.lemmas.Bool.{cases_lt}
 use Rattle.std.proofs.lemmas.Bool.Decides.{nat_tests}
-use Rattle.std.proofs.lemmas.List.{length-append}
 use Rattle.std.proofs.lemmas.List.Elements.{recursion_from_All}
 use Rattle.std.proofs.lemmas.Fmt.{decimal_nonempty, length-decimal-le}
 use Rattle.tcc_txn.specs.Names.{is_name_byte}
@@ -20,7 +19,7 @@ use Rattle.tcc_graph.specs.declared.link.Link.TheVariants as link
 use Rattle.tcc_cert.specs.Texts.{Words, words_text, line_text, lines_text, step_words, link_lines, IsNumber, IsCount, IsKey, HasStepText, HasLinkText}
 use Rattle.tcc_cert.specs.Reading.{head_of_step, step_line, head_line, words, repeated, with_walk, walk_of, link_at}
 use Rattle.tcc_cert.proofs.Items.{flat_map-map}
-use Rattle.tcc_cert.proofs.ReadingFacts.{IsAbove, AreWords, later, decimal-above, number_of-decimal}
+use Rattle.tcc_cert.proofs.ReadingFacts.{IsAbove, AreWords, words-short, decimal-above, number_of-decimal}
 use Rattle.tcc_cert.proofs.LinesBack.{at, then_ok, words-line, line-at, IsReadBack, IsReadAt, repeated-back}
 use Rattle.tcc_cert.proofs.RangeFacts.{counts, lines}
 use Rattle.tcc_cert.proofs.FormsBack.{IsPlainKey, number-word, number-back, four_digits, session-back}
@@ -71,6 +70,10 @@ key-parts key h =
 
 -- ---- steps
 
+-- a number has no more bytes than a key may have
+within : (v : Version) (n : ℕ) → IsNumber v n → length (decimal n) ≤ 32
+within v n h = omega (arith, four_digits v n h)
+
 pub reads-back : (v : Version) (a b : ℕ) (key : List ℕ) → HasStepText v (step.Reads a b key) → IsReadBack v (step_line v) step_words (step.Reads a b key)
 reads-back v a b key h =
     let k = key-parts key h.2 in
@@ -82,12 +85,7 @@ reads-back v a b key h =
           omega (
             arith,
             lines v,
-            length-append (decimal a) (later (decimal b ∷ key ∷ [])),
-            length-append (decimal b) (later (key ∷ [])),
-            length-append key [],
-            four_digits v a h.0,
-            four_digits v b h.1,
-            k.1,
+            words-short 32 (codes "R") (decimal a ∷ decimal b ∷ key ∷ []) (lit≤ tt) (within v a h.0, (within v b h.1, (k.1, tt))),
           );
       back = rw (number-back v a h.0, number-back v b h.1, h.2) refl;
     }
@@ -143,19 +141,12 @@ derived-short : (v : Version) (b a : ℕ) (key : List ℕ) (c w : ℕ) → IsNum
     → length (words_text (derived_words b a key c w)) ≤ (ranges_of v).line_bytes
 derived-short v b a key c w hb ha hk hc hw =
     let k = key-parts key hk in
+    let steps = length-decimal-le 32 w (lit< tt) (omega (arith, hw.limit, counts v)) (omega (arith, hw.limit, counts v)) in
     omega (
       arith,
       lines v,
-      length-append (decimal b) (later (decimal a ∷ key ∷ decimal c ∷ decimal w ∷ [])),
-      length-append (decimal a) (later (key ∷ decimal c ∷ decimal w ∷ [])),
-      length-append key (later (decimal c ∷ decimal w ∷ [])),
-      length-append (decimal c) (later (decimal w ∷ [])),
-      length-append (decimal w) [],
-      four_digits v b hb,
-      four_digits v a ha,
-      four_digits v c hc,
-      length-decimal-le 4 w (lit< tt) (omega (arith, hw.limit, counts v)) (omega (arith, hw.limit, counts v)),
-      k.1,
+      words-short 32 (codes "D") (decimal b ∷ decimal a ∷ key ∷ decimal c ∷ decimal w ∷ []) (lit≤ tt)
+          (within v b hb, (within v a ha, (k.1, (within v c hc, (steps, tt))))),
     )
 
 derived-head : (v : Version) (b a : ℕ) (key : List ℕ) (c w : ℕ) → IsNumber v b → IsNumber v a → IsKey key → IsNumber v c → IsCount v w

@@ -1,9 +1,12 @@
 -- Lines and words of a text are read as they were written.
-use Rattle.std.proofs.Common.{◌≡◌, ℕ, zero, suc, ◌+◌, ◌^◌, ◌<◌, ◌≤◌, true, false, eqb, ltb, List, []}
+use Rattle.std.proofs.Common.{◌≡◌, ℕ, zero, suc, ◌+◌, ◌*◌, ◌^◌, ◌<◌, ◌≤◌, Bool, true, false, ◌&&◌, eqb, ltb, List, []}
 use Rattle.std.proofs.Common.{◌∷◌, ◌++◌, length, get_or, Ok, refl, ap, ◌∙◌, arith, append-nil, decimal}
 use Rattle.std.proofs.Common.{lit<, lit≤}
 use Rattle.std.specs.Prelude.{flat_map}
+use Rattle.std.specs.List.{AllByRecursion}
 use Rattle.std.specs.Str.{all_ascii_digits}
+use Rattle.std.proofs.Math.Nat.{mul-suc}
+use Rattle.std.proofs.lemmas.Bool.{and_parts}
 use Rattle.std.proofs.lemmas.Bool.Decides.{nat_tests}
 use Rattle.std.proofs.lemmas.List.{take_at, length-append}
 use Rattle.std.proofs.lemmas.Fmt.{decimal_digit, decimal_by_steps, decimal_is_IsNumeral, digits_decimal, first_decimal}
@@ -16,6 +19,17 @@ use Rattle.tcc_cert.specs.Reading.{parted, words_of, number_of, line_length, lin
 abbrev pub IsAbove : ℕ → List ℕ → Type 0
 IsAbove low [] = Unit {0}
 IsAbove low (byte ∷ bytes) = (low < byte) × IsAbove low bytes
+
+-- the same as a test
+abbrev pub is_above : ℕ → List ℕ → Bool
+is_above low [] = true
+is_above low (byte ∷ bytes) = ltb low byte && is_above low bytes
+
+pub IsAbove-tested : (low : ℕ) (bytes : List ℕ) → is_above low bytes ≡ true → IsAbove low bytes
+IsAbove-tested low [] is = tt
+IsAbove-tested low (byte ∷ bytes) is =
+    let parts = and_parts (ltb low byte) (is_above low bytes) is in
+    (grind (arith, nat_tests, parts.0), IsAbove-tested low bytes parts.1)
 
 pub IsAbove-append : (low : ℕ) (s t : List ℕ) → IsAbove low s → IsAbove low t → IsAbove low (s ++ t)
 IsAbove-append low [] t p q = q
@@ -73,6 +87,18 @@ pub words_of-words : (words : Words) → AreWords words → words_of (words_text
 words_of-words [] are = refl
 words_of-words ([] ∷ words) are = absurd (omega (arith, are.0))
 words_of-words ((byte ∷ word) ∷ words) are = parted-words (byte ∷ word) words are.1 are.2
+
+-- words of at most so many bytes, each behind a space
+later-short : (most : ℕ) (words : Words) → AllByRecursion (λ word. length word ≤ most) words → length (later words) ≤ (most + 1) * length words
+later-short most [] short = omega arith
+later-short most (word ∷ words) short =
+    omega (arith, short.0, length-append word (later words), later-short most words short.1, mul-suc (most + 1) (length words))
+
+-- the same of a line, whose first word has no space before it
+pub words-short : (most : ℕ) (word : List ℕ) (words : Words) → length word ≤ most → AllByRecursion (λ w. length w ≤ most) words
+    → length (words_text (word ∷ words)) < (most + 1) * length (word ∷ words)
+words-short most word words first short =
+    omega (arith, first, length-append word (later words), later-short most words short, mul-suc (most + 1) (length words))
 
 -- ---- numbers
 

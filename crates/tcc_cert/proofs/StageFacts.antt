@@ -127,6 +127,15 @@ part-then remaining at {after} {x} read behind result new is on taken =
     subst (λ r. TakesStep remaining at.line (r >>> behind) result new) (sym is)
     (step-earlier remaining after.line at.line (behind (x, after)) result new on taken)
 
+-- the sizes of a claim were read
+pub sizes-then : {R : Type 0} (remaining : R → Option (List ℕ)) (version : Version) (level : Level) (at : Place) {after : Place} {sizes : Sizes}
+    (result : Result (Part × Phase) CertFault) (new : Input R)
+    → words version (sizes_line version) at ≡ Ok (sizes, after) → TakesStep remaining after.line (claim_parts version level sizes after) result new
+    → TakesStep remaining at.line (parts_behind ((version, level), at)) result new
+sizes-then remaining version level at result new is taken =
+    part-then remaining at (words version (sizes_line version) at) (λ sizes. claim_parts version level sizes.0 sizes.1) result new is
+    (onward-at (words version (sizes_line version) at) (onward-words version (sizes_line version) at) is) taken
+
 -- the line before the rows had a fault, or was read, and what comes behind it is given
 pub mark-faults : {F : Type 0} (version : Version) (word : List ℕ) (behind : Place → Parts) (at : Place) (fault : CertFault)
     → ((p : Place) → p.line ≤ (behind p).line) → Faults F at (words version (word_line word) at) fault

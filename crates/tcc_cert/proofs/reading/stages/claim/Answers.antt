@@ -1,9 +1,7 @@
 -- The sizes were read, and then what they are of.
 use Rattle.std.proofs.lemmas.Result.{err_from_is_err_and}
 use Rattle.tcc_cert.specs.Reading.{sizes_line, words}
-use Rattle.tcc_cert.proofs.OnwardFacts.{onward-words}
-use Rattle.tcc_cert.proofs.StepFacts.{onward-at}
-use Rattle.tcc_cert.proofs.StageFacts.{onward-claim, part-faults, part-then}
+use Rattle.tcc_cert.proofs.StageFacts.{onward-claim, part-faults, sizes-then}
 use Rattle.tcc_cert.proofs.reading.stages.claim.Goals as goal
 
 pub returns-in_err-transactions-clause-step : goal.returns-in_err-transactions-clause-step
@@ -14,14 +12,12 @@ returns-in_err-transactions-clause-step g c at before =
 
 pub returns-in-Order-clause-step : goal.returns-in-Order-clause-step
 returns-in-Order-clause-step g c at before =
-    let v = c.args.version in
     let sizes = c.in_ok-transactions.ensures at before in
-    part-then g.R.Read.remaining at (words v (sizes_line v) at) _ c.order.result c.order.new.input sizes.1
-    (onward-at _ (onward-words v (sizes_line v) at) sizes.1) (rw c.in-Order.is (c.order.ensures.step sizes.0 sizes.2))
+    sizes-then g.R.Read.remaining c.args.version c.args.level at c.order.result c.order.new.input sizes.1
+    (rw c.in-Order.is (c.order.ensures.step sizes.0 sizes.2))
 
 pub returns-in-Cycle-clause-step : goal.returns-in-Cycle-clause-step
 returns-in-Cycle-clause-step g c at before =
-    let v = c.args.version in
     let sizes = c.in_ok-transactions.ensures at before in
-    part-then g.R.Read.remaining at (words v (sizes_line v) at) _ c.cycle.result c.cycle.new.input sizes.1
-    (onward-at _ (onward-words v (sizes_line v) at) sizes.1) (rw c.in-Cycle.is (c.cycle.ensures.step sizes.0 sizes.2))
+    sizes-then g.R.Read.remaining c.args.version c.args.level at c.cycle.result c.cycle.new.input sizes.1
+    (rw c.in-Cycle.is (c.cycle.ensures.step sizes.0 sizes.2))
