@@ -8,9 +8,6 @@ use Rattle.tcc_cert.specs.declared.cycle_writer.Stage.{Stage}
 use Rattle.tcc_cert.specs.declared.cycle_writer.Stage.TheVariants.{Near, Far, Failed}
 use Rattle.tcc_cert.specs.CycleRules.{CycleClaim}
 use Rattle.tcc_cert.specs.Texts.{line_text, lines_text, numbers_words, certificate_text}
-use Rattle.tcc_graph.specs.declared.link.Link.{Link}
-use Rattle.tcc_graph.specs.declared.level.Level.{Level}
-use Rattle.tcc_cert.specs.declared.version.Version.{Version}
 use Rattle.tcc_cert.specs.Begun.{begun_lines, given_lines, with_near, with_far, stage_of, far_mark}
 use Rattle.tcc_cert.specs.Given.{HasTaken}
 use Rattle.tcc_cert.specs.Writing.{Sends, Stops, IsSent}
@@ -43,10 +40,14 @@ module _ {W : Type 0} (contents : W → Option (List ℕ)) where
   pub works : {before : Option (List ℕ)} {count : ℕ} {k : CycleClaim} {w : CycleWriter W} → HasTaken contents before count k w → w.stage ≡ Failed → ⊥
   works {before} {count} {k} h is = not_failed k.far (sym h.stage ∙ is)
 
+  -- a call that came so far sent this text
+  abbrev pub IsSentBy : {E : Type 0} → Result Unit E → CycleWriter W → CycleWriter W → List ℕ → Type 0
+  IsSentBy s old new text = IsSent s (contents old.out.now) old.outgoing (contents new.out.now) new.outgoing text
+
   -- a row of `near`
   pub near_whole : {E : Type 0} (s : Result Unit E) (old new : CycleWriter W) (before : Option (List ℕ)) (count : ℕ) (k : CycleClaim) (row : List ℕ)
       → HasTaken contents before count k old → k.far ≡ []
-      → IsSent s (contents old.out.now) old.outgoing (contents new.out.now) new.outgoing (line_text (numbers_words row)) → OnOk s (new.stage ≡ old.stage)
+      → IsSentBy s old new (line_text (numbers_words row)) → OnOk s (new.stage ≡ old.stage)
       → OnOk s (HasTaken contents before count (with_near k row) new)
   near_whole (Ok x) old new before count k row h none sent stage =
       record {
@@ -57,44 +58,51 @@ module _ {W : Type 0} (contents : W → Option (List ℕ)) where
 
   pub near_part : {E : Type 0} (s : Result Unit E) (old new : CycleWriter W) (before : Option (List ℕ)) (count : ℕ) (k : CycleClaim) (row : List ℕ)
       → HasTaken contents before count k old → k.far ≡ []
-      → IsSent s (contents old.out.now) old.outgoing (contents new.out.now) new.outgoing (line_text (numbers_words row))
+      → IsSentBy s old new (line_text (numbers_words row))
       → OnErr s (IsPart before (contents new.out.now) (lines_text (given_lines count (with_near k row))))
   near_part (Ok x) old new before count k row h none sent = tt
   near_part (Err e) old new before count k row h none sent =
       subst (IsPart before (contents new.out.now)) (sym (one_near count k row none)) (Appends-part (Stops-then h.lines sent))
 
+  -- what was given so far, and one row of `far`
+  far_more : {before : Option (List ℕ)} {count : ℕ} {k : CycleClaim} {w : CycleWriter W} (row : List ℕ) → HasTaken contents before count k w
+      → lines_text (given_lines count k) ++ (far_mark w.stage ++ line_text (numbers_words row)) ≡ lines_text (given_lines count (with_far k row))
+  far_more {before} {count} {k} {w} row h =
+      ap (λ stage. lines_text (given_lines count k) ++ (far_mark stage ++ line_text (numbers_words row))) h.stage ∙ sym (one_far count k row)
+
   -- a row of `far`, behind the mark if it is the first
   pub far_whole : {E : Type 0} (s : Result Unit E) (old new : CycleWriter W) (before : Option (List ℕ)) (count : ℕ) (k : CycleClaim) (row : List ℕ)
       → HasTaken contents before count k old
-      → IsSent s (contents old.out.now) old.outgoing (contents new.out.now) new.outgoing (far_mark old.stage ++ line_text (numbers_words row))
+      → IsSentBy s old new (far_mark old.stage ++ line_text (numbers_words row))
       → OnOk s (new.stage ≡ Far)
       → OnOk s (HasTaken contents before count (with_far k row) new)
   far_whole (Ok x) old new before count k row h sent stage = record {
-    lines =
-        subst (Sends before [] (contents new.out.now) new.outgoing)
-        (ap (λ st. lines_text (given_lines count k) ++ (far_mark st ++ line_text (numbers_words row))) h.stage ∙ sym (one_far count k row))
-        (Sends-then h.lines sent);
+    lines = subst (Sends before [] (contents new.out.now) new.outgoing) (far_more row h) (Sends-then h.lines sent);
     stage = stage ∙ sym (stage_more k.far row);
   }
   far_whole (Err e) old new before count k row h sent stage = tt
 
   pub far_part : {E : Type 0} (s : Result Unit E) (old new : CycleWriter W) (before : Option (List ℕ)) (count : ℕ) (k : CycleClaim) (row : List ℕ)
       → HasTaken contents before count k old
-      → IsSent s (contents old.out.now) old.outgoing (contents new.out.now) new.outgoing (far_mark old.stage ++ line_text (numbers_words row))
+      → IsSentBy s old new (far_mark old.stage ++ line_text (numbers_words row))
       → OnErr s (IsPart before (contents new.out.now) (lines_text (given_lines count (with_far k row))))
   far_part (Ok x) old new before count k row h sent = tt
   far_part (Err e) old new before count k row h sent =
-      subst (IsPart before (contents new.out.now))
-      (ap (λ st. lines_text (given_lines count k) ++ (far_mark st ++ line_text (numbers_words row))) h.stage ∙ sym (one_far count k row))
-      (Appends-part (Stops-then h.lines sent))
+      subst (IsPart before (contents new.out.now)) (far_more row h) (Appends-part (Stops-then h.lines sent))
+
+  -- what was given, and the end
+  end_more : {before : Option (List ℕ)} {k : CycleClaim} {w : CycleWriter W} → HasTaken contents before (length k.near) k w
+      → lines_text (given_lines (length k.near) k) ++ (far_mark w.stage ++ line_text (codes "end" ∷ []))
+      ≡ certificate_text (claim.Cycle k.version k.level k.links k.least k.near k.far)
+  end_more {before} {k} {w} h =
+      ap (λ stage. lines_text (given_lines (length k.near) k) ++ (far_mark stage ++ line_text (codes "end" ∷ []))) h.stage ∙ sym (whole_text k)
 
   -- the end
   pub end_whole : (old : CycleWriter W) (after : W) (left : List ℕ) (before : Option (List ℕ)) (k : CycleClaim) → HasTaken contents before (length k.near) k old
       → Sends (contents old.out.now) old.outgoing (contents after) left (far_mark old.stage ++ line_text (codes "end" ∷ [])) → left ≡ []
       → Appends before (contents after) (certificate_text (claim.Cycle k.version k.level k.links k.least k.near k.far))
   end_whole old after left before k h sent none =
-      subst (Appends before (contents after)) (ap (λ st. lines_text (given_lines (length k.near) k) ++ (far_mark st ++ line_text (codes "end" ∷ [])))
-      h.stage ∙ sym (whole_text k))
+      subst (Appends before (contents after)) (end_more h)
       (Appends-whole (subst
       (λ l. Sends before [] (contents after) l (lines_text (given_lines (length k.near) k) ++ (far_mark old.stage ++ line_text (codes "end" ∷ []))))
       none (Sends-then h.lines sent)))
@@ -103,18 +111,15 @@ module _ {W : Type 0} (contents : W → Option (List ℕ)) where
       → Stops (contents old.out.now) old.outgoing (contents after) (far_mark old.stage ++ line_text (codes "end" ∷ []))
       → IsPart before (contents after) (certificate_text (claim.Cycle k.version k.level k.links k.least k.near k.far))
   end_part old after before k h sent =
-      subst (IsPart before (contents after)) (ap (λ st. lines_text (given_lines (length k.near) k) ++ (far_mark st ++ line_text (codes "end" ∷ []))) h.stage
-      ∙ sym (whole_text k))
-      (Appends-part (Stops-then h.lines sent))
+      subst (IsPart before (contents after)) (end_more h) (Appends-part (Stops-then h.lines sent))
 
   -- the lines before the rows are on their way
-  pub begun : (before : Option (List ℕ)) (count : ℕ) (version : Version) (level : Level) (links : List Link) (least : ℕ) (w : CycleWriter W) (after : W)
-      (left : List ℕ)
-      → Sends before [] (contents after) left (lines_text (begun_lines version level count links least)) → w.out.now ≡ after → w.outgoing ≡ left
+  pub begun : (before : Option (List ℕ)) (count : ℕ) (k : CycleClaim) (w : CycleWriter W) (after : W) (left : List ℕ)
+      → Sends before [] (contents after) left (lines_text (begun_lines k.version k.level count k.links k.least)) → w.out.now ≡ after → w.outgoing ≡ left
       → w.stage ≡ Near
-      → HasTaken contents before count (record { version = version; level = level; links = links; least = least; near = []; far = [] }) w
-  begun before count version level links least w after left sent out outgoing stage =
-      let lines = begun_lines version level count links least in
+      → HasTaken contents before count (record k { near = []; far = [] }) w
+  begun before count k w after left sent out outgoing stage =
+      let lines = begun_lines k.version k.level count k.links k.least in
       record {
         lines =
             subst (λ o. Sends before [] (contents o) w.outgoing (lines_text (lines ++ []))) (sym out)

@@ -102,22 +102,6 @@ IsPart a b t = (n : ℕ) × Appends a b (take n t)
 pub part_early : (a b : Option (List ℕ)) (s t : List ℕ) → IsPart a b s → IsPart a b (s ++ t)
 part_early a b s t (n, h) = Appends-part (Stops-early t (drop n s, record { sent = take n s; appended = h; whole = sym (take-append-drop n s) }))
 
--- a part of the text up to a row is one of the text up to a later one
-pub part_near : (a b : Option (List ℕ)) (count : ℕ) (k : CycleClaim) (rows : List (List ℕ)) (i : ℕ) → k.far ≡ []
-    → IsPart a b (lines_text (given_lines count (record k { near = take i rows }))) → IsPart a b (lines_text (given_lines count (record k { near = rows })))
-part_near a b count k rows i none h =
-    rw (ap (λ near. lines_text (given_lines count (record k { near = near }))) (sym (take-append-drop i rows))
-    ∙ near_text count (record k { near = take i rows }) (drop i rows) none)
-    (part_early a b _ _ h)
-
-pub part_far : (a b : Option (List ℕ)) (count : ℕ) (k : CycleClaim) (rows : List (List ℕ)) (i : ℕ)
-    → IsPart a b (lines_text (given_lines count (record k { far = take i rows }))) → IsPart a b (lines_text (given_lines count (record k { far = rows })))
-part_far a b count k rows i h =
-    let more = more_marked (take i rows) (drop i rows) in
-    rw (ap (λ far. lines_text (given_lines count (record k { far = far }))) (sym (take-append-drop i rows))
-    ∙ behind_far count (record k { far = take i rows }) (take i rows ++ drop i rows) more.0 more.1)
-    (part_early a b _ _ h)
-
 -- the rows up to the next one
 pub rows_more : (rows : List (List ℕ)) (i : ℕ) (row : List ℕ) → i < length rows → row ≡ get_or rows i row → take i rows ++ row ∷ [] ≡ take (i + 1) rows
 rows_more rows i row lt is = ap (λ y. take i rows ++ y ∷ []) is ∙ sym (take_at_read rows i row lt).1
@@ -127,28 +111,43 @@ pub rows_next : (rows : List (List ℕ)) (i : ℕ) (row slice : List ℕ) → sl
     → take i rows ++ slice ∷ [] ≡ take (i + 1) rows
 rows_next rows i row slice same lt is = ap (λ y. take i rows ++ y ∷ []) same ∙ rows_more rows i row lt is
 
--- a part of the text up to the next row is one of the text up to the last
-pub part_near_row : (a b : Option (List ℕ)) (count : ℕ) (k : CycleClaim) (rows : List (List ℕ)) (i : ℕ) (slice : List ℕ) → k.far ≡ []
-    → take i rows ++ slice ∷ [] ≡ take (i + 1) rows
-    → IsPart a b (lines_text (given_lines count (with_near (record k { near = take i rows }) slice)))
-    → IsPart a b (lines_text (given_lines count (record k { near = rows })))
-part_near_row a b count k rows i slice none is h =
-    part_near a b count k rows (i + 1) none (subst (λ near. IsPart a b (lines_text (given_lines count (record k { near = near })))) is h)
+module _ (a b : Option (List ℕ)) (count : ℕ) (k : CycleClaim) where
+  -- a part of the text with these rows went out
+  abbrev pub IsNearPart : List (List ℕ) → Type 0
+  IsNearPart near = IsPart a b (lines_text (given_lines count (record k { near = near })))
 
-pub part_far_row : (a b : Option (List ℕ)) (count : ℕ) (k : CycleClaim) (rows : List (List ℕ)) (i : ℕ) (slice : List ℕ)
-    → take i rows ++ slice ∷ [] ≡ take (i + 1) rows
-    → IsPart a b (lines_text (given_lines count (with_far (record k { far = take i rows }) slice)))
-    → IsPart a b (lines_text (given_lines count (record k { far = rows })))
-part_far_row a b count k rows i slice is h =
-    part_far a b count k rows (i + 1) (subst (λ far. IsPart a b (lines_text (given_lines count (record k { far = far })))) is h)
+  abbrev pub IsFarPart : List (List ℕ) → Type 0
+  IsFarPart far = IsPart a b (lines_text (given_lines count (record k { far = far })))
 
--- a part of the text before the rows of `far` is one of the text with them
-pub part_before_far : (a b : Option (List ℕ)) (count : ℕ) (k : CycleClaim) (far : List (List ℕ)) → k.far ≡ []
-    → IsPart a b (lines_text (given_lines count k)) → IsPart a b (lines_text (given_lines count (record k { far = far })))
-part_before_far a b count k far none h =
-    subst (IsPart a b)
-    (sym (behind_far count k far (lines_text (far_lines far)) (ap (λ f. lines_text (far_lines f) ++ lines_text (far_lines far)) (sym none))))
-    (part_early a b _ _ h)
+  -- a part of the text up to a row is one of the text up to a later one
+  part_near : (rows : List (List ℕ)) (i : ℕ) → k.far ≡ [] → IsNearPart (take i rows) → IsNearPart rows
+  part_near rows i none h =
+      rw (ap (λ near. lines_text (given_lines count (record k { near = near }))) (sym (take-append-drop i rows))
+      ∙ near_text count (record k { near = take i rows }) (drop i rows) none)
+      (part_early a b _ _ h)
+
+  part_far : (rows : List (List ℕ)) (i : ℕ) → IsFarPart (take i rows) → IsFarPart rows
+  part_far rows i h =
+      let more = more_marked (take i rows) (drop i rows) in
+      rw (ap (λ far. lines_text (given_lines count (record k { far = far }))) (sym (take-append-drop i rows))
+      ∙ behind_far count (record k { far = take i rows }) (take i rows ++ drop i rows) more.0 more.1)
+      (part_early a b _ _ h)
+
+  -- a part of the text up to the next row is one of the text up to the last
+  pub part_near_row : (rows : List (List ℕ)) (i : ℕ) (slice : List ℕ) → k.far ≡ [] → take i rows ++ slice ∷ [] ≡ take (i + 1) rows
+      → IsPart a b (lines_text (given_lines count (with_near (record k { near = take i rows }) slice))) → IsNearPart rows
+  part_near_row rows i slice none is h = part_near rows (i + 1) none (subst IsNearPart is h)
+
+  pub part_far_row : (rows : List (List ℕ)) (i : ℕ) (slice : List ℕ) → take i rows ++ slice ∷ [] ≡ take (i + 1) rows
+      → IsPart a b (lines_text (given_lines count (with_far (record k { far = take i rows }) slice))) → IsFarPart rows
+  part_far_row rows i slice is h = part_far rows (i + 1) (subst IsFarPart is h)
+
+  -- a part of the text before the rows of `far` is one of the text with them
+  pub part_before_far : (far : List (List ℕ)) → k.far ≡ [] → IsPart a b (lines_text (given_lines count k)) → IsFarPart far
+  part_before_far far none h =
+      subst (IsPart a b)
+      (sym (behind_far count k far (lines_text (far_lines far)) (ap (λ f. lines_text (far_lines f) ++ lines_text (far_lines far)) (sym none))))
+      (part_early a b _ _ h)
 
 -- a part of the text of what was given is one of the whole text
 pub part_given : (a b : Option (List ℕ)) (k : CycleClaim)

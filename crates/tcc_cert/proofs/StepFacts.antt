@@ -49,68 +49,66 @@ rest-none : {X : Type 0} (read : Reads (List X)) → read ≡ before_rest [] rea
 rest-none (Ok x) = refl
 rest-none (Err e) = refl
 
-pub part-none : {X : Type 0} (read : ℕ → Place → Reads X) (count : ℕ) (at : Place) → IsPart read count at [] 0 at
-part-none read count at = record { on = omega arith; part = ap (λ n. numbered read 0 n at) (omega arith) ∙ rest-none _ }
-
 rest-more : {X : Type 0} (front : List X) (x : X) (read : Reads (List X))
     → before_rest front (read >>= λ others. Ok (x ∷ others.0, others.1)) ≡ before_rest (front ++ x ∷ []) read
 rest-more front x (Ok others) = ap (λ l. Ok (l, others.1)) (sym (append_assoc front (x ∷ []) others.0))
 rest-more front x (Err e) = refl
 
-one-more : {X : Type 0} (read : ℕ → Place → Reads X) (i n : ℕ) (now after : Place) (x : X) → read i now ≡ Ok (x, after)
-    → numbered read i (suc n) now ≡ (numbered read (i + 1) n after >>= λ others. Ok (x ∷ others.0, others.1))
-one-more read i n now after x is = rw is refl
+on-rest : {X : Type 0} (front : List X) (read : Reads (List X)) → reached (before_rest front read) ≡ reached read
+on-rest front (Ok x) = refl
+on-rest front (Err e) = refl
 
-pub part-more : {X : Type 0} (read : ℕ → Place → Reads X) (count : ℕ) (at : Place) (front : List X) (i : ℕ) (now after : Place) (x : X) → i < count
-    → IsOnward now (read i now)
-    → IsPart read count at front i now → read i now ≡ Ok (x, after) → IsPart read count at (front ++ x ∷ []) (i + 1) after
-part-more read count at front i now after x lt on so_far is =
-    let left : count - i ≡ suc (count - (i + 1)) = omega arith in
-    record {
-      on = omega (arith, so_far.on, onward-at (read i now) on is);
-      part =
-          so_far.part
-          ∙ ap (λ n. before_rest front (numbered read i n now)) left
-          ∙ ap (before_rest front) (one-more read i (count - (i + 1)) now after x is)
-          ∙ rest-more front x (numbered read (i + 1) (count - (i + 1)) after);
-    }
+module _ {X : Type 0} (read : ℕ → Place → Reads X) (count : ℕ) (at : Place) where
+  pub part-none : IsPart read count at [] 0 at
+  part-none = record { on = omega arith; part = ap (λ n. numbered read 0 n at) (omega arith) ∙ rest-none _ }
 
-pub part-all : {X : Type 0} (read : ℕ → Place → Reads X) (count : ℕ) (at : Place) (front : List X) (i : ℕ) (now : Place) → count ≤ i
-    → IsPart read count at front i now
-    → numbered read 0 count at ≡ Ok (front, now)
-part-all read count at front i now le so_far =
-    let left : count - i ≡ 0 = omega arith in
-    so_far.part ∙ ap (λ n. before_rest front (numbered read i n now)) left ∙ ap (λ l. Ok (l, now)) (append-nil front)
+  one-more : (i n : ℕ) (now after : Place) (x : X) → read i now ≡ Ok (x, after)
+      → numbered read i (suc n) now ≡ (numbered read (i + 1) n after >>= λ others. Ok (x ∷ others.0, others.1))
+  one-more i n now after x is = rw is refl
 
-on-rest : {X : Type 0} (now : Place) (front : List X) (read : Reads (List X)) → reached (before_rest front read) ≡ reached read
-on-rest now front (Ok x) = refl
-on-rest now front (Err e) = refl
+  pub part-more : (front : List X) (i : ℕ) (now after : Place) (x : X) → i < count → IsOnward now (read i now) → IsPart read count at front i now
+      → read i now ≡ Ok (x, after) → IsPart read count at (front ++ x ∷ []) (i + 1) after
+  part-more front i now after x lt on so_far is =
+      let left : count - i ≡ suc (count - (i + 1)) = omega arith in
+      record {
+        on = omega (arith, so_far.on, onward-at (read i now) on is);
+        part =
+            so_far.part
+            ∙ ap (λ n. before_rest front (numbered read i n now)) left
+            ∙ ap (before_rest front) (one-more i (count - (i + 1)) now after x is)
+            ∙ rest-more front x (numbered read (i + 1) (count - (i + 1)) after);
+      }
 
--- the next of them had a fault
-pub part-faults : {X F : Type 0} (read : ℕ → Place → Reads X) (count : ℕ) (at : Place) (front : List X) (i : ℕ) (now : Place) (fault : CertFault) → i < count
-    → ((k : ℕ) (p : Place) → IsOnward p (read k p)) → IsPart read count at front i now → Faults F now (read i now) fault
-    → Faults F at (numbered read 0 count at) fault
-part-faults {X} {F} read count at front i now fault lt on so_far faults =
-    let left : count - i ≡ suc (count - (i + 1)) = omega arith in
-    let n = count - (i + 1) in
-    let one =
-    first-faults (read i now) (λ first. numbered read (i + 1) n first.1 >>= λ others. Ok (first.0 ∷ others.0, others.1)) fault
-    (λ first. onward-then first.1 (numbered read (i + 1) n first.1) _ (onward-numbered read (i + 1) n on first.1)
-    (λ others. onward-ok (first.0 ∷ others.0) others.1 others.1 (omega arith))) faults in
-    let whole =
-    first-faults (numbered read i (suc n) now) (λ rest. Ok (front ++ rest.0, rest.1)) fault
-    (λ rest. onward-ok (front ++ rest.0) rest.1 rest.1 (omega arith)) one in
-    subst (λ r. Faults F at r fault) (sym (so_far.part ∙ ap (λ m. before_rest front (numbered read i m now)) left))
-    (faults-from (before_rest front (numbered read i (suc n) now)) fault so_far.on whole)
+  pub part-all : (front : List X) (i : ℕ) (now : Place) → count ≤ i → IsPart read count at front i now → numbered read 0 count at ≡ Ok (front, now)
+  part-all front i now le so_far =
+      let left : count - i ≡ 0 = omega arith in
+      so_far.part ∙ ap (λ n. before_rest front (numbered read i n now)) left ∙ ap (λ l. Ok (l, now)) (append-nil front)
 
--- memory was refused between two of them
-pub part-refused : {X F : Type 0} (read : ℕ → Place → Reads X) (count : ℕ) (at : Place) (front : List X) (i : ℕ) (now : Place) (kind : CertFaultKind)
-    → ((k : ℕ) (p : Place) → IsOnward p (read k p)) → IsPart read count at front i now → IsFailure F kind
-    → Faults F at (numbered read 0 count at) (record { line = now.line; kind = kind })
-part-refused read count at front i now kind on so_far failure =
-    let end = (onward-numbered read i (count - i) on now).onward in
-    let same = ap reached so_far.part ∙ on-rest now front (numbered read i (count - i) now) in
-    inr (record { failure = failure; first = so_far.on; last = omega (arith, same, end) })
+  -- the next of them had a fault
+  pub part-faults : {F : Type 0} (front : List X) (i : ℕ) (now : Place) (fault : CertFault) → i < count → ((k : ℕ) (p : Place) → IsOnward p (read k p))
+      → IsPart read count at front i now → Faults F now (read i now) fault
+      → Faults F at (numbered read 0 count at) fault
+  part-faults {F} front i now fault lt on so_far faults =
+      let left : count - i ≡ suc (count - (i + 1)) = omega arith in
+      let n = count - (i + 1) in
+      let one =
+      first-faults (read i now) (λ first. numbered read (i + 1) n first.1 >>= λ others. Ok (first.0 ∷ others.0, others.1)) fault
+      (λ first. onward-then first.1 (numbered read (i + 1) n first.1) _ (onward-numbered read (i + 1) n on first.1)
+      (λ others. onward-ok (first.0 ∷ others.0) others.1 others.1 (omega arith))) faults in
+      let whole =
+      first-faults (numbered read i (suc n) now) (λ rest. Ok (front ++ rest.0, rest.1)) fault
+      (λ rest. onward-ok (front ++ rest.0) rest.1 rest.1 (omega arith)) one in
+      subst (λ r. Faults F at r fault) (sym (so_far.part ∙ ap (λ m. before_rest front (numbered read i m now)) left))
+      (faults-from (before_rest front (numbered read i (suc n) now)) fault so_far.on whole)
+
+  -- memory was refused between two of them
+  pub part-refused : {F : Type 0} (front : List X) (i : ℕ) (now : Place) (kind : CertFaultKind) → ((k : ℕ) (p : Place) → IsOnward p (read k p))
+      → IsPart read count at front i now → IsFailure F kind
+      → Faults F at (numbered read 0 count at) (record { line = now.line; kind = kind })
+  part-refused front i now kind on so_far failure =
+      let end = (onward-numbered read i (count - i) on now).onward in
+      let same = ap reached so_far.part ∙ on-rest front (numbered read i (count - i) now) in
+      inr (record { failure = failure; first = so_far.on; last = omega (arith, same, end) })
 
 -- ---- the next line
 

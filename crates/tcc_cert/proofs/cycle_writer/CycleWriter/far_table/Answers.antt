@@ -1,11 +1,9 @@
 -- Row after row is given.
 use Rattle.std.proofs.Common.{◌∙◌, subst, take}
 use Rattle.std.proofs.lemmas.List.{take_all}
-use Rattle.tcc_cert.specs.Texts.{lines_text}
-use Rattle.tcc_cert.specs.Begun.{given_lines}
 use Rattle.tcc_cert.specs.Given.{HasTaken}
 use Rattle.tcc_cert.proofs.SentFacts.{on_err}
-use Rattle.tcc_cert.proofs.GivenTexts.{IsPart, rows_next, part_far_row}
+use Rattle.tcc_cert.proofs.GivenTexts.{IsFarPart, rows_next, part_far_row}
 use Rattle.tcc_cert.proofs.GivenFacts.{far_next}
 use Rattle.tcc_cert.proofs.cycle_writer.CycleWriter.far_table.Goals as goal
 
@@ -15,8 +13,7 @@ returns-in_err-far_row-clause-part g c =
     let i = c.loop-row.row-index in
     let next = rows_next rows i c.row-item.result c.as_slice.result.now c.as_slice.ensures c.loop-row-test.true c.row-item.is in
     λ before count k h none. on_err c.from_residual.result
-    (subst (λ far. IsPart before (g.W.Write.contents c.far_row.new.self.out.now)
-    (lines_text (given_lines count (record k { far = far })))) c.rows-row-items.ensures
+    (subst (IsFarPart before (g.W.Write.contents c.far_row.new.self.out.now) count k) c.rows-row-items.ensures
     (part_far_row before (g.W.Write.contents c.far_row.new.self.out.now) count k rows i c.as_slice.result.now next
     (c.in_err-far_row.ensures.part before count (record k { far = take i rows }) (c.loop-row.invariant.1 before count k h none))))
 

@@ -1,7 +1,8 @@
 -- The first line was read, and then the walk.
-use Rattle.std.proofs.Common.{◌∙◌, arith}
+use Rattle.std.proofs.Common.{List, ◌∙◌, arith}
 use Rattle.std.proofs.lemmas.Result.{err_from_is_err_and}
-use Rattle.tcc_cert.specs.Reading.{step_line, head_line, words, repeated, with_walk, walk_of}
+use Rattle.tcc_graph.specs.declared.step.Step.{Step}
+use Rattle.tcc_cert.specs.Reading.{Place, step_line, head_line, words, repeated, with_walk, walk_of}
 use Rattle.tcc_cert.proofs.LinesBack.{then_ok}
 use Rattle.tcc_cert.proofs.OnwardFacts.{onward-words, onward-walk, onward-ok}
 use Rattle.tcc_cert.proofs.StepFacts.{first-faults, later-faults, onward-at}
@@ -9,19 +10,20 @@ use Rattle.tcc_cert.proofs.reading.links.link.Goals as goal
 
 pub returns-in_err-head : goal.returns-in_err-head
 returns-in_err-head g c at before =
+    let v = c.args.version in
     let p = err_from_is_err_and c.from_residual.result c.from_residual.ensures.1 in
-    rw (p.1, p.2) (first-faults (words c.args.version (head_line c.args.version) at) (walk_of c.args.version) _ (onward-walk c.args.version)
-    (c.in_err-head.ensures at before))
+    rw (p.1, p.2) (first-faults (words v (head_line v) at) (walk_of v) _ (onward-walk v) (c.in_err-head.ensures at before))
 
 pub returns-in_err-walk : goal.returns-in_err-walk
 returns-in_err-walk g c at before =
+    let v = c.args.version in
     let p = err_from_is_err_and c.from_residual-in_err-walk.result c.from_residual-in_err-walk.ensures.1 in
     let head = c.in_ok-head.ensures at before in
     let value = c.in_ok-head.head in
-    rw (p.1, p.2) (later-faults (words c.args.version (head_line c.args.version) at) (walk_of c.args.version) _ head.1
-    (onward-at (words c.args.version (head_line c.args.version) at) (onward-words c.args.version (head_line c.args.version) at) head.1)
-    (first-faults (repeated (words c.args.version (step_line c.args.version)) value.steps head.0) _
-    _ (λ walk. onward-ok (with_walk value.link walk.0) walk.1 walk.1 (omega arith)) (c.in_err-walk.ensures head.0 head.2)))
+    let onward = λ (walk : List Step × Place). onward-ok (with_walk value.link walk.0) walk.1 walk.1 (omega arith) in
+    rw (p.1, p.2) (later-faults (words v (head_line v) at) (walk_of v) _ head.1
+    (onward-at (words v (head_line v) at) (onward-words v (head_line v) at) head.1)
+    (first-faults (repeated (words v (step_line v)) value.steps head.0) _ _ onward (c.in_err-walk.ensures head.0 head.2)))
 
 pub returns : goal.returns
 returns g c at before =

@@ -1,46 +1,51 @@
 -- One more step.
-use Rattle.std.proofs.Common.{inr, refl}
+use Rattle.std.proofs.Common.{ℕ, inr, refl}
 use Rattle.std.proofs.lemmas.Result.{err_from_is_err_and}
+use Rattle.tcc_graph.specs.declared.step.Step.{Step}
 use Rattle.tcc_cert.specs.declared.fault.CertFaultKind.TheVariants.{NoMemory}
-use Rattle.tcc_cert.specs.Reading.{step_line, words}
-use Rattle.tcc_cert.proofs.OnwardFacts.{onward-words}
+use Rattle.tcc_cert.specs.declared.version.Version.{Version}
+use Rattle.tcc_cert.specs.Reading.{Place, Reads, step_line, words}
+use Rattle.tcc_cert.proofs.OnwardFacts.{IsOnward, onward-words}
 use Rattle.tcc_cert.proofs.StepFacts.{part-none, part-more, part-all, part-faults, part-refused}
 use Rattle.tcc_cert.proofs.reading.links.walk.Goals as goal
 
+-- a step, whichever it is
+abbrev step_at : Version → ℕ → Place → Reads Step
+step_at version i = words version (step_line version)
+
+onward-step : (version : Version) (i : ℕ) (at : Place) → IsOnward at (step_at version i at)
+onward-step version i at = onward-words version (step_line version) at
+
 pub lines-init : goal.lines-init
-lines-init g c at before = (at, rw c.new-steps.ensures.items (part-none (λ i. words c.args.version (step_line c.args.version)) c.args.count at), before)
+lines-init g c at before = (at, rw c.new-steps.ensures.items (part-none (step_at c.args.version) c.args.count at), before)
 
 pub returns-in_err-one : goal.returns-in_err-one
 returns-in_err-one g c at before =
     let now = c.lines.invariant at before in
     let p = err_from_is_err_and c.from_residual.result c.from_residual.ensures.1 in
-    rw (p.1, p.2) (part-faults (λ i. words c.args.version (step_line c.args.version)) c.args.count at c.lines.steps.items c.lines.counter now.0 _
-    c.lines-test.true (λ i place. onward-words c.args.version (step_line c.args.version) place) now.1 (c.in_err-one.ensures now.0 now.2))
+    rw (p.1, p.2) (part-faults (step_at c.args.version) c.args.count at c.lines.steps.items c.lines.counter now.0 _ c.lines-test.true
+    (onward-step c.args.version) now.1 (c.in_err-one.ensures now.0 now.2))
 
 pub returns-in-Err : goal.returns-in-Err
 returns-in-Err g c at before =
     let now = c.lines.invariant at before in
     let one = c.in_ok-one.ensures now.0 now.2 in
-    rw (c.fault.ensures, one.2.number) (part-refused (λ i. words c.args.version (step_line c.args.version)) c.args.count at _ _ one.0 NoMemory
-    (λ i place. onward-words c.args.version (step_line c.args.version) place)
-    (part-more (λ i. words c.args.version (step_line c.args.version)) c.args.count at c.lines.steps.items c.lines.counter now.0 one.0 c.in_ok-one.one
-    c.lines-test.true (onward-words c.args.version (step_line c.args.version) now.0) now.1 one.1) (inr refl))
+    let more =
+    part-more (step_at c.args.version) c.args.count at c.lines.steps.items c.lines.counter now.0 one.0 c.in_ok-one.one c.lines-test.true
+    (onward-step c.args.version c.lines.counter now.0) now.1 one.1 in
+    rw (c.fault.ensures, one.2.number) (part-refused (step_at c.args.version) c.args.count at _ _ one.0 NoMemory (onward-step c.args.version) more (inr refl))
 
 pub lines-preserved : goal.lines-preserved
 lines-preserved g c at before =
     let now = c.lines.invariant at before in
-    let one = c.in_ok-one.ensures now.0 now.2 in (
-      one.0,
-      rw c.in-Ok.ensures.items (part-more (λ i. words c.args.version (step_line c.args.version)) c.args.count at c.lines.steps.items c.lines.counter
-          now.0 one.0 c.in_ok-one.one c.lines-test.true (onward-words c.args.version (step_line c.args.version) now.0) now.1 one.1),
-      one.2,
-    )
+    let one = c.in_ok-one.ensures now.0 now.2 in
+    let more =
+    part-more (step_at c.args.version) c.args.count at c.lines.steps.items c.lines.counter now.0 one.0 c.in_ok-one.one c.lines-test.true
+    (onward-step c.args.version c.lines.counter now.0) now.1 one.1 in
+    (one.0, rw c.in-Ok.ensures.items more, one.2)
 
 pub returns : goal.returns
 returns g c at before =
-    let now = c.lines.invariant at before in (
-      now.0,
-      rw c.new.ensures (part-all (λ i. words c.args.version (step_line c.args.version)) c.args.count at c.lines.steps.items c.lines.counter now.0
-          c.lines-test.false now.1),
-      now.2,
-    )
+    let now = c.lines.invariant at before in
+    let all = part-all (step_at c.args.version) c.args.count at c.lines.steps.items c.lines.counter now.0 c.lines-test.false now.1 in
+    (now.0, rw c.new.ensures all, now.2)
