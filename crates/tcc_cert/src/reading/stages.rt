@@ -48,12 +48,11 @@ pub(crate) enum Phase {
     Stopped(CertFault),
 }
 
+/// A part, and what stands behind it, or the first fault.
+pub(crate) type NextPart = Result<(Part, Phase), CertFault>;
+
 /// The last line, and nothing behind it.
-fn end<R: Read>(
-    alloc: Global,
-    input: &mut Input<R>,
-    version: Version,
-) -> Result<(Part, Phase), CertFault>
+fn end<R: Read>(alloc: Global, input: &mut Input<R>, version: Version) -> NextPart
     ensures step { (at : Place) → IsAt R.remaining input.old at → TakesStep R.remaining at.line (end_parts version at) result input.new }
     ensures row { (left : ℕ) → IfOk result (λ given. IsRowStep left given) }
 {
@@ -69,7 +68,7 @@ fn table_row<R: Read>(
     version: Version,
     table: TableShape,
     left: u32,
-) -> Result<(Part, Phase), CertFault>
+) -> NextPart
     requires { 0 < left }
     ensures step { (at : Place) (from : ℕ) → from + left ≡ height table → IsAt R.remaining input.old at
         → TakesStep R.remaining at.line (table_rows version table from left at) result input.new }
@@ -91,7 +90,7 @@ fn far<R: Read>(
     input: &mut Input<R>,
     version: Version,
     transactions: u32,
-) -> Result<(Part, Phase), CertFault>
+) -> NextPart
     ensures step { (at : Place) → IsAt R.remaining input.old at → TakesStep R.remaining at.line (far_parts version transactions at) result input.new }
     ensures row { IfOk result (λ given. IsRowStep transactions given) }
 {
@@ -110,7 +109,7 @@ fn behind_table<R: Read>(
     input: &mut Input<R>,
     version: Version,
     table: TableShape,
-) -> Result<(Part, Phase), CertFault>
+) -> NextPart
     ensures step { (at : Place) → IsAt R.remaining input.old at → TakesStep R.remaining at.line (behind_table version table at) result input.new }
     ensures row { IfOk result (λ given. IsRowStep (rows_from table 0) given) }
 {
@@ -127,7 +126,7 @@ fn rows<R: Read>(
     version: Version,
     table: TableShape,
     left: u32,
-) -> Result<(Part, Phase), CertFault>
+) -> NextPart
     ensures step { (at : Place) (from : ℕ) → from + left ≡ height table → IsAt R.remaining input.old at
         → TakesStep R.remaining at.line (table_rows version table from left at) result input.new }
     ensures row { IfOk result (λ given. IsRowStep (rows_from table left) given) }
@@ -145,7 +144,7 @@ fn marked<R: Read>(
     input: &mut Input<R>,
     version: Version,
     table: TableShape,
-) -> Result<(Part, Phase), CertFault>
+) -> NextPart
     ensures step { (at : Place) → IsAt R.remaining input.old at → TakesStep R.remaining at.line (table_parts version table at) result input.new }
     ensures row { IfOk result (λ given. IsRowStep (rows_from table (height table)) given) }
 {
@@ -180,7 +179,7 @@ fn order<R: Read>(
     level: Level,
     transactions: u32,
     sessions: u32,
-) -> Result<(Part, Phase), CertFault>
+) -> NextPart
     ensures step { (at : Place) → IsAt R.remaining input.old at
         → TakesStep R.remaining at.line (order_parts version level transactions sessions at) result input.new }
     ensures claim { IfOk result IsClaimStep }
@@ -213,11 +212,7 @@ struct CycleStart {
 }
 
 /// The claim of a cycle.
-fn cycle<R: Read>(
-    alloc: Global,
-    input: &mut Input<R>,
-    start: CycleStart,
-) -> Result<(Part, Phase), CertFault>
+fn cycle<R: Read>(alloc: Global, input: &mut Input<R>, start: CycleStart) -> NextPart
     ensures step { (at : Place) → IsAt R.remaining input.old at
         → TakesStep R.remaining at.line (cycle_parts start.version start.level start.transactions start.links start.least at) result input.new }
     ensures claim { IfOk result IsClaimStep }
@@ -240,12 +235,7 @@ fn cycle<R: Read>(
 }
 
 /// What stands behind the first line, up to the tables.
-fn claim<R: Read>(
-    alloc: Global,
-    input: &mut Input<R>,
-    version: Version,
-    level: Level,
-) -> Result<(Part, Phase), CertFault>
+fn claim<R: Read>(alloc: Global, input: &mut Input<R>, version: Version, level: Level) -> NextPart
     ensures step { (at : Place) → IsAt R.remaining input.old at → TakesStep R.remaining at.line (parts_behind ((version, level), at)) result input.new }
     ensures claim { IfOk result IsClaimStep }
 {
@@ -272,7 +262,7 @@ fn claim<R: Read>(
 }
 
 /// The text up to the tables.
-fn whole<R: Read>(alloc: Global, input: &mut Input<R>) -> Result<(Part, Phase), CertFault>
+fn whole<R: Read>(alloc: Global, input: &mut Input<R>) -> NextPart
     ensures step { (at : Place) → IsAt R.remaining input.old at → TakesStep R.remaining at.line (whole_parts at) result input.new }
     ensures claim { IfOk result IsClaimStep }
 {
@@ -281,11 +271,7 @@ fn whole<R: Read>(alloc: Global, input: &mut Input<R>) -> Result<(Part, Phase), 
 }
 
 /// The next part, and what stands behind it.
-pub(crate) fn step<R: Read>(
-    alloc: Global,
-    input: &mut Input<R>,
-    stage: Stage,
-) -> Result<(Part, Phase), CertFault>
+pub(crate) fn step<R: Read>(alloc: Global, input: &mut Input<R>, stage: Stage) -> NextPart
     ensures step { (at : Place) (ahead : Parts) → IsAt R.remaining input.old at → IsBehind stage at ahead
         → TakesStep R.remaining at.line ahead result input.new }
     ensures follows { IfOk result (λ given. IsStepAt stage given) }

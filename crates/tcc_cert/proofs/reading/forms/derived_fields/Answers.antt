@@ -4,12 +4,6 @@ use Rattle.std.proofs.lemmas.Bool.Decides.{nat_tests}
 use Rattle.tcc_cert.specs.Reading.{derived_of}
 use Rattle.tcc_cert.proofs.WordFacts.{five_words-other}
 use Rattle.tcc_cert.proofs.reading.forms.derived_fields.Goals as goal
-use Rattle.tcc_cert.proofs.reading.forms.derived_fields.Goals.{in_default-via-then-fields-lt5, in_default-via-else-fields-lt5+else-fields-lt6}
 
 pub returns-in_default : goal.returns-in_default
-returns-in_default c =
-    elim c.in_default.branch [
-      | in_default-via-then-fields-lt5 w ↦ five_words-other (derived_of c.args.version) (λ word. word.now) c.args.fields.now (grind (arith, nat_tests))
-      | in_default-via-else-fields-lt5+else-fields-lt6 w ↦ five_words-other (derived_of c.args.version) (λ word. word.now) c.args.fields.now
-          (grind (arith, nat_tests))
-    ]
+returns-in_default c = five_words-other (derived_of c.args.version) (λ word. word.now) c.args.fields.now (grind (arith, nat_tests))

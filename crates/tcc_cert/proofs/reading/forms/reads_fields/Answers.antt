@@ -4,12 +4,6 @@ use Rattle.std.proofs.lemmas.Bool.Decides.{nat_tests}
 use Rattle.tcc_cert.specs.Reading.{reads_of}
 use Rattle.tcc_cert.proofs.WordFacts.{three_words-other}
 use Rattle.tcc_cert.proofs.reading.forms.reads_fields.Goals as goal
-use Rattle.tcc_cert.proofs.reading.forms.reads_fields.Goals.{in_default-via-then-fields-lt3, in_default-via-else-fields-lt3+else-fields-lt4}
 
 pub returns-in_default : goal.returns-in_default
-returns-in_default c =
-    elim c.in_default.branch [
-      | in_default-via-then-fields-lt3 w ↦ three_words-other (reads_of c.args.version) (λ word. word.now) c.args.fields.now (grind (arith, nat_tests))
-      | in_default-via-else-fields-lt3+else-fields-lt4 w ↦ three_words-other (reads_of c.args.version) (λ word. word.now) c.args.fields.now
-          (grind (arith, nat_tests))
-    ]
+returns-in_default c = three_words-other (reads_of c.args.version) (λ word. word.now) c.args.fields.now (grind (arith, nat_tests))

@@ -4,12 +4,6 @@ use Rattle.std.proofs.lemmas.Bool.Decides.{nat_tests}
 use Rattle.tcc_cert.specs.Reading.{session_of}
 use Rattle.tcc_cert.proofs.WordFacts.{two_words-other}
 use Rattle.tcc_cert.proofs.reading.forms.session_fields.Goals as goal
-use Rattle.tcc_cert.proofs.reading.forms.session_fields.Goals.{in_default-via-then-fields-lt2, in_default-via-else-fields-lt2+else-fields-lt3}
 
 pub returns-in_default : goal.returns-in_default
-returns-in_default c =
-    elim c.in_default.branch [
-      | in_default-via-then-fields-lt2 w ↦ two_words-other (session_of c.args.version) (λ word. word.now) c.args.fields.now (grind (arith, nat_tests))
-      | in_default-via-else-fields-lt2+else-fields-lt3 w ↦ two_words-other (session_of c.args.version) (λ word. word.now) c.args.fields.now
-          (grind (arith, nat_tests))
-    ]
+returns-in_default c = two_words-other (session_of c.args.version) (λ word. word.now) c.args.fields.now (grind (arith, nat_tests))
