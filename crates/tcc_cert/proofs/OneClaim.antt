@@ -16,7 +16,7 @@ use Rattle.tcc_graph.specs.declared.link.Link.{Link}
 use Rattle.tcc_cert.specs.declared.certificate.Certificate.{Certificate}
 use Rattle.tcc_cert.specs.declared.certificate.Certificate.TheVariants as claim
 use Rattle.tcc_cert.specs.declared.fault.CertFaultKind.{CertFaultKind}
-use Rattle.tcc_cert.specs.declared.fault.CertFaultKind.TheVariants.{Header, Word, Trailing}
+use Rattle.tcc_cert.specs.declared.fault.CertFaultKind.TheVariants.{Header, Trailing}
 use Rattle.tcc_cert.specs.declared.reading.forms.Sizes.{Sizes}
 use Rattle.tcc_cert.specs.declared.reading.forms.Sizes.TheVariants.{Order, Cycle}
 use Rattle.tcc_cert.specs.Tables.{lowest}
@@ -31,7 +31,7 @@ use Rattle.tcc_cert.proofs.Items.{flat_map-map, flat_map-flat_map}
 use Rattle.tcc_cert.proofs.RangeFacts.{costs, numbers, sessions_are}
 use Rattle.tcc_cert.proofs.Numbered.{each-one, from-widths, same-each}
 use Rattle.tcc_cert.proofs.ClaimsBack.{order_text, cycle_text}
-use Rattle.tcc_cert.proofs.OneText.{then_parts, allowed_parts, same_ok, same_pair, number-text, count, same-bytes, two_parts, three_parts}
+use Rattle.tcc_cert.proofs.OneText.{then_parts, allowed_parts, same_ok, same_pair, number-text, count, same-bytes, two_parts, three_parts, by_word-parts}
 use Rattle.tcc_cert.proofs.OneText.{two_equal, three_equal, choice, mark, row-text, next-text, words-text, IsReadFrom, numbered-text}
 use Rattle.tcc_cert.proofs.OneText.{repeated-text, link-from}
 
@@ -211,20 +211,20 @@ cycle-sizes v a b c sizes e =
     subst (IsSizesText v (codes "cycle" ∷ a ∷ b ∷ c ∷ [])) (same_ok third.2) (n.1, m.1, l.high, three_equal (codes "cycle") n.0 m.0 l.text)
 
 sizes-choice : (v : Version) (word : List ℕ) (fields : Words) (sizes : Sizes)
-    → ((same word (codes "order") ≡ true) × (two_words (order_sizes v) fields ≡ Ok sizes))
-    ⊎ ((same word (codes "order") ≡ false) × (cond (same word (codes "cycle")) (three_words (cycle_sizes v) fields) (Err Word) ≡ Ok sizes))
+    → ((word ≡ codes "order") × (two_words (order_sizes v) fields ≡ Ok sizes)) ⊎ ((word ≡ codes "cycle") × (three_words (cycle_sizes v) fields ≡ Ok sizes))
     → IsSizesText v (word ∷ fields) sizes
 sizes-choice v word fields sizes (inl is) =
     let parts = two_parts (order_sizes v) fields sizes is.1 in
-    rw (same-bytes word (codes "order") is.0, parts.2) (order-sizes v parts.0 parts.1 sizes parts.3)
+    rw (is.0, parts.2) (order-sizes v parts.0 parts.1 sizes parts.3)
 sizes-choice v word fields sizes (inr is) =
-    let other = allowed_parts (same word (codes "cycle")) Word (three_words (cycle_sizes v) fields) sizes is.1 in
-    let parts = three_parts (cycle_sizes v) fields sizes other.1 in
-    rw (same-bytes word (codes "cycle") other.0, parts.3) (cycle-sizes v parts.0 parts.1 parts.2 sizes parts.4)
+    let parts = three_parts (cycle_sizes v) fields sizes is.1 in
+    rw (is.0, parts.3) (cycle-sizes v parts.0 parts.1 parts.2 sizes parts.4)
 
 sizes-text : (v : Version) (ws : Words) (sizes : Sizes) → sizes_line v ws ≡ Ok sizes → IsSizesText v ws sizes
 sizes-text v [] sizes e = absurd cc
-sizes-text v (word ∷ fields) sizes e = sizes-choice v word fields sizes (choice (same word (codes "order")) (two_words (order_sizes v) fields) _ (Ok sizes) e)
+sizes-text v (word ∷ fields) sizes e =
+    sizes-choice v word fields sizes
+    (by_word-parts (codes "order") (codes "cycle") (two_words (order_sizes v)) (three_words (cycle_sizes v)) word fields sizes e)
 
 -- ---- first lines
 

@@ -31,7 +31,7 @@ use Rattle.tcc_cert.specs.Texts.{Words, words_text, line_text, lines_text, numbe
 use Rattle.tcc_cert.specs.Texts.{step_words, link_lines, IsNumber, IsCount, IsKey, HasStepText}
 use Rattle.tcc_cert.specs.Texts.{HasLinkText}
 use Rattle.tcc_cert.specs.Reading.{◌>>=◌, words_of, parted, is_decimal, number_of, transaction_of, count_of, key_of, word_line}
-use Rattle.tcc_cert.specs.Reading.{numbers_of, numbers_line, two_words, three_words, five_words, session_of, reads_of, step_line}
+use Rattle.tcc_cert.specs.Reading.{numbers_of, numbers_line, two_words, three_words, five_words, by_word, session_of, reads_of, step_line}
 use Rattle.tcc_cert.specs.Reading.{head_of_step, derived_of, head_line, Place, Reads, judged, line_length, line_of, behind, next}
 use Rattle.tcc_cert.specs.Reading.{words, numbered, repeated, walk_of, link_at}
 use Rattle.tcc_cert.proofs.RangeFacts.{numbers, counts}
@@ -200,27 +200,36 @@ pub choice : {A : Type 0} (t : Bool) (x y z : A) → cond t x y ≡ z → ((t �
 choice true x y z e = inl (refl, e)
 choice false x y z e = inr (refl, e)
 
-step-second : (version : Version) (word : List ℕ) (fields : Words) (s : Step)
-    → cond (same word (codes "R")) (three_words (reads_of version) fields) (Err Word) ≡ Ok s → HasStepText version s × (word ∷ fields ≡ step_words s)
-step-second version word fields s e =
-    let is = allowed_parts (same word (codes "R")) Word (three_words (reads_of version) fields) s e in
-    let parts = three_parts (reads_of version) fields s is.1 in
-    let read = reads version parts.0 parts.1 parts.2 s parts.4 in
-    (read.0, rw (same-bytes word (codes "R") is.0, parts.3) read.1)
+-- a line that begins with one of two words
+pub by_word-parts : {X : Type 0} (one other : List ℕ) (behind_one behind_other : Words → Result X CertFaultKind) (word : List ℕ) (fields : Words) (x : X)
+    → by_word one behind_one other behind_other (word ∷ fields) ≡ Ok x
+    → ((word ≡ one) × (behind_one fields ≡ Ok x)) ⊎ ((word ≡ other) × (behind_other fields ≡ Ok x))
+by_word-parts {X} one other behind_one behind_other word fields x e = by (choice (same word one) (behind_one fields) _ (Ok x) e)
+  where
+    by : ((same word one ≡ true) × (behind_one fields ≡ Ok x)) ⊎ ((same word one ≡ false) × (cond (same word other) (behind_other fields) (Err Word) ≡ Ok x))
+        → ((word ≡ one) × (behind_one fields ≡ Ok x)) ⊎ ((word ≡ other) × (behind_other fields ≡ Ok x))
+    by (inl is) = inl (same-bytes word one is.0, is.1)
+    by (inr is) =
+        let parts = allowed_parts (same word other) Word (behind_other fields) x is.1 in
+        inr (same-bytes word other parts.0, parts.1)
 
 step-choice : (version : Version) (word : List ℕ) (fields : Words) (s : Step)
-    → ((same word (codes "S") ≡ true) × (two_words (session_of version) fields ≡ Ok s))
-    ⊎ ((same word (codes "S") ≡ false) × (cond (same word (codes "R")) (three_words (reads_of version) fields) (Err Word) ≡ Ok s))
+    → ((word ≡ codes "S") × (two_words (session_of version) fields ≡ Ok s)) ⊎ ((word ≡ codes "R") × (three_words (reads_of version) fields ≡ Ok s))
     → HasStepText version s × (word ∷ fields ≡ step_words s)
 step-choice version word fields s (inl is) =
     let parts = two_parts (session_of version) fields s is.1 in
     let read = session version parts.0 parts.1 s parts.3 in
-    (read.0, rw (same-bytes word (codes "S") is.0, parts.2) read.1)
-step-choice version word fields s (inr is) = step-second version word fields s is.1
+    (read.0, rw (is.0, parts.2) read.1)
+step-choice version word fields s (inr is) =
+    let parts = three_parts (reads_of version) fields s is.1 in
+    let read = reads version parts.0 parts.1 parts.2 s parts.4 in
+    (read.0, rw (is.0, parts.3) read.1)
 
 pub step-text : (version : Version) (ws : Words) (s : Step) → step_line version ws ≡ Ok s → HasStepText version s × (ws ≡ step_words s)
 step-text version [] s e = absurd cc
-step-text version (word ∷ fields) s e = step-choice version word fields s (choice (same word (codes "S")) (two_words (session_of version) fields) _ (Ok s) e)
+step-text version (word ∷ fields) s e =
+    step-choice version word fields s
+    (by_word-parts (codes "S") (codes "R") (two_words (session_of version)) (three_words (reads_of version)) word fields s e)
 
 -- ---- lines of numbers
 

@@ -99,6 +99,14 @@ abbrev pub five_words : {X : Type 0} → (List ℕ → List ℕ → List ℕ →
 five_words form (first ∷ second ∷ third ∷ fourth ∷ fifth ∷ []) = form first second third fourth fifth
 five_words form _ = Err Count
 
+-- a line that begins with one of two words, each of which has a form for what stands behind it
+abbrev pub by_word : {X : Type 0} → List ℕ → (Words → Result X CertFaultKind) → List ℕ → (Words → Result X CertFaultKind) → Words → Result X CertFaultKind
+by_word one behind_one other behind_other [] = Err Word
+by_word one behind_one other behind_other (word ∷ fields) =
+    if same word one then behind_one fields
+    else if same word other then behind_other fields
+    else Err Word
+
 abbrev pub session_of : Version → List ℕ → List ℕ → Result Step CertFaultKind
 session_of version u v = do
   from ← transaction_of version u
@@ -114,11 +122,7 @@ reads_of version u v name = do
 
 -- a step of a walk
 abbrev pub step_line : Version → Words → Result Step CertFaultKind
-step_line version [] = Err Word
-step_line version (word ∷ fields) =
-    if same word (codes "S") then two_words (session_of version) fields
-    else if same word (codes "R") then three_words (reads_of version) fields
-    else Err Word
+step_line version line = by_word (codes "S") (two_words (session_of version)) (codes "R") (three_words (reads_of version)) line
 
 abbrev pub with_walk : Link → List Step → Link
 with_walk (link.Session u v) walk = link.Session u v
@@ -160,11 +164,7 @@ cycle_sizes version n m l = do
 
 -- the line that says how long the parts of a claim are
 abbrev pub sizes_line : Version → Words → Result Sizes CertFaultKind
-sizes_line version [] = Err Word
-sizes_line version (word ∷ fields) =
-    if same word (codes "order") then two_words (order_sizes version) fields
-    else if same word (codes "cycle") then three_words (cycle_sizes version) fields
-    else Err Word
+sizes_line version line = by_word (codes "order") (two_words (order_sizes version)) (codes "cycle") (three_words (cycle_sizes version)) line
 
 -- ---- lines
 
