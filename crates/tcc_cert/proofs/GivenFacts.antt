@@ -2,17 +2,16 @@
 use Rattle.std.proofs.Common.{◌≡◌, ℕ, ◌+◌, List, [], ◌∷◌, ◌++◌, Option, Result, Ok, Err, refl, sym, ap, subst, ◌∙◌, append-nil, take, codes, length}
 use Rattle.std.specs.Result.{OnOk, OnErr, IsOk, IsErr}
 use Rattle.std.specs.Io.KnownBytes.{Appends}
-use Rattle.tcc_cert.specs.declared.certificate.Certificate.TheVariants as claim
 use Rattle.tcc_cert.specs.declared.cycle_writer.CycleWriter.{CycleWriter}
 use Rattle.tcc_cert.specs.declared.cycle_writer.Stage.{Stage}
 use Rattle.tcc_cert.specs.declared.cycle_writer.Stage.TheVariants.{Near, Far, Failed}
 use Rattle.tcc_cert.specs.CycleRules.{CycleClaim}
-use Rattle.tcc_cert.specs.Texts.{line_text, lines_text, numbers_words, certificate_text}
-use Rattle.tcc_cert.specs.Begun.{begun_lines, given_lines, with_near, with_far, stage_of, far_mark}
+use Rattle.tcc_cert.specs.Texts.{line_text, lines_text, numbers_words}
+use Rattle.tcc_cert.specs.Begun.{given_lines, with_near, with_far, stage_of, far_mark}
 use Rattle.tcc_cert.specs.Given.{HasTaken}
 use Rattle.tcc_cert.specs.Writing.{Sends, Stops, IsSent}
 use Rattle.tcc_cert.proofs.SentFacts.{Sends-then, Stops-then, Appends-part, Appends-whole}
-use Rattle.tcc_cert.proofs.GivenTexts.{IsPart, one_near, one_far, whole_text}
+use Rattle.tcc_cert.proofs.GivenTexts.{IsPart, text_of, begun_of, one_near, one_far, whole_text}
 
 -- what was sent, as it was noted
 pub noted : {X Y E F : Type 0} (s : Result Y F) (r : Result X E) (a b : Option (List ℕ)) (f g t : List ℕ)
@@ -92,15 +91,14 @@ module _ {W : Type 0} (contents : W → Option (List ℕ)) where
 
   -- what was given, and the end
   end_more : {before : Option (List ℕ)} {k : CycleClaim} {w : CycleWriter W} → HasTaken contents before (length k.near) k w
-      → lines_text (given_lines (length k.near) k) ++ (far_mark w.stage ++ line_text (codes "end" ∷ []))
-      ≡ certificate_text (claim.Cycle k.version k.level k.links k.least k.near k.far)
+      → lines_text (given_lines (length k.near) k) ++ (far_mark w.stage ++ line_text (codes "end" ∷ [])) ≡ text_of k
   end_more {before} {k} {w} h =
       ap (λ stage. lines_text (given_lines (length k.near) k) ++ (far_mark stage ++ line_text (codes "end" ∷ []))) h.stage ∙ sym (whole_text k)
 
   -- the end
   pub end_whole : (old : CycleWriter W) (after : W) (left : List ℕ) (before : Option (List ℕ)) (k : CycleClaim) → HasTaken contents before (length k.near) k old
       → Sends (contents old.out.now) old.outgoing (contents after) left (far_mark old.stage ++ line_text (codes "end" ∷ [])) → left ≡ []
-      → Appends before (contents after) (certificate_text (claim.Cycle k.version k.level k.links k.least k.near k.far))
+      → Appends before (contents after) (text_of k)
   end_whole old after left before k h sent none =
       subst (Appends before (contents after)) (end_more h)
       (Appends-whole (subst
@@ -109,17 +107,17 @@ module _ {W : Type 0} (contents : W → Option (List ℕ)) where
 
   pub end_part : (old : CycleWriter W) (after : W) (before : Option (List ℕ)) (k : CycleClaim) → HasTaken contents before (length k.near) k old
       → Stops (contents old.out.now) old.outgoing (contents after) (far_mark old.stage ++ line_text (codes "end" ∷ []))
-      → IsPart before (contents after) (certificate_text (claim.Cycle k.version k.level k.links k.least k.near k.far))
+      → IsPart before (contents after) (text_of k)
   end_part old after before k h sent =
       subst (IsPart before (contents after)) (end_more h) (Appends-part (Stops-then h.lines sent))
 
   -- the lines before the rows are on their way
   pub begun : (before : Option (List ℕ)) (count : ℕ) (k : CycleClaim) (w : CycleWriter W) (after : W) (left : List ℕ)
-      → Sends before [] (contents after) left (lines_text (begun_lines k.version k.level count k.links k.least)) → w.out.now ≡ after → w.outgoing ≡ left
+      → Sends before [] (contents after) left (lines_text (begun_of count k)) → w.out.now ≡ after → w.outgoing ≡ left
       → w.stage ≡ Near
       → HasTaken contents before count (record k { near = []; far = [] }) w
   begun before count k w after left sent out outgoing stage =
-      let lines = begun_lines k.version k.level count k.links k.least in
+      let lines = begun_of count k in
       record {
         lines =
             subst (λ o. Sends before [] (contents o) w.outgoing (lines_text (lines ++ []))) (sym out)

@@ -11,6 +11,14 @@ use Rattle.tcc_cert.specs.Texts.{Words, line_text, lines_text, numbers_words, ta
 use Rattle.tcc_cert.specs.Begun.{begun_lines, far_lines, given_lines, with_near, with_far, stage_of, far_mark}
 use Rattle.tcc_cert.proofs.SentFacts.{Stops-early, Appends-part}
 
+-- the whole text of a claim
+abbrev pub text_of : CycleClaim → List ℕ
+text_of k = certificate_text (claim.Cycle k.version k.level k.links k.least k.near k.far)
+
+-- its lines before the rows
+abbrev pub begun_of : ℕ → CycleClaim → List Words
+begun_of count k = begun_lines k.version k.level count k.links k.least
+
 -- three lists of lines
 apart : (l t f : List Words) → lines_text (l ++ (t ++ f)) ≡ lines_text l ++ (lines_text t ++ lines_text f)
 apart l t f = flat_map-append line_text l (t ++ f) ∙ ap (λ s. flat_map line_text l ++ s) (flat_map-append line_text t f)
@@ -31,7 +39,7 @@ rows_text rows more = ap (flat_map line_text) (map-append numbers_words rows mor
 near_text : (count : ℕ) (k : CycleClaim) (more : List (List ℕ)) → k.far ≡ []
     → lines_text (given_lines count (record k { near = k.near ++ more })) ≡ lines_text (given_lines count k) ++ lines_text (table_lines more)
 near_text count k more none =
-    let l = begun_lines k.version k.level count k.links k.least in
+    let l = begun_of count k in
     apart l (table_lines (k.near ++ more)) (far_lines k.far)
     ∙ ap (λ t. lines_text l ++ (t ++ lines_text (far_lines k.far))) (rows_text k.near more)
     ∙ last_of_two (lines_text l) (lines_text (table_lines k.near)) (lines_text (far_lines k.far)) (lines_text (table_lines more))
@@ -47,7 +55,7 @@ one_near count k row none =
 behind_far : (count : ℕ) (k : CycleClaim) (far : List (List ℕ)) (t : List ℕ) → lines_text (far_lines far) ≡ lines_text (far_lines k.far) ++ t
     → lines_text (given_lines count (record k { far = far })) ≡ lines_text (given_lines count k) ++ t
 behind_far count k far t more =
-    let l = begun_lines k.version k.level count k.links k.least in
+    let l = begun_of count k in
     apart l (table_lines k.near) (far_lines far)
     ∙ ap (λ s. lines_text l ++ (lines_text (table_lines k.near) ++ s)) more
     ∙ last_of_three (lines_text l) (lines_text (table_lines k.near)) (lines_text (far_lines k.far)) t
@@ -81,10 +89,10 @@ ended (x ∷ xs) =
     flat_map-append line_text ((codes "far" ∷ []) ∷ table_lines (x ∷ xs)) ((codes "end" ∷ []) ∷ [])
     ∙ ap (λ t. flat_map line_text ((codes "far" ∷ []) ∷ table_lines (x ∷ xs)) ++ t) (append-nil (line_text (codes "end" ∷ [])))
 
-pub whole_text : (k : CycleClaim) → certificate_text (claim.Cycle k.version k.level k.links k.least k.near k.far)
-    ≡ lines_text (given_lines (length k.near) k) ++ (far_mark (stage_of k.far) ++ line_text (codes "end" ∷ []))
+pub whole_text : (k : CycleClaim)
+    → text_of k ≡ lines_text (given_lines (length k.near) k) ++ (far_mark (stage_of k.far) ++ line_text (codes "end" ∷ []))
 whole_text k =
-    let l = begun_lines k.version k.level (length k.near) k.links k.least in
+    let l = begun_of (length k.near) k in
     let f = (codes "far" ∷ []) ∷ (table_lines k.far ++ (codes "end" ∷ []) ∷ []) in
     let m = far_mark (stage_of k.far) ++ line_text (codes "end" ∷ []) in
     ap (λ r. line_text (header_words k.version k.level)
@@ -151,13 +159,12 @@ module _ (a b : Option (List ℕ)) (count : ℕ) (k : CycleClaim) where
 
 -- a part of the text of what was given is one of the whole text
 pub part_given : (a b : Option (List ℕ)) (k : CycleClaim)
-    → IsPart a b (lines_text (given_lines (length k.near) k)) → IsPart a b (certificate_text (claim.Cycle k.version k.level k.links k.least k.near k.far))
+    → IsPart a b (lines_text (given_lines (length k.near) k)) → IsPart a b (text_of k)
 part_given a b k h = subst (IsPart a b) (sym (whole_text k)) (part_early a b _ _ h)
 
 -- and so is one of the lines before the rows
 pub part_begun : (a b : Option (List ℕ)) (k : CycleClaim)
-    → IsPart a b (lines_text (begun_lines k.version k.level (length k.near) k.links k.least))
-    → IsPart a b (certificate_text (claim.Cycle k.version k.level k.links k.least k.near k.far))
+    → IsPart a b (lines_text (begun_of (length k.near) k)) → IsPart a b (text_of k)
 part_begun a b k h =
-    let begun = begun_lines k.version k.level (length k.near) k.links k.least in
+    let begun = begun_of (length k.near) k in
     part_given a b k (subst (IsPart a b) (sym (flat_map-append line_text begun (table_lines k.near ++ far_lines k.far))) (part_early a b _ _ h))
