@@ -9,7 +9,8 @@ use Rattle.tcc_graph.specs.Relations.{session_pair, IsSessionPair}
 use Rattle.tcc_graph.proofs.Pairs.{session_below}
 use Rattle.tcc_check.specs.Runs.{IsInRun, HasRuns, AreRuns}
 use Rattle.tcc_check.specs.Weights.{unlinked}
-use Rattle.tcc_check.specs.Searches.{IsLongRun}
+use Rattle.tcc_check.specs.Searches.{HoldsBelow, IsFirstBelow, IsLongRun, IsLongRunTo}
+use Rattle.tcc_check.proofs.First.{holds_below_more}
 
 -- `init` stands before every other transaction
 pub init_pair : (h : History) (v : ℕ) → 0 < v → v < count h → IsSessionPair h 0 v
@@ -239,7 +240,7 @@ module _ (begins row : List ℕ) (low e : ℕ) (runs : HasRuns begins) (long : l
 
   -- the number of e is looked at
   -- the run is begun anew, or goes on
-  pub run_here : (opening least carried : ℕ) → IsCarried begins row low e opening least → (get_or begins e 0 ≡ e → carried ≡ opening)
+  run_here : (opening least carried : ℕ) → IsCarried begins row low e opening least → (get_or begins e 0 ≡ e → carried ≡ opening)
       → ((get_or begins e 0 ≡ e → ⊥) → carried ≡ least) → IsRunLeast begins row low e carried
   run_here opening least carried was anew on = go (cases_eq (get_or begins e 0) e)
     where
@@ -247,7 +248,7 @@ module _ (begins row : List ℕ) (low e : ℕ) (runs : HasRuns begins) (long : l
       go (inl same) = rw (anew same) (run_anew opening least same was)
       go (inr apart) = rw (on apart) (run_on opening least apart was)
 
-  pub carried_on : (opening old least new : ℕ) → IsCarried begins row low e old opening → IsRunLeast begins row low e least
+  carried_on : (opening old least new : ℕ) → IsCarried begins row low e old opening → IsRunLeast begins row low e least
       → new ≡ min least (get_or row (e - low) 0) → (next : ℕ) → (e ≡ 0 → next ≡ get_or row (e - low) 0) → ((e ≡ 0 → ⊥) → next ≡ old)
       → IsCarried begins row low (e + 1) next new
   carried_on opening old least new was here is next at_first later = record {
@@ -296,7 +297,7 @@ module _ (begins row : List ℕ) (low e : ℕ) (runs : HasRuns begins) (long : l
           omega (arith, is, here.lower u (omega (arith, run.0), subst (λ (z : ℕ). (u ≡ 0) ⊎ (z ≤ u)) same run.1) low_u)
 
   -- the least of the run tells whether a pair of it is too long
-  pub run_long : (least number : ℕ) → number ≡ get_or row (e - low) 0 → number ≤ unlinked → IsRunLeast begins row low e least → least + 1 < number
+  run_long : (least number : ℕ) → number ≡ get_or row (e - low) 0 → number ≤ unlinked → IsRunLeast begins row low e least → least + 1 < number
       → IsLongRun (get_or begins e 0) row low e
   run_long least number is fits here long_run = go here.from
     where
@@ -305,6 +306,43 @@ module _ (begins row : List ℕ) (low e : ℕ) (runs : HasRuns begins) (long : l
       go (inl none) = absurd (omega arith)
       go (inr (u, run, low_u, same)) = (u, run, low_u, omega arith)
 
-  pub run_short : (least number : ℕ) → number ≡ get_or row (e - low) 0 → IsRunLeast begins row low e least → (least + 1 < number → ⊥)
+  run_short : (least number : ℕ) → number ≡ get_or row (e - low) 0 → IsRunLeast begins row low e least → (least + 1 < number → ⊥)
       → IsLongRun (get_or begins e 0) row low e → ⊥
   run_short least number is here not (u, run, low_u, more) = not (omega (arith, here.lower u run low_u))
+
+-- ---- one place of a row more
+
+module _ (begins row : List ℕ) (low place : ℕ) (runs : HasRuns begins) (long : length begins ≡ low + length row) (inside : place < length row)
+    (opening least carried : ℕ) (was : IsCarried begins row low (low + place) opening least)
+    (anew : get_or begins (low + place) 0 ≡ low + place → carried ≡ opening) (on : (get_or begins (low + place) 0 ≡ low + place → ⊥) → carried ≡ least) where
+  abbrev end : ℕ
+  end = low + place
+
+  number : get_or row place 0 ≡ get_or row (end - low) 0
+  number = ap (λ k. get_or row k 0) (omega arith)
+
+  least_here : IsRunLeast begins row low end carried
+  least_here = run_here begins row low end runs long (omega (arith, inside)) (omega arith) opening least carried was anew on
+
+  -- the number here is too great, and none before it is
+  pub first_long : get_or row place 0 ≤ unlinked → carried + 1 < get_or row place 0 → HoldsBelow end (IsLongRunTo begins row low)
+      → IsFirstBelow (low + length row) (IsLongRunTo begins row low) end
+  first_long fits more before = record {
+    below = omega (arith, inside);
+    here =
+        (omega arith, run_long begins row low end runs long (omega (arith, inside)) (omega arith) carried (get_or row place 0) number fits least_here more);
+    first = before;
+  }
+
+  -- it isn't
+  pub none_long : (carried + 1 < get_or row place 0 → ⊥) → HoldsBelow end (IsLongRunTo begins row low)
+      → HoldsBelow (low + (place + 1)) (IsLongRunTo begins row low)
+  none_long not before = holds_below_more end (low + (place + 1)) (IsLongRunTo begins row low) (omega arith) before
+      (λ p. run_short begins row low end runs long (omega (arith, inside)) (omega arith) carried (get_or row place 0) number least_here not p.1)
+
+  pub carried_more : (next new : ℕ) → new ≡ min carried (get_or row place 0) → (end ≡ 0 → next ≡ get_or row place 0)
+      → ((end ≡ 0 → ⊥) → next ≡ opening) → IsCarried begins row low (low + (place + 1)) next new
+  carried_more next new is at_first later =
+      subst (λ (e : ℕ). IsCarried begins row low e next new) (omega arith)
+      (carried_on begins row low end runs long (omega (arith, inside)) (omega arith) least opening carried new was least_here
+      (is ∙ ap (λ n. min carried n) number) next (λ first. at_first first ∙ number) later)

@@ -19,7 +19,7 @@ clocks-none ahead = record { line = refl; fault = refl; others = λ rows is. (ro
 exact : (row other : List ℕ) → part.Clocks row ≡ part.Clocks other → row ≡ other
 exact row other is = cc
 
-pub clocks-more : (clocks : List (List ℕ)) (row : List ℕ) (ahead now rest : Parts) → AreClocksBehind clocks ahead now → IsFirst (part.Clocks row) now rest
+clocks-more : (clocks : List (List ℕ)) (row : List ℕ) (ahead now rest : Parts) → AreClocksBehind clocks ahead now → IsFirst (part.Clocks row) now rest
     → AreClocksBehind (clocks ++ row ∷ []) ahead rest
 clocks-more clocks row ahead now rest behind first = record {
   line = first-line (part.Clocks row) now rest first ∙ behind.line;
@@ -31,7 +31,7 @@ clocks-more clocks row ahead now rest behind first = record {
 }
 
 -- another part is none of those that such a text has
-pub clocks-other : (clocks : List (List ℕ)) (given : Part) (ahead now rest : Parts) → ((row : List ℕ) → given ≡ part.Clocks row → ⊥)
+clocks-other : (clocks : List (List ℕ)) (given : Part) (ahead now rest : Parts) → ((row : List ℕ) → given ≡ part.Clocks row → ⊥)
     → (given ≡ part.End → ⊥) → AreClocksBehind clocks ahead now → IsFirst given now rest → AreClocksBehind clocks ahead rest
 clocks-other clocks given ahead now rest other going behind first = record {
   line = first-line given now rest first ∙ behind.line;
@@ -43,6 +43,16 @@ clocks-other clocks given ahead now rest other going behind first = record {
         → ((given ≡ part.End) × (now.parts ≡ []) × (now.fault ≡ None)) ⊎ (now.parts ≡ given ∷ rest.parts) → ⊥
     go todo left (inl end) = going end.0
     go todo left (inr one) = let found = next-no-row part.Clocks exact given rest.parts todo (sym one ∙ left) in other found.0 found.1
+
+-- a part that comes, and is not the end: it is a row, which is kept, or another
+pub clocks-on : (clocks next : List (List ℕ)) (given : Part) (ahead now rest : Parts) → (given ≡ part.End → ⊥)
+    → ((row : List ℕ) → given ≡ part.Clocks row → next ≡ clocks ++ row ∷ []) → (((row : List ℕ) → given ≡ part.Clocks row → ⊥) → next ≡ clocks)
+    → AreClocksBehind clocks ahead now → IsFirst given now rest → AreClocksBehind next ahead rest
+clocks-on clocks next (part.Clocks row) ahead now rest going kept passed behind first =
+    rw (kept row refl) (clocks-more clocks row ahead now rest behind first)
+clocks-on clocks next given ahead now rest going kept passed behind first =
+    let other : (row : List ℕ) → given ≡ part.Clocks row → ⊥ = λ row same. absurd cc in
+    rw (passed other) (clocks-other clocks given ahead now rest other going behind first)
 
 pub clocks-all : (clocks : List (List ℕ)) (ahead now rest : Parts) → AreClocksBehind clocks ahead now → IsFirst part.End now rest
     → (ahead.fault ≡ None) × ((rows : List (List ℕ)) → ahead.parts ≡ map part.Clocks rows → clocks ≡ rows)

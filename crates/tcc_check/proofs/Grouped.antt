@@ -1,8 +1,9 @@
 -- Groups of links, as they are made and as they are gone through.
-use Rattle.std.proofs.Common.{◌≡◌, ◌<◌, ◌≤◌, ◌+◌, ◌-◌, ◌^◌, ℕ, zero, suc, List, [], ◌∷◌, ◌++◌}
+use Rattle.std.proofs.Common.{◌≡◌, ◌<◌, ◌≤◌, ◌+◌, ◌^◌, ℕ, zero, suc, ◌⊎◌, inl, inr, List, [], ◌∷◌, ◌++◌}
 use Rattle.std.proofs.Common.{length, get_or, take, drop, append_assoc, append-nil, arith, refl}
-use Rattle.std.proofs.Common.{sym, ap, ◌∙◌}
+use Rattle.std.proofs.Common.{sym, ap, subst, ◌∙◌}
 use Rattle.std.specs.Prelude.{All}
+use Rattle.std.proofs.lemmas.Bool.{cases_eq}
 use Rattle.std.proofs.lemmas.List.Elements.{All-push}
 use Rattle.std.proofs.lemmas.List.{drop-append-le, get_or_default, get_or-append-add, get_or_append_left, get_or-drop, get_or-map}
 use Rattle.std.proofs.lemmas.List.{get_or-take, length-append, length-drop, length-map, length-take-le, length_push, map_push}
@@ -58,7 +59,7 @@ pub record AreGroupsTo (i : ℕ) (links groups : List (ℕ × ℕ)) (weight n : 
 pub no-groups : (links : List (ℕ × ℕ)) → AreGroupsTo 0 links [] 0 0 []
 no-groups links = record { made = refl; all = refl; long = refl; some = λ k d l. absurd (omega (arith, l)) }
 
-pub group-closed : (i : ℕ) (links groups : List (ℕ × ℕ)) (weight n next : ℕ) (ends : List ℕ) → 0 < n → AreGroupsTo i links groups weight n ends
+group-closed : (i : ℕ) (links groups : List (ℕ × ℕ)) (weight n next : ℕ) (ends : List ℕ) → 0 < n → AreGroupsTo i links groups weight n ends
     → AreGroupsTo i links (groups ++ (weight, n) ∷ []) next 0 ends
 group-closed i links groups weight n next ends some are = record {
   made = empty-group (groups ++ (weight, n) ∷ []) next ends ∙ are.made;
@@ -67,7 +68,7 @@ group-closed i links groups weight n next ends some are = record {
   some = All-push (λ (group : ℕ × ℕ). 0 < group.1) groups (weight, n) are.some some;
 }
 
-pub group-anew : (i : ℕ) (links groups : List (ℕ × ℕ)) (weight n next : ℕ) (ends : List ℕ) → n ≡ 0 → AreGroupsTo i links groups weight n ends
+group-anew : (i : ℕ) (links groups : List (ℕ × ℕ)) (weight n next : ℕ) (ends : List ℕ) → n ≡ 0 → AreGroupsTo i links groups weight n ends
     → AreGroupsTo i links groups next n ends
 group-anew i links groups weight n next ends none are = record {
   made = rw none (empty-group groups next ends ∙ sym (empty-group groups weight ends)) ∙ are.made;
@@ -75,6 +76,15 @@ group-anew i links groups weight n next ends none are = record {
   long = are.long;
   some = are.some;
 }
+
+-- the group that was open is closed, if any end is in it, and one of the next weight is open
+pub group-next : (i : ℕ) (links groups closed : List (ℕ × ℕ)) (weight n next : ℕ) (ends : List ℕ) → (0 < n → closed ≡ groups ++ (weight, n) ∷ [])
+    → (n ≡ 0 → closed ≡ groups) → AreGroupsTo i links groups weight n ends → AreGroupsTo i links closed next 0 ends
+group-next i links groups closed weight n next ends some none are = go (cases_eq n 0)
+  where
+    go : (n ≡ 0) ⊎ (n ≡ 0 → ⊥) → AreGroupsTo i links closed next 0 ends
+    go (inl empty) = rw (none empty) (subst (λ (m : ℕ). AreGroupsTo i links groups next m ends) empty (group-anew i links groups weight n next ends empty are))
+    go (inr filled) = rw (some (omega (arith, filled))) (group-closed i links groups weight n next ends (omega (arith, filled)) are)
 
 pub group-grown : (i : ℕ) (links groups : List (ℕ × ℕ)) (weight n end : ℕ) (ends : List ℕ) → i < length links → get_or links i (0, 0) ≡ (end, weight)
     → AreGroupsTo i links groups weight n ends → AreGroupsTo (i + 1) links groups weight (n + 1) (ends ++ end ∷ [])
@@ -87,23 +97,17 @@ group-grown i links groups weight n end ends inside is are = record {
   some = are.some;
 }
 
-pub all-groups : (i : ℕ) (links groups : List (ℕ × ℕ)) (weight n : ℕ) (ends : List ℕ) → i ≡ length links → length links < 2 ^ 32 → 0 < n
-    → AreGroupsTo i links groups weight n ends → (links_by (groups ++ (weight, n) ∷ []) ends ≡ links) × AreGroupsOf (groups ++ (weight, n) ∷ []) ends
-all-groups i links groups weight n ends all few some are = (
-  are.made ∙ take_all i links (omega (arith, all)),
-  record {
-    all = omega (arith, total-push groups (weight, n), are.all);
-    some = All-push (λ (group : ℕ × ℕ). 0 < group.1) groups (weight, n) are.some some;
-    few = omega (arith, are.long, all, few);
-  },
+-- all links are in the groups, the last of which is closed, if any end is in it
+pub all-groups : (i : ℕ) (links groups closed : List (ℕ × ℕ)) (weight n : ℕ) (ends : List ℕ) → i ≡ length links → length links < 2 ^ 32
+    → (0 < n → closed ≡ groups ++ (weight, n) ∷ []) → (n ≡ 0 → closed ≡ groups) → AreGroupsTo i links groups weight n ends
+    → (links_by closed ends ≡ links) × AreGroupsOf closed ends
+all-groups i links groups closed weight n ends all few some none are = (
+  sym (empty-group closed weight ends) ∙ last.made ∙ take_all i links (omega (arith, all)),
+  record { all = omega (arith, last.all); some = last.some; few = omega (arith, last.long, all, few) },
 )
-
-pub all-closed : (i : ℕ) (links groups : List (ℕ × ℕ)) (weight n : ℕ) (ends : List ℕ) → i ≡ length links → length links < 2 ^ 32 → n ≡ 0
-    → AreGroupsTo i links groups weight n ends → (links_by groups ends ≡ links) × AreGroupsOf groups ends
-all-closed i links groups weight n ends all few none are = (
-  sym (empty-group groups weight ends) ∙ rw (← none) (are.made ∙ take_all i links (omega (arith, all))),
-  record { all = omega (arith, are.all, none); some = are.some; few = omega (arith, are.long, all, few) },
-)
+  where
+    last : AreGroupsTo i links closed weight 0 ends
+    last = group-next i links groups closed weight n weight ends some none are
 
 -- ---- as they are gone through
 
@@ -156,11 +160,9 @@ in-group (first ∷ groups) ends (suc i) k all inside here =
     ∙ ap (λ (z : ℕ). (z, (get_or groups i (0, 0)).0)) (get_or-drop first.1 ends (total (take i groups) + k) 0 ∙ ap (λ (z : ℕ). get_or ends z 0) there)
 
 -- the part of the ends that is a group's
-pub part-long : (ends : List ℕ) (first n : ℕ) → first + n ≤ length ends → length (take (first + n - first) (drop first ends)) ≡ n
-part-long ends first n inside = length-take-le (first + n - first) (drop first ends) (omega (arith, length-drop first ends, inside)) ∙ omega arith
+pub part-long : (ends : List ℕ) (first n : ℕ) → first + n ≤ length ends → length (take n (drop first ends)) ≡ n
+part-long ends first n inside = length-take-le n (drop first ends) (omega (arith, length-drop first ends, inside))
 
-pub part-at : (ends : List ℕ) (first n k d : ℕ) → first + n ≤ length ends → k < n
-    → get_or (take (first + n - first) (drop first ends)) k d ≡ get_or ends (first + k) 0
+pub part-at : (ends : List ℕ) (first n k d : ℕ) → first + n ≤ length ends → k < n → get_or (take n (drop first ends)) k d ≡ get_or ends (first + k) 0
 part-at ends first n k d inside l =
-    get_or-take (first + n - first) (drop first ends) k d (omega (arith, l)) ∙ get_or-drop first ends k d
-    ∙ get_or_default ends (first + k) d 0 (omega (arith, inside, l))
+    get_or-take n (drop first ends) k d l ∙ get_or-drop first ends k d ∙ get_or_default ends (first + k) d 0 (omega (arith, inside, l))

@@ -423,15 +423,18 @@ pub light-inside : (weights : List ℕ) (least m : ℕ) (ends : List (ℕ × ℕ
 light-inside weights least m ends few are k d l = let w = are.only (get_or ends k d) (k, l, get_or_default ends k _ d l) in omega (arith, w.0, few)
 
 -- a row where nothing is linked, lowered
-pub bare-lowered : (n : ℕ) (weighs : ℕ → ℕ → Type 0) (bare row : List ℕ) → bare ≡ replicate n unlinked → IsLowered weighs bare row → IsLeastRow weighs row
-bare-lowered n weighs bare row is lowered = record {
-  low = λ u w l p. lowered.low u w (omega (arith, l, lowered.long)) p;
-  from = λ u l. go u l (lowered.from u (omega (arith, l, lowered.long)));
-}
+pub bare-lowered : (n : ℕ) (weighs : ℕ → ℕ → Type 0) (bare row : List ℕ) → bare ≡ replicate n unlinked → IsLowered weighs bare row
+    → (length row ≡ n) × IsLeastRow weighs row
+bare-lowered n weighs bare row is lowered = (
+  long,
+  record { low = λ u w l p. lowered.low u w (omega (arith, l, lowered.long)) p; from = λ u l. go u l (lowered.from u (omega (arith, l, lowered.long))) },
+)
   where
+    long : length row ≡ n
+    long = lowered.long ∙ ap length is ∙ length-replicate n unlinked
+
     go : (u : ℕ) → u < length row → (get_or row u 0 ≡ get_or bare u 0) ⊎ weighs u (get_or row u 0) → (get_or row u 0 ≡ unlinked) ⊎ weighs u (get_or row u 0)
-    go u l (inl same) =
-        inl (same ∙ ap (λ r. get_or r u 0) is ∙ get_or-replicate n u unlinked 0 (omega (arith, l, lowered.long, ap length is, length-replicate n unlinked)))
+    go u l (inl same) = inl (same ∙ ap (λ r. get_or r u 0) is ∙ get_or-replicate n u unlinked 0 (omega (arith, l, long)))
     go u l (inr p) = inr p
 
 -- ---- rows of ends

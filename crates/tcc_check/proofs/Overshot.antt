@@ -1,14 +1,15 @@
 -- What the first links of a list tell of a row.
-use Rattle.std.proofs.Common.{◌≡◌, ◌<◌, ◌≤◌, ◌+◌, ◌-◌, ℕ, ◌⊎◌, inl, inr, List, length, get_or, take, Option, None, Some, arith, sym, ap, subst, ◌∙◌}
+use Rattle.std.proofs.Common.{◌≡◌, ◌<◌, ◌≤◌, ◌+◌, ◌-◌, ℕ, ◌⊎◌, inl, inr, List, length, get_or, take, drop, Option, None, Some, arith, sym, ap, subst, ◌∙◌}
 use Rattle.std.specs.Prelude.{All}
 use Rattle.std.proofs.lemmas.Bool.{cases_eq, cases_lt}
-use Rattle.std.proofs.lemmas.List.{get_or_default, get_or_past}
+use Rattle.std.proofs.lemmas.List.{get_or_default}
 use Rattle.tcc_check.specs.Weights.{AreByWeight}
 use Rattle.tcc_check.specs.Groups.{AreGroupsOf, links_by, total}
 use Rattle.tcc_check.specs.Searches.{IsFoundBelow, IsOvershot, IsOvershotAt, IsLongOther, lesser}
 use Rattle.tcc_check.specs.WeightsFrom.{ends_of}
+use Rattle.tcc_check.proofs.Entries.{capped_at}
 use Rattle.tcc_check.proofs.Found.{found_as, found_either, found_here}
-use Rattle.tcc_check.proofs.Grouped.{in-group, length-links, total-more, total-within}
+use Rattle.tcc_check.proofs.Grouped.{in-group, length-links, part-at, part-long, total-more, total-within}
 
 -- one of the first i links takes less
 abbrev pub SeenOver : ℕ → List (ℕ × ℕ) → List ℕ → ℕ → ℕ → ℕ → Type 0
@@ -21,52 +22,6 @@ module _ (ends : List (ℕ × ℕ)) (row : List ℕ) (low before : ℕ) where
 
   pub none_over : IsFoundBelow n (SeenOver 0 ends row low before) None
   none_over = λ a l p. absurd (omega (arith, p.2))
-
-  older : (i v : ℕ) → SeenOver i ends row low before v → SeenOver (i + 1) ends row low before v
-  older i v (low_v, k, l, is, more) = (low_v, k, omega (arith, l), is, more)
-
-  newer : (i v : ℕ) → SeenOver (i + 1) ends row low before v → SeenOver i ends row low before v
-      ⊎ ((low ≤ v) × ((get_or ends i (0, 0)).0 ≡ v) × (before + 1 + (get_or ends i (0, 0)).1 < get_or row (v - low) 0))
-  newer i v (low_v, k, l, is, more) = go (cases_eq k i)
-    where
-      go : (k ≡ i) ⊎ (k ≡ i → ⊥) → SeenOver i ends row low before v
-          ⊎ ((low ≤ v) × ((get_or ends i (0, 0)).0 ≡ v) × (before + 1 + (get_or ends i (0, 0)).1 < get_or row (v - low) 0))
-      go (inl same) =
-          inr (
-            low_v,
-            subst (λ (z : ℕ). (get_or ends z (0, 0)).0 ≡ v) same is,
-            subst (λ (z : ℕ). before + 1 + (get_or ends z (0, 0)).1 < get_or row (v - low) 0) same more,
-          )
-      go (inr apart) = inl (low_v, k, omega (arith, l, apart), is, more)
-
-  pub over_skipped : (i : ℕ) (found : Option ℕ) → (low ≤ (get_or ends i (0, 0)).0 → before + 1 + (get_or ends i (0, 0)).1
-      < get_or row ((get_or ends i (0, 0)).0 - low) 0 → ⊥) → IsFoundBelow n (SeenOver i ends row low before) found
-      → IsFoundBelow n (SeenOver (i + 1) ends row low before) found
-  over_skipped i found not = found_as n (SeenOver i ends row low before) (SeenOver (i + 1) ends row low before) (older i) (λ v p. back v (newer i v p)) found
-    where
-      back : (v : ℕ) → SeenOver i ends row low before v
-          ⊎ ((low ≤ v) × ((get_or ends i (0, 0)).0 ≡ v) × (before + 1 + (get_or ends i (0, 0)).1 < get_or row (v - low) 0)) → SeenOver i ends row low before v
-      back v (inl old) = old
-      back v (inr (low_v, is, more)) =
-          absurd (not (omega (arith, low_v, is)) (subst (λ (z : ℕ). before + 1 + (get_or ends i (0, 0)).1 < get_or row (z - low) 0) (sym is) more))
-
-  pub over_found : (i e : ℕ) (found : Option ℕ) → (get_or ends i (0, 0)).0 ≡ e → e < n → low ≤ e
-      → before + 1 + (get_or ends i (0, 0)).1 < get_or row (e - low) 0 → IsFoundBelow n (SeenOver i ends row low before) found
-      → IsFoundBelow n (SeenOver (i + 1) ends row low before) (lesser found (Some e))
-  over_found i e found is below low_e more old =
-      found_as n (λ v. SeenOver i ends row low before v ⊎ (v ≡ e)) (SeenOver (i + 1) ends row low before) to (λ v p. back v (newer i v p))
-      (lesser found (Some e))
-      (found_either n (SeenOver i ends row low before) (λ v. v ≡ e) found (Some e) old (found_here n e below))
-    where
-      to : (v : ℕ) → SeenOver i ends row low before v ⊎ (v ≡ e) → SeenOver (i + 1) ends row low before v
-      to v (inl old) = older i v old
-      to v (inr same) = rw same (low_e, i, omega arith, is, more)
-
-      back : (v : ℕ) → SeenOver i ends row low before v
-          ⊎ ((low ≤ v) × ((get_or ends i (0, 0)).0 ≡ v) × (before + 1 + (get_or ends i (0, 0)).1 < get_or row (v - low) 0))
-          → SeenOver i ends row low before v ⊎ (v ≡ e)
-      back v (inl old) = inl old
-      back v (inr (low_v, here, most)) = inr (sym here ∙ is)
 
   to_over : (i v : ℕ) → i ≤ length ends → SeenOver i ends row low before v → IsOvershot ends row low before v
   to_over i v upto (low_v, k, l, is, more) = (
@@ -98,19 +53,12 @@ module _ (ends : List (ℕ × ℕ)) (row : List ℕ) (low before : ℕ) where
       found_as n (SeenOver i ends row low before) (IsOvershot ends row low before) (λ v p. to_over i v (omega (arith, inside)) p)
       (λ v p. back v (from_over v p)) found
     where
-      under : (k : ℕ) → get_or row k 0 ≤ most
-      under k = go (cases_lt k (length row))
-        where
-          go : (k < length row) ⊎ (length row ≤ k) → get_or row k 0 ≤ most
-          go (inl l) = capped k 0 l
-          go (inr l) = omega (arith, get_or_past row k 0 l)
-
       back : (v : ℕ) → SeenOver (length ends) ends row low before v → SeenOver i ends row low before v
       back v (low_v, k, l, is, more) = go (cases_lt k i)
         where
           go : (k < i) ⊎ (i ≤ k) → SeenOver i ends row low before v
           go (inl less) = (low_v, k, less, is, more)
-          go (inr later) = absurd (omega (arith, sorted i k (0, 0) later l, more, under (v - low), enough))
+          go (inr later) = absurd (omega (arith, sorted i k (0, 0) later l, more, capped_at row most capped (v - low), enough))
 
 -- one of the links from the first starts takes less
 abbrev pub SeenOther : ℕ → List (List (ℕ × ℕ)) → List ℕ → ℕ → ℕ → Type 0
@@ -226,14 +174,12 @@ module _ (ends row : List ℕ) (low cost : ℕ) where
 
 -- ---- one group more
 
-module _ (groups : List (ℕ × ℕ)) (ends row : List ℕ) (low before : ℕ) (are : AreGroupsOf groups ends) where
-  abbrev q : ℕ
-  q = low + length row
-
-  -- a group is not empty, and begins inside
+module _ (groups : List (ℕ × ℕ)) (ends : List ℕ) (are : AreGroupsOf groups ends) where
+  -- a group ends inside
   pub group_inside : (i : ℕ) → i < length groups → total (take i groups) + (get_or groups i (0, 0)).1 ≤ length ends
   group_inside i inside = omega (arith, total-more groups i inside, total-within groups (i + 1), are.all)
 
+  -- and begins inside, since none is empty
   pub group_begins : (i : ℕ) → i < length groups → total (take i groups) < length (links_by groups ends)
   group_begins i inside = omega (arith, group_inside i inside, are.some i (0, 0) inside, length-links groups ends are.all)
 
@@ -243,8 +189,11 @@ module _ (groups : List (ℕ × ℕ)) (ends row : List ℕ) (low before : ℕ) (
       ap (λ k. (get_or (links_by groups ends) k (0, 0)).1) (omega arith)
       ∙ ap (λ (z : ℕ × ℕ). z.1) (in-group groups ends i 0 are.all inside (are.some i (0, 0) inside))
 
-  module _ (i : ℕ) (run : List ℕ) (inside : i < length groups) (long : length run ≡ (get_or groups i (0, 0)).1)
-      (are_run : (k d : ℕ) → k < length run → get_or run k d ≡ get_or ends (total (take i groups) + k) 0) where
+  module _ (row : List ℕ) (low before i : ℕ) (run : List ℕ) (inside : i < length groups)
+      (is : run ≡ take (get_or groups i (0, 0)).1 (drop (total (take i groups)) ends)) where
+    abbrev q : ℕ
+    q = low + length row
+
     abbrev from : ℕ
     from = total (take i groups)
 
@@ -253,6 +202,12 @@ module _ (groups : List (ℕ × ℕ)) (ends row : List ℕ) (low before : ℕ) (
 
     abbrev links : List (ℕ × ℕ)
     links = links_by groups ends
+
+    long : length run ≡ group.1
+    long = ap length is ∙ part-long ends from group.1 (group_inside i inside)
+
+    are_run : (k d : ℕ) → k < length run → get_or run k d ≡ get_or ends (from + k) 0
+    are_run k d l = ap (λ r. get_or r k d) is ∙ part-at ends from group.1 k d (group_inside i inside) (omega (arith, l, long))
 
     -- its ends are below the number that all links' ends are below
     pub group_below : (m : ℕ) → All (λ (link : ℕ × ℕ). link.0 < m) links → All (λ end. end < m) run

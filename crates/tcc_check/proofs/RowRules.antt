@@ -1,8 +1,6 @@
 -- What was found in a row, in the words of the rules.
 use Rattle.std.proofs.Common.{◌≡◌, ◌<◌, ◌≤◌, ◌+◌, ◌-◌, ℕ, ◌⊎◌, inl, inr, List, length, get_or, Option, None, Some, arith, refl, sym, ap, subst, ◌∙◌}
 use Rattle.std.specs.Prelude.{All, MatchOption}
-use Rattle.std.proofs.lemmas.Bool.{cases_lt}
-use Rattle.std.proofs.lemmas.List.{get_or_past}
 use Rattle.tcc_reads.specs.History.{History, count}
 use Rattle.tcc_graph.specs.Relations.{IsSessionPair, IsCausalPair}
 use Rattle.tcc_graph.specs.declared.level.Level.{Level}
@@ -15,6 +13,7 @@ use Rattle.tcc_check.specs.Runs.{AreRuns}
 use Rattle.tcc_check.specs.Searches.{IsFoundBelow, IsLongPair, IsLongSingle, IsLongStep}
 use Rattle.tcc_check.specs.WeightsFrom.{AreAllEnds, AreEnds, ReadWeighs, WeighsFrom, ends_of}
 use Rattle.tcc_check.specs.Coming.{IsFoundBefore, first_of}
+use Rattle.tcc_check.proofs.Entries.{capped_at}
 use Rattle.tcc_check.proofs.First.{first_in_row, holds_more}
 
 -- the first place in a row, in the words of the table
@@ -36,13 +35,6 @@ row-by n s P broken (Some b) to back first = (back b first.below first.here, λ 
 -- ---- what links and steps take, whatever the weights
 
 module _ (h : History) (weighs : ℕ → ℕ → ℕ → Type 0) (low least : ℕ) (row : List ℕ) (capped : All (λ number. number ≤ least) row) where
-  under : (k : ℕ) → get_or row k 0 ≤ least
-  under k = go (cases_lt k (length row))
-    where
-      go : (k < length row) ⊎ (length row ≤ k) → get_or row k 0 ≤ least
-      go (inl l) = capped k 0 l
-      go (inr l) = omega (arith, get_or_past row k 0 l)
-
   abbrev Single : ℕ → ℕ → Type 0
   Single s v = IsLongPair h row low s v ⊎ ((low ≤ v) × (w : ℕ) × weighs s v w × (1 + w < get_or row (v - low) 0))
 
@@ -53,7 +45,7 @@ module _ (h : History) (weighs : ℕ → ℕ → ℕ → Type 0) (low least : �
   single-from : (s : ℕ) (ends : List (ℕ × ℕ)) → AreEnds (weighs s) (count h) least ends → (v : ℕ) → v < count h → Single s v → IsLongSingle h ends row low s v
   single-from s ends are v below (inl p) = inl p
   single-from s ends are v below (inr (low_v, w, p, more)) =
-      let light = are.each v w below p (omega (arith, more, under (v - low))) in
+      let light = are.each v w below p (omega (arith, more, capped_at row least capped (v - low))) in
       inr (low_v, light.0, light.2, omega (arith, light.1, more))
 
   abbrev Step : ℕ → Type 0
@@ -72,7 +64,7 @@ module _ (h : History) (weighs : ℕ → ℕ → ℕ → Type 0) (low least : �
     step-from v below bound (low_v, u, low_u, inl (pair, more)) = inl (low_v, (u, runs.whole u v pair, low_u, more))
     step-from v below bound (low_v, u, low_u, inr (w, p, more)) =
         let inside = bound u w p in
-        let light = (are.rows u inside).each v w below p (omega (arith, more, under (v - low))) in
+        let light = (are.rows u inside).each v w below p (omega (arith, more, capped_at row least capped (v - low))) in
         inr (u, low_u, omega (arith, inside, long), (low_v, light.0, light.2, omega (arith, light.1, more)))
 
 -- ---- rows of lengths

@@ -1,5 +1,5 @@
 //! The parts of a certificate's text, one after the other.
-ghost use Rattle.std.specs.Prelude.{◌≡◌, ◌⊎◌, ◌<◌, ◌↔◌, ⊤, [], false, true, IfOk, IsTrue, List, map, ℕ};
+ghost use Rattle.std.specs.Prelude.{◌≡◌, ◌⊎◌, ◌<◌, ◌↔◌, ◌++◌, ◌∷◌, ⊤, [], false, true, IfOk, OnOk, IsTrue, List, map, ℕ};
 ghost use Rattle.tcc_cert.specs.Ahead.{IsAhead, is_claim, is_new, rows_left};
 ghost use Rattle.tcc_cert.specs.Parts.{Parts};
 ghost use Rattle.tcc_cert.specs.declared.part.Part.TheVariants as part;
@@ -9,6 +9,7 @@ use crate::StreamFault;
 use std::alloc::Global;
 use std::io::Read;
 use tcc_cert::{CertReader, Numbers, Part, Table};
+use tcc_txn::NoMemory;
 
 /// The next part.
 pub(crate) fn next_part<R: Read>(
@@ -24,13 +25,20 @@ pub(crate) fn next_part<R: Read>(
     Ok(part)
 }
 
+/// Whether a part is the end.
+fn is_end(given: Part) -> bool
+    ensures { IsTrue result ↔ (given ≡ part.End) }
+{
+    matches!(given, Part::End)
+}
+
 /// Reads on to the end.
 fn skip_rest<R: Read>(alloc: Global, parts: &mut CertReader<R>) -> Result<(), StreamFault>
     requires { is_new parts.old ≡ false }
     ensures { (ahead : Parts) → IsAhead R.remaining parts.old ahead → Finishes ahead (λ _. ⊤) result }
 {
     'parts: loop {
-        if let Part::End = next_part(alloc, parts)? {
+        if is_end(next_part(alloc, parts)?) {
             return Ok(());
         }
     }
@@ -49,6 +57,17 @@ pub(crate) fn ends<R: Read>(alloc: Global, parts: &mut CertReader<R>) -> Result<
     }
 }
 
+/// Keeps the row of clocks that the part is, if it is one.
+fn keep_clocks(clocks: &mut Vec<Numbers>, given: Part) -> Result<(), NoMemory>
+    ensures row { OnOk result ((row : List ℕ) → given ≡ part.Clocks row → clocks.new.items ≡ clocks.old.items ++ row ∷ []) }
+    ensures other { OnOk result (((row : List ℕ) → given ≡ part.Clocks row → ⊥) → clocks.new.items ≡ clocks.old.items) }
+{
+    if let Part::Clocks(row) = given {
+        clocks.push(row)?;
+    }
+    Ok(())
+}
+
 /// The clocks that come up to the end.
 pub(crate) fn clock_rows<R: Read>(
     alloc: Global,
@@ -60,10 +79,10 @@ pub(crate) fn clock_rows<R: Read>(
 {
     let mut clocks = Vec::new(alloc);
     'parts: loop {
-        match next_part(alloc, parts)? {
-            Part::Clocks(row) => clocks.push(row)?,
-            Part::End => return Ok(Table::new(clocks)),
-            _ => {}
+        let given = next_part(alloc, parts)?;
+        if let Part::End = &given {
+            return Ok(Table::new(clocks));
         }
+        keep_clocks(&mut clocks, given)?;
     }
 }

@@ -1,5 +1,5 @@
 //! The links from one transaction.
-ghost use Rattle.std.specs.Prelude.{◌≡◌, ◌<◌, ◌^◌, All, IfOk, length};
+ghost use Rattle.std.specs.Prelude.{◌≡◌, ◌<◌, ◌^◌, ◌++◌, ◌∷◌, [], All, IfOk, OnOk, length};
 
 use std::alloc::{AllocError, Global};
 use std::marker::Model;
@@ -23,6 +23,17 @@ impl Model for Ends {
     ghost invariant = { λ e. AreGroupsOf e.groups.items e.ends.items };
 }
 
+/// Closes the group that is open, if any end is in it.
+fn close_group(groups: &mut Vec<(u32, u32)>, weight: u32, count: u32) -> Result<(), AllocError>
+    ensures some { OnOk result (0 < count → groups.new.items ≡ groups.old.items ++ (weight, count) ∷ []) }
+    ensures none { OnOk result (count ≡ 0 → groups.new.items ≡ groups.old.items) }
+{
+    if count > 0 {
+        groups.push((weight, count))?;
+    }
+    Ok(())
+}
+
 impl Ends {
     ghost use Rattle.tcc_check.specs.Groups.{AreGroupsOf, links_by};
 
@@ -37,17 +48,15 @@ impl Ends {
         let mut weight = 0;
         let mut count = 0;
         for (end, next) in links {
-            if *next != weight && count > 0 {
-                groups.push((weight, count))?;
+            if *next != weight {
+                close_group(&mut groups, weight, count)?;
                 count = 0;
             }
             weight = *next;
             count += 1;
             ends.push(*end as u16)?;
         }
-        if count > 0 {
-            groups.push((weight, count))?;
-        }
+        close_group(&mut groups, weight, count)?;
         Ok(Ends { ends, groups })
     }
 

@@ -6,15 +6,12 @@ ghost use Rattle.tcc_check.specs.Links.{AreLinksRight, IsFirstWrong};
 
 use tcc_graph::{Graph, Level, Link};
 
-/// Where a link begins, and where it ends.
-fn link_ends(link: &Link) -> (u32, u32)
-    ensures from { result.0 ≡ link_from link.now }
-    ensures to { result.1 ≡ link_to link.now }
+/// Where a link begins.
+fn link_from(link: &Link) -> u32
+    ensures { result ≡ link_from link.now }
 {
     match link {
-        Link::Session { from, to } => (*from, *to),
-        Link::Reads { from, to, .. } => (*from, *to),
-        Link::Derived { from, to, .. } => (*from, *to),
+        Link::Session { from, .. } | Link::Reads { from, .. } | Link::Derived { from, .. } => *from,
     }
 }
 
@@ -22,14 +19,16 @@ fn link_ends(link: &Link) -> (u32, u32)
 fn is_link_right(graph: &Graph, level: Level, at: u32, link: &Link) -> bool
     ensures { IsTrue result ↔ IsLinkRight (record { history = graph.now; level = level }) at link.now }
 {
-    link_ends(link).0 == at && graph.is_link(level, link)
+    link_from(link) == at && graph.is_link(level, link)
 }
 
 /// Where a link ends.
 fn link_to(link: &Link) -> u32
     ensures { result ≡ link_to link.now }
 {
-    link_ends(link).1
+    match link {
+        Link::Session { to, .. } | Link::Reads { to, .. } | Link::Derived { to, .. } => *to,
+    }
 }
 
 /// Where the last link ends.

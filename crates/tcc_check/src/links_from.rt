@@ -1,11 +1,11 @@
 //! The links from one transaction other than session pairs, by its row of lengths: how many steps each of them takes
 //! before its last one.
-ghost use Rattle.std.specs.Prelude.{ℕ, ◌≡◌, ◌<◌, ◌≤◌, ◌^◌, ◌↔◌, All, IfOk, length, slice_index};
+ghost use Rattle.std.specs.Prelude.{ℕ, ◌≡◌, ◌<◌, ◌≤◌, ◌^◌, ◌↔◌, All, IfOk, length, replicate, slice_index};
 ghost use Rattle.tcc_txn.specs.declared.limits.TheConstants.{MAX_COUNT};
 ghost use Rattle.tcc_reads.specs.History.{count};
 ghost use Rattle.tcc_graph.specs.Keys.{keys};
 ghost use Rattle.tcc_graph.specs.Relations.{IsCausalPair};
-ghost use Rattle.tcc_check.specs.Weights.{IsLeastRow, IsLowered};
+ghost use Rattle.tcc_check.specs.Weights.{IsLeastRow, IsLowered, unlinked};
 ghost use Rattle.tcc_check.specs.WeightsFrom.{AreAllEnds, AreEnds, AreLightEnds, BetweenWeighs, ContradictsBy};
 ghost use Rattle.tcc_check.specs.WeightsFrom.{InitContradictsBy, MarkWeighs, PlaceWeighs, ReadWeighs};
 ghost use Rattle.tcc_check.specs.WeightsFrom.{ReadingWeighs, SourceWeighs, WeighsFrom};
@@ -28,13 +28,20 @@ fn mark(weights: &mut [u32], readers: &[u32])
     }
 }
 
+/// A weight for each transaction, where nothing is linked.
+fn bare_weights(alloc: Global, graph: &Graph) -> Result<Vec<u32>, NoMemory>
+    ensures { IfOk result (λ weights. weights.items ≡ replicate (count graph.now) unlinked) }
+{
+    Ok(vec![in alloc; UNLINKED; graph.count() as usize]?)
+}
+
 /// The weights of reads-from pairs from `start`, by their ends.
 fn read_weights(alloc: Global, graph: &Graph, start: u32) -> Result<Vec<u32>, NoMemory>
     requires { start < count graph.now }
     ensures long { IfOk result (λ weights. length weights.items ≡ count graph.now) }
     ensures least { IfOk result (λ weights. IsLeastRow (ReadWeighs graph.now start) weights.items) }
 {
-    let mut weights = vec![in alloc; UNLINKED; graph.count() as usize]?;
+    let mut weights = bare_weights(alloc, graph)?;
     mark(&mut weights, graph.readings(start).0);
     Ok(weights)
 }
@@ -139,7 +146,7 @@ pub(crate) fn contradicted_weights(
     ensures long { IfOk result (λ weights. length weights.items ≡ count graph.now) }
     ensures least { IfOk result (λ weights. IsLeastRow (ContradictsBy graph.now row.now start) weights.items) }
 {
-    let mut weights = vec![in alloc; UNLINKED; graph.count() as usize]?;
+    let mut weights = bare_weights(alloc, graph)?;
     lower_contradicted(&mut weights, graph, row, start);
     Ok(weights)
 }

@@ -43,17 +43,16 @@ fn overshot(links: &Ends, row: &[u32], low: u32, before: u32, most: u32) -> Opti
     requires capped { All (λ number. number ≤ most) row.now }
     ensures { IsFoundBelow (low + length row.now) (IsOvershot links.now row.now low before) result }
 {
-    let (ends, groups) = links.parts();
+    let (mut left, groups) = links.parts();
     let mut found = None;
-    let mut first = 0;
     for (weight, count) in groups {
         let cost = u64::from(before) + 1 + u64::from(*weight);
         if u64::from(most) <= cost {
             return found;
         }
-        let behind = first + *count as usize;
-        found = lesser(found, overshot_at(&ends[first..behind], row, low, cost));
-        first = behind;
+        let (ends, later) = left.split_at(*count as usize);
+        found = lesser(found, overshot_at(ends, row, low, cost));
+        left = later;
     }
     found
 }

@@ -2,26 +2,9 @@
 use Rattle.tcc_check.proofs.Passing.{passed-over}
 use Rattle.tcc_check.proofs.coming.skip_rest.Goals as goal
 
-pub parts-preserved-in_default-3 : goal.parts-preserved-in_default-3
-parts-preserved-in_default-3 g c =
+pub parts-preserved : goal.parts-preserved
+parts-preserved g c =
     record {
       begun = c.next_part.ensures.begun;
-      rows = passed-over g.R.Read.remaining c.in_ok-next_part.field-0 _ _ _ c.parts.invariant.rows
-          c.in_ok-next_part.ensures.parts;
-    }
-
-pub parts-preserved-in_default-4 : goal.parts-preserved-in_default-4
-parts-preserved-in_default-4 g c =
-    record {
-      begun = c.next_part.ensures.begun;
-      rows = passed-over g.R.Read.remaining c.in_ok-next_part.field-0 _ _ _ c.parts.invariant.rows
-          c.in_ok-next_part.ensures.parts;
-    }
-
-pub parts-preserved-in_default-5 : goal.parts-preserved-in_default-5
-parts-preserved-in_default-5 g c =
-    record {
-      begun = c.next_part.ensures.begun;
-      rows = passed-over g.R.Read.remaining c.in_ok-next_part.field-0 _ _ _ c.parts.invariant.rows
-          c.in_ok-next_part.ensures.parts;
+      rows = passed-over g.R.Read.remaining c.in_ok-next_part.field-0 _ _ _ c.parts.invariant.rows c.in_ok-next_part.ensures.parts;
     }

@@ -1,5 +1,5 @@
 -- Where nothing is linked, who reads from the start is marked.
-use Rattle.std.proofs.Common.{◌≡◌, ◌<◌, [], replicate, length, rules, ap, ◌∙◌}
+use Rattle.std.proofs.Common.{◌≡◌, ◌<◌, [], length, rules, ap, ◌∙◌}
 use Rattle.std.proofs.lemmas.List.{length-replicate}
 use Rattle.tcc_reads.specs.History.{count}
 use Rattle.tcc_txn.proofs.Lists.{whole}
@@ -13,21 +13,17 @@ returns c =
     let h = c.args.graph.now in
     let bare = c.in_ok-weights.weights.items in
     let new = c.mark.new.weights in
-    let made : bare ≡ replicate c.count.result unlinked = search rules in
-    let lowered : IsLowered (MarkWeighs c.readings.result.0.now) bare new = rw (← c.deref_mut.ensures.value) c.mark.ensures in
-    let long : length new ≡ count h = lowered.long ∙ ap length made ∙ length-replicate c.count.result unlinked ∙ c.count.ensures.value in
-    rw (whole new bare c.in_ok-weights.weights.len lowered.long (search rules)) (record {
-      long = long;
-      least = bare-lowered c.count.result (ReadWeighs h c.args.start) bare new made
-          (marks-reads h c.args.start c.readings.result.0.now c.readings.result.1.now bare new c.readings.ensures.long
-          (λ k x w. (c.readings.ensures.each k x).0 w) (λ k x w. (c.readings.ensures.each k x).1 w) lowered);
-    })
+    let marked : IsLowered (MarkWeighs c.readings.result.0.now) bare new = rw (← c.deref_mut.ensures.value) c.mark.ensures in
+    let lowered =
+    marks-reads h c.args.start c.readings.result.0.now c.readings.result.1.now bare new c.readings.ensures.long
+    (λ k x w. (c.readings.ensures.each k x).0 w) (λ k x w. (c.readings.ensures.each k x).1 w) marked in
+    let all = bare-lowered (count h) (ReadWeighs h c.args.start) bare new c.in_ok-weights.ensures lowered in
+    rw (whole new bare c.in_ok-weights.weights.len marked.long (search rules)) (record { long = all.0; least = all.1 })
 
 pub mark-requires : goal.mark-requires
 mark-requires c =
     let h = c.args.graph.now in
-    let made : c.in_ok-weights.weights.items ≡ replicate c.count.result unlinked = search rules in
     let long : length c.deref_mut.result.now ≡ count h =
-    ap length (c.deref_mut.ensures.value ∙ made) ∙ length-replicate c.count.result unlinked ∙ c.count.ensures.value in
+    ap length (c.deref_mut.ensures.value ∙ c.in_ok-weights.ensures) ∙ length-replicate (count h) unlinked in
     rw long (firsts-by [] (λ k. k < count h) c.readings.result.0.now c.readings.result.1.now c.readings.ensures.long
     (λ k x w. ((c.readings.ensures.each k x).0 w).1))

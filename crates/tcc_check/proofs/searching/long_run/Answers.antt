@@ -1,52 +1,31 @@
-use Rattle.std.proofs.Common.{◌≡◌, ◌<◌, ◌+◌, ◌-◌, ℕ, length, get_or, min, ap, arith, subst, ◌∙◌}
-use Rattle.tcc_check.specs.Searches.{IsLongRunTo}
-use Rattle.tcc_check.proofs.First.{holds_below_more}
-use Rattle.tcc_check.proofs.Carried.{IsCarried, run_here, carried_on, run_long, run_short}
+use Rattle.std.proofs.Common.{◌≡◌, ◌+◌, get_or, arith}
+use Rattle.tcc_check.proofs.Carried.{carried_more, first_long, none_long}
 use Rattle.tcc_check.proofs.searching.long_run.Goals as goal
 use Rattle.tcc_check.proofs.searching.long_run.Goals.{then-end-eq0, else-end-eq0}
 
 pub returns-then-from : goal.returns-then-from
 returns-then-from c =
-    let end = c.args.low + c.loop-place.place in
-    let inside : end < c.args.low + length c.args.row.now = omega arith in
-    let here =
-    run_here c.args.begins.now c.args.row.now c.args.low end c.requires.runs c.requires.begins inside
-    (omega arith) c.loop-place.opening c.loop-place.least c.run_least-least.result c.loop-place.invariant.1 c.run_least-least.ensures.anew
-    c.run_least-least.ensures.on in
-    let number : get_or c.args.row.now c.loop-place.place 0 ≡ get_or c.args.row.now (end - c.args.low) 0 = ap (λ k. get_or c.args.row.now k 0) (omega arith) in
-    let long =
-    run_long c.args.begins.now c.args.row.now c.args.low end c.requires.runs c.requires.begins inside (omega arith) c.run_least-least.result
-    (get_or c.args.row.now c.loop-place.place 0) number (omega (arith, c.type_inv.row c.loop-place.place)) here
-    (omega (arith, c.if-from.true, c.from.ensures, c.from-in-loop-place.ensures)) in
-    record { below = inside; here = (omega arith, long); first = λ earlier l p. c.loop-place.invariant.0 earlier l p }
+    first_long c.args.begins.now c.args.row.now c.args.low c.loop-place.place c.requires.runs c.requires.begins c.loop-place-test.true c.loop-place.opening
+    c.loop-place.least c.run_least-least.result c.loop-place.invariant.1 c.run_least-least.ensures.anew c.run_least-least.ensures.on
+    (omega (arith, c.type_inv.row c.loop-place.place)) (omega (arith, c.if-from.true, c.from.ensures, c.from-in-loop-place.ensures))
+    c.loop-place.invariant.0
 
 pub loop-place-preserved : goal.loop-place-preserved
 loop-place-preserved c =
-    let end = c.args.low + c.loop-place.place in
-    let inside : end < c.args.low + length c.args.row.now = omega arith in
-    let here =
-    run_here c.args.begins.now c.args.row.now c.args.low end c.requires.runs c.requires.begins inside
-    (omega arith) c.loop-place.opening c.loop-place.least c.run_least-least.result c.loop-place.invariant.1 c.run_least-least.ensures.anew
-    c.run_least-least.ensures.on in
-    let number : get_or c.args.row.now c.loop-place.place 0 ≡ get_or c.args.row.now (end - c.args.low) 0 = ap (λ k. get_or c.args.row.now k 0) (omega arith) in
-    let short =
-    run_short c.args.begins.now c.args.row.now c.args.low end c.requires.runs c.requires.begins inside (omega arith) c.run_least-least.result
-    (get_or c.args.row.now c.loop-place.place 0) number here
-    (λ l. absurd (omega (arith, l, c.if-from.false, c.from.ensures, c.from-in-loop-place.ensures))) in
-    let none : IsLongRunTo c.args.begins.now c.args.row.now c.args.low end → ⊥ = λ p. short p.1 in
-    let new : c.min-least.result ≡ min c.run_least-least.result (get_or c.args.row.now (end - c.args.low) 0) =
-    c.min-least.ensures ∙ ap (λ n. min c.run_least-least.result n) number in
-    let carried : IsCarried c.args.begins.now c.args.row.now c.args.low (end + 1) c.if-end-eq0.opening c.min-least.result = elim c.if-end-eq0.branch [
-      | then-end-eq0 w ↦ carried_on c.args.begins.now c.args.row.now c.args.low end c.requires.runs c.requires.begins inside
-          (omega arith) c.loop-place.least c.loop-place.opening c.run_least-least.result c.min-least.result c.loop-place.invariant.1 here new
-          c.if-end-eq0.opening (λ first. w.opening-is ∙ number) (λ other. absurd (other w.if-end-eq0.true))
-      | else-end-eq0 w ↦ carried_on c.args.begins.now c.args.row.now c.args.low end c.requires.runs c.requires.begins inside
-          (omega arith) c.loop-place.least c.loop-place.opening c.run_least-least.result c.min-least.result c.loop-place.invariant.1 here new
-          c.if-end-eq0.opening (λ first. absurd (w.if-end-eq0.false first)) (λ other. w.opening-is)
+    let row = c.args.row.now in
+    let place = c.loop-place.place in
+    let end = c.args.low + place in
+    let opening : ((end ≡ 0 → c.if-end-eq0.opening ≡ get_or row place 0) × ((end ≡ 0 → ⊥) → c.if-end-eq0.opening ≡ c.loop-place.opening)) =
+    elim c.if-end-eq0.branch [
+      | then-end-eq0 w ↦ (λ first. w.opening-is, λ other. absurd (other w.if-end-eq0.true))
+      | else-end-eq0 w ↦ (λ first. absurd (w.if-end-eq0.false first), λ other. w.opening-is)
     ] in (
-      holds_below_more end (c.args.low + (c.loop-place.place + 1)) (IsLongRunTo c.args.begins.now c.args.row.now c.args.low)
-          (omega arith) c.loop-place.invariant.0 none,
-      subst (λ (e : ℕ). IsCarried c.args.begins.now c.args.row.now c.args.low e c.if-end-eq0.opening c.min-least.result) (omega arith) carried,
+      none_long c.args.begins.now row c.args.low place c.requires.runs c.requires.begins c.loop-place-test.true c.loop-place.opening c.loop-place.least
+          c.run_least-least.result c.loop-place.invariant.1 c.run_least-least.ensures.anew c.run_least-least.ensures.on
+          (λ l. absurd (omega (arith, l, c.if-from.false, c.from.ensures, c.from-in-loop-place.ensures))) c.loop-place.invariant.0,
+      carried_more c.args.begins.now row c.args.low place c.requires.runs c.requires.begins c.loop-place-test.true c.loop-place.opening c.loop-place.least
+          c.run_least-least.result c.loop-place.invariant.1 c.run_least-least.ensures.anew c.run_least-least.ensures.on c.if-end-eq0.opening
+          c.min-least.result c.min-least.ensures opening.0 opening.1,
     )
 
 pub returns : goal.returns

@@ -1,4 +1,4 @@
-use Rattle.std.proofs.Common.{◌≡◌, ◌+◌, length, take}
+use Rattle.std.proofs.Common.{◌≡◌, ◌+◌, length, take, drop}
 use Rattle.tcc_check.specs.Groups.{links_by, total}
 use Rattle.tcc_check.specs.Searches.{IsFoundBelow}
 use Rattle.tcc_check.proofs.Overshot.{SeenOver}
@@ -6,5 +6,8 @@ use Rattle.tcc_check.proofs.searching.overshot.Given as goal
 
 abbrev pub invariant-loop-weight : goal.invariant-loop-weight
 invariant-loop-weight l =
-    (l.first ≡ total (take l.weight-index l.groups)) × IsFoundBelow (l.low + length l.row)
-    (SeenOver l.first (links_by l.groups l.ends) l.row l.low l.before) l.found
+    record {
+      left : l.left ≡ drop (total (take l.weight-index l.groups)) l.initial.left;
+      seen : IsFoundBelow (l.low + length l.row)
+          (SeenOver (total (take l.weight-index l.groups)) (links_by l.groups l.initial.left) l.row l.low l.before) l.found;
+    }
