@@ -12,7 +12,7 @@ use Rattle.tcc_cert.specs.Rules.{HoldsEverywhere}
 use Rattle.tcc_check.specs.Searches.{IsFoundBelow}
 use Rattle.tcc_check.specs.Weights.{unlinked, IsLeastRow}
 use Rattle.tcc_check.specs.WeightsFrom.{ContradictsBy}
-use Rattle.tcc_check.specs.Places.{ArePlaces, IsKept, IsBehind}
+use Rattle.tcc_check.specs.Places.{ArePlaces, IsKept, IsBehind, order_claim}
 use Rattle.tcc_graph.proofs.Numberings.{one_place}
 use Rattle.tcc_graph.proofs.Pairs.{session_below, pair_below}
 use Rattle.tcc_check.specs.Latest.{AreSessionsKept, AreApart, AreReadsKept}
@@ -32,14 +32,14 @@ module _ (order places : List ℕ) (are : ArePlaces order places) where
 module _ (h : History) (level : Level) (order places : List ℕ) (sessions : ℕ) (clocks : List (List ℕ)) (are : ArePlaces order places)
     (long : length order ≡ count h) where
   pub pairs_kept : ((b c : ℕ) → IsCausalPair h b c → IsKept h level places clocks b c)
-      → KeepsPairs h (record { level = level; order = order; sessions = sessions; clocks = clocks })
+      → KeepsPairs h (order_claim level order sessions clocks)
   pairs_kept kept = record {
     numbering = subst (λ n. IsNumbering n order) long are.numbering;
     ordered = λ a b p. let bounds = pair_below h a b p in places_before order places are a b (omega (arith, bounds.0)) (omega (arith, bounds.1)) (kept a b p).0;
     clocks = λ causal b c p. (kept b c p).1 causal;
   }
 
-  pub kept_pairs : KeepsPairs h (record { level = level; order = order; sessions = sessions; clocks = clocks }) → (b c : ℕ) → IsCausalPair h b c
+  pub kept_pairs : KeepsPairs h (order_claim level order sessions clocks) → (b c : ℕ) → IsCausalPair h b c
       → IsKept h level places clocks b c
   kept_pairs k b c p = let bounds =
       pair_below h b c p in (
@@ -49,11 +49,11 @@ module _ (h : History) (level : Level) (order places : List ℕ) (sessions : ℕ
 
   module _ (b : ℕ) (gaps weights : List ℕ) (none : (c : ℕ) → c < count h → (get_or gaps c 0 ≡ 0) ↔ MayReach h level clocks b c)
       (wide : length weights ≡ count h) (least : IsLeastRow (ContradictsBy h gaps b) weights) (inside : b < count h) where
-    behind_breaks : (a : ℕ) → IsBehind weights places b a → BreaksAxiom h (record { level = level; order = order; sessions = sessions; clocks = clocks }) (b, a)
+    behind_breaks : (a : ℕ) → IsBehind weights places b a → BreaksAxiom h (order_claim level order sessions clocks) (b, a)
     behind_breaks a (l, is_none, low) = go (least.from a (omega (arith, l, are.long, long, wide)))
       where
         go : (get_or weights a 0 ≡ unlinked) ⊎ ContradictsBy h gaps b a (get_or weights a 0)
-            → BreaksAxiom h (record { level = level; order = order; sessions = sessions; clocks = clocks }) (b, a)
+            → BreaksAxiom h (order_claim level order sessions clocks) (b, a)
         go (inl e) = absurd (omega (arith, e, is_none))
         go (inr (x, c, may, is)) = (
           x,
@@ -63,7 +63,7 @@ module _ (h : History) (level : Level) (order places : List ℕ) (sessions : ℕ
           λ before. absurd (omega (arith, low, before_places order places are b a (omega (arith, inside, long)) (omega (arith, l, are.long)) before)),
         )
 
-    breaks_behind : (a : ℕ) → BreaksAxiom h (record { level = level; order = order; sessions = sessions; clocks = clocks }) (b, a) → IsBehind weights places b a
+    breaks_behind : (a : ℕ) → BreaksAxiom h (order_claim level order sessions clocks) (b, a) → IsBehind weights places b a
     breaks_behind a (x, c, may, reach, not) =
         let gap = (none c may.1.1).1 reach in
         let low = least.low a (get_or gaps c 0) (omega (arith, may.1.0, wide)) (x, c, may, refl) in
@@ -74,12 +74,12 @@ module _ (h : History) (level : Level) (order places : List ℕ) (sessions : ℕ
         go (inr le) = le
 
     pub axiom_asked : (found : Option ℕ) → IsFoundBelow (length places) (IsBehind weights places b) found
-        → IsFoundBelow (count h) (λ a. BreaksAxiom h (record { level = level; order = order; sessions = sessions; clocks = clocks }) (b, a)) found
+        → IsFoundBelow (count h) (λ a. BreaksAxiom h (order_claim level order sessions clocks) (b, a)) found
     axiom_asked found is =
-        subst (λ (n : ℕ). IsFoundBelow n (λ a. BreaksAxiom h (record { level = level; order = order; sessions = sessions; clocks = clocks }) (b, a)) found)
+        subst (λ (n : ℕ). IsFoundBelow n (λ a. BreaksAxiom h (order_claim level order sessions clocks) (b, a)) found)
         (are.long ∙ long)
         (found_as (length places) (IsBehind weights places b)
-        (λ a. BreaksAxiom h (record { level = level; order = order; sessions = sessions; clocks = clocks }) (b, a)) behind_breaks breaks_behind found is)
+        (λ a. BreaksAxiom h (order_claim level order sessions clocks) (b, a)) behind_breaks breaks_behind found is)
 
 -- ---- what is kept by the pair before and by the next is kept by both
 
@@ -119,12 +119,12 @@ module _ (h : History) (level : Level) (places : List ℕ) (clocks : List (List 
 
 module _ (h : History) (level : Level) (order places : List ℕ) (sessions : ℕ) (clocks : List (List ℕ)) (are : ArePlaces order places)
     (long : length order ≡ count h) where
-  pub sessions_kept : KeepsPairs h (record { level = level; order = order; sessions = sessions; clocks = clocks }) → AreSessionsKept h places
+  pub sessions_kept : KeepsPairs h (order_claim level order sessions clocks) → AreSessionsKept h places
   sessions_kept kept b c p = let bounds =
       session_below h b c p in before_places order places are b c (omega (arith, bounds.0, long)) (omega (arith, bounds.1, long)) (kept.ordered b c (inl p))
 
   pub axiom_kept : ((c : ℕ) → c < count h → AreReadsKept h level places clocks c)
-      → HoldsEverywhere (BreaksAxiom h (record { level = level; order = order; sessions = sessions; clocks = clocks }))
+      → HoldsEverywhere (BreaksAxiom h (order_claim level order sessions clocks))
   axiom_kept all at (x, c, may, reach, not) =
       not (places_before order places are at.0 at.1 (omega (arith, may.2.0, long)) (omega (arith, may.1.0, long)) (all c may.1.1 x at.1 may.1 at.0 may reach))
 

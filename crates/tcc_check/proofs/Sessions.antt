@@ -4,7 +4,7 @@ use Rattle.std.proofs.Common.{inl, inr, List, [], ◌∷◌, map, filter, length
 use Rattle.std.proofs.Common.{◌∙◌, arith}
 use Rattle.std.specs.Prelude.{All, nat_le}
 use Rattle.std.specs.List.{Contains, AllPairs}
-use Rattle.std.specs.List.Sorted.{IsPartitionPoint, IsPartitionedBy, IsNonDecreasing, IsStrictlyIncreasing}
+use Rattle.std.specs.List.Sorted.{IsPartitionedBy, IsNonDecreasing, IsStrictlyIncreasing}
 use Rattle.std.proofs.lemmas.List.Kept.{IsStrictlyIncreasing-filter, AllPairs-from_increasing}
 use Rattle.std.proofs.lemmas.List.FromFn.{length-range_with_len, get_or-range_with_len}
 use Rattle.std.proofs.lemmas.Bool.{cases_lt, cases_eq, cases_Bool, and_parts, and_from, or_cases}
@@ -14,13 +14,15 @@ use Rattle.std.proofs.lemmas.List.{get_or_default}
 use Rattle.tcc_txn.proofs.Lists.{in_filter, from_filter}
 use Rattle.tcc_reads.specs.History.{History, IsBySession, count, entry_at, owner, place}
 use Rattle.tcc_graph.specs.Numbers.{at}
-use Rattle.tcc_graph.specs.Relations.{IsSessionPair, session_pair, IsReadsPair, IsCausalPair}
+use Rattle.tcc_graph.specs.Relations.{IsSessionPair, session_pair, IsReadsPair}
 use Rattle.tcc_graph.specs.Keys.{writers, writes, is_key, numbers}
-use Rattle.tcc_graph.specs.declared.level.Level.TheVariants.{Causal, Atomic}
+use Rattle.tcc_graph.specs.declared.level.Level.{Level}
+use Rattle.tcc_graph.specs.declared.level.Level.TheVariants.{Causal}
 use Rattle.tcc_cert.specs.Tables.{row_of, entry}
 use Rattle.tcc_graph.proofs.Pairs.{PairParts, pair_parts, lower_first, initial_pair}
 use Rattle.tcc_cert.specs.OrderRules.{MayReach}
-use Rattle.tcc_check.specs.Latest.{is_within, IsLastWithin, AreSessionsKept, AreOwned, AreApart, StandBefore, StandAllBefore, IsReadKept}
+use Rattle.tcc_check.specs.Latest.{is_within, IsCountWithin, IsLastWithin, AreSessionsKept, AreOwned, AreApart, AreRising}
+use Rattle.tcc_check.specs.Latest.{KeepsPairsBy, StandBefore, StandAllBefore, IsReadKept}
 use Rattle.tcc_graph.proofs.WriterLemmas.{writer_listed}
 
 module _ (h : History) (ordered : IsBySession h.entries) where
@@ -145,29 +147,28 @@ module _ (h : History) (session number : ℕ) where
         go (inl some) (inr equal) = let same : m ≡ n = omega (arith, upto, equal) in rw same e
 
     -- what a search for the last asks, and what its answer says
-    module _ (numbers : List ℕ) (rising : IsNonDecreasing numbers) (all : All (λ b. b < count h) numbers) where
+    module _ (numbers : List ℕ) (are : AreRising h numbers) where
       pub parted_within : IsPartitionedBy (λ n. is_within h session number n) numbers
-      parted_within i j d upto below e = falls (get_or numbers i d) (get_or numbers j d) (rising i j d upto below) (all j d below) e
+      parted_within i j d upto below e = falls (get_or numbers i d) (get_or numbers j d) (are.rising i j d upto below) (are.below j d below) e
 
-      module _ (i : ℕ) (upto : i ≤ length numbers)
-          (point : IsPartitionPoint (λ n. is_within h session number n ≡ true) (λ n. is_within h session number n ≡ false) numbers i) where
+      module _ (i : ℕ) (is : IsCountWithin h numbers session number i) where
         before : (k b : ℕ) → k < length numbers → get_or numbers k b ≡ b → is_within h session number b ≡ true → k < i
         before k b below here e = go (cases_lt k i)
           where
             go : (k < i) ⊎ (i ≤ k) → k < i
             go (inl less) = less
-            go (inr more) = absurd (both_ways (is_within h session number b) (rw here at (point.1 k b more below)) e)
+            go (inr more) = absurd (both_ways (is_within h session number b) (rw here at (is.point.1 k b more below)) e)
 
         pub none_within : i ≡ 0 → IsLastWithin h numbers session number None
         none_within none b (k, below, here) e = let less = before k b below here e in absurd (omega (arith, less, none))
 
         pub last_within : (i ≡ 0 → ⊥) → IsLastWithin h numbers session number (Some (get_or numbers (i - 1) 0))
         last_within some = (
-          (i - 1, omega (arith, some, upto), get_or_default numbers (i - 1) _ 0 (omega (arith, some, upto))),
-          point.0 (i - 1) 0 (omega arith) (omega (arith, some)),
+          (i - 1, omega (arith, some, is.upto), get_or_default numbers (i - 1) _ 0 (omega (arith, some, is.upto))),
+          is.point.0 (i - 1) 0 (omega arith) (omega (arith, some)),
           λ b w e.
               let less = before w.0 b w.1 w.2 e in
-              let rise = rising w.0 (i - 1) 0 (omega (arith, less)) (omega (arith, some, upto)) in
+              let rise = are.rising w.0 (i - 1) 0 (omega (arith, less)) (omega (arith, some, is.upto)) in
               let here : get_or numbers w.0 0 ≡ b = get_or_default numbers w.0 0 b w.1 ∙ w.2 in
               omega (arith, rise, here),
         )
@@ -211,37 +212,32 @@ module _ (h : History) (ordered : IsBySession h.entries) (places writers : List 
 
 -- ---- what the last writers of all sessions say of a read
 
-module _ (h : History) (places : List ℕ) (clocks : List (List ℕ)) (x : List ℕ) (a c : ℕ) (kept : AreSessionsKept h places) (apart : AreApart places)
-    (long : length places ≡ count h) where
-  strictly : (b : ℕ) → b ≢ a → b < count h → a < count h → get_or places b 0 ≤ get_or places a 0 → get_or places b 0 < get_or places a 0
-  strictly b other below source upto = go (cases_lt (get_or places b 0) (get_or places a 0))
+module _ (h : History) (places : List ℕ) (clocks : List (List ℕ)) (x : List ℕ) (a c : ℕ) where
+  strictly : (b : ℕ) → AreApart places → length places ≡ count h → b ≢ a → b < count h → a < count h → get_or places b 0 ≤ get_or places a 0 → get_or places b 0 < get_or places a 0
+  strictly b apart long other below source upto = go (cases_lt (get_or places b 0) (get_or places a 0))
     where
       go : (get_or places b 0 < get_or places a 0) ⊎ (get_or places a 0 ≤ get_or places b 0) → get_or places b 0 < get_or places a 0
       go (inl less) = less
       go (inr more) = absurd (other (apart b a (omega (arith, below, long)) (omega (arith, source, long)) (omega (arith, upto, more))))
 
-  pub kept_by_last : AreOwned h → length (row_of clocks c) ≡ length h.sessions → StandAllBefore h places (row_of clocks c) (writers h x) a
-      → IsReadKept h Causal places clocks x a c
-  kept_by_last owned wide stand b (other, reads, writer) reach = go (cases_lt 0 b) reach
+  pub kept_by_last : KeepsPairsBy h Causal places clocks → AreOwned h → length (row_of clocks c) ≡ length h.sessions
+      → StandAllBefore h places (row_of clocks c) (writers h x) a → IsReadKept h Causal places clocks x a c
+  kept_by_last by owned wide stand b (other, reads, writer) reach = go (cases_lt 0 b) reach
     where
       go : (0 < b) ⊎ (b ≤ 0) → (b ≡ 0) ⊎ (place h b ≤ entry clocks c (owner h b)) → get_or places b 0 < get_or places a 0
       go (inl some) (inl none) = absurd (omega (arith, some, none))
       go (inl some) (inr upto) =
           let inside = owned b some writer.0 in
-          strictly b other writer.0 reads.0 (stand (owner h b) (omega (arith, inside, wide)) b (writer_listed h x a c b reads writer) some refl upto)
-      go (inr none) r = let zeroth : b ≡ 0 = omega (arith, none) in kept b a (initial_pair h b a zeroth writer.0 (some_source zeroth (cases_lt 0 a)) reads.0)
+          strictly b by.apart by.sessions.long other writer.0 reads.0 (stand (owner h b) (omega (arith, inside, wide)) b (writer_listed h x a c b reads writer) some refl upto)
+      go (inr none) r = let zeroth : b ≡ 0 = omega (arith, none) in by.sessions.kept b a (initial_pair h b a zeroth writer.0 (some_source zeroth (cases_lt 0 a)) reads.0)
         where
           some_source : b ≡ 0 → (0 < a) ⊎ (a ≤ 0) → 0 < a
           some_source zeroth (inl some) = some
           some_source zeroth (inr less) = absurd (other (omega (arith, zeroth, less)))
 
-  pub kept_by_pairs : ((b : ℕ) → Contains (writers h x) b → b ≢ a → IsCausalPair h b c → get_or places b 0 < get_or places a 0)
-      → IsReadKept h Atomic places clocks x a c
-  kept_by_pairs each b (other, reads, writer) reach = each b (writer_listed h x a c b reads writer) other reach
-
-  pub kept_by_reached : ((b : ℕ) → Contains (writers h x) b → b ≢ a → MayReach h Causal clocks b c → get_or places b 0 < get_or places a 0)
-      → IsReadKept h Causal places clocks x a c
-  kept_by_reached each b (other, reads, writer) reach = each b (writer_listed h x a c b reads writer) other reach
+  pub kept_by_reached : (level : Level) → ((b : ℕ) → Contains (writers h x) b → b ≢ a → MayReach h level clocks b c
+      → get_or places b 0 < get_or places a 0) → IsReadKept h level places clocks x a c
+  kept_by_reached level each b (other, reads, writer) reach = each b (writer_listed h x a c b reads writer) other reach
 
 pub writers_rise : (h : History) (x : List ℕ) → IsNonDecreasing (writers h x)
 writers_rise h x = go (is_key h x)

@@ -1,14 +1,11 @@
 //! The axiom, asked of few: of the writers that stand behind what is read, or, where the writers are many, of each session
 //! only the last one that a reader's clock reaches. Those before it stand before it in the order too.
-ghost use Rattle.std.specs.Prelude.{ℕ, ◌≡◌, ◌≢◌, ◌<◌, ◌≤◌, ◌^◌, List, All, Contains, length, slice_index, IsTrue};
-ghost use Rattle.std.specs.List.Sorted.{IsNonDecreasing};
+ghost use Rattle.std.specs.Prelude.{ℕ, ◌≡◌, ◌≢◌, ◌<◌, ◌≤◌, ◌^◌, ◌↔◌, List, All, Contains, length, slice_index, IsTrue};
 ghost use Rattle.tcc_reads.specs.History.{IsBySession, count, owner};
-ghost use Rattle.tcc_txn.specs.declared.limits.TheConstants.{MAX_SESSIONS};
-ghost use Rattle.tcc_graph.specs.Relations.{IsCausalPair};
 ghost use Rattle.tcc_graph.specs.declared.level.Level.TheVariants.{Causal};
 ghost use Rattle.tcc_cert.specs.OrderRules.{HasClocks, MayReach};
-ghost use Rattle.tcc_cert.specs.Tables.{HasSize};
-ghost use Rattle.tcc_check.specs.Latest.{is_within, IsLastWithin, AreOwned, AreApart, AreSessionsKept, StandBefore, StandAllBefore, IsReadKept, AreReadsKept};
+ghost use Rattle.tcc_check.specs.Latest.{is_within, IsCountWithin, IsLastWithin, AreOwned, AreRising, KeepsSessions};
+ghost use Rattle.tcc_check.specs.Latest.{KeepsPairsBy, StandBefore, StandAllBefore, IsReadKept, AreReadsKept};
 
 use crate::order::clock_gap;
 use tcc_cert::Numbers;
@@ -28,14 +25,22 @@ fn is_within(graph: &Graph, session: u32, place: u32, number: u32) -> bool
     }
 }
 
+/// How many of these come no later than the place of the session. They are the first ones.
+fn count_within(graph: &Graph, writers: &[u32], session: u32, place: u32) -> usize
+    requires numbered { IsBySession graph.now.entries }
+    requires writers { AreRising graph.now writers.now }
+    ensures { IsCountWithin graph.now writers.now session place result }
+{
+    writers.partition_point(|writer| is_within(graph, session, place, *writer))
+}
+
 /// The last of these that comes no later than the place of the session.
 fn last_within(graph: &Graph, writers: &[u32], session: u32, place: u32) -> Option<u32>
     requires numbered { IsBySession graph.now.entries }
-    requires rising { IsNonDecreasing writers.now }
-    requires below { All (λ b. b < count graph.now) writers.now }
+    requires writers { AreRising graph.now writers.now }
     ensures { IsLastWithin graph.now writers.now session place result }
 {
-    let count = writers.partition_point(|writer| is_within(graph, session, place, *writer));
+    let count = count_within(graph, writers, session, place);
     if count == 0 {
         return None;
     }
@@ -52,11 +57,8 @@ fn stands_before(
     place: u32,
     source: u32,
 ) -> bool
-    requires numbered { IsBySession graph.now.entries }
-    requires long { length places.now ≡ count graph.now }
-    requires kept { AreSessionsKept graph.now places.now }
-    requires rising { IsNonDecreasing writers.now }
-    requires below { All (λ b. b < count graph.now) writers.now }
+    requires places { KeepsSessions graph.now places.now }
+    requires writers { AreRising graph.now writers.now }
     requires source { source < count graph.now }
     ensures { IsTrue result → StandBefore graph.now places.now writers.now session place source }
 {
@@ -74,11 +76,8 @@ fn stands_before(
 
 /// Whether none of these that the clock reaches stands behind the source.
 fn stand_before(graph: &Graph, places: &[u32], clock: &[u32], writers: &[u32], source: u32) -> bool
-    requires numbered { IsBySession graph.now.entries }
-    requires long { length places.now ≡ count graph.now }
-    requires kept { AreSessionsKept graph.now places.now }
-    requires rising { IsNonDecreasing writers.now }
-    requires below { All (λ b. b < count graph.now) writers.now }
+    requires places { KeepsSessions graph.now places.now }
+    requires writers { AreRising graph.now writers.now }
     requires source { source < count graph.now }
     requires few { length clock.now < 2 ^ 32 }
     ensures { IsTrue result → StandAllBefore graph.now places.now clock.now writers.now source }
@@ -91,29 +90,23 @@ fn stand_before(graph: &Graph, places: &[u32], clock: &[u32], writers: &[u32], s
     true
 }
 
-/// Whether none of these that the source's reader has a causal pair from stands behind the source.
-fn pairs_before(graph: &Graph, places: &[u32], writers: &[u32], source: u32, c: u32) -> bool
-    requires long { length places.now ≡ count graph.now }
-    requires below { All (λ b. b < count graph.now) writers.now }
-    requires source { source < count graph.now }
-    requires reader { c < count graph.now }
-    ensures { IsTrue result → ((b : ℕ) → Contains writers.now b → b ≢ source → IsCausalPair graph.now b c
-        → slice_index places.now b < slice_index places.now source) }
+/// Whether `b` may reach `c`: by the clock of `c`, or, at `Atomic`, in a single pair.
+fn may_reach(graph: &Graph, level: Level, clocks: &[Numbers], b: u32, c: u32) -> bool
+    requires clocks { HasClocks level (count graph.now) (length graph.now.sessions) clocks.now }
+    requires b { b < count graph.now }
+    requires c { c < count graph.now }
+    ensures { IsTrue result ↔ MayReach graph.now level clocks.now b c }
 {
-    for writer in writers {
-        if *writer != source
-            && places[source as usize] <= places[*writer as usize]
-            && graph.causal(*writer, c)
-        {
-            return false;
-        }
+    match level {
+        Level::Causal => clock_gap(graph, clocks, b, c) == 0,
+        Level::Atomic => graph.causal(b, c),
     }
-    true
 }
 
-/// Whether none of these that the clock of the source's reader has stands behind the source. Each of them is asked.
+/// Whether none of these that may reach the source's reader stands behind the source. Each of them is asked.
 fn reached_before(
     graph: &Graph,
+    level: Level,
     places: &[u32],
     clocks: &[Numbers],
     writers: &[u32],
@@ -121,16 +114,17 @@ fn reached_before(
     c: u32,
 ) -> bool
     requires long { length places.now ≡ count graph.now }
+    requires clocks { HasClocks level (count graph.now) (length graph.now.sessions) clocks.now }
     requires below { All (λ b. b < count graph.now) writers.now }
     requires source { source < count graph.now }
-    requires reader { c < length clocks.now }
-    ensures { IsTrue result → ((b : ℕ) → Contains writers.now b → b ≢ source → MayReach graph.now Causal clocks.now b c
+    requires reader { c < count graph.now }
+    ensures { IsTrue result → ((b : ℕ) → Contains writers.now b → b ≢ source → MayReach graph.now level clocks.now b c
         → slice_index places.now b < slice_index places.now source) }
 {
     for writer in writers {
         if *writer != source
             && places[source as usize] <= places[*writer as usize]
-            && clock_gap(graph, clocks, *writer, c) == 0
+            && may_reach(graph, level, clocks, *writer, c)
         {
             return false;
         }
@@ -148,13 +142,8 @@ fn clock_before(
     source: u32,
     c: u32,
 ) -> bool
-    requires numbered { IsBySession graph.now.entries }
+    requires order { KeepsPairsBy graph.now Causal places.now clocks.now }
     requires owners { AreOwned graph.now }
-    requires few { length graph.now.sessions ≤ MAX_SESSIONS }
-    requires long { length places.now ≡ count graph.now }
-    requires kept { AreSessionsKept graph.now places.now }
-    requires apart { AreApart places.now }
-    requires clocks { HasSize (count graph.now) (length graph.now.sessions) clocks.now }
     requires source { source < count graph.now }
     requires reader { c < count graph.now }
     ensures { IsTrue result → IsReadKept graph.now Causal places.now clocks.now key.now source c }
@@ -162,7 +151,7 @@ fn clock_before(
     let writers = graph.writers(key);
     let clock = clocks[c as usize].as_slice();
     if writers.len() / WRITERS_ASKED <= clock.len() {
-        reached_before(graph, places, clocks, writers, source, c)
+        reached_before(graph, Level::Causal, places, clocks, writers, source, c)
     } else {
         stand_before(graph, places, clock, writers, source)
     }
@@ -178,32 +167,25 @@ fn is_read_kept(
     source: u32,
     c: u32,
 ) -> bool
-    requires numbered { IsBySession graph.now.entries }
+    requires order { KeepsPairsBy graph.now level places.now clocks.now }
     requires owners { AreOwned graph.now }
-    requires few { length graph.now.sessions ≤ MAX_SESSIONS }
-    requires long { length places.now ≡ count graph.now }
-    requires kept { AreSessionsKept graph.now places.now }
-    requires apart { AreApart places.now }
-    requires clocks { HasClocks level (count graph.now) (length graph.now.sessions) clocks.now }
     requires source { source < count graph.now }
     requires reader { c < count graph.now }
     ensures { IsTrue result → IsReadKept graph.now level places.now clocks.now key.now source c }
 {
     match level {
         Level::Causal => clock_before(graph, places, clocks, key, source, c),
-        Level::Atomic => pairs_before(graph, places, graph.writers(key), source, c),
+        Level::Atomic => {
+            let writers = graph.writers(key);
+            reached_before(graph, level, places, clocks, writers, source, c)
+        }
     }
 }
 
 /// Whether the axiom is kept by all reads of `c`.
 fn are_reads_kept(graph: &Graph, level: Level, places: &[u32], clocks: &[Numbers], c: u32) -> bool
-    requires numbered { IsBySession graph.now.entries }
+    requires order { KeepsPairsBy graph.now level places.now clocks.now }
     requires owners { AreOwned graph.now }
-    requires few { length graph.now.sessions ≤ MAX_SESSIONS }
-    requires long { length places.now ≡ count graph.now }
-    requires kept { AreSessionsKept graph.now places.now }
-    requires apart { AreApart places.now }
-    requires clocks { HasClocks level (count graph.now) (length graph.now.sessions) clocks.now }
     requires reader { c < count graph.now }
     ensures { IsTrue result → AreReadsKept graph.now level places.now clocks.now c }
 {
@@ -239,12 +221,7 @@ fn are_owned(graph: &Graph) -> bool
 
 /// Whether the axiom is kept, by what is asked of the last writers. Where it isn't, something is broken by the axiom.
 pub(crate) fn keeps_axiom(graph: &Graph, level: Level, places: &[u32], clocks: &[Numbers]) -> bool
-    requires numbered { IsBySession graph.now.entries }
-    requires few { length graph.now.sessions ≤ MAX_SESSIONS }
-    requires long { length places.now ≡ count graph.now }
-    requires kept { AreSessionsKept graph.now places.now }
-    requires apart { AreApart places.now }
-    requires clocks { HasClocks level (count graph.now) (length graph.now.sessions) clocks.now }
+    requires { KeepsPairsBy graph.now level places.now clocks.now }
     ensures { IsTrue result → (c : ℕ) → c < count graph.now → AreReadsKept graph.now level places.now clocks.now c }
 {
     if !are_owned(graph) {

@@ -8,7 +8,7 @@ ghost use Rattle.tcc_cert.specs.Tables.{entry, HasSize, IsFirstPlace};
 ghost use Rattle.tcc_cert.specs.OrderRules.{HasClocks, HasInClock, MayReach, HasOrderSizes, KeepsPairs, BreaksAxiom};
 ghost use Rattle.tcc_cert.specs.Rules.{HoldsEverywhere};
 ghost use Rattle.tcc_check.specs.Searches.{IsFoundBelow};
-ghost use Rattle.tcc_check.specs.Places.{ArePlaces, IsKept, IsBehind};
+ghost use Rattle.tcc_check.specs.Places.{ArePlaces, IsKept, IsBehind, order_claim};
 ghost use Rattle.tcc_check.specs.Verdicts.{IsAnswer, order_rules};
 
 use crate::latest::keeps_axiom;
@@ -189,20 +189,16 @@ fn broken_by(
     alloc: Global,
     graph: &Graph,
     level: Level,
-    order: &[u32],
     places: &[u32],
     clocks: &[Numbers],
     b: u32,
 ) -> Result<Option<u32>, NoMemory>
     requires few { count graph.now ≤ MAX_COUNT }
-    requires order { length order.now ≡ count graph.now }
-    requires places { ArePlaces order.now places.now }
+    requires places { length places.now ≡ count graph.now }
     requires clocks { HasClocks level (count graph.now) (length graph.now.sessions) clocks.now }
     requires b { b < count graph.now }
-    ensures { (sessions : ℕ)
-        → IfOk result
-        (IsFoundBelow (count graph.now) (λ a. BreaksAxiom graph.now (record { level = level; order = order.now; sessions = sessions; clocks = clocks.now })
-        (b, a))) }
+    ensures { (order : List ℕ) (sessions : ℕ) → length order ≡ count graph.now → ArePlaces order places.now
+        → IfOk result (IsFoundBelow (count graph.now) (λ a. BreaksAxiom graph.now (order_claim level order sessions clocks.now) (b, a))) }
 {
     let row = gaps(alloc, graph, level, clocks, b)?;
     let weights = contradicted_weights(alloc, graph, &row, b)?;
@@ -214,20 +210,19 @@ fn broken_axiom(
     alloc: Global,
     graph: &Graph,
     level: Level,
-    order: &[u32],
     places: &[u32],
     clocks: &[Numbers],
 ) -> Result<Option<(u32, u32)>, NoMemory>
     requires few { count graph.now ≤ MAX_COUNT }
-    requires order { length order.now ≡ count graph.now }
-    requires places { ArePlaces order.now places.now }
+    requires places { length places.now ≡ count graph.now }
     requires clocks { HasClocks level (count graph.now) (length graph.now.sessions) clocks.now }
-    ensures { (sessions : ℕ) → IfOk result (λ found. MatchOption found
-        (HoldsEverywhere (BreaksAxiom graph.now (record { level = level; order = order.now; sessions = sessions; clocks = clocks.now })))
-        (IsFirstPlace (BreaksAxiom graph.now (record { level = level; order = order.now; sessions = sessions; clocks = clocks.now })))) }
+    ensures { (order : List ℕ) (sessions : ℕ) → length order ≡ count graph.now → ArePlaces order places.now
+        → IfOk result (λ found. MatchOption found
+        (HoldsEverywhere (BreaksAxiom graph.now (order_claim level order sessions clocks.now)))
+        (IsFirstPlace (BreaksAxiom graph.now (order_claim level order sessions clocks.now)))) }
 {
     for b in 0..graph.count() {
-        if let Some(a) = broken_by(alloc, graph, level, order, places, clocks, b)? {
+        if let Some(a) = broken_by(alloc, graph, level, places, clocks, b)? {
             return Ok(Some((b, a)));
         }
     }
@@ -255,7 +250,7 @@ fn has_order_sizes(
     ensures few { count graph.now ≤ MAX_COUNT }
     ensures few_sessions { length graph.now.sessions ≤ MAX_SESSIONS }
     ensures numbered { IsBySession graph.now.entries }
-    ensures sizes { IsTrue result ↔ HasOrderSizes graph.now (record { level = level; order = order.now; sessions = sessions; clocks = clocks.now }) }
+    ensures sizes { IsTrue result ↔ HasOrderSizes graph.now (order_claim level order.now sessions clocks.now) }
 {
     let count = graph.count() as usize;
     let all = graph.sessions().len();
@@ -275,9 +270,8 @@ fn kept_places(
     requires order { length order.now ≡ count graph.now }
     requires clocks { HasClocks level (count graph.now) (length graph.now.sessions) clocks.now }
     ensures { (sessions : ℕ) → IfOk result (λ found. MatchOption found
-        (KeepsPairs graph.now (record { level = level; order = order.now; sessions = sessions; clocks = clocks.now }) → ⊥)
-        (λ places. ArePlaces order.now places.items × KeepsPairs graph.now
-        (record { level = level; order = order.now; sessions = sessions; clocks = clocks.now }))) }
+        (KeepsPairs graph.now (order_claim level order.now sessions clocks.now) → ⊥)
+        (λ places. ArePlaces order.now places.items × KeepsPairs graph.now (order_claim level order.now sessions clocks.now))) }
 {
     let Some(places) = places_of(alloc, order)? else {
         return Ok(None);
@@ -297,7 +291,7 @@ pub(crate) fn order_verdict(
     sessions: u32,
     clocks: &[Numbers],
 ) -> Result<Verdict, NoMemory>
-    ensures { IfOk result (IsAnswer (order_rules graph.now (record { level = level; order = order.now; sessions = sessions; clocks = clocks.now }))) }
+    ensures { IfOk result (IsAnswer (order_rules graph.now (order_claim level order.now sessions clocks.now))) }
 {
     if !has_order_sizes(graph, level, order, sessions, clocks) {
         return Ok(rejected(Rule::Sizes, 0));
@@ -308,7 +302,7 @@ pub(crate) fn order_verdict(
     if keeps_axiom(graph, level, &places, clocks) {
         return Ok(Verdict::Accepted);
     }
-    match broken_axiom(alloc, graph, level, order, &places, clocks)? {
+    match broken_axiom(alloc, graph, level, &places, clocks)? {
         Some(at) => Ok(Verdict::Rejected {
             rule: Rule::Axiom,
             at,

@@ -6,25 +6,21 @@ use Rattle.tcc_check.proofs.order.order_verdict.Goals as goal
 pub returns-in_default : goal.returns-in_default
 returns-in_default c = let kept = c.in_ok-places.ensures c.args.sessions in search rules
 
-pub keeps_axiom-requires-clause-long : goal.keeps_axiom-requires-clause-long
-keeps_axiom-requires-clause-long c =
+pub keeps_axiom-requires : goal.keeps_axiom-requires
+keeps_axiom-requires c =
     let kept = rw c.in-Some.is at c.in_ok-places.ensures c.args.sessions in
     let are : ArePlaces c.args.order.now c.deref.result.now = rw c.deref.ensures.value kept.0 in
     let sizes = c.has_order_sizes.ensures.sizes.0 c.if-not-has_order_sizes.false in
-    omega (arith, are.long, sizes.order)
-
-pub keeps_axiom-requires-clause-kept : goal.keeps_axiom-requires-clause-kept
-keeps_axiom-requires-clause-kept c =
-    let kept = rw c.in-Some.is at c.in_ok-places.ensures c.args.sessions in
-    let are : ArePlaces c.args.order.now c.deref.result.now = rw c.deref.ensures.value kept.0 in
-    let sizes = c.has_order_sizes.ensures.sizes.0 c.if-not-has_order_sizes.false in
-    sessions_kept c.args.graph.now c.args.level c.args.order.now c.deref.result.now c.args.sessions c.args.clocks.now are sizes.order kept.1
-
-pub keeps_axiom-requires-clause-apart : goal.keeps_axiom-requires-clause-apart
-keeps_axiom-requires-clause-apart c =
-    let kept = rw c.in-Some.is at c.in_ok-places.ensures c.args.sessions in
-    let are : ArePlaces c.args.order.now c.deref.result.now = rw c.deref.ensures.value kept.0 in
-    places_apart c.args.order.now c.deref.result.now are
+    record {
+      sessions = record {
+        numbered = c.has_order_sizes.ensures.numbered;
+        long = omega (arith, are.long, sizes.order);
+        kept = sessions_kept c.args.graph.now c.args.level c.args.order.now c.deref.result.now c.args.sessions c.args.clocks.now are sizes.order kept.1;
+      };
+      apart = places_apart c.args.order.now c.deref.result.now are;
+      few = c.has_order_sizes.ensures.few_sessions;
+      sized = sizes.clocks;
+    }
 
 pub returns-then-keeps_axiom : goal.returns-then-keeps_axiom
 returns-then-keeps_axiom c =
@@ -43,18 +39,24 @@ returns-then-keeps_axiom c =
     )
 
 pub broken_axiom-requires-clause-places : goal.broken_axiom-requires-clause-places
-broken_axiom-requires-clause-places c = let kept = rw c.in-Some.is at c.in_ok-places.ensures c.args.sessions in rw c.deref-2.ensures.value kept.0
+broken_axiom-requires-clause-places c =
+    let kept = rw c.in-Some.is at c.in_ok-places.ensures c.args.sessions in
+    let are : ArePlaces c.args.order.now c.deref-2.result.now = rw c.deref-2.ensures.value kept.0 in
+    let sizes = c.has_order_sizes.ensures.sizes.0 c.if-not-has_order_sizes.false in
+    omega (arith, are.long, sizes.order)
 
 pub returns-in-Some-2 : goal.returns-in-Some-2
 returns-in-Some-2 c =
     let sizes = c.has_order_sizes.ensures.sizes.0 c.if-not-has_order_sizes.false in
     let kept = rw c.in-Some.is at c.in_ok-places.ensures c.args.sessions in
-    let first = rw c.in-Some-2.is at c.in_ok-at.ensures c.args.sessions in
+    let are : ArePlaces c.args.order.now c.deref-2.result.now = rw c.deref-2.ensures.value kept.0 in
+    let first = rw c.in-Some-2.is at (c.in_ok-at.ensures c.args.order.now c.args.sessions sizes.order are) in
     inr (sizes, inr (kept.1, inl (refl, first)))
 
 pub returns : goal.returns
 returns c =
     let sizes = c.has_order_sizes.ensures.sizes.0 c.if-not-has_order_sizes.false in
     let kept = rw c.in-Some.is at c.in_ok-places.ensures c.args.sessions in
-    let none = rw c.in-None.is at c.in_ok-at.ensures c.args.sessions in
+    let are : ArePlaces c.args.order.now c.deref-2.result.now = rw c.deref-2.ensures.value kept.0 in
+    let none = rw c.in-None.is at (c.in_ok-at.ensures c.args.order.now c.args.sessions sizes.order are) in
     (sizes, (kept.1, (none, tt)))
