@@ -1,5 +1,5 @@
 -- A search that catches up: all ways within a cap become known.
-use Rattle.std.proofs.Common.{◌≡◌, ◌≢◌, ◌<◌, ◌≤◌, ◌+◌, ℕ, ◌⊎◌, inl, inr, List, length, slice_index, Option, None, Some, refl, sym, ◌∙◌, arith}
+use Rattle.std.proofs.Common.{◌≡◌, ◌≢◌, ◌<◌, ◌≤◌, ◌+◌, ℕ, ◌⊎◌, inl, inr, List, length, slice_index, Option, None, Some, refl, sym, ◌∙◌, subst, arith}
 use Rattle.std.proofs.lemmas.Bool.{cases_lt}
 use Rattle.tcc_reads.specs.History.{count}
 use Rattle.tcc_graph.specs.Levels.{Judged}
@@ -12,8 +12,7 @@ use Rattle.tcc_core.specs.Offers.{IsLower, IsOffered, IsWayOn, IsWayOver}
 use Rattle.tcc_core.specs.Relaxing.{IsBounded}
 use Rattle.tcc_core.proofs.Costs.{cost_of_link, link_of_cost, cost_few}
 use Rattle.tcc_core.proofs.Lowering.{within_cap, capped_low, within_row}
-use Rattle.tcc_core.proofs.Offered.{lower_least, lower_some, offered_none, offered_then, offered_same}
-use Rattle.tcc_core.proofs.Steps.{floor_small}
+use Rattle.tcc_core.proofs.Offered.{lower_least, lower_some, lower_then, offered_none, offered_then, offered_same}
 use Rattle.tcc_core.proofs.Frontier.{way_below}
 use Rattle.tcc_core.specs.declared.queue.TheConstants.{NO_WAY}
 
@@ -102,73 +101,102 @@ module _ (t : Tables) (s : ℕ) (row : List (Option ℕ)) (cap floor : ℕ) wher
 
 -- ---- what is known then
 
-pub bounded_caught : (search : Search) (floor cap : ℕ) (new : List ℕ) → IsBounded search floor → search.limit ≤ cap → IsLower floor search.costs new
-    → IsBounded (record { start = search.start; row = search.row; costs = new; limit = cap }) floor
-bounded_caught search floor cap new is more lower = record {
-  below = is.below;
-  few = is.few;
-  long = lower.long ∙ is.long;
-  joined = λ v c e. joined v c e;
-  outside = λ v inside out. lower_some floor search.costs new v lower (omega (arith, is.long, inside)) (is.outside v inside out);
-  spent = is.spent;
-  known = omega (arith, is.known, more);
-}
-  where
-    joined : (v c : ℕ) → in_row search.row v ≡ Some c → (0 < c) × (c ≤ floor) × (slice_index new v ≡ 0)
-    joined v c e =
-        let (some, low, zero) = is.joined v c e in
-        (some, low, omega (arith, zero, lower_least floor search.costs new v lower (omega (arith, is.long, within_row search.row v c e))))
+-- the costs of a search after the ways on were offered, as far as they are within the cap, from the start and from all that
+-- its row has
+pub record IsCaught (t : Tables) (search : Search) (floor cap : ℕ) (new : List ℕ) : Type 0 where
+  pub lower : IsLower floor search.costs new
+  pub offered : (j : Judged) → IsPricesOf j t → IsOffered (IsWayCome t search.start search.row cap floor) floor search.costs new
 
-come_below : (j : Judged) (s : ℕ) (search : Search) (u c : ℕ) → IsSearchOf j s search → HasCome s search.row u c → u < count j.history
-come_below j s search u c is (inl (same, nothing)) = omega (arith, same, is.below)
-come_below j s search u c is (inr inside) = omega (arith, within_row search.row u c inside, is.row.long)
+module _ {search : Search} {floor : ℕ} (bounds : IsBounded search floor) {t : Tables} {cap : ℕ} where
+  -- at the opening the row has nothing
+  pub caught_opening : {new : List ℕ} → search.limit ≤ 0 → IsLower floor search.costs new
+      → ((j : Judged) → IsPricesOf j t → IsOffered (IsWayOn t search.start search.start 0 cap) floor search.costs new) → IsCaught t search floor cap new
+  caught_opening {new} opening lower first = record {
+    lower = lower;
+    offered = λ j priced. caught_first t search.start search.row cap floor search.costs new nobody (first j priced);
+  }
+    where
+      nobody : (u d : ℕ) → in_row search.row u ≡ Some d → ⊥
+      nobody u d e = let (some, low, zero) = bounds.joined u d e in omega (arith, some, low, bounds.known, opening)
 
-come_small : (s : ℕ) (search : Search) (floor u c : ℕ) → IsBounded search floor → HasCome s search.row u c → c < 2147483648
-come_small s search floor u c is (inl (same, nothing)) = omega (arith, nothing)
-come_small s search floor u c is (inr inside) = omega (arith, (is.joined u c inside).1, floor_small search floor is)
+  pub caught_again : {mid new : List ℕ} → IsLower floor search.costs mid → IsLower floor mid new
+      → ((j : Judged) → IsPricesOf j t → IsOffered (IsWayOn t search.start search.start 0 cap) floor search.costs mid)
+      → ((j : Judged) → IsPricesOf j t → IsOffered (IsWayOver t search.start search.row cap) floor mid new) → IsCaught t search floor cap new
+  caught_again {mid} {new} lower again first then = record {
+    lower = lower_then floor search.costs mid new lower again;
+    offered = λ j priced. caught_both t search.start search.row cap floor search.costs mid new (first j priced) (then j priced);
+  }
 
-pub search_caught : (j : Judged) (t : Tables) (s : ℕ) (search : Search) (floor cap : ℕ) (new : List ℕ) → IsPricesOf j t → IsBounded search floor
-    → IsSearchOf j s search → IsOffered (IsWayCome t s search.row cap floor) floor search.costs new
-    → IsSearchOf j s (record { start = search.start; row = search.row; costs = new; limit = cap })
-search_caught j t s search floor cap new priced bounds is caught = record {
-  start = is.start;
-  below = is.below;
-  row = is.row;
-  frontier = record {
-    long = caught.lower.long ∙ is.frontier.long;
-    attained = λ v within out some. attained v within out some (caught.from v (omega (arith, is.frontier.long, within)));
-    least = λ v n out way within. least v n out within (way_below j s search.row v n way) way;
-  };
-}
-  where
+module _ {t : Tables} {search : Search} {floor cap : ℕ} {new : List ℕ} (caught : IsCaught t search floor cap new) (bounds : IsBounded search floor) where
+  pub bounded_caught : search.limit ≤ cap → IsBounded (record { start = search.start; row = search.row; costs = new; limit = cap }) floor
+  bounded_caught more = record {
+    below = bounds.below;
+    few = bounds.few;
+    long = caught.lower.long ∙ bounds.long;
+    joined = λ v c e. joined v c e;
+    outside = λ v inside out. lower_some floor search.costs new v caught.lower (omega (arith, bounds.long, inside)) (bounds.outside v inside out);
+    spent = bounds.spent;
+    small = bounds.small;
+    known = omega (arith, bounds.known, more);
+  }
+    where
+      joined : (v c : ℕ) → in_row search.row v ≡ Some c → (0 < c) × (c ≤ floor) × (slice_index new v ≡ 0)
+      joined v c e =
+          let (some, low, zero) = bounds.joined v c e in
+          let lower = lower_least floor search.costs new v caught.lower (omega (arith, bounds.long, within_row search.row v c e)) in
+          (some, low, omega (arith, zero, lower))
+
+  module _ {j : Judged} {s : ℕ} (priced : IsPricesOf j t) (is : IsSearchOf j s search) where
+    come_below : (u d : ℕ) → HasCome s search.row u d → u < count j.history
+    come_below u d (inl (same, nothing)) = omega (arith, same, is.below)
+    come_below u d (inr inside) = omega (arith, within_row search.row u d inside, is.row.long)
+
+    come_small : (u d : ℕ) → HasCome s search.row u d → d < 2147483648
+    come_small u d (inl (same, nothing)) = omega (arith, nothing)
+    come_small u d (inr inside) = omega (arith, (bounds.joined u d inside).1, bounds.small)
+
+    offers : IsOffered (IsWayCome t s search.row cap floor) floor search.costs new
+    offers = subst (λ (z : ℕ). IsOffered (IsWayCome t z search.row cap floor) floor search.costs new) is.start (caught.offered j priced)
+
     attained : (v : ℕ) → v < count j.history → in_row search.row v ≡ None → slice_index new v ≢ NO_WAY
         → (slice_index new v ≡ slice_index search.costs v) ⊎ IsWayCome t s search.row cap floor v (slice_index new v)
         → IsWay j s search.row v (slice_index new v)
     attained v within out some (inl same) = rw same (is.frontier.attained v within out (λ e. some (same ∙ e)))
     attained v within out some (inr (u, d, come, (up, c, has, low, equal))) =
-        let (l, leads, paid) = link_of_cost j t u v priced (come_below j s search u d is come) within c has in
+        let (l, leads, paid) = link_of_cost j t u v priced (come_below u d come) within c has in
         (up, u, d, l, come, leads, omega (arith, paid, equal))
 
     least : (v n : ℕ) → in_row search.row v ≡ None → IsWithin (cap_of cap) n → v < count j.history → IsWay j s search.row v n
         → (slice_index new v < NO_WAY) × (slice_index new v ≤ n)
     least v n out capped within (up, u, d, l, come, leads, costs) =
-        let from = come_below j s search u d is come in
-        let (c, has, cheap) = cost_of_link j t u v priced from within l leads in
-        let few = cost_few j t u v priced from within c has in
-        let small = come_small s search floor u d bounds come in
-        let low : d + c ≤ cap = capped_low cap (d + c) n (omega (arith, cheap, costs)) (omega (arith, small, few, bounds.few, is.row.long)) capped in
-        let found = by c has low few small from (cases_lt floor (d + c)) in
+        let (c, has, cheap) = cost_of_link j t u v priced (come_below u d come) within l leads in
+        let few : d + c < NO_WAY =
+        omega (arith, come_small u d come, cost_few j t u v priced (come_below u d come) within c has, bounds.few, is.row.long) in
+        let low : d + c ≤ cap = capped_low cap (d + c) n (omega (arith, cheap, costs)) (omega (arith, few)) capped in
+        let found = by c has low few (cases_lt floor (d + c)) in
         (found.0, omega (arith, found.1, cheap, costs))
       where
-        by : (c : ℕ) → cost_at t u v ≡ Some c → d + c ≤ cap → c ≤ count j.history + 1 → d < 2147483648 → u < count j.history
-            → (floor < d + c) ⊎ (d + c ≤ floor) → (slice_index new v < NO_WAY) × (slice_index new v ≤ d + c)
-        by c has low few small from (inl above) =
-            let under = caught.least v (d + c) (omega (arith, is.frontier.long, within)) (u, d, come, (up, c, has, low, refl)) above in
-            (omega (arith, under, small, few, bounds.few, is.row.long), under)
-        by c has low few small from (inr down) =
-            let (cheapest, leads_on, paid) = link_of_cost j t u v priced from within c has in
+        by : (c : ℕ) → cost_at t u v ≡ Some c → d + c ≤ cap → d + c < NO_WAY → (floor < d + c) ⊎ (d + c ≤ floor)
+            → (slice_index new v < NO_WAY) × (slice_index new v ≤ d + c)
+        by c has low few (inl above) =
+            let under = offers.least v (d + c) (omega (arith, is.frontier.long, within)) (u, d, come, (up, c, has, low, refl)) above in
+            (omega (arith, under, few), under)
+        by c has low few (inr down) =
+            let (cheapest, leads_on, paid) = link_of_cost j t u v priced (come_below u d come) within c has in
             let known =
             is.frontier.least v (d + link_cost cheapest) out (up, u, d, cheapest, come, leads_on, refl)
             (within_cap search.limit (d + link_cost cheapest) (omega (arith, paid, down, bounds.known))) in
             let lower = lower_least floor search.costs new v caught.lower (omega (arith, is.frontier.long, within)) in
             (omega (arith, known.0, lower), omega (arith, known.1, lower, paid))
+
+    pub search_caught : IsSearchOf j s (record { start = search.start; row = search.row; costs = new; limit = cap })
+    search_caught = record {
+      start = is.start;
+      below = is.below;
+      row = is.row;
+      frontier = record {
+        long = offers.lower.long ∙ is.frontier.long;
+        attained = λ v within out some. attained v within out some (offers.from v (omega (arith, is.frontier.long, within)));
+        least = λ v n out way within. least v n out within (way_below j s search.row v n way) way;
+      };
+    }

@@ -1,6 +1,6 @@
 -- What is open stands in the bucket of its cost, and each bucket has transactions of one cost.
 use Rattle.std.proofs.Common.{◌≡◌, ◌≢◌, ◌<◌, ◌≤◌, ◌+◌, ◌*◌, ◌/◌, ◌%◌, ◌==◌, ◌⊎◌, ℕ, zero, suc, true, false, inl, inr, List}
-use Rattle.std.proofs.Common.{[], ◌∷◌, length, length-set, set, take, get_or, slice_index, All, Contains, refl, ap, sym, ◌∙◌}
+use Rattle.std.proofs.Common.{[], ◌∷◌, length, length-set, set, take, get_or, slice_index, max, All, Contains, refl, ap, sym, ◌∙◌, subst}
 use Rattle.std.proofs.Common.{arith}
 use Rattle.std.proofs.lemmas.Bool.{cases_order, cases_eq}
 use Rattle.std.proofs.lemmas.Bool.Decides.{eqb_tells}
@@ -9,8 +9,8 @@ use Rattle.std.proofs.lemmas.Grind.{get_or_default_zero}
 use Rattle.std.proofs.lemmas.Nat.{div-add-mod', mod_below}
 use Rattle.std.proofs.Math.Nat.{mul-le-mul_right}
 use Rattle.tcc_txn.specs.declared.limits.TheConstants.{MAX_COUNT}
-use Rattle.tcc_core.specs.Rings.{StandsIn, IsOutOf}
-use Rattle.tcc_core.specs.Queues.{IsNearest, IsFiled, IsOpen, IsShut, IsListed, count_reached}
+use Rattle.tcc_core.specs.Rings.{StandsIn}
+use Rattle.tcc_core.specs.Queues.{IsNearest, IsNext, IsFiled, IsOpen, IsShut, IsFar, IsListed, count_reached}
 use Rattle.tcc_core.specs.declared.ring.TheConstants.{BUCKETS}
 use Rattle.tcc_core.specs.declared.queue.TheConstants.{NO_WAY}
 
@@ -57,125 +57,91 @@ two_set xs v a b within =
 abbrev IsFiledAt : ℕ → ℕ → ℕ → ℕ → Type 0
 IsFiledAt floor most cost b = IsShut cost b ⊎ IsOpen floor most cost b
 
-higher : (floor most more cost b : ℕ) → most ≤ more → IsFiledAt floor most cost b → IsFiledAt floor more cost b
-higher floor most more cost b up (inl shut) = inl shut
-higher floor most more cost b up (inr open_at) =
-    inr (record { some = open_at.some; above = open_at.above; below = omega (arith, open_at.below); at = open_at.at })
+module _ {floor most : ℕ} {costs ring : List ℕ} (is : IsFiled floor most costs ring) where
+  -- one is opened, or moves to another cost
+  pub filed_opened : {more v n : ℕ} {costs' ring' : List ℕ} → v < length costs → floor < n → n < floor + BUCKETS → n < NO_WAY → more ≡ max most n
+      → IsOneSet costs costs' v n → IsOneSet ring ring' v (n % BUCKETS) → IsFiled floor more costs' ring'
+  filed_opened {more} {v} {n} {costs'} {ring'} within above window few most_is costed ringed = record {
+    long = omega (arith, is.long, costed.long, ringed.long);
+    window = omega (arith, is.window, window, most_is);
+    few = omega (arith, is.few, few, most_is);
+    each = λ u below. go u (omega (arith, costed.long, below)) (cases_eq u v);
+  }
+    where
+      higher : (u : ℕ) → IsFiledAt floor most (slice_index costs u) (slice_index ring u) → IsFiledAt floor more (slice_index costs u) (slice_index ring u)
+      higher u (inl shut) = inl shut
+      higher u (inr open_at) =
+          inr (record { some = open_at.some; above = open_at.above; below = omega (arith, open_at.below, most_is); at = open_at.at })
 
-pub filed_set : (floor most more : ℕ) (costs ring costs' ring' : List ℕ) (v c b : ℕ) → IsFiled floor most costs ring → v < length costs → most ≤ more
-    → more < floor + BUCKETS → more < NO_WAY
-    → IsOneSet costs costs' v c → IsOneSet ring ring' v b → IsFiledAt floor more c b → IsFiled floor more costs' ring'
-filed_set floor most more costs ring costs' ring' v c b is within up window few costed ringed at = record {
-  long = omega (arith, is.long, costed.long, ringed.long);
-  window = window;
-  few = few;
-  each = λ u below. go u (omega (arith, costed.long, below)) (cases_eq u v);
-}
-  where
-    go : (u : ℕ) → u < length costs → (u ≡ v) ⊎ (u ≡ v → ⊥) → IsFiledAt floor more (slice_index costs' u) (slice_index ring' u)
-    go u below (inl same) = rw (same, costed.here, ringed.here) at
-    go u below (inr other) =
-        rw (costed.kept u other, ringed.kept u other) (higher floor most more (slice_index costs u) (slice_index ring u) up (is.each u below))
+      go : (u : ℕ) → u < length costs → (u ≡ v) ⊎ (u ≡ v → ⊥) → IsFiledAt floor more (slice_index costs' u) (slice_index ring' u)
+      go u below (inl same) =
+          rw (same, costed.here, ringed.here)
+          (inr (record { some = omega (arith, above); above = omega (arith, above); below = omega (arith, most_is); at = refl }))
+      go u below (inr other) = rw (costed.kept u other, ringed.kept u other) (higher u (is.each u below))
 
--- one of the nearest goes out
-pub filed_settled : (floor most : ℕ) (costs ring costs' ring' : List ℕ) (v b : ℕ) → IsFiled floor most costs ring → IsNearest costs v
-    → slice_index costs v < floor + BUCKETS → floor ≤ slice_index costs v → BUCKETS ≤ b
-    → IsOneSet costs costs' v 0 → IsOneSet ring ring' v b → IsFiled (slice_index costs v) most costs' ring'
-filed_settled floor most costs ring costs' ring' v b is near low up out costed ringed = record {
-  long = omega (arith, is.long, costed.long, ringed.long);
-  window = omega (arith, is.window);
-  few = is.few;
-  each = λ u below. go u (omega (arith, costed.long, below)) (cases_eq u v);
-}
-  where
-    kept : (u : ℕ) → u < length costs → IsFiledAt floor most (slice_index costs u) (slice_index ring u)
-        → IsFiledAt (slice_index costs v) most (slice_index costs u) (slice_index ring u)
-    kept u below (inl shut) = inl shut
-    kept u below (inr open_at) = inr (record { some = open_at.some; above = near.least u below open_at.some; below = open_at.below; at = open_at.at })
+  -- what is open stands in a bucket
+  pub open_stands : (v : ℕ) → v < length costs → 0 < slice_index costs v → slice_index costs v < NO_WAY
+      → IsOpen floor most (slice_index costs v) (slice_index ring v)
+  open_stands v within some reached = go (is.each v within)
+    where
+      go : IsFiledAt floor most (slice_index costs v) (slice_index ring v) → IsOpen floor most (slice_index costs v) (slice_index ring v)
+      go (inl shut) = none shut.none
+        where
+          none : (slice_index costs v ≡ NO_WAY) ⊎ (slice_index costs v ≡ 0) → IsOpen floor most (slice_index costs v) (slice_index ring v)
+          none (inl far) = absurd (omega arith)
+          none (inr past) = absurd (omega arith)
+      go (inr open_at) = open_at
 
-    go : (u : ℕ) → u < length costs → (u ≡ v) ⊎ (u ≡ v → ⊥) → IsFiledAt (slice_index costs v) most (slice_index costs' u) (slice_index ring' u)
-    go u below (inl same) = rw (same, costed.here, ringed.here) (inl (record { none = inr refl; out = out }))
-    go u below (inr other) = rw (costed.kept u other, ringed.kept u other) (kept u below (is.each u below))
+  -- one of the nearest goes out
+  pub filed_settled : {v b : ℕ} {costs' ring' : List ℕ} → IsNearest costs v → BUCKETS ≤ b → IsOneSet costs costs' v 0 → IsOneSet ring ring' v b
+      → IsFiled (slice_index costs v) most costs' ring'
+  filed_settled {v} {b} {costs'} {ring'} near out costed ringed = record {
+    long = omega (arith, is.long, costed.long, ringed.long);
+    window = let stands = open_stands v near.below near.open_at near.reached in omega (arith, is.window, stands.above);
+    few = is.few;
+    each = λ u below. go u (omega (arith, costed.long, below)) (cases_eq u v);
+  }
+    where
+      kept : (u : ℕ) → u < length costs → IsFiledAt floor most (slice_index costs u) (slice_index ring u)
+          → IsFiledAt (slice_index costs v) most (slice_index costs u) (slice_index ring u)
+      kept u below (inl shut) = inl shut
+      kept u below (inr open_at) = inr (record { some = open_at.some; above = near.least u below open_at.some; below = open_at.below; at = open_at.at })
 
--- what is open stands in a bucket
-pub open_stands : (floor most : ℕ) (costs ring : List ℕ) (v : ℕ) → IsFiled floor most costs ring → v < length costs → 0 < slice_index costs v
-    → slice_index costs v < NO_WAY → IsOpen floor most (slice_index costs v) (slice_index ring v)
-open_stands floor most costs ring v is within some reached = go (is.each v within)
-  where
-    go : IsShut (slice_index costs v) (slice_index ring v) ⊎ IsOpen floor most (slice_index costs v) (slice_index ring v)
-        → IsOpen floor most (slice_index costs v) (slice_index ring v)
-    go (inl shut) = none shut.none
-      where
-        none : (slice_index costs v ≡ NO_WAY) ⊎ (slice_index costs v ≡ 0) → IsOpen floor most (slice_index costs v) (slice_index ring v)
-        none (inl far) = absurd (omega arith)
-        none (inr past) = absurd (omega arith)
-    go (inr open_at) = open_at
+      go : (u : ℕ) → u < length costs → (u ≡ v) ⊎ (u ≡ v → ⊥) → IsFiledAt (slice_index costs v) most (slice_index costs' u) (slice_index ring' u)
+      go u below (inl same) = rw (same, costed.here, ringed.here) (inl (record { none = inr refl; out = out }))
+      go u below (inr other) = rw (costed.kept u other, ringed.kept u other) (kept u below (is.each u below))
 
-pub stands_low : (floor most cost b : ℕ) → IsOpen floor most cost b → b < BUCKETS
-stands_low floor most cost b open_at = omega (arith, open_at.at, mod_below cost BUCKETS (omega arith))
+  -- what was not reached stands in none
+  shut_out : (v : ℕ) → v < length costs → slice_index costs v ≡ NO_WAY → BUCKETS ≤ slice_index ring v
+  shut_out v within far = go (is.each v within)
+    where
+      go : IsFiledAt floor most (slice_index costs v) (slice_index ring v) → BUCKETS ≤ slice_index ring v
+      go (inl shut) = shut.out
+      go (inr open_at) = absurd (omega (arith, open_at.below, is.few))
 
--- what was not reached, or was settled, stands in none
-pub shut_out : (floor most : ℕ) (costs ring : List ℕ) (v : ℕ) → IsFiled floor most costs ring → v < length costs → slice_index costs v ≡ NO_WAY
-    → BUCKETS ≤ slice_index ring v
-shut_out floor most costs ring v is within far = go (is.each v within)
-  where
-    go : IsShut (slice_index costs v) (slice_index ring v) ⊎ IsOpen floor most (slice_index costs v) (slice_index ring v) → BUCKETS ≤ slice_index ring v
-    go (inl shut) = shut.out
-    go (inr open_at) = absurd (omega (arith, open_at.below, is.few))
-
--- ---- the nearest
-
--- what stands in the bucket of a cost below which nothing is open is one of the nearest
-pub nearest_found : (floor most cost : ℕ) (costs ring : List ℕ) (v : ℕ) → IsFiled floor most costs ring → floor ≤ cost → cost ≤ most
-    → StandsIn ring (cost % BUCKETS) v
-    → ((u : ℕ) → u < length costs → 0 < slice_index costs u → cost ≤ slice_index costs u)
-    → IsNearest costs v × (slice_index costs v ≡ cost)
-nearest_found floor most cost costs ring v is up down found low = go (is.each v (omega (arith, is.long, found.below)))
-  where
-    go : IsShut (slice_index costs v) (slice_index ring v) ⊎ IsOpen floor most (slice_index costs v) (slice_index ring v)
-        → IsNearest costs v × (slice_index costs v ≡ cost)
-    go (inl shut) = absurd (omega (arith, found.at, shut.out, mod_below cost BUCKETS (omega arith)))
-    go (inr open_at) =
-        let same : slice_index costs v ≡ cost =
-        one_in_window BUCKETS floor (slice_index costs v) cost open_at.above (omega (arith, open_at.below, is.window)) up (omega (arith, is.window))
-        (sym open_at.at ∙ found.at) in (
+  -- what stands in the bucket of a cost below which nothing is open is next
+  pub next_found : {cap : ℕ} (cost v : ℕ) → floor ≤ cost → cost ≤ most → cost ≤ cap → StandsIn ring (cost % BUCKETS) v
+      → ((u : ℕ) → u < length costs → 0 < slice_index costs u → cost ≤ slice_index costs u)
+      → IsNext (record { costs = costs; floor = floor }) cap v
+  next_found {cap} cost v up down low found least = go (is.each v (omega (arith, is.long, found.below)))
+    where
+      go : IsFiledAt floor most (slice_index costs v) (slice_index ring v) → IsNext (record { costs = costs; floor = floor }) cap v
+      go (inl shut) = absurd (omega (arith, found.at, shut.out, mod_below cost BUCKETS (omega arith)))
+      go (inr open_at) =
+          let same : slice_index costs v ≡ cost =
+          one_in_window BUCKETS floor (slice_index costs v) cost open_at.above (omega (arith, open_at.below, is.window)) up (omega (arith, is.window))
+          (sym open_at.at ∙ found.at) in
           record {
-            below = omega (arith, is.long, found.below);
-            open_at = open_at.some;
-            reached = omega (arith, open_at.below, is.few);
-            least = λ u inside some. omega (arith, same, low u inside some);
-          },
-          same,
-        )
-
--- where nobody stands in the bucket of a cost, what is open costs more
-pub none_at : (floor most cost : ℕ) (costs ring : List ℕ) → IsFiled floor most costs ring → cost ≤ most → ((v : ℕ) → IsOutOf ring (cost % BUCKETS) v)
-    → ((u : ℕ) → u < length costs → 0 < slice_index costs u → cost ≤ slice_index costs u)
-    → (u : ℕ) → u < length costs → 0 < slice_index costs u → cost + 1 ≤ slice_index costs u
-none_at floor most cost costs ring is down out low u within some = go (is.each u within) (cases_eq (slice_index costs u) cost)
-  where
-    go : IsShut (slice_index costs u) (slice_index ring u) ⊎ IsOpen floor most (slice_index costs u) (slice_index ring u)
-        → (slice_index costs u ≡ cost) ⊎ (slice_index costs u ≡ cost → ⊥) → cost + 1 ≤ slice_index costs u
-    go any (inr other) = omega (arith, low u within some, other)
-    go (inr open_at) (inl same) = absurd (out u (omega (arith, is.long, within)) (open_at.at ∙ ap (λ n. n % BUCKETS) same))
-    go (inl shut) (inl same) = none shut.none
-      where
-        none : (slice_index costs u ≡ NO_WAY) ⊎ (slice_index costs u ≡ 0) → cost + 1 ≤ slice_index costs u
-        none (inl far) = omega (arith, is.few)
-        none (inr past) = absurd (omega arith)
-
-pub floor_low : (floor most : ℕ) (costs ring : List ℕ) → IsFiled floor most costs ring → (u : ℕ) → u < length costs → 0 < slice_index costs u
-    → floor ≤ slice_index costs u ⊎ (slice_index costs u ≡ NO_WAY)
-floor_low floor most costs ring is u within some = go (is.each u within)
-  where
-    go : IsShut (slice_index costs u) (slice_index ring u) ⊎ IsOpen floor most (slice_index costs u) (slice_index ring u)
-        → floor ≤ slice_index costs u ⊎ (slice_index costs u ≡ NO_WAY)
-    go (inr open_at) = inl open_at.above
-    go (inl shut) = none shut.none
-      where
-        none : (slice_index costs u ≡ NO_WAY) ⊎ (slice_index costs u ≡ 0) → floor ≤ slice_index costs u ⊎ (slice_index costs u ≡ NO_WAY)
-        none (inl far) = inr far
-        none (inr past) = absurd (omega arith)
+            near = record {
+              below = omega (arith, is.long, found.below);
+              open_at = open_at.some;
+              reached = omega (arith, open_at.below, is.few);
+              least = λ u within some. omega (arith, same, least u within some);
+            };
+            within = omega (arith, same, low);
+            above = omega (arith, same, up);
+            window = omega (arith, same, down, is.window);
+          }
 
 -- ---- those that were reached
 
@@ -253,53 +219,53 @@ listed_none listed costs long few all = record {
   each = λ v within some. absurd (some (all v within));
 }
 
-pub listed_more : (held : ℕ) (listed costs : List ℕ) (v c : ℕ) → IsListed held listed costs → v < length costs → slice_index costs v ≡ NO_WAY → c ≢ NO_WAY
-    → IsListed (held + 1) (set listed held v) (set costs v c)
-listed_more held listed costs v c is within far some = record {
-  long = now.long ∙ is.long ∙ sym costed.long;
-  few = omega (arith, now.long, is.few);
-  counted = omega (arith, is.counted, reached_more costs v c within far some);
-  below = λ k low. below k low (cases_eq k held);
-  each = λ u inside reached. each u (omega (arith, costed.long, inside)) reached (cases_eq u v);
-}
-  where
-    costed : IsOneSet costs (set costs v c) v c
-    costed = one_set costs v c within
+module _ {held : ℕ} {listed costs : List ℕ} (is : IsListed held listed costs) where
+  pub listed_more : (v c : ℕ) → v < length costs → slice_index costs v ≡ NO_WAY → c ≢ NO_WAY → IsListed (held + 1) (set listed held v) (set costs v c)
+  listed_more v c within far some = record {
+    long = now.long ∙ is.long ∙ sym costed.long;
+    few = omega (arith, now.long, is.few);
+    counted = omega (arith, is.counted, reached_more costs v c within far some);
+    below = λ k low. below k low (cases_eq k held);
+    each = λ u inside reached. each u (omega (arith, costed.long, inside)) reached (cases_eq u v);
+  }
+    where
+      costed : IsOneSet costs (set costs v c) v c
+      costed = one_set costs v c within
 
-    now : IsOneSet listed (set listed held v) held v
-    now = one_set listed held v (omega (arith, is.long, is.counted, reached_below costs v within far))
+      now : IsOneSet listed (set listed held v) held v
+      now = one_set listed held v (omega (arith, is.long, is.counted, reached_below costs v within far))
 
-    below : (k : ℕ) → k < held + 1 → (k ≡ held) ⊎ (k ≡ held → ⊥) → slice_index (set listed held v) k < length (set costs v c)
-    below k low (inl same) = rw same (omega (arith, now.here, costed.long, within))
-    below k low (inr other) = omega (arith, now.kept k other, costed.long, is.below k (omega arith))
+      below : (k : ℕ) → k < held + 1 → (k ≡ held) ⊎ (k ≡ held → ⊥) → slice_index (set listed held v) k < length (set costs v c)
+      below k low (inl same) = rw same (omega (arith, now.here, costed.long, within))
+      below k low (inr other) = omega (arith, now.kept k other, costed.long, is.below k (omega arith))
 
-    each : (u : ℕ) → u < length costs → slice_index (set costs v c) u ≢ NO_WAY → (u ≡ v) ⊎ (u ≡ v → ⊥)
-        → (k : ℕ) × (k < held + 1) × (slice_index (set listed held v) k ≡ u)
-    each u inside reached (inl same) = (held, omega arith, now.here ∙ sym same)
-    each u inside reached (inr other) =
-        let (k, low, at) = is.each u inside (λ e. reached (costed.kept u other ∙ e)) in
-        (k, omega arith, now.kept k (λ e. omega arith) ∙ at)
+      each : (u : ℕ) → u < length costs → slice_index (set costs v c) u ≢ NO_WAY → (u ≡ v) ⊎ (u ≡ v → ⊥)
+          → (k : ℕ) × (k < held + 1) × (slice_index (set listed held v) k ≡ u)
+      each u inside reached (inl same) = (held, omega arith, now.here ∙ sym same)
+      each u inside reached (inr other) =
+          let (k, low, at) = is.each u inside (λ e. reached (costed.kept u other ∙ e)) in
+          (k, omega arith, now.kept k (λ e. omega arith) ∙ at)
 
-pub listed_kept : (held : ℕ) (listed costs : List ℕ) (v c : ℕ) → IsListed held listed costs → v < length costs → slice_index costs v ≢ NO_WAY → c ≢ NO_WAY
-    → IsListed held listed (set costs v c)
-listed_kept held listed costs v c is within known some = record {
-  long = is.long ∙ sym costed.long;
-  few = is.few;
-  counted = is.counted ∙ sym (reached_kept costs v c within known some);
-  below = λ k low. omega (arith, costed.long, is.below k low);
-  each = λ u inside reached. each u (omega (arith, costed.long, inside)) reached (cases_eq u v);
-}
-  where
-    costed : IsOneSet costs (set costs v c) v c
-    costed = one_set costs v c within
+  pub listed_kept : (v c : ℕ) → v < length costs → slice_index costs v ≢ NO_WAY → c ≢ NO_WAY → IsListed held listed (set costs v c)
+  listed_kept v c within known some = record {
+    long = is.long ∙ sym costed.long;
+    few = is.few;
+    counted = is.counted ∙ sym (reached_kept costs v c within known some);
+    below = λ k low. omega (arith, costed.long, is.below k low);
+    each = λ u inside reached. each u (omega (arith, costed.long, inside)) reached (cases_eq u v);
+  }
+    where
+      costed : IsOneSet costs (set costs v c) v c
+      costed = one_set costs v c within
 
-    each : (u : ℕ) → u < length costs → slice_index (set costs v c) u ≢ NO_WAY → (u ≡ v) ⊎ (u ≡ v → ⊥) → (k : ℕ) × (k < held) × (slice_index listed k ≡ u)
-    each u inside reached (inl same) = is.each u inside (λ e. known (ap (slice_index costs) (sym same) ∙ e))
-    each u inside reached (inr other) = is.each u inside (λ e. reached (costed.kept u other ∙ e))
+      each : (u : ℕ) → u < length costs → slice_index (set costs v c) u ≢ NO_WAY → (u ≡ v) ⊎ (u ≡ v → ⊥)
+          → (k : ℕ) × (k < held) × (slice_index listed k ≡ u)
+      each u inside reached (inl same) = is.each u inside (λ e. known (ap (slice_index costs) (sym same) ∙ e))
+      each u inside reached (inr other) = is.each u inside (λ e. reached (costed.kept u other ∙ e))
 
--- ---- the part of the list that is held
-module _ (held : ℕ) (listed costs : List ℕ) (is : IsListed held listed costs) where
-  pub held_few : held ≤ length listed
+  -- ---- the part of the list that is held
+
+  held_few : held ≤ length listed
   held_few = omega (arith, is.long, is.counted, reached_most costs)
 
   pub taken_long : held ≡ length (take held listed)
@@ -316,23 +282,32 @@ module _ (held : ℕ) (listed costs : List ℕ) (is : IsListed held listed costs
       let (k, low, at) = is.each v within some in
       (k, omega (arith, taken_long), taken_at k v low ∙ at)
 
--- what was reached is shut
-pub shut_all : (held : ℕ) (listed costs ring costs' ring' : List ℕ) (floor most : ℕ) → IsListed held listed costs → IsFiled floor most costs ring
-    → length costs' ≡ length costs
-    → ((v : ℕ) → v < length costs → Contains (take held listed) v → (slice_index costs' v ≡ NO_WAY) × (BUCKETS ≤ slice_index ring' v))
-    → ((v : ℕ) → v < length costs → ((slice_index costs' v ≡ slice_index costs v) × (slice_index ring' v ≡ slice_index ring v))
-    ⊎ ((slice_index costs' v ≡ NO_WAY) × (BUCKETS ≤ slice_index ring' v)))
-    → (v : ℕ) → v < length costs → (slice_index costs' v ≡ NO_WAY) × (BUCKETS ≤ slice_index ring' v)
-shut_all held listed costs ring costs' ring' floor most is filed long shut kept v within = go (tells (slice_index costs v)) (kept v within)
-  where
-    go : Tells (slice_index costs v) → ((slice_index costs' v ≡ slice_index costs v) × (slice_index ring' v ≡ slice_index ring v))
-        ⊎ ((slice_index costs' v ≡ NO_WAY) × (BUCKETS ≤ slice_index ring' v)) → (slice_index costs' v ≡ NO_WAY) × (BUCKETS ≤ slice_index ring' v)
-    go any (inr now) = now
-    go (inr (test, other)) (inl same) = shut v within (taken_each held listed costs is v within other)
-    go (inl (test, far)) (inl (same, stood)) = (same ∙ far, omega (arith, stood, shut_out floor most costs ring v filed within far))
+  -- all others stand nowhere
+  pub taken_or_far : {floor most : ℕ} {ring : List ℕ} → IsFiled floor most costs ring
+      → (v : ℕ) → v < length costs → Contains (take held listed) v ⊎ IsFar costs ring v
+  taken_or_far {ring = ring} filed v within = go (tells (slice_index costs v))
+    where
+      go : Tells (slice_index costs v) → Contains (take held listed) v ⊎ IsFar costs ring v
+      go (inl (test, far)) = inr (far, shut_out filed v within far)
+      go (inr (test, other)) = inl (taken_each v within other)
 
-pub filed_none : (costs ring : List ℕ) → length costs ≡ length ring
-    → ((v : ℕ) → v < length costs → (slice_index costs v ≡ NO_WAY) × (BUCKETS ≤ slice_index ring v)) → IsFiled 0 0 costs ring
+-- ---- all ways away
+
+-- those of a list are taken away, and what else there is was not reached
+pub shut_all : (listed costs ring costs' ring' : List ℕ) → ((k : ℕ) → k < length listed → IsFar costs' ring' (slice_index listed k))
+    → ((u : ℕ) → u < length costs → ((slice_index costs' u ≡ slice_index costs u) × (slice_index ring' u ≡ slice_index ring u)) ⊎ IsFar costs' ring' u)
+    → ((v : ℕ) → v < length costs → Contains listed v ⊎ IsFar costs ring v)
+    → (v : ℕ) → v < length costs → IsFar costs' ring' v
+shut_all listed costs ring costs' ring' shut kept each v within = go (each v within) (kept v within)
+  where
+    go : Contains listed v ⊎ IsFar costs ring v → ((slice_index costs' v ≡ slice_index costs v) × (slice_index ring' v ≡ slice_index ring v))
+        ⊎ IsFar costs' ring' v
+        → IsFar costs' ring' v
+    go any (inr far) = far
+    go (inr (far, out)) (inl (same, stood)) = (same ∙ far, omega (arith, stood, out))
+    go (inl (k, low, at)) any = subst (λ (u : ℕ). IsFar costs' ring' u) (sym (get_or_default_zero listed k v low) ∙ at) (shut k low)
+
+pub filed_none : (costs ring : List ℕ) → length costs ≡ length ring → ((v : ℕ) → v < length costs → IsFar costs ring v) → IsFiled 0 0 costs ring
 filed_none costs ring long all = record {
   long = long;
   window = omega arith;

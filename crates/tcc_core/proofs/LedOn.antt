@@ -13,15 +13,15 @@ use Rattle.tcc_core.proofs.Marking.{IsLaterWay}
 use Rattle.tcc_core.proofs.Costs.{cost_paid, cost_few}
 use Rattle.tcc_core.specs.declared.ring.TheConstants.{BUCKETS}
 
-module _ (j : Judged) (t : Tables) (s u d cap left floor : ℕ) (priced : IsPricesOf j t) (from : u < count j.history) where
-  pub others_links : HasLinks t (count j.history) u left (others_at t u)
-  others_links = record {
+module _ {j : Judged} {t : Tables} (priced : IsPricesOf j t) (u : ℕ) (from : u < count j.history) where
+  pub others_links : (left : ℕ) → HasLinks t (count j.history) u left (others_at t u)
+  others_links left = record {
     only = λ v c to has. (links_of j t priced u v c from to).1 (inr has);
     each = λ v c to has low. (links_of j t priced u v c from to).0 has;
   }
 
-  pub cheap_links : (links : List (ℕ × ℕ)) → IsByCost t u links → left ≤ t.limit → HasLinks t (count j.history) u left links
-  cheap_links links is within = record {
+  pub cheap_links : {left : ℕ} {links : List (ℕ × ℕ)} → IsByCost t u links → left ≤ t.limit → HasLinks t (count j.history) u left links
+  cheap_links {left} {links} is within = record {
     only = λ v c to has. let cheap = (is.each v c).0 has in cheap.2;
     each = λ v c to has low. go v c to has (omega (arith, low, within)) (cases_lt v (u + 1)) (cases_lt v (end_of t u));
   }
@@ -40,13 +40,13 @@ module _ (j : Judged) (t : Tables) (s u d cap left floor : ℕ) (priced : IsPric
           inl ((after, inside), equal)
 
   -- where the cap is as low as what was spent, no way is within it
-  pub led_nowhere : (costs : List ℕ) → cap ≤ d → length costs ≡ count j.history → IsOffered (IsWayOn t s u d cap) floor costs costs
-  led_nowhere costs spent long =
+  pub led_nowhere : (s d cap floor : ℕ) (costs : List ℕ) → cap ≤ d → length costs ≡ count j.history → IsOffered (IsWayOn t s u d cap) floor costs costs
+  led_nowhere s d cap floor costs spent long =
       offered_none (IsWayOn t s u d cap) floor costs
       (λ v n within (up, c, has, low, equal) above. absurd (omega (arith, low, spent, cost_paid j t u v priced from (omega (arith, within, long)) c has)))
 
-  module _ (links : List (ℕ × ℕ)) (has_links : HasLinks t (count j.history) u left links) (few : count j.history ≤ MAX_COUNT) (low : d < cap)
-      (least : left ≡ min (cap - d) (BUCKETS - 1)) where
+  module _ {left : ℕ} {links : List (ℕ × ℕ)} (has_links : HasLinks t (count j.history) u left links) (few : count j.history ≤ MAX_COUNT)
+      (s d cap floor : ℕ) (low : d < cap) (least : left ≡ min (cap - d) (BUCKETS - 1)) where
     -- a way by a link is one by a session pair or by one of the list
     apart : (v n : ℕ) → v < count j.history → IsWayOn t s u d cap v n → ((s ≤ v) × IsLater t u v × (d + 1 ≡ n)) ⊎ IsWayBy links s d left v n
     apart v n to (up, c, has, within, equal) = go (has_links.each v c to has (omega (arith, least, within, few, cost_few j t u v priced from to c has)))

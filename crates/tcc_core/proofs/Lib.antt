@@ -11,6 +11,7 @@ pub mod Frontier
 pub mod Lowering
 pub mod Steps
 pub mod Catching
+pub mod Kept
 pub mod Ending
 pub mod Rounds
 pub mod Worked

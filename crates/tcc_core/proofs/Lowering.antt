@@ -1,10 +1,11 @@
--- Caps and limits, and how many a row has.
+-- Caps and limits, how many a row has, and how it is emptied.
 use Rattle.std.proofs.Common.{◌≡◌, ◌≢◌, ◌<◌, ◌≤◌, ◌+◌, ◌==◌, ℕ, zero, suc, true, false, ◌⊎◌, inl}
-use Rattle.std.proofs.Common.{inr, List, [], ◌∷◌, length, Option, None, Some, set, refl, ap, arith}
+use Rattle.std.proofs.Common.{inr, List, [], ◌∷◌, length, slice_index, Contains, Option, None, Some, set, refl, sym, ◌∙◌, ap, subst, arith}
 use Rattle.std.proofs.Math.ListN.{get_or-eq_default}
 use Rattle.std.proofs.lemmas.Bool.{cases_lt, cond_both}
 use Rattle.std.proofs.lemmas.Bool.Decides.{eqb_tells}
-use Rattle.tcc_core.specs.Rows.{in_row, cap_of, IsWithin}
+use Rattle.std.proofs.lemmas.Grind.{get_or_default_zero}
+use Rattle.tcc_core.specs.Rows.{in_row, cap_of, IsWithin, IsEmptyRow}
 use Rattle.tcc_core.specs.Relaxing.{count_joined}
 use Rattle.tcc_core.specs.declared.queue.TheConstants.{NO_WAY}
 
@@ -62,3 +63,23 @@ within_row row v c e = go (cases_lt v (length row))
     go (inr past) =
         let none : in_row row v ≡ None = get_or-eq_default row None past in
         cc
+
+-- ---- a row out of which all was taken that it had
+
+pub emptied : (reached : List ℕ) (old new : List (Option ℕ)) → length new ≡ length old
+    → ((k : ℕ) → k < length reached → in_row new (slice_index reached k) ≡ None)
+    → ((v : ℕ) → v < length old → (in_row new v ≡ in_row old v) ⊎ (in_row new v ≡ None))
+    → ((v : ℕ) → v < length old → in_row old v ≢ None → Contains reached v) → IsEmptyRow (length old) new
+emptied reached old new long out kept each = record { long = long; empty = λ v. empty v (cases_lt v (length old)) }
+  where
+    taken : (v : ℕ) → Contains reached v → in_row new v ≡ None
+    taken v (k, low, at) = subst (λ (u : ℕ). in_row new u ≡ None) (sym (get_or_default_zero reached k v low) ∙ at) (out k low)
+
+    by : (v : ℕ) → v < length old → (o : Option ℕ) → in_row old v ≡ o → (in_row new v ≡ in_row old v) ⊎ (in_row new v ≡ None) → in_row new v ≡ None
+    by v within any e (inr none) = none
+    by v within None e (inl same) = same ∙ e
+    by v within (Some c) e (inl same) = taken v (each v within (λ none. let other : None ≡ Some c = sym none ∙ e in cc))
+
+    empty : (v : ℕ) → (v < length old) ⊎ (length old ≤ v) → in_row new v ≡ None
+    empty v (inl within) = by v within (in_row old v) refl (kept v within)
+    empty v (inr past) = get_or-eq_default new None (omega (arith, long))

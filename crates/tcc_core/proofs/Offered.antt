@@ -5,8 +5,8 @@ use Rattle.std.proofs.Common.{false, Bool, cond, nat_lt, List, length, length-se
 use Rattle.std.proofs.Common.{subst, arith}
 use Rattle.std.proofs.lemmas.Bool.{cases_lt, cases_eq, ltb-true, ltb-false}
 use Rattle.std.proofs.lemmas.List.{get_or-set_same, get_or-set_other}
-use Rattle.tcc_core.specs.Queues.{offered}
-use Rattle.tcc_core.specs.Offers.{IsLower, IsOffered, IsWayBy}
+use Rattle.tcc_core.specs.Queues.{Queue, offered}
+use Rattle.tcc_core.specs.Offers.{IsLower, IsOffered, IsWayBy, MayOffer}
 use Rattle.tcc_core.specs.declared.ring.TheConstants.{BUCKETS}
 
 -- ---- lower costs
@@ -160,33 +160,53 @@ at links i = get_or links i (0, 0)
 abbrev pub IsWayUpTo : List (ℕ × ℕ) → ℕ → ℕ → ℕ → ℕ → ℕ → ℕ → Type 0
 IsWayUpTo links k s d left v n = (s ≤ v) × (i : ℕ) × (i < k) × ((at links i).0 ≡ v) × ((at links i).1 ≤ left) × (d + (at links i).1 ≡ n)
 
-module _ (links : List (ℕ × ℕ)) (s d left floor : ℕ) where
-  pub upto_none : (costs : List ℕ) → IsOffered (IsWayUpTo links 0 s d left) floor costs costs
-  upto_none costs = offered_none (IsWayUpTo links 0 s d left) floor costs (λ v n within (up, i, low, to, few, equal) above. absurd (omega (arith, low)))
+-- what a queue is after the first k links were looked at
+pub record HasOffered (links : List (ℕ × ℕ)) (s d left k : ℕ) (old new : Queue) : Type 0 where
+  pub floor : new.floor ≡ old.floor
+  pub offered : IsOffered (IsWayUpTo links k s d left) old.floor old.costs new.costs
 
-  pub upto_next : (k : ℕ) (old mid new : List ℕ) → s ≤ (at links k).0 → (at links k).1 ≤ left → IsOffered (IsWayUpTo links k s d left) floor old mid
-      → IsOffered (λ u m. (u ≡ (at links k).0) × (d + (at links k).1 ≡ m)) floor mid new → IsOffered (IsWayUpTo links (k + 1) s d left) floor old new
-  upto_next k old mid new from few first then =
-      offered_then (IsWayUpTo links k s d left) (λ u m. (u ≡ (at links k).0) × (d + (at links k).1 ≡ m)) (IsWayUpTo links (k + 1) s d left) floor old mid new
-      (λ v n (up, i, low, to, cheap, equal). split v n i up low to cheap equal (cases_eq i k))
-      (λ v n (up, i, low, to, cheap, equal). (up, i, omega (arith, low), to, cheap, equal))
-      (λ v n (same, equal). (omega (arith, same, from), k, omega arith, sym same, few, equal))
-      first then
+pub none_offered : (links : List (ℕ × ℕ)) (s d left : ℕ) (queue : Queue) → HasOffered links s d left 0 queue queue
+none_offered links s d left queue = record {
+  floor = refl;
+  offered =
+      offered_none (IsWayUpTo links 0 s d left) queue.floor queue.costs (λ v n within (up, i, low, to, few, equal) above. absurd (omega (arith, low)));
+}
+
+module _ {links : List (ℕ × ℕ)} {s d left k : ℕ} {old new : Queue} (is : HasOffered links s d left k old new) where
+  -- the next link is offered
+  pub next_offered : MayOffer links d left old → k < length links → s ≤ (at links k).0 → (at links k).1 ≤ left
+      → HasOffered links s d left (k + 1) old (record new { costs = offered new.floor new.costs (at links k).0 (d + (at links k).1) })
+  next_offered may more from cheap = record {
+    floor = is.floor;
+    offered =
+        rw is.floor
+        (offered_then (IsWayUpTo links k s d left) (λ u m. (u ≡ (at links k).0) × (d + (at links k).1 ≡ m)) (IsWayUpTo links (k + 1) s d left)
+        old.floor old.costs new.costs (offered old.floor new.costs (at links k).0 (d + (at links k).1))
+        (λ v n (up, i, low, to, few, equal). split v n i up low to few equal (cases_eq i k))
+        (λ v n (up, i, low, to, few, equal). (up, i, omega (arith, low), to, few, equal))
+        (λ v n (same, equal). (omega (arith, same, from), k, omega arith, sym same, cheap, equal))
+        is.offered
+        (offered_one old.floor new.costs (at links k).0 (d + (at links k).1) (omega (arith, may.within k (0, 0) more, is.offered.lower.long))
+        (omega (arith, may.so_far, may.short, cheap))));
+  }
     where
       split : (v n i : ℕ) → s ≤ v → i < k + 1 → (at links i).0 ≡ v → (at links i).1 ≤ left → d + (at links i).1 ≡ n → (i ≡ k) ⊎ (i ≡ k → ⊥)
           → IsWayUpTo links k s d left v n ⊎ ((v ≡ (at links k).0) × (d + (at links k).1 ≡ n))
-      split v n i up low to cheap equal (inr other) = inl (up, i, omega (arith, low, other), to, cheap, equal)
-      split v n i up low to cheap equal (inl same) =
+      split v n i up low to few equal (inr other) = inl (up, i, omega (arith, low, other), to, few, equal)
+      split v n i up low to few equal (inl same) =
           let there : (at links k).0 ≡ v = rw same at to in
           inr (sym there, rw same at equal)
 
-  pub upto_past : (k : ℕ) (old new : List ℕ) → ((at links k).0 < s) ⊎ (left < (at links k).1) → IsOffered (IsWayUpTo links k s d left) floor old new
-      → IsOffered (IsWayUpTo links (k + 1) s d left) floor old new
-  upto_past k old new out is =
-      offered_same (IsWayUpTo links k s d left) (IsWayUpTo links (k + 1) s d left) floor old new
-      (λ v n within (up, i, low, to, cheap, equal). (up, i, omega (arith, low), to, cheap, equal))
-      (λ v n within (up, i, low, to, cheap, equal) above. inl (less v n i up low to cheap equal (cases_eq i k) out))
-      is
+  -- or is passed over
+  pub next_passed : ((at links k).0 < s) ⊎ (left < (at links k).1) → HasOffered links s d left (k + 1) old new
+  next_passed out = record {
+    floor = is.floor;
+    offered =
+        offered_same (IsWayUpTo links k s d left) (IsWayUpTo links (k + 1) s d left) old.floor old.costs new.costs
+        (λ v n within (up, i, low, to, cheap, equal). (up, i, omega (arith, low), to, cheap, equal))
+        (λ v n within (up, i, low, to, cheap, equal) above. inl (less v n i up low to cheap equal (cases_eq i k) out))
+        is.offered;
+  }
     where
       less : (v n i : ℕ) → s ≤ v → i < k + 1 → (at links i).0 ≡ v → (at links i).1 ≤ left → d + (at links i).1 ≡ n → (i ≡ k) ⊎ (i ≡ k → ⊥)
           → ((at links k).0 < s) ⊎ (left < (at links k).1) → IsWayUpTo links k s d left v n
@@ -195,14 +215,14 @@ module _ (links : List (ℕ × ℕ)) (s d left floor : ℕ) where
       less v n i up low to cheap equal (inl same) (inr dear) = let there : (at links k).1 ≤ left = rw same at cheap in absurd (omega (arith, there, dear))
 
   -- each of those behind costs more
-  pub upto_all : (k : ℕ) (old new : List ℕ) → k ≤ length links → ((i : ℕ) → k ≤ i → i < length links → left < (at links i).1)
-      → IsOffered (IsWayUpTo links k s d left) floor old new → IsOffered (IsWayBy links s d left) floor old new
-  upto_all k old new few dear is =
-      offered_same (IsWayUpTo links k s d left) (IsWayBy links s d left) floor old new
+  cheap_offered : k ≤ length links → ((i : ℕ) → k ≤ i → i < length links → left < (at links i).1)
+      → IsOffered (IsWayBy links s d left) old.floor old.costs new.costs
+  cheap_offered few dear =
+      offered_same (IsWayUpTo links k s d left) (IsWayBy links s d left) old.floor old.costs new.costs
       (λ v n within (up, i, low, to, cheap, equal). (up, (at links i).1, (i, omega (arith, low, few), there v i (omega (arith, low, few)) to), cheap, equal))
       (λ v n within (up, c, (i, low, e), cheap, equal) above. inl
       (back v n c i up low (sym (same_at links i (v, c) (0, 0) low) ∙ e) cheap equal (cases_lt i k)))
-      is
+      is.offered
     where
       there : (v i : ℕ) → i < length links → (at links i).0 ≡ v → get_or links i (v, (at links i).1) ≡ (v, (at links i).1)
       there v i low to = same_at links i (v, (at links i).1) (0, 0) low ∙ ap (λ (z : ℕ). (z, (at links i).1)) to
@@ -216,12 +236,17 @@ module _ (links : List (ℕ × ℕ)) (s d left floor : ℕ) where
           let cost : (at links i).1 ≡ c = ap (λ (p : ℕ × ℕ). p.1) e in
           absurd (omega (arith, dear i behind low, cost, cheap))
 
+  -- all were looked at
+  pub all_offered : k ≤ length links → length links ≤ k → IsOffered (IsWayBy links s d left) old.floor old.costs new.costs
+  all_offered few whole = cheap_offered few (λ i behind low. absurd (omega (arith, behind, low, whole)))
+
   -- in ascending cost all those behind one that costs more do so
-  pub dear_behind : (k : ℕ) → AllPairs (λ (p q : ℕ × ℕ). p.1 ≤ q.1) links → left < (at links k).1 → (i : ℕ) → k ≤ i → i < length links → left < (at links i).1
-  dear_behind k ascending dear i behind low = go (cases_eq i k)
+  pub cheapest_offered : AllPairs (λ (p q : ℕ × ℕ). p.1 ≤ q.1) links → k < length links → left < (at links k).1
+      → IsOffered (IsWayBy links s d left) old.floor old.costs new.costs
+  cheapest_offered ascending more dear = cheap_offered (omega (arith, more)) (λ i behind low. go i behind low (cases_eq i k))
     where
-      go : (i ≡ k) ⊎ (i ≡ k → ⊥) → left < (at links i).1
-      go (inl same) = rw same dear
-      go (inr other) =
-          let more : (at links k).1 ≤ (at links i).1 = ascending k i (0, 0) (omega (arith, behind, other)) low in
-          omega (arith, more, dear)
+      go : (i : ℕ) → k ≤ i → i < length links → (i ≡ k) ⊎ (i ≡ k → ⊥) → left < (at links i).1
+      go i behind low (inl same) = rw same dear
+      go i behind low (inr other) =
+          let greater : (at links k).1 ≤ (at links i).1 = ascending k i (0, 0) (omega (arith, behind, other)) low in
+          omega (arith, greater, dear)

@@ -35,7 +35,7 @@ raised_off : (rank : ℕ → ℕ) (v top : ℕ) → IsOneOff rank (raised rank v
 unfolding raised
 raised_off rank v top = record { here = rw (eq-eqb v v refl) refl; kept = λ x other. rw (ne_eqb x v other) refl }
 
-module _ (size : ℕ) (next prev bucket : List ℕ) (ring : IsRing size next prev bucket) where
+module _ {size : ℕ} {next prev bucket : List ℕ} (ring : IsRing size next prev bucket) where
   -- the neighbours of what stands are places of the tables
   pub next_inside : (x : ℕ) → home bucket x < size → slice_index next x < length bucket + size
   next_inside x stands = home_inside bucket size (slice_index next x) (omega (arith, ring.onward.same x stands))
@@ -90,11 +90,11 @@ module _ (size : ℕ) (next prev bucket : List ℕ) (ring : IsRing size next pre
     next_long = length-set (set next v h) s v ∙ (length-set next v h ∙ (ring.next_long ∙ ap (λ n. n + size) (sym long)));
     prev_long = length-set (set prev v s) h v ∙ (length-set prev v s ∙ (ring.prev_long ∙ ap (λ n. n + size) (sym long)));
     few = omega (arith, ring.few, long);
-    onward = put_paired size v b s h _ _ _ _ _ _ ring.onward homes nexts prevs v_out within s_home refl;
-    back = put_paired size v b h s _ _ _ _ _ _ ring.back homes prevs nexts v_out within h_home h_prev;
+    onward = put_paired ring.onward homes nexts prevs v_out within s_home refl;
+    back = put_paired ring.back homes prevs nexts v_out within h_home h_prev;
     rank = raised ring.rank v (ring.rank h + 1);
     falls =
-        rw long (put_falls (length bucket) size v b s h _ _ _ _ _ _ _ ring.onward homes nexts
+        rw long (put_falls (length bucket) ring.onward homes nexts
         (raised_off ring.rank v (ring.rank h + 1)) v_out within s_home refl (omega arith) ring.falls);
   }
     where
@@ -142,10 +142,10 @@ module _ (size : ℕ) (next prev bucket : List ℕ) (ring : IsRing size next pre
     next_long = length-set next p n ∙ (ring.next_long ∙ ap (λ n. n + size) (sym long));
     prev_long = length-set prev n p ∙ (ring.prev_long ∙ ap (λ n. n + size) (sym long));
     few = omega (arith, ring.few, long);
-    onward = take_paired size v b p n _ _ _ _ _ _ ring.onward ring.back homes nexts prevs v_home out refl refl n_other;
-    back = take_paired size v b n p _ _ _ _ _ _ ring.back ring.onward homes prevs nexts v_home out refl refl p_other;
+    onward = take_paired ring.onward ring.back homes nexts prevs v_home out refl refl n_other;
+    back = take_paired ring.back ring.onward homes prevs nexts v_home out refl refl p_other;
     rank = ring.rank;
-    falls = rw long (take_falls (length bucket) size v b p n _ _ _ _ _ _ ring.back homes nexts below v_home out refl refl ring.falls);
+    falls = rw long (take_falls (length bucket) ring.rank ring.back homes nexts below v_home out refl refl ring.falls);
   }
     where
       p : ℕ

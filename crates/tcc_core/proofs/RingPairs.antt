@@ -13,31 +13,31 @@ pub record IsTwoOff (f g : ℕ → ℕ) (i a j b : ℕ) : Type 0 where
   pub kept : (x : ℕ) → x ≢ i → x ≢ j → g x ≡ f x
 
 -- v comes in between s and h
-pub put_paired : (size v b s h : ℕ) (N P H N' P' H' : ℕ → ℕ) → IsPaired size N P H → IsOneOff H H' v b → IsTwoOff N N' v h s v → IsTwoOff P P' v s h v
+pub put_paired : {size v b s h : ℕ} {N P H N' P' H' : ℕ → ℕ} → IsPaired size N P H → IsOneOff H H' v b → IsTwoOff N N' v h s v → IsTwoOff P P' v s h v
     → size ≤ H v → b < size → H s ≡ b → N s ≡ h
     → IsPaired size N' P' H'
-put_paired size v b s h N P H N' P' H' paired homes nexts prevs out within stands leads = record {
+put_paired paired homes nexts prevs out within stands leads = record {
   same = λ x at. grind (arith, paired.same, paired.back, homes.kept, nexts.kept, prevs.kept);
   back = λ x at. grind (arith, paired.same, paired.back, homes.kept, nexts.kept, prevs.kept);
 }
 
-pub put_falls : (count size v b s h : ℕ) (N P H R N' H' R' : ℕ → ℕ) → IsPaired size N P H → IsOneOff H H' v b → IsTwoOff N N' v h s v
+pub put_falls : {size v b s h : ℕ} {N P H R N' H' R' : ℕ → ℕ} (count : ℕ) → IsPaired size N P H → IsOneOff H H' v b → IsTwoOff N N' v h s v
     → IsOneOff R R' v (R h + 1) → size ≤ H v → b < size → H s ≡ b → N s ≡ h → count ≤ s
     → Falls count size N H R → Falls count size N' H' R'
-put_falls count size v b s h N P H R N' H' R' paired homes nexts ranks out within stands leads end falls =
+put_falls count paired homes nexts ranks out within stands leads end falls =
     λ x low at. grind (arith, falls, paired.same, homes.kept, nexts.kept, ranks.kept)
 
 -- v goes out from between p and n
-pub take_paired : (size v b p n : ℕ) (N P H N' P' H' : ℕ → ℕ) → IsPaired size N P H → IsPaired size P N H → IsOneOff H H' v b → IsOneOff N N' p n
+pub take_paired : {size v b p n : ℕ} {N P H N' P' H' : ℕ → ℕ} → IsPaired size N P H → IsPaired size P N H → IsOneOff H H' v b → IsOneOff N N' p n
     → IsOneOff P P' n p → H v < size → size ≤ b → P v ≡ p → N v ≡ n → n ≢ v
     → IsPaired size N' P' H'
-take_paired size v b p n N P H N' P' H' onward backward homes nexts prevs stands out before behind alone = record {
+take_paired onward backward homes nexts prevs stands out before behind alone = record {
   same = λ x at. grind (arith, onward.same, onward.back, backward.same, backward.back, homes.kept, nexts.kept, prevs.kept);
   back = λ x at. grind (arith, onward.same, onward.back, backward.same, backward.back, homes.kept, nexts.kept, prevs.kept);
 }
 
-pub take_falls : (count size v b p n : ℕ) (N P H R N' H' : ℕ → ℕ) → IsPaired size P N H → IsOneOff H H' v b → IsOneOff N N' p n → v < count → H v < size
-    → size ≤ b → P v ≡ p → N v ≡ n
+pub take_falls : {size v b p n : ℕ} {N P H N' H' : ℕ → ℕ} (count : ℕ) (R : ℕ → ℕ) → IsPaired size P N H → IsOneOff H H' v b → IsOneOff N N' p n → v < count
+    → H v < size → size ≤ b → P v ≡ p → N v ≡ n
     → Falls count size N H R → Falls count size N' H' R
-take_falls count size v b p n N P H R N' H' backward homes nexts below stands out before behind falls =
+take_falls count R backward homes nexts below stands out before behind falls =
     λ x low at. grind (arith, falls, backward.back, homes.kept, nexts.kept)

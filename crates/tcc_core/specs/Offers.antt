@@ -1,8 +1,10 @@
 -- For the private stages and their proofs alone: nobody has to believe what stands here.
 -- Ways that are offered to transactions, and marks of what session pairs have reached.
-use Rattle.std.specs.Prelude.{ℕ, ◌≡◌, ◌<◌, ◌≤◌, ◌+◌, ◌⊎◌, Option, Some, List, length, slice_index, Contains}
+use Rattle.std.specs.Prelude.{ℕ, ◌≡◌, ◌<◌, ◌≤◌, ◌+◌, ◌⊎◌, Option, Some, List, length, slice_index, All, Contains}
 use Rattle.tcc_derive.specs.Prices.{Tables, cost_at, IsLater}
 use Rattle.tcc_core.specs.Rows.{in_row}
+use Rattle.tcc_core.specs.Queues.{Queue}
+use Rattle.tcc_core.specs.declared.ring.TheConstants.{BUCKETS}
 
 -- costs after ways were offered: each is as it was, or less and more than the floor
 pub record IsLower (floor : ℕ) (old new : List ℕ) : Type 0 where
@@ -33,6 +35,14 @@ pub record IsMarked (floor : ℕ) (costs marks : List ℕ) : Type 0 where
 -- a way on from what the row has
 abbrev pub IsWayOver : Tables → ℕ → List (Option ℕ) → ℕ → ℕ → ℕ → Type 0
 IsWayOver t s row cap v n = (u : ℕ) × (d : ℕ) × (in_row row u ≡ Some d) × IsWayOn t s u d cap v n
+
+-- from where d was spent these links may be offered, as far as one costs at most `left`: they lead to transactions, and no
+-- way over one goes past the window
+pub record MayOffer (links : List (ℕ × ℕ)) (d left : ℕ) (queue : Queue) : Type 0 where
+  pub within : All (λ p. p.0 < length queue.costs) links
+  pub small : queue.floor < 2147483648
+  pub so_far : d ≤ queue.floor
+  pub short : left < BUCKETS
 
 -- these are the links from u among n transactions that cost at most so much, session links apart
 pub record HasLinks (t : Tables) (n u left : ℕ) (links : List (ℕ × ℕ)) : Type 0 where

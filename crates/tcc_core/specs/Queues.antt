@@ -18,6 +18,13 @@ pub record IsNearest (costs : List ℕ) (v : ℕ) : Type 0 where
   pub reached : slice_index costs v < NO_WAY
   pub least : (u : ℕ) → u < length costs → 0 < slice_index costs u → slice_index costs v ≤ slice_index costs u
 
+-- one of those that costs at most the cap; it lies in the window that begins at the floor
+pub record IsNext (queue : Queue) (cap v : ℕ) : Type 0 where
+  pub near : IsNearest queue.costs v
+  pub within : slice_index queue.costs v ≤ cap
+  pub above : queue.floor ≤ slice_index queue.costs v
+  pub window : slice_index queue.costs v < queue.floor + BUCKETS
+
 -- no open transaction costs at most the cap
 abbrev pub IsPast : ℕ → List ℕ → Type 0
 IsPast cap costs = (u : ℕ) → u < length costs → 0 < slice_index costs u → slice_index costs u < NO_WAY → cap < slice_index costs u
@@ -25,6 +32,12 @@ IsPast cap costs = (u : ℕ) → u < length costs → 0 < slice_index costs u �
 -- nothing is open, and nothing settled
 abbrev pub IsUnreached : List ℕ → Type 0
 IsUnreached costs = (v : ℕ) → v < length costs → slice_index costs v ≡ NO_WAY
+
+-- so many transactions, to none of which a way is known
+pub record IsBeginning (count : ℕ) (queue : Queue) : Type 0 where
+  pub long : length queue.costs ≡ count
+  pub none : IsUnreached queue.costs
+  pub floor : queue.floor ≡ 0
 
 -- a way to v at this cost is taken where it costs more than the floor, no more than a link beyond it, and less than what is
 -- known
@@ -44,6 +57,10 @@ pub record IsOpen (floor most cost b : ℕ) : Type 0 where
 pub record IsShut (cost b : ℕ) : Type 0 where
   pub none : (cost ≡ NO_WAY) ⊎ (cost ≡ 0)
   pub out : BUCKETS ≤ b
+
+-- no way leads to v, and it stands in no bucket
+abbrev pub IsFar : List ℕ → List ℕ → ℕ → Type 0
+IsFar costs ring v = (slice_index costs v ≡ NO_WAY) × (BUCKETS ≤ slice_index ring v)
 
 pub record IsFiled (floor most : ℕ) (costs ring : List ℕ) : Type 0 where
   pub long : length costs ≡ length ring

@@ -1,20 +1,19 @@
 //! What a search does over its whole row.
-ghost use Rattle.std.specs.Prelude.{◌≡◌, ◌<◌, ◌≤◌, ◌^◌, ◌⊎◌, ℕ, Some, None, length, All, Contains};
+ghost use Rattle.std.specs.Prelude.{◌≡◌, ◌≢◌, ◌<◌, ◌≤◌, ◌^◌, ℕ, Some, None, length, All, Contains};
 ghost use Rattle.tcc_graph.specs.Levels.{Judged};
 ghost use Rattle.tcc_derive.specs.Prices.{IsPricesOf};
-ghost use Rattle.tcc_core.specs.Rows.{in_row};
+ghost use Rattle.tcc_core.specs.Rows.{in_row, IsEmptyRow};
 ghost use Rattle.tcc_core.specs.Offers.{IsLower, IsOffered, IsWayOver};
 ghost use Rattle.tcc_txn.specs.declared.limits.TheConstants.{MAX_COUNT};
 
 use crate::leading::Frontier;
 use tcc_derive::Prices;
 
-/// Takes these transactions out of the row.
+/// Takes these transactions, which are all that it has, out of the row.
 pub(crate) fn empty(reached: &[u32], row: &mut [Option<u32>])
-    requires { All (λ v. v < length row.old) reached.now }
-    ensures long { length row.new ≡ length row.old }
-    ensures out { (v : ℕ) → v < length row.old → Contains reached.now v → in_row row.new v ≡ None }
-    ensures kept { (v : ℕ) → v < length row.old → (in_row row.new v ≡ in_row row.old v) ⊎ (in_row row.new v ≡ None) }
+    requires below { All (λ v. v < length row.old) reached.now }
+    requires each { (v : ℕ) → v < length row.old → in_row row.old v ≢ None → Contains reached.now v }
+    ensures { IsEmptyRow (length row.old) row.new }
 {
     for &v in reached {
         row[v as usize] = None;

@@ -5,7 +5,7 @@ ghost use Rattle.std.specs.Prelude.{◌≡◌, ◌≢◌, ◌<◌, ◌≤◌, �
 ghost use Rattle.tcc_reads.specs.History.{count};
 ghost use Rattle.tcc_graph.specs.Levels.{Judged};
 ghost use Rattle.tcc_derive.specs.Prices.{IsPricesOf};
-ghost use Rattle.tcc_core.specs.Queues.{IsNearest, IsPast, IsUnreached};
+ghost use Rattle.tcc_core.specs.Queues.{IsBeginning, IsNearest, IsNext, IsPast};
 ghost use Rattle.tcc_core.specs.Offers.{IsLower, IsOffered, IsMarked, IsWayOn, IsOfferedBy};
 ghost use Rattle.tcc_txn.specs.declared.limits.TheConstants.{MAX_COUNT};
 ghost use Rattle.tcc_core.specs.declared.queue.TheConstants.{NO_WAY};
@@ -77,9 +77,7 @@ impl Frontier {
     /// So many transactions, to none of which a way is known.
     pub(crate) fn begin(alloc: Global, count: u32) -> Result<Frontier, AllocError>
         requires { count ≤ MAX_COUNT }
-        ensures long { IfOk result (λ frontier. length frontier.costs ≡ count) }
-        ensures none { IfOk result (λ frontier. IsUnreached frontier.costs) }
-        ensures floor { IfOk result (λ frontier. frontier.floor ≡ 0) }
+        ensures { IfOk result (IsBeginning count) }
     {
         let queue = Queue::begin(alloc, count)?;
         let marks = vec![in alloc; UNMARKED; count as usize]?;
@@ -130,9 +128,7 @@ impl Frontier {
 
     /// One of the nearest of those that are open, if it costs at most the cap.
     pub(crate) fn nearest(&self, cap: u64) -> Option<u32>
-        ensures found { IfSome result (λ v. IsNearest self.now.costs v) }
-        ensures within { IfSome result (λ v. slice_index self.now.costs v ≤ cap) }
-        ensures window { IfSome result (λ v. slice_index self.now.costs v < self.now.floor + BUCKETS) }
+        ensures some { IfSome result (IsNext self.now cap) }
         ensures none { IfNone result (IsPast cap self.now.costs) }
     {
         self.queue.nearest(cap)
@@ -162,9 +158,7 @@ impl Frontier {
     pub(crate) fn clear(&mut self)
         requires small { self.old.floor < 2 ^ 31 }
         requires few { length self.old.costs ≤ MAX_COUNT }
-        ensures long { length self.new.costs ≡ length self.old.costs }
-        ensures none { IsUnreached self.new.costs }
-        ensures floor { self.new.floor ≡ 0 }
+        ensures { IsBeginning (length self.old.costs) self.new }
     {
         unmark(self.queue.reached(), &mut self.marks);
         self.queue.clear();

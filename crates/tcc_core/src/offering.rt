@@ -1,7 +1,7 @@
 //! Ways that are offered to the transactions of a queue, many at a time.
-ghost use Rattle.std.specs.Prelude.{◌≡◌, ◌<◌, ◌≤◌, ◌+◌, ◌^◌, length, All};
+ghost use Rattle.std.specs.Prelude.{◌≡◌, ◌<◌, ◌≤◌, ◌+◌, length};
 ghost use Rattle.std.specs.List.{AllPairs};
-ghost use Rattle.tcc_core.specs.Offers.{IsOffered, IsWayBy};
+ghost use Rattle.tcc_core.specs.Offers.{IsOffered, IsWayBy, MayOffer};
 ghost use Rattle.tcc_core.specs.declared.ring.TheConstants.{BUCKETS};
 
 use crate::queue::Queue;
@@ -28,10 +28,7 @@ pub(crate) fn offer_cheapest(
     so_far: u32,
     left: u32,
 )
-    requires small { queue.old.floor < 2 ^ 31 }
-    requires so_far { so_far ≤ queue.old.floor }
-    requires left { left < BUCKETS }
-    requires within { All (λ p. p.0 < length queue.old.costs) links.now }
+    requires may { MayOffer links.now so_far left queue.old }
     requires ascending { AllPairs (λ p q. p.1 ≤ q.1) links.now }
     ensures floor { queue.new.floor ≡ queue.old.floor }
     ensures offered { IsOffered (IsWayBy links.now start so_far left) queue.old.floor queue.old.costs queue.new.costs }
@@ -54,10 +51,7 @@ pub(crate) fn offer_within(
     so_far: u32,
     left: u32,
 )
-    requires small { queue.old.floor < 2 ^ 31 }
-    requires so_far { so_far ≤ queue.old.floor }
-    requires left { left < BUCKETS }
-    requires within { All (λ p. p.0 < length queue.old.costs) links.now }
+    requires { MayOffer links.now so_far left queue.old }
     ensures floor { queue.new.floor ≡ queue.old.floor }
     ensures offered { IsOffered (IsWayBy links.now start so_far left) queue.old.floor queue.old.costs queue.new.costs }
 {

@@ -1,7 +1,7 @@
 //! Transactions that are open at a cost, and the nearest of them. The costs of those that are open lie in a window as wide
 //! as there are buckets, so each bucket has transactions of one cost.
 ghost use Rattle.std.specs.Prelude.{◌≡◌, ◌≢◌, ◌<◌, ◌≤◌, ◌+◌, ◌⊎◌, ℕ, length, slice_index, slice_set, All, Contains, IfSome, IfNone, IfOk};
-ghost use Rattle.tcc_core.specs.Queues.{IsNearest, IsPast, IsUnreached, IsFiled, offered};
+ghost use Rattle.tcc_core.specs.Queues.{IsBeginning, IsNearest, IsNext, IsPast, IsFar, IsFiled, offered};
 ghost use Rattle.tcc_core.specs.Queues as queues;
 ghost use Rattle.tcc_core.specs.declared.ring.TheConstants.{BUCKETS};
 ghost use Rattle.tcc_txn.specs.declared.limits.TheConstants.{MAX_COUNT};
@@ -38,17 +38,14 @@ impl Model for Queue {
     ghost invariant = { λ q. IsFiled q.floor q.most q.costs.items q.ring × IsListed q.held q.listed.items q.costs.items };
 }
 
-/// Takes each of these out of its bucket, and the ways to them away.
+/// Takes each of these, which are all that were reached, out of its bucket, and the ways to them away.
 fn shut(listed: &[u32], costs: &mut [u32], ring: &mut Ring)
     requires long { length costs.old ≡ length ring.old }
     requires below { All (λ v. v < length costs.old) listed.now }
+    requires each { (v : ℕ) → v < length costs.old → Contains listed.now v ⊎ IsFar costs.old ring.old v }
     ensures long { length costs.new ≡ length costs.old }
     ensures same { length ring.new ≡ length ring.old }
-    ensures shut { (v : ℕ) → v < length costs.old → Contains listed.now v
-        → (slice_index costs.new v ≡ NO_WAY) × (BUCKETS ≤ slice_index ring.new v) }
-    ensures kept { (v : ℕ) → v < length costs.old
-        → ((slice_index costs.new v ≡ slice_index costs.old v) × (slice_index ring.new v ≡ slice_index ring.old v))
-        ⊎ ((slice_index costs.new v ≡ NO_WAY) × (BUCKETS ≤ slice_index ring.new v)) }
+    ensures shut { (v : ℕ) → v < length costs.old → IsFar costs.new ring.new v }
 {
     for &v in listed {
         if ring.stands(v) {
@@ -62,12 +59,10 @@ impl Queue {
     /// So many transactions, of which none is open.
     pub(crate) fn begin(alloc: Global, count: u32) -> Result<Queue, AllocError>
         requires { count ≤ MAX_COUNT }
-        ensures long { IfOk result (λ queue. length queue.costs ≡ count) }
-        ensures none { IfOk result (λ queue. IsUnreached queue.costs) }
-        ensures floor { IfOk result (λ queue. queue.floor ≡ 0) }
+        ensures { IfOk result (IsBeginning count) }
     {
-        let ring = Ring::begin(alloc, count)?;
         let costs = vec![in alloc; NO_WAY; count as usize]?;
+        let ring = Ring::begin(alloc, count)?;
         let listed = vec![in alloc; 0; count as usize]?;
         Ok(Queue {
             floor: 0,
@@ -112,9 +107,7 @@ impl Queue {
 
     /// An open transaction that none is cheaper than, if it costs at most the cap.
     pub(crate) fn nearest(&self, cap: u64) -> Option<u32>
-        ensures found { IfSome result (λ v. IsNearest self.now.costs v) }
-        ensures within { IfSome result (λ v. slice_index self.now.costs v ≤ cap) }
-        ensures window { IfSome result (λ v. slice_index self.now.costs v < self.now.floor + BUCKETS) }
+        ensures some { IfSome result (IsNext self.now cap) }
         ensures none { IfNone result (IsPast cap self.now.costs) }
     {
         let last = if cap < self.most as u64 {
@@ -144,9 +137,7 @@ impl Queue {
 
     /// Takes all ways away, in time proportional to what was reached.
     pub(crate) fn clear(&mut self)
-        ensures long { length self.new.costs ≡ length self.old.costs }
-        ensures none { IsUnreached self.new.costs }
-        ensures floor { self.new.floor ≡ 0 }
+        ensures { IsBeginning (length self.old.costs) self.new }
     {
         shut(
             &self.listed[..self.held as usize],

@@ -1,47 +1,20 @@
-use Rattle.std.proofs.Common.{◌<◌, ◌+◌, inl, refl, length, get_or, arith}
-use Rattle.tcc_core.specs.Queues.{offered}
-use Rattle.tcc_core.specs.declared.ring.TheConstants.{BUCKETS}
-use Rattle.tcc_core.proofs.Offered.{upto_none, upto_next, upto_past, upto_all, dear_behind, offered_one}
+use Rattle.std.proofs.Common.{inl, arith}
+use Rattle.tcc_core.proofs.Offered.{none_offered, next_offered, next_passed, all_offered, cheapest_offered}
 use Rattle.tcc_core.proofs.offering.offer_cheapest.Goals.{then-to-start, else-to-start}
 use Rattle.tcc_core.proofs.offering.offer_cheapest.Goals as goal
 
 pub loop-to-init : goal.loop-to-init
-loop-to-init c =
-    record { floor = refl; offered = upto_none c.args.links.now c.args.start c.args.so_far c.args.left c.args.queue.now.floor c.args.queue.now.costs }
+loop-to-init c = none_offered c.args.links.now c.args.start c.args.so_far c.args.left c.args.queue.now
 
 pub loop-to-preserved : goal.loop-to-preserved
-loop-to-preserved c =
-    let links = c.args.links.now in
-    let k = c.loop-to.to-index in
-    let floor = c.args.queue.now.floor in
-    let old = c.args.queue.now.costs in
-    let mid = c.loop-to.queue.costs in
-    let same = c.loop-to.invariant.floor in
-    let is = c.loop-to.invariant.offered in
-    elim c.if-to-start.branch [
-      | then-to-start w ↦
-          let to : (get_or links k (0, 0)).0 < length mid = omega (arith, c.requires.within k (0, 0) c.loop-to-test.true, is.lower.long) in
-          let window : c.args.so_far + (get_or links k (0, 0)).1 < floor + BUCKETS = omega (arith, c.requires.so_far, c.requires.left, c.if-cost-left.false) in
-          rw (w.queue-is, w.offer.ensures, same) (record {
-            floor = refl;
-            offered =
-                upto_next links c.args.start c.args.so_far c.args.left floor k old mid
-                (offered floor mid (get_or links k (0, 0)).0 (c.args.so_far + (get_or links k (0, 0)).1)) w.if-to-start.true c.if-cost-left.false is
-                (offered_one floor mid (get_or links k (0, 0)).0 (c.args.so_far + (get_or links k (0, 0)).1) to window);
-          })
-      | else-to-start w ↦ rw w.queue-is
-          (record { floor = same; offered = upto_past links c.args.start c.args.so_far c.args.left floor k old mid (inl w.if-to-start.false) is })
-    ]
+loop-to-preserved c = elim c.if-to-start.branch [
+  | then-to-start w ↦ rw (w.queue-is, w.offer.ensures)
+      (next_offered c.loop-to.invariant c.requires.may c.loop-to-test.true w.if-to-start.true c.if-cost-left.false)
+  | else-to-start w ↦ rw w.queue-is (next_passed c.loop-to.invariant (inl w.if-to-start.false))
+]
 
 pub returns-then-cost-left-clause-offered : goal.returns-then-cost-left-clause-offered
-returns-then-cost-left-clause-offered c =
-    upto_all c.args.links.now c.args.start c.args.so_far c.args.left c.args.queue.now.floor c.loop-to.to-index c.args.queue.now.costs c.loop-to.queue.costs
-    (omega (arith, c.loop-to-test.true))
-    (dear_behind c.args.links.now c.args.start c.args.so_far c.args.left c.args.queue.now.floor c.loop-to.to-index c.requires.ascending c.if-cost-left.true)
-    c.loop-to.invariant.offered
+returns-then-cost-left-clause-offered c = cheapest_offered c.loop-to.invariant c.requires.ascending c.loop-to-test.true c.if-cost-left.true
 
 pub returns-clause-offered : goal.returns-clause-offered
-returns-clause-offered c =
-    upto_all c.args.links.now c.args.start c.args.so_far c.args.left c.args.queue.now.floor c.loop-to.to-index c.args.queue.now.costs c.loop-to.queue.costs
-    (omega (arith, c.loop-to.auto.to-index-end))
-    (λ i behind low. absurd (omega (arith, behind, low, c.loop-to-test.false))) c.loop-to.invariant.offered
+returns-clause-offered c = all_offered c.loop-to.invariant (omega (arith, c.loop-to.auto.to-index-end)) (omega (arith, c.loop-to-test.false))

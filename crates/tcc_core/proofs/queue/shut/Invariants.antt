@@ -1,12 +1,10 @@
-use Rattle.std.proofs.Common.{◌≡◌, ◌<◌, ◌≤◌, ◌⊎◌, ℕ, length, slice_index}
-use Rattle.tcc_core.specs.declared.ring.TheConstants.{BUCKETS}
-use Rattle.tcc_core.specs.declared.queue.TheConstants.{NO_WAY}
+use Rattle.std.proofs.Common.{◌≡◌, ◌<◌, ◌⊎◌, ℕ, length, slice_index}
+use Rattle.tcc_core.specs.Queues.{IsFar}
 use Rattle.tcc_core.proofs.queue.shut.Given as goal
 
 abbrev pub invariant-loop-v : goal.invariant-loop-v
 invariant-loop-v l =
     (length l.costs ≡ length l.initial.costs) × (length l.ring ≡ length l.initial.ring)
-    × ((k : ℕ) → k < l.v-index → (slice_index l.costs (slice_index l.listed k) ≡ NO_WAY) × (BUCKETS ≤ slice_index l.ring (slice_index l.listed k)))
+    × ((k : ℕ) → k < l.v-index → IsFar l.costs l.ring (slice_index l.listed k))
     × ((u : ℕ) → u < length l.costs
-    → ((slice_index l.costs u ≡ slice_index l.initial.costs u) × (slice_index l.ring u ≡ slice_index l.initial.ring u))
-    ⊎ ((slice_index l.costs u ≡ NO_WAY) × (BUCKETS ≤ slice_index l.ring u)))
+    → ((slice_index l.costs u ≡ slice_index l.initial.costs u) × (slice_index l.ring u ≡ slice_index l.initial.ring u)) ⊎ IsFar l.costs l.ring u)

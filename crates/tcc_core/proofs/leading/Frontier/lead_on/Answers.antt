@@ -37,18 +37,18 @@ returns-clause-offered c = λ j priced.
           let later : IsOffered (IsLaterWay floor w.max.result (end_of t u)) floor old w.reach_later.new.self.costs = rw end at w.reach_later.ensures.offered in
           let by : IsOffered (IsWayBy links s d left) w.reach_later.new.self.floor w.reach_later.new.self.costs new =
           subst (λ (q : Queue). IsOffered (IsWayBy links s d left) q.floor q.costs new) there offers in
-          led_by_both j t s u d cap left floor priced from links has few low least w.max.result old w.reach_later.new.self.costs new long spent first later
+          led_by_both priced u from has few s d cap floor low least w.max.result old w.reach_later.new.self.costs new long spent first later
           (rw w.reach_later.ensures.floor at by)
       | else-so_far-floor w ↦
           let there : c.self-2.inside.queue ≡ c.args.self.now = c.self-2.view_is ∙ w.self-is in
           let below : d < floor = omega (arith, w.if-so_far-floor.false, c.requires.so_far, c.floor.ensures, ap (λ (q : Queue). q.floor) c.self.view_is) in
           let by : IsOffered (IsWayBy links s d left) floor old new =
           subst (λ (q : Queue). IsOffered (IsWayBy links s d left) q.floor q.costs new) there offers in
-          led_by_links j t s u d cap left floor priced from links has few low least old new long below by
+          led_by_links priced u from has few s d cap floor low least old new long below by
     ]
 
 pub returns-then-so_far-cap-clause-offered : goal.returns-then-so_far-cap-clause-offered
 returns-then-so_far-cap-clause-offered c = λ j priced.
     let wide : length c.args.prices.now.prices ≡ count j.history = priced.prices.long in
-    led_nowhere j c.args.prices.now c.args.start c.args.u c.args.so_far c.args.cap 0 c.args.self.now.floor priced
-    (omega (arith, c.requires.below, wide)) c.args.self.now.costs (omega (arith, c.if-so_far-cap.true)) (omega (arith, c.requires.long, wide))
+    led_nowhere priced c.args.u (omega (arith, c.requires.below, wide)) c.args.start c.args.so_far c.args.cap c.args.self.now.floor c.args.self.now.costs
+    (omega (arith, c.if-so_far-cap.true)) (omega (arith, c.requires.long, wide))

@@ -1,6 +1,6 @@
-use Rattle.std.proofs.Common.{rules, ◌≡◌, ◌<◌, ◌+◌, ◌%◌, ◌∙◌, sym, max, inr, refl, length, slice_index, set, arith}
+use Rattle.std.proofs.Common.{rules, ◌≡◌, ◌<◌, ◌+◌, ◌%◌, ◌∙◌, sym, max, length, slice_index, set, arith}
 use Rattle.std.proofs.lemmas.Grind.{common_steps}
-use Rattle.tcc_core.proofs.Filing.{one_set, two_set, filed_set, listed_more, listed_kept, reached_below}
+use Rattle.tcc_core.proofs.Filing.{one_set, two_set, filed_opened, listed_more, listed_kept, reached_below}
 use Rattle.tcc_core.specs.declared.ring.TheConstants.{BUCKETS, NOWHERE}
 use Rattle.tcc_core.proofs.queue.Queue.lower.Goals.{then-index, else-index}
 use Rattle.tcc_core.proofs.queue.Queue.lower.Goals as goal
@@ -38,20 +38,14 @@ invariant_of-self c =
           let more : c.max-self-inside.result ≡ max q.most n = rw w.self-inside-is at c.max-self-inside.ensures in
           let put : c.put.new.self ≡ set q.ring v (n % BUCKETS) = rw w.self-inside-is at c.put.ensures in
           rw (w.self-inside-is, put) (
-            filed_set q.floor q.most c.max-self-inside.result costs q.ring (set costs v n) (set q.ring v (n % BUCKETS)) v n (n % BUCKETS) filed within
-                (omega (arith, more)) (omega (arith, more, filed.window)) (omega (arith, more, filed.few, c.requires.few)) (one_set costs v n within)
-                (one_set q.ring v (n % BUCKETS) inside)
-                (inr (record { some = omega (arith, above); above = omega (arith, above); below = omega (arith, more); at = refl })),
-            listed_more q.held q.listed.items costs v n listed within (sym known ∙ w.if-index.true) (omega (arith, c.requires.few)),
+            filed_opened filed within above window c.requires.few more (one_set costs v n within) (one_set q.ring v (n % BUCKETS) inside),
+            listed_more listed v n within (sym known ∙ w.if-index.true) (omega (arith, c.requires.few)),
           )
       | else-index w ↦
           let more : c.max-self-inside.result ≡ max q.most n = rw w.self-inside-is at c.max-self-inside.ensures in
           let put : c.put.new.self ≡ set w.take.new.self v (n % BUCKETS) = rw w.self-inside-is at c.put.ensures in
           rw (w.self-inside-is, put, w.take.ensures) (
-            filed_set q.floor q.most c.max-self-inside.result costs q.ring (set costs v n) (set (set q.ring v NOWHERE) v (n % BUCKETS)) v n
-                (n % BUCKETS) filed within (omega (arith, more)) (omega (arith, more, filed.window)) (omega (arith, more, filed.few, c.requires.few))
-                (one_set costs v n within) (two_set q.ring v NOWHERE (n % BUCKETS) inside)
-                (inr (record { some = omega (arith, above); above = omega (arith, above); below = omega (arith, more); at = refl })),
-            listed_kept q.held q.listed.items costs v n listed within (λ e. w.if-index.false (known ∙ e)) (omega (arith, c.requires.few)),
+            filed_opened filed within above window c.requires.few more (one_set costs v n within) (two_set q.ring v NOWHERE (n % BUCKETS) inside),
+            listed_kept listed v n within (λ e. w.if-index.false (known ∙ e)) (omega (arith, c.requires.few)),
           )
     ]

@@ -1,4 +1,4 @@
-use Rattle.std.proofs.Common.{◌≡◌, slice_index, set, arith}
+use Rattle.std.proofs.Common.{◌≡◌, slice_index, arith}
 use Rattle.std.proofs.lemmas.Grind.{common_steps}
 use Rattle.tcc_core.specs.Queues.{IsNearest, IsOpen}
 use Rattle.tcc_core.proofs.Filing.{one_set, open_stands, filed_settled, listed_kept}
@@ -13,13 +13,9 @@ invariant_of-self c =
     let (filed, listed) = c.self.invariant in
     let near : IsNearest costs v = rw (← c.self.view_is) at c.requires in
     let at : c.index.result.now ≡ slice_index costs v = grind (arith, common_steps, near.below) in
-    let open_at : IsOpen q.floor q.most (slice_index costs v) (slice_index q.ring v) =
-    open_stands q.floor q.most costs q.ring v filed near.below near.open_at near.reached in
     rw (at, c.take.ensures) (
-      filed_settled q.floor q.most costs q.ring (set costs v 0) (set q.ring v NOWHERE) v NOWHERE filed near
-          (omega (arith, open_at.below, filed.window)) open_at.above (omega arith) (one_set costs v 0 near.below)
-          (one_set q.ring v NOWHERE (omega (arith, filed.long, near.below))),
-      listed_kept q.held q.listed.items costs v 0 listed near.below (λ e. omega (arith, near.reached)) (omega arith),
+      filed_settled filed near (omega arith) (one_set costs v 0 near.below) (one_set q.ring v NOWHERE (omega (arith, filed.long, near.below))),
+      listed_kept listed v 0 near.below (λ e. omega (arith, near.reached)) (omega arith),
     )
 
 pub returns-clause-rises : goal.returns-clause-rises
@@ -30,5 +26,5 @@ returns-clause-rises c =
     let near : IsNearest costs v = rw (← c.self.view_is) at c.requires in
     let at : c.index.result.now ≡ slice_index costs v = grind (arith, common_steps, near.below) in
     let open_at : IsOpen q.floor q.most (slice_index costs v) (slice_index q.ring v) =
-    open_stands q.floor q.most costs q.ring v c.self.invariant.0 near.below near.open_at near.reached in
+    open_stands c.self.invariant.0 v near.below near.open_at near.reached in
     rw (← c.self.view_is) (omega (arith, at, open_at.above))

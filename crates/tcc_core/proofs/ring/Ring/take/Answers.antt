@@ -1,50 +1,45 @@
-use Rattle.std.proofs.Common.{rules, ◌≡◌, ◌<◌, ◌+◌, ◌∙◌, sym, length, length-set, slice_index, arith}
+use Rattle.std.proofs.Common.{rules, ◌≡◌, ◌<◌, ◌∙◌, sym, length, length-set, slice_index, arith}
 use Rattle.std.proofs.lemmas.List.{get_or_read}
+use Rattle.tcc_core.specs.RingLinks.{home}
 use Rattle.tcc_core.proofs.RingHomes.{home_number}
 use Rattle.tcc_core.proofs.RingCalls.{next_inside, prev_inside, ring_take}
 use Rattle.tcc_core.specs.declared.ring.TheConstants.{BUCKETS, NOWHERE}
+use Rattle.tcc_core.proofs.ring.Ring.take.Goals.{After-index-behind}
 use Rattle.tcc_core.proofs.ring.Ring.take.Goals as goal
+
+below : (c : After-index-behind) → c.args.v < length c.self.inside.bucket.items
+below c = rw (← c.self.view_is) at c.requires.within
+
+stands : (c : After-index-behind) → slice_index c.self.inside.bucket.items c.args.v < BUCKETS
+stands c = rw (← c.self.view_is) at c.requires.stands
+
+at_home : (c : After-index-behind) → home c.self.inside.bucket.items c.args.v < BUCKETS
+at_home c = omega (arith, stands c, home_number c.self.inside.bucket.items c.args.v (below c))
+
+before : (c : After-index-behind) → c.index-before.result.now ≡ slice_index c.self.inside.prev.items c.args.v
+before c =
+    get_or_read c.self.inside.prev.items c.args.v c.index-before.result.now (omega (arith, below c, c.self.invariant.1.prev_long)) c.index-before.ensures 0
+
+behind : (c : After-index-behind) → c.index-behind.result.now ≡ slice_index c.self.inside.next.items c.args.v
+behind c =
+    get_or_read c.self.inside.next.items c.args.v c.index-behind.result.now (omega (arith, below c, c.self.invariant.1.next_long)) c.index-behind.ensures 0
 
 pub index_mut-requires : goal.index_mut-requires
 index_mut-requires c =
-    let s = c.self.inside in
-    let bucket = s.bucket.items in
-    let ring = c.self.invariant.1 in
-    let below : c.args.v < length bucket = rw (← c.self.view_is) at c.requires.within in
-    let stands : slice_index bucket c.args.v < BUCKETS = rw (← c.self.view_is) at c.requires.stands in
-    let before : c.index-before.result.now ≡ slice_index s.prev.items c.args.v =
-    get_or_read s.prev.items c.args.v c.index-before.result.now (omega (arith, ring.prev_long)) c.index-before.ensures 0 in
-    let low : slice_index s.prev.items c.args.v < length bucket + BUCKETS =
-    prev_inside BUCKETS s.next.items s.prev.items bucket ring c.args.v (omega (arith, home_number bucket c.args.v below)) in
-    let long : s.next.len ≡ length s.next.items = search rules in
-    omega (arith, ring.next_long)
+    let read = (goal.at.index_mut-requires c).After-index-behind in
+    let long : c.self.inside.next.len ≡ length c.self.inside.next.items = search rules in
+    omega (arith, before read, prev_inside c.self.invariant.1 c.args.v (at_home read), long, c.self.invariant.1.next_long)
 
 pub index_mut-requires-2 : goal.index_mut-requires-2
 index_mut-requires-2 c =
-    let s = c.self.inside in
-    let bucket = s.bucket.items in
-    let ring = c.self.invariant.1 in
-    let below : c.args.v < length bucket = rw (← c.self.view_is) at c.requires.within in
-    let stands : slice_index bucket c.args.v < BUCKETS = rw (← c.self.view_is) at c.requires.stands in
-    let behind : c.index-behind.result.now ≡ slice_index s.next.items c.args.v =
-    get_or_read s.next.items c.args.v c.index-behind.result.now (omega (arith, ring.next_long)) c.index-behind.ensures 0 in
-    let low : slice_index s.next.items c.args.v < length bucket + BUCKETS =
-    next_inside BUCKETS s.next.items s.prev.items bucket ring c.args.v (omega (arith, home_number bucket c.args.v below)) in
-    let long : s.prev.len ≡ length s.prev.items = search rules in
-    omega (arith, ring.prev_long)
+    let read = (goal.at.index_mut-requires-2 c).After-index-behind in
+    let long : c.self.inside.prev.len ≡ length c.self.inside.prev.items = search rules in
+    omega (arith, behind read, next_inside c.self.invariant.1 c.args.v (at_home read), long, c.self.invariant.1.prev_long)
 
 pub invariant_of-self : goal.invariant_of-self
 invariant_of-self c =
-    let s = c.self.inside in
-    let bucket = s.bucket.items in
-    let counted = c.self.invariant.0 in
-    let ring = c.self.invariant.1 in
-    let below : c.args.v < length bucket = rw (← c.self.view_is) at c.requires.within in
-    let stands : slice_index bucket c.args.v < BUCKETS = rw (← c.self.view_is) at c.requires.stands in
-    let before : c.index-before.result.now ≡ slice_index s.prev.items c.args.v =
-    get_or_read s.prev.items c.args.v c.index-before.result.now (omega (arith, ring.prev_long)) c.index-before.ensures 0 in
-    let behind : c.index-behind.result.now ≡ slice_index s.next.items c.args.v =
-    get_or_read s.next.items c.args.v c.index-behind.result.now (omega (arith, ring.next_long)) c.index-behind.ensures 0 in (
-      counted ∙ sym (length-set bucket c.args.v NOWHERE),
-      rw (before, behind) (ring_take BUCKETS s.next.items s.prev.items bucket ring c.args.v NOWHERE below stands (omega (arith, ring.few))),
+    let read = (goal.at.invariant_of-self c).After-index-behind in
+    let (counted, ring) = c.self.invariant in (
+      counted ∙ sym (length-set c.self.inside.bucket.items c.args.v NOWHERE),
+      rw (before read, behind read) (ring_take ring c.args.v NOWHERE (below read) (stands read) (omega (arith, ring.few))),
     )

@@ -1,76 +1,39 @@
 use Rattle.std.proofs.Common.{rules, ◌≡◌, length, arith, take_at, sym, ◌∙◌}
-use Rattle.tcc_reads.specs.History.{count}
-use Rattle.tcc_core.specs.Rows.{IsEmptyRow}
-use Rattle.tcc_core.specs.Searches.{Search}
-use Rattle.tcc_core.proofs.Steps.{floor_small, emptied, search_begun, bounded_begun}
+use Rattle.tcc_core.proofs.Steps.{IsBegun, joined_reached, search_begun, bounded_begun}
+use Rattle.tcc_core.proofs.search.Search.renew.Goals.{After-clear}
 use Rattle.tcc_core.proofs.search.Search.renew.Goals as goal
 
-pub clear-requires-clause-small : goal.clear-requires-clause-small
-clear-requires-clause-small c =
-    let old : Search = record {
-      start = c.self.inside.start;
-      row = c.self.inside.row.items;
-      costs = c.self.inside.frontier.costs;
-      limit = c.self.inside.limit;
-    } in
-    floor_small old c.self.inside.frontier.floor c.self.invariant
+there : (c : After-clear) → length c.self.inside.row.items ≡ length c.args.prices.now.prices
+there c = rw (← c.self.view_is) at c.requires.long
+
+begun : (c : After-clear) → IsBegun (length c.args.prices.now.prices) c.args.start c.empty.new.row c.clear.new.self
+begun c = record {
+  below = c.requires.start;
+  empty = rw (c.deref_mut.ensures.value, there c) at c.empty.ensures;
+  frontier = rw (c.self.invariant.long, there c) at c.clear.ensures;
+}
+
+-- the row has kept its places
+whole : (c : After-clear) → length c.empty.new.row ≡ c.self.inside.row.len
+whole c =
+    let long : c.self.inside.row.len ≡ length c.self.inside.row.items = search rules in
+    (begun c).empty.long ∙ sym (there c) ∙ sym long
+
+pub empty-requires-clause-each : goal.empty-requires-clause-each
+empty-requires-clause-each c = rw c.deref_mut.ensures.value (joined_reached c.self.invariant c.reached.result.now c.reached.ensures.each)
 
 pub invariant_of-self : goal.invariant_of-self
 invariant_of-self c =
-    let n = length c.args.prices.now.prices in
-    let old : Search = record {
-      start = c.self.inside.start;
-      row = c.self.inside.row.items;
-      costs = c.self.inside.frontier.costs;
-      limit = c.self.inside.limit;
-    } in
-    let row = c.empty.new.row in
-    let there : length old.row ≡ n = rw (← c.self.view_is) at c.requires.long in
-    let same : length row ≡ length old.row = rw c.deref_mut.ensures.value at c.empty.ensures.long in
-    let long : c.self.inside.row.len ≡ length old.row = search rules in
-    let empty : IsEmptyRow (length old.row) row =
-    emptied old c.self.inside.frontier.floor c.reached.result.now row c.self.invariant c.reached.ensures.each same
-    (rw c.deref_mut.ensures.value at c.empty.ensures.out) (rw c.deref_mut.ensures.value at c.empty.ensures.kept) in
-    rw (take_at row _ c.self.inside.row.len (same ∙ sym long), c.clear.ensures.floor) (
-    bounded_begun c.args.start n row c.clear.new.self.costs c.requires.start (omega (arith, c.self.invariant.few, there)) (rw there at empty)
-    (omega (arith, c.clear.ensures.long, c.self.invariant.long, there)) c.clear.ensures.none
-    )
+    let after = (goal.at.invariant_of-self c).After-clear in
+    rw (take_at c.empty.new.row _ c.self.inside.row.len (whole after))
+    (bounded_begun (begun after) (omega (arith, c.self.invariant.few, there after)))
 
 pub returns-clause-empty : goal.returns-clause-empty
 returns-clause-empty c =
-    let n = length c.args.prices.now.prices in
-    let old : Search = record {
-      start = c.self.inside.start;
-      row = c.self.inside.row.items;
-      costs = c.self.inside.frontier.costs;
-      limit = c.self.inside.limit;
-    } in
-    let row = c.empty.new.row in
-    let there : length old.row ≡ n = rw (← c.self.view_is) at c.requires.long in
-    let same : length row ≡ length old.row = rw c.deref_mut.ensures.value at c.empty.ensures.long in
-    let long : c.self.inside.row.len ≡ length old.row = search rules in
-    let empty : IsEmptyRow (length old.row) row =
-    emptied old c.self.inside.frontier.floor c.reached.result.now row c.self.invariant c.reached.ensures.each same
-    (rw c.deref_mut.ensures.value at c.empty.ensures.out) (rw c.deref_mut.ensures.value at c.empty.ensures.kept) in
-    rw (take_at row _ c.self.inside.row.len (same ∙ sym long)) (rw there at empty)
+    let after = (goal.at.returns-clause-empty c).After-clear in
+    rw (take_at c.empty.new.row _ c.self.inside.row.len (whole after)) (begun after).empty
 
 pub returns-clause-search : goal.returns-clause-search
 returns-clause-search c =
-    let n = length c.args.prices.now.prices in
-    let old : Search = record {
-      start = c.self.inside.start;
-      row = c.self.inside.row.items;
-      costs = c.self.inside.frontier.costs;
-      limit = c.self.inside.limit;
-    } in
-    let row = c.empty.new.row in
-    let there : length old.row ≡ n = rw (← c.self.view_is) at c.requires.long in
-    let same : length row ≡ length old.row = rw c.deref_mut.ensures.value at c.empty.ensures.long in
-    let long : c.self.inside.row.len ≡ length old.row = search rules in
-    let empty : IsEmptyRow (length old.row) row =
-    emptied old c.self.inside.frontier.floor c.reached.result.now row c.self.invariant c.reached.ensures.each same
-    (rw c.deref_mut.ensures.value at c.empty.ensures.out) (rw c.deref_mut.ensures.value at c.empty.ensures.kept) in
-    rw (take_at row _ c.self.inside.row.len (same ∙ sym long)) (λ j priced.
-    let wide : n ≡ count j.history = priced.prices.long in
-    search_begun j c.args.start row c.clear.new.self.costs (omega (arith, c.requires.start, wide)) (rw (there ∙ wide) at empty)
-    (omega (arith, c.clear.ensures.long, c.self.invariant.long, there, wide)) c.clear.ensures.none)
+    let after = (goal.at.returns-clause-search c).After-clear in
+    rw (take_at c.empty.new.row _ c.self.inside.row.len (whole after)) (λ j priced. search_begun (begun after) j priced.prices.long)
