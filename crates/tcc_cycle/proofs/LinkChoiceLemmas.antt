@@ -24,9 +24,9 @@ use Rattle.tcc_derive.proofs.CostLemmas.{link_of}
 use Rattle.tcc_cycle.specs.Ways.{IsFirstLink}
 
 -- without a session pair, the read of the first key
-pub reads_first : (j : Judged) (a b : ℕ) (x : List ℕ) → a < count j.history → b < count j.history → session_pair j.history a b ≡ false
+pub reads_first : {j : Judged} {a b : ℕ} {x : List ℕ} → a < count j.history → b < count j.history → session_pair j.history a b ≡ false
     → IsFirstName (reads_from j.history a b) x → IsFirstLink j a b (link.Reads a b x)
-reads_first j a b x from to none named = record {
+reads_first {j} {a} {b} {x} from to none named = record {
   leads = record { from = refl; to = refl; link = (from, to, named.0) };
   least = λ o leads. some_cost o;
   first = λ o leads same. up_to o leads;

@@ -39,7 +39,7 @@ last_link [] some = absurd (omega arith)
 last_link (l ∷ []) some = ([], l, refl)
 last_link (l ∷ (m ∷ links)) some = let w = last_link (m ∷ links) (omega arith) in (l ∷ w.0, w.1, ap (λ ls. l ∷ ls) w.2)
 
-module _ (j : Judged) (t : Tables) (r : FirstReturn) (priced : IsPricesOf j t) (is : IsFirstReturn j r) where
+module _ {j : Judged} {t : Tables} {r : FirstReturn} (priced : IsPricesOf j t) (is : IsFirstReturn j r) where
   least_of : (u : ℕ) (links : List Link) → IsCycle j u links → r.cost ≤ cost links
   least_of u links cycle =
       let (s, others, least, costs) = is.least in
@@ -81,7 +81,7 @@ module _ (j : Judged) (t : Tables) (r : FirstReturn) (priced : IsPricesOf j t) (
       let (others, cycle, costs) = back_distance.attained in
       record { below = start_below; back = refl; costs = omega arith; way = (others, cycle.0.1, costs); picks = tt }
 
-  module _ (end left : ℕ) (picked : List Link) (way : IsUnderWay j r end left picked) where
+  module _ {end left : ℕ} {picked : List Link} (way : IsUnderWay j r end left picked) where
     -- no way over a last link costs less than the least cycle
     around : (u : ℕ) (front : List Link) (o : Link) → LinksLead j r.start u front → IsLinkOf j u end o
         → r.cost ≤ cost front + (link_cost o + cost (reverse picked))
@@ -183,7 +183,7 @@ module _ (j : Judged) (t : Tables) (r : FirstReturn) (priced : IsPricesOf j t) (
             none (link_from o) (cost front) (above_there front o ends) (link_below j o (link_there front o ends).link).0 (before_there front o ends)
 
     -- the first link from the least number is the one to pick
-    module _ (u c : ℕ) (l : Link) (above : r.start ≤ u) (from : u < count j.history) (before : IsBefore t r end left u c)
+    module _ {u c : ℕ} {l : Link} (above : r.start ≤ u) (from : u < count j.history) (before : IsBefore t r end left u c)
         (lowest : (w d : ℕ) → r.start ≤ w → w < u → IsBefore t r end left w d → ⊥) (first : IsFirstLink j u end l) where
       pub left_of : c + link_cost l ≡ left
       left_of =
@@ -244,11 +244,11 @@ module _ (j : Judged) (t : Tables) (r : FirstReturn) (priced : IsPricesOf j t) (
           }
 
   -- nothing is left
-  pub all_paid : (end : ℕ) (picked : List Link) → IsUnderWay j r end 0 picked → cost (reverse picked) ≡ r.cost
-  all_paid end picked way = omega (arith, way.costs)
+  pub all_paid : {end : ℕ} {picked : List Link} → IsUnderWay j r end 0 picked → cost (reverse picked) ≡ r.cost
+  all_paid way = omega (arith, way.costs)
 
-  pub all_picked : (end : ℕ) (picked : List Link) → IsUnderWay j r end 0 picked → IsFirstCycle j r.start (reverse picked)
-  all_picked end picked way = first_from_picked j r.start (reverse picked) (record {
+  pub all_picked : {end : ℕ} {picked : List Link} → IsUnderWay j r end 0 picked → IsFirstCycle j r.start (reverse picked)
+  all_picked {end} {picked} way = first_from_picked j r.start (reverse picked) (record {
     least = least;
     lowest = lowest_start;
     each = λ front l rest e other (others, ends).

@@ -4,9 +4,7 @@ use Rattle.tcc_cycle.proofs.LinkChoiceLemmas.{reads_first, reason_first}
 use Rattle.tcc_cycle.proofs.picking.first_link.Goals as goal
 
 pub returns-in-Some : goal.returns-in-Some
-returns-in-Some c =
-    reads_first (record { history = c.args.graph.now; level = c.args.near.now.level }) c.args.from c.args.to c.in-Some.key c.requires.from c.requires.to
-    (sym c.if-session.ensures) (rw c.reads_from.ensures at c.in-Some.ensures)
+returns-in-Some c = reads_first c.requires.from c.requires.to (sym c.if-session.ensures) (rw c.reads_from.ensures at c.in-Some.ensures)
 
 pub returns : goal.returns
 returns c =
