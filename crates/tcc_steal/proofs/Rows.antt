@@ -12,8 +12,9 @@ use Rattle.tcc_graph.proofs.Pairs.{link_below}
 use Rattle.tcc_bound.specs.declared.known.Known.{Known}
 use Rattle.tcc_core.specs.Rows.{in_row, IsSearchRow, cap_of, IsWithin, IsCutOff}
 use Rattle.tcc_core.specs.Searches.{Search, IsSearchOf, Settles}
-use Rattle.tcc_core.specs.Shares.{IsCycleCost}
+use Rattle.tcc_core.specs.Shares.{IsCycleCost, Share}
 use Rattle.tcc_core.specs.Relaxing.{count_joined}
+use Rattle.tcc_core.specs.declared.settled.Settled.{Settled}
 use Rattle.tcc_core.specs.declared.settled.Settled.TheVariants as settled
 use Rattle.tcc_core.proofs.Frontier.{upward_end}
 use Rattle.tcc_core.proofs.Lowering.{joined_set, joined_below}
@@ -94,9 +95,14 @@ route_ends_below : (j : Judged) (s v : ℕ) (links : List Link) → IsRoute j s 
 route_ends_below j s v [] (some, lead) = absurd (omega arith)
 route_ends_below j s v (l ∷ links) (some, lead) = ends_below j s v l links lead
 
-pub on_more : (j : Judged) (s cap n : ℕ) (old new : Search) → IsOn j s n old → IsSearchOf j s new → Settles j s cap old.row new.row settled.More
-    → IsOn j s (n + 1) new
-on_more j s cap n old new on is settles = record { search_of = is; outside = still_outside j s cap old.row new.row settles on.outside; many = many settles }
+-- a step of the search within a cap, and what it told
+pub record IsStep (j : Judged) (s cap : ℕ) (old new : Search) (told : Settled) : Type 0 where
+  pub search_of : IsSearchOf j s new
+  pub settles : Settles j s cap old.row new.row told
+
+pub on_more : {j : Judged} {s cap n : ℕ} {old new : Search} → IsOn j s n old → IsStep j s cap old new settled.More → IsOn j s (n + 1) new
+on_more {j} {s} {cap} {n} {old} {new} on is =
+    record { search_of = is.search_of; outside = still_outside j s cap old.row new.row is.settles on.outside; many = many is.settles }
   where
     many : Settles j s cap old.row new.row settled.More → n + 1 ≤ count_joined new.row + 1
     many (v, distance, other, joins) =
@@ -104,44 +110,43 @@ on_more j s cap n old new on is settles = record { search_of = is; outside = sti
         let within : v < length old.row = omega (arith, route_ends_below j s v links route.0, on.search_of.row.long) in
         omega (arith, on.many, ap count_joined joins.joined, joined_set old.row v distance within joins.outside)
 
-pub on_never_over : (j : Judged) (s n : ℕ) (search : Search) → 4294967295 ≤ n → IsOn j s n search → length search.row ≤ MAX_COUNT → ⊥
-on_never_over j s n search over on few =
+pub on_never_over : {j : Judged} {s n : ℕ} {search : Search} → 4294967295 ≤ n → IsOn j s n search → length search.row ≤ MAX_COUNT → ⊥
+on_never_over {s = s} {search = search} over on few =
     let within : s < length search.row = omega (arith, on.search_of.below, on.search_of.row.long) in
     omega (arith, on.many, joined_below search.row s within on.outside)
 
 -- ---- at its end
 
-pub returned_cost : (j : Judged) (s cap c : ℕ) (old new : List (Option ℕ)) → Settles j s cap old new (settled.Returned c) → IsCycleCost j c
-returned_cost j s cap c old new joins =
-    let (links, route, costs) = joins.exact.attained in
+pub returned_cost : {j : Judged} {s cap c : ℕ} {old new : Search} → IsStep j s cap old new (settled.Returned c) → IsCycleCost j c
+returned_cost {s = s} is =
+    let (links, route, costs) = is.settles.exact.attained in
     (s, links, route.0, costs)
 
 no_other : (a b : ℕ) → Some a ≡ Some b → a ≡ b
 no_other a b e = cc
 
-pub ended_returned : (j : Judged) (s cap c : ℕ) (old : List (Option ℕ)) (new : Search) (known : Known) → IsSearchOf j s new
-    → Settles j s cap old new.row (settled.Returned c) → Contains known.offers c → HasEnded j known s new.row
-ended_returned j s cap c old new known is settles offered =
-    let finished = finished_returned j s cap c old new (record { finished = []; offers = known.offers; sight = None }) is settles offered in
+not_both : (c : ℕ) → Some c ≡ None → ⊥
+not_both c e = cc
+
+pub ended_returned : {j : Judged} {s cap c : ℕ} {old new : Search} {known : Known} → IsStep j s cap old new (settled.Returned c) → Contains known.offers c
+    → HasEnded j known s new.row
+ended_returned {j} {s} {cap} {c} {old} {new} {known} is offered =
+    let share : Share = record { finished = []; offers = known.offers; sight = None } in
+    let finished = finished_returned j s cap c old.row new share is.search_of is.settles offered in
     let back : in_row new.row s ≡ Some c = finished.stopped.0 in
     record {
-      exact = is.row;
+      exact = is.search_of.row;
       returned = λ d at. subst (Contains known.offers) (no_other c d (sym back ∙ at)) offered;
       cut = λ out. absurd (not_both c (sym back ∙ out));
     }
-  where
-    not_both : (c : ℕ) → Some c ≡ None → ⊥
-    not_both c e = cc
 
-pub ended_cut : (j : Judged) (s cap k n : ℕ) (old new : Search) (known : Known) → cap ≡ known.sight → IsOn j s n old → IsSearchOf j s new
-    → Settles j s cap old.row new.row (settled.Cut k) → HasEnded j known s new.row
-ended_cut j s cap k n old new known seen on is (same, kept, past) =
+pub ended_cut : {j : Judged} {s cap k n : ℕ} {old new : Search} {known : Known} → cap ≡ known.sight → IsOn j s n old
+    → IsStep j s cap old new (settled.Cut k) → HasEnded j known s new.row
+ended_cut {j} {s} {cap} {new = new} seen on is =
+    let (same, kept, past) = is.settles in
     let out : in_row new.row s ≡ None = ap (λ (row : List (Option ℕ)). in_row row s) kept ∙ on.outside in
     record {
-      exact = is.row;
-      returned = λ d at. absurd (not_both d (sym out ∙ at));
+      exact = is.search_of.row;
+      returned = λ d at. absurd (not_both d (sym at ∙ out));
       cut = λ _. subst (λ (c : ℕ). IsCutOff j s new.row (cap_of c)) seen (subst (λ (row : List (Option ℕ)). IsCutOff j s row (cap_of cap)) (sym kept) past);
     }
-  where
-    not_both : (c : ℕ) → None ≡ Some c → ⊥
-    not_both c e = cc

@@ -14,26 +14,26 @@ use Rattle.tcc_steal.specs.Working.{KnowsMore, IsSeat}
 pub knows_itself : (known : Known) → known.sight < 18446744073709551616 → KnowsMore known known
 knows_itself known small = record { floor = refl; small = small; sight = omega arith; offers = λ c here. here }
 
-pub knows_join : (a b c : Known) → KnowsMore a b → KnowsMore b c → KnowsMore a c
-knows_join a b c p q =
+pub knows_join : {a b c : Known} → KnowsMore a b → KnowsMore b c → KnowsMore a c
+knows_join p q =
     record { floor = q.floor ∙ p.floor; small = p.small; sight = omega (arith, p.sight, q.sight); offers = λ x here. q.offers x (p.offers x here) }
 
 pub new_seat : (t : Tables) (id : BoundId) → IsSeat t id (record { bound = id; known = newcomer (least_cost t) })
 new_seat t id = record { bound = refl; floor = refl; sight = omega arith; offers = λ j is. All-nil (λ c. IsCycleCost j c × (c < 4294967296)) }
 
-module _ (t : Tables) (id : BoundId) (old : Seated) (is : IsSeat t id old) where
-  pub looked : (new : Seated) (n : ℕ) → new ≡ record old { known = with_sight old.known n } → IsAtMostAll n old.known → n < 18446744073709551616
+module _ {t : Tables} {id : BoundId} {old : Seated} (is : IsSeat t id old) where
+  pub looked : {new : Seated} {n : ℕ} → new ≡ record old { known = with_sight old.known n } → IsAtMostAll n old.known → n < 18446744073709551616
       → IsSeat t id new × KnowsMore old.known new.known
-  looked new n e most small =
+  looked e most small =
       rw e (
         record { bound = is.bound; floor = is.floor; sight = small; offers = is.offers },
         record { floor = refl; small = is.sight; sight = most.0; offers = λ c here. here },
       )
 
-  pub offered : (new : Seated) (cost n : ℕ) → new ≡ record old { known = with_sight (with_offer old.known cost) n } → IsAtMostAll n old.known
-      → n < 18446744073709551616 → cost < 4294967296
-      → ((j : Judged) → IsPricesOf j t → IsCycleCost j cost) → IsSeat t id new × KnowsMore old.known new.known × Contains new.known.offers cost
-  offered new cost n e most small few costs =
+  pub offered : {new : Seated} {n : ℕ} (cost : ℕ) → ((j : Judged) → IsPricesOf j t → IsCycleCost j cost) → cost < 4294967296
+      → new ≡ record old { known = with_sight (with_offer old.known cost) n } → IsAtMostAll n old.known → n < 18446744073709551616
+      → IsSeat t id new × KnowsMore old.known new.known × Contains new.known.offers cost
+  offered cost costs few e most small =
       rw e (
         record {
           bound = is.bound;
@@ -48,9 +48,9 @@ module _ (t : Tables) (id : BoundId) (old : Seated) (is : IsSeat t id old) where
   pub split : IsSeat t id (record old { known = without_offers old.known })
   split = record { bound = is.bound; floor = is.floor; sight = is.sight; offers = λ j priced. All-nil (λ c. IsCycleCost j c × (c < 4294967296)) }
 
-  pub joined : (other new : Seated) → IsSeat t id other → new ≡ record old { known = both_of old.known other.known }
+  pub joined : {other new : Seated} → IsSeat t id other → new ≡ record old { known = both_of old.known other.known }
       → IsSeat t id new × KnowsMore old.known new.known × KnowsMore other.known new.known
-  joined other new theirs e =
+  joined {other} theirs e =
       rw e (
         record {
           bound = is.bound;

@@ -28,56 +28,51 @@ use Rattle.tcc_steal.specs.Working.{KnowsMore, IsSeat, HasEnded, whole_row, IsSe
 use Rattle.tcc_steal.specs.declared.bringing.Searched.{Searched}
 use Rattle.tcc_steal.specs.declared.found.Found.{Found}
 use Rattle.tcc_steal.proofs.Floor.{floor_attained}
-use Rattle.tcc_steal.proofs.Rows.{drop_whole, in_whole, length_whole, ended_more}
+use Rattle.tcc_steal.proofs.Places.{knows_more}
+use Rattle.tcc_steal.proofs.Rows.{drop_whole, in_whole, length_whole}
 
 -- ---- searches in order
 
-pub searches_at : (t : Tables) (workers : ℕ) (known : Known) (s : ℕ) (es : List Searched) → AreSearches t workers known s es → (k : ℕ) (d : Searched)
-    → k < length es → ((get_or es k d).start ≡ s + k) × IsSearched t workers known (get_or es k d)
-searches_at t workers known s [] are k d l = absurd (omega arith)
-searches_at t workers known s (e ∷ es) are zero d l = (omega (arith, are.0), are.1)
-searches_at t workers known s (e ∷ es) are (suc k) d l = let w = searches_at t workers known (s + 1) es are.2 k d (omega arith) in (omega (arith, w.0), w.1)
+module _ (t : Tables) (workers : ℕ) where
+  searches_at : (known : Known) (s : ℕ) (es : List Searched) → AreSearches t workers known s es → (k : ℕ) (d : Searched) → k < length es
+      → ((get_or es k d).start ≡ s + k) × IsSearched t workers known (get_or es k d)
+  searches_at known s [] are k d l = absurd (omega arith)
+  searches_at known s (e ∷ es) are zero d l = (omega (arith, are.0), are.1)
+  searches_at known s (e ∷ es) are (suc k) d l = let w = searches_at known (s + 1) es are.2 k d (omega arith) in (omega (arith, w.0), w.1)
 
-searches_know : (t : Tables) (workers : ℕ) (old new : Known) (s : ℕ) (es : List Searched) → KnowsMore old new → AreSearches t workers old s es
-    → AreSearches t workers new s es
-searches_know t workers old new s [] more are = tt
-searches_know t workers old new s (e ∷ es) more are = (
-  are.0,
-  record {
-    start = are.1.start;
-    worker = are.1.worker;
-    done = λ j priced. ended_more j old new e.start (whole_row e.start e.row.items) more
-        (are.1.done j priced);
-  },
-  searches_know t workers old new (s + 1) es more are.2,
-)
+  searches_know : {old new : Known} → KnowsMore old new → (s : ℕ) (es : List Searched) → AreSearches t workers old s es → AreSearches t workers new s es
+  searches_know more s [] are = tt
+  searches_know more s (e ∷ es) are = (are.0, knows_more more are.1, searches_know more (s + 1) es are.2)
 
-searches_last : (t : Tables) (workers : ℕ) (known : Known) (s : ℕ) (es : List Searched) (e : Searched) → AreSearches t workers known s es
-    → e.start ≡ s + length es → IsSearched t workers known e → AreSearches t workers known s (es ++ e ∷ [])
-searches_last t workers known s [] e are start is = (omega (arith, start), is, tt)
-searches_last t workers known s (x ∷ es) e are start is = (are.0, are.1, searches_last t workers known (s + 1) es e are.2 (omega (arith, start)) is)
+  searches_last : {known : Known} (e : Searched) → IsSearched t workers known e → (s : ℕ) (es : List Searched) → AreSearches t workers known s es
+      → e.start ≡ s + length es → AreSearches t workers known s (es ++ e ∷ [])
+  searches_last e is s [] are start = (omega (arith, start), is, tt)
+  searches_last e is s (x ∷ es) are start = (are.0, are.1, searches_last e is (s + 1) es are.2 (omega (arith, start)))
 
--- one search more, made when more was known
-pub searches_more : (t : Tables) (workers : ℕ) (old new : Known) (es : List Searched) (e : Searched) → KnowsMore old new → AreSearches t workers old 0 es
-    → e.start ≡ length es → IsSearched t workers new e → AreSearches t workers new 0 (es ++ e ∷ [])
-searches_more t workers old new es e more are start is =
-    searches_last t workers new 0 es e (searches_know t workers old new 0 es more are) (omega (arith, start)) is
+  -- one search more, made when more was known
+  pub searches_more : {old new : Known} → KnowsMore old new → (es : List Searched) → AreSearches t workers old 0 es → (e : Searched)
+      → IsSearched t workers new e → e.start ≡ length es → AreSearches t workers new 0 (es ++ e ∷ [])
+  searches_more more es are e is start = searches_last e is 0 es (searches_know more 0 es are) (omega (arith, start))
 
-starts_in : (t : Tables) (workers : ℕ) (known : Known) (es : List Searched) → AreSearches t workers known 0 es → (f : Searched → ℕ)
-    → ((e : Searched) → f e ≡ e.start) → (n : ℕ) → length es ≡ n → IsNumbering n (map f es)
-starts_in t workers known es are f is n long = record {
-  below = λ k d inside. let w = at k d inside in omega (arith, w, length-map es f);
-  each = λ a low. (a, omega (arith, length-map es f), at a a (omega (arith, length-map es f)));
-  once = λ i k less inside same. let x = at i 0 (omega (arith, less, inside)) in let y = at k 0 inside in absurd (omega (arith, x, y, same));
-}
-  where
-    at_from : (s : ℕ) (xs : List Searched) → AreSearches t workers known s xs → (k d : ℕ) → k < length (map f xs) → get_or (map f xs) k d ≡ s + k
-    at_from s [] are k d l = absurd (omega arith)
-    at_from s (e ∷ xs) are zero d l = omega (arith, is e, are.0)
-    at_from s (e ∷ xs) are (suc k) d l = omega (arith, at_from (s + 1) xs are.2 k d (omega arith))
+  each_start : (known : Known) (s : ℕ) (es : List Searched) → AreSearches t workers known s es → (k d : ℕ) → k < length es
+      → get_or (map (λ (e : Searched). e.start) es) k d ≡ s + k
+  each_start known s [] are k d l = absurd (omega arith)
+  each_start known s (e ∷ es) are zero d l = omega (arith, are.0)
+  each_start known s (e ∷ es) are (suc k) d l = omega (arith, each_start known (s + 1) es are.2 k d (omega arith))
 
-    at : (k d : ℕ) → k < length (map f es) → get_or (map f es) k d ≡ k
-    at k d l = omega (arith, at_from 0 es are k d l)
+  starts_in : (known : Known) (es : List Searched) → AreSearches t workers known 0 es → (n : ℕ) → length es ≡ n
+      → IsNumbering n (map (λ (e : Searched). e.start) es)
+  starts_in known es are n long = record {
+    below = λ k d inside. omega (arith, at k d (omega (arith, inside, wide)), inside, wide);
+    each = λ a low. (a, omega (arith, wide), at a a (omega arith));
+    once = λ i k less inside same. absurd (omega (arith, at i 0 (omega (arith, less, inside, wide)), at k 0 (omega (arith, inside, wide)), less, same));
+  }
+    where
+      wide : length (map (λ (e : Searched). e.start) es) ≡ length es
+      wide = length-map es (λ (e : Searched). e.start)
+
+      at : (k d : ℕ) → k < length es → get_or (map (λ (e : Searched). e.start) es) k d ≡ k
+      at k d l = omega (arith, each_start known 0 es are k d l)
 
 -- ---- the share of all
 
@@ -96,28 +91,23 @@ not_above_itself : (o : Option ℕ) → IsNotAbove o o
 not_above_itself None = tt
 not_above_itself (Some c) = omega arith
 
-stopped : (j : Judged) (share : Share) (known : Known) (s : ℕ) (row : List (Option ℕ)) → share.offers ≡ known.offers → share.sight ≡ cap_of known.sight
-    → HasEnded j known s row → (o : Option ℕ) → in_row row s ≡ o → IsStopped j share s row (stop_of known.sight o)
-stopped j share known s row same seen ended None out =
-    (subst (λ (o : Option ℕ). IsNotAbove o (cap_of known.sight)) (sym seen) (not_above_itself (cap_of known.sight)), out, ended.cut out)
-stopped j share known s row same seen ended (Some c) back = (back, subst (λ (offers : List ℕ). Contains offers c) (sym same) (ended.returned c back))
+stopped : {j : Judged} {known : Known} {s : ℕ} {row : List (Option ℕ)} (es : List Searched) → HasEnded j known s row → (o : Option ℕ) → in_row row s ≡ o
+    → IsStopped j (share_of known es) s row (stop_of known.sight o)
+stopped {known = known} es ended None out = (not_above_itself (cap_of known.sight), out, ended.cut out)
+stopped es ended (Some c) back = (back, ended.returned c back)
 
-finished_is : (j : Judged) (t : Tables) (workers : ℕ) (known : Known) (es : List Searched) (e : Searched) → IsPricesOf j t → IsSearched t workers known e
+finished_is : {j : Judged} {t : Tables} {workers : ℕ} {known : Known} (es : List Searched) (e : Searched) → IsPricesOf j t → IsSearched t workers known e
     → IsFinished j (share_of known es) (finished_of known e)
-finished_is j t workers known es e priced is =
+finished_is {j} es e priced is =
     let ended = is.done j priced in
-    record {
-      row = ended.exact;
-      stopped = stopped j (share_of known es) known e.start (whole_row e.start e.row.items) refl refl ended
-          (in_row (whole_row e.start e.row.items) e.start) refl;
-    }
+    record { row = ended.exact; stopped = stopped es ended (in_row (whole_row e.start e.row.items) e.start) refl }
 
 -- a fact of each search is one of each that is finished
-each_of : (t : Tables) (workers : ℕ) (known : Known) (P : Finished → Type 0) (s : ℕ) (es : List Searched) → AreSearches t workers known s es
-    → ((e : Searched) → IsSearched t workers known e → P (finished_of known e)) → All P (map (finished_of known) es)
-each_of t workers known P s [] are holds = All-nil P
-each_of t workers known P s (e ∷ es) are holds =
-    All-cons P (finished_of known e) (map (finished_of known) es) (holds e are.1) (each_of t workers known P (s + 1) es are.2 holds)
+each_of : (t : Tables) (workers : ℕ) (known : Known) (P : Finished → Type 0) → ((e : Searched) → IsSearched t workers known e → P (finished_of known e))
+    → (s : ℕ) (es : List Searched) → AreSearches t workers known s es → All P (map (finished_of known) es)
+each_of t workers known P holds s [] are = All-nil P
+each_of t workers known P holds s (e ∷ es) are =
+    All-cons P (finished_of known e) (map (finished_of known) es) (holds e are.1) (each_of t workers known P holds (s + 1) es are.2)
 
 one_share : (P : Share → Type 0) (share : Share) → P share → All P (share ∷ [])
 one_share P share holds = All-cons P share [] holds (All-nil P)
@@ -125,64 +115,6 @@ one_share P share holds = All-cons P share [] holds (All-nil P)
 starts_are : (known : Known) (es : List Searched) → map (λ f. f.start) (map (finished_of known) es) ≡ map (λ (e : Searched). e.start) es
 starts_are known [] = refl
 starts_are known (e ∷ es) = ap (λ (l : List ℕ). e.start ∷ l) (starts_are known es)
-
--- a number of 64 bits that is at most another is not above it, none being the greatest
-not_above : (w n : ℕ) → w ≤ n → n < 18446744073709551616 → IsNotAbove (cap_of w) (cap_of n)
-not_above w n low small =
-    cond_both (n == 18446744073709551615) None (Some n) (λ o. IsNotAbove (cap_of w) o) (λ e. tt) (λ e. under (eqb-false n 18446744073709551615 e))
-  where
-    under : (n ≡ 18446744073709551615 → ⊥) → IsNotAbove (cap_of w) (Some n)
-    under other =
-        cond_both (w == 18446744073709551615) None (Some w) (λ o. IsNotAbove o (Some n))
-        (λ e. let top : w ≡ 18446744073709551615 = eqb-true w 18446744073709551615 e in absurd (other (omega arith))) (λ e. low)
-
-not_above_cost : (w c : ℕ) → w ≤ c → c < 4294967296 → IsNotAbove (cap_of w) (Some c)
-not_above_cost w c low small =
-    cond_both (w == 18446744073709551615) None (Some w) (λ o. IsNotAbove o (Some c))
-    (λ e. let top : w ≡ 18446744073709551615 = eqb-true w 18446744073709551615 e in absurd (omega arith)) (λ e. low)
-
-not_below : (j : Judged) (t : Tables) (w : ℕ) → IsPricesOf j t → least_cost t ≤ w → w < 18446744073709551616 → IsNotBelowLeast j (cap_of w)
-not_below j t w priced above small =
-    cond_both (w == 18446744073709551615) None (Some w) (IsNotBelowLeast j) (λ e. tt)
-    (λ e. some (eqb-false w 18446744073709551615 e) (floor_attained j t priced))
-  where
-    some : (w ≡ 18446744073709551615 → ⊥) → (least_cost t ≡ 18446744073709551615) ⊎ IsCycleCost j (least_cost t) → IsNotBelowLeast j (Some w)
-    some other (inl none) = absurd (other (omega arith))
-    some other (inr cycle) = (least_cost t, cycle, above)
-
--- what the last word of the bound knows
-pub record IsLast (t : Tables) (known : Known) (word : ℕ) : Type 0 where
-  pub most : IsAtMostAll word known
-  pub above : least_cost t ≤ word
-  pub small : word < 18446744073709551616
-
--- it is at most all that a seat knows, and not below its floor
-pub last_of : (t : Tables) (known : Known) (word : ℕ) → known.floor ≡ least_cost t → IsAtMostAll word known → known.floor ≤ word
-    → word < 18446744073709551616 → IsLast t known word
-last_of t known word floor most above small = record { most = most; above = omega (arith, floor, above); small = small }
-
-pub settled : (j : Judged) (t : Tables) (workers : ℕ) (id : BoundId) (seat : Seated) (es : List Searched) (word : ℕ) → IsPricesOf j t → IsSeat t id seat
-    → IsLast t seat.known word → AreSearches t workers seat.known 0 es → length es ≡ length t.prices → SettleAt j (share_of seat.known es ∷ []) (cap_of word)
-settled j t workers id seat es word priced at last are long =
-    let known = seat.known in
-    let share = share_of known es in
-    let starts : starts_of (share ∷ []) ≡ map (λ (e : Searched). e.start) es =
-    append-nil (map (λ f. f.start) (map (finished_of known) es)) ∙ starts_are known es in
-    record {
-      once =
-          subst (IsNumbering (count j.history)) (sym starts)
-          (starts_in t workers known es are (λ (e : Searched). e.start) (λ e. refl) (count j.history) (omega (arith, long, priced.prices.long)));
-      finished =
-          one_share (λ share. All (IsFinished j share) share.finished) share
-          (each_of t workers known (IsFinished j share) 0 es are (λ e is. finished_is j t workers known es e priced is));
-      offered =
-          one_share (λ share. All (IsCycleCost j) share.offers) share
-          (All-weaker (λ c. IsCycleCost j c × (c < 4294967296)) (IsCycleCost j) (λ c both. both.0) known.offers (at.offers j priced));
-      below_offers = one_share (λ share. All (λ c. IsNotAbove (cap_of word) (Some c)) share.offers) share
-          (λ k d inside. not_above_cost word (get_or known.offers k d) (last.most.1 k d inside) (at.offers j priced k d inside).1);
-      below_sights = one_share (λ share. IsNotAbove (cap_of word) share.sight) share (not_above word known.sight last.most.0 at.sight);
-      not_below = not_below j t word priced last.above last.small;
-    }
 
 -- ---- what is found
 
@@ -197,28 +129,40 @@ no_other a b e = cc
 pub row_here : (es : List Searched) (k : ℕ) (e : Searched) → k < length es → e ≡ get_or es k e → row_of (rows_of es) k ≡ e.row.items
 row_here es k e l here = map_at (λ (x : Searched). x.row.items) es k [] e l ∙ ap (λ (x : Searched). x.row.items) (sym here)
 
--- searches of all starts that settle at a word
-module _ (j : Judged) (t : Tables) (workers : ℕ) (known : Known) (es : List Searched) (word : Option ℕ) (priced : IsPricesOf j t)
-    (are : AreSearches t workers known 0 es) (long : length es ≡ length t.prices) (settle : SettleAt j (share_of known es ∷ []) word) where
+-- searches of all starts, in order, which settle at a word
+record AreSettled (j : Judged) (t : Tables) (workers : ℕ) (known : Known) (es : List Searched) (word : Option ℕ) : Type 0 where
+  priced : IsPricesOf j t
+  searches : AreSearches t workers known 0 es
+  long : length es ≡ length t.prices
+  settle : SettleAt j (share_of known es ∷ []) word
+
+-- what is told of searches, where a least cycle costs so much
+pub record IsTold (es : List Searched) (least : Option ℕ) (found : Found) : Type 0 where
+  pub least_is : found.least ≡ least
+  pub first : IsFirstBack es least found.first
+  pub rows : found.rows.items ≡ map (λ (e : Searched). map (capped least) e.row.items) es
+  pub starts : found.starts.items ≡ map (λ (e : Searched). (e.worker, e.start)) es
+
+-- the search that stands at a place
+record IsAt (j : Judged) (known : Known) (es : List Searched) (s : ℕ) : Type 0 where
+  search : Searched
+  here : (d : Searched) → get_or es s d ≡ search
+  start : search.start ≡ s
+  ended : HasEnded j known s (whole_row s search.row.items)
+  row_is : row_of (rows_of es) s ≡ search.row.items
+
+module _ {j : Judged} {t : Tables} {workers : ℕ} {known : Known} {es : List Searched} {word : Option ℕ} (all : AreSettled j t workers known es word) where
   ended_at : (s : ℕ) (e : Searched) → s < length es → get_or es s e ≡ e → (e.start ≡ s) × HasEnded j known s (whole_row s e.row.items)
   ended_at s e l here =
-      let w = searches_at t workers known 0 es are s e l in
+      let w = searches_at t workers known 0 es all.searches s e l in
       let start : e.start ≡ s = subst (λ (x : Searched). x.start ≡ s) here (w.0 ∙ zero_more s) in
       let is : IsSearched t workers known e = subst (IsSearched t workers known) here w.1 in
-      (start, subst (λ (k : ℕ). HasEnded j known k (whole_row k e.row.items)) start (is.done j priced))
+      (start, subst (λ (k : ℕ). HasEnded j known k (whole_row k e.row.items)) start (is.done j all.priced))
     where
       zero_more : (s : ℕ) → 0 + s ≡ s
       zero_more s = omega arith
 
-  -- the search that stands at a place
-  record IsAt (s : ℕ) : Type 0 where
-    search : Searched
-    here : (d : Searched) → get_or es s d ≡ search
-    start : search.start ≡ s
-    ended : HasEnded j known s (whole_row s search.row.items)
-    row_is : row_of (rows_of es) s ≡ search.row.items
-
-  at_place : (s : ℕ) → s < length es → IsAt s
+  at_place : (s : ℕ) → s < length es → IsAt j known es s
   at_place s l = go (first_of es l)
     where
       any_default : (xs : List Searched) (k : ℕ) (d e : Searched) → k < length xs → get_or xs k d ≡ get_or xs k e
@@ -230,7 +174,7 @@ module _ (j : Judged) (t : Tables) (workers : ℕ) (known : Known) (es : List Se
       first_of [] l = absurd (omega arith)
       first_of (x ∷ xs) l = x
 
-      go : Searched → IsAt s
+      go : Searched → IsAt j known es s
       go d =
           let e : Searched = get_or es s d in
           let w = ended_at s e l (any_default es s e d l) in
@@ -256,16 +200,16 @@ module _ (j : Judged) (t : Tables) (workers : ℕ) (known : Known) (es : List Se
   all_of : (P : Finished → Type 0) → EachFinished (share_of known es ∷ []) P → (s : ℕ) (e : Searched) → s < length es → ((d : Searched) → get_or es s d ≡ e)
       → P (finished_of known e)
   all_of P each s e l here =
-      let all : All P (map (finished_of known) es) = All-head (λ (share : Share). All P share.finished) (share_of known es) [] each in
+      let in_share : All P (map (finished_of known) es) = All-head (λ (share : Share). All P share.finished) (share_of known es) [] each in
       subst P (map_at (finished_of known) es s (finished_of known e) e l ∙ ap (finished_of known) (here e))
-      (all s (finished_of known e) (omega (arith, length-map es (finished_of known))))
+      (in_share s (finished_of known e) (omega (arith, length-map es (finished_of known))))
 
   returned_at : (b s : ℕ) → word ≡ Some b → s < length es → IsDistance j s s b → CameBack es s b × Contains known.offers b
   returned_at b s some l distance =
       let w = at_place s l in
       let e = w.search in
       let P : Finished → Type 0 = λ f. IsDistance j f.start f.start b → f.stop ≡ Returned b in
-      let settle_b : SettleAt j (share_of known es ∷ []) (Some b) = subst (SettleAt j (share_of known es ∷ [])) some settle in
+      let settle_b : SettleAt j (share_of known es ∷ []) (Some b) = subst (SettleAt j (share_of known es ∷ [])) some all.settle in
       let stop = all_of P (returned_starts j (share_of known es ∷ []) b settle_b) s e l w.here (subst (λ (k : ℕ). IsDistance j k k b) (sym w.start) distance) in
       let back : in_row (whole_row e.start e.row.items) e.start ≡ Some b = stop_some known.sight b (in_row (whole_row e.start e.row.items) e.start) stop in
       let here : in_row (whole_row s e.row.items) s ≡ Some b = subst (λ (k : ℕ). in_row (whole_row k e.row.items) k ≡ Some b) w.start back in
@@ -276,10 +220,11 @@ module _ (j : Judged) (t : Tables) (workers : ℕ) (known : Known) (es : List Se
   -- some search came back at the cost of a least cycle
   least_start : (b : ℕ) → word ≡ Some b → (s : ℕ) × (s < length es) × IsDistance j s s b
   least_start b some =
-      let settle_b : SettleAt j (share_of known es ∷ []) (Some b) = subst (SettleAt j (share_of known es ∷ [])) some settle in
+      let settle_b : SettleAt j (share_of known es ∷ []) (Some b) = subst (SettleAt j (share_of known es ∷ [])) some all.settle in
       let (s, links, cycle, costs) = least_cycle j (share_of known es ∷ []) b settle_b in
       let turned = turn_lowest j s links cycle.cycle in
-      let low : turned.lowest < length es = omega (arith, route_below j turned.lowest turned.lowest turned.turned turned.route.0, priced.prices.long, long) in (
+      let below = route_below j turned.lowest turned.lowest turned.turned turned.route.0 in
+      let low : turned.lowest < length es = omega (arith, below, all.priced.prices.long, all.long) in (
         turned.lowest,
         low,
         record {
@@ -288,92 +233,84 @@ module _ (j : Judged) (t : Tables) (workers : ℕ) (known : Known) (es : List Se
         },
       )
 
-  pub least_offered : (b : ℕ) → word ≡ Some b → Contains known.offers b
+  least_offered : (b : ℕ) → word ≡ Some b → Contains known.offers b
   least_offered b some = let (s, low, distance) = least_start b some in (returned_at b s some low distance).1
 
   first_is : (first : Option ℕ) (o : Option ℕ) → word ≡ o → IsFirstBack es o first → IsFirst j o first
   first_is first None some is = is
   first_is None (Some b) some is = let (s, low, distance) = least_start b some in is s low (returned_at b s some low distance).0
   first_is (Some s) (Some b) some is = (
-    omega (arith, is.0, long, priced.prices.long),
+    omega (arith, is.0, all.long, all.priced.prices.long),
     back_row s b is.0 is.1,
     λ k less distance. is.2 k less (returned_at b k some (omega (arith, is.0)) distance).0,
   )
 
-  rows_at : (rows : List (List (Option ℕ))) → rows ≡ map (map (capped word)) (rows_of es) → (s : ℕ) → s < length es → (w : IsAt s)
-      → row_of rows s ≡ map (capped word) w.search.row.items
-  rows_at rows e s l w =
-      let inside : s < length (rows_of es) = omega (arith, length-map es (λ (x : Searched). x.row.items)) in
-      ap (λ (r : List (List (Option ℕ))). row_of r s) e ∙ (map_at (map (capped word)) (rows_of es) s [] [] inside ∙ ap (map (capped word)) w.row_is)
+  -- rows of them, capped at the word
+  module _ {rows : List (List (Option ℕ))} (are : rows ≡ map (λ (e : Searched). map (capped word) e.row.items) es) where
+    rows_at : (s : ℕ) → s < length es → (w : IsAt j known es s) → row_of rows s ≡ map (capped word) w.search.row.items
+    rows_at s l w =
+        ap (λ (r : List (List (Option ℕ))). row_of r s) are
+        ∙ (map_at (λ (e : Searched). map (capped word) e.row.items) es s [] w.search l ∙ ap (λ (e : Searched). map (capped word) e.row.items) (w.here w.search))
 
-  exact_at : (rows : List (List (Option ℕ))) → rows ≡ map (map (capped word)) (rows_of es) → (s v : ℕ) → s ≤ v → v < count j.history
-      → IsCappedDistance j s v word (slice_index_or (row_of rows s) (v - s) None)
-  exact_at rows e s v up below =
-      let l : s < length es = omega (arith, long, priced.prices.long) in
-      let w = at_place s l in
-      let row = w.search.row.items in
-      let P : Finished → Type 0 = λ f. (v : ℕ) → IsCappedDistance j f.start v word (capped word (in_row f.row v)) in
-      let all : IsCappedDistance j w.search.start v word (capped word (in_row (whole_row w.search.start row) v)) =
-      all_of P (capped_rows j (share_of known es ∷ []) word settle) s w.search l w.here v in
-      let here : IsCappedDistance j s v word (capped word (in_row (whole_row s row) v)) =
-      subst (λ (k : ℕ). IsCappedDistance j k v word (capped word (in_row (whole_row k row) v))) w.start all in
-      let same : s + (v - s) ≡ v = omega arith in
-      let entry : in_row (whole_row s row) v ≡ in_row row (v - s) = ap (in_row (whole_row s row)) (sym same) ∙ in_whole s (v - s) row in
-      let wide : length (whole_row s row) ≡ count j.history = w.ended.exact.long in
-      let inside : v - s < length row = omega (arith, length_whole s row, wide) in
-      let cell : slice_index_or (row_of rows s) (v - s) None ≡ capped word (in_row row (v - s)) =
-      ap (λ (r : List (Option ℕ)). slice_index_or r (v - s) None) (rows_at rows e s l w) ∙ map_at (capped word) row (v - s) None None inside in
-      subst (IsCappedDistance j s v word) (ap (capped word) entry ∙ sym cell) here
+    exact_at : (s v : ℕ) → s ≤ v → v < count j.history → IsCappedDistance j s v word (slice_index_or (row_of rows s) (v - s) None)
+    exact_at s v up below =
+        let l : s < length es = omega (arith, all.long, all.priced.prices.long) in
+        let w = at_place s l in
+        let row = w.search.row.items in
+        let P : Finished → Type 0 = λ f. (v : ℕ) → IsCappedDistance j f.start v word (capped word (in_row f.row v)) in
+        let at_start : IsCappedDistance j w.search.start v word (capped word (in_row (whole_row w.search.start row) v)) =
+        all_of P (capped_rows j (share_of known es ∷ []) word all.settle) s w.search l w.here v in
+        let here : IsCappedDistance j s v word (capped word (in_row (whole_row s row) v)) =
+        subst (λ (k : ℕ). IsCappedDistance j k v word (capped word (in_row (whole_row k row) v))) w.start at_start in
+        let same : s + (v - s) ≡ v = omega arith in
+        let entry : in_row (whole_row s row) v ≡ in_row row (v - s) = ap (in_row (whole_row s row)) (sym same) ∙ in_whole s (v - s) row in
+        let wide : length (whole_row s row) ≡ count j.history = w.ended.exact.long in
+        let inside : v - s < length row = omega (arith, length_whole s row, wide) in
+        let cell : slice_index_or (row_of rows s) (v - s) None ≡ capped word (in_row row (v - s)) =
+        ap (λ (r : List (Option ℕ)). slice_index_or r (v - s) None) (rows_at s l w) ∙ map_at (capped word) row (v - s) None None inside in
+        subst (IsCappedDistance j s v word) (ap (capped word) entry ∙ sym cell) here
 
-  places_at : (rows : List (List (Option ℕ))) → rows ≡ map (map (capped word)) (rows_of es) → (s : ℕ) → s < count j.history
-      → length (row_of rows s) ≡ count j.history - s
-  places_at rows e s below =
-      let l : s < length es = omega (arith, long, priced.prices.long) in
-      let w = at_place s l in
-      let row = w.search.row.items in
-      let wide : length (whole_row s row) ≡ count j.history = w.ended.exact.long in
-      omega (arith, ap (λ (r : List (Option ℕ)). length r) (rows_at rows e s l w), length-map row (capped word), length_whole s row, wide)
+    places_at : (s : ℕ) → s < count j.history → length (row_of rows s) ≡ count j.history - s
+    places_at s below =
+        let l : s < length es = omega (arith, all.long, all.priced.prices.long) in
+        let w = at_place s l in
+        let row = w.search.row.items in
+        let wide : length (whole_row s row) ≡ count j.history = w.ended.exact.long in
+        omega (arith, ap (λ (r : List (Option ℕ)). length r) (rows_at s l w), length-map row (capped word), length_whole s row, wide)
 
-  each_row : (rows : List (List (Option ℕ))) → rows ≡ map (map (capped word)) (rows_of es)
-      → EachFinished (share_of known es ∷ []) (λ f. row_of rows f.start ≡ map (capped word) (drop f.start f.row))
-  each_row rows e = one_share (λ share. All P share.finished) (share_of known es) (λ i d inside.
-      let l : i < length es = omega (arith, length-map es (finished_of known)) in
-      let w = at_place i l in
-      let x = w.search in
-      let same : get_or (map (finished_of known) es) i d ≡ finished_of known x = map_at (finished_of known) es i d x l ∙ ap (finished_of known) (w.here x) in
-      let row : row_of rows x.start ≡ map (capped word) x.row.items = ap (row_of rows) w.start ∙ rows_at rows e i l w in
-      subst P (sym same) (row ∙ ap (map (capped word)) (sym (drop_whole x.start x.row.items))))
-    where
-      P : Finished → Type 0
-      P f = row_of rows f.start ≡ map (capped word) (drop f.start f.row)
+    each_row : EachFinished (share_of known es ∷ []) (λ f. row_of rows f.start ≡ map (capped word) (drop f.start f.row))
+    each_row = one_share (λ share. All P share.finished) (share_of known es) (λ i d inside.
+        let l : i < length es = omega (arith, length-map es (finished_of known)) in
+        let w = at_place i l in
+        let x = w.search in
+        let same : get_or (map (finished_of known) es) i d ≡ finished_of known x = map_at (finished_of known) es i d x l ∙ ap (finished_of known) (w.here x) in
+        let row : row_of rows x.start ≡ map (capped word) x.row.items = ap (row_of rows) w.start ∙ rows_at i l w in
+        subst P (sym same) (row ∙ ap (map (capped word)) (sym (drop_whole x.start x.row.items))))
+      where
+        P : Finished → Type 0
+        P f = row_of rows f.start ≡ map (capped word) (drop f.start f.row)
 
-  pub found_is : (found : Found) → found.least ≡ word → IsFirstBack es word found.first → found.rows.items ≡ map (map (capped word)) (rows_of es)
-      → found.starts.items ≡ map (λ (e : Searched). (e.worker, e.start)) es → IsFound j workers found
-  found_is found least first rows starts = record {
+  numbered : IsNumbering (count j.history) (map (λ (e : Searched). e.start) es)
+  numbered = starts_in t workers known es all.searches (count j.history) (omega (arith, all.long, all.priced.prices.long))
+
+  found_is : {found : Found} → IsTold es word found → IsFound j workers found
+  found_is {found} told = record {
     shares = share_of known es ∷ [];
-    settle = subst (SettleAt j (share_of known es ∷ [])) (sym least) settle;
+    settle = rw told.least_is all.settle;
     long =
         omega (
           arith,
-          ap (λ (r : List (List (Option ℕ))). length r) rows,
-          length-map (rows_of es) (map (capped word)),
-          length-map es (λ (x : Searched). x.row.items),
-          long,
-          priced.prices.long,
+          ap (λ (r : List (List (Option ℕ))). length r) told.rows,
+          length-map es (λ (e : Searched). map (capped word) e.row.items),
+          all.long,
+          all.priced.prices.long,
         );
-    rows =
-        subst (λ (o : Option ℕ). EachFinished (share_of known es ∷ []) (λ f. row_of found.rows.items f.start ≡ map (capped o) (drop f.start f.row)))
-        (sym least) (each_row found.rows.items rows);
-    places = places_at found.rows.items rows;
-    exact =
-        λ s v up below. subst (λ (o : Option ℕ). IsCappedDistance j s v o (slice_index_or (row_of found.rows.items s) (v - s) None)) (sym least)
-        (exact_at found.rows.items rows s v up below);
-    first = subst (λ (o : Option ℕ). IsFirst j o found.first) (sym least) (first_is found.first word refl first);
-    once =
-        subst (λ (l : List (ℕ × ℕ)). IsNumbering (count j.history) (map (λ p. p.1) l)) (sym starts)
-        (subst (IsNumbering (count j.history)) (sym (seconds es))
-        (starts_in t workers known es are (λ (e : Searched). e.start) (λ e. refl) (count j.history) (omega (arith, long, priced.prices.long))));
-    by = subst (All (λ (p : ℕ × ℕ). p.0 < workers)) (sym starts) (numbers 0 es are);
+    rows = rw told.least_is (each_row told.rows);
+    places = places_at told.rows;
+    exact = λ s v up below. rw told.least_is (exact_at told.rows s v up below);
+    first = rw told.least_is (first_is found.first word refl told.first);
+    once = rw (told.starts, seconds es) numbered;
+    by = rw told.starts (numbers 0 es all.searches);
   }
     where
       seconds : (xs : List Searched) → map (λ (p : ℕ × ℕ). p.1) (map (λ (e : Searched). (e.worker, e.start)) xs) ≡ map (λ (e : Searched). e.start) xs
@@ -386,27 +323,78 @@ module _ (j : Judged) (t : Tables) (workers : ℕ) (known : Known) (es : List Se
       numbers s (e ∷ xs) are =
           All-cons (λ (p : ℕ × ℕ). p.0 < workers) (e.worker, e.start) (map (λ (e : Searched). (e.worker, e.start)) xs) are.1.worker (numbers (s + 1) xs are.2)
 
+-- ---- at the last word of the bound
+
+-- a number of 64 bits that is at most another is not above it, none being the greatest
+not_above : (w n : ℕ) → w ≤ n → n < 18446744073709551616 → IsNotAbove (cap_of w) (cap_of n)
+not_above w n low small =
+    cond_both (n == 18446744073709551615) None (Some n) (λ o. IsNotAbove (cap_of w) o) (λ e. tt) (λ e. under (eqb-false n 18446744073709551615 e))
+  where
+    under : (n ≡ 18446744073709551615 → ⊥) → IsNotAbove (cap_of w) (Some n)
+    under other =
+        cond_both (w == 18446744073709551615) None (Some w) (λ o. IsNotAbove o (Some n))
+        (λ e. let top : w ≡ 18446744073709551615 = eqb-true w 18446744073709551615 e in absurd (other (omega arith))) (λ e. low)
+
+not_above_cost : (w c : ℕ) → w ≤ c → c < 4294967296 → IsNotAbove (cap_of w) (Some c)
+not_above_cost w c low small =
+    cond_both (w == 18446744073709551615) None (Some w) (λ o. IsNotAbove o (Some c))
+    (λ e. let top : w ≡ 18446744073709551615 = eqb-true w 18446744073709551615 e in absurd (omega arith)) (λ e. low)
+
+not_below : {j : Judged} {t : Tables} (w : ℕ) → IsPricesOf j t → least_cost t ≤ w → w < 18446744073709551616 → IsNotBelowLeast j (cap_of w)
+not_below {j} {t} w priced above small =
+    cond_both (w == 18446744073709551615) None (Some w) (IsNotBelowLeast j) (λ e. tt)
+    (λ e. some (eqb-false w 18446744073709551615 e) (floor_attained j t priced))
+  where
+    some : (w ≡ 18446744073709551615 → ⊥) → (least_cost t ≡ 18446744073709551615) ⊎ IsCycleCost j (least_cost t) → IsNotBelowLeast j (Some w)
+    some other (inl none) = absurd (other (omega arith))
+    some other (inr cycle) = (least_cost t, cycle, above)
+
 cap_some : (w : ℕ) → w ≢ 18446744073709551615 → cap_of w ≡ Some w
 cap_some w other = cond_both (w == 18446744073709551615) None (Some w) (λ o. o ≡ Some w) (λ e. absurd (other (eqb-true w 18446744073709551615 e))) (λ e. refl)
 
-both_maps : (g : Option ℕ → Option ℕ) (es : List Searched) → map (λ (e : Searched). map g e.row.items) es ≡ map (map g) (rows_of es)
-both_maps g [] = refl
-both_maps g (e ∷ es) = ap (λ (l : List (List (Option ℕ))). map g e.row.items ∷ l) (both_maps g es)
+-- one worker's or many workers' searches of all starts, in order, and the last word of the bound
+pub record AreClosed (j : Judged) (t : Tables) (workers : ℕ) (id : BoundId) (seat : Seated) (es : List Searched) (word : ℕ) : Type 0 where
+  pub priced : IsPricesOf j t
+  pub at : IsSeat t id seat
+  pub searches : AreSearches t workers seat.known 0 es
+  pub long : length es ≡ length t.prices
+  pub most : IsAtMostAll word seat.known
+  pub floor : seat.known.floor ≤ word
+  pub small : word < 18446744073709551616
 
--- one worker's or many workers' searches, at the last word of the bound
-module _ (j : Judged) (t : Tables) (workers : ℕ) (id : BoundId) (seat : Seated) (es : List Searched) (word : ℕ) (priced : IsPricesOf j t)
-    (at : IsSeat t id seat) (last : IsLast t seat.known word) (are : AreSearches t workers seat.known 0 es) (long : length es ≡ length t.prices) where
+module _ {j : Judged} {t : Tables} {workers : ℕ} {id : BoundId} {seat : Seated} {es : List Searched} {word : ℕ}
+    (closed : AreClosed j t workers id seat es word) where
+  settled : AreSettled j t workers seat.known es (cap_of word)
+  settled = record { priced = closed.priced; searches = closed.searches; long = closed.long; settle = settle }
+    where
+      share : Share
+      share = share_of seat.known es
+
+      starts : starts_of (share ∷ []) ≡ map (λ (e : Searched). e.start) es
+      starts = append-nil (map (λ f. f.start) (map (finished_of seat.known) es)) ∙ starts_are seat.known es
+
+      settle : SettleAt j (share ∷ []) (cap_of word)
+      settle = record {
+        once =
+            subst (IsNumbering (count j.history)) (sym starts)
+            (starts_in t workers seat.known es closed.searches (count j.history) (omega (arith, closed.long, closed.priced.prices.long)));
+        finished =
+            one_share (λ share. All (IsFinished j share) share.finished) share
+            (each_of t workers seat.known (IsFinished j share) (λ e is. finished_is es e closed.priced is) 0 es closed.searches);
+        offered =
+            one_share (λ share. All (IsCycleCost j) share.offers) share
+            (All-weaker (λ c. IsCycleCost j c × (c < 4294967296)) (IsCycleCost j) (λ c both. both.0) seat.known.offers (closed.at.offers j closed.priced));
+        below_offers =
+            one_share (λ share. All (λ c. IsNotAbove (cap_of word) (Some c)) share.offers) share
+            (λ k d inside. not_above_cost word (get_or seat.known.offers k d) (closed.most.1 k d inside) (closed.at.offers j closed.priced k d inside).1);
+        below_sights = one_share (λ share. IsNotAbove (cap_of word) share.sight) share (not_above word seat.known.sight closed.most.0 closed.at.sight);
+        not_below = not_below word closed.priced (omega (arith, closed.at.floor, closed.floor)) closed.small;
+      }
+
   pub word_fits : word ≢ 18446744073709551615 → word < 4294967296
   word_fits other =
-      let here =
-      least_offered j t workers seat.known es (cap_of word) priced are long (settled j t workers id seat es word priced at last are long) word
-      (cap_some word other) in
-      (All-contains (λ c. IsCycleCost j c × (c < 4294967296)) seat.known.offers word (at.offers j priced) here).1
+      (All-contains (λ c. IsCycleCost j c × (c < 4294967296)) seat.known.offers word (closed.at.offers j closed.priced)
+      (least_offered settled word (cap_some word other))).1
 
-  pub found_at : (least : Option ℕ) (found : Found) → least ≡ cap_of word → found.least ≡ least → IsFirstBack es least found.first
-      → found.rows.items ≡ map (λ (e : Searched). map (capped least) e.row.items) es → found.starts.items ≡ map (λ (e : Searched). (e.worker, e.start)) es
-      → IsFound j workers found
-  found_at least found same is first rows starts =
-      found_is j t workers seat.known es (cap_of word) priced are long (settled j t workers id seat es word priced at last are long) found (is ∙ same)
-      (subst (λ (o : Option ℕ). IsFirstBack es o found.first) same first)
-      (subst (λ (o : Option ℕ). found.rows.items ≡ map (map (capped o)) (rows_of es)) same (rows ∙ both_maps (capped least) es)) starts
+  pub found_at : {least : Option ℕ} {found : Found} → least ≡ cap_of word → IsTold es least found → IsFound j workers found
+  found_at {found = found} same told = found_is settled (subst (λ (o : Option ℕ). IsTold es o found) same told)

@@ -14,8 +14,6 @@ loop-number-preserved g c =
     let t = c.args._prices.now in
     let id = c.args.bound.now in
     let deque = worker_deque c.args.owner.now in
-    let inv = c.loop-number.invariant in
-    let cut = c.cut.ensures in
     let is : IsSeat t id c.loop-number.seat = subst (IsSeat t id) (sym c.loop-number.invariant.0) c.requires.seat in
     let job : Job = record {
       worker = record { number = get_or c.args.thieves.now c.loop-number.number-index 0; seat = c.split.result; search = None };
@@ -25,7 +23,7 @@ loop-number-preserved g c =
     let number = c.requires.thieves c.loop-number.number-index 0 c.loop-number-test.true in
     let is_job : IsJob t id deque job = record {
       thief = number.0;
-      worker = record { seat = subst (IsSeat t id) (sym c.split.ensures.new) (split t id c.loop-number.seat is); search = tt };
+      worker = record { seat = subst (IsSeat t id) (sym c.split.ensures.new) (split is); search = tt };
       pass = subst (λ (d : RowsId × Global). IsPassOf d c.cut.result) c.loop-number.invariant.1 c.cut.ensures.pass;
       taker =
           record {

@@ -1,4 +1,6 @@
 use Rattle.std.proofs.Common.{ap, arith}
+use Rattle.tcc_graph.specs.Levels.{Judged}
+use Rattle.tcc_derive.specs.Prices.{IsPricesOf}
 use Rattle.tcc_bound.specs.Seated.{Seated}
 use Rattle.tcc_core.specs.Shares.{IsCycleCost}
 use Rattle.tcc_steal.specs.Working.{IsSeat}
@@ -20,10 +22,8 @@ pub returns-in-Some : goal.returns-in-Some
 returns-in-Some g c =
     let t = c.args._prices.now in
     let old : IsSeat t c.in_ok-bound.bound c.in_ok-bound.seat = rw (c.in_ok-bound.ensures, c.requires.1.0) (new_seat t c.in_ok-bound.bound) in
-    let (taken, knows, within) =
-    offered t c.in_ok-bound.bound c.in_ok-bound.seat old c.offer.new.seat c.in-Some.cost c.offer.result c.offer.ensures.seat c.offer.ensures.least
-    (omega arith) (omega arith)
-    (λ j priced. rw c.in-Some.is at (c.requires.1.1 j priced)) in
+    let costs = λ (j : Judged) (priced : IsPricesOf j t). rw c.in-Some.is at (c.requires.1.1 j priced) in
+    let (taken, knows, within) = offered old c.in-Some.cost costs (omega arith) c.offer.ensures.seat c.offer.ensures.least (omega arith) in
     (taken, rw c.in-Some.is within)
 
 pub returns-in-None : goal.returns-in-None

@@ -1,5 +1,5 @@
 use Rattle.std.proofs.Common.{arith}
-use Rattle.tcc_steal.proofs.Settling.{last_of, word_fits, found_at}
+use Rattle.tcc_steal.proofs.Settling.{AreClosed, word_fits, found_at}
 use Rattle.tcc_steal.proofs.searching.search_with.Goals.{then-is_empty, else-is_empty+in_ok-shares}
 use Rattle.tcc_steal.proofs.searching.search_with.Goals as goal
 
@@ -20,19 +20,19 @@ gather-requires-clause-seed g c =
 pub cost_in-least-requires : goal.cost_in-least-requires
 cost_in-least-requires g c =
     let (j, priced) = c.requires.prices in
-    let t = c.args.prices.now in
-    let seat = c.search_all.new.worker.seat in
+    let bound = c.in_ok-bound.bound in
     let ens = c.in_ok-searches.ensures in
-    let last = last_of t seat.known c.close.result ens.worker.seat.floor c.close.ensures.least c.close.ensures.floor (omega arith) in
-    λ other. word_fits j t c.args.workers c.in_ok-bound.bound seat c.in_ok-searches.searches.items c.close.result priced ens.worker.seat last ens.all
-    ens.long other
+    let close = c.close.ensures in
+    let closed : AreClosed j c.args.prices.now c.args.workers bound c.search_all.new.worker.seat c.in_ok-searches.searches.items c.close.result =
+    record { priced = priced; at = ens.worker.seat; searches = ens.all; long = ens.long; most = close.least; floor = close.floor; small = omega arith } in
+    word_fits closed
 
 pub returns : goal.returns
 returns g c = λ j priced.
-    let t = c.args.prices.now in
-    let seat = c.search_all.new.worker.seat in
+    let bound = c.in_ok-bound.bound in
     let ens = c.in_ok-searches.ensures in
-    let last = last_of t seat.known c.close.result ens.worker.seat.floor c.close.ensures.least c.close.ensures.floor (omega arith) in
-    let found = c.in_ok-found.ensures in
-    found_at j t c.args.workers c.in_ok-bound.bound seat c.in_ok-searches.searches.items c.close.result priced ens.worker.seat last
-    ens.all ens.long c.cost_in-least.result c.in_ok-found.found c.cost_in-least.ensures found.least found.first found.rows found.starts
+    let close = c.close.ensures in
+    let closed : AreClosed j c.args.prices.now c.args.workers bound c.search_all.new.worker.seat c.in_ok-searches.searches.items c.close.result =
+    record { priced = priced; at = ens.worker.seat; searches = ens.all; long = ens.long; most = close.least; floor = close.floor; small = omega arith } in
+    let told = c.in_ok-found.ensures in
+    found_at closed c.cost_in-least.ensures (record { least_is = told.least; first = told.first; rows = told.rows; starts = told.starts })

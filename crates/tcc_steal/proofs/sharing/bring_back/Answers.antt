@@ -16,7 +16,7 @@ loop-preserved g c =
       subst (λ count. IsHand count c.next.new.hand) c.count-count.ensures.value c.next.ensures.hand,
       ens.worker,
       ens.number ∙ number,
-      rw pushed (one_more t c.args._workers c.loop.worker.seat.known c.search.new.self.seat.known ens.knows es e searches
+      rw pushed (one_more t c.args._workers ens.knows es searches e
           (record {
             start = omega (arith, ens.searched.0, c.in-Some.ensures.start, c.count-count.ensures.value);
             worker = omega (arith, ens.searched.1, number, c.requires.number);
