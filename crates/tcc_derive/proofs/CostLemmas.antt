@@ -27,6 +27,15 @@ use Rattle.tcc_graph.proofs.Linking.{some_cost, pair_link}
 pub link_of : (j : Judged) (u v : ℕ) (l : Link) → IsDerived j u v l → IsLinkOf j u v l
 link_of j u v l (x, c, walk, is, reason) = rw is (record { from = refl; to = refl; link = reason })
 
+-- where a session pair leads, links cost 1
+pub session_cost : (j : Judged) (u v : ℕ) → IsSessionPair j.history u v → (o : Option ℕ) → IsCost j u v o → o ≡ Some 1
+session_cost j u v pair None none = absurd (none (link.Session u v) (record { from = refl; to = refl; link = pair }))
+session_cost j u v pair (Some n) least =
+    let low = least.least (link.Session u v) (record { from = refl; to = refl; link = pair }) in
+    let some = some_cost least.attained.0 in
+    let one : n ≡ 1 = omega (arith, low, some, least.attained.2) in
+    ap Some one
+
 -- where there is no causal pair, a link is derived
 derived_of : (j : Judged) (u v : ℕ) → causal_pair j.history u v ≡ false → (l : Link) → IsLinkOf j u v l → IsDerived j u v l
 derived_of j u v none (link.Session a b) w =

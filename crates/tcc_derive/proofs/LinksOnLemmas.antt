@@ -1,5 +1,5 @@
 -- Links lead where session pairs and the others say.
-use Rattle.std.proofs.Common.{ℕ, ◌<◌, ◌≡◌, ◌⊎◌, inl, inr, List, Option, None, Some, refl, sym, ap, ◌∙◌, subst, arith}
+use Rattle.std.proofs.Common.{ℕ, ◌<◌, ◌≡◌, ◌⊎◌, inl, inr, List, Option, None, Some, refl, sym, ap, ◌∙◌, subst}
 use Rattle.std.specs.Prelude.{◌↔◌, Contains}
 use Rattle.tcc_reads.specs.History.{count}
 use Rattle.tcc_graph.specs.Relations.{IsSessionPair, IsReadsPair}
@@ -8,9 +8,9 @@ use Rattle.tcc_graph.specs.Links.{IsReason, link_cost}
 use Rattle.tcc_graph.specs.declared.step.Step.{Step}
 use Rattle.tcc_graph.specs.declared.link.Link.{Link}
 use Rattle.tcc_graph.specs.declared.link.Link.TheVariants as link
-use Rattle.tcc_graph.proofs.Linking.{some_cost}
 use Rattle.tcc_derive.specs.Prices.{Tables, IsPricesOf, IsPrice, IsCost, IsLinkOf, IsLater, IsEnd, IsOther, HasOthers, price_at, cost_at, end_of, others_at}
 use Rattle.tcc_derive.specs.LinksOn.{AreLinks}
+use Rattle.tcc_derive.proofs.CostLemmas.{session_cost}
 
 module _ (j : Judged) (t : Tables) (is : IsPricesOf j t) (u : ℕ) (from : u < count j.history) where
   ended : IsEnd j.history u (end_of t u)
@@ -38,14 +38,6 @@ module _ (j : Judged) (t : Tables) (is : IsPricesOf j t) (u : ℕ) (from : u < c
       let reason : IsReason j u v x d walk = rw (w.from, w.to) at w.link in
       inr (has.each v c (priced v to x d walk reason (price_at t u v) refl (is.priced u v from to)) e)
 
-  costs_one : (v : ℕ) → IsSessionPair j.history u v → (o : Option ℕ) → IsCost j u v o → o ≡ Some 1
-  costs_one v pair None none = absurd (none (link.Session u v) (record { from = refl; to = refl; link = pair }))
-  costs_one v pair (Some n) least =
-      let low = least.least (link.Session u v) (record { from = refl; to = refl; link = pair }) in
-      let some = some_cost least.attained.0 in
-      let one : n ≡ 1 = omega (arith, low, some, least.attained.2) in
-      ap Some one
-
   pub links_on : (v c : ℕ) → v < count j.history → (cost_at t u v ≡ Some c) ↔ ((IsLater t u v × (c ≡ 1)) ⊎ Contains (others_at t u) (v, c))
   links_on v c to = (forth, back)
     where
@@ -55,7 +47,7 @@ module _ (j : Judged) (t : Tables) (is : IsPricesOf j t) (u : ℕ) (from : u < c
           lead v c to e least.attained.0 least.attained.1 least.attained.2
 
       back : (IsLater t u v × (c ≡ 1)) ⊎ Contains (others_at t u) (v, c) → cost_at t u v ≡ Some c
-      back (inl w) = costs_one v ((ended.pairs v).1 w.0) (cost_at t u v) (is.costed u v from to) ∙ ap Some (sym w.1)
+      back (inl w) = session_cost j u v ((ended.pairs v).1 w.0) (cost_at t u v) (is.costed u v from to) ∙ ap Some (sym w.1)
       back (inr there) = (has.only v c there).1
 
 pub links_of : (j : Judged) (t : Tables) → IsPricesOf j t → AreLinks j t

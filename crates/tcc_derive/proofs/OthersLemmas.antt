@@ -1,5 +1,5 @@
 -- What passes the test of others below a number are the others of a transaction.
-use Rattle.std.proofs.Common.{ℕ, zero, suc, ◌<◌, ◌≡◌, ◌+◌, ◌≢◌, ◌≤◌, ◌==◌, ◌⊎◌, inl, inr, Bool, true, false, not, ◌&&◌, cond}
+use Rattle.std.proofs.Common.{ℕ, zero, suc, ◌<◌, ◌≡◌, ◌≢◌, ◌≤◌, ◌==◌, ◌⊎◌, inl, inr, Bool, true, false, not, ◌&&◌, cond}
 use Rattle.std.proofs.Common.{if◌then◌else◌, length, List, [], ◌∷◌, ◌++◌, slice_index, get_or, Option, None, Some, refl, sym, ap, ◌∙◌}
 use Rattle.std.proofs.Common.{subst, arith, eq-eqb}
 use Rattle.std.specs.Prelude.{Contains, All, nat_lt}
@@ -27,7 +27,7 @@ use Rattle.tcc_near.proofs.BreadthLemmas.{Read, read}
 use Rattle.tcc_derive.specs.Prices.{Tables, IsPrice, IsCost, IsLinkOf, IsOther, HasOthers, IsLater, IsEnd, price_at, cost_at, cost_among, end_of, others_at}
 use Rattle.tcc_derive.specs.Others.{is_other, others_below}
 use Rattle.tcc_derive.specs.Rows.{IsPriceRow, IsCostRow}
-use Rattle.tcc_derive.proofs.CostLemmas.{link_of}
+use Rattle.tcc_derive.proofs.CostLemmas.{link_of, session_cost}
 
 module _ (h : History) (u : ℕ) (prices costs : List ℕ) where
   passed : (n v c : ℕ) → Contains (others_below h u prices costs n) (v, c) → (v < n) × (is_other h u prices costs v ≡ true) × (c ≡ slice_index costs v)
@@ -219,14 +219,6 @@ module _ (j : Judged) (t : Tables) (u : ℕ) (from : u < count j.history) (price
       go None e none = absurd (none (link.Derived u v x d walk) (x, d, walk, refl, rw (w.from, w.to) at w.link))
       go (Some n) e least = inr (n, e)
 
-  later_one : (v : ℕ) → IsSessionPair j.history u v → (o : Option ℕ) → IsCost j u v o → o ≡ Some 1
-  later_one v pair None none = absurd (none (link.Session u v) (record { from = refl; to = refl; link = pair }))
-  later_one v pair (Some n) least =
-      let low = least.least (link.Session u v) (record { from = refl; to = refl; link = pair }) in
-      let some = some_cost least.attained.0 in
-      let one : n ≡ 1 = omega (arith, low, some, least.attained.2) in
-      ap Some one
-
   -- the cost is what the row of costs has
   pub cost_is : (v : ℕ) → v < count j.history → cost_at t u v ≡ least_in costs v
   cost_is v to = go (cases_lt u v) (cases_lt v (end_of t u))
@@ -249,7 +241,7 @@ module _ (j : Judged) (t : Tables) (u : ℕ) (from : u < count j.history) (price
       go : (u < v) ⊎ (v ≤ u) → (v < end_of t u) ⊎ (end_of t u ≤ v) → cost_at t u v ≡ least_in costs v
       go (inl less) (inl within) =
           let later : IsLater t u v = (omega arith, within) in
-          cost_later t u v later ∙ sym (later_one v ((ended.pairs v).1 later) (least_in costs v) (costed.costed v to))
+          cost_later t u v later ∙ sym (session_cost j u v ((ended.pairs v).1 later) (least_in costs v) (costed.costed v to))
       go (inl less) (inr past) = far (λ w. absurd (omega (arith, w.1)))
       go (inr more) _ = far (λ w. absurd (omega (arith, w.0)))
 

@@ -1,5 +1,5 @@
 -- All rows together are the prices of a history at a level, and name no transactions that it doesn't have.
-use Rattle.std.proofs.Common.{ℕ, ◌+◌, ◌<◌, ◌≤◌, ◌≡◌, List, [], length, get_or, slice_index, refl, sym, subst, arith}
+use Rattle.std.proofs.Common.{ℕ, ◌<◌, ◌≤◌, ◌≡◌, List, [], length, get_or, refl, sym, subst, arith}
 use Rattle.std.specs.Prelude.{All}
 use Rattle.std.specs.List.{AllPairs}
 use Rattle.std.proofs.lemmas.List.{get_or_default}
@@ -11,7 +11,7 @@ use Rattle.tcc_near.specs.Distances.{IsSquare, NearTable, IsNearOf}
 use Rattle.tcc_derive.specs.Prices.{Tables, IsCost, IsPricesOf, HasOthers, cost_at}
 use Rattle.tcc_derive.specs.Others.{HasOtherRows, HasEnds, IsShaped, others_below}
 use Rattle.tcc_derive.specs.ByCost.{IsByCost}
-use Rattle.tcc_derive.specs.CostBuckets.{costs_below, HaveByCost}
+use Rattle.tcc_derive.specs.CostBuckets.{HasCostRows, HaveByCost}
 use Rattle.tcc_derive.specs.Rows.{IsPriceRow, IsCostRow, HasRows}
 use Rattle.tcc_derive.proofs.ByCostLemmas.{by_cost_of}
 use Rattle.tcc_derive.proofs.CostLemmas.{cost_row_of}
@@ -80,11 +80,10 @@ module _ (j : Judged) (near : NearTable) (prices : List (List ℕ)) (ends : List
       let inside : All (λ (p : ℕ × ℕ). p.0 < count j.history) (row_of others u) = below_count u (omega (arith, low, other.long)) in
       rw (get_or_default others u d [] low) (λ k e l. let less : (get_or (row_of others u) k e).0 < count j.history = inside k e l in omega (arith, less, few))
 
-  pub have_by_cost : (rows : List (List (ℕ × ℕ))) → length rows ≡ length others
-      → ((u : ℕ) → u < length others → row_of rows u ≡ costs_below (u + 1) (slice_index ends u) (row_of others u) (limit + 1)) → HaveByCost tables rows
-  have_by_cost rows long each = record {
-    long = omega (arith, long, other.long, priced.long);
+  pub have_by_cost : (rows : List (List (ℕ × ℕ))) → HasCostRows ends others limit rows → HaveByCost tables rows
+  have_by_cost rows costs_in = record {
+    long = omega (arith, costs_in.long, other.long, priced.long);
     each = λ u low.
         let from : u < count j.history = omega (arith, low, priced.long) in
-        subst (λ (row : List (ℕ × ℕ)). IsByCost tables u row) (sym (each u (omega (arith, from, other.long)))) (by_cost_of j tables prices_of u from);
+        subst (λ (row : List (ℕ × ℕ)). IsByCost tables u row) (sym (costs_in.each u (omega (arith, from, other.long)))) (by_cost_of j tables prices_of u from);
   }

@@ -28,7 +28,7 @@ pub fn derive(
 {
     let reads = read_table(alloc, graph)?;
     let written = write_table(alloc, graph)?;
-    let prices = price_rows(rt, alloc, graph, near, &reads, &written)?;
+    let prices = price_rows(rt, alloc, graph, &reads, &written, near)?;
     let others = other_rows(rt, alloc, graph, near, &prices)?;
     let ends = session_ends(alloc, graph)?;
     let limit = cost_limit(near, &prices, &others);

@@ -2,7 +2,8 @@
 ghost use Rattle.std.specs.Prelude.{◌≡◌, ◌<◌, ◌≤◌, length, IfOk};
 ghost use Rattle.tcc_txn.specs.declared.limits.TheConstants.{MAX_COUNT};
 ghost use Rattle.tcc_reads.specs.History.{count};
-ghost use Rattle.tcc_derive.specs.Others.{others_below, IsOtherRow, HasOtherRows, HasEnds};
+ghost use Rattle.tcc_derive.specs.Others.{IsOtherRow, HasOtherRows, HasEnds};
+ghost use Rattle.tcc_derive.specs.Prices.{IsEnd};
 ghost use Rattle.tcc_derive.specs.Rows.{HasRows};
 ghost use Rattle.tcc_graph.specs.Tables.{row_of};
 ghost use Rattle.tcc_near.specs.Distances.{IsSquare};
@@ -15,43 +16,29 @@ use tcc_graph::Graph;
 use tcc_near::{NONE, Near, ROWS_A_THREAD, Row};
 use tcc_txn::NoMemory;
 
-/// Where the numbers end that session pairs lead to, for each transaction.
+/// Where the numbers end that session pairs lead to from `u`.
+fn session_end(graph: &Graph, u: u32) -> u32
+    requires { u < count graph.now }
+    ensures { IsEnd graph.now u result }
+{
+    let (_first, end) = graph.later(u);
+    end
+}
+
+/// The same for each transaction.
 pub(crate) fn session_ends(alloc: Global, graph: &Graph) -> Result<Vec<u32>, NoMemory>
     ensures { IfOk result (λ ends. HasEnds graph.now ends.items) }
 {
     let mut ends = Vec::with_capacity(alloc, graph.count() as usize)?;
     for u in 0..graph.count() {
-        let (_first, end) = graph.later(u);
-        ends.push(end)?;
+        ends.push(session_end(graph, u))?;
     }
     Ok(ends)
 }
 
-/// The transactions that read from `u` or have a price, ascending, each with what a link there costs.
+/// The transactions that read from `u` or have a price, ascending, each with what a link there costs, by the steps from `u`:
+/// its row of costs is made for this alone.
 fn others_row(
-    alloc: Global,
-    graph: &Graph,
-    u: u32,
-    prices: &[u16],
-    costs: &[u16],
-) -> Result<Row<(u32, u32)>, NoMemory>
-    requires from { u < count graph.now }
-    requires prices { length prices.now ≡ count graph.now }
-    requires costs { length costs.now ≡ count graph.now }
-    ensures { IfOk result (λ row. row ≡ others_below graph.now u prices.now costs.now (count graph.now)) }
-{
-    let mut others = Vec::new(alloc);
-    for v in 0..graph.count() {
-        let cost = costs[v as usize];
-        if prices[v as usize] != NONE || (cost == 1 && !graph.reads_from(u, v).is_empty()) {
-            others.push((v, u32::from(cost)))?;
-        }
-    }
-    Ok(Row::new(others))
-}
-
-/// The same of one transaction, by the steps from it: its row of costs is made for this alone.
-fn others_of(
     alloc: Global,
     graph: &Graph,
     u: u32,
@@ -63,8 +50,16 @@ fn others_of(
     requires prices { length prices.now ≡ count graph.now }
     ensures { IfOk result (IsOtherRow graph.now u steps.now prices.now) }
 {
-    let costs = cost_row(alloc, steps, prices)?;
-    others_row(alloc, graph, u, prices, costs.values())
+    let made = cost_row(alloc, steps, prices)?;
+    let costs = made.values();
+    let mut others = Vec::new(alloc);
+    for v in 0..graph.count() {
+        let cost = costs[v as usize];
+        if prices[v as usize] != NONE || (cost == 1 && !graph.reads_from(u, v).is_empty()) {
+            others.push((v, u32::from(cost)))?;
+        }
+    }
+    Ok(Row::new(others))
 }
 
 /// The same of each transaction.
@@ -88,7 +83,7 @@ pub(crate) fn other_rows(
                 ensures { IfOk result (IsOtherRow graph.entry.now u (row_of near.entry.now.rows u) (row_of prices.entry.now u)) }
             {
                 let steps = near.row(u as u32);
-                others_of(alloc, graph, u as u32, steps, prices[u].values())
+                others_row(alloc, graph, u as u32, steps, prices[u].values())
             },
         )
         .with_min_len(ROWS_A_THREAD)

@@ -57,9 +57,9 @@ pub(crate) fn price_rows(
     rt: &(impl Threads + Sync),
     alloc: Global,
     graph: &Graph,
-    near: &Near,
     reads: &[Row<Read>],
     written: &[Row<usize>],
+    near: &Near,
 ) -> Result<Vec<Row<u16>>, NoMemory>
     requires near { IsNearOf (record { history = graph.now; level = near.now.level }) near.now }
     requires reads { IsReadsOf graph.now reads.now }

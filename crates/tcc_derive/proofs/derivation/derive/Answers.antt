@@ -38,8 +38,7 @@ new-requires-clause-by_cost g c =
     (have_by_cost j c.args.near.now c.in_ok-prices.prices.items c.in_ok-ends.ends.items c.in_ok-others.others.items c.cost_limit-limit.result c.requires
     c.in_ok-prices.ensures.rows
     c.in_ok-ends.ensures (rw c.deref-3.ensures.value at c.in_ok-others.ensures)
-    c.in_ok-by_cost.by_cost.items (rw c.deref-6.ensures.value at c.in_ok-by_cost.ensures.long)
-    (rw (c.deref-6.ensures.value, c.deref-7.ensures.value) at c.in_ok-by_cost.ensures.each))
+    c.in_ok-by_cost.by_cost.items (rw (c.deref-6.ensures.value, c.deref-7.ensures.value) at c.in_ok-by_cost.ensures))
 
 pub cost_limit-limit-requires-clause-within : goal.cost_limit-limit-requires-clause-within
 cost_limit-limit-requires-clause-within g c =

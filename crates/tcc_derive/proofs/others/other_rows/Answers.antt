@@ -32,14 +32,12 @@ collect-requires-clause-ready g c κs within =
 
 pub returns : goal.returns
 returns g c =
-    let h = c.args.graph.now in
-    let prices = c.args.prices.now in
-    let near = c.args.near.now.rows in
-    let n = c.count.result in
     let got = c.in_ok-collect.ensures in
     let chain = rw (c.with_min_len.ensures.base, c.map.ensures.base, c.map.ensures.f) at got.1 in
+    let n = c.count.result in
     let numbers = chain.1 ∙ numbers_below _ _ n c.into_par_iter.ensures.0 c.into_par_iter.ensures.1 in
-    let IsRow : ℕ → List (ℕ × ℕ) → Type 0 = λ u row. IsOtherRow h u (row_of near u) (row_of prices u) row in
+    let IsRow : ℕ → List (ℕ × ℕ) → Type 0 =
+    λ u row. IsOtherRow c.args.graph.now u (row_of c.args.near.now.rows u) (row_of c.args.prices.now u) row in
     matched c.in_ok-collect.field-0 _ _ _ got.2 (λ rows made.
     let each = each_given NoMemory IsRow n chain.0 got.0 rows.items numbers chain.2 made in
     record {

@@ -5,17 +5,10 @@ use Rattle.tcc_derive.proofs.others.session_ends.Goals as goal
 
 pub loop-u-preserved : goal.loop-u-preserved
 loop-u-preserved c =
-    let h = c.args.graph.now in
-    let u = c.loop-u.u in
     let old = c.loop-u.ends.items in
-    let end = c.later-first.result.1 in
-    let later = c.later-first.ensures in
-    let first = later.first in
-    let here : IsEnd h u end = record { order = rw first at later.order; few = later.few; pairs = rw first at later.pairs } in
-    rw c.in_ok-push.ensures.items (
-      omega (arith, length-append old (end ∷ []), c.loop-u.invariant.0),
-      each_pushed (IsEnd h) old end u c.loop-u.invariant.0 (λ w d l. c.loop-u.invariant.1 w d l) here,
-    )
+    let end = c.session_end.result in
+    let far = each_pushed (IsEnd c.args.graph.now) old end c.loop-u.u c.loop-u.invariant.0 (λ w d l. c.loop-u.invariant.1 w d l) c.session_end.ensures in
+    rw c.in_ok-push.ensures.items (omega (arith, length-append old (end ∷ []), c.loop-u.invariant.0), far)
 
 pub returns : goal.returns
 returns c =

@@ -1,13 +1,11 @@
-use Rattle.std.proofs.Common.{ℕ, ◌-◌, ◌<◌, ◌≤◌, ◌≡◌, List, [], length, flat_map, replicate, sym, ap, ◌∙◌, arith}
-use Rattle.std.specs.List.{range_with_len}
-use Rattle.rayon.specs.Numbers.{nat_range}
+use Rattle.std.proofs.Common.{ℕ, ◌<◌, ◌≤◌, ◌≡◌, List, [], length, flat_map, replicate, sym, ◌∙◌, arith}
 use Rattle.rayon.proofs.ToStd.{nat_range-All}
 use Rattle.tcc_reads.specs.History.{count}
 use Rattle.tcc_graph.specs.Levels.{Judged}
 use Rattle.tcc_txn.specs.declared.memory.NoMemory.{NoMemory}
 use Rattle.tcc_derive.specs.Buckets.{bucket}
 use Rattle.tcc_derive.specs.Lowering.{Lowers, HaveReads}
-use Rattle.tcc_near.proofs.RowLemmas.{each_given}
+use Rattle.tcc_near.proofs.RowLemmas.{each_given, numbers_below}
 use Rattle.tcc_derive.proofs.PriceLemmas.{price_row_of}
 use Rattle.tcc_derive.proofs.TableLemmas.{have_reads}
 use Rattle.tcc_derive.proofs.pricing.price_rows.Goals as goal
@@ -43,13 +41,11 @@ returns g c =
     let j : Judged = record { history = h; level = near.level } in
     let reads = c.args.reads.now in
     let written = c.args.written.now in
-    let ends = c.into_par_iter.ensures in
     let n = c.count.result in
-    let got = c.in_ok-collect.ensures in
     let small : count h ≤ MAX_COUNT = omega (arith, c.count.ensures.value, c.count.ensures.few) in
-    let whole : n - 0 ≡ n = omega arith in
+    let got = c.in_ok-collect.ensures in
     let chain = rw (c.with_min_len.ensures.base, c.map.ensures.base, c.map.ensures.f) at got.1 in
-    let places : chain.0 ≡ range_with_len 0 n = chain.1 ∙ (λ i. nat_range (ends.0 i) (ends.1 i)) ∙ ap (range_with_len 0) whole in
+    let places = chain.1 ∙ numbers_below _ _ n c.into_par_iter.ensures.0 c.into_par_iter.ensures.1 in
     let IsLowered : ℕ → List ℕ → Type 0 =
     λ b row. Lowers (flat_map (bucket reads) (bucket written b)) (row_of near.rows b) b (replicate (length near.rows) NONE) row in
     record {

@@ -1,7 +1,6 @@
 use Rattle.std.proofs.Common.{◌+◌, ◌<◌, ◌≤◌, ◌≡◌, [], ◌∙◌, sym, slice_index, arith}
 use Rattle.std.proofs.lemmas.List.{get_or_read}
 use Rattle.tcc_graph.specs.Tables.{row_of}
-use Rattle.tcc_derive.specs.Prices.{cost_among}
 use Rattle.tcc_derive.proofs.OthersLemmas.{cost_later, cost_other}
 use Rattle.tcc_derive.proofs.tables.Prices.cost.Goals.{else-u-v-via-then-u-v+else-v-end, else-u-v-via-else-u-v}
 use Rattle.tcc_derive.proofs.tables.Prices.cost.Goals as goal
