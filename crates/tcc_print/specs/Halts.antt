@@ -10,14 +10,6 @@ use Rattle.tcc_check.specs.declared.stream_fault.StreamFault.TheVariants as stre
 use Rattle.tcc_print.specs.declared.halt.Halt.{Halt}
 use Rattle.tcc_print.specs.declared.halt.Halt.TheVariants.{Row, Reads, Text, NoMemory}
 
-abbrev pub is_memory : RowFaultKind → Bool
-is_memory row_kind.NoMemory = true
-is_memory _ = false
-
--- `NoMemory` stands by itself, and other faults with their rows
-abbrev pub by_row : RowFault → Halt
-by_row fault = if is_memory fault.kind then NoMemory else Row fault
-
 -- `NoMemory` stands by itself, and other faults with their lines
 abbrev pub by_stream : StreamFault → Halt
 by_stream (stream.Text fault) = Text fault
@@ -27,3 +19,11 @@ by_stream stream.NoMemory = NoMemory
 abbrev pub unresolved_by : ResolveFault → Halt
 unresolved_by (unresolved.Reads faults) = Reads faults
 unresolved_by unresolved.NoMemory = NoMemory
+
+abbrev pub is_memory : RowFaultKind → Bool
+is_memory row_kind.NoMemory = true
+is_memory _ = false
+
+-- `NoMemory` stands by itself, and other faults with their rows
+abbrev pub by_row : RowFault → Halt
+by_row fault = if is_memory fault.kind then NoMemory else Row fault

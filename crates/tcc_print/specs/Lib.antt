@@ -1,4 +1,5 @@
 -- What contracts of public calls cite:
+pub mod Kinds
 pub mod Statuses
 pub mod Texts
 pub mod Json

@@ -3,18 +3,15 @@ use Rattle.std.specs.Prelude.{ℕ, Option, None, Some, Result, Ok, Err}
 use Rattle.tcc_print.specs.declared.status.Status.{Status}
 use Rattle.tcc_print.specs.declared.status.Status.TheVariants.{Success, Anomaly, ReadFaults, RowFault, Limit, Memory, Device, Rejected, CertificateFault, Usage}
 use Rattle.tcc_txn.specs.declared.rows.RowFaultKind.{RowFaultKind}
-use Rattle.tcc_txn.specs.declared.rows.RowFaultKind.TheVariants.{FieldCount, BadSession, UnknownWord, BadKey, BadValue, WriteOfZero, NotBegun, AlreadyBegun}
-use Rattle.tcc_txn.specs.declared.rows.RowFaultKind.TheVariants.{TooManyOps, TooManySessions, TooManyTransactions, TooManyKeys, TooManySeals, Unfinished, Read}
-use Rattle.tcc_txn.specs.declared.rows.RowFaultKind.TheVariants.{NoMemory}
 use Rattle.tcc_answer.specs.declared.answer.Answer.{Answer}
 use Rattle.tcc_answer.specs.declared.answer.Answer.TheVariants as answer
 use Rattle.tcc_cert.specs.declared.fault.CertFaultKind.{CertFaultKind}
-use Rattle.tcc_cert.specs.declared.fault.CertFaultKind.TheVariants as text_kind
 use Rattle.tcc_check.specs.declared.verdict.Verdict.{Verdict}
 use Rattle.tcc_check.specs.declared.verdict.Verdict.TheVariants as verdict
 use Rattle.tcc_check.specs.declared.judgement.Judgement.{Judgement}
 use Rattle.tcc_print.specs.declared.halt.Halt.{Halt}
 use Rattle.tcc_print.specs.declared.halt.Halt.TheVariants as halt
+use Rattle.tcc_print.specs.Kinds.{certificate_told, row_told}
 
 -- the number of a status
 abbrev pub code_of : Status → ℕ
@@ -31,22 +28,7 @@ code_of Usage = 64
 
 -- how a run ends that a row fault ended
 abbrev pub row_status : RowFaultKind → Status
-row_status FieldCount = RowFault
-row_status BadSession = RowFault
-row_status UnknownWord = RowFault
-row_status BadKey = RowFault
-row_status BadValue = RowFault
-row_status WriteOfZero = RowFault
-row_status NotBegun = RowFault
-row_status AlreadyBegun = RowFault
-row_status TooManyOps = Limit
-row_status TooManySessions = Limit
-row_status TooManyTransactions = Limit
-row_status TooManyKeys = Limit
-row_status TooManySeals = Limit
-row_status (Unfinished session) = RowFault
-row_status Read = Device
-row_status NoMemory = Memory
+row_status kind = (row_told kind).status
 
 -- how a run ends that gave this answer
 abbrev pub answer_status : Answer → Status
@@ -65,15 +47,7 @@ verdict_status (verdict.Rejected rule at) = Rejected
 
 -- how a run ends that a fault in the text of a certificate ended
 abbrev pub certificate_status : CertFaultKind → Status
-certificate_status text_kind.Header = CertificateFault
-certificate_status text_kind.Word = CertificateFault
-certificate_status text_kind.Number = CertificateFault
-certificate_status text_kind.Count = CertificateFault
-certificate_status text_kind.TooLarge = CertificateFault
-certificate_status text_kind.Truncated = CertificateFault
-certificate_status text_kind.Trailing = CertificateFault
-certificate_status text_kind.Read = Device
-certificate_status text_kind.NoMemory = Memory
+certificate_status kind = (certificate_told kind).status
 
 -- how a run ends that has no answer or no verdict
 abbrev pub halt_status : Halt → Status

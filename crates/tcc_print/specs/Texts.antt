@@ -2,15 +2,12 @@
 use Rattle.std.specs.Prelude.{ℕ, List, [], ◌++◌, length, flat_map, codes, decimal}
 use Rattle.tcc_txn.specs.declared.rows.RowFault.{RowFault}
 use Rattle.tcc_txn.specs.declared.rows.RowFaultKind.{RowFaultKind}
-use Rattle.tcc_txn.specs.declared.rows.RowFaultKind.TheVariants.{FieldCount, BadSession, UnknownWord, BadKey, BadValue, WriteOfZero, NotBegun, AlreadyBegun}
-use Rattle.tcc_txn.specs.declared.rows.RowFaultKind.TheVariants.{TooManyOps, TooManySessions, TooManyTransactions, TooManyKeys, TooManySeals, Unfinished, Read}
-use Rattle.tcc_txn.specs.declared.rows.RowFaultKind.TheVariants.{NoMemory}
+use Rattle.tcc_txn.specs.declared.rows.RowFaultKind.TheVariants.{Unfinished}
 use Rattle.tcc_reads.specs.declared.fault.ReadFault.{ReadFault}
 use Rattle.tcc_reads.specs.declared.fault.ReadFaultKind.{ReadFaultKind}
-use Rattle.tcc_reads.specs.declared.fault.ReadFaultKind.TheVariants.{Duplicate, BrokenInternal, ThinAir, Aborted, Intermediate, Future}
+use Rattle.tcc_reads.specs.declared.fault.ReadFaultKind.TheVariants as read_kind
 use Rattle.tcc_cert.specs.declared.fault.CertFault.{CertFault}
 use Rattle.tcc_cert.specs.declared.fault.CertFaultKind.{CertFaultKind}
-use Rattle.tcc_cert.specs.declared.fault.CertFaultKind.TheVariants as text_kind
 use Rattle.tcc_check.specs.Verdicts.{rule_number}
 use Rattle.tcc_check.specs.declared.judgement.Claim.{Claim}
 use Rattle.tcc_check.specs.declared.judgement.Claim.TheVariants as claim
@@ -19,6 +16,7 @@ use Rattle.tcc_check.specs.declared.verdict.Verdict.{Verdict}
 use Rattle.tcc_check.specs.declared.verdict.Verdict.TheVariants as verdict
 use Rattle.tcc_print.specs.declared.halt.Halt.{Halt}
 use Rattle.tcc_print.specs.declared.halt.Halt.TheVariants as halt
+use Rattle.tcc_print.specs.Kinds.{certificate_told, row_told}
 
 -- the place of a transaction in its session: SESSION/PLACE
 abbrev pub place_text : List ℕ → ℕ → List ℕ
@@ -26,22 +24,7 @@ place_text session place = session ++ (codes "/" ++ decimal place)
 
 -- the word of a kind of row fault
 abbrev pub row_word : RowFaultKind → List ℕ
-row_word FieldCount = codes "FieldCount"
-row_word BadSession = codes "BadSession"
-row_word UnknownWord = codes "UnknownWord"
-row_word BadKey = codes "BadKey"
-row_word BadValue = codes "BadValue"
-row_word WriteOfZero = codes "WriteOfZero"
-row_word NotBegun = codes "NotBegun"
-row_word AlreadyBegun = codes "AlreadyBegun"
-row_word TooManyOps = codes "TooManyOps"
-row_word TooManySessions = codes "TooManySessions"
-row_word TooManyTransactions = codes "TooManyTransactions"
-row_word TooManyKeys = codes "TooManyKeys"
-row_word TooManySeals = codes "TooManySeals"
-row_word (Unfinished session) = codes "Unfinished"
-row_word Read = codes "Read"
-row_word NoMemory = codes "NoMemory"
+row_word kind = (row_told kind).word
 
 -- the session that is unfinished, after a space; of the other kinds nothing
 abbrev pub row_session : RowFaultKind → List ℕ
@@ -55,12 +38,12 @@ row_fault_text fault =
 
 -- the word of a kind of read fault
 abbrev pub read_word : ReadFaultKind → List ℕ
-read_word Duplicate = codes "Duplicate"
-read_word BrokenInternal = codes "BrokenInternal"
-read_word ThinAir = codes "ThinAir"
-read_word Aborted = codes "Aborted"
-read_word Intermediate = codes "Intermediate"
-read_word Future = codes "Future"
+read_word read_kind.Duplicate = codes "Duplicate"
+read_word read_kind.BrokenInternal = codes "BrokenInternal"
+read_word read_kind.ThinAir = codes "ThinAir"
+read_word read_kind.Aborted = codes "Aborted"
+read_word read_kind.Intermediate = codes "Intermediate"
+read_word read_kind.Future = codes "Future"
 
 -- KIND SESSION/PLACE op I KEY VALUE
 abbrev pub read_fault_text : ReadFault → List ℕ
@@ -77,15 +60,7 @@ unresolved_text faults = codes "unresolved: " ++ (decimal (length faults) ++ (co
 
 -- the word of a kind of fault in the text of a certificate
 abbrev pub certificate_word : CertFaultKind → List ℕ
-certificate_word text_kind.Header = codes "Header"
-certificate_word text_kind.Word = codes "Word"
-certificate_word text_kind.Number = codes "Number"
-certificate_word text_kind.Count = codes "Count"
-certificate_word text_kind.TooLarge = codes "TooLarge"
-certificate_word text_kind.Truncated = codes "Truncated"
-certificate_word text_kind.Trailing = codes "Trailing"
-certificate_word text_kind.Read = codes "Read"
-certificate_word text_kind.NoMemory = codes "NoMemory"
+certificate_word kind = (certificate_told kind).word
 
 -- certificate line N: KIND
 abbrev pub certificate_fault_text : CertFault → List ℕ

@@ -33,9 +33,10 @@ impl From<RowFault> for Halt {
     ghost from_gives = { λ fault h. h ≡ by_row fault };
 
     fn from(fault: RowFault) -> Halt {
-        match fault.kind {
-            RowFaultKind::NoMemory => Halt::NoMemory,
-            _ => Halt::Row(fault),
+        if matches!(fault.kind, RowFaultKind::NoMemory) {
+            Halt::NoMemory
+        } else {
+            Halt::Row(fault)
         }
     }
 }
@@ -45,8 +46,8 @@ impl From<ResolveFault> for Halt {
 
     fn from(fault: ResolveFault) -> Halt {
         match fault {
-            ResolveFault::Reads(faults) => Halt::Reads(faults),
             ResolveFault::NoMemory => Halt::NoMemory,
+            ResolveFault::Reads(faults) => Halt::Reads(faults),
         }
     }
 }

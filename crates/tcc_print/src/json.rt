@@ -7,7 +7,7 @@ ghost use Rattle.tcc_print.specs.Json.{halt_line, read_fault_json, row_fault_jso
 ghost use Rattle.tcc_print.specs.Pieces.{later_fault};
 
 use crate::halt::Halt;
-use crate::texts::{certificate_fault, read_word, row_word};
+use crate::texts::{halt_text, read_word, row_word};
 use serde_json::{Value, json};
 use std::alloc::{AllocError, Global};
 use tcc_answer::pieces::push;
@@ -126,7 +126,7 @@ pub fn halt_line(alloc: Global, halt: &Halt) -> Result<Vec<u8>, NoMemory>
     match halt {
         Halt::Row(fault) => row_fault(alloc, fault),
         Halt::Reads(faults) => unresolved(alloc, faults),
-        Halt::Text(fault) => certificate_fault(alloc, fault),
+        Halt::Text(_) => halt_text(alloc, halt),
         Halt::NoMemory => Err(NoMemory),
     }
 }

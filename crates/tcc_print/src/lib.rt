@@ -3,6 +3,7 @@
 
 mod halt;
 pub mod json;
+mod kinds;
 mod options;
 pub mod printing;
 pub mod status;

@@ -120,6 +120,17 @@ pub fn send_answer<W: Write>(
     }
 }
 
+/// The text of all read faults, or their line of JSON.
+fn unresolved_made(alloc: Global, faults: &[ReadFault], json: bool) -> Result<Vec<u8>, NoMemory>
+    ensures { IfOk result (λ text. text.items ≡ unresolved json faults.now) }
+{
+    if json {
+        unresolved_line(alloc, faults)
+    } else {
+        unresolved_text(alloc, faults)
+    }
+}
+
 /// Writes all read faults, as text or as a line of JSON; else the run ends with this number.
 pub fn send_unresolved<W: Write>(
     alloc: Global,
@@ -130,12 +141,7 @@ pub fn send_unresolved<W: Write>(
     ensures whole { OnOk result (Appends (W.contents out.old) (W.contents out.new) (unresolved json faults.now)) }
     ensures ended { IfErr result (EndsIn json (W.contents out.old) (W.contents out.new) (unresolved json faults.now)) }
 {
-    let made = if json {
-        unresolved_line(alloc, faults)
-    } else {
-        unresolved_text(alloc, faults)
-    };
-    send_made(made, json, out)
+    send_made(unresolved_made(alloc, faults, json), json, out)
 }
 
 /// Writes what stands in the place of an answer or a verdict, and gives the number that the run ends with.

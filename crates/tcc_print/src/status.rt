@@ -3,6 +3,7 @@ ghost use Rattle.std.specs.Prelude.{◌≡◌};
 ghost use Rattle.tcc_print.specs.Statuses.{answer_status, certificate_status, code_of, halt_status, last_status, row_status, verdict_status};
 
 use crate::halt::Halt;
+use crate::kinds::{certificate_told, row_told};
 use tcc_answer::Answer;
 use tcc_cert::CertFaultKind;
 use tcc_check::Verdict;
@@ -87,27 +88,14 @@ pub fn verdict_status(verdict: Verdict) -> Status
 pub fn row_status(kind: &RowFaultKind) -> Status
     ensures { result ≡ row_status kind.now }
 {
-    match kind {
-        RowFaultKind::TooManyOps
-        | RowFaultKind::TooManySessions
-        | RowFaultKind::TooManyTransactions
-        | RowFaultKind::TooManyKeys
-        | RowFaultKind::TooManySeals => Status::Limit,
-        RowFaultKind::Read => Status::Device,
-        RowFaultKind::NoMemory => Status::Memory,
-        _ => Status::RowFault,
-    }
+    row_told(kind).status
 }
 
 /// How a run ends that a fault in the text of a certificate ended.
 pub fn certificate_status(kind: CertFaultKind) -> Status
     ensures { result ≡ certificate_status kind }
 {
-    match kind {
-        CertFaultKind::Read => Status::Device,
-        CertFaultKind::NoMemory => Status::Memory,
-        _ => Status::CertificateFault,
-    }
+    certificate_told(kind).status
 }
 
 /// How a run ends that has no answer or no verdict.

@@ -4,6 +4,7 @@ ghost use Rattle.tcc_print.specs.Texts.{certificate_fault_text, certificate_word
 ghost use Rattle.tcc_print.specs.Texts.{unresolved_text};
 
 use crate::halt::Halt;
+use crate::kinds::{certificate_told, row_told};
 use std::alloc::Global;
 use tcc_answer::pieces::push;
 use tcc_cert::{CertFault, CertFaultKind};
@@ -14,24 +15,7 @@ use tcc_txn::{NoMemory, RowFault, RowFaultKind};
 pub fn row_word(kind: &RowFaultKind) -> &'static str
     ensures { result.now ≡ row_word kind.now }
 {
-    match kind {
-        RowFaultKind::FieldCount => "FieldCount",
-        RowFaultKind::BadSession => "BadSession",
-        RowFaultKind::UnknownWord => "UnknownWord",
-        RowFaultKind::BadKey => "BadKey",
-        RowFaultKind::BadValue => "BadValue",
-        RowFaultKind::WriteOfZero => "WriteOfZero",
-        RowFaultKind::NotBegun => "NotBegun",
-        RowFaultKind::AlreadyBegun => "AlreadyBegun",
-        RowFaultKind::TooManyOps => "TooManyOps",
-        RowFaultKind::TooManySessions => "TooManySessions",
-        RowFaultKind::TooManyTransactions => "TooManyTransactions",
-        RowFaultKind::TooManyKeys => "TooManyKeys",
-        RowFaultKind::TooManySeals => "TooManySeals",
-        RowFaultKind::Unfinished { .. } => "Unfinished",
-        RowFaultKind::Read => "Read",
-        RowFaultKind::NoMemory => "NoMemory",
-    }
+    row_told(kind).word
 }
 
 /// The line of a row fault.
@@ -120,17 +104,7 @@ pub fn unresolved(alloc: Global, faults: &[ReadFault]) -> Result<Vec<u8>, NoMemo
 pub fn certificate_word(kind: CertFaultKind) -> &'static str
     ensures { result.now ≡ certificate_word kind }
 {
-    match kind {
-        CertFaultKind::Header => "Header",
-        CertFaultKind::Word => "Word",
-        CertFaultKind::Number => "Number",
-        CertFaultKind::Count => "Count",
-        CertFaultKind::TooLarge => "TooLarge",
-        CertFaultKind::Truncated => "Truncated",
-        CertFaultKind::Trailing => "Trailing",
-        CertFaultKind::Read => "Read",
-        CertFaultKind::NoMemory => "NoMemory",
-    }
+    certificate_told(kind).word
 }
 
 /// The line of a fault in the text of a certificate.

@@ -1,0 +1,44 @@
+-- The kinds of faults that end a run: the word for each, and how the run ends.
+use Rattle.std.specs.Prelude.{ℕ, List, codes}
+use Rattle.tcc_txn.specs.declared.rows.RowFaultKind.{RowFaultKind}
+use Rattle.tcc_txn.specs.declared.rows.RowFaultKind.TheVariants as row_kind
+use Rattle.tcc_cert.specs.declared.fault.CertFaultKind.{CertFaultKind}
+use Rattle.tcc_cert.specs.declared.fault.CertFaultKind.TheVariants as text_kind
+use Rattle.tcc_print.specs.declared.status.Status.{Status}
+use Rattle.tcc_print.specs.declared.status.Status.TheVariants.{RowFault, Limit, Memory, Device, CertificateFault}
+
+-- how a kind of fault is told: its word, and the status of a run that it ended
+pub record Told : Type 0 where
+  pub word : List ℕ
+  pub status : Status
+
+-- a kind of row fault
+abbrev pub row_told : RowFaultKind → Told
+row_told row_kind.FieldCount = record { word = codes "FieldCount"; status = RowFault }
+row_told row_kind.BadSession = record { word = codes "BadSession"; status = RowFault }
+row_told row_kind.UnknownWord = record { word = codes "UnknownWord"; status = RowFault }
+row_told row_kind.BadKey = record { word = codes "BadKey"; status = RowFault }
+row_told row_kind.BadValue = record { word = codes "BadValue"; status = RowFault }
+row_told row_kind.WriteOfZero = record { word = codes "WriteOfZero"; status = RowFault }
+row_told row_kind.NotBegun = record { word = codes "NotBegun"; status = RowFault }
+row_told row_kind.AlreadyBegun = record { word = codes "AlreadyBegun"; status = RowFault }
+row_told row_kind.TooManyOps = record { word = codes "TooManyOps"; status = Limit }
+row_told row_kind.TooManySessions = record { word = codes "TooManySessions"; status = Limit }
+row_told row_kind.TooManyTransactions = record { word = codes "TooManyTransactions"; status = Limit }
+row_told row_kind.TooManyKeys = record { word = codes "TooManyKeys"; status = Limit }
+row_told row_kind.TooManySeals = record { word = codes "TooManySeals"; status = Limit }
+row_told (row_kind.Unfinished session) = record { word = codes "Unfinished"; status = RowFault }
+row_told row_kind.Read = record { word = codes "Read"; status = Device }
+row_told row_kind.NoMemory = record { word = codes "NoMemory"; status = Memory }
+
+-- a kind of fault in the text of a certificate
+abbrev pub certificate_told : CertFaultKind → Told
+certificate_told text_kind.Header = record { word = codes "Header"; status = CertificateFault }
+certificate_told text_kind.Word = record { word = codes "Word"; status = CertificateFault }
+certificate_told text_kind.Number = record { word = codes "Number"; status = CertificateFault }
+certificate_told text_kind.Count = record { word = codes "Count"; status = CertificateFault }
+certificate_told text_kind.TooLarge = record { word = codes "TooLarge"; status = CertificateFault }
+certificate_told text_kind.Truncated = record { word = codes "Truncated"; status = CertificateFault }
+certificate_told text_kind.Trailing = record { word = codes "Trailing"; status = CertificateFault }
+certificate_told text_kind.Read = record { word = codes "Read"; status = Device }
+certificate_told text_kind.NoMemory = record { word = codes "NoMemory"; status = Memory }
