@@ -90,17 +90,21 @@ abbrev pub IsFlag : Option Text → Bool → Type 0
 IsFlag text set =
     (text ≡ Some (codes "true") → set ≡ true) × ((text ≡ Some (codes "false") → set ≡ false) × (text ≡ None → set ≡ false))
 
--- what clap finds for the level in the matches of a subcommand that was met
+-- what clap finds for an option in the matches of a subcommand that was met
+abbrev pub option_text : Text → Option (Text × List Row) → Option Text
+option_text id met = option_and_then (first_of id) (option_map (λ entered. entered.1) met)
+
+-- for the level
 abbrev pub level_text : Option (Text × List Row) → Option Text
-level_text met = option_and_then (first_of (codes "level")) (option_map (λ entered. entered.1) met)
+level_text met = option_text (codes "level") met
 
 -- the level is the one of the word, causal where there is none
 abbrev pub IsLevel : Option Text → Level → Type 0
 IsLevel word level = unwrap_or word (level_word Causal) ≡ level_word level
 
--- what clap finds for the number of workers in the matches of a subcommand that was met
+-- for the number of workers
 abbrev pub workers_text : Option (Text × List Row) → Option Text
-workers_text met = option_and_then (first_of (codes "workers")) (option_map (λ entered. entered.1) met)
+workers_text met = option_text (codes "workers") met
 
 -- the word says the number, from 1 to 32, in decimal
 abbrev pub SaysWorkers : Text → ℕ → Type 0
@@ -111,9 +115,9 @@ abbrev pub IsWorkers : Option Text → ℕ → Type 0
 IsWorkers None workers = workers ≡ 1
 IsWorkers (Some word) workers = SaysWorkers word workers
 
--- what clap finds for the path of the certificate in the matches of a subcommand that was met
+-- for the path of the certificate
 abbrev pub certificate_path : Option (Text × List Row) → Option Text
-certificate_path met = option_and_then (first_of (codes "certificate")) (option_map (λ entered. entered.1) met)
+certificate_path met = option_text (codes "certificate") met
 
 -- the answers are as JSON by the flag, at the level of the word, and by as many workers as the word says; the certificate
 -- goes to the path, if there is one

@@ -6,7 +6,7 @@ ghost use Rattle.clap.specs.declared.error.kind.ErrorKind.TheVariants.{OutOfMemo
 ghost use Rattle.tcc_graph.specs.declared.level.Level.{Level};
 ghost use Rattle.tcc_words.specs.CommandLines.{Asks, AsksBy, AsksCheck, AsksExplain, EndsUnasked, HasWorkers, IsAsked, IsFlag};
 ghost use Rattle.tcc_words.specs.CommandLines.{IsLevel, IsWorkers, PrintsHelp, SaysWorkers, certificate_option, certificate_path};
-ghost use Rattle.tcc_words.specs.CommandLines.{check_command, explain_command, json_text, level_option, level_text, level_word};
+ghost use Rattle.tcc_words.specs.CommandLines.{check_command, explain_command, json_text, level_option, level_text, level_word, option_text};
 ghost use Rattle.tcc_words.specs.CommandLines.{path, tcc_command, valued_option, workers_option, workers_text};
 
 use crate::help;
@@ -163,6 +163,14 @@ fn is_json(matches: &ArgMatches) -> bool
     }
 }
 
+/// The word that the subcommand has for the option, if it has one.
+fn word_for<'a>(matches: &ArgMatches<'a>, id: &str) -> Option<&'a str>
+    ensures { option_map (λ word. word.now) result ≡ option_text id.now (subcommand_rows_of matches.now) }
+{
+    let (_name, explain) = matches.subcommand()?;
+    explain.get_str(id)
+}
+
 /// The level of the word; none exactly by another word.
 fn level_named(word: &str) -> Option<Level>
     ensures { MatchOption result ((level : Level) → word.now ≡ level_word level → ⊥) (λ level. word.now ≡ level_word level) }
@@ -181,11 +189,8 @@ fn level_of(matches: &ArgMatches) -> Option<Level>
     ensures { MatchOption result ((level : Level) → IsLevel (level_text (subcommand_rows_of matches.now)) level → ⊥)
         (IsLevel (level_text (subcommand_rows_of matches.now))) }
 {
-    match matches.subcommand() {
-        Some((_name, explain)) => match explain.get_str("level") {
-            Some(word) => level_named(word),
-            None => Some(Level::Causal),
-        },
+    match word_for(matches, "level") {
+        Some(word) => level_named(word),
         None => Some(Level::Causal),
     }
 }
@@ -205,11 +210,8 @@ fn workers_of(matches: &ArgMatches) -> Option<u32>
     ensures { MatchOption result ((workers : ℕ) → IsWorkers (workers_text (subcommand_rows_of matches.now)) workers → ⊥)
         (IsWorkers (workers_text (subcommand_rows_of matches.now))) }
 {
-    match matches.subcommand() {
-        Some((_name, explain)) => match explain.get_str("workers") {
-            Some(word) => workers_named(word),
-            None => Some(1),
-        },
+    match word_for(matches, "workers") {
+        Some(word) => workers_named(word),
         None => Some(1),
     }
 }
@@ -219,11 +221,8 @@ fn certificate_of(alloc: Global, matches: &ArgMatches) -> Result<Option<String>,
     ensures path { IfOk result (λ path. option_map string_bytes path ≡ certificate_path (subcommand_rows_of matches.now)) }
     ensures fails { IfErr result (λ e. kind_of e ≡ OutOfMemory) }
 {
-    match matches.subcommand() {
-        Some((_name, explain)) => match explain.get_str("certificate") {
-            Some(path) => Ok(Some(path.to_string(alloc)?)),
-            None => Ok(None),
-        },
+    match word_for(matches, "certificate") {
+        Some(path) => Ok(Some(path.to_string(alloc)?)),
         None => Ok(None),
     }
 }
