@@ -1,7 +1,7 @@
-//! Runs the first stages of an explanation alone, so that a script can time each of them: `csv` counts the
-//! records of standard input by csv alone, `rows` reads them and keeps nothing, `snapshot` makes a snapshot of what they finish, `resolve` resolves it too,
-//! `graph` builds its graph too. From there two ways lead on: `order` looks for the first commit order, and `near` works
-//! out the distances, `derive` the prices too.
+//! Runs the first stages of an explanation alone, so that a script can time each of them: `csv` counts the records of
+//! standard input by csv alone, `rows` reads them and keeps nothing, `snapshot` makes a snapshot of what they finish,
+//! `resolve` resolves it too, `graph` builds its graph too. From there two ways lead on: `order` looks for the first commit
+//! order, and `near` works out the distances, `derive` the prices too.
 #![tactic(auto)]
 
 ghost use Rattle.std.specs.Prelude.{◌≡◌, ◌≢◌, IfNone, IfSome};
