@@ -7,7 +7,7 @@ ghost use Rattle.tcc_print.specs.Json.{halt_line, read_fault_json, row_fault_jso
 ghost use Rattle.tcc_print.specs.Pieces.{later_fault};
 
 use crate::halt::Halt;
-use crate::texts::{halt_text, read_word, row_word};
+use crate::texts::{halt_text, joined, read_word, row_word};
 use serde_json::{Value, json};
 use std::alloc::{AllocError, Global};
 use tcc_answer::pieces::push;
@@ -96,9 +96,7 @@ fn line(alloc: Global, object: &Value) -> Result<Vec<u8>, NoMemory>
     ensures { IfOk result (λ line. line.items ≡ json_line (view object.now)) }
 {
     let text = object.to_string(alloc)?;
-    let mut line = Vec::new(alloc);
-    push(&mut line, &[text.as_bytes(), b"\n"])?;
-    Ok(line)
+    joined(alloc, &[text.as_bytes(), b"\n"])
 }
 
 /// The line of a row fault.
@@ -124,9 +122,9 @@ pub fn halt_line(alloc: Global, halt: &Halt) -> Result<Vec<u8>, NoMemory>
     ensures { IfOk result (λ line. line.items ≡ halt_line halt.now) }
 {
     match halt {
+        Halt::Text(_) => halt_text(alloc, halt),
         Halt::Row(fault) => row_fault(alloc, fault),
         Halt::Reads(faults) => unresolved(alloc, faults),
-        Halt::Text(_) => halt_text(alloc, halt),
         Halt::NoMemory => Err(NoMemory),
     }
 }

@@ -11,6 +11,15 @@ use tcc_cert::{CertFault, CertFaultKind};
 use tcc_reads::{ReadFault, ReadFaultKind};
 use tcc_txn::{NoMemory, RowFault, RowFaultKind};
 
+/// The pieces, one after the other, as a text.
+pub(crate) fn joined(alloc: Global, pieces: &[&[u8]]) -> Result<Vec<u8>, NoMemory>
+    ensures { IfOk result (λ text. text.items ≡ flat_map (λ piece. piece.now) pieces.now) }
+{
+    let mut text = Vec::new(alloc);
+    push(&mut text, pieces)?;
+    Ok(text)
+}
+
 /// The word for a kind of row fault.
 pub fn row_word(kind: &RowFaultKind) -> &'static str
     ensures { result.now ≡ row_word kind.now }
@@ -113,9 +122,8 @@ pub fn certificate_fault(alloc: Global, fault: &CertFault) -> Result<Vec<u8>, No
 {
     let line = fault.line.to_string(alloc)?;
     let word = certificate_word(fault.kind);
-    let mut text = Vec::new(alloc);
-    push(
-        &mut text,
+    joined(
+        alloc,
         &[
             b"certificate line ",
             line.as_bytes(),
@@ -123,8 +131,7 @@ pub fn certificate_fault(alloc: Global, fault: &CertFault) -> Result<Vec<u8>, No
             word.as_bytes(),
             b"\n",
         ],
-    )?;
-    Ok(text)
+    )
 }
 
 /// What stands in the place of an answer or a verdict; the line `memory` is made without memory, elsewhere.

@@ -2,8 +2,8 @@
 ghost use Rattle.std.specs.Prelude.{◌≡◌, IfOk};
 ghost use Rattle.tcc_print.specs.Texts.{accepted_text, rejected_text, verdict_text};
 
+use crate::texts::joined;
 use std::alloc::Global;
-use tcc_answer::pieces::push;
 use tcc_check::{Claim, Judgement, Rule, Verdict};
 use tcc_txn::NoMemory;
 
@@ -11,18 +11,16 @@ use tcc_txn::NoMemory;
 fn accepted(alloc: Global, claim: Claim) -> Result<Vec<u8>, NoMemory>
     ensures { IfOk result (λ text. text.items ≡ accepted_text claim) }
 {
-    let mut text = Vec::new(alloc);
     match claim {
-        Claim::Order => push(&mut text, &[b"accepted: order\n"])?,
+        Claim::Order => joined(alloc, &[b"accepted: order\n"]),
         Claim::Cycle { least } => {
             let steps = least.to_string(alloc)?;
-            push(
-                &mut text,
+            joined(
+                alloc,
                 &[b"accepted: cycle, ", steps.as_bytes(), b" steps\n"],
-            )?;
+            )
         }
     }
-    Ok(text)
 }
 
 /// The line of a certificate that was rejected.
@@ -32,9 +30,8 @@ fn rejected(alloc: Global, rule: Rule, at: (u32, u32)) -> Result<Vec<u8>, NoMemo
     let number = rule.number().to_string(alloc)?;
     let first = at.0.to_string(alloc)?;
     let second = at.1.to_string(alloc)?;
-    let mut text = Vec::new(alloc);
-    push(
-        &mut text,
+    joined(
+        alloc,
         &[
             b"rejected: rule ",
             number.as_bytes(),
@@ -44,8 +41,7 @@ fn rejected(alloc: Global, rule: Rule, at: (u32, u32)) -> Result<Vec<u8>, NoMemo
             second.as_bytes(),
             b"\n",
         ],
-    )?;
-    Ok(text)
+    )
 }
 
 /// The line of a verdict.
