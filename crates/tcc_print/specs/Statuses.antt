@@ -1,7 +1,7 @@
 -- The numbers that a run ends with.
 use Rattle.std.specs.Prelude.{ℕ, Option, None, Some, Result, Ok, Err}
 use Rattle.tcc_print.specs.declared.status.Status.{Status}
-use Rattle.tcc_print.specs.declared.status.Status.TheVariants.{Success, Anomaly, ReadFaults, RowFault, Limit, Memory, Device, Rejected, CertificateFault, Usage}
+use Rattle.tcc_print.specs.declared.status.Status.TheVariants as status
 use Rattle.tcc_txn.specs.declared.rows.RowFaultKind.{RowFaultKind}
 use Rattle.tcc_answer.specs.declared.answer.Answer.{Answer}
 use Rattle.tcc_answer.specs.declared.answer.Answer.TheVariants as answer
@@ -15,16 +15,16 @@ use Rattle.tcc_print.specs.Kinds.{certificate_told, row_told}
 
 -- the number of a status
 abbrev pub code_of : Status → ℕ
-code_of Success = 0
-code_of Anomaly = 1
-code_of ReadFaults = 2
-code_of RowFault = 3
-code_of Limit = 4
-code_of Memory = 5
-code_of Device = 6
-code_of Rejected = 7
-code_of CertificateFault = 8
-code_of Usage = 64
+code_of status.Success = 0
+code_of status.Anomaly = 1
+code_of status.ReadFaults = 2
+code_of status.RowFault = 3
+code_of status.Limit = 4
+code_of status.Memory = 5
+code_of status.Device = 6
+code_of status.Rejected = 7
+code_of status.CertificateFault = 8
+code_of status.Usage = 64
 
 -- how a run ends that a row fault ended
 abbrev pub row_status : RowFaultKind → Status
@@ -32,18 +32,18 @@ row_status kind = (row_told kind).status
 
 -- how a run ends that gave this answer
 abbrev pub answer_status : Answer → Status
-answer_status (answer.Commit c) = Success
-answer_status (answer.Anomaly a) = Anomaly
+answer_status (answer.Commit c) = status.Success
+answer_status (answer.Anomaly a) = status.Anomaly
 
 -- how a run ends whose last answer this is; none stands for read faults
 abbrev pub last_status : Option Answer → Status
-last_status None = ReadFaults
+last_status None = status.ReadFaults
 last_status (Some a) = answer_status a
 
 -- how a run ends that gave this verdict
 abbrev pub verdict_status : Verdict → Status
-verdict_status verdict.Accepted = Success
-verdict_status (verdict.Rejected rule at) = Rejected
+verdict_status verdict.Accepted = status.Success
+verdict_status (verdict.Rejected rule at) = status.Rejected
 
 -- how a run ends that a fault in the text of a certificate ended
 abbrev pub certificate_status : CertFaultKind → Status
@@ -52,9 +52,9 @@ certificate_status kind = (certificate_told kind).status
 -- how a run ends that has no answer or no verdict
 abbrev pub halt_status : Halt → Status
 halt_status (halt.Row fault) = row_status fault.kind
-halt_status (halt.Reads faults) = ReadFaults
+halt_status (halt.Reads faults) = status.ReadFaults
 halt_status (halt.Text fault) = certificate_status fault.kind
-halt_status halt.NoMemory = Memory
+halt_status halt.NoMemory = status.Memory
 
 -- how a run of check ends with this outcome
 abbrev pub check_status : Result Judgement Halt → Status
