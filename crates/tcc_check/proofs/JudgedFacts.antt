@@ -1,50 +1,87 @@
 -- The verdict on the whole text.
-use Rattle.std.proofs.Common.{◌≡◌, ℕ, List, ◌∷◌, ◌++◌, length, refl, sym, subst}
-use Rattle.std.specs.Prelude.{map}
+use Rattle.std.proofs.Common.{◌≡◌, ◌↔◌, ℕ, Bool, true, false, List, [], ◌∷◌, ◌++◌, Option, None, Some, Result, Ok, Err, inl, length, refl, sym, ap, subst, ◌∙◌}
+use Rattle.std.specs.Prelude.{IsTrue, MatchOption, map}
+use Rattle.std.proofs.lemmas.Bool.{false≢true}
 use Rattle.tcc_reads.specs.History.{History}
 use Rattle.tcc_graph.specs.declared.level.Level.{Level}
-use Rattle.tcc_graph.specs.declared.link.Link.{Link}
-use Rattle.tcc_cert.specs.Parts.{parts_of, parts_read}
+use Rattle.tcc_cert.specs.CycleRules.{CycleClaim, HasRightSizes}
+use Rattle.tcc_cert.specs.Parts.{Parts, after_part, parts_of, parts_read}
 use Rattle.tcc_cert.specs.declared.certificate.Certificate.{Certificate}
 use Rattle.tcc_cert.specs.declared.certificate.Certificate.TheVariants as certificate
 use Rattle.tcc_cert.specs.declared.part.Part.{Part}
 use Rattle.tcc_cert.specs.declared.part.Part.TheVariants as part
 use Rattle.tcc_cert.specs.declared.version.Version.{Version}
 use Rattle.tcc_cert.proofs.CollectFacts.{ends-read}
+use Rattle.tcc_cert.proofs.PartFacts.{read-whole}
 use Rattle.tcc_check.specs.declared.judgement.Claim.TheVariants as claim
+use Rattle.tcc_check.specs.declared.judgement.Judgement.{Judgement}
 use Rattle.tcc_check.specs.declared.stream_fault.StreamFault.{StreamFault}
 use Rattle.tcc_check.specs.declared.stream_fault.StreamFault.TheVariants.{Text, NoMemory}
+use Rattle.tcc_check.specs.declared.streaming.CycleHead.{CycleHead}
+use Rattle.tcc_check.specs.declared.verdict.Rule.TheVariants.{Sizes}
 use Rattle.tcc_check.specs.declared.verdict.Verdict.{Verdict}
-use Rattle.tcc_check.specs.Coming.{FailsAs}
-use Rattle.tcc_check.specs.Streams.{IsStreamFault, claim_of}
-use Rattle.tcc_check.specs.Verdicts.{IsAnswer, IsVerdict, cycle_rules, order_rules}
+use Rattle.tcc_check.specs.Coming.{FailsAs, Finishes, sized}
+use Rattle.tcc_check.specs.Judged.{IsClaimJudged, IsCycleJudged, IsOrderJudged, claim_rules}
+use Rattle.tcc_check.specs.Streams.{IsJudged, IsStreamFault, claim_of}
+use Rattle.tcc_check.specs.Verdicts.{IsAnswer, IsVerdict, as_whole, cycle_rules}
+use Rattle.tcc_check.proofs.Asked.{answer_later}
 use Rattle.tcc_check.proofs.Claims.{verdict_of}
+use Rattle.tcc_check.proofs.ComingFacts.{fails-back}
 
 pub stream-fault : (bytes : List ℕ) (fault : StreamFault) → FailsAs (parts_read bytes) fault → IsStreamFault bytes fault
 stream-fault bytes (Text fault) fails = (ends-read bytes fault fails.0, fails.1)
 stream-fault bytes NoMemory fails = tt
 
--- the verdict on the parts of a certificate is that on the certificate
-pub order-judged : (h : History) (c : Certificate) (version : Version) (level : Level) (order : List ℕ) (sessions : ℕ) (rest : List Part) (answer : Verdict)
-    → part.Order version level order sessions ∷ rest ≡ parts_of c
-    → ((clocks : List (List ℕ)) → rest ≡ map part.Clocks clocks
-    → IsAnswer (order_rules h (record { level = level; order = order; sessions = sessions; clocks = clocks })) answer)
-    → (claim.Order ≡ claim_of c) × IsVerdict h c answer
-order-judged h (certificate.Order v l o s cs) version level order sessions rest answer is said =
-    let tail : rest ≡ map part.Clocks cs = cc in
-    let whole : certificate.Order v l o s cs ≡ certificate.Order version level order sessions cs = cc in
-    (refl, subst (λ c. IsVerdict h c answer) (sym whole) (verdict_of h (certificate.Order version level order sessions cs) answer (said cs tail)))
-order-judged h (certificate.Cycle v l ls n ns fs) version level order sessions rest answer is said = absurd cc
+-- how the parts behind the first end is how the whole text does
+fault-behind : (bytes : List ℕ) (given : Part) (rest : Parts) (fault : StreamFault) → parts_read bytes ≡ after_part given rest → FailsAs rest fault
+    → IsStreamFault bytes fault
+fault-behind bytes given rest fault is fails =
+    stream-fault bytes fault (fails-back (parts_read bytes) rest fault (sym (ap (λ p. p.line) is)) (sym (ap (λ p. p.fault) is)) fails)
 
-pub cycle-judged : (h : History) (c : Certificate) (version : Version) (level : Level) (size : ℕ) (links : List Link) (least : ℕ) (rest : List Part)
-    (answer : Verdict) → part.Cycle version level size links least ∷ rest ≡ parts_of c
-    → ((near far : List (List ℕ)) → length near ≡ size → rest ≡ map part.Near near ++ map part.Far far
-    → IsAnswer (cycle_rules h (record { version = version; level = level; links = links; least = least; near = near; far = far })) answer)
-    → (claim.Cycle least ≡ claim_of c) × IsVerdict h c answer
-cycle-judged h (certificate.Order v l o s cs) version level size links least rest answer is said = absurd cc
-cycle-judged h (certificate.Cycle v l ls n ns fs) version level size links least rest answer is said =
-    let tail : rest ≡ map part.Near ns ++ map part.Far fs = cc in
-    let long : length ns ≡ size = cc in
-    let whole : certificate.Cycle v l ls n ns fs ≡ certificate.Cycle version level links least ns fs = cc in
-    let same : claim.Cycle least ≡ claim.Cycle n = cc in
-    (same, subst (λ c. IsVerdict h c answer) (sym whole) (verdict_of h (certificate.Cycle version level links least ns fs) answer (said ns fs long tail)))
+-- what is said of a claim and the parts behind it is said of the certificate
+pub judged-behind : (h : History) (bytes : List ℕ) (given : Part) (rest : Parts) (said : Judgement → Type 0) (o : Result Judgement StreamFault)
+    → parts_read bytes ≡ after_part given rest
+    → ((c : Certificate) (judgement : Judgement) → given ∷ rest.parts ≡ parts_of c → said judgement
+    → (judgement.claim ≡ claim_of c) × IsVerdict h c judgement.verdict)
+    → Finishes rest said o → IsJudged h bytes o
+judged-behind h bytes given rest said (Ok judgement) is on done =
+    let whole = read-whole bytes (ap (λ p. p.fault) is ∙ done.0) in
+    let judged = on whole.0 judgement (sym (ap (λ p. p.parts) is) ∙ whole.2) done.1 in
+    (whole.0, whole.1, judged.0, judged.1)
+judged-behind h bytes given rest said (Err fault) is on fails = fault-behind bytes given rest fault is fails
+
+-- where the verdict is on tables of the right sizes, it is that of all rules
+pub sized-answer : (h : History) (k : CycleClaim) (rest : Parts) (found : Option Verdict) (at_once : Bool)
+    → MatchOption found (HasRightSizes h k → ⊥) (IsClaimJudged h k rest) → IsTrue at_once ↔ (rest.parts ≡ []) → IsAnswer (cycle_rules h k) (sized found at_once)
+sized-answer h k rest (Some answer) true judged end =
+    let right = judged.right (end.0 refl) in
+    answer_later (as_whole Sizes (HasRightSizes h k) ∷ []) (claim_rules h k) answer (right.0, tt) right.1
+sized-answer h k rest (Some answer) false judged end = inl (refl, (refl, λ right. false≢true (end.1 (judged.more right))))
+sized-answer h k rest None at_once wrong end = inl (refl, (refl, wrong))
+
+-- the verdict on the parts of a certificate is that on the certificate
+pub order-judged : (h : History) (c : Certificate) (version : Version) (level : Level) (order : List ℕ) (sessions : ℕ) (rest : Parts) (judgement : Judgement)
+    → part.Order version level order sessions ∷ rest.parts ≡ parts_of c → IsOrderJudged h level order sessions rest judgement
+    → (judgement.claim ≡ claim_of c) × IsVerdict h c judgement.verdict
+order-judged h (certificate.Order v l o s cs) version level order sessions rest judgement is said =
+    let tail : rest.parts ≡ map part.Clocks cs = cc in
+    let whole : certificate.Order v l o s cs ≡ certificate.Order version level order sessions cs = cc in (
+      said.same,
+      subst (λ c. IsVerdict h c judgement.verdict) (sym whole)
+          (verdict_of h (certificate.Order version level order sessions cs) judgement.verdict (said.answer cs tail)),
+    )
+order-judged h (certificate.Cycle v l ls n ns fs) version level order sessions rest judgement is said = absurd cc
+
+pub cycle-judged : (h : History) (c : Certificate) (head : CycleHead) (rest : Parts) (judgement : Judgement)
+    → part.Cycle head.version head.level head.count head.links head.least ∷ rest.parts ≡ parts_of c → IsCycleJudged h head rest judgement
+    → (judgement.claim ≡ claim_of c) × IsVerdict h c judgement.verdict
+cycle-judged h (certificate.Order v l o s cs) head rest judgement is said = absurd cc
+cycle-judged h (certificate.Cycle v l ls n ns fs) head rest judgement is said =
+    let tail : rest.parts ≡ map part.Near ns ++ map part.Far fs = cc in
+    let long : length ns ≡ head.count = cc in
+    let whole : certificate.Cycle v l ls n ns fs ≡ certificate.Cycle head.version head.level head.links head.least ns fs = cc in
+    let same : claim.Cycle head.least ≡ claim.Cycle n = cc in (
+      said.same ∙ same,
+      subst (λ c. IsVerdict h c judgement.verdict) (sym whole)
+          (verdict_of h (certificate.Cycle head.version head.level head.links head.least ns fs) judgement.verdict (said.answer ns fs long tail)),
+    )

@@ -1,5 +1,5 @@
 -- What the rules say of the parts of a text that are still to come. Nobody has to believe it: private functions say it to one another.
-use Rattle.std.specs.Prelude.{ℕ, ◌≡◌, ◌≢◌, ◌<◌, List, Option, None, Some, Result, Ok, Err}
+use Rattle.std.specs.Prelude.{ℕ, ◌≡◌, ◌≢◌, ◌<◌, Bool, true, false, List, Option, None, Some, Result, Ok, Err}
 use Rattle.tcc_cert.specs.Ahead.{IsAhead}
 use Rattle.tcc_cert.specs.Collecting.{EndsIn}
 use Rattle.tcc_cert.specs.Parts.{Parts, IsFirst}
@@ -15,7 +15,7 @@ use Rattle.tcc_check.specs.declared.far_rows.FarFaults.{FarFaults}
 use Rattle.tcc_check.specs.declared.near_rows.NearFaults.{NearFaults}
 use Rattle.tcc_check.specs.declared.stream_fault.StreamFault.{StreamFault}
 use Rattle.tcc_check.specs.declared.stream_fault.StreamFault.TheVariants.{Text, NoMemory}
-use Rattle.tcc_check.specs.declared.verdict.Rule.TheVariants.{NearPairs, NearSteps, FarLinks, FarSteps, Returns}
+use Rattle.tcc_check.specs.declared.verdict.Rule.TheVariants.{Sizes, NearPairs, NearSteps, FarLinks, FarSteps, Returns}
 use Rattle.tcc_check.specs.declared.verdict.Verdict.{Verdict}
 use Rattle.tcc_check.specs.declared.verdict.Verdict.TheVariants as verdict
 
@@ -74,6 +74,12 @@ first_of None start (Some end) = Some (start, end)
 abbrev pub first_rejected : Verdict → Verdict → Verdict
 first_rejected verdict.Accepted later = later
 first_rejected (verdict.Rejected rule at) later = verdict.Rejected rule at
+
+-- the verdict on tables, where they have the right sizes and nothing comes behind them
+abbrev pub sized : Option Verdict → Bool → Verdict
+sized (Some said) true = said
+sized (Some said) false = verdict.Rejected Sizes (0, 0)
+sized None at_once = verdict.Rejected Sizes (0, 0)
 
 -- the first broken rule of those on lengths, and where
 abbrev pub near_verdict : Option (ℕ × ℕ) → Option (ℕ × ℕ) → Verdict

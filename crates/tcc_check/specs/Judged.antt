@@ -1,23 +1,36 @@
 -- What the rules say of the tables of a claim, one after the other. Nobody has to believe it: private functions say it to one another.
-use Rattle.std.specs.Prelude.{ℕ, ◌≡◌, List, [], ◌∷◌, length}
+use Rattle.std.specs.Prelude.{ℕ, ◌≡◌, List, [], ◌∷◌, ◌++◌, length, map}
 use Rattle.tcc_reads.specs.History.{History, count}
 use Rattle.tcc_graph.specs.declared.level.Level.{Level}
+use Rattle.tcc_graph.specs.declared.link.Link.{Link}
 use Rattle.tcc_cert.specs.CycleRules.{CycleClaim, HasRightSizes, BreaksNearPair, BreaksNearStep, BreaksFarLink, BreaksFarStep, BreaksReturn}
 use Rattle.tcc_cert.specs.Parts.{Parts}
 use Rattle.tcc_cert.specs.Rules.{IsRightCycle}
 use Rattle.tcc_cert.specs.Tables.{row_of}
+use Rattle.tcc_cert.specs.declared.part.Part.TheVariants as part
 use Rattle.tcc_cert.specs.declared.version.Version.{Version}
-use Rattle.tcc_check.specs.declared.far_rows.FarFaults.{FarFaults}
+use Rattle.tcc_check.specs.declared.judgement.Claim.TheVariants as claim
+use Rattle.tcc_check.specs.declared.judgement.Judgement.{Judgement}
 use Rattle.tcc_check.specs.declared.near_rows.NearJudged.{NearJudged}
 use Rattle.tcc_check.specs.declared.near_rows.NearRows.{NearRows}
 use Rattle.tcc_check.specs.declared.pairs.Pairs.{Pairs}
+use Rattle.tcc_check.specs.declared.streaming.CycleHead.{CycleHead}
 use Rattle.tcc_check.specs.declared.verdict.Rule.TheVariants.{Links, NearPairs, NearSteps, FarLinks, FarSteps, Returns}
 use Rattle.tcc_check.specs.declared.verdict.Verdict.{Verdict}
-use Rattle.tcc_check.specs.Coming.{AreFoundBefore, IsFarRight, IsNearFoundTo, near_verdict}
+use Rattle.tcc_check.specs.Coming.{IsFarRight, IsNearFoundTo, near_verdict}
 use Rattle.tcc_check.specs.Pairs.{AreOrderly}
+use Rattle.tcc_check.specs.Places.{order_claim}
 use Rattle.tcc_check.specs.Runs.{AreRuns}
-use Rattle.tcc_check.specs.Verdicts.{Asked, IsAnswer, IsCycleFault, bounds_rules, by_places}
+use Rattle.tcc_check.specs.Verdicts.{Asked, IsAnswer, IsCycleFault, bounds_rules, by_places, cycle_rules, order_rules}
 use Rattle.tcc_check.specs.WeightsFrom.{AreAllEnds, AreEndsTo, WeighsFrom}
+
+-- what is claimed of links and tables
+abbrev pub cycle_claim : Version → Level → List Link → ℕ → List (List ℕ) → List (List ℕ) → CycleClaim
+cycle_claim version level links least near far = record { version = version; level = level; links = links; least = least; near = near; far = far }
+
+-- the claim of what a text says before its tables, and of these
+abbrev pub claim_with : CycleHead → List (List ℕ) → List (List ℕ) → CycleClaim
+claim_with head near far = cycle_claim head.version head.level head.links head.least near far
 
 -- the rule on links
 abbrev pub links_rules : History → CycleClaim → List Asked
@@ -62,13 +75,7 @@ pub record IsOrderly (h : History) (judged : NearJudged) : Type 0 where
   pub long : length judged.links.items ≡ count h
   pub links : AreOrderly (count h) judged.links.items
 
--- where no part is left behind the rows, they are the whole table, and what was found is all there is
-pub record AreAllFound (h : History) (version : Version) (least : ℕ) (near : List (List ℕ)) (far : List (List ℕ)) (faults : FarFaults)
-    (rest : Parts) : Type 0 where
-  pub right : rest.parts ≡ [] → IsFarRight version (count h) least far × AreFoundBefore h version least near far (count h) faults
-  pub more : IsFarRight version (count h) least far → rest.parts ≡ []
-
--- so the rules on costs say
+-- where no part is left behind the rows of costs, they are the whole table, and the rules on them say so
 pub record IsFarJudged (h : History) (version : Version) (least : ℕ) (near : List (List ℕ)) (far : List (List ℕ)) (rest : Parts)
     (verdict : Verdict) : Type 0 where
   pub right : rest.parts ≡ [] → IsFarRight version (count h) least far × IsAnswer (far_rules h version least near far) verdict
@@ -78,3 +85,15 @@ pub record IsFarJudged (h : History) (version : Version) (least : ℕ) (near : L
 pub record IsClaimJudged (h : History) (k : CycleClaim) (rest : Parts) (verdict : Verdict) : Type 0 where
   pub right : rest.parts ≡ [] → HasRightSizes h k × IsAnswer (claim_rules h k) verdict
   pub more : HasRightSizes h k → rest.parts ≡ []
+
+-- so all rules say, of a claim that a cycle is least, with the tables that come
+pub record IsCycleJudged (h : History) (head : CycleHead) (ahead : Parts) (judgement : Judgement) : Type 0 where
+  pub same : judgement.claim ≡ claim.Cycle head.least
+  pub answer : (near far : List (List ℕ)) → length near ≡ head.count → ahead.parts ≡ map part.Near near ++ map part.Far far
+      → IsAnswer (cycle_rules h (claim_with head near far)) judgement.verdict
+
+-- and of a claim that a list is a commit order, with the clocks that come
+pub record IsOrderJudged (h : History) (level : Level) (order : List ℕ) (sessions : ℕ) (ahead : Parts) (judgement : Judgement) : Type 0 where
+  pub same : judgement.claim ≡ claim.Order
+  pub answer : (clocks : List (List ℕ)) → ahead.parts ≡ map part.Clocks clocks
+      → IsAnswer (order_rules h (order_claim level order sessions clocks)) judgement.verdict

@@ -4,7 +4,7 @@ ghost use Rattle.tcc_reads.specs.History.{count};
 ghost use Rattle.tcc_graph.specs.declared.level.Level.{Level};
 ghost use Rattle.tcc_cert.specs.Tables.{HasSize, HasFarSize, IsCapped};
 ghost use Rattle.tcc_cert.specs.CycleRules.{HasRightSizes};
-ghost use Rattle.tcc_check.specs.Judged.{links_rules};
+ghost use Rattle.tcc_check.specs.Judged.{cycle_claim, links_rules};
 ghost use Rattle.tcc_check.specs.Verdicts.{IsAnswer, bounds_rules, cycle_rules};
 
 use crate::far_rows::far_table;
@@ -26,8 +26,7 @@ fn has_right_sizes(
     near: &[Numbers],
     far: &[Numbers],
 ) -> bool
-    ensures sizes { (level : Level) → IsTrue result ↔ HasRightSizes graph.now
-        (record { version = version; level = level; links = links.now; least = least; near = near.now; far = far.now }) }
+    ensures sizes { (level : Level) → IsTrue result ↔ HasRightSizes graph.now (cycle_claim version level links.now least near.now far.now) }
 {
     let count = graph.count();
     has_size(near, count as usize, count as usize)
@@ -65,8 +64,8 @@ pub(crate) fn links_verdict(
     links: &[Link],
     least: u32,
 ) -> Result<Verdict, NoMemory>
-    ensures { (version : Version) (near far : List (List ℕ)) → IfOk result
-        (IsAnswer (links_rules graph.now (record { version = version; level = level; links = links.now; least = least; near = near; far = far }))) }
+    ensures { (version : Version) (near far : List (List ℕ))
+        → IfOk result (IsAnswer (links_rules graph.now (cycle_claim version level links.now least near far))) }
 {
     if let Some(place) = first_wrong_link(graph, level, links) {
         let Ok(place) = u32::try_from(place) else {
@@ -91,8 +90,7 @@ pub(crate) fn cycle_verdict(
     near: &[Numbers],
     far: &[Numbers],
 ) -> Result<Verdict, NoMemory>
-    ensures { IfOk result
-        (IsAnswer (cycle_rules graph.now (record { version = version; level = level; links = links.now; least = least; near = near.now; far = far.now }))) }
+    ensures { IfOk result (IsAnswer (cycle_rules graph.now (cycle_claim version level links.now least near.now far.now))) }
 {
     if !has_right_sizes(graph, version, links, least, near, far) {
         return Ok(rejected(Rule::Sizes, 0));

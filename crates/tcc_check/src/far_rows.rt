@@ -7,7 +7,7 @@ ghost use Rattle.tcc_cert.specs.Parts.{Parts};
 ghost use Rattle.tcc_cert.specs.Tables.{HasFarSize, IsCapped, row_of, lowest};
 ghost use Rattle.tcc_cert.specs.declared.part.Part.TheVariants as part;
 ghost use Rattle.tcc_check.specs.Coming.{AreFoundBefore, IsFarRight, Leaves, far_verdict};
-ghost use Rattle.tcc_check.specs.Judged.{AreAllFound, AreLinksOf, IsFarJudged, IsOrderly, far_rules};
+ghost use Rattle.tcc_check.specs.Judged.{AreLinksOf, IsFarJudged, IsOrderly, far_rules};
 ghost use Rattle.tcc_check.specs.Verdicts.{IsAnswer};
 
 use crate::StreamFault;
@@ -113,39 +113,8 @@ pub(crate) fn far_table(
     far_verdict(faults)
 }
 
-/// The first broken places in the rows of costs that come, none where there are not so many of the sizes of the version,
-/// or a number is above the cost.
-fn far_rows<R: Read>(
-    alloc: Global,
-    graph: &Graph,
-    parts: &mut CertReader<R>,
-    version: Version,
-    near: &NearJudged,
-    least: u32,
-) -> Result<Option<FarFaults>, StreamFault>
-    requires orderly { IsOrderly graph.now near.now }
-    ensures { (ahead : Parts) → IsAhead R.remaining parts.old ahead
-        → Leaves R.remaining ahead parts.new (λ found rest. (table far : List (List ℕ)) → AreLinksOf graph.now least table near.now
-        → ahead.parts ≡ map part.Far far
-        → MatchOption found (IsFarRight version (count graph.now) least far → ⊥) (λ faults. AreAllFound graph.now version least table far faults rest)) result }
-{
-    let mut faults = NO_FAULTS;
-    let count = graph.count();
-    for start in 0..count {
-        let Part::Far(row) = next_part(alloc, parts)? else {
-            return Ok(None);
-        };
-        let row = row.as_slice();
-        let wide = count - lowest(version, start);
-        if !is_row_right(row, wide as usize, least) {
-            return Ok(None);
-        }
-        faults = with_row(faults, graph, version, near, least, start, row);
-    }
-    Ok(Some(faults))
-}
-
-/// Judges the table of costs that comes, none where it has not the size of the history, or a number above the cost.
+/// Judges the table of costs that comes, none where it has not the sizes of the version, or a number above the cost. One
+/// row of it is held at a time.
 pub(crate) fn judge_far<R: Read>(
     alloc: Global,
     graph: &Graph,
@@ -160,8 +129,18 @@ pub(crate) fn judge_far<R: Read>(
         → ahead.parts ≡ map part.Far far
         → MatchOption found (IsFarRight version (count graph.now) least far → ⊥) (IsFarJudged graph.now version least table far rest)) result }
 {
-    match far_rows(alloc, graph, parts, version, near, least)? {
-        Some(faults) => Ok(Some(far_verdict(faults))),
-        None => Ok(None),
+    let mut faults = NO_FAULTS;
+    let count = graph.count();
+    for start in 0..count {
+        let Part::Far(row) = next_part(alloc, parts)? else {
+            return Ok(None);
+        };
+        let row = row.as_slice();
+        let wide = count - lowest(version, start);
+        if !is_row_right(row, wide as usize, least) {
+            return Ok(None);
+        }
+        faults = with_row(faults, graph, version, near, least, start, row);
     }
+    Ok(Some(far_verdict(faults)))
 }

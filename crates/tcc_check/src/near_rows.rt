@@ -50,11 +50,11 @@ pub(crate) struct NearJudged {
 
 /// What is found with one row more. At `Atomic` no walk has a second step, so the rule on these isn't asked.
 fn with_row(
-    faults: NearFaults,
     graph: &Graph,
     level: Level,
     pairs: &Pairs,
     least: u32,
+    faults: NearFaults,
     start: u32,
     row: &[u32],
 ) -> NearFaults
@@ -100,7 +100,7 @@ fn take_row(
     ensures orderly { OnOk result (AreOrderly (count graph.now) rows.new.links.items) }
     ensures long { OnOk result (length rows.new.links.items ≡ length rows.old.links.items + 1) }
 {
-    rows.faults = with_row(rows.faults, graph, level, pairs, least, start, row);
+    rows.faults = with_row(graph, level, pairs, least, rows.faults, start, row);
     rows.links
         .push(link_ends(alloc, graph, row, start, least)?)?;
     Ok(())
@@ -165,40 +165,6 @@ pub(crate) fn near_table(
     Ok(judged(pairs, rows))
 }
 
-/// What is kept of the rows of lengths that come, none where they are not those of a table of the size of the history, or
-/// a number is above the cost.
-fn near_rows<R: Read>(
-    alloc: Global,
-    graph: &Graph,
-    parts: &mut CertReader<R>,
-    level: Level,
-    pairs: &Pairs,
-    least: u32,
-) -> Result<Option<NearRows>, StreamFault>
-    requires pairs { ArePairs graph.now least pairs.now }
-    ensures orderly { IfOk result
-        (λ found. IfSome found (λ rows. (length rows.links.items ≡ count graph.now) × AreOrderly (count graph.now) rows.links.items)) }
-    ensures parts { (ahead : Parts) → IsAhead R.remaining parts.old ahead
-        → Leaves R.remaining ahead parts.new (λ found rest. (near far : List (List ℕ)) → length near ≡ count graph.now
-        → ahead.parts ≡ map part.Near near ++ map part.Far far
-        → MatchOption found (IsNearRight (count graph.now) least near → ⊥)
-        (λ rows. IsNearRight (count graph.now) least near × AreNearRowsTo graph.now level least near (count graph.now) rows
-        × (rest.parts ≡ map part.Far far))) result }
-{
-    let mut rows = no_rows(alloc);
-    for start in 0..graph.count() {
-        let Part::Near(row) = next_part(alloc, parts)? else {
-            return Ok(None);
-        };
-        let row = row.as_slice();
-        if !is_row_right(row, graph.count() as usize, least) {
-            return Ok(None);
-        }
-        take_row(alloc, graph, level, pairs, least, start, row, &mut rows)?;
-    }
-    Ok(Some(rows))
-}
-
 /// Judges the table of lengths that comes, none where it has not the size of the history, or a number above the cost. One
 /// row of it is held at a time.
 pub(crate) fn judge_near<R: Read>(
@@ -216,8 +182,16 @@ pub(crate) fn judge_near<R: Read>(
         (λ judged. IsNearRight (count graph.now) least near × IsNearJudged graph.now level least near judged × (rest.parts ≡ map part.Far far))) result }
 {
     let pairs = pairs_of(alloc, graph, least)?;
-    let Some(rows) = near_rows(alloc, graph, parts, level, &pairs, least)? else {
-        return Ok(None);
-    };
+    let mut rows = no_rows(alloc);
+    for start in 0..graph.count() {
+        let Part::Near(row) = next_part(alloc, parts)? else {
+            return Ok(None);
+        };
+        let row = row.as_slice();
+        if !is_row_right(row, graph.count() as usize, least) {
+            return Ok(None);
+        }
+        take_row(alloc, graph, level, &pairs, least, start, row, &mut rows)?;
+    }
     Ok(Some(judged(pairs, rows)))
 }

@@ -1,14 +1,12 @@
 //! The judgement of a certificate as its text comes.
-ghost use Rattle.std.specs.Prelude.{◌≡◌, ◌++◌, All, IfOk, IfSome, List, MatchOption, [], false, true, length, map, ℕ};
-ghost use Rattle.tcc_reads.specs.History.{count};
+ghost use Rattle.std.specs.Prelude.{◌≡◌, ◌++◌, IfSome, List, MatchOption, false, true, length, map, ℕ};
 ghost use Rattle.tcc_cert.specs.Ahead.{IsAhead, is_new};
-ghost use Rattle.tcc_cert.specs.CycleRules.{HasRightSizes, IsLinkBelow};
+ghost use Rattle.tcc_cert.specs.CycleRules.{HasRightSizes};
 ghost use Rattle.tcc_cert.specs.Parts.{Parts, parts_read};
 ghost use Rattle.tcc_cert.specs.declared.part.Part.TheVariants as part;
-ghost use Rattle.tcc_check.specs.Coming.{Finishes, Leaves};
-ghost use Rattle.tcc_check.specs.Judged.{IsClaimJudged};
+ghost use Rattle.tcc_check.specs.Coming.{Finishes, Leaves, sized};
+ghost use Rattle.tcc_check.specs.Judged.{IsClaimJudged, IsCycleJudged, IsOrderJudged, claim_with};
 ghost use Rattle.tcc_check.specs.Streams.{IsJudged, IsStreamed};
-ghost use Rattle.tcc_check.specs.Verdicts.{IsAnswer, cycle_rules, order_rules};
 
 use crate::coming::{clock_rows, ends, next_part};
 use crate::cycle::links_verdict;
@@ -20,8 +18,18 @@ use crate::verdict::{Rule, first_rejected, rejected};
 use crate::{Claim, Judgement, StreamFault, Verdict};
 use std::alloc::Global;
 use std::io::Read;
-use tcc_cert::{CertReader, Part, Version};
-use tcc_graph::{Graph, Level, Link};
+use tcc_cert::{CertReader, Links, Part, Version};
+use tcc_graph::{Graph, Level};
+
+/// What a text says of a claim that a cycle is least, before its tables: each of them is to have `count` rows.
+#[derive(Drop)]
+struct CycleHead {
+    version: Version,
+    level: Level,
+    count: u32,
+    links: Links,
+    least: u32,
+}
 
 /// What the rules behind that on sizes say of a claim that a cycle is least, whose tables come; none where the rule on
 /// sizes is broken.
@@ -29,31 +37,43 @@ fn judge_tables<R: Read>(
     alloc: Global,
     graph: &Graph,
     parts: &mut CertReader<R>,
-    version: Version,
-    level: Level,
-    count: u32,
-    links: &[Link],
-    least: u32,
+    head: &CycleHead,
 ) -> Result<Option<Verdict>, StreamFault>
     ensures { (ahead : Parts) → IsAhead R.remaining parts.old ahead
-        → Leaves R.remaining ahead parts.new (λ found rest. (near far : List (List ℕ)) → length near ≡ count
+        → Leaves R.remaining ahead parts.new (λ found rest. (near far : List (List ℕ)) → length near ≡ head.now.count
         → ahead.parts ≡ map part.Near near ++ map part.Far far
-        → MatchOption found
-        (HasRightSizes graph.now (record { version = version; level = level; links = links.now; least = least; near = near; far = far }) → ⊥)
-        (IsClaimJudged graph.now (record { version = version; level = level; links = links.now; least = least; near = near; far = far }) rest)) result }
+        → MatchOption found (HasRightSizes graph.now (claim_with head.now near far) → ⊥)
+        (IsClaimJudged graph.now (claim_with head.now near far) rest)) result }
 {
-    if count != graph.count() || !are_links_below(links, count) {
+    let links = head.links.as_slice();
+    if head.count != graph.count() || !are_links_below(links, head.count) {
         return Ok(None);
     }
-    let of_links = links_verdict(graph, level, links, least)?;
-    let Some(near) = judge_near(alloc, graph, parts, level, least)? else {
+    let of_links = links_verdict(graph, head.level, links, head.least)?;
+    let Some(near) = judge_near(alloc, graph, parts, head.level, head.least)? else {
         return Ok(None);
     };
-    let Some(of_far) = judge_far(alloc, graph, parts, version, &near, least)? else {
+    let Some(of_far) = judge_far(alloc, graph, parts, head.version, &near, head.least)? else {
         return Ok(None);
     };
     let of_tables = first_rejected(near.verdict, of_far);
     Ok(Some(first_rejected(of_links, of_tables)))
+}
+
+/// The verdict on tables, where they have the right sizes and nothing comes behind them.
+fn sized(found: Option<Verdict>, at_once: bool) -> Verdict
+    ensures { result ≡ sized found at_once }
+{
+    match found {
+        Some(verdict) => {
+            if at_once {
+                verdict
+            } else {
+                rejected(Rule::Sizes, 0)
+            }
+        }
+        None => rejected(Rule::Sizes, 0),
+    }
 }
 
 /// Judges a claim that a cycle is least, whose tables come.
@@ -61,29 +81,15 @@ fn judge_cycle<R: Read>(
     alloc: Global,
     graph: &Graph,
     parts: &mut CertReader<R>,
-    version: Version,
-    level: Level,
-    count: u32,
-    links: &[Link],
-    least: u32,
-) -> Result<Verdict, StreamFault>
-    ensures { (ahead : Parts) → IsAhead R.remaining parts.old ahead
-        → Finishes ahead (λ verdict. (near far : List (List ℕ)) → length near ≡ count → ahead.parts ≡ map part.Near near ++ map part.Far far
-        → IsAnswer (cycle_rules graph.now (record { version = version; level = level; links = links.now; least = least; near = near; far = far })) verdict)
-        result }
+    head: &CycleHead,
+) -> Result<Judgement, StreamFault>
+    ensures { (ahead : Parts) → IsAhead R.remaining parts.old ahead → Finishes ahead (IsCycleJudged graph.now head.now ahead) result }
 {
-    let found = judge_tables(alloc, graph, parts, version, level, count, links, least)?;
+    let found = judge_tables(alloc, graph, parts, head)?;
     let at_once = ends(alloc, parts)?;
-    match found {
-        Some(verdict) => {
-            if at_once {
-                Ok(verdict)
-            } else {
-                Ok(rejected(Rule::Sizes, 0))
-            }
-        }
-        None => Ok(rejected(Rule::Sizes, 0)),
-    }
+    let claim = Claim::Cycle { least: head.least };
+    let verdict = sized(found, at_once);
+    Ok(Judgement { claim, verdict })
 }
 
 /// Judges a claim that a list is a commit order, whose clocks come.
@@ -94,14 +100,14 @@ fn judge_order<R: Read>(
     level: Level,
     order: &[u32],
     sessions: u32,
-) -> Result<Verdict, StreamFault>
+) -> Result<Judgement, StreamFault>
     requires { is_new parts.old ≡ false }
-    ensures { (ahead : Parts) → IsAhead R.remaining parts.old ahead → Finishes ahead (λ verdict. (clocks : List (List ℕ)) → ahead.parts ≡ map part.Clocks clocks
-        → IsAnswer (order_rules graph.now (record { level = level; order = order.now; sessions = sessions; clocks = clocks })) verdict) result }
+    ensures { (ahead : Parts) → IsAhead R.remaining parts.old ahead → Finishes ahead (IsOrderJudged graph.now level order.now sessions ahead) result }
 {
     let clocks = clock_rows(alloc, parts)?;
     let verdict = order_verdict(alloc, graph, level, order, sessions, clocks.rows())?;
-    Ok(verdict)
+    let claim = Claim::Order;
+    Ok(Judgement { claim, verdict })
 }
 
 /// Judges what is still to come of a new reader.
@@ -121,11 +127,7 @@ fn judge_parts<R: Read>(
             ..
         } => {
             let order = order.as_slice();
-            let verdict = judge_order(alloc, graph, parts, level, order, sessions)?;
-            Ok(Judgement {
-                claim: Claim::Order,
-                verdict,
-            })
+            judge_order(alloc, graph, parts, level, order, sessions)
         }
         Part::Cycle {
             version,
@@ -134,12 +136,14 @@ fn judge_parts<R: Read>(
             links,
             least,
         } => {
-            let links = links.as_slice();
-            let verdict = judge_cycle(alloc, graph, parts, version, level, count, links, least)?;
-            Ok(Judgement {
-                claim: Claim::Cycle { least },
-                verdict,
-            })
+            let head = CycleHead {
+                version,
+                level,
+                count,
+                links,
+                least,
+            };
+            judge_cycle(alloc, graph, parts, &head)
         }
         Part::Clocks(_) | Part::Near(_) | Part::Far(_) | Part::End => unreachable!(),
     }

@@ -1,7 +1,7 @@
 -- The sizes, then the links, then the tables.
 use Rattle.std.proofs.Common.{[], ◌∷◌, rules}
-use Rattle.tcc_cert.specs.CycleRules.{CycleClaim, HasRightSizes}
-use Rattle.tcc_check.specs.Judged.{claim_rules, links_rules}
+use Rattle.tcc_cert.specs.CycleRules.{HasRightSizes}
+use Rattle.tcc_check.specs.Judged.{claim_rules, cycle_claim, links_rules}
 use Rattle.tcc_check.specs.Verdicts.{as_whole, bounds_rules}
 use Rattle.tcc_check.specs.declared.verdict.Rule.TheVariants.{Sizes}
 use Rattle.tcc_check.proofs.Asked.{all_hold, answer_early, answer_later, ok_later}
@@ -13,14 +13,7 @@ returns-then-not-has_right_sizes c = let sizes = c.has_right_sizes.ensures.sizes
 pub returns-in_default : goal.returns-in_default
 returns-in_default c =
     let h = c.args.graph.now in
-    let k : CycleClaim = record {
-      version = c.args.version;
-      level = c.args.level;
-      links = c.args.links.now;
-      least = c.args.least;
-      near = c.args.near.now;
-      far = c.args.far.now;
-    } in
+    let k = cycle_claim c.args.version c.args.level c.args.links.now c.args.least c.args.near.now c.args.far.now in
     let sizes = (c.has_right_sizes.ensures.sizes c.args.level).0 c.if-not-has_right_sizes.false in
     answer_later (as_whole Sizes (HasRightSizes h k) ∷ []) (claim_rules h k) c.in_ok-of_links.of_links (sizes, tt)
     (answer_early (links_rules h k) (bounds_rules h k.version k.level k.least k.near k.far) c.in_ok-of_links.of_links c.in_default.not-Accepted
@@ -41,14 +34,7 @@ bounds_verdict-requires-clause-far_capped c = ((c.has_right_sizes.ensures.sizes 
 pub returns : goal.returns
 returns c =
     let h = c.args.graph.now in
-    let k : CycleClaim = record {
-      version = c.args.version;
-      level = c.args.level;
-      links = c.args.links.now;
-      least = c.args.least;
-      near = c.args.near.now;
-      far = c.args.far.now;
-    } in
+    let k = cycle_claim c.args.version c.args.level c.args.links.now c.args.least c.args.near.now c.args.far.now in
     let sizes = (c.has_right_sizes.ensures.sizes c.args.level).0 c.if-not-has_right_sizes.false in
     let right =
     all_hold (links_rules h k) c.in_ok-of_links.of_links c.in-Accepted.is (c.in_ok-of_links.ensures c.args.version c.args.near.now c.args.far.now) in

@@ -1,10 +1,10 @@
 -- The claim, and then what comes behind it.
-use Rattle.std.proofs.Common.{ap, sym, ◌∙◌}
 use Rattle.std.proofs.lemmas.Result.{err_from_is_err_and}
 use Rattle.tcc_cert.specs.Parts.{parts_read}
-use Rattle.tcc_cert.proofs.PartFacts.{read-whole}
-use Rattle.tcc_check.proofs.ComingFacts.{fails-back}
-use Rattle.tcc_check.proofs.JudgedFacts.{cycle-judged, order-judged, stream-fault}
+use Rattle.tcc_cert.specs.declared.part.Part.TheVariants as part
+use Rattle.tcc_check.specs.Judged.{IsCycleJudged, IsOrderJudged}
+use Rattle.tcc_check.specs.declared.streaming.CycleHead.{CycleHead}
+use Rattle.tcc_check.proofs.JudgedFacts.{cycle-judged, judged-behind, order-judged, stream-fault}
 use Rattle.tcc_check.proofs.streaming.judge_parts.Goals as goal
 
 pub returns-in_err-level : goal.returns-in_err-level
@@ -12,36 +12,26 @@ returns-in_err-level g c bytes is =
     let p = err_from_is_err_and c.from_residual.result c.from_residual.ensures.1 in
     rw (p.1, p.2) (stream-fault bytes _ (c.in_err-level.ensures.parts (parts_read bytes) is))
 
-pub returns-in_err-verdict-in-Order : goal.returns-in_err-verdict-in-Order
-returns-in_err-verdict-in-Order g c bytes is =
-    let p = err_from_is_err_and c.from_residual-in_err-verdict-in-Order.result c.from_residual-in_err-verdict-in-Order.ensures.1 in
-    let taken = rw c.in-Order.is at (c.in_ok-level.ensures.parts (parts_read bytes) is) in
-    rw (p.1, p.2) (stream-fault bytes _ (fails-back (parts_read bytes) taken.0 _ (sym (ap (λ p. p.line) taken.1)) (sym (ap (λ p. p.fault) taken.1))
-    (c.in_err-verdict-in-Order.ensures taken.0 taken.2)))
+pub returns-in-Order : goal.returns-in-Order
+returns-in-Order g c bytes is =
+    let h = c.args.graph.now in
+    let claim = c.in-Order in
+    let taken = rw claim.is at (c.in_ok-level.ensures.parts (parts_read bytes) is) in
+    judged-behind h bytes (part.Order claim.version claim.level claim.order claim.sessions) taken.0
+    (IsOrderJudged h claim.level claim.order claim.sessions taken.0) c.judge_order.result taken.1
+    (λ k judgement. order-judged h k claim.version claim.level claim.order claim.sessions taken.0 judgement)
+    (rw (← c.as_slice-order.ensures) (c.judge_order.ensures taken.0 taken.2))
 
-pub returns-in_err-verdict-in-Cycle : goal.returns-in_err-verdict-in-Cycle
-returns-in_err-verdict-in-Cycle g c bytes is =
-    let p = err_from_is_err_and c.from_residual-in_err-verdict-in-Cycle.result c.from_residual-in_err-verdict-in-Cycle.ensures.1 in
+pub returns-in-Cycle : goal.returns-in-Cycle
+returns-in-Cycle g c bytes is =
+    let h = c.args.graph.now in
     let taken = rw c.in-Cycle.is at (c.in_ok-level.ensures.parts (parts_read bytes) is) in
-    rw (p.1, p.2) (stream-fault bytes _ (fails-back (parts_read bytes) taken.0 _ (sym (ap (λ p. p.line) taken.1)) (sym (ap (λ p. p.fault) taken.1))
-    (c.in_err-verdict-in-Cycle.ensures taken.0 taken.2)))
-
-pub returns-in_ok-verdict-in-Order : goal.returns-in_ok-verdict-in-Order
-returns-in_ok-verdict-in-Order g c bytes is =
-    let taken = rw c.in-Order.is at (c.in_ok-level.ensures.parts (parts_read bytes) is) in
-    let said = rw c.as_slice-order.ensures at (c.in_ok-verdict-in-Order.ensures taken.0 taken.2) in
-    let whole = read-whole bytes (ap (λ p. p.fault) taken.1 ∙ said.0) in
-    let judged =
-    order-judged c.args.graph.now whole.0 c.in-Order.version c.in-Order.level c.in-Order.order c.in-Order.sessions taken.0.parts
-    c.in_ok-verdict-in-Order.verdict (sym (ap (λ p. p.parts) taken.1) ∙ whole.2) said.1 in
-    (whole.0, whole.1, judged.0, judged.1)
-
-pub returns-in_ok-verdict-in-Cycle : goal.returns-in_ok-verdict-in-Cycle
-returns-in_ok-verdict-in-Cycle g c bytes is =
-    let taken = rw c.in-Cycle.is at (c.in_ok-level.ensures.parts (parts_read bytes) is) in
-    let said = rw c.as_slice-links.ensures at (c.in_ok-verdict-in-Cycle.ensures taken.0 taken.2) in
-    let whole = read-whole bytes (ap (λ p. p.fault) taken.1 ∙ said.0) in
-    let judged =
-    cycle-judged c.args.graph.now whole.0 c.in-Cycle.version c.in-Cycle.level c.in-Cycle.count c.in-Cycle.links c.in-Cycle.least taken.0.parts
-    c.in_ok-verdict-in-Cycle.verdict (sym (ap (λ p. p.parts) taken.1) ∙ whole.2) said.1 in
-    (whole.0, whole.1, judged.0, judged.1)
+    let head : CycleHead = record {
+      version = c.in-Cycle.version;
+      level = c.in-Cycle.level;
+      count = c.in-Cycle.count;
+      links = c.in-Cycle.links;
+      least = c.in-Cycle.least;
+    } in
+    judged-behind h bytes (part.Cycle head.version head.level head.count head.links head.least) taken.0 (IsCycleJudged h head taken.0)
+    c.judge_cycle.result taken.1 (λ k judgement. cycle-judged h k head taken.0 judgement) (c.judge_cycle.ensures taken.0 taken.2)

@@ -1,10 +1,10 @@
 -- One table after the other.
-use Rattle.std.proofs.Common.{◌++◌, ℕ, subst, ◌∙◌}
+use Rattle.std.proofs.Common.{◌++◌, ◌∙◌}
 use Rattle.std.specs.Prelude.{All}
 use Rattle.tcc_reads.specs.History.{count}
-use Rattle.tcc_cert.specs.CycleRules.{CycleClaim, IsLinkBelow}
+use Rattle.tcc_cert.specs.CycleRules.{IsLinkBelow}
 use Rattle.tcc_check.specs.Coming.{first_rejected}
-use Rattle.tcc_check.specs.Judged.{far_rules, links_rules, near_rules}
+use Rattle.tcc_check.specs.Judged.{claim_with, far_rules, links_rules, near_rules}
 use Rattle.tcc_check.proofs.Asked.{answer_first}
 use Rattle.tcc_check.proofs.streaming.judge_tables.Goals as goal
 
@@ -15,7 +15,7 @@ returns-in_default g c ahead is =
       said.1,
       said.2,
       said.3,
-      λ near far long split right. said.4 near far (long ∙ c.if-count.false ∙ c.count.ensures.value) split
+      λ near far long split right. said.4 near far (long ∙ c.if-head-count.false ∙ c.count.ensures.value) split
           (right.near, right.near_capped),
     )
 
@@ -31,13 +31,14 @@ returns-in_default-2 g c ahead is =
       of_far.2 ∙ of_near.2,
       of_far.3,
       λ near far long split right.
-          let one = of_near.4 near far (long ∙ c.if-count.false ∙ c.count.ensures.value) split in
+          let one = of_near.4 near far (long ∙ c.if-head-count.false ∙ c.count.ensures.value) split in
           of_far.4 near far one.1.links one.2 (right.far, right.far_capped),
     )
 
 pub returns : goal.returns
 returns g c ahead is =
     let h = c.args.graph.now in
+    let head = c.args.head.now in
     let of_near = rw c.in-Some.is at (c.in_ok-near.ensures.parts ahead is) in
     let of_far = rw c.in-Some-2.is at (c.in_ok-of_far.ensures of_near.0 of_near.3) in (
       of_far.0,
@@ -45,29 +46,21 @@ returns g c ahead is =
       of_far.2 ∙ of_near.2,
       of_far.3,
       λ near far long split.
-          let k : CycleClaim = record {
-            version = c.args.version;
-            level = c.args.level;
-            links = c.args.links.now;
-            least = c.args.least;
-            near = near;
-            far = far;
-          } in
-          let one = of_near.4 near far (long ∙ c.if-count.false ∙ c.count.ensures.value) split in
+          let k = claim_with head near far in
+          let one = of_near.4 near far (long ∙ c.if-head-count.false ∙ c.count.ensures.value) split in
           let two = of_far.4 near far one.1.links one.2 in
-          let below : All (IsLinkBelow (count h)) c.args.links.now =
-          subst (λ (n : ℕ). All (IsLinkBelow n) c.args.links.now) (c.if-count.false ∙ c.count.ensures.value)
-          (c.are_links_below.ensures.0 c.if-not-are_links_below.false) in
+          let below : All (IsLinkBelow (count h)) head.links =
+          rw (← c.count.ensures.value, ← c.if-head-count.false, ← c.as_slice-links.ensures) (c.are_links_below.ensures.0 c.if-not-are_links_below.false) in
           record {
             right = λ end.
                 let last = two.right end in (
                   record { near = one.0.0; far = last.0.0; links = below; near_capped = one.0.1; far_capped = last.0.1 },
                   rw (c.first_rejected.ensures, c.first_rejected-of_tables.ensures)
-                      (answer_first (links_rules h k) (near_rules h c.args.level near ++ far_rules h c.args.version c.args.least near far)
+                      (answer_first (links_rules h k) (near_rules h head.level near ++ far_rules h head.version head.least near far)
                       c.in_ok-of_links.of_links (first_rejected c.in-Some.near.verdict c.in-Some-2.of_far)
-                      (c.in_ok-of_links.ensures c.args.version near far)
-                      (answer_first (near_rules h c.args.level near)
-                      (far_rules h c.args.version c.args.least near far) c.in-Some.near.verdict c.in-Some-2.of_far one.1.answer last.1)),
+                      (rw (← c.as_slice-links.ensures) (c.in_ok-of_links.ensures head.version near far))
+                      (answer_first (near_rules h head.level near)
+                      (far_rules h head.version head.least near far) c.in-Some.near.verdict c.in-Some-2.of_far one.1.answer last.1)),
                 );
             more = λ right. two.more (right.far, right.far_capped);
           },

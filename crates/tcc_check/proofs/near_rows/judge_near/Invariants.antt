@@ -6,7 +6,7 @@ use Rattle.tcc_cert.specs.Parts.{Parts}
 use Rattle.tcc_check.specs.Judged.{AreNearRowsTo}
 use Rattle.tcc_check.specs.Pairs.{AreOrderly}
 use Rattle.tcc_check.proofs.NearBehind.{AreNearBehind}
-use Rattle.tcc_check.proofs.near_rows.near_rows.Given as goal
+use Rattle.tcc_check.proofs.near_rows.judge_near.Given as goal
 
 abbrev pub invariant-loop-start : goal.invariant-loop-start
 invariant-loop-start g l =

@@ -6,7 +6,7 @@ use Rattle.tcc_cert.specs.Parts.{Parts}
 use Rattle.tcc_check.specs.Coming.{AreFoundBefore}
 use Rattle.tcc_check.specs.Judged.{AreLinksOf}
 use Rattle.tcc_check.proofs.FarBehind.{AreFarBehind}
-use Rattle.tcc_check.proofs.far_rows.far_rows.Given as goal
+use Rattle.tcc_check.proofs.far_rows.judge_far.Given as goal
 
 abbrev pub invariant-loop-start : goal.invariant-loop-start
 invariant-loop-start g l =

@@ -1,0 +1,19 @@
+-- What was found in the tables is the verdict, where nothing came behind them.
+use Rattle.std.proofs.Common.{refl, sym, ◌∙◌}
+use Rattle.tcc_check.specs.Judged.{claim_with}
+use Rattle.tcc_check.proofs.JudgedFacts.{sized-answer}
+use Rattle.tcc_check.proofs.streaming.judge_cycle.Goals as goal
+
+pub returns : goal.returns
+returns g c ahead is =
+    let left = c.in_ok-found.ensures ahead is in
+    let end = c.in_ok-at_once.ensures left.0 left.3 in (
+      sym left.2 ∙ end.0,
+      record {
+        same = refl;
+        answer = λ near far long split.
+            rw c.sized-verdict.ensures
+            (sized-answer c.args.graph.now (claim_with c.args.head.now near far) left.0 c.in_ok-found.found c.in_ok-at_once.at_once
+            (left.4 near far long split) end.1);
+      },
+    )
