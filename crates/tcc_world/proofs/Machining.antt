@@ -43,9 +43,13 @@ search_at m w desk e = ap (λ (a : Worker). a.search) (desk_at m w desk e)
 pub idle_search : (m : Machine) (w : ℕ) (desk : Desk) → slice_get m.desks w ≡ Some desk → desk.search ≡ None → search_of (world_of m) w ≡ None
 idle_search m w desk e idle = search_at m w desk e ∙ ap (option_map searching_by) idle
 
-pub begun_search : (m : Machine) (w : ℕ) (desk : Desk) (b : Begun) → slice_get m.desks w ≡ Some desk → desk.search ≡ Some b
-    → search_of (world_of m) w ≡ Some (searching_by b)
-begun_search m w desk b e has = search_at m w desk e ∙ ap (option_map searching_by) has
+-- worker w has this desk, and holds this search there
+pub record IsHeld (m : Machine) (w : ℕ) (desk : Desk) (b : Begun) : Type 0 where
+  pub at : slice_get m.desks w ≡ Some desk
+  pub has : desk.search ≡ Some b
+
+pub begun_search : {m : Machine} {w : ℕ} {desk : Desk} {b : Begun} → IsHeld m w desk b → search_of (world_of m) w ≡ Some (searching_by b)
+begun_search {m} {w} {desk} holds = search_at m w desk holds.at ∙ ap (option_map searching_by) holds.has
 
 -- ---- one desk changes
 
@@ -72,8 +76,8 @@ pub found : (s : Inside) (w : ℕ) (desk : Desk) → w < s.desks.len → desk �
 found s w desk within here = got s.desks.items w s.desks.len desk within s.desks.ok.0 here
 
 pub held : {taken : Option Begun} (s : Inside) (w : ℕ) (desk : Desk) (b : Begun) → w < s.desks.len → desk ≡ get_or s.desks.items w desk → taken ≡ desk.search
-    → taken ≡ Some b → (slice_get (machine_in s).desks w ≡ Some desk) × (desk.search ≡ Some b)
-held s w desk b within here took has = (found s w desk within here, sym took ∙ has)
+    → taken ≡ Some b → IsHeld (machine_in s) w desk b
+held s w desk b within here took has = record { at = found s w desk within here; has = sym took ∙ has }
 
 pub some_is : {X : Type 0} (o : Option X) → true ≡ is_some o → (x : X) × (o ≡ Some x)
 some_is None e = absurd (false≢true (sym e))
@@ -87,11 +91,10 @@ contains_got [] w desk e = absurd (none-some desk e)
 contains_got (d ∷ desks) zero desk e = (0, omega arith, same_Some d desk e)
 contains_got (d ∷ desks) (suc w) desk e = let (k, within, here) = contains_got desks w desk e in (suc k, omega arith, here)
 
-pub search_is : (j : Judged) (m : Machine) (w : ℕ) (desk : Desk) (b : Begun) → IsMachineOf j m → slice_get m.desks w ≡ Some desk → desk.search ≡ Some b
-    → IsSearchOf j b.search.start b.search
-search_is j m w desk b is e has =
-    subst (λ (o : Option Begun). IsSearchingOf j o) has
-    (All-contains (λ desk. IsSearchingOf j desk.search) m.desks desk is.searches (contains_got m.desks w desk e))
+pub search_is : {j : Judged} {m : Machine} {w : ℕ} {desk : Desk} {b : Begun} → IsMachineOf j m → IsHeld m w desk b → IsSearchOf j b.search.start b.search
+search_is {j} {m} {w} {desk} is holds =
+    subst (λ (o : Option Begun). IsSearchingOf j o) holds.has
+    (All-contains (λ desk. IsSearchingOf j desk.search) m.desks desk is.searches (contains_got m.desks w desk holds.at))
 
 -- another desk that stands for the same worker
 same_desks : (desks : List Desk) (w : ℕ) (old new : Desk) → slice_get desks w ≡ Some old → worker_of new ≡ worker_of old
@@ -146,28 +149,28 @@ take_made j m left w s old new is e idle here taken same empty =
           ∙ ap (λ (l : List ℕ). record { word = m.word; left = l; seeds = seeds_of m.seed; workers = set (map worker_of m.desks) w a }) taken,
     )
 
-pub look_made : (m : Machine) (w : ℕ) (old : Desk) (b : Begun) → slice_get m.desks w ≡ Some old → old.search ≡ Some b
+pub look_made : {m : Machine} {w : ℕ} {old : Desk} {b : Begun} → IsHeld m w old b
     → Looks (world_of m) w (world_of (after m m.word m.left w (record { sight = m.word; offers = old.offers; finished = old.finished; search = old.search })))
-look_made m w old b e has = (
+look_made {m} {w} {old} {b} holds = (
   searching_by b,
-  begun_search m w old b e has,
+  begun_search holds,
   made m m.word m.left w (record { sight = m.word; offers = old.offers; finished = old.finished; search = old.search })
-      (seeing (worker_at (world_of m) w) m.word) (ap (λ (a : Worker). seeing a m.word) (sym (desk_at m w old e))),
+      (seeing (worker_at (world_of m) w) m.word) (ap (λ (a : Worker). seeing a m.word) (sym (desk_at m w old holds.at))),
 )
 
-pub settle_made : (j : Judged) (m : Machine) (w : ℕ) (old : Desk) (b new : Begun) → slice_get m.desks w ≡ Some old → old.search ≡ Some b → b.stage ≡ stage.Open
+pub settle_made : {m : Machine} {w : ℕ} {old : Desk} {b : Begun} (j : Judged) (new : Begun) → IsHeld m w old b → b.stage ≡ stage.Open
     → new.search.start ≡ b.search.start → Grows j b.search.start old.sight b.search.row new.search.row new.stage
     → TakesStep j (world_of m) w (world_of
     (after m m.word m.left w (record { sight = old.sight; offers = old.offers; finished = old.finished; search = Some new })))
-settle_made j m w old b new e has going same grows =
+settle_made {m} {w} {old} {b} j new holds going same grows =
     let a = searching (worker_at (world_of m) w) (Some (record { start = b.search.start; row = new.search.row; stage = new.stage })) in
     let desk : Desk = record { sight = old.sight; offers = old.offers; finished = old.finished; search = Some new } in
     let now : worker_of desk ≡ a
     = ap (λ (z : ℕ). searching (worker_of old) (Some (record { start = z; row = new.search.row; stage = new.stage }))) same
-    ∙ ap (λ (x : Worker). searching x (Some (record { start = b.search.start; row = new.search.row; stage = new.stage }))) (sym (desk_at m w old e)) in
-    let seen : old.sight ≡ (worker_at (world_of m) w).share.sight = ap (λ (x : Worker). x.share.sight) (sym (desk_at m w old e)) in (
+    ∙ ap (λ (x : Worker). searching x (Some (record { start = b.search.start; row = new.search.row; stage = new.stage }))) (sym (desk_at m w old holds.at)) in
+    let seen : old.sight ≡ (worker_at (world_of m) w).share.sight = ap (λ (x : Worker). x.share.sight) (sym (desk_at m w old holds.at)) in (
       searching_by b,
-      begun_search m w old b e has,
+      begun_search holds,
       going,
       new.search.row,
       new.stage,
@@ -175,7 +178,7 @@ settle_made j m w old b new e has going same grows =
       made m m.word m.left w desk a now,
     )
 
-pub offer_made : (m : Machine) (w c low : ℕ) (old : Desk) (offers : Vec ℕ) (b : Begun) → slice_get m.desks w ≡ Some old → old.search ≡ Some b
+pub offer_made : {m : Machine} {w : ℕ} {old : Desk} {b : Begun} (c low : ℕ) (offers : Vec ℕ) → IsHeld m w old b
     → HasReturned b.stage c → low ≡ lowered m.word c → offers.items ≡ old.offers.items ++ c ∷ []
     → Offers (world_of m) w c (world_of
     (after m (Some low) m.left w (record {
@@ -184,7 +187,7 @@ pub offer_made : (m : Machine) (w c low : ℕ) (old : Desk) (offers : Vec ℕ) (
       finished = old.finished;
       search = Some (record { search = b.search; stage = stage.Offered c });
     })))
-offer_made m w c low old offers b e has returned least pushed =
+offer_made {m} {w} {old} {b} c low offers holds returned least pushed =
     let l = lowered m.word c in
     let a = offering (worker_at (world_of m) w) (searching_by b) c l in
     let desk : Desk
@@ -195,9 +198,9 @@ offer_made m w c low old offers b e has returned least pushed =
       search = Some (record { start = b.search.start; row = b.search.row; stage = stage.Offered c });
     }) pushed
     ∙ ap (λ (z : ℕ). offering (worker_of old) (searching_by b) c z) least
-    ∙ ap (λ (x : Worker). offering x (searching_by b) c l) (sym (desk_at m w old e)) in (
+    ∙ ap (λ (x : Worker). offering x (searching_by b) c l) (sym (desk_at m w old holds.at)) in (
       searching_by b,
-      begun_search m w old b e has,
+      begun_search holds,
       returned,
       made m (Some low) m.left w desk a now
           ∙ ap (λ (z : ℕ). record { word = Some z; left = m.left; seeds = seeds_of m.seed; workers = set (map worker_of m.desks) w a }) least,
@@ -208,10 +211,10 @@ finished_more : (fs : List Begun) (b : Begun) (stop : Stop) → end_of b.stage �
 finished_more fs b stop e =
     filter_map-append finished_by fs (b ∷ []) ∙ ap (λ (o : Option Stop). filter_map finished_by fs ++ cons_option (finished_at b o) []) e
 
-pub end_made : (m : Machine) (w : ℕ) (old : Desk) (finished : Vec Begun) (after_it : Option Begun) (b : Begun) (stop : Stop) → slice_get m.desks w ≡ Some old
-    → old.search ≡ Some b → end_of b.stage ≡ Some stop → finished.items ≡ old.finished.items ++ b ∷ [] → after_it ≡ None
+pub end_made : {m : Machine} {w : ℕ} {old : Desk} {b : Begun} (finished : Vec Begun) (after_it : Option Begun) (stop : Stop) → IsHeld m w old b
+    → end_of b.stage ≡ Some stop → finished.items ≡ old.finished.items ++ b ∷ [] → after_it ≡ None
     → Ends (world_of m) w (world_of (after m m.word m.left w (record { sight = old.sight; offers = old.offers; finished = finished; search = after_it })))
-end_made m w old finished after_it b stop e has over pushed none =
+end_made {m} {w} {old} {b} finished after_it stop holds over pushed none =
     let a = finishing (worker_at (world_of m) w) (searching_by b) stop in
     let desk : Desk = record { sight = old.sight; offers = old.offers; finished = finished; search = after_it } in
     let now : worker_of desk ≡ a =
@@ -221,8 +224,8 @@ end_made m w old finished after_it b stop e has over pushed none =
     }) none
     ∙ ap (λ (fs : List Finished). record { share = record { finished = fs; offers = old.offers.items; sight = old.sight }; search = None })
     (ap (filter_map finished_by) pushed ∙ finished_more old.finished.items b stop over)
-    ∙ ap (λ (x : Worker). finishing x (searching_by b) stop) (sym (desk_at m w old e)) in
-    (searching_by b, begun_search m w old b e has, stop, over, made m m.word m.left w desk a now)
+    ∙ ap (λ (x : Worker). finishing x (searching_by b) stop) (sym (desk_at m w old holds.at)) in
+    (searching_by b, begun_search holds, stop, over, made m m.word m.left w desk a now)
 
 pub few_left : (s n : ℕ) (left : List ℕ) → length left ≤ n → length (without s left) ≤ n
 few_left s n left few = omega (arith, length-filter (λ a. not (a == s)) left, count_by-le-length (λ a. not (a == s)) left)

@@ -1,6 +1,17 @@
-use Rattle.std.proofs.Common.{rules, ◌∙◌, ◌++◌, ◌∷◌, [], refl, sym, ap}
-use Rattle.tcc_world.proofs.Machining.{machine_in, found, held, stop_is, same_world, finished_again, end_made, begun_search}
+use Rattle.std.proofs.Common.{rules, ◌≡◌, ◌∙◌, ◌++◌, ◌∷◌, [], Some, refl, sym, ap}
+use Rattle.tcc_core.specs.Shares.{Stop}
+use Rattle.tcc_world.specs.Steps.{end_of}
+use Rattle.tcc_world.proofs.Machining.{IsHeld, machine_in, found, held, stop_is, same_world, finished_again, end_made, begun_search}
+use Rattle.tcc_world.proofs.world.World.end.Goals.{In-Some-take}
 use Rattle.tcc_world.proofs.world.World.end.Goals as goal
+
+holds : (c : In-Some-take) → IsHeld (machine_in c.self.inside) c.args.worker c.in-Some.desk.now c.in-Some-take.begun
+holds c =
+    held c.self.inside c.args.worker c.in-Some.desk.now c.in-Some-take.begun (c.in-Some.ensures.variant.0 refl) c.in-Some.ensures.value
+    c.take.ensures.value c.in-Some-take.is
+
+over : (c : In-Some-take) → (stop : Stop) × (end_of c.in-Some-take.begun.stage ≡ Some stop)
+over c = stop_is c.in-Some-search.begun c.in-Some-take.begun (search rules) c.if-not-is_over.ensures
 
 pub returns-then-is_err-clause-answers : goal.returns-then-is_err-clause-answers
 returns-then-is_err-clause-answers c =
@@ -10,19 +21,13 @@ returns-then-is_err-clause-answers c =
 
 pub returns-clause-happens : goal.returns-clause-happens
 returns-clause-happens c =
-    let (at, has)
-    = held c.self.inside c.args.worker c.in-Some.desk.now c.in-Some-take.begun
-    (c.in-Some.ensures.variant.0 refl) c.in-Some.ensures.value c.take.ensures.value c.in-Some-take.is in
-    let (stop, over) = stop_is c.in-Some-search.begun c.in-Some-take.begun (search rules) c.if-not-is_over.ensures in
+    let taken = (goal.at.returns-clause-happens c).In-Some-take in
+    let (stop, ended) = over taken in
     let pushed = c.in-Ok.ensures.items ∙ ap (λ fs. fs ++ c.in-Some-take.begun ∷ []) c.reserve.ensures.items in
-    rw (sym c.self.view_is) (λ j is. end_made
-    (machine_in c.self.inside) c.args.worker c.in-Some.desk.now c.push.new.self c.take.new.self c.in-Some-take.begun stop at has over pushed
-    c.take.ensures.after)
+    rw (sym c.self.view_is) (λ j is. end_made c.push.new.self c.take.new.self stop (holds taken) ended pushed c.take.ensures.after)
 
 pub returns-clause-answers : goal.returns-clause-answers
 returns-clause-answers c =
-    let (at, has)
-    = held c.self.inside c.args.worker c.in-Some.desk.now c.in-Some-take.begun
-    (c.in-Some.ensures.variant.0 refl) c.in-Some.ensures.value c.take.ensures.value c.in-Some-take.is in
-    let (stop, over) = stop_is c.in-Some-search.begun c.in-Some-take.begun (search rules) c.if-not-is_over.ensures in
-    rw (sym c.self.view_is) (_, begun_search (machine_in c.self.inside) c.args.worker c.in-Some.desk.now c.in-Some-take.begun at has, stop, over)
+    let taken = (goal.at.returns-clause-answers c).In-Some-take in
+    let (stop, ended) = over taken in
+    rw (sym c.self.view_is) (_, begun_search (holds taken), stop, ended)
