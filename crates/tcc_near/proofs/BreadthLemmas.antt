@@ -1,9 +1,10 @@
 -- One round of a search after another.
 use Rattle.std.proofs.Common.{◌≡◌, ◌≢◌, ◌<◌, ◌≤◌, ◌+◌, ◌==◌, ◌&&◌, ◌↔◌, ◌⊎◌, ℕ, inl, inr, Bool, true, false, cond, if◌then◌else◌}
-use Rattle.std.proofs.Common.{List, [], length, replicate, get_or, slice_index, Option, Some, None, refl, sym, ◌∙◌, ap, subst}
+use Rattle.std.proofs.Common.{List, [], length, replicate, slice_index, Option, Some, None, refl, sym, ◌∙◌, ap, subst}
 use Rattle.std.proofs.Common.{arith, eqb}
+use Rattle.std.specs.List.{All}
 use Rattle.std.proofs.lemmas.Bool.{cases_lt, cases_eq, false≢true, ne_eqb}
-use Rattle.std.proofs.lemmas.List.{length-replicate, get_or-replicate}
+use Rattle.std.proofs.lemmas.List.{length-replicate, get_or-replicate, get_or_default}
 use Rattle.std.proofs.lemmas.List.Sums.{sum_by-set}
 use Rattle.std.proofs.lemmas.List.Folds.{sum_by-replicate}
 use Rattle.tcc_reads.specs.History.{History, count}
@@ -13,7 +14,7 @@ use Rattle.tcc_graph.specs.Walks.{IsReached}
 use Rattle.tcc_graph.specs.declared.level.Level.{Level}
 use Rattle.tcc_near.specs.Distances.{IsShortest, IsWalkDistance, IsNearOf, least_in}
 use Rattle.tcc_near.specs.Bits.{is_marked}
-use Rattle.tcc_near.specs.Breadth.{IsWithin, IsMarked, IsDistanceWithin, IsSearched, HasDistances, IsLedTo, numbered, one_step, unnumbered}
+use Rattle.tcc_near.specs.Breadth.{IsWithin, IsMarked, IsDistanceWithin, IsSearched, HasDistances, HaveDistances, IsLedTo, numbered, one_step, unnumbered}
 use Rattle.tcc_near.proofs.Walks.{within_more, within_one, within_one_from, within_pair, IsStepAfter, last_step, within_closed, within_below, shortest_at}
 use Rattle.tcc_near.specs.declared.distances.TheConstants.{NONE}
 
@@ -225,12 +226,14 @@ row_of_steps h a marks row marked long each = record {
     short b n to some false at (inr r) = absurd (r.0 at)
 
 -- rows that are right one by one are the table
-pub near_from_rows : (h : History) (level : Level) (rows : List (List ℕ))
-    → (length rows ≡ count h) × ((a : ℕ) (d : List ℕ) → a < count h → HasDistances (record { history = h; level = level }) a (get_or rows a d))
+pub near_from_rows : (h : History) (level : Level) (rows : List (List ℕ)) → HaveDistances (record { history = h; level = level }) rows
     → IsNearOf (record { history = h; level = level }) (record { level = level; rows = rows })
-near_from_rows h level rows (long, each) = record {
+near_from_rows h level rows have = record {
   level = refl;
-  square = record { long = long; wide = λ a d l. (each a d (omega (arith, long))).long };
-  exact = λ a b from to. (each a [] from).exact b to;
-  short = λ a b n from to is. (each a [] from).short b n to is;
+  square = record { long = have.long; wide = wide };
+  exact = λ a b from to. (have.each a from).exact b to;
+  short = λ a b n from to is. (have.each a from).short b n to is;
 }
+  where
+    wide : All (λ row. length row ≡ count h) rows
+    wide a d l = ap length (get_or_default rows a d [] l) ∙ (have.each a (omega (arith, have.long))).long

@@ -6,4 +6,6 @@ pub mod Unmarking
 pub mod FreshLemmas
 pub mod RowLemmas
 pub mod ClockLemmas
+pub mod ShortWalks
+pub mod LeastFrom
 pub mod Worked

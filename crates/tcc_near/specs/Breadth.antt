@@ -7,6 +7,7 @@ use Rattle.tcc_reads.specs.History.{History, count}
 use Rattle.tcc_graph.specs.Relations.{IsSessionPair, causal_pair}
 use Rattle.tcc_graph.specs.Levels.{Judged, causally}
 use Rattle.tcc_graph.specs.Walks.{IsWalk}
+use Rattle.tcc_graph.specs.Tables.{row_of}
 use Rattle.tcc_graph.specs.declared.step.Step.{Step}
 use Rattle.tcc_near.specs.Bits.{is_marked}
 use Rattle.tcc_near.specs.Distances.{IsShortest, IsWalkDistance, least_in}
@@ -64,6 +65,11 @@ pub record HasDistances (j : Judged) (a : ℕ) (row : List ℕ) : Type 0 where
   pub long : length row ≡ count j.history
   pub exact : (b : ℕ) → b < count j.history → IsWalkDistance j a b (least_in row b)
   pub short : (b : ℕ) (n : ℕ) → b < count j.history → least_in row b ≡ Some n → n ≤ count j.history
+
+-- a row of distances for each transaction
+pub record HaveDistances (j : Judged) (rows : List (List ℕ)) : Type 0 where
+  pub long : length rows ≡ count j.history
+  pub each : (a : ℕ) → a < count j.history → HasDistances j a (row_of rows a)
 
 -- b is marked, or marked by one of these
 abbrev pub IsSpread : List ℕ → List (List ℕ) → (ℕ → Type 0) → ℕ → Type 0

@@ -5,3 +5,4 @@ pub mod Bits
 -- What serves proofs alone:
 pub mod Breadth
 pub mod ClockRows
+pub mod Backwards

@@ -2,6 +2,7 @@
 //! each session stands behind each.
 #![tactic(auto)]
 
+mod backwards;
 mod behind;
 pub mod bits;
 mod clock;

@@ -1,13 +1,14 @@
-//! The search for all distances of a graph: from each transaction breadth first, in several threads.
+//! The search for all distances of a graph, from each transaction: breadth first, or by those that its pairs lead to.
 ghost use Rattle.std.specs.Prelude.{◌≡◌, ◌<◌, ◌≤◌, ◌↔◌, ℕ, true, length, All, Contains, IfOk, slice_index};
 ghost use Rattle.tcc_reads.specs.History.{count};
-ghost use Rattle.tcc_graph.specs.Levels.{causally};
+ghost use Rattle.tcc_graph.specs.Levels.{causally, atomically};
 ghost use Rattle.tcc_near.specs.Distances.{IsNearOf};
 ghost use Rattle.tcc_near.specs.Bits.{is_marked, words_for};
-ghost use Rattle.tcc_near.specs.Breadth.{ArePairs, AreSuffixes, HasDistances, IsLedTo, one_step, unnumbered};
+ghost use Rattle.tcc_near.specs.Breadth.{ArePairs, AreSuffixes, HasDistances, HaveDistances, IsLedTo, one_step, unnumbered};
 ghost use Rattle.tcc_near.specs.declared.distances.TheConstants.{NONE};
 ghost use Rattle.tcc_txn.specs.declared.limits.TheConstants.{MAX_COUNT};
 
+use crate::backwards::rows_backwards;
 use crate::bits::{is_marked, take_fresh};
 use crate::pairs::{first_marks, readers_apart, session_ends, take_in};
 use crate::{NONE, Near, ROWS_A_THREAD, Row};
@@ -56,7 +57,7 @@ fn spread(
 
 /// The distances from one transaction by causal walks. A round numbers what is marked for the first time, and marks what
 /// the next step reaches from there; the search ends where there is nothing to number.
-fn distances_from(
+pub(crate) fn distances_from(
     alloc: Global,
     graph: &Graph,
     ends: &[u32],
@@ -95,27 +96,45 @@ fn steps_to(alloc: Global, marks: &[u64], count: usize) -> Result<Row<u16>, Allo
     Ok(Row::new(steps))
 }
 
-/// The distances from one transaction by the walks that the level allows.
-fn row_from(
+/// The distances from one transaction by walks of one step.
+fn row_of_steps(
     alloc: Global,
     graph: &Graph,
     ends: &[u32],
     readers: &[Row<u32>],
-    level: Level,
     source: u32,
 ) -> Result<Row<u16>, AllocError>
     requires source { source < count graph.now }
     requires few { count graph.now ≤ MAX_COUNT }
     requires pairs { ArePairs graph.now ends.now readers.now }
-    ensures { IfOk result (HasDistances (record { history = graph.now; level = level }) source) }
+    ensures { IfOk result (HasDistances (atomically graph.now) source) }
 {
-    match level {
-        Level::Causal => distances_from(alloc, graph, ends, readers, source),
-        Level::Atomic => {
-            let (words, _suffixes) = first_marks(alloc, graph, ends, readers, source)?;
-            steps_to(alloc, &words, ends.len())
-        }
-    }
+    let (words, _suffixes) = first_marks(alloc, graph, ends, readers, source)?;
+    steps_to(alloc, &words, ends.len())
+}
+
+/// The same from each transaction, in several threads.
+fn rows_of_steps(
+    rt: &(impl Threads + Sync),
+    alloc: Global,
+    graph: &Graph,
+    ends: &[u32],
+    readers: &[Row<u32>],
+) -> Result<Vec<Row<u16>>, AllocError>
+    requires few { count graph.now ≤ MAX_COUNT }
+    requires pairs { ArePairs graph.now ends.now readers.now }
+    ensures { IfOk result (λ rows. HaveDistances (atomically graph.now) rows.items) }
+{
+    (0..ends.len())
+        .into_par_iter()
+        .map(
+            |source: usize| -> Result<Row<u16>, AllocError>
+                requires { (source < count graph.now) × (count graph.now ≤ MAX_COUNT) × ArePairs graph.now ends.now readers.now }
+                ensures { IfOk result (HasDistances (atomically graph.entry.now) source) }
+            { row_of_steps(alloc, graph, ends, readers, source as u32) },
+        )
+        .with_min_len(ROWS_A_THREAD)
+        .collect::<Result<Vec<Row<u16>>, AllocError>>(rt, alloc)?
 }
 
 /// The distances from each transaction.
@@ -131,16 +150,10 @@ fn all_distances(
     requires pairs { ArePairs graph.now ends.now readers.now }
     ensures { IfOk result (λ rows. IsNearOf (record { history = graph.now; level = level }) (record { level = level; rows = rows.items })) }
 {
-    (0..ends.len())
-        .into_par_iter()
-        .map(
-            |source: usize| -> Result<Row<u16>, AllocError>
-                requires { (source < count graph.now) × (count graph.now ≤ MAX_COUNT) × ArePairs graph.now ends.now readers.now }
-                ensures { IfOk result (HasDistances (record { history = graph.entry.now; level = level }) source) }
-            { row_from(alloc, graph, ends, readers, level, source as u32) },
-        )
-        .with_min_len(ROWS_A_THREAD)
-        .collect::<Result<Vec<Row<u16>>, AllocError>>(rt, alloc)?
+    match level {
+        Level::Causal => rows_backwards(alloc, graph, ends, readers),
+        Level::Atomic => rows_of_steps(rt, alloc, graph, ends, readers),
+    }
 }
 
 /// The distances of a graph at a level.

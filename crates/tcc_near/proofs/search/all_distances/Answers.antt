@@ -1,32 +1,14 @@
-use Rattle.std.proofs.Common.{◌<◌, ◌≤◌, length, ◌∙◌, arith}
-use Rattle.rayon.proofs.ToStd.{nat_range-All}
-use Rattle.std.specs.declared.alloc.AllocError.{AllocError}
-use Rattle.tcc_reads.specs.History.{count}
-use Rattle.tcc_near.specs.Breadth.{ArePairs, HasDistances}
+use Rattle.std.proofs.lemmas.Result.{IfOk-weaker}
+use Rattle.tcc_graph.specs.declared.level.Level.TheVariants as level
 use Rattle.tcc_near.proofs.BreadthLemmas.{near_from_rows}
-use Rattle.tcc_near.proofs.RowLemmas.{each_given, numbers_below}
 use Rattle.tcc_near.proofs.search.all_distances.Goals as goal
-use Rattle.tcc_txn.specs.declared.limits.TheConstants.{MAX_COUNT}
-use Rattle.tcc_txn.proofs.Lists.{matched}
 
-pub collect-requires-clause-ready : goal.collect-requires-clause-ready
-collect-requires-clause-ready g c κs within =
-    let h = c.args.graph.now in
-    let n = length c.args.ends.now in
-    let ends = c.into_par_iter.ensures in
-    let inside =
-    nat_range-All (λ i. (i < count h) × (count h ≤ MAX_COUNT) × ArePairs h c.args.ends.now c.args.readers.now) 0 n
-    (λ i low high. (omega (arith, high, c.requires.pairs.ended.long), c.requires.few, c.requires.pairs)) in
-    rw (c.with_min_len.ensures.base, c.map.ensures.base, c.map.ensures.f, ends.0, ends.1) (λ k d lt. (inside k d lt, λ y p. tt))
+pub returns-in-Causal : goal.returns-in-Causal
+returns-in-Causal g c =
+    rw c.in-Causal.is (IfOk-weaker c.rows_backwards.result _ _ (λ rows have. near_from_rows c.args.graph.now level.Causal rows.items have)
+    c.rows_backwards.ensures)
 
-pub returns : goal.returns
-returns g c =
-    let h = c.args.graph.now in
-    let n = length c.args.ends.now in
-    let gave = c.in_ok-collect.ensures in
-    let chain = rw (c.with_min_len.ensures.base, c.map.ensures.base, c.map.ensures.f) at gave.1 in
-    let numbers = chain.1 ∙ numbers_below _ _ n c.into_par_iter.ensures.0 c.into_par_iter.ensures.1 in
-    matched c.in_ok-collect.field-0 _ _ _ gave.2 (λ v made.
-    let each =
-    each_given AllocError (λ a row. HasDistances (record { history = h; level = c.args.level }) a row) n chain.0 gave.0 v.items numbers chain.2 made in
-    near_from_rows h c.args.level v.items (each.0 ∙ c.requires.pairs.ended.long, λ a d l. each.1 a d (omega (arith, l, c.requires.pairs.ended.long))))
+pub returns-in-Atomic : goal.returns-in-Atomic
+returns-in-Atomic g c =
+    rw c.in-Atomic.is (IfOk-weaker c.rows_of_steps.result _ _ (λ rows have. near_from_rows c.args.graph.now level.Atomic rows.items have)
+    c.rows_of_steps.ensures)

@@ -1,0 +1,25 @@
+use Rattle.std.proofs.Common.{rules, ◌≡◌, ◌∙◌, length, sym, take_at, arith}
+use Rattle.tcc_graph.specs.Relations.{IsSessionPair}
+use Rattle.tcc_near.specs.Backwards.{IsLowered}
+use Rattle.tcc_near.proofs.LeastFrom.{least_more}
+use Rattle.tcc_near.proofs.backwards.next_run.Goals as goal
+
+pub take_in_one-requires : goal.take_in_one-requires
+take_in_one-requires c =
+    let copied : c.in_ok-row.row.items ≡ c.args.run.now = search rules in
+    rw (c.deref_mut.ensures.value, copied) record {
+      same = c.requires.run.long ∙ sym c.requires.distances.long;
+      inside = omega (arith, c.requires.below, c.requires.run.long);
+    }
+
+pub returns : goal.returns
+returns c =
+    let h = c.args._graph.now in
+    let a = c.args.from in
+    let old = c.args.run.now in
+    let new = c.take_in_one.new.row in
+    let copied : c.in_ok-row.row.items ≡ old = search rules in
+    let row_long : c.in_ok-row.row.len ≡ length c.in_ok-row.row.items = search rules in
+    let low : IsLowered old c.args.distances.now a new = rw (c.deref_mut.ensures.value, copied) at c.take_in_one.ensures in
+    rw (c.new.ensures, take_at new _ c.in_ok-row.row.len (low.long ∙ sym (rw copied at row_long)))
+    (least_more h (omega (arith, c.requires.few)) (IsSessionPair h a) old c.args.distances.now a new c.requires.below c.requires.run c.requires.distances low)

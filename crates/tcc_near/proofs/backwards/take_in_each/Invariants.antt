@@ -1,0 +1,6 @@
+use Rattle.std.proofs.Common.{take}
+use Rattle.tcc_near.specs.Backwards.{IsLeastFrom, IsNextOrOne}
+use Rattle.tcc_near.proofs.backwards.take_in_each.Given as goal
+
+abbrev pub invariant-loop-number : goal.invariant-loop-number
+invariant-loop-number l = IsLeastFrom l._graph (IsNextOrOne l._graph l._from (take l.number-index l.numbers)) l.row
