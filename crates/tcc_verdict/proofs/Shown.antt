@@ -27,36 +27,15 @@ use Rattle.tcc_print.specs.Printed.{check_text}
 use Rattle.tcc_print.specs.Printed.{PrintsOrMemory}
 use Rattle.tcc_verdict.specs.Checks.{IsRecordsCheck, MayBeCheck, IsCheckRun, IsShown, PrintsSome}
 
--- no fault of a record ends with success
+-- no fault of a record ends with success, whatever its kind
 row_fails : (k : RowFaultKind) → code_of (row_status k) ≡ 0 → ⊥
-row_fails row_kind.FieldCount h = cc
-row_fails row_kind.BadSession h = cc
-row_fails row_kind.UnknownWord h = cc
-row_fails row_kind.BadKey h = cc
-row_fails row_kind.BadValue h = cc
-row_fails row_kind.WriteOfZero h = cc
-row_fails row_kind.NotBegun h = cc
-row_fails row_kind.AlreadyBegun h = cc
-row_fails row_kind.TooManyOps h = cc
-row_fails row_kind.TooManySessions h = cc
-row_fails row_kind.TooManyTransactions h = cc
-row_fails row_kind.TooManyKeys h = cc
-row_fails row_kind.TooManySeals h = cc
-row_fails (row_kind.Unfinished session) h = cc
 row_fails row_kind.Read h = cc
-row_fails row_kind.NoMemory h = cc
+row_fails _ h = cc
 
 -- nor does a fault of a certificate's text
 text_fails : (k : CertFaultKind) → code_of (certificate_status k) ≡ 0 → ⊥
-text_fails text_kind.Header h = cc
-text_fails text_kind.Word h = cc
-text_fails text_kind.Number h = cc
-text_fails text_kind.Count h = cc
-text_fails text_kind.TooLarge h = cc
-text_fails text_kind.Truncated h = cc
-text_fails text_kind.Trailing h = cc
 text_fails text_kind.Read h = cc
-text_fails text_kind.NoMemory h = cc
+text_fails _ h = cc
 
 not_zero : code_of status.Device ≡ 0 → ⊥
 not_zero h = cc
