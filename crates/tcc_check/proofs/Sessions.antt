@@ -213,7 +213,8 @@ module _ (h : History) (ordered : IsBySession h.entries) (places writers : List 
 -- ---- what the last writers of all sessions say of a read
 
 module _ (h : History) (places : List ℕ) (clocks : List (List ℕ)) (x : List ℕ) (a c : ℕ) where
-  strictly : (b : ℕ) → AreApart places → length places ≡ count h → b ≢ a → b < count h → a < count h → get_or places b 0 ≤ get_or places a 0 → get_or places b 0 < get_or places a 0
+  strictly : (b : ℕ) → AreApart places → length places ≡ count h → b ≢ a → b < count h → a < count h → get_or places b 0 ≤ get_or places a 0
+      → get_or places b 0 < get_or places a 0
   strictly b apart long other below source upto = go (cases_lt (get_or places b 0) (get_or places a 0))
     where
       go : (get_or places b 0 < get_or places a 0) ⊎ (get_or places a 0 ≤ get_or places b 0) → get_or places b 0 < get_or places a 0
@@ -228,8 +229,11 @@ module _ (h : History) (places : List ℕ) (clocks : List (List ℕ)) (x : List 
       go (inl some) (inl none) = absurd (omega (arith, some, none))
       go (inl some) (inr upto) =
           let inside = owned b some writer.0 in
-          strictly b by.apart by.sessions.long other writer.0 reads.0 (stand (owner h b) (omega (arith, inside, wide)) b (writer_listed h x a c b reads writer) some refl upto)
-      go (inr none) r = let zeroth : b ≡ 0 = omega (arith, none) in by.sessions.kept b a (initial_pair h b a zeroth writer.0 (some_source zeroth (cases_lt 0 a)) reads.0)
+          strictly b by.apart by.sessions.long other writer.0 reads.0
+          (stand (owner h b) (omega (arith, inside, wide)) b (writer_listed h x a c b reads writer) some refl upto)
+      go (inr none) r =
+          let zeroth : b ≡ 0 = omega (arith, none) in
+          by.sessions.kept b a (initial_pair h b a zeroth writer.0 (some_source zeroth (cases_lt 0 a)) reads.0)
         where
           some_source : b ≡ 0 → (0 < a) ⊎ (a ≤ 0) → 0 < a
           some_source zeroth (inl some) = some
