@@ -199,9 +199,9 @@ closing_back steps price a b some apart paid = rw (ne_eqb steps NONE some, ne_eq
 abbrev Whole : Tables → ℕ → ℕ → Type 0
 Whole t x y = (x < length t.prices) × (y < length t.prices)
 
-pub seed_cycle : (j k : Judged) (near : NearTable) (t : Tables) (c : ℕ) → IsNearOf j near → IsPricesOf j t → IsPricesOf k t
+pub seed_cycle : {j k : Judged} {near : NearTable} {t : Tables} {c : ℕ} → IsNearOf j near → IsPricesOf j t → IsPricesOf k t
     → IsLeastOf (Whole t) (closing_at near t) c → c ≢ NO_WAY → IsCycleCost k c
-seed_cycle j k near t c is one other found some =
+seed_cycle {j} {k} {near} {t} {c} is one other found some =
     let (a, b, (from, to), costs) = found.attained some in
     let below : a < count j.history = omega (arith, from, one.prices.long) in
     let above : b < count j.history = omega (arith, to, one.prices.long) in
@@ -226,33 +226,6 @@ seed_cycle j k near t c is one other found some =
 apart_of : (j : Judged) (b a : ℕ) (l : Link) → IsDerived j b a l → a ≢ b
 apart_of j b a l (x, c, walk, is, (may, allowed)) = λ e. may.0 (sym e)
 
-low_around : (j : Judged) (near : NearTable) (t : Tables) (c a : ℕ) (walk : List Step) → IsNearOf j near → IsPricesOf j t
-    → IsLeastOf (Whole t) (closing_at near t) c → IsAllowedWalk j a a walk → c ≤ length walk
-low_around j near t c a walk is one found allowed =
-    let ends = walk_below j.history a a walk allowed.0 in
-    let steps = steps_of_walk j near a a walk is allowed in
-    let low = found.least a a (omega (arith, ends.0, one.prices.long), omega (arith, ends.0, one.prices.long)) in
-    omega (arith, low, closing_around (steps_at near a a) (price_in t a a) a steps.0, steps.1)
-
-low_back : (j : Judged) (near : NearTable) (t : Tables) (c a b : ℕ) (walk : List Step) (l : Link) → IsNearOf j near → IsPricesOf j t
-    → IsLeastOf (Whole t) (closing_at near t) c → IsAllowedWalk j a b walk → IsDerived j b a l → c ≤ length walk + link_cost l
-low_back j near t c a b walk l is one found allowed derived =
-    let ends = walk_below j.history a b walk allowed.0 in
-    let steps = steps_of_walk j near a b walk is allowed in
-    let price = price_of_derived j t b a l one ends.1 ends.0 derived in
-    let low = found.least a b (omega (arith, ends.0, one.prices.long), omega (arith, ends.1, one.prices.long)) in
-    omega (arith, low, closing_back (steps_at near a b) (price_in t b a) a b steps.0 (apart_of j b a l derived) price.0, steps.1, price.1)
-
-pub seed_is : (j : Judged) (near : NearTable) (t : Tables) (c : ℕ) → IsNearOf j near → IsPricesOf j t → IsLeastOf (Whole t) (closing_at near t) c
-    → c ≢ NO_WAY → IsSeed j c
-seed_is j near t c is one found some = record {
-  cycle = seed_cycle j j near t c is one one found some;
-  around = λ a walk allowed. low_around j near t c a walk is one found allowed;
-  back = λ a b walk l allowed derived. low_back j near t c a b walk l is one found allowed derived;
-}
-
--- ---- nothing
-
 few_steps : (j : Judged) (near : NearTable) (a b : ℕ) → IsNearOf j near → a < count j.history → b < count j.history → steps_at near a b ≢ NONE
     → steps_at near a b ≤ count j.history
 few_steps j near a b is from to some = is.short a b (steps_at near a b) from to (rw (ne_eqb (steps_at near a b) NONE some) refl)
@@ -261,34 +234,39 @@ few_paid : (j : Judged) (t : Tables) (b a : ℕ) → IsPricesOf j t → b < coun
     → price_in t b a ≤ count j.history + 1
 few_paid j t b a is from to some = is.few b a (price_in t b a) from to (rw (ne_eqb (price_in t b a) NONE some) refl)
 
-none_around : (j : Judged) (near : NearTable) (t : Tables) (a : ℕ) (walk : List Step) → IsNearOf j near → IsPricesOf j t → length t.prices ≤ MAX_COUNT
-    → IsLeastOf (Whole t) (closing_at near t) NO_WAY → IsAllowedWalk j a a walk → ⊥
-none_around j near t a walk is one few found allowed =
-    let ends = walk_below j.history a a walk allowed.0 in
-    let steps = steps_of_walk j near a a walk is allowed in
-    let low = found.least a a (omega (arith, ends.0, one.prices.long), omega (arith, ends.0, one.prices.long)) in
-    omega (arith, low, closing_around (steps_at near a a) (price_in t a a) a steps.0, few_steps j near a a is ends.0 ends.0 steps.0, few, one.prices.long)
+module _ {j : Judged} {near : NearTable} {t : Tables} {c : ℕ} (is : IsNearOf j near) (one : IsPricesOf j t)
+    (found : IsLeastOf (Whole t) (closing_at near t) c) where
+  -- no walk that ends where it began costs less
+  around : (a : ℕ) (walk : List Step) → IsAllowedWalk j a a walk → (c ≤ length walk) × (c ≤ count j.history)
+  around a walk allowed =
+      let ends = walk_below j.history a a walk allowed.0 in
+      let steps = steps_of_walk j near a a walk is allowed in
+      let low = found.least a a (omega (arith, ends.0, one.prices.long), omega (arith, ends.0, one.prices.long)) in
+      let closed = closing_around (steps_at near a a) (price_in t a a) a steps.0 in
+      (omega (arith, low, closed, steps.1), omega (arith, low, closed, few_steps j near a a is ends.0 ends.0 steps.0))
 
-none_back : (j : Judged) (near : NearTable) (t : Tables) (a b : ℕ) (walk : List Step) (l : Link) → IsNearOf j near → IsPricesOf j t
-    → length t.prices ≤ MAX_COUNT → IsLeastOf (Whole t) (closing_at near t) NO_WAY → IsAllowedWalk j a b walk → IsDerived j b a l → ⊥
-none_back j near t a b walk l is one few found allowed derived =
-    let ends = walk_below j.history a b walk allowed.0 in
-    let steps = steps_of_walk j near a b walk is allowed in
-    let price = price_of_derived j t b a l one ends.1 ends.0 derived in
-    let low = found.least a b (omega (arith, ends.0, one.prices.long), omega (arith, ends.1, one.prices.long)) in
-    omega (
-      arith,
-      low,
-      closing_back (steps_at near a b) (price_in t b a) a b steps.0 (apart_of j b a l derived) price.0,
-      few_steps j near a b is ends.0 ends.1 steps.0,
-      few_paid j t b a one ends.1 ends.0 price.0,
-      few,
-      one.prices.long,
-    )
+  -- nor does a walk and a derived link back
+  back : (a b : ℕ) (walk : List Step) (l : Link) → IsAllowedWalk j a b walk → IsDerived j b a l
+      → (c ≤ length walk + link_cost l) × (c ≤ count j.history + (count j.history + 1))
+  back a b walk l allowed derived =
+      let ends = walk_below j.history a b walk allowed.0 in
+      let steps = steps_of_walk j near a b walk is allowed in
+      let price = price_of_derived j t b a l one ends.1 ends.0 derived in
+      let low = found.least a b (omega (arith, ends.0, one.prices.long), omega (arith, ends.1, one.prices.long)) in
+      let closed = closing_back (steps_at near a b) (price_in t b a) a b steps.0 (apart_of j b a l derived) price.0 in (
+        omega (arith, low, closed, steps.1, price.1),
+        omega (arith, low, closed, few_steps j near a b is ends.0 ends.1 steps.0, few_paid j t b a one ends.1 ends.0 price.0),
+      )
 
-pub no_seed : (j : Judged) (near : NearTable) (t : Tables) → IsNearOf j near → IsPricesOf j t → length t.prices ≤ MAX_COUNT
-    → IsLeastOf (Whole t) (closing_at near t) NO_WAY → HasNoSeed j
-no_seed j near t is one few found = record {
-  around = λ a walk allowed. none_around j near t a walk is one few found allowed;
-  back = λ a b walk l allowed derived. none_back j near t a b walk l is one few found allowed derived;
-}
+  pub seed_is : c ≢ NO_WAY → IsSeed j c
+  seed_is some = record {
+    cycle = seed_cycle is one one found some;
+    around = λ a walk allowed. (around a walk allowed).0;
+    back = λ a b walk l allowed derived. (back a b walk l allowed derived).0;
+  }
+
+  pub no_seed : length t.prices ≤ MAX_COUNT → c ≡ NO_WAY → HasNoSeed j
+  no_seed few none = record {
+    around = λ a walk allowed. let low = (around a walk allowed).1 in omega (arith, low, none, few, one.prices.long);
+    back = λ a b walk l allowed derived. let low = (back a b walk l allowed derived).1 in omega (arith, low, none, few, one.prices.long);
+  }
