@@ -1,10 +1,11 @@
 -- Rows of what stands before a transaction, reading by reading.
-use Rattle.std.proofs.Common.{◌≡◌, ◌≢◌, ◌<◌, ◌+◌, ◌/◌, ◌==◌, ◌||◌, ◌↔◌, ◌⊎◌, inl, inr, ℕ, zero, suc, true, List, [], ◌∷◌, ◌++◌, length, map, get_or, take, refl}
+use Rattle.std.proofs.Common.{◌≡◌, ◌≢◌, ◌<◌, ◌≤◌, ◌+◌, ◌/◌, ◌==◌, ◌||◌, ◌↔◌, ◌⊎◌, inl, inr, ℕ, zero}
+use Rattle.std.proofs.Common.{suc, true, List, [], ◌∷◌, ◌++◌, length, map, get_or, take, refl}
 use Rattle.std.proofs.Common.{sym, ap, subst, ◌∙◌, arith}
 use Rattle.std.specs.Prelude.{zip}
 use Rattle.std.specs.List.{All, Contains}
 use Rattle.std.proofs.lemmas.Bool.{eqb-true, eq-eqb}
-use Rattle.std.proofs.lemmas.List.{take_more, get_or_default, length-map}
+use Rattle.std.proofs.lemmas.List.{take_all, take_more, get_or_default, length-map}
 use Rattle.std.proofs.lemmas.List.Elements.{All-contains, All-weaker, Contains-append_left, Contains-push, Contains-push_cases}
 use Rattle.tcc_reads.specs.History.{History, count}
 use Rattle.tcc_graph.specs.Relations.{IsReadsPair, IsCausalPair}
@@ -17,10 +18,10 @@ use Rattle.tcc_near.specs.Bits.{is_marked, words_for}
 use Rattle.tcc_near.specs.Breadth.{marks_of}
 use Rattle.tcc_near.proofs.FreshLemmas.{one_of_taken, still_taken, last_taken, nothing_in}
 use Rattle.tcc_order.specs.Behind.{IsRowFor, IsContradicted, IsBefore}
-use Rattle.tcc_near.proofs.MarkLemmas.{or_marks}
+use Rattle.tcc_near.proofs.MarkLemmas.{or_marks, zip_at, zip_has, zip-long}
 use Rattle.tcc_order.proofs.Rows.{row_for}
 
--- ---- readings by the places of their keys
+-- ---- keys by their places
 mapped_at : (f : ℕ → List ℕ) (ps : List ℕ) (k : ℕ) (d : List ℕ) → k < length ps → get_or (map f ps) k d ≡ f (get_or ps k 0)
 mapped_at f [] k d l = absurd (omega arith)
 mapped_at f (p ∷ ps) zero d l = refl
@@ -43,27 +44,6 @@ key_place : (h : History) (a c : ℕ) (x : List ℕ) → IsReadsPair h a c x →
 key_place h a c x pair =
     let there = has_name-contains (keys h) x (has_name-keys h x ∙ read_is_key h a c x pair) in
     (there.0, there.1, get_or_default (keys h) there.0 [] x there.1 ∙ there.2)
-
-module _ (h : History) (a : ℕ) (rs ps : List ℕ) (long : length rs ≡ length ps)
-    (each : (c p : ℕ) → Contains (zip rs ps) (c, p) ↔ ((p < length (keys h)) × IsReadsPair h a c (key_at h p))) where
-  pub named_long : length rs ≡ length (map (key_at h) ps)
-  named_long = long ∙ sym (length-map ps (key_at h))
-
-  pub named_each : (c : ℕ) (x : List ℕ) → Contains (zip rs (map (key_at h) ps)) (c, x) ↔ IsReadsPair h a c x
-  named_each c x = (onward, back)
-    where
-      onward : Contains (zip rs (map (key_at h) ps)) (c, x) → IsReadsPair h a c x
-      onward there = let w = mapped_from (key_at h) rs ps c x there in subst (λ (y : List ℕ). IsReadsPair h a c y) w.2 ((each c w.0).0 w.1).1
-
-      back : IsReadsPair h a c x → Contains (zip rs (map (key_at h) ps)) (c, x)
-      back pair =
-          let place = key_place h a c x pair in
-          let read = subst (λ (y : List ℕ). IsReadsPair h a c y) (sym place.2) pair in
-          subst (λ (y : List ℕ). Contains (zip rs (map (key_at h) ps)) (c, y)) place.2
-          (mapped_in (key_at h) rs ps c place.0 ((each c place.0).1 (place.1, read)))
-
-  pub named_at : (k : ℕ) → k < length rs → get_or (map (key_at h) ps) k [] ≡ key_at h (get_or ps k 0)
-  named_at k l = mapped_at (key_at h) ps k [] (omega (arith, long))
 
 -- ---- the writers of one key
 abbrev pub IsAmong : List ℕ → List ℕ → ℕ → ℕ → Type 0
@@ -195,3 +175,48 @@ before_row h behind a into new wide pairs is =
     back : (b : ℕ) → IsBefore h behind b a → (is_marked into b ≡ true) ⊎ IsContradicted h behind (IsReadsPair h a) a b
     back b (inl p) = inl ((pairs b).1 p)
     back b (inr w) = inr w
+
+-- ---- the readings that a graph lists, by the places of their keys
+
+module _ (h : History) (a : ℕ) (rs ps : List ℕ) (long : length rs ≡ length ps)
+    (each : (c p : ℕ) → Contains (zip rs ps) (c, p) ↔ ((p < length (keys h)) × IsReadsPair h a c (key_at h p))) where
+  named_long : length rs ≡ length (map (key_at h) ps)
+  named_long = long ∙ sym (length-map ps (key_at h))
+
+  named_each : (c : ℕ) (x : List ℕ) → Contains (zip rs (map (key_at h) ps)) (c, x) ↔ IsReadsPair h a c x
+  named_each c x = (onward, back)
+    where
+      onward : Contains (zip rs (map (key_at h) ps)) (c, x) → IsReadsPair h a c x
+      onward there = let w = mapped_from (key_at h) rs ps c x there in subst (λ (y : List ℕ). IsReadsPair h a c y) w.2 ((each c w.0).0 w.1).1
+
+      back : IsReadsPair h a c x → Contains (zip rs (map (key_at h) ps)) (c, x)
+      back pair =
+          let place = key_place h a c x pair in
+          let read = subst (λ (y : List ℕ). IsReadsPair h a c y) (sym place.2) pair in
+          subst (λ (y : List ℕ). Contains (zip rs (map (key_at h) ps)) (c, y)) place.2
+          (mapped_in (key_at h) rs ps c place.0 ((each c place.0).1 (place.1, read)))
+
+  named_at : (k : ℕ) → k < length rs → get_or (map (key_at h) ps) k [] ≡ key_at h (get_or ps k 0)
+  named_at k l = mapped_at (key_at h) ps k [] (omega (arith, long))
+
+  -- who reads is a transaction
+  pub reader_below : (k : ℕ) → k < length rs → get_or rs k 0 < count h
+  reader_below k l = ((each (get_or rs k 0) (get_or ps k 0)).0 (zip_has rs ps k 0 long l)).1.1
+
+  module _ (behind : List (List ℕ)) (old : List ℕ) (k : ℕ) where
+    -- one reading more
+    pub contradicted_next : (mid new : List ℕ) → k < length rs → AddsContradicted h behind a old (IsTaken (zip rs (map (key_at h) ps)) k) mid
+        → AddsAmong mid new (writers h (key_at h (get_or ps k 0))) (marks_of behind (get_or rs k 0)) a
+        → AddsContradicted h behind a old (IsTaken (zip rs (map (key_at h) ps)) (k + 1)) new
+    contradicted_next mid new l before among =
+        contradicted_more h behind a old (zip rs (map (key_at h) ps)) k (get_or rs k 0) (get_or (map (key_at h) ps) k []) mid new
+        (omega (arith, zip-long rs (map (key_at h) ps) named_long)) (zip_at rs (map (key_at h) ps) k 0 [] named_long l) before (rw (named_at k l) among)
+
+    -- all of them
+    pub contradicted_all : (new : List ℕ) → length rs ≤ k → AddsContradicted h behind a old (IsTaken (zip rs (map (key_at h) ps)) k) new
+        → AddsContradicted h behind a old (IsReadsPair h a) new
+    contradicted_all new past =
+        contradicted_whole h behind a old (IsTaken (zip rs (map (key_at h) ps)) k) (IsReadsPair h a) new (λ c x. rw whole (named_each c x))
+      where
+        whole : take k (zip rs (map (key_at h) ps)) ≡ zip rs (map (key_at h) ps)
+        whole = take_all k (zip rs (map (key_at h) ps)) (omega (arith, zip-long rs (map (key_at h) ps) named_long))
