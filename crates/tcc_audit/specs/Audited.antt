@@ -1,25 +1,19 @@
 -- What is answered for a book.
-use Rattle.std.specs.Prelude.{◌≡◌, List, [], Result, Ok, Err}
+use Rattle.std.specs.Prelude.{◌≡◌, List, Result, Ok, Err}
 use Rattle.tcc_book.specs.Passes.{Passed, IsWhole, recorded_by}
-use Rattle.tcc_reads.specs.Faults.{read_faults}
-use Rattle.tcc_reads.specs.Sources.{history}
-use Rattle.tcc_graph.specs.Levels.{Judged}
 use Rattle.tcc_graph.specs.declared.level.Level.{Level}
 use Rattle.tcc_cert.specs.Reading.{certificate_read}
 use Rattle.tcc_cert.specs.Texts.{HasText, certificate_text}
 use Rattle.tcc_answer.specs.Claims.{certificate_of}
-use Rattle.tcc_explain.specs.Explained.{IsAnswerOf, IsRefusal}
+use Rattle.tcc_explain.specs.Explained.{IsAnswerFor, IsRefusal}
 use Rattle.tcc_answer.specs.declared.answer.Answer.{Answer}
 use Rattle.tcc_audit.specs.declared.fault.AuditFault.{AuditFault}
 use Rattle.tcc_audit.specs.declared.fault.AuditFault.TheVariants as fault
 
--- the history of the map from the passes' names to what each recorded, judged at the level
-abbrev pub judged_by : List Passed → Level → Judged
-judged_by passes level = record { history = history (recorded_by passes); level = level }
-
--- the first answer for what the passes recorded; or why the book has no snapshot of exactly that; or why that has no answer
+-- the first answer at the level for the map from the passes' names to what each recorded;
+-- or why the book has no snapshot of exactly that; or why that has no answer
 abbrev pub IsAudit : List Passed → Level → Result Answer AuditFault → Type 0
-IsAudit passes level (Ok answer) = (read_faults (recorded_by passes) ≡ []) × IsAnswerOf (judged_by passes level) answer
+IsAudit passes level (Ok answer) = IsAnswerFor (recorded_by passes) level answer
 IsAudit passes level (Err (fault.Whole whole)) = IsWhole passes (Err whole)
 IsAudit passes level (Err (fault.Explain refusal)) = IsRefusal (recorded_by passes) refusal
 

@@ -2,9 +2,11 @@
 use Rattle.std.specs.Prelude.{ℕ, ◌≡◌, ◌≢◌, [], length}
 use Rattle.tcc_txn.specs.Snapshots.{Sessions}
 use Rattle.tcc_reads.specs.Faults.{read_faults}
+use Rattle.tcc_reads.specs.Sources.{history}
 use Rattle.tcc_graph.specs.Levels.{Judged}
 use Rattle.tcc_graph.specs.Links.{cost}
 use Rattle.tcc_graph.specs.Answers as first
+use Rattle.tcc_graph.specs.declared.level.Level.{Level}
 use Rattle.tcc_answer.specs.Labels.{labels_of}
 use Rattle.tcc_explain.specs.Certificates.{IsNearTable, IsFarTable, IsClocksAt}
 use Rattle.tcc_answer.specs.declared.answer.Answer.{Answer}
@@ -21,6 +23,10 @@ IsAnswerOf j (answer.Commit c) =
 IsAnswerOf j (answer.Anomaly a) =
     ((s : ℕ) × first.IsFirstAnswer j (first.Cycle s a.links)) × (a.level ≡ j.level) × (a.labels ≡ labels_of j.history)
     × IsNearTable j (cost a.links) a.near × IsFarTable j (cost a.links) a.far
+
+-- the first answer for the history of a snapshot at the level, where all its reads have sources
+abbrev pub IsAnswerFor : Sessions → Level → Answer → Type 0
+IsAnswerFor s level a = (read_faults s ≡ []) × IsAnswerOf (record { history = history s; level = level }) a
 
 -- the list has exactly the read faults of the snapshot, of which there is one at least; or memory is out
 abbrev pub IsRefusal : Sessions → ExplainFault → Type 0

@@ -1,13 +1,11 @@
 //! The answer for a snapshot.
-ghost use Rattle.std.specs.Prelude.{◌≡◌, ◌<◌, ◌≤◌, [], IfOk, MatchResult};
-ghost use Rattle.tcc_reads.specs.Faults.{read_faults};
-ghost use Rattle.tcc_reads.specs.Sources.{history};
+ghost use Rattle.std.specs.Prelude.{◌≡◌, ◌<◌, ◌≤◌, IfOk, MatchResult};
 ghost use Rattle.tcc_graph.specs.Routes.{HasCycle};
 ghost use Rattle.tcc_near.specs.Distances.{IsNearOf};
 ghost use Rattle.tcc_derive.specs.Prices.{IsPricesOf};
 ghost use Rattle.tcc_answer.specs.Labels.{labels_of};
 ghost use Rattle.tcc_answer.specs.declared.answer.Answer.TheVariants as answer;
-ghost use Rattle.tcc_explain.specs.Explained.{IsAnswerOf, IsRefusal};
+ghost use Rattle.tcc_explain.specs.Explained.{IsAnswerFor, IsAnswerOf, IsRefusal};
 
 use crate::offering::{lesser, offered};
 use crate::refusal::ExplainFault;
@@ -133,9 +131,7 @@ pub fn explain<G: Gate>(
     gate: &G,
 ) -> Result<Answer, ExplainFault>
     requires workers { (0 < workers) × (workers ≤ 32) }
-    ensures { MatchResult result
-        (λ answer. (read_faults snapshot.now ≡ []) × IsAnswerOf (record { history = history snapshot.now; level = level }) answer)
-        (IsRefusal snapshot.now) }
+    ensures { MatchResult result (IsAnswerFor snapshot.now level) (IsRefusal snapshot.now) }
 {
     match resolve(alloc, snapshot) {
         Ok(resolved) => {

@@ -1,11 +1,6 @@
 //! The answer for a snapshot that may continue one that had an anomaly.
-ghost use Rattle.std.specs.Prelude.{◌≡◌, ◌<◌, ◌≤◌, [], All, MatchResult};
-ghost use Rattle.tcc_reads.specs.Faults.{read_faults};
-ghost use Rattle.tcc_reads.specs.Sources.{history};
-ghost use Rattle.tcc_graph.specs.Links.{IsLink};
-ghost use Rattle.tcc_growth.specs.Growth.{judged};
-ghost use Rattle.tcc_explain.specs.Explained.{IsAnswerOf};
-ghost use Rattle.tcc_explain.specs.Next.{IsNextRefusal, links_in};
+ghost use Rattle.std.specs.Prelude.{◌<◌, ◌≤◌, MatchResult};
+ghost use Rattle.tcc_explain.specs.Next.{IsNextAnswer, IsNextRefusal};
 
 use crate::explaining::history_answer;
 use crate::refusal::NextFault;
@@ -30,11 +25,7 @@ pub fn explain_next<G: Gate>(
     gate: &G,
 ) -> Result<Answer, NextFault>
     requires workers { (0 < workers) × (workers ≤ 32) }
-    ensures { MatchResult result
-        (λ answer. (read_faults snapshot.now ≡ [])
-        × IsAnswerOf (record { history = history snapshot.now; level = earlier.now.level }) answer
-        × All (IsLink (judged earlier.now.level snapshot.now)) (links_in earlier.now snapshot.now))
-        (IsNextRefusal snapshot.now earlier.now) }
+    ensures { MatchResult result (IsNextAnswer snapshot.now earlier.now) (IsNextRefusal snapshot.now earlier.now) }
 {
     let level = earlier.level();
     match resolve(alloc, snapshot) {

@@ -9,7 +9,7 @@ use Rattle.tcc_graph.specs.declared.level.Level.{Level}
 use Rattle.tcc_answer.specs.Answers.{LabelledCycle}
 use Rattle.tcc_answer.specs.declared.answer.Answer.{Answer}
 use Rattle.tcc_answer.specs.declared.answer.Answer.TheVariants as answer
-use Rattle.tcc_explain.specs.Explained.{IsAnswerOf}
+use Rattle.tcc_explain.specs.Explained.{IsAnswerFor, IsAnswerOf}
 use Rattle.tcc_explain.specs.Next.{IsAnomalyOf, IsNextRefusal}
 use Rattle.tcc_explain.specs.declared.refusal.NextFault.TheVariants as refusal
 use Rattle.tcc_run.specs.Headline.{IsExplained, judged}
@@ -42,7 +42,7 @@ without_tables level s a b is (small, nested, resolved, anomaly) =
 
 -- what is answered at its level is answered at that of the run
 pub at_its_level : (level : Level) (s : Sessions) (e : LabelledCycle) (a : Answer) → IsEarlier level s e → IsExplained s e.level a
-    → IsAnswerOf (judged s e.level) a → (read_faults s ≡ []) × IsAnswerOf (judged s level) a
+    → IsAnswerOf (judged s e.level) a → IsAnswerFor s level a
 at_its_level level s e a (small, nested, resolved, anomaly) explained is =
     (explained.resolved, subst (λ (l : Level). IsAnswerOf (judged s l) a) anomaly.1 is)
 

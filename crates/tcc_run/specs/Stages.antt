@@ -9,14 +9,13 @@ use Rattle.tcc_txn.specs.Nested.{IsNested}
 use Rattle.tcc_txn.specs.Snapshots.{Sessions}
 use Rattle.tcc_txn.specs.Transactions.{Transaction}
 use Rattle.tcc_reads.specs.Faults.{read_faults}
-use Rattle.tcc_reads.specs.Sources.{history}
 use Rattle.tcc_graph.specs.declared.level.Level.{Level}
 use Rattle.tcc_cert.specs.Texts.{certificate_text}
 use Rattle.tcc_answer.specs.Claims.{certificate_of}
 use Rattle.tcc_answer.specs.Answers.{LabelledCycle}
 use Rattle.tcc_answer.specs.declared.answer.Answer.{Answer}
 use Rattle.tcc_answer.specs.declared.answer.Answer.TheVariants as answer
-use Rattle.tcc_explain.specs.Explained.{IsAnswerOf}
+use Rattle.tcc_explain.specs.Explained.{IsAnswerFor}
 use Rattle.tcc_explain.specs.Next.{IsAnomalyOf}
 use Rattle.tcc_run.specs.Headline.{judged}
 use Rattle.tcc_print.specs.declared.status.Status.TheVariants.{Device, Memory}
@@ -38,7 +37,7 @@ count_at entries i = option_map_or (λ named. length named.1) (slice_get entries
 
 -- what is to be said of a snapshot at a level: its first answer where all its reads have sources, else all its read faults
 abbrev pub IsOutcome : Level → Sessions → Outcome → Type 0
-IsOutcome level s (outcome.Answered a) = (read_faults s ≡ []) × IsAnswerOf (record { history = history s; level = level }) a
+IsOutcome level s (outcome.Answered a) = IsAnswerFor s level a
 IsOutcome level s (outcome.Unresolved faults earlier) = (read_faults s ≢ []) × (faults.items ≡ read_faults s)
 
 -- the answer; none where there are read faults in its place

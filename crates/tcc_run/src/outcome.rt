@@ -1,13 +1,11 @@
 //! What is said of a snapshot: its answer, or all its read faults.
-ghost use Rattle.std.specs.Prelude.{◌≡◌, ◌<◌, ◌≤◌, [], IfErr, IfOk, IfSome, MatchResult, OnOk};
+ghost use Rattle.std.specs.Prelude.{◌≡◌, ◌<◌, ◌≤◌, IfErr, IfOk, IfSome, MatchResult, OnOk};
 ghost use Rattle.std.specs.Io.KnownBytes.{Appends};
 ghost use Rattle.tcc_txn.specs.Finished.{KeepsLimits};
 ghost use Rattle.tcc_txn.specs.Snapshots.{Sessions};
-ghost use Rattle.tcc_reads.specs.Faults.{read_faults};
 ghost use Rattle.tcc_graph.specs.declared.level.Level.{Level};
-ghost use Rattle.tcc_explain.specs.Explained.{IsAnswerOf, IsRefusal};
+ghost use Rattle.tcc_explain.specs.Explained.{IsAnswerFor, IsRefusal};
 ghost use Rattle.tcc_print.specs.Printed.{EndsIn};
-ghost use Rattle.tcc_run.specs.Headline.{judged};
 ghost use Rattle.tcc_run.specs.Stages.{HasEarlier, IsEarlier, IsOutcome, answer_in, outcome_text};
 
 use crate::headline::{explain_snapshot, explain_snapshot_next};
@@ -50,9 +48,7 @@ fn work_out<G: Gate>(
 ) -> Result<Answer, ExplainFault>
     requires workers { (0 < options.workers) × (options.workers ≤ 32) }
     requires earlier { IfSome earlier.now (IsEarlier options.level snapshot.now) }
-    ensures { MatchResult result
-        (λ answer. (read_faults snapshot.now ≡ []) × IsAnswerOf (judged snapshot.now options.level) answer)
-        (IsRefusal snapshot.now) }
+    ensures { MatchResult result (IsAnswerFor snapshot.now options.level) (IsRefusal snapshot.now) }
 {
     let Some(anomaly) = earlier else {
         return explain_snapshot(rt, alloc, snapshot, options.level, options.workers, gate);

@@ -13,9 +13,12 @@ returns-in-Some g c = (
 
 pub returns-in_ok-answer-in-Ok : goal.returns-in_ok-answer-in-Ok
 returns-in_ok-answer-in-Ok g c = (
-  c.in-Ok.ensures.0,
-  answer_here c.args.snapshot.now c.args.earlier.now c.in_ok-graph-in-Ok.graph
-      (c.in_ok-graph-in-Ok.ensures ∙ c.in-Ok.ensures.1) c.level-level.result c.level-level.ensures c.in_ok-answer-in-Ok.answer c.in_ok-answer-in-Ok.ensures,
+  (
+    c.in-Ok.ensures.0,
+    answer_here c.args.snapshot.now c.args.earlier.now c.in_ok-graph-in-Ok.graph
+        (c.in_ok-graph-in-Ok.ensures ∙ c.in-Ok.ensures.1) c.level-level.result c.level-level.ensures c.in_ok-answer-in-Ok.answer
+        c.in_ok-answer-in-Ok.ensures,
+  ),
   links_here c.args.snapshot.now c.args.earlier.now c.in_ok-graph-in-Ok.graph
       (c.in_ok-graph-in-Ok.ensures ∙ c.in-Ok.ensures.1) c.level-level.result c.level-level.ensures
       c.labels.result.now c.in_ok-labels-in-Ok.labels c.links.result.now c.in_ok-links-in-Ok.links.items c.deref.result.now
