@@ -1,14 +1,15 @@
--- Prices that one read after another lowers.
-use Rattle.std.proofs.Common.{ℕ, ◌<◌, ◌≤◌, ◌≡◌, ◌≢◌, ◌⊎◌, inl, inr, List, [], ◌∷◌, ◌++◌, length, get_or, set, min, refl, sym, ap, ◌∙◌, arith, ⊎_elim, zero, suc}
+-- Steps to the nearest readers, which one read after another lowers.
+use Rattle.std.proofs.Common.{ℕ, ◌<◌, ◌≤◌, ◌≡◌, ◌≢◌, ◌⊎◌, inl, inr, List, [], ◌∷◌, ◌++◌, length, get_or, set, min}
+use Rattle.std.proofs.Common.{refl, sym, ◌∙◌, arith, ⊎_elim, zero, suc}
 use Rattle.std.specs.List.{Contains}
 use Rattle.std.proofs.lemmas.Bool.{cases_eq, cases_lt}
 use Rattle.std.proofs.lemmas.List.{get_or-set_same, get_or-set_other, length-set}
 use Rattle.std.proofs.lemmas.List.Elements.{Contains-append_left, Contains-append_right, Contains-append_cases}
-use Rattle.tcc_derive.specs.Lowering.{price_by, Lowers}
+use Rattle.tcc_derive.specs.Lowering.{Lowers}
 use Rattle.tcc_derive.specs.declared.read.Read.{Read}
 
-pub lowers_none : (steps : List ℕ) (b : ℕ) (old : List ℕ) → Lowers [] steps b old old
-lowers_none steps b old = record {
+pub lowers_none : (steps old : List ℕ) → Lowers [] steps old old
+lowers_none steps old = record {
   long = refl;
   kept = λ a. omega arith;
   lowered = λ r (k, l, e). absurd (omega arith);
@@ -19,60 +20,51 @@ alone : (r s : Read) → Contains (r ∷ []) s → s ≡ r
 alone r s (zero, l, e) = sym e
 alone r s (suc k, l, e) = absurd (omega arith)
 
-module _ (steps : List ℕ) (b : ℕ) where
-  pub lowers_then : (xs ys : List Read) (old mid new : List ℕ) → Lowers xs steps b old mid → Lowers ys steps b mid new → Lowers (xs ++ ys) steps b old new
+module _ (steps : List ℕ) where
+  pub lowers_then : (xs ys : List Read) (old mid new : List ℕ) → Lowers xs steps old mid → Lowers ys steps mid new → Lowers (xs ++ ys) steps old new
   lowers_then xs ys old mid new first second = record {
     long = second.long ∙ first.long;
     kept = λ a. let one = first.kept a in let two = second.kept a in omega arith;
-    lowered = λ r there ne. ⊎_elim
-        (λ left. let one = first.lowered r left ne in let two = second.kept r.source in omega arith)
-        (λ right. second.lowered r right ne)
+    lowered = λ r there. ⊎_elim
+        (λ left. let one = first.lowered r left in let two = second.kept r.source in omega arith)
+        (λ right. second.lowered r right)
         (Contains-append_cases xs ys r there);
     from = λ a. ⊎_elim
-        (λ e. ⊎_elim (λ e'. inl (e ∙ e')) (λ w. inr (w.0, Contains-append_left xs ys w.0 w.1, w.2, w.3, e ∙ w.4)) (first.from a))
-        (λ w. inr (w.0, Contains-append_right xs ys w.0 w.1, w.2, w.3, w.4))
+        (λ e. ⊎_elim (λ e'. inl (e ∙ e')) (λ w. inr (w.0, Contains-append_left xs ys w.0 w.1, w.2, e ∙ w.3)) (first.from a))
+        (λ w. inr (w.0, Contains-append_right xs ys w.0 w.1, w.2, w.3))
         (second.from a);
   }
 
-  -- b itself is the source
-  pub lowers_own : (r : Read) (old : List ℕ) → r.source ≡ b → Lowers (r ∷ []) steps b old old
-  lowers_own r old own = record {
-    long = refl;
-    kept = λ a. omega arith;
-    lowered = λ s there ne. absurd (ne (ap (λ (t : Read). t.source) (alone r s there) ∙ own));
-    from = λ a. inl refl;
-  }
-
-  module _ (r : Read) (old new : List ℕ) (other : r.source ≢ b) (inside : r.source < length old)
-      (now : new ≡ set old r.source (min (get_or old r.source 0) (price_by steps r))) where
-    here : get_or new r.source 0 ≡ min (get_or old r.source 0) (price_by steps r)
-    here = rw now (get_or-set_same old r.source (min (get_or old r.source 0) (price_by steps r)) 0 inside)
+  module _ (r : Read) (old new : List ℕ) (inside : r.source < length old)
+      (now : new ≡ set old r.source (min (get_or old r.source 0) (get_or steps r.reader 0))) where
+    here : get_or new r.source 0 ≡ min (get_or old r.source 0) (get_or steps r.reader 0)
+    here = rw now (get_or-set_same old r.source (min (get_or old r.source 0) (get_or steps r.reader 0)) 0 inside)
 
     elsewhere : (a : ℕ) → a ≢ r.source → get_or new a 0 ≡ get_or old a 0
-    elsewhere a ne = rw now (get_or-set_other old r.source a (min (get_or old r.source 0) (price_by steps r)) 0 ne)
+    elsewhere a ne = rw now (get_or-set_other old r.source a (min (get_or old r.source 0) (get_or steps r.reader 0)) 0 ne)
 
     no_more : (a : ℕ) → (a ≡ r.source) ⊎ (a ≡ r.source → ⊥) → get_or new a 0 ≤ get_or old a 0
     no_more a (inl same) = rw same (omega (arith, here))
     no_more a (inr ne) = rw (elsewhere a ne) (omega arith)
 
-    price_there : get_or new r.source 0 ≤ price_by steps r
-    price_there = omega (arith, here)
+    steps_there : get_or new r.source 0 ≤ get_or steps r.reader 0
+    steps_there = omega (arith, here)
 
-    least : (price_by steps r < get_or old r.source 0) ⊎ (get_or old r.source 0 ≤ price_by steps r)
+    least : (get_or steps r.reader 0 < get_or old r.source 0) ⊎ (get_or old r.source 0 ≤ get_or steps r.reader 0)
         → (get_or new r.source 0 ≡ get_or old r.source 0)
-        ⊎ ((s : Read) × Contains (r ∷ []) s × (s.source ≡ r.source) × (r.source ≢ b) × (get_or new r.source 0 ≡ price_by steps s))
-    least (inl low) = inr (r, (0, omega arith, refl), refl, other, omega (arith, here))
+        ⊎ ((s : Read) × Contains (r ∷ []) s × (s.source ≡ r.source) × (get_or new r.source 0 ≡ get_or steps s.reader 0))
+    least (inl low) = inr (r, (0, omega arith, refl), refl, omega (arith, here))
     least (inr high) = inl (omega (arith, here))
 
     comes : (a : ℕ) → (a ≡ r.source) ⊎ (a ≡ r.source → ⊥) → (get_or new a 0 ≡ get_or old a 0)
-        ⊎ ((s : Read) × Contains (r ∷ []) s × (s.source ≡ a) × (a ≢ b) × (get_or new a 0 ≡ price_by steps s))
+        ⊎ ((s : Read) × Contains (r ∷ []) s × (s.source ≡ a) × (get_or new a 0 ≡ get_or steps s.reader 0))
     comes a (inr ne) = inl (elsewhere a ne)
-    comes a (inl same) = rw same (least (cases_lt (price_by steps r) (get_or old r.source 0)))
+    comes a (inl same) = rw same (least (cases_lt (get_or steps r.reader 0) (get_or old r.source 0)))
 
-    pub lowers_one : Lowers (r ∷ []) steps b old new
+    pub lowers_one : Lowers (r ∷ []) steps old new
     lowers_one = record {
-      long = rw now (length-set old r.source (min (get_or old r.source 0) (price_by steps r)));
+      long = rw now (length-set old r.source (min (get_or old r.source 0) (get_or steps r.reader 0)));
       kept = λ a. no_more a (cases_eq a r.source);
-      lowered = λ s there ne. rw (alone r s there) price_there;
+      lowered = λ s there. rw (alone r s there) steps_there;
       from = λ a. comes a (cases_eq a r.source);
     }

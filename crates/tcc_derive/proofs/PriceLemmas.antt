@@ -1,10 +1,9 @@
 -- A row that all reads lowered that b may contradict has the prices from b.
-use Rattle.std.proofs.Common.{ℕ, ◌+◌, ◌<◌, ◌≤◌, ◌≡◌, ◌≢◌, ◌==◌, ◌⊎◌, inl, inr, Bool, true, false, List, length}
-use Rattle.std.proofs.Common.{get_or, flat_map, replicate, if◌then◌else◌, None, Some, refl, sym, ◌∙◌, subst}
+use Rattle.std.proofs.Common.{ℕ, ◌+◌, ◌<◌, ◌≤◌, ◌≡◌, ◌≢◌, ◌==◌, ◌⊎◌, inl, inr, Bool, true, false, List, [], length}
+use Rattle.std.proofs.Common.{get_or, flat_map, if◌then◌else◌, None, Some, refl, sym, ◌∙◌, subst}
 use Rattle.std.proofs.Common.{arith, ⊎_elim}
 use Rattle.std.specs.List.{Contains}
 use Rattle.std.proofs.lemmas.Bool.{eqb-true, eq-eqb, false≢true}
-use Rattle.std.proofs.lemmas.List.{get_or-replicate, length-replicate}
 use Rattle.tcc_reads.specs.History.{count}
 use Rattle.tcc_graph.specs.Keys.{keys}
 use Rattle.tcc_graph.specs.KeyRows.{name_of}
@@ -17,7 +16,7 @@ use Rattle.tcc_near.specs.Distances.{NearTable, IsShortest, IsWalkDistance, IsNe
 use Rattle.tcc_derive.specs.Prices.{IsDerived, IsPrice}
 use Rattle.tcc_derive.specs.Buckets.{bucket}
 use Rattle.tcc_derive.specs.KeyTables.{IsReadsOf, IsWritesOf}
-use Rattle.tcc_derive.specs.Lowering.{price_by, Lowers}
+use Rattle.tcc_derive.specs.Lowering.{price_by, ArePricedBy}
 use Rattle.tcc_derive.specs.Rows.{IsPriceRow}
 use Rattle.tcc_derive.specs.declared.read.Read.{Read}
 use Rattle.tcc_derive.proofs.KeyLemmas.{read_place}
@@ -65,7 +64,10 @@ out_of_reach j near b c nears from to none = go (nears.exact b c from to)
 module _ (j : Judged) (near : NearTable) (reads : List (List Read)) (written : List (List ℕ)) (b : ℕ) (row : List ℕ)
     (small : count j.history ≤ MAX_COUNT) (from : b < count j.history) (nears : IsNearOf j near) (read : IsReadsOf j.history reads)
     (wrote : IsWritesOf j.history written)
-    (lowered : Lowers (flat_map (bucket reads) (bucket written b)) (row_of near.rows b) b (replicate (length near.rows) NONE) row) where
+    (lowered : ArePricedBy (flat_map (bucket reads) (bucket written b)) (row_of near.rows b) b row) where
+  wide : length (row_of near.rows b) ≡ count j.history
+  wide = nears.square.wide b [] (omega (arith, from, nears.square.long))
+
   -- the read of each reason is among those that lowered the row
   reason_read : (a : ℕ) (x : List ℕ) (c : ℕ) → MayContradict j.history b a x c
       → Contains (flat_map (bucket reads) (bucket written b)) (record { source = a; reader = c })
@@ -108,7 +110,7 @@ module _ (j : Judged) (near : NearTable) (reads : List (List Read)) (written : L
     cost : get_or row a 0 ≡ get_or (row_of near.rows b) r.reader 0 + 1
 
   origin : (a : ℕ) → a < count j.history → (get_or row a 0 ≡ NONE) ⊎ ((r : Read) × IsFrom a r)
-  origin a to = go (lowered.from a)
+  origin a to = go (lowered.from a (omega (arith, to, wide)))
     where
       by : (r : Read) → Contains (flat_map (bucket reads) (bucket written b)) r → r.source ≡ a → a ≢ b → get_or row a 0 ≡ price_by (row_of near.rows b) r
           → IsOut j b r.reader ⊎ IsNearby j b r.reader (get_or (row_of near.rows b) r.reader 0) → r.reader < count j.history
@@ -117,11 +119,11 @@ module _ (j : Judged) (near : NearTable) (reads : List (List Read)) (written : L
       by r there source other cost (inr near') below =
           inr (r, record { there = there; source = source; other = other; near' = near'; cost = omega (arith, near'.few) })
 
-      go : (get_or row a 0 ≡ get_or (replicate (length near.rows) NONE) a 0)
+      go : (get_or row a 0 ≡ NONE)
           ⊎ ((r : Read) × Contains (flat_map (bucket reads) (bucket written b)) r × (r.source ≡ a) × (a ≢ b)
           × (get_or row a 0 ≡ price_by (row_of near.rows b) r))
           → (get_or row a 0 ≡ NONE) ⊎ ((r : Read) × IsFrom a r)
-      go (inl e) = inl (e ∙ get_or-replicate (length near.rows) a NONE 0 (omega (arith, nears.square.long)))
+      go (inl e) = inl e
       go (inr w) =
           let may = read_reason w.0 w.1 (λ e. w.3 (sym w.2 ∙ e)) in
           by w.0 w.1 w.2 w.3 w.4 (distance_cases j near b w.0.reader nears from may.1.1.1) may.1.1.1
@@ -168,7 +170,7 @@ module _ (j : Judged) (near : NearTable) (reads : List (List Read)) (written : L
 
   pub price_row_of : IsPriceRow j b row
   price_row_of = record {
-    long = lowered.long ∙ length-replicate (length near.rows) NONE ∙ nears.square.long;
+    long = lowered.long ∙ wide;
     priced = λ a to. price a to (get_or row a 0 == NONE) refl;
     few = λ a n to. few_steps a n to (get_or row a 0 == NONE) refl;
   }

@@ -4,18 +4,30 @@ use Rattle.std.specs.Prelude.{ℕ, ◌+◌, ◌<◌, ◌≤◌, ◌≡◌, ◌�
 use Rattle.tcc_derive.specs.declared.read.Read.{Read}
 use Rattle.tcc_near.specs.declared.distances.TheConstants.{NONE}
 
--- what it costs to contradict a read, by the distances to its reader: no more than a row can hold
-abbrev pub price_by : List ℕ → Read → ℕ
-price_by steps r = min (slice_index steps r.reader + 1) NONE
+-- one more, but no more than a row can hold
+abbrev pub one_more : ℕ → ℕ
+one_more n = min (n + 1) NONE
 
--- the source of each read costs no more than what it costs b to contradict the read, unless b itself is the source;
--- and each cost comes from one of the reads, or is as it was
-pub record Lowers (reads : List Read) (steps : List ℕ) (b : ℕ) (old : List ℕ) (new : List ℕ) : Type 0 where
+-- what it costs to contradict a read, by the distances to its reader
+abbrev pub price_by : List ℕ → Read → ℕ
+price_by steps r = one_more (slice_index steps r.reader)
+
+-- the source of each read has no more steps than lead to the reader; and each number of steps comes from one of the reads,
+-- or is as it was
+pub record Lowers (reads : List Read) (steps : List ℕ) (old : List ℕ) (new : List ℕ) : Type 0 where
   pub long : length new ≡ length old
   pub kept : (a : ℕ) → slice_index new a ≤ slice_index old a
-  pub lowered : (r : Read) → Contains reads r → r.source ≢ b → slice_index new r.source ≤ price_by steps r
+  pub lowered : (r : Read) → Contains reads r → slice_index new r.source ≤ slice_index steps r.reader
   pub from : (a : ℕ) → (slice_index new a ≡ slice_index old a)
-      ⊎ ((r : Read) × Contains reads r × (r.source ≡ a) × (a ≢ b) × (slice_index new a ≡ price_by steps r))
+      ⊎ ((r : Read) × Contains reads r × (r.source ≡ a) × (slice_index new a ≡ slice_index steps r.reader))
+
+-- the source of each read costs no more than what it costs b to contradict the read, unless b itself is the source;
+-- and each cost comes from one of the reads, or is none
+pub record ArePricedBy (reads : List Read) (steps : List ℕ) (b : ℕ) (costs : List ℕ) : Type 0 where
+  pub long : length costs ≡ length steps
+  pub lowered : (r : Read) → Contains reads r → r.source ≢ b → slice_index costs r.source ≤ price_by steps r
+  pub from : (a : ℕ) → a < length steps → (slice_index costs a ≡ NONE)
+      ⊎ ((r : Read) × Contains reads r × (r.source ≡ a) × (a ≢ b) × (slice_index costs a ≡ price_by steps r))
 
 -- the keys have buckets of reads, whose sources and readers are below n
 pub record HaveReads (n : ℕ) (reads : List (List Read)) (keys : List ℕ) : Type 0 where

@@ -26,8 +26,8 @@ pub fn derive(
     requires { IsNearOf (record { history = graph.now; level = near.now.level }) near.now }
     ensures { IfOk result (IsPricesOf (record { history = graph.now; level = near.now.level })) }
 {
-    let reads = read_table(alloc, graph)?;
     let written = write_table(alloc, graph)?;
+    let reads = read_table(alloc, graph)?;
     let prices = price_rows(rt, alloc, graph, &reads, &written, near)?;
     let others = other_rows(rt, alloc, graph, near, &prices)?;
     let ends = session_ends(alloc, graph)?;

@@ -1,12 +1,11 @@
 //! Rows of prices, worked out side by side.
-ghost use Rattle.std.specs.Prelude.{◌≡◌, ◌<◌, ◌≤◌, ℕ, length, All, IfOk, flat_map, replicate};
+ghost use Rattle.std.specs.Prelude.{◌≡◌, ◌<◌, ◌≤◌, ℕ, length, All, IfOk, flat_map, slice_index};
 ghost use Rattle.tcc_reads.specs.History.{count};
 ghost use Rattle.tcc_near.specs.Distances.{IsNearOf};
 ghost use Rattle.tcc_derive.specs.Buckets.{bucket};
 ghost use Rattle.tcc_derive.specs.KeyTables.{IsReadsOf, IsWritesOf};
-ghost use Rattle.tcc_derive.specs.Lowering.{HaveReads, Lowers};
+ghost use Rattle.tcc_derive.specs.Lowering.{one_more, HaveReads, Lowers, ArePricedBy};
 ghost use Rattle.tcc_derive.specs.Rows.{IsPriceRow, HasRows};
-ghost use Rattle.tcc_near.specs.declared.distances.TheConstants.{NONE};
 ghost use Rattle.tcc_txn.specs.declared.limits.TheConstants.{MAX_COUNT};
 ghost use Rattle.tcc_graph.specs.Tables.{row_of};
 
@@ -18,36 +17,48 @@ use tcc_graph::Graph;
 use tcc_near::{NONE, Near, ROWS_A_THREAD, Row};
 use tcc_txn::NoMemory;
 
-/// Lowers what links from `b` cost by the reads of one key that `b` writes: a step more than the way to the reader.
-fn lower(costs: &mut [u16], reads: &[Read], steps: &[u16], b: u32)
-    requires sources { All (λ r. r.source < length costs.old) reads.now }
+/// Lowers the fewest steps to the readers of each transaction by the reads of one key.
+fn lower(nearest: &mut [u16], reads: &[Read], steps: &[u16])
+    requires sources { All (λ r. r.source < length nearest.old) reads.now }
     requires readers { All (λ r. r.reader < length steps.now) reads.now }
-    ensures { Lowers reads.now steps.now b costs.old costs.new }
+    ensures { Lowers reads.now steps.now nearest.old nearest.new }
 {
     for read in reads {
-        if read.source != b {
-            let price = steps[read.reader as usize].saturating_add(1);
-            let cost = &mut costs[read.source as usize];
-            *cost = (*cost).min(price);
-        }
+        let count = steps[read.reader as usize];
+        let least = &mut nearest[read.source as usize];
+        *least = (*least).min(count);
     }
 }
 
-/// What derived links from `b` cost, by the keys that it writes and the distances from it.
+/// One step more for each, as far as a row can hold them.
+fn add_step(costs: &mut [u16])
+    ensures same { length costs.new ≡ length costs.old }
+    ensures each { (a : ℕ) → a < length costs.old → slice_index costs.new a ≡ one_more (slice_index costs.old a) }
+{
+    for cost in costs.iter_mut() {
+        *cost = cost.saturating_add(1);
+    }
+}
+
+/// What derived links from `b` cost, by the keys that it writes and the distances from it: a step more than the way to the
+/// nearest reader. None leads to `b` itself.
 fn price_row(
     alloc: Global,
     reads: &[Row<Read>],
     written: &[usize],
     steps: &[u16],
-    b: u32,
+    b: usize,
 ) -> Result<Row<u16>, NoMemory>
-    requires { HaveReads (length steps.now) reads.now written.now }
-    ensures { IfOk result (Lowers (flat_map (bucket reads.now) written.now) steps.now b (replicate (length steps.now) NONE)) }
+    requires reads { HaveReads (length steps.now) reads.now written.now }
+    requires own { b < length steps.now }
+    ensures { IfOk result (ArePricedBy (flat_map (bucket reads.now) written.now) steps.now b) }
 {
     let mut costs = vec![in alloc; NONE; steps.len()]?;
     for place in written {
-        lower(&mut costs, reads[*place].values(), steps, b);
+        lower(&mut costs, reads[*place].values(), steps);
     }
+    add_step(&mut costs);
+    costs[b] = NONE;
     Ok(Row::new(costs))
 }
 
@@ -73,11 +84,11 @@ pub(crate) fn price_rows(
             |b: usize| -> Result<Row<u16>, NoMemory>
                 requires { (b < length near.now.rows) × (length near.now.rows ≤ MAX_COUNT) × (length written.now ≡ length near.now.rows)
                     × HaveReads (length near.now.rows) reads.now (bucket written.now b) }
-                ensures { IfOk result (Lowers (flat_map (bucket reads.entry.now) (bucket written.entry.now b)) (row_of near.entry.now.rows b) b
-                    (replicate (length near.entry.now.rows) NONE)) }
+                ensures { IfOk result
+                    (ArePricedBy (flat_map (bucket reads.entry.now) (bucket written.entry.now b)) (row_of near.entry.now.rows b) b) }
             {
                 let keys = written[b].values();
-                price_row(alloc, reads, keys, near.row(b as u32), b as u32)
+                price_row(alloc, reads, keys, near.row(b as u32), b)
             },
         )
         .with_min_len(ROWS_A_THREAD)

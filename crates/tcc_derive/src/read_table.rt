@@ -1,5 +1,7 @@
 //! The reads of each key.
-ghost use Rattle.std.specs.Prelude.{◌<◌, length, IfOk};
+ghost use Rattle.std.specs.Prelude.{◌<◌, ◌≤◌, length, IfOk};
+ghost use Rattle.tcc_txn.specs.declared.limits.TheConstants.{MAX_COUNT};
+ghost use Rattle.tcc_reads.specs.History.{count};
 ghost use Rattle.tcc_graph.specs.Keys.{keys};
 ghost use Rattle.tcc_derive.specs.KeyTables.{AreReadsAt, IsReadsOf};
 
@@ -11,15 +13,16 @@ use tcc_txn::NoMemory;
 
 /// The reads of the key at a place.
 fn reads_at(alloc: Global, graph: &Graph, place: u32) -> Result<Row<Read>, NoMemory>
-    requires { place < length (keys graph.now) }
+    requires place { place < length (keys graph.now) }
+    requires few { count graph.now ≤ MAX_COUNT }
     ensures { IfOk result (AreReadsAt graph.now place) }
 {
     let (sources, readers) = graph.readings_of(place);
     let mut reads = Vec::with_capacity(alloc, sources.len())?;
     for (number, source) in sources.iter().enumerate() {
         reads.push(Read {
-            source: *source,
-            reader: readers[number],
+            source: *source as u16,
+            reader: readers[number] as u16,
         })?;
     }
     Ok(Row::new(reads))
@@ -27,6 +30,7 @@ fn reads_at(alloc: Global, graph: &Graph, place: u32) -> Result<Row<Read>, NoMem
 
 /// The reads of each key of a graph.
 pub(crate) fn read_table(alloc: Global, graph: &Graph) -> Result<Vec<Row<Read>>, NoMemory>
+    requires few { count graph.now ≤ MAX_COUNT }
     ensures { IfOk result (λ reads. IsReadsOf graph.now reads.items) }
 {
     let mut reads = Vec::new(alloc);

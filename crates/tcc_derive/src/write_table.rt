@@ -1,5 +1,7 @@
 //! The keys that each transaction writes.
-ghost use Rattle.std.specs.Prelude.{◌<◌, length, All, Contains, OnOk, IfOk};
+ghost use Rattle.std.specs.Prelude.{◌<◌, ◌≤◌, length, All, Contains, OnOk, IfOk};
+ghost use Rattle.tcc_txn.specs.declared.limits.TheConstants.{MAX_COUNT};
+ghost use Rattle.tcc_reads.specs.History.{count};
 ghost use Rattle.tcc_derive.specs.Buckets.{Puts};
 ghost use Rattle.tcc_derive.specs.KeyTables.{IsWritesOf};
 
@@ -22,7 +24,8 @@ fn add_key(written: &mut [Row<usize>], writers: &[u32], place: usize) -> Result<
 
 /// The places, among the keys of a graph, of the keys that each transaction writes.
 pub(crate) fn write_table(alloc: Global, graph: &Graph) -> Result<Vec<Row<usize>>, NoMemory>
-    ensures { IfOk result (λ written. IsWritesOf graph.now written.items) }
+    ensures writes { IfOk result (λ written. IsWritesOf graph.now written.items) }
+    ensures few { count graph.now ≤ MAX_COUNT }
 {
     let mut written = empty_buckets(alloc, graph.count() as usize)?;
     for (place, key) in graph.keys().iter().enumerate() {

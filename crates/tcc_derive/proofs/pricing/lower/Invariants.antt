@@ -3,4 +3,4 @@ use Rattle.tcc_derive.specs.Lowering.{Lowers}
 use Rattle.tcc_derive.proofs.pricing.lower.Given as goal
 
 abbrev pub invariant-loop-read : goal.invariant-loop-read
-invariant-loop-read l = Lowers (take l.read-index l.reads) l.steps l.b l.initial.costs l.costs
+invariant-loop-read l = Lowers (take l.read-index l.reads) l.steps l.initial.nearest l.nearest

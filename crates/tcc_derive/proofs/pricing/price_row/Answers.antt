@@ -18,9 +18,9 @@ loop-place-preserved c =
     = ap (flat_map (bucket reads)) (taken written n k within (get_or_default written n 0 k within))
     ∙ flat_map-append (bucket reads) (take n written) (k ∷ []) ∙ ap (λ rest. flat_map (bucket reads) (take n written) ++ rest) (append-nil (bucket reads k)) in
     let values : c.values.result.now ≡ bucket reads k =
-    c.values.ensures ∙ get_or_read reads k c.index-reads-place.result (c.requires.places n 0 within) c.index-reads-place.is [] in
+    c.values.ensures ∙ get_or_read reads k c.index-reads-place.result (c.requires.reads.places n 0 within) c.index-reads-place.is [] in
     let lowered = rw (values, c.deref_mut.ensures.value) at c.lower.ensures in
-    let long : length c.lower.new.costs ≡ c.loop-place.costs.len = c.lower.ensures.long ∙ c.deref_mut.ensures.len in
-    rw (take_at c.lower.new.costs _ c.loop-place.costs.len long, more)
-    (lowers_then c.args.steps.now c.args.b (flat_map (bucket reads) (take n written)) (bucket reads k)
-    (replicate (length c.args.steps.now) NONE) c.loop-place.costs.items c.lower.new.costs c.loop-place.invariant lowered)
+    let long : length c.lower.new.nearest ≡ c.loop-place.costs.len = c.lower.ensures.long ∙ c.deref_mut.ensures.len in
+    rw (take_at c.lower.new.nearest _ c.loop-place.costs.len long, more)
+    (lowers_then c.args.steps.now (flat_map (bucket reads) (take n written)) (bucket reads k)
+    (replicate (length c.args.steps.now) NONE) c.loop-place.costs.items c.lower.new.nearest c.loop-place.invariant lowered)

@@ -1,15 +1,14 @@
-use Rattle.std.proofs.Common.{ℕ, ◌<◌, ◌≤◌, ◌≡◌, List, [], length, flat_map, replicate, sym, ◌∙◌, arith}
+use Rattle.std.proofs.Common.{ℕ, ◌<◌, ◌≤◌, ◌≡◌, List, [], length, flat_map, sym, ◌∙◌, arith}
 use Rattle.rayon.proofs.ToStd.{nat_range-All}
 use Rattle.tcc_reads.specs.History.{count}
 use Rattle.tcc_graph.specs.Levels.{Judged}
 use Rattle.tcc_txn.specs.declared.memory.NoMemory.{NoMemory}
 use Rattle.tcc_derive.specs.Buckets.{bucket}
-use Rattle.tcc_derive.specs.Lowering.{Lowers, HaveReads}
+use Rattle.tcc_derive.specs.Lowering.{HaveReads, ArePricedBy}
 use Rattle.tcc_near.proofs.RowLemmas.{each_given, numbers_below}
 use Rattle.tcc_derive.proofs.PriceLemmas.{price_row_of}
 use Rattle.tcc_derive.proofs.TableLemmas.{have_reads}
 use Rattle.tcc_derive.proofs.pricing.price_rows.Goals as goal
-use Rattle.tcc_near.specs.declared.distances.TheConstants.{NONE}
 use Rattle.tcc_txn.specs.declared.limits.TheConstants.{MAX_COUNT}
 use Rattle.tcc_txn.proofs.Lists.{matched}
 use Rattle.tcc_graph.specs.Tables.{row_of}
@@ -46,11 +45,11 @@ returns g c =
     let got = c.in_ok-collect.ensures in
     let chain = rw (c.with_min_len.ensures.base, c.map.ensures.base, c.map.ensures.f) at got.1 in
     let places = chain.1 ∙ numbers_below _ _ n c.into_par_iter.ensures.0 c.into_par_iter.ensures.1 in
-    let IsLowered : ℕ → List ℕ → Type 0 =
-    λ b row. Lowers (flat_map (bucket reads) (bucket written b)) (row_of near.rows b) b (replicate (length near.rows) NONE) row in
+    let IsPriced : ℕ → List ℕ → Type 0 =
+    λ b row. ArePricedBy (flat_map (bucket reads) (bucket written b)) (row_of near.rows b) b row in
     record {
       rows = matched c.in_ok-collect.field-0 _ _ _ got.2 (λ rows made.
-          let each = each_given NoMemory IsLowered n chain.0 got.0 rows.items places chain.2 made in
+          let each = each_given NoMemory IsPriced n chain.0 got.0 rows.items places chain.2 made in
           record {
             long = each.0 ∙ c.count.ensures.value;
             each = λ b from.
@@ -58,5 +57,5 @@ returns g c =
                 (each.1 b [] (omega (arith, c.count.ensures.value)));
           });
       few = matched c.in_ok-collect.field-0 _ _ _ got.2 (λ rows made.
-          omega (arith, (each_given NoMemory IsLowered n chain.0 got.0 rows.items places chain.2 made).0, c.count.ensures.few));
+          omega (arith, (each_given NoMemory IsPriced n chain.0 got.0 rows.items places chain.2 made).0, c.count.ensures.few));
     }

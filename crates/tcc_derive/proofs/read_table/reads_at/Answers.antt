@@ -1,8 +1,18 @@
 use Rattle.std.proofs.Common.{rules, ◌≡◌, ℕ, [], ◌∷◌, ◌++◌, length, length-append, get_or, refl, arith}
 use Rattle.tcc_near.proofs.RowLemmas.{each_pushed}
 use Rattle.tcc_derive.specs.declared.read.Read.{Read}
-use Rattle.tcc_derive.proofs.TableLemmas.{reads_listed}
+use Rattle.tcc_derive.proofs.TableLemmas.{reads_listed, reads_below}
 use Rattle.tcc_derive.proofs.read_table.reads_at.Goals as goal
+
+pub overflow_cast-source : goal.overflow_cast-source
+overflow_cast-source c =
+    let below = reads_below c.args.graph.now _ _ _ c.readings_of.ensures.long c.readings_of.ensures.each c.loop-number.number c.loop-number-test.true in
+    omega (arith, below.0, c.requires.few)
+
+pub overflow_cast-readers : goal.overflow_cast-readers
+overflow_cast-readers c =
+    let below = reads_below c.args.graph.now _ _ _ c.readings_of.ensures.long c.readings_of.ensures.each c.loop-number.number c.loop-number-test.true in
+    omega (arith, below.1, c.requires.few)
 
 pub loop-number-preserved : goal.loop-number-preserved
 loop-number-preserved c =
