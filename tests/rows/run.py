@@ -158,7 +158,7 @@ def finished(words, run, folder, seconds):
             return subprocess.run(words, **streams)
         screen, streams["stderr"] = terminal(held)
         done = subprocess.run(words, **streams)
-        done.stderr = os.read(screen, 1 << 16)
+        done.stderr = b"".join(shown(screen))
         return done
 
 
@@ -204,6 +204,13 @@ def terminal(held):
     mode[1], mode[3] = 0, termios.ICANON
     termios.tcsetattr(program, termios.TCSANOW, mode)
     return person, program
+
+
+def shown(screen):
+    """What a terminal has shown, part by part: the system may hand on one write after the other."""
+    with contextlib.suppress(BlockingIOError):
+        while True:
+            yield os.read(screen, 1 << 16)
 
 
 def by_workers(run, workers):
