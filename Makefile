@@ -1,13 +1,12 @@
 # make run      prints the program's answer for a small history; where it isn't built yet, by a trial build that proves nothing,
-#               within two minutes
-# make build    proves and builds the program, crates/tcc/out/tcc
+#               in a minute and a half on 4 processors
+# make build    proves what isn't proved yet and builds the program, crates/tcc/out/tcc
 # make install  the same, and copies it to PREFIX/bin (PREFIX=/usr/local), its man page and bash completion to PREFIX/share
-# make demo     records clients of a real Redis and shows both answers (redis-server and redis-py have to be there)
-# make test     the merge gate, then the rows of tests/rows by 1, 2 and 32 workers, the seals of a history that grows
-#               (tests/seals), the altered certificates of tests/certificates, the refused allocations of tests/memory, the
-#               recipes and what the documents name; the last line is `N passed, M failed`
+# make demo     records clients of a real Redis and shows both answers
+# make test     the merge gate and all tests, which CONTRIBUTING.md lists; the last line is `N passed, M failed`
 #
-# The toolchain's `rt` has to be on the path, and Python 3; nothing else is needed, and nothing to be done before.
+# The toolchain's `rt` has to be on the path, and Python 3; for `make test` a C compiler too, for `make demo` redis-server and
+# redis-py. Nothing has to be done before.
 
 PREFIX ?= /usr/local
 # So many processors are used to prove the program.
