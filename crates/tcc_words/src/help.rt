@@ -6,7 +6,7 @@ pub const VERSION: &str = "0.1.0";
 /// Where the help on each command is.
 pub const COMMANDS: &str =
     "'tcc explain --help' and 'tcc check --help' show what is read, an example and the statuses.
-README.md of the sources says how to record a history and how to read an answer.";
+'man tcc' says how to read an answer, README.md of the sources also how to record a history.";
 
 /// The records, an example, and the statuses of an explained history.
 pub const EXPLAIN: &str = "Records, one a line (CSV without a header row):
@@ -35,12 +35,13 @@ Statuses, of the last answer or of the fault that ended the run:
   1   an anomaly: no order explains the reads, and no shorter cycle shows it
   2   unresolved: reads that can't be traced to a write, or values written twice
   3   a record breaks a rule, or the input ends inside a transaction
-  4   the input is past a limit
+  4   the records are past a limit
   5   out of memory
-  6   reading or writing failed
+  6   reading or writing failed, the input has more than 134217728 bytes, or the certificate's file
+      can't be made
   64  the command line is wrong
 
-README.md of the sources says how to read an answer, docs/FORMATS.md has every text and every limit.";
+'man tcc' says how to read an answer, docs/FORMATS.md of the sources has every text and every limit.";
 
 /// The files, an example, and the statuses of a checked certificate.
 pub const CHECK: &str =
@@ -67,9 +68,9 @@ Statuses:
   0   accepted: what the certificate claims is true
   2   unresolved: reads that can't be traced to a write, or values written twice
   3   a record breaks a rule, or the history ends inside a transaction
-  4   the history is past a limit
+  4   the records are past a limit
   5   out of memory
-  6   a file can't be opened or read, or writing failed
+  6   a file can't be opened or read, the history has more than 134217728 bytes, or writing failed
   7   rejected: the certificate breaks a rule, named with its place
   8   the text of the certificate has a fault, named with its line
   64  the command line is wrong
