@@ -72,6 +72,7 @@ fn least_steps(rt: HostRuntime) {
                 (1, 1, None),
                 (1, 2, Some(1)),
                 (2, 1, None),
+                (2, 2, None),
             ],
         ),
         (
