@@ -13,7 +13,7 @@ PREFIX ?= /usr/local
 JOBS ?= $(shell nproc)
 
 HISTORY = ../../examples/long-fork.csv
-UNPROVED = the program is not built from these sources yet: this is a trial run of them (a minute or two), of which \
+UNPROVED = the program is not built from these sources yet: this is a trial run of them (a minute and a half), of which \
 nothing is proved; make build proves and builds the program
 
 .PHONY: run build install demo test
