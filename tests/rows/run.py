@@ -158,7 +158,7 @@ def finished(words, run, folder, seconds):
             return subprocess.run(words, **streams)
         screen, streams["stderr"] = terminal(held)
         done = subprocess.run(words, **streams)
-        done.stderr = b"".join(shown(screen))
+        done.stderr = b"".join(seen_on(screen))
         return done
 
 
@@ -206,7 +206,7 @@ def terminal(held):
     return person, program
 
 
-def shown(screen):
+def seen_on(screen):
     """What a terminal has shown, part by part: the system may hand on one write after the other."""
     with contextlib.suppress(BlockingIOError):
         while True:
