@@ -10,7 +10,6 @@ import argparse
 import pathlib
 import random
 
-SIZES = (256, 1023, 4095)
 WIDE, NARROW, SESSIONS, KEYS = 256, 8, 64, 1024
 
 
