@@ -20,9 +20,14 @@ import shutil
 import subprocess
 import sys
 import tempfile
+from dataclasses import dataclass
+from typing import Dict, List
 
 HERE = pathlib.Path(__file__).resolve().parent
 TOP = HERE.parent.parent
+sys.path.insert(0, str(TOP / "tests"))
+from counted import status_of  # noqa: E402
+
 MEMORY = b"memory\n"
 JSON_MEMORY = b'{"answer":"memory"}\n'
 MOST = 10000
@@ -91,7 +96,8 @@ clocks
 0 1 0 0
 end
 """
-# The file of standard input, or none; the words after `tcc`, the answers, and the status.
+FILES = {"certificate": FORK_CERTIFICATE, "two-stale-reads": TWO_STALE_READS}
+# The file of standard input, or none; the words after `tcc`, the answers, and the status. `@NAME` is one of these files.
 ANSWERS = [
     (STALE, ["explain"], STALE_READ, 1),
     (EXAMPLES / "conflicting-writes.csv", ["explain"], CONFLICT, 1),
@@ -111,45 +117,72 @@ ANSWERS = [
 ]
 # The same, by one worker and by two.
 SEARCHES = [(STALE, STALE_READ, 1), (FORK, FORK_ORDER, 0), ("@two-stale-reads", STALE_READ, 1)]
-ANSWERS += [(given, ["explain", "--workers", workers], said, status) for workers in ("1", "2") for given, said, status in SEARCHES]
+ANSWERS += [(given, ["explain", "--workers", workers], said, status)
+            for workers in ("1", "2") for given, said, status in SEARCHES]
 # What the recorders answer one after another, and what they say of the last transaction of each of them.
-RECORDED = (TOP / "crates" / "tcc_recorders" / "stdout").read_bytes()
-ANOMALY, END = RECORDED.index(b"anomaly"), RECORDED.rindex(b"consistent")
-RECORDED = [RECORDED[:ANOMALY], RECORDED[ANOMALY:END], RECORDED[END:]]
+SAID = (TOP / "crates" / "tcc_recorders" / "stdout").read_bytes()
+ANOMALY, END = SAID.index(b"anomaly"), SAID.rindex(b"consistent")
+RECORDED = [SAID[:ANOMALY], SAID[ANOMALY:END], SAID[END:]]
 AGAIN = [b"recorded again: %s\n" % last for last in (b"alice/1", b"bob/1", b"carol/3", b"dave/1")]
 
 
-def answer(words, given, environment):
-    """Output and status of a run, and its standard error."""
-    with open(given or os.devnull, "rb") as records:
-        run = subprocess.run(words, stdin=records, capture_output=True, env=environment, timeout=60)
-    return (run.stdout, run.returncode), run.stderr
+@dataclass(frozen=True)
+class Run:
+    """A command line, the file of standard input, and what is answered where memory is there, with the status."""
+
+    words: List[str]
+    given: str
+    answers: List[bytes]
+    status: int
+
+    def name(self):
+        return " ".join(self.words)
+
+    def ample(self):
+        """Output and status where nothing is refused."""
+        return b"".join(self.answers), self.status
+
+    def cut_off(self, line):
+        """What is said where memory is refused: some answers, and then the line, with status 5."""
+        return [(b"".join(self.answers[:stand]) + line, 5) for stand in range(len(self.answers))]
+
+    def shares_work(self):
+        """Whether two workers do the work of this command line."""
+        return "--workers" in self.words and self.words[self.words.index("--workers") + 1] != "1"
 
 
-def cut_off(answers, line):
-    """What is said where memory is refused: some answers, and then the line, with status 5."""
-    return [(b"".join(answers[:stand]) + line, 5) for stand in range(len(answers))]
+@dataclass(frozen=True)
+class Shim:
+    """The library that refuses what a variable of the environment names, and the file that it makes where it did."""
+
+    library: pathlib.Path
+    mark: pathlib.Path
+
+    def answer(self, run: Run, refused: Dict[str, str]):
+        """Output and status of a run, its standard error, and whether anything was refused."""
+        self.mark.unlink(missing_ok=True)
+        environment = {**os.environ, "LD_PRELOAD": str(self.library), "REFUSED": str(self.mark), **refused}
+        with open(run.given, "rb") as records:
+            done = subprocess.run(run.words, stdin=records, capture_output=True, env=environment, timeout=60, check=False)
+        return (done.stdout, done.returncode), done.stderr, self.mark.exists()
 
 
-def refusals(words, given, answers, status, shim, mark):
+def refusals(run, shim):
     """For each allocation of a run, what is answered where it is refused, whether that is right, and standard error.
 
     Before the words of the command line are read the line `memory` stands, as nobody knows yet that JSON is wanted;
     from the first line of JSON on, that one.
     """
-    ample = (b"".join(answers), status)
-    json = cut_off(answers, JSON_MEMORY) if "--json" in words else []
-    lines = [(MEMORY, 5)] + json if json else cut_off(answers, MEMORY)
-    left = CALM if shares_work(words) else 1
+    json = run.cut_off(JSON_MEMORY) if "--json" in run.words else []
+    lines = [(MEMORY, 5)] + json if json else run.cut_off(MEMORY)
+    left = CALM if run.shares_work() else 1
     calm = 0
     for number in range(1, MOST):
-        mark.unlink(missing_ok=True)
-        environment = dict(os.environ, LD_PRELOAD=str(shim), REFUSE=str(number), REFUSED=str(mark))
-        got, said = answer(words, given, environment)
-        refused = mark.exists()
+        got, said, refused = shim.answer(run, {"REFUSE": str(number)})
         if got in json:
             lines = json
-        yield number, got, got == ample or (refused and got in lines), said if got == ample else b""
+        is_ample = got == run.ample()
+        yield number, got, is_ample or (refused and got in lines), said if is_ample else b""
         calm = 0 if refused else calm + 1
         if calm == left:
             break
@@ -157,20 +190,49 @@ def refusals(words, given, answers, status, shim, mark):
         yield MOST, "no end", False, b""
 
 
-def shares_work(words):
-    """Whether two workers do the work of this command line."""
-    return "--workers" in words and words[words.index("--workers") + 1] != "1"
-
-
-def refused_threads(words, given, answers, status, shim, mark):
-    """For each thread of a run, and for all together, what is answered where it can't be had, and whether that is right."""
-    for number in ["0"] + [str(number) for number in range(1, MOST)]:
-        mark.unlink(missing_ok=True)
-        environment = dict(os.environ, LD_PRELOAD=str(shim), REFUSE_THREAD=number, REFUSED=str(mark))
-        got, _ = answer(words, given, environment)
-        yield number, got, got == (b"".join(answers), status)
-        if not mark.exists():
+def refused_threads(run, shim):
+    """For each thread of a run, from 1, and for all together, by 0, what is answered where it can't be had."""
+    for number in range(MOST):
+        got, _, refused = shim.answer(run, {"REFUSE_THREAD": str(number)})
+        yield number, got
+        if not refused:
             break
+
+
+def outcomes_of(run, shim):
+    """Each refusal in runs of this command line, with what is wrong, or None."""
+    unsaid = set(AGAIN if "alone" in run.words else [])
+    for number, got, is_right, said in refusals(run, shim):
+        unsaid.discard(said)
+        yield "%s, allocation %d refused" % (run.name(), number), None if is_right else "got %r" % (got,)
+    for line in sorted(unsaid):
+        yield run.name(), "never said %r" % line
+    for number, got in refused_threads(run, shim) if run.shares_work() else ():
+        yield "%s, thread %d refused" % (run.name(), number), None if got == run.ample() else "got %r" % (got,)
+
+
+def runs(tcc, recorders, folder):
+    """All that is run; the files that the words name lie in the folder."""
+    for given, words, answers, status in ANSWERS:
+        placed = [str(word).replace("@", folder + "/") for word in [given or os.devnull, *words]]
+        yield Run([tcc, *placed[1:]], placed[0], answers if isinstance(answers, list) else [answers], status)
+    yield Run([recorders], os.devnull, RECORDED, 0)
+    yield Run([recorders, "alone"], os.devnull, RECORDED, 0)
+
+
+def outcomes(tcc, recorders):
+    """All refusals, each with what is wrong, or None."""
+    compiler = shutil.which("cc") or shutil.which("clang")
+    if not compiler:
+        yield "C compiler", "no cc and no clang on the path: refused memory can't be tested"
+        return
+    with tempfile.TemporaryDirectory() as folder:
+        for name, text in FILES.items():
+            pathlib.Path(folder, name).write_bytes(text)
+        shim = Shim(pathlib.Path(folder, "refuse.so"), pathlib.Path(folder, "refused"))
+        subprocess.run([compiler, "-shared", "-fPIC", "-O1", "-o", shim.library, HERE / "refuse.c", "-ldl"], check=True)
+        for run in runs(tcc, recorders, folder):
+            yield from outcomes_of(run, shim)
 
 
 def main():
@@ -178,43 +240,7 @@ def main():
     ask.add_argument("--tcc", default=str(TOP / "crates" / "tcc" / "out" / "tcc"), help="another program than the built one")
     ask.add_argument("--recorders", default=str(TOP / "crates" / "tcc_recorders" / "out" / "tcc_recorders"), help="the same")
     asked = ask.parse_args()
-    tcc, recorders = os.path.abspath(asked.tcc), os.path.abspath(asked.recorders)
-    runs = [(tcc, given, words, said, status) for given, words, said, status in ANSWERS]
-    runs += [(recorders, None, [], RECORDED, 0), (recorders, None, ["alone"], RECORDED, 0)]
-    compiler = shutil.which("cc") or shutil.which("clang")
-    passed = failed = 0
-    if not compiler:
-        print("no C compiler (cc or clang): refused memory can't be tested")
-        failed = 1
-    with tempfile.TemporaryDirectory() as folder:
-        shim, mark = pathlib.Path(folder, "refuse.so"), pathlib.Path(folder, "refused")
-        pathlib.Path(folder, "certificate").write_bytes(FORK_CERTIFICATE)
-        pathlib.Path(folder, "two-stale-reads").write_bytes(TWO_STALE_READS)
-        if compiler:
-            subprocess.run([compiler, "-shared", "-fPIC", "-O1", "-o", shim, HERE / "refuse.c", "-ldl"], check=True)
-        for program, given, asked, answers, status in runs if compiler else ():
-            words = [program] + [str(word).replace("@", folder + "/") for word in asked]
-            given = given and str(given).replace("@", folder + "/")
-            answers = answers if isinstance(answers, list) else [answers]
-            wanted = set(AGAIN if "alone" in asked else [])
-            for number, got, right, said in refusals(words, given, answers, status, shim, mark):
-                wanted.discard(said)
-                if right:
-                    passed += 1
-                else:
-                    failed += 1
-                    print("%s, allocation %d refused: got %r" % (" ".join(words), number, got))
-            for line in wanted:
-                failed += 1
-                print("%s: never said %r" % (" ".join(words), line))
-            for number, got, right in refused_threads(words, given, answers, status, shim, mark) if shares_work(words) else ():
-                if right:
-                    passed += 1
-                else:
-                    failed += 1
-                    print("%s, thread %s refused: got %r" % (" ".join(words), number, got))
-    print("%d passed, %d failed" % (passed, failed))
-    return 1 if failed else 0
+    return status_of(outcomes(os.path.abspath(asked.tcc), os.path.abspath(asked.recorders)))
 
 
 if __name__ == "__main__":
