@@ -18,56 +18,54 @@ import tempfile
 from histories import text_of
 
 TOP = pathlib.Path(__file__).resolve().parent.parent
+sys.path.insert(0, str(TOP / "tests"))
+from counted import status_of  # noqa: E402
+
 TRANSACTIONS = 4095
-ANOMALIES = ["stale-reads", "stale-reads-of-few-keys", "stale-reads-in-one-session", "ring-of-long-links"]
+ANOMALY = 1
+KINDS = ["stale-reads", "stale-reads-of-few-keys", "stale-reads-in-one-session", "ring-of-long-links"]
 
 
 def bytes_of(tcc, history, workers, folder):
-    """Standard output, status and a digest of the certificate."""
+    """Standard output, status and a digest of the certificate, None where there is none."""
     certificate = pathlib.Path(folder, "certificate")
     certificate.unlink(missing_ok=True)
     with open(history, "rb") as records:
         run = subprocess.run([tcc, "explain", "--workers", str(workers), "--certificate", certificate], stdin=records,
                              stdout=subprocess.PIPE)
     return {"standard output": run.stdout, "status": run.returncode,
-            "certificate": hashlib.sha256(certificate.read_bytes()).hexdigest()}
+            "certificate": hashlib.sha256(certificate.read_bytes()).hexdigest() if certificate.exists() else None}
 
 
-def compare(tcc, name, history, runs, folder):
-    """How many of the runs had the bytes of one worker, and how many had others."""
+def compared(tcc, kind, history, runs, folder):
+    """The run by one worker and those by many, each with what is wrong, or None."""
     first = bytes_of(tcc, history, 1, folder)
-    print("%s: %s" % (name, first["standard output"].split(b"\n")[0].decode()), flush=True)
-    failed = 0
-    if first["status"] != 1:
-        failed += 1
-        print("%s: status %d of an anomaly" % (name, first["status"]))
+    print("%s: %s" % (kind, first["standard output"].split(b"\n")[0].decode()), flush=True)
+    yield "%s, 1 worker" % kind, None if first["status"] == ANOMALY else "status %d of an anomaly" % first["status"]
     for run in range(runs):
         workers = (4, 32)[run % 2]
         got = bytes_of(tcc, history, workers, folder)
-        other = [part for part in first if got[part] != first[part]]
-        failed += bool(other)
-        for part in other:
-            print("%s, %d workers, run %d: another %s" % (name, workers, run, part), flush=True)
-    return runs + 1 - failed, failed
+        others = [part for part in first if got[part] != first[part]]
+        yield "%s, %d workers, run %d" % (kind, workers, run), "another %s" % " and ".join(others) if others else None
+
+
+def outcomes(tcc, kinds, transactions, runs):
+    """All runs on histories of these kinds, each with what is wrong, or None."""
+    with tempfile.TemporaryDirectory() as folder:
+        for kind in kinds:
+            history = pathlib.Path(folder, "history.csv")
+            history.write_text(text_of(kind, transactions))
+            yield from compared(tcc, kind, history, runs, folder)
 
 
 def main():
     ask = argparse.ArgumentParser(description="Compares the bytes of many workers with those of one.")
     ask.add_argument("--runs", type=int, default=200, help="runs on each history, by default 200")
     ask.add_argument("--transactions", type=int, default=TRANSACTIONS, help="of each history, by default %d" % TRANSACTIONS)
-    ask.add_argument("--only", nargs="+", choices=ANOMALIES, default=ANOMALIES, help="these histories alone")
+    ask.add_argument("--only", nargs="+", choices=KINDS, default=KINDS, help="these histories alone")
     ask.add_argument("--tcc", default=str(TOP / "crates" / "tcc" / "out" / "tcc"), help="another program than the built one")
     asked = ask.parse_args()
-    tcc = os.path.abspath(asked.tcc)
-    passed = failed = 0
-    with tempfile.TemporaryDirectory() as folder:
-        for kind in asked.only:
-            history = pathlib.Path(folder, "history.csv")
-            history.write_text(text_of(kind, asked.transactions))
-            same, other = compare(tcc, kind, history, asked.runs, folder)
-            passed, failed = passed + same, failed + other
-    print("%d passed, %d failed" % (passed, failed))
-    return 1 if failed else 0
+    return status_of(outcomes(os.path.abspath(asked.tcc), asked.only, asked.transactions, asked.runs))
 
 
 if __name__ == "__main__":

@@ -19,6 +19,9 @@ import tempfile
 from definitions import History, outcome, read
 
 TOP = pathlib.Path(__file__).resolve().parent.parent.parent
+sys.path.insert(0, str(TOP / "tests"))
+from counted import status_of  # noqa: E402
+
 EXAMPLES = TOP / "examples"
 STALE, FORK, CONFLICT, CROSSED = ((EXAMPLES / (name + ".csv")).read_text()
                                   for name in ("stale-read", "long-fork", "conflicting-writes", "causality-cycle"))
@@ -95,7 +98,7 @@ def answered(tcc, history, text, folder):
 
 
 def differences(tcc, records, level, version, folder, pool):
-    """For each text what is wrong with the program's answer, or nothing."""
+    """For each text what was done to it, and what is wrong with the program's answer, or None."""
     history, path = History(records), os.path.join(folder, "history")
     pathlib.Path(path).write_text(records)
     text = certificate(tcc, records, level, folder)
@@ -106,24 +109,23 @@ def differences(tcc, records, level, version, folder, pool):
     for (what, case), answer in zip(cases, got):
         wanted = outcome(history, case)
         if what == "as it is" and wanted[1] != 0:
-            yield "no certificate was written, but %r" % case
+            yield what, "no certificate was written, but %r" % case
         else:
-            yield None if answer == wanted else "%s: wanted %r, got %r" % (what, wanted, answer)
+            yield what, None if answer == wanted else "wanted %r, got %r" % (wanted, answer)
+
+
+def outcomes(tcc):
+    """What was done to each certificate, each with what is wrong, or None."""
+    with tempfile.TemporaryDirectory() as folder, concurrent.futures.ThreadPoolExecutor(os.cpu_count()) as pool:
+        for records, level, version in ASKED:
+            for what, wrong in differences(tcc, records, level, version, folder, pool):
+                yield "version %d, %s: %s" % (version, level, what), wrong
 
 
 def main():
     ask = argparse.ArgumentParser(description="Checks altered certificates.")
     ask.add_argument("--tcc", default=str(TOP / "crates" / "tcc" / "out" / "tcc"), help="another program than the built one")
-    tcc = os.path.abspath(ask.parse_args().tcc)
-    passed = failed = 0
-    with tempfile.TemporaryDirectory() as folder, concurrent.futures.ThreadPoolExecutor(os.cpu_count()) as pool:
-        for records, level, version in ASKED:
-            for wrong in differences(tcc, records, level, version, folder, pool):
-                passed, failed = passed + (not wrong), failed + bool(wrong)
-                if wrong:
-                    print("version %d, %s: %s" % (version, level, wrong))
-    print("%d passed, %d failed" % (passed, failed))
-    return 1 if failed else 0
+    return status_of(outcomes(os.path.abspath(ask.parse_args().tcc)))
 
 
 if __name__ == "__main__":

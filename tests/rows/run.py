@@ -24,6 +24,9 @@ import threading
 
 HERE = pathlib.Path(__file__).resolve().parent
 TOP = HERE.parent.parent
+sys.path.insert(0, str(TOP / "tests"))
+from counted import status_of  # noqa: E402
+
 NEEDED = {"about", "arguments", "status"}
 FIELDS = NEEDED | {"input", "input_from", "typed", "cut", "closed", "files", "output", "output_to", "taken", "errors",
                    "watched", "certificate", "checked", "seconds"}
@@ -275,6 +278,19 @@ def certificate_wanted(run):
     return run["files"][wanted[1:]] if isinstance(wanted, str) else wanted
 
 
+def outcomes_of(path, tcc, workers, seconds):
+    """The runs of a case by their names, each with what is wrong, or None."""
+    try:
+        every = list(runs(json.loads(path.read_text())))
+    except (ValueError, KeyError) as error:
+        yield path.stem, "not a case: %s" % error
+        return
+    for which, run in every:
+        asked = by_workers(run, workers) if workers else run
+        if asked:
+            yield path.stem + which, difference(tcc, asked, seconds)
+
+
 def main():
     ask = argparse.ArgumentParser(description="Runs a built tcc on the cases of this folder.")
     ask.add_argument("--tcc", default=str(TOP / "crates/tcc/out/tcc"), help="the program, by default the built one")
@@ -283,31 +299,10 @@ def main():
     ask.add_argument("--workers", type=int, help="for each run of explain that doesn't say how many itself")
     ask.add_argument("names", nargs="*", help="only these cases")
     asked = ask.parse_args()
+    paths = [path for path in sorted((HERE / "cases").glob("*.json"))
+             if asked.only in path.stem and (not asked.names or path.stem in asked.names)]
     tcc = shlex.split(asked.tcc)
-    passed = failed = 0
-    for path in sorted((HERE / "cases").glob("*.json")):
-        if asked.only not in path.stem or asked.names and path.stem not in asked.names:
-            continue
-        try:
-            every = list(runs(json.loads(path.read_text())))
-        except (ValueError, KeyError) as error:
-            print("%s: not a case: %s" % (path.stem, error))
-            failed += 1
-            continue
-        if asked.workers:
-            every = [(which, by_many) for which, run in every if (by_many := by_workers(run, asked.workers))]
-        for which, run in every:
-            wrong = difference(tcc, run, asked.seconds)
-            if wrong is None:
-                passed += 1
-            else:
-                failed += 1
-                print("%s%s: %s" % (path.stem, which, wrong), flush=True)
-    if passed + failed == 0:
-        print("no case has that name")
-        failed = 1
-    print("%d passed, %d failed" % (passed, failed))
-    return 1 if failed else 0
+    return status_of(outcome for path in paths for outcome in outcomes_of(path, tcc, asked.workers, asked.seconds))
 
 
 if __name__ == "__main__":

@@ -18,6 +18,9 @@ import subprocess
 import sys
 
 TOP = pathlib.Path(__file__).resolve().parent.parent.parent
+sys.path.insert(0, str(TOP / "tests"))
+from counted import status_of  # noqa: E402
+
 CHAIN = 19
 LEVELS = ("causal", "atomic")
 WORKERS = ("1", "2", "32")
@@ -105,16 +108,7 @@ def outcomes(tcc, sealed):
 def main():
     ask = argparse.ArgumentParser(description="Seals while a history grows.")
     ask.add_argument("--tcc", default=str(TOP / "crates/tcc/out/tcc"), help="the program, by default the built one")
-    tcc = shlex.split(ask.parse_args().tcc)
-    sealed = list(parts())
-    passed = failed = 0
-    for which, wrong in outcomes(tcc, sealed):
-        passed += wrong is None
-        failed += wrong is not None
-        if wrong:
-            print("%s: %s" % (which, wrong), flush=True)
-    print("%d passed, %d failed" % (passed, failed))
-    return 1 if failed else 0
+    return status_of(outcomes(shlex.split(ask.parse_args().tcc), list(parts())))
 
 
 if __name__ == "__main__":
