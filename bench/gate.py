@@ -20,6 +20,9 @@ import time
 import uuid
 
 TOP = pathlib.Path(__file__).resolve().parent.parent
+sys.path.insert(0, str(TOP / "tests"))
+from crates import stands_on  # noqa: E402
+
 TICKS = os.sysconf("SC_CLK_TCK")
 EVERY = 0.1
 KINDS = ("proofs", "tests", "edits")
@@ -79,14 +82,10 @@ class Watch:
         return found
 
 
-def crates():
+def crates_below():
     """The crates of the repository in their order, each with the crates of the repository that it stands on."""
-    found = {}
-    for line in (TOP / "crates.txt").read_text().splitlines():
-        head, colon, libraries = line.partition("#")[0].partition(":")
-        if colon:
-            found[head.split()[0]] = libraries.split()
-    return {name: [it for it in below if it in found] for name, below in found.items()}
+    named = stands_on()
+    return {crate: [one for one in libraries if one in named] for crate, libraries in named.items()}
 
 
 def longest(below, seconds):
@@ -99,7 +98,7 @@ def longest(below, seconds):
 
 
 def table(seconds, edits):
-    below = crates()
+    below = crates_below()
     lines = ["%-24s %8s %8s %8s %8s %6s" % ("processor minutes", *KINDS, "all", "edits")]
     for name in below:
         parts = [seconds[name, kind] / 60 for kind in KINDS]

@@ -1,5 +1,6 @@
 #!/usr/bin/env python3
-"""Whether what the documents name is there, and whether the man page and the completion have what the program has.
+"""Whether what the documents name is there, whether the man page and the completion have what the program has, and whether
+each script defines a name once.
 
     run.py [--tcc PATH]
 
@@ -13,15 +14,19 @@ In the documents, a link has to lead to a file, and what stands in backquotes ha
 
 ARCHITECTURE has to name the modules of each crate, all of them and no others, and what a crate stands on as `crates.txt` has
 it; PROOFS each public call of a library, in the part of its crate. Where a `specs/Lib.antt` says what serves proofs alone, the
-files below that line have to be those that say in the beginning that nobody has to believe them. CHANGELOG tells of the past, and is left out. The man page and the completion for bash have to name each command and option
-of the program's help, and the completion to complete them; and the stack that README names has to be enough. Each
-difference is one line; the last line is `N passed, M failed`.
+files below that line have to be those that say in the beginning that nobody has to believe them. CHANGELOG tells of the past, and
+is left out. No script may define a name twice at one level. The man page and the completion for bash have to name each
+command and option of the program's help, and the completion to complete them; and the stack that README names has to be
+enough. Each difference is one line; the last line is `N passed, M failed`.
 """
 import argparse
+import ast
+import collections
 import functools
 import pathlib
 import re
 import shlex
+import shutil
 import subprocess
 import sys
 import tempfile
@@ -30,6 +35,7 @@ from typing import Dict, Iterator, List, Optional, Tuple
 TOP = pathlib.Path(__file__).resolve().parent.parent.parent
 sys.path.insert(0, str(TOP / "tests"))
 from counted import status_of  # noqa: E402
+from crates import stands_on  # noqa: E402
 
 CODE = re.compile(r"```.*?```", re.DOTALL)
 QUOTED = re.compile(r"`([^`\n]+)`")
@@ -46,6 +52,7 @@ PUBLIC_MODULE = re.compile(r"^pub mod (\w+);", re.MULTILINE)
 PASSED_ON = re.compile(r"^pub use (?!tcc_)[\w:]+::(\{[^}]*\}|\w+);", re.MULTILINE)
 METHODS = re.compile(r"impl(?:<[^>]*>)? (\w+)")
 CALL = re.compile(r"( *)pub (?:const )?fn (\w+)")
+LEVELS = (ast.Module, ast.ClassDef, ast.FunctionDef)
 # Types of the toolchain, and files that a reader has, makes or names.
 ELSEWHERE = {"Vec", "String", "Option", "Result", "Ordering", "Rattle"}
 MADE = re.compile(r"(?:history|names|records|answer|client-|certificate)\S*|store/|.*\bNAME\b.*|.*\bout/.*")
@@ -126,12 +133,6 @@ def table(heading: str) -> Iterator[List[str]]:
         yield [cell.strip() for cell in line.strip("|").split("|")]
 
 
-def stands_on() -> Dict[str, List[str]]:
-    """What each crate of crates.txt names."""
-    lines = [line.partition("#")[0].partition(":") for line in (TOP / "crates.txt").read_text().splitlines()]
-    return {before.split()[0]: after.split() for before, colon, after in lines if colon}
-
-
 def faults_of_modules() -> Iterator[Tuple[str, Optional[str]]]:
     """Whether the table of modules names those of each crate, by their paths or the ends of these."""
     told = {WORD.findall(crate)[0]: [one for one in WORD.findall(modules) if not one.startswith("tcc_")]
@@ -206,6 +207,23 @@ def faults_of_specs() -> Iterator[Tuple[str, Optional[str]]]:
                 yield "specs of %s: %s" % (index.parts[-3], name), None if says == private else "it stands in the other part"
 
 
+def defined(level: ast.AST) -> Iterator[str]:
+    """The names that a level of a script defines: functions, classes, and but for the level of a function constants."""
+    for one in level.body:
+        if isinstance(one, LEVELS):
+            yield one.name
+        elif isinstance(one, ast.Assign) and not isinstance(level, ast.FunctionDef):
+            yield from (target.id for target in one.targets if isinstance(target, ast.Name))
+
+
+def faults_of_scripts() -> Iterator[Tuple[str, Optional[str]]]:
+    """Whether each script defines a name once at each level: the second of two takes all uses of the first."""
+    for path in (path[1:] for path in files() if path.endswith(".py")):
+        levels = (one for one in ast.walk(ast.parse((TOP / path).read_text())) if isinstance(one, LEVELS))
+        twice = [name for level in levels for name, times in collections.Counter(defined(level)).items() if times > 1]
+        yield path, "defines twice: " + ", ".join(twice) if twice else None
+
+
 def documents() -> List[pathlib.Path]:
     found = [TOP / "README.md", TOP / "CONTRIBUTING.md", *(TOP / "docs").glob("*.md"), *TOP.glob("*/README.md"),
              TOP / "tests/rows/README.md"]
@@ -257,6 +275,10 @@ def outcomes(tcc: List[str]) -> Iterator[Tuple[str, Optional[str]]]:
     yield from faults_of_crates()
     yield from faults_of_calls()
     yield from faults_of_specs()
+    yield from faults_of_scripts()
+    if not shutil.which(tcc[0]):
+        yield tcc[0], "there is no such program"
+        return
     yield from faults_of_options(tcc)
     yield from faults_of_stack(tcc)
 
