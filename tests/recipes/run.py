@@ -43,6 +43,7 @@ from typing import Dict, Iterator, List, Optional, Tuple
 HERE = pathlib.Path(__file__).resolve().parent
 TOP = HERE.parent.parent
 sys.path.insert(0, str(TOP / "tests"))
+from compared import first_difference, shown  # noqa: E402
 from counted import status_of  # noqa: E402
 
 RECIPES = TOP / "recipes"
@@ -120,31 +121,20 @@ def done(run: Run, tcc: List[str]) -> Done:
     return Done(statuses, given, errors, written)
 
 
-def differences(run: Run, did: Done) -> Iterator[str]:
+def differences(run: Run, did: Done) -> Iterator[Optional[str]]:
     wanted = run.statuses or [0] * len(run.commands)
     if wanted != did.statuses:
-        yield "statuses: wanted %s, got %s, standard error %s" % (wanted, did.statuses, shown(did.errors[-200:]))
-    yield from difference("output", text(run.output), did.output)
-    yield from difference("standard error", text(run.errors), did.errors)
+        yield "statuses: wanted %s, got %s, standard error ends with %s" % (wanted, did.statuses, shown(did.errors[-200:]))
+    yield first_difference("output", text(run.output), did.output)
+    yield first_difference("standard error", text(run.errors), did.errors)
     for name, parts in run.written.items():
-        yield from difference(name, text(parts), did.written[name])
+        yield first_difference(name, text(parts), did.written[name])
 
 
-def difference(what: str, wanted: bytes, got: bytes) -> Iterator[str]:
-    if wanted == got:
-        return
-    lines = list(zip(wanted.split(b"\n") + [b"no line"], got.split(b"\n") + [b"no line"]))
-    number, (one, other) = next(((n, pair) for n, pair in enumerate(lines, 1) if pair[0] != pair[1]), (0, (wanted, got)))
-    yield "%s, line %d: wanted %s, got %s" % (what, number, shown(one[:200]), shown(other[:200]))
-
-
-def shown(line: bytes) -> str:
-    return repr(line.decode(errors="backslashreplace"))
-
-
-def first_difference(run: Run, tcc: List[str]) -> Optional[str]:
+def wrong(run: Run, tcc: List[str]) -> Optional[str]:
+    """What the commands did otherwise than wanted, or None."""
     try:
-        return next(differences(run, done(run, tcc)), None)
+        return next(filter(None, differences(run, done(run, tcc))), None)
     except (OSError, subprocess.TimeoutExpired) as error:
         return str(error)
 
@@ -153,22 +143,22 @@ def helps() -> Iterator[Tuple[str, Optional[str]]]:
     """Whether the help of each script shows an example."""
     for script in sorted(RECIPES.glob("**/*.py")):
         ended = subprocess.run([sys.executable, str(script), "--help"], capture_output=True, timeout=SECONDS, check=False)
-        shown = ended.returncode == 0 and b"\nexample: " in ended.stdout.replace(b"example:\n", b"example: ")
-        yield "help of " + script.name, None if shown else "status %d, or no example" % ended.returncode
+        has_example = ended.returncode == 0 and re.search(rb"^example:\s", ended.stdout, re.MULTILINE)
+        yield "help of " + script.name, None if has_example else "status %d, or no example" % ended.returncode
 
 
 def redis_demo(tcc: List[str]) -> Iterator[Tuple[str, Optional[str]]]:
     """The demo with real servers, where they are there: the one answer is an order, the other a stale read of 3 steps."""
-    words = [sys.executable, str(RECIPES / "redis" / "demo.py"), "--tcc", tcc[-1]]
+    command = [sys.executable, str(RECIPES / "redis" / "demo.py"), "--tcc", tcc[-1]]
     try:
-        ended = subprocess.run(words, capture_output=True, timeout=4 * SECONDS, check=False)
+        ended = subprocess.run(command, capture_output=True, timeout=4 * SECONDS, check=False)
     except subprocess.TimeoutExpired as error:
         yield "demo", str(error)
         return
     if ended.returncode == WITHOUT_SERVER:
         print("demo: passed over: no redis-server or redis-py here")
         return
-    yield "demo", None if ended.returncode == 0 else "status %d, %s" % (ended.returncode, shown(ended.stdout + ended.stderr))
+    yield "demo", None if ended.returncode == 0 else "status %d, %r" % (ended.returncode, ended.stdout + ended.stderr)
 
 
 def redis_outcomes() -> Iterator[Tuple[str, Optional[str]]]:
@@ -238,7 +228,7 @@ def outcomes(names: List[str], tcc: List[str]) -> Iterator[Tuple[str, Optional[s
                 if ["dot"] in [command[:1] for command in run.commands] and not shutil.which("dot"):
                     print("%s: passed over: no dot on the path" % name)
                 else:
-                    yield name, first_difference(run, tcc)
+                    yield name, wrong(run, tcc)
     if not names:
         yield from helps()
         yield from documented_clients()

@@ -25,6 +25,7 @@ import threading
 HERE = pathlib.Path(__file__).resolve().parent
 TOP = HERE.parent.parent
 sys.path.insert(0, str(TOP / "tests"))
+from compared import first_difference, shown  # noqa: E402
 from counted import status_of  # noqa: E402
 
 NEEDED = {"about", "arguments", "status"}
@@ -130,20 +131,6 @@ def stream_difference(what, wanted, got):
     if wanted == "some":
         return None if got else what + ": wanted a text, got none"
     return first_difference(what, text(wanted), got)
-
-
-def first_difference(what, wanted, got):
-    if wanted == got:
-        return None
-    lines = list(zip(wanted.split(b"\n") + [None], got.split(b"\n") + [None]))
-    for number, (w, g) in enumerate(lines, 1):
-        if w != g:
-            return "%s, line %d: wanted %s, got %s" % (what, number, shown(w), shown(g))
-    return "%s: %d bytes wanted, %d got" % (what, len(wanted), len(got))
-
-
-def shown(line):
-    return "no such line" if line is None else repr(line[:120].decode(errors="backslashreplace"))
 
 
 def finished(words, run, folder, seconds):
