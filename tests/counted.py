@@ -1,10 +1,13 @@
 """Counts what tests find."""
 from typing import Iterable, Optional, Tuple
 
+# The name of a test, and what is wrong or None.
+Outcome = Tuple[str, Optional[str]]
 
-def status_of(outcomes: Iterable[Tuple[str, Optional[str]]]) -> int:
-    """The exit status of tests whose outcomes are names, each with what is wrong or None: 0 where there are some and none is
-    wrong. Each that is wrong is printed in a line, and then `N passed, M failed`."""
+
+def status_of(outcomes: Iterable[Outcome]) -> int:
+    """The exit status: 0 where there are outcomes and nothing is wrong. Each that is wrong is printed in a line, as soon as it
+    comes, and then `N passed, M failed`."""
     passed = failed = 0
     for name, wrong in outcomes:
         if wrong is None:

@@ -23,6 +23,7 @@ import argparse
 import ast
 import collections
 import functools
+import itertools
 import pathlib
 import re
 import shlex
@@ -34,7 +35,7 @@ from typing import Dict, Iterator, List, Optional, Tuple
 
 TOP = pathlib.Path(__file__).resolve().parent.parent.parent
 sys.path.insert(0, str(TOP / "tests"))
-from counted import status_of  # noqa: E402
+from counted import Outcome, status_of  # noqa: E402
 from crates import stands_on  # noqa: E402
 
 CODE = re.compile(r"```.*?```", re.DOTALL)
@@ -110,20 +111,35 @@ def outcome_of_name(name: str) -> Iterator[Optional[str]]:
         yield None if of_type.group(1) in words("", "") else "no source has it"
 
 
-def faults_of(document: pathlib.Path) -> Iterator[Tuple[str, Optional[str]]]:
+def faults_of_names(line: str) -> Iterator[Outcome]:
+    """Whether what stands in backquotes is there."""
+    for name in QUOTED.findall(line):
+        for wrong in outcome_of_name(name):
+            yield "`%s`" % name, wrong
+
+
+def faults_of_links(line: str, folder: pathlib.Path) -> Iterator[Outcome]:
+    """Whether the links of a document in the folder lead to files; what other houses have isn't asked for."""
+    for target in LINK.findall(line):
+        if "://" not in target:
+            yield target, None if (folder / target).exists() else "no such file"
+
+
+def faults_of_places(line: str) -> Iterator[Outcome]:
+    """Whether the files that stand behind a name have it."""
+    for name, place in BEFORE_FILE.findall(line):
+        crate, _, part = place.partition("/")
+        has_name = name in words(crate, part) or not is_there("crates/" + place)
+        yield "`%s` (`%s`)" % (name, place), None if has_name else "it isn't there"
+
+
+def faults_of_document(document: pathlib.Path) -> Iterator[Outcome]:
+    """Whether what the lines of a document name is there, but for those of its code."""
     text = CODE.sub(lambda block: "\n" * block.group().count("\n"), document.read_text())
     for number, line in enumerate(text.splitlines(), 1):
-        where = "%s, line %d: " % (document.relative_to(TOP), number)
-        for name in QUOTED.findall(line):
-            for wrong in outcome_of_name(name):
-                yield where + "`%s`" % name, wrong
-        for target in LINK.findall(line):
-            if "://" not in target:
-                yield where + target, None if (document.parent / target).exists() else "no such file"
-        for name, place in BEFORE_FILE.findall(line):
-            crate, _, part = place.partition("/")
-            there = name in words(crate, part) or not is_there("crates/" + place)
-            yield where + "`%s` (`%s`)" % (name, place), None if there else "it isn't there"
+        found = itertools.chain(faults_of_names(line), faults_of_links(line, document.parent), faults_of_places(line))
+        for what, wrong in found:
+            yield "%s, line %d: %s" % (document.relative_to(TOP), number, what), wrong
 
 
 def table(heading: str) -> Iterator[List[str]]:
@@ -133,7 +149,7 @@ def table(heading: str) -> Iterator[List[str]]:
         yield [cell.strip() for cell in line.strip("|").split("|")]
 
 
-def faults_of_modules() -> Iterator[Tuple[str, Optional[str]]]:
+def faults_of_modules() -> Iterator[Outcome]:
     """Whether the table of modules names those of each crate, by their paths or the ends of these."""
     told = {WORD.findall(crate)[0]: [one for one in WORD.findall(modules) if not one.startswith("tcc_")]
             for crate, modules in table("| crate | its modules |")}
@@ -151,7 +167,7 @@ def faults_of_modules() -> Iterator[Tuple[str, Optional[str]]]:
             yield "modules of %s: `%s`" % (crate, name), None if is_module else "no such module"
 
 
-def faults_of_crates() -> Iterator[Tuple[str, Optional[str]]]:
+def faults_of_crates() -> Iterator[Outcome]:
     """Whether the table of crates has for each one what it stands on, beside what these stand on."""
     told: Dict[str, List[str]] = {}
     for crates, _, below in table("| crate | what it is |"):
@@ -166,7 +182,8 @@ def faults_of_crates() -> Iterator[Tuple[str, Optional[str]]]:
         if crate.startswith("tcc_tests_"):
             continue
         more, less = sorted(set(told.get(crate, [])) - set(wanted)), sorted(set(wanted) - all_below(crate))
-        wrong = ["stands not on " + one for one in more] + ["stands on %s, of which ARCHITECTURE says nothing" % one for one in less]
+        wrong = ["stands not on " + one for one in more]
+        wrong += ["stands on %s, of which ARCHITECTURE says nothing" % one for one in less]
         yield "crate %s" % crate, None if crate in told and not wrong else "; ".join(wrong) or "ARCHITECTURE has no row"
 
 
@@ -184,7 +201,7 @@ def public_calls(crate: str) -> Iterator[str]:
                 yield call.group(2)
 
 
-def faults_of_calls() -> Iterator[Tuple[str, Optional[str]]]:
+def faults_of_calls() -> Iterator[Outcome]:
     """Whether PROOFS names each public call of each library, in the part of its crate."""
     parts = re.split(r"^## `?(\w+)`?.*$", (TOP / "docs/PROOFS.md").read_text(), flags=re.MULTILINE)
     told = dict(zip(parts[1::2], parts[2::2]))
@@ -196,7 +213,7 @@ def faults_of_calls() -> Iterator[Tuple[str, Optional[str]]]:
             yield "call %s of %s" % (call, crate), None if call in quoted else "PROOFS doesn't name it"
 
 
-def faults_of_specs() -> Iterator[Tuple[str, Optional[str]]]:
+def faults_of_specs() -> Iterator[Outcome]:
     """Whether the parts of an index of specs are those that the files themselves tell."""
     for index in sorted((TOP / "crates").glob("*/specs/Lib.antt")):
         believed, line, rest = index.read_text().partition("-- What serves proofs alone:\n")
@@ -216,7 +233,7 @@ def defined(level: ast.AST) -> Iterator[str]:
             yield from (target.id for target in one.targets if isinstance(target, ast.Name))
 
 
-def faults_of_scripts() -> Iterator[Tuple[str, Optional[str]]]:
+def faults_of_scripts() -> Iterator[Outcome]:
     """Whether each script defines a name once at each level: the second of two takes all uses of the first."""
     for path in (path[1:] for path in files() if path.endswith(".py")):
         levels = (one for one in ast.walk(ast.parse((TOP / path).read_text())) if isinstance(one, LEVELS))
@@ -240,7 +257,7 @@ def options_of(tcc: List[str]) -> Iterator[str]:
         yield from re.findall(r"^  ([a-z]+)  ", listed, re.MULTILINE)
 
 
-def faults_of_options(tcc: List[str]) -> Iterator[Tuple[str, Optional[str]]]:
+def faults_of_options(tcc: List[str]) -> Iterator[Outcome]:
     options = sorted(set(options_of(tcc)))
     yield "help", None if len(options) > 5 else "no options were found"
     for name in ("docs/tcc.1", "docs/tcc.bash"):
@@ -253,7 +270,7 @@ def faults_of_options(tcc: List[str]) -> Iterator[Tuple[str, Optional[str]]]:
         yield "completion of '%s'" % line, None if got == wanted else "wanted '%s', got '%s'" % (wanted, got)
 
 
-def faults_of_stack(tcc: List[str]) -> Iterator[Tuple[str, Optional[str]]]:
+def faults_of_stack(tcc: List[str]) -> Iterator[Outcome]:
     """Whether the stack that README names is enough for an answer with its certificate, and for the check of that."""
     stack = re.search(r"needs a stack of ([0-9]+) KB", (TOP / "README.md").read_text()).group(1)
     history = str(TOP / "examples/stale-read.csv")
@@ -268,9 +285,9 @@ def faults_of_stack(tcc: List[str]) -> Iterator[Tuple[str, Optional[str]]]:
             yield "%s in %s KB of stack" % (words_after[0], stack), None if got == wanted else "status %d" % got
 
 
-def outcomes(tcc: List[str]) -> Iterator[Tuple[str, Optional[str]]]:
+def outcomes(tcc: List[str]) -> Iterator[Outcome]:
     for document in documents():
-        yield from faults_of(document)
+        yield from faults_of_document(document)
     yield from faults_of_modules()
     yield from faults_of_crates()
     yield from faults_of_calls()

@@ -44,7 +44,7 @@ HERE = pathlib.Path(__file__).resolve().parent
 TOP = HERE.parent.parent
 sys.path.insert(0, str(TOP / "tests"))
 from compared import first_difference, shown  # noqa: E402
-from counted import status_of  # noqa: E402
+from counted import Outcome, status_of  # noqa: E402
 
 RECIPES = TOP / "recipes"
 SECONDS = 60
@@ -139,7 +139,7 @@ def wrong(run: Run, tcc: List[str]) -> Optional[str]:
         return str(error)
 
 
-def helps() -> Iterator[Tuple[str, Optional[str]]]:
+def helps() -> Iterator[Outcome]:
     """Whether the help of each script shows an example."""
     for script in sorted(RECIPES.glob("**/*.py")):
         ended = subprocess.run([sys.executable, str(script), "--help"], capture_output=True, timeout=SECONDS, check=False)
@@ -147,7 +147,7 @@ def helps() -> Iterator[Tuple[str, Optional[str]]]:
         yield "help of " + script.name, None if has_example else "status %d, or no example" % ended.returncode
 
 
-def redis_demo(tcc: List[str]) -> Iterator[Tuple[str, Optional[str]]]:
+def redis_demo(tcc: List[str]) -> Iterator[Outcome]:
     """The demo with real servers, where they are there: the one answer is an order, the other a stale read of 3 steps."""
     command = [sys.executable, str(RECIPES / "redis" / "demo.py"), "--tcc", tcc[-1]]
     try:
@@ -161,7 +161,7 @@ def redis_demo(tcc: List[str]) -> Iterator[Tuple[str, Optional[str]]]:
     yield "demo", None if ended.returncode == 0 else "status %d, %r" % (ended.returncode, ended.stdout + ended.stderr)
 
 
-def redis_outcomes() -> Iterator[Tuple[str, Optional[str]]]:
+def redis_outcomes() -> Iterator[Outcome]:
     """What the recorder makes of outcomes that nobody told: a commit where somebody read a value at its key, else an abort."""
     spec = importlib.util.spec_from_file_location("record", RECIPES / "redis" / "record.py")
     record = importlib.util.module_from_spec(spec)
@@ -203,7 +203,7 @@ def example(document: str) -> dict:
     return names
 
 
-def documented_clients() -> Iterator[Tuple[str, Optional[str]]]:
+def documented_clients() -> Iterator[Outcome]:
     """The clients that the documents show: what they write is what they saw, with each way in which a commit may end."""
     names, done, out = example("docs/RECORDING.md"), [], io.StringIO()
     store = Store(names["Refused"], 2, 3)
@@ -221,7 +221,7 @@ def documented_clients() -> Iterator[Tuple[str, Optional[str]]]:
     yield "client of README", None if out.getvalue().split() == wanted else "wrote %s" % out.getvalue().split()
 
 
-def outcomes(names: List[str], tcc: List[str]) -> Iterator[Tuple[str, Optional[str]]]:
+def outcomes(names: List[str], tcc: List[str]) -> Iterator[Outcome]:
     for path in sorted((HERE / "cases").glob("*.json")):
         if not names or path.stem in names:
             for name, run in runs(path):
