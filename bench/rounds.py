@@ -6,17 +6,18 @@
 Plays rounds of a store of two replicas, from fixed seeds. Eight clients make transactions of four operations, a read or a
 write of any key each; what is written shows at the other replica sixteen transactions later, and a client goes over to the
 other one before one transaction in fifty, so that it may not see what it saw before. Prints for each number of keys, in a
-line, of how many rounds the answer is an anomaly.
+line, of how many rounds the answer is an anomaly. A round whose answer is neither an order nor an anomaly ends the run.
 """
 import argparse
 import pathlib
 import random
 import subprocess
+import sys
 from collections import deque
 
 TOP = pathlib.Path(__file__).resolve().parent.parent
 CLIENTS, OPERATIONS, LAG, STAYS = 8, 4, 16, 50
-ANOMALY = 1
+CONSISTENT, ANOMALY = 0, 1
 
 
 class Replica:
@@ -62,8 +63,12 @@ def records(keys, transactions, seed):
 
 
 def is_anomaly(tcc, keys, transactions, seed):
+    """Whether the answer for a round is an anomaly, and not an order."""
     given = "".join(record + "\n" for record in records(keys, transactions, seed))
-    return subprocess.run([tcc, "explain"], input=given.encode(), stdout=subprocess.DEVNULL).returncode == ANOMALY
+    status = subprocess.run([tcc, "explain"], input=given.encode(), stdout=subprocess.DEVNULL, check=False).returncode
+    if status not in (CONSISTENT, ANOMALY):
+        sys.exit("rounds.py: %d keys, %d transactions, seed %d: status %d" % (keys, transactions, seed, status))
+    return status == ANOMALY
 
 
 def main():

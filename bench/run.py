@@ -6,9 +6,9 @@
 A line for each history has medians of milliseconds by `tcc_bench_stages`: what csv alone needs for the records; reading
 them, and reading them into a snapshot; then, each without the stages before it, resolving the snapshot, building its graph,
 and looking for the order; working out distances and prices, of which `tcc explain` has need only where there is no order; at
-last the rest of `tcc explain`, which is the search, the tables and the text, and the whole of it, with its peak memory. Where a kind has several sizes, a line below each but the first says by how much each cell is greater than that of
-the size before. All programs take turns. Builds what isn't built.
-Peak memory is never below that of this script, about 15 MB.
+last the rest of `tcc explain`, which is the search, the tables and the text, and the whole of it, with its peak memory. Where
+a kind has several sizes, a line below each but the first says by how much each cell is greater than that of the size before.
+All programs take turns. Builds what isn't built. Peak memory is never below that of this script, about 15 MB.
 """
 import argparse
 import os
@@ -51,15 +51,22 @@ def measured(words, history, answer):
     return seconds, used.ru_maxrss / 1000, os.waitstatus_to_exitcode(status)
 
 
+def seconds_of(program, stage, history, answer):
+    """Seconds of one run up to a stage; one that fails ends all, as it has not come so far."""
+    seconds, _, status = measured([program, stage], history, answer)
+    if status != 0:
+        sys.exit("%s: the stage %s ended with status %d" % (history.name, stage, status))
+    return seconds
+
+
 def row(programs, history, runs, answer):
     """The cells of one history's line, medians over the runs, each program in turn: its name, then numbers up to the peak
     memory, then words."""
-    stages = [[programs["tcc_bench_stages"], stage] for stage in STAGES]
-    times, explained = [[] for _ in stages], []
+    times, explained = [[] for _ in STAGES], []
     for _ in range(runs):
-        for stage, seconds in zip(stages, times):
-            seconds.append(measured(stage, history, answer)[0])
-            if stage is stages[0]:
+        for stage, seconds in zip(STAGES, times):
+            seconds.append(seconds_of(programs["tcc_bench_stages"], stage, history, answer))
+            if stage == "csv":
                 records = int(answer.read_text())
         explained.append(measured([programs["tcc"], "explain"], history, answer))
     with open(answer) as text:
