@@ -30,6 +30,7 @@ EDIT = re.compile(r"rt: must-fail (\w+)/")
 
 
 def text_of(path):
+    """What a file of the kernel has; nothing where its process has ended."""
     try:
         with open(path, "rb") as it:
             return it.read()
@@ -59,6 +60,7 @@ class Watch:
         self.mark, self.known, self.used, self.ended = mark.encode(), {}, {}, threading.Event()
 
     def look(self):
+        """Adds what runs now; a process that was seen before, the number and the start being the same, is taken anew."""
         for process in filter(str.isdigit, os.listdir("/proc")):
             stat = text_of("/proc/%s/stat" % process).rpartition(b") ")[2].split()
             if not stat:
@@ -98,6 +100,7 @@ def longest(below, seconds):
 
 
 def table(seconds, edits):
+    """The lines of what was used and of the edits that were tried."""
     below = crates_below()
     lines = ["%-24s %8s %8s %8s %8s %6s" % ("processor minutes", *KINDS, "all", "edits")]
     for name in below:
@@ -112,15 +115,10 @@ def table(seconds, edits):
     return lines
 
 
-def main():
-    reader = argparse.ArgumentParser(description=__doc__, formatter_class=argparse.RawDescriptionHelpFormatter)
-    reader.add_argument("--save", metavar="FILE", help="write the table to this file too")
-    reader.add_argument("command", nargs=argparse.REMAINDER)
-    asked = reader.parse_args()
-    command = [it for it in asked.command if it != "--"] or ["rt", "ci"]
-    mark = "TCC_GATE_MARK=" + uuid.uuid4().hex
-    name, _, value = mark.partition("=")
-    watch, edits, began = Watch(mark), collections.Counter(), time.time()
+def watched(command):
+    """Runs a command, shows what it prints, and gives its status, its seconds by crate and part, and by crate its edits."""
+    name, value = "TCC_GATE_MARK", uuid.uuid4().hex
+    watch, edits = Watch("%s=%s" % (name, value)), collections.Counter()
     watching = threading.Thread(target=watch.watch)
     watching.start()
     try:
@@ -135,12 +133,23 @@ def main():
     finally:
         watch.ended.set()
         watching.join()
-    lines = table(watch.seconds(), edits)
-    lines.append("by the clock: %.1f minutes; status %d" % ((time.time() - began) / 60, running.returncode))
+    return running.returncode, watch.seconds(), edits
+
+
+def main():
+    reader = argparse.ArgumentParser(description=__doc__, formatter_class=argparse.RawDescriptionHelpFormatter)
+    reader.add_argument("--save", metavar="FILE", help="write the table to this file too")
+    reader.add_argument("command", nargs=argparse.REMAINDER)
+    asked = reader.parse_args()
+    command = asked.command[1:] if asked.command[:1] == ["--"] else asked.command
+    began = time.time()
+    status, seconds, edits = watched(command or ["rt", "ci"])
+    lines = table(seconds, edits)
+    lines.append("by the clock: %.1f minutes; status %d" % ((time.time() - began) / 60, status))
     print("\n".join(lines))
     if asked.save:
         pathlib.Path(asked.save).write_text("\n".join(lines) + "\n")
-    return running.returncode
+    return status
 
 
 if __name__ == "__main__":
