@@ -19,6 +19,7 @@ EXAMPLE = """example:
 HERE = pathlib.Path(__file__).resolve().parent
 TOP = HERE.parent.parent
 WITHOUT_SERVER = 77
+UNRESOLVED = 2  # the greatest status of an answer
 SECONDS = 90
 
 
@@ -30,18 +31,25 @@ def python_with_redis() -> Optional[str]:
     return None
 
 
-def run(words: List[str], given: Optional[pathlib.Path] = None, into: Optional[pathlib.Path] = None) -> bytes:
-    """Runs a command from one file into another, which is said as it would be typed, and gives what it printed."""
+class Failed(Exception):
+    """A command that did not do its part."""
+
+
+def run(words: List[str], given: Optional[pathlib.Path] = None, into: Optional[pathlib.Path] = None, most: int = 0) -> bytes:
+    """Runs a command from one file into another, which is said as it would be typed, and gives what it printed; a status
+    above `most` is a failure."""
     said = [pathlib.Path(word).name if word.startswith("/") else word for word in words]
     print("$ " + " ".join(said) + (" < " + given.name if given else "") + (" > " + into.name if into else ""), flush=True)
     done = subprocess.run(words, input=given.read_bytes() if given else b"", stdout=subprocess.PIPE, timeout=SECONDS, check=False)
+    if not 0 <= done.returncode <= most:
+        raise Failed("%s: status %d" % (" ".join(said), done.returncode))
     if into:
         into.write_bytes(done.stdout)
     return done.stdout
 
 
-def shown(text: str, most: int = 160) -> None:
-    for line in text.splitlines():
+def shown(text: bytes, most: int = 160) -> None:
+    for line in text.decode().splitlines():
         print(line if len(line) <= most else line[:most] + " ..")
 
 
@@ -49,12 +57,21 @@ def answer(python: str, tcc: str, read_at: str, folder: pathlib.Path) -> dict:
     """The answer for clients that read there, after it and what it speaks of were shown."""
     records, told = folder / (read_at + ".csv"), folder / (read_at + ".json")
     run([python, str(HERE / "record.py"), "--read-at", read_at], into=records)
-    shown(run([tcc, "explain"], given=records).decode())
-    run([tcc, "explain", "--json"], given=records, into=told)
+    shown(run([tcc, "explain"], given=records, most=UNRESOLVED))
+    run([tcc, "explain", "--json"], given=records, into=told, most=UNRESOLVED)
     found = json.loads(told.read_bytes())
     if found["answer"] != "consistent":
-        shown(run([sys.executable, str(TOP / "recipes/picture.py"), str(told), "--history", str(records), "--text"]).decode())
+        shown(run([sys.executable, str(TOP / "recipes/picture.py"), str(told), "--history", str(records), "--text"]))
     return found
+
+
+def is_expected(python: str, tcc: str) -> bool:
+    """Whether the primary alone is consistent, and the replica gives a stale read of the fewest steps."""
+    with tempfile.TemporaryDirectory() as folder:
+        primary = answer(python, tcc, "primary", pathlib.Path(folder))
+        print()
+        replica = answer(python, tcc, "replica", pathlib.Path(folder))
+    return primary["answer"] == "consistent" and replica["answer"] == "anomaly" and replica["steps"] == 3
 
 
 def main() -> int:
@@ -68,12 +85,13 @@ def main() -> int:
     if not shutil.which(asked.tcc):
         print("demo.py: %s isn't there; make build makes it" % asked.tcc, file=sys.stderr)
         return 1
-    with tempfile.TemporaryDirectory() as folder:
-        primary = answer(python, asked.tcc, "primary", pathlib.Path(folder))
-        print()
-        replica = answer(python, asked.tcc, "replica", pathlib.Path(folder))
-    found = primary["answer"] == "consistent" and replica["answer"] == "anomaly" and replica["steps"] == 3
-    print("\n" + ("the primary alone is consistent, the lagging replica gives a stale read" if found else "NOT what was expected"))
+    try:
+        found = is_expected(python, asked.tcc)
+    except (Failed, OSError, subprocess.TimeoutExpired) as error:
+        print("demo.py: %s" % error, file=sys.stderr)
+        return 1
+    print()
+    print("the primary alone is consistent, the lagging replica gives a stale read" if found else "NOT what was expected")
     return 0 if found else 1
 
 

@@ -239,7 +239,8 @@ def arguments() -> argparse.Namespace:
     ask = argparse.ArgumentParser(description=__doc__, epilog=EXAMPLE, formatter_class=argparse.RawDescriptionHelpFormatter)
     ask.add_argument("--read-at", choices=("primary", "replica"), default="replica", help="where is read; by default the replica")
     ask.add_argument("--clients", type=count(1, 32), default=4, metavar="N", help="so many clients, 1 to 32, by default 4")
-    ask.add_argument("--transactions", type=count(1, MOST_TRANSACTIONS), default=200, metavar="N", help="so many for each, by default 200")
+    ask.add_argument("--transactions", type=count(1, MOST_TRANSACTIONS), default=200, metavar="N",
+                     help="so many for each, by default 200")
     ask.add_argument("--keys", type=count(1, 1024), default=8, metavar="N", help="so many keys, 1 to 1024, by default 8")
     ask.add_argument("--seconds", type=count(1, 600), default=20, metavar="N", help="clients stop after so many, by default 20")
     ask.add_argument("--seed", type=int, default=1, metavar="N", help="which keys are picked follows from it, by default 1")
