@@ -63,6 +63,10 @@ class Step:
     value: str
 
 
+def written(told: Tuple[Step, ...]) -> Tuple[Step, ...]:
+    return tuple(one for one in told if one.is_write)
+
+
 @dataclass(frozen=True)
 class Operation:
     """A line about a transaction; its process is spelled as JSON, and without steps it had the value null."""
@@ -83,7 +87,7 @@ class Transaction:
     steps: Tuple[Step, ...]
 
     def writes(self) -> Tuple[Step, ...]:
-        return tuple(step for step in self.steps if step.is_write)
+        return written(self.steps)
 
 
 @dataclass
@@ -163,10 +167,6 @@ def transaction(done: Operation, invoked: Optional[Operation]) -> Transaction:
     if told is None:
         raise Untold(done.line, "neither it nor its invoke says what it would write")
     return Transaction(done.line, done.process, done.type, told)
-
-
-def written(told: Tuple[Step, ...]) -> Tuple[Step, ...]:
-    return tuple(step for step in told if step.is_write)
 
 
 def transactions(operations: Iterable[Operation]) -> List[Transaction]:

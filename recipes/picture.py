@@ -180,7 +180,10 @@ def link(value: dict) -> Link:
     if kind == "reads":
         return Link(kind, source, target, key(value["key"]))
     if kind == "derived":
-        return Link(kind, source, target, key(value["key"]), label(value["reader"]), tuple(map(link, value["walk"])))
+        walk = tuple(map(link, value["walk"]))
+        if any(step.kind == "derived" for step in walk):
+            raise NoPicture("a step of %s -> %s is derived, which none is" % (source, target))
+        return Link(kind, source, target, key(value["key"]), label(value["reader"]), walk)
     raise NoPicture("%s is no kind of link" % json.dumps(kind))
 
 
@@ -342,18 +345,25 @@ def list_answer(answer: dict, history: History) -> Iterator[str]:
         names = [label(one) for one in answer["order"]]
     else:
         yield "unresolved: %d faults" % len(answer["faults"])
-        names = []
-        for fault in answer["faults"]:
-            name = label("%s/%d" % (fault["session"], fault["place"]))
-            yield "%s %s op %d %s %d, row %d" % (fault["kind"], name, fault["op"], key(fault["key"]), fault["value"],
-                                                 fault_row(fault, history.find(name)))
-            names += [name] if name not in names else []
+        yield from (fault_text(fault, history) for fault in answer["faults"])
+        names = list(dict.fromkeys(map(fault_label, answer["faults"])))
     for name in names:
         yield from listed(name, history)
 
 
+def fault_label(fault: dict) -> str:
+    return label("%s/%d" % (fault["session"], fault["place"]))
+
+
+def fault_text(fault: dict, history: History) -> str:
+    """The line of a fault, as `tcc` has it, with the row of its operation."""
+    name = fault_label(fault)
+    row = fault_row(fault, history.find(name))
+    return "%s %s op %d %s %d, row %d" % (fault["kind"], name, fault["op"], key(fault["key"]), fault["value"], row)
+
+
 def fault_row(fault: dict, one: Transaction) -> int:
-    if fault["op"] > len(one.operations):
+    if not 1 <= fault["op"] <= len(one.operations):
         raise NoPicture("%s has no operation %d in the history: is it that of the answer?" % (one.label, fault["op"]))
     return one.operations[fault["op"] - 1].row
 
