@@ -1,7 +1,7 @@
 #!/usr/bin/env python3
 """All tests: the merge gate, which proves everything from nothing, and then on the program that it built the rows, by one
 worker and by many, the seals of a history that grows, the altered certificates and the refused allocations; the scripts of
-recipes/ on stored inputs; and that what the documents name is there.
+recipes/ on stored inputs; and that what the documents name is there, and no script defines a name twice.
 
 The last line is `N passed, M failed`, the sum of all; the status is 0 only where all passed.
 """

@@ -46,6 +46,7 @@ sys.path.insert(0, str(TOP / "tests"))
 from compared import first_difference, shown  # noqa: E402
 from counted import Outcome, status_of  # noqa: E402
 
+CASES = HERE / "cases"
 RECIPES = TOP / "recipes"
 SECONDS = 60
 WITHOUT_SERVER = 77
@@ -221,14 +222,23 @@ def documented_clients() -> Iterator[Outcome]:
     yield "client of README", None if out.getvalue().split() == wanted else "wrote %s" % out.getvalue().split()
 
 
+def outcomes_of(path: pathlib.Path, tcc: List[str]) -> Iterator[Outcome]:
+    """The runs of a case, but for those whose picture nobody here can draw."""
+    try:
+        every = list(runs(path))
+    except (OSError, ValueError, TypeError) as error:
+        yield path.stem, "not a case: %s" % error
+        return
+    for name, run in every:
+        if ["dot"] in [command[:1] for command in run.commands] and not shutil.which("dot"):
+            print("%s: passed over: no dot on the path" % name)
+        else:
+            yield name, wrong(run, tcc)
+
+
 def outcomes(names: List[str], tcc: List[str]) -> Iterator[Outcome]:
-    for path in sorted((HERE / "cases").glob("*.json")):
-        if not names or path.stem in names:
-            for name, run in runs(path):
-                if ["dot"] in [command[:1] for command in run.commands] and not shutil.which("dot"):
-                    print("%s: passed over: no dot on the path" % name)
-                else:
-                    yield name, wrong(run, tcc)
+    for name in names or sorted(path.stem for path in CASES.glob("*.json")):
+        yield from outcomes_of(CASES / (name + ".json"), tcc)
     if not names:
         yield from helps()
         yield from documented_clients()

@@ -28,6 +28,7 @@ sys.path.insert(0, str(TOP / "tests"))
 from compared import first_difference, shown  # noqa: E402
 from counted import status_of  # noqa: E402
 
+CASES = HERE / "cases"
 NEEDED = {"about", "arguments", "status"}
 FIELDS = NEEDED | {"input", "input_from", "typed", "cut", "closed", "files", "output", "output_to", "taken", "errors",
                    "watched", "certificate", "checked", "seconds"}
@@ -36,6 +37,7 @@ COMMAND_LINE = 64
 
 @functools.lru_cache(maxsize=None)
 def compiled(rule):
+    """A rule that is an expression, which may be asked for many times."""
     return compile(rule, rule, "eval")
 
 
@@ -57,6 +59,7 @@ def text(parts, known=None):
 
 
 def part(p, known=None):
+    """The bytes of one part, of the kinds that README.md has."""
     if isinstance(p, str):
         return filled(p, known).encode() + b"\n"
     if "file" in p:
@@ -80,6 +83,7 @@ def is_ruled(p):
 
 
 def filled(line, known):
+    """A line in which rules are replaced by their values, where names are known."""
     return line if known is None else Ruled().vformat(line, (), known)
 
 
@@ -120,14 +124,17 @@ def runs(case):
 
 
 def argument(word, folder):
+    """The bytes of a word of the command line: a part, or a text."""
     return part(word) if isinstance(word, dict) else os.fsencode(place(word, folder))
 
 
 def place(word, folder):
+    """A path: of `@NAME` that of a file in the folder."""
     return os.path.join(folder, word[1:]) if word.startswith("@") else word
 
 
 def stream_difference(what, wanted, got):
+    """What a stream has otherwise than wanted, which may be any text at all, or None."""
     if wanted == "some":
         return None if got else what + ": wanted a text, got none"
     return first_difference(what, text(wanted), got)
@@ -251,6 +258,7 @@ def checked(tcc, run, folder, seconds):
 
 
 def compared(run, output, errors, certificate):
+    """For each text that a run leaves how it differs from the one wanted, or None."""
     if not {"output_to", "taken"} & set(run):
         yield stream_difference("output", run.get("output", []), output)
     yield stream_difference("standard error", run.get("errors", []), errors)
@@ -269,7 +277,7 @@ def outcomes_of(path, tcc, workers, seconds):
     """The runs of a case by their names, each with what is wrong, or None."""
     try:
         every = list(runs(json.loads(path.read_text())))
-    except (ValueError, KeyError) as error:
+    except (OSError, ValueError, KeyError) as error:
         yield path.stem, "not a case: %s" % error
         return
     for which, run in every:
@@ -286,8 +294,8 @@ def main():
     ask.add_argument("--workers", type=int, help="for each run of explain that doesn't say how many itself")
     ask.add_argument("names", nargs="*", help="only these cases")
     asked = ask.parse_args()
-    paths = [path for path in sorted((HERE / "cases").glob("*.json"))
-             if asked.only in path.stem and (not asked.names or path.stem in asked.names)]
+    names = asked.names or sorted(path.stem for path in CASES.glob("*.json"))
+    paths = [CASES / (name + ".json") for name in names if asked.only in name]
     tcc = shlex.split(asked.tcc)
     return status_of(outcome for path in paths for outcome in outcomes_of(path, tcc, asked.workers, asked.seconds))
 

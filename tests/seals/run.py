@@ -21,6 +21,7 @@ TOP = pathlib.Path(__file__).resolve().parent.parent.parent
 sys.path.insert(0, str(TOP / "tests"))
 from counted import status_of  # noqa: E402
 
+SECONDS = 120
 CHAIN = 19
 LEVELS = ("causal", "atomic")
 WORKERS = ("1", "2", "32")
@@ -61,7 +62,7 @@ def parts():
 def explained(tcc, options, records):
     """What a run prints, and its status."""
     done = subprocess.run(tcc + ["explain", *options], input="".join(record + "\n" for record in records).encode(),
-                          stdout=subprocess.PIPE, check=False)
+                          stdout=subprocess.PIPE, timeout=SECONDS, check=False)
     return done.stdout.decode(), done.returncode
 
 
