@@ -27,15 +27,29 @@ class Replica:
         self.values = {}
         self.coming = deque()
 
-    def take(self, key, value, time):
-        if self.values.get(key, (0, -1))[1] < time:
-            self.values[key] = (value, time)
+    def take(self, writes, time):
+        for key, value in writes.items():
+            if self.values.get(key, (0, -1))[1] < time:
+                self.values[key] = (value, time)
 
     def catch_up(self, time):
+        """Takes what was written at the other one so long ago that it shows."""
         while self.coming and self.coming[0][0] + LAG <= time:
             written, writes = self.coming.popleft()
-            for key, value in writes.items():
-                self.take(key, value, written)
+            self.take(writes, written)
+
+
+def operations(chance, keys, seen, values):
+    """The operations of a transaction that sees these values, as records but for the session, and what it writes."""
+    done, writes = [], {}
+    for _ in range(OPERATIONS):
+        key = chance.randrange(keys)
+        if chance.randrange(2):
+            writes[key] = next(values)
+            done.append("w,k%d,%d" % (key, writes[key]))
+        else:
+            done.append("r,k%d,%d" % (key, writes.get(key, seen.get(key, (0, 0))[0])))
+    return done, writes
 
 
 def records(keys, transactions, seed):
@@ -47,18 +61,10 @@ def records(keys, transactions, seed):
             replica.catch_up(time)
         client = chance.randrange(CLIENTS)
         at[client] ^= chance.randrange(STAYS) == 0
-        near, far, writes = replicas[at[client]], replicas[1 - at[client]], {}
-        yield "c%d,begin" % client
-        for _ in range(OPERATIONS):
-            key = chance.randrange(keys)
-            if chance.randrange(2):
-                writes[key] = next(values)
-                yield "c%d,w,k%d,%d" % (client, key, writes[key])
-            else:
-                yield "c%d,r,k%d,%d" % (client, key, writes.get(key, near.values.get(key, (0, 0))[0]))
-        yield "c%d,commit" % client
-        for key, value in writes.items():
-            near.take(key, value, time)
+        near, far = replicas[at[client]], replicas[1 - at[client]]
+        done, writes = operations(chance, keys, near.values, values)
+        yield from ("c%d,%s" % (client, record) for record in ("begin", *done, "commit"))
+        near.take(writes, time)
         far.coming.append((time, writes))
 
 
