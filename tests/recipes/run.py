@@ -208,13 +208,14 @@ def documented_clients() -> Iterator[Outcome]:
     """The clients that the documents show: what they write is what they saw, with each way in which a commit may end."""
     names, done, out = example("docs/RECORDING.md"), [], io.StringIO()
     store = Store(names["Refused"], 2, 3)
-    names["client"](1, store, [([], ["x"]), (["x"], ["y"]), (["x"], ["x", "z"]), ([], ["x"])], done)
-    names["client"](2, store, [(["x", "y"], [])], done)
-    names["client"](3, Store(names["Refused"], 0, 1), [([], ["x"])], done)
+    names["client"](1, lambda: store, [([], ["x"]), (["x"], ["y"]), (["x"], ["x", "z"]), ([], ["x"])], done)
+    names["client"](2, lambda: store, [(["x", "y", "z"], [])], done)
+    names["client"](3, lambda: Store(names["Refused"], 0, 1), [([], ["x"])], done)
     names["write_records"](done, out)
-    wanted = ["c1,begin", "c1,w,x,65", "c1,commit", "c1,begin", "c1,w,y,129", "c1,abort",
-              "c1,begin", "c1,w,x,193", "c1,w,z,257", "c1,commit", "c2,begin", "c2,r,x,193", "c2,r,y,0", "c2,commit",
-              "c3,begin", "c3,w,x,67", "c3,abort"]
+    wanted = ["c1.1,begin", "c1.1,w,x,65", "c1.1,commit", "c1.1,begin", "c1.1,w,y,129", "c1.1,abort",
+              "c1.1,begin", "c1.1,w,x,193", "c1.1,w,z,257", "c1.1,commit", "c1.2,begin", "c1.2,w,x,321", "c1.2,commit",
+              "c2.1,begin", "c2.1,r,x,321", "c2.1,r,y,0", "c2.1,r,z,257", "c2.1,commit",
+              "c3.1,begin", "c3.1,w,x,67", "c3.1,abort"]
     yield "client of RECORDING", None if out.getvalue().split() == wanted else "wrote %s" % out.getvalue().split()
     short, out = example("README.md"), io.StringIO()
     short["client"]("a", Store(OSError, 0, 0), [(["x"], [("x", 5)]), (["x"], [])], out)
