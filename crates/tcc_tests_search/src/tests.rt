@@ -1,4 +1,4 @@
-//! Distances and clocks, prices and reasons, orders, seeds and single searches, the bound, and the machine of all interleavings.
+//! Distances, prices and reasons, orders, seeds and single searches, the bound, and the machine of all interleavings.
 mod bound;
 mod core_seeds;
 mod core_steps;
