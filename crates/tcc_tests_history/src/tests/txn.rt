@@ -8,8 +8,8 @@ use std::collections::BTreeMap;
 use std::process::Abort;
 use std::test::Fail;
 use tcc_txn::{
-    Moment, Name, NameFault, NoMemory, Op, Recording, RowFault, RowFaultKind, Snapshot,
-    SnapshotFault, Txn, TxnFault, snapshot_of,
+    LARGE_COUNT, LargeSnapshot, Limits, Moment, Name, NameFault, NoMemory, Op, Recording, RowFault,
+    RowFaultKind, Snapshot, SnapshotFault, Txn, TxnFault, snapshot_of,
 };
 
 fn get(key: Name, value: u64) -> Op {
@@ -238,6 +238,56 @@ fn refuses_snapshots(rt: HostRuntime) -> Result<(), Fail> {
         _ => panic!(rt; "two sessions of one name come first"),
     }
     assert_eq!(rt; parts.len(), 67);
+    Ok(())
+}
+
+#[test]
+fn tells_limits(rt: HostRuntime) {
+    for (limits, sessions, transactions, keys, bytes) in [
+        (Limits::Small, 64, 4_095, 1_024, 134_217_728),
+        (Limits::Large, 4_096, 1_048_575, 1_048_576, 1_073_741_824),
+    ] {
+        assert_eq!(rt; limits.sessions(), sessions);
+        assert_eq!(rt; limits.transactions(), transactions);
+        assert_eq!(rt; limits.keys(), keys);
+        assert_eq!(rt; limits.bytes(), bytes);
+    }
+    assert_eq!(rt; LARGE_COUNT, 1_048_576);
+}
+
+// Each has some sessions of which the first has some transactions, and whether it is small.
+#[test]
+fn makes_large_snapshots(rt: HostRuntime) -> Result<(), Fail> {
+    let alloc = rt.alloc();
+    for (count, transactions, is_small) in [
+        (0, 0, true),
+        (64, 4_095, true),
+        (64, 4_096, false),
+        (65, 4_095, false),
+        (300, 5_000, false),
+    ] {
+        let Ok(large) = LargeSnapshot::new(sessions(&rt, alloc, count, transactions)?) else {
+            panic!(rt; "{count} sessions are refused");
+        };
+        assert_eq!(rt; large.sessions(), count);
+        assert_eq!(rt; large.parts().len(), count as usize);
+        assert!(rt; large.session(count).is_none());
+        match large.small() {
+            Ok(snapshot) => {
+                assert!(rt; is_small);
+                assert_eq!(rt; snapshot.parts().len(), count as usize);
+                assert_eq!(rt; snapshot.large().sessions(), count);
+            }
+            Err(large) => {
+                assert!(rt; !is_small);
+                let Some((first, txns)) = large.session(0) else {
+                    panic!(rt; "no session");
+                };
+                assert_eq!(rt; first.bytes(), "s0".as_bytes());
+                assert_eq!(rt; txns.len(), transactions);
+            }
+        }
+    }
     Ok(())
 }
 
