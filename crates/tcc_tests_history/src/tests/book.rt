@@ -121,7 +121,7 @@ struct Recorder {
 }
 
 /// A recorder's whole life, with its seals; none where something was not as it should be.
-fn recorder(rt: &impl Wait, alloc: Global, book: &Book, pass: Pass, letter: u8) -> Option<Recorder> {
+fn life_of(rt: &impl Wait, alloc: Global, book: &Book, pass: Pass, letter: u8) -> Option<Recorder> {
     let mut pass = pass;
     let mut seals = Vec::new(alloc);
     for before in 0..MOST {
@@ -160,7 +160,7 @@ fn are_beginnings(seals: &[Snapshot], recorders: &[Recorder]) -> bool {
 /// Whether the snapshot has exactly what all of them have recorded.
 fn is_whole(snapshot: &Snapshot, recorders: &[Recorder]) -> bool {
     for recorder in recorders {
-        if !has_exactly(snapshot, &recorder.pass) || !are_beginnings(&recorder.seals, recorders) {
+        if !has_exactly(snapshot, &recorder.pass) {
             return false;
         }
     }
@@ -168,14 +168,22 @@ fn is_whole(snapshot: &Snapshot, recorders: &[Recorder]) -> bool {
 }
 
 /// What recorders in threads of their own leave; none where something was not as it should be.
-fn side_by_side(rt: &(impl Threads + Wait + Sync), alloc: Global, book: &Book) -> Option<Vec<Recorder>> {
+fn side_by_side(
+    rt: &(impl Threads + Wait + Sync),
+    alloc: Global,
+    book: &Book,
+) -> Option<Vec<Recorder>> {
     let mut passes = Vec::new(alloc);
     for letter in RECORDERS {
-        passes.push((open(rt, alloc, book, *letter)?, *letter)).ok()?;
+        passes
+            .push((open(rt, alloc, book, *letter)?, *letter))
+            .ok()?;
     }
-    let ends = thread::map_vec(rt, passes, &|pass: (Pass, u8)| {
-        recorder(rt, alloc, book, pass.0, pass.1)
-    })
+    let ends = thread::map_vec(
+        rt,
+        passes,
+        &|pass: (Pass, u8)| { life_of(rt, alloc, book, pass.0, pass.1) },
+    )
     .ok()?;
     let mut done = Vec::new(alloc);
     for end in ends {
@@ -195,6 +203,7 @@ fn eight_recorders(rt: HostRuntime) {
             panic!(rt; "a recorder saw something else");
         };
         for recorder in done.iter() {
+            assert!(rt; are_beginnings(&recorder.seals, &done));
             match book.seal(&rt, alloc, &recorder.pass) {
                 Ok(whole) => assert!(rt; is_whole(&whole, &done)),
                 Err(_) => panic!(rt; "not sealed"),
@@ -296,8 +305,13 @@ fn openings(rt: HostRuntime) {
 
 /// Whether one session has all that a book can hold, and the other nothing.
 fn is_full(rt: &impl Abort, snapshot: &Snapshot) -> bool {
-    let writes = [name(rt, "a"), name(rt, "b")].map(|name| writes_of(snapshot, &name));
-    writes == [Some(4095), Some(0)]
+    for (session, held) in [("a", MAX_TRANSACTIONS), ("b", 0)] {
+        match finished_by(snapshot, &name(rt, session)) {
+            Some(txns) if txns.len() == held => {}
+            _ => return false,
+        }
+    }
+    true
 }
 
 /// A full book hands the transaction back, and is sealed, made whole and closed with all that it holds: so no call gives up
@@ -322,7 +336,7 @@ fn full_book(rt: HostRuntime) {
     }
     for pass in &passes {
         let sealed = book.seal(&rt, alloc, pass);
-        assert!(rt; sealed.is_ok_and(|sealed| is_full(&rt, &sealed)));
+        assert!(rt; sealed.is_ok_and(|sealed| is_full(&rt, &sealed) && has_exactly(&sealed, pass)));
     }
     let whole = book.whole(&rt, alloc, &passes);
     assert!(rt; whole.is_ok_and(|whole| is_full(&rt, &whole)));
