@@ -7,6 +7,7 @@ pub mod Grouped
 pub mod Overshot
 pub mod RowRules
 pub mod LinksFrom
+pub mod ByKey
 pub mod Linked
 pub mod Placed
 pub mod Gaps
