@@ -26,3 +26,5 @@ pub mod NearBehind
 pub mod FarBehind
 pub mod JudgedFacts
 pub mod Sessions
+pub mod KeyOrder
+pub mod OnePair

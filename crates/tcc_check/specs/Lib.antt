@@ -14,3 +14,4 @@ pub mod Places
 pub mod Coming
 pub mod Judged
 pub mod Latest
+pub mod SinglePairs

@@ -19,6 +19,7 @@ mod places;
 mod previous;
 mod readings;
 mod runs;
+mod single_pairs;
 mod sizes;
 mod stream_fault;
 mod streaming;

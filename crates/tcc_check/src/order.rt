@@ -305,7 +305,8 @@ pub(crate) fn order_verdict(
     let Some(places) = kept_places(alloc, graph, level, order, clocks)? else {
         return Ok(rejected(Rule::Pairs, 0));
     };
-    if keeps_axiom(graph, level, &places, clocks) {
+    let kept = keeps_axiom(alloc, graph, level, &places, clocks)?;
+    if kept {
         return Ok(Verdict::Accepted);
     }
     match broken_axiom(alloc, graph, level, &places, clocks)? {
