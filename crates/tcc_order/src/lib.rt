@@ -6,9 +6,11 @@ mod before;
 mod behind;
 mod clocking;
 mod into;
+mod latest;
 pub mod laws;
 mod numbering;
 mod ordering;
+mod placing;
 mod written;
 
 pub use clocking::clocks;

@@ -1,0 +1,47 @@
+-- For the private stages and their proofs alone: nobody has to believe what stands here.
+-- The greatest numbers of the sessions of a block, of some transactions alone; and the links that are kept by them.
+use Rattle.std.specs.Prelude.{ℕ, ◌<◌, ◌≤◌, ◌+◌, ◌≡◌, ◌≢◌, ◌⊎◌, ◌==◌, ◌&&◌, nat_lt, if◌then◌else◌, max, List, length, slice_index, All, Contains}
+use Rattle.tcc_reads.specs.History.{History, count, owner}
+use Rattle.tcc_graph.specs.Relations.{IsCausalPair}
+use Rattle.tcc_graph.specs.Keys.{writers}
+use Rattle.tcc_graph.specs.Orders.{Before}
+use Rattle.tcc_graph.specs.Tables.{row_of}
+use Rattle.tcc_graph.specs.Walks.{IsReached}
+use Rattle.tcc_order.specs.Lasts.{IsOneOf, IsBefore}
+use Rattle.tcc_order.specs.declared.latest.TheConstants.{WIDE}
+
+-- the index of each transaction's session
+pub record AreOwners (h : History) (owners : List ℕ) : Type 0 where
+  pub long : length owners ≡ count h
+  pub each : (n : ℕ) → 0 < n → n < count h → slice_index owners n ≡ owner h n
+
+-- the greatest number of one of those meant in the session, or 0 where there is none
+pub record IsLatestOf (h : History) (Is : ℕ → Type 0) (session : ℕ) (latest : ℕ) : Type 0 where
+  pub attained : (latest ≡ 0) ⊎ IsOneOf h Is session latest
+  pub greatest : (b : ℕ) → IsOneOf h Is session b → b ≤ latest
+
+-- of each session of the block that begins at `from`
+pub record AreLatestOf (h : History) (Is : ℕ → Type 0) (from : ℕ) (row : List ℕ) : Type 0 where
+  pub wide : length row ≡ WIDE
+  pub each : (k : ℕ) → k < WIDE → IsLatestOf h Is (from + k) (slice_index row k)
+
+-- the greatest number of session k of the block, raised by p where p is of it
+abbrev pub lifted : List ℕ → ℕ → ℕ → ℕ → ℕ → ℕ
+lifted owners from p k latest = if nat_lt 0 p && (slice_index owners p == from + k) then max p latest else latest
+
+-- the rows of these are worked out
+pub record HasLatest (h : History) (from : ℕ) (IsDone : ℕ → Type 0) (table : List (List ℕ)) : Type 0 where
+  pub long : length table ≡ count h
+  pub each : (c : ℕ) → c < count h → IsDone c → AreLatestOf h (IsBefore h c) from (row_of table c)
+
+-- so for all of them
+abbrev pub AreClocks : History → ℕ → List (List ℕ) → Type 0
+AreClocks h from table = HasLatest h from (λ c. c < count h) table
+
+-- b, another writer of a key that is read from a, reaches the reader
+abbrev pub IsOverwritten : History → (ℕ → List ℕ → Type 0) → ℕ → ℕ → Type 0
+IsOverwritten h IsReading a b = (c : ℕ) × (x : List ℕ) × IsReading c x × Contains (writers h x) b × (b ≢ a) × IsReached h b c
+
+-- causal pairs lead onward in the order
+abbrev pub LeadsOnward : History → List ℕ → Type 0
+LeadsOnward h order = (b c : ℕ) → IsCausalPair h b c → Before order b c
