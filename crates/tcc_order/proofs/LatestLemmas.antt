@@ -1,12 +1,13 @@
 -- Greatest numbers of sessions: of those meant so far, and of one more.
-use Rattle.std.proofs.Common.{◌≡◌, ◌≢◌, ◌<◌, ◌≤◌, ◌+◌, ◌==◌, ◌↔◌, ◌⊎◌, inl, inr, ℕ, true, false, ◌&&◌, nat_lt, List, [], length, get_or, set, take, replicate}
+use Rattle.std.proofs.Common.{◌≡◌, ◌≢◌, ◌<◌, ◌≤◌, ◌+◌, ◌==◌, ◌↔◌, ◌⊎◌, inl, inr, ℕ, true, false, ◌&&◌, nat_lt, List, [], ◌∷◌, map, length, get_or, set, take, replicate}
 use Rattle.std.proofs.Common.{slice_index, refl, sym, ap, ◌∙◌, subst, arith}
 use Rattle.std.specs.Prelude.{max}
 use Rattle.std.specs.List.{All, Contains}
-use Rattle.std.proofs.lemmas.Bool.{cases_lt, cases_eq, cases_Bool, and_parts, and_from, ltb-true, lt-ltb, eqb-true, eq-eqb, false≢true}
+use Rattle.std.proofs.lemmas.Bool.{cases_lt, cases_eq, cases_Bool, and_parts, and_from, ltb-true, lt-ltb, eqb-true, eq-eqb, ne_eqb, false≢true}
 use Rattle.std.proofs.lemmas.List.{get_or-replicate, length-replicate, get_or-set_same, get_or-set_other, get_or_default, length-set}
-use Rattle.std.proofs.lemmas.List.Elements.{All-weaker, All-contains_itself}
-use Rattle.tcc_reads.specs.History.{History, IsBySession, count, owner}
+use Rattle.std.proofs.lemmas.List.Elements.{All-weaker, All-map, All-contains_itself}
+use Rattle.tcc_reads.specs.History.{History, IsBySession, count, entry_at, owner}
+use Rattle.tcc_graph.specs.Keys.{keys, key_at}
 use Rattle.tcc_graph.specs.Walks.{IsReached}
 use Rattle.tcc_graph.specs.Orders.{Before, IsNumbering}
 use Rattle.tcc_graph.specs.Relations.{IsCausalPair}
@@ -14,7 +15,7 @@ use Rattle.tcc_graph.specs.Tables.{row_of}
 use Rattle.tcc_graph.proofs.Numberings.{below_in}
 use Rattle.tcc_graph.proofs.Pairs.{pair_below}
 use Rattle.tcc_near.proofs.FreshLemmas.{one_of_taken, still_taken, last_taken, nothing_in}
-use Rattle.tcc_order.specs.Behind.{HasSourcesAt, parents}
+use Rattle.tcc_order.specs.Behind.{HasSourcesAt, parents, sources, session_parent, session_parents}
 use Rattle.tcc_order.specs.Lasts.{IsOneOf, IsBefore, IsUpTo}
 use Rattle.tcc_order.specs.Latest.{AreOwners, IsLatestOf, AreLatestOf, HasLatest, AreClocks, LeadsOnward, lifted}
 use Rattle.tcc_order.specs.declared.latest.TheConstants.{WIDE}
@@ -194,3 +195,25 @@ module _ (h : History) (numbered : IsBySession h.entries) (from : ℕ) (order : 
 
   pub row_done : (row : List ℕ) → AreLatestOf h (IsUpTo h (Contains (parents h c))) from row → AreLatestOf h (IsBefore h c) from row
   row_done row made = rows_same h (IsUpTo h (Contains (parents h c))) (IsBefore h c) from row (up_to_parents h numbered c low all) made
+
+-- ---- parents, by places of keys
+second_of : (f : ℕ → List ℕ) (reads : List (ℕ × ℕ)) → map (λ (r : List ℕ × ℕ). r.1) (map (λ (r : ℕ × ℕ). (f r.0, r.1)) reads) ≡ map (λ (r : ℕ × ℕ). r.1) reads
+second_of f [] = refl
+second_of f (r ∷ reads) = ap (λ z. r.1 ∷ z) (second_of f reads)
+
+pub sources_of_reads : (h : History) (c : ℕ) (reads : List (ℕ × ℕ)) → map (λ read. (key_at h read.0, read.1)) reads ≡ (entry_at h c).reads
+    → map (λ read. read.1) reads ≡ sources h c
+sources_of_reads h c reads value = sym (second_of (key_at h) reads) ∙ ap (λ (z : List (List ℕ × ℕ)). map (λ (r : List ℕ × ℕ). r.1) z) value
+
+pub sources_inside : (h : History) (c : ℕ) (reads : List (ℕ × ℕ)) → map (λ read. (key_at h read.0, read.1)) reads ≡ (entry_at h c).reads
+    → All (λ read. (read.0 < length (keys h)) × (read.1 < count h)) reads → HasSourcesAt h c
+sources_inside h c reads value within =
+    subst (λ (z : List (List ℕ × ℕ)). All (λ read. read.1 < count h) z) value
+    (All-map (λ (read : List ℕ × ℕ). read.1 < count h) (λ (read : ℕ × ℕ). (key_at h read.0, read.1)) reads
+    (All-weaker (λ (read : ℕ × ℕ). (read.0 < length (keys h)) × (read.1 < count h)) (λ read. read.1 < count h) (λ read w. w.1) reads within))
+
+pub session_some : (h : History) (c : ℕ) → 0 < c → session_parents h c ≡ session_parent h c ∷ []
+session_some h c some = let other : c ≢ 0 = omega arith in rw (ne_eqb c 0 other) refl
+
+pub session_none : (h : History) (c : ℕ) → c ≡ 0 → session_parents h c ≡ []
+session_none h c none = rw (eq-eqb c 0 none) refl

@@ -17,3 +17,5 @@ pub mod LastLemmas
 pub mod WriterRows
 mod Worked
 pub mod LatestLemmas
+pub mod Readings
+pub mod Needing

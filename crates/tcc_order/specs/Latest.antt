@@ -1,8 +1,8 @@
 -- For the private stages and their proofs alone: nobody has to believe what stands here.
 -- The greatest numbers of the sessions of a block, of some transactions alone; and the links that are kept by them.
-use Rattle.std.specs.Prelude.{ℕ, ◌<◌, ◌≤◌, ◌+◌, ◌≡◌, ◌≢◌, ◌⊎◌, ◌==◌, ◌&&◌, nat_lt, if◌then◌else◌, max, List, length, slice_index, All, Contains}
+use Rattle.std.specs.Prelude.{ℕ, ◌<◌, ◌≤◌, ◌+◌, ◌≡◌, ◌≢◌, ◌⊎◌, ◌==◌, ◌&&◌, nat_lt, nat_le, not, if◌then◌else◌, max, List, length, slice_index, All, Contains}
 use Rattle.tcc_reads.specs.History.{History, count, owner}
-use Rattle.tcc_graph.specs.Relations.{IsCausalPair}
+use Rattle.tcc_graph.specs.Relations.{IsCausalPair, IsReadsPair, IsSessionPair}
 use Rattle.tcc_graph.specs.Keys.{writers}
 use Rattle.tcc_graph.specs.Orders.{Before}
 use Rattle.tcc_graph.specs.Tables.{row_of}
@@ -45,3 +45,34 @@ IsOverwritten h IsReading a b = (c : ℕ) × (x : List ℕ) × IsReading c x × 
 -- causal pairs lead onward in the order
 abbrev pub LeadsOnward : History → List ℕ → Type 0
 LeadsOnward h order = (b c : ℕ) → IsCausalPair h b c → Before order b c
+
+-- b, one of these writers, is no other than a, is of session k of the block, and is reached by its clock
+abbrev pub IsLiftable : List ℕ → ℕ → List ℕ → List ℕ → ℕ → ℕ → ℕ → Type 0
+IsLiftable owners from clock writers a k b = (0 < b) × (b ≢ a) × Contains writers b × (slice_index owners b ≡ from + k) × (b ≤ slice_index clock k)
+
+-- the number of session k, raised to the greatest of these
+pub record IsLifted (owners : List ℕ) (from : ℕ) (clock : List ℕ) (writers : List ℕ) (a : ℕ) (k : ℕ) (old : ℕ) (new : ℕ) : Type 0 where
+  pub attained : (new ≡ old) ⊎ IsLiftable owners from clock writers a k new
+  pub kept : old ≤ new
+  pub greatest : (b : ℕ) → IsLiftable owners from clock writers a k b → b ≤ new
+
+-- the same by one writer
+abbrev pub lifted_by : List ℕ → ℕ → List ℕ → ℕ → ℕ → ℕ → ℕ → ℕ
+lifted_by owners from clock a b k latest =
+    if (nat_lt 0 b && not (b == a)) && ((slice_index owners b == from + k) && nat_le b (slice_index clock k)) then max b latest else latest
+
+-- b stands before a by what is kept: a later one of its session, or itself, is kept or reaches a
+abbrev pub IsCovered : History → List (List ℕ) → ℕ → ℕ → Type 0
+IsCovered h kept a b = (d : ℕ) × ((b ≡ d) ⊎ IsSessionPair h b d) × (Contains (row_of kept a) d ⊎ IsReached h d a)
+
+-- each link that is kept is a derived pair
+abbrev pub AreDerived : (ℕ → ℕ → Type 0) → List (List ℕ) → Type 0
+AreDerived Derives kept = (a b : ℕ) → Contains (row_of kept a) b → Derives a b
+
+-- each derived pair that is meant is covered
+abbrev pub AreEnough : History → (ℕ → ℕ → Type 0) → (ℕ → ℕ → Type 0) → List (List ℕ) → Type 0
+AreEnough h Derives IsMeant kept = (a b : ℕ) → Derives a b → 0 < b → IsMeant a b → IsCovered h kept a b
+
+-- the derived pairs at `Causal`
+abbrev pub Overwrites : History → ℕ → ℕ → Type 0
+Overwrites h a b = (a < count h) × (b < count h) × IsOverwritten h (IsReadsPair h a) a b

@@ -51,17 +51,17 @@ pub(crate) fn lift(row: &mut [u32], owners: &[u32], from: u32, p: u32)
 fn find_parents(
     found: &mut Vec<u32>,
     graph: &Graph,
-    parents: &[u32],
+    parent_of: &[u32],
     c: u32,
 ) -> Result<(), AllocError>
     requires below { c < count graph.now }
-    requires parents { AreSessionParents graph.now parents.now }
+    requires parents { AreSessionParents graph.now parent_of.now }
     ensures found { OnOk result (found.new.items ≡ parents graph.now c) }
     ensures sources { OnOk result (HasSourcesAt graph.now c) }
 {
     found.clear();
     if c > 0 {
-        found.push(parents[c as usize])?;
+        found.push(parent_of[c as usize])?;
     }
     for read in graph.reads_at(c) {
         found.push(read.1)?;

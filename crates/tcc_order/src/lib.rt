@@ -6,6 +6,7 @@ mod before;
 mod behind;
 mod clocking;
 mod into;
+mod keeping;
 mod latest;
 pub mod laws;
 mod numbering;

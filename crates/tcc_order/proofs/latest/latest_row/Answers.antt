@@ -1,14 +1,20 @@
 use Rattle.std.proofs.Common.{rules, ◌≡◌, ◌<◌, ◌∙◌, ℕ, [], length, get_or, slice_index, refl, sym, arith}
-use Rattle.std.specs.Prelude.{max}
+use Rattle.std.specs.Prelude.{max, Contains}
+use Rattle.tcc_near.proofs.FreshLemmas.{nothing_in}
+use Rattle.tcc_order.specs.Lasts.{IsUpTo}
+use Rattle.tcc_order.specs.declared.latest.TheConstants.{WIDE}
 use Rattle.std.proofs.lemmas.List.{get_or_read}
 use Rattle.tcc_reads.specs.History.{count}
 use Rattle.tcc_graph.specs.Tables.{row_of}
 use Rattle.tcc_order.specs.Latest.{lifted}
-use Rattle.tcc_order.proofs.LatestLemmas.{latest_more}
+use Rattle.tcc_order.proofs.LatestLemmas.{latest_more, latest_none}
 use Rattle.tcc_order.proofs.latest.latest_row.Goals as goal
 
 pub loop-number-init : goal.loop-number-init
-loop-number-init c = ?
+loop-number-init c =
+    let zeros : (k : ℕ) → k < length c.fill.new.self → get_or c.fill.new.self k 0 ≡ 0 = search rules in
+    let wide : length c.fill.new.self ≡ WIDE = c.fill.ensures.len ∙ c.requires.wide in
+    latest_none c.args.graph.now (IsUpTo c.args.graph.now (Contains [])) c.args.from c.fill.new.self wide zeros (λ b w. nothing_in w.0 w.1)
 
 pub loop-number-preserved : goal.loop-number-preserved
 loop-number-preserved c =

@@ -1,0 +1,63 @@
+use Rattle.std.proofs.Common.{rules, ◌≡◌, ◌<◌, ◌∙◌, ℕ, List, [], length, get_or, map, take, slice_index, refl, sym, arith}
+use Rattle.std.specs.Prelude.{zip}
+use Rattle.std.proofs.lemmas.List.{get_or_read, take_all}
+use Rattle.std.proofs.lemmas.List.Elements.{All-weaker}
+use Rattle.tcc_reads.specs.History.{count}
+use Rattle.tcc_graph.specs.Keys.{key_at, writers}
+use Rattle.tcc_graph.specs.Relations.{IsReadsPair}
+use Rattle.tcc_graph.specs.Tables.{row_of}
+use Rattle.tcc_graph.proofs.WriterLemmas.{writers_below}
+use Rattle.tcc_near.proofs.MarkLemmas.{zip_at, zip-long}
+use Rattle.tcc_order.specs.Lasts.{IsBefore}
+use Rattle.tcc_order.specs.Latest.{AreLatestOf, IsOverwritten, IsLifted}
+use Rattle.tcc_order.specs.declared.latest.TheConstants.{WIDE}
+use Rattle.tcc_order.proofs.LatestLemmas.{latest_none, rows_same}
+use Rattle.tcc_order.proofs.Needing.{overwritten_none, overwritten_more, overwritten_all}
+use Rattle.tcc_order.proofs.Readings.{IsTaken, named_long, named_at, reader_below}
+use Rattle.tcc_order.proofs.keeping.needed.Goals as goal
+
+pub loop-place-init : goal.loop-place-init
+loop-place-init c =
+    let h = c.args.graph.now in
+    let a = c.args.a in
+    let pairs = zip c.readings_at.result.0.now (map (key_at h) c.readings_at.result.1.now) in
+    let zeros : (k : ℕ) → k < length c.fill.new.self → get_or c.fill.new.self k 0 ≡ 0 = search rules in
+    let wide : length c.fill.new.self ≡ WIDE = c.fill.ensures.len ∙ c.requires.wide in
+    latest_none h (IsOverwritten h (IsTaken pairs 0) a) c.args.from c.fill.new.self wide zeros
+    (overwritten_none h c.requires.numbered c.args.owners.now c.requires.owners c.args.from a pairs)
+
+pub bounds-table-reader : goal.bounds-table-reader
+bounds-table-reader c =
+    let readings = c.readings_at.ensures in
+    let below = reader_below c.args.graph.now c.args.a _ _ readings.long readings.each c.loop-place.place c.loop-place-test.true in
+    omega (arith, below, c.requires.clocks.long)
+
+-- the clock of the reader
+module _ (c : goal.After-values) where
+  abbrev reader : ℕ
+  reader = get_or c.readings_at.result.0.now c.loop-place.place 0
+
+  below : get_or c.readings_at.result.0.now c.loop-place.place 0 < count c.args.graph.now
+  below = reader_below c.args.graph.now c.args.a _ _ c.readings_at.ensures.long c.readings_at.ensures.each c.loop-place.place c.loop-place-test.true
+
+  row : c.values.result.now ≡ row_of c.args.table.now (get_or c.readings_at.result.0.now c.loop-place.place 0)
+  row = c.values.ensures
+      ∙ get_or_read c.args.table.now reader c.index-table-reader.result (omega (arith, below, c.requires.clocks.long)) c.index-table-reader.is []
+
+  clock : AreLatestOf c.args.graph.now (IsBefore c.args.graph.now (get_or c.readings_at.result.0.now c.loop-place.place 0)) c.args.from c.values.result.now
+  clock = rw row (c.requires.clocks.each reader below below)
+
+pub lift_writers-requires-clause-same : goal.lift_writers-requires-clause-same
+lift_writers-requires-clause-same c = c.loop-place.invariant.wide ∙ sym (clock (search rules)).wide
+
+pub lift_writers-requires-clause-inside : goal.lift_writers-requires-clause-inside
+lift_writers-requires-clause-inside c = ?
+
+pub loop-place-preserved : goal.loop-place-preserved
+loop-place-preserved c = ?
+
+pub returns : goal.returns
+returns c =
+    let readings = c.readings_at.ensures in
+    overwritten_all c.args.graph.now c.args.a _ _ readings.long readings.each c.args.from c.loop-place.need c.loop-place.place
+    (omega (arith, c.loop-place-test.false)) c.loop-place.invariant
