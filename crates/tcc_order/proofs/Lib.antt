@@ -19,3 +19,4 @@ mod Worked
 pub mod LatestLemmas
 pub mod Readings
 pub mod Needing
+pub mod Finding

@@ -28,7 +28,7 @@ pub lifted_none : (owners : List ℕ) (from : ℕ) (clock writers : List ℕ) (a
 lifted_none owners from clock writers a k old = record {
   attained = inl refl;
   kept = omega arith;
-  greatest = λ b w. absurd (nothing_in b w.2.0);
+  greatest = λ b w. absurd (nothing_in b w.2);
 }
 
 module _ (owners : List ℕ) (from : ℕ) (clock numbers : List ℕ) (a k n : ℕ) (inside : n < length numbers) (old mid : ℕ)
@@ -41,7 +41,7 @@ module _ (owners : List ℕ) (from : ℕ) (clock numbers : List ℕ) (a k n : �
       && ((slice_index owners (get_or numbers n 0) == from + k) && nat_le (get_or numbers n 0) (slice_index clock k))
 
   still : (d : ℕ) → IsLiftable owners from clock (take n numbers) a k d → IsLiftable owners from clock (take (n + 1) numbers) a k d
-  still d w = (w.0, w.1, still_taken numbers n inside d w.2.0, w.2.1, w.2.2)
+  still d w = (w.0, w.1, still_taken numbers n inside d w.2, w.3, w.4)
 
   parts : test ≡ true → IsLiftable owners from clock (take (n + 1) numbers) a k b
   parts t =
@@ -56,7 +56,7 @@ module _ (owners : List ℕ) (from : ℕ) (clock numbers : List ℕ) (a k n : �
   back : IsLiftable owners from clock (take (n + 1) numbers) a k b → test ≡ true
   back w =
       and_from _ _ (and_from _ _ (lt-ltb 0 b w.0) (rw (ne_eqb b a w.1) refl))
-      (and_from _ _ (eq-eqb (slice_index owners b) (from + k) w.2.1) (le-leb b (slice_index clock k) w.2.2))
+      (and_from _ _ (eq-eqb (slice_index owners b) (from + k) w.3) (le-leb b (slice_index clock k) w.4))
 
   pub lifted_more : IsLifted owners from clock (take (n + 1) numbers) a k old (lifted_by owners from clock a (get_or numbers n 0) k mid)
   lifted_more = go (cases_Bool test)
@@ -73,11 +73,11 @@ module _ (owners : List ℕ) (from : ℕ) (clock numbers : List ℕ) (a k n : �
           subst (λ (z : ℕ). (z ≡ old) ⊎ IsLiftable owners from clock (take (n + 1) numbers) a k z) e (before is.attained)
 
       above : (d : ℕ) → IsLiftable owners from clock (take (n + 1) numbers) a k d → Contains (take n numbers) d ⊎ (b ≡ d) → d ≤ max b mid
-      above d w (inl was) = omega (arith, is.greatest d (w.0, w.1, was, w.2.1, w.2.2))
+      above d w (inl was) = omega (arith, is.greatest d (w.0, w.1, was, w.3, w.4))
       above d w (inr same) = omega arith
 
       early : test ≡ false → (d : ℕ) → IsLiftable owners from clock (take (n + 1) numbers) a k d → Contains (take n numbers) d ⊎ (b ≡ d) → d ≤ mid
-      early f d w (inl was) = is.greatest d (w.0, w.1, was, w.2.1, w.2.2)
+      early f d w (inl was) = is.greatest d (w.0, w.1, was, w.3, w.4)
       early f d w (inr same) =
           absurd (false≢true (sym f ∙ back (subst (λ (z : ℕ). IsLiftable owners from clock (take (n + 1) numbers) a k z) (sym same) w)))
 
@@ -85,12 +85,12 @@ module _ (owners : List ℕ) (from : ℕ) (clock numbers : List ℕ) (a k n : �
       go (inl t) = rw t record {
         attained = up (parts t) (cases_lt mid b);
         kept = omega (arith, is.kept);
-        greatest = λ d w. above d w (one_of_taken numbers n inside d w.2.0);
+        greatest = λ d w. above d w (one_of_taken numbers n inside d w.2);
       }
       go (inr f) = rw f record {
         attained = before is.attained;
         kept = is.kept;
-        greatest = λ d w. early f d w (one_of_taken numbers n inside d w.2.0);
+        greatest = λ d w. early f d w (one_of_taken numbers n inside d w.2);
       }
 
 -- ---- what a clock reaches
@@ -112,7 +112,7 @@ clock_reaches h numbered c session v b is some below owned up = go is.attained (
 -- ---- one reading more
 module _ (h : History) (numbered : IsBySession h.entries) (owners : List ℕ) (known : AreOwners h owners) (from a : ℕ) where
   pub overwritten_none : (pairs : List (ℕ × List ℕ)) (b : ℕ) → IsOverwritten h (IsTaken pairs 0) a b → ⊥
-  overwritten_none pairs b (c, x, (k, l, e), w) = omega arith
+  overwritten_none pairs b (c, x, (k, l, e), writer, apart, reached) = omega arith
 
   module _ (pairs : List (ℕ × List ℕ)) (n c : ℕ) (x : List ℕ) (inside : n < length pairs) (here : get_or pairs n (0, []) ≡ (c, x)) (old new clock : List ℕ)
       (are : AreLatestOf h (IsOverwritten h (IsTaken pairs n) a) from old) (reaches : AreLatestOf h (IsBefore h c) from clock)
@@ -122,7 +122,8 @@ module _ (h : History) (numbered : IsBySession h.entries) (owners : List ℕ) (k
     taken = take_more pairs n (0, []) inside ∙ ap (λ p. take n pairs ++ p ∷ []) here
 
     still_over : (b : ℕ) → IsOverwritten h (IsTaken pairs n) a b → IsOverwritten h (IsTaken pairs (n + 1)) a b
-    still_over b (d, y, was, w) = (d, y, rw taken (Contains-append_left (take n pairs) ((c, x) ∷ []) (d, y) was), w)
+    still_over b (d, y, was, writer, apart, reached) =
+        (d, y, rw taken (Contains-append_left (take n pairs) ((c, x) ∷ []) (d, y) was), writer, apart, reached)
 
     over : (k b : ℕ) → k < WIDE → IsLiftable owners from clock (writers h x) a k b → IsOneOf h (IsOverwritten h (IsTaken pairs (n + 1)) a) (from + k) b
     over k b l (some, apart, writer, owned, up) =
@@ -206,7 +207,7 @@ module _ (h : History) (numbered : IsBySession h.entries) (from a : ℕ) (low : 
 
           after : (v : ℕ) → v ≡ slice_index need k → v < count h → owner h v ≡ from + k → (b ≡ v) ⊎ (b ≢ v) → (b ≡ v) ⊎ IsSessionPair h b v
           after v at top owned (inl same) = inl same
-          after v at top owned (inr other) = inr (same_session h numbered b v some (omega arith) top (mine ∙ sym owned))
+          after v at top owned (inr other) = inr (same_session h numbered b v some (omega (arith, most, at, other)) top (mine ∙ sym owned))
 
           by : (slice_index need k ≡ 0) ⊎ IsOneOf h (IsOverwritten h (IsReadsPair h a) a) (from + k) (slice_index need k)
               → (slice_index clock k < slice_index need k) ⊎ (slice_index need k ≤ slice_index clock k) → IsCovered h kept a b
@@ -276,13 +277,13 @@ keeps_none old need clock b = (inl, back)
   where
     back : Contains old b ⊎ ((k : ℕ) × (k < 0) × (slice_index need k ≡ b) × (slice_index clock k < b)) → Contains old b
     back (inl was) = was
-    back (inr (k, l, w)) = absurd (omega arith)
+    back (inr (k, l, at, more)) = absurd (omega arith)
 
 module _ (old mid need clock : List ℕ) (n : ℕ) (before : Keeps old mid need clock n) where
   onward : (b : ℕ) → Contains old b ⊎ ((k : ℕ) × (k < n) × (slice_index need k ≡ b) × (slice_index clock k < b))
       → Contains old b ⊎ ((k : ℕ) × (k < n + 1) × (slice_index need k ≡ b) × (slice_index clock k < b))
   onward b (inl was) = inl was
-  onward b (inr (k, l, w)) = inr (k, omega arith, w)
+  onward b (inr (k, l, at, more)) = inr (k, omega arith, at, more)
 
   pub keeps_skip : (slice_index clock n < slice_index need n → ⊥) → Keeps old mid need clock (n + 1)
   keeps_skip under b = (λ m. onward b ((before b).0 m), back)
@@ -323,10 +324,10 @@ module _ (h : History) (a : ℕ) (rs ps : List ℕ) (long : length rs ≡ length
       whole = take_all k (zip rs (map (key_at h) ps)) (omega (arith, zip-long rs (map (key_at h) ps) (named_long h a rs ps long each)))
 
       there : (b : ℕ) → IsOverwritten h (IsTaken (zip rs (map (key_at h) ps)) k) a b → IsOverwritten h (IsReadsPair h a) a b
-      there b (c, x, taken, w) = (c, x, (named_each h a rs ps long each c x).0 (rw whole at taken), w)
+      there b (c, x, t, writer, apart, reached) = (c, x, (named_each h a rs ps long each c x).0 (rw whole at t), writer, apart, reached)
 
       back : (b : ℕ) → IsOverwritten h (IsReadsPair h a) a b → IsOverwritten h (IsTaken (zip rs (map (key_at h) ps)) k) a b
-      back b (c, x, pair, w) = (c, x, rw whole ((named_each h a rs ps long each c x).1 pair), w)
+      back b (c, x, pair, writer, apart, reached) = (c, x, rw whole ((named_each h a rs ps long each c x).1 pair), writer, apart, reached)
 
   -- one more
   pub overwritten_next : IsBySession h.entries → (owners : List ℕ) → AreOwners h owners → (from k : ℕ) → k < length rs → (old new clock : List ℕ)

@@ -42,7 +42,7 @@ session_ends h a b p =
     let w = and_parts (nat_lt a (count h)) (nat_lt b (count h)) (and_parts (nat_lt a (count h) && nat_lt b (count h)) (whose h a b) p).0 in
     (ltb-true a (count h) w.0, ltb-true b (count h) w.1)
 
-session_init : (h : History) (b : ℕ) → 0 < b → b < count h → IsSessionPair h 0 b
+pub session_init : (h : History) (b : ℕ) → 0 < b → b < count h → IsSessionPair h 0 b
 session_init h b some below =
     and_from _ _ (and_from _ _ (lt-ltb 0 (count h) (omega arith)) (lt-ltb b (count h) below)) (or_left _ _ (lt-ltb 0 b some))
 

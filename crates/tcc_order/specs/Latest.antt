@@ -7,6 +7,8 @@ use Rattle.tcc_graph.specs.Keys.{writers}
 use Rattle.tcc_graph.specs.Orders.{Before}
 use Rattle.tcc_graph.specs.Tables.{row_of}
 use Rattle.tcc_graph.specs.Walks.{IsReached}
+use Rattle.tcc_graph.specs.Levels.{Judged}
+use Rattle.tcc_order.specs.Behind.{IsAllowedFrom}
 use Rattle.tcc_order.specs.Lasts.{IsOneOf, IsBefore}
 use Rattle.tcc_order.specs.declared.latest.TheConstants.{WIDE}
 
@@ -76,3 +78,18 @@ AreEnough h Derives IsMeant kept = (a b : ℕ) → Derives a b → 0 < b → IsM
 -- the derived pairs at `Causal`
 abbrev pub Overwrites : History → ℕ → ℕ → Type 0
 Overwrites h a b = (a < count h) × (b < count h) × IsOverwritten h (IsReadsPair h a) a b
+
+-- the derived pairs at a level
+abbrev pub Derives : Judged → ℕ → ℕ → Type 0
+Derives j a b = (a < count j.history) × (b < count j.history)
+    × ((c : ℕ) × (x : List ℕ) × IsReadsPair j.history a c x × Contains (writers j.history x) b × (b ≢ a) × IsAllowedFrom j b c)
+
+-- no link is kept
+abbrev pub HasNone : List (List ℕ) → Type 0
+HasNone kept = (x b : ℕ) → Contains (row_of kept x) b → ⊥
+
+-- links that are kept at a level: each is a derived pair, and all are covered
+pub record AreLinks (j : Judged) (kept : List (List ℕ)) : Type 0 where
+  pub long : length kept ≡ count j.history
+  pub derived : AreDerived (Derives j) kept
+  pub enough : AreEnough j.history (Derives j) (λ a b. Unit {0}) kept

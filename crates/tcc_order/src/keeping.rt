@@ -1,12 +1,15 @@
 //! The links at `Causal` that are kept: of each transaction and each session the last one that has to stand before it, where
 //! it doesn't reach it.
-ghost use Rattle.std.specs.Prelude.{◌≡◌, ◌≢◌, ◌<◌, ◌≤◌, ◌+◌, ◌⊎◌, ◌↔◌, ℕ, length, slice_index, All, Contains, OnOk};
+ghost use Rattle.std.specs.Prelude.{◌≡◌, ◌≢◌, ◌<◌, ◌≤◌, ◌+◌, ◌⊎◌, ◌↔◌, ℕ, length, slice_index, All, Contains, IfOk, OnOk};
 ghost use Rattle.tcc_reads.specs.History.{IsBySession, count, owner};
 ghost use Rattle.tcc_graph.specs.Relations.{IsReadsPair};
-ghost use Rattle.tcc_order.specs.Latest.{AreOwners, AreLatestOf, AreClocks, IsOverwritten, IsLifted, AreDerived, AreEnough, Overwrites, lifted_by};
+ghost use Rattle.tcc_order.specs.Latest.{AreOwners, AreLatestOf, AreClocks, IsOverwritten, IsLifted, AreDerived, AreEnough, AreLinks, Overwrites, HasNone, LeadsOnward, lifted_by};
+ghost use Rattle.tcc_graph.specs.Levels.{causally};
+ghost use Rattle.tcc_graph.specs.Orders.{IsNumbering};
+ghost use Rattle.tcc_order.specs.Behind.{AreSessionParents};
 ghost use Rattle.tcc_order.specs.declared.latest.TheConstants.{WIDE};
 
-use crate::latest::WIDE;
+use crate::latest::{WIDE, clocks_of, owners};
 use std::alloc::Global;
 use tcc_graph::Graph;
 use tcc_near::Row;
@@ -111,4 +114,39 @@ pub(crate) fn keep_block(
         keep(&mut kept[a as usize], &need, table[a as usize].values())?;
     }
     Ok(())
+}
+
+/// So many rows in which nothing is kept.
+pub(crate) fn no_links(alloc: Global, count: u32) -> Result<Vec<Row<u32>>, NoMemory>
+    ensures long { IfOk result (λ kept. length kept.items ≡ count) }
+    ensures none { IfOk result (λ kept. HasNone kept.items) }
+{
+    let mut kept = Vec::new(alloc);
+    for _row in 0..count {
+        kept.push(Row::new(Vec::new(alloc)))?;
+    }
+    Ok(kept)
+}
+
+/// The links at `Causal` that are kept, by an order in which causal pairs lead onward.
+pub(crate) fn causal_links(
+    alloc: Global,
+    graph: &Graph,
+    parents: &[u32],
+    order: &[u32],
+) -> Result<Vec<Row<u32>>, NoMemory>
+    requires parents { AreSessionParents graph.now parents.now }
+    requires numbering { IsNumbering (count graph.now) order.now }
+    requires onward { LeadsOnward graph.now order.now }
+    ensures { IfOk result (λ kept. AreLinks (causally graph.now) kept.items) }
+{
+    let owners = owners(alloc, graph)?;
+    let mut kept = no_links(alloc, graph.count())?;
+    let sessions = graph.sessions().len();
+    for block in 0..sessions.div_ceil(WIDE) {
+        let from = (block * WIDE) as u32;
+        let table = clocks_of(alloc, graph, parents, &owners, from, order)?;
+        keep_block(alloc, &mut kept, graph, &owners, from, &table)?;
+    }
+    Ok(kept)
 }

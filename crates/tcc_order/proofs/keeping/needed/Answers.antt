@@ -12,7 +12,7 @@ use Rattle.tcc_order.specs.Lasts.{IsBefore}
 use Rattle.tcc_order.specs.Latest.{AreLatestOf, IsOverwritten, IsLifted}
 use Rattle.tcc_order.specs.declared.latest.TheConstants.{WIDE}
 use Rattle.tcc_order.proofs.LatestLemmas.{latest_none, rows_same}
-use Rattle.tcc_order.proofs.Needing.{overwritten_none, overwritten_more, overwritten_all}
+use Rattle.tcc_order.proofs.Needing.{overwritten_none, overwritten_next, overwritten_all}
 use Rattle.tcc_order.proofs.Readings.{IsTaken, named_long, named_at, reader_below}
 use Rattle.tcc_order.proofs.keeping.needed.Goals as goal
 
@@ -32,29 +32,47 @@ bounds-table-reader c =
     let below = reader_below c.args.graph.now c.args.a _ _ readings.long readings.each c.loop-place.place c.loop-place-test.true in
     omega (arith, below, c.requires.clocks.long)
 
--- the clock of the reader
-module _ (c : goal.After-values) where
-  abbrev reader : ℕ
-  reader = get_or c.readings_at.result.0.now c.loop-place.place 0
-
-  below : get_or c.readings_at.result.0.now c.loop-place.place 0 < count c.args.graph.now
-  below = reader_below c.args.graph.now c.args.a _ _ c.readings_at.ensures.long c.readings_at.ensures.each c.loop-place.place c.loop-place-test.true
-
-  row : c.values.result.now ≡ row_of c.args.table.now (get_or c.readings_at.result.0.now c.loop-place.place 0)
-  row = c.values.ensures
-      ∙ get_or_read c.args.table.now reader c.index-table-reader.result (omega (arith, below, c.requires.clocks.long)) c.index-table-reader.is []
-
-  clock : AreLatestOf c.args.graph.now (IsBefore c.args.graph.now (get_or c.readings_at.result.0.now c.loop-place.place 0)) c.args.from c.values.result.now
-  clock = rw row (c.requires.clocks.each reader below below)
-
 pub lift_writers-requires-clause-same : goal.lift_writers-requires-clause-same
-lift_writers-requires-clause-same c = c.loop-place.invariant.wide ∙ sym (clock (search rules)).wide
+lift_writers-requires-clause-same c =
+    let h = c.args.graph.now in
+    let readings = c.readings_at.ensures in
+    let reader : ℕ = get_or c.readings_at.result.0.now c.loop-place.place 0 in
+    let below = reader_below h c.args.a _ _ readings.long readings.each c.loop-place.place c.loop-place-test.true in
+    let row : c.values-clock.result.now ≡ row_of c.args.table.now reader
+    = c.values-clock.ensures
+        ∙ get_or_read c.args.table.now reader c.index-table-reader.result (omega (arith, below, c.requires.clocks.long)) c.index-table-reader.is [] in
+    rw row (c.loop-place.invariant.wide ∙ sym (c.requires.clocks.each reader below below).wide)
 
 pub lift_writers-requires-clause-inside : goal.lift_writers-requires-clause-inside
-lift_writers-requires-clause-inside c = ?
+lift_writers-requires-clause-inside c =
+    let h = c.args.graph.now in
+    rw c.writers_at.ensures
+    (All-weaker (λ b. b < count h) (λ b. b < length c.args.owners.now) (λ b l. omega (arith, l, c.requires.owners.long))
+    (writers h (key_at h (get_or c.readings_at.result.1.now c.loop-place.place 0)))
+    (writers_below h (key_at h (get_or c.readings_at.result.1.now c.loop-place.place 0))))
 
 pub loop-place-preserved : goal.loop-place-preserved
-loop-place-preserved c = ?
+loop-place-preserved c =
+    let h = c.args.graph.now in
+    let a = c.args.a in
+    let from = c.args.from in
+    let owners = c.args.owners.now in
+    let k = c.loop-place.place in
+    let rs = c.readings_at.result.0.now in
+    let ps = c.readings_at.result.1.now in
+    let readings = c.readings_at.ensures in
+    let reader : ℕ = get_or rs k 0 in
+    let below = reader_below h a rs ps readings.long readings.each k c.loop-place-test.true in
+    let row : c.values-clock.result.now ≡ row_of c.args.table.now reader
+    = c.values-clock.ensures
+        ∙ get_or_read c.args.table.now reader c.index-table-reader.result (omega (arith, below, c.requires.clocks.long)) c.index-table-reader.is [] in
+    let old = c.loop-place.need in
+    let new = c.lift_writers.new.need in
+    let lift : (s : ℕ) → s < length old
+        → IsLifted owners from (row_of c.args.table.now reader) (writers h (key_at h (get_or ps k 0))) a s (slice_index old s) (slice_index new s)
+    = rw (row, c.writers_at.ensures) at c.lift_writers.ensures.each in
+    overwritten_next h a rs ps readings.long readings.each c.requires.numbered owners c.requires.owners from k c.loop-place-test.true old new
+    (row_of c.args.table.now reader) c.loop-place.invariant (c.requires.clocks.each reader below below) c.lift_writers.ensures.same lift
 
 pub returns : goal.returns
 returns c =
