@@ -133,15 +133,25 @@ module _ (h : History) (numbered : IsBySession h.entries) (owners : List ℕ) (k
           committed = some;
           below = below;
           owned = mine;
-          meant = (c, x, rw taken (Contains-push (take n pairs) (c, x)), writer, apart,
-              clock_reaches h numbered c (from + k) (slice_index clock k) b (reaches.each k l) some below mine up);
+          meant = (
+            c,
+            x,
+            rw taken (Contains-push (take n pairs) (c, x)),
+            writer,
+            apart,
+            clock_reaches h numbered c (from + k) (slice_index clock k) b (reaches.each k l) some below mine up,
+          );
         }
 
     liftable : (k b : ℕ) → k < WIDE → 0 < b → b < count h → owner h b ≡ from + k → Contains (writers h x) b → b ≢ a → IsReached h b c
         → IsLiftable owners from clock (writers h x) a k b
-    liftable k b l some below mine writer apart reached =
-        (some, apart, writer, known.each b some below ∙ mine,
-        (reaches.each k l).greatest b record { committed = some; below = below; owned = mine; meant = reached })
+    liftable k b l some below mine writer apart reached = (
+      some,
+      apart,
+      writer,
+      known.each b some below ∙ mine,
+      (reaches.each k l).greatest b record { committed = some; below = below; owned = mine; meant = reached },
+    )
 
     pub overwritten_more : AreLatestOf h (IsOverwritten h (IsTaken pairs (n + 1)) a) from new
     overwritten_more = record { wide = same ∙ are.wide; each = λ k l. step k l (each k (omega (arith, are.wide))) }
@@ -164,12 +174,16 @@ module _ (h : History) (numbered : IsBySession h.entries) (owners : List ℕ) (k
                 → IsReached h b d → (let one : ℕ × List ℕ = (c, x) in let other : ℕ × List ℕ = (d, y) in Contains (take n pairs) other ⊎ (one ≡ other))
                 → b ≤ slice_index new k
             by b one d y writer apart reached (inl before) =
-                omega (arith, lift.kept, (are.each k l).greatest b record {
-                  committed = one.committed;
-                  below = one.below;
-                  owned = one.owned;
-                  meant = (d, y, before, writer, apart, reached);
-                })
+                omega (
+                  arith,
+                  lift.kept,
+                  (are.each k l).greatest b record {
+                    committed = one.committed;
+                    below = one.below;
+                    owned = one.owned;
+                    meant = (d, y, before, writer, apart, reached);
+                  },
+                )
             by b one d y writer apart reached (inr at) =
                 let first : c ≡ d = ap (λ p. p.0) at in
                 let second : x ≡ y = ap (λ p. p.1) at in
@@ -212,12 +226,16 @@ module _ (h : History) (numbered : IsBySession h.entries) (from a : ℕ) (low : 
           by : (slice_index need k ≡ 0) ⊎ IsOneOf h (IsOverwritten h (IsReadsPair h a) a) (from + k) (slice_index need k)
               → (slice_index clock k < slice_index need k) ⊎ (slice_index need k ≤ slice_index clock k) → IsCovered h kept a b
           by (inl none) kind = absurd (omega (arith, most, none))
-          by (inr one) (inl more) =
-              (slice_index need k, after (slice_index need k) refl one.below one.owned (cases_eq b (slice_index need k)),
-              inl (rw row ((now (slice_index need k)).1 (inr (k, omega (arith, needs.wide), refl, more)))))
-          by (inr one) (inr under) =
-              (slice_index need k, after (slice_index need k) refl one.below one.owned (cases_eq b (slice_index need k)),
-              inr (clock_reaches h numbered a (from + k) (slice_index clock k) (slice_index need k) (reaches.each k l) one.committed one.below one.owned under))
+          by (inr one) (inl more) = (
+            slice_index need k,
+            after (slice_index need k) refl one.below one.owned (cases_eq b (slice_index need k)),
+            inl (rw row ((now (slice_index need k)).1 (inr (k, omega (arith, needs.wide), refl, more)))),
+          )
+          by (inr one) (inr under) = (
+            slice_index need k,
+            after (slice_index need k) refl one.below one.owned (cases_eq b (slice_index need k)),
+            inr (clock_reaches h numbered a (from + k) (slice_index clock k) (slice_index need k) (reaches.each k l) one.committed one.below one.owned under),
+          )
 
 -- what was kept stays
 pub covered_wider : (h : History) (old new : List (List ℕ)) (a b : ℕ) → ((d : ℕ) → Contains (row_of old a) d → Contains (row_of new a) d) → IsCovered h old a b

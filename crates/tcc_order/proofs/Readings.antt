@@ -63,4 +63,3 @@ module _ (h : History) (a : ℕ) (rs ps : List ℕ) (long : length rs ≡ length
   -- who reads is a transaction
   pub reader_below : (k : ℕ) → k < length rs → get_or rs k 0 < count h
   reader_below k l = ((each (get_or rs k 0) (get_or ps k 0)).0 (zip_has rs ps k 0 long l)).1.1
-

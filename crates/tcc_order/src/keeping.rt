@@ -32,14 +32,7 @@ fn lift_writer(need: &mut [u32], owners: &[u32], from: u32, clock: &[u32], b: u3
 }
 
 /// Raises the numbers of the sessions to those of writers, other than `a`, that the clock reaches.
-fn lift_writers(
-    need: &mut [u32],
-    owners: &[u32],
-    from: u32,
-    clock: &[u32],
-    writers: &[u32],
-    a: u32,
-)
+fn lift_writers(need: &mut [u32], owners: &[u32], from: u32, clock: &[u32], writers: &[u32], a: u32)
     requires same { length need.old ≡ length clock.now }
     requires inside { All (λ b. b < length owners.now) writers.now }
     ensures same { length need.new ≡ length need.old }
@@ -52,14 +45,7 @@ fn lift_writers(
 
 /// Of each session of the block the last transaction that has to stand before `a`: that overwrote a value of `a`, and
 /// reaches who read it.
-fn needed(
-    need: &mut [u32],
-    graph: &Graph,
-    owners: &[u32],
-    from: u32,
-    table: &[Row<u32>],
-    a: u32,
-)
+fn needed(need: &mut [u32], graph: &Graph, owners: &[u32], from: u32, table: &[Row<u32>], a: u32)
     requires wide { length need.old ≡ WIDE }
     requires numbered { IsBySession graph.now.entries }
     requires owners { AreOwners graph.now owners.now }
@@ -71,7 +57,14 @@ fn needed(
     let (readers, places) = graph.readings_at(a);
     for (place, reader) in readers.iter().enumerate() {
         let clock = table[*reader as usize].values();
-        lift_writers(need, owners, from, clock, graph.writers_at(places[place]), a);
+        lift_writers(
+            need,
+            owners,
+            from,
+            clock,
+            graph.writers_at(places[place]),
+            a,
+        );
     }
 }
 

@@ -42,11 +42,7 @@ fn order_by(
 }
 
 /// The first commit order at `Causal`, by the links that are kept.
-fn causal_order(
-    alloc: Global,
-    graph: &Graph,
-    parents: &[u32],
-) -> Result<Option<Vec<u32>>, NoMemory>
+fn causal_order(alloc: Global, graph: &Graph, parents: &[u32]) -> Result<Option<Vec<u32>>, NoMemory>
     requires numbered { IsBySession graph.now.entries }
     requires parents { AreSessionParents graph.now parents.now }
     ensures { IfOk result (λ found. MatchOption found

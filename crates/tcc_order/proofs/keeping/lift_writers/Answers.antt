@@ -14,7 +14,7 @@ loop-writer-preserved c =
       new.same ∙ inv.0,
       λ k l. rw (new.each k (omega (arith, inv.0)))
           (lifted_more c.args.owners.now c.args.from c.args.clock.now c.args.writers.now c.args.a k c.loop-writer.writer-index c.loop-writer-test.true
-              (slice_index c.args.need.now k) (slice_index c.loop-writer.need k) (inv.1 k l)),
+          (slice_index c.args.need.now k) (slice_index c.loop-writer.need k) (inv.1 k l)),
     )
 
 pub returns-clause-each : goal.returns-clause-each

@@ -40,7 +40,7 @@ lift_writers-requires-clause-same c =
     let below = reader_below h c.args.a _ _ readings.long readings.each c.loop-place.place c.loop-place-test.true in
     let row : c.values-clock.result.now ≡ row_of c.args.table.now reader
     = c.values-clock.ensures
-        ∙ get_or_read c.args.table.now reader c.index-table-reader.result (omega (arith, below, c.requires.clocks.long)) c.index-table-reader.is [] in
+    ∙ get_or_read c.args.table.now reader c.index-table-reader.result (omega (arith, below, c.requires.clocks.long)) c.index-table-reader.is [] in
     rw row (c.loop-place.invariant.wide ∙ sym (c.requires.clocks.each reader below below).wide)
 
 pub lift_writers-requires-clause-inside : goal.lift_writers-requires-clause-inside
@@ -65,11 +65,11 @@ loop-place-preserved c =
     let below = reader_below h a rs ps readings.long readings.each k c.loop-place-test.true in
     let row : c.values-clock.result.now ≡ row_of c.args.table.now reader
     = c.values-clock.ensures
-        ∙ get_or_read c.args.table.now reader c.index-table-reader.result (omega (arith, below, c.requires.clocks.long)) c.index-table-reader.is [] in
+    ∙ get_or_read c.args.table.now reader c.index-table-reader.result (omega (arith, below, c.requires.clocks.long)) c.index-table-reader.is [] in
     let old = c.loop-place.need in
     let new = c.lift_writers.new.need in
     let lift : (s : ℕ) → s < length old
-        → IsLifted owners from (row_of c.args.table.now reader) (writers h (key_at h (get_or ps k 0))) a s (slice_index old s) (slice_index new s)
+    → IsLifted owners from (row_of c.args.table.now reader) (writers h (key_at h (get_or ps k 0))) a s (slice_index old s) (slice_index new s)
     = rw (row, c.writers_at.ensures) at c.lift_writers.ensures.each in
     overwritten_next h a rs ps readings.long readings.each c.requires.numbered owners c.requires.owners from k c.loop-place-test.true old new
     (row_of c.args.table.now reader) c.loop-place.invariant (c.requires.clocks.each reader below below) c.lift_writers.ensures.same lift

@@ -44,7 +44,7 @@ loop-number-preserved c =
       made.wide,
       table_more h from table order row k c.loop-number-test.true low inv.1
           (row_done h c.requires.numbered from order k table c.requires.numbering c.requires.onward c.loop-number-test.true
-              c.in_ok-find_parents.ensures.sources inv.1 row made),
+          c.in_ok-find_parents.ensures.sources inv.1 row made),
     )
 
 pub returns : goal.returns

@@ -15,9 +15,11 @@ returns-in-Some c =
 
 pub returns-in-Some-missing_source : goal.returns-in-Some-missing_source
 returns-in-Some-missing_source c =
-    let w = c.in-Some-missing_source.ensures in
-    (source_missing c.args.graph.now c.args.parents.now c.requires.parents c.args.kept.now c.args.placed.now c.args.x c.requires.below
-    c.reads_at.result.now c.reads_at.ensures.value c.reads_at.ensures.within c.in-Some-missing_source.source w.0, w.1)
+    let w = c.in-Some-missing_source.ensures in (
+      source_missing c.args.graph.now c.args.parents.now c.requires.parents c.args.kept.now c.args.placed.now c.args.x c.requires.below
+          c.reads_at.result.now c.reads_at.ensures.value c.reads_at.ensures.within c.in-Some-missing_source.source w.0,
+      w.1,
+    )
 
 pub returns : goal.returns
 returns c =
@@ -29,8 +31,8 @@ returns c =
     let low : x < length kept = omega (arith, c.requires.below, c.requires.long) in
     let row : c.values.result.now ≡ row_of kept x = c.values.ensures ∙ get_or_read kept x c.index-kept-x.result low c.index-kept-x.is [] in
     let found : MatchOption c.missing_of.result
-        ((k : ℕ) → k < length (row_of kept x) → is_marked placed (slice_index (row_of kept x) k) ≡ true)
-        (λ b. Contains (row_of kept x) b × (is_marked placed b ≡ false))
+    ((k : ℕ) → k < length (row_of kept x) → is_marked placed (slice_index (row_of kept x) k) ≡ true)
+    (λ b. Contains (row_of kept x) b × (is_marked placed b ≡ false))
     = rw row at c.missing_of.ensures in
     option_same c.missing_of.result
     ((k : ℕ) → k < length (row_of kept x) → is_marked placed (slice_index (row_of kept x) k) ≡ true)
