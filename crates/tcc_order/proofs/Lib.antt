@@ -8,6 +8,7 @@ pub mod OrderOrCycle
 pub mod Reaching
 pub mod MissingBits
 pub mod Picking
+pub mod Fronts
 pub mod Links
 pub mod Rows
 pub mod Contradicting
@@ -15,3 +16,7 @@ pub mod Heads
 pub mod LastLemmas
 pub mod WriterRows
 mod Worked
+pub mod LatestLemmas
+pub mod Readings
+pub mod Needing
+pub mod Finding

@@ -2,3 +2,5 @@
 pub mod Numbering
 pub mod Behind
 pub mod Lasts
+pub mod Held
+pub mod Latest

@@ -14,7 +14,7 @@ use tcc_near::Row;
 use tcc_txn::NoMemory;
 
 /// The greater of the two places of each session.
-fn raise_each(row: &mut [u32], other: &[u32])
+pub(crate) fn raise_each(row: &mut [u32], other: &[u32])
     requires { length row.old ≡ length other.now }
     ensures same { length row.new ≡ length row.old }
     ensures each { (s : ℕ) → s < length row.old → slice_index row.new s ≡ max (slice_index other.now s) (slice_index row.old s) }

@@ -6,9 +6,12 @@ mod before;
 mod behind;
 mod clocking;
 mod into;
+mod keeping;
+mod latest;
 pub mod laws;
 mod numbering;
 mod ordering;
+mod placing;
 mod written;
 
 pub use clocking::clocks;

@@ -4,14 +4,16 @@ ghost use Rattle.tcc_reads.specs.History.{IsBySession, count};
 ghost use Rattle.tcc_graph.specs.Relations.{IsCausalPair};
 ghost use Rattle.tcc_graph.specs.Orders.{IsFirstOrder};
 ghost use Rattle.tcc_graph.specs.Routes.{HasCycle};
+ghost use Rattle.tcc_graph.specs.Levels.{causally};
 ghost use Rattle.tcc_graph.specs.declared.level.Level.{Level};
 ghost use Rattle.tcc_near.specs.Bits.{IsRowOf};
 ghost use Rattle.tcc_order.specs.Behind.{IsTableOf, IsAllowedFrom, AreSessionParents};
 
 use crate::before::rows_before;
-use crate::behind::rows_behind;
 use crate::into::{pairs_into, session_parents};
+use crate::keeping::{causal_links, no_links};
 use crate::numbering::first_numbering;
+use crate::placing::first_placing;
 use std::alloc::Global;
 use tcc_graph::{Graph, Level};
 use tcc_near::Row;
@@ -39,6 +41,22 @@ fn order_by(
     first_numbering(alloc, &before, parents)
 }
 
+/// The first commit order at `Causal`, by the links that are kept.
+fn causal_order(alloc: Global, graph: &Graph, parents: &[u32]) -> Result<Option<Vec<u32>>, NoMemory>
+    requires numbered { IsBySession graph.now.entries }
+    requires parents { AreSessionParents graph.now parents.now }
+    ensures { IfOk result (λ found. MatchOption found
+        (HasCycle (causally graph.now))
+        (λ order. IsFirstOrder (causally graph.now) order.items)) }
+{
+    let none = no_links(alloc, graph.count())?;
+    let Some(order) = first_placing(alloc, graph, parents, &none)? else {
+        return Ok(None);
+    };
+    let kept = causal_links(alloc, graph, parents, &order)?;
+    first_placing(alloc, graph, parents, &kept)
+}
+
 /// The first commit order of a history at a level, compared as lists of numbers; none exactly where there is a cycle.
 pub fn order(alloc: Global, graph: &Graph, level: Level) -> Result<Option<Vec<u32>>, NoMemory>
     ensures { IfOk result (λ found. MatchOption found
@@ -48,15 +66,11 @@ pub fn order(alloc: Global, graph: &Graph, level: Level) -> Result<Option<Vec<u3
     // transactions stand by session and by place, as this call says
     graph.sessions();
     let parents = session_parents(alloc, graph)?;
-    let into = pairs_into(alloc, graph)?;
     match level {
-        Level::Atomic => order_by(alloc, graph, &into, &into, &parents),
-        Level::Causal => {
-            let Some(order) = first_numbering(alloc, &into, &parents)? else {
-                return Ok(None);
-            };
-            let behind = rows_behind(alloc, graph, &into, &order)?;
-            order_by(alloc, graph, &into, &behind, &parents)
+        Level::Atomic => {
+            let into = pairs_into(alloc, graph)?;
+            order_by(alloc, graph, &into, &into, &parents)
         }
+        Level::Causal => causal_order(alloc, graph, &parents),
     }
 }
