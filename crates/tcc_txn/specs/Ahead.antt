@@ -47,7 +47,8 @@ IsFailure k = (k ≡ kind.Read) ⊎ (k ≡ kind.NoMemory)
 
 -- the reader failed or memory was refused, at the record that follows some lawful lines after which the same answers are still to come
 abbrev pub FailsIn : Limits → Answers → RowFault → Type 0
-FailsIn limits ahead fault = IsFailure fault.kind × (past : List Line) × (left : List Record) × (ahead ≡ answers_after_within limits past left) × (fault.row ≡ length past + 1)
+FailsIn limits ahead fault =
+    IsFailure fault.kind × (past : List Line) × (left : List Record) × (ahead ≡ answers_after_within limits past left) × (fault.row ≡ length past + 1)
 
 -- the first answer is this fault, unless the reader failed or memory was refused
 abbrev pub FaultsIn : Limits → Answers → RowFault → Type 0

@@ -74,4 +74,5 @@ MeetsLine limits remaining ahead (Err k) new = FaultsIn limits ahead (record { r
 abbrev pub TakesFields : {R : Type 0} → Limits → List Line → Record → Result (Option Item) RowFault → Rows R → Type 0
 TakesFields limits past fields (Ok given) new =
     (last : Line) × (judged_within limits past fields ≡ Ok last) × (given ≡ item_of past last) × IsAfter limits (last ∷ past) new.progress
-TakesFields limits past fields (Err fault) new = ((judged_within limits past fields ≡ Err fault.kind) ⊎ (fault.kind ≡ kind.NoMemory)) × (fault.row ≡ length past + 1)
+TakesFields limits past fields (Err fault) new =
+    ((judged_within limits past fields ≡ Err fault.kind) ⊎ (fault.kind ≡ kind.NoMemory)) × (fault.row ≡ length past + 1)

@@ -28,7 +28,8 @@ pub struct LargeRecording<R> {
 impl<R: Read + Drop> LargeRecording<R> {
     /// Nothing is read yet; the reader is gone where memory is refused.
     pub fn new(alloc: Global, reader: R) -> Result<LargeRecording<R>, NoMemory>
-        ensures recording { IfOk result (λ recording. IfSome (R.remaining reader) (λ text. IsLargeRecording R.remaining recording [] (answers_within Large text))) }
+        ensures recording { IfOk result (λ recording. IfSome (R.remaining reader) (λ text.
+            IsLargeRecording R.remaining recording [] (answers_within Large text))) }
         ensures within { IfOk result (λ recording. IfSome (R.remaining reader) (λ text. IsWithin R.remaining recording.rows (records_within Large text))) }
         ensures fresh { IfOk result (λ recording. fault_met recording.rows ≡ None) }
     {
@@ -93,7 +94,8 @@ impl<R: Read + Drop> LargeRecording<R> {
 
     /// Reads on to the end, whatever is sealed.
     fn pass_seals(&mut self, alloc: Global) -> Result<(), RowFault>
-        ensures { (text : List ℕ) → IsLargeRecording R.remaining self.old [] (answers_within Large text) → IsWithin R.remaining self.old.rows (records_within Large text)
+        ensures { (text : List ℕ) → IsLargeRecording R.remaining self.old [] (answers_within Large text)
+            → IsWithin R.remaining self.old.rows (records_within Large text)
             → fault_met self.old.rows ≡ None
             → MatchResult result (λ done. IsRecordedWithin Large text (Ok self.new.snapshot)) (λ fault. IsRecordedWithin Large text (Err fault)) }
     {

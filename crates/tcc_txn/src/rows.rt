@@ -1,5 +1,6 @@
 //! Transactions and seals as they come out of records.
-ghost use Rattle.std.specs.Prelude.{◌≡◌, ◌≢◌, ◌+◌, ◌^◌, ◌<◌, ◌≤◌, List, [], length, true, IfOk, IfErr, IfSome, OnOk, MatchResult, None, Some, false, Ok, Err, option_map};
+ghost use Rattle.std.specs.Prelude.{◌≡◌, ◌≢◌, ◌+◌, ◌^◌, ◌<◌, ◌≤◌, List, [], length, true, IfOk, IfErr, IfSome, OnOk, MatchResult};
+ghost use Rattle.std.specs.Prelude.{None, Some, false, Ok, Err, option_map};
 ghost use Rattle.csv.specs.Records.{field_at};
 ghost use Rattle.tcc_txn.specs.Answers.{Answers, answers_after_within, answers_of, answers_within, fault_at_end, records_of, records_within};
 ghost use Rattle.tcc_txn.specs.Standing.{IsAfter, writes_no_zero};
@@ -154,7 +155,8 @@ impl<R: Read + Drop> Rows<R> {
 
     /// The next item, or the first fault; after `End` there is `End`, after a fault that fault.
     pub fn next(&mut self, alloc: Global) -> Result<Item, RowFault>
-        ensures answers { (limits : Limits) (ahead : Answers) → IsAhead limits R.remaining self.old ahead → TakesAnswer limits R.remaining ahead result self.new }
+        ensures answers { (limits : Limits) (ahead : Answers) → IsAhead limits R.remaining self.old ahead
+            → TakesAnswer limits R.remaining ahead result self.new }
 
         // The records are those of the text in turn, and none is passed uncounted.
         ensures within { (all : List Record) → IsWithin R.remaining self.old all → IsWithin R.remaining self.new all }
@@ -229,7 +231,8 @@ impl<R: Read + Drop> Rows<R> {
     /// Goes past records up to the next item.
     fn advance(&mut self, alloc: Global) -> Result<Item, RowFault>
         requires { self.old.phase ≡ Phase.Reading }
-        ensures item { IfOk result (λ given. (limits : Limits) (ahead : Answers) → IsMidway limits R.remaining self.old ahead → TakesItem limits R.remaining ahead given self.new) }
+        ensures item { IfOk result (λ given. (limits : Limits) (ahead : Answers) → IsMidway limits R.remaining self.old ahead
+            → TakesItem limits R.remaining ahead given self.new) }
         ensures phase { IfOk result (λ given. self.new.phase ≡ phase_after given) }
         ensures fault { IfErr result (λ fault. (limits : Limits) (ahead : Answers) → IsMidway limits R.remaining self.old ahead → FaultsIn limits ahead fault) }
         ensures failed { IfErr result (λ fault. fault.kind ≡ RowFaultKind.Read → (limits : Limits) (all : List Record) (ahead : Answers)
@@ -303,7 +306,8 @@ impl<R: Read + Drop> Rows<R> {
     /// Goes past the line that the record read last is.
     fn take_line(&mut self, alloc: Global, line: Line) -> Result<Option<Item>, RowFault>
         requires { writes_no_zero line }
-        ensures fields { (limits : Limits) (past : List Line) (fields : Record) → IsAfter limits past self.old.progress → row_reached self.old ≡ length past + 1
+        ensures fields { (limits : Limits) (past : List Line) (fields : Record) → IsAfter limits past self.old.progress
+            → row_reached self.old ≡ length past + 1
             → is_cut fields ≡ false → line_of fields ≡ Ok line → TakesFields limits past fields result self.new }
         ensures records { self.new.records ≡ self.old.records }
         ensures phase { self.old.phase ≡ Phase.Reading → IfOk result (λ given. self.new.phase ≡ phase_after_step given) }
@@ -319,7 +323,8 @@ impl<R: Read + Drop> Rows<R> {
 
     /// The end of the records.
     fn finish(&mut self) -> Result<Option<Item>, RowFault>
-        ensures unfinished { IfErr result (λ fault. (limits : Limits) (past : List Line) → IsAfter limits past self.old.progress → row_reached self.old ≡ length past
+        ensures unfinished { IfErr result (λ fault. (limits : Limits) (past : List Line) → IsAfter limits past self.old.progress
+            → row_reached self.old ≡ length past
             → fault_at_end past ≡ Some fault) }
         ensures closed { OnOk result ((limits : Limits) (past : List Line) → IsAfter limits past self.old.progress → fault_at_end past ≡ None) }
         ensures end { IfOk result (λ given. given ≡ Some Item.End) }

@@ -244,7 +244,8 @@ fn add_to(
     ensures few { OnOk result ((find (slice_cmp nat_cmp) session (parts_of parts.old.items) ≡ None) → length parts.old.items < most_sessions limits) }
     ensures known { IfErr result (λ k. k ≢ RowFaultKind.Read) }
     ensures refused { IfErr result
-        (λ k. (k ≡ RowFaultKind.NoMemory) ⊎ ((most_sessions limits ≤ length parts.old.items) × (find (slice_cmp nat_cmp) session (parts_of parts.old.items) ≡ None))) }
+        (λ k. (k ≡ RowFaultKind.NoMemory) ⊎ ((most_sessions limits ≤ length parts.old.items)
+        × (find (slice_cmp nat_cmp) session (parts_of parts.old.items) ≡ None))) }
 {
     let at = place_of(parts, &session);
     if stands_at(parts, at, &session) {

@@ -140,7 +140,8 @@ impl Progress {
 
     /// The session's transaction is finished.
     fn finish(&mut self, session: Name, committed: bool) -> Result<Txn, RowFaultKind>
-        ensures passed { (limits : Limits) (past : List Line) → IsAfter limits past self.old → PassesLine limits past (line.Finish session committed) result self.new }
+        ensures passed { (limits : Limits) (past : List Line) → IsAfter limits past self.old
+            → PassesLine limits past (line.Finish session committed) result self.new }
         ensures finished { (limits : Limits) (past : List Line) → IsAfter limits past self.old
             → IfOk result (λ txn. txn ≡ record { ops = ops_since session past; committed = committed }) }
         ensures other { IfErr result (λ kind. kind ≢ RowFaultKind.Read) }
@@ -157,7 +158,8 @@ impl Progress {
     /// The session's transaction reads or writes.
     fn operate(&mut self, session: Name, op: Op) -> Result<(), RowFaultKind>
         requires { writes_zero op ≡ false }
-        ensures passed { (limits : Limits) (past : List Line) → IsAfter limits past self.old → PassesLine limits past (line.Operation session op) result self.new }
+        ensures passed { (limits : Limits) (past : List Line) → IsAfter limits past self.old
+            → PassesLine limits past (line.Operation session op) result self.new }
         ensures other { IfErr result (λ kind. kind ≢ RowFaultKind.Read) }
     {
         let key = op.key();
@@ -207,7 +209,8 @@ impl Progress {
         record: &ByteRecord,
     ) -> Result<(), RowFaultKind>
         requires { length (fields_of record.now) ≡ 4 }
-        ensures passed { (limits : Limits) (past : List Line) → IsAfter limits past self.old → PassesOperation limits past (fields_of record.now) result self.new }
+        ensures passed { (limits : Limits) (past : List Line) → IsAfter limits past self.old
+            → PassesOperation limits past (fields_of record.now) result self.new }
         ensures other { IfErr result (λ kind. kind ≢ RowFaultKind.Read) }
     {
         self.pass_fields(
