@@ -23,7 +23,7 @@ use Rattle.tcc_graph.specs.declared.link.Link.TheVariants as link
 use Rattle.tcc_graph.proofs.Pairs.{step_pair}
 use Rattle.tcc_graph.proofs.Linking.{link_route}
 use Rattle.tcc_graph.proofs.WriterLemmas.{writer_in, read_is_key}
-use Rattle.tcc_order.specs.Behind.{parents, session_parent, session_parents, sources, IsAllowedFrom}
+use Rattle.tcc_order.specs.Parents.{parents, session_parent, session_parents, sources, IsAllowedFrom}
 use Rattle.tcc_order.specs.Held.{befores, holds}
 use Rattle.tcc_order.specs.Latest.{IsCovered, AreDerived, AreEnough, AreLinks, Derives, Overwrites, HasNone, LeadsOnward}
 use Rattle.tcc_order.specs.Numbering.{IsOrderOf, IsFirstOf, Joins, HasCircle}

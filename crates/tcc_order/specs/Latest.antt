@@ -8,7 +8,7 @@ use Rattle.tcc_graph.specs.Orders.{Before}
 use Rattle.tcc_graph.specs.Tables.{row_of}
 use Rattle.tcc_graph.specs.Walks.{IsReached}
 use Rattle.tcc_graph.specs.Levels.{Judged}
-use Rattle.tcc_order.specs.Behind.{IsAllowedFrom}
+use Rattle.tcc_order.specs.Parents.{IsAllowedFrom}
 use Rattle.tcc_order.specs.Lasts.{IsOneOf, IsBefore}
 use Rattle.tcc_order.specs.declared.latest.TheConstants.{WIDE}
 
