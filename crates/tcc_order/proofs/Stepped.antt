@@ -1,14 +1,14 @@
 -- Links at `Atomic`: of one read the last own writer and the sources that write, read by read.
-use Rattle.std.proofs.Common.{◌≡◌, ◌≢◌, ◌<◌, ◌≤◌, ◌+◌, ◌-◌, ◌==◌, ◌↔◌, ◌⊎◌, inl, inr, ℕ, Bool, true, false, List, [], ◌∷◌, ◌++◌, length, map, filter, get_or, set, take, zero, suc}
+use Rattle.std.proofs.Common.{◌≡◌, ◌≢◌, ◌<◌, ◌≤◌, ◌+◌, ◌-◌, ◌==◌, ◌↔◌, ◌⊎◌, inl, inr, ℕ, true, List, [], ◌∷◌, ◌++◌, length, map, filter, get_or, set, take, zero, suc}
 use Rattle.std.proofs.Common.{slice_index, refl, sym, ap, ◌∙◌, subst, arith}
 use Rattle.std.specs.List.{All, Contains}
-use Rattle.std.proofs.lemmas.Bool.{cases_lt, cases_eq, eq-eqb, eqb-true}
+use Rattle.std.proofs.lemmas.Bool.{cases_eq, eq-eqb, eqb-true}
 use Rattle.std.proofs.lemmas.List.{take_all, take_more, get_or-set_same, get_or-set_other, get_or_default, length-set, length-map}
 use Rattle.std.proofs.lemmas.List.Elements.{Contains-append_left, Contains-append_right, Contains-push, Contains-push_cases, All-weaker, All-contains_itself}
 use Rattle.tcc_txn.proofs.Lists.{in_filter, from_filter}
 use Rattle.tcc_reads.specs.History.{History, IsBySession, count, entry_at, owner}
-use Rattle.tcc_graph.specs.Relations.{IsCausalPair, IsReadsPair, IsSessionPair, reads_from}
-use Rattle.tcc_graph.specs.Keys.{keys, key_at, writers, is_key, IsWriter}
+use Rattle.tcc_graph.specs.Relations.{IsCausalPair, IsReadsPair, IsSessionPair}
+use Rattle.tcc_graph.specs.Keys.{keys, key_at, writers, is_key}
 use Rattle.tcc_graph.specs.Levels.{atomically}
 use Rattle.tcc_graph.specs.Walks.{IsWalk}
 use Rattle.tcc_graph.specs.Tables.{row_of}
@@ -19,11 +19,11 @@ use Rattle.tcc_graph.proofs.Pairs.{step_pair, pair_below, pair_parts}
 use Rattle.tcc_graph.proofs.Walking.{pair_walk}
 use Rattle.tcc_graph.proofs.WriterLemmas.{writer_writes, writer_in, writers_below}
 use Rattle.tcc_near.proofs.FreshLemmas.{one_of_taken, still_taken, last_taken, nothing_in}
-use Rattle.tcc_order.specs.Parents.{HasSourcesAt, parents, session_parents, sources, IsAllowedFrom}
-use Rattle.tcc_order.specs.Latest.{AreOwners, IsLiftable, IsLifted, IsCovered, AreDerived, AreEnough, AreLinks, HasNone, Derives}
+use Rattle.tcc_order.specs.Parents.{HasSourcesAt, parents, session_parents, sources}
+use Rattle.tcc_order.specs.Latest.{AreOwners, IsLiftable, IsLifted, IsCovered, AreLinks, HasNone, Derives}
 use Rattle.tcc_order.specs.Stepping.{IsOther, StepsOver, KeepsRead, AreStepped, IsReadSoFar}
 use Rattle.tcc_order.proofs.Needing.{same_session, covered_wider}
-use Rattle.tcc_order.proofs.Reaching.{parent_pair, reads_source, session_rises, none_before, in_map, from_map}
+use Rattle.tcc_order.proofs.Reaching.{parent_pair, reads_source, session_rises, in_map, from_map}
 
 -- ---- the last own writer
 module _ (h : History) (numbered : IsBySession h.entries) (owners : List ℕ) (known : AreOwners h owners) (c : ℕ) (low : c < count h) (x : List ℕ) (a last : ℕ)
@@ -51,8 +51,13 @@ module _ (h : History) (numbered : IsBySession h.entries) (owners : List ℕ) (k
 
       most : b ≤ last
       most =
-          is.greatest b (steps.some, steps.apart, steps.writer,
-          omega (arith, known.each b steps.some (omega (arith, less, low)), known.each c (omega (arith, less)) low, same), omega (arith, less))
+          is.greatest b (
+            steps.some,
+            steps.apart,
+            steps.writer,
+            omega (arith, known.each b steps.some (omega (arith, less, low)), known.each c (omega (arith, less)) low, same),
+            omega (arith, less),
+          )
 
       go : (b ≡ last) ⊎ (b ≢ last) → (b ≡ last) ⊎ IsSessionPair h b last
       go (inl at) = inl at
@@ -96,10 +101,14 @@ module _ (h : History) (numbered : IsBySession h.entries) (c : ℕ) (low : c < c
 
       enough : (b : ℕ) → StepsOver h c (key_at h key) a b → IsCausalPair h b c → (d : ℕ) × ((b ≡ d) ⊎ IsSessionPair h b d) × Contains new d
       enough b w (inl p) = let own = covers b w p in (last, own.1, (now last).1 (inl ((put last).1 (inr (own.0, refl)))))
-      enough b w (inr (y, p)) =
-          (b, inl refl,
-          (now b).1 (inr (Contains-append_right (session_parents h c) (sources h c) b (reads_source h b c y p.2),
-          (w.some, w.apart, writer_writes h (key_at h key) b w.writer))))
+      enough b w (inr (y, p)) = (
+        b,
+        inl refl,
+        (now b).1 (inr (
+          Contains-append_right (session_parents h c) (sources h c) b (reads_source h b c y p.2),
+          (w.some, w.apart, writer_writes h (key_at h key) b w.writer),
+        )),
+      )
 
 -- ---- the links of all
 module _ (h : History) (kept : List (List ℕ)) (IsDone IsNext : ℕ → List ℕ → ℕ → Type 0) (are : AreStepped h IsDone kept) (c : ℕ) (x : List ℕ) (a : ℕ)
@@ -148,9 +157,12 @@ module _ (h : History) (kept : List (List ℕ)) (IsDone IsNext : ℕ → List �
 -- c reads x from a where its entry says so
 read_pair : (h : History) (c : ℕ) (x : List ℕ) (a : ℕ) → c < count h → a < count h → (let read : List ℕ × ℕ = (x, a) in Contains (entry_at h c).reads read)
     → IsReadsPair h a c x
-read_pair h c x a low from there =
-    (from, low, in_map (λ (read : List ℕ × ℕ). read.0) (filter (λ read. read.1 == a) (entry_at h c).reads) (x, a)
-    (in_filter (λ (read : List ℕ × ℕ). read.1 == a) (entry_at h c).reads (x, a) there (eq-eqb a a refl)))
+read_pair h c x a low from there = (
+  from,
+  low,
+  in_map (λ (read : List ℕ × ℕ). read.0) (filter (λ read. read.1 == a) (entry_at h c).reads) (x, a)
+      (in_filter (λ (read : List ℕ × ℕ). read.1 == a) (entry_at h c).reads (x, a) there (eq-eqb a a refl)),
+)
 
 pair_read : (h : History) (c : ℕ) (x : List ℕ) (a : ℕ) → IsReadsPair h a c x → (let read : List ℕ × ℕ = (x, a) in Contains (entry_at h c).reads read)
 pair_read h c x a pair =

@@ -1,7 +1,7 @@
 -- For the private stages and their proofs alone: nobody has to believe what stands here.
 -- What holds each transaction back: what it follows and reads, and the links that are kept.
-use Rattle.std.specs.Prelude.{ℕ, ◌<◌, ◌≤◌, ◌≡◌, ◌≢◌, ◌⊎◌, ◌==◌, ◌&&◌, nat_lt, Bool, true, false, List, ◌++◌, length, slice_index, slice_index_or, All, Contains}
-use Rattle.std.specs.Prelude.{Option, None, Some, IfSome, if◌then◌else◌, ◌+◌}
+use Rattle.std.specs.Prelude.{ℕ, ◌<◌, ◌≡◌, ◌⊎◌, ◌==◌, ◌&&◌, nat_lt, Bool, true, false, List, ◌++◌, length, slice_index, slice_index_or, All, Contains}
+use Rattle.std.specs.Prelude.{Option, None, IfSome, if◌then◌else◌, ◌+◌}
 use Rattle.std.specs.List.{list_any}
 use Rattle.tcc_reads.specs.History.{History, count}
 use Rattle.tcc_graph.specs.Tables.{row_of}

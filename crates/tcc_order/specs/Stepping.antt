@@ -1,6 +1,6 @@
 -- For the private stages and their proofs alone: nobody has to believe what stands here.
 -- Writers one pair before a reader, and the links that are kept by them.
-use Rattle.std.specs.Prelude.{ℕ, ◌<◌, ◌≡◌, ◌≢◌, ◌⊎◌, List, length, take, map, Contains}
+use Rattle.std.specs.Prelude.{ℕ, ◌<◌, ◌≡◌, ◌≢◌, ◌⊎◌, List, length, take, Contains}
 use Rattle.tcc_reads.specs.History.{History, count, entry_at}
 use Rattle.tcc_graph.specs.Relations.{IsCausalPair, IsReadsPair, IsSessionPair}
 use Rattle.tcc_graph.specs.Keys.{writers, IsWriter}

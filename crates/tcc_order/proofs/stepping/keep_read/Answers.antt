@@ -1,7 +1,7 @@
-use Rattle.std.proofs.Common.{rules, ◌≡◌, ◌<◌, ◌∷◌, ◌++◌, ◌∙◌, ◌↔◌, ◌⊎◌, ℕ, List, [], length, get_or, sym, arith}
+use Rattle.std.proofs.Common.{rules, ◌≡◌, ◌<◌, ◌∷◌, ◌++◌, ◌↔◌, ◌⊎◌, ℕ, [], arith}
 use Rattle.std.specs.Prelude.{Contains}
 use Rattle.std.proofs.lemmas.List.{get_or_read}
-use Rattle.tcc_graph.specs.Keys.{keys, key_at, writers}
+use Rattle.tcc_graph.specs.Keys.{keys, key_at}
 use Rattle.tcc_order.specs.Parents.{parents}
 use Rattle.tcc_order.specs.Stepping.{IsOther}
 use Rattle.tcc_order.proofs.Stepped.{last_steps, last_covers, read_kept, put_one, put_none, parents_below, writers_inside}
