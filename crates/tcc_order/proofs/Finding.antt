@@ -1,5 +1,5 @@
 -- An order by what holds each transaction back is a commit order, the first is the first, and a circle is a cycle.
-use Rattle.std.proofs.Common.{◌≡◌, ◌≢◌, ◌<◌, ◌≤◌, ◌*◌, ℕ, zero, suc, Bool, true, ◌⊎◌, inl, inr, List, [], ◌∷◌, ◌++◌, length, length-append, refl, sym, subst, arith}
+use Rattle.std.proofs.Common.{◌≡◌, ◌≢◌, ◌<◌, ◌≤◌, ◌*◌, ℕ, zero, suc, Bool, true, ◌⊎◌, inl, inr, List, [], ◌∷◌, ◌++◌, length, length-append, sym, subst, arith}
 use Rattle.std.specs.Prelude.{Option, Some, None, MatchOption}
 use Rattle.std.specs.Global.{Vec}
 use Rattle.std.specs.Int.{div_ceil}
@@ -10,12 +10,11 @@ use Rattle.std.proofs.lemmas.List.{get_or_append_left, get_or_at, get_or_past}
 use Rattle.tcc_near.proofs.FreshLemmas.{nothing_in}
 use Rattle.std.proofs.lemmas.List.Elements.{Contains-append_left, Contains-append_right, Contains-append_cases}
 use Rattle.tcc_reads.specs.History.{History, IsBySession, count}
-use Rattle.tcc_graph.specs.Relations.{IsSessionPair, IsReadsPair, IsCausalPair}
-use Rattle.tcc_graph.specs.Keys.{writers}
+use Rattle.tcc_graph.specs.Relations.{IsSessionPair}
 use Rattle.tcc_graph.specs.Levels.{Judged, causally}
-use Rattle.tcc_graph.specs.Walks.{step_to, Leads, IsWalk, IsReached}
+use Rattle.tcc_graph.specs.Walks.{step_to, Leads, IsReached}
 use Rattle.tcc_graph.specs.Tables.{row_of}
-use Rattle.tcc_graph.specs.Orders.{Before, IsCommitOrder, IsFirstOrder}
+use Rattle.tcc_graph.specs.Orders.{Before, IsCommitOrder}
 use Rattle.tcc_graph.specs.Routes.{IsRoute, LinksLead, HasCycle}
 use Rattle.tcc_graph.specs.declared.step.Step.{Step}
 use Rattle.tcc_graph.specs.declared.link.Link.{Link}
@@ -23,8 +22,8 @@ use Rattle.tcc_graph.specs.declared.link.Link.TheVariants as link
 use Rattle.tcc_graph.proofs.Pairs.{step_pair}
 use Rattle.tcc_graph.proofs.Linking.{link_route}
 use Rattle.tcc_graph.proofs.WriterLemmas.{writer_in, read_is_key}
-use Rattle.tcc_order.specs.Behind.{parents, session_parent, session_parents, sources, IsAllowedFrom}
-use Rattle.tcc_order.specs.Held.{befores, holds}
+use Rattle.tcc_order.specs.Parents.{parents, session_parent, session_parents, sources}
+use Rattle.tcc_order.specs.Held.{holds}
 use Rattle.tcc_order.specs.Latest.{IsCovered, AreDerived, AreEnough, AreLinks, Derives, Overwrites, HasNone, LeadsOnward}
 use Rattle.tcc_order.specs.Numbering.{IsOrderOf, IsFirstOf, Joins, HasCircle}
 use Rattle.tcc_order.proofs.Fronts.{holds_there, holds_parts}

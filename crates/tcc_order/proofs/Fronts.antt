@@ -1,19 +1,19 @@
 -- Orders picked by what holds each transaction back; and the heads of the sessions, of which the first that is free is the least.
-use Rattle.std.proofs.Common.{◌≡◌, ◌≢◌, ◌<◌, ◌≤◌, ◌+◌, ◌-◌, ◌==◌, ◌&&◌, ◌||◌, ◌⊎◌, inl, inr, ℕ, Bool, true, false, List, [], ◌∷◌, ◌++◌, map, length, get_or, set, slice_index, nat_lt}
-use Rattle.std.proofs.Common.{if◌then◌else◌, eqb, zero, suc, replicate, length-append, refl, sym, ap, ◌∙◌, subst, arith}
+use Rattle.std.proofs.Common.{◌≡◌, ◌≢◌, ◌<◌, ◌≤◌, ◌+◌, ◌==◌, ◌&&◌, ◌||◌, ◌⊎◌, inl, inr, ℕ, Bool, true, false, List, [], ◌∷◌, ◌++◌, map, length, get_or, set, slice_index, nat_lt}
+use Rattle.std.proofs.Common.{eqb, zero, suc, replicate, length-append, refl, sym, ap, ◌∙◌, subst, arith}
 use Rattle.std.specs.List.{list_any, All, Contains}
 use Rattle.std.specs.Prelude.{Option, None, Some, IfSome, MatchOption, slice_index_or}
 use Rattle.std.proofs.Math.Bool.{or-false}
-use Rattle.std.proofs.lemmas.Bool.{cases_lt, cases_eq, cases_order, cases_Bool, and_parts, and_from, or_parts, or_cases, or_left, or_right, ltb-true, lt-ltb, eqb-true, eq-eqb, ne_eqb, false≢true}
+use Rattle.std.proofs.lemmas.Bool.{cases_lt, cases_eq, cases_order, cases_Bool, and_parts, and_from, or_parts, or_cases, or_left, or_right, ltb-true, lt-ltb, eqb-true, eq-eqb, false≢true}
 use Rattle.std.proofs.lemmas.List.{get_or_default, get_or-set_same, get_or-set_other, length-set, get_or_at, get_or_append_left, get_or-replicate, length-replicate, get_or_past}
 use Rattle.std.proofs.lemmas.List.Elements.{Contains-append_left, Contains-append_right, Contains-append_cases, Contains-push, All-weaker, All-append}
-use Rattle.std.proofs.lemmas.List.Folds.{list_any-append, Any-from_list_any, list_any_at}
+use Rattle.std.proofs.lemmas.List.Folds.{list_any-append}
 use Rattle.tcc_reads.specs.History.{History, count, entry_at}
 use Rattle.tcc_graph.specs.Keys.{keys, key_at}
 use Rattle.tcc_graph.specs.Tables.{row_of}
 use Rattle.tcc_near.specs.Bits.{is_marked}
-use Rattle.tcc_order.specs.Behind.{AreSessionParents, parents, session_parent, session_parents, sources}
-use Rattle.tcc_order.specs.Held.{befores, AreInside, AreNoted, holds, IsFreeBy, IsRising, AreFronts, AreRoots, onward}
+use Rattle.tcc_order.specs.Parents.{AreSessionParents, parents, session_parent, session_parents, sources}
+use Rattle.tcc_order.specs.Held.{befores, AreInside, AreNoted, holds, IsFreeBy, AreFronts, AreRoots, onward}
 use Rattle.tcc_order.proofs.Greedy.{has, IsFree, IsBelow, place_of, has_at}
 use Rattle.tcc_order.proofs.Reaching.{parent_or_init, parent_less, one_parent, parent_one, in_map, from_map}
 

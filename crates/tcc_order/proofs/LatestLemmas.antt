@@ -1,27 +1,26 @@
 -- Greatest numbers of sessions: of those meant so far, and of one more.
-use Rattle.std.proofs.Common.{◌≡◌, ◌≢◌, ◌<◌, ◌≤◌, ◌+◌, ◌==◌, ◌↔◌, ◌⊎◌, inl, inr, ℕ, true, false, ◌&&◌, nat_lt, List, [], ◌∷◌, map, length, get_or, set, take, replicate}
+use Rattle.std.proofs.Common.{◌≡◌, ◌≢◌, ◌<◌, ◌≤◌, ◌+◌, ◌==◌, ◌↔◌, ◌⊎◌, inl, inr, ℕ, true, false, ◌&&◌, nat_lt, List, [], ◌∷◌, map, length, get_or, set, take}
 use Rattle.std.proofs.Common.{slice_index, refl, sym, ap, ◌∙◌, subst, arith}
 use Rattle.std.specs.Prelude.{max}
 use Rattle.std.specs.List.{All, Contains}
 use Rattle.std.proofs.lemmas.Bool.{cases_lt, cases_eq, cases_Bool, and_parts, and_from, ltb-true, lt-ltb, eqb-true, eq-eqb, ne_eqb, false≢true}
-use Rattle.std.proofs.lemmas.List.{get_or-replicate, length-replicate, get_or-set_same, get_or-set_other, get_or_default, length-set}
+use Rattle.std.proofs.lemmas.List.{get_or-set_same, get_or-set_other, length-set}
 use Rattle.std.proofs.lemmas.List.Elements.{All-weaker, All-map, All-contains_itself}
 use Rattle.tcc_reads.specs.History.{History, IsBySession, count, entry_at, owner}
 use Rattle.tcc_graph.specs.Keys.{keys, key_at}
 use Rattle.tcc_graph.specs.Walks.{IsReached}
-use Rattle.tcc_graph.specs.Orders.{Before, IsNumbering}
+use Rattle.tcc_graph.specs.Orders.{IsNumbering}
 use Rattle.tcc_graph.specs.Relations.{IsCausalPair}
 use Rattle.tcc_graph.specs.Tables.{row_of}
 use Rattle.tcc_graph.proofs.Numberings.{below_in}
 use Rattle.tcc_graph.proofs.Pairs.{pair_below}
 use Rattle.tcc_near.proofs.FreshLemmas.{one_of_taken, still_taken, last_taken, nothing_in}
-use Rattle.tcc_order.specs.Behind.{HasSourcesAt, parents, sources, session_parent, session_parents}
+use Rattle.tcc_order.specs.Parents.{HasSourcesAt, parents, sources, session_parent, session_parents}
 use Rattle.tcc_order.specs.Lasts.{IsOneOf, IsBefore, IsUpTo}
 use Rattle.tcc_order.specs.Latest.{AreOwners, IsLatestOf, AreLatestOf, HasLatest, AreClocks, LeadsOnward, lifted}
 use Rattle.tcc_order.specs.declared.latest.TheConstants.{WIDE}
 use Rattle.tcc_order.proofs.Reaching.{parent_pair}
-use Rattle.tcc_order.proofs.LastLemmas.{up_to_parents}
-use Rattle.tcc_order.proofs.Rows.{taken_before}
+use Rattle.tcc_order.proofs.LastLemmas.{up_to_parents, taken_before}
 
 -- ---- one session
 one_same : (h : History) (P Q : ℕ → Type 0) (session b : ℕ) → (P b → Q b) → IsOneOf h P session b → IsOneOf h Q session b

@@ -2,14 +2,14 @@
 use Rattle.std.proofs.Common.{◌≡◌, ◌<◌, ◌↔◌, ℕ, zero, suc, List, [], ◌∷◌, map, length, get_or, take, refl, sym, ap, subst, ◌∙◌, arith}
 use Rattle.std.specs.Prelude.{zip}
 use Rattle.std.specs.List.{Contains}
-use Rattle.std.proofs.lemmas.List.{take_all, take_more, get_or_default, length-map}
+use Rattle.std.proofs.lemmas.List.{get_or_default, length-map}
 use Rattle.tcc_reads.specs.History.{History, count}
-use Rattle.tcc_graph.specs.Relations.{IsReadsPair, IsCausalPair}
-use Rattle.tcc_graph.specs.Keys.{keys, key_at, writers}
+use Rattle.tcc_graph.specs.Relations.{IsReadsPair}
+use Rattle.tcc_graph.specs.Keys.{keys, key_at}
 use Rattle.tcc_graph.proofs.KeysLemmas.{has_name-keys}
 use Rattle.tcc_graph.proofs.NameLemmas.{has_name-contains}
-use Rattle.tcc_graph.proofs.WriterLemmas.{read_is_key, writers_below}
-use Rattle.tcc_near.proofs.MarkLemmas.{zip_at, zip_has, zip-long}
+use Rattle.tcc_graph.proofs.WriterLemmas.{read_is_key}
+use Rattle.tcc_near.proofs.MarkLemmas.{zip_has}
 
 -- ---- keys by their places
 mapped_at : (f : ℕ → List ℕ) (ps : List ℕ) (k : ℕ) (d : List ℕ) → k < length ps → get_or (map f ps) k d ≡ f (get_or ps k 0)

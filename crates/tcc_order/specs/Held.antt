@@ -1,12 +1,12 @@
 -- For the private stages and their proofs alone: nobody has to believe what stands here.
 -- What holds each transaction back: what it follows and reads, and the links that are kept.
-use Rattle.std.specs.Prelude.{ℕ, ◌<◌, ◌≤◌, ◌≡◌, ◌≢◌, ◌⊎◌, ◌==◌, ◌&&◌, nat_lt, Bool, true, false, List, ◌++◌, length, slice_index, slice_index_or, All, Contains}
-use Rattle.std.specs.Prelude.{Option, None, Some, IfSome, if◌then◌else◌, ◌+◌}
+use Rattle.std.specs.Prelude.{ℕ, ◌<◌, ◌≡◌, ◌⊎◌, ◌==◌, ◌&&◌, nat_lt, Bool, true, false, List, ◌++◌, length, slice_index, slice_index_or, All, Contains}
+use Rattle.std.specs.Prelude.{Option, None, IfSome, if◌then◌else◌, ◌+◌}
 use Rattle.std.specs.List.{list_any}
 use Rattle.tcc_reads.specs.History.{History, count}
 use Rattle.tcc_graph.specs.Tables.{row_of}
 use Rattle.tcc_near.specs.Bits.{is_marked}
-use Rattle.tcc_order.specs.Behind.{parents}
+use Rattle.tcc_order.specs.Parents.{parents}
 
 -- what stands before x: its parents, and the sources of links that are kept
 abbrev pub befores : History → List (List ℕ) → ℕ → List ℕ

@@ -1,6 +1,6 @@
 -- For the private stages and their proofs alone: nobody has to believe what stands here.
 -- The greatest numbers of the sessions of a block, of some transactions alone; and the links that are kept by them.
-use Rattle.std.specs.Prelude.{ℕ, ◌<◌, ◌≤◌, ◌+◌, ◌≡◌, ◌≢◌, ◌⊎◌, ◌==◌, ◌&&◌, nat_lt, nat_le, not, if◌then◌else◌, max, List, length, slice_index, All, Contains}
+use Rattle.std.specs.Prelude.{ℕ, ◌<◌, ◌≤◌, ◌+◌, ◌≡◌, ◌≢◌, ◌⊎◌, ◌==◌, ◌&&◌, nat_lt, nat_le, not, if◌then◌else◌, max, List, length, slice_index, Contains}
 use Rattle.tcc_reads.specs.History.{History, count, owner}
 use Rattle.tcc_graph.specs.Relations.{IsCausalPair, IsReadsPair, IsSessionPair}
 use Rattle.tcc_graph.specs.Keys.{writers}
@@ -8,7 +8,7 @@ use Rattle.tcc_graph.specs.Orders.{Before}
 use Rattle.tcc_graph.specs.Tables.{row_of}
 use Rattle.tcc_graph.specs.Walks.{IsReached}
 use Rattle.tcc_graph.specs.Levels.{Judged}
-use Rattle.tcc_order.specs.Behind.{IsAllowedFrom}
+use Rattle.tcc_order.specs.Parents.{IsAllowedFrom}
 use Rattle.tcc_order.specs.Lasts.{IsOneOf, IsBefore}
 use Rattle.tcc_order.specs.declared.latest.TheConstants.{WIDE}
 

@@ -6,7 +6,7 @@ ghost use Rattle.tcc_graph.specs.Relations.{IsReadsPair};
 ghost use Rattle.tcc_order.specs.Latest.{AreOwners, AreLatestOf, AreClocks, IsOverwritten, IsLifted, AreDerived, AreEnough, AreLinks, Overwrites, HasNone, LeadsOnward, lifted_by};
 ghost use Rattle.tcc_graph.specs.Levels.{causally};
 ghost use Rattle.tcc_graph.specs.Orders.{IsNumbering};
-ghost use Rattle.tcc_order.specs.Behind.{AreSessionParents};
+ghost use Rattle.tcc_order.specs.Parents.{AreSessionParents};
 ghost use Rattle.tcc_order.specs.declared.latest.TheConstants.{WIDE};
 
 use crate::latest::{WIDE, clocks_of, owners};

@@ -3,13 +3,13 @@ ghost use Rattle.std.specs.Prelude.{◌≡◌, ◌<◌, ◌≤◌, ◌++◌, ℕ
 ghost use Rattle.tcc_reads.specs.History.{IsBySession, count};
 ghost use Rattle.tcc_graph.specs.Tables.{row_of};
 ghost use Rattle.tcc_graph.specs.Orders.{IsNumbering};
-ghost use Rattle.tcc_order.specs.Behind.{AreSessionParents, HasSourcesAt, parents};
+ghost use Rattle.tcc_order.specs.Parents.{AreSessionParents, HasSourcesAt, parents};
 ghost use Rattle.tcc_order.specs.Lasts.{IsBefore, IsUpTo};
 ghost use Rattle.tcc_order.specs.Latest.{AreOwners, AreLatestOf, AreClocks, LeadsOnward, lifted};
 ghost use Rattle.tcc_order.specs.declared.latest.TheConstants.{WIDE};
 
-use crate::behind::empty_rows;
-use crate::clocking::raise_each;
+use crate::clocking::{empty_rows, raise_each};
+use crate::parents::find_parents;
 use std::alloc::{AllocError, Global};
 use tcc_graph::Graph;
 use tcc_near::Row;
@@ -45,28 +45,6 @@ pub(crate) fn lift(row: &mut [u32], owners: &[u32], from: u32, p: u32)
             row[column] = p.max(row[column]);
         }
     }
-}
-
-/// The transactions right before this one: in its session, and what it reads from.
-fn find_parents(
-    found: &mut Vec<u32>,
-    graph: &Graph,
-    parent_of: &[u32],
-    c: u32,
-) -> Result<(), AllocError>
-    requires below { c < count graph.now }
-    requires parents { AreSessionParents graph.now parent_of.now }
-    ensures found { OnOk result (found.new.items ≡ parents graph.now c) }
-    ensures sources { OnOk result (HasSourcesAt graph.now c) }
-{
-    found.clear();
-    if c > 0 {
-        found.push(parent_of[c as usize])?;
-    }
-    for read in graph.reads_at(c) {
-        found.push(read.1)?;
-    }
-    Ok(())
 }
 
 /// The greatest numbers of these transactions and of what reaches them, by the rows of what does.

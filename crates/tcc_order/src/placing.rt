@@ -4,7 +4,7 @@ ghost use Rattle.tcc_reads.specs.History.{IsBySession, count};
 ghost use Rattle.tcc_graph.specs.Tables.{row_of};
 ghost use Rattle.tcc_near.specs.Bits.{is_marked, words_for};
 ghost use Rattle.tcc_order.specs.Numbering.{IsFirstOf, HasCircle};
-ghost use Rattle.tcc_order.specs.Behind.{AreSessionParents};
+ghost use Rattle.tcc_order.specs.Parents.{AreSessionParents};
 ghost use Rattle.tcc_order.specs.Held.{holds, AreInside, IsFreeBy, AreNoted, AreRoots, onward};
 
 use std::alloc::{AllocError, Global};

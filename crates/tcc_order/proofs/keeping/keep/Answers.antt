@@ -1,5 +1,5 @@
-use Rattle.std.proofs.Common.{rules, ◌≡◌, ◌<◌, ◌∷◌, ◌++◌, [], length, slice_index, arith}
-use Rattle.tcc_order.proofs.Needing.{Keeps, keeps_none, keeps_skip, keeps_more}
+use Rattle.std.proofs.Common.{rules, ◌≡◌, ◌∷◌, ◌++◌, [], length, slice_index, arith}
+use Rattle.tcc_order.proofs.Needing.{keeps_none, keeps_skip, keeps_more}
 use Rattle.tcc_order.proofs.keeping.keep.Goals as goal
 use Rattle.tcc_order.proofs.keeping.keep.Goals.{then-number-clock+in_ok-push, else-number-clock}
 

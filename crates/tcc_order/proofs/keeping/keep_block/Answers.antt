@@ -1,13 +1,12 @@
-use Rattle.std.proofs.Common.{rules, ◌≡◌, ◌<◌, ◌≤◌, ◌+◌, ◌∙◌, ◌++◌, ◌↔◌, ◌⊎◌, inl, inr, ℕ, [], length, get_or, slice_index, take, drop, refl, sym, arith, take_at}
+use Rattle.std.proofs.Common.{rules, ◌≡◌, ◌<◌, ◌∙◌, ◌++◌, ◌↔◌, ◌⊎◌, inl, inr, ℕ, [], length, get_or, slice_index, take, drop, refl, sym, arith, take_at}
 use Rattle.std.specs.Prelude.{Contains}
 use Rattle.std.proofs.lemmas.List.{get_or_read, get_or_default, length-set}
 use Rattle.tcc_reads.specs.History.{History, count, owner}
 use Rattle.tcc_graph.specs.Relations.{IsReadsPair}
 use Rattle.tcc_graph.specs.Tables.{row_of}
 use Rattle.tcc_order.specs.Lasts.{IsBefore}
-use Rattle.tcc_order.specs.Latest.{AreLatestOf, IsOverwritten, IsCovered, Overwrites}
-use Rattle.tcc_order.specs.declared.latest.TheConstants.{WIDE}
-use Rattle.tcc_order.proofs.Needing.{IsUpTo, Keeps, kept_derived, kept_enough}
+use Rattle.tcc_order.specs.Latest.{AreLatestOf, IsOverwritten}
+use Rattle.tcc_order.proofs.Needing.{IsUpTo, kept_derived, kept_enough}
 use Rattle.tcc_order.proofs.keeping.keep_block.Goals as goal
 
 pub loop-a-init : goal.loop-a-init

@@ -1,4 +1,4 @@
-use Rattle.std.proofs.Common.{◌≡◌, ◌<◌, ◌∙◌, refl, sym, slice_index, arith, length}
+use Rattle.std.proofs.Common.{◌∙◌, refl, slice_index, arith}
 use Rattle.std.proofs.lemmas.List.{take_all}
 use Rattle.tcc_order.proofs.Needing.{lifted_none, lifted_more}
 use Rattle.tcc_order.proofs.keeping.lift_writers.Goals as goal

@@ -1,19 +1,16 @@
-use Rattle.std.proofs.Common.{rules, ◌≡◌, ◌<◌, ◌∙◌, ℕ, List, [], length, get_or, map, take, slice_index, refl, sym, arith}
+use Rattle.std.proofs.Common.{rules, ◌≡◌, ◌<◌, ◌∙◌, ℕ, [], length, get_or, map, slice_index, sym, arith}
 use Rattle.std.specs.Prelude.{zip}
-use Rattle.std.proofs.lemmas.List.{get_or_read, take_all}
+use Rattle.std.proofs.lemmas.List.{get_or_read}
 use Rattle.std.proofs.lemmas.List.Elements.{All-weaker}
 use Rattle.tcc_reads.specs.History.{count}
 use Rattle.tcc_graph.specs.Keys.{key_at, writers}
-use Rattle.tcc_graph.specs.Relations.{IsReadsPair}
 use Rattle.tcc_graph.specs.Tables.{row_of}
 use Rattle.tcc_graph.proofs.WriterLemmas.{writers_below}
-use Rattle.tcc_near.proofs.MarkLemmas.{zip_at, zip-long}
-use Rattle.tcc_order.specs.Lasts.{IsBefore}
-use Rattle.tcc_order.specs.Latest.{AreLatestOf, IsOverwritten, IsLifted}
+use Rattle.tcc_order.specs.Latest.{IsOverwritten, IsLifted}
 use Rattle.tcc_order.specs.declared.latest.TheConstants.{WIDE}
-use Rattle.tcc_order.proofs.LatestLemmas.{latest_none, rows_same}
+use Rattle.tcc_order.proofs.LatestLemmas.{latest_none}
 use Rattle.tcc_order.proofs.Needing.{overwritten_none, overwritten_next, overwritten_all}
-use Rattle.tcc_order.proofs.Readings.{IsTaken, named_long, named_at, reader_below}
+use Rattle.tcc_order.proofs.Readings.{IsTaken, reader_below}
 use Rattle.tcc_order.proofs.keeping.needed.Goals as goal
 
 pub loop-place-init : goal.loop-place-init

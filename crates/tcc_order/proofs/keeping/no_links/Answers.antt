@@ -1,4 +1,4 @@
-use Rattle.std.proofs.Common.{rules, ◌≡◌, ◌∷◌, ◌++◌, [], length, length-append, refl, arith}
+use Rattle.std.proofs.Common.{rules, ◌≡◌, ◌∷◌, ◌++◌, [], length-append, refl, arith}
 use Rattle.tcc_order.proofs.Finding.{none_nothing, none_more}
 use Rattle.tcc_order.proofs.keeping.no_links.Goals as goal
 

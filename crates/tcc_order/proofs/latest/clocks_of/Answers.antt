@@ -3,10 +3,10 @@ use Rattle.std.proofs.lemmas.List.{take_all}
 use Rattle.std.specs.Prelude.{Contains}
 use Rattle.tcc_reads.specs.History.{count}
 use Rattle.tcc_graph.proofs.Numberings.{below_in}
-use Rattle.tcc_order.specs.Behind.{parents}
+use Rattle.tcc_order.specs.Parents.{parents}
 use Rattle.tcc_order.specs.Lasts.{IsUpTo}
 use Rattle.tcc_order.specs.Latest.{AreLatestOf}
-use Rattle.tcc_order.proofs.LatestLemmas.{all_below, all_done, row_done, table_none, table_more, table_whole}
+use Rattle.tcc_order.proofs.LatestLemmas.{all_below, all_done, row_done, table_more, table_whole}
 use Rattle.tcc_order.proofs.latest.clocks_of.Goals as goal
 
 pub latest_row-requires-clause-inside : goal.latest_row-requires-clause-inside

@@ -1,4 +1,4 @@
-use Rattle.std.proofs.Common.{rules, ◌≡◌, ◌<◌, ◌∙◌, ℕ, [], length, get_or, slice_index, refl, sym, arith}
+use Rattle.std.proofs.Common.{rules, ◌≡◌, ◌<◌, ◌∙◌, ℕ, [], length, get_or, slice_index, refl, arith}
 use Rattle.std.specs.Prelude.{max, Contains}
 use Rattle.tcc_near.proofs.FreshLemmas.{nothing_in}
 use Rattle.tcc_order.specs.Lasts.{IsUpTo}

@@ -1,20 +1,31 @@
+use Rattle.std.specs.Prelude.{MatchOption}
 use Rattle.std.proofs.lemmas.Result.{IfOk-weaker}
 use Rattle.tcc_reads.specs.History.{count}
-use Rattle.tcc_graph.specs.declared.level.Level.{Level}
-use Rattle.tcc_graph.specs.declared.level.Level.TheVariants as level
-use Rattle.tcc_order.specs.Behind.{IsTableOf, IsAllowedFrom}
-use Rattle.tcc_order.proofs.Links.{IsFound, allowed_atomic}
+use Rattle.tcc_graph.specs.Levels.{Judged}
+use Rattle.tcc_order.specs.Held.{holds}
+use Rattle.tcc_order.specs.Latest.{AreLinks}
+use Rattle.tcc_order.specs.Numbering.{HasCircle, IsFirstOf}
+use Rattle.tcc_order.proofs.Finding.{found_kept}
+use Rattle.tcc_order.proofs.Links.{IsFound}
 use Rattle.tcc_order.proofs.ordering.order.Goals as goal
 
-pub returns-in-Atomic : goal.returns-in-Atomic
-returns-in-Atomic c =
-    let h = c.args.graph.now in
-    let into = c.in_ok-into-in-Atomic.into.items in
-    rw c.in-Atomic.is (IfOk-weaker c.order_by.result
-    (λ found. (k : Level) → IsTableOf (count h) (IsAllowedFrom (record { history = h; level = k })) into → IsFound (record { history = h; level = k }) found)
-    (λ found. IsFound (record { history = h; level = level.Atomic }) found)
-    (λ found p. p level.Atomic (allowed_atomic h into c.in_ok-into-in-Atomic.ensures.table))
-    (rw c.deref-in-Atomic.ensures.value at c.order_by.ensures))
+pub returns-in_default : goal.returns-in_default
+returns-in_default c = rw c.in_default.is at c.in_ok-kept.ensures
+
+pub first_placing-requires-clause-inside : goal.first_placing-requires-clause-inside
+first_placing-requires-clause-inside c =
+    let j : Judged = record { history = c.args.graph.now; level = c.args.level } in
+    let links : AreLinks j c.in-Some.kept.items = rw c.in-Some.is at c.in_ok-kept.ensures in
+    rw c.deref-3.ensures.value (λ x b there. (links.derived x b there).1)
 
 pub returns : goal.returns
-returns c = rw c.in-Causal.is c.causal_order.ensures
+returns c =
+    let h = c.args.graph.now in
+    let j : Judged = record { history = h; level = c.args.level } in
+    let kept = c.in-Some.kept.items in
+    let links : AreLinks j kept = rw c.in-Some.is at c.in_ok-kept.ensures in
+    IfOk-weaker c.first_placing.result
+    (λ found. MatchOption found (HasCircle (holds h kept)) (λ order. IsFirstOf (holds h kept) (count h) order.items))
+    (λ found. IsFound j found)
+    (λ found p. found_kept j c.sessions.ensures.numbered kept links found p)
+    (rw c.deref-3.ensures.value at c.first_placing.ensures)

@@ -1,7 +1,6 @@
-use Rattle.std.proofs.Common.{◌≡◌, ◌<◌, ◌∙◌, ℕ, [], length, arith, ap, true, false, get_or}
+use Rattle.std.proofs.Common.{◌≡◌, ◌<◌, ◌∙◌, ℕ, [], length, arith, true, false}
 use Rattle.std.proofs.lemmas.List.{get_or_read}
-use Rattle.std.specs.Prelude.{MatchOption, Option, None, Some, Contains, slice_index}
-use Rattle.tcc_reads.specs.History.{count}
+use Rattle.std.specs.Prelude.{MatchOption, Contains, slice_index}
 use Rattle.tcc_graph.specs.Tables.{row_of}
 use Rattle.tcc_near.specs.Bits.{is_marked}
 use Rattle.tcc_order.specs.Held.{holds}

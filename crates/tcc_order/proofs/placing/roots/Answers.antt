@@ -1,4 +1,4 @@
-use Rattle.std.proofs.Common.{rules, ◌≡◌, ◌∷◌, ◌++◌, [], slice_index}
+use Rattle.std.proofs.Common.{rules, ◌≡◌, ◌∷◌, ◌++◌, []}
 use Rattle.tcc_order.proofs.Fronts.{roots_skip, roots_more}
 use Rattle.tcc_order.proofs.placing.roots.Goals as goal
 use Rattle.tcc_order.proofs.placing.roots.Goals.{then-parent-eq0+in_ok-push, else-parent-eq0}
