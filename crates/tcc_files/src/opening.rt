@@ -2,6 +2,7 @@
 //! input or the output.
 ghost use Rattle.std.specs.Prelude.{◌≡◌, ◌↔◌, Some, IsTrue};
 
+use crate::input::Input;
 use std::fs::{self, File, Metadata, OpenOptions};
 use std::io::{self, ErrorKind};
 use std::os::unix::fs::{FileTypeExt, MetadataExt};
@@ -53,10 +54,18 @@ fn stream(rt: &HostRuntime, link: &str) -> io::Result<Option<Place>> {
     }
 }
 
-/// Whether the file at this place is the standard input or output; an error where one of these is closed, or the system
-/// doesn't tell.
-fn is_standard(rt: &HostRuntime, file: Option<Place>) -> io::Result<bool> {
-    let input = stream(rt, INPUT)?;
+/// The place of the file that the records come from.
+fn place_of(rt: &HostRuntime, input: &Input) -> io::Result<Option<Place>> {
+    match input {
+        Input::Standard(_) => stream(rt, INPUT),
+        Input::File(file) => Ok(Place::of(&file.metadata()?)),
+    }
+}
+
+/// Whether the file at this place is the input or the output; an error where a standard stream of these is closed, or the
+/// system doesn't tell.
+fn is_taken(rt: &HostRuntime, input: &Input, file: Option<Place>) -> io::Result<bool> {
+    let input = place_of(rt, input)?;
     let output = stream(rt, OUTPUT)?;
     Ok(is_same(file, input) || is_same(file, output))
 }
@@ -72,13 +81,13 @@ pub fn open(rt: &HostRuntime, path: &str) -> io::Result<File> {
     aside(fs::open(rt, path)?)
 }
 
-/// Makes a file to write, and makes it empty where it is there; but where it is the standard input or output, or a standard
-/// stream is closed, nothing that it holds is touched.
-pub fn make(rt: &HostRuntime, path: &str) -> io::Result<File> {
+/// Makes a file to write, and makes it empty where it is there; but where it is the input or the output, or a standard stream of
+/// these is closed, nothing that it holds is touched.
+pub fn make(rt: &HostRuntime, path: &str, input: &Input) -> io::Result<File> {
     let opened = OpenOptions::new().write(true).create(true).open(rt, path)?;
     let file = aside(opened)?;
     let metadata = file.metadata()?;
-    if is_standard(rt, Place::of(&metadata))? {
+    if is_taken(rt, input, Place::of(&metadata))? {
         let message = "it is the input or the output";
         return Err(io::Error::new(ErrorKind::ResourceBusy, message));
     }
