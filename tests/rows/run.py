@@ -237,7 +237,8 @@ def difference(tcc, run, seconds):
         if done.returncode != run["status"]:
             return "status: wanted %d, got %d, output %s, standard error %s" % (
                 run["status"], done.returncode, shown(output), shown(done.stderr))
-        wrong = next(filter(None, compared(run, output, done.stderr, pathlib.Path(folder, "certificate"))), None)
+        errors = done.stderr.replace(os.fsencode(os.path.join(folder, "")), b"@")
+        wrong = next(filter(None, compared(run, output, errors, pathlib.Path(folder, "certificate"))), None)
         return wrong or checked(tcc, run, folder, seconds)
 
 

@@ -2,36 +2,56 @@
 //! that; `tcc check` judges one.
 #![tactic(auto)]
 
-mod files;
-mod opening;
+ghost use Rattle.std.specs.Prelude.{◌<◌, ◌≤◌};
 
-use files::{check_files, make, print_unopened};
-use std::io;
+use std::io::Write;
 use std::process::ExitCode;
-use tcc_run::{OpenGate, Status, run_explain};
+use std::thread::Threads;
+use tcc_files::{Input, Telling, check_files, open_input, open_output, print_unopened};
+use tcc_run::{OpenGate, Options, Status, run_explain};
 use tcc_words::{Request, read};
 
+/// Explains the records of the input, with a file for the certificate if a path is given, and gives the status of the run.
+fn explain<W: Write>(
+    rt: &HostRuntime,
+    threads: &(impl Threads + Sync),
+    options: Options,
+    input: Telling<'_, Input>,
+    certificate: &Option<String>,
+    out: &mut W,
+) -> u8
+    requires workers { (0 < options.workers) × (options.workers ≤ 32) }
+{
+    match open_output(rt, certificate.as_deref(), input.stream()) {
+        Ok(file) => {
+            let mut file = file;
+            let mut notes = rt.stderr();
+            run_explain(
+                threads,
+                rt.alloc(),
+                input,
+                out,
+                &mut file,
+                &mut notes,
+                options,
+                &OpenGate,
+            )
+        }
+        Err(error) => print_unopened(error.kind(), options.json, out),
+    }
+}
+
 fn main(rt: HostRuntime) -> ExitCode {
-    let mut out = io::writer(&rt);
+    let mut out = Telling::new(rt.stdout(), "standard output", rt.stderr());
     let code = match read(&rt, &mut out) {
         Ok(
             Request::Explain {
                 options,
+                history,
                 certificate,
             },
-        ) => match make(&rt, &certificate) {
-            Ok(file) => {
-                let mut file = file;
-                run_explain(
-                    &rt,
-                    rt.alloc(),
-                    rt.stdin(),
-                    &mut out,
-                    &mut file,
-                    options,
-                    &OpenGate,
-                )
-            }
+        ) => match open_input(&rt, history.as_deref()) {
+            Ok(input) => explain(&rt, &rt, options, input, &certificate, &mut out),
             Err(error) => print_unopened(error.kind(), options.json, &mut out),
         },
         Ok(

@@ -2,6 +2,7 @@ pub mod BackLemmas
 pub mod BucketLemmas
 pub mod ByCostLemmas
 pub mod ChoiceLemmas
+pub mod ClassLemmas
 pub mod CostLemmas
 pub mod KeyLemmas
 pub mod LinksOnLemmas

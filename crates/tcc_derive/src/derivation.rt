@@ -4,6 +4,7 @@ ghost use Rattle.tcc_near.specs.Distances.{IsNearOf};
 ghost use Rattle.tcc_derive.specs.Prices.{IsPricesOf};
 
 use crate::Prices;
+use crate::by_class::by_class_rows;
 use crate::by_cost::by_cost_rows;
 use crate::limits::cost_limit;
 use crate::others::{other_rows, session_ends};
@@ -33,5 +34,6 @@ pub fn derive(
     let ends = session_ends(alloc, graph)?;
     let limit = cost_limit(near, &prices, &others);
     let by_cost = by_cost_rows(rt, alloc, &others, &ends, limit)?;
-    Ok(Prices::new(near.level(), prices, ends, others, limit, by_cost))
+    let by_class = by_class_rows(rt, alloc, &others, &ends, limit)?;
+    Ok(Prices::new(near.level(), prices, ends, others, limit, by_cost, by_class))
 }

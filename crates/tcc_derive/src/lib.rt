@@ -2,6 +2,7 @@
 #![tactic(auto)]
 
 mod bucket;
+mod by_class;
 mod by_cost;
 mod choices;
 mod costing;
@@ -17,6 +18,7 @@ mod tables;
 mod walking;
 mod write_table;
 
+pub use by_class::{ByClass, Class};
 pub use derivation::derive;
 pub use reasons::reason;
 pub use tables::Prices;

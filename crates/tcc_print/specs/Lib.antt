@@ -4,6 +4,7 @@ pub mod Statuses
 pub mod Texts
 pub mod Json
 pub mod Printed
+pub mod Notes
 -- What serves proofs alone:
 pub mod Halts
 pub mod Pieces

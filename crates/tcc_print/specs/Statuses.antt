@@ -1,5 +1,5 @@
 -- The numbers that a run ends with.
-use Rattle.std.specs.Prelude.{ℕ, Option, None, Some, Result, Ok, Err}
+use Rattle.std.specs.Prelude.{ℕ, ◌-◌, Option, None, Some, Result, Ok, Err, length, nat_lt, if◌then◌else◌}
 use Rattle.tcc_print.specs.declared.status.Status.{Status}
 use Rattle.tcc_print.specs.declared.status.Status.TheVariants as status
 use Rattle.tcc_txn.specs.declared.rows.RowFaultKind.{RowFaultKind}
@@ -19,6 +19,7 @@ code_of status.Success = 0
 code_of status.Anomaly = 1
 code_of status.ReadFaults = 2
 code_of status.RowFault = 3
+code_of status.TooFew = 3
 code_of status.Limit = 4
 code_of status.Memory = 5
 code_of status.Device = 6
@@ -30,15 +31,20 @@ code_of status.Usage = 64
 abbrev pub row_status : RowFaultKind → Status
 row_status kind = (row_told kind).status
 
--- how a run ends that gave this answer
-abbrev pub answer_status : Answer → Status
-answer_status (answer.Commit c) = status.Success
-answer_status (answer.Anomaly a) = status.Anomaly
+-- how a run ends that gave an order of so many numbers, `init` among them, where so many transactions are required: without
+-- `init` there have to be as many
+abbrev pub order_status : ℕ → ℕ → Status
+order_status required numbers = if nat_lt (numbers - 1) required then status.TooFew else status.Success
+
+-- how a run ends that gave this answer, where so many transactions are required of an order
+abbrev pub answer_status : ℕ → Answer → Status
+answer_status required (answer.Commit c) = order_status required (length c.order)
+answer_status required (answer.Anomaly a) = status.Anomaly
 
 -- how a run ends whose last answer this is; none stands for read faults
-abbrev pub last_status : Option Answer → Status
-last_status None = status.ReadFaults
-last_status (Some a) = answer_status a
+abbrev pub last_status : ℕ → Option Answer → Status
+last_status required None = status.ReadFaults
+last_status required (Some a) = answer_status required a
 
 -- how a run ends that gave this verdict
 abbrev pub verdict_status : Verdict → Status

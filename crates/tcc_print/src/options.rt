@@ -11,4 +11,6 @@ pub struct Options {
     pub workers: u32,
     /// Each in one line of JSON.
     pub json: bool,
+    /// An order of fewer transactions than these is no success: 0 asks for none. No text depends on it.
+    pub required: u32,
 }

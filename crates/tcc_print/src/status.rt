@@ -1,6 +1,6 @@
 //! How a run ends, and the number that tells it.
-ghost use Rattle.std.specs.Prelude.{◌≡◌};
-ghost use Rattle.tcc_print.specs.Statuses.{answer_status, certificate_status, code_of, halt_status, last_status, row_status, verdict_status};
+ghost use Rattle.std.specs.Prelude.{◌≡◌, length};
+ghost use Rattle.tcc_print.specs.Statuses.{answer_status, certificate_status, code_of, halt_status, last_status, order_status, row_status, verdict_status};
 
 use crate::halt::Halt;
 use crate::kinds::{certificate_told, row_told};
@@ -20,6 +20,8 @@ pub enum Status {
     ReadFaults,
     /// A record breaks the rules, or the input ended inside a transaction.
     RowFault,
+    /// Consistent, but with fewer transactions than are required.
+    TooFew,
     /// The input is past a limit.
     Limit,
     /// Memory was refused.
@@ -43,7 +45,7 @@ impl Status {
             Status::Success => 0,
             Status::Anomaly => 1,
             Status::ReadFaults => 2,
-            Status::RowFault => 3,
+            Status::RowFault | Status::TooFew => 3,
             Status::Limit => 4,
             Status::Memory => 5,
             Status::Device => 6,
@@ -54,22 +56,33 @@ impl Status {
     }
 }
 
-/// How a run ends that gave this answer.
-pub fn answer_status(answer: &Answer) -> Status
-    ensures { result ≡ answer_status answer.now }
+/// How a run ends that gave this order: without `init` it has to have the transactions that are required.
+fn order_status(order: &[u32], required: u32) -> Status
+    ensures { result ≡ order_status required (length order.now) }
+{
+    if order.len().saturating_sub(1) < required as usize {
+        Status::TooFew
+    } else {
+        Status::Success
+    }
+}
+
+/// How a run ends that gave this answer, where so many transactions are required of an order.
+pub fn answer_status(answer: &Answer, required: u32) -> Status
+    ensures { result ≡ answer_status required answer.now }
 {
     match answer {
-        Answer::Commit(_) => Status::Success,
+        Answer::Commit(commit) => order_status(commit.order(), required),
         Answer::Anomaly(_) => Status::Anomaly,
     }
 }
 
 /// How a run ends whose last answer this is; none stands for read faults.
-pub fn last_status(answer: &Option<Answer>) -> Status
-    ensures { result ≡ last_status answer.now }
+pub fn last_status(answer: &Option<Answer>, required: u32) -> Status
+    ensures { result ≡ last_status required answer.now }
 {
     match answer {
-        Some(answer) => answer_status(answer),
+        Some(answer) => answer_status(answer, required),
         None => Status::ReadFaults,
     }
 }

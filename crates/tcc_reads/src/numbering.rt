@@ -13,11 +13,11 @@ use tcc_txn::{Name, Snapshot, Txn};
 /// them.
 fn push_session<'a>(
     list: &mut Vec<Standing<'a>>,
-    session: u8,
+    session: u32,
     name: Name,
     txns: &'a [Txn],
-    first: u16,
-) -> Result<u16, AllocError>
+    first: u32,
+) -> Result<u32, AllocError>
     requires { first + length txns.now ≤ MAX_COUNT }
     ensures list { IfOk result (λ after. (rest : List Stand) →
         list.new.items ++ numbered_from after rest ≡ list.old.items ++ numbered_from first (stands_in session name 1 txns.now ++ rest)) }
@@ -28,7 +28,7 @@ fn push_session<'a>(
         list.push(Standing {
             session,
             name,
-            place: before as u16 + 1,
+            place: before as u32 + 1,
             number,
             txn,
         })?;
@@ -56,7 +56,7 @@ pub(crate) fn standings(alloc: Global, snapshot: &Snapshot) -> Result<Vec<Standi
     let mut number = 1;
     for session in 0..snapshot.sessions() {
         let (name, txns) = session_at(snapshot, session);
-        number = push_session(&mut list, session as u8, name, txns, number)?;
+        number = push_session(&mut list, session, name, txns, number)?;
     }
     Ok(list)
 }

@@ -41,8 +41,8 @@ fn node(alloc: Global, standing: &Standing<'_>, reads: Vec<(Name, u32)>) -> Resu
     }) }
 {
     Ok(Node {
-        owner: u32::from(standing.session),
-        place: u32::from(standing.place),
+        owner: standing.session,
+        place: standing.place,
         writes: written_keys(alloc, standing.txn.ops())?,
         reads: sorted_once(reads),
     })

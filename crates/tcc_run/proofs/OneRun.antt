@@ -1,4 +1,4 @@
--- A whole run says the same whatever the options tell beside the level and the form of its texts.
+-- A whole run says the same by options that ask for the same.
 use Rattle.std.proofs.Common.{◌≡◌, List, [], ◌∷◌, ◌++◌, refl, sym, ap, subst, ◌∙◌, inl, inr}
 use Rattle.tcc_txn.specs.Answers as rows
 use Rattle.tcc_txn.specs.Snapshots.{Sessions}
@@ -7,22 +7,22 @@ use Rattle.tcc_graph.specs.Levels.{Judged}
 use Rattle.tcc_answer.specs.declared.answer.Answer.{Answer}
 use Rattle.tcc_explain.specs.Explained.{IsAnswerOf}
 use Rattle.tcc_print.specs.declared.options.Options.{Options}
-use Rattle.tcc_run.specs.Runs.{AreAnswered, IsAnswered, IsWhole, Said, answer_said, at_end, sealed_in}
+use Rattle.tcc_run.specs.Runs.{AreAnswered, AskAlike, IsAnswered, IsWhole, Said, answer_said, at_end, sealed_in}
 
 module _ (one : (j : Judged) (some other : Answer) → IsAnswerOf j some → IsAnswerOf j other → some ≡ other) (options others : Options)
-    (form : options.json ≡ others.json) (level : options.level ≡ others.level) where
+    (alike : AskAlike options others) where
   answer_again : (a b : Answer) → a ≡ b → answer_said options a ≡ answer_said others b
-  answer_again a b same = rw form (ap (answer_said others) same)
+  answer_again a b same = rw (alike.form, alike.required) (ap (answer_said others) same)
 
   said_again : (s : Sessions) (x y : Said) → IsAnswered options s x → IsAnswered others s y → x ≡ y
   said_again s x y (inl (resolved, a, is, e)) (inl (again, b, too, f)) =
       let same : a ≡ b =
       one (record { history = history s; level = options.level }) a b is
-      (subst (λ l. IsAnswerOf (record { history = history s; level = l }) b) (sym level) too) in
+      (subst (λ l. IsAnswerOf (record { history = history s; level = l }) b) (sym alike.level) too) in
       e ∙ answer_again a b same ∙ sym f
   said_again s x y (inl (resolved, a, is, e)) (inr (faulty, f)) = absurd (faulty resolved)
   said_again s x y (inr (faulty, e)) (inl (resolved, b, is, f)) = absurd (faulty resolved)
-  said_again s x y (inr (faulty, e)) (inr (again, f)) = e ∙ rw form refl ∙ sym f
+  said_again s x y (inr (faulty, e)) (inr (again, f)) = e ∙ rw alike.form refl ∙ sym f
 
   all_again : (snapshots : List Sessions) (xs ys : List Said) → AreAnswered options snapshots xs → AreAnswered others snapshots ys → xs ≡ ys
   all_again [] [] [] are too = refl

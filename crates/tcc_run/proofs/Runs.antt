@@ -117,7 +117,7 @@ pub text_of : (options : Options) (o : Outcome) → (outcome_said options o).tex
 text_of options (outcome.Answered a) = refl
 text_of options (outcome.Unresolved faults earlier) = refl
 
-pub keeps_of : (options : Options) (o : Outcome) → Keeps (outcome_said options o) (answer_in o)
+pub keeps_of : (options : Options) (o : Outcome) → Keeps options.required (outcome_said options o) (answer_in o)
 keeps_of options (outcome.Answered a) = (refl, refl)
 keeps_of options (outcome.Unresolved faults earlier) = (refl, refl)
 

@@ -29,7 +29,7 @@ pub kept_saying : (options : Options) (s : Sessions) (o : Outcome) (kept : Optio
 kept_saying options s o kept before now after is answer same out = (
   outcome_said options o,
   said_of options s o is,
-  subst (Keeps (outcome_said options o)) (sym answer) (keeps_of options o),
+  subst (Keeps options.required (outcome_said options o)) (sym answer) (keeps_of options o),
   subst (λ b. Appends b after (outcome_said options o).text) same (subst (Appends now after) (sym (text_of options o)) out),
 )
 

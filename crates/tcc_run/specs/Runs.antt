@@ -35,7 +35,7 @@ pub record Said : Type 0 where
 abbrev pub answer_said : Options → Answer → Said
 answer_said options a = record {
   text = answered options.json a;
-  status = answer_status a;
+  status = answer_status options.required a;
   certificate = Some (certificate_text (certificate_of a));
 }
 
@@ -83,6 +83,12 @@ abbrev pub at_end : List Item → List Sessions
 at_end items = if is_due_after true items then finished_in items ∷ [] else []
 
 -- ---- a run
+
+-- options that ask for the same: they may differ in the number of workers alone
+pub record AskAlike (some : Options) (other : Options) : Type 0 where
+  pub level : some.level ≡ other.level
+  pub form : some.json ≡ other.json
+  pub required : some.required ≡ other.required
 
 -- the records have no fault, and there is an answer at each seal, and one at the end where it is due
 abbrev pub IsWhole : Options → rows.Answers → List Said → Type 0

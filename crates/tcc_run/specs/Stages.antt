@@ -88,13 +88,13 @@ SaysLast options s before after last = IsFor options.level s last × Appends bef
 abbrev pub certificate_kept : Option Answer → Option (List ℕ)
 certificate_kept kept = option_map (λ a. certificate_text (certificate_of a)) kept
 
--- the status and the certificate of what was said are those of the answer that is kept
-abbrev pub Keeps : Said → Option Answer → Type 0
-Keeps said kept = (said.status ≡ last_status kept) × (said.certificate ≡ certificate_kept kept)
+-- the status and the certificate of what was said are those of the answer that is kept, where so many transactions are required
+abbrev pub Keeps : ℕ → Said → Option Answer → Type 0
+Keeps required said kept = (said.status ≡ last_status required kept) × (said.certificate ≡ certificate_kept kept)
 
 -- a snapshot was answered, and the answer is kept
 abbrev pub AnswersKept : Options → Sessions → Option (List ℕ) → Option (List ℕ) → Option Answer → Type 0
-AnswersKept options s before after kept = (said : Said) × IsAnswered options s said × Keeps said kept × Appends before after said.text
+AnswersKept options s before after kept = (said : Said) × IsAnswered options s said × Keeps options.required said kept × Appends before after said.text
 
 -- the run ended in what is said of a snapshot
 abbrev pub EndsAnswering : Options → Sessions → Option (List ℕ) → Option (List ℕ) → ℕ → Type 0
@@ -108,7 +108,7 @@ EndsAnswering options s before after code =
 abbrev pub AllAnswered : Options → List ℕ → Option (List ℕ) → Option (List ℕ) → Option Answer → Type 0
 AllAnswered options bytes before after kept =
     (said : List Said) × (last : Said) × IsWhole options (rows.answers_of bytes) said × (last_or None said ≡ Some last)
-    × Keeps last kept × Appends before after (texts said)
+    × Keeps options.required last kept × Appends before after (texts said)
 
 -- the run ended before it came to a certificate: all went out, and the last of it has none; or a write failed
 abbrev pub EndsEarly : Options → List ℕ → Option (List ℕ) → Option (List ℕ) → ℕ → Type 0
@@ -122,6 +122,6 @@ EndsEarly options bytes before after code =
 -- nothing more is said, and the file gets the certificate that is kept; or a write to it fails, which is said
 abbrev pub Concludes : Options → Option Answer → Option (List ℕ) → Option (List ℕ) → Contents → Contents → ℕ → Type 0
 Concludes options kept before after file file' code =
-    ((after ≡ before) × Gains file file' (unwrap_or (certificate_kept kept) []) × (code ≡ code_of (last_status kept)))
+    ((after ≡ before) × Gains file file' (unwrap_or (certificate_kept kept) []) × (code ≡ code_of (last_status options.required kept)))
     ⊎ (((text : List ℕ) × (certificate_kept kept ≡ Some text) × GainsPart file file' text)
     × Prints before after (device_line options.json) Device code)

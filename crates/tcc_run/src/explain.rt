@@ -18,6 +18,7 @@ use std::io::{Read, Write};
 use std::thread::Threads;
 use tcc_cert::{WriteFault, write};
 use tcc_explain::{Answer, Gate};
+use tcc_print::notes::note_last;
 use tcc_print::printing::{print_device, print_halt, print_memory};
 use tcc_print::status::last_status;
 use tcc_print::{Halt, Options, Status};
@@ -219,12 +220,14 @@ fn send_certificate<C: Write>(answer: &Answer, file: &mut Option<C>) -> Result<(
 }
 
 /// Writes the certificate of the last answer, if there is one and a file is given for it, and gives the number that the
-/// run ends with.
-fn conclude<W: Write, C: Write>(
+/// run ends with. Where an order has fewer transactions than are required, this is noted.
+fn conclude<W: Write, C: Write, N: Write>(
+    alloc: Global,
     last: &Option<Answer>,
     file: &mut Option<C>,
     options: Options,
     out: &mut W,
+    notes: &mut N,
 ) -> u8
     ensures { Concludes options last.now (W.contents out.old) (W.contents out.new) (option_map C.contents file.old) (option_map C.contents file.new) result }
 {
@@ -233,22 +236,24 @@ fn conclude<W: Write, C: Write>(
             return print_device(out, options.json);
         }
     }
-    last_status(last).code()
+    note_last(alloc, last, options.required, notes);
+    last_status(last, options.required).code()
 }
 
 /// Writes an answer at the level for what was finished before each seal of the bytes of the reader, and before their end,
 /// as text or as lines of JSON, and behind it, into the file if one is given, the certificate of the last. Gives the number
 /// that the run ends with. All of this is the same for every number of workers, 1 to 32, and the gate is called before each
-/// start that they search.
+/// start that they search. What a person may want to know besides, who reads the standard error, goes to the notes.
 ///
 /// The file is empty before: nothing goes into it where the last answer is that reads have faults, or where the run ends
 /// by a fault.
-pub fn run_explain<R: Read + Drop, W: Write, C: Write, G: Gate>(
+pub fn run_explain<R: Read + Drop, W: Write, C: Write, N: Write, G: Gate>(
     rt: &(impl Threads + Sync),
     alloc: Global,
     reader: R,
     out: &mut W,
     certificate: &mut Option<C>,
+    notes: &mut N,
     options: Options,
     gate: &G,
 ) -> u8
@@ -257,7 +262,7 @@ pub fn run_explain<R: Read + Drop, W: Write, C: Write, G: Gate>(
         (option_map C.contents certificate.new) result) }
 {
     match answer_records(rt, alloc, reader, options, gate, out) {
-        Ok(last) => conclude(&last, certificate, options, out),
+        Ok(last) => conclude(alloc, &last, certificate, options, out, notes),
         Err(code) => code,
     }
 }

@@ -21,7 +21,7 @@ ghost use Rattle.tcc_explain.specs.Explained.{IsAnswerOf};
 ghost use Rattle.tcc_verdict.specs.Checks.{IsCheck, MayBeCheck};
 ghost use Rattle.tcc_run.specs.Closing.{IsAcceptance, acceptance};
 ghost use Rattle.tcc_run.specs.Interleaved.{AreInterleaved};
-ghost use Rattle.tcc_run.specs.Runs.{IsEnded, IsRun, IsWhole, Said};
+ghost use Rattle.tcc_run.specs.Runs.{AskAlike, IsEnded, IsRun, IsWhole, Said};
 ghost use Rattle.tcc_print.specs.Statuses.{code_of};
 ghost use Rattle.tcc_print.specs.declared.options.Options.{Options};
 ghost use Rattle.tcc_print.specs.declared.status.Status.TheVariants.{Device};
@@ -79,22 +79,19 @@ pub fn left()
     finished_is_snapshot();
 }
 
-/// Of the same records a whole run says the same, whatever the options tell beside the level and whether answers are JSON:
-/// so for every number of workers, and every order in which they search.
+/// Of the same records a whole run says the same for every number of workers, and every order in which they search.
 pub fn one_run()
-    ensures { (options others : Options) (records : List ℕ) (said again : List Said) → options.json ≡ others.json
-        → options.level ≡ others.level → IsWhole options (answers_of records) said → IsWhole others (answers_of records) again
+    ensures { (options others : Options) (records : List ℕ) (said again : List Said) → AskAlike options others
+        → IsWhole options (answers_of records) said → IsWhole others (answers_of records) again
         → said ≡ again }
 {
     one_answer();
 }
 
 /// Of two inputs with the same records of each session, interleaved anyhow and without a seal: what a whole run says of the
-/// one, a whole run says of the other, and nothing else, whatever the options tell beside the level and whether answers are
-/// JSON.
+/// one, a whole run says of the other, and nothing else, for every number of workers.
 pub fn interleaved()
-    ensures same { (options others : Options) (records other : List ℕ) (said again : List Said) → options.json ≡ others.json
-        → options.level ≡ others.level → AreInterleaved records other → IsWhole options (answers_of records) said
+    ensures same { (options others : Options) (records other : List ℕ) (said again : List Said) → AskAlike options others → AreInterleaved records other → IsWhole options (answers_of records) said
         → IsWhole others (answers_of other) again → said ≡ again }
     ensures whole { (options : Options) (records other : List ℕ) (said : List Said) → AreInterleaved records other
         → IsWhole options (answers_of records) said → IsWhole options (answers_of other) said }

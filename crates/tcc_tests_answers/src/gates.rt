@@ -5,8 +5,8 @@ use std::alloc::Global;
 use std::process::Abort;
 use std::sync::Wait;
 use std::sync::atomic::{AtomicU64, Ordering};
-use std::thread;
 use std::thread::Threads;
+use std::{io, thread};
 use tcc_answer::Answer;
 use tcc_audit::audit;
 use tcc_book::{Book, Pass};
@@ -113,6 +113,7 @@ fn runs(rt: HostRuntime) {
         level: Level::Causal,
         workers: 2,
         json: false,
+        required: 0,
     };
     for until in [2, STARTS] {
         let gate = Holding::new(until);
@@ -124,6 +125,7 @@ fn runs(rt: HostRuntime) {
             TWICE.as_bytes(),
             &mut out,
             &mut file,
+            &mut io::sink(),
             options,
             &gate,
         );

@@ -69,8 +69,12 @@ fn explained(
         level: Level::Causal,
         workers: 1,
         json,
+        required: 0,
     };
-    run_explain(rt, alloc, records, out, file, options, &OpenGate)
+    let mut notes = io::sink();
+    run_explain(
+        rt, alloc, records, out, file, &mut notes, options, &OpenGate,
+    )
 }
 
 // A reader that fails after its bytes.

@@ -16,15 +16,15 @@ use Rattle.tcc_txn.specs.declared.limits.Limits.TheVariants.{Small}
 use Rattle.tcc_txn.specs.declared.limits.TheConstants.{MAX_SESSIONS, MAX_TRANSACTIONS}
 
 -- the fault by the name that is repeated, the number of sessions and that of transactions
-abbrev pub fault_within : Limits → Option (List ℕ) → ℕ → ℕ → Option SnapshotFault
-fault_within limits repeated sessions transactions =
+abbrev pub fault_by_within : Limits → Option (List ℕ) → ℕ → ℕ → Option SnapshotFault
+fault_by_within limits repeated sessions transactions =
     option_map_or (λ name. Some (Repeated name)) repeated
     (if nat_lt (most_sessions limits) sessions then Some TooManySessions
     else if nat_lt (most_transactions limits) transactions then Some TooManyTransactions
     else None)
 
 abbrev pub fault_by : Option (List ℕ) → ℕ → ℕ → Option SnapshotFault
-fault_by = fault_within Small
+fault_by = fault_by_within Small
 
 -- without a fault no name is repeated, and the limits are kept
 pub record IsFaultless (limits : Limits) (repeated : Option (List ℕ)) (sessions transactions : ℕ) : Type 0 where
@@ -34,22 +34,22 @@ pub record IsFaultless (limits : Limits) (repeated : Option (List ℕ)) (session
 
 module _ (limits : Limits) where
   pub snapshot_fault-parts_of : (parts : List (List ℕ × Vec Transaction)) → snapshot_fault_within limits (parts_of parts)
-      ≡ fault_within limits (first_repeated [] (names_of parts)) (length parts) (sum_by (λ part. length part.1.items) parts)
+      ≡ fault_by_within limits (first_repeated [] (names_of parts)) (length parts) (sum_by (λ part. length part.1.items) parts)
   snapshot_fault-parts_of parts =
-      λ i. fault_within limits (first_repeated [] (names_of-parts_of parts i)) (length-parts_of parts i) (sum_by-parts_of parts i)
+      λ i. fault_by_within limits (first_repeated [] (names_of-parts_of parts i)) (length-parts_of parts i) (sum_by-parts_of parts i)
 
-  pub sessions_fault : (sessions transactions : ℕ) → most_sessions limits < sessions → fault_within limits None sessions transactions ≡ Some TooManySessions
+  pub sessions_fault : (sessions transactions : ℕ) → most_sessions limits < sessions → fault_by_within limits None sessions transactions ≡ Some TooManySessions
   sessions_fault sessions transactions many = grind (arith, nat_tests, many)
 
   pub transactions_fault : (sessions transactions : ℕ) → sessions ≤ most_sessions limits → nat_lt (most_transactions limits) transactions ≡ true
-      → fault_within limits None sessions transactions ≡ Some TooManyTransactions
+      → fault_by_within limits None sessions transactions ≡ Some TooManyTransactions
   transactions_fault sessions transactions few many = grind (arith, nat_tests, few, many)
 
   pub faultless_within : (sessions transactions : ℕ) → sessions ≤ most_sessions limits → nat_lt (most_transactions limits) transactions ≡ false
-      → fault_within limits None sessions transactions ≡ None
+      → fault_by_within limits None sessions transactions ≡ None
   faultless_within sessions transactions few short = grind (arith, nat_tests, few, short)
 
-  pub faultless : (repeated : Option (List ℕ)) (sessions transactions : ℕ) → fault_within limits repeated sessions transactions ≡ None
+  pub faultless : (repeated : Option (List ℕ)) (sessions transactions : ℕ) → fault_by_within limits repeated sessions transactions ≡ None
       → IsFaultless limits repeated sessions transactions
   faultless (Some name) sessions transactions none = absurd (none-some (Repeated name) (sym none))
   faultless None sessions transactions none = record {

@@ -58,3 +58,8 @@ pub record IsStoredWithin (limits : Limits) (parts : List (List ℕ × Vec Trans
 
 abbrev pub IsStored : List (List ℕ × Vec Transaction) → Type 0
 IsStored = IsStoredWithin Small
+
+-- the same, with the number of transactions beside the parts
+pub record IsCounted (limits : Limits) (parts : List (List ℕ × Vec Transaction)) (transactions : ℕ) : Type 0 where
+  pub stored : IsStoredWithin limits parts
+  pub counted : transactions ≡ sum_by (λ part. length part.1.items) parts

@@ -7,14 +7,15 @@ ghost use Rattle.std.specs.FinMap.Entries.{find, is_sorted, put};
 ghost use Rattle.std.specs.List.{insert, list_any};
 ghost use Rattle.std.specs.List.Sorted.{IsPermutation, IsSortedByKey};
 ghost use Rattle.std.specs.Ordering.{nat_cmp};
-ghost use Rattle.tcc_txn.specs.Finished.{KeepsLimits, with_transaction};
+ghost use Rattle.tcc_txn.specs.Finished.{IsWithinLimits, KeepsLimits, with_transaction};
+ghost use Rattle.tcc_txn.specs.Limits.{most_sessions};
 ghost use Rattle.std.specs.Cmp.Lexicographic.{pointwise, slice_cmp};
 ghost use Rattle.tcc_txn.specs.Snapshots.{parts_of, first_repeated, snapshot_fault, snapshot_fault_within};
 ghost use Rattle.tcc_txn.specs.SnapshotStorage.{IsStoredWithin, StandsAt, place_in, shown};
 ghost use Rattle.tcc_txn.specs.declared.limits.Limits.TheVariants as limits;
 ghost use Rattle.tcc_txn.specs.declared.limits.TheConstants.{LARGE_SESSIONS, LARGE_TRANSACTIONS, MAX_SESSIONS, MAX_TRANSACTIONS};
 
-use crate::{Limits, MAX_SESSIONS, MAX_TRANSACTIONS, Name, RowFaultKind, Txn};
+use crate::{LARGE_TRANSACTIONS, Limits, MAX_SESSIONS, MAX_TRANSACTIONS, Name, RowFaultKind, Txn};
 use std::alloc::Global;
 use std::marker::Model;
 use thiserror::Error;
@@ -63,6 +64,8 @@ impl Model for Snapshot {
 #[derive(Drop)]
 pub struct LargeSnapshot {
     sessions: Vec<(Name, Vec<Txn>)>,
+    /// How many there are in all.
+    transactions: usize,
 }
 
 impl Model for LargeSnapshot {
@@ -70,14 +73,14 @@ impl Model for LargeSnapshot {
 
     ghost Value = { Sessions };
 
-    ghost use Rattle.tcc_txn.specs.SnapshotStorage.{sessions_code, shown, IsStoredWithin};
+    ghost use Rattle.tcc_txn.specs.SnapshotStorage.{sessions_code, shown, IsCounted};
     ghost use Rattle.tcc_txn.specs.declared.limits.Limits.TheVariants as limits;
 
     ghost coded = { sessions_code };
 
     ghost view = { λ s. shown s.sessions.items };
 
-    ghost invariant = { λ s. IsStoredWithin limits.Large s.sessions.items };
+    ghost invariant = { λ s. IsCounted limits.Large s.sessions.items s.transactions };
 }
 
 fn is_among(parts: &[(Name, Vec<Txn>)], name: Name) -> bool
@@ -110,6 +113,18 @@ fn has_too_many_transactions(parts: &[(Name, Vec<Txn>)], most: usize) -> bool
         total += part.1.len();
     }
     false
+}
+
+/// How many transactions there are.
+fn transactions_in(parts: &[(Name, Vec<Txn>)]) -> usize
+    requires { sum_by (λ part. length part.1.items) parts.now ≤ LARGE_TRANSACTIONS }
+    ensures { result ≡ sum_by (λ part. length part.1.items) parts.now }
+{
+    let mut total = 0;
+    for part in parts {
+        total += part.1.len();
+    }
+    total
 }
 
 fn fault_of(parts: &[(Name, Vec<Txn>)], limits: Limits) -> Option<SnapshotFault>
@@ -217,6 +232,7 @@ fn insert(
 /// The session has one more transaction.
 fn add_to(
     parts: &mut Vec<(Name, Vec<Txn>)>,
+    limits: Limits,
     alloc: Global,
     session: Name,
     txn: Txn,
@@ -225,16 +241,17 @@ fn add_to(
     ensures added { OnOk result (parts_of parts.new.items ≡ put (slice_cmp nat_cmp) session
         (unwrap_or (find (slice_cmp nat_cmp) session (parts_of parts.old.items)) [] ++ txn ∷ []) (parts_of parts.old.items)) }
     ensures kept { OnErr result (parts_of parts.new.items ≡ parts_of parts.old.items) }
-    ensures few { OnOk result ((find (slice_cmp nat_cmp) session (parts_of parts.old.items) ≡ None) → length parts.old.items < MAX_SESSIONS) }
+    ensures few { OnOk result ((find (slice_cmp nat_cmp) session (parts_of parts.old.items) ≡ None) → length parts.old.items < most_sessions limits) }
     ensures known { IfErr result (λ k. k ≢ RowFaultKind.Read) }
     ensures refused { IfErr result
-        (λ k. (k ≡ RowFaultKind.NoMemory) ⊎ ((MAX_SESSIONS ≤ length parts.old.items) × (find (slice_cmp nat_cmp) session (parts_of parts.old.items) ≡ None))) }
+        (λ k. (k ≡ RowFaultKind.NoMemory) ⊎ ((most_sessions limits ≤ length parts.old.items)
+        × (find (slice_cmp nat_cmp) session (parts_of parts.old.items) ≡ None))) }
 {
     let at = place_of(parts, &session);
     if stands_at(parts, at, &session) {
         return push(&mut parts[at].1, txn);
     }
-    if parts.len() >= MAX_SESSIONS {
+    if parts.len() >= limits.sessions() {
         return Err(RowFaultKind::TooManySessions);
     }
     insert(parts, alloc, at, session, txn)
@@ -260,7 +277,7 @@ impl Snapshot {
         if has_too_many_transactions(&self.sessions, MAX_TRANSACTIONS - 1) {
             return Err(RowFaultKind::TooManyTransactions);
         }
-        add_to(&mut self.sessions, alloc, session, txn)
+        add_to(&mut self.sessions, Limits::Small, alloc, session, txn)
     }
 
     /// The snapshot in which each named session has finished these transactions.
@@ -304,13 +321,44 @@ impl Snapshot {
     pub fn large(self) -> LargeSnapshot
         ensures { result ≡ self }
     {
+        let transactions = transactions_in(&self.sessions);
         LargeSnapshot {
             sessions: self.sessions,
+            transactions,
         }
     }
 }
 
 impl LargeSnapshot {
+    /// No session has finished anything.
+    pub(crate) fn empty(alloc: Global) -> LargeSnapshot
+        ensures { result ≡ sessions.empty }
+    {
+        LargeSnapshot {
+            sessions: Vec::new(alloc),
+            transactions: 0,
+        }
+    }
+
+    /// The session has finished one more transaction, where there is room.
+    pub(crate) fn add(&mut self, alloc: Global, session: Name, txn: Txn) -> Result<(), RowFaultKind>
+        ensures added { OnOk result (self.new ≡ with_transaction self.old session txn) }
+        ensures kept { OnErr result (self.new ≡ self.old) }
+        ensures refused { IsWithinLimits limits.Large (with_transaction self.old session txn) → IfErr result (λ k. k ≡ RowFaultKind.NoMemory) }
+        ensures known { IfErr result (λ k. k ≢ RowFaultKind.Read) }
+    {
+        if self.transactions >= LARGE_TRANSACTIONS {
+            return Err(RowFaultKind::TooManyTransactions);
+        }
+        match add_to(&mut self.sessions, Limits::Large, alloc, session, txn) {
+            Ok(()) => {
+                self.transactions += 1;
+                Ok(())
+            }
+            Err(kind) => Err(kind),
+        }
+    }
+
     /// The snapshot in which each named session has finished these transactions.
     pub fn new(
         parts: Vec<(Name, Vec<Txn>)>,
@@ -320,7 +368,11 @@ impl LargeSnapshot {
             (λ e. (snapshot_fault_within limits.Large (parts_of parts.items) ≡ Some e.0) × (e.1 ≡ parts)) }
     {
         let sessions = in_order(parts, Limits::Large)?;
-        Ok(LargeSnapshot { sessions })
+        let transactions = transactions_in(&sessions);
+        Ok(LargeSnapshot {
+            sessions,
+            transactions,
+        })
     }
 
     /// The number of sessions.
@@ -354,9 +406,7 @@ impl LargeSnapshot {
             (λ s. KeepsLimits self × (s ≡ self))
             (λ s. (KeepsLimits self → ⊥) × (s ≡ self)) }
     {
-        if self.sessions.len() > MAX_SESSIONS
-            || has_too_many_transactions(&self.sessions, MAX_TRANSACTIONS)
-        {
+        if self.sessions.len() > MAX_SESSIONS || self.transactions > MAX_TRANSACTIONS {
             return Err(self);
         }
         Ok(Snapshot {

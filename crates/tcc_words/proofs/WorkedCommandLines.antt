@@ -11,7 +11,7 @@ use Rattle.clap.specs.declared.error.kind.ErrorKind.TheVariants.{InvalidValue, M
 use Rattle.clap.specs.declared.error.kind.ErrorKind.TheVariants.{TooManyValues, UnknownArgument, ValueValidation}
 use Rattle.clap.proofs.OnLiterals.{clap_on_literals}
 use Rattle.tcc_graph.specs.declared.level.Level.TheVariants.{Causal, Atomic}
-use Rattle.tcc_words.specs.CommandLines.{AreLevels, Words, certificate_path, json_text, level_text, level_word, tcc_command, workers_text}
+use Rattle.tcc_words.specs.CommandLines.{AreLevels, Words, certificate_path, history_path, json_text, level_text, level_word, required_text, tcc_command, workers_text}
 
 -- clap says exactly when a parse by it fails, and of which kinds the fault may be
 pub is_exact : (levels : Words) → is_simple_and_free (tcc_command levels) ≡ true
@@ -44,6 +44,32 @@ abbrev asks : List Text → Option Text × Option Text × Option Text × Option 
 asks words =
     let met = subcommand_of program (codes "tcc" ∷ codes "explain" ∷ words) in
     (level_text met, workers_text met, json_text met, certificate_path met)
+
+-- what it reads of the file and of the transactions that are required
+abbrev places : List Text → Option Text × Option Text
+places words =
+    let met = subcommand_of program (codes "tcc" ∷ codes "explain" ∷ words) in
+    (history_path met, required_text met)
+
+-- command lines with nothing wrong, each with that
+abbrev places_lines : List (List Text × (Option Text × Option Text))
+places_lines =
+    ([], (None, None))
+    ∷ (codes "h.csv" ∷ [], (Some (codes "h.csv"), None))
+    -- a hyphen alone is no option
+    ∷ (codes "-" ∷ codes "--require" ∷ codes "1" ∷ [], (Some (codes "-"), Some (codes "1")))
+    ∷ (codes "--require=4294967295" ∷ codes "--json" ∷ codes "h.csv" ∷ [], (Some (codes "h.csv"), Some (codes "4294967295")))
+    -- behind `--` each word is a path
+    ∷ (codes "--" ∷ codes "--json" ∷ [], (Some (codes "--json"), None))
+    ∷ []
+
+places_faults : map (λ line. faults (codes "explain" ∷ line.0)) places_lines ≡ map (λ line. []) places_lines
+unfolding clap_on_literals
+places_faults = refl
+
+places_read : map (λ line. places line.0) places_lines ≡ map (λ line. line.1) places_lines
+unfolding clap_on_literals
+places_read = refl
 
 -- command lines with nothing wrong, each with all that is read of it
 abbrev explain_lines : List (List Text × (Option Text × Option Text × Option Text × Option Text))
@@ -100,7 +126,11 @@ faulty_lines =
     ∷ (codes "check" ∷ codes "--level=atomic" ∷ codes "h.csv" ∷ codes "c.txt" ∷ [], UnknownArgument ∷ [])
     -- no subcommand of this name, and no argument of it either
     ∷ (codes "judge" ∷ [], UnknownArgument ∷ InvalidSubcommand ∷ [])
-    ∷ (codes "explain" ∷ codes "more" ∷ [], UnknownArgument ∷ [])
+    ∷ (codes "explain" ∷ codes "one" ∷ codes "more" ∷ [], UnknownArgument ∷ [])
+    -- what is required is a number, and not 0
+    ∷ (codes "explain" ∷ codes "--require" ∷ codes "0" ∷ [], ValueValidation ∷ [])
+    ∷ (codes "explain" ∷ codes "--require=4294967296" ∷ [], ValueValidation ∷ [])
+    ∷ (codes "explain" ∷ codes "--require" ∷ codes "all" ∷ [], ValueValidation ∷ [])
     -- the flag is one of the subcommand alone, has no value, and isn't given twice
     ∷ (codes "--json" ∷ codes "explain" ∷ [], UnknownArgument ∷ [])
     ∷ (codes "explain" ∷ codes "--json=true" ∷ [], TooManyValues ∷ [])

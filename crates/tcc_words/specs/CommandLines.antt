@@ -63,19 +63,25 @@ workers_option = valued_option (codes "workers") (Unsigned 1 32) (codes "1")
 abbrev pub certificate_option : Rule
 certificate_option = record (new_rule (codes "certificate")) { long = Some (codes "certificate"); value_names = 1 }
 
+-- --require N, a number from 1 up to what 32 bits hold
+abbrev pub require_option : Rule
+require_option = record (new_rule (codes "require")) { long = Some (codes "require"); value_names = 1; parser = Some (Unsigned 1 4294967295) }
+
+-- a path, which help calls by one name
+abbrev pub path : Text → Bool → Rule
+path id needed = record (new_rule id) { value_names = 1; required = needed }
+
+-- explain [--level LEVEL] [--workers N] [--json] [--certificate PATH] [--require N] [FILE]
 abbrev pub explain_command : Words → App
 explain_command levels =
-    with_rule (with_rule (with_rule (with_rule (new_app (codes "explain")) (level_option levels)) workers_option) json_flag) certificate_option
-
--- a path, which has to be given, and which help calls by one name
-abbrev pub path : Text → Rule
-path id = record (new_rule id) { value_names = 1; required = true }
+    let answered : App = with_rule (with_rule (with_rule (new_app (codes "explain")) (level_option levels)) workers_option) json_flag in
+    with_rule (with_rule (with_rule answered certificate_option) require_option) (path (codes "history") false)
 
 abbrev pub check_command : App
-check_command = with_rule (with_rule (new_app (codes "check")) (path (codes "history"))) (path (codes "certificate"))
+check_command = with_rule (with_rule (new_app (codes "check")) (path (codes "history") true)) (path (codes "certificate") true)
 
--- tcc explain [--level LEVEL] [--workers N] [--json] [--certificate PATH], or tcc check HISTORY CERTIFICATE: the program's name and version, and its
--- subcommands, one of which has to be given
+-- tcc explain [OPTIONS] [FILE], or tcc check HISTORY CERTIFICATE: the program's name and version, and its subcommands, one of
+-- which has to be given
 abbrev pub tcc_command : Words → App
 tcc_command levels =
     let named : App = on_top with_subcommand_required (on_top with_version (new_app (codes "tcc"))) in
@@ -119,24 +125,44 @@ IsWorkers (Some word) workers = SaysWorkers word workers
 abbrev pub certificate_path : Option (Text × List Row) → Option Text
 certificate_path met = option_text (codes "certificate") met
 
--- the answers are as JSON by the flag, at the level of the word, and by as many workers as the word says; the certificate
--- goes to the path, if there is one
+-- for how many transactions are required
+abbrev pub required_text : Option (Text × List Row) → Option Text
+required_text met = option_text (codes "require") met
+
+-- the number is the one that the word says in decimal, which is not 0; without a word it is 0
+abbrev pub IsRequired : Option Text → ℕ → Type 0
+IsRequired None required = required ≡ 0
+IsRequired (Some word) required = IsUnsignedIn 1 4294967295 word × (required ≡ digits_value 10 (without_leading_plus word))
+
+-- for the path of the records
+abbrev pub history_path : Option (Text × List Row) → Option Text
+history_path met = option_text (codes "history") met
+
+-- the records are those of the file at this path; of the standard input, where the word for it is `-`, or there is none
+abbrev pub IsInput : Option Text → Option Text → Type 0
+IsInput None path = path ≡ None
+IsInput (Some word) None = word ≡ codes "-"
+IsInput (Some word) (Some path) = (word ≢ codes "-") × (path ≡ word)
+
+-- the answers are as JSON by the flag, at the level of the word, by as many workers as the word says, and for as many
+-- transactions; the records are those of the file, and the certificate goes to the path, if there is one
 abbrev pub AsksExplain : Option (Text × List Row) → Request → Type 0
-AsksExplain met (Explain options certificate) =
+AsksExplain met (Explain options history certificate) =
     IsFlag (json_text met) options.json × IsLevel (level_text met) options.level × IsWorkers (workers_text met) options.workers
+    × IsRequired (required_text met) options.required × IsInput (history_path met) (option_map string_bytes history)
     × (option_map string_bytes certificate ≡ certificate_path met)
 AsksExplain met (Check history certificate) = ⊥
 
 -- the paths are those that clap finds
 abbrev pub AsksCheck : List Row → Request → Type 0
-AsksCheck rows (Explain options certificate) = ⊥
+AsksCheck rows (Explain options history certificate) = ⊥
 AsksCheck rows (Check history certificate) =
     (first_of (codes "history") rows ≡ Some (string_bytes history)) × (first_of (codes "certificate") rows ≡ Some (string_bytes certificate))
 
 -- what the subcommand that was met asks for: a check by its name with its two paths; else answers
 abbrev pub AsksBy : Option (Text × List Row) → Request → Type 0
-AsksBy met (Explain options certificate) =
-    (option_map (λ entered. entered.0) met ≢ Some (codes "check")) × AsksExplain met (Explain options certificate)
+AsksBy met (Explain options history certificate) =
+    (option_map (λ entered. entered.0) met ≢ Some (codes "check")) × AsksExplain met (Explain options history certificate)
 AsksBy None (Check history certificate) = ⊥
 AsksBy (Some entered) (Check history certificate) = (entered.0 ≡ codes "check") × AsksCheck entered.1 (Check history certificate)
 
@@ -145,7 +171,7 @@ Asks app words request = AsksBy (subcommand_of app words) request
 
 -- where answers are asked for, it is by 1 to 32 workers
 abbrev pub HasWorkers : Request → Type 0
-HasWorkers (Explain options certificate) = (0 < options.workers) × (options.workers ≤ 32)
+HasWorkers (Explain options history certificate) = (0 < options.workers) × (options.workers ≤ 32)
 HasWorkers (Check history certificate) = Unit {0}
 
 -- a text, or the line `memory` in its place, goes out with its status

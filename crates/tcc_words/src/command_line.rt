@@ -1,12 +1,13 @@
 //! What the command line asks for.
-ghost use Rattle.std.specs.Prelude.{◌≡◌, ℕ, false, IfErr, IfOk, MatchOption, OnOk, map, option_map};
+ghost use Rattle.std.specs.Prelude.{◌≡◌, ℕ, Some, false, codes, IfErr, IfOk, MatchOption, OnOk, map, option_map};
 ghost use Rattle.std.specs.String.{string_bytes};
-ghost use Rattle.clap.specs.Words.{FailsBy, IsUnsignedIn, app_of, fault_of, found_of, kind_of, rows_of, rule_of, subcommand_rows_of};
+ghost use Rattle.clap.specs.Words.{FailsBy, IsUnsignedIn, app_of, fault_of, found_of, kind_of, rows_of, rule_of, subcommand_rows_of, with_rule};
 ghost use Rattle.clap.specs.declared.error.kind.ErrorKind.TheVariants.{OutOfMemory};
 ghost use Rattle.tcc_graph.specs.declared.level.Level.{Level};
-ghost use Rattle.tcc_words.specs.CommandLines.{Asks, AsksBy, AsksCheck, AsksExplain, EndsUnasked, HasWorkers, IsAsked, IsFlag};
+ghost use Rattle.tcc_words.specs.CommandLines.{Asks, AsksBy, AsksCheck, AsksExplain, EndsUnasked, HasWorkers, IsAsked, IsFlag, IsInput, IsRequired};
 ghost use Rattle.tcc_words.specs.CommandLines.{IsLevel, IsWorkers, PrintsHelp, SaysWorkers, certificate_option, certificate_path};
 ghost use Rattle.tcc_words.specs.CommandLines.{check_command, explain_command, json_text, level_option, level_text, level_word, option_text};
+ghost use Rattle.tcc_words.specs.CommandLines.{history_path, require_option, required_text};
 ghost use Rattle.tcc_words.specs.CommandLines.{path, tcc_command, valued_option, workers_option, workers_text};
 
 use crate::help;
@@ -23,10 +24,12 @@ use tcc_print::{Options, Status};
 /// What the program is asked to do.
 #[derive(Drop)]
 pub enum Request {
-    /// Answer for the records of the standard input.
+    /// Answer for records.
     Explain {
         /// How answers are wanted.
         options: Options,
+        /// The path of the records; without it they are those of the standard input.
+        history: Option<String>,
         /// The path of the file for the certificate of the last answer, if it is wanted.
         certificate: Option<String>,
     },
@@ -87,6 +90,38 @@ fn certificate_option<'a>(alloc: Global) -> Arg<'a>
         .help("Writes the certificate of the last answer to this file")
 }
 
+/// The option for how many transactions are required.
+fn require_option<'a>(alloc: Global) -> Arg<'a>
+    ensures rule { rule_of result ≡ require_option }
+    ensures own { result.global ≡ false }
+{
+    Arg::new(alloc, "require")
+        .long("require")
+        .value_name("N")
+        .value_parser(ValueParser::Unsigned(1, 4_294_967_295))
+        .help(
+            "Ends with status 3 where the last answer is consistent for fewer than N transactions",
+        )
+}
+
+/// What is added to the subcommand that explains: where its certificate goes, what is required, and where its records are.
+fn with_places<'a>(alloc: Global, explain: Command<'a>) -> Result<Command<'a>, AllocError>
+    ensures { IfOk result (λ made. app_of made ≡ with_rule (with_rule (with_rule (app_of explain.entry) certificate_option) require_option) (path (codes "history") false)) }
+{
+    let certificate = certificate_option(alloc);
+    let require = require_option(alloc);
+    let history = path(
+        alloc,
+        "history",
+        "FILE",
+        "The file of the records; '-', or none, is standard input",
+        false,
+    );
+    let first = explain.arg(certificate)?;
+    let second = first.arg(require)?;
+    second.arg(history)
+}
+
 /// The subcommand that explains, at one of these levels.
 fn explain_command<'a>(alloc: Global, levels: &'a [&'a str]) -> Result<Command<'a>, AllocError>
     ensures { IfOk result (λ made. app_of made ≡ explain_command levels.entry) }
@@ -97,39 +132,37 @@ fn explain_command<'a>(alloc: Global, levels: &'a [&'a str]) -> Result<Command<'
         .help("Answers in one line of JSON")
         .action(ArgAction::SetTrue);
     let workers = workers_option(alloc);
-    let certificate = certificate_option(alloc);
     let first = Command::new(alloc, "explain")
-        .about(
-            "Reads records from standard input and says whether the history is consistent at a level",
-        )
+        .about("Reads records and says whether the history is consistent at a level")
         .after_help(help::EXPLAIN)
         .arg(level)?;
     let second = first.arg(workers)?;
     let third = second.arg(json)?;
-    third.arg(certificate)
+    with_places(alloc, third)
 }
 
-/// A path, which has to be given.
-fn path<'a>(alloc: Global, id: &'a str, name: &'a str, help: &'a str) -> Arg<'a>
-    ensures rule { rule_of result ≡ path id.now }
+/// A path, which may have to be given.
+fn path<'a>(alloc: Global, id: &'a str, name: &'a str, help: &'a str, needed: bool) -> Arg<'a>
+    ensures rule { rule_of result ≡ path id.now needed }
     ensures own { result.global ≡ false }
 {
     Arg::new(alloc, id)
         .value_name(name)
         .help(help)
-        .required(true)
+        .required(needed)
 }
 
 /// The subcommand that checks.
 fn check_command<'a>(alloc: Global) -> Result<Command<'a>, AllocError>
     ensures { IfOk result (λ made. app_of made ≡ check_command) }
 {
-    let history = path(alloc, "history", "HISTORY", "The file of the records");
+    let history = path(alloc, "history", "HISTORY", "The file of the records", true);
     let certificate = path(
         alloc,
         "certificate",
         "CERTIFICATE",
         "The file of the certificate",
+        true,
     );
     let half = Command::new(alloc, "check")
         .about("Says whether a certificate proves its claim about a history")
@@ -216,6 +249,38 @@ fn workers_of(matches: &ArgMatches) -> Option<u32>
     }
 }
 
+/// The number of transactions that the word says, in decimal; none exactly by another word.
+fn required_named(word: &str) -> Option<u32>
+    ensures { MatchOption result (IsUnsignedIn 1 4294967295 word.now → ⊥) (λ required. IsRequired (Some word.now) required) }
+{
+    match word.parse::<u32>() {
+        Ok(required) if 1 <= required => Some(required),
+        _ => None,
+    }
+}
+
+/// How many transactions the subcommand has a word for; none exactly by another word.
+fn required_of(matches: &ArgMatches) -> Option<u32>
+    ensures { MatchOption result ((required : ℕ) → IsRequired (required_text (subcommand_rows_of matches.now)) required → ⊥)
+        (IsRequired (required_text (subcommand_rows_of matches.now))) }
+{
+    match word_for(matches, "require") {
+        Some(word) => required_named(word),
+        None => Some(0),
+    }
+}
+
+/// The path that the subcommand has for the records, if they are not those of the standard input.
+fn history_of(alloc: Global, matches: &ArgMatches) -> Result<Option<String>, Error>
+    ensures path { IfOk result (λ path. IsInput (history_path (subcommand_rows_of matches.now)) (option_map string_bytes path)) }
+    ensures fails { IfErr result (λ e. kind_of e ≡ OutOfMemory) }
+{
+    match word_for(matches, "history") {
+        Some("-") | None => Ok(None),
+        Some(path) => Ok(Some(path.to_string(alloc)?)),
+    }
+}
+
 /// The path that the subcommand has for the file of the certificate, if it has one.
 fn certificate_of(alloc: Global, matches: &ArgMatches) -> Result<Option<String>, Error>
     ensures path { IfOk result (λ path. option_map string_bytes path ≡ certificate_path (subcommand_rows_of matches.now)) }
@@ -232,18 +297,25 @@ fn options_of(alloc: Global, matches: &ArgMatches) -> Result<Request, Error>
     ensures asked { IfOk result (AsksExplain (subcommand_rows_of matches.now)) }
     ensures fails { IfErr result (λ e. kind_of e ≡ OutOfMemory) }
 {
-    let (Some(level), Some(workers)) = (level_of(matches), workers_of(matches)) else {
+    let (Some(level), Some(workers), Some(required)) = (
+        level_of(matches),
+        workers_of(matches),
+        required_of(matches),
+    ) else {
         // Another word is a fault by clap, so only memory can be wanting.
         return Err(Error::from(AllocError));
     };
     let json = is_json(matches);
+    let history = history_of(alloc, matches)?;
     let certificate = certificate_of(alloc, matches)?;
     Ok(Request::Explain {
         options: Options {
             level,
             workers,
             json,
+            required,
         },
+        history,
         certificate,
     })
 }

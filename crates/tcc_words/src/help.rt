@@ -21,6 +21,7 @@ A session and a key are names: 1 to 32 of A-Z, a-z, 0-9, '_', '.' and '-'. A val
 number up to 18446744073709551615. Transactions of different sessions may be interleaved.
 The end of the input wants an answer too, unless nothing was finished since the last 'seal'.
 A write is known by any chain of sessions and reads at the level causal, by one step at atomic.
+What to mend, and why a file failed, is said on standard error.
 
 Example: a session writes x, and its next transaction reads the initial x.
   $ printf 'a,begin\\na,w,x,1\\na,commit\\na,begin\\na,r,x,0\\na,commit\\n' | tcc explain
@@ -34,11 +35,12 @@ Statuses, of the last answer or of the fault that ended the run:
   0   consistent: the order is one in which every read is explained
   1   an anomaly: no order explains the reads, and no shorter cycle shows it
   2   unresolved: reads that can't be traced to a write, or values written twice
-  3   a record breaks a rule, or the input ends inside a transaction
+  3   a record breaks a rule, the input ends inside a transaction, or consistent with too few
+      transactions for '--require'
   4   the records are past a limit
   5   out of memory
-  6   reading or writing failed, the input has more than 134217728 bytes, or the certificate's file
-      can't be made
+  6   reading or writing failed, the input has more than 134217728 bytes, or a file can't be opened
+      or made
   64  the command line is wrong
 
 'man tcc' says how to read an answer, docs/FORMATS.md of the sources has every text and every limit.";

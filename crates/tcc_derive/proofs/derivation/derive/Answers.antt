@@ -2,7 +2,7 @@ use Rattle.std.proofs.Common.{◌≤◌, length, arith}
 use Rattle.tcc_reads.specs.History.{count}
 use Rattle.tcc_graph.specs.Levels.{Judged}
 use Rattle.tcc_txn.specs.declared.limits.TheConstants.{MAX_COUNT}
-use Rattle.tcc_derive.proofs.PricesLemmas.{prices_of, shaped, others_within, have_by_cost}
+use Rattle.tcc_derive.proofs.PricesLemmas.{prices_of, shaped, others_within, have_by_cost, have_by_class}
 use Rattle.tcc_derive.proofs.derivation.derive.Goals as goal
 
 pub returns : goal.returns
@@ -46,3 +46,21 @@ cost_limit-limit-requires-clause-within g c =
     rw c.deref-5.ensures.value
     (others_within j c.args.near.now c.in_ok-prices.prices.items c.in_ok-ends.ends.items c.in_ok-others.others.items 0 c.requires c.in_ok-prices.ensures.rows
     c.in_ok-ends.ensures (rw c.deref-3.ensures.value at c.in_ok-others.ensures) (length c.args.near.now.rows) (omega (arith, c.requires.square.long)))
+
+pub by_class_rows-requires-clause-within : goal.by_class_rows-requires-clause-within
+by_class_rows-requires-clause-within g c κs inside =
+    let j : Judged = record { history = c.args.graph.now; level = c.args.near.now.level } in
+    let rows = c.in_ok-prices.ensures.rows in
+    rw c.deref-8.ensures.value
+    (others_within j c.args.near.now c.in_ok-prices.prices.items c.in_ok-ends.ends.items c.in_ok-others.others.items c.cost_limit-limit.result c.requires rows
+    c.in_ok-ends.ensures (rw c.deref-3.ensures.value at c.in_ok-others.ensures) (length c.in_ok-others.others.items)
+    (omega (arith, (rw c.deref-3.ensures.value at c.in_ok-others.ensures).long)))
+
+pub new-requires-clause-by_class : goal.new-requires-clause-by_class
+new-requires-clause-by_class g c =
+    let j : Judged = record { history = c.args.graph.now; level = c.args.near.now.level } in
+    rw c.level.ensures
+    (have_by_class j c.args.near.now c.in_ok-prices.prices.items c.in_ok-ends.ends.items c.in_ok-others.others.items c.cost_limit-limit.result c.requires
+    c.in_ok-prices.ensures.rows
+    c.in_ok-ends.ensures (rw c.deref-3.ensures.value at c.in_ok-others.ensures)
+    c.in_ok-by_class.by_class.items (rw (c.deref-8.ensures.value, c.deref-9.ensures.value) at c.in_ok-by_class.ensures))

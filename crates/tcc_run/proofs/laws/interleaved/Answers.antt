@@ -5,13 +5,13 @@ use Rattle.tcc_run.proofs.OneRun.{whole_again}
 use Rattle.tcc_run.proofs.laws.interleaved.Goals as goal
 
 pub returns-clause-same : goal.returns-clause-same
-returns-clause-same c = λ options others records other said again form level alike is too.
+returns-clause-same c = λ options others records other said again asked alike is too.
     let law = c.interleaved.ensures in
     let finished = law.finished records other alike.each is.0 too.0 in
     let answered =
     answered-alike (answers_of records).items (answers_of other).items (law.unsealed records alike.some_named)
     (law.unsealed other alike.other_named) finished in
-    whole_again c.one_answer.ensures.whole options others form level (answers_of records) (answers_of other) said again answered is too
+    whole_again c.one_answer.ensures.whole options others asked (answers_of records) (answers_of other) said again answered is too
 
 pub returns-clause-whole : goal.returns-clause-whole
 returns-clause-whole c = λ options records other said alike is.

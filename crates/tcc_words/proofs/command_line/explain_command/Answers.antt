@@ -1,9 +1,13 @@
 -- What each call adds to the subcommand.
-use Rattle.std.proofs.Common.{◌≡◌, ◌∙◌, ap₂, rules, codes}
+use Rattle.std.proofs.Common.{◌≡◌, ◌∙◌, false, ap, ap₂, rules, codes}
 use Rattle.std.proofs.lemmas.Result.{IfOk-weaker}
-use Rattle.clap.specs.Words.{app_of, new_app, rule_of, with_rule}
-use Rattle.tcc_words.specs.CommandLines.{certificate_option, json_flag, level_option, workers_option}
+use Rattle.clap.specs.Words.{App, app_of, new_app, rule_of, with_rule}
+use Rattle.tcc_words.specs.CommandLines.{certificate_option, json_flag, level_option, path, require_option, workers_option}
 use Rattle.tcc_words.proofs.command_line.explain_command.Goals as goal
+
+-- what is added behind the flag
+abbrev with_added : App → App
+with_added a = with_rule (with_rule (with_rule a certificate_option) require_option) (path (codes "history") false)
 
 pub returns : goal.returns
 returns c =
@@ -16,6 +20,4 @@ returns c =
     let third_is : app_of c.in_ok-third.third ≡ with_rule (with_rule (with_rule (new_app (codes "explain")) (level_option c.args.levels)) workers_option)
     json_flag
     = c.in_ok-third.ensures.shape (search rules) ∙ ap₂ with_rule second_is flag_is in
-    IfOk-weaker c.arg-4.result _ _
-    (λ made adds. adds.shape c.certificate_option-certificate.ensures.own ∙ ap₂ with_rule third_is c.certificate_option-certificate.ensures.rule)
-    c.arg-4.ensures
+    IfOk-weaker c.with_places.result _ _ (λ made adds. adds ∙ ap with_added third_is) c.with_places.ensures

@@ -21,7 +21,7 @@ ends words before kept after (Err code) same (levels, are, inr fault) =
 
 -- what is asked for has its workers
 by_words : (levels : Words) (words : List (List ℕ)) (request : Request) → Asks (tcc_command levels) words request → HasWorkers request
-by_words levels words (Explain options certificate) asks = in_range (workers_text (subcommand_of (tcc_command levels) words)) options.workers asks.1.2
+by_words levels words (Explain options history certificate) asks = in_range (workers_text (subcommand_of (tcc_command levels) words)) options.workers asks.1.2
   where
     in_range : (text : Option Text) (workers : ℕ) → IsWorkers text workers → (0 < workers) × (workers ≤ 32)
     in_range None workers one = (omega arith, omega arith)

@@ -7,4 +7,4 @@ pub returns : goal.returns
 returns c =
     c.part_at.ensures
     ∙ ap (λ parts. slice_get (parts_of parts) c.args.i) c.deref.ensures.value
-    ∙ ap (λ es. slice_get es c.args.i) (entries-parts c.self.inside.sessions.items c.args.self.now c.self.invariant c.self.view_is)
+    ∙ ap (λ es. slice_get es c.args.i) (entries-parts c.self.inside.sessions.items c.args.self.now c.self.invariant.stored c.self.view_is)

@@ -1,0 +1,85 @@
+//! The files that the command line names.
+ghost use Rattle.std.specs.Prelude.{IfOk};
+ghost use Rattle.tcc_files.specs.Files.{AreBothGiven, PrintsFiles, unopened_text, unopened_status};
+ghost use Rattle.tcc_print.specs.Printed.{Prints};
+
+use crate::input::Input;
+use crate::opening;
+use crate::telling::Telling;
+use std::fs::File;
+use std::io::{self, ErrorKind, Write};
+use tcc_print::printing::{print_device, print_memory};
+use tcc_verdict::run_check;
+
+/// The file, if it could be opened or made; else standard error is told which one could not, and why.
+fn told<T: Drop>(rt: &HostRuntime, path: &str, opened: io::Result<T>) -> io::Result<T> {
+    if let Err(error) = &opened {
+        let _ = eprintln!(rt; "{path}: {error}");
+    }
+    opened
+}
+
+/// Opens a file to read, which tells why where that fails, or a read does.
+fn open<'a>(rt: &HostRuntime, path: &'a str) -> io::Result<Telling<'a, File>> {
+    let file = told(rt, path, opening::open(rt, path))?;
+    Ok(Telling::new(file, path, rt.stderr()))
+}
+
+/// Opens the file of the records, if one is given; without it they are those of the standard input.
+pub fn open_input<'a>(rt: &HostRuntime, path: Option<&'a str>) -> io::Result<Telling<'a, Input>> {
+    match path {
+        Some(path) => {
+            let file = told(rt, path, opening::open(rt, path))?;
+            Ok(Telling::new(Input::File(file), path, rt.stderr()))
+        }
+        None => Ok(Telling::new(Input::Standard(rt.stdin()), "standard input", rt.stderr())),
+    }
+}
+
+/// Makes the file if a path is given, and makes it empty where it is there. The input or the output is no file for it.
+pub fn open_output<'a>(
+    rt: &HostRuntime,
+    path: Option<&'a str>,
+    input: &Input,
+) -> io::Result<Option<Telling<'a, File>>>
+    ensures { IfOk result (AreBothGiven path.entry) }
+{
+    match path {
+        Some(path) => {
+            let file = told(rt, path, opening::make(rt, path, input))?;
+            Ok(Some(Telling::new(file, path, rt.stderr())))
+        }
+        None => Ok(None),
+    }
+}
+
+/// Writes that a file can't be opened or made, and gives the status of the run.
+pub fn print_unopened<W: Write>(kind: ErrorKind, json: bool, out: &mut W) -> u8
+    ensures { Prints (W.contents out.old) (W.contents out.new) (unopened_text json kind) (unopened_status kind) result }
+{
+    match kind {
+        ErrorKind::OutOfMemory => print_memory(out, json),
+        _ => print_device(out, json),
+    }
+}
+
+/// Opens both files, the history before the certificate.
+fn open_both<'a>(
+    rt: &HostRuntime,
+    history: &'a str,
+    certificate: &'a str,
+) -> io::Result<(Telling<'a, File>, Telling<'a, File>)> {
+    let history = open(rt, history)?;
+    let certificate = open(rt, certificate)?;
+    Ok((history, certificate))
+}
+
+/// Checks the certificate in the one file for the history in the other, and gives the status of the run.
+pub fn check_files<W: Write>(rt: &HostRuntime, history: &str, certificate: &str, out: &mut W) -> u8
+    ensures { PrintsFiles (W.contents out.old) (W.contents out.new) result }
+{
+    match open_both(rt, history, certificate) {
+        Ok((history, certificate)) => run_check(rt.alloc(), history, certificate, out),
+        Err(error) => print_unopened(error.kind(), false, out),
+    }
+}

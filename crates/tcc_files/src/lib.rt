@@ -1,0 +1,11 @@
+//! The files that a command line names, and the standard streams: which are opened and made, and what is told where one fails.
+#![tactic(auto)]
+
+mod files;
+mod input;
+mod opening;
+mod telling;
+
+pub use files::{check_files, open_input, open_output, print_unopened};
+pub use input::Input;
+pub use telling::Telling;

@@ -1,0 +1,56 @@
+//! Readers and writers that tell why they fail.
+
+use std::io::{self, Read, Write};
+
+/// A reader or a writer that has a name, by which it tells standard error why it fails.
+#[derive(Drop)]
+pub struct Telling<'a, S> {
+    stream: S,
+    name: &'a str,
+    errors: io::Stderr,
+}
+
+impl<'a, S> Telling<'a, S> {
+    /// The stream by this name.
+    pub fn new(stream: S, name: &'a str, errors: io::Stderr) -> Telling<'a, S> {
+        Telling {
+            stream,
+            name,
+            errors,
+        }
+    }
+
+    /// The stream itself.
+    pub fn stream(&self) -> &S {
+        &self.stream
+    }
+}
+
+/// Tells why a stream failed, if it did. What standard error takes changes nothing.
+fn tell<T>(errors: &mut io::Stderr, name: &str, done: &io::Result<T>) {
+    if let Err(error) = done {
+        let _ = writeln!(errors, "{name}: {error}");
+    }
+}
+
+impl<R: Read> Read for Telling<'_, R> {
+    fn read(&mut self, buffer: &mut [u8]) -> io::Result<usize> {
+        let done = self.stream.read(buffer);
+        tell(&mut self.errors, self.name, &done);
+        done
+    }
+}
+
+impl<W: Write> Write for Telling<'_, W> {
+    fn write(&mut self, bytes: &[u8]) -> io::Result<usize> {
+        let done = self.stream.write(bytes);
+        tell(&mut self.errors, self.name, &done);
+        done
+    }
+
+    fn flush(&mut self) -> io::Result<()> {
+        let done = self.stream.flush();
+        tell(&mut self.errors, self.name, &done);
+        done
+    }
+}

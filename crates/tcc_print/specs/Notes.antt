@@ -1,0 +1,21 @@
+-- What standard error tells a person beside the answers.
+use Rattle.std.specs.Prelude.{ℕ, ◌-◌, List, [], ◌++◌, Option, None, Some, length, take, nat_lt, codes, decimal, if◌then◌else◌}
+use Rattle.std.specs.Io.KnownBytes.{Appends}
+use Rattle.tcc_answer.specs.declared.answer.Answer.{Answer}
+use Rattle.tcc_answer.specs.declared.answer.Answer.TheVariants as answer
+
+-- no more of the text than a part from its front went out
+abbrev pub IsNoted : Option (List ℕ) → Option (List ℕ) → List ℕ → Type 0
+IsNoted before after text = (n : ℕ) × Appends before after (take n text)
+
+-- --require N: only M transactions
+abbrev pub too_few_text : ℕ → ℕ → List ℕ
+too_few_text required transactions =
+    codes "--require " ++ (decimal required ++ (codes ": only " ++ (decimal transactions ++ codes " transactions\n")))
+
+-- of the last answer of a run: that it is an order with fewer transactions than are required
+abbrev pub last_note : ℕ → Option Answer → List ℕ
+last_note required None = []
+last_note required (Some (answer.Anomaly a)) = []
+last_note required (Some (answer.Commit c)) =
+    if nat_lt (length c.order - 1) required then too_few_text required (length c.order - 1) else []
