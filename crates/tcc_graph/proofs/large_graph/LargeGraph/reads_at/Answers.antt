@@ -1,7 +1,7 @@
 use Rattle.std.proofs.Common.{◌<◌, length, sym, subst}
 use Rattle.tcc_reads.specs.History.{History}
 use Rattle.tcc_graph.proofs.PlacedLemmas.{reads_below}
-use Rattle.tcc_graph.proofs.graph.Graph.reads_at.Goals as goal
+use Rattle.tcc_graph.proofs.large_graph.LargeGraph.reads_at.Goals as goal
 
 pub returns-clause-within : goal.returns-clause-within
 returns-clause-within c =

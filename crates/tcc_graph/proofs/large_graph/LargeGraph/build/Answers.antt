@@ -1,6 +1,6 @@
 use Rattle.std.proofs.Common.{◌≡◌, length, arith}
 use Rattle.tcc_graph.proofs.PlacedLemmas.{all_keyed, placed_sources, writes_within, reads_within}
-use Rattle.tcc_graph.proofs.graph.Graph.build.Goals as goal
+use Rattle.tcc_graph.proofs.large_graph.LargeGraph.build.Goals as goal
 
 pub placed_by-requires-clause-there : goal.placed_by-requires-clause-there
 placed_by-requires-clause-there c =

@@ -4,7 +4,7 @@ use Rattle.tcc_graph.specs.Keys.{readers}
 use Rattle.tcc_graph.specs.ReadTables.{over}
 use Rattle.tcc_graph.specs.Places.{StandsAt}
 use Rattle.tcc_graph.proofs.GraphLemmas.{readers_placed, readers_absent}
-use Rattle.tcc_graph.proofs.graph.Graph.readers.Goals as goal
+use Rattle.tcc_graph.proofs.large_graph.LargeGraph.readers.Goals as goal
 
 pub returns-in-Some : goal.returns-in-Some
 returns-in-Some c =

@@ -1,7 +1,7 @@
 use Rattle.std.proofs.Common.{◌<◌, length, sym, subst, ◌∙◌}
 use Rattle.tcc_reads.specs.History.{History}
 use Rattle.tcc_graph.proofs.GraphLemmas.{reads_at}
-use Rattle.tcc_graph.proofs.graph.Graph.reads_from.Goals as goal
+use Rattle.tcc_graph.proofs.large_graph.LargeGraph.reads_from.Goals as goal
 
 pub returns : goal.returns
 returns c =

@@ -2,7 +2,7 @@ use Rattle.std.proofs.Common.{◌<◌, length, sym, subst, ap, ◌∙◌}
 use Rattle.tcc_reads.specs.History.{History}
 use Rattle.tcc_graph.specs.Relations.{has_items}
 use Rattle.tcc_graph.proofs.GraphLemmas.{reads_at, causal_at}
-use Rattle.tcc_graph.proofs.graph.Graph.causal.Goals as goal
+use Rattle.tcc_graph.proofs.large_graph.LargeGraph.causal.Goals as goal
 
 pub returns-else-session : goal.returns-else-session
 returns-else-session c =

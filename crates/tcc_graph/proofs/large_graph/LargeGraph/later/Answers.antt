@@ -5,7 +5,7 @@ use Rattle.std.proofs.lemmas.List.{get_or_read}
 use Rattle.std.proofs.lemmas.List.Sorted.{IsPartitionPoint-from_clause}
 use Rattle.tcc_reads.specs.History.{Entry, History, count, initial, owner}
 use Rattle.tcc_graph.proofs.LaterLemmas.{parted, point_past, point_later}
-use Rattle.tcc_graph.proofs.graph.Graph.later.Goals as goal
+use Rattle.tcc_graph.proofs.large_graph.LargeGraph.later.Goals as goal
 
 pub returns-clause-order : goal.returns-clause-order
 returns-clause-order c =

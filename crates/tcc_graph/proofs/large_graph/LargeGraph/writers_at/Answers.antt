@@ -1,6 +1,6 @@
 use Rattle.std.proofs.Common.{◌∙◌}
 use Rattle.tcc_graph.proofs.GraphLemmas.{writers_placed}
-use Rattle.tcc_graph.proofs.graph.Graph.writers_at.Goals as goal
+use Rattle.tcc_graph.proofs.large_graph.LargeGraph.writers_at.Goals as goal
 
 pub returns : goal.returns
 returns c =

@@ -3,7 +3,7 @@ use Rattle.tcc_graph.specs.Keys.{writers}
 use Rattle.tcc_graph.specs.ReadTables.{over}
 use Rattle.tcc_graph.specs.Places.{StandsAt}
 use Rattle.tcc_graph.proofs.GraphLemmas.{writers_placed, writers_absent}
-use Rattle.tcc_graph.proofs.graph.Graph.writers.Goals as goal
+use Rattle.tcc_graph.proofs.large_graph.LargeGraph.writers.Goals as goal
 
 pub returns-in-Some : goal.returns-in-Some
 returns-in-Some c =

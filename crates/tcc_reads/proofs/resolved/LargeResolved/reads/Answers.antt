@@ -1,6 +1,6 @@
 use Rattle.std.proofs.Common.{◌≡◌, ℕ, ◌<◌, List, length, All, ap, sym, ◌∙◌, subst, slice_index_or}
 use Rattle.tcc_reads.specs.History.{Entry, History, count}
-use Rattle.tcc_reads.proofs.resolved.Resolved.reads.Goals as goal
+use Rattle.tcc_reads.proofs.resolved.LargeResolved.reads.Goals as goal
 
 pub returns-clause-sources : goal.returns-clause-sources
 returns-clause-sources c k d within =
