@@ -15,3 +15,4 @@ pub mod Readings
 pub mod Needing
 pub mod Finding
 pub mod Stepped
+pub mod Rising

@@ -93,3 +93,23 @@ pub record AreLinks (j : Judged) (kept : List (List ℕ)) : Type 0 where
   pub long : length kept ≡ count j.history
   pub derived : AreDerived (Derives j) kept
   pub enough : AreEnough j.history (Derives j) (λ a b. Unit {0}) kept
+
+-- the sessions' indices don't fall
+abbrev pub AreOrdered : List ℕ → Type 0
+AreOrdered owners = (m n : ℕ) → 0 < m → m < n → n < length owners → slice_index owners m ≤ slice_index owners n
+
+-- what a clock holds of a session is 0, or of the session
+abbrev pub IsClock : List ℕ → ℕ → List ℕ → Type 0
+IsClock owners from clock =
+    (k : ℕ) → k < length clock
+    → (slice_index clock k ≡ 0) ⊎ ((slice_index clock k < length owners) × (slice_index owners (slice_index clock k) ≡ from + k))
+
+-- the greatest of these that is no greater than `top`, or 0 where there is none
+pub record IsLastUpTo (numbers : List ℕ) (top : ℕ) (last : ℕ) : Type 0 where
+  pub attained : (last ≡ 0) ⊎ (Contains numbers last × (last ≤ top))
+  pub greatest : (b : ℕ) → Contains numbers b → b ≤ top → b ≤ last
+
+-- the same but for a
+pub record IsLastBut (numbers : List ℕ) (top : ℕ) (a : ℕ) (last : ℕ) : Type 0 where
+  pub attained : (last ≡ 0) ⊎ (Contains numbers last × (last ≢ a) × (last ≤ top))
+  pub greatest : (b : ℕ) → Contains numbers b → b ≢ a → b ≤ top → b ≤ last

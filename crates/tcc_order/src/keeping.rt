@@ -7,13 +7,19 @@ ghost use Rattle.tcc_order.specs.Latest.{AreOwners, AreLatestOf, AreClocks, IsOv
 ghost use Rattle.tcc_graph.specs.Levels.{causally};
 ghost use Rattle.tcc_graph.specs.Orders.{IsNumbering};
 ghost use Rattle.tcc_order.specs.Parents.{AreSessionParents};
+ghost use Rattle.tcc_order.specs.Latest.{AreOrdered, IsClock, IsLastUpTo, IsLastBut};
 ghost use Rattle.tcc_order.specs.declared.latest.TheConstants.{WIDE};
+ghost use Rattle.std.specs.List.Sorted.{IsNonDecreasing, IsPartitionPoint};
+ghost use Rattle.std.specs.Prelude.{nat_le, true, false, ◌∷◌, []};
 
 use crate::latest::{WIDE, clocks_of, owners};
 use std::alloc::Global;
 use tcc_graph::Graph;
 use tcc_near::Row;
 use tcc_txn::NoMemory;
+
+/// Up to so many writers of a key are looked at one by one.
+const FEW: usize = 128;
 
 /// Raises the number of a session to that of a writer other than `a`, where the clock reaches it.
 fn lift_writer(need: &mut [u32], owners: &[u32], from: u32, clock: &[u32], b: u32, a: u32)
@@ -31,8 +37,8 @@ fn lift_writer(need: &mut [u32], owners: &[u32], from: u32, clock: &[u32], b: u3
     }
 }
 
-/// Raises the numbers of the sessions to those of writers, other than `a`, that the clock reaches.
-fn lift_writers(need: &mut [u32], owners: &[u32], from: u32, clock: &[u32], writers: &[u32], a: u32)
+/// The same, of each writer in turn.
+fn lift_each(need: &mut [u32], owners: &[u32], from: u32, clock: &[u32], writers: &[u32], a: u32)
     requires same { length need.old ≡ length clock.now }
     requires inside { All (λ b. b < length owners.now) writers.now }
     ensures same { length need.new ≡ length need.old }
@@ -40,6 +46,105 @@ fn lift_writers(need: &mut [u32], owners: &[u32], from: u32, clock: &[u32], writ
 {
     for writer in writers {
         lift_writer(need, owners, from, clock, *writer, a);
+    }
+}
+
+/// How many of these, which rise, are no greater than `top`.
+fn count_up_to(numbers: &[u32], top: u32) -> usize
+    requires { IsNonDecreasing numbers.now }
+    ensures bound { result ≤ length numbers.now }
+    ensures point { IsPartitionPoint (λ b. nat_le b top ≡ true) (λ b. nat_le b top ≡ false) numbers.now result }
+{
+    numbers.partition_point(|number| *number <= top)
+}
+
+/// The last of these, which rise, that is no greater than `top`, or 0.
+fn last_up_to(numbers: &[u32], top: u32) -> u32
+    requires { IsNonDecreasing numbers.now }
+    ensures { IsLastUpTo numbers.now top result }
+{
+    let count = count_up_to(numbers, top);
+    if count == 0 {
+        return 0;
+    }
+    numbers[count - 1]
+}
+
+/// The same, of others than `a`.
+fn last_but(numbers: &[u32], top: u32, a: u32) -> u32
+    requires { IsNonDecreasing numbers.now }
+    ensures { IsLastBut numbers.now top a result }
+{
+    let last = last_up_to(numbers, top);
+    if last == a && a > 0 {
+        return last_up_to(numbers, a - 1);
+    }
+    last
+}
+
+/// The number of a session, raised to that of the last writer other than `a` that its clock reaches.
+fn lift_session(
+    owners: &[u32],
+    session: usize,
+    top: u32,
+    writers: &[u32],
+    a: u32,
+    number: u32,
+) -> u32
+    requires ordered { AreOrdered owners.now }
+    requires rising { IsNonDecreasing writers.now }
+    requires inside { All (λ b. b < length owners.now) writers.now }
+    requires top { (top ≡ 0) ⊎ ((top < length owners.now) × (slice_index owners.now top ≡ session)) }
+    ensures { IsLifted owners.now session (top ∷ []) writers.now a 0 number result }
+{
+    if top <= number {
+        return number;
+    }
+    let last = last_but(writers, top, a);
+    if last > number && owners[last as usize] as usize == session {
+        return last;
+    }
+    number
+}
+
+/// Raises the number of each session to that of the last writer, other than `a`, that the clock reaches.
+fn lift_sessions(
+    need: &mut [u32],
+    owners: &[u32],
+    from: u32,
+    clock: &[u32],
+    writers: &[u32],
+    a: u32,
+)
+    requires same { length need.old ≡ length clock.now }
+    requires ordered { AreOrdered owners.now }
+    requires rising { IsNonDecreasing writers.now }
+    requires inside { All (λ b. b < length owners.now) writers.now }
+    requires clock { IsClock owners.now from clock.now }
+    ensures same { length need.new ≡ length need.old }
+    ensures each { (k : ℕ) → k < length need.old → IsLifted owners.now from clock.now writers.now a k (slice_index need.old k) (slice_index need.new k) }
+{
+    for (column, number) in need.iter_mut().enumerate() {
+        let session = from as usize + column;
+        *number = lift_session(owners, session, clock[column], writers, a, *number);
+    }
+}
+
+/// Raises the numbers of the sessions to those of writers, other than `a`, that the clock reaches: writer by writer where they
+/// are few, and else session by session.
+fn lift_writers(need: &mut [u32], owners: &[u32], from: u32, clock: &[u32], writers: &[u32], a: u32)
+    requires same { length need.old ≡ length clock.now }
+    requires ordered { AreOrdered owners.now }
+    requires rising { IsNonDecreasing writers.now }
+    requires inside { All (λ b. b < length owners.now) writers.now }
+    requires clock { IsClock owners.now from clock.now }
+    ensures same { length need.new ≡ length need.old }
+    ensures each { (k : ℕ) → k < length need.old → IsLifted owners.now from clock.now writers.now a k (slice_index need.old k) (slice_index need.new k) }
+{
+    if writers.len() <= FEW {
+        lift_each(need, owners, from, clock, writers, a);
+    } else {
+        lift_sessions(need, owners, from, clock, writers, a);
     }
 }
 

@@ -10,6 +10,7 @@ use Rattle.tcc_order.specs.Latest.{IsOverwritten, IsLifted}
 use Rattle.tcc_order.specs.declared.latest.TheConstants.{WIDE}
 use Rattle.tcc_order.proofs.LatestLemmas.{latest_none}
 use Rattle.tcc_order.proofs.Needing.{overwritten_none, overwritten_next, overwritten_all}
+use Rattle.tcc_order.proofs.Rising.{owners_ordered, writers_rise, latest_clock}
 use Rattle.tcc_order.proofs.Readings.{IsTaken, reader_below}
 use Rattle.tcc_order.proofs.keeping.needed.Goals as goal
 
@@ -76,3 +77,21 @@ returns c =
     let readings = c.readings_at.ensures in
     overwritten_all c.args.graph.now c.args.a _ _ readings.long readings.each c.args.from c.loop-place.need c.loop-place.place
     (omega (arith, c.loop-place-test.false)) c.loop-place.invariant
+
+pub lift_writers-requires-clause-ordered : goal.lift_writers-requires-clause-ordered
+lift_writers-requires-clause-ordered c = owners_ordered c.args.graph.now c.requires.numbered c.args.owners.now c.requires.owners
+
+pub lift_writers-requires-clause-rising : goal.lift_writers-requires-clause-rising
+lift_writers-requires-clause-rising c =
+    rw c.writers_at.ensures (writers_rise c.args.graph.now (key_at c.args.graph.now (get_or c.readings_at.result.1.now c.loop-place.place 0)))
+
+pub lift_writers-requires-clause-clock : goal.lift_writers-requires-clause-clock
+lift_writers-requires-clause-clock c =
+    let h = c.args.graph.now in
+    let readings = c.readings_at.ensures in
+    let reader : ℕ = get_or c.readings_at.result.0.now c.loop-place.place 0 in
+    let below = reader_below h c.args.a _ _ readings.long readings.each c.loop-place.place c.loop-place-test.true in
+    let row : c.values-clock.result.now ≡ row_of c.args.table.now reader
+    = c.values-clock.ensures
+    ∙ get_or_read c.args.table.now reader c.index-table-reader.result (omega (arith, below, c.requires.clocks.long)) c.index-table-reader.is [] in
+    rw row (latest_clock h c.args.owners.now c.requires.owners reader c.args.from (row_of c.args.table.now reader) (c.requires.clocks.each reader below below))

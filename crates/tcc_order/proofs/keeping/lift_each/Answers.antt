@@ -1,7 +1,7 @@
 use Rattle.std.proofs.Common.{◌∙◌, refl, slice_index, arith}
 use Rattle.std.proofs.lemmas.List.{take_all}
 use Rattle.tcc_order.proofs.Needing.{lifted_none, lifted_more}
-use Rattle.tcc_order.proofs.keeping.lift_writers.Goals as goal
+use Rattle.tcc_order.proofs.keeping.lift_each.Goals as goal
 
 pub loop-writer-init : goal.loop-writer-init
 loop-writer-init c =
