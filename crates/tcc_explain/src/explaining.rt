@@ -104,7 +104,7 @@ pub(crate) fn history_answer<G: Gate>(
     ensures { IfOk result (IsAnswerOf (record { history = graph.now; level = level })) }
 {
     order_or_cycle();
-    if let Some(order) = order(alloc, graph, level)? {
+    if let Some(order) = order(alloc, graph.large(), level)? {
         let sessions = graph.sessions().len() as u32;
         let clocks = clocks_at(alloc, graph, level, &order)?;
         let order = Numbers::new(order);

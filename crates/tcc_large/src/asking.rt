@@ -1,5 +1,5 @@
 //! What the graph says of any number: of one past the last, nothing.
-use tcc_graph::Graph;
+use tcc_graph::LargeGraph;
 use tcc_txn::Name;
 
 /// Of numbers that ascend, those from `low` to below `high`.
@@ -14,7 +14,7 @@ pub(crate) fn span(numbers: &[u32], low: u32, high: u32) -> &[u32] {
 }
 
 /// Who reads from a transaction, and beside each the place of the key.
-pub(crate) fn readings(graph: &Graph, source: u32) -> (&[u32], &[u32]) {
+pub(crate) fn readings(graph: &LargeGraph, source: u32) -> (&[u32], &[u32]) {
     if source < graph.count() {
         graph.readings_at(source)
     } else {
@@ -23,7 +23,7 @@ pub(crate) fn readings(graph: &Graph, source: u32) -> (&[u32], &[u32]) {
 }
 
 /// The places of the keys that a transaction reads, each with its source.
-pub(crate) fn reads(graph: &Graph, reader: u32) -> &[(u32, u32)] {
+pub(crate) fn reads(graph: &LargeGraph, reader: u32) -> &[(u32, u32)] {
     if reader < graph.count() {
         graph.reads_at(reader)
     } else {
@@ -32,7 +32,7 @@ pub(crate) fn reads(graph: &Graph, reader: u32) -> &[(u32, u32)] {
 }
 
 /// The places of the keys that a transaction writes.
-pub(crate) fn writes(graph: &Graph, writer: u32) -> &[u32] {
+pub(crate) fn writes(graph: &LargeGraph, writer: u32) -> &[u32] {
     if writer < graph.count() {
         graph.writes_at(writer)
     } else {
@@ -41,7 +41,7 @@ pub(crate) fn writes(graph: &Graph, writer: u32) -> &[u32] {
 }
 
 /// The keys that one transaction reads from another.
-pub(crate) fn reads_from(graph: &Graph, source: u32, reader: u32) -> &[Name] {
+pub(crate) fn reads_from(graph: &LargeGraph, source: u32, reader: u32) -> &[Name] {
     if source < graph.count() && reader < graph.count() {
         graph.reads_from(source, reader)
     } else {
@@ -50,7 +50,7 @@ pub(crate) fn reads_from(graph: &Graph, source: u32, reader: u32) -> &[Name] {
 }
 
 /// Who writes the key at a place.
-pub(crate) fn writers(graph: &Graph, place: u32) -> &[u32] {
+pub(crate) fn writers(graph: &LargeGraph, place: u32) -> &[u32] {
     if (place as usize) < graph.keys().len() {
         graph.writers_at(place)
     } else {
@@ -59,11 +59,11 @@ pub(crate) fn writers(graph: &Graph, place: u32) -> &[u32] {
 }
 
 /// The key at a place.
-pub(crate) fn key(graph: &Graph, place: u32) -> Option<Name> {
+pub(crate) fn key(graph: &LargeGraph, place: u32) -> Option<Name> {
     graph.keys().get(place as usize).copied()
 }
 
 /// Whether one transaction stands before the other in session order.
-pub(crate) fn session(graph: &Graph, from: u32, to: u32) -> bool {
+pub(crate) fn session(graph: &LargeGraph, from: u32, to: u32) -> bool {
     from < graph.count() && to < graph.count() && graph.session(from, to)
 }

@@ -5,7 +5,7 @@ ghost use Rattle.tcc_large.specs.declared.clocks.TheConstants.{WIDTH};
 use crate::asking::reads;
 use crate::sessions::Sessions;
 use std::alloc::Global;
-use tcc_graph::Graph;
+use tcc_graph::LargeGraph;
 use tcc_txn::NoMemory;
 
 /// How many sessions a block has.
@@ -33,7 +33,7 @@ impl Clocks {
     /// counts as known to itself.
     pub(crate) fn of(
         alloc: Global,
-        graph: &Graph,
+        graph: &LargeGraph,
         sessions: &Sessions,
         order: &[u32],
         first: u32,
@@ -50,7 +50,7 @@ impl Clocks {
     }
 
     /// The clock of a transaction by those of the one before it in its session and of its sources.
-    fn next(&self, graph: &Graph, sessions: &Sessions, number: u32) -> Clock {
+    fn next(&self, graph: &LargeGraph, sessions: &Sessions, number: u32) -> Clock {
         let mut clock = [0; WIDTH];
         if let Some(previous) = sessions.previous(number) {
             raise(&mut clock, &self.get(previous));

@@ -6,13 +6,13 @@ use crate::decision::Decision;
 use crate::finding::found_cycle;
 use crate::judging::is_cycle;
 use std::alloc::Global;
-use tcc_graph::{Graph, Level};
+use tcc_graph::{LargeGraph, Level};
 use tcc_order::order;
 use tcc_txn::NoMemory;
 
 /// The first commit order of a history at a level; or the links of a cycle, not always of a least one, each of which was
 /// judged; or, where none was found, that there is one.
-pub fn decide(alloc: Global, graph: &Graph, level: Level) -> Result<Decision, NoMemory>
+pub fn decide(alloc: Global, graph: &LargeGraph, level: Level) -> Result<Decision, NoMemory>
     ensures { IfOk result (IsDecision (record { history = graph.now; level = level })) }
 {
     if let Some(order) = order(alloc, graph, level)? {

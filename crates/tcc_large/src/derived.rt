@@ -3,7 +3,7 @@ use crate::asking::{readings, reads, span, writers, writes};
 use crate::clocks::{Clock, Clocks, WIDTH, raise};
 use crate::sessions::Sessions;
 use std::alloc::{AllocError, Global};
-use tcc_graph::{Graph, Level};
+use tcc_graph::{LargeGraph, Level};
 use tcc_txn::NoMemory;
 
 /// Derived links, by their ends, and the places of keys by which one leads to `init`.
@@ -16,7 +16,7 @@ pub(crate) struct Derived {
 /// The keys that are read from a transaction, by place, each with a reader.
 pub(crate) fn readers_by_key(
     alloc: Global,
-    graph: &Graph,
+    graph: &LargeGraph,
     source: u32,
 ) -> Result<Vec<(u32, u32)>, AllocError> {
     let (readers, places) = readings(graph, source);
@@ -44,7 +44,7 @@ impl Derived {
     /// Those of a history at a level; an order in which all pairs lead onward is given.
     pub(crate) fn of(
         alloc: Global,
-        graph: &Graph,
+        graph: &LargeGraph,
         sessions: &Sessions,
         order: &[u32],
         level: Level,
@@ -72,7 +72,7 @@ impl Derived {
     }
 
     /// Adds the links by walks of one step.
-    fn add_steps(&mut self, graph: &Graph, sessions: &Sessions) -> Result<(), AllocError> {
+    fn add_steps(&mut self, graph: &LargeGraph, sessions: &Sessions) -> Result<(), AllocError> {
         for reader in 1..graph.count() {
             let first = sessions.first(sessions.owner(reader));
             let read = reads(graph, reader);
@@ -91,7 +91,7 @@ impl Derived {
     /// Adds the links from the sources of a reader that write the key that it reads from another.
     fn add_sources(
         &mut self,
-        graph: &Graph,
+        graph: &LargeGraph,
         read: &[(u32, u32)],
         source: u32,
         place: u32,
@@ -108,7 +108,7 @@ impl Derived {
     fn add_blocks(
         &mut self,
         alloc: Global,
-        graph: &Graph,
+        graph: &LargeGraph,
         sessions: &Sessions,
         order: &[u32],
     ) -> Result<(), NoMemory> {
@@ -128,7 +128,7 @@ impl Derived {
     fn add_block(
         &mut self,
         alloc: Global,
-        graph: &Graph,
+        graph: &LargeGraph,
         sessions: &Sessions,
         clocks: &Clocks,
         source: u32,
@@ -152,7 +152,7 @@ impl Derived {
     /// Adds the links from the last writers of a key that its readers know of, unless the source knows of them itself.
     fn add_last(
         &mut self,
-        graph: &Graph,
+        graph: &LargeGraph,
         sessions: &Sessions,
         clocks: &Clocks,
         source: u32,

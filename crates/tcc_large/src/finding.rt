@@ -5,13 +5,13 @@ use crate::linking::Linker;
 use crate::placing::Relation;
 use crate::sessions::Sessions;
 use std::alloc::{AllocError, Global};
-use tcc_graph::{Graph, Level, Link};
+use tcc_graph::{LargeGraph, Level, Link};
 use tcc_txn::NoMemory;
 
 /// The readers of the key at a place from `init`, each with the place, by number.
 fn initial_readers(
     alloc: Global,
-    graph: &Graph,
+    graph: &LargeGraph,
     place: u32,
 ) -> Result<Vec<(u32, u32)>, AllocError> {
     let mut found = Vec::new(alloc);
@@ -26,7 +26,7 @@ fn initial_readers(
 /// A cycle through `init` by the key at a place.
 fn through_init(
     alloc: Global,
-    graph: &Graph,
+    graph: &LargeGraph,
     sessions: &Sessions,
     linker: &mut Linker,
     place: u32,
@@ -48,7 +48,7 @@ fn through_init(
 /// The links of a cycle of a history at a level, not always of a least one; none where none was found.
 pub(crate) fn found_cycle(
     alloc: Global,
-    graph: &Graph,
+    graph: &LargeGraph,
     level: Level,
 ) -> Result<Option<Vec<Link>>, NoMemory> {
     let sessions = Sessions::of(alloc, graph)?;

@@ -4,7 +4,7 @@ ghost use Rattle.tcc_graph.specs.Links.{link_from, link_to};
 ghost use Rattle.tcc_graph.specs.Routes.{LinksLead};
 ghost use Rattle.tcc_large.specs.Cycles.{AreCycle};
 
-use tcc_graph::{Graph, Level, Link};
+use tcc_graph::{LargeGraph, Level, Link};
 
 /// Where a link starts.
 pub(crate) fn from(link: &Link) -> u32
@@ -29,7 +29,7 @@ fn to(link: &Link) -> u32
 }
 
 /// Whether the links, each one of the history at the level, lead from one transaction to the other.
-fn lead(graph: &Graph, level: Level, start: u32, end: u32, links: &[Link]) -> bool
+fn lead(graph: &LargeGraph, level: Level, start: u32, end: u32, links: &[Link]) -> bool
     ensures { IsTrue result ↔ LinksLead (record { history = graph.now; level = level }) start end links.now }
 {
     let mut at = start;
@@ -44,7 +44,7 @@ fn lead(graph: &Graph, level: Level, start: u32, end: u32, links: &[Link]) -> bo
 
 /// Whether the links are a cycle of the history at the level: each of them is a link with its reason, each begins where the
 /// one before it ends, and the last ends where the first begins.
-pub fn is_cycle(graph: &Graph, level: Level, links: &[Link]) -> bool
+pub fn is_cycle(graph: &LargeGraph, level: Level, links: &[Link]) -> bool
     ensures { IsTrue result ↔ AreCycle (record { history = graph.now; level = level }) links.now }
 {
     match links.first() {

@@ -3,7 +3,7 @@ use crate::asking::{key, readings, reads_from, session, writes};
 use crate::sessions::Sessions;
 use crate::walking::Backwards;
 use std::alloc::{AllocError, Global};
-use tcc_graph::{Graph, Level, Link, Step, Walk};
+use tcc_graph::{LargeGraph, Level, Link, Step, Walk};
 use tcc_txn::NoMemory;
 
 /// Finds the link between two transactions.
@@ -22,7 +22,7 @@ fn following(circle: &[u32], place: usize) -> Option<u32> {
 }
 
 /// The circle without those between two others of their session.
-fn without_runs(alloc: Global, graph: &Graph, circle: &[u32]) -> Result<Vec<u32>, AllocError> {
+fn without_runs(alloc: Global, graph: &LargeGraph, circle: &[u32]) -> Result<Vec<u32>, AllocError> {
     let mut kept = Vec::new(alloc);
     let mut before = circle.last().copied().unwrap_or(0);
     for (place, number) in circle.iter().enumerate() {
@@ -38,7 +38,7 @@ fn without_runs(alloc: Global, graph: &Graph, circle: &[u32]) -> Result<Vec<u32>
 /// The readers of a transaction's keys that the other writes too, each with the place of the key, by number.
 fn contradicted(
     alloc: Global,
-    graph: &Graph,
+    graph: &LargeGraph,
     from: u32,
     to: u32,
 ) -> Result<Vec<(u32, u32)>, AllocError> {
@@ -56,7 +56,7 @@ fn contradicted(
 }
 
 /// A walk of one step.
-fn one_step(alloc: Global, graph: &Graph, from: u32, to: u32) -> Result<Option<Walk>, AllocError> {
+fn one_step(alloc: Global, graph: &LargeGraph, from: u32, to: u32) -> Result<Option<Walk>, AllocError> {
     let step = if session(graph, from, to) {
         Step::Session { from, to }
     } else if let Some(key) = reads_from(graph, from, to).first() {
@@ -75,7 +75,7 @@ fn one_step(alloc: Global, graph: &Graph, from: u32, to: u32) -> Result<Option<W
 
 impl Linker {
     /// For a history at a level.
-    pub(crate) fn new(alloc: Global, graph: &Graph, level: Level) -> Result<Linker, NoMemory> {
+    pub(crate) fn new(alloc: Global, graph: &LargeGraph, level: Level) -> Result<Linker, NoMemory> {
         let backwards = Backwards::new(alloc, graph)?;
         Ok(Linker { level, backwards })
     }
@@ -84,7 +84,7 @@ impl Linker {
     fn walk(
         &mut self,
         alloc: Global,
-        graph: &Graph,
+        graph: &LargeGraph,
         sessions: &Sessions,
         wanted: &[u32],
         readers: &[(u32, u32)],
@@ -111,7 +111,7 @@ impl Linker {
     pub(crate) fn derived(
         &mut self,
         alloc: Global,
-        graph: &Graph,
+        graph: &LargeGraph,
         sessions: &Sessions,
         wanted: &[u32],
         to: u32,
@@ -145,7 +145,7 @@ impl Linker {
     fn link(
         &mut self,
         alloc: Global,
-        graph: &Graph,
+        graph: &LargeGraph,
         sessions: &Sessions,
         from: u32,
         to: u32,
@@ -168,7 +168,7 @@ impl Linker {
     pub(crate) fn links(
         &mut self,
         alloc: Global,
-        graph: &Graph,
+        graph: &LargeGraph,
         sessions: &Sessions,
         circle: &[u32],
     ) -> Result<Option<Vec<Link>>, NoMemory> {

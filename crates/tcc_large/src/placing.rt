@@ -3,7 +3,7 @@ use crate::asking::{readings, reads};
 use crate::cells::Cells;
 use crate::sessions::Sessions;
 use std::alloc::{AllocError, Global};
-use tcc_graph::Graph;
+use tcc_graph::LargeGraph;
 use tcc_txn::NoMemory;
 
 /// The pairs of a history, and further links, by their ends.
@@ -42,7 +42,7 @@ impl Relation {
     fn waiting(
         &self,
         alloc: Global,
-        graph: &Graph,
+        graph: &LargeGraph,
         sessions: &Sessions,
     ) -> Result<Cells, NoMemory> {
         let mut waiting = Cells::new(alloc, graph.count() as usize, 0)?;
@@ -65,7 +65,7 @@ impl Relation {
     pub(crate) fn order(
         &self,
         alloc: Global,
-        graph: &Graph,
+        graph: &LargeGraph,
         sessions: &Sessions,
     ) -> Result<Vec<u32>, NoMemory> {
         let mut waiting = self.waiting(alloc, graph, sessions)?;
@@ -93,7 +93,7 @@ impl Relation {
     }
 
     /// One from which a pair or link leads to this transaction, of those that are left.
-    fn before(&self, graph: &Graph, sessions: &Sessions, left: &Cells, number: u32) -> Option<u32> {
+    fn before(&self, graph: &LargeGraph, sessions: &Sessions, left: &Cells, number: u32) -> Option<u32> {
         for (_key, source) in reads(graph, number) {
             if left.get(*source) != 0 {
                 return Some(*source);
@@ -117,7 +117,7 @@ impl Relation {
     pub(crate) fn circle(
         &self,
         alloc: Global,
-        graph: &Graph,
+        graph: &LargeGraph,
         sessions: &Sessions,
         order: &[u32],
     ) -> Result<Option<Vec<u32>>, NoMemory> {
@@ -143,7 +143,7 @@ impl Relation {
 }
 
 /// Marks by 1 the transactions but `init` that the order leaves out.
-fn left_by(alloc: Global, graph: &Graph, order: &[u32]) -> Result<Cells, NoMemory> {
+fn left_by(alloc: Global, graph: &LargeGraph, order: &[u32]) -> Result<Cells, NoMemory> {
     let mut left = Cells::new(alloc, graph.count() as usize, 1)?;
     left.set(0, 0);
     for number in order {

@@ -1,7 +1,7 @@
 //! Where the numbers of each session stand.
 use crate::cells::Cells;
 use std::alloc::Global;
-use tcc_graph::Graph;
+use tcc_graph::LargeGraph;
 use tcc_txn::NoMemory;
 
 /// The session of each number, and the numbers of each session.
@@ -14,7 +14,7 @@ pub(crate) struct Sessions {
 
 impl Sessions {
     /// Those of a graph.
-    pub(crate) fn of(alloc: Global, graph: &Graph) -> Result<Sessions, NoMemory> {
+    pub(crate) fn of(alloc: Global, graph: &LargeGraph) -> Result<Sessions, NoMemory> {
         let count = graph.sessions().len();
         let mut owners = Cells::new(alloc, graph.count() as usize, 0)?;
         let mut firsts = Cells::new(alloc, count, 0)?;

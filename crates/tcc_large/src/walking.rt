@@ -3,7 +3,7 @@ use crate::asking::{key, reads, span};
 use crate::cells::Cells;
 use crate::sessions::Sessions;
 use std::alloc::{AllocError, Global};
-use tcc_graph::{Graph, Step};
+use tcc_graph::{LargeGraph, Step};
 use tcc_txn::NoMemory;
 
 /// By a session pair, where other steps have the place of a key.
@@ -24,7 +24,7 @@ pub(crate) struct Backwards {
 
 impl Backwards {
     /// Before the first search.
-    pub(crate) fn new(alloc: Global, graph: &Graph) -> Result<Backwards, NoMemory> {
+    pub(crate) fn new(alloc: Global, graph: &LargeGraph) -> Result<Backwards, NoMemory> {
         let count = graph.count() as usize;
         let sessions = graph.sessions().len();
         Ok(Backwards {
@@ -42,7 +42,7 @@ impl Backwards {
     pub(crate) fn walk(
         &mut self,
         alloc: Global,
-        graph: &Graph,
+        graph: &LargeGraph,
         sessions: &Sessions,
         wanted: &[u32],
         ends: &[u32],
@@ -77,7 +77,7 @@ impl Backwards {
     /// Looks at all that lead to a transaction by one step: a wanted one and the step, or else they are taken in.
     fn search(
         &mut self,
-        graph: &Graph,
+        graph: &LargeGraph,
         sessions: &Sessions,
         wanted: &[u32],
         number: u32,
@@ -113,7 +113,7 @@ impl Backwards {
     fn steps(
         &self,
         alloc: Global,
-        graph: &Graph,
+        graph: &LargeGraph,
         start: u32,
         number: u32,
         by: u32,
@@ -136,7 +136,7 @@ impl Backwards {
 }
 
 /// A step by a session pair, or by the key at a place.
-fn step(graph: &Graph, from: u32, to: u32, by: u32) -> Step {
+fn step(graph: &LargeGraph, from: u32, to: u32, by: u32) -> Step {
     match key(graph, by) {
         Some(key) => Step::Reads { from, to, key },
         None => Step::Session { from, to },

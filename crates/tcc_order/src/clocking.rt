@@ -9,7 +9,7 @@ ghost use Rattle.tcc_order.specs.Lasts.{AreLastsOf, IsBefore, IsUpTo, raised};
 
 use crate::parents::parents_of;
 use std::alloc::{AllocError, Global};
-use tcc_graph::Graph;
+use tcc_graph::LargeGraph;
 use tcc_near::Row;
 use tcc_txn::NoMemory;
 
@@ -36,7 +36,7 @@ pub(crate) fn raise_each(row: &mut [u32], other: &[u32])
 }
 
 /// Raises the place of a transaction's session to its own.
-fn raise_one(row: &mut [u32], graph: &Graph, p: u32)
+fn raise_one(row: &mut [u32], graph: &LargeGraph, p: u32)
     requires { p < count graph.now }
     ensures same { length row.new ≡ length row.old }
     ensures each { (s : ℕ) → s < length row.old → slice_index row.new s ≡ raised graph.now p s (slice_index row.old s) }
@@ -52,7 +52,7 @@ fn raise_one(row: &mut [u32], graph: &Graph, p: u32)
 /// The last place in each session of these transactions and of what reaches them, by the rows of what does.
 fn clock_row(
     alloc: Global,
-    graph: &Graph,
+    graph: &LargeGraph,
     table: &[Row<u32>],
     numbers: &[u32],
 ) -> Result<Row<u32>, AllocError>
@@ -71,7 +71,7 @@ fn clock_row(
 
 /// Of each transaction and each session, the greatest place of a transaction of the session from which it is reached, 0
 /// for none; by a commit order.
-pub fn clocks(alloc: Global, graph: &Graph, order: &[u32]) -> Result<Vec<Row<u32>>, NoMemory>
+pub fn clocks(alloc: Global, graph: &LargeGraph, order: &[u32]) -> Result<Vec<Row<u32>>, NoMemory>
     requires { IsCommitOrder (causally graph.now) order.now }
     ensures { IfOk result (λ rows. IsClocksOf graph.now rows.items) }
 {

@@ -14,7 +14,7 @@ ghost use Rattle.std.specs.Prelude.{nat_le, true, false, ◌∷◌, []};
 
 use crate::latest::{WIDE, clocks_of, owners};
 use std::alloc::Global;
-use tcc_graph::Graph;
+use tcc_graph::LargeGraph;
 use tcc_near::Row;
 use tcc_txn::NoMemory;
 
@@ -150,7 +150,7 @@ fn lift_writers(need: &mut [u32], owners: &[u32], from: u32, clock: &[u32], writ
 
 /// Of each session of the block the last transaction that has to stand before `a`: that overwrote a value of `a`, and
 /// reaches who read it.
-fn needed(need: &mut [u32], graph: &Graph, owners: &[u32], from: u32, table: &[Row<u32>], a: u32)
+fn needed(need: &mut [u32], graph: &LargeGraph, owners: &[u32], from: u32, table: &[Row<u32>], a: u32)
     requires wide { length need.old ≡ WIDE }
     requires numbered { IsBySession graph.now.entries }
     requires owners { AreOwners graph.now owners.now }
@@ -191,7 +191,7 @@ fn keep(kept: &mut Row<u32>, need: &[u32], clock: &[u32]) -> Result<(), NoMemory
 pub(crate) fn keep_block(
     alloc: Global,
     kept: &mut [Row<u32>],
-    graph: &Graph,
+    graph: &LargeGraph,
     owners: &[u32],
     from: u32,
     table: &[Row<u32>],
@@ -229,7 +229,7 @@ pub(crate) fn no_links(alloc: Global, count: u32) -> Result<Vec<Row<u32>>, NoMem
 /// The links at `Causal` that are kept, by an order in which causal pairs lead onward.
 pub(crate) fn causal_links(
     alloc: Global,
-    graph: &Graph,
+    graph: &LargeGraph,
     parents: &[u32],
     order: &[u32],
 ) -> Result<Vec<Row<u32>>, NoMemory>

@@ -11,14 +11,14 @@ ghost use Rattle.tcc_order.specs.declared.latest.TheConstants.{WIDE};
 use crate::clocking::{empty_rows, raise_each};
 use crate::parents::find_parents;
 use std::alloc::{AllocError, Global};
-use tcc_graph::Graph;
+use tcc_graph::LargeGraph;
 use tcc_near::Row;
 
 /// How many sessions are looked at together.
 pub(crate) const WIDE: usize = 64;
 
 /// The index of each transaction's session.
-pub(crate) fn owners(alloc: Global, graph: &Graph) -> Result<Vec<u32>, AllocError>
+pub(crate) fn owners(alloc: Global, graph: &LargeGraph) -> Result<Vec<u32>, AllocError>
     ensures { IfOk result (λ owners. AreOwners graph.now owners.items) }
 {
     let mut owners = Vec::new(alloc);
@@ -50,7 +50,7 @@ pub(crate) fn lift(row: &mut [u32], owners: &[u32], from: u32, p: u32)
 /// The greatest numbers of these transactions and of what reaches them, by the rows of what does.
 fn latest_row(
     row: &mut [u32],
-    graph: &Graph,
+    graph: &LargeGraph,
     owners: &[u32],
     from: u32,
     table: &[Row<u32>],
@@ -74,7 +74,7 @@ fn latest_row(
 /// order in which causal pairs lead onward.
 pub(crate) fn clocks_of(
     alloc: Global,
-    graph: &Graph,
+    graph: &LargeGraph,
     parents: &[u32],
     owners: &[u32],
     from: u32,

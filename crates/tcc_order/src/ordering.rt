@@ -13,14 +13,14 @@ use crate::parents::session_parents;
 use crate::placing::first_placing;
 use crate::stepping::atomic_links;
 use std::alloc::Global;
-use tcc_graph::{Graph, Level};
+use tcc_graph::{LargeGraph, Level};
 use tcc_near::Row;
 use tcc_txn::NoMemory;
 
 /// The links at `Causal` that are kept, by the first order of causal pairs alone; none where these stand in a circle.
 fn links_by_clocks(
     alloc: Global,
-    graph: &Graph,
+    graph: &LargeGraph,
     parents: &[u32],
 ) -> Result<Option<Vec<Row<u32>>>, NoMemory>
     requires numbered { IsBySession graph.now.entries }
@@ -37,7 +37,7 @@ fn links_by_clocks(
 /// The links at a level that are kept, or none where causal pairs alone stand in a circle.
 fn links_kept(
     alloc: Global,
-    graph: &Graph,
+    graph: &LargeGraph,
     level: Level,
     parents: &[u32],
 ) -> Result<Option<Vec<Row<u32>>>, NoMemory>
@@ -54,7 +54,7 @@ fn links_kept(
 }
 
 /// The first commit order of a history at a level, compared as lists of numbers; none exactly where there is a cycle.
-pub fn order(alloc: Global, graph: &Graph, level: Level) -> Result<Option<Vec<u32>>, NoMemory>
+pub fn order(alloc: Global, graph: &LargeGraph, level: Level) -> Result<Option<Vec<u32>>, NoMemory>
     ensures { IfOk result (λ found. MatchOption found
         (HasCycle (record { history = graph.now; level = level }))
         (λ order. IsFirstOrder (record { history = graph.now; level = level }) order.items)) }

@@ -4,10 +4,10 @@ ghost use Rattle.tcc_reads.specs.History.{count};
 ghost use Rattle.tcc_order.specs.Parents.{AreSessionParents, HasSourcesAt, session_parent, parents};
 
 use std::alloc::{AllocError, Global};
-use tcc_graph::Graph;
+use tcc_graph::LargeGraph;
 
 /// The transaction right before this one in its session, or else `init`.
-fn session_parent(graph: &Graph, c: u32) -> u32
+fn session_parent(graph: &LargeGraph, c: u32) -> u32
     requires some { 0 < c }
     requires below { c < count graph.now }
     ensures value { result ≡ session_parent graph.now c }
@@ -17,7 +17,7 @@ fn session_parent(graph: &Graph, c: u32) -> u32
 }
 
 /// The session parent of each transaction, 0 for `init`.
-pub(crate) fn session_parents(alloc: Global, graph: &Graph) -> Result<Vec<u32>, AllocError>
+pub(crate) fn session_parents(alloc: Global, graph: &LargeGraph) -> Result<Vec<u32>, AllocError>
     ensures { IfOk result (λ parents. AreSessionParents graph.now parents.items) }
 {
     let mut parents = Vec::new(alloc);
@@ -29,7 +29,7 @@ pub(crate) fn session_parents(alloc: Global, graph: &Graph) -> Result<Vec<u32>, 
 }
 
 /// The transactions right before this one: in its session, and what it reads from.
-pub(crate) fn parents_of(alloc: Global, graph: &Graph, c: u32) -> Result<Vec<u32>, AllocError>
+pub(crate) fn parents_of(alloc: Global, graph: &LargeGraph, c: u32) -> Result<Vec<u32>, AllocError>
     requires { c < count graph.now }
     ensures found { IfOk result (λ found. found.items ≡ parents graph.now c) }
     ensures sources { IfOk result (λ _found. HasSourcesAt graph.now c) }
@@ -47,7 +47,7 @@ pub(crate) fn parents_of(alloc: Global, graph: &Graph, c: u32) -> Result<Vec<u32
 /// The same, put into a list that is used again, by the session parent of each transaction.
 pub(crate) fn find_parents(
     found: &mut Vec<u32>,
-    graph: &Graph,
+    graph: &LargeGraph,
     parent_of: &[u32],
     c: u32,
 ) -> Result<(), AllocError>

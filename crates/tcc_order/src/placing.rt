@@ -8,7 +8,7 @@ ghost use Rattle.tcc_order.specs.Parents.{AreSessionParents};
 ghost use Rattle.tcc_order.specs.Held.{holds, AreInside, IsFreeBy, AreNoted, AreRoots, onward};
 
 use std::alloc::{AllocError, Global};
-use tcc_graph::Graph;
+use tcc_graph::LargeGraph;
 use tcc_near::Row;
 use tcc_near::bits::{is_marked, mark, words_for};
 use tcc_txn::NoMemory;
@@ -57,7 +57,7 @@ fn missing_parent(parents: &[u32], placed: &[u64], x: u32) -> Option<u32>
 }
 
 /// Of what holds a transaction back, one that was not placed.
-fn missing(graph: &Graph, parents: &[u32], kept: &[Row<u32>], placed: &[u64], x: u32) -> Option<u32>
+fn missing(graph: &LargeGraph, parents: &[u32], kept: &[Row<u32>], placed: &[u64], x: u32) -> Option<u32>
     requires below { x < count graph.now }
     requires parents { AreSessionParents graph.now parents.now }
     requires long { length kept.now ≡ count graph.now }
@@ -77,7 +77,7 @@ fn missing(graph: &Graph, parents: &[u32], kept: &[Row<u32>], placed: &[u64], x:
 
 /// The same, where one is known that held it back before.
 fn still_missing(
-    graph: &Graph,
+    graph: &LargeGraph,
     parents: &[u32],
     kept: &[Row<u32>],
     placed: &[u64],
@@ -102,7 +102,7 @@ fn still_missing(
 /// The place of the first head that may be placed next. Of each head one is noted that held it back when it was looked at
 /// last.
 fn first_free(
-    graph: &Graph,
+    graph: &LargeGraph,
     parents: &[u32],
     kept: &[Row<u32>],
     placed: &[u64],
@@ -168,7 +168,7 @@ fn roots(alloc: Global, parents: &[u32]) -> Result<Vec<u32>, AllocError>
 /// or none where these stand in a circle.
 pub(crate) fn first_placing(
     alloc: Global,
-    graph: &Graph,
+    graph: &LargeGraph,
     parents: &[u32],
     kept: &[Row<u32>],
 ) -> Result<Option<Vec<u32>>, NoMemory>

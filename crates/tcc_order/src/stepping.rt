@@ -12,7 +12,7 @@ use crate::keeping::no_links;
 use crate::latest::owners;
 use crate::parents::find_parents;
 use std::alloc::Global;
-use tcc_graph::Graph;
+use tcc_graph::LargeGraph;
 use tcc_near::Row;
 use tcc_txn::{Name, NoMemory};
 
@@ -43,7 +43,7 @@ fn last_writer(owners: &[u32], writers: &[u32], c: u32, a: u32) -> u32
 }
 
 /// Whether a committed transaction other than `a` writes the key.
-fn is_other(graph: &Graph, b: u32, key: &Name, a: u32) -> bool
+fn is_other(graph: &LargeGraph, b: u32, key: &Name, a: u32) -> bool
     requires { b < count graph.now }
     ensures { IsTrue result ↔ IsOther graph.now key.now a b }
 {
@@ -53,7 +53,7 @@ fn is_other(graph: &Graph, b: u32, key: &Name, a: u32) -> bool
 /// Keeps those of these transactions that write the key, other than `a`.
 fn keep_others(
     kept: &mut Row<u32>,
-    graph: &Graph,
+    graph: &LargeGraph,
     numbers: &[u32],
     key: &Name,
     a: u32,
@@ -73,7 +73,7 @@ fn keep_others(
 /// Keeps of a read the links into what it reads.
 fn keep_read(
     kept: &mut Row<u32>,
-    graph: &Graph,
+    graph: &LargeGraph,
     owners: &[u32],
     numbers: &[u32],
     c: u32,
@@ -99,7 +99,7 @@ fn keep_read(
 /// Keeps of each read of a transaction the links into what it reads.
 fn keep_reads(
     kept: &mut [Row<u32>],
-    graph: &Graph,
+    graph: &LargeGraph,
     owners: &[u32],
     numbers: &[u32],
     c: u32,
@@ -123,7 +123,7 @@ fn keep_reads(
 /// The links at `Atomic` that are kept.
 pub(crate) fn atomic_links(
     alloc: Global,
-    graph: &Graph,
+    graph: &LargeGraph,
     parents: &[u32],
 ) -> Result<Vec<Row<u32>>, NoMemory>
     requires numbered { IsBySession graph.now.entries }

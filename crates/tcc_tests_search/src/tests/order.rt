@@ -14,7 +14,7 @@ fn assert_order(
     wanted: Option<&[u32]>,
 ) {
     let graph = graph_of(rt, alloc, records);
-    let Ok(found) = order(alloc, &graph, level) else {
+    let Ok(found) = order(alloc, graph.large(), level) else {
         panic!(rt; "no memory");
     };
     match found {
