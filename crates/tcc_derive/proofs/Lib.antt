@@ -5,12 +5,14 @@ pub mod ChoiceLemmas
 pub mod ClassLemmas
 pub mod CostLemmas
 pub mod KeyLemmas
+pub mod LevelLemmas
 pub mod LinksOnLemmas
 pub mod LoweringLemmas
 pub mod OthersLemmas
 pub mod PriceLemmas
 pub mod PricesLemmas
 pub mod ReasonLemmas
+pub mod SourceLemmas
 pub mod StepLemmas
 pub mod TableLemmas
 pub mod Worked

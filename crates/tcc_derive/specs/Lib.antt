@@ -15,3 +15,4 @@ pub mod KeyTables
 pub mod Others
 pub mod Lowering
 pub mod Choices
+pub mod Sources
