@@ -150,7 +150,14 @@ fn lift_writers(need: &mut [u32], owners: &[u32], from: u32, clock: &[u32], writ
 
 /// Of each session of the block the last transaction that has to stand before `a`: that overwrote a value of `a`, and
 /// reaches who read it.
-fn needed(need: &mut [u32], graph: &LargeGraph, owners: &[u32], from: u32, table: &[Row<u32>], a: u32)
+fn needed(
+    need: &mut [u32],
+    graph: &LargeGraph,
+    owners: &[u32],
+    from: u32,
+    table: &[Row<u32>],
+    a: u32,
+)
     requires wide { length need.old ≡ WIDE }
     requires numbered { IsBySession graph.now.entries }
     requires owners { AreOwners graph.now owners.now }

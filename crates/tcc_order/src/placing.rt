@@ -57,7 +57,13 @@ fn missing_parent(parents: &[u32], placed: &[u64], x: u32) -> Option<u32>
 }
 
 /// Of what holds a transaction back, one that was not placed.
-fn missing(graph: &LargeGraph, parents: &[u32], kept: &[Row<u32>], placed: &[u64], x: u32) -> Option<u32>
+fn missing(
+    graph: &LargeGraph,
+    parents: &[u32],
+    kept: &[Row<u32>],
+    placed: &[u64],
+    x: u32,
+) -> Option<u32>
     requires below { x < count graph.now }
     requires parents { AreSessionParents graph.now parents.now }
     requires long { length kept.now ≡ count graph.now }
