@@ -1,3 +1,4 @@
 -- What contracts of public calls cite:
 pub mod Cycles
 pub mod Decisions
+pub mod Slices

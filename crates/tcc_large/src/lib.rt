@@ -5,16 +5,22 @@
 mod asking;
 mod cells;
 mod clocks;
+mod cutting;
 mod deciding;
 mod decision;
 mod derived;
 mod finding;
 mod judging;
 mod linking;
+mod needs;
 mod placing;
 mod sessions;
+mod slicing;
+mod texts;
 mod walking;
 
 pub use deciding::decide;
 pub use decision::Decision;
 pub use judging::is_cycle;
+pub use slicing::slice;
+pub use texts::records;
