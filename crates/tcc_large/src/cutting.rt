@@ -1,13 +1,13 @@
 //! A cut of a snapshot: of some transactions the operations that are needed.
 use crate::needs::{Need, Needs};
 use std::alloc::Global;
-use tcc_graph::Graph;
+use tcc_graph::LargeGraph;
 use tcc_txn::{Name, NoMemory, Op, Txn};
 
 /// A snapshot's transactions by number.
 #[derive(Clone, Copy)]
 pub(crate) struct Whole<'a> {
-    graph: &'a Graph,
+    graph: &'a LargeGraph,
     parts: &'a [(Name, Vec<Txn>)],
 }
 
@@ -35,7 +35,7 @@ fn writes(ops: &[Op], key: Name) -> bool {
 
 impl<'a> Whole<'a> {
     /// Those of a snapshot with this graph.
-    pub(crate) fn new(graph: &'a Graph, parts: &'a [(Name, Vec<Txn>)]) -> Whole<'a> {
+    pub(crate) fn new(graph: &'a LargeGraph, parts: &'a [(Name, Vec<Txn>)]) -> Whole<'a> {
         Whole { graph, parts }
     }
 

@@ -2,6 +2,7 @@
 //! cycle is found is trusted by nobody: only what the judge passes goes out.
 #![tactic(auto)]
 
+mod answer;
 mod asking;
 mod cells;
 mod clocks;
@@ -9,6 +10,7 @@ mod cutting;
 mod deciding;
 mod decision;
 mod derived;
+mod explaining;
 mod finding;
 mod judging;
 mod linking;
@@ -19,8 +21,10 @@ mod slicing;
 mod texts;
 mod walking;
 
+pub use answer::LargeAnswer;
 pub use deciding::decide;
 pub use decision::Decision;
+pub use explaining::explain_large;
 pub use judging::is_cycle;
 pub use slicing::slice;
 pub use texts::records;

@@ -56,7 +56,12 @@ fn contradicted(
 }
 
 /// A walk of one step.
-fn one_step(alloc: Global, graph: &LargeGraph, from: u32, to: u32) -> Result<Option<Walk>, AllocError> {
+fn one_step(
+    alloc: Global,
+    graph: &LargeGraph,
+    from: u32,
+    to: u32,
+) -> Result<Option<Walk>, AllocError> {
     let step = if session(graph, from, to) {
         Step::Session { from, to }
     } else if let Some(key) = reads_from(graph, from, to).first() {

@@ -93,7 +93,13 @@ impl Relation {
     }
 
     /// One from which a pair or link leads to this transaction, of those that are left.
-    fn before(&self, graph: &LargeGraph, sessions: &Sessions, left: &Cells, number: u32) -> Option<u32> {
+    fn before(
+        &self,
+        graph: &LargeGraph,
+        sessions: &Sessions,
+        left: &Cells,
+        number: u32,
+    ) -> Option<u32> {
         for (_key, source) in reads(graph, number) {
             if left.get(*source) != 0 {
                 return Some(*source);

@@ -6,7 +6,7 @@ use crate::cutting::Whole;
 use crate::judging::is_cycle;
 use crate::needs::Needs;
 use std::alloc::Global;
-use tcc_graph::{Graph, Level, Link, Step, Walk};
+use tcc_graph::{Graph, LargeGraph, Level, Link, Step, Walk};
 use tcc_reads::{ResolveFault, resolve};
 use tcc_txn::{LargeSnapshot, NoMemory, Snapshot};
 
@@ -87,7 +87,7 @@ fn has_cycle(
     for link in links {
         found.push(moved_link(alloc, numbers, link)?)?;
     }
-    Ok(is_cycle(&graph, level, &found))
+    Ok(is_cycle(graph.large(), level, &found))
 }
 
 /// The slice of a snapshot by the links of a cycle: of their transactions the operations that the links need, in the order of
@@ -96,7 +96,7 @@ fn has_cycle(
 pub fn slice(
     alloc: Global,
     snapshot: &LargeSnapshot,
-    graph: &Graph,
+    graph: &LargeGraph,
     level: Level,
     links: &[Link],
 ) -> Result<Option<Snapshot>, NoMemory>

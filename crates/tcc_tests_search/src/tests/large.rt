@@ -6,8 +6,9 @@ use crate::tests::histories::{
 use std::alloc::Global;
 use std::process::Abort;
 use tcc_graph::{Level, Link};
-use tcc_large::{Decision, decide, is_cycle, records, slice};
+use tcc_large::{Decision, decide, explain_large, is_cycle, records, slice};
 use tcc_order::order;
+use tcc_reads::ResolveFault;
 use tcc_txn::snapshot_of;
 
 /// A read of the initial value in one session, which knows of the writer in another by two sessions between.
@@ -105,13 +106,16 @@ fn judged(rt: HostRuntime) {
 /// The records of the slice of these records by the cycle that is found at `Causal`.
 fn assert_slice(rt: &impl Abort, alloc: Global, whole: &str, wanted: &str) {
     let graph = graph_of(rt, alloc, whole);
-    let Ok(Decision::Cycle(links)) = decide(alloc, &graph, Level::Causal) else {
+    let Ok(Decision::Cycle(links)) = decide(alloc, graph.large(), Level::Causal) else {
         panic!(rt; "no cycle of {whole}");
     };
     let snapshot = snapshot_of(alloc, whole.as_bytes())
         .expect(rt, whole)
         .large();
-    let found = slice(alloc, &snapshot, &graph, Level::Causal, &links).expect(rt, "no memory");
+    let found = slice(alloc, &snapshot, graph.large(), Level::Causal, &links).expect(
+        rt,
+        "no memory",
+    );
     let part = found.expect(rt, whole);
     let text = records(alloc, &part).expect(rt, "no memory");
     assert!(rt; text.as_slice() == wanted.as_bytes(), "of {whole}");
@@ -137,4 +141,26 @@ fn slices(rt: HostRuntime) {
         b,begin\nb,w,u,1\nb,commit\na,begin\na,r,y,1\na,r,x,0\na,r,u,1\na,commit\n",
         "a,begin\na,w,x,5\na,commit\na,begin\na,r,x,0\na,commit\n",
     );
+}
+
+/// A large snapshot is answered for with its graph, at the level that was asked for; or with its read faults.
+#[test]
+fn large_answers(rt: HostRuntime) {
+    let alloc = rt.alloc();
+    let chain = snapshot_of(alloc, CHAIN.as_bytes())
+        .expect(&rt, CHAIN)
+        .large();
+    let causal = explain_large(alloc, &chain, Level::Causal).expect(&rt, CHAIN);
+    assert!(&rt; causal.graph.count() == 5);
+    assert!(&rt; matches!(causal.decision, Decision::Cycle(_)));
+    let atomic = explain_large(alloc, &chain, Level::Atomic).expect(&rt, CHAIN);
+    assert!(&rt; matches!(atomic.decision, Decision::Order(_)));
+    let thin = "a,begin\na,r,x,1\na,commit\n";
+    let snapshot = snapshot_of(alloc, thin.as_bytes())
+        .expect(&rt, thin)
+        .large();
+    match explain_large(alloc, &snapshot, Level::Causal) {
+        Err(ResolveFault::Reads(faults)) => assert!(&rt; faults.len() == 1),
+        _ => panic!(&rt; "no faults of {thin}"),
+    }
 }
