@@ -2,19 +2,29 @@
 //! cycle is found is trusted by nobody: only what the judge passes goes out.
 #![tactic(auto)]
 
+mod answer;
 mod asking;
 mod cells;
 mod clocks;
+mod cutting;
 mod deciding;
 mod decision;
 mod derived;
+mod explaining;
 mod finding;
 mod judging;
 mod linking;
+mod needs;
 mod placing;
 mod sessions;
+mod slicing;
+mod texts;
 mod walking;
 
+pub use answer::LargeAnswer;
 pub use deciding::decide;
 pub use decision::Decision;
+pub use explaining::explain_large;
 pub use judging::is_cycle;
+pub use slicing::slice;
+pub use texts::records;

@@ -82,6 +82,9 @@ impl Backwards {
         wanted: &[u32],
         number: u32,
     ) -> Result<Option<(u32, u32)>, AllocError> {
+        if let Some(start) = self.search_session(sessions, wanted, number)? {
+            return Ok(Some((start, BY_SESSION)));
+        }
         for (place, source) in reads(graph, number) {
             if wanted.binary_search(source).is_ok() {
                 return Ok(Some((*source, *place)));
@@ -90,6 +93,16 @@ impl Backwards {
                 self.meet(*source, number, *place)?;
             }
         }
+        Ok(None)
+    }
+
+    /// The same of those before it in its session, as far as they weren't taken in for a later one.
+    fn search_session(
+        &mut self,
+        sessions: &Sessions,
+        wanted: &[u32],
+        number: u32,
+    ) -> Result<Option<u32>, AllocError> {
         let owner = sessions.owner(number);
         let mut low = sessions.first(owner);
         if self.covered_in.get(owner) == self.turn {
@@ -101,7 +114,7 @@ impl Backwards {
         self.covered_in.set(owner, self.turn);
         self.covered.set(owner, number);
         if let Some(start) = span(wanted, low, number).first() {
-            return Ok(Some((*start, BY_SESSION)));
+            return Ok(Some(*start));
         }
         for earlier in low..number {
             self.meet(earlier, number, BY_SESSION)?;

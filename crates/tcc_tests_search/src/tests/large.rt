@@ -6,8 +6,10 @@ use crate::tests::histories::{
 use std::alloc::Global;
 use std::process::Abort;
 use tcc_graph::{Level, Link};
-use tcc_large::{Decision, decide, is_cycle};
+use tcc_large::{Decision, decide, explain_large, is_cycle, records, slice};
 use tcc_order::order;
+use tcc_reads::ResolveFault;
+use tcc_txn::snapshot_of;
 
 /// A read of the initial value in one session, which knows of the writer in another by two sessions between.
 const FAR_INIT: &str = "a,begin\na,w,x,1\na,commit\na,begin\na,w,y,1\na,commit\n\
@@ -99,4 +101,66 @@ fn judged(rt: HostRuntime) {
     assert!(&rt; !is_cycle(graph.large(), Level::Causal, &links[1..]));
     let other = graph_of(&rt, alloc, CHAIN);
     assert!(&rt; !is_cycle(other.large(), Level::Causal, &links));
+}
+
+/// The records of the slice of these records by the cycle that is found at `Causal`.
+fn assert_slice(rt: &impl Abort, alloc: Global, whole: &str, wanted: &str) {
+    let graph = graph_of(rt, alloc, whole);
+    let Ok(Decision::Cycle(links)) = decide(alloc, graph.large(), Level::Causal) else {
+        panic!(rt; "no cycle of {whole}");
+    };
+    let snapshot = snapshot_of(alloc, whole.as_bytes())
+        .expect(rt, whole)
+        .large();
+    let found = slice(alloc, &snapshot, graph.large(), Level::Causal, &links).expect(
+        rt,
+        "no memory",
+    );
+    let part = found.expect(rt, whole);
+    let text = records(alloc, &part).expect(rt, "no memory");
+    assert!(rt; text.as_slice() == wanted.as_bytes(), "of {whole}");
+}
+
+/// A slice has the operations that the links need, in the order of the whole: of two writes of a key the visible one, of a
+/// read of an own write nothing, and no aborted transactions.
+#[test]
+fn slices(rt: HostRuntime) {
+    let alloc = rt.alloc();
+    assert_slice(&rt, alloc, STALE_READ, STALE_READ);
+    assert_slice(&rt, alloc, TWO_WRITERS, TWO_WRITERS);
+    assert_slice(
+        &rt,
+        alloc,
+        MUTUAL,
+        "a,begin\na,r,y,1\na,w,x,1\na,commit\nb,begin\nb,r,x,1\nb,w,y,1\nb,commit\n",
+    );
+    assert_slice(
+        &rt,
+        alloc,
+        "a,begin\na,w,v,8\na,abort\na,begin\na,r,u,0\na,w,x,4\na,w,y,1\na,w,x,5\na,r,x,5\na,commit\n\
+        b,begin\nb,w,u,1\nb,commit\na,begin\na,r,y,1\na,r,x,0\na,r,u,1\na,commit\n",
+        "a,begin\na,w,x,5\na,commit\na,begin\na,r,x,0\na,commit\n",
+    );
+}
+
+/// A large snapshot is answered for with its graph, at the level that was asked for; or with its read faults.
+#[test]
+fn large_answers(rt: HostRuntime) {
+    let alloc = rt.alloc();
+    let chain = snapshot_of(alloc, CHAIN.as_bytes())
+        .expect(&rt, CHAIN)
+        .large();
+    let causal = explain_large(alloc, &chain, Level::Causal).expect(&rt, CHAIN);
+    assert!(&rt; causal.graph.count() == 5);
+    assert!(&rt; matches!(causal.decision, Decision::Cycle(_)));
+    let atomic = explain_large(alloc, &chain, Level::Atomic).expect(&rt, CHAIN);
+    assert!(&rt; matches!(atomic.decision, Decision::Order(_)));
+    let thin = "a,begin\na,r,x,1\na,commit\n";
+    let snapshot = snapshot_of(alloc, thin.as_bytes())
+        .expect(&rt, thin)
+        .large();
+    match explain_large(alloc, &snapshot, Level::Causal) {
+        Err(ResolveFault::Reads(faults)) => assert!(&rt; faults.len() == 1),
+        _ => panic!(&rt; "no faults of {thin}"),
+    }
 }

@@ -15,6 +15,9 @@ loop-block-init c =
 pub keep_block-requires-clause-derived : goal.keep_block-requires-clause-derived
 keep_block-requires-clause-derived c = rw c.deref_mut.ensures.value c.loop-block.invariant.1
 
+pub keep_block-requires-clause-enough : goal.keep_block-requires-clause-enough
+keep_block-requires-clause-enough c = rw c.deref_mut.ensures.value c.loop-block.invariant.2
+
 pub loop-block-preserved : goal.loop-block-preserved
 loop-block-preserved c =
     let new = c.keep_block.new.kept in

@@ -1,0 +1,30 @@
+//! The answer for a large snapshot.
+ghost use Rattle.std.specs.Prelude.{MatchResult};
+ghost use Rattle.tcc_reads.specs.Refusals.{IsRefusal};
+ghost use Rattle.tcc_large.specs.Explained.{IsLargeAnswer};
+
+use crate::answer::LargeAnswer;
+use crate::deciding::decide;
+use std::alloc::Global;
+use tcc_graph::{LargeGraph, Level};
+use tcc_reads::{ResolveFault, resolve_large};
+use tcc_txn::LargeSnapshot;
+
+/// What is decided of the history of a large snapshot at a level: its first commit order; or the links of a cycle, not always of
+/// a least one; or, where none was found, that there is one. Or all its read faults, where there are some.
+pub fn explain_large(
+    alloc: Global,
+    snapshot: &LargeSnapshot,
+    level: Level,
+) -> Result<LargeAnswer, ResolveFault>
+    ensures { MatchResult result (IsLargeAnswer snapshot.now level) (IsRefusal snapshot.now) }
+{
+    let resolved = resolve_large(alloc, snapshot)?;
+    let Ok(graph) = LargeGraph::build(alloc, &resolved) else {
+        return Err(ResolveFault::NoMemory);
+    };
+    match decide(alloc, &graph, level) {
+        Ok(decision) => Ok(LargeAnswer { graph, decision }),
+        Err(_) => Err(ResolveFault::NoMemory),
+    }
+}
