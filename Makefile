@@ -2,21 +2,26 @@
 #               in a minute and a half on 4 processors
 # make build    proves what isn't proved yet and builds the program, crates/tcc/out/tcc
 # make install  the same, and copies it to PREFIX/bin (PREFIX=/usr/local), its man page and bash completion to PREFIX/share
+# make dist     builds it and packs it with man page, completion, recipes and what they need into out/tcc-VERSION-x86_64-linux.tar.gz,
+#               which runs wherever there is a C library of glibc 2.34 or later, as on Debian 12
 # make demo     records clients of a real Redis and shows both answers
+# make demo-postgres   the same with a real PostgreSQL, at two levels of isolation and at a replica
 # make test     the merge gate and all tests, which CONTRIBUTING.md lists; the last line is `N passed, M failed`
 #
 # The toolchain's `rt` has to be on the path, and Python 3; for `make test` a C compiler too, for `make demo` redis-server and
-# redis-py. Nothing has to be done before.
+# redis-py, for `make demo-postgres` PostgreSQL and psycopg2. Nothing has to be done before.
 
 PREFIX ?= /usr/local
 # So many processors are used to prove the program.
 JOBS ?= $(shell nproc)
 
+TCC = crates/tcc/out/tcc
+DIST = out
 HISTORY = ../../examples/long-fork.csv
 UNPROVED = the program is not built from these sources yet: this is a trial run of them (a minute and a half), of which \
 nothing is proved; make build proves and builds the program
 
-.PHONY: run build install demo test
+.PHONY: run build install dist pack demo demo-postgres test
 
 # A program that is older than a source is not run.
 run:
@@ -37,8 +42,25 @@ install: build
 	install -D -m 644 docs/tcc.1 '$(DESTDIR)$(PREFIX)/share/man/man1/tcc.1'
 	install -D -m 644 docs/tcc.bash '$(DESTDIR)$(PREFIX)/share/bash-completion/completions/tcc'
 
+dist: build pack
+
+# Packs what is built: the same bytes for the same files.
+PACKED = LICENSE-APACHE LICENSE-MIT README.md CHANGELOG.md docs/RECORDING.md docs/FORMATS.md docs/tcc.1 docs/tcc.bash \
+docs/stale-read.svg examples recipes
+pack:
+	@version=$$($(TCC) --version | cut -d' ' -f2) && name=tcc-$$version-x86_64-linux && folder=$$(mktemp -d) && \
+	mkdir -p $$folder/$$name/docs $(DIST) && \
+	install -m 755 $(TCC) $$folder/$$name/tcc && \
+	for one in $(PACKED); do cp -R $$one $$folder/$$name/$$one; done && \
+	find $$folder -name __pycache__ -prune -exec rm -r {} + && \
+	tar -C $$folder --sort=name --owner=0 --group=0 --numeric-owner --mtime=2000-01-01 -cf - $$name | gzip -n > $(DIST)/$$name.tar.gz && \
+	rm -r $$folder && echo $(DIST)/$$name.tar.gz
+
 demo:
 	@python3 recipes/redis/demo.py
+
+demo-postgres:
+	@python3 recipes/postgres/demo.py
 
 test:
 	@python3 tests/run.py

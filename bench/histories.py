@@ -1,10 +1,12 @@
 #!/usr/bin/env python3
 """Writes histories of several kinds and sizes into a folder, from fixed seeds.
 
-    histories.py FOLDER [--kinds KIND ..] [--sizes N ..] [--list]
+    histories.py FOLDER [--kinds KIND ..] [--sizes N ..]
+    histories.py --list
 
-Each is `KIND-N.csv`, with about N transactions. All of them resolve; what each of them is stands at its function.
-Without `--kinds` it writes all, and without `--sizes` those of 1,023 transactions.
+Each is `KIND-N.csv`, with about N transactions. All of them resolve; what each of them is stands at its function, and
+`--list` tells it. Without `--kinds` it writes all, and without `--sizes` those of 1,023 transactions. A folder that isn't there
+is made; it stands before the options, which take several words.
 """
 import argparse
 import pathlib
@@ -183,6 +185,36 @@ def ring_of_long_links(count, sessions=16):
     return records
 
 
+def wide(count):
+    """16 sessions, one key: each transaction reads the last 255 values of it, and writes the next. The least cycle costs 3."""
+    chosen, records = random.Random(14), []
+    for number in range(count):
+        reads = ["r,x,%d" % value for value in range(max(1, number - WIDE + 2), number + 1)]
+        records += transaction("s%02d" % chosen.randrange(16), *reads, "w,x,%d" % (number + 1))
+    return records
+
+
+def late(count):
+    """One session writes x again and again, and reads all values in its last transactions: nearly each two have a link. The
+    least cycle costs 3."""
+    reading = -(-count // WIDE)
+    records = [record for value in range(1, count - reading + 1) for record in transaction("a", "w,x,%d" % value)]
+    for first in range(1, count - reading + 1, WIDE):
+        values = range(first, min(first + WIDE, count - reading + 1))
+        records += transaction("a", *("r,x,%d" % value for value in values))
+    return records
+
+
+def lag(count, keys=8):
+    """One session, 8 keys: each transaction writes all of them, and reads values of up to some thousand transactions before.
+    The least cycle costs 3."""
+    chosen, records = random.Random(15), []
+    for number in range(1, count + 1):
+        reads = ["r,k%d,%d" % (key, chosen.randrange(max(0, number - 4000), number)) for key in range(keys)]
+        records += transaction("a", *reads, *("w,k%d,%d" % (key, number) for key in range(keys)))
+    return records
+
+
 def longest_chain(count):
     """One session: a write, transactions without operations, and a read that misses the write. The least cycle costs 3."""
     return transaction("a", "w,x,1") + transaction("a") * (count - 2) + transaction("a", "r,x,0")
@@ -191,7 +223,7 @@ def longest_chain(count):
 KINDS = {make.__name__.replace("_", "-"): make for make in (
     sessions_16, sessions_64, one_session, many_keys, few_keys, many_readers, stale_reads, stale_reads_of_few_keys,
     stale_reads_in_one_session, stale_reads_of_many_keys, many_ties, mutual_reads, torn_reads, long_walk,
-    ring_of_long_links, longest_chain)}
+    ring_of_long_links, wide, late, lag, longest_chain)}
 
 
 def text_of(kind, count):
@@ -210,6 +242,7 @@ def main():
         for kind in asked.kinds:
             print("%s: %s" % (kind, " ".join(KINDS[kind].__doc__.split())))
         return
+    asked.folder.mkdir(parents=True, exist_ok=True)
     for kind in asked.kinds:
         for count in asked.sizes:
             (asked.folder / ("%s-%d.csv" % (kind, count))).write_text(text_of(kind, count))

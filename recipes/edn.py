@@ -1,18 +1,21 @@
 #!/usr/bin/env python3
 """Turns values of EDN, such as the maps of Jepsen's history.edn, into lines of JSON, one a value.
 
-Keywords and symbols become texts without their colon, nil becomes null, vectors, lists and sets become arrays, and of a
-tagged value the tag is left out. A whole number stays one, whatever its size. A number with a point becomes JSON's, and a
-ratio, which JSON doesn't have, a text. Keys of a map that aren't texts become the text of their JSON.
+Where the whole input is one vector of maps, as some histories are, each map has a line. Keywords and symbols become texts
+without their colon, nil becomes null, vectors, lists and sets become arrays. A whole number stays one, whatever its size. A
+number with a point becomes JSON's, and a ratio, which JSON doesn't have, a text. Keys of a map that aren't texts become the
+text of their JSON. Of a tagged value the tag is left out, and of a value with metadata the metadata; standard error says so.
 
-Where the input is no EDN nothing is printed, but the line where that shows, and the status is 1.
+Where the input is no EDN, or has ##NaN, ##Inf or ##-Inf, which no JSON has, nothing is printed, but the line where that
+shows, and the status is 1.
 """
 import argparse
 import json
 import re
 import sys
-from dataclasses import dataclass
-from typing import Iterator, TextIO
+from collections import Counter
+from dataclasses import dataclass, field
+from typing import Iterator, List, TextIO
 
 EXAMPLE = """example:
   $ echo '{:type :ok, :process 3, :f :txn, :value [[:r :x nil] [:w :y 5]]}' | edn.py
@@ -20,7 +23,7 @@ EXAMPLE = """example:
 """
 # Between tokens: whitespace, commas, comments. A token: a text, a character, a mark, or a word.
 GAP = re.compile(r"(?:[\s,]|;[^\n]*)*")
-TOKEN = re.compile(r'"(?:[^"\\]|\\.)*"|\\(?:u[0-9a-fA-F]{4}|[a-z]+|.)|#_|#\{|#[A-Za-z][^\s,;"(){}\[\]\\]*|[(){}\[\]]'
+TOKEN = re.compile(r'"(?:[^"\\]|\\.)*"|\\(?:u[0-9a-fA-F]{4}|[a-z]+|.)|#_|#\{|\^|#[A-Za-z][^\s,;"(){}\[\]\\]*|[(){}\[\]]'
                    r"|[^\s,;\"(){}\[\]\\#]+[^\s,;\"(){}\[\]\\]*|\#\#(?:-?Inf|NaN)", re.DOTALL)
 CLOSING = {"(": ")", "[": "]", "{": "}", "#{": "}"}
 WORDS = {"nil": None, "true": True, "false": False}
@@ -40,6 +43,7 @@ class Reader:
 
     text: str
     at: int = 0
+    left_out: Counter = field(default_factory=Counter)
 
     def fails(self, why: str, at: int) -> NoEdn:
         return NoEdn("line %d: %s" % (self.text.count("\n", 0, at) + 1, why))
@@ -62,13 +66,19 @@ class Reader:
             if not token:
                 raise self.fails("what begins here has no end: %r is missing" % closing, opened)
             if token == "#_":
-                self.value(self.token())
+                self.discard()
             else:
                 yield self.value(token)
 
+    def discard(self) -> None:
+        """Goes past a value that is none of the input's."""
+        kept = self.left_out.copy()
+        self.value(self.token())
+        self.left_out = kept
+
     def value(self, token: str):
         while token == "#_":
-            self.value(self.token())
+            self.discard()
             token = self.token()
         if token in CLOSING:
             inner = list(self.values(CLOSING[token]))
@@ -79,9 +89,20 @@ class Reader:
             return self.string(token[1:-1])
         if token[0] == "\\":
             return character(token[1:])
-        if token[0] == "#" and token[1] != "#":
+        if token == "^":
+            return self.behind_metadata()
+        if token.startswith("##"):
+            raise self.fails("%s is no number of JSON" % token, self.at)
+        if token[0] == "#":
+            self.left_out["the tag %s" % token[1:]] += 1
             return self.value(self.token())
         return atom(token)
+
+    def behind_metadata(self):
+        """The value to which the metadata belongs that comes next."""
+        self.discard()
+        self.left_out["metadata"] += 1
+        return self.value(self.token())
 
     def map_of(self, inner: list) -> dict:
         if len(inner) % 2:
@@ -125,12 +146,21 @@ def arguments() -> argparse.Namespace:
     return ask.parse_args()
 
 
+def told_apart(values: List[object]) -> List[object]:
+    """The values; where there is one, and it is a vector of maps, those."""
+    if len(values) == 1 and isinstance(values[0], list) and all(isinstance(one, dict) for one in values[0]):
+        return values[0]
+    return values
+
+
 def run(asked: argparse.Namespace, out: TextIO) -> None:
     with open(asked.file, "rb") if asked.file else sys.stdin.buffer as file:
-        text = file.read().decode()
-    lines = [json.dumps(value, allow_nan=False) for value in Reader(text).values()]
+        reader = Reader(file.read().decode())
+    lines = [json.dumps(value, allow_nan=False) for value in told_apart(list(reader.values()))]
     out.writelines(line + "\n" for line in lines)
     out.flush()
+    for what, times in sorted(reader.left_out.items()):
+        print("edn.py: left out: %s (%d)" % (what, times), file=sys.stderr)
 
 
 def main() -> int:

@@ -1,9 +1,10 @@
 #!/usr/bin/env python3
 """Turns a history of transactions on registers, as Jepsen and Elle have it, into records for `tcc explain`.
 
-Each line of the input is one operation, a JSON object:
+Each line of the input is one operation, a JSON object, or the input is one array of them:
 
   {"type":"ok","process":3,"f":"txn","value":[["r","x",null],["w","y",5]]}
+  {"type":"ok","process":3,"f":"read","value":5}
 
   invoke  passed over, once its process has the line that says how it went
   ok      a transaction that committed; a nil that it read is the initial value 0
@@ -11,12 +12,17 @@ Each line of the input is one operation, a JSON object:
   info    its outcome is unknown: it committed where an `ok` read a value of it, else it counts as aborted;
           an invoke that nothing follows is the same
 
-What a `fail` or an `info` read is left out. A line whose process is no number and whose `f` isn't "txn" (those of the
-nemesis) is passed over. Keys that are names, and values that are whole numbers from 1, stand for themselves. Others get
-a name or a number that nothing else has; --table says into which file the list of these goes.
+What a `fail` or an `info` read is left out. A line whose process is no number and whose `f` is none of "txn", "read" and
+"write" (those of the nemesis) is passed over. Without an `f` an operation of a client is a "txn". A "read" or a "write" is of
+one register, the key `register`. Where keys are independent, a value is a pair [k, v]: then the key x of a "txn" is k.x, and
+that of a "read" or "write" is k.
 
-Standard output has the records, standard error what was left out. Where something can't be told, there are no records,
-but its line, and the status is 1.
+Keys that are names, and values that are whole numbers from 1, stand for themselves. Others get a name or a number that
+nothing else has; --table says into which file the list of these goes. --map says into which file goes, for each transaction
+of the records, the `index` of the operation that ended it, and its line.
+
+Standard output has the records, standard error what was left out, and before that where the records pass a limit of `tcc`.
+Where something can't be told, there are no records, but its line, and the status is 1.
 """
 import argparse
 import csv
@@ -26,7 +32,7 @@ import re
 import sys
 from collections import Counter
 from dataclasses import dataclass, field
-from typing import Dict, Iterable, Iterator, List, Optional, Set, TextIO, Tuple
+from typing import BinaryIO, Dict, Iterable, Iterator, List, Optional, Set, TextIO, Tuple
 
 EXAMPLE = """example: session p1 doesn't see its own write
   $ cat history.jsonl
@@ -42,8 +48,14 @@ EXAMPLE = """example: session p1 doesn't see its own write
     against init -> p1/2 by x
 """
 NAME = re.compile(r"[A-Za-z0-9_.-]{1,32}")
+GAP = re.compile(r"[\s,]*")
 GREATEST_VALUE = 2**64 - 1
 TYPES = ("invoke", "ok", "fail", "info")
+STEPS = {"read": "r", "write": "w"}  # what one operation of a register does
+REGISTER = "register"
+# What tcc explain takes at most, and what with --large.
+LIMITS = {"sessions": (64, 4096), "transactions": (4095, 1048575), "keys": (1024, 1048576),
+          "operations in a transaction": (256, 256)}
 HINTS = {"value": "; if keys have it before they are written, say so with --initial"}
 
 
@@ -75,6 +87,7 @@ class Operation:
     type: str
     process: str
     steps: Optional[Tuple[Step, ...]]
+    index: Optional[int] = None
 
 
 @dataclass(frozen=True)
@@ -85,6 +98,7 @@ class Transaction:
     process: str
     outcome: str
     steps: Tuple[Step, ...]
+    index: Optional[int] = None
 
     def writes(self) -> Tuple[Step, ...]:
         return written(self.steps)
@@ -104,31 +118,48 @@ def spelled(value) -> str:
     return json.dumps(value, sort_keys=True)
 
 
+def is_pair(value, is_second) -> bool:
+    """Whether a value is that of an independent key: the key, which is no list, and what is so."""
+    return isinstance(value, list) and len(value) == 2 and not isinstance(value[0], list) and is_second(value[1])
+
+
 def steps(line: int, value) -> Optional[Tuple[Step, ...]]:
     """The reads and writes that the value of a line lists, none where it is null."""
     if value is None:
         return None
+    if is_pair(value, lambda inner: inner is None or isinstance(inner, list)):
+        apart, inner = value
+        return None if inner is None else tuple(step(line, one, lambda key: [apart, key]) for one in inner)
     if not isinstance(value, list):
         raise Untold(line, "the value is no list of reads and writes")
-    return tuple(step(line, one) for one in value)
+    return tuple(step(line, one, lambda key: key) for one in value)
 
 
-def step(line: int, value) -> Step:
+def step(line: int, value, named) -> Step:
     if not isinstance(value, list) or len(value) != 3:
         raise Untold(line, "%s is no [does, key, value]" % spelled(value))
     does, key, what = value
     if does not in ("r", "w"):
         raise Untold(line, "%s is neither a read (\"r\") nor a write (\"w\") of a register" % spelled(does))
-    return Step(does == "w", spelled(key), spelled(what))
+    return Step(does == "w", spelled(named(key)), spelled(what))
+
+
+def one_step(does: str, value) -> Tuple[Step, ...]:
+    """What an operation on one register does."""
+    key, what = value if is_pair(value, lambda _: True) else (REGISTER, value)
+    return (Step(does == "w", spelled(key), spelled(what)),)
 
 
 def no_constant(word: str):
     raise ValueError("it has no %s" % word)
 
 
+DECODER = json.JSONDecoder(parse_constant=no_constant)
+
+
 def read_object(line: int, text: str) -> dict:
     try:
-        value = json.loads(text, parse_constant=no_constant)
+        value = DECODER.decode(text)
     except json.JSONDecodeError as error:
         raise Untold(line, "no JSON: %s at character %d" % (error.msg, error.pos + 1)) from error
     except (ValueError, RecursionError) as error:
@@ -138,20 +169,22 @@ def read_object(line: int, text: str) -> dict:
     return value
 
 
-def operation(line: int, text: str) -> Optional[Operation]:
-    """The line's operation, none where it isn't about a transaction."""
-    told = read_object(line, text)
-    process, does = told.get("process"), told.get("f")
+def operation(line: int, told: dict) -> Optional[Operation]:
+    """The operation that an object tells, none where it isn't about a transaction."""
+    process = told.get("process")
     is_number = isinstance(process, int) and not isinstance(process, bool)
-    if does != "txn":
+    does = told.get("f", "txn" if is_number else None)
+    if does not in ("txn", *STEPS):
         if is_number:
-            raise Untold(line, "f is %s: of a client's operations only \"txn\" can be told" % spelled(does))
+            raise Untold(line, "f is %s: of a client's operations only \"txn\", \"read\" and \"write\" can be told" % spelled(does))
         return None
     if not is_number and not isinstance(process, str):
         raise Untold(line, "the process is %s, neither a number nor a text" % spelled(process))
     if told.get("type") not in TYPES:
         raise Untold(line, "the type is %s, none of %s" % (spelled(told.get("type")), ", ".join(TYPES)))
-    return Operation(line, told["type"], spelled(process), steps(line, told.get("value")))
+    value, index = told.get("value"), told.get("index")
+    mine = steps(line, value) if does == "txn" else one_step(STEPS[does], value)
+    return Operation(line, told["type"], spelled(process), mine, index if isinstance(index, int) else None)
 
 
 def transaction(done: Operation, invoked: Optional[Operation]) -> Transaction:
@@ -159,14 +192,14 @@ def transaction(done: Operation, invoked: Optional[Operation]) -> Transaction:
     if done.type == "ok":
         if done.steps is None:
             raise Untold(done.line, "an ok without a value")
-        mine = Transaction(done.line, done.process, done.type, done.steps)
+        mine = Transaction(done.line, done.process, done.type, done.steps, done.index)
         if invoked and invoked.steps is not None and written(invoked.steps) != mine.writes():
             raise Untold(done.line, "its writes aren't those of its invoke in line %d" % invoked.line)
         return mine
     told = next((one.steps for one in (invoked, done) if one and one.steps is not None), None)
     if told is None:
         raise Untold(done.line, "neither it nor its invoke says what it would write")
-    return Transaction(done.line, done.process, done.type, told)
+    return Transaction(done.line, done.process, done.type, told, done.index)
 
 
 def transactions(operations: Iterable[Operation]) -> List[Transaction]:
@@ -187,7 +220,7 @@ def transactions(operations: Iterable[Operation]) -> List[Transaction]:
         done.append(transaction(one, waiting.pop(one.process, None)))
         if one.type == "info":
             unknown[one.process] = one.line
-    done += (transaction(Operation(one.line, "info", one.process, None), one) for one in waiting.values())
+    done += (transaction(Operation(one.line, "info", one.process, None, one.index), one) for one in waiting.values())
     return done
 
 
@@ -223,7 +256,9 @@ def assigned(kind: str, lines: Dict[str, int], plain, spare: Iterator[str], may_
 
 
 def plain_name(thing) -> Optional[str]:
-    """A text that is a name, or a whole number's digits."""
+    """A text that is a name, or a whole number's digits; of an independent key and a key of its own, both with a point."""
+    if isinstance(thing, list) and len(thing) == 2 and None not in map(plain_name, thing):
+        thing = ".".join(map(str, thing))
     if isinstance(thing, bool) or not isinstance(thing, (str, int)):
         return None
     return str(thing) if NAME.fullmatch(str(thing)) else None
@@ -269,6 +304,27 @@ class History:
                                        self.values.given[step.value])
             yield "%s,%s" % (session, "commit" if one.line in self.committed else "abort")
 
+    def places(self) -> Iterator[Tuple[str, str, int]]:
+        """Of each transaction of the records the label, the index of the operation that ended it, and its line."""
+        places: Counter = Counter()
+        for one in self.transactions:
+            session = self.sessions.given[one.process]
+            places[session] += 1
+            yield "%s/%d" % (session, places[session]), "" if one.index is None else str(one.index), one.line
+
+    def warnings(self) -> Iterator[str]:
+        """Where the records pass a limit of `tcc explain`, and what to do."""
+        longest = max((len(told_steps(one)) for one in self.transactions), default=0)
+        counts = {"sessions": len(self.sessions.given), "transactions": len(self.transactions), "keys": len(self.keys.given),
+                  "operations in a transaction": longest}
+        for what, number in counts.items():
+            small, large = LIMITS[what]
+            if number > large:
+                shorter = "transactions" if what.startswith("operations") else "the run"
+                yield "%d %s: tcc takes at most %d, so make %s shorter" % (number, what, large, shorter)
+            elif number > small:
+                yield "%d %s: tcc explain takes at most %d, tcc explain --large %d" % (number, what, small, large)
+
     def table(self) -> Iterator[Tuple[str, str, str]]:
         """What isn't itself in the records: kind, what stands for it, and how JSON spells it."""
         for names in (self.sessions, self.keys, self.values):
@@ -304,16 +360,49 @@ def summary(told: History, passed_over: Counter) -> Iterator[str]:
         reads, passed_over["invoke"], passed_over["other"])
 
 
-def operations(lines: Iterable[bytes], passed_over: Counter) -> Iterator[Operation]:
-    """The operations on transactions, and in the counter how many lines of other kinds there were."""
+def read_lines(lines: Iterable[bytes]) -> Iterator[Tuple[int, dict]]:
+    """The object of each line that isn't blank."""
     for number, line in enumerate(lines, 1):
         try:
             text = line.decode()
         except UnicodeDecodeError as error:
             raise Untold(number, "no UTF-8: %s" % error.reason) from error
-        if not text.strip():
-            continue
-        one = operation(number, text.rstrip("\r\n"))
+        if text.strip():
+            yield number, read_object(number, text.rstrip("\r\n"))
+
+
+def read_array(text: str) -> Iterator[Tuple[int, dict]]:
+    """The objects of an array that is the whole text, each with the line in which it begins."""
+    at, line, before = len(text) - len(text.lstrip()) + 1, 1, 0
+    while True:
+        at = GAP.match(text, at).end()
+        line, before = line + text.count("\n", before, at), at
+        if text[at:at + 1] == "]" and not text[at + 1:].strip():
+            return
+        try:
+            value, at = DECODER.raw_decode(text, at)
+        except (ValueError, RecursionError) as error:
+            raise Untold(line, "no JSON: %s" % getattr(error, "msg", error)) from error
+        if not isinstance(value, dict):
+            raise Untold(line, "no JSON object; each item of the array is one operation")
+        yield line, value
+
+
+def objects(file: BinaryIO) -> Iterator[Tuple[int, dict]]:
+    """The objects of the input, lines or one array, each with its line."""
+    data = file.read()
+    if data.lstrip()[:1] != b"[":
+        return read_lines(data.splitlines(keepends=True))
+    try:
+        return read_array(data.decode())
+    except UnicodeDecodeError as error:
+        raise Untold(data.count(b"\n", 0, error.start) + 1, "no UTF-8: %s" % error.reason) from error
+
+
+def operations(told: Iterable[Tuple[int, dict]], passed_over: Counter) -> Iterator[Operation]:
+    """The operations on transactions, and in the counter how many of other kinds there were."""
+    for number, value in told:
+        one = operation(number, value)
         if one is None:
             passed_over["other"] += 1
             continue
@@ -322,9 +411,9 @@ def operations(lines: Iterable[bytes], passed_over: Counter) -> Iterator[Operati
         yield one
 
 
-def write_table(path: str, told: History) -> None:
+def write_rows(path: str, rows: Iterable[Tuple]) -> None:
     with open(path, "w", newline="") as file:
-        csv.writer(file, lineterminator="\n").writerows(told.table())
+        csv.writer(file, lineterminator="\n").writerows(rows)
 
 
 def json_text(word: str) -> str:
@@ -339,6 +428,8 @@ def arguments() -> argparse.Namespace:
     ask.add_argument("history", nargs="?", metavar="HISTORY", help="the file of the operations, by default standard input")
     ask.add_argument("--table", metavar="FILE", help="writes what isn't itself in the records, a line each: kind, what stands "
                      "for it, and how JSON spells it")
+    ask.add_argument("--map", metavar="FILE", help="writes a line for each transaction of the records: its label, the index of "
+                     "the operation that ended it, where it has one, and its line")
     ask.add_argument("--initial", metavar="JSON", type=json_text, default="null", help="a value, as JSON, that a key has "
                      "before it is written; nil always is one")
     return ask.parse_args()
@@ -346,10 +437,14 @@ def arguments() -> argparse.Namespace:
 
 def run(asked: argparse.Namespace, out: TextIO) -> None:
     passed_over: Counter = Counter()
-    with open(asked.history, "rb") if asked.history else sys.stdin.buffer as lines:
-        told = history(operations(lines, passed_over), {"null", asked.initial}, asked.table is not None)
+    with open(asked.history, "rb") if asked.history else sys.stdin.buffer as file:
+        told = history(operations(objects(file), passed_over), {"null", asked.initial}, asked.table is not None)
+    for line in told.warnings():
+        print("jepsen.py: " + line, file=sys.stderr, flush=True)
     if asked.table is not None:
-        write_table(asked.table, told)
+        write_rows(asked.table, told.table())
+    if asked.map is not None:
+        write_rows(asked.map, told.places())
     out.writelines(record + "\n" for record in told.records())
     out.flush()
     for line in summary(told, passed_over):

@@ -11,6 +11,9 @@ Links of the cycle are numbered, `1.` and so on; a link marked `[2]` is one of t
 marked `[against 2]` is the read that it contradicts. Of an order the picture has all its transactions, numbered, each
 below those before it.
 
+A walk of more than 8 steps is one dotted line, `30 steps`. Of an anomaly of more than 40 steps the links of the cycle are drawn
+alone, without their reasons.
+
 With --history FILE, the records that the answer is for, each transaction also has its rows (records counted from 1, as `tcc`
 counts them) and its operations, and each read its value. Of more than 12 operations only those at the answer's keys are
 drawn, and the others counted.
@@ -39,7 +42,9 @@ EXAMPLE = """example: draw the anomaly of a history, then show the records that 
 """
 LEGEND = ("thick: order in a session", "dashed: reads", "double: derived, has to stand before",
           "1. link 1 of the cycle; [1] a reason of link 1")
+LEGEND_OF_WALKS = "dotted: so many steps in a session and by reads"
 STYLES = {
+    "walk": 'penwidth=2.5, style=dotted',
     "session": 'penwidth=2.5',
     "reads": 'style=dashed, color="#0b5394", fontcolor="#0b5394"',
     "derived": 'color="#a61c00:invis:#a61c00"',
@@ -48,6 +53,8 @@ NOTE = 'shape=note, fontname="sans-serif", fontsize=10, color="#a61c00", fontcol
 NAME = re.compile(r"[A-Za-z0-9_.-]{1,32}")
 LABEL = re.compile(r"init|(%s)/([1-9][0-9]*)" % NAME.pattern)
 MOST_DRAWN = 12
+# The steps of a walk that are drawn one by one, and of an anomaly whose links are drawn with their reasons.
+MOST_WALKED, MOST_STEPS = 8, 40
 
 
 class NoPicture(Exception):
@@ -56,7 +63,7 @@ class NoPicture(Exception):
 
 @dataclass(frozen=True)
 class Link:
-    """A link or a step of an anomaly; one that is derived has a reader and a walk."""
+    """A link or a step of an anomaly; one that is derived has a reader and a walk, and a long walk is a line of its own."""
 
     kind: str
     source: str
@@ -68,6 +75,12 @@ class Link:
     def against(self) -> "Link":
         """The read that a derived link contradicts."""
         return Link("reads", self.target, self.reader, self.key)
+
+    def drawn_walk(self) -> Tuple["Link", ...]:
+        """The lines for the walk of a derived link: its steps, or one for all."""
+        if len(self.walk) <= MOST_WALKED:
+            return self.walk
+        return (Link("walk", self.source, self.reader, walk=self.walk),)
 
 
 @dataclass(frozen=True)
@@ -201,26 +214,35 @@ def columns(labels: Iterable[str]) -> Dict[str, List[str]]:
     return sessions
 
 
-def marked(cycle: List[Link]) -> Dict[Link, Marks]:
-    """Each link and step once, with its marks, in the order of the answer; a derived link stands without its walk."""
+def marked(cycle: List[Link], with_reasons: bool) -> Dict[Link, Marks]:
+    """Each link and, where reasons are wanted, what stands for its reason, once, with its marks, in the order of the answer."""
     found: Dict[Link, Marks] = {}
     for number, one in enumerate(cycle, 1):
         found.setdefault(one, Marks()).numbers.append("%d." % number)
-        if one.kind == "derived":
-            for step in one.walk:
+        if one.kind == "derived" and with_reasons:
+            for step in one.drawn_walk():
                 found.setdefault(step, Marks()).reasons.append("[%d]" % number)
             found.setdefault(one.against(), Marks()).reasons.append("[against %d]" % number)
     return found
 
 
-def link_text(one: Link, history: Optional[History]) -> List[str]:
+def transactions_of(cycle: List[Link]) -> List[str]:
+    """The transactions that an anomaly speaks of, `init` first, then by session and place."""
+    steps = [step for one in cycle for step in (one, *one.walk)]
+    return sorted({name for one in steps for name in (one.source, one.target, one.reader) if name}, key=place)
+
+
+def link_text(one: Link, history: Optional[History], with_reasons: bool) -> List[str]:
     """What a picture says of a link, in lines."""
     if one.kind == "session":
         return ["session"]
+    if one.kind == "walk":
+        return ["%d steps" % len(one.walk)]
     if one.kind == "reads":
         return ["reads %s" % one.key + (" = %s" % history.value(one) if history else "")]
+    by = "" if with_reasons else " by %d steps" % len(one.walk)
     return ["before %s by %s:" % (one.target, one.key),
-            "%s knows of %s," % (one.reader, one.source),
+            "%s knows of %s%s," % (one.reader, one.source, by),
             "and reads %s from %s" % (one.key, one.target)]
 
 
@@ -284,15 +306,16 @@ def graph(title: Iterable[str], nodes: Dict[str, str], below: Iterable[Tuple[str
     yield "}"
 
 
-def edges(one: Link, marks: Marks, history: Optional[History]) -> Iterator[str]:
-    """A link's line; that of a derived one leads by way of a note with its reason."""
-    first, *others = link_text(one, history)
-    text = quoted([" ".join([*marks.numbers, first, *marks.reasons]), *others])
+def edges(one: Link, marks: Marks, text: List[str]) -> Iterator[str]:
+    """A link's line; that of a derived one leads by way of a note with its reason. A text keeps off its line."""
+    first, *others = text
+    lines = [" ".join([*marks.numbers, first, *marks.reasons]), *others]
     if one.kind != "derived":
-        yield '"%s" -> "%s" [label=%s, %s];' % (one.source, one.target, text, STYLES[one.kind])
+        beside = quoted("  %s  " % line for line in lines)
+        yield '"%s" -> "%s" [label=%s, %s];' % (one.source, one.target, beside, STYLES[one.kind])
         return
     note = "link " + marks.numbers[0]
-    yield '"%s" [label=%s, %s];' % (note, text, NOTE)
+    yield '"%s" [label=%s, %s];' % (note, quoted(lines), NOTE)
     yield '"%s" -> "%s" [%s, arrowhead=none];' % (one.source, note, STYLES[one.kind])
     yield '"%s" -> "%s" [%s, arrowhead=empty, constraint=false];' % (note, one.target, STYLES[one.kind])
 
@@ -306,13 +329,15 @@ def order_head(answer: dict) -> str:
 
 
 def draw_anomaly(answer: dict, history: Optional[History]) -> Iterator[str]:
-    links = marked([link(one) for one in answer["cycle"]])
+    with_reasons = answer["steps"] <= MOST_STEPS
+    links = marked([link(one) for one in answer["cycle"]], with_reasons)
     labels = {name for one in links for name in (one.source, one.target)}
     keys = {one.key for one in links}
     nodes = {name: node(name, name, history, keys) for name in labels}
     below = [pair for session in columns(labels).values() for pair in zip(session, session[1:])]
-    drawn = (line for one, marks in links.items() for line in edges(one, marks, history))
-    return graph([anomaly_head(answer), *LEGEND], nodes, below, drawn)
+    drawn = (line for one, marks in links.items() for line in edges(one, marks, link_text(one, history, with_reasons)))
+    legend = [*LEGEND, *([LEGEND_OF_WALKS] if any(one.kind == "walk" for one in links) else [])]
+    return graph([anomaly_head(answer), *legend], nodes, below, drawn)
 
 
 def draw_order(answer: dict, history: Optional[History]) -> Iterator[str]:
@@ -338,8 +363,7 @@ def list_answer(answer: dict, history: History) -> Iterator[str]:
     kind = answer["answer"]
     if kind == "anomaly":
         yield anomaly_head(answer)
-        links = marked([link(one) for one in answer["cycle"]])
-        names = sorted({name for one in links for name in (one.source, one.target)}, key=place)
+        names = transactions_of([link(one) for one in answer["cycle"]])
     elif kind == "consistent":
         yield order_head(answer)
         names = [label(one) for one in answer["order"]]

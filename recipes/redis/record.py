@@ -9,10 +9,12 @@ the replica, whose link to the primary is held for the first second: so clients 
 Standard output has the records, standard error what was left out. Both servers are stopped in the end, whatever comes, and
 the whole takes no more than the seconds of --seconds and those in which a server starts and stops.
 
-Needs redis-server on the path and the library redis-py (in Debian the packages redis-server and python3-redis).
+Needs redis-server on the path and the library redis-py (in Debian the packages redis-server and python3-redis), and noted.py
+in the folder above.
 """
 import argparse
 import contextlib
+import pathlib
 import random
 import shutil
 import signal
@@ -23,7 +25,10 @@ import tempfile
 import threading
 import time
 from dataclasses import dataclass, field
-from typing import Dict, Iterator, List, Optional, Tuple
+from typing import List
+
+sys.path.insert(0, str(pathlib.Path(__file__).resolve().parent.parent))
+from noted import CLIENTS, Transaction, ask_for_clients, check_clients, records, session_name, settle, summary  # noqa: E402
 
 EXAMPLE = """example: clients that read at a replica, and the rows of what they saw
   $ record.py --read-at replica > records.csv
@@ -34,23 +39,10 @@ LOOPBACK = "127.0.0.1"
 START_SECONDS = 10
 ANSWER_SECONDS = 5
 HELD_SECONDS = 1.0
-MOST_TRANSACTIONS = 4095
 
 
 class NoServer(Exception):
     """A server that can't be had."""
-
-
-@dataclass
-class Transaction:
-    """What a client did in one transaction; `committed` is None where nobody told it."""
-
-    session: str
-    operations: List[Tuple[str, str, int]]
-    committed: Optional[bool]
-
-    def writes(self) -> List[Tuple[str, int]]:
-        return [(key, value) for does, key, value in self.operations if does == "w"]
 
 
 @dataclass
@@ -142,7 +134,7 @@ class Client:
     written: int = 0
 
     def session(self) -> str:
-        return "c%d" % self.number if self.sessions == 1 else "c%d.%d" % (self.number, self.sessions)
+        return session_name(self.number, self.sessions)
 
     def work(self, transactions: int, until: float) -> None:
         """Makes so many transactions, in a new session after each whose outcome is unknown."""
@@ -159,7 +151,7 @@ class Client:
     def write(self, server) -> str:
         """Writes a new value at a key, which it gives: a counter, and the client's number in the lowest byte."""
         self.written += 1
-        key, value = "k%d" % self.chance.randrange(self.keys), self.written * 256 + self.number
+        key, value = "k%d" % self.chance.randrange(self.keys), self.written * CLIENTS + self.number
         mine = Transaction(self.session(), [("w", key, value)], None)
         self.done.append(mine)
         with server.pipeline(transaction=True) as steps:
@@ -175,25 +167,6 @@ class Client:
                 steps.get(one)
             values = steps.execute()
         self.done.append(Transaction(self.session(), [("r", one, int(value or 0)) for one, value in zip(keys, values)], True))
-
-
-def settle(transactions: List[Transaction]) -> Dict[str, int]:
-    """Says of each transaction of unknown outcome that it committed where somebody read a value of it, else not."""
-    seen = {(key, value) for one in transactions for does, key, value in one.operations if does == "r"}
-    counts = {"read, so committed": 0, "unread, so aborted": 0}
-    for one in transactions:
-        if one.committed is None:
-            one.committed = any(pair in seen for pair in one.writes())
-            counts["read, so committed" if one.committed else "unread, so aborted"] += 1
-    return counts
-
-
-def records(transactions: List[Transaction]) -> Iterator[str]:
-    for one in transactions:
-        yield "%s,begin" % one.session
-        for does, key, value in one.operations:
-            yield "%s,%s,%s,%d" % (one.session, does, key, value)
-        yield "%s,%s" % (one.session, "commit" if one.committed else "abort")
 
 
 def run_clients(clients: List[Client], asked: argparse.Namespace) -> None:
@@ -227,26 +200,12 @@ def recorded(redis, asked: argparse.Namespace) -> List[Transaction]:
     return [one for client in clients for one in client.done]
 
 
-def count(least: int, most: int):
-    def number(word: str) -> int:
-        if not word.isdecimal() or not least <= int(word) <= most:
-            raise argparse.ArgumentTypeError("%s is no number from %d to %d" % (word, least, most))
-        return int(word)
-    return number
-
-
 def arguments() -> argparse.Namespace:
     ask = argparse.ArgumentParser(description=__doc__, epilog=EXAMPLE, formatter_class=argparse.RawDescriptionHelpFormatter)
     ask.add_argument("--read-at", choices=("primary", "replica"), default="replica", help="where is read; by default the replica")
-    ask.add_argument("--clients", type=count(1, 32), default=4, metavar="N", help="so many clients, 1 to 32, by default 4")
-    ask.add_argument("--transactions", type=count(1, MOST_TRANSACTIONS), default=200, metavar="N",
-                     help="so many for each, by default 200")
-    ask.add_argument("--keys", type=count(1, 1024), default=8, metavar="N", help="so many keys, 1 to 1024, by default 8")
-    ask.add_argument("--seconds", type=count(1, 600), default=20, metavar="N", help="clients stop after so many, by default 20")
-    ask.add_argument("--seed", type=int, default=1, metavar="N", help="which keys are picked follows from it, by default 1")
+    ask_for_clients(ask, 200, 8)
     asked = ask.parse_args()
-    if asked.clients * asked.transactions > MOST_TRANSACTIONS:
-        ask.error("that would be more than %d transactions in all, which is what tcc takes" % MOST_TRANSACTIONS)
+    check_clients(ask, asked)
     return asked
 
 
@@ -266,8 +225,7 @@ def main() -> int:
         return 1
     unknown = settle(done)
     sys.stdout.writelines(record + "\n" for record in records(done))
-    print("record.py: %d transactions; of unknown outcome %s" % (
-        len(done), ", ".join("%d %s" % (number, what) for what, number in unknown.items())), file=sys.stderr)
+    print("record.py: " + summary(done, unknown), file=sys.stderr)
     return 0
 
 

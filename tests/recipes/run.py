@@ -7,8 +7,9 @@ A case is a JSON object:
 
     about      what it shows
     commands   a list of words for each command: a script of recipes/, `tcc` or `dot`, and its arguments; each command
-               reads what the one before it printed. @NAME is the path of NAME in a new folder of this run's own. Where
-               there is no `dot` on the path, the cases that want Graphviz's are passed over, which is said
+               reads what the one before it printed. @NAME is the path of NAME in a new folder of this run's own, $TCC
+               that of the program. Where there is no `dot` on the path, the cases that want Graphviz's are passed over,
+               which is said
     input      what the first command reads, lines as parts; a part {"bytes": ".."} is bytes (latin-1) without a line
                feed, a part {"json": ..} is a line of compact JSON, a part {"file": ".."} a file of the repository
     files      files of that folder: names, and parts
@@ -19,8 +20,8 @@ A case is a JSON object:
     runs       several runs, each with fields of its own over those of the case
 
 Behind the cases, the help of each script has to show an example, the clients in Python that README and RECORDING show have
-to write what they saw, and the demo of recipes/redis has to find its stale read;
-where there is no redis-server or no redis-py it is passed over, which is said.
+to write what they saw, and the demos of recipes/redis and recipes/postgres have to find what they show;
+where their server or its library for Python isn't there, they are passed over, which is said.
 
 The wanted texts were worked out by hand from the definitions. Each difference is one line; the last line is
 `N passed, M failed`.
@@ -101,7 +102,7 @@ def runs(path: pathlib.Path) -> Iterator[Tuple[str, Run]]:
 
 def words(command: List[str], tcc: List[str], folder: str) -> List[str]:
     program, *others = command
-    placed = [os.path.join(folder, word[1:]) if word.startswith("@") else word for word in others]
+    placed = [os.path.join(folder, word[1:]) if word.startswith("@") else tcc[-1] if word == "$TCC" else word for word in others]
     programs = {"tcc": tcc, "dot": ["dot"]}
     return programs.get(program, [sys.executable, str(RECIPES / program)]) + placed
 
@@ -142,31 +143,32 @@ def wrong(run: Run, tcc: List[str]) -> Optional[str]:
 
 def helps() -> Iterator[Outcome]:
     """Whether the help of each script shows an example."""
-    for script in sorted(RECIPES.glob("**/*.py")):
+    for script in sorted(path for path in RECIPES.glob("**/*.py") if path.read_text().startswith("#!")):
         ended = subprocess.run([sys.executable, str(script), "--help"], capture_output=True, timeout=SECONDS, check=False)
         has_example = ended.returncode == 0 and re.search(rb"^example:\s", ended.stdout, re.MULTILINE)
         yield "help of " + script.name, None if has_example else "status %d, or no example" % ended.returncode
 
 
-def redis_demo(tcc: List[str]) -> Iterator[Outcome]:
-    """The demo with real servers, where they are there: the one answer is an order, the other a stale read of 3 steps."""
-    command = [sys.executable, str(RECIPES / "redis" / "demo.py"), "--tcc", tcc[-1]]
+def demo(server: str, tcc: List[str]) -> Iterator[Outcome]:
+    """The demo with real servers, where they are there: its status is 0 where each answer is what it has to be."""
+    command = [sys.executable, str(RECIPES / server / "demo.py"), "--tcc", tcc[-1]]
     try:
         ended = subprocess.run(command, capture_output=True, timeout=4 * SECONDS, check=False)
     except subprocess.TimeoutExpired as error:
-        yield "demo", str(error)
+        yield "demo of " + server, str(error)
         return
     if ended.returncode == WITHOUT_SERVER:
-        print("demo: passed over: no redis-server or redis-py here")
+        print("demo of %s: passed over: its server or its library isn't here" % server)
         return
-    yield "demo", None if ended.returncode == 0 else "status %d, %r" % (ended.returncode, ended.stdout + ended.stderr)
+    yield "demo of " + server, None if ended.returncode == 0 else "status %d, %r" % (
+        ended.returncode, ended.stdout + ended.stderr)
 
 
-def redis_outcomes() -> Iterator[Outcome]:
-    """What the recorder makes of outcomes that nobody told: a commit where somebody read a value at its key, else an abort."""
-    spec = importlib.util.spec_from_file_location("record", RECIPES / "redis" / "record.py")
+def unknown_outcomes() -> Iterator[Outcome]:
+    """What recorders make of outcomes that nobody told: a commit where somebody read a value at its key, else an abort."""
+    spec = importlib.util.spec_from_file_location("noted", RECIPES / "noted.py")
     record = importlib.util.module_from_spec(spec)
-    sys.modules["record"] = record
+    sys.modules["noted"] = record
     spec.loader.exec_module(record)
     done = [record.Transaction("a", [("w", "x", 1)], None), record.Transaction("b", [("w", "x", 2)], None),
             record.Transaction("c", [("w", "y", 2)], True), record.Transaction("c", [("r", "x", 1), ("r", "y", 2)], True)]
@@ -223,6 +225,26 @@ def documented_clients() -> Iterator[Outcome]:
     yield "client of README", None if out.getvalue().split() == wanted else "wrote %s" % out.getvalue().split()
 
 
+def packed(tcc: List[str]) -> Iterator[Outcome]:
+    """What `make pack` makes of the program: unpacked elsewhere it answers, and so do the recipes beside it."""
+    with tempfile.TemporaryDirectory() as folder:
+        words = ["make", "-s", "pack", "TCC=" + os.path.abspath(tcc[-1]), "DIST=" + folder]
+        made = subprocess.run(words, cwd=TOP, capture_output=True, timeout=SECONDS, check=False)
+        archives = list(pathlib.Path(folder).glob("tcc-*-x86_64-linux.tar.gz"))
+        if made.returncode != 0 or len(archives) != 1:
+            yield "make pack", "status %d, %r" % (made.returncode, made.stderr)
+            return
+        subprocess.run(["tar", "-xzf", str(archives[0])], cwd=folder, timeout=SECONDS, check=True)
+        inside = archives[0].name[:-len(".tar.gz")]
+        done = subprocess.run([sys.executable, "recipes/all.py", "--tcc", "./tcc", "examples/stale-read.csv"],
+                              cwd=os.path.join(folder, inside), capture_output=True, timeout=SECONDS, check=False)
+        wanted = b"1: 3 steps, stale-initial-read, read your writes: a/2 read x = 0 from init, row 5\n"
+        yield "what is packed", None if done.stdout.startswith(wanted) else "%r" % (done.stdout + done.stderr)
+        needed = [name for name in ("LICENSE-MIT", "LICENSE-APACHE", "docs/tcc.1", "docs/tcc.bash", "docs/RECORDING.md")
+                  if not os.path.exists(os.path.join(folder, inside, name))]
+        yield "files that are packed", ", ".join(needed) or None
+
+
 def outcomes_of(path: pathlib.Path, tcc: List[str]) -> Iterator[Outcome]:
     """The runs of a case, but for those whose picture nobody here can draw."""
     try:
@@ -243,8 +265,10 @@ def outcomes(names: List[str], tcc: List[str]) -> Iterator[Outcome]:
     if not names:
         yield from helps()
         yield from documented_clients()
-        yield from redis_outcomes()
-        yield from redis_demo(tcc)
+        yield from unknown_outcomes()
+        yield from packed(tcc)
+        yield from demo("redis", tcc)
+        yield from demo("postgres", tcc)
 
 
 def main() -> int:

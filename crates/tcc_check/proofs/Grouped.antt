@@ -1,5 +1,5 @@
 -- Groups of links, as they are made and as they are gone through.
-use Rattle.std.proofs.Common.{◌≡◌, ◌<◌, ◌≤◌, ◌+◌, ◌^◌, ℕ, zero, suc, ◌⊎◌, inl, inr, List, [], ◌∷◌, ◌++◌}
+use Rattle.std.proofs.Common.{◌≡◌, ◌<◌, ◌≤◌, ◌+◌, ℕ, zero, suc, ◌⊎◌, inl, inr, List, [], ◌∷◌, ◌++◌}
 use Rattle.std.proofs.Common.{length, get_or, take, drop, append_assoc, append-nil, arith, refl}
 use Rattle.std.proofs.Common.{sym, ap, subst, ◌∙◌}
 use Rattle.std.specs.Prelude.{All}
@@ -98,12 +98,12 @@ group-grown i links groups weight n end ends inside is are = record {
 }
 
 -- all links are in the groups, the last of which is closed, if any end is in it
-pub all-groups : (i : ℕ) (links groups closed : List (ℕ × ℕ)) (weight n : ℕ) (ends : List ℕ) → i ≡ length links → length links < 2 ^ 32
+pub all-groups : (i : ℕ) (links groups closed : List (ℕ × ℕ)) (weight n : ℕ) (ends : List ℕ) → i ≡ length links
     → (0 < n → closed ≡ groups ++ (weight, n) ∷ []) → (n ≡ 0 → closed ≡ groups) → AreGroupsTo i links groups weight n ends
     → (links_by closed ends ≡ links) × AreGroupsOf closed ends
-all-groups i links groups closed weight n ends all few some none are = (
+all-groups i links groups closed weight n ends all some none are = (
   sym (empty-group closed weight ends) ∙ last.made ∙ take_all i links (omega (arith, all)),
-  record { all = omega (arith, last.all); some = last.some; few = omega (arith, last.long, all, few) },
+  record { all = omega (arith, last.all); some = last.some },
 )
   where
     last : AreGroupsTo i links closed weight 0 ends

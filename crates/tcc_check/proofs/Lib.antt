@@ -7,6 +7,7 @@ pub mod Grouped
 pub mod Overshot
 pub mod RowRules
 pub mod LinksFrom
+pub mod ByKey
 pub mod Linked
 pub mod Placed
 pub mod Gaps
@@ -25,3 +26,5 @@ pub mod NearBehind
 pub mod FarBehind
 pub mod JudgedFacts
 pub mod Sessions
+pub mod KeyOrder
+pub mod OnePair

@@ -1,27 +1,23 @@
 -- What the first items of a list lower in a row of weights by ends.
-use Rattle.std.proofs.Common.{◌≡◌, ◌≢◌, ◌<◌, ◌≤◌, ◌+◌, ◌↔◌, ℕ, zero, suc, true, eqb, ◌⊎◌, inl, inr, List}
+use Rattle.std.proofs.Common.{◌≡◌, ◌≢◌, ◌<◌, ◌≤◌, ◌+◌, ◌↔◌, ℕ, zero, suc, ◌⊎◌, inl, inr, List}
 use Rattle.std.proofs.Common.{[], ◌∷◌, ◌++◌, length, get_or, set, min, replicate, arith, refl, sym, ap}
 use Rattle.std.proofs.Common.{subst, ◌∙◌}
-use Rattle.std.specs.Prelude.{All, map}
+use Rattle.std.specs.Prelude.{All}
 use Rattle.std.specs.List.{Contains, zip}
-use Rattle.std.proofs.lemmas.Bool.{cases_eq, or_cases, or_right, eqb-true}
+use Rattle.std.proofs.lemmas.Bool.{cases_eq}
 use Rattle.std.proofs.lemmas.List.{get_or_append_left, get_or_default, get_or_push, get_or-replicate, length_push, length-replicate}
 use Rattle.std.proofs.lemmas.List.Elements.{All-push, Contains-append_cases}
 use Rattle.std.specs.List.Sorted.{IsPermutation}
 use Rattle.std.proofs.lemmas.List.Sorted.{Contains-permutation, IsPermutation-sym}
 use Rattle.std.proofs.lemmas.Slice.Zip.{get_or-zip, length-zip}
 use Rattle.std.proofs.Math.Nat.{min-zero}
-use Rattle.tcc_reads.specs.History.{History, count, entry_at}
+use Rattle.tcc_reads.specs.History.{History, count}
 use Rattle.tcc_graph.specs.Relations.{IsCausalPair, IsReadsPair, IsSessionPair}
-use Rattle.tcc_graph.specs.Keys.{has_name, key_at}
-use Rattle.tcc_graph.proofs.NameLemmas.{has_name-contains, contains-has_name}
 use Rattle.tcc_check.specs.Pairs.{AreOrderly}
 use Rattle.tcc_check.specs.Weights.{unlinked, AreByWeight, IsLeastRow, IsLowered}
 use Rattle.tcc_check.specs.WeightsFrom.{AreAllEnds, AreEnds, AreEndsTo, AreLightEnds, ends_of, BetweenWeighs}
-use Rattle.tcc_check.specs.WeightsFrom.{ContradictsBy, InitContradictsBy, MarkWeighs, PlaceWeighs, ReadWeighs}
-use Rattle.tcc_check.specs.WeightsFrom.{ReadingWeighs, SourceWeighs}
+use Rattle.tcc_check.specs.WeightsFrom.{ContradictsBy, InitContradictsBy, MarkWeighs, ReadWeighs, SourceWeighs}
 use Rattle.tcc_check.proofs.Lowering.{lowered_none, lowered_as, lowered_then, lowered_one}
-use Rattle.tcc_check.proofs.Sessions.{from_map, in_map}
 
 -- ---- lists beside one another
 
@@ -145,135 +141,6 @@ causal-weights h u first end weights long pairs least c inside =
     weighs : IsCausalPair h u c → ReadWeighs h u c 0 ⊎ BetweenWeighs first end c 0
     weighs (inl pair) = inr (let at = (pairs c).0 pair in (at.0, at.1, refl))
     weighs (inr (x, reads)) = inl (x, reads, refl)
-
--- ---- readings of a key
-
-abbrev pub SeenReading : ℕ → List ℕ → List ℕ → List ℕ → ℕ → ℕ → ℕ → Type 0
-SeenReading i sources readers row u v w =
-    (k : ℕ) × (k < i) × (get_or sources k 0 ≡ v) × (v ≢ u) × (w ≡ get_or row (get_or readers k 0) 0)
-
-module _ (sources readers row : List ℕ) (u : ℕ) (old new : List ℕ) where
-  pub no-reading : IsLowered (SeenReading 0 sources readers row u) old old
-  no-reading = lowered_none _ old (λ v w s. absurd (omega (arith, s.1)))
-
-  cases : (i v w : ℕ) → SeenReading (i + 1) sources readers row u v w
-      → SeenReading i sources readers row u v w ⊎ ((get_or sources i 0 ≡ v) × (v ≢ u) × (w ≡ get_or row (get_or readers i 0) 0))
-  cases i v w (k, l, is, apart, has) = go (cases_eq k i)
-    where
-      go : (k ≡ i) ⊎ (k ≡ i → ⊥) → SeenReading i sources readers row u v w ⊎ ((get_or sources i 0 ≡ v) × (v ≢ u) × (w ≡ get_or row (get_or readers i 0) 0))
-      go (inl same) = inr (subst (λ (z : ℕ). get_or sources z 0 ≡ v) same is, apart, subst (λ (z : ℕ). w ≡ get_or row (get_or readers z 0) 0) same has)
-      go (inr other) = inl (k, omega (arith, l, other), is, apart, has)
-
-  pub reading-skipped : (i : ℕ) → get_or sources i 0 ≡ u → IsLowered (SeenReading i sources readers row u) old new
-      → IsLowered (SeenReading (i + 1) sources readers row u) old new
-  reading-skipped i same lowered = lowered_as _ _ old new (λ v w s. (s.0, omega (arith, s.1), s.2, s.3, s.4)) (λ v w s. back v w (cases i v w s)) lowered
-    where
-      back : (v w : ℕ) → SeenReading i sources readers row u v w ⊎ ((get_or sources i 0 ≡ v) × (v ≢ u) × (w ≡ get_or row (get_or readers i 0) 0))
-          → SeenReading i sources readers row u v w
-      back v w (inl s) = s
-      back v w (inr (is, apart, has)) = absurd (apart (sym is ∙ same))
-
-  pub reading-lowered : (i a n : ℕ) → get_or sources i 0 ≡ a → a ≢ u → n ≡ get_or row (get_or readers i 0) 0 → a < length new
-      → IsLowered (SeenReading i sources readers row u) old new → IsLowered (SeenReading (i + 1) sources readers row u) old (set new a (min (get_or new a 0) n))
-  reading-lowered i a n is apart has below lowered =
-      one-lowered (SeenReading i sources readers row u) (SeenReading (i + 1) sources readers row u) old new lowered a n below to
-      (λ v w s. back v w (cases i v w s))
-    where
-      to : (v w : ℕ) → SeenReading i sources readers row u v w ⊎ ((v ≡ a) × (w ≡ n)) → SeenReading (i + 1) sources readers row u v w
-      to v w (inl s) = (s.0, omega (arith, s.1), s.2, s.3, s.4)
-      to v w (inr s) = (i, omega arith, is ∙ sym s.0, (λ e. apart (sym s.0 ∙ e)), s.1 ∙ has)
-
-      back : (v w : ℕ) → SeenReading i sources readers row u v w ⊎ ((get_or sources i 0 ≡ v) × (v ≢ u) × (w ≡ get_or row (get_or readers i 0) 0))
-          → SeenReading i sources readers row u v w ⊎ ((v ≡ a) × (w ≡ n))
-      back v w (inl s) = inl s
-      back v w (inr (here, other, number)) = inr (sym here ∙ is, number ∙ sym has)
-
-  pub all-readings : (i : ℕ) → i ≡ length sources → IsLowered (SeenReading i sources readers row u) old new
-      → IsLowered (ReadingWeighs sources readers row u) old new
-  all-readings i all lowered = subst (λ (z : ℕ). IsLowered (SeenReading z sources readers row u) old new) all lowered
-
--- ---- places of keys
-
-abbrev pub ReadsThere : History → List ℕ → ℕ → ℕ → ℕ → ℕ → Type 0
-ReadsThere h row u k v w = (c : ℕ) × IsReadsPair h v c (key_at h k) × (v ≢ u) × (w ≡ get_or row c 0)
-
--- the readings of a key are those of the list
-pub readings-there : (h : History) (row : List ℕ) (u k : ℕ) (sources readers old new : List ℕ) → length sources ≡ length readers
-    → ((a c : ℕ) → Contains (zip sources readers) (a, c) → IsReadsPair h a c (key_at h k))
-    → ((a c : ℕ) → IsReadsPair h a c (key_at h k) → Contains (zip sources readers) (a, c))
-    → IsLowered (ReadingWeighs sources readers row u) old new → IsLowered (ReadsThere h row u k) old new
-readings-there h row u k sources readers old new long to back = lowered_as _ _ old new there here
-  where
-    there : (v w : ℕ) → ReadingWeighs sources readers row u v w → ReadsThere h row u k v w
-    there v w (j, l, is, apart, has) =
-        let inside : j < length readers = omega (arith, l, long) in (
-          get_or readers j 0,
-          to v (get_or readers j 0) (zip-at sources readers long j v (get_or readers j 0) l (get_or_default sources j v 0 l ∙ is)
-              (get_or_default readers j _ 0 inside)),
-          apart,
-          has,
-        )
-
-    here : (v w : ℕ) → ReadsThere h row u k v w → ReadingWeighs sources readers row u v w
-    here v w (c, reads, apart, has) =
-        let at = zip-from sources readers long v c (back v c reads) in (
-          at.0,
-          at.1,
-          get_or_default sources at.0 0 v at.1 ∙ at.2,
-          apart,
-          has
-              ∙ ap (λ z. get_or row z 0) (sym (get_or_default readers at.0 0 c (omega (arith, at.1, long)) ∙ at.3)),
-        )
-
-abbrev pub SeenPlace : ℕ → History → List ℕ → List ℕ → ℕ → ℕ → ℕ → Type 0
-SeenPlace i h places row u v w = (j : ℕ) × (j < i) × ReadsThere h row u (get_or places j 0) v w
-
-module _ (h : History) (places row : List ℕ) (u : ℕ) (old new : List ℕ) where
-  pub no-place : IsLowered (SeenPlace 0 h places row u) old old
-  no-place = lowered_none _ old (λ v w s. absurd (omega (arith, s.1)))
-
-  pub one-place : (i k : ℕ) (newer : List ℕ) → get_or places i 0 ≡ k → IsLowered (SeenPlace i h places row u) old new
-      → IsLowered (ReadsThere h row u k) new newer → IsLowered (SeenPlace (i + 1) h places row u) old newer
-  one-place i k newer is before more = lowered_as _ _ old newer to (λ v w s. back v w s (cases_eq s.0 i)) (lowered_then _ _ old new newer before more)
-    where
-      to : (v w : ℕ) → SeenPlace i h places row u v w ⊎ ReadsThere h row u k v w → SeenPlace (i + 1) h places row u v w
-      to v w (inl s) = (s.0, omega (arith, s.1), s.2)
-      to v w (inr s) = (i, omega arith, subst (λ (z : ℕ). ReadsThere h row u z v w) (sym is) s)
-
-      back : (v w : ℕ) (s : SeenPlace (i + 1) h places row u v w) → (s.0 ≡ i) ⊎ (s.0 ≡ i → ⊥) → SeenPlace i h places row u v w ⊎ ReadsThere h row u k v w
-      back v w s (inl same) = inr (subst (λ (z : ℕ). ReadsThere h row u z v w) (ap (λ z. get_or places z 0) same ∙ is) s.2)
-      back v w s (inr apart) = inl (s.0, omega (arith, s.1, apart), s.2)
-
-  pub all-places : (i : ℕ) → i ≡ length places → IsLowered (SeenPlace i h places row u) old new → IsLowered (PlaceWeighs h places row u) old new
-  all-places i all lowered = lowered_as _ _ old new
-      (λ v w s. (get_or places s.0 0, (s.0, omega (arith, s.1, all), get_or_default places s.0 _ 0 (omega (arith, s.1, all))), s.2.0, s.2.1, s.2.2, s.2.3))
-      (λ v w s. (
-        s.1.0,
-        omega (arith, s.1.1, all),
-        subst (λ (z : ℕ). ReadsThere h row u z v w) (sym (get_or_default places s.1.0 0 s.0 s.1.1 ∙ s.1.2))
-            (s.2, s.3, s.4, s.5),
-      ))
-      lowered
-
-  -- the places of the keys that u writes
-  pub places-written : (u ≡ 0 → ⊥) → u < count h → map (key_at h) places ≡ (entry_at h u).writes → IsLowered (PlaceWeighs h places row u) old new
-      → IsLowered (ContradictsBy h row u) old new
-  places-written other below are lowered = lowered_as _ _ old new to back lowered
-    where
-      to : (v w : ℕ) → PlaceWeighs h places row u v w → ContradictsBy h row u v w
-      to v w (k, there, c, reads, apart, has) =
-          let named : Contains (entry_at h u).writes (key_at h k) =
-          subst (λ (names : List (List ℕ)). Contains names (key_at h k)) are (in_map (key_at h) places k there) in
-          (key_at h k, c, ((λ e. apart (sym e)), reads, (below, or_right _ _ (contains-has_name (entry_at h u).writes (key_at h k) named))), has)
-
-      back : (v w : ℕ) → ContradictsBy h row u v w → PlaceWeighs h places row u v w
-      back v w (x, c, (apart, reads, (inside, writer)), has) =
-          let at = from_map (key_at h) places x (subst (λ (names : List (List ℕ)). Contains names x) (sym are) (named (or_cases _ _ writer))) in
-          (at.0, at.1, c, subst (λ (z : List ℕ). IsReadsPair h v c z) (sym at.2) reads, (λ e. apart (sym e)), has)
-        where
-          named : (eqb u 0 ≡ true) ⊎ (has_name (entry_at h u).writes x ≡ true) → Contains (entry_at h u).writes x
-          named (inl zeroth) = absurd (other (eqb-true u 0 zeroth))
-          named (inr e) = has_name-contains (entry_at h u).writes x e
 
 -- ---- `init`, which writes every key
 

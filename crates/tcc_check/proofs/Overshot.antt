@@ -203,30 +203,30 @@ module _ (groups : List (ℕ × ℕ)) (ends : List ℕ) (are : AreGroupsOf group
     abbrev links : List (ℕ × ℕ)
     links = links_by groups ends
 
-    long : length run ≡ group.1
-    long = ap length is ∙ part-long ends from group.1 (group_inside i inside)
+    pub run_long : length run ≡ group.1
+    run_long = ap length is ∙ part-long ends from group.1 (group_inside i inside)
 
     are_run : (k d : ℕ) → k < length run → get_or run k d ≡ get_or ends (from + k) 0
-    are_run k d l = ap (λ r. get_or r k d) is ∙ part-at ends from group.1 k d (group_inside i inside) (omega (arith, l, long))
+    are_run k d l = ap (λ r. get_or r k d) is ∙ part-at ends from group.1 k d (group_inside i inside) (omega (arith, l, run_long))
 
     -- its ends are below the number that all links' ends are below
     pub group_below : (m : ℕ) → All (λ (link : ℕ × ℕ). link.0 < m) links → All (λ end. end < m) run
     group_below m all k d l =
-        let at = in-group groups ends i k are.all inside (omega (arith, l, long)) in
-        let link = all (from + k) (0, 0) (omega (arith, l, long, group_inside i inside, length-links groups ends are.all)) in
+        let at = in-group groups ends i k are.all inside (omega (arith, l, run_long)) in
+        let link = all (from + k) (0, 0) (omega (arith, l, run_long, group_inside i inside, length-links groups ends are.all)) in
         omega (arith, are_run k d l, ap (λ (z : ℕ × ℕ). z.0) at, link)
 
-    at_run : (k : ℕ) → k < group.1 → get_or links (from + k) (0, 0) ≡ (get_or run k 0, group.0)
-    at_run k l = in-group groups ends i k are.all inside l ∙ ap (λ (z : ℕ). (z, group.0)) (sym (are_run k 0 (omega (arith, l, long))))
+    pub at_run : (k : ℕ) → k < group.1 → get_or links (from + k) (0, 0) ≡ (get_or run k 0, group.0)
+    at_run k l = in-group groups ends i k are.all inside l ∙ ap (λ (z : ℕ). (z, group.0)) (sym (are_run k 0 (omega (arith, l, run_long))))
 
     to_group : (v : ℕ) → SeenOver from links row low before v ⊎ IsOvershotAt run row low (before + 1 + group.0) v
         → SeenOver (from + group.1) links row low before v
     to_group v (inl (low_v, k, l, is, more)) = (low_v, k, omega (arith, l), is, more)
     to_group v (inr (low_v, (k, l, is), more)) =
-        let here = at_run k (omega (arith, l, long)) in (
+        let here = at_run k (omega (arith, l, run_long)) in (
           low_v,
           from + k,
-          omega (arith, l, long),
+          omega (arith, l, run_long),
           ap (λ (z : ℕ × ℕ). z.0) here ∙ get_or_default run k 0 v l ∙ is,
           omega (arith, ap (λ (z : ℕ × ℕ). z.1) here, more),
         )
@@ -246,8 +246,8 @@ module _ (groups : List (ℕ × ℕ)) (ends : List ℕ) (are : AreGroupsOf group
               low_v,
               (
                 k - from,
-                omega (arith, short, long),
-                get_or_default run (k - from) v 0 (omega (arith, short, long))
+                omega (arith, short, run_long),
+                get_or_default run (k - from) v 0 (omega (arith, short, run_long))
                     ∙ sym (ap (λ (z : ℕ × ℕ). z.0) here) ∙ is,
               ),
               omega (arith, ap (λ (z : ℕ × ℕ). z.1) here, more),

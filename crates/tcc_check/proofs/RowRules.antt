@@ -10,7 +10,7 @@ use Rattle.tcc_cert.specs.declared.version.Version.{Version}
 use Rattle.tcc_cert.specs.Tables.{entry, far_entry, lowest, row_of}
 use Rattle.tcc_cert.specs.CycleRules.{BreaksNearPair, BreaksNearStep, BreaksFarLink, BreaksFarStep, BreaksReturn}
 use Rattle.tcc_check.specs.Runs.{AreRuns}
-use Rattle.tcc_check.specs.Searches.{IsFoundBelow, IsLongPair, IsLongSingle, IsLongStep}
+use Rattle.tcc_check.specs.Searches.{IsFirstLong, IsFoundBelow, IsLongPair, IsLongSingle, IsLongStep}
 use Rattle.tcc_check.specs.WeightsFrom.{AreAllEnds, AreEnds, ReadWeighs, WeighsFrom, ends_of}
 use Rattle.tcc_check.specs.Coming.{IsFoundBefore, first_of}
 use Rattle.tcc_check.proofs.Entries.{capped_at}
@@ -25,6 +25,13 @@ pub found-more : (n : ℕ) (broken : ℕ × ℕ → Type 0) (found : Option (ℕ
 found-more n broken (Some at) end before row = (omega (arith, before.0), before.1)
 found-more n broken None None before row = holds_more n broken before row
 found-more n broken None (Some b) before row = (omega arith, first_in_row broken n b before row.0 row.1)
+
+-- where a place was found before, none is looked for in the row
+pub found-next : (n : ℕ) (broken : ℕ × ℕ → Type 0) (begins : List ℕ) (others : List (List (ℕ × ℕ))) (row : List ℕ) (low : ℕ) (found result : Option (ℕ × ℕ))
+    → ((end : Option ℕ) → IsFoundBelow (low + length row) (IsLongStep begins others row low) end → InRow broken n end)
+    → IsFirstLong found n begins others row low result → IsFoundBefore n broken found → IsFoundBefore (n + 1) broken result
+found-next n broken begins others row low (Some at) result in-row is before = rw is (omega (arith, before.0), before.1)
+found-next n broken begins others row low None result in-row (end, found, is) before = rw is (found-more n broken None end before (in-row end found))
 
 -- the first number of a row of n at which it is broken
 row-by : (n s : ℕ) (P : ℕ → Type 0) (broken : ℕ × ℕ → Type 0) (end : Option ℕ) → ((b : ℕ) → broken (s, b) → (b < n) × P b)

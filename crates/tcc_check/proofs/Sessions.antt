@@ -15,13 +15,14 @@ use Rattle.tcc_txn.proofs.Lists.{in_filter, from_filter}
 use Rattle.tcc_reads.specs.History.{History, IsBySession, count, entry_at, owner, place}
 use Rattle.tcc_graph.specs.Numbers.{at}
 use Rattle.tcc_graph.specs.Relations.{IsSessionPair, session_pair, IsReadsPair}
-use Rattle.tcc_graph.specs.Keys.{writers, writes, is_key, numbers}
+use Rattle.tcc_graph.specs.Keys.{key_at, writers, writes, is_key, numbers}
 use Rattle.tcc_graph.specs.declared.level.Level.{Level}
 use Rattle.tcc_graph.specs.declared.level.Level.TheVariants.{Causal}
 use Rattle.tcc_cert.specs.Tables.{row_of, entry}
 use Rattle.tcc_graph.proofs.Pairs.{PairParts, pair_parts, lower_first, initial_pair}
 use Rattle.tcc_cert.specs.OrderRules.{MayReach}
 use Rattle.tcc_check.specs.Latest.{is_within, IsCountWithin, IsLastWithin, AreSessionsKept, AreOwned, AreApart, AreRising}
+use Rattle.tcc_check.specs.Latest.{KeepsSessions}
 use Rattle.tcc_check.specs.Latest.{KeepsPairsBy, StandBefore, StandAllBefore, IsReadKept}
 use Rattle.tcc_graph.proofs.WriterLemmas.{writer_listed}
 
@@ -212,15 +213,25 @@ module _ (h : History) (ordered : IsBySession h.entries) (places writers : List 
 
 -- ---- what the last writers of all sessions say of a read
 
-module _ (h : History) (places : List ℕ) (clocks : List (List ℕ)) (x : List ℕ) (a c : ℕ) where
-  strictly : (b : ℕ) → AreApart places → length places ≡ count h → b ≢ a → b < count h → a < count h → get_or places b 0 ≤ get_or places a 0
+module _ (h : History) (places : List ℕ) (a b : ℕ) where
+  -- no two stand at one place
+  pub strictly_before : AreApart places → length places ≡ count h → b ≢ a → b < count h → a < count h → get_or places b 0 ≤ get_or places a 0
       → get_or places b 0 < get_or places a 0
-  strictly b apart long other below source upto = go (cases_lt (get_or places b 0) (get_or places a 0))
+  strictly_before apart long other below source upto = go (cases_lt (get_or places b 0) (get_or places a 0))
     where
       go : (get_or places b 0 < get_or places a 0) ⊎ (get_or places a 0 ≤ get_or places b 0) → get_or places b 0 < get_or places a 0
       go (inl less) = less
       go (inr more) = absurd (other (apart b a (omega (arith, below, long)) (omega (arith, source, long)) (omega (arith, upto, more))))
 
+  -- `init` stands before all others
+  pub initial_before : KeepsSessions h places → b ≡ 0 → b ≢ a → b < count h → a < count h → get_or places b 0 < get_or places a 0
+  initial_before kept zeroth other below source = kept.kept b a (initial_pair h b a zeroth below (some_source (cases_lt 0 a)) source)
+    where
+      some_source : (0 < a) ⊎ (a ≤ 0) → 0 < a
+      some_source (inl some) = some
+      some_source (inr less) = absurd (other (omega (arith, zeroth, less)))
+
+module _ (h : History) (places : List ℕ) (clocks : List (List ℕ)) (x : List ℕ) (a c : ℕ) where
   pub kept_by_last : KeepsPairsBy h Causal places clocks → AreOwned h → length (row_of clocks c) ≡ length h.sessions
       → StandAllBefore h places (row_of clocks c) (writers h x) a → IsReadKept h Causal places clocks x a c
   kept_by_last by owned wide stand b (other, reads, writer) reach = go (cases_lt 0 b) reach
@@ -229,15 +240,9 @@ module _ (h : History) (places : List ℕ) (clocks : List (List ℕ)) (x : List 
       go (inl some) (inl none) = absurd (omega (arith, some, none))
       go (inl some) (inr upto) =
           let inside = owned b some writer.0 in
-          strictly b by.apart by.sessions.long other writer.0 reads.0
+          strictly_before h places a b by.apart by.sessions.long other writer.0 reads.0
           (stand (owner h b) (omega (arith, inside, wide)) b (writer_listed h x a c b reads writer) some refl upto)
-      go (inr none) r =
-          let zeroth : b ≡ 0 = omega (arith, none) in
-          by.sessions.kept b a (initial_pair h b a zeroth writer.0 (some_source zeroth (cases_lt 0 a)) reads.0)
-        where
-          some_source : b ≡ 0 → (0 < a) ⊎ (a ≤ 0) → 0 < a
-          some_source zeroth (inl some) = some
-          some_source zeroth (inr less) = absurd (other (omega (arith, zeroth, less)))
+      go (inr none) r = initial_before h places a b by.sessions (omega (arith, none)) other writer.0 reads.0
 
   pub kept_by_reached : (level : Level) → ((b : ℕ) → Contains (writers h x) b → b ≢ a → MayReach h level clocks b c
       → get_or places b 0 < get_or places a 0) → IsReadKept h level places clocks x a c
@@ -308,6 +313,17 @@ pub by_reads : (h : History) (c : ℕ) (P : List ℕ → ℕ → Type 0) (reads 
 by_reads h c P reads is all x a p =
     let w : Contains reads (x, a) = subst (λ (rs : List (List ℕ × ℕ)). Contains rs (x, a)) (sym is) (read_listed h a c x p) in
     let here : P (get_or reads w.0 (x, a)).0 (get_or reads w.0 (x, a)).1 = all w.0 (x, a) w.1 in
+    subst (λ (r : List ℕ × ℕ). P r.0 r.1) w.2 here
+
+-- so for all of them, by the places of their keys
+pub by_keys : (h : History) (c : ℕ) (P : List ℕ → ℕ → Type 0) (reads : List (ℕ × ℕ))
+    → map (λ (read : ℕ × ℕ). (key_at h read.0, read.1)) reads ≡ (entry_at h c).reads
+    → ((k : ℕ) (d : ℕ × ℕ) → k < length reads → P (key_at h (get_or reads k d).0) (get_or reads k d).1) → (x : List ℕ) (a : ℕ) → IsReadsPair h a c x → P x a
+by_keys h c P reads are all x a p =
+    let there : Contains (map (λ (read : ℕ × ℕ). (key_at h read.0, read.1)) reads) (x, a) =
+    subst (λ (rs : List (List ℕ × ℕ)). Contains rs (x, a)) (sym are) (read_listed h a c x p) in
+    let w = from_map (λ (read : ℕ × ℕ). (key_at h read.0, read.1)) reads (x, a) there in
+    let here : P (key_at h w.0.0) w.0.1 = subst (λ (r : ℕ × ℕ). P (key_at h r.0) r.1) w.1.2 (all w.1.0 w.0 w.1.1) in
     subst (λ (r : List ℕ × ℕ). P r.0 r.1) w.2 here
 
 pub read_at : (h : History) (c : ℕ) (reads : List (List ℕ × ℕ)) (i : ℕ) (read : List ℕ × ℕ) → reads ≡ (entry_at h c).reads → All (λ r. r.1 < count h) reads

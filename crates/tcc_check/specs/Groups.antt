@@ -1,5 +1,5 @@
--- Links in groups of one weight. Nobody has to believe it: private functions say it to one another.
-use Rattle.std.specs.Prelude.{ℕ, ◌<◌, ◌≡◌, ◌+◌, ◌++◌, ◌^◌, List, [], ◌∷◌, All, drop, length, map, take}
+-- Transactions in groups: ends of links by weight, readers by source. Nobody has to believe it: private functions say it to one another.
+use Rattle.std.specs.Prelude.{ℕ, ◌<◌, ◌≡◌, ◌+◌, ◌++◌, List, [], ◌∷◌, All, drop, length, map, take}
 
 -- how many ends are in these groups
 abbrev pub total : List (ℕ × ℕ) → ℕ
@@ -19,4 +19,3 @@ links_by (group ∷ groups) ends = weighed group.0 (take group.1 ends) ++ links_
 pub record AreGroupsOf (groups : List (ℕ × ℕ)) (ends : List ℕ) : Type 0 where
   pub all : total groups ≡ length ends
   pub some : All (λ group. 0 < group.1) groups
-  pub few : length ends < 2 ^ 32

@@ -4,6 +4,7 @@ pub mod Streams
 -- What serves proofs alone:
 pub mod Runs
 pub mod Groups
+pub mod Readings
 pub mod Weights
 pub mod WeightsFrom
 pub mod Pairs
@@ -13,3 +14,4 @@ pub mod Places
 pub mod Coming
 pub mod Judged
 pub mod Latest
+pub mod SinglePairs

@@ -1,7 +1,8 @@
--- What a search of a row for the first broken place answers. Nobody has to believe it: private functions say it to one another.
-use Rattle.std.specs.Prelude.{ℕ, ◌<◌, ◌≤◌, ◌+◌, ◌-◌, ◌⊎◌, List, length, slice_index, Contains, Option, None, Some, MatchOption, min}
+-- What is answered of the first broken place of a row. Nobody has to believe it: private functions say it to one another.
+use Rattle.std.specs.Prelude.{ℕ, ◌≡◌, ◌<◌, ◌≤◌, ◌+◌, ◌-◌, ◌⊎◌, List, length, slice_index, Contains, Option, None, Some, MatchOption, min}
 use Rattle.tcc_reads.specs.History.{History}
 use Rattle.tcc_graph.specs.Relations.{IsSessionPair}
+use Rattle.tcc_check.specs.Coming.{first_of}
 use Rattle.tcc_check.specs.Runs.{IsInRun}
 use Rattle.tcc_check.specs.WeightsFrom.{ends_of}
 
@@ -48,6 +49,12 @@ IsLongOther others row low v =
 
 abbrev pub IsLongStep : List ℕ → List (List (ℕ × ℕ)) → List ℕ → ℕ → ℕ → Type 0
 IsLongStep begins others row low v = IsLongRunTo begins row low v ⊎ IsLongOther others row low v
+
+-- the place that was found before, or that in the row of `start`
+abbrev pub IsFirstLong : Option (ℕ × ℕ) → ℕ → List ℕ → List (List (ℕ × ℕ)) → List ℕ → ℕ → Option (ℕ × ℕ) → Type 0
+IsFirstLong (Some at) start begins others row low result = result ≡ Some at
+IsFirstLong None start begins others row low result =
+    (end : Option ℕ) × IsFoundBelow (low + length row) (IsLongStep begins others row low) end × (result ≡ first_of None start end)
 
 -- the row has more than a step for the end of a session pair
 abbrev pub IsLongPair : History → List ℕ → ℕ → ℕ → ℕ → Type 0

@@ -1,5 +1,5 @@
--- Weights of links: how many steps a link takes before its last one. A row of weights is of the links from
--- one transaction, by their ends. Nobody has to believe it: private functions say it to one another.
+-- Weights of links: how many steps a link takes before its last one. Nobody has to believe it: private functions say it to one another.
+-- A row of weights is of the links from one transaction, by their ends.
 use Rattle.std.specs.Prelude.{ℕ, ◌<◌, ◌≤◌, ◌≡◌, ◌⊎◌, List, length, slice_index}
 use Rattle.std.specs.List.Sorted.{IsNonDecreasingBy}
 

@@ -1,7 +1,6 @@
 -- Weights of the links from a transaction other than session pairs. Nobody has to believe it: private functions say it to one another.
 use Rattle.std.specs.Prelude.{ℕ, ◌<◌, ◌≤◌, ◌≡◌, ◌≢◌, ◌+◌, ◌⊎◌, List, [], length, slice_index, slice_index_or, Contains}
 use Rattle.tcc_reads.specs.History.{History}
-use Rattle.tcc_graph.specs.Keys.{key_at}
 use Rattle.tcc_graph.specs.Links.{MayContradict}
 use Rattle.tcc_graph.specs.Relations.{IsReadsPair}
 use Rattle.tcc_check.specs.Weights.{AreByWeight}
@@ -24,16 +23,6 @@ MarkWeighs readers v w = Contains readers v × (w ≡ 0)
 -- v is between these
 abbrev pub BetweenWeighs : ℕ → ℕ → ℕ → ℕ → Type 0
 BetweenWeighs first end v w = (first ≤ v) × (v < end) × (w ≡ 0)
-
--- v is one of these sources, other than u, and the row has w for the reader beside it
-abbrev pub ReadingWeighs : List ℕ → List ℕ → List ℕ → ℕ → ℕ → ℕ → Type 0
-ReadingWeighs sources readers row u v w =
-    (k : ℕ) × (k < length sources) × (slice_index sources k ≡ v) × (v ≢ u) × (w ≡ slice_index row (slice_index readers k))
-
--- some reader reads a key at one of these places from v, other than u, and the row has w for the reader
-abbrev pub PlaceWeighs : History → List ℕ → List ℕ → ℕ → ℕ → ℕ → Type 0
-PlaceWeighs h places row u v w =
-    (k : ℕ) × Contains places k × (c : ℕ) × IsReadsPair h v c (key_at h k) × (v ≢ u) × (w ≡ slice_index row c)
 
 -- v is the source, and the row has w for one of these readers
 abbrev pub SourceWeighs : ℕ → List ℕ → List ℕ → ℕ → ℕ → Type 0

@@ -12,8 +12,8 @@ ghost use Rattle.tcc_check.specs.Verdicts.{IsAnswer};
 
 use crate::StreamFault;
 use crate::coming::next_part;
+use crate::first_broken::{first_long_step, long_link};
 use crate::near_rows::NearJudged;
-use crate::searching::{long_link, long_step};
 use crate::sizes::{is_row_right, lowest};
 use crate::verdict::{Rule, Verdict, first_of};
 use std::alloc::Global;
@@ -70,11 +70,11 @@ fn with_row(
     let low = lowest(version, start);
     let links = near.links.as_slice();
     let link = long_link(graph, &links[start as usize], row, low, start, least);
-    let step = long_step(&near.begins, links, row, low, least);
+    let step = first_long_step(faults.step, start, &near.begins, links, row, low);
     let back = short_return(row, low, start, least);
     FarFaults {
         link: first_of(faults.link, start, link),
-        step: first_of(faults.step, start, step),
+        step,
         back: first_of(faults.back, start, back),
     }
 }

@@ -1,16 +1,19 @@
 //! The axiom, asked of few: of the writers that stand behind what is read, or, where the writers are many, of each session
 //! only the last one that a reader's clock reaches. Those before it stand before it in the order too.
-ghost use Rattle.std.specs.Prelude.{ℕ, ◌≡◌, ◌≢◌, ◌<◌, ◌≤◌, ◌^◌, ◌↔◌, List, All, Contains, length, slice_index, IsTrue};
+ghost use Rattle.std.specs.Prelude.{ℕ, ◌≡◌, ◌≢◌, ◌<◌, ◌≤◌, ◌^◌, ◌↔◌, List, All, Contains, length, slice_index, IfOk, IsTrue};
 ghost use Rattle.tcc_reads.specs.History.{IsBySession, count, owner};
+ghost use Rattle.tcc_graph.specs.Keys.{key_at, keys};
 ghost use Rattle.tcc_graph.specs.declared.level.Level.TheVariants.{Causal};
 ghost use Rattle.tcc_cert.specs.OrderRules.{HasClocks, MayReach};
 ghost use Rattle.tcc_check.specs.Latest.{is_within, IsCountWithin, IsLastWithin, AreOwned, AreRising, KeepsSessions};
 ghost use Rattle.tcc_check.specs.Latest.{KeepsPairsBy, StandBefore, StandAllBefore, IsReadKept, AreReadsKept};
 
 use crate::order::clock_gap;
+use crate::single_pairs::are_reads_kept_by_pairs;
+use std::alloc::Global;
 use tcc_cert::Numbers;
 use tcc_graph::{Graph, Level};
-use tcc_txn::Name;
+use tcc_txn::NoMemory;
 
 /// To look for the last writer of a session takes about as long as to ask so many writers.
 const WRITERS_ASKED: usize = 16;
@@ -49,7 +52,7 @@ fn last_within(graph: &Graph, writers: &[u32], session: u32, place: u32) -> Opti
 
 /// Whether the last of these that comes no later than the place of the session, if it is of the session, doesn't stand
 /// behind the source.
-fn stands_before(
+pub(crate) fn stands_before(
     graph: &Graph,
     places: &[u32],
     writers: &[u32],
@@ -90,23 +93,19 @@ fn stand_before(graph: &Graph, places: &[u32], clock: &[u32], writers: &[u32], s
     true
 }
 
-/// Whether `b` may reach `c`: by the clock of `c`, or, at `Atomic`, in a single pair.
-fn may_reach(graph: &Graph, level: Level, clocks: &[Numbers], b: u32, c: u32) -> bool
-    requires clocks { HasClocks level (count graph.now) (length graph.now.sessions) clocks.now }
+/// Whether, by the clock of `c`, `b` may reach it.
+fn may_reach(graph: &Graph, clocks: &[Numbers], b: u32, c: u32) -> bool
+    requires clocks { HasClocks Causal (count graph.now) (length graph.now.sessions) clocks.now }
     requires b { b < count graph.now }
     requires c { c < count graph.now }
-    ensures { IsTrue result ↔ MayReach graph.now level clocks.now b c }
+    ensures { IsTrue result ↔ MayReach graph.now Causal clocks.now b c }
 {
-    match level {
-        Level::Causal => clock_gap(graph, clocks, b, c) == 0,
-        Level::Atomic => graph.causal(b, c),
-    }
+    clock_gap(graph, clocks, b, c) == 0
 }
 
 /// Whether none of these that may reach the source's reader stands behind the source. Each of them is asked.
 fn reached_before(
     graph: &Graph,
-    level: Level,
     places: &[u32],
     clocks: &[Numbers],
     writers: &[u32],
@@ -114,17 +113,17 @@ fn reached_before(
     c: u32,
 ) -> bool
     requires long { length places.now ≡ count graph.now }
-    requires clocks { HasClocks level (count graph.now) (length graph.now.sessions) clocks.now }
+    requires clocks { HasClocks Causal (count graph.now) (length graph.now.sessions) clocks.now }
     requires below { All (λ b. b < count graph.now) writers.now }
     requires source { source < count graph.now }
     requires reader { c < count graph.now }
-    ensures { IsTrue result → ((b : ℕ) → Contains writers.now b → b ≢ source → MayReach graph.now level clocks.now b c
+    ensures { IsTrue result → ((b : ℕ) → Contains writers.now b → b ≢ source → MayReach graph.now Causal clocks.now b c
         → slice_index places.now b < slice_index places.now source) }
 {
     for writer in writers {
         if *writer != source
             && places[source as usize] <= places[*writer as usize]
-            && may_reach(graph, level, clocks, *writer, c)
+            && may_reach(graph, clocks, *writer, c)
         {
             return false;
         }
@@ -132,65 +131,41 @@ fn reached_before(
     true
 }
 
-/// Whether none of these that the clock of the source's reader reaches stands behind the source: each is asked, or, where
-/// they are many, the last of each session.
-fn clock_before(
+/// Whether the axiom is kept by a read of `c` at the key at a place: no other writer of the key that the clock of `c`
+/// reaches stands behind the source. Each is asked, or, where they are many, the last of each session.
+fn is_read_kept(
     graph: &Graph,
     places: &[u32],
     clocks: &[Numbers],
-    key: &Name,
+    key: u32,
     source: u32,
     c: u32,
 ) -> bool
     requires order { KeepsPairsBy graph.now Causal places.now clocks.now }
     requires owners { AreOwned graph.now }
+    requires key { key < length (keys graph.now) }
     requires source { source < count graph.now }
     requires reader { c < count graph.now }
-    ensures { IsTrue result → IsReadKept graph.now Causal places.now clocks.now key.now source c }
+    ensures { IsTrue result → IsReadKept graph.now Causal places.now clocks.now (key_at graph.now key) source c }
 {
-    let writers = graph.writers(key);
+    let writers = graph.writers_at(key);
     let clock = clocks[c as usize].as_slice();
     if writers.len() / WRITERS_ASKED <= clock.len() {
-        reached_before(graph, Level::Causal, places, clocks, writers, source, c)
+        reached_before(graph, places, clocks, writers, source, c)
     } else {
         stand_before(graph, places, clock, writers, source)
     }
 }
 
-/// Whether the axiom is kept by a read of `c`: no other writer of the key that may reach `c` stands behind the source.
-fn is_read_kept(
-    graph: &Graph,
-    level: Level,
-    places: &[u32],
-    clocks: &[Numbers],
-    key: &Name,
-    source: u32,
-    c: u32,
-) -> bool
-    requires order { KeepsPairsBy graph.now level places.now clocks.now }
-    requires owners { AreOwned graph.now }
-    requires source { source < count graph.now }
-    requires reader { c < count graph.now }
-    ensures { IsTrue result → IsReadKept graph.now level places.now clocks.now key.now source c }
-{
-    match level {
-        Level::Causal => clock_before(graph, places, clocks, key, source, c),
-        Level::Atomic => {
-            let writers = graph.writers(key);
-            reached_before(graph, level, places, clocks, writers, source, c)
-        }
-    }
-}
-
-/// Whether the axiom is kept by all reads of `c`.
-fn are_reads_kept(graph: &Graph, level: Level, places: &[u32], clocks: &[Numbers], c: u32) -> bool
-    requires order { KeepsPairsBy graph.now level places.now clocks.now }
+/// Whether the axiom is kept by all reads of `c`, as its clock tells.
+fn are_reads_kept(graph: &Graph, places: &[u32], clocks: &[Numbers], c: u32) -> bool
+    requires order { KeepsPairsBy graph.now Causal places.now clocks.now }
     requires owners { AreOwned graph.now }
     requires reader { c < count graph.now }
-    ensures { IsTrue result → AreReadsKept graph.now level places.now clocks.now c }
+    ensures { IsTrue result → AreReadsKept graph.now Causal places.now clocks.now c }
 {
-    for (key, source) in graph.reads(c) {
-        if !is_read_kept(graph, level, places, clocks, key, *source, c) {
+    for (key, source) in graph.reads_at(c) {
+        if !is_read_kept(graph, places, clocks, *key, *source, c) {
             return false;
         }
     }
@@ -219,18 +194,44 @@ fn are_owned(graph: &Graph) -> bool
     true
 }
 
+/// Whether the axiom is kept by all reads of `c`, as its clock tells, or, at `Atomic`, the pairs that lead to it.
+fn is_reader_right(
+    alloc: Global,
+    graph: &Graph,
+    level: Level,
+    places: &[u32],
+    clocks: &[Numbers],
+    c: u32,
+) -> Result<bool, NoMemory>
+    requires order { KeepsPairsBy graph.now level places.now clocks.now }
+    requires owners { AreOwned graph.now }
+    requires reader { c < count graph.now }
+    ensures { IfOk result (λ kept. IsTrue kept → AreReadsKept graph.now level places.now clocks.now c) }
+{
+    match level {
+        Level::Causal => Ok(are_reads_kept(graph, places, clocks, c)),
+        Level::Atomic => are_reads_kept_by_pairs(alloc, graph, places, c),
+    }
+}
+
 /// Whether the axiom is kept, by what is asked of the last writers. Where it isn't, something is broken by the axiom.
-pub(crate) fn keeps_axiom(graph: &Graph, level: Level, places: &[u32], clocks: &[Numbers]) -> bool
+pub(crate) fn keeps_axiom(
+    alloc: Global,
+    graph: &Graph,
+    level: Level,
+    places: &[u32],
+    clocks: &[Numbers],
+) -> Result<bool, NoMemory>
     requires { KeepsPairsBy graph.now level places.now clocks.now }
-    ensures { IsTrue result → (c : ℕ) → c < count graph.now → AreReadsKept graph.now level places.now clocks.now c }
+    ensures { IfOk result (λ kept. IsTrue kept → (c : ℕ) → c < count graph.now → AreReadsKept graph.now level places.now clocks.now c) }
 {
     if !are_owned(graph) {
-        return false;
+        return Ok(false);
     }
     for c in 0..graph.count() {
-        if !are_reads_kept(graph, level, places, clocks, c) {
-            return false;
+        if !is_reader_right(alloc, graph, level, places, clocks, c)? {
+            return Ok(false);
         }
     }
-    true
+    Ok(true)
 }

@@ -3,8 +3,9 @@
 
 mod coming;
 mod cycle;
-mod ends;
 mod far_rows;
+mod first_broken;
+mod groups;
 mod judgement;
 mod judging;
 mod latest;
@@ -16,8 +17,9 @@ mod order;
 mod pairs;
 mod places;
 mod previous;
+mod readings;
 mod runs;
-mod searching;
+mod single_pairs;
 mod sizes;
 mod stream_fault;
 mod streaming;

@@ -3,14 +3,14 @@
 ghost use Rattle.std.specs.Prelude.{ℕ, ◌≡◌, ◌<◌, ◌≤◌, ◌^◌, ◌↔◌, All, IfOk, length, replicate, slice_index};
 ghost use Rattle.tcc_txn.specs.declared.limits.TheConstants.{MAX_COUNT};
 ghost use Rattle.tcc_reads.specs.History.{count};
-ghost use Rattle.tcc_graph.specs.Keys.{keys};
 ghost use Rattle.tcc_graph.specs.Relations.{IsCausalPair};
+ghost use Rattle.tcc_check.specs.Readings.{AreReadings, PlaceWeighs};
 ghost use Rattle.tcc_check.specs.Weights.{IsLeastRow, IsLowered, unlinked};
 ghost use Rattle.tcc_check.specs.WeightsFrom.{AreAllEnds, AreEnds, AreLightEnds, BetweenWeighs, ContradictsBy};
-ghost use Rattle.tcc_check.specs.WeightsFrom.{InitContradictsBy, MarkWeighs, PlaceWeighs, ReadWeighs};
-ghost use Rattle.tcc_check.specs.WeightsFrom.{ReadingWeighs, SourceWeighs, WeighsFrom};
+ghost use Rattle.tcc_check.specs.WeightsFrom.{InitContradictsBy, MarkWeighs, ReadWeighs, SourceWeighs, WeighsFrom};
 
-use crate::ends::Ends;
+use crate::groups::Groups;
+use crate::readings::{least_of, lower_readings};
 use std::alloc::Global;
 use tcc_graph::Graph;
 use tcc_txn::NoMemory;
@@ -69,31 +69,23 @@ pub(crate) fn pair_weights(alloc: Global, graph: &Graph, start: u32) -> Result<V
     Ok(weights)
 }
 
-/// Lowers the weight of each of these sources but `start` to what the row has for the reader beside it.
-fn lower_readings(weights: &mut [u32], sources: &[u32], readers: &[u32], row: &[u32], start: u32)
-    requires long { length sources.now ≡ length readers.now }
-    requires sources { All (λ source. source < length weights.old) sources.now }
-    requires readers { All (λ reader. reader < length row.now) readers.now }
-    ensures { IsLowered (ReadingWeighs sources.now readers.now row.now start) weights.old weights.new }
-{
-    for (place, source) in sources.iter().enumerate() {
-        if *source != start {
-            let number = row[readers[place] as usize];
-            weights[*source as usize] = weights[*source as usize].min(number);
-        }
-    }
-}
-
-/// Does so for all who read the keys at these places.
-fn lower_places(weights: &mut [u32], graph: &Graph, places: &[u32], row: &[u32], start: u32)
-    requires weights { length weights.old ≡ count graph.now }
-    requires row { length row.now ≡ count graph.now }
-    requires places { All (λ place. place < length (keys graph.now)) places.now }
-    ensures { IsLowered (PlaceWeighs graph.now places.now row.now start) weights.old weights.new }
+/// Lowers the weights of the sources of these keys, but that of `start`, to what the row has for who reads them there.
+fn lower_places(
+    weights: &mut [u32],
+    readings: &[Groups],
+    places: &[u32],
+    row: &[u32],
+    floor: u32,
+    start: u32,
+)
+    requires places { All (λ place. place < length readings.now) places.now }
+    requires sources { All (λ there. All (λ reading. reading.1 < length weights.old) there) readings.now }
+    requires readers { All (λ there. All (λ reading. reading.0 < length row.now) there) readings.now }
+    requires floor { All (λ number. floor ≤ number) row.now }
+    ensures { IsLowered (PlaceWeighs readings.now places.now row.now start) weights.old weights.new }
 {
     for place in places {
-        let (sources, readers) = graph.readings_of(*place);
-        lower_readings(weights, sources, readers, row, start);
+        lower_readings(weights, &readings[*place as usize], row, floor, start);
     }
 }
 
@@ -121,8 +113,15 @@ fn lower_sources(weights: &mut [u32], graph: &Graph, row: &[u32])
 }
 
 /// Lowers the weights to what the row has for the readers that `start` may contradict.
-fn lower_contradicted(weights: &mut [u32], graph: &Graph, row: &[u32], start: u32)
+fn lower_contradicted(
+    weights: &mut [u32],
+    graph: &Graph,
+    readings: &[Groups],
+    row: &[u32],
+    start: u32,
+)
     requires weights { length weights.old ≡ count graph.now }
+    requires readings { AreReadings graph.now readings.now }
     requires row { length row.now ≡ count graph.now }
     requires start { start < count graph.now }
     ensures { IsLowered (ContradictsBy graph.now row.now start) weights.old weights.new }
@@ -130,7 +129,8 @@ fn lower_contradicted(weights: &mut [u32], graph: &Graph, row: &[u32], start: u3
     if start == 0 {
         lower_sources(weights, graph, row);
     } else {
-        lower_places(weights, graph, graph.writes_at(start), row, start);
+        let places = graph.writes_at(start);
+        lower_places(weights, readings, places, row, least_of(row), start);
     }
 }
 
@@ -138,21 +138,23 @@ fn lower_contradicted(weights: &mut [u32], graph: &Graph, row: &[u32], start: u3
 pub(crate) fn contradicted_weights(
     alloc: Global,
     graph: &Graph,
+    readings: &[Groups],
     row: &[u32],
     start: u32,
 ) -> Result<Vec<u32>, NoMemory>
+    requires readings { AreReadings graph.now readings.now }
     requires row { length row.now ≡ count graph.now }
     requires start { start < count graph.now }
     ensures long { IfOk result (λ weights. length weights.items ≡ count graph.now) }
     ensures least { IfOk result (λ weights. IsLeastRow (ContradictsBy graph.now row.now start) weights.items) }
 {
     let mut weights = bare_weights(alloc, graph)?;
-    lower_contradicted(&mut weights, graph, row, start);
+    lower_contradicted(&mut weights, graph, readings, row, start);
     Ok(weights)
 }
 
 /// The ends whose weights are less than `least` together with their last steps, the lighter first.
-fn light_ends(alloc: Global, weights: &[u32], least: u32) -> Result<Ends, NoMemory>
+fn light_ends(alloc: Global, weights: &[u32], least: u32) -> Result<Groups, NoMemory>
     requires { length weights.now < 2 ^ 16 }
     ensures { IfOk result (AreLightEnds weights.now least) }
 {
@@ -163,30 +165,32 @@ fn light_ends(alloc: Global, weights: &[u32], least: u32) -> Result<Ends, NoMemo
         }
     }
     ends.sort_by_key(|end| end.1)?;
-    Ok(Ends::new(alloc, &ends)?)
+    Ok(Groups::new(alloc, &ends)?)
 }
 
 /// The links from `start`, by its row of lengths, that take less than `least`.
 pub(crate) fn link_ends(
     alloc: Global,
     graph: &Graph,
+    readings: &[Groups],
     row: &[u32],
     start: u32,
     least: u32,
-) -> Result<Ends, NoMemory>
+) -> Result<Groups, NoMemory>
     requires few { count graph.now ≤ MAX_COUNT }
+    requires readings { AreReadings graph.now readings.now }
     requires row { length row.now ≡ count graph.now }
     requires start { start < count graph.now }
     ensures { IfOk result (AreEnds (WeighsFrom graph.now row.now start) (count graph.now) least) }
 {
     let mut weights = read_weights(alloc, graph, start)?;
-    lower_contradicted(&mut weights, graph, row, start);
+    lower_contradicted(&mut weights, graph, readings, row, start);
     let ends = light_ends(alloc, &weights, least)?;
     Ok(ends)
 }
 
 /// The reads-from pairs from `start`, where a single step is less than `least`.
-fn read_ends_of(alloc: Global, graph: &Graph, start: u32, least: u32) -> Result<Ends, NoMemory>
+fn read_ends_of(alloc: Global, graph: &Graph, start: u32, least: u32) -> Result<Groups, NoMemory>
     requires few { count graph.now ≤ MAX_COUNT }
     requires start { start < count graph.now }
     ensures { IfOk result (AreEnds (ReadWeighs graph.now start) (count graph.now) least) }
@@ -197,7 +201,7 @@ fn read_ends_of(alloc: Global, graph: &Graph, start: u32, least: u32) -> Result<
 }
 
 /// Those from each transaction.
-pub(crate) fn read_ends(alloc: Global, graph: &Graph, least: u32) -> Result<Vec<Ends>, NoMemory>
+pub(crate) fn read_ends(alloc: Global, graph: &Graph, least: u32) -> Result<Vec<Groups>, NoMemory>
     ensures { IfOk result (λ ends. AreAllEnds (ReadWeighs graph.now) (count graph.now) least ends.items) }
 {
     let mut ends = Vec::new(alloc);

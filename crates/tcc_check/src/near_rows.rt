@@ -13,10 +13,10 @@ ghost use Rattle.tcc_check.specs.Pairs.{AreOrderly, ArePairs};
 
 use crate::StreamFault;
 use crate::coming::next_part;
-use crate::ends::Ends;
+use crate::first_broken::{first_long_step, long_link};
+use crate::groups::Groups;
 use crate::links_from::link_ends;
 use crate::pairs::{Pairs, pairs_of};
-use crate::searching::{long_link, long_step};
 use crate::sizes::is_row_right;
 use crate::verdict::{Rule, Verdict, first_of};
 use std::alloc::Global;
@@ -36,7 +36,7 @@ pub(crate) struct NearFaults {
 #[derive(Drop)]
 pub(crate) struct NearRows {
     pub(crate) faults: NearFaults,
-    pub(crate) links: Vec<Ends>,
+    pub(crate) links: Vec<Groups>,
 }
 
 /// What is kept of a table of lengths: what the rules on it say, where the runs of sessions begin, and the other links
@@ -45,7 +45,7 @@ pub(crate) struct NearRows {
 pub(crate) struct NearJudged {
     pub(crate) verdict: Verdict,
     pub(crate) begins: Vec<u32>,
-    pub(crate) links: Vec<Ends>,
+    pub(crate) links: Vec<Groups>,
 }
 
 /// What is found with one row more. At `Atomic` no walk has a second step, so the rule on these isn't asked.
@@ -69,12 +69,12 @@ fn with_row(
     let reads = pairs.reads.as_slice();
     let pair = long_link(graph, &reads[start as usize], row, 0, start, least);
     let step = match level {
-        Level::Causal => long_step(&pairs.begins, reads, row, 0, least),
+        Level::Causal => first_long_step(faults.step, start, &pairs.begins, reads, row, 0),
         Level::Atomic => None,
     };
     NearFaults {
         pair: first_of(faults.pair, start, pair),
-        step: first_of(faults.step, start, step),
+        step,
     }
 }
 
@@ -101,8 +101,9 @@ fn take_row(
     ensures long { OnOk result (length rows.new.links.items ≡ length rows.old.links.items + 1) }
 {
     rows.faults = with_row(graph, level, pairs, least, rows.faults, start, row);
+    let readings = pairs.readings.as_slice();
     rows.links
-        .push(link_ends(alloc, graph, row, start, least)?)?;
+        .push(link_ends(alloc, graph, readings, row, start, least)?)?;
     Ok(())
 }
 

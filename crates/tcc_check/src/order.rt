@@ -9,12 +9,15 @@ ghost use Rattle.tcc_cert.specs.OrderRules.{HasClocks, HasInClock, MayReach, Has
 ghost use Rattle.tcc_cert.specs.Rules.{HoldsEverywhere};
 ghost use Rattle.tcc_check.specs.Searches.{IsFoundBelow};
 ghost use Rattle.tcc_check.specs.Places.{ArePlaces, IsKept, IsBehind, order_claim};
+ghost use Rattle.tcc_check.specs.Readings.{AreReadings};
 ghost use Rattle.tcc_check.specs.Verdicts.{IsAnswer, order_rules};
 
+use crate::groups::Groups;
 use crate::latest::keeps_axiom;
 use crate::links_from::{contradicted_weights, pair_weights};
 use crate::places::places_of;
 use crate::previous::previous;
+use crate::readings::readings_of;
 use crate::sizes::has_size;
 use crate::verdict::{Rule, Verdict, rejected};
 use std::alloc::Global;
@@ -189,11 +192,13 @@ fn broken_by(
     alloc: Global,
     graph: &Graph,
     level: Level,
+    readings: &[Groups],
     places: &[u32],
     clocks: &[Numbers],
     b: u32,
 ) -> Result<Option<u32>, NoMemory>
     requires few { count graph.now ≤ MAX_COUNT }
+    requires readings { AreReadings graph.now readings.now }
     requires places { length places.now ≡ count graph.now }
     requires clocks { HasClocks level (count graph.now) (length graph.now.sessions) clocks.now }
     requires b { b < count graph.now }
@@ -201,7 +206,7 @@ fn broken_by(
         → IfOk result (IsFoundBelow (count graph.now) (λ a. BreaksAxiom graph.now (order_claim level order sessions clocks.now) (b, a))) }
 {
     let row = gaps(alloc, graph, level, clocks, b)?;
-    let weights = contradicted_weights(alloc, graph, &row, b)?;
+    let weights = contradicted_weights(alloc, graph, readings, &row, b)?;
     Ok(first_behind(places, &weights, b))
 }
 
@@ -221,8 +226,9 @@ fn broken_axiom(
         (HoldsEverywhere (BreaksAxiom graph.now (order_claim level order sessions clocks.now)))
         (IsFirstPlace (BreaksAxiom graph.now (order_claim level order sessions clocks.now)))) }
 {
+    let readings = readings_of(alloc, graph)?;
     for b in 0..graph.count() {
-        if let Some(a) = broken_by(alloc, graph, level, places, clocks, b)? {
+        if let Some(a) = broken_by(alloc, graph, level, &readings, places, clocks, b)? {
             return Ok(Some((b, a)));
         }
     }
@@ -299,7 +305,8 @@ pub(crate) fn order_verdict(
     let Some(places) = kept_places(alloc, graph, level, order, clocks)? else {
         return Ok(rejected(Rule::Pairs, 0));
     };
-    if keeps_axiom(graph, level, &places, clocks) {
+    let kept = keeps_axiom(alloc, graph, level, &places, clocks)?;
+    if kept {
         return Ok(Verdict::Accepted);
     }
     match broken_axiom(alloc, graph, level, &places, clocks)? {

@@ -2,27 +2,35 @@
 ghost use Rattle.std.specs.Prelude.{IfOk};
 ghost use Rattle.tcc_check.specs.Pairs.{ArePairs};
 
-use crate::ends::Ends;
+use crate::groups::Groups;
 use crate::links_from::read_ends;
+use crate::readings::readings_of;
 use crate::runs::run_begins;
 use std::alloc::Global;
 use tcc_graph::Graph;
 use tcc_txn::NoMemory;
 
-/// Where the runs of sessions begin, and the reads-from pairs from each transaction.
+/// Where the runs of sessions begin, the reads-from pairs from each transaction, and who reads each key.
 #[derive(Drop)]
 pub(crate) struct Pairs {
     pub(crate) begins: Vec<u32>,
-    pub(crate) reads: Vec<Ends>,
+    pub(crate) reads: Vec<Groups>,
+    pub(crate) readings: Vec<Groups>,
 }
 
 /// Those of a history, where costs below `least` are asked of.
 pub(crate) fn pairs_of(alloc: Global, graph: &Graph, least: u32) -> Result<Pairs, NoMemory>
     ensures { IfOk result (ArePairs graph.now least) }
 {
-    // the transactions are numbered by session
+    // the transactions are numbered by session, and few
     let _sessions = graph.sessions();
+    let _count = graph.count();
     let begins = run_begins(alloc, graph)?;
     let reads = read_ends(alloc, graph, least)?;
-    Ok(Pairs { begins, reads })
+    let readings = readings_of(alloc, graph)?;
+    Ok(Pairs {
+        begins,
+        reads,
+        readings,
+    })
 }

@@ -1,5 +1,7 @@
 pub mod Filing
 pub mod Offered
+pub mod MarkedWays
+pub mod LevelWays
 pub mod Marking
 pub mod Costs
 pub mod LedOn

@@ -11,3 +11,5 @@ pub mod Rings
 pub mod RingLinks
 pub mod Queues
 pub mod Offers
+pub mod Marked
+pub mod Levels

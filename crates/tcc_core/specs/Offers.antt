@@ -44,11 +44,13 @@ pub record MayOffer (links : List (ℕ × ℕ)) (d left : ℕ) (queue : Queue) :
   pub so_far : d ≤ queue.floor
   pub short : left < BUCKETS
 
--- these are the links from u among n transactions that cost at most so much, session links apart
-pub record HasLinks (t : Tables) (n u left : ℕ) (links : List (ℕ × ℕ)) : Type 0 where
-  pub only : (v c : ℕ) → v < n → Contains links (v, c) → cost_at t u v ≡ Some c
-  pub each : (v c : ℕ) → v < n → cost_at t u v ≡ Some c → c ≤ left → (IsLater t u v × (c ≡ 1)) ⊎ Contains links (v, c)
+-- from u, where d was spent, a cheapest link that costs at most `left` leads on to v, a number from s upward, and all that
+-- costs n
+abbrev pub IsLinkWay : Tables → ℕ → ℕ → ℕ → ℕ → ℕ → ℕ → Type 0
+IsLinkWay t s u d left v n = (s ≤ v) × (c : ℕ) × (cost_at t u v ≡ Some c) × (c ≤ left) × (d + c ≡ n)
 
--- ways were offered by such links
-abbrev pub IsOfferedBy : Tables → ℕ → ℕ → ℕ → ℕ → ℕ → ℕ → List ℕ → List ℕ → Type 0
-IsOfferedBy t n s u d left floor old new = (links : List (ℕ × ℕ)) × HasLinks t n u left links × IsOffered (IsWayBy links s d left) floor old new
+-- costs after such ways were offered, all but perhaps those by session links
+pub record IsOfferedBy (t : Tables) (s u d left floor : ℕ) (old new : List ℕ) : Type 0 where
+  pub lower : IsLower floor old new
+  pub least : (v n : ℕ) → v < length old → IsLinkWay t s u d left v n → floor < n → (IsLater t u v × (d + 1 ≡ n)) ⊎ (slice_index new v ≤ n)
+  pub from : (v : ℕ) → v < length old → (slice_index new v ≡ slice_index old v) ⊎ IsLinkWay t s u d left v (slice_index new v)

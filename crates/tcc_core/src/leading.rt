@@ -2,16 +2,17 @@
 //! on to whole ends of sessions, so of each session a mark is kept, from which on all were reached by one: what a session
 //! pair reaches later costs no less, and need not be offered again.
 ghost use Rattle.std.specs.Prelude.{◌≡◌, ◌≢◌, ◌<◌, ◌≤◌, ◌+◌, ◌^◌, ◌⊎◌, ℕ, length, slice_index, slice_set, All, Contains, IfSome, IfNone, IfOk};
-ghost use Rattle.tcc_reads.specs.History.{count};
 ghost use Rattle.tcc_graph.specs.Levels.{Judged};
 ghost use Rattle.tcc_derive.specs.Prices.{IsPricesOf};
 ghost use Rattle.tcc_core.specs.Queues.{IsBeginning, IsNearest, IsNext, IsPast};
 ghost use Rattle.tcc_core.specs.Offers.{IsLower, IsOffered, IsMarked, IsWayOn, IsOfferedBy};
+ghost use Rattle.tcc_core.specs.Levels.{AreLevels};
 ghost use Rattle.tcc_txn.specs.declared.limits.TheConstants.{MAX_COUNT};
 ghost use Rattle.tcc_core.specs.declared.queue.TheConstants.{NO_WAY};
 ghost use Rattle.tcc_core.specs.declared.ring.TheConstants.{BUCKETS};
 ghost use Rattle.tcc_core.specs.declared.leading.TheConstants.{UNMARKED};
 
+use crate::levels::{Level, begin_levels, forget, offer_classes};
 use crate::offering::{offer_cheapest, offer_each, offer_within};
 use crate::queue::Queue;
 use crate::ring::BUCKETS;
@@ -28,17 +29,20 @@ pub(crate) struct Frontier {
     queue: Queue,
     /// For each session, at the place of its last transaction: from which transaction on all were reached by a session pair.
     marks: Vec<u32>,
+    /// What is met at some costs, those of links that stand in rows of marks.
+    levels: Vec<Level>,
 }
 
 impl Model for Frontier {
     ghost use Rattle.tcc_core.specs.Queues as queues;
     ghost use Rattle.tcc_core.specs.Offers.{IsMarked};
+    ghost use Rattle.tcc_core.specs.Levels.{AreLevels};
 
     ghost Value = { queues.Queue };
 
     ghost view = { λ f. f.queue };
 
-    ghost invariant = { λ f. IsMarked f.queue.floor f.queue.costs f.marks.items };
+    ghost invariant = { λ f. IsMarked f.queue.floor f.queue.costs f.marks.items × AreLevels f.queue.costs f.levels.items };
 }
 
 /// Takes the marks of these away.
@@ -55,19 +59,32 @@ fn unmark(reached: &[u32], marks: &mut [u32])
 
 /// Offers the ways on by links other than session links from a transaction, where so much was spent, to transactions from
 /// the start upward, as far as a link costs at most so much.
-fn offer_others(queue: &mut Queue, prices: &Prices, start: u32, u: u32, so_far: u32, left: u32)
+fn offer_others(
+    queue: &mut Queue,
+    levels: &mut [Level],
+    prices: &Prices,
+    start: u32,
+    u: u32,
+    so_far: u32,
+    left: u32,
+)
     requires below { u < length prices.now.prices }
     requires long { length queue.old.costs ≡ length prices.now.prices }
+    requires few { length queue.old.costs ≤ MAX_COUNT }
+    requires levels { AreLevels queue.old.costs levels.old }
     requires small { queue.old.floor < 2 ^ 31 }
     requires so_far { so_far ≤ queue.old.floor }
     requires left { left < BUCKETS }
     ensures floor { queue.new.floor ≡ queue.old.floor }
     ensures lower { IsLower queue.old.floor queue.old.costs queue.new.costs }
+    ensures levels { AreLevels queue.new.costs levels.new }
     ensures offered { (j : Judged) → IsPricesOf j prices.now
-        → IsOfferedBy prices.now (count j.history) start u so_far left queue.old.floor queue.old.costs queue.new.costs }
+        → IsOfferedBy prices.now start u so_far left queue.old.floor queue.old.costs queue.new.costs }
 {
     if left <= prices.limit() as u32 {
-        offer_cheapest(queue, prices.by_cost(u), start, so_far, left);
+        let links = prices.by_class(u);
+        offer_classes(queue, levels, &links.classes, start, so_far, left);
+        offer_cheapest(queue, links.rest.values(), start, so_far, left);
     } else {
         offer_within(queue, prices.others(u), start, so_far, left);
     }
@@ -81,7 +98,12 @@ impl Frontier {
     {
         let queue = Queue::begin(alloc, count)?;
         let marks = vec![in alloc; UNMARKED; count as usize]?;
-        Ok(Frontier { queue, marks })
+        let levels = begin_levels(alloc, count)?;
+        Ok(Frontier {
+            queue,
+            marks,
+            levels,
+        })
     }
 
     /// Offers a way by a session pair, from where the floor was spent, to each of these transactions of a session. From the
@@ -123,7 +145,15 @@ impl Frontier {
         if so_far == self.queue.floor() {
             self.reach_later(first.max(start), end);
         }
-        offer_others(&mut self.queue, prices, start, u, so_far, left);
+        offer_others(
+            &mut self.queue,
+            &mut self.levels,
+            prices,
+            start,
+            u,
+            so_far,
+            left,
+        );
     }
 
     /// One of the nearest of those that are open, if it costs at most the cap.
@@ -161,6 +191,7 @@ impl Frontier {
         ensures { IsBeginning (length self.old.costs) self.new }
     {
         unmark(self.queue.reached(), &mut self.marks);
+        forget(&mut self.levels);
         self.queue.clear();
     }
 }

@@ -5,6 +5,8 @@
 mod again;
 pub mod laws;
 mod leading;
+mod levels;
+mod marked;
 mod offering;
 mod queue;
 mod ring;

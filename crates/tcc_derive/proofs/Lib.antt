@@ -2,14 +2,17 @@ pub mod BackLemmas
 pub mod BucketLemmas
 pub mod ByCostLemmas
 pub mod ChoiceLemmas
+pub mod ClassLemmas
 pub mod CostLemmas
 pub mod KeyLemmas
+pub mod LevelLemmas
 pub mod LinksOnLemmas
 pub mod LoweringLemmas
 pub mod OthersLemmas
 pub mod PriceLemmas
 pub mod PricesLemmas
 pub mod ReasonLemmas
+pub mod SourceLemmas
 pub mod StepLemmas
 pub mod TableLemmas
 pub mod Worked

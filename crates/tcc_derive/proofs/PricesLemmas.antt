@@ -12,8 +12,11 @@ use Rattle.tcc_derive.specs.Prices.{Tables, IsCost, IsPricesOf, HasOthers, cost_
 use Rattle.tcc_derive.specs.Others.{HasOtherRows, HasEnds, IsShaped, others_below}
 use Rattle.tcc_derive.specs.ByCost.{IsByCost}
 use Rattle.tcc_derive.specs.CostBuckets.{HasCostRows, HaveByCost}
+use Rattle.tcc_derive.specs.Classes.{HasClassRows, HaveByClass}
+use Rattle.tcc_derive.specs.declared.by_class.ByClass.{ByClass}
 use Rattle.tcc_derive.specs.Rows.{IsPriceRow, IsCostRow, HasRows}
 use Rattle.tcc_derive.proofs.ByCostLemmas.{by_cost_of}
+use Rattle.tcc_derive.proofs.ClassLemmas.{by_class_of}
 use Rattle.tcc_derive.proofs.CostLemmas.{cost_row_of}
 use Rattle.tcc_derive.proofs.OthersLemmas.{others_of, costed_at, below, ascends}
 
@@ -86,4 +89,12 @@ module _ (j : Judged) (near : NearTable) (prices : List (List ℕ)) (ends : List
     each = λ u low.
         let from : u < count j.history = omega (arith, low, priced.long) in
         subst (λ (row : List (ℕ × ℕ)). IsByCost tables u row) (sym (costs_in.each u (omega (arith, from, other.long)))) (by_cost_of j tables prices_of u from);
+  }
+
+  pub have_by_class : (rows : List ByClass) → HasClassRows ends others limit rows → HaveByClass tables rows
+  have_by_class rows classes_in = record {
+    long = omega (arith, classes_in.long, other.long, priced.long);
+    each = λ u d low.
+        let from : u < count j.history = omega (arith, low, priced.long) in
+        by_class_of j tables prices_of u (length others) from other.long (get_or rows u d) (classes_in.each u d (omega (arith, from, other.long)));
   }

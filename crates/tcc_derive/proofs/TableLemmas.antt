@@ -85,17 +85,26 @@ module _ (h : History) where
           rw same (puts.put b (omega (arith, before.long)) (rw is (writer_in h (name_of (keys h) n) b (key_at h n within) (rw same at w))))
       go b k l m w (inr other) = puts.kept b k (before.each b k l (omega arith) w)
 
+  pair_in : (reads : List (List Read)) → IsReadsOf h reads → (k : ℕ) (d : List Read) → k < length reads → (j : ℕ) (e : Read) → j < length (get_or reads k d)
+      → IsReadsPair h (get_or (get_or reads k d) j e).source (get_or (get_or reads k d) j e).reader (name_of (keys h) k)
+  pair_in reads read k d l j e m =
+      (read.each k (omega (arith, read.long)) (get_or (get_or reads k d) j e)).0
+      (rw (get_or_default reads k [] d l) (Contains-get_or (get_or reads k d) j e m))
+
   -- what the rows of a transaction need
   pub have_reads : (n : ℕ) (reads : List (List Read)) (written : List (List ℕ)) (b : ℕ) → n ≡ count h → IsReadsOf h reads → IsWritesOf h written
       → b < count h → HaveReads n reads (bucket written b)
   have_reads n reads written b long read wrote from = record {
     places = λ k d l. rw read.long (wrote.wrote b (get_or (bucket written b) k d) from (Contains-get_or (bucket written b) k d l)).0;
-    sources = λ k d l j e m. rw long (pair k d l j e m).0;
-    readers = λ k d l j e m. rw long (pair k d l j e m).1;
+    sources = λ k d l j e m. rw long (pair_in reads read k d l j e m).0;
+    readers = λ k d l j e m. rw long (pair_in reads read k d l j e m).1;
   }
-    where
-      pair : (k : ℕ) (d : List Read) → k < length reads → (j : ℕ) (e : Read) → j < length (get_or reads k d)
-          → IsReadsPair h (get_or (get_or reads k d) j e).source (get_or (get_or reads k d) j e).reader (name_of (keys h) k)
-      pair k d l j e m =
-          (read.each k (omega (arith, read.long)) (get_or (get_or reads k d) j e)).0
-          (rw (get_or_default reads k [] d l) (Contains-get_or (get_or reads k d) j e m))
+
+  -- the sources and the readers of all reads are transactions
+  pub all_sources : (n : ℕ) (reads : List (List Read)) → n ≡ count h → IsReadsOf h reads
+      → All (λ (bucket : List Read). All (λ (r : Read). r.source < n) bucket) reads
+  all_sources n reads long read k d l j e m = rw long (pair_in reads read k d l j e m).0
+
+  pub all_readers : (n : ℕ) (reads : List (List Read)) → n ≡ count h → IsReadsOf h reads
+      → All (λ (bucket : List Read). All (λ (r : Read). r.reader < n) bucket) reads
+  all_readers n reads long read k d l j e m = rw long (pair_in reads read k d l j e m).1

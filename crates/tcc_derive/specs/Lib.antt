@@ -2,6 +2,7 @@
 pub mod Prices
 pub mod Reasons
 pub mod ByCost
+pub mod ByClass
 pub mod Names
 pub mod LinksOn
 pub mod Backwards
@@ -9,7 +10,9 @@ pub mod Backwards
 pub mod Rows
 pub mod Buckets
 pub mod CostBuckets
+pub mod Classes
 pub mod KeyTables
 pub mod Others
 pub mod Lowering
 pub mod Choices
+pub mod Sources

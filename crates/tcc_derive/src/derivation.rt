@@ -4,11 +4,13 @@ ghost use Rattle.tcc_near.specs.Distances.{IsNearOf};
 ghost use Rattle.tcc_derive.specs.Prices.{IsPricesOf};
 
 use crate::Prices;
+use crate::by_class::by_class_rows;
 use crate::by_cost::by_cost_rows;
 use crate::limits::cost_limit;
 use crate::others::{other_rows, session_ends};
 use crate::pricing::price_rows;
 use crate::read_table::read_table;
+use crate::sources::source_table;
 use crate::write_table::write_table;
 use std::alloc::Global;
 use std::thread::Threads;
@@ -28,10 +30,12 @@ pub fn derive(
 {
     let written = write_table(alloc, graph)?;
     let reads = read_table(alloc, graph)?;
-    let prices = price_rows(rt, alloc, graph, &reads, &written, near)?;
+    let sources = source_table(alloc, &reads, graph.count() as usize)?;
+    let prices = price_rows(rt, alloc, graph, &reads, &sources, &written, near)?;
     let others = other_rows(rt, alloc, graph, near, &prices)?;
     let ends = session_ends(alloc, graph)?;
     let limit = cost_limit(near, &prices, &others);
     let by_cost = by_cost_rows(rt, alloc, &others, &ends, limit)?;
-    Ok(Prices::new(near.level(), prices, ends, others, limit, by_cost))
+    let by_class = by_class_rows(rt, alloc, &others, &ends, limit)?;
+    Ok(Prices::new(near.level(), prices, ends, others, limit, by_cost, by_class))
 }

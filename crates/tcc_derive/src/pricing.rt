@@ -1,21 +1,28 @@
 //! Rows of prices, worked out side by side.
-ghost use Rattle.std.specs.Prelude.{◌≡◌, ◌<◌, ◌≤◌, ℕ, length, All, IfOk, flat_map, slice_index};
+ghost use Rattle.std.specs.Prelude.{◌≡◌, ◌<◌, ◌≤◌, ◌⊎◌, ℕ, length, All, IfOk, OnOk, flat_map, slice_index};
 ghost use Rattle.tcc_reads.specs.History.{count};
 ghost use Rattle.tcc_near.specs.Distances.{IsNearOf};
 ghost use Rattle.tcc_derive.specs.Buckets.{bucket};
 ghost use Rattle.tcc_derive.specs.KeyTables.{IsReadsOf, IsWritesOf};
 ghost use Rattle.tcc_derive.specs.Lowering.{one_more, HaveReads, Lowers, ArePricedBy};
 ghost use Rattle.tcc_derive.specs.Rows.{IsPriceRow, HasRows};
+ghost use Rattle.tcc_derive.specs.Sources.{AreSources, HaveSources};
+ghost use Rattle.tcc_near.specs.declared.distances.TheConstants.{NONE};
 ghost use Rattle.tcc_txn.specs.declared.limits.TheConstants.{MAX_COUNT};
 ghost use Rattle.tcc_graph.specs.Tables.{row_of};
 
+use crate::levels::{levels_of, lower_by_levels};
 use crate::read::Read;
+use crate::sources::Sources;
 use rayon::prelude::*;
 use std::alloc::Global;
 use std::thread::Threads;
 use tcc_graph::Graph;
 use tcc_near::{NONE, Near, ROWS_A_THREAD, Row};
 use tcc_txn::NoMemory;
+
+/// With more levels of distances the reads of a key are gone through one by one.
+const FEW_LEVELS: u16 = 64;
 
 /// Lowers the fewest steps to the readers of each transaction by the reads of one key.
 fn lower(nearest: &mut [u16], reads: &[Read], steps: &[u16])
@@ -40,22 +47,52 @@ fn add_step(costs: &mut [u16])
     }
 }
 
+/// Lowers the fewest steps to the readers of each transaction by the reads of one key: level by level where the key has rows
+/// of marks and there are few levels.
+fn lower_by_key(
+    alloc: Global,
+    nearest: &mut [u16],
+    reads: &[Read],
+    rows: &[Row<u64>],
+    steps: &[u16],
+    levels: u16,
+) -> Result<(), NoMemory>
+    requires rows { (length rows.now ≡ 0) ⊎ AreSources (length steps.now) reads.now rows.now }
+    requires sources { All (λ r. r.source < length nearest.old) reads.now }
+    requires readers { All (λ r. r.reader < length steps.now) reads.now }
+    requires few { length steps.now ≤ MAX_COUNT }
+    requires levels { All (λ s. (s < levels) ⊎ (s ≡ NONE)) steps.now }
+    ensures { OnOk result (Lowers reads.now steps.now nearest.old nearest.new) }
+{
+    if rows.is_empty() || levels > FEW_LEVELS {
+        lower(nearest, reads, steps);
+        return Ok(());
+    }
+    lower_by_levels(alloc, nearest, reads, rows, steps, levels)
+}
+
 /// What derived links from `b` cost, by the keys that it writes and the distances from it: a step more than the way to the
 /// nearest reader. None leads to `b` itself.
 fn price_row(
     alloc: Global,
     reads: &[Row<Read>],
+    sources: &[Sources],
     written: &[usize],
     steps: &[u16],
     b: usize,
 ) -> Result<Row<u16>, NoMemory>
     requires reads { HaveReads (length steps.now) reads.now written.now }
+    requires sources { HaveSources (length steps.now) reads.now sources.now }
+    requires few { length steps.now ≤ MAX_COUNT }
     requires own { b < length steps.now }
     ensures { IfOk result (ArePricedBy (flat_map (bucket reads.now) written.now) steps.now b) }
 {
+    let levels = levels_of(steps);
     let mut costs = vec![in alloc; NONE; steps.len()]?;
     for place in written {
-        lower(&mut costs, reads[*place].values(), steps);
+        let key = *place;
+        let rows = sources[key].rows();
+        lower_by_key(alloc, &mut costs, reads[key].values(), rows, steps, levels)?;
     }
     add_step(&mut costs);
     costs[b] = NONE;
@@ -69,11 +106,13 @@ pub(crate) fn price_rows(
     alloc: Global,
     graph: &Graph,
     reads: &[Row<Read>],
+    sources: &[Sources],
     written: &[Row<usize>],
     near: &Near,
 ) -> Result<Vec<Row<u16>>, NoMemory>
     requires near { IsNearOf (record { history = graph.now; level = near.now.level }) near.now }
     requires reads { IsReadsOf graph.now reads.now }
+    requires sources { HaveSources (count graph.now) reads.now sources.now }
     requires written { IsWritesOf graph.now written.now }
     ensures rows { IfOk result (λ rows. HasRows graph.now (IsPriceRow (record { history = graph.now; level = near.now.level })) rows.items) }
     ensures few { IfOk result (λ rows. length rows.items ≤ MAX_COUNT) }
@@ -83,12 +122,13 @@ pub(crate) fn price_rows(
         .map(
             |b: usize| -> Result<Row<u16>, NoMemory>
                 requires { (b < length near.now.rows) × (length near.now.rows ≤ MAX_COUNT) × (length written.now ≡ length near.now.rows)
-                    × HaveReads (length near.now.rows) reads.now (bucket written.now b) }
+                    × HaveReads (length near.now.rows) reads.now (bucket written.now b)
+                    × HaveSources (length near.now.rows) reads.now sources.now }
                 ensures { IfOk result
                     (ArePricedBy (flat_map (bucket reads.entry.now) (bucket written.entry.now b)) (row_of near.entry.now.rows b) b) }
             {
                 let keys = written[b].values();
-                price_row(alloc, reads, keys, near.row(b as u32), b)
+                price_row(alloc, reads, sources, keys, near.row(b as u32), b)
             },
         )
         .with_min_len(ROWS_A_THREAD)

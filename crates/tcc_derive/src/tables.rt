@@ -6,9 +6,12 @@ ghost use Rattle.tcc_derive.specs.Prices.{price_at, cost_at, cost_among, end_of,
 ghost use Rattle.tcc_derive.specs.Others.{IsShaped};
 ghost use Rattle.tcc_derive.specs.ByCost.{IsByCost};
 ghost use Rattle.tcc_derive.specs.CostBuckets.{HaveByCost};
+ghost use Rattle.tcc_derive.specs.ByClass.{IsByClass};
+ghost use Rattle.tcc_derive.specs.Classes.{HaveByClass};
 ghost use Rattle.tcc_txn.specs.declared.limits.TheConstants.{MAX_COUNT};
 ghost use Rattle.tcc_graph.specs.Tables.{row_of};
 
+use crate::ByClass;
 use std::marker::Model;
 use tcc_graph::Level;
 use tcc_near::{NONE, Row};
@@ -23,6 +26,8 @@ pub struct Prices {
     limit: u16,
     /// The links other than session links that cost at most the limit, a row for each row of others.
     by_cost: Vec<Row<(u16, u16)>>,
+    /// The same links by classes of cost.
+    by_class: Vec<ByClass>,
 }
 
 impl Model for Prices {
@@ -30,6 +35,7 @@ impl Model for Prices {
     ghost use Rattle.tcc_derive.specs.Prices.{Tables};
     ghost use Rattle.tcc_derive.specs.Others.{IsShaped};
     ghost use Rattle.tcc_derive.specs.CostBuckets.{HaveByCost};
+    ghost use Rattle.tcc_derive.specs.Classes.{HaveByClass};
 
     ghost Value = { Tables };
 
@@ -55,7 +61,14 @@ impl Model for Prices {
           ends = p.ends.items;
           others = p.others.items;
           limit = p.limit;
-        }) p.by_cost.items };
+        }) p.by_cost.items
+        × HaveByClass (record {
+          level = p.level;
+          prices = p.prices.items;
+          ends = p.ends.items;
+          others = p.others.items;
+          limit = p.limit;
+        }) p.by_class.items };
 }
 
 impl Prices {
@@ -67,12 +80,16 @@ impl Prices {
         others: Vec<Row<(u32, u32)>>,
         limit: u16,
         by_cost: Vec<Row<(u16, u16)>>,
+        by_class: Vec<ByClass>,
     ) -> Prices
         requires shape { IsShaped (length prices.items)
             (record { level = level; prices = prices.items; ends = ends.items; others = others.items; limit = limit }) }
         requires by_cost { HaveByCost
             (record { level = level; prices = prices.items; ends = ends.items; others = others.items; limit = limit })
             by_cost.items }
+        requires by_class { HaveByClass
+            (record { level = level; prices = prices.items; ends = ends.items; others = others.items; limit = limit })
+            by_class.items }
         ensures { result ≡ record { level = level; prices = prices.items; ends = ends.items; others = others.items; limit = limit } }
     {
         Prices {
@@ -82,6 +99,7 @@ impl Prices {
             others,
             limit,
             by_cost,
+            by_class,
         }
     }
 
@@ -160,6 +178,15 @@ impl Prices {
         ensures within { All (λ p. p.0 < length self.now.prices) result.now }
     {
         self.by_cost[u as usize].values()
+    }
+
+    /// The same links by classes of cost: for a small cost that many of them have, where they lead is marked in a row; the
+    /// others stand one by one, in ascending cost.
+    pub fn by_class(&self, u: u32) -> &ByClass
+        requires { u < length self.now.prices }
+        ensures { IsByClass self.now u result.now }
+    {
+        &self.by_class[u as usize]
     }
 
     /// What derived links from `b` to each transaction cost, `NONE` where there is none.

@@ -3,7 +3,7 @@ use Rattle.std.specs.Prelude.{ℕ, ◌<◌, ◌≤◌, ◌≡◌, List, length, 
 use Rattle.std.specs.Ordering.{nat_cmp}
 use Rattle.std.specs.Cmp.Lexicographic.{slice_cmp}
 use Rattle.std.specs.List.Sorted.{IsStrictlySortedBy}
-use Rattle.tcc_txn.specs.declared.limits.TheConstants.{MAX_COUNT, MAX_SESSIONS}
+use Rattle.tcc_txn.specs.declared.limits.TheConstants.{LARGE_COUNT, LARGE_SESSIONS}
 use Rattle.tcc_reads.specs.History.{Entry, IsBySession, initial}
 use Rattle.tcc_graph.specs.Keys.{keys}
 use Rattle.tcc_graph.specs.ReadTables.{over, HasSources, Placed, IsReadTable, ArePlaced, IsPlaceTable}
@@ -12,9 +12,9 @@ use Rattle.tcc_graph.specs.KeyRows.{KeyRow, IsKeyTable}
 -- the tables are those of these transactions
 pub record IsGraph (sessions : List (List ℕ)) (entries : List Entry) (reads : List (List (ℕ × List ℕ))) (names : List (List ℕ)) (places : List Placed)
     (read_places : List (List (ℕ × ℕ))) (rows : List KeyRow) : Type 0 where
-  pub few_sessions : length sessions ≤ MAX_SESSIONS
+  pub few_sessions : length sessions ≤ LARGE_SESSIONS
   pub some : 0 < length entries
-  pub few : length entries ≤ MAX_COUNT
+  pub few : length entries ≤ LARGE_COUNT
   pub owners : (n : ℕ) → 0 < n → n < length entries → (slice_index_or entries n initial).owner < length sessions
   pub ordered : IsBySession entries
   pub sources : All (HasSources (length entries)) entries

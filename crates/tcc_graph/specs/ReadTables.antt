@@ -1,6 +1,6 @@
 -- Serves proofs alone; nobody has to believe it: the tables of reads, by names and by places, and how they are made.
 use Rattle.std.specs.Prelude.{ℕ, ◌<◌, ◌≤◌, ◌≡◌, ◌==◌, List, [], ◌++◌, length, map, filter, slice_index_or, All}
-use Rattle.tcc_txn.specs.declared.limits.TheConstants.{MAX_COUNT}
+use Rattle.tcc_txn.specs.declared.limits.TheConstants.{LARGE_COUNT}
 use Rattle.tcc_reads.specs.History.{Entry, History, IsBySession, initial}
 use Rattle.tcc_graph.specs.Grouped.{as_group, groups}
 use Rattle.tcc_graph.specs.Places.{name_of}
@@ -60,7 +60,7 @@ HasSources n e = All (λ read. read.1 < n) e.reads
 pub record IsListOf (h : History) (entries : List Entry) : Type 0 where
   pub is : entries ≡ h.entries
   pub some : 0 < length entries
-  pub few : length entries ≤ MAX_COUNT
+  pub few : length entries ≤ LARGE_COUNT
   pub owners : (n : ℕ) → 0 < n → n < length entries → (slice_index_or entries n initial).owner < length h.sessions
   pub ordered : IsBySession entries
   pub sources : All (HasSources (length entries)) entries

@@ -1,48 +1,36 @@
 //! The graph of a resolved history.
-ghost use Rattle.std.specs.Prelude.{◌≡◌, ◌≤◌, ◌<◌, ◌+◌, ◌++◌, ◌↔◌, ℕ, List, length, zip, map, All, Contains, IfOk, IsTrue, string_bytes};
+ghost use Rattle.std.specs.Prelude.{◌≡◌, ◌≤◌, ◌<◌, ◌+◌, ◌↔◌, ℕ, List, length, zip, map, All, Contains, IfOk, IsTrue, string_bytes};
 ghost use Rattle.tcc_txn.specs.declared.limits.TheConstants.{MAX_COUNT, MAX_SESSIONS};
-ghost use Rattle.tcc_reads.specs.History.{History, IsBySession, count, entry_at, owner};
+ghost use Rattle.tcc_reads.specs.History.{IsBySession, count, entry_at, owner};
 ghost use Rattle.tcc_graph.specs.Relations.{IsSessionPair, session_pair, reads_from, causal_pair, IsReadsPair};
 ghost use Rattle.tcc_graph.specs.Keys.{keys, key_at, writers, readers};
 ghost use Rattle.tcc_graph.specs.Numbers.{at, label};
 ghost use Rattle.tcc_graph.specs.Links.{IsLink};
 
-use crate::grouped::Grouped;
-use crate::judging::is_link;
-use crate::key_row::KeyRow;
-use crate::key_table::{key_table, place_of};
-use crate::keys::sorted_keys;
-use crate::placed::{Placed, placed_by};
-use crate::tables::{place_table, read_table, transactions_of};
-use crate::transaction::Transaction;
-use crate::{Level, Link};
+use crate::{LargeGraph, Level, Link};
 use std::alloc::Global;
 use std::marker::Model;
 use tcc_reads::Resolved;
 use tcc_txn::{Name, NoMemory};
 
-/// The session order and the reads-from pairs of a history whose reads are resolved. Number 0 is the initial
-/// transaction, `init`; the committed transactions follow by session name in byte order and by place.
+/// The session order and the reads-from pairs of a history whose reads are resolved, and which keeps the small limits.
+/// Number 0 is the initial transaction, `init`; the committed transactions follow by session name in byte order and by
+/// place.
 #[derive(Drop)]
 pub struct Graph {
-    sessions: Vec<Name>,
-    transactions: Vec<Transaction>,
-    reads: Vec<Grouped<Name>>,
-    keys: Vec<Name>,
-    placed: Vec<Placed>,
-    places: Vec<Grouped<u32>>,
-    rows: Vec<KeyRow>,
+    large: LargeGraph,
 }
 
 impl Model for Graph {
-    ghost use Rattle.tcc_reads.specs.History.{History};
-    ghost use Rattle.tcc_graph.specs.Graphs.{IsGraph};
+    ghost use Rattle.std.specs.Prelude.{◌≤◌, length};
+    ghost use Rattle.tcc_txn.specs.declared.limits.TheConstants.{MAX_COUNT, MAX_SESSIONS};
+    ghost use Rattle.tcc_reads.specs.History.{History, count};
 
     ghost Value = { History };
 
-    ghost view = { λ g. record { sessions = g.sessions.items; entries = g.transactions.items } };
+    ghost view = { λ g. g.large };
 
-    ghost invariant = { λ g. IsGraph g.sessions.items g.transactions.items g.reads.items g.keys.items g.placed.items g.places.items g.rows.items };
+    ghost invariant = { λ g. (count g.large ≤ MAX_COUNT) × (length g.large.sessions ≤ MAX_SESSIONS) };
 }
 
 impl Graph {
@@ -50,22 +38,17 @@ impl Graph {
     pub fn build(alloc: Global, resolved: &Resolved) -> Result<Graph, NoMemory>
         ensures { IfOk result (λ g. g ≡ resolved.now) }
     {
-        let transactions = transactions_of(alloc, resolved)?;
-        let reads = read_table(alloc, &transactions)?;
-        let keys = sorted_keys(alloc, &transactions)?;
-        let placed = placed_by(alloc, &keys, &transactions)?;
-        let places = place_table(alloc, &placed)?;
-        let rows = key_table(alloc, keys.len(), &placed, &places)?;
-        let sessions = resolved.sessions().iter().copied().collect(alloc)?;
-        Ok(Graph {
-            sessions,
-            transactions,
-            reads,
-            keys,
-            placed,
-            places,
-            rows,
-        })
+        let large = LargeGraph::build(alloc, resolved.large())?;
+        Ok(Graph { large })
+    }
+
+    /// The same, as one of the large limits.
+    pub fn large(&self) -> &LargeGraph
+        ensures value { result.now ≡ self.now }
+        ensures few { count result.now ≤ MAX_COUNT }
+        ensures few_sessions { length result.now.sessions ≤ MAX_SESSIONS }
+    {
+        &self.large
     }
 
     /// How many transactions there are, `init` among them.
@@ -74,7 +57,7 @@ impl Graph {
         ensures some { 0 < result }
         ensures few { result ≤ MAX_COUNT }
     {
-        self.transactions.len() as u32
+        self.large.count()
     }
 
     /// The names of the sessions, in byte order, also of those without committed transactions. Transactions are numbered
@@ -85,18 +68,14 @@ impl Graph {
         ensures numbered { IsBySession self.now.entries }
         ensures owners { (n : ℕ) → 0 < n → n < count self.now → owner self.now n < length result.now }
     {
-        &self.sessions
+        self.large.sessions()
     }
 
     /// The session's index and the place of a committed transaction; none for `init` and past the last number.
     pub fn at(&self, n: u32) -> Option<(u32, u32)>
         ensures { result ≡ at self.now n }
     {
-        if n == 0 {
-            return None;
-        }
-        let transaction = self.transactions.get(n as usize)?;
-        Some((transaction.owner(), transaction.place()))
+        self.large.at(n)
     }
 
     /// Whether `a` stands before `b` in session order: `init` before all others, and in one session the lower place
@@ -106,12 +85,7 @@ impl Graph {
         requires to { b < count self.now }
         ensures { result ≡ session_pair self.now a b }
     {
-        if a == 0 || b == 0 {
-            return b != 0;
-        }
-        let from = &self.transactions[a as usize];
-        let to = &self.transactions[b as usize];
-        from.owner() == to.owner() && from.place() < to.place()
+        self.large.session(a, b)
     }
 
     /// The first number with a session pair from `u`, and one past the last one, all between them having one too; both
@@ -123,14 +97,7 @@ impl Graph {
         ensures few { result.1 ≤ count self.now }
         ensures pairs { (v : ℕ) → IsSessionPair self.now u v ↔ ((result.0 ≤ v) × (v < result.1)) }
     {
-        if u == 0 {
-            return (1, self.count());
-        }
-        let owner = self.transactions[u as usize].owner();
-        let end = self
-            .transactions
-            .partition_point(|other| other.owner() <= owner);
-        (u + 1, end as u32)
+        self.large.later(u)
     }
 
     /// The keys that `b` reads from `a`, in byte order.
@@ -139,7 +106,7 @@ impl Graph {
         requires to { b < count self.now }
         ensures { result.now ≡ reads_from self.now a b }
     {
-        self.reads[a as usize].get(b)
+        self.large.reads_from(a, b)
     }
 
     /// The keys that a transaction reads, each with the transaction that it reads it from.
@@ -148,7 +115,7 @@ impl Graph {
         ensures value { result.now ≡ (entry_at self.now c).reads }
         ensures sources { All (λ read. read.1 < count self.now) result.now }
     {
-        self.transactions[c as usize].reads()
+        self.large.reads(c)
     }
 
     /// The keys that a transaction writes visibly; none for `init`, which writes every key.
@@ -156,7 +123,7 @@ impl Graph {
         requires { b < count self.now }
         ensures { result.now ≡ (entry_at self.now b).writes }
     {
-        self.transactions[b as usize].writes()
+        self.large.writes(b)
     }
 
     /// Who reads from `a`, by ascending number, and beside each the key that it reads there.
@@ -165,8 +132,7 @@ impl Graph {
         ensures long { length result.0.now ≡ length result.1.now }
         ensures each { (c : ℕ) (x : List ℕ) → Contains (zip result.0.now result.1.now) (c, x) ↔ IsReadsPair self.now a c x }
     {
-        let reads = &self.reads[a as usize];
-        (reads.groups(), reads.values())
+        self.large.readings(a)
     }
 
     /// Whether `a` stands before `b` in session order, or `b` reads a key from `a`.
@@ -175,24 +141,21 @@ impl Graph {
         requires to { b < count self.now }
         ensures { result ≡ causal_pair self.now a b }
     {
-        self.session(a, b) || self.reads[a as usize].has(b)
+        self.large.causal(a, b)
     }
 
     /// The keys in operations of committed transactions, in byte order, each once.
     pub fn keys(&self) -> &[Name]
         ensures { result.now ≡ keys self.now }
     {
-        &self.keys
+        self.large.keys()
     }
 
     /// The transactions that write the key visibly, ascending, `init` first; none where it is no key of the history.
     pub fn writers(&self, key: &Name) -> &[u32]
         ensures { result.now ≡ writers self.now key.now }
     {
-        match place_of(&self.keys, key) {
-            Some(place) => self.rows[place].writers(),
-            None => &[],
-        }
+        self.large.writers(key)
     }
 
     /// The transactions that read the key from `a`, ascending.
@@ -200,17 +163,14 @@ impl Graph {
         requires { a < count self.now }
         ensures { result.now ≡ readers self.now a key.now }
     {
-        match place_of(&self.keys, key) {
-            Some(place) => self.rows[place].readers(a),
-            None => &[],
-        }
+        self.large.readers(a, key)
     }
 
     /// Whether the link is one of the history at the level. Its numbers may be any: past the last there is no link.
     pub fn is_link(&self, level: Level, link: &Link) -> bool
         ensures { IsTrue result ↔ IsLink (record { history = self.now; level = level }) link.now }
     {
-        is_link(self, level, link)
+        self.large.is_link(level, link)
     }
 
     /// The transactions that write the key at a place visibly, ascending, `init` first.
@@ -218,7 +178,7 @@ impl Graph {
         requires { place < length (keys self.now) }
         ensures { result.now ≡ writers self.now (key_at self.now place) }
     {
-        self.rows[place as usize].writers()
+        self.large.writers_at(place)
     }
 
     /// Who reads the key at a place: the sources by ascending number, and beside each a reader of the key from it.
@@ -227,8 +187,7 @@ impl Graph {
         ensures long { length result.0.now ≡ length result.1.now }
         ensures each { (a c : ℕ) → Contains (zip result.0.now result.1.now) (a, c) ↔ IsReadsPair self.now a c (key_at self.now place) }
     {
-        let readers = self.rows[place as usize].all_readers();
-        (readers.groups(), readers.values())
+        self.large.readings_of(place)
     }
 
     /// Who reads from `a`, by ascending number, and beside each the place of the key that it reads there.
@@ -239,8 +198,7 @@ impl Graph {
         ensures each { (c place : ℕ) → Contains (zip result.0.now result.1.now) (c, place)
             ↔ ((place < length (keys self.now)) × IsReadsPair self.now a c (key_at self.now place)) }
     {
-        let places = &self.places[a as usize];
-        (places.groups(), places.values())
+        self.large.readings_at(a)
     }
 
     /// The places of the keys that a transaction reads, each with the transaction that it reads it from.
@@ -249,7 +207,7 @@ impl Graph {
         ensures value { map (λ read. (key_at self.now read.0, read.1)) result.now ≡ (entry_at self.now c).reads }
         ensures within { All (λ read. (read.0 < length (keys self.now)) × (read.1 < count self.now)) result.now }
     {
-        self.placed[c as usize].reads()
+        self.large.reads_at(c)
     }
 
     /// The places of the keys that a transaction writes visibly, ascending; none for `init`, which writes every key.
@@ -258,7 +216,7 @@ impl Graph {
         ensures value { map (key_at self.now) result.now ≡ (entry_at self.now b).writes }
         ensures within { All (λ place. place < length (keys self.now)) result.now }
     {
-        self.placed[b as usize].writes()
+        self.large.writes_at(b)
     }
 
     /// `init` for number 0, else the name of the session, a slash and the place.
@@ -266,12 +224,6 @@ impl Graph {
         requires { n < count self.now }
         ensures { IfOk result (λ text. string_bytes text ≡ label self.now n) }
     {
-        if n == 0 {
-            return Ok(format!(in alloc; "init")?);
-        }
-        let transaction = &self.transactions[n as usize];
-        let session = self.sessions[transaction.owner() as usize];
-        let place = transaction.place();
-        Ok(format!(in alloc; "{session}/{place}")?)
+        self.large.label(alloc, n)
     }
 }

@@ -6,32 +6,32 @@ ghost use Rattle.tcc_graph.specs.Walks.{IsStep, Leads};
 ghost use Rattle.tcc_graph.specs.Levels.{IsAllowed};
 ghost use Rattle.tcc_graph.specs.Links.{IsReason, IsLink};
 
-use crate::{Graph, Level, Link, Step};
+use crate::{LargeGraph, Level, Link, Step};
 use tcc_txn::Name;
 
 /// Whether `from` stands before `to` in session order, whatever the numbers.
-fn is_session(graph: &Graph, from: u32, to: u32) -> bool
+fn is_session(graph: &LargeGraph, from: u32, to: u32) -> bool
     ensures { IsTrue result ↔ IsSessionPair graph.now from to }
 {
     from < graph.count() && to < graph.count() && graph.session(from, to)
 }
 
 /// Whether `to` reads the key from `from`, whatever the numbers.
-fn is_read(graph: &Graph, from: u32, to: u32, key: &Name) -> bool
+fn is_read(graph: &LargeGraph, from: u32, to: u32, key: &Name) -> bool
     ensures { IsTrue result ↔ IsReadsPair graph.now from to key.now }
 {
     from < graph.count() && to < graph.count() && graph.reads_from(from, to).contains(key)
 }
 
 /// Whether the transaction writes the key: `init` writes each, also one that nobody uses.
-fn is_writer(graph: &Graph, writer: u32, key: &Name) -> bool
+fn is_writer(graph: &LargeGraph, writer: u32, key: &Name) -> bool
     ensures { IsTrue result ↔ IsWriter graph.now writer key.now }
 {
     writer < graph.count() && (writer == 0 || graph.writes(writer).contains(key))
 }
 
 /// Whether the step is a pair of the history.
-fn is_step(graph: &Graph, step: &Step) -> bool
+fn is_step(graph: &LargeGraph, step: &Step) -> bool
     ensures { IsTrue result ↔ IsStep graph.now step.now }
 {
     match step {
@@ -41,7 +41,7 @@ fn is_step(graph: &Graph, step: &Step) -> bool
 }
 
 /// Whether the steps, each a pair of the history, lead from one transaction to the other.
-fn leads(graph: &Graph, from: u32, to: u32, steps: &[Step]) -> bool
+fn leads(graph: &LargeGraph, from: u32, to: u32, steps: &[Step]) -> bool
     ensures { IsTrue result ↔ Leads graph.now from to steps.now }
 {
     let mut at = from;
@@ -67,7 +67,7 @@ fn is_allowed(level: Level, walk: &[Step]) -> bool
 /// Whether `reader` reads the key from `to`, and `from`, another writer of it, reaches `reader` by the walk, which the
 /// level allows.
 fn is_reason(
-    graph: &Graph,
+    graph: &LargeGraph,
     level: Level,
     from: u32,
     to: u32,
@@ -86,7 +86,7 @@ fn is_reason(
 }
 
 /// Whether the link is one of the history at the level.
-pub(crate) fn is_link(graph: &Graph, level: Level, link: &Link) -> bool
+pub(crate) fn is_link(graph: &LargeGraph, level: Level, link: &Link) -> bool
     ensures { IsTrue result ↔ IsLink (record { history = graph.now; level = level }) link.now }
 {
     match link {

@@ -7,6 +7,7 @@ mod judging;
 mod key_row;
 mod key_table;
 mod keys;
+mod large_graph;
 pub mod laws;
 mod level;
 mod limits;
@@ -19,6 +20,7 @@ mod walk;
 
 pub use graph::Graph;
 pub use key_table::place_of;
+pub use large_graph::LargeGraph;
 pub use level::Level;
 pub use limits::{MAX_CYCLE_COST, MAX_LINK_COST};
 pub use link::Link;

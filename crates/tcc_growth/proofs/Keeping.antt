@@ -1,4 +1,4 @@
--- The law of growth, from what a map of numbers keeps.
+-- The laws of slices and of growth, from what a map of numbers keeps.
 use Rattle.std.proofs.lemmas.List.Elements.{All-contains}
 use Rattle.std.proofs.Common.{ℕ, zero, suc, ◌<◌, List, map, All, sym, ap, subst, arith}
 use Rattle.tcc_txn.specs.Snapshots.{Sessions}
@@ -10,11 +10,35 @@ use Rattle.tcc_graph.specs.Routes.{IsCycle}
 use Rattle.tcc_graph.specs.declared.level.Level.{Level}
 use Rattle.tcc_graph.specs.declared.link.Link.{Link}
 use Rattle.tcc_growth.specs.Growth.{Grows}
-use Rattle.tcc_growth.specs.Growth.{judged, number_in, link_in, KeepsLabels, KeepsLinks, KeepsCycles, KeepsAnomalies, CostsNoMore, IsFirstMissing}
+use Rattle.tcc_growth.specs.Growth.{judged, number_in, link_in, CarriesLinks, CarriesCycles, KeepsLabels, KeepsLinks, KeepsCycles, KeepsAnomalies}
+use Rattle.tcc_growth.specs.Growth.{CostsNoMore, IsFirstMissing}
+use Rattle.tcc_growth.specs.Moved.{link_by}
+use Rattle.tcc_growth.specs.Slices.{IsSlice}
 use Rattle.tcc_growth.proofs.Numbered.{of_number, number_below}
 use Rattle.tcc_growth.proofs.Meeting.{moves, moved_zero}
 use Rattle.tcc_growth.proofs.Kept.{kept_link, all_kept, cycle_by, leads_on, moved_cost}
+use Rattle.tcc_growth.proofs.Sliced.{sliced}
 use Rattle.tcc_growth.proofs.Growth.{grown}
+
+module _ (f : ℕ → ℕ) (small large : Sessions) (slice : IsSlice f small large) where
+  pub carries_links : CarriesLinks f small large
+  carries_links level l is = (kept_link (history small) (history large) f (sliced f small large slice) level l is, moved_cost f l)
+
+  carried_there : (level : Level) (s : ℕ) (links : List Link) → IsCycle (judged level small) s links
+      → All (IsLink (judged level large)) (map (link_by f) links)
+  carried_there level s links cycle = all_kept (history small) (history large) f (sliced f small large slice) level s s links cycle.1
+
+  pub carries_cycles : CarriesCycles f small large
+  carries_cycles level s links cycle =
+      cycle_by f (judged level large) s links cycle.0 (leads_on (judged level small) s s links cycle.1) (carried_there level s links cycle)
+
+  pub carries_anomalies : KeepsAnomalies small large
+  carries_anomalies level (s, links, cycle) = (f s, map (link_by f) links, (carries_cycles level s links cycle).0)
+
+  pub carried_cost : CostsNoMore small large
+  carried_cost level s links t others here there =
+      let w = carries_cycles level s links here.cycle in
+      omega (arith, there.least (f s) (map (link_by f) links) w.0, w.1)
 
 module _ (small large : Sessions) (grows : Grows small large) where
   pub keeps_labels : KeepsLabels small large
@@ -26,28 +50,20 @@ module _ (small large : Sessions) (grows : Grows small large) where
       (number_below large (number_in small large (suc i)) w.there w.number, w.label)
 
   pub keeps_links : KeepsLinks small large
-  keeps_links level l is =
-      (kept_link (history small) (history large) (number_in small large) (grown small large grows) level l is, moved_cost (number_in small large) l)
-
-  links_there : (level : Level) (s : ℕ) (links : List Link) → IsCycle (judged level small) s links
-      → All (IsLink (judged level large)) (map (link_in small large) links)
-  links_there level s links cycle =
-      all_kept (history small) (history large) (number_in small large) (grown small large grows) level s s links cycle.1
+  keeps_links = carries_links (number_in small large) small large (grown small large grows)
 
   pub keeps_cycles : KeepsCycles small large
-  keeps_cycles level s links cycle =
-      cycle_by (number_in small large) (judged level large) s links cycle.0 (leads_on (judged level small) s s links cycle.1) (links_there level s links cycle)
+  keeps_cycles = carries_cycles (number_in small large) small large (grown small large grows)
 
   pub keeps_anomalies : KeepsAnomalies small large
-  keeps_anomalies level (s, links, cycle) = (number_in small large s, map (link_in small large) links, (keeps_cycles level s links cycle).0)
+  keeps_anomalies = carries_anomalies (number_in small large) small large (grown small large grows)
 
   pub costs_no_more : CostsNoMore small large
-  costs_no_more level s links t others here there =
-      let w = keeps_cycles level s links here.cycle in
-      omega (arith, there.least (number_in small large s) (map (link_in small large) links) w.0, w.1)
+  costs_no_more = carried_cost (number_in small large) small large (grown small large grows)
 
   pub none_missing : (level : Level) (s : ℕ) (links : List Link) (n : ℕ) → IsCycle (judged level small) s links
       → IsFirstMissing (judged level large) (map (link_in small large) links) n → ⊥
   none_missing level s links n cycle m =
-      m.wrong (All-contains (IsLink (judged level large)) (map (link_in small large) links) m.missing (links_there level s links cycle)
+      m.wrong (All-contains (IsLink (judged level large)) (map (link_in small large) links) m.missing
+      (carried_there (number_in small large) small large (grown small large grows) level s links cycle)
       (m.before, m.within, m.here))

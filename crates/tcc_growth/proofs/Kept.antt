@@ -3,7 +3,7 @@ use Rattle.std.proofs.Common.{ℕ, zero, suc, ◌≡◌, ◌<◌, ◌==◌, ◌�
 use Rattle.std.proofs.lemmas.List.{length-map}
 use Rattle.std.proofs.lemmas.Bool.{or_cases, or_left, or_right, eq-eqb, eqb-true}
 use Rattle.std.proofs.lemmas.List.Elements.{All-nil, All-cons, All-head, All-tail}
-use Rattle.tcc_reads.specs.History.{History, count, entry_at, owner, place}
+use Rattle.tcc_reads.specs.History.{History, count, entry_at}
 use Rattle.tcc_graph.specs.Relations.{IsSessionPair, IsReadsPair}
 use Rattle.tcc_graph.specs.Keys.{has_name, IsWriter}
 use Rattle.tcc_graph.specs.Walks.{step_from, step_to, IsStep, Leads, IsWalk}
@@ -17,7 +17,7 @@ use Rattle.tcc_graph.specs.declared.step.Step.TheVariants as step
 use Rattle.tcc_graph.specs.declared.link.Link.{Link}
 use Rattle.tcc_graph.specs.declared.link.Link.TheVariants as link
 use Rattle.tcc_graph.proofs.Linking.{derived_cost, cost_cons}
-use Rattle.tcc_graph.proofs.Pairs.{lower_first, initial_pair, pair_parts}
+use Rattle.tcc_graph.proofs.Pairs.{initial_pair, pair_parts}
 use Rattle.tcc_growth.specs.Moved.{step_by, link_by}
 use Rattle.tcc_growth.specs.Growth.{LeadOn}
 
@@ -27,8 +27,7 @@ pub record IsKept (h : History) (k : History) (f : ℕ → ℕ) : Type 0 where
   pub some : (n : ℕ) → 0 < n → n < count h → 0 < f n
   pub below : (n : ℕ) → n < count h → f n < count k
   pub once : (a : ℕ) (b : ℕ) → a < count h → b < count h → f a ≡ f b → a ≡ b
-  pub owners : (a : ℕ) (b : ℕ) → 0 < a → a < count h → 0 < b → b < count h → owner h a ≡ owner h b → owner k (f a) ≡ owner k (f b)
-  pub places : (n : ℕ) → 0 < n → n < count h → place k (f n) ≡ place h n
+  pub session : (a : ℕ) (b : ℕ) → 0 < a → IsSessionPair h a b → IsSessionPair k (f a) (f b)
   pub written : (n : ℕ) (x : List ℕ) → 0 < n → n < count h → has_name (entry_at h n).writes x ≡ true → has_name (entry_at k (f n)).writes x ≡ true
   pub read : (a : ℕ) (b : ℕ) (x : List ℕ) → IsReadsPair h a b x → IsReadsPair k (f a) (f b) x
 
@@ -83,12 +82,7 @@ module _ (h k : History) (f : ℕ → ℕ) (kept : IsKept h k f) where
   kept_session zero b p =
       let w = pair_parts h 0 b p in
       initial_pair k (f 0) (f b) kept.first (kept.below 0 w.from) (kept.some b w.some w.to) (kept.below b w.to)
-  kept_session (suc i) b p =
-      let w = pair_parts h (suc i) b p in
-      let more : 0 < suc i = omega arith in
-      lower_first k (f (suc i)) (f b) (kept.some (suc i) more w.from) (kept.below (suc i) w.from) (kept.some b w.some w.to) (kept.below b w.to)
-      (kept.owners (suc i) b more w.from w.some w.to (w.same more))
-      (omega (arith, kept.places (suc i) more w.from, kept.places b w.some w.to, w.lower more))
+  kept_session (suc i) b p = kept.session (suc i) b (omega arith) p
 
   pub kept_writer : (b : ℕ) (x : List ℕ) → IsWriter h b x → IsWriter k (f b) x
   kept_writer zero x w = (kept.below 0 w.0, or_left _ _ (eq-eqb (f 0) 0 kept.first))

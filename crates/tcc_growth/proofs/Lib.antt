@@ -6,7 +6,9 @@
 --   Labels     no two transactions have one label
 --   Meeting    the number of each transaction in a snapshot that continues its own
 --   Kept       what a map of numbers keeps of pairs, it keeps of walks, reasons, links and cycles
---   Growth     a snapshot that continues another keeps its pairs
+--   Written    which keys a transaction writes, by the values that it writes visibly
+--   Sliced     a snapshot keeps the pairs of its slices
+--   Growth     a snapshot that continues another has it as a slice
 --   Keeping    so it keeps its links, cycles and anomalies
 --   Nesting    what is finished later continues what was finished
 --   OneByOne   links, as they are looked at one by one
@@ -22,4 +24,6 @@ pub mod Numbered
 pub mod OneByOne
 pub mod Placed
 pub mod Searching
+pub mod Sliced
 pub mod Worked
+pub mod Written

@@ -39,18 +39,23 @@ KeepsLabels small large =
     (n : ℕ) → n < count (history small)
     → (number_in small large n < count (history large)) × (label (history large) (number_in small large n) ≡ label (history small) n)
 
--- each link is, by its labels, a link there, and costs the same
-abbrev pub KeepsLinks : Sessions → Sessions → Type 0
-KeepsLinks small large =
-    (level : Level) (l : Link) → IsLink (judged level small) l
-    → IsLink (judged level large) (link_in small large l) × (link_cost (link_in small large l) ≡ link_cost l)
+-- by a map of numbers each link is a link there, and costs the same
+abbrev pub CarriesLinks : (ℕ → ℕ) → Sessions → Sessions → Type 0
+CarriesLinks f small large =
+    (level : Level) (l : Link) → IsLink (judged level small) l → IsLink (judged level large) (link_by f l) × (link_cost (link_by f l) ≡ link_cost l)
 
--- each cycle is, by its labels, a cycle there, and costs the same
-abbrev pub KeepsCycles : Sessions → Sessions → Type 0
-KeepsCycles small large =
+-- and each cycle a cycle
+abbrev pub CarriesCycles : (ℕ → ℕ) → Sessions → Sessions → Type 0
+CarriesCycles f small large =
     (level : Level) (s : ℕ) (links : List Link) → IsCycle (judged level small) s links
-    → IsCycle (judged level large) (number_in small large s) (map (link_in small large) links)
-    × (cost (map (link_in small large) links) ≡ cost links)
+    → IsCycle (judged level large) (f s) (map (link_by f) links) × (cost (map (link_by f) links) ≡ cost links)
+
+-- so by their labels
+abbrev pub KeepsLinks : Sessions → Sessions → Type 0
+KeepsLinks small large = CarriesLinks (number_in small large) small large
+
+abbrev pub KeepsCycles : Sessions → Sessions → Type 0
+KeepsCycles small large = CarriesCycles (number_in small large) small large
 
 -- where there is a cycle, there is one there
 abbrev pub KeepsAnomalies : Sessions → Sessions → Type 0

@@ -1,4 +1,5 @@
-//! The law of growth: where a snapshot goes on, its anomalies stay, and the least never costs more.
+//! The law of slices: an anomaly of a part of a snapshot is one of the whole; and the law of growth, which is a case of it:
+//! where a snapshot goes on, its anomalies stay, and the least never costs more.
 ghost use Rattle.std.specs.Prelude.{ℕ, ◌<◌, ◌≡◌, length, List, ◌++◌, map, All};
 ghost use Rattle.tcc_txn.specs.Finished.{finished_in};
 ghost use Rattle.tcc_txn.specs.Nested.{IsNested};
@@ -10,13 +11,27 @@ ghost use Rattle.tcc_graph.specs.Routes.{IsCycle};
 ghost use Rattle.tcc_graph.specs.declared.level.Level.{Level};
 ghost use Rattle.tcc_graph.specs.declared.link.Link.{Link};
 ghost use Rattle.tcc_growth.specs.Moved.{link_by};
-ghost use Rattle.tcc_growth.specs.Growth.{Grows, IsFirstMissing, judged, link_in, KeepsLabels, KeepsLinks, KeepsCycles, KeepsAnomalies, CostsNoMore, LeadOn};
+ghost use Rattle.tcc_growth.specs.Growth.{Grows, IsFirstMissing, judged, number_in, link_in, CarriesLinks, CarriesCycles, KeepsLabels, KeepsLinks, KeepsCycles};
+ghost use Rattle.tcc_growth.specs.Growth.{KeepsAnomalies, CostsNoMore, LeadOn};
+ghost use Rattle.tcc_growth.specs.Slices.{IsSlice};
 
-/// If every list of one resolved snapshot is a prefix of the list of that session in another resolved one, each
-/// transaction of the first has a number in the second, that of its label, and each link of the first is, by its labels,
+/// Where each committed transaction of a resolved snapshot is a part of one of another resolved snapshot, by a map of numbers
+/// that only rises in a session: one session, the part's external reads among the whole one's, and what the part writes visibly
+/// written visibly by the whole one. Then each link of the first is, in those numbers, a link of the second at the same cost. So
+/// each cycle of the first is one of the second, at each level, and a least cycle of the second costs no more.
+pub fn slices()
+    ensures links { (f : ℕ → ℕ) (small large : Sessions) → IsSlice f small large → CarriesLinks f small large }
+    ensures cycles { (f : ℕ → ℕ) (small large : Sessions) → IsSlice f small large → CarriesCycles f small large }
+    ensures anomalies { (f : ℕ → ℕ) (small large : Sessions) → IsSlice f small large → KeepsAnomalies small large }
+    ensures costs { (f : ℕ → ℕ) (small large : Sessions) → IsSlice f small large → CostsNoMore small large }
+{}
+
+/// If every list of one resolved snapshot is a prefix of the list of that session in another resolved one, the first is a slice
+/// of the second, by labels: each transaction of the first has a number in the second, that of its label, and each link of the first is, by its labels,
 /// a link of the second at the same cost. So each cycle of the first is one of the second, at each level, and a least
 /// cycle of the second costs no more than one of the first; and no link of a cycle of the first is missed in the second.
 pub fn growth()
+    ensures slice { (small large : Sessions) → Grows small large → IsSlice (number_in small large) small large }
     ensures labels { (small large : Sessions) → Grows small large → KeepsLabels small large }
     ensures links { (small large : Sessions) → Grows small large → KeepsLinks small large }
     ensures cycles { (small large : Sessions) → Grows small large → KeepsCycles small large }

@@ -175,6 +175,15 @@ cleared word k within set_bit =
     )
 
 -- ---- the numbers that a word marks
+-- none yet
+pub push_none : (old : List ℕ) (word first b : ℕ) → Contains old b ↔
+    (Contains old b ⊎ ((i : ℕ) × (i < 64) × (bit_at word i ≡ 1) × (bit_at word i ≡ 0) × (b ≡ first + i)))
+push_none old word first b = (inl, back)
+  where
+    back : Contains old b ⊎ ((i : ℕ) × (i < 64) × (bit_at word i ≡ 1) × (bit_at word i ≡ 0) × (b ≡ first + i)) → Contains old b
+    back (inl h) = h
+    back (inr (i, small, one, none, at)) = absurd (omega (arith, one, none))
+
 pub push_more : (old numbers : List ℕ) (word left first t : ℕ) → (t < 64) → bit_at left t ≡ 1 → ((i : ℕ) → i < 64 → bit_at left i ≤ bit_at word i)
     → ((b : ℕ) → Contains numbers b ↔ (Contains old b ⊎ ((i : ℕ) × (i < 64) × (bit_at word i ≡ 1) × (bit_at left i ≡ 0) × (b ≡ first + i))))
     → let less = bit_and left (bit_not w64 (1 * 2 ^ t % 2 ^ 64)) in

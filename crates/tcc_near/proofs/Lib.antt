@@ -1,11 +1,11 @@
 pub mod Walks
 pub mod BreadthLemmas
 pub mod BitLemmas
+pub mod Ascending
 pub mod MarkLemmas
 pub mod Unmarking
 pub mod FreshLemmas
 pub mod RowLemmas
-pub mod ClockLemmas
 pub mod ShortWalks
 pub mod LeastFrom
 pub mod Worked

@@ -4,5 +4,4 @@ pub mod Clocks
 pub mod Bits
 -- What serves proofs alone:
 pub mod Breadth
-pub mod ClockRows
 pub mod Backwards

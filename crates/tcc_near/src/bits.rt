@@ -1,7 +1,8 @@
 //! Rows of marks, 64 in a word: number b is bit b % 64 of word b / 64.
 ghost use Rattle.std.specs.Prelude.{◌≡◌, ◌≢◌, ◌<◌, ◌≤◌, ◌+◌, ◌/◌, ◌^◌, ◌==◌, ◌||◌, ◌&&◌, ◌↔◌, ◌⊎◌, ℕ, true, length, All, Contains, OnOk};
 ghost use Rattle.std.specs.Int.{bit_at};
-ghost use Rattle.tcc_near.specs.Bits.{is_marked, words_for, IsFresh};
+ghost use Rattle.std.specs.List.{AllPairs};
+ghost use Rattle.tcc_near.specs.Bits.{is_marked, words_for, IsFresh, IsAscendingBelow};
 
 use std::alloc::AllocError;
 
@@ -77,11 +78,12 @@ pub fn merge_common(words: &mut [u64], one: &[u64], other: &[u64])
     }
 }
 
-/// Puts down the numbers that a word marks, of which the lowest place stands for `first`.
+/// Puts down the numbers that a word marks, in ascending order; its lowest place stands for `first`.
 fn push_marked(numbers: &mut Vec<u32>, word: u64, first: u32) -> Result<(), AllocError>
     requires { first < 2 ^ 31 }
-    ensures { OnOk result ((b : ℕ) → Contains numbers.new.items b
+    ensures each { OnOk result ((b : ℕ) → Contains numbers.new.items b
         ↔ (Contains numbers.old.items b ⊎ ((bit : ℕ) × (bit < 64) × (bit_at word bit ≡ 1) × (b ≡ first + bit)))) }
+    ensures ascending { OnOk result (IsAscendingBelow first numbers.old.items → IsAscendingBelow (first + 64) numbers.new.items) }
 {
     let mut left = word;
     while left != 0 {
@@ -92,13 +94,14 @@ fn push_marked(numbers: &mut Vec<u32>, word: u64, first: u32) -> Result<(), Allo
     Ok(())
 }
 
-/// The numbers that are marked and have not been seen; they are seen from now on.
+/// The numbers that are marked and have not been seen, ascending; they are seen from now on.
 pub fn take_fresh(fresh: &mut Vec<u32>, seen: &mut [u64], marks: &[u64]) -> Result<(), AllocError>
     requires same { length seen.old ≡ length marks.now }
     requires few { length marks.now ≤ 2 ^ 20 }
     ensures same { length seen.new ≡ length seen.old }
     ensures seen { OnOk result ((b : ℕ) → is_marked seen.new b ≡ (is_marked seen.old b || is_marked marks.now b)) }
     ensures fresh { OnOk result (IsFresh seen.old marks.now fresh.new.items) }
+    ensures ascending { OnOk result (AllPairs (λ a b. a < b) fresh.new.items) }
 {
     fresh.clear();
     for (place, known) in seen.iter_mut().enumerate() {

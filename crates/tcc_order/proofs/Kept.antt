@@ -52,7 +52,7 @@ link_before j order o (link.Session a b) p = o.sessions a b p
 link_before j order o (link.Reads a b x) p = o.reads a b x p
 link_before j order o (link.Derived b a x c walk) p = o.axiom_of b a x c walk p
 
-linked_before : (j : Judged) (order : List ℕ) → IsCommitOrder j order → (a b : ℕ) → IsLinked j a b → Before order a b
+pub linked_before : (j : Judged) (order : List ℕ) → IsCommitOrder j order → (a b : ℕ) → IsLinked j a b → Before order a b
 linked_before j order o a b w = rw (← w.1.from, ← w.1.to) (link_before j order o w.0 w.1.link)
 
 order_from_commit : (j : Judged) (precedes : ℕ → ℕ → Bool) (order : List ℕ) → IsPrecedence j precedes → IsCommitOrder j order

@@ -4,23 +4,35 @@ use Rattle.std.proofs.Common.{slice_index, refl, sym, ◌∙◌, subst, arith}
 use Rattle.std.specs.Prelude.{max}
 use Rattle.std.specs.List.{All, Contains}
 use Rattle.std.proofs.lemmas.Bool.{cases_lt, cases_eq, cases_Bool, and_parts, and_from, ltb-true, lt-ltb, eqb-true, eq-eqb, false≢true}
-use Rattle.std.proofs.lemmas.List.{get_or-replicate, length-replicate, get_or-set_same, get_or-set_other, get_or_default, length-set}
+use Rattle.std.proofs.lemmas.List.{get_or-replicate, length-replicate, get_or-set_same, get_or-set_other, get_or_default, get_or-take, length-take-le, length-set}
 use Rattle.std.proofs.lemmas.List.Elements.{All-weaker, All-contains_itself}
 use Rattle.tcc_reads.specs.History.{History, IsBySession, count, owner, place}
 use Rattle.tcc_graph.specs.Walks.{IsReached}
 use Rattle.tcc_graph.specs.Levels.{causally}
-use Rattle.tcc_graph.specs.Orders.{Before, IsCommitOrder}
+use Rattle.tcc_graph.specs.Orders.{Before, IsNumbering, IsCommitOrder}
 use Rattle.tcc_graph.specs.Relations.{IsCausalPair}
 use Rattle.tcc_graph.specs.Tables.{row_of}
-use Rattle.tcc_graph.proofs.Numberings.{below_in}
+use Rattle.tcc_graph.proofs.Numberings.{below_in, one_place}
 use Rattle.tcc_graph.proofs.Walking.{pair_walk}
 use Rattle.tcc_graph.proofs.Pairs.{pair_below}
 use Rattle.tcc_near.specs.Clocks.{IsBehind, IsLast, IsClocksOf}
 use Rattle.tcc_near.proofs.FreshLemmas.{one_of_taken, still_taken, last_taken, nothing_in}
-use Rattle.tcc_order.specs.Behind.{HasSourcesAt, parents}
+use Rattle.tcc_order.specs.Parents.{HasSourcesAt, parents}
 use Rattle.tcc_order.specs.Lasts.{IsOneOf, IsLastOf, AreLastsOf, IsBefore, IsUpTo, raised, HasLasts}
 use Rattle.tcc_order.proofs.Reaching.{reached_by, parents_all, parent_pair, IsBehindBy}
-use Rattle.tcc_order.proofs.Rows.{taken_before}
+
+-- ---- an order
+-- an earlier place of the list is in its front
+taken_at : (order : List ℕ) (k i p : ℕ) → i < k → k < length order → get_or order i 0 ≡ p → Contains (take k order) p
+taken_at order k i p less inside at_p =
+    let long : i < length (take k order) = omega (arith, length-take-le k order (omega arith)) in
+    (i, long, get_or_default (take k order) i p 0 long ∙ (get_or-take k order i 0 less ∙ at_p))
+
+-- what stands before the next one was worked out
+pub taken_before : {n : ℕ} (order : List ℕ) (k p : ℕ) → IsNumbering n order → k < length order → Before order p (get_or order k 0) → Contains (take k order) p
+taken_before order k p is inside (i, j, less, within, at_p, at_c) =
+    let same : j ≡ k = one_place is j k within inside at_c in
+    taken_at order k i p (omega arith) inside at_p
 
 -- ---- one session
 -- others are meant, of which each is one of these and the other way round

@@ -6,12 +6,13 @@ pub mod Reached
 pub mod Linked
 pub mod OrderOrCycle
 pub mod Reaching
-pub mod MissingBits
-pub mod Picking
+pub mod Fronts
 pub mod Links
-pub mod Rows
-pub mod Contradicting
-pub mod Heads
 pub mod LastLemmas
-pub mod WriterRows
 mod Worked
+pub mod LatestLemmas
+pub mod Readings
+pub mod Needing
+pub mod Finding
+pub mod Stepped
+pub mod Rising

@@ -17,7 +17,7 @@ use Rattle.tcc_graph.proofs.Numberings.{one_place}
 
 -- ---- an order would put each link's ends apart
 
-before_join : (n : ℕ) (order : List ℕ) (a b c : ℕ) → IsNumbering n order → Before order a b → Before order b c → Before order a c
+pub before_join : (n : ℕ) (order : List ℕ) (a b c : ℕ) → IsNumbering n order → Before order a b → Before order b c → Before order a c
 before_join n order a b c h (i, j, low, within, at_a, at_b) (k, m, above, inside, here_b, at_c) =
     let same = one_place h j k within (omega arith) (at_b ∙ sym here_b) in
     (i, m, omega arith, inside, at_a, at_c)

@@ -13,7 +13,7 @@ use Rattle.tcc_graph.specs.declared.step.Step.{Step}
 use Rattle.tcc_graph.proofs.Pairs.{step_pair}
 use Rattle.tcc_graph.proofs.Walking.{pair_walk, walk_on}
 use Rattle.tcc_reads.specs.History.{IsBySession}
-use Rattle.tcc_order.specs.Behind.{session_parent, session_parents, sources, HasSourcesAt, parents}
+use Rattle.tcc_order.specs.Parents.{session_parent, session_parents, sources, HasSourcesAt, parents}
 
 -- ---- session pairs
 -- of one session, and in their order there
@@ -42,7 +42,7 @@ session_ends h a b p =
     let w = and_parts (nat_lt a (count h)) (nat_lt b (count h)) (and_parts (nat_lt a (count h) && nat_lt b (count h)) (whose h a b) p).0 in
     (ltb-true a (count h) w.0, ltb-true b (count h) w.1)
 
-session_init : (h : History) (b : ℕ) → 0 < b → b < count h → IsSessionPair h 0 b
+pub session_init : (h : History) (b : ℕ) → 0 < b → b < count h → IsSessionPair h 0 b
 session_init h b some below =
     and_from _ _ (and_from _ _ (lt-ltb 0 (count h) (omega arith)) (lt-ltb b (count h) below)) (or_left _ _ (lt-ltb 0 b some))
 
@@ -158,13 +158,20 @@ parent_or_init h c other = go (cases_Bool (session_pair h (c - 1) c))
     go (inl pair) = rw pair refl
     go (inr miss) = absurd (other (init miss))
 
+pub parent_less : (h : History) (c : ℕ) → 0 < c → session_parent h c < c
+parent_less h c some = go (cases_Bool (session_pair h (c - 1) c))
+  where
+    go : (session_pair h (c - 1) c ≡ true) ⊎ (session_pair h (c - 1) c ≡ false) → session_parent h c < c
+    go (inl pair) = rw pair (omega arith)
+    go (inr miss) = rw miss (omega arith)
+
 -- ---- sources
-in_map : {X Y : Type 0} (f : X → Y) (xs : List X) (x : X) → Contains xs x → Contains (map f xs) (f x)
+pub in_map : {X Y : Type 0} (f : X → Y) (xs : List X) (x : X) → Contains xs x → Contains (map f xs) (f x)
 in_map f [] x (k, l, e) = absurd (omega arith)
 in_map f (y ∷ xs) x (zero, l, e) = (0, omega arith, ap f e)
 in_map f (y ∷ xs) x (suc k, l, e) = let w = in_map f xs x (k, omega arith, e) in (suc w.0, omega (arith, w.1), w.2)
 
-from_map : {X Y : Type 0} (f : X → Y) (xs : List X) (y : Y) → Contains (map f xs) y → (x : X) × Contains xs x × (f x ≡ y)
+pub from_map : {X Y : Type 0} (f : X → Y) (xs : List X) (y : Y) → Contains (map f xs) y → (x : X) × Contains xs x × (f x ≡ y)
 from_map f [] y (k, l, e) = absurd (omega arith)
 from_map f (x ∷ xs) y (zero, l, e) = (x, (0, omega arith, refl), e)
 from_map f (x ∷ xs) y (suc k, l, e) = let w = from_map f xs y (k, omega arith, e) in (w.0, (suc w.1.0, omega (arith, w.1.1), w.1.2), w.2)
@@ -201,7 +208,7 @@ pairs_into h b c below all = (there, back)
     back (inr s) = let w = source_reads h b c s in inr (w.0, (source_below h b c all s, below, w.1))
 
 -- ---- parents
-parent_one : (h : History) (c p : ℕ) → Contains (session_parents h c) p → (0 < c) × (p ≡ session_parent h c)
+pub parent_one : (h : History) (c p : ℕ) → Contains (session_parents h c) p → (0 < c) × (p ≡ session_parent h c)
 parent_one h c p there = go (cases_eq c 0)
   where
     alone : Contains (session_parent h c ∷ []) p → p ≡ session_parent h c
@@ -215,7 +222,7 @@ parent_one h c p there = go (cases_eq c 0)
     go (inl same) = absurd (nobody (rw (eq-eqb c 0 same) at there))
     go (inr other) = (omega arith, alone (rw (ne_eqb c 0 other) at there))
 
-one_parent : (h : History) (c : ℕ) → 0 < c → Contains (session_parents h c) (session_parent h c)
+pub one_parent : (h : History) (c : ℕ) → 0 < c → Contains (session_parents h c) (session_parent h c)
 one_parent h c some =
     let other : c ≢ 0 = omega arith in
     rw (ne_eqb c 0 other) (0, omega arith, refl)

@@ -1,5 +1,5 @@
 -- Small histories and tables worked out by hand, that the definitions have to agree with.
-use Rattle.std.proofs.Common.{ℕ, zero, suc, ◌≡◌, List, [], ◌∷◌, slice_index, refl, arith, true, false}
+use Rattle.std.proofs.Common.{ℕ, zero, suc, ◌≡◌, List, [], ◌∷◌, slice_index, refl, arith, true, false, inr}
 use Rattle.std.specs.Prelude.{codes}
 use Rattle.tcc_reads.specs.History.{History, initial}
 use Rattle.tcc_graph.specs.Levels.{Judged, IsAllowed, causally}
@@ -9,8 +9,9 @@ use Rattle.tcc_graph.specs.Links.{IsReason}
 use Rattle.tcc_graph.specs.Orders.{IsCommitOrder}
 use Rattle.tcc_graph.specs.declared.step.Step.TheVariants as step
 use Rattle.tcc_order.specs.Numbering.{Joins, HasCircle}
-use Rattle.tcc_order.specs.Behind.{stands, session_parent, parents}
-use Rattle.tcc_near.specs.Bits.{is_marked}
+use Rattle.tcc_order.specs.Parents.{session_parent, parents}
+use Rattle.tcc_order.specs.Held.{holds}
+use Rattle.tcc_order.specs.Stepping.{StepsOver}
 use Rattle.tcc_order.proofs.Reached.{walks}
 use Rattle.tcc_order.proofs.Linked.{linked, linked_precedence}
 use Rattle.tcc_order.proofs.OrderOrCycle.{no_cycle}
@@ -73,27 +74,36 @@ later_writer-not_by_number k o =
     let w = o.axiom_of 2 1 x 3 (step.Reads 2 3 y ∷ []) (later_writer-reason k) in
     absurd (omega (arith, w.2, two_at w.0 w.4, one_at w.1 w.5))
 
--- ---- rows of marks: 0 stands before 1, and 0 and 1 stand before 2
+-- ---- what holds each back, where the link from b/1 to a/1 is kept
 
-abbrev onward : List (List ℕ)
-onward = (0 ∷ []) ∷ (1 ∷ []) ∷ (3 ∷ []) ∷ []
+abbrev kept_link : List (List ℕ)
+kept_link = [] ∷ (2 ∷ []) ∷ [] ∷ [] ∷ []
 
-onward-stands : (stands onward 0 1 ≡ true) × (stands onward 1 2 ≡ true) × (stands onward 1 0 ≡ false) × (stands onward 2 1 ≡ false)
-    × (stands onward 2 3 ≡ false)
-unfolding is_marked
-onward-stands = (refl, refl, refl, refl, refl)
+later_writer-holds : (holds later_writer kept_link 2 1 ≡ true) × (holds later_writer kept_link 0 1 ≡ true) × (holds later_writer kept_link 1 3 ≡ true)
+    × (holds later_writer kept_link 1 2 ≡ false) × (holds later_writer kept_link 2 2 ≡ false)
+unfolding holds
+later_writer-holds = (refl, refl, refl, refl, refl)
 
-onward-joins : Joins (stands onward) 0 2 (1 ∷ [])
-unfolding is_marked
-onward-joins = (refl, refl)
+later_writer-joins : Joins (holds later_writer kept_link) 2 3 (1 ∷ [])
+unfolding holds
+later_writer-joins = (refl, refl)
 
--- each marks the other: they stand in a circle
+-- were c/1 kept before a/1, which it reads from, they would stand in a circle
 abbrev crossed : List (List ℕ)
-crossed = (2 ∷ []) ∷ (1 ∷ []) ∷ []
+crossed = [] ∷ (3 ∷ []) ∷ [] ∷ [] ∷ []
 
-crossed-circle : HasCircle (stands crossed)
-unfolding is_marked
-crossed-circle = (0, 1 ∷ [], (refl, refl))
+crossed-circle : HasCircle (holds later_writer crossed)
+unfolding holds
+crossed-circle = (1, 3 ∷ [], (refl, refl))
+
+-- by a pair a/1 and b/1 stand before c/1, and b/1, which writes x too, stands over the read of x from a/1
+later_writer-steps : StepsOver later_writer 3 x 1 2
+later_writer-steps = record {
+  some = omega arith;
+  writer = (2, omega arith, refl);
+  apart = λ e. absurd (omega arith);
+  pair = inr (y, (omega arith, omega arith, (0, omega arith, refl)));
+}
 
 -- ---- parents: c/1 reads from a/1 and b/1, and nothing stands before it in its session but `init`
 

@@ -1,4 +1,7 @@
 -- What serves proofs alone:
 pub mod Numbering
-pub mod Behind
+pub mod Parents
 pub mod Lasts
+pub mod Held
+pub mod Latest
+pub mod Stepping

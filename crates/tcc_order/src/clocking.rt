@@ -7,14 +7,25 @@ ghost use Rattle.tcc_graph.specs.Tables.{row_of};
 ghost use Rattle.tcc_near.specs.Clocks.{IsClocksOf};
 ghost use Rattle.tcc_order.specs.Lasts.{AreLastsOf, IsBefore, IsUpTo, raised};
 
-use crate::behind::{empty_rows, parents_of};
+use crate::parents::parents_of;
 use std::alloc::{AllocError, Global};
 use tcc_graph::Graph;
 use tcc_near::Row;
 use tcc_txn::NoMemory;
 
+/// So many rows with no words.
+pub(crate) fn empty_rows<T: Copy>(alloc: Global, count: u32) -> Result<Vec<Row<T>>, AllocError>
+    ensures { IfOk result (λ rows. length rows.items ≡ count) }
+{
+    let mut rows = Vec::new(alloc);
+    for _row in 0..count {
+        rows.push(Row::new(Vec::new(alloc)))?;
+    }
+    Ok(rows)
+}
+
 /// The greater of the two places of each session.
-fn raise_each(row: &mut [u32], other: &[u32])
+pub(crate) fn raise_each(row: &mut [u32], other: &[u32])
     requires { length row.old ≡ length other.now }
     ensures same { length row.new ≡ length row.old }
     ensures each { (s : ℕ) → s < length row.old → slice_index row.new s ≡ max (slice_index other.now s) (slice_index row.old s) }

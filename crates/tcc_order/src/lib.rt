@@ -1,15 +1,15 @@
-//! The first commit order of a history at a level, from rows of bits and with no tables of costs; and the law that there is
-//! one exactly where there is no cycle.
+//! The first commit order of a history at a level, for histories of any size, by clocks of 64 sessions at a time and with no
+//! table of two transactions each; and the law that there is one exactly where there is no cycle.
 #![tactic(auto)]
 
-mod before;
-mod behind;
 mod clocking;
-mod into;
+mod keeping;
+mod latest;
 pub mod laws;
-mod numbering;
 mod ordering;
-mod written;
+mod parents;
+mod placing;
+mod stepping;
 
 pub use clocking::clocks;
 pub use ordering::order;

@@ -1,42 +1,56 @@
 //! The first commit order of a history at a level.
-ghost use Rattle.std.specs.Prelude.{◌≡◌, length, All, IfOk, MatchOption};
-ghost use Rattle.tcc_reads.specs.History.{IsBySession, count};
-ghost use Rattle.tcc_graph.specs.Relations.{IsCausalPair};
+ghost use Rattle.std.specs.Prelude.{◌≡◌, length, IfOk, MatchOption};
+ghost use Rattle.tcc_reads.specs.History.{IsBySession};
 ghost use Rattle.tcc_graph.specs.Orders.{IsFirstOrder};
 ghost use Rattle.tcc_graph.specs.Routes.{HasCycle};
+ghost use Rattle.tcc_graph.specs.Levels.{causally};
 ghost use Rattle.tcc_graph.specs.declared.level.Level.{Level};
-ghost use Rattle.tcc_near.specs.Bits.{IsRowOf};
-ghost use Rattle.tcc_order.specs.Behind.{IsTableOf, IsAllowedFrom, AreSessionParents};
+ghost use Rattle.tcc_order.specs.Parents.{AreSessionParents};
+ghost use Rattle.tcc_order.specs.Latest.{AreLinks};
 
-use crate::before::rows_before;
-use crate::behind::rows_behind;
-use crate::into::{pairs_into, session_parents};
-use crate::numbering::first_numbering;
+use crate::keeping::{causal_links, no_links};
+use crate::parents::session_parents;
+use crate::placing::first_placing;
+use crate::stepping::atomic_links;
 use std::alloc::Global;
 use tcc_graph::{Graph, Level};
 use tcc_near::Row;
 use tcc_txn::NoMemory;
 
-/// The first commit order at the level by whose walks the rows say what stands behind each transaction.
-fn order_by(
+/// The links at `Causal` that are kept, by the first order of causal pairs alone; none where these stand in a circle.
+fn links_by_clocks(
     alloc: Global,
     graph: &Graph,
-    into: &[Row<u64>],
-    behind: &[Row<u64>],
     parents: &[u32],
-) -> Result<Option<Vec<u32>>, NoMemory>
-    requires into { IsTableOf (count graph.now) (IsCausalPair graph.now) into.now }
-    requires long { length behind.now ≡ count graph.now }
-    requires rows { All (IsRowOf (count graph.now)) behind.now }
+) -> Result<Option<Vec<Row<u32>>>, NoMemory>
     requires numbered { IsBySession graph.now.entries }
     requires parents { AreSessionParents graph.now parents.now }
-    ensures { IfOk result (λ found. (level : Level) → IsTableOf (count graph.now) (IsAllowedFrom (record { history = graph.now; level = level })) behind.now
-        → MatchOption found
-        (HasCycle (record { history = graph.now; level = level }))
-        (λ order. IsFirstOrder (record { history = graph.now; level = level }) order.items)) }
+    ensures { IfOk result (λ found. MatchOption found (HasCycle (causally graph.now)) (λ kept. AreLinks (causally graph.now) kept.items)) }
 {
-    let before = rows_before(alloc, graph, into, behind)?;
-    first_numbering(alloc, &before, parents)
+    let none = no_links(alloc, graph.count())?;
+    let Some(order) = first_placing(alloc, graph, parents, &none)? else {
+        return Ok(None);
+    };
+    Ok(Some(causal_links(alloc, graph, parents, &order)?))
+}
+
+/// The links at a level that are kept, or none where causal pairs alone stand in a circle.
+fn links_kept(
+    alloc: Global,
+    graph: &Graph,
+    level: Level,
+    parents: &[u32],
+) -> Result<Option<Vec<Row<u32>>>, NoMemory>
+    requires numbered { IsBySession graph.now.entries }
+    requires parents { AreSessionParents graph.now parents.now }
+    ensures { IfOk result (λ found. MatchOption found
+        (HasCycle (record { history = graph.now; level = level }))
+        (λ kept. AreLinks (record { history = graph.now; level = level }) kept.items)) }
+{
+    match level {
+        Level::Atomic => Ok(Some(atomic_links(alloc, graph, parents)?)),
+        Level::Causal => links_by_clocks(alloc, graph, parents),
+    }
 }
 
 /// The first commit order of a history at a level, compared as lists of numbers; none exactly where there is a cycle.
@@ -48,15 +62,8 @@ pub fn order(alloc: Global, graph: &Graph, level: Level) -> Result<Option<Vec<u3
     // transactions stand by session and by place, as this call says
     graph.sessions();
     let parents = session_parents(alloc, graph)?;
-    let into = pairs_into(alloc, graph)?;
-    match level {
-        Level::Atomic => order_by(alloc, graph, &into, &into, &parents),
-        Level::Causal => {
-            let Some(order) = first_numbering(alloc, &into, &parents)? else {
-                return Ok(None);
-            };
-            let behind = rows_behind(alloc, graph, &into, &order)?;
-            order_by(alloc, graph, &into, &behind, &parents)
-        }
-    }
+    let Some(kept) = links_kept(alloc, graph, level, &parents)? else {
+        return Ok(None);
+    };
+    first_placing(alloc, graph, &parents, &kept)
 }

@@ -1,37 +1,30 @@
 -- How many transactions a snapshot has, and which sessions they are of.
-use Rattle.std.proofs.Common.{◌≡◌, ℕ, zero, suc, ◌+◌, ◌<◌, ◌≤◌, List, [], ◌∷◌, length, drop, All, sum_by, Option}
-use Rattle.std.proofs.Common.{None, Some, IsSome, refl, ap, sym, ◌∙◌, arith, length-append, is_some, option_map}
-use Rattle.std.proofs.Common.{slice_get}
+use Rattle.std.proofs.Common.{◌≡◌, ℕ, zero, suc, ◌+◌, ◌<◌, ◌≤◌, List, [], ◌∷◌, length, drop, All, sum_by}
+use Rattle.std.proofs.Common.{refl, ap, sym, ◌∙◌, arith, length-append, get_or}
 use Rattle.std.proofs.Math.ListN.{drop_of_length-le}
 use Rattle.std.proofs.lemmas.List.Sums.{sum_by-cons}
 use Rattle.std.proofs.lemmas.List.Elements.{All-nil, All-cons, All-append}
-use Rattle.std.proofs.lemmas.Option.{slice_get-get_or}
 use Rattle.std.specs.FinMap as finite
-use Rattle.tcc_txn.specs.Snapshots.{Sessions}
+use Rattle.std.specs.Global.{Vec as VecOf}
+use Rattle.tcc_txn.specs.Snapshots.{Sessions, parts_of}
 use Rattle.tcc_txn.specs.Transactions.{Transaction}
 use Rattle.tcc_reads.specs.Sites.{Stand, stands_in, stands_from}
 use Rattle.tcc_reads.specs.Numbers.{next_number, numbered_from}
 
--- a list from a place on, where an item stands there
-pub drop_found : {A : Type 0} (xs : List A) (i : ℕ) (x : A) → slice_get xs i ≡ Some x → drop i xs ≡ x ∷ drop (i + 1) xs
-drop_found [] i x found = cc
-drop_found (y ∷ ys) zero x found = let same : y ≡ x = cc in ap (λ z. z ∷ ys) same
-drop_found (y ∷ ys) (suc i) x found = let next : suc i + 1 ≡ suc (i + 1) = omega arith in rw next (drop_found ys i x found)
+-- some parts from a place on
+pub drop_part : (parts : List (List ℕ × VecOf Transaction)) (i : ℕ) (part : List ℕ × VecOf Transaction) → i < length parts → part ≡ get_or parts i part
+    → drop i (parts_of parts) ≡ (part.0, part.1.items) ∷ drop (i + 1) (parts_of parts)
+drop_part [] i part within is = absurd (omega arith)
+drop_part (first ∷ parts) zero part within is =
+    ap (λ (p : List ℕ × VecOf Transaction). (p.0, p.1.items) ∷ parts_of parts) (sym is)
+drop_part (first ∷ parts) (suc i) part within is =
+    let next : suc i + 1 ≡ suc (i + 1) = omega arith in rw next (drop_part parts i part (omega arith) is)
 
 -- past the last session no session is left
 pub none_past : (s : Sessions) (i : ℕ) → finite.len s ≤ i → drop i (finite.entries s) ≡ []
 none_past s i past =
     let beyond : length (finite.entries s) ≤ i = omega (arith, finite.len-entries s, past) in
     drop_of_length-le (finite.entries s) beyond
-
-is_some-map : {A B : Type 0} (f : A → B) (o : Option A) → is_some (option_map f o) ≡ is_some o
-is_some-map f None = refl
-is_some-map f (Some x) = refl
-
-pub some_within : {A B : Type 0} (f : A → B) (o : Option A) (xs : List B) (i : ℕ) → option_map f o ≡ slice_get xs i → i < length xs → IsSome o
-some_within f o [] i is within = absurd (omega arith)
-some_within f o (x ∷ xs) i is within =
-    sym (is_some-map f o) ∙ ap is_some (is ∙ slice_get-get_or (x ∷ xs) i x within)
 
 length-stands_in : (session : ℕ) (name : List ℕ) (place : ℕ) (txns : List Transaction) → length (stands_in session name place txns) ≡ length txns
 length-stands_in session name place [] = refl

@@ -1,6 +1,7 @@
 pub mod WorkedRows
 pub mod Ties
 pub mod Tables
+pub mod Listed
 pub mod Counting
 pub mod Agreement
 pub mod Sourcing

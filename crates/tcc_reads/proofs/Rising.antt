@@ -5,7 +5,7 @@ use Rattle.std.specs.FinMap.{entries}
 use Rattle.tcc_txn.specs.Snapshots.{Sessions}
 use Rattle.tcc_txn.specs.Transactions.{Transaction}
 use Rattle.tcc_reads.specs.History.{Entry, IsBySession, initial}
-use Rattle.tcc_reads.specs.Sites.{Stand, is_committed, stands_in, stands_from, stands, committed}
+use Rattle.tcc_reads.specs.Sites.{Stand, is_committed, stands_in, stands_from, committed}
 use Rattle.tcc_reads.specs.Sources.{entry_of, history}
 
 abbrev pub Each : {X : Type 0} → (X → Type 0) → List X → Type 0
@@ -139,30 +139,34 @@ from_rising session (e ∷ later) =
     (from_sessions (session + 1) later))
     (in_session session e.0 1 e.1))
 
-module _ (s : Sessions) where
+module _ (named : List (List ℕ × List Transaction)) where
   abbrev list : List Entry
-  list = map (entry_of (stands s)) (committed (stands s))
+  list = map (entry_of (stands_from 0 named)) (committed (stands_from 0 named))
 
   first : Each (λ (e : Entry). 1 ≤ e.place) list
   first =
-      each_map (λ (e : Entry). 1 ≤ e.place) (entry_of (stands s)) (committed (stands s))
-      (each_filter (λ (x : Stand). 1 ≤ x.place) is_committed (stands s) (from_placed 0 (entries s)))
+      each_map (λ (e : Entry). 1 ≤ e.place) (entry_of (stands_from 0 named)) (committed (stands_from 0 named))
+      (each_filter (λ (x : Stand). 1 ≤ x.place) is_committed (stands_from 0 named) (from_placed 0 named))
 
   rising : Rises (λ (a b : Entry). a.owner ≤ b.owner) list
   rising =
-      rises_map (λ (a b : Entry). a.owner ≤ b.owner) (entry_of (stands s)) (committed (stands s))
-      (rises_filter (λ x y. x.session ≤ y.session) is_committed (stands s) (from_rising 0 (entries s)))
+      rises_map (λ (a b : Entry). a.owner ≤ b.owner) (entry_of (stands_from 0 named)) (committed (stands_from 0 named))
+      (rises_filter (λ x y. x.session ≤ y.session) is_committed (stands_from 0 named) (from_rising 0 named))
 
   placed : Rises (λ (a b : Entry). a.owner ≡ b.owner → a.place < b.place) list
   placed =
-      rises_map (λ (a b : Entry). a.owner ≡ b.owner → a.place < b.place) (entry_of (stands s)) (committed (stands s))
-      (rises_filter IsLater is_committed (stands s) (from_order 0 (entries s)))
+      rises_map (λ (a b : Entry). a.owner ≡ b.owner → a.place < b.place) (entry_of (stands_from 0 named)) (committed (stands_from 0 named))
+      (rises_filter IsLater is_committed (stands_from 0 named) (from_order 0 named))
 
-  -- the transactions of a snapshot stand by session and by place
-  pub by_session : IsBySession (history s).entries
-  by_session m zero less below = absurd (omega arith)
-  by_session zero (suc k) less below = (omega arith, λ same. each_at (λ (e : Entry). 1 ≤ e.place) list k initial (omega arith) first)
-  by_session (suc i) (suc k) less below = (
+  -- the transactions of some sessions stand by session and by place
+  pub by_sessions : IsBySession (initial ∷ list)
+  by_sessions m zero less below = absurd (omega arith)
+  by_sessions zero (suc k) less below = (omega arith, λ same. each_at (λ (e : Entry). 1 ≤ e.place) list k initial (omega arith) first)
+  by_sessions (suc i) (suc k) less below = (
     rises_at (λ (a b : Entry). a.owner ≤ b.owner) list i k initial (omega arith) (omega arith) rising,
     rises_at (λ (a b : Entry). a.owner ≡ b.owner → a.place < b.place) list i k initial (omega arith) (omega arith) placed,
   )
+
+-- so those of a snapshot
+pub by_session : (s : Sessions) → IsBySession (history s).entries
+by_session s = by_sessions (entries s)

@@ -1,9 +1,12 @@
 -- Serves proofs alone; nobody has to believe it: what the resolver finds out about the operations, in the terms of its
 -- table of first writes. That this is what Faults and Sources say is proved.
-use Rattle.std.specs.Prelude.{ℕ, ◌≡◌, ◌<◌, nat_eq, Bool, false, ◌&&◌, ◌==◌, not, if◌then◌else◌, List, []}
-use Rattle.std.specs.Prelude.{◌∷◌, ◌++◌, map, filter, filter_map, length, ◌+◌, Option, None, Some}
-use Rattle.std.specs.Prelude.{option_and_then}
-use Rattle.std.specs.List.{list_any}
+use Rattle.std.specs.Prelude.{ℕ, ◌≡◌, Bool, ◌&&◌, ◌==◌, not, if◌then◌else◌, List, []}
+use Rattle.std.specs.Prelude.{◌∷◌, ◌++◌, map, filter, filter_map, flat_map, find, length, ◌+◌, Option, None, Some}
+use Rattle.std.specs.Prelude.{option_map}
+use Rattle.std.specs.List.{list_any, AllAdjacentBelow}
+use Rattle.std.specs.Ordering.{nat_cmp, ordering_then}
+use Rattle.std.specs.declared.cmp.Ordering.{Ordering}
+use Rattle.std.specs.declared.cmp.Ordering.TheVariants.{Less}
 use Rattle.std.specs.HashMap as hash
 use Rattle.std.specs.HashMap.{HashMap}
 use Rattle.std.specs.Str.{bytes_eq}
@@ -12,13 +15,13 @@ use Rattle.tcc_txn.specs.declared.op.Op.TheVariants.{Get, Put}
 use Rattle.tcc_reads.specs.declared.fault.ReadFault.{ReadFault}
 use Rattle.tcc_reads.specs.declared.fault.ReadFaultKind.TheVariants.{Duplicate, BrokenInternal, ThinAir, Aborted, Intermediate, Future}
 use Rattle.tcc_reads.specs.declared.writers.Writer.{Writer}
-use Rattle.tcc_reads.specs.declared.writers.KeyWrites.{KeyWrites}
+use Rattle.tcc_reads.specs.declared.writers.Write.{Write}
 use Rattle.tcc_reads.specs.declared.judging.Judgement.{Judgement}
 use Rattle.tcc_reads.specs.declared.judging.Judgement.TheVariants.{Faulty, ReadsFrom, Silent}
 use Rattle.tcc_reads.specs.History.{Entry}
 use Rattle.tcc_reads.specs.Sites.{Stand, Site, at, sites_of}
 use Rattle.tcc_reads.specs.Numbers.{Numbered}
-use Rattle.tcc_reads.specs.Sources.{puts_at, visible_write, pair_cmp, sorted_once, writes_of}
+use Rattle.tcc_reads.specs.Sources.{puts_at, visible_write, name_cmp, pair_cmp, sorted_once, writes_of as keys_written}
 use Rattle.tcc_reads.specs.Faults.{puts}
 use Rattle.tcc_txn.specs.Transactions.{op_key, op_value}
 
@@ -51,9 +54,38 @@ first_writer (n ∷ later) x v = first_in n [] n.stand.txn.ops x v (first_writer
 abbrev pub Writes : Type 0
 Writes = List ℕ → ℕ → Option Writer
 
--- the writers in a table of the resolver
-abbrev pub writers_in : {S : Type 0} → HashMap (List ℕ) KeyWrites S → Writes
-writers_in table x v = option_and_then (λ writes. hash.get nat_eq writes.first v) (hash.get bytes_eq table x)
+-- whether a write is of this value at this key
+abbrev pub is_of : List ℕ → ℕ → Write → Bool
+is_of x v write = bytes_eq write.key x && (write.value == v)
+
+-- the writers in a list of writes: of those of a value at a key the first
+abbrev pub writers_in : List Write → Writes
+writers_in table x v = option_map (λ write. write.writer) (find (is_of x v) table)
+
+-- a write and one of this value at this key, by value, then by key
+abbrev pub spot_cmp : Write → List ℕ → ℕ → Ordering
+spot_cmp write x v = ordering_then (nat_cmp write.value v) (name_cmp write.key x)
+
+abbrev pub write_cmp : Write → Write → Ordering
+write_cmp one other = spot_cmp one other.key other.value
+
+-- each write is below the next
+abbrev pub AreApart : List Write → Type 0
+AreApart writes = AllAdjacentBelow (λ one other. write_cmp one other ≡ Less) writes (length writes)
+
+-- the writes of a transaction among these operations, in order
+abbrev pub writes_from : Numbered → List Op → List Op → List Write
+writes_from n before [] = []
+writes_from n before (Get key value ∷ after) = writes_from n (before ++ Get key value ∷ []) after
+writes_from n before (Put key value ∷ after) =
+    record { value = value; key = key; writer = writer_at n before key after } ∷ writes_from n (before ++ Put key value ∷ []) after
+
+abbrev pub writes_of : Numbered → List Write
+writes_of n = writes_from n [] n.stand.txn.ops
+
+-- the writes of these transactions, in order
+abbrev pub all_writes : List Numbered → List Write
+all_writes ns = flat_map writes_of ns
 
 -- the table has the first writes of these transactions
 abbrev pub AreFirstWriters : Writes → List Numbered → Type 0
@@ -70,18 +102,6 @@ AreOwnIn table n before (Put key value ∷ after) =
 abbrev pub AreOwn : Writes → List Numbered → Type 0
 AreOwn table [] = Unit {0}
 AreOwn table (n ∷ later) = AreOwnIn table n [] n.stand.txn.ops × AreOwn table later
-
-abbrev pub is_latest_in : ℕ → Option KeyWrites → Bool
-is_latest_in t None = false
-is_latest_in t (Some writes) = writes.latest == t
-
--- whether the write at a key that the table took in last is of this transaction
-abbrev pub is_latest : {S : Type 0} → HashMap (List ℕ) KeyWrites S → ℕ → List ℕ → Bool
-is_latest table t x = is_latest_in t (hash.get bytes_eq table x)
-
--- of the writes that the table took in last none is of a transaction before this one
-abbrev pub AreFrom : {S : Type 0} → ℕ → HashMap (List ℕ) KeyWrites S → Type 0
-AreFrom t table = (s : ℕ) → s < t → (x : List ℕ) → is_latest table s x ≡ false
 
 -- the map has the visible writes of these operations
 abbrev pub AreVisibleWrites : {S : Type 0} → HashMap (List ℕ) ℕ S → List Op → Type 0
@@ -154,7 +174,7 @@ abbrev pub entry_found : Writes → Numbered → Entry
 entry_found table n = record {
   owner = n.stand.session;
   place = n.stand.place;
-  writes = writes_of n.stand;
+  writes = keys_written n.stand;
   reads = sorted_once pair_cmp (sources_found table n);
 }
 

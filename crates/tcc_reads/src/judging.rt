@@ -64,7 +64,7 @@ fn read_judgement(standing: &Standing<'_>, writer: Option<&Writer>) -> Judgement
         return Judgement::Faulty(ReadFaultKind::Future);
     }
     if first.last {
-        Judgement::ReadsFrom(u32::from(number))
+        Judgement::ReadsFrom(number)
     } else {
         Judgement::Faulty(ReadFaultKind::Intermediate)
     }
@@ -131,7 +131,7 @@ fn note(
         Judgement::Faulty(kind) => {
             let fault = ReadFault {
                 session: standing.name,
-                place: u32::from(standing.place),
+                place: standing.place,
                 op: u32::from(place),
                 key: op.key(),
                 value: op.value(),

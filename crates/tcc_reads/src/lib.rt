@@ -12,5 +12,5 @@ mod standing;
 mod writers;
 
 pub use fault::{ReadFault, ReadFaultKind, ResolveFault};
-pub use resolved::Resolved;
-pub use resolver::resolve;
+pub use resolved::{LargeResolved, Resolved};
+pub use resolver::{resolve, resolve_large};

@@ -1,6 +1,6 @@
 //! Histories whose reads are resolved.
 ghost use Rattle.std.specs.Prelude.{◌≡◌, ◌<◌, ◌≤◌, ◌+◌, length, All};
-ghost use Rattle.tcc_txn.specs.declared.limits.TheConstants.{MAX_COUNT, MAX_SESSIONS};
+ghost use Rattle.tcc_txn.specs.declared.limits.TheConstants.{MAX_COUNT, MAX_SESSIONS, LARGE_COUNT, LARGE_SESSIONS};
 ghost use Rattle.tcc_reads.specs.History.{count, entry_at, initial};
 ghost use Rattle.tcc_reads.specs.History.{IsBySession, places_of};
 
@@ -28,16 +28,17 @@ impl Model for Node {
     ghost view = { λ n. record { owner = n.owner; place = n.place; writes = n.writes.items; reads = n.reads.items } };
 }
 
-/// A snapshot of which each external read has its source. The committed transactions are numbered from 1 by session
-/// name in byte order and by place; number 0 is the initial transaction, which writes 0 at every key.
+/// A snapshot of the large limits, or of the small ones, of which each external read has its source. The committed
+/// transactions are numbered from 1 by session name in byte order and by place; number 0 is the initial transaction,
+/// which writes 0 at every key.
 #[derive(Drop)]
-pub struct Resolved {
+pub struct LargeResolved {
     pub(crate) sessions: Vec<Name>,
     pub(crate) places: Vec<(u32, u32)>,
     pub(crate) nodes: Vec<Node>,
 }
 
-impl Model for Resolved {
+impl Model for LargeResolved {
     ghost use Rattle.tcc_reads.specs.History.{History};
     ghost use Rattle.tcc_reads.specs.Stored.{IsStored};
 
@@ -48,11 +49,11 @@ impl Model for Resolved {
     ghost invariant = { λ r. IsStored r.sessions.items r.places.items r.nodes.items };
 }
 
-impl Resolved {
+impl LargeResolved {
     /// The names of all sessions in byte order, also of those without committed transactions.
     pub fn sessions(&self) -> &[Name]
         ensures value { result.now ≡ self.now.sessions }
-        ensures few { length result.now ≤ MAX_SESSIONS }
+        ensures few { length result.now ≤ LARGE_SESSIONS }
     {
         &self.sessions
     }
@@ -61,7 +62,7 @@ impl Resolved {
     pub fn places(&self) -> &[(u32, u32)]
         ensures value { result.now ≡ places_of self.now.entries }
         ensures count { length result.now + 1 ≡ count self.now }
-        ensures few { count self.now ≤ MAX_COUNT }
+        ensures few { count self.now ≤ LARGE_COUNT }
         ensures initial { entry_at self.now 0 ≡ initial }
         ensures owners { All (λ p. p.0 < length self.now.sessions) result.now }
         ensures ordered { IsBySession self.now.entries }
@@ -85,5 +86,73 @@ impl Resolved {
         ensures sources { All (λ r. r.1 < count self.now) result.now }
     {
         &self.nodes[t as usize].reads
+    }
+}
+
+/// A snapshot of which each external read has its source. The committed transactions are numbered from 1 by session
+/// name in byte order and by place; number 0 is the initial transaction, which writes 0 at every key.
+#[derive(Drop)]
+pub struct Resolved {
+    pub(crate) large: LargeResolved,
+}
+
+impl Model for Resolved {
+    ghost use Rattle.std.specs.Prelude.{◌≤◌, length};
+    ghost use Rattle.tcc_txn.specs.declared.limits.TheConstants.{MAX_COUNT, MAX_SESSIONS};
+    ghost use Rattle.tcc_reads.specs.History.{History, count};
+
+    ghost Value = { History };
+
+    ghost view = { λ r. r.large };
+
+    ghost invariant = { λ r. (count r.large ≤ MAX_COUNT) × (length r.large.sessions ≤ MAX_SESSIONS) };
+}
+
+impl Resolved {
+    /// The same, as one of the large limits.
+    pub fn large(&self) -> &LargeResolved
+        ensures value { result.now ≡ self.now }
+        ensures few { count result.now ≤ MAX_COUNT }
+        ensures few_sessions { length result.now.sessions ≤ MAX_SESSIONS }
+    {
+        &self.large
+    }
+
+    /// The names of all sessions in byte order, also of those without committed transactions.
+    pub fn sessions(&self) -> &[Name]
+        ensures value { result.now ≡ self.now.sessions }
+        ensures few { length result.now ≤ MAX_SESSIONS }
+    {
+        self.large.sessions()
+    }
+
+    /// The session's index and the place of each committed transaction, from number 1 on. Places count aborted ones.
+    pub fn places(&self) -> &[(u32, u32)]
+        ensures value { result.now ≡ places_of self.now.entries }
+        ensures count { length result.now + 1 ≡ count self.now }
+        ensures few { count self.now ≤ MAX_COUNT }
+        ensures initial { entry_at self.now 0 ≡ initial }
+        ensures owners { All (λ p. p.0 < length self.now.sessions) result.now }
+        ensures ordered { IsBySession self.now.entries }
+    {
+        self.large.places()
+    }
+
+    /// The keys that the transaction of this number writes visibly, in byte order; none for the initial one, which
+    /// writes every key.
+    pub fn writes(&self, t: u32) -> &[Name]
+        requires { t < count self.now }
+        ensures { result.now ≡ (entry_at self.now t).writes }
+    {
+        self.large.writes(t)
+    }
+
+    /// Key and source of the external reads of this transaction, by key in byte order, then by number, each pair once.
+    pub fn reads(&self, t: u32) -> &[(Name, u32)]
+        requires { t < count self.now }
+        ensures value { result.now ≡ (entry_at self.now t).reads }
+        ensures sources { All (λ r. r.1 < count self.now) result.now }
+    {
+        self.large.reads(t)
     }
 }

@@ -1,6 +1,9 @@
 //! The resolver.
-ghost use Rattle.std.specs.Prelude.{◌≡◌, true, [], ◌∷◌, ◌++◌, filter_map, flat_map, IfOk, OnOk, MatchResult};
-ghost use Rattle.tcc_reads.specs.History.{initial};
+ghost use Rattle.std.specs.Prelude.{◌≡◌, ◌≤◌, ◌+◌, true, [], ◌∷◌, ◌++◌, length, sum_by, filter_map, flat_map, IfOk, OnOk, MatchResult};
+ghost use Rattle.std.specs.FinMap.{entries};
+ghost use Rattle.tcc_txn.specs.Snapshots.{Sessions, parts_of};
+ghost use Rattle.tcc_txn.specs.declared.limits.TheConstants.{LARGE_SESSIONS, LARGE_TRANSACTIONS};
+ghost use Rattle.tcc_reads.specs.History.{initial, count};
 ghost use Rattle.tcc_reads.specs.Sources.{name_cmp, pair_cmp, key_put, sorted_once, writes_of, history};
 ghost use Rattle.tcc_reads.specs.Faults.{read_faults};
 ghost use Rattle.tcc_reads.specs.Refusals.{IsRefusal};
@@ -9,14 +12,14 @@ ghost use Rattle.tcc_reads.specs.Verdicts.{writers_in, AreOwn, AreOwnIn, faults_
 
 use crate::judging::judge;
 use crate::numbering::{session_names, standings};
-use crate::resolved::{Node, Resolved};
+use crate::resolved::{LargeResolved, Node, Resolved};
 use crate::sorting::sorted_once;
 use crate::standing::Standing;
 use crate::writers::{FirstWrites, first_writes};
 use crate::{ReadFault, ResolveFault};
 use std::alloc::{AllocError, Global};
 use std::collections::HashMap;
-use tcc_txn::{Name, Op, Snapshot};
+use tcc_txn::{LargeSnapshot, Name, Op, Snapshot, Txn};
 
 /// The keys that some operations write, in order, each once.
 fn written_keys(alloc: Global, ops: &[Op]) -> Result<Vec<Name>, AllocError>
@@ -41,8 +44,8 @@ fn node(alloc: Global, standing: &Standing<'_>, reads: Vec<(Name, u32)>) -> Resu
     }) }
 {
     Ok(Node {
-        owner: u32::from(standing.session),
-        place: u32::from(standing.place),
+        owner: standing.session,
+        place: standing.place,
         writes: written_keys(alloc, standing.txn.ops())?,
         reads: sorted_once(reads),
     })
@@ -110,19 +113,23 @@ fn places(alloc: Global, nodes: &[Node]) -> Result<Vec<(u32, u32)>, AllocError>
         .collect(alloc)
 }
 
-/// Finds the source of each external read of the snapshot's committed transactions, or else all faults.
-pub fn resolve(alloc: Global, snapshot: &Snapshot) -> Result<Resolved, ResolveFault>
-    ensures { MatchResult result
-        (λ resolved. (read_faults snapshot.now ≡ []) × (resolved ≡ history snapshot.now))
-        (IsRefusal snapshot.now) }
+/// Finds the source of each external read of the committed transactions of some sessions, or else all faults.
+fn resolve_parts(alloc: Global, parts: &[(Name, Vec<Txn>)]) -> Result<LargeResolved, ResolveFault>
+    requires few_sessions { length parts.now ≤ LARGE_SESSIONS }
+    requires few_transactions { sum_by (λ named. length named.1) (parts_of parts.now) ≤ LARGE_TRANSACTIONS }
+    ensures value { (s : Sessions) → entries s ≡ parts_of parts.now → MatchResult result
+        (λ resolved. (read_faults s ≡ []) × (resolved ≡ history s))
+        (IsRefusal s) }
+    ensures few { IfOk result (λ resolved. count resolved ≤ sum_by (λ named. length named.1) (parts_of parts.now) + 1) }
+    ensures sessions { IfOk result (λ resolved. length resolved.sessions ≡ length parts.now) }
 {
-    let sessions = session_names(alloc, snapshot)?;
-    let standings = standings(alloc, snapshot)?;
+    let sessions = session_names(alloc, parts)?;
+    let standings = standings(alloc, parts)?;
     let first = first_writes(alloc, &standings)?;
     let Findings { nodes, faults } = examine(alloc, &first, &standings)?;
     if faults.is_empty() {
         let places = places(alloc, &nodes)?;
-        Ok(Resolved {
+        Ok(LargeResolved {
             sessions,
             places,
             nodes,
@@ -130,4 +137,23 @@ pub fn resolve(alloc: Global, snapshot: &Snapshot) -> Result<Resolved, ResolveFa
     } else {
         Err(ResolveFault::Reads(faults))
     }
+}
+
+/// Finds the source of each external read of the snapshot's committed transactions, or else all faults.
+pub fn resolve(alloc: Global, snapshot: &Snapshot) -> Result<Resolved, ResolveFault>
+    ensures { MatchResult result
+        (λ resolved. (read_faults snapshot.now ≡ []) × (resolved ≡ history snapshot.now))
+        (IsRefusal snapshot.now) }
+{
+    let large = resolve_parts(alloc, snapshot.parts())?;
+    Ok(Resolved { large })
+}
+
+/// The same of a large snapshot.
+pub fn resolve_large(alloc: Global, snapshot: &LargeSnapshot) -> Result<LargeResolved, ResolveFault>
+    ensures { MatchResult result
+        (λ resolved. (read_faults snapshot.now ≡ []) × (resolved ≡ history snapshot.now))
+        (IsRefusal snapshot.now) }
+{
+    resolve_parts(alloc, snapshot.parts())
 }

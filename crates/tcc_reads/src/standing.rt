@@ -6,13 +6,13 @@ use tcc_txn::{Name, Txn};
 #[derive(Drop)]
 pub(crate) struct Standing<'a> {
     /// The index of its session, in byte order of the names.
-    pub session: u8,
+    pub session: u32,
     /// The name of its session.
     pub name: Name,
     /// Its place in the session, from 1, aborted ones counted.
-    pub place: u16,
+    pub place: u32,
     /// One more than the committed transactions before it: its number, if it was committed.
-    pub number: u16,
+    pub number: u32,
     pub txn: &'a Txn,
 }
 

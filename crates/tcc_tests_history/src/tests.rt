@@ -2,6 +2,7 @@
 mod book;
 mod builders;
 mod graph;
+mod large;
 mod nesting;
 mod reads;
 mod txn;

@@ -1,9 +1,11 @@
-//! Distances and clocks, prices and reasons, orders, seeds and single searches, the bound, and the machine of all interleavings.
+//! Distances, prices and reasons, orders, decisions of large histories, seeds and single searches, the bound, and the machine of
+//! all interleavings.
 mod bound;
 mod core_seeds;
 mod core_steps;
 mod derive;
 mod histories;
+mod large;
 mod near;
 mod order;
 mod world;

@@ -17,6 +17,7 @@ use Rattle.tcc_txn.specs.Names.{name_fault}
 use Rattle.tcc_txn.specs.Past.{begin_count, begins, fault_of, is_begun, item_of, keys, least, open_sessions, ops_since, seal_count, seals, sessions, with_name}
 use Rattle.tcc_txn.specs.Recordings.{has_seal}
 use Rattle.tcc_txn.specs.Transactions.{op_key}
+use Rattle.tcc_txn.specs.declared.limits.Limits.TheVariants.{Small}
 use Rattle.tcc_txn.specs.declared.limits.TheConstants.{MAX_KEYS, MAX_OPERATIONS, MAX_SEALS, MAX_SESSIONS, MAX_TRANSACTIONS}
 use Rattle.tcc_txn.specs.declared.op.Op.{Op}
 use Rattle.tcc_txn.specs.declared.rows.Item.{Item}
@@ -312,14 +313,14 @@ operation-free : (past : List Line) (session : List ℕ) (op : Op) → fault_of 
     × (nat_lt MAX_KEYS (length (keys (line.Operation session op ∷ past))) ≡ false)
 operation-free past session op free = no-operation-fault (is_begun session past) _ _ kind.NotBegun kind.TooManyOps kind.TooManyKeys free
 
-few-had : (past : List Line) → AreLawful past → length (keys past) ≤ MAX_KEYS
+few-had : (past : List Line) → AreLawful Small past → length (keys past) ≤ MAX_KEYS
 few-had [] lawful = omega arith
 few-had (line.Seal ∷ past) lawful = few-had past lawful.1
 few-had (line.Begin session ∷ past) lawful = few-had past lawful.1
 few-had (line.Finish session committed ∷ past) lawful = few-had past lawful.1
 few-had (line.Operation session op ∷ past) lawful = fits MAX_KEYS _ (operation-free past session op lawful.0).2
 
-few-sealed : (past : List Line) → AreLawful past → seal_count past ≤ MAX_SEALS
+few-sealed : (past : List Line) → AreLawful Small past → seal_count past ≤ MAX_SEALS
 few-sealed [] lawful = omega arith
 few-sealed (line.Seal ∷ past) lawful = fits MAX_SEALS _ (no-seal-fault _ kind.TooManySeals lawful.0)
 few-sealed (line.Begin session ∷ past) lawful = few-sealed past lawful.1
@@ -329,7 +330,7 @@ few-sealed (line.Operation session op ∷ past) lawful = few-sealed past lawful.
 own-ops : (session : List ℕ) (op : Op) (past : List Line) → ops_since session (line.Operation session op ∷ past) ≡ ops_since session past ++ op ∷ []
 own-ops session op past = rw (same-itself session) refl
 
-follow-lawful : (q : List ℕ) (past : List Line) → AreLawful past → FollowBy q past
+follow-lawful : (q : List ℕ) (past : List Line) → AreLawful Small past → FollowBy q past
 follow-lawful q [] lawful = tt
 follow-lawful q (line.Seal ∷ past) lawful = (λ own. tt, follow-lawful q past lawful.1)
 follow-lawful q (line.Begin session ∷ past) lawful = (
@@ -403,16 +404,16 @@ free-after past (line.Operation session op) k follow =
     by true true c x y z s t u = cc t
     by false b c x y z s t u = cc s
 
-lawful-from : (past : List Line) → Keeps past → ((q : List ℕ) → FollowBy q past) → AreLawful past
+lawful-from : (past : List Line) → Keeps past → ((q : List ℕ) → FollowBy q past) → AreLawful Small past
 lawful-from [] k follow = tt
 lawful-from (l ∷ past) k follow = (free-after past l k follow, lawful-from past (keeps-before l past k) (λ q. (follow q).1))
 
-lawful-same : (some other : List Line) → AreSame some other → AreLawful some → AreLawful other
+lawful-same : (some other : List Line) → AreSame some other → AreLawful Small some → AreLawful Small other
 lawful-same some other same lawful =
     lawful-from other
     (record {
-      transactions = omega (arith, few_begun some lawful, begun-same some other same);
-      sessions = omega (arith, few_seated some lawful, few-sessions some other same);
+      transactions = omega (arith, few_begun Small some lawful, begun-same some other same);
+      sessions = omega (arith, few_seated Small some lawful, few-sessions some other same);
       keys = omega (arith, few-had some lawful, few-keys some other same);
       seals = omega (arith, few-sealed some lawful, sealed-same some other same);
     })
@@ -466,7 +467,7 @@ judged-clean past fields last = by (is_cut fields) refl
 -- what records without a fault are
 record IsClean (past : List Line) (left : List Record) : Type 0 where
   each : (fields : Record) → Contains left fields → IsLine fields
-  lawful : AreLawful (lines_after past left)
+  lawful : AreLawful Small (lines_after past left)
   ended : fault_at_end (lines_after past left) ≡ None
 
 same-fault : (o : Option Item) (ahead : Answers) → (after_item o ahead).fault ≡ ahead.fault
@@ -477,28 +478,28 @@ head-or-later : {X : Type 0} (P : X → Type 0) (x : X) (xs : List X) → P x �
 head-or-later P x xs here later y (zero, l, e) = subst P e here
 head-or-later P x xs here later y (suc k, l, e) = later y (k, omega arith, e)
 
-clean-after : (left : List Record) (past : List Line) → AreLawful past → (answers_after past left).fault ≡ None → IsClean past left
+clean-after : (left : List Record) (past : List Line) → AreLawful Small past → (answers_after past left).fault ≡ None → IsClean past left
 clean-after [] past lawful free = record { each = λ fields inside. absurd (omega (arith, inside.1)); lawful = lawful; ended = free }
 clean-after (fields ∷ rest) past lawful free = by (judged past fields) refl free (clean-after rest)
   where
     by : (r : Result Line RowFaultKind) → judged past fields ≡ r → (go_on past (λ lines. answers_after lines rest) r).fault ≡ None
-        → ((lines : List Line) → AreLawful lines → (answers_after lines rest).fault ≡ None → IsClean lines rest) → IsClean past (fields ∷ rest)
+        → ((lines : List Line) → AreLawful Small lines → (answers_after lines rest).fault ≡ None → IsClean lines rest) → IsClean past (fields ∷ rest)
     by (Err k) e free next = cc free
     by (Ok last) e free next =
-        let is = judged-line past fields last e in
+        let is = judged-line Small past fields last e in
         let after =
-        next (last ∷ past) (judged-free past fields last e, lawful) (sym (same-fault (item_of past last) (answers_after (last ∷ past) rest)) ∙ free) in
+        next (last ∷ past) (judged-free Small past fields last e, lawful) (sym (same-fault (item_of past last) (answers_after (last ∷ past) rest)) ∙ free) in
         record {
           each = head-or-later IsLine fields rest (judged-clean past fields last e, last, is) after.each;
           lawful = rw is after.lawful;
           ended = rw is after.ended;
         }
 
-lawful-before : (left : List Record) (past : List Line) → AreLawful (lines_after past left) → AreLawful past
+lawful-before : (left : List Record) (past : List Line) → AreLawful Small (lines_after past left) → AreLawful Small past
 lawful-before [] past lawful = lawful
 lawful-before (fields ∷ rest) past lawful = by (line_of fields) (lawful-before rest (noted (line_of fields) past) lawful)
   where
-    by : (r : Result Line RowFaultKind) → AreLawful (noted r past) → AreLawful past
+    by : (r : Result Line RowFaultKind) → AreLawful Small (noted r past) → AreLawful Small past
     by (Ok l) lawful = lawful.1
     by (Err k) lawful = lawful
 
@@ -514,7 +515,7 @@ clean-before (fields ∷ rest) past clean = by (clean.each fields (0, omega arit
         → (go_on past (λ lines. answers_after lines rest) (judged past fields)).fault ≡ None
     by (whole, last, is) next =
         let noted_as : lines_after past (fields ∷ rest) ≡ lines_after (last ∷ past) rest = ap (λ r. lines_after (noted r past) rest) is in
-        let lawful : AreLawful (lines_after (last ∷ past) rest) = subst AreLawful noted_as clean.lawful in
+        let lawful : AreLawful Small (lines_after (last ∷ past) rest) = subst (AreLawful Small) noted_as clean.lawful in
         let free : fault_of past last ≡ None = (lawful-before rest (last ∷ past) lawful).0 in
         let after : IsClean (last ∷ past) rest = record {
           each = λ other inside. clean.each other (suc inside.0, omega (arith, inside.1), inside.2);
@@ -617,7 +618,7 @@ unsealed-after (fields ∷ rest) past none = by (judged past fields) refl (unsea
         → has_seal (go_on past (λ lines. answers_after lines rest) r).items ≡ false
     by (Err k) e next = refl
     by (Ok last) e next =
-        unsealed-item past last (answers_after (last ∷ past) rest) (sealed-by fields last (judged-line past fields last e) ∙ first.0)
+        unsealed-item past last (answers_after (last ∷ past) rest) (sealed-by fields last (judged-line Small past fields last e) ∙ first.0)
         ∙ next (last ∷ past) first.1
 
 pub unsealed : (text : List ℕ) → records_by_none (records_of text) ≡ [] → has_seal (answers_of text).items ≡ false

@@ -7,13 +7,15 @@ use Rattle.std.specs.Option.{option_map_or}
 use Rattle.std.specs.FinMap as finite
 use Rattle.std.specs.Cmp.Lexicographic.{nat_list_cmp_total}
 use Rattle.std.proofs.lemmas.Map.Lookups.{exact_bytes}
-use Rattle.tcc_txn.specs.Answers.{Answers, after_item, answers_after, answers_of, go_on, judged, records_of}
+use Rattle.tcc_txn.specs.Answers.{Answers, after_item, answers_after, answers_of, go_on, judged, records_of, judged_within}
 use Rattle.tcc_txn.specs.Finished.{finished_in}
 use Rattle.tcc_txn.specs.Interleaved.{AreInterleaved, is_by}
 use Rattle.tcc_txn.specs.Lines.{Record, in_session, is_cut, line_of, op_of, same}
 use Rattle.tcc_txn.specs.Names.{name_fault}
-use Rattle.tcc_txn.specs.Past.{fault_of, item_of, ops_since}
+use Rattle.tcc_txn.specs.Past.{fault_of, item_of, ops_since, fault_within}
 use Rattle.tcc_txn.specs.Transactions.{Transaction}
+use Rattle.tcc_txn.specs.declared.limits.Limits.{Limits}
+use Rattle.tcc_txn.specs.declared.limits.Limits.TheVariants.{Small}
 use Rattle.tcc_txn.specs.declared.op.Op.{Op}
 use Rattle.tcc_txn.specs.declared.rows.Item.{Item}
 use Rattle.tcc_txn.specs.declared.rows.Item.TheVariants as item
@@ -202,19 +204,20 @@ finished-same some other lines =
 
 -- ---- the answers to records without a fault
 
-pub judged-line : (past : List Line) (fields : Record) (last : Line) → judged past fields ≡ Ok last → line_of fields ≡ Ok last
-judged-line past fields last = by (is_cut fields) (line_of fields) refl refl
-  where
-    of : (found : Line) (o : Option RowFaultKind) → option_map_or Err o (Ok found) ≡ Ok last → found ≡ last
-    of found None e = cc e
-    of found (Some k) e = cc e
+module _ (limits : Limits) where
+  pub judged-line : (past : List Line) (fields : Record) (last : Line) → judged_within limits past fields ≡ Ok last → line_of fields ≡ Ok last
+  judged-line past fields last = by (is_cut fields) (line_of fields) refl refl
+    where
+      of : (found : Line) (o : Option RowFaultKind) → option_map_or Err o (Ok found) ≡ Ok last → found ≡ last
+      of found None e = cc e
+      of found (Some k) e = cc e
 
-    by : (cut : Bool) (r : Result Line RowFaultKind) → is_cut fields ≡ cut → line_of fields ≡ r → judged past fields ≡ Ok last → line_of fields ≡ Ok last
-    by true r whole is e = (let faulty : judged past fields ≡ Err kind.Read = rw whole refl in cc)
-    by false (Err k) whole is e = (let faulty : judged past fields ≡ Err k = rw (whole, is) refl in cc)
-    by false (Ok found) whole is e =
-        let after : judged past fields ≡ option_map_or Err (fault_of past found) (Ok found) = rw (whole, is) refl in
-        is ∙ ap Ok (of found (fault_of past found) (sym after ∙ e))
+      by : (cut : Bool) (r : Result Line RowFaultKind) → is_cut fields ≡ cut → line_of fields ≡ r → judged_within limits past fields ≡ Ok last → line_of fields ≡ Ok last
+      by true r whole is e = (let faulty : judged_within limits past fields ≡ Err kind.Read = rw whole refl in cc)
+      by false (Err k) whole is e = (let faulty : judged_within limits past fields ≡ Err k = rw (whole, is) refl in cc)
+      by false (Ok found) whole is e =
+          let after : judged_within limits past fields ≡ option_map_or Err (fault_within limits past found) (Ok found) = rw (whole, is) refl in
+          is ∙ ap Ok (of found (fault_within limits past found) (sym after ∙ e))
 
 pub items-of : (left : List Record) (past : List Line) → (answers_after past left).fault ≡ None
     → items_in past ++ (answers_after past left).items ≡ items_in (lines_after past left)
@@ -236,7 +239,7 @@ items-of (fields ∷ rest) past free = by (judged past fields) refl free (items-
     by (Err k) e free next = cc free
     by (Ok last) e free next =
         let ahead = answers_after (last ∷ past) rest in
-        rw (judged-line past fields last e)
+        rw (judged-line Small past fields last e)
         (more (item_of past last) (items_in past) ahead ∙ next (last ∷ past) (sym (same-fault (item_of past last) ahead) ∙ free))
 
 -- what is finished by records without a fault

@@ -14,6 +14,7 @@ use Rattle.std.proofs.lemmas.List.Elements.{All-head, All-tail}
 use Rattle.tcc_txn.specs.Lines.{same}
 use Rattle.tcc_txn.specs.Past.{is_begun, least, lesser, open_sessions, ops_since, sessions}
 use Rattle.tcc_txn.specs.Standing.{HoldsSeats, Seats, lower}
+use Rattle.tcc_txn.specs.declared.limits.Limits.{Limits}
 use Rattle.tcc_txn.specs.declared.op.Op.{Op}
 use Rattle.tcc_txn.specs.declared.rows.line.Line.{Line}
 use Rattle.tcc_txn.proofs.PastFacts.{begun-seen, same-name, seat-taken}
@@ -177,43 +178,44 @@ least-begun P ((name, Some ops) ∷ es) (Some b) m was each e =
     let here : P (lesser b name) = lesser-one P b name (was b refl) (All-head (BegunIs P) (name, Some ops) es each refl) in
     least-begun P es (Some (lesser b name)) m (λ a at. let one : lesser b name ≡ a = cc at in rw (← one) here) (All-tail (BegunIs P) (name, Some ops) es each) e
 
--- a session that has begun a transaction has the place of one
-begun-place : (t : List ℕ) (past : List Line) (seats : Seats) → HoldsSeats past seats → is_begun t past ≡ true
-    → get same seats t ≡ Some (Some (ops_since t past))
-begun-place t past seats holds begun = holds.each t ∙ rw begun refl
+module _ (limits : Limits) where
+  -- a session that has begun a transaction has the place of one
+  begun-place : (t : List ℕ) (past : List Line) (seats : Seats) → HoldsSeats limits past seats → is_begun t past ≡ true
+      → get same seats t ≡ Some (Some (ops_since t past))
+  begun-place t past seats holds begun = holds.each t ∙ rw begun refl
 
-open-taken : (o : Option (List Op)) → is_some o ≡ true → (ops : List Op) × (o ≡ Some ops)
-open-taken None e = cc e
-open-taken (Some ops) e = (ops, refl)
+  open-taken : (o : Option (List Op)) → is_some o ≡ true → (ops : List Op) × (o ≡ Some ops)
+  open-taken None e = cc e
+  open-taken (Some ops) e = (ops, refl)
 
--- an entry of one that has begun
-entry-begun : (past : List Line) (seats : Seats) → HoldsSeats past seats → (e : Entry) → get same seats e.0 ≡ Some e.1 → is_some e.1 ≡ true
-    → is_begun e.0 past ≡ true
-entry-begun past seats holds e there is_open =
-    let (ops, taken) = open-taken e.1 is_open in
-    (seat-taken _ _ _ ops (sym (holds.each e.0) ∙ there ∙ ap Some taken)).0
+  -- an entry of one that has begun
+  entry-begun : (past : List Line) (seats : Seats) → HoldsSeats limits past seats → (e : Entry) → get same seats e.0 ≡ Some e.1 → is_some e.1 ≡ true
+      → is_begun e.0 past ≡ true
+  entry-begun past seats holds e there is_open =
+      let (ops, taken) = open-taken e.1 is_open in
+      (seat-taken _ _ _ ops (sym (holds.each e.0) ∙ there ∙ ap Some taken)).0
 
--- the least session of the map that has begun a transaction is the least one that has
-pub fold-is-least : (past : List Line) (seats : Seats) → HoldsSeats past seats → All (λ (e : Entry). get same seats e.0 ≡ Some e.1) seats.entries
-    → fold lower None seats.entries ≡ least (open_sessions past)
-fold-is-least past seats holds found = by (fold lower None seats.entries) refl
-  where
-    under : (t : List ℕ) → is_begun t past ≡ true → (m : List ℕ) × (fold lower None seats.entries ≡ Some m) × IsUpTo m t
-    under t begun = least-under seats.entries None t (ops_since t past) (begun-place t past seats holds begun)
+  -- the least session of the map that has begun a transaction is the least one that has
+  pub fold-is-least : (past : List Line) (seats : Seats) → HoldsSeats limits past seats → All (λ (e : Entry). get same seats e.0 ≡ Some e.1) seats.entries
+      → fold lower None seats.entries ≡ least (open_sessions past)
+  fold-is-least past seats holds found = by (fold lower None seats.entries) refl
+    where
+      under : (t : List ℕ) → is_begun t past ≡ true → (m : List ℕ) × (fold lower None seats.entries ≡ Some m) × IsUpTo m t
+      under t begun = least-under seats.entries None t (ops_since t past) (begun-place t past seats holds begun)
 
-    none : fold lower None seats.entries ≡ None → (t : List ℕ) → is_begun t past ≡ true → ⊥
-    none f t begun = let (m, there, up_to) = under t begun in cc (f, there)
+      none : fold lower None seats.entries ≡ None → (t : List ℕ) → is_begun t past ≡ true → ⊥
+      none f t begun = let (m, there, up_to) = under t begun in cc (f, there)
 
-    below : (s : List ℕ) → fold lower None seats.entries ≡ Some s → (t : List ℕ) → is_begun t past ≡ true → IsUpTo s t
-    below s f t begun =
-        let (m, there, up_to) = under t begun in
-        let one : m ≡ s = cc (f, there) in
-        rw (← one) up_to
+      below : (s : List ℕ) → fold lower None seats.entries ≡ Some s → (t : List ℕ) → is_begun t past ≡ true → IsUpTo s t
+      below s f t begun =
+          let (m, there, up_to) = under t begun in
+          let one : m ≡ s = cc (f, there) in
+          rw (← one) up_to
 
-    by : (o : Option (List ℕ)) → fold lower None seats.entries ≡ o → o ≡ least (open_sessions past)
-    by None f = rw (none-open (λ t. is_begun t past) (sessions past) (none f)) refl
-    by (Some s) f =
-        let begun : is_begun s past ≡ true =
-        least-begun (λ t. is_begun t past ≡ true) seats.entries None s (λ a at. cc at)
-        (λ k d inside. entry-begun past seats holds _ (found k d inside)) f in
-        sym (least-is (λ t. is_begun t past) s (sessions past) begun (begun-seen s past begun) (below s f))
+      by : (o : Option (List ℕ)) → fold lower None seats.entries ≡ o → o ≡ least (open_sessions past)
+      by None f = rw (none-open (λ t. is_begun t past) (sessions past) (none f)) refl
+      by (Some s) f =
+          let begun : is_begun s past ≡ true =
+          least-begun (λ t. is_begun t past ≡ true) seats.entries None s (λ a at. cc at)
+          (λ k d inside. entry-begun past seats holds _ (found k d inside)) f in
+          sym (least-is (λ t. is_begun t past) s (sessions past) begun (begun-seen s past begun) (below s f))

@@ -15,6 +15,7 @@ use Rattle.tcc_txn.specs.Lines.{Record, access_of, accessed, digits_of, in_sessi
 use Rattle.tcc_txn.specs.Names.{name_fault}
 use Rattle.tcc_txn.specs.Standing.{PassesLine, PassesOperation, writes_no_zero}
 use Rattle.tcc_txn.specs.Transactions.{writes_zero}
+use Rattle.tcc_txn.specs.declared.limits.Limits.{Limits}
 use Rattle.tcc_txn.specs.declared.op.Op.{Op}
 use Rattle.tcc_txn.specs.declared.op.Op.TheVariants.{Get, Put}
 use Rattle.tcc_txn.specs.declared.rows.RowFaultKind.{RowFaultKind}
@@ -188,8 +189,8 @@ pub operation-line : (a b c d s : List ℕ) (writes : Bool) (op : Op) → sessio
 operation-line a b c d s writes op session access e = accessed-line a b c d s writes session access ∙ ap (in_session s) e
 
 -- what comes of an operation, of its line
-pub operation-passes : {U : Type 0} (past : List Line) (fields : Record) (session : List ℕ) (op : Op) (result : Result U RowFaultKind) (p : Progress)
-    → line_of fields ≡ Ok (line.Operation session op) → PassesLine past (line.Operation session op) result p → PassesOperation past fields result p
-operation-passes past fields session op (Ok done) p lawful (free, is) = (session, op, lawful, free, is)
-operation-passes past fields session op (Err k) p lawful (inl fault) = inr (inl (line.Operation session op, lawful, fault))
-operation-passes past fields session op (Err k) p lawful (inr want) = inr (inr want)
+pub operation-passes : (limits : Limits) {U : Type 0} (past : List Line) (fields : Record) (session : List ℕ) (op : Op) (result : Result U RowFaultKind) (p : Progress)
+    → line_of fields ≡ Ok (line.Operation session op) → PassesLine limits past (line.Operation session op) result p → PassesOperation limits past fields result p
+operation-passes limits past fields session op (Ok done) p lawful (free, is) = (session, op, lawful, free, is)
+operation-passes limits past fields session op (Err k) p lawful (inl fault) = inr (inl (line.Operation session op, lawful, fault))
+operation-passes limits past fields session op (Err k) p lawful (inr want) = inr (inr want)

@@ -1,5 +1,5 @@
 -- A snapshot as it lies in memory.
-use Rattle.std.proofs.Common.{◌≡◌, ℕ, ◌+◌, ◌≤◌, true, List, [], length, sum_by, refl, ap, sym, ◌∙◌, subst, arith, None, T, slice_get, option_map, ◌∷◌, ◌&&◌}
+use Rattle.std.proofs.Common.{◌≡◌, ℕ, ◌+◌, ◌≤◌, ◌<◌, true, List, [], length, sum_by, refl, ap, sym, ◌∙◌, subst, arith, None, T, slice_get, option_map, ◌∷◌, ◌&&◌}
 use Rattle.std.specs.List.{IsDistinct}
 use Rattle.std.specs.FinMap.Entries.{below_all}
 use Rattle.std.specs.Ordering.{is_lt}
@@ -12,23 +12,20 @@ use Rattle.std.specs.Cmp.Lexicographic.{slice_cmp}
 use Rattle.std.specs.FinMap as finite
 use Rattle.std.specs.Global.{Vec}
 use Rattle.tcc_txn.specs.Transactions.{Transaction}
-use Rattle.tcc_txn.specs.Snapshots.{first_repeated, parts_of, snapshot_fault}
-use Rattle.tcc_txn.specs.SnapshotStorage.{shown, IsStored}
+use Rattle.tcc_txn.specs.Finished.{IsWithinLimits, transaction_count}
+use Rattle.tcc_txn.specs.Limits.{most_sessions, most_transactions}
+use Rattle.tcc_txn.specs.Snapshots.{Sessions, first_repeated, parts_of, snapshot_fault_within}
+use Rattle.tcc_txn.specs.SnapshotStorage.{shown, IsStoredWithin}
 use Rattle.tcc_txn.proofs.Parts.{names_of, names_of-parts_of, length-parts_of}
 use Rattle.tcc_txn.proofs.SnapshotFaults.{snapshot_fault-parts_of, faultless}
 use Rattle.tcc_txn.proofs.SortedParts.{distinct_names, distinct_IsPermutation, rising_names, shown_sorted, same_name}
-use Rattle.tcc_txn.specs.declared.limits.TheConstants.{MAX_TRANSACTIONS}
+use Rattle.tcc_txn.specs.declared.limits.Limits.{Limits}
 
 -- the entries of a snapshot are its parts
-pub entries-shown : (parts : List (List ℕ × Vec Transaction)) → IsStored parts → finite.entries (shown parts) ≡ parts_of parts
+pub entries-shown : {limits : Limits} (parts : List (List ℕ × Vec Transaction)) → IsStoredWithin limits parts → finite.entries (shown parts) ≡ parts_of parts
 entries-shown parts stored = finite.entries-from_sorted (slice_cmp nat_cmp) (parts_of parts) stored.sorted
 
-pub slice_get-shown : (parts : List (List ℕ × Vec Transaction)) (i : ℕ) → IsStored parts
-    → slice_get (finite.entries (shown parts)) i ≡ option_map (λ part. (part.0, part.1.items)) (slice_get parts i)
-slice_get-shown parts i stored =
-    ap (λ es. slice_get es i) (entries-shown parts stored) ∙ slice_get-map (λ part. (part.0, part.1.items)) parts i
-
-pub len-shown : (parts : List (List ℕ × Vec Transaction)) → IsStored parts → finite.len (shown parts) ≡ length parts
+pub len-shown : {limits : Limits} (parts : List (List ℕ × Vec Transaction)) → IsStoredWithin limits parts → finite.len (shown parts) ≡ length parts
 len-shown parts stored = finite.len-entries (shown parts) ∙ ap length (entries-shown parts stored) ∙ length-parts_of parts
 
 pub sum_by-parts_of : (parts : List (List ℕ × Vec Transaction))
@@ -39,12 +36,30 @@ sum_by-parts_of (part ∷ parts) =
     ∙ ap (λ n. length part.1.items + n) (sum_by-parts_of parts)
     ∙ sym (sum_by-cons (λ p. length p.1.items) part parts)
 
--- the sessions of a snapshot have at most 4,095 transactions in all
-pub short-shown : (parts : List (List ℕ × Vec Transaction)) → IsStored parts → sum_by (λ part. length part.1) (finite.entries (shown parts)) ≤ MAX_TRANSACTIONS
-short-shown parts stored =
-    let total : sum_by (λ part. length part.1) (finite.entries (shown parts)) ≡ sum_by (λ part. length part.1.items) parts
-    = ap (sum_by (λ part. length part.1)) (entries-shown parts stored) ∙ sum_by-parts_of parts in
-    omega (arith, total, stored.short)
+-- a snapshot of some parts has their names, so many sessions and so many transactions
+module _ {limits : Limits} (parts : List (List ℕ × Vec Transaction)) (s : Sessions) (stored : IsStoredWithin limits parts) (is : shown parts ≡ s) where
+  pub entries-parts : parts_of parts ≡ finite.entries s
+  entries-parts = sym (entries-shown parts stored) ∙ ap (λ m. finite.entries m) is
+
+  pub len-parts : length parts ≡ finite.len s
+  len-parts = sym (len-shown parts stored) ∙ ap (λ m. finite.len m) is
+
+  pub count-parts : sum_by (λ part. length part.1.items) parts ≡ transaction_count s
+  count-parts = sym (sum_by-parts_of parts) ∙ ap (sum_by (λ part. length part.1)) entries-parts
+
+  pub short-parts : transaction_count s ≤ most_transactions limits
+  short-parts = omega (arith, count-parts, stored.short)
+
+  -- whether it keeps other limits is seen by its parts
+  pub within-parts : (other : Limits) → length parts ≤ most_sessions other → sum_by (λ part. length part.1.items) parts ≤ most_transactions other
+      → IsWithinLimits other s
+  within-parts other few short = (omega (arith, few, len-parts), omega (arith, short, count-parts))
+
+  pub past-sessions : (other : Limits) → most_sessions other < length parts → IsWithinLimits other s → ⊥
+  past-sessions other many within = absurd (omega (arith, many, len-parts, within.0))
+
+  pub past-transactions : (other : Limits) → most_transactions other < sum_by (λ part. length part.1.items) parts → IsWithinLimits other s → ⊥
+  past-transactions other many within = absurd (omega (arith, many, count-parts, within.1))
 
 below_all-parts_of : (name : List ℕ) (parts : List (List ℕ × Vec Transaction))
     → below_all (slice_cmp nat_cmp) name (parts_of parts) ≡ below_all (slice_cmp nat_cmp) name parts
@@ -66,12 +81,12 @@ rising_parts : (sorted : List (List ℕ × Vec Transaction)) → IsDistinct same
 rising_parts sorted distinct rising = is_sorted-parts_of sorted ∙ rising_names sorted distinct rising
 
 -- parts without a fault, sorted by name, are stored as a snapshot
-pub stored_sorted : (parts sorted : List (List ℕ × Vec Transaction)) → snapshot_fault (parts_of parts) ≡ None → IsPermutation parts sorted
-    → IsSortedByKey (λ part. part.0) (slice_cmp nat_cmp) sorted → IsStored sorted
-stored_sorted parts sorted none moved rising =
+pub stored_sorted : (limits : Limits) (parts sorted : List (List ℕ × Vec Transaction)) → snapshot_fault_within limits (parts_of parts) ≡ None → IsPermutation parts sorted
+    → IsSortedByKey (λ part. part.0) (slice_cmp nat_cmp) sorted → IsStoredWithin limits sorted
+stored_sorted limits parts sorted none moved rising =
     let facts =
-    faultless (first_repeated [] (names_of parts)) (length parts) (sum_by (λ part. length part.1.items) parts)
-    (sym (snapshot_fault-parts_of parts) ∙ none) in
+    faultless limits (first_repeated [] (names_of parts)) (length parts) (sum_by (λ part. length part.1.items) parts)
+    (sym (snapshot_fault-parts_of limits parts) ∙ none) in
     let distinct : IsDistinct same_name (names_of parts) = distinct_names [] (names_of parts) facts.distinct distinct_none in
     record {
       sorted = subst T (sym (rising_parts sorted (distinct_IsPermutation parts sorted distinct moved) rising)) tt;
@@ -80,12 +95,12 @@ stored_sorted parts sorted none moved rising =
     }
 
 -- and show the map that the parts make
-pub shown_parts : (parts sorted : List (List ℕ × Vec Transaction)) → snapshot_fault (parts_of parts) ≡ None → IsPermutation parts sorted
+pub shown_parts : (limits : Limits) (parts sorted : List (List ℕ × Vec Transaction)) → snapshot_fault_within limits (parts_of parts) ≡ None → IsPermutation parts sorted
     → IsSortedByKey (λ part. part.0) (slice_cmp nat_cmp) sorted → shown sorted ≡ finite.from_entries (parts_of parts)
-shown_parts parts sorted none moved rising =
+shown_parts limits parts sorted none moved rising =
     let facts =
-    faultless (first_repeated [] (names_of parts)) (length parts) (sum_by (λ part. length part.1.items) parts)
-    (sym (snapshot_fault-parts_of parts) ∙ none) in
+    faultless limits (first_repeated [] (names_of parts)) (length parts) (sum_by (λ part. length part.1.items) parts)
+    (sym (snapshot_fault-parts_of limits parts) ∙ none) in
     let distinct : IsDistinct same_name (names_of parts) = distinct_names [] (names_of parts) facts.distinct distinct_none in
     let parts_distinct : IsDistinct same_name (names_of (parts_of parts)) = subst (IsDistinct same_name) (sym (names_of-parts_of parts)) distinct in
     shown_sorted (parts_of parts) (parts_of sorted) parts_distinct

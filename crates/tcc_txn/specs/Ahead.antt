@@ -1,7 +1,8 @@
 -- The answers that a reader of rows has still to give.
 use Rattle.std.specs.Prelude.{ℕ, ◌+◌, ◌≡◌, ◌⊎◌, Bool, true, false, List, length, Option, None, Some, Result, Ok, Err}
-use Rattle.tcc_txn.specs.Answers.{Answers, after_item, answers_after, ending}
+use Rattle.tcc_txn.specs.Answers.{Answers, after_item, answers_after_within, ending}
 use Rattle.tcc_txn.specs.Lines.{Record}
+use Rattle.tcc_txn.specs.declared.limits.Limits.{Limits}
 use Rattle.tcc_txn.specs.declared.rows.Item.{Item}
 use Rattle.tcc_txn.specs.declared.rows.Item.TheVariants as item
 use Rattle.tcc_txn.specs.declared.rows.Phase.{Phase}
@@ -13,14 +14,14 @@ use Rattle.tcc_txn.specs.Midway.{IsMidway}
 use Rattle.tcc_txn.specs.declared.rows.Rows.{Rows}
 use Rattle.tcc_txn.specs.declared.rows.line.Line.{Line}
 
-abbrev pub IsAheadIn : {R : Type 0} → Phase → (R → Option (List ℕ)) → Rows R → Answers → Type 0
-IsAheadIn phase.Reading remaining rows ahead = IsMidway remaining rows ahead
-IsAheadIn phase.Ended remaining rows ahead = ahead ≡ ending None
-IsAheadIn (phase.Stopped fault) remaining rows ahead = ahead ≡ ending (Some fault)
+abbrev pub IsAheadIn : {R : Type 0} → Limits → Phase → (R → Option (List ℕ)) → Rows R → Answers → Type 0
+IsAheadIn limits phase.Reading remaining rows ahead = IsMidway limits remaining rows ahead
+IsAheadIn limits phase.Ended remaining rows ahead = ahead ≡ ending None
+IsAheadIn limits (phase.Stopped fault) remaining rows ahead = ahead ≡ ending (Some fault)
 
 -- these are the answers that are still to come, where the reader's bytes are known
-abbrev pub IsAhead : {R : Type 0} → (R → Option (List ℕ)) → Rows R → Answers → Type 0
-IsAhead remaining rows ahead = IsAheadIn rows.phase remaining rows ahead
+abbrev pub IsAhead : {R : Type 0} → Limits → (R → Option (List ℕ)) → Rows R → Answers → Type 0
+IsAhead limits remaining rows ahead = IsAheadIn limits rows.phase remaining rows ahead
 
 -- the fault that was met, if there was one
 abbrev pub fault_in : Phase → Option RowFault
@@ -45,17 +46,18 @@ abbrev pub IsFailure : RowFaultKind → Type 0
 IsFailure k = (k ≡ kind.Read) ⊎ (k ≡ kind.NoMemory)
 
 -- the reader failed or memory was refused, at the record that follows some lawful lines after which the same answers are still to come
-abbrev pub FailsIn : Answers → RowFault → Type 0
-FailsIn ahead fault = IsFailure fault.kind × (past : List Line) × (left : List Record) × (ahead ≡ answers_after past left) × (fault.row ≡ length past + 1)
+abbrev pub FailsIn : Limits → Answers → RowFault → Type 0
+FailsIn limits ahead fault =
+    IsFailure fault.kind × (past : List Line) × (left : List Record) × (ahead ≡ answers_after_within limits past left) × (fault.row ≡ length past + 1)
 
 -- the first answer is this fault, unless the reader failed or memory was refused
-abbrev pub FaultsIn : Answers → RowFault → Type 0
-FaultsIn ahead fault = (ahead ≡ ending (Some fault)) ⊎ FailsIn ahead fault
+abbrev pub FaultsIn : Limits → Answers → RowFault → Type 0
+FaultsIn limits ahead fault = (ahead ≡ ending (Some fault)) ⊎ FailsIn limits ahead fault
 
 -- the first of the answers that were to come was given, and the others are still to come
-abbrev pub TakesAnswer : {R : Type 0} → (R → Option (List ℕ)) → Answers → Result Item RowFault → Rows R → Type 0
-TakesAnswer remaining ahead (Ok item.End) new = (ahead ≡ ending None) × IsAhead remaining new (ending None)
-TakesAnswer remaining ahead (Ok item.Seal) new = (rest : Answers) × (ahead ≡ after_item (Some item.Seal) rest) × IsAhead remaining new rest
-TakesAnswer remaining ahead (Ok (item.Finished name txn)) new =
-    (rest : Answers) × (ahead ≡ after_item (Some (item.Finished name txn)) rest) × IsAhead remaining new rest
-TakesAnswer remaining ahead (Err fault) new = FaultsIn ahead fault × IsAhead remaining new (ending (Some fault))
+abbrev pub TakesAnswer : {R : Type 0} → Limits → (R → Option (List ℕ)) → Answers → Result Item RowFault → Rows R → Type 0
+TakesAnswer limits remaining ahead (Ok item.End) new = (ahead ≡ ending None) × IsAhead limits remaining new (ending None)
+TakesAnswer limits remaining ahead (Ok item.Seal) new = (rest : Answers) × (ahead ≡ after_item (Some item.Seal) rest) × IsAhead limits remaining new rest
+TakesAnswer limits remaining ahead (Ok (item.Finished name txn)) new =
+    (rest : Answers) × (ahead ≡ after_item (Some (item.Finished name txn)) rest) × IsAhead limits remaining new rest
+TakesAnswer limits remaining ahead (Err fault) new = FaultsIn limits ahead fault × IsAhead limits remaining new (ending (Some fault))

@@ -3,9 +3,11 @@ use Rattle.std.specs.Prelude.{ℕ, ◌+◌, if◌then◌else◌, List, [], ◌�
 use Rattle.std.specs.Option.{option_map_or}
 use Rattle.csv.specs.Reading.{default_config, records, strip_bom}
 use Rattle.tcc_txn.specs.ByteLimit.{marked}
+use Rattle.tcc_txn.specs.Limits.{most_bytes}
 use Rattle.tcc_txn.specs.Lines.{Record, is_cut, line_of}
-use Rattle.tcc_txn.specs.Past.{fault_of, item_of, least, open_sessions}
-use Rattle.tcc_txn.specs.declared.limits.TheConstants.{MAX_INPUT_BYTES}
+use Rattle.tcc_txn.specs.Past.{fault_within, item_of, least, open_sessions}
+use Rattle.tcc_txn.specs.declared.limits.Limits.{Limits}
+use Rattle.tcc_txn.specs.declared.limits.Limits.TheVariants.{Small}
 use Rattle.tcc_txn.specs.declared.rows.Item.{Item}
 use Rattle.tcc_txn.specs.declared.rows.RowFault.{RowFault}
 use Rattle.tcc_txn.specs.declared.rows.RowFaultKind.{RowFaultKind}
@@ -27,11 +29,11 @@ after_item None rest = rest
 after_item (Some first) rest = record { items = first ∷ rest.items; fault = rest.fault }
 
 -- the line of a record after others, or the least kind of its faults; the reader gives up in a record that the limit cuts
-abbrev pub judged : List Line → Record → Result Line RowFaultKind
-judged past fields = if is_cut fields then Err kind.Read else after (line_of fields)
+abbrev pub judged_within : Limits → List Line → Record → Result Line RowFaultKind
+judged_within limits past fields = if is_cut fields then Err kind.Read else after (line_of fields)
   where
     after : Result Line RowFaultKind → Result Line RowFaultKind
-    after (Ok last) = option_map_or Err (fault_of past last) (Ok last)
+    after (Ok last) = option_map_or Err (fault_within limits past last) (Ok last)
     after (Err k) = Err k
 
 -- the fault at the end of the records, whose row is that of the last one
@@ -43,14 +45,28 @@ go_on past more (Ok last) = after_item (item_of past last) (more (last ∷ past)
 go_on past more (Err k) = ending (Some (record { row = length past + 1; kind = k }))
 
 -- the answers to the records that follow lawful lines, which stand newest first
-abbrev pub answers_after : List Line → List Record → Answers
-answers_after past [] = ending (fault_at_end past)
-answers_after past (fields ∷ rest) = go_on past (λ lines. answers_after lines rest) (judged past fields)
+abbrev pub answers_after_within : Limits → List Line → List Record → Answers
+answers_after_within limits past [] = ending (fault_at_end past)
+answers_after_within limits past (fields ∷ rest) = go_on past (λ lines. answers_after_within limits lines rest) (judged_within limits past fields)
 
 -- the records of a text: those of `csv` without a header row, up to the limit on bytes
-abbrev pub records_of : List ℕ → List Record
-records_of text = records default_config (strip_bom (marked MAX_INPUT_BYTES text))
+abbrev pub records_within : Limits → List ℕ → List Record
+records_within limits text = records default_config (strip_bom (marked (most_bytes limits) text))
 
 -- the answers to a text
+abbrev pub answers_within : Limits → List ℕ → Answers
+answers_within limits text = answers_after_within limits [] (records_within limits text)
+
+-- ---- the same within the small limits
+
+abbrev pub judged : List Line → Record → Result Line RowFaultKind
+judged = judged_within Small
+
+abbrev pub answers_after : List Line → List Record → Answers
+answers_after = answers_after_within Small
+
+abbrev pub records_of : List ℕ → List Record
+records_of = records_within Small
+
 abbrev pub answers_of : List ℕ → Answers
-answers_of text = answers_after [] (records_of text)
+answers_of = answers_within Small

@@ -1,9 +1,11 @@
 -- What the sessions have finished by some items.
 use Rattle.std.specs.Prelude.{ℕ, ◌≤◌, List, [], ◌∷◌, ◌++◌, fold, length, sum_by, unwrap_or}
 use Rattle.std.specs.FinMap as map
+use Rattle.tcc_txn.specs.Limits.{most_sessions, most_transactions}
 use Rattle.tcc_txn.specs.Snapshots.{Sessions}
 use Rattle.tcc_txn.specs.Transactions.{Transaction}
-use Rattle.tcc_txn.specs.declared.limits.TheConstants.{MAX_SESSIONS, MAX_TRANSACTIONS}
+use Rattle.tcc_txn.specs.declared.limits.Limits.{Limits}
+use Rattle.tcc_txn.specs.declared.limits.Limits.TheVariants.{Small}
 use Rattle.tcc_txn.specs.declared.rows.Item.{Item}
 use Rattle.tcc_txn.specs.declared.rows.Item.TheVariants as item
 
@@ -26,5 +28,9 @@ abbrev pub transaction_count : Sessions → ℕ
 transaction_count s = sum_by (λ named. length named.1) (map.entries s)
 
 -- there are not too many sessions and not too many transactions
+abbrev pub IsWithinLimits : Limits → Sessions → Type 0
+IsWithinLimits limits s = (map.len s ≤ most_sessions limits) × (transaction_count s ≤ most_transactions limits)
+
+-- there are not too many for the small limits
 abbrev pub KeepsLimits : Sessions → Type 0
-KeepsLimits s = (map.len s ≤ MAX_SESSIONS) × (transaction_count s ≤ MAX_TRANSACTIONS)
+KeepsLimits s = IsWithinLimits Small s

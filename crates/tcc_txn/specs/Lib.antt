@@ -5,6 +5,7 @@ pub mod ByteLimit
 pub mod Failing
 pub mod Finished
 pub mod Interleaved
+pub mod Limits
 pub mod Lines
 pub mod Names
 pub mod Nested

@@ -6,9 +6,12 @@ use Rattle.std.specs.Ordering.{nat_cmp}
 use Rattle.std.specs.Cmp.Lexicographic.{slice_cmp}
 use Rattle.std.specs.declared.cmp.Ordering.{Ordering}
 use Rattle.std.specs.declared.cmp.Ordering.TheVariants.{Less, Equal, Greater}
+use Rattle.tcc_txn.specs.Limits.{most_keys, most_sessions, most_transactions}
 use Rattle.tcc_txn.specs.Lines.{same}
 use Rattle.tcc_txn.specs.Transactions.{op_key}
-use Rattle.tcc_txn.specs.declared.limits.TheConstants.{MAX_KEYS, MAX_OPERATIONS, MAX_SEALS, MAX_SESSIONS, MAX_TRANSACTIONS}
+use Rattle.tcc_txn.specs.declared.limits.Limits.{Limits}
+use Rattle.tcc_txn.specs.declared.limits.Limits.TheVariants.{Small}
+use Rattle.tcc_txn.specs.declared.limits.TheConstants.{MAX_OPERATIONS, MAX_SEALS}
 use Rattle.tcc_txn.specs.declared.op.Op.{Op}
 use Rattle.tcc_txn.specs.declared.rows.Item.{Item}
 use Rattle.tcc_txn.specs.declared.rows.Item.TheVariants as item
@@ -83,20 +86,24 @@ abbrev pub seal_count : List Line → ℕ
 seal_count [] = 0
 seal_count (last ∷ past) = if seals last then seal_count past + 1 else seal_count past
 
--- the least kind of fault that a line is after others, if it is one
-abbrev pub fault_of : List Line → Line → Option RowFaultKind
-fault_of past line.Seal = if nat_lt MAX_SEALS (seal_count (line.Seal ∷ past)) then Some kind.TooManySeals else None
-fault_of past (line.Begin session) =
+-- the least kind of fault that a line is after others within the limits, if it is one
+abbrev pub fault_within : Limits → List Line → Line → Option RowFaultKind
+fault_within limits past line.Seal = if nat_lt MAX_SEALS (seal_count (line.Seal ∷ past)) then Some kind.TooManySeals else None
+fault_within limits past (line.Begin session) =
     if is_begun session past then Some kind.AlreadyBegun
-    else if nat_lt MAX_SESSIONS (length (sessions (line.Begin session ∷ past))) then Some kind.TooManySessions
-    else if nat_lt MAX_TRANSACTIONS (begin_count (line.Begin session ∷ past)) then Some kind.TooManyTransactions
+    else if nat_lt (most_sessions limits) (length (sessions (line.Begin session ∷ past))) then Some kind.TooManySessions
+    else if nat_lt (most_transactions limits) (begin_count (line.Begin session ∷ past)) then Some kind.TooManyTransactions
     else None
-fault_of past (line.Finish session committed) = if is_begun session past then None else Some kind.NotBegun
-fault_of past (line.Operation session op) =
+fault_within limits past (line.Finish session committed) = if is_begun session past then None else Some kind.NotBegun
+fault_within limits past (line.Operation session op) =
     if not (is_begun session past) then Some kind.NotBegun
     else if nat_lt MAX_OPERATIONS (length (ops_since session (line.Operation session op ∷ past))) then Some kind.TooManyOps
-    else if nat_lt MAX_KEYS (length (keys (line.Operation session op ∷ past))) then Some kind.TooManyKeys
+    else if nat_lt (most_keys limits) (length (keys (line.Operation session op ∷ past))) then Some kind.TooManyKeys
     else None
+
+-- the same within the small limits
+abbrev pub fault_of : List Line → Line → Option RowFaultKind
+fault_of = fault_within Small
 
 -- what a lawful line after others finishes, or the answer that it wants
 abbrev pub item_of : List Line → Line → Option Item

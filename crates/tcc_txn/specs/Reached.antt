@@ -3,7 +3,7 @@ use Rattle.std.specs.Prelude.{ℕ, ◌+◌, ◌-◌, ◌^◌, ◌≡◌, ◌≤�
 use Rattle.csv.specs.Reading.{has_failed, is_io}
 use Rattle.csv.specs.declared.error.ErrorKind.{ErrorKind}
 use Rattle.tcc_txn.specs.Lines.{Record}
-use Rattle.tcc_txn.specs.RecordsLeft.{HasLeft}
+use Rattle.tcc_txn.specs.RecordsLeft.{HasLeft, record_of}
 use Rattle.tcc_txn.specs.declared.rows.Phase.{Phase}
 use Rattle.tcc_txn.specs.declared.rows.Phase.TheVariants as phase
 use Rattle.tcc_txn.specs.declared.rows.RowFaultKind.{RowFaultKind}
@@ -16,6 +16,10 @@ use Rattle.tcc_txn.specs.declared.rows.records.Records.{Records}
 -- how many records were read
 abbrev pub records_read : {R : Type 0} → Rows R → ℕ
 records_read rows = rows.records.count
+
+-- the fields of the record that was read last
+abbrev pub last_record : {R : Type 0} → Rows R → Record
+last_record rows = record_of rows.records
 
 -- after so many records: the row of the last, or, where the reading of one more failed, the row after it, as far as 64 bits go
 abbrev pub row_in : Course → ℕ → ℕ

@@ -8,7 +8,9 @@ use Rattle.std.specs.FinMap as map
 use Rattle.std.specs.Global.{Vec}
 use Rattle.tcc_txn.specs.Transactions.{Transaction}
 use Rattle.tcc_txn.specs.Snapshots.{Sessions, parts_of}
-use Rattle.tcc_txn.specs.declared.limits.TheConstants.{MAX_SESSIONS, MAX_TRANSACTIONS}
+use Rattle.tcc_txn.specs.Limits.{most_sessions, most_transactions}
+use Rattle.tcc_txn.specs.declared.limits.Limits.{Limits}
+use Rattle.tcc_txn.specs.declared.limits.Limits.TheVariants.{Small}
 use Rattle.tcc_txn.specs.declared.op.Op.{Op}
 use Rattle.tcc_txn.specs.declared.op.Op.TheVariants.{Get, Put}
 
@@ -48,8 +50,16 @@ place_in session (part ∷ parts) = if is_lt (slice_cmp nat_cmp part.0 session) 
 abbrev pub StandsAt : {X : Type 0} → List (List ℕ × X) → List ℕ → ℕ → Type 0
 StandsAt {X} parts session at = (at < length parts) × ((d : List ℕ × X) → (slice_index_or parts at d).0 ≡ session)
 
--- the names strictly rise; there are at most `MAX_SESSIONS`, with at most `MAX_TRANSACTIONS` transactions in all
-pub record IsStored (parts : List (List ℕ × Vec Transaction)) : Type 0 where
+-- the names strictly rise; there are not too many of them, and not too many transactions in all
+pub record IsStoredWithin (limits : Limits) (parts : List (List ℕ × Vec Transaction)) : Type 0 where
   pub sorted : T (map.is_sorted (slice_cmp nat_cmp) (parts_of parts))
-  pub few : length parts ≤ MAX_SESSIONS
-  pub short : sum_by (λ part. length part.1.items) parts ≤ MAX_TRANSACTIONS
+  pub few : length parts ≤ most_sessions limits
+  pub short : sum_by (λ part. length part.1.items) parts ≤ most_transactions limits
+
+abbrev pub IsStored : List (List ℕ × Vec Transaction) → Type 0
+IsStored = IsStoredWithin Small
+
+-- the same, with the number of transactions beside the parts
+pub record IsCounted (limits : Limits) (parts : List (List ℕ × Vec Transaction)) (transactions : ℕ) : Type 0 where
+  pub stored : IsStoredWithin limits parts
+  pub counted : transactions ≡ sum_by (λ part. length part.1.items) parts

@@ -6,8 +6,10 @@ use Rattle.std.specs.Ordering.{nat_cmp}
 use Rattle.std.specs.Cmp.Lexicographic.{slice_cmp, pointwise}
 use Rattle.std.specs.FinMap.{FinMap}
 use Rattle.std.specs.Global.{Vec}
+use Rattle.tcc_txn.specs.Limits.{most_sessions, most_transactions}
 use Rattle.tcc_txn.specs.Transactions.{Transaction}
-use Rattle.tcc_txn.specs.declared.limits.TheConstants.{MAX_SESSIONS, MAX_TRANSACTIONS}
+use Rattle.tcc_txn.specs.declared.limits.Limits.{Limits}
+use Rattle.tcc_txn.specs.declared.limits.Limits.TheVariants.{Small}
 use Rattle.tcc_txn.specs.declared.snapshot.SnapshotFault.{SnapshotFault}
 use Rattle.tcc_txn.specs.declared.snapshot.SnapshotFault.TheVariants.{Repeated, TooManySessions, TooManyTransactions}
 
@@ -25,10 +27,14 @@ first_repeated earlier [] = None
 first_repeated earlier (name ∷ later) =
     if list_any (pointwise nat_eq name) earlier then Some name else first_repeated (earlier ++ name ∷ []) later
 
--- why the parts make no snapshot: two have one name, or there are more than `MAX_SESSIONS` sessions or `MAX_TRANSACTIONS` transactions
-abbrev pub snapshot_fault : List (List ℕ × List Transaction) → Option SnapshotFault
-snapshot_fault parts =
+-- why the parts make no snapshot within the limits: two have one name, or there are too many sessions or too many transactions
+abbrev pub snapshot_fault_within : Limits → List (List ℕ × List Transaction) → Option SnapshotFault
+snapshot_fault_within limits parts =
     option_map_or (λ name. Some (Repeated name)) (first_repeated [] (map (λ part. part.0) parts))
-    (if nat_lt MAX_SESSIONS (length parts) then Some TooManySessions
-    else if nat_lt MAX_TRANSACTIONS (sum_by (λ part. length part.1) parts) then Some TooManyTransactions
+    (if nat_lt (most_sessions limits) (length parts) then Some TooManySessions
+    else if nat_lt (most_transactions limits) (sum_by (λ part. length part.1) parts) then Some TooManyTransactions
     else None)
+
+-- why they make no small one
+abbrev pub snapshot_fault : List (List ℕ × List Transaction) → Option SnapshotFault
+snapshot_fault = snapshot_fault_within Small

@@ -2,12 +2,13 @@
 use Rattle.std.specs.Prelude.{ℕ, ◌+◌, ◌^◌, ◌<◌, ◌≤◌, ◌≡◌, ◌⊎◌, Bool, true, false, List, [], ◌∷◌, length, Option, None, Some, Result, Ok, Err}
 use Rattle.tcc_txn.specs.Ahead.{FaultsIn}
 use Rattle.tcc_txn.specs.Midway.{IsMidway}
-use Rattle.tcc_txn.specs.Answers.{Answers, after_item, answers_after, ending, judged}
+use Rattle.tcc_txn.specs.Answers.{Answers, after_item, answers_after_within, ending, judged_within}
 use Rattle.tcc_txn.specs.Lines.{Record, is_cut, line_of}
 use Rattle.tcc_txn.specs.Past.{item_of}
 use Rattle.tcc_txn.specs.Reached.{StandsIn, row_reached}
 use Rattle.tcc_txn.specs.RecordsLeft.{HasLeft}
 use Rattle.tcc_txn.specs.Standing.{IsAfter}
+use Rattle.tcc_txn.specs.declared.limits.Limits.{Limits}
 use Rattle.tcc_txn.specs.declared.rows.Item.{Item}
 use Rattle.tcc_txn.specs.declared.rows.Item.TheVariants as item
 use Rattle.tcc_txn.specs.declared.rows.RowFault.{RowFault}
@@ -36,41 +37,42 @@ LeavesIn remaining all (Ok (Some line)) new = StandsIn remaining new all
 LeavesIn remaining all (Ok None) new = new.count ≡ length all
 LeavesIn remaining all (Err e) new = new.count ≤ length all
 
-abbrev pub TakesItem : {R : Type 0} → (R → Option (List ℕ)) → Answers → Item → Rows R → Type 0
-TakesItem remaining ahead item.End new = ahead ≡ ending None
-TakesItem remaining ahead item.Seal new = (rest : Answers) × (ahead ≡ after_item (Some item.Seal) rest) × IsMidway remaining new rest
-TakesItem remaining ahead (item.Finished name txn) new =
-    (rest : Answers) × (ahead ≡ after_item (Some (item.Finished name txn)) rest) × IsMidway remaining new rest
+abbrev pub TakesItem : {R : Type 0} → Limits → (R → Option (List ℕ)) → Answers → Item → Rows R → Type 0
+TakesItem limits remaining ahead item.End new = ahead ≡ ending None
+TakesItem limits remaining ahead item.Seal new = (rest : Answers) × (ahead ≡ after_item (Some item.Seal) rest) × IsMidway limits remaining new rest
+TakesItem limits remaining ahead (item.Finished name txn) new =
+    (rest : Answers) × (ahead ≡ after_item (Some (item.Finished name txn)) rest) × IsMidway limits remaining new rest
 
 -- one record was passed, or the end was met: what came of it
-abbrev pub TakesStep : {R : Type 0} → (R → Option (List ℕ)) → Answers → Result (Option Item) RowFault → Rows R → Type 0
-TakesStep remaining ahead (Ok None) new = IsMidway remaining new ahead
-TakesStep remaining ahead (Ok (Some given)) new = TakesItem remaining ahead given new
-TakesStep remaining ahead (Err fault) new = FaultsIn ahead fault
+abbrev pub TakesStep : {R : Type 0} → Limits → (R → Option (List ℕ)) → Answers → Result (Option Item) RowFault → Rows R → Type 0
+TakesStep limits remaining ahead (Ok None) new = IsMidway limits remaining new ahead
+TakesStep limits remaining ahead (Ok (Some given)) new = TakesItem limits remaining ahead given new
+TakesStep limits remaining ahead (Err fault) new = FaultsIn limits ahead fault
 
 -- the line of the record that was read last, the first of those that are left: these are the answers from there on, after the lawful lines so far
-pub record IsAtLine {R : Type 0} (remaining : R → Option (List ℕ)) (rows : Rows R) (ahead : Answers) (line : Line) : Type 0 where
+pub record IsAtLine {R : Type 0} (limits : Limits) (remaining : R → Option (List ℕ)) (rows : Rows R) (ahead : Answers) (line : Line) : Type 0 where
   pub past : List Line
   pub fields : Record
   pub left : List Record
   pub records : HasLeft remaining rows.records left
-  pub progress : IsAfter past rows.progress
+  pub progress : IsAfter limits past rows.progress
   pub counted : rows.records.count ≡ length past + 1
   pub going : rows.records.course ≡ course.Going
   pub fits : length past + length left + 2 < 2 ^ 64
   pub whole : is_cut fields ≡ false
   pub lawful : line_of fields ≡ Ok line
-  pub answers : ahead ≡ answers_after past (fields ∷ left)
+  pub answers : ahead ≡ answers_after_within limits past (fields ∷ left)
 
 -- the operations before it were passed: a line, the end of the records, or a fault in place of the first answer
-abbrev pub MeetsLine : {R : Type 0} → (R → Option (List ℕ)) → Answers → Result (Option Line) RowFaultKind → Rows R → Type 0
-MeetsLine remaining ahead (Ok (Some line)) new = IsAtLine remaining new ahead line
-MeetsLine remaining ahead (Ok None) new =
-    (past : List Line) × IsAfter past new.progress × (row_reached new ≡ length past) × (ahead ≡ answers_after past [])
-MeetsLine remaining ahead (Err k) new = FaultsIn ahead (record { row = row_reached new; kind = k })
+abbrev pub MeetsLine : {R : Type 0} → Limits → (R → Option (List ℕ)) → Answers → Result (Option Line) RowFaultKind → Rows R → Type 0
+MeetsLine limits remaining ahead (Ok (Some line)) new = IsAtLine limits remaining new ahead line
+MeetsLine limits remaining ahead (Ok None) new =
+    (past : List Line) × IsAfter limits past new.progress × (row_reached new ≡ length past) × (ahead ≡ answers_after_within limits past [])
+MeetsLine limits remaining ahead (Err k) new = FaultsIn limits ahead (record { row = row_reached new; kind = k })
 
 -- the record after lawful lines: the item of its line, or the fault of the record unless memory was refused
-abbrev pub TakesFields : {R : Type 0} → List Line → Record → Result (Option Item) RowFault → Rows R → Type 0
-TakesFields past fields (Ok given) new =
-    (last : Line) × (judged past fields ≡ Ok last) × (given ≡ item_of past last) × IsAfter (last ∷ past) new.progress
-TakesFields past fields (Err fault) new = ((judged past fields ≡ Err fault.kind) ⊎ (fault.kind ≡ kind.NoMemory)) × (fault.row ≡ length past + 1)
+abbrev pub TakesFields : {R : Type 0} → Limits → List Line → Record → Result (Option Item) RowFault → Rows R → Type 0
+TakesFields limits past fields (Ok given) new =
+    (last : Line) × (judged_within limits past fields ≡ Ok last) × (given ≡ item_of past last) × IsAfter limits (last ∷ past) new.progress
+TakesFields limits past fields (Err fault) new =
+    ((judged_within limits past fields ≡ Err fault.kind) ⊎ (fault.kind ≡ kind.NoMemory)) × (fault.row ≡ length past + 1)

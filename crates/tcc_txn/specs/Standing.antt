@@ -6,10 +6,12 @@ use Rattle.std.specs.HashMap.{HashMap, hash_map_len, get}
 use Rattle.std.specs.HashSet.{HashSet, contains, hash_set_len}
 use Rattle.std.specs.declared.hash.BuildHasherDefault.{BuildHasherDefault}
 use Rattle.std.specs.declared.hash.FoldHasher.{FoldHasher}
+use Rattle.tcc_txn.specs.Limits.{most_keys, most_sessions, most_transactions}
 use Rattle.tcc_txn.specs.Lines.{Record, line_of, same}
-use Rattle.tcc_txn.specs.Past.{begin_count, fault_of, is_begun, item_of, keys, lesser, ops_since, seal_count, sessions, with_name}
+use Rattle.tcc_txn.specs.Past.{begin_count, fault_within, is_begun, item_of, keys, lesser, ops_since, seal_count, sessions, with_name}
 use Rattle.tcc_txn.specs.Transactions.{writes_zero}
-use Rattle.tcc_txn.specs.declared.limits.TheConstants.{MAX_KEYS, MAX_SEALS, MAX_SESSIONS, MAX_TRANSACTIONS}
+use Rattle.tcc_txn.specs.declared.limits.Limits.{Limits}
+use Rattle.tcc_txn.specs.declared.limits.TheConstants.{MAX_SEALS}
 use Rattle.tcc_txn.specs.declared.op.Op.{Op}
 use Rattle.tcc_txn.specs.declared.rows.Item.{Item}
 use Rattle.tcc_txn.specs.declared.rows.RowFaultKind.{RowFaultKind}
@@ -30,10 +32,10 @@ abbrev pub Seats : Type 0
 Seats = HashMap (List ℕ) (Option (List Op)) (BuildHasherDefault FoldHasher)
 
 -- the map has a place for each session so far, of which there are not too many
-pub record HoldsSeats (past : List Line) (seats : Seats) : Type 0 where
+pub record HoldsSeats (limits : Limits) (past : List Line) (seats : Seats) : Type 0 where
   pub each : (name : List ℕ) → get same seats name ≡ seat_of name past
   pub count : hash_map_len seats ≡ length (sessions past)
-  pub few : length (sessions past) ≤ MAX_SESSIONS
+  pub few : length (sessions past) ≤ most_sessions limits
 
 -- the least of the sessions so far that have begun a transaction, and one more
 abbrev pub lower : Option (List ℕ) → List ℕ × Option (List Op) → Option (List ℕ)
@@ -45,49 +47,50 @@ abbrev pub NameSet : Type 0
 NameSet = HashSet (List ℕ) (BuildHasherDefault FoldHasher)
 
 -- the set has these names, each of which stands once in the list, and there are not too many
-pub record HoldsNames (names : List (List ℕ)) (set : NameSet) : Type 0 where
+pub record HoldsNames (limits : Limits) (names : List (List ℕ)) (set : NameSet) : Type 0 where
   pub each : (name : List ℕ) → contains same set name ≡ list_any (same name) names
   pub count : hash_set_len set ≡ length names
-  pub few : length names ≤ MAX_KEYS
+  pub few : length names ≤ most_keys limits
 
 -- the session can begin a transaction after these lines, or it has begun one, or it is one session too many
-abbrev pub MayBegin : {U : Type 0} → List Line → List ℕ → Result U RowFaultKind → Type 0
-MayBegin past name (Ok done) = (is_begun name past ≡ false) × (length (sessions (line.Begin name ∷ past)) ≤ MAX_SESSIONS)
-MayBegin past name (Err k) =
+abbrev pub MayBegin : {U : Type 0} → Limits → List Line → List ℕ → Result U RowFaultKind → Type 0
+MayBegin limits past name (Ok done) = (is_begun name past ≡ false) × (length (sessions (line.Begin name ∷ past)) ≤ most_sessions limits)
+MayBegin limits past name (Err k) =
     ((k ≡ kind.AlreadyBegun) × (is_begun name past ≡ true))
-    ⊎ ((k ≡ kind.TooManySessions) × (is_begun name past ≡ false) × (MAX_SESSIONS < length (sessions (line.Begin name ∷ past))))
+    ⊎ ((k ≡ kind.TooManySessions) × (is_begun name past ≡ false) × (most_sessions limits < length (sessions (line.Begin name ∷ past))))
 
 -- one more name is held, or it is one too many
-abbrev pub NotesName : {U : Type 0} → List (List ℕ) → List ℕ → Result U RowFaultKind → NameSet → Type 0
-NotesName names name (Ok done) new = HoldsNames (with_name name names) new
-NotesName names name (Err k) new = ((k ≡ kind.TooManyKeys) × (MAX_KEYS < length (with_name name names))) ⊎ (k ≡ kind.NoMemory)
+abbrev pub NotesName : {U : Type 0} → Limits → List (List ℕ) → List ℕ → Result U RowFaultKind → NameSet → Type 0
+NotesName limits names name (Ok done) new = HoldsNames limits (with_name name names) new
+NotesName limits names name (Err k) new = ((k ≡ kind.TooManyKeys) × (most_keys limits < length (with_name name names))) ⊎ (k ≡ kind.NoMemory)
 
--- the progress is that of these lines
-pub record IsAfter (past : List Line) (p : Progress) : Type 0 where
-  pub seats : HoldsSeats past p.sessions
-  pub names : HoldsNames (keys past) p.keys
+-- the progress is that of these lines within the limits
+pub record IsAfter (limits : Limits) (past : List Line) (p : Progress) : Type 0 where
+  pub kept : p.limits ≡ limits
+  pub seats : HoldsSeats limits past p.sessions
+  pub names : HoldsNames limits (keys past) p.keys
   pub begun : p.begun ≡ begin_count past
-  pub few_begun : begin_count past ≤ MAX_TRANSACTIONS
+  pub few_begun : begin_count past ≤ most_transactions limits
   pub sealed : p.seals ≡ seal_count past
   pub few_sealed : seal_count past ≤ MAX_SEALS
 
 -- the line is lawful after the others and is one of them now, or it has this kind of fault
-abbrev pub PassesLine : {U : Type 0} → List Line → Line → Result U RowFaultKind → Progress → Type 0
-PassesLine past last (Ok done) new = (fault_of past last ≡ None) × IsAfter (last ∷ past) new
-PassesLine past last (Err k) new = (fault_of past last ≡ Some k) ⊎ (k ≡ kind.NoMemory)
+abbrev pub PassesLine : {U : Type 0} → Limits → List Line → Line → Result U RowFaultKind → Progress → Type 0
+PassesLine limits past last (Ok done) new = (fault_within limits past last ≡ None) × IsAfter limits (last ∷ past) new
+PassesLine limits past last (Err k) new = (fault_within limits past last ≡ Some k) ⊎ (k ≡ kind.NoMemory)
 
 -- the record is an operation, is lawful after the others and is one of them now, or it has this kind of fault
-abbrev pub PassesOperation : {U : Type 0} → List Line → Record → Result U RowFaultKind → Progress → Type 0
-PassesOperation past fields (Ok done) new =
+abbrev pub PassesOperation : {U : Type 0} → Limits → List Line → Record → Result U RowFaultKind → Progress → Type 0
+PassesOperation limits past fields (Ok done) new =
     (session : List ℕ) × (op : Op) × (line_of fields ≡ Ok (line.Operation session op))
-    × (fault_of past (line.Operation session op) ≡ None) × IsAfter (line.Operation session op ∷ past) new
-PassesOperation past fields (Err k) new =
-    (line_of fields ≡ Err k) ⊎ ((last : Line) × (line_of fields ≡ Ok last) × (fault_of past last ≡ Some k)) ⊎ (k ≡ kind.NoMemory)
+    × (fault_within limits past (line.Operation session op) ≡ None) × IsAfter limits (line.Operation session op ∷ past) new
+PassesOperation limits past fields (Err k) new =
+    (line_of fields ≡ Err k) ⊎ ((last : Line) × (line_of fields ≡ Ok last) × (fault_within limits past last ≡ Some k)) ⊎ (k ≡ kind.NoMemory)
 
 -- the line is lawful after the others and is one of them now, with what it finishes or the answer that it wants
-abbrev pub TakesLine : List Line → Line → Result (Option Item) RowFaultKind → Progress → Type 0
-TakesLine past last (Ok given) new = (fault_of past last ≡ None) × (given ≡ item_of past last) × IsAfter (last ∷ past) new
-TakesLine past last (Err k) new = (fault_of past last ≡ Some k) ⊎ (k ≡ kind.NoMemory)
+abbrev pub TakesLine : Limits → List Line → Line → Result (Option Item) RowFaultKind → Progress → Type 0
+TakesLine limits past last (Ok given) new = (fault_within limits past last ≡ None) × (given ≡ item_of past last) × IsAfter limits (last ∷ past) new
+TakesLine limits past last (Err k) new = (fault_within limits past last ≡ Some k) ⊎ (k ≡ kind.NoMemory)
 
 -- the line writes no 0
 abbrev pub writes_no_zero : Line → Type 0

@@ -1,4 +1,6 @@
 //! The limits of an input, each in one place.
+ghost use Rattle.std.specs.Prelude.{◌≡◌};
+ghost use Rattle.tcc_txn.specs.Limits.{most_bytes, most_keys, most_sessions, most_transactions};
 
 /// The bytes of a name.
 pub const MAX_NAME_BYTES: usize = 32;
@@ -16,3 +18,65 @@ pub const MAX_KEYS: usize = 1024;
 pub const MAX_SEALS: usize = 256;
 /// The bytes of an input.
 pub const MAX_INPUT_BYTES: u64 = 134_217_728;
+
+/// The sessions of a large input or snapshot.
+pub const LARGE_SESSIONS: usize = 4096;
+/// The transactions of a large input or snapshot, aborted ones among them.
+pub const LARGE_TRANSACTIONS: usize = 1_048_575;
+/// The transactions of a large history: those of a snapshot and the initial one.
+pub const LARGE_COUNT: usize = LARGE_TRANSACTIONS + 1;
+/// The keys of a large input.
+pub const LARGE_KEYS: usize = 1_048_576;
+/// The bytes of a large input.
+pub const LARGE_INPUT_BYTES: u64 = 1_073_741_824;
+
+/// The limits that an input or a snapshot keeps; those on names, operations and seals are the same in both.
+#[derive(Clone, Copy, Debug, PartialEq, Eq)]
+pub enum Limits {
+    /// `MAX_SESSIONS`, `MAX_TRANSACTIONS`, `MAX_KEYS` and `MAX_INPUT_BYTES`.
+    Small,
+    /// `LARGE_SESSIONS`, `LARGE_TRANSACTIONS`, `LARGE_KEYS` and `LARGE_INPUT_BYTES`.
+    Large,
+}
+
+impl Limits {
+    /// The most sessions.
+    pub fn sessions(self) -> usize
+        ensures { result ≡ most_sessions self }
+    {
+        match self {
+            Limits::Small => MAX_SESSIONS,
+            Limits::Large => LARGE_SESSIONS,
+        }
+    }
+
+    /// The most transactions, aborted ones among them.
+    pub fn transactions(self) -> usize
+        ensures { result ≡ most_transactions self }
+    {
+        match self {
+            Limits::Small => MAX_TRANSACTIONS,
+            Limits::Large => LARGE_TRANSACTIONS,
+        }
+    }
+
+    /// The most keys.
+    pub fn keys(self) -> usize
+        ensures { result ≡ most_keys self }
+    {
+        match self {
+            Limits::Small => MAX_KEYS,
+            Limits::Large => LARGE_KEYS,
+        }
+    }
+
+    /// The most bytes.
+    pub fn bytes(self) -> u64
+        ensures { result ≡ most_bytes self }
+    {
+        match self {
+            Limits::Small => MAX_INPUT_BYTES,
+            Limits::Large => LARGE_INPUT_BYTES,
+        }
+    }
+}

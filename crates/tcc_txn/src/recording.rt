@@ -1,11 +1,12 @@
 //! What records have finished so far, as a snapshot that grows.
-ghost use Rattle.std.specs.Prelude.{◌≡◌, ◌≢◌, ℕ, List, [], true, IfErr, IfOk, IfSome, OnErr, OnOk, None, Some, Ok, MatchResult};
+ghost use Rattle.std.specs.Prelude.{◌≡◌, ◌≢◌, ℕ, List, [], true, IfErr, IfOk, IfSome, OnErr, OnOk, None, Some, Ok, MatchResult, option_map};
+ghost use Rattle.csv.specs.Records.{field_at};
 ghost use Rattle.tcc_txn.specs.Ahead.{fault_met, has_ended};
 ghost use Rattle.tcc_txn.specs.Answers.{Answers, answers_after, answers_of, records_of};
 ghost use Rattle.tcc_txn.specs.Finished.{KeepsLimits, finished_in, with_transaction};
 ghost use Rattle.tcc_txn.specs.Lines.{Record};
 ghost use Rattle.tcc_txn.specs.Nested.{IsNested};
-ghost use Rattle.tcc_txn.specs.Reached.{IsWithin, ReaderFailed, row_reached};
+ghost use Rattle.tcc_txn.specs.Reached.{IsWithin, ReaderFailed, last_record, row_reached};
 ghost use Rattle.tcc_txn.specs.Recordings.{FailsBehind, IsRecorded, IsRecording, TakesMoment, after_items};
 ghost use Rattle.tcc_txn.specs.declared.rows.Item.{Item};
 ghost use Rattle.tcc_txn.specs.declared.rows.Phase.TheVariants as phase;
@@ -110,6 +111,14 @@ impl<R: Read + Drop> Recording<R> {
         }
         // There are not so many seals.
         Err(self.rows.give_up(RowFaultKind::NoMemory))
+    }
+
+    /// The field at the place, counted from 0, of the record that was read last: of the one with the fault, where its row is
+    /// that of a record.
+    pub fn last_field(&self, place: usize) -> Option<&[u8]>
+        ensures { option_map (λ field. field.now) result ≡ field_at (last_record self.now.rows) place }
+    {
+        self.rows.last_field(place)
     }
 
     /// What was finished so far.

@@ -1,7 +1,11 @@
 //! Transactions and seals as they come out of records.
-ghost use Rattle.std.specs.Prelude.{◌≡◌, ◌≢◌, ◌+◌, ◌^◌, ◌<◌, ◌≤◌, List, [], length, true, IfOk, IfErr, IfSome, OnOk, MatchResult, None, Some, false, Ok, Err};
-ghost use Rattle.tcc_txn.specs.Answers.{Answers, answers_after, answers_of, fault_at_end, records_of};
+ghost use Rattle.std.specs.Prelude.{◌≡◌, ◌≢◌, ◌+◌, ◌^◌, ◌<◌, ◌≤◌, List, [], length, true, IfOk, IfErr, IfSome, OnOk, MatchResult};
+ghost use Rattle.std.specs.Prelude.{None, Some, false, Ok, Err, option_map};
+ghost use Rattle.csv.specs.Records.{field_at};
+ghost use Rattle.tcc_txn.specs.Answers.{Answers, answers_after_within, answers_of, answers_within, fault_at_end, records_of, records_within};
 ghost use Rattle.tcc_txn.specs.Standing.{IsAfter, writes_no_zero};
+ghost use Rattle.tcc_txn.specs.declared.limits.Limits.{Limits};
+ghost use Rattle.tcc_txn.specs.declared.limits.Limits.TheVariants.{Small};
 ghost use Rattle.tcc_txn.specs.declared.rows.line.Line.{Line};
 
 mod draft;
@@ -10,7 +14,7 @@ mod line;
 mod progress;
 mod records;
 
-use crate::{Name, NoMemory, Txn};
+use crate::{Limits, Name, NoMemory, Txn};
 use line::{Line, read_line};
 use progress::Progress;
 use records::Records;
@@ -116,11 +120,11 @@ pub struct Rows<R> {
 
 impl<R: Read + Drop> Rows<R> {
     ghost use Rattle.tcc_txn.specs.Ahead.{FaultsIn, IsAhead, TakesAnswer, fault_met, has_ended};
-    ghost use Rattle.tcc_txn.specs.Failing.{FailsAt, FailsIn, items_before};
+    ghost use Rattle.tcc_txn.specs.Failing.{FailsAtWithin, FailsIn, items_before_within};
     ghost use Rattle.tcc_txn.specs.Midway.{IsMidway};
     ghost use Rattle.tcc_txn.specs.Lines.{Record, is_cut, line_of};
     ghost use Rattle.tcc_txn.specs.Phases.{phase_after, phase_after_step};
-    ghost use Rattle.tcc_txn.specs.Reached.{HasGivenUp, IsWithin, ReaderFailed, StandsBy, StandsIn, row_reached};
+    ghost use Rattle.tcc_txn.specs.Reached.{HasGivenUp, IsWithin, ReaderFailed, StandsBy, StandsIn, last_record, row_reached};
     ghost use Rattle.tcc_txn.specs.Recordings.{after_items};
     ghost use Rattle.tcc_txn.specs.declared.rows.Item.{Item};
     ghost use Rattle.tcc_txn.specs.Stages.{LeavesIn, MeetsLine, TakesFields, TakesItem, TakesStep};
@@ -128,13 +132,22 @@ impl<R: Read + Drop> Rows<R> {
 
     /// The rows of what the reader gives; it is gone where memory is refused.
     pub fn new(alloc: Global, reader: R) -> Result<Rows<R>, NoMemory>
-        ensures ahead { IfOk result (λ rows. IfSome (R.remaining reader) (λ text. IsAhead R.remaining rows (answers_of text))) }
+        ensures ahead { IfOk result (λ rows. IfSome (R.remaining reader) (λ text. IsAhead Small R.remaining rows (answers_of text))) }
         ensures within { IfOk result (λ rows. IfSome (R.remaining reader) (λ text. IsWithin R.remaining rows (records_of text))) }
         ensures fresh { IfOk result (λ rows. fault_met rows ≡ None) }
     {
+        Rows::within(alloc, reader, Limits::Small)
+    }
+
+    /// The same within the limits given.
+    pub fn within(alloc: Global, reader: R, limits: Limits) -> Result<Rows<R>, NoMemory>
+        ensures ahead { IfOk result (λ rows. IfSome (R.remaining reader) (λ text. IsAhead limits R.remaining rows (answers_within limits text))) }
+        ensures within { IfOk result (λ rows. IfSome (R.remaining reader) (λ text. IsWithin R.remaining rows (records_within limits text))) }
+        ensures fresh { IfOk result (λ rows. fault_met rows ≡ None) }
+    {
         Ok(Rows {
-            records: Records::new(alloc, reader),
-            progress: Progress::new(alloc),
+            records: Records::new(alloc, reader, limits),
+            progress: Progress::new(alloc, limits),
             session: None,
             phase: Phase::Reading,
         })
@@ -142,7 +155,8 @@ impl<R: Read + Drop> Rows<R> {
 
     /// The next item, or the first fault; after `End` there is `End`, after a fault that fault.
     pub fn next(&mut self, alloc: Global) -> Result<Item, RowFault>
-        ensures answers { (ahead : Answers) → IsAhead R.remaining self.old ahead → TakesAnswer R.remaining ahead result self.new }
+        ensures answers { (limits : Limits) (ahead : Answers) → IsAhead limits R.remaining self.old ahead
+            → TakesAnswer limits R.remaining ahead result self.new }
 
         // The records are those of the text in turn, and none is passed uncounted.
         ensures within { (all : List Record) → IsWithin R.remaining self.old all → IsWithin R.remaining self.new all }
@@ -154,9 +168,9 @@ impl<R: Read + Drop> Rows<R> {
 
         // Where a record can't be read, all before it are lawful, and the items so far are theirs.
         ensures failed { IfErr result (λ fault. fault_met self.old ≡ None → fault.kind ≡ RowFaultKind.Read
-            → (all : List Record) (taken : List Item) (ahead : Answers) → answers_after [] all ≡ after_items taken ahead
-            → IsWithin R.remaining self.old all → IsAhead R.remaining self.old ahead
-            → FailsAt fault.row all × (taken ≡ items_before fault.row all)) }
+            → (limits : Limits) (all : List Record) (taken : List Item) (ahead : Answers) → answers_after_within limits [] all ≡ after_items taken ahead
+            → IsWithin R.remaining self.old all → IsAhead limits R.remaining self.old ahead
+            → FailsAtWithin limits fault.row all × (taken ≡ items_before_within limits fault.row all)) }
 
         // A fault stays, and so does the end, whatever is known of the bytes.
         ensures stops { IfErr result (λ fault. fault_met self.new ≡ Some fault) }
@@ -178,6 +192,13 @@ impl<R: Read + Drop> Rows<R> {
                 Err(fault)
             }
         }
+    }
+
+    /// The field at the place, counted from 0, of the record that was read last.
+    pub fn last_field(&self, place: usize) -> Option<&[u8]>
+        ensures { option_map (λ field. field.now) result ≡ field_at (last_record self.now) place }
+    {
+        self.records.field(place)
     }
 
     /// Keeps the fault for all later answers.
@@ -210,11 +231,12 @@ impl<R: Read + Drop> Rows<R> {
     /// Goes past records up to the next item.
     fn advance(&mut self, alloc: Global) -> Result<Item, RowFault>
         requires { self.old.phase ≡ Phase.Reading }
-        ensures item { IfOk result (λ given. (ahead : Answers) → IsMidway R.remaining self.old ahead → TakesItem R.remaining ahead given self.new) }
+        ensures item { IfOk result (λ given. (limits : Limits) (ahead : Answers) → IsMidway limits R.remaining self.old ahead
+            → TakesItem limits R.remaining ahead given self.new) }
         ensures phase { IfOk result (λ given. self.new.phase ≡ phase_after given) }
-        ensures fault { IfErr result (λ fault. (ahead : Answers) → IsMidway R.remaining self.old ahead → FaultsIn ahead fault) }
-        ensures failed { IfErr result (λ fault. fault.kind ≡ RowFaultKind.Read → (all : List Record) (ahead : Answers)
-            → StandsIn R.remaining self.old.records all → IsMidway R.remaining self.old ahead → FailsIn all ahead fault.row) }
+        ensures fault { IfErr result (λ fault. (limits : Limits) (ahead : Answers) → IsMidway limits R.remaining self.old ahead → FaultsIn limits ahead fault) }
+        ensures failed { IfErr result (λ fault. fault.kind ≡ RowFaultKind.Read → (limits : Limits) (all : List Record) (ahead : Answers)
+            → StandsIn R.remaining self.old.records all → IsMidway limits R.remaining self.old ahead → FailsIn limits all ahead fault.row) }
         ensures row { IfErr result (λ fault. fault.row ≡ row_reached self.new) }
         ensures read { IfErr result (λ fault. fault.kind ≡ RowFaultKind.Read → ReaderFailed self.new) }
         ensures within { (all : List Record) → StandsIn R.remaining self.old.records all
@@ -232,12 +254,12 @@ impl<R: Read + Drop> Rows<R> {
     /// Goes past one line that is no operation, or to the end.
     fn step(&mut self, alloc: Global) -> Result<Option<Item>, RowFault>
         requires { self.old.phase ≡ Phase.Reading }
-        ensures step { (ahead : Answers) → IsMidway R.remaining self.old ahead → TakesStep R.remaining ahead result self.new }
+        ensures step { (limits : Limits) (ahead : Answers) → IsMidway limits R.remaining self.old ahead → TakesStep limits R.remaining ahead result self.new }
         ensures phase { IfOk result (λ given. self.new.phase ≡ phase_after_step given) }
         ensures row { IfErr result (λ fault. fault.row ≡ row_reached self.new) }
         ensures read { IfErr result (λ fault. fault.kind ≡ RowFaultKind.Read → ReaderFailed self.new) }
-        ensures failed { IfErr result (λ fault. fault.kind ≡ RowFaultKind.Read → (all : List Record) (ahead : Answers)
-            → StandsIn R.remaining self.old.records all → IsMidway R.remaining self.old ahead → FailsIn all ahead fault.row) }
+        ensures failed { IfErr result (λ fault. fault.kind ≡ RowFaultKind.Read → (limits : Limits) (all : List Record) (ahead : Answers)
+            → StandsIn R.remaining self.old.records all → IsMidway limits R.remaining self.old ahead → FailsIn limits all ahead fault.row) }
         ensures within { (all : List Record) → StandsIn R.remaining self.old.records all
             → MatchResult result (λ given. StandsBy self.new.phase R.remaining self.new.records all) (λ fault. self.new.records.count ≤ length all) }
         ensures more { result ≡ Ok None → self.old.records.count < self.new.records.count }
@@ -252,12 +274,12 @@ impl<R: Read + Drop> Rows<R> {
 
     /// Goes past operations, and gives the line after them, if there is one.
     fn next_line(&mut self) -> Result<Option<Line>, RowFaultKind>
-        ensures line { (ahead : Answers) → IsMidway R.remaining self.old ahead → MeetsLine R.remaining ahead result self.new }
+        ensures line { (limits : Limits) (ahead : Answers) → IsMidway limits R.remaining self.old ahead → MeetsLine limits R.remaining ahead result self.new }
         ensures phase { self.new.phase ≡ self.old.phase }
         ensures no_zero { IfOk result (λ found. IfSome found writes_no_zero) }
         ensures read { IfErr result (λ kind. kind ≡ RowFaultKind.Read → HasGivenUp self.new.records) }
-        ensures failed { IfErr result (λ kind. kind ≡ RowFaultKind.Read → (all : List Record) (ahead : Answers)
-            → StandsIn R.remaining self.old.records all → IsMidway R.remaining self.old ahead → FailsIn all ahead (row_reached self.new)) }
+        ensures failed { IfErr result (λ kind. kind ≡ RowFaultKind.Read → (limits : Limits) (all : List Record) (ahead : Answers)
+            → StandsIn R.remaining self.old.records all → IsMidway limits R.remaining self.old ahead → FailsIn limits all ahead (row_reached self.new)) }
         ensures within { (all : List Record) → StandsIn R.remaining self.old.records all → LeavesIn R.remaining all result self.new.records }
         ensures more { IfOk result (λ found. IfSome found (λ line. self.old.records.count < self.new.records.count)) }
         ensures fits { IfOk result (λ found. IfSome found (λ line. self.new.records.count < 2 ^ 64)) }
@@ -284,8 +306,9 @@ impl<R: Read + Drop> Rows<R> {
     /// Goes past the line that the record read last is.
     fn take_line(&mut self, alloc: Global, line: Line) -> Result<Option<Item>, RowFault>
         requires { writes_no_zero line }
-        ensures fields { (past : List Line) (fields : Record) → IsAfter past self.old.progress → row_reached self.old ≡ length past + 1
-            → is_cut fields ≡ false → line_of fields ≡ Ok line → TakesFields past fields result self.new }
+        ensures fields { (limits : Limits) (past : List Line) (fields : Record) → IsAfter limits past self.old.progress
+            → row_reached self.old ≡ length past + 1
+            → is_cut fields ≡ false → line_of fields ≡ Ok line → TakesFields limits past fields result self.new }
         ensures records { self.new.records ≡ self.old.records }
         ensures phase { self.old.phase ≡ Phase.Reading → IfOk result (λ given. self.new.phase ≡ phase_after_step given) }
         ensures row { IfErr result (λ fault. fault.row ≡ row_reached self.new) }
@@ -300,9 +323,10 @@ impl<R: Read + Drop> Rows<R> {
 
     /// The end of the records.
     fn finish(&mut self) -> Result<Option<Item>, RowFault>
-        ensures unfinished { IfErr result (λ fault. (past : List Line) → IsAfter past self.old.progress → row_reached self.old ≡ length past
+        ensures unfinished { IfErr result (λ fault. (limits : Limits) (past : List Line) → IsAfter limits past self.old.progress
+            → row_reached self.old ≡ length past
             → fault_at_end past ≡ Some fault) }
-        ensures closed { OnOk result ((past : List Line) → IsAfter past self.old.progress → fault_at_end past ≡ None) }
+        ensures closed { OnOk result ((limits : Limits) (past : List Line) → IsAfter limits past self.old.progress → fault_at_end past ≡ None) }
         ensures end { IfOk result (λ given. given ≡ Some Item.End) }
         ensures phase { OnOk result (self.new.phase ≡ Phase.Ended) }
         ensures records { self.new.records ≡ self.old.records }

@@ -1,19 +1,21 @@
 //! Snapshots: what the sessions had finished at one moment.
 ghost use Rattle.std.specs.Prelude.{◌≡◌, ◌≢◌, ◌≤◌, ◌<◌, ◌⊎◌, ◌++◌, ◌∷◌, [], T, true, false, nat_eq, nat_lt, map};
-ghost use Rattle.std.specs.Prelude.{length, sum_by, None, Some, IfErr, MatchResult, OnErr, OnOk, option_map};
+ghost use Rattle.std.specs.Prelude.{length, sum_by, None, Some, IfErr, IfOk, MatchResult, OnErr, OnOk, option_map};
 ghost use Rattle.std.specs.Prelude.{slice_get, unwrap_or};
 ghost use Rattle.std.specs.FinMap as sessions;
 ghost use Rattle.std.specs.FinMap.Entries.{find, is_sorted, put};
 ghost use Rattle.std.specs.List.{insert, list_any};
 ghost use Rattle.std.specs.List.Sorted.{IsPermutation, IsSortedByKey};
 ghost use Rattle.std.specs.Ordering.{nat_cmp};
-ghost use Rattle.tcc_txn.specs.Finished.{KeepsLimits, with_transaction};
+ghost use Rattle.tcc_txn.specs.Finished.{IsWithinLimits, KeepsLimits, with_transaction};
+ghost use Rattle.tcc_txn.specs.Limits.{most_sessions};
 ghost use Rattle.std.specs.Cmp.Lexicographic.{pointwise, slice_cmp};
-ghost use Rattle.tcc_txn.specs.Snapshots.{parts_of, first_repeated, snapshot_fault};
-ghost use Rattle.tcc_txn.specs.SnapshotStorage.{StandsAt, place_in};
-ghost use Rattle.tcc_txn.specs.declared.limits.TheConstants.{MAX_SESSIONS, MAX_TRANSACTIONS};
+ghost use Rattle.tcc_txn.specs.Snapshots.{parts_of, first_repeated, snapshot_fault, snapshot_fault_within};
+ghost use Rattle.tcc_txn.specs.SnapshotStorage.{IsStoredWithin, StandsAt, place_in, shown};
+ghost use Rattle.tcc_txn.specs.declared.limits.Limits.TheVariants as limits;
+ghost use Rattle.tcc_txn.specs.declared.limits.TheConstants.{LARGE_SESSIONS, LARGE_TRANSACTIONS, MAX_SESSIONS, MAX_TRANSACTIONS};
 
-use crate::{MAX_SESSIONS, MAX_TRANSACTIONS, Name, RowFaultKind, Txn};
+use crate::{LARGE_TRANSACTIONS, Limits, MAX_SESSIONS, MAX_TRANSACTIONS, Name, RowFaultKind, Txn};
 use std::alloc::Global;
 use std::marker::Model;
 use thiserror::Error;
@@ -24,10 +26,11 @@ pub enum SnapshotFault {
     /// The first name that an earlier one equals.
     #[error("session {session} stands twice")]
     Repeated { session: Name },
-    /// There are more than `MAX_SESSIONS` sessions.
+    /// There are more than `MAX_SESSIONS` sessions, or `LARGE_SESSIONS` in a large snapshot.
     #[error("there are too many sessions")]
     TooManySessions,
-    /// There are more than `MAX_TRANSACTIONS` transactions, aborted ones counted.
+    /// There are more than `MAX_TRANSACTIONS` transactions, or `LARGE_TRANSACTIONS` in a large
+    /// snapshot, aborted ones counted.
     #[error("there are too many transactions")]
     TooManyTransactions,
     /// Out of memory; never answered, since the parts are sorted where they lie.
@@ -54,6 +57,30 @@ impl Model for Snapshot {
     ghost view = { λ s. shown s.sessions.items };
 
     ghost invariant = { λ s. IsStored s.sessions.items };
+}
+
+/// The same within the large limits: up to `LARGE_SESSIONS` sessions in byte order of their names,
+/// with up to `LARGE_TRANSACTIONS` transactions in all.
+#[derive(Drop)]
+pub struct LargeSnapshot {
+    sessions: Vec<(Name, Vec<Txn>)>,
+    /// How many there are in all.
+    transactions: usize,
+}
+
+impl Model for LargeSnapshot {
+    ghost use Rattle.tcc_txn.specs.Snapshots.{Sessions};
+
+    ghost Value = { Sessions };
+
+    ghost use Rattle.tcc_txn.specs.SnapshotStorage.{sessions_code, shown, IsCounted};
+    ghost use Rattle.tcc_txn.specs.declared.limits.Limits.TheVariants as limits;
+
+    ghost coded = { sessions_code };
+
+    ghost view = { λ s. shown s.sessions.items };
+
+    ghost invariant = { λ s. IsCounted limits.Large s.sessions.items s.transactions };
 }
 
 fn is_among(parts: &[(Name, Vec<Txn>)], name: Name) -> bool
@@ -88,16 +115,28 @@ fn has_too_many_transactions(parts: &[(Name, Vec<Txn>)], most: usize) -> bool
     false
 }
 
-fn fault_of(parts: &[(Name, Vec<Txn>)]) -> Option<SnapshotFault>
-    ensures { result ≡ snapshot_fault (parts_of parts.now) }
+/// How many transactions there are.
+fn transactions_in(parts: &[(Name, Vec<Txn>)]) -> usize
+    requires { sum_by (λ part. length part.1.items) parts.now ≤ LARGE_TRANSACTIONS }
+    ensures { result ≡ sum_by (λ part. length part.1.items) parts.now }
+{
+    let mut total = 0;
+    for part in parts {
+        total += part.1.len();
+    }
+    total
+}
+
+fn fault_of(parts: &[(Name, Vec<Txn>)], limits: Limits) -> Option<SnapshotFault>
+    ensures { result ≡ snapshot_fault_within limits (parts_of parts.now) }
 {
     if let Some(session) = first_repeated(parts) {
         return Some(SnapshotFault::Repeated { session });
     }
-    if parts.len() > MAX_SESSIONS {
+    if parts.len() > limits.sessions() {
         return Some(SnapshotFault::TooManySessions);
     }
-    if has_too_many_transactions(parts, MAX_TRANSACTIONS) {
+    if has_too_many_transactions(parts, limits.transactions()) {
         return Some(SnapshotFault::TooManyTransactions);
     }
     None
@@ -108,6 +147,34 @@ fn sort_by_name(parts: &mut [(Name, Vec<Txn>)])
     ensures sorted { IsSortedByKey (λ part. part.0) (slice_cmp nat_cmp) parts.new }
 {
     parts.sort_unstable_by_key(|part| part.0);
+}
+
+/// The parts in byte order of their names, where they make a snapshot within the limits.
+fn in_order(
+    parts: Vec<(Name, Vec<Txn>)>,
+    limits: Limits,
+) -> Result<Vec<(Name, Vec<Txn>)>, (SnapshotFault, Vec<(Name, Vec<Txn>)>)>
+    ensures made { MatchResult result
+        (λ s. (snapshot_fault_within limits (parts_of parts.items) ≡ None) × (shown s.items ≡ sessions.from_entries (parts_of parts.items)))
+        (λ e. (snapshot_fault_within limits (parts_of parts.items) ≡ Some e.0) × (e.1 ≡ parts)) }
+    ensures stored { IfOk result (λ s. IsStoredWithin limits s.items) }
+{
+    if let Some(fault) = fault_of(&parts, limits) {
+        return Err((fault, parts));
+    }
+    let mut sessions = parts;
+    sort_by_name(&mut sessions);
+    Ok(sessions)
+}
+
+/// The part at the place, counted from 0.
+fn part_at(parts: &[(Name, Vec<Txn>)], i: u32) -> Option<(&Name, &[Txn])>
+    ensures { option_map (λ s. (s.0.now, s.1.now)) result ≡ slice_get (parts_of parts.now) i }
+{
+    match parts.get(i as usize) {
+        Some(part) => Some((&part.0, &part.1)),
+        None => None,
+    }
 }
 
 /// How many parts stand before the session.
@@ -165,6 +232,7 @@ fn insert(
 /// The session has one more transaction.
 fn add_to(
     parts: &mut Vec<(Name, Vec<Txn>)>,
+    limits: Limits,
     alloc: Global,
     session: Name,
     txn: Txn,
@@ -173,16 +241,17 @@ fn add_to(
     ensures added { OnOk result (parts_of parts.new.items ≡ put (slice_cmp nat_cmp) session
         (unwrap_or (find (slice_cmp nat_cmp) session (parts_of parts.old.items)) [] ++ txn ∷ []) (parts_of parts.old.items)) }
     ensures kept { OnErr result (parts_of parts.new.items ≡ parts_of parts.old.items) }
-    ensures few { OnOk result ((find (slice_cmp nat_cmp) session (parts_of parts.old.items) ≡ None) → length parts.old.items < MAX_SESSIONS) }
+    ensures few { OnOk result ((find (slice_cmp nat_cmp) session (parts_of parts.old.items) ≡ None) → length parts.old.items < most_sessions limits) }
     ensures known { IfErr result (λ k. k ≢ RowFaultKind.Read) }
     ensures refused { IfErr result
-        (λ k. (k ≡ RowFaultKind.NoMemory) ⊎ ((MAX_SESSIONS ≤ length parts.old.items) × (find (slice_cmp nat_cmp) session (parts_of parts.old.items) ≡ None))) }
+        (λ k. (k ≡ RowFaultKind.NoMemory) ⊎ ((most_sessions limits ≤ length parts.old.items)
+        × (find (slice_cmp nat_cmp) session (parts_of parts.old.items) ≡ None))) }
 {
     let at = place_of(parts, &session);
     if stands_at(parts, at, &session) {
         return push(&mut parts[at].1, txn);
     }
-    if parts.len() >= MAX_SESSIONS {
+    if parts.len() >= limits.sessions() {
         return Err(RowFaultKind::TooManySessions);
     }
     insert(parts, alloc, at, session, txn)
@@ -208,7 +277,7 @@ impl Snapshot {
         if has_too_many_transactions(&self.sessions, MAX_TRANSACTIONS - 1) {
             return Err(RowFaultKind::TooManyTransactions);
         }
-        add_to(&mut self.sessions, alloc, session, txn)
+        add_to(&mut self.sessions, Limits::Small, alloc, session, txn)
     }
 
     /// The snapshot in which each named session has finished these transactions.
@@ -219,11 +288,7 @@ impl Snapshot {
             (λ s. (snapshot_fault (parts_of parts.items) ≡ None) × (s ≡ sessions.from_entries (parts_of parts.items)))
             (λ e. (snapshot_fault (parts_of parts.items) ≡ Some e.0) × (e.1 ≡ parts)) }
     {
-        if let Some(fault) = fault_of(&parts) {
-            return Err((fault, parts));
-        }
-        let mut sessions = parts;
-        sort_by_name(&mut sessions);
+        let sessions = in_order(parts, Limits::Small)?;
         Ok(Snapshot { sessions })
     }
 
@@ -240,9 +305,112 @@ impl Snapshot {
     pub fn session(&self, i: u32) -> Option<(&Name, &[Txn])>
         ensures { option_map (λ s. (s.0.now, s.1.now)) result ≡ slice_get (sessions.entries self.now) i }
     {
-        match self.sessions.get(i as usize) {
-            Some(session) => Some((&session.0, &session.1)),
-            None => None,
+        part_at(&self.sessions, i)
+    }
+
+    /// The sessions in byte order of their names, each with its transactions.
+    pub fn parts(&self) -> &[(Name, Vec<Txn>)]
+        ensures value { parts_of result.now ≡ sessions.entries self.now }
+        ensures few { length result.now ≤ MAX_SESSIONS }
+        ensures few_transactions { sum_by (λ named. length named.1) (sessions.entries self.now) ≤ MAX_TRANSACTIONS }
+    {
+        &self.sessions
+    }
+
+    /// The same as a large snapshot.
+    pub fn large(self) -> LargeSnapshot
+        ensures { result ≡ self }
+    {
+        let transactions = transactions_in(&self.sessions);
+        LargeSnapshot {
+            sessions: self.sessions,
+            transactions,
         }
+    }
+}
+
+impl LargeSnapshot {
+    /// No session has finished anything.
+    pub(crate) fn empty(alloc: Global) -> LargeSnapshot
+        ensures { result ≡ sessions.empty }
+    {
+        LargeSnapshot {
+            sessions: Vec::new(alloc),
+            transactions: 0,
+        }
+    }
+
+    /// The session has finished one more transaction, where there is room.
+    pub(crate) fn add(&mut self, alloc: Global, session: Name, txn: Txn) -> Result<(), RowFaultKind>
+        ensures added { OnOk result (self.new ≡ with_transaction self.old session txn) }
+        ensures kept { OnErr result (self.new ≡ self.old) }
+        ensures refused { IsWithinLimits limits.Large (with_transaction self.old session txn) → IfErr result (λ k. k ≡ RowFaultKind.NoMemory) }
+        ensures known { IfErr result (λ k. k ≢ RowFaultKind.Read) }
+    {
+        if self.transactions >= LARGE_TRANSACTIONS {
+            return Err(RowFaultKind::TooManyTransactions);
+        }
+        match add_to(&mut self.sessions, Limits::Large, alloc, session, txn) {
+            Ok(()) => {
+                self.transactions += 1;
+                Ok(())
+            }
+            Err(kind) => Err(kind),
+        }
+    }
+
+    /// The snapshot in which each named session has finished these transactions.
+    pub fn new(
+        parts: Vec<(Name, Vec<Txn>)>,
+    ) -> Result<LargeSnapshot, (SnapshotFault, Vec<(Name, Vec<Txn>)>)>
+        ensures { MatchResult result
+            (λ s. (snapshot_fault_within limits.Large (parts_of parts.items) ≡ None) × (s ≡ sessions.from_entries (parts_of parts.items)))
+            (λ e. (snapshot_fault_within limits.Large (parts_of parts.items) ≡ Some e.0) × (e.1 ≡ parts)) }
+    {
+        let sessions = in_order(parts, Limits::Large)?;
+        let transactions = transactions_in(&sessions);
+        Ok(LargeSnapshot {
+            sessions,
+            transactions,
+        })
+    }
+
+    /// The number of sessions.
+    pub fn sessions(&self) -> u32
+        ensures value { result ≡ sessions.len self.now }
+        ensures few { result ≤ LARGE_SESSIONS }
+        ensures few_transactions { sum_by (λ named. length named.1) (sessions.entries self.now) ≤ LARGE_TRANSACTIONS }
+    {
+        self.sessions.len() as u32
+    }
+
+    /// The session at this place in byte order of the names, counted from 0, with its transactions.
+    pub fn session(&self, i: u32) -> Option<(&Name, &[Txn])>
+        ensures { option_map (λ s. (s.0.now, s.1.now)) result ≡ slice_get (sessions.entries self.now) i }
+    {
+        part_at(&self.sessions, i)
+    }
+
+    /// The sessions in byte order of their names, each with its transactions.
+    pub fn parts(&self) -> &[(Name, Vec<Txn>)]
+        ensures value { parts_of result.now ≡ sessions.entries self.now }
+        ensures few { length result.now ≤ LARGE_SESSIONS }
+        ensures few_transactions { sum_by (λ named. length named.1) (sessions.entries self.now) ≤ LARGE_TRANSACTIONS }
+    {
+        &self.sessions
+    }
+
+    /// The same as a snapshot within the small limits, where it keeps them.
+    pub fn small(self) -> Result<Snapshot, LargeSnapshot>
+        ensures { MatchResult result
+            (λ s. KeepsLimits self × (s ≡ self))
+            (λ s. (KeepsLimits self → ⊥) × (s ≡ self)) }
+    {
+        if self.sessions.len() > MAX_SESSIONS || self.transactions > MAX_TRANSACTIONS {
+            return Err(self);
+        }
+        Ok(Snapshot {
+            sessions: self.sessions,
+        })
     }
 }

@@ -11,13 +11,8 @@ use tcc_txn::{MAX_SESSIONS, MAX_TRANSACTIONS, Name, Op, Snapshot, Txn};
 /// The sessions of the recorders that record side by side.
 const RECORDERS: &[u8] = b"abcdefgh";
 
-/// How many transactions each of them records.
-const MOST: u32 = 300;
-
-/// Each of them seals after each of the first so many records, and after every one of so many later ones.
-const FIRST: u32 = 50;
-
-const BETWEEN: u32 = 25;
+/// How many transactions each of them records, with a seal behind each.
+const MOST: u32 = 50;
 
 /// How often they all do so.
 const TIMES: u32 = 3;
@@ -51,89 +46,169 @@ fn record(
     Some(book.record(rt, alloc, pass, write(alloc, value)?))
 }
 
-/// How many transactions these are, where they write the values from 1 on.
-fn writes(txns: &[Txn]) -> Option<u32> {
-    let mut count = 0u32;
-    for txn in txns {
-        count = count.wrapping_add(1);
-        match txn.ops().first() {
-            Some(Op::Put { value, .. }) if *value == u64::from(count) => {}
-            _ => return None,
-        }
+/// A transaction that tells its session and its place: of one operation to three, each third one aborted.
+fn telling(alloc: Global, letter: u8, place: u32) -> Option<Txn> {
+    let key = Name::read(&[letter]).ok()?;
+    let mut ops = Vec::new(alloc);
+    for value in 0..u64::from(place % 3) {
+        ops.push(Op::Get { key, value }).ok()?;
     }
-    Some(count)
+    ops.push(Op::Put {
+        key,
+        value: u64::from(place),
+    })
+    .ok()?;
+    Txn::new(ops, place % 3 != 0).ok()
 }
 
-/// How many writes the session has, where it is there and they are of the values from 1 on.
-fn writes_of(snapshot: &Snapshot, name: &Name) -> Option<u32> {
+/// Whether two operations do the same, at the same key with the same value.
+fn do_the_same(one: &Op, other: &Op) -> bool {
+    let same_word = match (one, other) {
+        (Op::Get { .. }, Op::Get { .. }) => true,
+        (Op::Put { .. }, Op::Put { .. }) => true,
+        _ => false,
+    };
+    same_word && one.key() == other.key() && one.value() == other.value()
+}
+
+/// Whether two transactions ended alike and did the same.
+fn are_alike(one: &Txn, other: &Txn) -> bool {
+    for (place, op) in one.ops().iter().enumerate() {
+        match other.ops().get(place) {
+            Some(same) if do_the_same(op, same) => {}
+            _ => return false,
+        }
+    }
+    one.ops().len() == other.ops().len() && one.committed() == other.committed()
+}
+
+/// Whether some transactions are a beginning of others.
+fn begins(some: &[Txn], all: &[Txn]) -> bool {
+    for (place, txn) in some.iter().enumerate() {
+        match all.get(place) {
+            Some(other) if are_alike(txn, other) => {}
+            _ => return false,
+        }
+    }
+    true
+}
+
+/// What the session finished, where it is there.
+fn finished_by<'a>(snapshot: &'a Snapshot, name: &Name) -> Option<&'a [Txn]> {
     for i in 0..snapshot.sessions() {
         if let Some((session, txns)) = snapshot.session(i) {
             if *session == *name {
-                return writes(txns);
+                return Some(txns);
             }
         }
     }
     None
 }
 
-/// Whether the recorders' sessions are all that there are, and each has from so many on of its writes in the end.
-fn have_writes(snapshot: &Snapshot, least: u32) -> bool {
-    for letter in RECORDERS {
-        match session(*letter).and_then(|name| writes_of(snapshot, &name)) {
-            Some(count) if least <= count && count <= MOST => {}
-            _ => return false,
-        }
+/// Whether the snapshot has exactly what the pass has recorded so far.
+fn has_exactly(snapshot: &Snapshot, pass: &Pass) -> bool {
+    match finished_by(snapshot, pass.session()) {
+        Some(txns) => txns.len() == pass.recorded().len() && begins(txns, pass.recorded()),
+        None => false,
     }
-    snapshot.sessions() == 8
+}
+
+/// A recorder at its end: its pass, and the snapshot of each of its seals.
+#[derive(Drop)]
+struct Recorder {
+    pass: Pass,
+    seals: Vec<Snapshot>,
 }
 
 /// A recorder's whole life, with its seals; none where something was not as it should be.
-fn recorder(rt: &impl Wait, alloc: Global, book: &Book, pass: Pass) -> Option<Pass> {
+fn life_of(rt: &impl Wait, alloc: Global, book: &Book, pass: Pass, letter: u8) -> Option<Recorder> {
     let mut pass = pass;
+    let mut seals = Vec::new(alloc);
     for before in 0..MOST {
-        let receipt = record(rt, alloc, book, &mut pass, u64::from(before) + 1)?.ok()?;
-        if receipt.place != before + 1 {
+        let txn = telling(alloc, letter, before + 1)?;
+        let receipt = book.record(rt, alloc, &mut pass, txn).ok()?;
+        let sealed = book.seal(rt, alloc, &pass).ok()?;
+        if receipt.place != before + 1 || !has_exactly(&sealed, &pass) {
             return None;
         }
-        if receipt.place <= FIRST || receipt.place % BETWEEN == 0 {
-            let sealed = book.seal(rt, alloc, &pass).ok()?;
-            if writes_of(&sealed, pass.session()) != Some(receipt.place)
-                || !have_writes(&sealed, 0)
-            {
-                return None;
-            }
+        seals.push(sealed).ok()?;
+    }
+    Some(Recorder { pass, seals })
+}
+
+/// Whether a seal has of each recorder's session a beginning of what that one had recorded in the end, and no other session.
+fn is_beginning(seal: &Snapshot, recorders: &[Recorder]) -> bool {
+    for recorder in recorders {
+        match finished_by(seal, recorder.pass.session()) {
+            Some(txns) if begins(txns, recorder.pass.recorded()) => {}
+            _ => return false,
         }
     }
-    Some(pass)
+    seal.sessions() as usize == recorders.len()
+}
+
+/// Whether that holds of all seals of a recorder.
+fn are_beginnings(seals: &[Snapshot], recorders: &[Recorder]) -> bool {
+    for seal in seals {
+        if !is_beginning(seal, recorders) {
+            return false;
+        }
+    }
+    seals.len() == MOST as usize
+}
+
+/// Whether the snapshot has exactly what all of them have recorded.
+fn is_whole(snapshot: &Snapshot, recorders: &[Recorder]) -> bool {
+    for recorder in recorders {
+        if !has_exactly(snapshot, &recorder.pass) {
+            return false;
+        }
+    }
+    recorders.len() == RECORDERS.len() && snapshot.sessions() as usize == recorders.len()
 }
 
 /// What recorders in threads of their own leave; none where something was not as it should be.
-fn side_by_side(rt: &(impl Threads + Wait + Sync), alloc: Global) -> Option<Snapshot> {
-    let book = Book::new(alloc).ok()?;
+fn side_by_side(
+    rt: &(impl Threads + Wait + Sync),
+    alloc: Global,
+    book: &Book,
+) -> Option<Vec<Recorder>> {
     let mut passes = Vec::new(alloc);
     for letter in RECORDERS {
-        passes.push(open(rt, alloc, &book, *letter)?).ok()?;
+        passes
+            .push((open(rt, alloc, book, *letter)?, *letter))
+            .ok()?;
     }
-    let ends = thread::map_vec(rt, passes, &|pass| recorder(rt, alloc, &book, pass)).ok()?;
+    let ends = thread::map_vec(
+        rt,
+        passes,
+        &|pass: (Pass, u8)| { life_of(rt, alloc, book, pass.0, pass.1) },
+    )
+    .ok()?;
     let mut done = Vec::new(alloc);
     for end in ends {
-        let pass = end?;
-        let sealed = book.seal(rt, alloc, &pass).ok()?;
-        if !have_writes(&sealed, MOST) {
-            return None;
-        }
-        done.push(pass).ok()?;
+        done.push(end?).ok()?;
     }
-    book.close(rt, alloc, done).ok()
+    Some(done)
 }
 
-/// Eight recorders in threads of their own, again and again: each snapshot has what its caller recorded, and of each
-/// other session what that one recorded first; in the end all lists are whole.
+/// Eight recorders in threads of their own, again and again: each seal has exactly what its caller recorded, and of each other
+/// session a beginning of what that one had recorded in the end; then all lists are whole.
 #[test]
 fn eight_recorders(rt: HostRuntime) {
     for _ in 0..TIMES {
-        let whole = side_by_side(&rt, rt.alloc());
-        assert!(rt; whole.is_some_and(|whole| have_writes(&whole, MOST)));
+        let alloc = rt.alloc();
+        let book = new_book(&rt, alloc);
+        let Some(done) = side_by_side(&rt, alloc, &book) else {
+            panic!(rt; "a recorder saw something else");
+        };
+        for recorder in done.iter() {
+            assert!(rt; are_beginnings(&recorder.seals, &done));
+            match book.seal(&rt, alloc, &recorder.pass) {
+                Ok(whole) => assert!(rt; is_whole(&whole, &done)),
+                Err(_) => panic!(rt; "not sealed"),
+            }
+        }
     }
 }
 
@@ -230,8 +305,13 @@ fn openings(rt: HostRuntime) {
 
 /// Whether one session has all that a book can hold, and the other nothing.
 fn is_full(rt: &impl Abort, snapshot: &Snapshot) -> bool {
-    let writes = [name(rt, "a"), name(rt, "b")].map(|name| writes_of(snapshot, &name));
-    writes == [Some(4095), Some(0)]
+    for (session, held) in [("a", MAX_TRANSACTIONS), ("b", 0)] {
+        match finished_by(snapshot, &name(rt, session)) {
+            Some(txns) if txns.len() == held => {}
+            _ => return false,
+        }
+    }
+    true
 }
 
 /// A full book hands the transaction back, and is sealed, made whole and closed with all that it holds: so no call gives up
@@ -256,7 +336,7 @@ fn full_book(rt: HostRuntime) {
     }
     for pass in &passes {
         let sealed = book.seal(&rt, alloc, pass);
-        assert!(rt; sealed.is_ok_and(|sealed| is_full(&rt, &sealed)));
+        assert!(rt; sealed.is_ok_and(|sealed| is_full(&rt, &sealed) && has_exactly(&sealed, pass)));
     }
     let whole = book.whole(&rt, alloc, &passes);
     assert!(rt; whole.is_ok_and(|whole| is_full(&rt, &whole)));

@@ -8,8 +8,9 @@ use std::collections::BTreeMap;
 use std::process::Abort;
 use std::test::Fail;
 use tcc_txn::{
-    Moment, Name, NameFault, NoMemory, Op, Recording, RowFault, RowFaultKind, Snapshot,
-    SnapshotFault, Txn, TxnFault, snapshot_of,
+    LARGE_COUNT, LargeRecording, LargeSnapshot, Limits, Moment, Name, NameFault, NoMemory, Op,
+    Recording, RowFault, RowFaultKind, Snapshot, SnapshotFault, Txn, TxnFault, large_snapshot_of,
+    snapshot_of,
 };
 
 fn get(key: Name, value: u64) -> Op {
@@ -242,6 +243,56 @@ fn refuses_snapshots(rt: HostRuntime) -> Result<(), Fail> {
 }
 
 #[test]
+fn tells_limits(rt: HostRuntime) {
+    for (limits, sessions, transactions, keys, bytes) in [
+        (Limits::Small, 64, 4_095, 1_024, 134_217_728),
+        (Limits::Large, 4_096, 1_048_575, 1_048_576, 1_073_741_824),
+    ] {
+        assert_eq!(rt; limits.sessions(), sessions);
+        assert_eq!(rt; limits.transactions(), transactions);
+        assert_eq!(rt; limits.keys(), keys);
+        assert_eq!(rt; limits.bytes(), bytes);
+    }
+    assert_eq!(rt; LARGE_COUNT, 1_048_576);
+}
+
+// Each has some sessions of which the first has some transactions, and whether it is small.
+#[test]
+fn makes_large_snapshots(rt: HostRuntime) -> Result<(), Fail> {
+    let alloc = rt.alloc();
+    for (count, transactions, is_small) in [
+        (0, 0, true),
+        (64, 4_095, true),
+        (64, 4_096, false),
+        (65, 4_095, false),
+        (300, 5_000, false),
+    ] {
+        let Ok(large) = LargeSnapshot::new(sessions(&rt, alloc, count, transactions)?) else {
+            panic!(rt; "{count} sessions are refused");
+        };
+        assert_eq!(rt; large.sessions(), count);
+        assert_eq!(rt; large.parts().len(), count as usize);
+        assert!(rt; large.session(count).is_none());
+        match large.small() {
+            Ok(snapshot) => {
+                assert!(rt; is_small);
+                assert_eq!(rt; snapshot.parts().len(), count as usize);
+                assert_eq!(rt; snapshot.large().sessions(), count);
+            }
+            Err(large) => {
+                assert!(rt; !is_small);
+                let Some((first, txns)) = large.session(0) else {
+                    panic!(rt; "no session");
+                };
+                assert_eq!(rt; first.bytes(), "s0".as_bytes());
+                assert_eq!(rt; txns.len(), transactions);
+            }
+        }
+    }
+    Ok(())
+}
+
+#[test]
 fn records_up_to_each_seal(rt: HostRuntime) -> Result<(), Fail> {
     let alloc = rt.alloc();
     let text =
@@ -259,6 +310,91 @@ fn records_up_to_each_seal(rt: HostRuntime) -> Result<(), Fail> {
         assert!(rt; finished(recording.snapshot(), "a") == a);
         assert!(rt; finished(recording.snapshot(), "b") == Some(b));
     }
+    Ok(())
+}
+
+// The same texts by both limits: 65 sessions, 1,025 keys, and a word that is none.
+#[test]
+fn records_within_large_limits(rt: HostRuntime) -> Result<(), Fail> {
+    let alloc = rt.alloc();
+    let mut sessions = Vec::new(alloc);
+    for number in 0..65u32 {
+        sessions.extend_from_slice(format!(in alloc;
+            "s{number},begin\ns{number},commit\n"
+        )?.as_bytes())?;
+    }
+    let mut keys = Vec::new(alloc);
+    for number in 0..1_025u32 {
+        let session = number / 256;
+        if number % 256 == 0 {
+            keys.extend_from_slice(format!(in alloc; "a{session},begin\n")?.as_bytes())?;
+        }
+        keys.extend_from_slice(format!(in alloc; "a{session},r,k{number},0\n")?.as_bytes())?;
+    }
+    for session in 0..5u32 {
+        keys.extend_from_slice(format!(in alloc; "a{session},commit\n")?.as_bytes())?;
+    }
+    for (text, small, large) in [
+        (&sessions[..], Some(129), None),
+        (&keys[..], Some(1_030), None),
+        ("a,begin\na,end\n".as_bytes(), Some(2), Some(2)),
+    ] {
+        assert!(rt; fault_row(snapshot_of(alloc, text).err()) == small);
+        assert!(rt; fault_row(large_snapshot_of(alloc, text).err()) == large);
+    }
+    let Ok(snapshot) = large_snapshot_of(alloc, &sessions[..]) else {
+        panic!(rt; "65 sessions are refused");
+    };
+    assert_eq!(rt; snapshot.sessions(), 65);
+    Ok(())
+}
+
+fn fault_row(fault: Option<RowFault>) -> Option<u64> {
+    fault.map(|fault| fault.row)
+}
+
+#[test]
+fn large_records_up_to_each_seal(rt: HostRuntime) -> Result<(), Fail> {
+    let alloc = rt.alloc();
+    let text = "b,begin\nb,commit\nseal\na,begin\na,comit\n";
+    let mut recording = LargeRecording::new(alloc, text.as_bytes())?;
+    assert!(rt;
+        recording
+            .advance(alloc)
+            .is_ok_and(|moment| moment == Moment::Seal)
+    );
+    assert_eq!(rt; recording.snapshot().sessions(), 1);
+    for _ in 0..2 {
+        let Err(fault) = recording.advance(alloc) else {
+            panic!(rt; "a word that is none is taken");
+        };
+        assert_eq!(rt; fault.row, 5);
+    }
+    assert!(rt;
+        recording
+            .last_field(1)
+            .is_some_and(|field| field == "comit".as_bytes())
+    );
+    assert!(rt; recording.last_field(2).is_none());
+    Ok(())
+}
+
+#[test]
+fn tells_the_last_record(rt: HostRuntime) -> Result<(), Fail> {
+    let alloc = rt.alloc();
+    let mut recording = Recording::new(alloc, "a,begin\na,r,x,01\n".as_bytes())?;
+    assert!(rt; recording.last_field(0).is_none());
+    assert!(rt; recording.advance(alloc).is_err());
+    let mut place = 0usize;
+    for wanted in ["a", "r", "x", "01"] {
+        assert!(rt;
+            recording
+                .last_field(place)
+                .is_some_and(|field| field == wanted.as_bytes())
+        );
+        place = place.wrapping_add(1);
+    }
+    assert!(rt; recording.last_field(place).is_none());
     Ok(())
 }
 

@@ -8,6 +8,7 @@ ghost use Rattle.tcc_txn.specs.Past.{least, lesser, open_sessions, ops_since};
 ghost use Rattle.tcc_txn.specs.Standing.{HoldsNames, HoldsSeats, IsAfter, MayBegin, NotesName, PassesLine, PassesOperation, TakesLine, lower, writes_no_zero};
 ghost use Rattle.tcc_txn.specs.Transactions.{writes_zero};
 ghost use Rattle.tcc_txn.specs.Phases.{phase_after_step};
+ghost use Rattle.tcc_txn.specs.declared.limits.Limits.{Limits};
 ghost use Rattle.tcc_txn.specs.declared.rows.Phase.TheVariants as phase;
 ghost use Rattle.tcc_txn.specs.declared.rows.line.Line.{Line};
 ghost use Rattle.tcc_txn.specs.declared.rows.line.Line.TheVariants as line;
@@ -15,15 +16,16 @@ ghost use Rattle.tcc_txn.specs.declared.rows.line.Line.TheVariants as line;
 use super::draft::{Draft, add_operation};
 use super::line::{Line, field, read_access, read_op, read_session};
 use super::{Item, RowFaultKind};
-use crate::{MAX_KEYS, MAX_SEALS, MAX_SESSIONS, MAX_TRANSACTIONS, Name, Op, Txn};
+use crate::{Limits, MAX_SEALS, Name, Op, Txn};
 use csv::ByteRecord;
 use std::alloc::Global;
 use std::collections::{HashMap, HashSet};
 
-/// Each session with the operations of the transaction that it has begun; the keys so far; how
+/// The limits; each session with the operations of the transaction that it has begun; the keys so far; how
 /// many transactions were begun and how many seals there were.
 #[derive(Drop)]
 pub(crate) struct Progress {
+    limits: Limits,
     sessions: HashMap<Name, Option<Draft>>,
     keys: HashSet<Name>,
     begun: usize,
@@ -31,14 +33,14 @@ pub(crate) struct Progress {
 }
 
 /// The key is one of those so far, of which there are not too many.
-fn note_key(keys: &mut HashSet<Name>, key: Name) -> Result<(), RowFaultKind>
-    ensures noted { (names : List (List ℕ)) → HoldsNames names keys.old → NotesName names key result keys.new }
+fn note_key(keys: &mut HashSet<Name>, key: Name, limits: Limits) -> Result<(), RowFaultKind>
+    ensures noted { (names : List (List ℕ)) → HoldsNames limits names keys.old → NotesName limits names key result keys.new }
     ensures other { IfErr result (λ kind. kind ≢ RowFaultKind.Read) }
 {
     if keys.contains(&key) {
         return Ok(());
     }
-    if keys.len() >= MAX_KEYS {
+    if keys.len() >= limits.keys() {
         return Err(RowFaultKind::TooManyKeys);
     }
     match keys.insert(key) {
@@ -48,15 +50,19 @@ fn note_key(keys: &mut HashSet<Name>, key: Name) -> Result<(), RowFaultKind>
 }
 
 /// Whether the session can begin a transaction, as far as the sessions go.
-fn may_begin(sessions: &HashMap<Name, Option<Draft>>, session: &Name) -> Result<(), RowFaultKind>
-    ensures may { (past : List Line) → HoldsSeats past sessions.now → MayBegin past session.now result }
+fn may_begin(
+    sessions: &HashMap<Name, Option<Draft>>,
+    session: &Name,
+    limits: Limits,
+) -> Result<(), RowFaultKind>
+    ensures may { (past : List Line) → HoldsSeats limits past sessions.now → MayBegin limits past session.now result }
     ensures other { IfErr result (λ kind. kind ≢ RowFaultKind.Read) }
 {
     match sessions.get(session) {
         Some(Some(_)) => Err(RowFaultKind::AlreadyBegun),
         Some(None) => Ok(()),
         None => {
-            if sessions.len() >= MAX_SESSIONS {
+            if sessions.len() >= limits.sessions() {
                 Err(RowFaultKind::TooManySessions)
             } else {
                 Ok(())
@@ -90,10 +96,11 @@ fn least_begun(sessions: &HashMap<Name, Option<Draft>>) -> Option<Name>
 }
 
 impl Progress {
-    pub(crate) fn new(alloc: Global) -> Progress
-        ensures { IsAfter [] result }
+    pub(crate) fn new(alloc: Global, limits: Limits) -> Progress
+        ensures { IsAfter limits [] result }
     {
         Progress {
+            limits,
             sessions: HashMap::new(alloc),
             keys: HashSet::new(alloc),
             begun: 0,
@@ -103,7 +110,7 @@ impl Progress {
 
     /// An answer is wanted.
     fn seal(&mut self) -> Result<(), RowFaultKind>
-        ensures passed { (past : List Line) → IsAfter past self.old → PassesLine past line.Seal result self.new }
+        ensures passed { (limits : Limits) (past : List Line) → IsAfter limits past self.old → PassesLine limits past line.Seal result self.new }
         ensures refused { IfErr result (λ kind. kind ≡ RowFaultKind.TooManySeals) }
     {
         if self.seals >= MAX_SEALS {
@@ -115,11 +122,11 @@ impl Progress {
 
     /// A transaction of the session begins.
     fn begin(&mut self, alloc: Global, session: Name) -> Result<(), RowFaultKind>
-        ensures passed { (past : List Line) → IsAfter past self.old → PassesLine past (line.Begin session) result self.new }
+        ensures passed { (limits : Limits) (past : List Line) → IsAfter limits past self.old → PassesLine limits past (line.Begin session) result self.new }
         ensures other { IfErr result (λ kind. kind ≢ RowFaultKind.Read) }
     {
-        may_begin(&self.sessions, &session)?;
-        if self.begun >= MAX_TRANSACTIONS {
+        may_begin(&self.sessions, &session, self.limits)?;
+        if self.begun >= self.limits.transactions() {
             return Err(RowFaultKind::TooManyTransactions);
         }
         match self.sessions.insert(session, Some(Draft::new(alloc))) {
@@ -133,8 +140,9 @@ impl Progress {
 
     /// The session's transaction is finished.
     fn finish(&mut self, session: Name, committed: bool) -> Result<Txn, RowFaultKind>
-        ensures passed { (past : List Line) → IsAfter past self.old → PassesLine past (line.Finish session committed) result self.new }
-        ensures finished { (past : List Line) → IsAfter past self.old
+        ensures passed { (limits : Limits) (past : List Line) → IsAfter limits past self.old
+            → PassesLine limits past (line.Finish session committed) result self.new }
+        ensures finished { (limits : Limits) (past : List Line) → IsAfter limits past self.old
             → IfOk result (λ txn. txn ≡ record { ops = ops_since session past; committed = committed }) }
         ensures other { IfErr result (λ kind. kind ≢ RowFaultKind.Read) }
     {
@@ -150,7 +158,8 @@ impl Progress {
     /// The session's transaction reads or writes.
     fn operate(&mut self, session: Name, op: Op) -> Result<(), RowFaultKind>
         requires { writes_zero op ≡ false }
-        ensures passed { (past : List Line) → IsAfter past self.old → PassesLine past (line.Operation session op) result self.new }
+        ensures passed { (limits : Limits) (past : List Line) → IsAfter limits past self.old
+            → PassesLine limits past (line.Operation session op) result self.new }
         ensures other { IfErr result (λ kind. kind ≢ RowFaultKind.Read) }
     {
         let key = op.key();
@@ -162,7 +171,7 @@ impl Progress {
             }
             None => return Err(RowFaultKind::NotBegun),
         }
-        note_key(&mut self.keys, key)
+        note_key(&mut self.keys, key, self.limits)
     }
 
     /// Goes past an operation, where four fields are one; `last` is the session of the one before.
@@ -174,8 +183,8 @@ impl Progress {
         key: &[u8],
         value: &[u8],
     ) -> Result<(), RowFaultKind>
-        ensures passed { (past : List Line) → IsAfter past self.old
-            → PassesOperation past (session.now ∷ word.now ∷ key.now ∷ value.now ∷ []) result self.new }
+        ensures passed { (limits : Limits) (past : List Line) → IsAfter limits past self.old
+            → PassesOperation limits past (session.now ∷ word.now ∷ key.now ∷ value.now ∷ []) result self.new }
         ensures other { IfErr result (λ kind. kind ≢ RowFaultKind.Read) }
     {
         let session = match read_session(last, session) {
@@ -200,7 +209,8 @@ impl Progress {
         record: &ByteRecord,
     ) -> Result<(), RowFaultKind>
         requires { length (fields_of record.now) ≡ 4 }
-        ensures passed { (past : List Line) → IsAfter past self.old → PassesOperation past (fields_of record.now) result self.new }
+        ensures passed { (limits : Limits) (past : List Line) → IsAfter limits past self.old
+            → PassesOperation limits past (fields_of record.now) result self.new }
         ensures other { IfErr result (λ kind. kind ≢ RowFaultKind.Read) }
     {
         self.pass_fields(
@@ -215,7 +225,7 @@ impl Progress {
     /// Goes past the line, which may finish something.
     pub(crate) fn pass(&mut self, alloc: Global, line: Line) -> Result<Option<Item>, RowFaultKind>
         requires { writes_no_zero line }
-        ensures passed { (past : List Line) → IsAfter past self.old → TakesLine past line result self.new }
+        ensures passed { (limits : Limits) (past : List Line) → IsAfter limits past self.old → TakesLine limits past line result self.new }
         ensures going { IfOk result (λ given. phase_after_step given ≡ phase.Reading) }
         ensures other { IfErr result (λ kind. kind ≢ RowFaultKind.Read) }
     {
@@ -241,7 +251,7 @@ impl Progress {
 
     /// The least session whose transaction is not finished.
     pub(crate) fn unfinished(&self) -> Option<Name>
-        ensures { (past : List Line) → IsAfter past self.now → result ≡ least (open_sessions past) }
+        ensures { (limits : Limits) (past : List Line) → IsAfter limits past self.now → result ≡ least (open_sessions past) }
     {
         least_begun(&self.sessions)
     }

@@ -1,10 +1,10 @@
 //! The records of a reader, one at a time, within the limit on bytes.
-ghost use Rattle.std.specs.Prelude.{◌≡◌, ◌==◌, false, List, IfOk, IfErr, IfSome, length};
+ghost use Rattle.std.specs.Prelude.{◌≡◌, ◌==◌, false, List, IfOk, IfErr, IfSome, length, option_map};
 ghost use Rattle.std.specs.List.{list_any};
 ghost use Rattle.csv.specs.Reading.{error_kind};
-ghost use Rattle.csv.specs.Records.{fields_of, text_of};
+ghost use Rattle.csv.specs.Records.{field_at, fields_of, text_of};
 ghost use Rattle.tcc_txn.specs.Ahead.{IsFailure};
-ghost use Rattle.tcc_txn.specs.Answers.{records_of};
+ghost use Rattle.tcc_txn.specs.Answers.{records_within};
 ghost use Rattle.tcc_txn.specs.ByteLimit.{past_limit};
 ghost use Rattle.tcc_txn.specs.Lines.{Record, is_cut};
 ghost use Rattle.tcc_txn.specs.Reached.{HasGivenUp, StandsIn, failure_of, row_in};
@@ -14,7 +14,7 @@ ghost use Rattle.tcc_txn.specs.declared.rows.records.Course.TheVariants as cours
 
 use super::RowFaultKind;
 use super::limited::Limited;
-use crate::MAX_INPUT_BYTES;
+use crate::Limits;
 use csv::{ByteRecord, Error, Reader, ReaderBuilder};
 use std::alloc::Global;
 use std::io::Read;
@@ -59,8 +59,8 @@ fn failure(error: &Error) -> RowFaultKind
 }
 
 impl<R: Read> Records<R> {
-    pub(crate) fn new(alloc: Global, reader: R) -> Records<R>
-        ensures left { IfSome (R.remaining reader) (λ text. HasLeft R.remaining result (records_of text)) }
+    pub(crate) fn new(alloc: Global, reader: R, limits: Limits) -> Records<R>
+        ensures left { IfSome (R.remaining reader) (λ text. HasLeft R.remaining result (records_within limits text)) }
         ensures none { result.count ≡ 0 }
         ensures going { result.course ≡ course.Going }
     {
@@ -68,7 +68,7 @@ impl<R: Read> Records<R> {
             reader: ReaderBuilder::new()
                 .has_headers(false)
                 .flexible(true)
-                .from_reader(alloc, Limited::new(reader, MAX_INPUT_BYTES as usize)),
+                .from_reader(alloc, Limited::new(reader, limits.bytes() as usize)),
             record: ByteRecord::new(alloc),
             count: 0,
             course: Course::Going,
@@ -110,6 +110,13 @@ impl<R: Read> Records<R> {
     {
         let _bytes = byte_count(self.record.as_slice());
         &self.record
+    }
+
+    /// The field of the record that was read last at the place, counted from 0.
+    pub(crate) fn field(&self, place: usize) -> Option<&[u8]>
+        ensures { option_map (λ field. field.now) result ≡ field_at (record_of self.now) place }
+    {
+        self.record.get(place)
     }
 
     /// The row of the record that was read last, or of the one that could not be read after it.

@@ -4,9 +4,9 @@ use Rattle.std.proofs.lemmas.List.{get_or_read}
 use Rattle.tcc_reads.specs.History.{count}
 use Rattle.tcc_cert.specs.Tables.{lowest}
 use Rattle.tcc_cert.specs.CycleRules.{BreaksFarLink, BreaksFarStep, BreaksReturn}
-use Rattle.tcc_check.specs.Searches.{IsFoundBelow, IsLongSingle, IsLongStep}
+use Rattle.tcc_check.specs.Searches.{IsFirstLong, IsFoundBelow, IsLongSingle}
 use Rattle.tcc_check.specs.WeightsFrom.{ends_of}
-use Rattle.tcc_check.proofs.RowRules.{far-link-row, far-step-row, found-more, return-row}
+use Rattle.tcc_check.proofs.RowRules.{far-link-row, far-step-row, found-more, found-next, return-row}
 use Rattle.tcc_check.proofs.far_rows.with_row.Goals as goal
 
 pub returns : goal.returns
@@ -23,17 +23,17 @@ returns c table far of is before =
     let single : IsFoundBelow (count h) (IsLongSingle h (ends_of links start) row (lowest version start) start) c.long_link-link.result =
     subst (λ (e : List (ℕ × ℕ)). IsFoundBelow (count h) (IsLongSingle h e row (lowest version start) start) c.long_link-link.result) same
     (rw (← c.lowest-low.ensures.value) c.long_link-link.ensures) in
-    let step : IsFoundBelow (lowest version start + length row)
-    (IsLongStep c.args.near.now.begins.items links row (lowest version start)) c.long_step-step.result =
-    rw (← c.deref.ensures.value, ← c.as_slice-links.ensures.value, ← c.lowest-low.ensures.value) c.long_step-step.ensures in
+    let step : IsFirstLong c.args.faults.step start c.args.near.now.begins.items links row (lowest version start) c.first_long_step-step.result =
+    rw (← c.deref.ensures.value, ← c.as_slice-links.ensures.value, ← c.lowest-low.ensures.value) c.first_long_step-step.ensures in
     record {
       links = rw c.first_of.ensures (found-more start (BreaksFarLink h version table far) c.args.faults.link c.long_link-link.result before.links
           (far-link-row h version c.args.least table far start row is c.requires.start c.requires.long c.requires.capped links of c.long_link-link.result
           single));
-      steps = rw c.first_of-2.ensures (found-more start (BreaksFarStep h version table far) c.args.faults.step c.long_step-step.result before.steps
-          (far-step-row h version c.args.least table far start row is c.requires.start c.requires.long c.requires.capped links of
-          c.args.near.now.begins.items c.requires.orderly.runs c.long_step-step.result step));
-      returns = rw c.first_of-3.ensures (found-more start (BreaksReturn h version c.args.least far) c.args.faults.back c.short_return-back.result before.returns
+      steps = found-next start (BreaksFarStep h version table far) c.args.near.now.begins.items links row (lowest version start) c.args.faults.step
+          c.first_long_step-step.result
+          (λ end found. far-step-row h version c.args.least table far start row is c.requires.start c.requires.long c.requires.capped links of
+          c.args.near.now.begins.items c.requires.orderly.runs end found) step before.steps;
+      returns = rw c.first_of-2.ensures (found-more start (BreaksReturn h version c.args.least far) c.args.faults.back c.short_return-back.result before.returns
           (return-row h version c.args.least table far start row is c.requires.start c.requires.long c.requires.capped links of c.short_return-back.result
           (rw (← c.lowest-low.ensures.value) c.short_return-back.ensures)));
     }

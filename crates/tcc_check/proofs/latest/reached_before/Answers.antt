@@ -1,6 +1,7 @@
 use Rattle.std.proofs.Common.{ℕ, ◌≡◌, ◌<◌, ◌≢◌, get_or, sym, subst, arith, ◌∙◌}
 use Rattle.std.proofs.lemmas.Bool.{iff_false}
 use Rattle.std.proofs.lemmas.List.{get_or_default}
+use Rattle.tcc_graph.specs.declared.level.Level.TheVariants.{Causal}
 use Rattle.tcc_cert.specs.OrderRules.{MayReach}
 use Rattle.tcc_check.proofs.Sessions.{first_more}
 use Rattle.tcc_check.proofs.latest.reached_before.Goals as goal
@@ -15,7 +16,7 @@ pub loop-writer-preserved : goal.loop-writer-preserved
 loop-writer-preserved c =
     let h = c.args.graph.now in
     let b : ℕ = get_or c.args.writers.now c.loop-writer.writer-index 0 in
-    first_more (λ (b : ℕ). b ≢ c.args.source → MayReach h c.args.level c.args.clocks.now b c.args.c
+    first_more (λ (b : ℕ). b ≢ c.args.source → MayReach h Causal c.args.clocks.now b c.args.c
     → get_or c.args.places.now b 0 < get_or c.args.places.now c.args.source 0) c.args.writers.now c.loop-writer.writer-index b c.loop-writer-test.true
     (get_or_default c.args.writers.now c.loop-writer.writer-index 0 b c.loop-writer-test.true) c.loop-writer.invariant
     (elim c.else-writer-source.branch [
@@ -30,4 +31,4 @@ returns c = λ t b w other p.
     let here : get_or c.args.writers.now w.0 b ≡ b = w.2 in
     subst (λ (n : ℕ). get_or c.args.places.now n 0 < get_or c.args.places.now c.args.source 0) here
     (c.loop-writer.invariant w.0 b (omega (arith, w.1, c.loop-writer-test.false)) (λ e. other (sym here ∙ e))
-    (subst (λ (n : ℕ). MayReach c.args.graph.now c.args.level c.args.clocks.now n c.args.c) (sym here) p))
+    (subst (λ (n : ℕ). MayReach c.args.graph.now Causal c.args.clocks.now n c.args.c) (sym here) p))

@@ -1,8 +1,9 @@
 use Rattle.std.proofs.Common.{◌<◌, ◌≢◌, ℕ, get_or}
+use Rattle.tcc_graph.specs.declared.level.Level.TheVariants.{Causal}
 use Rattle.tcc_cert.specs.OrderRules.{MayReach}
 use Rattle.tcc_check.proofs.latest.reached_before.Given as goal
 
 abbrev pub invariant-loop-writer : goal.invariant-loop-writer
 invariant-loop-writer l =
-    (k : ℕ) (d : ℕ) → k < l.writer-index → get_or l.writers k d ≢ l.source → MayReach l.graph l.level l.clocks (get_or l.writers k d) l.c
+    (k : ℕ) (d : ℕ) → k < l.writer-index → get_or l.writers k d ≢ l.source → MayReach l.graph Causal l.clocks (get_or l.writers k d) l.c
     → get_or l.places (get_or l.writers k d) 0 < get_or l.places l.source 0

@@ -1,6 +1,5 @@
-use Rattle.std.proofs.Common.{◌≤◌, length}
 use Rattle.tcc_check.proofs.LinksFrom.{AreLightTo}
 use Rattle.tcc_check.proofs.links_from.light_ends.Given as goal
 
 abbrev pub invariant-loop-end : goal.invariant-loop-end
-invariant-loop-end l = AreLightTo l.end l.weights l.least l.ends.items × (length l.ends.items ≤ l.end)
+invariant-loop-end l = AreLightTo l.end l.weights l.least l.ends.items

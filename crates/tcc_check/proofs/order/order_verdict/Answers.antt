@@ -22,8 +22,8 @@ keeps_axiom-requires c =
       sized = sizes.clocks;
     }
 
-pub returns-then-keeps_axiom : goal.returns-then-keeps_axiom
-returns-then-keeps_axiom c =
+pub returns-then-kept : goal.returns-then-kept
+returns-then-kept c =
     let kept = rw c.in-Some.is at c.in_ok-places.ensures c.args.sessions in
     let are : ArePlaces c.args.order.now c.deref.result.now = rw c.deref.ensures.value kept.0 in
     let sizes = c.has_order_sizes.ensures.sizes.0 c.if-not-has_order_sizes.false in (
@@ -32,7 +32,7 @@ returns-then-keeps_axiom c =
         kept.1,
         (
           axiom_kept c.args.graph.now c.args.level c.args.order.now c.deref.result.now c.args.sessions c.args.clocks.now are sizes.order
-              (c.keeps_axiom.ensures c.if-keeps_axiom.true),
+              (c.in_ok-kept.ensures c.if-kept.true),
           tt,
         ),
       ),

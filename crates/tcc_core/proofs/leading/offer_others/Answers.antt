@@ -1,18 +1,42 @@
-use Rattle.std.proofs.Common.{arith}
-use Rattle.tcc_core.proofs.LedOn.{others_links, cheap_links}
+use Rattle.std.proofs.Common.{◌≡◌, ◌<◌, ◌≤◌, length, arith}
+use Rattle.tcc_reads.specs.History.{count}
+use Rattle.tcc_derive.specs.Prices.{others_at}
+use Rattle.tcc_core.specs.Offers.{IsOffered, IsWayBy}
+use Rattle.tcc_core.specs.Levels.{IsClassWay}
+use Rattle.tcc_core.proofs.LedOn.{classes_of, offered_classes, offered_others}
 use Rattle.tcc_core.proofs.leading.offer_others.Goals as goal
 
+pub offer_classes-requires-clause-classes : goal.offer_classes-requires-clause-classes
+offer_classes-requires-clause-classes c =
+    rw (c.deref.ensures.value, c.requires.long) (classes_of c.args.prices.now c.args.u c.by_class-links.result.now c.by_class-links.ensures)
+
 pub returns-then-left-limit-clause-offered : goal.returns-then-left-limit-clause-offered
-returns-then-left-limit-clause-offered c = λ j priced. (
-  c.by_cost.result.now,
-  cheap_links priced c.args.u (omega (arith, c.requires.below, priced.prices.long)) c.by_cost.ensures.links
-      (omega (arith, c.if-left-limit.true, c.limit.ensures)),
-  c.offer_cheapest.ensures.offered,
-)
+returns-then-left-limit-clause-offered c = λ j priced.
+    let links = c.by_class-links.result.now in
+    let s = c.args.start in
+    let d = c.args.so_far in
+    let left = c.args.left in
+    let floor = c.args.queue.now.floor in
+    let old = c.args.queue.now.costs in
+    let mid = c.offer_classes.new.queue.costs in
+    let new = c.offer_cheapest.new.queue.costs in
+    let from : c.args.u < count j.history = omega (arith, c.requires.below, priced.prices.long) in
+    let long : length old ≡ count j.history = omega (arith, c.requires.long, priced.prices.long) in
+    let few : left ≤ c.args.prices.now.limit = omega (arith, c.if-left-limit.true, c.limit.ensures) in
+    let first : IsOffered (IsClassWay links.classes.items s d left) floor old mid = rw c.deref.ensures.value at c.offer_classes.ensures.offered in
+    let then : IsOffered (IsWayBy links.rest s d left) floor mid new
+    =
+    rw (c.values.ensures, c.offer_classes.ensures.floor) at c.offer_cheapest.ensures.offered in
+    offered_classes priced c.args.u from c.by_class-links.ensures s d left floor old mid new long few first then
 
 pub returns-else-left-limit-clause-offered : goal.returns-else-left-limit-clause-offered
-returns-else-left-limit-clause-offered c = λ j priced. (
-  c.others.result.now,
-  rw c.others.ensures.value (others_links priced c.args.u (omega (arith, c.requires.below, priced.prices.long)) c.args.left),
-  c.offer_within.ensures.offered,
-)
+returns-else-left-limit-clause-offered c = λ j priced.
+    let s = c.args.start in
+    let d = c.args.so_far in
+    let left = c.args.left in
+    let floor = c.args.queue.now.floor in
+    let old = c.args.queue.now.costs in
+    let new = c.offer_within.new.queue.costs in
+    let by : IsOffered (IsWayBy (others_at c.args.prices.now c.args.u) s d left) floor old new = rw c.others.ensures.value at c.offer_within.ensures.offered in
+    offered_others priced c.args.u (omega (arith, c.requires.below, priced.prices.long)) s d left floor old new
+    (omega (arith, c.requires.long, priced.prices.long)) by

@@ -2,7 +2,8 @@ use Rattle.std.proofs.Common.{◌≤◌, length, arith}
 use Rattle.tcc_reads.specs.History.{count}
 use Rattle.tcc_graph.specs.Levels.{Judged}
 use Rattle.tcc_txn.specs.declared.limits.TheConstants.{MAX_COUNT}
-use Rattle.tcc_derive.proofs.PricesLemmas.{prices_of, shaped, others_within, have_by_cost}
+use Rattle.tcc_derive.proofs.PricesLemmas.{prices_of, shaped, others_within, have_by_cost, have_by_class}
+use Rattle.tcc_derive.proofs.TableLemmas.{all_sources, all_readers}
 use Rattle.tcc_derive.proofs.derivation.derive.Goals as goal
 
 pub returns : goal.returns
@@ -11,7 +12,7 @@ returns g c =
     rw (c.new.ensures, c.level.ensures)
     (prices_of j c.args.near.now c.in_ok-prices.prices.items c.in_ok-ends.ends.items c.in_ok-others.others.items c.cost_limit-limit.result c.requires
     c.in_ok-prices.ensures.rows
-    c.in_ok-ends.ensures (rw c.deref-3.ensures.value at c.in_ok-others.ensures))
+    c.in_ok-ends.ensures (rw c.deref-5.ensures.value at c.in_ok-others.ensures))
 
 pub new-requires-clause-shape : goal.new-requires-clause-shape
 new-requires-clause-shape g c =
@@ -20,16 +21,16 @@ new-requires-clause-shape g c =
     let few : count c.args.graph.now ≤ MAX_COUNT = omega (arith, c.in_ok-prices.ensures.few, rows.long) in
     rw c.level.ensures
     (shaped j c.args.near.now c.in_ok-prices.prices.items c.in_ok-ends.ends.items c.in_ok-others.others.items c.cost_limit-limit.result c.requires rows
-    c.in_ok-ends.ensures (rw c.deref-3.ensures.value at c.in_ok-others.ensures) few)
+    c.in_ok-ends.ensures (rw c.deref-5.ensures.value at c.in_ok-others.ensures) few)
 
 pub by_cost_rows-requires-clause-within : goal.by_cost_rows-requires-clause-within
 by_cost_rows-requires-clause-within g c κs inside =
     let j : Judged = record { history = c.args.graph.now; level = c.args.near.now.level } in
     let rows = c.in_ok-prices.ensures.rows in
     let few : count c.args.graph.now ≤ MAX_COUNT = omega (arith, c.in_ok-prices.ensures.few, rows.long) in
-    rw c.deref-6.ensures.value
+    rw c.deref-8.ensures.value
     (others_within j c.args.near.now c.in_ok-prices.prices.items c.in_ok-ends.ends.items c.in_ok-others.others.items c.cost_limit-limit.result c.requires rows
-    c.in_ok-ends.ensures (rw c.deref-3.ensures.value at c.in_ok-others.ensures) MAX_COUNT few)
+    c.in_ok-ends.ensures (rw c.deref-5.ensures.value at c.in_ok-others.ensures) MAX_COUNT few)
 
 pub new-requires-clause-by_cost : goal.new-requires-clause-by_cost
 new-requires-clause-by_cost g c =
@@ -37,12 +38,38 @@ new-requires-clause-by_cost g c =
     rw c.level.ensures
     (have_by_cost j c.args.near.now c.in_ok-prices.prices.items c.in_ok-ends.ends.items c.in_ok-others.others.items c.cost_limit-limit.result c.requires
     c.in_ok-prices.ensures.rows
-    c.in_ok-ends.ensures (rw c.deref-3.ensures.value at c.in_ok-others.ensures)
-    c.in_ok-by_cost.by_cost.items (rw (c.deref-6.ensures.value, c.deref-7.ensures.value) at c.in_ok-by_cost.ensures))
+    c.in_ok-ends.ensures (rw c.deref-5.ensures.value at c.in_ok-others.ensures)
+    c.in_ok-by_cost.by_cost.items (rw (c.deref-8.ensures.value, c.deref-9.ensures.value) at c.in_ok-by_cost.ensures))
 
 pub cost_limit-limit-requires-clause-within : goal.cost_limit-limit-requires-clause-within
 cost_limit-limit-requires-clause-within g c =
     let j : Judged = record { history = c.args.graph.now; level = c.args.near.now.level } in
-    rw c.deref-5.ensures.value
+    rw c.deref-7.ensures.value
     (others_within j c.args.near.now c.in_ok-prices.prices.items c.in_ok-ends.ends.items c.in_ok-others.others.items 0 c.requires c.in_ok-prices.ensures.rows
-    c.in_ok-ends.ensures (rw c.deref-3.ensures.value at c.in_ok-others.ensures) (length c.args.near.now.rows) (omega (arith, c.requires.square.long)))
+    c.in_ok-ends.ensures (rw c.deref-5.ensures.value at c.in_ok-others.ensures) (length c.args.near.now.rows) (omega (arith, c.requires.square.long)))
+
+pub by_class_rows-requires-clause-within : goal.by_class_rows-requires-clause-within
+by_class_rows-requires-clause-within g c κs inside =
+    let j : Judged = record { history = c.args.graph.now; level = c.args.near.now.level } in
+    let rows = c.in_ok-prices.ensures.rows in
+    rw c.deref-10.ensures.value
+    (others_within j c.args.near.now c.in_ok-prices.prices.items c.in_ok-ends.ends.items c.in_ok-others.others.items c.cost_limit-limit.result c.requires rows
+    c.in_ok-ends.ensures (rw c.deref-5.ensures.value at c.in_ok-others.ensures) (length c.in_ok-others.others.items)
+    (omega (arith, (rw c.deref-5.ensures.value at c.in_ok-others.ensures).long)))
+
+pub new-requires-clause-by_class : goal.new-requires-clause-by_class
+new-requires-clause-by_class g c =
+    let j : Judged = record { history = c.args.graph.now; level = c.args.near.now.level } in
+    rw c.level.ensures
+    (have_by_class j c.args.near.now c.in_ok-prices.prices.items c.in_ok-ends.ends.items c.in_ok-others.others.items c.cost_limit-limit.result c.requires
+    c.in_ok-prices.ensures.rows
+    c.in_ok-ends.ensures (rw c.deref-5.ensures.value at c.in_ok-others.ensures)
+    c.in_ok-by_class.by_class.items (rw (c.deref-10.ensures.value, c.deref-11.ensures.value) at c.in_ok-by_class.ensures))
+
+pub source_table-requires-clause-sources : goal.source_table-requires-clause-sources
+source_table-requires-clause-sources g c =
+    rw c.deref.ensures.value (all_sources c.args.graph.now c.count.result c.in_ok-reads.reads.items c.count.ensures.value c.in_ok-reads.ensures)
+
+pub source_table-requires-clause-readers : goal.source_table-requires-clause-readers
+source_table-requires-clause-readers g c =
+    rw c.deref.ensures.value (all_readers c.args.graph.now c.count.result c.in_ok-reads.reads.items c.count.ensures.value c.in_ok-reads.ensures)

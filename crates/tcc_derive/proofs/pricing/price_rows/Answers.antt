@@ -1,10 +1,11 @@
-use Rattle.std.proofs.Common.{ℕ, ◌<◌, ◌≤◌, ◌≡◌, List, [], length, flat_map, sym, ◌∙◌, arith}
+use Rattle.std.proofs.Common.{ℕ, ◌<◌, ◌≤◌, ◌≡◌, List, [], length, flat_map, subst, sym, ◌∙◌, arith}
 use Rattle.rayon.proofs.ToStd.{nat_range-All}
 use Rattle.tcc_reads.specs.History.{count}
 use Rattle.tcc_graph.specs.Levels.{Judged}
 use Rattle.tcc_txn.specs.declared.memory.NoMemory.{NoMemory}
 use Rattle.tcc_derive.specs.Buckets.{bucket}
 use Rattle.tcc_derive.specs.Lowering.{HaveReads, ArePricedBy}
+use Rattle.tcc_derive.specs.Sources.{HaveSources}
 use Rattle.tcc_near.proofs.RowLemmas.{each_given, numbers_below}
 use Rattle.tcc_derive.proofs.PriceLemmas.{price_row_of}
 use Rattle.tcc_derive.proofs.TableLemmas.{have_reads}
@@ -23,13 +24,14 @@ collect-requires-clause-ready g c κs within =
     let square : length near.rows ≡ count h = c.requires.near.square.long in
     let ready =
     nat_range-All (λ b. (b < length near.rows) × (length near.rows ≤ MAX_COUNT) × (length written ≡ length near.rows)
-    × HaveReads (length near.rows) reads (bucket written b)) 0 c.count.result
+    × HaveReads (length near.rows) reads (bucket written b) × HaveSources (length near.rows) reads c.args.sources.now) 0 c.count.result
     (λ b low high.
     let from : b < count h = omega (arith, c.count.ensures.value) in (
       omega arith,
       omega (arith, c.count.ensures.value, c.count.ensures.few),
       c.requires.written.long ∙ sym square,
       have_reads h (length near.rows) reads written b square c.requires.reads c.requires.written from,
+      subst (λ (n : ℕ). HaveSources n reads c.args.sources.now) (sym square) c.requires.sources,
     )) in
     rw (c.with_min_len.ensures.base, c.map.ensures.base, c.map.ensures.f, ends.0, ends.1) (λ k d lt. (ready k d lt, λ y p. tt))
 

@@ -1,4 +1,3 @@
-use Rattle.tcc_graph.specs.Levels.{Judged}
 use Rattle.tcc_growth.proofs.OneByOne.{AreLinks}
 use Rattle.tcc_growth.proofs.carrying.first_missing.Given as goal
 

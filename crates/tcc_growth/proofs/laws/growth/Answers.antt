@@ -1,5 +1,9 @@
 use Rattle.tcc_growth.proofs.Keeping.{keeps_labels, keeps_links, keeps_cycles, keeps_anomalies, costs_no_more, none_missing}
+use Rattle.tcc_growth.proofs.Growth.{grown}
 use Rattle.tcc_growth.proofs.laws.growth.Goals as goal
+
+pub returns-clause-slice : goal.returns-clause-slice
+returns-clause-slice c = grown
 
 pub returns-clause-labels : goal.returns-clause-labels
 returns-clause-labels c = keeps_labels

@@ -1,5 +1,6 @@
-use Rattle.std.proofs.Common.{rules, ◌≡◌, ◌<◌, ◌^◌, slice_index, arith}
+use Rattle.std.proofs.Common.{rules, ◌≡◌, ◌<◌, ◌+◌, ◌*◌, ◌^◌, slice_index, arith}
 use Rattle.tcc_near.proofs.BitLemmas.{joined_all, fresh_more, fresh_whole}
+use Rattle.tcc_near.proofs.Ascending.{ascending_below}
 use Rattle.tcc_near.proofs.bits.take_fresh.Goals as goal
 
 pub loop-place-preserved : goal.loop-place-preserved
@@ -13,7 +14,9 @@ loop-place-preserved c =
       search rules,
       search rules,
       fresh_more seen c.args.marks.now c.loop-place.fresh.items c.push_marked.new.numbers.items n small inv.3
-          (rw (← kept) c.in_ok-push_marked.ensures),
+          (rw (← kept) c.in_ok-push_marked.ensures.each),
+      ascending_below (n * 64 + 64) (64 * (n + 1)) c.push_marked.new.numbers.items (omega arith)
+          (c.in_ok-push_marked.ensures.ascending (ascending_below (64 * n) (n * 64) c.loop-place.fresh.items (omega arith) inv.4)),
     )
 
 pub returns-clause-seen : goal.returns-clause-seen

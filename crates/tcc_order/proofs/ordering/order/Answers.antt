@@ -1,43 +1,31 @@
+use Rattle.std.specs.Prelude.{MatchOption}
 use Rattle.std.proofs.lemmas.Result.{IfOk-weaker}
 use Rattle.tcc_reads.specs.History.{count}
-use Rattle.tcc_graph.specs.declared.level.Level.{Level}
-use Rattle.tcc_graph.specs.declared.level.Level.TheVariants as level
-use Rattle.tcc_order.specs.Behind.{IsTableOf, IsAllowedFrom}
-use Rattle.tcc_graph.specs.Relations.{IsCausalPair}
-use Rattle.tcc_order.proofs.Heads.{session_heads}
-use Rattle.tcc_order.proofs.Links.{IsFound, cycle_of_pairs, allowed_atomic, allowed_causal}
+use Rattle.tcc_graph.specs.Levels.{Judged}
+use Rattle.tcc_order.specs.Held.{holds}
+use Rattle.tcc_order.specs.Latest.{AreLinks}
+use Rattle.tcc_order.specs.Numbering.{HasCircle, IsFirstOf}
+use Rattle.tcc_order.proofs.Finding.{found_kept}
+use Rattle.tcc_order.proofs.Links.{IsFound}
 use Rattle.tcc_order.proofs.ordering.order.Goals as goal
 
-pub returns-in-Atomic : goal.returns-in-Atomic
-returns-in-Atomic c =
-    let h = c.args.graph.now in
-    let into = c.in_ok-into.into.items in
-    rw c.in-Atomic.is (IfOk-weaker c.order_by.result
-    (λ found. (k : Level) → IsTableOf (count h) (IsAllowedFrom (record { history = h; level = k })) into → IsFound (record { history = h; level = k }) found)
-    (λ found. IsFound (record { history = h; level = level.Atomic }) found)
-    (λ found p. p level.Atomic (allowed_atomic h into c.in_ok-into.ensures.table))
-    (rw c.deref-in-Atomic.ensures.value at c.order_by.ensures))
-
 pub returns-in_default : goal.returns-in_default
-returns-in_default c =
-    let h = c.args.graph.now in
-    let into = c.in_ok-into.into.items in
-    cycle_of_pairs (record { history = h; level = c.args.level }) into c.in_ok-into.ensures.table
-    (rw (c.deref-in-Causal.ensures.value, c.in_default.is) at c.in_ok-order-in-Causal.ensures)
+returns-in_default c = rw c.in_default.is at c.in_ok-kept.ensures
+
+pub first_placing-requires-clause-inside : goal.first_placing-requires-clause-inside
+first_placing-requires-clause-inside c =
+    let j : Judged = record { history = c.args.graph.now; level = c.args.level } in
+    let links : AreLinks j c.in-Some.kept.items = rw c.in-Some.is at c.in_ok-kept.ensures in
+    rw c.deref-3.ensures.value (λ x b there. (links.derived x b there).1)
 
 pub returns : goal.returns
 returns c =
     let h = c.args.graph.now in
-    let behind = c.in_ok-behind-in-Causal.behind.items in
-    rw c.in-Causal.is (IfOk-weaker c.order_by-in-Causal.result
-    (λ found. (k : Level) → IsTableOf (count h) (IsAllowedFrom (record { history = h; level = k })) behind → IsFound (record { history = h; level = k }) found)
-    (λ found. IsFound (record { history = h; level = level.Causal }) found)
-    (λ found p. p level.Causal (allowed_causal h behind c.in_ok-behind-in-Causal.ensures))
-    (rw c.deref-in-Causal-6.ensures.value at c.order_by-in-Causal.ensures))
-
-pub first_numbering-requires-clause-parents : goal.first_numbering-requires-clause-parents
-first_numbering-requires-clause-parents c =
-    let h = c.args.graph.now in
-    rw (c.deref-in-Causal.ensures.value, c.deref-in-Causal-2.ensures.value)
-    (session_heads h c.sessions.ensures.numbered (IsCausalPair h) c.in_ok-into.into.items c.in_ok-parents.parents.items
-    (λ b a p. p) c.in_ok-into.ensures.table c.in_ok-parents.ensures)
+    let j : Judged = record { history = h; level = c.args.level } in
+    let kept = c.in-Some.kept.items in
+    let links : AreLinks j kept = rw c.in-Some.is at c.in_ok-kept.ensures in
+    IfOk-weaker c.first_placing.result
+    (λ found. MatchOption found (HasCircle (holds h kept)) (λ order. IsFirstOf (holds h kept) (count h) order.items))
+    (λ found. IsFound j found)
+    (λ found p. found_kept j c.sessions.ensures.numbered kept links found p)
+    (rw c.deref-3.ensures.value at c.first_placing.ensures)

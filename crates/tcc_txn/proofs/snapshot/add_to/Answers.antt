@@ -27,14 +27,14 @@ returns-then-stands_at-clause-few c =
     (c.stands_at.ensures.stands c.if-stands_at.true) in
     ok-always c.push.result (λ none. absurd (found-here c.args.parts.now.items c.args.session c.place_of-at.result place stands none))
 
-pub returns-then-len-ge-MAX_SESSIONS-clause-refused : goal.returns-then-len-ge-MAX_SESSIONS-clause-refused
-returns-then-len-ge-MAX_SESSIONS-clause-refused c =
+pub returns-then-len-sessions-clause-refused : goal.returns-then-len-sessions-clause-refused
+returns-then-len-sessions-clause-refused c =
     let place = c.place_of-at.ensures ∙ ap (λ parts. place_in c.args.session (parts_of parts)) c.deref.ensures.value in
     let apart =
     subst (λ parts. StandsAt (parts_of parts) c.args.session c.place_of-at.result → ⊥) c.deref-2.ensures.value
     (c.stands_at.ensures.not c.if-stands_at.false) in
     inr (
-      omega (arith, c.if-len-ge-MAX_SESSIONS.true, c.len.ensures, c.args.parts.now.ok.0),
+      omega (arith, c.if-len-sessions.true, c.sessions.ensures, c.len.ensures, c.args.parts.now.ok.0),
       missing c.args.parts.now.items c.args.session c.place_of-at.result place c.requires apart,
     )
 
@@ -54,7 +54,7 @@ returns c =
       added =
           ok-then c.insert.result (λ new. new ∙ inserted items c.args.session c.place_of-at.result c.args.txn place c.requires apart) c.insert.ensures.inserted;
       kept = err-then c.insert.result (λ same. ap parts_of same) c.insert.ensures.kept;
-      few = ok-always c.insert.result (λ _. omega (arith, c.if-len-ge-MAX_SESSIONS.false, c.len.ensures, c.args.parts.now.ok.0));
+      few = ok-always c.insert.result (λ _. omega (arith, c.if-len-sessions.false, c.sessions.ensures, c.len.ensures, c.args.parts.now.ok.0));
       known = if-err-then c.insert.result (λ k memory. not-read k memory) c.insert.ensures.refused;
       refused = if-err-then c.insert.result (λ k memory. inl memory) c.insert.ensures.refused;
     }

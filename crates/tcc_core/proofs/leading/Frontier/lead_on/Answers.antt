@@ -3,7 +3,7 @@ use Rattle.tcc_reads.specs.History.{count}
 use Rattle.tcc_txn.specs.declared.limits.TheConstants.{MAX_COUNT}
 use Rattle.tcc_derive.specs.Prices.{end_of}
 use Rattle.tcc_core.specs.Queues.{Queue}
-use Rattle.tcc_core.specs.Offers.{IsOffered, IsWayBy}
+use Rattle.tcc_core.specs.Offers.{IsOffered, IsOfferedBy}
 use Rattle.tcc_core.proofs.Marking.{IsLaterWay}
 use Rattle.tcc_core.proofs.LedOn.{led_nowhere, led_by_links, led_by_both}
 use Rattle.tcc_core.proofs.leading.Frontier.lead_on.Goals.{then-so_far-floor, else-so_far-floor}
@@ -27,7 +27,7 @@ returns-clause-offered c = λ j priced.
     let few : count j.history ≤ MAX_COUNT = omega (arith, long, c.requires.few) in
     let low : d < cap = omega (arith, c.if-so_far-cap.false) in
     let least : left ≡ min (cap - d) (BUCKETS - 1) = c.min-left.ensures in
-    let (links, has, offers) = c.offer_others.ensures.offered j priced in
+    let offers = c.offer_others.ensures.offered j priced in
     elim c.if-so_far-floor.branch [
       | then-so_far-floor w ↦
           let end : c.later-first.result.1 ≡ end_of t u = c.later-first.ensures.end in
@@ -35,16 +35,16 @@ returns-clause-offered c = λ j priced.
           let spent : d ≡ floor = omega (arith, w.if-so_far-floor.true, c.floor.ensures, ap (λ (q : Queue). q.floor) c.self.view_is) in
           let first : w.max.result ≡ max (u + 1) s = rw c.later-first.ensures.first at w.max.ensures in
           let later : IsOffered (IsLaterWay floor w.max.result (end_of t u)) floor old w.reach_later.new.self.costs = rw end at w.reach_later.ensures.offered in
-          let by : IsOffered (IsWayBy links s d left) w.reach_later.new.self.floor w.reach_later.new.self.costs new =
-          subst (λ (q : Queue). IsOffered (IsWayBy links s d left) q.floor q.costs new) there offers in
-          led_by_both priced u from has few s d cap floor low least w.max.result old w.reach_later.new.self.costs new long spent first later
+          let by : IsOfferedBy t s u d left w.reach_later.new.self.floor w.reach_later.new.self.costs new =
+          subst (λ (q : Queue). IsOfferedBy t s u d left q.floor q.costs new) there offers in
+          led_by_both priced u from few s d cap floor low least w.max.result old w.reach_later.new.self.costs new long spent first later
           (rw w.reach_later.ensures.floor at by)
       | else-so_far-floor w ↦
           let there : c.self-2.inside.queue ≡ c.args.self.now = c.self-2.view_is ∙ w.self-is in
           let below : d < floor = omega (arith, w.if-so_far-floor.false, c.requires.so_far, c.floor.ensures, ap (λ (q : Queue). q.floor) c.self.view_is) in
-          let by : IsOffered (IsWayBy links s d left) floor old new =
-          subst (λ (q : Queue). IsOffered (IsWayBy links s d left) q.floor q.costs new) there offers in
-          led_by_links priced u from has few s d cap floor low least old new long below by
+          let by : IsOfferedBy t s u d left floor old new =
+          subst (λ (q : Queue). IsOfferedBy t s u d left q.floor q.costs new) there offers in
+          led_by_links priced u from few s d cap floor low least old new long below by
     ]
 
 pub returns-then-so_far-cap-clause-offered : goal.returns-then-so_far-cap-clause-offered

@@ -6,16 +6,17 @@ use Rattle.tcc_txn.specs.Answers.{Answers}
 use Rattle.tcc_txn.specs.Lines.{Record}
 use Rattle.tcc_txn.specs.Nested.{IsNested}
 use Rattle.tcc_txn.specs.Reached.{IsWithin}
-use Rattle.tcc_txn.specs.Recordings.{IsRecording}
+use Rattle.tcc_txn.specs.Recordings.{IsRecording, held}
 use Rattle.tcc_txn.specs.declared.rows.Item.{Item}
 use Rattle.tcc_txn.specs.declared.rows.Phase.TheVariants as phase
+use Rattle.tcc_txn.specs.declared.limits.Limits.TheVariants.{Small}
 use Rattle.tcc_txn.proofs.RecordingSteps.{HasPassed}
 use Rattle.tcc_txn.proofs.recording.Recording.advance.Given as goal
 
 abbrev pub invariant-items : goal.invariant-items
 invariant-items g l =
     record {
-      way : (taken : List Item) (ahead : Answers) → IsRecording g.R.Read.remaining l.initial.self taken ahead → HasPassed g.R.Read.remaining l.self taken ahead;
+      way : (taken : List Item) (ahead : Answers) → IsRecording g.R.Read.remaining l.initial.self taken ahead → HasPassed Small g.R.Read.remaining (held l.self) taken ahead;
       continues : IsNested l.initial.self.snapshot l.self.snapshot;
       within : (all : List Record) → IsWithin g.R.Read.remaining l.initial.self.rows all → IsWithin g.R.Read.remaining l.self.rows all;
       stopped : IfSome (fault_met l.initial.self.rows) (λ fault. fault_met l.self.rows ≡ Some fault);

@@ -3,13 +3,14 @@ use Rattle.tcc_txn.specs.Midway.{IsMidway}
 use Rattle.tcc_txn.specs.Answers.{Answers}
 use Rattle.tcc_txn.specs.Lines.{Record}
 use Rattle.tcc_txn.specs.Reached.{StandsIn}
+use Rattle.tcc_txn.specs.declared.limits.Limits.{Limits}
 use Rattle.tcc_txn.proofs.rows.Rows.next_line.Given as goal
 
 abbrev pub invariant-records : goal.invariant-records
 invariant-records g l =
     record {
       phase : l.self.phase ≡ l.initial.self.phase;
-      reading : (ahead : Answers) → IsMidway g.R.Read.remaining l.initial.self ahead → IsMidway g.R.Read.remaining l.self ahead;
+      reading : (limits : Limits) (ahead : Answers) → IsMidway limits g.R.Read.remaining l.initial.self ahead → IsMidway limits g.R.Read.remaining l.self ahead;
       stands : (all : List Record) → StandsIn g.R.Read.remaining l.initial.self.records all → StandsIn g.R.Read.remaining l.self.records all;
       more : l.initial.self.records.count ≤ l.self.records.count;
     }

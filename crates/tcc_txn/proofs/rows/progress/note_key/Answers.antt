@@ -6,5 +6,5 @@ pub returns-in-Ok-clause-noted : goal.returns-in-Ok-clause-noted
 returns-in-Ok-clause-noted c names holds =
     let absent = sym c.if-contains.ensures in
     let added = rw absent at c.in-Ok.ensures.added in
-    names-noted names c.args.key _ _ holds absent (omega (arith, c.if-len-ge-MAX_KEYS.false, c.len.ensures.len)) c.in-Ok.ensures.updates
+    names-noted c.args.limits names c.args.key _ _ holds absent (omega (arith, c.if-len-keys.false, c.len.ensures.len, c.keys.ensures)) c.in-Ok.ensures.updates
     (rw added at c.in-Ok.ensures.len)

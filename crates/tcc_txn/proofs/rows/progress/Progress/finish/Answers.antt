@@ -3,8 +3,8 @@ use Rattle.tcc_txn.proofs.StandingFacts.{after-finish}
 use Rattle.tcc_txn.proofs.rows.progress.Progress.finish.Goals as goal
 
 pub returns-in-Ok-Some-Some-clause-passed : goal.returns-in-Ok-Some-Some-clause-passed
-returns-in-Ok-Some-Some-clause-passed c past is =
+returns-in-Ok-Some-Some-clause-passed c limits past is =
     let found = c.in-Ok-Some-Some in
     let place = sym found.ensures.old ∙ found.field-0-is ∙ ap Some found.field-0-0-is in
-    after-finish past c.args.session c.args.committed _ c.args.self.now _ is place found.ensures.updates
-    (rw found.field-0-is at found.ensures.len ∙ omega arith) refl refl refl
+    after-finish limits past c.args.session c.args.committed _ c.args.self.now _ is place found.ensures.updates
+    (rw found.field-0-is at found.ensures.len ∙ omega arith) refl refl refl refl

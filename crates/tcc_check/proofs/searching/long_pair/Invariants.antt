@@ -1,5 +1,0 @@
-use Rattle.tcc_check.specs.Searches.{HoldsBelow, IsLongPair}
-use Rattle.tcc_check.proofs.searching.long_pair.Given as goal
-
-abbrev pub invariant-loop-end : goal.invariant-loop-end
-invariant-loop-end l = HoldsBelow l.end (IsLongPair l.graph l.row l.low l.start)

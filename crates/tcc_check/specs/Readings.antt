@@ -1,0 +1,31 @@
+-- Who reads each key, with whom it is read from. Nobody has to believe it: private functions say it to one another.
+use Rattle.std.specs.Prelude.{ℕ, ◌<◌, ◌≡◌, ◌≢◌, List, [], Contains, length, slice_index, slice_index_or}
+use Rattle.tcc_reads.specs.History.{History}
+use Rattle.tcc_graph.specs.Keys.{key_at, keys}
+use Rattle.tcc_graph.specs.Relations.{IsReadsPair}
+
+-- each who reads the key at a place, with the source, and no others
+pub record AreReadingsAt (h : History) (place : ℕ) (readings : List (ℕ × ℕ)) : Type 0 where
+  pub each : (a c : ℕ) → Contains readings (c, a) → IsReadsPair h a c (key_at h place)
+  pub all : (a c : ℕ) → IsReadsPair h a c (key_at h place) → Contains readings (c, a)
+
+-- those of one place
+abbrev pub readings_at : List (List (ℕ × ℕ)) → ℕ → List (ℕ × ℕ)
+readings_at readings place = slice_index_or readings place []
+
+-- those of the first places
+pub record AreReadingsTo (i : ℕ) (h : History) (readings : List (List (ℕ × ℕ))) : Type 0 where
+  pub long : length readings ≡ i
+  pub rows : (place : ℕ) → place < i → AreReadingsAt h place (readings_at readings place)
+
+-- of all
+abbrev pub AreReadings : History → List (List (ℕ × ℕ)) → Type 0
+AreReadings h readings = AreReadingsTo (length (keys h)) h readings
+
+-- one of these readers reads from v, other than u, and the row has w for the reader
+abbrev pub ReadingWeighs : List (ℕ × ℕ) → List ℕ → ℕ → ℕ → ℕ → Type 0
+ReadingWeighs readings row u v w = (v ≢ u) × (c : ℕ) × Contains readings (c, v) × (w ≡ slice_index row c)
+
+-- so of those of one of the keys
+abbrev pub PlaceWeighs : List (List (ℕ × ℕ)) → List ℕ → List ℕ → ℕ → ℕ → ℕ → Type 0
+PlaceWeighs readings places row u v w = (k : ℕ) × Contains places k × ReadingWeighs (readings_at readings k) row u v w

@@ -1,0 +1,96 @@
+//! Who reads each key, in groups of one source, and what a row has for the readers of a source.
+ghost use Rattle.std.specs.Prelude.{◌≡◌, ◌<◌, ◌≤◌, All, Contains, IfOk, length, slice_index};
+ghost use Rattle.std.specs.Prelude.{ℕ, ◌⊎◌};
+ghost use Rattle.tcc_txn.specs.declared.limits.TheConstants.{MAX_COUNT};
+ghost use Rattle.tcc_reads.specs.History.{count};
+ghost use Rattle.tcc_graph.specs.Keys.{keys};
+ghost use Rattle.tcc_check.specs.Readings.{AreReadings, AreReadingsAt, ReadingWeighs};
+ghost use Rattle.tcc_check.specs.Weights.{IsLowered, unlinked};
+
+use crate::groups::Groups;
+use crate::links_from::UNLINKED;
+use std::alloc::Global;
+use tcc_graph::Graph;
+use tcc_txn::NoMemory;
+
+/// Who reads the key at a place, each with the source.
+fn readings_at(alloc: Global, graph: &Graph, place: u32) -> Result<Groups, NoMemory>
+    requires few { count graph.now ≤ MAX_COUNT }
+    requires place { place < length (keys graph.now) }
+    ensures { IfOk result (AreReadingsAt graph.now place) }
+{
+    let (sources, readers) = graph.readings_of(place);
+    let mut readings = Vec::new(alloc);
+    for (index, reader) in readers.iter().enumerate() {
+        readings.push((*reader, sources[index]))?;
+    }
+    Ok(Groups::new(alloc, &readings)?)
+}
+
+/// Those of each key.
+pub(crate) fn readings_of(alloc: Global, graph: &Graph) -> Result<Vec<Groups>, NoMemory>
+    requires { count graph.now ≤ MAX_COUNT }
+    ensures { IfOk result (λ readings. AreReadings graph.now readings.items) }
+{
+    let mut readings = Vec::new(alloc);
+    for place in 0..graph.keys().len() {
+        let Ok(place) = u32::try_from(place) else {
+            return Err(NoMemory);
+        };
+        readings.push(readings_at(alloc, graph, place)?)?;
+    }
+    Ok(readings)
+}
+
+/// The least number of a row.
+pub(crate) fn least_of(row: &[u32]) -> u32
+    ensures { All (λ number. result ≤ number) row.now }
+{
+    let mut least = UNLINKED;
+    for number in row {
+        least = least.min(*number);
+    }
+    least
+}
+
+/// The least that the row has for one of these readers. None of its numbers is below the floor, so behind one that is as
+/// low none is looked at.
+fn least_for(readers: &[u16], row: &[u32], floor: u32) -> u32
+    requires readers { All (λ reader. reader < length row.now) readers.now }
+    requires floor { All (λ number. floor ≤ number) row.now }
+    ensures low { (c : ℕ) → Contains readers.now c → result ≤ slice_index row.now c }
+    ensures from { (result ≡ unlinked) ⊎ ((c : ℕ) × Contains readers.now c × (result ≡ slice_index row.now c)) }
+{
+    let mut least = UNLINKED;
+    for reader in readers {
+        least = least.min(row[*reader as usize]);
+        if least <= floor {
+            return least;
+        }
+    }
+    least
+}
+
+/// Lowers the weight of each source but `start` to the least that the row has for its readers.
+pub(crate) fn lower_readings(
+    weights: &mut [u32],
+    readings: &Groups,
+    row: &[u32],
+    floor: u32,
+    start: u32,
+)
+    requires sources { All (λ reading. reading.1 < length weights.old) readings.now }
+    requires readers { All (λ reading. reading.0 < length row.now) readings.now }
+    requires floor { All (λ number. floor ≤ number) row.now }
+    ensures { IsLowered (ReadingWeighs readings.now row.now start) weights.old weights.new }
+{
+    let (mut left, groups) = readings.parts();
+    for (source, count) in groups {
+        let (readers, later) = left.split_at(*count as usize);
+        if *source != start {
+            let least = least_for(readers, row, floor);
+            weights[*source as usize] = weights[*source as usize].min(least);
+        }
+        left = later;
+    }
+}

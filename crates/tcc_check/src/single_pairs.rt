@@ -1,0 +1,110 @@
+//! The axiom at `Atomic`, where a transaction reaches a reader by a single pair: of the reader's session the last writer
+//! before it is asked, and of the reader's sources what else they write.
+ghost use Rattle.std.specs.Prelude.{ℕ, ◌≡◌, ◌<◌, List, IfOk, IsTrue, length};
+ghost use Rattle.tcc_reads.specs.History.{count};
+ghost use Rattle.tcc_graph.specs.Keys.{keys};
+ghost use Rattle.tcc_graph.specs.declared.level.Level.TheVariants.{Atomic};
+ghost use Rattle.tcc_check.specs.Latest.{AreApart, AreReadsKept, AreRising, KeepsSessions};
+ghost use Rattle.tcc_check.specs.SinglePairs.{AreSourcePlaces, DoSessionsStand, DoSourcesStand, DoesSessionStand, DoesWriterStand};
+
+use crate::latest::stands_before;
+use std::alloc::Global;
+use tcc_graph::Graph;
+use tcc_txn::NoMemory;
+
+/// Stands for a key that is not read. No place in an order is above it.
+const UNREAD: u32 = u32::MAX;
+
+/// For each key the place in the order of whom `c` reads it from, or `UNREAD`.
+fn source_places(alloc: Global, graph: &Graph, places: &[u32], c: u32) -> Result<Vec<u32>, NoMemory>
+    requires places { length places.now ≡ count graph.now }
+    requires reader { c < count graph.now }
+    ensures long { IfOk result (λ sources. length sources.items ≡ length (keys graph.now)) }
+    ensures low { IfOk result (λ sources. AreSourcePlaces graph.now places.now c sources.items) }
+{
+    let mut sources = vec![in alloc; UNREAD; graph.keys().len()]?;
+    for (key, source) in graph.reads_at(c) {
+        let place = places[*source as usize];
+        sources[*key as usize] = sources[*key as usize].min(place);
+    }
+    Ok(sources)
+}
+
+/// Whether `b` stands behind none of these sources whose key it writes too.
+fn writer_stands(graph: &Graph, places: &[u32], sources: &[u32], b: u32) -> bool
+    requires places { length places.now ≡ count graph.now }
+    requires sources { length sources.now ≡ length (keys graph.now) }
+    requires writer { b < count graph.now }
+    ensures { IsTrue result → DoesWriterStand graph.now places.now sources.now b }
+{
+    for key in graph.writes_at(b) {
+        if sources[*key as usize] < places[b as usize] {
+            return false;
+        }
+    }
+    true
+}
+
+/// Whether no source of `c` stands behind another one whose key it writes too.
+fn sources_stand(alloc: Global, graph: &Graph, places: &[u32], c: u32) -> Result<bool, NoMemory>
+    requires places { length places.now ≡ count graph.now }
+    requires reader { c < count graph.now }
+    ensures { IfOk result (λ stand. IsTrue stand → DoSourcesStand graph.now places.now c) }
+{
+    let sources = source_places(alloc, graph, places, c)?;
+    for (_key, source) in graph.reads_at(c) {
+        if !writer_stands(graph, places, &sources, *source) {
+            return Ok(false);
+        }
+    }
+    Ok(true)
+}
+
+/// Whether none of these writers that stands before `c` in its session stands behind the source.
+fn session_stands(graph: &Graph, places: &[u32], writers: &[u32], source: u32, c: u32) -> bool
+    requires places { KeepsSessions graph.now places.now }
+    requires writers { AreRising graph.now writers.now }
+    requires source { source < count graph.now }
+    ensures { IsTrue result → DoesSessionStand graph.now places.now writers.now source c }
+{
+    let Some((session, place)) = graph.at(c) else {
+        return true;
+    };
+    if place == 0 {
+        return true;
+    }
+    stands_before(graph, places, writers, session, place - 1, source)
+}
+
+/// Whether none of its session stands behind what `c` reads, at a key that it writes too.
+fn sessions_stand(graph: &Graph, places: &[u32], c: u32) -> bool
+    requires places { KeepsSessions graph.now places.now }
+    requires reader { c < count graph.now }
+    ensures { IsTrue result → DoSessionsStand graph.now places.now c }
+{
+    for (key, source) in graph.reads_at(c) {
+        if !session_stands(graph, places, graph.writers_at(*key), *source, c) {
+            return false;
+        }
+    }
+    true
+}
+
+/// Whether the axiom is kept by all reads of `c`.
+pub(crate) fn are_reads_kept_by_pairs(
+    alloc: Global,
+    graph: &Graph,
+    places: &[u32],
+    c: u32,
+) -> Result<bool, NoMemory>
+    requires places { KeepsSessions graph.now places.now }
+    requires apart { AreApart places.now }
+    requires reader { c < count graph.now }
+    ensures { (clocks : List (List ℕ)) → IfOk result (λ kept. IsTrue kept → AreReadsKept graph.now Atomic places.now clocks c) }
+{
+    if !sessions_stand(graph, places, c) {
+        return Ok(false);
+    }
+    let stand = sources_stand(alloc, graph, places, c)?;
+    Ok(stand)
+}

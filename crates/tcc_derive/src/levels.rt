@@ -1,0 +1,112 @@
+//! The fewest steps to the readers of each transaction by the reads of one key, level by level: those that are read by
+//! readers at a distance, and by none that is nearer, have this distance.
+ghost use Rattle.std.specs.Prelude.{◌≡◌, ◌<◌, ◌≤◌, ◌+◌, ◌^◌, ◌⊎◌, ℕ, List, true, length, slice_index, All, Contains, OnOk};
+ghost use Rattle.tcc_near.specs.Bits.{is_marked, words_for};
+ghost use Rattle.tcc_near.specs.declared.distances.TheConstants.{NONE};
+ghost use Rattle.tcc_derive.specs.Lowering.{Lowers};
+ghost use Rattle.tcc_derive.specs.Sources.{AreSources, IsCovered, LowersEach, LowersUpTo};
+
+use crate::read::Read;
+use std::alloc::{AllocError, Global};
+use tcc_near::bits::{take_fresh, words_for};
+use tcc_near::{NONE, Row};
+use tcc_txn::NoMemory;
+
+/// One more than the most steps there are.
+pub(crate) fn levels_of(steps: &[u16]) -> u16
+    ensures { All (λ s. (s < result) ⊎ (s ≡ NONE)) steps.now }
+{
+    let mut levels = 0;
+    for count in steps {
+        if *count != NONE {
+            levels = (*count + 1).max(levels);
+        }
+    }
+    levels
+}
+
+/// Lowers the fewest steps to these to a distance.
+fn lower_each(nearest: &mut [u16], sources: &[u32], distance: u16)
+    requires { All (λ a. a < length nearest.old) sources.now }
+    ensures { LowersEach (Contains sources.now) distance nearest.old nearest.new }
+{
+    for source in sources {
+        let least = &mut nearest[*source as usize];
+        *least = (*least).min(distance);
+    }
+}
+
+/// Takes in from whom a reader at a distance reads; what was seen has no more steps than that.
+fn take_reader(
+    nearest: &mut [u16],
+    seen: &mut [u64],
+    fresh: &mut Vec<u32>,
+    row: &[u64],
+    distance: u16,
+) -> Result<(), AllocError>
+    requires same { length seen.old ≡ length row.now }
+    requires few { length row.now ≤ 2 ^ 20 }
+    requires inside { (a : ℕ) → is_marked row.now a ≡ true → a < length nearest.old }
+    requires covered { IsCovered seen.old nearest.old distance }
+    ensures same { length seen.new ≡ length seen.old }
+    ensures long { length nearest.new ≡ length nearest.old }
+    ensures lowered { OnOk result (LowersEach (λ a. is_marked row.now a ≡ true) distance nearest.old nearest.new) }
+    ensures covered { OnOk result (IsCovered seen.new nearest.new distance) }
+{
+    take_fresh(fresh, seen, row)?;
+    lower_each(nearest, fresh, distance);
+    Ok(())
+}
+
+/// Takes in the readers at a distance; those that are nearer were taken in before.
+fn take_level(
+    _reads: &[Read],
+    nearest: &mut [u16],
+    seen: &mut [u64],
+    fresh: &mut Vec<u32>,
+    rows: &[Row<u64>],
+    steps: &[u16],
+    distance: u16,
+) -> Result<(), AllocError>
+    requires sources { AreSources (length steps.now) _reads.now rows.now }
+    requires inside { All (λ r. r.source < length nearest.old) _reads.now }
+    requires few { length steps.now ≤ 2 ^ 20 }
+    requires same { length seen.old ≡ words_for (length steps.now) }
+    requires covered { IsCovered seen.old nearest.old distance }
+    ensures same { length seen.new ≡ length seen.old }
+    ensures long { length nearest.new ≡ length nearest.old }
+    ensures covered { OnOk result (IsCovered seen.new nearest.new distance) }
+    ensures lowered { (old : List ℕ) → LowersUpTo _reads.now steps.now distance 0 old nearest.old
+        → OnOk result (LowersUpTo _reads.now steps.now distance (length steps.now) old nearest.new) }
+{
+    for (reader, row) in rows.iter().enumerate() {
+        if steps[reader] == distance {
+            take_reader(nearest, seen, fresh, row.values(), distance)?;
+        }
+    }
+    Ok(())
+}
+
+/// Lowers the fewest steps to the readers of each transaction by the reads of one key, of which these are the rows of marks.
+pub(crate) fn lower_by_levels(
+    alloc: Global,
+    nearest: &mut [u16],
+    reads: &[Read],
+    rows: &[Row<u64>],
+    steps: &[u16],
+    levels: u16,
+) -> Result<(), NoMemory>
+    requires rows { AreSources (length steps.now) reads.now rows.now }
+    requires sources { All (λ r. r.source < length nearest.old) reads.now }
+    requires readers { All (λ r. r.reader < length steps.now) reads.now }
+    requires few { length steps.now ≤ 2 ^ 20 }
+    requires levels { All (λ s. (s < levels) ⊎ (s ≡ NONE)) steps.now }
+    ensures { OnOk result (Lowers reads.now steps.now nearest.old nearest.new) }
+{
+    let mut seen = vec![in alloc; 0; words_for(steps.len())]?;
+    let mut fresh = Vec::new(alloc);
+    for distance in 0..levels {
+        take_level(reads, nearest, &mut seen, &mut fresh, rows, steps, distance)?;
+    }
+    Ok(())
+}

@@ -1,0 +1,109 @@
+//! From whom each transaction reads a key, as rows of marks. They are kept of keys of which transactions read many values.
+ghost use Rattle.std.specs.Prelude.{◌≡◌, ◌<◌, ◌≤◌, ◌⊎◌, ◌↔◌, ℕ, true, length, All, Contains, IfOk};
+ghost use Rattle.tcc_near.specs.Bits.{is_marked, words_for};
+ghost use Rattle.tcc_derive.specs.Sources.{AreByReader, AreSources, HaveSources};
+
+use crate::bucket::empty_buckets;
+use crate::read::Read;
+use std::alloc::Global;
+use std::marker::Model;
+use tcc_near::Row;
+use tcc_near::bits::{mark_each, words_for};
+use tcc_txn::NoMemory;
+
+/// A key's rows of marks, one for each transaction: from whom it reads the key; or none at all.
+#[derive(Drop)]
+pub(crate) struct Sources {
+    rows: Vec<Row<u64>>,
+}
+
+impl Model for Sources {
+    ghost use Rattle.std.specs.Prelude.{ℕ, List};
+
+    ghost Value = { List (List ℕ) };
+
+    ghost view = { λ s. s.rows.items };
+}
+
+impl Sources {
+    /// These rows.
+    pub(crate) fn new(rows: Vec<Row<u64>>) -> Sources
+        ensures { result ≡ rows.items }
+    {
+        Sources { rows }
+    }
+
+    /// The rows, in order.
+    pub(crate) fn rows(&self) -> &[Row<u64>]
+        ensures { result.now ≡ self.now }
+    {
+        &self.rows
+    }
+}
+
+/// The sources of a key's reads, a bucket for each transaction that may read it.
+fn by_reader(alloc: Global, reads: &[Read], count: usize) -> Result<Vec<Row<u32>>, NoMemory>
+    requires { All (λ r. r.reader < count) reads.now }
+    ensures { IfOk result (λ rows. AreByReader count reads.now rows.items) }
+{
+    let mut rows = empty_buckets(alloc, count)?;
+    for read in reads {
+        rows[read.reader as usize].push(u32::from(read.source))?;
+    }
+    Ok(rows)
+}
+
+/// A row in which these are marked.
+fn marks_of(alloc: Global, numbers: &[u32], count: usize) -> Result<Row<u64>, NoMemory>
+    requires { All (λ number. number < count) numbers.now }
+    ensures wide { IfOk result (λ row. length row ≡ words_for count) }
+    ensures each { IfOk result (λ row. (a : ℕ) → (is_marked row a ≡ true) ↔ Contains numbers.now a) }
+{
+    let mut marks = vec![in alloc; 0; words_for(count)]?;
+    mark_each(&mut marks, numbers);
+    Ok(Row::new(marks))
+}
+
+/// The rows of marks of a key with these reads.
+fn sources_of(alloc: Global, reads: &[Read], count: usize) -> Result<Sources, NoMemory>
+    requires sources { All (λ r. r.source < count) reads.now }
+    requires readers { All (λ r. r.reader < count) reads.now }
+    ensures { IfOk result (AreSources count reads.now) }
+{
+    let buckets = by_reader(alloc, reads, count)?;
+    let mut rows = Vec::new(alloc);
+    for bucket in &buckets {
+        rows.push(marks_of(alloc, bucket.values(), count)?)?;
+    }
+    Ok(Sources::new(rows))
+}
+
+/// The same where it has more reads than half the words of all these rows, else none.
+fn sources_at(alloc: Global, reads: &[Read], count: usize) -> Result<Sources, NoMemory>
+    requires sources { All (λ r. r.source < count) reads.now }
+    requires readers { All (λ r. r.reader < count) reads.now }
+    ensures { IfOk result (λ rows. (length rows ≡ 0) ⊎ AreSources count reads.now rows) }
+{
+    if reads.len() / words_for(count) > count / 2 {
+        sources_of(alloc, reads, count)
+    } else {
+        Ok(Sources::new(Vec::new(alloc)))
+    }
+}
+
+/// The rows of marks of each key, none of one that has few reads.
+pub(crate) fn source_table(
+    alloc: Global,
+    reads: &[Row<Read>],
+    count: usize,
+) -> Result<Vec<Sources>, NoMemory>
+    requires sources { All (λ bucket. All (λ r. r.source < count) bucket) reads.now }
+    requires readers { All (λ bucket. All (λ r. r.reader < count) bucket) reads.now }
+    ensures { IfOk result (λ table. HaveSources count reads.now table.items) }
+{
+    let mut table = Vec::new(alloc);
+    for bucket in reads {
+        table.push(sources_at(alloc, bucket.values(), count)?)?;
+    }
+    Ok(table)
+}

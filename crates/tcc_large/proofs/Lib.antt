@@ -1,0 +1,2 @@
+-- Judged   links, one after the other: what is left to ask of them
+pub mod Judged

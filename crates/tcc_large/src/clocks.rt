@@ -1,0 +1,109 @@
+//! How far sessions reach, a block of them at a time.
+ghost use Rattle.std.specs.Prelude.{◌<◌, IfSome};
+ghost use Rattle.tcc_large.specs.declared.clocks.TheConstants.{WIDTH};
+
+use crate::asking::reads;
+use crate::sessions::Sessions;
+use std::alloc::Global;
+use tcc_graph::Graph;
+use tcc_txn::NoMemory;
+
+/// How many sessions a block has.
+pub(crate) const WIDTH: usize = 32;
+
+/// Of each session of a block the last number that is known of, 0 for none.
+pub(crate) type Clock = [u32; WIDTH];
+
+/// The clocks of all transactions, for a block of sessions.
+#[derive(Drop)]
+pub(crate) struct Clocks {
+    first: u32,
+    rows: Vec<Clock>,
+}
+
+/// Raises each number to the other's.
+pub(crate) fn raise(clock: &mut Clock, other: &Clock) {
+    for (session, last) in clock.iter_mut().enumerate() {
+        *last = other[session].max(*last);
+    }
+}
+
+impl Clocks {
+    /// The clocks for the sessions from this one on, worked out along an order in which pairs lead onward. A transaction
+    /// counts as known to itself.
+    pub(crate) fn of(
+        alloc: Global,
+        graph: &Graph,
+        sessions: &Sessions,
+        order: &[u32],
+        first: u32,
+    ) -> Result<Clocks, NoMemory> {
+        let rows = vec![in alloc; [0; WIDTH]; graph.count() as usize]?;
+        let mut clocks = Clocks { first, rows };
+        for number in order {
+            let clock = clocks.next(graph, sessions, *number);
+            if (*number as usize) < clocks.rows.len() {
+                clocks.rows[*number as usize] = clock;
+            }
+        }
+        Ok(clocks)
+    }
+
+    /// The clock of a transaction by those of the one before it in its session and of its sources.
+    fn next(&self, graph: &Graph, sessions: &Sessions, number: u32) -> Clock {
+        let mut clock = [0; WIDTH];
+        if let Some(previous) = sessions.previous(number) {
+            raise(&mut clock, &self.get(previous));
+        }
+        for (_key, source) in reads(graph, number) {
+            raise(&mut clock, &self.get(*source));
+        }
+        self.with_own(sessions, number, clock)
+    }
+
+    /// The clock with the transaction itself.
+    fn with_own(&self, sessions: &Sessions, number: u32, clock: Clock) -> Clock {
+        let mut clock = clock;
+        if let Some(own) = self.column(sessions, number) {
+            clock[own] = number;
+        }
+        clock
+    }
+
+    /// Where the block has the session of a transaction.
+    pub(crate) fn column(&self, sessions: &Sessions, number: u32) -> Option<usize>
+        ensures { IfSome result (λ column. column < WIDTH) }
+    {
+        let column = sessions.owner(number).checked_sub(self.first)? as usize;
+        if number > 0 && column < WIDTH {
+            Some(column)
+        } else {
+            None
+        }
+    }
+
+    /// The session at a place of the block.
+    pub(crate) fn session(&self, column: usize) -> Option<u32> {
+        let column = u32::try_from(column).ok()?;
+        self.first.checked_add(column)
+    }
+
+    /// The clock of a transaction.
+    pub(crate) fn get(&self, number: u32) -> Clock {
+        match self.rows.get(number as usize) {
+            Some(clock) => *clock,
+            None => [0; WIDTH],
+        }
+    }
+
+    /// The clock of a transaction, without itself.
+    pub(crate) fn before(&self, sessions: &Sessions, number: u32) -> Clock {
+        let mut clock = self.get(number);
+        if let Some(own) = self.column(sessions, number) {
+            if clock[own] == number {
+                clock[own] = number.saturating_sub(1);
+            }
+        }
+        clock
+    }
+}

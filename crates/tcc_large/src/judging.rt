@@ -1,0 +1,57 @@
+//! Whether links are a cycle of a history.
+ghost use Rattle.std.specs.Prelude.{◌≡◌, ◌↔◌, IsTrue};
+ghost use Rattle.tcc_graph.specs.Links.{link_from, link_to};
+ghost use Rattle.tcc_graph.specs.Routes.{LinksLead};
+ghost use Rattle.tcc_large.specs.Cycles.{AreCycle};
+
+use tcc_graph::{Graph, Level, Link};
+
+/// Where a link starts.
+pub(crate) fn from(link: &Link) -> u32
+    ensures { result ≡ link_from link.now }
+{
+    match link {
+        Link::Session { from, .. } => *from,
+        Link::Reads { from, .. } => *from,
+        Link::Derived { from, .. } => *from,
+    }
+}
+
+/// Where a link ends.
+fn to(link: &Link) -> u32
+    ensures { result ≡ link_to link.now }
+{
+    match link {
+        Link::Session { to, .. } => *to,
+        Link::Reads { to, .. } => *to,
+        Link::Derived { to, .. } => *to,
+    }
+}
+
+/// Whether the links, each one of the history at the level, lead from one transaction to the other.
+fn lead(graph: &Graph, level: Level, start: u32, end: u32, links: &[Link]) -> bool
+    ensures { IsTrue result ↔ LinksLead (record { history = graph.now; level = level }) start end links.now }
+{
+    let mut at = start;
+    for link in links {
+        if from(link) != at || !graph.is_link(level, link) {
+            return false;
+        }
+        at = to(link);
+    }
+    at == end
+}
+
+/// Whether the links are a cycle of the history at the level: each of them is a link with its reason, each begins where the
+/// one before it ends, and the last ends where the first begins.
+pub fn is_cycle(graph: &Graph, level: Level, links: &[Link]) -> bool
+    ensures { IsTrue result ↔ AreCycle (record { history = graph.now; level = level }) links.now }
+{
+    match links.first() {
+        Some(first) => {
+            let start = from(first);
+            lead(graph, level, start, start, links)
+        }
+        None => false,
+    }
+}

@@ -1,0 +1,12 @@
+use Rattle.std.proofs.Common.{◌≡◌, length}
+use Rattle.tcc_order.specs.Latest.{AreDerived, AreEnough, Overwrites}
+use Rattle.tcc_order.specs.declared.latest.TheConstants.{WIDE}
+use Rattle.tcc_order.proofs.Needing.{IsUpTo}
+use Rattle.tcc_order.proofs.keeping.keep_block.Given as goal
+
+abbrev pub invariant-loop-a : goal.invariant-loop-a
+invariant-loop-a l =
+    (length l.need.items ≡ WIDE)
+    × (length l.kept ≡ length l.initial.kept)
+    × AreDerived (Overwrites l.graph) l.kept
+    × AreEnough l.graph (Overwrites l.graph) (IsUpTo l.graph l.from l.a) l.kept

@@ -1,0 +1,37 @@
+-- For the private stages and their proofs alone: nobody has to believe what stands here.
+-- The transactions right before each one: in its session, and those that it reads from.
+use Rattle.std.specs.Prelude.{ℕ, ◌<◌, ◌-◌, ◌≡◌, ◌==◌, if◌then◌else◌, List, [], ◌∷◌, ◌++◌, length, map, All, slice_index}
+use Rattle.tcc_reads.specs.History.{History, count, entry_at}
+use Rattle.tcc_graph.specs.Relations.{session_pair}
+use Rattle.tcc_graph.specs.Levels.{Judged, IsAllowedWalk}
+use Rattle.tcc_graph.specs.declared.step.Step.{Step}
+
+-- the transaction before c in its session, or else `init`
+abbrev pub session_parent : History → ℕ → ℕ
+session_parent h c = if session_pair h (c - 1) c then c - 1 else 0
+
+-- a list of them, 0 for `init`
+pub record AreSessionParents (h : History) (parents : List ℕ) : Type 0 where
+  pub long : length parents ≡ count h
+  pub init : slice_index parents 0 ≡ 0
+  pub each : (c : ℕ) → 0 < c → c < count h → slice_index parents c ≡ session_parent h c
+
+-- and where that is one: none for `init`
+abbrev pub session_parents : History → ℕ → List ℕ
+session_parents h c = if c == 0 then [] else session_parent h c ∷ []
+
+-- the transactions that c reads from
+abbrev pub sources : History → ℕ → List ℕ
+sources h c = map (λ read. read.1) (entry_at h c).reads
+
+-- they are transactions of the history
+abbrev pub HasSourcesAt : History → ℕ → Type 0
+HasSourcesAt h c = All (λ read. read.1 < count h) (entry_at h c).reads
+
+-- the transactions of causal pairs into c from which all others of them reach c
+abbrev pub parents : History → ℕ → List ℕ
+parents h c = session_parents h c ++ sources h c
+
+-- a walk that the level allows leads from b to c
+abbrev pub IsAllowedFrom : Judged → ℕ → ℕ → Type 0
+IsAllowedFrom j b c = (walk : List Step) × IsAllowedWalk j b c walk

@@ -1,7 +1,0 @@
-use Rattle.std.proofs.Common.{◌≡◌, ◌++◌, drop, map}
-use Rattle.std.specs.FinMap as finite
-use Rattle.tcc_reads.proofs.numbering.session_names.Given as goal
-
-abbrev pub invariant-loop-session : goal.invariant-loop-session
-invariant-loop-session l =
-    l.names.items ++ map (λ named. named.0) (drop l.session (finite.entries l.snapshot)) ≡ map (λ named. named.0) (finite.entries l.snapshot)

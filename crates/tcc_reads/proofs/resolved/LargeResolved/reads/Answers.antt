@@ -1,0 +1,15 @@
+use Rattle.std.proofs.Common.{◌≡◌, ℕ, ◌<◌, List, length, All, ap, sym, ◌∙◌, subst, slice_index_or}
+use Rattle.tcc_reads.specs.History.{Entry, History, count}
+use Rattle.tcc_reads.proofs.resolved.LargeResolved.reads.Goals as goal
+
+pub returns-clause-sources : goal.returns-clause-sources
+returns-clause-sources c k d within =
+    let entries : List Entry = c.self.inside.nodes.items in
+    let InRange : History → Type 0 = λ h. c.args.t < count h in
+    let there : c.args.t < length entries = subst InRange (sym c.self.view_is) c.requires in
+    let same : (slice_index_or entries c.args.t c.index.result.now).reads ≡ c.deref.result.now
+    = ap (λ e. e.reads) (sym c.index.ensures ∙ sym c.behind-self.view_is) ∙ sym c.deref.ensures.value in
+    let AreBelow : List (List ℕ × ℕ) → Type 0 = λ reads. All (λ r. r.1 < length entries) reads in
+    let below : AreBelow c.deref.result.now = subst AreBelow same (c.self.invariant.sources c.args.t c.index.result.now there) in
+    let IsBelow : History → Type 0 = λ h. (slice_index_or c.deref.result.now k d).1 < count h in
+    subst IsBelow c.self.view_is (below k d within)

@@ -1,0 +1,102 @@
+//! What is decided of worked histories as of large ones, held against the first orders and against cycles that were worked out
+//! by hand.
+use crate::tests::histories::{
+    CHAIN, LONG_WALK, MUTUAL, ONE_READ, STALE_READ, TWO_WRITERS, graph_of,
+};
+use std::alloc::Global;
+use std::process::Abort;
+use tcc_graph::{Level, Link};
+use tcc_large::{Decision, decide, is_cycle};
+use tcc_order::order;
+
+/// A read of the initial value in one session, which knows of the writer in another by two sessions between.
+const FAR_INIT: &str = "a,begin\na,w,x,1\na,commit\na,begin\na,w,y,1\na,commit\n\
+    b,begin\nb,r,y,1\nb,commit\nb,begin\nb,w,z,1\nb,commit\n\
+    c,begin\nc,r,z,1\nc,commit\nc,begin\nc,r,x,0\nc,commit\n";
+
+/// a/1 and b/1 overwrite each other's x, as c/2 and d/2 saw it, and nobody reads an initial value.
+const CONFLICT: &str = "a,begin\na,w,x,1\na,commit\nb,begin\nb,w,x,2\nb,commit\n\
+    c,begin\nc,r,x,1\nc,commit\nc,begin\nc,r,x,2\nc,commit\n\
+    d,begin\nd,r,x,2\nd,commit\nd,begin\nd,r,x,1\nd,commit\n";
+
+/// Three sessions that read from one another in a circle, each in a transaction before the one that is read from.
+const PAIRS: &str = "a,begin\na,r,z,1\na,commit\na,begin\na,w,x,1\na,commit\n\
+    b,begin\nb,r,x,1\nb,commit\nb,begin\nb,w,y,1\nb,commit\n\
+    c,begin\nc,r,y,1\nc,commit\nc,begin\nc,w,z,1\nc,commit\n";
+
+/// How many derived links there are.
+fn derived(links: &[Link]) -> usize {
+    let mut count: usize = 0;
+    for link in links {
+        if matches!(link, Link::Derived { .. }) {
+            count = count.saturating_add(1);
+        }
+    }
+    count
+}
+
+/// What is decided of these records at a level has to be the first order where there is one, and else a cycle of so many
+/// links, so many of them derived.
+fn assert_decided(
+    rt: &impl Abort,
+    alloc: Global,
+    records: &str,
+    level: Level,
+    wanted: Option<(usize, usize)>,
+) {
+    let graph = graph_of(rt, alloc, records);
+    let decision = decide(alloc, &graph, level).expect(rt, "no memory");
+    let first = order(alloc, &graph, level).expect(rt, "no memory");
+    match decision {
+        Decision::Order(found) => {
+            assert!(rt; wanted.is_none(), "an order of {records}");
+            let first = first.expect(rt, records);
+            assert!(rt; found.as_slice() == first.as_slice(), "of {records}");
+        }
+        Decision::Cycle(links) => {
+            assert!(rt; first.is_none(), "a cycle of {records}");
+            assert!(rt; is_cycle(&graph, level, &links), "of {records}");
+            let found = (links.len(), derived(&links));
+            assert!(rt; Some(found) == wanted, "of {records}");
+        }
+        Decision::Inconsistent => panic!(rt; "no cycle found of {records}"),
+    }
+}
+
+/// Where there is an order it is the first. Else there is a cycle through `init`, one of pairs, or one in which two writers
+/// stand before each other; at `Atomic` only where a single pair leads from a writer to a reader of what it wrote.
+#[test]
+fn decisions(rt: HostRuntime) {
+    let alloc = rt.alloc();
+    let cases: [(&str, Option<(usize, usize)>, Option<(usize, usize)>); 10] = [
+        ("", None, None),
+        (ONE_READ, None, None),
+        (STALE_READ, Some((2, 1)), Some((2, 1))),
+        (TWO_WRITERS, Some((2, 2)), Some((2, 2))),
+        (LONG_WALK, Some((2, 1)), None),
+        (CHAIN, Some((2, 1)), None),
+        (FAR_INIT, Some((2, 1)), None),
+        (MUTUAL, Some((2, 0)), Some((2, 0))),
+        (CONFLICT, Some((2, 2)), None),
+        (PAIRS, Some((6, 0)), Some((6, 0))),
+    ];
+    for (records, causal, atomic) in cases {
+        assert_decided(&rt, alloc, records, Level::Causal, causal);
+        assert_decided(&rt, alloc, records, Level::Atomic, atomic);
+    }
+}
+
+/// No links are no cycle, nor are those of one without the last, nor those whose reason is another's.
+#[test]
+fn judged(rt: HostRuntime) {
+    let alloc = rt.alloc();
+    let graph = graph_of(&rt, alloc, PAIRS);
+    let Ok(Decision::Cycle(links)) = decide(alloc, &graph, Level::Causal) else {
+        panic!(&rt; "no cycle");
+    };
+    assert!(&rt; is_cycle(&graph, Level::Causal, &links));
+    assert!(&rt; !is_cycle(&graph, Level::Causal, &[]));
+    assert!(&rt; !is_cycle(&graph, Level::Causal, &links[1..]));
+    let other = graph_of(&rt, alloc, CHAIN);
+    assert!(&rt; !is_cycle(&other, Level::Causal, &links));
+}

@@ -1,0 +1,11 @@
+use Rattle.std.proofs.Common.{ap, ◌∙◌}
+use Rattle.tcc_txn.specs.Snapshots.{parts_of}
+use Rattle.tcc_txn.proofs.StoredSnapshot.{entries-parts, short-parts}
+use Rattle.tcc_txn.proofs.snapshot.Snapshot.parts.Goals as goal
+
+pub returns-clause-value : goal.returns-clause-value
+returns-clause-value c =
+    ap parts_of c.deref.ensures.value ∙ entries-parts c.self.inside.sessions.items c.args.self.now c.self.invariant c.self.view_is
+
+pub returns-clause-few_transactions : goal.returns-clause-few_transactions
+returns-clause-few_transactions c = short-parts c.self.inside.sessions.items c.args.self.now c.self.invariant c.self.view_is
