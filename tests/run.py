@@ -11,7 +11,7 @@ import subprocess
 import sys
 
 TOP = pathlib.Path(__file__).resolve().parent.parent
-ON_THE_PROGRAM = ("rows/run.py", "rows/run.py --workers 2", "rows/run.py --workers 32", "seals/run.py",
+ON_THE_PROGRAM = ("rows/run.py", "rows/run.py --workers 2", "rows/run.py --workers 32", "rows/numbers.py", "seals/run.py",
                   "certificates/run.py", "memory/run.py", "recipes/run.py", "docs/run.py")
 CLOSING = re.compile(r"(\d+) passed, (\d+) failed$")
 

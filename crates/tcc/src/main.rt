@@ -7,7 +7,7 @@ ghost use Rattle.std.specs.Prelude.{◌<◌, ◌≤◌};
 use std::io::Write;
 use std::process::ExitCode;
 use std::thread::Threads;
-use tcc_files::{Input, Telling, check_files, open_input, open_output, print_unopened};
+use tcc_files::{Input, Telling, check_opened, open_both, open_input, open_output, print_unopened};
 use tcc_run::{OpenGate, Options, Status, run_explain};
 use tcc_words::{Request, read};
 
@@ -59,7 +59,10 @@ fn main(rt: HostRuntime) -> ExitCode {
                 history,
                 certificate,
             },
-        ) => check_files(&rt, history.as_str(), certificate.as_str(), &mut out),
+        ) => {
+            let opened = open_both(&rt, history.as_str(), certificate.as_str());
+            check_opened(&rt, opened, &mut out)
+        }
         Err(code) => code,
     };
     if code == Status::Device.code() {

@@ -1,7 +1,7 @@
 -- Who reads each key, as it is noted, and what a row has for the readers of each source.
-use Rattle.std.proofs.Common.{◌≡◌, ◌≢◌, ◌<◌, ◌≤◌, ◌+◌, ◌-◌, ℕ, true, eqb, ◌⊎◌, inl, inr, List, [], ◌∷◌, ◌++◌, length, get_or}
+use Rattle.std.proofs.Common.{◌≡◌, ◌≢◌, ◌<◌, ◌≤◌, ◌+◌, ◌-◌, ℕ, true, eqb, ◌⊎◌, inl, inr, List, [], ◌∷◌, ◌++◌, length, get_or, Option, None}
 use Rattle.std.proofs.Common.{set, min, take, drop, arith, refl, sym, ap, subst, ◌∙◌}
-use Rattle.std.specs.Prelude.{All, map}
+use Rattle.std.specs.Prelude.{All, IfSome, map}
 use Rattle.std.specs.List.{Contains, zip}
 use Rattle.std.proofs.lemmas.Bool.{cases_eq, cases_lt, or_cases, or_right, eqb-true}
 use Rattle.std.proofs.lemmas.List.{get_or_append_left, get_or_default, get_or_push, length_push}
@@ -10,10 +10,11 @@ use Rattle.tcc_graph.specs.Keys.{has_name, key_at, keys}
 use Rattle.tcc_graph.specs.Relations.{IsReadsPair}
 use Rattle.tcc_graph.proofs.NameLemmas.{has_name-contains, contains-has_name}
 use Rattle.tcc_check.specs.Groups.{AreGroupsOf, links_by, total}
-use Rattle.tcc_check.specs.Readings.{AreReadings, AreReadingsAt, AreReadingsTo, PlaceWeighs, ReadingWeighs, readings_at}
+use Rattle.tcc_check.specs.Readings.{AreReadingsAt, AreReadingsTo, KeyWeighs, PairWeighs, PlaceWeighs, ReadingWeighs, readings_at}
 use Rattle.tcc_check.specs.Weights.{IsLowered, unlinked}
 use Rattle.tcc_check.specs.WeightsFrom.{ContradictsBy, SourceWeighs}
 use Rattle.tcc_check.proofs.LinksFrom.{seconds-by, zip-at, zip-from}
+use Rattle.tcc_check.proofs.LinksFrom.{one-lowered}
 use Rattle.tcc_check.proofs.Lowering.{lowered_none, lowered_as, lowered_then, lowered_one}
 use Rattle.tcc_check.proofs.Overshot.{at_run, group_begins, group_weight, run_long}
 use Rattle.tcc_check.proofs.Sessions.{from_map, in_map}
@@ -86,33 +87,19 @@ module _ (sources readers : List ℕ) where
 pub no-readings : (h : History) → AreReadingsTo 0 h []
 no-readings h = record { long = refl; rows = λ place l. absurd (omega (arith, l)) }
 
-pub more-readings : (i : ℕ) (h : History) (readings : List (List (ℕ × ℕ))) (more : List (ℕ × ℕ)) → AreReadingsAt h i more → AreReadingsTo i h readings
-    → AreReadingsTo (i + 1) h (readings ++ more ∷ [])
+pub more-readings : (i : ℕ) (h : History) (readings : List (Option (List (ℕ × ℕ)))) (more : Option (List (ℕ × ℕ))) → IfSome more (AreReadingsAt h i)
+    → AreReadingsTo i h readings → AreReadingsTo (i + 1) h (readings ++ more ∷ [])
 more-readings i h readings more here before = record {
   long = length_push readings more ∙ ap (λ k. k + 1) before.long;
   rows = λ place l. rows place l (cases_eq place i);
 }
   where
-    rows : (place : ℕ) → place < i + 1 → (place ≡ i) ⊎ (place ≡ i → ⊥) → AreReadingsAt h place (readings_at (readings ++ more ∷ []) place)
+    rows : (place : ℕ) → place < i + 1 → (place ≡ i) ⊎ (place ≡ i → ⊥) → IfSome (readings_at (readings ++ more ∷ []) place) (AreReadingsAt h place)
     rows place l (inl same) =
-        rw (get_or_push readings more [] place (before.long ∙ sym same)) (subst (λ (z : ℕ). AreReadingsAt h z more) (sym same) here)
+        rw (get_or_push readings more None place (before.long ∙ sym same)) (subst (λ (z : ℕ). IfSome more (AreReadingsAt h z)) (sym same) here)
     rows place l (inr apart) =
         let inside : place < length readings = omega (arith, l, apart, before.long) in
-        rw (get_or_append_left readings (more ∷ []) [] place inside) (before.rows place (omega (arith, l, apart)))
-
-module _ (h : History) (readings : List (List (ℕ × ℕ))) (are : AreReadings h readings) where
-  pair-at : (k j : ℕ) (d : List (ℕ × ℕ)) (e : ℕ × ℕ) → k < length readings → j < length (get_or readings k d)
-      → IsReadsPair h (get_or (get_or readings k d) j e).1 (get_or (get_or readings k d) j e).0 (key_at h k)
-  pair-at k j d e l m =
-      let same : get_or readings k d ≡ readings_at readings k = get_or_default readings k d [] l in
-      (are.rows k (omega (arith, l, are.long))).each _ _ (subst (λ (z : List (ℕ × ℕ)). Contains z (get_or (get_or readings k d) j e)) same
-      (j, m, get_or_default (get_or readings k d) j _ e m))
-
-  pub sources-below : (n : ℕ) → n ≡ count h → All (λ there. All (λ (reading : ℕ × ℕ). reading.1 < n) there) readings
-  sources-below n is k d l j e m = omega (arith, is, (pair-at k j d e l m).0)
-
-  pub readers-below : (n : ℕ) → n ≡ count h → All (λ there. All (λ (reading : ℕ × ℕ). reading.0 < n) there) readings
-  readers-below n is k d l j e m = omega (arith, is, (pair-at k j d e l m).1)
+        rw (get_or_append_left readings (more ∷ []) None place inside) (before.rows place (omega (arith, l, apart)))
 
 -- ---- the least for readers
 
@@ -333,76 +320,146 @@ group-source groups members are i n inside below =
       group_weight groups members are i inside,
     )
 
--- ---- the keys that are written
+-- ---- the readings of a key, one after the other
 
-abbrev pub SeenPlace : ℕ → List (List (ℕ × ℕ)) → List ℕ → List ℕ → ℕ → ℕ → ℕ → Type 0
-SeenPlace i readings places row u v w = (j : ℕ) × (j < i) × ReadingWeighs (readings_at readings (get_or places j 0)) row u v w
+abbrev pub SeenPair : ℕ → List ℕ → List ℕ → List ℕ → ℕ → ℕ → ℕ → Type 0
+SeenPair i sources readers row u v w =
+    (k : ℕ) × (k < i) × (get_or sources k 0 ≡ v) × (v ≢ u) × (w ≡ get_or row (get_or readers k 0) 0)
 
-module _ (readings : List (List (ℕ × ℕ))) (places row : List ℕ) (u : ℕ) (old new : List ℕ) where
-  pub no-place : IsLowered (SeenPlace 0 readings places row u) old old
+module _ (sources readers row : List ℕ) (u : ℕ) (old new : List ℕ) where
+  pub no-pair : IsLowered (SeenPair 0 sources readers row u) old old
+  no-pair = lowered_none _ old (λ v w s. absurd (omega (arith, s.1)))
+
+  cases : (i v w : ℕ) → SeenPair (i + 1) sources readers row u v w
+      → SeenPair i sources readers row u v w ⊎ ((get_or sources i 0 ≡ v) × (v ≢ u) × (w ≡ get_or row (get_or readers i 0) 0))
+  cases i v w (k, l, is, apart, has) = go (cases_eq k i)
+    where
+      go : (k ≡ i) ⊎ (k ≡ i → ⊥) → SeenPair i sources readers row u v w ⊎ ((get_or sources i 0 ≡ v) × (v ≢ u) × (w ≡ get_or row (get_or readers i 0) 0))
+      go (inl same) = inr (subst (λ (z : ℕ). get_or sources z 0 ≡ v) same is, apart, subst (λ (z : ℕ). w ≡ get_or row (get_or readers z 0) 0) same has)
+      go (inr other) = inl (k, omega (arith, l, other), is, apart, has)
+
+  pub pair-skipped : (i : ℕ) → get_or sources i 0 ≡ u → IsLowered (SeenPair i sources readers row u) old new
+      → IsLowered (SeenPair (i + 1) sources readers row u) old new
+  pair-skipped i same lowered = lowered_as _ _ old new (λ v w s. (s.0, omega (arith, s.1), s.2, s.3, s.4)) (λ v w s. back v w (cases i v w s)) lowered
+    where
+      back : (v w : ℕ) → SeenPair i sources readers row u v w ⊎ ((get_or sources i 0 ≡ v) × (v ≢ u) × (w ≡ get_or row (get_or readers i 0) 0))
+          → SeenPair i sources readers row u v w
+      back v w (inl s) = s
+      back v w (inr (is, apart, has)) = absurd (apart (sym is ∙ same))
+
+  pub pair-lowered : (i a n : ℕ) → get_or sources i 0 ≡ a → a ≢ u → n ≡ get_or row (get_or readers i 0) 0 → a < length new
+      → IsLowered (SeenPair i sources readers row u) old new → IsLowered (SeenPair (i + 1) sources readers row u) old (set new a (min (get_or new a 0) n))
+  pair-lowered i a n is apart has below lowered =
+      one-lowered (SeenPair i sources readers row u) (SeenPair (i + 1) sources readers row u) old new lowered a n below to
+      (λ v w s. back v w (cases i v w s))
+    where
+      to : (v w : ℕ) → SeenPair i sources readers row u v w ⊎ ((v ≡ a) × (w ≡ n)) → SeenPair (i + 1) sources readers row u v w
+      to v w (inl s) = (s.0, omega (arith, s.1), s.2, s.3, s.4)
+      to v w (inr s) = (i, omega arith, is ∙ sym s.0, (λ e. apart (sym s.0 ∙ e)), s.1 ∙ has)
+
+      back : (v w : ℕ) → SeenPair i sources readers row u v w ⊎ ((get_or sources i 0 ≡ v) × (v ≢ u) × (w ≡ get_or row (get_or readers i 0) 0))
+          → SeenPair i sources readers row u v w ⊎ ((v ≡ a) × (w ≡ n))
+      back v w (inl s) = inl s
+      back v w (inr (here, other, number)) = inr (sym here ∙ is, number ∙ sym has)
+
+  pub all-pairs : (i : ℕ) → i ≡ length sources → IsLowered (SeenPair i sources readers row u) old new
+      → IsLowered (PairWeighs sources readers row u) old new
+  all-pairs i all lowered = subst (λ (z : ℕ). IsLowered (SeenPair z sources readers row u) old new) all lowered
+
+-- ---- places of keys
+
+-- the readings of a key are those of the list
+pub pairs-there : (h : History) (row : List ℕ) (u k : ℕ) (sources readers old new : List ℕ) → length sources ≡ length readers
+    → ((a c : ℕ) → Contains (zip sources readers) (a, c) → IsReadsPair h a c (key_at h k))
+    → ((a c : ℕ) → IsReadsPair h a c (key_at h k) → Contains (zip sources readers) (a, c))
+    → IsLowered (PairWeighs sources readers row u) old new → IsLowered (KeyWeighs h row u k) old new
+pairs-there h row u k sources readers old new long to back = lowered_as _ _ old new there here
+  where
+    there : (v w : ℕ) → PairWeighs sources readers row u v w → KeyWeighs h row u k v w
+    there v w (j, l, is, apart, has) =
+        let inside : j < length readers = omega (arith, l, long) in (
+          get_or readers j 0,
+          to v (get_or readers j 0) (zip-at sources readers long j v (get_or readers j 0) l (get_or_default sources j v 0 l ∙ is)
+              (get_or_default readers j _ 0 inside)),
+          apart,
+          has,
+        )
+
+    here : (v w : ℕ) → KeyWeighs h row u k v w → PairWeighs sources readers row u v w
+    here v w (c, reads, apart, has) =
+        let at = zip-from sources readers long v c (back v c reads) in (
+          at.0,
+          at.1,
+          get_or_default sources at.0 0 v at.1 ∙ at.2,
+          apart,
+          has
+              ∙ ap (λ z. get_or row z 0) (sym (get_or_default readers at.0 0 c (omega (arith, at.1, long)) ∙ at.3)),
+        )
+
+abbrev pub SeenPlace : ℕ → History → List ℕ → List ℕ → ℕ → ℕ → ℕ → Type 0
+SeenPlace i h places row u v w = (j : ℕ) × (j < i) × KeyWeighs h row u (get_or places j 0) v w
+
+module _ (h : History) (places row : List ℕ) (u : ℕ) (old new : List ℕ) where
+  pub no-place : IsLowered (SeenPlace 0 h places row u) old old
   no-place = lowered_none _ old (λ v w s. absurd (omega (arith, s.1)))
 
-  pub one-place : (i : ℕ) (there : List (ℕ × ℕ)) (newer : List ℕ) → there ≡ readings_at readings (get_or places i 0)
-      → IsLowered (SeenPlace i readings places row u) old new → IsLowered (ReadingWeighs there row u) new newer
-      → IsLowered (SeenPlace (i + 1) readings places row u) old newer
-  one-place i there newer is before more = lowered_as _ _ old newer to (λ v w s. back v w s (cases_eq s.0 i)) (lowered_then _ _ old new newer before more)
+  pub one-place : (i k : ℕ) (newer : List ℕ) → get_or places i 0 ≡ k → IsLowered (SeenPlace i h places row u) old new
+      → IsLowered (KeyWeighs h row u k) new newer → IsLowered (SeenPlace (i + 1) h places row u) old newer
+  one-place i k newer is before more = lowered_as _ _ old newer to (λ v w s. back v w s (cases_eq s.0 i)) (lowered_then _ _ old new newer before more)
     where
-      to : (v w : ℕ) → SeenPlace i readings places row u v w ⊎ ReadingWeighs there row u v w → SeenPlace (i + 1) readings places row u v w
+      to : (v w : ℕ) → SeenPlace i h places row u v w ⊎ KeyWeighs h row u k v w → SeenPlace (i + 1) h places row u v w
       to v w (inl s) = (s.0, omega (arith, s.1), s.2)
-      to v w (inr s) = (i, omega arith, subst (λ (z : List (ℕ × ℕ)). ReadingWeighs z row u v w) is s)
+      to v w (inr s) = (i, omega arith, subst (λ (z : ℕ). KeyWeighs h row u z v w) (sym is) s)
 
-      back : (v w : ℕ) (s : SeenPlace (i + 1) readings places row u v w) → (s.0 ≡ i) ⊎ (s.0 ≡ i → ⊥)
-          → SeenPlace i readings places row u v w ⊎ ReadingWeighs there row u v w
-      back v w s (inl same) =
-          inr (subst (λ (z : List (ℕ × ℕ)). ReadingWeighs z row u v w) (ap (λ z. readings_at readings (get_or places z 0)) same ∙ sym is) s.2)
+      back : (v w : ℕ) (s : SeenPlace (i + 1) h places row u v w) → (s.0 ≡ i) ⊎ (s.0 ≡ i → ⊥) → SeenPlace i h places row u v w ⊎ KeyWeighs h row u k v w
+      back v w s (inl same) = inr (subst (λ (z : ℕ). KeyWeighs h row u z v w) (ap (λ z. get_or places z 0) same ∙ is) s.2)
       back v w s (inr apart) = inl (s.0, omega (arith, s.1, apart), s.2)
 
-  pub all-places : (i : ℕ) → i ≡ length places → IsLowered (SeenPlace i readings places row u) old new → IsLowered (PlaceWeighs readings places row u) old new
+  pub all-places : (i : ℕ) → i ≡ length places → IsLowered (SeenPlace i h places row u) old new → IsLowered (PlaceWeighs h places row u) old new
   all-places i all lowered = lowered_as _ _ old new
       (λ v w s. (get_or places s.0 0, (s.0, omega (arith, s.1, all), get_or_default places s.0 _ 0 (omega (arith, s.1, all))), s.2))
       (λ v w s. (
         s.1.0,
         omega (arith, s.1.1, all),
-        subst (λ (z : ℕ). ReadingWeighs (readings_at readings z) row u v w) (sym (get_or_default places s.1.0 0 s.0 s.1.1 ∙ s.1.2)) s.2,
+        subst (λ (z : ℕ). KeyWeighs h row u z v w) (sym (get_or_default places s.1.0 0 s.0 s.1.1 ∙ s.1.2)) s.2,
       ))
       lowered
 
   -- the places of the keys that u writes
-  module _ (h : History) (other : u ≡ 0 → ⊥) (below : u < count h) (within : All (λ place. place < length (keys h)) places)
-      (are : map (key_at h) places ≡ (entry_at h u).writes) (all : AreReadings h readings) where
-    inside : (k : ℕ) → Contains places k → k < length (keys h)
-    inside k (j, l, e) = subst (λ (z : ℕ). z < length (keys h)) e (within j k l)
+  pub places-written : (u ≡ 0 → ⊥) → u < count h → map (key_at h) places ≡ (entry_at h u).writes → IsLowered (PlaceWeighs h places row u) old new
+      → IsLowered (ContradictsBy h row u) old new
+  places-written other below are lowered = lowered_as _ _ old new to back lowered
+    where
+      to : (v w : ℕ) → PlaceWeighs h places row u v w → ContradictsBy h row u v w
+      to v w (k, there, weighs) =
+          let named : Contains (entry_at h u).writes (key_at h k) =
+          subst (λ (names : List (List ℕ)). Contains names (key_at h k)) are (in_map (key_at h) places k there) in
+          let writer = or_right _ _ (contains-has_name (entry_at h u).writes (key_at h k) named) in
+          (key_at h k, weighs.0, ((λ e. weighs.2 (sym e)), weighs.1, (below, writer)), weighs.3)
 
-    pub places-written : IsLowered (PlaceWeighs readings places row u) old new → IsLowered (ContradictsBy h row u) old new
-    places-written lowered = lowered_as _ _ old new to back lowered
-      where
-        to : (v w : ℕ) → PlaceWeighs readings places row u v w → ContradictsBy h row u v w
-        to v w (k, there, weighs) =
-            let named : Contains (entry_at h u).writes (key_at h k) =
-            subst (λ (names : List (List ℕ)). Contains names (key_at h k)) are (in_map (key_at h) places k there) in (
-              key_at h k,
-              weighs.1,
-              (
-                (λ e. weighs.0 (sym e)),
-                (all.rows k (inside k there)).each v weighs.1 weighs.2,
-                (below, or_right _ _ (contains-has_name (entry_at h u).writes (key_at h k) named)),
-              ),
-              weighs.3,
-            )
+      back : (v w : ℕ) → ContradictsBy h row u v w → PlaceWeighs h places row u v w
+      back v w (x, c, (apart, reads, (inside, writer)), has) =
+          let at = from_map (key_at h) places x (subst (λ (names : List (List ℕ)). Contains names x) (sym are) (named (or_cases _ _ writer))) in
+          (at.0, at.1, (c, subst (λ (z : List ℕ). IsReadsPair h v c z) (sym at.2) reads, (λ e. apart (sym e)), has))
+        where
+          named : (eqb u 0 ≡ true) ⊎ (has_name (entry_at h u).writes x ≡ true) → Contains (entry_at h u).writes x
+          named (inl zeroth) = absurd (other (eqb-true u 0 zeroth))
+          named (inr e) = has_name-contains (entry_at h u).writes x e
 
-        back : (v w : ℕ) → ContradictsBy h row u v w → PlaceWeighs readings places row u v w
-        back v w (x, c, (apart, reads, (low, writer)), has) =
-            let at = from_map (key_at h) places x (subst (λ (names : List (List ℕ)). Contains names x) (sym are) (named (or_cases _ _ writer))) in (
-              at.0,
-              at.1,
-              (
-                (λ e. apart (sym e)),
-                c,
-                (all.rows at.0 (inside at.0 at.1)).all v c (subst (λ (z : List ℕ). IsReadsPair h v c z) (sym at.2) reads),
-                has,
-              ),
-            )
-          where
-            named : (eqb u 0 ≡ true) ⊎ (has_name (entry_at h u).writes x ≡ true) → Contains (entry_at h u).writes x
-            named (inl zeroth) = absurd (other (eqb-true u 0 zeroth))
-            named (inr e) = has_name-contains (entry_at h u).writes x e
+-- the readings in groups are those of the key
+pub groups-there : (h : History) (row : List ℕ) (u k : ℕ) (readings : List (ℕ × ℕ)) (old new : List ℕ) → AreReadingsAt h k readings
+    → IsLowered (ReadingWeighs readings row u) old new → IsLowered (KeyWeighs h row u k) old new
+groups-there h row u k readings old new are = lowered_as (ReadingWeighs readings row u) (KeyWeighs h row u k) old new
+    (λ v w s. (s.1, are.each v s.1 s.2, s.0, s.3))
+    (λ v w s. (s.2, s.0, are.all v s.0 s.1, s.3))
+
+-- the ends of readings are transactions
+module _ (h : History) (place : ℕ) (readings : List (ℕ × ℕ)) (are : AreReadingsAt h place readings) where
+  pair-at : (j : ℕ) (e : ℕ × ℕ) → j < length readings → IsReadsPair h (get_or readings j e).1 (get_or readings j e).0 (key_at h place)
+  pair-at j e m = are.each _ _ (j, m, get_or_default readings j _ e m)
+
+  pub sources-below : (n : ℕ) → n ≡ count h → All (λ (reading : ℕ × ℕ). reading.1 < n) readings
+  sources-below n is j e m = omega (arith, is, (pair-at j e m).0)
+
+  pub readers-below : (n : ℕ) → n ≡ count h → All (λ (reading : ℕ × ℕ). reading.0 < n) readings
+  readers-below n is j e m = omega (arith, is, (pair-at j e m).1)

@@ -66,6 +66,11 @@ impl Groups {
         Ok(Groups { members, groups })
     }
 
+    /// Whether a group has so many on average.
+    pub(crate) fn are_wide(&self, many: usize) -> bool {
+        self.groups.len() < self.members.len() / many.max(1)
+    }
+
     /// The transactions, and the groups that they are in.
     pub(crate) fn parts(&self) -> (&[u16], &[(u32, u32)])
         ensures all { links_by result.1.now result.0.now ≡ self.now }

@@ -3,6 +3,7 @@
 ghost use Rattle.std.specs.Prelude.{ℕ, ◌≡◌, ◌<◌, ◌≤◌, ◌^◌, ◌↔◌, All, IfOk, length, replicate, slice_index};
 ghost use Rattle.tcc_txn.specs.declared.limits.TheConstants.{MAX_COUNT};
 ghost use Rattle.tcc_reads.specs.History.{count};
+ghost use Rattle.tcc_graph.specs.Keys.{keys};
 ghost use Rattle.tcc_graph.specs.Relations.{IsCausalPair};
 ghost use Rattle.tcc_check.specs.Readings.{AreReadings, PlaceWeighs};
 ghost use Rattle.tcc_check.specs.Weights.{IsLeastRow, IsLowered, unlinked};
@@ -10,7 +11,7 @@ ghost use Rattle.tcc_check.specs.WeightsFrom.{AreAllEnds, AreEnds, AreLightEnds,
 ghost use Rattle.tcc_check.specs.WeightsFrom.{InitContradictsBy, MarkWeighs, ReadWeighs, SourceWeighs, WeighsFrom};
 
 use crate::groups::Groups;
-use crate::readings::{least_of, lower_readings};
+use crate::readings::{least_of, lower_place};
 use std::alloc::Global;
 use tcc_graph::Graph;
 use tcc_txn::NoMemory;
@@ -72,20 +73,22 @@ pub(crate) fn pair_weights(alloc: Global, graph: &Graph, start: u32) -> Result<V
 /// Lowers the weights of the sources of these keys, but that of `start`, to what the row has for who reads them there.
 fn lower_places(
     weights: &mut [u32],
-    readings: &[Groups],
+    graph: &Graph,
+    readings: &[Option<Groups>],
     places: &[u32],
     row: &[u32],
-    floor: u32,
     start: u32,
 )
-    requires places { All (λ place. place < length readings.now) places.now }
-    requires sources { All (λ there. All (λ reading. reading.1 < length weights.old) there) readings.now }
-    requires readers { All (λ there. All (λ reading. reading.0 < length row.now) there) readings.now }
-    requires floor { All (λ number. floor ≤ number) row.now }
-    ensures { IsLowered (PlaceWeighs readings.now places.now row.now start) weights.old weights.new }
+    requires weights { length weights.old ≡ count graph.now }
+    requires readings { AreReadings graph.now readings.now }
+    requires places { All (λ place. place < length (keys graph.now)) places.now }
+    requires row { length row.now ≡ count graph.now }
+    ensures { IsLowered (PlaceWeighs graph.now places.now row.now start) weights.old weights.new }
 {
+    let floor = least_of(row);
     for place in places {
-        lower_readings(weights, &readings[*place as usize], row, floor, start);
+        let there = &readings[*place as usize];
+        lower_place(weights, graph, there, *place, row, floor, start);
     }
 }
 
@@ -116,7 +119,7 @@ fn lower_sources(weights: &mut [u32], graph: &Graph, row: &[u32])
 fn lower_contradicted(
     weights: &mut [u32],
     graph: &Graph,
-    readings: &[Groups],
+    readings: &[Option<Groups>],
     row: &[u32],
     start: u32,
 )
@@ -130,7 +133,7 @@ fn lower_contradicted(
         lower_sources(weights, graph, row);
     } else {
         let places = graph.writes_at(start);
-        lower_places(weights, readings, places, row, least_of(row), start);
+        lower_places(weights, graph, readings, places, row, start);
     }
 }
 
@@ -138,7 +141,7 @@ fn lower_contradicted(
 pub(crate) fn contradicted_weights(
     alloc: Global,
     graph: &Graph,
-    readings: &[Groups],
+    readings: &[Option<Groups>],
     row: &[u32],
     start: u32,
 ) -> Result<Vec<u32>, NoMemory>
@@ -172,7 +175,7 @@ fn light_ends(alloc: Global, weights: &[u32], least: u32) -> Result<Groups, NoMe
 pub(crate) fn link_ends(
     alloc: Global,
     graph: &Graph,
-    readings: &[Groups],
+    readings: &[Option<Groups>],
     row: &[u32],
     start: u32,
     least: u32,

@@ -192,7 +192,7 @@ fn broken_by(
     alloc: Global,
     graph: &Graph,
     level: Level,
-    readings: &[Groups],
+    readings: &[Option<Groups>],
     places: &[u32],
     clocks: &[Numbers],
     b: u32,

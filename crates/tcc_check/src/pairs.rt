@@ -15,7 +15,7 @@ use tcc_txn::NoMemory;
 pub(crate) struct Pairs {
     pub(crate) begins: Vec<u32>,
     pub(crate) reads: Vec<Groups>,
-    pub(crate) readings: Vec<Groups>,
+    pub(crate) readings: Vec<Option<Groups>>,
 }
 
 /// Those of a history, where costs below `least` are asked of.

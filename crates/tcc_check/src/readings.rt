@@ -1,10 +1,10 @@
 //! Who reads each key, in groups of one source, and what a row has for the readers of a source.
-ghost use Rattle.std.specs.Prelude.{◌≡◌, ◌<◌, ◌≤◌, All, Contains, IfOk, length, slice_index};
+ghost use Rattle.std.specs.Prelude.{◌≡◌, ◌<◌, ◌≤◌, All, Contains, IfOk, IfSome, length, slice_index};
 ghost use Rattle.std.specs.Prelude.{ℕ, ◌⊎◌};
 ghost use Rattle.tcc_txn.specs.declared.limits.TheConstants.{MAX_COUNT};
 ghost use Rattle.tcc_reads.specs.History.{count};
 ghost use Rattle.tcc_graph.specs.Keys.{keys};
-ghost use Rattle.tcc_check.specs.Readings.{AreReadings, AreReadingsAt, ReadingWeighs};
+ghost use Rattle.tcc_check.specs.Readings.{AreReadings, AreReadingsAt, KeyWeighs, PairWeighs, ReadingWeighs};
 ghost use Rattle.tcc_check.specs.Weights.{IsLowered, unlinked};
 
 use crate::groups::Groups;
@@ -13,22 +13,29 @@ use std::alloc::Global;
 use tcc_graph::Graph;
 use tcc_txn::NoMemory;
 
-/// Who reads the key at a place, each with the source.
-fn readings_at(alloc: Global, graph: &Graph, place: u32) -> Result<Groups, NoMemory>
+/// A source that has fewer readers is looked up for each of them.
+const READERS_GROUPED: usize = 4;
+
+/// Who reads the key at a place, each with the source, where the sources have many readers.
+fn readings_at(alloc: Global, graph: &Graph, place: u32) -> Result<Option<Groups>, NoMemory>
     requires few { count graph.now ≤ MAX_COUNT }
     requires place { place < length (keys graph.now) }
-    ensures { IfOk result (AreReadingsAt graph.now place) }
+    ensures { IfOk result (λ found. IfSome found (AreReadingsAt graph.now place)) }
 {
     let (sources, readers) = graph.readings_of(place);
     let mut readings = Vec::new(alloc);
     for (index, reader) in readers.iter().enumerate() {
         readings.push((*reader, sources[index]))?;
     }
-    Ok(Groups::new(alloc, &readings)?)
+    let groups = Groups::new(alloc, &readings)?;
+    if !groups.are_wide(READERS_GROUPED) {
+        return Ok(None);
+    }
+    Ok(Some(groups))
 }
 
 /// Those of each key.
-pub(crate) fn readings_of(alloc: Global, graph: &Graph) -> Result<Vec<Groups>, NoMemory>
+pub(crate) fn readings_of(alloc: Global, graph: &Graph) -> Result<Vec<Option<Groups>>, NoMemory>
     requires { count graph.now ≤ MAX_COUNT }
     ensures { IfOk result (λ readings. AreReadings graph.now readings.items) }
 {
@@ -72,13 +79,7 @@ fn least_for(readers: &[u16], row: &[u32], floor: u32) -> u32
 }
 
 /// Lowers the weight of each source but `start` to the least that the row has for its readers.
-pub(crate) fn lower_readings(
-    weights: &mut [u32],
-    readings: &Groups,
-    row: &[u32],
-    floor: u32,
-    start: u32,
-)
+fn lower_readings(weights: &mut [u32], readings: &Groups, row: &[u32], floor: u32, start: u32)
     requires sources { All (λ reading. reading.1 < length weights.old) readings.now }
     requires readers { All (λ reading. reading.0 < length row.now) readings.now }
     requires floor { All (λ number. floor ≤ number) row.now }
@@ -92,5 +93,47 @@ pub(crate) fn lower_readings(
             weights[*source as usize] = weights[*source as usize].min(least);
         }
         left = later;
+    }
+}
+
+/// Lowers the weight of each of these sources but `start` to what the row has for the reader beside it.
+fn lower_pairs(weights: &mut [u32], sources: &[u32], readers: &[u32], row: &[u32], start: u32)
+    requires long { length sources.now ≡ length readers.now }
+    requires sources { All (λ source. source < length weights.old) sources.now }
+    requires readers { All (λ reader. reader < length row.now) readers.now }
+    ensures { IsLowered (PairWeighs sources.now readers.now row.now start) weights.old weights.new }
+{
+    for (place, source) in sources.iter().enumerate() {
+        if *source != start {
+            let number = row[readers[place] as usize];
+            weights[*source as usize] = weights[*source as usize].min(number);
+        }
+    }
+}
+
+/// Lowers the weights of the sources of the key at a place, but that of `start`, to what the row has for who reads them
+/// there.
+pub(crate) fn lower_place(
+    weights: &mut [u32],
+    graph: &Graph,
+    readings: &Option<Groups>,
+    place: u32,
+    row: &[u32],
+    floor: u32,
+    start: u32,
+)
+    requires weights { length weights.old ≡ count graph.now }
+    requires readings { IfSome readings.now (AreReadingsAt graph.now place) }
+    requires place { place < length (keys graph.now) }
+    requires row { length row.now ≡ count graph.now }
+    requires floor { All (λ number. floor ≤ number) row.now }
+    ensures { IsLowered (KeyWeighs graph.now row.now start place) weights.old weights.new }
+{
+    match readings {
+        Some(readings) => lower_readings(weights, readings, row, floor, start),
+        None => {
+            let (sources, readers) = graph.readings_of(place);
+            lower_pairs(weights, sources, readers, row, start);
+        }
     }
 }

@@ -1,11 +1,10 @@
 -- What is printed where a file can't be opened or made, and how the run then ends.
-use Rattle.std.specs.Prelude.{ℕ, ◌⊎◌, Bool, List, Option, None, Some, false}
+use Rattle.std.specs.Prelude.{ℕ, Bool, List, Option, None, Some, false}
 use Rattle.std.specs.declared.io.ErrorKind.{ErrorKind}
 use Rattle.std.specs.declared.io.ErrorKind.TheVariants.{OutOfMemory}
 use Rattle.tcc_print.specs.declared.status.Status.{Status}
 use Rattle.tcc_print.specs.declared.status.Status.TheVariants.{Memory, Device}
 use Rattle.tcc_print.specs.Printed.{Prints, device_line, memory_line}
-use Rattle.tcc_verdict.specs.Checks.{PrintsSome}
 
 -- the line for the device, or the one that says that memory is out
 abbrev pub unopened_text : Bool → ErrorKind → List ℕ
@@ -16,10 +15,9 @@ abbrev pub unopened_status : ErrorKind → Status
 unopened_status OutOfMemory = Memory
 unopened_status _ = Device
 
--- the text of some outcome of a check, or the line for a file that can't be opened, each with its status
-abbrev pub PrintsFiles : Option (List ℕ) → Option (List ℕ) → ℕ → Type 0
-PrintsFiles before after code =
-    PrintsSome before after code ⊎ ((kind : ErrorKind) × Prints before after (unopened_text false kind) (unopened_status kind) code)
+-- the line for a file that can't be opened, by the kind of the error, with its status
+abbrev pub PrintsUnopened : Bool → ErrorKind → Option (List ℕ) → Option (List ℕ) → ℕ → Type 0
+PrintsUnopened json kind before after code = Prints before after (unopened_text json kind) (unopened_status kind) code
 
 -- the one is given exactly where the other is
 abbrev pub AreBothGiven : {A B : Type 0} → Option A → Option B → Type 0

@@ -1,7 +1,8 @@
 //! The files that the command line names.
-ghost use Rattle.std.specs.Prelude.{IfOk};
-ghost use Rattle.tcc_files.specs.Files.{AreBothGiven, PrintsFiles, unopened_text, unopened_status};
-ghost use Rattle.tcc_print.specs.Printed.{Prints};
+ghost use Rattle.std.specs.Prelude.{IfOk, MatchResult, false};
+ghost use Rattle.std.specs.IoError.{error_kind};
+ghost use Rattle.tcc_files.specs.Files.{AreBothGiven, PrintsUnopened};
+ghost use Rattle.tcc_verdict.specs.Checks.{PrintsSome};
 
 use crate::input::Input;
 use crate::opening;
@@ -55,7 +56,7 @@ pub fn open_output<'a>(
 
 /// Writes that a file can't be opened or made, and gives the status of the run.
 pub fn print_unopened<W: Write>(kind: ErrorKind, json: bool, out: &mut W) -> u8
-    ensures { Prints (W.contents out.old) (W.contents out.new) (unopened_text json kind) (unopened_status kind) result }
+    ensures { PrintsUnopened json kind (W.contents out.old) (W.contents out.new) result }
 {
     match kind {
         ErrorKind::OutOfMemory => print_memory(out, json),
@@ -64,7 +65,7 @@ pub fn print_unopened<W: Write>(kind: ErrorKind, json: bool, out: &mut W) -> u8
 }
 
 /// Opens both files, the history before the certificate.
-fn open_both<'a>(
+pub fn open_both<'a>(
     rt: &HostRuntime,
     history: &'a str,
     certificate: &'a str,
@@ -74,12 +75,20 @@ fn open_both<'a>(
     Ok((history, certificate))
 }
 
-/// Checks the certificate in the one file for the history in the other, and gives the status of the run.
-pub fn check_files<W: Write>(rt: &HostRuntime, history: &str, certificate: &str, out: &mut W) -> u8
-    ensures { PrintsFiles (W.contents out.old) (W.contents out.new) result }
+/// Checks the certificate in the second of two files for the history in the first, or writes that one of them can't be opened, and
+/// gives the status of the run.
+pub fn check_opened<W: Write>(
+    rt: &HostRuntime,
+    opened: io::Result<(Telling<'_, File>, Telling<'_, File>)>,
+    out: &mut W,
+) -> u8
+    ensures { MatchResult opened.entry (λ _. PrintsSome (W.contents out.old) (W.contents out.new) result)
+        (λ error. PrintsUnopened false (error_kind error) (W.contents out.old) (W.contents out.new) result) }
 {
-    match open_both(rt, history, certificate) {
-        Ok((history, certificate)) => run_check(rt.alloc(), history, certificate, out),
+    match opened {
+        Ok((history, certificate)) => {
+            run_check(rt.alloc(), history, certificate, out, &mut rt.stderr())
+        }
         Err(error) => print_unopened(error.kind(), false, out),
     }
 }

@@ -6,6 +6,6 @@ mod input;
 mod opening;
 mod telling;
 
-pub use files::{check_files, open_input, open_output, print_unopened};
+pub use files::{check_opened, open_both, open_input, open_output, print_unopened};
 pub use input::Input;
 pub use telling::Telling;

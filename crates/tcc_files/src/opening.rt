@@ -1,11 +1,16 @@
 //! Files opened beside the standard streams: none takes the place of one that is closed, and none is made empty that is the
 //! input or the output.
-ghost use Rattle.std.specs.Prelude.{◌≡◌, ◌↔◌, Some, IsTrue};
+ghost use Rattle.std.specs.Prelude.{◌≡◌, ◌↔◌, ◌⊎◌, ◌≤ℤ◌, pos, Some, IfOk, IsTrue, MatchResult};
+ghost use Rattle.std.specs.Fd.{file_raw_fd};
+ghost use Rattle.std.specs.Fs.{metadata_mode};
+ghost use Rattle.std.specs.IoError.{error_kind};
+ghost use Rattle.tcc_files.specs.Places.{AreSame, FailsAs, IsPlaced, place_with};
 
 use crate::input::Input;
 use std::fs::{self, File, Metadata, OpenOptions};
 use std::io::{self, ErrorKind};
-use std::os::unix::fs::{FileTypeExt, MetadataExt};
+use std::os::fd::AsRawFd;
+use std::os::unix::fs::MetadataExt;
 
 /// What the standard input is open on.
 const INPUT: &str = "/proc/self/fd/0";
@@ -21,21 +26,27 @@ pub struct Place {
 }
 
 impl Place {
-    /// None of a terminal, `/dev/null` and the like, which keep nothing that could be lost.
-    fn of(metadata: &Metadata) -> Option<Place> {
-        if metadata.file_type().is_char_device() {
+    /// That of a file with this mode: none of a terminal, `/dev/null` and the like, which keep nothing that could be lost.
+    fn with(mode: u32, device: u64, number: u64) -> Option<Place>
+        ensures { result ≡ place_with mode device number }
+    {
+        // The bits for the kind of a file, and a device of characters.
+        if mode & 0o170000 == 0o020000 {
             return None;
         }
-        Some(Place {
-            device: metadata.dev(),
-            number: metadata.ino(),
-        })
+        Some(Place { device, number })
+    }
+
+    fn of(metadata: &Metadata) -> Option<Place>
+        ensures { IsPlaced (metadata_mode metadata.now) result }
+    {
+        Place::with(metadata.mode(), metadata.dev(), metadata.ino())
     }
 }
 
 /// Whether both are the same file.
 fn is_same(one: Option<Place>, other: Option<Place>) -> bool
-    ensures { IsTrue result ↔ ((place : Place) × (one ≡ Some place) × (other ≡ Some place)) }
+    ensures { IsTrue result ↔ AreSame one other }
 {
     match (one, other) {
         (Some(one), Some(other)) => one == other,
@@ -43,15 +54,22 @@ fn is_same(one: Option<Place>, other: Option<Place>) -> bool
     }
 }
 
-/// The place of the file that a standard stream is open on.
-fn stream(rt: &HostRuntime, link: &str) -> io::Result<Option<Place>> {
-    match fs::metadata(rt, link) {
+/// The place of the file that a standard stream is open on, by what the system tells of it.
+fn told_place(told: io::Result<Metadata>) -> io::Result<Option<Place>>
+    ensures { MatchResult told (λ metadata. IfOk result (IsPlaced (metadata_mode metadata))) (λ error. FailsAs (error_kind error) result) }
+{
+    match told {
         Ok(metadata) => Ok(Place::of(&metadata)),
         Err(error) => {
             let message = "nothing tells what the input and the output are";
             Err(io::Error::new(error.kind(), message))
         }
     }
+}
+
+/// The place of the file that a standard stream is open on.
+fn stream(rt: &HostRuntime, link: &str) -> io::Result<Option<Place>> {
+    told_place(fs::metadata(rt, link))
 }
 
 /// The place of the file that the records come from.
@@ -62,28 +80,46 @@ fn place_of(rt: &HostRuntime, input: &Input) -> io::Result<Option<Place>> {
     }
 }
 
+/// Whether the file at the first place is the input or the output, which are at the other two.
+fn is_either(file: Option<Place>, input: Option<Place>, output: Option<Place>) -> bool
+    ensures { IsTrue result ↔ (AreSame file input ⊎ AreSame file output) }
+{
+    is_same(file, input) || is_same(file, output)
+}
+
 /// Whether the file at this place is the input or the output; an error where a standard stream of these is closed, or the
 /// system doesn't tell.
 fn is_taken(rt: &HostRuntime, input: &Input, file: Option<Place>) -> io::Result<bool> {
     let input = place_of(rt, input)?;
     let output = stream(rt, OUTPUT)?;
-    Ok(is_same(file, input) || is_same(file, output))
+    Ok(is_either(file, input, output))
 }
 
 /// The file by a descriptor that is none of the first three. One that is opened while a standard stream is closed has
 /// that stream's.
-fn aside(file: File) -> io::Result<File> {
-    file.try_clone()
+fn aside(file: File) -> io::Result<File>
+    ensures { IfOk result (λ file. pos 3 ≤ℤ file_raw_fd file) }
+{
+    let moved = file.try_clone()?;
+    if moved.as_raw_fd() < 3 {
+        let message = "a standard stream is closed";
+        return Err(io::Error::new(ErrorKind::Other, message));
+    }
+    Ok(moved)
 }
 
 /// Opens a file to read.
-pub fn open(rt: &HostRuntime, path: &str) -> io::Result<File> {
+pub fn open(rt: &HostRuntime, path: &str) -> io::Result<File>
+    ensures { IfOk result (λ file. pos 3 ≤ℤ file_raw_fd file) }
+{
     aside(fs::open(rt, path)?)
 }
 
 /// Makes a file to write, and makes it empty where it is there; but where it is the input or the output, or a standard stream of
 /// these is closed, nothing that it holds is touched.
-pub fn make(rt: &HostRuntime, path: &str, input: &Input) -> io::Result<File> {
+pub fn make(rt: &HostRuntime, path: &str, input: &Input) -> io::Result<File>
+    ensures { IfOk result (λ file. pos 3 ≤ℤ file_raw_fd file) }
+{
     let opened = OpenOptions::new().write(true).create(true).open(rt, path)?;
     let file = aside(opened)?;
     let metadata = file.metadata()?;

@@ -46,13 +46,17 @@ read_word read_kind.Intermediate = codes "Intermediate"
 read_word read_kind.Future = codes "Future"
 
 -- KIND SESSION/PLACE op I KEY VALUE
-abbrev pub read_fault_text : ReadFault → List ℕ
-read_fault_text fault =
+abbrev pub read_fault_told : ReadFault → List ℕ
+read_fault_told fault =
     read_word fault.kind
     ++ (codes " " ++ (place_text fault.session fault.place
     ++ (codes " op " ++ (decimal fault.op
     ++ (codes " " ++ (fault.key
-    ++ (codes " " ++ (decimal fault.value ++ codes "\n"))))))))
+    ++ (codes " " ++ decimal fault.value)))))))
+
+-- the same as a line
+abbrev pub read_fault_text : ReadFault → List ℕ
+read_fault_text fault = read_fault_told fault ++ codes "\n"
 
 -- the number of faults, and a line for each
 abbrev pub unresolved_text : List ReadFault → List ℕ

@@ -1,14 +1,26 @@
-//! Notes: what standard error tells a person beside the answers. Each is made as a whole before a byte of it goes out; where it
-//! can't be made or written it is left out, and nothing else changes.
+//! Notes: what standard error tells a person beside the answers, which is what to mend. Each is made as a whole before a byte of
+//! it goes out; where it can't be made or written it is left out, and nothing else changes.
 ghost use Rattle.std.specs.Prelude.{◌≡◌, ℕ, List, IfOk};
 ghost use Rattle.tcc_print.specs.Notes.{IsNoted, last_note, too_few_text};
 
-use crate::texts::joined;
+mod mending;
+mod quoted;
+mod writers;
+
+use crate::texts::{joined, push_told};
+use mending::{Mending, mending_of};
+use quoted::push_quoted;
 use std::alloc::Global;
 use std::io::Write;
 use tcc_answer::Answer;
+use tcc_answer::pieces::push;
 use tcc_cert::sending::send;
-use tcc_txn::NoMemory;
+use tcc_reads::ReadFault;
+use tcc_txn::{NoMemory, RowFault, RowFaultKind, Snapshot};
+use writers::push_writer;
+
+/// How many read faults have a note.
+const MOST_NOTED: usize = 5;
 
 /// Writes the note that was made.
 fn send_note<N: Write>(made: Result<Vec<u8>, NoMemory>, notes: &mut N)
@@ -47,5 +59,117 @@ pub fn note_last<N: Write>(alloc: Global, last: &Option<Answer>, required: u32, 
         if transactions < required as usize {
             send_note(too_few(alloc, required, transactions), notes);
         }
+    }
+}
+
+/// The session of a record, where it names one.
+fn session_of<'a>(fields: &[&'a [u8]]) -> Option<&'a [u8]> {
+    match fields {
+        [session, _] | [session, _, _, _] => Some(*session),
+        _ => None,
+    }
+}
+
+/// Adds the fields of a record, as they stand in it, if they are known.
+fn push_record(alloc: Global, text: &mut Vec<u8>, fields: &[&[u8]]) -> Result<(), NoMemory> {
+    if fields.is_empty() {
+        return Ok(());
+    }
+    let mut record = Vec::new(alloc);
+    for (place, field) in fields.iter().enumerate() {
+        let before: &[u8] = if place == 0 { b"" } else { b"," };
+        push(&mut record, &[before, field])?;
+    }
+    push_quoted(alloc, text, &record)?;
+    push(text, &[b": "])
+}
+
+/// Adds a field of a record, and the session of the record.
+fn push_field(
+    alloc: Global,
+    text: &mut Vec<u8>,
+    field: &[u8],
+    fields: &[&[u8]],
+) -> Result<(), NoMemory> {
+    push_quoted(alloc, text, field)?;
+    if let Some(session) = session_of(fields) {
+        push(text, &[b" of session "])?;
+        push_quoted(alloc, text, session)?;
+    }
+    push(text, &[b": "])
+}
+
+/// Adds what a record has, of which these are the fields, if they are known, and what stands there instead.
+fn push_mending(
+    alloc: Global,
+    text: &mut Vec<u8>,
+    mending: Mending,
+    fields: &[&[u8]],
+) -> Result<(), NoMemory> {
+    match mending {
+        Mending::Field(place, stands) => {
+            if let Some(field) = fields.get(place) {
+                push_field(alloc, text, field, fields)?;
+            }
+            push(text, &[b"expected ", stands.as_bytes()])
+        }
+        Mending::Record(stands) => {
+            push_record(alloc, text, fields)?;
+            push(text, &[b"expected ", stands.as_bytes()])
+        }
+        Mending::Limit(most, things) => {
+            push_record(alloc, text, fields)?;
+            let most = most.to_string(alloc)?;
+            push(
+                text,
+                &[b"at most ", most.as_bytes(), b" ", things.as_bytes()],
+            )
+        }
+        Mending::Input(what) => push(text, &[what.as_bytes()]),
+    }
+}
+
+/// The note of a row fault, by the fields of its record.
+fn row(alloc: Global, fault: &RowFault, fields: &[&[u8]]) -> Result<Vec<u8>, NoMemory> {
+    let row = fault.row.to_string(alloc)?;
+    let mut text = Vec::new(alloc);
+    push(&mut text, &[b"row ", row.as_bytes(), b": "])?;
+    push_mending(
+        alloc,
+        &mut text,
+        mending_of(&fault.kind, fields.len()),
+        fields,
+    )?;
+    push(&mut text, &[b"\n"])?;
+    Ok(text)
+}
+
+/// Notes of the fault of a record, of which these are the fields, if they are known, what stands there instead. Of refused memory
+/// nothing is noted.
+pub fn note_row<N: Write>(alloc: Global, fault: &RowFault, fields: &[&[u8]], notes: &mut N) {
+    if !matches!(fault.kind, RowFaultKind::NoMemory) {
+        send_note(row(alloc, fault, fields), notes);
+    }
+}
+
+/// The note of a read fault of the snapshot.
+fn read(alloc: Global, snapshot: &Snapshot, fault: &ReadFault) -> Result<Vec<u8>, NoMemory> {
+    let mut text = Vec::new(alloc);
+    push_told(alloc, &mut text, fault)?;
+    push(&mut text, &[b": "])?;
+    push_writer(alloc, &mut text, snapshot, fault)?;
+    push(&mut text, &[b"\n"])?;
+    Ok(text)
+}
+
+/// Notes of the first of the read faults of the snapshot which write each of them is about.
+pub fn note_reads<N: Write>(
+    alloc: Global,
+    snapshot: &Snapshot,
+    faults: &[ReadFault],
+    notes: &mut N,
+) {
+    for fault in faults.iter().take(MOST_NOTED) {
+        send_note(read(alloc, snapshot, fault), notes);
     }
 }

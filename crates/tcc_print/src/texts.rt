@@ -1,6 +1,6 @@
 //! The texts of faults, each made as a whole before a byte of it goes out.
 ghost use Rattle.std.specs.Prelude.{◌≡◌, ◌++◌, IfOk, OnOk, length, flat_map};
-ghost use Rattle.tcc_print.specs.Texts.{certificate_fault_text, certificate_word, halt_text, read_fault_text, read_word, row_fault_text, row_word};
+ghost use Rattle.tcc_print.specs.Texts.{certificate_fault_text, certificate_word, halt_text, read_fault_text, read_fault_told, read_word, row_fault_text, row_word};
 ghost use Rattle.tcc_print.specs.Texts.{unresolved_text};
 
 use crate::halt::Halt;
@@ -59,9 +59,13 @@ pub fn read_word(kind: ReadFaultKind) -> &'static str
     }
 }
 
-/// Adds the line of a read fault.
-fn push_read_fault(alloc: Global, text: &mut Vec<u8>, fault: &ReadFault) -> Result<(), NoMemory>
-    ensures { OnOk result (text.new.items ≡ text.old.items ++ read_fault_text fault.now) }
+/// Adds what is told of a read fault, without the end of its line.
+pub(crate) fn push_told(
+    alloc: Global,
+    text: &mut Vec<u8>,
+    fault: &ReadFault,
+) -> Result<(), NoMemory>
+    ensures { OnOk result (text.new.items ≡ text.old.items ++ read_fault_told fault.now) }
 {
     let ReadFault {
         session,
@@ -88,9 +92,16 @@ fn push_read_fault(alloc: Global, text: &mut Vec<u8>, fault: &ReadFault) -> Resu
             key.bytes(),
             b" ",
             value.as_bytes(),
-            b"\n",
         ],
     )
+}
+
+/// Adds the line of a read fault.
+fn push_read_fault(alloc: Global, text: &mut Vec<u8>, fault: &ReadFault) -> Result<(), NoMemory>
+    ensures { OnOk result (text.new.items ≡ text.old.items ++ read_fault_text fault.now) }
+{
+    push_told(alloc, text, fault)?;
+    push(text, &[b"\n"])
 }
 
 /// The text of a snapshot with read faults: their number, and a line for each.

@@ -7,6 +7,7 @@ use Rattle.tcc_txn.specs.Failing.{FailsAt, items_before}
 use Rattle.tcc_txn.specs.Finished.{finished_in}
 use Rattle.tcc_txn.specs.Snapshots.{Sessions}
 use Rattle.tcc_txn.specs.declared.rows.Item.{Item}
+use Rattle.tcc_txn.specs.declared.rows.RowFault.{RowFault}
 use Rattle.tcc_txn.specs.declared.rows.Item.TheVariants as item
 use Rattle.tcc_txn.specs.declared.rows.RowFaultKind.TheVariants as kind
 use Rattle.tcc_reads.specs.Faults.{read_faults}
@@ -108,6 +109,23 @@ abbrev pub IsEnded : Options → List ℕ → List Said → Type 0
 IsEnded options text said =
     (n : ℕ) × (why : Halt) × (answers : List Said) × MayEnd text n why
     × AreAnswered options (sealed_in (take n (rows.answers_of text).items)) answers × (said ≡ answers ++ halt_said options why ∷ [])
+
+-- a run said these texts, of which these are its answers: all of them, or all but the line of what ended it
+abbrev pub AreAnswersOf : Options → List ℕ → List Said → List Said → Type 0
+AreAnswersOf options text said answers =
+    (IsWhole options (rows.answers_of text) said × (answers ≡ said))
+    ⊎ ((n : ℕ) × (why : Halt) × MayEnd text n why × AreAnswered options (sealed_in (take n (rows.answers_of text).items)) answers
+    × (said ≡ answers ++ halt_said options why ∷ []))
+
+-- the run was ended by the fault of the records: the answers at all seals before it stand, and then comes its line
+abbrev pub IsStopped : Options → rows.Answers → List Said → Type 0
+IsStopped options all said =
+    (fault : RowFault) × (answers : List Said) × (all.fault ≡ Some fault) × AreAnswered options (sealed_in all.items) answers
+    × (said ≡ answers ++ halt_said options (halt.Row fault) ∷ [])
+
+-- the one list is the other's beginning
+abbrev pub AreFront : List Said → List Said → Type 0
+AreFront some all = (rest : List Said) × (all ≡ some ++ rest)
 
 -- ---- what goes out
 

@@ -8,7 +8,9 @@ ghost use Rattle.tcc_txn.specs.Reached.{IsWithin};
 ghost use Rattle.tcc_txn.specs.Recordings.{IsRecording};
 ghost use Rattle.tcc_cert.specs.Texts.{certificate_text};
 ghost use Rattle.tcc_answer.specs.Claims.{certificate_of};
-ghost use Rattle.tcc_print.specs.Printed.{Prints, memory_line};
+ghost use Rattle.tcc_print.specs.Halts.{by_row};
+ghost use Rattle.tcc_print.specs.Printed.{Prints, PrintsOrMemory, halted, memory_line};
+ghost use Rattle.tcc_print.specs.Statuses.{halt_status};
 ghost use Rattle.tcc_run.specs.Runs.{Gains, GainsPart, IsRun};
 ghost use Rattle.tcc_run.specs.Stages.{AllAnswered, AnswersKept, Concludes, EndsAnswering, EndsEarly, Follows, IsFor, IsStill, SaysLast, answer_in, count_at};
 
@@ -18,11 +20,11 @@ use std::io::{Read, Write};
 use std::thread::Threads;
 use tcc_cert::{WriteFault, write};
 use tcc_explain::{Answer, Gate};
-use tcc_print::notes::note_last;
+use tcc_print::notes::{note_last, note_row};
 use tcc_print::printing::{print_device, print_halt, print_memory};
 use tcc_print::status::last_status;
 use tcc_print::{Halt, Options, Status};
-use tcc_txn::{Moment, NoMemory, Recording, Snapshot};
+use tcc_txn::{Moment, NoMemory, Recording, RowFault, Snapshot};
 
 /// How many transactions the session at this place has finished; past the last place, none.
 fn session_count(snapshot: &Snapshot, session: u32) -> usize
@@ -103,7 +105,7 @@ fn renew<W: Write, G: Gate>(
 
 /// Says what is to be said of the snapshot at a seal, as text or as a line of JSON, and keeps it; else the run ends with
 /// this number.
-fn answer_seal<W: Write, G: Gate>(
+fn answer_seal<W: Write, N: Write, G: Gate>(
     rt: &(impl Threads + Sync),
     alloc: Global,
     snapshot: &Snapshot,
@@ -111,6 +113,7 @@ fn answer_seal<W: Write, G: Gate>(
     options: Options,
     gate: &G,
     out: &mut W,
+    notes: &mut N,
 ) -> Result<Last, u8>
     requires workers { (0 < options.workers) × (options.workers ≤ 32) }
     requires earlier { IfSome last (Follows options.level snapshot.now) }
@@ -121,12 +124,13 @@ fn answer_seal<W: Write, G: Gate>(
 {
     let said = renew(rt, alloc, snapshot, last, options, gate, out)?;
     said.outcome.send(alloc, options.json, out)?;
+    said.outcome.note(alloc, snapshot, notes);
     Ok(said)
 }
 
 /// Says at the end what is to be said of the snapshot, unless it was said last, and gives the last answer of the run, none
 /// where that was read faults; else the run ends with this number.
-fn answer_last<W: Write, G: Gate>(
+fn answer_last<W: Write, N: Write, G: Gate>(
     rt: &(impl Threads + Sync),
     alloc: Global,
     snapshot: &Snapshot,
@@ -134,6 +138,7 @@ fn answer_last<W: Write, G: Gate>(
     options: Options,
     gate: &G,
     out: &mut W,
+    notes: &mut N,
 ) -> Result<Option<Answer>, u8>
     requires workers { (0 < options.workers) × (options.workers ≤ 32) }
     requires earlier { IfSome last (Follows options.level snapshot.now) }
@@ -147,19 +152,35 @@ fn answer_last<W: Write, G: Gate>(
     let last = renew(rt, alloc, snapshot, last, options, gate, out)?;
     if due {
         last.outcome.send(alloc, options.json, out)?;
+        last.outcome.note(alloc, snapshot, notes);
     }
     Ok(last.outcome.into_answer())
 }
 
+/// Writes why the run ends by the fault of a record, notes what to mend, and gives the number that the run ends with.
+fn stop<W: Write, N: Write>(
+    alloc: Global,
+    fault: RowFault,
+    json: bool,
+    out: &mut W,
+    notes: &mut N,
+) -> u8
+    ensures { PrintsOrMemory json (W.contents out.old) (W.contents out.new) (halted json (by_row fault)) (halt_status (by_row fault)) result }
+{
+    note_row(alloc, &fault, &[], notes);
+    print_halt(alloc, &Halt::from(fault), json, out)
+}
+
 /// Writes the answers at the seals that are still to come and the one at the end, if it is due, and gives the last; or
 /// writes what ends the run before, and gives the number that it ends with.
-fn answer_all<R: Read + Drop, W: Write, G: Gate>(
+fn answer_all<R: Read + Drop, W: Write, N: Write, G: Gate>(
     rt: &(impl Threads + Sync),
     alloc: Global,
     recording: &mut Recording<R>,
     options: Options,
     gate: &G,
     out: &mut W,
+    notes: &mut N,
 ) -> Result<Option<Answer>, u8>
     requires workers { (0 < options.workers) × (options.workers ≤ 32) }
     ensures { (bytes : List ℕ) → IsRecording R.remaining recording.old [] (answers_of bytes) → IsWithin R.remaining recording.old.rows (records_of bytes)
@@ -172,13 +193,22 @@ fn answer_all<R: Read + Drop, W: Write, G: Gate>(
         match recording.advance(alloc) {
             Ok(Moment::Seal) => {
                 let snapshot = recording.snapshot();
-                let said = answer_seal(rt, alloc, snapshot, last, options, gate, out)?;
+                let said = answer_seal(rt, alloc, snapshot, last, options, gate, out, notes)?;
                 last = Some(said);
             }
             Ok(Moment::End) => {
-                return answer_last(rt, alloc, recording.snapshot(), last, options, gate, out);
+                return answer_last(
+                    rt,
+                    alloc,
+                    recording.snapshot(),
+                    last,
+                    options,
+                    gate,
+                    out,
+                    notes,
+                );
             }
-            Err(fault) => return Err(print_halt(alloc, &Halt::from(fault), options.json, out)),
+            Err(fault) => return Err(stop(alloc, fault, options.json, out, notes)),
         }
     }
     // There are not so many seals.
@@ -187,13 +217,14 @@ fn answer_all<R: Read + Drop, W: Write, G: Gate>(
 
 /// Writes the answers for the records of the reader, and gives the last; or writes what ends the run before, and gives the
 /// number that it ends with.
-fn answer_records<R: Read + Drop, W: Write, G: Gate>(
+fn answer_records<R: Read + Drop, W: Write, N: Write, G: Gate>(
     rt: &(impl Threads + Sync),
     alloc: Global,
     reader: R,
     options: Options,
     gate: &G,
     out: &mut W,
+    notes: &mut N,
 ) -> Result<Option<Answer>, u8>
     requires workers { (0 < options.workers) × (options.workers ≤ 32) }
     ensures { IfSome (R.remaining reader) (λ bytes. MatchResult result (AllAnswered options bytes (W.contents out.old) (W.contents out.new))
@@ -202,7 +233,7 @@ fn answer_records<R: Read + Drop, W: Write, G: Gate>(
     match Recording::new(alloc, reader) {
         Ok(recording) => {
             let mut recording = recording;
-            answer_all(rt, alloc, &mut recording, options, gate, out)
+            answer_all(rt, alloc, &mut recording, options, gate, out, notes)
         }
         Err(NoMemory) => Err(print_memory(out, options.json)),
     }
@@ -261,7 +292,7 @@ pub fn run_explain<R: Read + Drop, W: Write, C: Write, N: Write, G: Gate>(
     ensures { IfSome (R.remaining reader) (λ bytes. IsRun options bytes (W.contents out.old) (W.contents out.new) (option_map C.contents certificate.old)
         (option_map C.contents certificate.new) result) }
 {
-    match answer_records(rt, alloc, reader, options, gate, out) {
+    match answer_records(rt, alloc, reader, options, gate, out, notes) {
         Ok(last) => conclude(alloc, &last, certificate, options, out, notes),
         Err(code) => code,
     }

@@ -21,7 +21,7 @@ ghost use Rattle.tcc_explain.specs.Explained.{IsAnswerOf};
 ghost use Rattle.tcc_verdict.specs.Checks.{IsCheck, MayBeCheck};
 ghost use Rattle.tcc_run.specs.Closing.{IsAcceptance, acceptance};
 ghost use Rattle.tcc_run.specs.Interleaved.{AreInterleaved};
-ghost use Rattle.tcc_run.specs.Runs.{AskAlike, IsEnded, IsRun, IsWhole, Said};
+ghost use Rattle.tcc_run.specs.Runs.{AreAnswersOf, AreFront, AskAlike, IsEnded, IsRun, IsStopped, IsWhole, Said};
 ghost use Rattle.tcc_print.specs.Statuses.{code_of};
 ghost use Rattle.tcc_print.specs.declared.options.Options.{Options};
 ghost use Rattle.tcc_print.specs.declared.status.Status.TheVariants.{Device};
@@ -79,11 +79,19 @@ pub fn left()
     finished_is_snapshot();
 }
 
-/// Of the same records a whole run says the same for every number of workers, and every order in which they search.
+/// Runs of the same bytes end alike, for every number of workers, and every order in which they search. Those that no reader
+/// and no refused memory ends say the same, be it to the end or to the fault of a record; and wherever two others end, the
+/// answers of the one are the first of the other's.
 pub fn one_run()
-    ensures { (options others : Options) (records : List ℕ) (said again : List Said) → AskAlike options others
+    ensures whole { (options others : Options) (records : List ℕ) (said again : List Said) → AskAlike options others
         → IsWhole options (answers_of records) said → IsWhole others (answers_of records) again
         → said ≡ again }
+    ensures stopped { (options others : Options) (records : List ℕ) (said again : List Said) → AskAlike options others
+        → IsStopped options (answers_of records) said → IsStopped others (answers_of records) again
+        → said ≡ again }
+    ensures front { (options others : Options) (records : List ℕ) (said again answers more : List Said) → AskAlike options others
+        → AreAnswersOf options records said answers → AreAnswersOf others records again more
+        → AreFront answers more ⊎ AreFront more answers }
 {
     one_answer();
 }

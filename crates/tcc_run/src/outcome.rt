@@ -15,6 +15,7 @@ use std::thread::Threads;
 use tcc_explain::laws::grown;
 use tcc_explain::{Anomaly, Answer, ExplainFault, Gate, NextFault};
 use tcc_print::Options;
+use tcc_print::notes::note_reads;
 use tcc_print::printing::{send_answer, send_unresolved};
 use tcc_reads::ReadFault;
 use tcc_txn::{NoMemory, Snapshot};
@@ -94,6 +95,13 @@ impl Outcome {
         match self {
             Outcome::Answered(answer) => send_answer(alloc, answer, json, out),
             Outcome::Unresolved { faults, .. } => send_unresolved(alloc, faults, json, out),
+        }
+    }
+
+    /// Notes of the first read faults which write each of them is about.
+    pub(crate) fn note<N: Write>(&self, alloc: Global, snapshot: &Snapshot, notes: &mut N) {
+        if let Outcome::Unresolved { faults, .. } = self {
+            note_reads(alloc, snapshot, faults, notes);
         }
     }
 

@@ -77,6 +77,18 @@ fn explained(
     )
 }
 
+// Checks the certificate for the records, and gives the number that the run ends with.
+fn checked(alloc: Global, records: &str, certificate: &str, out: &mut impl Write) -> u8 {
+    let mut notes = io::sink();
+    run_check(
+        alloc,
+        records.as_bytes(),
+        certificate.as_bytes(),
+        out,
+        &mut notes,
+    )
+}
+
 // A reader that fails after its bytes.
 #[derive(Drop)]
 struct Broken<'a> {
@@ -123,7 +135,7 @@ fn readers_of_certificates_fail(rt: HostRuntime) -> Result<(), Fail> {
         let (broken, line) = broken_after(&OWN_CERTIFICATE.as_bytes()[..bytes]);
         let text = format!(in alloc; "certificate line {line}: Read\n")?;
         let mut out = Vec::new(alloc);
-        let code = run_check(alloc, OWN.as_bytes(), broken, &mut out);
+        let code = run_check(alloc, OWN.as_bytes(), broken, &mut out, &mut io::sink());
         assert_eq!(&rt; out.as_slice(), text.as_bytes(), "after {bytes} bytes");
         assert_eq!(&rt; code, 6);
     }
@@ -241,12 +253,12 @@ fn writers_of_verdicts_fail(rt: HostRuntime) -> Result<(), Fail> {
     for (records, certificate, text, status) in CHECKED {
         for room in 0..text.len() + 1 {
             let mut out = refusing(alloc, room, Refusal::NoBytes);
-            let code = run_check(alloc, records.as_bytes(), certificate.as_bytes(), &mut out);
+            let code = checked(alloc, records, certificate, &mut out);
             stopped(&rt, &out, text, status, code);
         }
         // All that was written may be lost where the flush fails.
         let mut out = refusing(alloc, text.len(), Refusal::Flush);
-        let code = run_check(alloc, records.as_bytes(), certificate.as_bytes(), &mut out);
+        let code = checked(alloc, records, certificate, &mut out);
         stopped(&rt, &out, text, status, code);
     }
     Ok(())

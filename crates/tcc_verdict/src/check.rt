@@ -1,5 +1,9 @@
 //! From the bytes of a history and of a certificate to the verdict.
-ghost use Rattle.std.specs.Prelude.{◌≡◌, ℕ, IfSome};
+ghost use Rattle.std.specs.Prelude.{◌≡◌, ℕ, [], IfSome, MatchResult};
+ghost use Rattle.tcc_txn.specs.Recordings.{IsRecorded};
+ghost use Rattle.tcc_reads.specs.Faults.{read_faults};
+ghost use Rattle.tcc_reads.specs.Refusals.{IsRefusal};
+ghost use Rattle.tcc_reads.specs.Sources.{history};
 ghost use Rattle.tcc_verdict.specs.Checks.{IsCheckRun, IsShown, MayBeCheck, PrintsSome};
 ghost use Rattle.tcc_verdict.specs.Stages.{IsHistoryOf, MayBeTextCheck};
 
@@ -9,16 +13,53 @@ use tcc_check::laws::certified;
 use tcc_check::{Judgement, judge_stream};
 use tcc_graph::Graph;
 use tcc_print::Halt;
+use tcc_print::notes::{note_reads, note_row};
 use tcc_print::printing::print_check;
-use tcc_reads::resolve;
-use tcc_txn::snapshot_of;
+use tcc_reads::{ResolveFault, Resolved, resolve};
+use tcc_txn::{RowFault, Snapshot, snapshot_of};
+
+/// All that the records finish; of a record's fault it is noted what to mend.
+fn recorded<R: Read + Drop, N: Write>(
+    alloc: Global,
+    reader: R,
+    notes: &mut N,
+) -> Result<Snapshot, RowFault>
+    ensures { IfSome (R.remaining reader) (λ text. IsRecorded text result) }
+{
+    let recorded = snapshot_of(alloc, reader);
+    if let Err(fault) = &recorded {
+        note_row(alloc, fault, &[], notes);
+    }
+    recorded
+}
+
+/// Where the reads of a snapshot come from; of the first read faults it is noted which write each of them is about.
+fn resolved<N: Write>(
+    alloc: Global,
+    snapshot: &Snapshot,
+    notes: &mut N,
+) -> Result<Resolved, ResolveFault>
+    ensures { MatchResult result
+        (λ resolved. (read_faults snapshot.now ≡ []) × (resolved ≡ history snapshot.now))
+        (IsRefusal snapshot.now) }
+{
+    let resolved = resolve(alloc, snapshot);
+    if let Err(ResolveFault::Reads(faults)) = &resolved {
+        note_reads(alloc, snapshot, faults, notes);
+    }
+    resolved
+}
 
 /// The history of all that the records finish, whatever was sealed.
-fn history_of<R: Read + Drop>(alloc: Global, reader: R) -> Result<Graph, Halt>
+fn history_of<R: Read + Drop, N: Write>(
+    alloc: Global,
+    reader: R,
+    notes: &mut N,
+) -> Result<Graph, Halt>
     ensures { IfSome (R.remaining reader) (λ records. IsHistoryOf records result) }
 {
-    let snapshot = snapshot_of(alloc, reader)?;
-    let resolved = resolve(alloc, &snapshot)?;
+    let snapshot = recorded(alloc, reader, notes)?;
+    let resolved = resolved(alloc, &snapshot, notes)?;
     let graph = Graph::build(alloc, &resolved)?;
     Ok(graph)
 }
@@ -32,24 +73,27 @@ fn judged<R: Read + Drop>(alloc: Global, graph: &Graph, reader: R) -> Result<Jud
 }
 
 /// The verdict on the certificate for the history, or the first fault of the two.
-fn checked<H: Read + Drop, C: Read + Drop>(
+fn checked<H: Read + Drop, C: Read + Drop, N: Write>(
     alloc: Global,
     history: H,
     certificate: C,
+    notes: &mut N,
 ) -> Result<Judgement, Halt>
     ensures { IfSome (H.remaining history) (λ records. IfSome (C.remaining certificate) (λ text. MayBeCheck records text result)) }
 {
-    let graph = history_of(alloc, history)?;
+    let graph = history_of(alloc, history, notes)?;
     judged(alloc, &graph, certificate)
 }
 
 /// Writes the verdict on the certificate for the history, or the first fault of the two, and gives the status of the
-/// run. Only where what the certificate claims is true is the status 0.
-pub fn run_check<H: Read + Drop, C: Read + Drop, W: Write>(
+/// run. Only where what the certificate claims is true is the status 0. What to mend, where records or reads have faults, goes
+/// to the notes.
+pub fn run_check<H: Read + Drop, C: Read + Drop, W: Write, N: Write>(
     alloc: Global,
     history: H,
     certificate: C,
     out: &mut W,
+    notes: &mut N,
 ) -> u8
     ensures run { IfSome (H.remaining history)
         (λ records. IfSome (C.remaining certificate) (λ text. IsCheckRun records text (W.contents out.old) (W.contents out.new) result)) }
@@ -57,5 +101,5 @@ pub fn run_check<H: Read + Drop, C: Read + Drop, W: Write>(
     ensures shown { IfSome (H.remaining history) (λ records. IfSome (C.remaining certificate) (λ text. result ≡ 0 → IsShown records text)) }
 {
     certified();
-    print_check(alloc, &checked(alloc, history, certificate), out)
+    print_check(alloc, &checked(alloc, history, certificate, notes), out)
 }

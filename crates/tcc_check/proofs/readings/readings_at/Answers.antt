@@ -24,7 +24,7 @@ new-requires c =
 
 pub returns : goal.returns
 returns c =
-    rw (c.in_ok-new.ensures, c.deref.ensures.value)
+    rw (c.in_ok-groups.ensures, c.deref.ensures.value)
     (readings-paired c.readings_of.result.0.now c.readings_of.result.1.now c.args.graph.now c.args.place c.loop-index.index c.loop-index.readings.items
     (omega arith) c.readings_of.ensures.long (λ a b w. (c.readings_of.ensures.each a b).0 w) (λ a b w. (c.readings_of.ensures.each a b).1 w)
     c.loop-index.invariant)

@@ -1,5 +1,6 @@
 -- One key after the other.
 use Rattle.std.proofs.Common.{◌≡◌, ℕ, [], ◌∷◌, ◌++◌, length, arith, rules, subst}
+use Rattle.std.specs.Prelude.{IfSome}
 use Rattle.tcc_graph.specs.Keys.{keys}
 use Rattle.tcc_check.specs.Readings.{AreReadingsAt, AreReadingsTo}
 use Rattle.tcc_check.proofs.ByKey.{more-readings, no-readings}
@@ -13,7 +14,7 @@ loop-place-preserved c =
     let h = c.args.graph.now in
     let made = c.in_ok-readings_at.field-0 in
     let same : c.in-Ok.place ≡ c.loop-place.place = search rules in
-    let here : AreReadingsAt h c.loop-place.place made = rw same at c.in_ok-readings_at.ensures in
+    let here : IfSome made (AreReadingsAt h c.loop-place.place) = rw same at c.in_ok-readings_at.ensures in
     let pushed : c.push.new.self.items ≡ c.loop-place.readings.items ++ made ∷ [] = search rules in
     rw pushed (more-readings c.loop-place.place h c.loop-place.readings.items made here c.loop-place.invariant)
 

@@ -3,10 +3,7 @@ use Rattle.std.proofs.Common.{subst, sym, Ok}
 use Rattle.tcc_txn.specs.Answers.{records_of}
 use Rattle.tcc_txn.specs.Nested.{IsNested}
 use Rattle.tcc_txn.specs.Recordings.{TakesMoment}
-use Rattle.tcc_print.specs.Printed.{halted}
 use Rattle.tcc_run.specs.Stages.{AllAnswered, EndsEarly, Follows}
-use Rattle.tcc_print.specs.Printed.{PrintsOrMemory}
-use Rattle.tcc_print.specs.Statuses.{halt_status}
 use Rattle.tcc_run.proofs.Earlier.{follows_on}
 use Rattle.tcc_run.proofs.Runs.{answered-seal, ended-end, ended-seal, still-seal, stopped, wants_memory}
 use Rattle.tcc_run.proofs.Sent.{ended_by}
@@ -53,11 +50,10 @@ pub returns-in-Err : goal.returns-in-Err
 returns-in-Err g c text recording within fresh =
     let way = c.moments.invariant.way text recording in
     stopped g.R.Read.remaining c.args.options text c.moments.recording c.advance.new.self _ _ c.moments.last way
-    c.in-Err.fault (c.in-Err.ensures.moment way.taken way.ahead way.recorded) _ c.print_halt.result
+    c.in-Err.fault (c.in-Err.ensures.moment way.taken way.ahead way.recorded) _ c.stop.result
     (λ read. c.in-Err.ensures.failed (c.moments.invariant.going fresh) read (records_of text) way.taken way.ahead way.whole
     (c.moments.invariant.within (records_of text) within) way.recorded)
-    (subst (λ why. PrintsOrMemory c.args.options.json (g.W.Write.contents c.moments.out) (g.W.Write.contents c.print_halt.new.out)
-    (halted c.args.options.json why) (halt_status why) c.print_halt.result) c.from.ensures c.print_halt.ensures)
+    c.stop.ensures
 
 pub returns : goal.returns
 returns g c text recording within fresh =

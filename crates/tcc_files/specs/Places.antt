@@ -1,0 +1,28 @@
+-- Which of all files one is. Nobody has to believe these: the contracts of public calls cite none of them.
+use Rattle.std.specs.Prelude.{ℕ, ◌≡◌, ◌==◌, Bool, true, false, Option, None, Some, Result, Ok, Err, bit_and, if◌then◌else◌}
+use Rattle.std.specs.IoError.{error_kind}
+use Rattle.std.specs.declared.io.Error.{Error}
+use Rattle.std.specs.declared.io.ErrorKind.{ErrorKind}
+use Rattle.tcc_files.specs.declared.opening.Place.{Place}
+
+-- a file of this mode is a device of characters, as terminals and `/dev/null` are
+abbrev pub is_character_device : ℕ → Bool
+is_character_device mode = bit_and mode 0o170000 == 0o020000
+
+-- the place of a file with this mode, by its device and its number there; none of a device of characters
+abbrev pub place_with : ℕ → ℕ → ℕ → Option Place
+place_with mode device number = if is_character_device mode then None else Some (record { device = device; number = number })
+
+-- the place is none exactly of a device of characters
+abbrev pub IsPlaced : ℕ → Option Place → Type 0
+IsPlaced mode None = is_character_device mode ≡ true
+IsPlaced mode (Some place) = is_character_device mode ≡ false
+
+-- both are given, and are one
+abbrev pub AreSame : Option Place → Option Place → Type 0
+AreSame one other = (place : Place) × (one ≡ Some place) × (other ≡ Some place)
+
+-- it is an error of this kind
+abbrev pub FailsAs : ErrorKind → Result (Option Place) Error → Type 0
+FailsAs kind (Ok place) = ⊥
+FailsAs kind (Err error) = error_kind error ≡ kind

@@ -1,0 +1,68 @@
+//! What stands where a record has a fault, by the kind of the fault.
+
+use tcc_txn::{
+    MAX_INPUT_BYTES, MAX_KEYS, MAX_OPERATIONS, MAX_SEALS, MAX_SESSIONS, MAX_TRANSACTIONS,
+    RowFaultKind,
+};
+
+/// What stands where a record has a fault.
+#[derive(Clone, Copy)]
+pub(super) enum Mending {
+    /// In the place of its field with this number, from 0.
+    Field(usize, &'static str),
+    /// In the place of the whole record.
+    Record(&'static str),
+    /// At most so many of these.
+    Limit(u64, &'static str),
+    /// In the place of the end of the input, or of what could not be read.
+    Input(&'static str),
+}
+
+const NAME: &str = "a name, which is 1 to 32 of A-Z, a-z, 0-9, '_', '.' and '-'";
+
+const FIELDS: &str =
+    "seal, or SESSION and begin, commit or abort, or SESSION, r or w, KEY and VALUE";
+
+/// What stands where a record of so many fields has a fault of this kind.
+pub(super) fn mending_of(kind: &RowFaultKind, fields: usize) -> Mending {
+    match kind {
+        RowFaultKind::FieldCount => Mending::Record(FIELDS),
+        RowFaultKind::BadSession => Mending::Field(0, NAME),
+        RowFaultKind::UnknownWord => Mending::Field(
+            if fields == 1 { 0 } else { 1 },
+            "begin, r, w, commit, abort or seal",
+        ),
+        RowFaultKind::BadKey => Mending::Field(2, NAME),
+        RowFaultKind::BadValue => Mending::Field(
+            3,
+            "a whole number up to 18446744073709551615, in digits without a leading 0",
+        ),
+        RowFaultKind::WriteOfZero => Mending::Field(3, "a value other than the initial 0"),
+        RowFaultKind::NotBegun => {
+            Mending::Record("begin first, since no transaction of the session is begun")
+        }
+        RowFaultKind::AlreadyBegun => {
+            Mending::Record("commit or abort first, since a transaction of the session is begun")
+        }
+        RowFaultKind::TooManyOps => {
+            Mending::Limit(MAX_OPERATIONS as u64, "operations in a transaction")
+        }
+        RowFaultKind::TooManySessions => Mending::Limit(MAX_SESSIONS as u64, "sessions"),
+        RowFaultKind::TooManyTransactions => {
+            Mending::Limit(
+                MAX_TRANSACTIONS as u64,
+                "transactions, aborted ones counted",
+            )
+        }
+        RowFaultKind::TooManyKeys => Mending::Limit(MAX_KEYS as u64, "keys"),
+        RowFaultKind::TooManySeals => Mending::Limit(MAX_SEALS as u64, "seals"),
+        RowFaultKind::Unfinished { .. } => {
+            Mending::Input("the input ends: expected commit or abort of the session")
+        }
+        RowFaultKind::Read => Mending::Limit(
+            MAX_INPUT_BYTES,
+            "bytes, from a reader that does not fail",
+        ),
+        RowFaultKind::NoMemory => Mending::Input("out of memory"),
+    }
+}
