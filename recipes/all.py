@@ -300,7 +300,6 @@ def arguments() -> argparse.Namespace:
     ask.add_argument("--level", choices=("causal", "atomic"), default="causal", help="by default causal")
     ask.add_argument("--strike-faults", action="store_true", help="leaves out reads that can't be resolved, and judges the rest")
     ask.add_argument("--tcc", default="tcc", metavar="PATH", help="the program, by default the one on the path")
-    ask.add_argument("--large", action="store_true", help="for histories past the limits of tcc explain")
     return ask.parse_args()
 
 
@@ -308,8 +307,7 @@ def run(asked: argparse.Namespace, out: TextIO) -> int:
     options = {"encoding": "utf-8-sig", "errors": "surrogateescape", "newline": ""}
     with open(asked.records, **options) if asked.records else open(sys.stdin.fileno(), closefd=False, **options) as file:
         records = read_records(file)
-    words = [asked.tcc, "explain", "--level", asked.level, *(["--large"] if asked.large else [])]
-    search = Search(words, records, asked.strike_faults)
+    search = Search([asked.tcc, "explain", "--level", asked.level], records, asked.strike_faults)
     for line in search.lines(asked.most):
         print(line, file=out, flush=True)
     return search.status()

@@ -53,9 +53,8 @@ GREATEST_VALUE = 2**64 - 1
 TYPES = ("invoke", "ok", "fail", "info")
 STEPS = {"read": "r", "write": "w"}  # what one operation of a register does
 REGISTER = "register"
-# What tcc explain takes at most, and what with --large.
-LIMITS = {"sessions": (64, 4096), "transactions": (4095, 1048575), "keys": (1024, 1048576),
-          "operations in a transaction": (256, 256)}
+# What tcc takes at most.
+LIMITS = {"sessions": 64, "transactions": 4095, "keys": 1024, "operations in a transaction": 256}
 HINTS = {"value": "; if keys have it before they are written, say so with --initial"}
 
 
@@ -318,12 +317,9 @@ class History:
         counts = {"sessions": len(self.sessions.given), "transactions": len(self.transactions), "keys": len(self.keys.given),
                   "operations in a transaction": longest}
         for what, number in counts.items():
-            small, large = LIMITS[what]
-            if number > large:
+            if number > LIMITS[what]:
                 shorter = "transactions" if what.startswith("operations") else "the run"
-                yield "%d %s: tcc takes at most %d, so make %s shorter" % (number, what, large, shorter)
-            elif number > small:
-                yield "%d %s: tcc explain takes at most %d, tcc explain --large %d" % (number, what, small, large)
+                yield "%d %s: tcc takes at most %d, so make %s shorter" % (number, what, LIMITS[what], shorter)
 
     def table(self) -> Iterator[Tuple[str, str, str]]:
         """What isn't itself in the records: kind, what stands for it, and how JSON spells it."""
