@@ -10,7 +10,7 @@ use Rattle.tcc_explain.proofs.explaining.history_answer.Goals as goal
 pub returns-in-Some : goal.returns-in-Some
 returns-in-Some g c =
     let j : Judged = record { history = c.args.graph.now; level = c.args.level } in
-    let first : IsFirstOrder j c.in-Some.order.items = rw c.in-Some.is at c.in_ok-order.ensures in
+    let first : IsFirstOrder j c.in-Some.order.items = rw (c.large.ensures.value, c.in-Some.is) at c.in_ok-order.ensures in
     rw (c.new.ensures, c.new-order.ensures) (
       ((c.order_or_cycle.ensures j).0 (c.in-Some.order.items, first.commit), first),
       refl,
@@ -21,7 +21,7 @@ returns-in-Some g c =
 
 pub anomaly-requires-clause-cycle : goal.anomaly-requires-clause-cycle
 anomaly-requires-clause-cycle g c =
-    let cycle : HasCycle (record { history = c.args.graph.now; level = c.args.level }) = rw c.in_default.is at c.in_ok-order.ensures in
+    let cycle : HasCycle (record { history = c.args.graph.now; level = c.args.level }) = rw (c.large.ensures.value, c.in_default.is) at c.in_ok-order.ensures in
     λ κs lives. rw c.in_ok-near.ensures.level cycle
 
 pub returns : goal.returns
