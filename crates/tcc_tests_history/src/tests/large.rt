@@ -3,7 +3,7 @@ use crate::tests::builders::{assert_names, graph_of, name};
 use std::alloc::Global;
 use std::process::Abort;
 use std::test::Fail;
-use tcc_graph::{Graph, LargeGraph, Level, Link};
+use tcc_graph::Graph;
 use tcc_reads::ReadFaultKind::Duplicate;
 use tcc_reads::{ResolveFault, resolve_large};
 use tcc_txn::{LargeSnapshot, Name, NoMemory, Op, Txn};
@@ -27,7 +27,8 @@ fn writers_of_x(
 ) -> Result<LargeSnapshot, NoMemory> {
     let key = name(rt, "x");
     let mut writes = Vec::new(alloc);
-    for value in 1..last + 1 {
+    for before in 0..last {
+        let value = before + 1;
         writes.push(single(rt, alloc, Op::Put { key, value })?)?;
     }
     for value in more {
@@ -42,51 +43,6 @@ fn writers_of_x(
         Ok(snapshot) => Ok(snapshot),
         Err((fault, _)) => panic!(rt; "no snapshot: {fault}"),
     }
-}
-
-fn large_graph(rt: &impl Abort, alloc: Global, snapshot: &LargeSnapshot) -> LargeGraph {
-    let resolved = match resolve_large(alloc, snapshot) {
-        Ok(resolved) => resolved,
-        Err(fault) => panic!(rt; "not resolved: {fault}"),
-    };
-    assert_names(rt, resolved.sessions(), &["a", "b"]);
-    assert_eq!(rt; resolved.places().len(), 5_001);
-    assert_eq!(rt; resolved.places()[4_999], (0, 5_000));
-    assert_names(rt, resolved.writes(5_000), &["x"]);
-    assert_eq!(rt; resolved.reads(5_001), &[(name(rt, "x"), 5_000)][..]);
-    match LargeGraph::build(alloc, &resolved) {
-        Ok(graph) => graph,
-        Err(_) => panic!(rt; "out of memory"),
-    }
-}
-
-#[test]
-fn more_transactions_than_a_small_history(rt: HostRuntime) -> Result<(), Fail> {
-    let alloc = rt.alloc();
-    let graph = large_graph(&rt, alloc, &writers_of_x(&rt, alloc, 5_000, &[])?);
-    let key = name(&rt, "x");
-    assert_eq!(rt; graph.count(), 5_002);
-    assert_names(&rt, graph.sessions(), &["a", "b"]);
-    assert_names(&rt, graph.keys(), &["x"]);
-    assert_eq!(rt; graph.at(5_001), Some((1, 1)));
-    assert_eq!(rt; graph.label(alloc, 4_097)?.as_str(), "a/4097");
-    assert!(rt; graph.session(1, 5_000) && !graph.session(1, 5_001));
-    assert!(rt; graph.causal(5_000, 5_001) && !graph.causal(4_999, 5_001));
-    assert_eq!(rt; graph.later(4_998), (4_999, 5_001));
-    assert_names(&rt, graph.reads_from(5_000, 5_001), &["x"]);
-    assert_eq!(rt; graph.reads(5_001), &[(key, 5_000)][..]);
-    assert_names(&rt, graph.writes(4_096), &["x"]);
-    assert_eq!(rt; graph.readings(5_000), (&[5_001][..], &[key][..]));
-    assert_eq!(rt; graph.writers(&key).len(), 5_001);
-    assert_eq!(rt; graph.readers(5_000, &key), &[5_001][..]);
-    assert_eq!(rt; graph.writers_at(0).last(), Some(&5_000));
-    assert_eq!(rt; graph.readings_of(0), (&[5_000][..], &[5_001][..]));
-    assert_eq!(rt; graph.readings_at(5_000), (&[5_001][..], &[0][..]));
-    assert_eq!(rt; graph.reads_at(5_001), &[(0, 5_000)][..]);
-    assert_eq!(rt; graph.writes_at(1), &[0][..]);
-    let far = Link::Session { from: 1, to: 5_000 };
-    assert!(rt; graph.is_link(Level::Causal, &far));
-    Ok(())
 }
 
 /// The fault of a second write is told at places past the small limits too.

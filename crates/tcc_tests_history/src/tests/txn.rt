@@ -350,7 +350,10 @@ fn records_within_large_limits(rt: HostRuntime) -> Result<(), Fail> {
 }
 
 fn fault_row(fault: Option<RowFault>) -> Option<u64> {
-    fault.map(|fault| fault.row)
+    match fault {
+        Some(fault) => Some(fault.row),
+        None => None,
+    }
 }
 
 #[test]
