@@ -1,7 +1,8 @@
 # make run      prints the program's answer for a small history; where it isn't built yet, by a trial build that proves nothing,
 #               in a minute and a half on 4 processors
 # make build    proves what isn't proved yet and builds the program, crates/tcc/out/tcc
-# make install  the same, and copies it to PREFIX/bin (PREFIX=/usr/local), its man page and bash completion to PREFIX/share
+# make checker  proves and builds the check alone, crates/tcc_checker/out/tcc_checker, and nothing of the searches
+# make install  the same as make build, and copies it to PREFIX/bin (PREFIX=/usr/local), its man page and bash completion to PREFIX/share
 # make dist     builds it and packs it with man page, completion, recipes and what they need into out/tcc-VERSION-x86_64-linux.tar.gz,
 #               which runs wherever there is a C library of glibc 2.34 or later, as on Debian 12
 # make demo     records clients of a real Redis and shows both answers
@@ -18,10 +19,11 @@ JOBS ?= $(shell nproc)
 TCC = crates/tcc/out/tcc
 DIST = out
 HISTORY = ../../examples/long-fork.csv
+CHECKED = ../../examples/stale-read.csv ../../examples/stale-read.certificate
 UNPROVED = the program is not built from these sources yet: this is a trial run of them (a minute and a half), of which \
 nothing is proved; make build proves and builds the program
 
-.PHONY: run build install dist pack demo demo-postgres test
+.PHONY: run build checker install dist pack demo demo-postgres test
 
 # A program that is older than a source is not run.
 run:
@@ -36,6 +38,12 @@ build:
 	@cd crates/tcc_graph && rt lib --jobs $(JOBS) >&2
 	@cd crates/tcc && rt all check --jobs $(JOBS) >&2
 	@cd crates/tcc && rt run --jobs $(JOBS) -- explain < $(HISTORY) > /dev/null
+
+# What checks answers, and nothing that finds them.
+checker:
+	@cd crates/tcc_graph && rt lib --jobs $(JOBS) >&2
+	@cd crates/tcc_checker && rt all check --jobs $(JOBS) >&2
+	@cd crates/tcc_checker && rt run --jobs $(JOBS) -- check $(CHECKED) > /dev/null
 
 install: build
 	install -D -m 755 crates/tcc/out/tcc '$(DESTDIR)$(PREFIX)/bin/tcc'

@@ -17,8 +17,8 @@ _tcc() {
         case $before in
             --level) COMPREPLY=($(compgen -W 'causal atomic' -- "$word")) ;;
             --workers) COMPREPLY=($(compgen -W '1 2 4 8 16 32' -- "$word")) ;;
-            --certificate|--require) ;;
-            *) [[ $word == -* ]] && COMPREPLY=($(compgen -W '--level --workers --json --certificate --require --help' -- "$word")) ;;
+            --certificate|--slice|--require) ;;
+            *) [[ $word == -* ]] && COMPREPLY=($(compgen -W '--level --workers --json --large --slice --certificate --require --help' -- "$word")) ;;
         esac
     elif [ "$command" = check ] && [[ $word == -* ]]; then
         COMPREPLY=($(compgen -W '--help' -- "$word"))

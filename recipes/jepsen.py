@@ -55,6 +55,8 @@ STEPS = {"read": "r", "write": "w"}  # what one operation of a register does
 REGISTER = "register"
 # What tcc takes at most.
 LIMITS = {"sessions": 64, "transactions": 4095, "keys": 1024, "operations in a transaction": 256}
+# The same with `--large`.
+LARGE = {"sessions": 4096, "transactions": 1048575, "keys": 1048576, "operations in a transaction": 256}
 HINTS = {"value": "; if keys have it before they are written, say so with --initial"}
 
 
@@ -317,9 +319,11 @@ class History:
         counts = {"sessions": len(self.sessions.given), "transactions": len(self.transactions), "keys": len(self.keys.given),
                   "operations in a transaction": longest}
         for what, number in counts.items():
-            if number > LIMITS[what]:
+            if number > LARGE[what]:
                 shorter = "transactions" if what.startswith("operations") else "the run"
-                yield "%d %s: tcc takes at most %d, so make %s shorter" % (number, what, LIMITS[what], shorter)
+                yield "%d %s: tcc takes at most %d, so make %s shorter" % (number, what, LARGE[what], shorter)
+            elif number > LIMITS[what]:
+                yield "%d %s: tcc explain takes at most %d, so say --large" % (number, what, LIMITS[what])
 
     def table(self) -> Iterator[Tuple[str, str, str]]:
         """What isn't itself in the records: kind, what stands for it, and how JSON spells it."""

@@ -19,7 +19,7 @@ counts them) and its operations, and each read its value. Of more than 12 operat
 drawn, and the others counted.
 
 With --text, and --history, nothing is drawn: the transactions are listed with their rows and operations, and the faults of
-an answer that is `unresolved`.
+an answer that is `unresolved`, each with the row of the write that it is about.
 """
 import argparse
 import csv
@@ -55,6 +55,14 @@ LABEL = re.compile(r"init|(%s)/([1-9][0-9]*)" % NAME.pattern)
 MOST_DRAWN = 12
 # The steps of a walk that are drawn one by one, and of an anomaly whose links are drawn with their reasons.
 MOST_WALKED, MOST_STEPS = 8, 40
+# What is said of the write that a fault is about: of the value, or of the reader's own write of the key before.
+WRITTEN = {
+    "Duplicate": "wrote it before",
+    "Aborted": "wrote it, in a transaction that aborted",
+    "Intermediate": "wrote it, and wrote the key again in its transaction",
+    "Future": "wrote it, later in the transaction",
+}
+OWN = {"BrokenInternal": "wrote another value before"}
 
 
 class NoPicture(Exception):
@@ -380,16 +388,40 @@ def fault_label(fault: dict) -> str:
 
 
 def fault_text(fault: dict, history: History) -> str:
-    """The line of a fault, as `tcc` has it, with the row of its operation."""
+    """The line of a fault, as `tcc` has it, with the row of its operation, and the write that it is about."""
     name = fault_label(fault)
-    row = fault_row(fault, history.find(name))
-    return "%s %s op %d %s %d, row %d" % (fault["kind"], name, fault["op"], key(fault["key"]), fault["value"], row)
+    row = fault_operation(fault, history.find(name)).row
+    return "%s %s op %d %s %d, row %d: %s" % (
+        fault["kind"], name, fault["op"], key(fault["key"]), fault["value"], row, write_text(fault, name, history))
 
 
-def fault_row(fault: dict, one: Transaction) -> int:
+def fault_operation(fault: dict, one: Transaction) -> Operation:
     if not 1 <= fault["op"] <= len(one.operations):
         raise NoPicture("%s has no operation %d in the history: is it that of the answer?" % (one.label, fault["op"]))
-    return one.operations[fault["op"] - 1].row
+    return one.operations[fault["op"] - 1]
+
+
+def write_text(fault: dict, name: str, history: History) -> str:
+    """Which write a fault of the transaction is about, with its row."""
+    if fault["kind"] == "ThinAir":
+        return "nobody wrote it"
+    if fault["kind"] in OWN:
+        before = history.find(name).operations[: fault["op"] - 1]
+        said, writes = OWN[fault["kind"]], [(name, one) for one in reversed(before) if (one.does, one.key) == ("w", fault["key"])]
+    else:
+        said, writes = WRITTEN[fault["kind"]], writes_of(fault, fault_operation(fault, history.find(name)), history)
+    if not writes:
+        raise NoPicture("nobody writes what %s is about in the history: is it that of the answer?" % name)
+    writer, write = writes[0]
+    op = history.find(writer).operations.index(write) + 1
+    return "%s op %d %s, row %d" % (writer, op, said, write.row)
+
+
+def writes_of(fault: dict, but: Operation, history: History) -> List[Tuple[str, Operation]]:
+    """The writes of a fault's value but for its own operation, by the name of the session and by place."""
+    wanted = ("w", fault["key"], str(fault["value"]))
+    return [(name, one) for name in sorted(history.transactions, key=place) for one in history.transactions[name].operations
+            if (one.does, one.key, one.value) == wanted and one != but]
 
 
 def read_answer(lines: Iterable[str], number: Optional[int]) -> dict:

@@ -1,12 +1,13 @@
 #!/usr/bin/env python3
 """Runs a built `tcc` on the cases of this folder and compares what it does, byte by byte.
 
-    run.py [--tcc PATH] [--only TEXT] [--workers N] [NAME ..]
+    run.py [--tcc PATH] [--only TEXT] [--workers N | --checker [PATH]] [NAME ..]
 
 PATH is split into words, so that "env X=1 tcc" will do. Each difference is one
 line; the last line is `N passed, M failed`. README.md says what a case holds.
 With --workers each run of `explain` gets that number of workers, and has to do
-the same as without it; runs of other commands are left out.
+the same as without it; runs of other commands are left out. With --checker the runs of `check` alone are
+done, by the program that has nothing else, called `tcc` by a link.
 """
 import argparse
 import contextlib
@@ -29,9 +30,10 @@ from compared import first_difference, shown  # noqa: E402
 from counted import status_of  # noqa: E402
 
 CASES = HERE / "cases"
+CHECKER = str(TOP / "crates/tcc_checker/out/tcc_checker")
 NEEDED = {"about", "arguments", "status"}
 FIELDS = NEEDED | {"input", "input_from", "typed", "cut", "closed", "files", "output", "output_to", "taken", "errors",
-                   "watched", "certificate", "checked", "seconds"}
+                   "watched", "certificate", "checked", "slice", "explained", "seconds"}
 COMMAND_LINE = 64
 
 
@@ -219,6 +221,11 @@ def by_workers(run, workers):
     return {**run, "arguments": [command, "--workers", str(workers), *others]}
 
 
+def of_check(run):
+    """The run, where it is one of `check`; else None."""
+    return run if run["arguments"][:1] == ["check"] else None
+
+
 def difference(tcc, run, seconds):
     """What the program did otherwise than wanted, or None."""
     seconds = run.get("seconds", seconds)
@@ -238,8 +245,8 @@ def difference(tcc, run, seconds):
             return "status: wanted %d, got %d, output %s, standard error %s" % (
                 run["status"], done.returncode, shown(output), shown(done.stderr))
         errors = done.stderr.replace(os.fsencode(os.path.join(folder, "")), b"@")
-        wrong = next(filter(None, compared(run, output, errors, pathlib.Path(folder, "certificate"))), None)
-        return wrong or checked(tcc, run, folder, seconds)
+        wrong = next(filter(None, compared(run, output, errors, pathlib.Path(folder))), None)
+        return wrong or checked(tcc, run, folder, seconds) or explained(tcc, run, folder, seconds)
 
 
 def checked(tcc, run, folder, seconds):
@@ -258,31 +265,50 @@ def checked(tcc, run, folder, seconds):
     return first_difference("check", text(run["checked"]), done.stdout)
 
 
-def compared(run, output, errors, certificate):
+def explained(tcc, run, folder, seconds):
+    """What `explain` of the slice that was written, or `check` of its certificate, says otherwise than wanted, or None."""
+    if "explained" not in run:
+        return None
+    words = run["arguments"]
+    level = words[words.index("--level") + 1] if "--level" in words else "causal"
+    records, certificate = pathlib.Path(folder, "slice"), pathlib.Path(folder, "certificate-of-the-slice")
+    try:
+        answer = subprocess.run([*tcc, "explain", "--level", level, "--certificate", certificate, records],
+                                capture_output=True, timeout=seconds)
+        verdict = subprocess.run([*tcc, "check", records, certificate], capture_output=True, timeout=seconds)
+    except subprocess.TimeoutExpired:
+        return "the slice: no end after %g seconds" % seconds
+    if answer.returncode != 1 or verdict.returncode or answer.stderr or verdict.stderr:
+        return "the slice: status %d, of its check %d" % (answer.returncode, verdict.returncode)
+    return first_difference("the slice's answer", text(run["explained"]), answer.stdout)
+
+
+def compared(run, output, errors, folder):
     """For each text that a run leaves how it differs from the one wanted, or None."""
     if not {"output_to", "taken"} & set(run):
         yield stream_difference("output", run.get("output", []), output)
     yield stream_difference("standard error", run.get("errors", []), errors)
-    if "certificate" in run:
-        got = certificate.read_bytes() if certificate.exists() else b"no such file"
-        yield first_difference("certificate", text(certificate_wanted(run)), got)
+    for name in {"certificate", "slice"} & set(run):
+        left = folder / name
+        got = left.read_bytes() if left.exists() else b"no such file"
+        yield first_difference(name, text(file_wanted(run, name)), got)
 
 
-def certificate_wanted(run):
-    """The parts of the certificate that is wanted: its own, or those of the file that it names."""
-    wanted = run["certificate"]
+def file_wanted(run, name):
+    """The parts of the file that is wanted by this name: its own, or those of the file that it names."""
+    wanted = run[name]
     return run["files"][wanted[1:]] if isinstance(wanted, str) else wanted
 
 
-def outcomes_of(path, tcc, workers, seconds):
-    """The runs of a case by their names, each with what is wrong, or None."""
+def outcomes_of(path, tcc, picked, seconds):
+    """The runs of a case that are picked, by their names, each with what is wrong, or None."""
     try:
         every = list(runs(json.loads(path.read_text())))
     except (OSError, ValueError, KeyError) as error:
         yield path.stem, "not a case: %s" % error
         return
     for which, run in every:
-        asked = by_workers(run, workers) if workers else run
+        asked = picked(run)
         if asked:
             yield path.stem + which, difference(tcc, asked, seconds)
 
@@ -293,12 +319,19 @@ def main():
     ask.add_argument("--only", default="", help="only cases whose name holds this text")
     ask.add_argument("--seconds", type=float, default=120, help="for each run, by default 120")
     ask.add_argument("--workers", type=int, help="for each run of explain that doesn't say how many itself")
+    ask.add_argument("--checker", nargs="?", const=CHECKER, metavar="PATH", help="the program that has `check` alone, by default the built one")
     ask.add_argument("names", nargs="*", help="only these cases")
     asked = ask.parse_args()
     names = asked.names or sorted(path.stem for path in CASES.glob("*.json"))
     paths = [CASES / (name + ".json") for name in names if asked.only in name]
-    tcc = shlex.split(asked.tcc)
-    return status_of(outcome for path in paths for outcome in outcomes_of(path, tcc, asked.workers, asked.seconds))
+    with tempfile.TemporaryDirectory() as folder:
+        tcc, picked = shlex.split(asked.tcc), lambda run: run
+        if asked.workers:
+            picked = functools.partial(by_workers, workers=asked.workers)
+        if asked.checker:
+            picked, tcc = of_check, [os.path.join(folder, "tcc")]
+            os.symlink(os.path.abspath(asked.checker), tcc[0])
+        return status_of(outcome for path in paths for outcome in outcomes_of(path, tcc, picked, asked.seconds))
 
 
 if __name__ == "__main__":

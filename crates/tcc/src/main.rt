@@ -8,6 +8,7 @@ use std::io::Write;
 use std::process::ExitCode;
 use std::thread::Threads;
 use tcc_files::{Input, Telling, check_opened, open_both, open_input, open_output, print_unopened};
+use tcc_large_run::run_large;
 use tcc_run::{OpenGate, Options, Status, run_explain};
 use tcc_words::{Request, read};
 
@@ -41,6 +42,36 @@ fn explain<W: Write>(
     }
 }
 
+/// The same of records up to the large limits, with a file for a slice if a path is given.
+fn explain_large<W: Write>(
+    rt: &HostRuntime,
+    threads: &(impl Threads + Sync),
+    options: Options,
+    input: Telling<'_, Input>,
+    slice: &Option<String>,
+    out: &mut W,
+) -> u8
+    requires workers { (0 < options.workers) × (options.workers ≤ 32) }
+{
+    match open_output(rt, slice.as_deref(), input.stream()) {
+        Ok(file) => {
+            let mut file = file;
+            let mut notes = rt.stderr();
+            run_large(
+                threads,
+                rt.alloc(),
+                input,
+                out,
+                &mut file,
+                &mut notes,
+                options,
+                &OpenGate,
+            )
+        }
+        Err(error) => print_unopened(error.kind(), options.json, out),
+    }
+}
+
 fn main(rt: HostRuntime) -> ExitCode {
     let mut out = Telling::new(rt.stdout(), "standard output", rt.stderr());
     let code = match read(&rt, &mut out) {
@@ -49,8 +80,11 @@ fn main(rt: HostRuntime) -> ExitCode {
                 options,
                 history,
                 certificate,
+                large,
+                slice,
             },
         ) => match open_input(&rt, history.as_deref()) {
+            Ok(input) if large => explain_large(&rt, &rt, options, input, &slice, &mut out),
             Ok(input) => explain(&rt, &rt, options, input, &certificate, &mut out),
             Err(error) => print_unopened(error.kind(), options.json, &mut out),
         },

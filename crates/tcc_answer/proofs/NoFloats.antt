@@ -19,7 +19,7 @@ in_step : (labels : List (List ℕ)) (s : Step) → has_float (step_json labels 
 in_step labels (step.Session u v) = refl
 in_step labels (step.Reads u v key) = refl
 
-in_link : (labels : List (List ℕ)) (l : Link) → has_float (link_json labels l) ≡ false
+pub in_link : (labels : List (List ℕ)) (l : Link) → has_float (link_json labels l) ≡ false
 in_link labels (link.Session u v) = refl
 in_link labels (link.Reads u v key) = refl
 in_link labels (link.Derived b a key c walk) = rw (in_items (step_json labels) (in_step labels) walk) refl

@@ -137,12 +137,11 @@ fn derived_json(
     })
 }
 
-fn links_json(alloc: Global, anomaly: &Anomaly) -> Result<Value, AllocError>
-    ensures { IfOk result (λ v. view v ≡ array (items_of (map (link_json anomaly.now.labels) anomaly.now.links))) }
+/// The list of the objects of the links.
+pub fn links_json(alloc: Global, labels: &Labels, links: &[Link]) -> Result<Value, AllocError>
+    ensures { IfOk result (λ v. view v ≡ array (items_of (map (link_json labels.now) links.now))) }
 {
     let mut list = Vec::new(alloc);
-    let labels = anomaly.labels();
-    let links = anomaly.links();
     for link in links {
         list.push(link_json(alloc, labels, link)?)?;
     }
@@ -152,7 +151,7 @@ fn links_json(alloc: Global, anomaly: &Anomaly) -> Result<Value, AllocError>
 fn anomaly_json(alloc: Global, anomaly: &Anomaly) -> Result<Value, AllocError>
     ensures { IfOk result (λ v. view v ≡ cycle_json anomaly.now) }
 {
-    let cycle = links_json(alloc, anomaly)?;
+    let cycle = links_json(alloc, anomaly.labels(), anomaly.links())?;
     let shape = shape_word(anomaly.shape());
     let steps = anomaly.cost();
     json!(in alloc; {

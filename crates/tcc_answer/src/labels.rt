@@ -4,7 +4,7 @@ ghost use Rattle.tcc_answer.specs.Labels.{labels_of, label_at};
 
 use std::alloc::Global;
 use std::marker::Model;
-use tcc_graph::Graph;
+use tcc_graph::{Graph, LargeGraph};
 use tcc_txn::NoMemory;
 
 /// The names of all transactions, by number.
@@ -24,6 +24,13 @@ impl Model for Labels {
 impl Labels {
     /// The names of the transactions of a graph.
     pub fn of(alloc: Global, graph: &Graph) -> Result<Labels, NoMemory>
+        ensures { IfOk result (λ labels. labels ≡ labels_of graph.now) }
+    {
+        Labels::of_large(alloc, graph.large())
+    }
+
+    /// The same of a graph within the large limits.
+    pub fn of_large(alloc: Global, graph: &LargeGraph) -> Result<Labels, NoMemory>
         ensures { IfOk result (λ labels. labels ≡ labels_of graph.now) }
     {
         let mut labels = Vec::new(alloc);

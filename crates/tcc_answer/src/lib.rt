@@ -11,7 +11,7 @@ mod text;
 
 pub use answer::{Anomaly, Answer, Commit};
 pub use fault::WriteFault;
-pub use json::write_json;
+pub use json::{links_json, write_json};
 pub use labels::Labels;
-pub use shape::Shape;
-pub use text::write_text;
+pub use shape::{Shape, shape_of};
+pub use text::{push_links, shape_word, write_text};

@@ -18,7 +18,7 @@ pub enum Shape {
 }
 
 /// The shape of an anomaly with these links.
-pub(crate) fn shape_of(links: &[Link]) -> Shape
+pub fn shape_of(links: &[Link]) -> Shape
     ensures { result ≡ shape_of links.now }
 {
     let mut end = None;

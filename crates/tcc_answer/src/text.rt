@@ -141,8 +141,8 @@ fn push_derived(
     push(text, &[b" by ", key.bytes(), b"\n"])
 }
 
-/// Adds the links.
-fn push_links(text: &mut Vec<u8>, labels: &Labels, links: &[Link]) -> Result<(), NoMemory>
+/// Adds the lines of the links.
+pub fn push_links(text: &mut Vec<u8>, labels: &Labels, links: &[Link]) -> Result<(), NoMemory>
     ensures { OnOk result (text.new.items ≡ text.old.items ++ flat_map (link_text labels.now) links.now) }
 {
     for link in links {
@@ -152,7 +152,7 @@ fn push_links(text: &mut Vec<u8>, labels: &Labels, links: &[Link]) -> Result<(),
 }
 
 /// The word for a shape.
-pub(crate) fn shape_word(shape: Shape) -> &'static str
+pub fn shape_word(shape: Shape) -> &'static str
     ensures { result.now ≡ shape_word shape }
 {
     match shape {

@@ -2,6 +2,7 @@
 use Rattle.std.specs.Prelude.{ℕ, List, codes}
 use Rattle.tcc_bench_stages.specs.declared.Stage.{Stage}
 use Rattle.tcc_bench_stages.specs.declared.Stage.TheVariants.{Csv, Rows, Snapshot, Resolve, Graph, Order, Near, Derive}
+use Rattle.tcc_bench_stages.specs.declared.Stage.TheVariants.{LargeSnapshot, LargeResolve, LargeGraph, LargeOrder, LargeCycle, LargeSlice, LargeAnswer}
 
 abbrev pub word_of : Stage → List ℕ
 word_of Csv = codes "csv"
@@ -12,3 +13,10 @@ word_of Graph = codes "graph"
 word_of Order = codes "order"
 word_of Near = codes "near"
 word_of Derive = codes "derive"
+word_of LargeSnapshot = codes "large-snapshot"
+word_of LargeResolve = codes "large-resolve"
+word_of LargeGraph = codes "large-graph"
+word_of LargeOrder = codes "large-order"
+word_of LargeCycle = codes "large-cycle"
+word_of LargeSlice = codes "large-slice"
+word_of LargeAnswer = codes "large-answer"

@@ -2,14 +2,20 @@
 //! standard input by csv alone, `rows` reads them and keeps nothing, `snapshot` makes a snapshot of what they finish,
 //! `resolve` resolves it too, `graph` builds its graph too. From there two ways lead on: `order` looks for the first commit
 //! order, and `near` works out the distances, `derive` the prices too.
+//!
+//! `large-snapshot`, `large-resolve`, `large-graph` and `large-order` do the same within the large limits, `large-cycle` looks
+//! for a cycle where there is no order, and `large-slice` cuts a small history out by it. `large-answer` prints what is
+//! decided. A second argument `atomic` asks for that level of these.
 #![tactic(auto)]
 
 ghost use Rattle.std.specs.Prelude.{◌≡◌, ◌≢◌, IfNone, IfSome};
 ghost use Rattle.tcc_bench_stages.specs.Stages.{word_of};
 
 mod counting;
+mod large;
 
 use crate::counting::count_records;
+use crate::large::{large_answer, run_large};
 use std::alloc::Global;
 use std::env;
 use std::io::Read;
@@ -20,11 +26,11 @@ use tcc_graph::{Graph, Level};
 use tcc_near::near;
 use tcc_order::order;
 use tcc_reads::resolve;
-use tcc_txn::{Item, Rows, snapshot_of};
+use tcc_rows::{Item, Rows, snapshot_of};
 
 /// How far a run goes.
 #[derive(Clone, Copy, PartialEq, Eq)]
-enum Stage {
+pub enum Stage {
     Csv,
     Rows,
     Snapshot,
@@ -33,6 +39,26 @@ enum Stage {
     Order,
     Near,
     Derive,
+    LargeSnapshot,
+    LargeResolve,
+    LargeGraph,
+    LargeOrder,
+    LargeCycle,
+    LargeSlice,
+    LargeAnswer,
+}
+
+/// Whether a stage is one of a history within the large limits.
+fn is_large(stage: Stage) -> bool {
+    matches!(
+        stage,
+        Stage::LargeSnapshot
+            | Stage::LargeResolve
+            | Stage::LargeGraph
+            | Stage::LargeOrder
+            | Stage::LargeCycle
+            | Stage::LargeSlice
+    )
 }
 
 /// How many transactions the records finish; none after a fault or a seal.
@@ -104,6 +130,13 @@ fn stage_of(word: &str) -> Option<Stage>
         "order" => Some(Stage::Order),
         "near" => Some(Stage::Near),
         "derive" => Some(Stage::Derive),
+        "large-snapshot" => Some(Stage::LargeSnapshot),
+        "large-resolve" => Some(Stage::LargeResolve),
+        "large-graph" => Some(Stage::LargeGraph),
+        "large-order" => Some(Stage::LargeOrder),
+        "large-cycle" => Some(Stage::LargeCycle),
+        "large-slice" => Some(Stage::LargeSlice),
+        "large-answer" => Some(Stage::LargeAnswer),
         _ => None,
     }
 }
@@ -114,14 +147,37 @@ fn asked_stage(rt: &HostRuntime) -> Option<Stage> {
     stage_of(word.as_str())
 }
 
+/// The level that the second argument asks for.
+fn asked_level(rt: &HostRuntime) -> Option<Level> {
+    match env::args(rt).ok()?.nth(2) {
+        Some(word) if word.as_str() == "atomic" => Some(Level::Atomic),
+        Some(_) => None,
+        None => Some(Level::Causal),
+    }
+}
+
+/// A number as text.
+fn text_of(alloc: Global, count: Option<u32>) -> Option<String> {
+    let count = count?;
+    format!(in alloc; "{count}").ok()
+}
+
 fn main(rt: HostRuntime) -> ExitCode {
-    let Some(stage) = asked_stage(&rt) else {
+    let (Some(stage), Some(level)) = (asked_stage(&rt), asked_level(&rt)) else {
         return ExitCode::from(64);
     };
-    let Some(count) = run(&rt, rt.alloc(), rt.stdin(), stage) else {
+    let alloc = rt.alloc();
+    let text = if stage == Stage::LargeAnswer {
+        large_answer(alloc, rt.stdin(), level)
+    } else if is_large(stage) {
+        text_of(alloc, run_large(alloc, rt.stdin(), level, stage))
+    } else {
+        text_of(alloc, run(&rt, alloc, rt.stdin(), stage))
+    };
+    let Some(text) = text else {
         return ExitCode::from(1);
     };
-    match println!(rt; "{count}") {
+    match println!(rt; "{text}") {
         Ok(()) => ExitCode::SUCCESS,
         Err(_) => ExitCode::from(6),
     }

@@ -13,7 +13,7 @@ use Rattle.std.proofs.lemmas.Cmp.{nat_list_eq_equiv}
 use Rattle.std.proofs.lemmas.List.{take_all}
 use Rattle.std.proofs.lemmas.List.Elements.{All-push, All-weaker, Contains-append_left, Contains-push}
 use Rattle.std.proofs.lemmas.Option.{none-some, same_Some}
-use Rattle.tcc_txn.specs.Lines.{same}
+use Rattle.tcc_txn.specs.Bytes.{same}
 use Rattle.tcc_txn.specs.Snapshots.{Sessions}
 use Rattle.tcc_book.specs.Passes.{Agrees, LeastTorn, Passed, lesser}
 use Rattle.tcc_txn.proofs.SortedParts.{name_cmp}

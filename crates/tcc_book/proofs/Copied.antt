@@ -15,7 +15,7 @@ use Rattle.std.proofs.lemmas.List.Sums.{sum_by-cons}
 use Rattle.std.proofs.lemmas.Map.Views.{lookup-from_Contains}
 use Rattle.std.proofs.Math.Seq.{get_or-append_seam}
 use Rattle.indexmap.specs.IndexMap.{keys}
-use Rattle.tcc_txn.specs.Lines.{same}
+use Rattle.tcc_txn.specs.Bytes.{same}
 use Rattle.tcc_txn.specs.Transactions.{Transaction}
 use Rattle.tcc_txn.specs.Snapshots.{first_repeated, snapshot_fault}
 use Rattle.tcc_txn.specs.declared.limits.TheConstants.{MAX_SESSIONS, MAX_TRANSACTIONS}

@@ -9,7 +9,7 @@ use Rattle.std.specs.Global.{Vec}
 use Rattle.std.specs.Map.{keys_of, lookup}
 use Rattle.indexmap.specs.IndexMap.{get, keys, IsUnique, Updates, index_map_len, insert_entry}
 use Rattle.indexmap.proofs.CallerLemmas.{insert_entry-new}
-use Rattle.tcc_txn.specs.Lines.{same}
+use Rattle.tcc_txn.specs.Bytes.{same}
 use Rattle.tcc_txn.specs.declared.limits.TheConstants.{MAX_SESSIONS}
 use Rattle.tcc_book.specs.BookStorage.{Places, IsStored, places_from}
 use Rattle.tcc_book.specs.declared.entry.Entry.{Entry}

@@ -6,7 +6,7 @@ use Rattle.std.specs.List.{list_any, list_all}
 use Rattle.std.proofs.lemmas.Map.Made.{is_some-lookup}
 use Rattle.std.proofs.lemmas.List.{length-map}
 use Rattle.indexmap.specs.IndexMap.{get, keys, index_map_len}
-use Rattle.tcc_txn.specs.Lines.{same}
+use Rattle.tcc_txn.specs.Bytes.{same}
 use Rattle.tcc_txn.proofs.SortedParts.{same_names}
 use Rattle.tcc_book.specs.Books.{IsBook, list_of}
 use Rattle.tcc_book.specs.BookStorage.{IsStored, Places, places_from}

@@ -7,7 +7,7 @@ use Rattle.std.specs.Global.{Vec}
 use Rattle.std.proofs.lemmas.Cmp.{nat_list_eq_equiv}
 use Rattle.std.proofs.lemmas.List.Folds.{list_all-append}
 use Rattle.indexmap.specs.IndexMap.{get, keys, index_map_len, WritesThrough}
-use Rattle.tcc_txn.specs.Lines.{same}
+use Rattle.tcc_txn.specs.Bytes.{same}
 use Rattle.tcc_txn.specs.Transactions.{Transaction}
 use Rattle.tcc_txn.specs.declared.limits.TheConstants.{MAX_SESSIONS, MAX_TRANSACTIONS}
 use Rattle.tcc_txn.proofs.SortedParts.{same_names}

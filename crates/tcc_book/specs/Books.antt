@@ -2,7 +2,7 @@
 use Rattle.std.specs.Prelude.{◌≡◌, ℕ, ◌<◌, ◌≤◌, Bool, true, false, List, [], ◌∷◌, ◌++◌, map, filter, length, Result, Ok, Err}
 use Rattle.std.specs.List.{IsDistinct, list_all, list_any}
 use Rattle.std.specs.FinMap.{from_entries}
-use Rattle.tcc_txn.specs.Lines.{same}
+use Rattle.tcc_txn.specs.Bytes.{same}
 use Rattle.tcc_txn.specs.Snapshots.{Sessions}
 use Rattle.tcc_txn.specs.Transactions.{Transaction}
 use Rattle.tcc_txn.specs.declared.limits.TheConstants.{MAX_SESSIONS, MAX_TRANSACTIONS}

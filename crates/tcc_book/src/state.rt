@@ -1,7 +1,7 @@
 //! What the lock guards: the sessions that were opened, and the journal of all that was recorded.
 ghost use Rattle.std.specs.Prelude.{◌≡◌, ◌<◌, All, IfOk, length, map};
 ghost use Rattle.indexmap.specs.IndexMap.{IsUnique};
-ghost use Rattle.tcc_txn.specs.Lines.{same};
+ghost use Rattle.tcc_txn.specs.Bytes.{same};
 ghost use Rattle.tcc_book.specs.Books.{IsBook, Opens, Records, copy_of, no_book};
 ghost use Rattle.tcc_txn.specs.Snapshots.{parts_of};
 ghost use Rattle.tcc_book.specs.BookStorage.{AddsPlace, AreWithin, part_at, txn_at};

@@ -20,12 +20,12 @@ use Rattle.tcc_cert.proofs.LinesBack.{IsReadBack}
 abbrev pub AreAtMost : ℕ → List ℕ → Type 0
 AreAtMost most numbers = AllByRecursion (λ n. n ≤ most) numbers
 
-numbers-words : (most : ℕ) (numbers : List ℕ) → most < 2 ^ 64 → AreAtMost most numbers → AreWords (numbers_words numbers)
+pub numbers-words : (most : ℕ) (numbers : List ℕ) → most < 2 ^ 64 → AreAtMost most numbers → AreWords (numbers_words numbers)
 numbers-words most [] small all = tt
 numbers-words most (n ∷ numbers) small all =
     (decimal_nonempty n (omega (arith, all.0)), decimal-above n (omega (arith, all.0)), numbers-words most numbers small all.1)
 
-numbers-back : (most : ℕ) (numbers : List ℕ) → most < 2 ^ 64 → AreAtMost most numbers → numbers_of most (numbers_words numbers) ≡ Ok numbers
+pub numbers-back : (most : ℕ) (numbers : List ℕ) → most < 2 ^ 64 → AreAtMost most numbers → numbers_of most (numbers_words numbers) ≡ Ok numbers
 numbers-back most [] small all = refl
 numbers-back most (n ∷ numbers) small all =
     rw (number_of-decimal 0 most n (omega arith) all.0 (omega (arith, all.0)), numbers-back most numbers small all.1) refl

@@ -1,7 +1,8 @@
 -- Texts of the items of a list, sent one after the other.
 use Rattle.std.proofs.Common.{◌≡◌, ℕ, ◌+◌, ◌<◌, ◌≤◌, List, [], ◌∷◌, ◌++◌, length, Option, refl, sym}
-use Rattle.std.proofs.Common.{ap, subst, ◌∙◌, append-nil, take, drop, get_or, map, flat_map}
+use Rattle.std.proofs.Common.{ap, subst, ◌∙◌, append-nil, append_assoc, take, drop, get_or, map, flat_map}
 use Rattle.std.proofs.Common.{take-append-drop}
+use lib.Seq.{take-add}
 use Rattle.std.proofs.lemmas.List.{at_drop_more, take_all}
 use Rattle.std.proofs.lemmas.Grind.{take_at_read, flat_map-append}
 use Rattle.tcc_cert.specs.Writing.{Sends, Stops}
@@ -57,3 +58,25 @@ flat_map-map f g (x ∷ xs) = ap (λ l. f (g x) ++ l) (flat_map-map f g xs)
 pub flat_map-flat_map : {X Y : Type 0} (f : Y → List ℕ) (g : X → List Y) (xs : List X) → flat_map f (flat_map g xs) ≡ flat_map (λ x. flat_map f (g x)) xs
 flat_map-flat_map f g [] = refl
 flat_map-flat_map f g (x ∷ xs) = flat_map-append f (g x) (flat_map g xs) ∙ ap (λ l. flat_map f (g x) ++ l) (flat_map-flat_map f g xs)
+
+-- the texts of the first items were sent, and of the others none
+pub Stops-rest : {X : Type 0} {a b c : Option (List ℕ)} {l m : List ℕ} (f : X → List ℕ) (xs : List X) (i : ℕ)
+    → Sends a l b m (flat_map f (take i xs)) → Stops b m c [] → Stops a l c (flat_map f xs)
+Stops-rest {X} {a} {b} {c} {l} {m} f xs i before stop =
+    let parts : flat_map f xs ≡ flat_map f (take i xs) ++ flat_map f (drop i xs) =
+    ap (flat_map f) (sym (take-append-drop i xs)) ∙ flat_map-append f (take i xs) (drop i xs) in
+    subst (Stops a l c) (sym parts) (Stops-then before (Stops-early (flat_map f (drop i xs)) stop))
+
+-- some more items were kept
+pub Sends-some : {X : Type 0} {a b c : Option (List ℕ)} {l m n k : List ℕ} (f : X → List ℕ) (xs : List X) (i many : ℕ)
+    → Sends a l b m (flat_map f (take i xs)) → Sends b m c n [] → k ≡ n ++ flat_map f (take many (drop i xs))
+    → Sends a l c k (flat_map f (take (i + many) xs))
+Sends-some {X} {a} {b} {c} {l} {m} {n} {k} f xs i many before room kept =
+    let some = flat_map f (take many (drop i xs)) in
+    let parts : flat_map f (take (i + many) xs) ≡ flat_map f (take i xs) ++ some =
+    ap (flat_map f) (take-add i many xs) ∙ flat_map-append f (take i xs) (take many (drop i xs)) in
+    rw (parts, kept) (Sends-then before (record {
+      sent = room.sent;
+      appended = room.appended;
+      whole = sym (append_assoc m [] some) ∙ ap (λ t. t ++ some) room.whole ∙ append_assoc room.sent n some;
+    }))

@@ -9,6 +9,7 @@ pub mod Numbered
 pub mod ReadingFacts
 pub mod LinesBack
 pub mod FormsBack
+pub mod DigitLines
 pub mod LinksBack
 pub mod ClaimsBack
 pub mod WindowFacts

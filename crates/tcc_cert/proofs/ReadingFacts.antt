@@ -11,7 +11,7 @@ use Rattle.std.proofs.lemmas.Bool.Decides.{nat_tests}
 use Rattle.std.proofs.lemmas.List.{take_at, length-append}
 use Rattle.std.proofs.lemmas.Fmt.{decimal_digit, decimal_by_steps, decimal_is_IsNumeral, digits_decimal, first_decimal}
 use Rattle.std.proofs.lemmas.Str.Parse.{numerals_by_value, tells_all_ascii_digits}
-use Rattle.tcc_txn.specs.Lines.{has_no_leading_zero}
+use Rattle.tcc_txn.specs.Bytes.{has_no_leading_zero}
 use Rattle.tcc_cert.specs.Texts.{Words, words_text}
 use Rattle.tcc_cert.specs.Reading.{parted, words_of, number_of, line_length, line_of}
 

@@ -7,7 +7,7 @@ use Rattle.std.specs.List.{position_or_len, slice_split}
 use Rattle.std.specs.Str.{all_ascii_digits}
 use Rattle.std.specs.Str.Parse.{digits_value}
 use Rattle.tcc_txn.specs.Names.{name_fault}
-use Rattle.tcc_txn.specs.Lines.{same, has_no_leading_zero}
+use Rattle.tcc_txn.specs.Bytes.{same, has_no_leading_zero}
 use Rattle.tcc_graph.specs.declared.step.Step.{Step}
 use Rattle.tcc_graph.specs.declared.step.Step.TheVariants as step
 use Rattle.tcc_graph.specs.declared.link.Link.{Link}

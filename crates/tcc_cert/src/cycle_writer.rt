@@ -126,7 +126,8 @@ impl<'w, W: Write> CycleWriter<'w, W> {
         }
     }
 
-    /// Begins the text of a claim about so many transactions, whose rows are then to come.
+    /// Begins the text of a claim about so many transactions, whose rows are then to come. It is for those who write a
+    /// certificate's rows as they are made, and hold none of them.
     pub fn begin(
         out: &'w mut W,
         version: Version,

@@ -3,6 +3,7 @@
 
 mod certificate;
 mod cycle_writer;
+mod digits;
 mod fault;
 pub mod laws;
 mod lines;

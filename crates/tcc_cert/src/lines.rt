@@ -1,5 +1,5 @@
 //! Lines of words and of numbers, as they go out.
-ghost use Rattle.std.specs.Prelude.{◌≡◌, ◌∷◌, map, flat_map, codes, ◌++◌, decimal};
+ghost use Rattle.std.specs.Prelude.{◌≡◌, ◌∷◌, map, flat_map, codes, ◌++◌};
 ghost use Rattle.tcc_cert.specs.Writing.{IsSent};
 ghost use Rattle.tcc_cert.specs.Texts.{words_text, line_text, lines_text, numbers_words, table_lines};
 
@@ -40,32 +40,6 @@ pub(crate) fn line<W: Write>(
     outgoing.put(out, b"\n")
 }
 
-/// A number after a space. Most numbers of a row have one digit or two.
-fn later_number<W: Write>(outgoing: &mut Outgoing, out: &mut W, number: u32) -> io::Result<()>
-    ensures { IsSent result (W.contents out.old) outgoing.old (W.contents out.new) outgoing.new (codes " " ++ decimal number) }
-{
-    if number < 10 {
-        outgoing.put_few(out, [b' ', b'0' + number as u8])
-    } else if number < 100 {
-        outgoing.put_few(
-            out,
-            [b' ', b'0' + (number / 10) as u8, b'0' + (number % 10) as u8],
-        )
-    } else {
-        later_word(outgoing, out, Buffer::new().format(number).as_bytes())
-    }
-}
-
-/// Numbers, each after a space.
-fn later_numbers<W: Write>(outgoing: &mut Outgoing, out: &mut W, numbers: &[u32]) -> io::Result<()>
-    ensures { IsSent result (W.contents out.old) outgoing.old (W.contents out.new) outgoing.new (flat_map (λ number. codes " " ++ decimal number) numbers.now) }
-{
-    for number in numbers {
-        later_number(outgoing, out, *number)?;
-    }
-    Ok(())
-}
-
 /// A line of these numbers.
 pub(crate) fn number_line<W: Write>(
     outgoing: &mut Outgoing,
@@ -78,7 +52,7 @@ pub(crate) fn number_line<W: Write>(
         return outgoing.put(out, b"\n");
     };
     outgoing.put(out, Buffer::new().format(*first).as_bytes())?;
-    later_numbers(outgoing, out, later)?;
+    outgoing.put_numbers(out, later)?;
     outgoing.put(out, b"\n")
 }
 

@@ -34,7 +34,7 @@ impl Links {
         &self.links
     }
 
-    /// The links as they came.
+    /// The links as they came, for those who take a certificate apart.
     pub fn into_vec(self) -> Vec<Link>
         ensures { result.items ≡ self }
     {

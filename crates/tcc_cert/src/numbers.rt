@@ -32,7 +32,7 @@ impl Numbers {
         &self.numbers
     }
 
-    /// The numbers as they came.
+    /// The numbers as they came, for those who take a certificate apart.
     pub fn into_vec(self) -> Vec<u32>
         ensures { result.items ≡ self }
     {

@@ -1,14 +1,19 @@
 //! Bytes that are gathered before they go out, so that few writes are made.
-ghost use Rattle.std.specs.Prelude.{◌≡◌, ◌+◌, ◌≤◌, ◌++◌, [], OnOk, length};
+ghost use Rattle.std.specs.Prelude.{◌≡◌, ◌+◌, ◌*◌, ◌≤◌, ◌++◌, [], OnOk, codes, decimal, flat_map, length};
 ghost use Rattle.tcc_cert.specs.Writing.{IsSent};
+ghost use Rattle.tcc_cert.specs.declared.digits.TheConstants.{NUMBER_BYTES};
 ghost use Rattle.tcc_cert.specs.declared.outgoing.TheConstants.{OUTGOING_BYTES};
 
+use crate::digits::{NUMBER_BYTES, set_numbers};
 use crate::sending::write_out;
 use std::io::{self, Write};
 use std::marker::Model;
 
 /// So many bytes are gathered before a write.
 const OUTGOING_BYTES: usize = 8192;
+
+/// So many numbers are gathered at a time.
+const NUMBERS: usize = OUTGOING_BYTES / NUMBER_BYTES;
 
 /// The bytes that wait to go out.
 #[derive(Drop)]
@@ -81,19 +86,39 @@ impl Outgoing {
         Ok(())
     }
 
-    /// The same of a few bytes, so many that it is known when the program is built.
-    pub(crate) fn put_few<W: Write, const N: usize>(
-        &mut self,
-        out: &mut W,
-        few: [u8; N],
-    ) -> io::Result<()>
-        requires { N ≤ OUTGOING_BYTES }
-        ensures { IsSent result (W.contents out.old) self.old (W.contents out.new) self.new few.entry }
+    /// Makes room for so many bytes.
+    fn make_room<W: Write>(&mut self, out: &mut W, count: usize) -> io::Result<()>
+        requires { count ≤ OUTGOING_BYTES }
+        ensures sent { IsSent result (W.contents out.old) self.old (W.contents out.new) self.new [] }
+        ensures room { OnOk result (length self.new + count ≤ OUTGOING_BYTES) }
     {
-        if N > OUTGOING_BYTES - self.len {
+        if count > OUTGOING_BYTES - self.len {
             self.send(out)?;
         }
-        self.keep(&few);
+        Ok(())
+    }
+
+    /// Gathers numbers, each after a space, for which there is room.
+    fn keep_numbers(&mut self, numbers: &[u32])
+        requires { length self.old + NUMBER_BYTES * length numbers.now ≤ OUTGOING_BYTES }
+        ensures { self.new ≡ self.old ++ flat_map (λ number. codes " " ++ decimal number) numbers.now }
+    {
+        self.len = set_numbers(&mut self.bytes, self.len, numbers);
+    }
+
+    /// Gathers numbers, each after a space, and sends what was gathered before where there is no room for more: that is
+    /// asked once for many of them.
+    pub(crate) fn put_numbers<W: Write>(&mut self, out: &mut W, numbers: &[u32]) -> io::Result<()>
+        ensures { IsSent result (W.contents out.old) self.old (W.contents out.new) self.new (flat_map (λ number. codes " " ++ decimal number) numbers.now) }
+    {
+        let mut kept = 0;
+        while kept < numbers.len() {
+            let end = kept + (numbers.len() - kept).min(NUMBERS);
+            let some = &numbers[kept..end];
+            self.make_room(out, NUMBER_BYTES * some.len())?;
+            self.keep_numbers(some);
+            kept = end;
+        }
         Ok(())
     }
 }

@@ -33,7 +33,7 @@ impl Table {
         &self.rows
     }
 
-    /// The rows as they came.
+    /// The rows as they came, for those who take a certificate apart.
     pub fn into_vec(self) -> Vec<Numbers>
         ensures { result.items ≡ self }
     {

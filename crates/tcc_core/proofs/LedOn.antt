@@ -1,9 +1,11 @@
 -- What is offered from a transaction by session pairs, to the end of the session, and by the other links is what all links lead to.
-use Rattle.std.proofs.Common.{◌≡◌, ◌<◌, ◌≤◌, ◌+◌, ◌-◌, ℕ, ◌⊎◌, inl, inr, List, length, slice_index, Some, Contains, max, min, refl, sym, ◌∙◌, subst, arith}
+use Rattle.std.proofs.Common.{◌≡◌, ◌<◌, ◌≤◌, ◌+◌, ◌-◌, ℕ, ◌⊎◌, inl, inr, List, [], length, get_or, slice_index, Some, Contains, max, min, refl, sym, ap, ◌∙◌, subst, arith}
 use Rattle.std.proofs.lemmas.Bool.{cases_lt}
+use Rattle.std.proofs.lemmas.List.{get_or_past}
 use Rattle.tcc_txn.specs.declared.limits.TheConstants.{MAX_COUNT}
 use Rattle.tcc_reads.specs.History.{count}
 use Rattle.tcc_graph.specs.Levels.{Judged}
+use Rattle.tcc_derive.specs.Limits.{AreWithin}
 use Rattle.tcc_derive.specs.Prices.{Tables, cost_at, end_of, others_at, IsLater, IsPricesOf}
 use Rattle.tcc_derive.proofs.LinksOnLemmas.{links_of}
 use Rattle.tcc_near.specs.Bits.{words_for}
@@ -11,7 +13,7 @@ use Rattle.tcc_derive.specs.ByClass.{HasLink, IsByClass}
 use Rattle.tcc_derive.specs.declared.by_class.ByClass.{ByClass}
 use Rattle.tcc_derive.specs.declared.by_class.Class.{Class}
 use Rattle.tcc_core.specs.Offers.{IsOffered, IsWayBy, IsWayOn, IsLinkWay, IsOfferedBy}
-use Rattle.tcc_core.specs.Levels.{IsClassWay, AreClasses}
+use Rattle.tcc_core.specs.Levels.{AreClassed, IsClassWay, AreClasses}
 use Rattle.tcc_core.proofs.Offered.{offered_none, lower_least, lower_then}
 use Rattle.tcc_core.proofs.Marking.{IsLaterWay}
 use Rattle.tcc_core.proofs.Costs.{cost_paid, cost_few}
@@ -24,6 +26,16 @@ classes_of t u links is class (k, low, at) = record {
   wide = subst (λ (x : Class). length x.marks ≡ words_for (length t.prices)) at (is.wide k class low);
   within = λ v mark. let cheap = (is.each v class.cost).0 (inr (class, (k, low, at), refl, mark)) in cheap.0;
 }
+
+-- where all links are within the limit, so is this one
+others_within : (t : Tables) (u v c : ℕ) → AreWithin t.limit t.others → Contains (others_at t u) (v, c) → c ≤ t.limit
+others_within t u v c all (k, low, at) = go (cases_lt u (length t.others))
+  where
+    go : (u < length t.others) ⊎ (length t.others ≤ u) → c ≤ t.limit
+    go (inl within) =
+        let here : (get_or (others_at t u) k (v, c)).1 ≤ t.limit = all u [] within k (v, c) low in
+        omega (arith, here, ap (λ (p : ℕ × ℕ). p.1) at)
+    go (inr past) = absurd (omega (arith, low, ap length (get_or_past t.others u [] past)))
 
 module _ {j : Judged} {t : Tables} (priced : IsPricesOf j t) (u : ℕ) (from : u < count j.history) where
   pub offered_others : (s d left floor : ℕ) (old new : List ℕ) → length old ≡ count j.history → IsOffered (IsWayBy (others_at t u) s d left) floor old new
@@ -47,7 +59,7 @@ module _ {j : Judged} {t : Tables} (priced : IsPricesOf j t) (u : ℕ) (from : u
           inr (up, c, (links_of j t priced u v c from (omega (arith, within, long))).1 (inr there), low, equal)
 
   module _ {links : ByClass} (is : IsByClass t u links) where
-    pub offered_classes : (s d left floor : ℕ) (old mid new : List ℕ) → length old ≡ count j.history → left ≤ t.limit
+    pub offered_classes : (s d left floor : ℕ) (old mid new : List ℕ) → length old ≡ count j.history → AreClassed t left
         → IsOffered (IsClassWay links.classes.items s d left) floor old mid → IsOffered (IsWayBy links.rest s d left) floor mid new
         → IsOfferedBy t s u d left floor old new
     offered_classes s d left floor old mid new long few first then = record {
@@ -62,11 +74,22 @@ module _ {j : Judged} {t : Tables} (priced : IsPricesOf j t) (u : ℕ) (from : u
             let under = first.least v n within (up, class, there, mark, omega (arith, same, low), omega (arith, same, equal)) above in
             omega (arith, under, lower_least floor mid new v then.lower (omega (arith, within, first.lower.long)))
 
+        -- what costs at most `left` is within the limit
+        within_limit : (v c : ℕ) → c ≤ left → (IsLater t u v → ⊥) → (IsLater t u v × (c ≡ 1)) ⊎ Contains (others_at t u) (v, c) → AreClassed t left → c ≤ t.limit
+        within_limit v c low other any (inl cheap) = omega (arith, low, cheap)
+        within_limit v c low other (inl (is_later, one)) (inr all) = absurd (other is_later)
+        within_limit v c low other (inr there) (inr all) = others_within t u v c all there
+
         cheap : (v n c : ℕ) → v < length old → s ≤ v → cost_at t u v ≡ Some c → c ≤ left → d + c ≡ n → floor < n → (IsLater t u v → ⊥)
             → (IsLater t u v × (d + 1 ≡ n)) ⊎ (slice_index new v ≤ n)
         cheap v n c within up has low equal above other =
             inr (reached v n c within up low equal above
-            ((is.each v c).1 (omega (arith, within, long, priced.prices.long), other, has, omega (arith, low, few))))
+            ((is.each v c).1 (
+              omega (arith, within, long, priced.prices.long),
+              other,
+              has,
+              within_limit v c low other ((links_of j t priced u v c from (omega (arith, within, long))).0 has) few,
+            )))
 
         least : (v n c : ℕ) → v < length old → s ≤ v → cost_at t u v ≡ Some c → c ≤ left → d + c ≡ n → floor < n → (v < u + 1) ⊎ (u + 1 ≤ v)
             → (v < end_of t u) ⊎ (end_of t u ≤ v) → (IsLater t u v × (d + 1 ≡ n)) ⊎ (slice_index new v ≤ n)

@@ -1,7 +1,9 @@
 -- For the private stages and their proofs alone: nobody has to believe what stands here.
 -- Rows of what is met at some costs, and ways by links of classes.
-use Rattle.std.specs.Prelude.{ℕ, true, ◌≡◌, ◌<◌, ◌≤◌, ◌+◌, List, length, All, Contains}
+use Rattle.std.specs.Prelude.{ℕ, true, ◌≡◌, ◌<◌, ◌≤◌, ◌+◌, ◌⊎◌, List, length, All, Contains}
 use Rattle.tcc_near.specs.Bits.{is_marked, words_for}
+use Rattle.tcc_derive.specs.Limits.{AreWithin}
+use Rattle.tcc_derive.specs.Prices.{Tables}
 use Rattle.tcc_derive.specs.declared.by_class.Class.{Class}
 use Rattle.tcc_core.specs.declared.levels.Level.{Level}
 use Rattle.tcc_core.specs.declared.levels.TheConstants.{LEVELS}
@@ -34,3 +36,7 @@ AreClasses n classes = (class : Class) → Contains classes class → IsClass n 
 abbrev pub IsClassWay : List Class → ℕ → ℕ → ℕ → ℕ → ℕ → Type 0
 IsClassWay classes s d left v n =
     (s ≤ v) × (class : Class) × Contains classes class × (is_marked class.marks v ≡ true) × (class.cost ≤ left) × (d + class.cost ≡ n)
+
+-- each link that costs at most `left`, other than session links, is within the limit up to which links stand by class
+abbrev pub AreClassed : Tables → ℕ → Type 0
+AreClassed t left = (left ≤ t.limit) ⊎ AreWithin t.limit t.others

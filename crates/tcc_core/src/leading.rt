@@ -1,12 +1,12 @@
 //! The frontier of a search: the transactions to which ways are known, open at what the cheapest costs. Session pairs lead
 //! on to whole ends of sessions, so of each session a mark is kept, from which on all were reached by one: what a session
 //! pair reaches later costs no less, and need not be offered again.
-ghost use Rattle.std.specs.Prelude.{◌≡◌, ◌≢◌, ◌<◌, ◌≤◌, ◌+◌, ◌^◌, ◌⊎◌, ℕ, length, slice_index, slice_set, All, Contains, IfSome, IfNone, IfOk};
+ghost use Rattle.std.specs.Prelude.{◌≡◌, ◌≢◌, ◌<◌, ◌≤◌, ◌+◌, ◌^◌, ◌⊎◌, ℕ, true, length, slice_index, slice_set, All, Contains, IfSome, IfNone, IfOk};
 ghost use Rattle.tcc_graph.specs.Levels.{Judged};
 ghost use Rattle.tcc_derive.specs.Prices.{IsPricesOf};
 ghost use Rattle.tcc_core.specs.Queues.{IsBeginning, IsNearest, IsNext, IsPast};
 ghost use Rattle.tcc_core.specs.Offers.{IsLower, IsOffered, IsMarked, IsWayOn, IsOfferedBy};
-ghost use Rattle.tcc_core.specs.Levels.{AreLevels};
+ghost use Rattle.tcc_core.specs.Levels.{AreLevels, AreClassed};
 ghost use Rattle.tcc_txn.specs.declared.limits.TheConstants.{MAX_COUNT};
 ghost use Rattle.tcc_core.specs.declared.queue.TheConstants.{NO_WAY};
 ghost use Rattle.tcc_core.specs.declared.ring.TheConstants.{BUCKETS};
@@ -57,6 +57,13 @@ fn unmark(reached: &[u32], marks: &mut [u32])
     }
 }
 
+/// Whether the links that stand by classes of cost are all, other than session links, that cost at most so much.
+fn are_classed(prices: &Prices, left: u32) -> bool
+    ensures { result ≡ true → AreClassed prices.now left }
+{
+    left <= prices.limit() as u32 || prices.is_whole()
+}
+
 /// Offers the ways on by links other than session links from a transaction, where so much was spent, to transactions from
 /// the start upward, as far as a link costs at most so much.
 fn offer_others(
@@ -81,7 +88,7 @@ fn offer_others(
     ensures offered { (j : Judged) → IsPricesOf j prices.now
         → IsOfferedBy prices.now start u so_far left queue.old.floor queue.old.costs queue.new.costs }
 {
-    if left <= prices.limit() as u32 {
+    if are_classed(prices, left) {
         let links = prices.by_class(u);
         offer_classes(queue, levels, &links.classes, start, so_far, left);
         offer_cheapest(queue, links.rest.values(), start, so_far, left);

@@ -129,7 +129,7 @@ impl Search {
         Settled::More
     }
 
-    /// The start.
+    /// The start, for those who step a search by hand.
     pub fn start(&self) -> u32
         ensures value { result ≡ self.now.start }
         ensures below { result < length self.now.row }

@@ -12,13 +12,13 @@ use Rattle.tcc_graph.specs.Levels.{Judged}
 use Rattle.tcc_txn.proofs.Lists.{in_filter, from_filter}
 use Rattle.tcc_near.specs.Bits.{is_marked, words_for}
 use Rattle.tcc_derive.specs.Prices.{Tables, IsPricesOf, end_of, others_at}
-use Rattle.tcc_derive.specs.ByCost.{IsCheap}
+use Rattle.tcc_derive.specs.ByClass.{IsCheap}
 use Rattle.tcc_derive.specs.ByClass.{HasLinkAmong, IsByClass}
 use Rattle.tcc_derive.specs.CostBuckets.{costs_just, costs_below}
 use Rattle.tcc_derive.specs.Classes.{IsMarksOf, ArePartedBelow}
 use Rattle.tcc_derive.specs.declared.by_class.Class.{Class}
 use Rattle.tcc_derive.specs.declared.by_class.ByClass.{ByClass}
-use Rattle.tcc_derive.proofs.ByCostLemmas.{by_cost_of, append_pairs, from_row, out}
+use Rattle.tcc_derive.proofs.ByCostLemmas.{cheap_below, append_pairs, from_row, out}
 
 -- where links lead
 abbrev pub ends_of : List (ℕ × ℕ) → List ℕ
@@ -152,10 +152,10 @@ module _ (n first end k : ℕ) (others links : List (ℕ × ℕ)) (classes : Lis
 pub by_class_of : (j : Judged) (t : Tables) → IsPricesOf j t → (u n : ℕ) → u < count j.history → n ≡ count j.history → (links : ByClass)
     → ArePartedBelow n (u + 1) (end_of t u) (others_at t u) (t.limit + 1) links.classes.items links.rest → IsByClass t u links
 by_class_of j t is u n from size links parted = record {
-  each = λ v c. (λ h. ((by_cost_of j t is u from).each v c).0 ((parted.each v c).0 h), λ h. (parted.each v c).1 (((by_cost_of j t is u from).each v c).1 h));
+  each = λ v c. (λ h. (cheap_below j t is u from v c).0 ((parted.each v c).0 h), λ h. (parted.each v c).1 ((cheap_below j t is u from v c).1 h));
   ascending = parted.ascending;
   wide = subst (λ (m : ℕ). All (λ (class : Class). length class.marks ≡ words_for m) links.classes.items) (size ∙ sym is.prices.long) parted.wide;
   within = λ k d l.
       let p = get_or links.rest k d in
-      (((by_cost_of j t is u from).each p.0 p.1).0 ((parted.each p.0 p.1).0 (inl (Contains-get_or links.rest k d l)))).0;
+      ((cheap_below j t is u from p.0 p.1).0 ((parted.each p.0 p.1).0 (inl (Contains-get_or links.rest k d l)))).0;
 }

@@ -6,6 +6,7 @@ pub mod ClassLemmas
 pub mod CostLemmas
 pub mod KeyLemmas
 pub mod LevelLemmas
+pub mod LimitLemmas
 pub mod LinksOnLemmas
 pub mod LoweringLemmas
 pub mod OthersLemmas

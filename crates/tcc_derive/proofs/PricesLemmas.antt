@@ -10,12 +10,9 @@ use Rattle.tcc_graph.specs.Tables.{row_of}
 use Rattle.tcc_near.specs.Distances.{IsSquare, NearTable, IsNearOf}
 use Rattle.tcc_derive.specs.Prices.{Tables, IsCost, IsPricesOf, HasOthers, cost_at}
 use Rattle.tcc_derive.specs.Others.{HasOtherRows, HasEnds, IsShaped, others_below}
-use Rattle.tcc_derive.specs.ByCost.{IsByCost}
-use Rattle.tcc_derive.specs.CostBuckets.{HasCostRows, HaveByCost}
 use Rattle.tcc_derive.specs.Classes.{HasClassRows, HaveByClass}
 use Rattle.tcc_derive.specs.declared.by_class.ByClass.{ByClass}
 use Rattle.tcc_derive.specs.Rows.{IsPriceRow, IsCostRow, HasRows}
-use Rattle.tcc_derive.proofs.ByCostLemmas.{by_cost_of}
 use Rattle.tcc_derive.proofs.ClassLemmas.{by_class_of}
 use Rattle.tcc_derive.proofs.CostLemmas.{cost_row_of}
 use Rattle.tcc_derive.proofs.OthersLemmas.{others_of, costed_at, below, ascends}
@@ -82,14 +79,6 @@ module _ (j : Judged) (near : NearTable) (prices : List (List ℕ)) (ends : List
   others_within m few = λ u d low.
       let inside : All (λ (p : ℕ × ℕ). p.0 < count j.history) (row_of others u) = below_count u (omega (arith, low, other.long)) in
       rw (get_or_default others u d [] low) (λ k e l. let less : (get_or (row_of others u) k e).0 < count j.history = inside k e l in omega (arith, less, few))
-
-  pub have_by_cost : (rows : List (List (ℕ × ℕ))) → HasCostRows ends others limit rows → HaveByCost tables rows
-  have_by_cost rows costs_in = record {
-    long = omega (arith, costs_in.long, other.long, priced.long);
-    each = λ u low.
-        let from : u < count j.history = omega (arith, low, priced.long) in
-        subst (λ (row : List (ℕ × ℕ)). IsByCost tables u row) (sym (costs_in.each u (omega (arith, from, other.long)))) (by_cost_of j tables prices_of u from);
-  }
 
   pub have_by_class : (rows : List ByClass) → HasClassRows ends others limit rows → HaveByClass tables rows
   have_by_class rows classes_in = record {

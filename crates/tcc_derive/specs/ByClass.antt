@@ -1,12 +1,15 @@
 -- The links other than session links from one transaction, of those within the limit: some classes of one cost by rows of
 -- marks, and the others one by one. No answer is told by which of them have a row.
-use Rattle.std.specs.Prelude.{ℕ, ◌<◌, ◌≤◌, ◌≡◌, ◌⊎◌, ◌↔◌, true, List, length, All, Contains}
+use Rattle.std.specs.Prelude.{ℕ, ◌<◌, ◌≤◌, ◌≡◌, ◌⊎◌, ◌↔◌, true, List, length, All, Contains, Some}
 use Rattle.std.specs.List.{AllPairs}
 use Rattle.tcc_near.specs.Bits.{is_marked, words_for}
-use Rattle.tcc_derive.specs.Prices.{Tables}
-use Rattle.tcc_derive.specs.ByCost.{IsCheap}
+use Rattle.tcc_derive.specs.Prices.{Tables, IsLater, cost_at}
 use Rattle.tcc_derive.specs.declared.by_class.Class.{Class}
 use Rattle.tcc_derive.specs.declared.by_class.ByClass.{ByClass}
+
+-- a link from u to v that is no session link costs c, which is within the limit
+abbrev pub IsCheap : Tables → ℕ → ℕ → ℕ → Type 0
+IsCheap t u v c = (v < length t.prices) × (IsLater t u v → ⊥) × (cost_at t u v ≡ Some c) × (c ≤ t.limit)
 
 -- a link to v at cost c stands among these
 abbrev pub HasLinkAmong : List Class → List (ℕ × ℕ) → ℕ → ℕ → Type 0

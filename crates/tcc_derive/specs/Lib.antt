@@ -1,8 +1,8 @@
 -- What contracts of public calls cite:
 pub mod Prices
 pub mod Reasons
-pub mod ByCost
 pub mod ByClass
+pub mod Limits
 pub mod Names
 pub mod LinksOn
 pub mod Backwards
@@ -10,6 +10,7 @@ pub mod Backwards
 pub mod Rows
 pub mod Buckets
 pub mod CostBuckets
+pub mod Closings
 pub mod Classes
 pub mod KeyTables
 pub mod Others

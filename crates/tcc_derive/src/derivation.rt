@@ -1,12 +1,12 @@
 //! The prices of a graph at a level.
 ghost use Rattle.std.specs.Prelude.{IfOk};
 ghost use Rattle.tcc_near.specs.Distances.{IsNearOf};
+ghost use Rattle.tcc_derive.specs.Limits.{IsLimit};
 ghost use Rattle.tcc_derive.specs.Prices.{IsPricesOf};
 
 use crate::Prices;
 use crate::by_class::by_class_rows;
-use crate::by_cost::by_cost_rows;
-use crate::limits::cost_limit;
+use crate::limits::{are_within, cost_limit};
 use crate::others::{other_rows, session_ends};
 use crate::pricing::price_rows;
 use crate::read_table::read_table;
@@ -26,7 +26,8 @@ pub fn derive(
     near: &Near,
 ) -> Result<Prices, NoMemory>
     requires { IsNearOf (record { history = graph.now; level = near.now.level }) near.now }
-    ensures { IfOk result (IsPricesOf (record { history = graph.now; level = near.now.level })) }
+    ensures prices { IfOk result (IsPricesOf (record { history = graph.now; level = near.now.level })) }
+    ensures limit { IfOk result (λ prices. IsLimit near.now.rows prices.prices prices.limit) }
 {
     let written = write_table(alloc, graph)?;
     let reads = read_table(alloc, graph)?;
@@ -35,7 +36,7 @@ pub fn derive(
     let others = other_rows(rt, alloc, graph, near, &prices)?;
     let ends = session_ends(alloc, graph)?;
     let limit = cost_limit(near, &prices, &others);
-    let by_cost = by_cost_rows(rt, alloc, &others, &ends, limit)?;
     let by_class = by_class_rows(rt, alloc, &others, &ends, limit)?;
-    Ok(Prices::new(near.level(), prices, ends, others, limit, by_cost, by_class))
+    let whole = are_within(&others, limit);
+    Ok(Prices::new(near.level(), prices, ends, others, limit, by_class, whole))
 }

@@ -1,7 +1,9 @@
-//! The limit of the links that are kept by cost.
-ghost use Rattle.std.specs.Prelude.{◌≡◌, ◌<◌, ◌≤◌, length, All};
+//! Up to which cost links are kept by what they cost.
+ghost use Rattle.std.specs.Prelude.{◌≡◌, ◌<◌, ◌≤◌, ◌↔◌, false, true, length, All};
 ghost use Rattle.tcc_txn.specs.declared.limits.TheConstants.{MAX_COUNT};
 ghost use Rattle.tcc_near.specs.Distances.{IsSquare};
+ghost use Rattle.tcc_derive.specs.Limits.{AreWithin, IsLimit};
+ghost use Rattle.tcc_derive.specs.Closings.{IsBackOrNone, IsClosingOrNone};
 
 use tcc_near::{NONE, Near, Row};
 
@@ -12,7 +14,7 @@ const BLOCK: usize = 32;
 const PART: usize = 16;
 
 /// The limit where no such cycle is.
-const AT_MOST: u16 = 64;
+pub(crate) const NO_CYCLE_LIMIT: u16 = 64;
 
 /// The least cost of a walk from one of these transactions to `b` and a derived link back, by what such links from `b` cost.
 fn least_back(near: &Near, prices: &[u16], from: usize, to: usize, b: usize) -> u16
@@ -20,6 +22,7 @@ fn least_back(near: &Near, prices: &[u16], from: usize, to: usize, b: usize) -> 
     requires long { length prices.now ≡ length near.now.rows }
     requires below { b < length near.now.rows }
     requires few { length near.now.rows ≤ MAX_COUNT }
+    ensures { IsBackOrNone near.now.rows prices.now b result }
 {
     let mut least = NONE;
     for a in from..to {
@@ -33,6 +36,7 @@ fn least_of_others(near: &Near, prices: &[u16], others: &[(u32, u32)], b: usize)
     requires within { All (λ p. p.0 < length near.now.rows) others.now }
     requires long { length prices.now ≡ length near.now.rows }
     requires below { b < length near.now.rows }
+    ensures { IsBackOrNone near.now.rows prices.now b result }
 {
     let mut least = NONE;
     for other in others {
@@ -54,11 +58,12 @@ fn least_from(
     requires square { IsSquare (length near.now.rows) prices.now }
     requires same { length others.now ≡ length near.now.rows }
     requires few { length near.now.rows ≤ MAX_COUNT }
+    ensures { IsClosingOrNone near.now.rows prices.now result }
 {
     let mut least = NONE;
-    for (b, row) in prices.iter().enumerate() {
+    for b in 0..prices.len() {
         if others[b].values().len() > prices.len() / PART {
-            least = least.min(least_back(near, row.values(), from, to, b));
+            least = least.min(least_back(near, prices[b].values(), from, to, b));
         }
     }
     least
@@ -70,24 +75,27 @@ fn least_of_few(near: &Near, prices: &[Row<u16>], others: &[Row<(u32, u32)>]) ->
     requires same { length others.now ≡ length near.now.rows }
     requires within { All (λ row. All (λ p. p.0 < length near.now.rows) row) others.now }
     requires few { length near.now.rows ≤ MAX_COUNT }
+    ensures { IsClosingOrNone near.now.rows prices.now result }
 {
     let mut least = NONE;
-    for (b, row) in prices.iter().enumerate() {
+    for b in 0..prices.len() {
         least = least.min(near.row(b as u32)[b]);
-        if others[b].values().len() <= prices.len() / PART {
-            least = least.min(least_of_others(near, row.values(), others[b].values(), b));
+        let row = others[b].values();
+        if row.len() <= prices.len() / PART {
+            least = least.min(least_of_others(near, prices[b].values(), row, b));
         }
     }
     least
 }
 
 /// What links are kept by cost: up to the least cost of a cycle that a walk makes, or a walk and one derived link back. No
-/// search leads on by a link that costs more. Whatever the limit, what is kept is right.
+/// search that begins with such a cycle leads on by a link that costs more.
 pub(crate) fn cost_limit(near: &Near, prices: &[Row<u16>], others: &[Row<(u32, u32)>]) -> u16
     requires square { IsSquare (length near.now.rows) prices.now }
     requires same { length others.now ≡ length near.now.rows }
     requires within { All (λ row. All (λ p. p.0 < length near.now.rows) row) others.now }
     requires few { length near.now.rows ≤ MAX_COUNT }
+    ensures { IsLimit near.now.rows prices.now result }
 {
     let count = prices.len();
     let mut least = least_of_few(near, prices, others);
@@ -95,5 +103,29 @@ pub(crate) fn cost_limit(near: &Near, prices: &[Row<u16>], others: &[Row<(u32, u
         let from = block * BLOCK;
         least = least.min(least_from(near, prices, others, from, count.min(from + BLOCK)));
     }
-    if least == NONE { AT_MOST } else { least }
+    if least == NONE { NO_CYCLE_LIMIT } else { least }
+}
+
+/// Whether one of these links costs more than the limit.
+fn has_dearer(others: &[(u32, u32)], limit: u16) -> bool
+    ensures { (result ≡ false) ↔ All (λ p. p.1 ≤ limit) others.now }
+{
+    for other in others {
+        if other.1 > u32::from(limit) {
+            return true;
+        }
+    }
+    false
+}
+
+/// Whether none of these links costs more than the limit.
+pub(crate) fn are_within(others: &[Row<(u32, u32)>], limit: u16) -> bool
+    ensures { (result ≡ true) ↔ AreWithin limit others.now }
+{
+    for row in others {
+        if has_dearer(row.values(), limit) {
+            return false;
+        }
+    }
+    true
 }

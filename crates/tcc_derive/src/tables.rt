@@ -1,11 +1,10 @@
 //! The least costs of links between transactions at a level.
-ghost use Rattle.std.specs.Prelude.{◌≡◌, ◌<◌, ◌≤◌, ◌+◌, ◌∷◌, [], length, All};
+ghost use Rattle.std.specs.Prelude.{◌≡◌, ◌<◌, ◌≤◌, ◌+◌, ◌∷◌, ◌↔◌, true, [], length, All};
 ghost use Rattle.std.specs.List.{AllPairs};
 ghost use Rattle.tcc_near.specs.Distances.{least_in};
+ghost use Rattle.tcc_derive.specs.Limits.{AreWithin};
 ghost use Rattle.tcc_derive.specs.Prices.{price_at, cost_at, cost_among, end_of, others_at};
 ghost use Rattle.tcc_derive.specs.Others.{IsShaped};
-ghost use Rattle.tcc_derive.specs.ByCost.{IsByCost};
-ghost use Rattle.tcc_derive.specs.CostBuckets.{HaveByCost};
 ghost use Rattle.tcc_derive.specs.ByClass.{IsByClass};
 ghost use Rattle.tcc_derive.specs.Classes.{HaveByClass};
 ghost use Rattle.tcc_txn.specs.declared.limits.TheConstants.{MAX_COUNT};
@@ -25,16 +24,16 @@ pub struct Prices {
     others: Vec<Row<(u32, u32)>>,
     limit: u16,
     /// The links other than session links that cost at most the limit, a row for each row of others.
-    by_cost: Vec<Row<(u16, u16)>>,
-    /// The same links by classes of cost.
     by_class: Vec<ByClass>,
+    /// Whether none costs more.
+    whole: bool,
 }
 
 impl Model for Prices {
-    ghost use Rattle.std.specs.Prelude.{length};
+    ghost use Rattle.std.specs.Prelude.{◌≡◌, ◌↔◌, true, length};
+    ghost use Rattle.tcc_derive.specs.Limits.{AreWithin};
     ghost use Rattle.tcc_derive.specs.Prices.{Tables};
     ghost use Rattle.tcc_derive.specs.Others.{IsShaped};
-    ghost use Rattle.tcc_derive.specs.CostBuckets.{HaveByCost};
     ghost use Rattle.tcc_derive.specs.Classes.{HaveByClass};
 
     ghost Value = { Tables };
@@ -55,20 +54,14 @@ impl Model for Prices {
           others = p.others.items;
           limit = p.limit;
         })
-        × HaveByCost (record {
-          level = p.level;
-          prices = p.prices.items;
-          ends = p.ends.items;
-          others = p.others.items;
-          limit = p.limit;
-        }) p.by_cost.items
         × HaveByClass (record {
           level = p.level;
           prices = p.prices.items;
           ends = p.ends.items;
           others = p.others.items;
           limit = p.limit;
-        }) p.by_class.items };
+        }) p.by_class.items
+        × ((p.whole ≡ true) ↔ AreWithin p.limit p.others.items) };
 }
 
 impl Prices {
@@ -79,17 +72,15 @@ impl Prices {
         ends: Vec<u32>,
         others: Vec<Row<(u32, u32)>>,
         limit: u16,
-        by_cost: Vec<Row<(u16, u16)>>,
         by_class: Vec<ByClass>,
+        whole: bool,
     ) -> Prices
         requires shape { IsShaped (length prices.items)
             (record { level = level; prices = prices.items; ends = ends.items; others = others.items; limit = limit }) }
-        requires by_cost { HaveByCost
-            (record { level = level; prices = prices.items; ends = ends.items; others = others.items; limit = limit })
-            by_cost.items }
         requires by_class { HaveByClass
             (record { level = level; prices = prices.items; ends = ends.items; others = others.items; limit = limit })
             by_class.items }
+        requires whole { (whole ≡ true) ↔ AreWithin limit others.items }
         ensures { result ≡ record { level = level; prices = prices.items; ends = ends.items; others = others.items; limit = limit } }
     {
         Prices {
@@ -98,8 +89,8 @@ impl Prices {
             ends,
             others,
             limit,
-            by_cost,
             by_class,
+            whole,
         }
     }
 
@@ -118,7 +109,8 @@ impl Prices {
         self.prices.len() as u32
     }
 
-    /// The least cost of a derived link from `b` to `a`, over all keys and readers; none where there is no reason.
+    /// The least cost of a derived link from `b` to `a`, over all keys and readers; none where there is no reason. It is for
+    /// those who ask for one price: whoever goes through many takes `prices`.
     pub fn price(&self, b: u32, a: u32) -> Option<u32>
         requires from { b < length self.now.prices }
         requires to { a < length self.now.prices }
@@ -163,25 +155,23 @@ impl Prices {
         self.others[u as usize].values()
     }
 
-    /// What links cost at most that `by_cost` has.
+    /// What links cost at most that `by_class` has: what the least of the cycles costs that a walk makes, or a walk and one
+    /// derived link back; 64 where there is none.
     pub fn limit(&self) -> u16
         ensures { result ≡ self.now.limit }
     {
         self.limit
     }
 
-    /// Of the links other than session links from `u`, those that cost at most `limit()`, in ascending cost: each
-    /// transaction that they lead to, with what the link costs.
-    pub fn by_cost(&self, u: u32) -> &[(u16, u16)]
-        requires { u < length self.now.prices }
-        ensures links { IsByCost self.now u result.now }
-        ensures within { All (λ p. p.0 < length self.now.prices) result.now }
+    /// Whether no link costs more than `limit()`, but for session links, which cost 1.
+    pub fn is_whole(&self) -> bool
+        ensures { (result ≡ true) ↔ AreWithin self.now.limit self.now.others }
     {
-        self.by_cost[u as usize].values()
+        self.whole
     }
 
-    /// The same links by classes of cost: for a small cost that many of them have, where they lead is marked in a row; the
-    /// others stand one by one, in ascending cost.
+    /// Of the links other than session links from `u`, those that cost at most `limit()`, by classes of cost: for a small
+    /// cost that many of them have, where they lead is marked in a row; the others stand one by one, in ascending cost.
     pub fn by_class(&self, u: u32) -> &ByClass
         requires { u < length self.now.prices }
         ensures { IsByClass self.now u result.now }

@@ -11,20 +11,22 @@ use Rattle.std.specs.Ordering.{nat_cmp, eq_by_cmp}
 use Rattle.std.specs.declared.cmp.Ordering.{Ordering}
 use Rattle.std.specs.declared.cmp.Ordering.TheVariants.{Less, Equal, Greater}
 use Rattle.std.proofs.lemmas.List.Elements.{All-nil, All-cons, All-head, All-tail, All-append, All-take}
-use Rattle.tcc_txn.specs.Answers.{Answers, after_item, answers_after, answers_of, go_on, judged, records_of}
-use Rattle.tcc_txn.specs.Finished.{finished_in, with_item, with_transaction}
-use Rattle.tcc_txn.specs.Lines.{Record, is_cut, line_of, same, accessed, op_of, in_session, value_of}
+use Rattle.tcc_rows.specs.Answers.{Answers, after_item, answers_after, answers_of, go_on, judged, records_of}
+use Rattle.tcc_txn.specs.Finished.{with_transaction}
+use Rattle.tcc_rows.specs.Items.{finished_in, with_item}
+use Rattle.tcc_txn.specs.Bytes.{same}
+use Rattle.tcc_rows.specs.Lines.{Record, is_cut, line_of, accessed, op_of, in_session, value_of}
 use Rattle.tcc_txn.specs.Names.{name_fault}
-use Rattle.tcc_txn.specs.Past.{begins, fault_of, is_mark, item_of, ops_in, ops_since}
+use Rattle.tcc_rows.specs.Past.{begins, fault_of, is_mark, item_of, ops_in, ops_since}
 use Rattle.tcc_txn.specs.Snapshots.{Sessions}
 use Rattle.tcc_txn.specs.Transactions.{Transaction}
 use Rattle.tcc_txn.specs.declared.name.NameFault.{NameFault}
 use Rattle.tcc_txn.specs.declared.op.Op.{Op}
 use Rattle.tcc_txn.specs.declared.op.Op.TheVariants.{Get, Put}
-use Rattle.tcc_txn.specs.declared.rows.Item.{Item}
-use Rattle.tcc_txn.specs.declared.rows.Item.TheVariants as item
-use Rattle.tcc_txn.specs.declared.rows.RowFaultKind.{RowFaultKind}
-use Rattle.tcc_txn.specs.declared.rows.RowFaultKind.TheVariants as kind
+use Rattle.tcc_rows.specs.declared.rows.Item.{Item}
+use Rattle.tcc_rows.specs.declared.rows.Item.TheVariants as item
+use Rattle.tcc_rows.specs.declared.rows.RowFaultKind.{RowFaultKind}
+use Rattle.tcc_rows.specs.declared.rows.RowFaultKind.TheVariants as kind
 use Rattle.tcc_cert.specs.Texts.{IsKey}
 use Rattle.tcc_explain.specs.Keys.{NamesKey, NamesKeys, HasNames}
 

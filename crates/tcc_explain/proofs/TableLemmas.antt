@@ -1,10 +1,11 @@
 -- Tables of certificates, row by row.
-use Rattle.std.proofs.Common.{ℕ, ◌≡◌, ◌<◌, ◌≤◌, ◌-◌, ◌==◌, Bool, true, false, cond, ◌⊎◌, inl, inr}
-use Rattle.std.proofs.Common.{List, [], length, map, get_or, Option, None, Some, refl, sym, ◌∙◌, ap}
+use Rattle.std.proofs.Common.{ℕ, ◌≡◌, ◌≢◌, ◌<◌, ◌≤◌, ◌+◌, ◌-◌, ◌==◌, Bool, true, false, cond, ◌⊎◌, inl, inr}
+use Rattle.std.proofs.Common.{List, [], length, map, get_or, set, Option, None, Some, refl, sym, ◌∙◌, ap}
 use Rattle.std.proofs.Common.{subst, arith}
 use Rattle.std.specs.Prelude.{min, slice_index}
-use Rattle.std.proofs.lemmas.Bool.{cases_lt}
-use Rattle.std.proofs.lemmas.List.{get_or-map, length-map, get_or_default}
+use Rattle.std.proofs.lemmas.Bool.{cases_eq, cases_lt}
+use Rattle.std.proofs.lemmas.Grind.{same_number_lists}
+use Rattle.std.proofs.lemmas.List.{get_or-map, get_or-set_same, get_or-set_other, length-map, length-set, get_or_default}
 use Rattle.tcc_reads.specs.History.{History, count}
 use Rattle.tcc_graph.specs.Levels.{Judged}
 use Rattle.tcc_graph.specs.declared.level.Level.{Level}
@@ -14,7 +15,26 @@ use Rattle.tcc_core.specs.Shares.{IsCappedDistance}
 use Rattle.tcc_cert.specs.Tables.{row_of, entry, far_entry, HasSize}
 use Rattle.tcc_cert.specs.declared.version.Version.TheVariants.{Two}
 use Rattle.tcc_explain.specs.Certificates.{IsCappedShortest, IsNearTable, IsFarTable}
-use Rattle.tcc_explain.specs.Capping.{capped_steps, cost_or, AreRows, AreFarRows}
+use Rattle.tcc_explain.specs.Capping.{capped_steps, cost_or, AreMade, AreRows, AreFarRows}
+
+-- one more number of a row
+pub made_next : {X : Type 0} (f : X → ℕ) (xs : List X) (k : ℕ) (row : List ℕ) (x : X) (n : ℕ) → AreMade f xs k row → k < length xs → x ≡ get_or xs k x → n ≡ f x
+    → AreMade f xs (k + 1) (set row k n)
+made_next {X} f xs k row x n are within is made = record {
+  long = length-set row k n ∙ are.long;
+  each = λ i d low. here i d low (cases_eq i k);
+}
+  where
+    here : (i : ℕ) (d : X) → i < k + 1 → (i ≡ k) ⊎ (i ≢ k) → get_or (set row k n) i 0 ≡ f (get_or xs i d)
+    here i d low (inl same) =
+        rw same (get_or-set_same row k n 0 (omega (arith, within, are.long)) ∙ made ∙ ap f (is ∙ get_or_default xs k x d within))
+    here i d low (inr other) = get_or-set_other row k i n 0 other ∙ are.each i d (omega (arith, low, other))
+
+-- all numbers of a row
+pub made_all : {X : Type 0} (f : X → ℕ) (xs : List X) (k : ℕ) (row : List ℕ) (d : X) → AreMade f xs k row → length xs ≤ k → row ≡ map f xs
+made_all f xs k row d are all =
+    same_number_lists row (map f xs) (are.long ∙ sym (length-map xs f))
+    (λ i low. are.each i d (omega (arith, low, all, are.long)) ∙ sym (get_or-map f xs i d 0 (omega (arith, low, are.long))))
 
 -- as many rows, under another name
 pub so_many : (fact : ℕ → List ℕ → Type 0) (n m : ℕ) (rows : List (List ℕ)) → n ≡ m → AreRows fact n rows → AreRows fact m rows

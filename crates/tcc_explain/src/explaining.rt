@@ -40,27 +40,27 @@ fn distances(
 }
 
 /// The first of the least cycles with its tables, by so many workers; they begin with what a cycle costs that goes where
-/// the links of an earlier one go.
+/// the links of an earlier one go. The prices are let go before the tables are made.
 fn anomaly<G: Gate>(
     rt: &(impl Threads + Sync),
     alloc: Global,
     graph: &Graph,
     near: &Near,
-    prices: &Prices,
+    prices: Prices,
     labels: Labels,
     earlier: &[Link],
     workers: u32,
     gate: &G,
 ) -> Result<Anomaly, NoMemory>
     requires near { IsNearOf (record { history = graph.now; level = near.now.level }) near.now }
-    requires prices { IsPricesOf (record { history = graph.now; level = near.now.level }) prices.now }
+    requires prices { IsPricesOf (record { history = graph.now; level = near.now.level }) prices }
     requires cycle { HasCycle (record { history = graph.now; level = near.now.level }) }
     requires labels { labels ≡ labels_of graph.now }
     requires workers { (0 < workers) × (workers ≤ 32) }
     ensures { IfOk result (λ anomaly. IsAnswerOf (record { history = graph.now; level = near.now.level }) (answer.Anomaly anomaly)) }
 {
-    let seed = lesser(offered(prices, earlier), seed(near, prices));
-    let found = search_with(rt, alloc, prices, seed, workers, gate, &AllStart)?;
+    let seed = lesser(offered(&prices, earlier), seed(near, &prices));
+    let found = search_with(rt, alloc, &prices, seed, workers, gate, &AllStart)?;
     let Some(cost) = found.least else {
         unreachable!()
     };
@@ -72,11 +72,12 @@ fn anomaly<G: Gate>(
         alloc,
         graph,
         near,
-        prices,
+        &prices,
         &FirstReturn { start, cost, row },
     )?;
+    drop(prices);
+    let far = far_table(alloc, found.rows, cost)?;
     let distances = near_table(alloc, graph, near, cost)?;
-    let far = far_table(alloc, &found.rows, cost)?;
     Ok(Anomaly::new(
         near.level(),
         Links::new(links),
@@ -113,7 +114,7 @@ pub(crate) fn history_answer<G: Gate>(
     let near = distances(rt, alloc, graph, level)?;
     let prices = derive(rt, alloc, graph, &near)?;
     let anomaly = anomaly(
-        rt, alloc, graph, &near, &prices, labels, earlier, workers, gate,
+        rt, alloc, graph, &near, prices, labels, earlier, workers, gate,
     )?;
     Ok(Answer::Anomaly(anomaly))
 }

@@ -1,8 +1,9 @@
 //! The laws of answers: their certificates keep the rules and have texts, a history has one first answer at most at a level,
 //! and an anomaly stays one where a snapshot goes on.
 ghost use Rattle.std.specs.Prelude.{◌≡◌, ◌≤◌, ℕ, List, Ok, length, take};
-ghost use Rattle.tcc_txn.specs.Answers.{answers_of};
-ghost use Rattle.tcc_txn.specs.Finished.{KeepsLimits, finished_in};
+ghost use Rattle.tcc_rows.specs.Answers.{answers_of};
+ghost use Rattle.tcc_txn.specs.Finished.{KeepsLimits};
+ghost use Rattle.tcc_rows.specs.Items.{finished_in};
 ghost use Rattle.tcc_txn.specs.Snapshots.{Sessions};
 ghost use Rattle.tcc_reads.specs.Sources.{history};
 ghost use Rattle.tcc_graph.specs.Levels.{Judged};
@@ -59,7 +60,7 @@ pub fn written()
 {}
 
 /// What the first items of a text finish, however many, has names for keys. That it keeps the limits says
-/// `tcc_txn::laws::finished_is_snapshot`.
+/// `tcc_rows::laws::finished_is_snapshot`.
 pub fn recorded()
     ensures { (text : List ℕ) (n : ℕ) → HasNames (finished_in (take n (answers_of text).items)) }
 {}

@@ -1,10 +1,12 @@
 //! What a search may begin with: what an earlier cycle costs now.
-ghost use Rattle.std.specs.Prelude.{◌≡◌, ◌⊎◌, IfSome};
+ghost use Rattle.std.specs.Prelude.{◌≡◌, ◌<◌, ◌^◌, ◌⊎◌, ℕ, IfSome};
 ghost use Rattle.tcc_graph.specs.Levels.{Judged};
-ghost use Rattle.tcc_graph.specs.Links.{link_from, link_to, link_cost};
+ghost use Rattle.tcc_graph.specs.Links.{link_from, link_to, link_cost, cost};
+ghost use Rattle.tcc_graph.specs.Routes.{IsCycle};
 ghost use Rattle.tcc_graph.specs.declared.link.Link.{Link};
 ghost use Rattle.tcc_derive.specs.Prices.{IsPricesOf, IsLinkOf};
 ghost use Rattle.tcc_core.specs.Shares.{IsCycleCost};
+ghost use Rattle.tcc_explain.specs.Capping.{IsAtMost};
 
 use tcc_derive::Prices;
 use tcc_graph::Link;
@@ -23,7 +25,8 @@ fn ends(link: &Link) -> (u32, u32)
 
 /// What a link there costs at least; none where there is no link, or not both numbers.
 fn least_cost(prices: &Prices, from: u32, to: u32) -> Option<u32>
-    ensures { (j : Judged) → IsPricesOf j prices.now → IfSome result (λ c. (l : Link) × IsLinkOf j from to l × (link_cost l ≡ c)) }
+    ensures cost { (j : Judged) → IsPricesOf j prices.now → IfSome result (λ c. (l : Link) × IsLinkOf j from to l × (link_cost l ≡ c)) }
+    ensures least { (j : Judged) (l : Link) → IsPricesOf j prices.now → IsLinkOf j from to l → IsAtMost result (link_cost l) }
 {
     if from < prices.count() && to < prices.count() {
         prices.cost(from, to)
@@ -32,10 +35,11 @@ fn least_cost(prices: &Prices, from: u32, to: u32) -> Option<u32>
     }
 }
 
-/// What a cycle costs that goes where these links go, by a cheapest link at each; none where some link is gone, or they do
-/// not lead back to where they begin.
+/// What a cycle costs that goes where these links go, by a cheapest link at each: where they are a cycle still, no more than
+/// they cost. None where some link is gone, or they do not lead back to where they begin.
 pub(crate) fn offered(prices: &Prices, links: &[Link]) -> Option<u32>
-    ensures { (j : Judged) → IsPricesOf j prices.now → IfSome result (IsCycleCost j) }
+    ensures cycle { (j : Judged) → IsPricesOf j prices.now → IfSome result (IsCycleCost j) }
+    ensures least { (j : Judged) (s : ℕ) → IsPricesOf j prices.now → IsCycle j s links.now → cost links.now < 2 ^ 32 → IsAtMost result (cost links.now) }
 {
     let (start, _) = ends(links.first()?);
     let mut at = start;
@@ -53,7 +57,8 @@ pub(crate) fn offered(prices: &Prices, links: &[Link]) -> Option<u32>
 
 /// The lesser of two costs, where there are two.
 pub(crate) fn lesser(some: Option<u32>, other: Option<u32>) -> Option<u32>
-    ensures { (result ≡ some) ⊎ (result ≡ other) }
+    ensures one { (result ≡ some) ⊎ (result ≡ other) }
+    ensures least { (n : ℕ) → IsAtMost some n ⊎ IsAtMost other n → IsAtMost result n }
 {
     match (some, other) {
         (Some(a), Some(b)) if b < a => other,

@@ -30,9 +30,10 @@ fn near_row(alloc: Global, near: &Near, a: u32, cap: u32) -> Result<Numbers, NoM
     requires { a < length near.now.rows }
     ensures { IfOk result (λ row. row ≡ map (capped_steps cap) (row_of near.now.rows a)) }
 {
-    let mut row = Vec::new(alloc);
-    for steps in near.row(a) {
-        row.push(capped_steps(*steps, cap))?;
+    let steps = near.row(a);
+    let mut row = vec![in alloc; cap; steps.len()]?;
+    for place in 0..steps.len() {
+        row[place] = capped_steps(steps[place], cap);
     }
     Ok(Numbers::new(row))
 }
@@ -58,26 +59,33 @@ pub(crate) fn near_table(
 fn far_row(alloc: Global, costs: &[Option<u32>], cap: u32) -> Result<Numbers, NoMemory>
     ensures { IfOk result (λ row. row ≡ map (cost_or cap) costs.now) }
 {
-    let mut row = Vec::new(alloc);
-    for cost in costs {
-        row.push(cost.unwrap_or(cap))?;
+    let mut row = vec![in alloc; cap; costs.len()]?;
+    for place in 0..costs.len() {
+        row[place] = costs[place].unwrap_or(cap);
     }
     Ok(Numbers::new(row))
 }
 
-/// The least costs of routes over numbers from their start upward, capped, by rows that are capped there.
-pub(crate) fn far_table(
-    alloc: Global,
-    rows: &[Row<Option<u32>>],
-    cap: u32,
-) -> Result<Table, NoMemory>
-    ensures { (j : Judged) → AreFarRows j cap rows.now → IfOk result (IsFarTable j cap) }
+/// The same of each row, which is let go as its costs are read.
+fn far_rows(alloc: Global, rows: Vec<Row<Option<u32>>>, cap: u32) -> Result<Vec<Numbers>, NoMemory>
+    ensures { IfOk result (λ table. table.items ≡ map (map (cost_or cap)) rows.items) }
 {
     let mut table = Vec::new(alloc);
     for row in rows {
         table.push(far_row(alloc, row.values(), cap)?)?;
     }
-    Ok(Table::new(table))
+    Ok(table)
+}
+
+/// The least costs of routes over numbers from their start upward, capped, by rows that are capped there.
+pub(crate) fn far_table(
+    alloc: Global,
+    rows: Vec<Row<Option<u32>>>,
+    cap: u32,
+) -> Result<Table, NoMemory>
+    ensures { (j : Judged) → AreFarRows j cap rows.items → IfOk result (IsFarTable j cap) }
+{
+    Ok(Table::new(far_rows(alloc, rows, cap)?))
 }
 
 /// The clocks as a table.

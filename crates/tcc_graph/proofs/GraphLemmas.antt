@@ -1,5 +1,5 @@
 -- What the tables of a graph answer.
-use Rattle.std.proofs.Common.{ℕ, zero, suc, ◌+◌, ◌<◌, ◌≡◌, Bool, true, false, List, [], ◌++◌, length, get_or, refl, sym, ap, ◌∙◌, arith, zero-add}
+use Rattle.std.proofs.Common.{ℕ, zero, suc, ◌+◌, ◌<◌, ◌≡◌, Bool, true, false, List, [], ◌++◌, length, get_or, refl, sym, ap, subst, ◌∙◌, arith, zero-add}
 use Rattle.std.specs.Prelude.{All, filter, map, zip, ◌↔◌, ◌==◌, ◌||◌}
 use Rattle.std.specs.List.{Contains, range_with_len}
 use Rattle.std.specs.List.Sorted.{IsStrictlySortedBy}
@@ -9,14 +9,16 @@ use Rattle.std.proofs.lemmas.List.Elements.{All-contains, All-map, filter_passes
 use Rattle.std.proofs.lemmas.List.FromFn.{get_or-range_with_len, length-range_with_len}
 use Rattle.tcc_txn.proofs.Lists as lists
 use Rattle.tcc_txn.proofs.Lists.{found_number, number_found}
-use Rattle.tcc_reads.specs.History.{Entry, History, count}
+use Rattle.std.specs.Ordering.{nat_cmp}
+use Rattle.tcc_reads.specs.History.{Entry, History, count, entry_at, initial}
 use Rattle.tcc_reads.specs.Sources.{name_cmp}
-use Rattle.tcc_graph.specs.Relations.{session_pair, causal_pair, has_items, reads_from, IsReadsPair}
+use Rattle.tcc_graph.specs.Relations.{session_pair, causal_pair, has_items, reads_from, IsReadsPair, AreInOrder}
 use Rattle.tcc_graph.specs.Keys.{has_name, keys, is_key, writes, writers, readers}
 use Rattle.tcc_graph.specs.Grouped.{of_group, groups}
-use Rattle.tcc_graph.specs.ReadTables.{over, Placed, placed_of, values_from, IsReadTable, ArePlaced, IsPlaceTable}
+use Rattle.tcc_graph.specs.ReadTables.{over, Placed, placed_of, values_from, HasReadsInOrder, IsReadTable, ArePlaced, IsPlaceTable}
 use Rattle.tcc_graph.specs.Places.{IsAbsent, name_of}
 use Rattle.tcc_graph.specs.KeyRows.{KeyRow, key_row_of, marked, writes_place, reads_place, IsKeyTable}
+use Rattle.tcc_graph.proofs.Ascending.{groups_sorted, values_sorted, places_sorted, filtered_sorted}
 use Rattle.tcc_graph.proofs.GroupedLemmas.{of_group-groups, zip-map, in_groups, from_groups}
 use Rattle.tcc_graph.proofs.KeysLemmas.{has_name-keys, present, absent, no_readers}
 use Rattle.tcc_graph.proofs.KeyTableLemmas.{filter_range-more, All-filter_range}
@@ -35,16 +37,24 @@ pub causal_at : (h : History) (a b : ℕ) → a < count h → b < count h → se
     → r ≡ causal_pair h a b
 causal_at h a b from to none r is = rw (none, lt-ltb a (count h) from, lt-ltb b (count h) to) is
 
+readings_whole : (entries : List Entry) (table : List (List (ℕ × List ℕ))) (a : ℕ) (row : List (ℕ × List ℕ)) → IsReadTable entries (length entries) table
+    → a < length entries → row ≡ get_or table a row → row ≡ groups (reads_from (over entries) a) (length entries)
+readings_whole entries table a row tables from is =
+    let inside : a < length table = omega (arith, tables.long) in get_or_read table a row inside is [] ∙ tables.rows a from
+
 pub readings_at : (entries : List Entry) (table : List (List (ℕ × List ℕ))) (a : ℕ) (row : List (ℕ × List ℕ)) → IsReadTable entries (length entries) table
     → a < length entries → row ≡ get_or table a row → (c : ℕ) (x : List ℕ)
     → Contains (zip (map (λ p. p.0) row) (map (λ p. p.1) row)) (c, x) ↔ IsReadsPair (over entries) a c x
-readings_at entries table a row tables from is c x = rw (zip-map row, whole) (
+readings_at entries table a row tables from is c x = rw (zip-map row, readings_whole entries table a row tables from is) (
   λ h. let w = from_groups (reads_from (over entries) a) (length entries) c x h in (from, w.0, w.1),
   λ p. in_groups (reads_from (over entries) a) (length entries) c x p.1 p.2,
 )
-  where
-    whole : row ≡ groups (reads_from (over entries) a) (length entries)
-    whole = let inside : a < length table = omega (arith, tables.long) in get_or_read table a row inside is [] ∙ tables.rows a from
+
+pub readings_order : (entries : List Entry) (table : List (List (ℕ × List ℕ))) (a : ℕ) (row : List (ℕ × List ℕ)) → IsReadTable entries (length entries) table
+    → a < length entries → row ≡ get_or table a row → All HasReadsInOrder entries → AreInOrder name_cmp (map (λ p. p.0) row) (map (λ p. p.1) row)
+readings_order entries table a row tables from is reads =
+    rw (zip-map row, readings_whole entries table a row tables from is)
+    (groups_sorted name_cmp (reads_from (over entries) a) (length entries) (λ b h. values_sorted (entry_at (over entries) b).reads a (reads b initial h)))
 
 module _ (entries : List Entry) (names : List (List ℕ)) (keyed : names ≡ keys (over entries)) (x : List ℕ) where
   no_key : IsAbsent names x → is_key (over entries) x ≡ false
@@ -104,6 +114,14 @@ module _ (entries : List Entry) (names : List (List ℕ)) (placed : List Placed)
         (values_in_groups (λ place. place < length names) (λ b. values_from (placed_of placed b).reads a) (length entries)
         (λ b h. values_within (length names) (placed_of placed b).reads a (are.each b h).reads_within)))
 
+    pub places_order : All HasReadsInOrder entries → AreInOrder nat_cmp (map (λ p. p.0) row) (map (λ p. p.1) row)
+    places_order reads =
+        rw (zip-map row, whole_row) (groups_sorted nat_cmp (λ b. values_from (placed_of placed b).reads a) (length entries) (λ b h.
+        let at = are.each b h in
+        places_sorted names sorted (values_from (placed_of placed b).reads a) (values_within (length names) (placed_of placed b).reads a at.reads_within)
+        (subst (IsStrictlySortedBy name_cmp) (ap (λ rs. values_from rs a) (sym at.reads) ∙ values_from-named names (placed_of placed b).reads a)
+        (values_sorted (entry_at (over entries) b).reads a (reads b initial h)))))
+
     pub place_readings : (c k : ℕ) → Contains (zip (map (λ p. p.0) row) (map (λ p. p.1) row)) (c, k) ↔
         ((k < length names) × IsReadsPair (over entries) a c (name_of names k))
     place_readings c k = rw (zip-map row, whole_row) (
@@ -150,6 +168,11 @@ module _ (entries : List Entry) (names : List (List ℕ)) (placed : List Placed)
         ∙ of_group-groups (λ s. filter (reads_place placed k s) (range_with_len 0 (length entries))) (length entries) a from
         ∙ filter_same (reads_place placed k a) (λ b. has_name (reads_from (over entries) a b) (name_of names k)) (length entries)
         (λ b h. reads_same a b k h within)
+
+    pub key_order : AreInOrder nat_cmp (map (λ p. p.0) row.readers) (map (λ p. p.1) row.readers)
+    key_order =
+        rw (zip-map row.readers, whole_readers) (groups_sorted nat_cmp (λ s. filter (reads_place placed k s) (range_with_len 0 (length entries))) (length entries)
+        (λ s h. filtered_sorted (reads_place placed k s) (length entries)))
 
     pub key_readings : (a c : ℕ) → Contains (zip (map (λ p. p.0) row.readers) (map (λ p. p.1) row.readers)) (a, c) ↔ IsReadsPair (over entries) a c
         (name_of names k)

@@ -11,6 +11,7 @@
 --   WriterLemmas what is read is a key, and who its writers are
 --   Worked       small histories worked out by hand
 -- The others serve the proofs of this crate. Lemmas on lists, truth values and results alone: tcc_txn's proofs/Lists.
+pub mod Ascending
 pub mod GraphLemmas
 pub mod GroupedLemmas
 pub mod Judged

@@ -6,7 +6,7 @@ use Rattle.std.specs.List.Sorted.{IsStrictlySortedBy}
 use Rattle.tcc_txn.specs.declared.limits.TheConstants.{LARGE_COUNT, LARGE_SESSIONS}
 use Rattle.tcc_reads.specs.History.{Entry, IsBySession, initial}
 use Rattle.tcc_graph.specs.Keys.{keys}
-use Rattle.tcc_graph.specs.ReadTables.{over, HasSources, Placed, IsReadTable, ArePlaced, IsPlaceTable}
+use Rattle.tcc_graph.specs.ReadTables.{over, HasSources, HasReadsInOrder, Placed, IsReadTable, ArePlaced, IsPlaceTable}
 use Rattle.tcc_graph.specs.KeyRows.{KeyRow, IsKeyTable}
 
 -- the tables are those of these transactions
@@ -18,6 +18,7 @@ pub record IsGraph (sessions : List (List ℕ)) (entries : List Entry) (reads : 
   pub owners : (n : ℕ) → 0 < n → n < length entries → (slice_index_or entries n initial).owner < length sessions
   pub ordered : IsBySession entries
   pub sources : All (HasSources (length entries)) entries
+  pub reads_ordered : All HasReadsInOrder entries
   pub read : IsReadTable entries (length entries) reads
   pub keyed : names ≡ keys (over entries)
   pub sorted : IsStrictlySortedBy (slice_cmp nat_cmp) names

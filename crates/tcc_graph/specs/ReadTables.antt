@@ -1,7 +1,9 @@
 -- Serves proofs alone; nobody has to believe it: the tables of reads, by names and by places, and how they are made.
 use Rattle.std.specs.Prelude.{ℕ, ◌<◌, ◌≤◌, ◌≡◌, ◌==◌, List, [], ◌++◌, length, map, filter, slice_index_or, All}
 use Rattle.tcc_txn.specs.declared.limits.TheConstants.{LARGE_COUNT}
+use Rattle.std.specs.List.Sorted.{IsStrictlySortedBy}
 use Rattle.tcc_reads.specs.History.{Entry, History, IsBySession, initial}
+use Rattle.tcc_reads.specs.Sources.{pair_cmp}
 use Rattle.tcc_graph.specs.Grouped.{as_group, groups}
 use Rattle.tcc_graph.specs.Places.{name_of}
 use Rattle.tcc_graph.specs.Tables.{row_of}
@@ -56,6 +58,10 @@ IsPlaceTable count placed n table = IsSourceTable ℕ count (λ b. (placed_of pl
 abbrev pub HasSources : ℕ → Entry → Type 0
 HasSources n e = All (λ read. read.1 < n) e.reads
 
+-- the reads of a transaction stand in order, each once
+abbrev pub HasReadsInOrder : Entry → Type 0
+HasReadsInOrder e = IsStrictlySortedBy pair_cmp e.reads
+
 -- the transactions of a history, which are few, have sessions and read from one another
 pub record IsListOf (h : History) (entries : List Entry) : Type 0 where
   pub is : entries ≡ h.entries
@@ -64,3 +70,4 @@ pub record IsListOf (h : History) (entries : List Entry) : Type 0 where
   pub owners : (n : ℕ) → 0 < n → n < length entries → (slice_index_or entries n initial).owner < length h.sessions
   pub ordered : IsBySession entries
   pub sources : All (HasSources (length entries)) entries
+  pub reads_ordered : All HasReadsInOrder entries

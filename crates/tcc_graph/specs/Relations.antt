@@ -1,5 +1,8 @@
 -- The two relations of a history, session order and reads-from.
-use Rattle.std.specs.Prelude.{ℕ, ◌<◌, ◌⊎◌, ◌≡◌, Bool, true, false, ◌&&◌, ◌||◌, ◌==◌, nat_lt, List, [], ◌∷◌, map, filter, Contains}
+use Rattle.std.specs.Prelude.{ℕ, ◌<◌, ◌⊎◌, ◌≡◌, Bool, true, false, ◌&&◌, ◌||◌, ◌==◌, nat_lt, List, [], ◌∷◌, map, filter, zip, Contains}
+use Rattle.std.specs.List.Sorted.{IsStrictlySortedBy}
+use Rattle.std.specs.Ordering.{nat_cmp, ordering_then}
+use Rattle.std.specs.declared.cmp.Ordering.{Ordering}
 use Rattle.tcc_reads.specs.History.{History, count, entry_at, owner, place}
 
 -- (a, b) is a pair of session order: `init` before every other transaction, and in one session the lower place first,
@@ -20,6 +23,14 @@ reads_from h a b = map (λ read. read.0) (filter (λ read. read.1 == a) (entry_a
 -- b reads the key x from a
 abbrev pub IsReadsPair : History → ℕ → ℕ → List ℕ → Type 0
 IsReadsPair h a b x = (a < count h) × (b < count h) × Contains (reads_from h a b) x
+
+-- the order of pairs: by the number, then by what stands beside it
+abbrev pub by_number : {X : Type 0} → (X → X → Ordering) → ℕ × X → ℕ × X → Ordering
+by_number cmp p q = ordering_then (nat_cmp p.0 q.0) (cmp p.1 q.1)
+
+-- the numbers ascend, and beside one number what stands there ascends: so no pair is there twice
+abbrev pub AreInOrder : {X : Type 0} → (X → X → Ordering) → List ℕ → List X → Type 0
+AreInOrder cmp numbers values = IsStrictlySortedBy (by_number cmp) (zip numbers values)
 
 -- whether a list has items
 abbrev pub has_items : {X : Type 0} → List X → Bool

@@ -2,7 +2,9 @@
 ghost use Rattle.std.specs.Prelude.{◌≡◌, ◌≤◌, ◌<◌, ◌+◌, ◌↔◌, ℕ, List, length, zip, map, All, Contains, IfOk, IsTrue, string_bytes};
 ghost use Rattle.tcc_txn.specs.declared.limits.TheConstants.{MAX_COUNT, MAX_SESSIONS};
 ghost use Rattle.tcc_reads.specs.History.{IsBySession, count, entry_at, owner};
-ghost use Rattle.tcc_graph.specs.Relations.{IsSessionPair, session_pair, reads_from, causal_pair, IsReadsPair};
+ghost use Rattle.tcc_graph.specs.Relations.{IsSessionPair, session_pair, reads_from, causal_pair, IsReadsPair, AreInOrder};
+ghost use Rattle.std.specs.Ordering.{nat_cmp};
+ghost use Rattle.tcc_reads.specs.Sources.{name_cmp};
 ghost use Rattle.tcc_graph.specs.Keys.{keys, key_at, writers, readers};
 ghost use Rattle.tcc_graph.specs.Numbers.{at, label};
 ghost use Rattle.tcc_graph.specs.Links.{IsLink};
@@ -126,11 +128,13 @@ impl Graph {
         self.large.writes(b)
     }
 
-    /// Who reads from `a`, by ascending number, and beside each the key that it reads there.
+    /// Who reads from `a`, by ascending number, and beside each a key that it reads there: of one reader in byte order,
+    /// each once.
     pub fn readings(&self, a: u32) -> (&[u32], &[Name])
         requires { a < count self.now }
         ensures long { length result.0.now ≡ length result.1.now }
         ensures each { (c : ℕ) (x : List ℕ) → Contains (zip result.0.now result.1.now) (c, x) ↔ IsReadsPair self.now a c x }
+        ensures order { AreInOrder name_cmp result.0.now result.1.now }
     {
         self.large.readings(a)
     }
@@ -181,22 +185,26 @@ impl Graph {
         self.large.writers_at(place)
     }
 
-    /// Who reads the key at a place: the sources by ascending number, and beside each a reader of the key from it.
+    /// Who reads the key at a place: the sources by ascending number, and beside each a reader of the key from it: of one
+    /// source by ascending number, each once.
     pub fn readings_of(&self, place: u32) -> (&[u32], &[u32])
         requires { place < length (keys self.now) }
         ensures long { length result.0.now ≡ length result.1.now }
         ensures each { (a c : ℕ) → Contains (zip result.0.now result.1.now) (a, c) ↔ IsReadsPair self.now a c (key_at self.now place) }
+        ensures order { AreInOrder nat_cmp result.0.now result.1.now }
     {
         self.large.readings_of(place)
     }
 
-    /// Who reads from `a`, by ascending number, and beside each the place of the key that it reads there.
+    /// Who reads from `a`, by ascending number, and beside each the place of a key that it reads there: of one reader
+    /// ascending, each once.
     pub fn readings_at(&self, a: u32) -> (&[u32], &[u32])
         requires { a < count self.now }
         ensures long { length result.0.now ≡ length result.1.now }
         ensures within { All (λ place. place < length (keys self.now)) result.1.now }
         ensures each { (c place : ℕ) → Contains (zip result.0.now result.1.now) (c, place)
             ↔ ((place < length (keys self.now)) × IsReadsPair self.now a c (key_at self.now place)) }
+        ensures order { AreInOrder nat_cmp result.0.now result.1.now }
     {
         self.large.readings_at(a)
     }

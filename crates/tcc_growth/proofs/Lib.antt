@@ -10,7 +10,6 @@
 --   Sliced     a snapshot keeps the pairs of its slices
 --   Growth     a snapshot that continues another has it as a slice
 --   Keeping    so it keeps its links, cycles and anomalies
---   Nesting    what is finished later continues what was finished
 --   OneByOne   links, as they are looked at one by one
 --   Worked     an anomaly in a snapshot that goes on, where numbers move
 pub mod Elements
@@ -19,7 +18,6 @@ pub mod Keeping
 pub mod Kept
 pub mod Labels
 pub mod Meeting
-pub mod Nesting
 pub mod Numbered
 pub mod OneByOne
 pub mod Placed

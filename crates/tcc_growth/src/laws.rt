@@ -1,10 +1,7 @@
 //! The law of slices: an anomaly of a part of a snapshot is one of the whole; and the law of growth, which is a case of it:
 //! where a snapshot goes on, its anomalies stay, and the least never costs more.
-ghost use Rattle.std.specs.Prelude.{ℕ, ◌<◌, ◌≡◌, length, List, ◌++◌, map, All};
-ghost use Rattle.tcc_txn.specs.Finished.{finished_in};
-ghost use Rattle.tcc_txn.specs.Nested.{IsNested};
+ghost use Rattle.std.specs.Prelude.{ℕ, ◌<◌, ◌≡◌, length, List, map, All};
 ghost use Rattle.tcc_txn.specs.Snapshots.{Sessions};
-ghost use Rattle.tcc_txn.specs.declared.rows.Item.{Item};
 ghost use Rattle.tcc_graph.specs.Levels.{Judged};
 ghost use Rattle.tcc_graph.specs.Links.{IsLink, cost};
 ghost use Rattle.tcc_graph.specs.Routes.{IsCycle};
@@ -47,9 +44,4 @@ pub fn cycles()
     ensures { (j : Judged) (f : ℕ → ℕ) (s : ℕ) (links : List Link) → 0 < length links → LeadOn s s links
         → All (IsLink j) (map (link_by f) links)
         → IsCycle j (f s) (map (link_by f) links) × (cost (map (link_by f) links) ≡ cost links) }
-{}
-
-/// What some items finish is continued by what they finish together with more.
-pub fn finished()
-    ensures { (items more : List Item) → IsNested (finished_in items) (finished_in (items ++ more)) }
 {}

@@ -23,6 +23,18 @@ impl Cells {
         }
     }
 
+    /// Raises the number of a place by one, up to the greatest.
+    pub(crate) fn add_one(&mut self, place: u32) {
+        self.set(place, self.get(place).saturating_add(1));
+    }
+
+    /// Lowers the number of a place by one, and says whether it is 0 by that.
+    pub(crate) fn less_one(&mut self, place: u32) -> bool {
+        let value = self.get(place);
+        self.set(place, value.saturating_sub(1));
+        value == 1
+    }
+
     /// Puts a number at a place.
     pub(crate) fn set(&mut self, place: u32, value: u32) {
         let place = place as usize;

@@ -4,15 +4,20 @@
 
 mod answer;
 mod asking;
+mod carrying;
 mod cells;
+mod circling;
 mod clocks;
+mod covering;
 mod cutting;
 mod deciding;
 mod decision;
 mod derived;
 mod explaining;
 mod finding;
+mod heading;
 mod judging;
+mod leaving;
 mod linking;
 mod needs;
 mod placing;

@@ -38,6 +38,16 @@ impl Relation {
         Ok(Relation { onward, back })
     }
 
+    /// The further links to a transaction, the other way round.
+    pub(crate) fn into(&self, number: u32) -> &[(u32, u32)] {
+        beginning(&self.back, number)
+    }
+
+    /// The further links from a transaction.
+    pub(crate) fn out_of(&self, number: u32) -> &[(u32, u32)] {
+        beginning(&self.onward, number)
+    }
+
     /// How many pairs and links lead to each transaction from others than `init`; of the session pairs the nearest alone.
     fn waiting(
         &self,
@@ -47,7 +57,7 @@ impl Relation {
     ) -> Result<Cells, NoMemory> {
         let mut waiting = Cells::new(alloc, graph.count() as usize, 0)?;
         for number in 1..graph.count() {
-            let mut left = beginning(&self.back, number).len();
+            let mut left = self.into(number).len();
             if sessions.previous(number).is_some() {
                 left = left.saturating_add(1);
             }
@@ -79,7 +89,7 @@ impl Relation {
             let Some(number) = placed.get(head as usize).copied() else {
                 break;
             };
-            for (_from, to) in beginning(&self.onward, number) {
+            for (_from, to) in self.out_of(number) {
                 release(&mut placed, &mut waiting, *to)?;
             }
             for reader in readings(graph, number).0 {
@@ -90,6 +100,80 @@ impl Relation {
             }
         }
         Ok(placed)
+    }
+
+    /// How many pairs and links lead from each transaction to one that is left; of the session pairs the nearest alone.
+    fn owed(
+        &self,
+        alloc: Global,
+        graph: &LargeGraph,
+        sessions: &Sessions,
+        left: &Cells,
+    ) -> Result<Cells, NoMemory> {
+        let mut owed = Cells::new(alloc, graph.count() as usize, 0)?;
+        for number in 1..graph.count() {
+            if left.get(number) != 0 {
+                for (_to, from) in self.into(number) {
+                    owed.add_one(*from);
+                }
+                for (_key, source) in reads(graph, number) {
+                    owed.add_one(*source);
+                }
+                if let Some(previous) = sessions.previous(number) {
+                    owed.add_one(previous);
+                }
+            }
+        }
+        Ok(owed)
+    }
+
+    /// Marks those that the order leaves out and from which others of them are reached again and again: what stands in a
+    /// circle, or between two.
+    pub(crate) fn core(
+        &self,
+        alloc: Global,
+        graph: &LargeGraph,
+        sessions: &Sessions,
+        order: &[u32],
+    ) -> Result<Cells, NoMemory> {
+        let mut left = left_by(alloc, graph, order)?;
+        let mut owed = self.owed(alloc, graph, sessions, &left)?;
+        let mut gone = Vec::new(alloc);
+        for number in 1..graph.count() {
+            if left.get(number) != 0 && owed.get(number) == 0 {
+                gone.push(number)?;
+            }
+        }
+        for head in 0..graph.count() {
+            let Some(number) = gone.get(head as usize).copied() else {
+                break;
+            };
+            left.set(number, 0);
+            self.let_go(graph, sessions, &left, &mut owed, &mut gone, number)?;
+        }
+        Ok(left)
+    }
+
+    /// Takes a transaction that leads to none that is left away from all that lead to it.
+    fn let_go(
+        &self,
+        graph: &LargeGraph,
+        sessions: &Sessions,
+        left: &Cells,
+        owed: &mut Cells,
+        gone: &mut Vec<u32>,
+        number: u32,
+    ) -> Result<(), AllocError> {
+        for (_to, from) in self.into(number) {
+            release_left(left, gone, owed, *from)?;
+        }
+        for (_key, source) in reads(graph, number) {
+            release_left(left, gone, owed, *source)?;
+        }
+        if let Some(previous) = sessions.previous(number) {
+            release_left(left, gone, owed, previous)?;
+        }
+        Ok(())
     }
 
     /// One from which a pair or link leads to this transaction, of those that are left.
@@ -105,7 +189,7 @@ impl Relation {
                 return Some(*source);
             }
         }
-        for (_to, from) in beginning(&self.back, number) {
+        for (_to, from) in self.into(number) {
             if left.get(*from) != 0 {
                 return Some(*from);
             }
@@ -178,6 +262,19 @@ fn release(placed: &mut Vec<u32>, waiting: &mut Cells, number: u32) -> Result<()
         if left == 1 {
             placed.push(number)?;
         }
+    }
+    Ok(())
+}
+
+/// The same of a transaction that is left; of others nothing is asked.
+fn release_left(
+    left: &Cells,
+    placed: &mut Vec<u32>,
+    waiting: &mut Cells,
+    number: u32,
+) -> Result<(), AllocError> {
+    if left.get(number) != 0 {
+        release(placed, waiting, number)?;
     }
     Ok(())
 }

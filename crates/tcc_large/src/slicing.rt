@@ -1,9 +1,12 @@
 //! A slice: a small snapshot with what the links of a cycle need, and nothing else.
 ghost use Rattle.std.specs.Prelude.{IfOk, IfSome, IsTrue};
-ghost use Rattle.tcc_large.specs.Slices.{IsAnomalous};
+ghost use Rattle.tcc_large.specs.Cuts.{IsCutOf};
+ghost use Rattle.tcc_large.specs.Slices.{IsSliceOf};
 
+use crate::carrying::is_carried;
 use crate::cutting::Whole;
 use crate::judging::is_cycle;
+use crate::leaving::is_cut;
 use crate::needs::Needs;
 use std::alloc::Global;
 use tcc_graph::{Graph, LargeGraph, Level, Link, Step, Walk};
@@ -67,15 +70,17 @@ fn moved_link(alloc: Global, numbers: &[u32], link: &Link) -> Result<Link, NoMem
     }
 }
 
-/// Whether the snapshot's reads are resolved, and these links of the whole are a cycle in it.
-fn has_cycle(
+/// Whether the snapshot's reads are resolved, each of its links is one of the whole, and these links of the whole are a cycle
+/// in it.
+fn is_slice(
     alloc: Global,
     snapshot: &Snapshot,
+    whole: &LargeGraph,
     level: Level,
     numbers: &[u32],
     links: &[Link],
 ) -> Result<bool, NoMemory>
-    ensures { IfOk result (λ found. IsTrue found → IsAnomalous level snapshot.now) }
+    ensures { IfOk result (λ found. IsTrue found → IsSliceOf level whole.now snapshot.now) }
 {
     let resolved = match resolve(alloc, snapshot) {
         Ok(resolved) => resolved,
@@ -87,11 +92,13 @@ fn has_cycle(
     for link in links {
         found.push(moved_link(alloc, numbers, link)?)?;
     }
-    Ok(is_cycle(graph.large(), level, &found))
+    Ok(is_cycle(graph.large(), level, &found) && is_carried(graph.large(), whole, numbers))
 }
 
 /// The slice of a snapshot by the links of a cycle: of their transactions the operations that the links need, in the order of
-/// the whole. Its reads are resolved, and it has a cycle at the level. None where it would break the limits of a snapshot, and
+/// the whole. Its reads are resolved, it has a cycle at the level, and by a map of numbers each of its links is one of the
+/// whole, so each of its anomalies is one too, of the same cost. Each session's transactions are some of its transactions in the
+/// whole, each with some of its operations, in their order. None where it would break the limits of a snapshot, and
 /// where the graph isn't the snapshot's, or the links no cycle of it.
 pub fn slice(
     alloc: Global,
@@ -100,7 +107,8 @@ pub fn slice(
     level: Level,
     links: &[Link],
 ) -> Result<Option<Snapshot>, NoMemory>
-    ensures { IfOk result (λ found. IfSome found (λ slice. IsAnomalous level slice)) }
+    ensures links { IfOk result (λ found. IfSome found (λ slice. IsSliceOf level graph.now slice)) }
+    ensures records { IfOk result (λ found. IfSome found (λ slice. IsCutOf slice snapshot.now)) }
 {
     let needs = Needs::of(alloc, links)?;
     let (numbers, parts) = Whole::new(graph, snapshot.parts())
@@ -109,7 +117,10 @@ pub fn slice(
     let Ok(slice) = Snapshot::new(parts) else {
         return Ok(None);
     };
-    if has_cycle(alloc, &slice, level, &numbers, links)? {
+    if !is_cut(&slice, snapshot) {
+        return Ok(None);
+    }
+    if is_slice(alloc, &slice, graph, level, &numbers, links)? {
         Ok(Some(slice))
     } else {
         Ok(None)

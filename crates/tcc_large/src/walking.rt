@@ -1,6 +1,7 @@
 //! Shortest walks, searched backwards.
 use crate::asking::{key, reads, span};
 use crate::cells::Cells;
+use crate::covering::Covering;
 use crate::sessions::Sessions;
 use std::alloc::{AllocError, Global};
 use tcc_graph::{LargeGraph, Step};
@@ -17,8 +18,7 @@ pub(crate) struct Backwards {
     met: Cells,
     next: Cells,
     by: Cells,
-    covered_in: Cells,
-    covered: Cells,
+    covering: Covering,
     queue: Vec<u32>,
 }
 
@@ -26,14 +26,12 @@ impl Backwards {
     /// Before the first search.
     pub(crate) fn new(alloc: Global, graph: &LargeGraph) -> Result<Backwards, NoMemory> {
         let count = graph.count() as usize;
-        let sessions = graph.sessions().len();
         Ok(Backwards {
             turn: 0,
             met: Cells::new(alloc, count, 0)?,
             next: Cells::new(alloc, count, 0)?,
             by: Cells::new(alloc, count, 0)?,
-            covered_in: Cells::new(alloc, sessions, 0)?,
-            covered: Cells::new(alloc, sessions, 0)?,
+            covering: Covering::new(alloc, graph.sessions().len())?,
             queue: Vec::new(alloc),
         })
     }
@@ -103,16 +101,7 @@ impl Backwards {
         wanted: &[u32],
         number: u32,
     ) -> Result<Option<u32>, AllocError> {
-        let owner = sessions.owner(number);
-        let mut low = sessions.first(owner);
-        if self.covered_in.get(owner) == self.turn {
-            low = low.max(self.covered.get(owner));
-        }
-        if low >= number {
-            return Ok(None);
-        }
-        self.covered_in.set(owner, self.turn);
-        self.covered.set(owner, number);
+        let low = self.covering.take(sessions, number, self.turn);
         if let Some(start) = span(wanted, low, number).first() {
             return Ok(Some(*start));
         }

@@ -16,3 +16,4 @@ pub mod Needing
 pub mod Finding
 pub mod Stepped
 pub mod Rising
+pub mod Spans

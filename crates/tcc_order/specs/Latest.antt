@@ -1,6 +1,7 @@
 -- For the private stages and their proofs alone: nobody has to believe what stands here.
 -- The greatest numbers of the sessions of a block, of some transactions alone; and the links that are kept by them.
 use Rattle.std.specs.Prelude.{ℕ, ◌<◌, ◌≤◌, ◌+◌, ◌≡◌, ◌≢◌, ◌⊎◌, ◌==◌, ◌&&◌, nat_lt, nat_le, not, if◌then◌else◌, max, List, length, slice_index, Contains}
+use Rattle.std.specs.List.Sorted.{IsNonDecreasing}
 use Rattle.tcc_reads.specs.History.{History, count, owner}
 use Rattle.tcc_graph.specs.Relations.{IsCausalPair, IsReadsPair, IsSessionPair}
 use Rattle.tcc_graph.specs.Keys.{writers}
@@ -12,9 +13,10 @@ use Rattle.tcc_order.specs.Parents.{IsAllowedFrom}
 use Rattle.tcc_order.specs.Lasts.{IsOneOf, IsBefore}
 use Rattle.tcc_order.specs.declared.latest.TheConstants.{WIDE}
 
--- the index of each transaction's session
+-- the index of each transaction's session, 0 for `init`
 pub record AreOwners (h : History) (owners : List ℕ) : Type 0 where
   pub long : length owners ≡ count h
+  pub init : slice_index owners 0 ≡ 0
   pub each : (n : ℕ) → 0 < n → n < count h → slice_index owners n ≡ owner h n
 
 -- the greatest number of one of those meant in the session, or 0 where there is none
@@ -113,3 +115,20 @@ pub record IsLastUpTo (numbers : List ℕ) (top : ℕ) (last : ℕ) : Type 0 whe
 pub record IsLastBut (numbers : List ℕ) (top : ℕ) (a : ℕ) (last : ℕ) : Type 0 where
   pub attained : (last ≡ 0) ⊎ (Contains numbers last × (last ≢ a) × (last ≤ top))
   pub greatest : (b : ℕ) → Contains numbers b → b ≢ a → b ≤ top → b ≤ last
+
+-- so many of these are less than the bound, and stand before all others
+pub record IsCountBelow (numbers : List ℕ) (bound : ℕ) (end : ℕ) : Type 0 where
+  pub within : end ≤ length numbers
+  pub less : (k : ℕ) → k < end → slice_index numbers k < bound
+  pub others : (k : ℕ) → k < length numbers → slice_index numbers k < bound → k < end
+
+-- some of these, and all of those from `low` to below `high`
+pub record IsBetween (numbers : List ℕ) (low : ℕ) (high : ℕ) (found : List ℕ) : Type 0 where
+  pub among : (b : ℕ) → Contains found b → Contains numbers b
+  pub all : (b : ℕ) → Contains numbers b → low ≤ b → b < high → Contains found b
+  pub rising : IsNonDecreasing found
+
+-- the transactions of the sessions of a block stand from `low` to below `high`
+abbrev pub AreBounds : List ℕ → ℕ → ℕ → ℕ → Type 0
+AreBounds owners from low high =
+    (b : ℕ) → b < length owners → from ≤ slice_index owners b → slice_index owners b < from + WIDE → (low ≤ b) × (b < high)

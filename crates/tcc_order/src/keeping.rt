@@ -7,7 +7,7 @@ ghost use Rattle.tcc_order.specs.Latest.{AreOwners, AreLatestOf, AreClocks, IsOv
 ghost use Rattle.tcc_graph.specs.Levels.{causally};
 ghost use Rattle.tcc_graph.specs.Orders.{IsNumbering};
 ghost use Rattle.tcc_order.specs.Parents.{AreSessionParents};
-ghost use Rattle.tcc_order.specs.Latest.{AreOrdered, IsClock, IsLastUpTo, IsLastBut};
+ghost use Rattle.tcc_order.specs.Latest.{AreOrdered, IsClock, IsLastUpTo, IsLastBut, IsCountBelow, IsBetween, AreBounds};
 ghost use Rattle.tcc_order.specs.declared.latest.TheConstants.{WIDE};
 ghost use Rattle.std.specs.List.Sorted.{IsNonDecreasing, IsPartitionPoint};
 ghost use Rattle.std.specs.Prelude.{nat_le, true, false, ◌∷◌, []};
@@ -46,6 +46,28 @@ fn lift_each(need: &mut [u32], owners: &[u32], from: u32, clock: &[u32], writers
 {
     for writer in writers {
         lift_writer(need, owners, from, clock, *writer, a);
+    }
+}
+
+/// How many of these, which rise, are less than `bound`.
+fn count_below(numbers: &[u32], bound: usize) -> usize
+    requires { IsNonDecreasing numbers.now }
+    ensures { IsCountBelow numbers.now bound result }
+{
+    numbers.partition_point(|number| (*number as usize) < bound)
+}
+
+/// Of these numbers, which rise, those from `low` to below `high`.
+fn between(numbers: &[u32], low: usize, high: usize) -> &[u32]
+    requires { IsNonDecreasing numbers.now }
+    ensures { IsBetween numbers.now low high result.now }
+{
+    let start = count_below(numbers, low);
+    let end = count_below(numbers, high);
+    if start < end {
+        &numbers[start..end]
+    } else {
+        &[]
     }
 }
 
@@ -148,6 +170,17 @@ fn lift_writers(need: &mut [u32], owners: &[u32], from: u32, clock: &[u32], writ
     }
 }
 
+/// Where the transactions of a block of sessions stand: from the first number to below the second.
+fn block_bounds(owners: &[u32], from: u32) -> (usize, usize)
+    requires { IsNonDecreasing owners.now }
+    ensures { AreBounds owners.now from result.0 result.1 }
+{
+    (
+        count_below(owners, from as usize),
+        count_below(owners, from as usize + WIDE),
+    )
+}
+
 /// Of each session of the block the last transaction that has to stand before `a`: that overwrote a value of `a`, and
 /// reaches who read it.
 fn needed(
@@ -155,12 +188,14 @@ fn needed(
     graph: &LargeGraph,
     owners: &[u32],
     from: u32,
+    bounds: (usize, usize),
     table: &[Row<u32>],
     a: u32,
 )
     requires wide { length need.old ≡ WIDE }
     requires numbered { IsBySession graph.now.entries }
     requires owners { AreOwners graph.now owners.now }
+    requires bounds { AreBounds owners.now from bounds.0 bounds.1 }
     requires clocks { AreClocks graph.now from table.now }
     requires below { a < count graph.now }
     ensures { AreLatestOf graph.now (IsOverwritten graph.now (IsReadsPair graph.now a) a) from need.new }
@@ -169,14 +204,8 @@ fn needed(
     let (readers, places) = graph.readings_at(a);
     for (place, reader) in readers.iter().enumerate() {
         let clock = table[*reader as usize].values();
-        lift_writers(
-            need,
-            owners,
-            from,
-            clock,
-            graph.writers_at(places[place]),
-            a,
-        );
+        let writers = between(graph.writers_at(places[place]), bounds.0, bounds.1);
+        lift_writers(need, owners, from, clock, writers, a);
     }
 }
 
@@ -214,8 +243,9 @@ pub(crate) fn keep_block(
     ensures enough { OnOk result (AreEnough graph.now (Overwrites graph.now) (λ a b. owner graph.now b < from + WIDE) kept.new) }
 {
     let mut need = vec![in alloc; 0; WIDE]?;
+    let bounds = block_bounds(owners, from);
     for a in 0..graph.count() {
-        needed(&mut need, graph, owners, from, table, a);
+        needed(&mut need, graph, owners, from, bounds, table, a);
         keep(&mut kept[a as usize], &need, table[a as usize].values())?;
     }
     Ok(())

@@ -1,3 +1,6 @@
 pub mod Sent
 mod WorkedTexts
 pub mod JsonPieces
+pub mod Counted
+pub mod Moments
+pub mod LargeJson

@@ -3,7 +3,9 @@ pub mod Kinds
 pub mod Statuses
 pub mod Texts
 pub mod Json
+pub mod Moments
 pub mod Printed
+pub mod Large
 pub mod Notes
 -- What serves proofs alone:
 pub mod Halts

@@ -6,7 +6,8 @@ ghost use Rattle.tcc_print.specs.declared.halt.Halt.TheVariants as halt;
 use tcc_cert::CertFault;
 use tcc_check::StreamFault;
 use tcc_reads::{ReadFault, ResolveFault};
-use tcc_txn::{NoMemory, RowFault, RowFaultKind};
+use tcc_rows::{RowFault, RowFaultKind};
+use tcc_txn::NoMemory;
 
 /// Why there is no answer for a history, or no verdict on a certificate for it.
 #[derive(Drop)]

@@ -12,7 +12,8 @@ use serde_json::{Value, json};
 use std::alloc::{AllocError, Global};
 use tcc_answer::pieces::push;
 use tcc_reads::ReadFault;
-use tcc_txn::{NoMemory, RowFault, RowFaultKind};
+use tcc_rows::{RowFault, RowFaultKind};
+use tcc_txn::NoMemory;
 
 fn read_fault_json(alloc: Global, fault: &ReadFault) -> Result<Value, AllocError>
     ensures { IfOk result (λ v. view v ≡ read_fault_json fault.now) }
@@ -91,7 +92,7 @@ fn row_fault_json(alloc: Global, fault: &RowFault) -> Result<Value, AllocError>
 }
 
 /// The text of an object, and a line feed.
-fn line(alloc: Global, object: &Value) -> Result<Vec<u8>, NoMemory>
+pub(crate) fn line(alloc: Global, object: &Value) -> Result<Vec<u8>, NoMemory>
     requires { has_float (view object.now) ≡ false }
     ensures { IfOk result (λ line. line.items ≡ json_line (view object.now)) }
 {

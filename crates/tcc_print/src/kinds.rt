@@ -4,7 +4,7 @@ ghost use Rattle.tcc_print.specs.Kinds.{certificate_told, row_told};
 
 use crate::status::Status;
 use tcc_cert::CertFaultKind;
-use tcc_txn::RowFaultKind;
+use tcc_rows::RowFaultKind;
 
 /// How a kind of fault is told.
 #[derive(Clone, Copy)]

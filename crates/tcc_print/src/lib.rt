@@ -4,6 +4,7 @@
 mod halt;
 pub mod json;
 mod kinds;
+pub mod large;
 pub mod notes;
 mod options;
 pub mod printing;

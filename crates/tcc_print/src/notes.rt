@@ -9,14 +9,15 @@ mod writers;
 
 use crate::texts::{joined, push_told};
 use mending::{Mending, mending_of};
-use quoted::push_quoted;
+use quoted::{first_bytes, push_quoted};
 use std::alloc::Global;
 use std::io::Write;
 use tcc_answer::Answer;
 use tcc_answer::pieces::push;
 use tcc_cert::sending::send;
 use tcc_reads::ReadFault;
-use tcc_txn::{NoMemory, RowFault, RowFaultKind, Snapshot};
+use tcc_rows::{RowFault, RowFaultKind};
+use tcc_txn::{Limits, Name, NoMemory, Snapshot, Txn};
 use writers::push_writer;
 
 /// How many read faults have a note.
@@ -70,7 +71,7 @@ fn session_of<'a>(fields: &[&'a [u8]]) -> Option<&'a [u8]> {
     }
 }
 
-/// Adds the fields of a record, as they stand in it, if they are known.
+/// Adds the fields of a record, as they stand in it, if they are known; of a long one what is shown.
 fn push_record(alloc: Global, text: &mut Vec<u8>, fields: &[&[u8]]) -> Result<(), NoMemory> {
     if fields.is_empty() {
         return Ok(());
@@ -78,23 +79,29 @@ fn push_record(alloc: Global, text: &mut Vec<u8>, fields: &[&[u8]]) -> Result<()
     let mut record = Vec::new(alloc);
     for (place, field) in fields.iter().enumerate() {
         let before: &[u8] = if place == 0 { b"" } else { b"," };
-        push(&mut record, &[before, field])?;
+        push(&mut record, &[before, first_bytes(field)])?;
     }
     push_quoted(alloc, text, &record)?;
     push(text, &[b": "])
 }
 
-/// Adds a field of a record, and the session of the record.
+/// Adds the field of a record at this place, if it is known, and the session of the record where that is another field.
 fn push_field(
     alloc: Global,
     text: &mut Vec<u8>,
-    field: &[u8],
+    place: usize,
     fields: &[&[u8]],
 ) -> Result<(), NoMemory> {
+    let Some(field) = fields.get(place) else {
+        return Ok(());
+    };
     push_quoted(alloc, text, field)?;
-    if let Some(session) = session_of(fields) {
-        push(text, &[b" of session "])?;
-        push_quoted(alloc, text, session)?;
+    match session_of(fields) {
+        Some(session) if place > 0 => {
+            push(text, &[b" of session "])?;
+            push_quoted(alloc, text, session)?;
+        }
+        _ => {}
     }
     push(text, &[b": "])
 }
@@ -108,9 +115,7 @@ fn push_mending(
 ) -> Result<(), NoMemory> {
     match mending {
         Mending::Field(place, stands) => {
-            if let Some(field) = fields.get(place) {
-                push_field(alloc, text, field, fields)?;
-            }
+            push_field(alloc, text, place, fields)?;
             push(text, &[b"expected ", stands.as_bytes()])
         }
         Mending::Record(stands) => {
@@ -129,15 +134,20 @@ fn push_mending(
     }
 }
 
-/// The note of a row fault, by the fields of its record.
-fn row(alloc: Global, fault: &RowFault, fields: &[&[u8]]) -> Result<Vec<u8>, NoMemory> {
+/// The note of a row fault in an input of these limits, by the fields of its record.
+fn row(
+    alloc: Global,
+    limits: Limits,
+    fault: &RowFault,
+    fields: &[&[u8]],
+) -> Result<Vec<u8>, NoMemory> {
     let row = fault.row.to_string(alloc)?;
     let mut text = Vec::new(alloc);
     push(&mut text, &[b"row ", row.as_bytes(), b": "])?;
     push_mending(
         alloc,
         &mut text,
-        mending_of(&fault.kind, fields.len()),
+        mending_of(&fault.kind, fields.len(), limits),
         fields,
     )?;
     push(&mut text, &[b"\n"])?;
@@ -147,17 +157,32 @@ fn row(alloc: Global, fault: &RowFault, fields: &[&[u8]]) -> Result<Vec<u8>, NoM
 /// Notes of the fault of a record, of which these are the fields, if they are known, what stands there instead. Of refused memory
 /// nothing is noted.
 pub fn note_row<N: Write>(alloc: Global, fault: &RowFault, fields: &[&[u8]], notes: &mut N) {
+    note_row_within(alloc, Limits::Small, fault, fields, notes);
+}
+
+/// The same of an input of these limits.
+pub fn note_row_within<N: Write>(
+    alloc: Global,
+    limits: Limits,
+    fault: &RowFault,
+    fields: &[&[u8]],
+    notes: &mut N,
+) {
     if !matches!(fault.kind, RowFaultKind::NoMemory) {
-        send_note(row(alloc, fault, fields), notes);
+        send_note(row(alloc, limits, fault, fields), notes);
     }
 }
 
-/// The note of a read fault of the snapshot.
-fn read(alloc: Global, snapshot: &Snapshot, fault: &ReadFault) -> Result<Vec<u8>, NoMemory> {
+/// The note of a read fault in these sessions.
+fn read(
+    alloc: Global,
+    sessions: &[(Name, Vec<Txn>)],
+    fault: &ReadFault,
+) -> Result<Vec<u8>, NoMemory> {
     let mut text = Vec::new(alloc);
     push_told(alloc, &mut text, fault)?;
     push(&mut text, &[b": "])?;
-    push_writer(alloc, &mut text, snapshot, fault)?;
+    push_writer(alloc, &mut text, sessions, fault)?;
     push(&mut text, &[b"\n"])?;
     Ok(text)
 }
@@ -169,7 +194,24 @@ pub fn note_reads<N: Write>(
     faults: &[ReadFault],
     notes: &mut N,
 ) {
+    note_reads_among(alloc, snapshot.parts(), faults, notes);
+}
+
+/// The same in these sessions, by name.
+pub fn note_reads_among<N: Write>(
+    alloc: Global,
+    sessions: &[(Name, Vec<Txn>)],
+    faults: &[ReadFault],
+    notes: &mut N,
+) {
     for fault in faults.iter().take(MOST_NOTED) {
-        send_note(read(alloc, snapshot, fault), notes);
+        send_note(read(alloc, sessions, fault), notes);
     }
+}
+
+/// Notes that no slice is within the small limits.
+pub fn note_no_slice<N: Write>(alloc: Global, notes: &mut N) {
+    let note: &[u8] =
+        b"--slice: no history within the limits of one without --large has this anomaly\n";
+    send_note(joined(alloc, &[note]), notes);
 }

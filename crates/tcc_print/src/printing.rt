@@ -88,7 +88,11 @@ pub fn print_device<W: Write>(out: &mut W, json: bool) -> u8
 
 /// Writes the text that was made; else a writer that failed, or no memory for the text, ends the run, with this
 /// number.
-fn send_made<W: Write>(made: Result<Vec<u8>, NoMemory>, json: bool, out: &mut W) -> Result<(), u8>
+pub(crate) fn send_made<W: Write>(
+    made: Result<Vec<u8>, NoMemory>,
+    json: bool,
+    out: &mut W,
+) -> Result<(), u8>
     ensures whole { (text : List ℕ) → IfOk made (λ bytes. bytes.items ≡ text) → OnOk result (Appends (W.contents out.old) (W.contents out.new) text) }
     ensures ended { (text : List ℕ) → IfOk made (λ bytes. bytes.items ≡ text) → IfErr result (EndsIn json (W.contents out.old) (W.contents out.new) text) }
 {

@@ -7,7 +7,7 @@ use crate::kinds::{certificate_told, row_told};
 use tcc_answer::Answer;
 use tcc_cert::CertFaultKind;
 use tcc_check::Verdict;
-use tcc_txn::RowFaultKind;
+use tcc_rows::RowFaultKind;
 
 /// How a run ended; the process passes it on as its status.
 #[derive(Clone, Copy, Debug, PartialEq, Eq)]

@@ -9,7 +9,8 @@ use std::alloc::Global;
 use tcc_answer::pieces::push;
 use tcc_cert::{CertFault, CertFaultKind};
 use tcc_reads::{ReadFault, ReadFaultKind};
-use tcc_txn::{NoMemory, RowFault, RowFaultKind};
+use tcc_rows::{RowFault, RowFaultKind};
+use tcc_txn::NoMemory;
 
 /// The pieces, one after the other, as a text.
 pub(crate) fn joined(alloc: Global, pieces: &[&[u8]]) -> Result<Vec<u8>, NoMemory>

@@ -8,7 +8,10 @@ use Rattle.std.specs.BTreeSet.{insert_key}
 use Rattle.std.specs.FinMap.{entries}
 use Rattle.std.specs.declared.cmp.Ordering.{Ordering}
 use Rattle.std.specs.declared.cmp.Ordering.TheVariants.{Less, Equal, Greater}
+use Rattle.std.specs.Cmp.{IsTotalOrder}
+use Rattle.std.specs.List.Sorted.{IsStrictlySortedBy}
 use Rattle.std.specs.Ordering.{match_ordering}
+use Rattle.std.proofs.lemmas.Cmp.{nat_cmp_total, nat_list_cmp_total, then_total, on_total}
 use Rattle.std.proofs.lemmas.Bool.{eqb-true}
 use Rattle.std.proofs.lemmas.List.{length-map, nil_from_length}
 use Rattle.std.proofs.lemmas.List.Elements.{All-nil, All-cons, All-head, All-tail, All-map, All-filter}
@@ -28,6 +31,7 @@ use Rattle.tcc_reads.proofs.Counting.{length-stands_from, stands_from-session}
 use Rattle.tcc_reads.proofs.Agreement.{Agree, agree_on, faults_agree}
 use Rattle.tcc_reads.proofs.Sourcing.{sourced, entries_agree}
 use Rattle.tcc_reads.proofs.Rising.{by_sessions}
+use Rattle.tcc_reads.proofs.SortedOnce.{once_sorted}
 
 -- names, table, nodes and faults are as the resolver makes them
 pub record AreFindings (named : List (List ℕ × List Transaction)) (names : List (List ℕ)) (table : Writes) (nodes : List Entry) (faults : List ReadFault)
@@ -80,6 +84,9 @@ unwrap_or-position_from p first (x ∷ xs) some =
       | true ↦ omega arith
       | false ↦ later
     ]
+
+pair_total : IsTotalOrder pair_cmp
+pair_total = then_total (on_total (λ (r : List ℕ × ℕ). r.0) nat_list_cmp_total) (on_total (λ (r : List ℕ × ℕ). r.1) nat_cmp_total)
 
 source-below : (all : List Stand) (x : List ℕ) (v : ℕ) → source all x v < 1 + length (committed all)
 source-below all x v =
@@ -143,6 +150,13 @@ module _ (named : List (List ℕ × List Transaction)) (names : List (List ℕ))
             (get_or (external_reads (get_or (committed all) k d)) j e).1,
       )))))
 
+  entries_ordered : All (λ e. IsStrictlySortedBy pair_cmp e.reads) (initial ∷ map (entry_of all) (committed all))
+  entries_ordered =
+      let IsOrdered : Entry → Type 0 = λ e. IsStrictlySortedBy pair_cmp e.reads in
+      All-cons IsOrdered initial (map (entry_of all) (committed all)) (once_sorted pair_total [])
+      (All-map IsOrdered (entry_of all) (committed all) (λ k d within.
+      once_sorted pair_total (map (λ r. (r.0, source all r.0 r.1)) (external_reads (get_or (committed all) k d)))))
+
   owners_stored : (bound : ℕ) → length named ≤ bound → All (λ p. p.0 < bound) (places_of (initial ∷ map (entry_of all) (committed all)))
   owners_stored bound within =
       let IsBelow : ℕ × ℕ → Type 0 = λ p. p.0 < bound in
@@ -173,5 +187,6 @@ module _ (named : List (List ℕ × List Transaction)) (names : List (List ℕ))
         few = omega (arith, few_findings none, few_transactions);
         owners = subst AreOwners (sym (are ∙ ap places_of (nodes_of_findings none))) (owners_stored (length names) (omega (arith, named_findings)));
         sources = subst AreIn (sym (nodes_of_findings none)) (entries_stored (length nodes) (counted none));
+        reads_ordered = subst (All (λ e. IsStrictlySortedBy pair_cmp e.reads)) (sym (nodes_of_findings none)) entries_ordered;
         ordered = subst IsBySession (sym (nodes_of_findings none)) (by_sessions named);
       }

@@ -44,7 +44,8 @@ module _ {K : Type 0} {R : K → K → Ordering} (o : IsTotalOrder R) where
         | Greater ↦ λ is. (all_inserted (λ y. R x y ≡ Less) k (o.antisymm x k ∙ ap ordering_reverse is) xs s.0, inserted_sorted k xs s.1)
       ]) refl
 
-  once_sorted : (xs : List K) → IsStrictlySortedBy R (sorted_once R xs)
+  -- each item is below the next
+  pub once_sorted : (xs : List K) → IsStrictlySortedBy R (sorted_once R xs)
   unfolding IsStrictlySortedBy
   once_sorted [] = tt
   once_sorted (x ∷ xs) = inserted_sorted x (sorted_once R xs) (once_sorted xs)

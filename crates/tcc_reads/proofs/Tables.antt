@@ -3,16 +3,17 @@ use Rattle.std.proofs.Common.{◌≡◌, ℕ, ◌+◌, cond, Bool, true, false, 
 use Rattle.std.specs.Option.{option_or}
 use Rattle.std.specs.Str.{bytes_eq}
 use Rattle.std.specs.Prelude.{◌==◌}
-use Rattle.std.specs.HashMap as hash
-use Rattle.std.specs.HashMap.{HashMap}
+use Rattle.std.specs.BTreeMap as tree
+use Rattle.std.specs.BTreeMap.{BTreeMap}
+use Rattle.std.specs.Ordering.{is_eq}
 use Rattle.tcc_txn.specs.declared.op.Op.{Op}
 use Rattle.tcc_txn.specs.declared.op.Op.TheVariants.{Get, Put}
 use Rattle.tcc_reads.specs.declared.fault.ReadFaultKind.TheVariants.{Duplicate}
 use Rattle.tcc_reads.specs.declared.judging.Judgement.TheVariants.{Faulty, Silent}
 use Rattle.tcc_reads.specs.Numbers.{Numbered}
-use Rattle.tcc_reads.specs.Sources.{value_put, visible_write}
+use Rattle.tcc_reads.specs.Sources.{name_cmp, value_put, visible_write}
 use Rattle.tcc_reads.specs.Verdicts.{Writes, AreOwnIn, IsOwn, AreVisibleWrites, write_judgement}
-use Rattle.tcc_reads.proofs.Ties.{numbers_same}
+use Rattle.tcc_reads.proofs.Ties.{names_tie, numbers_same}
 
 option_or-none : (o : Option ℕ) → option_or None o ≡ option_or o None
 option_or-none None = refl
@@ -33,11 +34,12 @@ chosen : (b : Bool) (value : ℕ) (o : Option ℕ) → cond b (Some value) o ≡
 chosen true value o = refl
 chosen false value o = refl
 
-pub put_visible : {S : Type 0} (old new : HashMap (List ℕ) ℕ S) (key : List ℕ) (value : ℕ) (before : List Op)
-    → ((x : List ℕ) → hash.get bytes_eq new x ≡ cond (bytes_eq key x) (Some value) (hash.get bytes_eq old x))
+pub put_visible : (old new : BTreeMap (List ℕ) ℕ) (key : List ℕ) (value : ℕ) (before : List Op)
+    → ((x : List ℕ) → tree.get name_cmp new x ≡ cond (is_eq (name_cmp key x)) (Some value) (tree.get name_cmp old x))
     → AreVisibleWrites old before → AreVisibleWrites new (before ++ Put key value ∷ [])
 put_visible old new key value before updates own x =
-    updates x ∙ ap (λ o. cond (bytes_eq key x) (Some value) o) (own x)
+    updates x ∙ ap (λ b. cond b (Some value) (tree.get name_cmp old x)) (names_tie key x)
+    ∙ ap (λ o. cond (bytes_eq key x) (Some value) o) (own x)
     ∙ chosen (bytes_eq key x) value (visible_write x before)
     ∙ sym (visible_write-push x before (Put key value))
 

@@ -7,8 +7,8 @@ use Rattle.std.specs.List.{list_any, AllAdjacentBelow}
 use Rattle.std.specs.Ordering.{nat_cmp, ordering_then}
 use Rattle.std.specs.declared.cmp.Ordering.{Ordering}
 use Rattle.std.specs.declared.cmp.Ordering.TheVariants.{Less}
-use Rattle.std.specs.HashMap as hash
-use Rattle.std.specs.HashMap.{HashMap}
+use Rattle.std.specs.BTreeMap as tree
+use Rattle.std.specs.BTreeMap.{BTreeMap}
 use Rattle.std.specs.Str.{bytes_eq}
 use Rattle.tcc_txn.specs.declared.op.Op.{Op}
 use Rattle.tcc_txn.specs.declared.op.Op.TheVariants.{Get, Put}
@@ -104,8 +104,8 @@ AreOwn table [] = Unit {0}
 AreOwn table (n ∷ later) = AreOwnIn table n [] n.stand.txn.ops × AreOwn table later
 
 -- the map has the visible writes of these operations
-abbrev pub AreVisibleWrites : {S : Type 0} → HashMap (List ℕ) ℕ S → List Op → Type 0
-AreVisibleWrites own ops = (x : List ℕ) → hash.get bytes_eq own x ≡ visible_write x ops
+abbrev pub AreVisibleWrites : BTreeMap (List ℕ) ℕ → List Op → Type 0
+AreVisibleWrites own ops = (x : List ℕ) → tree.get name_cmp own x ≡ visible_write x ops
 
 abbrev pub is_in : Numbered → Writer → Bool
 is_in n first = (first.session == n.stand.session) && (first.place == n.stand.place)

@@ -1,10 +1,10 @@
 //! What each operation of a transaction is: a fault, an external read with its source, or neither.
 ghost use Rattle.std.specs.Prelude.{◌≡◌, true, ◌∷◌, [], ◌++◌, List, IfOk, OnOk, option_to_list};
-ghost use Rattle.std.specs.HashMap as hash;
+ghost use Rattle.std.specs.BTreeMap as tree;
 ghost use Rattle.std.specs.Option.{option_copied};
-ghost use Rattle.std.specs.Str.{bytes_eq};
 ghost use Rattle.tcc_txn.specs.declared.op.Op.{Op};
 ghost use Rattle.tcc_txn.specs.Transactions.{op_key, op_value};
+ghost use Rattle.tcc_reads.specs.Sources.{name_cmp};
 ghost use Rattle.tcc_reads.specs.Verdicts.{writers_in, is_in, write_judgement, read_judgement, op_judgement};
 ghost use Rattle.tcc_reads.specs.Verdicts.{fault_in, source_in, IsOwn, AreOwnIn, AreVisibleWrites};
 ghost use Rattle.tcc_reads.specs.Verdicts.{faults_found, sources_found};
@@ -13,7 +13,7 @@ use crate::standing::Standing;
 use crate::writers::{Writer, Writers, first_writer};
 use crate::{ReadFault, ReadFaultKind};
 use std::alloc::{AllocError, Global};
-use std::collections::HashMap;
+use std::collections::BTreeMap;
 use tcc_txn::{Name, Op};
 
 /// What an operation is.
@@ -78,10 +78,10 @@ fn judgement_of(
     standing: &Standing<'_>,
     place: u16,
     op: Op,
-    own: &HashMap<Name, u64>,
+    own: &BTreeMap<Name, u64>,
 ) -> Judgement
     requires { distinct ≡ true → IsOwn (writers_in writers.now) standing.now place op }
-    ensures { result ≡ op_judgement (writers_in writers.now) standing.now place op (hash.get bytes_eq own.now (op_key op)) }
+    ensures { result ≡ op_judgement (writers_in writers.now) standing.now place op (tree.get name_cmp own.now (op_key op)) }
 {
     match op {
         Op::Put { key, value } => {
@@ -149,7 +149,7 @@ fn note(
 }
 
 /// Takes in an operation as the latest one of its transaction.
-fn put_own(own: &mut HashMap<Name, u64>, op: Op) -> Result<(), AllocError>
+fn put_own(own: &mut BTreeMap<Name, u64>, op: Op) -> Result<(), AllocError>
     ensures { OnOk result ((before : List Op) → AreVisibleWrites own.old before → AreVisibleWrites own.new (before ++ op ∷ [])) }
 {
     match op {
@@ -168,7 +168,7 @@ pub(crate) fn judge(
     writers: &Writers,
     distinct: bool,
     standing: &Standing<'_>,
-    own: &mut HashMap<Name, u64>,
+    own: &mut BTreeMap<Name, u64>,
     faults: &mut Vec<ReadFault>,
 ) -> Result<Vec<(Name, u32)>, AllocError>
     requires { distinct ≡ true → AreOwnIn (writers_in writers.now) standing.now [] standing.now.stand.txn.ops }

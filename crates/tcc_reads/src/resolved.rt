@@ -1,8 +1,10 @@
 //! Histories whose reads are resolved.
 ghost use Rattle.std.specs.Prelude.{◌≡◌, ◌<◌, ◌≤◌, ◌+◌, length, All};
+ghost use Rattle.std.specs.List.Sorted.{IsStrictlySortedBy};
 ghost use Rattle.tcc_txn.specs.declared.limits.TheConstants.{MAX_COUNT, MAX_SESSIONS, LARGE_COUNT, LARGE_SESSIONS};
 ghost use Rattle.tcc_reads.specs.History.{count, entry_at, initial};
 ghost use Rattle.tcc_reads.specs.History.{IsBySession, places_of};
+ghost use Rattle.tcc_reads.specs.Sources.{pair_cmp};
 
 use std::marker::Model;
 use tcc_txn::Name;
@@ -66,6 +68,7 @@ impl LargeResolved {
         ensures initial { entry_at self.now 0 ≡ initial }
         ensures owners { All (λ p. p.0 < length self.now.sessions) result.now }
         ensures ordered { IsBySession self.now.entries }
+        ensures reads { All (λ e. IsStrictlySortedBy pair_cmp e.reads) self.now.entries }
     {
         &self.places
     }
@@ -84,6 +87,7 @@ impl LargeResolved {
         requires { t < count self.now }
         ensures value { result.now ≡ (entry_at self.now t).reads }
         ensures sources { All (λ r. r.1 < count self.now) result.now }
+        ensures order { IsStrictlySortedBy pair_cmp result.now }
     {
         &self.nodes[t as usize].reads
     }
@@ -152,6 +156,7 @@ impl Resolved {
         requires { t < count self.now }
         ensures value { result.now ≡ (entry_at self.now t).reads }
         ensures sources { All (λ r. r.1 < count self.now) result.now }
+        ensures order { IsStrictlySortedBy pair_cmp result.now }
     {
         self.large.reads(t)
     }

@@ -18,7 +18,7 @@ use crate::standing::Standing;
 use crate::writers::{FirstWrites, first_writes};
 use crate::{ReadFault, ResolveFault};
 use std::alloc::{AllocError, Global};
-use std::collections::HashMap;
+use std::collections::BTreeMap;
 use tcc_txn::{LargeSnapshot, Name, Op, Snapshot, Txn};
 
 /// The keys that some operations write, in order, each once.
@@ -56,7 +56,7 @@ fn examine_one(
     alloc: Global,
     first: &FirstWrites,
     standing: &Standing<'_>,
-    own: &mut HashMap<Name, u64>,
+    own: &mut BTreeMap<Name, u64>,
     nodes: &mut Vec<Node>,
     faults: &mut Vec<ReadFault>,
 ) -> Result<(), AllocError>
@@ -89,7 +89,7 @@ fn examine(
 {
     let mut nodes = Vec::new(alloc);
     let mut faults = Vec::new(alloc);
-    let mut own = HashMap::new(alloc);
+    let mut own = BTreeMap::new(alloc);
     nodes.push(Node {
         owner: 0,
         place: 0,

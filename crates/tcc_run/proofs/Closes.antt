@@ -2,8 +2,9 @@
 use Rattle.std.proofs.Common.{ℕ, ◌≡◌, ◌≢◌, List, [], Option, None, Some, Result, refl, sym, ap, subst, ◌∙◌, inl, inr, ◌⊎◌}
 use Rattle.std.specs.Prelude.{unwrap_or}
 use Rattle.std.specs.List.{last_or}
-use Rattle.tcc_txn.specs.Answers.{answers_of}
-use Rattle.tcc_txn.specs.Finished.{KeepsLimits, finished_in}
+use Rattle.tcc_rows.specs.Answers.{answers_of}
+use Rattle.tcc_txn.specs.Finished.{KeepsLimits}
+use Rattle.tcc_rows.specs.Items.{finished_in}
 use Rattle.tcc_cert.specs.Texts.{certificate_text}
 use Rattle.tcc_cert.specs.declared.certificate.Certificate.{Certificate}
 use Rattle.tcc_answer.specs.Claims.{certificate_of}
@@ -18,7 +19,7 @@ use Rattle.tcc_print.specs.declared.status.Status.TheVariants.{Device}
 use Rattle.tcc_run.specs.Runs.{IsAnswered, IsEnded, IsRun, IsWhole, Said, halt_said}
 use Rattle.tcc_run.proofs.Closing.{accepted, only}
 use Rattle.tcc_run.proofs.LastSnapshot.{last_said}
-use Rattle.tcc_run.proofs.Moments.{last-push}
+use Rattle.tcc_print.proofs.Moments.{last-push}
 
 -- the check of these records accepts the text as that of the certificate, unless a reader fails or memory is refused
 abbrev Accepts : List ℕ → List ℕ → Type 0

@@ -2,8 +2,9 @@
 use Rattle.std.proofs.Common.{◌≡◌, ◌≢◌, ℕ, List, [], length, take, None, Result, Ok, Err, refl, sym, ap, subst, ◌∙◌, inl, inr}
 use Rattle.std.specs.Prelude.{IfOk}
 use Rattle.std.proofs.Math.Seq.{take-length}
-use Rattle.tcc_txn.specs.Answers.{answers_of}
-use Rattle.tcc_txn.specs.Finished.{KeepsLimits, finished_in}
+use Rattle.tcc_rows.specs.Answers.{answers_of}
+use Rattle.tcc_txn.specs.Finished.{KeepsLimits}
+use Rattle.tcc_rows.specs.Items.{finished_in}
 use Rattle.tcc_txn.specs.Snapshots.{Sessions}
 use Rattle.tcc_txn.specs.declared.memory.NoMemory as memory
 use Rattle.tcc_reads.specs.Faults.{read_faults}

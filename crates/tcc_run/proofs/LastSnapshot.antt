@@ -4,11 +4,11 @@ use Rattle.std.proofs.Common.{refl, sym, ap, subst, ◌∙◌, inl, inr, ◌⊎�
 use Rattle.std.specs.List.{AllZip, last_or}
 use Rattle.std.specs.FinMap as finite
 use Rattle.std.proofs.lemmas.List.Sums.{fold-append}
-use Rattle.tcc_txn.specs.Finished.{finished_in, with_item}
+use Rattle.tcc_rows.specs.Items.{finished_in, with_item}
 use Rattle.tcc_txn.specs.Snapshots.{Sessions}
-use Rattle.tcc_txn.specs.declared.rows.Item.{Item}
-use Rattle.tcc_txn.specs.declared.rows.Item.TheVariants as item
-use Rattle.tcc_run.specs.Runs.{at_end, is_due_after, sealed_after, sealed_in}
+use Rattle.tcc_rows.specs.declared.rows.Item.{Item}
+use Rattle.tcc_rows.specs.declared.rows.Item.TheVariants as item
+use Rattle.tcc_print.specs.Moments.{at_end, is_due_after, sealed_after, sealed_in}
 
 -- some snapshots, and this one behind them
 abbrev EndsWith : List Sessions → Sessions → Type 0

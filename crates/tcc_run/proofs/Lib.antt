@@ -1,6 +1,5 @@
 pub mod Closing
 pub mod Counted
-pub mod Moments
 pub mod Interleaving
 pub mod LastSnapshot
 pub mod Closes

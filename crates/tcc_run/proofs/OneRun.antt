@@ -1,20 +1,21 @@
 -- A whole run says the same by options that ask for the same.
 use Rattle.std.proofs.Common.{◌≡◌, ◌⊎◌, ℕ, suc, List, [], ◌∷◌, ◌++◌, Some, take, refl, sym, ap, subst, ◌∙◌, inl, inr, append_assoc}
 use Rattle.std.proofs.Common.{append-nil, zero}
-use Rattle.tcc_txn.specs.Answers as rows
-use Rattle.tcc_txn.specs.Finished.{finished_in}
+use Rattle.tcc_rows.specs.Answers as rows
+use Rattle.tcc_rows.specs.Items.{finished_in}
 use Rattle.tcc_txn.specs.Snapshots.{Sessions}
-use Rattle.tcc_txn.specs.declared.rows.Item.{Item}
-use Rattle.tcc_txn.specs.declared.rows.Item.TheVariants as item
-use Rattle.tcc_txn.specs.declared.rows.RowFault.{RowFault}
+use Rattle.tcc_rows.specs.declared.rows.Item.{Item}
+use Rattle.tcc_rows.specs.declared.rows.Item.TheVariants as item
+use Rattle.tcc_rows.specs.declared.rows.RowFault.{RowFault}
 use Rattle.tcc_reads.specs.Sources.{history}
 use Rattle.tcc_graph.specs.Levels.{Judged}
 use Rattle.tcc_answer.specs.declared.answer.Answer.{Answer}
 use Rattle.tcc_explain.specs.Explained.{IsAnswerOf}
 use Rattle.tcc_print.specs.declared.options.Options.{Options}
 use Rattle.tcc_print.specs.declared.halt.Halt.TheVariants as halt
-use Rattle.tcc_run.specs.Runs.{AreAnswered, AreAnswersOf, AreFront, AskAlike, IsAnswered, IsStopped, IsWhole, Said, answer_said, at_end, halt_said}
-use Rattle.tcc_run.specs.Runs.{sealed_after, sealed_in}
+use Rattle.tcc_run.specs.Runs.{AreAnswered, AreAnswersOf, AreFront, AskAlike, IsAnswered, IsStopped, IsWhole, Said, answer_said, halt_said}
+use Rattle.tcc_print.specs.Moments.{at_end}
+use Rattle.tcc_print.specs.Moments.{sealed_after, sealed_in}
 
 -- the snapshots at the seals among the first items are the first of those at all seals
 sealed-front : (before items : List Item) (n : ℕ)

@@ -9,18 +9,19 @@ use Rattle.std.proofs.KnownBytes.{Appends-trans}
 use Rattle.std.proofs.lemmas.Grind.{flat_map-append}
 use Rattle.std.proofs.lemmas.Bool.Decides.{nat_tests}
 use Rattle.std.proofs.Math.Seq.{take-append-add, take-length}
-use Rattle.tcc_txn.specs.Answers.{Answers, answers_of, ending, records_of}
-use Rattle.tcc_txn.specs.Failing.{items_before}
-use Rattle.tcc_txn.specs.Finished.{finished_in, transaction_count}
-use Rattle.tcc_txn.specs.Recordings.{FailsBehind, IsRecording, TakesMoment, after_items}
+use Rattle.tcc_rows.specs.Answers.{Answers, answers_of, ending, records_of}
+use Rattle.tcc_rows.specs.Failing.{items_before}
+use Rattle.tcc_txn.specs.Finished.{transaction_count}
+use Rattle.tcc_rows.specs.Items.{finished_in}
+use Rattle.tcc_rows.specs.Recordings.{FailsBehind, IsRecording, TakesMoment, after_items}
 use Rattle.tcc_txn.specs.Snapshots.{Sessions}
-use Rattle.tcc_txn.specs.declared.recording.Moment.TheVariants as moment
-use Rattle.tcc_txn.specs.declared.recording.Recording.{Recording}
-use Rattle.tcc_txn.specs.declared.rows.Item.{Item}
-use Rattle.tcc_txn.specs.declared.rows.Item.TheVariants as item
-use Rattle.tcc_txn.specs.declared.rows.RowFault.{RowFault}
-use Rattle.tcc_txn.specs.declared.rows.RowFaultKind.TheVariants as kind
-use Rattle.tcc_txn.proofs.FailingFacts.{front-items}
+use Rattle.tcc_rows.specs.declared.recording.Moment.TheVariants as moment
+use Rattle.tcc_rows.specs.declared.recording.Recording.{Recording}
+use Rattle.tcc_rows.specs.declared.rows.Item.{Item}
+use Rattle.tcc_rows.specs.declared.rows.Item.TheVariants as item
+use Rattle.tcc_rows.specs.declared.rows.RowFault.{RowFault}
+use Rattle.tcc_rows.specs.declared.rows.RowFaultKind.TheVariants as kind
+use Rattle.tcc_rows.proofs.FailingFacts.{front-items}
 use Rattle.tcc_print.specs.declared.halt.Halt.{Halt}
 use Rattle.tcc_print.specs.declared.halt.Halt.TheVariants as halt
 use Rattle.tcc_print.specs.declared.options.Options.{Options}
@@ -32,15 +33,16 @@ use Rattle.tcc_answer.specs.declared.answer.Answer.{Answer}
 use Rattle.tcc_print.specs.Printed.{Prints, halted, memory_line}
 use Rattle.tcc_print.specs.Statuses.{code_of, halt_status}
 use Rattle.tcc_run.specs.Runs.{AreAnswered, Contents, Gains, IsAnswered, IsRun, IsWhole, MayEnd}
-use Rattle.tcc_run.specs.Runs.{Said, at_end, faults_said, halt_said, is_due_after, sealed_in, texts}
+use Rattle.tcc_run.specs.Runs.{Said, faults_said, halt_said, texts}
+use Rattle.tcc_print.specs.Moments.{at_end, is_due_after, sealed_in}
 use Rattle.tcc_run.specs.Stages.{AllAnswered, AnswersKept, Concludes, EndsAnswering, EndsEarly}
 use Rattle.tcc_run.specs.Stages.{IsFor, IsOutcome, IsStill, Keeps, SaysLast, answer_in, outcome_said}
 use Rattle.tcc_run.specs.Stages.{outcome_text}
 use Rattle.tcc_print.specs.Printed.{CutsOff, PrintsOrMemory}
 use Rattle.tcc_print.specs.Halts.{by_row, is_memory}
-use Rattle.tcc_run.proofs.Moments.{AllZip-append, all-fault, all-items, at_end-due, at_end-none, due-passed, due-seal}
-use Rattle.tcc_run.proofs.Moments.{finished-seal, first-taken, last-push, part-of, same-passed, sealed-passed}
-use Rattle.tcc_run.proofs.Moments.{sealed-seal, still_due}
+use Rattle.tcc_print.proofs.Moments.{AllZip-append, all-fault, all-items, at_end-due, at_end-none, due-passed, due-seal}
+use Rattle.tcc_print.proofs.Moments.{finished-seal, first-taken, last-push, part-of, same-passed, sealed-passed}
+use Rattle.tcc_print.proofs.Moments.{sealed-seal, still_due}
 
 texts-push : (said : List Said) (one : Said) → texts (said ++ one ∷ []) ≡ texts said ++ one.text
 texts-push said one = flat_map-append (λ (one : Said). one.text) said (one ∷ []) ∙ ap (λ t. texts said ++ t) (append-nil one.text)

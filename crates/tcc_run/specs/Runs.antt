@@ -1,15 +1,12 @@
 -- What is answered for the records of an input, and what a run of explain does with their bytes.
-use Rattle.std.specs.Prelude.{ℕ, ◌≡◌, ◌≢◌, ◌⊎◌, Bool, true, false, List, [], ◌∷◌, ◌++◌, length, take, flat_map, unwrap_or, Option, None, Some, if◌then◌else◌}
+use Rattle.std.specs.Prelude.{ℕ, ◌≡◌, ◌≢◌, ◌⊎◌, List, [], ◌∷◌, ◌++◌, length, take, flat_map, unwrap_or, Option, None, Some}
 use Rattle.std.specs.Io.KnownBytes.{Appends}
 use Rattle.std.specs.List.{AllZip, last_or}
-use Rattle.tcc_txn.specs.Answers as rows
-use Rattle.tcc_txn.specs.Failing.{FailsAt, items_before}
-use Rattle.tcc_txn.specs.Finished.{finished_in}
+use Rattle.tcc_rows.specs.Answers as rows
+use Rattle.tcc_rows.specs.Failing.{FailsAt, items_before}
 use Rattle.tcc_txn.specs.Snapshots.{Sessions}
-use Rattle.tcc_txn.specs.declared.rows.Item.{Item}
-use Rattle.tcc_txn.specs.declared.rows.RowFault.{RowFault}
-use Rattle.tcc_txn.specs.declared.rows.Item.TheVariants as item
-use Rattle.tcc_txn.specs.declared.rows.RowFaultKind.TheVariants as kind
+use Rattle.tcc_rows.specs.declared.rows.RowFault.{RowFault}
+use Rattle.tcc_rows.specs.declared.rows.RowFaultKind.TheVariants as kind
 use Rattle.tcc_reads.specs.Faults.{read_faults}
 use Rattle.tcc_reads.specs.Sources.{history}
 use Rattle.tcc_reads.specs.declared.fault.ReadFault.{ReadFault}
@@ -17,6 +14,7 @@ use Rattle.tcc_cert.specs.Texts.{certificate_text}
 use Rattle.tcc_explain.specs.Explained.{IsAnswerOf}
 use Rattle.tcc_answer.specs.Claims.{certificate_of}
 use Rattle.tcc_answer.specs.declared.answer.Answer.{Answer}
+use Rattle.tcc_print.specs.Moments.{at_end, sealed_in}
 use Rattle.tcc_print.specs.declared.halt.Halt.{Halt}
 use Rattle.tcc_print.specs.declared.halt.Halt.TheVariants as halt
 use Rattle.tcc_print.specs.declared.options.Options.{Options}
@@ -58,30 +56,6 @@ IsAnswered options s said =
 -- each of the snapshots is answered, in turn
 abbrev pub AreAnswered : Options → List Sessions → List Said → Type 0
 AreAnswered options snapshots said = AllZip (IsAnswered options) snapshots said
-
--- ---- what is answered
-
--- what was finished before each seal among the items that follow others
-abbrev pub sealed_after : List Item → List Item → List Sessions
-sealed_after before [] = []
-sealed_after before (item.Finished session txn ∷ items) = sealed_after (before ++ item.Finished session txn ∷ []) items
-sealed_after before (item.Seal ∷ items) = finished_in before ∷ sealed_after (before ++ item.Seal ∷ []) items
-sealed_after before (item.End ∷ items) = sealed_after (before ++ item.End ∷ []) items
-
--- what was finished before each seal
-abbrev pub sealed_in : List Item → List Sessions
-sealed_in items = sealed_after [] items
-
--- whether an answer is due after the items: something was finished since the last seal, or there was none and one was due before
-abbrev pub is_due_after : Bool → List Item → Bool
-is_due_after due [] = due
-is_due_after due (item.Finished session txn ∷ items) = is_due_after true items
-is_due_after due (item.Seal ∷ items) = is_due_after false items
-is_due_after due (item.End ∷ items) = is_due_after due items
-
--- what was finished before the end, unless there was a seal and nothing was finished since the last one
-abbrev pub at_end : List Item → List Sessions
-at_end items = if is_due_after true items then finished_in items ∷ [] else []
 
 -- ---- a run
 

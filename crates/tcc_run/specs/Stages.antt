@@ -3,7 +3,7 @@ use Rattle.std.specs.Prelude.{ℕ, ◌≡◌, ◌≢◌, ◌⊎◌, Bool, List, 
 use Rattle.std.specs.Io.KnownBytes.{Appends}
 use Rattle.std.specs.List.{last_or}
 use Rattle.std.specs.Option.{option_map_or}
-use Rattle.tcc_txn.specs.Answers as rows
+use Rattle.tcc_rows.specs.Answers as rows
 use Rattle.tcc_txn.specs.Finished.{transaction_count}
 use Rattle.tcc_txn.specs.Nested.{IsNested}
 use Rattle.tcc_txn.specs.Snapshots.{Sessions}

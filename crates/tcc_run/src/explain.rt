@@ -1,11 +1,11 @@
 //! From the bytes of records to their answers: at each seal, and at the end.
 ghost use Rattle.std.specs.Prelude.{◌≡◌, ◌≢◌, ◌<◌, ◌≤◌, ℕ, List, [], true, false, None, Some, Ok, IfOk, IfSome, MatchResult, OnErr, OnOk, option_map};
 ghost use Rattle.std.specs.FinMap as sessions;
-ghost use Rattle.tcc_txn.specs.Ahead.{fault_met};
-ghost use Rattle.tcc_txn.specs.Answers.{answers_of, records_of};
+ghost use Rattle.tcc_rows.specs.Ahead.{fault_met};
+ghost use Rattle.tcc_rows.specs.Answers.{answers_of, records_of};
 ghost use Rattle.tcc_txn.specs.Finished.{transaction_count};
-ghost use Rattle.tcc_txn.specs.Reached.{IsWithin};
-ghost use Rattle.tcc_txn.specs.Recordings.{IsRecording};
+ghost use Rattle.tcc_rows.specs.Reached.{IsWithin};
+ghost use Rattle.tcc_rows.specs.Recordings.{IsRecording};
 ghost use Rattle.tcc_cert.specs.Texts.{certificate_text};
 ghost use Rattle.tcc_answer.specs.Claims.{certificate_of};
 ghost use Rattle.tcc_print.specs.Halts.{by_row};
@@ -20,11 +20,13 @@ use std::io::{Read, Write};
 use std::thread::Threads;
 use tcc_cert::{WriteFault, write};
 use tcc_explain::{Answer, Gate};
-use tcc_print::notes::{note_last, note_row};
+use tcc_print::notes::note_last;
 use tcc_print::printing::{print_device, print_halt, print_memory};
 use tcc_print::status::last_status;
 use tcc_print::{Halt, Options, Status};
-use tcc_txn::{Moment, NoMemory, Recording, RowFault, Snapshot};
+use tcc_rows::{Moment, Recording, RowFault};
+use tcc_txn::{NoMemory, Snapshot};
+use tcc_verdict::note_stop;
 
 /// How many transactions the session at this place has finished; past the last place, none.
 fn session_count(snapshot: &Snapshot, session: u32) -> usize
@@ -158,8 +160,9 @@ fn answer_last<W: Write, N: Write, G: Gate>(
 }
 
 /// Writes why the run ends by the fault of a record, notes what to mend, and gives the number that the run ends with.
-fn stop<W: Write, N: Write>(
+fn stop<R: Read + Drop, W: Write, N: Write>(
     alloc: Global,
+    recording: &Recording<R>,
     fault: RowFault,
     json: bool,
     out: &mut W,
@@ -167,7 +170,7 @@ fn stop<W: Write, N: Write>(
 ) -> u8
     ensures { PrintsOrMemory json (W.contents out.old) (W.contents out.new) (halted json (by_row fault)) (halt_status (by_row fault)) result }
 {
-    note_row(alloc, &fault, &[], notes);
+    note_stop(alloc, recording, &fault, notes);
     print_halt(alloc, &Halt::from(fault), json, out)
 }
 
@@ -208,7 +211,7 @@ fn answer_all<R: Read + Drop, W: Write, N: Write, G: Gate>(
                     notes,
                 );
             }
-            Err(fault) => return Err(stop(alloc, fault, options.json, out, notes)),
+            Err(fault) => return Err(stop(alloc, recording, fault, options.json, out, notes)),
         }
     }
     // There are not so many seals.

@@ -2,8 +2,8 @@
 //! and the form alone.
 ghost use Rattle.std.specs.Prelude.{◌≡◌, ◌≢◌, ◌⊎◌, ℕ, List, Option, Result, None, Some, IfOk, []};
 ghost use Rattle.std.specs.List.{last_or};
-ghost use Rattle.tcc_txn.specs.Answers.{answers_of};
-ghost use Rattle.tcc_txn.specs.Finished.{finished_in};
+ghost use Rattle.tcc_rows.specs.Answers.{answers_of};
+ghost use Rattle.tcc_rows.specs.Items.{finished_in};
 ghost use Rattle.tcc_txn.specs.Snapshots.{Sessions};
 ghost use Rattle.tcc_txn.specs.declared.memory.NoMemory.{NoMemory};
 ghost use Rattle.tcc_reads.specs.Faults.{read_faults};
@@ -28,8 +28,9 @@ ghost use Rattle.tcc_print.specs.declared.status.Status.TheVariants.{Device};
 ghost use Rattle.tcc_print.specs.declared.halt.Halt.{Halt};
 
 use tcc_explain::laws::{certified, one_answer};
-use tcc_txn::laws::finished_is_snapshot;
-use tcc_txn::{NoMemory, laws};
+use tcc_rows::laws;
+use tcc_rows::laws::finished_is_snapshot;
+use tcc_txn::NoMemory;
 
 /// For records without a fault, whose reads all have sources: the text of the certificate of their answer is accepted by
 /// the check of the same records; and nothing else comes of that check, unless a reader fails or memory is refused.
@@ -96,8 +97,8 @@ pub fn one_run()
     one_answer();
 }
 
-/// Of two inputs with the same records of each session, interleaved anyhow and without a seal: what a whole run says of the
-/// one, a whole run says of the other, and nothing else, for every number of workers.
+/// Of two inputs with the same records of each session, interleaved anyhow, and the seals after the same records of each
+/// session: what a whole run says of the one, a whole run says of the other, and nothing else, for every number of workers.
 pub fn interleaved()
     ensures same { (options others : Options) (records other : List ℕ) (said again : List Said) → AskAlike options others → AreInterleaved records other → IsWhole options (answers_of records) said
         → IsWhole others (answers_of other) again → said ≡ again }
@@ -105,5 +106,5 @@ pub fn interleaved()
         → IsWhole options (answers_of records) said → IsWhole options (answers_of other) said }
 {
     one_answer();
-    laws::interleaved();
+    laws::sealed_alike();
 }

@@ -6,7 +6,7 @@ use std::thread::Threads;
 use tcc_answer::{Answer, write_text};
 use tcc_explain::{OpenGate, explain};
 use tcc_graph::Level;
-use tcc_txn::snapshot_of;
+use tcc_rows::snapshot_of;
 
 /// a/1 writes x, b/1 reads it and writes y, c/1 reads y, and c/2 the initial value of x.
 pub const STALE: &str = "a,begin\na,w,x,1\na,commit\nb,begin\nb,r,x,1\nb,w,y,1\nb,commit\n\

@@ -10,7 +10,7 @@ use tcc_explain::laws::{certificates, certified, one_answer};
 use tcc_explain::{ExplainFault, OpenGate, explain};
 use tcc_graph::Level;
 use tcc_reads::ReadFaultKind;
-use tcc_txn::snapshot_of;
+use tcc_rows::snapshot_of;
 
 /// A read of the initial value behind a write of another session, known by a later write of that session.
 const WRITES: &str = "a,begin\na,w,x,1\na,commit\na,begin\na,w,y,1\na,commit\n\

@@ -12,8 +12,9 @@ use tcc_audit::audit;
 use tcc_book::{Book, Pass};
 use tcc_explain::{explain, explain_next};
 use tcc_graph::Level;
+use tcc_rows::snapshot_of;
 use tcc_run::{Gate, Options, explain_snapshot, run_explain};
-use tcc_txn::{Name, Op, Snapshot, Txn, snapshot_of};
+use tcc_txn::{Name, Op, Snapshot, Txn};
 
 /// A read of the initial value behind an own write, once in each of two sessions: five starts.
 const TWICE: &str = "a,begin\na,w,x,1\na,commit\na,begin\na,r,x,0\na,commit\n\

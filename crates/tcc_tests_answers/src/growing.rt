@@ -10,7 +10,8 @@ use tcc_explain::laws::grown;
 use tcc_explain::{NextFault, OpenGate, explain_next};
 use tcc_graph::{Graph, Level, Link};
 use tcc_reads::resolve;
-use tcc_txn::{Snapshot, snapshot_of};
+use tcc_rows::snapshot_of;
+use tcc_txn::Snapshot;
 
 /// Two writes of one session, of which another knows the later and misses the earlier.
 const MONOTONIC: &str = "a,begin\na,w,x,1\na,commit\na,begin\na,w,y,1\na,commit\n\

@@ -11,7 +11,8 @@ use tcc_answer::{Anomaly, Answer, Commit, Labels, Shape, WriteFault, write_json,
 use tcc_cert::{Certificate, Links, Numbers, Table, Version};
 use tcc_graph::{Graph, Level, Link, Step, Walk};
 use tcc_reads::resolve;
-use tcc_txn::{Name, snapshot_of};
+use tcc_rows::snapshot_of;
+use tcc_txn::Name;
 
 const TURNED: &str = "a,begin\na,commit\na,begin\na,commit\nb,begin\nb,commit\n";
 

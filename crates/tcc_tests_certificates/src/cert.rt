@@ -8,7 +8,7 @@ use std::alloc::{AllocError, Global};
 use std::io::{ErrorKind, Read};
 use std::process::Abort;
 use std::test::Fail;
-use streams::{Failing, Fault, Faulty, gives_twice};
+use streams::{Failing, Fault, Faulty, gives_twice, nothing_held};
 use tcc_cert::sending::send;
 use tcc_cert::{CertFaultKind, Certificate, WriteFault, read, write};
 use texts::{STALE_READ, STALE_READ_UPWARD, TEXTS, altered};
@@ -82,6 +82,20 @@ fn worked_texts_are_read(rt: HostRuntime) {
         let mut out = Vec::new(alloc);
         assert_eq!(&rt; write(&certificate, &mut out), Ok(()));
         assert_eq!(&rt; out.as_slice(), text.as_bytes(), "for {text:?}");
+    }
+}
+
+// The last line of a text is flushed too.
+#[test]
+fn texts_are_flushed(rt: HostRuntime) {
+    let alloc = rt.alloc();
+    for text in TEXTS {
+        let Ok(certificate) = read(alloc, text.as_bytes()) else {
+            panic!(&rt; "{text:?} is read");
+        };
+        let mut out = nothing_held(alloc);
+        assert_eq!(&rt; write(&certificate, &mut out), Ok(()));
+        assert_eq!(&rt; out.taken.as_slice(), text.as_bytes(), "for {text:?}");
     }
 }
 

@@ -2,7 +2,7 @@
 use std::alloc::Global;
 use tcc_graph::Graph;
 use tcc_reads::resolve;
-use tcc_txn::snapshot_of;
+use tcc_rows::snapshot_of;
 
 /// a/1 writes x, and a/2 reads its initial value.
 pub const STALE: &str = "a,begin\na,w,x,1\na,commit\na,begin\na,r,x,0\na,commit\n";

@@ -3,6 +3,7 @@ mod book;
 mod builders;
 mod graph;
 mod large;
+mod largest;
 mod nesting;
 mod reads;
 mod txn;

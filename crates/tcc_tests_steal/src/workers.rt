@@ -16,8 +16,9 @@ use tcc_derive::{Prices, derive};
 use tcc_graph::{Graph, Level};
 use tcc_near::near;
 use tcc_reads::resolve;
+use tcc_rows::snapshot_of;
 use tcc_steal::{AllStart, Crew, Found, Gate, OpenGate, search, search_with};
-use tcc_txn::{NoMemory, snapshot_of};
+use tcc_txn::NoMemory;
 
 /// a/1 writes x, but a/2 reads its initial value, and so in session b with y: two cycles of three steps, over a/1 and over
 /// b/1, each by way of `init`.

@@ -6,8 +6,6 @@ use Rattle.std.specs.Prelude.{is_some, unwrap_or, OnOk, OnErr, IfErr}
 use Rattle.std.proofs.lemmas.Option.{none-some}
 use Rattle.std.proofs.Math.Seq.{map-set_same}
 use Rattle.std.specs.Cmp.Lexicographic.{pointwise, nat_list_eq_equiv}
-use Rattle.tcc_txn.specs.declared.rows.RowFaultKind.{RowFaultKind}
-use Rattle.tcc_txn.specs.declared.rows.RowFaultKind.TheVariants as kind
 use Rattle.tcc_txn.proofs.Parts.{length-parts_of}
 use Rattle.std.proofs.lemmas.List.Sums.{sum_by-cons}
 use Rattle.std.specs.List.{insert}
@@ -266,7 +264,3 @@ if-err-then (Err e) f p = f e p
 pub ok-always : {A E : Type 0} {P : Type 0} (r : Result A E) → P → OnOk r P
 ok-always (Ok a) p = p
 ok-always (Err e) p = tt
-
--- memory that is out is no failed reader
-pub not-read : (k : RowFaultKind) → k ≡ kind.NoMemory → k ≢ kind.Read
-not-read k memory read = (let e : kind.NoMemory ≡ kind.Read = sym memory ∙ read in cc)

@@ -1,21 +1,7 @@
-mod AheadFacts
-mod FieldBytes
-mod FinishedFacts
-mod Growing
-mod GrownSnapshot
-mod InterleavedFaults
-mod Interleaving
-mod LeastOpen
-mod LimitFacts
-mod LineFacts
-mod PastFacts
-mod PastLimit
-mod RecordSteps
-mod RecordingSteps
-mod StandingFacts
+mod Repeated
 mod WordOrder
-mod WorkedTexts
-pub mod FailingFacts
+pub mod Growing
+pub mod GrownSnapshot
 pub mod Lists
 pub mod Nesting
 pub mod Parts

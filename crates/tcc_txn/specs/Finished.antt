@@ -1,27 +1,15 @@
--- What the sessions have finished by some items.
-use Rattle.std.specs.Prelude.{ℕ, ◌≤◌, List, [], ◌∷◌, ◌++◌, fold, length, sum_by, unwrap_or}
+-- What the sessions have finished: one transaction more, and whether there are too many.
+use Rattle.std.specs.Prelude.{ℕ, ◌≤◌, List, [], ◌∷◌, ◌++◌, length, sum_by, unwrap_or}
 use Rattle.std.specs.FinMap as map
 use Rattle.tcc_txn.specs.Limits.{most_sessions, most_transactions}
 use Rattle.tcc_txn.specs.Snapshots.{Sessions}
 use Rattle.tcc_txn.specs.Transactions.{Transaction}
 use Rattle.tcc_txn.specs.declared.limits.Limits.{Limits}
 use Rattle.tcc_txn.specs.declared.limits.Limits.TheVariants.{Small}
-use Rattle.tcc_txn.specs.declared.rows.Item.{Item}
-use Rattle.tcc_txn.specs.declared.rows.Item.TheVariants as item
 
 -- the session has one more transaction, the last of its own
 abbrev pub with_transaction : Sessions → List ℕ → Transaction → Sessions
 with_transaction s session txn = map.insert s session (unwrap_or (map.get s session) [] ++ txn ∷ [])
-
--- what is finished after one more item
-abbrev pub with_item : Sessions → Item → Sessions
-with_item s (item.Finished session txn) = with_transaction s session txn
-with_item s item.Seal = s
-with_item s item.End = s
-
--- each session with a finished item, with its finished transactions in their order
-abbrev pub finished_in : List Item → Sessions
-finished_in items = fold with_item map.empty items
 
 -- how many transactions there are in all
 abbrev pub transaction_count : Sessions → ℕ

@@ -156,7 +156,7 @@ impl Name {
     }
 
     /// Whether the bytes are this name.
-    pub(crate) fn is(&self, bytes: &[u8]) -> bool
+    pub fn is(&self, bytes: &[u8]) -> bool
         ensures equal { result ≡ pointwise nat_eq bytes.now self.now }
         ensures named { name_fault self.now ≡ None }
     {

@@ -15,8 +15,9 @@ ghost use Rattle.tcc_txn.specs.SnapshotStorage.{IsStoredWithin, StandsAt, place_
 ghost use Rattle.tcc_txn.specs.declared.limits.Limits.TheVariants as limits;
 ghost use Rattle.tcc_txn.specs.declared.limits.TheConstants.{LARGE_SESSIONS, LARGE_TRANSACTIONS, MAX_SESSIONS, MAX_TRANSACTIONS};
 
-use crate::{LARGE_TRANSACTIONS, Limits, MAX_SESSIONS, MAX_TRANSACTIONS, Name, RowFaultKind, Txn};
+use crate::{LARGE_TRANSACTIONS, Limits, MAX_SESSIONS, MAX_TRANSACTIONS, Name, NoMemory, Txn};
 use std::alloc::Global;
+use std::collections::BTreeSet;
 use std::marker::Model;
 use thiserror::Error;
 
@@ -34,6 +35,20 @@ pub enum SnapshotFault {
     #[error("there are too many transactions")]
     TooManyTransactions,
     /// Out of memory; never answered, since the parts are sorted where they lie.
+    #[error("out of memory")]
+    NoMemory,
+}
+
+/// Why a snapshot doesn't take one more transaction.
+#[derive(Clone, Copy, Debug, PartialEq, Eq, Error)]
+pub enum GrowFault {
+    /// Its session would be one more than there may be.
+    #[error("there are too many sessions")]
+    TooManySessions,
+    /// There are as many transactions as there may be.
+    #[error("there are too many transactions")]
+    TooManyTransactions,
+    /// Out of memory.
     #[error("out of memory")]
     NoMemory,
 }
@@ -89,8 +104,8 @@ fn is_among(parts: &[(Name, Vec<Txn>)], name: Name) -> bool
     parts.iter().any(|part| name == part.0)
 }
 
-/// The first name that an earlier one equals.
-fn first_repeated(parts: &[(Name, Vec<Txn>)]) -> Option<Name>
+/// The first name that an earlier one equals, each compared with all before it.
+fn repeated_by_place(parts: &[(Name, Vec<Txn>)]) -> Option<Name>
     ensures { result ≡ first_repeated [] (map (λ part. part.0) parts.now) }
 {
     for (earlier, part) in parts.iter().enumerate() {
@@ -99,6 +114,29 @@ fn first_repeated(parts: &[(Name, Vec<Txn>)]) -> Option<Name>
         }
     }
     None
+}
+
+/// The first name that an earlier one equals, each looked up by order among those before it.
+fn repeated_by_order(alloc: Global, parts: &[(Name, Vec<Txn>)]) -> Result<Option<Name>, NoMemory>
+    ensures { IfOk result (λ found. found ≡ first_repeated [] (map (λ part. part.0) parts.now)) }
+{
+    let mut names = BTreeSet::new(alloc);
+    for part in parts {
+        if !names.insert(part.0)? {
+            return Ok(Some(part.0));
+        }
+    }
+    Ok(None)
+}
+
+/// The first name that an earlier one equals. Where memory is refused it takes longer.
+fn first_repeated(alloc: Global, parts: &[(Name, Vec<Txn>)]) -> Option<Name>
+    ensures { result ≡ first_repeated [] (map (λ part. part.0) parts.now) }
+{
+    match repeated_by_order(alloc, parts) {
+        Ok(found) => found,
+        Err(_) => repeated_by_place(parts),
+    }
 }
 
 /// Whether there are more transactions than so many.
@@ -127,10 +165,10 @@ fn transactions_in(parts: &[(Name, Vec<Txn>)]) -> usize
     total
 }
 
-fn fault_of(parts: &[(Name, Vec<Txn>)], limits: Limits) -> Option<SnapshotFault>
+fn fault_of(alloc: Global, parts: &[(Name, Vec<Txn>)], limits: Limits) -> Option<SnapshotFault>
     ensures { result ≡ snapshot_fault_within limits (parts_of parts.now) }
 {
-    if let Some(session) = first_repeated(parts) {
+    if let Some(session) = first_repeated(alloc, parts) {
         return Some(SnapshotFault::Repeated { session });
     }
     if parts.len() > limits.sessions() {
@@ -159,7 +197,7 @@ fn in_order(
         (λ e. (snapshot_fault_within limits (parts_of parts.items) ≡ Some e.0) × (e.1 ≡ parts)) }
     ensures stored { IfOk result (λ s. IsStoredWithin limits s.items) }
 {
-    if let Some(fault) = fault_of(&parts, limits) {
+    if let Some(fault) = fault_of(*parts.allocator(), &parts, limits) {
         return Err((fault, parts));
     }
     let mut sessions = parts;
@@ -197,14 +235,14 @@ fn stands_at(parts: &[(Name, Vec<Txn>)], at: usize, session: &Name) -> bool
 }
 
 /// One more transaction at the end.
-fn push(txns: &mut Vec<Txn>, txn: Txn) -> Result<(), RowFaultKind>
+fn push(txns: &mut Vec<Txn>, txn: Txn) -> Result<(), GrowFault>
     ensures pushed { OnOk result (txns.new.items ≡ txns.old.items ++ txn ∷ []) }
     ensures kept { OnErr result (txns.new.items ≡ txns.old.items) }
-    ensures refused { IfErr result (λ k. k ≡ RowFaultKind.NoMemory) }
+    ensures refused { IfErr result (λ k. k ≡ GrowFault.NoMemory) }
 {
     match txns.push(txn) {
         Ok(()) => Ok(()),
-        Err(_) => Err(RowFaultKind::NoMemory),
+        Err(_) => Err(GrowFault::NoMemory),
     }
 }
 
@@ -215,17 +253,17 @@ fn insert(
     at: usize,
     session: Name,
     txn: Txn,
-) -> Result<(), RowFaultKind>
+) -> Result<(), GrowFault>
     requires { at ≤ length parts.old.items }
     ensures inserted { OnOk result (parts_of parts.new.items ≡ insert (parts_of parts.old.items) at (session, txn ∷ [])) }
     ensures kept { OnErr result (parts.new.items ≡ parts.old.items) }
-    ensures refused { IfErr result (λ k. k ≡ RowFaultKind.NoMemory) }
+    ensures refused { IfErr result (λ k. k ≡ GrowFault.NoMemory) }
 {
     let mut txns = Vec::new(alloc);
     push(&mut txns, txn)?;
     match parts.insert(at, (session, txns)) {
         Ok(()) => Ok(()),
-        Err(_) => Err(RowFaultKind::NoMemory),
+        Err(_) => Err(GrowFault::NoMemory),
     }
 }
 
@@ -236,15 +274,14 @@ fn add_to(
     alloc: Global,
     session: Name,
     txn: Txn,
-) -> Result<(), RowFaultKind>
+) -> Result<(), GrowFault>
     requires { T (is_sorted (slice_cmp nat_cmp) (parts_of parts.old.items)) }
     ensures added { OnOk result (parts_of parts.new.items ≡ put (slice_cmp nat_cmp) session
         (unwrap_or (find (slice_cmp nat_cmp) session (parts_of parts.old.items)) [] ++ txn ∷ []) (parts_of parts.old.items)) }
     ensures kept { OnErr result (parts_of parts.new.items ≡ parts_of parts.old.items) }
     ensures few { OnOk result ((find (slice_cmp nat_cmp) session (parts_of parts.old.items) ≡ None) → length parts.old.items < most_sessions limits) }
-    ensures known { IfErr result (λ k. k ≢ RowFaultKind.Read) }
     ensures refused { IfErr result
-        (λ k. (k ≡ RowFaultKind.NoMemory) ⊎ ((most_sessions limits ≤ length parts.old.items)
+        (λ k. (k ≡ GrowFault.NoMemory) ⊎ ((most_sessions limits ≤ length parts.old.items)
         × (find (slice_cmp nat_cmp) session (parts_of parts.old.items) ≡ None))) }
 {
     let at = place_of(parts, &session);
@@ -252,14 +289,14 @@ fn add_to(
         return push(&mut parts[at].1, txn);
     }
     if parts.len() >= limits.sessions() {
-        return Err(RowFaultKind::TooManySessions);
+        return Err(GrowFault::TooManySessions);
     }
     insert(parts, alloc, at, session, txn)
 }
 
 impl Snapshot {
     /// No session has finished anything.
-    pub(crate) fn empty(alloc: Global) -> Snapshot
+    pub fn empty(alloc: Global) -> Snapshot
         ensures { result ≡ sessions.empty }
     {
         Snapshot {
@@ -268,14 +305,13 @@ impl Snapshot {
     }
 
     /// The session has finished one more transaction, where there is room.
-    pub(crate) fn add(&mut self, alloc: Global, session: Name, txn: Txn) -> Result<(), RowFaultKind>
+    pub fn add(&mut self, alloc: Global, session: Name, txn: Txn) -> Result<(), GrowFault>
         ensures added { OnOk result (self.new ≡ with_transaction self.old session txn) }
         ensures kept { OnErr result (self.new ≡ self.old) }
-        ensures refused { KeepsLimits (with_transaction self.old session txn) → IfErr result (λ k. k ≡ RowFaultKind.NoMemory) }
-        ensures known { IfErr result (λ k. k ≢ RowFaultKind.Read) }
+        ensures refused { KeepsLimits (with_transaction self.old session txn) → IfErr result (λ k. k ≡ GrowFault.NoMemory) }
     {
         if has_too_many_transactions(&self.sessions, MAX_TRANSACTIONS - 1) {
-            return Err(RowFaultKind::TooManyTransactions);
+            return Err(GrowFault::TooManyTransactions);
         }
         add_to(&mut self.sessions, Limits::Small, alloc, session, txn)
     }
@@ -331,7 +367,7 @@ impl Snapshot {
 
 impl LargeSnapshot {
     /// No session has finished anything.
-    pub(crate) fn empty(alloc: Global) -> LargeSnapshot
+    pub fn empty(alloc: Global) -> LargeSnapshot
         ensures { result ≡ sessions.empty }
     {
         LargeSnapshot {
@@ -341,14 +377,13 @@ impl LargeSnapshot {
     }
 
     /// The session has finished one more transaction, where there is room.
-    pub(crate) fn add(&mut self, alloc: Global, session: Name, txn: Txn) -> Result<(), RowFaultKind>
+    pub fn add(&mut self, alloc: Global, session: Name, txn: Txn) -> Result<(), GrowFault>
         ensures added { OnOk result (self.new ≡ with_transaction self.old session txn) }
         ensures kept { OnErr result (self.new ≡ self.old) }
-        ensures refused { IsWithinLimits limits.Large (with_transaction self.old session txn) → IfErr result (λ k. k ≡ RowFaultKind.NoMemory) }
-        ensures known { IfErr result (λ k. k ≢ RowFaultKind.Read) }
+        ensures refused { IsWithinLimits limits.Large (with_transaction self.old session txn) → IfErr result (λ k. k ≡ GrowFault.NoMemory) }
     {
         if self.transactions >= LARGE_TRANSACTIONS {
-            return Err(RowFaultKind::TooManyTransactions);
+            return Err(GrowFault::TooManyTransactions);
         }
         match add_to(&mut self.sessions, Limits::Large, alloc, session, txn) {
             Ok(()) => {

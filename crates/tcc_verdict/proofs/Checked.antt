@@ -1,11 +1,10 @@
 -- What comes of a history and a certificate, from what came of each of their parts.
 use Rattle.std.proofs.Common.{◌≡◌, ℕ, List, [], refl, sym, ap, subst, ◌∙◌, Bool, true, false, cond, Ok, Err, None, Some, Option, inl, inr}
 use Rattle.std.specs.Prelude.{Result, IsErrAnd, IfSome}
-use Rattle.tcc_txn.specs.Answers.{answers_of}
-use Rattle.tcc_txn.specs.Finished.{finished_in}
-use Rattle.tcc_txn.specs.Recordings.{IsRecorded}
+use Rattle.tcc_rows.specs.Answers.{answers_of}
+use Rattle.tcc_rows.specs.Items.{finished_in}
 use Rattle.tcc_txn.specs.Snapshots.{Sessions}
-use Rattle.tcc_txn.specs.declared.rows.RowFault.{RowFault}
+use Rattle.tcc_rows.specs.declared.rows.RowFault.{RowFault}
 use Rattle.tcc_reads.specs.Faults.{read_faults}
 use Rattle.tcc_reads.specs.Refusals.{IsRefusal}
 use Rattle.tcc_reads.specs.History.{History}
@@ -15,29 +14,26 @@ use Rattle.tcc_reads.specs.declared.fault.ResolveFault.TheVariants as refusal
 use Rattle.tcc_check.specs.declared.judgement.Judgement.{Judgement}
 use Rattle.tcc_print.specs.declared.halt.Halt.{Halt}
 use Rattle.tcc_print.specs.declared.halt.Halt.TheVariants.{Row, Reads, Text, NoMemory}
-use Rattle.tcc_verdict.specs.Stages.{MayBeTextCheck, IsResolution, IsHistoryOf}
+use Rattle.tcc_verdict.specs.Stages.{MayBeTextCheck, IsResolution, IsHistoryOf, IsStop}
 use Rattle.tcc_print.specs.Halts.{by_row, is_memory, unresolved_by}
 use Rattle.tcc_verdict.specs.Checks.{IsTextCheck, IsRecordsCheck, MayBeCheck}
 
 -- ---- the history
 
 -- the fault of the records, a reader that fails, or `NoMemory`
-pub unrecorded : (records : List ℕ) (fault : RowFault) (o : Result History Halt) → IsRecorded records (Err fault)
+pub unrecorded : (records : List ℕ) (fault : RowFault) (o : Result History Halt) → IsStop records fault
     → IsErrAnd o (λ why. why ≡ by_row fault) → IsHistoryOf records o
-unrecorded records fault (Ok h) fails is = absurd is
-unrecorded records fault (Err why) fails is = subst (λ u. IsHistoryOf records (Err u)) (sym is) (by_test (is_memory fault.kind) refl)
+unrecorded records fault (Ok h) stops is = absurd is
+unrecorded records fault (Err why) stops is = subst (λ u. IsHistoryOf records (Err u)) (sym is) (by_test (is_memory fault.kind) refl)
   where
     no_memory : true ≡ false → ⊥
     no_memory h = cc
 
     by_test : (b : Bool) → is_memory fault.kind ≡ b → IsHistoryOf records (Err (cond b NoMemory (Row fault)))
     by_test true e = tt
-    by_test false e = elim fails [
-      | inl same ↦ inl same
-      | inr failed ↦ elim failed [
-        | inl read ↦ inr read
-        | inr memory ↦ absurd (no_memory (sym (ap is_memory memory.0) ∙ e))
-      ]
+    by_test false e = elim stops [
+      | inl halt ↦ halt
+      | inr memory ↦ absurd (no_memory (sym (ap is_memory memory) ∙ e))
     ]
 
 -- a refusal names all read faults

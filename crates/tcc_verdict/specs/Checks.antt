@@ -1,12 +1,12 @@
 -- What comes of a history and a certificate, and what a run of the check does with their bytes.
 use Rattle.std.specs.Prelude.{ℕ, ◌≡◌, ◌≢◌, ◌⊎◌, List, [], Option, None, Some, Result, Ok, Err}
 use Rattle.tcc_txn.specs.Snapshots.{Sessions}
-use Rattle.tcc_txn.specs.Answers as rows
-use Rattle.tcc_txn.specs.Failing.{FailsAt}
-use Rattle.tcc_txn.specs.Finished.{finished_in}
-use Rattle.tcc_txn.specs.declared.rows.Item.{Item}
-use Rattle.tcc_txn.specs.declared.rows.RowFault.{RowFault}
-use Rattle.tcc_txn.specs.declared.rows.RowFaultKind.TheVariants as row_kind
+use Rattle.tcc_rows.specs.Answers as rows
+use Rattle.tcc_rows.specs.Failing.{FailsAt}
+use Rattle.tcc_rows.specs.Items.{finished_in}
+use Rattle.tcc_rows.specs.declared.rows.Item.{Item}
+use Rattle.tcc_rows.specs.declared.rows.RowFault.{RowFault}
+use Rattle.tcc_rows.specs.declared.rows.RowFaultKind.TheVariants as row_kind
 use Rattle.tcc_reads.specs.Faults.{read_faults}
 use Rattle.tcc_reads.specs.History.{History}
 use Rattle.tcc_reads.specs.Sources.{history}

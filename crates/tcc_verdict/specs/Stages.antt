@@ -1,11 +1,11 @@
 -- How the stages of a check follow one another. Nobody has to believe these: the contracts of public calls cite none of them.
 use Rattle.std.specs.Prelude.{ℕ, ◌≡◌, ◌≢◌, ◌⊎◌, List, [], None, Some, Result, Ok, Err}
-use Rattle.tcc_txn.specs.Answers as rows
-use Rattle.tcc_txn.specs.Failing.{FailsAt}
-use Rattle.tcc_txn.specs.Finished.{finished_in}
+use Rattle.tcc_rows.specs.Answers as rows
+use Rattle.tcc_rows.specs.Failing.{FailsAt}
+use Rattle.tcc_rows.specs.Items.{finished_in}
 use Rattle.tcc_txn.specs.Snapshots.{Sessions}
-use Rattle.tcc_txn.specs.declared.rows.RowFault.{RowFault}
-use Rattle.tcc_txn.specs.declared.rows.RowFaultKind.TheVariants as row_kind
+use Rattle.tcc_rows.specs.declared.rows.RowFault.{RowFault}
+use Rattle.tcc_rows.specs.declared.rows.RowFaultKind.TheVariants as row_kind
 use Rattle.tcc_reads.specs.Faults.{read_faults}
 use Rattle.tcc_reads.specs.History.{History}
 use Rattle.tcc_reads.specs.Sources.{history}
@@ -18,6 +18,10 @@ use Rattle.tcc_verdict.specs.Checks.{IsTextCheck}
 abbrev pub IsRowHalt : List ℕ → RowFault → Type 0
 IsRowHalt records fault = ((rows.answers_of records).fault ≡ Some fault)
     ⊎ ((fault.kind ≡ row_kind.Read) × FailsAt fault.row (rows.records_of records))
+
+-- why records were not read to their end: a fault, or memory was refused
+abbrev pub IsStop : List ℕ → RowFault → Type 0
+IsStop records fault = IsRowHalt records fault ⊎ (fault.kind ≡ row_kind.NoMemory)
 
 -- the history of a snapshot whose reads have no faults, else all their faults
 abbrev pub IsResolution : Sessions → Result History Halt → Type 0

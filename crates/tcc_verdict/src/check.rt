@@ -1,36 +1,70 @@
 //! From the bytes of a history and of a certificate to the verdict.
-ghost use Rattle.std.specs.Prelude.{◌≡◌, ℕ, [], IfSome, MatchResult};
-ghost use Rattle.tcc_txn.specs.Recordings.{IsRecorded};
+ghost use Rattle.std.specs.Prelude.{◌≡◌, ℕ, List, [], None, Ok, IfSome, MatchResult};
+ghost use Rattle.tcc_rows.specs.Ahead.{fault_met};
+ghost use Rattle.tcc_rows.specs.Answers.{answers_of, records_of};
+ghost use Rattle.tcc_rows.specs.Reached.{IsWithin};
+ghost use Rattle.tcc_rows.specs.Recordings.{IsRecorded, IsRecording};
 ghost use Rattle.tcc_reads.specs.Faults.{read_faults};
 ghost use Rattle.tcc_reads.specs.Refusals.{IsRefusal};
 ghost use Rattle.tcc_reads.specs.Sources.{history};
 ghost use Rattle.tcc_verdict.specs.Checks.{IsCheckRun, IsShown, MayBeCheck, PrintsSome};
-ghost use Rattle.tcc_verdict.specs.Stages.{IsHistoryOf, MayBeTextCheck};
+ghost use Rattle.tcc_verdict.specs.Stages.{IsHistoryOf, IsStop, MayBeTextCheck};
 
+use crate::stopping::note_stop;
 use std::alloc::Global;
 use std::io::{Read, Write};
 use tcc_check::laws::certified;
 use tcc_check::{Judgement, judge_stream};
 use tcc_graph::Graph;
 use tcc_print::Halt;
-use tcc_print::notes::{note_reads, note_row};
+use tcc_print::notes::note_reads;
 use tcc_print::printing::print_check;
 use tcc_reads::{ResolveFault, Resolved, resolve};
-use tcc_txn::{RowFault, Snapshot, snapshot_of};
+use tcc_rows::{Moment, Recording, RowFault, RowFaultKind};
+use tcc_txn::Snapshot;
 
-/// All that the records finish; of a record's fault it is noted what to mend.
+/// Reads on to the end of the records, whatever they seal.
+fn read_on<R: Read + Drop>(alloc: Global, recording: &mut Recording<R>) -> Result<(), RowFault>
+    ensures { (text : List ℕ) → IsRecording R.remaining recording.old [] (answers_of text) → IsWithin R.remaining recording.old.rows (records_of text)
+        → fault_met recording.old.rows ≡ None
+        → MatchResult result (λ done. IsRecorded text (Ok recording.new.snapshot)) (IsStop text) }
+{
+    'seals: for _turn in 0..u64::MAX {
+        match recording.advance(alloc)? {
+            Moment::Seal => {}
+            Moment::End => return Ok(()),
+        }
+    }
+    // There are not so many seals.
+    Err(RowFault {
+        row: 1,
+        kind: RowFaultKind::NoMemory,
+    })
+}
+
+/// The recording of all that the records finish; of a record's fault it is noted what to mend.
 fn recorded<R: Read + Drop, N: Write>(
     alloc: Global,
     reader: R,
     notes: &mut N,
-) -> Result<Snapshot, RowFault>
-    ensures { IfSome (R.remaining reader) (λ text. IsRecorded text result) }
+) -> Result<Recording<R>, RowFault>
+    ensures { IfSome (R.remaining reader) (λ text. MatchResult result
+        (λ recording. IsRecorded text (Ok recording.snapshot)) (IsStop text)) }
 {
-    let recorded = snapshot_of(alloc, reader);
-    if let Err(fault) = &recorded {
-        note_row(alloc, fault, &[], notes);
+    let Ok(recording) = Recording::new(alloc, reader) else {
+        return Err(RowFault {
+            row: 1,
+            kind: RowFaultKind::NoMemory,
+        });
+    };
+    let mut recording = recording;
+    match read_on(alloc, &mut recording) {
+        Ok(()) => Ok(recording),
+        Err(fault) => {
+            note_stop(alloc, &recording, &fault, notes);
+            Err(fault)
+        }
     }
-    recorded
 }
 
 /// Where the reads of a snapshot come from; of the first read faults it is noted which write each of them is about.
@@ -58,8 +92,8 @@ fn history_of<R: Read + Drop, N: Write>(
 ) -> Result<Graph, Halt>
     ensures { IfSome (R.remaining reader) (λ records. IsHistoryOf records result) }
 {
-    let snapshot = recorded(alloc, reader, notes)?;
-    let resolved = resolved(alloc, &snapshot, notes)?;
+    let recording = recorded(alloc, reader, notes)?;
+    let resolved = resolved(alloc, recording.snapshot(), notes)?;
     let graph = Graph::build(alloc, &resolved)?;
     Ok(graph)
 }

@@ -2,5 +2,7 @@
 #![tactic(auto)]
 
 mod check;
+mod stopping;
 
 pub use check::run_check;
+pub use stopping::note_stop;

@@ -1,1 +1,3 @@
+pub mod PlainCommands
+pub mod WorkedCheckerLines
 pub mod WorkedCommandLines

@@ -11,7 +11,7 @@ use Rattle.clap.specs.declared.error.kind.ErrorKind.TheVariants.{InvalidValue, M
 use Rattle.clap.specs.declared.error.kind.ErrorKind.TheVariants.{TooManyValues, UnknownArgument, ValueValidation}
 use Rattle.clap.proofs.OnLiterals.{clap_on_literals}
 use Rattle.tcc_graph.specs.declared.level.Level.TheVariants.{Causal, Atomic}
-use Rattle.tcc_words.specs.CommandLines.{AreLevels, Words, certificate_path, history_path, json_text, level_text, level_word, required_text, tcc_command, workers_text}
+use Rattle.tcc_words.specs.CommandLines.{AreLevels, Words, certificate_path, flag_text, history_path, level_text, level_word, required_text, slice_path, tcc_command, workers_text}
 
 -- clap says exactly when a parse by it fails, and of which kinds the fault may be
 pub is_exact : (levels : Words) → is_simple_and_free (tcc_command levels) ≡ true
@@ -43,7 +43,7 @@ faults words = fault_of program (codes "tcc" ∷ words)
 abbrev asks : List Text → Option Text × Option Text × Option Text × Option Text
 asks words =
     let met = subcommand_of program (codes "tcc" ∷ codes "explain" ∷ words) in
-    (level_text met, workers_text met, json_text met, certificate_path met)
+    (level_text met, workers_text met, flag_text (codes "json") met, certificate_path met)
 
 -- what it reads of the file and of the transactions that are required
 abbrev places : List Text → Option Text × Option Text
@@ -89,6 +89,27 @@ explain_faults = refl
 explain_asks : map (λ line. asks line.0) explain_lines ≡ map (λ line. line.1) explain_lines
 unfolding clap_on_literals
 explain_asks = refl
+
+-- what it reads of the flag for large histories, and of the slice's path
+abbrev sizes : List Text → Option Text × Option Text
+sizes words =
+    let met = subcommand_of program (codes "tcc" ∷ codes "explain" ∷ words) in
+    (flag_text (codes "large") met, slice_path met)
+
+abbrev sizes_lines : List (List Text × (Option Text × Option Text))
+sizes_lines =
+    ([], (Some (codes "false"), None))
+    ∷ (codes "--large" ∷ [], (Some (codes "true"), None))
+    ∷ (codes "--slice" ∷ codes "s.csv" ∷ codes "--large" ∷ codes "--json" ∷ [], (Some (codes "true"), Some (codes "s.csv")))
+    ∷ []
+
+sizes_faults : map (λ line. faults (codes "explain" ∷ line.0)) sizes_lines ≡ map (λ line. []) sizes_lines
+unfolding clap_on_literals
+sizes_faults = refl
+
+sizes_read : map (λ line. sizes line.0) sizes_lines ≡ map (λ line. line.1) sizes_lines
+unfolding clap_on_literals
+sizes_read = refl
 
 abbrev check_line : List Text
 check_line = codes "check" ∷ codes "h.csv" ∷ codes "c.txt" ∷ []

@@ -14,7 +14,7 @@ use Rattle.clap.specs.declared.builder.value_parser.ValueParser.TheVariants.{Nam
 use Rattle.clap.specs.Faults.{fault_of}
 use Rattle.clap.specs.Kinds.{IsAmong}
 use Rattle.clap.specs.declared.error.kind.ErrorKind.{ErrorKind}
-use Rattle.clap.specs.declared.error.kind.ErrorKind.TheVariants.{DisplayHelp, DisplayVersion, OutOfMemory}
+use Rattle.clap.specs.declared.error.kind.ErrorKind.TheVariants.{ArgumentConflict, DisplayHelp, DisplayVersion, OutOfMemory}
 use Rattle.tcc_words.specs.declared.command_line.Request.{Request}
 use Rattle.tcc_words.specs.declared.command_line.Request.TheVariants.{Explain, Check}
 use Rattle.tcc_graph.specs.declared.level.Level.{Level}
@@ -30,9 +30,9 @@ with_subcommand_required s = record s { subcommand_required = true }
 abbrev pub with_version : Shape → Shape
 with_version s = record s { has_version = true }
 
--- --json, a flag without a value
-abbrev pub json_flag : Rule
-json_flag = record (new_rule (codes "json")) { long = Some (codes "json"); action = Some SetTrue }
+-- a flag by its own name, without a value
+abbrev pub flag : Text → Rule
+flag id = record (new_rule id) { long = Some id; action = Some SetTrue }
 
 -- the word for a level
 abbrev pub level_word : Level → Text
@@ -67,15 +67,20 @@ certificate_option = record (new_rule (codes "certificate")) { long = Some (code
 abbrev pub require_option : Rule
 require_option = record (new_rule (codes "require")) { long = Some (codes "require"); value_names = 1; parser = Some (Unsigned 1 4294967295) }
 
+-- --slice PATH
+abbrev pub slice_option : Rule
+slice_option = record (new_rule (codes "slice")) { long = Some (codes "slice"); value_names = 1 }
+
 -- a path, which help calls by one name
 abbrev pub path : Text → Bool → Rule
 path id needed = record (new_rule id) { value_names = 1; required = needed }
 
--- explain [--level LEVEL] [--workers N] [--json] [--certificate PATH] [--require N] [FILE]
+-- explain [--level LEVEL] [--workers N] [--json] [--large] [--slice PATH] [--certificate PATH] [--require N] [FILE]
 abbrev pub explain_command : Words → App
 explain_command levels =
-    let answered : App = with_rule (with_rule (with_rule (new_app (codes "explain")) (level_option levels)) workers_option) json_flag in
-    with_rule (with_rule (with_rule answered certificate_option) require_option) (path (codes "history") false)
+    let answered : App = with_rule (with_rule (with_rule (new_app (codes "explain")) (level_option levels)) workers_option) (flag (codes "json")) in
+    let sized : App = with_rule (with_rule answered (flag (codes "large"))) slice_option in
+    with_rule (with_rule (with_rule sized certificate_option) require_option) (path (codes "history") false)
 
 abbrev pub check_command : App
 check_command = with_rule (with_rule (new_app (codes "check")) (path (codes "history") true)) (path (codes "certificate") true)
@@ -87,9 +92,9 @@ tcc_command levels =
     let named : App = on_top with_subcommand_required (on_top with_version (new_app (codes "tcc"))) in
     with_subcommand (with_subcommand named (explain_command levels).top) check_command.top
 
--- what clap reads of the flag in the matches of a subcommand that was met
-abbrev pub json_text : Option (Text × List Row) → Option Text
-json_text met = option_and_then (one_of (codes "json")) (option_map (λ entered. entered.1) met)
+-- what clap reads of a flag in the matches of a subcommand that was met
+abbrev pub flag_text : Text → Option (Text × List Row) → Option Text
+flag_text id met = option_and_then (one_of id) (option_map (λ entered. entered.1) met)
 
 -- a flag is set where it is read as true, and isn't where it is read as false or stands in no subcommand
 abbrev pub IsFlag : Option Text → Bool → Type 0
@@ -125,6 +130,10 @@ IsWorkers (Some word) workers = SaysWorkers word workers
 abbrev pub certificate_path : Option (Text × List Row) → Option Text
 certificate_path met = option_text (codes "certificate") met
 
+-- for the path of the slice
+abbrev pub slice_path : Option (Text × List Row) → Option Text
+slice_path met = option_text (codes "slice") met
+
 -- for how many transactions are required
 abbrev pub required_text : Option (Text × List Row) → Option Text
 required_text met = option_text (codes "require") met
@@ -144,34 +153,41 @@ IsInput None path = path ≡ None
 IsInput (Some word) None = word ≡ codes "-"
 IsInput (Some word) (Some path) = (word ≢ codes "-") × (path ≡ word)
 
--- the answers are as JSON by the flag, at the level of the word, by as many workers as the word says, and for as many
--- transactions; the records are those of the file, and the certificate goes to the path, if there is one
+-- the answers are as JSON and within the large limits by the flags, at the level of the word, by as many workers as the word
+-- says, and for as many transactions; the records are those of the file, and the certificate and the slice go to their paths,
+-- if there are any
 abbrev pub AsksExplain : Option (Text × List Row) → Request → Type 0
-AsksExplain met (Explain options history certificate) =
-    IsFlag (json_text met) options.json × IsLevel (level_text met) options.level × IsWorkers (workers_text met) options.workers
+AsksExplain met (Explain options history certificate large slice) =
+    IsFlag (flag_text (codes "json") met) options.json × IsLevel (level_text met) options.level × IsWorkers (workers_text met) options.workers
     × IsRequired (required_text met) options.required × IsInput (history_path met) (option_map string_bytes history)
     × (option_map string_bytes certificate ≡ certificate_path met)
+    × IsFlag (flag_text (codes "large") met) large × (option_map string_bytes slice ≡ slice_path met)
 AsksExplain met (Check history certificate) = ⊥
 
 -- the paths are those that clap finds
 abbrev pub AsksCheck : List Row → Request → Type 0
-AsksCheck rows (Explain options history certificate) = ⊥
+AsksCheck rows (Explain options history certificate large slice) = ⊥
 AsksCheck rows (Check history certificate) =
     (first_of (codes "history") rows ≡ Some (string_bytes history)) × (first_of (codes "certificate") rows ≡ Some (string_bytes certificate))
 
 -- what the subcommand that was met asks for: a check by its name with its two paths; else answers
 abbrev pub AsksBy : Option (Text × List Row) → Request → Type 0
-AsksBy met (Explain options history certificate) =
-    (option_map (λ entered. entered.0) met ≢ Some (codes "check")) × AsksExplain met (Explain options history certificate)
+AsksBy met (Explain options history certificate large slice) =
+    (option_map (λ entered. entered.0) met ≢ Some (codes "check")) × AsksExplain met (Explain options history certificate large slice)
 AsksBy None (Check history certificate) = ⊥
 AsksBy (Some entered) (Check history certificate) = (entered.0 ≡ codes "check") × AsksCheck entered.1 (Check history certificate)
 
 abbrev pub Asks : App → List Text → Request → Type 0
 Asks app words request = AsksBy (subcommand_of app words) request
 
+-- of a large history no certificate is asked for, and of another one no slice
+abbrev pub GoesTogether : Request → Type 0
+GoesTogether (Explain options history certificate large slice) = (large ≡ true → certificate ≡ None) × (large ≡ false → slice ≡ None)
+GoesTogether (Check history certificate) = Unit {0}
+
 -- where answers are asked for, it is by 1 to 32 workers
 abbrev pub HasWorkers : Request → Type 0
-HasWorkers (Explain options history certificate) = (0 < options.workers) × (options.workers ≤ 32)
+HasWorkers (Explain options history certificate large slice) = (0 < options.workers) × (options.workers ≤ 32)
 HasWorkers (Check history certificate) = Unit {0}
 
 -- a text, or the line `memory` in its place, goes out with its status
@@ -187,12 +203,20 @@ EndsUnasked DisplayVersion before after code = PrintsHelp before after code
 EndsUnasked OutOfMemory before after code = Prints before after (memory_line false) Memory code
 EndsUnasked _ before after code = (after ≡ before) × (code ≡ code_of Usage)
 
--- a run is asked for only where clap finds no fault in the words, and it is the one that they ask for; else the run ends as
--- one of their faults has it, or out of memory
+-- what the words ask for doesn't go together, and the run ends by a fault of the words
+abbrev pub IsRefused : App → List (List ℕ) → Option (List ℕ) → Option (List ℕ) → ℕ → Type 0
+IsRefused app words before after code =
+    (request : Request) × Asks app words request × (GoesTogether request → ⊥) × EndsUnasked ArgumentConflict before after code
+
+-- a run is asked for only where clap finds no fault in the words, and it is the one that they ask for, all of which goes
+-- together; else the run ends as one of their faults has it, or out of memory
 abbrev pub IsAskedBy : App → List (List ℕ) → Option (List ℕ) → Option (List ℕ) → Result Request ℕ → Type 0
-IsAskedBy app words before after (Ok request) = (fault_of app words ≡ []) × Asks app words request × (after ≡ before)
+IsAskedBy app words before after (Ok request) =
+    (fault_of app words ≡ []) × Asks app words request × GoesTogether request × (after ≡ before)
 IsAskedBy app words before after (Err code) =
-    EndsUnasked OutOfMemory before after code ⊎ ((kind : ErrorKind) × IsAmong kind (fault_of app words) × EndsUnasked kind before after code)
+    EndsUnasked OutOfMemory before after code
+    ⊎ (((kind : ErrorKind) × IsAmong kind (fault_of app words) × EndsUnasked kind before after code)
+    ⊎ ((fault_of app words ≡ []) × IsRefused app words before after code))
 
 -- the same by the command of the program, wherever the words for levels lie
 abbrev pub IsAsked : List (List ℕ) → Option (List ℕ) → Option (List ℕ) → Result Request ℕ → Type 0

@@ -4,10 +4,10 @@ ghost use Rattle.std.specs.String.{string_bytes};
 ghost use Rattle.clap.specs.Words.{FailsBy, IsUnsignedIn, app_of, fault_of, found_of, kind_of, rows_of, rule_of, subcommand_rows_of, with_rule};
 ghost use Rattle.clap.specs.declared.error.kind.ErrorKind.TheVariants.{OutOfMemory};
 ghost use Rattle.tcc_graph.specs.declared.level.Level.{Level};
-ghost use Rattle.tcc_words.specs.CommandLines.{Asks, AsksBy, AsksCheck, AsksExplain, EndsUnasked, HasWorkers, IsAsked, IsFlag, IsInput, IsRequired};
-ghost use Rattle.tcc_words.specs.CommandLines.{IsLevel, IsWorkers, PrintsHelp, SaysWorkers, certificate_option, certificate_path};
-ghost use Rattle.tcc_words.specs.CommandLines.{check_command, explain_command, json_text, level_option, level_text, level_word, option_text};
-ghost use Rattle.tcc_words.specs.CommandLines.{history_path, require_option, required_text};
+ghost use Rattle.tcc_words.specs.CommandLines.{Asks, AsksBy, AsksCheck, AsksExplain, EndsUnasked, GoesTogether, HasWorkers, IsAsked, IsFlag, IsInput, IsRequired};
+ghost use Rattle.tcc_words.specs.CommandLines.{IsLevel, IsWorkers, PrintsHelp, SaysWorkers, certificate_option};
+ghost use Rattle.tcc_words.specs.CommandLines.{check_command, explain_command, flag, flag_text, level_option, level_text, level_word, option_text};
+ghost use Rattle.tcc_words.specs.CommandLines.{history_path, require_option, required_text, slice_option};
 ghost use Rattle.tcc_words.specs.CommandLines.{path, tcc_command, valued_option, workers_option, workers_text};
 
 use crate::help;
@@ -32,6 +32,10 @@ pub enum Request {
         history: Option<String>,
         /// The path of the file for the certificate of the last answer, if it is wanted.
         certificate: Option<String>,
+        /// Whether records are taken up to the large limits; then no certificate is wanted.
+        large: bool,
+        /// The path of the file for the slice of the last anomaly, if it is wanted of a large history.
+        slice: Option<String>,
     },
     /// Judge a certificate for a history.
     Check {
@@ -75,7 +79,7 @@ fn workers_option<'a>(alloc: Global) -> Arg<'a>
     ensures own { result.global ≡ false }
 {
     valued_option(alloc, "workers", "N", ValueParser::Unsigned(1, 32), "1").help(
-        "Searches with so many workers, 1 to 32",
+        "Searches for a least anomaly with so many workers, 1 to 32; past the limits without --large there is no search",
     )
 }
 
@@ -104,6 +108,42 @@ fn require_option<'a>(alloc: Global) -> Arg<'a>
         )
 }
 
+/// A flag by its own name.
+fn flag<'a>(alloc: Global, id: &'a str, help: &'a str) -> Arg<'a>
+    ensures rule { rule_of result ≡ flag id.now }
+    ensures own { result.global ≡ false }
+{
+    Arg::new(alloc, id)
+        .long(id)
+        .help(help)
+        .action(ArgAction::SetTrue)
+}
+
+/// The option for the file of a slice.
+fn slice_option<'a>(alloc: Global) -> Arg<'a>
+    ensures rule { rule_of result ≡ slice_option }
+    ensures own { result.global ≡ false }
+{
+    Arg::new(alloc, "slice")
+        .long("slice")
+        .value_name("PATH")
+        .help("With --large, writes a small history that has the last anomaly to this file")
+}
+
+/// What is added for large histories: that one is expected, and where the slice of its anomaly goes.
+fn with_large<'a>(alloc: Global, explain: Command<'a>) -> Result<Command<'a>, AllocError>
+    ensures { IfOk result (λ made. app_of made ≡ with_rule (with_rule (app_of explain.entry) (flag (codes "large"))) slice_option) }
+{
+    let large = flag(
+        alloc,
+        "large",
+        "Takes up to 1048575 transactions of 4096 sessions",
+    );
+    let slice = slice_option(alloc);
+    let first = explain.arg(large)?;
+    first.arg(slice)
+}
+
 /// What is added to the subcommand that explains: where its certificate goes, what is required, and where its records are.
 fn with_places<'a>(alloc: Global, explain: Command<'a>) -> Result<Command<'a>, AllocError>
     ensures { IfOk result (λ made. app_of made ≡ with_rule (with_rule (with_rule (app_of explain.entry) certificate_option) require_option) (path (codes "history") false)) }
@@ -127,10 +167,7 @@ fn explain_command<'a>(alloc: Global, levels: &'a [&'a str]) -> Result<Command<'
     ensures { IfOk result (λ made. app_of made ≡ explain_command levels.entry) }
 {
     let level = level_option(alloc, levels);
-    let json = Arg::new(alloc, "json")
-        .long("json")
-        .help("Answers in one line of JSON")
-        .action(ArgAction::SetTrue);
+    let json = flag(alloc, "json", "Answers in one line of JSON");
     let workers = workers_option(alloc);
     let first = Command::new(alloc, "explain")
         .about("Reads records and says whether the history is consistent at a level")
@@ -138,7 +175,7 @@ fn explain_command<'a>(alloc: Global, levels: &'a [&'a str]) -> Result<Command<'
         .arg(level)?;
     let second = first.arg(workers)?;
     let third = second.arg(json)?;
-    with_places(alloc, third)
+    with_places(alloc, with_large(alloc, third)?)
 }
 
 /// A path, which may have to be given.
@@ -153,7 +190,7 @@ fn path<'a>(alloc: Global, id: &'a str, name: &'a str, help: &'a str, needed: bo
 }
 
 /// The subcommand that checks.
-fn check_command<'a>(alloc: Global) -> Result<Command<'a>, AllocError>
+pub(crate) fn check_command<'a>(alloc: Global) -> Result<Command<'a>, AllocError>
     ensures { IfOk result (λ made. app_of made ≡ check_command) }
 {
     let history = path(alloc, "history", "HISTORY", "The file of the records", true);
@@ -186,12 +223,12 @@ fn command<'a>(alloc: Global, levels: &'a [&'a str]) -> Result<Command<'a>, Allo
     tcc.subcommand(check)
 }
 
-/// Whether the flag of the subcommand is set.
-fn is_json(matches: &ArgMatches) -> bool
-    ensures { IsFlag (json_text (subcommand_rows_of matches.now)) result }
+/// Whether a flag of the subcommand is set.
+fn is_set(matches: &ArgMatches, id: &str) -> bool
+    ensures { IsFlag (flag_text id.now (subcommand_rows_of matches.now)) result }
 {
     match matches.subcommand() {
-        Some((_name, explain)) => explain.get_flag("json"),
+        Some((_name, explain)) => explain.get_flag(id),
         None => false,
     }
 }
@@ -281,18 +318,18 @@ fn history_of(alloc: Global, matches: &ArgMatches) -> Result<Option<String>, Err
     }
 }
 
-/// The path that the subcommand has for the file of the certificate, if it has one.
-fn certificate_of(alloc: Global, matches: &ArgMatches) -> Result<Option<String>, Error>
-    ensures path { IfOk result (λ path. option_map string_bytes path ≡ certificate_path (subcommand_rows_of matches.now)) }
+/// The path that the subcommand has for the option, if it has one.
+fn path_for(alloc: Global, matches: &ArgMatches, id: &str) -> Result<Option<String>, Error>
+    ensures path { IfOk result (λ path. option_map string_bytes path ≡ option_text id.now (subcommand_rows_of matches.now)) }
     ensures fails { IfErr result (λ e. kind_of e ≡ OutOfMemory) }
 {
-    match word_for(matches, "certificate") {
+    match word_for(matches, id) {
         Some(path) => Ok(Some(path.to_string(alloc)?)),
         None => Ok(None),
     }
 }
 
-/// How answers are wanted, and where the certificate goes.
+/// How answers are wanted, and where a certificate or a slice goes.
 fn options_of(alloc: Global, matches: &ArgMatches) -> Result<Request, Error>
     ensures asked { IfOk result (AsksExplain (subcommand_rows_of matches.now)) }
     ensures fails { IfErr result (λ e. kind_of e ≡ OutOfMemory) }
@@ -305,9 +342,11 @@ fn options_of(alloc: Global, matches: &ArgMatches) -> Result<Request, Error>
         // Another word is a fault by clap, so only memory can be wanting.
         return Err(Error::from(AllocError));
     };
-    let json = is_json(matches);
+    let json = is_set(matches, "json");
+    let large = is_set(matches, "large");
     let history = history_of(alloc, matches)?;
-    let certificate = certificate_of(alloc, matches)?;
+    let certificate = path_for(alloc, matches, "certificate")?;
+    let slice = path_for(alloc, matches, "slice")?;
     Ok(Request::Explain {
         options: Options {
             level,
@@ -317,11 +356,13 @@ fn options_of(alloc: Global, matches: &ArgMatches) -> Result<Request, Error>
         },
         history,
         certificate,
+        large,
+        slice,
     })
 }
 
 /// The two files to check.
-fn paths_of(alloc: Global, matches: &ArgMatches) -> Result<Request, Error>
+pub(crate) fn paths_of(alloc: Global, matches: &ArgMatches) -> Result<Request, Error>
     ensures asked { IfOk result (AsksCheck (rows_of (found_of matches.now))) }
     ensures fails { IfErr result (λ e. kind_of e ≡ OutOfMemory) }
 {
@@ -367,7 +408,7 @@ fn print_help<W: Write>(alloc: Global, asked: &Error, out: &mut W) -> u8
 
 /// Prints why the run asks for nothing, and gives the number that the process ends with. Help and the version go to `out`,
 /// a fault of the words to standard error.
-fn end_unasked<W: Write>(rt: &HostRuntime, error: &Error, out: &mut W) -> u8
+pub(crate) fn end_unasked<W: Write>(rt: &HostRuntime, error: &Error, out: &mut W) -> u8
     ensures { EndsUnasked (kind_of error.now) (W.contents out.old) (W.contents out.new) result }
 {
     match error.kind() {
@@ -381,19 +422,50 @@ fn end_unasked<W: Write>(rt: &HostRuntime, error: &Error, out: &mut W) -> u8
     }
 }
 
+/// Why a request can't be met: what of it doesn't go together.
+fn refusal_of(request: &Request) -> Option<&'static str>
+    ensures { MatchOption result (GoesTogether request.now) (λ _. GoesTogether request.now → ⊥) }
+{
+    let Request::Explain {
+        certificate,
+        large,
+        slice,
+        ..
+    } = request
+    else {
+        return None;
+    };
+    if *large && certificate.is_some() {
+        return Some(
+            "'--certificate' can't be used with '--large': take the certificate of its '--slice'",
+        );
+    }
+    if !*large && slice.is_some() {
+        return Some("'--slice' needs '--large'");
+    }
+    None
+}
+
 /// What the words ask for; else the number that the process ends with.
 fn read_words<W: Write>(rt: &HostRuntime, words: &[String], out: &mut W) -> Result<Request, u8>
     ensures { IsAsked (map string_bytes words.now) (W.contents out.old) (W.contents out.new) result }
 {
     let levels = ["causal", "atomic"];
-    match parse(rt.alloc(), levels.as_slice(), words) {
-        Ok(request) => Ok(request),
-        Err(error) => Err(end_unasked(rt, &error, out)),
+    let request = match parse(rt.alloc(), levels.as_slice(), words) {
+        Ok(request) => request,
+        Err(error) => return Err(end_unasked(rt, &error, out)),
+    };
+    if let Some(refusal) = refusal_of(&request) {
+        let _ = eprintln!(rt;
+            "error: {refusal}\n\nFor more information, try 'tcc explain --help'."
+        );
+        return Err(Status::Usage.code());
     }
+    Ok(request)
 }
 
 /// The words of the process, of which nothing is known.
-fn words<W: Write>(rt: &HostRuntime, out: &mut W) -> Result<Vec<String>, u8>
+pub(crate) fn words<W: Write>(rt: &HostRuntime, out: &mut W) -> Result<Vec<String>, u8>
     ensures quiet { OnOk result (W.contents out.new ≡ W.contents out.old) }
     ensures ends { IfErr result (λ code. (kind : ErrorKind) × EndsUnasked kind (W.contents out.old) (W.contents out.new) code) }
 {

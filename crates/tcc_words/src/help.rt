@@ -8,6 +8,11 @@ pub const COMMANDS: &str =
     "'tcc explain --help' and 'tcc check --help' show what is read, an example and the statuses.
 'man tcc' says how to read an answer, README.md of the sources also how to record a history.";
 
+/// Where the help on the checker's command is.
+pub const CHECKER: &str =
+    "'tcc_checker check --help' shows what is read, an example and the statuses, which are those of 'tcc check'.
+'tcc explain --certificate PATH' writes certificates.";
+
 /// The records, an example, and the statuses of an explained history.
 pub const EXPLAIN: &str = "Records, one a line (CSV without a header row):
   SESSION,begin        a transaction of the session begins
@@ -23,6 +28,10 @@ The end of the input wants an answer too, unless nothing was finished since the 
 A write is known by any chain of sessions and reads at the level causal, by one step at atomic.
 What to mend, and why a file failed, is said on standard error.
 
+With '--large' a history has up to 1048575 transactions, 4096 sessions and 1048576 keys, in place of
+4095, 64 and 1024. Past those an anomaly needn't be a least one, which its first line says, and has no
+certificate: '--slice PATH' writes a small history that has an anomaly of this one; take the slice's.
+
 Example: a session writes x, and its next transaction reads the initial x.
   $ printf 'a,begin\\na,w,x,1\\na,commit\\na,begin\\na,r,x,0\\na,commit\\n' | tcc explain
   anomaly: 3 steps, stale-initial-read
@@ -33,14 +42,14 @@ Example: a session writes x, and its next transaction reads the initial x.
 
 Statuses, of the last answer or of the fault that ended the run:
   0   consistent: the order is one in which every read is explained
-  1   an anomaly: no order explains the reads, and no shorter cycle shows it
+  1   an anomaly: no order explains the reads; unless it says so, no shorter cycle shows it
   2   unresolved: reads that can't be traced to a write, or values written twice
   3   a record breaks a rule, the input ends inside a transaction, or consistent with too few
       transactions for '--require'
   4   the records are past a limit
   5   out of memory
-  6   reading or writing failed, the input has more than 134217728 bytes, or a file can't be opened
-      or made
+  6   reading or writing failed, the input has more than 134217728 bytes, with '--large' 1073741824,
+      or a file can't be opened or made
   64  the command line is wrong
 
 'man tcc' says how to read an answer, docs/FORMATS.md of the sources has every text and every limit.";

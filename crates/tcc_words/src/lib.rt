@@ -1,7 +1,9 @@
-//! The command line of `tcc`: what its words ask for, and how a run ends that asks for nothing.
+//! The command lines of `tcc` and of the checker: what their words ask for, and how a run ends that asks for nothing.
 #![tactic(auto)]
 
+mod checker;
 mod command_line;
 mod help;
 
+pub use checker::{Files, read_check};
 pub use command_line::{Request, read};

@@ -1,13 +1,14 @@
 //! Lines of numbers.
-ghost use Rattle.std.specs.Prelude.{◌≡◌, length};
+ghost use Rattle.std.specs.Prelude.{◌≡◌, ◌<◌, ◌≤◌, ◌+◌, All, IfOk, IfSome, length};
 ghost use Rattle.tcc_cert.specs.Inputs.{Gives, IsAt};
 ghost use Rattle.tcc_cert.specs.Outcomes.{Shows, ShowsItems};
 ghost use Rattle.tcc_cert.specs.Reading.{Place, numbers_line, numbers_of, parted, words, words_of};
+ghost use Rattle.tcc_cert.specs.Texts.{numbers_words, words_text};
 
 use super::decimals::number_of;
 use super::input::{Input, at_line};
 use crate::{CertFault, CertFaultKind, Numbers, Version};
-use std::alloc::Global;
+use std::alloc::{AllocError, Global};
 use std::io::Read;
 
 /// How many words a line has.
@@ -36,6 +37,47 @@ fn numbers_of(
     Ok(numbers)
 }
 
+/// The digit that a byte is.
+fn digit(byte: u8) -> Option<u32>
+    ensures one { IfSome result (λ value. value < 10) }
+    ensures value { IfSome result (λ value. byte ≡ 48 + value) }
+{
+    if byte.is_ascii_digit() {
+        Some(u32::from(byte - b'0'))
+    } else {
+        None
+    }
+}
+
+/// The numbers of a line that has so many up to `most`, each of one digit, as most rows have; none where it is another line.
+fn digits_of(
+    alloc: Global,
+    line: &[u8],
+    count: usize,
+    most: u32,
+) -> Result<Option<Vec<u32>>, AllocError>
+    ensures line { IfOk result (λ found. IfSome found (λ numbers. line.now ≡ words_text (numbers_words numbers.items))) }
+    ensures within { IfOk result (λ found. IfSome found (λ numbers. All (λ number. number ≤ most) numbers.items)) }
+    ensures long { IfOk result (λ found. IfSome found (λ numbers. length numbers.items ≡ count)) }
+{
+    if most < 9 || line.len() % 2 == 0 || line.len() / 2 + 1 != count {
+        return Ok(None);
+    }
+    let Some(first) = digit(line[0]) else {
+        return Ok(None);
+    };
+    let mut numbers = Vec::with_capacity(alloc, count)?;
+    numbers.push(first)?;
+    for place in 1..count {
+        let space = line[2 * place - 1];
+        match digit(line[2 * place]) {
+            Some(number) if space == b' ' => numbers.push(number)?,
+            _ => return Ok(None),
+        }
+    }
+    Ok(Some(numbers))
+}
+
 /// A line of so many numbers up to `most`.
 fn numbers_line(
     alloc: Global,
@@ -45,6 +87,9 @@ fn numbers_line(
 ) -> Result<Numbers, CertFaultKind>
     ensures { Shows result (numbers_line count most (words_of line.now)) }
 {
+    if let Some(numbers) = digits_of(alloc, line, count, most)? {
+        return Ok(Numbers::new(numbers));
+    }
     if word_count(line) != count {
         return Err(CertFaultKind::Count);
     }

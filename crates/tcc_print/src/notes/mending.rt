@@ -1,9 +1,7 @@
 //! What stands where a record has a fault, by the kind of the fault.
 
-use tcc_txn::{
-    MAX_INPUT_BYTES, MAX_KEYS, MAX_OPERATIONS, MAX_SEALS, MAX_SESSIONS, MAX_TRANSACTIONS,
-    RowFaultKind,
-};
+use tcc_rows::RowFaultKind;
+use tcc_txn::{Limits, MAX_OPERATIONS, MAX_SEALS};
 
 /// What stands where a record has a fault.
 #[derive(Clone, Copy)]
@@ -20,18 +18,25 @@ pub(super) enum Mending {
 
 const NAME: &str = "a name, which is 1 to 32 of A-Z, a-z, 0-9, '_', '.' and '-'";
 
-const FIELDS: &str =
-    "seal, or SESSION and begin, commit or abort, or SESSION, r or w, KEY and VALUE";
+const RECORD: &str =
+    "SESSION,begin or SESSION,r,KEY,VALUE or SESSION,w,KEY,VALUE or SESSION,commit or SESSION,abort or seal";
 
-/// What stands where a record of so many fields has a fault of this kind.
-pub(super) fn mending_of(kind: &RowFaultKind, fields: usize) -> Mending {
+/// What stands where a record of so many fields has an unknown word.
+fn word_of(fields: usize) -> Mending {
+    match fields {
+        1 => Mending::Record(RECORD),
+        2 => Mending::Field(1, "begin, commit or abort, or r or w with KEY and VALUE"),
+        4 => Mending::Field(1, "r or w, or begin, commit or abort without KEY and VALUE"),
+        _ => Mending::Field(1, "begin, r, w, commit, abort or seal"),
+    }
+}
+
+/// What stands where a record of so many fields has a fault of this kind, in an input of these limits.
+pub(super) fn mending_of(kind: &RowFaultKind, fields: usize, limits: Limits) -> Mending {
     match kind {
-        RowFaultKind::FieldCount => Mending::Record(FIELDS),
+        RowFaultKind::FieldCount => Mending::Record(RECORD),
         RowFaultKind::BadSession => Mending::Field(0, NAME),
-        RowFaultKind::UnknownWord => Mending::Field(
-            if fields == 1 { 0 } else { 1 },
-            "begin, r, w, commit, abort or seal",
-        ),
+        RowFaultKind::UnknownWord => word_of(fields),
         RowFaultKind::BadKey => Mending::Field(2, NAME),
         RowFaultKind::BadValue => Mending::Field(
             3,
@@ -47,20 +52,20 @@ pub(super) fn mending_of(kind: &RowFaultKind, fields: usize) -> Mending {
         RowFaultKind::TooManyOps => {
             Mending::Limit(MAX_OPERATIONS as u64, "operations in a transaction")
         }
-        RowFaultKind::TooManySessions => Mending::Limit(MAX_SESSIONS as u64, "sessions"),
+        RowFaultKind::TooManySessions => Mending::Limit(limits.sessions() as u64, "sessions"),
         RowFaultKind::TooManyTransactions => {
             Mending::Limit(
-                MAX_TRANSACTIONS as u64,
+                limits.transactions() as u64,
                 "transactions, aborted ones counted",
             )
         }
-        RowFaultKind::TooManyKeys => Mending::Limit(MAX_KEYS as u64, "keys"),
+        RowFaultKind::TooManyKeys => Mending::Limit(limits.keys() as u64, "keys"),
         RowFaultKind::TooManySeals => Mending::Limit(MAX_SEALS as u64, "seals"),
         RowFaultKind::Unfinished { .. } => {
             Mending::Input("the input ends: expected commit or abort of the session")
         }
         RowFaultKind::Read => Mending::Limit(
-            MAX_INPUT_BYTES,
+            limits.bytes(),
             "bytes, from a reader that does not fail",
         ),
         RowFaultKind::NoMemory => Mending::Input("out of memory"),

@@ -7,6 +7,11 @@ use tcc_txn::NoMemory;
 /// How many bytes are shown.
 const MOST_SHOWN: usize = 48;
 
+/// Of many bytes those that are shown, and one more; of others all.
+pub(super) fn first_bytes(bytes: &[u8]) -> &[u8] {
+    bytes.get(..MOST_SHOWN + 1).unwrap_or(bytes)
+}
+
 /// Adds a byte: a printable one as it is, another by its number.
 fn push_shown(alloc: Global, text: &mut Vec<u8>, byte: u8) -> Result<(), NoMemory> {
     if byte == b'"' || byte == b'\\' || !(b' '..=b'~').contains(&byte) {

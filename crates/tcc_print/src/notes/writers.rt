@@ -3,7 +3,7 @@
 use std::alloc::Global;
 use tcc_answer::pieces::push;
 use tcc_reads::{ReadFault, ReadFaultKind};
-use tcc_txn::{Name, NoMemory, Op, Snapshot, Txn};
+use tcc_txn::{Name, NoMemory, Op, Txn};
 
 /// Where a write stands: its session, the place of its transaction there and its own in the transaction, from 1.
 #[derive(Clone, Copy)]
@@ -38,17 +38,11 @@ fn write_among(session: Name, txns: &[Txn], key: Name, value: u64) -> Option<Sta
     None
 }
 
-/// The first write of the value at the key, by session name and by place.
-fn first_write(snapshot: &Snapshot, key: Name, value: u64) -> Option<Standing> {
-    for number in 0..snapshot.sessions() {
-        if let Some((session, txns)) = snapshot.session(number) {
-            let found = write_among(*session, txns, key, value);
-            if found.is_some() {
-                return found;
-            }
-        }
-    }
-    None
+/// The first write of the value at the key in these sessions, one after the other.
+fn first_write(sessions: &[(Name, Vec<Txn>)], key: Name, value: u64) -> Option<Standing> {
+    sessions
+        .iter()
+        .find_map(|(session, txns)| write_among(*session, txns, key, value))
 }
 
 /// What is said of the write that stands there.
@@ -63,14 +57,14 @@ fn about(kind: ReadFaultKind) -> &'static str {
     }
 }
 
-/// Adds which write the fault is about.
+/// Adds which write of these sessions the fault is about.
 pub(super) fn push_writer(
     alloc: Global,
     text: &mut Vec<u8>,
-    snapshot: &Snapshot,
+    sessions: &[(Name, Vec<Txn>)],
     fault: &ReadFault,
 ) -> Result<(), NoMemory> {
-    let Some(write) = first_write(snapshot, fault.key, fault.value) else {
+    let Some(write) = first_write(sessions, fault.key, fault.value) else {
         return push(text, &[b"nobody wrote it"]);
     };
     let place = write.place.to_string(alloc)?;

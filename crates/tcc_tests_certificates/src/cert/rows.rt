@@ -1,5 +1,5 @@
 //! Texts row by row: each first line, and outputs that fail at each of their writes.
-use super::streams::Breaking;
+use super::streams::{Breaking, nothing_held};
 use std::alloc::{AllocError, Global};
 use std::process::Abort;
 use std::test::Fail;
@@ -35,6 +35,21 @@ fn each_first_line(rt: HostRuntime) -> Result<(), Fail> {
         let text = small(alloc, version, level)?;
         assert_eq!(&rt; text.as_slice(), wanted.as_slice());
     }
+    Ok(())
+}
+
+// Row by row too, the last line is flushed.
+#[test]
+fn the_end_is_flushed(rt: HostRuntime) -> Result<(), Fail> {
+    let alloc = rt.alloc();
+    let links = one_link(alloc)?;
+    let mut out = nothing_held(alloc);
+    let mut writer = CycleWriter::begin(&mut out, Version::One, Level::Causal, 1, &links, 3)?;
+    writer.near_row(&[1])?;
+    writer.far_row(&[2])?;
+    writer.end()?;
+    let wanted = "tcc-certificate 1\ncycle 1 1 3\nS 0 1\nnear\n1\nfar\n2\nend\n";
+    assert_eq!(&rt; out.taken.as_slice(), wanted.as_bytes());
     Ok(())
 }
 

@@ -1,4 +1,5 @@
 //! Readers and writers that fail, or give and take little.
+use std::alloc::Global;
 use std::io::{self, ErrorKind, Read, Write};
 
 /// A writer that takes a few bytes at a time, and does otherwise once so many went out.
@@ -67,6 +68,34 @@ impl Write for Breaking {
 
     fn flush(&mut self) -> io::Result<()> {
         Ok(())
+    }
+}
+
+/// An output that holds what is written until it is flushed.
+#[derive(Drop)]
+pub struct Holding {
+    pub held: Vec<u8>,
+    pub taken: Vec<u8>,
+}
+
+impl Write for Holding {
+    fn write(&mut self, bytes: &[u8]) -> io::Result<usize> {
+        self.held.extend_from_slice(bytes)?;
+        Ok(bytes.len())
+    }
+
+    fn flush(&mut self) -> io::Result<()> {
+        self.taken.extend_from_slice(&self.held)?;
+        self.held.clear();
+        Ok(())
+    }
+}
+
+/// One that holds nothing yet.
+pub fn nothing_held(alloc: Global) -> Holding {
+    Holding {
+        held: Vec::new(alloc),
+        taken: Vec::new(alloc),
     }
 }
 

@@ -4,7 +4,8 @@ use std::fmt::Display;
 use std::process::Abort;
 use tcc_graph::Graph;
 use tcc_reads::{Resolved, resolve};
-use tcc_txn::{Name, Snapshot, snapshot_of};
+use tcc_rows::snapshot_of;
+use tcc_txn::{Name, Snapshot};
 
 /// A name that the test writes out.
 pub fn name(rt: &impl Abort, text: &str) -> Name {

@@ -5,7 +5,8 @@ use std::process::Abort;
 use std::test::Fail;
 use tcc_reads::ReadFaultKind::{Aborted, BrokenInternal, Duplicate, Future, Intermediate, ThinAir};
 use tcc_reads::{ReadFault, ReadFaultKind, ResolveFault, resolve};
-use tcc_txn::{Name, snapshot_of};
+use tcc_rows::snapshot_of;
+use tcc_txn::Name;
 
 /// Session, place, operation, key, value and kind of a fault.
 type Row = (&'static str, u32, u32, &'static str, u64, ReadFaultKind);

@@ -7,10 +7,12 @@ use std::alloc::Global;
 use std::collections::BTreeMap;
 use std::process::Abort;
 use std::test::Fail;
+use tcc_rows::{
+    LargeRecording, Moment, Recording, RowFault, RowFaultKind, large_snapshot_of, snapshot_of,
+};
 use tcc_txn::{
-    LARGE_COUNT, LargeRecording, LargeSnapshot, Limits, Moment, Name, NameFault, NoMemory, Op,
-    Recording, RowFault, RowFaultKind, Snapshot, SnapshotFault, Txn, TxnFault, large_snapshot_of,
-    snapshot_of,
+    LARGE_COUNT, LargeSnapshot, Limits, Name, NameFault, NoMemory, Op, Snapshot, SnapshotFault,
+    Txn, TxnFault,
 };
 
 fn get(key: Name, value: u64) -> Op {

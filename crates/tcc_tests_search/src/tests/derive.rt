@@ -35,6 +35,12 @@ const TWO_WALKS: &str =
     c,begin\nc,r,q,1\nc,w,t,1\nc,commit\nd,begin\nd,r,t,1\nd,w,u,1\nd,commit\n\
     e,begin\ne,r,s,1\ne,w,v,1\ne,commit\nf,begin\nf,r,u,1\nf,r,v,1\nf,r,x,0\nf,commit\n";
 
+/// A read that a walk of three steps contradicts, and one that a step does contradicts.
+const FAR_AND_NEAR: &str =
+    "a,begin\na,w,x,1\na,w,q,1\na,commit\nc,begin\nc,r,q,1\nc,w,t,1\nc,commit\n\
+    d,begin\nd,r,t,1\nd,w,u,1\nd,commit\nf,begin\nf,r,u,1\nf,r,x,0\nf,commit\n\
+    g,begin\ng,w,y,1\ng,commit\ng,begin\ng,r,y,0\ng,commit\n";
+
 /// A session step before a read, and of two reads the one of the first key.
 const TWO_STEPS: &str =
     "a,begin\na,w,x,1\na,w,q,1\na,w,p,1\na,commit\na,begin\na,r,p,1\na,r,x,0\na,commit\n\
@@ -211,52 +217,26 @@ fn first_reasons(rt: HostRuntime) {
     }
 }
 
-/// Of all links outside the rest of the session those that cost at most the limit, and each cost at least that before it.
-fn assert_by_cost(rt: &(impl Abort + Threads + Sync), alloc: Global, level: Level, records: &str) {
-    let prices = priced(rt, alloc, records, level);
-    for from in 0..prices.count() {
-        let (first, end) = prices.later(from);
-        let cheap = (0..prices.count()).filter(|to| {
-            let within = prices
-                .cost(from, *to)
-                .is_some_and(|cost| cost <= u32::from(prices.limit()));
-            within && (*to < first || end <= *to)
-        });
-        let links = prices.by_cost(from);
-        assert_eq!(rt; links.len(), cheap.count(), "of {records}");
-        let mut least = 0;
-        for link in links {
-            let (to, cost) = *link;
-            assert!(rt; least <= cost, "of {records}");
-            assert_eq!(rt;
-                prices.cost(from, u32::from(to)),
-                Some(u32::from(cost)),
-                "of {records}"
-            );
-            least = cost;
-        }
-    }
+/// Links are kept by cost up to this limit, and whether these are all.
+fn assert_limit(
+    rt: &(impl Abort + Threads + Sync),
+    alloc: Global,
+    records: &str,
+    limit: u16,
+    whole: bool,
+) {
+    let prices = priced(rt, alloc, records, Level::Causal);
+    assert_eq!(rt; prices.limit(), limit, "of {records}");
+    assert_eq!(rt; prices.is_whole(), whole, "of {records}");
 }
 
+/// A step from `init` and a link back of 2 steps, or of 4.
 #[test]
-fn links_by_cost(rt: HostRuntime) {
+fn limits(rt: HostRuntime) {
     let alloc = rt.alloc();
-    let cases = [
-        FRACTURED,
-        STALE_READ,
-        CHAIN,
-        TWO_WRITERS,
-        MUTUAL,
-        TWO_READERS,
-        TWO_KEYS,
-        NEARER_KEY,
-        TWO_WALKS,
-        TWO_STEPS,
-    ];
-    for records in cases {
-        assert_by_cost(&rt, alloc, Level::Causal, records);
-        assert_by_cost(&rt, alloc, Level::Atomic, records);
-    }
+    assert_limit(&rt, alloc, FRACTURED, 3, true);
+    assert_limit(&rt, alloc, TWO_WALKS, 5, true);
+    assert_limit(&rt, alloc, FAR_AND_NEAR, 3, false);
 }
 
 /// At `Atomic` the walk of a reason is one step, and a reader that more steps lead to gives none.

@@ -9,7 +9,7 @@ use tcc_derive::{Prices, derive};
 use tcc_graph::{Graph, Level};
 use tcc_near::{Near, near};
 use tcc_reads::resolve;
-use tcc_txn::snapshot_of;
+use tcc_rows::snapshot_of;
 
 /// a/1 writes x, and a/2 reads the initial value of x: a/1 has to stand before `init`, which costs 2, and every other
 /// link costs 1. The least cycle, over `init`, costs 3.

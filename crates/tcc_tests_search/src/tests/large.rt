@@ -9,7 +9,7 @@ use tcc_graph::{Level, Link};
 use tcc_large::{Decision, decide, explain_large, is_cycle, records, slice};
 use tcc_order::order;
 use tcc_reads::ResolveFault;
-use tcc_txn::snapshot_of;
+use tcc_rows::snapshot_of;
 
 /// A read of the initial value in one session, which knows of the writer in another by two sessions between.
 const FAR_INIT: &str = "a,begin\na,w,x,1\na,commit\na,begin\na,w,y,1\na,commit\n\

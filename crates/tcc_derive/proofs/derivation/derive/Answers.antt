@@ -2,12 +2,12 @@ use Rattle.std.proofs.Common.{◌≤◌, length, arith}
 use Rattle.tcc_reads.specs.History.{count}
 use Rattle.tcc_graph.specs.Levels.{Judged}
 use Rattle.tcc_txn.specs.declared.limits.TheConstants.{MAX_COUNT}
-use Rattle.tcc_derive.proofs.PricesLemmas.{prices_of, shaped, others_within, have_by_cost, have_by_class}
+use Rattle.tcc_derive.proofs.PricesLemmas.{prices_of, shaped, others_within, have_by_class}
 use Rattle.tcc_derive.proofs.TableLemmas.{all_sources, all_readers}
 use Rattle.tcc_derive.proofs.derivation.derive.Goals as goal
 
-pub returns : goal.returns
-returns g c =
+pub returns-clause-prices : goal.returns-clause-prices
+returns-clause-prices g c =
     let j : Judged = record { history = c.args.graph.now; level = c.args.near.now.level } in
     rw (c.new.ensures, c.level.ensures)
     (prices_of j c.args.near.now c.in_ok-prices.prices.items c.in_ok-ends.ends.items c.in_ok-others.others.items c.cost_limit-limit.result c.requires
@@ -23,24 +23,6 @@ new-requires-clause-shape g c =
     (shaped j c.args.near.now c.in_ok-prices.prices.items c.in_ok-ends.ends.items c.in_ok-others.others.items c.cost_limit-limit.result c.requires rows
     c.in_ok-ends.ensures (rw c.deref-5.ensures.value at c.in_ok-others.ensures) few)
 
-pub by_cost_rows-requires-clause-within : goal.by_cost_rows-requires-clause-within
-by_cost_rows-requires-clause-within g c κs inside =
-    let j : Judged = record { history = c.args.graph.now; level = c.args.near.now.level } in
-    let rows = c.in_ok-prices.ensures.rows in
-    let few : count c.args.graph.now ≤ MAX_COUNT = omega (arith, c.in_ok-prices.ensures.few, rows.long) in
-    rw c.deref-8.ensures.value
-    (others_within j c.args.near.now c.in_ok-prices.prices.items c.in_ok-ends.ends.items c.in_ok-others.others.items c.cost_limit-limit.result c.requires rows
-    c.in_ok-ends.ensures (rw c.deref-5.ensures.value at c.in_ok-others.ensures) MAX_COUNT few)
-
-pub new-requires-clause-by_cost : goal.new-requires-clause-by_cost
-new-requires-clause-by_cost g c =
-    let j : Judged = record { history = c.args.graph.now; level = c.args.near.now.level } in
-    rw c.level.ensures
-    (have_by_cost j c.args.near.now c.in_ok-prices.prices.items c.in_ok-ends.ends.items c.in_ok-others.others.items c.cost_limit-limit.result c.requires
-    c.in_ok-prices.ensures.rows
-    c.in_ok-ends.ensures (rw c.deref-5.ensures.value at c.in_ok-others.ensures)
-    c.in_ok-by_cost.by_cost.items (rw (c.deref-8.ensures.value, c.deref-9.ensures.value) at c.in_ok-by_cost.ensures))
-
 pub cost_limit-limit-requires-clause-within : goal.cost_limit-limit-requires-clause-within
 cost_limit-limit-requires-clause-within g c =
     let j : Judged = record { history = c.args.graph.now; level = c.args.near.now.level } in
@@ -52,7 +34,7 @@ pub by_class_rows-requires-clause-within : goal.by_class_rows-requires-clause-wi
 by_class_rows-requires-clause-within g c κs inside =
     let j : Judged = record { history = c.args.graph.now; level = c.args.near.now.level } in
     let rows = c.in_ok-prices.ensures.rows in
-    rw c.deref-10.ensures.value
+    rw c.deref-8.ensures.value
     (others_within j c.args.near.now c.in_ok-prices.prices.items c.in_ok-ends.ends.items c.in_ok-others.others.items c.cost_limit-limit.result c.requires rows
     c.in_ok-ends.ensures (rw c.deref-5.ensures.value at c.in_ok-others.ensures) (length c.in_ok-others.others.items)
     (omega (arith, (rw c.deref-5.ensures.value at c.in_ok-others.ensures).long)))
@@ -64,7 +46,7 @@ new-requires-clause-by_class g c =
     (have_by_class j c.args.near.now c.in_ok-prices.prices.items c.in_ok-ends.ends.items c.in_ok-others.others.items c.cost_limit-limit.result c.requires
     c.in_ok-prices.ensures.rows
     c.in_ok-ends.ensures (rw c.deref-5.ensures.value at c.in_ok-others.ensures)
-    c.in_ok-by_class.by_class.items (rw (c.deref-10.ensures.value, c.deref-11.ensures.value) at c.in_ok-by_class.ensures))
+    c.in_ok-by_class.by_class.items (rw (c.deref-8.ensures.value, c.deref-9.ensures.value) at c.in_ok-by_class.ensures))
 
 pub source_table-requires-clause-sources : goal.source_table-requires-clause-sources
 source_table-requires-clause-sources g c =

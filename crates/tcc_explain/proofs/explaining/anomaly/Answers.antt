@@ -41,8 +41,8 @@ pub returns : goal.returns
 returns g c =
     let j : Judged = record { history = c.args.graph.now; level = c.args.near.now.level } in
     let costs : c.in-Some.cost ≡ cost c.in_ok-links.links.items = sym c.in_ok-links.ensures.cost in
-    let rows : AreFarRows j c.in-Some.cost c.deref.result.now =
-    rw c.deref.ensures.value (far_rows j c.args.workers c.in_ok-found.found (c.in_ok-found.ensures j c.requires.prices) c.in-Some.cost c.in-Some.is) in
+    let rows : AreFarRows j c.in-Some.cost c.in_ok-found.found.rows.items =
+    far_rows j c.args.workers c.in_ok-found.found (c.in_ok-found.ensures j c.requires.prices) c.in-Some.cost c.in-Some.is in
     rw (c.new-2.ensures, c.new.ensures, c.level.ensures) (
       (c.in-Some-first.start, c.in_ok-links.ensures.first),
       refl,

@@ -1,6 +1,9 @@
--- the way so far
-use Rattle.tcc_explain.proofs.OfferLemmas.{HasWay}
+-- the way so far, and that of a cycle no more is spent than it costs
+use Rattle.tcc_explain.proofs.OfferLemmas.{HasWay, IsAlong}
 use Rattle.tcc_explain.proofs.offering.offered.Given as goal
 
 abbrev pub invariant-loop-link : goal.invariant-loop-link
-invariant-loop-link l = HasWay l.prices l.start l.at l.link-index l.total
+invariant-loop-link l = record {
+  way : HasWay l.prices l.start l.at l.link-index l.total;
+  along : IsAlong l.prices l.links l.start l.at l.link-index l.total;
+}

@@ -1,7 +1,6 @@
 -- the numbers so far
-use Rattle.std.proofs.Common.{◌≡◌, map, take}
-use Rattle.tcc_explain.specs.Capping.{capped_steps}
+use Rattle.tcc_explain.specs.Capping.{capped_steps, AreMade}
 use Rattle.tcc_explain.proofs.tables.near_row.Given as goal
 
-abbrev pub invariant-loop-steps : goal.invariant-loop-steps
-invariant-loop-steps l = l.row.items ≡ map (capped_steps l.cap) (take l.steps-index l.steps-items)
+abbrev pub invariant-loop-place : goal.invariant-loop-place
+invariant-loop-place l = AreMade (capped_steps l.cap) l.steps l.place l.row.items

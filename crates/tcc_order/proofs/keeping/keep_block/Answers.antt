@@ -7,6 +7,7 @@ use Rattle.tcc_graph.specs.Tables.{row_of}
 use Rattle.tcc_order.specs.Lasts.{IsBefore}
 use Rattle.tcc_order.specs.Latest.{AreLatestOf, IsOverwritten}
 use Rattle.tcc_order.proofs.Needing.{IsUpTo, kept_derived, kept_enough}
+use Rattle.tcc_order.proofs.Spans.{owners_rise}
 use Rattle.tcc_order.proofs.keeping.keep_block.Goals as goal
 
 pub loop-a-init : goal.loop-a-init
@@ -18,6 +19,9 @@ loop-a-init c =
     first : (h : History) (from a b : ℕ) → IsUpTo h from 0 a b → owner h b < from
     first h from a b (inl early) = early
     first h from a b (inr w) = absurd (omega (arith, w.1))
+
+pub block_bounds-bounds-requires : goal.block_bounds-bounds-requires
+block_bounds-bounds-requires c = owners_rise c.args.graph.now c.requires.numbered c.args.owners.now c.requires.owners
 
 pub keep-requires : goal.keep-requires
 keep-requires c =

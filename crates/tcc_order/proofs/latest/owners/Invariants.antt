@@ -5,4 +5,5 @@ use Rattle.tcc_order.proofs.latest.owners.Given as goal
 abbrev pub invariant-loop-number : goal.invariant-loop-number
 invariant-loop-number l =
     (length l.owners.items ≡ l.number)
+    × (slice_index l.owners.items 0 ≡ 0)
     × ((n : ℕ) → 0 < n → n < l.number → slice_index l.owners.items n ≡ owner l.graph n)

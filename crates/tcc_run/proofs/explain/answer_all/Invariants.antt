@@ -2,11 +2,11 @@
 -- snapshot that went on
 use Rattle.std.proofs.Common.{◌≡◌, ℕ, List, [], None}
 use Rattle.std.specs.Prelude.{IfSome}
-use Rattle.tcc_txn.specs.Ahead.{fault_met}
-use Rattle.tcc_txn.specs.Answers.{answers_of}
-use Rattle.tcc_txn.specs.Lines.{Record}
-use Rattle.tcc_txn.specs.Reached.{IsWithin}
-use Rattle.tcc_txn.specs.Recordings.{IsRecording}
+use Rattle.tcc_rows.specs.Ahead.{fault_met}
+use Rattle.tcc_rows.specs.Answers.{answers_of}
+use Rattle.tcc_rows.specs.Lines.{Record}
+use Rattle.tcc_rows.specs.Reached.{IsWithin}
+use Rattle.tcc_rows.specs.Recordings.{IsRecording}
 use Rattle.tcc_run.specs.Stages.{Follows}
 use Rattle.tcc_run.proofs.Runs.{HasAnswered}
 use Rattle.tcc_run.proofs.explain.answer_all.Given as goal

@@ -1,5 +1,5 @@
 use Rattle.std.proofs.Common.{refl}
-use Rattle.tcc_txn.specs.Answers.{answers_of}
+use Rattle.tcc_rows.specs.Answers.{answers_of}
 use Rattle.tcc_run.proofs.OneRun.{front_again, stopped_again, whole_again}
 use Rattle.tcc_run.proofs.laws.one_run.Goals as goal
 

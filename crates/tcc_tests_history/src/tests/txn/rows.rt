@@ -5,7 +5,7 @@ use std::cell::Cell;
 use std::io::{self, ErrorKind, Read};
 use std::process::Abort;
 use std::test::Fail;
-use tcc_txn::{Item, RowFault, RowFaultKind as Kind, Rows};
+use tcc_rows::{Item, RowFault, RowFaultKind as Kind, Rows};
 
 // Two transactions, one of them aborted, and a seal: seven records.
 const TEXT: &[u8] = b"a,begin\nb,begin\na,w,x,1\nb,r,y,0\na,commit\nseal\nb,abort\n";

@@ -1,7 +1,7 @@
 use Rattle.std.proofs.Common.{ap, subst, ◌∙◌, inl, inr, arith}
 use Rattle.tcc_txn.specs.Snapshots.{parts_of}
 use Rattle.tcc_txn.specs.SnapshotStorage.{StandsAt, place_in}
-use Rattle.tcc_txn.proofs.Growing.{err-then, found-here, if-err-then, inserted, missing, not-read, ok-always, ok-then, place_in-within, unwritten, written}
+use Rattle.tcc_txn.proofs.Growing.{err-then, found-here, if-err-then, inserted, missing, ok-always, ok-then, place_in-within, unwritten, written}
 use Rattle.tcc_txn.proofs.Parts.{length-parts_of}
 use Rattle.tcc_txn.proofs.snapshot.add_to.Goals as goal
 
@@ -55,6 +55,5 @@ returns c =
           ok-then c.insert.result (λ new. new ∙ inserted items c.args.session c.place_of-at.result c.args.txn place c.requires apart) c.insert.ensures.inserted;
       kept = err-then c.insert.result (λ same. ap parts_of same) c.insert.ensures.kept;
       few = ok-always c.insert.result (λ _. omega (arith, c.if-len-sessions.false, c.sessions.ensures, c.len.ensures, c.args.parts.now.ok.0));
-      known = if-err-then c.insert.result (λ k memory. not-read k memory) c.insert.ensures.refused;
       refused = if-err-then c.insert.result (λ k memory. inl memory) c.insert.ensures.refused;
     }

@@ -1,18 +1,11 @@
 -- What each call adds to the command.
-use Rattle.std.proofs.Common.{◌≡◌, ◌∙◌, ap, ap₂, rules, codes, Bool, true, false, refl}
-use Rattle.std.specs.Prelude.{◌&&◌, not}
+use Rattle.std.proofs.Common.{◌≡◌, ◌∙◌, ap, ap₂, rules, codes}
 use Rattle.std.proofs.lemmas.Result.{IfOk-weaker}
 use Rattle.clap.specs.Words.{App, app_of, new_app, with_subcommand}
 use Rattle.clap.specs.Simple.{on_top}
 use Rattle.tcc_words.specs.CommandLines.{explain_command, with_subcommand_required, with_version}
+use Rattle.tcc_words.proofs.PlainCommands.{no_globals}
 use Rattle.tcc_words.proofs.command_line.command.Goals as goal
-
--- a plain command has no global argument
-no_globals : (groups external globals others : Bool) → (groups && (not external && (not globals && others))) ≡ true → globals ≡ false
-no_globals true false false others plain = refl
-no_globals true false true others plain = cc
-no_globals true true globals others plain = let bad : ⊥ = cc in absurd bad
-no_globals false external globals others plain = let bad : ⊥ = cc in absurd bad
 
 pub returns : goal.returns
 returns c =

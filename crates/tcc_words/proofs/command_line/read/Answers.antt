@@ -4,7 +4,7 @@ use Rattle.std.specs.Prelude.{Result, IfErr, IfOk}
 use Rattle.clap.specs.Walk.{Text}
 use Rattle.clap.specs.Simple.{subcommand_of}
 use Rattle.clap.specs.declared.error.kind.ErrorKind.{ErrorKind}
-use Rattle.clap.specs.declared.error.kind.ErrorKind.TheVariants.{OutOfMemory}
+use Rattle.clap.specs.declared.error.kind.ErrorKind.TheVariants.{ArgumentConflict, OutOfMemory}
 use Rattle.tcc_words.specs.CommandLines.{Asks, EndsUnasked, HasWorkers, IsAsked, IsWorkers, Words, tcc_command, workers_text}
 use Rattle.tcc_words.specs.declared.command_line.Request.TheVariants.{Explain, Check}
 use Rattle.tcc_words.specs.declared.command_line.Request.{Request}
@@ -16,12 +16,14 @@ ends : (words : List (List ℕ)) (before kept after : Option (List ℕ)) (r : Re
 ends words before kept after (Ok request) same asked = tt
 ends words before kept after (Err code) same (levels, are, inl memory) =
     (OutOfMemory, subst (λ start. EndsUnasked OutOfMemory start after code) same memory)
-ends words before kept after (Err code) same (levels, are, inr fault) =
+ends words before kept after (Err code) same (levels, are, inr (inl fault)) =
     (fault.0, subst (λ start. EndsUnasked fault.0 start after code) same fault.2)
+ends words before kept after (Err code) same (levels, are, inr (inr refused)) =
+    (ArgumentConflict, subst (λ start. EndsUnasked ArgumentConflict start after code) same refused.1.3)
 
 -- what is asked for has its workers
 by_words : (levels : Words) (words : List (List ℕ)) (request : Request) → Asks (tcc_command levels) words request → HasWorkers request
-by_words levels words (Explain options history certificate) asks = in_range (workers_text (subcommand_of (tcc_command levels) words)) options.workers asks.1.2
+by_words levels words (Explain options history certificate large slice) asks = in_range (workers_text (subcommand_of (tcc_command levels) words)) options.workers asks.1.2
   where
     in_range : (text : Option Text) (workers : ℕ) → IsWorkers text workers → (0 < workers) × (workers ≤ 32)
     in_range None workers one = (omega arith, omega arith)

@@ -9,7 +9,7 @@ ended : (levels : Words) (words : List (List ℕ)) (before after : Option (List 
     → HasKind (fault_of (tcc_command levels) words) e → EndsUnasked (kind_of e) before after code → IsAsked words before after (Err code)
 ended levels words before after e code are (inl memory) ends =
     (levels, are, inl (subst (λ kind. EndsUnasked kind before after code) memory ends))
-ended levels words before after e code are (inr among) ends = (levels, are, inr (kind_of e, among, ends))
+ended levels words before after e code are (inr among) ends = (levels, are, inr (inl (kind_of e, among, ends)))
 
 pub returns-in-Err : goal.returns-in-Err
 returns-in-Err g c =

@@ -1,6 +1,6 @@
 use Rattle.std.proofs.Common.{rules, ◌≡◌, length, sym, ap, ◌∙◌, arith, is_some, None, Some, refl}
 use Rattle.indexmap.specs.IndexMap.{get, Updates, insert_entry}
-use Rattle.tcc_txn.specs.Lines.{same}
+use Rattle.tcc_txn.specs.Bytes.{same}
 use Rattle.tcc_book.proofs.Places.{few-places, is-book, length-places, open-found, length-keys}
 use Rattle.tcc_book.proofs.Opened.{opened, opened-names, unchanged}
 use Rattle.tcc_book.proofs.state.BookState.open.Goals as goal

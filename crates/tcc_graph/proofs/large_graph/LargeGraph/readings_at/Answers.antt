@@ -1,6 +1,6 @@
 use Rattle.std.proofs.Common.{◌<◌, length, sym, subst}
 use Rattle.tcc_reads.specs.History.{History}
-use Rattle.tcc_graph.proofs.GraphLemmas.{places_within, place_readings}
+use Rattle.tcc_graph.proofs.GraphLemmas.{places_within, place_readings, places_order}
 use Rattle.tcc_graph.proofs.large_graph.LargeGraph.readings_at.Goals as goal
 
 pub returns-clause-within : goal.returns-clause-within
@@ -16,3 +16,11 @@ returns-clause-each c = λ r k.
     (place_readings c.self.inside.transactions.items c.self.inside.keys.items c.self.inside.placed.items c.self.invariant.sorted c.self.invariant.placed
     c.self.inside.places.items c.self.invariant.read_placed c.args.a
     (subst (λ (h : History). c.args.a < length h.entries) (sym c.self.view_is) c.requires) c.index-places.result.now c.index-places.ensures r k)
+
+pub returns-clause-order : goal.returns-clause-order
+returns-clause-order c =
+    rw (c.groups.ensures, c.values.ensures)
+    (places_order c.self.inside.transactions.items c.self.inside.keys.items c.self.inside.placed.items c.self.invariant.sorted c.self.invariant.placed
+    c.self.inside.places.items c.self.invariant.read_placed c.args.a
+    (subst (λ (h : History). c.args.a < length h.entries) (sym c.self.view_is) c.requires) c.index-places.result.now c.index-places.ensures
+    c.self.invariant.reads_ordered)

@@ -1,4 +1,6 @@
 use Rattle.std.proofs.Common.{◌≡◌, ℕ, ◌<◌, List, length, All, ap, sym, ◌∙◌, subst, slice_index_or}
+use Rattle.std.specs.List.Sorted.{IsStrictlySortedBy}
+use Rattle.tcc_reads.specs.Sources.{pair_cmp}
 use Rattle.tcc_reads.specs.History.{Entry, History, count}
 use Rattle.tcc_reads.proofs.resolved.LargeResolved.reads.Goals as goal
 
@@ -13,3 +15,12 @@ returns-clause-sources c k d within =
     let below : AreBelow c.deref.result.now = subst AreBelow same (c.self.invariant.sources c.args.t c.index.result.now there) in
     let IsBelow : History → Type 0 = λ h. (slice_index_or c.deref.result.now k d).1 < count h in
     subst IsBelow c.self.view_is (below k d within)
+
+pub returns-clause-order : goal.returns-clause-order
+returns-clause-order c =
+    let entries : List Entry = c.self.inside.nodes.items in
+    let InRange : History → Type 0 = λ h. c.args.t < count h in
+    let there : c.args.t < length entries = subst InRange (sym c.self.view_is) c.requires in
+    let same : (slice_index_or entries c.args.t c.index.result.now).reads ≡ c.deref.result.now
+    = ap (λ e. e.reads) (sym c.index.ensures ∙ sym c.behind-self.view_is) ∙ sym c.deref.ensures.value in
+    subst (IsStrictlySortedBy pair_cmp) same (c.self.invariant.reads_ordered c.args.t c.index.result.now there)

@@ -38,5 +38,4 @@ returns c =
         | inr crowd ↦ absurd (crowded Small parts c.args.session c.args.txn c.self.invariant crowd.0 crowd.1
             (subst (λ s. KeepsLimits (with_transaction s c.args.session c.args.txn)) (sym c.self.view_is) limits))
       ]) c.add_to.ensures.refused;
-      known = c.add_to.ensures.known;
     }

@@ -1,0 +1,145 @@
+#!/usr/bin/env python3
+"""Measures how histories within the large limits are decided, stage by stage.
+
+    large.py [--kinds KIND ..] [--sizes N ..] [--sessions N ..] [--stages PATH] [--keep FOLDER]
+
+Each history has transactions of 8 operations, of which about half are reads. A session reads a prefix of one log of writes that is up
+to 1,000 transactions late, and none that is shorter than one that it read before; 64 sessions work at a time, and where there
+are more a session ends and another begins. Kinds:
+
+    causal   consistent; a key for 10 transactions
+    jepsen   consistent; 16 keys at a time, each written 32 times before another takes its place
+    stale    causal, with a read near the end of a value that its session knows as overwritten
+
+A line for each history has the processor seconds of reading, resolving, building the graph, deciding whether there is an order, and looking for a
+cycle, each by `tcc_bench_stages` and without those before it; then the peak memory, and how many steps the cycle has. By
+default histories of 10,000 and 100,000 transactions; one of 1,000,000 takes minutes and gigabytes.
+"""
+import argparse
+import bisect
+import os
+import pathlib
+import random
+import sys
+import tempfile
+
+from run import built
+
+KINDS = ("causal", "jepsen", "stale")
+STAGES = ("large-snapshot", "large-resolve", "large-graph", "large-order", "large-cycle")
+OPERATIONS, LATE, AT_A_TIME, KEYS_AT_A_TIME, WRITES_A_KEY = 8, 1000, 64, 16, 32
+
+
+class Log:
+    """Who wrote what, in one order, and what each session has read of it."""
+
+    def __init__(self, kind, count, sessions):
+        self.random = random.Random("%s-%d-%d" % (kind, count, sessions))
+        self.kind, self.count, self.sessions = kind, count, sessions
+        self.keys = list(range(KEYS_AT_A_TIME if kind == "jepsen" else max(1, count // 10)))
+        self.fresh = len(self.keys)
+        self.places, self.values = {}, {}  # of each key: at which transactions it was written, and what
+        self.seen = {}
+
+    def value(self, key, length):
+        """The value of a key after so many transactions."""
+        before = bisect.bisect_right(self.places.get(key, ()), length)
+        return self.values[key][before - 1] if before else 0
+
+    def write(self, key, place):
+        """The next value of a key, written by the transaction at this place."""
+        values = self.values.setdefault(key, [])
+        values.append(len(values) + 1)
+        self.places.setdefault(key, []).append(place)
+        if self.kind == "jepsen" and len(values) == WRITES_A_KEY:
+            self.keys[self.keys.index(key)] = self.fresh
+            self.fresh += 1
+        return values[-1]
+
+    def operation(self, own, known, place):
+        """An operation at some key, as two fields and the value; `own` has what the transaction wrote."""
+        key = self.random.choice(self.keys)
+        if self.random.random() < 0.5:
+            own[key] = self.write(key, place)
+            return "w,k%d,%d" % (key, own[key])
+        return "r,k%d,%d" % (key, own[key] if key in own else self.value(key, known))
+
+    def transaction(self, session, place):
+        """The records of a transaction."""
+        known = max(self.seen.get(session, 0), place - 1 - self.random.randrange(LATE))
+        self.seen[session] = place
+        own = {}
+        inside = [self.operation(own, known, place) for _ in range(OPERATIONS)]
+        return records(session, inside)
+
+    def session(self, place):
+        """One of the sessions that work at this time."""
+        born = min(self.sessions, AT_A_TIME)
+        first = (self.sessions - born) * place // self.count
+        return "s%05d" % (first + self.random.randrange(born))
+
+
+def records(session, inside):
+    """The records of a transaction with these operations."""
+    return "".join("%s,%s\n" % (session, record) for record in ["begin", *inside, "commit"])
+
+
+def write_history(path, kind, count, sessions):
+    """Writes a history of so many transactions to a file."""
+    log = Log(kind, count, sessions)
+    with open(path, "w") as out:
+        for place in range(1, count + 1):
+            out.write(log.transaction(log.session(place), place))
+            if kind == "stale" and place == count * 97 // 100:
+                for inside in (["w,stale,1"], ["w,stale,2"]):
+                    out.write(records("stale-writer", inside))
+                for inside in (["r,stale,2"], ["r,stale,1"]):
+                    out.write(records("stale-reader", inside))
+
+
+def spent(words, history, answer):
+    """Processor seconds, megabytes and exit status of one run; its output goes to the file `answer`."""
+    with open(history, "rb") as given, open(answer, "wb") as out:
+        files = [(os.POSIX_SPAWN_DUP2, given.fileno(), 0), (os.POSIX_SPAWN_DUP2, out.fileno(), 1)]
+        child = os.posix_spawn(words[0], words, os.environ, file_actions=files)
+        _, status, used = os.wait4(child, 0)
+    return used.ru_utime + used.ru_stime, used.ru_maxrss / 1000, os.waitstatus_to_exitcode(status)
+
+
+def row(stages, path, answer):
+    """Processor seconds of each stage, the peak memory and what the last one says."""
+    seconds, before, peak = [], 0, 0
+    for stage in STAGES:
+        now, memory, status = spent([stages, stage], path, answer)
+        if status != 0:
+            sys.exit("%s: the stage %s ended with status %d" % (path.name, stage, status))
+        seconds.append("%.2f" % max(0, now - before))
+        before, peak = now, max(peak, memory)
+    return seconds + ["%.0f" % peak, answer.read_text().strip()]
+
+
+def main():
+    ask = argparse.ArgumentParser(description="Measures how large histories are decided.")
+    ask.add_argument("--kinds", nargs="+", choices=KINDS, default=KINDS, metavar="KIND", help="these alone")
+    ask.add_argument("--sizes", nargs="+", type=int, default=[10_000, 100_000], metavar="N", help="so many transactions")
+    ask.add_argument("--sessions", nargs="+", type=int, default=[64, 512, 4094], metavar="N", help="so many sessions")
+    ask.add_argument("--stages", help="another program than the built one")
+    ask.add_argument("--keep", type=pathlib.Path, help="a folder for the histories, which stay there")
+    asked = ask.parse_args()
+    stages = os.path.abspath(asked.stages) if asked.stages else built("tcc_bench_stages")
+    print("history  read  resolve  graph  order  cycle  MB  steps")
+    with tempfile.TemporaryDirectory() as temporary:
+        folder = asked.keep or pathlib.Path(temporary)
+        folder.mkdir(parents=True, exist_ok=True)
+        for kind in asked.kinds:
+            for size in asked.sizes:
+                for sessions in asked.sessions:
+                    path = folder / ("%s-%d-%d.csv" % (kind, size, sessions))
+                    write_history(path, kind, size, sessions)
+                    print(path.stem, *row(stages, path, pathlib.Path(temporary, "answer")), sep="  ", flush=True)
+                    if not asked.keep:
+                        path.unlink()
+
+
+if __name__ == "__main__":
+    main()

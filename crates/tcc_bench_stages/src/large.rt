@@ -1,0 +1,92 @@
+//! The stages of a history within the large limits.
+use crate::Stage;
+use std::alloc::Global;
+use std::io::Read;
+use tcc_graph::{LargeGraph, Level, Link};
+use tcc_large::{Decision, decide, explain_large, slice};
+use tcc_order::order;
+use tcc_reads::resolve_large;
+use tcc_rows::large_snapshot_of;
+use tcc_txn::LargeSnapshot;
+
+/// How many transactions are ordered, 0 where there is a cycle.
+fn ordered(alloc: Global, graph: &LargeGraph, level: Level) -> Option<u32> {
+    let ordered = order(alloc, graph, level).ok()?;
+    u32::try_from(ordered.map_or(0, |numbers| numbers.len())).ok()
+}
+
+/// How many steps links have.
+fn steps(links: &[Link]) -> u32 {
+    let mut steps = 0u32;
+    for link in links {
+        steps = steps.saturating_add(1);
+        if let Link::Derived { walk, .. } = link {
+            steps = steps.saturating_add(walk.steps().len().min(1 << 20) as u32);
+        }
+    }
+    steps
+}
+
+/// How many steps the cycle has that is found, 0 where there is none; or how many sessions its slice has.
+fn decided(
+    alloc: Global,
+    snapshot: &LargeSnapshot,
+    graph: &LargeGraph,
+    level: Level,
+    stage: Stage,
+) -> Option<u32> {
+    let Decision::Cycle(links) = decide(alloc, graph, level).ok()? else {
+        return Some(0);
+    };
+    if stage == Stage::LargeSlice {
+        let found = slice(alloc, snapshot, graph, level, &links).ok()?;
+        return Some(found.map_or(0, |slice| slice.sessions()));
+    }
+    Some(steps(&links))
+}
+
+/// Goes as far as asked, and says how many sessions, transactions or steps there are at the end.
+pub fn run_large<R: Read + Drop>(
+    alloc: Global,
+    reader: R,
+    level: Level,
+    stage: Stage,
+) -> Option<u32> {
+    let snapshot = large_snapshot_of(alloc, reader).ok()?;
+    if stage == Stage::LargeSnapshot {
+        return Some(snapshot.sessions());
+    }
+    let resolved = resolve_large(alloc, &snapshot).ok()?;
+    if stage == Stage::LargeResolve {
+        return u32::try_from(resolved.places().len()).ok();
+    }
+    let graph = LargeGraph::build(alloc, &resolved).ok()?;
+    match stage {
+        Stage::LargeGraph => Some(graph.count()),
+        Stage::LargeOrder => ordered(alloc, &graph, level),
+        _ => decided(alloc, &snapshot, &graph, level, stage),
+    }
+}
+
+/// The word `order` and the numbers of an order.
+fn numbers(alloc: Global, order: &[u32]) -> Option<String> {
+    let mut text = format!(in alloc; "order").ok()?;
+    for number in order {
+        text.push_str(&format!(in alloc; " {number}").ok()?).ok()?;
+    }
+    Some(text)
+}
+
+/// What is decided of a history within the large limits: the numbers of its first commit order, or how many steps the cycle has.
+pub fn large_answer<R: Read + Drop>(alloc: Global, reader: R, level: Level) -> Option<String> {
+    let snapshot = large_snapshot_of(alloc, reader).ok()?;
+    let answer = explain_large(alloc, &snapshot, level).ok()?;
+    match answer.decision {
+        Decision::Order(order) => numbers(alloc, &order),
+        Decision::Cycle(links) => {
+            let steps = steps(&links);
+            format!(in alloc; "cycle {steps}").ok()
+        }
+        Decision::Inconsistent => format!(in alloc; "inconsistent").ok(),
+    }
+}

@@ -1,0 +1,5 @@
+use Rattle.tcc_derive.specs.Closings.{IsClosingOrNone}
+use Rattle.tcc_derive.proofs.limits.cost_limit.Given as goal
+
+abbrev pub invariant-loop-block : goal.invariant-loop-block
+invariant-loop-block l = IsClosingOrNone l.near.rows l.prices l.least

@@ -1,0 +1,5 @@
+use Rattle.tcc_derive.specs.Closings.{IsBackOrNone}
+use Rattle.tcc_derive.proofs.limits.least_back.Given as goal
+
+abbrev pub invariant-loop-a : goal.invariant-loop-a
+invariant-loop-a l = IsBackOrNone l.near.rows l.prices l.b l.least

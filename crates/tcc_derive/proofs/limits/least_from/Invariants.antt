@@ -1,0 +1,5 @@
+use Rattle.tcc_derive.specs.Closings.{IsClosingOrNone}
+use Rattle.tcc_derive.proofs.limits.least_from.Given as goal
+
+abbrev pub invariant-loop-b : goal.invariant-loop-b
+invariant-loop-b l = IsClosingOrNone l.near.rows l.prices l.least

@@ -1,0 +1,115 @@
+//! Whether a map of numbers carries the links of a small history into a large one.
+ghost use Rattle.std.specs.Prelude.{◌≡◌, ◌<◌, ℕ, List, IsTrue, length, slice_index};
+ghost use Rattle.tcc_reads.specs.History.{count};
+ghost use Rattle.tcc_graph.specs.Relations.{IsReadsPair, IsSessionPair};
+ghost use Rattle.tcc_graph.specs.Keys.{IsWriter};
+ghost use Rattle.tcc_large.specs.Slices.{IsCarried};
+ghost use Rattle.tcc_large.specs.Carrying.{carry, KeepsReads, KeepsSessions, KeepsWrites, IsRising};
+
+use tcc_graph::{LargeGraph, Level, Link};
+use tcc_txn::Name;
+
+/// The number that one has in the large history; 0 where it has none.
+fn carried(numbers: &[u32], number: u32) -> u32
+    ensures { result ≡ carry numbers.now number }
+{
+    match numbers.get(number as usize) {
+        Some(found) => *found,
+        None => 0,
+    }
+}
+
+/// Whether each number is above the one before it.
+fn is_rising(numbers: &[u32]) -> bool
+    ensures { IsTrue result → IsRising numbers.now }
+{
+    for place in 1..numbers.len() {
+        if numbers[place - 1] >= numbers[place] {
+            return false;
+        }
+    }
+    true
+}
+
+/// Whether all that is read from a transaction is read from it in the large history too.
+fn keeps_reads(small: &LargeGraph, large: &LargeGraph, numbers: &[u32], source: u32) -> bool
+    requires { source < count small.now }
+    ensures { IsTrue result → KeepsReads numbers.now small.now large.now source }
+{
+    let (readers, keys) = small.readings(source);
+    for (place, reader) in readers.iter().enumerate() {
+        let link = Link::Reads {
+            from: carried(numbers, source),
+            to: carried(numbers, *reader),
+            key: keys[place],
+        };
+        if !large.is_link(Level::Causal, &link) {
+            return false;
+        }
+    }
+    true
+}
+
+/// Whether a transaction stands before all those in the large history too that it stands before in session order.
+fn keeps_sessions(small: &LargeGraph, large: &LargeGraph, numbers: &[u32], first: u32) -> bool
+    requires { first < count small.now }
+    ensures { IsTrue result → KeepsSessions numbers.now small.now large.now first }
+{
+    let (low, high) = small.later(first);
+    for later in low..high {
+        let link = Link::Session {
+            from: carried(numbers, first),
+            to: carried(numbers, later),
+        };
+        if !large.is_link(Level::Causal, &link) {
+            return false;
+        }
+    }
+    true
+}
+
+/// Whether a transaction writes the key, whatever its number.
+fn is_writer(graph: &LargeGraph, writer: u32, key: &Name) -> bool
+    ensures { IsTrue result → IsWriter graph.now writer key.now }
+{
+    writer < graph.count() && graph.writes(writer).contains(key)
+}
+
+/// Whether all that a transaction writes it writes in the large history too.
+fn keeps_writes(small: &LargeGraph, large: &LargeGraph, numbers: &[u32], writer: u32) -> bool
+    requires { writer < count small.now }
+    ensures { IsTrue result → KeepsWrites numbers.now small.now large.now writer }
+{
+    for key in small.writes(writer) {
+        if !is_writer(large, carried(numbers, writer), key) {
+            return false;
+        }
+    }
+    true
+}
+
+/// Whether by these numbers, one for each transaction of the small history, each of its links is a link of the large one.
+pub(crate) fn is_carried(small: &LargeGraph, large: &LargeGraph, numbers: &[u32]) -> bool
+    ensures { IsTrue result → IsCarried (carry numbers.now) small.now large.now }
+{
+    let end = large.count();
+    if numbers.len() != small.count() as usize
+        || numbers[0] != 0
+        || carried(numbers, small.count() - 1) >= end
+        || !is_rising(numbers)
+    {
+        return false;
+    }
+    for number in 0..small.count() {
+        if !keeps_reads(small, large, numbers, number) {
+            return false;
+        }
+        if !keeps_sessions(small, large, numbers, number) {
+            return false;
+        }
+        if !keeps_writes(small, large, numbers, number) {
+            return false;
+        }
+    }
+    true
+}

@@ -1,0 +1,36 @@
+//! Which transactions of each session a search backwards has taken in.
+use crate::cells::Cells;
+use crate::sessions::Sessions;
+use std::alloc::Global;
+use tcc_txn::NoMemory;
+
+/// Of each session the number below which nothing was taken in yet; for many searches, of which each has a number of its own.
+#[derive(Drop)]
+pub(crate) struct Covering {
+    turns: Cells,
+    ends: Cells,
+}
+
+impl Covering {
+    /// For so many sessions, before the first search.
+    pub(crate) fn new(alloc: Global, sessions: usize) -> Result<Covering, NoMemory> {
+        Ok(Covering {
+            turns: Cells::new(alloc, sessions, 0)?,
+            ends: Cells::new(alloc, sessions, 0)?,
+        })
+    }
+
+    /// From which number on those before this one in its session weren't taken in yet; from now on they are.
+    pub(crate) fn take(&mut self, sessions: &Sessions, number: u32, turn: u32) -> u32 {
+        let owner = sessions.owner(number);
+        let mut low = sessions.first(owner);
+        if self.turns.get(owner) == turn {
+            low = low.max(self.ends.get(owner));
+        }
+        if low < number {
+            self.turns.set(owner, turn);
+            self.ends.set(owner, number);
+        }
+        low
+    }
+}

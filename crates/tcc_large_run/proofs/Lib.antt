@@ -1,0 +1,4 @@
+pub mod Copied
+pub mod Outcomes
+pub mod Runs
+pub mod Sent

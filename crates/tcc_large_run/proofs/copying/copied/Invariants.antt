@@ -1,0 +1,6 @@
+use Rattle.std.proofs.Common.{◌≡◌, take}
+use Rattle.tcc_large_run.proofs.copying.copied.Given as goal
+
+-- the copies so far
+abbrev pub invariant-loop-transaction : goal.invariant-loop-transaction
+invariant-loop-transaction l = l.copy.items ≡ take l.transaction-index l.transactions

@@ -1,0 +1,4 @@
+-- What contracts of public calls cite:
+pub mod LargeRuns
+-- What serves proofs alone:
+pub mod Stages

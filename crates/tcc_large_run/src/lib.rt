@@ -1,0 +1,10 @@
+//! Runs of `tcc explain --large` from bytes to bytes: what is written for records of up to the large limits, and the statuses
+//! that the runs end with. Nothing here knows of command lines or files.
+#![tactic(auto)]
+
+mod copying;
+mod outcome;
+mod running;
+mod slicing;
+
+pub use running::run_large;

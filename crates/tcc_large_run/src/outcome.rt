@@ -1,0 +1,169 @@
+//! What is said of a snapshot: what is known of its history, or all its read faults.
+ghost use Rattle.std.specs.Prelude.{◌≡◌, ◌<◌, ◌≤◌, ℕ, IfErr, IfOk, IfSome, OnOk};
+ghost use Rattle.std.specs.Io.KnownBytes.{Appends};
+ghost use Rattle.tcc_txn.specs.Finished.{KeepsLimits};
+ghost use Rattle.tcc_answer.specs.declared.answer.Answer.TheVariants as answer;
+ghost use Rattle.tcc_print.specs.Printed.{EndsIn};
+ghost use Rattle.tcc_print.specs.declared.status.Status.TheVariants as status;
+ghost use Rattle.tcc_large_run.specs.LargeRuns.{bare_order};
+ghost use Rattle.tcc_large_run.specs.Stages.{IsOutcome, outcome_of, outcome_status, outcome_text};
+
+use crate::copying::small_of;
+use std::alloc::Global;
+use std::io::Write;
+use std::thread::Threads;
+use tcc_answer::{Answer, Commit, Labels};
+use tcc_cert::{Numbers, Table};
+use tcc_explain::{ExplainFault, Gate, explain};
+use tcc_graph::{LargeGraph, Level, Link};
+use tcc_large::{Decision, LargeAnswer, explain_large};
+use tcc_print::large::{send_inconsistent, send_unproved};
+use tcc_print::notes::note_reads_among;
+use tcc_print::printing::{send_answer, send_unresolved};
+use tcc_print::status::answer_status;
+use tcc_print::{Options, Status};
+use tcc_reads::{ReadFault, ResolveFault};
+use tcc_txn::{LargeSnapshot, NoMemory, Snapshot};
+
+/// What is said of a snapshot.
+#[derive(Drop)]
+pub(crate) enum Outcome {
+    /// All its read faults.
+    Unresolved(Vec<ReadFault>),
+    /// Within the small limits its first answer; past them its first commit order, as an answer without clocks.
+    Answered(Answer),
+    /// Past the small limits: a cycle, which needn't be a least one, and the names of the transactions.
+    Cycle { labels: Labels, links: Vec<Link> },
+    /// Past the small limits: that there is a cycle. It has so many transactions, without `init`, and sessions.
+    Inconsistent { transactions: u32, sessions: usize },
+}
+
+/// The order of a large history as an answer without clocks.
+fn order_answer(
+    alloc: Global,
+    graph: &LargeGraph,
+    level: Level,
+    order: Vec<u32>,
+) -> Result<Answer, NoMemory>
+    ensures { IfOk result (λ a. a ≡ answer.Commit (bare_order level graph.now order.items)) }
+{
+    let labels = Labels::of_large(alloc, graph)?;
+    let sessions = graph.sessions().len() as u32;
+    let clocks = Table::new(Vec::new(alloc));
+    Ok(Answer::Commit(Commit::new(level, Numbers::new(order), sessions, clocks, labels)))
+}
+
+impl Outcome {
+    /// What is said of a small snapshot.
+    fn of_small<G: Gate>(
+        rt: &(impl Threads + Sync),
+        alloc: Global,
+        snapshot: &Snapshot,
+        options: Options,
+        gate: &G,
+    ) -> Result<Outcome, NoMemory>
+        requires workers { (0 < options.workers) × (options.workers ≤ 32) }
+        requires small { KeepsLimits snapshot.now }
+        ensures { IfOk result (IsOutcome options.level snapshot.now) }
+    {
+        match explain(rt, alloc, snapshot, options.level, options.workers, gate) {
+            Ok(answer) => Ok(Outcome::Answered(answer)),
+            Err(ExplainFault::Reads(faults)) => Ok(Outcome::Unresolved(faults)),
+            Err(ExplainFault::NoMemory) => Err(NoMemory),
+        }
+    }
+
+    /// What is said of a history by what is decided of it.
+    fn of_decision(alloc: Global, level: Level, answer: LargeAnswer) -> Result<Outcome, NoMemory>
+        ensures { IfOk result (λ outcome. outcome ≡ outcome_of level answer.graph answer.decision) }
+    {
+        let LargeAnswer { graph, decision } = answer;
+        match decision {
+            Decision::Order(order) => {
+                Ok(Outcome::Answered(order_answer(alloc, &graph, level, order)?))
+            }
+            Decision::Cycle(links) => {
+                let labels = Labels::of_large(alloc, &graph)?;
+                Ok(Outcome::Cycle { labels, links })
+            }
+            Decision::Inconsistent => Ok(Outcome::Inconsistent {
+                transactions: graph.count() - 1,
+                sessions: graph.sessions().len(),
+            }),
+        }
+    }
+
+    /// What is to be said of a snapshot at the level; a small one is searched by so many workers.
+    pub(crate) fn of<G: Gate>(
+        rt: &(impl Threads + Sync),
+        alloc: Global,
+        snapshot: &LargeSnapshot,
+        options: Options,
+        gate: &G,
+    ) -> Result<Outcome, NoMemory>
+        requires workers { (0 < options.workers) × (options.workers ≤ 32) }
+        ensures { IfOk result (IsOutcome options.level snapshot.now) }
+    {
+        if let Some(small) = small_of(alloc, snapshot)? {
+            return Outcome::of_small(rt, alloc, &small, options, gate);
+        }
+        match explain_large(alloc, snapshot, options.level) {
+            Ok(answer) => Outcome::of_decision(alloc, options.level, answer),
+            Err(ResolveFault::Reads(faults)) => Ok(Outcome::Unresolved(faults)),
+            Err(ResolveFault::NoMemory) => Err(NoMemory),
+        }
+    }
+
+    /// Writes it as text or as a line of JSON; else the run ends with this number.
+    pub(crate) fn send<W: Write>(&self, alloc: Global, json: bool, out: &mut W) -> Result<(), u8>
+        ensures whole { OnOk result (Appends (W.contents out.old) (W.contents out.new) (outcome_text json self.now)) }
+        ensures ended { IfErr result (EndsIn json (W.contents out.old) (W.contents out.new) (outcome_text json self.now)) }
+    {
+        match self {
+            Outcome::Unresolved(faults) => send_unresolved(alloc, faults, json, out),
+            Outcome::Answered(answer) => send_answer(alloc, answer, json, out),
+            Outcome::Cycle { labels, links } => send_unproved(alloc, labels, links, json, out),
+            Outcome::Inconsistent {
+                transactions,
+                sessions,
+            } => send_inconsistent(alloc, *transactions, *sessions, json, out),
+        }
+    }
+
+    /// Notes of the first read faults which write each of them is about.
+    pub(crate) fn note<N: Write>(&self, alloc: Global, snapshot: &LargeSnapshot, notes: &mut N) {
+        if let Outcome::Unresolved(faults) = self {
+            note_reads_among(alloc, snapshot.parts(), faults, notes);
+        }
+    }
+
+    /// How a run ends whose last answer this is, where so many transactions are required of an order.
+    pub(crate) fn status(&self, required: u32) -> Status
+        ensures { result ≡ outcome_status required self.now }
+    {
+        match self {
+            Outcome::Unresolved(_) => Status::ReadFaults,
+            Outcome::Answered(answer) => answer_status(answer, required),
+            Outcome::Cycle { .. } | Outcome::Inconsistent { .. } => Status::Anomaly,
+        }
+    }
+
+    /// The links of the cycle, where it has one.
+    pub(crate) fn links(&self) -> Option<&[Link]>
+        ensures { IfSome result (λ _. (required : ℕ) → outcome_status required self.now ≡ status.Anomaly) }
+    {
+        match self {
+            Outcome::Answered(Answer::Anomaly(anomaly)) => Some(anomaly.links()),
+            Outcome::Cycle { links, .. } => Some(links),
+            _ => None,
+        }
+    }
+
+    /// The answer, where it is one.
+    pub(crate) fn into_answer(self) -> Option<Answer> {
+        match self {
+            Outcome::Answered(answer) => Some(answer),
+            _ => None,
+        }
+    }
+}

@@ -1,0 +1,280 @@
+//! From the bytes of records to their answers: at each seal, and at the end.
+ghost use Rattle.std.specs.Prelude.{◌≡◌, ◌≢◌, ◌<◌, ◌≤◌, ℕ, List, [], true, false, None, Ok, IfSome, MatchResult, option_map};
+ghost use Rattle.tcc_rows.specs.Ahead.{fault_met};
+ghost use Rattle.tcc_txn.specs.Finished.{transaction_count};
+ghost use Rattle.tcc_rows.specs.Reached.{IsWithin};
+ghost use Rattle.tcc_rows.specs.Recordings.{IsLargeRecording};
+ghost use Rattle.tcc_print.specs.Halts.{by_row};
+ghost use Rattle.tcc_print.specs.Printed.{PrintsOrMemory, halted};
+ghost use Rattle.tcc_print.specs.Statuses.{halt_status};
+ghost use Rattle.tcc_large_run.specs.LargeRuns.{IsLargeRun, answers_of, records_of};
+ghost use Rattle.tcc_large_run.specs.Stages.{AllAnswered, Concludes, EndsAnswering, EndsEarly, SaysLast, SendsSlice, WritesSlice, outcome_said};
+
+use crate::copying::transaction_count;
+use crate::outcome::Outcome;
+use crate::slicing::slice_text;
+use std::alloc::Global;
+use std::io::{Read, Write};
+use std::thread::Threads;
+use tcc_cert::sending::send;
+use tcc_explain::Gate;
+use tcc_graph::Link;
+use tcc_print::notes::{note_last, note_no_slice, note_row_within};
+use tcc_print::printing::{print_device, print_halt, print_memory};
+use tcc_print::{Halt, Options};
+use tcc_rows::{LargeRecording, Moment, RowFault};
+use tcc_txn::{LargeSnapshot, Limits, NoMemory};
+
+/// What a run said last.
+#[derive(Drop)]
+struct Last {
+    outcome: Outcome,
+    /// How many transactions it was said for.
+    transactions: usize,
+}
+
+/// Says what is to be said of the snapshot, as text or as a line of JSON, and keeps it; else the run ends with this number.
+fn say<W: Write, N: Write, G: Gate>(
+    rt: &(impl Threads + Sync),
+    alloc: Global,
+    snapshot: &LargeSnapshot,
+    options: Options,
+    gate: &G,
+    out: &mut W,
+    notes: &mut N,
+) -> Result<Last, u8>
+    requires workers { (0 < options.workers) × (options.workers ≤ 32) }
+    ensures { MatchResult result (SaysLast options snapshot.now (W.contents out.old) (W.contents out.new))
+        (EndsAnswering options snapshot.now (W.contents out.old) (W.contents out.new)) }
+{
+    let outcome = match Outcome::of(rt, alloc, snapshot, options, gate) {
+        Ok(outcome) => outcome,
+        Err(NoMemory) => return Err(print_memory(out, options.json)),
+    };
+    outcome.send(alloc, options.json, out)?;
+    outcome.note(alloc, snapshot, notes);
+    Ok(Last {
+        outcome,
+        transactions: transaction_count(snapshot),
+    })
+}
+
+/// Says at the end what is to be said of the snapshot, unless it was said last, and keeps it; else the run ends with this
+/// number.
+fn say_last<W: Write, N: Write, G: Gate>(
+    rt: &(impl Threads + Sync),
+    alloc: Global,
+    snapshot: &LargeSnapshot,
+    last: Option<Last>,
+    options: Options,
+    gate: &G,
+    out: &mut W,
+    notes: &mut N,
+) -> Result<Last, u8>
+    requires workers { (0 < options.workers) × (options.workers ≤ 32) }
+    ensures said { IfSome last (λ last. last.transactions ≡ transaction_count snapshot.now → (W.contents out.new ≡ W.contents out.old)
+        × (result ≡ Ok last)) }
+    ensures due { IfSome last (λ last. last.transactions ≢ transaction_count snapshot.now)
+        → MatchResult result (SaysLast options snapshot.now (W.contents out.old) (W.contents out.new))
+        (EndsAnswering options snapshot.now (W.contents out.old) (W.contents out.new)) }
+{
+    if let Some(last) = last {
+        if last.transactions == transaction_count(snapshot) {
+            return Ok(last);
+        }
+    }
+    say(rt, alloc, snapshot, options, gate, out, notes)
+}
+
+/// Writes why the run ends by the fault of a record, notes what to mend, and gives the number that the run ends with.
+fn stop<W: Write, N: Write>(
+    alloc: Global,
+    fault: RowFault,
+    json: bool,
+    out: &mut W,
+    notes: &mut N,
+) -> u8
+    ensures { PrintsOrMemory json (W.contents out.old) (W.contents out.new) (halted json (by_row fault)) (halt_status (by_row fault)) result }
+{
+    note_row_within(alloc, Limits::Large, &fault, &[], notes);
+    print_halt(alloc, &Halt::from(fault), json, out)
+}
+
+/// Writes the answers at the seals that are still to come and the one at the end, if it is due, and gives what was said last;
+/// or writes what ends the run before, and gives the number that it ends with.
+fn answer_all<R: Read + Drop, W: Write, N: Write, G: Gate>(
+    rt: &(impl Threads + Sync),
+    alloc: Global,
+    recording: &mut LargeRecording<R>,
+    options: Options,
+    gate: &G,
+    out: &mut W,
+    notes: &mut N,
+) -> Result<Last, u8>
+    requires workers { (0 < options.workers) × (options.workers ≤ 32) }
+    ensures { (bytes : List ℕ) → IsLargeRecording R.remaining recording.old [] (answers_of bytes) → IsWithin R.remaining recording.old.rows (records_of bytes)
+        → fault_met recording.old.rows ≡ None
+        → MatchResult result (AllAnswered options bytes (W.contents out.old) (W.contents out.new))
+        (EndsEarly options bytes (W.contents out.old) (W.contents out.new)) }
+{
+    let mut last: Option<Last> = None;
+    'moments: for _turn in 0..u64::MAX {
+        match recording.advance(alloc) {
+            Ok(Moment::Seal) => {
+                // One answer is held at a time.
+                drop(last);
+                let snapshot = recording.snapshot();
+                let said = say(rt, alloc, snapshot, options, gate, out, notes)?;
+                last = Some(said);
+            }
+            Ok(Moment::End) => {
+                return say_last(
+                    rt,
+                    alloc,
+                    recording.snapshot(),
+                    last,
+                    options,
+                    gate,
+                    out,
+                    notes,
+                );
+            }
+            Err(fault) => return Err(stop(alloc, fault, options.json, out, notes)),
+        }
+    }
+    // There are not so many seals.
+    Err(print_memory(out, options.json))
+}
+
+/// Writes the slice of the anomaly, if a file is given for it and it is within the small limits; else the run ends with this
+/// number.
+fn send_slice<W: Write, S: Write, N: Write>(
+    alloc: Global,
+    snapshot: &LargeSnapshot,
+    links: &[Link],
+    file: &mut S,
+    options: Options,
+    out: &mut W,
+    notes: &mut N,
+) -> Result<(), u8>
+    ensures { SendsSlice options result (W.contents out.old) (W.contents out.new) (S.contents file.old) (S.contents file.new) }
+{
+    match slice_text(alloc, snapshot, options.level, links) {
+        Ok(Some(text)) => match send(file, &text) {
+            Ok(()) => Ok(()),
+            Err(_) => Err(print_device(out, options.json)),
+        },
+        Ok(None) => {
+            note_no_slice(alloc, notes);
+            Ok(())
+        }
+        Err(NoMemory) => Err(print_memory(out, options.json)),
+    }
+}
+
+/// Writes the slice of what was said, if that is an anomaly and a file is given for it; else the run ends with this number.
+fn write_slice<W: Write, S: Write, N: Write>(
+    alloc: Global,
+    snapshot: &LargeSnapshot,
+    outcome: &Outcome,
+    slice: &mut Option<S>,
+    options: Options,
+    out: &mut W,
+    notes: &mut N,
+) -> Result<(), u8>
+    ensures { WritesSlice options (outcome_said options outcome.now) result (W.contents out.old) (W.contents out.new) (option_map S.contents slice.old)
+        (option_map S.contents slice.new) }
+{
+    let Some(links) = outcome.links() else {
+        return Ok(());
+    };
+    match slice {
+        Some(file) => send_slice(alloc, snapshot, links, file, options, out, notes),
+        None => Ok(()),
+    }
+}
+
+/// Writes the slice of what was said last, if that is an anomaly and a file is given for it, and gives the number that the run
+/// ends with. Where an order has fewer transactions than are required, this is noted.
+fn conclude<W: Write, S: Write, N: Write>(
+    alloc: Global,
+    snapshot: &LargeSnapshot,
+    last: Last,
+    slice: &mut Option<S>,
+    options: Options,
+    out: &mut W,
+    notes: &mut N,
+) -> u8
+    ensures { Concludes options (outcome_said options last.outcome) (W.contents out.old) (W.contents out.new) (option_map S.contents slice.old)
+        (option_map S.contents slice.new) result }
+{
+    let status = last.outcome.status(options.required);
+    match write_slice(alloc, snapshot, &last.outcome, slice, options, out, notes) {
+        Ok(()) => {
+            note_last(alloc, &last.outcome.into_answer(), options.required, notes);
+            status.code()
+        }
+        Err(code) => code,
+    }
+}
+
+/// The run of a recording that has just begun.
+fn run_recording<R: Read + Drop, W: Write, S: Write, N: Write, G: Gate>(
+    rt: &(impl Threads + Sync),
+    alloc: Global,
+    recording: &mut LargeRecording<R>,
+    out: &mut W,
+    slice: &mut Option<S>,
+    notes: &mut N,
+    options: Options,
+    gate: &G,
+) -> u8
+    requires workers { (0 < options.workers) × (options.workers ≤ 32) }
+    ensures { (bytes : List ℕ) → IsLargeRecording R.remaining recording.old [] (answers_of bytes) → IsWithin R.remaining recording.old.rows (records_of bytes)
+        → fault_met recording.old.rows ≡ None
+        → IsLargeRun options bytes (W.contents out.old) (W.contents out.new) (option_map S.contents slice.old) (option_map S.contents slice.new) result }
+{
+    match answer_all(rt, alloc, recording, options, gate, out, notes) {
+        Ok(last) => conclude(
+            alloc,
+            recording.snapshot(),
+            last,
+            slice,
+            options,
+            out,
+            notes,
+        ),
+        Err(code) => code,
+    }
+}
+
+/// Writes an answer at the level for what was finished before each seal of the bytes of the reader, and before their end, as
+/// text or as lines of JSON, and gives the number that the run ends with. Records are taken up to the large limits; where what
+/// was finished is within the small ones, the answer is the same as without them, and the same for every number of workers, 1 to
+/// 32; the gate is called before each start that they search. Where the last answer is an anomaly, the records of a slice go into
+/// the file, if one is given: of a small history that has an anomaly of this one, where there is one within the small limits.
+/// What a person may want to know besides, who reads the standard error, goes to the notes.
+///
+/// The file is empty before: nothing goes into it where the last answer is no anomaly, or where the run ends by a fault.
+pub fn run_large<R: Read + Drop, W: Write, S: Write, N: Write, G: Gate>(
+    rt: &(impl Threads + Sync),
+    alloc: Global,
+    reader: R,
+    out: &mut W,
+    slice: &mut Option<S>,
+    notes: &mut N,
+    options: Options,
+    gate: &G,
+) -> u8
+    requires workers { (0 < options.workers) × (options.workers ≤ 32) }
+    ensures { IfSome (R.remaining reader) (λ bytes. IsLargeRun options bytes (W.contents out.old) (W.contents out.new) (option_map S.contents slice.old)
+        (option_map S.contents slice.new) result) }
+{
+    match LargeRecording::new(alloc, reader) {
+        Ok(recording) => {
+            let mut recording = recording;
+            run_recording(rt, alloc, &mut recording, out, slice, notes, options, gate)
+        }
+        Err(NoMemory) => print_memory(out, options.json),
+    }
+}

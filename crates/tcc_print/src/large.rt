@@ -1,0 +1,182 @@
+//! What is printed of a large history that has no commit order, each text made as a whole before a byte of it goes out.
+ghost use Rattle.std.specs.Prelude.{◌≡◌, IfErr, IfOk, OnOk};
+ghost use Rattle.std.specs.Io.KnownBytes.{Appends};
+ghost use Rattle.serde_json.specs.View.{view};
+ghost use Rattle.tcc_graph.specs.Links.{cost, link_cost};
+ghost use Rattle.tcc_answer.specs.Json.{json_line};
+ghost use Rattle.tcc_print.specs.Large.{inconsistent, inconsistent_json, inconsistent_text, unproved, unproved_first, unproved_json, unproved_text};
+ghost use Rattle.tcc_print.specs.Printed.{EndsIn};
+
+use crate::json::line;
+use crate::printing::send_made;
+use crate::texts::joined;
+use serde_json::{Value, json};
+use std::alloc::{AllocError, Global};
+use std::io::Write;
+use tcc_answer::{Labels, links_json, push_links, shape_of, shape_word};
+use tcc_graph::Link;
+use tcc_txn::NoMemory;
+
+/// How many steps a link has.
+fn link_steps(link: &Link) -> usize
+    ensures { result ≡ link_cost link.now }
+{
+    match link {
+        Link::Session { .. } | Link::Reads { .. } => 1,
+        Link::Derived { walk, .. } => walk.steps().len() + 1,
+    }
+}
+
+/// How many steps the links have together.
+fn steps_of(links: &[Link]) -> Result<usize, NoMemory>
+    ensures { IfOk result (λ steps. steps ≡ cost links.now) }
+{
+    let mut steps: usize = 0;
+    for link in links {
+        // More steps are held by no memory.
+        let Some(more) = steps.checked_add(link_steps(link)) else {
+            return Err(NoMemory);
+        };
+        steps = more;
+    }
+    Ok(steps)
+}
+
+/// The first line of a cycle of so many steps that needn't be a least one.
+fn unproved_first(alloc: Global, links: &[Link], steps: usize) -> Result<Vec<u8>, NoMemory>
+    requires { steps ≡ cost links.now }
+    ensures { IfOk result (λ text. text.items ≡ unproved_first links.now) }
+{
+    let steps = steps.to_string(alloc)?;
+    joined(
+        alloc,
+        &[
+            b"anomaly: ",
+            steps.as_bytes(),
+            b" steps, ",
+            shape_word(shape_of(links)).as_bytes(),
+            b", least not proved\n",
+        ],
+    )
+}
+
+/// The text of a cycle of so many steps that needn't be a least one.
+fn unproved_text(
+    alloc: Global,
+    labels: &Labels,
+    links: &[Link],
+    steps: usize,
+) -> Result<Vec<u8>, NoMemory>
+    requires { steps ≡ cost links.now }
+    ensures { IfOk result (λ text. text.items ≡ unproved_text labels.now links.now) }
+{
+    let mut text = unproved_first(alloc, links, steps)?;
+    push_links(&mut text, labels, links)?;
+    Ok(text)
+}
+
+fn unproved_json(
+    alloc: Global,
+    labels: &Labels,
+    links: &[Link],
+    steps: usize,
+) -> Result<Value, AllocError>
+    requires { steps ≡ cost links.now }
+    ensures { IfOk result (λ v. view v ≡ unproved_json labels.now links.now) }
+{
+    let cycle = links_json(alloc, labels, links)?;
+    let shape = shape_word(shape_of(links));
+    json!(in alloc; {
+        "answer": "anomaly",
+        "cycle": cycle,
+        "least": false,
+        "shape": shape,
+        "steps": steps
+    })
+}
+
+/// The text of a cycle that needn't be a least one, or its line of JSON.
+fn unproved_made(
+    alloc: Global,
+    labels: &Labels,
+    links: &[Link],
+    json: bool,
+) -> Result<Vec<u8>, NoMemory>
+    ensures { IfOk result (λ text. text.items ≡ unproved json labels.now links.now) }
+{
+    let steps = steps_of(links)?;
+    if json {
+        line(alloc, &unproved_json(alloc, labels, links, steps)?)
+    } else {
+        unproved_text(alloc, labels, links, steps)
+    }
+}
+
+/// The text that says that there is a cycle, and shows none.
+fn inconsistent_text(alloc: Global, transactions: u32, sessions: usize) -> Result<Vec<u8>, NoMemory>
+    ensures { IfOk result (λ text. text.items ≡ inconsistent_text transactions sessions) }
+{
+    let transactions = transactions.to_string(alloc)?;
+    let sessions = sessions.to_string(alloc)?;
+    joined(
+        alloc,
+        &[
+            b"inconsistent: ",
+            transactions.as_bytes(),
+            b" transactions, ",
+            sessions.as_bytes(),
+            b" sessions\n",
+        ],
+    )
+}
+
+fn inconsistent_json(alloc: Global, transactions: u32, sessions: usize) -> Result<Value, AllocError>
+    ensures { IfOk result (λ v. view v ≡ inconsistent_json transactions sessions) }
+{
+    json!(in alloc; {
+        "answer": "inconsistent",
+        "sessions": sessions,
+        "transactions": transactions
+    })
+}
+
+/// The line that says that there is a cycle, and shows none.
+fn inconsistent_line(alloc: Global, transactions: u32, sessions: usize) -> Result<Vec<u8>, NoMemory>
+    ensures { IfOk result (λ text. text.items ≡ json_line (inconsistent_json transactions sessions)) }
+{
+    line(alloc, &inconsistent_json(alloc, transactions, sessions)?)
+}
+
+/// Writes a cycle that needn't be a least one, as text or as a line of JSON; else the run ends with this number.
+pub fn send_unproved<W: Write>(
+    alloc: Global,
+    labels: &Labels,
+    links: &[Link],
+    json: bool,
+    out: &mut W,
+) -> Result<(), u8>
+    ensures whole { OnOk result (Appends (W.contents out.old) (W.contents out.new) (unproved json labels.now links.now)) }
+    ensures ended { IfErr result (EndsIn json (W.contents out.old) (W.contents out.new) (unproved json labels.now links.now)) }
+{
+    send_made(unproved_made(alloc, labels, links, json), json, out)
+}
+
+/// Writes that a history of so many transactions, without `init`, and sessions has a cycle, as text or as a line of JSON; else
+/// the run ends with this number.
+pub fn send_inconsistent<W: Write>(
+    alloc: Global,
+    transactions: u32,
+    sessions: usize,
+    json: bool,
+    out: &mut W,
+) -> Result<(), u8>
+    ensures whole { OnOk result (Appends (W.contents out.old) (W.contents out.new) (inconsistent json transactions sessions)) }
+    ensures ended { IfErr result (EndsIn json (W.contents out.old) (W.contents out.new) (inconsistent json transactions sessions)) }
+{
+    let made = if json {
+        inconsistent_line(alloc, transactions, sessions)
+    } else {
+        inconsistent_text(alloc, transactions, sessions)
+    };
+    send_made(made, json, out)
+}

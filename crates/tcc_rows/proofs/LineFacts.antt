@@ -1,0 +1,197 @@
+-- The fields of a record, and the number that a field writes.
+use Rattle.std.proofs.Common.{◌≡◌, ◌≢◌, ℕ, zero, suc, ◌<◌, ◌^◌, Bool, true, false, List, [], ◌∷◌}
+use Rattle.std.proofs.Common.{length, get_or, refl, sym, ap, rules, arith, cond, nat_lt, inl, inr}
+use Rattle.std.proofs.Common.{◌∙◌}
+use Rattle.std.specs.Prelude.{IsSome, option_map, Option, None, Some, Result, Ok, Err, IsUtf8, ◌&&◌, ◌==◌, is_some, codes}
+use Rattle.std.specs.Result.{result_ok, OkIff}
+use Rattle.std.specs.Str.{all_ascii_digits}
+use Rattle.std.specs.Str.Parse.{ParsesUnsigned, digits_value}
+use Rattle.std.proofs.lemmas.Bool.Decides.{nat_tests}
+use Rattle.std.proofs.lemmas.Str.{IsUtf8-from_ascii}
+use Rattle.std.proofs.lemmas.Str.Parse.{numerals_by_value, parse_plain, tells_all_ascii_digits}
+use Rattle.csv.specs.Records.{field_at}
+use Rattle.std.specs.Option.{option_map_or}
+use Rattle.tcc_txn.specs.Bytes.{same}
+use Rattle.tcc_rows.specs.Lines.{Record, access_of, accessed, digits_of, in_session, line_of, op_of, session_of, value_of}
+use Rattle.tcc_txn.specs.Names.{name_fault}
+use Rattle.tcc_rows.specs.Standing.{PassesLine, PassesOperation, writes_no_zero}
+use Rattle.tcc_txn.specs.Transactions.{writes_zero}
+use Rattle.tcc_txn.specs.declared.limits.Limits.{Limits}
+use Rattle.tcc_txn.specs.declared.op.Op.{Op}
+use Rattle.tcc_txn.specs.declared.op.Op.TheVariants.{Get, Put}
+use Rattle.tcc_rows.specs.declared.rows.RowFaultKind.{RowFaultKind}
+use Rattle.tcc_rows.specs.declared.rows.line.Line.{Line}
+use Rattle.tcc_rows.specs.declared.rows.line.Line.TheVariants as line
+use Rattle.tcc_rows.specs.declared.rows.RowFaultKind.TheVariants as kind
+use Rattle.tcc_rows.specs.declared.rows.progress.Progress.{Progress}
+
+-- digits are text
+ascii-digits : (bytes : List ℕ) → all_ascii_digits bytes ≡ true → (i : ℕ) → get_or bytes i 0 < 128
+ascii-digits [] e i = omega arith
+ascii-digits (c ∷ cs) e zero = let here = (tells_all_ascii_digits.parts c cs e).0 in omega (arith, here)
+ascii-digits (c ∷ cs) e (suc i) = ascii-digits cs (tells_all_ascii_digits.parts c cs e).1 i
+
+digits-by : (a b : Bool) (n : ℕ) → (a ≡ true → b ≡ true → ⊥) → cond (a && b) (Some n) None ≡ None
+digits-by true true n h = absurd (h refl refl)
+digits-by true false n h = refl
+digits-by false b n h = refl
+
+-- what is no text writes no number
+pub digits_of-no_text : (bytes : List ℕ) → ¬ (IsUtf8 bytes) → digits_of bytes ≡ None
+digits_of-no_text [] not_text = refl
+digits_of-no_text (c ∷ cs) not_text =
+    digits-by _ _ _ (λ digits _. not_text (IsUtf8-from_ascii (c ∷ cs) (ascii-digits (c ∷ cs) digits)))
+
+below : (m n : ℕ) → nat_lt m n ≡ true → m < n
+below m n e = grind (arith, nat_tests)
+
+-- what is parsed is the number that the digits write
+pub digits_of-parsed : {E : Type 0} (bytes : List ℕ) (r : Result ℕ E) → ParsesUnsigned 64 10 bytes r → get_or bytes 0 0 ≢ 43 → result_ok r ≡ digits_of bytes
+digits_of-parsed bytes r parsed unsigned = by bytes r (parse_plain (numerals_by_value _ tells_all_ascii_digits) 64 bytes r parsed unsigned)
+  where
+    by : {E : Type 0} (bytes : List ℕ) (r : Result ℕ E) → OkIff r ((all_ascii_digits bytes ≡ true) × (0 < length bytes) × (digits_value 10 bytes < 2 ^ 64))
+        (digits_value 10 bytes) → result_ok r ≡ digits_of bytes
+    by [] (Ok x) is = absurd (omega (arith, is.0.1))
+    by (c ∷ cs) (Ok x) is =
+        let small : nat_lt (digits_value 10 (c ∷ cs)) (2 ^ 64) ≡ true = grind (arith, nat_tests, is.0.2) in
+        rw (is.0.0, small) (ap Some is.1)
+    by [] (Err e) is = refl
+    by (c ∷ cs) (Err e) is =
+        sym (digits-by _ _ _ (λ digits small. is (digits, omega arith, below _ _ small)))
+
+-- each place of a record has a field
+pub field-there : {A : Type 0} (f : A → List ℕ) (o : Option A) (fields : Record) (place : ℕ) → place < length fields
+    → option_map f o ≡ field_at fields place → IsSome o
+unfolding field_at
+field-there f (Some a) fields place within e = search rules
+field-there f None [] place within e = absurd (omega arith)
+field-there f None (field ∷ fields) zero within e = cc e
+field-there f None (field ∷ fields) (suc place) within e = field-there f None fields place (omega arith) e
+
+-- a record of one field, of two and of four
+pub one-field : (fields : Record) (a : List ℕ) → length fields ≡ 1 → Some a ≡ field_at fields 0 → a ∷ [] ≡ fields
+unfolding field_at
+one-field [] a count e = absurd (omega arith)
+one-field (f ∷ []) a count e = cc e
+one-field (f ∷ g ∷ more) a count e = absurd (omega arith)
+
+pub two-fields : (fields : Record) (a b : List ℕ) → length fields ≡ 2 → Some a ≡ field_at fields 0 → Some b ≡ field_at fields 1 → a ∷ b ∷ [] ≡ fields
+unfolding field_at
+two-fields [] a b count d e = absurd (omega arith)
+two-fields (f ∷ []) a b count d e = absurd (omega arith)
+two-fields (f ∷ g ∷ []) a b count d e = cc (d, e)
+two-fields (f ∷ g ∷ h ∷ more) a b count d e = absurd (omega arith)
+
+pub four-fields : (fields : Record) (a b c d : List ℕ) → length fields ≡ 4
+    → Some a ≡ field_at fields 0 → Some b ≡ field_at fields 1 → Some c ≡ field_at fields 2 → Some d ≡ field_at fields 3 → a ∷ b ∷ c ∷ d ∷ [] ≡ fields
+unfolding field_at
+four-fields [] a b c d count e0 e1 e2 e3 = absurd (omega arith)
+four-fields (f ∷ []) a b c d count e0 e1 e2 e3 = absurd (omega arith)
+four-fields (f ∷ g ∷ []) a b c d count e0 e1 e2 e3 = absurd (omega arith)
+four-fields (f ∷ g ∷ h ∷ []) a b c d count e0 e1 e2 e3 = absurd (omega arith)
+four-fields (f ∷ g ∷ h ∷ i ∷ []) a b c d count e0 e1 e2 e3 = cc (e0, e1, e2, e3)
+four-fields (f ∷ g ∷ h ∷ i ∷ j ∷ more) a b c d count e0 e1 e2 e3 = absurd (omega arith)
+
+-- no lawful operation writes 0
+accessed-no_zero : (writes : Bool) (key : List ℕ) (value : ℕ) (op : Op) → accessed writes key value ≡ Ok op → writes_zero op ≡ false
+accessed-no_zero false key value op e = let at : Get key value ≡ op = cc e in rw (← at) refl
+accessed-no_zero true key value op e = by (value == 0) refl e
+  where
+    by : (b : Bool) → (value == 0) ≡ b → cond b (Err kind.WriteOfZero) (Ok (Put key value)) ≡ Ok op → writes_zero op ≡ false
+    by true is_zero e = cc e
+    by false is_zero e = let at : Put key value ≡ op = cc e in rw (← at) is_zero
+
+op_of-no_zero : (writes : Bool) (key value : List ℕ) (op : Op) → op_of writes key value ≡ Ok op → writes_zero op ≡ false
+op_of-no_zero writes key value op e = by (is_some (name_fault key)) (value_of value) e
+  where
+    by : (b : Bool) (o : Option ℕ) → cond b (Err kind.BadKey) (option_map_or (accessed writes key) o (Err kind.BadValue)) ≡ Ok op → writes_zero op ≡ false
+    by true o e = cc e
+    by false None e = cc e
+    by false (Some v) e = accessed-no_zero writes key v op e
+
+in_session-no_zero : (session : List ℕ) (r : Result Op RowFaultKind) (l : Line) → ((op : Op) → r ≡ Ok op → writes_zero op ≡ false)
+    → in_session session r ≡ Ok l → writes_no_zero l
+in_session-no_zero session (Ok op) l sound e = let at : line.Operation session op ≡ l = cc e in rw (← at) (sound op refl)
+in_session-no_zero session (Err k) l sound e = cc e
+
+pub line_of-no_zero : (fields : Record) (l : Line) → line_of fields ≡ Ok l → writes_no_zero l
+line_of-no_zero [] l e = cc e
+line_of-no_zero (word ∷ []) l e = by (same word (codes "seal")) e
+  where
+    by : (b : Bool) → cond b (Ok line.Seal) (Err kind.UnknownWord) ≡ Ok l → writes_no_zero l
+    by true e = let at : line.Seal ≡ l = cc e in rw (← at) tt
+    by false e = cc e
+line_of-no_zero (session ∷ word ∷ []) l e =
+    by (is_some (name_fault session)) (same word (codes "begin")) (same word (codes "commit")) (same word (codes "abort")) e
+  where
+    by : (a b c d : Bool)
+        → cond a (Err kind.BadSession)
+        (cond b (Ok (line.Begin session)) (cond c (Ok (line.Finish session true)) (cond d (Ok (line.Finish session false)) (Err kind.UnknownWord)))) ≡ Ok l
+        → writes_no_zero l
+    by true b c d e = cc e
+    by false true c d e = let at : line.Begin session ≡ l = cc e in rw (← at) tt
+    by false false true d e = let at : line.Finish session true ≡ l = cc e in rw (← at) tt
+    by false false false true e = let at : line.Finish session false ≡ l = cc e in rw (← at) tt
+    by false false false false e = cc e
+line_of-no_zero (a ∷ b ∷ c ∷ []) l e = cc e
+line_of-no_zero (session ∷ word ∷ key ∷ value ∷ []) l e =
+    by (is_some (name_fault session)) (same word (codes "r")) (same word (codes "w")) e
+  where
+    by : (a b c : Bool) → cond a (Err kind.BadSession) (cond b (in_session session (op_of false key value))
+        (cond c (in_session session (op_of true key value)) (Err kind.UnknownWord))) ≡ Ok l → writes_no_zero l
+    by true b c e = cc e
+    by false true c e = in_session-no_zero session _ l (op_of-no_zero false key value) e
+    by false false true e = in_session-no_zero session _ l (op_of-no_zero true key value) e
+    by false false false e = cc e
+line_of-no_zero (a ∷ b ∷ c ∷ d ∷ f ∷ more) l e = cc e
+
+-- the line of four fields, by what each of them is read as
+pub refused-session : (a b c d : List ℕ) (k : RowFaultKind) → session_of a ≡ Err k → line_of (a ∷ b ∷ c ∷ d ∷ []) ≡ Err k
+refused-session a b c d k e = by (is_some (name_fault a)) _ e
+  where
+    by : (n : Bool) (rest : Result Line RowFaultKind) → cond n (Err kind.BadSession) (Ok a) ≡ Err k → cond n (Err kind.BadSession) rest ≡ Err k
+    by true rest e = let same_kind : kind.BadSession ≡ k = cc e in ap Err same_kind
+    by false rest e = cc e
+
+named-session : (a s : List ℕ) → session_of a ≡ Ok s → (is_some (name_fault a) ≡ false) × (a ≡ s)
+named-session a s e = by (is_some (name_fault a)) refl e
+  where
+    by : (n : Bool) → is_some (name_fault a) ≡ n → cond n (Err kind.BadSession) (Ok a) ≡ Ok s → (is_some (name_fault a) ≡ false) × (a ≡ s)
+    by true is e = cc e
+    by false is e = (is, cc e)
+
+pub refused-word : (a b c d s : List ℕ) (k : RowFaultKind) → session_of a ≡ Ok s → access_of b ≡ Err k → line_of (a ∷ b ∷ c ∷ d ∷ []) ≡ Err k
+refused-word a b c d s k session e = let is = (named-session a s session).0 in rw is (by (same b (codes "r")) (same b (codes "w")) _ _ e)
+  where
+    by : (r w : Bool) (x y : Result Line RowFaultKind) → cond r (Ok false) (cond w (Ok true) (Err kind.UnknownWord)) ≡ Err k
+        → cond r x (cond w y (Err kind.UnknownWord)) ≡ Err k
+    by true w x y e = cc e
+    by false true x y e = cc e
+    by false false x y e = let same_kind : kind.UnknownWord ≡ k = cc e in ap Err same_kind
+
+accessed-line : (a b c d s : List ℕ) (writes : Bool) → session_of a ≡ Ok s → access_of b ≡ Ok writes
+    → line_of (a ∷ b ∷ c ∷ d ∷ []) ≡ in_session s (op_of writes c d)
+accessed-line a b c d s writes session e =
+    let is = named-session a s session in
+    rw (is.0, ← is.1) (by (same b (codes "r")) (same b (codes "w")) e)
+  where
+    by : (r w : Bool) → cond r (Ok false) (cond w (Ok true) (Err kind.UnknownWord)) ≡ Ok writes
+        → cond r (in_session a (op_of false c d)) (cond w (in_session a (op_of true c d)) (Err kind.UnknownWord)) ≡ in_session a (op_of writes c d)
+    by true w e = let at : false ≡ writes = cc e in ap (λ it. in_session a (op_of it c d)) at
+    by false true e = let at : true ≡ writes = cc e in ap (λ it. in_session a (op_of it c d)) at
+    by false false e = cc e
+
+pub refused-op : (a b c d s : List ℕ) (writes : Bool) (k : RowFaultKind) → session_of a ≡ Ok s → access_of b ≡ Ok writes → op_of writes c d ≡ Err k
+    → line_of (a ∷ b ∷ c ∷ d ∷ []) ≡ Err k
+refused-op a b c d s writes k session access e = accessed-line a b c d s writes session access ∙ ap (in_session s) e
+
+pub operation-line : (a b c d s : List ℕ) (writes : Bool) (op : Op) → session_of a ≡ Ok s → access_of b ≡ Ok writes → op_of writes c d ≡ Ok op
+    → line_of (a ∷ b ∷ c ∷ d ∷ []) ≡ Ok (line.Operation s op)
+operation-line a b c d s writes op session access e = accessed-line a b c d s writes session access ∙ ap (in_session s) e
+
+-- what comes of an operation, of its line
+pub operation-passes : (limits : Limits) {U : Type 0} (past : List Line) (fields : Record) (session : List ℕ) (op : Op) (result : Result U RowFaultKind) (p : Progress)
+    → line_of fields ≡ Ok (line.Operation session op) → PassesLine limits past (line.Operation session op) result p → PassesOperation limits past fields result p
+operation-passes limits past fields session op (Ok done) p lawful (free, is) = (session, op, lawful, free, is)
+operation-passes limits past fields session op (Err k) p lawful (inl fault) = inr (inl (line.Operation session op, lawful, fault))
+operation-passes limits past fields session op (Err k) p lawful (inr want) = inr (inr want)

@@ -1,0 +1,184 @@
+-- What records finish before each seal depends on the records of each session before it alone.
+use Rattle.std.proofs.Common.{◌≡◌, ℕ, zero, suc, ◌+◌, ◌≤◌, Bool, true, false, List, [], ◌∷◌, ◌++◌, filter, length, refl, sym, ap, ◌∙◌, arith}
+use Rattle.std.proofs.Common.{Option, None, Some, Result, Ok, Err, append_assoc, append-nil}
+use Rattle.tcc_rows.specs.Answers.{Answers, after_item, answers_after, answers_of, go_on, judged, records_of}
+use Rattle.tcc_rows.specs.Items.{finished_in}
+use Rattle.tcc_rows.specs.Interleaved.{AreInterleaved, AreSealedAlike, is_by, is_by_none, records_by_none, records_until}
+use Rattle.tcc_rows.specs.Lines.{Record, line_of}
+use Rattle.tcc_rows.specs.Past.{item_of, seals}
+use Rattle.tcc_rows.specs.Recordings.{items_until, seals_in}
+use Rattle.tcc_txn.specs.declared.limits.Limits.TheVariants.{Small}
+use Rattle.tcc_rows.specs.declared.rows.Item.{Item}
+use Rattle.tcc_rows.specs.declared.rows.Item.TheVariants as item
+use Rattle.tcc_rows.specs.declared.rows.RowFaultKind.{RowFaultKind}
+use Rattle.tcc_rows.specs.declared.rows.line.Line.{Line}
+use Rattle.tcc_rows.specs.declared.rows.line.Line.TheVariants as line
+use Rattle.tcc_rows.proofs.FinishedFacts.{items_in, pushed}
+use Rattle.tcc_rows.proofs.Interleaving.{finished-same, judged-line, lines_after, noted, same-lines}
+use Rattle.tcc_rows.proofs.InterleavedFaults.{interleaved-lawful, sealed-by}
+
+-- ---- one record more
+
+until-other : (fields : Record) (rest : List Record) (k : ℕ) → is_by_none fields ≡ false → records_until (fields ∷ rest) k ≡ fields ∷ records_until rest k
+until-other fields rest zero e = rw e refl
+until-other fields rest (suc k) e = rw e refl
+
+until-first : (fields : Record) (rest : List Record) → is_by_none fields ≡ true → records_until (fields ∷ rest) zero ≡ []
+until-first fields rest e = rw e refl
+
+until-later : (fields : Record) (rest : List Record) (k : ℕ) → is_by_none fields ≡ true → records_until (fields ∷ rest) (suc k) ≡ fields ∷ records_until rest k
+until-later fields rest k e = rw e refl
+
+-- ---- one line more
+
+item-other : (base : List Item) (past : List Line) (l : Line) (ahead : Answers) (k : ℕ) → seals l ≡ false
+    → base ++ items_until (after_item (item_of past l) ahead).items k ≡ pushed (item_of past l) base ++ items_until ahead.items k
+item-other base past line.Seal ahead k e = cc e
+item-other base past (line.Begin session) ahead k e = refl
+item-other base past (line.Operation session op) ahead k e = refl
+item-other base past (line.Finish session committed) ahead zero e = sym (append_assoc base _ (items_until ahead.items zero))
+item-other base past (line.Finish session committed) ahead (suc k) e = sym (append_assoc base _ (items_until ahead.items (suc k)))
+
+item-first : (past : List Line) (l : Line) (ahead : Answers) → seals l ≡ true → items_until (after_item (item_of past l) ahead).items zero ≡ []
+item-first past line.Seal ahead e = refl
+item-first past (line.Begin session) ahead e = cc e
+item-first past (line.Finish session committed) ahead e = cc e
+item-first past (line.Operation session op) ahead e = cc e
+
+item-later : (base : List Item) (past : List Line) (l : Line) (ahead : Answers) (k : ℕ) → seals l ≡ true
+    → base ++ items_until (after_item (item_of past l) ahead).items (suc k) ≡ pushed (item_of past l) base ++ items_until ahead.items k
+item-later base past line.Seal ahead k e = sym (append_assoc base (item.Seal ∷ []) (items_until ahead.items k))
+item-later base past (line.Begin session) ahead k e = cc e
+item-later base past (line.Finish session committed) ahead k e = cc e
+item-later base past (line.Operation session op) ahead k e = cc e
+
+seal-other : (past : List Line) (l : Line) (ahead : Answers) → seals l ≡ false → seals_in (after_item (item_of past l) ahead).items ≡ seals_in ahead.items
+seal-other past line.Seal ahead e = cc e
+seal-other past (line.Begin session) ahead e = refl
+seal-other past (line.Finish session committed) ahead e = refl
+seal-other past (line.Operation session op) ahead e = refl
+
+seal-first : (past : List Line) (l : Line) (ahead : Answers) → seals l ≡ true
+    → seals_in (after_item (item_of past l) ahead).items ≡ item.Seal ∷ seals_in ahead.items
+seal-first past line.Seal ahead e = refl
+seal-first past (line.Begin session) ahead e = cc e
+seal-first past (line.Finish session committed) ahead e = cc e
+seal-first past (line.Operation session op) ahead e = cc e
+
+same-fault : (o : Option Item) (ahead : Answers) → (after_item o ahead).fault ≡ ahead.fault
+same-fault None ahead = refl
+same-fault (Some first) ahead = refl
+
+lines-more : (past : List Line) (fields : Record) (l : Line) (rest : List Record) → line_of fields ≡ Ok l → lines_after (l ∷ past) rest ≡ lines_after past (fields ∷ rest)
+lines-more past fields l rest is = ap (λ r. lines_after (noted r past) rest) (sym is)
+
+-- ---- the items before a seal are those of the records before it
+
+items-until : (left : List Record) (k : ℕ) (past : List Line) → (answers_after past left).fault ≡ None
+    → items_in past ++ items_until (answers_after past left).items k ≡ items_in (lines_after past (records_until left k))
+items-until [] k past free = append-nil (items_in past)
+items-until (fields ∷ rest) k past free = by (judged past fields) refl free (λ j lines. items-until rest j lines)
+  where
+    by : (r : Result Line RowFaultKind) → judged past fields ≡ r → (go_on past (λ lines. answers_after lines rest) r).fault ≡ None
+        → ((j : ℕ) (lines : List Line) → (answers_after lines rest).fault ≡ None
+        → items_in lines ++ items_until (answers_after lines rest).items j ≡ items_in (lines_after lines (records_until rest j)))
+        → items_in past ++ items_until (go_on past (λ lines. answers_after lines rest) r).items k ≡ items_in (lines_after past (records_until (fields ∷ rest) k))
+    by (Err e) is free next = cc free
+    by (Ok last) is free next = seal (is_by_none fields) refl k
+      where
+        ahead : Answers
+        ahead = answers_after (last ∷ past) rest
+
+        clean : ahead.fault ≡ None
+        clean = sym (same-fault (item_of past last) ahead) ∙ free
+
+        line : line_of fields ≡ Ok last
+        line = judged-line Small past fields last is
+
+        seal : (b : Bool) → is_by_none fields ≡ b → (j : ℕ)
+            → items_in past ++ items_until (after_item (item_of past last) ahead).items j ≡ items_in (lines_after past (records_until (fields ∷ rest) j))
+        seal false none j =
+            item-other (items_in past) past last ahead j (sealed-by fields last line ∙ none)
+            ∙ next j (last ∷ past) clean
+            ∙ ap items_in (lines-more past fields last (records_until rest j) line)
+            ∙ ap (λ records. items_in (lines_after past records)) (sym (until-other fields rest j none))
+        seal true none zero =
+            ap (λ items. items_in past ++ items) (item-first past last ahead (sealed-by fields last line ∙ none))
+            ∙ append-nil (items_in past)
+            ∙ ap (λ records. items_in (lines_after past records)) (sym (until-first fields rest none))
+        seal true none (suc j) =
+            item-later (items_in past) past last ahead j (sealed-by fields last line ∙ none)
+            ∙ next j (last ∷ past) clean
+            ∙ ap items_in (lines-more past fields last (records_until rest j) line)
+            ∙ ap (λ records. items_in (lines_after past records)) (sym (until-later fields rest j none))
+
+-- ---- the seals are those records that name no session
+
+abbrev sealed : List Record → List Item
+sealed [] = []
+sealed (fields ∷ rest) = item.Seal ∷ sealed rest
+
+first-none : (fields : Record) (rest : List Record) → is_by_none fields ≡ true → sealed (records_by_none (fields ∷ rest)) ≡ item.Seal ∷ sealed (records_by_none rest)
+first-none fields rest e = rw e refl
+
+first-other : (fields : Record) (rest : List Record) → is_by_none fields ≡ false → sealed (records_by_none (fields ∷ rest)) ≡ sealed (records_by_none rest)
+first-other fields rest e = rw e refl
+
+seals-of : (left : List Record) (past : List Line) → (answers_after past left).fault ≡ None → seals_in (answers_after past left).items ≡ sealed (records_by_none left)
+seals-of [] past free = refl
+seals-of (fields ∷ rest) past free = by (judged past fields) refl free (λ lines. seals-of rest lines)
+  where
+    by : (r : Result Line RowFaultKind) → judged past fields ≡ r → (go_on past (λ lines. answers_after lines rest) r).fault ≡ None
+        → ((lines : List Line) → (answers_after lines rest).fault ≡ None → seals_in (answers_after lines rest).items ≡ sealed (records_by_none rest))
+        → seals_in (go_on past (λ lines. answers_after lines rest) r).items ≡ sealed (records_by_none (fields ∷ rest))
+    by (Err e) is free next = cc free
+    by (Ok last) is free next = seal (is_by_none fields) refl
+      where
+        ahead : Answers
+        ahead = answers_after (last ∷ past) rest
+
+        clean : ahead.fault ≡ None
+        clean = sym (same-fault (item_of past last) ahead) ∙ free
+
+        line : line_of fields ≡ Ok last
+        line = judged-line Small past fields last is
+
+        seal : (b : Bool) → is_by_none fields ≡ b → seals_in (after_item (item_of past last) ahead).items ≡ sealed (records_by_none (fields ∷ rest))
+        seal false none =
+            seal-other past last ahead (sealed-by fields last line ∙ none) ∙ next (last ∷ past) clean ∙ sym (first-other fields rest none)
+        seal true none =
+            seal-first past last ahead (sealed-by fields last line ∙ none) ∙ ap (λ items. item.Seal ∷ items) (next (last ∷ past) clean)
+            ∙ sym (first-none fields rest none)
+
+-- ---- the law
+
+until-all : (records : List Record) (k : ℕ) → length records ≤ k → records_until records k ≡ records
+until-all [] k h = refl
+until-all (fields ∷ rest) zero h = absurd (omega arith)
+until-all (fields ∷ rest) (suc k) h = by (is_by_none fields) refl (until-all rest k (omega arith)) (until-all rest (suc k) (omega arith))
+  where
+    by : (b : Bool) → is_by_none fields ≡ b → records_until rest k ≡ rest → records_until rest (suc k) ≡ rest → records_until (fields ∷ rest) (suc k) ≡ fields ∷ rest
+    by true e one other = until-later fields rest k e ∙ ap (λ records. fields ∷ records) one
+    by false e one other = until-other fields rest (suc k) e ∙ ap (λ records. fields ∷ records) other
+
+pub alike-interleaved : (some other : List Record) → AreSealedAlike some other → AreInterleaved some other
+alike-interleaved some other alike q =
+    ap (filter (is_by q)) (sym (until-all some (length some + length other) (omega arith)))
+    ∙ alike.each (length some + length other) q
+    ∙ ap (filter (is_by q)) (until-all other (length some + length other) (omega arith))
+
+pub sealed-lawful : (text other : List ℕ) → AreSealedAlike (records_of text) (records_of other) → (answers_of text).fault ≡ None → (answers_of other).fault ≡ None
+sealed-lawful text other alike free = interleaved-lawful text other (alike-interleaved (records_of text) (records_of other) alike) alike.seals free
+
+pub sealed-seals : (text other : List ℕ) → AreSealedAlike (records_of text) (records_of other) → (answers_of text).fault ≡ None
+    → seals_in (answers_of text).items ≡ seals_in (answers_of other).items
+sealed-seals text other alike free =
+    seals-of (records_of text) [] free ∙ ap sealed alike.seals ∙ sym (seals-of (records_of other) [] (sealed-lawful text other alike free))
+
+pub sealed-finished : (text other : List ℕ) → AreSealedAlike (records_of text) (records_of other) → (answers_of text).fault ≡ None → (k : ℕ)
+    → finished_in (items_until (answers_of text).items k) ≡ finished_in (items_until (answers_of other).items k)
+sealed-finished text other alike free k =
+    ap finished_in (items-until (records_of text) k [] free)
+    ∙ finished-same (lines_after [] (records_until (records_of text) k)) (lines_after [] (records_until (records_of other) k))
+    (same-lines (records_until (records_of text) k) (records_until (records_of other) k) (alike.each k))
+    ∙ sym (ap finished_in (items-until (records_of other) k [] (sealed-lawful text other alike free)))

@@ -1,0 +1,228 @@
+-- What is kept of the lines, after one more of them.
+use Rattle.std.proofs.Common.{◌≡◌, ℕ, ◌+◌, ◌<◌, ◌≤◌, ◌⊎◌, Bool, true, false, List, [], ◌∷◌, ◌++◌, length, Option, None}
+use Rattle.std.proofs.Common.{Some, Ok, Err, Result, length-append, refl, sym, ap, ◌∙◌, rules, arith, cond, nat_lt}
+use Rattle.std.proofs.Common.{inl, inr}
+use Rattle.std.specs.Prelude.{IsSome, is_some}
+use Rattle.std.specs.List.{list_any}
+use Rattle.std.specs.BTreeMap.{get, btree_map_len, Updates}
+use Rattle.std.specs.BTreeSet as set
+use Rattle.std.specs.BTreeSet.{contains, btree_set_len}
+use Rattle.std.specs.Ordering.{nat_cmp}
+use Rattle.std.specs.Cmp.Lexicographic.{slice_cmp, texts_ties}
+use Rattle.std.proofs.lemmas.Bool.Decides.{nat_tests}
+use Rattle.tcc_txn.specs.Limits.{most_keys, most_sessions, most_transactions}
+use Rattle.tcc_txn.specs.Bytes.{same}
+use Rattle.tcc_rows.specs.Past.{begin_count, fault_within, is_begun, keys, ops_since, sessions, with_name}
+use Rattle.tcc_rows.specs.Standing.{NameSet, Seats, HoldsNames, HoldsSeats, IsAfter, NotesName, PassesLine, seat}
+use Rattle.tcc_txn.specs.Transactions.{op_key}
+use Rattle.tcc_txn.specs.declared.limits.Limits.{Limits}
+use Rattle.tcc_txn.specs.declared.op.Op.{Op}
+use Rattle.tcc_rows.specs.Drafts.{AddsOp}
+use Rattle.tcc_rows.specs.declared.rows.RowFaultKind.{RowFaultKind}
+use Rattle.tcc_rows.specs.declared.rows.RowFaultKind.TheVariants as kind
+use Rattle.tcc_rows.specs.declared.rows.line.Line.{Line}
+use Rattle.tcc_rows.specs.declared.rows.line.Line.TheVariants as line
+use Rattle.tcc_rows.specs.declared.rows.progress.Progress.{Progress}
+use Rattle.tcc_rows.proofs.PastFacts.{seat-begun, seat-finished, seat-free, seat-none, seat-taken}
+use Rattle.tcc_rows.proofs.PastFacts.{same-itself, seat-operated, seen-noted, seen-other}
+use Rattle.tcc_rows.proofs.PastFacts.{with_name-new, with_name-seen}
+use Rattle.tcc_txn.specs.declared.limits.TheConstants.{MAX_OPERATIONS}
+
+-- an operation that has its place
+pub record Placed (past : List Line) (s : List ℕ) (op : Op) (old : Progress) (seats : Seats) : Type 0 where
+  pub begun : is_begun s past ≡ true
+  pub room : length (ops_since s past) < MAX_OPERATIONS
+  pub updates : Updates (slice_cmp nat_cmp) old.sessions seats s (Some (Some (ops_since s past ++ op ∷ [])))
+  pub count : btree_map_len seats ≡ btree_map_len old.sessions
+
+-- what the map has after a place was put there
+put : (old new : Seats) (s : List ℕ) (w : Option (Option (List Op))) → Updates (slice_cmp nat_cmp) old new s w → (q : List ℕ)
+    → get (slice_cmp nat_cmp) new q ≡ cond (same s q) w (get (slice_cmp nat_cmp) old q)
+put old new s w updates q = updates.0 q ∙ ap (λ b. cond b w (get (slice_cmp nat_cmp) old q)) (sym (texts_ties s q))
+
+within : (m n : ℕ) → m ≤ n → nat_lt n m ≡ false
+within m n h = grind (arith, nat_tests)
+
+module _ (limits : Limits) where
+  -- a name among others that are held
+  noted : (key q : List ℕ) (names : List (List ℕ)) → cond (same key q) true (list_any (same q) names) ≡ list_any (same q) (with_name key names)
+  noted key q names = by (same key q) refl
+    where
+      by : (b : Bool) → same key q ≡ b → cond b true (list_any (same q) names) ≡ list_any (same q) (with_name key names)
+      by true e = sym (seen-noted key q names e)
+      by false e = sym (seen-other key q names e)
+
+  -- a name that is new, and now held
+  pub names-noted : (names : List (List ℕ)) (key : List ℕ) (old new : NameSet) → HoldsNames limits names old
+      → contains (slice_cmp nat_cmp) old key ≡ false → btree_set_len old < most_keys limits
+      → set.Updates (slice_cmp nat_cmp) old new key true → btree_set_len new ≡ btree_set_len old + 1
+      → HoldsNames limits (with_name key names) new
+  names-noted names key old new holds absent room updates more =
+      let fresh : list_any (same key) names ≡ false = sym (holds.each key) ∙ absent in
+      let longer : with_name key names ≡ key ∷ names = with_name-new key names fresh in
+      record {
+        each = λ q. updates.0 q ∙ ap (λ b. cond b true (contains (slice_cmp nat_cmp) old q)) (sym (texts_ties key q)) ∙ rw (holds.each q) (noted key q names);
+        count = rw longer (omega (arith, more, holds.count));
+        few = rw longer (omega (arith, room, holds.count));
+      }
+
+  -- a name that was held before
+  pub names-kept : (names : List (List ℕ)) (key : List ℕ) (set : NameSet) → HoldsNames limits names set
+      → contains (slice_cmp nat_cmp) set key ≡ true → HoldsNames limits (with_name key names) set
+  names-kept names key set holds there = rw (with_name-seen key names (sym (holds.each key) ∙ there)) holds
+
+  -- what a look at the place of a session says of a begin
+  pub begins-again : (past : List Line) (s : List ℕ) (seats : Seats) → HoldsSeats limits past seats
+      → get (slice_cmp nat_cmp) seats s ≡ Some None → (is_begun s past ≡ false) × (length (with_name s (sessions past)) ≤ most_sessions limits)
+  begins-again past s seats holds there =
+      let place = seat-free _ _ _ (sym (holds.each s) ∙ there) in
+      (place.0, rw (with_name-seen s (sessions past) place.1) holds.few)
+
+  pub begins-first : (past : List Line) (s : List ℕ) (seats : Seats) → HoldsSeats limits past seats
+      → get (slice_cmp nat_cmp) seats s ≡ None → (is_begun s past ≡ false) × (length (with_name s (sessions past)) ≡ btree_map_len seats + 1)
+  begins-first past s seats holds absent =
+      let place = seat-none _ _ _ (sym (holds.each s) ∙ absent) in
+      (place.0, rw (with_name-new s (sessions past) place.1) (omega (arith, holds.count)))
+
+  pub begun-there : (past : List Line) (s : List ℕ) (seats : Seats) (ops : List Op) → HoldsSeats limits past seats
+      → get (slice_cmp nat_cmp) seats s ≡ Some (Some ops) → (is_begun s past ≡ true) × (ops_since s past ≡ ops)
+  begun-there past s seats ops holds there = seat-taken _ _ _ _ (sym (holds.each s) ∙ there)
+
+  -- how many sessions there are, by whether one was there
+  is_some-seat : (ops : List Op) (seen : Bool) → is_some (seat false ops seen) ≡ seen
+  is_some-seat ops true = refl
+  is_some-seat ops false = refl
+
+  one-more-session : (past : List Line) (s : List ℕ) (seats : Seats) → HoldsSeats limits past seats → is_begun s past ≡ false
+      → btree_map_len seats + cond (is_some (get (slice_cmp nat_cmp) seats s)) 0 1 ≡ length (with_name s (sessions past))
+  one-more-session past s seats holds free = by (list_any (same s) (sessions past)) refl
+    where
+      at : is_some (get (slice_cmp nat_cmp) seats s) ≡ list_any (same s) (sessions past)
+      at = ap is_some (holds.each s) ∙ rw free (is_some-seat (ops_since s past) _)
+
+      by : (b : Bool) → list_any (same s) (sessions past) ≡ b
+          → btree_map_len seats + cond (is_some (get (slice_cmp nat_cmp) seats s)) 0 1 ≡ length (with_name s (sessions past))
+      by true seen = rw (at, seen) (omega (arith, holds.count))
+      by false new = rw (at, new) (omega (arith, holds.count))
+
+  -- a transaction begins
+  pub after-begin : (past : List Line) (s : List ℕ) (old new : Progress) → IsAfter limits past old
+      → is_begun s past ≡ false → length (with_name s (sessions past)) ≤ most_sessions limits
+      → old.begun < most_transactions limits
+      → Updates (slice_cmp nat_cmp) old.sessions new.sessions s (Some (Some []))
+      → btree_map_len new.sessions ≡ btree_map_len old.sessions + cond (is_some (get (slice_cmp nat_cmp) old.sessions s)) 0 1
+      → new.keys ≡ old.keys → new.begun ≡ old.begun + 1 → new.seals ≡ old.seals → new.limits ≡ old.limits
+      → (fault_within limits past (line.Begin s) ≡ None) × IsAfter limits (line.Begin s ∷ past) new
+  after-begin past s old new is free few room updates more keys_kept one_more seals_kept limits_kept =
+      let few_begun : begin_count past + 1 ≤ most_transactions limits = omega (arith, is.begun, room) in
+      let sessions_fit : nat_lt (most_sessions limits) (length (with_name s (sessions past))) ≡ false = within _ _ few in
+      let begins_fit : nat_lt (most_transactions limits) (begin_count past + 1) ≡ false = within _ _ few_begun in (
+        rw (free, sessions_fit, begins_fit) refl,
+        record {
+          kept = limits_kept ∙ is.kept;
+          seats = record {
+            each = λ q. put old.sessions new.sessions s (Some (Some [])) updates q ∙ rw (is.seats.each q) (sym (seat-begun s q past));
+            count = more ∙ one-more-session past s old.sessions is.seats free;
+            few = few;
+          };
+          names = rw keys_kept is.names;
+          begun = one_more ∙ ap (λ n. n + 1) is.begun;
+          few_begun = few_begun;
+          sealed = seals_kept ∙ is.sealed;
+          few_sealed = is.few_sealed;
+        },
+      )
+
+  -- a transaction is finished
+  pub after-finish : (past : List Line) (s : List ℕ) (committed : Bool) (ops : List Op) (old new : Progress) → IsAfter limits past old
+      → get (slice_cmp nat_cmp) old.sessions s ≡ Some (Some ops)
+      → Updates (slice_cmp nat_cmp) old.sessions new.sessions s (Some None)
+      → btree_map_len new.sessions ≡ btree_map_len old.sessions
+      → new.keys ≡ old.keys → new.begun ≡ old.begun → new.seals ≡ old.seals → new.limits ≡ old.limits
+      → (fault_within limits past (line.Finish s committed) ≡ None) × IsAfter limits (line.Finish s committed ∷ past) new
+  after-finish past s committed ops old new is place updates same_number keys_kept begun_kept seals_kept limits_kept =
+      let taken = seat-taken _ _ _ _ (sym (is.seats.each s) ∙ place) in (
+        rw taken.0 refl,
+        record {
+          kept = limits_kept ∙ is.kept;
+          seats = record {
+            each = λ q. put old.sessions new.sessions s (Some None) updates q ∙ rw (is.seats.each q) (sym (seat-finished s q committed past taken.0));
+            count = same_number ∙ is.seats.count;
+            few = is.seats.few;
+          };
+          names = rw keys_kept is.names;
+          begun = begun_kept ∙ is.begun;
+          few_begun = is.few_begun;
+          sealed = seals_kept ∙ is.sealed;
+          few_sealed = is.few_sealed;
+        },
+      )
+
+  -- one more operation of a session that has begun
+  more-ops : (past : List Line) (s : List ℕ) (op : Op) → length (ops_since s (line.Operation s op ∷ past)) ≡ length (ops_since s past) + 1
+  more-ops past s op = rw (same-itself s) (length-append (ops_since s past) (op ∷ []))
+
+  above : (m n : ℕ) → m < n → nat_lt m n ≡ true
+  above m n h = grind (arith, nat_tests)
+
+  -- an operation that is refused
+  pub operation-refused : (past : List Line) (s : List ℕ) (op : Op) (k : RowFaultKind) (begun : Option (List Op)) (seats : Seats) (new : Option (List Op))
+      → HoldsSeats limits past seats → get (slice_cmp nat_cmp) seats s ≡ Some begun → AddsOp {U = Unit {0}} op begun (Err k) new
+      → (fault_within limits past (line.Operation s op) ≡ Some k) ⊎ (k ≡ kind.NoMemory)
+  operation-refused past s op k None seats new holds place refused =
+      let free = seat-free _ _ _ (sym (holds.each s) ∙ place) in
+      inl (rw (free.0, refused) refl)
+  operation-refused past s op k (Some ops) seats new holds place (inl full) =
+      let there = begun-there past s seats ops holds place in
+      let many : nat_lt MAX_OPERATIONS (length (ops_since s (line.Operation s op ∷ past))) ≡ true =
+      above _ _ (omega (arith, more-ops past s op, ap length there.1, full.1)) in
+      inl (rw (there.0, many, full.0) refl)
+  operation-refused past s op k (Some ops) seats new holds place (inr want) = inr want
+
+  fault-of-key : (past : List Line) (s : List ℕ) (op : Op) → is_begun s past ≡ true → length (ops_since s past) < MAX_OPERATIONS
+      → fault_within limits past (line.Operation s op) ≡ cond (nat_lt (most_keys limits) (length (with_name (op_key op) (keys past)))) (Some kind.TooManyKeys) None
+  fault-of-key past s op begun room =
+      let few : nat_lt MAX_OPERATIONS (length (ops_since s (line.Operation s op ∷ past))) ≡ false = within _ _ (omega (arith, more-ops past s op)) in
+      rw (begun, few) refl
+
+  -- what comes of an operation that has its place, by whether its key can be noted
+  pub after-operation : {U : Type 0} (past : List Line) (s : List ℕ) (op : Op) (old : Progress) (seats : Seats) (names : NameSet) (result : Result U RowFaultKind)
+      → IsAfter limits past old → Placed past s op old seats → NotesName limits (keys past) (op_key op) result names
+      → PassesLine limits past (line.Operation s op) result (record { limits = old.limits; sessions = seats; keys = names; begun = old.begun; seals = old.seals })
+  after-operation past s op old seats names (Ok done) is placed noted =
+      let few : nat_lt (most_keys limits) (length (with_name (op_key op) (keys past))) ≡ false = within _ _ noted.few in (
+        fault-of-key past s op placed.begun placed.room ∙ rw few refl,
+        record {
+          kept = is.kept;
+          seats = record {
+            each = λ q. put old.sessions seats s (Some (Some (ops_since s past ++ op ∷ []))) placed.updates q ∙ rw (is.seats.each q) (sym (seat-operated s q op past placed.begun));
+            count = placed.count ∙ is.seats.count;
+            few = is.seats.few;
+          };
+          names = noted;
+          begun = is.begun;
+          few_begun = is.few_begun;
+          sealed = is.sealed;
+          few_sealed = is.few_sealed;
+        },
+      )
+  after-operation past s op old seats names (Err k) is placed (inl many) =
+      let over : nat_lt (most_keys limits) (length (with_name (op_key op) (keys past))) ≡ true = above _ _ many.1 in
+      inl (fault-of-key past s op placed.begun placed.room ∙ rw (over, many.0) refl)
+  after-operation past s op old seats names (Err k) is placed (inr want) = inr want
+
+  -- an operation that was added has its place
+  pub placed-added : {U : Type 0} (past : List Line) (s : List ℕ) (op : Op) (old : Progress) (seats : Seats) (begun new : Option (List Op)) (done : U)
+      → IsAfter limits past old → get (slice_cmp nat_cmp) old.sessions s ≡ Some begun → AddsOp op begun (Ok done) new
+      → (IsSome (get (slice_cmp nat_cmp) old.sessions s) → Updates (slice_cmp nat_cmp) old.sessions seats s (Some new)) → btree_map_len seats ≡ btree_map_len old.sessions
+      → Placed past s op old seats
+  placed-added past s op old seats None new done is place added updates count = absurd added
+  placed-added past s op old seats (Some ops) new done is place added updates count =
+      let there = begun-there past s old.sessions ops is.seats place in
+      let found : IsSome (get (slice_cmp nat_cmp) old.sessions s) = rw place (search rules) in
+      record {
+        begun = there.0;
+        room = rw there.1 added.0;
+        updates = rw (there.1, ← added.1) (updates found);
+        count = count;
+      }

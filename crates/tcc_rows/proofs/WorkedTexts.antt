@@ -1,0 +1,102 @@
+-- Texts and their answers, worked out by the definitions alone.
+use Rattle.std.proofs.Common.{◌≡◌, ℕ, zero, suc, List, [], ◌∷◌, true, false, None, Some, refl}
+use Rattle.std.specs.Prelude.{codes, replicate}
+use Rattle.csv.specs.Machine.{next_record}
+use Rattle.csv.specs.Reading.{default_config, records, records_from, strip_bom}
+use Rattle.tcc_rows.specs.Answers.{Answers, answers_after, answers_of}
+use Rattle.tcc_rows.specs.ByteLimit.{marked}
+use Rattle.tcc_rows.specs.Past.{fault_of}
+use Rattle.tcc_txn.specs.declared.op.Op.TheVariants.{Get, Put}
+use Rattle.tcc_rows.specs.declared.rows.Item.{Item}
+use Rattle.tcc_rows.specs.declared.rows.Item.TheVariants as item
+use Rattle.tcc_rows.specs.declared.rows.RowFaultKind.{RowFaultKind}
+use Rattle.tcc_rows.specs.declared.rows.RowFaultKind.TheVariants as kind
+use Rattle.tcc_rows.specs.declared.rows.line.Line.{Line}
+use Rattle.tcc_rows.specs.declared.rows.line.Line.TheVariants as line
+
+-- some items, and then a fault at a row
+faulty : List Item → ℕ → RowFaultKind → Answers
+faulty items row k = record { items = items; fault = Some (record { row = row; kind = k }) }
+
+-- some items, and then the end
+whole : List Item → Answers
+whole items = record { items = items; fault = None }
+
+nothing : answers_of [] ≡ whole []
+unfolding next_record records_from strip_bom marked whole
+nothing = refl
+
+-- in turn: the input ends inside a transaction; the least of two open sessions; 0 is written in the second record; the
+-- same record alone is no operation outside a transaction, since the lower kind comes first; a read outside; a second
+-- begin; a value of more than 64 bits, and one with a leading zero
+faults_alone :
+    (answers_of (codes "a,begin\na,r,x,0\n") ≡ faulty [] 2 (kind.Unfinished (codes "a")))
+    × (answers_of (codes "b,begin\na.,begin\na-,begin") ≡ faulty [] 3 (kind.Unfinished (codes "a-")))
+    × (answers_of (codes "a,begin\na,w,x,0\n") ≡ faulty [] 2 kind.WriteOfZero)
+    × (answers_of (codes "a,w,x,0\n") ≡ faulty [] 1 kind.WriteOfZero)
+    × (answers_of (codes "a,r,x,0\n") ≡ faulty [] 1 kind.NotBegun)
+    × (answers_of (codes "a,begin\na,begin\n") ≡ faulty [] 2 kind.AlreadyBegun)
+    × (answers_of (codes "a,begin\na,w,x,18446744073709551616\n") ≡ faulty [] 2 kind.BadValue)
+    × (answers_of (codes "a,begin\na,r,x,01\n") ≡ faulty [] 2 kind.BadValue)
+unfolding next_record records_from strip_bom marked faulty
+faults_alone = (refl, refl, refl, refl, refl, refl, refl, refl)
+
+-- a seal inside a transaction, which is finished after it
+sealed_inside : answers_of (codes "a,begin\na,w,x,7\nseal\na,commit\n")
+    ≡ whole (item.Seal ∷ item.Finished (codes "a") (record { ops = Put (codes "x") 7 ∷ []; committed = true }) ∷ [])
+unfolding next_record records_from strip_bom marked whole
+sealed_inside = refl
+
+-- two sessions, one within the other, the inner one aborted; and then a word that is none
+interleaved : answers_of (codes "a,begin\nb,begin\na,r,x,0\nb,w,x,1\nb,abort\na,r,y,18446744073709551615\na,commit\nstop")
+    ≡ faulty (item.Finished (codes "b") (record { ops = Put (codes "x") 1 ∷ []; committed = false })
+    ∷ item.Finished (codes "a") (record { ops = Get (codes "x") 0 ∷ Get (codes "y") 18446744073709551615 ∷ []; committed = true }) ∷ []) 8 kind.UnknownWord
+unfolding next_record records_from strip_bom marked faulty
+interleaved = refl
+
+-- quotes, blank lines, carriage returns and a byte order mark are the records' business
+quoted : answers_of (239 ∷ 187 ∷ 191 ∷ codes "\"a\",begin\r\n\r\n\na,\"commit\"")
+    ≡ whole (item.Finished (codes "a") (record { ops = []; committed = true }) ∷ [])
+unfolding next_record records_from strip_bom marked whole
+quoted = refl
+
+-- the answers to a text under a small limit on bytes
+under : ℕ → List ℕ → Answers
+under limit text = answers_after [] (records default_config (strip_bom (marked limit text)))
+
+-- a record that ends within the limit is given, and the next one is the reader's fault, also where only blank lines
+-- follow, and where a record that the limit cuts would be lawful
+past_the_limit :
+    (under 5 (codes "seal\nseal\n") ≡ faulty (item.Seal ∷ []) 2 kind.Read)
+    × (under 5 (codes "seal\n\n") ≡ faulty (item.Seal ∷ []) 2 kind.Read)
+    × (under 9 (codes "seal\nseal\n") ≡ faulty (item.Seal ∷ []) 2 kind.Read)
+unfolding next_record records_from strip_bom marked faulty under
+past_the_limit = (refl, refl, refl)
+
+within_the_limit : under 10 (codes "seal\nseal\n") ≡ whole (item.Seal ∷ item.Seal ∷ [])
+unfolding next_record records_from strip_bom marked whole under
+within_the_limit = refl
+
+-- the seal after 256 others
+seals : (fault_of (replicate 256 line.Seal) line.Seal ≡ Some kind.TooManySeals) × (fault_of (replicate 255 line.Seal) line.Seal ≡ None)
+seals = (refl, refl)
+
+-- so many transactions of one session, all aborted
+aborted : ℕ → List Line
+aborted zero = []
+aborted (suc n) = line.Finish (codes "a") false ∷ line.Begin (codes "a") ∷ aborted n
+
+transactions : (fault_of (aborted 4095) (line.Begin (codes "a")) ≡ Some kind.TooManyTransactions)
+    × (fault_of (aborted 4094) (line.Begin (codes "a")) ≡ None)
+unfolding aborted
+transactions = (refl, refl)
+
+-- so many operations of one transaction
+operations : ℕ → List Line
+operations zero = line.Begin (codes "a") ∷ []
+operations (suc n) = line.Operation (codes "a") (Get (codes "x") 0) ∷ operations n
+
+operation_counts : (fault_of (operations 256) (line.Operation (codes "a") (Get (codes "x") 0)) ≡ Some kind.TooManyOps)
+    × (fault_of (operations 255) (line.Operation (codes "a") (Get (codes "x") 0)) ≡ None)
+unfolding operations
+operation_counts = (refl, refl)

@@ -1,0 +1,63 @@
+-- The answers that a reader of rows has still to give.
+use Rattle.std.specs.Prelude.{ℕ, ◌+◌, ◌≡◌, ◌⊎◌, Bool, true, false, List, length, Option, None, Some, Result, Ok, Err}
+use Rattle.tcc_rows.specs.Answers.{Answers, after_item, answers_after_within, ending}
+use Rattle.tcc_rows.specs.Lines.{Record}
+use Rattle.tcc_txn.specs.declared.limits.Limits.{Limits}
+use Rattle.tcc_rows.specs.declared.rows.Item.{Item}
+use Rattle.tcc_rows.specs.declared.rows.Item.TheVariants as item
+use Rattle.tcc_rows.specs.declared.rows.Phase.{Phase}
+use Rattle.tcc_rows.specs.declared.rows.Phase.TheVariants as phase
+use Rattle.tcc_rows.specs.declared.rows.RowFault.{RowFault}
+use Rattle.tcc_rows.specs.declared.rows.RowFaultKind.{RowFaultKind}
+use Rattle.tcc_rows.specs.declared.rows.RowFaultKind.TheVariants as kind
+use Rattle.tcc_rows.specs.Midway.{IsMidway}
+use Rattle.tcc_rows.specs.declared.rows.Rows.{Rows}
+use Rattle.tcc_rows.specs.declared.rows.line.Line.{Line}
+
+abbrev pub IsAheadIn : {R : Type 0} → Limits → Phase → (R → Option (List ℕ)) → Rows R → Answers → Type 0
+IsAheadIn limits phase.Reading remaining rows ahead = IsMidway limits remaining rows ahead
+IsAheadIn limits phase.Ended remaining rows ahead = ahead ≡ ending None
+IsAheadIn limits (phase.Stopped fault) remaining rows ahead = ahead ≡ ending (Some fault)
+
+-- these are the answers that are still to come, where the reader's bytes are known
+abbrev pub IsAhead : {R : Type 0} → Limits → (R → Option (List ℕ)) → Rows R → Answers → Type 0
+IsAhead limits remaining rows ahead = IsAheadIn limits rows.phase remaining rows ahead
+
+-- the fault that was met, if there was one
+abbrev pub fault_in : Phase → Option RowFault
+fault_in phase.Reading = None
+fault_in phase.Ended = None
+fault_in (phase.Stopped fault) = Some fault
+
+abbrev pub fault_met : {R : Type 0} → Rows R → Option RowFault
+fault_met rows = fault_in rows.phase
+
+-- the end was met
+abbrev pub ended_in : Phase → Bool
+ended_in phase.Reading = false
+ended_in phase.Ended = true
+ended_in (phase.Stopped fault) = false
+
+abbrev pub has_ended : {R : Type 0} → Rows R → Bool
+has_ended rows = ended_in rows.phase
+
+-- what comes of a reader that fails, and where memory is out
+abbrev pub IsFailure : RowFaultKind → Type 0
+IsFailure k = (k ≡ kind.Read) ⊎ (k ≡ kind.NoMemory)
+
+-- the reader failed or memory was refused, at the record that follows some lawful lines after which the same answers are still to come
+abbrev pub FailsIn : Limits → Answers → RowFault → Type 0
+FailsIn limits ahead fault =
+    IsFailure fault.kind × (past : List Line) × (left : List Record) × (ahead ≡ answers_after_within limits past left) × (fault.row ≡ length past + 1)
+
+-- the first answer is this fault, unless the reader failed or memory was refused
+abbrev pub FaultsIn : Limits → Answers → RowFault → Type 0
+FaultsIn limits ahead fault = (ahead ≡ ending (Some fault)) ⊎ FailsIn limits ahead fault
+
+-- the first of the answers that were to come was given, and the others are still to come
+abbrev pub TakesAnswer : {R : Type 0} → Limits → (R → Option (List ℕ)) → Answers → Result Item RowFault → Rows R → Type 0
+TakesAnswer limits remaining ahead (Ok item.End) new = (ahead ≡ ending None) × IsAhead limits remaining new (ending None)
+TakesAnswer limits remaining ahead (Ok item.Seal) new = (rest : Answers) × (ahead ≡ after_item (Some item.Seal) rest) × IsAhead limits remaining new rest
+TakesAnswer limits remaining ahead (Ok (item.Finished name txn)) new =
+    (rest : Answers) × (ahead ≡ after_item (Some (item.Finished name txn)) rest) × IsAhead limits remaining new rest
+TakesAnswer limits remaining ahead (Err fault) new = FaultsIn limits ahead fault × IsAhead limits remaining new (ending (Some fault))

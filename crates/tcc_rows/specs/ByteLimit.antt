@@ -1,0 +1,32 @@
+-- The bytes of a reader under a limit on how many there are.
+use Rattle.std.specs.Prelude.{ℕ, Bool, true, false, nat_le, if◌then◌else◌, List, [], ◌∷◌, ◌++◌, length, take, Option, option_map}
+use Rattle.tcc_rows.specs.declared.rows.limited.Limited.{Limited}
+use Rattle.tcc_rows.specs.declared.rows.limited.Stand.{Stand}
+use Rattle.tcc_rows.specs.declared.rows.limited.Stand.TheVariants.{Going, Ended, Over}
+
+-- what stands for all bytes past the limit, and is no byte
+abbrev pub past_limit : ℕ
+past_limit = 256
+
+-- a text of at most so many bytes as it is; a longer one up to the limit, and then the mark that it is longer
+unfoldable pub marked : ℕ → List ℕ → List ℕ
+marked limit text = if nat_le (length text) limit then text else take limit text ++ past_limit ∷ []
+
+-- what the limit lets through of the bytes that the reader inside has left: none once it has met its end
+abbrev pub limited_bytes : Stand → ℕ → Option (List ℕ) → Option (List ℕ)
+limited_bytes Going left known = option_map (marked left) known
+limited_bytes Ended left known = option_map (λ _. []) known
+limited_bytes Over left known = option_map (λ _. past_limit ∷ []) known
+
+-- the bytes that the reader inside has left, as far as the limit lets them through
+abbrev pub limited_remaining : {R : Type 0} → (R → Option (List ℕ)) → Limited R → Option (List ℕ)
+limited_remaining remaining s = limited_bytes s.stand s.left (remaining s.inner)
+
+abbrev pub is_end : Stand → Bool
+is_end Going = false
+is_end Ended = true
+is_end Over = false
+
+-- the reader inside has said that it has no more bytes
+abbrev pub met_end : {R : Type 0} → Limited R → Bool
+met_end s = is_end s.stand

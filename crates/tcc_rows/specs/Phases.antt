@@ -1,0 +1,16 @@
+-- How far a reader of rows has come by what it gave last, for proofs: nobody has to believe it.
+use Rattle.std.specs.Prelude.{Option, None, Some}
+use Rattle.tcc_rows.specs.declared.rows.Item.{Item}
+use Rattle.tcc_rows.specs.declared.rows.Item.TheVariants as item
+use Rattle.tcc_rows.specs.declared.rows.Phase.{Phase}
+use Rattle.tcc_rows.specs.declared.rows.Phase.TheVariants as phase
+
+-- the phase after an item
+abbrev pub phase_after : Item → Phase
+phase_after item.End = phase.Ended
+phase_after item.Seal = phase.Reading
+phase_after (item.Finished name txn) = phase.Reading
+
+abbrev pub phase_after_step : Option Item → Phase
+phase_after_step None = phase.Reading
+phase_after_step (Some given) = phase_after given

@@ -1,0 +1,61 @@
+-- How far a reader of rows has come: how many records it has read, which of a text these are, and whether the reading failed.
+use Rattle.std.specs.Prelude.{ℕ, ◌+◌, ◌-◌, ◌^◌, ◌≡◌, ◌≤◌, ◌⊎◌, true, if◌then◌else◌, min, List, ◌++◌, length, Option}
+use Rattle.csv.specs.Reading.{has_failed, is_io}
+use Rattle.csv.specs.declared.error.ErrorKind.{ErrorKind}
+use Rattle.tcc_rows.specs.Lines.{Record}
+use Rattle.tcc_rows.specs.RecordsLeft.{HasLeft, record_of}
+use Rattle.tcc_rows.specs.declared.rows.Phase.{Phase}
+use Rattle.tcc_rows.specs.declared.rows.Phase.TheVariants as phase
+use Rattle.tcc_rows.specs.declared.rows.RowFaultKind.{RowFaultKind}
+use Rattle.tcc_rows.specs.declared.rows.RowFaultKind.TheVariants as kind
+use Rattle.tcc_rows.specs.declared.rows.Rows.{Rows}
+use Rattle.tcc_rows.specs.declared.rows.records.Course.{Course}
+use Rattle.tcc_rows.specs.declared.rows.records.Course.TheVariants as course
+use Rattle.tcc_rows.specs.declared.rows.records.Records.{Records}
+
+-- how many records were read
+abbrev pub records_read : {R : Type 0} → Rows R → ℕ
+records_read rows = rows.records.count
+
+-- the fields of the record that was read last
+abbrev pub last_record : {R : Type 0} → Rows R → Record
+last_record rows = record_of rows.records
+
+-- after so many records: the row of the last, or, where the reading of one more failed, the row after it, as far as 64 bits go
+abbrev pub row_in : Course → ℕ → ℕ
+row_in course.Going count = count
+row_in course.Ended count = count
+row_in course.Failed count = min (count + 1) (2 ^ 64 - 1)
+
+-- the row at which a fault stands
+abbrev pub row_reached : {R : Type 0} → Rows R → ℕ
+row_reached rows = row_in rows.records.course rows.records.count
+
+-- what `csv` says of its failure: the reader failed, or memory was refused
+abbrev pub failure_of : ErrorKind → RowFaultKind
+failure_of error = if is_io error then kind.Read else kind.NoMemory
+
+-- `csv` has given up: an error of its reader or of memory came; or there are as many records as 64 bits count
+abbrev pub HasGivenUp : {R : Type 0} → Records R → Type 0
+HasGivenUp records = (has_failed records.reader ≡ true) ⊎ (records.count ≡ 2 ^ 64 - 1)
+
+abbrev pub ReaderFailed : {R : Type 0} → Rows R → Type 0
+ReaderFailed rows = HasGivenUp rows.records
+
+-- the records of a text that were read, and those that are left
+pub record StandsIn {R : Type 0} (remaining : R → Option (List ℕ)) (records : Records R) (all : List Record) : Type 0 where
+  pub first : List Record
+  pub left : List Record
+  pub whole : all ≡ first ++ left
+  pub counted : records.count ≡ length first
+  pub rest : HasLeft remaining records left
+  pub going : records.course ≡ course.Going
+
+abbrev pub StandsBy : {R : Type 0} → Phase → (R → Option (List ℕ)) → Records R → List Record → Type 0
+StandsBy phase.Reading remaining records all = StandsIn remaining records all
+StandsBy phase.Ended remaining records all = records.count ≡ length all
+StandsBy (phase.Stopped fault) remaining records all = records.count ≤ length all
+
+-- the records of a text are read in turn: the first so many were read, and at the end all
+abbrev pub IsWithin : {R : Type 0} → (R → Option (List ℕ)) → Rows R → List Record → Type 0
+IsWithin remaining rows all = StandsBy rows.phase remaining rows.records all

@@ -1,0 +1,59 @@
+//! The laws of records: what they finish keeps the limits of a snapshot, and depends on the records of each session alone;
+//! where the bytes are too many, the last record is the fault.
+ghost use Rattle.std.specs.Prelude.{◌≡◌, ◌≢◌, ◌<◌, ◌++◌, ℕ, List, [], None, Some, false, length, take};
+ghost use Rattle.std.specs.FinMap as sessions;
+ghost use Rattle.tcc_rows.specs.Answers.{answers_of, records_of};
+ghost use Rattle.tcc_rows.specs.Failing.{AreLawful, records_before};
+ghost use Rattle.tcc_txn.specs.Finished.{KeepsLimits};
+ghost use Rattle.tcc_rows.specs.Items.{finished_in};
+ghost use Rattle.tcc_rows.specs.Interleaved.{AreInterleaved, AreSealedAlike, records_by_none};
+ghost use Rattle.tcc_rows.specs.Recordings.{has_seal, items_until, seals_in};
+ghost use Rattle.tcc_txn.specs.Nested.{IsNested};
+ghost use Rattle.tcc_txn.specs.Snapshots.{snapshot_fault};
+ghost use Rattle.tcc_rows.specs.declared.rows.Item.{Item};
+ghost use Rattle.tcc_txn.specs.declared.limits.TheConstants.{MAX_INPUT_BYTES};
+ghost use Rattle.tcc_rows.specs.declared.rows.RowFaultKind.TheVariants.{Read};
+
+/// What the first items of a text finish, however many, is a snapshot: there are not too many sessions and transactions.
+pub fn finished_is_snapshot()
+    ensures limits { (text : List ℕ) (n : ℕ) → KeepsLimits (finished_in (take n (answers_of text).items)) }
+    ensures taken { (text : List ℕ) (n : ℕ) → snapshot_fault (sessions.entries (finished_in (take n (answers_of text).items))) ≡ None }
+{}
+
+/// Of two texts with the same records of each session, interleaved anyhow: where both have no fault they finish the same,
+/// wherever they seal; and where they have the same records without a session too, one has no fault where the other has none.
+/// No text seals whose records all have a session.
+pub fn interleaved()
+    ensures finished { (text other : List ℕ) → AreInterleaved (records_of text) (records_of other) → (answers_of text).fault ≡ None
+        → (answers_of other).fault ≡ None → finished_in (answers_of text).items ≡ finished_in (answers_of other).items }
+    ensures lawful { (text other : List ℕ) → AreInterleaved (records_of text) (records_of other)
+        → records_by_none (records_of text) ≡ records_by_none (records_of other) → (answers_of text).fault ≡ None
+        → (answers_of other).fault ≡ None }
+    ensures unsealed { (text : List ℕ) → records_by_none (records_of text) ≡ [] → has_seal (answers_of text).items ≡ false }
+{}
+
+/// Of two texts with the same records of each session, interleaved anyhow, and the seals after the same records of each
+/// session: where one has no fault the other has none, there are as many seals, and before each of them, as in the end, they
+/// finish the same.
+pub fn sealed_alike()
+    ensures lawful { (text other : List ℕ) → AreSealedAlike (records_of text) (records_of other) → (answers_of text).fault ≡ None
+        → (answers_of other).fault ≡ None }
+    ensures seals { (text other : List ℕ) → AreSealedAlike (records_of text) (records_of other) → (answers_of text).fault ≡ None
+        → seals_in (answers_of text).items ≡ seals_in (answers_of other).items }
+    ensures finished { (text other : List ℕ) → AreSealedAlike (records_of text) (records_of other) → (answers_of text).fault ≡ None
+        → (k : ℕ) → finished_in (items_until (answers_of text).items k) ≡ finished_in (items_until (answers_of other).items k) }
+{}
+
+/// A text of more bytes than the limit has a fault; and where the records are lawful that end within the limit, this is
+/// `Read`, at the one record after them.
+pub fn past_the_limit()
+    ensures faulty { (text : List ℕ) → MAX_INPUT_BYTES < length text → (answers_of text).fault ≢ None }
+    ensures read { (text : List ℕ) → MAX_INPUT_BYTES < length text
+        → AreLawful [] (records_before (length (records_of text)) (records_of text))
+        → (answers_of text).fault ≡ Some (record { row = length (records_of text); kind = Read }) }
+{}
+
+/// What some items finish is continued by what they finish together with more.
+pub fn finished_continues()
+    ensures { (items more : List Item) → IsNested (finished_in items) (finished_in (items ++ more)) }
+{}

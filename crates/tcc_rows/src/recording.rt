@@ -1,0 +1,152 @@
+//! What records have finished so far, as a snapshot that grows.
+ghost use Rattle.std.specs.Prelude.{◌≡◌, ◌≢◌, ℕ, List, [], true, IfErr, IfOk, IfSome, OnErr, OnOk, None, Some, Ok, MatchResult, option_map};
+ghost use Rattle.csv.specs.Records.{field_at};
+ghost use Rattle.tcc_rows.specs.Ahead.{fault_met, has_ended};
+ghost use Rattle.tcc_rows.specs.Answers.{Answers, answers_after, answers_of, records_of};
+ghost use Rattle.tcc_txn.specs.Finished.{KeepsLimits, with_transaction};
+ghost use Rattle.tcc_rows.specs.Items.{finished_in};
+ghost use Rattle.tcc_rows.specs.Lines.{Record};
+ghost use Rattle.tcc_txn.specs.Nested.{IsNested};
+ghost use Rattle.tcc_rows.specs.Reached.{IsWithin, ReaderFailed, last_record, row_reached};
+ghost use Rattle.tcc_rows.specs.Recordings.{FailsBehind, IsRecorded, IsRecording, TakesMoment, after_items};
+ghost use Rattle.tcc_rows.specs.declared.rows.Item.{Item};
+ghost use Rattle.tcc_rows.specs.declared.rows.Phase.TheVariants as phase;
+
+use crate::{Item, RowFault, RowFaultKind, Rows};
+use std::alloc::Global;
+use std::io::Read;
+use tcc_txn::{Name, NoMemory, Snapshot, Txn};
+
+/// Where a recording came to.
+#[derive(Clone, Copy, Debug, PartialEq, Eq)]
+pub enum Moment {
+    /// A seal: an answer is wanted for what was finished so far.
+    Seal,
+    /// There are no more records.
+    End,
+}
+
+/// The snapshot of what a reader's records have finished so far.
+#[derive(Drop)]
+pub struct Recording<R> {
+    rows: Rows<R>,
+    snapshot: Snapshot,
+}
+
+impl<R: Read + Drop> Recording<R> {
+    /// Nothing is read yet; the reader is gone where memory is refused.
+    pub fn new(alloc: Global, reader: R) -> Result<Recording<R>, NoMemory>
+        ensures recording { IfOk result (λ recording. IfSome (R.remaining reader) (λ text. IsRecording R.remaining recording [] (answers_of text))) }
+        ensures within { IfOk result (λ recording. IfSome (R.remaining reader) (λ text. IsWithin R.remaining recording.rows (records_of text))) }
+        ensures fresh { IfOk result (λ recording. fault_met recording.rows ≡ None) }
+    {
+        Ok(Recording {
+            rows: Rows::new(alloc, reader)?,
+            snapshot: Snapshot::empty(alloc),
+        })
+    }
+
+    /// Reads on to the next seal or to the end; after the end there is the end, after a fault that fault.
+    pub fn advance(&mut self, alloc: Global) -> Result<Moment, RowFault>
+        ensures moment { (taken : List Item) (ahead : Answers) → IsRecording R.remaining self.old taken ahead
+            → TakesMoment R.remaining taken ahead result self.new }
+        ensures within { (all : List Record) → IsWithin R.remaining self.old.rows all → IsWithin R.remaining self.new.rows all }
+
+        // Whatever is known of the bytes, what was finished stays, and each session only goes on.
+        ensures continues { IsNested self.old.snapshot self.new.snapshot }
+
+        // Whatever is known of the bytes, a fault stands at the record that was read last, or at the
+        // one after it where its reading failed; and only a reader that failed makes it `Read`.
+        ensures row { IfErr result (λ fault. fault_met self.old.rows ≡ None → fault.row ≡ row_reached self.new.rows) }
+        ensures read { IfErr result (λ fault. fault_met self.old.rows ≡ None → fault.kind ≡ RowFaultKind.Read → ReaderFailed self.new.rows) }
+
+        // Where a record can't be read, all before it are lawful, and the items so far are theirs: those that were taken, and
+        // then some without a seal.
+        ensures failed { IfErr result (λ fault. fault_met self.old.rows ≡ None → fault.kind ≡ RowFaultKind.Read
+            → (all : List Record) (taken : List Item) (ahead : Answers) → answers_after [] all ≡ after_items taken ahead
+            → IsWithin R.remaining self.old.rows all → IsRecording R.remaining self.old taken ahead → FailsBehind taken fault.row all) }
+
+        // A fault stays, and so does the end.
+        ensures stops { IfErr result (λ fault. fault_met self.new.rows ≡ Some fault) }
+        ensures stays_stopped { IfSome (fault_met self.old.rows) (λ fault. result ≡ Err fault) }
+        ensures goes_on { OnOk result (fault_met self.new.rows ≡ None) }
+        ensures ends { result ≡ Ok Moment.End → has_ended self.new.rows ≡ true }
+        ensures stays_ended { has_ended self.old.rows ≡ true → result ≡ Ok Moment.End }
+    {
+        'items: for _turn in 0..u64::MAX {
+            match self.rows.next(alloc)? {
+                Item::Finished(session, txn) => self.take(alloc, session, txn)?,
+                Item::Seal => return Ok(Moment::Seal),
+                Item::End => return Ok(Moment::End),
+            }
+        }
+        // So many transactions are held by no memory.
+        Err(self.rows.give_up(RowFaultKind::NoMemory))
+    }
+
+    /// The session has finished one more transaction.
+    fn take(&mut self, alloc: Global, session: Name, txn: Txn) -> Result<(), RowFault>
+        ensures taken { OnOk result ((self.new.snapshot ≡ with_transaction self.old.snapshot session txn) × (self.new.rows ≡ self.old.rows)) }
+        ensures kept { OnErr result (self.new.snapshot ≡ self.old.snapshot) }
+        ensures stopped { IfErr result (λ fault. (self.new.rows ≡ record self.old.rows { phase = phase.Stopped fault })
+            × (fault.row ≡ row_reached self.old.rows)) }
+        ensures known { IfErr result (λ fault. fault.kind ≢ RowFaultKind.Read) }
+        ensures memory { KeepsLimits (with_transaction self.old.snapshot session txn) → IfErr result (λ fault. fault.kind ≡ RowFaultKind.NoMemory) }
+    {
+        match self.snapshot.add(alloc, session, txn) {
+            Ok(()) => Ok(()),
+            Err(fault) => Err(self.rows.give_up(RowFaultKind::from(fault))),
+        }
+    }
+
+    /// Reads on to the end, whatever is sealed.
+    fn pass_seals(&mut self, alloc: Global) -> Result<(), RowFault>
+        ensures { (text : List ℕ) → IsRecording R.remaining self.old [] (answers_of text) → IsWithin R.remaining self.old.rows (records_of text)
+            → fault_met self.old.rows ≡ None
+            → MatchResult result (λ done. IsRecorded text (Ok self.new.snapshot)) (λ fault. IsRecorded text (Err fault)) }
+    {
+        'seals: for _turn in 0..u64::MAX {
+            match self.advance(alloc)? {
+                Moment::Seal => {}
+                Moment::End => return Ok(()),
+            }
+        }
+        // There are not so many seals.
+        Err(self.rows.give_up(RowFaultKind::NoMemory))
+    }
+
+    /// The field at the place, counted from 0, of the record that was read last: of the one with the fault, where its row is
+    /// that of a record.
+    pub fn last_field(&self, place: usize) -> Option<&[u8]>
+        ensures { option_map (λ field. field.now) result ≡ field_at (last_record self.now.rows) place }
+    {
+        self.rows.last_field(place)
+    }
+
+    /// What was finished so far.
+    pub fn snapshot(&self) -> &Snapshot
+        ensures value { result.now ≡ self.now.snapshot }
+        ensures finished { (taken : List Item) (ahead : Answers) → IsRecording R.remaining self.now taken ahead → result.now ≡ finished_in taken }
+    {
+        &self.snapshot
+    }
+}
+
+/// All that the records of the reader finish, whatever they seal.
+pub fn snapshot_of<R: Read + Drop>(alloc: Global, reader: R) -> Result<Snapshot, RowFault>
+    ensures { IfSome (R.remaining reader) (λ text. IsRecorded text result) }
+{
+    let mut recording = match Recording::new(alloc, reader) {
+        Ok(recording) => recording,
+        Err(NoMemory) => {
+            return Err(RowFault {
+                row: 1,
+                kind: RowFaultKind::NoMemory,
+            });
+        }
+    };
+    match recording.pass_seals(alloc) {
+        Ok(()) => Ok(recording.snapshot),
+        Err(fault) => Err(fault),
+    }
+}

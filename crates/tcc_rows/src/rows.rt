@@ -1,0 +1,357 @@
+//! Transactions and seals as they come out of records.
+ghost use Rattle.std.specs.Prelude.{◌≡◌, ◌≢◌, ◌+◌, ◌^◌, ◌<◌, ◌≤◌, List, [], length, true, IfOk, IfErr, IfSome, OnOk, MatchResult};
+ghost use Rattle.std.specs.Prelude.{None, Some, false, Ok, Err, option_map};
+ghost use Rattle.csv.specs.Records.{field_at};
+ghost use Rattle.tcc_rows.specs.Answers.{Answers, answers_after_within, answers_of, answers_within, fault_at_end, records_of, records_within};
+ghost use Rattle.tcc_rows.specs.Items.{kind_of};
+ghost use Rattle.tcc_rows.specs.Standing.{IsAfter, writes_no_zero};
+ghost use Rattle.tcc_txn.specs.declared.limits.Limits.{Limits};
+ghost use Rattle.tcc_txn.specs.declared.limits.Limits.TheVariants.{Small};
+ghost use Rattle.tcc_rows.specs.declared.rows.line.Line.{Line};
+
+mod draft;
+mod limited;
+mod line;
+mod progress;
+mod records;
+
+use line::{Line, read_line};
+use progress::Progress;
+use records::Records;
+use std::alloc::Global;
+use std::io::Read;
+use tcc_txn::{GrowFault, Limits, Name, NoMemory, Txn};
+use thiserror::Error;
+
+/// What the records give, in the order of their last records.
+#[derive(Drop)]
+pub enum Item {
+    /// A transaction of the session was finished.
+    Finished(Name, Txn),
+    /// An answer is wanted for what was finished so far.
+    Seal,
+    /// There are no more records.
+    End,
+}
+
+/// What is wrong with a record, in the order of checking.
+#[derive(Clone, Copy, Debug, PartialEq, Eq, Error)]
+pub enum RowFaultKind {
+    /// A record has 1, 2 or 4 fields.
+    #[error("a record has 1, 2 or 4 fields")]
+    FieldCount,
+    /// Of 2 or 4 fields the first is a name.
+    #[error("the session is no name")]
+    BadSession,
+    /// The one field is `seal`; of two the second is `begin`, `commit` or `abort`; of four the
+    /// second is `r` or `w`.
+    #[error("the word is unknown")]
+    UnknownWord,
+    /// The key is a name.
+    #[error("the key is no name")]
+    BadKey,
+    /// The value is decimal digits without sign and without leading zeros, at most
+    /// 18446744073709551615.
+    #[error("the value is no number of 64 bits")]
+    BadValue,
+    /// The value 0 is never written.
+    #[error("0 is written")]
+    WriteOfZero,
+    /// No transaction of the session is begun.
+    #[error("no transaction of the session is begun")]
+    NotBegun,
+    /// A transaction of the session is begun already.
+    #[error("a transaction of the session is begun already")]
+    AlreadyBegun,
+    /// A transaction has at most `MAX_OPERATIONS` operations.
+    #[error("the transaction has too many operations")]
+    TooManyOps,
+    /// An input has at most `MAX_SESSIONS` sessions.
+    #[error("there are too many sessions")]
+    TooManySessions,
+    /// An input has at most `MAX_TRANSACTIONS` transactions, aborted ones among them.
+    #[error("there are too many transactions")]
+    TooManyTransactions,
+    /// An input has at most `MAX_KEYS` keys.
+    #[error("there are too many keys")]
+    TooManyKeys,
+    /// An input has at most `MAX_SEALS` seals.
+    #[error("there are too many seals")]
+    TooManySeals,
+    /// The input ended inside a transaction; of several sessions this is the least.
+    #[error("the transaction of {session} has no end")]
+    Unfinished { session: Name },
+    /// The reader failed, or gave more than `MAX_INPUT_BYTES` bytes.
+    #[error("the reader failed")]
+    Read,
+    /// Out of memory.
+    #[error("out of memory")]
+    NoMemory,
+}
+
+impl From<GrowFault> for RowFaultKind {
+    ghost from_gives = { λ fault kind. kind ≡ kind_of fault };
+
+    fn from(fault: GrowFault) -> RowFaultKind {
+        match fault {
+            GrowFault::TooManySessions => RowFaultKind::TooManySessions,
+            GrowFault::TooManyTransactions => RowFaultKind::TooManyTransactions,
+            GrowFault::NoMemory => RowFaultKind::NoMemory,
+        }
+    }
+}
+
+/// The record, counted from 1, and what is wrong with it. `Unfinished` stands at the last record;
+/// where the reading of a record failed, that is the one after the last that was read.
+#[derive(Clone, Copy, Debug, PartialEq, Eq, Error)]
+#[error("row {row}: {kind}")]
+pub struct RowFault {
+    pub row: u64,
+    pub kind: RowFaultKind,
+}
+
+/// How far the reading has come.
+#[derive(Clone, Copy)]
+enum Phase {
+    /// There may be more records.
+    Reading,
+    /// There are none.
+    Ended,
+    /// A fault was met.
+    Stopped(RowFault),
+}
+
+/// The transactions and seals of a reader's records.
+#[derive(Drop)]
+pub struct Rows<R> {
+    records: Records<R>,
+    progress: Progress,
+    /// The session of the last operation.
+    session: Option<Name>,
+    phase: Phase,
+}
+
+impl<R: Read + Drop> Rows<R> {
+    ghost use Rattle.tcc_rows.specs.Ahead.{FaultsIn, IsAhead, TakesAnswer, fault_met, has_ended};
+    ghost use Rattle.tcc_rows.specs.Failing.{FailsAtWithin, FailsIn, items_before_within};
+    ghost use Rattle.tcc_rows.specs.Midway.{IsMidway};
+    ghost use Rattle.tcc_rows.specs.Lines.{Record, is_cut, line_of};
+    ghost use Rattle.tcc_rows.specs.Phases.{phase_after, phase_after_step};
+    ghost use Rattle.tcc_rows.specs.Reached.{HasGivenUp, IsWithin, ReaderFailed, StandsBy, StandsIn, last_record, row_reached};
+    ghost use Rattle.tcc_rows.specs.Recordings.{after_items};
+    ghost use Rattle.tcc_rows.specs.declared.rows.Item.{Item};
+    ghost use Rattle.tcc_rows.specs.Stages.{LeavesIn, MeetsLine, TakesFields, TakesItem, TakesStep};
+    ghost use Rattle.tcc_rows.specs.declared.rows.records.Course.TheVariants as course;
+
+    /// The rows of what the reader gives; it is gone where memory is refused.
+    pub fn new(alloc: Global, reader: R) -> Result<Rows<R>, NoMemory>
+        ensures ahead { IfOk result (λ rows. IfSome (R.remaining reader) (λ text. IsAhead Small R.remaining rows (answers_of text))) }
+        ensures within { IfOk result (λ rows. IfSome (R.remaining reader) (λ text. IsWithin R.remaining rows (records_of text))) }
+        ensures fresh { IfOk result (λ rows. fault_met rows ≡ None) }
+    {
+        Rows::within(alloc, reader, Limits::Small)
+    }
+
+    /// The same within the limits given.
+    pub fn within(alloc: Global, reader: R, limits: Limits) -> Result<Rows<R>, NoMemory>
+        ensures ahead { IfOk result (λ rows. IfSome (R.remaining reader) (λ text. IsAhead limits R.remaining rows (answers_within limits text))) }
+        ensures within { IfOk result (λ rows. IfSome (R.remaining reader) (λ text. IsWithin R.remaining rows (records_within limits text))) }
+        ensures fresh { IfOk result (λ rows. fault_met rows ≡ None) }
+    {
+        Ok(Rows {
+            records: Records::new(alloc, reader, limits),
+            progress: Progress::new(alloc, limits),
+            session: None,
+            phase: Phase::Reading,
+        })
+    }
+
+    /// The next item, or the first fault; after `End` there is `End`, after a fault that fault.
+    pub fn next(&mut self, alloc: Global) -> Result<Item, RowFault>
+        ensures answers { (limits : Limits) (ahead : Answers) → IsAhead limits R.remaining self.old ahead
+            → TakesAnswer limits R.remaining ahead result self.new }
+
+        // The records are those of the text in turn, and none is passed uncounted.
+        ensures within { (all : List Record) → IsWithin R.remaining self.old all → IsWithin R.remaining self.new all }
+
+        // Whatever is known of the bytes, a fault stands at the record that was read last, or at the
+        // one after it where its reading failed; and only a reader that failed makes it `Read`.
+        ensures row { IfErr result (λ fault. fault_met self.old ≡ None → fault.row ≡ row_reached self.new) }
+        ensures read { IfErr result (λ fault. fault_met self.old ≡ None → fault.kind ≡ RowFaultKind.Read → ReaderFailed self.new) }
+
+        // Where a record can't be read, all before it are lawful, and the items so far are theirs.
+        ensures failed { IfErr result (λ fault. fault_met self.old ≡ None → fault.kind ≡ RowFaultKind.Read
+            → (limits : Limits) (all : List Record) (taken : List Item) (ahead : Answers) → answers_after_within limits [] all ≡ after_items taken ahead
+            → IsWithin R.remaining self.old all → IsAhead limits R.remaining self.old ahead
+            → FailsAtWithin limits fault.row all × (taken ≡ items_before_within limits fault.row all)) }
+
+        // A fault stays, and so does the end, whatever is known of the bytes.
+        ensures stops { IfErr result (λ fault. fault_met self.new ≡ Some fault) }
+        ensures stays_stopped { IfSome (fault_met self.old) (λ fault. result ≡ Err fault) }
+        ensures goes_on { OnOk result (fault_met self.new ≡ None) }
+        ensures ends { result ≡ Ok Item.End → has_ended self.new ≡ true }
+        ensures stays_ended { has_ended self.old ≡ true → result ≡ Ok Item.End }
+        ensures phase { IfOk result (λ given. self.new.phase ≡ phase_after given) }
+    {
+        match self.phase {
+            Phase::Reading => {}
+            Phase::Ended => return Ok(Item::End),
+            Phase::Stopped(fault) => return Err(fault),
+        }
+        match self.advance(alloc) {
+            Ok(item) => Ok(item),
+            Err(fault) => {
+                self.stop(&fault);
+                Err(fault)
+            }
+        }
+    }
+
+    /// The field at the place, counted from 0, of the record that was read last.
+    pub fn last_field(&self, place: usize) -> Option<&[u8]>
+        ensures { option_map (λ field. field.now) result ≡ field_at (last_record self.now) place }
+    {
+        self.records.field(place)
+    }
+
+    /// Keeps the fault for all later answers.
+    fn stop(&mut self, fault: &RowFault)
+        ensures { self.new ≡ record self.old { phase = Phase.Stopped fault.now } }
+    {
+        self.phase = Phase::Stopped(*fault);
+    }
+
+    /// A fault at the row that was reached.
+    fn fault(&self, kind: RowFaultKind) -> RowFault
+        ensures { result ≡ record { row = row_reached self.now; kind = kind } }
+    {
+        RowFault {
+            row: self.records.row(),
+            kind,
+        }
+    }
+
+    /// Gives up at the row that was reached.
+    pub(crate) fn give_up(&mut self, kind: RowFaultKind) -> RowFault
+        ensures fault { result ≡ record { row = row_reached self.old; kind = kind } }
+        ensures stopped { self.new ≡ record self.old { phase = Phase.Stopped result } }
+    {
+        let fault = self.fault(kind);
+        self.stop(&fault);
+        fault
+    }
+
+    /// Goes past records up to the next item.
+    fn advance(&mut self, alloc: Global) -> Result<Item, RowFault>
+        requires { self.old.phase ≡ Phase.Reading }
+        ensures item { IfOk result (λ given. (limits : Limits) (ahead : Answers) → IsMidway limits R.remaining self.old ahead
+            → TakesItem limits R.remaining ahead given self.new) }
+        ensures phase { IfOk result (λ given. self.new.phase ≡ phase_after given) }
+        ensures fault { IfErr result (λ fault. (limits : Limits) (ahead : Answers) → IsMidway limits R.remaining self.old ahead → FaultsIn limits ahead fault) }
+        ensures failed { IfErr result (λ fault. fault.kind ≡ RowFaultKind.Read → (limits : Limits) (all : List Record) (ahead : Answers)
+            → StandsIn R.remaining self.old.records all → IsMidway limits R.remaining self.old ahead → FailsIn limits all ahead fault.row) }
+        ensures row { IfErr result (λ fault. fault.row ≡ row_reached self.new) }
+        ensures read { IfErr result (λ fault. fault.kind ≡ RowFaultKind.Read → ReaderFailed self.new) }
+        ensures within { (all : List Record) → StandsIn R.remaining self.old.records all
+            → MatchResult result (λ given. StandsBy self.new.phase R.remaining self.new.records all) (λ fault. self.new.records.count ≤ length all) }
+    {
+        'records: loop {
+            match self.step(alloc) {
+                Ok(Some(item)) => return Ok(item),
+                Ok(None) => {}
+                Err(fault) => return Err(fault),
+            }
+        }
+    }
+
+    /// Goes past one line that is no operation, or to the end.
+    fn step(&mut self, alloc: Global) -> Result<Option<Item>, RowFault>
+        requires { self.old.phase ≡ Phase.Reading }
+        ensures step { (limits : Limits) (ahead : Answers) → IsMidway limits R.remaining self.old ahead → TakesStep limits R.remaining ahead result self.new }
+        ensures phase { IfOk result (λ given. self.new.phase ≡ phase_after_step given) }
+        ensures row { IfErr result (λ fault. fault.row ≡ row_reached self.new) }
+        ensures read { IfErr result (λ fault. fault.kind ≡ RowFaultKind.Read → ReaderFailed self.new) }
+        ensures failed { IfErr result (λ fault. fault.kind ≡ RowFaultKind.Read → (limits : Limits) (all : List Record) (ahead : Answers)
+            → StandsIn R.remaining self.old.records all → IsMidway limits R.remaining self.old ahead → FailsIn limits all ahead fault.row) }
+        ensures within { (all : List Record) → StandsIn R.remaining self.old.records all
+            → MatchResult result (λ given. StandsBy self.new.phase R.remaining self.new.records all) (λ fault. self.new.records.count ≤ length all) }
+        ensures more { result ≡ Ok None → self.old.records.count < self.new.records.count }
+        ensures fits { result ≡ Ok None → self.new.records.count < 2 ^ 64 }
+    {
+        match self.next_line() {
+            Ok(Some(line)) => self.take_line(alloc, line),
+            Ok(None) => self.finish(),
+            Err(kind) => Err(self.fault(kind)),
+        }
+    }
+
+    /// Goes past operations, and gives the line after them, if there is one.
+    fn next_line(&mut self) -> Result<Option<Line>, RowFaultKind>
+        ensures line { (limits : Limits) (ahead : Answers) → IsMidway limits R.remaining self.old ahead → MeetsLine limits R.remaining ahead result self.new }
+        ensures phase { self.new.phase ≡ self.old.phase }
+        ensures no_zero { IfOk result (λ found. IfSome found writes_no_zero) }
+        ensures read { IfErr result (λ kind. kind ≡ RowFaultKind.Read → HasGivenUp self.new.records) }
+        ensures failed { IfErr result (λ kind. kind ≡ RowFaultKind.Read → (limits : Limits) (all : List Record) (ahead : Answers)
+            → StandsIn R.remaining self.old.records all → IsMidway limits R.remaining self.old ahead → FailsIn limits all ahead (row_reached self.new)) }
+        ensures within { (all : List Record) → StandsIn R.remaining self.old.records all → LeavesIn R.remaining all result self.new.records }
+        ensures more { IfOk result (λ found. IfSome found (λ line. self.old.records.count < self.new.records.count)) }
+        ensures fits { IfOk result (λ found. IfSome found (λ line. self.new.records.count < 2 ^ 64)) }
+    {
+        'records: loop {
+            match self.records.read() {
+                Ok(true) => {}
+                Ok(false) => return Ok(None),
+                Err(kind) => return Err(kind),
+            }
+            let record = self.records.record();
+            if record.len() != 4 {
+                return match read_line(record) {
+                    Ok(line) => Ok(Some(line)),
+                    Err(kind) => Err(kind),
+                };
+            }
+            if let Err(kind) = self.progress.pass_operation(&mut self.session, record) {
+                return Err(kind);
+            }
+        }
+    }
+
+    /// Goes past the line that the record read last is.
+    fn take_line(&mut self, alloc: Global, line: Line) -> Result<Option<Item>, RowFault>
+        requires { writes_no_zero line }
+        ensures fields { (limits : Limits) (past : List Line) (fields : Record) → IsAfter limits past self.old.progress
+            → row_reached self.old ≡ length past + 1
+            → is_cut fields ≡ false → line_of fields ≡ Ok line → TakesFields limits past fields result self.new }
+        ensures records { self.new.records ≡ self.old.records }
+        ensures phase { self.old.phase ≡ Phase.Reading → IfOk result (λ given. self.new.phase ≡ phase_after_step given) }
+        ensures row { IfErr result (λ fault. fault.row ≡ row_reached self.new) }
+        ensures read { IfErr result (λ fault. fault.kind ≢ RowFaultKind.Read) }
+        ensures going { self.old.phase ≡ Phase.Reading → OnOk result (self.new.phase ≡ Phase.Reading) }
+    {
+        match self.progress.pass(alloc, line) {
+            Ok(item) => Ok(item),
+            Err(kind) => Err(self.fault(kind)),
+        }
+    }
+
+    /// The end of the records.
+    fn finish(&mut self) -> Result<Option<Item>, RowFault>
+        ensures unfinished { IfErr result (λ fault. (limits : Limits) (past : List Line) → IsAfter limits past self.old.progress
+            → row_reached self.old ≡ length past
+            → fault_at_end past ≡ Some fault) }
+        ensures closed { OnOk result ((limits : Limits) (past : List Line) → IsAfter limits past self.old.progress → fault_at_end past ≡ None) }
+        ensures end { IfOk result (λ given. given ≡ Some Item.End) }
+        ensures phase { OnOk result (self.new.phase ≡ Phase.Ended) }
+        ensures records { self.new.records ≡ self.old.records }
+        ensures row { IfErr result (λ fault. fault.row ≡ row_reached self.new) }
+        ensures read { IfErr result (λ fault. fault.kind ≢ RowFaultKind.Read) }
+    {
+        match self.progress.unfinished() {
+            Some(session) => Err(self.fault(RowFaultKind::Unfinished { session })),
+            None => {
+                self.phase = Phase::Ended;
+                Ok(Some(Item::End))
+            }
+        }
+    }
+}

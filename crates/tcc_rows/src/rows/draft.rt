@@ -1,0 +1,74 @@
+//! The operations of a transaction that is not finished.
+ghost use Rattle.std.specs.Prelude.{◌≡◌, ◌≤◌, ◌<◌, ◌⊎◌, ◌++◌, ◌∷◌, [], false, length, OnOk, IfErr, ◌≢◌};
+ghost use Rattle.tcc_rows.specs.Drafts.{AddsOp};
+ghost use Rattle.tcc_txn.specs.Transactions.{writes_zero};
+ghost use Rattle.tcc_txn.specs.declared.limits.TheConstants.{MAX_OPERATIONS};
+
+use super::RowFaultKind;
+use std::alloc::Global;
+use std::marker::Model;
+use tcc_txn::{MAX_OPERATIONS, Op, Txn};
+
+/// Up to `MAX_OPERATIONS` operations, of which none writes 0.
+#[derive(Drop)]
+pub(crate) struct Draft {
+    ops: Vec<Op>,
+}
+
+impl Model for Draft {
+    ghost use Rattle.std.specs.Prelude.{◌≡◌, List, None};
+    ghost use Rattle.tcc_txn.specs.Transactions.{txn_fault};
+    ghost use Rattle.tcc_txn.specs.declared.op.Op.{Op};
+
+    ghost Value = { List Op };
+
+    ghost view = { λ d. d.ops.items };
+
+    ghost invariant = { λ d. txn_fault d.ops.items ≡ None };
+}
+
+impl Draft {
+    pub(crate) fn new(alloc: Global) -> Draft
+        ensures { result ≡ [] }
+    {
+        Draft {
+            ops: Vec::new(alloc),
+        }
+    }
+
+    /// One more operation.
+    fn push(&mut self, op: Op) -> Result<(), RowFaultKind>
+        requires { writes_zero op ≡ false }
+        ensures room { OnOk result (length self.old < MAX_OPERATIONS) }
+        ensures pushed { OnOk result (self.new ≡ self.old ++ op ∷ []) }
+        ensures refused { IfErr result (λ k. ((k ≡ RowFaultKind.TooManyOps) × (MAX_OPERATIONS ≤ length self.old)) ⊎ (k ≡ RowFaultKind.NoMemory)) }
+        ensures other { IfErr result (λ kind. kind ≢ RowFaultKind.Read) }
+    {
+        if self.ops.len() >= MAX_OPERATIONS {
+            return Err(RowFaultKind::TooManyOps);
+        }
+        if self.ops.push(op).is_err() {
+            return Err(RowFaultKind::NoMemory);
+        }
+        Ok(())
+    }
+
+    /// The transaction of the operations.
+    pub(crate) fn finish(self, committed: bool) -> Txn
+        ensures { result ≡ record { ops = self; committed = committed } }
+    {
+        Txn::new(self.ops, committed).unwrap()
+    }
+}
+
+/// One more operation of a transaction, if one is begun.
+pub(crate) fn add_operation(begun: &mut Option<Draft>, op: Op) -> Result<(), RowFaultKind>
+    requires { writes_zero op ≡ false }
+    ensures added { AddsOp op begun.old result begun.new }
+    ensures other { IfErr result (λ kind. kind ≢ RowFaultKind.Read) }
+{
+    match begun {
+        Some(draft) => draft.push(op),
+        None => Err(RowFaultKind::NotBegun),
+    }
+}

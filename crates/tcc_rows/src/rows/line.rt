@@ -1,0 +1,152 @@
+//! What one record says by itself.
+ghost use Rattle.std.specs.Prelude.{◌≡◌, ◌≢◌, ◌<◌, ◌∷◌, [], length, slice_index, IfErr};
+ghost use Rattle.csv.specs.Records.{field_at, fields_of};
+ghost use Rattle.tcc_rows.specs.Lines.{access_of, digits_of, line_of, op_of, session_of, value_of};
+
+use super::RowFaultKind;
+use csv::ByteRecord;
+use std::str;
+use tcc_txn::{Name, Op};
+
+/// What a lawful record says.
+#[derive(Clone, Copy)]
+pub(crate) enum Line {
+    /// An answer is wanted for what was finished so far.
+    Seal,
+    /// A transaction of the session begins.
+    Begin { session: Name },
+    /// The session's transaction is finished.
+    Finish { session: Name, committed: bool },
+    /// The session's transaction reads or writes.
+    Operation { session: Name, op: Op },
+}
+
+/// The number of 64 bits that the digits write.
+fn parse_digits(digits: &[u8]) -> Option<u64>
+    requires { slice_index digits.now 0 ≢ 43 }
+    ensures { result ≡ digits_of digits.now }
+{
+    match str::from_utf8(digits) {
+        Ok(text) => text.parse::<u64>().ok(),
+        Err(_) => None,
+    }
+}
+
+/// The number of 64 bits that the digits write, without sign and without leading zeros.
+fn read_value(digits: &[u8]) -> Option<u64>
+    ensures { result ≡ value_of digits.now }
+{
+    match digits {
+        [b'+', ..] | [b'0', _, ..] => None,
+        _ => parse_digits(digits),
+    }
+}
+
+/// A record of one field.
+fn read_seal(word: &[u8]) -> Result<Line, RowFaultKind>
+    ensures line { result ≡ line_of (word.now ∷ []) }
+    ensures other { IfErr result (λ kind. kind ≢ RowFaultKind.Read) }
+{
+    if word == b"seal".as_slice() {
+        Ok(Line::Seal)
+    } else {
+        Err(RowFaultKind::UnknownWord)
+    }
+}
+
+/// A record of two fields.
+fn read_turn(session: &[u8], word: &[u8]) -> Result<Line, RowFaultKind>
+    ensures line { result ≡ line_of (session.now ∷ word.now ∷ []) }
+    ensures other { IfErr result (λ kind. kind ≢ RowFaultKind.Read) }
+{
+    let Ok(session) = Name::read(session) else {
+        return Err(RowFaultKind::BadSession);
+    };
+    if word == b"begin".as_slice() {
+        Ok(Line::Begin { session })
+    } else if word == b"commit".as_slice() {
+        Ok(Line::Finish {
+            session,
+            committed: true,
+        })
+    } else if word == b"abort".as_slice() {
+        Ok(Line::Finish {
+            session,
+            committed: false,
+        })
+    } else {
+        Err(RowFaultKind::UnknownWord)
+    }
+}
+
+/// A read or a write of the key.
+pub(crate) fn read_op(writes: bool, key: &[u8], value: &[u8]) -> Result<Op, RowFaultKind>
+    ensures op { result ≡ op_of writes key.now value.now }
+    ensures other { IfErr result (λ kind. kind ≢ RowFaultKind.Read) }
+{
+    let Ok(key) = Name::read(key) else {
+        return Err(RowFaultKind::BadKey);
+    };
+    let Some(value) = read_value(value) else {
+        return Err(RowFaultKind::BadValue);
+    };
+    if !writes {
+        Ok(Op::Get { key, value })
+    } else if value == 0 {
+        Err(RowFaultKind::WriteOfZero)
+    } else {
+        Ok(Op::Put { key, value })
+    }
+}
+
+/// The session of an operation, which is mostly that of the one before.
+pub(crate) fn read_session(last: &mut Option<Name>, session: &[u8]) -> Result<Name, RowFaultKind>
+    ensures session { result ≡ session_of session.now }
+    ensures other { IfErr result (λ kind. kind ≢ RowFaultKind.Read) }
+{
+    if let Some(name) = last {
+        if name.is(session) {
+            return Ok(*name);
+        }
+    }
+    let Ok(name) = Name::read(session) else {
+        return Err(RowFaultKind::BadSession);
+    };
+    *last = Some(name);
+    Ok(name)
+}
+
+/// Whether the operation is a write.
+pub(crate) fn read_access(word: &[u8]) -> Result<bool, RowFaultKind>
+    ensures access { result ≡ access_of word.now }
+    ensures other { IfErr result (λ kind. kind ≢ RowFaultKind.Read) }
+{
+    if word == b"r".as_slice() {
+        Ok(false)
+    } else if word == b"w".as_slice() {
+        Ok(true)
+    } else {
+        Err(RowFaultKind::UnknownWord)
+    }
+}
+
+/// The field at the place.
+pub(crate) fn field(record: &ByteRecord, place: usize) -> &[u8]
+    requires { place < length (fields_of record.now) }
+    ensures { Some result.now ≡ field_at (fields_of record.now) place }
+{
+    record.get(place).unwrap()
+}
+
+/// The line that a record of other than four fields is, or what is wrong with the record by itself.
+pub(crate) fn read_line(record: &ByteRecord) -> Result<Line, RowFaultKind>
+    requires { length (fields_of record.now) ≢ 4 }
+    ensures line { result ≡ line_of (fields_of record.now) }
+    ensures other { IfErr result (λ kind. kind ≢ RowFaultKind.Read) }
+{
+    match record.len() {
+        1 => read_seal(field(record, 0)),
+        2 => read_turn(field(record, 0), field(record, 1)),
+        _ => Err(RowFaultKind::FieldCount),
+    }
+}

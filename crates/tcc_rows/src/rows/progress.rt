@@ -1,0 +1,260 @@
+//! What the lines so far have begun, finished and named.
+ghost use Rattle.std.specs.Prelude.{◌≡◌, ℕ, ◌∷◌, [], false, List, IfOk, Some, None, All, fold, length, ◌≢◌, IfErr};
+ghost use Rattle.std.specs.BTreeMap.{get};
+ghost use Rattle.std.specs.Ordering.{nat_cmp};
+ghost use Rattle.std.specs.Cmp.Lexicographic.{slice_cmp};
+ghost use Rattle.std.specs.Option.{option_map_or};
+ghost use Rattle.csv.specs.Records.{fields_of};
+ghost use Rattle.tcc_rows.specs.Lines.{line_of};
+ghost use Rattle.tcc_rows.specs.Past.{least, lesser, open_sessions, ops_since};
+ghost use Rattle.tcc_rows.specs.Standing.{HoldsNames, HoldsSeats, IsAfter, MayBegin, NotesName, PassesLine, PassesOperation, TakesLine, lower, writes_no_zero};
+ghost use Rattle.tcc_txn.specs.Transactions.{writes_zero};
+ghost use Rattle.tcc_rows.specs.Phases.{phase_after_step};
+ghost use Rattle.tcc_txn.specs.declared.limits.Limits.{Limits};
+ghost use Rattle.tcc_rows.specs.declared.rows.Phase.TheVariants as phase;
+ghost use Rattle.tcc_rows.specs.declared.rows.line.Line.{Line};
+ghost use Rattle.tcc_rows.specs.declared.rows.line.Line.TheVariants as line;
+
+use super::draft::{Draft, add_operation};
+use super::line::{Line, field, read_access, read_op, read_session};
+use super::{Item, RowFaultKind};
+use csv::ByteRecord;
+use std::alloc::Global;
+use std::collections::{BTreeMap, BTreeSet};
+use tcc_txn::{Limits, MAX_SEALS, Name, Op, Txn};
+
+/// The limits; each session with the operations of the transaction that it has begun; the keys so far; how
+/// many transactions were begun and how many seals there were.
+#[derive(Drop)]
+pub(crate) struct Progress {
+    limits: Limits,
+    sessions: BTreeMap<Name, Option<Draft>>,
+    keys: BTreeSet<Name>,
+    begun: usize,
+    seals: usize,
+}
+
+/// The key is one of those so far, of which there are not too many.
+fn note_key(keys: &mut BTreeSet<Name>, key: Name, limits: Limits) -> Result<(), RowFaultKind>
+    ensures noted { (names : List (List ℕ)) → HoldsNames limits names keys.old → NotesName limits names key result keys.new }
+    ensures other { IfErr result (λ kind. kind ≢ RowFaultKind.Read) }
+{
+    if keys.contains(&key) {
+        return Ok(());
+    }
+    if keys.len() >= limits.keys() {
+        return Err(RowFaultKind::TooManyKeys);
+    }
+    match keys.insert(key) {
+        Ok(_) => Ok(()),
+        Err(_) => Err(RowFaultKind::NoMemory),
+    }
+}
+
+/// Whether the session can begin a transaction, as far as the sessions go.
+fn may_begin(
+    sessions: &BTreeMap<Name, Option<Draft>>,
+    session: &Name,
+    limits: Limits,
+) -> Result<(), RowFaultKind>
+    ensures may { (past : List Line) → HoldsSeats limits past sessions.now → MayBegin limits past session.now result }
+    ensures other { IfErr result (λ kind. kind ≢ RowFaultKind.Read) }
+{
+    match sessions.get(session) {
+        Some(Some(_)) => Err(RowFaultKind::AlreadyBegun),
+        Some(None) => Ok(()),
+        None => {
+            if sessions.len() >= limits.sessions() {
+                Err(RowFaultKind::TooManySessions)
+            } else {
+                Ok(())
+            }
+        }
+    }
+}
+
+/// The lesser of the two names, where there is another.
+fn lesser_of(name: Option<Name>, session: &Name) -> Name
+    ensures { result ≡ option_map_or (λ other. lesser other session.now) name session.now }
+{
+    match name {
+        Some(other) if other <= *session => other,
+        _ => *session,
+    }
+}
+
+/// The least session that has begun a transaction, in byte order.
+fn least_begun(sessions: &BTreeMap<Name, Option<Draft>>) -> Option<Name>
+    ensures least { result ≡ fold lower None sessions.now.entries }
+    ensures found { All (λ e. get (slice_cmp nat_cmp) sessions.now e.0 ≡ Some e.1) sessions.now.entries }
+{
+    let mut least = None;
+    for (session, begun) in sessions.iter() {
+        if begun.is_some() {
+            least = Some(lesser_of(least, session));
+        }
+    }
+    least
+}
+
+impl Progress {
+    pub(crate) fn new(alloc: Global, limits: Limits) -> Progress
+        ensures { IsAfter limits [] result }
+    {
+        Progress {
+            limits,
+            sessions: BTreeMap::new(alloc),
+            keys: BTreeSet::new(alloc),
+            begun: 0,
+            seals: 0,
+        }
+    }
+
+    /// An answer is wanted.
+    fn seal(&mut self) -> Result<(), RowFaultKind>
+        ensures passed { (limits : Limits) (past : List Line) → IsAfter limits past self.old → PassesLine limits past line.Seal result self.new }
+        ensures refused { IfErr result (λ kind. kind ≡ RowFaultKind.TooManySeals) }
+    {
+        if self.seals >= MAX_SEALS {
+            return Err(RowFaultKind::TooManySeals);
+        }
+        self.seals += 1;
+        Ok(())
+    }
+
+    /// A transaction of the session begins.
+    fn begin(&mut self, alloc: Global, session: Name) -> Result<(), RowFaultKind>
+        ensures passed { (limits : Limits) (past : List Line) → IsAfter limits past self.old → PassesLine limits past (line.Begin session) result self.new }
+        ensures other { IfErr result (λ kind. kind ≢ RowFaultKind.Read) }
+    {
+        may_begin(&self.sessions, &session, self.limits)?;
+        if self.begun >= self.limits.transactions() {
+            return Err(RowFaultKind::TooManyTransactions);
+        }
+        match self.sessions.insert(session, Some(Draft::new(alloc))) {
+            Ok(_) => {
+                self.begun += 1;
+                Ok(())
+            }
+            Err(_) => Err(RowFaultKind::NoMemory),
+        }
+    }
+
+    /// The session's transaction is finished.
+    fn finish(&mut self, session: Name, committed: bool) -> Result<Txn, RowFaultKind>
+        ensures passed { (limits : Limits) (past : List Line) → IsAfter limits past self.old
+            → PassesLine limits past (line.Finish session committed) result self.new }
+        ensures finished { (limits : Limits) (past : List Line) → IsAfter limits past self.old
+            → IfOk result (λ txn. txn ≡ record { ops = ops_since session past; committed = committed }) }
+        ensures other { IfErr result (λ kind. kind ≢ RowFaultKind.Read) }
+    {
+        let Some(Some(_)) = self.sessions.get(&session) else {
+            return Err(RowFaultKind::NotBegun);
+        };
+        match self.sessions.insert(session, None) {
+            Ok(Some(Some(draft))) => Ok(draft.finish(committed)),
+            _ => Err(RowFaultKind::NoMemory),
+        }
+    }
+
+    /// The session's transaction reads or writes.
+    fn operate(&mut self, session: Name, op: Op) -> Result<(), RowFaultKind>
+        requires { writes_zero op ≡ false }
+        ensures passed { (limits : Limits) (past : List Line) → IsAfter limits past self.old
+            → PassesLine limits past (line.Operation session op) result self.new }
+        ensures other { IfErr result (λ kind. kind ≢ RowFaultKind.Read) }
+    {
+        let key = op.key();
+        match self.sessions.get_mut(&session) {
+            Some(begun) => {
+                if let Err(kind) = add_operation(begun, op) {
+                    return Err(kind);
+                }
+            }
+            None => return Err(RowFaultKind::NotBegun),
+        }
+        note_key(&mut self.keys, key, self.limits)
+    }
+
+    /// Goes past an operation, where four fields are one; `last` is the session of the one before.
+    fn pass_fields(
+        &mut self,
+        last: &mut Option<Name>,
+        session: &[u8],
+        word: &[u8],
+        key: &[u8],
+        value: &[u8],
+    ) -> Result<(), RowFaultKind>
+        ensures passed { (limits : Limits) (past : List Line) → IsAfter limits past self.old
+            → PassesOperation limits past (session.now ∷ word.now ∷ key.now ∷ value.now ∷ []) result self.new }
+        ensures other { IfErr result (λ kind. kind ≢ RowFaultKind.Read) }
+    {
+        let session = match read_session(last, session) {
+            Ok(session) => session,
+            Err(kind) => return Err(kind),
+        };
+        let writes = match read_access(word) {
+            Ok(writes) => writes,
+            Err(kind) => return Err(kind),
+        };
+        let op = match read_op(writes, key, value) {
+            Ok(op) => op,
+            Err(kind) => return Err(kind),
+        };
+        self.operate(session, op)
+    }
+
+    /// Goes past a record of four fields, where it is an operation.
+    pub(crate) fn pass_operation(
+        &mut self,
+        last: &mut Option<Name>,
+        record: &ByteRecord,
+    ) -> Result<(), RowFaultKind>
+        requires { length (fields_of record.now) ≡ 4 }
+        ensures passed { (limits : Limits) (past : List Line) → IsAfter limits past self.old
+            → PassesOperation limits past (fields_of record.now) result self.new }
+        ensures other { IfErr result (λ kind. kind ≢ RowFaultKind.Read) }
+    {
+        self.pass_fields(
+            last,
+            field(record, 0),
+            field(record, 1),
+            field(record, 2),
+            field(record, 3),
+        )
+    }
+
+    /// Goes past the line, which may finish something.
+    pub(crate) fn pass(&mut self, alloc: Global, line: Line) -> Result<Option<Item>, RowFaultKind>
+        requires { writes_no_zero line }
+        ensures passed { (limits : Limits) (past : List Line) → IsAfter limits past self.old → TakesLine limits past line result self.new }
+        ensures going { IfOk result (λ given. phase_after_step given ≡ phase.Reading) }
+        ensures other { IfErr result (λ kind. kind ≢ RowFaultKind.Read) }
+    {
+        match line {
+            Line::Seal => match self.seal() {
+                Ok(()) => Ok(Some(Item::Seal)),
+                Err(kind) => Err(kind),
+            },
+            Line::Begin { session } => match self.begin(alloc, session) {
+                Ok(()) => Ok(None),
+                Err(kind) => Err(kind),
+            },
+            Line::Finish { session, committed } => match self.finish(session, committed) {
+                Ok(txn) => Ok(Some(Item::Finished(session, txn))),
+                Err(kind) => Err(kind),
+            },
+            Line::Operation { session, op } => match self.operate(session, op) {
+                Ok(()) => Ok(None),
+                Err(kind) => Err(kind),
+            },
+        }
+    }
+
+    /// The least session whose transaction is not finished.
+    pub(crate) fn unfinished(&self) -> Option<Name>
+        ensures { (limits : Limits) (past : List Line) → IsAfter limits past self.now → result ≡ least (open_sessions past) }
+    {
+        least_begun(&self.sessions)
+    }
+}

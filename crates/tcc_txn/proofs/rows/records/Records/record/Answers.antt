@@ -1,5 +1,0 @@
-use Rattle.tcc_txn.proofs.FieldBytes.{none-cut}
-use Rattle.tcc_txn.proofs.rows.records.Records.record.Goals as goal
-
-pub returns-clause-whole : goal.returns-clause-whole
-returns-clause-whole g c = none-cut _ 0 _ _ (rw c.as_slice.ensures at c.byte_count-bytes.ensures.unmarked)

@@ -1,5 +1,0 @@
-use Rattle.tcc_txn.proofs.FieldBytes.{none-marked}
-use Rattle.tcc_txn.proofs.rows.records.byte_count.Goals as goal
-
-pub returns-clause-unmarked : goal.returns-clause-unmarked
-returns-clause-unmarked c = none-marked _ (λ k. (c.type_inv.bytes k).fits)

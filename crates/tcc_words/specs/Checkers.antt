@@ -1,0 +1,33 @@
+-- What the words of the checker's command line ask for: the program that has the check alone.
+use Rattle.std.specs.Prelude.{ℕ, ◌≡◌, ◌⊎◌, List, [], Option, None, Some, Result, Ok, Err, codes}
+use Rattle.std.specs.String.{string_bytes}
+use Rattle.clap.specs.Walk.{Row, Text, first_of}
+use Rattle.clap.specs.Simple.{App, new_app, on_top, subcommand_of, with_subcommand}
+use Rattle.clap.specs.Faults.{fault_of}
+use Rattle.clap.specs.Kinds.{IsAmong}
+use Rattle.clap.specs.declared.error.kind.ErrorKind.{ErrorKind}
+use Rattle.clap.specs.declared.error.kind.ErrorKind.TheVariants.{OutOfMemory}
+use Rattle.tcc_words.specs.CommandLines.{EndsUnasked, check_command, with_subcommand_required, with_version}
+use Rattle.tcc_words.specs.declared.checker.Files.{Files}
+
+-- tcc_checker check HISTORY CERTIFICATE: the subcommand is the one of the program `tcc`, and has to be given
+abbrev pub checker_command : App
+checker_command =
+    let named : App = on_top with_subcommand_required (on_top with_version (new_app (codes "tcc_checker"))) in
+    with_subcommand named check_command.top
+
+-- the paths are those that clap finds for the subcommand that was met
+abbrev pub AsksFor : Option (Text × List Row) → Files → Type 0
+AsksFor None files = ⊥
+AsksFor (Some met) files =
+    (first_of (codes "history") met.1 ≡ Some (string_bytes files.history)) × (first_of (codes "certificate") met.1 ≡ Some (string_bytes files.certificate))
+
+abbrev pub Asks : List Text → Files → Type 0
+Asks words files = AsksFor (subcommand_of checker_command words) files
+
+-- a check is asked for only where clap finds no fault in the words, and it is the one that they ask for; else the run ends as
+-- one of their faults has it, or out of memory
+abbrev pub AreAsked : List Text → Option (List ℕ) → Option (List ℕ) → Result Files ℕ → Type 0
+AreAsked words before after (Ok files) = (fault_of checker_command words ≡ []) × Asks words files × (after ≡ before)
+AreAsked words before after (Err code) =
+    EndsUnasked OutOfMemory before after code ⊎ ((kind : ErrorKind) × IsAmong kind (fault_of checker_command words) × EndsUnasked kind before after code)

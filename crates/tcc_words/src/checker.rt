@@ -1,0 +1,85 @@
+//! What the command line of the checker asks for, the program that has `check` alone.
+ghost use Rattle.std.specs.Prelude.{◌≡◌, [], IfErr, IfOk, OnOk, map};
+ghost use Rattle.std.specs.String.{string_bytes};
+ghost use Rattle.clap.specs.Words.{FailsBy, app_of, fault_of, kind_of, subcommand_rows_of};
+ghost use Rattle.clap.specs.declared.error.kind.ErrorKind.{ErrorKind};
+ghost use Rattle.clap.specs.declared.error.kind.ErrorKind.TheVariants.{OutOfMemory};
+ghost use Rattle.tcc_words.specs.Checkers.{AreAsked, Asks, AsksFor, checker_command};
+ghost use Rattle.tcc_words.specs.CommandLines.{EndsUnasked};
+
+use crate::command_line::{Request, check_command, end_unasked, paths_of, words};
+use crate::help;
+use clap::{ArgMatches, Command, Error};
+use std::alloc::{AllocError, Global};
+use std::io::Write;
+
+/// The files to check.
+#[derive(Drop)]
+pub struct Files {
+    /// The path of the history's records.
+    pub history: String,
+    /// The path of the certificate's text.
+    pub certificate: String,
+}
+
+/// The command by which words are read.
+fn command<'a>(alloc: Global) -> Result<Command<'a>, AllocError>
+    ensures { IfOk result (λ made. app_of made ≡ checker_command) }
+{
+    let check = check_command(alloc)?;
+    Command::new(alloc, "tcc_checker")
+        .about("Checks certificates of causal consistency, and has no search")
+        .after_help(help::CHECKER)
+        .version(help::VERSION)
+        .subcommand_required(true)
+        .subcommand(check)
+}
+
+/// The files that the matches ask for.
+fn files_of(alloc: Global, matches: &ArgMatches) -> Result<Files, Error>
+    ensures asked { IfOk result (AsksFor (subcommand_rows_of matches.now)) }
+    ensures fails { IfErr result (λ e. kind_of e ≡ OutOfMemory) }
+{
+    let Some((_name, check)) = matches.subcommand() else {
+        // Words without the command are a fault by clap, so only memory can be wanting.
+        return Err(Error::from(AllocError));
+    };
+    match paths_of(alloc, check)? {
+        Request::Check {
+            history,
+            certificate,
+        } => Ok(Files {
+            history,
+            certificate,
+        }),
+        Request::Explain { .. } => unreachable!(),
+    }
+}
+
+/// What the words ask for.
+fn parse(alloc: Global, words: &[String]) -> Result<Files, Error>
+    ensures fails { FailsBy (fault_of checker_command (map string_bytes words.now)) result }
+    ensures asked { IfOk result (Asks (map string_bytes words.now)) }
+{
+    let matches = command(alloc)?.try_get_matches_from(words)?;
+    files_of(alloc, &matches)
+}
+
+/// What the words ask for; else the number that the process ends with.
+fn read_words<W: Write>(rt: &HostRuntime, words: &[String], out: &mut W) -> Result<Files, u8>
+    ensures { AreAsked (map string_bytes words.now) (W.contents out.old) (W.contents out.new) result }
+{
+    match parse(rt.alloc(), words) {
+        Ok(files) => Ok(files),
+        Err(error) => Err(end_unasked(rt, &error, out)),
+    }
+}
+
+/// What the process was asked to check, as `read_words` has it; else the number that it ends with.
+pub fn read_check<W: Write>(rt: &HostRuntime, out: &mut W) -> Result<Files, u8>
+    ensures quiet { OnOk result (W.contents out.new ≡ W.contents out.old) }
+    ensures ends { IfErr result (λ code. (kind : ErrorKind) × EndsUnasked kind (W.contents out.old) (W.contents out.new) code) }
+{
+    let words = words(rt, out)?;
+    read_words(rt, &words, out)
+}

@@ -1,0 +1,144 @@
+#!/usr/bin/env python3
+"""Runs a built `tcc` on records that somebody picked to slow it down, or to make it take memory.
+
+    run.py [--tcc PATH]
+
+Values of one key that hash alike, and names of keys and sessions that do, may take no more than some times the processor
+time of as many others, and have the same answers; long records, and many faults, no more than some times their bytes of
+memory. The values and names are made by `alike.c`, which needs a C compiler on the path (`cc` or `clang`); where there is
+none it says so and has failed. Each difference is one line; the last line is `N passed, M failed`.
+"""
+import argparse
+import itertools
+import os
+import pathlib
+import shlex
+import shutil
+import subprocess
+import sys
+import tempfile
+
+HERE = pathlib.Path(__file__).resolve().parent
+TOP = HERE.parent.parent
+sys.path.insert(0, str(TOP / "tests"))
+from compared import first_difference, shown  # noqa: E402
+from counted import status_of  # noqa: E402
+
+WRITERS, WRITES = 400, 250
+KEYS, SESSIONS = 1024, 64
+# So many times the processor time of other values, and so many seconds beside it, may those that hash alike take.
+TIMES, BESIDE = 3, 0.5
+MEGABYTE, LONG = 1 << 20, 16
+# So much memory may there be beside what goes by the bytes of the records.
+SPARE = 24 << 20
+
+
+def transaction(session, operations):
+    """The records of one that commits."""
+    return "".join(["%s,begin\n" % session, *("%s,%s\n" % (session, one) for one in operations), "%s,commit\n" % session])
+
+
+def one_key(values):
+    """Session a writes all values at x, b reads the last one of each of its transactions; and the answer: nothing is read
+    that b knew to be overwritten, so those of a come first."""
+    parts = [values[n * WRITES:(n + 1) * WRITES] for n in range(WRITERS)]
+    writes = (transaction("a", ("w,x,%s" % value for value in part)) for part in parts)
+    reads = (transaction("b", ["r,x,%s" % part[-1]]) for part in parts)
+    order = ["init"] + ["%s/%d" % (session, n) for session in "ab" for n in range(1, WRITERS + 1)]
+    said = "consistent: %d transactions, 2 sessions\norder: %s\n" % (2 * WRITERS, " ".join(order))
+    return "".join(writes) + "".join(reads), said
+
+
+def many_names(names):
+    """Sessions of these names, each of which writes its part of the keys of these names; and the answer: they say nothing
+    of one another, so they come by name."""
+    each = KEYS // SESSIONS
+    sessions = names[:SESSIONS]
+    writes = (transaction(session, ("w,%s,1" % key for key in names[n * each:(n + 1) * each]))
+              for n, session in enumerate(sessions))
+    order = " ".join("%s/1" % session for session in sorted(sessions, key=str.encode))
+    return "".join(writes), "consistent: %d transactions, %d sessions\norder: init %s\n" % (SESSIONS, SESSIONS, order)
+
+
+def run(tcc, words, records):
+    """The status, the standard output, the seconds of processor time, and the most bytes of memory at a time, for records
+    that come in pieces: what this process holds itself counts as the program's memory until that begins."""
+    with tempfile.TemporaryFile() as given, tempfile.TemporaryFile() as said:
+        given.writelines(records)
+        given.seek(0)
+        running = subprocess.Popen([*tcc, *words], stdin=given, stdout=said, stderr=subprocess.DEVNULL)
+        _, status, used = os.wait4(running.pid, 0)
+        running.returncode = os.WEXITSTATUS(status) if os.WIFEXITED(status) else -os.WTERMSIG(status)
+        said.seek(0)
+        return running.returncode, said.read(), used.ru_utime + used.ru_stime, used.ru_maxrss << 10
+
+
+def slower(tcc, history, alike, others):
+    """What is wrong with the answers for what hashes alike, or with their time beside that of others; None if nothing is."""
+    seconds = []
+    for picked in (others, alike):
+        records, wanted = history(picked)
+        status, said, took, _ = run(tcc, ["explain"], [records.encode()])
+        wrong = first_difference("standard output", wanted.encode(), said)
+        if status != 0 or wrong:
+            return wrong or "status %d" % status
+        seconds.append(took)
+    most = TIMES * seconds[0] + BESIDE
+    return "%.2f seconds, and %.2f for others" % (seconds[1], seconds[0]) if seconds[1] > most else None
+
+
+def all_of(byte):
+    """A megabyte of this byte, so many times."""
+    return itertools.repeat(byte * MEGABYTE, LONG)
+
+
+def reads_of_nothing():
+    """A thousand transactions of 250 reads each, of values that nobody wrote."""
+    return (transaction("a", ["r,x,%d" % (n * 250 + k) for k in range(1, 251)]).encode() for n in range(1000))
+
+
+# Words, records, the status, how the answer begins, and how many bytes of memory there may be for each byte of records.
+LARGE = [
+    ("commas", ["explain"], lambda: all_of(b","), 3, b"row 1: FieldCount\n", 26),
+    ("one field", ["explain"], lambda: all_of(b"a"), 3, b"row 1: UnknownWord\n", 4),
+    ("empty lines", ["explain"], lambda: all_of(b"\n"), 0, b"consistent: 0 transactions, 0 sessions\norder: init\n", 0),
+    ("faults", ["explain"], reads_of_nothing, 2, b"unresolved: 250000 faults\n", 16),
+    ("faults as JSON", ["explain", "--json"], reads_of_nothing, 2, b'{"answer":"unresolved","faults":[', 20),
+]
+
+
+def larger(tcc, words, records, status, begins, each):
+    """What is wrong with the answer, or with the memory that it took; None if nothing is."""
+    got, said, _, most = run(tcc, words, records())
+    if got != status or not said.startswith(begins):
+        return "status %d, standard output %s" % (got, shown(said))
+    size = sum(map(len, records()))
+    return "%d bytes of memory for %d bytes" % (most, size) if most > SPARE + each * size else None
+
+
+def outcomes(tcc):
+    """Each test, with what is wrong, or None."""
+    for name, *large in LARGE:
+        yield name, larger(tcc, *large)
+    compiler = shutil.which("cc") or shutil.which("clang")
+    if compiler is None:
+        yield "alike", "no C compiler on the path"
+    else:
+        with tempfile.TemporaryDirectory() as folder:
+            alike = os.path.join(folder, "alike")
+            subprocess.run([compiler, "-O2", "-o", alike, str(HERE / "alike.c")], check=True)
+            count = WRITERS * WRITES
+            values = subprocess.check_output([alike, "values", str(count)], text=True).split()
+            names = subprocess.check_output([alike, "names", str(KEYS)], text=True).split()
+        yield "values", slower(tcc, one_key, values, [str(value) for value in range(1, count + 1)])
+        yield "names", slower(tcc, many_names, names, ["k%d" % n for n in range(KEYS)])
+
+
+def main():
+    ask = argparse.ArgumentParser(description="Runs a built tcc on records that were picked to slow it down.")
+    ask.add_argument("--tcc", default=str(TOP / "crates/tcc/out/tcc"), help="the program, by default the built one")
+    return status_of(outcomes(shlex.split(ask.parse_args().tcc)))
+
+
+if __name__ == "__main__":
+    sys.exit(main())

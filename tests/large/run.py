@@ -1,0 +1,102 @@
+#!/usr/bin/env python3
+"""Small histories, decided as large ones are: the same first order as `tcc explain` gives, and an anomaly exactly where it
+gives one, of at least as many steps.
+
+    run.py [--tcc PATH] [--stages PATH] [--kinds KIND ..] [--sizes N ..]
+
+The histories are those of bench/histories.py, by default of 255 and 1,023 transactions, each at both levels. `tcc_bench_stages` decides
+them as large ones (`large-answer`). The line before the last says of how many anomalies the cycle found has as few steps
+as the least.
+
+Each difference is one line; the last line is `N passed, M failed`.
+"""
+import argparse
+import json
+import pathlib
+import subprocess
+import sys
+import tempfile
+
+TOP = pathlib.Path(__file__).resolve().parent.parent.parent
+sys.path.insert(0, str(TOP / "bench"))
+from histories import KINDS, text_of  # noqa: E402
+
+LEVELS = ("causal", "atomic")
+SECONDS = 600
+
+
+def printed(words, history):
+    """What a program prints for a history, with its status."""
+    with open(history, "rb") as records:
+        run = subprocess.run(words, stdin=records, stdout=subprocess.PIPE, text=True, timeout=SECONDS)
+    return run.returncode, run.stdout.strip()
+
+
+def numbers_of(labels):
+    """The numbers of an order's labels: `init` first, then by session name in byte order and by place."""
+    def place_of(label):
+        session, _, place = label.rpartition("/")
+        return session.encode(), int(place)
+    numbers = {label: number for number, label in enumerate(sorted((each for each in labels if each != "init"), key=place_of), 1)}
+    numbers["init"] = 0
+    return [numbers[label] for label in labels]
+
+
+def small_answer(tcc, history, level):
+    """What `tcc explain` decides: an order's numbers, or how many steps a least cycle has."""
+    status, text = printed([tcc, "explain", "--json", "--level", level], history)
+    answer = json.loads(text)
+    if status == 0:
+        return "order", numbers_of(answer["order"])
+    return "cycle", answer["steps"]
+
+
+def large_answer(stages, history, level):
+    """The same as a large history."""
+    _, text = printed([stages, "large-answer"] + ([level] if level == "atomic" else []), history)
+    word, _, rest = text.partition(" ")
+    numbers = [int(number) for number in rest.split()]
+    return word, numbers if word == "order" else (numbers or [0])[0]
+
+
+def difference(small, large):
+    """What is wrong, or nothing."""
+    if small[0] != large[0]:
+        return "%s, and %s as a large one" % (small[0], large[0])
+    if small[0] == "order" and small[1] != large[1]:
+        return "another first order"
+    if small[0] == "cycle" and large[1] < small[1]:
+        return "a least cycle of %d steps, and one of %d" % (small[1], large[1])
+    return None
+
+
+def main():
+    ask = argparse.ArgumentParser(description="Small histories, decided as large ones are.")
+    ask.add_argument("--tcc", default=str(TOP / "crates/tcc/out/tcc"), help="another program than the built one")
+    ask.add_argument("--stages", default=str(TOP / "crates/tcc_bench_stages/out/tcc_bench_stages"), help="the same of its stages")
+    ask.add_argument("--kinds", nargs="+", choices=list(KINDS), default=list(KINDS), metavar="KIND", help="these alone")
+    ask.add_argument("--sizes", nargs="+", type=int, default=[255, 1023], metavar="N", help="so many transactions")
+    asked = ask.parse_args()
+    passed = failed = anomalies = least = 0
+    with tempfile.TemporaryDirectory() as folder:
+        history = pathlib.Path(folder, "history.csv")
+        for kind in asked.kinds:
+            for size in asked.sizes:
+                history.write_text(text_of(kind, size))
+                for level in LEVELS:
+                    small, large = small_answer(asked.tcc, history, level), large_answer(asked.stages, history, level)
+                    wrong = difference(small, large)
+                    passed, failed = passed + (not wrong), failed + bool(wrong)
+                    if wrong:
+                        print("%s-%d at %s: %s" % (kind, size, level, wrong))
+                    if small[0] == large[0] == "cycle":
+                        anomalies, least = anomalies + 1, least + (small[1] == large[1])
+                        if small[1] != large[1]:
+                            print("%s-%d at %s: %d steps for %d" % (kind, size, level, large[1], small[1]))
+    print("%d of %d anomalies have as few steps as the least" % (least, anomalies))
+    print("%d passed, %d failed" % (passed, failed))
+    return 1 if failed else 0
+
+
+if __name__ == "__main__":
+    sys.exit(main())
