@@ -12,8 +12,8 @@ use std::marker::Model;
 /// So many bytes are gathered before a write.
 const OUTGOING_BYTES: usize = 8192;
 
-/// So many numbers are gathered at a time.
-const NUMBERS: usize = OUTGOING_BYTES / NUMBER_BYTES;
+/// So many numbers are gathered at a time: room for them is asked for once, and what it leaves free of the bytes is little.
+const NUMBERS: usize = 64;
 
 /// The bytes that wait to go out.
 #[derive(Drop)]

@@ -31,6 +31,14 @@ fn word_of(fields: usize) -> Mending {
     }
 }
 
+/// What a limit is of: where there is a wider one, it says by which option.
+fn wider(limits: Limits, small: &'static str, large: &'static str) -> &'static str {
+    match limits {
+        Limits::Small => small,
+        Limits::Large => large,
+    }
+}
+
 /// What stands where a record of so many fields has a fault of this kind, in an input of these limits.
 pub(super) fn mending_of(kind: &RowFaultKind, fields: usize, limits: Limits) -> Mending {
     match kind {
@@ -52,14 +60,22 @@ pub(super) fn mending_of(kind: &RowFaultKind, fields: usize, limits: Limits) -> 
         RowFaultKind::TooManyOps => {
             Mending::Limit(MAX_OPERATIONS as u64, "operations in a transaction")
         }
-        RowFaultKind::TooManySessions => Mending::Limit(limits.sessions() as u64, "sessions"),
-        RowFaultKind::TooManyTransactions => {
-            Mending::Limit(
-                limits.transactions() as u64,
+        RowFaultKind::TooManySessions => Mending::Limit(
+            limits.sessions() as u64,
+            wider(limits, "sessions, see --large", "sessions"),
+        ),
+        RowFaultKind::TooManyTransactions => Mending::Limit(
+            limits.transactions() as u64,
+            wider(
+                limits,
+                "transactions, aborted ones counted, see --large",
                 "transactions, aborted ones counted",
-            )
-        }
-        RowFaultKind::TooManyKeys => Mending::Limit(limits.keys() as u64, "keys"),
+            ),
+        ),
+        RowFaultKind::TooManyKeys => Mending::Limit(
+            limits.keys() as u64,
+            wider(limits, "keys, see --large", "keys"),
+        ),
         RowFaultKind::TooManySeals => Mending::Limit(MAX_SEALS as u64, "seals"),
         RowFaultKind::Unfinished { .. } => {
             Mending::Input("the input ends: expected commit or abort of the session")

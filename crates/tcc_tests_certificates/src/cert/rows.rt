@@ -63,9 +63,9 @@ fn note(rt: &impl Abort, has_failed: &mut bool, answer: Result<(), WriteFault>) 
 
 const ROWS: usize = 3;
 
-/// Gives rows as long as they come to an output whose writes work so many times, and shows what went out, and whether
-/// a write failed.
-fn large(rt: &impl Abort, alloc: Global, works: usize) -> Result<(Vec<u8>, bool), AllocError> {
+/// Gives rows as long as they come to an output whose writes work so many times, and shows the output, and whether a
+/// write failed.
+fn large(rt: &impl Abort, alloc: Global, works: usize) -> Result<(Breaking, bool), AllocError> {
     let links = one_link(alloc)?;
     let row = vec![in alloc; 7u32; 4095]?;
     let mut out = Breaking {
@@ -85,23 +85,28 @@ fn large(rt: &impl Abort, alloc: Global, works: usize) -> Result<(Vec<u8>, bool)
         }
         Err(_) => has_failed = true,
     }
-    Ok((out.taken, has_failed))
+    Ok((out, has_failed))
 }
 
-// A row goes out in one write or two, and behind a failure nothing more does.
+// A row of some 8,000 bytes goes out in one write or two, and behind a failure nothing more does.
 #[test]
 fn failing_writes(rt: HostRuntime) -> Result<(), Fail> {
     let alloc = rt.alloc();
-    let writes = 2 * ROWS + 1;
-    let (whole, has_failed) = large(&rt, alloc, writes)?;
+    let plenty = 1000;
+    let (whole, has_failed) = large(&rt, alloc, plenty)?;
     assert!(&rt; !has_failed);
+    let writes = plenty - whole.works;
+    assert!(&rt; writes <= 4 * ROWS, "{writes} writes");
     // Each of the six rows has 4,095 digits and as many spaces and line feeds.
-    assert_eq!(&rt; whole.len(), 25 + 12 + 6 + 5 + 2 * ROWS * 8190 + 4 + 4);
+    assert_eq!(&rt;
+        whole.taken.len(),
+        25 + 12 + 6 + 5 + 2 * ROWS * 8190 + 4 + 4
+    );
     for works in 0..writes {
         let (part, has_failed) = large(&rt, alloc, works)?;
         assert!(&rt; has_failed, "after {works} writes");
         assert!(&rt;
-            whole.as_slice().starts_with(part.as_slice()),
+            whole.taken.as_slice().starts_with(part.taken.as_slice()),
             "after {works} writes"
         );
     }
