@@ -1,8 +1,8 @@
 -- Rows of marks, 64 in a word.
-use Rattle.std.proofs.Common.{◌≡◌, ◌≢◌, ◌<◌, ◌≤◌, ◌+◌, ◌*◌, ◌/◌, ◌%◌, ◌^◌, ◌==◌, ◌||◌, ◌&&◌, ◌↔◌, ◌⊎◌, ℕ, zero, suc, inl, inr, Bool, true}
+use Rattle.std.proofs.Common.{◌≡◌, ◌≢◌, ◌<◌, ◌≤◌, ◌+◌, ◌*◌, ◌/◌, ◌%◌, ◌^◌, ◌==◌, ◌||◌, ◌↔◌, ◌⊎◌, ℕ, zero, suc, inl, inr, Bool, true}
 use Rattle.std.proofs.Common.{false, List, [], ◌∷◌, ◌++◌, length, set, replicate, slice_index, refl, sym, ◌∙◌, ap, arith, eq-eqb}
 use Rattle.std.proofs.Common.{eqb-true, w64}
-use Rattle.std.specs.Prelude.{bit_and, bit_or, max, min}
+use Rattle.std.specs.Prelude.{bit_and, bit_or, max}
 use Rattle.std.specs.Int.{bit_at, bit_not}
 use Rattle.std.proofs.lemmas.Bool.{cases_eq, cases_lt, false≢true, ne_eqb}
 use Rattle.std.proofs.lemmas.Nat.{and_le_l}
@@ -69,42 +69,6 @@ joined_all old other new same long each b = go (cases_lt (b / 64) (length old))
     go : (b / 64 < length old) ⊎ (length old ≤ b / 64) → is_marked new b ≡ (is_marked old b || is_marked other b)
     go (inl inside) = joined old other new b (each (b / 64) inside)
     go (inr past) = rw (unmarked_past new b (omega (arith, same)), unmarked_past old b past, unmarked_past other b (omega (arith, long))) refl
-
-both : (x y : ℕ) → x < 2 → y < 2 → (min x y == 1) ≡ ((x == 1) && (y == 1))
-both zero zero l m = refl
-both zero (suc zero) l m = refl
-both zero (suc (suc y)) l m = absurd (omega arith)
-both (suc zero) zero l m = refl
-both (suc zero) (suc zero) l m = refl
-both (suc zero) (suc (suc y)) l m = absurd (omega arith)
-both (suc (suc x)) y l m = absurd (omega arith)
-
--- and so do words that get what two others have in common
-common : (old one other new : List ℕ) (b : ℕ)
-    → slice_index new (b / 64) ≡ bit_or (slice_index old (b / 64)) (bit_and (slice_index one (b / 64)) (slice_index other (b / 64)))
-    → is_marked new b ≡ (is_marked old b || (is_marked one b && is_marked other b))
-unfolding is_marked
-common old one other new b is =
-    let word : ℕ = slice_index old (b / 64) in
-    let some : ℕ = slice_index one (b / 64) in
-    let rest : ℕ = slice_index other (b / 64) in
-    let i : ℕ = b % 64 in
-    let first = bit_at-lt word i in
-    let second = bit_at-lt some i in
-    let third = bit_at-lt rest i in
-    ap (λ w. bit_at w i == 1) is
-    ∙ (ap (λ x. x == 1) (bit_at_or word (bit_and some rest) i ∙ ap (max (bit_at word i)) (bit_at_and some rest i))
-    ∙ (either (bit_at word i) (min (bit_at some i) (bit_at rest i)) first (omega (arith, second, third))
-    ∙ ap (λ m. (bit_at word i == 1) || m) (both (bit_at some i) (bit_at rest i) second third)))
-
-pub common_all : (old one other new : List ℕ) → length new ≡ length old → length old ≡ length one → length old ≡ length other
-    → ((k : ℕ) → k < length old → slice_index new k ≡ bit_or (slice_index old k) (bit_and (slice_index one k) (slice_index other k)))
-    → (b : ℕ) → is_marked new b ≡ (is_marked old b || (is_marked one b && is_marked other b))
-common_all old one other new same long wide each b = go (cases_lt (b / 64) (length old))
-  where
-    go : (b / 64 < length old) ⊎ (length old ≤ b / 64) → is_marked new b ≡ (is_marked old b || (is_marked one b && is_marked other b))
-    go (inl inside) = common old one other new b (each (b / 64) inside)
-    go (inr past) = rw (unmarked_past new b (omega (arith, same)), unmarked_past old b past, unmarked_past one b (omega (arith, long))) refl
 
 -- one more mark
 pub marked_set : (words : List ℕ) (p b : ℕ) → p / 64 < length words

@@ -3,7 +3,6 @@ pub mod BreadthLemmas
 pub mod BitLemmas
 pub mod Ascending
 pub mod MarkLemmas
-pub mod Unmarking
 pub mod FreshLemmas
 pub mod RowLemmas
 pub mod ShortWalks

@@ -1,5 +1,5 @@
 //! Rows of marks, 64 in a word: number b is bit b % 64 of word b / 64.
-ghost use Rattle.std.specs.Prelude.{◌≡◌, ◌≢◌, ◌<◌, ◌≤◌, ◌+◌, ◌/◌, ◌^◌, ◌==◌, ◌||◌, ◌&&◌, ◌↔◌, ◌⊎◌, ℕ, true, length, All, Contains, OnOk};
+ghost use Rattle.std.specs.Prelude.{◌≡◌, ◌<◌, ◌≤◌, ◌+◌, ◌/◌, ◌^◌, ◌==◌, ◌||◌, ◌↔◌, ◌⊎◌, ℕ, true, length, All, Contains, OnOk};
 ghost use Rattle.std.specs.Int.{bit_at};
 ghost use Rattle.std.specs.List.{AllPairs};
 ghost use Rattle.tcc_near.specs.Bits.{is_marked, words_for, IsFresh, IsAscendingBelow};
@@ -35,15 +35,6 @@ pub fn mark(words: &mut [u64], number: usize)
     words[number / WORD] |= 1 << (number % WORD);
 }
 
-/// Takes the mark of a number away.
-pub fn unmark(words: &mut [u64], number: usize)
-    requires { number / 64 < length words.old }
-    ensures same { length words.new ≡ length words.old }
-    ensures each { (b : ℕ) → (is_marked words.new b ≡ true) ↔ ((is_marked words.old b ≡ true) × (b ≢ number)) }
-{
-    words[number / WORD] &= !(1 << (number % WORD));
-}
-
 /// Marks these numbers.
 pub fn mark_each(words: &mut [u64], numbers: &[u32])
     requires { All (λ number. number / 64 < length words.old) numbers.now }
@@ -52,29 +43,6 @@ pub fn mark_each(words: &mut [u64], numbers: &[u32])
 {
     for number in numbers {
         mark(words, *number as usize);
-    }
-}
-
-/// Marks what the other row, of the same length, marks too.
-pub fn merge(words: &mut [u64], other: &[u64])
-    requires { length words.old ≡ length other.now }
-    ensures same { length words.new ≡ length words.old }
-    ensures each { (b : ℕ) → is_marked words.new b ≡ (is_marked words.old b || is_marked other.now b) }
-{
-    for (place, word) in words.iter_mut().enumerate() {
-        *word |= other[place];
-    }
-}
-
-/// Marks what both of two other rows, of the same length, mark.
-pub fn merge_common(words: &mut [u64], one: &[u64], other: &[u64])
-    requires one { length words.old ≡ length one.now }
-    requires other { length words.old ≡ length other.now }
-    ensures same { length words.new ≡ length words.old }
-    ensures each { (b : ℕ) → is_marked words.new b ≡ (is_marked words.old b || (is_marked one.now b && is_marked other.now b)) }
-{
-    for (place, word) in words.iter_mut().enumerate() {
-        *word |= one[place] & other[place];
     }
 }
 

@@ -44,7 +44,8 @@ impl Near {
         self.level
     }
 
-    /// The least number of steps of a walk from `a` to `b`, of one step at least; none where no walk leads there.
+    /// The least number of steps of a walk from `a` to `b`, of one step at least; none where no walk leads there. It is for
+    /// those who ask for one distance: whoever goes through many takes `row`.
     pub fn least(&self, a: u32, b: u32) -> Option<u32>
         requires from { a < length self.now.rows }
         requires to { b < length self.now.rows }
@@ -65,5 +66,12 @@ impl Near {
         ensures long { length result.now ≡ length self.now.rows }
     {
         self.rows[a as usize].values()
+    }
+
+    /// The rows as they came, for those who keep them in another form.
+    pub fn into_rows(self) -> Vec<Row<u16>>
+        ensures { result.items ≡ self.rows }
+    {
+        self.rows
     }
 }

@@ -45,4 +45,11 @@ impl<T: Copy> Row<T> {
     {
         &self.values
     }
+
+    /// The values as they came, for those who keep them in another form.
+    pub fn into_vec(self) -> Vec<T>
+        ensures { result.items ≡ self }
+    {
+        self.values
+    }
 }
