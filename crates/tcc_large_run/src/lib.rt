@@ -6,5 +6,6 @@ mod copying;
 mod outcome;
 mod running;
 mod slicing;
+mod stopping;
 
 pub use running::run_large;

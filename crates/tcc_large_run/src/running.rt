@@ -13,17 +13,18 @@ ghost use Rattle.tcc_large_run.specs.Stages.{AllAnswered, Concludes, EndsAnsweri
 use crate::copying::transaction_count;
 use crate::outcome::Outcome;
 use crate::slicing::slice_text;
+use crate::stopping::note_stop;
 use std::alloc::Global;
 use std::io::{Read, Write};
 use std::thread::Threads;
 use tcc_cert::sending::send;
 use tcc_explain::Gate;
 use tcc_graph::Link;
-use tcc_print::notes::{note_last, note_no_slice, note_row_within};
+use tcc_print::notes::{note_last, note_no_slice};
 use tcc_print::printing::{print_device, print_halt, print_memory};
 use tcc_print::{Halt, Options};
 use tcc_rows::{LargeRecording, Moment, RowFault};
-use tcc_txn::{LargeSnapshot, Limits, NoMemory};
+use tcc_txn::{LargeSnapshot, NoMemory};
 
 /// What a run said last.
 #[derive(Drop)]
@@ -87,8 +88,9 @@ fn say_last<W: Write, N: Write, G: Gate>(
 }
 
 /// Writes why the run ends by the fault of a record, notes what to mend, and gives the number that the run ends with.
-fn stop<W: Write, N: Write>(
+fn stop<R: Read + Drop, W: Write, N: Write>(
     alloc: Global,
+    recording: &LargeRecording<R>,
     fault: RowFault,
     json: bool,
     out: &mut W,
@@ -96,7 +98,7 @@ fn stop<W: Write, N: Write>(
 ) -> u8
     ensures { PrintsOrMemory json (W.contents out.old) (W.contents out.new) (halted json (by_row fault)) (halt_status (by_row fault)) result }
 {
-    note_row_within(alloc, Limits::Large, &fault, &[], notes);
+    note_stop(alloc, recording, &fault, notes);
     print_halt(alloc, &Halt::from(fault), json, out)
 }
 
@@ -139,7 +141,7 @@ fn answer_all<R: Read + Drop, W: Write, N: Write, G: Gate>(
                     notes,
                 );
             }
-            Err(fault) => return Err(stop(alloc, fault, options.json, out, notes)),
+            Err(fault) => return Err(stop(alloc, recording, fault, options.json, out, notes)),
         }
     }
     // There are not so many seals.
