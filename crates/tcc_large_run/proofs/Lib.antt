@@ -1,4 +1,5 @@
 pub mod Copied
 pub mod Outcomes
 pub mod Runs
+pub mod SameParts
 pub mod Sent

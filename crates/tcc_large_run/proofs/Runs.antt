@@ -2,7 +2,7 @@
 use Rattle.std.proofs.Common.{◌≡◌, ◌≢◌, ℕ, ◌+◌, arith, Bool, true, false, cond, List, [], ◌∷◌, ◌++◌, length, take}
 use Rattle.std.proofs.Common.{Option, None, Some, Result, Ok, Err, refl, sym, ap, subst, ◌∙◌, inl, inr, append_assoc}
 use Rattle.std.proofs.Common.{append-nil}
-use Rattle.std.specs.Prelude.{nat_eq, IfSome, MatchResult}
+use Rattle.std.specs.Prelude.{nat_eq, IfOk, IfSome, MatchResult}
 use Rattle.std.specs.List.{last_or}
 use Rattle.std.specs.Io.KnownBytes.{Appends}
 use Rattle.std.proofs.KnownBytes.{Appends-trans}
@@ -33,7 +33,7 @@ use Rattle.tcc_print.specs.declared.options.Options.{Options}
 use Rattle.tcc_print.specs.declared.status.Status.TheVariants.{Memory}
 use Rattle.tcc_print.proofs.Moments.{AllZip-append, all-fault, all-items, at_end-due, at_end-none, due-passed, due-seal}
 use Rattle.tcc_print.proofs.Moments.{finished-seal, first-taken, last-push, part-of, sealed-passed, sealed-seal, still_due}
-use Rattle.tcc_large_run.specs.LargeRuns.{AreAnswered, Contents, Gains, IsAnswered, IsLargeRun, IsWhole, MayEnd, Said, answers_of, halt_said, records_of, texts}
+use Rattle.tcc_large_run.specs.LargeRuns.{AreAnswered, Contents, Gains, IsAnswered, IsLargeRun, IsWhole, MayEnd, Said, answers_of, finished, halt_said, records_of, texts}
 use Rattle.tcc_large_run.specs.Stages.{AllAnswered, Concludes, EndsAnswering, EndsEarly, IsFor, SaysLast, outcome_said}
 use Rattle.tcc_large_run.specs.declared.running.Last.{Last}
 use Rattle.tcc_large_run.proofs.Outcomes.{said_of}
@@ -214,6 +214,11 @@ module _ {R : Type 0} (remaining : R → Option (List ℕ)) (options : Options) 
     all_taken : (answers_of text).items ≡ all_past
     all_taken = all-items (answers_of text) way.taken at.0 (ending None) way.ahead way.whole at.1 ∙ append-nil all_past
 
+    -- what the records have finished is the snapshot of the recording
+    pub all-finished : (r : Result Last ℕ) → IfOk r (λ _. new.snapshot ≡ finished text)
+    all-finished (Ok last) = at.2.snapshot ∙ ap finished_in (sym all_taken)
+    all-finished (Err code) = tt
+
     no_fault : (answers_of text).fault ≡ None
     no_fault = all-fault (answers_of text) way.taken at.0 (ending None) way.ahead way.whole at.1
 
@@ -388,13 +393,20 @@ early options text before after file code (said, last, is, ends, inl whole) =
 early options text before after file code (said, last, is, ends, inr cuts) = (said, last, is, ends, inr (inl (cuts, Gains-none file)))
 
 -- one that has answered all ends with the slice of what was said last
-pub concluded : (options : Options) (text : List ℕ) (before now after : Option (List ℕ)) (file file' : Contents) (last : Last) (code : ℕ)
-    → AllAnswered options text before now last → Concludes options (outcome_said options last.outcome) now after file file' code
+concluded_all : (options : Options) (text : List ℕ) (before now after : Option (List ℕ)) (file file' : Contents) (last : Last) (code : ℕ)
+    → AllAnswered options text before now last → Concludes options (finished text) (outcome_said options last.outcome) now after file file' code
     → IsLargeRun options text before after file file' code
-concluded options text before now after file file' last code (said, is, ends, out) (inl (quiet, sliced, ends_by)) =
+concluded_all options text before now after file file' last code (said, is, ends, out) (inl (quiet, sliced, ends_by)) =
     (said, outcome_said options last.outcome, inl is, ends, inl (subst (λ o. Appends before o (texts said)) (sym quiet) out, sliced, ends_by))
-concluded options text before now after file file' last code (said, is, ends, out) (inr (anomalous, fails)) =
+concluded_all options text before now after file file' last code (said, is, ends, out) (inr (anomalous, fails)) =
     (said, outcome_said options last.outcome, inl is, ends, inr (inr (anomalous, now, out, fails)))
+
+pub concluded : (options : Options) (text : List ℕ) (s : Sessions) (before now after : Option (List ℕ)) (file file' : Contents) (last : Last) (code : ℕ)
+    → s ≡ finished text → AllAnswered options text before now last
+    → Concludes options s (outcome_said options last.outcome) now after file file' code → IsLargeRun options text before after file file' code
+concluded options text s before now after file file' last code all answered concludes =
+    concluded_all options text before now after file file' last code answered
+    (subst (λ (s : Sessions). Concludes options s (outcome_said options last.outcome) now after file file' code) all concludes)
 
 -- memory is out before anything is read
 pub nothing_read : (options : Options) (text : List ℕ) (before after : Option (List ℕ)) (code : ℕ)

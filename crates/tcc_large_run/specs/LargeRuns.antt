@@ -21,7 +21,9 @@ use Rattle.tcc_answer.specs.declared.answer.Answer.{Answer}
 use Rattle.tcc_answer.specs.declared.answer.Answer.TheVariants as answer
 use Rattle.tcc_explain.specs.Explained.{IsAnswerOf}
 use Rattle.tcc_large.specs.Decisions.{IsDecision}
-use Rattle.tcc_large.specs.Slices.{IsAnomalous}
+use Rattle.tcc_large.specs.Cuts.{IsCutOf}
+use Rattle.tcc_large.specs.Slices.{IsSliceOf}
+use Rattle.tcc_large.specs.Texts.{records_text}
 use Rattle.tcc_large.specs.declared.decision.Decision.{Decision}
 use Rattle.tcc_large.specs.declared.decision.Decision.TheVariants as decision
 use Rattle.tcc_print.specs.Large.{inconsistent, unproved}
@@ -120,9 +122,20 @@ texts said = flat_map (λ (one : Said). one.text) said
 
 -- ---- the slice
 
--- records of a small history whose reads all have sources, and which has an anomaly at the level
-abbrev pub IsAnomalousText : Level → List ℕ → Type 0
-IsAnomalousText level text = ((rows.answers_of text).fault ≡ None) × IsAnomalous level (finished_in (rows.answers_of text).items)
+-- what the records of an input finish by its end
+abbrev pub finished : List ℕ → Sessions
+finished bytes = finished_in (answers_of bytes).items
+
+-- what the records of a text finish within the small limits, where they have no fault
+abbrev pub Finishes : List ℕ → Sessions → Type 0
+Finishes text s = ((rows.answers_of text).fault ≡ None) × (finished_in (rows.answers_of text).items ≡ s)
+
+-- the text has the records of a small history, session by session, and nothing else: of a slice of the whole, which has an
+-- anomaly at the level, and each link of which is a link of the whole, of the same cost; and which is the whole with
+-- transactions and operations left out
+abbrev pub IsSliceText : Level → Sessions → List ℕ → Type 0
+IsSliceText level whole text =
+    (slice : Sessions) × (text ≡ records_text slice) × Finishes text slice × IsSliceOf level (history whole) slice × IsCutOf slice whole
 
 -- the contents of a file before and after; none where no file is given
 abbrev pub Contents : Type 0
@@ -134,18 +147,18 @@ Gains None after bytes = after ≡ None
 Gains (Some before) None bytes = ⊥
 Gains (Some before) (Some after) bytes = Appends before after bytes
 
--- nothing goes into the file; or, where the last answer is an anomaly, the records of a small history that has one
-abbrev pub IsSliced : Level → Said → Contents → Contents → Type 0
-IsSliced level last file file' =
+-- where the last answer is an anomaly, the records of a slice of the whole go into the file, or nothing; else nothing
+abbrev pub IsSliced : Level → Sessions → Said → Contents → Contents → Type 0
+IsSliced level whole last file file' =
     Gains file file' []
-    ⊎ ((last.status ≡ Anomaly) × (slice : List ℕ) × IsAnomalousText level slice × Gains file file' slice)
+    ⊎ ((last.status ≡ Anomaly) × (slice : List ℕ) × IsSliceText level whole slice × Gains file file' slice)
 
 -- ---- what goes out
 
 -- the texts went out, and then the slice, if there is one: the status is that of the last
-abbrev pub AllGoesOut : Options → Option (List ℕ) → Option (List ℕ) → Contents → Contents → List ℕ → Said → ℕ → Type 0
-AllGoesOut options before after file file' text last code =
-    Appends before after text × IsSliced options.level last file file' × (code ≡ code_of last.status)
+abbrev pub AllGoesOut : Options → Sessions → Option (List ℕ) → Option (List ℕ) → Contents → Contents → List ℕ → Said → ℕ → Type 0
+AllGoesOut options whole before after file file' text last code =
+    Appends before after text × IsSliced options.level whole last file file' × (code ≡ code_of last.status)
 
 -- a write of the texts failed: a part of them, from their front, went out, and nothing of a slice
 abbrev pub TextFails : Option (List ℕ) → Option (List ℕ) → Contents → Contents → List ℕ → ℕ → Type 0
@@ -153,18 +166,18 @@ TextFails before after file file' text code = CutsOff before after text code × 
 
 -- after the texts, of which the last is an anomaly, a write of the slice failed: a part of it, from its front, went out, and the
 -- line for the device comes behind the texts; or memory was out, and the line for that comes behind them
-abbrev pub SliceFails : Options → Option (List ℕ) → Option (List ℕ) → Contents → Contents → List ℕ → Said → ℕ → Type 0
-SliceFails options before after file file' text last code =
+abbrev pub SliceFails : Options → Sessions → Option (List ℕ) → Option (List ℕ) → Contents → Contents → List ℕ → Said → ℕ → Type 0
+SliceFails options whole before after file file' text last code =
     (last.status ≡ Anomaly) × (between : Option (List ℕ)) × Appends before between text
-    × (((slice : List ℕ) × (n : ℕ) × IsAnomalousText options.level slice × Gains file file' (take n slice)
+    × (((slice : List ℕ) × (n : ℕ) × IsSliceText options.level whole slice × Gains file file' (take n slice)
     × Prints between after (device_line options.json) Device code)
     ⊎ (Gains file file' [] × Prints between after (memory_line options.json) Memory code))
 
--- what a run does with the bytes: its texts go out one after the other, and behind them, into the file that is given for it, a
--- slice of the last anomaly; the status is that of the last
+-- what a run does with the bytes: its texts go out one after the other, and behind them, into the file that is given for it,
+-- where the last is an anomaly, the records of a slice of all that was finished; the status is that of the last
 abbrev pub IsLargeRun : Options → List ℕ → Option (List ℕ) → Option (List ℕ) → Contents → Contents → ℕ → Type 0
 IsLargeRun options bytes before after file file' code =
     (said : List Said) × (last : Said) × (IsWhole options (answers_of bytes) said ⊎ IsEnded options bytes said)
     × (last_or None said ≡ Some last)
-    × (AllGoesOut options before after file file' (texts said) last code
-    ⊎ (TextFails before after file file' (texts said) code ⊎ SliceFails options before after file file' (texts said) last code))
+    × (AllGoesOut options (finished bytes) before after file file' (texts said) last code
+    ⊎ (TextFails before after file file' (texts said) code ⊎ SliceFails options (finished bytes) before after file file' (texts said) last code))

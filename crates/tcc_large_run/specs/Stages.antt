@@ -23,7 +23,7 @@ use Rattle.tcc_print.specs.Statuses.{answer_status, code_of}
 use Rattle.tcc_print.specs.declared.options.Options.{Options}
 use Rattle.tcc_print.specs.declared.status.Status.{Status}
 use Rattle.tcc_print.specs.declared.status.Status.TheVariants.{Anomaly, Device, Memory, ReadFaults}
-use Rattle.tcc_large_run.specs.LargeRuns.{Contents, Gains, IsAnomalousText, IsAnswered, IsEnded, IsSliced, IsWhole, Said, answers_of, bare_order, judged, texts}
+use Rattle.tcc_large_run.specs.LargeRuns.{Contents, Gains, IsAnswered, IsEnded, IsSliceText, IsSliced, IsWhole, Said, answers_of, bare_order, judged, texts}
 use Rattle.tcc_large_run.specs.declared.outcome.Outcome.{Outcome}
 use Rattle.tcc_large_run.specs.declared.outcome.Outcome.TheVariants as outcome
 use Rattle.tcc_large_run.specs.declared.running.Last.{Last}
@@ -96,29 +96,29 @@ EndsEarly options bytes before after code =
 -- ---- the slice
 
 -- a slice of an anomaly, or nothing, went into the file; or a write to it failed, or memory was out, which is said
-abbrev pub SendsSlice : {A : Type 0} → Options → Result A ℕ → Option (List ℕ) → Option (List ℕ) → Option (List ℕ) → Option (List ℕ) → Type 0
-SendsSlice options (Ok done) before after file file' =
-    (after ≡ before) × (Appends file file' [] ⊎ ((slice : List ℕ) × IsAnomalousText options.level slice × Appends file file' slice))
-SendsSlice options (Err code) before after file file' =
-    ((slice : List ℕ) × (n : ℕ) × IsAnomalousText options.level slice × Appends file file' (take n slice)
+abbrev pub SendsSlice : {A : Type 0} → Options → Sessions → Result A ℕ → Option (List ℕ) → Option (List ℕ) → Option (List ℕ) → Option (List ℕ) → Type 0
+SendsSlice options whole (Ok done) before after file file' =
+    (after ≡ before) × (Appends file file' [] ⊎ ((slice : List ℕ) × IsSliceText options.level whole slice × Appends file file' slice))
+SendsSlice options whole (Err code) before after file file' =
+    ((slice : List ℕ) × (n : ℕ) × IsSliceText options.level whole slice × Appends file file' (take n slice)
     × Prints before after (device_line options.json) Device code)
     ⊎ (Appends file file' [] × Prints before after (memory_line options.json) Memory code)
 
 -- the same of a file that may be given, where it is the slice of what was said
-abbrev pub WritesSlice : {A : Type 0} → Options → Said → Result A ℕ → Option (List ℕ) → Option (List ℕ) → Contents → Contents → Type 0
-WritesSlice options last (Ok done) before after file file' = (after ≡ before) × IsSliced options.level last file file'
-WritesSlice options last (Err code) before after file file' =
+abbrev pub WritesSlice : {A : Type 0} → Options → Sessions → Said → Result A ℕ → Option (List ℕ) → Option (List ℕ) → Contents → Contents → Type 0
+WritesSlice options whole last (Ok done) before after file file' = (after ≡ before) × IsSliced options.level whole last file file'
+WritesSlice options whole last (Err code) before after file file' =
     (last.status ≡ Anomaly)
-    × (((slice : List ℕ) × (n : ℕ) × IsAnomalousText options.level slice × Gains file file' (take n slice)
+    × (((slice : List ℕ) × (n : ℕ) × IsSliceText options.level whole slice × Gains file file' (take n slice)
     × Prints before after (device_line options.json) Device code)
     ⊎ (Gains file file' [] × Prints before after (memory_line options.json) Memory code))
 
 -- nothing more is said, and the file gets a slice of the anomaly, or nothing; or a write to it fails, or memory is out, which is
 -- said
-abbrev pub Concludes : Options → Said → Option (List ℕ) → Option (List ℕ) → Contents → Contents → ℕ → Type 0
-Concludes options last before after file file' code =
-    ((after ≡ before) × IsSliced options.level last file file' × (code ≡ code_of last.status))
+abbrev pub Concludes : Options → Sessions → Said → Option (List ℕ) → Option (List ℕ) → Contents → Contents → ℕ → Type 0
+Concludes options whole last before after file file' code =
+    ((after ≡ before) × IsSliced options.level whole last file file' × (code ≡ code_of last.status))
     ⊎ ((last.status ≡ Anomaly)
-    × (((slice : List ℕ) × (n : ℕ) × IsAnomalousText options.level slice × Gains file file' (take n slice)
+    × (((slice : List ℕ) × (n : ℕ) × IsSliceText options.level whole slice × Gains file file' (take n slice)
     × Prints before after (device_line options.json) Device code)
     ⊎ (Gains file file' [] × Prints before after (memory_line options.json) Memory code)))

@@ -2,6 +2,7 @@
 //! that the runs end with. Nothing here knows of command lines or files.
 #![tactic(auto)]
 
+mod alike;
 mod copying;
 mod outcome;
 mod running;

@@ -1,5 +1,5 @@
 //! From the bytes of records to their answers: at each seal, and at the end.
-ghost use Rattle.std.specs.Prelude.{◌≡◌, ◌≢◌, ◌<◌, ◌≤◌, ℕ, List, [], true, false, None, Ok, IfSome, MatchResult, option_map};
+ghost use Rattle.std.specs.Prelude.{◌≡◌, ◌≢◌, ◌<◌, ◌≤◌, ℕ, List, [], true, false, None, Ok, IfOk, IfSome, MatchResult, option_map};
 ghost use Rattle.tcc_rows.specs.Ahead.{fault_met};
 ghost use Rattle.tcc_txn.specs.Finished.{transaction_count};
 ghost use Rattle.tcc_rows.specs.Reached.{IsWithin};
@@ -7,7 +7,7 @@ ghost use Rattle.tcc_rows.specs.Recordings.{IsLargeRecording};
 ghost use Rattle.tcc_print.specs.Halts.{by_row};
 ghost use Rattle.tcc_print.specs.Printed.{PrintsOrMemory, halted};
 ghost use Rattle.tcc_print.specs.Statuses.{halt_status};
-ghost use Rattle.tcc_large_run.specs.LargeRuns.{IsLargeRun, answers_of, records_of};
+ghost use Rattle.tcc_large_run.specs.LargeRuns.{IsLargeRun, answers_of, finished, records_of};
 ghost use Rattle.tcc_large_run.specs.Stages.{AllAnswered, Concludes, EndsAnswering, EndsEarly, SaysLast, SendsSlice, WritesSlice, outcome_said};
 
 use crate::copying::transaction_count;
@@ -114,10 +114,12 @@ fn answer_all<R: Read + Drop, W: Write, N: Write, G: Gate>(
     notes: &mut N,
 ) -> Result<Last, u8>
     requires workers { (0 < options.workers) × (options.workers ≤ 32) }
-    ensures { (bytes : List ℕ) → IsLargeRecording R.remaining recording.old [] (answers_of bytes) → IsWithin R.remaining recording.old.rows (records_of bytes)
+    ensures answers { (bytes : List ℕ) → IsLargeRecording R.remaining recording.old [] (answers_of bytes) → IsWithin R.remaining recording.old.rows (records_of bytes)
         → fault_met recording.old.rows ≡ None
         → MatchResult result (AllAnswered options bytes (W.contents out.old) (W.contents out.new))
         (EndsEarly options bytes (W.contents out.old) (W.contents out.new)) }
+    ensures finished { (bytes : List ℕ) → IsLargeRecording R.remaining recording.old [] (answers_of bytes)
+        → IfOk result (λ _. recording.new.snapshot ≡ finished bytes) }
 {
     let mut last: Option<Last> = None;
     'moments: for _turn in 0..u64::MAX {
@@ -159,7 +161,7 @@ fn send_slice<W: Write, S: Write, N: Write>(
     out: &mut W,
     notes: &mut N,
 ) -> Result<(), u8>
-    ensures { SendsSlice options result (W.contents out.old) (W.contents out.new) (S.contents file.old) (S.contents file.new) }
+    ensures { SendsSlice options snapshot.now result (W.contents out.old) (W.contents out.new) (S.contents file.old) (S.contents file.new) }
 {
     match slice_text(alloc, snapshot, options.level, links) {
         Ok(Some(text)) => match send(file, &text) {
@@ -184,7 +186,7 @@ fn write_slice<W: Write, S: Write, N: Write>(
     out: &mut W,
     notes: &mut N,
 ) -> Result<(), u8>
-    ensures { WritesSlice options (outcome_said options outcome.now) result (W.contents out.old) (W.contents out.new) (option_map S.contents slice.old)
+    ensures { WritesSlice options snapshot.now (outcome_said options outcome.now) result (W.contents out.old) (W.contents out.new) (option_map S.contents slice.old)
         (option_map S.contents slice.new) }
 {
     let Some(links) = outcome.links() else {
@@ -207,7 +209,7 @@ fn conclude<W: Write, S: Write, N: Write>(
     out: &mut W,
     notes: &mut N,
 ) -> u8
-    ensures { Concludes options (outcome_said options last.outcome) (W.contents out.old) (W.contents out.new) (option_map S.contents slice.old)
+    ensures { Concludes options snapshot.now (outcome_said options last.outcome) (W.contents out.old) (W.contents out.new) (option_map S.contents slice.old)
         (option_map S.contents slice.new) result }
 {
     let status = last.outcome.status(options.required);
@@ -254,8 +256,9 @@ fn run_recording<R: Read + Drop, W: Write, S: Write, N: Write, G: Gate>(
 /// text or as lines of JSON, and gives the number that the run ends with. Records are taken up to the large limits; where what
 /// was finished is within the small ones, the answer is the same as without them, and the same for every number of workers, 1 to
 /// 32; the gate is called before each start that they search. Where the last answer is an anomaly, the records of a slice go into
-/// the file, if one is given: of a small history that has an anomaly of this one, where there is one within the small limits.
-/// What a person may want to know besides, who reads the standard error, goes to the notes.
+/// the file, if one is given: of a small history that is this one with transactions and operations left out, and has an anomaly of
+/// it; or nothing, where none is found within the small limits. What a person may want to know besides, who reads the standard
+/// error, goes to the notes.
 ///
 /// The file is empty before: nothing goes into it where the last answer is no anomaly, or where the run ends by a fault.
 pub fn run_large<R: Read + Drop, W: Write, S: Write, N: Write, G: Gate>(

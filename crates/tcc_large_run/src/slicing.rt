@@ -1,38 +1,31 @@
-//! The slice of an anomaly: records of a small history that has one. Who makes it is trusted by nobody: only what was read back,
-//! resolved and decided goes out.
-ghost use Rattle.std.specs.Prelude.{IfOk, IfSome, IsTrue};
-ghost use Rattle.tcc_large_run.specs.LargeRuns.{IsAnomalousText};
+//! The slice of an anomaly: the records of a small history that has it. They are read back before they go out.
+ghost use Rattle.std.specs.Prelude.{◌≡◌, IfOk, IfSome, IsTrue};
+ghost use Rattle.tcc_reads.specs.Sources.{history};
+ghost use Rattle.tcc_large_run.specs.LargeRuns.{Finishes, IsSliceText};
 
+use crate::alike::is_same;
 use std::alloc::Global;
-use tcc_graph::{Graph, LargeGraph, Level, Link};
-use tcc_large::{Decision, decide, records, slice};
-use tcc_reads::{ResolveFault, resolve, resolve_large};
+use tcc_graph::{LargeGraph, Level, Link};
+use tcc_large::{records, slice};
+use tcc_reads::{ResolveFault, resolve_large};
 use tcc_rows::{RowFaultKind, snapshot_of};
-use tcc_txn::{LargeSnapshot, NoMemory};
+use tcc_txn::{LargeSnapshot, NoMemory, Snapshot};
 
-/// Whether these are records of a small history that has an anomaly at the level.
-fn is_anomalous(alloc: Global, text: &[u8], level: Level) -> Result<bool, NoMemory>
-    ensures { IfOk result (λ found. IsTrue found → IsAnomalousText level text.now) }
+/// Whether these records have no fault, and finish what the snapshot has.
+fn is_read_back(alloc: Global, text: &[u8], snapshot: &Snapshot) -> Result<bool, NoMemory>
+    ensures { IfOk result (λ found. IsTrue found → Finishes text.now snapshot.now) }
 {
-    let snapshot = match snapshot_of(alloc, text) {
-        Ok(snapshot) => snapshot,
-        Err(fault) if matches!(fault.kind, RowFaultKind::NoMemory) => return Err(NoMemory),
-        Err(_) => return Ok(false),
-    };
-    let resolved = match resolve(alloc, &snapshot) {
-        Ok(resolved) => resolved,
-        Err(ResolveFault::NoMemory) => return Err(NoMemory),
-        Err(ResolveFault::Reads(_)) => return Ok(false),
-    };
-    let graph = Graph::build(alloc, &resolved)?;
-    match decide(alloc, graph.large(), level)? {
-        Decision::Order(_) => Ok(false),
-        Decision::Cycle(_) | Decision::Inconsistent => Ok(true),
+    match snapshot_of(alloc, text) {
+        Ok(read) => Ok(is_same(&read, snapshot)),
+        Err(fault) if matches!(fault.kind, RowFaultKind::NoMemory) => Err(NoMemory),
+        Err(_) => Ok(false),
     }
 }
 
 /// The graph of a snapshot, where its reads are resolved.
-fn graph_of(alloc: Global, snapshot: &LargeSnapshot) -> Result<Option<LargeGraph>, NoMemory> {
+fn graph_of(alloc: Global, snapshot: &LargeSnapshot) -> Result<Option<LargeGraph>, NoMemory>
+    ensures { IfOk result (λ found. IfSome found (λ graph. graph ≡ history snapshot.now)) }
+{
     let resolved = match resolve_large(alloc, snapshot) {
         Ok(resolved) => resolved,
         Err(ResolveFault::NoMemory) => return Err(NoMemory),
@@ -49,7 +42,7 @@ pub(crate) fn slice_text(
     level: Level,
     links: &[Link],
 ) -> Result<Option<Vec<u8>>, NoMemory>
-    ensures { IfOk result (λ made. IfSome made (λ text. IsAnomalousText level text.items)) }
+    ensures { IfOk result (λ made. IfSome made (λ text. IsSliceText level snapshot.now text.items)) }
 {
     let Some(graph) = graph_of(alloc, snapshot)? else {
         return Ok(None);
@@ -58,9 +51,6 @@ pub(crate) fn slice_text(
         return Ok(None);
     };
     let text = records(alloc, &small)?;
-    if is_anomalous(alloc, &text, level)? {
-        Ok(Some(text))
-    } else {
-        Ok(None)
-    }
+    let is_whole = is_read_back(alloc, &text, &small)?;
+    if is_whole { Ok(Some(text)) } else { Ok(None) }
 }

@@ -3,7 +3,7 @@ use Rattle.std.proofs.Common.{subst, Ok}
 use Rattle.tcc_rows.specs.Recordings.{TakesLargeMoment}
 use Rattle.tcc_large_run.specs.LargeRuns.{records_of}
 use Rattle.tcc_large_run.specs.Stages.{AllAnswered, EndsEarly}
-use Rattle.tcc_large_run.proofs.Runs.{answered-seal, ended-end, ended-seal, stopped, wants_memory}
+use Rattle.tcc_large_run.proofs.Runs.{all-finished, answered-seal, ended-end, ended-seal, stopped, wants_memory}
 use Rattle.tcc_large_run.proofs.Sent.{ended_by}
 use Rattle.tcc_large_run.proofs.running.answer_all.Goals as goal
 
@@ -20,8 +20,8 @@ moments-preserved g c = record {
   going = λ none. c.in-Ok-Seal.ensures.goes_on;
 }
 
-pub returns-in_err-said-in-Ok-Seal : goal.returns-in_err-said-in-Ok-Seal
-returns-in_err-said-in-Ok-Seal g c text recording within fresh =
+pub returns-in_err-said-in-Ok-Seal-clause-answers : goal.returns-in_err-said-in-Ok-Seal-clause-answers
+returns-in_err-said-in-Ok-Seal-clause-answers g c text recording within fresh =
     let way = c.moments.invariant.way text recording in
     let at = subst (λ m. TakesLargeMoment g.R.Read.remaining way.taken way.ahead (Ok m) c.advance.new.self) c.in-Ok-Seal.field-0-is
     (c.in-Ok-Seal.ensures.moment way.taken way.ahead way.recorded) in
@@ -31,16 +31,23 @@ returns-in_err-said-in-Ok-Seal g c text recording within fresh =
     (ended-seal g.R.Read.remaining c.args.options text c.moments.recording c.advance.new.self _ _ c.moments.last way at
     c.snapshot-snapshot.result.now _ c.in_err-said-in-Ok-Seal.field-0.0 same c.in_err-said-in-Ok-Seal.ensures)
 
-pub returns-in-Ok-End : goal.returns-in-Ok-End
-returns-in-Ok-End g c text recording within fresh =
+pub returns-in-Ok-End-clause-answers : goal.returns-in-Ok-End-clause-answers
+returns-in-Ok-End-clause-answers g c text recording within fresh =
     let way = c.moments.invariant.way text recording in
     let at = subst (λ m. TakesLargeMoment g.R.Read.remaining way.taken way.ahead (Ok m) c.advance.new.self) c.in-Ok-End.field-0-is
     (c.in-Ok-End.ensures.moment way.taken way.ahead way.recorded) in
     ended-end g.R.Read.remaining c.args.options text c.moments.recording c.advance.new.self _ _ c.moments.last way at
     c.snapshot.result.now _ c.say_last.result (c.snapshot.ensures.finished _ _ at.2) c.say_last.ensures.said c.say_last.ensures.due
 
-pub returns-in-Err : goal.returns-in-Err
-returns-in-Err g c text recording within fresh =
+pub returns-in-Ok-End-clause-finished : goal.returns-in-Ok-End-clause-finished
+returns-in-Ok-End-clause-finished g c text recording =
+    let way = c.moments.invariant.way text recording in
+    let at = subst (λ m. TakesLargeMoment g.R.Read.remaining way.taken way.ahead (Ok m) c.advance.new.self) c.in-Ok-End.field-0-is
+    (c.in-Ok-End.ensures.moment way.taken way.ahead way.recorded) in
+    all-finished g.R.Read.remaining c.args.options text c.moments.recording c.advance.new.self _ _ c.moments.last way at c.say_last.result
+
+pub returns-in-Err-clause-answers : goal.returns-in-Err-clause-answers
+returns-in-Err-clause-answers g c text recording within fresh =
     let way = c.moments.invariant.way text recording in
     stopped g.R.Read.remaining c.args.options text c.moments.recording c.advance.new.self _ _ c.moments.last way
     c.in-Err.fault (c.in-Err.ensures.moment way.taken way.ahead way.recorded) _ c.stop.result
@@ -48,8 +55,8 @@ returns-in-Err g c text recording within fresh =
     (c.moments.invariant.within (records_of text) within) way.recorded)
     c.stop.ensures
 
-pub returns : goal.returns
-returns g c text recording within fresh =
+pub returns-clause-answers : goal.returns-clause-answers
+returns-clause-answers g c text recording within fresh =
     let way = c.moments.invariant.way text recording in
     wants_memory g.R.Read.remaining c.args.options text c.moments.recording c.moments.recording _ _ c.moments.last way _
     c.print_memory.result c.print_memory.ensures

@@ -1,11 +1,13 @@
 -- All was answered, and the slice of what was said last comes behind; or the run ended before.
+use Rattle.std.proofs.Common.{◌∙◌}
 use Rattle.tcc_large_run.proofs.Runs.{concluded, early}
 use Rattle.tcc_large_run.proofs.running.run_recording.Goals as goal
 
 pub returns-in-Ok : goal.returns-in-Ok
 returns-in-Ok g c bytes recording within fresh =
-    concluded c.args.options bytes _ _ _ _ _ c.in-Ok.last c.conclude.result (c.in-Ok.ensures bytes recording within fresh) c.conclude.ensures
+    concluded c.args.options bytes _ _ _ _ _ _ c.in-Ok.last c.conclude.result (c.snapshot.ensures.value ∙ c.in-Ok.ensures.finished bytes recording)
+    (c.in-Ok.ensures.answers bytes recording within fresh) c.conclude.ensures
 
 pub returns-in-Err : goal.returns-in-Err
 returns-in-Err g c bytes recording within fresh =
-    early c.args.options bytes _ _ _ c.in-Err.code (c.in-Err.ensures bytes recording within fresh)
+    early c.args.options bytes _ _ _ c.in-Err.code (c.in-Err.ensures.answers bytes recording within fresh)

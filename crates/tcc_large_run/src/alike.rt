@@ -1,0 +1,70 @@
+//! Whether two snapshots are equal.
+ghost use Rattle.std.specs.Prelude.{◌≡◌, IsTrue};
+ghost use Rattle.tcc_txn.specs.Snapshots.{parts_of};
+
+use tcc_txn::{Name, Op, Snapshot, Txn};
+
+/// Values that can be compared.
+trait Alike {
+    /// Whether the values are equal.
+    fn is_same(&self, other: &Self) -> bool
+        ensures { IsTrue result → self.now ≡ other.now };
+}
+
+impl Alike for Op {
+    fn is_same(&self, other: &Op) -> bool {
+        let same_kind = matches!(self, Op::Get { .. }) == matches!(other, Op::Get { .. });
+        same_kind && self.key() == other.key() && self.value() == other.value()
+    }
+}
+
+impl Alike for Txn {
+    fn is_same(&self, other: &Txn) -> bool {
+        self.committed() == other.committed() && are_same(self.ops(), other.ops())
+    }
+}
+
+/// Whether the lists are equal.
+fn are_same<T: Alike>(some: &[T], others: &[T]) -> bool
+    ensures { IsTrue result → some.now ≡ others.now }
+{
+    if some.len() != others.len() {
+        return false;
+    }
+    for place in 0..some.len() {
+        if !some[place].is_same(&others[place]) {
+            return false;
+        }
+    }
+    true
+}
+
+/// Whether two sessions have the same name and the same transactions.
+fn is_same_part(session: &Name, some: &[Txn], other: &Name, others: &[Txn]) -> bool
+    ensures { IsTrue result → (session.now ≡ other.now) × (some.now ≡ others.now) }
+{
+    session == other && are_same(some, others)
+}
+
+/// Whether each session has the name and the transactions of the one at its place.
+fn are_same_parts(some: &[(Name, Vec<Txn>)], others: &[(Name, Vec<Txn>)]) -> bool
+    ensures { IsTrue result → parts_of some.now ≡ parts_of others.now }
+{
+    if some.len() != others.len() {
+        return false;
+    }
+    for place in 0..some.len() {
+        let (one, other) = (&some[place], &others[place]);
+        if !is_same_part(&one.0, &one.1, &other.0, &other.1) {
+            return false;
+        }
+    }
+    true
+}
+
+/// Whether the snapshots are equal.
+pub(crate) fn is_same(one: &Snapshot, other: &Snapshot) -> bool
+    ensures { IsTrue result → one.now ≡ other.now }
+{
+    are_same_parts(one.parts(), other.parts())
+}
