@@ -67,13 +67,17 @@ fn anomaly<G: Gate>(
     let Some(start) = found.first else {
         unreachable!()
     };
-    let row = found.rows[start as usize].values();
+    let row = found.rows[start as usize].unpacked(alloc)?;
     let links = first_cycle(
         alloc,
         graph,
         near,
         &prices,
-        &FirstReturn { start, cost, row },
+        &FirstReturn {
+            start,
+            cost,
+            row: &row,
+        },
     )?;
     drop(prices);
     let far = far_table(alloc, found.rows, cost)?;

@@ -12,6 +12,7 @@ use tcc_cert::{Numbers, Table};
 use tcc_graph::{Graph, Level};
 use tcc_near::{NONE, Near, Row};
 use tcc_order::clocks;
+use tcc_packed::PackedRow;
 use tcc_txn::NoMemory;
 
 /// A number of steps, capped; the cap where no walk leads.
@@ -56,33 +57,29 @@ pub(crate) fn near_table(
 }
 
 /// The costs of routes; the cap where no route leads.
-fn far_row(alloc: Global, costs: &[Option<u32>], cap: u32) -> Result<Numbers, NoMemory>
+fn far_row(alloc: Global, costs: &PackedRow, cap: u32) -> Result<Numbers, NoMemory>
     ensures { IfOk result (λ row. row ≡ map (cost_or cap) costs.now) }
 {
     let mut row = vec![in alloc; cap; costs.len()]?;
     for place in 0..costs.len() {
-        row[place] = costs[place].unwrap_or(cap);
+        row[place] = costs.get(place).unwrap_or(cap);
     }
     Ok(Numbers::new(row))
 }
 
 /// The same of each row, which is let go as its costs are read.
-fn far_rows(alloc: Global, rows: Vec<Row<Option<u32>>>, cap: u32) -> Result<Vec<Numbers>, NoMemory>
+fn far_rows(alloc: Global, rows: Vec<PackedRow>, cap: u32) -> Result<Vec<Numbers>, NoMemory>
     ensures { IfOk result (λ table. table.items ≡ map (map (cost_or cap)) rows.items) }
 {
     let mut table = Vec::new(alloc);
     for row in rows {
-        table.push(far_row(alloc, row.values(), cap)?)?;
+        table.push(far_row(alloc, &row, cap)?)?;
     }
     Ok(table)
 }
 
 /// The least costs of routes over numbers from their start upward, capped, by rows that are capped there.
-pub(crate) fn far_table(
-    alloc: Global,
-    rows: Vec<Row<Option<u32>>>,
-    cap: u32,
-) -> Result<Table, NoMemory>
+pub(crate) fn far_table(alloc: Global, rows: Vec<PackedRow>, cap: u32) -> Result<Table, NoMemory>
     ensures { (j : Judged) → AreFarRows j cap rows.items → IfOk result (IsFarTable j cap) }
 {
     Ok(Table::new(far_rows(alloc, rows, cap)?))

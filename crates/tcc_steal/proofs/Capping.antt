@@ -1,12 +1,30 @@
--- A list whose elements are turned one after another, each in its place.
-use Rattle.std.proofs.Common.{◌≡◌, ◌<◌, ◌+◌, ◌++◌, ℕ, zero, suc, List, [], ◌∷◌, length, map, take, drop, set, get_or, refl, ap, arith}
+-- Rows that are capped as they lie are those that searches speak of.
+use Rattle.std.proofs.Common.{◌≡◌, ◌<◌, ◌≤◌, ℕ, Bool, true, false, cond, List, [], ◌∷◌, map, Option, None, Some, refl, ap, ◌∙◌, arith}
+use Rattle.std.specs.Prelude.{min, nat_lt}
+use Rattle.std.proofs.lemmas.Bool.{ltb-true, ltb-false}
+use Rattle.tcc_core.specs.Shares.{capped}
+use Rattle.tcc_packed.specs.Packed.{capped_at}
 
-step : {X : Type 0} (f : X → X) (xs : List X) (i : ℕ) (d : X) → i < length xs
-    → set (map f (take i xs) ++ drop i xs) i (f (get_or (map f (take i xs) ++ drop i xs) i d)) ≡ map f (take (suc i) xs) ++ drop (suc i) xs
-step f [] i d inside = absurd (omega arith)
-step f (x ∷ xs) zero d inside = refl
-step f (x ∷ xs) (suc i) d inside = ap (λ l. f x ∷ l) (step f xs i d (omega arith))
+some_number : (cap n : ℕ) (less : Bool) → nat_lt n cap ≡ less → Some (min cap n) ≡ cond less (Some n) (Some cap)
+some_number cap n true e =
+    let low : n < cap = ltb-true n cap e in
+    let same : min cap n ≡ n = omega (arith, low) in
+    ap (λ (x : ℕ). Some x) same
+some_number cap n false e =
+    let high : cap ≤ n = ltb-false n cap e in
+    let same : min cap n ≡ cap = omega (arith, high) in
+    ap (λ (x : ℕ). Some x) same
 
-pub turned_more : {X : Type 0} (f : X → X) (xs : List X) (i : ℕ) (d : X) → i < length xs
-    → set (map f (take i xs) ++ drop i xs) i (f (get_or (map f (take i xs) ++ drop i xs) i d)) ≡ map f (take (i + 1) xs) ++ drop (i + 1) xs
-turned_more f xs i d inside = let next : i + 1 ≡ suc i = omega arith in rw next (step f xs i d inside)
+one : (cap : ℕ) (n : Option ℕ) → capped_at cap n ≡ capped (Some cap) n
+one cap None = let same : min cap cap ≡ cap = omega arith in ap (λ (x : ℕ). Some x) same
+one cap (Some n) = some_number cap n (nat_lt n cap) refl
+
+pub row_capped : (cap : ℕ) (row : List (Option ℕ)) → map (capped_at cap) row ≡ map (capped (Some cap)) row
+row_capped cap [] = refl
+row_capped cap (n ∷ row) =
+    ap (λ (l : List (Option ℕ)). capped_at cap n ∷ l) (row_capped cap row)
+    ∙ ap (λ (x : Option ℕ). x ∷ map (capped (Some cap)) row) (one cap n)
+
+pub row_uncapped : (row : List (Option ℕ)) → row ≡ map (capped None) row
+row_uncapped [] = refl
+row_uncapped (n ∷ row) = ap (λ (l : List (Option ℕ)). n ∷ l) (row_uncapped row)

@@ -20,7 +20,7 @@ pub knows_more : {t : Tables} {workers : ℕ} {old new : Known} {e : Searched} �
 knows_more {old = old} {new = new} {e = e} more is = record {
   start = is.start;
   worker = is.worker;
-  done = λ j priced. ended_more j old new e.start (whole_row e.start e.row.items) more (is.done j priced);
+  done = λ j priced. ended_more j old new e.start (whole_row e.start e.row) more (is.done j priced);
 }
 
 -- ---- searches in any order

@@ -82,7 +82,7 @@ stop_of sight (Some c) = Returned c
 
 abbrev pub finished_of : Known → Searched → Finished
 finished_of known e =
-    record { start = e.start; row = whole_row e.start e.row.items; stop = stop_of known.sight (in_row (whole_row e.start e.row.items) e.start) }
+    record { start = e.start; row = whole_row e.start e.row; stop = stop_of known.sight (in_row (whole_row e.start e.row) e.start) }
 
 abbrev pub share_of : Known → List Searched → Share
 share_of known es = record { finished = map (finished_of known) es; offers = known.offers; sight = cap_of known.sight }
@@ -100,7 +100,7 @@ finished_is : {j : Judged} {t : Tables} {workers : ℕ} {known : Known} (es : Li
     → IsFinished j (share_of known es) (finished_of known e)
 finished_is {j} es e priced is =
     let ended = is.done j priced in
-    record { row = ended.exact; stopped = stopped es ended (in_row (whole_row e.start e.row.items) e.start) refl }
+    record { row = ended.exact; stopped = stopped es ended (in_row (whole_row e.start e.row) e.start) refl }
 
 -- a fact of each search is one of each that is finished
 each_of : (t : Tables) (workers : ℕ) (known : Known) (P : Finished → Type 0) → ((e : Searched) → IsSearched t workers known e → P (finished_of known e))
@@ -126,8 +126,8 @@ map_at f (x ∷ xs) (suc i) d e l = map_at f xs i d e (omega arith)
 no_other : (a b : ℕ) → Some a ≡ Some b → a ≡ b
 no_other a b e = cc
 
-pub row_here : (es : List Searched) (k : ℕ) (e : Searched) → k < length es → e ≡ get_or es k e → row_of (rows_of es) k ≡ e.row.items
-row_here es k e l here = map_at (λ (x : Searched). x.row.items) es k [] e l ∙ ap (λ (x : Searched). x.row.items) (sym here)
+pub row_here : (es : List Searched) (k : ℕ) (e : Searched) → k < length es → e ≡ get_or es k e → row_of (rows_of es) k ≡ e.row
+row_here es k e l here = map_at (λ (x : Searched). x.row) es k [] e l ∙ ap (λ (x : Searched). x.row) (sym here)
 
 -- searches of all starts, in order, which settle at a word
 record AreSettled (j : Judged) (t : Tables) (workers : ℕ) (known : Known) (es : List Searched) (word : Option ℕ) : Type 0 where
@@ -140,7 +140,7 @@ record AreSettled (j : Judged) (t : Tables) (workers : ℕ) (known : Known) (es 
 pub record IsTold (es : List Searched) (least : Option ℕ) (found : Found) : Type 0 where
   pub least_is : found.least ≡ least
   pub first : IsFirstBack es least found.first
-  pub rows : found.rows.items ≡ map (λ (e : Searched). map (capped least) e.row.items) es
+  pub rows : found.rows.items ≡ map (λ (e : Searched). map (capped least) e.row) es
   pub starts : found.starts.items ≡ map (λ (e : Searched). (e.worker, e.start)) es
 
 -- the search that stands at a place
@@ -148,16 +148,16 @@ record IsAt (j : Judged) (known : Known) (es : List Searched) (s : ℕ) : Type 0
   search : Searched
   here : (d : Searched) → get_or es s d ≡ search
   start : search.start ≡ s
-  ended : HasEnded j known s (whole_row s search.row.items)
-  row_is : row_of (rows_of es) s ≡ search.row.items
+  ended : HasEnded j known s (whole_row s search.row)
+  row_is : row_of (rows_of es) s ≡ search.row
 
 module _ {j : Judged} {t : Tables} {workers : ℕ} {known : Known} {es : List Searched} {word : Option ℕ} (all : AreSettled j t workers known es word) where
-  ended_at : (s : ℕ) (e : Searched) → s < length es → get_or es s e ≡ e → (e.start ≡ s) × HasEnded j known s (whole_row s e.row.items)
+  ended_at : (s : ℕ) (e : Searched) → s < length es → get_or es s e ≡ e → (e.start ≡ s) × HasEnded j known s (whole_row s e.row)
   ended_at s e l here =
       let w = searches_at t workers known 0 es all.searches s e l in
       let start : e.start ≡ s = subst (λ (x : Searched). x.start ≡ s) here (w.0 ∙ zero_more s) in
       let is : IsSearched t workers known e = subst (IsSearched t workers known) here w.1 in
-      (start, subst (λ (k : ℕ). HasEnded j known k (whole_row k e.row.items)) start (is.done j all.priced))
+      (start, subst (λ (k : ℕ). HasEnded j known k (whole_row k e.row)) start (is.done j all.priced))
     where
       zero_more : (s : ℕ) → 0 + s ≡ s
       zero_more s = omega arith
@@ -178,14 +178,14 @@ module _ {j : Judged} {t : Tables} {workers : ℕ} {known : Known} {es : List Se
       go d =
           let e : Searched = get_or es s d in
           let w = ended_at s e l (any_default es s e d l) in
-          record { search = e; here = λ o. any_default es s o d l; start = w.0; ended = w.1; row_is = map_at (λ (x : Searched). x.row.items) es s [] d l }
+          record { search = e; here = λ o. any_default es s o d l; start = w.0; ended = w.1; row_is = map_at (λ (x : Searched). x.row) es s [] d l }
 
   back_row : (s c : ℕ) → s < length es → CameBack es s c → IsDistance j s s c
   back_row s c l back =
       let w = at_place s l in
-      let here : in_row w.search.row.items 0 ≡ Some c = subst (λ (row : List (Option ℕ)). in_row row 0 ≡ Some c) w.row_is back in
+      let here : in_row w.search.row 0 ≡ Some c = subst (λ (row : List (Option ℕ)). in_row row 0 ≡ Some c) w.row_is back in
       let same : s + 0 ≡ s = omega arith in
-      w.ended.exact.exact s c (ap (in_row (whole_row s w.search.row.items)) (sym same) ∙ (in_whole s 0 w.search.row.items ∙ here))
+      w.ended.exact.exact s c (ap (in_row (whole_row s w.search.row)) (sym same) ∙ (in_whole s 0 w.search.row ∙ here))
 
   stop_some : (sight b : ℕ) (o : Option ℕ) → stop_of sight o ≡ Returned b → o ≡ Some b
   stop_some sight b None e = absurd (apart (cap_of sight) b e)
@@ -211,10 +211,10 @@ module _ {j : Judged} {t : Tables} {workers : ℕ} {known : Known} {es : List Se
       let P : Finished → Type 0 = λ f. IsDistance j f.start f.start b → f.stop ≡ Returned b in
       let settle_b : SettleAt j (share_of known es ∷ []) (Some b) = subst (SettleAt j (share_of known es ∷ [])) some all.settle in
       let stop = all_of P (returned_starts j (share_of known es ∷ []) b settle_b) s e l w.here (subst (λ (k : ℕ). IsDistance j k k b) (sym w.start) distance) in
-      let back : in_row (whole_row e.start e.row.items) e.start ≡ Some b = stop_some known.sight b (in_row (whole_row e.start e.row.items) e.start) stop in
-      let here : in_row (whole_row s e.row.items) s ≡ Some b = subst (λ (k : ℕ). in_row (whole_row k e.row.items) k ≡ Some b) w.start back in
+      let back : in_row (whole_row e.start e.row) e.start ≡ Some b = stop_some known.sight b (in_row (whole_row e.start e.row) e.start) stop in
+      let here : in_row (whole_row s e.row) s ≡ Some b = subst (λ (k : ℕ). in_row (whole_row k e.row) k ≡ Some b) w.start back in
       let same : s + 0 ≡ s = omega arith in
-      let at_start : in_row e.row.items 0 ≡ Some b = sym (in_whole s 0 e.row.items) ∙ (ap (in_row (whole_row s e.row.items)) same ∙ here) in
+      let at_start : in_row e.row 0 ≡ Some b = sym (in_whole s 0 e.row) ∙ (ap (in_row (whole_row s e.row)) same ∙ here) in
       (subst (λ (row : List (Option ℕ)). in_row row 0 ≡ Some b) (sym w.row_is) at_start, w.ended.returned b here)
 
   -- some search came back at the cost of a least cycle
@@ -246,17 +246,17 @@ module _ {j : Judged} {t : Tables} {workers : ℕ} {known : Known} {es : List Se
   )
 
   -- rows of them, capped at the word
-  module _ {rows : List (List (Option ℕ))} (are : rows ≡ map (λ (e : Searched). map (capped word) e.row.items) es) where
-    rows_at : (s : ℕ) → s < length es → (w : IsAt j known es s) → row_of rows s ≡ map (capped word) w.search.row.items
+  module _ {rows : List (List (Option ℕ))} (are : rows ≡ map (λ (e : Searched). map (capped word) e.row) es) where
+    rows_at : (s : ℕ) → s < length es → (w : IsAt j known es s) → row_of rows s ≡ map (capped word) w.search.row
     rows_at s l w =
         ap (λ (r : List (List (Option ℕ))). row_of r s) are
-        ∙ (map_at (λ (e : Searched). map (capped word) e.row.items) es s [] w.search l ∙ ap (λ (e : Searched). map (capped word) e.row.items) (w.here w.search))
+        ∙ (map_at (λ (e : Searched). map (capped word) e.row) es s [] w.search l ∙ ap (λ (e : Searched). map (capped word) e.row) (w.here w.search))
 
     exact_at : (s v : ℕ) → s ≤ v → v < count j.history → IsCappedDistance j s v word (slice_index_or (row_of rows s) (v - s) None)
     exact_at s v up below =
         let l : s < length es = omega (arith, all.long, all.priced.prices.long) in
         let w = at_place s l in
-        let row = w.search.row.items in
+        let row = w.search.row in
         let P : Finished → Type 0 = λ f. (v : ℕ) → IsCappedDistance j f.start v word (capped word (in_row f.row v)) in
         let at_start : IsCappedDistance j w.search.start v word (capped word (in_row (whole_row w.search.start row) v)) =
         all_of P (capped_rows j (share_of known es ∷ []) word all.settle) s w.search l w.here v in
@@ -274,7 +274,7 @@ module _ {j : Judged} {t : Tables} {workers : ℕ} {known : Known} {es : List Se
     places_at s below =
         let l : s < length es = omega (arith, all.long, all.priced.prices.long) in
         let w = at_place s l in
-        let row = w.search.row.items in
+        let row = w.search.row in
         let wide : length (whole_row s row) ≡ count j.history = w.ended.exact.long in
         omega (arith, ap (λ (r : List (Option ℕ)). length r) (rows_at s l w), length-map row (capped word), length_whole s row, wide)
 
@@ -284,8 +284,8 @@ module _ {j : Judged} {t : Tables} {workers : ℕ} {known : Known} {es : List Se
         let w = at_place i l in
         let x = w.search in
         let same : get_or (map (finished_of known) es) i d ≡ finished_of known x = map_at (finished_of known) es i d x l ∙ ap (finished_of known) (w.here x) in
-        let row : row_of rows x.start ≡ map (capped word) x.row.items = ap (row_of rows) w.start ∙ rows_at i l w in
-        subst P (sym same) (row ∙ ap (map (capped word)) (sym (drop_whole x.start x.row.items))))
+        let row : row_of rows x.start ≡ map (capped word) x.row = ap (row_of rows) w.start ∙ rows_at i l w in
+        subst P (sym same) (row ∙ ap (map (capped word)) (sym (drop_whole x.start x.row))))
       where
         P : Finished → Type 0
         P f = row_of rows f.start ≡ map (capped word) (drop f.start f.row)
@@ -301,7 +301,7 @@ module _ {j : Judged} {t : Tables} {workers : ℕ} {known : Known} {es : List Se
         omega (
           arith,
           ap (λ (r : List (List (Option ℕ))). length r) told.rows,
-          length-map es (λ (e : Searched). map (capped word) e.row.items),
+          length-map es (λ (e : Searched). map (capped word) e.row),
           all.long,
           all.priced.prices.long,
         );

@@ -64,7 +64,7 @@ whole_row s row = replicate s None ++ row
 
 -- it has ended for a seat that knows so much
 abbrev pub IsDone : Tables → Known → Searched → Type 0
-IsDone t known e = (j : Judged) → IsPricesOf j t → HasEnded j known e.start (whole_row e.start e.row.items)
+IsDone t known e = (j : Judged) → IsPricesOf j t → HasEnded j known e.start (whole_row e.start e.row)
 
 -- a search of one of so many workers, which has ended for a seat that knows so much
 pub record IsSearched (t : Tables) (workers : ℕ) (known : Known) (e : Searched) : Type 0 where
@@ -123,7 +123,7 @@ AreKept t workers known places = (k : ℕ) (e : Searched) → slice_get places k
 
 -- the row of the search from k, from there upward
 abbrev pub rows_of : List Searched → List (List (Option ℕ))
-rows_of searches = map (λ e. e.row.items) searches
+rows_of searches = map (λ e. e.row) searches
 
 -- the search from k came back at this cost
 abbrev pub CameBack : List Searched → ℕ → ℕ → Type 0

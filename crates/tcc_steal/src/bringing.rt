@@ -1,12 +1,14 @@
 //! Searches that have ended.
 ghost use Rattle.std.specs.Prelude.{◌≡◌, ◌↔◌, Some, true};
 
+use tcc_packed::PackedRow;
+
 /// A search that has ended: its row from the start upward, none for what stands outside, and the worker that made it.
 #[derive(Drop)]
 pub(crate) struct Searched {
     pub start: u32,
     pub worker: u32,
-    pub row: Vec<Option<u32>>,
+    pub row: PackedRow,
 }
 
 impl Searched {
@@ -15,11 +17,14 @@ impl Searched {
 
     /// Whether the search came back to its start at this cost.
     pub fn came_back_at(&self, cost: u32) -> bool
-        ensures { (result ≡ true) ↔ (in_row self.now.row.items 0 ≡ Some cost) }
+        ensures { (result ≡ true) ↔ (in_row self.now.row 0 ≡ Some cost) }
     {
-        match self.row.first() {
-            Some(Some(back)) => *back == cost,
-            _ => false,
+        if self.row.len() == 0 {
+            return false;
+        }
+        match self.row.get(0) {
+            Some(back) => back == cost,
+            None => false,
         }
     }
 }

@@ -1,5 +1,5 @@
 //! What a search by many workers answers.
-use tcc_near::Row;
+use tcc_packed::PackedRow;
 
 /// What a least cycle costs, and how far it is from each start to each transaction.
 #[derive(Drop)]
@@ -10,7 +10,7 @@ pub struct Found {
     pub first: Option<u32>,
     /// For each start the distances from it over numbers from there upward, capped at `least` where there is one: place k
     /// has that of transaction start + k, none where no route leads there.
-    pub rows: Vec<Row<Option<u32>>>,
+    pub rows: Vec<PackedRow>,
     /// Each start, with the worker that searched it first.
     pub starts: Vec<(u32, u32)>,
 }

@@ -18,28 +18,17 @@ use std::alloc::Global;
 use std::thread::Threads;
 use tcc_bound::{Bound, Seat};
 use tcc_derive::Prices;
-use tcc_near::Row;
+use tcc_packed::PackedRow;
 use tcc_txn::NoMemory;
 
-/// A cost capped, where there is a cap; where there is no cost, the cap.
-fn capped(cost: Option<u32>, cap: Option<u32>) -> Option<u32>
-    ensures { result ≡ capped cap cost }
+/// The row with each of its places capped, where there is a cap.
+fn capped_row(row: PackedRow, cap: Option<u32>) -> PackedRow
+    ensures { result ≡ map (capped cap) row }
 {
-    match (cap, cost) {
-        (None, _) => cost,
-        (Some(cap), Some(cost)) if cost < cap => Some(cost),
-        (Some(cap), _) => Some(cap),
+    match cap {
+        Some(cap) => row.capped(cap),
+        None => row,
     }
-}
-
-/// The row with each of its places capped, in its own memory.
-fn capped_row(mut row: Vec<Option<u32>>, cap: Option<u32>) -> Row<Option<u32>>
-    ensures { result ≡ map (capped cap) row.items }
-{
-    for cost in row.iter_mut() {
-        *cost = capped(*cost, cap);
-    }
-    Row::new(row)
 }
 
 /// The first of these searches that came back at this cost, by its place.
@@ -60,7 +49,7 @@ fn found(alloc: Global, least: Option<u32>, searches: Vec<Searched>) -> Result<F
     requires { length searches.items < 2 ^ 32 }
     ensures least { IfOk result (λ found. found.least ≡ least) }
     ensures first { IfOk result (λ found. IsFirstBack searches.items least found.first) }
-    ensures rows { IfOk result (λ found. found.rows.items ≡ map (λ e. map (capped least) e.row.items) searches.items) }
+    ensures rows { IfOk result (λ found. found.rows.items ≡ map (λ e. map (capped least) e.row) searches.items) }
     ensures starts { IfOk result (λ found. found.starts.items ≡ map (λ e. (e.worker, e.start)) searches.items) }
 {
     let first = match least {

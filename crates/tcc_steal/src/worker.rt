@@ -14,6 +14,7 @@ use std::alloc::Global;
 use tcc_bound::{Bound, Seat};
 use tcc_core::Search;
 use tcc_derive::Prices;
+use tcc_packed::PackedRow;
 use tcc_txn::NoMemory;
 
 /// A worker: its number, its seat at the bound, and its one search, which it has from its first start on and renews for each
@@ -69,7 +70,7 @@ impl Worker {
         gate.enter(self.number, start);
         let mut search = opened(alloc, prices, self.search.take(), start)?;
         run(&mut search, prices, bound, &mut self.seat);
-        let row = Vec::from_slice(alloc, search.row())?;
+        let row = PackedRow::of(alloc, search.row())?;
         self.search = Some(search);
         Ok(Searched {
             start,

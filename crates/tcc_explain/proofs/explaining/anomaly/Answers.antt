@@ -35,7 +35,7 @@ first_cycle-requires-clause-back g c =
     c.in-Some-first.is in
     first_return j c.args.workers c.in_ok-found.found (c.in_ok-found.ensures j c.requires.prices) c.in-Some.cost c.in-Some.is c.in-Some-first.start
     c.in-Some-first.is _ refl refl
-    (c.values-row.ensures ∙ (c.index.ensures ∙ get_or_default c.in_ok-found.found.rows.items c.in-Some-first.start c.index.result.now [] below))
+    (c.deref.ensures.value ∙ (c.in_ok-row.ensures ∙ (c.index.ensures ∙ get_or_default c.in_ok-found.found.rows.items c.in-Some-first.start c.index.result.now [] below)))
 
 pub returns : goal.returns
 returns g c =

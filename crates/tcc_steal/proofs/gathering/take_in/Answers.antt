@@ -21,8 +21,20 @@ loop-searched-preserved-then-is_none-2 c =
     let (searches, kept, long) = c.loop-searched.invariant in
     last_filled c.loop-searched.places kept long c.loop-searched.searches.items c.pop.new.self.items c.in-Some.searched c.in-Some.ensures.items searches
 
+pub loop-searched-preserved-then-is_none-3 : goal.loop-searched-preserved-then-is_none-3
+loop-searched-preserved-then-is_none-3 c =
+    let (searches, kept, long) = c.loop-searched.invariant in
+    last_filled c.loop-searched.places kept long c.loop-searched.searches.items c.pop.new.self.items c.in-Some.searched c.in-Some.ensures.items searches
+
 pub loop-searched-preserved : goal.loop-searched-preserved
 loop-searched-preserved c =
+    let P = IsSearched c.args._prices.now c.args._workers c.join.new.seat.known in
+    let (searches, kept, long) = c.loop-searched.invariant in
+    let left = All-pop P c.loop-searched.searches.items c.pop.new.self.items (Some c.in-Some.searched) c.in-Some.ensures.items searches in
+    (left.0, kept, long)
+
+pub loop-searched-preserved-else-is_none : goal.loop-searched-preserved-else-is_none
+loop-searched-preserved-else-is_none c =
     let P = IsSearched c.args._prices.now c.args._workers c.join.new.seat.known in
     let (searches, kept, long) = c.loop-searched.invariant in
     let left = All-pop P c.loop-searched.searches.items c.pop.new.self.items (Some c.in-Some.searched) c.in-Some.ensures.items searches in

@@ -1,12 +1,9 @@
-use Rattle.std.proofs.Common.{◌≡◌, ◌++◌, map, take, drop, None}
-use Rattle.tcc_core.specs.Shares.{capped}
-use Rattle.tcc_steal.proofs.Capping.{turned_more}
+use Rattle.std.proofs.Common.{◌∙◌}
+use Rattle.tcc_steal.proofs.Capping.{row_capped, row_uncapped}
 use Rattle.tcc_steal.proofs.searching.capped_row.Goals as goal
 
-pub loop-cost-preserved : goal.loop-cost-preserved
-loop-cost-preserved c =
-    let f = capped c.args.cap in
-    let row = c.deref_mut-cost-items.result.now in
-    let place = c.loop-cost.cost-index in
-    let now : c.loop-cost.cost-items ≡ map f (take place row) ++ drop place row = c.loop-cost.invariant in
-    rw (c.capped.ensures, now) (turned_more f row place None c.loop-cost-test.true)
+pub returns-in-Some : goal.returns-in-Some
+returns-in-Some c = rw c.in-Some.is (c.capped.ensures ∙ row_capped c.in-Some.cap c.args.row)
+
+pub returns-in-None : goal.returns-in-None
+returns-in-None c = rw c.in-None.is (row_uncapped c.args.row)

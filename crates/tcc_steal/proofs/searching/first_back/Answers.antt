@@ -20,6 +20,6 @@ loop-start-preserved c =
     let n = c.loop-start.start in
     let e = c.index-searches-start.result in
     one_more (λ k. CameBack es k c.args.cost) n c.loop-start.invariant (λ back.
-    let here : in_row e.row.items 0 ≡ Some c.args.cost =
+    let here : in_row e.row 0 ≡ Some c.args.cost =
     subst (λ (row : List (Option ℕ)). in_row row 0 ≡ Some c.args.cost) (row_here es n e c.loop-start-test.true c.index-searches-start.is) back in
     absurd (true≢false (sym (c.came_back_at.ensures.1 here) ∙ c.if-came_back_at.false)))
