@@ -1,4 +1,4 @@
--- The rows of a certificate's tables among its parts.
+-- The links of a certificate and the rows of its tables among its parts.
 use Rattle.std.proofs.Common.{◌≡◌, ℕ, ◌<◌, ◌≤◌, ◌≢◌, false, List, [], ◌∷◌, ◌++◌, Option, None, Ok}
 use Rattle.std.proofs.Common.{Err, inl, inr, refl, sym, ap, ◌∙◌, arith, append_assoc, append-nil}
 use Rattle.std.specs.Prelude.{map}
@@ -18,7 +18,7 @@ use Rattle.tcc_cert.specs.declared.reading.stages.Phase.{Phase}
 use Rattle.tcc_cert.specs.declared.reading.stages.Phase.TheVariants as phase
 use Rattle.tcc_cert.specs.declared.reading.Tables.{Tables}
 use Rattle.tcc_cert.specs.Ahead.{IsAhead, ended_in, fault_in, fault_met, has_ended, is_end, line_wanted}
-use Rattle.tcc_cert.specs.Collecting.{EndsIn, HasRow, HasRowsOf, clocks_in, far_in, near_in}
+use Rattle.tcc_cert.specs.Collecting.{EndsIn, HasRow, HasRowsOf, clocks_in, far_in, links_in, near_in}
 use Rattle.tcc_cert.specs.Outcomes.{IsFailure, IsReading}
 use Rattle.tcc_cert.specs.Parts.{FaultsIn, IsFirst, Parts, after_part, ending, parts_of, parts_read}
 use Rattle.tcc_cert.specs.Reading.{certificate_read}
@@ -26,46 +26,50 @@ use Rattle.tcc_cert.specs.Stages.{IsAheadIn}
 use Rattle.tcc_cert.proofs.PartFacts.{line-reached, read-fault, read-whole}
 use Rattle.tcc_cert.proofs.StageFacts.{onward-stage}
 
--- ---- rows so far, and those to come
+-- ---- links and rows so far, and those to come
 
-pub record IsKept (clocks near far : List (List ℕ)) (ahead rest : Parts) : Type 0 where
+pub record IsKept (links : List Link) (clocks near far : List (List ℕ)) (ahead rest : Parts) : Type 0 where
+  pub links_kept : links_in ahead.parts ≡ links ++ links_in rest.parts
   pub clocks_kept : clocks_in ahead.parts ≡ clocks ++ clocks_in rest.parts
   pub near_kept : near_in ahead.parts ≡ near ++ near_in rest.parts
   pub far_kept : far_in ahead.parts ≡ far ++ far_in rest.parts
   pub line : rest.line ≡ ahead.line
   pub fault : rest.fault ≡ ahead.fault
 
-pub kept-none : (ahead : Parts) → IsKept [] [] [] ahead ahead
-kept-none ahead = record { clocks_kept = refl; near_kept = refl; far_kept = refl; line = refl; fault = refl }
+pub kept-none : (ahead : Parts) → IsKept [] [] [] [] ahead ahead
+kept-none ahead = record { links_kept = refl; clocks_kept = refl; near_kept = refl; far_kept = refl; line = refl; fault = refl }
 
--- the rows of a part stand before those behind it
+-- the link or the row of a part stands before those behind it
 abbrev HasRowsBefore : Part → List Part → Type 0
 HasRowsBefore given rest =
-    (clocks_in (given ∷ rest) ≡ clocks_in (given ∷ []) ++ clocks_in rest)
+    (links_in (given ∷ rest) ≡ links_in (given ∷ []) ++ links_in rest)
+    × (clocks_in (given ∷ rest) ≡ clocks_in (given ∷ []) ++ clocks_in rest)
     × (near_in (given ∷ rest) ≡ near_in (given ∷ []) ++ near_in rest)
     × (far_in (given ∷ rest) ≡ far_in (given ∷ []) ++ far_in rest)
 
 rows-before : (given : Part) (rest : List Part) → HasRowsBefore given rest
-rows-before (part.Order v l o s) rest = (refl, refl, refl)
-rows-before (part.Cycle v l n ls least) rest = (refl, refl, refl)
-rows-before (part.Clocks row) rest = (refl, refl, refl)
-rows-before (part.Near row) rest = (refl, refl, refl)
-rows-before (part.Far row) rest = (refl, refl, refl)
-rows-before part.End rest = (refl, refl, refl)
+rows-before (part.Order v l o s) rest = (refl, refl, refl, refl)
+rows-before (part.Cycle v l n ls least) rest = (refl, refl, refl, refl)
+rows-before (part.Link one) rest = (refl, refl, refl, refl)
+rows-before (part.Clocks row) rest = (refl, refl, refl, refl)
+rows-before (part.Near row) rest = (refl, refl, refl, refl)
+rows-before (part.Far row) rest = (refl, refl, refl, refl)
+rows-before part.End rest = (refl, refl, refl, refl)
 
-rows-more : (old new one rest both all : List (List ℕ)) → all ≡ old ++ both → both ≡ one ++ rest → new ≡ old ++ one → all ≡ new ++ rest
+rows-more : {X : Type 0} (old new one rest both all : List X) → all ≡ old ++ both → both ≡ one ++ rest → new ≡ old ++ one → all ≡ new ++ rest
 rows-more old new one rest both all is split more = is ∙ ap (λ rows. old ++ rows) split ∙ sym (append_assoc old one rest) ∙ ap (λ rows. rows ++ rest) (sym more)
 
-pub kept-more : (old new : Tables) (given : Part) (ahead now rest : Parts) → IsKept old.clocks.items old.near.items old.far.items ahead now
+pub kept-more : (old new : Tables) (given : Part) (ahead now rest : Parts) → IsKept old.links.items old.clocks.items old.near.items old.far.items ahead now
     → now ≡ after_part given rest → HasRow given old new
-    → IsKept new.clocks.items new.near.items new.far.items ahead rest
+    → IsKept new.links.items new.clocks.items new.near.items new.far.items ahead rest
 kept-more old new given ahead now rest kept is more =
     let before = rows-before given rest.parts in
     record {
+      links_kept = rows-more old.links.items new.links.items _ _ _ _ (kept.links_kept ∙ ap (λ p. old.links.items ++ links_in p.parts) is) before.0 more.links;
       clocks_kept =
-          rows-more old.clocks.items new.clocks.items _ _ _ _ (kept.clocks_kept ∙ ap (λ p. old.clocks.items ++ clocks_in p.parts) is) before.0 more.clocks;
-      near_kept = rows-more old.near.items new.near.items _ _ _ _ (kept.near_kept ∙ ap (λ p. old.near.items ++ near_in p.parts) is) before.1 more.near;
-      far_kept = rows-more old.far.items new.far.items _ _ _ _ (kept.far_kept ∙ ap (λ p. old.far.items ++ far_in p.parts) is) before.2 more.far;
+          rows-more old.clocks.items new.clocks.items _ _ _ _ (kept.clocks_kept ∙ ap (λ p. old.clocks.items ++ clocks_in p.parts) is) before.1 more.clocks;
+      near_kept = rows-more old.near.items new.near.items _ _ _ _ (kept.near_kept ∙ ap (λ p. old.near.items ++ near_in p.parts) is) before.2 more.near;
+      far_kept = rows-more old.far.items new.far.items _ _ _ _ (kept.far_kept ∙ ap (λ p. old.far.items ++ far_in p.parts) is) before.3 more.far;
       line = sym (ap (λ p. p.line) is) ∙ kept.line;
       fault = sym (ap (λ p. p.fault) is) ∙ kept.fault;
     }
@@ -73,6 +77,7 @@ kept-more old new given ahead now rest kept is more =
 pub goes-on : (given : Part) → given ≢ part.End → is_end given ≡ false
 goes-on (part.Order v l o s) goes = refl
 goes-on (part.Cycle v l n ls least) goes = refl
+goes-on (part.Link one) goes = refl
 goes-on (part.Clocks row) goes = refl
 goes-on (part.Near row) goes = refl
 goes-on (part.Far row) goes = refl
@@ -81,15 +86,17 @@ goes-on part.End goes = absurd (goes refl)
 pub first-rest : (given : Part) (ahead rest : Parts) → is_end given ≡ false → IsFirst given ahead rest → ahead ≡ after_part given rest
 first-rest (part.Order v l o s) ahead rest goes is = is
 first-rest (part.Cycle v l n ls least) ahead rest goes is = is
+first-rest (part.Link one) ahead rest goes is = is
 first-rest (part.Clocks row) ahead rest goes is = is
 first-rest (part.Near row) ahead rest goes is = is
 first-rest (part.Far row) ahead rest goes is = is
 first-rest part.End ahead rest goes is = absurd cc
 
-pub kept-all : (tables : Tables) (ahead now : Parts) → IsKept tables.clocks.items tables.near.items tables.far.items ahead now → now ≡ ending now.line None
+pub kept-all : (tables : Tables) (ahead now : Parts) → IsKept tables.links.items tables.clocks.items tables.near.items tables.far.items ahead now → now ≡ ending now.line None
     → HasRowsOf ahead tables
 kept-all tables ahead now kept is =
     record {
+      links = sym (kept.links_kept ∙ ap (λ p. tables.links.items ++ links_in p.parts) is ∙ append-nil tables.links.items);
       clocks = sym (kept.clocks_kept ∙ ap (λ p. tables.clocks.items ++ clocks_in p.parts) is ∙ append-nil tables.clocks.items);
       near = sym (kept.near_kept ∙ ap (λ p. tables.near.items ++ near_in p.parts) is ∙ append-nil tables.near.items);
       far = sym (kept.far_kept ∙ ap (λ p. tables.far.items ++ far_in p.parts) is ∙ append-nil tables.far.items);
@@ -138,21 +145,36 @@ clocks-of : (clocks : List (List ℕ)) → clocks_in (map part.Clocks clocks) �
 clocks-of [] = refl
 clocks-of (row ∷ clocks) = ap (λ rows. row ∷ rows) (clocks-of clocks)
 
+-- the links of a cycle stand before its tables
+abbrev tables_of : List (List ℕ) → List (List ℕ) → List Part
+tables_of near far = map part.Near near ++ map part.Far far
+
+links-none : (near far : List (List ℕ)) → links_in (tables_of near far) ≡ []
+links-none [] [] = refl
+links-none [] (row ∷ far) = links-none [] far
+links-none (row ∷ near) far = links-none near far
+
+links-of : (links : List Link) (near far : List (List ℕ)) → links_in (map part.Link links ++ tables_of near far) ≡ links
+links-of [] near far = links-none near far
+links-of (one ∷ links) near far = ap (λ l. one ∷ l) (links-of links near far)
+
 near-none : (far : List (List ℕ)) → near_in (map part.Far far) ≡ []
 near-none [] = refl
 near-none (row ∷ far) = near-none far
 
-near-of : (near far : List (List ℕ)) → near_in (map part.Near near ++ map part.Far far) ≡ near
-near-of [] far = near-none far
-near-of (row ∷ near) far = ap (λ rows. row ∷ rows) (near-of near far)
+near-of : (links : List Link) (near far : List (List ℕ)) → near_in (map part.Link links ++ tables_of near far) ≡ near
+near-of [] [] far = near-none far
+near-of [] (row ∷ near) far = ap (λ rows. row ∷ rows) (near-of [] near far)
+near-of (one ∷ links) near far = near-of links near far
 
 far-all : (far : List (List ℕ)) → far_in (map part.Far far) ≡ far
 far-all [] = refl
 far-all (row ∷ far) = ap (λ rows. row ∷ rows) (far-all far)
 
-far-of : (near far : List (List ℕ)) → far_in (map part.Near near ++ map part.Far far) ≡ far
-far-of [] far = far-all far
-far-of (row ∷ near) far = far-of near far
+far-of : (links : List Link) (near far : List (List ℕ)) → far_in (map part.Link links ++ tables_of near far) ≡ far
+far-of [] [] far = far-all far
+far-of [] (row ∷ near) far = far-of [] near far
+far-of (one ∷ links) near far = far-of links near far
 
 -- a claim of an order by its parts
 pub order-is : (c : Certificate) (version : Version) (level : Level) (order : List ℕ) (sessions : ℕ) (rest : List Part) (clocks : List (List ℕ))
@@ -165,14 +187,15 @@ order-is (claim.Order v l o s cs) version level order sessions rest clocks is al
 order-is (claim.Cycle v l ls n ns fs) version level order sessions rest clocks is all = absurd cc
 
 -- a claim of a cycle by its parts
-pub cycle-is : (c : Certificate) (version : Version) (level : Level) (count : ℕ) (links : List Link) (least : ℕ) (rest : List Part)
-    (near far : List (List ℕ)) → part.Cycle version level count links least ∷ rest ≡ parts_of c
-    → near ≡ near_in rest → far ≡ far_in rest → c ≡ claim.Cycle version level links least near far
-cycle-is (claim.Order v l o s cs) version level count links least rest near far is all others = absurd cc
-cycle-is (claim.Cycle v l ls n ns fs) version level count links least rest near far is all others =
-    let tail : rest ≡ map part.Near ns ++ map part.Far fs = cc in
-    let same : near ≡ ns = all ∙ ap near_in tail ∙ near-of ns fs in
-    let last : far ≡ fs = others ∙ ap far_in tail ∙ far-of ns fs in
+pub cycle-is : (c : Certificate) (version : Version) (level : Level) (count many least : ℕ) (rest : List Part) (links : List Link)
+    (near far : List (List ℕ)) → part.Cycle version level count many least ∷ rest ≡ parts_of c
+    → links ≡ links_in rest → near ≡ near_in rest → far ≡ far_in rest → c ≡ claim.Cycle version level links least near far
+cycle-is (claim.Order v l o s cs) version level count many least rest links near far is first second third = absurd cc
+cycle-is (claim.Cycle v l ls n ns fs) version level count many least rest links near far is first second third =
+    let tail : rest ≡ map part.Link ls ++ tables_of ns fs = cc in
+    let same : links ≡ ls = first ∙ ap links_in tail ∙ links-of ls ns fs in
+    let next : near ≡ ns = second ∙ ap near_in tail ∙ near-of ls ns fs in
+    let last : far ≡ fs = third ∙ ap far_in tail ∙ far-of ls ns fs in
     cc
 
 -- all parts were collected
@@ -183,13 +206,13 @@ order-read bytes version level order sessions rest tables is has =
     let whole = read-whole bytes (ap (λ p. p.fault) is ∙ has.ended) in
     whole.1 ∙ ap Ok (order-is whole.0 version level order sessions rest.parts tables.clocks.items (sym (ap (λ p. p.parts) is) ∙ whole.2) has.clocks)
 
-pub cycle-read : (bytes : List ℕ) (version : Version) (level : Level) (count : ℕ) (links : List Link) (least : ℕ) (rest : Parts) (tables : Tables)
-    → parts_read bytes ≡ after_part (part.Cycle version level count links least) rest → HasRowsOf rest tables
-    → certificate_read bytes ≡ Ok (claim.Cycle version level links least tables.near.items tables.far.items)
-cycle-read bytes version level count links least rest tables is has =
+pub cycle-read : (bytes : List ℕ) (version : Version) (level : Level) (count many least : ℕ) (rest : Parts) (tables : Tables)
+    → parts_read bytes ≡ after_part (part.Cycle version level count many least) rest → HasRowsOf rest tables
+    → certificate_read bytes ≡ Ok (claim.Cycle version level tables.links.items least tables.near.items tables.far.items)
+cycle-read bytes version level count many least rest tables is has =
     let whole = read-whole bytes (ap (λ p. p.fault) is ∙ has.ended) in
-    whole.1 ∙ ap Ok (cycle-is whole.0 version level count links least rest.parts tables.near.items tables.far.items
-    (sym (ap (λ p. p.parts) is) ∙ whole.2) has.near has.far)
+    whole.1 ∙ ap Ok (cycle-is whole.0 version level count many least rest.parts tables.links.items tables.near.items tables.far.items
+    (sym (ap (λ p. p.parts) is) ∙ whole.2) has.links has.near has.far)
 
 -- a fault behind the first part is one of the whole text
 pub behind-end : (bytes : List ℕ) (first : Part) (rest : Parts) (fault : CertFault) → parts_read bytes ≡ after_part first rest → EndsIn rest fault

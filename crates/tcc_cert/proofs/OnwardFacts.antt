@@ -56,6 +56,3 @@ onward-walk version head =
 pub onward-link : (version : Version) (at : Place) → IsOnward at (link_at version at)
 onward-link version at =
     onward-then at (words version (head_line version) at) (walk_of version) (onward-words version (head_line version) at) (onward-walk version)
-
-pub onward-links : (version : Version) (count : ℕ) (at : Place) → IsOnward at (repeated (link_at version) count at)
-onward-links version count at = onward-numbered (λ i. link_at version) 0 count (λ i place. onward-link version place) at

@@ -20,7 +20,7 @@ use Rattle.tcc_cert.specs.declared.reading.forms.Sizes.TheVariants.{Order, Cycle
 use Rattle.tcc_cert.specs.Ranges.{ranges_of}
 use Rattle.tcc_cert.specs.Tables.{lowest}
 use Rattle.tcc_cert.specs.Outcomes.{reached}
-use Rattle.tcc_cert.specs.Parts.{◌>>>◌, Parts, after_part, claim_parts, cycle_parts, end_parts, far_parts}
+use Rattle.tcc_cert.specs.Parts.{◌>>>◌, Parts, after_part, claim_parts, cycle_parts, end_parts, far_parts, link_rows}
 use Rattle.tcc_cert.specs.Parts.{near_parts, order_parts, order_rest, parts_behind, parts_of, parts_read}
 use Rattle.tcc_cert.specs.Parts.{rows_then, whole_parts}
 use Rattle.tcc_cert.specs.Reading.{◌>>=◌, Place, Reads, behind_header, certificate_at, certificate_read, claim_at, clocks_at, cycle_at}
@@ -51,13 +51,13 @@ told-part : (front : List Part) (first : Part) (read : Reads Certificate) (told 
 told-part front first (Ok x) told is = (is.0 ∙ append_assoc front (first ∷ []) told.parts, is.1, is.2)
 told-part front first (Err fault) told is = is
 
-told-rows : (form : List ℕ → Part) (read : ℕ → Place → Reads (List ℕ)) (behind : Place → Parts) (n from : ℕ) (at : Place) (front : List Part)
-    (go : List (List ℕ) × Place → Reads Certificate)
-    → ((rows : List (List ℕ)) (after : Place) → length rows ≡ n → IsTold (front ++ map form rows) (go (rows, after)) (behind after))
+told-rows : {X : Type 0} (form : X → Part) (read : ℕ → Place → Reads X) (behind : Place → Parts) (n from : ℕ) (at : Place) (front : List Part)
+    (go : List X × Place → Reads Certificate)
+    → ((rows : List X) (after : Place) → length rows ≡ n → IsTold (front ++ map form rows) (go (rows, after)) (behind after))
     → IsTold front (numbered read from n at >>= go) (rows_then form read behind from n at)
 told-rows form read behind zero from at front go later = subst (λ l. IsTold l (go ([], at)) (behind at)) (append-nil front) (later [] at refl)
-told-rows form read behind (suc n) from at front go later =
-    let others : (first : List ℕ × Place) → List (List ℕ) × Place → Reads (List (List ℕ)) = λ first rest. Ok (first.0 ∷ rest.0, rest.1) in
+told-rows {X} form read behind (suc n) from at front go later =
+    let others : (first : X × Place) → List X × Place → Reads (List X) = λ first rest. Ok (first.0 ∷ rest.0, rest.1) in
     subst (λ r. IsTold front r (rows_then form read behind from (suc n) at))
     (sym (bind-assoc (read from at) (λ first. numbered read (from + 1) n first.1 >>= others first) go))
     (told-behind front (read from at) (λ first. (numbered read (from + 1) n first.1 >>= others first) >>= go)
@@ -109,23 +109,25 @@ told-cycle version level n count least at =
     λ links near far. words version (word_line (codes "end")) far.1 >>= λ end. Ok (claim.Cycle version level links least near far.0, end.1) in
     let far : List Link → List (List ℕ) × Place → Reads Certificate =
     λ links near. words version (word_line (codes "far")) near.1 >>= λ mark. numbered far_row 0 n mark.1 >>= end links near.0 in
-    told-behind [] (repeated (link_at version) count at)
-    (λ links. words version (word_line (codes "near")) links.1 >>= λ mark. numbered near_row 0 n mark.1 >>= far links.0)
-    (λ links. after_part (part.Cycle version level n links.0 least) (near_parts version n links.1))
-    (λ links.
-    let first = part.Cycle version level n links.0 least ∷ [] in
-    told-part [] (part.Cycle version level n links.0 least)
-    (words version (word_line (codes "near")) links.1 >>= λ mark. numbered near_row 0 n mark.1 >>= far links.0) (near_parts version n links.1)
-    (told-behind first (words version (word_line (codes "near")) links.1) (λ mark. numbered near_row 0 n mark.1 >>= far links.0)
+    let behind_links : List Link × Place → Reads Certificate =
+    λ links. words version (word_line (codes "near")) links.1 >>= λ mark. numbered near_row 0 n mark.1 >>= far links.0 in
+    let claim_part = part.Cycle version level n count least in
+    told-part [] claim_part (repeated (link_at version) count at >>= behind_links) (link_rows version n 0 count at)
+    (told-rows part.Link (λ i. link_at version) (near_parts version n) count 0 at (claim_part ∷ []) behind_links
+    (λ links behind many.
+    let first = (claim_part ∷ []) ++ map part.Link links in
+    told-behind first (words version (word_line (codes "near")) behind) (λ mark. numbered near_row 0 n mark.1 >>= far links)
     (λ mark. rows_then part.Near near_row (far_parts version n) 0 n mark.1)
-    (λ mark. told-rows part.Near near_row (far_parts version n) n 0 mark.1 first (far links.0)
+    (λ mark. told-rows part.Near near_row (far_parts version n) n 0 mark.1 first (far links)
     (λ near after long.
     let front = first ++ map part.Near near in
-    told-behind front (words version (word_line (codes "far")) after) (λ mark. numbered far_row 0 n mark.1 >>= end links.0 near)
+    told-behind front (words version (word_line (codes "far")) after) (λ mark. numbered far_row 0 n mark.1 >>= end links near)
     (λ mark. rows_then part.Far far_row (end_parts version) 0 n mark.1)
-    (λ mark. told-rows part.Far far_row (end_parts version) n 0 mark.1 front (end links.0 near)
-    (λ far last wide. told-end (front ++ map part.Far far) version (claim.Cycle version level links.0 least near far) last
-    (ap (λ m. part.Cycle version level m links.0 least ∷ map part.Near near ++ map part.Far far) long)))))))
+    (λ mark. told-rows part.Far far_row (end_parts version) n 0 mark.1 front (end links near)
+    (λ far last wide. told-end (front ++ map part.Far far) version (claim.Cycle version level links least near far) last
+    (ap (λ m. part.Cycle version level m (length links) least ∷ map part.Link links ++ (map part.Near near ++ map part.Far far)) long
+    ∙ ap (λ m. part.Cycle version level n m least ∷ map part.Link links ++ (map part.Near near ++ map part.Far far)) many
+    ∙ ap (λ t. claim_part ∷ t) (sym (append_assoc (map part.Link links) (map part.Near near) (map part.Far far))))))))))
 
 told-claim : (version : Version) (level : Level) (sizes : Sizes) (at : Place) → IsTold [] (claim_at version level sizes at) (claim_parts version level sizes at)
 told-claim version level (Order n s) at = told-order version level n s at

@@ -7,7 +7,9 @@ use Rattle.tcc_cert.specs.declared.ranges.TheConstants.{MAX_HEADER_BYTES}
 use Rattle.tcc_cert.specs.declared.version.Version.{Version}
 use Rattle.tcc_cert.specs.declared.fault.CertFault.{CertFault}
 use Rattle.tcc_cert.specs.declared.fault.CertFaultKind.TheVariants.{Trailing}
+use Rattle.tcc_graph.specs.declared.link.Link.{Link}
 use Rattle.tcc_cert.specs.declared.part.Part.{Part}
+use Rattle.tcc_cert.specs.declared.part.Part.TheVariants as part
 use Rattle.tcc_cert.specs.declared.reading.forms.Sizes.{Sizes}
 use Rattle.tcc_cert.specs.declared.reading.forms.Sizes.TheVariants.{Order, Cycle}
 use Rattle.tcc_cert.specs.declared.reading.input.Input.{Input}
@@ -20,12 +22,12 @@ use Rattle.tcc_cert.specs.Ranges.{ranges_of}
 use Rattle.tcc_cert.specs.Inputs.{Ends, HasFailed}
 use Rattle.tcc_cert.specs.Outcomes.{Faults}
 use Rattle.tcc_cert.specs.Parts.{◌>>>◌, FaultsIn, IsFirst, Parts, after_part, claim_parts, end_parts}
-use Rattle.tcc_cert.specs.Parts.{ending, far_parts, far_rows, order_rest, parts_behind, rows_then}
+use Rattle.tcc_cert.specs.Parts.{ending, far_parts, far_rows, link_rows, near_parts, order_rest, parts_behind, rows_then}
 use Rattle.tcc_cert.specs.Parts.{whole_parts}
 use Rattle.tcc_cert.specs.Shapes.{behind_table, columns_in, height, most_in, part_of, table_parts, table_rows, word_before}
-use Rattle.tcc_cert.specs.Reading.{Place, Reads, header_line, link_at, next, numbers_line, repeated, sizes_line, word_line, words}
+use Rattle.tcc_cert.specs.Reading.{Place, Reads, header_line, link_at, next, numbers_line, sizes_line, word_line, words}
 use Rattle.tcc_cert.specs.Stages.{IsBehind, TakesStep}
-use Rattle.tcc_cert.proofs.OnwardFacts.{IsOnward, onward-links, onward-next, onward-words}
+use Rattle.tcc_cert.proofs.OnwardFacts.{IsOnward, onward-link, onward-next, onward-words}
 use Rattle.tcc_cert.proofs.StepFacts.{onward-at, some-left}
 
 -- ---- parts go on from line to line, and never back
@@ -35,7 +37,7 @@ onward-then : {X : Type 0} (at : Place) (read : Reads X) (behind : X × Place �
 onward-then at (Ok x) behind on later = omega (arith, on.onward, later x)
 onward-then at (Err fault) behind on later = on.onward
 
-pub onward-rows : (form : List ℕ → Part) (read : ℕ → Place → Reads (List ℕ)) (behind : Place → Parts) (from n : ℕ)
+pub onward-rows : {X : Type 0} (form : X → Part) (read : ℕ → Place → Reads X) (behind : Place → Parts) (from n : ℕ)
     → ((i : ℕ) (p : Place) → IsOnward p (read i p)) → ((p : Place) → p.line ≤ (behind p).line)
     → (at : Place) → at.line ≤ (rows_then form read behind from n at).line
 onward-rows form read behind from zero on later at = later at
@@ -72,6 +74,10 @@ pub onward-marked : (version : Version) (table : TableShape) (at : Place) → at
 onward-marked version table at =
     onward-mark version (word_before table) (table_rows version table 0 (height table)) (onward-table version table 0 (height table)) at
 
+pub onward-links : (version : Version) (n from left : ℕ) (at : Place) → at.line ≤ (link_rows version n from left at).line
+onward-links version n from left at =
+    onward-rows part.Link (λ i. link_at version) (near_parts version n) from left (λ i p. onward-link version p) (onward-marked version (shape.Near n)) at
+
 pub onward-rest : (version : Version) (level : Level) (n s : ℕ) (at : Place) → at.line ≤ (order_rest version level n s at).line
 onward-rest version Causal n s at = onward-marked version (shape.Clocks n s) at
 onward-rest version Atomic n s at = onward-end version at
@@ -80,8 +86,7 @@ pub onward-claim : (version : Version) (level : Level) (sizes : Sizes) (at : Pla
 onward-claim version level (Order n s) at =
     onward-then at (words version (numbers_line n (ranges_of version).number) at) _ (onward-words version (numbers_line n (ranges_of version).number) at)
     (λ order. onward-rest version level n s order.1)
-onward-claim version level (Cycle n count least) at =
-    onward-then at (repeated (link_at version) count at) _ (onward-links version count at) (λ links. onward-marked version (shape.Near n) links.1)
+onward-claim version level (Cycle n count least) at = onward-links version n 0 count at
 
 pub onward-behind : (header : (Version × Level) × Place) → header.1.line ≤ (parts_behind header).line
 onward-behind header =
@@ -93,6 +98,7 @@ onward-whole at = onward-then at (next MAX_HEADER_BYTES header_line at) parts_be
 
 pub onward-stage : (s : Stage) (at : Place) (ahead : Parts) → IsBehind s at ahead → at.line ≤ ahead.line
 onward-stage stage.Whole at ahead is = rw is (onward-whole at)
+onward-stage (stage.Links version n left) at ahead is = rw is.1 (onward-links version n is.0 left at)
 onward-stage (stage.Mark version table) at ahead is = rw is (onward-marked version table at)
 onward-stage (stage.Rows version table left) at ahead is = rw is.2 (onward-table version table is.0 left at)
 
@@ -168,6 +174,16 @@ pub row-faults : {F : Type 0} (version : Version) (table : TableShape) (from lef
 row-faults version table from left n at fault more faults =
     rw more (part-faults (words version (numbers_line (columns_in version table from) (most_in version table)) at) _ fault
     (λ row. onward-table version table (from + 1) left row.1) faults)
+
+-- one link more
+pub link-more : (version : Version) (n from left m : ℕ) (at after : Place) (one : Link) → m ≡ suc left → link_at version at ≡ Ok (one, after)
+    → link_rows version n from m at ≡ after_part (part.Link one) (link_rows version n (from + 1) left after)
+link-more version n from left m at after one more is = rw more (rw is refl)
+
+pub link-faults : {F : Type 0} (version : Version) (n from left m : ℕ) (at : Place) (fault : CertFault) → m ≡ suc left
+    → Faults F at (link_at version at) fault → FaultsIn F at.line (link_rows version n from m at) fault
+link-faults version n from left m at fault more faults =
+    rw more (part-faults (link_at version at) _ fault (λ one. onward-links version n (from + 1) left one.1) faults)
 
 -- the line `end` was read, and something stands behind it, or the reader failed
 pub end-faults : {R : Type 0} (version : Version) (at after : Place) (done : Unit {0}) (fault : CertFault) (new : Input R)

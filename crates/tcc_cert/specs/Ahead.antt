@@ -23,7 +23,7 @@ line_wanted reader = reader.input.number
 abbrev pub ReaderFailed : {R : Type 0} → CertReader R → Type 0
 ReaderFailed reader = HasFailed reader.input
 
--- how many parts come before the end, behind the claim
+-- how many links and rows come before the end, behind the claim
 abbrev pub rows_left : {R : Type 0} → CertReader R → ℕ
 rows_left reader = rows_in reader.phase
 
@@ -53,7 +53,7 @@ ended_in (phase.Stopped fault) = false
 abbrev pub has_ended : {R : Type 0} → CertReader R → Bool
 has_ended reader = ended_in reader.phase
 
--- a claim, without its tables
+-- a claim, without its links and tables
 abbrev pub is_claim : Part → Bool
 is_claim (part.Order version level order sessions) = true
 is_claim (part.Cycle version level count links least) = true

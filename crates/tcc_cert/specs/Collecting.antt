@@ -1,5 +1,6 @@
 -- The parts of a text collected. For the private stages and their proofs alone: nobody has to believe what stands here.
 use Rattle.std.specs.Prelude.{ℕ, ◌≡◌, ◌≤◌, ◌<◌, ◌⊎◌, List, [], ◌∷◌, ◌++◌, None, Some, Result, Ok, Err}
+use Rattle.tcc_graph.specs.declared.link.Link.{Link}
 use Rattle.tcc_cert.specs.declared.fault.CertFault.{CertFault}
 use Rattle.tcc_cert.specs.declared.part.Part.{Part}
 use Rattle.tcc_cert.specs.declared.part.Part.TheVariants as part
@@ -7,7 +8,13 @@ use Rattle.tcc_cert.specs.declared.reading.Tables.{Tables}
 use Rattle.tcc_cert.specs.Outcomes.{IsFailure}
 use Rattle.tcc_cert.specs.Parts.{Parts}
 
--- the rows of the clocks among some parts
+-- the links among some parts
+abbrev pub links_in : List Part → List Link
+links_in [] = []
+links_in (part.Link one ∷ parts) = one ∷ links_in parts
+links_in (_ ∷ parts) = links_in parts
+
+-- the rows of the clocks among them
 abbrev pub clocks_in : List Part → List (List ℕ)
 clocks_in [] = []
 clocks_in (part.Clocks row ∷ parts) = row ∷ clocks_in parts
@@ -25,8 +32,9 @@ far_in [] = []
 far_in (part.Far row ∷ parts) = row ∷ far_in parts
 far_in (_ ∷ parts) = far_in parts
 
--- one row more where the part is one
+-- one link or one row more where the part is one
 pub record HasRow (given : Part) (old new : Tables) : Type 0 where
+  pub links : new.links.items ≡ old.links.items ++ links_in (given ∷ [])
   pub clocks : new.clocks.items ≡ old.clocks.items ++ clocks_in (given ∷ [])
   pub near : new.near.items ≡ old.near.items ++ near_in (given ∷ [])
   pub far : new.far.items ≡ old.far.items ++ far_in (given ∷ [])
@@ -41,8 +49,9 @@ pub record IsCutIn (ahead : Parts) (fault : CertFault) : Type 0 where
 abbrev pub EndsIn : Parts → CertFault → Type 0
 EndsIn ahead fault = ((ahead.fault ≡ Some fault.kind) × (ahead.line ≡ fault.line)) ⊎ IsCutIn ahead fault
 
--- the rows that were to come, up to the end
+-- the links and rows that were to come, up to the end
 pub record HasRowsOf (ahead : Parts) (tables : Tables) : Type 0 where
+  pub links : tables.links.items ≡ links_in ahead.parts
   pub clocks : tables.clocks.items ≡ clocks_in ahead.parts
   pub near : tables.near.items ≡ near_in ahead.parts
   pub far : tables.far.items ≡ far_in ahead.parts

@@ -16,13 +16,13 @@ use Rattle.tcc_cert.specs.declared.reading.forms.Sizes.TheVariants.{Order, Cycle
 use Rattle.tcc_cert.specs.Ranges.{ranges_of}
 use Rattle.tcc_cert.specs.Tables.{lowest}
 use Rattle.tcc_cert.specs.Outcomes.{IsFailure}
-use Rattle.tcc_cert.specs.Reading.{Place, Reads, next, words, header_line, sizes_line, word_line, numbers_line, repeated, link_at, start_of}
+use Rattle.tcc_cert.specs.Reading.{Place, Reads, next, words, header_line, sizes_line, word_line, numbers_line, link_at, start_of}
 
 -- the parts of a certificate, in the order of its text, without the end
 abbrev pub parts_of : Certificate → List Part
 parts_of (claim.Order version level order sessions clocks) = part.Order version level order sessions ∷ map part.Clocks clocks
 parts_of (claim.Cycle version level links least near far) =
-    part.Cycle version level (length near) links least ∷ map part.Near near ++ map part.Far far
+    part.Cycle version level (length near) (length links) least ∷ map part.Link links ++ (map part.Near near ++ map part.Far far)
 
 -- some parts, and then, at this line, the fault of this kind, or the end
 pub record Parts : Type 0 where
@@ -46,8 +46,8 @@ abbrev pub ◌>>>◌ : {X : Type 0} → Reads X → (X × Place → Parts) → P
 (Ok read) >>> behind = behind read
 (Err fault) >>> behind = stopped fault
 
--- so many rows, each of which goes by its number, the first of them by this one, and what comes behind them
-abbrev pub rows_then : (List ℕ → Part) → (ℕ → Place → Reads (List ℕ)) → (Place → Parts) → ℕ → ℕ → Place → Parts
+-- so many rows, or links, each of which goes by its number, the first of them by this one, and what comes behind them
+abbrev pub rows_then : {X : Type 0} → (X → Part) → (ℕ → Place → Reads X) → (Place → Parts) → ℕ → ℕ → Place → Parts
 rows_then form read behind from zero at = behind at
 rows_then form read behind from (suc n) at = read from at >>> λ row. after_part (form row.0) (rows_then form read behind (from + 1) n row.1)
 
@@ -83,6 +83,10 @@ abbrev pub near_parts : Version → ℕ → Place → Parts
 near_parts version transactions at =
     words version (word_line (codes "near")) at >>> λ mark. near_rows version transactions 0 transactions mark.1
 
+-- the links of a cycle from one on, so many are left, and the tables
+abbrev pub link_rows : Version → ℕ → ℕ → ℕ → Place → Parts
+link_rows version transactions from left at = rows_then part.Link (λ i. link_at version) (near_parts version transactions) from left at
+
 -- what comes behind the order of a claim
 abbrev pub order_rest : Version → Level → ℕ → ℕ → Place → Parts
 order_rest version Causal transactions sessions at = clock_parts version transactions sessions at
@@ -95,8 +99,7 @@ order_parts version level transactions sessions at =
 
 abbrev pub cycle_parts : Version → Level → ℕ → ℕ → ℕ → Place → Parts
 cycle_parts version level transactions count least at =
-    repeated (link_at version) count at
-    >>> λ links. after_part (part.Cycle version level transactions links.0 least) (near_parts version transactions links.1)
+    after_part (part.Cycle version level transactions count least) (link_rows version transactions 0 count at)
 
 abbrev pub claim_parts : Version → Level → Sizes → Place → Parts
 claim_parts version level (Order transactions sessions) at = order_parts version level transactions sessions at
@@ -120,6 +123,7 @@ abbrev pub IsFirst : Part → Parts → Parts → Type 0
 IsFirst part.End ahead rest = (ahead ≡ ending ahead.line None) × (rest ≡ ahead)
 IsFirst (part.Order version level order sessions) ahead rest = ahead ≡ after_part (part.Order version level order sessions) rest
 IsFirst (part.Cycle version level count links least) ahead rest = ahead ≡ after_part (part.Cycle version level count links least) rest
+IsFirst (part.Link one) ahead rest = ahead ≡ after_part (part.Link one) rest
 IsFirst (part.Clocks row) ahead rest = ahead ≡ after_part (part.Clocks row) rest
 IsFirst (part.Near row) ahead rest = ahead ≡ after_part (part.Near row) rest
 IsFirst (part.Far row) ahead rest = ahead ≡ after_part (part.Far row) rest

@@ -61,3 +61,7 @@ abbrev pub rows_from : TableShape → ℕ → ℕ
 rows_from (shape.Clocks transactions sessions) left = left
 rows_from (shape.Near transactions) left = left + transactions
 rows_from (shape.Far transactions) left = left
+
+-- how many links and rows come before the end where so many links are left
+abbrev pub links_from : ℕ → ℕ → ℕ
+links_from transactions left = left + (transactions + transactions)

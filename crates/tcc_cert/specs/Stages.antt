@@ -10,12 +10,13 @@ use Rattle.tcc_cert.specs.declared.reading.stages.Stage.{Stage}
 use Rattle.tcc_cert.specs.declared.reading.stages.Stage.TheVariants as stage
 use Rattle.tcc_cert.specs.Inputs.{HasFailed, IsAt}
 use Rattle.tcc_cert.specs.Reading.{Place}
-use Rattle.tcc_cert.specs.Parts.{Parts, ending, stopped, FaultsIn, IsFirst, whole_parts}
-use Rattle.tcc_cert.specs.Shapes.{height, rows_from, table_parts, table_rows}
+use Rattle.tcc_cert.specs.Parts.{Parts, ending, stopped, FaultsIn, IsFirst, link_rows, whole_parts}
+use Rattle.tcc_cert.specs.Shapes.{height, links_from, rows_from, table_parts, table_rows}
 
--- how many rows come before the end, behind the claim
+-- how many links and rows come before the end, behind the claim
 abbrev pub rows_at : Stage → ℕ
 rows_at stage.Whole = 0
+rows_at (stage.Links version transactions left) = links_from transactions left
 rows_at (stage.Mark version table) = rows_from table (height table)
 rows_at (stage.Rows version table left) = rows_from table left
 
@@ -27,6 +28,7 @@ rows_in (phase.Stopped fault) = 0
 -- the parts from the place on, at this stage
 abbrev pub IsBehind : Stage → Place → Parts → Type 0
 IsBehind stage.Whole at ahead = ahead ≡ whole_parts at
+IsBehind (stage.Links version transactions left) at ahead = (from : ℕ) × (ahead ≡ link_rows version transactions from left at)
 IsBehind (stage.Mark version table) at ahead = ahead ≡ table_parts version table at
 IsBehind (stage.Rows version table left) at ahead = (from : ℕ) × (from + left ≡ height table) × (ahead ≡ table_rows version table from left at)
 
@@ -47,7 +49,7 @@ IsBegun (phase.Going at) = Unit {0}
 IsBegun phase.Ended = ⊥
 IsBegun (phase.Stopped fault) = ⊥
 
--- behind a row fewer rows are left than these
+-- behind a link or a row fewer of them are left than these
 abbrev pub HasFewer : ℕ → Phase → Type 0
 HasFewer left (phase.Going stage.Whole) = ⊥
 HasFewer left (phase.Going at) = rows_at at < left

@@ -1,6 +1,6 @@
 //! A certificate in parts.
-use crate::{Links, Numbers, Version};
-use tcc_graph::Level;
+use crate::{Numbers, Version};
+use tcc_graph::{Level, Link};
 
 /// What a certificate's text gives at a time.
 #[derive(Drop)]
@@ -12,14 +12,17 @@ pub enum Part {
         order: Numbers,
         sessions: u32,
     },
-    /// A claim of a cycle, without its tables, each of which has `count` rows.
+    /// A claim of a cycle, without its links, of which there are `links`, and without its tables, each of which has
+    /// `count` rows.
     Cycle {
         version: Version,
         level: Level,
         count: u32,
-        links: Links,
+        links: u32,
         least: u32,
     },
+    /// The next link of the cycle.
+    Link(Link),
     /// The next row of the clocks.
     Clocks(Numbers),
     /// The next row of `near`.

@@ -21,12 +21,12 @@ mod window;
 mod words;
 
 use crate::ranges::MAX_HEADER_BYTES;
-use crate::{CertFault, CertFaultKind, Certificate, Numbers, Part, Table, Version};
+use crate::{CertFault, CertFaultKind, Certificate, Links, Numbers, Part, Table, Version};
 use input::{Input, at_line};
 pub use parts::CertReader;
 use std::alloc::Global;
 use std::io::Read;
-use tcc_graph::Level;
+use tcc_graph::{Level, Link};
 use words::words_of;
 
 /// Whether a line is this word alone.
@@ -84,37 +84,39 @@ fn header<R: Read>(input: &mut Input<R>) -> Result<(Version, Level), CertFault>
     at_line(line, header_line(input.line()))
 }
 
-/// The rows of the tables that a claim has.
+/// The links of a claim, and the rows of its tables.
 #[derive(Drop)]
 struct Tables {
+    links: Vec<Link>,
     clocks: Vec<Numbers>,
     near: Vec<Numbers>,
     far: Vec<Numbers>,
 }
 
-/// One row more of a table.
-fn push<R: Read>(
+/// One link more, or one row more of a table.
+fn push<R: Read, T: Drop>(
     parts: &CertReader<R>,
-    table: &mut Vec<Numbers>,
-    row: Numbers,
+    list: &mut Vec<T>,
+    item: T,
 ) -> Result<(), CertFault>
-    ensures kept { OnOk result (table.new.items ≡ table.old.items ++ row ∷ []) }
+    ensures kept { OnOk result (list.new.items ≡ list.old.items ++ item ∷ []) }
     ensures refused { IfErr result (λ fault. fault ≡ record { line = line_wanted parts.now; kind = CertFaultKind.NoMemory }) }
     ensures counted { IfErr result (λ fault. 0 < fault.line) }
 {
-    match table.push(row) {
+    match list.push(item) {
         Ok(()) => Ok(()),
         Err(_) => Err(parts.fault(CertFaultKind::NoMemory)),
     }
 }
 
-/// One row more of the table that the part is of. A claim and the end are of none.
+/// One link more, or one row more of the table that the part is of. A claim and the end are neither.
 fn keep<R: Read>(parts: &CertReader<R>, tables: &mut Tables, part: Part) -> Result<(), CertFault>
     ensures kept { OnOk result (HasRow part tables.old tables.new) }
     ensures refused { IfErr result (λ fault. fault ≡ record { line = line_wanted parts.now; kind = CertFaultKind.NoMemory }) }
     ensures counted { IfErr result (λ fault. 0 < fault.line) }
 {
     match part {
+        Part::Link(link) => push(parts, &mut tables.links, link),
         Part::Clocks(row) => push(parts, &mut tables.clocks, row),
         Part::Near(row) => push(parts, &mut tables.near, row),
         Part::Far(row) => push(parts, &mut tables.far, row),
@@ -122,12 +124,13 @@ fn keep<R: Read>(parts: &CertReader<R>, tables: &mut Tables, part: Part) -> Resu
     }
 }
 
-/// The rows that come behind the claim.
+/// The links and rows that come behind the claim.
 fn collect<R: Read>(alloc: Global, parts: &mut CertReader<R>) -> Result<Tables, CertFault>
     requires { is_new parts.old ≡ false }
     ensures { (ahead : Parts) → IsAhead R.remaining parts.old ahead → Collects ahead result }
 {
     let mut tables = Tables {
+        links: Vec::new(alloc),
         clocks: Vec::new(alloc),
         near: Vec::new(alloc),
         far: Vec::new(alloc),
@@ -166,20 +169,27 @@ fn whole<R: Read>(alloc: Global, parts: &mut CertReader<R>) -> Result<Certificat
             version,
             level,
             count: _,
-            links,
+            links: _,
             least,
         } => {
-            let Tables { near, far, .. } = collect(alloc, parts)?;
+            let Tables {
+                links,
+                near,
+                far,
+                ..
+            } = collect(alloc, parts)?;
             Ok(Certificate::Cycle {
                 version,
                 level,
-                links,
+                links: Links::new(links),
                 least,
                 near: Table::new(near),
                 far: Table::new(far),
             })
         }
-        Part::Clocks(_) | Part::Near(_) | Part::Far(_) | Part::End => unreachable!(),
+        Part::Link(_) | Part::Clocks(_) | Part::Near(_) | Part::Far(_) | Part::End => {
+            unreachable!()
+        }
     }
 }
 

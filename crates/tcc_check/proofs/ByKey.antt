@@ -6,7 +6,7 @@ use Rattle.std.specs.List.{Contains, zip}
 use Rattle.std.proofs.lemmas.Bool.{cases_eq, cases_lt, or_cases, or_right, eqb-true}
 use Rattle.std.proofs.lemmas.List.{get_or_append_left, get_or_default, get_or_push, length_push}
 use Rattle.tcc_reads.specs.History.{History, count, entry_at}
-use Rattle.tcc_graph.specs.Keys.{has_name, key_at, keys}
+use Rattle.tcc_graph.specs.Keys.{has_name, key_at}
 use Rattle.tcc_graph.specs.Relations.{IsReadsPair}
 use Rattle.tcc_graph.proofs.NameLemmas.{has_name-contains, contains-has_name}
 use Rattle.tcc_check.specs.Groups.{AreGroupsOf, links_by, total}

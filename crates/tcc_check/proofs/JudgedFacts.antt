@@ -77,11 +77,12 @@ pub cycle-judged : (h : History) (c : Certificate) (head : CycleHead) (rest : Pa
     → (judgement.claim ≡ claim_of c) × IsVerdict h c judgement.verdict
 cycle-judged h (certificate.Order v l o s cs) head rest judgement is said = absurd cc
 cycle-judged h (certificate.Cycle v l ls n ns fs) head rest judgement is said =
-    let tail : rest.parts ≡ map part.Near ns ++ map part.Far fs = cc in
+    let tail : rest.parts ≡ map part.Link ls ++ (map part.Near ns ++ map part.Far fs) = cc in
     let long : length ns ≡ head.count = cc in
-    let whole : certificate.Cycle v l ls n ns fs ≡ certificate.Cycle head.version head.level head.links head.least ns fs = cc in
+    let many : length ls ≡ head.links = cc in
+    let whole : certificate.Cycle v l ls n ns fs ≡ certificate.Cycle head.version head.level ls head.least ns fs = cc in
     let same : claim.Cycle head.least ≡ claim.Cycle n = cc in (
       said.same ∙ same,
       subst (λ c. IsVerdict h c judgement.verdict) (sym whole)
-          (verdict_of h (certificate.Cycle head.version head.level head.links head.least ns fs) judgement.verdict (said.answer ns fs long tail)),
+          (verdict_of h (certificate.Cycle head.version head.level ls head.least ns fs) judgement.verdict (said.answer ls ns fs many long tail)),
     )

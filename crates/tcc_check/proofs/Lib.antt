@@ -22,6 +22,7 @@ pub mod CertifiedOrder
 pub mod Claims
 pub mod ComingFacts
 pub mod ClocksBehind
+pub mod LinksBehind
 pub mod NearBehind
 pub mod FarBehind
 pub mod JudgedFacts

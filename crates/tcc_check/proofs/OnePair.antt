@@ -1,12 +1,12 @@
 -- Reads that are kept where a transaction reaches a reader by a single pair.
-use Rattle.std.proofs.Common.{◌≡◌, ◌≢◌, ◌<◌, ◌≤◌, ◌+◌, ◌-◌, ℕ, true, eqb, ◌⊎◌, inl, inr, List, [], length, get_or, set, min, map}
-use Rattle.std.proofs.Common.{replicate, arith, refl, sym, ap, subst, ◌∙◌, ◌==◌, ◌||◌}
+use Rattle.std.proofs.Common.{◌≡◌, ◌<◌, ◌≤◌, ◌+◌, ◌-◌, ℕ, true, ◌⊎◌, inl, inr, List, length, get_or, set, min, map}
+use Rattle.std.proofs.Common.{replicate, arith, sym, ap, subst, ◌∙◌, ◌==◌}
 use Rattle.std.specs.Prelude.{All}
 use Rattle.std.specs.List.{Contains}
 use Rattle.std.proofs.lemmas.Bool.{cases_eq, cases_lt, or_cases, eqb-true}
 use Rattle.std.proofs.lemmas.List.{get_or_default, get_or-set_other, get_or-set_same, length-replicate, length-set}
-use Rattle.tcc_reads.specs.History.{History, count, entry_at, owner, place}
-use Rattle.tcc_graph.specs.Keys.{has_name, key_at, keys, writers, writes}
+use Rattle.tcc_reads.specs.History.{History, entry_at, owner, place}
+use Rattle.tcc_graph.specs.Keys.{has_name, key_at, keys, writers}
 use Rattle.tcc_graph.specs.Relations.{IsReadsPair, IsSessionPair}
 use Rattle.tcc_graph.specs.declared.level.Level.TheVariants.{Atomic}
 use Rattle.tcc_graph.proofs.NameLemmas.{has_name-contains}

@@ -1,12 +1,13 @@
 -- What the rules say of the tables of a claim, one after the other. Nobody has to believe it: private functions say it to one another.
-use Rattle.std.specs.Prelude.{ℕ, ◌≡◌, List, [], ◌∷◌, ◌++◌, length, map}
+use Rattle.std.specs.Prelude.{ℕ, ◌≡◌, List, [], ◌∷◌, ◌++◌, length, map, All}
 use Rattle.tcc_reads.specs.History.{History, count}
 use Rattle.tcc_graph.specs.declared.level.Level.{Level}
 use Rattle.tcc_graph.specs.declared.link.Link.{Link}
-use Rattle.tcc_cert.specs.CycleRules.{CycleClaim, HasRightSizes, BreaksNearPair, BreaksNearStep, BreaksFarLink, BreaksFarStep, BreaksReturn}
+use Rattle.tcc_cert.specs.CycleRules.{CycleClaim, HasRightSizes, IsLinkBelow, BreaksNearPair, BreaksNearStep, BreaksFarLink, BreaksFarStep, BreaksReturn}
 use Rattle.tcc_cert.specs.Parts.{Parts}
 use Rattle.tcc_cert.specs.Rules.{IsRightCycle}
 use Rattle.tcc_cert.specs.Tables.{row_of}
+use Rattle.tcc_cert.specs.declared.part.Part.{Part}
 use Rattle.tcc_cert.specs.declared.part.Part.TheVariants as part
 use Rattle.tcc_cert.specs.declared.version.Version.{Version}
 use Rattle.tcc_check.specs.declared.judgement.Claim.TheVariants as claim
@@ -28,9 +29,9 @@ use Rattle.tcc_check.specs.WeightsFrom.{AreAllEnds, AreEndsTo, WeighsFrom}
 abbrev pub cycle_claim : Version → Level → List Link → ℕ → List (List ℕ) → List (List ℕ) → CycleClaim
 cycle_claim version level links least near far = record { version = version; level = level; links = links; least = least; near = near; far = far }
 
--- the claim of what a text says before its tables, and of these
-abbrev pub claim_with : CycleHead → List (List ℕ) → List (List ℕ) → CycleClaim
-claim_with head near far = cycle_claim head.version head.level head.links head.least near far
+-- the claim of what a text says before its links, and of these and the tables
+abbrev pub claim_with : CycleHead → List Link → List (List ℕ) → List (List ℕ) → CycleClaim
+claim_with head links near far = cycle_claim head.version head.level links head.least near far
 
 -- the rule on links
 abbrev pub links_rules : History → CycleClaim → List Asked
@@ -75,6 +76,12 @@ pub record IsOrderly (h : History) (judged : NearJudged) : Type 0 where
   pub long : length judged.links.items ≡ count h
   pub links : AreOrderly (count h) judged.links.items
 
+-- the numbers of the links are below that of the transactions, the rule on links says so, and these parts come behind them
+pub record AreLinksJudged (h : History) (level : Level) (least : ℕ) (links : List Link) (rest : Parts) (tables : List Part) (verdict : Verdict) : Type 0 where
+  pub below : All (IsLinkBelow (count h)) links
+  pub answer : (version : Version) (near far : List (List ℕ)) → IsAnswer (links_rules h (cycle_claim version level links least near far)) verdict
+  pub behind : rest.parts ≡ tables
+
 -- where no part is left behind the rows of costs, they are the whole table, and the rules on them say so
 pub record IsFarJudged (h : History) (version : Version) (least : ℕ) (near : List (List ℕ)) (far : List (List ℕ)) (rest : Parts)
     (verdict : Verdict) : Type 0 where
@@ -86,11 +93,12 @@ pub record IsClaimJudged (h : History) (k : CycleClaim) (rest : Parts) (verdict 
   pub right : rest.parts ≡ [] → HasRightSizes h k × IsAnswer (claim_rules h k) verdict
   pub more : HasRightSizes h k → rest.parts ≡ []
 
--- so all rules say, of a claim that a cycle is least, with the tables that come
+-- so all rules say, of a claim that a cycle is least, with the links and the tables that come
 pub record IsCycleJudged (h : History) (head : CycleHead) (ahead : Parts) (judgement : Judgement) : Type 0 where
   pub same : judgement.claim ≡ claim.Cycle head.least
-  pub answer : (near far : List (List ℕ)) → length near ≡ head.count → ahead.parts ≡ map part.Near near ++ map part.Far far
-      → IsAnswer (cycle_rules h (claim_with head near far)) judgement.verdict
+  pub answer : (links : List Link) (near far : List (List ℕ)) → length links ≡ head.links → length near ≡ head.count
+      → ahead.parts ≡ map part.Link links ++ (map part.Near near ++ map part.Far far)
+      → IsAnswer (cycle_rules h (claim_with head links near far)) judgement.verdict
 
 -- and of a claim that a list is a commit order, with the clocks that come
 pub record IsOrderJudged (h : History) (level : Level) (order : List ℕ) (sessions : ℕ) (ahead : Parts) (judgement : Judgement) : Type 0 where

@@ -1,14 +1,14 @@
 //! The rules on a claim that a cycle is least.
-ghost use Rattle.std.specs.Prelude.{ℕ, ◌↔◌, IsTrue, IfOk, List};
+ghost use Rattle.std.specs.Prelude.{◌↔◌, IsTrue, IfOk};
 ghost use Rattle.tcc_reads.specs.History.{count};
 ghost use Rattle.tcc_graph.specs.declared.level.Level.{Level};
 ghost use Rattle.tcc_cert.specs.Tables.{HasSize, HasFarSize, IsCapped};
 ghost use Rattle.tcc_cert.specs.CycleRules.{HasRightSizes};
-ghost use Rattle.tcc_check.specs.Judged.{cycle_claim, links_rules};
+ghost use Rattle.tcc_check.specs.Judged.{cycle_claim};
 ghost use Rattle.tcc_check.specs.Verdicts.{IsAnswer, bounds_rules, cycle_rules};
 
 use crate::far_rows::far_table;
-use crate::links::{costs, first_wrong_link};
+use crate::links::links_verdict;
 use crate::near_rows::near_table;
 use crate::sizes::{are_links_below, has_far_size, has_size, is_capped};
 use crate::verdict::{Rule, Verdict, first_rejected, rejected};
@@ -55,28 +55,6 @@ fn bounds_verdict(
     let of_near = near_table(alloc, graph, level, near, least)?;
     let of_far = far_table(graph, version, &of_near, far, least);
     Ok(first_rejected(of_near.verdict, of_far))
-}
-
-/// Judges the links of a claim.
-pub(crate) fn links_verdict(
-    graph: &Graph,
-    level: Level,
-    links: &[Link],
-    least: u32,
-) -> Result<Verdict, NoMemory>
-    ensures { (version : Version) (near far : List (List ℕ))
-        → IfOk result (IsAnswer (links_rules graph.now (cycle_claim version level links.now least near far))) }
-{
-    if let Some(place) = first_wrong_link(graph, level, links) {
-        let Ok(place) = u32::try_from(place) else {
-            return Err(NoMemory);
-        };
-        return Ok(rejected(Rule::Links, place));
-    }
-    if links.is_empty() || !costs(links, least) {
-        return Ok(rejected(Rule::Links, 0));
-    }
-    Ok(Verdict::Accepted)
 }
 
 /// Judges a claim that a cycle is least.

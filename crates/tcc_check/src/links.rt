@@ -1,10 +1,41 @@
-//! The rule on the links of a cycle.
-ghost use Rattle.std.specs.Prelude.{◌≡◌, ◌+◌, ◌↔◌, IsTrue, MatchOption};
-ghost use Rattle.tcc_graph.specs.Links.{link_from, link_to, link_cost, cost};
-ghost use Rattle.tcc_cert.specs.CycleRules.{IsLinkRight, ends_at};
-ghost use Rattle.tcc_check.specs.Links.{AreLinksRight, IsFirstWrong};
+//! The rule on the links of a cycle, one link after the other.
+ghost use Rattle.std.specs.Prelude.{◌≡◌, ◌+◌, ◌<◌, ◌++◌, ◌↔◌, ℕ, All, IfOk, IsTrue, List, MatchOption, Some, get_or, length, map};
+ghost use Rattle.tcc_reads.specs.History.{History, count};
+ghost use Rattle.tcc_graph.specs.Levels.{Judged};
+ghost use Rattle.tcc_graph.specs.Links.{link_from, link_to, link_cost};
+ghost use Rattle.tcc_graph.specs.declared.level.Level.{Level};
+ghost use Rattle.tcc_graph.specs.declared.link.Link.{Link};
+ghost use Rattle.tcc_cert.specs.Ahead.{IsAhead};
+ghost use Rattle.tcc_cert.specs.CycleRules.{IsLinkBelow, IsLinkRight};
+ghost use Rattle.tcc_cert.specs.Parts.{Parts};
+ghost use Rattle.tcc_cert.specs.declared.part.Part.{Part};
+ghost use Rattle.tcc_cert.specs.declared.part.Part.TheVariants as part;
+ghost use Rattle.tcc_cert.specs.declared.version.Version.{Version};
+ghost use Rattle.tcc_check.specs.Coming.{Leaves};
+ghost use Rattle.tcc_check.specs.Judged.{AreLinksJudged, cycle_claim, links_rules};
+ghost use Rattle.tcc_check.specs.Links.{AreSeenTo, IsBrokenAt, ends_or, first_wrong, left_behind};
+ghost use Rattle.tcc_check.specs.Verdicts.{IsAnswer};
 
+use crate::StreamFault;
+use crate::coming::next_part;
+use crate::sizes::is_link_below;
+use crate::verdict::{Rule, Verdict, rejected};
+use std::alloc::Global;
+use std::io::Read;
+use tcc_cert::{CertReader, Part};
 use tcc_graph::{Graph, Level, Link};
+use tcc_txn::NoMemory;
+
+/// What the links that came so far show.
+#[derive(Clone, Copy)]
+pub(crate) struct LinksSeen {
+    /// Where the first of them begins, and where the last ends.
+    ends: Option<(u32, u32)>,
+    /// The first, from 1, that is none of the history, or does not begin where the one before it ends.
+    wrong: Option<usize>,
+    /// What is left of the cost that is claimed; none where they cost more.
+    left: Option<usize>,
+}
 
 /// Where a link begins.
 fn link_from(link: &Link) -> u32
@@ -15,13 +46,6 @@ fn link_from(link: &Link) -> u32
     }
 }
 
-/// Whether the link begins there and is one of the history.
-fn is_link_right(graph: &Graph, level: Level, at: u32, link: &Link) -> bool
-    ensures { IsTrue result ↔ IsLinkRight (record { history = graph.now; level = level }) at link.now }
-{
-    link_from(link) == at && graph.is_link(level, link)
-}
-
 /// Where a link ends.
 fn link_to(link: &Link) -> u32
     ensures { result ≡ link_to link.now }
@@ -29,34 +53,6 @@ fn link_to(link: &Link) -> u32
     match link {
         Link::Session { to, .. } | Link::Reads { to, .. } | Link::Derived { to, .. } => *to,
     }
-}
-
-/// Where the last link ends.
-fn end_of(links: &[Link]) -> u32
-    ensures { result ≡ ends_at 0 links.now }
-{
-    let mut at = 0;
-    for link in links {
-        at = link_to(link);
-    }
-    at
-}
-
-/// The first link, from 1, that is not right: that does not begin where the one before it ends, the first where the
-/// last ends, or is none of the history.
-pub(crate) fn first_wrong_link(graph: &Graph, level: Level, links: &[Link]) -> Option<usize>
-    ensures { MatchOption result
-        (AreLinksRight (record { history = graph.now; level = level }) links.now)
-        (IsFirstWrong (record { history = graph.now; level = level }) links.now) }
-{
-    let mut at = end_of(links);
-    for (before, link) in links.iter().enumerate() {
-        if !is_link_right(graph, level, at, link) {
-            return Some(before + 1);
-        }
-        at = link_to(link);
-    }
-    None
 }
 
 /// The number of steps of a link.
@@ -70,17 +66,157 @@ fn link_cost(link: &Link) -> usize
     }
 }
 
-/// Whether the links cost that much.
-pub(crate) fn costs(links: &[Link], least: u32) -> bool
-    ensures { IsTrue result ↔ (cost links.now ≡ least) }
+/// Whether the link begins there and is one of the history.
+fn is_link_right(graph: &Graph, level: Level, at: u32, link: &Link) -> bool
+    ensures { IsTrue result ↔ IsLinkRight (record { history = graph.now; level = level }) at link.now }
 {
-    let mut left = least as usize;
-    for link in links {
-        let cost = link_cost(link);
-        if left < cost {
-            return false;
-        }
-        left -= cost;
+    link_from(link) == at && graph.is_link(level, link)
+}
+
+/// Where the first link begins and the last ends; where there is none yet, a link that comes is to begin where it does.
+fn ends_or(ends: Option<(u32, u32)>, from: u32) -> (u32, u32)
+    ensures { result ≡ ends_or ends from }
+{
+    match ends {
+        Some(ends) => ends,
+        None => (from, from),
     }
-    left == 0
+}
+
+/// The first wrong link, where the next has this number.
+fn first_wrong(wrong: Option<usize>, is_right: bool, number: usize) -> Option<usize>
+    ensures { result ≡ first_wrong wrong is_right number }
+{
+    match wrong {
+        Some(first) => Some(first),
+        None => { if is_right { None } else { Some(number) } }
+    }
+}
+
+/// What is left behind one more cost.
+fn left_behind(left: Option<usize>, cost: usize) -> Option<usize>
+    ensures { result ≡ left_behind left cost }
+{
+    match left {
+        Some(left) => { if left < cost { None } else { Some(left - cost) } }
+        None => None,
+    }
+}
+
+/// No link yet, of a cycle that is to cost that much.
+fn no_links(least: u32) -> LinksSeen
+    ensures { (j : Judged) (links : List Link) → AreSeenTo j least links 0 result }
+{
+    LinksSeen {
+        ends: None,
+        wrong: None,
+        left: Some(least as usize),
+    }
+}
+
+/// One link more, the one of this number, from 1.
+fn with_link(seen: LinksSeen, graph: &Graph, level: Level, number: usize, link: &Link) -> LinksSeen
+    ensures { (least i : ℕ) (links : List Link) → number ≡ i + 1 → i < length links → link.now ≡ get_or links i link.now
+        → AreSeenTo (record { history = graph.now; level = level }) least links i seen
+        → AreSeenTo (record { history = graph.now; level = level }) least links (i + 1) result }
+{
+    let (begin, at) = ends_or(seen.ends, link_from(link));
+    let is_right = is_link_right(graph, level, at, link);
+    LinksSeen {
+        ends: Some((begin, link_to(link))),
+        wrong: first_wrong(seen.wrong, is_right, number),
+        left: left_behind(seen.left, link_cost(link)),
+    }
+}
+
+/// Whether nothing is left, and no more was taken than there was.
+fn is_used_up(left: Option<usize>) -> bool
+    ensures { IsTrue result ↔ (left ≡ Some 0) }
+{
+    match left {
+        Some(left) => left == 0,
+        None => false,
+    }
+}
+
+/// The first link, from 1, that is not right: that does not begin where the one before it ends, the first where the
+/// last ends, or is none of the history; 0 where all are, but there are none, or they cost another sum; none where the
+/// rule holds.
+fn broken_at(seen: LinksSeen) -> Option<usize>
+    ensures { (h : History) (version : Version) (level : Level) (least : ℕ) (links : List Link) (near far : List (List ℕ))
+        → AreSeenTo (record { history = h; level = level }) least links (length links) seen
+        → IsBrokenAt h (cycle_claim version level links least near far) result }
+{
+    let Some((begin, end)) = seen.ends else {
+        return Some(0);
+    };
+    if begin != end {
+        return Some(1);
+    }
+    if let Some(first) = seen.wrong {
+        return Some(first);
+    }
+    if is_used_up(seen.left) { None } else { Some(0) }
+}
+
+/// The verdict of the rule, where all links came.
+fn seen_verdict(seen: LinksSeen) -> Result<Verdict, NoMemory>
+    ensures { (h : History) (version : Version) (level : Level) (least : ℕ) (links : List Link) (near far : List (List ℕ))
+        → AreSeenTo (record { history = h; level = level }) least links (length links) seen
+        → IfOk result (IsAnswer (links_rules h (cycle_claim version level links least near far))) }
+{
+    let Some(place) = broken_at(seen) else {
+        return Ok(Verdict::Accepted);
+    };
+    let Ok(place) = u32::try_from(place) else {
+        return Err(NoMemory);
+    };
+    Ok(rejected(Rule::Links, place))
+}
+
+/// Judges the links of a claim.
+pub(crate) fn links_verdict(
+    graph: &Graph,
+    level: Level,
+    links: &[Link],
+    least: u32,
+) -> Result<Verdict, NoMemory>
+    ensures { (version : Version) (near far : List (List ℕ))
+        → IfOk result (IsAnswer (links_rules graph.now (cycle_claim version level links.now least near far))) }
+{
+    let mut seen = no_links(least);
+    for (before, link) in links.iter().enumerate() {
+        seen = with_link(seen, graph, level, before + 1, link);
+    }
+    seen_verdict(seen)
+}
+
+/// Judges so many links that come, none where one of their numbers is not below that of the transactions. One of them is
+/// held at a time.
+pub(crate) fn judge_links<R: Read>(
+    alloc: Global,
+    graph: &Graph,
+    parts: &mut CertReader<R>,
+    level: Level,
+    many: u32,
+    least: u32,
+) -> Result<Option<Verdict>, StreamFault>
+    ensures { (ahead : Parts) → IsAhead R.remaining parts.old ahead
+        → Leaves R.remaining ahead parts.new (λ found rest. (links : List Link) (tables : List Part) → length links ≡ many
+        → ahead.parts ≡ map part.Link links ++ tables
+        → MatchOption found (All (IsLinkBelow (count graph.now)) links → ⊥)
+        (AreLinksJudged graph.now level least links rest tables)) result }
+{
+    let mut seen = no_links(least);
+    for before in 0..many {
+        let Part::Link(link) = next_part(alloc, parts)? else {
+            return Ok(None);
+        };
+        if !is_link_below(&link, graph.count()) {
+            return Ok(None);
+        }
+        seen = with_link(seen, graph, level, before as usize + 1, &link);
+    }
+    let verdict = seen_verdict(seen)?;
+    Ok(Some(verdict))
 }

@@ -79,7 +79,7 @@ fn are_steps_below(steps: &[Step], count: u32) -> bool
 }
 
 /// Whether all numbers in a link are below the count.
-fn is_link_below(link: &Link, count: u32) -> bool
+pub(crate) fn is_link_below(link: &Link, count: u32) -> bool
     ensures { IsTrue result ↔ IsLinkBelow count link.now }
 {
     match link {

@@ -4,52 +4,55 @@ ghost use Rattle.tcc_cert.specs.Ahead.{IsAhead, is_new};
 ghost use Rattle.tcc_cert.specs.CycleRules.{HasRightSizes};
 ghost use Rattle.tcc_cert.specs.Parts.{Parts, parts_read};
 ghost use Rattle.tcc_cert.specs.declared.part.Part.TheVariants as part;
+ghost use Rattle.tcc_graph.specs.declared.link.Link.{Link};
 ghost use Rattle.tcc_check.specs.Coming.{Finishes, Leaves, sized};
 ghost use Rattle.tcc_check.specs.Judged.{IsClaimJudged, IsCycleJudged, IsOrderJudged, claim_with};
 ghost use Rattle.tcc_check.specs.Streams.{IsJudged, IsStreamed};
 
 use crate::coming::{clock_rows, ends, next_part};
-use crate::cycle::links_verdict;
 use crate::far_rows::judge_far;
+use crate::links::judge_links;
 use crate::near_rows::judge_near;
 use crate::order::order_verdict;
-use crate::sizes::are_links_below;
 use crate::verdict::{Rule, first_rejected, rejected};
 use crate::{Claim, Judgement, StreamFault, Verdict};
 use std::alloc::Global;
 use std::io::Read;
-use tcc_cert::{CertReader, Links, Part, Version};
+use tcc_cert::{CertReader, Part, Version};
 use tcc_graph::{Graph, Level};
 
-/// What a text says of a claim that a cycle is least, before its tables: each of them is to have `count` rows.
-#[derive(Drop)]
+/// What a text says of a claim that a cycle is least, before its links: there are to be `links` of them, and each table
+/// is to have `count` rows.
+#[derive(Clone, Copy)]
 struct CycleHead {
     version: Version,
     level: Level,
     count: u32,
-    links: Links,
+    links: u32,
     least: u32,
 }
 
-/// What the rules behind that on sizes say of a claim that a cycle is least, whose tables come; none where the rule on
-/// sizes is broken.
+/// What the rules behind that on sizes say of a claim that a cycle is least, whose links and tables come; none where the
+/// rule on sizes is broken.
 fn judge_tables<R: Read>(
     alloc: Global,
     graph: &Graph,
     parts: &mut CertReader<R>,
-    head: &CycleHead,
+    head: CycleHead,
 ) -> Result<Option<Verdict>, StreamFault>
     ensures { (ahead : Parts) → IsAhead R.remaining parts.old ahead
-        → Leaves R.remaining ahead parts.new (λ found rest. (near far : List (List ℕ)) → length near ≡ head.now.count
-        → ahead.parts ≡ map part.Near near ++ map part.Far far
-        → MatchOption found (HasRightSizes graph.now (claim_with head.now near far) → ⊥)
-        (IsClaimJudged graph.now (claim_with head.now near far) rest)) result }
+        → Leaves R.remaining ahead parts.new (λ found rest. (links : List Link) (near far : List (List ℕ)) → length links ≡ head.links
+        → length near ≡ head.count → ahead.parts ≡ map part.Link links ++ (map part.Near near ++ map part.Far far)
+        → MatchOption found (HasRightSizes graph.now (claim_with head links near far) → ⊥)
+        (IsClaimJudged graph.now (claim_with head links near far) rest)) result }
 {
-    let links = head.links.as_slice();
-    if head.count != graph.count() || !are_links_below(links, head.count) {
+    if head.count != graph.count() {
         return Ok(None);
     }
-    let of_links = links_verdict(graph, head.level, links, head.least)?;
+    let Some(of_links) = judge_links(alloc, graph, parts, head.level, head.links, head.least)?
+    else {
+        return Ok(None);
+    };
     let Some(near) = judge_near(alloc, graph, parts, head.level, head.least)? else {
         return Ok(None);
     };
@@ -76,14 +79,14 @@ fn sized(found: Option<Verdict>, at_once: bool) -> Verdict
     }
 }
 
-/// Judges a claim that a cycle is least, whose tables come.
+/// Judges a claim that a cycle is least, whose links and tables come.
 fn judge_cycle<R: Read>(
     alloc: Global,
     graph: &Graph,
     parts: &mut CertReader<R>,
-    head: &CycleHead,
+    head: CycleHead,
 ) -> Result<Judgement, StreamFault>
-    ensures { (ahead : Parts) → IsAhead R.remaining parts.old ahead → Finishes ahead (IsCycleJudged graph.now head.now ahead) result }
+    ensures { (ahead : Parts) → IsAhead R.remaining parts.old ahead → Finishes ahead (IsCycleJudged graph.now head ahead) result }
 {
     let found = judge_tables(alloc, graph, parts, head)?;
     let at_once = ends(alloc, parts)?;
@@ -143,14 +146,16 @@ fn judge_parts<R: Read>(
                 links,
                 least,
             };
-            judge_cycle(alloc, graph, parts, &head)
+            judge_cycle(alloc, graph, parts, head)
         }
-        Part::Clocks(_) | Part::Near(_) | Part::Far(_) | Part::End => unreachable!(),
+        Part::Link(_) | Part::Clocks(_) | Part::Near(_) | Part::Far(_) | Part::End => {
+            unreachable!()
+        }
     }
 }
 
 /// Judges the certificate whose text the reader gives, as it comes: what it claims, and the verdict of the rules on it,
-/// or the fault of the text. Of each table one row at a time is held.
+/// or the fault of the text. One link is held at a time, and of each table one row.
 pub fn judge_stream<R: Read + Drop>(
     alloc: Global,
     graph: &Graph,

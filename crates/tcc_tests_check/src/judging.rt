@@ -156,6 +156,40 @@ fn a_stale_read(rt: HostRuntime) -> Result<(), Fail> {
     Ok(())
 }
 
+/// The first wrong link is named, where the first begins too; numbers out of range come before it, wherever they stand.
+#[test]
+fn wrong_links(rt: HostRuntime) -> Result<(), Fail> {
+    use Rule::{Links, Sizes};
+    let near = "3 1 1\n3 3 1\n3 3 3\n";
+    let far = "3 1 1\n2 3 1\n3 3 3\n";
+    for (links, wanted) in [
+        ("cycle 3 2 3\nS 1 2\nD 1 0 x 2 1\nS 1 2\n", (Links, 1, 0)),
+        ("cycle 3 2 3\nS 0 0\nD 1 0 x 2 1\nS 1 2\n", (Links, 1, 0)),
+        ("cycle 3 1 3\nS 0 1\n", (Links, 1, 0)),
+        (
+            "cycle 3 3 3\nS 0 1\nS 1 2\nD 1 0 x 2 1\nS 1 2\n",
+            (Links, 3, 0),
+        ),
+        (
+            "cycle 3 3 3\nS 0 1\nS 1 0\nD 1 0 x 2 1\nS 1 2\n",
+            (Links, 2, 0),
+        ),
+        ("cycle 3 2 3\nS 0 1\nD 1 0 x 2 1\nS 0 2\n", (Links, 2, 0)),
+        ("cycle 3 2 4\nS 0 1\nD 1 0 x 2 1\nS 1 2\n", (Links, 0, 0)),
+        ("cycle 3 2 3\nS 0 2\nD 1 0 x 3 1\nS 1 2\n", (Sizes, 0, 0)),
+        ("cycle 3 2 3\nS 3 1\nD 1 0 x 2 1\nS 1 2\n", (Sizes, 0, 0)),
+    ] {
+        let (rule, row, column) = wanted;
+        let rows: &[Row] = &[("1", links, near, far, Some((rule, row, column)))];
+        assert_cycles(&rt, rt.alloc(), STALE, rows)?;
+    }
+    let dearer = "cycle 3 2 2\nS 0 1\nD 1 0 x 2 1\nS 1 2\n";
+    let table = "2 1 1\n2 2 1\n2 2 2\n";
+    let rows: &[Row] = &[("1", dearer, table, table, Some((Links, 0, 0)))];
+    assert_cycles(&rt, rt.alloc(), STALE, rows)?;
+    Ok(())
+}
+
 /// From a/3 the tables have least for a/1, which is two places before a/3 itself.
 #[test]
 fn a_session_of_three(rt: HostRuntime) -> Result<(), Fail> {

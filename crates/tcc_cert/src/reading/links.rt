@@ -6,7 +6,7 @@ ghost use Rattle.tcc_cert.specs.Reading.{Place, link_at, repeated, step_line, wi
 use super::forms::Head;
 use super::input::Input;
 use super::words::next_line;
-use crate::{CertFault, CertFaultKind, Links, Version};
+use crate::{CertFault, CertFaultKind, Version};
 use std::alloc::Global;
 use std::io::Read;
 use tcc_graph::{Link, Step, Walk};
@@ -55,30 +55,14 @@ fn with_walk(link: Link, walk: Walk) -> Link
 }
 
 /// The next lines, one link.
-fn link<R: Read>(alloc: Global, input: &mut Input<R>, version: Version) -> Result<Link, CertFault>
+pub(crate) fn link<R: Read>(
+    alloc: Global,
+    input: &mut Input<R>,
+    version: Version,
+) -> Result<Link, CertFault>
     ensures { (at : Place) → IsAt R.remaining input.old at → Gives R.remaining at (link_at version at) result input.new }
 {
     let head = next_line::<Head, R>(alloc, input, version)?;
     let walk = walk(alloc, input, version, head.steps)?;
     Ok(with_walk(head.link, walk))
-}
-
-/// The next lines, so many links.
-pub(crate) fn links<R: Read>(
-    alloc: Global,
-    input: &mut Input<R>,
-    version: Version,
-    count: u32,
-) -> Result<Links, CertFault>
-    ensures { (at : Place) → IsAt R.remaining input.old at → Gives R.remaining at (repeated (link_at version) count at) result input.new }
-{
-    let mut links = Vec::new(alloc);
-    'links: for _ in 0..count {
-        let one = link(alloc, input, version)?;
-        match links.push(one) {
-            Ok(()) => {}
-            Err(_) => return Err(input.fault(CertFaultKind::NoMemory)),
-        }
-    }
-    Ok(Links::new(links))
 }

@@ -9,8 +9,8 @@ use crate::{CertFault, CertFaultKind, Part};
 use std::alloc::Global;
 use std::io::Read;
 
-/// The parts of the certificate whose text a reader gives: the claim first, then the rows of its tables, one at a
-/// time. Nothing is kept of what was given.
+/// The parts of the certificate whose text a reader gives: the claim first, then its links and the rows of its tables,
+/// one at a time. Nothing is kept of what was given.
 #[derive(Drop)]
 pub struct CertReader<R> {
     input: Input<R>,
@@ -45,7 +45,7 @@ impl<R: Read> CertReader<R> {
         ensures ends { IfOk result (λ given. has_ended self.new ≡ is_end given) }
         ensures stays_ended { has_ended self.old ≡ true → result ≡ Ok part.End }
 
-        // A claim comes first and never again, and behind it fewer and fewer rows.
+        // A claim comes first and never again, and behind it fewer and fewer links and rows.
         ensures begins { IfOk result (λ given. is_claim given ≡ is_new self.old) }
         ensures begun { is_new self.new ≡ false }
         ensures left { IfOk result (λ given. (is_new self.old ≡ true) ⊎ ((given ≡ part.End) ⊎ (rows_left self.new < rows_left self.old))) }

@@ -1,14 +1,14 @@
 //! The parts of a certificate's text, each with what stands behind it.
 ghost use Rattle.std.specs.Prelude.{◌≡◌, ◌<◌, ◌+◌, ℕ, IfOk};
 ghost use Rattle.tcc_cert.specs.Inputs.{IsAt};
-ghost use Rattle.tcc_cert.specs.Parts.{Parts, cycle_parts, end_parts, far_parts, order_parts, order_rest, parts_behind, whole_parts};
+ghost use Rattle.tcc_cert.specs.Parts.{Parts, end_parts, far_parts, link_rows, order_parts, order_rest, parts_behind, whole_parts};
 ghost use Rattle.tcc_cert.specs.Reading.{Place};
-ghost use Rattle.tcc_cert.specs.Shapes.{behind_table, height, rows_from, table_parts, table_rows};
+ghost use Rattle.tcc_cert.specs.Shapes.{behind_table, height, links_from, rows_from, table_parts, table_rows};
 ghost use Rattle.tcc_cert.specs.Stages.{IsBegun, IsBehind, IsClaimStep, IsRowStep, IsStepAt, TakesStep};
 
 use super::forms::Sizes;
 use super::input::Input;
-use super::links::links;
+use super::links::link;
 use super::rows::row;
 use super::shape::TableShape;
 use super::words::next_line;
@@ -24,6 +24,12 @@ use tcc_graph::Level;
 pub(crate) enum Stage {
     /// The whole text.
     Whole,
+    /// So many links of a cycle, and what stands behind them.
+    Links {
+        version: Version,
+        transactions: u32,
+        left: u32,
+    },
     /// The line before the rows of a table, these, and what stands behind them.
     Mark {
         version: Version,
@@ -201,40 +207,48 @@ fn order<R: Read>(
     Ok((claim, Phase::Going(stage)))
 }
 
-/// What the lines before the links of a cycle say.
-#[derive(Clone, Copy)]
-struct CycleStart {
+/// The next link of a cycle that has one.
+fn next_link<R: Read>(
+    alloc: Global,
+    input: &mut Input<R>,
     version: Version,
-    level: Level,
     transactions: u32,
-    links: u32,
-    least: u32,
-}
-
-/// The claim of a cycle.
-fn cycle<R: Read>(alloc: Global, input: &mut Input<R>, start: CycleStart) -> NextPart
-    ensures step { (at : Place) → IsAt R.remaining input.old at
-        → TakesStep R.remaining at.line (cycle_parts start.version start.level start.transactions start.links start.least at) result input.new }
-    ensures claim { IfOk result IsClaimStep }
+    left: u32,
+) -> NextPart
+    requires { 0 < left }
+    ensures step { (at : Place) (from : ℕ) → IsAt R.remaining input.old at
+        → TakesStep R.remaining at.line (link_rows version transactions from left at) result input.new }
+    ensures row { IfOk result (λ given. IsRowStep (links_from transactions left) given) }
 {
-    let links = links(alloc, input, start.version, start.links)?;
-    let claim = Part::Cycle {
-        version: start.version,
-        level: start.level,
-        count: start.transactions,
-        links,
-        least: start.least,
+    let one = link(alloc, input, version)?;
+    let stage = Stage::Links {
+        version,
+        transactions,
+        left: left - 1,
     };
-    let stage = Stage::Mark {
-        version: start.version,
-        table: TableShape::Near {
-            transactions: start.transactions,
-        },
-    };
-    Ok((claim, Phase::Going(stage)))
+    Ok((Part::Link(one), Phase::Going(stage)))
 }
 
-/// What stands behind the first line, up to the tables.
+/// The next link of a cycle, or what comes behind the last.
+fn links<R: Read>(
+    alloc: Global,
+    input: &mut Input<R>,
+    version: Version,
+    transactions: u32,
+    left: u32,
+) -> NextPart
+    ensures step { (at : Place) (from : ℕ) → IsAt R.remaining input.old at
+        → TakesStep R.remaining at.line (link_rows version transactions from left at) result input.new }
+    ensures row { IfOk result (λ given. IsRowStep (links_from transactions left) given) }
+{
+    if left > 0 {
+        next_link(alloc, input, version, transactions, left)
+    } else {
+        marked(alloc, input, version, TableShape::Near { transactions })
+    }
+}
+
+/// What stands behind the first line, up to the links of a cycle or the clocks of an order.
 fn claim<R: Read>(alloc: Global, input: &mut Input<R>, version: Version, level: Level) -> NextPart
     ensures step { (at : Place) → IsAt R.remaining input.old at → TakesStep R.remaining at.line (parts_behind ((version, level), at)) result input.new }
     ensures claim { IfOk result IsClaimStep }
@@ -249,19 +263,24 @@ fn claim<R: Read>(alloc: Global, input: &mut Input<R>, version: Version, level: 
             links,
             least,
         } => {
-            let start = CycleStart {
+            let claim = Part::Cycle {
                 version,
                 level,
-                transactions,
+                count: transactions,
                 links,
                 least,
             };
-            cycle(alloc, input, start)
+            let stage = Stage::Links {
+                version,
+                transactions,
+                left: links,
+            };
+            Ok((claim, Phase::Going(stage)))
         }
     }
 }
 
-/// The text up to the tables.
+/// The text up to its claim.
 fn whole<R: Read>(alloc: Global, input: &mut Input<R>) -> NextPart
     ensures step { (at : Place) → IsAt R.remaining input.old at → TakesStep R.remaining at.line (whole_parts at) result input.new }
     ensures claim { IfOk result IsClaimStep }
@@ -278,6 +297,11 @@ pub(crate) fn step<R: Read>(alloc: Global, input: &mut Input<R>, stage: Stage) -
 {
     match stage {
         Stage::Whole => whole(alloc, input),
+        Stage::Links {
+            version,
+            transactions,
+            left,
+        } => links(alloc, input, version, transactions, left),
         Stage::Mark { version, table } => marked(alloc, input, version, table),
         Stage::Rows {
             version,

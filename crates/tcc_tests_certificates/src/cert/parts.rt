@@ -9,12 +9,27 @@ use std::io::Read;
 use std::process::Abort;
 use std::test::Fail;
 use tcc_cert::{CertReader, Part};
+use tcc_graph::Link;
+
+/// Where a link begins and ends.
+fn ends(link: &Link) -> [u32; 2] {
+    match link {
+        Link::Session { from, to }
+        | Link::Reads { from, to, .. }
+        | Link::Derived { from, to, .. } => { [*from, *to] }
+    }
+}
 
 /// The kind of a part, and its numbers.
 fn told(alloc: Global, part: &Part) -> Result<String, AllocError> {
+    let link = match part {
+        Part::Link(link) => ends(link),
+        _ => [0, 0],
+    };
     let (word, numbers): (&str, &[u32]) = match part {
         Part::Order { order, .. } => ("order", order.as_slice()),
         Part::Cycle { .. } => ("cycle", &[]),
+        Part::Link(_) => ("link", &link),
         Part::Clocks(row) => ("clocks", row.as_slice()),
         Part::Near(row) => ("near", row.as_slice()),
         Part::Far(row) => ("far", row.as_slice()),
@@ -28,7 +43,7 @@ fn told(alloc: Global, part: &Part) -> Result<String, AllocError> {
     Ok(text)
 }
 
-// The claim, then the rows in the order of the text; behind the end there is the end.
+// The claim, then the links and the rows in the order of the text; behind the end there is the end.
 #[test]
 fn worked_parts(rt: HostRuntime) -> Result<(), Fail> {
     let alloc = rt.alloc();
@@ -41,7 +56,8 @@ fn worked_parts(rt: HostRuntime) -> Result<(), Fail> {
         (NO_CLOCKS, "order 0 1 2 3\nend\nend\n"),
         (
             STALE_READ_UPWARD,
-            "cycle\nnear 3 1 1\nnear 3 3 1\nnear 3 3 3\nfar 3 1 1\nfar 3 1\nfar 3\nend\nend\n",
+            "cycle\nlink 0 1\nlink 1 0\nnear 3 1 1\nnear 3 3 1\nnear 3 3 3\n\
+             far 3 1 1\nfar 3 1\nfar 3\nend\nend\n",
         ),
     ] {
         let mut parts = CertReader::new(text.as_bytes());
@@ -86,13 +102,14 @@ fn begun(text: &[u8], line: usize) -> &[u8] {
 const FAULTS: &str = "\
     1 Header 0|tcc\n\
     2 Word 0|ring 3 2 3\n\
-    4 Count 0|D 1 0 x 2\n\
-    5 Word 0|D 1 0 x 2 1\n\
-    6 Word 1|far\n\
-    8 TooLarge 2|3 3 1049601\n\
-    10 Word 4|near\n\
-    13 Count 6|3 3\n\
-    14 Word 7|done\n";
+    3 Word 1|T 0 1\n\
+    4 Count 2|D 1 0 x 2\n\
+    5 Word 2|D 1 0 x 2 1\n\
+    6 Word 3|far\n\
+    8 TooLarge 4|3 3 1049601\n\
+    10 Word 6|near\n\
+    13 Count 8|3 3\n\
+    14 Word 9|done\n";
 
 /// A fault in each kind of line: the parts before it are given, and then nothing else.
 #[test]
@@ -115,13 +132,14 @@ fn parts_before_a_failure(rt: HostRuntime) -> Result<(), Fail> {
     for (line, before) in [
         (1, 0),
         (2, 0),
-        (4, 0),
-        (5, 0),
-        (6, 1),
-        (8, 2),
-        (10, 4),
-        (13, 6),
-        (14, 7),
+        (3, 1),
+        (4, 2),
+        (5, 2),
+        (6, 3),
+        (8, 4),
+        (10, 6),
+        (13, 8),
+        (14, 9),
     ] {
         let reader = Failing {
             text: begun(STALE_READ.as_bytes(), line),

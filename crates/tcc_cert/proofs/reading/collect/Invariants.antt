@@ -1,4 +1,4 @@
--- the rows so far stand before those that are still to come
+-- the links and rows so far stand before those that are still to come
 use Rattle.std.proofs.Common.{◌≡◌, false}
 use Rattle.tcc_cert.specs.Ahead.{IsAhead, is_new, rows_left}
 use Rattle.tcc_cert.specs.Parts.{Parts}
@@ -10,7 +10,7 @@ invariant-parts g l =
     record {
       begun : is_new l.parts ≡ false;
       rows : (ahead : Parts) → IsAhead g.R.Read.remaining l.initial.parts ahead
-          → (rest : Parts) × IsKept l.tables.clocks.items l.tables.near.items l.tables.far.items ahead rest × IsAhead g.R.Read.remaining l.parts rest;
+          → (rest : Parts) × IsKept l.tables.links.items l.tables.clocks.items l.tables.near.items l.tables.far.items ahead rest × IsAhead g.R.Read.remaining l.parts rest;
     }
 
 abbrev pub decreases-parts : goal.decreases-parts

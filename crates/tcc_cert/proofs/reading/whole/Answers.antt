@@ -1,4 +1,4 @@
--- The claim was read, and then its tables.
+-- The claim was read, and then its links and tables.
 use Rattle.std.proofs.Common.{refl}
 use Rattle.std.proofs.lemmas.Result.{err_from_is_err_and}
 use Rattle.tcc_cert.specs.Parts.{parts_read}
@@ -23,14 +23,14 @@ returns-in_ok-clocks-in-Order g c bytes ahead =
     rw c.new.ensures
     (order-read bytes _ _ _ _ taken.0 c.in_ok-clocks-in-Order.field-0 taken.1 (c.in_ok-clocks-in-Order.ensures taken.0 taken.2))
 
-pub returns-in_ok-near-in-Cycle : goal.returns-in_ok-near-in-Cycle
-returns-in_ok-near-in-Cycle g c bytes ahead =
+pub returns-in_ok-links-in-Cycle : goal.returns-in_ok-links-in-Cycle
+returns-in_ok-links-in-Cycle g c bytes ahead =
     let taken = rw c.in-Cycle.is at (c.in_ok-version.ensures.parts (parts_read bytes) ahead) in
-    rw (c.new-in-Cycle.ensures, c.new-in-Cycle-2.ensures)
-    (cycle-read bytes _ _ _ _ _ taken.0 c.in_ok-near-in-Cycle.field-0 taken.1 (c.in_ok-near-in-Cycle.ensures taken.0 taken.2))
+    rw (c.new-in-Cycle.ensures, c.new-in-Cycle-2.ensures, c.new-in-Cycle-3.ensures)
+    (cycle-read bytes _ _ _ _ _ taken.0 c.in_ok-links-in-Cycle.field-0 taken.1 (c.in_ok-links-in-Cycle.ensures taken.0 taken.2))
 
-pub returns-in_err-near-in-Cycle : goal.returns-in_err-near-in-Cycle
-returns-in_err-near-in-Cycle g c bytes ahead =
-    let p = err_from_is_err_and c.from_residual-in_err-near-in-Cycle.result c.from_residual-in_err-near-in-Cycle.ensures.1 in
+pub returns-in_err-links-in-Cycle : goal.returns-in_err-links-in-Cycle
+returns-in_err-links-in-Cycle g c bytes ahead =
+    let p = err_from_is_err_and c.from_residual-in_err-links-in-Cycle.result c.from_residual-in_err-links-in-Cycle.ensures.1 in
     let taken = rw c.in-Cycle.is at (c.in_ok-version.ensures.parts (parts_read bytes) ahead) in
-    rw (p.1, p.2) (behind-end bytes _ taken.0 _ taken.1 (c.in_err-near-in-Cycle.ensures taken.0 taken.2))
+    rw (p.1, p.2) (behind-end bytes _ taken.0 _ taken.1 (c.in_err-links-in-Cycle.ensures taken.0 taken.2))

@@ -1,5 +1,5 @@
 -- Each search of the row is one of the table.
-use Rattle.std.proofs.Common.{◌+◌, ℕ, List, [], length, ap, subst, arith, ◌∙◌}
+use Rattle.std.proofs.Common.{ℕ, List, [], length, ap, subst, arith, ◌∙◌}
 use Rattle.std.proofs.lemmas.List.{get_or_read}
 use Rattle.tcc_reads.specs.History.{count}
 use Rattle.tcc_cert.specs.Tables.{lowest}

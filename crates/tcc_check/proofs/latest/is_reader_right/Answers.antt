@@ -1,5 +1,5 @@
 -- By pairs.
-use Rattle.std.proofs.Common.{Bool, sym, subst, ℕ}
+use Rattle.std.proofs.Common.{Bool, sym, subst}
 use Rattle.std.specs.Prelude.{IfOk, IsTrue}
 use Rattle.tcc_graph.specs.declared.level.Level.{Level}
 use Rattle.tcc_check.specs.Latest.{AreReadsKept}

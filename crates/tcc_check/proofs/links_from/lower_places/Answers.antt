@@ -1,5 +1,5 @@
 -- One key after the other.
-use Rattle.std.proofs.Common.{◌≡◌, ℕ, List, Option, None, arith, get_or, refl}
+use Rattle.std.proofs.Common.{◌≡◌, None, arith, get_or, refl}
 use Rattle.std.proofs.lemmas.List.{get_or_read}
 use Rattle.tcc_check.specs.Readings.{readings_at}
 use Rattle.tcc_check.proofs.ByKey.{no-place, one-place, all-places}

@@ -1,6 +1,5 @@
 -- In groups, or one after the other.
-use Rattle.std.proofs.Common.{◌<◌, ℕ, Some, arith}
-use Rattle.std.specs.Prelude.{All, IfSome}
+use Rattle.std.proofs.Common.{◌<◌}
 use Rattle.tcc_reads.specs.History.{count}
 use Rattle.tcc_check.specs.Readings.{AreReadingsAt}
 use Rattle.tcc_check.proofs.ByKey.{groups-there, pairs-there, readers-below, sources-below}

@@ -1,5 +1,5 @@
 -- One group after the other.
-use Rattle.std.proofs.Common.{◌≡◌, ◌<◌, ◌≤◌, ◌+◌, ℕ, List, length, get_or, set, min, take, drop, drop-drop, arith, refl, sym, ap, subst, ◌∙◌}
+use Rattle.std.proofs.Common.{◌≡◌, ◌<◌, ◌+◌, ℕ, List, length, get_or, set, min, take, drop, drop-drop, arith, refl, sym, ap, subst, ◌∙◌}
 use Rattle.std.specs.Prelude.{All}
 use Rattle.std.proofs.lemmas.List.{length-drop, take_all}
 use Rattle.tcc_check.specs.Groups.{AreGroupsOf, links_by, total}

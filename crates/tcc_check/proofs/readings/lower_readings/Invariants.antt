@@ -1,4 +1,4 @@
-use Rattle.std.proofs.Common.{◌≡◌, length, take, drop}
+use Rattle.std.proofs.Common.{◌≡◌, take, drop}
 use Rattle.tcc_check.specs.Groups.{links_by, total}
 use Rattle.tcc_check.specs.Weights.{IsLowered}
 use Rattle.tcc_check.proofs.ByKey.{SeenReading}

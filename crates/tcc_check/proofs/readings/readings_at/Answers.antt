@@ -1,5 +1,5 @@
 -- One reader after the other, with the source beside it.
-use Rattle.std.proofs.Common.{◌≡◌, ℕ, [], ◌∷◌, ◌++◌, get_or, arith, rules, sym}
+use Rattle.std.proofs.Common.{◌≡◌, [], ◌∷◌, ◌++◌, get_or, arith, rules}
 use Rattle.tcc_check.proofs.ByKey.{more-paired, none-paired, readers-fit, readings-paired}
 use Rattle.tcc_check.proofs.readings.readings_at.Goals as goal
 

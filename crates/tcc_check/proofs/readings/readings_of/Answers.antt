@@ -1,5 +1,5 @@
 -- One key after the other.
-use Rattle.std.proofs.Common.{◌≡◌, ℕ, [], ◌∷◌, ◌++◌, length, arith, rules, subst}
+use Rattle.std.proofs.Common.{◌≡◌, ℕ, [], ◌∷◌, ◌++◌, length, rules, subst}
 use Rattle.std.specs.Prelude.{IfSome}
 use Rattle.tcc_graph.specs.Keys.{keys}
 use Rattle.tcc_check.specs.Readings.{AreReadingsAt, AreReadingsTo}

@@ -1,5 +1,5 @@
 -- One read after the other.
-use Rattle.std.proofs.Common.{◌≡◌, ◌<◌, ℕ, List, get_or, arith, subst, sym}
+use Rattle.std.proofs.Common.{◌<◌, ℕ, List, get_or, arith, subst, sym}
 use Rattle.std.specs.Prelude.{All}
 use Rattle.std.specs.List.Sorted.{IsNonDecreasing}
 use Rattle.std.proofs.lemmas.List.{get_or_default}

@@ -1,5 +1,5 @@
 -- One source after the other.
-use Rattle.std.proofs.Common.{◌≡◌, ℕ, get_or, arith}
+use Rattle.std.proofs.Common.{ℕ, get_or, arith}
 use Rattle.std.proofs.lemmas.List.{get_or_default}
 use Rattle.tcc_check.specs.SinglePairs.{DoesWriterStand}
 use Rattle.tcc_check.proofs.OnePair.{sources_stand_by}

@@ -1,4 +1,4 @@
--- What was found in the tables is the verdict, where nothing came behind them.
+-- What was found in the links and tables is the verdict, where nothing came behind them.
 use Rattle.std.proofs.Common.{refl, sym, ◌∙◌}
 use Rattle.tcc_check.specs.Judged.{claim_with}
 use Rattle.tcc_check.proofs.JudgedFacts.{sized-answer}
@@ -11,9 +11,9 @@ returns g c ahead is =
       sym left.2 ∙ end.0,
       record {
         same = refl;
-        answer = λ near far long split.
+        answer = λ links near far many long split.
             rw c.sized-verdict.ensures
-            (sized-answer c.args.graph.now (claim_with c.args.head.now near far) left.0 c.in_ok-found.found c.in_ok-at_once.at_once
-            (left.4 near far long split) end.1);
+            (sized-answer c.args.graph.now (claim_with c.args.head links near far) left.0 c.in_ok-found.found c.in_ok-at_once.at_once
+            (left.4 links near far many long split) end.1);
       },
     )

@@ -1,8 +1,7 @@
--- One table after the other.
+-- The links, and then one table after the other.
 use Rattle.std.proofs.Common.{◌++◌, ◌∙◌}
-use Rattle.std.specs.Prelude.{All}
-use Rattle.tcc_reads.specs.History.{count}
-use Rattle.tcc_cert.specs.CycleRules.{IsLinkBelow}
+use Rattle.std.specs.Prelude.{map}
+use Rattle.tcc_cert.specs.declared.part.Part.TheVariants as part
 use Rattle.tcc_check.specs.Coming.{first_rejected}
 use Rattle.tcc_check.specs.Judged.{claim_with, far_rules, links_rules, near_rules}
 use Rattle.tcc_check.proofs.Asked.{answer_first}
@@ -10,57 +9,71 @@ use Rattle.tcc_check.proofs.streaming.judge_tables.Goals as goal
 
 pub returns-in_default : goal.returns-in_default
 returns-in_default g c ahead is =
-    let said = rw c.in_default.is at (c.in_ok-near.ensures.parts ahead is) in (
-      said.0,
-      said.1,
-      said.2,
-      said.3,
-      λ near far long split right. said.4 near far (long ∙ c.if-head-count.false ∙ c.count.ensures.value) split
-          (right.near, right.near_capped),
+    let of_links = rw c.in_default.is at (c.in_ok-of_links.ensures ahead is) in (
+      of_links.0,
+      of_links.1,
+      of_links.2,
+      of_links.3,
+      λ links near far many long split right. of_links.4 links (map part.Near near ++ map part.Far far) many split right.links,
     )
-
-pub judge_far-requires : goal.judge_far-requires
-judge_far-requires g c = record { orderly = rw c.in-Some.is at c.in_ok-near.ensures.orderly }
 
 pub returns-in_default-2 : goal.returns-in_default-2
 returns-in_default-2 g c ahead is =
-    let of_near = rw c.in-Some.is at (c.in_ok-near.ensures.parts ahead is) in
-    let of_far = rw c.in_default-2.is at (c.in_ok-of_far.ensures of_near.0 of_near.3) in (
+    let of_links = rw c.in-Some.is at (c.in_ok-of_links.ensures ahead is) in
+    let of_near = rw c.in_default-2.is at (c.in_ok-near.ensures.parts of_links.0 of_links.3) in (
+      of_near.0,
+      of_near.1 ∙ of_links.1,
+      of_near.2 ∙ of_links.2,
+      of_near.3,
+      λ links near far many long split right.
+          let first = of_links.4 links (map part.Near near ++ map part.Far far) many split in
+          of_near.4 near far (long ∙ c.if-head-count.false ∙ c.count.ensures.value) first.behind (right.near, right.near_capped),
+    )
+
+pub judge_far-requires : goal.judge_far-requires
+judge_far-requires g c = record { orderly = rw c.in-Some-2.is at c.in_ok-near.ensures.orderly }
+
+pub returns-in_default-3 : goal.returns-in_default-3
+returns-in_default-3 g c ahead is =
+    let of_links = rw c.in-Some.is at (c.in_ok-of_links.ensures ahead is) in
+    let of_near = rw c.in-Some-2.is at (c.in_ok-near.ensures.parts of_links.0 of_links.3) in
+    let of_far = rw c.in_default-3.is at (c.in_ok-of_far.ensures of_near.0 of_near.3) in (
       of_far.0,
-      of_far.1 ∙ of_near.1,
-      of_far.2 ∙ of_near.2,
+      of_far.1 ∙ of_near.1 ∙ of_links.1,
+      of_far.2 ∙ of_near.2 ∙ of_links.2,
       of_far.3,
-      λ near far long split right.
-          let one = of_near.4 near far (long ∙ c.if-head-count.false ∙ c.count.ensures.value) split in
+      λ links near far many long split right.
+          let first = of_links.4 links (map part.Near near ++ map part.Far far) many split in
+          let one = of_near.4 near far (long ∙ c.if-head-count.false ∙ c.count.ensures.value) first.behind in
           of_far.4 near far one.1.links one.2 (right.far, right.far_capped),
     )
 
 pub returns : goal.returns
 returns g c ahead is =
     let h = c.args.graph.now in
-    let head = c.args.head.now in
-    let of_near = rw c.in-Some.is at (c.in_ok-near.ensures.parts ahead is) in
-    let of_far = rw c.in-Some-2.is at (c.in_ok-of_far.ensures of_near.0 of_near.3) in (
+    let head = c.args.head in
+    let of_links = rw c.in-Some.is at (c.in_ok-of_links.ensures ahead is) in
+    let of_near = rw c.in-Some-2.is at (c.in_ok-near.ensures.parts of_links.0 of_links.3) in
+    let of_far = rw c.in-Some-3.is at (c.in_ok-of_far.ensures of_near.0 of_near.3) in (
       of_far.0,
-      of_far.1 ∙ of_near.1,
-      of_far.2 ∙ of_near.2,
+      of_far.1 ∙ of_near.1 ∙ of_links.1,
+      of_far.2 ∙ of_near.2 ∙ of_links.2,
       of_far.3,
-      λ near far long split.
-          let k = claim_with head near far in
-          let one = of_near.4 near far (long ∙ c.if-head-count.false ∙ c.count.ensures.value) split in
+      λ links near far many long split.
+          let k = claim_with head links near far in
+          let first = of_links.4 links (map part.Near near ++ map part.Far far) many split in
+          let one = of_near.4 near far (long ∙ c.if-head-count.false ∙ c.count.ensures.value) first.behind in
           let two = of_far.4 near far one.1.links one.2 in
-          let below : All (IsLinkBelow (count h)) head.links =
-          rw (← c.count.ensures.value, ← c.if-head-count.false, ← c.as_slice-links.ensures) (c.are_links_below.ensures.0 c.if-not-are_links_below.false) in
           record {
             right = λ end.
                 let last = two.right end in (
-                  record { near = one.0.0; far = last.0.0; links = below; near_capped = one.0.1; far_capped = last.0.1 },
+                  record { near = one.0.0; far = last.0.0; links = first.below; near_capped = one.0.1; far_capped = last.0.1 },
                   rw (c.first_rejected.ensures, c.first_rejected-of_tables.ensures)
                       (answer_first (links_rules h k) (near_rules h head.level near ++ far_rules h head.version head.least near far)
-                      c.in_ok-of_links.of_links (first_rejected c.in-Some.near.verdict c.in-Some-2.of_far)
-                      (rw (← c.as_slice-links.ensures) (c.in_ok-of_links.ensures head.version near far))
+                      c.in-Some.of_links (first_rejected c.in-Some-2.near.verdict c.in-Some-3.of_far)
+                      (first.answer head.version near far)
                       (answer_first (near_rules h head.level near)
-                      (far_rules h head.version head.least near far) c.in-Some.near.verdict c.in-Some-2.of_far one.1.answer last.1)),
+                      (far_rules h head.version head.least near far) c.in-Some-2.near.verdict c.in-Some-3.of_far one.1.answer last.1)),
                 );
             more = λ right. two.more (right.far, right.far_capped);
           },

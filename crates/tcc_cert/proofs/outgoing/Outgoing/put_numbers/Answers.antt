@@ -1,5 +1,5 @@
 -- Some more numbers are kept where there is room for them.
-use Rattle.std.proofs.Common.{◌≡◌, ◌-◌, ◌+◌, ◌++◌, codes, decimal, ap, ◌∙◌, take, drop, flat_map, arith}
+use Rattle.std.proofs.Common.{◌≡◌, ◌-◌, ◌+◌, ◌++◌, codes, decimal, arith}
 use Rattle.tcc_cert.proofs.SentFacts.{failed}
 use Rattle.tcc_cert.proofs.Items.{Stops-rest, Sends-some}
 use Rattle.tcc_cert.proofs.outgoing.Outgoing.put_numbers.Goals as goal

@@ -1,5 +1,5 @@
 -- One more digit behind a space.
-use Rattle.std.proofs.Common.{ℕ, ◌≡◌, ◌≤◌, ◌+◌, ◌*◌, ◌<◌, ◌∙◌, [], ◌∷◌, ◌++◌, length, length-append, ap, arith}
+use Rattle.std.proofs.Common.{ℕ, ◌≡◌, ◌≤◌, ◌*◌, ◌<◌, ◌∙◌, [], ◌∷◌, ◌++◌, length, length-append, ap, arith}
 use Rattle.std.proofs.lemmas.List.Elements.{All-push}
 use Rattle.tcc_cert.proofs.DigitLines.{digit-first, digit-more}
 use Rattle.tcc_cert.proofs.reading.rows.digits_of.Goals as goal

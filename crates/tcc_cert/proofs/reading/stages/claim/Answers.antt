@@ -1,5 +1,10 @@
 -- The sizes were read, and then what they are of.
+use Rattle.std.proofs.Common.{Ok, refl}
+use Rattle.tcc_cert.specs.declared.part.Part.TheVariants as part
+use Rattle.tcc_cert.specs.declared.reading.stages.Phase.TheVariants as phase
+use Rattle.tcc_cert.specs.declared.reading.stages.Stage.TheVariants as stage
 use Rattle.std.proofs.lemmas.Result.{err_from_is_err_and}
+use Rattle.tcc_cert.specs.Parts.{link_rows}
 use Rattle.tcc_cert.specs.Reading.{sizes_line, words}
 use Rattle.tcc_cert.proofs.StageFacts.{onward-claim, part-faults, sizes-then}
 use Rattle.tcc_cert.proofs.reading.stages.claim.Goals as goal
@@ -19,5 +24,8 @@ returns-in-Order-clause-step g c at before =
 pub returns-in-Cycle-clause-step : goal.returns-in-Cycle-clause-step
 returns-in-Cycle-clause-step g c at before =
     let sizes = c.in_ok-transactions.ensures at before in
-    sizes-then g.R.Read.remaining c.args.version c.args.level at c.cycle.result c.cycle.new.input sizes.1
-    (rw c.in-Cycle.is (c.cycle.ensures.step sizes.0 sizes.2))
+    let cycle = c.in-Cycle in
+    let v = c.args.version in
+    let given = Ok (part.Cycle v c.args.level cycle.transactions cycle.links cycle.least, phase.Going (stage.Links v cycle.transactions cycle.links)) in
+    sizes-then g.R.Read.remaining v c.args.level at given c.next_line.new.input sizes.1
+    (rw cycle.is (link_rows c.args.version cycle.transactions 0 cycle.links sizes.0, refl, (sizes.0, sizes.2, (0, refl))))
