@@ -4,8 +4,8 @@ use Rattle.std.proofs.Common.{slice_index, refl, sym, ap, ◌∙◌, subst, arit
 use Rattle.std.specs.Prelude.{max}
 use Rattle.std.specs.List.{All, Contains}
 use Rattle.std.proofs.lemmas.Bool.{cases_lt, cases_eq, cases_Bool, and_parts, and_from, ltb-true, lt-ltb, eqb-true, eq-eqb, ne_eqb, false≢true}
-use Rattle.std.proofs.lemmas.List.{get_or-set_same, get_or-set_other, length-set}
-use Rattle.std.proofs.lemmas.List.Elements.{All-weaker, All-map, All-contains_itself}
+use Rattle.std.proofs.lemmas.List.{get_or_default, get_or-set_same, get_or-set_other, length-set}
+use Rattle.std.proofs.lemmas.List.Elements.{All-weaker, All-map, All-contains, All-contains_itself}
 use Rattle.tcc_reads.specs.History.{History, IsBySession, count, entry_at, owner}
 use Rattle.tcc_graph.specs.Keys.{keys, key_at}
 use Rattle.tcc_graph.specs.Walks.{IsReached}
@@ -17,7 +17,7 @@ use Rattle.tcc_graph.proofs.Pairs.{pair_below}
 use Rattle.tcc_near.proofs.FreshLemmas.{one_of_taken, still_taken, last_taken, nothing_in}
 use Rattle.tcc_order.specs.Parents.{HasSourcesAt, parents, sources, session_parent, session_parents}
 use Rattle.tcc_order.specs.Lasts.{IsOneOf, IsBefore, IsUpTo}
-use Rattle.tcc_order.specs.Latest.{AreOwners, IsLatestOf, AreLatestOf, HasLatest, AreClocks, LeadsOnward, lifted}
+use Rattle.tcc_order.specs.Latest.{AreOwners, IsLatestOf, AreLatestOf, HasLatest, AreClocks, IsLike, LeadsOnward, lifted}
 use Rattle.tcc_order.specs.declared.latest.TheConstants.{WIDE}
 use Rattle.tcc_order.proofs.Reaching.{parent_pair}
 use Rattle.tcc_order.proofs.LastLemmas.{up_to_parents, taken_before}
@@ -140,6 +140,54 @@ latest_more h owners known from numbers i p old mid new other inside here below 
 
     both : (b : ℕ) → ((IsUpTo h (Contains (take i numbers)) b ⊎ IsReached h b p) ⊎ (b ≡ p)) ↔ IsUpTo h (Contains (take (i + 1) numbers)) b
     both b = (there b, λ w. by b w.0 w.2 (one_of_taken numbers i inside w.0 w.1))
+
+-- what holds of each number so far, and of one more
+pub each_more : (P : ℕ → Type 0) (xs : List ℕ) (n : ℕ) → ((k : ℕ) → k < n → P (slice_index xs k)) → P (slice_index xs n) → (k : ℕ) → k < n + 1
+    → P (slice_index xs k)
+each_more P xs n before one k l = go (cases_eq k n)
+  where
+    go : (k ≡ n) ⊎ (k ≢ n) → P (slice_index xs k)
+    go (inl same) = rw same one
+    go (inr other) = before k (omega (arith, l, other))
+
+-- all of these have the row of one of them, and none is of the block
+pub latest_like : (h : History) (owners : List ℕ) → AreOwners h owners → (from : ℕ) (numbers : List ℕ) (table : List (List ℕ)) (other : ℕ)
+    → Contains numbers other → ((k : ℕ) → k < length numbers → IsLike table owners from other (slice_index numbers k))
+    → All (λ p. p < count h) numbers → All (λ p. AreLatestOf h (IsBefore h p) from (row_of table p)) numbers
+    → AreLatestOf h (IsUpTo h (Contains numbers)) from (row_of table other)
+latest_like h owners known from numbers table other there alike inside latest = record {
+  wide = is.wide;
+  each = λ k l. record {
+    attained = up k (slice_index (row_of table other) k) (is.each k l).attained;
+    greatest = λ b one. most k l b one one.meant;
+  };
+}
+  where
+    is : AreLatestOf h (IsBefore h other) from (row_of table other)
+    is = All-contains (λ p. AreLatestOf h (IsBefore h p) from (row_of table p)) numbers other latest there
+
+    up : (k v : ℕ) → (v ≡ 0) ⊎ IsOneOf h (IsBefore h other) (from + k) v → (v ≡ 0) ⊎ IsOneOf h (IsUpTo h (Contains numbers)) (from + k) v
+    up k v (inl none) = inl none
+    up k v (inr one) = inr (one_same h (IsBefore h other) (IsUpTo h (Contains numbers)) (from + k) v (λ r. (other, there, inr r)) one)
+
+    by : (k : ℕ) → k < WIDE → (b : ℕ) → IsOneOf h (IsUpTo h (Contains numbers)) (from + k) b → (p : ℕ) → Contains numbers p → IsLike table owners from other p
+        → (b ≡ p) ⊎ IsReached h b p → b ≤ slice_index (row_of table other) k
+    by k l b one p in_them like (inl same) =
+        let some : 0 < p = omega (arith, one.committed, same) in
+        let owned : owner h p ≡ from + k = subst (λ (z : ℕ). owner h z ≡ from + k) same one.owned in
+        absurd (like.1 some k l (known.each p some (All-contains (λ q. q < count h) numbers p inside in_them) ∙ owned))
+    by k l b one p in_them like (inr reached) =
+        let mine : AreLatestOf h (IsBefore h p) from (row_of table p)
+        = All-contains (λ q. AreLatestOf h (IsBefore h q) from (row_of table q)) numbers p latest in_them in
+        let top : b ≤ slice_index (row_of table p) k
+        = (mine.each k l).greatest b record { committed = one.committed; below = one.below; owned = one.owned; meant = reached } in
+        subst (λ (r : List ℕ). b ≤ slice_index r k) like.0 top
+
+    most : (k : ℕ) → k < WIDE → (b : ℕ) → IsOneOf h (IsUpTo h (Contains numbers)) (from + k) b → IsUpTo h (Contains numbers) b
+        → b ≤ slice_index (row_of table other) k
+    most k l b one (p, (i, within, at), way) =
+        let here : slice_index numbers i ≡ p = get_or_default numbers i 0 p within ∙ at in
+        by k l b one p (i, within, at) (subst (λ (z : ℕ). IsLike table owners from other z) here (alike i within)) way
 
 -- ---- tables
 pub table_none : (h : History) (from : ℕ) (table : List (List ℕ)) (order : List ℕ) → length table ≡ count h → HasLatest h from (Contains (take 0 order)) table

@@ -6,6 +6,7 @@ pub mod Reached
 pub mod Linked
 pub mod OrderOrCycle
 pub mod Reaching
+pub mod SharedRows
 pub mod Fronts
 pub mod Links
 pub mod LastLemmas

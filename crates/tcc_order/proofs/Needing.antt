@@ -17,11 +17,10 @@ use Rattle.tcc_graph.proofs.WriterLemmas.{writers_below}
 use Rattle.tcc_near.proofs.FreshLemmas.{one_of_taken, still_taken, last_taken, nothing_in}
 use Rattle.tcc_near.proofs.MarkLemmas.{zip_at, zip-long}
 use Rattle.tcc_order.specs.Lasts.{IsOneOf, IsBefore}
-use Rattle.tcc_order.specs.Latest.{AreOwners, IsLatestOf, AreLatestOf, IsOverwritten, IsLiftable, IsLifted, lifted_by}
+use Rattle.tcc_order.specs.Latest.{AreOwners, IsLatestOf, AreLatestOf, IsLatestPast, AreLatestPast, IsOverwritten, IsLiftable, IsLifted, lifted_by}
 use Rattle.tcc_order.specs.Latest.{IsCovered, AreDerived, AreEnough, Overwrites}
 use Rattle.tcc_order.specs.declared.latest.TheConstants.{WIDE}
 use Rattle.tcc_order.proofs.Readings.{IsTaken, named_long, named_each, named_at}
-use Rattle.tcc_order.proofs.LatestLemmas.{rows_same}
 
 -- ---- one writer more
 pub lifted_none : (owners : List ℕ) (from : ℕ) (clock writers : List ℕ) (a k old : ℕ) → IsLifted owners from clock (take 0 writers) a k old old
@@ -110,14 +109,19 @@ clock_reaches h numbered c session v b is some below owned up = go is.attained (
         reached_append h b v c (w.0, w.1) one.meant
 
 -- ---- one reading more
-module _ (h : History) (numbered : IsBySession h.entries) (owners : List ℕ) (known : AreOwners h owners) (from a : ℕ) where
+module _ (h : History) (numbered : IsBySession h.entries) (owners : List ℕ) (known_owners : AreOwners h owners) (from a : ℕ) where
   pub overwritten_none : (pairs : List (ℕ × List ℕ)) (b : ℕ) → IsOverwritten h (IsTaken pairs 0) a b → ⊥
   overwritten_none pairs b (c, x, (k, l, e), writer, apart, reached) = omega arith
 
-  module _ (pairs : List (ℕ × List ℕ)) (n c : ℕ) (x : List ℕ) (inside : n < length pairs) (here : get_or pairs n (0, []) ≡ (c, x)) (old new clock : List ℕ)
-      (are : AreLatestOf h (IsOverwritten h (IsTaken pairs n) a) from old) (reaches : AreLatestOf h (IsBefore h c) from clock)
-      (same : length new ≡ length old)
-      (each : (k : ℕ) → k < length old → IsLifted owners from clock (writers h x) a k (slice_index old k) (slice_index new k)) where
+  -- what is past none of them
+  pub past_none : (pairs : List (ℕ × List ℕ)) (row known : List ℕ) → length row ≡ WIDE → ((k : ℕ) → k < length row → slice_index row k ≡ 0)
+      → AreLatestPast h (IsOverwritten h (IsTaken pairs 0) a) from known row
+  past_none pairs row below wide zero = record {
+    wide = wide;
+    each = λ k l. record { attained = inl (zero k (omega (arith, wide))); greatest = λ b one. absurd (overwritten_none pairs b one.meant) };
+  }
+
+  module _ (pairs : List (ℕ × List ℕ)) (n c : ℕ) (x : List ℕ) (inside : n < length pairs) (here : get_or pairs n (0, []) ≡ (c, x)) where
     taken : take (n + 1) pairs ≡ take n pairs ++ (c, x) ∷ []
     taken = take_more pairs n (0, []) inside ∙ ap (λ p. take n pairs ++ p ∷ []) here
 
@@ -125,77 +129,96 @@ module _ (h : History) (numbered : IsBySession h.entries) (owners : List ℕ) (k
     still_over b (d, y, was, writer, apart, reached) =
         (d, y, rw taken (Contains-append_left (take n pairs) ((c, x) ∷ []) (d, y) was), writer, apart, reached)
 
-    over : (k b : ℕ) → k < WIDE → IsLiftable owners from clock (writers h x) a k b → IsOneOf h (IsOverwritten h (IsTaken pairs (n + 1)) a) (from + k) b
-    over k b l (some, apart, writer, owned, up) =
-        let below : b < count h = All-contains (λ (z : ℕ). z < count h) (writers h x) b (writers_below h x) writer in
-        let mine : owner h b ≡ from + k = sym (known.each b some below) ∙ owned in
-        record {
-          committed = some;
-          below = below;
-          owned = mine;
-          meant = (
-            c,
-            x,
-            rw taken (Contains-push (take n pairs) (c, x)),
-            writer,
-            apart,
-            clock_reaches h numbered c (from + k) (slice_index clock k) b (reaches.each k l) some below mine up,
-          );
-        }
+    still_one : (k v : ℕ) → (v ≡ 0) ⊎ IsOneOf h (IsOverwritten h (IsTaken pairs n) a) (from + k) v
+        → (v ≡ 0) ⊎ IsOneOf h (IsOverwritten h (IsTaken pairs (n + 1)) a) (from + k) v
+    still_one k v (inl none) = inl none
+    still_one k v (inr one) = inr record { committed = one.committed; below = one.below; owned = one.owned; meant = still_over v one.meant }
 
-    liftable : (k b : ℕ) → k < WIDE → 0 < b → b < count h → owner h b ≡ from + k → Contains (writers h x) b → b ≢ a → IsReached h b c
-        → IsLiftable owners from clock (writers h x) a k b
-    liftable k b l some below mine writer apart reached = (
-      some,
-      apart,
-      writer,
-      known.each b some below ∙ mine,
-      (reaches.each k l).greatest b record { committed = some; below = below; owned = mine; meant = reached },
-    )
+    -- one of those is one of those before, or is by this reading
+    abbrev IsNew : ℕ → Type 0
+    IsNew b = IsOverwritten h (IsTaken pairs n) a b ⊎ (Contains (writers h x) b × (b ≢ a) × IsReached h b c)
 
-    pub overwritten_more : AreLatestOf h (IsOverwritten h (IsTaken pairs (n + 1)) a) from new
-    overwritten_more = record { wide = same ∙ are.wide; each = λ k l. step k l (each k (omega (arith, are.wide))) }
+    split : (b : ℕ) → IsOverwritten h (IsTaken pairs (n + 1)) a b → IsNew b
+    split b (d, y, t, writer, apart, reached) = go (Contains-push_cases (take n pairs) (c, x) (d, y) (rw taken at t))
       where
-        step : (k : ℕ) → k < WIDE → IsLifted owners from clock (writers h x) a k (slice_index old k) (slice_index new k)
-            → IsLatestOf h (IsOverwritten h (IsTaken pairs (n + 1)) a) (from + k) (slice_index new k)
-        step k l lift = record { attained = go lift.attained; greatest = λ b one. most b one one.meant }
+        go : (let one : ℕ × List ℕ = (c, x) in let other : ℕ × List ℕ = (d, y) in Contains (take n pairs) other ⊎ (one ≡ other)) → IsNew b
+        go (inl before) = inl (d, y, before, writer, apart, reached)
+        go (inr at) =
+            let first : c ≡ d = ap (λ p. p.0) at in
+            let second : x ≡ y = ap (λ p. p.1) at in
+            inr (rw second writer, apart, rw first reached)
+
+    module _ (old known clock : List ℕ) (are : AreLatestPast h (IsOverwritten h (IsTaken pairs n) a) from known old)
+        (reaches : AreLatestOf h (IsBefore h c) from clock) where
+      was_under : (k : ℕ) → k < WIDE → (b : ℕ) → IsOneOf h (IsOverwritten h (IsTaken pairs (n + 1)) a) (from + k) b → IsOverwritten h (IsTaken pairs n) a b
+          → b ≤ max (slice_index old k) (slice_index known k)
+      was_under k l b one before =
+          (are.each k l).greatest b record { committed = one.committed; below = one.below; owned = one.owned; meant = before }
+
+      under_clock : (k : ℕ) → k < WIDE → (b : ℕ) → IsOneOf h (IsOverwritten h (IsTaken pairs (n + 1)) a) (from + k) b → IsReached h b c
+          → b ≤ slice_index clock k
+      under_clock k l b one reached =
+          (reaches.each k l).greatest b record { committed = one.committed; below = one.below; owned = one.owned; meant = reached }
+
+      -- a reading by one with the clock that is known says nothing new
+      pub overwritten_passed : clock ≡ known → AreLatestPast h (IsOverwritten h (IsTaken pairs (n + 1)) a) from known old
+      overwritten_passed same = record {
+        wide = are.wide;
+        each = λ k l. record { attained = still_one k (slice_index old k) (are.each k l).attained; greatest = λ b one. most k l b one (split b one.meant) };
+      }
+        where
+          most : (k : ℕ) → k < WIDE → (b : ℕ) → IsOneOf h (IsOverwritten h (IsTaken pairs (n + 1)) a) (from + k) b → IsNew b
+              → b ≤ max (slice_index old k) (slice_index known k)
+          most k l b one (inl before) = was_under k l b one before
+          most k l b one (inr w) =
+              let up : b ≤ slice_index known k = subst (λ (r : List ℕ). b ≤ slice_index r k) same (under_clock k l b one w.2) in
+              omega (arith, up)
+
+      module _ (new : List ℕ) (same : length new ≡ length old)
+          (each : (k : ℕ) → k < length old → IsLifted owners from clock (writers h x) a k (slice_index old k) (slice_index new k)) where
+        over : (k b : ℕ) → k < WIDE → IsLiftable owners from clock (writers h x) a k b → IsOneOf h (IsOverwritten h (IsTaken pairs (n + 1)) a) (from + k) b
+        over k b l (some, apart, writer, owned, up) =
+            let below : b < count h = All-contains (λ (z : ℕ). z < count h) (writers h x) b (writers_below h x) writer in
+            let mine : owner h b ≡ from + k = sym (known_owners.each b some below) ∙ owned in
+            record {
+              committed = some;
+              below = below;
+              owned = mine;
+              meant = (
+                c,
+                x,
+                rw taken (Contains-push (take n pairs) (c, x)),
+                writer,
+                apart,
+                clock_reaches h numbered c (from + k) (slice_index clock k) b (reaches.each k l) some below mine up,
+              );
+            }
+
+        liftable : (k b : ℕ) → k < WIDE → IsOneOf h (IsOverwritten h (IsTaken pairs (n + 1)) a) (from + k) b → Contains (writers h x) b → b ≢ a → IsReached h b c
+            → IsLiftable owners from clock (writers h x) a k b
+        liftable k b l one writer apart reached =
+            (one.committed, apart, writer, known_owners.each b one.committed one.below ∙ one.owned, under_clock k l b one reached)
+
+        pub overwritten_more : AreLatestPast h (IsOverwritten h (IsTaken pairs (n + 1)) a) from known new
+        overwritten_more = record { wide = same ∙ are.wide; each = λ k l. step k l (each k (omega (arith, l, are.wide))) }
           where
-            was : slice_index new k ≡ slice_index old k → (slice_index old k ≡ 0) ⊎ IsOneOf h (IsOverwritten h (IsTaken pairs n) a) (from + k) (slice_index old k)
-                → (slice_index new k ≡ 0) ⊎ IsOneOf h (IsOverwritten h (IsTaken pairs (n + 1)) a) (from + k) (slice_index new k)
-            was e (inl none) = inl (e ∙ none)
-            was e (inr one) = inr (rw e record { committed = one.committed; below = one.below; owned = one.owned; meant = still_over (slice_index old k) one.meant })
+            step : (k : ℕ) → k < WIDE → IsLifted owners from clock (writers h x) a k (slice_index old k) (slice_index new k)
+                → IsLatestPast h (IsOverwritten h (IsTaken pairs (n + 1)) a) (from + k) (slice_index known k) (slice_index new k)
+            step k l lift = record { attained = go lift.attained; greatest = λ b one. most b one (split b one.meant) }
+              where
+                go : (slice_index new k ≡ slice_index old k) ⊎ IsLiftable owners from clock (writers h x) a k (slice_index new k)
+                    → (slice_index new k ≡ 0) ⊎ IsOneOf h (IsOverwritten h (IsTaken pairs (n + 1)) a) (from + k) (slice_index new k)
+                go (inl e) = rw e (still_one k (slice_index old k) (are.each k l).attained)
+                go (inr w) = inr (over k (slice_index new k) l w)
 
-            go : (slice_index new k ≡ slice_index old k) ⊎ IsLiftable owners from clock (writers h x) a k (slice_index new k)
-                → (slice_index new k ≡ 0) ⊎ IsOneOf h (IsOverwritten h (IsTaken pairs (n + 1)) a) (from + k) (slice_index new k)
-            go (inl e) = was e (are.each k l).attained
-            go (inr w) = inr (over k (slice_index new k) l w)
-
-            by : (b : ℕ) → IsOneOf h (IsOverwritten h (IsTaken pairs (n + 1)) a) (from + k) b → (d : ℕ) (y : List ℕ) → Contains (writers h y) b → b ≢ a
-                → IsReached h b d → (let one : ℕ × List ℕ = (c, x) in let other : ℕ × List ℕ = (d, y) in Contains (take n pairs) other ⊎ (one ≡ other))
-                → b ≤ slice_index new k
-            by b one d y writer apart reached (inl before) =
-                omega (
-                  arith,
-                  lift.kept,
-                  (are.each k l).greatest b record {
-                    committed = one.committed;
-                    below = one.below;
-                    owned = one.owned;
-                    meant = (d, y, before, writer, apart, reached);
-                  },
-                )
-            by b one d y writer apart reached (inr at) =
-                let first : c ≡ d = ap (λ p. p.0) at in
-                let second : x ≡ y = ap (λ p. p.1) at in
-                lift.greatest b (liftable k b l one.committed one.below one.owned (rw second writer) apart (rw first reached))
-
-            most : (b : ℕ) → IsOneOf h (IsOverwritten h (IsTaken pairs (n + 1)) a) (from + k) b → IsOverwritten h (IsTaken pairs (n + 1)) a b → b ≤ slice_index new k
-            most b one (d, y, t, writer, apart, reached) = by b one d y writer apart reached (Contains-push_cases (take n pairs) (c, x) (d, y) (rw taken at t))
+                most : (b : ℕ) → IsOneOf h (IsOverwritten h (IsTaken pairs (n + 1)) a) (from + k) b → IsNew b → b ≤ max (slice_index new k) (slice_index known k)
+                most b one (inl before) = omega (arith, lift.kept, was_under k l b one before)
+                most b one (inr w) = omega (arith, lift.greatest b (liftable k b l one w.0 w.1 w.2))
 
 -- ---- kept links
 -- what is kept of one transaction, and the clock of it, cover what has to stand before it
 module _ (h : History) (numbered : IsBySession h.entries) (from a : ℕ) (low : a < count h) (old new need clock : List ℕ)
-    (needs : AreLatestOf h (IsOverwritten h (IsReadsPair h a) a) from need) (reaches : AreLatestOf h (IsBefore h a) from clock)
+    (needs : AreLatestPast h (IsOverwritten h (IsReadsPair h a) a) from clock need) (reaches : AreLatestOf h (IsBefore h a) from clock)
     (now : (b : ℕ) → Contains new b ↔ (Contains old b ⊎ ((k : ℕ) × (k < length need) × (slice_index need k ≡ b) × (slice_index clock k < b)))) where
   pub row_derived : ((b : ℕ) → Contains old b → Overwrites h a b) → (b : ℕ) → Contains new b → Overwrites h a b
   row_derived before b there = go ((now b).0 there)
@@ -214,27 +237,23 @@ module _ (h : History) (numbered : IsBySession h.entries) (from a : ℕ) (low : 
   row_covers kept row b (small, below, over) some high less = go (owner h b - from) (omega arith) (omega arith)
     where
       go : (k : ℕ) → owner h b ≡ from + k → k < WIDE → IsCovered h kept a b
-      go k mine l = by (needs.each k l).attained (cases_lt (slice_index clock k) (slice_index need k))
+      go k mine l = by (needs.each k l).attained (cases_lt (slice_index clock k) b)
         where
-          most : b ≤ slice_index need k
+          most : b ≤ max (slice_index need k) (slice_index clock k)
           most = (needs.each k l).greatest b record { committed = some; below = below; owned = mine; meant = over }
 
-          after : (v : ℕ) → v ≡ slice_index need k → v < count h → owner h v ≡ from + k → (b ≡ v) ⊎ (b ≢ v) → (b ≡ v) ⊎ IsSessionPair h b v
-          after v at top owned (inl same) = inl same
-          after v at top owned (inr other) = inr (same_session h numbered b v some (omega (arith, most, at, other)) top (mine ∙ sym owned))
+          after : (v : ℕ) → b ≤ v → v < count h → owner h v ≡ from + k → (b ≡ v) ⊎ (b ≢ v) → (b ≡ v) ⊎ IsSessionPair h b v
+          after v up top owned (inl same) = inl same
+          after v up top owned (inr other) = inr (same_session h numbered b v some (omega (arith, up, other)) top (mine ∙ sym owned))
 
           by : (slice_index need k ≡ 0) ⊎ IsOneOf h (IsOverwritten h (IsReadsPair h a) a) (from + k) (slice_index need k)
-              → (slice_index clock k < slice_index need k) ⊎ (slice_index need k ≤ slice_index clock k) → IsCovered h kept a b
-          by (inl none) kind = absurd (omega (arith, most, none))
-          by (inr one) (inl more) = (
+              → (slice_index clock k < b) ⊎ (b ≤ slice_index clock k) → IsCovered h kept a b
+          by kind (inr under) = (b, inl refl, inr (clock_reaches h numbered a (from + k) (slice_index clock k) b (reaches.each k l) some below mine under))
+          by (inl none) (inl past) = absurd (omega (arith, most, none, past))
+          by (inr one) (inl past) = (
             slice_index need k,
-            after (slice_index need k) refl one.below one.owned (cases_eq b (slice_index need k)),
-            inl (rw row ((now (slice_index need k)).1 (inr (k, omega (arith, needs.wide), refl, more)))),
-          )
-          by (inr one) (inr under) = (
-            slice_index need k,
-            after (slice_index need k) refl one.below one.owned (cases_eq b (slice_index need k)),
-            inr (clock_reaches h numbered a (from + k) (slice_index clock k) (slice_index need k) (reaches.each k l) one.committed one.below one.owned under),
+            after (slice_index need k) (omega (arith, most, past)) one.below one.owned (cases_eq b (slice_index need k)),
+            inl (rw row ((now (slice_index need k)).1 (inr (k, omega (arith, l, needs.wide), refl, omega (arith, most, past))))),
           )
 
 -- what was kept stays
@@ -248,7 +267,7 @@ abbrev pub IsUpTo : History → ℕ → ℕ → ℕ → ℕ → Type 0
 IsUpTo h from n a b = (owner h b < from) ⊎ ((owner h b < from + WIDE) × (a < n))
 
 module _ (h : History) (numbered : IsBySession h.entries) (from a : ℕ) (low : a < count h) (kept : List (List ℕ)) (long : length kept ≡ count h)
-    (new need clock : List ℕ) (needs : AreLatestOf h (IsOverwritten h (IsReadsPair h a) a) from need) (reaches : AreLatestOf h (IsBefore h a) from clock)
+    (new need clock : List ℕ) (needs : AreLatestPast h (IsOverwritten h (IsReadsPair h a) a) from clock need) (reaches : AreLatestOf h (IsBefore h a) from clock)
     (now : (b : ℕ) → Contains new b ↔ (Contains (row_of kept a) b ⊎ ((k : ℕ) × (k < length need) × (slice_index need k ≡ b) × (slice_index clock k < b)))) where
   here : row_of (set kept a new) a ≡ new
   here = get_or-set_same kept a new [] (omega (arith, low, long))
@@ -333,10 +352,16 @@ module _ (old mid need clock : List ℕ) (n : ℕ) (before : Keeps old mid need 
 module _ (h : History) (a : ℕ) (rs ps : List ℕ) (long : length rs ≡ length ps)
     (each : (c p : ℕ) → Contains (zip rs ps) (c, p) ↔ ((p < length (keys h)) × IsReadsPair h a c (key_at h p))) where
   -- all of them
-  pub overwritten_all : (from : ℕ) (new : List ℕ) (k : ℕ) → length rs ≤ k
-      → AreLatestOf h (IsOverwritten h (IsTaken (zip rs (map (key_at h) ps)) k) a) from new → AreLatestOf h (IsOverwritten h (IsReadsPair h a) a) from new
-  overwritten_all from new k past are =
-      rows_same h (IsOverwritten h (IsTaken (zip rs (map (key_at h) ps)) k) a) (IsOverwritten h (IsReadsPair h a) a) from new (λ b. (there b, back b)) are
+  pub overwritten_all : (from : ℕ) (known new : List ℕ) (k : ℕ) → length rs ≤ k
+      → AreLatestPast h (IsOverwritten h (IsTaken (zip rs (map (key_at h) ps)) k) a) from known new
+      → AreLatestPast h (IsOverwritten h (IsReadsPair h a) a) from known new
+  overwritten_all from known new k past are = record {
+    wide = are.wide;
+    each = λ s l. record {
+      attained = go s (slice_index new s) (are.each s l).attained;
+      greatest = λ b one. (are.each s l).greatest b record { committed = one.committed; below = one.below; owned = one.owned; meant = back b one.meant };
+    };
+  }
     where
       whole : take k (zip rs (map (key_at h) ps)) ≡ zip rs (map (key_at h) ps)
       whole = take_all k (zip rs (map (key_at h) ps)) (omega (arith, zip-long rs (map (key_at h) ps) (named_long h a rs ps long each)))
@@ -347,13 +372,30 @@ module _ (h : History) (a : ℕ) (rs ps : List ℕ) (long : length rs ≡ length
       back : (b : ℕ) → IsOverwritten h (IsReadsPair h a) a b → IsOverwritten h (IsTaken (zip rs (map (key_at h) ps)) k) a b
       back b (c, x, pair, writer, apart, reached) = (c, x, rw whole ((named_each h a rs ps long each c x).1 pair), writer, apart, reached)
 
-  -- one more
-  pub overwritten_next : IsBySession h.entries → (owners : List ℕ) → AreOwners h owners → (from k : ℕ) → k < length rs → (old new clock : List ℕ)
-      → AreLatestOf h (IsOverwritten h (IsTaken (zip rs (map (key_at h) ps)) k) a) from old → AreLatestOf h (IsBefore h (get_or rs k 0)) from clock
-      → length new ≡ length old
-      → ((s : ℕ) → s < length old → IsLifted owners from clock (writers h (key_at h (get_or ps k 0))) a s (slice_index old s) (slice_index new s))
-      → AreLatestOf h (IsOverwritten h (IsTaken (zip rs (map (key_at h) ps)) (k + 1)) a) from new
-  overwritten_next numbered owners known from k l old new clock are reaches same lift =
-      overwritten_more h numbered owners known from a (zip rs (map (key_at h) ps)) k (get_or rs k 0) (get_or (map (key_at h) ps) k [])
-      (omega (arith, zip-long rs (map (key_at h) ps) (named_long h a rs ps long each)))
-      (zip_at rs (map (key_at h) ps) k 0 [] (named_long h a rs ps long each) l) old new clock are reaches same (rw (named_at h a rs ps long each k l) lift)
+      go : (s v : ℕ) → (v ≡ 0) ⊎ IsOneOf h (IsOverwritten h (IsTaken (zip rs (map (key_at h) ps)) k) a) (from + s) v
+          → (v ≡ 0) ⊎ IsOneOf h (IsOverwritten h (IsReadsPair h a) a) (from + s) v
+      go s v (inl none) = inl none
+      go s v (inr one) = inr record { committed = one.committed; below = one.below; owned = one.owned; meant = there v one.meant }
+
+  module _ (numbered : IsBySession h.entries) (owners : List ℕ) (known_owners : AreOwners h owners) (from k : ℕ) (inside : k < length rs)
+      (old known clock : List ℕ) (are : AreLatestPast h (IsOverwritten h (IsTaken (zip rs (map (key_at h) ps)) k) a) from known old)
+      (reaches : AreLatestOf h (IsBefore h (get_or rs k 0)) from clock) where
+    in_pairs : k < length (zip rs (map (key_at h) ps))
+    in_pairs = omega (arith, inside, zip-long rs (map (key_at h) ps) (named_long h a rs ps long each))
+
+    at_place : get_or (zip rs (map (key_at h) ps)) k (0, []) ≡ (get_or rs k 0, get_or (map (key_at h) ps) k [])
+    at_place = zip_at rs (map (key_at h) ps) k 0 [] (named_long h a rs ps long each) inside
+
+    -- one more
+    pub overwritten_next : (new : List ℕ) → length new ≡ length old
+        → ((s : ℕ) → s < length old → IsLifted owners from clock (writers h (key_at h (get_or ps k 0))) a s (slice_index old s) (slice_index new s))
+        → AreLatestPast h (IsOverwritten h (IsTaken (zip rs (map (key_at h) ps)) (k + 1)) a) from known new
+    overwritten_next new same lift =
+        overwritten_more h numbered owners known_owners from a (zip rs (map (key_at h) ps)) k (get_or rs k 0) (get_or (map (key_at h) ps) k []) in_pairs at_place
+        old known clock are reaches new same (rw (named_at h a rs ps long each k inside) lift)
+
+    -- or one that says nothing new
+    pub overwritten_same : clock ≡ known → AreLatestPast h (IsOverwritten h (IsTaken (zip rs (map (key_at h) ps)) (k + 1)) a) from known old
+    overwritten_same same =
+        overwritten_passed h numbered owners known_owners from a (zip rs (map (key_at h) ps)) k (get_or rs k 0) (get_or (map (key_at h) ps) k []) in_pairs at_place
+        old known clock are reaches same

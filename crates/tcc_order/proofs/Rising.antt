@@ -1,19 +1,17 @@
 -- Writers rise by number, so the last up to what a clock holds of a session is found by halving.
-use Rattle.std.proofs.Common.{◌≡◌, ◌≢◌, ◌<◌, ◌≤◌, ◌+◌, ◌-◌, ◌⊎◌, inl, inr, ℕ, true, false, List, [], ◌∷◌, length, get_or, set, slice_index, refl, sym, ◌∙◌, subst, arith}
-use Rattle.std.specs.List.{filter, All, Contains}
+use Rattle.std.proofs.Common.{◌≡◌, ◌≢◌, ◌<◌, ◌≤◌, ◌+◌, ◌-◌, ◌⊎◌, inl, inr, ℕ, true, false, List, [], ◌∷◌, length, get_or, set, slice_index, refl, ◌∙◌, subst, arith}
+use Rattle.std.specs.List.{All, Contains}
 use Rattle.std.specs.List.Sorted.{IsNonDecreasing, IsPartitionPoint}
 use Rattle.std.specs.Prelude.{nat_le}
 use Rattle.std.proofs.lemmas.Bool.{cases_lt, cases_eq, cases_Bool, leb-true, leb-false}
 use Rattle.std.proofs.lemmas.List.{get_or_default, get_or-set_same, get_or-set_other}
-use Rattle.std.proofs.lemmas.List.Elements.{All-contains}
 use Rattle.std.proofs.lemmas.List.FromFn.{length-range_with_len, get_or-range_with_len}
 use Rattle.std.proofs.lemmas.List.Kept.{IsNonDecreasingBy-filter}
 use Rattle.std.proofs.lemmas.List.Sorted.{IsNonDecreasingBy-from_default, IsNonDecreasingBy-short}
-use Rattle.tcc_reads.specs.History.{History, IsBySession, count, owner}
+use Rattle.tcc_reads.specs.History.{History, IsBySession, count}
 use Rattle.tcc_graph.specs.Keys.{writers, writes, numbers, is_key}
 use Rattle.tcc_order.specs.Lasts.{IsBefore, IsOneOf}
 use Rattle.tcc_order.specs.Latest.{AreOwners, AreLatestOf, IsLiftable, IsLifted, IsLastUpTo, IsLastBut, AreOrdered, IsClock}
-use Rattle.tcc_order.specs.declared.latest.TheConstants.{WIDE}
 
 numbers_rise : (h : History) → IsNonDecreasing (numbers h)
 numbers_rise h = IsNonDecreasingBy-from_default (λ n. n) (numbers h) 0 (λ i j upto below. go i j upto below)

@@ -1,14 +1,15 @@
 -- Of writers, which rise, those of a block of sessions stand together, and the others are lifted by none of its clocks.
-use Rattle.std.proofs.Common.{◌≡◌, ◌<◌, ◌≤◌, ◌+◌, ◌-◌, ◌⊎◌, inl, inr, ℕ, zero, suc, true, false, List, [], ◌∷◌, length, get_or, take, drop, slice_index, refl, sym, ◌∙◌, arith}
+use Rattle.std.proofs.Common.{◌≡◌, ◌<◌, ◌≤◌, ◌+◌, ◌-◌, ◌⊎◌, inl, inr, ℕ, zero, suc, true, false, List, [], ◌∷◌, ◌++◌, length, length-append, get_or, take, drop, refl, sym, subst, ◌∙◌, arith}
 use Rattle.std.specs.Prelude.{nat_lt}
 use Rattle.std.specs.List.{All, Contains}
 use Rattle.std.specs.List.Sorted.{IsNonDecreasing, IsPartitionPoint}
 use Rattle.std.proofs.lemmas.Bool.{cases_lt, ltb-true, lt-ltb, false≢true}
-use Rattle.std.proofs.lemmas.List.{get_or_default, get_or-take, get_or-drop, length-take-le, length-drop}
+use Rattle.std.proofs.lemmas.List.{get_or_default, get_or-take, get_or-drop, get_or_append_left, get_or_at, length-take-le, length-drop}
 use Rattle.std.proofs.lemmas.List.Elements.{All-weaker, All-contains, All-contains_itself}
 use Rattle.std.proofs.lemmas.List.Sorted.{IsNonDecreasingBy-from_default, IsNonDecreasingBy-short}
-use Rattle.tcc_reads.specs.History.{History, IsBySession, count, owner}
-use Rattle.tcc_order.specs.Latest.{AreOwners, IsLiftable, IsLifted, IsCountBelow, IsBetween, AreBounds}
+use Rattle.tcc_reads.specs.History.{History, IsBySession}
+use Rattle.tcc_graph.specs.Keys.{key_at, writers}
+use Rattle.tcc_order.specs.Latest.{AreOwners, IsLiftable, IsLifted, IsCountBelow, IsBetween, IsSpan, AreSpans, AreBounds}
 use Rattle.tcc_order.specs.declared.latest.TheConstants.{WIDE}
 
 pub counted : (xs : List ℕ) (bound end : ℕ) → end ≤ length xs → IsPartitionPoint (λ b. nat_lt b bound ≡ true) (λ b. nat_lt b bound ≡ false) xs end
@@ -72,6 +73,35 @@ module _ (xs : List ℕ) (rising : IsNonDecreasing xs) (low high start end : ℕ
             let l : w.0 - start < end - start = omega (arith, w.1, w.2) in
             let back : start + (w.0 - start) ≡ w.0 = omega (arith, w.1) in
             (w.0 - start, omega (arith, l, long), at (w.0 - start) b l ∙ (rw back (get_or_default xs w.0 b 0 w.3 ∙ w.4)))
+
+-- those from where they begin to where they end
+pub between_span : (xs : List ℕ) → IsNonDecreasing xs → (low high start end : ℕ) → IsSpan xs low high start end
+    → IsBetween xs low high (take (end - start) (drop start xs))
+between_span xs rising low high start end span = go (cases_lt start end)
+  where
+    nothing : (n : ℕ) → n ≡ 0 → take n (drop start xs) ≡ []
+    nothing n none = rw none refl
+
+    go : (start < end) ⊎ (end ≤ start) → IsBetween xs low high (take (end - start) (drop start xs))
+    go (inl some) = some_between xs rising low high start end span.first span.last some
+    go (inr none) =
+        subst (λ (part : List ℕ). IsBetween xs low high part) (sym (nothing (end - start) (omega (arith, none))))
+        (none_between xs rising low high start end span.first span.last none)
+
+pub spans_more : (h : History) (low high : ℕ) (spans : List (ℕ × ℕ)) (n : ℕ) (span : ℕ × ℕ) → AreSpans h low high spans n
+    → IsSpan (writers h (key_at h n)) low high span.0 span.1 → AreSpans h low high (spans ++ span ∷ []) (n + 1)
+spans_more h low high spans n span are one = record {
+  long = omega (arith, length-append spans (span ∷ []), are.long);
+  each = λ place l. go place l (cases_lt place n);
+}
+  where
+    go : (place : ℕ) → place < n + 1 → (place < n) ⊎ (n ≤ place)
+        → IsSpan (writers h (key_at h place)) low high (get_or (spans ++ span ∷ []) place (0, 0)).0 (get_or (spans ++ span ∷ []) place (0, 0)).1
+    go place l (inl early) = rw (get_or_append_left spans (span ∷ []) (0, 0) place (omega (arith, early, are.long))) (are.each place early)
+    go place l (inr late) =
+        let here : length spans ≡ place = omega (arith, l, late, are.long) in
+        let at : place ≡ n = omega (arith, l, late) in
+        rw (get_or_at spans span [] (0, 0) place here, at) one
 
 pub all_between : (P : ℕ → Type 0) (xs : List ℕ) (low high : ℕ) (part : List ℕ) → IsBetween xs low high part → All P xs → All P part
 all_between P xs low high part are all =

@@ -1,10 +1,10 @@
 -- For the private stages and their proofs alone: nobody has to believe what stands here.
 -- The greatest numbers of the sessions of a block, of some transactions alone; and the links that are kept by them.
-use Rattle.std.specs.Prelude.{ℕ, ◌<◌, ◌≤◌, ◌+◌, ◌≡◌, ◌≢◌, ◌⊎◌, ◌==◌, ◌&&◌, nat_lt, nat_le, not, if◌then◌else◌, max, List, length, slice_index, Contains}
+use Rattle.std.specs.Prelude.{ℕ, ◌<◌, ◌≤◌, ◌+◌, ◌≡◌, ◌≢◌, ◌⊎◌, ◌==◌, ◌&&◌, nat_lt, nat_le, not, if◌then◌else◌, max, List, length, slice_index, slice_index_or, Contains}
 use Rattle.std.specs.List.Sorted.{IsNonDecreasing}
 use Rattle.tcc_reads.specs.History.{History, count, owner}
 use Rattle.tcc_graph.specs.Relations.{IsCausalPair, IsReadsPair, IsSessionPair}
-use Rattle.tcc_graph.specs.Keys.{writers}
+use Rattle.tcc_graph.specs.Keys.{key_at, writers}
 use Rattle.tcc_graph.specs.Orders.{Before}
 use Rattle.tcc_graph.specs.Tables.{row_of}
 use Rattle.tcc_graph.specs.Walks.{IsReached}
@@ -28,6 +28,23 @@ pub record IsLatestOf (h : History) (Is : ℕ → Type 0) (session : ℕ) (lates
 pub record AreLatestOf (h : History) (Is : ℕ → Type 0) (from : ℕ) (row : List ℕ) : Type 0 where
   pub wide : length row ≡ WIDE
   pub each : (k : ℕ) → k < WIDE → IsLatestOf h Is (from + k) (slice_index row k)
+
+-- the same of those past a number that is known: the greatest of them, if there are any
+pub record IsLatestPast (h : History) (Is : ℕ → Type 0) (session : ℕ) (known : ℕ) (latest : ℕ) : Type 0 where
+  pub attained : (latest ≡ 0) ⊎ IsOneOf h Is session latest
+  pub greatest : (b : ℕ) → IsOneOf h Is session b → b ≤ max latest known
+
+pub record AreLatestPast (h : History) (Is : ℕ → Type 0) (from : ℕ) (known : List ℕ) (row : List ℕ) : Type 0 where
+  pub wide : length row ≡ WIDE
+  pub each : (k : ℕ) → k < WIDE → IsLatestPast h Is (from + k) (slice_index known k) (slice_index row k)
+
+-- p is `init`, or of no session of the block
+abbrev pub IsOutside : List ℕ → ℕ → ℕ → Type 0
+IsOutside owners from p = (0 < p) → (k : ℕ) → k < WIDE → slice_index owners p ≢ from + k
+
+-- p has the row of another, and is outside of the block
+abbrev pub IsLike : List (List ℕ) → List ℕ → ℕ → ℕ → ℕ → Type 0
+IsLike table owners from other p = (row_of table p ≡ row_of table other) × IsOutside owners from p
 
 -- the greatest number of session k of the block, raised by p where p is of it
 abbrev pub lifted : List ℕ → ℕ → ℕ → ℕ → ℕ → ℕ
@@ -127,6 +144,17 @@ pub record IsBetween (numbers : List ℕ) (low : ℕ) (high : ℕ) (found : List
   pub among : (b : ℕ) → Contains found b → Contains numbers b
   pub all : (b : ℕ) → Contains numbers b → low ≤ b → b < high → Contains found b
   pub rising : IsNonDecreasing found
+
+-- those of these numbers from `low` to below `high` begin and end at these places
+pub record IsSpan (numbers : List ℕ) (low : ℕ) (high : ℕ) (start : ℕ) (end : ℕ) : Type 0 where
+  pub first : IsCountBelow numbers low start
+  pub last : IsCountBelow numbers high end
+
+-- so for the writers of each key
+pub record AreSpans (h : History) (low : ℕ) (high : ℕ) (spans : List (ℕ × ℕ)) (end : ℕ) : Type 0 where
+  pub long : length spans ≡ end
+  pub each : (place : ℕ) → place < end
+      → IsSpan (writers h (key_at h place)) low high (slice_index_or spans place (0, 0)).0 (slice_index_or spans place (0, 0)).1
 
 -- the transactions of the sessions of a block stand from `low` to below `high`
 abbrev pub AreBounds : List ℕ → ℕ → ℕ → ℕ → Type 0

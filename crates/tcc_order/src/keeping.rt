@@ -1,18 +1,21 @@
 //! The links at `Causal` that are kept: of each transaction and each session the last one that has to stand before it, where
 //! it doesn't reach it.
-ghost use Rattle.std.specs.Prelude.{◌≡◌, ◌≢◌, ◌<◌, ◌≤◌, ◌+◌, ◌⊎◌, ◌↔◌, ℕ, length, slice_index, All, Contains, IfOk, OnOk};
+ghost use Rattle.std.specs.Prelude.{◌≡◌, ◌≢◌, ◌<◌, ◌≤◌, ◌+◌, ◌⊎◌, ◌↔◌, ℕ, length, slice_index, All, Contains, IfOk, OnOk, ◌-◌, take, drop};
 ghost use Rattle.tcc_reads.specs.History.{IsBySession, count, owner};
 ghost use Rattle.tcc_graph.specs.Relations.{IsReadsPair};
-ghost use Rattle.tcc_order.specs.Latest.{AreOwners, AreLatestOf, AreClocks, IsOverwritten, IsLifted, AreDerived, AreEnough, AreLinks, Overwrites, HasNone, LeadsOnward, lifted_by};
+ghost use Rattle.tcc_order.specs.Latest.{AreOwners, AreClocks, IsOverwritten, IsLifted, AreDerived, AreEnough, AreLinks, Overwrites, HasNone, LeadsOnward, lifted_by};
 ghost use Rattle.tcc_graph.specs.Levels.{causally};
+ghost use Rattle.tcc_graph.specs.Keys.{keys};
+ghost use Rattle.tcc_graph.specs.Tables.{row_of};
 ghost use Rattle.tcc_graph.specs.Orders.{IsNumbering};
 ghost use Rattle.tcc_order.specs.Parents.{AreSessionParents};
-ghost use Rattle.tcc_order.specs.Latest.{AreOrdered, IsClock, IsLastUpTo, IsLastBut, IsCountBelow, IsBetween, AreBounds};
+ghost use Rattle.tcc_order.specs.Latest.{AreOrdered, IsClock, IsLastUpTo, IsLastBut, IsCountBelow, AreLatestPast, IsSpan, AreSpans, AreBounds};
 ghost use Rattle.tcc_order.specs.declared.latest.TheConstants.{WIDE};
 ghost use Rattle.std.specs.List.Sorted.{IsNonDecreasing, IsPartitionPoint};
 ghost use Rattle.std.specs.Prelude.{nat_le, true, false, ◌∷◌, []};
 
-use crate::latest::{WIDE, clocks_of, owners};
+use crate::latest::{WIDE, find_clocks, owners};
+use crate::sharing::SharedRows;
 use std::alloc::Global;
 use tcc_graph::LargeGraph;
 use tcc_near::Row;
@@ -57,15 +60,41 @@ fn count_below(numbers: &[u32], bound: usize) -> usize
     numbers.partition_point(|number| (*number as usize) < bound)
 }
 
-/// Of these numbers, which rise, those from `low` to below `high`.
-fn between(numbers: &[u32], low: usize, high: usize) -> &[u32]
+/// Where those of these numbers, which rise, from `low` to below `high` begin and end.
+fn span_of(numbers: &[u32], low: usize, high: usize) -> (usize, usize)
     requires { IsNonDecreasing numbers.now }
-    ensures { IsBetween numbers.now low high result.now }
+    ensures { IsSpan numbers.now low high result.0 result.1 }
 {
     let start = count_below(numbers, low);
     let end = count_below(numbers, high);
-    if start < end {
-        &numbers[start..end]
+    (start, end)
+}
+
+/// Where the transactions from `low` to below `high` begin and end among the writers of each key.
+fn find_spans(
+    spans: &mut Vec<(usize, usize)>,
+    graph: &LargeGraph,
+    bounds: (usize, usize),
+) -> Result<(), NoMemory>
+    ensures { OnOk result (AreSpans graph.now bounds.0 bounds.1 spans.new.items (length (keys graph.now))) }
+{
+    spans.clear();
+    for (place, _key) in graph.keys().iter().enumerate() {
+        let Ok(key) = u32::try_from(place) else {
+            return Err(NoMemory);
+        };
+        spans.push(span_of(graph.writers_at(key), bounds.0, bounds.1))?;
+    }
+    Ok(())
+}
+
+/// Of these numbers those from one place to before the other.
+fn between(numbers: &[u32], span: (usize, usize)) -> &[u32]
+    requires { span.1 ≤ length numbers.now }
+    ensures { result.now ≡ take (span.1 - span.0) (drop span.0 numbers.now) }
+{
+    if span.0 < span.1 {
+        &numbers[span.0..span.1]
     } else {
         &[]
     }
@@ -181,15 +210,16 @@ fn block_bounds(owners: &[u32], from: u32) -> (usize, usize)
     )
 }
 
-/// Of each session of the block the last transaction that has to stand before `a`: that overwrote a value of `a`, and
-/// reaches who read it.
+/// Of each session of the block the last transaction past those that reach `a` that has to stand before `a`: that overwrote
+/// a value of `a`, and reaches who read it. What reaches a reader with the clock of `a` reaches `a`.
 fn needed(
     need: &mut [u32],
     graph: &LargeGraph,
     owners: &[u32],
     from: u32,
     bounds: (usize, usize),
-    table: &[Row<u32>],
+    spans: &[(usize, usize)],
+    table: &SharedRows,
     a: u32,
 )
     requires wide { length need.old ≡ WIDE }
@@ -197,15 +227,18 @@ fn needed(
     requires owners { AreOwners graph.now owners.now }
     requires bounds { AreBounds owners.now from bounds.0 bounds.1 }
     requires clocks { AreClocks graph.now from table.now }
+    requires spans { AreSpans graph.now bounds.0 bounds.1 spans.now (length (keys graph.now)) }
     requires below { a < count graph.now }
-    ensures { AreLatestOf graph.now (IsOverwritten graph.now (IsReadsPair graph.now a) a) from need.new }
+    ensures { AreLatestPast graph.now (IsOverwritten graph.now (IsReadsPair graph.now a) a) from (row_of table.now a) need.new }
 {
     need.fill(0);
     let (readers, places) = graph.readings_at(a);
     for (place, reader) in readers.iter().enumerate() {
-        let clock = table[*reader as usize].values();
-        let writers = between(graph.writers_at(places[place]), bounds.0, bounds.1);
-        lift_writers(need, owners, from, clock, writers, a);
+        if !table.are_same(*reader, a) {
+            let key = places[place];
+            let writers = between(graph.writers_at(key), spans[key as usize]);
+            lift_writers(need, owners, from, table.get(*reader), writers, a);
+        }
     }
 }
 
@@ -224,13 +257,13 @@ fn keep(kept: &mut Row<u32>, need: &[u32], clock: &[u32]) -> Result<(), NoMemory
 }
 
 /// Keeps the links from the sessions of a block.
-pub(crate) fn keep_block(
+fn keep_block(
     alloc: Global,
     kept: &mut [Row<u32>],
     graph: &LargeGraph,
     owners: &[u32],
     from: u32,
-    table: &[Row<u32>],
+    table: &SharedRows,
 ) -> Result<(), NoMemory>
     requires numbered { IsBySession graph.now.entries }
     requires owners { AreOwners graph.now owners.now }
@@ -244,9 +277,11 @@ pub(crate) fn keep_block(
 {
     let mut need = vec![in alloc; 0; WIDE]?;
     let bounds = block_bounds(owners, from);
+    let mut spans = Vec::new(alloc);
+    find_spans(&mut spans, graph, bounds)?;
     for a in 0..graph.count() {
-        needed(&mut need, graph, owners, from, bounds, table, a);
-        keep(&mut kept[a as usize], &need, table[a as usize].values())?;
+        needed(&mut need, graph, owners, from, bounds, &spans, table, a);
+        keep(&mut kept[a as usize], &need, table.get(a))?;
     }
     Ok(())
 }
@@ -277,10 +312,11 @@ pub(crate) fn causal_links(
 {
     let owners = owners(alloc, graph)?;
     let mut kept = no_links(alloc, graph.count())?;
+    let mut table = SharedRows::new(alloc, graph.count())?;
     let sessions = graph.sessions().len();
     for block in 0..sessions.div_ceil(WIDE) {
         let from = (block * WIDE) as u32;
-        let table = clocks_of(alloc, graph, parents, &owners, from, order)?;
+        find_clocks(&mut table, alloc, graph, parents, &owners, from, order)?;
         keep_block(alloc, &mut kept, graph, &owners, from, &table)?;
     }
     Ok(kept)

@@ -1,18 +1,19 @@
 //! Of a block of sessions the greatest number that reaches each transaction, worked out along an order.
-ghost use Rattle.std.specs.Prelude.{◌≡◌, ◌<◌, ◌≤◌, ◌++◌, ℕ, length, slice_index, All, Contains, IfOk, OnOk};
+ghost use Rattle.std.specs.Prelude.{◌≡◌, ◌<◌, ◌≤◌, false, ℕ, List, length, set, slice_index, All, Contains, IfOk, IfSome, OnOk};
 ghost use Rattle.tcc_reads.specs.History.{IsBySession, count};
 ghost use Rattle.tcc_graph.specs.Tables.{row_of};
 ghost use Rattle.tcc_graph.specs.Orders.{IsNumbering};
 ghost use Rattle.tcc_order.specs.Parents.{AreSessionParents, HasSourcesAt, parents};
 ghost use Rattle.tcc_order.specs.Lasts.{IsBefore, IsUpTo};
-ghost use Rattle.tcc_order.specs.Latest.{AreOwners, AreLatestOf, AreClocks, LeadsOnward, lifted};
+ghost use Rattle.tcc_order.specs.Latest.{AreOwners, AreLatestOf, AreClocks, IsOutside, IsLike, LeadsOnward, lifted};
 ghost use Rattle.tcc_order.specs.declared.latest.TheConstants.{WIDE};
 
-use crate::clocking::{empty_rows, raise_each};
+use crate::clocking::raise_each;
 use crate::parents::find_parents;
+use crate::sharing::{Clock, SharedRows};
 use std::alloc::{AllocError, Global};
 use tcc_graph::LargeGraph;
-use tcc_near::Row;
+use tcc_txn::NoMemory;
 
 /// How many sessions are looked at together.
 pub(crate) const WIDE: usize = 64;
@@ -49,51 +50,100 @@ pub(crate) fn lift(row: &mut [u32], owners: &[u32], from: u32, p: u32)
 
 /// The greatest numbers of these transactions and of what reaches them, by the rows of what does.
 fn latest_row(
-    row: &mut [u32],
     graph: &LargeGraph,
     owners: &[u32],
     from: u32,
-    table: &[Row<u32>],
+    table: &SharedRows,
     numbers: &[u32],
-)
-    requires wide { length row.old ≡ WIDE }
+) -> Clock
     requires owners { AreOwners graph.now owners.now }
     requires inside { All (λ p. p < count graph.now) numbers.now }
     requires long { length table.now ≡ count graph.now }
     requires latest { All (λ p. AreLatestOf graph.now (IsBefore graph.now p) from (row_of table.now p)) numbers.now }
-    ensures { AreLatestOf graph.now (IsUpTo graph.now (Contains numbers.now)) from row.new }
+    ensures { AreLatestOf graph.now (IsUpTo graph.now (Contains numbers.now)) from result }
 {
-    row.fill(0);
+    let mut row = [0; WIDE];
     for number in numbers {
-        raise_each(row, table[*number as usize].values());
-        lift(row, owners, from, *number);
+        raise_each(&mut row, table.get(*number));
+        lift(&mut row, owners, from, *number);
     }
+    row
+}
+
+/// Whether a transaction is of a session of the block.
+fn is_inside(owners: &[u32], from: u32, p: u32) -> bool
+    requires { p < length owners.now }
+    ensures { result ≡ false → IsOutside owners.now from p }
+{
+    let owner = owners[p as usize];
+    p > 0 && owner >= from && ((owner - from) as usize) < WIDE
+}
+
+/// One of these transactions with whose row they all are known to be, where none of them is of the block.
+fn like(table: &SharedRows, owners: &[u32], from: u32, numbers: &[u32]) -> Option<u32>
+    requires inside { All (λ p. p < length owners.now) numbers.now }
+    requires long { length table.now ≡ length owners.now }
+    ensures one { IfSome result (λ other. Contains numbers.now other) }
+    ensures all { IfSome result (λ other. (k : ℕ) → k < length numbers.now → IsLike table.now owners.now from other (slice_index numbers.now k)) }
+{
+    let other = *numbers.first()?;
+    for number in numbers {
+        if !table.are_same(*number, other) || is_inside(owners, from, *number) {
+            return None;
+        }
+    }
+    Some(other)
+}
+
+/// Gives a transaction its row, by the rows of those right before it.
+fn put_row(
+    table: &mut SharedRows,
+    graph: &LargeGraph,
+    owners: &[u32],
+    from: u32,
+    numbers: &[u32],
+    c: u32,
+) -> Result<(), NoMemory>
+    requires owners { AreOwners graph.now owners.now }
+    requires inside { All (λ p. p < count graph.now) numbers.now }
+    requires long { length table.old ≡ count graph.now }
+    requires latest { All (λ p. AreLatestOf graph.now (IsBefore graph.now p) from (row_of table.old p)) numbers.now }
+    requires below { c < count graph.now }
+    ensures { OnOk result ((row : List ℕ) × (table.new ≡ set table.old c row)
+        × AreLatestOf graph.now (IsUpTo graph.now (Contains numbers.now)) from row) }
+{
+    if let Some(other) = like(table, owners, from, numbers) {
+        table.share(c, other);
+        return Ok(());
+    }
+    let row = latest_row(graph, owners, from, table, numbers);
+    table.put_like(c, &row, numbers)
 }
 
 /// Of each transaction and each session of the block the greatest number of the session that reaches it, 0 for none; by an
 /// order in which causal pairs lead onward.
-pub(crate) fn clocks_of(
+pub(crate) fn find_clocks(
+    table: &mut SharedRows,
     alloc: Global,
     graph: &LargeGraph,
     parents: &[u32],
     owners: &[u32],
     from: u32,
     order: &[u32],
-) -> Result<Vec<Row<u32>>, AllocError>
+) -> Result<(), NoMemory>
     requires numbered { IsBySession graph.now.entries }
     requires parents { AreSessionParents graph.now parents.now }
     requires owners { AreOwners graph.now owners.now }
     requires numbering { IsNumbering (count graph.now) order.now }
     requires onward { LeadsOnward graph.now order.now }
-    ensures { IfOk result (λ table. AreClocks graph.now from table.items) }
+    requires long { length table.old ≡ count graph.now }
+    ensures { OnOk result (AreClocks graph.now from table.new) }
 {
-    let mut table = empty_rows(alloc, graph.count())?;
-    let mut row = vec![in alloc; 0; WIDE]?;
+    table.clear();
     let mut found = Vec::new(alloc);
     for number in order {
         find_parents(&mut found, graph, parents, *number)?;
-        latest_row(&mut row, graph, owners, from, &table, &found);
-        table[*number as usize] = Row::new(row.to_vec(alloc)?);
+        put_row(table, graph, owners, from, &found, *number)?;
     }
-    Ok(table)
+    Ok(())
 }

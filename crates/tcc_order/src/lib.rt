@@ -9,6 +9,7 @@ pub mod laws;
 mod ordering;
 mod parents;
 mod placing;
+mod sharing;
 mod stepping;
 
 pub use clocking::clocks;

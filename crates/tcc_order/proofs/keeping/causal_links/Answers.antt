@@ -10,13 +10,13 @@ loop-block-init c =
     let h = c.args.graph.now in
     let kept = c.in_ok-kept.kept.items in
     let long : length kept ≡ count h = search rules in
-    (long, none_derived (Overwrites h) kept c.in_ok-kept.ensures.none, λ a b over some less. absurd (omega (arith, less)))
+    (search rules, long, none_derived (Overwrites h) kept c.in_ok-kept.ensures.none, λ a b over some less. absurd (omega (arith, less)))
 
 pub keep_block-requires-clause-derived : goal.keep_block-requires-clause-derived
-keep_block-requires-clause-derived c = rw c.deref_mut.ensures.value c.loop-block.invariant.1
+keep_block-requires-clause-derived c = rw c.deref_mut.ensures.value c.loop-block.invariant.2
 
 pub keep_block-requires-clause-enough : goal.keep_block-requires-clause-enough
-keep_block-requires-clause-enough c = rw c.deref_mut.ensures.value c.loop-block.invariant.2
+keep_block-requires-clause-enough c = rw c.deref_mut.ensures.value c.loop-block.invariant.3
 
 pub loop-block-preserved : goal.loop-block-preserved
 loop-block-preserved c =
@@ -27,7 +27,8 @@ loop-block-preserved c =
     let long : c.loop-block.kept.len ≡ length old = search rules in
     let whole : take c.loop-block.kept.len (new ++ drop (length new) old) ≡ new = take_at new (drop (length new) old) c.loop-block.kept.len (same ∙ sym long) in
     rw whole (
-      same ∙ inv.0,
+      c.in_ok-find_clocks.ensures.long,
+      same ∙ inv.1,
       c.in_ok-keep_block.ensures.derived,
       λ a b over some less. c.in_ok-keep_block.ensures.enough a b over some (omega (arith, less)),
     )
@@ -39,4 +40,7 @@ returns c =
     let owned : (b : ℕ) → 0 < b → b < count h → owner h b < length c.sessions-sessions.result.now = c.sessions-sessions.ensures.owners in
     let cover : length c.sessions-sessions.result.now ≤ c.loop-block.block * WIDE
     = blocks_cover (length c.sessions-sessions.result.now) c.loop-block.block (omega (arith, c.loop-block-test.false, c.div_ceil-block-end.ensures)) in
-    causal_links h c.loop-block.kept.items inv.0 inv.1 (λ a b over some t. inv.2 a b over some (omega (arith, owned b some over.1, cover)))
+    causal_links h c.loop-block.kept.items inv.1 inv.2 (λ a b over some t. inv.3 a b over some (omega (arith, owned b some over.1, cover)))
+
+pub find_clocks-requires-clause-long : goal.find_clocks-requires-clause-long
+find_clocks-requires-clause-long c = c.loop-block.invariant.0

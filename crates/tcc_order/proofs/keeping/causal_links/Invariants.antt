@@ -6,6 +6,7 @@ use Rattle.tcc_order.proofs.keeping.causal_links.Given as goal
 
 abbrev pub invariant-loop-block : goal.invariant-loop-block
 invariant-loop-block l =
-    (length l.kept.items ≡ count l.graph)
+    (length l.table ≡ count l.graph)
+    × (length l.kept.items ≡ count l.graph)
     × AreDerived (Overwrites l.graph) l.kept.items
     × AreEnough l.graph (Overwrites l.graph) (λ a b. owner l.graph b < l.block * WIDE) l.kept.items

@@ -1,11 +1,11 @@
 use Rattle.std.proofs.Common.{rules, ◌≡◌, ◌<◌, ◌∙◌, ◌++◌, ◌↔◌, ◌⊎◌, inl, inr, ℕ, [], length, get_or, slice_index, take, drop, refl, sym, arith, take_at}
 use Rattle.std.specs.Prelude.{Contains}
-use Rattle.std.proofs.lemmas.List.{get_or_read, get_or_default, length-set}
+use Rattle.std.proofs.lemmas.List.{get_or_default, length-set}
 use Rattle.tcc_reads.specs.History.{History, count, owner}
 use Rattle.tcc_graph.specs.Relations.{IsReadsPair}
 use Rattle.tcc_graph.specs.Tables.{row_of}
 use Rattle.tcc_order.specs.Lasts.{IsBefore}
-use Rattle.tcc_order.specs.Latest.{AreLatestOf, IsOverwritten}
+use Rattle.tcc_order.specs.Latest.{AreLatestOf, AreLatestPast, IsOverwritten}
 use Rattle.tcc_order.proofs.Needing.{IsUpTo, kept_derived, kept_enough}
 use Rattle.tcc_order.proofs.Spans.{owners_rise}
 use Rattle.tcc_order.proofs.keeping.keep_block.Goals as goal
@@ -28,13 +28,11 @@ keep-requires c =
     let h = c.args.graph.now in
     let a = c.loop-a.a in
     let low : a < count h = search rules in
-    let row : c.values.result.now ≡ row_of c.args.table.now a
-    = c.values.ensures ∙ get_or_read c.args.table.now a c.index-table-a.result (omega (arith, low, c.requires.clocks.long)) c.index-table-a.is [] in
     let same : length c.needed.new.need ≡ length c.loop-a.need.items = c.needed.ensures.wide ∙ sym c.loop-a.invariant.0 in
     let long : c.loop-a.need.len ≡ length c.loop-a.need.items = search rules in
     let whole : take c.loop-a.need.len (c.needed.new.need ++ drop (length c.needed.new.need) c.loop-a.need.items) ≡ c.needed.new.need
     = take_at c.needed.new.need (drop (length c.needed.new.need) c.loop-a.need.items) c.loop-a.need.len (same ∙ sym long) in
-    rw (c.deref.ensures.value, whole, row) (c.needed.ensures.wide ∙ sym (c.requires.clocks.each a low low).wide)
+    rw (c.deref-in-loop-a.ensures.value, whole, c.get.ensures) (c.needed.ensures.wide ∙ sym (c.requires.clocks.each a low low).wide)
 
 pub loop-a-preserved : goal.loop-a-preserved
 loop-a-preserved c =
@@ -47,8 +45,6 @@ loop-a-preserved c =
     let need = c.needed.new.need in
     let new = c.keep.new.kept in
     let clock = row_of c.args.table.now a in
-    let row : c.values.result.now ≡ row_of c.args.table.now a
-    = c.values.ensures ∙ get_or_read c.args.table.now a c.index-table-a.result (omega (arith, low, c.requires.clocks.long)) c.index-table-a.is [] in
     let same : length need ≡ length c.loop-a.need.items = c.needed.ensures.wide ∙ sym inv.0 in
     let long : c.loop-a.need.len ≡ length c.loop-a.need.items = search rules in
     let whole : take c.loop-a.need.len (need ++ drop (length need) c.loop-a.need.items) ≡ need
@@ -56,9 +52,9 @@ loop-a-preserved c =
     let all : length kept ≡ count h = inv.1 ∙ c.requires.long in
     let was : get_or kept a c.index-kept-a.result ≡ row_of kept a = get_or_default kept a c.index-kept-a.result [] (omega (arith, low, all)) in
     let now : (b : ℕ) → Contains new b ↔ (Contains (row_of kept a) b ⊎ ((k : ℕ) × (k < length need) × (slice_index need k ≡ b) × (slice_index clock k < b)))
-    = rw (c.deref.ensures.value, whole, row, was) at c.in_ok-keep.ensures in
+    = rw (c.deref-in-loop-a.ensures.value, whole, c.get.ensures, was) at c.in_ok-keep.ensures in
     let reaches : AreLatestOf h (IsBefore h a) from clock = c.requires.clocks.each a low low in
-    let needs : AreLatestOf h (IsOverwritten h (IsReadsPair h a) a) from need = c.needed.ensures in
+    let needs : AreLatestPast h (IsOverwritten h (IsReadsPair h a) a) from clock need = c.needed.ensures in
     rw whole (
       needs.wide,
       length-set kept a new ∙ inv.1,
@@ -70,3 +66,6 @@ pub returns-clause-enough : goal.returns-clause-enough
 returns-clause-enough c = λ a b over some less.
     let low : a < c.loop-a.a = omega (arith, over.0, c.loop-a-test.false, c.count-a-end.ensures.value) in
     c.loop-a.invariant.3 a b over some (inr (less, low))
+
+pub needed-requires-clause-spans : goal.needed-requires-clause-spans
+needed-requires-clause-spans c = rw c.deref.ensures.value c.in_ok-find_spans.ensures

@@ -1,4 +1,4 @@
-use Rattle.std.proofs.Common.{◌<◌, arith}
+use Rattle.std.proofs.Common.{arith}
 use Rattle.tcc_order.proofs.Rising.{last_none, last_there}
 use Rattle.tcc_order.proofs.keeping.last_up_to.Goals as goal
 

@@ -1,10 +1,11 @@
 use Rattle.std.proofs.Common.{map}
 use Rattle.std.specs.Prelude.{zip}
 use Rattle.tcc_graph.specs.Keys.{key_at}
-use Rattle.tcc_order.specs.Latest.{AreLatestOf, IsOverwritten}
+use Rattle.tcc_graph.specs.Tables.{row_of}
+use Rattle.tcc_order.specs.Latest.{AreLatestPast, IsOverwritten}
 use Rattle.tcc_order.proofs.Readings.{IsTaken}
 use Rattle.tcc_order.proofs.keeping.needed.Given as goal
 
 abbrev pub invariant-loop-place : goal.invariant-loop-place
 invariant-loop-place l =
-    AreLatestOf l.graph (IsOverwritten l.graph (IsTaken (zip l.readers (map (key_at l.graph) l.places)) l.place) l.a) l.from l.need
+    AreLatestPast l.graph (IsOverwritten l.graph (IsTaken (zip l.readers (map (key_at l.graph) l.places)) l.place) l.a) l.from (row_of l.table l.a) l.need

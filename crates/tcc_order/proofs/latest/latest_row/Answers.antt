@@ -1,9 +1,9 @@
-use Rattle.std.proofs.Common.{rules, ◌≡◌, ◌<◌, ◌∙◌, ℕ, [], length, get_or, slice_index, refl, arith}
+use Rattle.std.proofs.Common.{◌≡◌, ◌<◌, ℕ, [], length, get_or, replicate, slice_index, refl, arith}
 use Rattle.std.specs.Prelude.{max, Contains}
+use Rattle.std.proofs.lemmas.List.{get_or-replicate, length-replicate}
 use Rattle.tcc_near.proofs.FreshLemmas.{nothing_in}
 use Rattle.tcc_order.specs.Lasts.{IsUpTo}
 use Rattle.tcc_order.specs.declared.latest.TheConstants.{WIDE}
-use Rattle.std.proofs.lemmas.List.{get_or_read}
 use Rattle.tcc_reads.specs.History.{count}
 use Rattle.tcc_graph.specs.Tables.{row_of}
 use Rattle.tcc_order.specs.Latest.{lifted}
@@ -12,9 +12,8 @@ use Rattle.tcc_order.proofs.latest.latest_row.Goals as goal
 
 pub loop-number-init : goal.loop-number-init
 loop-number-init c =
-    let zeros : (k : ℕ) → k < length c.fill.new.self → get_or c.fill.new.self k 0 ≡ 0 = search rules in
-    let wide : length c.fill.new.self ≡ WIDE = c.fill.ensures.len ∙ c.requires.wide in
-    latest_none c.args.graph.now (IsUpTo c.args.graph.now (Contains [])) c.args.from c.fill.new.self wide zeros (λ b w. nothing_in w.0 w.1)
+    latest_none c.args.graph.now (IsUpTo c.args.graph.now (Contains [])) c.args.from (replicate WIDE 0) (length-replicate {A = ℕ} WIDE 0)
+    (λ k l. get_or-replicate {A = ℕ} WIDE k 0 0 (omega (arith, l, length-replicate {A = ℕ} WIDE 0))) (λ b w. nothing_in w.0 w.1)
 
 pub loop-number-preserved : goal.loop-number-preserved
 loop-number-preserved c =
@@ -29,10 +28,8 @@ loop-number-preserved c =
     let mid = c.raise_each.new.row in
     let new = c.lift.new.row in
     let below : p < count h = c.requires.inside k 0 c.loop-number-test.true in
-    let other : c.values.result.now ≡ row_of table p
-    = c.values.ensures ∙ get_or_read table p c.index-table-number.result (omega (arith, below, c.requires.long)) c.index-table-number.is [] in
     let each_mid : (s : ℕ) → s < length old → slice_index mid s ≡ max (slice_index (row_of table p) s) (slice_index old s)
-    = rw other at c.raise_each.ensures.each in
+    = rw c.get.ensures at c.raise_each.ensures.each in
     let each_new : (s : ℕ) → s < length mid → slice_index new s ≡ lifted owners from p s (slice_index mid s) = c.lift.ensures.each in
     latest_more h owners c.requires.owners from numbers k p old mid new (row_of table p) c.loop-number-test.true refl below c.loop-number.invariant
     (c.requires.latest k 0 c.loop-number-test.true) c.raise_each.ensures.same each_mid c.lift.ensures.same each_new

@@ -1,0 +1,7 @@
+use Rattle.std.proofs.Common.{take}
+use Rattle.std.specs.Prelude.{Contains}
+use Rattle.tcc_order.specs.Latest.{HasLatest}
+use Rattle.tcc_order.proofs.latest.find_clocks.Given as goal
+
+abbrev pub invariant-loop-number : goal.invariant-loop-number
+invariant-loop-number l = HasLatest l.graph l.from (Contains (take l.number-index l.order)) l.table
