@@ -7,6 +7,7 @@ pub mod Linked
 pub mod OrderOrCycle
 pub mod Reaching
 pub mod SharedRows
+pub mod QueuedLemmas
 pub mod Fronts
 pub mod Links
 pub mod LastLemmas

@@ -1,7 +1,7 @@
 -- For the private stages and their proofs alone: nobody has to believe what stands here.
 -- What holds each transaction back: what it follows and reads, and the links that are kept.
-use Rattle.std.specs.Prelude.{ℕ, ◌<◌, ◌≡◌, ◌⊎◌, ◌==◌, ◌&&◌, nat_lt, Bool, true, false, List, ◌++◌, length, slice_index, slice_index_or, All, Contains}
-use Rattle.std.specs.Prelude.{Option, None, IfSome, if◌then◌else◌, ◌+◌}
+use Rattle.std.specs.Prelude.{ℕ, ◌<◌, ◌≡◌, ◌==◌, ◌&&◌, nat_lt, Bool, true, false, List, ◌++◌, length, slice_index, Contains}
+use Rattle.std.specs.Prelude.{◌↔◌, if◌then◌else◌, ◌+◌}
 use Rattle.std.specs.List.{list_any}
 use Rattle.tcc_reads.specs.History.{History, count}
 use Rattle.tcc_graph.specs.Tables.{row_of}
@@ -26,30 +26,10 @@ pub record IsFreeBy (precedes : ℕ → ℕ → Bool) (n : ℕ) (placed : List �
   pub new : is_marked placed x ≡ false
   pub free : (b : ℕ) → precedes b x ≡ true → is_marked placed b ≡ true
 
--- each head comes after those before it in the list
-abbrev pub IsRising : List ℕ → Type 0
-IsRising heads = (i j : ℕ) → i < j → j < length heads → slice_index heads i < slice_index heads j
-
--- each number that was not placed, and whose parent is 0 or was placed, is among the heads, and no others but numbers that were
--- placed
-pub record AreFronts (parents : List ℕ) (placed : List ℕ) (heads : List ℕ) : Type 0 where
-  pub inside : (k : ℕ) → k < length heads → slice_index heads k < length parents
-  pub rising : IsRising heads
-  pub clear : (k : ℕ) → k < length heads → (slice_index parents (slice_index heads k) ≡ 0) ⊎ (is_marked placed (slice_index parents (slice_index heads k)) ≡ true)
-  pub all : (x : ℕ) → x < length parents → is_marked placed x ≡ false → (slice_index parents x ≡ 0) ⊎ (is_marked placed (slice_index parents x) ≡ true)
-      → Contains heads x
-
--- what is noted of a head holds it back
-abbrev pub AreNoted : (ℕ → ℕ → Bool) → List ℕ → List (Option ℕ) → Type 0
-AreNoted precedes heads noted = (k : ℕ) → k < length heads → IfSome (slice_index_or noted k None) (λ b. precedes b (slice_index heads k) ≡ true)
-
 -- the number after x, if x is its parent, or else x
 abbrev pub onward : List ℕ → ℕ → ℕ
 onward parents x = if (nat_lt 0 x && nat_lt (x + 1) (length parents)) && (slice_index parents (x + 1) == x) then x + 1 else x
 
--- the numbers below `end` whose parent is 0, rising
-pub record AreRoots (parents : List ℕ) (end : ℕ) (heads : List ℕ) : Type 0 where
-  pub below : All (λ x. x < end) heads
-  pub rising : IsRising heads
-  pub root : (k : ℕ) → k < length heads → slice_index parents (slice_index heads k) ≡ 0
-  pub all : (x : ℕ) → x < end → slice_index parents x ≡ 0 → Contains heads x
+-- the numbers below `end` whose parent is 0
+abbrev pub AreRoots : List ℕ → ℕ → List ℕ → Type 0
+AreRoots parents end ready = (x : ℕ) → Contains ready x ↔ ((x < end) × (slice_index parents x ≡ 0))

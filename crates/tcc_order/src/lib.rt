@@ -9,6 +9,7 @@ pub mod laws;
 mod ordering;
 mod parents;
 mod placing;
+mod ready;
 mod sharing;
 mod stepping;
 

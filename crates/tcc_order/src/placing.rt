@@ -1,12 +1,15 @@
 //! The first order of the transactions in which each stands behind all that holds it back.
-ghost use Rattle.std.specs.Prelude.{◌≡◌, ◌<◌, ◌≤◌, ◌+◌, ◌^◌, ◌⊎◌, ℕ, true, false, length, slice_index, slice_index_or, map, All, Contains, None, IfOk, IfNone, IfSome, MatchOption};
+ghost use Rattle.std.specs.Prelude.{◌≡◌, ◌<◌, ◌≤◌, ◌+◌, ◌^◌, ◌⊎◌, ◌↔◌, ℕ, true, false, length, slice_index, slice_index_or, map, Contains, IfOk, IfNone, IfSome, OnOk, MatchOption};
 ghost use Rattle.tcc_reads.specs.History.{IsBySession, count};
 ghost use Rattle.tcc_graph.specs.Tables.{row_of};
 ghost use Rattle.tcc_near.specs.Bits.{is_marked, words_for};
 ghost use Rattle.tcc_order.specs.Numbering.{IsFirstOf, HasCircle};
 ghost use Rattle.tcc_order.specs.Parents.{AreSessionParents};
-ghost use Rattle.tcc_order.specs.Held.{holds, AreInside, IsFreeBy, AreNoted, AreRoots, onward};
+ghost use Rattle.tcc_order.specs.Held.{holds, AreInside, IsFreeBy, AreRoots, onward};
+ghost use Rattle.tcc_order.specs.Queued.{AreQueued, IsAny, IsNot};
 
+use crate::keeping::no_links;
+use crate::ready::Ready;
 use std::alloc::{AllocError, Global};
 use tcc_graph::LargeGraph;
 use tcc_near::Row;
@@ -81,65 +84,34 @@ fn missing(
     missing_of(kept[x as usize].values(), placed)
 }
 
-/// The same, where one is known that held it back before.
-fn still_missing(
-    graph: &LargeGraph,
-    parents: &[u32],
-    kept: &[Row<u32>],
-    placed: &[u64],
-    x: u32,
-    known: Option<u32>,
-) -> Option<u32>
-    requires below { x < count graph.now }
-    requires parents { AreSessionParents graph.now parents.now }
-    requires long { length kept.now ≡ count graph.now }
-    requires inside { AreInside graph.now kept.now }
-    requires known { IfSome known (λ b. holds graph.now kept.now b x ≡ true) }
-    ensures { MatchOption result
-        ((b : ℕ) → holds graph.now kept.now b x ≡ true → is_marked placed.now b ≡ true)
-        (λ b. (holds graph.now kept.now b x ≡ true) × (is_marked placed.now b ≡ false)) }
-{
-    match known {
-        Some(number) if !is_marked(placed, number as usize) => Some(number),
-        _ => missing(graph, parents, kept, placed, x),
-    }
-}
-
-/// The place of the first head that may be placed next. Of each head one is noted that held it back when it was looked at
-/// last.
+/// The least number that may be placed next. What is held back waits from now on for one that holds it back.
 fn first_free(
     graph: &LargeGraph,
     parents: &[u32],
     kept: &[Row<u32>],
     placed: &[u64],
-    heads: &[u32],
-    noted: &mut [Option<u32>],
-) -> Option<usize>
+    ready: &mut Ready,
+    waiting: &mut [Row<u32>],
+) -> Result<Option<u32>, NoMemory>
     requires parents { AreSessionParents graph.now parents.now }
     requires long { length kept.now ≡ count graph.now }
     requires inside { AreInside graph.now kept.now }
-    requires heads { (k : ℕ) → k < length heads.now → slice_index heads.now k < count graph.now }
-    requires same { length noted.old ≡ length heads.now }
-    requires noted { AreNoted (holds graph.now kept.now) heads.now noted.old }
-    ensures same { length noted.new ≡ length noted.old }
-    ensures noted { AreNoted (holds graph.now kept.now) heads.now noted.new }
-    ensures free { IfSome result (λ place. (place < length heads.now)
-        × IsFreeBy (holds graph.now kept.now) (count graph.now) placed.now (slice_index heads.now place)) }
-    ensures first { IfSome result (λ place. (k : ℕ) → k < place
-        → IsFreeBy (holds graph.now kept.now) (count graph.now) placed.now (slice_index heads.now k) → ⊥) }
-    ensures none { IfNone result ((k : ℕ) → k < length heads.now
-        → IsFreeBy (holds graph.now kept.now) (count graph.now) placed.now (slice_index heads.now k) → ⊥) }
+    requires queued { AreQueued (holds graph.now kept.now) parents.now placed.now IsAny ready.old waiting.old }
+    ensures same { length waiting.new ≡ length waiting.old }
+    ensures free { IfOk result (λ found. IfSome found (IsFreeBy (holds graph.now kept.now) (count graph.now) placed.now)) }
+    ensures least { IfOk result (λ found. IfSome found (λ x. (y : ℕ) → y < x → IsFreeBy (holds graph.now kept.now) (count graph.now) placed.now y → ⊥)) }
+    ensures queued { IfOk result (λ found. IfSome found (λ x. AreQueued (holds graph.now kept.now) parents.now placed.now (IsNot x) ready.new waiting.new)) }
+    ensures none { IfOk result (λ found. IfNone found ((x : ℕ) → IsFreeBy (holds graph.now kept.now) (count graph.now) placed.now x → ⊥)) }
 {
-    for (place, head) in heads.iter().enumerate() {
-        if !is_marked(placed, *head as usize) {
-            let missing = still_missing(graph, parents, kept, placed, *head, noted[place]);
-            if missing.is_none() {
-                return Some(place);
-            }
-            noted[place] = missing;
+    while let Some(number) = ready.pop() {
+        if !is_marked(placed, number as usize) {
+            let Some(other) = missing(graph, parents, kept, placed, number) else {
+                return Ok(Some(number));
+            };
+            waiting[other as usize].push(number)?;
         }
     }
-    None
+    Ok(None)
 }
 
 /// The number after this one, if this is its parent, or else this one.
@@ -157,17 +129,27 @@ fn onward(parents: &[u32], x: u32) -> u32
 }
 
 /// The numbers whose parent is 0.
-fn roots(alloc: Global, parents: &[u32]) -> Result<Vec<u32>, AllocError>
+fn roots(alloc: Global, parents: &[u32]) -> Result<Ready, AllocError>
     requires { length parents.now ≤ 2 ^ 20 }
-    ensures { IfOk result (λ heads. AreRoots parents.now (length parents.now) heads.items) }
+    ensures { IfOk result (λ ready. AreRoots parents.now (length parents.now) ready) }
 {
-    let mut heads = Vec::new(alloc);
+    let mut ready = Ready::new(alloc);
     for (number, parent) in parents.iter().enumerate() {
         if *parent == 0 {
-            heads.push(number as u32)?;
+            ready.push(number as u32)?;
         }
     }
-    Ok(heads)
+    Ok(ready)
+}
+
+/// Makes these numbers ready.
+fn wake(ready: &mut Ready, numbers: &[u32]) -> Result<(), AllocError>
+    ensures { OnOk result ((x : ℕ) → Contains ready.new x ↔ (Contains ready.old x ⊎ Contains numbers.now x)) }
+{
+    for number in numbers {
+        ready.push(*number)?;
+    }
+    Ok(())
 }
 
 /// The first order of the transactions in which each stands behind its parents and behind the sources of links that are kept,
@@ -187,17 +169,17 @@ pub(crate) fn first_placing(
 {
     let count = graph.count();
     let mut placed = vec![in alloc; 0; words_for(count as usize)]?;
-    let mut heads = roots(alloc, parents)?;
-    let mut noted = vec![in alloc; None; heads.len()]?;
+    let mut ready = roots(alloc, parents)?;
+    let mut waiting = no_links(alloc, count)?;
     let mut order = Vec::new(alloc);
     for _ in 0..count {
-        let Some(place) = first_free(graph, parents, kept, &placed, &heads, &mut noted) else {
+        let found = first_free(graph, parents, kept, &placed, &mut ready, &mut waiting)?;
+        let Some(next) = found else {
             return Ok(None);
         };
-        let next = heads[place];
         mark(&mut placed, next as usize);
-        heads[place] = onward(parents, next);
-        noted[place] = None;
+        wake(&mut ready, waiting[next as usize].values())?;
+        ready.push(onward(parents, next))?;
         order.push(next)?;
     }
     Ok(Some(order))

@@ -1,10 +1,12 @@
-use Rattle.std.proofs.Common.{◌≡◌, ◌<◌, ℕ, length, slice_index}
-use Rattle.tcc_reads.specs.History.{count}
-use Rattle.tcc_order.specs.Held.{holds, IsFreeBy, AreNoted}
+use Rattle.std.proofs.Common.{◌≡◌, length}
+use Rattle.tcc_order.specs.Held.{holds}
+use Rattle.tcc_order.specs.Queued.{AreQueued, IsAny}
 use Rattle.tcc_order.proofs.placing.first_free.Given as goal
 
-abbrev pub invariant-loop-place : goal.invariant-loop-place
-invariant-loop-place l =
-    (length l.noted ≡ length l.initial.noted)
-    × AreNoted (holds l.graph l.kept) l.heads l.noted
-    × ((k : ℕ) → k < l.place → IsFreeBy (holds l.graph l.kept) (count l.graph) l.placed (slice_index l.heads k) → ⊥)
+abbrev pub invariant-loop-number : goal.invariant-loop-number
+invariant-loop-number l =
+    (length l.waiting ≡ length l.initial.waiting)
+    × AreQueued (holds l.graph l.kept) l.parents l.placed IsAny l.ready l.waiting
+
+abbrev pub decreases-loop-number : goal.decreases-loop-number
+decreases-loop-number l = length l.ready

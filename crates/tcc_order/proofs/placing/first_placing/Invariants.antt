@@ -2,7 +2,8 @@ use Rattle.std.proofs.Common.{◌≡◌, [], length}
 use Rattle.tcc_reads.specs.History.{count}
 use Rattle.tcc_near.specs.Bits.{words_for}
 use Rattle.tcc_order.proofs.Greedy.{Picks}
-use Rattle.tcc_order.specs.Held.{holds, AreFronts, AreNoted}
+use Rattle.tcc_order.specs.Held.{holds}
+use Rattle.tcc_order.specs.Queued.{AreQueued, IsAny}
 use Rattle.tcc_order.proofs.Fronts.{Says}
 use Rattle.tcc_order.proofs.placing.first_placing.Given as goal
 
@@ -12,6 +13,4 @@ invariant-loop l =
     × (length l.order.items ≡ l.counter)
     × Says l.placed.items l.order.items
     × Picks (holds l.graph l.kept) (count l.graph) [] l.order.items
-    × AreFronts l.parents l.placed.items l.heads.items
-    × (length l.noted.items ≡ length l.heads.items)
-    × AreNoted (holds l.graph l.kept) l.heads.items l.noted.items
+    × AreQueued (holds l.graph l.kept) l.parents l.placed.items IsAny l.ready l.waiting.items
