@@ -17,7 +17,7 @@ use Rattle.tcc_graph.proofs.WriterLemmas.{writers_below}
 use Rattle.tcc_near.proofs.FreshLemmas.{one_of_taken, still_taken, last_taken, nothing_in}
 use Rattle.tcc_near.proofs.MarkLemmas.{zip_at, zip-long}
 use Rattle.tcc_order.specs.Lasts.{IsOneOf, IsBefore}
-use Rattle.tcc_order.specs.Latest.{AreOwners, IsLatestOf, AreLatestOf, IsLatestPast, AreLatestPast, IsOverwritten, IsLiftable, IsLifted, lifted_by}
+use Rattle.tcc_order.specs.Latest.{AreOwners, IsLatestOf, AreLatestOf, IsLatestPast, AreLatestPast, AreClocks, TellsNothing, IsOverwritten, IsLiftable, IsLifted, lifted_by}
 use Rattle.tcc_order.specs.Latest.{IsCovered, AreDerived, AreEnough, Overwrites}
 use Rattle.tcc_order.specs.declared.latest.TheConstants.{WIDE}
 use Rattle.tcc_order.proofs.Readings.{IsTaken, named_long, named_each, named_at}
@@ -304,6 +304,29 @@ module _ (h : History) (numbered : IsBySession h.entries) (from a : ℕ) (low : 
           (row_covers h numbered from a low (row_of kept a) new need clock needs reaches now (set kept a new) here b
           (subst (λ (z : ℕ). Overwrites h z b) same over) some high w.0)
       go (inr w) (inr other) (inr high) = old (inr (w.0, omega (arith, w.1, other)))
+
+-- where readers have the row of a transaction, nothing more is kept of it
+pub passed_enough : (h : History) → IsBySession h.entries → (from a : ℕ) → a < count h → (table : List (List ℕ)) → AreClocks h from table
+    → TellsNothing h table a → (kept : List (List ℕ)) → AreEnough h (Overwrites h) (IsUpTo h from a) kept
+    → AreEnough h (Overwrites h) (IsUpTo h from (a + 1)) kept
+passed_enough h numbered from a low table clocks same kept are d b over some meant = go meant (cases_eq d a) (cases_lt (owner h b) from)
+  where
+    by : (c : ℕ) (x : List ℕ) → IsReadsPair h a c x → IsReached h b c → b < count h → (k : ℕ) → k < WIDE → owner h b ≡ from + k → IsCovered h kept a b
+    by c x pair reached below k l mine =
+        let reader = clocks.each c pair.1 pair.1 in
+        let top : b ≤ slice_index (row_of table c) k
+        = (reader.each k l).greatest b record { committed = some; below = below; owned = mine; meant = reached } in
+        let up : b ≤ slice_index (row_of table a) k = subst (λ (r : List ℕ). b ≤ slice_index r k) (same c x pair) top in
+        (b, inl refl, inr (clock_reaches h numbered a (from + k) (slice_index (row_of table a) k) b ((clocks.each a low low).each k l) some below mine up))
+
+    covered : Overwrites h a b → from ≤ owner h b → owner h b < from + WIDE → IsCovered h kept a b
+    covered (small, below, (c, x, pair, writer, apart, reached)) high less = by c x pair reached below (owner h b - from) (omega (arith, high, less)) (omega (arith, high))
+
+    go : IsUpTo h from (a + 1) d b → (d ≡ a) ⊎ (d ≢ a) → (owner h b < from) ⊎ (from ≤ owner h b) → IsCovered h kept d b
+    go m kind (inl early) = are d b over some (inl early)
+    go (inl early) kind (inr high) = are d b over some (inl early)
+    go (inr w) (inl at) (inr high) = subst (λ (z : ℕ). IsCovered h kept z b) (sym at) (covered (subst (λ (z : ℕ). Overwrites h z b) at over) high w.0)
+    go (inr w) (inr other) (inr high) = are d b over some (inr (w.0, omega (arith, w.1, other)))
 
 -- ---- one number of a row
 abbrev pub Keeps : List ℕ → List ℕ → List ℕ → List ℕ → ℕ → Type 0

@@ -9,7 +9,7 @@ use Rattle.tcc_graph.specs.Keys.{keys, key_at}
 use Rattle.tcc_graph.proofs.KeysLemmas.{has_name-keys}
 use Rattle.tcc_graph.proofs.NameLemmas.{has_name-contains}
 use Rattle.tcc_graph.proofs.WriterLemmas.{read_is_key}
-use Rattle.tcc_near.proofs.MarkLemmas.{zip_has}
+use Rattle.tcc_near.proofs.MarkLemmas.{zip_at, zip_has, zip-long}
 
 -- ---- keys by their places
 mapped_at : (f : ℕ → List ℕ) (ps : List ℕ) (k : ℕ) (d : List ℕ) → k < length ps → get_or (map f ps) k d ≡ f (get_or ps k 0)
@@ -63,3 +63,13 @@ module _ (h : History) (a : ℕ) (rs ps : List ℕ) (long : length rs ≡ length
   -- who reads is a transaction
   pub reader_below : (k : ℕ) → k < length rs → get_or rs k 0 < count h
   reader_below k l = ((each (get_or rs k 0) (get_or ps k 0)).0 (zip_has rs ps k 0 long l)).1.1
+
+  -- and each who reads is listed
+  pub reader_at : (c : ℕ) (x : List ℕ) → IsReadsPair h a c x → (k : ℕ) × (k < length rs) × (get_or rs k 0 ≡ c)
+  reader_at c x pair = go ((named_each c x).1 pair)
+    where
+      go : (let one : ℕ × List ℕ = (c, x) in Contains (zip rs (map (key_at h) ps)) one) → (k : ℕ) × (k < length rs) × (get_or rs k 0 ≡ c)
+      go (k, l, e) =
+          let inside : k < length rs = omega (arith, l, zip-long rs (map (key_at h) ps) named_long) in
+          let at = zip_at rs (map (key_at h) ps) k 0 [] named_long inside in
+          (k, inside, ap (λ p. p.0) (sym at ∙ (get_or_default (zip rs (map (key_at h) ps)) k (0, []) (c, x) l ∙ e)))

@@ -38,6 +38,10 @@ pub record AreLatestPast (h : History) (Is : ℕ → Type 0) (from : ℕ) (known
   pub wide : length row ≡ WIDE
   pub each : (k : ℕ) → k < WIDE → IsLatestPast h Is (from + k) (slice_index known k) (slice_index row k)
 
+-- all that read from a have its row
+abbrev pub TellsNothing : History → List (List ℕ) → ℕ → Type 0
+TellsNothing h table a = (c : ℕ) (x : List ℕ) → IsReadsPair h a c x → row_of table c ≡ row_of table a
+
 -- p is `init`, or of no session of the block
 abbrev pub IsOutside : List ℕ → ℕ → ℕ → Type 0
 IsOutside owners from p = (0 < p) → (k : ℕ) → k < WIDE → slice_index owners p ≢ from + k

@@ -9,7 +9,7 @@ ghost use Rattle.tcc_graph.specs.Keys.{keys};
 ghost use Rattle.tcc_graph.specs.Tables.{row_of};
 ghost use Rattle.tcc_graph.specs.Orders.{IsNumbering};
 ghost use Rattle.tcc_order.specs.Parents.{AreSessionParents};
-ghost use Rattle.tcc_order.specs.Latest.{AreOrdered, IsClock, IsLastUpTo, IsLastBut, IsCountBelow, AreLatestPast, IsSpan, AreSpans, AreBounds};
+ghost use Rattle.tcc_order.specs.Latest.{AreOrdered, IsClock, IsLastUpTo, IsLastBut, IsCountBelow, AreLatestPast, TellsNothing, IsSpan, AreSpans, AreBounds};
 ghost use Rattle.tcc_order.specs.declared.latest.TheConstants.{WIDE};
 ghost use Rattle.std.specs.List.Sorted.{IsNonDecreasing, IsPartitionPoint};
 ghost use Rattle.std.specs.Prelude.{nat_le, true, false, ◌∷◌, []};
@@ -242,6 +242,21 @@ fn needed(
     }
 }
 
+/// Whether not all that read from `a` are known to have its row.
+fn has_news(graph: &LargeGraph, table: &SharedRows, a: u32) -> bool
+    requires long { length table.now ≡ count graph.now }
+    requires below { a < count graph.now }
+    ensures { result ≡ false → TellsNothing graph.now table.now a }
+{
+    let (readers, _places) = graph.readings_at(a);
+    for reader in readers {
+        if !table.are_same(*reader, a) {
+            return true;
+        }
+    }
+    false
+}
+
 /// Keeps the numbers that are greater than those of the clock.
 fn keep(kept: &mut Row<u32>, need: &[u32], clock: &[u32]) -> Result<(), NoMemory>
     requires { length need.now ≡ length clock.now }
@@ -280,8 +295,10 @@ fn keep_block(
     let mut spans = Vec::new(alloc);
     find_spans(&mut spans, graph, bounds)?;
     for a in 0..graph.count() {
-        needed(&mut need, graph, owners, from, bounds, &spans, table, a);
-        keep(&mut kept[a as usize], &need, table.get(a))?;
+        if has_news(graph, table, a) {
+            needed(&mut need, graph, owners, from, bounds, &spans, table, a);
+            keep(&mut kept[a as usize], &need, table.get(a))?;
+        }
     }
     Ok(())
 }

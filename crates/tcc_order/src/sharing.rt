@@ -33,7 +33,9 @@ impl SharedRows {
     pub(crate) fn new(alloc: Global, count: u32) -> Result<SharedRows, AllocError>
         ensures { IfOk result (λ t. length t ≡ count) }
     {
-        let rows = vec![in alloc; [0; WIDE]; 1]?;
+        // room for a row of each, beside that of zeros: it is taken once, and none of it is touched before it is needed
+        let mut rows = Vec::with_capacity(alloc, count as usize + 1)?;
+        rows.push([0; WIDE])?;
         let which = vec![in alloc; 0; count as usize]?;
         Ok(SharedRows { rows, which })
     }

@@ -6,9 +6,10 @@ use Rattle.tcc_graph.specs.Relations.{IsReadsPair}
 use Rattle.tcc_graph.specs.Tables.{row_of}
 use Rattle.tcc_order.specs.Lasts.{IsBefore}
 use Rattle.tcc_order.specs.Latest.{AreLatestOf, AreLatestPast, IsOverwritten}
-use Rattle.tcc_order.proofs.Needing.{IsUpTo, kept_derived, kept_enough}
+use Rattle.tcc_order.proofs.Needing.{IsUpTo, kept_derived, kept_enough, passed_enough}
 use Rattle.tcc_order.proofs.Spans.{owners_rise}
 use Rattle.tcc_order.proofs.keeping.keep_block.Goals as goal
+use Rattle.tcc_order.proofs.keeping.keep_block.Goals.{then-has_news+in_ok-keep, else-has_news}
 
 pub loop-a-init : goal.loop-a-init
 loop-a-init c =
@@ -32,7 +33,7 @@ keep-requires c =
     let long : c.loop-a.need.len ≡ length c.loop-a.need.items = search rules in
     let whole : take c.loop-a.need.len (c.needed.new.need ++ drop (length c.needed.new.need) c.loop-a.need.items) ≡ c.needed.new.need
     = take_at c.needed.new.need (drop (length c.needed.new.need) c.loop-a.need.items) c.loop-a.need.len (same ∙ sym long) in
-    rw (c.deref-in-loop-a.ensures.value, whole, c.get.ensures) (c.needed.ensures.wide ∙ sym (c.requires.clocks.each a low low).wide)
+    rw (c.deref-then-has_news.ensures.value, whole, c.get.ensures) (c.needed.ensures.wide ∙ sym (c.requires.clocks.each a low low).wide)
 
 pub loop-a-preserved : goal.loop-a-preserved
 loop-a-preserved c =
@@ -42,25 +43,35 @@ loop-a-preserved c =
     let a = c.loop-a.a in
     let inv = c.loop-a.invariant in
     let low : a < count h = search rules in
-    let need = c.needed.new.need in
-    let new = c.keep.new.kept in
     let clock = row_of c.args.table.now a in
-    let same : length need ≡ length c.loop-a.need.items = c.needed.ensures.wide ∙ sym inv.0 in
-    let long : c.loop-a.need.len ≡ length c.loop-a.need.items = search rules in
-    let whole : take c.loop-a.need.len (need ++ drop (length need) c.loop-a.need.items) ≡ need
-    = take_at need (drop (length need) c.loop-a.need.items) c.loop-a.need.len (same ∙ sym long) in
     let all : length kept ≡ count h = inv.1 ∙ c.requires.long in
-    let was : get_or kept a c.index-kept-a.result ≡ row_of kept a = get_or_default kept a c.index-kept-a.result [] (omega (arith, low, all)) in
-    let now : (b : ℕ) → Contains new b ↔ (Contains (row_of kept a) b ⊎ ((k : ℕ) × (k < length need) × (slice_index need k ≡ b) × (slice_index clock k < b)))
-    = rw (c.deref-in-loop-a.ensures.value, whole, c.get.ensures, was) at c.in_ok-keep.ensures in
-    let reaches : AreLatestOf h (IsBefore h a) from clock = c.requires.clocks.each a low low in
-    let needs : AreLatestPast h (IsOverwritten h (IsReadsPair h a) a) from clock need = c.needed.ensures in
-    rw whole (
-      needs.wide,
-      length-set kept a new ∙ inv.1,
-      kept_derived h c.requires.numbered from a low kept all new need clock needs reaches now inv.2,
-      kept_enough h c.requires.numbered from a low kept all new need clock needs reaches now inv.3,
-    )
+    elim c.if-has_news.branch [
+      | then-has_news+in_ok-keep w ↦ (
+          let need = w.needed.new.need in
+          let new = w.keep.new.kept in
+          let same : length need ≡ length c.loop-a.need.items = w.needed.ensures.wide ∙ sym inv.0 in
+          let long : c.loop-a.need.len ≡ length c.loop-a.need.items = search rules in
+          let whole : take c.loop-a.need.len (need ++ drop (length need) c.loop-a.need.items) ≡ need
+          = take_at need (drop (length need) c.loop-a.need.items) c.loop-a.need.len (same ∙ sym long) in
+          let was : get_or kept a w.index-kept-a.result ≡ row_of kept a = get_or_default kept a w.index-kept-a.result [] (omega (arith, low, all)) in
+          let now : (b : ℕ) → Contains new b ↔ (Contains (row_of kept a) b ⊎ ((k : ℕ) × (k < length need) × (slice_index need k ≡ b) × (slice_index clock k < b)))
+          = rw (w.deref-then-has_news.ensures.value, whole, w.get.ensures, was) at w.in_ok-keep.ensures in
+          let reaches : AreLatestOf h (IsBefore h a) from clock = c.requires.clocks.each a low low in
+          let needs : AreLatestPast h (IsOverwritten h (IsReadsPair h a) a) from clock need = w.needed.ensures in
+          rw (w.need-is, w.kept-is, whole) (
+            needs.wide,
+            length-set kept a new ∙ inv.1,
+            kept_derived h c.requires.numbered from a low kept all new need clock needs reaches now inv.2,
+            kept_enough h c.requires.numbered from a low kept all new need clock needs reaches now inv.3,
+          )
+          )
+      | else-has_news w ↦ rw (w.need-is, w.kept-is) (
+        inv.0,
+        inv.1,
+        inv.2,
+        passed_enough h c.requires.numbered from a low c.args.table.now c.requires.clocks (c.has_news.ensures w.if-has_news.false) kept inv.3,
+      )
+    ]
 
 pub returns-clause-enough : goal.returns-clause-enough
 returns-clause-enough c = λ a b over some less.
