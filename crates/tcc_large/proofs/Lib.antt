@@ -2,7 +2,15 @@
 -- Carried  a map of numbers that keeps pairs and writers carries each link
 -- Recorded the records of one session more
 -- Left     what is left of a list, one item more
+-- Numbered cells that were given the numbers from 1 on
+-- Reached  what a search has reached by pairs, one more, and all of it
+-- OnwardLemmas reads that a transaction's writes are against, and the derived links from it
+-- Ranks    ranks of transactions, one more, and all of them; a trail of links
 pub mod Judged
 pub mod Carried
 pub mod Recorded
 pub mod Left
+pub mod Numbered
+pub mod Reached
+pub mod OnwardLemmas
+pub mod Ranks

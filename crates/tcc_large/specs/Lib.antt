@@ -7,3 +7,5 @@ pub mod Slices
 pub mod Texts
 -- What serves proofs alone:
 pub mod Carrying
+pub mod Ranked
+pub mod Reaching

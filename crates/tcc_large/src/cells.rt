@@ -1,5 +1,8 @@
 //! A number for each place of a row.
+ghost use Rattle.std.specs.Prelude.{◌≡◌, length, replicate, slice_index, slice_set, IfOk};
+
 use std::alloc::Global;
+use std::marker::Model;
 use tcc_txn::NoMemory;
 
 /// A number for each place. Past the end each is 0, and what is put there is lost.
@@ -8,15 +11,27 @@ pub(crate) struct Cells {
     values: Vec<u32>,
 }
 
+impl Model for Cells {
+    ghost use Rattle.std.specs.Prelude.{ℕ, List};
+
+    ghost Value = { List ℕ };
+
+    ghost view = { λ c. c.values.items };
+}
+
 impl Cells {
     /// So many places, all with this number.
-    pub(crate) fn new(alloc: Global, count: usize, value: u32) -> Result<Cells, NoMemory> {
+    pub(crate) fn new(alloc: Global, count: usize, value: u32) -> Result<Cells, NoMemory>
+        ensures { IfOk result (λ cells. cells ≡ replicate count value) }
+    {
         let values = vec![in alloc; value; count]?;
         Ok(Cells { values })
     }
 
     /// The number of a place.
-    pub(crate) fn get(&self, place: u32) -> u32 {
+    pub(crate) fn get(&self, place: u32) -> u32
+        ensures { result ≡ slice_index self.now place }
+    {
         match self.values.get(place as usize) {
             Some(value) => *value,
             None => 0,
@@ -36,7 +51,9 @@ impl Cells {
     }
 
     /// Puts a number at a place.
-    pub(crate) fn set(&mut self, place: u32, value: u32) {
+    pub(crate) fn set(&mut self, place: u32, value: u32)
+        ensures { self.new ≡ slice_set self.old place value }
+    {
         let place = place as usize;
         if place < self.values.len() {
             self.values[place] = value;

@@ -18,7 +18,7 @@ pub(crate) fn from(link: &Link) -> u32
 }
 
 /// Where a link ends.
-fn to(link: &Link) -> u32
+pub(crate) fn to(link: &Link) -> u32
     ensures { result ≡ link_to link.now }
 {
     match link {

@@ -1,0 +1,248 @@
+-- What a search has reached by pairs, one more, and all of it.
+use Rattle.std.proofs.Common.{ℕ, zero, suc, false, get_or, ◌+◌, ◌<◌, ◌≤◌, ◌≡◌, ◌≢◌, ◌⊎◌, inl, inr, List, [], ◌∷◌, ◌++◌, length, set, replicate, reverse, refl, sym, ap, subst, ◌∙◌, arith}
+use Rattle.std.specs.Prelude.{slice_index, slice_index_or}
+use Rattle.std.proofs.lemmas.Bool.{cases_lt, cases_eq, false≢true}
+use Rattle.std.proofs.lemmas.List.{get_or-set_same, get_or-set_other, length-set, length-replicate, get_or_append_left, get_or_push, length_push, reverse-append, length-reverse}
+use Rattle.tcc_reads.specs.History.{History, count}
+use Rattle.tcc_graph.specs.Relations.{IsCausalPair, IsReadsPair, session_pair, reads_from}
+use Rattle.tcc_graph.specs.Walks.{step_from, step_to, IsStep, Leads, IsWalk}
+use Rattle.tcc_graph.specs.declared.step.Step.{Step}
+use Rattle.tcc_graph.proofs.Pairs.{step_pair, pair_below}
+use Rattle.tcc_large.specs.Reaching.{IsReach, IsMore, AreSpread, number_at, before_at}
+use Rattle.tcc_large.proofs.Numbered.{zeros, numbered_room}
+
+pub reach_start : (h : History) (start : ℕ) → start < count h → IsReach h (replicate (count h) 0) ((start, 0) ∷ [])
+reach_start h start below = record {
+  long = length-replicate {A = ℕ} (count h) 0;
+  some = omega arith;
+  below = λ i l. first i l;
+  back = λ i some l. absurd (omega (arith, some, l));
+  noted = λ v some. absurd (omega (arith, some, zeros (count h) v));
+  led = λ i some l. absurd (omega (arith, some, l));
+}
+  where
+    first : (i : ℕ) → i < 1 → number_at ((start, 0) ∷ []) i < count h
+    first zero l = below
+    first (suc i) l = absurd (omega (arith, l))
+
+-- no more places than transactions and one
+pub reach_room : (h : History) (places : List ℕ) (queue : List (ℕ × ℕ)) → IsReach h places queue → length queue ≤ count h + 1
+reach_room h places queue reach =
+    omega (arith, reach.long, numbered_room places (length queue) (λ r some below. (number_at queue r, reach.back r some below)))
+
+pub more_same : (places : List ℕ) (queue : List (ℕ × ℕ)) → IsMore places queue places queue
+more_same places queue = record { longer = omega arith; same = λ i l. refl; reached = λ v some. some }
+
+pub more_join : (a : List ℕ) (p : List (ℕ × ℕ)) (b : List ℕ) (q : List (ℕ × ℕ)) (c : List ℕ) (r : List (ℕ × ℕ)) → IsMore a p b q → IsMore b q c r → IsMore a p c r
+more_join a p b q c r one two = record {
+  longer = omega (arith, one.longer, two.longer);
+  same = λ i l. two.same i (omega (arith, l, one.longer)) ∙ one.same i l;
+  reached = λ v some. two.reached v (one.reached v some);
+}
+
+-- ---- pairs that aren't of session order
+read_of : (h : History) (a b : ℕ) → IsCausalPair h a b → session_pair h a b ≡ false → (x : List ℕ) × IsReadsPair h a b x
+read_of h a b (inl session) none = absurd (false≢true (sym none ∙ session))
+read_of h a b (inr reads) none = reads
+
+pub some_read : (h : History) (a b : ℕ) → IsCausalPair h a b → session_pair h a b ≡ false → 0 < length (reads_from h a b)
+some_read h a b pair none = let r = read_of h a b pair none in omega (arith, r.1.2.1)
+
+pub first_read : (h : History) (a b : ℕ) (x : List ℕ) → IsCausalPair h a b → session_pair h a b ≡ false → x ≡ get_or (reads_from h a b) 0 x
+    → IsReadsPair h a b x
+first_read h a b x pair none is =
+    let ends = pair_below h a b pair in
+    (ends.0, ends.1, (0, some_read h a b pair none, sym is))
+
+-- ---- one more transaction
+pub pair_moved : (h : History) (a b c d : ℕ) → a ≡ b → c ≡ d → IsCausalPair h b d → IsCausalPair h a c
+pair_moved h a b c d from to p = subst (λ (z : ℕ). IsCausalPair h z c) (sym from) (subst (λ (z : ℕ). IsCausalPair h b z) (sym to) p)
+
+module _ (h : History) (places : List ℕ) (queue : List (ℕ × ℕ)) (place number : ℕ) (reach : IsReach h places queue) (inside : place < length queue)
+    (below : number < count h) (new : slice_index places number ≡ 0) where
+  longer : length (queue ++ (number, place) ∷ []) ≡ length queue + 1
+  longer = length_push queue (number, place)
+
+  kept : (i : ℕ) → i < length queue → slice_index_or (queue ++ (number, place) ∷ []) i (0, 0) ≡ slice_index_or queue i (0, 0)
+  kept i l = get_or_append_left queue ((number, place) ∷ []) (0, 0) i l
+
+  kept_number : (i : ℕ) → i < length queue → number_at (queue ++ (number, place) ∷ []) i ≡ number_at queue i
+  kept_number i l = ap (λ p. p.0) (kept i l)
+
+  last : slice_index_or (queue ++ (number, place) ∷ []) (length queue) (0, 0) ≡ (number, place)
+  last = get_or_push queue (number, place) (0, 0) (length queue) refl
+
+  last_number : number_at (queue ++ (number, place) ∷ []) (length queue) ≡ number
+  last_number = ap (λ p. p.0) last
+
+  room : number < length places
+  room = omega (arith, below, reach.long)
+
+  -- what holds of the old places and of the last one
+  each_place : (P : ℕ → Type 0) → ((i : ℕ) → i < length queue → P i) → P (length queue) → (i : ℕ) → i < length (queue ++ (number, place) ∷ []) → P i
+  each_place P old here i l = go (cases_lt i (length queue))
+    where
+      go : (i < length queue) ⊎ (length queue ≤ i) → P i
+      go (inl less) = old i less
+      go (inr past) = let same : length queue ≡ i = omega (arith, past, l, longer) in subst P same here
+
+  back_old : (i : ℕ) → i < length queue → 0 < i → slice_index (set places number (length queue)) (number_at (queue ++ (number, place) ∷ []) i) ≡ i
+  back_old i l some =
+      let at = reach.back i some l in
+      let other : number_at queue i ≢ number = λ same. absurd (omega (arith, ap (λ z. slice_index places z) same, at, new, some)) in
+      subst (λ (z : ℕ). slice_index (set places number (length queue)) z ≡ i) (sym (kept_number i l))
+      (get_or-set_other places number (number_at queue i) (length queue) 0 other ∙ at)
+
+  back_last : 0 < length queue → slice_index (set places number (length queue)) (number_at (queue ++ (number, place) ∷ []) (length queue)) ≡ length queue
+  back_last some =
+      subst (λ (z : ℕ). slice_index (set places number (length queue)) z ≡ length queue) (sym last_number)
+      (get_or-set_same places number (length queue) 0 room)
+
+  noted : (v : ℕ) → 0 < slice_index (set places number (length queue)) v
+      → (slice_index (set places number (length queue)) v < length (queue ++ (number, place) ∷ []))
+      × (number_at (queue ++ (number, place) ∷ []) (slice_index (set places number (length queue)) v) ≡ v)
+  noted v some = go (cases_eq v number)
+    where
+      go : (v ≡ number) ⊎ (v ≡ number → ⊥)
+          → (slice_index (set places number (length queue)) v < length (queue ++ (number, place) ∷ []))
+          × (number_at (queue ++ (number, place) ∷ []) (slice_index (set places number (length queue)) v) ≡ v)
+      go (inl same) =
+          let at : slice_index (set places number (length queue)) v ≡ length queue
+          = ap (λ z. slice_index (set places number (length queue)) z) same ∙ get_or-set_same places number (length queue) 0 room in (
+            omega (arith, at, longer),
+            subst (λ (z : ℕ). number_at (queue ++ (number, place) ∷ []) z ≡ v) (sym at) (last_number ∙ sym same),
+          )
+      go (inr apart) =
+          let at : slice_index (set places number (length queue)) v ≡ slice_index places v = get_or-set_other places number v (length queue) 0 apart in
+          let old = reach.noted v (omega (arith, some, at)) in (
+            omega (arith, at, old.0, longer),
+            subst (λ (z : ℕ). number_at (queue ++ (number, place) ∷ []) z ≡ v) (sym at) (kept_number (slice_index places v) old.0 ∙ old.1),
+          )
+
+  led_old : (i : ℕ) → i < length queue → 0 < i
+      → (before_at (queue ++ (number, place) ∷ []) i < i)
+      × IsCausalPair h (number_at (queue ++ (number, place) ∷ []) (before_at (queue ++ (number, place) ∷ []) i)) (number_at (queue ++ (number, place) ∷ []) i)
+  led_old i l some =
+      let w = reach.led i some l in
+      let at : before_at (queue ++ (number, place) ∷ []) i ≡ before_at queue i = ap (λ p. p.1) (kept i l) in
+      let from = ap (number_at (queue ++ (number, place) ∷ [])) at ∙ kept_number (before_at queue i) (omega (arith, w.0, l)) in (
+        omega (arith, at, w.0),
+        pair_moved h (number_at (queue ++ (number, place) ∷ []) (before_at (queue ++ (number, place) ∷ []) i)) (number_at queue (before_at queue i))
+            (number_at (queue ++ (number, place) ∷ []) i) (number_at queue i) from (kept_number i l) w.1,
+      )
+
+  led_last : IsCausalPair h (number_at queue place) number
+      → (before_at (queue ++ (number, place) ∷ []) (length queue) < length queue)
+      × IsCausalPair h (number_at (queue ++ (number, place) ∷ []) (before_at (queue ++ (number, place) ∷ []) (length queue)))
+      (number_at (queue ++ (number, place) ∷ []) (length queue))
+  led_last pair =
+      let at : before_at (queue ++ (number, place) ∷ []) (length queue) ≡ place = ap (λ p. p.1) last in
+      let from = ap (number_at (queue ++ (number, place) ∷ [])) at ∙ kept_number place inside in (
+        omega (arith, at, inside),
+        pair_moved h (number_at (queue ++ (number, place) ∷ []) (before_at (queue ++ (number, place) ∷ []) (length queue))) (number_at queue place)
+            (number_at (queue ++ (number, place) ∷ []) (length queue)) number from last_number pair,
+      )
+
+  pub reach_more : IsCausalPair h (number_at queue place) number → IsReach h (set places number (length queue)) (queue ++ (number, place) ∷ [])
+  reach_more pair = record {
+    long = length-set places number (length queue) ∙ reach.long;
+    some = omega (arith, longer);
+    below = each_place (λ i. number_at (queue ++ (number, place) ∷ []) i < count h) (λ i l. omega (arith, kept_number i l, reach.below i l))
+        (omega (arith, last_number, below));
+    back = λ i some l. each_place (λ i. 0 < i → slice_index (set places number (length queue)) (number_at (queue ++ (number, place) ∷ []) i) ≡ i) back_old
+        back_last i l some;
+    noted = noted;
+    led = λ i some l. each_place
+        (λ i. 0 < i → (before_at (queue ++ (number, place) ∷ []) i < i)
+        × IsCausalPair h (number_at (queue ++ (number, place) ∷ []) (before_at (queue ++ (number, place) ∷ []) i))
+        (number_at (queue ++ (number, place) ∷ []) i))
+        led_old (λ some. led_last pair) i l some;
+  }
+
+  pub more_more : IsMore places queue (set places number (length queue)) (queue ++ (number, place) ∷ [])
+  more_more = record { longer = omega (arith, longer); same = kept; reached = λ v some. go v some (cases_eq v number) }
+    where
+      go : (v : ℕ) → 0 < slice_index places v → (v ≡ number) ⊎ (v ≡ number → ⊥) → 0 < slice_index (set places number (length queue)) v
+      go v some (inl same) = absurd (omega (arith, some, new, ap (λ z. slice_index places z) same))
+      go v some (inr apart) = omega (arith, some, get_or-set_other places number v (length queue) 0 apart)
+
+  pub met_more : 0 < slice_index (set places number (length queue)) number
+  met_more = omega (arith, get_or-set_same places number (length queue) 0 room, reach.some)
+
+-- ---- all that a pair leads to from one of the numbers below n
+abbrev pub IsMet : History → List ℕ → ℕ → ℕ → Type 0
+IsMet h places from n = (v : ℕ) → v < n → IsCausalPair h from v → 0 < slice_index places v
+
+pub met_next : (h : History) (places new : List ℕ) (from n : ℕ) → IsMet h places from n → ((v : ℕ) → 0 < slice_index places v → 0 < slice_index new v)
+    → (IsCausalPair h from n → 0 < slice_index new n) → IsMet h new from (n + 1)
+met_next h places new from n met more here v l pair = go (cases_lt v n)
+  where
+    go : (v < n) ⊎ (n ≤ v) → 0 < slice_index new v
+    go (inl less) = more v (met v less pair)
+    go (inr past) =
+        let same : n ≡ v = omega (arith, past, l) in
+        subst (λ (z : ℕ). IsCausalPair h from z → 0 < slice_index new z) same here pair
+
+pub met_all : (h : History) (places : List ℕ) (from n : ℕ) → count h ≤ n → IsMet h places from n → (v : ℕ) → IsCausalPair h from v → 0 < slice_index places v
+met_all h places from n all met v pair = met v (omega (arith, all, (pair_below h from v pair).1)) pair
+
+-- one place more
+pub spread_next : (h : History) (a : List ℕ) (p : List (ℕ × ℕ)) (b : List ℕ) (q : List (ℕ × ℕ)) (n : ℕ) → AreSpread h a p n → IsMore a p b q → n < length p
+    → ((v : ℕ) → IsCausalPair h (number_at p n) v → 0 < slice_index b v) → AreSpread h b q (n + 1)
+spread_next h a p b q n spread more inside here i v l pair = go (cases_lt i n)
+  where
+    old : i < length p → IsCausalPair h (number_at p i) v
+    old below = subst (λ (z : ℕ). IsCausalPair h z v) (ap (λ z. z.0) (more.same i below)) pair
+
+    go : (i < n) ⊎ (n ≤ i) → 0 < slice_index b v
+    go (inl less) = more.reached v (spread i v less (old (omega (arith, less, inside))))
+    go (inr past) =
+        let same : i ≡ n = omega (arith, past, l) in
+        here v (subst (λ (z : ℕ). IsCausalPair h (number_at p z) v) same (old (omega (arith, same, inside))))
+
+pub spread_upto : (h : History) (places : List ℕ) (queue : List (ℕ × ℕ)) (n : ℕ) → length queue ≤ n → AreSpread h places queue n
+    → AreSpread h places queue (length queue)
+spread_upto h places queue n all spread i v l pair = spread i v (omega (arith, l, all)) pair
+
+-- ---- what a walk leads to was reached
+module _ (h : History) (places : List ℕ) (queue : List (ℕ × ℕ)) (reach : IsReach h places queue) (spread : AreSpread h places queue (length queue)) where
+  along : (i c : ℕ) (s : Step) (steps : List Step) → i < length queue → Leads h (number_at queue i) c (s ∷ steps) → 0 < slice_index places c
+  along i c s [] inside lead =
+      let pair = subst (λ (z : ℕ). IsCausalPair h z (step_to s)) lead.0 (step_pair h s lead.1) in
+      subst (λ (z : ℕ). 0 < slice_index places z) lead.2 (spread i (step_to s) inside pair)
+  along i c s (t ∷ steps) inside lead =
+      let pair = subst (λ (z : ℕ). IsCausalPair h z (step_to s)) lead.0 (step_pair h s lead.1) in
+      let w = reach.noted (step_to s) (spread i (step_to s) inside pair) in
+      along (slice_index places (step_to s)) c t steps w.0 (subst (λ (z : ℕ). Leads h z c (t ∷ steps)) (sym w.1) lead.2)
+
+  pub walk_reached : (c : ℕ) (walk : List Step) → IsWalk h (number_at queue 0) c walk → 0 < slice_index places c
+  walk_reached c [] w = absurd (omega (arith, w.0))
+  walk_reached c (s ∷ steps) w = along 0 c s steps reach.some w.1
+
+-- ---- the steps back to the start
+-- so many steps, the last one first, lead from here to the goal
+pub record IsBack (h : History) (queue : List (ℕ × ℕ)) (place at : ℕ) (steps : List Step) : Type 0 where
+  pub inside : at < length queue
+  pub some : (at ≡ place) ⊎ (0 < length steps)
+  pub leads : Leads h (number_at queue at) (number_at queue place) (reverse steps)
+
+pub back_none : (h : History) (queue : List (ℕ × ℕ)) (place : ℕ) → place < length queue → IsBack h queue place place []
+back_none h queue place inside = record { inside = inside; some = inl refl; leads = refl }
+
+pub back_more : (h : History) (queue : List (ℕ × ℕ)) (place at before : ℕ) (steps : List Step) (s : Step) → IsBack h queue place at steps → before < at
+    → step_from s ≡ number_at queue before → step_to s ≡ number_at queue at → IsStep h s → IsBack h queue place before (steps ++ s ∷ [])
+back_more h queue place at before steps s back less from to is = record {
+  inside = omega (arith, less, back.inside);
+  some = inr (omega (arith, length_push steps s));
+  leads = rw (reverse-append steps (s ∷ []))
+      (from, is, subst (λ (z : ℕ). Leads h z (number_at queue place) (reverse steps)) (sym to) back.leads);
+}
+
+pub back_whole : (h : History) (queue : List (ℕ × ℕ)) (place at : ℕ) (steps : List Step) → IsBack h queue place at steps → at ≡ 0 → 0 < place
+    → IsWalk h (number_at queue 0) (number_at queue place) (reverse steps)
+back_whole h queue place at steps back same some =
+    (go back.some, subst (λ (z : ℕ). Leads h (number_at queue z) (number_at queue place) (reverse steps)) same back.leads)
+  where
+    go : (at ≡ place) ⊎ (0 < length steps) → 0 < length (reverse steps)
+    go (inl here) = absurd (omega (arith, here, same, some))
+    go (inr more) = omega (arith, more, length-reverse steps)
