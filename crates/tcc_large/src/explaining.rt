@@ -11,7 +11,7 @@ use tcc_reads::{ResolveFault, resolve_large};
 use tcc_txn::LargeSnapshot;
 
 /// What is decided of the history of a large snapshot at a level: its first commit order; or the links of a cycle, not always of
-/// a least one; or, where none was found, that there is one. Or all its read faults, where there are some.
+/// a least one. Or all its read faults, where there are some.
 pub fn explain_large(
     alloc: Global,
     snapshot: &LargeSnapshot,

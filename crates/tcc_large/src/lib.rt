@@ -1,5 +1,5 @@
-//! What is decided of a history of any size: its first commit order, or a cycle in which each link was judged by itself. How a
-//! cycle is found is trusted by nobody: only what the judge passes goes out.
+//! What is decided of a history of any size: its first commit order, or a cycle. The finder of a cycle is trusted by nobody:
+//! each link of what it finds is judged by itself, and where that isn't a cycle, a plain search, which is complete, finds one.
 #![tactic(auto)]
 
 mod answer;
