@@ -1,7 +1,7 @@
 -- The parts that a text gives are those of the certificate that it is the text of, and end where its reading ends.
 use Rattle.std.proofs.Common.{◌≡◌, ℕ, zero, suc, ◌+◌, ◌-◌, Bool, true, false, cond, eqb, length, List, [], ◌∷◌, ◌++◌}
 use Rattle.std.proofs.Common.{Option, None, Some, Result, Ok, Err, refl, sym, ap, subst, ◌∙◌, append_assoc, append-nil}
-use Rattle.std.proofs.Common.{codes}
+use Rattle.std.proofs.Common.{codes, ◌≤◌, arith, inl, inr}
 use Rattle.std.specs.Prelude.{map}
 use Rattle.tcc_graph.specs.declared.level.Level.{Level}
 use Rattle.tcc_graph.specs.declared.level.Level.TheVariants.{Causal, Atomic}
@@ -19,7 +19,7 @@ use Rattle.tcc_cert.specs.declared.reading.forms.Sizes.{Sizes}
 use Rattle.tcc_cert.specs.declared.reading.forms.Sizes.TheVariants.{Order, Cycle}
 use Rattle.tcc_cert.specs.Ranges.{ranges_of}
 use Rattle.tcc_cert.specs.Tables.{lowest}
-use Rattle.tcc_cert.specs.Outcomes.{reached}
+use Rattle.tcc_cert.specs.Outcomes.{IsReading, reached}
 use Rattle.tcc_cert.specs.Parts.{◌>>>◌, Parts, after_part, claim_parts, cycle_parts, end_parts, far_parts, link_rows}
 use Rattle.tcc_cert.specs.Parts.{near_parts, order_parts, order_rest, parts_behind, parts_of, parts_read}
 use Rattle.tcc_cert.specs.Parts.{rows_then, whole_parts}
@@ -198,3 +198,11 @@ line-reached bytes = by (certificate_at (start_of bytes)) (told-whole (start_of 
     by : (read : Reads Certificate) → IsTold [] read (parts_read bytes) → (parts_read bytes).line ≡ reached read
     by (Ok x) is = is.1
     by (Err fault) is = is.0
+
+-- whatever is answered, no line before it has a fault
+pub first-fault : (bytes : List ℕ) (answered first : CertFault) → IsReading bytes (Err answered) → certificate_read bytes ≡ Err first
+    → answered.line ≤ first.line
+first-fault bytes answered first (inl is) read =
+    let same : answered.line ≡ first.line = sym (parts-fault bytes answered is).1 ∙ (parts-fault bytes first read).1 in
+    omega (arith, same)
+first-fault bytes answered first (inr cut) read = omega (arith, cut.last, line-reached bytes, (parts-fault bytes first read).1)

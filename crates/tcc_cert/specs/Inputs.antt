@@ -17,6 +17,10 @@ line_in input = take (input.passed - 1) (window_bytes input.window)
 abbrev pub HasFailed : {R : Type 0} → Input R → Type 0
 HasFailed input = IsTrue input.source.failed
 
+-- no read of the reader failed in between
+abbrev pub AsBefore : {R : Type 0} → Input R → Input R → Type 0
+AsBefore old new = new.source.failed ≡ old.source.failed
+
 -- behind the last line the input has these bytes, from the line with this number on
 pub record IsAt {R : Type 0} (remaining : R → Option (List ℕ)) (input : Input R) (at : Place) : Type 0 where
   pub number : input.number ≡ at.line

@@ -1,6 +1,7 @@
 //! What the definitions of a certificate's text say by themselves.
-ghost use Rattle.std.specs.Prelude.{◌≡◌, ℕ, List, Err, None, Ok, Some};
+ghost use Rattle.std.specs.Prelude.{◌≡◌, ◌≤◌, ℕ, List, Err, None, Ok, Some};
 ghost use Rattle.tcc_cert.specs.Texts.{HasText, certificate_text};
+ghost use Rattle.tcc_cert.specs.Outcomes.{IsReading};
 ghost use Rattle.tcc_cert.specs.Parts.{parts_of, parts_read};
 ghost use Rattle.tcc_cert.specs.Reading.{certificate_read};
 ghost use Rattle.tcc_cert.specs.declared.certificate.Certificate.{Certificate};
@@ -25,4 +26,10 @@ pub fn parts_of_what_is_read()
 pub fn parts_before_the_fault()
     ensures { (bytes : List ℕ) (f : CertFault) → certificate_read bytes ≡ Err f
         → ((parts_read bytes).fault ≡ Some f.kind) × ((parts_read bytes).line ≡ f.line) }
+{}
+
+/// Whatever fault is answered of a text, that of a failed reader and of refused memory too: no line before it has one.
+pub fn no_fault_before()
+    ensures { (bytes : List ℕ) (answered first : CertFault) → IsReading bytes (Err answered) → certificate_read bytes ≡ Err first
+        → answered.line ≤ first.line }
 {}

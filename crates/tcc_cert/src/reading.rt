@@ -2,7 +2,7 @@
 ghost use Rattle.std.specs.Prelude.{◌≡◌, ◌<◌, ◌++◌, ◌∷◌, ℕ, [], IfErr, IfSome, List, OnOk, false, true};
 ghost use Rattle.tcc_cert.specs.Ahead.{IsAhead, is_new, line_wanted};
 ghost use Rattle.tcc_cert.specs.Collecting.{Collects, HasRow};
-ghost use Rattle.tcc_cert.specs.Inputs.{Gives, IsAt};
+ghost use Rattle.tcc_cert.specs.Inputs.{AsBefore, Gives, IsAt};
 ghost use Rattle.tcc_cert.specs.declared.ranges.TheConstants.{MAX_HEADER_BYTES};
 ghost use Rattle.tcc_cert.specs.Outcomes.{IsReading, Shows};
 ghost use Rattle.tcc_cert.specs.Parts.{Parts, parts_read};
@@ -53,7 +53,8 @@ fn mark<R: Read>(
     version: Version,
     wanted: &[u8],
 ) -> Result<(), CertFault>
-    ensures { (at : Place) → IsAt R.remaining input.old at → Gives R.remaining at (words version (word_line wanted.now) at) result input.new }
+    ensures works { OnOk result (AsBefore input.old input.new) }
+    ensures gives { (at : Place) → IsAt R.remaining input.old at → Gives R.remaining at (words version (word_line wanted.now) at) result input.new }
 {
     let line = input.next_of(version)?;
     at_line(line, word_line(alloc, input.line(), wanted))
@@ -78,7 +79,8 @@ fn header_line(line: &[u8]) -> Result<(Version, Level), CertFaultKind>
 
 /// The first line.
 fn header<R: Read>(input: &mut Input<R>) -> Result<(Version, Level), CertFault>
-    ensures { (at : Place) → IsAt R.remaining input.old at → Gives R.remaining at (next MAX_HEADER_BYTES header_line at) result input.new }
+    ensures works { OnOk result (AsBefore input.old input.new) }
+    ensures gives { (at : Place) → IsAt R.remaining input.old at → Gives R.remaining at (next MAX_HEADER_BYTES header_line at) result input.new }
 {
     let line = input.next(MAX_HEADER_BYTES)?;
     at_line(line, header_line(input.line()))

@@ -53,12 +53,13 @@ fn line_length(bytes: &[u8], searched: usize) -> usize
 }
 
 impl<R: Read> Input<R> {
-    ghost use Rattle.tcc_cert.specs.Inputs.{Ends, FindsLine, IsAt, TakesLine, line_in};
+    ghost use Rattle.tcc_cert.specs.Inputs.{Ends, FindsLine, AsBefore, HasFailed, IsAt, TakesLine, line_in};
     ghost use Rattle.tcc_cert.specs.Reading.{Place};
     ghost use Rattle.tcc_cert.specs.Ranges.{ranges_of};
 
     pub(crate) fn new(reader: R) -> Input<R>
-        ensures { IfSome (R.remaining reader) (λ bytes. IsAt R.remaining result (record { line = 1; bytes = bytes })) }
+        ensures start { IfSome (R.remaining reader) (λ bytes. IsAt R.remaining result (record { line = 1; bytes = bytes })) }
+        ensures works { HasFailed result → ⊥ }
     {
         Input {
             source: Source::new(reader),
@@ -93,6 +94,7 @@ impl<R: Read> Input<R> {
         ensures stays { OnOk result ((at : Place) → IsAt R.remaining self.old at → IsAt R.remaining self.new at) }
         ensures passed { self.new.passed ≡ 0 }
         ensures number { self.new.number ≡ self.old.number }
+        ensures works { OnOk result (AsBefore self.old self.new) }
         ensures held { IfOk result (λ length_found. length_found < length (window_bytes self.new.window)) }
     {
         let mut searched = 0;
@@ -118,7 +120,8 @@ impl<R: Read> Input<R> {
     /// Moves on to the next line, of at most so many bytes, and gives its number.
     pub(crate) fn next(&mut self, most: usize) -> Result<u64, CertFault>
         requires { most < WINDOW_BYTES }
-        ensures { (at : Place) → IsAt R.remaining self.old at → TakesLine R.remaining most at result self.new }
+        ensures works { OnOk result (AsBefore self.old self.new) }
+        ensures line { (at : Place) → IsAt R.remaining self.old at → TakesLine R.remaining most at result self.new }
     {
         self.window.pass(self.passed);
         self.passed = 0;
@@ -141,14 +144,16 @@ impl<R: Read> Input<R> {
 
     /// The same of a line behind the first, by the version.
     pub(crate) fn next_of(&mut self, version: Version) -> Result<u64, CertFault>
-        ensures { (at : Place) → IsAt R.remaining self.old at → TakesLine R.remaining (ranges_of version).line_bytes at result self.new }
+        ensures works { OnOk result (AsBefore self.old self.new) }
+        ensures line { (at : Place) → IsAt R.remaining self.old at → TakesLine R.remaining (ranges_of version).line_bytes at result self.new }
     {
         self.next(ranges_of(version).line_bytes)
     }
 
     /// Nothing stands behind the last line.
     pub(crate) fn end(&mut self) -> Result<(), CertFault>
-        ensures { (at : Place) → IsAt R.remaining self.old at → Ends at result self.new }
+        ensures works { OnOk result (AsBefore self.old self.new) }
+        ensures ends { (at : Place) → IsAt R.remaining self.old at → Ends at result self.new }
     {
         self.window.pass(self.passed);
         self.passed = 0;

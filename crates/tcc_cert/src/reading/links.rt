@@ -1,6 +1,6 @@
 //! The lines of links and of the steps of their walks.
-ghost use Rattle.std.specs.Prelude.{◌≡◌};
-ghost use Rattle.tcc_cert.specs.Inputs.{Gives, IsAt};
+ghost use Rattle.std.specs.Prelude.{◌≡◌, OnOk};
+ghost use Rattle.tcc_cert.specs.Inputs.{AsBefore, Gives, IsAt};
 ghost use Rattle.tcc_cert.specs.Reading.{Place, link_at, repeated, step_line, with_walk, words};
 
 use super::forms::Head;
@@ -18,7 +18,8 @@ fn walk<R: Read>(
     version: Version,
     count: u32,
 ) -> Result<Walk, CertFault>
-    ensures { (at : Place) → IsAt R.remaining input.old at → Gives R.remaining at (repeated (words version (step_line version)) count at) result input.new }
+    ensures works { OnOk result (AsBefore input.old input.new) }
+    ensures gives { (at : Place) → IsAt R.remaining input.old at → Gives R.remaining at (repeated (words version (step_line version)) count at) result input.new }
 {
     let mut steps = Vec::new(alloc);
     'lines: for _ in 0..count {
@@ -60,7 +61,8 @@ pub(crate) fn link<R: Read>(
     input: &mut Input<R>,
     version: Version,
 ) -> Result<Link, CertFault>
-    ensures { (at : Place) → IsAt R.remaining input.old at → Gives R.remaining at (link_at version at) result input.new }
+    ensures works { OnOk result (AsBefore input.old input.new) }
+    ensures gives { (at : Place) → IsAt R.remaining input.old at → Gives R.remaining at (link_at version at) result input.new }
 {
     let head = next_line::<Head, R>(alloc, input, version)?;
     let walk = walk(alloc, input, version, head.steps)?;

@@ -18,12 +18,13 @@ pub struct CertReader<R> {
 }
 
 impl<R: Read> CertReader<R> {
-    ghost use Rattle.tcc_cert.specs.Ahead.{IsAhead, TakesPart, fault_met, has_ended, is_claim, is_end, is_new, line_wanted, rows_left};
+    ghost use Rattle.tcc_cert.specs.Ahead.{IsAhead, ReaderFailed, TakesPart, fault_met, has_ended, is_claim, is_end, is_new, line_wanted, rows_left};
 
     /// The parts of what the reader gives.
     pub fn new(reader: R) -> CertReader<R>
         ensures ahead { IfSome (R.remaining reader) (λ bytes. IsAhead R.remaining result (parts_read bytes)) }
         ensures fresh { is_new result ≡ true }
+        ensures works { ReaderFailed result → ⊥ }
     {
         CertReader {
             input: Input::new(reader),
@@ -37,6 +38,9 @@ impl<R: Read> CertReader<R> {
 
         // Lines are counted from 1.
         ensures counted { 0 < line_wanted self.old }
+
+        // Whatever is known of the bytes, a part comes only where no read of the reader failed.
+        ensures works { OnOk result (ReaderFailed self.new → ReaderFailed self.old) }
 
         // A fault stays, and so does the end, whatever is known of the bytes.
         ensures stops { IfErr result (λ fault. fault_met self.new ≡ Some fault) }

@@ -1,6 +1,6 @@
 //! Lines of numbers.
-ghost use Rattle.std.specs.Prelude.{◌≡◌, ◌<◌, ◌≤◌, ◌+◌, All, IfOk, IfSome, length};
-ghost use Rattle.tcc_cert.specs.Inputs.{Gives, IsAt};
+ghost use Rattle.std.specs.Prelude.{◌≡◌, ◌<◌, ◌≤◌, ◌+◌, All, IfOk, IfSome, OnOk, length};
+ghost use Rattle.tcc_cert.specs.Inputs.{AsBefore, Gives, IsAt};
 ghost use Rattle.tcc_cert.specs.Outcomes.{Shows, ShowsItems};
 ghost use Rattle.tcc_cert.specs.Reading.{Place, numbers_line, numbers_of, parted, words, words_of};
 ghost use Rattle.tcc_cert.specs.Texts.{numbers_words, words_text};
@@ -107,7 +107,8 @@ pub(crate) fn row<R: Read>(
     count: usize,
     most: u32,
 ) -> Result<Numbers, CertFault>
-    ensures { (at : Place) → IsAt R.remaining input.old at → Gives R.remaining at (words version (numbers_line count most) at) result input.new }
+    ensures works { OnOk result (AsBefore input.old input.new) }
+    ensures gives { (at : Place) → IsAt R.remaining input.old at → Gives R.remaining at (words version (numbers_line count most) at) result input.new }
 {
     let line = input.next_of(version)?;
     at_line(line, numbers_line(alloc, input.line(), count, most))

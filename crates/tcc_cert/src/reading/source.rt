@@ -1,5 +1,5 @@
 //! A reader that keeps in mind that it failed.
-ghost use Rattle.std.specs.Prelude.{◌≡◌, IsTrue, OnErr, false};
+ghost use Rattle.std.specs.Prelude.{◌≡◌, IsTrue, OnErr, OnOk, false};
 ghost use Rattle.std.specs.Io.{ReadsAtMost};
 ghost use Rattle.std.specs.Io.KnownBytes.{ReadConsumes};
 
@@ -28,6 +28,7 @@ impl<R: Read> Source<R> {
     pub(crate) fn read(&mut self, buf: &mut [u8]) -> io::Result<usize>
         ensures bound { ReadsAtMost result buf.new }
         ensures bytes { ReadConsumes (R.remaining self.old.reader) (R.remaining self.new.reader) result buf.new }
+        ensures works { OnOk result (self.new.failed ≡ self.old.failed) }
         ensures failed { OnErr result (IsTrue self.new.failed) }
     {
         match self.reader.read(buf) {

@@ -1,6 +1,6 @@
 //! The parts of a certificate's text, each with what stands behind it.
-ghost use Rattle.std.specs.Prelude.{◌≡◌, ◌<◌, ◌+◌, ℕ, IfOk};
-ghost use Rattle.tcc_cert.specs.Inputs.{IsAt};
+ghost use Rattle.std.specs.Prelude.{◌≡◌, ◌<◌, ◌+◌, ℕ, IfOk, OnOk};
+ghost use Rattle.tcc_cert.specs.Inputs.{AsBefore, IsAt};
 ghost use Rattle.tcc_cert.specs.Parts.{Parts, end_parts, far_parts, link_rows, order_parts, order_rest, parts_behind, whole_parts};
 ghost use Rattle.tcc_cert.specs.Reading.{Place};
 ghost use Rattle.tcc_cert.specs.Shapes.{behind_table, height, links_from, rows_from, table_parts, table_rows};
@@ -59,6 +59,7 @@ pub(crate) type NextPart = Result<(Part, Phase), CertFault>;
 
 /// The last line, and nothing behind it.
 fn end<R: Read>(alloc: Global, input: &mut Input<R>, version: Version) -> NextPart
+    ensures works { OnOk result (AsBefore input.old input.new) }
     ensures step { (at : Place) → IsAt R.remaining input.old at → TakesStep R.remaining at.line (end_parts version at) result input.new }
     ensures row { (left : ℕ) → IfOk result (λ given. IsRowStep left given) }
 {
@@ -76,6 +77,7 @@ fn table_row<R: Read>(
     left: u32,
 ) -> NextPart
     requires { 0 < left }
+    ensures works { OnOk result (AsBefore input.old input.new) }
     ensures step { (at : Place) (from : ℕ) → from + left ≡ height table → IsAt R.remaining input.old at
         → TakesStep R.remaining at.line (table_rows version table from left at) result input.new }
     ensures row { IfOk result (λ given. IsRowStep (rows_from table left) given) }
@@ -97,6 +99,7 @@ fn far<R: Read>(
     version: Version,
     transactions: u32,
 ) -> NextPart
+    ensures works { OnOk result (AsBefore input.old input.new) }
     ensures step { (at : Place) → IsAt R.remaining input.old at → TakesStep R.remaining at.line (far_parts version transactions at) result input.new }
     ensures row { IfOk result (λ given. IsRowStep transactions given) }
 {
@@ -116,6 +119,7 @@ fn behind_table<R: Read>(
     version: Version,
     table: TableShape,
 ) -> NextPart
+    ensures works { OnOk result (AsBefore input.old input.new) }
     ensures step { (at : Place) → IsAt R.remaining input.old at → TakesStep R.remaining at.line (behind_table version table at) result input.new }
     ensures row { IfOk result (λ given. IsRowStep (rows_from table 0) given) }
 {
@@ -133,6 +137,7 @@ fn rows<R: Read>(
     table: TableShape,
     left: u32,
 ) -> NextPart
+    ensures works { OnOk result (AsBefore input.old input.new) }
     ensures step { (at : Place) (from : ℕ) → from + left ≡ height table → IsAt R.remaining input.old at
         → TakesStep R.remaining at.line (table_rows version table from left at) result input.new }
     ensures row { IfOk result (λ given. IsRowStep (rows_from table left) given) }
@@ -151,6 +156,7 @@ fn marked<R: Read>(
     version: Version,
     table: TableShape,
 ) -> NextPart
+    ensures works { OnOk result (AsBefore input.old input.new) }
     ensures step { (at : Place) → IsAt R.remaining input.old at → TakesStep R.remaining at.line (table_parts version table at) result input.new }
     ensures row { IfOk result (λ given. IsRowStep (rows_from table (height table)) given) }
 {
@@ -186,6 +192,7 @@ fn order<R: Read>(
     transactions: u32,
     sessions: u32,
 ) -> NextPart
+    ensures works { OnOk result (AsBefore input.old input.new) }
     ensures step { (at : Place) → IsAt R.remaining input.old at
         → TakesStep R.remaining at.line (order_parts version level transactions sessions at) result input.new }
     ensures claim { IfOk result IsClaimStep }
@@ -216,6 +223,7 @@ fn next_link<R: Read>(
     left: u32,
 ) -> NextPart
     requires { 0 < left }
+    ensures works { OnOk result (AsBefore input.old input.new) }
     ensures step { (at : Place) (from : ℕ) → IsAt R.remaining input.old at
         → TakesStep R.remaining at.line (link_rows version transactions from left at) result input.new }
     ensures row { IfOk result (λ given. IsRowStep (links_from transactions left) given) }
@@ -237,6 +245,7 @@ fn links<R: Read>(
     transactions: u32,
     left: u32,
 ) -> NextPart
+    ensures works { OnOk result (AsBefore input.old input.new) }
     ensures step { (at : Place) (from : ℕ) → IsAt R.remaining input.old at
         → TakesStep R.remaining at.line (link_rows version transactions from left at) result input.new }
     ensures row { IfOk result (λ given. IsRowStep (links_from transactions left) given) }
@@ -250,6 +259,7 @@ fn links<R: Read>(
 
 /// What stands behind the first line, up to the links of a cycle or the clocks of an order.
 fn claim<R: Read>(alloc: Global, input: &mut Input<R>, version: Version, level: Level) -> NextPart
+    ensures works { OnOk result (AsBefore input.old input.new) }
     ensures step { (at : Place) → IsAt R.remaining input.old at → TakesStep R.remaining at.line (parts_behind ((version, level), at)) result input.new }
     ensures claim { IfOk result IsClaimStep }
 {
@@ -282,6 +292,7 @@ fn claim<R: Read>(alloc: Global, input: &mut Input<R>, version: Version, level: 
 
 /// The text up to its claim.
 fn whole<R: Read>(alloc: Global, input: &mut Input<R>) -> NextPart
+    ensures works { OnOk result (AsBefore input.old input.new) }
     ensures step { (at : Place) → IsAt R.remaining input.old at → TakesStep R.remaining at.line (whole_parts at) result input.new }
     ensures claim { IfOk result IsClaimStep }
 {
@@ -291,6 +302,7 @@ fn whole<R: Read>(alloc: Global, input: &mut Input<R>) -> NextPart
 
 /// The next part, and what stands behind it.
 pub(crate) fn step<R: Read>(alloc: Global, input: &mut Input<R>, stage: Stage) -> NextPart
+    ensures works { OnOk result (AsBefore input.old input.new) }
     ensures step { (at : Place) (ahead : Parts) → IsAt R.remaining input.old at → IsBehind stage at ahead
         → TakesStep R.remaining at.line ahead result input.new }
     ensures follows { IfOk result (λ given. IsStepAt stage given) }

@@ -1,5 +1,5 @@
 //! Bytes that came from a reader and wait to be judged.
-ghost use Rattle.std.specs.Prelude.{◌≡◌, ℕ, ◌<◌, ◌≤◌, ◌++◌, [], List, IfOk, IsTrue, OnErr, drop, length};
+ghost use Rattle.std.specs.Prelude.{◌≡◌, ℕ, ◌<◌, ◌≤◌, ◌++◌, [], List, IfOk, IsTrue, OnErr, OnOk, drop, length};
 ghost use Rattle.tcc_cert.specs.declared.reading.window.TheConstants.{WINDOW_BYTES};
 ghost use Rattle.std.specs.Io.KnownBytes.{Consumes, IsAtEnd, Keeps};
 
@@ -67,6 +67,7 @@ impl Window {
         ensures more { IfOk result (λ count. (more : List ℕ) × (length more ≡ count) × (window_bytes self.new ≡ window_bytes self.old ++ more)
             × Consumes (R.remaining source.old.reader) (R.remaining source.new.reader) more) }
         ensures end { IfOk result (λ count. count ≡ 0 → IsAtEnd (R.remaining source.new.reader)) }
+        ensures works { OnOk result (source.new.failed ≡ source.old.failed) }
         ensures failed { OnErr result (IsTrue source.new.failed) }
     {
         self.gather();

@@ -1,6 +1,6 @@
 //! The lines of words, each judged by the form of what it has to say.
-ghost use Rattle.std.specs.Prelude.{◌≡◌, map, IfOk, Result};
-ghost use Rattle.tcc_cert.specs.Inputs.{Gives, IsAt};
+ghost use Rattle.std.specs.Prelude.{◌≡◌, map, IfOk, OnOk, Result};
+ghost use Rattle.tcc_cert.specs.Inputs.{AsBefore, Gives, IsAt};
 ghost use Rattle.tcc_cert.specs.Outcomes.{Shows};
 ghost use Rattle.tcc_cert.specs.Reading.{Place, words, words_of};
 
@@ -46,7 +46,8 @@ pub(crate) fn next_line<L: WordLine, R: Read>(
     input: &mut Input<R>,
     version: Version,
 ) -> Result<L, CertFault>
-    ensures { (at : Place) → IsAt R.remaining input.old at → Gives R.remaining at (words version (L.form version) at) result input.new }
+    ensures works { OnOk result (AsBefore input.old input.new) }
+    ensures gives { (at : Place) → IsAt R.remaining input.old at → Gives R.remaining at (words version (L.form version) at) result input.new }
 {
     let line = input.next_of(version)?;
     at_line(line, line_of(alloc, version, input.line()))

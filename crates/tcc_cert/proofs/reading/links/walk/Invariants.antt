@@ -1,4 +1,5 @@
 -- the steps so far were read
+use Rattle.std.proofs.Common.{◌≡◌}
 use Rattle.tcc_cert.specs.Inputs.{IsAt}
 use Rattle.tcc_cert.specs.Reading.{Place, step_line, words}
 use Rattle.tcc_cert.proofs.StepFacts.{IsPart}
@@ -6,5 +7,8 @@ use Rattle.tcc_cert.proofs.reading.links.walk.Given as goal
 
 abbrev pub invariant-lines : goal.invariant-lines
 invariant-lines g l =
-    (at : Place) → IsAt g.R.Read.remaining l.initial.input at
-    → (now : Place) × IsPart (λ i. words l.version (step_line l.version)) l.count at l.steps.items l.counter now × IsAt g.R.Read.remaining l.input now
+    record {
+      works : l.input.source.failed ≡ l.initial.input.source.failed;
+      read : (at : Place) → IsAt g.R.Read.remaining l.initial.input at
+          → (now : Place) × IsPart (λ i. words l.version (step_line l.version)) l.count at l.steps.items l.counter now × IsAt g.R.Read.remaining l.input now;
+    }

@@ -13,17 +13,17 @@ pub returns-in_err-transactions-clause-step : goal.returns-in_err-transactions-c
 returns-in_err-transactions-clause-step g c at before =
     let v = c.args.version in
     let p = err_from_is_err_and c.from_residual.result c.from_residual.ensures.1 in
-    rw (p.1, p.2) (part-faults (words v (sizes_line v) at) _ _ (λ sizes. onward-claim v c.args.level sizes.0 sizes.1) (c.in_err-transactions.ensures at before))
+    rw (p.1, p.2) (part-faults (words v (sizes_line v) at) _ _ (λ sizes. onward-claim v c.args.level sizes.0 sizes.1) (c.in_err-transactions.ensures.gives at before))
 
 pub returns-in-Order-clause-step : goal.returns-in-Order-clause-step
 returns-in-Order-clause-step g c at before =
-    let sizes = c.in_ok-transactions.ensures at before in
+    let sizes = c.in_ok-transactions.ensures.gives at before in
     sizes-then g.R.Read.remaining c.args.version c.args.level at c.order.result c.order.new.input sizes.1
     (rw c.in-Order.is (c.order.ensures.step sizes.0 sizes.2))
 
 pub returns-in-Cycle-clause-step : goal.returns-in-Cycle-clause-step
 returns-in-Cycle-clause-step g c at before =
-    let sizes = c.in_ok-transactions.ensures at before in
+    let sizes = c.in_ok-transactions.ensures.gives at before in
     let cycle = c.in-Cycle in
     let v = c.args.version in
     let given = Ok (part.Cycle v c.args.level cycle.transactions cycle.links cycle.least, phase.Going (stage.Links v cycle.transactions cycle.links)) in

@@ -10,7 +10,7 @@ use Rattle.tcc_cert.proofs.reading.stages.end.Goals as goal
 pub returns-in_err-end-clause-step : goal.returns-in_err-end-clause-step
 returns-in_err-end-clause-step g c at before =
     let v = c.args.version in
-    let mark = c.in_ok-mark.ensures at before in
+    let mark = c.in_ok-mark.ensures.gives at before in
     let p = err_from_is_err_and c.from_residual-in_err-end.result c.from_residual-in_err-end.ensures.1 in
     rw (p.1, p.2) (end-faults v at mark.0 _ _ c.end.new.self mark.1 (onward-at _ (onward-words v (word_line (codes "end")) at) mark.1)
-    (c.in_err-end.ensures mark.0 mark.2))
+    (c.in_err-end.ensures.ends mark.0 mark.2))

@@ -10,11 +10,11 @@ returns-in_err-mark-clause-step g c at before =
     let t = c.args.table in
     let p = err_from_is_err_and c.from_residual.result c.from_residual.ensures.1 in
     rw (p.1, p.2) (mark-faults c.args.version (word_before t) (table_rows c.args.version t 0 (height t)) at _ (onward-table c.args.version t 0 (height t))
-    (rw c.word.ensures at (c.in_err-mark.ensures at before)))
+    (rw c.word.ensures at (c.in_err-mark.ensures.gives at before)))
 
 pub returns-clause-step : goal.returns-clause-step
 returns-clause-step g c at before =
     let t = c.args.table in
-    let read = rw c.word.ensures at (c.in_ok-mark.ensures at before) in
+    let read = rw c.word.ensures at (c.in_ok-mark.ensures.gives at before) in
     mark-then g.R.Read.remaining c.args.version (word_before t) (table_rows c.args.version t 0 (height t)) at c.rows.result c.rows.new.input read.1
     (rw c.height.ensures at (c.rows.ensures.step read.0 0 (omega (arith, c.height.ensures)) read.2))

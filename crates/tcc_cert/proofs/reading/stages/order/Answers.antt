@@ -13,11 +13,11 @@ returns-in_err-order-clause-step g c at before =
     let n = c.args.transactions in
     let p = err_from_is_err_and c.from_residual.result c.from_residual.ensures.1 in
     rw (p.1, p.2) (part-faults (words v (numbers_line n (ranges_of v).number) at) _ _ (λ order. onward-rest v c.args.level n c.args.sessions order.1)
-    (rw c.ranges_of.ensures.value at (c.in_err-order.ensures at before)))
+    (rw c.ranges_of.ensures.value at (c.in_err-order.ensures.gives at before)))
 
 pub returns-clause-step : goal.returns-clause-step
 returns-clause-step g c at before =
-    let order = rw c.ranges_of.ensures.value at (c.in_ok-order.ensures at before) in (
+    let order = rw c.ranges_of.ensures.value at (c.in_ok-order.ensures.gives at before) in (
       order_rest c.args.version c.args.level c.args.transactions c.args.sessions order.0,
       rw order.1 refl,
       (order.0, order.2, c.behind_order-stage.ensures.behind order.0),

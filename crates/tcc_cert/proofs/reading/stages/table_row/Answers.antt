@@ -11,13 +11,13 @@ returns-in_err-numbers-clause-step g c at from all before =
     let more : c.args.left ≡ suc (c.args.left - 1) = omega (arith, c.requires) in
     rw (p.1, p.2)
     (row-faults c.args.version c.args.table from (c.args.left - 1) c.args.left at _ more
-    (rw (c.columns-columns.ensures from all, c.most.ensures) at (c.in_err-numbers.ensures at before)))
+    (rw (c.columns-columns.ensures from all, c.most.ensures) at (c.in_err-numbers.ensures.gives at before)))
 
 pub returns-clause-step : goal.returns-clause-step
 returns-clause-step g c at from all before =
     let left = c.args.left - 1 in
     let more : c.args.left ≡ suc left = omega (arith, c.requires) in
-    let row = rw (c.columns-columns.ensures from all, c.most.ensures) at (c.in_ok-numbers.ensures at before) in (
+    let row = rw (c.columns-columns.ensures from all, c.most.ensures) at (c.in_ok-numbers.ensures.gives at before) in (
       table_rows c.args.version c.args.table (from + 1) left row.0,
       rw c.part.ensures
           (row-first c.args.table c.in_ok-numbers.numbers _

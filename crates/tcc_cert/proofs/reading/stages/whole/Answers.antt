@@ -11,10 +11,10 @@ use Rattle.tcc_cert.proofs.reading.stages.whole.Goals as goal
 pub returns-in_err-version-clause-step : goal.returns-in_err-version-clause-step
 returns-in_err-version-clause-step g c at before =
     let p = err_from_is_err_and c.from_residual.result c.from_residual.ensures.1 in
-    rw (p.1, p.2) (part-faults (next MAX_HEADER_BYTES header_line at) parts_behind _ onward-behind (c.in_err-version.ensures at before))
+    rw (p.1, p.2) (part-faults (next MAX_HEADER_BYTES header_line at) parts_behind _ onward-behind (c.in_err-version.ensures.gives at before))
 
 pub returns-clause-step : goal.returns-clause-step
 returns-clause-step g c at before =
-    let header = c.in_ok-version.ensures at before in
+    let header = c.in_ok-version.ensures.gives at before in
     part-then g.R.Read.remaining at (next MAX_HEADER_BYTES header_line at) parts_behind c.claim.result c.claim.new.input header.1
     (onward-at _ (onward-next MAX_HEADER_BYTES header_line at) header.1) (c.claim.ensures.step header.0 header.2)

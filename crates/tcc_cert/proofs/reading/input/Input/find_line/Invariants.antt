@@ -11,6 +11,7 @@ invariant-reads g l =
     record {
       passed : l.self.passed ≡ 0;
       number : l.self.number ≡ l.initial.self.number;
+      works : l.self.source.failed ≡ l.initial.self.source.failed;
       within : l.searched ≤ length (window_bytes l.self.window);
       none : line_length (take l.searched (window_bytes l.self.window)) ≡ l.searched;
       stays : (at : Place) → IsAt g.R.Read.remaining l.initial.self at → IsAt g.R.Read.remaining l.self at;

@@ -5,8 +5,8 @@ use Rattle.tcc_cert.specs.WindowBytes.{window_bytes}
 use Rattle.tcc_cert.proofs.InputFacts.{passed-front}
 use Rattle.tcc_cert.proofs.reading.input.Input.next.Goals as goal
 
-pub returns-in-Some : goal.returns-in-Some
-returns-in-Some g c at before =
+pub returns-in-Some-clause-line : goal.returns-in-Some-clause-line
+returns-in-Some-clause-line g c at before =
     let held = window_bytes c.find_line.new.self.window in
     let n = c.in-Ok.length in
     let within = c.in-Ok.ensures.held in
