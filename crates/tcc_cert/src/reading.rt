@@ -198,7 +198,8 @@ fn whole<R: Read>(alloc: Global, parts: &mut CertReader<R>) -> Result<Certificat
 /// Reads the certificate whose text the reader gives, nothing behind it, or the first line with a fault. A line has at
 /// most 8,191 bytes and a line feed, in version 2 behind the first at most 36,863 bytes.
 /// Where the reader fails, that is the fault `Read` at the line that was wanted then,
-/// unless a line before it has another.
+/// unless a line before it has another. It is for those who want the certificate as a value, as `tcc_check::check` takes
+/// it; who only goes through it once takes a `CertReader`, which holds none of it.
 pub fn read<R: Read + Drop>(alloc: Global, reader: R) -> Result<Certificate, CertFault>
     ensures { IfSome (R.remaining reader) (λ bytes. IsReading bytes result) }
 {

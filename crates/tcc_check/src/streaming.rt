@@ -167,7 +167,7 @@ pub fn judge_stream<R: Read + Drop>(
 }
 
 /// The verdict alone: that of the rules on the certificate whose text the reader gives, or the fault of the text, also
-/// where a rule is broken before it.
+/// where a rule is broken before it. It is for those who know what is claimed, and ask whether it is certified.
 pub fn check_stream<R: Read + Drop>(
     alloc: Global,
     graph: &Graph,

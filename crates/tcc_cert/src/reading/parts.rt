@@ -10,7 +10,8 @@ use std::alloc::Global;
 use std::io::Read;
 
 /// The parts of the certificate whose text a reader gives: the claim first, then its links and the rows of its tables,
-/// one at a time. Nothing is kept of what was given.
+/// one at a time. Nothing is kept of what was given. It is for those who go through a certificate once, as the checker
+/// does: to judge it, to count or to copy.
 #[derive(Drop)]
 pub struct CertReader<R> {
     input: Input<R>,
