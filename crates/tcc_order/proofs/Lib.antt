@@ -8,6 +8,7 @@ pub mod OrderOrCycle
 pub mod Reaching
 pub mod SharedRows
 pub mod QueuedLemmas
+pub mod StepLemmas
 pub mod Fronts
 pub mod Links
 pub mod LastLemmas

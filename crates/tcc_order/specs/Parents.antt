@@ -1,6 +1,6 @@
 -- For the private stages and their proofs alone: nobody has to believe what stands here.
 -- The transactions right before each one: in its session, and those that it reads from.
-use Rattle.std.specs.Prelude.{ℕ, ◌<◌, ◌-◌, ◌≡◌, ◌==◌, if◌then◌else◌, List, [], ◌∷◌, ◌++◌, length, map, All, slice_index}
+use Rattle.std.specs.Prelude.{ℕ, ◌<◌, ◌≤◌, ◌-◌, ◌≡◌, ◌==◌, if◌then◌else◌, List, [], ◌∷◌, ◌++◌, length, map, All, take, drop, slice_index, slice_index_or}
 use Rattle.tcc_reads.specs.History.{History, count, entry_at}
 use Rattle.tcc_graph.specs.Relations.{session_pair}
 use Rattle.tcc_graph.specs.Levels.{Judged, IsAllowedWalk}
@@ -31,6 +31,18 @@ HasSourcesAt h c = All (λ read. read.1 < count h) (entry_at h c).reads
 -- the transactions of causal pairs into c from which all others of them reach c
 abbrev pub parents : History → ℕ → List ℕ
 parents h c = session_parents h c ++ sources h c
+
+-- the transactions right before c are these numbers from the one place to before the other
+pub record IsStep (h : History) (c : ℕ) (numbers : List ℕ) (start : ℕ) (end : ℕ) : Type 0 where
+  pub order : start ≤ end
+  pub within : end ≤ length numbers
+  pub is : take (end - start) (drop start numbers) ≡ parents h c
+  pub sources : HasSourcesAt h c
+
+-- so for each place of an order before `n`
+pub record AreSteps (h : History) (order : List ℕ) (spans : List (ℕ × ℕ)) (numbers : List ℕ) (n : ℕ) : Type 0 where
+  pub long : length spans ≡ n
+  pub each : (k : ℕ) → k < n → IsStep h (slice_index order k) numbers (slice_index_or spans k (0, 0)).0 (slice_index_or spans k (0, 0)).1
 
 -- a walk that the level allows leads from b to c
 abbrev pub IsAllowedFrom : Judged → ℕ → ℕ → Type 0

@@ -1,6 +1,6 @@
 //! The links at `Causal` that are kept: of each transaction and each session the last one that has to stand before it, where
 //! it doesn't reach it.
-ghost use Rattle.std.specs.Prelude.{◌≡◌, ◌≢◌, ◌<◌, ◌≤◌, ◌+◌, ◌⊎◌, ◌↔◌, ℕ, length, slice_index, All, Contains, IfOk, OnOk, ◌-◌, take, drop};
+ghost use Rattle.std.specs.Prelude.{◌≡◌, ◌≢◌, ◌<◌, ◌≤◌, ◌+◌, ◌⊎◌, ◌↔◌, ℕ, length, slice_index, All, Contains, IfOk, OnOk};
 ghost use Rattle.tcc_reads.specs.History.{IsBySession, count, owner};
 ghost use Rattle.tcc_graph.specs.Relations.{IsReadsPair};
 ghost use Rattle.tcc_order.specs.Latest.{AreOwners, AreClocks, IsOverwritten, IsLifted, AreDerived, AreEnough, AreLinks, Overwrites, HasNone, LeadsOnward, lifted_by};
@@ -15,6 +15,7 @@ ghost use Rattle.std.specs.List.Sorted.{IsNonDecreasing, IsPartitionPoint};
 ghost use Rattle.std.specs.Prelude.{nat_le, true, false, ◌∷◌, []};
 
 use crate::latest::{WIDE, find_clocks, owners};
+use crate::parents::{between, steps_along};
 use crate::sharing::SharedRows;
 use std::alloc::Global;
 use tcc_graph::LargeGraph;
@@ -86,18 +87,6 @@ fn find_spans(
         spans.push(span_of(graph.writers_at(key), bounds.0, bounds.1))?;
     }
     Ok(())
-}
-
-/// Of these numbers those from one place to before the other.
-fn between(numbers: &[u32], span: (usize, usize)) -> &[u32]
-    requires { span.1 ≤ length numbers.now }
-    ensures { result.now ≡ take (span.1 - span.0) (drop span.0 numbers.now) }
-{
-    if span.0 < span.1 {
-        &numbers[span.0..span.1]
-    } else {
-        &[]
-    }
 }
 
 /// How many of these, which rise, are no greater than `top`.
@@ -330,10 +319,11 @@ pub(crate) fn causal_links(
     let owners = owners(alloc, graph)?;
     let mut kept = no_links(alloc, graph.count())?;
     let mut table = SharedRows::new(alloc, graph.count())?;
+    let steps = steps_along(alloc, graph, parents, order)?;
     let sessions = graph.sessions().len();
     for block in 0..sessions.div_ceil(WIDE) {
         let from = (block * WIDE) as u32;
-        find_clocks(&mut table, alloc, graph, parents, &owners, from, order)?;
+        find_clocks(&mut table, graph, &owners, from, order, &steps)?;
         keep_block(alloc, &mut kept, graph, &owners, from, &table)?;
     }
     Ok(kept)

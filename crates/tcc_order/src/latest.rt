@@ -3,13 +3,13 @@ ghost use Rattle.std.specs.Prelude.{◌≡◌, ◌<◌, ◌≤◌, false, ℕ, L
 ghost use Rattle.tcc_reads.specs.History.{IsBySession, count};
 ghost use Rattle.tcc_graph.specs.Tables.{row_of};
 ghost use Rattle.tcc_graph.specs.Orders.{IsNumbering};
-ghost use Rattle.tcc_order.specs.Parents.{AreSessionParents, HasSourcesAt, parents};
+ghost use Rattle.tcc_order.specs.Parents.{AreSteps, parents};
 ghost use Rattle.tcc_order.specs.Lasts.{IsBefore, IsUpTo};
 ghost use Rattle.tcc_order.specs.Latest.{AreOwners, AreLatestOf, AreClocks, IsOutside, IsLike, LeadsOnward, lifted};
 ghost use Rattle.tcc_order.specs.declared.latest.TheConstants.{WIDE};
 
 use crate::clocking::raise_each;
-use crate::parents::find_parents;
+use crate::parents::{Steps, between};
 use crate::sharing::{Clock, SharedRows};
 use std::alloc::{AllocError, Global};
 use tcc_graph::LargeGraph;
@@ -124,26 +124,24 @@ fn put_row(
 /// order in which causal pairs lead onward.
 pub(crate) fn find_clocks(
     table: &mut SharedRows,
-    alloc: Global,
     graph: &LargeGraph,
-    parents: &[u32],
     owners: &[u32],
     from: u32,
     order: &[u32],
+    steps: &Steps,
 ) -> Result<(), NoMemory>
     requires numbered { IsBySession graph.now.entries }
-    requires parents { AreSessionParents graph.now parents.now }
     requires owners { AreOwners graph.now owners.now }
+    requires steps { AreSteps graph.now order.now steps.now.spans.items steps.now.numbers.items (length order.now) }
     requires numbering { IsNumbering (count graph.now) order.now }
     requires onward { LeadsOnward graph.now order.now }
     requires long { length table.old ≡ count graph.now }
     ensures { OnOk result (AreClocks graph.now from table.new) }
 {
     table.clear();
-    let mut found = Vec::new(alloc);
-    for number in order {
-        find_parents(&mut found, graph, parents, *number)?;
-        put_row(table, graph, owners, from, &found, *number)?;
+    for (place, number) in order.iter().enumerate() {
+        let found = between(&steps.numbers, steps.spans[place]);
+        put_row(table, graph, owners, from, found, *number)?;
     }
     Ok(())
 }

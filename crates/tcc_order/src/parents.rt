@@ -1,7 +1,7 @@
 //! The transactions right before each one: in its session, and what it reads from.
-ghost use Rattle.std.specs.Prelude.{◌≡◌, ◌<◌, ◌≤◌, ℕ, length, slice_index, All, IfOk, OnOk};
+ghost use Rattle.std.specs.Prelude.{◌≡◌, ◌<◌, ◌≤◌, ◌-◌, ℕ, length, take, drop, slice_index, All, IfOk, OnOk};
 ghost use Rattle.tcc_reads.specs.History.{count};
-ghost use Rattle.tcc_order.specs.Parents.{AreSessionParents, HasSourcesAt, session_parent, parents};
+ghost use Rattle.tcc_order.specs.Parents.{AreSessionParents, AreSteps, HasSourcesAt, session_parent, parents};
 
 use std::alloc::{AllocError, Global};
 use tcc_graph::LargeGraph;
@@ -64,4 +64,46 @@ pub(crate) fn find_parents(
         found.push(read.1)?;
     }
     Ok(())
+}
+
+/// The transactions right before each one of an order, in one list: where those of each place of the order begin and end.
+#[derive(Drop)]
+pub(crate) struct Steps {
+    pub(crate) spans: Vec<(usize, usize)>,
+    pub(crate) numbers: Vec<u32>,
+}
+
+/// The transactions right before each one of an order.
+pub(crate) fn steps_along(
+    alloc: Global,
+    graph: &LargeGraph,
+    parent_of: &[u32],
+    order: &[u32],
+) -> Result<Steps, AllocError>
+    requires below { All (λ c. c < count graph.now) order.now }
+    requires parents { AreSessionParents graph.now parent_of.now }
+    ensures { IfOk result (λ steps. AreSteps graph.now order.now steps.spans.items steps.numbers.items (length order.now)) }
+{
+    let mut spans = Vec::new(alloc);
+    let mut numbers = Vec::new(alloc);
+    let mut found = Vec::new(alloc);
+    for number in order {
+        find_parents(&mut found, graph, parent_of, *number)?;
+        let start = numbers.len();
+        numbers.extend_from_slice(&found)?;
+        spans.push((start, numbers.len()))?;
+    }
+    Ok(Steps { spans, numbers })
+}
+
+/// Of these numbers those from one place to before the other.
+pub(crate) fn between(numbers: &[u32], span: (usize, usize)) -> &[u32]
+    requires { span.1 ≤ length numbers.now }
+    ensures { result.now ≡ take (span.1 - span.0) (drop span.0 numbers.now) }
+{
+    if span.0 < span.1 {
+        &numbers[span.0..span.1]
+    } else {
+        &[]
+    }
 }

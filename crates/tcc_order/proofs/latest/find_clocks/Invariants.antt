@@ -3,5 +3,5 @@ use Rattle.std.specs.Prelude.{Contains}
 use Rattle.tcc_order.specs.Latest.{HasLatest}
 use Rattle.tcc_order.proofs.latest.find_clocks.Given as goal
 
-abbrev pub invariant-loop-number : goal.invariant-loop-number
-invariant-loop-number l = HasLatest l.graph l.from (Contains (take l.number-index l.order)) l.table
+abbrev pub invariant-loop-place : goal.invariant-loop-place
+invariant-loop-place l = HasLatest l.graph l.from (Contains (take l.place l.order)) l.table
