@@ -1,14 +1,15 @@
 -- What a search has reached by pairs, one more, and all of it.
 use Rattle.std.proofs.Common.{ℕ, zero, suc, false, get_or, ◌+◌, ◌<◌, ◌≤◌, ◌≡◌, ◌≢◌, ◌⊎◌, inl, inr, List, [], ◌∷◌, ◌++◌, length, set, replicate, reverse, refl, sym, ap, subst, ◌∙◌, arith}
-use Rattle.std.specs.Prelude.{slice_index, slice_index_or}
+use Rattle.std.specs.Prelude.{slice_index, slice_index_or, zip, All, ◌↔◌}
+use Rattle.std.specs.List.{Contains}
 use Rattle.std.proofs.lemmas.Bool.{cases_lt, cases_eq, false≢true}
-use Rattle.std.proofs.lemmas.List.{get_or-set_same, get_or-set_other, length-set, length-replicate, get_or_append_left, get_or_push, length_push, reverse-append, length-reverse}
+use Rattle.std.proofs.lemmas.List.{get_or_default, get_or-set_same, get_or-set_other, length-set, length-replicate, get_or_append_left, get_or_push, length_push, reverse-append, length-reverse}
 use Rattle.tcc_reads.specs.History.{History, count}
-use Rattle.tcc_graph.specs.Relations.{IsCausalPair, IsReadsPair, session_pair, reads_from}
+use Rattle.tcc_graph.specs.Relations.{IsCausalPair, IsReadsPair, IsSessionPair, session_pair, reads_from}
 use Rattle.tcc_graph.specs.Walks.{step_from, step_to, IsStep, Leads, IsWalk}
 use Rattle.tcc_graph.specs.declared.step.Step.{Step}
 use Rattle.tcc_graph.proofs.Pairs.{step_pair, pair_below}
-use Rattle.tcc_large.specs.Reaching.{IsReach, IsMore, AreSpread, number_at, before_at}
+use Rattle.tcc_large.specs.Reaching.{IsReach, IsMore, AreMet, AreMetBetween, AreSpread, number_at, before_at}
 use Rattle.tcc_large.proofs.Numbered.{zeros, numbered_room}
 
 pub reach_start : (h : History) (start : ℕ) → start < count h → IsReach h (replicate (count h) 0) ((start, 0) ∷ [])
@@ -53,6 +54,19 @@ pub first_read : (h : History) (a b : ℕ) (x : List ℕ) → IsCausalPair h a b
 first_read h a b x pair none is =
     let ends = pair_below h a b pair in
     (ends.0, ends.1, (0, some_read h a b pair none, sym is))
+
+-- ---- lists side by side
+zip_place : (rs : List ℕ) (ks : List (List ℕ)) (c : ℕ) (x : List ℕ) → Contains (zip rs ks) (c, x) → (k : ℕ) × (k < length rs) × (slice_index rs k ≡ c)
+zip_place [] ks c x (k, l, e) = absurd (omega (arith, l))
+zip_place (r ∷ rs) [] c x (k, l, e) = absurd (omega (arith, l))
+zip_place (r ∷ rs) (y ∷ ks) c x (zero, l, e) = (0, omega arith, ap (λ z. z.0) e)
+zip_place (r ∷ rs) (y ∷ ks) c x (suc k, l, e) = let w = zip_place rs ks c x (k, omega (arith, l), e) in (suc w.0, omega (arith, w.1), w.2)
+
+zipped : (rs : List ℕ) (ks : List (List ℕ)) (k : ℕ) → length rs ≡ length ks → k < length rs → Contains (zip rs ks) (slice_index rs k, get_or ks k [])
+zipped [] ks k long l = absurd (omega (arith, l))
+zipped (r ∷ rs) [] k long l = absurd (omega (arith, long))
+zipped (r ∷ rs) (y ∷ ks) zero long l = (0, omega arith, refl)
+zipped (r ∷ rs) (y ∷ ks) (suc k) long l = let w = zipped rs ks k (omega (arith, long)) (omega (arith, l)) in (suc w.0, omega (arith, w.1), w.2)
 
 -- ---- one more transaction
 pub pair_moved : (h : History) (a b c d : ℕ) → a ≡ b → c ≡ d → IsCausalPair h b d → IsCausalPair h a c
@@ -169,22 +183,48 @@ module _ (h : History) (places : List ℕ) (queue : List (ℕ × ℕ)) (place nu
   pub met_more : 0 < slice_index (set places number (length queue)) number
   met_more = omega (arith, get_or-set_same places number (length queue) 0 room, reach.some)
 
--- ---- all that a pair leads to from one of the numbers below n
-abbrev pub IsMet : History → List ℕ → ℕ → ℕ → Type 0
-IsMet h places from n = (v : ℕ) → v < n → IsCausalPair h from v → 0 < slice_index places v
+-- ---- all that a pair leads to from one
+pub each_next : (h : History) (places new : List ℕ) (from : ℕ) (numbers : List ℕ) (n : ℕ) → AreMet h places from numbers n
+    → ((v : ℕ) → 0 < slice_index places v → 0 < slice_index new v)
+    → (IsCausalPair h from (slice_index numbers n) → 0 < slice_index new (slice_index numbers n)) → AreMet h new from numbers (n + 1)
+each_next h places new from numbers n met more here k l pair = go (cases_lt k n)
+  where
+    go : (k < n) ⊎ (n ≤ k) → 0 < slice_index new (slice_index numbers k)
+    go (inl less) = more (slice_index numbers k) (met k less pair)
+    go (inr past) =
+        let same : n ≡ k = omega (arith, past, l) in
+        subst (λ (z : ℕ). IsCausalPair h from (slice_index numbers z) → 0 < slice_index new (slice_index numbers z)) same here pair
 
-pub met_next : (h : History) (places new : List ℕ) (from n : ℕ) → IsMet h places from n → ((v : ℕ) → 0 < slice_index places v → 0 < slice_index new v)
-    → (IsCausalPair h from n → 0 < slice_index new n) → IsMet h new from (n + 1)
-met_next h places new from n met more here v l pair = go (cases_lt v n)
+pub between_next : (h : History) (places new : List ℕ) (from low n : ℕ) → AreMetBetween h places from low n
+    → ((v : ℕ) → 0 < slice_index places v → 0 < slice_index new v) → (IsCausalPair h from n → 0 < slice_index new n)
+    → AreMetBetween h new from low (n + 1)
+between_next h places new from low n met more here v above l pair = go (cases_lt v n)
   where
     go : (v < n) ⊎ (n ≤ v) → 0 < slice_index new v
-    go (inl less) = more v (met v less pair)
+    go (inl less) = more v (met v above less pair)
     go (inr past) =
         let same : n ≡ v = omega (arith, past, l) in
         subst (λ (z : ℕ). IsCausalPair h from z → 0 < slice_index new z) same here pair
 
-pub met_all : (h : History) (places : List ℕ) (from n : ℕ) → count h ≤ n → IsMet h places from n → (v : ℕ) → IsCausalPair h from v → 0 < slice_index places v
-met_all h places from n all met v pair = met v (omega (arith, all, (pair_below h from v pair).1)) pair
+-- the readers, as they are listed with what they read
+module _ (h : History) (from : ℕ) (rs : List ℕ) (ks : List (List ℕ)) (long : length rs ≡ length ks)
+    (each : (c : ℕ) (x : List ℕ) → Contains (zip rs ks) (c, x) ↔ IsReadsPair h from c x) where
+  pub readers_below : All (λ c. c < count h) rs
+  readers_below k d l =
+      let at : get_or rs k d ≡ slice_index rs k = get_or_default rs k d 0 l in
+      let reads = (each (slice_index rs k) (get_or ks k [])).0 (zipped rs ks k long l) in
+      subst (λ (z : ℕ). z < count h) (sym at) reads.1
+
+  pub all_met : (places : List ℕ) (low high : ℕ) → ((v : ℕ) → IsSessionPair h from v ↔ ((low ≤ v) × (v < high))) → AreMetBetween h places from low high
+      → AreMet h places from rs (length rs) → (v : ℕ) → IsCausalPair h from v → 0 < slice_index places v
+  all_met places low high pairs between met v (inl session) = let w = (pairs v).0 session in between v w.0 w.1 (inl session)
+  all_met places low high pairs between met v (inr (x, reads)) =
+      let w = zip_place rs ks v x ((each v x).1 reads) in
+      subst (λ (z : ℕ). IsCausalPair h from z → 0 < slice_index places z) w.2 (met w.0 w.1) (inr (x, reads))
+
+pub more_between : (h : History) (a : List ℕ) (p : List (ℕ × ℕ)) (b : List ℕ) (q : List (ℕ × ℕ)) (from low high : ℕ) → IsMore a p b q
+    → AreMetBetween h a from low high → AreMetBetween h b from low high
+more_between h a p b q from low high more met v above l pair = more.reached v (met v above l pair)
 
 -- one place more
 pub spread_next : (h : History) (a : List ℕ) (p : List (ℕ × ℕ)) (b : List ℕ) (q : List (ℕ × ℕ)) (n : ℕ) → AreSpread h a p n → IsMore a p b q → n < length p

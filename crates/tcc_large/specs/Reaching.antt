@@ -26,6 +26,13 @@ pub record IsMore (old : List ℕ) (older : List (ℕ × ℕ)) (new : List ℕ) 
   pub same : (i : ℕ) → i < length older → slice_index_or newer i (0, 0) ≡ slice_index_or older i (0, 0)
   pub reached : (v : ℕ) → 0 < slice_index old v → 0 < slice_index new v
 
+-- of the first n of these numbers, and of those from low to below high, each to which a pair leads was reached
+abbrev pub AreMet : History → List ℕ → ℕ → List ℕ → ℕ → Type 0
+AreMet h places from numbers n = (k : ℕ) → k < n → IsCausalPair h from (slice_index numbers k) → 0 < slice_index places (slice_index numbers k)
+
+abbrev pub AreMetBetween : History → List ℕ → ℕ → ℕ → ℕ → Type 0
+AreMetBetween h places from low high = (v : ℕ) → low ≤ v → v < high → IsCausalPair h from v → 0 < slice_index places v
+
 -- all was reached to which a pair leads from one of the first n places
 abbrev pub AreSpread : History → List ℕ → List (ℕ × ℕ) → ℕ → Type 0
 AreSpread h places queue n = (i v : ℕ) → i < n → IsCausalPair h (number_at queue i) v → 0 < slice_index places v

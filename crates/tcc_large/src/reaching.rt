@@ -1,10 +1,10 @@
 //! What a transaction reaches by pairs, and by which walks. The search is complete: it serves where the finder found nothing.
-ghost use Rattle.std.specs.Prelude.{◌≡◌, ◌<◌, ◌≤◌, ℕ, length, IfOk, OnOk, slice_index};
+ghost use Rattle.std.specs.Prelude.{◌≡◌, ◌<◌, ◌≤◌, ℕ, length, All, IfOk, OnOk, slice_index};
 ghost use Rattle.tcc_txn.specs.declared.limits.TheConstants.{LARGE_COUNT};
 ghost use Rattle.tcc_reads.specs.History.{count};
 ghost use Rattle.tcc_graph.specs.Relations.{IsCausalPair};
 ghost use Rattle.tcc_graph.specs.Walks.{IsStep, IsWalk, step_from, step_to};
-ghost use Rattle.tcc_large.specs.Reaching.{IsReach, IsMore, AreSpread, number_at};
+ghost use Rattle.tcc_large.specs.Reaching.{IsReach, IsMore, AreMet, AreMetBetween, AreSpread, number_at};
 
 use crate::cells::Cells;
 use std::alloc::{AllocError, Global};
@@ -87,17 +87,64 @@ impl Reach {
         Ok(())
     }
 
-    /// Takes in all to which a pair leads from the transaction at a place.
+    /// Takes in those of these transactions to which a pair leads from the one at a place.
+    fn meet_each(
+        &mut self,
+        graph: &LargeGraph,
+        place: u32,
+        numbers: &[u32],
+    ) -> Result<(), AllocError>
+        requires few { count graph.now ≤ LARGE_COUNT }
+        requires place { place < length self.old.queue.items }
+        requires numbers { All (λ v. v < count graph.now) numbers.now }
+        requires reach { IsReach graph.now self.old.places self.old.queue.items }
+        ensures reach { OnOk result (IsReach graph.now self.new.places self.new.queue.items) }
+        ensures more { OnOk result (IsMore self.old.places self.old.queue.items self.new.places self.new.queue.items) }
+        ensures met { OnOk result (AreMet graph.now self.new.places (number_at self.old.queue.items place) numbers.now (length numbers.now)) }
+    {
+        for number in numbers {
+            self.meet(graph, place, *number)?;
+        }
+        Ok(())
+    }
+
+    /// The same of the transactions from `low` to below `high`.
+    fn meet_between(
+        &mut self,
+        graph: &LargeGraph,
+        place: u32,
+        low: u32,
+        high: u32,
+    ) -> Result<(), AllocError>
+        requires few { count graph.now ≤ LARGE_COUNT }
+        requires place { place < length self.old.queue.items }
+        requires order { low ≤ high }
+        requires high { high ≤ count graph.now }
+        requires reach { IsReach graph.now self.old.places self.old.queue.items }
+        ensures reach { OnOk result (IsReach graph.now self.new.places self.new.queue.items) }
+        ensures more { OnOk result (IsMore self.old.places self.old.queue.items self.new.places self.new.queue.items) }
+        ensures met { OnOk result (AreMetBetween graph.now self.new.places (number_at self.old.queue.items place) low high) }
+    {
+        for number in low..high {
+            self.meet(graph, place, number)?;
+        }
+        Ok(())
+    }
+
+    /// Takes in all to which a pair leads from the transaction at a place: the later ones of its session, and its readers.
     fn spread(&mut self, graph: &LargeGraph, place: u32) -> Result<(), AllocError>
+        requires few { count graph.now ≤ LARGE_COUNT }
         requires place { place < length self.old.queue.items }
         requires reach { IsReach graph.now self.old.places self.old.queue.items }
         ensures reach { OnOk result (IsReach graph.now self.new.places self.new.queue.items) }
         ensures more { OnOk result (IsMore self.old.places self.old.queue.items self.new.places self.new.queue.items) }
         ensures met { OnOk result ((v : ℕ) → IsCausalPair graph.now (number_at self.old.queue.items place) v → 0 < slice_index self.new.places v) }
     {
-        for number in 0..graph.count() {
-            self.meet(graph, place, number)?;
-        }
+        let from = self.queue[place as usize].0;
+        let (low, high) = graph.later(from);
+        self.meet_between(graph, place, low, high)?;
+        let (readers, _keys) = graph.readings(from);
+        self.meet_each(graph, place, readers)?;
         Ok(())
     }
 

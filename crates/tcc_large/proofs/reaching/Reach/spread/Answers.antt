@@ -1,0 +1,34 @@
+use Rattle.std.proofs.Common.{ℕ, ◌≡◌, length, sym, ap, subst, ◌∙◌}
+use Rattle.std.proofs.lemmas.List.{get_or_read}
+use Rattle.tcc_graph.specs.Relations.{IsCausalPair}
+use Rattle.tcc_large.specs.Reaching.{AreMet, AreMetBetween, number_at}
+use Rattle.tcc_large.proofs.Reached.{readers_below, all_met, more_between}
+use Rattle.tcc_large.proofs.reaching.Reach.spread.Goals as goal
+
+pub meet_each-requires-clause-numbers : goal.meet_each-requires-clause-numbers
+meet_each-requires-clause-numbers c =
+    readers_below c.args.graph.now c.index.result.now.0 c.readings.result.0.now c.readings.result.1.now c.readings.ensures.long c.readings.ensures.each
+
+pub returns-clause-met : goal.returns-clause-met
+returns-clause-met c = λ v pair.
+    let h = c.args.graph.now in
+    let queue = c.args.self.now.queue.items in
+    let place = c.args.place in
+    let from = c.index.result.now.0 in
+    let mid = c.meet_between.new.self in
+    let new = c.meet_each.new.self in
+    let low = c.later-low.result.0 in
+    let high = c.later-low.result.1 in
+    let readers = c.readings.result.0.now in
+    let at : from ≡ number_at queue place
+    = ap (λ (p : ℕ × ℕ). p.0) (get_or_read queue place c.index.result.now c.requires.place c.index.ensures (0, 0)) in
+    let after : number_at mid.queue.items place ≡ from
+    = ap (λ (p : ℕ × ℕ). p.0) (c.in_ok-meet_between.ensures.more.same place c.requires.place) ∙ sym at in
+    let between : AreMetBetween h new.places from low high
+    = subst (λ (z : ℕ). AreMetBetween h new.places z low high) (sym at)
+    (more_between h mid.places mid.queue.items new.places new.queue.items (number_at queue place) low high c.in_ok-meet_each.ensures.more
+    c.in_ok-meet_between.ensures.met) in
+    let met : AreMet h new.places from readers (length readers)
+    = subst (λ (z : ℕ). AreMet h new.places z readers (length readers)) after c.in_ok-meet_each.ensures.met in
+    all_met h from readers c.readings.result.1.now c.readings.ensures.long c.readings.ensures.each new.places low high c.later-low.ensures.pairs between met v
+    (subst (λ (z : ℕ). IsCausalPair h z v) (sym at) pair)
