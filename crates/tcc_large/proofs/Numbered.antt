@@ -1,9 +1,9 @@
 -- Cells that were given the numbers from 1 on, one after the other: no more numbers than cells.
-use Rattle.std.proofs.Common.{ℕ, zero, suc, ◌+◌, ◌<◌, ◌≤◌, ◌≡◌, ◌≢◌, ◌⊎◌, inl, inr, true, eqb, List, ◌∷◌, length, set, replicate, refl, sym, subst, ◌∙◌, arith}
+use Rattle.std.proofs.Common.{ℕ, zero, suc, ◌+◌, ◌<◌, ◌≤◌, ◌≡◌, ◌≢◌, ◌⊎◌, inl, inr, true, eqb, List, ◌∷◌, length, set, refl, sym, subst, ◌∙◌, arith}
 use Rattle.std.specs.Prelude.{slice_index}
 use Rattle.std.specs.List.{list_any}
 use Rattle.std.proofs.lemmas.Bool.{cases_lt, cases_eq, eq-eqb}
-use Rattle.std.proofs.lemmas.List.{get_or_past, get_or-set_same, get_or-set_other, get_or-replicate, length-replicate}
+use Rattle.std.proofs.lemmas.List.{get_or_past, get_or-set_same, get_or-set_other}
 use Rattle.std.proofs.lemmas.List.Folds.{list_any_at}
 use Rattle.std.proofs.lemmas.Map.Steps.{le-length_from_below}
 
@@ -18,13 +18,6 @@ cell_inside cells v some = go (cases_lt v (length cells))
     go : (v < length cells) ⊎ (length cells ≤ v) → v < length cells
     go (inl less) = less
     go (inr past) = absurd (omega (arith, some, get_or_past cells v 0 past))
-
-pub zeros : (n v : ℕ) → slice_index (replicate n 0) v ≡ 0
-zeros n v = go (cases_lt v n)
-  where
-    go : (v < n) ⊎ (n ≤ v) → slice_index (replicate n 0) v ≡ 0
-    go (inl less) = get_or-replicate {A = ℕ} n v 0 0 less
-    go (inr past) = get_or_past (replicate n 0) v 0 (omega (arith, past, length-replicate {A = ℕ} n 0))
 
 pub numbered_room : (cells : List ℕ) (n : ℕ) → AreNumbered cells n → n ≤ length cells + 1
 numbered_room cells n numbered = omega (arith, le-length_from_below (0 ∷ cells) n each)

@@ -12,7 +12,7 @@ use Rattle.tcc_graph.specs.Walks.{step_from, IsWalk}
 use Rattle.tcc_graph.specs.Links.{MayContradict}
 use Rattle.tcc_graph.proofs.Pairs.{step_pair, pair_below}
 use Rattle.tcc_large.specs.Reaching.{IsReach, AreSpread, number_at}
-use Rattle.tcc_large.specs.Ranked.{IsAgainst, IsNext, AreReadsPast, ArePairsPast, AreReasonsPast}
+use Rattle.tcc_large.specs.Ranked.{IsAgainst, AreReadsPast, AreReasonsPast}
 use Rattle.tcc_large.proofs.Reached.{walk_reached}
 
 -- ---- reads as they are listed
@@ -49,14 +49,6 @@ listed_read h a c x from to there = (
 -- none of the first n reads
 abbrev pub NoneAgainst : History → List ℕ → ℕ → List (List ℕ × ℕ) → ℕ → Type 0
 NoneAgainst h ranks from reads n = (k : ℕ) → k < n → IsAgainst h ranks from (slice_index_or reads k ([], 0)) → ⊥
-
-pub none_more : (h : History) (ranks : List ℕ) (from : ℕ) (reads : List (List ℕ × ℕ)) (n : ℕ) → NoneAgainst h ranks from reads n
-    → (IsAgainst h ranks from (slice_index_or reads n ([], 0)) → ⊥) → NoneAgainst h ranks from reads (n + 1)
-none_more h ranks from reads n none here k l = go (cases_lt k n)
-  where
-    go : (k < n) ⊎ (n ≤ k) → IsAgainst h ranks from (slice_index_or reads k ([], 0)) → ⊥
-    go (inl less) = none k less
-    go (inr past) = let same : n ≡ k = omega (arith, past, l) in subst (λ (z : ℕ). IsAgainst h ranks from (slice_index_or reads z ([], 0)) → ⊥) same here
 
 pub none_all : (h : History) (ranks : List ℕ) (from reader n : ℕ) → length (entry_at h reader).reads ≤ n
     → NoneAgainst h ranks from (entry_at h reader).reads n → AreReadsPast h ranks from reader
@@ -128,19 +120,3 @@ steps_past h ranks from n all none a x c (s ∷ t ∷ steps) (contradicts, (path
 -- of those from n on each to which a pair leads has a rank
 abbrev pub ArePastFrom : History → List ℕ → ℕ → ℕ → Type 0
 ArePastFrom h ranks from n = (v : ℕ) → n ≤ v → IsCausalPair h from v → 0 < slice_index ranks v
-
-pub past_next : (h : History) (ranks : List ℕ) (from n : ℕ) → ArePastFrom h ranks from (n + 1) → (IsNext h ranks from n → ⊥) → ArePastFrom h ranks from n
-past_next h ranks from n past not v low pair = go (cases_lt n v) (cases_lt 0 (slice_index ranks v))
-  where
-    go : (n < v) ⊎ (v ≤ n) → (0 < slice_index ranks v) ⊎ (slice_index ranks v ≤ 0) → 0 < slice_index ranks v
-    go (inl above) either = past v (omega (arith, above)) pair
-    go (inr here) (inl some) = some
-    go (inr here) (inr none) =
-        let same : v ≡ n = omega (arith, here, low) in
-        absurd (not (subst (λ (z : ℕ). IsNext h ranks from z) same (omega (arith, none), pair)))
-
-pub none_past : (h : History) (ranks : List ℕ) (from n : ℕ) → count h ≤ n → ArePastFrom h ranks from n
-none_past h ranks from n all v low pair = absurd (omega (arith, all, low, (pair_below h from v pair).1))
-
-pub all_past : (h : History) (ranks : List ℕ) (from n : ℕ) → n ≡ 0 → ArePastFrom h ranks from n → ArePairsPast h ranks from
-all_past h ranks from n none past v pair = past v (omega (arith, none)) pair

@@ -1,8 +1,8 @@
 -- Ranks of transactions, one more, and all of them: then there is no cycle. A trail of links over transactions without a rank.
-use Rattle.std.proofs.Common.{ℕ, zero, suc, ◌+◌, ◌-◌, ◌<◌, ◌≤◌, ◌≡◌, ◌≢◌, ◌⊎◌, inl, inr, List, [], ◌∷◌, ◌++◌, length, map, drop, set, replicate, refl, sym, ap, subst, ◌∙◌, arith}
+use Rattle.std.proofs.Common.{ℕ, zero, suc, ◌+◌, ◌-◌, ◌<◌, ◌≤◌, ◌≡◌, ◌≢◌, ◌⊎◌, inl, inr, List, [], ◌∷◌, ◌++◌, length, map, drop, set, refl, sym, ap, subst, ◌∙◌, arith}
 use Rattle.std.specs.Prelude.{slice_index, Option, None, Some, MatchOption}
 use Rattle.std.proofs.lemmas.Bool.{cases_lt, cases_eq}
-use Rattle.std.proofs.lemmas.List.{get_or-set_same, get_or-set_other, length-set, length-replicate, length-map, length_push, map_push, get_or_append_left, get_or_push}
+use Rattle.std.proofs.lemmas.List.{get_or-set_same, get_or-set_other, length-set, length-map, length_push, map_push, get_or_append_left, get_or_push}
 use Rattle.tcc_reads.specs.History.{count}
 use Rattle.tcc_graph.specs.Levels.{Judged}
 use Rattle.tcc_graph.specs.Links.{IsLink, link_from, link_to}
@@ -13,7 +13,7 @@ use Rattle.tcc_graph.proofs.Pairs.{link_below}
 use Rattle.tcc_graph.proofs.Linking.{lead_append}
 use Rattle.tcc_large.specs.Cycles.{AreCycle}
 use Rattle.tcc_large.specs.Ranked.{IsOnward, ArePairsPast, AreReasonsPast, AreLinksPast}
-use Rattle.tcc_large.proofs.Numbered.{AreNumbered, zeros, numbered_room, numbered_more}
+use Rattle.tcc_large.proofs.Numbered.{AreNumbered, numbered_room, numbered_more}
 
 -- ---- pairs and derived links are all links
 pub links_past : (j : Judged) (ranks : List ℕ) (from : ℕ) → ArePairsPast j.history ranks from → AreReasonsPast j ranks from → AreLinksPast j ranks from
@@ -35,14 +35,6 @@ pub record AreRanks (j : Judged) (ranks : List ℕ) (n : ℕ) : Type 0 where
   pub numbered : AreNumbered ranks (n + 1)
   pub down : (l : Link) → IsLink j l → 0 < slice_index ranks (link_from l)
       → (0 < slice_index ranks (link_to l)) × (slice_index ranks (link_to l) < slice_index ranks (link_from l))
-
-pub no_ranks : (j : Judged) → AreRanks j (replicate (count j.history) 0) 0
-no_ranks j = record {
-  long = length-replicate {A = ℕ} (count j.history) 0;
-  upto = λ v. omega (arith, zeros (count j.history) v);
-  numbered = λ r some below. absurd (omega (arith, some, below));
-  down = λ l is some. absurd (omega (arith, some, zeros (count j.history) (link_from l)));
-}
 
 pub ranks_room : (j : Judged) (ranks : List ℕ) (n : ℕ) → AreRanks j ranks n → n ≤ count j.history
 ranks_room j ranks n w = omega (arith, numbered_room ranks (n + 1) w.numbered, w.long)
@@ -103,18 +95,6 @@ pub record IsTrail (j : Judged) (ranks places : List ℕ) (start at n : ℕ) (tr
   pub new : slice_index ranks at ≡ 0
   pub back : (k : ℕ) → k < n → slice_index places (slice_index (map link_from trail) k) ≡ k + 1
   pub noted : (v : ℕ) → 0 < slice_index places v → (slice_index places v ≤ n) × (slice_index (map link_from trail) (slice_index places v - 1) ≡ v)
-
-pub no_trail : (j : Judged) (ranks : List ℕ) (start : ℕ) → start < count j.history → slice_index ranks start ≡ 0
-    → IsTrail j ranks (replicate (count j.history) 0) start start 0 []
-no_trail j ranks start below new = record {
-  links = refl;
-  long = length-replicate {A = ℕ} (count j.history) 0;
-  leads = refl;
-  below = below;
-  new = new;
-  back = λ k l. absurd (omega (arith, l));
-  noted = λ v some. absurd (omega (arith, some, zeros (count j.history) v));
-}
 
 pub trail_room : (j : Judged) (ranks places : List ℕ) (start at n : ℕ) (trail : List Link) → IsTrail j ranks places start at n trail → n ≤ count j.history
 trail_room j ranks places start at n trail w = omega (arith, w.long, numbered_room places (n + 1) numbered)

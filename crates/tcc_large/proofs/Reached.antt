@@ -1,59 +1,21 @@
 -- What a search has reached by pairs, one more, and all of it.
-use Rattle.std.proofs.Common.{ℕ, zero, suc, false, get_or, ◌+◌, ◌<◌, ◌≤◌, ◌≡◌, ◌≢◌, ◌⊎◌, inl, inr, List, [], ◌∷◌, ◌++◌, length, set, replicate, reverse, refl, sym, ap, subst, ◌∙◌, arith}
+use Rattle.std.proofs.Common.{ℕ, zero, suc, get_or, ◌+◌, ◌<◌, ◌≤◌, ◌≡◌, ◌≢◌, ◌⊎◌, inl, inr, List, [], ◌∷◌, ◌++◌, length, set, reverse, refl, sym, ap, subst, ◌∙◌, arith}
 use Rattle.std.specs.Prelude.{slice_index, slice_index_or, zip, All, ◌↔◌}
 use Rattle.std.specs.List.{Contains}
-use Rattle.std.proofs.lemmas.Bool.{cases_lt, cases_eq, false≢true}
-use Rattle.std.proofs.lemmas.List.{get_or_default, get_or-set_same, get_or-set_other, length-set, length-replicate, get_or_append_left, get_or_push, length_push, reverse-append, length-reverse}
+use Rattle.std.proofs.lemmas.Bool.{cases_lt, cases_eq}
+use Rattle.std.proofs.lemmas.List.{get_or_default, get_or-set_same, get_or-set_other, length-set, get_or_append_left, get_or_push, length_push}
 use Rattle.tcc_reads.specs.History.{History, count}
-use Rattle.tcc_graph.specs.Relations.{IsCausalPair, IsReadsPair, IsSessionPair, session_pair, reads_from}
-use Rattle.tcc_graph.specs.Walks.{step_from, step_to, IsStep, Leads, IsWalk}
+use Rattle.tcc_graph.specs.Relations.{IsCausalPair, IsReadsPair, IsSessionPair}
+use Rattle.tcc_graph.specs.Walks.{step_to, Leads, IsWalk}
 use Rattle.tcc_graph.specs.declared.step.Step.{Step}
-use Rattle.tcc_graph.proofs.Pairs.{step_pair, pair_below}
+use Rattle.tcc_graph.proofs.Pairs.{step_pair}
 use Rattle.tcc_large.specs.Reaching.{IsReach, IsMore, AreMet, AreMetBetween, AreSpread, number_at, before_at}
-use Rattle.tcc_large.proofs.Numbered.{zeros, numbered_room}
-
-pub reach_start : (h : History) (start : ℕ) → start < count h → IsReach h (replicate (count h) 0) ((start, 0) ∷ [])
-reach_start h start below = record {
-  long = length-replicate {A = ℕ} (count h) 0;
-  some = omega arith;
-  below = λ i l. first i l;
-  back = λ i some l. absurd (omega (arith, some, l));
-  noted = λ v some. absurd (omega (arith, some, zeros (count h) v));
-  led = λ i some l. absurd (omega (arith, some, l));
-}
-  where
-    first : (i : ℕ) → i < 1 → number_at ((start, 0) ∷ []) i < count h
-    first zero l = below
-    first (suc i) l = absurd (omega (arith, l))
+use Rattle.tcc_large.proofs.Numbered.{numbered_room}
 
 -- no more places than transactions and one
 pub reach_room : (h : History) (places : List ℕ) (queue : List (ℕ × ℕ)) → IsReach h places queue → length queue ≤ count h + 1
 reach_room h places queue reach =
     omega (arith, reach.long, numbered_room places (length queue) (λ r some below. (number_at queue r, reach.back r some below)))
-
-pub more_same : (places : List ℕ) (queue : List (ℕ × ℕ)) → IsMore places queue places queue
-more_same places queue = record { longer = omega arith; same = λ i l. refl; reached = λ v some. some }
-
-pub more_join : (a : List ℕ) (p : List (ℕ × ℕ)) (b : List ℕ) (q : List (ℕ × ℕ)) (c : List ℕ) (r : List (ℕ × ℕ)) → IsMore a p b q → IsMore b q c r → IsMore a p c r
-more_join a p b q c r one two = record {
-  longer = omega (arith, one.longer, two.longer);
-  same = λ i l. two.same i (omega (arith, l, one.longer)) ∙ one.same i l;
-  reached = λ v some. two.reached v (one.reached v some);
-}
-
--- ---- pairs that aren't of session order
-read_of : (h : History) (a b : ℕ) → IsCausalPair h a b → session_pair h a b ≡ false → (x : List ℕ) × IsReadsPair h a b x
-read_of h a b (inl session) none = absurd (false≢true (sym none ∙ session))
-read_of h a b (inr reads) none = reads
-
-pub some_read : (h : History) (a b : ℕ) → IsCausalPair h a b → session_pair h a b ≡ false → 0 < length (reads_from h a b)
-some_read h a b pair none = let r = read_of h a b pair none in omega (arith, r.1.2.1)
-
-pub first_read : (h : History) (a b : ℕ) (x : List ℕ) → IsCausalPair h a b → session_pair h a b ≡ false → x ≡ get_or (reads_from h a b) 0 x
-    → IsReadsPair h a b x
-first_read h a b x pair none is =
-    let ends = pair_below h a b pair in
-    (ends.0, ends.1, (0, some_read h a b pair none, sym is))
 
 -- ---- lists side by side
 zip_place : (rs : List ℕ) (ks : List (List ℕ)) (c : ℕ) (x : List ℕ) → Contains (zip rs ks) (c, x) → (k : ℕ) × (k < length rs) × (slice_index rs k ≡ c)
@@ -173,39 +135,7 @@ module _ (h : History) (places : List ℕ) (queue : List (ℕ × ℕ)) (place nu
         led_old (λ some. led_last pair) i l some;
   }
 
-  pub more_more : IsMore places queue (set places number (length queue)) (queue ++ (number, place) ∷ [])
-  more_more = record { longer = omega (arith, longer); same = kept; reached = λ v some. go v some (cases_eq v number) }
-    where
-      go : (v : ℕ) → 0 < slice_index places v → (v ≡ number) ⊎ (v ≡ number → ⊥) → 0 < slice_index (set places number (length queue)) v
-      go v some (inl same) = absurd (omega (arith, some, new, ap (λ z. slice_index places z) same))
-      go v some (inr apart) = omega (arith, some, get_or-set_other places number v (length queue) 0 apart)
-
-  pub met_more : 0 < slice_index (set places number (length queue)) number
-  met_more = omega (arith, get_or-set_same places number (length queue) 0 room, reach.some)
-
 -- ---- all that a pair leads to from one
-pub each_next : (h : History) (places new : List ℕ) (from : ℕ) (numbers : List ℕ) (n : ℕ) → AreMet h places from numbers n
-    → ((v : ℕ) → 0 < slice_index places v → 0 < slice_index new v)
-    → (IsCausalPair h from (slice_index numbers n) → 0 < slice_index new (slice_index numbers n)) → AreMet h new from numbers (n + 1)
-each_next h places new from numbers n met more here k l pair = go (cases_lt k n)
-  where
-    go : (k < n) ⊎ (n ≤ k) → 0 < slice_index new (slice_index numbers k)
-    go (inl less) = more (slice_index numbers k) (met k less pair)
-    go (inr past) =
-        let same : n ≡ k = omega (arith, past, l) in
-        subst (λ (z : ℕ). IsCausalPair h from (slice_index numbers z) → 0 < slice_index new (slice_index numbers z)) same here pair
-
-pub between_next : (h : History) (places new : List ℕ) (from low n : ℕ) → AreMetBetween h places from low n
-    → ((v : ℕ) → 0 < slice_index places v → 0 < slice_index new v) → (IsCausalPair h from n → 0 < slice_index new n)
-    → AreMetBetween h new from low (n + 1)
-between_next h places new from low n met more here v above l pair = go (cases_lt v n)
-  where
-    go : (v < n) ⊎ (n ≤ v) → 0 < slice_index new v
-    go (inl less) = more v (met v above less pair)
-    go (inr past) =
-        let same : n ≡ v = omega (arith, past, l) in
-        subst (λ (z : ℕ). IsCausalPair h from z → 0 < slice_index new z) same here pair
-
 -- the readers, as they are listed with what they read
 module _ (h : History) (from : ℕ) (rs : List ℕ) (ks : List (List ℕ)) (long : length rs ≡ length ks)
     (each : (c : ℕ) (x : List ℕ) → Contains (zip rs ks) (c, x) ↔ IsReadsPair h from c x) where
@@ -265,24 +195,3 @@ pub record IsBack (h : History) (queue : List (ℕ × ℕ)) (place at : ℕ) (st
   pub inside : at < length queue
   pub some : (at ≡ place) ⊎ (0 < length steps)
   pub leads : Leads h (number_at queue at) (number_at queue place) (reverse steps)
-
-pub back_none : (h : History) (queue : List (ℕ × ℕ)) (place : ℕ) → place < length queue → IsBack h queue place place []
-back_none h queue place inside = record { inside = inside; some = inl refl; leads = refl }
-
-pub back_more : (h : History) (queue : List (ℕ × ℕ)) (place at before : ℕ) (steps : List Step) (s : Step) → IsBack h queue place at steps → before < at
-    → step_from s ≡ number_at queue before → step_to s ≡ number_at queue at → IsStep h s → IsBack h queue place before (steps ++ s ∷ [])
-back_more h queue place at before steps s back less from to is = record {
-  inside = omega (arith, less, back.inside);
-  some = inr (omega (arith, length_push steps s));
-  leads = rw (reverse-append steps (s ∷ []))
-      (from, is, subst (λ (z : ℕ). Leads h z (number_at queue place) (reverse steps)) (sym to) back.leads);
-}
-
-pub back_whole : (h : History) (queue : List (ℕ × ℕ)) (place at : ℕ) (steps : List Step) → IsBack h queue place at steps → at ≡ 0 → 0 < place
-    → IsWalk h (number_at queue 0) (number_at queue place) (reverse steps)
-back_whole h queue place at steps back same some =
-    (go back.some, subst (λ (z : ℕ). Leads h (number_at queue z) (number_at queue place) (reverse steps)) same back.leads)
-  where
-    go : (at ≡ place) ⊎ (0 < length steps) → 0 < length (reverse steps)
-    go (inl here) = absurd (omega (arith, here, same, some))
-    go (inr more) = omega (arith, more, length-reverse steps)
