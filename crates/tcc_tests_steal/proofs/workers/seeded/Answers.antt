@@ -6,8 +6,8 @@ pub seed-seed-requires : goal.seed-seed-requires
 seed-seed-requires g c = (
   _,
   c.in_ok-near.ensures,
-  subst (λ level. IsPricesOf (record { history = c.args.graph.now; level = level }) c.in_ok-prices.prices) c.in_ok-near.ensures.level c.in_ok-prices.ensures,
+  subst (λ level. IsPricesOf (record { history = c.args.graph.now; level = level }) c.in_ok-prices.prices) c.in_ok-near.ensures.level c.in_ok-prices.ensures.prices,
 )
 
 pub returns-clause-prices : goal.returns-clause-prices
-returns-clause-prices g c = (_, c.in_ok-prices.ensures)
+returns-clause-prices g c = (_, c.in_ok-prices.ensures.prices)
