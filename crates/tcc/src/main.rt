@@ -2,15 +2,22 @@
 //! that; `tcc check` judges one.
 #![tactic(auto)]
 
+mod watch;
+
 ghost use Rattle.std.specs.Prelude.{◌<◌, ◌≤◌};
 
 use std::io::Write;
 use std::process::ExitCode;
-use std::thread::Threads;
-use tcc_files::{Input, Telling, check_opened, open_both, open_input, open_output, print_unopened};
+use std::sync::Wait;
+use std::thread::{self, Threads};
+use std::time::Clock;
+use tcc_files::{
+    Input, Telling, check_opened, is_waited_for, open_both, open_input, open_output, print_unopened,
+};
 use tcc_large_run::run_large;
 use tcc_run::{OpenGate, Options, Status, run_explain};
 use tcc_words::{Request, read};
+use watch::Watch;
 
 /// Explains the records of the input, with a file for the certificate if a path is given, and gives the status of the run.
 fn explain<W: Write>(
@@ -42,10 +49,11 @@ fn explain<W: Write>(
     }
 }
 
-/// The same of records up to the large limits, with a file for a slice if a path is given.
+/// The same of records up to the large limits, with a file for a slice if a path is given. At a terminal a run that takes longer
+/// shows what it is doing.
 fn explain_large<W: Write>(
     rt: &HostRuntime,
-    threads: &(impl Threads + Sync),
+    threads: &(impl Threads + Wait + Clock + Sync),
     options: Options,
     input: Telling<'_, Input>,
     slice: &Option<String>,
@@ -57,15 +65,31 @@ fn explain_large<W: Write>(
         Ok(file) => {
             let mut file = file;
             let mut notes = rt.stderr();
-            run_large(
+            let is_shown = is_waited_for(rt, input.stream());
+            let watch = Watch::new(threads, rt.stderr());
+            let watch = &watch;
+            thread::scope(
+                thread::scope_env(),
                 threads,
-                rt.alloc(),
-                input,
-                out,
-                &mut file,
-                &mut notes,
-                options,
-                &OpenGate,
+                move |scope| -> u8
+                    requires { (0 < options.workers) × (options.workers ≤ 32) }
+                {
+                    if is_shown {
+                        let _ = scope.spawn(move || watch.show());
+                    }
+                    let code = run_large(
+                        threads,
+                        rt.alloc(),
+                        input,
+                        out,
+                        &mut file,
+                        &mut notes,
+                        options,
+                        watch,
+                    );
+                    watch.finish();
+                    code
+                },
             )
         }
         Err(error) => print_unopened(error.kind(), options.json, out),

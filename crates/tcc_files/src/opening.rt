@@ -4,7 +4,7 @@ ghost use Rattle.std.specs.Prelude.{◌≡◌, ◌↔◌, ◌⊎◌, ◌≤ℤ�
 ghost use Rattle.std.specs.Fd.{file_raw_fd};
 ghost use Rattle.std.specs.Fs.{metadata_mode};
 ghost use Rattle.std.specs.IoError.{error_kind};
-ghost use Rattle.tcc_files.specs.Places.{AreSame, FailsAs, IsPlaced, place_with};
+ghost use Rattle.tcc_files.specs.Places.{AreSame, FailsAs, IsPlaced, is_character_device, place_with};
 
 use crate::input::Input;
 use std::fs::{self, File, Metadata, OpenOptions};
@@ -25,13 +25,20 @@ pub struct Place {
     number: u64,
 }
 
+/// Whether a file of this mode is a device of characters.
+pub(crate) fn is_device(mode: u32) -> bool
+    ensures { result ≡ is_character_device mode }
+{
+    // The bits for the kind of a file.
+    mode & 0o170000 == 0o020000
+}
+
 impl Place {
     /// That of a file with this mode: none of a terminal, `/dev/null` and the like, which keep nothing that could be lost.
     fn with(mode: u32, device: u64, number: u64) -> Option<Place>
         ensures { result ≡ place_with mode device number }
     {
-        // The bits for the kind of a file, and a device of characters.
-        if mode & 0o170000 == 0o020000 {
+        if is_device(mode) {
             return None;
         }
         Some(Place { device, number })

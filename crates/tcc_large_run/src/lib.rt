@@ -8,5 +8,7 @@ mod outcome;
 mod running;
 mod slicing;
 mod stopping;
+mod watching;
 
 pub use running::run_large;
+pub use watching::{Stage, Watcher};

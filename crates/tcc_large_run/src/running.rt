@@ -1,9 +1,13 @@
 //! From the bytes of records to their answers: at each seal, and at the end.
-ghost use Rattle.std.specs.Prelude.{◌≡◌, ◌≢◌, ◌<◌, ◌≤◌, ℕ, List, [], true, false, None, Ok, IfOk, IfSome, MatchResult, option_map};
+ghost use Rattle.std.specs.Prelude.{◌≡◌, ◌≢◌, ◌<◌, ◌≤◌, ℕ, List, [], true, false, None, Ok, IfErr, IfOk, IfSome, MatchResult, OnOk, option_map};
 ghost use Rattle.tcc_rows.specs.Ahead.{fault_met};
+ghost use Rattle.tcc_rows.specs.Answers.{Answers, answers_after_within};
 ghost use Rattle.tcc_txn.specs.Finished.{transaction_count};
+ghost use Rattle.tcc_rows.specs.Lines.{Record};
 ghost use Rattle.tcc_rows.specs.Reached.{IsWithin};
-ghost use Rattle.tcc_rows.specs.Recordings.{IsLargeRecording};
+ghost use Rattle.tcc_rows.specs.Recordings.{FailsBehindWithin, IsLargeRecording, TakesLargeMoment, after_items};
+ghost use Rattle.tcc_rows.specs.declared.rows.Item.{Item};
+ghost use Rattle.tcc_txn.specs.declared.limits.Limits.TheVariants.{Large};
 ghost use Rattle.tcc_print.specs.Halts.{by_row};
 ghost use Rattle.tcc_print.specs.Printed.{PrintsOrMemory, halted};
 ghost use Rattle.tcc_print.specs.Statuses.{halt_status};
@@ -14,16 +18,16 @@ use crate::copying::transaction_count;
 use crate::outcome::Outcome;
 use crate::slicing::slice_text;
 use crate::stopping::note_stop;
+use crate::watching::{Stage, Watcher};
 use std::alloc::Global;
 use std::io::{Read, Write};
 use std::thread::Threads;
 use tcc_cert::sending::send;
-use tcc_explain::Gate;
 use tcc_graph::Link;
 use tcc_print::notes::{note_last, note_no_slice};
 use tcc_print::printing::{print_device, print_halt, print_memory};
 use tcc_print::{Halt, Options};
-use tcc_rows::{LargeRecording, Moment, RowFault};
+use tcc_rows::{LargeRecording, Moment, RowFault, RowFaultKind};
 use tcc_txn::{LargeSnapshot, NoMemory};
 
 /// What a run said last.
@@ -35,12 +39,12 @@ struct Last {
 }
 
 /// Says what is to be said of the snapshot, as text or as a line of JSON, and keeps it; else the run ends with this number.
-fn say<W: Write, N: Write, G: Gate>(
+fn say<W: Write, N: Write, G: Watcher>(
     rt: &(impl Threads + Sync),
     alloc: Global,
     snapshot: &LargeSnapshot,
     options: Options,
-    gate: &G,
+    watcher: &G,
     out: &mut W,
     notes: &mut N,
 ) -> Result<Last, u8>
@@ -48,7 +52,10 @@ fn say<W: Write, N: Write, G: Gate>(
     ensures { MatchResult result (SaysLast options snapshot.now (W.contents out.old) (W.contents out.new))
         (EndsAnswering options snapshot.now (W.contents out.old) (W.contents out.new)) }
 {
-    let outcome = match Outcome::of(rt, alloc, snapshot, options, gate) {
+    watcher.begin(Stage::Deciding);
+    let decided = Outcome::of(rt, alloc, snapshot, options, watcher);
+    watcher.end();
+    let outcome = match decided {
         Ok(outcome) => outcome,
         Err(NoMemory) => return Err(print_memory(out, options.json)),
     };
@@ -62,13 +69,13 @@ fn say<W: Write, N: Write, G: Gate>(
 
 /// Says at the end what is to be said of the snapshot, unless it was said last, and keeps it; else the run ends with this
 /// number.
-fn say_last<W: Write, N: Write, G: Gate>(
+fn say_last<W: Write, N: Write, G: Watcher>(
     rt: &(impl Threads + Sync),
     alloc: Global,
     snapshot: &LargeSnapshot,
     last: Option<Last>,
     options: Options,
-    gate: &G,
+    watcher: &G,
     out: &mut W,
     notes: &mut N,
 ) -> Result<Last, u8>
@@ -84,7 +91,7 @@ fn say_last<W: Write, N: Write, G: Gate>(
             return Ok(last);
         }
     }
-    say(rt, alloc, snapshot, options, gate, out, notes)
+    say(rt, alloc, snapshot, options, watcher, out, notes)
 }
 
 /// Writes why the run ends by the fault of a record, notes what to mend, and gives the number that the run ends with.
@@ -102,14 +109,35 @@ fn stop<R: Read + Drop, W: Write, N: Write>(
     print_halt(alloc, &Halt::from(fault), json, out)
 }
 
+/// Reads on to the next seal or to the end, which the watcher is told.
+fn read_on<R: Read + Drop, G: Watcher>(
+    alloc: Global,
+    recording: &mut LargeRecording<R>,
+    watcher: &G,
+) -> Result<Moment, RowFault>
+    ensures moment { (taken : List Item) (ahead : Answers) → IsLargeRecording R.remaining recording.old taken ahead
+        → TakesLargeMoment R.remaining taken ahead result recording.new }
+    ensures within { (all : List Record) → IsWithin R.remaining recording.old.rows all → IsWithin R.remaining recording.new.rows all }
+    ensures failed { IfErr result (λ fault. fault_met recording.old.rows ≡ None → fault.kind ≡ RowFaultKind.Read
+        → (all : List Record) (taken : List Item) (ahead : Answers) → answers_after_within Large [] all ≡ after_items taken ahead
+        → IsWithin R.remaining recording.old.rows all → IsLargeRecording R.remaining recording.old taken ahead
+        → FailsBehindWithin Large taken fault.row all) }
+    ensures goes_on { OnOk result (fault_met recording.new.rows ≡ None) }
+{
+    watcher.begin(Stage::Reading);
+    let moment = recording.advance(alloc);
+    watcher.end();
+    moment
+}
+
 /// Writes the answers at the seals that are still to come and the one at the end, if it is due, and gives what was said last;
 /// or writes what ends the run before, and gives the number that it ends with.
-fn answer_all<R: Read + Drop, W: Write, N: Write, G: Gate>(
+fn answer_all<R: Read + Drop, W: Write, N: Write, G: Watcher>(
     rt: &(impl Threads + Sync),
     alloc: Global,
     recording: &mut LargeRecording<R>,
     options: Options,
-    gate: &G,
+    watcher: &G,
     out: &mut W,
     notes: &mut N,
 ) -> Result<Last, u8>
@@ -123,12 +151,12 @@ fn answer_all<R: Read + Drop, W: Write, N: Write, G: Gate>(
 {
     let mut last: Option<Last> = None;
     'moments: for _turn in 0..u64::MAX {
-        match recording.advance(alloc) {
+        match read_on(alloc, recording, watcher) {
             Ok(Moment::Seal) => {
                 // One answer is held at a time.
                 drop(last);
                 let snapshot = recording.snapshot();
-                let said = say(rt, alloc, snapshot, options, gate, out, notes)?;
+                let said = say(rt, alloc, snapshot, options, watcher, out, notes)?;
                 last = Some(said);
             }
             Ok(Moment::End) => {
@@ -138,7 +166,7 @@ fn answer_all<R: Read + Drop, W: Write, N: Write, G: Gate>(
                     recording.snapshot(),
                     last,
                     options,
-                    gate,
+                    watcher,
                     out,
                     notes,
                 );
@@ -152,18 +180,22 @@ fn answer_all<R: Read + Drop, W: Write, N: Write, G: Gate>(
 
 /// Writes the slice of the anomaly, if a file is given for it and it is within the small limits; else the run ends with this
 /// number.
-fn send_slice<W: Write, S: Write, N: Write>(
+fn send_slice<W: Write, S: Write, N: Write, G: Watcher>(
     alloc: Global,
     snapshot: &LargeSnapshot,
     links: &[Link],
     file: &mut S,
     options: Options,
+    watcher: &G,
     out: &mut W,
     notes: &mut N,
 ) -> Result<(), u8>
     ensures { SendsSlice options snapshot.now result (W.contents out.old) (W.contents out.new) (S.contents file.old) (S.contents file.new) }
 {
-    match slice_text(alloc, snapshot, options.level, links) {
+    watcher.begin(Stage::Slicing);
+    let made = slice_text(alloc, snapshot, options.level, links);
+    watcher.end();
+    match made {
         Ok(Some(text)) => match send(file, &text) {
             Ok(()) => Ok(()),
             Err(_) => Err(print_device(out, options.json)),
@@ -177,12 +209,13 @@ fn send_slice<W: Write, S: Write, N: Write>(
 }
 
 /// Writes the slice of what was said, if that is an anomaly and a file is given for it; else the run ends with this number.
-fn write_slice<W: Write, S: Write, N: Write>(
+fn write_slice<W: Write, S: Write, N: Write, G: Watcher>(
     alloc: Global,
     snapshot: &LargeSnapshot,
     outcome: &Outcome,
     slice: &mut Option<S>,
     options: Options,
+    watcher: &G,
     out: &mut W,
     notes: &mut N,
 ) -> Result<(), u8>
@@ -193,19 +226,20 @@ fn write_slice<W: Write, S: Write, N: Write>(
         return Ok(());
     };
     match slice {
-        Some(file) => send_slice(alloc, snapshot, links, file, options, out, notes),
+        Some(file) => send_slice(alloc, snapshot, links, file, options, watcher, out, notes),
         None => Ok(()),
     }
 }
 
 /// Writes the slice of what was said last, if that is an anomaly and a file is given for it, and gives the number that the run
 /// ends with. Where an order has fewer transactions than are required, this is noted.
-fn conclude<W: Write, S: Write, N: Write>(
+fn conclude<W: Write, S: Write, N: Write, G: Watcher>(
     alloc: Global,
     snapshot: &LargeSnapshot,
     last: Last,
     slice: &mut Option<S>,
     options: Options,
+    watcher: &G,
     out: &mut W,
     notes: &mut N,
 ) -> u8
@@ -213,7 +247,16 @@ fn conclude<W: Write, S: Write, N: Write>(
         (option_map S.contents slice.new) result }
 {
     let status = last.outcome.status(options.required);
-    match write_slice(alloc, snapshot, &last.outcome, slice, options, out, notes) {
+    match write_slice(
+        alloc,
+        snapshot,
+        &last.outcome,
+        slice,
+        options,
+        watcher,
+        out,
+        notes,
+    ) {
         Ok(()) => {
             note_last(alloc, &last.outcome.into_answer(), options.required, notes);
             status.code()
@@ -223,7 +266,7 @@ fn conclude<W: Write, S: Write, N: Write>(
 }
 
 /// The run of a recording that has just begun.
-fn run_recording<R: Read + Drop, W: Write, S: Write, N: Write, G: Gate>(
+fn run_recording<R: Read + Drop, W: Write, S: Write, N: Write, G: Watcher>(
     rt: &(impl Threads + Sync),
     alloc: Global,
     recording: &mut LargeRecording<R>,
@@ -231,20 +274,21 @@ fn run_recording<R: Read + Drop, W: Write, S: Write, N: Write, G: Gate>(
     slice: &mut Option<S>,
     notes: &mut N,
     options: Options,
-    gate: &G,
+    watcher: &G,
 ) -> u8
     requires workers { (0 < options.workers) × (options.workers ≤ 32) }
     ensures { (bytes : List ℕ) → IsLargeRecording R.remaining recording.old [] (answers_of bytes) → IsWithin R.remaining recording.old.rows (records_of bytes)
         → fault_met recording.old.rows ≡ None
         → IsLargeRun options bytes (W.contents out.old) (W.contents out.new) (option_map S.contents slice.old) (option_map S.contents slice.new) result }
 {
-    match answer_all(rt, alloc, recording, options, gate, out, notes) {
+    match answer_all(rt, alloc, recording, options, watcher, out, notes) {
         Ok(last) => conclude(
             alloc,
             recording.snapshot(),
             last,
             slice,
             options,
+            watcher,
             out,
             notes,
         ),
@@ -255,13 +299,13 @@ fn run_recording<R: Read + Drop, W: Write, S: Write, N: Write, G: Gate>(
 /// Writes an answer at the level for what was finished before each seal of the bytes of the reader, and before their end, as
 /// text or as lines of JSON, and gives the number that the run ends with. Records are taken up to the large limits; where what
 /// was finished is within the small ones, the answer is the same as without them, and the same for every number of workers, 1 to
-/// 32; the gate is called before each start that they search. Where the last answer is an anomaly, the records of a slice go into
+/// 32; the watcher, which is told what the run does, is their gate. Where the last answer is an anomaly, the records of a slice go into
 /// the file, if one is given: of a small history that is this one with transactions and operations left out, and has an anomaly of
 /// it; or nothing, where none is found within the small limits. What a person may want to know besides, who reads the standard
 /// error, goes to the notes.
 ///
 /// The file is empty before: nothing goes into it where the last answer is no anomaly, or where the run ends by a fault.
-pub fn run_large<R: Read + Drop, W: Write, S: Write, N: Write, G: Gate>(
+pub fn run_large<R: Read + Drop, W: Write, S: Write, N: Write, G: Watcher>(
     rt: &(impl Threads + Sync),
     alloc: Global,
     reader: R,
@@ -269,7 +313,7 @@ pub fn run_large<R: Read + Drop, W: Write, S: Write, N: Write, G: Gate>(
     slice: &mut Option<S>,
     notes: &mut N,
     options: Options,
-    gate: &G,
+    watcher: &G,
 ) -> u8
     requires workers { (0 < options.workers) × (options.workers ≤ 32) }
     ensures { IfSome (R.remaining reader) (λ bytes. IsLargeRun options bytes (W.contents out.old) (W.contents out.new) (option_map S.contents slice.old)
@@ -278,7 +322,16 @@ pub fn run_large<R: Read + Drop, W: Write, S: Write, N: Write, G: Gate>(
     match LargeRecording::new(alloc, reader) {
         Ok(recording) => {
             let mut recording = recording;
-            run_recording(rt, alloc, &mut recording, out, slice, notes, options, gate)
+            run_recording(
+                rt,
+                alloc,
+                &mut recording,
+                out,
+                slice,
+                notes,
+                options,
+                watcher,
+            )
         }
         Err(NoMemory) => print_memory(out, options.json),
     }

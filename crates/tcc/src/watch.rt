@@ -1,0 +1,127 @@
+//! What a run of `explain --large` is doing, on one line of the terminal that shows the errors.
+
+use std::io::{self, Write};
+use std::sync::{Condvar, Mutex, Wait};
+use std::time::{Clock, Duration, Instant};
+use tcc_large_run::{Stage, Watcher};
+use tcc_run::Gate;
+
+/// For so many seconds of a run nothing is shown.
+const QUIET_SECONDS: u64 = 2;
+
+/// After so many milliseconds the line is shown anew.
+const TURN_MILLISECONDS: u64 = 250;
+
+/// As wide as the line is at most, and then back to its begin.
+const BLANK: &[u8] = b"                                        \r";
+
+/// What stands on the line.
+#[derive(Drop)]
+struct Line {
+    errors: io::Stderr,
+    /// What is shown once some time has passed; none while other things may be written.
+    stage: Option<Stage>,
+    is_shown: bool,
+    has_ended: bool,
+}
+
+/// The words for what is being done.
+fn words(stage: Stage) -> &'static str {
+    match stage {
+        Stage::Reading => "reading records",
+        Stage::Deciding => "deciding",
+        Stage::Slicing => "cutting a slice",
+    }
+}
+
+impl Line {
+    /// Shows what is being done, and for how many seconds the run has lasted. What is written next stands in its place.
+    fn show(&mut self, seconds: u64) {
+        if let Some(stage) = self.stage {
+            let words = words(stage);
+            // What standard error takes changes nothing.
+            let _ = write!(self.errors, "{words}, {seconds} s\r");
+            self.is_shown = true;
+        }
+    }
+
+    /// Clears the line, if something stands on it.
+    fn clear(&mut self) {
+        if self.is_shown {
+            let _ = self.errors.write_all(BLANK);
+            self.is_shown = false;
+        }
+    }
+}
+
+/// The watcher of a run, which one thread tells what it is doing and another one shows it.
+#[derive(Drop)]
+pub struct Watch<'a, R: Wait + Clock> {
+    rt: &'a R,
+    /// None where the clock can't be read: then nothing is shown.
+    start: Option<Instant>,
+    line: Mutex<Line>,
+    ended: Condvar,
+}
+
+impl<'a, R: Wait + Clock> Watch<'a, R> {
+    /// That of a run which begins now.
+    pub fn new(rt: &'a R, errors: io::Stderr) -> Watch<'a, R> {
+        Watch {
+            rt,
+            start: Instant::now(rt).ok(),
+            line: Mutex::new(Line {
+                errors,
+                stage: None,
+                is_shown: false,
+                has_ended: false,
+            }),
+            ended: Condvar::new(),
+        }
+    }
+
+    /// For how many seconds the run has lasted.
+    fn seconds(&self) -> Option<u64> {
+        Some(self.start?.elapsed(self.rt).ok()?.as_secs())
+    }
+
+    /// Shows what the run is doing, turn by turn, until it has ended.
+    pub fn show(&self) {
+        let turn = Duration::from_millis(TURN_MILLISECONDS);
+        let mut line = self.line.lock(self.rt);
+        for _ in self.rt.forever() {
+            if line.has_ended {
+                return;
+            }
+            match self.seconds() {
+                Some(seconds) if seconds >= QUIET_SECONDS => line.show(seconds),
+                _ => {}
+            }
+            line = self.ended.wait_timeout(self.rt, line, turn).0;
+        }
+    }
+
+    /// The run has ended.
+    pub fn finish(&self) {
+        let mut line = self.line.lock(self.rt);
+        line.clear();
+        line.has_ended = true;
+        self.ended.notify_all();
+    }
+}
+
+impl<R: Wait + Clock + Sync> Gate for Watch<'_, R> {
+    fn enter(&self, _worker: u32, _start: u32) {}
+}
+
+impl<R: Wait + Clock + Sync> Watcher for Watch<'_, R> {
+    fn begin(&self, stage: Stage) {
+        self.line.lock(self.rt).stage = Some(stage);
+    }
+
+    fn end(&self) {
+        let mut line = self.line.lock(self.rt);
+        line.stage = None;
+        line.clear();
+    }
+}

@@ -1,0 +1,42 @@
+//! Whether somebody at a terminal waits for the end of a run.
+
+use crate::input::Input;
+use crate::opening::is_device;
+use std::fs::{self, Metadata};
+use std::io;
+use std::os::unix::fs::MetadataExt;
+
+/// What the standard input is open on.
+const INPUT: &str = "/proc/self/fd/0";
+
+/// What the standard error is open on.
+const ERRORS: &str = "/proc/self/fd/2";
+
+/// The major number of `/dev/null` and the like, which are devices of characters and no terminals.
+const MEMORY: u64 = 1;
+
+/// The major number of a device, which its bits from 8 to 19 have.
+fn major(device: u64) -> u64 {
+    (device >> 8) & 0xfff
+}
+
+/// Whether a file is a terminal, by what the system tells of it; not where it doesn't tell.
+fn is_terminal(told: io::Result<Metadata>) -> bool {
+    match told {
+        Ok(metadata) => is_device(metadata.mode()) && major(metadata.rdev()) != MEMORY,
+        Err(_) => false,
+    }
+}
+
+/// Whether the records are typed at a terminal.
+fn is_typed(rt: &HostRuntime, input: &Input) -> bool {
+    match input {
+        Input::Standard(_) => is_terminal(fs::metadata(rt, INPUT)),
+        Input::File(file) => is_terminal(file.metadata()),
+    }
+}
+
+/// Whether the standard error is a terminal, at which nobody types the records.
+pub fn is_waited_for(rt: &HostRuntime, input: &Input) -> bool {
+    is_terminal(fs::metadata(rt, ERRORS)) && !is_typed(rt, input)
+}

@@ -1,0 +1,29 @@
+//! Who is told what a run is doing.
+
+use tcc_explain::{Gate, OpenGate};
+
+/// What a run is doing, as far as it may take long.
+#[derive(Clone, Copy, Debug, PartialEq, Eq)]
+pub enum Stage {
+    /// It reads records, to the next seal or to the end.
+    Reading,
+    /// It decides whether what was finished has a commit order, and finds a cycle where it has none.
+    Deciding,
+    /// It cuts a slice.
+    Slicing,
+}
+
+/// Is told of each stage of a run when it begins and when it ends, and is the gate of its searches. Nothing is written while a
+/// stage lasts. No promise rests on what it does.
+pub trait Watcher: Gate {
+    fn begin(&self, stage: Stage);
+
+    fn end(&self);
+}
+
+/// Nobody is told.
+impl Watcher for OpenGate {
+    fn begin(&self, _stage: Stage) {}
+
+    fn end(&self) {}
+}

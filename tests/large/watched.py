@@ -1,0 +1,175 @@
+#!/usr/bin/env python3
+"""What a run of `tcc explain --large` shows at a terminal while it lasts: after two seconds what it is doing, on one line that is
+cleared before anything else is written; elsewhere, and where the run is short or its records are typed, nothing.
+
+    watched.py [--tcc PATH]
+
+The records come in parts, each once the line shows something or some seconds have passed. The last line is `N passed, M failed`.
+"""
+import argparse
+import contextlib
+import os
+import pathlib
+import re
+import select
+import subprocess
+import sys
+import termios
+import time
+
+TOP = pathlib.Path(__file__).resolve().parent.parent.parent
+sys.path.insert(0, str(TOP / "tests"))
+from compared import first_difference, shown  # noqa: E402
+from counted import status_of  # noqa: E402
+
+QUIET = 2.0
+LONGEST = 120.0
+LINE = re.compile(rb"(reading records|deciding|cutting a slice), (\d+) s\r")
+ONE = b"a,begin\na,w,x,1\na,commit\n"
+CONSISTENT = b"consistent: 1 transactions, 1 sessions\norder: init a/1\n"
+
+
+def terminal(held):
+    """A terminal that changes no line feed: the end of whoever sits there, and that of the program."""
+    person, program = os.openpty()
+    held.callback(os.close, person)
+    mode = termios.tcgetattr(program)
+    mode[1], mode[3] = 0, termios.ICANON
+    termios.tcsetattr(program, termios.TCSANOW, mode)
+    return person, program
+
+
+def read_until(screen, is_enough, seconds):
+    """What a terminal shows, until it is enough or no program has it any more, or so much time has passed."""
+    text, end = b"", time.monotonic() + seconds
+    while not is_enough(text) and time.monotonic() < end:
+        if select.select([screen], [], [], max(0.0, end - time.monotonic()))[0]:
+            try:
+                more = os.read(screen, 1 << 16)
+            except OSError:
+                break
+            if not more:
+                break
+            text += more
+    return text
+
+
+def watched(words, parts):
+    """The run at a terminal, which is both standard output and standard error: what it shows, part by part of the records, when
+    it showed something first, and the status."""
+    with contextlib.ExitStack() as held:
+        person, program = terminal(held)
+        begun = time.monotonic()
+        run = subprocess.Popen(words, stdin=subprocess.PIPE, stdout=program, stderr=program)
+        os.close(program)
+        showed, first = [], None
+        for part in parts[:-1]:
+            run.stdin.write(part)
+            run.stdin.flush()
+            text = read_until(person, LINE.search, LONGEST)
+            first = first or time.monotonic() - begun
+            showed.append(text)
+        run.stdin.write(parts[-1])
+        run.stdin.close()
+        showed.append(read_until(person, lambda text: False, LONGEST))
+        return showed, first, run.wait(LONGEST)
+
+
+def typed(words):
+    """What is wrong with a long run whose records are typed at the terminal, or None: nothing stands among them."""
+    with contextlib.ExitStack() as held:
+        person, program = terminal(held)
+        run = subprocess.Popen(words, stdin=program, stdout=program, stderr=program)
+        os.close(program)
+        text = read_until(person, LINE.search, QUIET + 1)
+        os.write(person, ONE + b"\x04")
+        text += read_until(person, lambda text: False, LONGEST)
+        run.wait(LONGEST)
+        return first_difference("screen", CONSISTENT, text)
+
+
+def screen_after(text):
+    """The lines of a screen on which a text was written."""
+    lines, column = [bytearray()], 0
+    for byte in text:
+        if byte == 13:
+            column = 0
+        elif byte == 10:
+            lines.append(bytearray())
+            column = 0
+        else:
+            lines[-1][column:column + 1] = bytes([byte])
+            column += 1
+    return b"\n".join(bytes(line).rstrip() for line in lines)
+
+
+def stages_in(text):
+    """What is shown to be done, each once, in order."""
+    found = [stage.decode() for stage, _ in LINE.findall(text)]
+    return [stage for before, stage in zip([None] + found, found) if stage != before]
+
+
+def wrong_with(words, parts, status, wanted, stages):
+    """What a run at a terminal shows otherwise than wanted, or None: the screen in the end, and the stages among others."""
+    showed, first, ended = watched(words, parts)
+    text = b"".join(showed)
+    if ended != status:
+        return "status %d, shown %s" % (ended, shown(text))
+    if stages and first < QUIET:
+        return "shown after %.1f seconds: %s" % (first, shown(text))
+    missing = [stage for stage in stages if stage not in stages_in(text)]
+    if missing or (not stages and LINE.search(text)):
+        return "not shown: %s; shown %s" % (", ".join(missing), shown(text))
+    return first_difference("screen", wanted, screen_after(text))
+
+
+def elsewhere(words):
+    """What is wrong with a long run whose errors no terminal shows, or None."""
+    run = subprocess.Popen(words, stdin=subprocess.PIPE, stdout=subprocess.PIPE, stderr=subprocess.PIPE)
+    time.sleep(QUIET + 1)
+    output, errors = run.communicate(ONE, LONGEST)
+    return first_difference("output", CONSISTENT, output) or first_difference("standard error", b"", errors)
+
+
+def large(transactions):
+    """Records of a consistent history that takes a while to decide."""
+    sessions, keys = 64, 1000
+    for number in range(transactions):
+        session, key = number % sessions, number * 7 % keys
+        yield b"s%d,begin\ns%d,w,k%d,%d\ns%d,commit\n" % (session, session, key, number + 1, session)
+
+
+def decided(words):
+    """What is wrong where it is the decision that takes long, or None."""
+    records = b"".join(large(400000))
+    showed, _, status = watched(words + ["--json"], [b"", records])
+    text = b"".join(showed)
+    if status != 0 or "deciding" not in stages_in(text):
+        return "status %d, shown %s" % (status, shown(text))
+    last = screen_after(text).split(b"\n")
+    return None if len(last) == 2 and last[0].startswith(b'{"answer":"consistent"') and not last[1] else "screen: %s" % shown(text[-200:])
+
+
+def outcomes(tcc):
+    """Each run by its name, with what is wrong, or None."""
+    words = [tcc, "explain", "--large"]
+    reading = ["reading records"]
+    yield "a long run", wrong_with(words, [b"", ONE], 0, CONSISTENT, reading)
+    yield "a long run that ends by a fault", wrong_with(
+        words, [ONE, b"a,commit\n"], 3,
+        b'row 4: "a,commit": expected begin first, since no transaction of the session is begun\nrow 4: NotBegun\n', reading)
+    yield "a seal of a long run", wrong_with(words, [ONE, b"seal\n", b""], 0, CONSISTENT, reading)
+    yield "a short run", wrong_with(words, [ONE], 0, CONSISTENT, [])
+    yield "a long run at no terminal", elsewhere(words)
+    yield "a long run of typed records", typed(words)
+    yield "a long decision", decided(words)
+
+
+def main():
+    ask = argparse.ArgumentParser(description="What a run of explain --large shows at a terminal.")
+    ask.add_argument("--tcc", default=str(TOP / "crates/tcc/out/tcc"), help="another program than the built one")
+    return status_of(outcomes(ask.parse_args().tcc))
+
+
+if __name__ == "__main__":
+    sys.exit(main())
