@@ -3,3 +3,4 @@ pub mod NoFloats
 mod WorkedAnswers
 mod WorkedTexts
 mod WorkedJson
+pub mod CappedFacts

@@ -1,6 +1,5 @@
 -- What answers hold.
 use Rattle.std.specs.Prelude.{ℕ, ◌≡◌, List, []}
-use Rattle.tcc_graph.specs.Links.{cost}
 use Rattle.tcc_graph.specs.declared.level.Level.{Level}
 use Rattle.tcc_graph.specs.declared.link.Link.{Link}
 use Rattle.tcc_cert.specs.declared.version.Version.TheVariants.{Two}
@@ -42,27 +41,8 @@ abbrev pub clocks_in : Certificate → List (List ℕ)
 clocks_in (claim.Order version level order sessions clocks) = clocks
 clocks_in (claim.Cycle version level links least near far) = []
 
--- the links in a claim, and its tables; none in a claim of another kind
-abbrev pub links_in : Certificate → List Link
-links_in (claim.Order version level order sessions clocks) = []
-links_in (claim.Cycle version level links least near far) = links
-
-abbrev pub near_in : Certificate → List (List ℕ)
-near_in (claim.Order version level order sessions clocks) = []
-near_in (claim.Cycle version level links least near far) = near
-
-abbrev pub far_in : Certificate → List (List ℕ)
-far_in (claim.Order version level order sessions clocks) = []
-far_in (claim.Cycle version level links least near far) = far
-
 -- the claim is that of an order, in version 2
 abbrev pub ClaimsOrder : Certificate → Type 0
 ClaimsOrder certificate =
     certificate
     ≡ claim.Order Two (level_in certificate) (order_in certificate) (sessions_in certificate) (clocks_in certificate)
-
--- the claim is that of a cycle, at its cost, in version 2
-abbrev pub ClaimsCycle : Certificate → Type 0
-ClaimsCycle certificate =
-    certificate
-    ≡ claim.Cycle Two (level_in certificate) (links_in certificate) (cost (links_in certificate)) (near_in certificate) (far_in certificate)

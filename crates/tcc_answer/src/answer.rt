@@ -1,16 +1,22 @@
 //! Answers: a commit order, or an anomaly, each with its certificate.
-ghost use Rattle.std.specs.Prelude.{◌≡◌, []};
+ghost use Rattle.std.specs.Prelude.{◌≡◌, [], ℕ, OnErr, OnOk, take};
+ghost use Rattle.std.specs.Io.KnownBytes.{Appends};
 ghost use Rattle.tcc_graph.specs.Links.{cost};
 ghost use Rattle.tcc_cert.specs.declared.version.Version.TheVariants.{Two};
 ghost use Rattle.tcc_cert.specs.declared.certificate.Certificate.TheVariants as claim;
+ghost use Rattle.tcc_cert.specs.Texts.{certificate_text};
 ghost use Rattle.tcc_answer.specs.Shapes.{shape_of};
 ghost use Rattle.tcc_answer.specs.Claims.{certificate_of};
 
+use crate::CappedRows;
 use crate::labels::Labels;
 use crate::shape::{Shape, shape_of};
 use std::alloc::Global;
+use std::io::Write;
 use std::marker::Model;
-use tcc_cert::{Certificate, Links, Numbers, Table, Version};
+use tcc_cert::{
+    Certificate, CycleWriter, Links, Numbers, Table, Version, WriteFault, write, write_first_lines,
+};
 use tcc_graph::{Level, Link};
 
 /// A commit order of a history at a level, with its certificate and the names that it prints.
@@ -88,27 +94,28 @@ impl Commit {
     }
 }
 
-/// A cycle that no commit order can keep at a level, with its certificate and the names that it prints.
+/// A cycle that no commit order can keep at a level, with the tables of its certificate and the names that it prints.
 #[derive(Drop)]
 pub struct Anomaly {
-    certificate: Certificate,
+    level: Level,
+    links: Links,
+    /// How many steps the links have together.
+    steps: u32,
+    near: CappedRows,
+    far: CappedRows,
     labels: Labels,
 }
 
 impl Model for Anomaly {
-    ghost use Rattle.tcc_answer.specs.Answers.{LabelledCycle, level_in, links_in, near_in, far_in, ClaimsCycle};
+    ghost use Rattle.std.specs.Prelude.{◌≡◌};
+    ghost use Rattle.tcc_graph.specs.Links.{cost};
+    ghost use Rattle.tcc_answer.specs.Answers.{LabelledCycle};
 
     ghost Value = { LabelledCycle };
 
-    ghost view = { λ a. record {
-      level = level_in a.certificate;
-      links = links_in a.certificate;
-      near = near_in a.certificate;
-      far = far_in a.certificate;
-      labels = a.labels;
-    } };
+    ghost view = { λ a. record { level = a.level; links = a.links; near = a.near; far = a.far; labels = a.labels } };
 
-    ghost invariant = { λ a. ClaimsCycle a.certificate };
+    ghost invariant = { λ a. a.steps ≡ cost a.links };
 }
 
 impl Anomaly {
@@ -118,61 +125,60 @@ impl Anomaly {
         level: Level,
         links: Links,
         steps: u32,
-        near: Table,
-        far: Table,
+        near: CappedRows,
+        far: CappedRows,
         labels: Labels,
     ) -> Anomaly
         requires { steps ≡ cost links }
         ensures { result ≡ record { level = level; links = links; near = near; far = far; labels = labels } }
     {
         Anomaly {
-            certificate: Certificate::Cycle {
-                version: Version::Two,
-                level,
-                links,
-                least: steps,
-                near,
-                far,
-            },
+            level,
+            links,
+            steps,
+            near,
+            far,
             labels,
         }
     }
 
-    /// The certificate, with the answer's own level and links.
-    pub fn certificate(&self) -> &Certificate
-        ensures { result.now ≡ claim.Cycle Two self.now.level self.now.links (cost self.now.links) self.now.near self.now.far }
+    /// Writes the text of the certificate, with the answer's own level and links, row by row; no memory is taken. Where a
+    /// write fails, a part of the text, from its front, went out; an interrupted write and one that takes no bytes are
+    /// failures too.
+    pub fn write_certificate<W: Write>(&self, out: &mut W) -> Result<(), WriteFault>
+        ensures whole { OnOk result (Appends (W.contents out.old) (W.contents out.new)
+            (certificate_text (claim.Cycle Two self.now.level self.now.links (cost self.now.links) self.now.near self.now.far))) }
+        ensures part { OnErr result ((n : ℕ) × Appends (W.contents out.old) (W.contents out.new)
+            (take n (certificate_text (claim.Cycle Two self.now.level self.now.links (cost self.now.links) self.now.near self.now.far)))) }
     {
-        &self.certificate
+        let count = self.near.len();
+        let steps = self.steps;
+        let begun = write_first_lines(out, Version::Two, self.level, count, &self.links, steps)?;
+        let mut writer = CycleWriter::behind(out, begun);
+        self.near.write_near(&mut writer)?;
+        self.far.write_far(&mut writer)?;
+        writer.end()
     }
 
     /// The links, in order.
     pub fn links(&self) -> &[Link]
         ensures { result.now ≡ self.now.links }
     {
-        match &self.certificate {
-            Certificate::Order { .. } => &[],
-            Certificate::Cycle { links, .. } => links.as_slice(),
-        }
+        self.links.as_slice()
     }
 
     /// How many steps the links have together, every use counted.
     pub fn cost(&self) -> u32
         ensures { result ≡ cost self.now.links }
     {
-        match &self.certificate {
-            Certificate::Order { .. } => 0,
-            Certificate::Cycle { least, .. } => *least,
-        }
+        self.steps
     }
 
     /// The level at which it is a cycle.
     pub fn level(&self) -> Level
         ensures { result ≡ self.now.level }
     {
-        match &self.certificate {
-            Certificate::Order { level, .. } => *level,
-            Certificate::Cycle { level, .. } => *level,
-        }
+        self.level
     }
 
     /// What the cycle looks like.
@@ -193,12 +199,14 @@ impl Anomaly {
     pub fn without_tables(self, alloc: Global) -> Anomaly
         ensures { result ≡ record { level = self.level; links = self.links; near = []; far = []; labels = self.labels } }
     {
-        let mut anomaly = self;
-        if let Certificate::Cycle { near, far, .. } = &mut anomaly.certificate {
-            *near = Table::new(Vec::new(alloc));
-            *far = Table::new(Vec::new(alloc));
+        Anomaly {
+            level: self.level,
+            links: self.links,
+            steps: self.steps,
+            near: CappedRows::empty(alloc),
+            far: CappedRows::empty(alloc),
+            labels: self.labels,
         }
-        anomaly
     }
 }
 
@@ -210,13 +218,15 @@ pub enum Answer {
 }
 
 impl Answer {
-    /// The certificate, with the answer's own level, order or links.
-    pub fn certificate(&self) -> &Certificate
-        ensures { result.now ≡ certificate_of self.now }
+    /// Writes the text of the certificate, with the answer's own level, order or links; no memory is taken. Where a write
+    /// fails, a part of the text, from its front, went out; an interrupted write and one that takes no bytes are failures too.
+    pub fn write_certificate<W: Write>(&self, out: &mut W) -> Result<(), WriteFault>
+        ensures whole { OnOk result (Appends (W.contents out.old) (W.contents out.new) (certificate_text (certificate_of self.now))) }
+        ensures part { OnErr result ((n : ℕ) × Appends (W.contents out.old) (W.contents out.new) (take n (certificate_text (certificate_of self.now)))) }
     {
         match self {
-            Answer::Commit(commit) => commit.certificate(),
-            Answer::Anomaly(anomaly) => anomaly.certificate(),
+            Answer::Commit(commit) => write(commit.certificate(), out),
+            Answer::Anomaly(anomaly) => anomaly.write_certificate(out),
         }
     }
 }

@@ -2,6 +2,7 @@
 #![tactic(auto)]
 
 mod answer;
+mod capped;
 mod fault;
 mod json;
 mod labels;
@@ -10,6 +11,7 @@ mod shape;
 mod text;
 
 pub use answer::{Anomaly, Answer, Commit};
+pub use capped::CappedRows;
 pub use fault::WriteFault;
 pub use json::{links_json, write_json};
 pub use labels::Labels;

@@ -106,11 +106,37 @@ fn close<W: Write>(outgoing: &mut Outgoing, out: &mut W, stage: Stage) -> io::Re
     last_line(outgoing, out)
 }
 
+/// Writes the lines before the rows of a claim about so many transactions; what of them waits to go out is for
+/// `CycleWriter::behind`. Where a write fails, a part of them, from their front, went out.
+pub fn write_first_lines<W: Write>(
+    out: &mut W,
+    version: Version,
+    level: Level,
+    count: usize,
+    links: &Links,
+    least: u32,
+) -> Result<Outgoing, WriteFault>
+    ensures whole { IfOk result (λ waiting. Sends (W.contents out.old) [] (W.contents out.new) waiting
+        (lines_text (begun_lines version level count links.now least))) }
+    ensures part { OnErr result ((n : ℕ) × Appends (W.contents out.old) (W.contents out.new)
+        (take n (lines_text (begun_lines version level count links.now least)))) }
+{
+    let head = CycleHead {
+        version,
+        level,
+        links,
+        least,
+    };
+    let mut outgoing = Outgoing::new();
+    first_lines(&mut outgoing, out, &head, count)?;
+    Ok(outgoing)
+}
+
 impl<'w, W: Write> CycleWriter<'w, W> {
     ghost use Rattle.tcc_cert.specs.Given.{HasTaken, HasFailed};
 
-    /// Behind the lines that are on their way.
-    fn behind(out: &'w mut W, outgoing: Outgoing) -> CycleWriter<'w, W>
+    /// Goes on behind the lines before the rows, of which these bytes wait to go out.
+    pub fn behind(out: &'w mut W, outgoing: Outgoing) -> CycleWriter<'w, W>
         ensures same_reference { result.out.ghost_name ≡ out.entry.ghost_name }
         ensures same { result.out.now ≡ out.old }
         ensures outgoing { result.outgoing ≡ outgoing }

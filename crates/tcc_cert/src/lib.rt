@@ -21,10 +21,11 @@ pub mod version_2;
 mod writing;
 
 pub use certificate::Certificate;
-pub use cycle_writer::CycleWriter;
+pub use cycle_writer::{CycleWriter, write_first_lines};
 pub use fault::{CertFault, CertFaultKind, WriteFault};
 pub use links::Links;
 pub use numbers::Numbers;
+pub use outgoing::Outgoing;
 pub use part::Part;
 pub use reading::{CertReader, read};
 pub use table::Table;

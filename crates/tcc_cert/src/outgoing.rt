@@ -17,7 +17,7 @@ const NUMBERS: usize = 64;
 
 /// The bytes that wait to go out.
 #[derive(Drop)]
-pub(crate) struct Outgoing {
+pub struct Outgoing {
     bytes: [u8; OUTGOING_BYTES],
     len: usize,
 }

@@ -9,7 +9,7 @@ ghost use Rattle.tcc_explain.specs.Explained.{IsAnswerFor, IsAnswerOf, IsRefusal
 
 use crate::offering::{lesser, offered};
 use crate::refusal::ExplainFault;
-use crate::tables::{clocks_at, far_table, near_table};
+use crate::tables::{clocks_at, far_rows, near_rows};
 use std::alloc::Global;
 use std::thread::Threads;
 use tcc_answer::{Anomaly, Answer, Commit, Labels};
@@ -40,26 +40,26 @@ fn distances(
 }
 
 /// The first of the least cycles with its tables, by so many workers; they begin with what a cycle costs that goes where
-/// the links of an earlier one go. The prices are let go before the tables are made.
+/// the links of an earlier one go. The tables are the rows of the distances and of the searches, as they lie.
 fn anomaly<G: Gate>(
     rt: &(impl Threads + Sync),
     alloc: Global,
     graph: &Graph,
-    near: &Near,
+    near: Near,
     prices: Prices,
     labels: Labels,
     earlier: &[Link],
     workers: u32,
     gate: &G,
 ) -> Result<Anomaly, NoMemory>
-    requires near { IsNearOf (record { history = graph.now; level = near.now.level }) near.now }
-    requires prices { IsPricesOf (record { history = graph.now; level = near.now.level }) prices }
-    requires cycle { HasCycle (record { history = graph.now; level = near.now.level }) }
+    requires near { IsNearOf (record { history = graph.now; level = near.level }) near }
+    requires prices { IsPricesOf (record { history = graph.now; level = near.level }) prices }
+    requires cycle { HasCycle (record { history = graph.now; level = near.level }) }
     requires labels { labels ≡ labels_of graph.now }
     requires workers { (0 < workers) × (workers ≤ 32) }
-    ensures { IfOk result (λ anomaly. IsAnswerOf (record { history = graph.now; level = near.now.level }) (answer.Anomaly anomaly)) }
+    ensures { IfOk result (λ anomaly. IsAnswerOf (record { history = graph.now; level = near.level }) (answer.Anomaly anomaly)) }
 {
-    let seed = lesser(offered(&prices, earlier), seed(near, &prices));
+    let seed = lesser(offered(&prices, earlier), seed(&near, &prices));
     let found = search_with(rt, alloc, &prices, seed, workers, gate, &AllStart)?;
     let Some(cost) = found.least else {
         unreachable!()
@@ -71,7 +71,7 @@ fn anomaly<G: Gate>(
     let links = first_cycle(
         alloc,
         graph,
-        near,
+        &near,
         &prices,
         &FirstReturn {
             start,
@@ -80,16 +80,10 @@ fn anomaly<G: Gate>(
         },
     )?;
     drop(prices);
-    let far = far_table(alloc, found.rows, cost)?;
-    let distances = near_table(alloc, graph, near, cost)?;
-    Ok(Anomaly::new(
-        near.level(),
-        Links::new(links),
-        cost,
-        distances,
-        far,
-        labels,
-    ))
+    let level = near.level();
+    let far = far_rows(graph, level, found.rows, cost);
+    let distances = near_rows(alloc, graph, near, cost)?;
+    Ok(Anomaly::new(level, Links::new(links), cost, distances, far, labels))
 }
 
 /// The first answer for a history at a level: a commit order, or a cycle where there is none. It is the same whatever links
@@ -118,7 +112,7 @@ pub(crate) fn history_answer<G: Gate>(
     let near = distances(rt, alloc, graph, level)?;
     let prices = derive(rt, alloc, graph, &near)?;
     let anomaly = anomaly(
-        rt, alloc, graph, &near, prices, labels, earlier, workers, gate,
+        rt, alloc, graph, near, prices, labels, earlier, workers, gate,
     )?;
     Ok(Answer::Anomaly(anomaly))
 }

@@ -1,88 +1,53 @@
 //! The tables of certificates, from the distances, the searches' rows and the clocks.
-ghost use Rattle.std.specs.Prelude.{◌≡◌, ◌<◌, IfOk, map, length};
-ghost use Rattle.tcc_graph.specs.Levels.{Judged};
+ghost use Rattle.std.specs.Prelude.{◌≡◌, IfOk, map};
 ghost use Rattle.tcc_graph.specs.Orders.{IsCommitOrder};
-ghost use Rattle.tcc_graph.specs.Tables.{row_of};
 ghost use Rattle.tcc_near.specs.Distances.{IsNearOf};
+ghost use Rattle.tcc_packed.specs.Packed.{number_in};
 ghost use Rattle.tcc_explain.specs.Certificates.{IsNearTable, IsFarTable, IsClocksAt};
-ghost use Rattle.tcc_explain.specs.Capping.{capped_steps, cost_or, AreFarRows};
+ghost use Rattle.tcc_explain.specs.Capping.{AreFarRows};
 
 use std::alloc::Global;
+use tcc_answer::CappedRows;
 use tcc_cert::{Numbers, Table};
 use tcc_graph::{Graph, Level};
-use tcc_near::{NONE, Near, Row};
+use tcc_near::{Near, Row};
 use tcc_order::clocks;
 use tcc_packed::PackedRow;
 use tcc_txn::NoMemory;
 
-/// A number of steps, capped; the cap where no walk leads.
-fn capped_steps(steps: u16, cap: u32) -> u32
-    ensures { result ≡ capped_steps cap steps }
+/// Rows of steps as they lie.
+fn packed(alloc: Global, rows: Vec<Row<u16>>) -> Result<Vec<PackedRow>, NoMemory>
+    ensures { IfOk result (λ packed. packed.items ≡ map (map number_in) rows.items) }
 {
-    if steps == NONE {
-        cap
-    } else {
-        cap.min(steps as u32)
+    let mut packed = Vec::with_capacity(alloc, rows.len())?;
+    for row in rows {
+        packed.push(PackedRow::narrow(row.into_vec()))?;
     }
-}
-
-/// The distances from one transaction, capped.
-fn near_row(alloc: Global, near: &Near, a: u32, cap: u32) -> Result<Numbers, NoMemory>
-    requires { a < length near.now.rows }
-    ensures { IfOk result (λ row. row ≡ map (capped_steps cap) (row_of near.now.rows a)) }
-{
-    let steps = near.row(a);
-    let mut row = vec![in alloc; cap; steps.len()]?;
-    for place in 0..steps.len() {
-        row[place] = capped_steps(steps[place], cap);
-    }
-    Ok(Numbers::new(row))
+    Ok(packed)
 }
 
 /// The least lengths of the walks that the level of the distances allows, capped.
-pub(crate) fn near_table(
+pub(crate) fn near_rows(
     alloc: Global,
     graph: &Graph,
-    near: &Near,
+    near: Near,
     cap: u32,
-) -> Result<Table, NoMemory>
-    requires { IsNearOf (record { history = graph.now; level = near.now.level }) near.now }
-    ensures { IfOk result (IsNearTable (record { history = graph.now; level = near.now.level }) cap) }
+) -> Result<CappedRows, NoMemory>
+    requires { IsNearOf (record { history = graph.now; level = near.level }) near }
+    ensures { IfOk result (IsNearTable (record { history = graph.now; level = near.level }) cap) }
 {
-    let mut rows = Vec::new(alloc);
-    for a in 0..graph.count() {
-        rows.push(near_row(alloc, near, a, cap)?)?;
-    }
-    Ok(Table::new(rows))
-}
-
-/// The costs of routes; the cap where no route leads.
-fn far_row(alloc: Global, costs: &PackedRow, cap: u32) -> Result<Numbers, NoMemory>
-    ensures { IfOk result (λ row. row ≡ map (cost_or cap) costs.now) }
-{
-    let mut row = vec![in alloc; cap; costs.len()]?;
-    for place in 0..costs.len() {
-        row[place] = costs.get(place).unwrap_or(cap);
-    }
-    Ok(Numbers::new(row))
-}
-
-/// The same of each row, which is let go as its costs are read.
-fn far_rows(alloc: Global, rows: Vec<PackedRow>, cap: u32) -> Result<Vec<Numbers>, NoMemory>
-    ensures { IfOk result (λ table. table.items ≡ map (map (cost_or cap)) rows.items) }
-{
-    let mut table = Vec::new(alloc);
-    for row in rows {
-        table.push(far_row(alloc, &row, cap)?)?;
-    }
-    Ok(table)
+    let _count = graph.count();
+    let rows = packed(alloc, near.into_rows())?;
+    Ok(CappedRows::new(rows, cap))
 }
 
 /// The least costs of routes over numbers from their start upward, capped, by rows that are capped there.
-pub(crate) fn far_table(alloc: Global, rows: Vec<PackedRow>, cap: u32) -> Result<Table, NoMemory>
-    ensures { (j : Judged) → AreFarRows j cap rows.items → IfOk result (IsFarTable j cap) }
+pub(crate) fn far_rows(graph: &Graph, _level: Level, rows: Vec<PackedRow>, cap: u32) -> CappedRows
+    requires { AreFarRows (record { history = graph.now; level = _level }) cap rows.items }
+    ensures { IsFarTable (record { history = graph.now; level = _level }) cap result }
 {
-    Ok(Table::new(far_rows(alloc, rows, cap)?))
+    let _count = graph.count();
+    CappedRows::new(rows, cap)
 }
 
 /// The clocks as a table.

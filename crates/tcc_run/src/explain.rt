@@ -18,7 +18,7 @@ use crate::outcome::Outcome;
 use std::alloc::Global;
 use std::io::{Read, Write};
 use std::thread::Threads;
-use tcc_cert::{WriteFault, write};
+use tcc_cert::WriteFault;
 use tcc_explain::{Answer, Gate};
 use tcc_print::notes::note_last;
 use tcc_print::printing::{print_device, print_halt, print_memory};
@@ -93,7 +93,7 @@ fn renew<W: Write, G: Gate>(
         if last.transactions == transactions {
             return Ok(last);
         }
-        // One answer is held at a time: the certificate of a large history fills much memory.
+        // One answer is held at a time: the tables of a large history fill much memory.
         earlier = last.outcome.into_anomaly(alloc);
     }
     match Outcome::of(rt, alloc, snapshot, earlier, options, gate) {
@@ -248,7 +248,7 @@ fn send_certificate<C: Write>(answer: &Answer, file: &mut Option<C>) -> Result<(
     ensures part { OnErr result (GainsPart (option_map C.contents file.old) (option_map C.contents file.new) (certificate_text (certificate_of answer.now))) }
 {
     match file {
-        Some(file) => write(answer.certificate(), file),
+        Some(file) => answer.write_certificate(file),
         None => Ok(()),
     }
 }

@@ -5,7 +5,6 @@ use std::process::Abort;
 use std::test::Fail;
 use std::thread::Threads;
 use tcc_answer::Answer;
-use tcc_cert::write;
 use tcc_explain::laws::{certificates, certified, one_answer};
 use tcc_explain::{ExplainFault, OpenGate, explain};
 use tcc_graph::Level;
@@ -100,7 +99,7 @@ fn said(alloc: Global, answer: &Answer, form: Form) -> Option<Vec<u8>> {
         Form::Text => text_of(alloc, answer),
         Form::Certificate => {
             let mut out = Vec::new(alloc);
-            write(answer.certificate(), &mut out).ok()?;
+            answer.write_certificate(&mut out).ok()?;
             Some(out)
         }
     }

@@ -4,8 +4,8 @@ use std::alloc::Global;
 use std::process::Abort;
 use std::test::Fail;
 use std::thread::Threads;
-use tcc_answer::{Anomaly, Answer, Labels};
-use tcc_cert::{Links, Table};
+use tcc_answer::{Anomaly, Answer, CappedRows, Labels};
+use tcc_cert::Links;
 use tcc_explain::laws::grown;
 use tcc_explain::{NextFault, OpenGate, explain_next};
 use tcc_graph::{Graph, Level, Link};
@@ -122,8 +122,7 @@ fn made(alloc: Global, snapshot: &Snapshot) -> Option<Anomaly> {
     let labels = Labels::of(alloc, &graph).ok()?;
     let mut links = Vec::new(alloc);
     links.push(Link::Session { from: 0, to: 1 }).ok()?;
-    let near = Table::new(Vec::new(alloc));
-    let far = Table::new(Vec::new(alloc));
+    let (near, far) = (CappedRows::empty(alloc), CappedRows::empty(alloc));
     Some(Anomaly::new(Level::Causal, Links::new(links), 1, near, far, labels))
 }
 

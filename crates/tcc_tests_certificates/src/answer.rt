@@ -7,7 +7,9 @@ use std::alloc::{AllocError, Global};
 use std::process::Abort;
 use std::test::Fail;
 use tcc_answer::pieces::push;
-use tcc_answer::{Anomaly, Answer, Commit, Labels, Shape, WriteFault, write_json, write_text};
+use tcc_answer::{
+    Anomaly, Answer, CappedRows, Commit, Labels, Shape, WriteFault, write_json, write_text,
+};
 use tcc_cert::{Certificate, Links, Numbers, Table, Version};
 use tcc_graph::{Graph, Level, Link, Step, Walk};
 use tcc_reads::resolve;
@@ -20,6 +22,10 @@ const TURNED: &str = "a,begin\na,commit\na,begin\na,commit\nb,begin\nb,commit\n"
 const TURNED_TEXTS: &str = "consistent: 3 transactions, 2 sessions\norder: init b/1 a/1 a/2\n\
     {\"answer\":\"consistent\",\
     \"order\":[\"init\",\"b/1\",\"a/1\",\"a/2\"],\"sessions\":2,\"transactions\":3}\n";
+
+/// The certificate of the stale read at `Atomic`, without rows.
+const STALE_CERTIFICATE: &str =
+    "tcc-certificate 2 atomic\ncycle 0 2 3\nS 0 1\nD 1 0 x 2 1\nS 1 2\nnear\nfar\nend\n";
 
 /// a/1 writes x, and a/2 reads its initial value.
 const STALE_READ: &str = "a,begin\na,w,x,1\na,commit\na,begin\na,r,x,0\na,commit\n";
@@ -56,7 +62,7 @@ fn stale_links(alloc: Global, key: Name) -> Result<Links, AllocError>
 fn stale_read(rt: &impl Abort, alloc: Global) -> Result<Anomaly, AllocError> {
     let links = stale_links(alloc, Name::read(b"x").expect(rt, "a name"))?;
     let labels = labels(alloc, STALE_READ).expect(rt, "labels");
-    let (near, far) = (no_rows(alloc), no_rows(alloc));
+    let (near, far) = (CappedRows::empty(alloc), CappedRows::empty(alloc));
     Ok(Anomaly::new(Level::Atomic, links, 3, near, far, labels))
 }
 
@@ -93,17 +99,9 @@ fn parts_of_an_anomaly(rt: HostRuntime) -> Result<(), Fail> {
     assert_eq!(&rt; anomaly.cost(), 3);
     assert_eq!(&rt; anomaly.shape(), Shape::StaleInitialRead);
     let answer = Answer::Anomaly(anomaly);
-    assert!(&rt;
-        matches!(
-            answer.certificate(),
-            Certificate::Cycle {
-                version: Version::Two,
-                level: Level::Atomic,
-                least: 3,
-                ..
-            }
-        )
-    );
+    let mut out = Vec::new(rt.alloc());
+    assert!(&rt; answer.write_certificate(&mut out).is_ok());
+    assert_eq!(&rt; out.as_slice(), STALE_CERTIFICATE.as_bytes());
     Ok(())
 }
 
