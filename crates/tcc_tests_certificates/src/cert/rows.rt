@@ -95,7 +95,9 @@ fn failing_writes(rt: HostRuntime) -> Result<(), Fail> {
     let plenty = 1000;
     let (whole, has_failed) = large(&rt, alloc, plenty)?;
     assert!(&rt; !has_failed);
-    let writes = plenty - whole.works;
+    let Some(writes) = plenty.checked_sub(whole.works) else {
+        panic!(&rt; "fewer writes than none");
+    };
     assert!(&rt; writes <= 4 * ROWS, "{writes} writes");
     // Each of the six rows has 4,095 digits and as many spaces and line feeds.
     assert_eq!(&rt;
