@@ -87,6 +87,5 @@ pub fn large_answer<R: Read + Drop>(alloc: Global, reader: R, level: Level) -> O
             let steps = steps(&links);
             format!(in alloc; "cycle {steps}").ok()
         }
-        Decision::Inconsistent => format!(in alloc; "inconsistent").ok(),
     }
 }

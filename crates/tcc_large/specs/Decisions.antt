@@ -5,8 +5,7 @@ use Rattle.tcc_large.specs.Cycles.{AreCycle}
 use Rattle.tcc_large.specs.declared.decision.Decision.{Decision}
 use Rattle.tcc_large.specs.declared.decision.Decision.TheVariants as decision
 
--- the first commit order, or the links of a cycle; that there is one, without its links, is no decision
+-- the first commit order, or the links of a cycle
 abbrev pub IsDecision : Judged → Decision → Type 0
 IsDecision j (decision.Order order) = IsFirstOrder j order.items
 IsDecision j (decision.Cycle links) = AreCycle j links.items
-IsDecision j decision.Inconsistent = ⊥

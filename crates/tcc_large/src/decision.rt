@@ -8,6 +8,4 @@ pub enum Decision {
     Order(Vec<u32>),
     /// The links of a cycle, in order.
     Cycle(Vec<Link>),
-    /// There is a cycle, and none was found: that is never decided.
-    Inconsistent,
 }

@@ -13,7 +13,6 @@ use Rattle.tcc_large_run.specs.declared.outcome.Outcome.{Outcome}
 decided : (options : Options) (h : History) (d : Decision) → outcome_said options (outcome_of options.level h d) ≡ decision_said options h d
 decided options h (decision.Order order) = refl
 decided options h (decision.Cycle links) = refl
-decided options h decision.Inconsistent = refl
 
 resolved_as : (options : Options) (s : Sessions) (o : Outcome) → IsResolved options.level s o → IsResolvedAs options s (outcome_said options o)
 resolved_as options s o (inl (keeps, a, is, same)) = inl (keeps, a, is, ap (outcome_said options) same)

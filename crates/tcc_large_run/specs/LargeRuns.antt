@@ -10,7 +10,7 @@ use Rattle.tcc_txn.specs.Snapshots.{Sessions}
 use Rattle.tcc_txn.specs.declared.limits.Limits.TheVariants.{Large}
 use Rattle.tcc_rows.specs.declared.rows.RowFaultKind.TheVariants as kind
 use Rattle.tcc_reads.specs.Faults.{read_faults}
-use Rattle.tcc_reads.specs.History.{History, count}
+use Rattle.tcc_reads.specs.History.{History}
 use Rattle.tcc_reads.specs.Sources.{history}
 use Rattle.tcc_reads.specs.declared.fault.ReadFault.{ReadFault}
 use Rattle.tcc_graph.specs.Levels.{Judged}
@@ -26,7 +26,7 @@ use Rattle.tcc_large.specs.Slices.{IsSliceOf}
 use Rattle.tcc_large.specs.Texts.{records_text}
 use Rattle.tcc_large.specs.declared.decision.Decision.{Decision}
 use Rattle.tcc_large.specs.declared.decision.Decision.TheVariants as decision
-use Rattle.tcc_print.specs.Large.{inconsistent, unproved}
+use Rattle.tcc_print.specs.Large.{unproved}
 use Rattle.tcc_print.specs.Moments.{at_end, sealed_in}
 use Rattle.tcc_print.specs.Printed.{CutsOff, Prints, answered, device_line, halted, memory_line, unresolved}
 use Rattle.tcc_print.specs.Statuses.{answer_status, code_of, halt_status}
@@ -58,13 +58,10 @@ halt_said options why = record { text = halted options.json why; status = halt_s
 abbrev pub bare_order : Level → History → List ℕ → LabelledOrder
 bare_order level h order = record { level = level; order = order; sessions = length h.sessions; clocks = []; labels = labels_of h }
 
--- what is decided of a large history: an order, as it is said of a small one; a cycle, which needn't be a least one; or that
--- there is a cycle
+-- what is decided of a large history: an order, as it is said of a small one; or a cycle, which needn't be a least one
 abbrev pub decision_said : Options → History → Decision → Said
 decision_said options h (decision.Order order) = answer_said options (answer.Commit (bare_order options.level h order.items))
 decision_said options h (decision.Cycle links) = record { text = unproved options.json (labels_of h) links.items; status = Anomaly }
-decision_said options h decision.Inconsistent =
-    record { text = inconsistent options.json (count h - 1) (length h.sessions); status = Anomaly }
 
 -- the history of a snapshot, judged at a level
 abbrev pub judged : Sessions → Level → Judged

@@ -1,12 +1,12 @@
 -- How the stages of a run follow one another. Nobody has to believe these: the contracts of public calls cite none of them.
-use Rattle.std.specs.Prelude.{ℕ, ◌≡◌, ◌≢◌, ◌⊎◌, ◌-◌, Bool, List, [], length, take, Option, None, Some, Result, Ok, Err}
+use Rattle.std.specs.Prelude.{ℕ, ◌≡◌, ◌≢◌, ◌⊎◌, ◌-◌, Bool, List, [], take, Option, None, Some, Result, Ok, Err}
 use Rattle.std.specs.Io.KnownBytes.{Appends}
 use Rattle.std.specs.Global.{Vec}
 use Rattle.std.specs.List.{last_or}
 use Rattle.tcc_txn.specs.Finished.{KeepsLimits, transaction_count}
 use Rattle.tcc_txn.specs.Snapshots.{Sessions}
 use Rattle.tcc_reads.specs.Faults.{read_faults}
-use Rattle.tcc_reads.specs.History.{History, count}
+use Rattle.tcc_reads.specs.History.{History}
 use Rattle.tcc_reads.specs.Sources.{history}
 use Rattle.tcc_reads.specs.declared.fault.ReadFault.{ReadFault}
 use Rattle.tcc_graph.specs.declared.level.Level.{Level}
@@ -17,7 +17,7 @@ use Rattle.tcc_explain.specs.Explained.{IsAnswerOf}
 use Rattle.tcc_large.specs.Decisions.{IsDecision}
 use Rattle.tcc_large.specs.declared.decision.Decision.{Decision}
 use Rattle.tcc_large.specs.declared.decision.Decision.TheVariants as decision
-use Rattle.tcc_print.specs.Large.{inconsistent, unproved}
+use Rattle.tcc_print.specs.Large.{unproved}
 use Rattle.tcc_print.specs.Printed.{CutsOff, Prints, answered, device_line, memory_line, unresolved}
 use Rattle.tcc_print.specs.Statuses.{answer_status, code_of}
 use Rattle.tcc_print.specs.declared.options.Options.{Options}
@@ -34,7 +34,6 @@ use Rattle.tcc_large_run.specs.declared.running.Last.{Last}
 abbrev pub outcome_of : Level → History → Decision → Outcome
 outcome_of level h (decision.Order order) = outcome.Answered (answer.Commit (bare_order level h order.items))
 outcome_of level h (decision.Cycle links) = outcome.Cycle (labels_of h) links
-outcome_of level h decision.Inconsistent = outcome.Inconsistent (count h - 1) (length h.sessions)
 
 -- the first answer of a small snapshot; what is decided of a larger one
 abbrev pub IsResolved : Level → Sessions → Outcome → Type 0
@@ -53,13 +52,11 @@ abbrev pub outcome_text : Bool → Outcome → List ℕ
 outcome_text json (outcome.Unresolved faults) = unresolved json faults.items
 outcome_text json (outcome.Answered a) = answered json a
 outcome_text json (outcome.Cycle labels links) = unproved json labels links.items
-outcome_text json (outcome.Inconsistent transactions sessions) = inconsistent json transactions sessions
 
 abbrev pub outcome_status : ℕ → Outcome → Status
 outcome_status required (outcome.Unresolved faults) = ReadFaults
 outcome_status required (outcome.Answered a) = answer_status required a
 outcome_status required (outcome.Cycle labels links) = Anomaly
-outcome_status required (outcome.Inconsistent transactions sessions) = Anomaly
 
 abbrev pub outcome_said : Options → Outcome → Said
 outcome_said options o = record { text = outcome_text options.json o; status = outcome_status options.required o }

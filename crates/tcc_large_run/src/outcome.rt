@@ -17,7 +17,7 @@ use tcc_cert::{Numbers, Table};
 use tcc_explain::{ExplainFault, Gate, explain};
 use tcc_graph::{LargeGraph, Level, Link};
 use tcc_large::{Decision, LargeAnswer, explain_large};
-use tcc_print::large::{send_inconsistent, send_unproved};
+use tcc_print::large::send_unproved;
 use tcc_print::notes::note_reads_among;
 use tcc_print::printing::{send_answer, send_unresolved};
 use tcc_print::status::answer_status;
@@ -34,8 +34,6 @@ pub(crate) enum Outcome {
     Answered(Answer),
     /// Past the small limits: a cycle, which needn't be a least one, and the names of the transactions.
     Cycle { labels: Labels, links: Vec<Link> },
-    /// Past the small limits: that there is a cycle. It has so many transactions, without `init`, and sessions.
-    Inconsistent { transactions: u32, sessions: usize },
 }
 
 /// The order of a large history as an answer without clocks.
@@ -86,10 +84,6 @@ impl Outcome {
                 let labels = Labels::of_large(alloc, &graph)?;
                 Ok(Outcome::Cycle { labels, links })
             }
-            Decision::Inconsistent => Ok(Outcome::Inconsistent {
-                transactions: graph.count() - 1,
-                sessions: graph.sessions().len(),
-            }),
         }
     }
 
@@ -123,10 +117,6 @@ impl Outcome {
             Outcome::Unresolved(faults) => send_unresolved(alloc, faults, json, out),
             Outcome::Answered(answer) => send_answer(alloc, answer, json, out),
             Outcome::Cycle { labels, links } => send_unproved(alloc, labels, links, json, out),
-            Outcome::Inconsistent {
-                transactions,
-                sessions,
-            } => send_inconsistent(alloc, *transactions, *sessions, json, out),
         }
     }
 
@@ -144,7 +134,7 @@ impl Outcome {
         match self {
             Outcome::Unresolved(_) => Status::ReadFaults,
             Outcome::Answered(answer) => answer_status(answer, required),
-            Outcome::Cycle { .. } | Outcome::Inconsistent { .. } => Status::Anomaly,
+            Outcome::Cycle { .. } => Status::Anomaly,
         }
     }
 

@@ -1,4 +1,4 @@
--- What is printed of a large history of which it is known that there is no commit order, and less than of a small one.
+-- What is printed of a large history that has no commit order: a cycle that needn't be a least one.
 use Rattle.std.specs.Prelude.{ℕ, Bool, false, List, ◌++◌, map, flat_map, codes, decimal, if◌then◌else◌}
 use Rattle.serde_json.specs.Data.{Data, boolean, number, unsigned, string, array, object, no_members, member}
 use Rattle.serde_json.specs.View.{items_of}
@@ -31,21 +31,3 @@ unproved_json labels links = object
 
 abbrev pub unproved : Bool → List (List ℕ) → List Link → List ℕ
 unproved json labels links = if json then json_line (unproved_json labels links) else unproved_text labels links
-
--- ---- that there is a cycle, and none is shown
-
--- inconsistent: N transactions, M sessions
-abbrev pub inconsistent_text : ℕ → ℕ → List ℕ
-inconsistent_text transactions sessions =
-    codes "inconsistent: " ++ (decimal transactions ++ (codes " transactions, " ++ (decimal sessions ++ codes " sessions\n")))
-
-abbrev pub inconsistent_json : ℕ → ℕ → Data
-inconsistent_json transactions sessions = object
-    (member (codes "answer") (string (codes "inconsistent"))
-    (member (codes "sessions") (number (unsigned sessions))
-    (member (codes "transactions") (number (unsigned transactions))
-    no_members)))
-
-abbrev pub inconsistent : Bool → ℕ → ℕ → List ℕ
-inconsistent json transactions sessions =
-    if json then json_line (inconsistent_json transactions sessions) else inconsistent_text transactions sessions

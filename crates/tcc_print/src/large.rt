@@ -4,7 +4,7 @@ ghost use Rattle.std.specs.Io.KnownBytes.{Appends};
 ghost use Rattle.serde_json.specs.View.{view};
 ghost use Rattle.tcc_graph.specs.Links.{cost, link_cost};
 ghost use Rattle.tcc_answer.specs.Json.{json_line};
-ghost use Rattle.tcc_print.specs.Large.{inconsistent, inconsistent_json, inconsistent_text, unproved, unproved_first, unproved_json, unproved_text};
+ghost use Rattle.tcc_print.specs.Large.{unproved, unproved_first, unproved_json, unproved_text};
 ghost use Rattle.tcc_print.specs.Printed.{EndsIn};
 
 use crate::json::line;
@@ -112,41 +112,6 @@ fn unproved_made(
     }
 }
 
-/// The text that says that there is a cycle, and shows none.
-fn inconsistent_text(alloc: Global, transactions: u32, sessions: usize) -> Result<Vec<u8>, NoMemory>
-    ensures { IfOk result (λ text. text.items ≡ inconsistent_text transactions sessions) }
-{
-    let transactions = transactions.to_string(alloc)?;
-    let sessions = sessions.to_string(alloc)?;
-    joined(
-        alloc,
-        &[
-            b"inconsistent: ",
-            transactions.as_bytes(),
-            b" transactions, ",
-            sessions.as_bytes(),
-            b" sessions\n",
-        ],
-    )
-}
-
-fn inconsistent_json(alloc: Global, transactions: u32, sessions: usize) -> Result<Value, AllocError>
-    ensures { IfOk result (λ v. view v ≡ inconsistent_json transactions sessions) }
-{
-    json!(in alloc; {
-        "answer": "inconsistent",
-        "sessions": sessions,
-        "transactions": transactions
-    })
-}
-
-/// The line that says that there is a cycle, and shows none.
-fn inconsistent_line(alloc: Global, transactions: u32, sessions: usize) -> Result<Vec<u8>, NoMemory>
-    ensures { IfOk result (λ text. text.items ≡ json_line (inconsistent_json transactions sessions)) }
-{
-    line(alloc, &inconsistent_json(alloc, transactions, sessions)?)
-}
-
 /// Writes a cycle that needn't be a least one, as text or as a line of JSON; else the run ends with this number.
 pub fn send_unproved<W: Write>(
     alloc: Global,
@@ -159,24 +124,4 @@ pub fn send_unproved<W: Write>(
     ensures ended { IfErr result (EndsIn json (W.contents out.old) (W.contents out.new) (unproved json labels.now links.now)) }
 {
     send_made(unproved_made(alloc, labels, links, json), json, out)
-}
-
-/// Writes that a history of so many transactions, without `init`, and sessions has a cycle, as text or as a line of JSON; else
-/// the run ends with this number.
-pub fn send_inconsistent<W: Write>(
-    alloc: Global,
-    transactions: u32,
-    sessions: usize,
-    json: bool,
-    out: &mut W,
-) -> Result<(), u8>
-    ensures whole { OnOk result (Appends (W.contents out.old) (W.contents out.new) (inconsistent json transactions sessions)) }
-    ensures ended { IfErr result (EndsIn json (W.contents out.old) (W.contents out.new) (inconsistent json transactions sessions)) }
-{
-    let made = if json {
-        inconsistent_line(alloc, transactions, sessions)
-    } else {
-        inconsistent_text(alloc, transactions, sessions)
-    };
-    send_made(made, json, out)
 }

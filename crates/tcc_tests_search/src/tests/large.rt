@@ -61,7 +61,6 @@ fn assert_decided(
             let found = (links.len(), derived(&links));
             assert!(rt; Some(found) == wanted, "of {records}");
         }
-        Decision::Inconsistent => panic!(rt; "no cycle found of {records}"),
     }
 }
 
