@@ -3,7 +3,7 @@ use crate::Stage;
 use std::alloc::Global;
 use std::io::Read;
 use tcc_graph::{LargeGraph, Level, Link};
-use tcc_large::{Decision, decide, explain_large, slice};
+use tcc_large::{Decision, LargeAnswer, decide, explain_large, slice};
 use tcc_order::order;
 use tcc_reads::resolve_large;
 use tcc_rows::large_snapshot_of;
@@ -80,8 +80,11 @@ fn numbers(alloc: Global, order: &[u32]) -> Option<String> {
 /// What is decided of a history within the large limits: the numbers of its first commit order, or how many steps the cycle has.
 pub fn large_answer<R: Read + Drop>(alloc: Global, reader: R, level: Level) -> Option<String> {
     let snapshot = large_snapshot_of(alloc, reader).ok()?;
-    let answer = explain_large(alloc, &snapshot, level).ok()?;
-    match answer.decision {
+    let LargeAnswer {
+        graph: _graph,
+        decision,
+    } = explain_large(alloc, &snapshot, level).ok()?;
+    match decision {
         Decision::Order(order) => numbers(alloc, &order),
         Decision::Cycle(links) => {
             let steps = steps(&links);
