@@ -26,6 +26,7 @@ fn list_of<'a>(snapshot: &'a Snapshot, session: &Name) -> &'a [Txn]
 
 /// Whether every list of the first snapshot is a prefix of the list of that session in the second; otherwise the least
 /// session, in byte order of the names, for which it isn't. A session that isn't in the second has an empty list there.
+/// It is for those who take snapshots at several moments, and want to know that each goes on from the one before.
 pub fn nested<'a>(earlier: &'a Snapshot, later: &Snapshot) -> Result<(), &'a Name>
     ensures { MatchResult result (λ _. IsNested earlier.now later.now) (λ name. IsFirstCut earlier.now later.now name.now) }
 {
