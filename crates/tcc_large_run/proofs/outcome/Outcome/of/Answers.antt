@@ -1,8 +1,17 @@
-use Rattle.std.proofs.Common.{◌∙◌, subst, inr}
+use Rattle.std.proofs.Common.{◌∙◌, subst, inr, rules}
+use Rattle.std.proofs.lemmas.Result.{IfOk-weaker}
+use Rattle.tcc_txn.specs.Finished.{KeepsLimits}
 use Rattle.tcc_reads.specs.Refusals.{IsRefusal}
+use Rattle.tcc_large_run.proofs.Outcomes.{large_outcome}
 use Rattle.tcc_large_run.proofs.outcome.Outcome.of.Goals as goal
 
 pub returns-in-Err-Reads : goal.returns-in-Err-Reads
 returns-in-Err-Reads g c =
     let is = subst (IsRefusal c.args.snapshot.now) c.in-Err-Reads.field-0-is c.in-Err-Reads.ensures in
     inr (λ none. is.1 (is.0 ∙ none), c.in-Err-Reads.faults, cc c.in-Err-Reads.faults-is, is.0)
+
+pub returns-in-Ok : goal.returns-in-Ok
+returns-in-Ok g c =
+    let past : KeepsLimits c.args.snapshot.now → ⊥ = search rules in
+    IfOk-weaker c.of_decision.result _ _
+    (λ outcome said. large_outcome c.args.options.level c.args.snapshot.now c.in-Ok.answer outcome past c.in-Ok.ensures said) c.of_decision.ensures
