@@ -13,7 +13,7 @@ In the documents, a link has to lead to a file, and what stands in backquotes ha
     a name before a file  `answer_text` (`tcc_answer/specs`): the files there have the name
 
 ARCHITECTURE has to name the modules of each crate, all of them and no others, and what a crate stands on as `crates.txt` has
-it; PROOFS each public call of a library, in the part of its crate. Where a `specs/Lib.antt` says what serves proofs alone, the
+it; CONTRACTS has to be what the sources give (`contracts.py`). Where a `specs/Lib.antt` says what serves proofs alone, the
 files below that line have to be those that say in the beginning that nobody has to believe them. CHANGELOG tells of the past, and
 is left out. No script may define a name twice at one level. The man page and the completion for bash have to name each
 command and option of the program's help, and the completion to complete them; and the stack that README names has to be
@@ -35,6 +35,7 @@ from typing import Dict, Iterator, List, Optional, Tuple
 
 TOP = pathlib.Path(__file__).resolve().parent.parent.parent
 sys.path.insert(0, str(TOP / "tests"))
+import contracts  # noqa: E402
 from counted import Outcome, status_of  # noqa: E402
 from crates import stands_on  # noqa: E402
 
@@ -49,10 +50,6 @@ OF_CRATE = re.compile(r"(tcc_[a-z_]+)(?:::[A-Za-z_]+)*::([A-Za-z_]+)")
 OF_TYPE = re.compile(r"[A-Z][A-Za-z]+::([A-Za-z_]+)")
 BEFORE_FILE = re.compile(r"`([A-Za-z_]+)` \(`((?:tcc_[a-z_]+)(?:/[A-Za-z_./]+)?)`")
 WORD = re.compile(r"`([a-z0-9_/]+)`")
-PUBLIC_MODULE = re.compile(r"^pub mod (\w+);", re.MULTILINE)
-PASSED_ON = re.compile(r"^pub use (?!tcc_)[\w:]+::(\{[^}]*\}|\w+);", re.MULTILINE)
-METHODS = re.compile(r"impl(?:<[^>]*>)? (\w+)")
-CALL = re.compile(r"( *)pub (?:const )?fn (\w+)")
 LEVELS = (ast.Module, ast.ClassDef, ast.FunctionDef)
 # Types of the toolchain, and files that a reader has, makes or names.
 ELSEWHERE = {"Vec", "String", "Option", "Result", "Ordering", "Rattle"}
@@ -187,32 +184,6 @@ def faults_of_crates() -> Iterator[Outcome]:
         yield "crate %s" % crate, None if crate in told and not wrong else "; ".join(wrong) or "ARCHITECTURE has no row"
 
 
-def public_calls(crate: str) -> Iterator[str]:
-    """The functions that the root of a library makes public, and those of its public types."""
-    source = TOP / "crates" / crate / "src"
-    root = (source / "lib.rt").read_text()
-    modules, names = set(PUBLIC_MODULE.findall(root)), set(re.findall(r"\w+", " ".join(PASSED_ON.findall(root))))
-    for path in source.rglob("*.rt"):
-        of = ""
-        for line in path.read_text().splitlines():
-            methods, call = METHODS.match(line), CALL.match(line)
-            of = methods.group(1) if methods else of
-            if call and (path.stem in modules or (of if call.group(1) else call.group(2)) in names):
-                yield call.group(2)
-
-
-def faults_of_calls() -> Iterator[Outcome]:
-    """Whether PROOFS names each public call of each library, in the part of its crate."""
-    parts = re.split(r"^## `?(\w+)`?.*$", (TOP / "docs/PROOFS.md").read_text(), flags=re.MULTILINE)
-    told = dict(zip(parts[1::2], parts[2::2]))
-    for crate in stands_on():
-        if crate.startswith("tcc_tests_") or not (TOP / "crates" / crate / "src/lib.rt").exists():
-            continue
-        quoted = set(re.findall(r"\w+", " ".join(QUOTED.findall(told.get(crate, "")))))
-        for call in sorted(set(public_calls(crate))):
-            yield "call %s of %s" % (call, crate), None if call in quoted else "PROOFS doesn't name it"
-
-
 def faults_of_specs() -> Iterator[Outcome]:
     """Whether the parts of an index of specs are those that the files themselves tell."""
     for index in sorted((TOP / "crates").glob("*/specs/Lib.antt")):
@@ -290,7 +261,7 @@ def outcomes(tcc: List[str]) -> Iterator[Outcome]:
         yield from faults_of_document(document)
     yield from faults_of_modules()
     yield from faults_of_crates()
-    yield from faults_of_calls()
+    yield from contracts.outcomes()
     yield from faults_of_specs()
     yield from faults_of_scripts()
     if not shutil.which(tcc[0]):

@@ -157,6 +157,8 @@ fn all_distances(
 }
 
 /// The distances of a graph at a level.
+/// From each transaction to each, itself among them, that is the least number of steps of a walk that the level allows;
+/// none where there is no such walk.
 pub fn near(
     rt: &(impl Threads + Sync),
     alloc: Global,

@@ -305,6 +305,7 @@ impl Snapshot {
     }
 
     /// The session has finished one more transaction, where there is room.
+    /// Refused, the snapshot is as it was.
     pub fn add(&mut self, alloc: Global, session: Name, txn: Txn) -> Result<(), GrowFault>
         ensures added { OnOk result (self.new ≡ with_transaction self.old session txn) }
         ensures kept { OnErr result (self.new ≡ self.old) }
@@ -317,6 +318,7 @@ impl Snapshot {
     }
 
     /// The snapshot in which each named session has finished these transactions.
+    /// Where they make none, it says why, and they come back as they were.
     pub fn new(
         parts: Vec<(Name, Vec<Txn>)>,
     ) -> Result<Snapshot, (SnapshotFault, Vec<(Name, Vec<Txn>)>)>
@@ -377,6 +379,7 @@ impl LargeSnapshot {
     }
 
     /// The session has finished one more transaction, where there is room.
+    /// Refused, the snapshot is as it was.
     pub fn add(&mut self, alloc: Global, session: Name, txn: Txn) -> Result<(), GrowFault>
         ensures added { OnOk result (self.new ≡ with_transaction self.old session txn) }
         ensures kept { OnErr result (self.new ≡ self.old) }
@@ -395,6 +398,7 @@ impl LargeSnapshot {
     }
 
     /// The snapshot in which each named session has finished these transactions.
+    /// Where they make none, it says why, and they come back as they were.
     pub fn new(
         parts: Vec<(Name, Vec<Txn>)>,
     ) -> Result<LargeSnapshot, (SnapshotFault, Vec<(Name, Vec<Txn>)>)>
