@@ -13,9 +13,9 @@ In the documents, a link has to lead to a file, and what stands in backquotes ha
     a name before a file  `answer_text` (`tcc_answer/specs`): the files there have the name
 
 ARCHITECTURE has to name the modules of each crate, all of them and no others, and what a crate stands on as `crates.txt` has
-it; CONTRACTS has to be what the sources give (`contracts.py`). Where a `specs/Lib.antt` says what serves proofs alone, the
-files below that line have to be those that say in the beginning that nobody has to believe them. CHANGELOG tells of the past, and
-is left out. No script may define a name twice at one level. The man page and the completion for bash have to name each
+it; CONTRACTS has to be what the sources give (`contracts.py`), and so has what is told of statuses and limits (`told.py`). Where a
+`specs/Lib.antt` says what serves proofs alone, the files below that line have to be those that say in the beginning that nobody
+has to believe them. CHANGELOG tells of the past, and is left out. No script may define a name twice at one level. The man page and the completion for bash have to name each
 command and option of the program's help, and the completion to complete them; and the stack that README names has to be
 enough. Each difference is one line; the last line is `N passed, M failed`.
 """
@@ -36,6 +36,7 @@ from typing import Dict, Iterator, List, Optional, Tuple
 TOP = pathlib.Path(__file__).resolve().parent.parent.parent
 sys.path.insert(0, str(TOP / "tests"))
 import contracts  # noqa: E402
+import told  # noqa: E402
 from counted import Outcome, status_of  # noqa: E402
 from crates import stands_on  # noqa: E402
 
@@ -262,6 +263,7 @@ def outcomes(tcc: List[str]) -> Iterator[Outcome]:
     yield from faults_of_modules()
     yield from faults_of_crates()
     yield from contracts.outcomes()
+    yield from told.outcomes()
     yield from faults_of_specs()
     yield from faults_of_scripts()
     if not shutil.which(tcc[0]):
