@@ -14,7 +14,7 @@ use Rattle.tcc_cert.specs.CycleRules.{CycleClaim, IsLinkRight, IsLinkWrong, cycl
 use Rattle.tcc_cert.specs.Rules.{IsRightCycle}
 use Rattle.tcc_cert.proofs.Ends.{ends_at-push, ends_at_some}
 use Rattle.tcc_check.specs.declared.links.LinksSeen.{LinksSeen}
-use Rattle.tcc_check.specs.Links.{AreSeenTo, IsFirstWrongFrom, IsWrongFrom, begins_at, ends_or, first_wrong, left_behind}
+use Rattle.tcc_check.specs.private.Links.{AreSeenTo, IsFirstWrongFrom, IsWrongFrom, begins_at, ends_or, first_wrong, left_behind}
 use Rattle.tcc_check.specs.Verdicts.{IsCycleFault}
 
 -- ---- the next link

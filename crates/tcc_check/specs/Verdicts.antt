@@ -92,11 +92,6 @@ abbrev pub IsFirstBroken : List Asked → Rule → ℕ × ℕ → Type 0
 IsFirstBroken [] rule at = ⊥
 IsFirstBroken (asked ∷ later) rule at = ((rule ≡ asked.rule) × asked.broken at) ⊎ (asked.holds × IsFirstBroken later rule at)
 
--- what these rules say
-abbrev pub IsAnswer : List Asked → Verdict → Type 0
-IsAnswer rules verdict.Accepted = AllHold rules
-IsAnswer rules (verdict.Rejected rule at) = IsFirstBroken rules rule at
-
 -- accepted exactly where the certificate certifies its claim, else the first broken rule
 abbrev pub IsVerdict : History → Certificate → Verdict → Type 0
 IsVerdict h k verdict.Accepted = Certifies h k

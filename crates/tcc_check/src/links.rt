@@ -11,10 +11,10 @@ ghost use Rattle.tcc_cert.specs.Parts.{Parts};
 ghost use Rattle.tcc_cert.specs.declared.part.Part.{Part};
 ghost use Rattle.tcc_cert.specs.declared.part.Part.TheVariants as part;
 ghost use Rattle.tcc_cert.specs.declared.version.Version.{Version};
-ghost use Rattle.tcc_check.specs.Coming.{Leaves};
-ghost use Rattle.tcc_check.specs.Judged.{AreLinksJudged, cycle_claim, links_rules};
-ghost use Rattle.tcc_check.specs.Links.{AreSeenTo, IsBrokenAt, ends_or, first_wrong, left_behind};
-ghost use Rattle.tcc_check.specs.Verdicts.{IsAnswer};
+ghost use Rattle.tcc_check.specs.private.Coming.{Leaves};
+ghost use Rattle.tcc_check.specs.private.Judged.{AreLinksJudged, cycle_claim, links_rules};
+ghost use Rattle.tcc_check.specs.private.Links.{AreSeenTo, IsBrokenAt, ends_or, first_wrong, left_behind};
+ghost use Rattle.tcc_check.specs.private.Searches.{IsAnswer};
 
 use crate::StreamFault;
 use crate::coming::next_part;

@@ -12,8 +12,8 @@ use Rattle.tcc_graph.specs.declared.link.Link.{Link}
 use Rattle.tcc_graph.specs.declared.link.Link.TheVariants as link
 use Rattle.tcc_core.specs.Rows.{in_row, cap_of, JoinsNearest}
 use Rattle.tcc_core.specs.Searches.{Settles}
-use Rattle.tcc_core.specs.Queues.{offered}
-use Rattle.tcc_core.specs.Relaxing.{count_joined}
+use Rattle.tcc_core.specs.private.Queues.{offered}
+use Rattle.tcc_core.specs.private.Relaxing.{count_joined}
 use Rattle.tcc_core.specs.Shares.{Share, Finished, Returned, Cut, IsNotAbove, IsStopped, IsFinished, IsCycleCost, starts_of, SettleAt, capped}
 use Rattle.tcc_core.specs.declared.settled.Settled.TheVariants as settled
 use Rattle.tcc_graph.proofs.Linking.{cost_cons, some_cost}

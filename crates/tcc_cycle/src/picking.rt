@@ -7,7 +7,7 @@ ghost use Rattle.tcc_graph.specs.declared.link.Link.{Link};
 ghost use Rattle.tcc_near.specs.Distances.{IsNearOf};
 ghost use Rattle.tcc_derive.specs.Prices.{IsPricesOf, IsLinkOf};
 ghost use Rattle.tcc_cycle.specs.Returns.{IsFirstReturn};
-ghost use Rattle.tcc_cycle.specs.Ways.{spent, IsBefore, IsFirstLink};
+ghost use Rattle.tcc_cycle.specs.private.Ways.{spent, IsBefore, IsFirstLink};
 
 use crate::FirstReturn;
 use std::alloc::Global;

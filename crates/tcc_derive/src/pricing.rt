@@ -2,11 +2,11 @@
 ghost use Rattle.std.specs.Prelude.{◌≡◌, ◌<◌, ◌≤◌, ◌⊎◌, ℕ, length, All, IfOk, OnOk, flat_map, slice_index};
 ghost use Rattle.tcc_reads.specs.History.{count};
 ghost use Rattle.tcc_near.specs.Distances.{IsNearOf};
-ghost use Rattle.tcc_derive.specs.Buckets.{bucket};
-ghost use Rattle.tcc_derive.specs.KeyTables.{IsReadsOf, IsWritesOf};
-ghost use Rattle.tcc_derive.specs.Lowering.{one_more, HaveReads, Lowers, ArePricedBy};
-ghost use Rattle.tcc_derive.specs.Rows.{IsPriceRow, HasRows};
-ghost use Rattle.tcc_derive.specs.Sources.{AreSources, HaveSources};
+ghost use Rattle.tcc_derive.specs.private.Buckets.{bucket};
+ghost use Rattle.tcc_derive.specs.private.KeyTables.{IsReadsOf, IsWritesOf};
+ghost use Rattle.tcc_derive.specs.private.Lowering.{one_more, HaveReads, Lowers, ArePricedBy};
+ghost use Rattle.tcc_derive.specs.private.Rows.{IsPriceRow, HasRows};
+ghost use Rattle.tcc_derive.specs.private.Sources.{AreSources, HaveSources};
 ghost use Rattle.tcc_near.specs.declared.distances.TheConstants.{NONE};
 ghost use Rattle.tcc_txn.specs.declared.limits.TheConstants.{MAX_COUNT};
 ghost use Rattle.tcc_graph.specs.Tables.{row_of};

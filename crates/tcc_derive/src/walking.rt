@@ -5,7 +5,8 @@ ghost use Rattle.tcc_graph.specs.Walks.{step_from, step_to, IsStep, IsReached};
 ghost use Rattle.tcc_graph.specs.declared.step.Step.{Step};
 ghost use Rattle.tcc_near.specs.Distances.{IsNearOf};
 ghost use Rattle.tcc_derive.specs.Names.{IsFirstName};
-ghost use Rattle.tcc_derive.specs.Backwards.{IsFirstStep, IsLastStep, IsFirstWalk, stands_at};
+ghost use Rattle.tcc_derive.specs.Backwards.{IsFirstWalk};
+ghost use Rattle.tcc_derive.specs.private.LeadingBack.{IsFirstStep, IsLastStep, stands_at};
 ghost use Rattle.tcc_near.specs.declared.distances.TheConstants.{NONE};
 ghost use Rattle.tcc_graph.specs.Tables.{row_of};
 

@@ -16,7 +16,7 @@ use Rattle.tcc_packed.specs.declared.row.TheConstants.{NO_NUMBER}
 use Rattle.tcc_cert.specs.Tables.{row_of, entry, far_entry}
 use Rattle.tcc_cert.specs.declared.version.Version.TheVariants.{Two}
 use Rattle.tcc_explain.specs.Certificates.{IsCappedShortest, IsNearTable, IsFarTable}
-use Rattle.tcc_explain.specs.Capping.{AreFarRows}
+use Rattle.tcc_explain.specs.private.Capping.{AreFarRows}
 
 -- ---- routes
 

@@ -4,7 +4,7 @@ ghost use Rattle.tcc_graph.specs.Orders.{IsCommitOrder};
 ghost use Rattle.tcc_near.specs.Distances.{IsNearOf};
 ghost use Rattle.tcc_packed.specs.Packed.{number_in};
 ghost use Rattle.tcc_explain.specs.Certificates.{IsNearTable, IsFarTable, IsClocksAt};
-ghost use Rattle.tcc_explain.specs.Capping.{AreFarRows};
+ghost use Rattle.tcc_explain.specs.private.Capping.{AreFarRows};
 
 use std::alloc::Global;
 use tcc_answer::CappedRows;

@@ -38,7 +38,7 @@ pub struct LargeGraph {
 
 impl Model for LargeGraph {
     ghost use Rattle.tcc_reads.specs.History.{History};
-    ghost use Rattle.tcc_graph.specs.Graphs.{IsGraph};
+    ghost use Rattle.tcc_graph.specs.private.Graphs.{IsGraph};
 
     ghost Value = { History };
 

@@ -5,7 +5,7 @@ ghost use Rattle.tcc_reads.specs.History.{count};
 ghost use Rattle.tcc_graph.specs.Links.{link_to};
 ghost use Rattle.tcc_graph.specs.Routes.{HasCycle};
 ghost use Rattle.tcc_large.specs.Cycles.{AreCycle};
-ghost use Rattle.tcc_large.specs.Ranked.{IsFollowed};
+ghost use Rattle.tcc_large.specs.private.Ranked.{IsFollowed};
 
 use crate::cells::Cells;
 use crate::judging::to;

@@ -6,7 +6,7 @@ ghost use Rattle.tcc_graph.specs.Keys.{IsWriter};
 ghost use Rattle.tcc_graph.specs.Walks.{IsStep, step_from, step_to};
 ghost use Rattle.tcc_graph.specs.Levels.{Judged, causally, atomically};
 ghost use Rattle.tcc_graph.specs.Links.{MayContradict, IsLink, link_from, link_to};
-ghost use Rattle.tcc_large.specs.Ranked.{IsAgainst, IsNext, IsOnward, AreReadsPast, ArePairsPast, AreReasonsPast, AreLinksPast};
+ghost use Rattle.tcc_large.specs.private.Ranked.{IsAgainst, IsNext, IsOnward, AreReadsPast, ArePairsPast, AreReasonsPast, AreLinksPast};
 
 use crate::cells::Cells;
 use crate::reaching::{Reach, step};

@@ -4,7 +4,7 @@ ghost use Rattle.tcc_reads.specs.History.{count};
 ghost use Rattle.tcc_graph.specs.Levels.{causally, atomically};
 ghost use Rattle.tcc_near.specs.Distances.{IsNearOf};
 ghost use Rattle.tcc_near.specs.Bits.{is_marked, words_for};
-ghost use Rattle.tcc_near.specs.Breadth.{ArePairs, AreSuffixes, HasDistances, HaveDistances, IsLedTo, one_step, unnumbered};
+ghost use Rattle.tcc_near.specs.private.Breadth.{ArePairs, AreSuffixes, HasDistances, HaveDistances, IsLedTo, one_step, unnumbered};
 ghost use Rattle.tcc_near.specs.declared.distances.TheConstants.{NONE};
 ghost use Rattle.tcc_txn.specs.declared.limits.TheConstants.{MAX_COUNT};
 

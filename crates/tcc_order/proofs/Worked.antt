@@ -8,10 +8,10 @@ use Rattle.tcc_graph.specs.declared.level.Level.TheVariants as level
 use Rattle.tcc_graph.specs.Links.{IsReason}
 use Rattle.tcc_graph.specs.Orders.{IsCommitOrder}
 use Rattle.tcc_graph.specs.declared.step.Step.TheVariants as step
-use Rattle.tcc_order.specs.Numbering.{Joins, HasCircle}
-use Rattle.tcc_order.specs.Parents.{session_parent, parents}
-use Rattle.tcc_order.specs.Held.{holds}
-use Rattle.tcc_order.specs.Stepping.{StepsOver}
+use Rattle.tcc_order.specs.private.Numbering.{Joins, HasCircle}
+use Rattle.tcc_order.specs.private.Parents.{session_parent, parents}
+use Rattle.tcc_order.specs.private.Held.{holds}
+use Rattle.tcc_order.specs.private.Stepping.{StepsOver}
 use Rattle.tcc_order.proofs.Reached.{walks}
 use Rattle.tcc_order.proofs.Linked.{linked, linked_precedence}
 use Rattle.tcc_order.proofs.OrderOrCycle.{no_cycle}

@@ -5,8 +5,8 @@ ghost use Rattle.tcc_graph.specs.Orders.{IsFirstOrder};
 ghost use Rattle.tcc_graph.specs.Routes.{HasCycle};
 ghost use Rattle.tcc_graph.specs.Levels.{causally};
 ghost use Rattle.tcc_graph.specs.declared.level.Level.{Level};
-ghost use Rattle.tcc_order.specs.Parents.{AreSessionParents};
-ghost use Rattle.tcc_order.specs.Latest.{AreLinks};
+ghost use Rattle.tcc_order.specs.private.Parents.{AreSessionParents};
+ghost use Rattle.tcc_order.specs.private.Latest.{AreLinks};
 
 use crate::keeping::{causal_links, no_links};
 use crate::parents::session_parents;

@@ -13,7 +13,7 @@ use Rattle.tcc_explain.specs.Explained.{IsAnswerFor, IsAnswerOf}
 use Rattle.tcc_explain.specs.Next.{IsAnomalyOf, IsNextRefusal}
 use Rattle.tcc_explain.specs.declared.refusal.NextFault.TheVariants as refusal
 use Rattle.tcc_run.specs.Headline.{IsExplained, judged}
-use Rattle.tcc_run.specs.Stages.{Follows, HasEarlier, IsEarlier, anomaly_in}
+use Rattle.tcc_run.specs.private.Stages.{Follows, HasEarlier, IsEarlier, anomaly_in}
 use Rattle.tcc_run.specs.declared.explain.Last.{Last}
 use Rattle.tcc_run.specs.declared.outcome.Outcome.TheVariants as outcome
 

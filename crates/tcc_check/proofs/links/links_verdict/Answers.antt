@@ -1,6 +1,6 @@
 -- All links were seen.
 use Rattle.std.proofs.Common.{◌≡◌, ℕ, length, subst, arith}
-use Rattle.tcc_check.specs.Links.{AreSeenTo}
+use Rattle.tcc_check.specs.private.Links.{AreSeenTo}
 use Rattle.tcc_check.proofs.links.links_verdict.Goals as goal
 
 pub loop-before-init : goal.loop-before-init

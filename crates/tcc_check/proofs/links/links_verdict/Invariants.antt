@@ -1,5 +1,5 @@
 -- the links so far were seen
-use Rattle.tcc_check.specs.Links.{AreSeenTo}
+use Rattle.tcc_check.specs.private.Links.{AreSeenTo}
 use Rattle.tcc_check.proofs.links.links_verdict.Given as goal
 
 abbrev pub invariant-loop-before : goal.invariant-loop-before

@@ -3,9 +3,9 @@ use Rattle.rayon.proofs.ToStd.{nat_range-All}
 use Rattle.tcc_reads.specs.History.{count}
 use Rattle.tcc_graph.specs.Levels.{Judged}
 use Rattle.tcc_txn.specs.declared.memory.NoMemory.{NoMemory}
-use Rattle.tcc_derive.specs.Buckets.{bucket}
-use Rattle.tcc_derive.specs.Lowering.{HaveReads, ArePricedBy}
-use Rattle.tcc_derive.specs.Sources.{HaveSources}
+use Rattle.tcc_derive.specs.private.Buckets.{bucket}
+use Rattle.tcc_derive.specs.private.Lowering.{HaveReads, ArePricedBy}
+use Rattle.tcc_derive.specs.private.Sources.{HaveSources}
 use Rattle.tcc_near.proofs.RowLemmas.{each_given, numbers_below}
 use Rattle.tcc_derive.proofs.PriceLemmas.{price_row_of}
 use Rattle.tcc_derive.proofs.TableLemmas.{have_reads}

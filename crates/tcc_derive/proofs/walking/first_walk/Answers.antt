@@ -1,7 +1,7 @@
 use Rattle.std.proofs.Common.{ℕ, ◌+◌, ◌-◌, ◌<◌, ◌≤◌, ◌≡◌, [], ◌∷◌, length, length-append, get_or, sym, subst, arith}
 use Rattle.tcc_graph.specs.Walks.{step_from}
 use Rattle.tcc_graph.specs.Levels.{Judged}
-use Rattle.tcc_derive.specs.Backwards.{IsLeft, IsTakenBack}
+use Rattle.tcc_derive.specs.private.LeadingBack.{IsLeft, IsTakenBack}
 use Rattle.tcc_derive.proofs.BackLemmas.{never_stuck, taken_more, left_of, at_end, walk_of}
 use Rattle.tcc_graph.proofs.Pairs.{step_below}
 use Rattle.tcc_derive.proofs.walking.first_walk.Goals as goal

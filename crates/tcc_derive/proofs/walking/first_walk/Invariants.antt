@@ -1,6 +1,6 @@
 use Rattle.std.proofs.Common.{◌<◌, ◌≡◌, ◌-◌, length}
 use Rattle.tcc_reads.specs.History.{count}
-use Rattle.tcc_derive.specs.Backwards.{IsTakenBack, IsLeft}
+use Rattle.tcc_derive.specs.private.LeadingBack.{IsTakenBack, IsLeft}
 use Rattle.tcc_derive.proofs.walking.first_walk.Given as goal
 
 abbrev pub invariant-loop-done : goal.invariant-loop-done

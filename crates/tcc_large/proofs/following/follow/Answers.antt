@@ -2,7 +2,7 @@ use Rattle.std.proofs.Common.{ℕ, ◌≡◌, ◌-◌, List, drop, slice_index, 
 use Rattle.tcc_graph.specs.Levels.{Judged}
 use Rattle.tcc_graph.specs.declared.link.Link.{Link}
 use Rattle.tcc_large.specs.Cycles.{AreCycle}
-use Rattle.tcc_large.specs.Ranked.{IsOnward}
+use Rattle.tcc_large.specs.private.Ranked.{IsOnward}
 use Rattle.tcc_large.proofs.Ranks.{trail_circle, trail_more, trail_room}
 use Rattle.tcc_large.proofs.following.follow.Goals as goal
 

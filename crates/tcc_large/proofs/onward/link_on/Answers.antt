@@ -2,7 +2,7 @@ use Rattle.std.proofs.Common.{ℕ, slice_index, ap, ◌∙◌}
 use Rattle.std.specs.Prelude.{MatchOption}
 use Rattle.std.proofs.lemmas.Result.{IfOk-weaker}
 use Rattle.tcc_graph.specs.Levels.{Judged}
-use Rattle.tcc_large.specs.Ranked.{IsOnward, AreReasonsPast, AreLinksPast}
+use Rattle.tcc_large.specs.private.Ranked.{IsOnward, AreReasonsPast, AreLinksPast}
 use Rattle.tcc_large.proofs.Ranks.{found_past}
 use Rattle.tcc_large.proofs.onward.link_on.Goals as goal
 

@@ -2,9 +2,9 @@ use Rattle.std.specs.Prelude.{MatchOption}
 use Rattle.std.proofs.lemmas.Result.{IfOk-weaker}
 use Rattle.tcc_reads.specs.History.{count}
 use Rattle.tcc_graph.specs.Levels.{Judged}
-use Rattle.tcc_order.specs.Held.{holds}
-use Rattle.tcc_order.specs.Latest.{AreLinks}
-use Rattle.tcc_order.specs.Numbering.{HasCircle, IsFirstOf}
+use Rattle.tcc_order.specs.private.Held.{holds}
+use Rattle.tcc_order.specs.private.Latest.{AreLinks}
+use Rattle.tcc_order.specs.private.Numbering.{HasCircle, IsFirstOf}
 use Rattle.tcc_order.proofs.Finding.{found_kept}
 use Rattle.tcc_order.proofs.Links.{IsFound}
 use Rattle.tcc_order.proofs.ordering.order.Goals as goal
