@@ -4,7 +4,7 @@ use Rattle.std.proofs.lemmas.Bool.{false≢true}
 use Rattle.std.proofs.lemmas.List.Elements.{All-cons, All-nil, All-head, All-tail}
 use Rattle.tcc_reads.specs.History.{initial}
 use Rattle.tcc_graph.specs.Relations.{session_pair, reads_from}
-use Rattle.tcc_graph.specs.Levels.{Judged, causally}
+use Rattle.tcc_graph.specs.Levels.{Judged, causally, judged}
 use Rattle.tcc_graph.specs.Links.{IsLink, link_to, cost}
 use Rattle.tcc_graph.specs.Routes.{LinksLead, IsRoute, IsUpward, IsUpwardRoute, IsDistance}
 use Rattle.tcc_graph.specs.declared.level.Level.{Level}
@@ -215,7 +215,7 @@ seeded j shares b c settle cycle low = record {
 -- ---- `init` alone: one share settles at none, and at nothing else, whatever the level
 
 abbrev alone : Level → Judged
-alone level = record { history = record { sessions = []; entries = initial ∷ [] }; level = level }
+alone level = judged (record { sessions = []; entries = initial ∷ [] }) level
 
 abbrev lone_search : Finished
 lone_search = record { start = 0; row = None ∷ []; stop = Cut None }

@@ -17,7 +17,7 @@ use Rattle.tcc_answer.specs.declared.answer.Answer.{Answer}
 use Rattle.tcc_answer.specs.declared.answer.Answer.TheVariants as answer
 use Rattle.tcc_explain.specs.Explained.{IsAnswerFor}
 use Rattle.tcc_explain.specs.Next.{IsAnomalyOf}
-use Rattle.tcc_run.specs.Headline.{judged}
+use Rattle.tcc_graph.specs.Levels.{judged}
 use Rattle.tcc_print.specs.declared.status.Status.TheVariants.{Device, Memory}
 use Rattle.tcc_print.specs.declared.options.Options.{Options}
 use Rattle.tcc_run.specs.Runs.{Contents, Gains, GainsPart, IsAnswered, IsEnded, IsWhole, Said, answer_said, faults_said, texts}
@@ -26,6 +26,7 @@ use Rattle.tcc_run.specs.declared.outcome.Outcome.{Outcome}
 use Rattle.tcc_run.specs.declared.outcome.Outcome.TheVariants as outcome
 use Rattle.tcc_print.specs.Statuses.{code_of, last_status}
 use Rattle.tcc_print.specs.Printed.{CutsOff, Prints, answered, device_line, memory_line, unresolved}
+use Rattle.tcc_reads.specs.Sources.{history}
 
 -- ---- what is answered
 
@@ -53,7 +54,7 @@ anomaly_in (outcome.Unresolved faults earlier) = earlier
 
 -- an anomaly of a resolved snapshot that this one continues, whatever its tables
 abbrev pub IsEarlier : Level → Sessions → LabelledCycle → Type 0
-IsEarlier level s a = (small : Sessions) × IsNested small s × (read_faults small ≡ []) × IsAnomalyOf (judged small level) a
+IsEarlier level s a = (small : Sessions) × IsNested small s × (read_faults small ≡ []) × IsAnomalyOf (judged (history small) level) a
 
 -- the last anomaly, if there was one, is one of a snapshot that this one continues
 abbrev pub HasEarlier : Level → Sessions → Outcome → Type 0
