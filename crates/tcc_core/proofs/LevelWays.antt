@@ -8,9 +8,9 @@ use Rattle.std.proofs.lemmas.List.Elements.{All-set, All-weaker, Contains-append
 use Rattle.tcc_near.specs.Bits.{is_marked}
 use Rattle.tcc_near.proofs.BitLemmas.{bit_from, marked_within}
 use Rattle.tcc_derive.specs.declared.by_class.Class.{Class}
-use Rattle.tcc_core.specs.Offers.{IsLower, IsOffered}
-use Rattle.tcc_core.specs.Marked.{IsMarkWay}
-use Rattle.tcc_core.specs.Levels.{HasRoom, IsLevel, AreLevels, IsClassWay}
+use Rattle.tcc_core.specs.private.Offers.{IsLower, IsOffered}
+use Rattle.tcc_core.specs.private.Marked.{IsMarkWay}
+use Rattle.tcc_core.specs.private.Levels.{HasRoom, IsLevel, AreLevels, IsClassWay}
 use Rattle.tcc_core.specs.declared.levels.Level.{Level}
 use Rattle.tcc_core.specs.declared.levels.TheConstants.{LEVELS}
 use Rattle.tcc_core.proofs.Offered.{lower_least, offered_none, offered_then, offered_same}

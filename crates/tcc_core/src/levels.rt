@@ -2,9 +2,9 @@
 //! search, however many transactions have links there.
 ghost use Rattle.std.specs.Prelude.{◌≡◌, ◌<◌, ◌≤◌, ◌+◌, ◌*◌, ◌^◌, ℕ, true, length, All, IfOk};
 ghost use Rattle.tcc_near.specs.Bits.{is_marked, words_for};
-ghost use Rattle.tcc_core.specs.Levels.{HasRoom, IsLevel, AreLevels, IsClassWay, AreClasses};
-ghost use Rattle.tcc_core.specs.Marked.{IsMarkWay};
-ghost use Rattle.tcc_core.specs.Offers.{IsOffered};
+ghost use Rattle.tcc_core.specs.private.Levels.{HasRoom, IsLevel, AreLevels, IsClassWay, AreClasses};
+ghost use Rattle.tcc_core.specs.private.Marked.{IsMarkWay};
+ghost use Rattle.tcc_core.specs.private.Offers.{IsOffered};
 ghost use Rattle.tcc_core.specs.declared.ring.TheConstants.{BUCKETS};
 ghost use Rattle.tcc_core.specs.declared.levels.TheConstants.{LEVELS};
 ghost use Rattle.tcc_txn.specs.declared.limits.TheConstants.{MAX_COUNT};

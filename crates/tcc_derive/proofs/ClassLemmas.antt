@@ -14,8 +14,8 @@ use Rattle.tcc_near.specs.Bits.{is_marked, words_for}
 use Rattle.tcc_derive.specs.Prices.{Tables, IsPricesOf, end_of, others_at}
 use Rattle.tcc_derive.specs.ByClass.{IsCheap}
 use Rattle.tcc_derive.specs.ByClass.{HasLinkAmong, IsByClass}
-use Rattle.tcc_derive.specs.CostBuckets.{costs_just, costs_below}
-use Rattle.tcc_derive.specs.Classes.{IsMarksOf, ArePartedBelow}
+use Rattle.tcc_derive.specs.private.CostBuckets.{costs_just, costs_below}
+use Rattle.tcc_derive.specs.private.Classes.{IsMarksOf, ArePartedBelow}
 use Rattle.tcc_derive.specs.declared.by_class.Class.{Class}
 use Rattle.tcc_derive.specs.declared.by_class.ByClass.{ByClass}
 use Rattle.tcc_derive.proofs.ByCostLemmas.{cheap_below, append_pairs, from_row, out}

@@ -9,10 +9,10 @@ use Rattle.std.proofs.lemmas.List.Elements.{Contains-get_or}
 use Rattle.tcc_reads.specs.History.{History, count}
 use Rattle.tcc_graph.specs.Relations.{IsReadsPair}
 use Rattle.tcc_graph.specs.Keys.{keys, writers, IsWriter}
-use Rattle.tcc_graph.specs.KeyRows.{name_of}
-use Rattle.tcc_derive.specs.Buckets.{bucket, Puts}
-use Rattle.tcc_derive.specs.KeyTables.{AreReadsAt, IsReadsOf, HasWrites, IsWritesOf}
-use Rattle.tcc_derive.specs.Lowering.{HaveReads}
+use Rattle.tcc_graph.specs.private.KeyRows.{name_of}
+use Rattle.tcc_derive.specs.private.Buckets.{bucket, Puts}
+use Rattle.tcc_derive.specs.private.KeyTables.{AreReadsAt, IsReadsOf, HasWrites, IsWritesOf}
+use Rattle.tcc_derive.specs.private.Lowering.{HaveReads}
 use Rattle.tcc_derive.specs.declared.read.Read.{Read}
 use Rattle.tcc_graph.proofs.WriterLemmas.{writer_writes, writer_in}
 use Rattle.tcc_derive.proofs.KeyLemmas.{key_at}

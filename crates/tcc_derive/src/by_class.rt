@@ -3,7 +3,7 @@
 ghost use Rattle.std.specs.Prelude.{◌≡◌, ◌<◌, ◌≤◌, ◌+◌, length, All, IfOk, slice_index};
 ghost use Rattle.tcc_txn.specs.declared.limits.TheConstants.{MAX_COUNT};
 ghost use Rattle.tcc_graph.specs.Tables.{row_of};
-ghost use Rattle.tcc_derive.specs.Classes.{IsMarksOf, ArePartedBelow, HasClassRows};
+ghost use Rattle.tcc_derive.specs.private.Classes.{IsMarksOf, ArePartedBelow, HasClassRows};
 
 use crate::by_cost::cost_buckets;
 use rayon::prelude::*;

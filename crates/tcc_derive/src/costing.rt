@@ -1,6 +1,6 @@
 //! Rows of costs.
 ghost use Rattle.std.specs.Prelude.{◌≡◌, length, IfOk};
-ghost use Rattle.tcc_derive.specs.Lowering.{HasPairs};
+ghost use Rattle.tcc_derive.specs.private.Lowering.{HasPairs};
 
 use std::alloc::Global;
 use tcc_near::Row;

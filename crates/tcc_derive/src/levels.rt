@@ -3,8 +3,8 @@
 ghost use Rattle.std.specs.Prelude.{◌≡◌, ◌<◌, ◌≤◌, ◌+◌, ◌^◌, ◌⊎◌, ℕ, List, true, length, slice_index, All, Contains, OnOk};
 ghost use Rattle.tcc_near.specs.Bits.{is_marked, words_for};
 ghost use Rattle.tcc_near.specs.declared.distances.TheConstants.{NONE};
-ghost use Rattle.tcc_derive.specs.Lowering.{Lowers};
-ghost use Rattle.tcc_derive.specs.Sources.{AreSources, IsCovered, LowersEach, LowersUpTo};
+ghost use Rattle.tcc_derive.specs.private.Lowering.{Lowers};
+ghost use Rattle.tcc_derive.specs.private.Sources.{AreSources, IsCovered, LowersEach, LowersUpTo};
 
 use crate::read::Read;
 use std::alloc::{AllocError, Global};

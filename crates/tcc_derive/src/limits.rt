@@ -3,7 +3,7 @@ ghost use Rattle.std.specs.Prelude.{◌≡◌, ◌<◌, ◌≤◌, ◌↔◌, fa
 ghost use Rattle.tcc_txn.specs.declared.limits.TheConstants.{MAX_COUNT};
 ghost use Rattle.tcc_near.specs.Distances.{IsSquare};
 ghost use Rattle.tcc_derive.specs.Limits.{AreWithin, IsLimit};
-ghost use Rattle.tcc_derive.specs.Closings.{IsBackOrNone, IsClosingOrNone};
+ghost use Rattle.tcc_derive.specs.private.Closings.{IsBackOrNone, IsClosingOrNone};
 
 use tcc_near::{NONE, Near, Row};
 

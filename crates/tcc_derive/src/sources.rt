@@ -1,7 +1,7 @@
 //! From whom each transaction reads a key, as rows of marks. They are kept of keys of which transactions read many values.
 ghost use Rattle.std.specs.Prelude.{◌≡◌, ◌<◌, ◌≤◌, ◌⊎◌, ◌↔◌, ℕ, true, length, All, Contains, IfOk};
 ghost use Rattle.tcc_near.specs.Bits.{is_marked, words_for};
-ghost use Rattle.tcc_derive.specs.Sources.{AreByReader, AreSources, HaveSources};
+ghost use Rattle.tcc_derive.specs.private.Sources.{AreByReader, AreSources, HaveSources};
 
 use crate::bucket::empty_buckets;
 use crate::read::Read;

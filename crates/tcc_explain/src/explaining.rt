@@ -6,6 +6,7 @@ ghost use Rattle.tcc_derive.specs.Prices.{IsPricesOf};
 ghost use Rattle.tcc_answer.specs.Labels.{labels_of};
 ghost use Rattle.tcc_answer.specs.declared.answer.Answer.TheVariants as answer;
 ghost use Rattle.tcc_explain.specs.Explained.{IsAnswerFor, IsAnswerOf, IsRefusal};
+ghost use Rattle.tcc_graph.specs.Levels.{judged};
 
 use crate::offering::{lesser, offered};
 use crate::refusal::ExplainFault;
@@ -33,7 +34,7 @@ fn distances(
     level: Level,
 ) -> Result<Near, NoMemory>
     ensures level { IfOk result (λ near. near.level ≡ level) }
-    ensures near { IfOk result (λ near. IsNearOf (record { history = graph.now; level = near.level }) near) }
+    ensures near { IfOk result (λ near. IsNearOf (judged graph.now near.level) near) }
 {
     let distances = near(rt, alloc, graph, level)?;
     Ok(distances)
@@ -52,12 +53,12 @@ fn anomaly<G: Gate>(
     workers: u32,
     gate: &G,
 ) -> Result<Anomaly, NoMemory>
-    requires near { IsNearOf (record { history = graph.now; level = near.level }) near }
-    requires prices { IsPricesOf (record { history = graph.now; level = near.level }) prices }
-    requires cycle { HasCycle (record { history = graph.now; level = near.level }) }
+    requires near { IsNearOf (judged graph.now near.level) near }
+    requires prices { IsPricesOf (judged graph.now near.level) prices }
+    requires cycle { HasCycle (judged graph.now near.level) }
     requires labels { labels ≡ labels_of graph.now }
     requires workers { (0 < workers) × (workers ≤ 32) }
-    ensures { IfOk result (λ anomaly. IsAnswerOf (record { history = graph.now; level = near.level }) (answer.Anomaly anomaly)) }
+    ensures { IfOk result (λ anomaly. IsAnswerOf (judged graph.now near.level) (answer.Anomaly anomaly)) }
 {
     let seed = lesser(offered(&prices, earlier), seed(&near, &prices));
     let found = search_with(rt, alloc, &prices, seed, workers, gate, &AllStart)?;
@@ -100,7 +101,7 @@ pub(crate) fn history_answer<G: Gate>(
 ) -> Result<Answer, NoMemory>
     requires labels { labels ≡ labels_of graph.now }
     requires workers { (0 < workers) × (workers ≤ 32) }
-    ensures { IfOk result (IsAnswerOf (record { history = graph.now; level = level })) }
+    ensures { IfOk result (IsAnswerOf (judged graph.now level)) }
 {
     order_or_cycle();
     if let Some(order) = order(alloc, graph.large(), level)? {

@@ -6,7 +6,7 @@ ghost use Rattle.tcc_answer.specs.declared.answer.Answer.TheVariants as answer;
 ghost use Rattle.tcc_print.specs.Printed.{EndsIn};
 ghost use Rattle.tcc_print.specs.declared.status.Status.TheVariants as status;
 ghost use Rattle.tcc_large_run.specs.LargeRuns.{bare_order};
-ghost use Rattle.tcc_large_run.specs.Stages.{IsOutcome, outcome_of, outcome_status, outcome_text};
+ghost use Rattle.tcc_large_run.specs.private.Stages.{IsOutcome, outcome_of, outcome_status, outcome_text};
 
 use crate::copying::small_of;
 use std::alloc::Global;

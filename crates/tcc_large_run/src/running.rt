@@ -8,11 +8,11 @@ ghost use Rattle.tcc_rows.specs.Reached.{IsWithin};
 ghost use Rattle.tcc_rows.specs.Recordings.{FailsBehindWithin, IsLargeRecording, TakesLargeMoment, after_items};
 ghost use Rattle.tcc_rows.specs.declared.rows.Item.{Item};
 ghost use Rattle.tcc_txn.specs.declared.limits.Limits.TheVariants.{Large};
-ghost use Rattle.tcc_print.specs.Halts.{by_row};
+ghost use Rattle.tcc_print.specs.private.Halts.{by_row};
 ghost use Rattle.tcc_print.specs.Printed.{PrintsOrMemory, halted};
 ghost use Rattle.tcc_print.specs.Statuses.{halt_status};
 ghost use Rattle.tcc_large_run.specs.LargeRuns.{IsLargeRun, answers_of, finished, records_of};
-ghost use Rattle.tcc_large_run.specs.Stages.{AllAnswered, Concludes, EndsAnswering, EndsEarly, SaysLast, SendsSlice, WritesSlice, outcome_said};
+ghost use Rattle.tcc_large_run.specs.private.Stages.{AllAnswered, Concludes, EndsAnswering, EndsEarly, SaysLast, SendsSlice, WritesSlice, outcome_said};
 
 use crate::copying::transaction_count;
 use crate::outcome::Outcome;

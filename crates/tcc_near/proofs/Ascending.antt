@@ -6,7 +6,7 @@ use Rattle.std.specs.List.{AllPairs, Contains}
 use Rattle.std.proofs.lemmas.Bool.{cases_eq, cases_lt}
 use Rattle.std.proofs.lemmas.List.Elements.{Contains-get_or, Contains-push_cases}
 use Rattle.std.proofs.lemmas.List.Quantifiers.{all_pairs_push}
-use Rattle.tcc_near.specs.Bits.{IsAscendingBelow}
+use Rattle.tcc_near.specs.private.Breadth.{IsAscendingBelow}
 use Rattle.tcc_near.proofs.BitLemmas.{cleared}
 
 -- the numbers ascend and stand before each that is left in a word

@@ -7,8 +7,8 @@ use Rattle.std.proofs.lemmas.Bool.{cases_eq, false≢true, ne_eqb}
 use Rattle.std.proofs.lemmas.List.{get_or-set_same, get_or-set_other, take_more}
 use Rattle.std.proofs.lemmas.List.Elements.{All-weaker, All-contains_itself, Contains-append_left, Contains-push, Contains-push_cases}
 use Rattle.std.proofs.lemmas.List.Sums.{sum_by-set}
-use Rattle.tcc_near.specs.Bits.{is_marked, IsFresh, IsRowOf}
-use Rattle.tcc_near.specs.Breadth.{numbered, unnumbered, IsSeen, IsLedTo}
+use Rattle.tcc_near.specs.Bits.{is_marked, IsFresh}
+use Rattle.tcc_near.specs.private.Breadth.{IsRowOf, numbered, unnumbered, IsSeen, IsLedTo}
 use Rattle.tcc_graph.specs.Relations.{causal_pair}
 use Rattle.tcc_graph.proofs.Pairs.{pair_kinds, pair_below}
 use Rattle.tcc_reads.specs.History.{History, count}

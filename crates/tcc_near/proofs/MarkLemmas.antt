@@ -10,8 +10,8 @@ use Rattle.std.proofs.lemmas.List.Elements.{All-contains_itself}
 use Rattle.tcc_reads.specs.History.{History, count}
 use Rattle.tcc_graph.specs.Relations.{IsReadsPair, IsCausalPair, causal_pair}
 use Rattle.tcc_graph.proofs.Pairs.{pair_kinds, pair_from_kinds, pair_below}
-use Rattle.tcc_near.specs.Bits.{is_marked, words_for, IsRowOf, IsFresh}
-use Rattle.tcc_near.specs.Breadth.{IsSessionEnd, IsPairsFrom, AreSuffixes}
+use Rattle.tcc_near.specs.Bits.{is_marked, words_for, IsFresh}
+use Rattle.tcc_near.specs.private.Breadth.{IsRowOf, IsSessionEnd, IsPairsFrom, AreSuffixes}
 
 -- ---- marks that are joined
 pub or_marks : (old other new : Bool) → new ≡ (old || other) → (new ≡ true) ↔ ((old ≡ true) ⊎ (other ≡ true))

@@ -22,10 +22,10 @@ use Rattle.tcc_graph.specs.declared.link.Link.TheVariants as link
 use Rattle.tcc_graph.proofs.Pairs.{step_pair}
 use Rattle.tcc_graph.proofs.Linking.{link_route}
 use Rattle.tcc_graph.proofs.WriterLemmas.{writer_in, read_is_key}
-use Rattle.tcc_order.specs.Parents.{parents, session_parent, session_parents, sources}
-use Rattle.tcc_order.specs.Held.{holds}
-use Rattle.tcc_order.specs.Latest.{IsCovered, AreDerived, AreEnough, AreLinks, Derives, Overwrites, HasNone, LeadsOnward}
-use Rattle.tcc_order.specs.Numbering.{IsOrderOf, IsFirstOf, Joins, HasCircle}
+use Rattle.tcc_order.specs.private.Parents.{parents, session_parent, session_parents, sources}
+use Rattle.tcc_order.specs.private.Held.{holds}
+use Rattle.tcc_order.specs.private.Latest.{IsCovered, AreDerived, AreEnough, AreLinks, Derives, Overwrites, HasNone, LeadsOnward}
+use Rattle.tcc_order.specs.private.Numbering.{IsOrderOf, IsFirstOf, Joins, HasCircle}
 use Rattle.tcc_order.proofs.Fronts.{holds_there, holds_parts}
 use Rattle.tcc_order.proofs.Kept.{IsLinked, has_link, linked_before}
 use Rattle.tcc_order.proofs.Links.{linked_by, IsFound}

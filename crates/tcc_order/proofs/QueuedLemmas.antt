@@ -14,8 +14,8 @@ use Rattle.std.proofs.lemmas.List.Sorted.{Contains-permutation, IsPermutation-sy
 use Rattle.tcc_graph.specs.Tables.{row_of}
 use Rattle.tcc_near.specs.Bits.{is_marked}
 use Rattle.tcc_near.proofs.FreshLemmas.{one_of_taken, still_taken, last_taken, nothing_in}
-use Rattle.tcc_order.specs.Held.{IsFreeBy, AreRoots, onward}
-use Rattle.tcc_order.specs.Queued.{IsPopped, IsQueued, AreQueued, IsAny, IsNot}
+use Rattle.tcc_order.specs.private.Held.{IsFreeBy, AreRoots, onward}
+use Rattle.tcc_order.specs.private.Queued.{IsPopped, IsQueued, AreQueued, IsAny, IsNot}
 use Rattle.tcc_order.proofs.Fronts.{AreParentsBy}
 use Rattle.tcc_order.proofs.Reaching.{in_map, from_map}
 

@@ -5,7 +5,7 @@ ghost use Rattle.tcc_graph.specs.Levels.{causally};
 ghost use Rattle.tcc_graph.specs.Orders.{IsCommitOrder};
 ghost use Rattle.tcc_graph.specs.Tables.{row_of};
 ghost use Rattle.tcc_near.specs.Clocks.{IsClocksOf};
-ghost use Rattle.tcc_order.specs.Lasts.{AreLastsOf, IsBefore, IsUpTo, raised};
+ghost use Rattle.tcc_order.specs.private.Lasts.{AreLastsOf, IsBefore, IsUpTo, raised};
 
 use crate::parents::parents_of;
 use std::alloc::{AllocError, Global};

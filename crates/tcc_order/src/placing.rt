@@ -3,10 +3,10 @@ ghost use Rattle.std.specs.Prelude.{◌≡◌, ◌<◌, ◌≤◌, ◌+◌, ◌^
 ghost use Rattle.tcc_reads.specs.History.{IsBySession, count};
 ghost use Rattle.tcc_graph.specs.Tables.{row_of};
 ghost use Rattle.tcc_near.specs.Bits.{is_marked, words_for};
-ghost use Rattle.tcc_order.specs.Numbering.{IsFirstOf, HasCircle};
-ghost use Rattle.tcc_order.specs.Parents.{AreSessionParents};
-ghost use Rattle.tcc_order.specs.Held.{holds, AreInside, IsFreeBy, AreRoots, onward};
-ghost use Rattle.tcc_order.specs.Queued.{AreQueued, IsAny, IsNot};
+ghost use Rattle.tcc_order.specs.private.Numbering.{IsFirstOf, HasCircle};
+ghost use Rattle.tcc_order.specs.private.Parents.{AreSessionParents};
+ghost use Rattle.tcc_order.specs.private.Held.{holds, AreInside, IsFreeBy, AreRoots, onward};
+ghost use Rattle.tcc_order.specs.private.Queued.{AreQueued, IsAny, IsNot};
 
 use crate::keeping::no_links;
 use crate::ready::Ready;

@@ -1,7 +1,5 @@
--- What contracts of public calls cite:
 pub mod Headline
 pub mod Interleaved
 pub mod Runs
 pub mod Closing
--- What serves proofs alone:
-pub mod Stages
+pub mod private

@@ -8,11 +8,11 @@ ghost use Rattle.tcc_rows.specs.Reached.{IsWithin};
 ghost use Rattle.tcc_rows.specs.Recordings.{IsRecording};
 ghost use Rattle.tcc_cert.specs.Texts.{certificate_text};
 ghost use Rattle.tcc_answer.specs.Claims.{certificate_of};
-ghost use Rattle.tcc_print.specs.Halts.{by_row};
+ghost use Rattle.tcc_print.specs.private.Halts.{by_row};
 ghost use Rattle.tcc_print.specs.Printed.{Prints, PrintsOrMemory, halted, memory_line};
 ghost use Rattle.tcc_print.specs.Statuses.{halt_status};
 ghost use Rattle.tcc_run.specs.Runs.{Gains, GainsPart, IsRun};
-ghost use Rattle.tcc_run.specs.Stages.{AllAnswered, AnswersKept, Concludes, EndsAnswering, EndsEarly, Follows, IsFor, IsStill, SaysLast, answer_in, count_at};
+ghost use Rattle.tcc_run.specs.private.Stages.{AllAnswered, AnswersKept, Concludes, EndsAnswering, EndsEarly, Follows, IsFor, IsStill, SaysLast, answer_in, count_at};
 
 use crate::outcome::Outcome;
 use std::alloc::Global;

@@ -2,7 +2,9 @@
 ghost use Rattle.std.specs.Prelude.{◌<◌, ◌≤◌, IfOk, MatchResult};
 ghost use Rattle.tcc_explain.specs.Explained.{IsAnswerOf, IsRefusal};
 ghost use Rattle.tcc_explain.specs.Next.{IsNextRefusal};
-ghost use Rattle.tcc_run.specs.Headline.{IsExplained, judged};
+ghost use Rattle.tcc_graph.specs.Levels.{judged};
+ghost use Rattle.tcc_reads.specs.Sources.{history};
+ghost use Rattle.tcc_run.specs.Headline.{IsExplained};
 
 use std::alloc::Global;
 use std::thread::Threads;
@@ -26,7 +28,7 @@ pub fn explain_snapshot<G: Gate>(
 ) -> Result<Answer, ExplainFault>
     requires workers { (0 < workers) × (workers ≤ 32) }
     ensures headline { MatchResult result (IsExplained snapshot.now level) (IsRefusal snapshot.now) }
-    ensures first { IfOk result (IsAnswerOf (judged snapshot.now level)) }
+    ensures first { IfOk result (IsAnswerOf (judged (history snapshot.now) level)) }
 {
     certified_answer();
     certified_claim();
@@ -50,7 +52,7 @@ pub fn explain_snapshot_next<G: Gate>(
 ) -> Result<Answer, NextFault>
     requires workers { (0 < workers) × (workers ≤ 32) }
     ensures headline { MatchResult result (IsExplained snapshot.now earlier.now.level) (IsNextRefusal snapshot.now earlier.now) }
-    ensures first { IfOk result (IsAnswerOf (judged snapshot.now earlier.now.level)) }
+    ensures first { IfOk result (IsAnswerOf (judged (history snapshot.now) earlier.now.level)) }
 {
     certified_answer();
     certified_claim();

@@ -18,6 +18,7 @@ ghost use Rattle.tcc_check.specs.declared.verdict.Verdict.TheVariants.{Accepted}
 ghost use Rattle.tcc_answer.specs.Claims.{certificate_of};
 ghost use Rattle.tcc_answer.specs.declared.answer.Answer.{Answer};
 ghost use Rattle.tcc_explain.specs.Explained.{IsAnswerOf};
+ghost use Rattle.tcc_graph.specs.Levels.{judged};
 ghost use Rattle.tcc_verdict.specs.Checks.{IsCheck, MayBeCheck};
 ghost use Rattle.tcc_run.specs.Closing.{IsAcceptance, acceptance};
 ghost use Rattle.tcc_run.specs.Interleaved.{AreInterleaved};
@@ -37,11 +38,11 @@ use tcc_txn::NoMemory;
 pub fn accepted()
     ensures accepted { (records : List ℕ) (level : Level) (a : Answer) → (answers_of records).fault ≡ None
         → read_faults (finished_in (answers_of records).items) ≡ []
-        → IsAnswerOf (record { history = history (finished_in (answers_of records).items); level = level }) a
+        → IsAnswerOf (judged (history (finished_in (answers_of records).items)) level) a
         → IsCheck records (certificate_text (certificate_of a)) (acceptance (certificate_of a)) }
     ensures only { (records : List ℕ) (level : Level) (a : Answer) → (answers_of records).fault ≡ None
         → read_faults (finished_in (answers_of records).items) ≡ []
-        → IsAnswerOf (record { history = history (finished_in (answers_of records).items); level = level }) a
+        → IsAnswerOf (judged (history (finished_in (answers_of records).items)) level) a
         → (o : Result Judgement Halt) → MayBeCheck records (certificate_text (certificate_of a)) o
         → IsAcceptance (certificate_of a) o }
 {
@@ -63,7 +64,7 @@ pub fn closes()
 /// The verdict on an answer's own certificate is `Accepted`; so what a check of it answers is that, or `NoMemory`.
 pub fn own_certificate()
     ensures { (s : Sessions) (level : Level) (a : Answer) (checked : Result Verdict NoMemory)
-        → IsAnswerOf (record { history = history s; level = level }) a
+        → IsAnswerOf (judged (history s) level) a
         → IfOk checked (IsVerdict (history s) (certificate_of a)) → IfOk checked (λ verdict. verdict ≡ Accepted) }
 {
     certified();

@@ -6,7 +6,7 @@ ghost use Rattle.tcc_txn.specs.Snapshots.{Sessions};
 ghost use Rattle.tcc_graph.specs.declared.level.Level.{Level};
 ghost use Rattle.tcc_explain.specs.Explained.{IsAnswerFor, IsRefusal};
 ghost use Rattle.tcc_print.specs.Printed.{EndsIn};
-ghost use Rattle.tcc_run.specs.Stages.{HasEarlier, IsEarlier, IsOutcome, answer_in, outcome_text};
+ghost use Rattle.tcc_run.specs.private.Stages.{HasEarlier, IsEarlier, IsOutcome, answer_in, outcome_text};
 
 use crate::headline::{explain_snapshot, explain_snapshot_next};
 use std::alloc::Global;

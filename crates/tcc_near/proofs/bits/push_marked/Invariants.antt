@@ -1,7 +1,7 @@
 use Rattle.std.proofs.Common.{◌≡◌, ◌<◌, ◌≤◌, ◌+◌, ◌↔◌, ◌⊎◌, ℕ}
 use Rattle.std.specs.Prelude.{Contains}
 use Rattle.std.specs.Int.{bit_at}
-use Rattle.tcc_near.specs.Bits.{IsAscendingBelow}
+use Rattle.tcc_near.specs.private.Breadth.{IsAscendingBelow}
 use Rattle.tcc_near.proofs.Ascending.{IsAscendingBefore}
 use Rattle.tcc_near.proofs.bits.push_marked.Given as goal
 
