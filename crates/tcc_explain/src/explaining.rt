@@ -1,5 +1,5 @@
 //! The answer for a snapshot.
-ghost use Rattle.std.specs.Prelude.{◌≡◌, ◌<◌, ◌≤◌, IfOk, MatchResult};
+ghost use Rattle.std.specs.Prelude.{◌≡◌, IfOk, MatchResult};
 ghost use Rattle.tcc_graph.specs.Routes.{HasCycle};
 ghost use Rattle.tcc_near.specs.Distances.{IsNearOf};
 ghost use Rattle.tcc_derive.specs.Prices.{IsPricesOf};
@@ -24,6 +24,7 @@ use tcc_order::order;
 use tcc_reads::{ResolveFault, resolve};
 use tcc_steal::{AllStart, Gate, search_with};
 use tcc_txn::{NoMemory, Snapshot};
+use tcc_workers::Workers;
 
 /// The distances of a graph at a level, which they name.
 fn distances(
@@ -49,14 +50,13 @@ fn anomaly<G: Gate>(
     prices: Prices,
     labels: Labels,
     earlier: &[Link],
-    workers: u32,
+    workers: Workers,
     gate: &G,
 ) -> Result<Anomaly, NoMemory>
     requires near { IsNearOf (record { history = graph.now; level = near.level }) near }
     requires prices { IsPricesOf (record { history = graph.now; level = near.level }) prices }
     requires cycle { HasCycle (record { history = graph.now; level = near.level }) }
     requires labels { labels ≡ labels_of graph.now }
-    requires workers { (0 < workers) × (workers ≤ 32) }
     ensures { IfOk result (λ anomaly. IsAnswerOf (record { history = graph.now; level = near.level }) (answer.Anomaly anomaly)) }
 {
     let seed = lesser(offered(&prices, earlier), seed(&near, &prices));
@@ -95,11 +95,10 @@ pub(crate) fn history_answer<G: Gate>(
     level: Level,
     labels: Labels,
     earlier: &[Link],
-    workers: u32,
+    workers: Workers,
     gate: &G,
 ) -> Result<Answer, NoMemory>
     requires labels { labels ≡ labels_of graph.now }
-    requires workers { (0 < workers) × (workers ≤ 32) }
     ensures { IfOk result (IsAnswerOf (record { history = graph.now; level = level })) }
 {
     order_or_cycle();
@@ -119,17 +118,16 @@ pub(crate) fn history_answer<G: Gate>(
 
 /// The first answer for the history of a snapshot at a level: its first commit order, or the first of its least cycles
 /// where there is no commit order, with its certificate; or all its read faults, where there are some. The answer is the
-/// same for every number of workers, 1 to 32, and whatever the order in which they search. They search only where there is
+/// same for every number of workers, and whatever the order in which they search. They search only where there is
 /// a cycle, and the gate is called before each start that they take.
 pub fn explain<G: Gate>(
     rt: &(impl Threads + Sync),
     alloc: Global,
     snapshot: &Snapshot,
     level: Level,
-    workers: u32,
+    workers: Workers,
     gate: &G,
 ) -> Result<Answer, ExplainFault>
-    requires workers { (0 < workers) × (workers ≤ 32) }
     ensures { MatchResult result (IsAnswerFor snapshot.now level) (IsRefusal snapshot.now) }
 {
     match resolve(alloc, snapshot) {

@@ -1,5 +1,5 @@
 //! The answer for a snapshot that may continue one that had an anomaly.
-ghost use Rattle.std.specs.Prelude.{◌<◌, ◌≤◌, MatchResult};
+ghost use Rattle.std.specs.Prelude.{MatchResult};
 ghost use Rattle.tcc_explain.specs.Next.{IsNextAnswer, IsNextRefusal};
 
 use crate::explaining::history_answer;
@@ -12,6 +12,7 @@ use tcc_growth::{carried, first_missing};
 use tcc_reads::{ResolveFault, resolve};
 use tcc_steal::Gate;
 use tcc_txn::Snapshot;
+use tcc_workers::Workers;
 
 /// The answer that `explain` gives for the history of a snapshot at the level of an earlier anomaly, where each link of that
 /// anomaly, found by the labels of its transactions, is a link of this history: the search begins with what such a cycle
@@ -21,10 +22,9 @@ pub fn explain_next<G: Gate>(
     alloc: Global,
     snapshot: &Snapshot,
     earlier: &Anomaly,
-    workers: u32,
+    workers: Workers,
     gate: &G,
 ) -> Result<Answer, NextFault>
-    requires workers { (0 < workers) × (workers ≤ 32) }
     ensures { MatchResult result (IsNextAnswer snapshot.now earlier.now) (IsNextRefusal snapshot.now earlier.now) }
 {
     let level = earlier.level();
