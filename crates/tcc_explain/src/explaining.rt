@@ -5,7 +5,7 @@ ghost use Rattle.tcc_near.specs.Distances.{IsNearOf};
 ghost use Rattle.tcc_derive.specs.Prices.{IsPricesOf};
 ghost use Rattle.tcc_answer.specs.Labels.{labels_of};
 ghost use Rattle.tcc_answer.specs.declared.answer.Answer.TheVariants as answer;
-ghost use Rattle.tcc_explain.specs.Explained.{IsAnswerFor, IsAnswerOf, IsRefusal};
+ghost use Rattle.tcc_explain.specs.Explained.{IsAnswerFor, IsAnswerOf, IsLabelledHistory, IsRefusal};
 
 use crate::offering::{lesser, offered};
 use crate::refusal::ExplainFault;
@@ -116,6 +116,24 @@ pub(crate) fn history_answer<G: Gate>(
     Ok(Answer::Anomaly(anomaly))
 }
 
+/// The history of a snapshot whose reads all have sources, with its labels; or all its read faults.
+pub(crate) fn labelled_history(
+    alloc: Global,
+    snapshot: &Snapshot,
+) -> Result<(Graph, Labels), ExplainFault>
+    ensures { MatchResult result (λ found. IsLabelledHistory snapshot.now found.0 found.1) (IsRefusal snapshot.now) }
+{
+    match resolve(alloc, snapshot) {
+        Ok(resolved) => {
+            let graph = Graph::build(alloc, &resolved)?;
+            let labels = Labels::of(alloc, &graph)?;
+            Ok((graph, labels))
+        }
+        Err(ResolveFault::Reads(faults)) => Err(ExplainFault::Reads(faults)),
+        Err(ResolveFault::NoMemory) => Err(ExplainFault::NoMemory),
+    }
+}
+
 /// The first answer for the history of a snapshot at a level: its first commit order, or the first of its least cycles
 /// where there is no commit order, with its certificate; or all its read faults, where there are some. The answer is the
 /// same for every number of workers, and whatever the order in which they search. They search only where there is
@@ -130,14 +148,7 @@ pub fn explain<G: Gate>(
 ) -> Result<Answer, ExplainFault>
     ensures { MatchResult result (IsAnswerFor snapshot.now level) (IsRefusal snapshot.now) }
 {
-    match resolve(alloc, snapshot) {
-        Ok(resolved) => {
-            let graph = Graph::build(alloc, &resolved)?;
-            let labels = Labels::of(alloc, &graph)?;
-            let answer = history_answer(rt, alloc, &graph, level, labels, &[], workers, gate)?;
-            Ok(answer)
-        }
-        Err(ResolveFault::Reads(faults)) => Err(ExplainFault::Reads(faults)),
-        Err(ResolveFault::NoMemory) => Err(ExplainFault::NoMemory),
-    }
+    let (graph, labels) = labelled_history(alloc, snapshot)?;
+    let answer = history_answer(rt, alloc, &graph, level, labels, &[], workers, gate)?;
+    Ok(answer)
 }

@@ -4,10 +4,9 @@ ghost use Rattle.tcc_explain.specs.Explained.{IsAnswerOf, IsRefusal};
 ghost use Rattle.tcc_explain.specs.Next.{IsNextRefusal};
 ghost use Rattle.tcc_run.specs.Headline.{IsExplained, judged};
 
+use crate::laws::explained;
 use std::alloc::Global;
 use std::thread::Threads;
-use tcc_check::laws::certified as certified_claim;
-use tcc_explain::laws::certified as certified_answer;
 use tcc_explain::{Anomaly, Answer, ExplainFault, Gate, NextFault, Workers, explain, explain_next};
 use tcc_graph::Level;
 use tcc_txn::Snapshot;
@@ -27,12 +26,8 @@ pub fn explain_snapshot<G: Gate>(
     ensures headline { MatchResult result (IsExplained snapshot.now level) (IsRefusal snapshot.now) }
     ensures first { IfOk result (IsAnswerOf (judged snapshot.now level)) }
 {
-    certified_answer();
-    certified_claim();
-    match explain(rt, alloc, snapshot, level, workers, gate) {
-        Ok(answer) => Ok(answer),
-        Err(fault) => Err(fault),
-    }
+    explained();
+    explain(rt, alloc, snapshot, level, workers, gate)
 }
 
 /// Explains a snapshot after an earlier anomaly, at its level: what `explain_snapshot` says of an answer holds of this one,
@@ -50,10 +45,6 @@ pub fn explain_snapshot_next<G: Gate>(
     ensures headline { MatchResult result (IsExplained snapshot.now earlier.now.level) (IsNextRefusal snapshot.now earlier.now) }
     ensures first { IfOk result (IsAnswerOf (judged snapshot.now earlier.now.level)) }
 {
-    certified_answer();
-    certified_claim();
-    match explain_next(rt, alloc, snapshot, earlier, workers, gate) {
-        Ok(answer) => Ok(answer),
-        Err(fault) => Err(fault),
-    }
+    explained();
+    explain_next(rt, alloc, snapshot, earlier, workers, gate)
 }
