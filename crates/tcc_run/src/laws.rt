@@ -21,11 +21,12 @@ ghost use Rattle.tcc_explain.specs.Explained.{IsAnswerFor, IsAnswerOf};
 ghost use Rattle.tcc_verdict.specs.Checks.{IsCheck, MayBeCheck};
 ghost use Rattle.tcc_run.specs.Closing.{IsAcceptance, acceptance};
 ghost use Rattle.tcc_run.specs.Headline.{IsExplained};
+ghost use Rattle.tcc_run.specs.HeadlineRuns.{PrintsExplained, SaysExplained, finished_by};
 ghost use Rattle.tcc_run.specs.Interleaved.{AreInterleaved};
-ghost use Rattle.tcc_run.specs.Runs.{AreAnswersOf, AreFront, AskAlike, IsEnded, IsRun, IsStopped, IsWhole, Said};
+ghost use Rattle.tcc_run.specs.Runs.{AreAnswersOf, AreFront, AskAlike, Contents, IsAnswered, IsEnded, IsRun, IsStopped, IsWhole, Said};
 ghost use Rattle.tcc_print.specs.Statuses.{code_of};
 ghost use Rattle.tcc_print.specs.declared.options.Options.{Options};
-ghost use Rattle.tcc_print.specs.declared.status.Status.TheVariants.{Device};
+ghost use Rattle.tcc_print.specs.declared.status.Status.TheVariants.{Device, Memory};
 ghost use Rattle.tcc_print.specs.declared.halt.Halt.{Halt};
 
 use tcc_check::laws::certified as certified_claim;
@@ -41,6 +42,20 @@ pub fn explained()
 {
     certified();
     certified_claim();
+}
+
+/// The main theorem in bytes. Whatever a run of `explain` says of a snapshot, it is an answer of which that theorem holds, or all
+/// read faults. And of records without a fault, whose reads all have sources, a run that doesn't end by a device that failed nor
+/// out of memory prints such an answer last, and its certificate, which the check of the same records accepts.
+pub fn headline()
+    ensures each { (options : Options) (s : Sessions) (said : Said) → IsAnswered options s said → SaysExplained options s said }
+    ensures last { (options : Options) (records : List ℕ) (before after : Option (List ℕ)) (file file' : Contents) (code : ℕ)
+        → (answers_of records).fault ≡ None → read_faults (finished_by records) ≡ []
+        → IsRun options records before after file file' code → code ≢ code_of Device → code ≢ code_of Memory
+        → PrintsExplained options records before after file file' code }
+{
+    explained();
+    finished_is_snapshot();
 }
 
 /// For records without a fault, whose reads all have sources: the text of the certificate of their answer is accepted by
