@@ -6,6 +6,7 @@ ghost use Rattle.tcc_derive.specs.Prices.{IsPricesOf};
 ghost use Rattle.tcc_answer.specs.Labels.{labels_of};
 ghost use Rattle.tcc_answer.specs.declared.answer.Answer.TheVariants as answer;
 ghost use Rattle.tcc_explain.specs.Explained.{IsAnswerFor, IsAnswerOf, IsLabelledHistory, IsRefusal};
+ghost use Rattle.tcc_graph.specs.Levels.{judged};
 
 use crate::offering::{lesser, offered};
 use crate::refusal::ExplainFault;
@@ -57,7 +58,7 @@ fn anomaly<G: Gate>(
     requires prices { IsPricesOf (judged graph.now near.level) prices }
     requires cycle { HasCycle (judged graph.now near.level) }
     requires labels { labels ≡ labels_of graph.now }
-    ensures { IfOk result (λ anomaly. IsAnswerOf (record { history = graph.now; level = near.level }) (answer.Anomaly anomaly)) }
+    ensures { IfOk result (λ anomaly. IsAnswerOf (judged graph.now near.level) (answer.Anomaly anomaly)) }
 {
     let seed = lesser(offered(&prices, earlier), seed(&near, &prices));
     let found = search_with(rt, alloc, &prices, seed, workers, gate, &AllStart)?;
@@ -99,7 +100,7 @@ pub(crate) fn history_answer<G: Gate>(
     gate: &G,
 ) -> Result<Answer, NoMemory>
     requires labels { labels ≡ labels_of graph.now }
-    ensures { IfOk result (IsAnswerOf (record { history = graph.now; level = level })) }
+    ensures { IfOk result (IsAnswerOf (judged graph.now level)) }
 {
     order_or_cycle();
     if let Some(order) = order(alloc, graph.large(), level)? {

@@ -16,7 +16,7 @@ use Rattle.tcc_print.specs.declared.halt.Halt.{Halt}
 use Rattle.tcc_print.specs.declared.halt.Halt.TheVariants as halt
 use Rattle.tcc_print.specs.declared.options.Options.{Options}
 use Rattle.tcc_print.specs.declared.status.Status.TheVariants.{Device, Memory}
-use Rattle.tcc_run.specs.Headline.{IsExplained, judged}
+use Rattle.tcc_run.specs.Headline.{IsExplained}
 use Rattle.tcc_run.specs.HeadlineRuns.{PrintsExplained, SaysExplained, finished_by}
 use Rattle.tcc_run.specs.Runs.{AllGoesOut, Contents, Gains, IsAnswered, IsEnded, IsRun, IsWhole, MayEnd, Said, answer_said, halt_said, texts}
 use Rattle.tcc_run.proofs.Closes.{device_code}

@@ -10,13 +10,15 @@ use Rattle.tcc_check.specs.declared.judgement.Judgement.{Judgement}
 use Rattle.tcc_answer.specs.Claims.{certificate_of}
 use Rattle.tcc_answer.specs.declared.answer.Answer.{Answer}
 use Rattle.tcc_explain.specs.Explained.{IsAnswerOf}
+use Rattle.tcc_graph.specs.Levels.{judged}
 use Rattle.tcc_print.specs.Printed.{answered}
 use Rattle.tcc_print.specs.Statuses.{answer_status, code_of}
 use Rattle.tcc_print.specs.declared.halt.Halt.{Halt}
 use Rattle.tcc_print.specs.declared.options.Options.{Options}
+use Rattle.tcc_reads.specs.Sources.{history}
 use Rattle.tcc_verdict.specs.Checks.{IsCheck, MayBeCheck}
 use Rattle.tcc_run.specs.Closing.{IsAcceptance, acceptance}
-use Rattle.tcc_run.specs.Headline.{IsExplained, judged}
+use Rattle.tcc_run.specs.Headline.{IsExplained}
 use Rattle.tcc_run.specs.Runs.{Contents, Gains, Said, answer_said, faults_said}
 
 -- what is said of a snapshot: an answer of which the main theorem holds, or all its read faults
@@ -36,7 +38,7 @@ pub record PrintsExplained (options : Options) (records : List ℕ) (before : Op
   -- level, or a cycle such that no other has fewer steps, and the checker accepts its certificate; and it is the first answer
   pub answer : Answer
   pub explained : IsExplained (finished_by records) options.level answer
-  pub first : IsAnswerOf (judged (finished_by records) options.level) answer
+  pub first : IsAnswerOf (judged (history (finished_by records)) options.level) answer
   -- its text is the end of what went out
   pub front : List ℕ
   pub printed : Appends before after (front ++ answered options.json answer)
