@@ -1,8 +1,7 @@
 """What has to be believed: whether the definitions that contracts of calls cite stand in `specs/`, and all others in `specs/private/`.
 
-A contract counts where its call is public, or where docs/PROOFS.md names the call with its module, as `command_line::read_words`; so
-does what values of a public type are seen as. What it cites, and what that is defined by, has to be believed. Names are followed
-through the imports of each file.
+A contract counts where its call is public, or stands behind one that has no words for what it does; so does what values of a public
+type are seen as. What it cites, and what that is defined by, has to be believed. Names are followed through the imports of each file.
 """
 import collections
 import functools
@@ -24,7 +23,8 @@ OPENS_BODY = re.compile(r" *(?:\)|(?:pub )?(?:const )?fn ).*[{;]$")
 IMPORT = re.compile(r"^ *(?:pub |ghost )*use Rattle\.(tcc_\w+)\.specs\.((?:private\.)?[A-Z]\w*)(?:\.\{([^}]*)\}| as (\w+))", re.MULTILINE)
 HEAD = re.compile(r"(?:abbrev |unfoldable )?pub (?:record |data )?([\w'-]+)")
 WORD = re.compile(r"[^\W\d][\w'-]*(?:\.[^\W\d][\w'-]*)*|◌?[^\s\w()\[\]{},;.]+")
-QUOTED = re.compile(r"`([^`\n]+)`")
+# Modules whose calls stand behind public ones about the process's own words and files, of which no clause can speak.
+BEHIND = {"tcc_words": ("command_line", "checker"), "tcc_files": ("opening",)}
 
 
 class Definition(NamedTuple):
@@ -107,20 +107,6 @@ def contract(lines: List[str], place: int) -> str:
     return "\n".join(taken)
 
 
-@functools.lru_cache(maxsize=None)
-def told(crate: str) -> FrozenSet[Tuple[str, str]]:
-    """The calls that PROOFS names with their modules, in the part of the crate."""
-    parts = re.split(r"^## `?(\w+)`?.*$", (TOP / "docs/PROOFS.md").read_text(), flags=re.MULTILINE)
-    found = set()
-    for row in dict(zip(parts[1::2], parts[2::2])).get(crate, "").splitlines():
-        module = ""
-        for name in QUOTED.findall(row.split("|")[1] if row.startswith("|") else ""):
-            before, _, call = name.rpartition("::")
-            module = before.split("::")[0] or module
-            found.add((module, call))
-    return frozenset(found)
-
-
 def believed_texts(crate: str) -> Iterator[Tuple[pathlib.Path, str, str]]:
     """The contracts that count, and what values of public types are seen as: each with its file and its name."""
     source = CRATES / crate / "src"
@@ -135,7 +121,7 @@ def believed_texts(crate: str) -> Iterator[Tuple[pathlib.Path, str, str]]:
                 yield path, of, value.group(1)
             if call:
                 is_public = call.group(2) and (path.stem in modules or (of if call.group(1) else call.group(3)) in names)
-                if is_public or (path.stem, call.group(3)) in told(crate):
+                if is_public or path.stem in BEHIND.get(crate, ()):
                     yield path, call.group(3), contract(lines, place)
 
 
