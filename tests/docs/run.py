@@ -13,11 +13,10 @@ In the documents, a link has to lead to a file, and what stands in backquotes ha
     a name before a file  `answer_text` (`tcc_answer/specs`): the files there have the name
 
 ARCHITECTURE has to name the modules of each crate, all of them and no others, and what a crate stands on as `crates.txt` has
-it; PROOFS each public call of a library, in the part of its crate. Where a `specs/Lib.antt` says what serves proofs alone, the
-files below that line have to be those that say in the beginning that nobody has to believe them. CHANGELOG tells of the past, and
-is left out. No script may define a name twice at one level. The man page and the completion for bash have to name each
-command and option of the program's help, and the completion to complete them; and the stack that README names has to be
-enough. Each difference is one line; the last line is `N passed, M failed`.
+it; PROOFS each public call of a library, in the part of its crate. What has to be believed stands in `specs/`, and nothing else
+does (`trust.py`). CHANGELOG tells of the past, and is left out. No script may define a name twice at one level. The man page and
+the completion for bash have to name each command and option of the program's help, and the completion to complete them; and the
+stack that README names has to be enough. Each difference is one line; the last line is `N passed, M failed`.
 """
 import argparse
 import ast
@@ -37,6 +36,7 @@ TOP = pathlib.Path(__file__).resolve().parent.parent.parent
 sys.path.insert(0, str(TOP / "tests"))
 from counted import Outcome, status_of  # noqa: E402
 from crates import stands_on  # noqa: E402
+from trust import faults_of_trust, public_calls  # noqa: E402
 
 CODE = re.compile(r"```.*?```", re.DOTALL)
 QUOTED = re.compile(r"`([^`\n]+)`")
@@ -49,10 +49,6 @@ OF_CRATE = re.compile(r"(tcc_[a-z_]+)(?:::[A-Za-z_]+)*::([A-Za-z_]+)")
 OF_TYPE = re.compile(r"[A-Z][A-Za-z]+::([A-Za-z_]+)")
 BEFORE_FILE = re.compile(r"`([A-Za-z_]+)` \(`((?:tcc_[a-z_]+)(?:/[A-Za-z_./]+)?)`")
 WORD = re.compile(r"`([a-z0-9_/]+)`")
-PUBLIC_MODULE = re.compile(r"^pub mod (\w+);", re.MULTILINE)
-PASSED_ON = re.compile(r"^pub use (?!tcc_)[\w:]+::(\{[^}]*\}|\w+);", re.MULTILINE)
-METHODS = re.compile(r"impl(?:<[^>]*>)? (\w+)")
-CALL = re.compile(r"( *)pub (?:const )?fn (\w+)")
 LEVELS = (ast.Module, ast.ClassDef, ast.FunctionDef)
 # Types of the toolchain, and files that a reader has, makes or names.
 ELSEWHERE = {"Vec", "String", "Option", "Result", "Ordering", "Rattle"}
@@ -187,20 +183,6 @@ def faults_of_crates() -> Iterator[Outcome]:
         yield "crate %s" % crate, None if crate in told and not wrong else "; ".join(wrong) or "ARCHITECTURE has no row"
 
 
-def public_calls(crate: str) -> Iterator[str]:
-    """The functions that the root of a library makes public, and those of its public types."""
-    source = TOP / "crates" / crate / "src"
-    root = (source / "lib.rt").read_text()
-    modules, names = set(PUBLIC_MODULE.findall(root)), set(re.findall(r"\w+", " ".join(PASSED_ON.findall(root))))
-    for path in source.rglob("*.rt"):
-        of = ""
-        for line in path.read_text().splitlines():
-            methods, call = METHODS.match(line), CALL.match(line)
-            of = methods.group(1) if methods else of
-            if call and (path.stem in modules or (of if call.group(1) else call.group(2)) in names):
-                yield call.group(2)
-
-
 def faults_of_calls() -> Iterator[Outcome]:
     """Whether PROOFS names each public call of each library, in the part of its crate."""
     parts = re.split(r"^## `?(\w+)`?.*$", (TOP / "docs/PROOFS.md").read_text(), flags=re.MULTILINE)
@@ -211,17 +193,6 @@ def faults_of_calls() -> Iterator[Outcome]:
         quoted = set(re.findall(r"\w+", " ".join(QUOTED.findall(told.get(crate, "")))))
         for call in sorted(set(public_calls(crate))):
             yield "call %s of %s" % (call, crate), None if call in quoted else "PROOFS doesn't name it"
-
-
-def faults_of_specs() -> Iterator[Outcome]:
-    """Whether the parts of an index of specs are those that the files themselves tell."""
-    for index in sorted((TOP / "crates").glob("*/specs/Lib.antt")):
-        believed, line, rest = index.read_text().partition("-- What serves proofs alone:\n")
-        for part, private in ((believed, False), (rest, True)):
-            for name in re.findall(r"^pub mod (\w+)$", part, re.MULTILINE) if line else ():
-                begins = (index.parent / (name + ".antt")).read_text().split("\n")[:2]
-                says = "nobody has to believe" in " ".join(begins).lower()
-                yield "specs of %s: %s" % (index.parts[-3], name), None if says == private else "it stands in the other part"
 
 
 def defined(level: ast.AST) -> Iterator[str]:
@@ -291,7 +262,7 @@ def outcomes(tcc: List[str]) -> Iterator[Outcome]:
     yield from faults_of_modules()
     yield from faults_of_crates()
     yield from faults_of_calls()
-    yield from faults_of_specs()
+    yield from faults_of_trust()
     yield from faults_of_scripts()
     if not shutil.which(tcc[0]):
         yield tcc[0], "there is no such program"
