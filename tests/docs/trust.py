@@ -1,7 +1,8 @@
-"""What has to be believed: whether the definitions that contracts of calls cite stand in `specs/`, and all others in `specs/private/`.
+"""What has to be believed: whether the definitions that contracts cite stand in `specs/`, and all others in `specs/private/`.
 
-A contract counts where its call is public, or stands behind one that has no words for what it does; so does what values of a public
-type are seen as. What it cites, and what that is defined by, has to be believed. Names are followed through the imports of each file.
+A contract counts where its call is public, or stands behind one that has no words for what it does; and so does what values of a
+public type are seen as. What these cite, and what that is defined by, has to be believed. Names are followed through the imports of
+each file. A definition that a document names may stand in `specs/` beside them.
 """
 import collections
 import functools
@@ -25,6 +26,7 @@ HEAD = re.compile(r"(?:abbrev |unfoldable )?pub (?:record |data )?([\w'-]+)")
 WORD = re.compile(r"[^\W\d][\w'-]*(?:\.[^\W\d][\w'-]*)*|◌?[^\s\w()\[\]{},;.]+")
 # Modules whose calls stand behind public ones about the process's own words and files, of which no clause can speak.
 BEHIND = {"tcc_words": ("command_line", "checker"), "tcc_files": ("opening",)}
+QUOTED = re.compile(r"`([^`\n]+)`")
 
 
 class Definition(NamedTuple):
@@ -107,8 +109,17 @@ def contract(lines: List[str], place: int) -> str:
     return "\n".join(taken)
 
 
-def believed_texts(crate: str) -> Iterator[Tuple[pathlib.Path, str, str]]:
-    """The contracts that count, and what values of public types are seen as: each with its file and its name."""
+class Said(NamedTuple):
+    """A function's contract, or what values of a type are seen as; and whether it is the crate's to give away."""
+
+    path: pathlib.Path
+    name: str
+    text: str
+    is_public: bool
+
+
+def all_said(crate: str) -> Iterator[Said]:
+    """The contracts of a crate's functions, and what values of its types are seen as."""
     source = CRATES / crate / "src"
     root = (source / "lib.rt").read_text() if (source / "lib.rt").exists() else ""
     modules, names = set(PUBLIC_MODULE.findall(root)), set(re.findall(r"\w+", " ".join(PASSED_ON.findall(root))))
@@ -117,12 +128,17 @@ def believed_texts(crate: str) -> Iterator[Tuple[pathlib.Path, str, str]]:
         for place, line in enumerate(lines):
             methods, call, value = METHODS.match(line), CALL.match(line), VALUE.match(line)
             of = methods.group(1) if methods else of
-            if value and (of in names or path.stem in modules):
-                yield path, of, value.group(1)
-            if call:
-                is_public = call.group(2) and (path.stem in modules or (of if call.group(1) else call.group(3)) in names)
-                if is_public or path.stem in BEHIND.get(crate, ()):
-                    yield path, call.group(3), contract(lines, place)
+            if value:
+                yield Said(path, of, value.group(1), path.stem in modules or of in names)
+            elif call:
+                indent, public, name = call.groups()
+                is_public = public is not None and (path.stem in modules or (of if indent else name) in names)
+                yield Said(path, name, contract(lines, place), is_public)
+
+
+def public_calls(crate: str) -> Iterator[str]:
+    """The functions that the root of a library makes public, and those of its public types."""
+    return (said.name for said in all_said(crate) if said.is_public and said.name[0].islower())
 
 
 @functools.lru_cache(maxsize=None)
@@ -131,9 +147,10 @@ def believed() -> Dict[Definition, str]:
     found: Dict[Definition, str] = {}
     ahead = []
     for crate in sorted(path.parent.name for path in CRATES.glob("*/src")):
-        if not crate.startswith(("tcc_tests_", "tcc_bench_")):
-            for path, name, text in believed_texts(crate):
-                ahead += [(one, "%s of %s" % (name, path.relative_to(CRATES))) for one in Names(path.read_text()).cited(text)]
+        for said in () if crate.startswith(("tcc_tests_", "tcc_bench_")) else all_said(crate):
+            if said.is_public or said.path.stem in BEHIND.get(crate, ()):
+                way = "%s of %s" % (said.name, said.path.relative_to(CRATES))
+                ahead += [(one, way) for one in Names(said.path.read_text()).cited(said.text)]
     while ahead:
         one, way = ahead.pop()
         if one in definitions() and one not in found:
@@ -142,17 +159,22 @@ def believed() -> Dict[Definition, str]:
     return found
 
 
+@functools.lru_cache(maxsize=None)
+def named() -> FrozenSet[str]:
+    """What stands in backquotes in the documents."""
+    texts = (path.read_text() for path in (TOP / "docs").glob("*.md"))
+    return frozenset(name for text in texts for name in QUOTED.findall(text))
+
+
 def faults_of_trust() -> Iterator[Outcome]:
-    """Whether what contracts of calls cite stands in `specs/`, all else in `specs/private/`, and the one imports none of the other."""
+    """Whether what contracts cite stands in `specs/` and all else in `specs/private/`, of which the former imports nothing."""
     for one in sorted(definitions()):
-        if one.crate.startswith("tcc_bench_"):
-            continue
         wrong = None
         if one.is_private() and one in believed():
-            wrong = "it is private, but cited by " + believed()[one]
-        elif not one.is_private() and one not in believed():
-            wrong = "no contract of a call cites it: it belongs into specs/private"
+            wrong = "it is private, but cited: " + believed()[one]
+        elif not one.is_private() and one not in believed() and one.name not in named() and not one.crate.startswith("tcc_bench_"):
+            wrong = "neither a contract nor a document names it: it belongs into specs/private"
         yield str(one), wrong
     for path in sorted(CRATES.glob("*/specs/*.antt")):
         imported = [module for _, module, _, _ in IMPORT.findall(path.read_text()) if module.startswith(PRIVATE + ".")]
-        yield str(path.relative_to(TOP)), "it imports %s" % ", ".join(imported) if imported else None
+        yield str(path.relative_to(TOP)), "it imports " + ", ".join(imported) if imported else None
