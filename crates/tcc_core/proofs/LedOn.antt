@@ -8,7 +8,7 @@ use Rattle.tcc_graph.specs.Levels.{Judged}
 use Rattle.tcc_derive.specs.Limits.{AreWithin}
 use Rattle.tcc_derive.specs.Prices.{Tables, cost_at, end_of, others_at, IsLater, IsPricesOf}
 use Rattle.tcc_derive.proofs.LinksOnLemmas.{links_of}
-use Rattle.tcc_near.specs.Bits.{words_for}
+use Rattle.tcc_bits.specs.Bits.{words_for}
 use Rattle.tcc_derive.specs.ByClass.{HasLink, IsByClass}
 use Rattle.tcc_derive.specs.declared.by_class.ByClass.{ByClass}
 use Rattle.tcc_derive.specs.declared.by_class.Class.{Class}

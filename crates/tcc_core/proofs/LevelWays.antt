@@ -5,8 +5,8 @@ use Rattle.std.specs.Int.{bit_at}
 use Rattle.std.proofs.lemmas.Bool.{cases_eq}
 use Rattle.std.proofs.lemmas.Nat.Bits.{bit_at-zero}
 use Rattle.std.proofs.lemmas.List.Elements.{All-set, All-weaker, Contains-append_left, Contains-push, Contains-push_cases}
-use Rattle.tcc_near.specs.Bits.{is_marked}
-use Rattle.tcc_near.proofs.BitLemmas.{bit_from, marked_within}
+use Rattle.tcc_bits.specs.Bits.{is_marked}
+use Rattle.tcc_bits.proofs.BitLemmas.{bit_from, marked_within}
 use Rattle.tcc_derive.specs.declared.by_class.Class.{Class}
 use Rattle.tcc_core.specs.private.Offers.{IsLower, IsOffered}
 use Rattle.tcc_core.specs.private.Marked.{IsMarkWay}

@@ -10,7 +10,7 @@ use Rattle.std.proofs.lemmas.List.Elements.{Contains-append_cases, All-append, A
 use Rattle.tcc_reads.specs.History.{count}
 use Rattle.tcc_graph.specs.Levels.{Judged}
 use Rattle.tcc_txn.proofs.Lists.{in_filter, from_filter}
-use Rattle.tcc_near.specs.Bits.{is_marked, words_for}
+use Rattle.tcc_bits.specs.Bits.{is_marked, words_for}
 use Rattle.tcc_derive.specs.Prices.{Tables, IsPricesOf, end_of, others_at}
 use Rattle.tcc_derive.specs.ByClass.{IsCheap}
 use Rattle.tcc_derive.specs.ByClass.{HasLinkAmong, IsByClass}

@@ -3,7 +3,7 @@ ghost use Rattle.std.specs.Prelude.{◌≡◌, length, IfOk};
 ghost use Rattle.tcc_derive.specs.private.Lowering.{HasPairs};
 
 use std::alloc::Global;
-use tcc_near::Row;
+use tcc_bits::Row;
 use tcc_txn::NoMemory;
 
 /// What links of all kinds from a transaction cost, by the steps from it and by what derived links from it cost: where one

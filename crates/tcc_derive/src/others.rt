@@ -13,7 +13,8 @@ use rayon::prelude::*;
 use std::alloc::Global;
 use std::thread::Threads;
 use tcc_graph::Graph;
-use tcc_near::{NONE, Near, ROWS_A_THREAD, Row};
+use tcc_bits::{ROWS_A_THREAD, Row};
+use tcc_near::{NONE, Near};
 use tcc_txn::NoMemory;
 
 /// Where the numbers end that session pairs lead to from `u`.

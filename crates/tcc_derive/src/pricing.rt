@@ -19,7 +19,8 @@ use rayon::prelude::*;
 use std::alloc::Global;
 use std::thread::Threads;
 use tcc_graph::Graph;
-use tcc_near::{NONE, Near, ROWS_A_THREAD, Row};
+use tcc_bits::{ROWS_A_THREAD, Row};
+use tcc_near::{NONE, Near};
 use tcc_txn::NoMemory;
 
 /// With more levels of distances the reads of a key are gone through one by one.

@@ -8,7 +8,7 @@ ghost use Rattle.tcc_derive.specs.private.KeyTables.{AreReadsAt, IsReadsOf};
 use crate::read::Read;
 use std::alloc::Global;
 use tcc_graph::Graph;
-use tcc_near::Row;
+use tcc_bits::Row;
 use tcc_txn::NoMemory;
 
 /// The reads of the key at a place.

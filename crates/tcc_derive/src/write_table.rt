@@ -8,7 +8,7 @@ ghost use Rattle.tcc_derive.specs.private.KeyTables.{IsWritesOf};
 use crate::bucket::empty_buckets;
 use std::alloc::Global;
 use tcc_graph::Graph;
-use tcc_near::Row;
+use tcc_bits::Row;
 use tcc_txn::NoMemory;
 
 /// Puts the place of a key into the buckets of its writers.

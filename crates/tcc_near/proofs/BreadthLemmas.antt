@@ -13,7 +13,7 @@ use Rattle.tcc_graph.specs.Levels.{causally, atomically, judged}
 use Rattle.tcc_graph.specs.Walks.{IsReached}
 use Rattle.tcc_graph.specs.declared.level.Level.{Level}
 use Rattle.tcc_near.specs.Distances.{IsShortest, IsWalkDistance, IsNearOf, least_in}
-use Rattle.tcc_near.specs.Bits.{is_marked}
+use Rattle.tcc_bits.specs.Bits.{is_marked}
 use Rattle.tcc_near.specs.private.Breadth.{IsWithin, IsMarked, IsDistanceWithin, IsSearched, HasDistances, HaveDistances, IsLedTo, numbered, one_step, unnumbered}
 use Rattle.tcc_near.proofs.Walks.{within_more, within_one, within_one_from, within_pair, IsStepAfter, last_step, within_closed, within_below, shortest_at}
 use Rattle.tcc_near.specs.declared.distances.TheConstants.{NONE}

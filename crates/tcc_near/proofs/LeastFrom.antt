@@ -17,7 +17,7 @@ use Rattle.tcc_near.specs.private.Breadth.{IsSessionEnd, AreEnds, IsPairsFrom, H
 use Rattle.tcc_near.specs.private.Backwards.{IsLedFrom, IsLeastFrom, IsLowered, IsNextOrOne, IsFromOn, AreOthers, AreKnown, AreHeads}
 use Rattle.tcc_near.specs.declared.distances.TheConstants.{NONE}
 use Rattle.tcc_near.proofs.BreadthLemmas.{Read, read}
-use Rattle.tcc_near.proofs.FreshLemmas.{one_of_taken, still_taken, last_taken, nothing_in}
+use Rattle.tcc_bits.proofs.Lists.{one_of_taken, still_taken, last_taken, nothing_in}
 use Rattle.tcc_near.proofs.ShortWalks.{few_steps}
 
 -- ---- a row of distances

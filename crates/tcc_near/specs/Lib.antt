@@ -1,4 +1,2 @@
 pub mod Distances
-pub mod Clocks
-pub mod Bits
 pub mod private

@@ -12,7 +12,8 @@ ghost use Rattle.tcc_near.specs.declared.distances.TheConstants.{NONE};
 ghost use Rattle.tcc_txn.specs.declared.limits.TheConstants.{MAX_COUNT};
 
 use crate::search::distances_from;
-use crate::{NONE, Row};
+use tcc_bits::Row;
+use crate::NONE;
 use std::alloc::{AllocError, Global};
 use tcc_graph::Graph;
 

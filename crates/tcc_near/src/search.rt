@@ -3,15 +3,16 @@ ghost use Rattle.std.specs.Prelude.{◌≡◌, ◌<◌, ◌≤◌, ◌↔◌, �
 ghost use Rattle.tcc_reads.specs.History.{count};
 ghost use Rattle.tcc_graph.specs.Levels.{causally, atomically, judged};
 ghost use Rattle.tcc_near.specs.Distances.{IsNearOf};
-ghost use Rattle.tcc_near.specs.Bits.{is_marked, words_for};
+ghost use Rattle.tcc_bits.specs.Bits.{is_marked, words_for};
 ghost use Rattle.tcc_near.specs.private.Breadth.{ArePairs, AreSuffixes, HasDistances, HaveDistances, IsLedTo, one_step, unnumbered};
 ghost use Rattle.tcc_near.specs.declared.distances.TheConstants.{NONE};
 ghost use Rattle.tcc_txn.specs.declared.limits.TheConstants.{MAX_COUNT};
 
 use crate::backwards::rows_backwards;
-use crate::bits::{is_marked, take_fresh};
+use tcc_bits::{is_marked, take_fresh};
 use crate::pairs::{first_marks, readers_apart, session_ends, take_in};
-use crate::{NONE, Near, ROWS_A_THREAD, Row};
+use tcc_bits::{ROWS_A_THREAD, Row};
+use crate::{NONE, Near};
 use rayon::prelude::*;
 use std::alloc::{AllocError, Global};
 use std::thread::Threads;

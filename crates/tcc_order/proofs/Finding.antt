@@ -7,7 +7,7 @@ use Rattle.tcc_order.specs.declared.latest.TheConstants.{WIDE}
 use Rattle.std.specs.List.{Contains}
 use Rattle.std.proofs.lemmas.Bool.{cases_eq, cases_lt}
 use Rattle.std.proofs.lemmas.List.{get_or_append_left, get_or_at, get_or_past}
-use Rattle.tcc_near.proofs.FreshLemmas.{nothing_in}
+use Rattle.tcc_bits.proofs.Lists.{nothing_in}
 use Rattle.std.proofs.lemmas.List.Elements.{Contains-append_left, Contains-append_right, Contains-append_cases}
 use Rattle.tcc_reads.specs.History.{History, IsBySession, count}
 use Rattle.tcc_graph.specs.Relations.{IsSessionPair}

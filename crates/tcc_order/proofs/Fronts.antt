@@ -11,7 +11,7 @@ use Rattle.std.proofs.lemmas.List.Folds.{list_any-append}
 use Rattle.tcc_reads.specs.History.{History, count, entry_at}
 use Rattle.tcc_graph.specs.Keys.{keys, key_at}
 use Rattle.tcc_graph.specs.Tables.{row_of}
-use Rattle.tcc_near.specs.Bits.{is_marked}
+use Rattle.tcc_bits.specs.Bits.{is_marked}
 use Rattle.tcc_order.specs.private.Parents.{AreSessionParents, parents, session_parent, session_parents, sources}
 use Rattle.tcc_order.specs.private.Held.{befores, AreInside, holds, IsFreeBy}
 use Rattle.tcc_order.proofs.Greedy.{has, IsFree, IsBelow, place_of, has_at}

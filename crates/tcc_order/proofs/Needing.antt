@@ -14,8 +14,7 @@ use Rattle.tcc_graph.specs.Tables.{row_of}
 use Rattle.tcc_graph.proofs.Pairs.{lower_first}
 use Rattle.tcc_graph.proofs.Walking.{pair_walk, reached_append}
 use Rattle.tcc_graph.proofs.WriterLemmas.{writers_below}
-use Rattle.tcc_near.proofs.FreshLemmas.{one_of_taken, still_taken, last_taken, nothing_in}
-use Rattle.tcc_near.proofs.MarkLemmas.{zip_at, zip-long}
+use Rattle.tcc_bits.proofs.Lists.{one_of_taken, still_taken, last_taken, nothing_in, zip_at, zip-long}
 use Rattle.tcc_order.specs.private.Lasts.{IsOneOf, IsBefore}
 use Rattle.tcc_order.specs.private.Latest.{AreOwners, IsLatestOf, AreLatestOf, IsLatestPast, AreLatestPast, AreClocks, TellsNothing, IsOverwritten, IsLiftable, IsLifted, lifted_by}
 use Rattle.tcc_order.specs.private.Latest.{IsCovered, AreDerived, AreEnough, Overwrites}

@@ -1,6 +1,6 @@
 -- Rows of what is met at some costs, and ways by links of classes.
 use Rattle.std.specs.Prelude.{ℕ, true, ◌≡◌, ◌<◌, ◌≤◌, ◌+◌, ◌⊎◌, List, length, All, Contains}
-use Rattle.tcc_near.specs.Bits.{is_marked, words_for}
+use Rattle.tcc_bits.specs.Bits.{is_marked, words_for}
 use Rattle.tcc_derive.specs.Limits.{AreWithin}
 use Rattle.tcc_derive.specs.Prices.{Tables}
 use Rattle.tcc_derive.specs.declared.by_class.Class.{Class}

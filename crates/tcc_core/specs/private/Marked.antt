@@ -1,7 +1,7 @@
 -- Ways to all that a row marks, and rows of what is met at some cost.
 use Rattle.std.specs.Prelude.{ℕ, true, ◌≡◌, ◌<◌, ◌≤◌, ◌+◌, List, length, slice_index}
 use Rattle.std.specs.Int.{bit_at}
-use Rattle.tcc_near.specs.Bits.{is_marked}
+use Rattle.tcc_bits.specs.Bits.{is_marked}
 
 -- what the row marks is open at no more than the cost, or settled
 abbrev pub IsMet : ℕ → List ℕ → List ℕ → Type 0

@@ -2,7 +2,7 @@
 use Rattle.std.specs.Prelude.{ℕ, ◌+◌, ◌<◌, ◌≤◌, ◌≡◌, ◌↔◌, true, List, length, map, slice_index, slice_index_or, All, Contains}
 use Rattle.std.specs.List.{AllPairs}
 use Rattle.tcc_graph.specs.Tables.{row_of}
-use Rattle.tcc_near.specs.Bits.{is_marked, words_for}
+use Rattle.tcc_bits.specs.Bits.{is_marked, words_for}
 use Rattle.tcc_derive.specs.Prices.{Tables}
 use Rattle.tcc_derive.specs.private.CostBuckets.{costs_below}
 use Rattle.tcc_derive.specs.ByClass.{HasLinkAmong, IsByClass}

@@ -1,27 +1,20 @@
 -- The search breadth first: what is known after walks of so many steps.
 use Rattle.std.specs.Prelude.{ℕ, ◌+◌, ◌<◌, ◌≤◌, ◌≡◌, ◌⊎◌, ◌↔◌, ◌==◌, ◌&&◌, Bool, true, false, if◌then◌else◌, List, length, Contains}
-use Rattle.std.specs.Prelude.{List, [], length, count_by, Option, None, Some, slice_index, slice_index_or}
-use Rattle.std.specs.Prelude.{Contains}
+use Rattle.std.specs.Prelude.{[], count_by, Option, None, Some, slice_index, slice_index_or}
 use Rattle.tcc_reads.specs.History.{History, count}
 use Rattle.tcc_graph.specs.Relations.{IsSessionPair, causal_pair}
 use Rattle.tcc_graph.specs.Levels.{Judged, causally}
 use Rattle.tcc_graph.specs.Walks.{IsWalk}
 use Rattle.tcc_graph.specs.Tables.{row_of}
 use Rattle.tcc_graph.specs.declared.step.Step.{Step}
-use Rattle.tcc_near.specs.Bits.{is_marked, words_for}
+use Rattle.tcc_bits.specs.Bits.{is_marked, words_for}
 use Rattle.tcc_near.specs.Distances.{IsShortest, IsWalkDistance, least_in}
 use Rattle.tcc_near.specs.declared.distances.TheConstants.{NONE}
-use Rattle.std.specs.List.{AllPairs}
 
 -- a row with room for the numbers below n that marks no others
 pub record IsRowOf (n : ℕ) (words : List ℕ) : Type 0 where
   pub wide : length words ≡ words_for n
   pub inside : (b : ℕ) → is_marked words b ≡ true → b < n
-
--- for the private stages and their proofs alone: ascending numbers, each once, all below n
-pub record IsAscendingBelow (n : ℕ) (numbers : List ℕ) : Type 0 where
-  pub below : (b : ℕ) → Contains numbers b → b < n
-  pub ascending : AllPairs (λ a b. a < b) numbers
 
 -- the marks of a number, and none past the table
 abbrev pub marks_of : List (List ℕ) → ℕ → List ℕ

@@ -1,7 +1,7 @@
 -- Numbers that may be placed next: those that are ready to be looked at, and those that wait for one that holds them back.
 use Rattle.std.specs.Prelude.{ℕ, ◌<◌, ◌≤◌, ◌+◌, ◌≡◌, ◌⊎◌, Bool, true, false, List, length, slice_index, Contains}
 use Rattle.tcc_graph.specs.Tables.{row_of}
-use Rattle.tcc_near.specs.Bits.{is_marked}
+use Rattle.tcc_bits.specs.Bits.{is_marked}
 
 -- x, the least of these, was taken out
 pub record IsPopped (old : List ℕ) (x : ℕ) (new : List ℕ) : Type 0 where

@@ -1,6 +1,6 @@
 use Rattle.std.proofs.Common.{◌≡◌, ◌<◌, ◌∙◌, ℕ, [], true, length, arith}
 use Rattle.std.proofs.lemmas.List.{get_or_read}
-use Rattle.tcc_near.specs.Bits.{is_marked}
+use Rattle.tcc_bits.specs.Bits.{is_marked}
 use Rattle.tcc_derive.specs.private.Buckets.{bucket}
 use Rattle.tcc_derive.specs.private.Sources.{LowersEach}
 use Rattle.tcc_derive.specs.declared.read.Read.{Read}

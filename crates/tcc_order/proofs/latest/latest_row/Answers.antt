@@ -1,7 +1,7 @@
 use Rattle.std.proofs.Common.{◌≡◌, ◌<◌, ℕ, [], length, get_or, replicate, slice_index, refl, arith}
 use Rattle.std.specs.Prelude.{max, Contains}
 use Rattle.std.proofs.lemmas.List.{get_or-replicate, length-replicate}
-use Rattle.tcc_near.proofs.FreshLemmas.{nothing_in}
+use Rattle.tcc_bits.proofs.Lists.{nothing_in}
 use Rattle.tcc_order.specs.private.Lasts.{IsUpTo}
 use Rattle.tcc_order.specs.declared.latest.TheConstants.{WIDE}
 use Rattle.tcc_reads.specs.History.{count}

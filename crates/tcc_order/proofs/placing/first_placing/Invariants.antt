@@ -1,6 +1,6 @@
 use Rattle.std.proofs.Common.{◌≡◌, [], length}
 use Rattle.tcc_reads.specs.History.{count}
-use Rattle.tcc_near.specs.Bits.{words_for}
+use Rattle.tcc_bits.specs.Bits.{words_for}
 use Rattle.tcc_order.proofs.Greedy.{Picks}
 use Rattle.tcc_order.specs.private.Held.{holds}
 use Rattle.tcc_order.specs.private.Queued.{AreQueued, IsAny}

@@ -1,7 +1,7 @@
 use Rattle.std.proofs.Common.{rules, ◌≡◌, ◌<◌, ◌+◌, ◌*◌, ◌^◌, slice_index, arith}
-use Rattle.tcc_near.proofs.BitLemmas.{joined_all, fresh_more, fresh_whole}
-use Rattle.tcc_near.proofs.Ascending.{ascending_below}
-use Rattle.tcc_near.proofs.bits.take_fresh.Goals as goal
+use Rattle.tcc_bits.proofs.BitLemmas.{joined_all, fresh_more, fresh_whole}
+use Rattle.tcc_bits.proofs.Ascending.{ascending_below}
+use Rattle.tcc_bits.proofs.bits.take_fresh.Goals as goal
 
 pub loop-place-preserved : goal.loop-place-preserved
 loop-place-preserved c =

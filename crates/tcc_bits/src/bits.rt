@@ -2,8 +2,8 @@
 ghost use Rattle.std.specs.Prelude.{◌≡◌, ◌<◌, ◌≤◌, ◌+◌, ◌/◌, ◌^◌, ◌==◌, ◌||◌, ◌↔◌, ◌⊎◌, ℕ, true, length, All, Contains, OnOk};
 ghost use Rattle.std.specs.Int.{bit_at};
 ghost use Rattle.std.specs.List.{AllPairs};
-ghost use Rattle.tcc_near.specs.Bits.{is_marked, words_for, IsFresh};
-ghost use Rattle.tcc_near.specs.private.Breadth.{IsAscendingBelow};
+ghost use Rattle.tcc_bits.specs.Bits.{is_marked, words_for, IsFresh};
+ghost use Rattle.tcc_bits.specs.private.Ascending.{IsAscendingBelow};
 
 use std::alloc::AllocError;
 

@@ -1,8 +1,8 @@
 use Rattle.std.proofs.Common.{◌≡◌, ◌<◌, ◌≤◌, ◌↔◌, ◌*◌, ℕ, true, false, length, slice_index}
 use Rattle.std.specs.Prelude.{bit_or, Contains}
-use Rattle.tcc_near.specs.Bits.{is_marked}
-use Rattle.tcc_near.specs.private.Breadth.{IsAscendingBelow}
-use Rattle.tcc_near.proofs.bits.take_fresh.Given as goal
+use Rattle.tcc_bits.specs.Bits.{is_marked}
+use Rattle.tcc_bits.specs.private.Ascending.{IsAscendingBelow}
+use Rattle.tcc_bits.proofs.bits.take_fresh.Given as goal
 
 abbrev pub invariant-loop-place : goal.invariant-loop-place
 invariant-loop-place l =

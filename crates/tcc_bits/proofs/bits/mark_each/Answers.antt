@@ -1,7 +1,7 @@
 use Rattle.std.proofs.Common.{◌<◌, ◌/◌, ◌∙◌, get_or, length, arith, refl}
 use Rattle.std.proofs.lemmas.List.{take_all}
-use Rattle.tcc_near.proofs.FreshLemmas.{mark_more, marks_none}
-use Rattle.tcc_near.proofs.bits.mark_each.Goals as goal
+use Rattle.tcc_bits.proofs.MarkLemmas.{mark_more, marks_none}
+use Rattle.tcc_bits.proofs.bits.mark_each.Goals as goal
 
 pub loop-number-init : goal.loop-number-init
 loop-number-init c = (refl, marks_none c.args.words.now c.args.numbers.now)

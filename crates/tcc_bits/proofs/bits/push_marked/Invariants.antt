@@ -1,9 +1,9 @@
 use Rattle.std.proofs.Common.{◌≡◌, ◌<◌, ◌≤◌, ◌+◌, ◌↔◌, ◌⊎◌, ℕ}
 use Rattle.std.specs.Prelude.{Contains}
 use Rattle.std.specs.Int.{bit_at}
-use Rattle.tcc_near.specs.private.Breadth.{IsAscendingBelow}
-use Rattle.tcc_near.proofs.Ascending.{IsAscendingBefore}
-use Rattle.tcc_near.proofs.bits.push_marked.Given as goal
+use Rattle.tcc_bits.specs.private.Ascending.{IsAscendingBelow}
+use Rattle.tcc_bits.proofs.Ascending.{IsAscendingBefore}
+use Rattle.tcc_bits.proofs.bits.push_marked.Given as goal
 
 abbrev pub invariant-loop-left : goal.invariant-loop-left
 invariant-loop-left l =

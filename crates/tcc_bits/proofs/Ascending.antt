@@ -6,8 +6,8 @@ use Rattle.std.specs.List.{AllPairs, Contains}
 use Rattle.std.proofs.lemmas.Bool.{cases_eq, cases_lt}
 use Rattle.std.proofs.lemmas.List.Elements.{Contains-get_or, Contains-push_cases}
 use Rattle.std.proofs.lemmas.List.Quantifiers.{all_pairs_push}
-use Rattle.tcc_near.specs.private.Breadth.{IsAscendingBelow}
-use Rattle.tcc_near.proofs.BitLemmas.{cleared}
+use Rattle.tcc_bits.specs.private.Ascending.{IsAscendingBelow}
+use Rattle.tcc_bits.proofs.BitLemmas.{cleared}
 
 -- the numbers ascend and stand before each that is left in a word
 pub record IsAscendingBefore (first left : ℕ) (numbers : List ℕ) : Type 0 where

@@ -1,9 +1,9 @@
 use Rattle.std.proofs.Common.{rules, ◌≡◌, ◌+◌, [], ◌∷◌, ◌++◌, arith, w64}
 use Rattle.std.specs.Int.{trailing_zeros}
 use Rattle.std.proofs.lemmas.Nat.Bits.{bit_at-trailing_zeros}
-use Rattle.tcc_near.proofs.BitLemmas.{cleared, push_none, push_more, push_done}
-use Rattle.tcc_near.proofs.Ascending.{ascending_first, ascending_more, ascending_done}
-use Rattle.tcc_near.proofs.bits.push_marked.Goals as goal
+use Rattle.tcc_bits.proofs.BitLemmas.{cleared, push_none, push_more, push_done}
+use Rattle.tcc_bits.proofs.Ascending.{ascending_first, ascending_more, ascending_done}
+use Rattle.tcc_bits.proofs.bits.push_marked.Goals as goal
 
 pub loop-left-smaller : goal.loop-left-smaller
 loop-left-smaller c =

@@ -12,7 +12,7 @@ use Rattle.std.proofs.lemmas.Nat.Bits.{bit_at_clear_other}
 use Rattle.std.proofs.lemmas.List.{get_or-set_same, get_or-set_other, get_or_past}
 use Rattle.std.specs.List.{Contains}
 use Rattle.std.proofs.lemmas.List.Elements.{Contains-append_left, Contains-push, Contains-push_cases}
-use Rattle.tcc_near.specs.Bits.{is_marked, IsFresh}
+use Rattle.tcc_bits.specs.Bits.{is_marked, IsFresh}
 
 -- the bit of a row for a number
 abbrev pub bit_of : List ℕ → ℕ → ℕ

@@ -1,7 +1,7 @@
 use Rattle.std.proofs.Common.{rules, ◌≡◌, ◌≤◌, ◌==◌, ◌/◌, ◌%◌, ◌∙◌, ap, sym, length, slice_index}
 use Rattle.std.proofs.lemmas.Nat.Bits.{shr_and_one}
-use Rattle.tcc_near.proofs.BitLemmas.{marked_is, unmarked_past}
-use Rattle.tcc_near.proofs.bits.is_marked.Goals as goal
+use Rattle.tcc_bits.proofs.BitLemmas.{marked_is, unmarked_past}
+use Rattle.tcc_bits.proofs.bits.is_marked.Goals as goal
 
 pub returns-in-Some : goal.returns-in-Some
 returns-in-Some c =
