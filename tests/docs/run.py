@@ -13,11 +13,11 @@ In the documents, a link has to lead to a file, and what stands in backquotes ha
     a name before a file  `answer_text` (`tcc_answer/specs`): the files there have the name
 
 ARCHITECTURE has to name the modules of each crate, all of them and no others, and what a crate stands on as `crates.txt` has
-it; CONTRACTS has to be what the sources give (`contracts.py`), and so has what is told of statuses and limits (`told.py`). Where a
-`specs/Lib.antt` says what serves proofs alone, the files below that line have to be those that say in the beginning that nobody
-has to believe them. CHANGELOG tells of the past, and is left out. No script may define a name twice at one level. The man page and the completion for bash have to name each
-command and option of the program's help, and the completion to complete them; and the stack that README names has to be
-enough. Each difference is one line; the last line is `N passed, M failed`.
+it; CONTRACTS has to be what the sources give (`contracts.py`), and so has what is told of statuses and limits (`told.py`). What
+has to be believed stands in `specs/`, and nothing else does (`trust.py`). CHANGELOG tells of the past, and is left out. No script
+may define a name twice at one level. The man page and the completion for bash have to name each command and option of the
+program's help, and the completion to complete them; and the stack that README names has to be enough. Each difference is one line;
+the last line is `N passed, M failed`.
 """
 import argparse
 import ast
@@ -39,6 +39,7 @@ import contracts  # noqa: E402
 import told  # noqa: E402
 from counted import Outcome, status_of  # noqa: E402
 from crates import stands_on  # noqa: E402
+from trust import faults_of_trust  # noqa: E402
 
 CODE = re.compile(r"```.*?```", re.DOTALL)
 QUOTED = re.compile(r"`([^`\n]+)`")
@@ -185,17 +186,6 @@ def faults_of_crates() -> Iterator[Outcome]:
         yield "crate %s" % crate, None if crate in told and not wrong else "; ".join(wrong) or "ARCHITECTURE has no row"
 
 
-def faults_of_specs() -> Iterator[Outcome]:
-    """Whether the parts of an index of specs are those that the files themselves tell."""
-    for index in sorted((TOP / "crates").glob("*/specs/Lib.antt")):
-        believed, line, rest = index.read_text().partition("-- What serves proofs alone:\n")
-        for part, private in ((believed, False), (rest, True)):
-            for name in re.findall(r"^pub mod (\w+)$", part, re.MULTILINE) if line else ():
-                begins = (index.parent / (name + ".antt")).read_text().split("\n")[:2]
-                says = "nobody has to believe" in " ".join(begins).lower()
-                yield "specs of %s: %s" % (index.parts[-3], name), None if says == private else "it stands in the other part"
-
-
 def defined(level: ast.AST) -> Iterator[str]:
     """The names that a level of a script defines: functions, classes, and but for the level of a function constants."""
     for one in level.body:
@@ -264,7 +254,7 @@ def outcomes(tcc: List[str]) -> Iterator[Outcome]:
     yield from faults_of_crates()
     yield from contracts.outcomes()
     yield from told.outcomes()
-    yield from faults_of_specs()
+    yield from faults_of_trust()
     yield from faults_of_scripts()
     if not shutil.which(tcc[0]):
         yield tcc[0], "there is no such program"

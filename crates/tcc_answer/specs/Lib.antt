@@ -1,7 +1,7 @@
--- What contracts of public calls cite:
 pub mod Labels
 pub mod Shapes
 pub mod Answers
 pub mod Claims
 pub mod Texts
 pub mod Json
+pub mod private

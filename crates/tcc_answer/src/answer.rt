@@ -27,7 +27,8 @@ pub struct Commit {
 }
 
 impl Model for Commit {
-    ghost use Rattle.tcc_answer.specs.Answers.{LabelledOrder, level_in, order_in, sessions_in, clocks_in, ClaimsOrder};
+    ghost use Rattle.tcc_answer.specs.Answers.{LabelledOrder};
+    ghost use Rattle.tcc_answer.specs.private.Stored.{level_in, order_in, sessions_in, clocks_in, ClaimsOrder};
 
     ghost Value = { LabelledOrder };
 

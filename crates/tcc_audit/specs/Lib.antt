@@ -1,2 +1,1 @@
--- What contracts of public calls cite:
 pub mod Audited

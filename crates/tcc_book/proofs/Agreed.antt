@@ -15,7 +15,8 @@ use Rattle.std.proofs.lemmas.List.Elements.{All-push, All-weaker, Contains-appen
 use Rattle.std.proofs.lemmas.Option.{none-some, same_Some}
 use Rattle.tcc_txn.specs.Bytes.{same}
 use Rattle.tcc_txn.specs.Snapshots.{Sessions}
-use Rattle.tcc_book.specs.Passes.{Agrees, LeastTorn, Passed, lesser}
+use Rattle.tcc_book.specs.Passes.{Agrees, LeastTorn, Passed}
+use Rattle.tcc_book.specs.private.Lesser.{lesser}
 use Rattle.tcc_txn.proofs.SortedParts.{name_cmp}
 
 module _ {X : Type 0} (q : List ℕ) where

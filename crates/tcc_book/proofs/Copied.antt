@@ -24,7 +24,7 @@ use Rattle.tcc_txn.proofs.SnapshotFaults.{fault_by, no_fault}
 use Rattle.std.proofs.lemmas.List.Folds.{list_any_none}
 use Rattle.std.proofs.lemmas.Map.Keys.{apart_from_distinct}
 use Rattle.tcc_book.specs.Books.{list_of}
-use Rattle.tcc_book.specs.BookStorage.{AreWithin, IsStored, Places, no_txn, part_at, places_from, txn_at}
+use Rattle.tcc_book.specs.private.BookStorage.{AreWithin, IsStored, Places, no_txn, part_at, places_from, txn_at}
 use Rattle.tcc_book.specs.declared.entry.Entry.{Entry}
 use Rattle.tcc_book.proofs.Places.{length-keys}
 

@@ -11,7 +11,7 @@ use Rattle.indexmap.specs.IndexMap.{get, keys, IsUnique, Updates, index_map_len,
 use Rattle.indexmap.proofs.CallerLemmas.{insert_entry-new}
 use Rattle.tcc_txn.specs.Bytes.{same}
 use Rattle.tcc_txn.specs.declared.limits.TheConstants.{MAX_SESSIONS}
-use Rattle.tcc_book.specs.BookStorage.{Places, IsStored, places_from}
+use Rattle.tcc_book.specs.private.BookStorage.{Places, IsStored, places_from}
 use Rattle.tcc_book.specs.declared.entry.Entry.{Entry}
 use Rattle.tcc_book.proofs.Places.{no-places}
 

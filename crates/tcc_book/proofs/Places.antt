@@ -9,7 +9,7 @@ use Rattle.indexmap.specs.IndexMap.{get, keys, index_map_len}
 use Rattle.tcc_txn.specs.Bytes.{same}
 use Rattle.tcc_txn.proofs.SortedParts.{same_names}
 use Rattle.tcc_book.specs.Books.{IsBook, list_of}
-use Rattle.tcc_book.specs.BookStorage.{IsStored, Places, places_from}
+use Rattle.tcc_book.specs.private.BookStorage.{IsStored, Places, places_from}
 use Rattle.tcc_book.specs.declared.entry.Entry.{Entry}
 
 -- a session has as many places as transactions

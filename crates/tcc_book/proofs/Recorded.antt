@@ -12,7 +12,7 @@ use Rattle.tcc_txn.specs.Transactions.{Transaction}
 use Rattle.tcc_txn.specs.declared.limits.TheConstants.{MAX_SESSIONS, MAX_TRANSACTIONS}
 use Rattle.tcc_txn.proofs.SortedParts.{same_names}
 use Rattle.tcc_book.specs.Books.{Book, Matches, Records}
-use Rattle.tcc_book.specs.BookStorage.{Places, AddsPlace, IsStored, Keeps, Relists, places_from}
+use Rattle.tcc_book.specs.private.BookStorage.{Places, AddsPlace, IsStored, Keeps, Relists, places_from}
 use Rattle.tcc_book.specs.declared.entry.Entry.{Entry}
 use Rattle.tcc_book.specs.declared.fault.RecordFault.{RecordFault}
 use Rattle.tcc_book.specs.declared.fault.RecordFault.TheVariants as refused

@@ -1,5 +1,3 @@
--- What contracts of public calls cite:
 pub mod Books
 pub mod Passes
--- What serves proofs alone:
-pub mod BookStorage
+pub mod private

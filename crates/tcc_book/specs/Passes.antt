@@ -1,5 +1,5 @@
 -- Passes: what a recorder holds of its session.
-use Rattle.std.specs.Prelude.{◌≡◌, ◌⊎◌, ℕ, ◌<◌, Bool, true, false, not, All, if◌then◌else◌, List}
+use Rattle.std.specs.Prelude.{◌≡◌, ◌⊎◌, ℕ, ◌<◌, Bool, true, false, not, All, List}
 use Rattle.std.specs.Prelude.{[], ◌∷◌, ◌++◌, map, find, length, Option, None, Some, Result, Ok, Err}
 use Rattle.std.specs.Cmp.Lexicographic.{slice_cmp}
 use Rattle.std.specs.FinMap.{entries, from_entries, get}
@@ -72,11 +72,6 @@ has_pass passes session = list_any (λ pass. same session pass.session) passes
 -- the map from the passes' names to what each recorded
 abbrev pub recorded_by : List Passed → Sessions
 recorded_by passes = from_entries (map (λ pass. (pass.session, pass.recorded)) passes)
-
--- the lesser of the names, or the one that there is
-abbrev pub lesser : Option (List ℕ) → List ℕ → List ℕ
-lesser None name = name
-lesser (Some least) name = if is_lt (slice_cmp nat_cmp least name) then least else name
 
 -- the least name of a pass with which the sessions do not agree, or none where they agree with all
 abbrev pub LeastTorn : Sessions → List Passed → Option (List ℕ) → Type 0

@@ -3,7 +3,8 @@ ghost use Rattle.std.specs.Prelude.{◌≡◌, true, false, option_map, Some};
 ghost use Rattle.std.specs.FinMap.{get};
 ghost use Rattle.std.specs.List.{list_any};
 ghost use Rattle.tcc_txn.specs.Bytes.{same};
-ghost use Rattle.tcc_book.specs.Passes.{Agrees, LeastTorn, first_missing, has_pass, lesser};
+ghost use Rattle.tcc_book.specs.Passes.{Agrees, LeastTorn, first_missing, has_pass};
+ghost use Rattle.tcc_book.specs.private.Lesser.{lesser};
 
 use crate::alike::are_same;
 use crate::pass::Pass;

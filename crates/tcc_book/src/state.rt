@@ -4,7 +4,7 @@ ghost use Rattle.indexmap.specs.IndexMap.{IsUnique};
 ghost use Rattle.tcc_txn.specs.Bytes.{same};
 ghost use Rattle.tcc_book.specs.Books.{IsBook, Opens, Records, copy_of, no_book};
 ghost use Rattle.tcc_txn.specs.Snapshots.{parts_of};
-ghost use Rattle.tcc_book.specs.BookStorage.{AddsPlace, AreWithin, part_at, txn_at};
+ghost use Rattle.tcc_book.specs.private.BookStorage.{AddsPlace, AreWithin, part_at, txn_at};
 
 use crate::entry::Entry;
 use crate::fault::{OpenFault, RecordFault};
@@ -23,7 +23,7 @@ pub struct BookState {
 
 impl Model for BookState {
     ghost use Rattle.tcc_book.specs.Books.{Book};
-    ghost use Rattle.tcc_book.specs.BookStorage.{IsStored};
+    ghost use Rattle.tcc_book.specs.private.BookStorage.{IsStored};
     ghost use Rattle.indexmap.specs.IndexMap.{keys};
 
     ghost Value = { Book };

@@ -11,7 +11,7 @@ use Rattle.tcc_bound.specs.declared.known.Known.{Known}
 use Rattle.tcc_bound.specs.declared.known.View.{View}
 use Rattle.tcc_bound.specs.declared.known.View.TheVariants.{Unnamed, Live, Spent}
 use Rattle.tcc_bound.specs.Knowing.{no_cost, IsAtMostAll, newcomer, with_sight, with_offer}
-use Rattle.tcc_bound.specs.Rule.{Agrees, IsKept, IsNew, Holds, known_of, Own, own_of, IsLive, Looks, Offers, split_view, joint_view}
+use Rattle.tcc_bound.specs.private.Rule.{Agrees, IsKept, IsNew, Holds, known_of, Own, own_of, IsLive, Looks, Offers, split_view, joint_view}
 
 -- the rule, of a table without slots
 abbrev pub Ruled : State (Unit {0}) View → Type 0

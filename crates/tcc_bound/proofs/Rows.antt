@@ -7,7 +7,7 @@ use Rattle.tcc_bound.specs.declared.known.Known.{Known}
 use Rattle.tcc_bound.specs.declared.known.View.{View}
 use Rattle.tcc_bound.specs.declared.known.View.TheVariants.{Live, Spent}
 use Rattle.tcc_bound.specs.Knowing.{IsAtMostAll, newcomer, with_sight, with_offer, without_offers, both_of}
-use Rattle.tcc_bound.specs.Rule.{Agrees, IsKept}
+use Rattle.tcc_bound.specs.private.Rule.{Agrees, IsKept}
 
 abbrev known : ℕ → ℕ → List ℕ → Known
 known floor sight offers = record { floor = floor; sight = sight; offers = offers }

@@ -1,5 +1,3 @@
--- What contracts of public calls cite:
 pub mod Knowing
 pub mod Seated
--- What serves proofs alone:
-pub mod Rule
+pub mod private

@@ -1,7 +1,7 @@
 //! The bound and its steps.
 ghost use Rattle.std.specs.Prelude.{◌≡◌, ℕ, ◌<◌, ◌≤◌, ◌^◌, [], IfOk};
 ghost use Rattle.tcc_bound.specs.Knowing.{newcomer, with_sight, with_offer, without_offers, both_of, IsAtMostAll};
-ghost use Rattle.tcc_bound.specs.Rule.{own_of};
+ghost use Rattle.tcc_bound.specs.private.Rule.{own_of};
 ghost use Rattle.tcc_bound.specs.declared.known.View.TheVariants.{Unnamed};
 
 use crate::NoMemory;

@@ -10,7 +10,7 @@ pub struct AtMostAll;
 
 impl TableRule<(), View, ()> for AtMostAll {
     ghost use Rattle.tcc_bound.specs.declared.known.View.TheVariants.{Unnamed};
-    ghost use Rattle.tcc_bound.specs.Rule.{Holds};
+    ghost use Rattle.tcc_bound.specs.private.Rule.{Holds};
 
     ghost holds = { λ _ s. Holds s.words s.views };
 
@@ -34,7 +34,7 @@ pub struct Naming<F: Floor> {
 impl<F: Floor> Play<(), View> for Naming<F> {
     ghost use Rattle.std.specs.Prelude.{◌≡◌};
     ghost use Rattle.tcc_bound.specs.Knowing.{newcomer};
-    ghost use Rattle.tcc_bound.specs.Rule.{own_of};
+    ghost use Rattle.tcc_bound.specs.private.Rule.{own_of};
 
     ghost then = { λ _ _ _ after. after ≡ own_of (newcomer F.number) };
 }
@@ -43,7 +43,7 @@ impl<F: Floor> Play<(), View> for Naming<F> {
 pub struct Looking;
 
 impl Play<(), View> for Looking {
-    ghost use Rattle.tcc_bound.specs.Rule.{Looks};
+    ghost use Rattle.tcc_bound.specs.private.Rule.{Looks};
 
     ghost then = { λ _ before found after. Looks before found after };
 }
@@ -52,7 +52,7 @@ impl Play<(), View> for Looking {
 pub struct Offering;
 
 impl Play<(), View> for Offering {
-    ghost use Rattle.tcc_bound.specs.Rule.{Offers};
+    ghost use Rattle.tcc_bound.specs.private.Rule.{Offers};
 
     ghost then = { λ step before found after. Offers step.first before found after };
 }
@@ -61,7 +61,7 @@ impl Play<(), View> for Offering {
 pub struct Splitting;
 
 impl Split<View> for Splitting {
-    ghost use Rattle.tcc_bound.specs.Rule.{split_view};
+    ghost use Rattle.tcc_bound.specs.private.Rule.{split_view};
 
     ghost left = { λ view. view };
 
@@ -73,7 +73,7 @@ pub struct Joining;
 
 impl Join<View> for Joining {
     ghost use Rattle.tcc_bound.specs.declared.known.View.TheVariants.{Spent};
-    ghost use Rattle.tcc_bound.specs.Rule.{joint_view};
+    ghost use Rattle.tcc_bound.specs.private.Rule.{joint_view};
 
     ghost both = { joint_view };
 

@@ -14,7 +14,7 @@ pub struct Seat {
 
 impl Model for Seat {
     ghost use Rattle.tcc_bound.specs.Seated.{Seated};
-    ghost use Rattle.tcc_bound.specs.Rule.{known_of, IsLive};
+    ghost use Rattle.tcc_bound.specs.private.Rule.{known_of, IsLive};
 
     ghost Value = { Seated };
 

@@ -17,12 +17,11 @@ use Rattle.tcc_cert.specs.declared.reading.parts.CertReader.{CertReader}
 use Rattle.tcc_cert.specs.declared.reading.stages.Phase.{Phase}
 use Rattle.tcc_cert.specs.declared.reading.stages.Phase.TheVariants as phase
 use Rattle.tcc_cert.specs.declared.reading.Tables.{Tables}
-use Rattle.tcc_cert.specs.Ahead.{IsAhead, ended_in, fault_in, fault_met, has_ended, is_end, line_wanted}
-use Rattle.tcc_cert.specs.Collecting.{EndsIn, HasRow, HasRowsOf, clocks_in, far_in, links_in, near_in}
+use Rattle.tcc_cert.specs.Ahead.{IsAhead, ended_in, fault_in, fault_met, has_ended, is_end, line_wanted, IsAheadIn}
+use Rattle.tcc_cert.specs.private.Collecting.{EndsIn, HasRow, HasRowsOf, clocks_in, far_in, links_in, near_in}
 use Rattle.tcc_cert.specs.Outcomes.{IsFailure, IsReading}
 use Rattle.tcc_cert.specs.Parts.{FaultsIn, IsFirst, Parts, after_part, ending, parts_of, parts_read}
 use Rattle.tcc_cert.specs.Reading.{certificate_read}
-use Rattle.tcc_cert.specs.Stages.{IsAheadIn}
 use Rattle.tcc_cert.proofs.PartFacts.{line-reached, read-fault, read-whole}
 use Rattle.tcc_cert.proofs.StageFacts.{onward-stage}
 

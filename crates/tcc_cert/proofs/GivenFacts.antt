@@ -7,9 +7,9 @@ use Rattle.tcc_cert.specs.declared.cycle_writer.Stage.{Stage}
 use Rattle.tcc_cert.specs.declared.cycle_writer.Stage.TheVariants.{Near, Far, Failed}
 use Rattle.tcc_cert.specs.CycleRules.{CycleClaim}
 use Rattle.tcc_cert.specs.Texts.{line_text, lines_text, numbers_words}
-use Rattle.tcc_cert.specs.Begun.{given_lines, with_near, with_far, stage_of, far_mark}
-use Rattle.tcc_cert.specs.Given.{HasTaken}
-use Rattle.tcc_cert.specs.Writing.{Sends, Stops, IsSent}
+use Rattle.tcc_cert.specs.Begun.{given_lines, with_near, with_far, stage_of}
+use Rattle.tcc_cert.specs.private.Writing.{far_mark, Stops, IsSent}
+use Rattle.tcc_cert.specs.Given.{HasTaken, Sends}
 use Rattle.tcc_cert.proofs.SentFacts.{Sends-then, Stops-then, Appends-part, Appends-whole}
 use Rattle.tcc_cert.proofs.GivenTexts.{IsPart, text_of, begun_of, one_near, one_far, whole_text}
 

@@ -8,7 +8,8 @@ use Rattle.std.specs.Io.KnownBytes.{Appends}
 use Rattle.tcc_cert.specs.CycleRules.{CycleClaim}
 use Rattle.tcc_cert.specs.declared.certificate.Certificate.TheVariants as claim
 use Rattle.tcc_cert.specs.Texts.{Words, line_text, lines_text, numbers_words, table_lines, link_lines, header_words, certificate_text}
-use Rattle.tcc_cert.specs.Begun.{begun_lines, far_lines, given_lines, with_near, with_far, stage_of, far_mark}
+use Rattle.tcc_cert.specs.Begun.{begun_lines, far_lines, given_lines, with_near, with_far, stage_of}
+use Rattle.tcc_cert.specs.private.Writing.{far_mark}
 use Rattle.tcc_cert.proofs.SentFacts.{Stops-early, Appends-part}
 
 -- the whole text of a claim

@@ -5,7 +5,8 @@ use Rattle.std.proofs.Common.{take-append-drop}
 use lib.Seq.{take-add}
 use Rattle.std.proofs.lemmas.List.{at_drop_more, take_all}
 use Rattle.std.proofs.lemmas.Grind.{take_at_read, flat_map-append}
-use Rattle.tcc_cert.specs.Writing.{Sends, Stops}
+use Rattle.tcc_cert.specs.private.Writing.{Stops}
+use Rattle.tcc_cert.specs.Given.{Sends}
 use Rattle.tcc_cert.proofs.SentFacts.{Sends-then, Stops-then, Stops-early}
 
 -- the texts up to an item and its own

@@ -5,7 +5,8 @@ use Rattle.std.proofs.lemmas.List.{take_at}
 use Rattle.std.specs.Result.{OnOk, OnErr, IsErr}
 use Rattle.std.specs.Io.KnownBytes.{Appends}
 use Rattle.std.proofs.KnownBytes.{Appends-trans}
-use Rattle.tcc_cert.specs.Writing.{Sends, Stops, IsSent}
+use Rattle.tcc_cert.specs.private.Writing.{Stops, IsSent}
+use Rattle.tcc_cert.specs.Given.{Sends}
 
 -- two texts, one after the other
 pub Sends-then : {a b c : Option (List ℕ)} {f g h s t : List ℕ} → Sends a f b g s → Sends b g c h t → Sends a f c h (s ++ t)

@@ -19,14 +19,16 @@ use Rattle.tcc_cert.specs.declared.reading.stages.Phase.{Phase}
 use Rattle.tcc_cert.specs.declared.reading.stages.Stage.{Stage}
 use Rattle.tcc_cert.specs.declared.reading.stages.Stage.TheVariants as stage
 use Rattle.tcc_cert.specs.Ranges.{ranges_of}
-use Rattle.tcc_cert.specs.Inputs.{Ends, HasFailed}
-use Rattle.tcc_cert.specs.Outcomes.{Faults}
+use Rattle.tcc_cert.specs.private.Inputs.{Ends}
+use Rattle.tcc_cert.specs.WindowBytes.{HasFailed}
+use Rattle.tcc_cert.specs.private.Showing.{Faults}
 use Rattle.tcc_cert.specs.Parts.{◌>>>◌, FaultsIn, IsFirst, Parts, after_part, claim_parts, end_parts}
 use Rattle.tcc_cert.specs.Parts.{ending, far_parts, far_rows, link_rows, near_parts, order_rest, parts_behind, rows_then}
 use Rattle.tcc_cert.specs.Parts.{whole_parts}
 use Rattle.tcc_cert.specs.Shapes.{behind_table, columns_in, height, most_in, part_of, table_parts, table_rows, word_before}
 use Rattle.tcc_cert.specs.Reading.{Place, Reads, header_line, link_at, next, numbers_line, sizes_line, word_line, words}
-use Rattle.tcc_cert.specs.Stages.{IsBehind, TakesStep}
+use Rattle.tcc_cert.specs.private.Stages.{TakesStep}
+use Rattle.tcc_cert.specs.Ahead.{IsBehind}
 use Rattle.tcc_cert.proofs.OnwardFacts.{IsOnward, onward-link, onward-next, onward-words}
 use Rattle.tcc_cert.proofs.StepFacts.{onward-at, some-left}
 

@@ -6,8 +6,9 @@ use Rattle.std.proofs.lemmas.Bool.Decides.{nat_tests}
 use Rattle.tcc_cert.specs.declared.fault.CertFault.{CertFault}
 use Rattle.tcc_cert.specs.declared.fault.CertFaultKind.{CertFaultKind}
 use Rattle.tcc_cert.specs.declared.reading.input.Input.{Input}
-use Rattle.tcc_cert.specs.Inputs.{line_in, TakesLine, Gives}
-use Rattle.tcc_cert.specs.Outcomes.{IsFailure, Shows, at_line, reached, Faults}
+use Rattle.tcc_cert.specs.private.Inputs.{line_in, TakesLine, Gives}
+use Rattle.tcc_cert.specs.Outcomes.{IsFailure, reached}
+use Rattle.tcc_cert.specs.private.Showing.{Shows, at_line, Faults}
 use Rattle.tcc_cert.specs.Reading.{◌>>=◌, Place, Reads, behind, next, numbered}
 use Rattle.tcc_cert.proofs.OnwardFacts.{IsOnward, onward-then, onward-ok, onward-next, onward-numbered}
 

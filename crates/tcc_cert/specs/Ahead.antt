@@ -1,5 +1,5 @@
 -- What a reader of parts has still to give.
-use Rattle.std.specs.Prelude.{ℕ, Bool, true, false, List, Option, None, Some, Result, Ok, Err}
+use Rattle.std.specs.Prelude.{ℕ, Bool, true, false, List, Option, None, Some, Result, Ok, Err, ◌+◌, ◌≡◌}
 use Rattle.tcc_cert.specs.declared.fault.CertFault.{CertFault}
 use Rattle.tcc_cert.specs.declared.part.Part.{Part}
 use Rattle.tcc_cert.specs.declared.part.Part.TheVariants as part
@@ -7,9 +7,36 @@ use Rattle.tcc_cert.specs.declared.reading.parts.CertReader.{CertReader}
 use Rattle.tcc_cert.specs.declared.reading.stages.Phase.{Phase}
 use Rattle.tcc_cert.specs.declared.reading.stages.Phase.TheVariants as phase
 use Rattle.tcc_cert.specs.declared.reading.stages.Stage.TheVariants as stage
-use Rattle.tcc_cert.specs.Inputs.{HasFailed}
-use Rattle.tcc_cert.specs.Parts.{Parts, FaultsIn, IsFirst, stopped}
-use Rattle.tcc_cert.specs.Stages.{IsAheadIn, rows_in}
+use Rattle.tcc_cert.specs.WindowBytes.{HasFailed, IsAt}
+use Rattle.tcc_cert.specs.Parts.{Parts, FaultsIn, IsFirst, stopped, ending, link_rows, whole_parts}
+use Rattle.tcc_cert.specs.Reading.{Place}
+use Rattle.tcc_cert.specs.Shapes.{height, links_from, rows_from, table_parts, table_rows}
+use Rattle.tcc_cert.specs.declared.reading.input.Input.{Input}
+use Rattle.tcc_cert.specs.declared.reading.stages.Stage.{Stage}
+
+-- how many links and rows come before the end, behind the claim
+abbrev pub rows_at : Stage → ℕ
+rows_at stage.Whole = 0
+rows_at (stage.Links version transactions left) = links_from transactions left
+rows_at (stage.Mark version table) = rows_from table (height table)
+rows_at (stage.Rows version table left) = rows_from table left
+
+abbrev pub rows_in : Phase → ℕ
+rows_in (phase.Going at) = rows_at at
+rows_in phase.Ended = 0
+rows_in (phase.Stopped fault) = 0
+
+-- the parts from the place on, at this stage
+abbrev pub IsBehind : Stage → Place → Parts → Type 0
+IsBehind stage.Whole at ahead = ahead ≡ whole_parts at
+IsBehind (stage.Links version transactions left) at ahead = (from : ℕ) × (ahead ≡ link_rows version transactions from left at)
+IsBehind (stage.Mark version table) at ahead = ahead ≡ table_parts version table at
+IsBehind (stage.Rows version table left) at ahead = (from : ℕ) × (from + left ≡ height table) × (ahead ≡ table_rows version table from left at)
+
+abbrev pub IsAheadIn : {R : Type 0} → (R → Option (List ℕ)) → Input R → Phase → Parts → Type 0
+IsAheadIn remaining input (phase.Going stage) ahead = (at : Place) × IsAt remaining input at × IsBehind stage at ahead
+IsAheadIn remaining input phase.Ended ahead = ahead ≡ ending ahead.line None
+IsAheadIn remaining input (phase.Stopped fault) ahead = ahead ≡ stopped fault
 
 -- these are the parts that are still to come, where the reader's bytes are known
 abbrev pub IsAhead : {R : Type 0} → (R → Option (List ℕ)) → CertReader R → Parts → Type 0

@@ -4,9 +4,9 @@ use Rattle.tcc_graph.specs.declared.link.Link.{Link}
 use Rattle.tcc_graph.specs.declared.level.Level.{Level}
 use Rattle.tcc_cert.specs.declared.version.Version.{Version}
 use Rattle.tcc_cert.specs.declared.cycle_writer.Stage.{Stage}
-use Rattle.tcc_cert.specs.declared.cycle_writer.Stage.TheVariants.{Near, Far, Failed}
+use Rattle.tcc_cert.specs.declared.cycle_writer.Stage.TheVariants.{Near, Far}
 use Rattle.tcc_cert.specs.CycleRules.{CycleClaim}
-use Rattle.tcc_cert.specs.Texts.{Words, line_text, header_words, link_lines, table_lines}
+use Rattle.tcc_cert.specs.Texts.{Words, header_words, link_lines, table_lines}
 
 -- the lines before the rows
 abbrev pub begun_lines : Version → Level → ℕ → List Link → ℕ → List Words
@@ -35,9 +35,3 @@ with_far k row = record k { far = k.far ++ row ∷ [] }
 abbrev pub stage_of : List (List ℕ) → Stage
 stage_of [] = Near
 stage_of (row ∷ rows) = Far
-
--- the line that has to go out before a row of `far` or the end
-abbrev pub far_mark : Stage → List ℕ
-far_mark Near = line_text (codes "far" ∷ [])
-far_mark Far = []
-far_mark Failed = []

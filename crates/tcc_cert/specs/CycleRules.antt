@@ -22,10 +22,6 @@ pub record CycleClaim : Type 0 where
   pub near : List (List ℕ)
   pub far : List (List ℕ)
 
--- the history at the level of the claim
-abbrev pub cycle_judged : History → CycleClaim → Judged
-cycle_judged h k = record { history = h; level = k.level }
-
 -- both ends of a step are numbers below n
 abbrev pub IsStepBelow : ℕ → Step → Type 0
 IsStepBelow n s = (step_from s < n) × (step_to s < n)

@@ -1,11 +1,17 @@
 -- What a writer of a claim of a cycle was given so far.
-use Rattle.std.specs.Prelude.{ℕ, ◌≡◌, List, [], Option}
+use Rattle.std.specs.Prelude.{ℕ, ◌≡◌, List, [], Option, ◌++◌}
 use Rattle.tcc_cert.specs.declared.cycle_writer.CycleWriter.{CycleWriter}
 use Rattle.tcc_cert.specs.declared.cycle_writer.Stage.TheVariants.{Failed}
 use Rattle.tcc_cert.specs.CycleRules.{CycleClaim}
 use Rattle.tcc_cert.specs.Texts.{lines_text}
 use Rattle.tcc_cert.specs.Begun.{given_lines, stage_of}
-use Rattle.tcc_cert.specs.Writing.{Sends}
+use Rattle.std.specs.Io.KnownBytes.{Appends}
+
+-- the bytes that were held and then the text went out up to those that are left
+pub record Sends (before : Option (List ℕ)) (held : List ℕ) (after : Option (List ℕ)) (left : List ℕ) (text : List ℕ) : Type 0 where
+  pub sent : List ℕ
+  pub appended : Appends before after sent
+  pub whole : held ++ text ≡ sent ++ left
 
 -- a write has failed
 abbrev pub HasFailed : {W : Type 0} → CycleWriter W → Type 0

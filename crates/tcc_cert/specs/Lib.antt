@@ -1,4 +1,3 @@
--- What contracts of public calls cite:
 pub mod Ranges
 pub mod Tables
 pub mod CycleRules
@@ -11,10 +10,6 @@ pub mod Reading
 pub mod Outcomes
 pub mod Parts
 pub mod Ahead
--- What serves proofs alone:
-pub mod Writing
 pub mod WindowBytes
-pub mod Inputs
 pub mod Shapes
-pub mod Stages
-pub mod Collecting
+pub mod private

@@ -1,6 +1,5 @@
 -- What comes of reading, where a reader may fail and memory may be refused.
 use Rattle.std.specs.Prelude.{ℕ, ◌≡◌, ◌≤◌, ◌⊎◌, List, Result, Ok, Err}
-use Rattle.std.specs.Global.{Vec}
 use Rattle.tcc_cert.specs.declared.fault.CertFault.{CertFault}
 use Rattle.tcc_cert.specs.declared.fault.CertFaultKind.{CertFaultKind}
 use Rattle.tcc_cert.specs.declared.fault.CertFaultKind.TheVariants.{Read, NoMemory}
@@ -10,21 +9,6 @@ use Rattle.tcc_cert.specs.Reading.{Place, Reads, certificate_at, certificate_rea
 -- what comes of a reader that failed, if it did, or where a run is out of memory
 abbrev pub IsFailure : Type 0 → CertFaultKind → Type 0
 IsFailure failed kind = ((kind ≡ Read) × failed) ⊎ (kind ≡ NoMemory)
-
--- what a line shows, unless memory was refused
-abbrev pub Shows : {X : Type 0} → Result X CertFaultKind → Result X CertFaultKind → Type 0
-Shows (Ok x) shown = shown ≡ Ok x
-Shows (Err kind) shown = (shown ≡ Err kind) ⊎ (kind ≡ NoMemory)
-
--- the same of the items of a vector
-abbrev pub ShowsItems : {X : Type 0} → Result (Vec X) CertFaultKind → Result (List X) CertFaultKind → Type 0
-ShowsItems (Ok vec) shown = shown ≡ Ok vec.items
-ShowsItems (Err kind) shown = (shown ≡ Err kind) ⊎ (kind ≡ NoMemory)
-
--- what a line shows, as what comes of the line with this number
-abbrev pub at_line : {X : Type 0} → ℕ → Result X CertFaultKind → Result X CertFault
-at_line number (Ok x) = Ok x
-at_line number (Err kind) = Err (record { line = number; kind = kind })
 
 -- the number of the line that was wanted when the reading ended
 abbrev pub reached : {X : Type 0} → Reads X → ℕ
@@ -36,10 +20,6 @@ pub record IsCutShort {X : Type 0} (failed : Type 0) (at : Place) (read : Reads 
   pub failure : IsFailure failed fault.kind
   pub first : at.line ≤ fault.line
   pub last : fault.line ≤ reached read
-
--- the fault of the text, unless the reader failed or memory was refused
-abbrev pub Faults : {X : Type 0} → Type 0 → Place → Reads X → CertFault → Type 0
-Faults failed at read fault = (read ≡ Err fault) ⊎ IsCutShort failed at read fault
 
 -- the certificate that the bytes are the text of, or their first fault, unless the reader failed, if it may have, or memory was refused
 abbrev pub IsReadingWhere : Type 0 → List ℕ → Result Certificate CertFault → Type 0

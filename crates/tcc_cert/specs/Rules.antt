@@ -2,12 +2,13 @@
 use Rattle.std.specs.Prelude.{ℕ, ◌<◌, ◌≡◌, length}
 use Rattle.tcc_reads.specs.History.{History}
 use Rattle.tcc_graph.specs.Links.{cost}
-use Rattle.tcc_cert.specs.CycleRules.{CycleClaim, cycle_judged, HasRightSizes, IsLinkWrong}
+use Rattle.tcc_cert.specs.CycleRules.{CycleClaim, HasRightSizes, IsLinkWrong}
 use Rattle.tcc_cert.specs.CycleRules.{BreaksNearPair, BreaksNearStep, BreaksFarLink, BreaksFarStep}
 use Rattle.tcc_cert.specs.CycleRules.{BreaksReturn}
 use Rattle.tcc_cert.specs.OrderRules.{OrderClaim, HasOrderSizes, KeepsPairs, BreaksAxiom}
 use Rattle.tcc_cert.specs.declared.certificate.Certificate.{Certificate}
 use Rattle.tcc_cert.specs.declared.certificate.Certificate.TheVariants as claim
+use Rattle.tcc_graph.specs.Levels.{judged}
 
 -- nowhere is it broken
 abbrev pub HoldsEverywhere : (ℕ × ℕ → Type 0) → Type 0
@@ -16,7 +17,7 @@ HoldsEverywhere broken = (at : ℕ × ℕ) → broken at → ⊥
 -- the links, one at least, are a cycle of the cost that is claimed
 pub record IsRightCycle (h : History) (k : CycleClaim) : Type 0 where
   pub some : 0 < length k.links
-  pub right : (i : ℕ) → IsLinkWrong (cycle_judged h k) k.links i → ⊥
+  pub right : (i : ℕ) → IsLinkWrong (judged h k.level) k.links i → ⊥
   pub costs : cost k.links ≡ k.least
 
 -- the claim that a cycle is least is certified

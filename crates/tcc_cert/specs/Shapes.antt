@@ -1,4 +1,4 @@
--- The tables of a claim, whose rows come one at a time. For the private stages and their proofs alone: nobody has to believe what stands here.
+-- The tables of a claim, whose rows come one at a time.
 use Rattle.std.specs.Prelude.{ℕ, ◌+◌, ◌-◌, List, codes}
 use Rattle.tcc_cert.specs.declared.version.Version.{Version}
 use Rattle.tcc_cert.specs.declared.part.Part.{Part}

@@ -5,8 +5,9 @@ ghost use Rattle.tcc_cert.specs.declared.certificate.Certificate.TheVariants as 
 ghost use Rattle.tcc_cert.specs.declared.fault.WriteFault.TheVariants.{Device};
 ghost use Rattle.tcc_cert.specs.CycleRules.{CycleClaim};
 ghost use Rattle.tcc_cert.specs.Texts.{line_text, lines_text, numbers_words, certificate_text};
-ghost use Rattle.tcc_cert.specs.Begun.{begun_lines, given_lines, with_near, with_far, far_mark};
-ghost use Rattle.tcc_cert.specs.Writing.{IsSent, Sends};
+ghost use Rattle.tcc_cert.specs.Begun.{begun_lines, given_lines, with_near, with_far};
+ghost use Rattle.tcc_cert.specs.private.Writing.{far_mark, IsSent};
+ghost use Rattle.tcc_cert.specs.Given.{Sends};
 
 use crate::lines::{line, number_line};
 use crate::outgoing::Outgoing;

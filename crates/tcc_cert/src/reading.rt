@@ -1,10 +1,12 @@
 //! How a certificate's text is read.
 ghost use Rattle.std.specs.Prelude.{◌≡◌, ◌<◌, ◌++◌, ◌∷◌, ℕ, [], IfErr, IfSome, List, OnOk, false, true};
 ghost use Rattle.tcc_cert.specs.Ahead.{IsAhead, is_new, line_wanted};
-ghost use Rattle.tcc_cert.specs.Collecting.{Collects, HasRow};
-ghost use Rattle.tcc_cert.specs.Inputs.{AsBefore, Gives, IsAt};
+ghost use Rattle.tcc_cert.specs.private.Collecting.{Collects, HasRow};
+ghost use Rattle.tcc_cert.specs.private.Inputs.{AsBefore, Gives};
+ghost use Rattle.tcc_cert.specs.WindowBytes.{IsAt};
 ghost use Rattle.tcc_cert.specs.declared.ranges.TheConstants.{MAX_HEADER_BYTES};
-ghost use Rattle.tcc_cert.specs.Outcomes.{IsReading, Shows};
+ghost use Rattle.tcc_cert.specs.Outcomes.{IsReading};
+ghost use Rattle.tcc_cert.specs.private.Showing.{Shows};
 ghost use Rattle.tcc_cert.specs.Parts.{Parts, parts_read};
 ghost use Rattle.tcc_cert.specs.Reading.{Place, header_line, next, word_line, words, words_of};
 

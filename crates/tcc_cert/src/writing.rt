@@ -4,7 +4,7 @@ ghost use Rattle.std.specs.Io.KnownBytes.{Appends};
 ghost use Rattle.tcc_graph.specs.declared.step.Step.TheVariants as step;
 ghost use Rattle.tcc_graph.specs.declared.link.Link.TheVariants as link;
 ghost use Rattle.tcc_cert.specs.declared.certificate.Certificate.TheVariants as claim;
-ghost use Rattle.tcc_cert.specs.Writing.{IsSent};
+ghost use Rattle.tcc_cert.specs.private.Writing.{IsSent};
 ghost use Rattle.tcc_cert.specs.Texts.{line_text, lines_text, step_words, link_lines, header_words, clocks_lines, order_lines, certificate_text};
 
 use crate::cycle_writer::{CycleHead, write_cycle};

@@ -4,8 +4,9 @@ use Rattle.std.specs.Prelude.{IfOk}
 use Rattle.tcc_check.specs.declared.verdict.Rule.{Rule}
 use Rattle.tcc_check.specs.declared.verdict.Verdict.{Verdict}
 use Rattle.tcc_check.specs.declared.verdict.Verdict.TheVariants as verdict
-use Rattle.tcc_check.specs.Verdicts.{Asked, by_places, AllHold, IsFirstBroken, IsAnswer}
-use Rattle.tcc_check.specs.Coming.{first_rejected}
+use Rattle.tcc_check.specs.Verdicts.{Asked, by_places, AllHold, IsFirstBroken}
+use Rattle.tcc_check.specs.private.Searches.{IsAnswer}
+use Rattle.tcc_check.specs.private.Coming.{first_rejected}
 use Rattle.tcc_check.proofs.First.{first_as, nowhere_as}
 
 -- later rules change nothing where one of the first is broken

@@ -1,6 +1,6 @@
 -- Rows of weights, lowered.
 use Rattle.std.proofs.Common.{◌≡◌, ◌<◌, ◌≤◌, ℕ, ◌⊎◌, inl, inr, List, length, get_or, arith, sym, subst, ◌∙◌}
-use Rattle.tcc_check.specs.Weights.{unlinked, IsLeastRow, IsLowered}
+use Rattle.tcc_check.specs.private.Weights.{unlinked, IsLeastRow, IsLowered}
 
 pub lowered_row : (P Q : ℕ → ℕ → Type 0) (old new : List ℕ) → IsLeastRow P old → IsLowered Q old new → IsLeastRow (λ u w. P u w ⊎ Q u w) new
 lowered_row P Q old new was h = record {

@@ -9,10 +9,10 @@ use Rattle.tcc_reads.specs.History.{History, count, entry_at}
 use Rattle.tcc_graph.specs.Keys.{has_name, key_at}
 use Rattle.tcc_graph.specs.Relations.{IsReadsPair}
 use Rattle.tcc_graph.proofs.NameLemmas.{has_name-contains, contains-has_name}
-use Rattle.tcc_check.specs.Groups.{AreGroupsOf, links_by, total}
-use Rattle.tcc_check.specs.Readings.{AreReadingsAt, AreReadingsTo, KeyWeighs, PairWeighs, PlaceWeighs, ReadingWeighs, readings_at}
-use Rattle.tcc_check.specs.Weights.{IsLowered, unlinked}
-use Rattle.tcc_check.specs.WeightsFrom.{ContradictsBy, SourceWeighs}
+use Rattle.tcc_check.specs.private.Groups.{AreGroupsOf, links_by, total}
+use Rattle.tcc_check.specs.private.Readings.{AreReadingsAt, AreReadingsTo, KeyWeighs, PairWeighs, PlaceWeighs, ReadingWeighs, readings_at}
+use Rattle.tcc_check.specs.private.Weights.{IsLowered, unlinked}
+use Rattle.tcc_check.specs.private.WeightsFrom.{ContradictsBy, SourceWeighs}
 use Rattle.tcc_check.proofs.LinksFrom.{seconds-by, zip-at, zip-from}
 use Rattle.tcc_check.proofs.LinksFrom.{one-lowered}
 use Rattle.tcc_check.proofs.Lowering.{lowered_none, lowered_as, lowered_then, lowered_one}

@@ -7,9 +7,9 @@ use Rattle.std.proofs.lemmas.List.{get_or_append_left, get_or_push, length_push}
 use Rattle.tcc_reads.specs.History.{History, count, owner, place}
 use Rattle.tcc_graph.specs.Relations.{session_pair, IsSessionPair}
 use Rattle.tcc_graph.proofs.Pairs.{session_below}
-use Rattle.tcc_check.specs.Runs.{IsInRun, HasRuns, AreRuns}
-use Rattle.tcc_check.specs.Weights.{unlinked}
-use Rattle.tcc_check.specs.Searches.{HoldsBelow, IsFirstBelow, IsLongRun, IsLongRunTo}
+use Rattle.tcc_check.specs.private.Runs.{IsInRun, HasRuns, AreRuns}
+use Rattle.tcc_check.specs.private.Weights.{unlinked}
+use Rattle.tcc_check.specs.private.Searches.{HoldsBelow, IsFirstBelow, IsLongRun, IsLongRunTo}
 use Rattle.tcc_check.proofs.First.{holds_below_more}
 
 -- `init` stands before every other transaction

@@ -7,7 +7,7 @@ use Rattle.std.proofs.lemmas.List.Elements.{All-head, All-tail}
 use Rattle.tcc_reads.specs.History.{History, count}
 use Rattle.tcc_graph.specs.Relations.{IsCausalPair}
 use Rattle.tcc_graph.specs.Walks.{step_to, Leads}
-use Rattle.tcc_graph.specs.Levels.{IsAllowed, IsAllowedWalk}
+use Rattle.tcc_graph.specs.Levels.{IsAllowed, IsAllowedWalk, judged}
 use Rattle.tcc_graph.specs.declared.level.Level.{Level}
 use Rattle.tcc_graph.specs.declared.level.Level.TheVariants as level
 use Rattle.tcc_graph.specs.Links.{IsLink, link_from, link_to, unfolding_of, link_cost, cost}
@@ -19,7 +19,7 @@ use Rattle.tcc_graph.specs.declared.link.Link.TheVariants as link
 use Rattle.tcc_cert.specs.declared.version.Version.{Version}
 use Rattle.tcc_cert.specs.declared.version.Version.TheVariants as version
 use Rattle.tcc_cert.specs.Tables.{entry, lowest, far_entry}
-use Rattle.tcc_cert.specs.CycleRules.{CycleClaim, cycle_judged, IsLinkRight, ends_at}
+use Rattle.tcc_cert.specs.CycleRules.{CycleClaim, IsLinkRight, ends_at}
 use Rattle.tcc_cert.specs.Rules.{CertifiesCycle}
 use Rattle.tcc_check.proofs.Decisions.{true_at_last, link_right}
 use Rattle.tcc_cert.proofs.Ends.{ends_at-push, ends_at_some}
@@ -61,14 +61,14 @@ module _ (h : History) (k : CycleClaim) (good : CertifiesCycle h k) where
   near_rest level.Atomic is a b c s [] from w allowed = rw w (omega arith)
   near_rest level.Atomic is a b c s (t ∷ walk) from w allowed = absurd (omega (arith, allowed))
 
-  near_walk : (b c : ℕ) (walk : List Step) → IsAllowedWalk (cycle_judged h k) b c walk → entry k.near b c ≤ length walk
+  near_walk : (b c : ℕ) (walk : List Step) → IsAllowedWalk (judged h k.level) b c walk → entry k.near b c ≤ length walk
   near_walk b c [] w = absurd (omega (arith, w.0.0))
   near_walk b c (s ∷ walk) w =
       let pair = subst (λ (z : ℕ). IsCausalPair h z (step_to s)) w.0.1.0 (step_pair h s w.0.1.1) in
       omega (arith, near_pair b (step_to s) pair, near_rest k.level refl b (step_to s) c s walk (pair_below h b (step_to s) pair).0 w.0.1.2 w.1)
 
   -- one link takes no more than it costs
-  far_link : (l : Link) → IsLink (cycle_judged h k) l → lowest k.version (link_from l) ≤ link_to l
+  far_link : (l : Link) → IsLink (judged h k.level) l → lowest k.version (link_from l) ≤ link_to l
       → far_entry k.version k.far (link_from l) (link_to l) ≤ link_cost l
   far_link (link.Session a b) p low = not_above _ _ (λ m. good.far_links (a, b) (low, inl (inl p, m)))
   far_link (link.Reads a b x) p low = not_above _ _ (λ m. good.far_links (a, b) (low, inl (inr (x, p), m)))
@@ -76,7 +76,7 @@ module _ (h : History) (k : CycleClaim) (good : CertifiesCycle h k) where
       let most : far_entry k.version k.far b a ≤ 1 + entry k.near b c = not_above _ _ (λ m. good.far_links (b, a) (low, inr (x, c, p.0, m))) in
       omega (arith, most, near_walk b c walk p.1, length-append walk (step.Reads a c x ∷ []))
 
-  far_step : (s : ℕ) (l : Link) → s < count h → IsLink (cycle_judged h k) l → IsUpward (lowest k.version s) l
+  far_step : (s : ℕ) (l : Link) → s < count h → IsLink (judged h k.level) l → IsUpward (lowest k.version s) l
       → far_entry k.version k.far s (link_to l) ≤ far_entry k.version k.far s (link_from l) + link_cost l
   far_step s (link.Session a b) from p up = not_above _ _ (λ m. good.far_steps (s, b) (from, (up.1, (a, up.0, inl (inl p, m)))))
   far_step s (link.Reads a b x) from p up = not_above _ _ (λ m. good.far_steps (s, b) (from, (up.1, (a, up.0, inl (inr (x, p), m)))))
@@ -85,7 +85,7 @@ module _ (h : History) (k : CycleClaim) (good : CertifiesCycle h k) where
       not_above _ _ (λ m. good.far_steps (s, a) (from, (up.1, (b, up.0, inr (x, c, p.0, m))))) in
       omega (arith, most, near_walk b c walk p.1, length-append walk (step.Reads a c x ∷ []))
 
-  far_along : (s u v : ℕ) (links : List Link) → s < count h → LinksLead (cycle_judged h k) u v links → All (IsUpward (lowest k.version s)) links
+  far_along : (s u v : ℕ) (links : List Link) → s < count h → LinksLead (judged h k.level) u v links → All (IsUpward (lowest k.version s)) links
       → far_entry k.version k.far s v ≤ far_entry k.version k.far s u + cost links
   far_along s u v [] from w up = rw w (omega arith)
   far_along s u v (l ∷ links) from w up =
@@ -96,7 +96,7 @@ module _ (h : History) (k : CycleClaim) (good : CertifiesCycle h k) where
       omega (arith, one, far_along s (link_to l) v links from w.2 later, length-append (unfolding_of l) (flat_map unfolding_of links))
 
   -- a route over numbers from its start upward
-  far_route : (s v : ℕ) (links : List Link) → IsUpwardRoute (cycle_judged h k) s v links → far_entry k.version k.far s v ≤ cost links
+  far_route : (s v : ℕ) (links : List Link) → IsUpwardRoute (judged h k.level) s v links → far_entry k.version k.far s v ≤ cost links
   far_route s v [] w = absurd (omega (arith, w.0.0))
   far_route s v (l ∷ links) w =
       let up = upward_lower (lowest k.version s) s (l ∷ links) (low_start k.version s) w.1 in
@@ -105,15 +105,15 @@ module _ (h : History) (k : CycleClaim) (good : CertifiesCycle h k) where
       subst (λ (z : ℕ). lowest k.version z ≤ link_to l) (sym w.0.1.0) (All-head (IsUpward (lowest k.version s)) l links up).1 in
       let one : far_entry k.version k.far s (link_to l) ≤ link_cost l =
       subst (λ (z : ℕ). far_entry k.version k.far z (link_to l) ≤ link_cost l) w.0.1.0 (far_link l w.0.1.1 first) in
-      let from : s < count h = subst (λ (z : ℕ). z < count h) w.0.1.0 (link_below (cycle_judged h k) l w.0.1.1).0 in
+      let from : s < count h = subst (λ (z : ℕ). z < count h) w.0.1.0 (link_below (judged h k.level) l w.0.1.1).0 in
       omega (arith, one, far_along s (link_to l) v links from w.0.1.2 later, length-append (unfolding_of l) (flat_map unfolding_of links))
 
-  route_from : (s v : ℕ) (links : List Link) → IsRoute (cycle_judged h k) s v links → s < count h
+  route_from : (s v : ℕ) (links : List Link) → IsRoute (judged h k.level) s v links → s < count h
   route_from s v [] w = absurd (omega (arith, w.0))
-  route_from s v (l ∷ links) w = subst (λ (z : ℕ). z < count h) w.1.0 (link_below (cycle_judged h k) l w.1.1).0
+  route_from s v (l ∷ links) w = subst (λ (z : ℕ). z < count h) w.1.0 (link_below (judged h k.level) l w.1.1).0
 
   -- a cycle, begun at its lowest number, is such a route
-  no_less : (s : ℕ) (links : List Link) → IsTurned (cycle_judged h k) s links → k.least ≤ cost links
+  no_less : (s : ℕ) (links : List Link) → IsTurned (judged h k.level) s links → k.least ≤ cost links
   no_less s links w =
       let back : k.least ≤ far_entry k.version k.far w.lowest w.lowest =
       not_above _ _ (λ m. good.returns (w.lowest, w.lowest) (route_from w.lowest w.lowest w.turned w.route.0, (refl, m))) in
@@ -121,11 +121,11 @@ module _ (h : History) (k : CycleClaim) (good : CertifiesCycle h k) where
 
   -- each link right, the links lead on from where those before them end
   lead : (before : List Link) (links : List Link) (at : ℕ) → k.links ≡ before ++ links → at ≡ ends_at (ends_at 0 k.links) before
-      → LinksLead (cycle_judged h k) at (ends_at at links) links
+      → LinksLead (judged h k.level) at (ends_at at links) links
   lead before [] at split here = refl
   lead before (l ∷ links) at split here =
       let right =
-      true_at_last (link_right (cycle_judged h k) at l)
+      true_at_last (link_right (judged h k.level) at l)
       (λ wrong. good.cycle.right (length before + 1)
       (record {
         before = before;
@@ -133,7 +133,7 @@ module _ (h : History) (k : CycleClaim) (good : CertifiesCycle h k) where
         after = links;
         split = split;
         place = refl;
-        wrong = subst (λ (z : ℕ). IsLinkRight (cycle_judged h k) z l → ⊥) here wrong;
+        wrong = subst (λ (z : ℕ). IsLinkRight (judged h k.level) z l → ⊥) here wrong;
       })) in (
         right.0,
         right.1,
@@ -141,7 +141,7 @@ module _ (h : History) (k : CycleClaim) (good : CertifiesCycle h k) where
             (sym (ends_at-push (ends_at 0 k.links) before l)),
       )
 
-  pub least_cycle : ((s : ℕ) × IsLeastCycle (cycle_judged h k) s k.links) × (cost k.links ≡ k.least)
+  pub least_cycle : ((s : ℕ) × IsLeastCycle (judged h k.level) s k.links) × (cost k.links ≡ k.least)
   least_cycle =
       let s = ends_at 0 k.links in (
         (
@@ -149,10 +149,10 @@ module _ (h : History) (k : CycleClaim) (good : CertifiesCycle h k) where
           record {
             cycle = (
               good.cycle.some,
-              subst (λ (z : ℕ). LinksLead (cycle_judged h k) s z k.links) (ends_at_some s 0 k.links good.cycle.some)
+              subst (λ (z : ℕ). LinksLead (judged h k.level) s z k.links) (ends_at_some s 0 k.links good.cycle.some)
                   (lead [] k.links s refl refl),
             );
-            least = λ t others w. omega (arith, no_less t others (turn_lowest (cycle_judged h k) t others w), good.cycle.costs);
+            least = λ t others w. omega (arith, no_less t others (turn_lowest (judged h k.level) t others w), good.cycle.costs);
           },
         ),
         good.cycle.costs,

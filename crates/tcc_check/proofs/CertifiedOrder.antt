@@ -5,7 +5,7 @@ use Rattle.std.proofs.lemmas.Bool.{cases_eq, cases_lt}
 use Rattle.tcc_reads.specs.History.{History, count, owner}
 use Rattle.tcc_graph.specs.Relations.{IsCausalPair}
 use Rattle.tcc_graph.specs.Walks.{step_to, Leads, IsWalk}
-use Rattle.tcc_graph.specs.Levels.{IsAllowed}
+use Rattle.tcc_graph.specs.Levels.{IsAllowed, judged}
 use Rattle.tcc_graph.specs.Links.{IsReason}
 use Rattle.tcc_graph.specs.Orders.{Before, IsCommitOrder}
 use Rattle.tcc_graph.specs.declared.level.Level.{Level}
@@ -57,12 +57,12 @@ module _ (h : History) (k : OrderClaim) (good : CertifiesOrder h k) where
       subst (λ (z : ℕ). IsCausalPair h b z) w.1.2 (subst (λ (z : ℕ). IsCausalPair h z (step_to s)) w.1.0 (step_pair h s w.1.1))
   reached level.Atomic is b c (s ∷ t ∷ walk) w allowed = absurd (omega (arith, allowed))
 
-  reason_before : (b a : ℕ) (x : List ℕ) (c : ℕ) (walk : List Step) → IsReason (record { history = h; level = k.level }) b a x c walk → Before k.order b a
+  reason_before : (b a : ℕ) (x : List ℕ) (c : ℕ) (walk : List Step) → IsReason (judged h k.level) b a x c walk → Before k.order b a
   reason_before b a x c walk r =
       order_of_two good.pairs.numbering b a r.0.2.0 r.0.1.0 r.0.0
       (λ not. good.axiom_of (b, a) (x, c, r.0, reached k.level refl b c walk r.1.0 r.1.1, not))
 
-  pub commit_order : IsCommitOrder (record { history = h; level = k.level }) k.order
+  pub commit_order : IsCommitOrder (judged h k.level) k.order
   commit_order = record {
     numbering = good.pairs.numbering;
     sessions = λ a b p. good.pairs.ordered a b (inl p);

@@ -8,7 +8,8 @@ use Rattle.tcc_cert.specs.declared.certificate.Certificate.TheVariants as claim
 use Rattle.tcc_check.specs.declared.verdict.Rule.{Rule}
 use Rattle.tcc_check.specs.declared.verdict.Verdict.{Verdict}
 use Rattle.tcc_check.specs.declared.verdict.Verdict.TheVariants as verdict
-use Rattle.tcc_check.specs.Verdicts.{Asked, AllHold, IsFirstBroken, IsAnswer, IsCycleFault, IsVerdict, IsRejected, IsTrueClaim, rules_of}
+use Rattle.tcc_check.specs.Verdicts.{Asked, AllHold, IsFirstBroken, IsCycleFault, IsVerdict, IsRejected, IsTrueClaim, rules_of}
+use Rattle.tcc_check.specs.private.Searches.{IsAnswer}
 use Rattle.tcc_check.proofs.CertifiedCycle.{least_cycle}
 use Rattle.tcc_check.proofs.CertifiedOrder.{commit_order}
 

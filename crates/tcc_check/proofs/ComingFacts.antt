@@ -1,14 +1,13 @@
 -- Parts that are still to come, and how they end.
 use Rattle.std.proofs.Common.{◌≡◌, ℕ, ◌<◌, ◌⊎◌, Bool, true, false, cond, List, [], ◌∷◌, None, Result, Ok, Err, inl, inr, refl, sym, ap, subst, ◌∙◌, arith}
 use Rattle.std.specs.Prelude.{IsErrAnd, map}
-use Rattle.tcc_cert.specs.Collecting.{EndsIn}
+use Rattle.tcc_cert.specs.private.Collecting.{EndsIn}
 use Rattle.tcc_cert.specs.Parts.{FaultsIn, IsFirst, Parts}
 use Rattle.tcc_cert.specs.declared.fault.CertFault.{CertFault}
 use Rattle.tcc_cert.specs.declared.part.Part.{Part}
 use Rattle.tcc_cert.specs.declared.part.Part.TheVariants as part
 use Rattle.tcc_cert.proofs.CollectFacts.{faults-end}
-use Rattle.tcc_check.specs.Coming.{FailsAs}
-use Rattle.tcc_check.specs.Streams.{fault_of, is_want_of_memory}
+use Rattle.tcc_check.specs.private.Coming.{FailsAs, fault_of, is_want_of_memory}
 use Rattle.tcc_check.specs.declared.stream_fault.StreamFault.{StreamFault}
 use Rattle.tcc_check.specs.declared.stream_fault.StreamFault.TheVariants.{Text, NoMemory}
 

@@ -10,7 +10,7 @@ use Rattle.tcc_cert.specs.Tables.{lowest, row_of}
 use Rattle.tcc_cert.specs.declared.part.Part.{Part}
 use Rattle.tcc_cert.specs.declared.part.Part.TheVariants as part
 use Rattle.tcc_cert.specs.declared.version.Version.{Version}
-use Rattle.tcc_check.specs.Coming.{IsFarRight}
+use Rattle.tcc_check.specs.private.Coming.{IsFarRight}
 use Rattle.tcc_check.specs.declared.far_rows.FarFaults.{FarFaults}
 use Rattle.tcc_check.proofs.ComingFacts.{first-fault, first-line, first-parts, next-row, next-no-row, no-rows}
 

@@ -3,7 +3,7 @@ use Rattle.std.proofs.Common.{◌≡◌, ◌<◌, ◌+◌, ℕ, ◌⊎◌, inl, 
 use Rattle.std.proofs.lemmas.Bool.{cases_eq}
 use Rattle.tcc_cert.specs.Tables.{IsEarlier, IsFirstPlace}
 use Rattle.tcc_cert.specs.Rules.{HoldsEverywhere}
-use Rattle.tcc_check.specs.Searches.{HoldsBelow}
+use Rattle.tcc_check.specs.private.Searches.{HoldsBelow}
 
 -- in the first i rows nothing is broken
 abbrev pub HoldsAbove : ℕ → (ℕ × ℕ → Type 0) → Type 0

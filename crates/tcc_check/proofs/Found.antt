@@ -1,7 +1,7 @@
 -- First numbers that were found, by one relation after another.
 use Rattle.std.proofs.Common.{◌≡◌, ◌<◌, ◌≤◌, ℕ, ◌⊎◌, inl, inr, Option, None, Some, min, arith, refl}
 use Rattle.std.proofs.lemmas.Bool.{cases_lt}
-use Rattle.tcc_check.specs.Searches.{IsFirstBelow, IsFoundBelow, lesser}
+use Rattle.tcc_check.specs.private.Searches.{IsFirstBelow, IsFoundBelow, lesser}
 
 -- the same in other words
 pub found_as : (n : ℕ) (P Q : ℕ → Type 0) → ((v : ℕ) → P v → Q v) → ((v : ℕ) → Q v → P v) → (found : Option ℕ) → IsFoundBelow n P found → IsFoundBelow n Q found

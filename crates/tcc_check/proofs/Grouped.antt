@@ -8,7 +8,7 @@ use Rattle.std.proofs.lemmas.List.Elements.{All-push}
 use Rattle.std.proofs.lemmas.List.{drop-append-le, get_or_default, get_or-append-add, get_or_append_left, get_or-drop, get_or-map}
 use Rattle.std.proofs.lemmas.List.{get_or-take, length-append, length-drop, length-map, length-take-le, length_push, map_push}
 use Rattle.std.proofs.lemmas.List.{take-append-le, take_all, take_more}
-use Rattle.tcc_check.specs.Groups.{AreGroupsOf, links_by, total, weighed}
+use Rattle.tcc_check.specs.private.Groups.{AreGroupsOf, links_by, total, weighed}
 
 length-weighed : (weight : ℕ) (ends : List ℕ) → length (weighed weight ends) ≡ length ends
 length-weighed weight ends = length-map {B = ℕ × ℕ} ends (λ end. (end, weight))

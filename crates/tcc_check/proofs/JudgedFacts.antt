@@ -20,10 +20,11 @@ use Rattle.tcc_check.specs.declared.stream_fault.StreamFault.TheVariants.{Text, 
 use Rattle.tcc_check.specs.declared.streaming.CycleHead.{CycleHead}
 use Rattle.tcc_check.specs.declared.verdict.Rule.TheVariants.{Sizes}
 use Rattle.tcc_check.specs.declared.verdict.Verdict.{Verdict}
-use Rattle.tcc_check.specs.Coming.{FailsAs, Finishes, sized}
-use Rattle.tcc_check.specs.Judged.{IsClaimJudged, IsCycleJudged, IsOrderJudged, claim_rules}
+use Rattle.tcc_check.specs.private.Coming.{FailsAs, Finishes, sized}
+use Rattle.tcc_check.specs.private.Judged.{IsClaimJudged, IsCycleJudged, IsOrderJudged, claim_rules}
 use Rattle.tcc_check.specs.Streams.{IsJudged, IsStreamFault, claim_of}
-use Rattle.tcc_check.specs.Verdicts.{IsAnswer, IsVerdict, as_whole, cycle_rules}
+use Rattle.tcc_check.specs.Verdicts.{IsVerdict, as_whole, cycle_rules}
+use Rattle.tcc_check.specs.private.Searches.{IsAnswer}
 use Rattle.tcc_check.proofs.Asked.{answer_later}
 use Rattle.tcc_check.proofs.Claims.{verdict_of}
 use Rattle.tcc_check.proofs.ComingFacts.{fails-back}

@@ -6,15 +6,15 @@ use Rattle.std.proofs.lemmas.Bool.{cases_eq, iff_false}
 use Rattle.std.proofs.lemmas.Bool.Decides.{nat_tests}
 use Rattle.std.proofs.lemmas.List.{drop_more, take_more, take_at, get_or_at, take-append-drop, length-take-le}
 use Rattle.tcc_reads.specs.History.{History}
-use Rattle.tcc_graph.specs.Levels.{Judged}
+use Rattle.tcc_graph.specs.Levels.{Judged, judged}
 use Rattle.tcc_graph.specs.Links.{cost, link_cost, link_from, link_to}
 use Rattle.tcc_graph.specs.declared.link.Link.{Link}
 use Rattle.tcc_graph.proofs.Linking.{cost_append, one_cost}
-use Rattle.tcc_cert.specs.CycleRules.{CycleClaim, IsLinkRight, IsLinkWrong, cycle_judged, ends_at}
+use Rattle.tcc_cert.specs.CycleRules.{CycleClaim, IsLinkRight, IsLinkWrong, ends_at}
 use Rattle.tcc_cert.specs.Rules.{IsRightCycle}
 use Rattle.tcc_cert.proofs.Ends.{ends_at-push, ends_at_some}
 use Rattle.tcc_check.specs.declared.links.LinksSeen.{LinksSeen}
-use Rattle.tcc_check.specs.Links.{AreSeenTo, IsFirstWrongFrom, IsWrongFrom, begins_at, ends_or, first_wrong, left_behind}
+use Rattle.tcc_check.specs.private.Links.{AreSeenTo, IsFirstWrongFrom, IsWrongFrom, begins_at, ends_or, first_wrong, left_behind}
 use Rattle.tcc_check.specs.Verdicts.{IsCycleFault}
 
 -- ---- the next link
@@ -122,7 +122,7 @@ take_whole (l ∷ links) = ap (λ z. l ∷ z) (take_whole links)
 
 module _ (h : History) (k : CycleClaim) where
   abbrev pub j : Judged
-  j = cycle_judged h k
+  j = judged h k.level
 
   as_wrong : begins_at k.links ≡ ends_at 0 k.links → (n : ℕ) → IsWrongFrom j (begins_at k.links) k.links n → IsLinkWrong j k.links n
   as_wrong closed n w = record {

@@ -13,10 +13,10 @@ use Rattle.std.proofs.lemmas.Slice.Zip.{get_or-zip, length-zip}
 use Rattle.std.proofs.Math.Nat.{min-zero}
 use Rattle.tcc_reads.specs.History.{History, count}
 use Rattle.tcc_graph.specs.Relations.{IsCausalPair, IsReadsPair, IsSessionPair}
-use Rattle.tcc_check.specs.Pairs.{AreOrderly}
-use Rattle.tcc_check.specs.Weights.{unlinked, AreByWeight, IsLeastRow, IsLowered}
-use Rattle.tcc_check.specs.WeightsFrom.{AreAllEnds, AreEnds, AreEndsTo, AreLightEnds, ends_of, BetweenWeighs}
-use Rattle.tcc_check.specs.WeightsFrom.{ContradictsBy, InitContradictsBy, MarkWeighs, ReadWeighs, SourceWeighs}
+use Rattle.tcc_check.specs.private.Pairs.{AreOrderly}
+use Rattle.tcc_check.specs.private.Weights.{unlinked, AreByWeight, IsLeastRow, IsLowered}
+use Rattle.tcc_check.specs.private.WeightsFrom.{AreAllEnds, AreEnds, AreEndsTo, AreLightEnds, ends_of, BetweenWeighs}
+use Rattle.tcc_check.specs.private.WeightsFrom.{ContradictsBy, InitContradictsBy, MarkWeighs, ReadWeighs, SourceWeighs}
 use Rattle.tcc_check.proofs.Lowering.{lowered_none, lowered_as, lowered_then, lowered_one}
 
 -- ---- lists beside one another

@@ -2,7 +2,7 @@
 use Rattle.std.proofs.Common.{◌≡◌, ◌<◌, ◌≤◌, ℕ, ◌⊎◌, inl, inr, List, length, get_or, set, min, arith, refl, sym, ap, subst, ◌∙◌}
 use Rattle.std.proofs.lemmas.Bool.{cases_eq, cases_lt}
 use Rattle.std.proofs.lemmas.List.{get_or-set_same, get_or-set_other, length-set}
-use Rattle.tcc_check.specs.Weights.{IsLowered}
+use Rattle.tcc_check.specs.private.Weights.{IsLowered}
 
 -- nothing was lowered
 pub lowered_none : (P : ℕ → ℕ → Type 0) (row : List ℕ) → ((u w : ℕ) → P u w → ⊥) → IsLowered P row row

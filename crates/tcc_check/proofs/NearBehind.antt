@@ -9,7 +9,7 @@ use Rattle.tcc_cert.specs.Parts.{IsFirst, Parts}
 use Rattle.tcc_cert.specs.declared.part.Part.{Part}
 use Rattle.tcc_cert.specs.declared.part.Part.TheVariants as part
 use Rattle.tcc_cert.specs.Tables.{IsCapped, row_of}
-use Rattle.tcc_check.specs.Coming.{IsNearRight}
+use Rattle.tcc_check.specs.private.Coming.{IsNearRight}
 use Rattle.tcc_check.specs.declared.near_rows.NearRows.{NearRows}
 use Rattle.tcc_check.proofs.ComingFacts.{first-fault, first-line, first-parts}
 

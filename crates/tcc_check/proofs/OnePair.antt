@@ -12,8 +12,8 @@ use Rattle.tcc_graph.specs.declared.level.Level.TheVariants.{Atomic}
 use Rattle.tcc_graph.proofs.NameLemmas.{has_name-contains}
 use Rattle.tcc_graph.proofs.Pairs.{PairParts, pair_parts}
 use Rattle.tcc_graph.proofs.WriterLemmas.{writer_listed}
-use Rattle.tcc_check.specs.Latest.{AreApart, AreReadsKept, KeepsSessions, StandBefore}
-use Rattle.tcc_check.specs.SinglePairs.{AreSourcePlaces, DoSessionsStand, DoSourcesStand, DoesSessionStand, DoesWriterStand}
+use Rattle.tcc_check.specs.private.Latest.{AreApart, AreReadsKept, KeepsSessions, StandBefore}
+use Rattle.tcc_check.specs.private.SinglePairs.{AreSourcePlaces, DoSessionsStand, DoSourcesStand, DoesSessionStand, DoesWriterStand}
 use Rattle.tcc_check.proofs.KeyOrder.{one_place}
 use Rattle.tcc_check.proofs.Sessions.{by_keys, from_map, initial_before, read_listed, strictly_before}
 

@@ -9,13 +9,13 @@ use Rattle.tcc_graph.specs.declared.level.Level.{Level}
 use Rattle.tcc_graph.specs.declared.level.Level.TheVariants.{Causal}
 use Rattle.tcc_cert.specs.OrderRules.{HasClocks, HasInClock, MayReach, KeepsPairs, BreaksAxiom}
 use Rattle.tcc_cert.specs.Rules.{HoldsEverywhere}
-use Rattle.tcc_check.specs.Searches.{IsFoundBelow}
-use Rattle.tcc_check.specs.Weights.{unlinked, IsLeastRow}
-use Rattle.tcc_check.specs.WeightsFrom.{ContradictsBy}
-use Rattle.tcc_check.specs.Places.{ArePlaces, IsKept, IsBehind, order_claim}
+use Rattle.tcc_check.specs.private.Searches.{IsFoundBelow}
+use Rattle.tcc_check.specs.private.Weights.{unlinked, IsLeastRow}
+use Rattle.tcc_check.specs.private.WeightsFrom.{ContradictsBy}
+use Rattle.tcc_check.specs.private.Places.{ArePlaces, IsKept, IsBehind, order_claim}
 use Rattle.tcc_graph.proofs.Numberings.{one_place}
 use Rattle.tcc_graph.proofs.Pairs.{session_below, pair_below}
-use Rattle.tcc_check.specs.Latest.{AreSessionsKept, AreApart, AreReadsKept}
+use Rattle.tcc_check.specs.private.Latest.{AreSessionsKept, AreApart, AreReadsKept}
 use Rattle.tcc_check.proofs.Entries.{entry_past}
 use Rattle.tcc_check.proofs.Found.{found_as}
 

@@ -3,10 +3,10 @@ use Rattle.std.proofs.Common.{◌≡◌, ◌<◌, ◌≤◌, ◌+◌, ◌-◌, �
 use Rattle.std.specs.Prelude.{All}
 use Rattle.std.proofs.lemmas.Bool.{cases_eq, cases_lt}
 use Rattle.std.proofs.lemmas.List.{get_or_default}
-use Rattle.tcc_check.specs.Weights.{AreByWeight}
-use Rattle.tcc_check.specs.Groups.{AreGroupsOf, links_by, total}
-use Rattle.tcc_check.specs.Searches.{IsFoundBelow, IsOvershot, IsOvershotAt, IsLongOther, lesser}
-use Rattle.tcc_check.specs.WeightsFrom.{ends_of}
+use Rattle.tcc_check.specs.private.Weights.{AreByWeight}
+use Rattle.tcc_check.specs.private.Groups.{AreGroupsOf, links_by, total}
+use Rattle.tcc_check.specs.private.Searches.{IsFoundBelow, IsOvershot, IsOvershotAt, IsLongOther, lesser}
+use Rattle.tcc_check.specs.private.WeightsFrom.{ends_of}
 use Rattle.tcc_check.proofs.Entries.{capped_at}
 use Rattle.tcc_check.proofs.Found.{found_as, found_either, found_here}
 use Rattle.tcc_check.proofs.Grouped.{in-group, length-links, part-at, part-long, total-more, total-within}

@@ -4,7 +4,7 @@ use Rattle.tcc_cert.specs.Ahead.{IsAhead}
 use Rattle.tcc_cert.specs.Parts.{Parts}
 use Rattle.tcc_cert.specs.declared.part.Part.{Part}
 use Rattle.tcc_cert.specs.declared.reading.parts.CertReader.{CertReader}
-use Rattle.tcc_check.specs.Coming.{Takes}
+use Rattle.tcc_check.specs.private.Coming.{Takes}
 use Rattle.tcc_check.proofs.ComingFacts.{first-fault, first-line}
 
 -- what is left of the parts of the first reader is what the second has

@@ -6,7 +6,7 @@ use Rattle.std.specs.List.{Contains, list_any}
 use Rattle.std.proofs.lemmas.Bool.{cases_eq, false≢true, or_cases, or_parts, eqb-true, eq-eqb, both_ways}
 use Rattle.std.proofs.lemmas.List.{get_or_default, get_or-set_same, get_or-set_other, length-set, get_or-replicate, length-replicate}
 use Rattle.tcc_graph.specs.Orders.{IsNumbering}
-use Rattle.tcc_check.specs.Places.{ArePlaces}
+use Rattle.tcc_check.specs.private.Places.{ArePlaces}
 
 -- stands for a number that was not seen
 abbrev pub unplaced : ℕ

@@ -9,10 +9,10 @@ use Rattle.tcc_graph.proofs.Pairs.{pair_below}
 use Rattle.tcc_cert.specs.declared.version.Version.{Version}
 use Rattle.tcc_cert.specs.Tables.{entry, far_entry, lowest, row_of}
 use Rattle.tcc_cert.specs.CycleRules.{BreaksNearPair, BreaksNearStep, BreaksFarLink, BreaksFarStep, BreaksReturn}
-use Rattle.tcc_check.specs.Runs.{AreRuns}
-use Rattle.tcc_check.specs.Searches.{IsFirstLong, IsFoundBelow, IsLongPair, IsLongSingle, IsLongStep}
-use Rattle.tcc_check.specs.WeightsFrom.{AreAllEnds, AreEnds, ReadWeighs, WeighsFrom, ends_of}
-use Rattle.tcc_check.specs.Coming.{IsFoundBefore, first_of}
+use Rattle.tcc_check.specs.private.Runs.{AreRuns}
+use Rattle.tcc_check.specs.private.Searches.{IsFirstLong, IsFoundBelow, IsLongPair, IsLongSingle, IsLongStep}
+use Rattle.tcc_check.specs.private.WeightsFrom.{AreAllEnds, AreEnds, ReadWeighs, WeighsFrom, ends_of}
+use Rattle.tcc_check.specs.private.Coming.{IsFoundBefore, first_of}
 use Rattle.tcc_check.proofs.Entries.{capped_at}
 use Rattle.tcc_check.proofs.First.{first_in_row, holds_more}
 

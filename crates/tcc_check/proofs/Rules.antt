@@ -7,9 +7,9 @@ use Rattle.tcc_cert.specs.declared.version.Version.{Version}
 use Rattle.tcc_cert.specs.CycleRules.{BreaksNearPair, BreaksNearStep, BreaksFarLink, BreaksFarStep, BreaksReturn}
 use Rattle.tcc_check.specs.declared.far_rows.FarFaults.{FarFaults}
 use Rattle.tcc_check.specs.declared.near_rows.NearFaults.{NearFaults}
-use Rattle.tcc_check.specs.Coming.{AreFoundBefore, IsFoundBefore, IsNearFoundTo, far_verdict, near_verdict, verdict_by}
-use Rattle.tcc_check.specs.Judged.{far_rules, near_rules}
-use Rattle.tcc_check.specs.Verdicts.{IsAnswer}
+use Rattle.tcc_check.specs.private.Coming.{AreFoundBefore, IsFoundBefore, IsNearFoundTo, far_verdict, near_verdict, verdict_by}
+use Rattle.tcc_check.specs.private.Judged.{far_rules, near_rules}
+use Rattle.tcc_check.specs.private.Searches.{IsAnswer}
 use Rattle.tcc_check.proofs.First.{nowhere}
 
 module _ (h : History) (level : Level) (near : List (List ℕ)) where

@@ -21,9 +21,9 @@ use Rattle.tcc_graph.specs.declared.level.Level.TheVariants.{Causal}
 use Rattle.tcc_cert.specs.Tables.{row_of, entry}
 use Rattle.tcc_graph.proofs.Pairs.{PairParts, pair_parts, lower_first, initial_pair}
 use Rattle.tcc_cert.specs.OrderRules.{MayReach}
-use Rattle.tcc_check.specs.Latest.{is_within, IsCountWithin, IsLastWithin, AreSessionsKept, AreOwned, AreApart, AreRising}
-use Rattle.tcc_check.specs.Latest.{KeepsSessions}
-use Rattle.tcc_check.specs.Latest.{KeepsPairsBy, StandBefore, StandAllBefore, IsReadKept}
+use Rattle.tcc_check.specs.private.Latest.{is_within, IsCountWithin, IsLastWithin, AreSessionsKept, AreOwned, AreApart, AreRising}
+use Rattle.tcc_check.specs.private.Latest.{KeepsSessions}
+use Rattle.tcc_check.specs.private.Latest.{KeepsPairsBy, StandBefore, StandAllBefore, IsReadKept}
 use Rattle.tcc_graph.proofs.WriterLemmas.{writer_listed}
 
 module _ (h : History) (ordered : IsBySession h.entries) where

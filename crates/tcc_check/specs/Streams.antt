@@ -1,12 +1,10 @@
 -- What is answered of a certificate whose text a reader gives.
-use Rattle.std.specs.Prelude.{ℕ, ◌≡◌, ◌≢◌, List, Bool, true, false, if◌then◌else◌, Result, Ok, Err}
+use Rattle.std.specs.Prelude.{ℕ, ◌≡◌, ◌≢◌, List, Result, Ok, Err}
 use Rattle.tcc_reads.specs.History.{History}
 use Rattle.tcc_cert.specs.Outcomes.{IsReading}
 use Rattle.tcc_cert.specs.Reading.{certificate_read}
 use Rattle.tcc_cert.specs.declared.certificate.Certificate.{Certificate}
 use Rattle.tcc_cert.specs.declared.certificate.Certificate.TheVariants as certificate
-use Rattle.tcc_cert.specs.declared.fault.CertFault.{CertFault}
-use Rattle.tcc_cert.specs.declared.fault.CertFaultKind.{CertFaultKind}
 use Rattle.tcc_cert.specs.declared.fault.CertFaultKind.TheVariants as kind
 use Rattle.tcc_check.specs.declared.judgement.Claim.{Claim}
 use Rattle.tcc_check.specs.declared.judgement.Claim.TheVariants as claim
@@ -15,14 +13,6 @@ use Rattle.tcc_check.specs.declared.stream_fault.StreamFault.{StreamFault}
 use Rattle.tcc_check.specs.declared.stream_fault.StreamFault.TheVariants.{Text, NoMemory}
 use Rattle.tcc_check.specs.declared.verdict.Verdict.{Verdict}
 use Rattle.tcc_check.specs.Verdicts.{IsVerdict}
-
-abbrev pub is_want_of_memory : CertFaultKind → Bool
-is_want_of_memory kind.NoMemory = true
-is_want_of_memory _ = false
-
--- `NoMemory` stands by itself, and other faults with their lines
-abbrev pub fault_of : CertFault → StreamFault
-fault_of fault = if is_want_of_memory fault.kind then NoMemory else Text fault
 
 -- what a certificate claims, without all by which the claim is judged
 abbrev pub claim_of : Certificate → Claim

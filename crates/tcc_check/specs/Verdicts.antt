@@ -4,7 +4,7 @@ use Rattle.tcc_reads.specs.History.{History}
 use Rattle.tcc_graph.specs.declared.level.Level.{Level}
 use Rattle.tcc_cert.specs.declared.version.Version.{Version}
 use Rattle.tcc_cert.specs.Tables.{IsFirstPlace}
-use Rattle.tcc_cert.specs.CycleRules.{CycleClaim, cycle_judged, HasRightSizes, IsLinkWrong}
+use Rattle.tcc_cert.specs.CycleRules.{CycleClaim, HasRightSizes, IsLinkWrong}
 use Rattle.tcc_cert.specs.CycleRules.{BreaksNearPair, BreaksNearStep, BreaksFarLink, BreaksFarStep}
 use Rattle.tcc_cert.specs.CycleRules.{BreaksReturn}
 use Rattle.tcc_cert.specs.OrderRules.{OrderClaim, HasOrderSizes, KeepsPairs, BreaksAxiom}
@@ -18,6 +18,7 @@ use Rattle.tcc_check.specs.declared.verdict.Rule.{Rule}
 use Rattle.tcc_check.specs.declared.verdict.Rule.TheVariants.{Sizes, Links, NearPairs, NearSteps, FarLinks, FarSteps, Returns, Pairs, Axiom}
 use Rattle.tcc_check.specs.declared.verdict.Verdict.{Verdict}
 use Rattle.tcc_check.specs.declared.verdict.Verdict.TheVariants as verdict
+use Rattle.tcc_graph.specs.Levels.{judged}
 
 abbrev pub rule_number : Rule → ℕ
 rule_number Sizes = 1
@@ -47,8 +48,8 @@ by_places rule broken = record { rule = rule; holds = HoldsEverywhere broken; br
 -- where the rule on links is broken: at the first link that is not right, from 1, or, where all are, at 0
 abbrev pub IsCycleFault : History → CycleClaim → ℕ × ℕ → Type 0
 IsCycleFault h k at =
-    (IsLinkWrong (cycle_judged h k) k.links at.0 × ((at.1 ≡ 0) × ((i : ℕ) → i < at.0 → IsLinkWrong (cycle_judged h k) k.links i → ⊥)))
-    ⊎ ((at ≡ (0, 0)) × (((i : ℕ) → IsLinkWrong (cycle_judged h k) k.links i → ⊥) × (IsRightCycle h k → ⊥)))
+    (IsLinkWrong (judged h k.level) k.links at.0 × ((at.1 ≡ 0) × ((i : ℕ) → i < at.0 → IsLinkWrong (judged h k.level) k.links i → ⊥)))
+    ⊎ ((at ≡ (0, 0)) × (((i : ℕ) → IsLinkWrong (judged h k.level) k.links i → ⊥) × (IsRightCycle h k → ⊥)))
 
 -- the rules on the tables of a claim that a cycle is least, in order
 abbrev pub bounds_rules : History → Version → Level → ℕ → List (List ℕ) → List (List ℕ) → List Asked
@@ -92,11 +93,6 @@ abbrev pub IsFirstBroken : List Asked → Rule → ℕ × ℕ → Type 0
 IsFirstBroken [] rule at = ⊥
 IsFirstBroken (asked ∷ later) rule at = ((rule ≡ asked.rule) × asked.broken at) ⊎ (asked.holds × IsFirstBroken later rule at)
 
--- what these rules say
-abbrev pub IsAnswer : List Asked → Verdict → Type 0
-IsAnswer rules verdict.Accepted = AllHold rules
-IsAnswer rules (verdict.Rejected rule at) = IsFirstBroken rules rule at
-
 -- accepted exactly where the certificate certifies its claim, else the first broken rule
 abbrev pub IsVerdict : History → Certificate → Verdict → Type 0
 IsVerdict h k verdict.Accepted = Certifies h k
@@ -109,6 +105,6 @@ IsRejected h k rule at = IsVerdict h k (verdict.Rejected rule at)
 -- what the certificate claims is true at its level
 abbrev pub IsTrueClaim : History → Certificate → Type 0
 IsTrueClaim h (claim.Order version level order sessions clocks) =
-    IsCommitOrder (record { history = h; level = level }) order
+    IsCommitOrder (judged h level) order
 IsTrueClaim h (claim.Cycle version level links least near far) =
-    ((s : ℕ) × IsLeastCycle (record { history = h; level = level }) s links) × (cost links ≡ least)
+    ((s : ℕ) × IsLeastCycle (judged h level) s links) × (cost links ≡ least)

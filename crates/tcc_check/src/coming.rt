@@ -3,7 +3,7 @@ ghost use Rattle.std.specs.Prelude.{◌≡◌, ◌⊎◌, ◌<◌, ◌↔◌, �
 ghost use Rattle.tcc_cert.specs.Ahead.{IsAhead, is_claim, is_new, rows_left};
 ghost use Rattle.tcc_cert.specs.Parts.{Parts};
 ghost use Rattle.tcc_cert.specs.declared.part.Part.TheVariants as part;
-ghost use Rattle.tcc_check.specs.Coming.{Finishes, Takes};
+ghost use Rattle.tcc_check.specs.private.Coming.{Finishes, Takes};
 
 use crate::StreamFault;
 use std::alloc::Global;

@@ -4,8 +4,9 @@ ghost use Rattle.tcc_reads.specs.History.{count};
 ghost use Rattle.tcc_graph.specs.declared.level.Level.{Level};
 ghost use Rattle.tcc_cert.specs.Tables.{HasSize, HasFarSize, IsCapped};
 ghost use Rattle.tcc_cert.specs.CycleRules.{HasRightSizes};
-ghost use Rattle.tcc_check.specs.Judged.{cycle_claim};
-ghost use Rattle.tcc_check.specs.Verdicts.{IsAnswer, bounds_rules, cycle_rules};
+ghost use Rattle.tcc_check.specs.private.Judged.{cycle_claim};
+ghost use Rattle.tcc_check.specs.Verdicts.{bounds_rules, cycle_rules};
+ghost use Rattle.tcc_check.specs.private.Searches.{IsAnswer};
 
 use crate::far_rows::far_table;
 use crate::links::links_verdict;

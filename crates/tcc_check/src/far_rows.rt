@@ -6,9 +6,9 @@ ghost use Rattle.tcc_cert.specs.Ahead.{IsAhead};
 ghost use Rattle.tcc_cert.specs.Parts.{Parts};
 ghost use Rattle.tcc_cert.specs.Tables.{HasFarSize, IsCapped, row_of, lowest};
 ghost use Rattle.tcc_cert.specs.declared.part.Part.TheVariants as part;
-ghost use Rattle.tcc_check.specs.Coming.{AreFoundBefore, IsFarRight, Leaves, far_verdict};
-ghost use Rattle.tcc_check.specs.Judged.{AreLinksOf, IsFarJudged, IsOrderly, far_rules};
-ghost use Rattle.tcc_check.specs.Verdicts.{IsAnswer};
+ghost use Rattle.tcc_check.specs.private.Coming.{AreFoundBefore, IsFarRight, Leaves, far_verdict};
+ghost use Rattle.tcc_check.specs.private.Judged.{AreLinksOf, IsFarJudged, IsOrderly, far_rules};
+ghost use Rattle.tcc_check.specs.private.Searches.{IsAnswer};
 
 use crate::StreamFault;
 use crate::coming::next_part;

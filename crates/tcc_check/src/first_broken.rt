@@ -1,10 +1,10 @@
 //! The first place of a row at which it has more than a link takes.
 ghost use Rattle.std.specs.Prelude.{◌≡◌, ◌<◌, ◌≤◌, ◌+◌, ◌^◌, length, All};
 ghost use Rattle.tcc_reads.specs.History.{count};
-ghost use Rattle.tcc_check.specs.Runs.{HasRuns};
-ghost use Rattle.tcc_check.specs.Searches.{IsFoundBelow, IsLongPair, IsLongRunTo, IsLongSingle, IsLongStep, IsOvershot, IsOvershotAt, lesser};
-ghost use Rattle.tcc_check.specs.Searches.{IsFirstLong};
-ghost use Rattle.tcc_check.specs.Weights.{AreByWeight};
+ghost use Rattle.tcc_check.specs.private.Runs.{HasRuns};
+ghost use Rattle.tcc_check.specs.private.Searches.{IsFoundBelow, IsLongPair, IsLongRunTo, IsLongSingle, IsLongStep, IsOvershot, IsOvershotAt, lesser};
+ghost use Rattle.tcc_check.specs.private.Searches.{IsFirstLong};
+ghost use Rattle.tcc_check.specs.private.Weights.{AreByWeight};
 
 use crate::groups::Groups;
 use crate::links_from::UNLINKED;

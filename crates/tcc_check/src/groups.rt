@@ -14,7 +14,7 @@ pub(crate) struct Groups {
 
 impl Model for Groups {
     ghost use Rattle.std.specs.Prelude.{ℕ, List};
-    ghost use Rattle.tcc_check.specs.Groups.{AreGroupsOf, links_by};
+    ghost use Rattle.tcc_check.specs.private.Groups.{AreGroupsOf, links_by};
 
     ghost Value = { List (ℕ × ℕ) };
 
@@ -42,7 +42,7 @@ fn goes_on(by: u32, next: u32, count: u32) -> bool
 }
 
 impl Groups {
-    ghost use Rattle.tcc_check.specs.Groups.{AreGroupsOf, links_by};
+    ghost use Rattle.tcc_check.specs.private.Groups.{AreGroupsOf, links_by};
 
     /// These transactions, each with what it is grouped by.
     pub(crate) fn new(alloc: Global, all: &[(u32, u32)]) -> Result<Groups, AllocError>

@@ -5,8 +5,8 @@ ghost use Rattle.tcc_reads.specs.History.{IsBySession, count, owner};
 ghost use Rattle.tcc_graph.specs.Keys.{key_at, keys};
 ghost use Rattle.tcc_graph.specs.declared.level.Level.TheVariants.{Causal};
 ghost use Rattle.tcc_cert.specs.OrderRules.{HasClocks, MayReach};
-ghost use Rattle.tcc_check.specs.Latest.{is_within, IsCountWithin, IsLastWithin, AreOwned, AreRising, KeepsSessions};
-ghost use Rattle.tcc_check.specs.Latest.{KeepsPairsBy, StandBefore, StandAllBefore, IsReadKept, AreReadsKept};
+ghost use Rattle.tcc_check.specs.private.Latest.{is_within, IsCountWithin, IsLastWithin, AreOwned, AreRising, KeepsSessions};
+ghost use Rattle.tcc_check.specs.private.Latest.{KeepsPairsBy, StandBefore, StandAllBefore, IsReadKept, AreReadsKept};
 
 use crate::order::clock_gap;
 use crate::single_pairs::are_reads_kept_by_pairs;

@@ -1,11 +1,11 @@
 //! The law that what a certificate claims is true where it keeps the rules.
 ghost use Rattle.std.specs.Prelude.{ℕ, ◌≡◌, ◌↔◌};
 ghost use Rattle.tcc_reads.specs.History.{History};
-ghost use Rattle.tcc_graph.specs.Levels.{Judged};
+ghost use Rattle.tcc_graph.specs.Levels.{Judged, judged};
 ghost use Rattle.tcc_graph.specs.Links.{cost};
 ghost use Rattle.tcc_graph.specs.Routes.{IsLeastCycle};
 ghost use Rattle.tcc_graph.specs.Orders.{IsCommitOrder};
-ghost use Rattle.tcc_cert.specs.CycleRules.{CycleClaim, cycle_judged};
+ghost use Rattle.tcc_cert.specs.CycleRules.{CycleClaim};
 ghost use Rattle.tcc_cert.specs.OrderRules.{OrderClaim};
 ghost use Rattle.tcc_cert.specs.Rules.{CertifiesCycle, CertifiesOrder, Certifies};
 ghost use Rattle.tcc_cert.specs.declared.certificate.Certificate.{Certificate};
@@ -14,12 +14,12 @@ ghost use Rattle.tcc_check.specs.Verdicts.{AllHold, IsRejected, IsTrueClaim, rul
 
 /// The links of a certified cycle are a least cycle at the level of the claim, and cost what is claimed.
 pub fn certified_cycle()
-    ensures { (h : History) (k : CycleClaim) → CertifiesCycle h k → ((s : ℕ) × IsLeastCycle (cycle_judged h k) s k.links) × (cost k.links ≡ k.least) }
+    ensures { (h : History) (k : CycleClaim) → CertifiesCycle h k → ((s : ℕ) × IsLeastCycle (judged h k.level) s k.links) × (cost k.links ≡ k.least) }
 {}
 
 /// A certified order is a commit order at the level of the claim.
 pub fn certified_order()
-    ensures { (h : History) (k : OrderClaim) → CertifiesOrder h k → IsCommitOrder (record { history = h; level = k.level }) k.order }
+    ensures { (h : History) (k : OrderClaim) → CertifiesOrder h k → IsCommitOrder (judged h k.level) k.order }
 {}
 
 /// What a certificate claims, of whatever version and level, is true where it keeps the rules.

@@ -1,7 +1,7 @@
 //! The rule on the links of a cycle, one link after the other.
 ghost use Rattle.std.specs.Prelude.{◌≡◌, ◌+◌, ◌<◌, ◌++◌, ◌↔◌, ℕ, All, IfOk, IsTrue, List, MatchOption, Some, get_or, length, map};
 ghost use Rattle.tcc_reads.specs.History.{History, count};
-ghost use Rattle.tcc_graph.specs.Levels.{Judged};
+ghost use Rattle.tcc_graph.specs.Levels.{Judged, judged};
 ghost use Rattle.tcc_graph.specs.Links.{link_from, link_to, link_cost};
 ghost use Rattle.tcc_graph.specs.declared.level.Level.{Level};
 ghost use Rattle.tcc_graph.specs.declared.link.Link.{Link};
@@ -11,10 +11,10 @@ ghost use Rattle.tcc_cert.specs.Parts.{Parts};
 ghost use Rattle.tcc_cert.specs.declared.part.Part.{Part};
 ghost use Rattle.tcc_cert.specs.declared.part.Part.TheVariants as part;
 ghost use Rattle.tcc_cert.specs.declared.version.Version.{Version};
-ghost use Rattle.tcc_check.specs.Coming.{Leaves};
-ghost use Rattle.tcc_check.specs.Judged.{AreLinksJudged, cycle_claim, links_rules};
-ghost use Rattle.tcc_check.specs.Links.{AreSeenTo, IsBrokenAt, ends_or, first_wrong, left_behind};
-ghost use Rattle.tcc_check.specs.Verdicts.{IsAnswer};
+ghost use Rattle.tcc_check.specs.private.Coming.{Leaves};
+ghost use Rattle.tcc_check.specs.private.Judged.{AreLinksJudged, cycle_claim, links_rules};
+ghost use Rattle.tcc_check.specs.private.Links.{AreSeenTo, IsBrokenAt, ends_or, first_wrong, left_behind};
+ghost use Rattle.tcc_check.specs.private.Searches.{IsAnswer};
 
 use crate::StreamFault;
 use crate::coming::next_part;
@@ -68,7 +68,7 @@ fn link_cost(link: &Link) -> usize
 
 /// Whether the link begins there and is one of the history.
 fn is_link_right(graph: &Graph, level: Level, at: u32, link: &Link) -> bool
-    ensures { IsTrue result ↔ IsLinkRight (record { history = graph.now; level = level }) at link.now }
+    ensures { IsTrue result ↔ IsLinkRight (judged graph.now level) at link.now }
 {
     link_from(link) == at && graph.is_link(level, link)
 }
@@ -117,8 +117,8 @@ fn no_links(least: u32) -> LinksSeen
 /// One link more, the one of this number, from 1.
 fn with_link(seen: LinksSeen, graph: &Graph, level: Level, number: usize, link: &Link) -> LinksSeen
     ensures { (least i : ℕ) (links : List Link) → number ≡ i + 1 → i < length links → link.now ≡ get_or links i link.now
-        → AreSeenTo (record { history = graph.now; level = level }) least links i seen
-        → AreSeenTo (record { history = graph.now; level = level }) least links (i + 1) result }
+        → AreSeenTo (judged graph.now level) least links i seen
+        → AreSeenTo (judged graph.now level) least links (i + 1) result }
 {
     let (begin, at) = ends_or(seen.ends, link_from(link));
     let is_right = is_link_right(graph, level, at, link);
@@ -144,7 +144,7 @@ fn is_used_up(left: Option<usize>) -> bool
 /// rule holds.
 fn broken_at(seen: LinksSeen) -> Option<usize>
     ensures { (h : History) (version : Version) (level : Level) (least : ℕ) (links : List Link) (near far : List (List ℕ))
-        → AreSeenTo (record { history = h; level = level }) least links (length links) seen
+        → AreSeenTo (judged h level) least links (length links) seen
         → IsBrokenAt h (cycle_claim version level links least near far) result }
 {
     let Some((begin, end)) = seen.ends else {
@@ -162,7 +162,7 @@ fn broken_at(seen: LinksSeen) -> Option<usize>
 /// The verdict of the rule, where all links came.
 fn seen_verdict(seen: LinksSeen) -> Result<Verdict, NoMemory>
     ensures { (h : History) (version : Version) (level : Level) (least : ℕ) (links : List Link) (near far : List (List ℕ))
-        → AreSeenTo (record { history = h; level = level }) least links (length links) seen
+        → AreSeenTo (judged h level) least links (length links) seen
         → IfOk result (IsAnswer (links_rules h (cycle_claim version level links least near far))) }
 {
     let Some(place) = broken_at(seen) else {

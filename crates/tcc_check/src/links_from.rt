@@ -5,10 +5,10 @@ ghost use Rattle.tcc_txn.specs.declared.limits.TheConstants.{MAX_COUNT};
 ghost use Rattle.tcc_reads.specs.History.{count};
 ghost use Rattle.tcc_graph.specs.Keys.{keys};
 ghost use Rattle.tcc_graph.specs.Relations.{IsCausalPair};
-ghost use Rattle.tcc_check.specs.Readings.{AreReadings, PlaceWeighs};
-ghost use Rattle.tcc_check.specs.Weights.{IsLeastRow, IsLowered, unlinked};
-ghost use Rattle.tcc_check.specs.WeightsFrom.{AreAllEnds, AreEnds, AreLightEnds, BetweenWeighs, ContradictsBy};
-ghost use Rattle.tcc_check.specs.WeightsFrom.{InitContradictsBy, MarkWeighs, ReadWeighs, SourceWeighs, WeighsFrom};
+ghost use Rattle.tcc_check.specs.private.Readings.{AreReadings, PlaceWeighs};
+ghost use Rattle.tcc_check.specs.private.Weights.{IsLeastRow, IsLowered, unlinked};
+ghost use Rattle.tcc_check.specs.private.WeightsFrom.{AreAllEnds, AreEnds, AreLightEnds, BetweenWeighs, ContradictsBy};
+ghost use Rattle.tcc_check.specs.private.WeightsFrom.{InitContradictsBy, MarkWeighs, ReadWeighs, SourceWeighs, WeighsFrom};
 
 use crate::groups::Groups;
 use crate::readings::{least_of, lower_place};

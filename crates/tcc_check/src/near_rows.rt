@@ -7,9 +7,9 @@ ghost use Rattle.tcc_cert.specs.Ahead.{IsAhead};
 ghost use Rattle.tcc_cert.specs.Parts.{Parts};
 ghost use Rattle.tcc_cert.specs.Tables.{HasSize, IsCapped, row_of};
 ghost use Rattle.tcc_cert.specs.declared.part.Part.TheVariants as part;
-ghost use Rattle.tcc_check.specs.Coming.{IsNearFoundTo, IsNearRight, Leaves, near_verdict};
-ghost use Rattle.tcc_check.specs.Judged.{AreNearRowsTo, IsNearJudged, IsOrderly, judged};
-ghost use Rattle.tcc_check.specs.Pairs.{AreOrderly, ArePairs};
+ghost use Rattle.tcc_check.specs.private.Coming.{IsNearFoundTo, IsNearRight, Leaves, near_verdict};
+ghost use Rattle.tcc_check.specs.private.Judged.{AreNearRowsTo, IsNearJudged, IsOrderly, judged};
+ghost use Rattle.tcc_check.specs.private.Pairs.{AreOrderly, ArePairs};
 
 use crate::StreamFault;
 use crate::coming::next_part;

@@ -7,10 +7,10 @@ ghost use Rattle.tcc_graph.specs.declared.level.Level.TheVariants.{Causal};
 ghost use Rattle.tcc_cert.specs.Tables.{entry, HasSize, IsFirstPlace};
 ghost use Rattle.tcc_cert.specs.OrderRules.{HasClocks, HasInClock, MayReach, HasOrderSizes, KeepsPairs, BreaksAxiom};
 ghost use Rattle.tcc_cert.specs.Rules.{HoldsEverywhere};
-ghost use Rattle.tcc_check.specs.Searches.{IsFoundBelow};
-ghost use Rattle.tcc_check.specs.Places.{ArePlaces, IsKept, IsBehind, order_claim};
-ghost use Rattle.tcc_check.specs.Readings.{AreReadings};
-ghost use Rattle.tcc_check.specs.Verdicts.{IsAnswer, order_rules};
+ghost use Rattle.tcc_check.specs.private.Searches.{IsFoundBelow, IsAnswer};
+ghost use Rattle.tcc_check.specs.private.Places.{ArePlaces, IsKept, IsBehind, order_claim};
+ghost use Rattle.tcc_check.specs.private.Readings.{AreReadings};
+ghost use Rattle.tcc_check.specs.Verdicts.{order_rules};
 
 use crate::groups::Groups;
 use crate::latest::keeps_axiom;

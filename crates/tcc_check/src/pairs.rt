@@ -1,6 +1,6 @@
 //! What is known of the causal pairs of a history before a table comes.
 ghost use Rattle.std.specs.Prelude.{IfOk};
-ghost use Rattle.tcc_check.specs.Pairs.{ArePairs};
+ghost use Rattle.tcc_check.specs.private.Pairs.{ArePairs};
 
 use crate::groups::Groups;
 use crate::links_from::read_ends;

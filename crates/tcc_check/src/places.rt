@@ -1,7 +1,7 @@
 //! The places of the numbers of an order.
 ghost use Rattle.std.specs.Prelude.{◌≡◌, ◌<◌, ◌-◌, ◌^◌, length, IfOk, MatchOption};
 ghost use Rattle.tcc_graph.specs.Orders.{IsNumbering};
-ghost use Rattle.tcc_check.specs.Places.{ArePlaces};
+ghost use Rattle.tcc_check.specs.private.Places.{ArePlaces};
 
 use std::alloc::Global;
 use tcc_txn::NoMemory;

@@ -4,8 +4,8 @@ ghost use Rattle.std.specs.Prelude.{ℕ, ◌⊎◌};
 ghost use Rattle.tcc_txn.specs.declared.limits.TheConstants.{MAX_COUNT};
 ghost use Rattle.tcc_reads.specs.History.{count};
 ghost use Rattle.tcc_graph.specs.Keys.{keys};
-ghost use Rattle.tcc_check.specs.Readings.{AreReadings, AreReadingsAt, KeyWeighs, PairWeighs, ReadingWeighs};
-ghost use Rattle.tcc_check.specs.Weights.{IsLowered, unlinked};
+ghost use Rattle.tcc_check.specs.private.Readings.{AreReadings, AreReadingsAt, KeyWeighs, PairWeighs, ReadingWeighs};
+ghost use Rattle.tcc_check.specs.private.Weights.{IsLowered, unlinked};
 
 use crate::groups::Groups;
 use crate::links_from::UNLINKED;

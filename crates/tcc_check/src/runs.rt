@@ -1,7 +1,7 @@
 //! Runs of session pairs: how far back each transaction's session goes on without a break.
 ghost use Rattle.std.specs.Prelude.{◌≡◌, IfOk};
 ghost use Rattle.tcc_reads.specs.History.{IsBySession};
-ghost use Rattle.tcc_check.specs.Runs.{AreRuns};
+ghost use Rattle.tcc_check.specs.private.Runs.{AreRuns};
 
 use crate::previous::previous;
 use std::alloc::Global;

@@ -4,8 +4,8 @@ ghost use Rattle.std.specs.Prelude.{ℕ, ◌≡◌, ◌<◌, List, IfOk, IsTrue,
 ghost use Rattle.tcc_reads.specs.History.{count};
 ghost use Rattle.tcc_graph.specs.Keys.{keys};
 ghost use Rattle.tcc_graph.specs.declared.level.Level.TheVariants.{Atomic};
-ghost use Rattle.tcc_check.specs.Latest.{AreApart, AreReadsKept, AreRising, KeepsSessions};
-ghost use Rattle.tcc_check.specs.SinglePairs.{AreSourcePlaces, DoSessionsStand, DoSourcesStand, DoesSessionStand, DoesWriterStand};
+ghost use Rattle.tcc_check.specs.private.Latest.{AreApart, AreReadsKept, AreRising, KeepsSessions};
+ghost use Rattle.tcc_check.specs.private.SinglePairs.{AreSourcePlaces, DoSessionsStand, DoSourcesStand, DoesSessionStand, DoesWriterStand};
 
 use crate::latest::stands_before;
 use std::alloc::Global;

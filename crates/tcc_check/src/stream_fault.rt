@@ -1,6 +1,6 @@
 //! Why a certificate could not be judged as its text came.
 ghost use Rattle.std.specs.Prelude.{◌≡◌};
-ghost use Rattle.tcc_check.specs.Streams.{fault_of};
+ghost use Rattle.tcc_check.specs.private.Coming.{fault_of};
 ghost use Rattle.tcc_check.specs.declared.stream_fault.StreamFault.TheVariants as fault;
 
 use std::alloc::AllocFailed;

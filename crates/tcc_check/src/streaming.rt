@@ -5,8 +5,8 @@ ghost use Rattle.tcc_cert.specs.CycleRules.{HasRightSizes};
 ghost use Rattle.tcc_cert.specs.Parts.{Parts, parts_read};
 ghost use Rattle.tcc_cert.specs.declared.part.Part.TheVariants as part;
 ghost use Rattle.tcc_graph.specs.declared.link.Link.{Link};
-ghost use Rattle.tcc_check.specs.Coming.{Finishes, Leaves, sized};
-ghost use Rattle.tcc_check.specs.Judged.{IsClaimJudged, IsCycleJudged, IsOrderJudged, claim_with};
+ghost use Rattle.tcc_check.specs.private.Coming.{Finishes, Leaves, sized};
+ghost use Rattle.tcc_check.specs.private.Judged.{IsClaimJudged, IsCycleJudged, IsOrderJudged, claim_with};
 ghost use Rattle.tcc_check.specs.Streams.{IsJudged, IsStreamed};
 
 use crate::coming::{clock_rows, ends, next_part};

@@ -1,6 +1,6 @@
 //! What is answered of a certificate, and the rules that it names.
 ghost use Rattle.std.specs.Prelude.{◌≡◌};
-ghost use Rattle.tcc_check.specs.Coming.{first_of, first_rejected};
+ghost use Rattle.tcc_check.specs.private.Coming.{first_of, first_rejected};
 ghost use Rattle.tcc_check.specs.Verdicts.{rule_number};
 ghost use Rattle.tcc_check.specs.declared.verdict.Verdict.TheVariants as verdict;
 

@@ -8,8 +8,8 @@ use Rattle.tcc_derive.specs.Prices.{Tables, cost_at, IsPricesOf}
 use Rattle.tcc_core.specs.Rows.{in_row, cap_of, IsWithin}
 use Rattle.tcc_core.specs.Searches.{Search, IsSearchOf}
 use Rattle.tcc_core.specs.Frontiers.{HasCome, IsWay}
-use Rattle.tcc_core.specs.Offers.{IsLower, IsOffered, IsWayOn, IsWayOver}
-use Rattle.tcc_core.specs.Relaxing.{IsBounded}
+use Rattle.tcc_core.specs.private.Offers.{IsLower, IsOffered, IsWayOn, IsWayOver}
+use Rattle.tcc_core.specs.private.Relaxing.{IsBounded}
 use Rattle.tcc_core.proofs.Costs.{cost_of_link, link_of_cost, cost_few}
 use Rattle.tcc_core.proofs.Lowering.{within_cap, capped_low, within_row}
 use Rattle.tcc_core.proofs.Offered.{lower_least, lower_some, lower_then, offered_none, offered_then, offered_same}

@@ -9,8 +9,8 @@ use Rattle.std.proofs.lemmas.Grind.{get_or_default_zero}
 use Rattle.std.proofs.lemmas.Nat.{div-add-mod', mod_below}
 use Rattle.std.proofs.Math.Nat.{mul-le-mul_right}
 use Rattle.tcc_txn.specs.declared.limits.TheConstants.{MAX_COUNT}
-use Rattle.tcc_core.specs.Rings.{StandsIn}
-use Rattle.tcc_core.specs.Queues.{IsNearest, IsNext, IsFiled, IsOpen, IsShut, IsFar, IsListed, count_reached}
+use Rattle.tcc_core.specs.private.Rings.{StandsIn}
+use Rattle.tcc_core.specs.private.Queues.{IsNearest, IsNext, IsFiled, IsOpen, IsShut, IsFar, IsListed, count_reached}
 use Rattle.tcc_core.specs.declared.ring.TheConstants.{BUCKETS}
 use Rattle.tcc_core.specs.declared.queue.TheConstants.{NO_WAY}
 

@@ -8,12 +8,12 @@ use Rattle.tcc_graph.specs.Levels.{Judged}
 use Rattle.tcc_derive.specs.Limits.{AreWithin}
 use Rattle.tcc_derive.specs.Prices.{Tables, cost_at, end_of, others_at, IsLater, IsPricesOf}
 use Rattle.tcc_derive.proofs.LinksOnLemmas.{links_of}
-use Rattle.tcc_near.specs.Bits.{words_for}
+use Rattle.tcc_bits.specs.Bits.{words_for}
 use Rattle.tcc_derive.specs.ByClass.{HasLink, IsByClass}
 use Rattle.tcc_derive.specs.declared.by_class.ByClass.{ByClass}
 use Rattle.tcc_derive.specs.declared.by_class.Class.{Class}
-use Rattle.tcc_core.specs.Offers.{IsOffered, IsWayBy, IsWayOn, IsLinkWay, IsOfferedBy}
-use Rattle.tcc_core.specs.Levels.{AreClassed, IsClassWay, AreClasses}
+use Rattle.tcc_core.specs.private.Offers.{IsOffered, IsWayBy, IsWayOn, IsLinkWay, IsOfferedBy}
+use Rattle.tcc_core.specs.private.Levels.{AreClassed, IsClassWay, AreClasses}
 use Rattle.tcc_core.proofs.Offered.{offered_none, lower_least, lower_then}
 use Rattle.tcc_core.proofs.Marking.{IsLaterWay}
 use Rattle.tcc_core.proofs.Costs.{cost_paid, cost_few}

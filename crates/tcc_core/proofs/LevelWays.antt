@@ -5,12 +5,12 @@ use Rattle.std.specs.Int.{bit_at}
 use Rattle.std.proofs.lemmas.Bool.{cases_eq}
 use Rattle.std.proofs.lemmas.Nat.Bits.{bit_at-zero}
 use Rattle.std.proofs.lemmas.List.Elements.{All-set, All-weaker, Contains-append_left, Contains-push, Contains-push_cases}
-use Rattle.tcc_near.specs.Bits.{is_marked}
-use Rattle.tcc_near.proofs.BitLemmas.{bit_from, marked_within}
+use Rattle.tcc_bits.specs.Bits.{is_marked}
+use Rattle.tcc_bits.proofs.BitLemmas.{bit_from, marked_within}
 use Rattle.tcc_derive.specs.declared.by_class.Class.{Class}
-use Rattle.tcc_core.specs.Offers.{IsLower, IsOffered}
-use Rattle.tcc_core.specs.Marked.{IsMarkWay}
-use Rattle.tcc_core.specs.Levels.{HasRoom, IsLevel, AreLevels, IsClassWay}
+use Rattle.tcc_core.specs.private.Offers.{IsLower, IsOffered}
+use Rattle.tcc_core.specs.private.Marked.{IsMarkWay}
+use Rattle.tcc_core.specs.private.Levels.{HasRoom, IsLevel, AreLevels, IsClassWay}
 use Rattle.tcc_core.specs.declared.levels.Level.{Level}
 use Rattle.tcc_core.specs.declared.levels.TheConstants.{LEVELS}
 use Rattle.tcc_core.proofs.Offered.{lower_least, offered_none, offered_then, offered_same}

@@ -6,7 +6,7 @@ use Rattle.std.proofs.lemmas.Bool.{cases_lt, cond_both}
 use Rattle.std.proofs.lemmas.Bool.Decides.{eqb_tells}
 use Rattle.std.proofs.lemmas.Grind.{get_or_default_zero}
 use Rattle.tcc_core.specs.Rows.{in_row, cap_of, IsWithin, IsEmptyRow}
-use Rattle.tcc_core.specs.Relaxing.{count_joined}
+use Rattle.tcc_core.specs.private.Relaxing.{count_joined}
 use Rattle.tcc_core.specs.declared.queue.TheConstants.{NO_WAY}
 
 -- ---- caps and limits

@@ -5,11 +5,11 @@ use Rattle.std.specs.Prelude.{bit_and, bit_or}
 use Rattle.std.specs.Int.{bit_at, bit_not}
 use Rattle.std.proofs.lemmas.Bool.{cases_eq, cases_lt}
 use Rattle.std.proofs.lemmas.Nat.Bits.{bit_at-lt, bit_at_or, bit_at_and, bit_at-zero, bit_at_mask_inside, bit_at_mask_below}
-use Rattle.tcc_near.specs.Bits.{is_marked}
-use Rattle.tcc_near.proofs.BitLemmas.{bit_of, marked_from, bit_from, fresh_bits, cleared, marked_within}
-use Rattle.tcc_core.specs.Queues.{offered}
-use Rattle.tcc_core.specs.Offers.{IsOffered}
-use Rattle.tcc_core.specs.Marked.{IsMet, IsWordWay, IsMarkWay}
+use Rattle.tcc_bits.specs.Bits.{is_marked}
+use Rattle.tcc_bits.proofs.BitLemmas.{bit_of, marked_from, bit_from, fresh_bits, cleared, marked_within}
+use Rattle.tcc_core.specs.private.Queues.{offered}
+use Rattle.tcc_core.specs.private.Offers.{IsOffered}
+use Rattle.tcc_core.specs.private.Marked.{IsMet, IsWordWay, IsMarkWay}
 use Rattle.tcc_core.proofs.Offered.{lower_least, offered_none, offered_then, offered_same, offered_one}
 use Rattle.tcc_core.specs.declared.ring.TheConstants.{BUCKETS}
 

@@ -2,7 +2,7 @@
 use Rattle.std.proofs.Common.{◌≡◌, ◌≢◌, ◌<◌, ◌≤◌, ◌+◌, ℕ, ◌⊎◌, inl, inr, List, length, set, length-set, slice_index, sym, ◌∙◌, arith}
 use Rattle.std.proofs.lemmas.Bool.{cases_lt, cases_eq}
 use Rattle.std.proofs.lemmas.List.{get_or-set_same, get_or-set_other}
-use Rattle.tcc_core.specs.Offers.{IsMarked}
+use Rattle.tcc_core.specs.private.Offers.{IsMarked}
 use Rattle.tcc_txn.specs.declared.limits.TheConstants.{MAX_COUNT}
 use Rattle.tcc_core.specs.declared.leading.TheConstants.{UNMARKED}
 use Rattle.tcc_core.specs.declared.queue.TheConstants.{NO_WAY}

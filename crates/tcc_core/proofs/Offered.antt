@@ -5,8 +5,8 @@ use Rattle.std.proofs.Common.{false, Bool, cond, nat_lt, List, length, length-se
 use Rattle.std.proofs.Common.{subst, arith}
 use Rattle.std.proofs.lemmas.Bool.{cases_lt, cases_eq, ltb-true, ltb-false}
 use Rattle.std.proofs.lemmas.List.{get_or-set_same, get_or-set_other}
-use Rattle.tcc_core.specs.Queues.{Queue, offered}
-use Rattle.tcc_core.specs.Offers.{IsLower, IsOffered, IsWayBy, MayOffer}
+use Rattle.tcc_core.specs.private.Queues.{Queue, offered}
+use Rattle.tcc_core.specs.private.Offers.{IsLower, IsOffered, IsWayBy, MayOffer}
 use Rattle.tcc_core.specs.declared.ring.TheConstants.{BUCKETS}
 
 -- ---- lower costs

@@ -4,7 +4,7 @@ use Rattle.std.proofs.Common.{List, length, set, length-set, slice_index, refl, 
 use Rattle.std.proofs.Common.{eq-eqb}
 use Rattle.std.proofs.lemmas.Bool.{cases_lt, ne_eqb}
 use Rattle.std.proofs.lemmas.List.{get_or-set_same, get_or-set_other}
-use Rattle.tcc_core.specs.RingLinks.{home, IsPaired, IsRing}
+use Rattle.tcc_core.specs.private.RingLinks.{home, IsPaired, IsRing}
 use Rattle.tcc_core.proofs.RingHomes.{home_number, home_end, end_of, home_inside, home_set, home_kept}
 use Rattle.tcc_core.proofs.RingPairs.{IsOneOff, IsTwoOff, put_paired, put_falls, take_paired, take_falls}
 

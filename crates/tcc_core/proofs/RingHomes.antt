@@ -2,7 +2,7 @@
 use Rattle.std.proofs.Common.{◌≡◌, ◌≢◌, ◌<◌, ◌≤◌, ◌+◌, ◌-◌, ◌⊎◌, ℕ, inl, inr, List, length, set, length-set, slice_index, refl, sym, ◌∙◌, arith}
 use Rattle.std.proofs.lemmas.Bool.{cases_lt, cond_below, cond_above}
 use Rattle.std.proofs.lemmas.List.{get_or-set_same, get_or-set_other}
-use Rattle.tcc_core.specs.RingLinks.{home}
+use Rattle.tcc_core.specs.private.RingLinks.{home}
 
 pub home_number : (bucket : List ℕ) (x : ℕ) → x < length bucket → home bucket x ≡ slice_index bucket x
 unfolding home

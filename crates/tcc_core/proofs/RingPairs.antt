@@ -1,6 +1,6 @@
 -- A number is linked in between two places, and taken out from between them. Each lemma on pairs serves both directions.
 use Rattle.std.proofs.Common.{◌≡◌, ◌≢◌, ◌<◌, ◌≤◌, ◌+◌, ℕ, arith}
-use Rattle.tcc_core.specs.RingLinks.{IsPaired, Falls}
+use Rattle.tcc_core.specs.private.RingLinks.{IsPaired, Falls}
 
 -- g is f but for what it has at one place, or at two
 pub record IsOneOff (f g : ℕ → ℕ) (i a : ℕ) : Type 0 where

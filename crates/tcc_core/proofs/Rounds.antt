@@ -22,7 +22,7 @@ use Rattle.tcc_derive.specs.Prices.{Tables, IsPricesOf, IsPrice, IsLeastAmong, I
 use Rattle.tcc_derive.proofs.CostLemmas.{link_of}
 use Rattle.tcc_core.specs.Shares.{IsCycleCost}
 use Rattle.tcc_core.specs.Seeds.{IsSeed, HasNoSeed}
-use Rattle.tcc_core.specs.Closing.{closing, closing_at, IsLeastOf}
+use Rattle.tcc_core.specs.private.Closing.{closing, closing_at, IsLeastOf}
 use Rattle.tcc_core.proofs.Costs.{cost_of_link, link_of_cost}
 use Rattle.tcc_near.specs.declared.distances.TheConstants.{NONE}
 use Rattle.tcc_core.specs.declared.queue.TheConstants.{NO_WAY}

@@ -13,9 +13,9 @@ use Rattle.tcc_derive.specs.Prices.{Tables, cost_at, IsLinkOf, IsPricesOf}
 use Rattle.tcc_core.specs.Rows.{in_row, IsSearchRow, IsEmptyRow, cap_of, IsWithin, IsCutOff, JoinsNearest}
 use Rattle.tcc_core.specs.Searches.{IsSearchOf, Search}
 use Rattle.tcc_core.specs.Frontiers.{HasCome, IsWay, IsFrontier}
-use Rattle.tcc_core.specs.Queues.{Queue, IsBeginning, IsNext, IsPast}
-use Rattle.tcc_core.specs.Offers.{IsLower, IsOffered, IsWayOn}
-use Rattle.tcc_core.specs.Relaxing.{IsBounded, count_joined}
+use Rattle.tcc_core.specs.private.Queues.{Queue, IsBeginning, IsNext, IsPast}
+use Rattle.tcc_core.specs.private.Offers.{IsLower, IsOffered, IsWayOn}
+use Rattle.tcc_core.specs.private.Relaxing.{IsBounded, count_joined}
 use Rattle.tcc_core.proofs.Costs.{cost_of_link, link_of_cost, cost_paid, cost_few}
 use Rattle.tcc_core.proofs.Lowering.{joined_set, joined_most, within_cap, within_down, capped_low, within_row}
 use Rattle.tcc_core.proofs.Offered.{lower_least, lower_some}

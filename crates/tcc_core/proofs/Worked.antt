@@ -4,7 +4,7 @@ use Rattle.std.proofs.lemmas.Bool.{false≢true}
 use Rattle.std.proofs.lemmas.List.Elements.{All-cons, All-nil, All-head, All-tail}
 use Rattle.tcc_reads.specs.History.{initial}
 use Rattle.tcc_graph.specs.Relations.{session_pair, reads_from}
-use Rattle.tcc_graph.specs.Levels.{Judged, causally}
+use Rattle.tcc_graph.specs.Levels.{Judged, causally, judged}
 use Rattle.tcc_graph.specs.Links.{IsLink, link_to, cost}
 use Rattle.tcc_graph.specs.Routes.{LinksLead, IsRoute, IsUpward, IsUpwardRoute, IsDistance}
 use Rattle.tcc_graph.specs.declared.level.Level.{Level}
@@ -12,8 +12,8 @@ use Rattle.tcc_graph.specs.declared.link.Link.{Link}
 use Rattle.tcc_graph.specs.declared.link.Link.TheVariants as link
 use Rattle.tcc_core.specs.Rows.{in_row, cap_of, JoinsNearest}
 use Rattle.tcc_core.specs.Searches.{Settles}
-use Rattle.tcc_core.specs.Queues.{offered}
-use Rattle.tcc_core.specs.Relaxing.{count_joined}
+use Rattle.tcc_core.specs.private.Queues.{offered}
+use Rattle.tcc_core.specs.private.Relaxing.{count_joined}
 use Rattle.tcc_core.specs.Shares.{Share, Finished, Returned, Cut, IsNotAbove, IsStopped, IsFinished, IsCycleCost, starts_of, SettleAt, capped}
 use Rattle.tcc_core.specs.declared.settled.Settled.TheVariants as settled
 use Rattle.tcc_graph.proofs.Linking.{cost_cons, some_cost}
@@ -215,7 +215,7 @@ seeded j shares b c settle cycle low = record {
 -- ---- `init` alone: one share settles at none, and at nothing else, whatever the level
 
 abbrev alone : Level → Judged
-alone level = record { history = record { sessions = []; entries = initial ∷ [] }; level = level }
+alone level = judged (record { sessions = []; entries = initial ∷ [] }) level
 
 abbrev lone_search : Finished
 lone_search = record { start = 0; row = None ∷ []; stop = Cut None }

@@ -1,4 +1,3 @@
--- For the private stages and their proofs alone: nobody has to believe what stands here.
 -- What the ways to the transactions outside a row cost, as far as a limit.
 use Rattle.std.specs.Prelude.{ℕ, ◌<◌, ◌≤◌, ◌≡◌, ◌≢◌, ◌+◌, ◌⊎◌, List, length, Option, None, Some, slice_index}
 use Rattle.tcc_reads.specs.History.{count}

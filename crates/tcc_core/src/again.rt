@@ -3,7 +3,7 @@ ghost use Rattle.std.specs.Prelude.{◌≡◌, ◌≢◌, ◌<◌, ◌≤◌, �
 ghost use Rattle.tcc_graph.specs.Levels.{Judged};
 ghost use Rattle.tcc_derive.specs.Prices.{IsPricesOf};
 ghost use Rattle.tcc_core.specs.Rows.{in_row, IsEmptyRow};
-ghost use Rattle.tcc_core.specs.Offers.{IsLower, IsOffered, IsWayOver};
+ghost use Rattle.tcc_core.specs.private.Offers.{IsLower, IsOffered, IsWayOver};
 ghost use Rattle.tcc_txn.specs.declared.limits.TheConstants.{MAX_COUNT};
 
 use crate::leading::Frontier;

@@ -1,10 +1,10 @@
 //! Of some costs what is met at them, as rows of marks: so a way at such a cost is offered to each transaction once in a
 //! search, however many transactions have links there.
 ghost use Rattle.std.specs.Prelude.{◌≡◌, ◌<◌, ◌≤◌, ◌+◌, ◌*◌, ◌^◌, ℕ, true, length, All, IfOk};
-ghost use Rattle.tcc_near.specs.Bits.{is_marked, words_for};
-ghost use Rattle.tcc_core.specs.Levels.{HasRoom, IsLevel, AreLevels, IsClassWay, AreClasses};
-ghost use Rattle.tcc_core.specs.Marked.{IsMarkWay};
-ghost use Rattle.tcc_core.specs.Offers.{IsOffered};
+ghost use Rattle.tcc_bits.specs.Bits.{is_marked, words_for};
+ghost use Rattle.tcc_core.specs.private.Levels.{HasRoom, IsLevel, AreLevels, IsClassWay, AreClasses};
+ghost use Rattle.tcc_core.specs.private.Marked.{IsMarkWay};
+ghost use Rattle.tcc_core.specs.private.Offers.{IsOffered};
 ghost use Rattle.tcc_core.specs.declared.ring.TheConstants.{BUCKETS};
 ghost use Rattle.tcc_core.specs.declared.levels.TheConstants.{LEVELS};
 ghost use Rattle.tcc_txn.specs.declared.limits.TheConstants.{MAX_COUNT};
@@ -13,7 +13,7 @@ use crate::marked::offer_marked;
 use crate::queue::Queue;
 use std::alloc::{AllocError, Global};
 use tcc_derive::Class;
-use tcc_near::bits::words_for;
+use tcc_bits::words_for;
 
 /// So many costs have a row at a time: no link that stands in a row of marks costs more, so those that are offered from one
 /// floor have a row each.

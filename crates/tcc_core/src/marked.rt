@@ -2,9 +2,9 @@
 //! that cost, so that nothing is offered such a way twice.
 ghost use Rattle.std.specs.Prelude.{◌≡◌, ◌<◌, ◌≤◌, ◌+◌, ◌-◌, ◌*◌, ◌/◌, ◌%◌, ◌^◌, ℕ, true, length};
 ghost use Rattle.std.specs.Int.{bit_at};
-ghost use Rattle.tcc_near.specs.Bits.{is_marked};
-ghost use Rattle.tcc_core.specs.Marked.{IsMet, IsMarkWay, IsWordWay};
-ghost use Rattle.tcc_core.specs.Offers.{IsOffered};
+ghost use Rattle.tcc_bits.specs.Bits.{is_marked};
+ghost use Rattle.tcc_core.specs.private.Marked.{IsMet, IsMarkWay, IsWordWay};
+ghost use Rattle.tcc_core.specs.private.Offers.{IsOffered};
 ghost use Rattle.tcc_core.specs.declared.ring.TheConstants.{BUCKETS};
 
 use crate::queue::Queue;

@@ -1,7 +1,7 @@
 //! Ways that are offered to the transactions of a queue, many at a time.
 ghost use Rattle.std.specs.Prelude.{◌≡◌, ◌<◌, ◌≤◌, ◌+◌, length};
 ghost use Rattle.std.specs.List.{AllPairs};
-ghost use Rattle.tcc_core.specs.Offers.{IsOffered, IsWayBy, MayOffer};
+ghost use Rattle.tcc_core.specs.private.Offers.{IsOffered, IsWayBy, MayOffer};
 ghost use Rattle.tcc_core.specs.declared.ring.TheConstants.{BUCKETS};
 
 use crate::queue::Queue;

@@ -1,8 +1,8 @@
 //! Transactions that are open at a cost, and the nearest of them. The costs of those that are open lie in a window as wide
 //! as there are buckets, so each bucket has transactions of one cost.
 ghost use Rattle.std.specs.Prelude.{◌≡◌, ◌≢◌, ◌<◌, ◌≤◌, ◌+◌, ◌⊎◌, ℕ, length, slice_index, slice_set, All, Contains, IfSome, IfNone, IfOk};
-ghost use Rattle.tcc_core.specs.Queues.{IsBeginning, IsNearest, IsNext, IsPast, IsFar, IsFiled, offered};
-ghost use Rattle.tcc_core.specs.Queues as queues;
+ghost use Rattle.tcc_core.specs.private.Queues.{IsBeginning, IsNearest, IsNext, IsPast, IsFar, IsFiled, offered};
+ghost use Rattle.tcc_core.specs.private.Queues as queues;
 ghost use Rattle.tcc_core.specs.declared.ring.TheConstants.{BUCKETS};
 ghost use Rattle.tcc_txn.specs.declared.limits.TheConstants.{MAX_COUNT};
 
@@ -28,8 +28,8 @@ pub(crate) struct Queue {
 }
 
 impl Model for Queue {
-    ghost use Rattle.tcc_core.specs.Queues as queues;
-    ghost use Rattle.tcc_core.specs.Queues.{IsFiled, IsListed};
+    ghost use Rattle.tcc_core.specs.private.Queues as queues;
+    ghost use Rattle.tcc_core.specs.private.Queues.{IsFiled, IsListed};
 
     ghost Value = { queues.Queue };
 

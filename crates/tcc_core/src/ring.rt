@@ -2,7 +2,7 @@
 //! linked list that closes over an end of its own: the end of bucket b is place `count + b` of the tables, and links to
 //! itself where the bucket is empty. So no call asks whether there is a neighbour.
 ghost use Rattle.std.specs.Prelude.{◌≡◌, ◌<◌, ◌≤◌, ◌+◌, ◌^◌, ℕ, length, slice_index, slice_set, IfSome, IfNone, IfOk, IsTrue, ◌↔◌};
-ghost use Rattle.tcc_core.specs.Rings.{StandsIn, IsOutOf, IsEmptyRing};
+ghost use Rattle.tcc_core.specs.private.Rings.{StandsIn, IsOutOf, IsEmptyRing};
 ghost use Rattle.tcc_core.specs.declared.ring.TheConstants.{BUCKETS, NOWHERE};
 
 use std::alloc::{AllocError, Global};
@@ -25,7 +25,7 @@ pub(crate) struct Ring {
 
 impl Model for Ring {
     ghost use Rattle.std.specs.Prelude.{◌≡◌, ℕ, List, length};
-    ghost use Rattle.tcc_core.specs.RingLinks.{IsRing};
+    ghost use Rattle.tcc_core.specs.private.RingLinks.{IsRing};
     ghost use Rattle.tcc_core.specs.declared.ring.TheConstants.{BUCKETS};
 
     ghost Value = { List ℕ };

@@ -24,7 +24,7 @@ pub struct Search {
 }
 
 impl Model for Search {
-    ghost use Rattle.tcc_core.specs.Relaxing.{IsBounded};
+    ghost use Rattle.tcc_core.specs.private.Relaxing.{IsBounded};
     ghost use Rattle.tcc_core.specs.Searches as searches;
 
     ghost Value = { searches.Search };

@@ -5,7 +5,7 @@ ghost use Rattle.tcc_near.specs.Distances.{IsNearOf};
 ghost use Rattle.tcc_derive.specs.Prices.{IsPricesOf};
 ghost use Rattle.tcc_core.specs.Shares.{IsCycleCost};
 ghost use Rattle.tcc_core.specs.Seeds.{IsSeed, HasNoSeed};
-ghost use Rattle.tcc_core.specs.Closing.{closing, closing_at, IsLeastOf};
+ghost use Rattle.tcc_core.specs.private.Closing.{closing, closing_at, IsLeastOf};
 ghost use Rattle.tcc_txn.specs.declared.limits.TheConstants.{MAX_COUNT};
 ghost use Rattle.tcc_near.specs.declared.distances.TheConstants.{NONE};
 ghost use Rattle.tcc_core.specs.declared.queue.TheConstants.{NO_WAY};

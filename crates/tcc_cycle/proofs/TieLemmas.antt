@@ -15,7 +15,7 @@ use Rattle.tcc_graph.specs.declared.step.Step.{Step}
 use Rattle.tcc_graph.specs.declared.link.Link.{Link}
 use Rattle.tcc_graph.specs.declared.link.Link.TheVariants as link
 use Rattle.tcc_graph.proofs.Tied.{number_tied, then_tied, step_tied}
-use Rattle.tcc_derive.specs.Backwards.{LeadsBack}
+use Rattle.tcc_derive.specs.private.LeadingBack.{LeadsBack}
 use Rattle.tcc_derive.proofs.BackLemmas.{back_of_leads}
 
 steps_tied : (h : History) (b v : ℕ) (ss os : List Step) → LeadsBack h b v ss → LeadsBack h b v os → slice_cmp step_cmp ss os ≡ Equal → ss ≡ os

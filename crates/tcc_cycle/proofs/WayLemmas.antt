@@ -17,7 +17,7 @@ use Rattle.tcc_graph.proofs.Upward.{turn_lowest}
 use Rattle.tcc_derive.specs.Prices.{Tables, IsLinkOf, IsLeastAmong, IsCost, IsPricesOf, cost_at}
 use Rattle.tcc_core.specs.Shares.{IsCappedDistance}
 use Rattle.tcc_cycle.specs.Returns.{IsFirstReturn, come_to}
-use Rattle.tcc_cycle.specs.Ways.{spent, IsBefore, IsFirstLink}
+use Rattle.tcc_cycle.specs.private.Ways.{spent, IsBefore, IsFirstLink}
 use Rattle.tcc_cycle.specs.declared.returning.FirstReturn.{FirstReturn}
 use Rattle.tcc_cycle.proofs.Backwards.{Picks, Picks-push, Picks-at}
 use Rattle.tcc_cycle.proofs.CycleLemmas.{turned}

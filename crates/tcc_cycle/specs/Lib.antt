@@ -1,5 +1,3 @@
--- What contracts of public calls cite:
 pub mod Picked
 pub mod Returns
--- What serves proofs alone:
-pub mod Ways
+pub mod private

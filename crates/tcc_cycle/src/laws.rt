@@ -6,7 +6,7 @@ ghost use Rattle.tcc_txn.specs.declared.limits.TheConstants.{MAX_COUNT, MAX_SESS
 ghost use Rattle.tcc_txn.specs.Snapshots.{Sessions};
 ghost use Rattle.tcc_reads.specs.History.{count};
 ghost use Rattle.tcc_reads.specs.Sources.{history};
-ghost use Rattle.tcc_graph.specs.Levels.{Judged};
+ghost use Rattle.tcc_graph.specs.Levels.{Judged, judged};
 ghost use Rattle.tcc_graph.specs.Links.{link_from, cost};
 ghost use Rattle.tcc_graph.specs.Routes.{IsRoute, IsLeastCycle, IsDistance};
 ghost use Rattle.tcc_graph.specs.Ties.{IsFirstCycle, link_kind, link_walk};
@@ -55,7 +55,7 @@ pub fn bounded()
     ensures walks { (j : Judged) (s : ℕ) (links : List Link) → IsLeastCycle j s links
         → All (λ l. length (link_walk l) ≤ count j.history) links }
     ensures sessions { (snapshot : Sessions) (level : Level) (s : ℕ) (links : List Link) → length (entries snapshot) ≤ MAX_SESSIONS
-        → IsLeastCycle (record { history = history snapshot; level = level }) s links
+        → IsLeastCycle (judged (history snapshot) level) s links
         → (length (filter (λ l. link_kind l == 2) links) ≤ MAX_SESSIONS + 1)
         × (cost links ≤ (2 * MAX_SESSIONS + 1) + 2 * MAX_SESSIONS * (MAX_SESSIONS + 1)) }
 {}

@@ -7,7 +7,8 @@ ghost use Rattle.tcc_graph.specs.declared.link.Link.{Link};
 ghost use Rattle.tcc_near.specs.Distances.{IsNearOf};
 ghost use Rattle.tcc_derive.specs.Prices.{IsPricesOf, IsLinkOf};
 ghost use Rattle.tcc_cycle.specs.Returns.{IsFirstReturn};
-ghost use Rattle.tcc_cycle.specs.Ways.{spent, IsBefore, IsFirstLink};
+ghost use Rattle.tcc_cycle.specs.private.Ways.{spent, IsBefore, IsFirstLink};
+ghost use Rattle.tcc_graph.specs.Levels.{judged};
 
 use crate::FirstReturn;
 use std::alloc::Global;
@@ -81,9 +82,9 @@ fn first_link(
 ) -> Result<Option<Link>, NoMemory>
     requires from { from < count graph.now }
     requires to { to < count graph.now }
-    requires near { IsNearOf (record { history = graph.now; level = near.now.level }) near.now }
-    ensures { IfOk result (λ found. MatchOption found ((l : Link) → IsLinkOf (record { history = graph.now; level = near.now.level }) from to l → ⊥)
-        (IsFirstLink (record { history = graph.now; level = near.now.level }) from to)) }
+    requires near { IsNearOf (judged graph.now near.now.level) near.now }
+    ensures { IfOk result (λ found. MatchOption found ((l : Link) → IsLinkOf (judged graph.now near.now.level) from to l → ⊥)
+        (IsFirstLink (judged graph.now near.now.level) from to)) }
 {
     if graph.session(from, to) {
         return Ok(Some(Link::Session { from, to }));
@@ -103,10 +104,10 @@ pub fn first_cycle(
     prices: &Prices,
     back: &FirstReturn<'_>,
 ) -> Result<Vec<Link>, NoMemory>
-    requires back { IsFirstReturn (record { history = graph.now; level = near.now.level }) back.now }
-    requires near { IsNearOf (record { history = graph.now; level = near.now.level }) near.now }
-    requires prices { IsPricesOf (record { history = graph.now; level = near.now.level }) prices.now }
-    ensures first { IfOk result (λ links. IsFirstCycle (record { history = graph.now; level = near.now.level }) back.now.start links.items) }
+    requires back { IsFirstReturn (judged graph.now near.now.level) back.now }
+    requires near { IsNearOf (judged graph.now near.now.level) near.now }
+    requires prices { IsPricesOf (judged graph.now near.now.level) prices.now }
+    ensures first { IfOk result (λ links. IsFirstCycle (judged graph.now near.now.level) back.now.start links.items) }
     ensures cost { IfOk result (λ links. cost links.items ≡ back.now.cost) }
 {
     let mut end = back.start;

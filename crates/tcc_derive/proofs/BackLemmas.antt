@@ -13,7 +13,8 @@ use Rattle.tcc_graph.specs.declared.level.Level.{Level}
 use Rattle.tcc_graph.specs.declared.level.Level.TheVariants as level
 use Rattle.tcc_graph.specs.declared.step.Step.{Step}
 use Rattle.tcc_near.specs.Distances.{NearTable, IsShortest, IsNearOf}
-use Rattle.tcc_derive.specs.Backwards.{IsUpTo, IsLastStep, stands_at, LeadsBack, Ahead, IsLeft, IsTakenBack, IsFirstWalk}
+use Rattle.tcc_derive.specs.Backwards.{IsFirstWalk}
+use Rattle.tcc_derive.specs.private.LeadingBack.{IsUpTo, IsLastStep, stands_at, LeadsBack, Ahead, IsLeft, IsTakenBack}
 use Rattle.tcc_derive.proofs.PriceLemmas.{IsOut, IsNearby, distance_cases, no_distance}
 use Rattle.tcc_graph.proofs.Pairs.{step_below}
 use Rattle.tcc_near.specs.declared.distances.TheConstants.{NONE}

@@ -20,7 +20,7 @@ use Rattle.tcc_graph.specs.Relations.{reads_from, IsReadsPair}
 use Rattle.tcc_graph.specs.Keys.{has_name, keys, numbers, writers, readers}
 use Rattle.tcc_graph.specs.Links.{MayContradict}
 use Rattle.tcc_reads.specs.Sources.{name_cmp}
-use Rattle.tcc_derive.specs.Choices.{IsNearest, IsNearestReader, IsChoice}
+use Rattle.tcc_derive.specs.private.Choices.{IsNearest, IsNearestReader, IsChoice}
 use Rattle.tcc_derive.proofs.BucketLemmas.{Contains-taken, Contains-still, Contains-last}
 use Rattle.tcc_graph.proofs.WriterLemmas.{numbers_below, number_in, writer_writes, writer_listed}
 use Rattle.tcc_derive.proofs.KeyLemmas.{read_place}

@@ -10,12 +10,12 @@ use Rattle.std.proofs.lemmas.List.Elements.{Contains-append_cases, All-append, A
 use Rattle.tcc_reads.specs.History.{count}
 use Rattle.tcc_graph.specs.Levels.{Judged}
 use Rattle.tcc_txn.proofs.Lists.{in_filter, from_filter}
-use Rattle.tcc_near.specs.Bits.{is_marked, words_for}
+use Rattle.tcc_bits.specs.Bits.{is_marked, words_for}
 use Rattle.tcc_derive.specs.Prices.{Tables, IsPricesOf, end_of, others_at}
 use Rattle.tcc_derive.specs.ByClass.{IsCheap}
 use Rattle.tcc_derive.specs.ByClass.{HasLinkAmong, IsByClass}
-use Rattle.tcc_derive.specs.CostBuckets.{costs_just, costs_below}
-use Rattle.tcc_derive.specs.Classes.{IsMarksOf, ArePartedBelow}
+use Rattle.tcc_derive.specs.private.CostBuckets.{costs_just, costs_below}
+use Rattle.tcc_derive.specs.private.Classes.{IsMarksOf, ArePartedBelow}
 use Rattle.tcc_derive.specs.declared.by_class.Class.{Class}
 use Rattle.tcc_derive.specs.declared.by_class.ByClass.{ByClass}
 use Rattle.tcc_derive.proofs.ByCostLemmas.{cheap_below, append_pairs, from_row, out}

@@ -17,8 +17,8 @@ use Rattle.tcc_near.specs.declared.distances.TheConstants.{NONE}
 use Rattle.tcc_near.proofs.Walks.{within_one, within_one_from}
 use Rattle.tcc_near.proofs.BreadthLemmas.{read}
 use Rattle.tcc_derive.specs.Prices.{IsDerived, IsLinkOf, IsPrice, IsCost}
-use Rattle.tcc_derive.specs.Lowering.{HasPairs}
-use Rattle.tcc_derive.specs.Rows.{IsPriceRow, IsCostRow}
+use Rattle.tcc_derive.specs.private.Lowering.{HasPairs}
+use Rattle.tcc_derive.specs.private.Rows.{IsPriceRow, IsCostRow}
 use Rattle.tcc_graph.specs.Tables.{row_of}
 use Rattle.tcc_graph.proofs.Pairs.{pair_kinds, pair_from_session, pair_from_reads}
 use Rattle.tcc_graph.proofs.Linking.{some_cost, pair_link}

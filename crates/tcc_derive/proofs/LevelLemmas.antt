@@ -4,11 +4,11 @@ use Rattle.std.proofs.Common.{refl, sym, ◌∙◌, ap, arith, subst}
 use Rattle.std.specs.Prelude.{All, Contains}
 use Rattle.std.proofs.lemmas.Bool.{cases_eq, cases_lt}
 use Rattle.std.proofs.lemmas.List.{get_or-set_same, get_or-set_other, length-set}
-use Rattle.tcc_near.specs.Bits.{is_marked, IsFresh}
+use Rattle.tcc_bits.specs.Bits.{is_marked, IsFresh}
 use Rattle.tcc_near.specs.declared.distances.TheConstants.{NONE}
-use Rattle.tcc_derive.specs.Buckets.{bucket}
-use Rattle.tcc_derive.specs.Lowering.{Lowers}
-use Rattle.tcc_derive.specs.Sources.{AreSources, IsCovered, LowersEach, LowersUpTo}
+use Rattle.tcc_derive.specs.private.Buckets.{bucket}
+use Rattle.tcc_derive.specs.private.Lowering.{Lowers}
+use Rattle.tcc_derive.specs.private.Sources.{AreSources, IsCovered, LowersEach, LowersUpTo}
 use Rattle.tcc_derive.specs.declared.read.Read.{Read}
 
 -- ---- some of them

@@ -9,7 +9,7 @@ use Rattle.tcc_graph.specs.Tables.{row_of}
 use Rattle.tcc_near.specs.Distances.{least, least_in}
 use Rattle.tcc_near.specs.declared.distances.TheConstants.{NONE}
 use Rattle.tcc_derive.specs.Limits.{IsClosing}
-use Rattle.tcc_derive.specs.Closings.{IsBackOrNone, IsClosingOrNone}
+use Rattle.tcc_derive.specs.private.Closings.{IsBackOrNone, IsClosingOrNone}
 
 -- a fact of one more item of a list, and of all
 pub all_next : {X : Type 0} (P : X → Type 0) (xs : List X) (i : ℕ) (x : X) → i < length xs → x ≡ get_or xs i x → All P (take i xs) → P x

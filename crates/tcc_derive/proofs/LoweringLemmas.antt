@@ -5,7 +5,7 @@ use Rattle.std.specs.List.{Contains}
 use Rattle.std.proofs.lemmas.Bool.{cases_eq, cases_lt}
 use Rattle.std.proofs.lemmas.List.{get_or-set_same, get_or-set_other, length-set}
 use Rattle.std.proofs.lemmas.List.Elements.{Contains-append_left, Contains-append_right, Contains-append_cases}
-use Rattle.tcc_derive.specs.Lowering.{Lowers}
+use Rattle.tcc_derive.specs.private.Lowering.{Lowers}
 use Rattle.tcc_derive.specs.declared.read.Read.{Read}
 
 pub lowers_none : (steps old : List ℕ) → Lowers [] steps old old

@@ -25,8 +25,8 @@ use Rattle.tcc_near.specs.Distances.{least_in}
 use Rattle.tcc_near.specs.declared.distances.TheConstants.{NONE}
 use Rattle.tcc_near.proofs.BreadthLemmas.{Read, read}
 use Rattle.tcc_derive.specs.Prices.{Tables, IsPrice, IsCost, IsLinkOf, IsOther, HasOthers, IsLater, IsEnd, price_at, cost_at, cost_among, end_of, others_at}
-use Rattle.tcc_derive.specs.Others.{is_other, others_below}
-use Rattle.tcc_derive.specs.Rows.{IsPriceRow, IsCostRow}
+use Rattle.tcc_derive.specs.private.Others.{is_other, others_below}
+use Rattle.tcc_derive.specs.private.Rows.{IsPriceRow, IsCostRow}
 use Rattle.tcc_derive.proofs.CostLemmas.{link_of, session_cost}
 
 module _ (h : History) (u : ℕ) (prices costs : List ℕ) where

@@ -6,7 +6,7 @@ use Rattle.std.specs.List.{Contains}
 use Rattle.std.proofs.lemmas.Bool.{eqb-true, eq-eqb, false≢true}
 use Rattle.tcc_reads.specs.History.{count}
 use Rattle.tcc_graph.specs.Keys.{keys}
-use Rattle.tcc_graph.specs.KeyRows.{name_of}
+use Rattle.tcc_graph.specs.private.KeyRows.{name_of}
 use Rattle.tcc_graph.specs.Levels.{Judged, IsAllowedWalk}
 use Rattle.tcc_graph.specs.Links.{MayContradict, IsReason, link_cost}
 use Rattle.tcc_graph.specs.declared.step.Step.{Step}
@@ -14,10 +14,10 @@ use Rattle.tcc_graph.specs.declared.link.Link.{Link}
 use Rattle.tcc_graph.specs.declared.link.Link.TheVariants as link
 use Rattle.tcc_near.specs.Distances.{NearTable, IsShortest, IsWalkDistance, IsNearOf, least_in}
 use Rattle.tcc_derive.specs.Prices.{IsDerived, IsPrice}
-use Rattle.tcc_derive.specs.Buckets.{bucket}
-use Rattle.tcc_derive.specs.KeyTables.{IsReadsOf, IsWritesOf}
-use Rattle.tcc_derive.specs.Lowering.{price_by, ArePricedBy}
-use Rattle.tcc_derive.specs.Rows.{IsPriceRow}
+use Rattle.tcc_derive.specs.private.Buckets.{bucket}
+use Rattle.tcc_derive.specs.private.KeyTables.{IsReadsOf, IsWritesOf}
+use Rattle.tcc_derive.specs.private.Lowering.{price_by, ArePricedBy}
+use Rattle.tcc_derive.specs.private.Rows.{IsPriceRow}
 use Rattle.tcc_derive.specs.declared.read.Read.{Read}
 use Rattle.tcc_derive.proofs.KeyLemmas.{read_place}
 use Rattle.tcc_near.specs.declared.distances.TheConstants.{NONE}

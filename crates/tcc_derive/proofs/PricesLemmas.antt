@@ -9,10 +9,10 @@ use Rattle.tcc_graph.specs.Levels.{Judged}
 use Rattle.tcc_graph.specs.Tables.{row_of}
 use Rattle.tcc_near.specs.Distances.{IsSquare, NearTable, IsNearOf}
 use Rattle.tcc_derive.specs.Prices.{Tables, IsCost, IsPricesOf, HasOthers, cost_at}
-use Rattle.tcc_derive.specs.Others.{HasOtherRows, HasEnds, IsShaped, others_below}
-use Rattle.tcc_derive.specs.Classes.{HasClassRows, HaveByClass}
+use Rattle.tcc_derive.specs.private.Others.{HasOtherRows, HasEnds, IsShaped, others_below}
+use Rattle.tcc_derive.specs.private.Classes.{HasClassRows, HaveByClass}
 use Rattle.tcc_derive.specs.declared.by_class.ByClass.{ByClass}
-use Rattle.tcc_derive.specs.Rows.{IsPriceRow, IsCostRow, HasRows}
+use Rattle.tcc_derive.specs.private.Rows.{IsPriceRow, IsCostRow, HasRows}
 use Rattle.tcc_derive.proofs.ClassLemmas.{by_class_of}
 use Rattle.tcc_derive.proofs.CostLemmas.{cost_row_of}
 use Rattle.tcc_derive.proofs.OthersLemmas.{others_of, costed_at, below, ascends}

@@ -16,7 +16,7 @@ use Rattle.tcc_graph.specs.declared.link.Link.TheVariants as link
 use Rattle.tcc_near.specs.Distances.{NearTable, IsNearOf}
 use Rattle.tcc_derive.specs.Prices.{IsDerived}
 use Rattle.tcc_derive.specs.Reasons.{IsFirstReason}
-use Rattle.tcc_derive.specs.Choices.{IsChoice}
+use Rattle.tcc_derive.specs.private.Choices.{IsChoice}
 use Rattle.tcc_derive.specs.Backwards.{IsFirstWalk}
 use Rattle.tcc_derive.proofs.PriceLemmas.{IsOut, IsNearby, distance_cases, out_of_reach}
 use Rattle.tcc_near.specs.declared.distances.TheConstants.{NONE}

@@ -2,9 +2,9 @@
 use Rattle.std.proofs.Common.{◌≡◌, ◌<◌, ◌≤◌, ◌+◌, ◌↔◌, ◌⊎◌, ℕ, inl, inr, true, List, [], ◌∷◌, ◌++◌, length, get_or, set, sym, ◌∙◌, ap, arith, subst}
 use Rattle.std.specs.Prelude.{All, Contains}
 use Rattle.std.proofs.lemmas.List.Elements.{Contains-get_or, Contains-append_left, Contains-push, Contains-push_cases}
-use Rattle.tcc_near.specs.Bits.{is_marked, words_for}
-use Rattle.tcc_derive.specs.Buckets.{bucket, Puts}
-use Rattle.tcc_derive.specs.Sources.{AreByReader, AreSources}
+use Rattle.tcc_bits.specs.Bits.{is_marked, words_for}
+use Rattle.tcc_derive.specs.private.Buckets.{bucket, Puts}
+use Rattle.tcc_derive.specs.private.Sources.{AreByReader, AreSources}
 use Rattle.tcc_derive.specs.declared.read.Read.{Read}
 use Rattle.tcc_derive.proofs.BucketLemmas.{no_item, puts_push}
 

@@ -15,7 +15,7 @@ use Rattle.tcc_reads.specs.Sources.{name_cmp}
 use Rattle.tcc_graph.specs.declared.step.Step.{Step}
 use Rattle.tcc_graph.specs.declared.step.Step.TheVariants as step
 use Rattle.tcc_derive.specs.Names.{IsFirstName}
-use Rattle.tcc_derive.specs.Backwards.{IsUpTo, IsFirstStep}
+use Rattle.tcc_derive.specs.private.LeadingBack.{IsUpTo, IsFirstStep}
 
 -- a session step comes before every other
 pub session_step : (h : History) (u v : ℕ) → IsSessionPair h u v → IsFirstStep h u v (step.Session u v)

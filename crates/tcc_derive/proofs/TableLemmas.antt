@@ -2,17 +2,17 @@
 use Rattle.std.proofs.Common.{ℕ, ◌+◌, ◌<◌, ◌≤◌, ◌≡◌, ◌⊎◌, inl, inr, List, [], length, get_or, refl, sym, ap, ◌∙◌, arith, ⊎_elim}
 use Rattle.std.specs.List.{All, Contains}
 use Rattle.std.specs.Prelude.{zip, ◌↔◌}
-use Rattle.tcc_near.proofs.MarkLemmas.{zip_at, zip_has, zip-long}
+use Rattle.tcc_bits.proofs.Lists.{zip_at, zip_has, zip-long}
 use Rattle.std.proofs.lemmas.Bool.{cases_eq, cases_lt}
 use Rattle.std.proofs.lemmas.List.{get_or_default, get_or_past}
 use Rattle.std.proofs.lemmas.List.Elements.{Contains-get_or}
 use Rattle.tcc_reads.specs.History.{History, count}
 use Rattle.tcc_graph.specs.Relations.{IsReadsPair}
 use Rattle.tcc_graph.specs.Keys.{keys, writers, IsWriter}
-use Rattle.tcc_graph.specs.KeyRows.{name_of}
-use Rattle.tcc_derive.specs.Buckets.{bucket, Puts}
-use Rattle.tcc_derive.specs.KeyTables.{AreReadsAt, IsReadsOf, HasWrites, IsWritesOf}
-use Rattle.tcc_derive.specs.Lowering.{HaveReads}
+use Rattle.tcc_graph.specs.private.KeyRows.{name_of}
+use Rattle.tcc_derive.specs.private.Buckets.{bucket, Puts}
+use Rattle.tcc_derive.specs.private.KeyTables.{AreReadsAt, IsReadsOf, HasWrites, IsWritesOf}
+use Rattle.tcc_derive.specs.private.Lowering.{HaveReads}
 use Rattle.tcc_derive.specs.declared.read.Read.{Read}
 use Rattle.tcc_graph.proofs.WriterLemmas.{writer_writes, writer_in}
 use Rattle.tcc_derive.proofs.KeyLemmas.{key_at}

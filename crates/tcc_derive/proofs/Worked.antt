@@ -3,9 +3,9 @@ use Rattle.std.proofs.Common.{ℕ, ◌≡◌, [], ◌∷◌, true, false, None, 
 use Rattle.tcc_graph.specs.declared.level.Level.TheVariants as level
 use Rattle.tcc_graph.specs.declared.step.Step.TheVariants as step
 use Rattle.tcc_derive.specs.Prices.{Tables, IsLater, price_at, cost_at, others_at}
-use Rattle.tcc_derive.specs.CostBuckets.{costs_below}
-use Rattle.tcc_derive.specs.Lowering.{price_by}
-use Rattle.tcc_derive.specs.Backwards.{stands_at, Ahead}
+use Rattle.tcc_derive.specs.private.CostBuckets.{costs_below}
+use Rattle.tcc_derive.specs.private.Lowering.{price_by}
+use Rattle.tcc_derive.specs.private.LeadingBack.{stands_at, Ahead}
 use Rattle.tcc_near.specs.declared.distances.TheConstants.{NONE}
 
 -- a step more than the way to the reader; no way stays no way

@@ -2,7 +2,7 @@
 -- marks, and the others one by one. No answer is told by which of them have a row.
 use Rattle.std.specs.Prelude.{ℕ, ◌<◌, ◌≤◌, ◌≡◌, ◌⊎◌, ◌↔◌, true, List, length, All, Contains, Some}
 use Rattle.std.specs.List.{AllPairs}
-use Rattle.tcc_near.specs.Bits.{is_marked, words_for}
+use Rattle.tcc_bits.specs.Bits.{is_marked, words_for}
 use Rattle.tcc_derive.specs.Prices.{Tables, IsLater, cost_at}
 use Rattle.tcc_derive.specs.declared.by_class.Class.{Class}
 use Rattle.tcc_derive.specs.declared.by_class.ByClass.{ByClass}

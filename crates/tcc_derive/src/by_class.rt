@@ -3,14 +3,14 @@
 ghost use Rattle.std.specs.Prelude.{◌≡◌, ◌<◌, ◌≤◌, ◌+◌, length, All, IfOk, slice_index};
 ghost use Rattle.tcc_txn.specs.declared.limits.TheConstants.{MAX_COUNT};
 ghost use Rattle.tcc_graph.specs.Tables.{row_of};
-ghost use Rattle.tcc_derive.specs.Classes.{IsMarksOf, ArePartedBelow, HasClassRows};
+ghost use Rattle.tcc_derive.specs.private.Classes.{IsMarksOf, ArePartedBelow, HasClassRows};
 
 use crate::by_cost::cost_buckets;
 use rayon::prelude::*;
 use std::alloc::Global;
 use std::thread::Threads;
-use tcc_near::bits::{mark, words_for};
-use tcc_near::{ROWS_A_THREAD, Row};
+use tcc_bits::{mark, words_for};
+use tcc_bits::{ROWS_A_THREAD, Row};
 use tcc_txn::NoMemory;
 
 /// Links that cost more have no row of marks.

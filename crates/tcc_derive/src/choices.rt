@@ -4,7 +4,7 @@ ghost use Rattle.std.specs.List.Sorted.{IsStrictlySortedBy};
 ghost use Rattle.std.specs.Ordering.{nat_cmp};
 ghost use Rattle.tcc_reads.specs.History.{count};
 ghost use Rattle.tcc_graph.specs.Links.{MayContradict};
-ghost use Rattle.tcc_derive.specs.Choices.{IsNearest, IsNearestReader, IsChoice};
+ghost use Rattle.tcc_derive.specs.private.Choices.{IsNearest, IsNearestReader, IsChoice};
 ghost use Rattle.tcc_near.specs.declared.distances.TheConstants.{NONE};
 
 use tcc_graph::Graph;

@@ -1,9 +1,9 @@
 //! Rows of costs.
 ghost use Rattle.std.specs.Prelude.{◌≡◌, length, IfOk};
-ghost use Rattle.tcc_derive.specs.Lowering.{HasPairs};
+ghost use Rattle.tcc_derive.specs.private.Lowering.{HasPairs};
 
 use std::alloc::Global;
-use tcc_near::Row;
+use tcc_bits::Row;
 use tcc_txn::NoMemory;
 
 /// What links of all kinds from a transaction cost, by the steps from it and by what derived links from it cost: where one

@@ -3,6 +3,7 @@ ghost use Rattle.std.specs.Prelude.{IfOk};
 ghost use Rattle.tcc_near.specs.Distances.{IsNearOf};
 ghost use Rattle.tcc_derive.specs.Limits.{IsLimit};
 ghost use Rattle.tcc_derive.specs.Prices.{IsPricesOf};
+ghost use Rattle.tcc_graph.specs.Levels.{judged};
 
 use crate::Prices;
 use crate::by_class::by_class_rows;
@@ -27,8 +28,8 @@ pub fn derive(
     graph: &Graph,
     near: &Near,
 ) -> Result<Prices, NoMemory>
-    requires { IsNearOf (record { history = graph.now; level = near.now.level }) near.now }
-    ensures prices { IfOk result (IsPricesOf (record { history = graph.now; level = near.now.level })) }
+    requires { IsNearOf (judged graph.now near.now.level) near.now }
+    ensures prices { IfOk result (IsPricesOf (judged graph.now near.now.level)) }
     ensures limit { IfOk result (λ prices. IsLimit near.now.rows prices.prices prices.limit) }
 {
     let written = write_table(alloc, graph)?;

@@ -1,15 +1,16 @@
 //! The fewest steps to the readers of each transaction by the reads of one key, level by level: those that are read by
 //! readers at a distance, and by none that is nearer, have this distance.
 ghost use Rattle.std.specs.Prelude.{◌≡◌, ◌<◌, ◌≤◌, ◌+◌, ◌^◌, ◌⊎◌, ℕ, List, true, length, slice_index, All, Contains, OnOk};
-ghost use Rattle.tcc_near.specs.Bits.{is_marked, words_for};
+ghost use Rattle.tcc_bits.specs.Bits.{is_marked, words_for};
 ghost use Rattle.tcc_near.specs.declared.distances.TheConstants.{NONE};
-ghost use Rattle.tcc_derive.specs.Lowering.{Lowers};
-ghost use Rattle.tcc_derive.specs.Sources.{AreSources, IsCovered, LowersEach, LowersUpTo};
+ghost use Rattle.tcc_derive.specs.private.Lowering.{Lowers};
+ghost use Rattle.tcc_derive.specs.private.Sources.{AreSources, IsCovered, LowersEach, LowersUpTo};
 
 use crate::read::Read;
 use std::alloc::{AllocError, Global};
-use tcc_near::bits::{take_fresh, words_for};
-use tcc_near::{NONE, Row};
+use tcc_bits::{take_fresh, words_for};
+use tcc_bits::Row;
+use tcc_near::NONE;
 use tcc_txn::NoMemory;
 
 /// One more than the most steps there are.

@@ -3,9 +3,10 @@ ghost use Rattle.std.specs.Prelude.{◌≡◌, ◌<◌, ◌≤◌, ◌↔◌, fa
 ghost use Rattle.tcc_txn.specs.declared.limits.TheConstants.{MAX_COUNT};
 ghost use Rattle.tcc_near.specs.Distances.{IsSquare};
 ghost use Rattle.tcc_derive.specs.Limits.{AreWithin, IsLimit};
-ghost use Rattle.tcc_derive.specs.Closings.{IsBackOrNone, IsClosingOrNone};
+ghost use Rattle.tcc_derive.specs.private.Closings.{IsBackOrNone, IsClosingOrNone};
 
-use tcc_near::{NONE, Near, Row};
+use tcc_bits::Row;
+use tcc_near::{NONE, Near};
 
 /// So many rows of distances are read side by side, so that a row of prices is read once for all of them.
 const BLOCK: usize = 32;

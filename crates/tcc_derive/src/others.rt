@@ -2,9 +2,9 @@
 ghost use Rattle.std.specs.Prelude.{◌≡◌, ◌<◌, ◌≤◌, length, IfOk};
 ghost use Rattle.tcc_txn.specs.declared.limits.TheConstants.{MAX_COUNT};
 ghost use Rattle.tcc_reads.specs.History.{count};
-ghost use Rattle.tcc_derive.specs.Others.{IsOtherRow, HasOtherRows, HasEnds};
+ghost use Rattle.tcc_derive.specs.private.Others.{IsOtherRow, HasOtherRows, HasEnds};
 ghost use Rattle.tcc_derive.specs.Prices.{IsEnd};
-ghost use Rattle.tcc_derive.specs.Rows.{HasRows};
+ghost use Rattle.tcc_derive.specs.private.Rows.{HasRows};
 ghost use Rattle.tcc_graph.specs.Tables.{row_of};
 ghost use Rattle.tcc_near.specs.Distances.{IsSquare};
 
@@ -13,7 +13,8 @@ use rayon::prelude::*;
 use std::alloc::Global;
 use std::thread::Threads;
 use tcc_graph::Graph;
-use tcc_near::{NONE, Near, ROWS_A_THREAD, Row};
+use tcc_bits::{ROWS_A_THREAD, Row};
+use tcc_near::{NONE, Near};
 use tcc_txn::NoMemory;
 
 /// Where the numbers end that session pairs lead to from `u`.

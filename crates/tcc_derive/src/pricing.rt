@@ -2,11 +2,12 @@
 ghost use Rattle.std.specs.Prelude.{◌≡◌, ◌<◌, ◌≤◌, ◌⊎◌, ℕ, length, All, IfOk, OnOk, flat_map, slice_index};
 ghost use Rattle.tcc_reads.specs.History.{count};
 ghost use Rattle.tcc_near.specs.Distances.{IsNearOf};
-ghost use Rattle.tcc_derive.specs.Buckets.{bucket};
-ghost use Rattle.tcc_derive.specs.KeyTables.{IsReadsOf, IsWritesOf};
-ghost use Rattle.tcc_derive.specs.Lowering.{one_more, HaveReads, Lowers, ArePricedBy};
-ghost use Rattle.tcc_derive.specs.Rows.{IsPriceRow, HasRows};
-ghost use Rattle.tcc_derive.specs.Sources.{AreSources, HaveSources};
+ghost use Rattle.tcc_derive.specs.private.Buckets.{bucket};
+ghost use Rattle.tcc_derive.specs.private.KeyTables.{IsReadsOf, IsWritesOf};
+ghost use Rattle.tcc_derive.specs.private.Lowering.{one_more, HaveReads, Lowers, ArePricedBy};
+ghost use Rattle.tcc_derive.specs.private.Rows.{IsPriceRow, HasRows};
+ghost use Rattle.tcc_derive.specs.private.Sources.{AreSources, HaveSources};
+ghost use Rattle.tcc_graph.specs.Levels.{judged};
 ghost use Rattle.tcc_near.specs.declared.distances.TheConstants.{NONE};
 ghost use Rattle.tcc_txn.specs.declared.limits.TheConstants.{MAX_COUNT};
 ghost use Rattle.tcc_graph.specs.Tables.{row_of};
@@ -18,7 +19,8 @@ use rayon::prelude::*;
 use std::alloc::Global;
 use std::thread::Threads;
 use tcc_graph::Graph;
-use tcc_near::{NONE, Near, ROWS_A_THREAD, Row};
+use tcc_bits::{ROWS_A_THREAD, Row};
+use tcc_near::{NONE, Near};
 use tcc_txn::NoMemory;
 
 /// With more levels of distances the reads of a key are gone through one by one.
@@ -110,11 +112,11 @@ pub(crate) fn price_rows(
     written: &[Row<usize>],
     near: &Near,
 ) -> Result<Vec<Row<u16>>, NoMemory>
-    requires near { IsNearOf (record { history = graph.now; level = near.now.level }) near.now }
+    requires near { IsNearOf (judged graph.now near.now.level) near.now }
     requires reads { IsReadsOf graph.now reads.now }
     requires sources { HaveSources (count graph.now) reads.now sources.now }
     requires written { IsWritesOf graph.now written.now }
-    ensures rows { IfOk result (λ rows. HasRows graph.now (IsPriceRow (record { history = graph.now; level = near.now.level })) rows.items) }
+    ensures rows { IfOk result (λ rows. HasRows graph.now (IsPriceRow (judged graph.now near.now.level)) rows.items) }
     ensures few { IfOk result (λ rows. length rows.items ≤ MAX_COUNT) }
 {
     (0..graph.count() as usize)

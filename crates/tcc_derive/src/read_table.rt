@@ -3,12 +3,12 @@ ghost use Rattle.std.specs.Prelude.{◌<◌, ◌≤◌, length, IfOk};
 ghost use Rattle.tcc_txn.specs.declared.limits.TheConstants.{MAX_COUNT};
 ghost use Rattle.tcc_reads.specs.History.{count};
 ghost use Rattle.tcc_graph.specs.Keys.{keys};
-ghost use Rattle.tcc_derive.specs.KeyTables.{AreReadsAt, IsReadsOf};
+ghost use Rattle.tcc_derive.specs.private.KeyTables.{AreReadsAt, IsReadsOf};
 
 use crate::read::Read;
 use std::alloc::Global;
 use tcc_graph::Graph;
-use tcc_near::Row;
+use tcc_bits::Row;
 use tcc_txn::NoMemory;
 
 /// The reads of the key at a place.

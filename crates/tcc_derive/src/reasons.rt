@@ -5,6 +5,7 @@ ghost use Rattle.tcc_near.specs.Distances.{IsNearOf};
 ghost use Rattle.tcc_graph.specs.declared.link.Link.{Link};
 ghost use Rattle.tcc_derive.specs.Prices.{IsDerived};
 ghost use Rattle.tcc_derive.specs.Reasons.{IsFirstReason};
+ghost use Rattle.tcc_graph.specs.Levels.{judged};
 
 use crate::choices::choice;
 use crate::walking::first_walk;
@@ -22,11 +23,11 @@ pub fn reason(
     b: u32,
     a: u32,
 ) -> Result<Option<Link>, NoMemory>
-    requires near { IsNearOf (record { history = graph.now; level = near.now.level }) near.now }
+    requires near { IsNearOf (judged graph.now near.now.level) near.now }
     requires from { b < count graph.now }
     requires to { a < count graph.now }
-    ensures { IfOk result (λ found. MatchOption found ((l : Link) → IsDerived (record { history = graph.now; level = near.now.level }) b a l → ⊥)
-        (IsFirstReason (record { history = graph.now; level = near.now.level }) b a)) }
+    ensures { IfOk result (λ found. MatchOption found ((l : Link) → IsDerived (judged graph.now near.now.level) b a l → ⊥)
+        (IsFirstReason (judged graph.now near.now.level) b a)) }
 {
     let Some(found) = choice(graph, near.row(b), b, a) else {
         return Ok(None);

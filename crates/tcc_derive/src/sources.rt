@@ -1,14 +1,14 @@
 //! From whom each transaction reads a key, as rows of marks. They are kept of keys of which transactions read many values.
 ghost use Rattle.std.specs.Prelude.{◌≡◌, ◌<◌, ◌≤◌, ◌⊎◌, ◌↔◌, ℕ, true, length, All, Contains, IfOk};
-ghost use Rattle.tcc_near.specs.Bits.{is_marked, words_for};
-ghost use Rattle.tcc_derive.specs.Sources.{AreByReader, AreSources, HaveSources};
+ghost use Rattle.tcc_bits.specs.Bits.{is_marked, words_for};
+ghost use Rattle.tcc_derive.specs.private.Sources.{AreByReader, AreSources, HaveSources};
 
 use crate::bucket::empty_buckets;
 use crate::read::Read;
 use std::alloc::Global;
 use std::marker::Model;
-use tcc_near::Row;
-use tcc_near::bits::{mark_each, words_for};
+use tcc_bits::Row;
+use tcc_bits::{mark_each, words_for};
 use tcc_txn::NoMemory;
 
 /// A key's rows of marks, one for each transaction: from whom it reads the key; or none at all.

@@ -4,16 +4,17 @@ ghost use Rattle.std.specs.List.{AllPairs};
 ghost use Rattle.tcc_near.specs.Distances.{least_in};
 ghost use Rattle.tcc_derive.specs.Limits.{AreWithin};
 ghost use Rattle.tcc_derive.specs.Prices.{price_at, cost_at, cost_among, end_of, others_at};
-ghost use Rattle.tcc_derive.specs.Others.{IsShaped};
+ghost use Rattle.tcc_derive.specs.private.Others.{IsShaped};
 ghost use Rattle.tcc_derive.specs.ByClass.{IsByClass};
-ghost use Rattle.tcc_derive.specs.Classes.{HaveByClass};
+ghost use Rattle.tcc_derive.specs.private.Classes.{HaveByClass};
 ghost use Rattle.tcc_txn.specs.declared.limits.TheConstants.{MAX_COUNT};
 ghost use Rattle.tcc_graph.specs.Tables.{row_of};
 
 use crate::ByClass;
 use std::marker::Model;
 use tcc_graph::Level;
-use tcc_near::{NONE, Row};
+use tcc_bits::Row;
+use tcc_near::NONE;
 
 /// What derived links, and links of all kinds, cost at least between the transactions of a graph at a level.
 #[derive(Drop)]
@@ -33,8 +34,8 @@ impl Model for Prices {
     ghost use Rattle.std.specs.Prelude.{◌≡◌, ◌↔◌, true, length};
     ghost use Rattle.tcc_derive.specs.Limits.{AreWithin};
     ghost use Rattle.tcc_derive.specs.Prices.{Tables};
-    ghost use Rattle.tcc_derive.specs.Others.{IsShaped};
-    ghost use Rattle.tcc_derive.specs.Classes.{HaveByClass};
+    ghost use Rattle.tcc_derive.specs.private.Others.{IsShaped};
+    ghost use Rattle.tcc_derive.specs.private.Classes.{HaveByClass};
 
     ghost Value = { Tables };
 

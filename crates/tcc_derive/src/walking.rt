@@ -5,7 +5,9 @@ ghost use Rattle.tcc_graph.specs.Walks.{step_from, step_to, IsStep, IsReached};
 ghost use Rattle.tcc_graph.specs.declared.step.Step.{Step};
 ghost use Rattle.tcc_near.specs.Distances.{IsNearOf};
 ghost use Rattle.tcc_derive.specs.Names.{IsFirstName};
-ghost use Rattle.tcc_derive.specs.Backwards.{IsFirstStep, IsLastStep, IsFirstWalk, stands_at};
+ghost use Rattle.tcc_derive.specs.Backwards.{IsFirstWalk};
+ghost use Rattle.tcc_derive.specs.private.LeadingBack.{IsFirstStep, IsLastStep, stands_at};
+ghost use Rattle.tcc_graph.specs.Levels.{judged};
 ghost use Rattle.tcc_near.specs.declared.distances.TheConstants.{NONE};
 ghost use Rattle.tcc_graph.specs.Tables.{row_of};
 
@@ -71,11 +73,11 @@ pub(crate) fn first_walk(
     b: u32,
     c: u32,
 ) -> Result<Walk, NoMemory>
-    requires near { IsNearOf (record { history = graph.now; level = near.now.level }) near.now }
+    requires near { IsNearOf (judged graph.now near.now.level) near.now }
     requires from { b < count graph.now }
     requires to { c < count graph.now }
     requires reached { slice_index (row_of near.now.rows b) c < NONE }
-    ensures { IfOk result (IsFirstWalk (record { history = graph.now; level = near.now.level }) b c) }
+    ensures { IfOk result (IsFirstWalk (judged graph.now near.now.level) b c) }
 {
     let steps = near.row(b);
     let total = steps[c as usize];

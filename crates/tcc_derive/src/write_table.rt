@@ -2,13 +2,13 @@
 ghost use Rattle.std.specs.Prelude.{◌<◌, ◌≤◌, length, All, Contains, OnOk, IfOk};
 ghost use Rattle.tcc_txn.specs.declared.limits.TheConstants.{MAX_COUNT};
 ghost use Rattle.tcc_reads.specs.History.{count};
-ghost use Rattle.tcc_derive.specs.Buckets.{Puts};
-ghost use Rattle.tcc_derive.specs.KeyTables.{IsWritesOf};
+ghost use Rattle.tcc_derive.specs.private.Buckets.{Puts};
+ghost use Rattle.tcc_derive.specs.private.KeyTables.{IsWritesOf};
 
 use crate::bucket::empty_buckets;
 use std::alloc::Global;
 use tcc_graph::Graph;
-use tcc_near::Row;
+use tcc_bits::Row;
 use tcc_txn::NoMemory;
 
 /// Puts the place of a key into the buckets of its writers.

@@ -10,10 +10,11 @@ use Rattle.tcc_answer.specs.declared.answer.Answer.TheVariants as answer
 use Rattle.tcc_explain.proofs.CertifiedCycle as cycle
 use Rattle.tcc_explain.proofs.CertifiedOrder as order
 use Rattle.tcc_explain.proofs.Numbered.{numbered}
+use Rattle.tcc_graph.specs.Levels.{judged}
 
-pub certified : (s : Sessions) (level : Level) (a : Answer) → IsAnswerOf (record { history = history s; level = level }) a
+pub certified : (s : Sessions) (level : Level) (a : Answer) → IsAnswerOf (judged (history s) level) a
     → Certifies (history s) (certificate_of a)
 certified s level (answer.Commit c) (first, at, sessions, labels, clocks) =
-    rw (at, sessions) (order.certified (record { history = history s; level = level }) c.order c.clocks (numbered s) first.1.commit clocks)
+    rw (at, sessions) (order.certified (judged (history s) level) c.order c.clocks (numbered s) first.1.commit clocks)
 certified s level (answer.Anomaly a) ((start, first), at, labels, near, far) =
-    rw at (cycle.certified (record { history = history s; level = level }) start a.links a.near a.far first.least near far)
+    rw at (cycle.certified (judged (history s) level) start a.links a.near a.far first.least near far)

@@ -12,7 +12,7 @@ use Rattle.tcc_steal.specs.Findings.{IsFirst, IsFound}
 use Rattle.tcc_steal.specs.declared.found.Found.{Found}
 use Rattle.tcc_cycle.specs.Returns.{IsFirstReturn}
 use Rattle.tcc_cycle.specs.declared.returning.FirstReturn.{FirstReturn}
-use Rattle.tcc_explain.specs.Capping.{AreFarRows}
+use Rattle.tcc_explain.specs.private.Capping.{AreFarRows}
 
 module _ (j : Judged) (workers : ℕ) (found : Found) (is : IsFound j workers found) where
   -- where there is a cycle, something is found

@@ -3,13 +3,13 @@ use Rattle.std.proofs.Common.{ℕ, ◌≡◌, ◌∙◌, List, map, All, ap, sub
 use Rattle.tcc_txn.specs.Snapshots.{Sessions}
 use Rattle.tcc_reads.specs.History.{History}
 use Rattle.tcc_reads.specs.Sources.{history}
-use Rattle.tcc_graph.specs.Levels.{Judged}
+use Rattle.tcc_graph.specs.Levels.{Judged, judged}
 use Rattle.tcc_graph.specs.Links.{IsLink}
 use Rattle.tcc_graph.specs.declared.level.Level.{Level}
 use Rattle.tcc_graph.specs.declared.link.Link.{Link}
 use Rattle.tcc_answer.specs.Answers.{LabelledCycle}
 use Rattle.tcc_answer.specs.Labels.{labels_of}
-use Rattle.tcc_growth.specs.Growth.{IsFirstMissing, judged}
+use Rattle.tcc_growth.specs.Growth.{IsFirstMissing}
 use Rattle.tcc_growth.specs.Moved.{link_by, moved}
 use Rattle.tcc_explain.specs.Explained.{IsAnswerOf}
 use Rattle.tcc_explain.specs.Next.{links_in}
@@ -17,11 +17,11 @@ use Rattle.tcc_answer.specs.declared.answer.Answer.{Answer}
 
 module _ (s : Sessions) (e : LabelledCycle) (h : History) (graph : h ≡ history s) (level : Level) (of : level ≡ e.level) where
   -- a fact of the graph's history at the level is one of the snapshot's at that of the anomaly
-  there : (P : Judged → Type 0) → P (record { history = h; level = level }) → P (judged e.level s)
+  there : (P : Judged → Type 0) → P (judged h level) → P (judged (history s) e.level)
   there P is =
-      subst (λ (k : History). P (record { history = k; level = e.level })) graph (subst (λ (l : Level). P (record { history = h; level = l })) of is)
+      subst (λ (k : History). P (judged k e.level)) graph (subst (λ (l : Level). P (judged h l)) of is)
 
-  pub answer_here : (a : Answer) → IsAnswerOf (record { history = h; level = level }) a → IsAnswerOf (record { history = history s; level = e.level }) a
+  pub answer_here : (a : Answer) → IsAnswerOf (judged h level) a → IsAnswerOf (judged (history s) e.level) a
   answer_here a = there (λ (j : Judged). IsAnswerOf j a)
 
   module _ (old new : List (List ℕ)) (before found links : List Link) (labels : old ≡ e.labels) (lent : before ≡ e.links) (named : new ≡ labels_of h)
@@ -32,8 +32,8 @@ module _ (s : Sessions) (e : LabelledCycle) (h : History) (graph : h ≡ history
         ∙ (ap (λ (names : List (List ℕ)). map (link_by (moved names new)) e.links) labels
         ∙ ap (λ (names : List (List ℕ)). map (link_by (moved e.labels names)) e.links) (named ∙ ap labels_of graph))))
 
-    pub missing_here : (n : ℕ) → IsFirstMissing (record { history = h; level = level }) links n → IsFirstMissing (judged e.level s) (links_in e s) n
-    missing_here n is = subst (λ (ls : List Link). IsFirstMissing (judged e.level s) ls n) all (there (λ (j : Judged). IsFirstMissing j links n) is)
+    pub missing_here : (n : ℕ) → IsFirstMissing (judged h level) links n → IsFirstMissing (judged (history s) e.level) (links_in e s) n
+    missing_here n is = subst (λ (ls : List Link). IsFirstMissing (judged (history s) e.level) ls n) all (there (λ (j : Judged). IsFirstMissing j links n) is)
 
-    pub links_here : All (IsLink (record { history = h; level = level })) links → All (IsLink (judged e.level s)) (links_in e s)
-    links_here are = subst (λ (ls : List Link). All (IsLink (judged e.level s)) ls) all (there (λ (j : Judged). All (IsLink j) links) are)
+    pub links_here : All (IsLink (judged h level)) links → All (IsLink (judged (history s) e.level)) (links_in e s)
+    links_here are = subst (λ (ls : List Link). All (IsLink (judged (history s) e.level)) ls) all (there (λ (j : Judged). All (IsLink j) links) are)

@@ -13,7 +13,7 @@ use Rattle.tcc_graph.proofs.Linking.{cost_append, one_cost, lead_append}
 use Rattle.tcc_graph.proofs.Pairs.{link_below}
 use Rattle.tcc_derive.specs.Prices.{Tables, IsPricesOf, IsLinkOf, IsCost, cost_at}
 use Rattle.tcc_core.specs.Shares.{IsCycleCost}
-use Rattle.tcc_explain.specs.Capping.{IsAtMost}
+use Rattle.tcc_explain.specs.private.Capping.{IsAtMost}
 
 -- so many links lead from a to b, and cost c together
 pub record IsWay (j : Judged) (a : ℕ) (b : ℕ) (many : ℕ) (c : ℕ) : Type 0 where

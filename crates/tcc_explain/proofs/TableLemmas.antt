@@ -7,7 +7,7 @@ use Rattle.std.proofs.lemmas.Bool.{cases_lt}
 use Rattle.std.proofs.lemmas.List.{get_or-map, length-map, get_or_default}
 use Rattle.tcc_txn.specs.declared.limits.TheConstants.{MAX_COUNT}
 use Rattle.tcc_reads.specs.History.{History, count}
-use Rattle.tcc_graph.specs.Levels.{Judged}
+use Rattle.tcc_graph.specs.Levels.{Judged, judged}
 use Rattle.tcc_graph.specs.declared.level.Level.{Level}
 use Rattle.tcc_near.specs.Distances.{IsNearOf, NearTable, IsWalkDistance, IsShortest}
 use Rattle.tcc_core.specs.Shares.{IsCappedDistance}
@@ -16,7 +16,7 @@ use Rattle.tcc_packed.specs.declared.row.TheConstants.{NO_NUMBER}
 use Rattle.tcc_cert.specs.Tables.{row_of, entry, far_entry}
 use Rattle.tcc_cert.specs.declared.version.Version.TheVariants.{Two}
 use Rattle.tcc_explain.specs.Certificates.{IsCappedShortest, IsNearTable, IsFarTable}
-use Rattle.tcc_explain.specs.Capping.{AreFarRows}
+use Rattle.tcc_explain.specs.private.Capping.{AreFarRows}
 
 -- ---- routes
 
@@ -59,9 +59,9 @@ far_table j cap costs are = record {
 -- ---- distances
 
 -- distances at a level that they name
-pub own_level : (h : History) (level : Level) (near : NearTable) → IsNearOf (record { history = h; level = level }) near
-    → IsNearOf (record { history = h; level = near.level }) near
-own_level h level near is = subst (λ (l : Level). IsNearOf (record { history = h; level = l }) near) (sym is.level) is
+pub own_level : (h : History) (level : Level) (near : NearTable) → IsNearOf (judged h level) near
+    → IsNearOf (judged h near.level) near
+own_level h level near is = subst (λ (l : Level). IsNearOf (judged h l) near) (sym is.level) is
 
 near_entry : (j : Judged) (a c cap steps : ℕ) (none : Bool) → IsWalkDistance j a c (cond none None (Some steps))
     → IsCappedShortest j cap a c (at_most cap (cond none None (Some steps)))

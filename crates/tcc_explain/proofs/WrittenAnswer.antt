@@ -8,7 +8,7 @@ use Rattle.tcc_txn.specs.Snapshots.{Sessions}
 use Rattle.tcc_txn.specs.Finished.{KeepsLimits}
 use Rattle.tcc_reads.specs.History.{count, place}
 use Rattle.tcc_reads.specs.Sources.{history}
-use Rattle.tcc_graph.specs.Levels.{Judged}
+use Rattle.tcc_graph.specs.Levels.{Judged, judged}
 use Rattle.tcc_graph.specs.Walks.{step_to, IsStep, Leads}
 use Rattle.tcc_graph.specs.Links.{IsLink, link_to, cost}
 use Rattle.tcc_graph.specs.Routes.{LinksLead, IsLeastCycle}
@@ -20,7 +20,7 @@ use Rattle.tcc_graph.specs.declared.step.Step.{Step}
 use Rattle.tcc_graph.specs.declared.step.Step.TheVariants as step
 use Rattle.tcc_graph.specs.declared.link.Link.{Link}
 use Rattle.tcc_graph.specs.declared.link.Link.TheVariants as link
-use Rattle.tcc_near.specs.Clocks.{IsClocksOf, IsLast, IsBehind}
+use Rattle.tcc_order.specs.Clocks.{IsClocksOf, IsLast, IsBehind}
 use Rattle.tcc_cert.specs.Tables.{entry, HasSize, HasRows, HasFarSize, IsCapped}
 use Rattle.tcc_cert.specs.CycleRules.{IsStepBelow, IsLinkBelow}
 use Rattle.tcc_cert.specs.Texts.{IsNumber, HasStepText, HasLinkText, HasClocksText, HasOrderText, HasCycleText, HasText, certificate_text}
@@ -83,7 +83,7 @@ module _ (s : Sessions) (limits : KeepsLimits s) where
     }
     clocks_text Atomic n same none = none
 
-  order_text : (level : Level) (order : List ℕ) (clocks : List (List ℕ)) → IsCommitOrder (record { history = history s; level = level }) order
+  order_text : (level : Level) (order : List ℕ) (clocks : List (List ℕ)) → IsCommitOrder (judged (history s) level) order
       → IsClocksAt level (history s) clocks
       → HasOrderText Two (record { level = level; order = order; sessions = length (history s).sessions; clocks = clocks })
   order_text level order clocks commit are =
@@ -110,7 +110,7 @@ module _ (s : Sessions) (limits : KeepsLimits s) where
 
     module _ (level : Level) where
       abbrev j : Judged
-      j = record { history = history s; level = level }
+      j = judged (history s) level
 
       link_text : (l : Link) → IsLink j l → IsLinkBelow (count (history s)) l → length (link_walk l) ≤ count (history s) → HasLinkText Two l
       link_text (link.Session a b) is ends short = (number a ends.0, number b ends.1)
@@ -157,13 +157,13 @@ module _ (s : Sessions) (limits : KeepsLimits s) where
             };
           }
 
-  pub written : HasNames s → (level : Level) (a : Answer) → IsAnswerOf (record { history = history s; level = level }) a → HasText (certificate_of a)
+  pub written : HasNames s → (level : Level) (a : Answer) → IsAnswerOf (judged (history s) level) a → HasText (certificate_of a)
   written named level (answer.Commit c) (first, at, sessions, labels, clocks) =
       rw (at, sessions) (order_text level c.order c.clocks first.1.commit clocks)
   written named level (answer.Anomaly a) ((start, first), at, labels, near, far) =
       rw at (cycle_text named level start a.links a.near a.far first.least near far)
 
   -- and the text is read as it
-  pub read_back : HasNames s → (level : Level) (a : Answer) → IsAnswerOf (record { history = history s; level = level }) a
+  pub read_back : HasNames s → (level : Level) (a : Answer) → IsAnswerOf (judged (history s) level) a
       → certificate_read (certificate_text (certificate_of a)) ≡ Ok (certificate_of a)
   read_back named level a is = text-back (certificate_of a) (written named level a is)

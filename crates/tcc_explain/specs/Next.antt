@@ -3,16 +3,17 @@ use Rattle.std.specs.Prelude.{ℕ, ◌≡◌, All, List, [], map}
 use Rattle.tcc_txn.specs.Snapshots.{Sessions}
 use Rattle.tcc_reads.specs.Faults.{read_faults}
 use Rattle.tcc_reads.specs.Sources.{history}
-use Rattle.tcc_graph.specs.Levels.{Judged}
+use Rattle.tcc_graph.specs.Levels.{Judged, judged}
 use Rattle.tcc_graph.specs.Links.{IsLink}
 use Rattle.tcc_graph.specs.Answers as first
 use Rattle.tcc_graph.specs.declared.link.Link.{Link}
 use Rattle.tcc_answer.specs.Answers.{LabelledCycle}
 use Rattle.tcc_answer.specs.Labels.{labels_of}
 use Rattle.tcc_answer.specs.declared.answer.Answer.{Answer}
-use Rattle.tcc_growth.specs.Growth.{IsFirstMissing, judged}
+use Rattle.tcc_growth.specs.Growth.{IsFirstMissing}
 use Rattle.tcc_growth.specs.Moved.{link_by, moved}
 use Rattle.tcc_explain.specs.Explained.{IsAnswerFor, IsRefusal}
+use Rattle.tcc_explain.specs.declared.refusal.ExplainFault.{ExplainFault}
 use Rattle.tcc_explain.specs.declared.refusal.ExplainFault.TheVariants as whole
 use Rattle.tcc_explain.specs.declared.refusal.NextFault.{NextFault}
 use Rattle.tcc_explain.specs.declared.refusal.NextFault.TheVariants as refusal
@@ -23,13 +24,18 @@ links_in e s = map (link_by (moved e.labels (labels_of (history s)))) e.links
 
 -- the answer at the level of the earlier cycle, whose links are all links of the snapshot's history
 abbrev pub IsNextAnswer : Sessions → LabelledCycle → Answer → Type 0
-IsNextAnswer s e a = IsAnswerFor s e.level a × All (IsLink (judged e.level s)) (links_in e s)
+IsNextAnswer s e a = IsAnswerFor s e.level a × All (IsLink (judged (history s) e.level)) (links_in e s)
 
 -- as for an answer on its own; or a link of the earlier cycle, the first that is told, is none of the snapshot's
 abbrev pub IsNextRefusal : Sessions → LabelledCycle → NextFault → Type 0
 IsNextRefusal s e (refusal.Reads faults) = IsRefusal s (whole.Reads faults)
 IsNextRefusal s e refusal.NoMemory = Unit {0}
-IsNextRefusal s e (refusal.NotNested link) = (read_faults s ≡ []) × IsFirstMissing (judged e.level s) (links_in e s) link
+IsNextRefusal s e (refusal.NotNested link) = (read_faults s ≡ []) × IsFirstMissing (judged (history s) e.level) (links_in e s) link
+
+-- the refusal of an answer on its own, as one after an earlier anomaly
+abbrev pub next_fault : ExplainFault → NextFault
+next_fault (whole.Reads faults) = refusal.Reads faults
+next_fault whole.NoMemory = refusal.NoMemory
 
 -- what an anomaly says of a history at a level, its tables aside: the first of the least cycles, and the labels
 abbrev pub IsAnomalyOf : Judged → LabelledCycle → Type 0

@@ -6,7 +6,7 @@ ghost use Rattle.tcc_txn.specs.Finished.{KeepsLimits};
 ghost use Rattle.tcc_rows.specs.Items.{finished_in};
 ghost use Rattle.tcc_txn.specs.Snapshots.{Sessions};
 ghost use Rattle.tcc_reads.specs.Sources.{history};
-ghost use Rattle.tcc_graph.specs.Levels.{Judged};
+ghost use Rattle.tcc_graph.specs.Levels.{Judged, judged};
 ghost use Rattle.tcc_graph.specs.Links.{cost};
 ghost use Rattle.tcc_graph.specs.Routes.{IsLeastCycle};
 ghost use Rattle.tcc_graph.specs.Orders.{IsCommitOrder, IsFirstOrder};
@@ -24,7 +24,7 @@ ghost use Rattle.tcc_answer.specs.Texts.{answer_text};
 ghost use Rattle.tcc_answer.specs.Json.{answer_json};
 ghost use Rattle.tcc_answer.specs.declared.answer.Answer.{Answer};
 ghost use Rattle.tcc_answer.specs.declared.answer.Answer.TheVariants as answer;
-ghost use Rattle.tcc_growth.specs.Growth.{Grows, judged};
+ghost use Rattle.tcc_growth.specs.Growth.{Grows};
 ghost use Rattle.tcc_explain.specs.Certificates.{IsNearTable, IsFarTable, IsClocksAt, IsNumbered};
 ghost use Rattle.tcc_explain.specs.Explained.{IsAnswerOf};
 ghost use Rattle.tcc_explain.specs.Keys.{HasNames};
@@ -45,7 +45,7 @@ pub fn certificates()
 
 /// The certificate of the answer for a snapshot at a level keeps all rules.
 pub fn certified()
-    ensures { (s : Sessions) (level : Level) (a : Answer) → IsAnswerOf (record { history = history s; level = level }) a
+    ensures { (s : Sessions) (level : Level) (a : Answer) → IsAnswerOf (judged (history s) level) a
         → Certifies (history s) (certificate_of a) }
 {}
 
@@ -53,9 +53,9 @@ pub fn certified()
 /// keeps the limits and its keys are names.
 pub fn written()
     ensures text { (s : Sessions) (level : Level) (a : Answer) → KeepsLimits s → HasNames s
-        → IsAnswerOf (record { history = history s; level = level }) a → HasText (certificate_of a) }
+        → IsAnswerOf (judged (history s) level) a → HasText (certificate_of a) }
     ensures read { (s : Sessions) (level : Level) (a : Answer) → KeepsLimits s → HasNames s
-        → IsAnswerOf (record { history = history s; level = level }) a
+        → IsAnswerOf (judged (history s) level) a
         → certificate_read (certificate_text (certificate_of a)) ≡ Ok (certificate_of a) }
 {}
 
@@ -82,8 +82,8 @@ pub fn one_answer()
 /// second; and at the level of that anomaly the second has an anomaly too, which has at most as many steps.
 pub fn grown()
     ensures nested { (small large : Sessions) (level : Level) (a : LabelledCycle) (n : ℕ) → Grows small large
-        → IsAnomalyOf (judged level small) a → IsNextRefusal large a (refusal.NotNested n) → ⊥ }
+        → IsAnomalyOf (judged (history small) level) a → IsNextRefusal large a (refusal.NotNested n) → ⊥ }
     ensures steps { (small large : Sessions) (level : Level) (a : LabelledCycle) (b : Answer) → Grows small large
-        → IsAnswerOf (judged level small) (answer.Anomaly a) → IsAnswerOf (judged level large) b
+        → IsAnswerOf (judged (history small) level) (answer.Anomaly a) → IsAnswerOf (judged (history large) level) b
         → (c : LabelledCycle) × (b ≡ answer.Anomaly c) × (cost c.links ≤ cost a.links) }
 {}

@@ -6,7 +6,7 @@ ghost use Rattle.tcc_graph.specs.Routes.{IsCycle};
 ghost use Rattle.tcc_graph.specs.declared.link.Link.{Link};
 ghost use Rattle.tcc_derive.specs.Prices.{IsPricesOf, IsLinkOf};
 ghost use Rattle.tcc_core.specs.Shares.{IsCycleCost};
-ghost use Rattle.tcc_explain.specs.Capping.{IsAtMost};
+ghost use Rattle.tcc_explain.specs.private.Capping.{IsAtMost};
 
 use tcc_derive::Prices;
 use tcc_graph::Link;

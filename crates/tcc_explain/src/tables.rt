@@ -4,13 +4,15 @@ ghost use Rattle.tcc_graph.specs.Orders.{IsCommitOrder};
 ghost use Rattle.tcc_near.specs.Distances.{IsNearOf};
 ghost use Rattle.tcc_packed.specs.Packed.{number_in};
 ghost use Rattle.tcc_explain.specs.Certificates.{IsNearTable, IsFarTable, IsClocksAt};
-ghost use Rattle.tcc_explain.specs.Capping.{AreFarRows};
+ghost use Rattle.tcc_explain.specs.private.Capping.{AreFarRows};
+ghost use Rattle.tcc_graph.specs.Levels.{judged};
 
 use std::alloc::Global;
 use tcc_answer::CappedRows;
 use tcc_cert::{Numbers, Table};
 use tcc_graph::{Graph, Level};
-use tcc_near::{Near, Row};
+use tcc_bits::Row;
+use tcc_near::Near;
 use tcc_order::clocks;
 use tcc_packed::PackedRow;
 use tcc_txn::NoMemory;
@@ -33,8 +35,8 @@ pub(crate) fn near_rows(
     near: Near,
     cap: u32,
 ) -> Result<CappedRows, NoMemory>
-    requires { IsNearOf (record { history = graph.now; level = near.level }) near }
-    ensures { IfOk result (IsNearTable (record { history = graph.now; level = near.level }) cap) }
+    requires { IsNearOf (judged graph.now near.level) near }
+    ensures { IfOk result (IsNearTable (judged graph.now near.level) cap) }
 {
     let _count = graph.count();
     let rows = packed(alloc, near.into_rows())?;
@@ -43,8 +45,8 @@ pub(crate) fn near_rows(
 
 /// The least costs of routes over numbers from their start upward, capped, by rows that are capped there.
 pub(crate) fn far_rows(graph: &Graph, _level: Level, rows: Vec<PackedRow>, cap: u32) -> CappedRows
-    requires { AreFarRows (record { history = graph.now; level = _level }) cap rows.items }
-    ensures { IsFarTable (record { history = graph.now; level = _level }) cap result }
+    requires { AreFarRows (judged graph.now _level) cap rows.items }
+    ensures { IsFarTable (judged graph.now _level) cap result }
 {
     let _count = graph.count();
     CappedRows::new(rows, cap)
@@ -68,7 +70,7 @@ pub(crate) fn clocks_at(
     level: Level,
     order: &[u32],
 ) -> Result<Table, NoMemory>
-    requires { IsCommitOrder (record { history = graph.now; level = level }) order.now }
+    requires { IsCommitOrder (judged graph.now level) order.now }
     ensures { IfOk result (IsClocksAt level graph.now) }
 {
     match level {

@@ -1,4 +1,4 @@
--- Which of all files one is. Nobody has to believe these: the contracts of public calls cite none of them.
+-- Which of all files one is.
 use Rattle.std.specs.Prelude.{ℕ, ◌≡◌, ◌==◌, Bool, true, false, Option, None, Some, Result, Ok, Err, bit_and, if◌then◌else◌}
 use Rattle.std.specs.IoError.{error_kind}
 use Rattle.std.specs.declared.io.Error.{Error}

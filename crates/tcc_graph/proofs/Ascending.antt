@@ -13,9 +13,9 @@ use Rattle.std.proofs.lemmas.List.FromFn.{get_or-range_with_len, length-range_wi
 use Rattle.std.proofs.lemmas.List.Kept.{IsStrictlySortedBy-filter}
 use Rattle.std.proofs.lemmas.Map.Keys.{Less-from_sorted, sorted_from_strictly_increasing}
 use Rattle.tcc_reads.specs.Sources.{name_cmp, pair_cmp}
-use Rattle.tcc_graph.specs.Grouped.{as_group, groups}
+use Rattle.tcc_graph.specs.private.Grouped.{as_group, groups}
 use Rattle.tcc_graph.specs.Places.{name_of}
-use Rattle.tcc_graph.specs.ReadTables.{values_from}
+use Rattle.tcc_graph.specs.private.ReadTables.{values_from}
 use Rattle.tcc_graph.specs.Relations.{by_number}
 
 -- ---- lists

@@ -14,10 +14,10 @@ use Rattle.tcc_reads.specs.History.{Entry, History, count, entry_at, initial}
 use Rattle.tcc_reads.specs.Sources.{name_cmp}
 use Rattle.tcc_graph.specs.Relations.{session_pair, causal_pair, has_items, reads_from, IsReadsPair, AreInOrder}
 use Rattle.tcc_graph.specs.Keys.{has_name, keys, is_key, writes, writers, readers}
-use Rattle.tcc_graph.specs.Grouped.{of_group, groups}
-use Rattle.tcc_graph.specs.ReadTables.{over, Placed, placed_of, values_from, HasReadsInOrder, IsReadTable, ArePlaced, IsPlaceTable}
+use Rattle.tcc_graph.specs.private.Grouped.{of_group, groups}
+use Rattle.tcc_graph.specs.private.ReadTables.{over, Placed, placed_of, values_from, HasReadsInOrder, IsReadTable, ArePlaced, IsPlaceTable}
 use Rattle.tcc_graph.specs.Places.{IsAbsent, name_of}
-use Rattle.tcc_graph.specs.KeyRows.{KeyRow, key_row_of, marked, writes_place, reads_place, IsKeyTable}
+use Rattle.tcc_graph.specs.private.KeyRows.{KeyRow, key_row_of, marked, writes_place, reads_place, IsKeyTable}
 use Rattle.tcc_graph.proofs.Ascending.{groups_sorted, values_sorted, places_sorted, filtered_sorted}
 use Rattle.tcc_graph.proofs.GroupedLemmas.{of_group-groups, zip-map, in_groups, from_groups}
 use Rattle.tcc_graph.proofs.KeysLemmas.{has_name-keys, present, absent, no_readers}

@@ -1,11 +1,11 @@
 -- Causal pairs, by their test and by their kinds; steps and links, and where they end.
-use Rattle.std.proofs.Common.{◌≡◌, ◌<◌, ◌==◌, ℕ, true, ◌&&◌, ◌||◌, ◌⊎◌, inl, inr, List, [], ◌∷◌, refl, arith, nat_lt}
+use Rattle.std.proofs.Common.{◌≡◌, ◌<◌, ◌==◌, ℕ, true, ◌&&◌, ◌||◌, ◌⊎◌, inl, inr, List, [], ◌∷◌, refl, subst, arith, nat_lt}
 use Rattle.std.specs.List.{Contains}
 use Rattle.std.proofs.lemmas.Bool.{or_cases, and_parts, and_from, or_left, or_right, ltb-true, lt-ltb, eq-eqb, eqb-true, false≢true}
 use Rattle.tcc_reads.specs.History.{History, count, owner, place}
 use Rattle.tcc_graph.specs.Relations.{session_pair, IsSessionPair, reads_from, IsReadsPair, has_items, causal_pair, IsCausalPair}
 use Rattle.tcc_graph.specs.Levels.{Judged}
-use Rattle.tcc_graph.specs.Walks.{step_from, step_to, IsStep}
+use Rattle.tcc_graph.specs.Walks.{step_from, step_to, IsStep, Leads}
 use Rattle.tcc_graph.specs.Links.{IsLink, link_from, link_to}
 use Rattle.tcc_graph.specs.declared.step.Step.{Step}
 use Rattle.tcc_graph.specs.declared.step.Step.TheVariants as step
@@ -54,6 +54,10 @@ step_pair h (step.Reads a b x) p = inr (x, p)
 
 pub pair_from_step : (h : History) (s : Step) → IsStep h s → causal_pair h (step_from s) (step_to s) ≡ true
 pair_from_step h s p = pair_from_kinds h (step_from s) (step_to s) (step_pair h s p)
+
+-- the pair of the first step of a walk
+pub first_pair : (h : History) (a b : ℕ) (s : Step) (steps : List Step) → Leads h a b (s ∷ steps) → causal_pair h a (step_to s) ≡ true
+first_pair h a b s steps w = subst (λ (u : ℕ). causal_pair h u (step_to s) ≡ true) w.0 (pair_from_step h s w.1)
 
 -- a causal pair is a step
 pub step_of_kind : (h : History) (a b : ℕ) → IsCausalPair h a b → (s : Step) × (step_from s ≡ a) × (step_to s ≡ b) × IsStep h s

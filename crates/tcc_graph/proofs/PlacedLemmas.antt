@@ -12,9 +12,9 @@ use Rattle.std.proofs.lemmas.List.Folds.{list_any_at}
 use Rattle.tcc_reads.specs.History.{Entry, initial}
 use Rattle.tcc_reads.specs.Sources.{name_cmp}
 use Rattle.tcc_graph.specs.Keys.{has_name, keys, keys_of}
-use Rattle.tcc_graph.specs.Grouped.{as_group, groups}
+use Rattle.tcc_graph.specs.private.Grouped.{as_group, groups}
 use Rattle.tcc_graph.specs.Places.{name_of, IsAbsent, StandsAt}
-use Rattle.tcc_graph.specs.ReadTables.{over, values_from, Placed, placed_of, IsPlaced, ArePlaced, IsPlaceTable, HasSources}
+use Rattle.tcc_graph.specs.private.ReadTables.{over, values_from, Placed, placed_of, IsPlaced, ArePlaced, IsPlaceTable, HasSources}
 use Rattle.tcc_graph.proofs.NameLemmas.{bytes_eq-same, bytes_eq-other, places_differ, contains-has_name}
 use Rattle.tcc_graph.proofs.KeysLemmas.{has_name-keys, absent}
 

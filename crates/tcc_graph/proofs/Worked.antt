@@ -7,7 +7,7 @@ use Rattle.tcc_graph.specs.Relations.{session_pair, reads_from, causal_pair}
 use Rattle.tcc_graph.specs.Numbers.{at, label}
 use Rattle.tcc_graph.specs.Keys.{keys, writers, readers}
 use Rattle.tcc_graph.specs.Walks.{IsWalk}
-use Rattle.tcc_graph.specs.Levels.{IsAllowed, causally, atomically}
+use Rattle.tcc_graph.specs.Levels.{IsAllowed, causally, atomically, judged}
 use Rattle.tcc_graph.specs.Links.{IsLink, cost, link_cost}
 use Rattle.tcc_graph.specs.Routes.{IsCycle}
 use Rattle.tcc_graph.specs.Ties.{walk_cmp, link_cmp, cycle_cmp}
@@ -164,7 +164,7 @@ conflict_cycle = link.Derived 1 2 x 3 (step.Reads 1 3 x ∷ []) ∷ link.Derived
 
 -- a cycle at each level that allows its walks
 two_values-at : (level : Level) → IsAllowed level (step.Reads 1 3 x ∷ []) → IsAllowed level (step.Reads 2 3 x ∷ [])
-    → IsCycle (record { history = two_values; level = level }) 1 conflict_cycle
+    → IsCycle (judged two_values level) 1 conflict_cycle
 two_values-at level one two = (
   omega arith,
   (

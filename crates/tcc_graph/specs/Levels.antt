@@ -11,6 +11,10 @@ pub record Judged : Type 0 where
   pub history : History
   pub level : Level
 
+-- a history at a level
+abbrev pub judged : History → Level → Judged
+judged h level = record { history = h; level = level }
+
 -- what a level allows the walk of a reason to be: at `Causal` any, at `Atomic` a single pair
 abbrev pub IsAllowed : Level → List Step → Type 0
 IsAllowed level.Causal walk = Unit {0}
@@ -22,7 +26,7 @@ IsAllowedWalk j a b walk = IsWalk j.history a b walk × IsAllowed j.level walk
 
 -- a history at each level
 abbrev pub causally : History → Judged
-causally h = record { history = h; level = level.Causal }
+causally h = judged h level.Causal
 
 abbrev pub atomically : History → Judged
-atomically h = record { history = h; level = level.Atomic }
+atomically h = judged h level.Atomic

@@ -1,4 +1,3 @@
--- What contracts of public calls cite:
 pub mod Relations
 pub mod Keys
 pub mod Walks
@@ -11,8 +10,4 @@ pub mod Answers
 pub mod Numbers
 pub mod Tables
 pub mod Places
--- What serves proofs alone:
-pub mod Grouped
-pub mod ReadTables
-pub mod KeyRows
-pub mod Graphs
+pub mod private

@@ -6,6 +6,7 @@ ghost use Rattle.tcc_graph.specs.Relations.{IsSessionPair, session_pair, reads_f
 ghost use Rattle.std.specs.Ordering.{nat_cmp};
 ghost use Rattle.tcc_reads.specs.Sources.{name_cmp};
 ghost use Rattle.tcc_graph.specs.Keys.{keys, key_at, writers, readers};
+ghost use Rattle.tcc_graph.specs.Levels.{judged};
 ghost use Rattle.tcc_graph.specs.Numbers.{at, label};
 ghost use Rattle.tcc_graph.specs.Links.{IsLink};
 
@@ -172,7 +173,7 @@ impl Graph {
 
     /// Whether the link is one of the history at the level. Its numbers may be any: past the last there is no link.
     pub fn is_link(&self, level: Level, link: &Link) -> bool
-        ensures { IsTrue result ↔ IsLink (record { history = self.now; level = level }) link.now }
+        ensures { IsTrue result ↔ IsLink (judged self.now level) link.now }
     {
         self.large.is_link(level, link)
     }

@@ -3,7 +3,7 @@ ghost use Rattle.std.specs.Prelude.{◌≡◌, ◌↔◌, IsTrue};
 ghost use Rattle.tcc_graph.specs.Relations.{IsSessionPair, IsReadsPair};
 ghost use Rattle.tcc_graph.specs.Keys.{IsWriter};
 ghost use Rattle.tcc_graph.specs.Walks.{IsStep, Leads};
-ghost use Rattle.tcc_graph.specs.Levels.{IsAllowed};
+ghost use Rattle.tcc_graph.specs.Levels.{IsAllowed, judged};
 ghost use Rattle.tcc_graph.specs.Links.{IsReason, IsLink};
 
 use crate::{LargeGraph, Level, Link, Step};
@@ -75,7 +75,7 @@ fn is_reason(
     reader: u32,
     walk: &[Step],
 ) -> bool
-    ensures { IsTrue result ↔ IsReason (record { history = graph.now; level = level }) from to key.now reader walk.now }
+    ensures { IsTrue result ↔ IsReason (judged graph.now level) from to key.now reader walk.now }
 {
     from != to
         && is_read(graph, to, reader, key)
@@ -87,7 +87,7 @@ fn is_reason(
 
 /// Whether the link is one of the history at the level.
 pub(crate) fn is_link(graph: &LargeGraph, level: Level, link: &Link) -> bool
-    ensures { IsTrue result ↔ IsLink (record { history = graph.now; level = level }) link.now }
+    ensures { IsTrue result ↔ IsLink (judged graph.now level) link.now }
 {
     match link {
         Link::Session { from, to } => is_session(graph, *from, *to),

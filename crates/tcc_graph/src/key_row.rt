@@ -1,7 +1,7 @@
 //! Who writes and who reads one key.
 ghost use Rattle.std.specs.Prelude.{◌≡◌, ◌≤◌, [], ◌∷◌, All, OnOk, IfOk};
-ghost use Rattle.tcc_graph.specs.Grouped.{of_group};
-ghost use Rattle.tcc_graph.specs.KeyRows.{is_last, is_last_pair, with_last};
+ghost use Rattle.tcc_graph.specs.private.Grouped.{of_group};
+ghost use Rattle.tcc_graph.specs.private.KeyRows.{is_last, is_last_pair, with_last};
 
 use crate::grouped::{Grouped, is_last};
 use std::alloc::Global;
@@ -16,7 +16,7 @@ pub(crate) struct KeyRow {
 }
 
 impl Model for KeyRow {
-    ghost use Rattle.tcc_graph.specs.KeyRows.{KeyRow};
+    ghost use Rattle.tcc_graph.specs.private.KeyRows.{KeyRow};
 
     ghost Value = { KeyRow };
 

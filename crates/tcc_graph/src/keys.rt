@@ -4,7 +4,7 @@ ghost use Rattle.std.specs.List.Sorted.{IsStrictlySortedBy};
 ghost use Rattle.std.specs.Ordering.{nat_cmp};
 ghost use Rattle.std.specs.Cmp.Lexicographic.{slice_cmp};
 ghost use Rattle.tcc_graph.specs.Keys.{with_names, keys};
-ghost use Rattle.tcc_graph.specs.ReadTables.{over};
+ghost use Rattle.tcc_graph.specs.private.ReadTables.{over};
 
 use crate::transaction::Transaction;
 use std::alloc::Global;

@@ -6,6 +6,7 @@ ghost use Rattle.tcc_graph.specs.Relations.{IsSessionPair, session_pair, reads_f
 ghost use Rattle.std.specs.Ordering.{nat_cmp};
 ghost use Rattle.tcc_reads.specs.Sources.{name_cmp};
 ghost use Rattle.tcc_graph.specs.Keys.{keys, key_at, writers, readers};
+ghost use Rattle.tcc_graph.specs.Levels.{judged};
 ghost use Rattle.tcc_graph.specs.Numbers.{at, label};
 ghost use Rattle.tcc_graph.specs.Links.{IsLink};
 
@@ -38,7 +39,7 @@ pub struct LargeGraph {
 
 impl Model for LargeGraph {
     ghost use Rattle.tcc_reads.specs.History.{History};
-    ghost use Rattle.tcc_graph.specs.Graphs.{IsGraph};
+    ghost use Rattle.tcc_graph.specs.private.Graphs.{IsGraph};
 
     ghost Value = { History };
 
@@ -212,7 +213,7 @@ impl LargeGraph {
 
     /// Whether the link is one of the history at the level. Its numbers may be any: past the last there is no link.
     pub fn is_link(&self, level: Level, link: &Link) -> bool
-        ensures { IsTrue result ↔ IsLink (record { history = self.now; level = level }) link.now }
+        ensures { IsTrue result ↔ IsLink (judged self.now level) link.now }
     {
         is_link(self, level, link)
     }

@@ -5,7 +5,7 @@ ghost use Rattle.std.specs.Ordering.{nat_cmp};
 ghost use Rattle.std.specs.Cmp.Lexicographic.{slice_cmp};
 ghost use Rattle.tcc_graph.specs.Keys.{has_name, keys_of};
 ghost use Rattle.tcc_graph.specs.Places.{name_of};
-ghost use Rattle.tcc_graph.specs.ReadTables.{IsPlaced, ArePlaced};
+ghost use Rattle.tcc_graph.specs.private.ReadTables.{IsPlaced, ArePlaced};
 
 use crate::key_table::place_of;
 use crate::transaction::Transaction;
@@ -21,7 +21,7 @@ pub(crate) struct Placed {
 }
 
 impl Model for Placed {
-    ghost use Rattle.tcc_graph.specs.ReadTables.{Placed};
+    ghost use Rattle.tcc_graph.specs.private.ReadTables.{Placed};
 
     ghost Value = { Placed };
 

@@ -10,7 +10,7 @@ use Rattle.tcc_graph.specs.Routes.{IsCycle}
 use Rattle.tcc_graph.specs.declared.level.Level.{Level}
 use Rattle.tcc_graph.specs.declared.link.Link.{Link}
 use Rattle.tcc_growth.specs.Growth.{Grows}
-use Rattle.tcc_growth.specs.Growth.{judged, number_in, link_in, CarriesLinks, CarriesCycles, KeepsLabels, KeepsLinks, KeepsCycles, KeepsAnomalies}
+use Rattle.tcc_growth.specs.Growth.{number_in, link_in, CarriesLinks, CarriesCycles, KeepsLabels, KeepsLinks, KeepsCycles, KeepsAnomalies}
 use Rattle.tcc_growth.specs.Growth.{CostsNoMore, IsFirstMissing}
 use Rattle.tcc_growth.specs.Moved.{link_by}
 use Rattle.tcc_growth.specs.Slices.{IsSlice}
@@ -19,18 +19,19 @@ use Rattle.tcc_growth.proofs.Meeting.{moves, moved_zero}
 use Rattle.tcc_growth.proofs.Kept.{kept_link, all_kept, cycle_by, leads_on, moved_cost}
 use Rattle.tcc_growth.proofs.Sliced.{sliced}
 use Rattle.tcc_growth.proofs.Growth.{grown}
+use Rattle.tcc_graph.specs.Levels.{judged}
 
 module _ (f : ℕ → ℕ) (small large : Sessions) (slice : IsSlice f small large) where
   pub carries_links : CarriesLinks f small large
   carries_links level l is = (kept_link (history small) (history large) f (sliced f small large slice) level l is, moved_cost f l)
 
-  carried_there : (level : Level) (s : ℕ) (links : List Link) → IsCycle (judged level small) s links
-      → All (IsLink (judged level large)) (map (link_by f) links)
+  carried_there : (level : Level) (s : ℕ) (links : List Link) → IsCycle (judged (history small) level) s links
+      → All (IsLink (judged (history large) level)) (map (link_by f) links)
   carried_there level s links cycle = all_kept (history small) (history large) f (sliced f small large slice) level s s links cycle.1
 
   pub carries_cycles : CarriesCycles f small large
   carries_cycles level s links cycle =
-      cycle_by f (judged level large) s links cycle.0 (leads_on (judged level small) s s links cycle.1) (carried_there level s links cycle)
+      cycle_by f (judged (history large) level) s links cycle.0 (leads_on (judged (history small) level) s s links cycle.1) (carried_there level s links cycle)
 
   pub carries_anomalies : KeepsAnomalies small large
   carries_anomalies level (s, links, cycle) = (f s, map (link_by f) links, (carries_cycles level s links cycle).0)
@@ -61,9 +62,9 @@ module _ (small large : Sessions) (grows : Grows small large) where
   pub costs_no_more : CostsNoMore small large
   costs_no_more = carried_cost (number_in small large) small large (grown small large grows)
 
-  pub none_missing : (level : Level) (s : ℕ) (links : List Link) (n : ℕ) → IsCycle (judged level small) s links
-      → IsFirstMissing (judged level large) (map (link_in small large) links) n → ⊥
+  pub none_missing : (level : Level) (s : ℕ) (links : List Link) (n : ℕ) → IsCycle (judged (history small) level) s links
+      → IsFirstMissing (judged (history large) level) (map (link_in small large) links) n → ⊥
   none_missing level s links n cycle m =
-      m.wrong (All-contains (IsLink (judged level large)) (map (link_in small large) links) m.missing
+      m.wrong (All-contains (IsLink (judged (history large) level)) (map (link_in small large) links) m.missing
       (carried_there (number_in small large) small large (grown small large grows) level s links cycle)
       (m.before, m.within, m.here))

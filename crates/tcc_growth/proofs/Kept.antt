@@ -7,7 +7,7 @@ use Rattle.tcc_reads.specs.History.{History, count, entry_at}
 use Rattle.tcc_graph.specs.Relations.{IsSessionPair, IsReadsPair}
 use Rattle.tcc_graph.specs.Keys.{has_name, IsWriter}
 use Rattle.tcc_graph.specs.Walks.{step_from, step_to, IsStep, Leads, IsWalk}
-use Rattle.tcc_graph.specs.Levels.{Judged, IsAllowed}
+use Rattle.tcc_graph.specs.Levels.{Judged, IsAllowed, judged}
 use Rattle.tcc_graph.specs.Links.{IsReason, IsLink, link_from, link_to, link_cost, cost}
 use Rattle.tcc_graph.specs.Routes.{LinksLead, IsCycle}
 use Rattle.tcc_graph.specs.declared.level.Level.{Level}
@@ -127,14 +127,14 @@ module _ (h k : History) (f : ℕ → ℕ) (kept : IsKept h k f) where
 
   -- ---- reasons and links
 
-  pub kept_reason : (l : Level) (b a : ℕ) (x : List ℕ) (c : ℕ) (walk : List Step) → IsReason (record { history = h; level = l }) b a x c walk
-      → IsReason (record { history = k; level = l }) (f b) (f a) x (f c) (map (step_by f) walk)
+  pub kept_reason : (l : Level) (b a : ℕ) (x : List ℕ) (c : ℕ) (walk : List Step) → IsReason (judged h l) b a x c walk
+      → IsReason (judged k l) (f b) (f a) x (f c) (map (step_by f) walk)
   kept_reason l b a x c walk is = (
     (λ same. is.0.0 (kept.once b a is.0.2.0 is.0.1.0 same), kept.read a c x is.0.1, kept_writer b x is.0.2),
     (kept_walk b c walk is.1.0, kept_allowed l walk is.1.1),
   )
 
-  pub kept_link : (v : Level) (l : Link) → IsLink (record { history = h; level = v }) l → IsLink (record { history = k; level = v }) (link_by f l)
+  pub kept_link : (v : Level) (l : Link) → IsLink (judged h v) l → IsLink (judged k v) (link_by f l)
   kept_link v (link.Session a b) is = kept_session a b is
   kept_link v (link.Reads a b x) is = kept.read a b x is
   kept_link v (link.Derived b a x c walk) is = kept_reason v b a x c walk is
@@ -142,8 +142,8 @@ module _ (h k : History) (f : ℕ → ℕ) (kept : IsKept h k f) where
   -- ---- routes and cycles
 
   -- links that lead somewhere are links there
-  pub all_kept : (v : Level) (a b : ℕ) (links : List Link) → LinksLead (record { history = h; level = v }) a b links
-      → All (IsLink (record { history = k; level = v })) (map (link_by f) links)
-  all_kept v a b [] p = All-nil (IsLink (record { history = k; level = v }))
+  pub all_kept : (v : Level) (a b : ℕ) (links : List Link) → LinksLead (judged h v) a b links
+      → All (IsLink (judged k v)) (map (link_by f) links)
+  all_kept v a b [] p = All-nil (IsLink (judged k v))
   all_kept v a b (l ∷ links) p =
-      All-cons (IsLink (record { history = k; level = v })) (link_by f l) (map (link_by f) links) (kept_link v l p.1) (all_kept v (link_to l) b links p.2)
+      All-cons (IsLink (judged k v)) (link_by f l) (map (link_by f) links) (kept_link v l p.1) (all_kept v (link_to l) b links p.2)

@@ -14,7 +14,7 @@ use Rattle.tcc_txn.specs.declared.op.Op.TheVariants.{Get, Put}
 use Rattle.tcc_txn.proofs.SessionEntries.{Named}
 use Rattle.tcc_reads.specs.Faults.{faults_of, read_faults}
 use Rattle.tcc_reads.specs.Sites.{stands_from}
-use Rattle.tcc_reads.specs.Sources.{name_cmp, history_of}
+use Rattle.tcc_reads.specs.Sources.{name_cmp, history_of, history}
 use Rattle.tcc_reads.proofs.Ties.{same_name}
 use Rattle.tcc_graph.specs.Routes.{IsCycle}
 use Rattle.tcc_graph.specs.declared.level.Level.TheVariants.{Causal}
@@ -24,8 +24,9 @@ use Rattle.tcc_graph.specs.declared.step.Step.TheVariants as step
 use Rattle.tcc_txn.specs.Nested.{list_of, IsPrefix, IsNested}
 use Rattle.tcc_growth.specs.Growth.{Grows}
 use Rattle.tcc_answer.specs.Labels.{labels_of}
+use Rattle.tcc_graph.specs.Levels.{judged}
 use Rattle.tcc_growth.specs.Moved.{number_among, moved}
-use Rattle.tcc_growth.specs.Growth.{judged, number_in, link_in}
+use Rattle.tcc_growth.specs.Growth.{number_in, link_in}
 use Rattle.tcc_growth.proofs.Keeping.{keeps_cycles}
 
 abbrev x : List ℕ
@@ -96,8 +97,8 @@ grows = record {
 abbrev cycle : List Link
 cycle = link.Session 0 1 ∷ link.Derived 1 0 x 2 (step.Session 1 2 ∷ []) ∷ []
 
-is_cycle : IsCycle (judged Causal small) 0 cycle
-is_cycle = subst (λ (z : List Named). IsCycle (record { history = history_of (map (λ named. named.0) z) (stands_from 0 z); level = Causal }) 0 cycle)
+is_cycle : IsCycle (judged (history small) Causal) 0 cycle
+is_cycle = subst (λ (z : List Named). IsCycle (judged (history_of (map (λ named. named.0) z) (stands_from 0 z)) Causal) 0 cycle)
     (sym small_is) (
       omega arith,
       (
@@ -128,5 +129,5 @@ pub moved_numbers : (number_in small large 1 ≡ 2) × (number_in small large 2 
 moved_numbers =
     subst (λ (z : List Named). IsShifted z (entries large)) (sym small_is) (subst (λ (z : List Named). IsShifted few z) (sym large_is) shifted)
 
-pub still : IsCycle (judged Causal large) (number_in small large 0) (map (link_in small large) cycle)
+pub still : IsCycle (judged (history large) Causal) (number_in small large 0) (map (link_in small large) cycle)
 still = (keeps_cycles small large grows Causal 0 cycle is_cycle).0

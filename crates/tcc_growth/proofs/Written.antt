@@ -8,7 +8,8 @@ use Rattle.std.proofs.lemmas.Bool.{false≢true, eqb-true, eq-eqb, cases_Bool}
 use Rattle.tcc_txn.specs.declared.op.Op.{Op}
 use Rattle.tcc_txn.specs.declared.op.Op.TheVariants.{Get, Put}
 use Rattle.tcc_reads.specs.Sites.{Stand}
-use Rattle.tcc_reads.specs.Sources.{visible_write, value_put, key_put, shows, writes_of, name_cmp, TellsApart}
+use Rattle.tcc_reads.specs.Sources.{visible_write, value_put, key_put, shows, writes_of, name_cmp}
+use Rattle.tcc_reads.specs.private.Sorting.{TellsApart}
 use Rattle.tcc_reads.proofs.Ties.{same_name, itself}
 use Rattle.tcc_graph.specs.Keys.{has_name}
 use Rattle.tcc_graph.proofs.NameLemmas.{has_name-contains, contains-has_name}

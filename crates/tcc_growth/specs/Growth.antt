@@ -6,7 +6,7 @@ use Rattle.tcc_txn.specs.Snapshots.{Sessions}
 use Rattle.tcc_reads.specs.Faults.{read_faults}
 use Rattle.tcc_reads.specs.History.{count}
 use Rattle.tcc_reads.specs.Sources.{history}
-use Rattle.tcc_graph.specs.Levels.{Judged}
+use Rattle.tcc_graph.specs.Levels.{Judged, judged}
 use Rattle.tcc_graph.specs.Links.{IsLink, link_from, link_to, link_cost, cost}
 use Rattle.tcc_graph.specs.Numbers.{label}
 use Rattle.tcc_graph.specs.Routes.{IsCycle, IsLeastCycle, HasCycle}
@@ -21,10 +21,6 @@ pub record Grows (small : Sessions) (large : Sessions) : Type 0 where
   pub before : read_faults small ≡ []
   pub later : read_faults large ≡ []
   pub limits : KeepsLimits large
-
--- the history of a snapshot at a level
-abbrev pub judged : Level → Sessions → Judged
-judged level s = record { history = history s; level = level }
 
 -- a number and a link of one snapshot, by their labels, in another
 abbrev pub number_in : Sessions → Sessions → ℕ → ℕ
@@ -42,13 +38,13 @@ KeepsLabels small large =
 -- by a map of numbers each link is a link there, and costs the same
 abbrev pub CarriesLinks : (ℕ → ℕ) → Sessions → Sessions → Type 0
 CarriesLinks f small large =
-    (level : Level) (l : Link) → IsLink (judged level small) l → IsLink (judged level large) (link_by f l) × (link_cost (link_by f l) ≡ link_cost l)
+    (level : Level) (l : Link) → IsLink (judged (history small) level) l → IsLink (judged (history large) level) (link_by f l) × (link_cost (link_by f l) ≡ link_cost l)
 
 -- and each cycle a cycle
 abbrev pub CarriesCycles : (ℕ → ℕ) → Sessions → Sessions → Type 0
 CarriesCycles f small large =
-    (level : Level) (s : ℕ) (links : List Link) → IsCycle (judged level small) s links
-    → IsCycle (judged level large) (f s) (map (link_by f) links) × (cost (map (link_by f) links) ≡ cost links)
+    (level : Level) (s : ℕ) (links : List Link) → IsCycle (judged (history small) level) s links
+    → IsCycle (judged (history large) level) (f s) (map (link_by f) links) × (cost (map (link_by f) links) ≡ cost links)
 
 -- so by their labels
 abbrev pub KeepsLinks : Sessions → Sessions → Type 0
@@ -59,13 +55,13 @@ KeepsCycles small large = CarriesCycles (number_in small large) small large
 
 -- where there is a cycle, there is one there
 abbrev pub KeepsAnomalies : Sessions → Sessions → Type 0
-KeepsAnomalies small large = (level : Level) → HasCycle (judged level small) → HasCycle (judged level large)
+KeepsAnomalies small large = (level : Level) → HasCycle (judged (history small) level) → HasCycle (judged (history large) level)
 
 -- a least cycle there costs at most what one costs here
 abbrev pub CostsNoMore : Sessions → Sessions → Type 0
 CostsNoMore small large =
-    (level : Level) (s : ℕ) (links : List Link) (t : ℕ) (others : List Link) → IsLeastCycle (judged level small) s links
-    → IsLeastCycle (judged level large) t others → cost others ≤ cost links
+    (level : Level) (s : ℕ) (links : List Link) (t : ℕ) (others : List Link) → IsLeastCycle (judged (history small) level) s links
+    → IsLeastCycle (judged (history large) level) t others → cost others ≤ cost links
 
 -- the links lead from a to b by their numbers alone, each from where the one before ends
 abbrev pub LeadOn : ℕ → ℕ → List Link → Type 0

@@ -2,6 +2,7 @@
 ghost use Rattle.std.specs.Prelude.{◌≡◌, All, IfOk, MatchOption, map};
 ghost use Rattle.tcc_graph.specs.Links.{IsLink};
 ghost use Rattle.tcc_answer.specs.Labels.{labels_of};
+ghost use Rattle.tcc_graph.specs.Levels.{judged};
 ghost use Rattle.tcc_growth.specs.Growth.{IsFirstMissing};
 ghost use Rattle.tcc_growth.specs.Moved.{link_by, moved};
 
@@ -36,8 +37,8 @@ pub fn carried(
 /// The first of the links, counted from 1, that is none of the graph's history at the level.
 pub fn first_missing(graph: &Graph, level: Level, links: &[Link]) -> Option<usize>
     ensures { MatchOption result
-        (All (IsLink (record { history = graph.now; level = level })) links.now)
-        (IsFirstMissing (record { history = graph.now; level = level }) links.now) }
+        (All (IsLink (judged graph.now level)) links.now)
+        (IsFirstMissing (judged graph.now level) links.now) }
 {
     for index in 0..links.len() {
         if !graph.is_link(level, &links[index]) {

@@ -2,15 +2,16 @@
 //! where a snapshot goes on, its anomalies stay, and the least never costs more.
 ghost use Rattle.std.specs.Prelude.{ℕ, ◌<◌, ◌≡◌, length, List, map, All};
 ghost use Rattle.tcc_txn.specs.Snapshots.{Sessions};
-ghost use Rattle.tcc_graph.specs.Levels.{Judged};
+ghost use Rattle.tcc_graph.specs.Levels.{Judged, judged};
 ghost use Rattle.tcc_graph.specs.Links.{IsLink, cost};
 ghost use Rattle.tcc_graph.specs.Routes.{IsCycle};
 ghost use Rattle.tcc_graph.specs.declared.level.Level.{Level};
 ghost use Rattle.tcc_graph.specs.declared.link.Link.{Link};
 ghost use Rattle.tcc_growth.specs.Moved.{link_by};
-ghost use Rattle.tcc_growth.specs.Growth.{Grows, IsFirstMissing, judged, number_in, link_in, CarriesLinks, CarriesCycles, KeepsLabels, KeepsLinks, KeepsCycles};
+ghost use Rattle.tcc_growth.specs.Growth.{Grows, IsFirstMissing, number_in, link_in, CarriesLinks, CarriesCycles, KeepsLabels, KeepsLinks, KeepsCycles};
 ghost use Rattle.tcc_growth.specs.Growth.{KeepsAnomalies, CostsNoMore, LeadOn};
 ghost use Rattle.tcc_growth.specs.Slices.{IsSlice};
+ghost use Rattle.tcc_reads.specs.Sources.{history};
 
 /// Where each committed transaction of a resolved snapshot is a part of one of another resolved snapshot, by a map of numbers
 /// that only rises in a session: one session, the part's external reads among the whole one's, and what the part writes visibly
@@ -35,7 +36,7 @@ pub fn growth()
     ensures anomalies { (small large : Sessions) → Grows small large → KeepsAnomalies small large }
     ensures costs { (small large : Sessions) → Grows small large → CostsNoMore small large }
     ensures missed { (small large : Sessions) (level : Level) (s : ℕ) (links : List Link) (n : ℕ) → Grows small large
-        → IsCycle (judged level small) s links → IsFirstMissing (judged level large) (map (link_in small large) links) n → ⊥ }
+        → IsCycle (judged (history small) level) s links → IsFirstMissing (judged (history large) level) (map (link_in small large) links) n → ⊥ }
 {}
 
 /// Links that lead back to their start are, in other numbers, a cycle wherever each of them is a link, and cost the same:

@@ -11,8 +11,8 @@ use Rattle.tcc_graph.specs.Levels.{causally, atomically}
 use Rattle.tcc_graph.specs.Walks.{step_from, IsWalk}
 use Rattle.tcc_graph.specs.Links.{MayContradict}
 use Rattle.tcc_graph.proofs.Pairs.{step_pair, pair_below}
-use Rattle.tcc_large.specs.Reaching.{IsReach, AreSpread, number_at}
-use Rattle.tcc_large.specs.Ranked.{IsAgainst, AreReadsPast, AreReasonsPast}
+use Rattle.tcc_large.specs.private.Reaching.{IsReach, AreSpread, number_at}
+use Rattle.tcc_large.specs.private.Ranked.{IsAgainst, AreReadsPast, AreReasonsPast}
 use Rattle.tcc_large.proofs.Reached.{walk_reached}
 
 -- ---- reads as they are listed

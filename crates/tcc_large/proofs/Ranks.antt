@@ -12,7 +12,7 @@ use Rattle.tcc_graph.specs.declared.link.Link.TheVariants as link
 use Rattle.tcc_graph.proofs.Pairs.{link_below}
 use Rattle.tcc_graph.proofs.Linking.{lead_append}
 use Rattle.tcc_large.specs.Cycles.{AreCycle}
-use Rattle.tcc_large.specs.Ranked.{IsOnward, ArePairsPast, AreReasonsPast, AreLinksPast}
+use Rattle.tcc_large.specs.private.Ranked.{IsOnward, ArePairsPast, AreReasonsPast, AreLinksPast}
 use Rattle.tcc_large.proofs.Numbered.{AreNumbered, numbered_room, numbered_more}
 
 -- ---- pairs and derived links are all links

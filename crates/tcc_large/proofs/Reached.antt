@@ -9,7 +9,7 @@ use Rattle.tcc_graph.specs.Relations.{IsCausalPair, IsReadsPair, IsSessionPair}
 use Rattle.tcc_graph.specs.Walks.{step_to, Leads, IsWalk}
 use Rattle.tcc_graph.specs.declared.step.Step.{Step}
 use Rattle.tcc_graph.proofs.Pairs.{step_pair}
-use Rattle.tcc_large.specs.Reaching.{IsReach, IsMore, AreMet, AreMetBetween, AreSpread, number_at, before_at}
+use Rattle.tcc_large.specs.private.Reaching.{IsReach, IsMore, AreMet, AreMetBetween, AreSpread, number_at, before_at}
 use Rattle.tcc_large.proofs.Numbered.{numbered_room}
 
 -- no more places than transactions and one

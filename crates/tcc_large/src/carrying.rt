@@ -4,7 +4,7 @@ ghost use Rattle.tcc_reads.specs.History.{count};
 ghost use Rattle.tcc_graph.specs.Relations.{IsReadsPair, IsSessionPair};
 ghost use Rattle.tcc_graph.specs.Keys.{IsWriter};
 ghost use Rattle.tcc_large.specs.Slices.{IsCarried};
-ghost use Rattle.tcc_large.specs.Carrying.{carry, KeepsReads, KeepsSessions, KeepsWrites, IsRising};
+ghost use Rattle.tcc_large.specs.private.Carrying.{carry, KeepsReads, KeepsSessions, KeepsWrites, IsRising};
 
 use tcc_graph::{LargeGraph, Level, Link};
 use tcc_txn::Name;

@@ -5,7 +5,8 @@ ghost use Rattle.tcc_reads.specs.History.{count};
 ghost use Rattle.tcc_graph.specs.Links.{link_to};
 ghost use Rattle.tcc_graph.specs.Routes.{HasCycle};
 ghost use Rattle.tcc_large.specs.Cycles.{AreCycle};
-ghost use Rattle.tcc_large.specs.Ranked.{IsFollowed};
+ghost use Rattle.tcc_large.specs.private.Ranked.{IsFollowed};
+ghost use Rattle.tcc_graph.specs.Levels.{judged};
 
 use crate::cells::Cells;
 use crate::judging::to;
@@ -33,7 +34,7 @@ fn follow(
 ) -> Result<Followed, NoMemory>
     requires start { start < count graph.now }
     requires new { slice_index ranks.now start ≡ 0 }
-    ensures { IfOk result (IsFollowed (record { history = graph.now; level = level }) ranks.now) }
+    ensures { IfOk result (IsFollowed (judged graph.now level) ranks.now) }
 {
     let mut places = Cells::new(alloc, graph.count() as usize, 0)?;
     let mut trail = Vec::new(alloc);
@@ -75,8 +76,8 @@ pub(crate) fn circle(
     level: Level,
 ) -> Result<Option<Vec<Link>>, NoMemory>
     ensures { IfOk result (λ found. MatchOption found
-        (HasCycle (record { history = graph.now; level = level }) → ⊥)
-        (λ links. AreCycle (record { history = graph.now; level = level }) links.items)) }
+        (HasCycle (judged graph.now level) → ⊥)
+        (λ links. AreCycle (judged graph.now level) links.items)) }
 {
     let mut ranks = Cells::new(alloc, graph.count() as usize, 0)?;
     for rank in 0..graph.count() + 1 {

@@ -3,6 +3,7 @@ ghost use Rattle.std.specs.Prelude.{◌≡◌, ◌↔◌, IsTrue};
 ghost use Rattle.tcc_graph.specs.Links.{link_from, link_to};
 ghost use Rattle.tcc_graph.specs.Routes.{LinksLead};
 ghost use Rattle.tcc_large.specs.Cycles.{AreCycle};
+ghost use Rattle.tcc_graph.specs.Levels.{judged};
 
 use tcc_graph::{LargeGraph, Level, Link};
 
@@ -30,7 +31,7 @@ pub(crate) fn to(link: &Link) -> u32
 
 /// Whether the links, each one of the history at the level, lead from one transaction to the other.
 fn lead(graph: &LargeGraph, level: Level, start: u32, end: u32, links: &[Link]) -> bool
-    ensures { IsTrue result ↔ LinksLead (record { history = graph.now; level = level }) start end links.now }
+    ensures { IsTrue result ↔ LinksLead (judged graph.now level) start end links.now }
 {
     let mut at = start;
     for link in links {
@@ -45,7 +46,7 @@ fn lead(graph: &LargeGraph, level: Level, start: u32, end: u32, links: &[Link]) 
 /// Whether the links are a cycle of the history at the level: each of them is a link with its reason, each begins where the
 /// one before it ends, and the last ends where the first begins.
 pub fn is_cycle(graph: &LargeGraph, level: Level, links: &[Link]) -> bool
-    ensures { IsTrue result ↔ AreCycle (record { history = graph.now; level = level }) links.now }
+    ensures { IsTrue result ↔ AreCycle (judged graph.now level) links.now }
 {
     match links.first() {
         Some(first) => {

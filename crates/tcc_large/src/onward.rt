@@ -4,9 +4,9 @@ ghost use Rattle.tcc_reads.specs.History.{count};
 ghost use Rattle.tcc_graph.specs.Relations.{IsCausalPair};
 ghost use Rattle.tcc_graph.specs.Keys.{IsWriter};
 ghost use Rattle.tcc_graph.specs.Walks.{IsStep, step_from, step_to};
-ghost use Rattle.tcc_graph.specs.Levels.{Judged, causally, atomically};
+ghost use Rattle.tcc_graph.specs.Levels.{Judged, causally, atomically, judged};
 ghost use Rattle.tcc_graph.specs.Links.{MayContradict, IsLink, link_from, link_to};
-ghost use Rattle.tcc_large.specs.Ranked.{IsAgainst, IsNext, IsOnward, AreReadsPast, ArePairsPast, AreReasonsPast, AreLinksPast};
+ghost use Rattle.tcc_large.specs.private.Ranked.{IsAgainst, IsNext, IsOnward, AreReadsPast, ArePairsPast, AreReasonsPast, AreLinksPast};
 
 use crate::cells::Cells;
 use crate::reaching::{Reach, step};
@@ -109,8 +109,8 @@ fn derived_on(
 ) -> Result<Option<Link>, NoMemory>
     requires { from < count graph.now }
     ensures { IfOk result (λ found. MatchOption found
-        (AreReasonsPast (record { history = graph.now; level = level }) ranks.now from)
-        (IsOnward (record { history = graph.now; level = level }) ranks.now from)) }
+        (AreReasonsPast (judged graph.now level) ranks.now from)
+        (IsOnward (judged graph.now level) ranks.now from)) }
 {
     match level {
         Level::Causal => derived_by_walk(alloc, graph, ranks, from),
@@ -165,8 +165,8 @@ pub(crate) fn link_on(
 ) -> Result<Option<Link>, NoMemory>
     requires { from < count graph.now }
     ensures { IfOk result (λ found. MatchOption found
-        (AreLinksPast (record { history = graph.now; level = level }) ranks.now from)
-        (IsOnward (record { history = graph.now; level = level }) ranks.now from)) }
+        (AreLinksPast (judged graph.now level) ranks.now from)
+        (IsOnward (judged graph.now level) ranks.now from)) }
 {
     if let Some(step) = pair_on(graph, ranks, from) {
         return Ok(Some(link_of(step)));

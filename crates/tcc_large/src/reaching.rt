@@ -4,7 +4,7 @@ ghost use Rattle.tcc_txn.specs.declared.limits.TheConstants.{LARGE_COUNT};
 ghost use Rattle.tcc_reads.specs.History.{count};
 ghost use Rattle.tcc_graph.specs.Relations.{IsCausalPair};
 ghost use Rattle.tcc_graph.specs.Walks.{IsStep, IsWalk, step_from, step_to};
-ghost use Rattle.tcc_large.specs.Reaching.{IsReach, IsMore, AreMet, AreMetBetween, AreSpread, number_at};
+ghost use Rattle.tcc_large.specs.private.Reaching.{IsReach, IsMore, AreMet, AreMetBetween, AreSpread, number_at};
 
 use crate::cells::Cells;
 use std::alloc::{AllocError, Global};

@@ -11,7 +11,7 @@ use Rattle.tcc_large.specs.declared.decision.Decision.{Decision}
 use Rattle.tcc_large.specs.declared.decision.Decision.TheVariants as decision
 use Rattle.tcc_print.specs.declared.options.Options.{Options}
 use Rattle.tcc_large_run.specs.LargeRuns.{IsAnswered, IsResolvedAs, decision_said, faults_said}
-use Rattle.tcc_large_run.specs.Stages.{IsOutcome, IsResolved, outcome_of, outcome_said}
+use Rattle.tcc_large_run.specs.private.Stages.{IsOutcome, IsResolved, outcome_of, outcome_said}
 use Rattle.tcc_large_run.specs.declared.outcome.Outcome.{Outcome}
 
 decided : (options : Options) (h : History) (d : Decision) → outcome_said options (outcome_of options.level h d) ≡ decision_said options h d

@@ -23,7 +23,7 @@ use Rattle.tcc_rows.specs.declared.rows.Item.TheVariants as item
 use Rattle.tcc_rows.specs.declared.rows.RowFault.{RowFault}
 use Rattle.tcc_rows.specs.declared.rows.RowFaultKind.TheVariants as kind
 use Rattle.tcc_rows.proofs.FailingFacts.{first-items}
-use Rattle.tcc_print.specs.Halts.{by_row, is_memory}
+use Rattle.tcc_print.specs.private.Halts.{by_row, is_memory}
 use Rattle.tcc_print.specs.Moments.{at_end, is_due_after, sealed_in}
 use Rattle.tcc_print.specs.Printed.{CutsOff, Prints, PrintsOrMemory, halted, memory_line}
 use Rattle.tcc_print.specs.Statuses.{halt_status}
@@ -34,7 +34,7 @@ use Rattle.tcc_print.specs.declared.status.Status.TheVariants.{Memory}
 use Rattle.tcc_print.proofs.Moments.{AllZip-append, all-fault, all-items, at_end-due, at_end-none, due-passed, due-seal}
 use Rattle.tcc_print.proofs.Moments.{finished-seal, first-taken, last-push, part-of, sealed-passed, sealed-seal, still_due}
 use Rattle.tcc_large_run.specs.LargeRuns.{AreAnswered, Contents, Gains, IsAnswered, IsLargeRun, IsWhole, MayEnd, Said, answers_of, finished, halt_said, records_of, texts}
-use Rattle.tcc_large_run.specs.Stages.{AllAnswered, Concludes, EndsAnswering, EndsEarly, IsFor, SaysLast, outcome_said}
+use Rattle.tcc_large_run.specs.private.Stages.{AllAnswered, Concludes, EndsAnswering, EndsEarly, IsFor, SaysLast, outcome_said}
 use Rattle.tcc_large_run.specs.declared.running.Last.{Last}
 use Rattle.tcc_large_run.proofs.Outcomes.{said_of}
 

@@ -4,7 +4,7 @@ use Rattle.std.specs.Prelude.{IfSome, IsErrAnd, MatchResult}
 use Rattle.tcc_txn.specs.Snapshots.{Sessions}
 use Rattle.tcc_print.specs.Printed.{EndsIn}
 use Rattle.tcc_print.specs.declared.options.Options.{Options}
-use Rattle.tcc_large_run.specs.Stages.{EndsAnswering, IsOutcome, outcome_said, outcome_text}
+use Rattle.tcc_large_run.specs.private.Stages.{EndsAnswering, IsOutcome, outcome_said, outcome_text}
 use Rattle.tcc_large_run.specs.declared.outcome.Outcome.{Outcome}
 use Rattle.tcc_large_run.proofs.Outcomes.{said_of}
 

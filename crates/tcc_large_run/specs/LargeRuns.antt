@@ -13,7 +13,7 @@ use Rattle.tcc_reads.specs.Faults.{read_faults}
 use Rattle.tcc_reads.specs.History.{History}
 use Rattle.tcc_reads.specs.Sources.{history}
 use Rattle.tcc_reads.specs.declared.fault.ReadFault.{ReadFault}
-use Rattle.tcc_graph.specs.Levels.{Judged}
+use Rattle.tcc_graph.specs.Levels.{judged}
 use Rattle.tcc_graph.specs.declared.level.Level.{Level}
 use Rattle.tcc_answer.specs.Answers.{LabelledOrder}
 use Rattle.tcc_answer.specs.Labels.{labels_of}
@@ -63,16 +63,12 @@ abbrev pub decision_said : Options → History → Decision → Said
 decision_said options h (decision.Order order) = answer_said options (answer.Commit (bare_order options.level h order.items))
 decision_said options h (decision.Cycle links) = record { text = unproved options.json (labels_of h) links.items; status = Anomaly }
 
--- the history of a snapshot, judged at a level
-abbrev pub judged : Sessions → Level → Judged
-judged s level = record { history = history s; level = level }
-
 -- what is said of a snapshot whose reads all have sources: within the small limits its first answer, which is what is said
 -- without --large; past them what is decided of its history
 abbrev pub IsResolvedAs : Options → Sessions → Said → Type 0
 IsResolvedAs options s said =
-    (KeepsLimits s × (a : Answer) × IsAnswerOf (judged s options.level) a × (said ≡ answer_said options a))
-    ⊎ ((KeepsLimits s → ⊥) × (d : Decision) × IsDecision (judged s options.level) d × (said ≡ decision_said options (history s) d))
+    (KeepsLimits s × (a : Answer) × IsAnswerOf (judged (history s) options.level) a × (said ≡ answer_said options a))
+    ⊎ ((KeepsLimits s → ⊥) × (d : Decision) × IsDecision (judged (history s) options.level) d × (said ≡ decision_said options (history s) d))
 
 -- what is said of a snapshot; all its read faults, where there are some
 abbrev pub IsAnswered : Options → Sessions → Said → Type 0

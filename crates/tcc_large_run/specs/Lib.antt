@@ -1,4 +1,2 @@
--- What contracts of public calls cite:
 pub mod LargeRuns
--- What serves proofs alone:
-pub mod Stages
+pub mod private

@@ -1,5 +1,5 @@
 //! From the bytes of records to their answers: at each seal, and at the end.
-ghost use Rattle.std.specs.Prelude.{◌≡◌, ◌≢◌, ◌<◌, ◌≤◌, ℕ, List, [], true, false, None, Ok, IfErr, IfOk, IfSome, MatchResult, OnOk, option_map};
+ghost use Rattle.std.specs.Prelude.{◌≡◌, ◌≢◌, ℕ, List, [], true, false, None, Ok, IfErr, IfOk, IfSome, MatchResult, OnOk, option_map};
 ghost use Rattle.tcc_rows.specs.Ahead.{fault_met};
 ghost use Rattle.tcc_rows.specs.Answers.{Answers, answers_after_within};
 ghost use Rattle.tcc_txn.specs.Finished.{transaction_count};
@@ -8,11 +8,11 @@ ghost use Rattle.tcc_rows.specs.Reached.{IsWithin};
 ghost use Rattle.tcc_rows.specs.Recordings.{FailsBehindWithin, IsLargeRecording, TakesLargeMoment, after_items};
 ghost use Rattle.tcc_rows.specs.declared.rows.Item.{Item};
 ghost use Rattle.tcc_txn.specs.declared.limits.Limits.TheVariants.{Large};
-ghost use Rattle.tcc_print.specs.Halts.{by_row};
+ghost use Rattle.tcc_print.specs.private.Halts.{by_row};
 ghost use Rattle.tcc_print.specs.Printed.{PrintsOrMemory, halted};
 ghost use Rattle.tcc_print.specs.Statuses.{halt_status};
 ghost use Rattle.tcc_large_run.specs.LargeRuns.{IsLargeRun, answers_of, finished, records_of};
-ghost use Rattle.tcc_large_run.specs.Stages.{AllAnswered, Concludes, EndsAnswering, EndsEarly, SaysLast, SendsSlice, WritesSlice, outcome_said};
+ghost use Rattle.tcc_large_run.specs.private.Stages.{AllAnswered, Concludes, EndsAnswering, EndsEarly, SaysLast, SendsSlice, WritesSlice, outcome_said};
 
 use crate::copying::transaction_count;
 use crate::outcome::Outcome;
@@ -48,7 +48,6 @@ fn say<W: Write, N: Write, G: Watcher>(
     out: &mut W,
     notes: &mut N,
 ) -> Result<Last, u8>
-    requires workers { (0 < options.workers) × (options.workers ≤ 32) }
     ensures { MatchResult result (SaysLast options snapshot.now (W.contents out.old) (W.contents out.new))
         (EndsAnswering options snapshot.now (W.contents out.old) (W.contents out.new)) }
 {
@@ -79,7 +78,6 @@ fn say_last<W: Write, N: Write, G: Watcher>(
     out: &mut W,
     notes: &mut N,
 ) -> Result<Last, u8>
-    requires workers { (0 < options.workers) × (options.workers ≤ 32) }
     ensures said { IfSome last (λ last. last.transactions ≡ transaction_count snapshot.now → (W.contents out.new ≡ W.contents out.old)
         × (result ≡ Ok last)) }
     ensures due { IfSome last (λ last. last.transactions ≢ transaction_count snapshot.now)
@@ -141,7 +139,6 @@ fn answer_all<R: Read + Drop, W: Write, N: Write, G: Watcher>(
     out: &mut W,
     notes: &mut N,
 ) -> Result<Last, u8>
-    requires workers { (0 < options.workers) × (options.workers ≤ 32) }
     ensures answers { (bytes : List ℕ) → IsLargeRecording R.remaining recording.old [] (answers_of bytes) → IsWithin R.remaining recording.old.rows (records_of bytes)
         → fault_met recording.old.rows ≡ None
         → MatchResult result (AllAnswered options bytes (W.contents out.old) (W.contents out.new))
@@ -276,7 +273,6 @@ fn run_recording<R: Read + Drop, W: Write, S: Write, N: Write, G: Watcher>(
     options: Options,
     watcher: &G,
 ) -> u8
-    requires workers { (0 < options.workers) × (options.workers ≤ 32) }
     ensures { (bytes : List ℕ) → IsLargeRecording R.remaining recording.old [] (answers_of bytes) → IsWithin R.remaining recording.old.rows (records_of bytes)
         → fault_met recording.old.rows ≡ None
         → IsLargeRun options bytes (W.contents out.old) (W.contents out.new) (option_map S.contents slice.old) (option_map S.contents slice.new) result }
@@ -298,8 +294,8 @@ fn run_recording<R: Read + Drop, W: Write, S: Write, N: Write, G: Watcher>(
 
 /// Writes an answer at the level for what was finished before each seal of the bytes of the reader, and before their end, as
 /// text or as lines of JSON, and gives the number that the run ends with. Records are taken up to the large limits; where what
-/// was finished is within the small ones, the answer is the same as without them, and the same for every number of workers, 1 to
-/// 32; the watcher, which is told what the run does, is their gate. Where the last answer is an anomaly, the records of a slice go into
+/// was finished is within the small ones, the answer is the same as without them, and the same for every number of workers; the
+/// watcher, which is told what the run does, is their gate. Where the last answer is an anomaly, the records of a slice go into
 /// the file, if one is given: of a small history that is this one with transactions and operations left out, and has an anomaly of
 /// it; or nothing, where none is found within the small limits. What a person may want to know besides, who reads the standard
 /// error, goes to the notes.
@@ -315,7 +311,6 @@ pub fn run_large<R: Read + Drop, W: Write, S: Write, N: Write, G: Watcher>(
     options: Options,
     watcher: &G,
 ) -> u8
-    requires workers { (0 < options.workers) × (options.workers ≤ 32) }
     ensures { IfSome (R.remaining reader) (λ bytes. IsLargeRun options bytes (W.contents out.old) (W.contents out.new) (option_map S.contents slice.old)
         (option_map S.contents slice.new) result) }
 {

@@ -9,12 +9,12 @@ use Rattle.std.proofs.lemmas.List.Sums.{sum_by-set}
 use Rattle.std.proofs.lemmas.List.Folds.{sum_by-replicate}
 use Rattle.tcc_reads.specs.History.{History, count}
 use Rattle.tcc_graph.specs.Relations.{causal_pair}
-use Rattle.tcc_graph.specs.Levels.{causally, atomically}
+use Rattle.tcc_graph.specs.Levels.{causally, atomically, judged}
 use Rattle.tcc_graph.specs.Walks.{IsReached}
 use Rattle.tcc_graph.specs.declared.level.Level.{Level}
 use Rattle.tcc_near.specs.Distances.{IsShortest, IsWalkDistance, IsNearOf, least_in}
-use Rattle.tcc_near.specs.Bits.{is_marked}
-use Rattle.tcc_near.specs.Breadth.{IsWithin, IsMarked, IsDistanceWithin, IsSearched, HasDistances, HaveDistances, IsLedTo, numbered, one_step, unnumbered}
+use Rattle.tcc_bits.specs.Bits.{is_marked}
+use Rattle.tcc_near.specs.private.Breadth.{IsWithin, IsMarked, IsDistanceWithin, IsSearched, HasDistances, HaveDistances, IsLedTo, numbered, one_step, unnumbered}
 use Rattle.tcc_near.proofs.Walks.{within_more, within_one, within_one_from, within_pair, IsStepAfter, last_step, within_closed, within_below, shortest_at}
 use Rattle.tcc_near.specs.declared.distances.TheConstants.{NONE}
 
@@ -226,8 +226,8 @@ row_of_steps h a marks row marked long each = record {
     short b n to some false at (inr r) = absurd (r.0 at)
 
 -- rows that are right one by one are the table
-pub near_from_rows : (h : History) (level : Level) (rows : List (List ℕ)) → HaveDistances (record { history = h; level = level }) rows
-    → IsNearOf (record { history = h; level = level }) (record { level = level; rows = rows })
+pub near_from_rows : (h : History) (level : Level) (rows : List (List ℕ)) → HaveDistances (judged h level) rows
+    → IsNearOf (judged h level) (record { level = level; rows = rows })
 near_from_rows h level rows have = record {
   level = refl;
   square = record { long = have.long; wide = wide };

@@ -1,79 +1,21 @@
 -- One round's new numbers.
-use Rattle.std.proofs.Common.{◌≡◌, ◌≢◌, ◌<◌, ◌≤◌, ◌+◌, ◌==◌, ◌||◌, ◌↔◌, ◌⊎◌, ℕ, inl, inr, Bool, true, false, cond, List, []}
-use Rattle.std.proofs.Common.{◌∷◌, ◌++◌, length, get_or, set, take, slice_index, refl, sym, ◌∙◌, ap, arith, subst, eqb, eq-eqb}
-use Rattle.std.proofs.Common.{eqb-true}
+use Rattle.std.proofs.Common.{◌≡◌, ◌≢◌, ◌<◌, ◌≤◌, ◌+◌, ◌||◌, ◌↔◌, ◌⊎◌, ℕ, inl, inr, Bool, true, false, cond, List}
+use Rattle.std.proofs.Common.{length, get_or, set, take, slice_index, refl, sym, ◌∙◌, arith, subst, eqb}
 use Rattle.std.specs.List.{All, Contains}
 use Rattle.std.proofs.lemmas.Bool.{cases_eq, false≢true, ne_eqb}
-use Rattle.std.proofs.lemmas.List.{get_or-set_same, get_or-set_other, take_more}
-use Rattle.std.proofs.lemmas.List.Elements.{All-weaker, All-contains_itself, Contains-append_left, Contains-push, Contains-push_cases}
+use Rattle.std.proofs.lemmas.List.{get_or-set_same, get_or-set_other}
+use Rattle.std.proofs.lemmas.List.Elements.{All-weaker, All-contains_itself}
 use Rattle.std.proofs.lemmas.List.Sums.{sum_by-set}
-use Rattle.tcc_near.specs.Bits.{is_marked, IsFresh, IsRowOf}
-use Rattle.tcc_near.specs.Breadth.{numbered, unnumbered, IsSeen, IsLedTo}
+use Rattle.tcc_bits.specs.Bits.{is_marked, IsFresh}
+use Rattle.tcc_near.specs.private.Breadth.{IsRowOf, numbered, unnumbered, IsSeen, IsLedTo}
 use Rattle.tcc_graph.specs.Relations.{causal_pair}
 use Rattle.tcc_graph.proofs.Pairs.{pair_kinds, pair_below}
 use Rattle.tcc_reads.specs.History.{History, count}
 use Rattle.tcc_near.proofs.BreadthLemmas.{numbered_kept, numbered_unmarked, numbered_new}
 use Rattle.tcc_near.specs.declared.distances.TheConstants.{NONE}
-
--- ---- what a list has up to a place
-pub nothing_in : {X : Type 0} (x : X) → Contains [] x → ⊥
-nothing_in x (k, l, e) = omega arith
-
-module _ (xs : List ℕ) (n : ℕ) (inside : n < length xs) where
-  taken : take (n + 1) xs ≡ take n xs ++ get_or xs n 0 ∷ []
-  taken = take_more xs n 0 inside
-
-  pub one_of_taken : (y : ℕ) → Contains (take (n + 1) xs) y → Contains (take n xs) y ⊎ (get_or xs n 0 ≡ y)
-  one_of_taken y h = Contains-push_cases (take n xs) (get_or xs n 0) y (rw taken at h)
-
-  pub still_taken : (y : ℕ) → Contains (take n xs) y → Contains (take (n + 1) xs) y
-  still_taken y h = rw taken (Contains-append_left (take n xs) (get_or xs n 0 ∷ []) y h)
-
-  pub last_taken : Contains (take (n + 1) xs) (get_or xs n 0)
-  last_taken = rw taken (Contains-push (take n xs) (get_or xs n 0))
+use Rattle.tcc_bits.proofs.Lists.{nothing_in, one_of_taken, still_taken, last_taken}
 
 -- ---- spreading
--- no number yet
-pub marks_none : (words numbers : List ℕ) (b : ℕ) → (is_marked words b ≡ true) ↔ ((is_marked words b ≡ true) ⊎ Contains (take 0 numbers) b)
-marks_none words numbers b = (inl, back)
-  where
-    back : (is_marked words b ≡ true) ⊎ Contains (take 0 numbers) b → is_marked words b ≡ true
-    back (inl m) = m
-    back (inr c) = absurd (nothing_in b c)
-
--- one more number
-pub mark_more : (old mid new numbers : List ℕ) (n : ℕ) → n < length numbers
-    → ((b : ℕ) → (is_marked mid b ≡ true) ↔ ((is_marked old b ≡ true) ⊎ Contains (take n numbers) b))
-    → ((b : ℕ) → is_marked new b ≡ (is_marked mid b || (b == get_or numbers n 0))) → (b : ℕ)
-    → (is_marked new b ≡ true) ↔ ((is_marked old b ≡ true) ⊎ Contains (take (n + 1) numbers) b)
-mark_more old mid new numbers n inside before now b = (λ m. onward (is_marked mid b) refl (sym (now b) ∙ m), back)
-  where
-    onward : (s : Bool) → is_marked mid b ≡ s → (is_marked mid b || (b == get_or numbers n 0)) ≡ true
-        → (is_marked old b ≡ true) ⊎ Contains (take (n + 1) numbers) b
-    onward true s e = go ((before b).0 s)
-      where
-        go : (is_marked old b ≡ true) ⊎ Contains (take n numbers) b → (is_marked old b ≡ true) ⊎ Contains (take (n + 1) numbers) b
-        go (inl m) = inl m
-        go (inr c) = inr (still_taken numbers n inside b c)
-    onward false s e =
-        let at : (b == get_or numbers n 0) ≡ true = ap (λ x. x || (b == get_or numbers n 0)) (sym s) ∙ e in
-        inr (subst (λ (x : ℕ). Contains (take (n + 1) numbers) x) (sym (eqb-true b (get_or numbers n 0) at)) (last_taken numbers n inside))
-
-    or_true : (m : Bool) → (m || true) ≡ true
-    or_true true = refl
-    or_true false = refl
-
-    old_one : is_marked mid b ≡ true → is_marked new b ≡ true
-    old_one m = now b ∙ ap (λ x. x || (b == get_or numbers n 0)) m
-
-    back : (is_marked old b ≡ true) ⊎ Contains (take (n + 1) numbers) b → is_marked new b ≡ true
-    back (inl m) = old_one ((before b).1 (inl m))
-    back (inr c) = go (one_of_taken numbers n inside b c)
-      where
-        go : Contains (take n numbers) b ⊎ (get_or numbers n 0 ≡ b) → is_marked new b ≡ true
-        go (inl was) = old_one ((before b).1 (inr was))
-        go (inr is) = now b ∙ (ap (λ x. is_marked mid b || x) (eq-eqb b (get_or numbers n 0) (sym is)) ∙ or_true (is_marked mid b))
-
 -- nothing led on yet
 pub led_none : (h : History) (old fresh : List ℕ) (b : ℕ) → (is_marked old b ≡ true) ↔ IsLedTo h old (Contains (take 0 fresh)) b
 led_none h old fresh b = (inl, back)

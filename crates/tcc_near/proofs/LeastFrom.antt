@@ -13,11 +13,11 @@ use Rattle.tcc_graph.specs.Tables.{row_of}
 use Rattle.tcc_graph.specs.declared.step.Step.{Step}
 use Rattle.tcc_graph.proofs.Pairs.{step_from_pair, pair_from_step}
 use Rattle.tcc_near.specs.Distances.{IsShortest, IsWalkDistance, least_in}
-use Rattle.tcc_near.specs.Breadth.{IsSessionEnd, AreEnds, IsPairsFrom, HasDistances}
-use Rattle.tcc_near.specs.Backwards.{IsLedFrom, IsLeastFrom, IsLowered, IsNextOrOne, IsFromOn, AreOthers, AreKnown, AreHeads}
+use Rattle.tcc_near.specs.private.Breadth.{IsSessionEnd, AreEnds, IsPairsFrom, HasDistances}
+use Rattle.tcc_near.specs.private.Backwards.{IsLedFrom, IsLeastFrom, IsLowered, IsNextOrOne, IsFromOn, AreOthers, AreKnown, AreHeads}
 use Rattle.tcc_near.specs.declared.distances.TheConstants.{NONE}
 use Rattle.tcc_near.proofs.BreadthLemmas.{Read, read}
-use Rattle.tcc_near.proofs.FreshLemmas.{one_of_taken, still_taken, last_taken, nothing_in}
+use Rattle.tcc_bits.proofs.Lists.{one_of_taken, still_taken, last_taken, nothing_in}
 use Rattle.tcc_near.proofs.ShortWalks.{few_steps}
 
 -- ---- a row of distances

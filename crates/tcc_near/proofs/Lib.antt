@@ -1,7 +1,5 @@
 pub mod Walks
 pub mod BreadthLemmas
-pub mod BitLemmas
-pub mod Ascending
 pub mod MarkLemmas
 pub mod FreshLemmas
 pub mod RowLemmas

@@ -1,7 +1,2 @@
--- What contracts of public calls cite:
 pub mod Distances
-pub mod Clocks
-pub mod Bits
--- What serves proofs alone:
-pub mod Breadth
-pub mod Backwards
+pub mod private

@@ -6,13 +6,14 @@ ghost use Rattle.tcc_reads.specs.History.{count};
 ghost use Rattle.tcc_graph.specs.Relations.{IsSessionPair};
 ghost use Rattle.tcc_graph.specs.Levels.{causally};
 ghost use Rattle.tcc_graph.specs.Tables.{row_of};
-ghost use Rattle.tcc_near.specs.Breadth.{AreEnds, ArePairs, HasDistances, HaveDistances};
-ghost use Rattle.tcc_near.specs.Backwards.{IsLeastFrom, IsLowered, IsNextOrOne, IsFromOn, AreOthers, AreKnown, IsThere, AreHeads};
+ghost use Rattle.tcc_near.specs.private.Breadth.{AreEnds, ArePairs, HasDistances, HaveDistances};
+ghost use Rattle.tcc_near.specs.private.Backwards.{IsLeastFrom, IsLowered, IsNextOrOne, IsFromOn, AreOthers, AreKnown, IsThere, AreHeads};
 ghost use Rattle.tcc_near.specs.declared.distances.TheConstants.{NONE};
 ghost use Rattle.tcc_txn.specs.declared.limits.TheConstants.{MAX_COUNT};
 
 use crate::search::distances_from;
-use crate::{NONE, Row};
+use tcc_bits::Row;
+use crate::NONE;
 use std::alloc::{AllocError, Global};
 use tcc_graph::Graph;
 

@@ -3,7 +3,7 @@ ghost use Rattle.std.specs.Prelude.{◌≡◌, ◌<◌, length};
 ghost use Rattle.tcc_near.specs.Distances.{IsSquare, least};
 ghost use Rattle.tcc_graph.specs.Tables.{row_of};
 
-use crate::Row;
+use tcc_bits::Row;
 use std::marker::Model;
 use tcc_graph::Level;
 

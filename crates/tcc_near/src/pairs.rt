@@ -3,12 +3,12 @@
 ghost use Rattle.std.specs.Prelude.{◌≡◌, ◌<◌, ◌≤◌, ◌+◌, ◌*◌, ◌/◌, ◌↔◌, ◌⊎◌, ℕ, true, length, IfOk, slice_index};
 ghost use Rattle.tcc_reads.specs.History.{count};
 ghost use Rattle.tcc_graph.specs.Relations.{causal_pair};
-ghost use Rattle.tcc_near.specs.Bits.{is_marked, words_for, IsRowOf};
-ghost use Rattle.tcc_near.specs.Breadth.{IsSessionEnd, AreEnds, IsPairsFrom, ArePairs, AreSuffixes, IsMarked};
+ghost use Rattle.tcc_bits.specs.Bits.{is_marked, words_for};
+ghost use Rattle.tcc_near.specs.private.Breadth.{IsRowOf, IsSessionEnd, AreEnds, IsPairsFrom, ArePairs, AreSuffixes, IsMarked};
 ghost use Rattle.tcc_txn.specs.declared.limits.TheConstants.{MAX_COUNT};
 
-use crate::Row;
-use crate::bits::{mark, mark_each, take_fresh, words_for};
+use tcc_bits::Row;
+use tcc_bits::{mark, mark_each, take_fresh, words_for};
 use std::alloc::{AllocError, Global};
 use tcc_graph::Graph;
 

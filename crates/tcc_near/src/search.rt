@@ -1,17 +1,18 @@
 //! The search for all distances of a graph, from each transaction: breadth first, or by those that its pairs lead to.
 ghost use Rattle.std.specs.Prelude.{◌≡◌, ◌<◌, ◌≤◌, ◌↔◌, ℕ, true, length, All, Contains, IfOk, slice_index};
 ghost use Rattle.tcc_reads.specs.History.{count};
-ghost use Rattle.tcc_graph.specs.Levels.{causally, atomically};
+ghost use Rattle.tcc_graph.specs.Levels.{causally, atomically, judged};
 ghost use Rattle.tcc_near.specs.Distances.{IsNearOf};
-ghost use Rattle.tcc_near.specs.Bits.{is_marked, words_for};
-ghost use Rattle.tcc_near.specs.Breadth.{ArePairs, AreSuffixes, HasDistances, HaveDistances, IsLedTo, one_step, unnumbered};
+ghost use Rattle.tcc_bits.specs.Bits.{is_marked, words_for};
+ghost use Rattle.tcc_near.specs.private.Breadth.{ArePairs, AreSuffixes, HasDistances, HaveDistances, IsLedTo, one_step, unnumbered};
 ghost use Rattle.tcc_near.specs.declared.distances.TheConstants.{NONE};
 ghost use Rattle.tcc_txn.specs.declared.limits.TheConstants.{MAX_COUNT};
 
 use crate::backwards::rows_backwards;
-use crate::bits::{is_marked, take_fresh};
+use tcc_bits::{is_marked, take_fresh};
 use crate::pairs::{first_marks, readers_apart, session_ends, take_in};
-use crate::{NONE, Near, ROWS_A_THREAD, Row};
+use tcc_bits::{ROWS_A_THREAD, Row};
+use crate::{NONE, Near};
 use rayon::prelude::*;
 use std::alloc::{AllocError, Global};
 use std::thread::Threads;
@@ -148,7 +149,7 @@ fn all_distances(
 ) -> Result<Vec<Row<u16>>, AllocError>
     requires few { count graph.now ≤ MAX_COUNT }
     requires pairs { ArePairs graph.now ends.now readers.now }
-    ensures { IfOk result (λ rows. IsNearOf (record { history = graph.now; level = level }) (record { level = level; rows = rows.items })) }
+    ensures { IfOk result (λ rows. IsNearOf (judged graph.now level) (record { level = level; rows = rows.items })) }
 {
     match level {
         Level::Causal => rows_backwards(alloc, graph, ends, readers),
@@ -165,7 +166,7 @@ pub fn near(
     graph: &Graph,
     level: Level,
 ) -> Result<Near, NoMemory>
-    ensures { IfOk result (IsNearOf (record { history = graph.now; level = level })) }
+    ensures { IfOk result (IsNearOf (judged graph.now level)) }
 {
     let ends = session_ends(alloc, graph)?;
     let readers = readers_apart(alloc, graph, &ends)?;

@@ -3,7 +3,7 @@ use Rattle.std.proofs.Common.{◌≡◌, ◌<◌, ◌≤◌, ℕ, zero, suc, ◌
 use Rattle.std.specs.List.{IsDistinct, AllByRecursion}
 use Rattle.std.proofs.lemmas.Bool.{or_cases, and_parts, cases_Bool, cases_eq, false≢true, eqb-true, eq-eqb, not-true, not-false, or_parts}
 use Rattle.std.proofs.lemmas.Map.Steps.{length-le_from_distinct_below, le-length_from_below}
-use Rattle.tcc_order.specs.Numbering.{Joins, HasCircle}
+use Rattle.tcc_order.specs.private.Numbering.{Joins, HasCircle}
 use Rattle.tcc_order.proofs.Greedy.{has, IsFree, IsBelow}
 
 -- the least number below a count that passes a test

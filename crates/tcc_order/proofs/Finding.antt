@@ -7,7 +7,7 @@ use Rattle.tcc_order.specs.declared.latest.TheConstants.{WIDE}
 use Rattle.std.specs.List.{Contains}
 use Rattle.std.proofs.lemmas.Bool.{cases_eq, cases_lt}
 use Rattle.std.proofs.lemmas.List.{get_or_append_left, get_or_at, get_or_past}
-use Rattle.tcc_near.proofs.FreshLemmas.{nothing_in}
+use Rattle.tcc_bits.proofs.Lists.{nothing_in}
 use Rattle.std.proofs.lemmas.List.Elements.{Contains-append_left, Contains-append_right, Contains-append_cases}
 use Rattle.tcc_reads.specs.History.{History, IsBySession, count}
 use Rattle.tcc_graph.specs.Relations.{IsSessionPair}
@@ -22,10 +22,10 @@ use Rattle.tcc_graph.specs.declared.link.Link.TheVariants as link
 use Rattle.tcc_graph.proofs.Pairs.{step_pair}
 use Rattle.tcc_graph.proofs.Linking.{link_route}
 use Rattle.tcc_graph.proofs.WriterLemmas.{writer_in, read_is_key}
-use Rattle.tcc_order.specs.Parents.{parents, session_parent, session_parents, sources}
-use Rattle.tcc_order.specs.Held.{holds}
-use Rattle.tcc_order.specs.Latest.{IsCovered, AreDerived, AreEnough, AreLinks, Derives, Overwrites, HasNone, LeadsOnward}
-use Rattle.tcc_order.specs.Numbering.{IsOrderOf, IsFirstOf, Joins, HasCircle}
+use Rattle.tcc_order.specs.private.Parents.{parents, session_parent, session_parents, sources}
+use Rattle.tcc_order.specs.private.Held.{holds}
+use Rattle.tcc_order.specs.private.Latest.{IsCovered, AreDerived, AreEnough, AreLinks, Derives, Overwrites, HasNone, LeadsOnward}
+use Rattle.tcc_order.specs.private.Numbering.{IsOrderOf, IsFirstOf, Joins, HasCircle}
 use Rattle.tcc_order.proofs.Fronts.{holds_there, holds_parts}
 use Rattle.tcc_order.proofs.Kept.{IsLinked, has_link, linked_before}
 use Rattle.tcc_order.proofs.Links.{linked_by, IsFound}

@@ -11,9 +11,9 @@ use Rattle.std.proofs.lemmas.List.Folds.{list_any-append}
 use Rattle.tcc_reads.specs.History.{History, count, entry_at}
 use Rattle.tcc_graph.specs.Keys.{keys, key_at}
 use Rattle.tcc_graph.specs.Tables.{row_of}
-use Rattle.tcc_near.specs.Bits.{is_marked}
-use Rattle.tcc_order.specs.Parents.{AreSessionParents, parents, session_parent, session_parents, sources}
-use Rattle.tcc_order.specs.Held.{befores, AreInside, holds, IsFreeBy}
+use Rattle.tcc_bits.specs.Bits.{is_marked}
+use Rattle.tcc_order.specs.private.Parents.{AreSessionParents, parents, session_parent, session_parents, sources}
+use Rattle.tcc_order.specs.private.Held.{befores, AreInside, holds, IsFreeBy}
 use Rattle.tcc_order.proofs.Greedy.{has, IsFree, IsBelow, place_of, has_at}
 use Rattle.tcc_order.proofs.Reaching.{parent_or_init, parent_less, one_parent, parent_one, in_map, from_map}
 

@@ -13,7 +13,7 @@ use Rattle.std.proofs.lemmas.Map.Keys.{IsDistinct-push}
 use Rattle.std.proofs.lemmas.Map.Steps.{length-le_from_distinct_below}
 use Rattle.std.specs.Cmp.{nat_eq_equiv}
 use Rattle.tcc_graph.specs.Orders.{Before}
-use Rattle.tcc_order.specs.Numbering.{IsOrderOf}
+use Rattle.tcc_order.specs.private.Numbering.{IsOrderOf}
 use Rattle.tcc_graph.proofs.Numberings.{below_in, has_place, one_place}
 
 -- whether x is in the list

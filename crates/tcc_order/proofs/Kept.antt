@@ -8,7 +8,7 @@ use Rattle.tcc_graph.specs.Routes.{LinksLead, IsRoute, HasCycle}
 use Rattle.tcc_graph.specs.declared.link.Link.{Link}
 use Rattle.tcc_graph.specs.declared.link.Link.TheVariants as link
 use Rattle.tcc_graph.proofs.Pairs.{link_below}
-use Rattle.tcc_order.specs.Numbering.{IsOrderOf, IsFirstOf, Joins, HasCircle}
+use Rattle.tcc_order.specs.private.Numbering.{IsOrderOf, IsFirstOf, Joins, HasCircle}
 use Rattle.tcc_order.proofs.Greedy.{IsBelow}
 
 -- a link with these ends

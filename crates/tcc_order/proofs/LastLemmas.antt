@@ -15,10 +15,10 @@ use Rattle.tcc_graph.specs.Tables.{row_of}
 use Rattle.tcc_graph.proofs.Numberings.{below_in, one_place}
 use Rattle.tcc_graph.proofs.Walking.{pair_walk}
 use Rattle.tcc_graph.proofs.Pairs.{pair_below}
-use Rattle.tcc_near.specs.Clocks.{IsBehind, IsLast, IsClocksOf}
-use Rattle.tcc_near.proofs.FreshLemmas.{one_of_taken, still_taken, last_taken, nothing_in}
-use Rattle.tcc_order.specs.Parents.{HasSourcesAt, parents}
-use Rattle.tcc_order.specs.Lasts.{IsOneOf, IsLastOf, AreLastsOf, IsBefore, IsUpTo, raised, HasLasts}
+use Rattle.tcc_order.specs.Clocks.{IsBehind, IsLast, IsClocksOf}
+use Rattle.tcc_bits.proofs.Lists.{one_of_taken, still_taken, last_taken, nothing_in}
+use Rattle.tcc_order.specs.private.Parents.{HasSourcesAt, parents}
+use Rattle.tcc_order.specs.private.Lasts.{IsOneOf, IsLastOf, AreLastsOf, IsBefore, IsUpTo, raised, HasLasts}
 use Rattle.tcc_order.proofs.Reaching.{reached_by, parents_all, parent_pair, IsBehindBy}
 
 -- ---- an order

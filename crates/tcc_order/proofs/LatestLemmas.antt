@@ -14,10 +14,10 @@ use Rattle.tcc_graph.specs.Relations.{IsCausalPair}
 use Rattle.tcc_graph.specs.Tables.{row_of}
 use Rattle.tcc_graph.proofs.Numberings.{below_in}
 use Rattle.tcc_graph.proofs.Pairs.{pair_below}
-use Rattle.tcc_near.proofs.FreshLemmas.{one_of_taken, still_taken, last_taken, nothing_in}
-use Rattle.tcc_order.specs.Parents.{HasSourcesAt, parents, sources, session_parent, session_parents}
-use Rattle.tcc_order.specs.Lasts.{IsOneOf, IsBefore, IsUpTo}
-use Rattle.tcc_order.specs.Latest.{AreOwners, IsLatestOf, AreLatestOf, HasLatest, AreClocks, IsLike, LeadsOnward, lifted}
+use Rattle.tcc_bits.proofs.Lists.{one_of_taken, still_taken, last_taken, nothing_in}
+use Rattle.tcc_order.specs.private.Parents.{HasSourcesAt, parents, sources, session_parent, session_parents}
+use Rattle.tcc_order.specs.private.Lasts.{IsOneOf, IsBefore, IsUpTo}
+use Rattle.tcc_order.specs.private.Latest.{AreOwners, IsLatestOf, AreLatestOf, HasLatest, AreClocks, IsLike, LeadsOnward, lifted}
 use Rattle.tcc_order.specs.declared.latest.TheConstants.{WIDE}
 use Rattle.tcc_order.proofs.Reaching.{parent_pair}
 use Rattle.tcc_order.proofs.LastLemmas.{up_to_parents, taken_before}

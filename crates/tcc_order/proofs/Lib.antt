@@ -13,6 +13,7 @@ pub mod Fronts
 pub mod Links
 pub mod LastLemmas
 mod Worked
+mod WorkedClocks
 pub mod LatestLemmas
 pub mod Readings
 pub mod Needing

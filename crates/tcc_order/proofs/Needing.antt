@@ -14,11 +14,10 @@ use Rattle.tcc_graph.specs.Tables.{row_of}
 use Rattle.tcc_graph.proofs.Pairs.{lower_first}
 use Rattle.tcc_graph.proofs.Walking.{pair_walk, reached_append}
 use Rattle.tcc_graph.proofs.WriterLemmas.{writers_below}
-use Rattle.tcc_near.proofs.FreshLemmas.{one_of_taken, still_taken, last_taken, nothing_in}
-use Rattle.tcc_near.proofs.MarkLemmas.{zip_at, zip-long}
-use Rattle.tcc_order.specs.Lasts.{IsOneOf, IsBefore}
-use Rattle.tcc_order.specs.Latest.{AreOwners, IsLatestOf, AreLatestOf, IsLatestPast, AreLatestPast, AreClocks, TellsNothing, IsOverwritten, IsLiftable, IsLifted, lifted_by}
-use Rattle.tcc_order.specs.Latest.{IsCovered, AreDerived, AreEnough, Overwrites}
+use Rattle.tcc_bits.proofs.Lists.{one_of_taken, still_taken, last_taken, nothing_in, zip_at, zip-long}
+use Rattle.tcc_order.specs.private.Lasts.{IsOneOf, IsBefore}
+use Rattle.tcc_order.specs.private.Latest.{AreOwners, IsLatestOf, AreLatestOf, IsLatestPast, AreLatestPast, AreClocks, TellsNothing, IsOverwritten, IsLiftable, IsLifted, lifted_by}
+use Rattle.tcc_order.specs.private.Latest.{IsCovered, AreDerived, AreEnough, Overwrites}
 use Rattle.tcc_order.specs.declared.latest.TheConstants.{WIDE}
 use Rattle.tcc_order.proofs.Readings.{IsTaken, named_long, named_each, named_at}
 

@@ -8,7 +8,7 @@ use Rattle.tcc_graph.specs.Links.{link_to}
 use Rattle.tcc_graph.specs.Orders.{Before, IsNumbering, IsCommitOrder}
 use Rattle.tcc_graph.specs.Routes.{LinksLead, HasCycle}
 use Rattle.tcc_graph.specs.declared.link.Link.{Link}
-use Rattle.tcc_order.specs.Numbering.{IsOrderOf, HasCircle}
+use Rattle.tcc_order.specs.private.Numbering.{IsOrderOf, HasCircle}
 use Rattle.tcc_order.proofs.Greedy.{has, IsFree, IsNext, Picks, Picks-push, Picks-order, IsBelow}
 use Rattle.tcc_order.proofs.Circle.{IsLeastPassing, Search, search_below, lacks, short_circle}
 use Rattle.tcc_order.proofs.Kept.{precedence_below, link_before, commit_from_order, cycle_from_circle}

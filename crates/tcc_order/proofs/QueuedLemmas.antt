@@ -12,10 +12,10 @@ use Rattle.std.proofs.lemmas.List.{get_or-set_same, get_or-set_other, length-set
 use Rattle.std.proofs.lemmas.List.Elements.{Contains-append_left, Contains-push, Contains-push_cases}
 use Rattle.std.proofs.lemmas.List.Sorted.{Contains-permutation, IsPermutation-sym, length_permutation}
 use Rattle.tcc_graph.specs.Tables.{row_of}
-use Rattle.tcc_near.specs.Bits.{is_marked}
-use Rattle.tcc_near.proofs.FreshLemmas.{one_of_taken, still_taken, last_taken, nothing_in}
-use Rattle.tcc_order.specs.Held.{IsFreeBy, AreRoots, onward}
-use Rattle.tcc_order.specs.Queued.{IsPopped, IsQueued, AreQueued, IsAny, IsNot}
+use Rattle.tcc_bits.specs.Bits.{is_marked}
+use Rattle.tcc_bits.proofs.Lists.{one_of_taken, still_taken, last_taken, nothing_in}
+use Rattle.tcc_order.specs.private.Held.{IsFreeBy, AreRoots, onward}
+use Rattle.tcc_order.specs.private.Queued.{IsPopped, IsQueued, AreQueued, IsAny, IsNot}
 use Rattle.tcc_order.proofs.Fronts.{AreParentsBy}
 use Rattle.tcc_order.proofs.Reaching.{in_map, from_map}
 

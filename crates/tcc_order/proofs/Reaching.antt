@@ -13,7 +13,7 @@ use Rattle.tcc_graph.specs.declared.step.Step.{Step}
 use Rattle.tcc_graph.proofs.Pairs.{step_pair}
 use Rattle.tcc_graph.proofs.Walking.{pair_walk, walk_on}
 use Rattle.tcc_reads.specs.History.{IsBySession}
-use Rattle.tcc_order.specs.Parents.{session_parent, session_parents, sources, HasSourcesAt, parents}
+use Rattle.tcc_order.specs.private.Parents.{session_parent, session_parents, sources, HasSourcesAt, parents}
 
 -- ---- session pairs
 -- of one session, and in their order there

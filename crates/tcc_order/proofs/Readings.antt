@@ -9,7 +9,7 @@ use Rattle.tcc_graph.specs.Keys.{keys, key_at}
 use Rattle.tcc_graph.proofs.KeysLemmas.{has_name-keys}
 use Rattle.tcc_graph.proofs.NameLemmas.{has_name-contains}
 use Rattle.tcc_graph.proofs.WriterLemmas.{read_is_key}
-use Rattle.tcc_near.proofs.MarkLemmas.{zip_at, zip_has, zip-long}
+use Rattle.tcc_bits.proofs.Lists.{zip_at, zip_has, zip-long}
 
 -- ---- keys by their places
 mapped_at : (f : ℕ → List ℕ) (ps : List ℕ) (k : ℕ) (d : List ℕ) → k < length ps → get_or (map f ps) k d ≡ f (get_or ps k 0)

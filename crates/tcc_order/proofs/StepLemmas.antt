@@ -4,7 +4,7 @@ use Rattle.std.proofs.lemmas.Bool.{cases_lt}
 use Rattle.std.proofs.lemmas.List.{get_or_append_left, get_or_at, take_all, take-append-le, drop-append-le, length-drop}
 use Rattle.std.proofs.Math.Seq.{drop-append_seam}
 use Rattle.tcc_reads.specs.History.{History}
-use Rattle.tcc_order.specs.Parents.{parents, HasSourcesAt, IsStep, AreSteps}
+use Rattle.tcc_order.specs.private.Parents.{parents, HasSourcesAt, IsStep, AreSteps}
 
 -- a step stays where numbers are added behind it
 still_step : (h : History) (c : ℕ) (numbers more : List ℕ) (start end : ℕ) → IsStep h c numbers start end → IsStep h c (numbers ++ more) start end

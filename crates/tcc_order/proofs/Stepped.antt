@@ -18,10 +18,10 @@ use Rattle.tcc_graph.proofs.NameLemmas.{contains-has_name}
 use Rattle.tcc_graph.proofs.Pairs.{step_pair, pair_below, pair_parts}
 use Rattle.tcc_graph.proofs.Walking.{pair_walk}
 use Rattle.tcc_graph.proofs.WriterLemmas.{writer_writes, writer_in, writers_below}
-use Rattle.tcc_near.proofs.FreshLemmas.{one_of_taken, still_taken, last_taken, nothing_in}
-use Rattle.tcc_order.specs.Parents.{HasSourcesAt, parents, session_parents, sources}
-use Rattle.tcc_order.specs.Latest.{AreOwners, IsLiftable, IsLifted, IsCovered, AreLinks, HasNone, Derives}
-use Rattle.tcc_order.specs.Stepping.{IsOther, StepsOver, KeepsRead, AreStepped, IsReadSoFar}
+use Rattle.tcc_bits.proofs.Lists.{one_of_taken, still_taken, last_taken, nothing_in}
+use Rattle.tcc_order.specs.private.Parents.{HasSourcesAt, parents, session_parents, sources}
+use Rattle.tcc_order.specs.private.Latest.{AreOwners, IsLiftable, IsLifted, IsCovered, AreLinks, HasNone, Derives}
+use Rattle.tcc_order.specs.private.Stepping.{IsOther, StepsOver, KeepsRead, AreStepped, IsReadSoFar}
 use Rattle.tcc_order.proofs.Needing.{same_session, covered_wider}
 use Rattle.tcc_order.proofs.Reaching.{parent_pair, reads_source, session_rises, in_map, from_map}
 

@@ -2,16 +2,16 @@
 use Rattle.std.proofs.Common.{ℕ, zero, suc, ◌≡◌, List, [], ◌∷◌, slice_index, refl, arith, true, false, inr}
 use Rattle.std.specs.Prelude.{codes}
 use Rattle.tcc_reads.specs.History.{History, initial}
-use Rattle.tcc_graph.specs.Levels.{Judged, IsAllowed, causally}
+use Rattle.tcc_graph.specs.Levels.{Judged, IsAllowed, causally, judged}
 use Rattle.tcc_graph.specs.declared.level.Level.{Level}
 use Rattle.tcc_graph.specs.declared.level.Level.TheVariants as level
 use Rattle.tcc_graph.specs.Links.{IsReason}
 use Rattle.tcc_graph.specs.Orders.{IsCommitOrder}
 use Rattle.tcc_graph.specs.declared.step.Step.TheVariants as step
-use Rattle.tcc_order.specs.Numbering.{Joins, HasCircle}
-use Rattle.tcc_order.specs.Parents.{session_parent, parents}
-use Rattle.tcc_order.specs.Held.{holds}
-use Rattle.tcc_order.specs.Stepping.{StepsOver}
+use Rattle.tcc_order.specs.private.Numbering.{Joins, HasCircle}
+use Rattle.tcc_order.specs.private.Parents.{session_parent, parents}
+use Rattle.tcc_order.specs.private.Held.{holds}
+use Rattle.tcc_order.specs.private.Stepping.{StepsOver}
 use Rattle.tcc_order.proofs.Reached.{walks}
 use Rattle.tcc_order.proofs.Linked.{linked, linked_precedence}
 use Rattle.tcc_order.proofs.OrderOrCycle.{no_cycle}
@@ -42,7 +42,7 @@ later_writer = record {
 
 -- by a walk of one pair, so at both levels
 abbrev writer_at : Level → Judged
-writer_at k = record { history = later_writer; level = k }
+writer_at k = judged later_writer k
 
 one_pair : (k : Level) → IsAllowed k (step.Reads 2 3 y ∷ [])
 one_pair level.Causal = tt

@@ -1,8 +1,2 @@
--- What serves proofs alone:
-pub mod Numbering
-pub mod Parents
-pub mod Lasts
-pub mod Held
-pub mod Queued
-pub mod Latest
-pub mod Stepping
+pub mod Clocks
+pub mod private

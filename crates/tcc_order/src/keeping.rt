@@ -3,13 +3,13 @@
 ghost use Rattle.std.specs.Prelude.{◌≡◌, ◌≢◌, ◌<◌, ◌≤◌, ◌+◌, ◌⊎◌, ◌↔◌, ℕ, length, slice_index, All, Contains, IfOk, OnOk};
 ghost use Rattle.tcc_reads.specs.History.{IsBySession, count, owner};
 ghost use Rattle.tcc_graph.specs.Relations.{IsReadsPair};
-ghost use Rattle.tcc_order.specs.Latest.{AreOwners, AreClocks, IsOverwritten, IsLifted, AreDerived, AreEnough, AreLinks, Overwrites, HasNone, LeadsOnward, lifted_by};
+ghost use Rattle.tcc_order.specs.private.Latest.{AreOwners, AreClocks, IsOverwritten, IsLifted, AreDerived, AreEnough, AreLinks, Overwrites, HasNone, LeadsOnward, lifted_by};
 ghost use Rattle.tcc_graph.specs.Levels.{causally};
 ghost use Rattle.tcc_graph.specs.Keys.{keys};
 ghost use Rattle.tcc_graph.specs.Tables.{row_of};
 ghost use Rattle.tcc_graph.specs.Orders.{IsNumbering};
-ghost use Rattle.tcc_order.specs.Parents.{AreSessionParents};
-ghost use Rattle.tcc_order.specs.Latest.{AreOrdered, IsClock, IsLastUpTo, IsLastBut, IsCountBelow, AreLatestPast, TellsNothing, IsSpan, AreSpans, AreBounds};
+ghost use Rattle.tcc_order.specs.private.Parents.{AreSessionParents};
+ghost use Rattle.tcc_order.specs.private.Latest.{AreOrdered, IsClock, IsLastUpTo, IsLastBut, IsCountBelow, AreLatestPast, TellsNothing, IsSpan, AreSpans, AreBounds};
 ghost use Rattle.tcc_order.specs.declared.latest.TheConstants.{WIDE};
 ghost use Rattle.std.specs.List.Sorted.{IsNonDecreasing, IsPartitionPoint};
 ghost use Rattle.std.specs.Prelude.{nat_le, true, false, ◌∷◌, []};
@@ -19,7 +19,7 @@ use crate::parents::{between, steps_along};
 use crate::sharing::SharedRows;
 use std::alloc::Global;
 use tcc_graph::LargeGraph;
-use tcc_near::Row;
+use tcc_bits::Row;
 use tcc_txn::NoMemory;
 
 /// Up to so many writers of a key are looked at one by one.

@@ -3,9 +3,9 @@ ghost use Rattle.std.specs.Prelude.{◌≡◌, ◌<◌, ◌≤◌, false, ℕ, L
 ghost use Rattle.tcc_reads.specs.History.{IsBySession, count};
 ghost use Rattle.tcc_graph.specs.Tables.{row_of};
 ghost use Rattle.tcc_graph.specs.Orders.{IsNumbering};
-ghost use Rattle.tcc_order.specs.Parents.{AreSteps, parents};
-ghost use Rattle.tcc_order.specs.Lasts.{IsBefore, IsUpTo};
-ghost use Rattle.tcc_order.specs.Latest.{AreOwners, AreLatestOf, AreClocks, IsOutside, IsLike, LeadsOnward, lifted};
+ghost use Rattle.tcc_order.specs.private.Parents.{AreSteps, parents};
+ghost use Rattle.tcc_order.specs.private.Lasts.{IsBefore, IsUpTo};
+ghost use Rattle.tcc_order.specs.private.Latest.{AreOwners, AreLatestOf, AreClocks, IsOutside, IsLike, LeadsOnward, lifted};
 ghost use Rattle.tcc_order.specs.declared.latest.TheConstants.{WIDE};
 
 use crate::clocking::raise_each;

@@ -3,10 +3,10 @@ ghost use Rattle.std.specs.Prelude.{◌≡◌, length, IfOk, MatchOption};
 ghost use Rattle.tcc_reads.specs.History.{IsBySession};
 ghost use Rattle.tcc_graph.specs.Orders.{IsFirstOrder};
 ghost use Rattle.tcc_graph.specs.Routes.{HasCycle};
-ghost use Rattle.tcc_graph.specs.Levels.{causally};
+ghost use Rattle.tcc_graph.specs.Levels.{causally, judged};
 ghost use Rattle.tcc_graph.specs.declared.level.Level.{Level};
-ghost use Rattle.tcc_order.specs.Parents.{AreSessionParents};
-ghost use Rattle.tcc_order.specs.Latest.{AreLinks};
+ghost use Rattle.tcc_order.specs.private.Parents.{AreSessionParents};
+ghost use Rattle.tcc_order.specs.private.Latest.{AreLinks};
 
 use crate::keeping::{causal_links, no_links};
 use crate::parents::session_parents;
@@ -14,7 +14,7 @@ use crate::placing::first_placing;
 use crate::stepping::atomic_links;
 use std::alloc::Global;
 use tcc_graph::{LargeGraph, Level};
-use tcc_near::Row;
+use tcc_bits::Row;
 use tcc_txn::NoMemory;
 
 /// The links at `Causal` that are kept, by the first order of causal pairs alone; none where these stand in a circle.
@@ -44,8 +44,8 @@ fn links_kept(
     requires numbered { IsBySession graph.now.entries }
     requires parents { AreSessionParents graph.now parents.now }
     ensures { IfOk result (λ found. MatchOption found
-        (HasCycle (record { history = graph.now; level = level }))
-        (λ kept. AreLinks (record { history = graph.now; level = level }) kept.items)) }
+        (HasCycle (judged graph.now level))
+        (λ kept. AreLinks (judged graph.now level) kept.items)) }
 {
     match level {
         Level::Atomic => Ok(Some(atomic_links(alloc, graph, parents)?)),
@@ -56,8 +56,8 @@ fn links_kept(
 /// The first commit order of a history at a level, compared as lists of numbers; none exactly where there is a cycle.
 pub fn order(alloc: Global, graph: &LargeGraph, level: Level) -> Result<Option<Vec<u32>>, NoMemory>
     ensures { IfOk result (λ found. MatchOption found
-        (HasCycle (record { history = graph.now; level = level }))
-        (λ order. IsFirstOrder (record { history = graph.now; level = level }) order.items)) }
+        (HasCycle (judged graph.now level))
+        (λ order. IsFirstOrder (judged graph.now level) order.items)) }
 {
     // transactions stand by session and by place, as this call says
     graph.sessions();

@@ -1,7 +1,7 @@
 //! The transactions right before each one: in its session, and what it reads from.
 ghost use Rattle.std.specs.Prelude.{◌≡◌, ◌<◌, ◌≤◌, ◌-◌, ℕ, length, take, drop, slice_index, All, IfOk, OnOk};
 ghost use Rattle.tcc_reads.specs.History.{count};
-ghost use Rattle.tcc_order.specs.Parents.{AreSessionParents, AreSteps, HasSourcesAt, session_parent, parents};
+ghost use Rattle.tcc_order.specs.private.Parents.{AreSessionParents, AreSteps, HasSourcesAt, session_parent, parents};
 
 use std::alloc::{AllocError, Global};
 use tcc_graph::LargeGraph;

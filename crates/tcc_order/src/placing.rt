@@ -2,18 +2,18 @@
 ghost use Rattle.std.specs.Prelude.{◌≡◌, ◌<◌, ◌≤◌, ◌+◌, ◌^◌, ◌⊎◌, ◌↔◌, ℕ, true, false, length, slice_index, slice_index_or, map, Contains, IfOk, IfNone, IfSome, OnOk, MatchOption};
 ghost use Rattle.tcc_reads.specs.History.{IsBySession, count};
 ghost use Rattle.tcc_graph.specs.Tables.{row_of};
-ghost use Rattle.tcc_near.specs.Bits.{is_marked, words_for};
-ghost use Rattle.tcc_order.specs.Numbering.{IsFirstOf, HasCircle};
-ghost use Rattle.tcc_order.specs.Parents.{AreSessionParents};
-ghost use Rattle.tcc_order.specs.Held.{holds, AreInside, IsFreeBy, AreRoots, onward};
-ghost use Rattle.tcc_order.specs.Queued.{AreQueued, IsAny, IsNot};
+ghost use Rattle.tcc_bits.specs.Bits.{is_marked, words_for};
+ghost use Rattle.tcc_order.specs.private.Numbering.{IsFirstOf, HasCircle};
+ghost use Rattle.tcc_order.specs.private.Parents.{AreSessionParents};
+ghost use Rattle.tcc_order.specs.private.Held.{holds, AreInside, IsFreeBy, AreRoots, onward};
+ghost use Rattle.tcc_order.specs.private.Queued.{AreQueued, IsAny, IsNot};
 
 use crate::keeping::no_links;
 use crate::ready::Ready;
 use std::alloc::{AllocError, Global};
 use tcc_graph::LargeGraph;
-use tcc_near::Row;
-use tcc_near::bits::{is_marked, mark, words_for};
+use tcc_bits::Row;
+use tcc_bits::{is_marked, mark, words_for};
 use tcc_txn::NoMemory;
 
 /// Of the transactions that are read from, one that was not placed.

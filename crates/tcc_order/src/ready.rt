@@ -1,6 +1,6 @@
 //! Numbers of which the least is taken out next.
 ghost use Rattle.std.specs.Prelude.{◌≡◌, ◌⊎◌, ◌↔◌, ℕ, Contains, IfOk, OnOk, MatchOption};
-ghost use Rattle.tcc_order.specs.Queued.{IsPopped};
+ghost use Rattle.tcc_order.specs.private.Queued.{IsPopped};
 
 use std::alloc::{AllocError, Global};
 use std::cmp::Reverse;

@@ -4,16 +4,16 @@ ghost use Rattle.std.specs.Prelude.{◌≡◌, ◌≢◌, ◌<◌, ◌≤◌, �
 ghost use Rattle.tcc_reads.specs.History.{IsBySession, count};
 ghost use Rattle.tcc_graph.specs.Keys.{keys, key_at, writers, IsWriter};
 ghost use Rattle.tcc_graph.specs.Levels.{atomically};
-ghost use Rattle.tcc_order.specs.Parents.{AreSessionParents, HasSourcesAt, parents};
-ghost use Rattle.tcc_order.specs.Latest.{AreOwners, IsLifted, AreLinks, lifted_by};
-ghost use Rattle.tcc_order.specs.Stepping.{IsOther, KeepsRead, AreStepped};
+ghost use Rattle.tcc_order.specs.private.Parents.{AreSessionParents, HasSourcesAt, parents};
+ghost use Rattle.tcc_order.specs.private.Latest.{AreOwners, IsLifted, AreLinks, lifted_by};
+ghost use Rattle.tcc_order.specs.private.Stepping.{IsOther, KeepsRead, AreStepped};
 
 use crate::keeping::no_links;
 use crate::latest::owners;
 use crate::parents::find_parents;
 use std::alloc::Global;
 use tcc_graph::LargeGraph;
-use tcc_near::Row;
+use tcc_bits::Row;
 use tcc_txn::{Name, NoMemory};
 
 /// The later of a number and a writer, where this is another one than `a`, of the session of `c`, and before `c`.

@@ -1,2 +1,2 @@
 pub mod Packed
-pub mod Places
+pub mod private

@@ -1,5 +1,5 @@
 -- Numbers in few bits, and numbers that are capped.
-use Rattle.std.specs.Prelude.{ℕ, ◌==◌, List, map, min, Option, None, Some, if◌then◌else◌, unwrap_or}
+use Rattle.std.specs.Prelude.{ℕ, ◌==◌, min, Option, None, Some, if◌then◌else◌, unwrap_or}
 use Rattle.tcc_packed.specs.declared.row.TheConstants.{NO_NUMBER}
 
 -- what a place of 16 bits stands for
@@ -13,8 +13,3 @@ at_most cap number = min cap (unwrap_or number cap)
 -- the same as what a row may have
 abbrev pub capped_at : ℕ → Option ℕ → Option ℕ
 capped_at cap number = Some (at_most cap number)
-
--- numbers that are capped where there is a cap
-abbrev pub capped_by : Option ℕ → List (Option ℕ) → List (Option ℕ)
-capped_by None numbers = numbers
-capped_by (Some cap) numbers = map (capped_at cap) numbers

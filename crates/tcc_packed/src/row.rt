@@ -1,7 +1,7 @@
 //! A row of numbers, none at some places: 16 bits a place where all of them have room, else 64.
 ghost use Rattle.std.specs.Prelude.{◌≡◌, ◌<◌, length, map, slice_index_or, IfOk, IfSome, None};
-ghost use Rattle.tcc_packed.specs.Packed.{at_most, capped_at, capped_by, number_in};
-ghost use Rattle.tcc_packed.specs.Places.{numbers_in};
+ghost use Rattle.tcc_packed.specs.Packed.{at_most, capped_at, number_in};
+ghost use Rattle.tcc_packed.specs.private.Places.{capped_by, numbers_in};
 
 use std::alloc::{AllocError, Global};
 use std::marker::Model;
@@ -26,8 +26,7 @@ pub struct PackedRow {
 
 impl Model for PackedRow {
     ghost use Rattle.std.specs.Prelude.{ℕ, List, Option};
-    ghost use Rattle.tcc_packed.specs.Packed.{capped_by};
-    ghost use Rattle.tcc_packed.specs.Places.{numbers_in};
+    ghost use Rattle.tcc_packed.specs.private.Places.{capped_by, numbers_in};
 
     ghost Value = { List (Option ℕ) };
 

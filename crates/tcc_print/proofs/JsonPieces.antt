@@ -6,7 +6,7 @@ use Rattle.serde_json.specs.Written.{compact_text, items_text, has_float}
 use Rattle.tcc_reads.specs.declared.fault.ReadFault.{ReadFault}
 use Rattle.tcc_answer.specs.Json.{json_line}
 use Rattle.tcc_print.specs.Json.{read_fault_json, unresolved_json}
-use Rattle.tcc_print.specs.Pieces.{later_fault}
+use Rattle.tcc_print.specs.private.Pieces.{later_fault}
 
 -- the faults behind the first, and the bracket
 later_items : (faults : List ReadFault)

@@ -1,4 +1,3 @@
--- What contracts of public calls cite:
 pub mod Kinds
 pub mod Statuses
 pub mod Texts
@@ -7,6 +6,4 @@ pub mod Moments
 pub mod Printed
 pub mod Large
 pub mod Notes
--- What serves proofs alone:
-pub mod Halts
-pub mod Pieces
+pub mod private

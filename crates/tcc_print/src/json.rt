@@ -4,7 +4,7 @@ ghost use Rattle.serde_json.specs.View.{view, items_of};
 ghost use Rattle.serde_json.specs.Written.{compact_text, has_float, items_text};
 ghost use Rattle.tcc_answer.specs.Json.{json_line};
 ghost use Rattle.tcc_print.specs.Json.{halt_line, read_fault_json, row_fault_json, unresolved_json};
-ghost use Rattle.tcc_print.specs.Pieces.{later_fault};
+ghost use Rattle.tcc_print.specs.private.Pieces.{later_fault};
 
 use crate::halt::Halt;
 use crate::texts::{halt_text, joined, read_word, row_word};

@@ -14,13 +14,13 @@ use Rattle.tcc_reads.specs.declared.fault.ReadFaultKind.TheVariants.{Duplicate, 
 use Rattle.tcc_reads.specs.declared.judging.Judgement.{Judgement}
 use Rattle.tcc_reads.specs.declared.judging.Judgement.TheVariants.{Faulty, ReadsFrom, Silent}
 use Rattle.tcc_reads.specs.Sites.{Stand, Site, at, sites_from, sites_of, sites}
-use Rattle.tcc_reads.specs.Numbers.{Numbered, next_number, numbered_from}
+use Rattle.tcc_reads.specs.private.Numbers.{Numbered, next_number, numbered_from}
 use Rattle.tcc_reads.specs.Sources.{visible_write}
 use Rattle.tcc_reads.specs.Faults.{puts, writer, is_last_at_key, is_same_transaction, is_same_site, write_kind, external_kind, read_kind, kind_at, fault_at}
 use Rattle.tcc_txn.specs.Transactions.{op_key, op_value}
-use Rattle.tcc_reads.specs.Verdicts.{writer_at, first_in, first_writer, is_in, write_judgement}
-use Rattle.tcc_reads.specs.Verdicts.{judgement_from, read_judgement, own_judgement, site_judgement, fault_in}
-use Rattle.tcc_reads.specs.Verdicts.{fault_found, faults_found}
+use Rattle.tcc_reads.specs.private.Verdicts.{writer_at, first_in, first_writer, is_in, write_judgement}
+use Rattle.tcc_reads.specs.private.Verdicts.{judgement_from, read_judgement, own_judgement, site_judgement, fault_in}
+use Rattle.tcc_reads.specs.private.Verdicts.{fault_found, faults_found}
 
 -- the table's record of a write is right
 pub record Records (first : Writer) (site : Site) : Type 0 where

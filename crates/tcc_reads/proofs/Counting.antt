@@ -9,7 +9,7 @@ use Rattle.std.specs.Global.{Vec as VecOf}
 use Rattle.tcc_txn.specs.Snapshots.{Sessions, parts_of}
 use Rattle.tcc_txn.specs.Transactions.{Transaction}
 use Rattle.tcc_reads.specs.Sites.{Stand, stands_in, stands_from}
-use Rattle.tcc_reads.specs.Numbers.{next_number, numbered_from}
+use Rattle.tcc_reads.specs.private.Numbers.{next_number, numbered_from}
 
 -- some parts from a place on
 pub drop_part : (parts : List (List ℕ × VecOf Transaction)) (i : ℕ) (part : List ℕ × VecOf Transaction) → i < length parts → part ≡ get_or parts i part

@@ -21,12 +21,12 @@ use Rattle.tcc_txn.specs.declared.limits.TheConstants.{LARGE_SESSIONS, LARGE_TRA
 use Rattle.tcc_reads.specs.declared.fault.ReadFault.{ReadFault}
 use Rattle.tcc_reads.specs.History.{Entry, History, initial}
 use Rattle.tcc_reads.specs.Sites.{Stand, is_committed, stands_from, committed}
-use Rattle.tcc_reads.specs.Numbers.{Numbered, numbered_from}
+use Rattle.tcc_reads.specs.private.Numbers.{Numbered, numbered_from}
 use Rattle.tcc_reads.specs.Sources.{shows, source, external_reads, sorted_once, pair_cmp, entry_of, history_of, history}
 use Rattle.tcc_reads.specs.Faults.{writer, faults_of, read_faults}
 use Rattle.tcc_reads.specs.History.{IsBySession, places_of}
-use Rattle.tcc_reads.specs.Stored.{IsStored}
-use Rattle.tcc_reads.specs.Verdicts.{Writes, AreFirstWriters, faults_found, entries_found}
+use Rattle.tcc_reads.specs.private.Stored.{IsStored}
+use Rattle.tcc_reads.specs.private.Verdicts.{Writes, AreFirstWriters, faults_found, entries_found}
 use Rattle.tcc_reads.proofs.Counting.{length-stands_from, stands_from-session}
 use Rattle.tcc_reads.proofs.Agreement.{Agree, agree_on, faults_agree}
 use Rattle.tcc_reads.proofs.Sourcing.{sourced, entries_agree}

@@ -12,7 +12,8 @@ use Rattle.std.specs.BTreeSet.{insert_key}
 use Rattle.std.specs.declared.cmp.Ordering.{Ordering}
 use Rattle.std.specs.declared.cmp.Ordering.TheVariants.{Less, Equal, Greater}
 use Rattle.tcc_txn.proofs.Lists.{or_swap}
-use Rattle.tcc_reads.specs.Sources.{sorted_once, TellsApart}
+use Rattle.tcc_reads.specs.Sources.{sorted_once}
+use Rattle.tcc_reads.specs.private.Sorting.{TellsApart}
 
 or_same : (a b c : Bool) → a ≡ b → (b || c) ≡ (a || (b || c))
 or_same true true c e = refl

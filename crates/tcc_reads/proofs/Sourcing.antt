@@ -13,13 +13,13 @@ use Rattle.tcc_reads.specs.declared.writers.Writer.{Writer}
 use Rattle.tcc_reads.specs.declared.judging.Judgement.{Judgement}
 use Rattle.tcc_reads.specs.declared.judging.Judgement.TheVariants.{Faulty, ReadsFrom, Silent}
 use Rattle.tcc_reads.specs.Sites.{Stand, Site, at, sites_from, committed}
-use Rattle.tcc_reads.specs.Numbers.{Numbered, next_number, numbered_from}
+use Rattle.tcc_reads.specs.private.Numbers.{Numbered, next_number, numbered_from}
 use Rattle.tcc_reads.specs.Sources.{puts_at, value_put, visible_write, shows, source, external_read, external_reads, sorted_once, pair_cmp, writes_of, entry_of}
 use Rattle.tcc_reads.specs.Faults.{puts}
 use Rattle.tcc_txn.specs.Transactions.{op_key}
-use Rattle.tcc_reads.specs.Verdicts.{writer_at, first_in, first_writer, is_in, write_judgement, judgement_from, read_judgement, own_judgement}
-use Rattle.tcc_reads.specs.Verdicts.{site_judgement, fault_in, source_in, fault_found, source_found, faults_found, sources_found, entry_found}
-use Rattle.tcc_reads.specs.Verdicts.{entries_found}
+use Rattle.tcc_reads.specs.private.Verdicts.{writer_at, first_in, first_writer, is_in, write_judgement, judgement_from, read_judgement, own_judgement}
+use Rattle.tcc_reads.specs.private.Verdicts.{site_judgement, fault_in, source_in, fault_found, source_found, faults_found, sources_found, entry_found}
+use Rattle.tcc_reads.specs.private.Verdicts.{entries_found}
 use Rattle.std.proofs.lemmas.Bool.{and_parts, or_parts, not-true}
 use Rattle.tcc_reads.proofs.Ties.{same_name}
 use Rattle.tcc_reads.proofs.Agreement.{kind_in}

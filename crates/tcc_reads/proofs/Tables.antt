@@ -10,9 +10,9 @@ use Rattle.tcc_txn.specs.declared.op.Op.{Op}
 use Rattle.tcc_txn.specs.declared.op.Op.TheVariants.{Get, Put}
 use Rattle.tcc_reads.specs.declared.fault.ReadFaultKind.TheVariants.{Duplicate}
 use Rattle.tcc_reads.specs.declared.judging.Judgement.TheVariants.{Faulty, Silent}
-use Rattle.tcc_reads.specs.Numbers.{Numbered}
+use Rattle.tcc_reads.specs.private.Numbers.{Numbered}
 use Rattle.tcc_reads.specs.Sources.{name_cmp, value_put, visible_write}
-use Rattle.tcc_reads.specs.Verdicts.{Writes, AreOwnIn, IsOwn, AreVisibleWrites, write_judgement}
+use Rattle.tcc_reads.specs.private.Verdicts.{Writes, AreOwnIn, IsOwn, AreVisibleWrites, write_judgement}
 use Rattle.tcc_reads.proofs.Ties.{names_tie, numbers_same}
 
 option_or-none : (o : Option ℕ) → option_or None o ≡ option_or o None

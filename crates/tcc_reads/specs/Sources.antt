@@ -1,9 +1,8 @@
 -- Visible writes, external reads and their sources: the history of a snapshot.
-use Rattle.std.specs.Prelude.{ℕ, ◌≡◌, Bool, false, ◌==◌, if◌then◌else◌, List, [], ◌∷◌, map, filter_map, unwrap_or, Option, None, Some, is_none}
+use Rattle.std.specs.Prelude.{ℕ, Bool, false, ◌==◌, if◌then◌else◌, List, [], ◌∷◌, map, filter_map, unwrap_or, Option, None, Some, is_none}
 use Rattle.std.specs.Option.{option_or, option_eq}
 use Rattle.std.specs.List.{position_from}
 use Rattle.std.specs.declared.cmp.Ordering.{Ordering}
-use Rattle.std.specs.declared.cmp.Ordering.TheVariants.{Equal}
 use Rattle.std.specs.Ordering.{nat_cmp, ordering_then}
 use Rattle.std.specs.Cmp.Lexicographic.{slice_cmp}
 use Rattle.std.specs.BTreeSet.{insert_key}
@@ -59,10 +58,6 @@ name_cmp = slice_cmp nat_cmp
 -- by name, then by number
 abbrev pub pair_cmp : List ℕ × ℕ → List ℕ × ℕ → Ordering
 pair_cmp a b = ordering_then (name_cmp a.0 b.0) (nat_cmp a.1 b.1)
-
--- only the same items tie
-abbrev pub TellsApart : {K : Type 0} → (K → K → Ordering) → Type 0
-TellsApart {K} cmp = (x y : K) → cmp x y ≡ Equal → x ≡ y
 
 -- the items in order, each once
 abbrev pub sorted_once : {K : Type 0} → (K → K → Ordering) → List K → List K

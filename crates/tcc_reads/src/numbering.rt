@@ -3,7 +3,7 @@ ghost use Rattle.std.specs.Prelude.{◌≡◌, ◌≤◌, ◌+◌, ◌++◌, Lis
 ghost use Rattle.tcc_txn.specs.Snapshots.{parts_of};
 ghost use Rattle.tcc_txn.specs.declared.limits.TheConstants.{LARGE_COUNT, LARGE_SESSIONS, LARGE_TRANSACTIONS};
 ghost use Rattle.tcc_reads.specs.Sites.{Stand, stands_in, stands_from};
-ghost use Rattle.tcc_reads.specs.Numbers.{numbered_from};
+ghost use Rattle.tcc_reads.specs.private.Numbers.{numbered_from};
 
 use crate::standing::Standing;
 use std::alloc::{AllocError, Global};

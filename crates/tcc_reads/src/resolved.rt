@@ -42,7 +42,7 @@ pub struct LargeResolved {
 
 impl Model for LargeResolved {
     ghost use Rattle.tcc_reads.specs.History.{History};
-    ghost use Rattle.tcc_reads.specs.Stored.{IsStored};
+    ghost use Rattle.tcc_reads.specs.private.Stored.{IsStored};
 
     ghost Value = { History };
 

@@ -8,7 +8,7 @@ ghost use Rattle.tcc_reads.specs.Sources.{name_cmp, pair_cmp, key_put, sorted_on
 ghost use Rattle.tcc_reads.specs.Faults.{read_faults};
 ghost use Rattle.tcc_reads.specs.Refusals.{IsRefusal};
 ghost use Rattle.tcc_reads.specs.History.{places_of};
-ghost use Rattle.tcc_reads.specs.Verdicts.{writers_in, AreOwn, AreOwnIn, faults_found, entries_found};
+ghost use Rattle.tcc_reads.specs.private.Verdicts.{writers_in, AreOwn, AreOwnIn, faults_found, entries_found};
 
 use crate::judging::judge;
 use crate::numbering::{session_names, standings};

@@ -17,7 +17,7 @@ pub(crate) struct Standing<'a> {
 }
 
 impl<'a> Model for Standing<'a> {
-    ghost use Rattle.tcc_reads.specs.Numbers.{Numbered, numbered_code};
+    ghost use Rattle.tcc_reads.specs.private.Numbers.{Numbered, numbered_code};
 
     ghost Value = { Numbered };
 

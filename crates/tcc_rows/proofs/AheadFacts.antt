@@ -11,17 +11,18 @@ use Rattle.csv.specs.declared.parser.Config.{Config}
 use Rattle.csv.specs.declared.parser.State.{State}
 use Rattle.csv.specs.declared.parser.State.TheVariants as st
 use Rattle.tcc_rows.specs.Ahead.{FaultsIn, IsFailure}
-use Rattle.tcc_rows.specs.Failing.{FailsIn}
+use Rattle.tcc_rows.specs.private.Failing.{FailsIn}
 use Rattle.tcc_rows.specs.Midway.{IsMidway}
 use Rattle.tcc_rows.specs.Answers.{Answers, after_item, answers_after_within, answers_within, ending, fault_at_end, judged_within, records_within}
 use Rattle.tcc_rows.specs.ByteLimit.{marked, past_limit}
 use Rattle.tcc_txn.specs.Limits.{most_bytes}
 use Rattle.tcc_rows.specs.Lines.{Record, is_cut, line_of}
 use Rattle.tcc_rows.specs.Past.{fault_within, item_of}
-use Rattle.tcc_rows.specs.RecordsLeft.{HasLeft, TakesRecord, record_of}
+use Rattle.tcc_rows.specs.RecordsLeft.{HasLeft, record_of}
+use Rattle.tcc_rows.specs.private.Stages.{TakesRecord, Counts, IsAtLine, TakesFields, TakesStep}
 use Rattle.tcc_rows.specs.Reached.{StandsIn, row_in, row_reached}
-use Rattle.tcc_rows.specs.Stages.{Counts, IsAtLine, TakesFields, TakesStep}
-use Rattle.tcc_rows.specs.Standing.{IsAfter, PassesOperation}
+use Rattle.tcc_rows.specs.Standing.{IsAfter}
+use Rattle.tcc_rows.specs.private.Passing.{PassesOperation}
 use Rattle.tcc_rows.specs.declared.rows.Item.{Item}
 use Rattle.tcc_rows.specs.declared.rows.Item.TheVariants as item
 use Rattle.tcc_rows.specs.declared.rows.RowFault.{RowFault}

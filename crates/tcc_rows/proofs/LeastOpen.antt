@@ -13,7 +13,8 @@ use Rattle.std.specs.BTreeMap.{get, is_at}
 use Rattle.std.proofs.lemmas.List.Elements.{All-head, All-tail}
 use Rattle.tcc_txn.specs.Bytes.{same}
 use Rattle.tcc_rows.specs.Past.{is_begun, least, lesser, open_sessions, ops_since, sessions}
-use Rattle.tcc_rows.specs.Standing.{HoldsSeats, Seats, lower}
+use Rattle.tcc_rows.specs.Standing.{HoldsSeats, Seats}
+use Rattle.tcc_rows.specs.private.Passing.{lower}
 use Rattle.tcc_txn.specs.declared.limits.Limits.{Limits}
 use Rattle.tcc_txn.specs.declared.op.Op.{Op}
 use Rattle.tcc_rows.specs.declared.rows.line.Line.{Line}

@@ -12,9 +12,10 @@ use Rattle.std.proofs.lemmas.Str.Parse.{numerals_by_value, parse_plain, tells_al
 use Rattle.csv.specs.Records.{field_at}
 use Rattle.std.specs.Option.{option_map_or}
 use Rattle.tcc_txn.specs.Bytes.{same}
-use Rattle.tcc_rows.specs.Lines.{Record, access_of, accessed, digits_of, in_session, line_of, op_of, session_of, value_of}
+use Rattle.tcc_rows.specs.Lines.{Record, accessed, digits_of, in_session, line_of, op_of, value_of}
+use Rattle.tcc_rows.specs.private.Words.{access_of, session_of}
 use Rattle.tcc_txn.specs.Names.{name_fault}
-use Rattle.tcc_rows.specs.Standing.{PassesLine, PassesOperation, writes_no_zero}
+use Rattle.tcc_rows.specs.private.Passing.{PassesLine, PassesOperation, writes_no_zero}
 use Rattle.tcc_txn.specs.Transactions.{writes_zero}
 use Rattle.tcc_txn.specs.declared.limits.Limits.{Limits}
 use Rattle.tcc_txn.specs.declared.op.Op.{Op}

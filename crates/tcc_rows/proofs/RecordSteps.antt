@@ -16,7 +16,8 @@ use Rattle.csv.proofs.ReadFacts.{rows-end, rows-more}
 use Rattle.tcc_rows.specs.Lines.{Record}
 use Rattle.tcc_rows.specs.ByteLimit.{limited_remaining}
 use Rattle.tcc_rows.specs.Reached.{StandsBy, StandsIn}
-use Rattle.tcc_rows.specs.RecordsLeft.{HasLeft, IsPlain, TakesRecord, record_of, records_after}
+use Rattle.tcc_rows.specs.RecordsLeft.{HasLeft, IsPlain, record_of, records_after}
+use Rattle.tcc_rows.specs.private.Stages.{TakesRecord}
 use Rattle.tcc_rows.specs.declared.rows.Phase.TheVariants as phase
 use Rattle.tcc_rows.specs.declared.rows.Rows.{Rows}
 use Rattle.tcc_rows.specs.declared.rows.records.Records.{Records}

@@ -13,11 +13,12 @@ use Rattle.std.proofs.lemmas.Bool.Decides.{nat_tests}
 use Rattle.tcc_txn.specs.Limits.{most_keys, most_sessions, most_transactions}
 use Rattle.tcc_txn.specs.Bytes.{same}
 use Rattle.tcc_rows.specs.Past.{begin_count, fault_within, is_begun, keys, ops_since, sessions, with_name}
-use Rattle.tcc_rows.specs.Standing.{NameSet, Seats, HoldsNames, HoldsSeats, IsAfter, NotesName, PassesLine, seat}
+use Rattle.tcc_rows.specs.Standing.{NameSet, Seats, HoldsNames, HoldsSeats, IsAfter, seat}
+use Rattle.tcc_rows.specs.private.Passing.{NotesName, PassesLine}
 use Rattle.tcc_txn.specs.Transactions.{op_key}
 use Rattle.tcc_txn.specs.declared.limits.Limits.{Limits}
 use Rattle.tcc_txn.specs.declared.op.Op.{Op}
-use Rattle.tcc_rows.specs.Drafts.{AddsOp}
+use Rattle.tcc_rows.specs.private.Drafts.{AddsOp}
 use Rattle.tcc_rows.specs.declared.rows.RowFaultKind.{RowFaultKind}
 use Rattle.tcc_rows.specs.declared.rows.RowFaultKind.TheVariants as kind
 use Rattle.tcc_rows.specs.declared.rows.line.Line.{Line}

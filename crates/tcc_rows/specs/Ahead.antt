@@ -14,6 +14,12 @@ use Rattle.tcc_rows.specs.Midway.{IsMidway}
 use Rattle.tcc_rows.specs.declared.rows.Rows.{Rows}
 use Rattle.tcc_rows.specs.declared.rows.line.Line.{Line}
 
+-- the phase after an item
+abbrev pub phase_after : Item → Phase
+phase_after item.End = phase.Ended
+phase_after item.Seal = phase.Reading
+phase_after (item.Finished name txn) = phase.Reading
+
 abbrev pub IsAheadIn : {R : Type 0} → Limits → Phase → (R → Option (List ℕ)) → Rows R → Answers → Type 0
 IsAheadIn limits phase.Reading remaining rows ahead = IsMidway limits remaining rows ahead
 IsAheadIn limits phase.Ended remaining rows ahead = ahead ≡ ending None

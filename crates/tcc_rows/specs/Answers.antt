@@ -59,9 +59,6 @@ answers_within limits text = answers_after_within limits [] (records_within limi
 
 -- ---- the same within the small limits
 
-abbrev pub judged : List Line → Record → Result Line RowFaultKind
-judged = judged_within Small
-
 abbrev pub answers_after : List Line → List Record → Answers
 answers_after = answers_after_within Small
 

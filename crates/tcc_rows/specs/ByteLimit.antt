@@ -1,5 +1,5 @@
 -- The bytes of a reader under a limit on how many there are.
-use Rattle.std.specs.Prelude.{ℕ, Bool, true, false, nat_le, if◌then◌else◌, List, [], ◌∷◌, ◌++◌, length, take, Option, option_map}
+use Rattle.std.specs.Prelude.{ℕ, nat_le, if◌then◌else◌, List, [], ◌∷◌, ◌++◌, length, take, Option, option_map}
 use Rattle.tcc_rows.specs.declared.rows.limited.Limited.{Limited}
 use Rattle.tcc_rows.specs.declared.rows.limited.Stand.{Stand}
 use Rattle.tcc_rows.specs.declared.rows.limited.Stand.TheVariants.{Going, Ended, Over}
@@ -21,12 +21,3 @@ limited_bytes Over left known = option_map (λ _. past_limit ∷ []) known
 -- the bytes that the reader inside has left, as far as the limit lets them through
 abbrev pub limited_remaining : {R : Type 0} → (R → Option (List ℕ)) → Limited R → Option (List ℕ)
 limited_remaining remaining s = limited_bytes s.stand s.left (remaining s.inner)
-
-abbrev pub is_end : Stand → Bool
-is_end Going = false
-is_end Ended = true
-is_end Over = false
-
--- the reader inside has said that it has no more bytes
-abbrev pub met_end : {R : Type 0} → Limited R → Bool
-met_end s = is_end s.stand

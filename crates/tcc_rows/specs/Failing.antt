@@ -1,6 +1,6 @@
 -- Where the reading of a text's records fails: which of them were judged before, and what came of these.
-use Rattle.std.specs.Prelude.{ℕ, ◌+◌, ◌-◌, ◌≡◌, ◌≤◌, List, [], ◌∷◌, ◌++◌, length, take, Ok}
-use Rattle.tcc_rows.specs.Answers.{Answers, answers_after_within, judged_within}
+use Rattle.std.specs.Prelude.{ℕ, ◌+◌, ◌-◌, ◌≡◌, ◌≤◌, List, [], ◌∷◌, length, take, Ok}
+use Rattle.tcc_rows.specs.Answers.{answers_after_within, judged_within}
 use Rattle.tcc_rows.specs.Lines.{Record}
 use Rattle.tcc_txn.specs.declared.limits.Limits.{Limits}
 use Rattle.tcc_txn.specs.declared.limits.Limits.TheVariants.{Small}
@@ -36,13 +36,3 @@ items_before = items_before_within Small
 abbrev pub FailsAt : ℕ → List Record → Type 0
 FailsAt = FailsAtWithin Small
 
--- ---- the same between two records, for proofs: nobody has to believe it
-
-pub record FailsIn (limits : Limits) (all : List Record) (ahead : Answers) (row : ℕ) : Type 0 where
-  pub first : List Record
-  pub left : List Record
-  pub past : List Line
-  pub whole : all ≡ first ++ left
-  pub long : length past ≡ length first
-  pub answers : ahead ≡ answers_after_within limits past left
-  pub here : row ≡ length first + 1

@@ -3,11 +3,9 @@ use Rattle.std.specs.Prelude.{List, fold}
 use Rattle.std.specs.FinMap as map
 use Rattle.tcc_txn.specs.Finished.{with_transaction}
 use Rattle.tcc_txn.specs.Snapshots.{Sessions}
-use Rattle.tcc_txn.specs.declared.snapshot.GrowFault.{GrowFault}
 use Rattle.tcc_txn.specs.declared.snapshot.GrowFault.TheVariants as grow
 use Rattle.tcc_rows.specs.declared.rows.Item.{Item}
 use Rattle.tcc_rows.specs.declared.rows.Item.TheVariants as item
-use Rattle.tcc_rows.specs.declared.rows.RowFaultKind.{RowFaultKind}
 use Rattle.tcc_rows.specs.declared.rows.RowFaultKind.TheVariants as kind
 
 -- what is finished after one more item
@@ -19,9 +17,3 @@ with_item s item.End = s
 -- each session with a finished item, with its finished transactions in their order
 abbrev pub finished_in : List Item → Sessions
 finished_in items = fold with_item map.empty items
-
--- what a record shows whose transaction a snapshot doesn't take
-abbrev pub kind_of : GrowFault → RowFaultKind
-kind_of grow.TooManySessions = kind.TooManySessions
-kind_of grow.TooManyTransactions = kind.TooManyTransactions
-kind_of grow.NoMemory = kind.NoMemory

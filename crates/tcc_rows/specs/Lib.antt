@@ -1,4 +1,3 @@
--- What contracts of public calls cite:
 pub mod Ahead
 pub mod Answers
 pub mod ByteLimit
@@ -9,10 +8,7 @@ pub mod Lines
 pub mod Past
 pub mod Reached
 pub mod Recordings
--- What serves proofs alone:
-pub mod Drafts
 pub mod Midway
-pub mod Phases
 pub mod RecordsLeft
-pub mod Stages
 pub mod Standing
+pub mod private

@@ -47,14 +47,6 @@ abbrev pub in_session : List ℕ → Result Op RowFaultKind → Result Line RowF
 in_session session (Ok op) = Ok (line.Operation session op)
 in_session session (Err k) = Err k
 
--- the session that a field names
-abbrev pub session_of : List ℕ → Result (List ℕ) RowFaultKind
-session_of bytes = named bytes kind.BadSession (Ok bytes)
-
--- whether the word says that an operation is a write
-abbrev pub access_of : List ℕ → Result Bool RowFaultKind
-access_of word = if same word (codes "r") then Ok false else if same word (codes "w") then Ok true else Err kind.UnknownWord
-
 -- the line of a record, or the least kind of fault that the record shows by itself
 abbrev pub line_of : Record → Result Line RowFaultKind
 line_of (word ∷ []) = if same word (codes "seal") then Ok line.Seal else Err kind.UnknownWord

@@ -1,4 +1,4 @@
--- A reader of rows between two records, for proofs: nobody has to believe it. What it stands for is what the calls of `Rows` say of `IsAhead`.
+-- A reader of rows between two records. What it stands for is what the calls of `Rows` say of `IsAhead`.
 use Rattle.std.specs.Prelude.{ℕ, ◌+◌, ◌^◌, ◌<◌, ◌≡◌, List, length, Option}
 use Rattle.tcc_rows.specs.Answers.{Answers, answers_after_within}
 use Rattle.tcc_rows.specs.Lines.{Record}

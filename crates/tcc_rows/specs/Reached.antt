@@ -1,21 +1,15 @@
 -- How far a reader of rows has come: how many records it has read, which of a text these are, and whether the reading failed.
-use Rattle.std.specs.Prelude.{ℕ, ◌+◌, ◌-◌, ◌^◌, ◌≡◌, ◌≤◌, ◌⊎◌, true, if◌then◌else◌, min, List, ◌++◌, length, Option}
-use Rattle.csv.specs.Reading.{has_failed, is_io}
-use Rattle.csv.specs.declared.error.ErrorKind.{ErrorKind}
+use Rattle.std.specs.Prelude.{ℕ, ◌+◌, ◌-◌, ◌^◌, ◌≡◌, ◌≤◌, ◌⊎◌, true, min, List, ◌++◌, length, Option}
+use Rattle.csv.specs.Reading.{has_failed}
 use Rattle.tcc_rows.specs.Lines.{Record}
 use Rattle.tcc_rows.specs.RecordsLeft.{HasLeft, record_of}
 use Rattle.tcc_rows.specs.declared.rows.Phase.{Phase}
 use Rattle.tcc_rows.specs.declared.rows.Phase.TheVariants as phase
-use Rattle.tcc_rows.specs.declared.rows.RowFaultKind.{RowFaultKind}
 use Rattle.tcc_rows.specs.declared.rows.RowFaultKind.TheVariants as kind
 use Rattle.tcc_rows.specs.declared.rows.Rows.{Rows}
 use Rattle.tcc_rows.specs.declared.rows.records.Course.{Course}
 use Rattle.tcc_rows.specs.declared.rows.records.Course.TheVariants as course
 use Rattle.tcc_rows.specs.declared.rows.records.Records.{Records}
-
--- how many records were read
-abbrev pub records_read : {R : Type 0} → Rows R → ℕ
-records_read rows = rows.records.count
 
 -- the fields of the record that was read last
 abbrev pub last_record : {R : Type 0} → Rows R → Record
@@ -30,10 +24,6 @@ row_in course.Failed count = min (count + 1) (2 ^ 64 - 1)
 -- the row at which a fault stands
 abbrev pub row_reached : {R : Type 0} → Rows R → ℕ
 row_reached rows = row_in rows.records.course rows.records.count
-
--- what `csv` says of its failure: the reader failed, or memory was refused
-abbrev pub failure_of : ErrorKind → RowFaultKind
-failure_of error = if is_io error then kind.Read else kind.NoMemory
 
 -- `csv` has given up: an error of its reader or of memory came; or there are as many records as 64 bits count
 abbrev pub HasGivenUp : {R : Type 0} → Records R → Type 0

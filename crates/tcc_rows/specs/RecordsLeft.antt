@@ -1,5 +1,5 @@
--- The records that a reader of `csv` has left, for proofs: nobody has to believe it. `Rows::new` says that at first they are those of the text.
-use Rattle.std.specs.Prelude.{ℕ, ◌+◌, ◌≡◌, Bool, true, false, List, [], ◌∷◌, length, Option, Some, option_map}
+-- The records that a reader of `csv` has left. `Rows::new` says that at first they are those of the text.
+use Rattle.std.specs.Prelude.{ℕ, ◌+◌, ◌≡◌, true, false, List, length, Option, Some, option_map}
 use Rattle.csv.specs.Machine.{ends_at_end}
 use Rattle.csv.specs.Reading.{Ready, default_config, has_failed, is_flexible, reader_config, reader_state, reader_trim, records_from, source_of}
 use Rattle.csv.specs.Records.{fields_of}
@@ -35,8 +35,3 @@ HasLeft remaining records left = HasRecords (limited_remaining remaining) record
 -- the fields of the record that was read last
 abbrev pub record_of : {R : Type 0} → Records R → Record
 record_of records = fields_of records.record
-
--- a record was read, the first of those that were left, or there was none
-abbrev pub TakesRecord : {R : Type 0} → (R → Option (List ℕ)) → List Record → Bool → Records R → Type 0
-TakesRecord remaining left true new = (rest : List Record) × (left ≡ record_of new ∷ rest) × HasLeft remaining new rest
-TakesRecord remaining left false new = left ≡ []

@@ -3,8 +3,9 @@ ghost use Rattle.std.specs.Prelude.{◌≡◌, ◌≢◌, ◌+◌, ◌^◌, ◌<
 ghost use Rattle.std.specs.Prelude.{None, Some, false, Ok, Err, option_map};
 ghost use Rattle.csv.specs.Records.{field_at};
 ghost use Rattle.tcc_rows.specs.Answers.{Answers, answers_after_within, answers_of, answers_within, fault_at_end, records_of, records_within};
-ghost use Rattle.tcc_rows.specs.Items.{kind_of};
-ghost use Rattle.tcc_rows.specs.Standing.{IsAfter, writes_no_zero};
+ghost use Rattle.tcc_rows.specs.private.Words.{kind_of};
+ghost use Rattle.tcc_rows.specs.Standing.{IsAfter};
+ghost use Rattle.tcc_rows.specs.private.Passing.{writes_no_zero};
 ghost use Rattle.tcc_txn.specs.declared.limits.Limits.{Limits};
 ghost use Rattle.tcc_txn.specs.declared.limits.Limits.TheVariants.{Small};
 ghost use Rattle.tcc_rows.specs.declared.rows.line.Line.{Line};
@@ -132,15 +133,16 @@ pub struct Rows<R> {
 }
 
 impl<R: Read + Drop> Rows<R> {
-    ghost use Rattle.tcc_rows.specs.Ahead.{FaultsIn, IsAhead, TakesAnswer, fault_met, has_ended};
-    ghost use Rattle.tcc_rows.specs.Failing.{FailsAtWithin, FailsIn, items_before_within};
+    ghost use Rattle.tcc_rows.specs.Ahead.{FaultsIn, IsAhead, TakesAnswer, fault_met, has_ended, phase_after};
+    ghost use Rattle.tcc_rows.specs.Failing.{FailsAtWithin, items_before_within};
+    ghost use Rattle.tcc_rows.specs.private.Failing.{FailsIn};
     ghost use Rattle.tcc_rows.specs.Midway.{IsMidway};
     ghost use Rattle.tcc_rows.specs.Lines.{Record, is_cut, line_of};
-    ghost use Rattle.tcc_rows.specs.Phases.{phase_after, phase_after_step};
+    ghost use Rattle.tcc_rows.specs.private.Phases.{phase_after_step};
     ghost use Rattle.tcc_rows.specs.Reached.{HasGivenUp, IsWithin, ReaderFailed, StandsBy, StandsIn, last_record, row_reached};
     ghost use Rattle.tcc_rows.specs.Recordings.{after_items};
     ghost use Rattle.tcc_rows.specs.declared.rows.Item.{Item};
-    ghost use Rattle.tcc_rows.specs.Stages.{LeavesIn, MeetsLine, TakesFields, TakesItem, TakesStep};
+    ghost use Rattle.tcc_rows.specs.private.Stages.{LeavesIn, MeetsLine, TakesFields, TakesItem, TakesStep};
     ghost use Rattle.tcc_rows.specs.declared.rows.records.Course.TheVariants as course;
 
     /// The rows of what the reader gives; it is gone where memory is refused.

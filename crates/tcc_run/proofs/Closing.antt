@@ -30,6 +30,7 @@ use Rattle.tcc_explain.proofs.CertifiedAnswer.{certified}
 use Rattle.tcc_explain.proofs.RecordedKeys.{recorded}
 use Rattle.tcc_explain.proofs.WrittenAnswer.{read_back}
 use Rattle.tcc_check.specs.declared.judgement.Judgement.{Judgement}
+use Rattle.tcc_graph.specs.Levels.{judged}
 use Rattle.tcc_print.specs.declared.halt.Halt.{Halt}
 use Rattle.tcc_print.specs.declared.halt.Halt.TheVariants.{Row, Reads, Text, NoMemory}
 use Rattle.tcc_verdict.specs.Checks.{IsCheck, IsRecordsCheck, IsSnapshotCheck, IsTextCheck, MayBeCheck}
@@ -49,7 +50,7 @@ all_of records = finished_in (answers_of records).items
 
 module _ (records : List ℕ) (limits : KeepsLimits (all_of records)) (level : Level) (a : Answer) (unfaulted : (answers_of records).fault ≡ None)
     (resolved : read_faults (all_of records) ≡ [])
-    (is : IsAnswerOf (record { history = history (all_of records); level = level }) a) where
+    (is : IsAnswerOf (judged (history (all_of records)) level) a) where
   abbrev c : Certificate
   c = certificate_of a
 

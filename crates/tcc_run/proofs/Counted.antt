@@ -3,7 +3,7 @@ use Rattle.std.proofs.Common.{◌≡◌, ℕ, zero, suc, ◌+◌, List, [], ◌�
 use Rattle.std.proofs.Math.Seq.{drop-nil}
 use Rattle.std.proofs.lemmas.List.Sums.{sum_by-cons}
 use Rattle.tcc_txn.specs.Transactions.{Transaction}
-use Rattle.tcc_run.specs.Stages.{count_at}
+use Rattle.tcc_run.specs.private.Stages.{count_at}
 
 abbrev size : List ℕ × List Transaction → ℕ
 size named = length named.1

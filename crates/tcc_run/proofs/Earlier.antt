@@ -12,13 +12,15 @@ use Rattle.tcc_answer.specs.declared.answer.Answer.TheVariants as answer
 use Rattle.tcc_explain.specs.Explained.{IsAnswerFor, IsAnswerOf}
 use Rattle.tcc_explain.specs.Next.{IsAnomalyOf, IsNextRefusal}
 use Rattle.tcc_explain.specs.declared.refusal.NextFault.TheVariants as refusal
-use Rattle.tcc_run.specs.Headline.{IsExplained, judged}
-use Rattle.tcc_run.specs.Stages.{Follows, HasEarlier, IsEarlier, anomaly_in}
+use Rattle.tcc_graph.specs.Levels.{judged}
+use Rattle.tcc_reads.specs.Sources.{history}
+use Rattle.tcc_run.specs.Headline.{IsExplained}
+use Rattle.tcc_run.specs.private.Stages.{Follows, HasEarlier, IsEarlier, anomaly_in}
 use Rattle.tcc_run.specs.declared.explain.Last.{Last}
 use Rattle.tcc_run.specs.declared.outcome.Outcome.TheVariants as outcome
 
 -- an answer's own anomaly is one of its snapshot
-pub own_earlier : (level : Level) (s : Sessions) (a : Answer) → read_faults s ≡ [] → IsAnswerOf (judged s level) a → HasEarlier level s (outcome.Answered a)
+pub own_earlier : (level : Level) (s : Sessions) (a : Answer) → read_faults s ≡ [] → IsAnswerOf (judged (history s) level) a → HasEarlier level s (outcome.Answered a)
 own_earlier level s (answer.Commit c) resolved is = tt
 own_earlier level s (answer.Anomaly a) resolved is = (s, nested_itself s, resolved, (is.0, is.1, is.2))
 
@@ -42,13 +44,13 @@ without_tables level s a b is (small, nested, resolved, anomaly) =
 
 -- what is answered at its level is answered at that of the run
 pub at_its_level : (level : Level) (s : Sessions) (e : LabelledCycle) (a : Answer) → IsEarlier level s e → IsExplained s e.level a
-    → IsAnswerOf (judged s e.level) a → IsAnswerFor s level a
+    → IsAnswerOf (judged (history s) e.level) a → IsAnswerFor s level a
 at_its_level level s e a (small, nested, resolved, anomaly) explained is =
-    (explained.resolved, subst (λ (l : Level). IsAnswerOf (judged s l) a) anomaly.1 is)
+    (explained.resolved, subst (λ (l : Level). IsAnswerOf (judged (history s) l) a) anomaly.1 is)
 
 -- in a resolved snapshot no link of such an anomaly is missed, where none is missed of one of a snapshot that it continues
 pub none_missed : (level : Level) (s : Sessions) (a : LabelledCycle) (n : ℕ)
-    → ((small : Sessions) → IsNested small s → read_faults small ≡ [] → read_faults s ≡ [] → IsAnomalyOf (judged small level) a
+    → ((small : Sessions) → IsNested small s → read_faults small ≡ [] → read_faults s ≡ [] → IsAnomalyOf (judged (history small) level) a
     → IsNextRefusal s a (refusal.NotNested n) → ⊥)
     → IsEarlier level s a → IsNextRefusal s a (refusal.NotNested n) → ⊥
 none_missed level s a n law (small, nested, resolved, is) missing = law small nested resolved missing.0 is missing

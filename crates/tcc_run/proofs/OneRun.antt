@@ -8,7 +8,7 @@ use Rattle.tcc_rows.specs.declared.rows.Item.{Item}
 use Rattle.tcc_rows.specs.declared.rows.Item.TheVariants as item
 use Rattle.tcc_rows.specs.declared.rows.RowFault.{RowFault}
 use Rattle.tcc_reads.specs.Sources.{history}
-use Rattle.tcc_graph.specs.Levels.{Judged}
+use Rattle.tcc_graph.specs.Levels.{Judged, judged}
 use Rattle.tcc_answer.specs.declared.answer.Answer.{Answer}
 use Rattle.tcc_explain.specs.Explained.{IsAnswerOf}
 use Rattle.tcc_print.specs.declared.options.Options.{Options}
@@ -40,8 +40,8 @@ module _ (one : (j : Judged) (some other : Answer) → IsAnswerOf j some → IsA
   said_again : (s : Sessions) (x y : Said) → IsAnswered options s x → IsAnswered others s y → x ≡ y
   said_again s x y (inl (resolved, a, is, e)) (inl (again, b, too, f)) =
       let same : a ≡ b =
-      one (record { history = history s; level = options.level }) a b is
-      (subst (λ l. IsAnswerOf (record { history = history s; level = l }) b) (sym alike.level) too) in
+      one (judged (history s) options.level) a b is
+      (subst (λ l. IsAnswerOf (judged (history s) l) b) (sym alike.level) too) in
       e ∙ answer_again a b same ∙ sym f
   said_again s x y (inl (resolved, a, is, e)) (inr (faulty, f)) = absurd (faulty resolved)
   said_again s x y (inr (faulty, e)) (inl (resolved, b, is, f)) = absurd (faulty resolved)

@@ -35,11 +35,11 @@ use Rattle.tcc_print.specs.Statuses.{code_of, halt_status}
 use Rattle.tcc_run.specs.Runs.{AreAnswered, Contents, Gains, IsAnswered, IsRun, IsWhole, MayEnd}
 use Rattle.tcc_run.specs.Runs.{Said, faults_said, halt_said, texts}
 use Rattle.tcc_print.specs.Moments.{at_end, is_due_after, sealed_in}
-use Rattle.tcc_run.specs.Stages.{AllAnswered, AnswersKept, Concludes, EndsAnswering, EndsEarly}
-use Rattle.tcc_run.specs.Stages.{IsFor, IsOutcome, IsStill, Keeps, SaysLast, answer_in, outcome_said}
-use Rattle.tcc_run.specs.Stages.{outcome_text}
+use Rattle.tcc_run.specs.private.Stages.{AllAnswered, AnswersKept, Concludes, EndsAnswering, EndsEarly}
+use Rattle.tcc_run.specs.private.Stages.{IsFor, IsOutcome, IsStill, Keeps, SaysLast, answer_in, outcome_said}
+use Rattle.tcc_run.specs.private.Stages.{outcome_text}
 use Rattle.tcc_print.specs.Printed.{CutsOff, PrintsOrMemory}
-use Rattle.tcc_print.specs.Halts.{by_row, is_memory}
+use Rattle.tcc_print.specs.private.Halts.{by_row, is_memory}
 use Rattle.tcc_print.proofs.Moments.{AllZip-append, all-fault, all-items, at_end-due, at_end-none, due-passed, due-seal}
 use Rattle.tcc_print.proofs.Moments.{finished-seal, first-taken, last-push, part-of, same-passed, sealed-passed}
 use Rattle.tcc_print.proofs.Moments.{sealed-seal, still_due}

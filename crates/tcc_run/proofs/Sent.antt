@@ -9,7 +9,7 @@ use Rattle.tcc_graph.specs.declared.level.Level.{Level}
 use Rattle.tcc_answer.specs.declared.answer.Answer.{Answer}
 use Rattle.tcc_print.specs.Printed.{CutsOff, EndsIn}
 use Rattle.tcc_print.specs.declared.options.Options.{Options}
-use Rattle.tcc_run.specs.Stages.{AnswersKept, EndsAnswering, IsFor, IsOutcome, IsStill, Keeps, answer_in, outcome_said, outcome_text}
+use Rattle.tcc_run.specs.private.Stages.{AnswersKept, EndsAnswering, IsFor, IsOutcome, IsStill, Keeps, answer_in, outcome_said, outcome_text}
 use Rattle.tcc_run.specs.declared.explain.Last.{Last}
 use Rattle.tcc_run.specs.declared.outcome.Outcome.{Outcome}
 use Rattle.tcc_run.proofs.Runs.{keeps_of, said_of, text_of}

@@ -3,7 +3,7 @@ use Rattle.std.specs.Prelude.{ℕ, ◌≡◌, []}
 use Rattle.tcc_txn.specs.Snapshots.{Sessions}
 use Rattle.tcc_reads.specs.Faults.{read_faults}
 use Rattle.tcc_reads.specs.Sources.{history}
-use Rattle.tcc_graph.specs.Levels.{Judged}
+use Rattle.tcc_graph.specs.Levels.{Judged, judged}
 use Rattle.tcc_graph.specs.Orders.{IsCommitOrder}
 use Rattle.tcc_graph.specs.Routes.{IsLeastCycle}
 use Rattle.tcc_graph.specs.declared.level.Level.{Level}
@@ -13,10 +13,6 @@ use Rattle.tcc_check.specs.declared.verdict.Verdict.TheVariants.{Accepted}
 use Rattle.tcc_answer.specs.Claims.{certificate_of}
 use Rattle.tcc_answer.specs.declared.answer.Answer.{Answer}
 use Rattle.tcc_answer.specs.declared.answer.Answer.TheVariants as answer
-
--- the history of a snapshot, judged at a level
-abbrev pub judged : Sessions → Level → Judged
-judged s level = record { history = history s; level = level }
 
 -- a commit order, which satisfies the axiom of the level; or a cycle of session, reads-from and derived links, each derived
 -- link with its reason, and no cycle has fewer steps
@@ -32,7 +28,7 @@ answer_level (answer.Anomaly a) = a.level
 -- what is answered for a snapshot whose reads all have sources
 pub record IsExplained (s : Sessions) (level : Level) (a : Answer) : Type 0 where
   pub resolved : read_faults s ≡ []
-  pub explains : Explains (judged s level) a
+  pub explains : Explains (judged (history s) level) a
   -- the certificate given with it, of this level, with the answer's own order or links, is accepted by the checker
   pub level_is : answer_level a ≡ level
   pub accepted : IsVerdict (history s) (certificate_of a) Accepted

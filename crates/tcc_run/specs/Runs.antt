@@ -14,6 +14,7 @@ use Rattle.tcc_cert.specs.Texts.{certificate_text}
 use Rattle.tcc_explain.specs.Explained.{IsAnswerOf}
 use Rattle.tcc_answer.specs.Claims.{certificate_of}
 use Rattle.tcc_answer.specs.declared.answer.Answer.{Answer}
+use Rattle.tcc_graph.specs.Levels.{judged}
 use Rattle.tcc_print.specs.Moments.{at_end, sealed_in}
 use Rattle.tcc_print.specs.declared.halt.Halt.{Halt}
 use Rattle.tcc_print.specs.declared.halt.Halt.TheVariants as halt
@@ -50,7 +51,7 @@ halt_said options why = record { text = halted options.json why; status = halt_s
 -- sources, else all its read faults
 abbrev pub IsAnswered : Options → Sessions → Said → Type 0
 IsAnswered options s said =
-    ((read_faults s ≡ []) × (a : Answer) × IsAnswerOf (record { history = history s; level = options.level }) a × (said ≡ answer_said options a))
+    ((read_faults s ≡ []) × (a : Answer) × IsAnswerOf (judged (history s) options.level) a × (said ≡ answer_said options a))
     ⊎ ((read_faults s ≢ []) × (said ≡ faults_said options (read_faults s)))
 
 -- each of the snapshots is answered, in turn

@@ -1,12 +1,12 @@
 //! What is said of a snapshot: its answer, or all its read faults.
-ghost use Rattle.std.specs.Prelude.{◌≡◌, ◌<◌, ◌≤◌, IfErr, IfOk, IfSome, MatchResult, OnOk};
+ghost use Rattle.std.specs.Prelude.{◌≡◌, IfErr, IfOk, IfSome, MatchResult, OnOk};
 ghost use Rattle.std.specs.Io.KnownBytes.{Appends};
 ghost use Rattle.tcc_txn.specs.Finished.{KeepsLimits};
 ghost use Rattle.tcc_txn.specs.Snapshots.{Sessions};
 ghost use Rattle.tcc_graph.specs.declared.level.Level.{Level};
 ghost use Rattle.tcc_explain.specs.Explained.{IsAnswerFor, IsRefusal};
 ghost use Rattle.tcc_print.specs.Printed.{EndsIn};
-ghost use Rattle.tcc_run.specs.Stages.{HasEarlier, IsEarlier, IsOutcome, answer_in, outcome_text};
+ghost use Rattle.tcc_run.specs.private.Stages.{HasEarlier, IsEarlier, IsOutcome, answer_in, outcome_text};
 
 use crate::headline::{explain_snapshot, explain_snapshot_next};
 use std::alloc::Global;
@@ -47,7 +47,6 @@ fn work_out<G: Gate>(
     options: Options,
     gate: &G,
 ) -> Result<Answer, ExplainFault>
-    requires workers { (0 < options.workers) × (options.workers ≤ 32) }
     requires earlier { IfSome earlier.now (IsEarlier options.level snapshot.now) }
     ensures { MatchResult result (IsAnswerFor snapshot.now options.level) (IsRefusal snapshot.now) }
 {
@@ -75,7 +74,6 @@ impl Outcome {
         options: Options,
         gate: &G,
     ) -> Result<Outcome, NoMemory>
-        requires workers { (0 < options.workers) × (options.workers ≤ 32) }
         requires earlier { IfSome earlier (IsEarlier options.level snapshot.now) }
         ensures outcome { IfOk result (IsOutcome options.level snapshot.now) }
         ensures earlier { IfOk result (HasEarlier options.level snapshot.now) }

@@ -10,7 +10,7 @@ use lib.ListN.{get_elem?}
 use Rattle.crossbeam_deque.specs.Tasks as tasks
 use Rattle.crossbeam_deque.proofs.Lists.{at_set, at_snoc}
 use Rattle.tcc_steal.specs.declared.taken.Taken.{Taken}
-use Rattle.tcc_steal.specs.Dealing.{AreRun, times, times_taken, IsDealt, dealer, no_dealer, thief_of, Pushes, Takes}
+use Rattle.tcc_steal.specs.private.Dealing.{AreRun, times, times_taken, IsDealt, dealer, no_dealer, thief_of, Pushes, Takes}
 
 -- ---- lists
 

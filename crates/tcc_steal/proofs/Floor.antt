@@ -13,7 +13,7 @@ use Rattle.tcc_graph.proofs.Linking.{some_cost, cost_cons, route_below}
 use Rattle.tcc_graph.proofs.Pairs.{link_below}
 use Rattle.tcc_derive.specs.Prices.{Tables, IsCost, IsPricesOf, cost_at}
 use Rattle.tcc_core.specs.Shares.{IsCycleCost}
-use Rattle.tcc_steal.specs.Floors.{below, after_step, leads, is_cycle_cost, first_below, least_cost}
+use Rattle.tcc_steal.specs.private.Floors.{below, after_step, leads, is_cycle_cost, first_below, least_cost}
 
 -- ---- numbers below a number
 

@@ -6,7 +6,7 @@ use Rattle.std.proofs.lemmas.List.Elements.{All-pop, All-push, All-weaker}
 use Rattle.std.proofs.lemmas.Option.{slice_get_read}
 use Rattle.tcc_derive.specs.Prices.{Tables}
 use Rattle.tcc_bound.specs.declared.known.Known.{Known}
-use Rattle.tcc_steal.specs.Working.{KnowsMore, IsSearched, AreKept, whole_row}
+use Rattle.tcc_steal.specs.private.Working.{KnowsMore, IsSearched, AreKept, whole_row}
 use Rattle.tcc_steal.specs.declared.bringing.Searched.{Searched}
 use Rattle.tcc_steal.proofs.Rows.{ended_more}
 

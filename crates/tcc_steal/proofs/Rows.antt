@@ -13,13 +13,13 @@ use Rattle.tcc_bound.specs.declared.known.Known.{Known}
 use Rattle.tcc_core.specs.Rows.{in_row, IsSearchRow, cap_of, IsWithin, IsCutOff}
 use Rattle.tcc_core.specs.Searches.{Search, IsSearchOf, Settles}
 use Rattle.tcc_core.specs.Shares.{IsCycleCost, Share}
-use Rattle.tcc_core.specs.Relaxing.{count_joined}
+use Rattle.tcc_core.specs.private.Relaxing.{count_joined}
 use Rattle.tcc_core.specs.declared.settled.Settled.{Settled}
 use Rattle.tcc_core.specs.declared.settled.Settled.TheVariants as settled
 use Rattle.tcc_core.proofs.Frontier.{upward_end}
 use Rattle.tcc_core.proofs.Lowering.{joined_set, joined_below}
 use Rattle.tcc_core.proofs.Ending.{still_outside, finished_returned}
-use Rattle.tcc_steal.specs.Working.{KnowsMore, HasEnded, whole_row}
+use Rattle.tcc_steal.specs.private.Working.{KnowsMore, HasEnded, whole_row}
 
 -- ---- rows from their start upward
 

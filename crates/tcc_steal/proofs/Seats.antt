@@ -8,8 +8,8 @@ use Rattle.tcc_bound.specs.Seated.{BoundId, Seated}
 use Rattle.tcc_bound.specs.Knowing.{IsAtMostAll, newcomer, with_sight, with_offer, without_offers, both_of}
 use Rattle.tcc_bound.specs.declared.known.Known.{Known}
 use Rattle.tcc_core.specs.Shares.{IsCycleCost}
-use Rattle.tcc_steal.specs.Floors.{least_cost}
-use Rattle.tcc_steal.specs.Working.{KnowsMore, IsSeat}
+use Rattle.tcc_steal.specs.private.Floors.{least_cost}
+use Rattle.tcc_steal.specs.private.Working.{KnowsMore, IsSeat}
 
 pub knows_itself : (known : Known) → known.sight < 18446744073709551616 → KnowsMore known known
 knows_itself known small = record { floor = refl; small = small; sight = omega arith; offers = λ c here. here }

@@ -23,8 +23,8 @@ use Rattle.tcc_core.specs.Shares.{IsCycleCost, IsNotBelowLeast, starts_of, EachF
 use Rattle.tcc_core.specs.Shares.{IsCappedDistance}
 use Rattle.tcc_core.proofs.Settlement.{least_cycle, capped_rows, returned_starts}
 use Rattle.tcc_steal.specs.Findings.{IsFirst, IsFound}
-use Rattle.tcc_steal.specs.Floors.{least_cost}
-use Rattle.tcc_steal.specs.Working.{KnowsMore, IsSeat, HasEnded, whole_row, IsSearched, AreSearches, rows_of, CameBack, IsFirstBack}
+use Rattle.tcc_steal.specs.private.Floors.{least_cost}
+use Rattle.tcc_steal.specs.private.Working.{KnowsMore, IsSeat, HasEnded, whole_row, IsSearched, AreSearches, rows_of, CameBack, IsFirstBack}
 use Rattle.tcc_steal.specs.declared.bringing.Searched.{Searched}
 use Rattle.tcc_steal.specs.declared.found.Found.{Found}
 use Rattle.tcc_steal.proofs.Floor.{floor_attained}

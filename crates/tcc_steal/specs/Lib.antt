@@ -1,6 +1,2 @@
--- What contracts of public calls cite:
 pub mod Findings
--- What serves proofs alone:
-pub mod Dealing
-pub mod Floors
-pub mod Working
+pub mod private

@@ -6,7 +6,7 @@ use crossbeam_deque::protocol::{Outcome, Protocol, Split};
 pub struct Dealt;
 
 impl Protocol<u32, Taken> for Dealt {
-    ghost use Rattle.tcc_steal.specs.Dealing.{IsDealt, dealer, nobody};
+    ghost use Rattle.tcc_steal.specs.private.Dealing.{IsDealt, dealer, nobody};
 
     ghost holds = { IsDealt };
 
@@ -19,7 +19,7 @@ impl Protocol<u32, Taken> for Dealt {
 pub struct Pushed;
 
 impl Outcome<u32, Taken> for Pushed {
-    ghost use Rattle.tcc_steal.specs.Dealing.{Pushes};
+    ghost use Rattle.tcc_steal.specs.private.Dealing.{Pushes};
 
     ghost then = { Pushes };
 }
@@ -28,7 +28,7 @@ impl Outcome<u32, Taken> for Pushed {
 pub struct Took;
 
 impl Outcome<u32, Taken> for Took {
-    ghost use Rattle.tcc_steal.specs.Dealing.{Takes};
+    ghost use Rattle.tcc_steal.specs.private.Dealing.{Takes};
 
     ghost then = { Takes };
 }
@@ -37,7 +37,7 @@ impl Outcome<u32, Taken> for Took {
 pub struct Cut;
 
 impl Split<Taken> for Cut {
-    ghost use Rattle.tcc_steal.specs.Dealing.{thief_of, no_dealer};
+    ghost use Rattle.tcc_steal.specs.private.Dealing.{thief_of, no_dealer};
 
     ghost left = { no_dealer };
 

@@ -1,7 +1,7 @@
 //! The searches of all starts.
 ghost use Rattle.std.specs.Prelude.{◌≡◌, ◌<◌, ◌^◌, length, replicate, None, IfOk, OnOk};
 ghost use Rattle.tcc_steal.specs.Findings.{HasJudged};
-ghost use Rattle.tcc_steal.specs.Working.{HasSeed, IsSeat, IsWorker, IsShare, AreShares, AreKept, AreSearches};
+ghost use Rattle.tcc_steal.specs.private.Working.{HasSeed, IsSeat, IsWorker, IsShare, AreShares, AreKept, AreSearches};
 
 use crate::Gate;
 use crate::bringing::Searched;

@@ -1,9 +1,9 @@
 //! Workers in threads of their own.
 ghost use Rattle.std.specs.Prelude.{◌≡◌, ◌<◌, ◌≤◌, ℕ, All, length, IfOk, OnOk};
 ghost use Rattle.crossbeam_deque.specs.Handles.{worker_deque, worker_flavor, worker_view, stealer_deque};
-ghost use Rattle.tcc_steal.specs.Dealing.{IsTaker};
+ghost use Rattle.tcc_steal.specs.private.Dealing.{IsTaker};
 ghost use Rattle.tcc_steal.specs.Findings.{HasJudged};
-ghost use Rattle.tcc_steal.specs.Working.{IsSeat, IsWorker, IsJob, AreThieves, AreJobs, AreShares, IsShare};
+ghost use Rattle.tcc_steal.specs.private.Working.{IsSeat, IsWorker, IsJob, AreThieves, AreJobs, AreShares, IsShare};
 
 use crate::sharing::{Hand, Job, Share, bring_back};
 use crate::taking::{Owner, Thief, cut, deal};

@@ -4,7 +4,7 @@ ghost use Rattle.tcc_txn.specs.declared.limits.TheConstants.{MAX_COUNT};
 ghost use Rattle.tcc_graph.specs.Levels.{Judged};
 ghost use Rattle.tcc_derive.specs.Prices.{IsPricesOf};
 ghost use Rattle.tcc_steal.specs.Findings.{HasJudged};
-ghost use Rattle.tcc_steal.specs.Working.{IsSeat, IsOpening, KnowsMore, HasEnded};
+ghost use Rattle.tcc_steal.specs.private.Working.{IsSeat, IsOpening, KnowsMore, HasEnded};
 
 use tcc_bound::{Bound, Seat};
 use tcc_core::{Search, Settled};

@@ -1,7 +1,7 @@
 //! What each worker does by itself, and brings back.
 ghost use Rattle.std.specs.Prelude.{◌<◌, length, IfOk, IfSome};
 ghost use Rattle.tcc_steal.specs.Findings.{HasJudged};
-ghost use Rattle.tcc_steal.specs.Working.{IsWorker, IsHand, IsShare, AreBy};
+ghost use Rattle.tcc_steal.specs.private.Working.{IsWorker, IsHand, IsShare, AreBy};
 
 use crate::Gate;
 use crate::bringing::Searched;

@@ -1,7 +1,7 @@
 //! The starts, dealt out by one deque: worker 0 takes them at the front, and so do thieves.
 ghost use Rattle.std.specs.Prelude.{◌≡◌, ◌<◌, ◌≤◌, true, false, [], IfOk, IfSome};
 ghost use Rattle.crossbeam_deque.specs.Handles.{view, IsPassOf, worker_deque, worker_flavor, worker_view, worker_index, worker_capacity, stealer_deque};
-ghost use Rattle.tcc_steal.specs.Dealing.{IsTaker, thief_of, no_dealer};
+ghost use Rattle.tcc_steal.specs.private.Dealing.{IsTaker, thief_of, no_dealer};
 
 use crate::dealing::{Cut, Dealt, Pushed, Took};
 use crate::taken::Taken;

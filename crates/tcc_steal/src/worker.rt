@@ -5,7 +5,7 @@ ghost use Rattle.tcc_derive.specs.Prices.{IsPricesOf};
 ghost use Rattle.tcc_core.specs.Rows.{IsEmptyRow};
 ghost use Rattle.tcc_core.specs.Searches.{IsSearchOf};
 ghost use Rattle.tcc_steal.specs.Findings.{HasJudged};
-ghost use Rattle.tcc_steal.specs.Working.{IsWorker, IsDone, KnowsMore};
+ghost use Rattle.tcc_steal.specs.private.Working.{IsWorker, IsDone, KnowsMore};
 
 use crate::Gate;
 use crate::bringing::Searched;

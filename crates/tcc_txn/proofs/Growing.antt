@@ -18,7 +18,7 @@ use Rattle.std.specs.Global.{Vec}
 use Rattle.std.proofs.lemmas.Cmp.{tied_itself}
 use Rattle.std.proofs.lemmas.Map.Lookups.{exact_bytes}
 use Rattle.tcc_txn.specs.Snapshots.{parts_of}
-use Rattle.tcc_txn.specs.SnapshotStorage.{StandsAt, place_in}
+use Rattle.tcc_txn.specs.private.SnapshotStorage.{StandsAt, place_in}
 use Rattle.tcc_txn.specs.Transactions.{Transaction}
 use Rattle.tcc_txn.proofs.SortedParts.{name_cmp, same_names}
 

@@ -10,7 +10,7 @@ use Rattle.std.specs.Global.{Vec}
 use Rattle.tcc_txn.specs.Finished.{IsWithinLimits, transaction_count, with_transaction}
 use Rattle.tcc_txn.specs.Limits.{most_sessions, most_transactions}
 use Rattle.tcc_txn.specs.Snapshots.{Sessions, parts_of}
-use Rattle.tcc_txn.specs.SnapshotStorage.{IsCounted, IsStoredWithin, shown}
+use Rattle.tcc_txn.specs.private.SnapshotStorage.{IsCounted, IsStoredWithin, shown}
 use Rattle.tcc_txn.specs.Transactions.{Transaction}
 use Rattle.tcc_txn.specs.declared.limits.Limits.{Limits}
 use Rattle.tcc_txn.proofs.Growing.{count-put}

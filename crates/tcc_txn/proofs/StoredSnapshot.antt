@@ -15,7 +15,7 @@ use Rattle.tcc_txn.specs.Transactions.{Transaction}
 use Rattle.tcc_txn.specs.Finished.{IsWithinLimits, transaction_count}
 use Rattle.tcc_txn.specs.Limits.{most_sessions, most_transactions}
 use Rattle.tcc_txn.specs.Snapshots.{Sessions, first_repeated, parts_of, snapshot_fault_within}
-use Rattle.tcc_txn.specs.SnapshotStorage.{shown, IsStoredWithin}
+use Rattle.tcc_txn.specs.private.SnapshotStorage.{shown, IsStoredWithin}
 use Rattle.tcc_txn.proofs.Parts.{names_of, names_of-parts_of, length-parts_of}
 use Rattle.tcc_txn.proofs.SnapshotFaults.{snapshot_fault-parts_of, faultless}
 use Rattle.tcc_txn.proofs.SortedParts.{distinct_names, distinct_IsPermutation, rising_names, shown_sorted, same_name}

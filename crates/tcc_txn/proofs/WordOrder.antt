@@ -7,8 +7,8 @@ use Rattle.std.proofs.lemmas.List.{get_or-drop, drop-drop, drop_all, length-take
 use Rattle.std.proofs.lemmas.List.Sums.{prefix_len_passes}
 use Rattle.std.specs.Prelude.{replicate, not}
 use Rattle.std.specs.List.{prefix_len}
-use Rattle.tcc_txn.specs.Names.{name_fault, is_name_byte, IsStored}
-use Rattle.tcc_txn.specs.Stored.{few_bytes}
+use Rattle.tcc_txn.specs.Names.{name_fault, is_name_byte}
+use Rattle.tcc_txn.specs.private.Stored.{IsStored, few_bytes}
 use Rattle.tcc_txn.specs.declared.limits.TheConstants.{MAX_NAME_BYTES}
 use Rattle.std.proofs.Math.Seq.{drop-cons}
 use Rattle.std.specs.Ordering.{nat_cmp, ordering_then, MatchOrdering}

@@ -1,4 +1,3 @@
--- What contracts of public calls cite:
 pub mod Bytes
 pub mod Finished
 pub mod Limits
@@ -6,6 +5,4 @@ pub mod Names
 pub mod Nested
 pub mod Transactions
 pub mod Snapshots
--- What serves proofs alone:
-pub mod Stored
-pub mod SnapshotStorage
+pub mod private

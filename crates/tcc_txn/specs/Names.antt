@@ -1,7 +1,6 @@
 -- The names of sessions and keys.
-use Rattle.std.specs.Prelude.{ℕ, ◌+◌, ◌-◌, ◌≤◌, ◌≡◌, Bool, ◌||◌, ◌&&◌, ◌==◌, nat_lt, nat_le, if◌then◌else◌, List}
-use Rattle.std.specs.Prelude.{◌++◌, length, take, Option, None, Some, Result, Ok, Err, not, position, option_map}
-use Rattle.std.specs.Prelude.{replicate}
+use Rattle.std.specs.Prelude.{ℕ, ◌+◌, ◌-◌, Bool, ◌||◌, ◌&&◌, ◌==◌, nat_lt, nat_le, if◌then◌else◌, List}
+use Rattle.std.specs.Prelude.{length, Option, Some, Result, Ok, Err, not, position, option_map}
 use Rattle.std.specs.Option.{option_map_or}
 use Rattle.tcc_txn.specs.declared.limits.TheConstants.{MAX_NAME_BYTES}
 use Rattle.tcc_txn.specs.declared.name.NameFault.{NameFault}
@@ -23,13 +22,3 @@ name_fault bytes =
 -- the name that the bytes are, or why they are none
 abbrev pub name_of : List ℕ → Result (List ℕ) NameFault
 name_of bytes = option_map_or Err (name_fault bytes) (Ok bytes)
-
--- up to `MAX_NAME_BYTES` bytes, and zeros up to so many
-abbrev pub padded : List ℕ → List ℕ
-padded bytes = bytes ++ replicate (MAX_NAME_BYTES - length bytes) 0
-
--- how a name lies in memory: its length, and `MAX_NAME_BYTES` bytes
-pub record IsStored (len : ℕ) (buffer : List ℕ) : Type 0 where
-  pub short : len ≤ MAX_NAME_BYTES
-  pub whole : buffer ≡ padded (take len buffer)
-  pub named : name_fault (take len buffer) ≡ None

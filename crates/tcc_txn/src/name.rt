@@ -43,7 +43,7 @@ pub struct Name {
 
 impl Model for Name {
     ghost use Rattle.std.specs.Prelude.{ℕ, List, length, take};
-    ghost use Rattle.tcc_txn.specs.Names.{padded, IsStored};
+    ghost use Rattle.tcc_txn.specs.private.Stored.{padded, IsStored};
 
     ghost Value = { List ℕ };
 
@@ -53,7 +53,7 @@ impl Model for Name {
 
     ghost inverse = { λ bytes. record { len = length bytes; buffer = padded bytes } };
 
-    ghost use Rattle.tcc_txn.specs.Stored.{stored_again};
+    ghost use Rattle.tcc_txn.specs.private.Stored.{stored_again};
 
     ghost inverse_ok = { stored_again };
 }

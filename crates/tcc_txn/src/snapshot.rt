@@ -11,7 +11,7 @@ ghost use Rattle.tcc_txn.specs.Finished.{IsWithinLimits, KeepsLimits, with_trans
 ghost use Rattle.tcc_txn.specs.Limits.{most_sessions};
 ghost use Rattle.std.specs.Cmp.Lexicographic.{pointwise, slice_cmp};
 ghost use Rattle.tcc_txn.specs.Snapshots.{parts_of, first_repeated, snapshot_fault, snapshot_fault_within};
-ghost use Rattle.tcc_txn.specs.SnapshotStorage.{IsStoredWithin, StandsAt, place_in, shown};
+ghost use Rattle.tcc_txn.specs.private.SnapshotStorage.{IsStoredWithin, StandsAt, place_in, shown};
 ghost use Rattle.tcc_txn.specs.declared.limits.Limits.TheVariants as limits;
 ghost use Rattle.tcc_txn.specs.declared.limits.TheConstants.{LARGE_SESSIONS, LARGE_TRANSACTIONS, MAX_SESSIONS, MAX_TRANSACTIONS};
 
@@ -65,7 +65,7 @@ impl Model for Snapshot {
 
     ghost Value = { Sessions };
 
-    ghost use Rattle.tcc_txn.specs.SnapshotStorage.{sessions_code, shown, IsStored};
+    ghost use Rattle.tcc_txn.specs.private.SnapshotStorage.{sessions_code, shown, IsStored};
 
     ghost coded = { sessions_code };
 
@@ -88,7 +88,7 @@ impl Model for LargeSnapshot {
 
     ghost Value = { Sessions };
 
-    ghost use Rattle.tcc_txn.specs.SnapshotStorage.{sessions_code, shown, IsCounted};
+    ghost use Rattle.tcc_txn.specs.private.SnapshotStorage.{sessions_code, shown, IsCounted};
     ghost use Rattle.tcc_txn.specs.declared.limits.Limits.TheVariants as limits;
 
     ghost coded = { sessions_code };

@@ -12,7 +12,7 @@ use Rattle.tcc_rows.specs.declared.rows.Item.{Item}
 use Rattle.tcc_rows.specs.declared.rows.Item.TheVariants as item
 use Rattle.tcc_rows.specs.declared.rows.RowFault.{RowFault}
 use Rattle.tcc_rows.specs.declared.rows.RowFaultKind.TheVariants as kind
-use Rattle.tcc_verdict.specs.Stages.{IsStop}
+use Rattle.tcc_verdict.specs.private.Stages.{IsStop}
 
 -- some items of all were taken, and others are still to come
 abbrev pub HasTaken : {R : Type 0} → (R → Option (List ℕ)) → Held R → Answers → Type 0

@@ -8,7 +8,7 @@ ghost use Rattle.tcc_reads.specs.Faults.{read_faults};
 ghost use Rattle.tcc_reads.specs.Refusals.{IsRefusal};
 ghost use Rattle.tcc_reads.specs.Sources.{history};
 ghost use Rattle.tcc_verdict.specs.Checks.{IsCheckRun, IsShown, MayBeCheck, PrintsSome};
-ghost use Rattle.tcc_verdict.specs.Stages.{IsHistoryOf, IsStop, MayBeTextCheck};
+ghost use Rattle.tcc_verdict.specs.private.Stages.{IsHistoryOf, IsStop, MayBeTextCheck};
 
 use crate::stopping::note_stop;
 use std::alloc::Global;

@@ -1,3 +1,2 @@
--- What contracts of public calls cite:
 pub mod Checkers
 pub mod CommandLines

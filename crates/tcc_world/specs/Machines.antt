@@ -1,12 +1,11 @@
 -- The machine as the code keeps it: with what each search knows of the ways on. What it says of those serves proofs alone.
-use Rattle.std.specs.Prelude.{ℕ, ◌<◌, ◌≤◌, ◌≡◌, List, length, map, All, Option, None, Some}
+use Rattle.std.specs.Prelude.{ℕ, ◌≡◌, List, map, All, Option, None, Some}
 use Rattle.std.specs.Option.{option_map}
 use Rattle.std.specs.List.{filter_map}
 use Rattle.tcc_reads.specs.History.{count}
 use Rattle.tcc_graph.specs.Levels.{Judged}
 use Rattle.tcc_core.specs.Searches.{IsSearchOf}
 use Rattle.tcc_core.specs.Shares.{Stop, Finished}
-use Rattle.tcc_txn.specs.declared.limits.TheConstants.{MAX_COUNT}
 use Rattle.tcc_world.specs.Worlds.{Searching, Worker, World, seeds_of}
 use Rattle.tcc_world.specs.Steps.{end_of}
 use Rattle.tcc_world.specs.declared.desk.Begun.{Begun}
@@ -41,17 +40,6 @@ worker_of desk =
 -- the machine as its definition sees it
 abbrev pub world_of : Machine → World
 world_of m = record { word = m.word; left = m.left; seeds = seeds_of m.seed; workers = map worker_of m.desks }
-
-abbrev pub HasRow : ℕ → Option Begun → Type 0
-HasRow n None = Unit {0}
-HasRow n (Some b) = length b.search.row ≡ n
-
--- the starts left are below so many and no more, and each row has a place for each
-pub record IsFit (starts : ℕ) (left : List ℕ) (desks : List Desk) : Type 0 where
-  pub most : starts ≤ MAX_COUNT
-  pub few : length left ≤ starts
-  pub below : All (λ s. s < starts) left
-  pub rows : All (λ desk. HasRow starts desk.search) desks
 
 abbrev pub IsSearchingOf : Judged → Option Begun → Type 0
 IsSearchingOf j None = Unit {0}

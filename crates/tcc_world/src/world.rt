@@ -30,7 +30,8 @@ pub struct World {
 }
 
 impl Model for World {
-    ghost use Rattle.tcc_world.specs.Machines.{Machine, IsFit};
+    ghost use Rattle.tcc_world.specs.Machines.{Machine};
+    ghost use Rattle.tcc_world.specs.private.Fitting.{IsFit};
 
     ghost Value = { Machine };
 

@@ -1,7 +1,7 @@
 //! The lines of a reader, within the limit on their length.
 ghost use Rattle.std.specs.Prelude.{◌≡◌, ◌<◌, ◌≤◌, ◌==◌, IfOk, IfSome, OnOk, length, position, take};
 ghost use Rattle.tcc_cert.specs.WindowBytes.{window_bytes};
-ghost use Rattle.tcc_cert.specs.Outcomes.{at_line};
+ghost use Rattle.tcc_cert.specs.private.Showing.{at_line};
 ghost use Rattle.tcc_cert.specs.Reading.{line_length};
 ghost use Rattle.tcc_cert.specs.declared.reading.window.TheConstants.{WINDOW_BYTES};
 
@@ -53,7 +53,8 @@ fn line_length(bytes: &[u8], searched: usize) -> usize
 }
 
 impl<R: Read> Input<R> {
-    ghost use Rattle.tcc_cert.specs.Inputs.{Ends, FindsLine, AsBefore, HasFailed, IsAt, TakesLine, line_in};
+    ghost use Rattle.tcc_cert.specs.private.Inputs.{Ends, FindsLine, AsBefore, TakesLine, line_in};
+    ghost use Rattle.tcc_cert.specs.WindowBytes.{HasFailed, IsAt};
     ghost use Rattle.tcc_cert.specs.Reading.{Place};
     ghost use Rattle.tcc_cert.specs.Ranges.{ranges_of};
 

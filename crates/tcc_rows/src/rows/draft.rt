@@ -1,6 +1,6 @@
 //! The operations of a transaction that is not finished.
 ghost use Rattle.std.specs.Prelude.{◌≡◌, ◌≤◌, ◌<◌, ◌⊎◌, ◌++◌, ◌∷◌, [], false, length, OnOk, IfErr, ◌≢◌};
-ghost use Rattle.tcc_rows.specs.Drafts.{AddsOp};
+ghost use Rattle.tcc_rows.specs.private.Drafts.{AddsOp};
 ghost use Rattle.tcc_txn.specs.Transactions.{writes_zero};
 ghost use Rattle.tcc_txn.specs.declared.limits.TheConstants.{MAX_OPERATIONS};
 

@@ -2,7 +2,8 @@
 ghost use Rattle.std.specs.Prelude.{◌≡◌, ◌<◌, [], true, length, OnOk, OnErr, Ok, option_map};
 ghost use Rattle.std.specs.Io.{ReadsAtMost};
 ghost use Rattle.std.specs.Io.KnownBytes.{Consumes, IsAtEnd, Keeps, ReadConsumes};
-ghost use Rattle.tcc_rows.specs.ByteLimit.{limited_remaining, marked, met_end};
+ghost use Rattle.tcc_rows.specs.ByteLimit.{limited_remaining, marked};
+ghost use Rattle.tcc_rows.specs.private.Limited.{met_end};
 ghost use Rattle.tcc_rows.specs.declared.rows.limited.Stand.TheVariants as stand;
 
 use std::io;

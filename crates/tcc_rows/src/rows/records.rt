@@ -7,9 +7,10 @@ ghost use Rattle.tcc_rows.specs.Ahead.{IsFailure};
 ghost use Rattle.tcc_rows.specs.Answers.{records_within};
 ghost use Rattle.tcc_rows.specs.ByteLimit.{past_limit};
 ghost use Rattle.tcc_rows.specs.Lines.{Record, is_cut};
-ghost use Rattle.tcc_rows.specs.Reached.{HasGivenUp, StandsIn, failure_of, row_in};
-ghost use Rattle.tcc_rows.specs.RecordsLeft.{HasLeft, TakesRecord, record_of};
-ghost use Rattle.tcc_rows.specs.Stages.{Counts, ReadsIn};
+ghost use Rattle.tcc_rows.specs.Reached.{HasGivenUp, StandsIn, row_in};
+ghost use Rattle.tcc_rows.specs.private.Words.{failure_of};
+ghost use Rattle.tcc_rows.specs.RecordsLeft.{HasLeft, record_of};
+ghost use Rattle.tcc_rows.specs.private.Stages.{TakesRecord, Counts, ReadsIn};
 ghost use Rattle.tcc_rows.specs.declared.rows.records.Course.TheVariants as course;
 
 use super::RowFaultKind;

@@ -1,6 +1,7 @@
 //! What the tests start from: worked histories as the texts of their records, and what is made of them.
 ghost use Rattle.tcc_near.specs.Distances.{IsNearOf};
 ghost use Rattle.tcc_derive.specs.Prices.{IsPricesOf};
+ghost use Rattle.tcc_graph.specs.Levels.{judged};
 
 use std::alloc::Global;
 use std::process::Abort;
@@ -50,7 +51,7 @@ pub fn near_of(
     graph: &Graph,
     level: Level,
 ) -> Near
-    ensures { IsNearOf (record { history = graph.now; level = level }) result }
+    ensures { IsNearOf (judged graph.now level) result }
 {
     near(rt, alloc, graph, level).expect(rt, "no distances")
 }
@@ -62,8 +63,8 @@ pub fn prices_of(
     graph: &Graph,
     near: &Near,
 ) -> Prices
-    requires { IsNearOf (record { history = graph.now; level = near.now.level }) near.now }
-    ensures { IsPricesOf (record { history = graph.now; level = near.now.level }) result }
+    requires { IsNearOf (judged graph.now near.now.level) near.now }
+    ensures { IsPricesOf (judged graph.now near.now.level) result }
 {
     derive(rt, alloc, graph, near).expect(rt, "no prices")
 }

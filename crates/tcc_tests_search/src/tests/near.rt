@@ -7,7 +7,8 @@ use std::process::Abort;
 use std::test::Fail;
 use std::thread::Threads;
 use tcc_graph::Level;
-use tcc_near::{NONE, Row};
+use tcc_bits::Row;
+use tcc_near::NONE;
 use tcc_txn::MAX_TRANSACTIONS;
 
 /// The least numbers of steps of these pairs, from and to, in the history of these records at this level.

@@ -1,6 +1,7 @@
 use Rattle.std.proofs.Common.{◌≡◌, ◌+◌, Some, [], ◌∷◌, ◌++◌, take, sym, ap, ◌∙◌, subst}
 use Rattle.std.proofs.lemmas.List.{take_more}
-use Rattle.tcc_book.specs.Passes.{LeastTorn, lesser}
+use Rattle.tcc_book.specs.Passes.{LeastTorn}
+use Rattle.tcc_book.specs.private.Lesser.{lesser}
 use Rattle.tcc_book.proofs.Agreed.{torn-more, torn-same}
 use Rattle.tcc_book.proofs.agreement.least_torn.Goals as goal
 use Rattle.tcc_book.proofs.agreement.least_torn.Goals.{then-not-agrees, else-not-agrees}

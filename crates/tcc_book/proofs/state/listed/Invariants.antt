@@ -1,5 +1,5 @@
 use Rattle.std.proofs.Common.{◌≡◌, map, take}
-use Rattle.tcc_book.specs.BookStorage.{txn_at}
+use Rattle.tcc_book.specs.private.BookStorage.{txn_at}
 use Rattle.tcc_book.proofs.state.listed.Given as goal
 
 -- the transactions at the places so far

@@ -4,7 +4,7 @@ use Rattle.std.proofs.lemmas.List.Elements.{All-tail}
 use Rattle.std.specs.Global.{Vec}
 use Rattle.tcc_txn.specs.Snapshots.{parts_of}
 use Rattle.tcc_txn.specs.Transactions.{Transaction}
-use Rattle.tcc_book.specs.BookStorage.{AreWithin, part_at}
+use Rattle.tcc_book.specs.private.BookStorage.{AreWithin, part_at}
 use Rattle.tcc_book.proofs.state.parts.Goals as goal
 
 pub loop-session-preserved : goal.loop-session-preserved

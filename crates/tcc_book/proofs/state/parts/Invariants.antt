@@ -1,6 +1,6 @@
 use Rattle.std.proofs.Common.{◌≡◌, map, ◌++◌}
 use Rattle.tcc_txn.specs.Snapshots.{parts_of}
-use Rattle.tcc_book.specs.BookStorage.{AreWithin, part_at}
+use Rattle.tcc_book.specs.private.BookStorage.{AreWithin, part_at}
 use Rattle.tcc_book.proofs.state.parts.Given as goal
 
 -- the parts of the sessions so far stand before those of the sessions to come

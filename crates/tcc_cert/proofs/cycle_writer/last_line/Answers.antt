@@ -1,6 +1,6 @@
 -- The line goes out, and then all that waits.
 use Rattle.std.proofs.Common.{subst, append-nil}
-use Rattle.tcc_cert.specs.Writing.{IsSent}
+use Rattle.tcc_cert.specs.private.Writing.{IsSent}
 use Rattle.tcc_cert.proofs.SentFacts.{IsSent-then}
 use Rattle.tcc_cert.proofs.cycle_writer.last_line.Goals as goal
 

@@ -1,6 +1,6 @@
 -- the words so far are on their way
 use Rattle.std.proofs.Common.{◌++◌, take, flat_map, codes}
-use Rattle.tcc_cert.specs.Writing.{Sends}
+use Rattle.tcc_cert.specs.Given.{Sends}
 use Rattle.tcc_cert.proofs.lines.later_words.Given as goal
 
 abbrev pub invariant-loop-word : goal.invariant-loop-word

@@ -1,6 +1,6 @@
 -- the rows so far are on their way
 use Rattle.std.proofs.Common.{take, flat_map}
-use Rattle.tcc_cert.specs.Writing.{Sends}
+use Rattle.tcc_cert.specs.Given.{Sends}
 use Rattle.tcc_cert.specs.Texts.{line_text, numbers_words}
 use Rattle.tcc_cert.proofs.lines.table.Given as goal
 

@@ -1,6 +1,6 @@
 -- the links so far are on their way
 use Rattle.std.proofs.Common.{take, flat_map}
-use Rattle.tcc_cert.specs.Writing.{Sends}
+use Rattle.tcc_cert.specs.Given.{Sends}
 use Rattle.tcc_cert.specs.Texts.{lines_text, link_lines}
 use Rattle.tcc_cert.proofs.writing.links.Given as goal
 

@@ -1,6 +1,6 @@
 -- the steps so far are on their way
 use Rattle.std.proofs.Common.{take, flat_map}
-use Rattle.tcc_cert.specs.Writing.{Sends}
+use Rattle.tcc_cert.specs.Given.{Sends}
 use Rattle.tcc_cert.specs.Texts.{line_text, step_words}
 use Rattle.tcc_cert.proofs.writing.steps.Given as goal
 

@@ -1,5 +1,5 @@
 -- The rules on lengths, and then those on costs.
-use Rattle.tcc_check.specs.Judged.{far_rules, near_rules}
+use Rattle.tcc_check.specs.private.Judged.{far_rules, near_rules}
 use Rattle.tcc_check.proofs.Asked.{answer_first}
 use Rattle.tcc_check.proofs.cycle.bounds_verdict.Goals as goal
 

@@ -1,7 +1,7 @@
 -- The sizes, then the links, then the tables.
 use Rattle.std.proofs.Common.{[], ◌∷◌, rules}
 use Rattle.tcc_cert.specs.CycleRules.{HasRightSizes}
-use Rattle.tcc_check.specs.Judged.{claim_rules, cycle_claim, links_rules}
+use Rattle.tcc_check.specs.private.Judged.{claim_rules, cycle_claim, links_rules}
 use Rattle.tcc_check.specs.Verdicts.{as_whole, bounds_rules}
 use Rattle.tcc_check.specs.declared.verdict.Rule.TheVariants.{Sizes}
 use Rattle.tcc_check.proofs.Asked.{all_hold, answer_early, answer_later, ok_later}

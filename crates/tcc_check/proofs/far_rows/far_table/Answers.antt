@@ -2,7 +2,7 @@
 use Rattle.std.proofs.Common.{◌≡◌, ℕ, [], arith, subst, sym, ◌∙◌}
 use Rattle.std.proofs.lemmas.List.{get_or_read}
 use Rattle.tcc_reads.specs.History.{count}
-use Rattle.tcc_check.specs.Coming.{AreFoundBefore}
+use Rattle.tcc_check.specs.private.Coming.{AreFoundBefore}
 use Rattle.tcc_check.proofs.Rules.{far-answer}
 use Rattle.tcc_check.proofs.far_rows.far_table.Goals as goal
 

@@ -1,6 +1,6 @@
 use Rattle.std.proofs.Common.{ℕ, List}
-use Rattle.tcc_check.specs.Coming.{AreFoundBefore}
-use Rattle.tcc_check.specs.Judged.{AreLinksOf}
+use Rattle.tcc_check.specs.private.Coming.{AreFoundBefore}
+use Rattle.tcc_check.specs.private.Judged.{AreLinksOf}
 use Rattle.tcc_check.proofs.far_rows.far_table.Given as goal
 
 abbrev pub invariant-loop-start : goal.invariant-loop-start

@@ -5,7 +5,7 @@ use Rattle.std.proofs.lemmas.Bool.{iff_false}
 use Rattle.tcc_reads.specs.History.{count}
 use Rattle.tcc_cert.specs.Tables.{lowest}
 use Rattle.tcc_cert.specs.declared.part.Part.TheVariants as part
-use Rattle.tcc_check.specs.Coming.{AreFoundBefore}
+use Rattle.tcc_check.specs.private.Coming.{AreFoundBefore}
 use Rattle.tcc_check.proofs.ComingFacts.{first-fault, first-line}
 use Rattle.tcc_check.proofs.FarBehind.{AreFarBehind, far-all, far-more, far-other, far-row}
 use Rattle.tcc_check.proofs.Rules.{far-answer}

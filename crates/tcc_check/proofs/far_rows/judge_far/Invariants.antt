@@ -3,8 +3,8 @@ use Rattle.std.proofs.Common.{◌≡◌, ℕ, List}
 use Rattle.tcc_reads.specs.History.{count}
 use Rattle.tcc_cert.specs.Ahead.{IsAhead}
 use Rattle.tcc_cert.specs.Parts.{Parts}
-use Rattle.tcc_check.specs.Coming.{AreFoundBefore}
-use Rattle.tcc_check.specs.Judged.{AreLinksOf}
+use Rattle.tcc_check.specs.private.Coming.{AreFoundBefore}
+use Rattle.tcc_check.specs.private.Judged.{AreLinksOf}
 use Rattle.tcc_check.proofs.FarBehind.{AreFarBehind}
 use Rattle.tcc_check.proofs.far_rows.judge_far.Given as goal
 

@@ -4,8 +4,8 @@ use Rattle.std.proofs.lemmas.List.{get_or_read}
 use Rattle.tcc_reads.specs.History.{count}
 use Rattle.tcc_cert.specs.Tables.{lowest}
 use Rattle.tcc_cert.specs.CycleRules.{BreaksFarLink, BreaksFarStep, BreaksReturn}
-use Rattle.tcc_check.specs.Searches.{IsFirstLong, IsFoundBelow, IsLongSingle}
-use Rattle.tcc_check.specs.WeightsFrom.{ends_of}
+use Rattle.tcc_check.specs.private.Searches.{IsFirstLong, IsFoundBelow, IsLongSingle}
+use Rattle.tcc_check.specs.private.WeightsFrom.{ends_of}
 use Rattle.tcc_check.proofs.RowRules.{far-link-row, far-step-row, found-more, found-next, return-row}
 use Rattle.tcc_check.proofs.far_rows.with_row.Goals as goal
 

@@ -1,7 +1,7 @@
 -- The lesser of both.
 use Rattle.std.proofs.Common.{ℕ, subst}
 use Rattle.tcc_reads.specs.History.{count}
-use Rattle.tcc_check.specs.Searches.{IsFoundBelow, IsLongPair, IsOvershot}
+use Rattle.tcc_check.specs.private.Searches.{IsFoundBelow, IsLongPair, IsOvershot}
 use Rattle.tcc_check.proofs.Found.{found_either}
 use Rattle.tcc_check.proofs.first_broken.long_link.Goals as goal
 

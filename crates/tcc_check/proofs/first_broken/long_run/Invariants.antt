@@ -1,5 +1,5 @@
 use Rattle.std.proofs.Common.{◌+◌}
-use Rattle.tcc_check.specs.Searches.{HoldsBelow, IsLongRunTo}
+use Rattle.tcc_check.specs.private.Searches.{HoldsBelow, IsLongRunTo}
 use Rattle.tcc_check.proofs.Carried.{IsCarried}
 use Rattle.tcc_check.proofs.first_broken.long_run.Given as goal
 

@@ -1,7 +1,7 @@
 -- The runs, and then the links from one start after the other.
 use Rattle.std.proofs.Common.{◌+◌, [], arith, refl}
 use Rattle.std.proofs.lemmas.List.{get_or_read}
-use Rattle.tcc_check.specs.Searches.{IsLongRunTo}
+use Rattle.tcc_check.specs.private.Searches.{IsLongRunTo}
 use Rattle.tcc_check.proofs.Overshot.{all_other, more_other, none_other}
 use Rattle.tcc_check.proofs.first_broken.long_step.Goals as goal
 

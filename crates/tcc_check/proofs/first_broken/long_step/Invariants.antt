@@ -1,5 +1,5 @@
 use Rattle.std.proofs.Common.{◌+◌, ◌⊎◌, length}
-use Rattle.tcc_check.specs.Searches.{IsFoundBelow, IsLongRunTo}
+use Rattle.tcc_check.specs.private.Searches.{IsFoundBelow, IsLongRunTo}
 use Rattle.tcc_check.proofs.Overshot.{SeenOther}
 use Rattle.tcc_check.proofs.first_broken.long_step.Given as goal
 

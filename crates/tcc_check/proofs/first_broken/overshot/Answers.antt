@@ -2,9 +2,9 @@
 use Rattle.std.proofs.Common.{◌≡◌, ◌<◌, ◌+◌, ℕ, List, length, get_or, take, drop, drop-drop, arith, refl, sym, ap, subst, ◌∙◌}
 use Rattle.std.specs.Prelude.{All}
 use Rattle.std.proofs.lemmas.List.{length-drop, take_all}
-use Rattle.tcc_check.specs.Groups.{links_by, total}
-use Rattle.tcc_check.specs.Searches.{IsFoundBelow, IsOvershot, IsOvershotAt}
-use Rattle.tcc_check.specs.Weights.{AreByWeight}
+use Rattle.tcc_check.specs.private.Groups.{links_by, total}
+use Rattle.tcc_check.specs.private.Searches.{IsFoundBelow, IsOvershot, IsOvershotAt}
+use Rattle.tcc_check.specs.private.Weights.{AreByWeight}
 use Rattle.tcc_check.proofs.Grouped.{length-links, total-more}
 use Rattle.tcc_check.proofs.Overshot.{all_over, group_begins, group_below, group_inside, group_weight, more_group, none_over, rest_over}
 use Rattle.tcc_check.proofs.first_broken.overshot.Goals as goal

@@ -1,6 +1,6 @@
 use Rattle.std.proofs.Common.{◌≡◌, ◌+◌, length, take, drop}
-use Rattle.tcc_check.specs.Groups.{links_by, total}
-use Rattle.tcc_check.specs.Searches.{IsFoundBelow}
+use Rattle.tcc_check.specs.private.Groups.{links_by, total}
+use Rattle.tcc_check.specs.private.Searches.{IsFoundBelow}
 use Rattle.tcc_check.proofs.Overshot.{SeenOver}
 use Rattle.tcc_check.proofs.first_broken.overshot.Given as goal
 

@@ -1,5 +1,5 @@
 use Rattle.std.proofs.Common.{◌+◌, length}
-use Rattle.tcc_check.specs.Searches.{IsFoundBelow}
+use Rattle.tcc_check.specs.private.Searches.{IsFoundBelow}
 use Rattle.tcc_check.proofs.Overshot.{SeenAt}
 use Rattle.tcc_check.proofs.first_broken.overshot_at.Given as goal
 

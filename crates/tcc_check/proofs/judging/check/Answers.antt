@@ -4,7 +4,8 @@ use Rattle.std.specs.Prelude.{IfOk}
 use Rattle.tcc_reads.specs.History.{History}
 use Rattle.tcc_cert.specs.declared.certificate.Certificate.{Certificate}
 use Rattle.tcc_check.specs.declared.verdict.Verdict.{Verdict}
-use Rattle.tcc_check.specs.Verdicts.{IsAnswer, IsVerdict, rules_of}
+use Rattle.tcc_check.specs.Verdicts.{IsVerdict, rules_of}
+use Rattle.tcc_check.specs.private.Searches.{IsAnswer}
 use Rattle.tcc_check.proofs.Claims.{verdict_of}
 use Rattle.tcc_check.proofs.judging.check.Goals as goal
 

@@ -3,7 +3,7 @@ use Rattle.std.proofs.Common.{ℕ, arith, get_or}
 use Rattle.std.proofs.lemmas.List.{get_or_default}
 use Rattle.tcc_graph.specs.Keys.{key_at}
 use Rattle.tcc_graph.specs.declared.level.Level.TheVariants.{Causal}
-use Rattle.tcc_check.specs.Latest.{IsReadKept}
+use Rattle.tcc_check.specs.private.Latest.{IsReadKept}
 use Rattle.tcc_check.proofs.Sessions.{first_more, by_keys}
 use Rattle.tcc_check.proofs.latest.are_reads_kept.Goals as goal
 

@@ -1,7 +1,7 @@
 use Rattle.std.proofs.Common.{◌<◌, ℕ, get_or}
 use Rattle.tcc_graph.specs.Keys.{key_at}
 use Rattle.tcc_graph.specs.declared.level.Level.TheVariants.{Causal}
-use Rattle.tcc_check.specs.Latest.{IsReadKept}
+use Rattle.tcc_check.specs.private.Latest.{IsReadKept}
 use Rattle.tcc_check.proofs.latest.are_reads_kept.Given as goal
 
 abbrev pub invariant-loop-key : goal.invariant-loop-key

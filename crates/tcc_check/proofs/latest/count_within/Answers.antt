@@ -1,6 +1,6 @@
 use Rattle.std.proofs.Common.{rules}
 use Rattle.std.proofs.lemmas.List.Sorted.{IsPartitionPoint-from_clause}
-use Rattle.tcc_check.specs.Latest.{is_within}
+use Rattle.tcc_check.specs.private.Latest.{is_within}
 use Rattle.tcc_check.proofs.Sessions.{parted_within}
 use Rattle.tcc_check.proofs.latest.count_within.Goals as goal
 

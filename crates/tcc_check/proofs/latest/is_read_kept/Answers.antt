@@ -6,7 +6,7 @@ use Rattle.tcc_reads.specs.History.{count}
 use Rattle.tcc_graph.specs.Keys.{key_at}
 use Rattle.tcc_graph.specs.declared.level.Level.TheVariants.{Causal}
 use Rattle.tcc_cert.specs.Tables.{row_of}
-use Rattle.tcc_check.specs.Latest.{StandAllBefore}
+use Rattle.tcc_check.specs.private.Latest.{StandAllBefore}
 use Rattle.tcc_graph.proofs.WriterLemmas.{writers_below}
 use Rattle.tcc_check.proofs.Sessions.{writers_rise, kept_by_last, kept_by_reached}
 use Rattle.tcc_check.proofs.latest.is_read_kept.Goals as goal

@@ -2,7 +2,7 @@
 use Rattle.std.proofs.Common.{Bool, sym, subst}
 use Rattle.std.specs.Prelude.{IfOk, IsTrue}
 use Rattle.tcc_graph.specs.declared.level.Level.{Level}
-use Rattle.tcc_check.specs.Latest.{AreReadsKept}
+use Rattle.tcc_check.specs.private.Latest.{AreReadsKept}
 use Rattle.tcc_check.proofs.latest.is_reader_right.Goals as goal
 
 pub returns-in-Atomic : goal.returns-in-Atomic

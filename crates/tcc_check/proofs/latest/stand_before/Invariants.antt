@@ -1,5 +1,5 @@
 use Rattle.std.proofs.Common.{◌<◌, ℕ, get_or}
-use Rattle.tcc_check.specs.Latest.{StandBefore}
+use Rattle.tcc_check.specs.private.Latest.{StandBefore}
 use Rattle.tcc_check.proofs.latest.stand_before.Given as goal
 
 abbrev pub invariant-loop-session : goal.invariant-loop-session

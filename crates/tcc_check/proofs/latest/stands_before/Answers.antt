@@ -1,5 +1,5 @@
 use Rattle.std.proofs.Common.{sym, arith, ◌∙◌, Some}
-use Rattle.tcc_check.specs.Latest.{IsLastWithin}
+use Rattle.tcc_check.specs.private.Latest.{IsLastWithin}
 use Rattle.std.proofs.lemmas.Bool.{leb-true}
 use Rattle.tcc_check.proofs.Sessions.{at_parts, before_earlier, before_last}
 use Rattle.tcc_check.proofs.latest.stands_before.Goals as goal

@@ -2,7 +2,7 @@
 use Rattle.std.proofs.Common.{◌∙◌, arith, sym}
 use Rattle.std.proofs.lemmas.Bool.{iff_false}
 use Rattle.tcc_cert.specs.CycleRules.{CycleClaim}
-use Rattle.tcc_check.specs.Judged.{cycle_claim}
+use Rattle.tcc_check.specs.private.Judged.{cycle_claim}
 use Rattle.tcc_check.proofs.Linked.{fault_cost, fault_open, fault_wrong, right_cycle, used_up, where_ends, whole_cost}
 use Rattle.tcc_check.proofs.links.broken_at.Goals as goal
 

@@ -1,13 +1,13 @@
 -- The next link, or another part; at last all of them.
 use Rattle.std.proofs.Common.{◌≡◌, [], ◌∷◌, ◌++◌, ℕ, List, refl, sym, subst, ◌∙◌, arith}
 use Rattle.std.proofs.lemmas.Bool.{iff_false}
-use Rattle.tcc_graph.specs.Levels.{Judged}
+use Rattle.tcc_graph.specs.Levels.{Judged, judged}
 use Rattle.tcc_graph.specs.declared.link.Link.{Link}
 use Rattle.tcc_reads.specs.History.{History, count}
 use Rattle.tcc_cert.specs.CycleRules.{IsLinkBelow}
 use Rattle.tcc_cert.specs.declared.part.Part.TheVariants as part
 use Rattle.tcc_check.specs.declared.links.LinksSeen.{LinksSeen}
-use Rattle.tcc_check.specs.Links.{AreSeenTo}
+use Rattle.tcc_check.specs.private.Links.{AreSeenTo}
 use Rattle.tcc_check.proofs.ComingFacts.{first-fault, first-line}
 use Rattle.tcc_check.proofs.LinksBehind.{AreLinksBehind, links-begun, links-below, links-ended, links-go-on, links-other}
 use Rattle.tcc_check.proofs.links.judge_links.Goals as goal
@@ -17,7 +17,7 @@ seen_to j least all i seen = AreSeenTo j least all i seen
 
 pub loop-before-init : goal.loop-before-init
 loop-before-init g c ahead is =
-    let j : Judged = record { history = c.args.graph.now; level = c.args.level } in (
+    let j : Judged = judged c.args.graph.now c.args.level in (
       ahead,
       [],
       links-begun c.args.many (IsLinkBelow (count c.args.graph.now)) (seen_to j c.args.least) c.no_links-seen.result ahead
@@ -27,7 +27,7 @@ loop-before-init g c ahead is =
 
 pub returns-in_default : goal.returns-in_default
 returns-in_default g c ahead is =
-    let j : Judged = record { history = c.args.graph.now; level = c.args.level } in
+    let j : Judged = judged c.args.graph.now c.args.level in
     let now = c.loop-before.invariant ahead is in
     let taken = c.in_ok-link.ensures.parts now.0 now.3 in (
       taken.0,
@@ -41,7 +41,7 @@ returns-in_default g c ahead is =
 
 pub returns-then-not-is_link_below : goal.returns-then-not-is_link_below
 returns-then-not-is_link_below g c ahead is =
-    let j : Judged = record { history = c.args.graph.now; level = c.args.level } in
+    let j : Judged = judged c.args.graph.now c.args.level in
     let now = c.loop-before.invariant ahead is in
     let taken = rw c.in-Link.is at (c.in_ok-link.ensures.parts now.0 now.3) in (
       taken.0,
@@ -57,7 +57,7 @@ returns-then-not-is_link_below g c ahead is =
 pub loop-before-preserved : goal.loop-before-preserved
 loop-before-preserved g c ahead is =
     let h : History = c.args.graph.now in
-    let j : Judged = record { history = h; level = c.args.level } in
+    let j : Judged = judged h c.args.level in
     let now = c.loop-before.invariant ahead is in
     let taken = rw c.in-Link.is at (c.in_ok-link.ensures.parts now.0 now.3) in
     let below : IsLinkBelow (count h) c.in-Link.link = rw (← c.count.ensures.value) (c.is_link_below.ensures.0 c.if-not-is_link_below.false) in (
@@ -72,7 +72,7 @@ loop-before-preserved g c ahead is =
 pub returns : goal.returns
 returns g c ahead is =
     let h : History = c.args.graph.now in
-    let j : Judged = record { history = h; level = c.args.level } in
+    let j : Judged = judged h c.args.level in
     let whole : c.loop-before.before ≡ c.args.many = omega (arith, c.loop-before-test.false, c.loop-before.auto.before-end) in
     let now = c.loop-before.invariant ahead is in (
       now.0,

@@ -5,13 +5,14 @@ use Rattle.tcc_graph.specs.declared.link.Link.{Link}
 use Rattle.tcc_cert.specs.Ahead.{IsAhead}
 use Rattle.tcc_cert.specs.CycleRules.{IsLinkBelow}
 use Rattle.tcc_cert.specs.Parts.{Parts}
-use Rattle.tcc_check.specs.Links.{AreSeenTo}
+use Rattle.tcc_check.specs.private.Links.{AreSeenTo}
 use Rattle.tcc_check.proofs.LinksBehind.{AreLinksBehind}
 use Rattle.tcc_check.proofs.links.judge_links.Given as goal
+use Rattle.tcc_graph.specs.Levels.{judged}
 
 abbrev pub invariant-loop-before : goal.invariant-loop-before
 invariant-loop-before g l =
     (ahead : Parts) → IsAhead g.R.Read.remaining l.initial.parts ahead
     → (rest : Parts) × (links : List Link) × AreLinksBehind l.many (IsLinkBelow (count l.graph))
-    (λ all i seen. AreSeenTo (record { history = l.graph; level = l.level }) l.least all i seen) l.before l.seen links ahead rest
+    (λ all i seen. AreSeenTo (judged l.graph l.level) l.least all i seen) l.before l.seen links ahead rest
     × IsAhead g.R.Read.remaining l.parts rest

@@ -3,8 +3,8 @@ use Rattle.std.proofs.Common.{rules, ap, ◌∙◌, length}
 use Rattle.std.proofs.lemmas.List.{length-replicate}
 use Rattle.tcc_reads.specs.History.{count}
 use Rattle.tcc_txn.proofs.Lists.{whole}
-use Rattle.tcc_check.specs.Weights.{unlinked, IsLowered}
-use Rattle.tcc_check.specs.WeightsFrom.{ContradictsBy}
+use Rattle.tcc_check.specs.private.Weights.{unlinked, IsLowered}
+use Rattle.tcc_check.specs.private.WeightsFrom.{ContradictsBy}
 use Rattle.tcc_check.proofs.LinksFrom.{bare-lowered}
 use Rattle.tcc_check.proofs.links_from.contradicted_weights.Goals as goal
 

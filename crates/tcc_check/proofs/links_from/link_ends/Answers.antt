@@ -2,8 +2,8 @@
 use Rattle.std.proofs.Common.{◌≡◌, ◌∙◌, length, ap, arith, rules}
 use Rattle.tcc_reads.specs.History.{count}
 use Rattle.tcc_txn.proofs.Lists.{whole}
-use Rattle.tcc_check.specs.Weights.{IsLeastRow, IsLowered}
-use Rattle.tcc_check.specs.WeightsFrom.{ContradictsBy, ReadWeighs, WeighsFrom}
+use Rattle.tcc_check.specs.private.Weights.{IsLeastRow, IsLowered}
+use Rattle.tcc_check.specs.private.WeightsFrom.{ContradictsBy, ReadWeighs, WeighsFrom}
 use Rattle.tcc_check.proofs.Bounds.{lowered_row}
 use Rattle.tcc_check.proofs.LinksFrom.{ends-light}
 use Rattle.tcc_check.proofs.links_from.link_ends.Goals as goal

@@ -1,7 +1,7 @@
 -- One key after the other.
 use Rattle.std.proofs.Common.{◌≡◌, None, arith, get_or, refl}
 use Rattle.std.proofs.lemmas.List.{get_or_read}
-use Rattle.tcc_check.specs.Readings.{readings_at}
+use Rattle.tcc_check.specs.private.Readings.{readings_at}
 use Rattle.tcc_check.proofs.ByKey.{no-place, one-place, all-places}
 use Rattle.tcc_check.proofs.links_from.lower_places.Goals as goal
 

@@ -1,4 +1,4 @@
-use Rattle.tcc_check.specs.Weights.{IsLowered}
+use Rattle.tcc_check.specs.private.Weights.{IsLowered}
 use Rattle.tcc_check.proofs.LinksFrom.{SeenSource}
 use Rattle.tcc_check.proofs.links_from.lower_sources.Given as goal
 

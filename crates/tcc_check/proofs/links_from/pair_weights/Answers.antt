@@ -2,8 +2,8 @@
 use Rattle.std.proofs.Common.{◌≡◌, ◌⊎◌, length, rules, ◌∙◌}
 use Rattle.tcc_reads.specs.History.{count}
 use Rattle.tcc_txn.proofs.Lists.{whole}
-use Rattle.tcc_check.specs.Weights.{IsLeastRow, IsLowered}
-use Rattle.tcc_check.specs.WeightsFrom.{BetweenWeighs, ReadWeighs}
+use Rattle.tcc_check.specs.private.Weights.{IsLeastRow, IsLowered}
+use Rattle.tcc_check.specs.private.WeightsFrom.{BetweenWeighs, ReadWeighs}
 use Rattle.tcc_check.proofs.Bounds.{lowered_row}
 use Rattle.tcc_check.proofs.LinksFrom.{causal-weights}
 use Rattle.tcc_check.proofs.links_from.pair_weights.Goals as goal

@@ -1,6 +1,6 @@
 use Rattle.std.proofs.Common.{◌≡◌, [], ◌∷◌, ◌++◌, arith, rules, subst, ℕ}
 use Rattle.tcc_reads.specs.History.{count}
-use Rattle.tcc_check.specs.WeightsFrom.{AreEndsTo, ReadWeighs}
+use Rattle.tcc_check.specs.private.WeightsFrom.{AreEndsTo, ReadWeighs}
 use Rattle.tcc_check.proofs.LinksFrom.{more-ends, no-ends}
 use Rattle.tcc_check.proofs.links_from.read_ends.Goals as goal
 

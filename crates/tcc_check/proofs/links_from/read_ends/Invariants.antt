@@ -1,5 +1,5 @@
 use Rattle.tcc_reads.specs.History.{count}
-use Rattle.tcc_check.specs.WeightsFrom.{AreEndsTo, ReadWeighs}
+use Rattle.tcc_check.specs.private.WeightsFrom.{AreEndsTo, ReadWeighs}
 use Rattle.tcc_check.proofs.links_from.read_ends.Given as goal
 
 abbrev pub invariant-loop-start : goal.invariant-loop-start

@@ -1,7 +1,7 @@
 -- Of the weights of reads-from pairs the light ones are those asked for.
 use Rattle.std.proofs.Common.{◌∙◌, length, ap, arith}
 use Rattle.tcc_reads.specs.History.{count}
-use Rattle.tcc_check.specs.WeightsFrom.{ReadWeighs}
+use Rattle.tcc_check.specs.private.WeightsFrom.{ReadWeighs}
 use Rattle.tcc_check.proofs.LinksFrom.{ends-light}
 use Rattle.tcc_check.proofs.links_from.read_ends_of.Goals as goal
 

@@ -3,8 +3,8 @@ use Rattle.std.proofs.Common.{◌≡◌, ◌<◌, [], length, rules, ap, ◌∙�
 use Rattle.std.proofs.lemmas.List.{length-replicate}
 use Rattle.tcc_reads.specs.History.{count}
 use Rattle.tcc_txn.proofs.Lists.{whole}
-use Rattle.tcc_check.specs.Weights.{unlinked, IsLowered}
-use Rattle.tcc_check.specs.WeightsFrom.{MarkWeighs, ReadWeighs}
+use Rattle.tcc_check.specs.private.Weights.{unlinked, IsLowered}
+use Rattle.tcc_check.specs.private.WeightsFrom.{MarkWeighs, ReadWeighs}
 use Rattle.tcc_check.proofs.LinksFrom.{bare-lowered, firsts-by, marks-reads}
 use Rattle.tcc_check.proofs.links_from.read_weights.Goals as goal
 

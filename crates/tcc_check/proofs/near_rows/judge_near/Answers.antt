@@ -4,7 +4,7 @@ use Rattle.std.specs.Prelude.{All}
 use Rattle.std.proofs.lemmas.Bool.{iff_false}
 use Rattle.tcc_reads.specs.History.{count}
 use Rattle.tcc_cert.specs.declared.part.Part.TheVariants as part
-use Rattle.tcc_check.specs.Judged.{AreNearRowsTo}
+use Rattle.tcc_check.specs.private.Judged.{AreNearRowsTo}
 use Rattle.tcc_check.proofs.ComingFacts.{first-fault, first-line}
 use Rattle.tcc_check.proofs.LinksFrom.{orderly-none}
 use Rattle.tcc_check.proofs.NearBehind.{AreNearBehind, near-begun, near-ended, near-goes-on, near-other, near-row}

@@ -3,8 +3,8 @@ use Rattle.std.proofs.Common.{◌≡◌, ℕ, List, length}
 use Rattle.tcc_reads.specs.History.{count}
 use Rattle.tcc_cert.specs.Ahead.{IsAhead}
 use Rattle.tcc_cert.specs.Parts.{Parts}
-use Rattle.tcc_check.specs.Judged.{AreNearRowsTo}
-use Rattle.tcc_check.specs.Pairs.{AreOrderly}
+use Rattle.tcc_check.specs.private.Judged.{AreNearRowsTo}
+use Rattle.tcc_check.specs.private.Pairs.{AreOrderly}
 use Rattle.tcc_check.proofs.NearBehind.{AreNearBehind}
 use Rattle.tcc_check.proofs.near_rows.judge_near.Given as goal
 

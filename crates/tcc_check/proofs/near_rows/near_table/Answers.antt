@@ -2,7 +2,7 @@
 use Rattle.std.proofs.Common.{◌≡◌, ℕ, [], arith, subst, sym, ◌∙◌}
 use Rattle.std.proofs.lemmas.List.{get_or_read}
 use Rattle.tcc_reads.specs.History.{count}
-use Rattle.tcc_check.specs.Judged.{AreNearRowsTo}
+use Rattle.tcc_check.specs.private.Judged.{AreNearRowsTo}
 use Rattle.tcc_check.proofs.LinksFrom.{orderly-none}
 use Rattle.tcc_check.proofs.Rules.{near-answer}
 use Rattle.tcc_check.proofs.near_rows.near_table.Goals as goal

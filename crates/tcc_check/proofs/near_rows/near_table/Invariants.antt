@@ -1,7 +1,7 @@
 use Rattle.std.proofs.Common.{◌≡◌, length}
 use Rattle.tcc_reads.specs.History.{count}
-use Rattle.tcc_check.specs.Judged.{AreNearRowsTo}
-use Rattle.tcc_check.specs.Pairs.{AreOrderly}
+use Rattle.tcc_check.specs.private.Judged.{AreNearRowsTo}
+use Rattle.tcc_check.specs.private.Pairs.{AreOrderly}
 use Rattle.tcc_check.proofs.near_rows.near_table.Given as goal
 
 abbrev pub invariant-loop-start : goal.invariant-loop-start

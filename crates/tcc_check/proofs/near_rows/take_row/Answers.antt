@@ -3,7 +3,7 @@ use Rattle.std.proofs.Common.{◌≡◌, ℕ, List, [], ◌∷◌, ◌++◌, rul
 use Rattle.std.proofs.lemmas.List.{length_push}
 use Rattle.tcc_reads.specs.History.{count}
 use Rattle.tcc_cert.specs.Tables.{row_of}
-use Rattle.tcc_check.specs.WeightsFrom.{AreEnds, WeighsFrom}
+use Rattle.tcc_check.specs.private.WeightsFrom.{AreEnds, WeighsFrom}
 use Rattle.tcc_check.proofs.LinksFrom.{more-ends, orderly-more}
 use Rattle.tcc_check.proofs.near_rows.take_row.Goals as goal
 

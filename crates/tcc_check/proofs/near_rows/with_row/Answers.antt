@@ -5,9 +5,9 @@ use Rattle.std.proofs.lemmas.List.{get_or_read}
 use Rattle.tcc_reads.specs.History.{count}
 use Rattle.tcc_graph.specs.declared.level.Level.TheVariants as level
 use Rattle.tcc_cert.specs.CycleRules.{BreaksNearPair, BreaksNearStep}
-use Rattle.tcc_check.specs.Coming.{IsFoundBefore}
-use Rattle.tcc_check.specs.Searches.{IsFirstLong, IsFoundBelow, IsLongSingle}
-use Rattle.tcc_check.specs.WeightsFrom.{ReadWeighs, ends_of}
+use Rattle.tcc_check.specs.private.Coming.{IsFoundBefore}
+use Rattle.tcc_check.specs.private.Searches.{IsFirstLong, IsFoundBelow, IsLongSingle}
+use Rattle.tcc_check.specs.private.WeightsFrom.{ReadWeighs, ends_of}
 use Rattle.tcc_check.proofs.LinksFrom.{ends-inside, orderly-all}
 use Rattle.tcc_check.proofs.RowRules.{at-level, found-more, found-next, near-pair-row, near-step-none, near-step-row}
 use Rattle.tcc_check.proofs.near_rows.with_row.Goals as goal

@@ -2,7 +2,7 @@
 use Rattle.std.proofs.Common.{◌≡◌, arith, rules}
 use Rattle.tcc_reads.specs.History.{count}
 use Rattle.tcc_cert.specs.OrderRules.{BreaksAxiom}
-use Rattle.tcc_check.specs.Places.{order_claim}
+use Rattle.tcc_check.specs.private.Places.{order_claim}
 use Rattle.tcc_check.proofs.First.{first_in_row, holds_more, nowhere}
 use Rattle.tcc_check.proofs.order.broken_axiom.Goals as goal
 

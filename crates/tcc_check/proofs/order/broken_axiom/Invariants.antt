@@ -1,7 +1,7 @@
 use Rattle.std.proofs.Common.{◌≡◌, ℕ, List, length}
 use Rattle.tcc_reads.specs.History.{count}
 use Rattle.tcc_cert.specs.OrderRules.{BreaksAxiom}
-use Rattle.tcc_check.specs.Places.{ArePlaces, order_claim}
+use Rattle.tcc_check.specs.private.Places.{ArePlaces, order_claim}
 use Rattle.tcc_check.proofs.First.{HoldsAbove}
 use Rattle.tcc_check.proofs.order.broken_axiom.Given as goal
 

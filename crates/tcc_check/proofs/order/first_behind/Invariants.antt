@@ -1,5 +1,5 @@
-use Rattle.tcc_check.specs.Searches.{HoldsBelow}
-use Rattle.tcc_check.specs.Places.{IsBehind}
+use Rattle.tcc_check.specs.private.Searches.{HoldsBelow}
+use Rattle.tcc_check.specs.private.Places.{IsBehind}
 use Rattle.tcc_check.proofs.order.first_behind.Given as goal
 
 abbrev pub invariant-loop-a : goal.invariant-loop-a

@@ -1,7 +1,7 @@
 use Rattle.std.proofs.Common.{below_more, arith, refl}
 use Rattle.std.proofs.lemmas.Bool.{false≢true, iff_false}
 use Rattle.tcc_graph.specs.Relations.{IsCausalPair}
-use Rattle.tcc_check.specs.Places.{IsKept}
+use Rattle.tcc_check.specs.private.Places.{IsKept}
 use Rattle.tcc_graph.proofs.Pairs.{pair_below}
 use Rattle.tcc_check.proofs.order.keeps_pairs.Goals as goal
 

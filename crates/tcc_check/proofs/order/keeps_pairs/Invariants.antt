@@ -1,6 +1,6 @@
 use Rattle.std.proofs.Common.{◌<◌, ℕ}
 use Rattle.tcc_graph.specs.Relations.{IsCausalPair}
-use Rattle.tcc_check.specs.Places.{IsKept}
+use Rattle.tcc_check.specs.private.Places.{IsKept}
 use Rattle.tcc_check.proofs.order.keeps_pairs.Given as goal
 
 abbrev pub invariant-loop-c : goal.invariant-loop-c

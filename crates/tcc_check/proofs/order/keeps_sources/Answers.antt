@@ -1,6 +1,6 @@
 use Rattle.std.proofs.Common.{ℕ, List, refl, arith}
 use Rattle.std.proofs.lemmas.Bool.{false≢true, iff_false}
-use Rattle.tcc_check.specs.Places.{IsKept}
+use Rattle.tcc_check.specs.private.Places.{IsKept}
 use Rattle.tcc_check.proofs.Sessions.{first_more, by_reads, read_at}
 use Rattle.tcc_check.proofs.order.keeps_sources.Goals as goal
 

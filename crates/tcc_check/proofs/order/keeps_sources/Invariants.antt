@@ -1,5 +1,5 @@
 use Rattle.std.proofs.Common.{◌<◌, ℕ, List, get_or}
-use Rattle.tcc_check.specs.Places.{IsKept}
+use Rattle.tcc_check.specs.private.Places.{IsKept}
 use Rattle.tcc_check.proofs.order.keeps_sources.Given as goal
 
 abbrev pub invariant-loop-key : goal.invariant-loop-key

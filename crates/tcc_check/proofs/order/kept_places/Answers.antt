@@ -1,6 +1,6 @@
 -- The places keep the pairs exactly where the order and its clocks do.
 use Rattle.std.proofs.lemmas.Bool.{iff_false}
-use Rattle.tcc_check.specs.Places.{ArePlaces}
+use Rattle.tcc_check.specs.private.Places.{ArePlaces}
 use Rattle.tcc_check.proofs.Ordered.{pairs_kept, kept_pairs}
 use Rattle.tcc_check.proofs.order.kept_places.Goals as goal
 

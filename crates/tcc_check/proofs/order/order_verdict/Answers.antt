@@ -1,5 +1,5 @@
 use Rattle.std.proofs.Common.{inl, inr, refl, rules, arith}
-use Rattle.tcc_check.specs.Places.{ArePlaces}
+use Rattle.tcc_check.specs.private.Places.{ArePlaces}
 use Rattle.tcc_check.proofs.Ordered.{sessions_kept, axiom_kept, places_apart}
 use Rattle.tcc_check.proofs.order.order_verdict.Goals as goal
 

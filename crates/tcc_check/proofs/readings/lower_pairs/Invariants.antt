@@ -1,4 +1,4 @@
-use Rattle.tcc_check.specs.Weights.{IsLowered}
+use Rattle.tcc_check.specs.private.Weights.{IsLowered}
 use Rattle.tcc_check.proofs.ByKey.{SeenPair}
 use Rattle.tcc_check.proofs.readings.lower_pairs.Given as goal
 

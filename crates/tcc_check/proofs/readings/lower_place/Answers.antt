@@ -1,7 +1,7 @@
 -- In groups, or one after the other.
 use Rattle.std.proofs.Common.{◌<◌}
 use Rattle.tcc_reads.specs.History.{count}
-use Rattle.tcc_check.specs.Readings.{AreReadingsAt}
+use Rattle.tcc_check.specs.private.Readings.{AreReadingsAt}
 use Rattle.tcc_check.proofs.ByKey.{groups-there, pairs-there, readers-below, sources-below}
 use Rattle.tcc_check.proofs.LinksFrom.{firsts-by, seconds-by}
 use Rattle.tcc_check.proofs.readings.lower_place.Goals as goal

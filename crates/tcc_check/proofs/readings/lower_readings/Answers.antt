@@ -2,9 +2,9 @@
 use Rattle.std.proofs.Common.{◌≡◌, ◌<◌, ◌+◌, ℕ, List, length, get_or, set, min, take, drop, drop-drop, arith, refl, sym, ap, subst, ◌∙◌}
 use Rattle.std.specs.Prelude.{All}
 use Rattle.std.proofs.lemmas.List.{length-drop, take_all}
-use Rattle.tcc_check.specs.Groups.{AreGroupsOf, links_by, total}
-use Rattle.tcc_check.specs.Weights.{IsLowered}
-use Rattle.tcc_check.specs.Readings.{ReadingWeighs}
+use Rattle.tcc_check.specs.private.Groups.{AreGroupsOf, links_by, total}
+use Rattle.tcc_check.specs.private.Weights.{IsLowered}
+use Rattle.tcc_check.specs.private.Readings.{ReadingWeighs}
 use Rattle.tcc_check.proofs.Grouped.{length-links, total-more}
 use Rattle.tcc_check.proofs.Overshot.{group_below, group_inside}
 use Rattle.tcc_check.proofs.ByKey.{SeenReading, all-readings, group-lowered, group-passed, group-some, group-source, no-reading, source-lowered}

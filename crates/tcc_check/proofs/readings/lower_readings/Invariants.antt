@@ -1,6 +1,6 @@
 use Rattle.std.proofs.Common.{◌≡◌, take, drop}
-use Rattle.tcc_check.specs.Groups.{links_by, total}
-use Rattle.tcc_check.specs.Weights.{IsLowered}
+use Rattle.tcc_check.specs.private.Groups.{links_by, total}
+use Rattle.tcc_check.specs.private.Weights.{IsLowered}
 use Rattle.tcc_check.proofs.ByKey.{SeenReading}
 use Rattle.tcc_check.proofs.readings.lower_readings.Given as goal
 

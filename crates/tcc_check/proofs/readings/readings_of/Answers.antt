@@ -2,7 +2,7 @@
 use Rattle.std.proofs.Common.{◌≡◌, ℕ, [], ◌∷◌, ◌++◌, length, rules, subst}
 use Rattle.std.specs.Prelude.{IfSome}
 use Rattle.tcc_graph.specs.Keys.{keys}
-use Rattle.tcc_check.specs.Readings.{AreReadingsAt, AreReadingsTo}
+use Rattle.tcc_check.specs.private.Readings.{AreReadingsAt, AreReadingsTo}
 use Rattle.tcc_check.proofs.ByKey.{more-readings, no-readings}
 use Rattle.tcc_check.proofs.readings.readings_of.Goals as goal
 

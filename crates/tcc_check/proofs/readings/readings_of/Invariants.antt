@@ -1,4 +1,4 @@
-use Rattle.tcc_check.specs.Readings.{AreReadingsTo}
+use Rattle.tcc_check.specs.private.Readings.{AreReadingsTo}
 use Rattle.tcc_check.proofs.readings.readings_of.Given as goal
 
 abbrev pub invariant-loop-place : goal.invariant-loop-place

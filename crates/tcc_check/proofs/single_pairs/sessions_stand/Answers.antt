@@ -6,7 +6,7 @@ use Rattle.std.proofs.lemmas.List.{get_or_default}
 use Rattle.tcc_reads.specs.History.{count}
 use Rattle.tcc_graph.specs.Keys.{key_at, writers}
 use Rattle.tcc_graph.proofs.WriterLemmas.{writers_below}
-use Rattle.tcc_check.specs.SinglePairs.{DoesSessionStand}
+use Rattle.tcc_check.specs.private.SinglePairs.{DoesSessionStand}
 use Rattle.tcc_check.proofs.OnePair.{sessions_stand_by}
 use Rattle.tcc_check.proofs.Sessions.{first_more, writers_rise}
 use Rattle.tcc_check.proofs.single_pairs.sessions_stand.Goals as goal

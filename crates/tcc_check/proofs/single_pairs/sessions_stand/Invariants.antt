@@ -1,6 +1,6 @@
 use Rattle.std.proofs.Common.{◌<◌, ℕ, get_or}
 use Rattle.tcc_graph.specs.Keys.{key_at, writers}
-use Rattle.tcc_check.specs.SinglePairs.{DoesSessionStand}
+use Rattle.tcc_check.specs.private.SinglePairs.{DoesSessionStand}
 use Rattle.tcc_check.proofs.single_pairs.sessions_stand.Given as goal
 
 abbrev pub invariant-loop-key : goal.invariant-loop-key

@@ -1,7 +1,7 @@
 -- One source after the other.
 use Rattle.std.proofs.Common.{ℕ, get_or, arith}
 use Rattle.std.proofs.lemmas.List.{get_or_default}
-use Rattle.tcc_check.specs.SinglePairs.{DoesWriterStand}
+use Rattle.tcc_check.specs.private.SinglePairs.{DoesWriterStand}
 use Rattle.tcc_check.proofs.OnePair.{sources_stand_by}
 use Rattle.tcc_check.proofs.Sessions.{first_more}
 use Rattle.tcc_check.proofs.single_pairs.sources_stand.Goals as goal

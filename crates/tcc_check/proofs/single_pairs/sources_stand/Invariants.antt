@@ -1,5 +1,5 @@
 use Rattle.std.proofs.Common.{◌<◌, ℕ, get_or}
-use Rattle.tcc_check.specs.SinglePairs.{DoesWriterStand}
+use Rattle.tcc_check.specs.private.SinglePairs.{DoesWriterStand}
 use Rattle.tcc_check.proofs.single_pairs.sources_stand.Given as goal
 
 abbrev pub invariant-loop-key : goal.invariant-loop-key

@@ -1,6 +1,6 @@
 -- What was found in the links and tables is the verdict, where nothing came behind them.
 use Rattle.std.proofs.Common.{refl, sym, ◌∙◌}
-use Rattle.tcc_check.specs.Judged.{claim_with}
+use Rattle.tcc_check.specs.private.Judged.{claim_with}
 use Rattle.tcc_check.proofs.JudgedFacts.{sized-answer}
 use Rattle.tcc_check.proofs.streaming.judge_cycle.Goals as goal
 

@@ -1,7 +1,8 @@
 -- The clocks that came are those of the claim.
 use Rattle.std.proofs.Common.{List, ℕ, refl, subst, ◌∙◌}
-use Rattle.tcc_check.specs.Places.{order_claim}
-use Rattle.tcc_check.specs.Verdicts.{IsAnswer, order_rules}
+use Rattle.tcc_check.specs.private.Places.{order_claim}
+use Rattle.tcc_check.specs.Verdicts.{order_rules}
+use Rattle.tcc_check.specs.private.Searches.{IsAnswer}
 use Rattle.tcc_check.proofs.streaming.judge_order.Goals as goal
 
 pub returns : goal.returns

@@ -2,7 +2,7 @@
 use Rattle.std.proofs.lemmas.Result.{err_from_is_err_and}
 use Rattle.tcc_cert.specs.Parts.{parts_read}
 use Rattle.tcc_cert.specs.declared.part.Part.TheVariants as part
-use Rattle.tcc_check.specs.Judged.{IsCycleJudged, IsOrderJudged}
+use Rattle.tcc_check.specs.private.Judged.{IsCycleJudged, IsOrderJudged}
 use Rattle.tcc_check.specs.declared.streaming.CycleHead.{CycleHead}
 use Rattle.tcc_check.proofs.JudgedFacts.{cycle-judged, judged-behind, order-judged, stream-fault}
 use Rattle.tcc_check.proofs.streaming.judge_parts.Goals as goal

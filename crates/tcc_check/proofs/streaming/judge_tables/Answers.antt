@@ -2,8 +2,8 @@
 use Rattle.std.proofs.Common.{◌++◌, ◌∙◌}
 use Rattle.std.specs.Prelude.{map}
 use Rattle.tcc_cert.specs.declared.part.Part.TheVariants as part
-use Rattle.tcc_check.specs.Coming.{first_rejected}
-use Rattle.tcc_check.specs.Judged.{claim_with, far_rules, links_rules, near_rules}
+use Rattle.tcc_check.specs.private.Coming.{first_rejected}
+use Rattle.tcc_check.specs.private.Judged.{claim_with, far_rules, links_rules, near_rules}
 use Rattle.tcc_check.proofs.Asked.{answer_first}
 use Rattle.tcc_check.proofs.streaming.judge_tables.Goals as goal
 

@@ -1,7 +1,7 @@
 use Rattle.std.proofs.Common.{◌≡◌, ℕ, Option, None, Some, refl, ◌∙◌, arith}
 use Rattle.std.proofs.lemmas.Grind.{common_steps}
 use Rattle.tcc_core.specs.Rows.{in_row}
-use Rattle.tcc_core.specs.Offers.{IsLower, IsOffered, IsWayOn}
+use Rattle.tcc_core.specs.private.Offers.{IsLower, IsOffered, IsWayOn}
 use Rattle.tcc_core.proofs.Offered.{lower_same, lower_then}
 use Rattle.tcc_core.proofs.Catching.{caught_none, caught_next, caught_past, caught_row}
 use Rattle.tcc_core.proofs.again.lead_on_again.Goals.{in-Some, in_default}

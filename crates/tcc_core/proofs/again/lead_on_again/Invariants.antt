@@ -1,7 +1,7 @@
 use Rattle.std.proofs.Common.{◌≡◌}
 use Rattle.tcc_graph.specs.Levels.{Judged}
 use Rattle.tcc_derive.specs.Prices.{IsPricesOf}
-use Rattle.tcc_core.specs.Offers.{IsLower, IsOffered}
+use Rattle.tcc_core.specs.private.Offers.{IsLower, IsOffered}
 use Rattle.tcc_core.proofs.Catching.{IsWayBelow}
 use Rattle.tcc_core.proofs.again.lead_on_again.Given as goal
 

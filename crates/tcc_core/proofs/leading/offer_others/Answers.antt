@@ -1,8 +1,8 @@
 use Rattle.std.proofs.Common.{◌≡◌, ◌<◌, ◌≤◌, length, arith}
 use Rattle.tcc_reads.specs.History.{count}
 use Rattle.tcc_derive.specs.Prices.{others_at}
-use Rattle.tcc_core.specs.Offers.{IsOffered, IsWayBy}
-use Rattle.tcc_core.specs.Levels.{AreClassed, IsClassWay}
+use Rattle.tcc_core.specs.private.Offers.{IsOffered, IsWayBy}
+use Rattle.tcc_core.specs.private.Levels.{AreClassed, IsClassWay}
 use Rattle.tcc_core.proofs.LedOn.{classes_of, offered_classes, offered_others}
 use Rattle.tcc_core.proofs.leading.offer_others.Goals as goal
 

@@ -1,6 +1,6 @@
 use Rattle.std.proofs.Common.{◌≡◌, length}
 use Rattle.std.specs.Prelude.{All}
-use Rattle.tcc_core.specs.Levels.{HasRoom}
+use Rattle.tcc_core.specs.private.Levels.{HasRoom}
 use Rattle.tcc_core.proofs.levels.begin_levels.Given as goal
 
 abbrev pub invariant-loop-level : goal.invariant-loop-level

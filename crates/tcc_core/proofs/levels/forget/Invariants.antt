@@ -1,7 +1,7 @@
 use Rattle.std.proofs.Common.{◌≡◌, ℕ, length}
 use Rattle.std.specs.Prelude.{All}
 use Rattle.std.specs.List.{AllWithin}
-use Rattle.tcc_core.specs.Levels.{HasRoom}
+use Rattle.tcc_core.specs.private.Levels.{HasRoom}
 use Rattle.tcc_core.proofs.levels.forget.Given as goal
 
 abbrev pub invariant-loop-k : goal.invariant-loop-k

@@ -1,8 +1,8 @@
 use Rattle.std.proofs.Common.{◌≡◌, ◌+◌, [], ◌∷◌, ◌++◌, take, inl, inr, sym, ◌∙◌, ap, arith}
 use Rattle.std.proofs.lemmas.List.{take_more}
 use Rattle.tcc_derive.specs.declared.by_class.Class.{Class}
-use Rattle.tcc_core.specs.Offers.{IsOffered}
-use Rattle.tcc_core.specs.Marked.{IsMarkWay}
+use Rattle.tcc_core.specs.private.Offers.{IsOffered}
+use Rattle.tcc_core.specs.private.Marked.{IsMarkWay}
 use Rattle.tcc_core.proofs.LevelWays.{levels_set, classes_next, classes_passed}
 use Rattle.tcc_core.proofs.levels.offer_classes.Goals.{then-class-left+then-floor-cost, else-class-left}
 use Rattle.tcc_core.proofs.levels.offer_classes.Goals.{else-class-left-via-then-class-left+else-floor-cost}

@@ -1,6 +1,6 @@
 use Rattle.std.proofs.Common.{◌≡◌, take}
-use Rattle.tcc_core.specs.Offers.{IsOffered}
-use Rattle.tcc_core.specs.Levels.{AreLevels, IsClassWay}
+use Rattle.tcc_core.specs.private.Offers.{IsOffered}
+use Rattle.tcc_core.specs.private.Levels.{AreLevels, IsClassWay}
 use Rattle.tcc_core.proofs.levels.offer_classes.Given as goal
 
 abbrev pub invariant-loop-class : goal.invariant-loop-class

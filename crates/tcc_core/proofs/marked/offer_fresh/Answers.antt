@@ -1,5 +1,5 @@
 use Rattle.std.proofs.Common.{rules, ◌<◌, ◌^◌, slice_index}
-use Rattle.tcc_near.proofs.BitLemmas.{fresh_bits}
+use Rattle.tcc_bits.proofs.BitLemmas.{fresh_bits}
 use Rattle.tcc_core.proofs.MarkedWays.{fresh_offered, fresh_met, fresh_none}
 use Rattle.tcc_core.proofs.marked.offer_fresh.Goals as goal
 

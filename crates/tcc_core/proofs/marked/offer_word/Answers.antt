@@ -1,7 +1,7 @@
 use Rattle.std.proofs.Common.{rules, refl, arith, w64}
 use Rattle.std.specs.Int.{trailing_zeros}
 use Rattle.std.proofs.lemmas.Nat.Bits.{bit_at-lt, bit_at-trailing_zeros}
-use Rattle.tcc_near.proofs.BitLemmas.{cleared}
+use Rattle.tcc_bits.proofs.BitLemmas.{cleared}
 use Rattle.tcc_core.proofs.MarkedWays.{word_none, word_less, word_next, word_all}
 use Rattle.tcc_core.proofs.marked.offer_word.Goals as goal
 

@@ -1,6 +1,6 @@
 use Rattle.std.proofs.Common.{◌≡◌, ◌<◌, ◌≤◌, ℕ}
 use Rattle.std.specs.Int.{bit_at}
-use Rattle.tcc_core.specs.Offers.{IsOffered}
+use Rattle.tcc_core.specs.private.Offers.{IsOffered}
 use Rattle.tcc_core.proofs.MarkedWays.{IsWayOut}
 use Rattle.tcc_core.proofs.marked.offer_word.Given as goal
 

@@ -1,6 +1,6 @@
 use Rattle.std.proofs.Common.{◌≡◌, ◌*◌, length}
-use Rattle.tcc_core.specs.Offers.{IsOffered}
-use Rattle.tcc_core.specs.Marked.{IsMet}
+use Rattle.tcc_core.specs.private.Offers.{IsOffered}
+use Rattle.tcc_core.specs.private.Marked.{IsMet}
 use Rattle.tcc_core.proofs.MarkedWays.{IsMarkWayUpTo}
 use Rattle.tcc_core.proofs.marked.offer_words.Given as goal
 

@@ -1,5 +1,5 @@
 use Rattle.std.proofs.Common.{◌≡◌, ◌<◌, ◌≤◌}
-use Rattle.tcc_core.specs.Offers.{IsOffered}
+use Rattle.tcc_core.specs.private.Offers.{IsOffered}
 use Rattle.tcc_core.proofs.offering.offer_each.Given as goal
 
 abbrev pub invariant-loop-v : goal.invariant-loop-v

@@ -1,5 +1,5 @@
 use Rattle.std.proofs.Common.{◌≡◌, ◌<◌, ◌⊎◌, ℕ, length, slice_index}
-use Rattle.tcc_core.specs.Queues.{IsFar}
+use Rattle.tcc_core.specs.private.Queues.{IsFar}
 use Rattle.tcc_core.proofs.queue.shut.Given as goal
 
 abbrev pub invariant-loop-v : goal.invariant-loop-v

@@ -1,5 +1,5 @@
 use Rattle.std.proofs.Common.{◌≡◌, ◌<◌, ◌≤◌, ◌+◌, ◌⊎◌, inl, inr, ℕ, arith}
-use Rattle.tcc_core.specs.Closing.{closing_at}
+use Rattle.tcc_core.specs.private.Closing.{closing_at}
 use Rattle.tcc_core.proofs.Rounds.{of_both, before_or_at}
 use Rattle.tcc_core.proofs.seeding.least_from.Goals as goal
 

@@ -1,5 +1,5 @@
 use Rattle.std.proofs.Common.{◌<◌, ◌≤◌}
-use Rattle.tcc_core.specs.Closing.{closing_at, IsLeastOf}
+use Rattle.tcc_core.specs.private.Closing.{closing_at, IsLeastOf}
 use Rattle.tcc_core.proofs.seeding.least_from.Given as goal
 
 abbrev pub invariant-loop-b : goal.invariant-loop-b

@@ -1,7 +1,7 @@
 use Rattle.std.proofs.Common.{◌≡◌, ◌<◌, ◌≤◌, ◌+◌, ◌*◌, ◌⊎◌, inl, inr, ℕ, length, min, arith}
 use Rattle.std.proofs.Math.Nat.{min-le_left, min-le_right, le-min}
 use Rattle.std.proofs.lemmas.Bool.{cases_lt}
-use Rattle.tcc_core.specs.Closing.{closing_at}
+use Rattle.tcc_core.specs.private.Closing.{closing_at}
 use Rattle.tcc_core.proofs.Rounds.{of_both}
 use Rattle.tcc_core.proofs.seeding.least_of_all.Goals as goal
 

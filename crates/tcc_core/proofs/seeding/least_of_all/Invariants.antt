@@ -1,5 +1,5 @@
 use Rattle.std.proofs.Common.{◌<◌, ◌*◌, length}
-use Rattle.tcc_core.specs.Closing.{closing_at, IsLeastOf}
+use Rattle.tcc_core.specs.private.Closing.{closing_at, IsLeastOf}
 use Rattle.tcc_core.proofs.seeding.least_of_all.Given as goal
 
 abbrev pub invariant-loop-block : goal.invariant-loop-block

@@ -5,6 +5,7 @@ use Rattle.tcc_cycle.proofs.BoundLemmas.{cycle_bounded, few_links, walks_few}
 use Rattle.tcc_cycle.proofs.SessionLemmas.{history_placed}
 use Rattle.tcc_cycle.proofs.LargestCycle.{few_derived, largest}
 use Rattle.tcc_cycle.proofs.laws.bounded.Goals as goal
+use Rattle.tcc_graph.specs.Levels.{judged}
 
 pub returns-clause-transactions : goal.returns-clause-transactions
 returns-clause-transactions c = cycle_bounded
@@ -17,6 +18,6 @@ returns-clause-walks c = λ j s links least. walks_few j s [] links least
 
 pub returns-clause-sessions : goal.returns-clause-sessions
 returns-clause-sessions c = λ snapshot level s links few least. (
-  few_derived (record { history = history snapshot; level = level }) (history_placed snapshot MAX_SESSIONS few) s links least,
-  largest (record { history = history snapshot; level = level }) (history_placed snapshot MAX_SESSIONS few) s links least,
+  few_derived (judged (history snapshot) level) (history_placed snapshot MAX_SESSIONS few) s links least,
+  largest (judged (history snapshot) level) (history_placed snapshot MAX_SESSIONS few) s links least,
 )

@@ -2,11 +2,12 @@ use Rattle.std.proofs.Common.{sym}
 use Rattle.std.proofs.lemmas.Result.{IfOk-weaker}
 use Rattle.tcc_cycle.proofs.LinkChoiceLemmas.{reads_first, reason_first}
 use Rattle.tcc_cycle.proofs.picking.first_link.Goals as goal
+use Rattle.tcc_graph.specs.Levels.{judged}
 
 pub returns-in-Some : goal.returns-in-Some
 returns-in-Some c = reads_first c.requires.from c.requires.to (sym c.if-session.ensures) (rw c.reads_from.ensures at c.in-Some.ensures)
 
 pub returns : goal.returns
 returns c =
-    IfOk-weaker c.reason.result _ _ (λ found is. reason_first (record { history = c.args.graph.now; level = c.args.near.now.level }) c.args.from c.args.to
+    IfOk-weaker c.reason.result _ _ (λ found is. reason_first (judged c.args.graph.now c.args.near.now.level) c.args.from c.args.to
     (sym c.if-session.ensures) (rw c.reads_from.ensures at c.in_default.ensures) found is) c.reason.ensures

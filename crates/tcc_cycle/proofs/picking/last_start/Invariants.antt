@@ -1,5 +1,5 @@
 use Rattle.std.proofs.Common.{ℕ, ◌<◌, ◌≤◌}
-use Rattle.tcc_cycle.specs.Ways.{IsBefore}
+use Rattle.tcc_cycle.specs.private.Ways.{IsBefore}
 use Rattle.tcc_cycle.proofs.picking.last_start.Given as goal
 
 abbrev pub invariant-loop-from : goal.invariant-loop-from

@@ -1,5 +1,5 @@
 use Rattle.std.proofs.Common.{◌+◌}
-use Rattle.tcc_derive.specs.Classes.{ArePartedBelow}
+use Rattle.tcc_derive.specs.private.Classes.{ArePartedBelow}
 use Rattle.tcc_derive.proofs.by_class.by_class_row.Given as goal
 
 abbrev pub invariant-loop-cost : goal.invariant-loop-cost

@@ -6,7 +6,7 @@ use Rattle.tcc_txn.specs.declared.memory.NoMemory.{NoMemory}
 use Rattle.tcc_txn.proofs.Lists.{matched}
 use Rattle.tcc_graph.specs.Tables.{row_of}
 use Rattle.tcc_near.proofs.RowLemmas.{each_given, numbers_below}
-use Rattle.tcc_derive.specs.Classes.{ArePartedBelow}
+use Rattle.tcc_derive.specs.private.Classes.{ArePartedBelow}
 use Rattle.tcc_derive.specs.declared.by_class.ByClass.{ByClass}
 use Rattle.tcc_derive.proofs.by_class.by_class_rows.Goals as goal
 

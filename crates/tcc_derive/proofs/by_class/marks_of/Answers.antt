@@ -1,10 +1,9 @@
 use Rattle.std.proofs.Common.{rules, ◌≡◌, ◌<◌, ◌≤◌, ◌↔◌, ◌⊎◌, ℕ, true, List, length, map, take, get_or, replicate, refl, sym, ◌∙◌, ap, arith, take_at}
 use Rattle.std.specs.Prelude.{Contains}
 use Rattle.std.proofs.lemmas.List.{take_all, length-replicate}
-use Rattle.tcc_near.specs.Bits.{is_marked}
-use Rattle.tcc_near.proofs.BitLemmas.{none_marked}
-use Rattle.tcc_near.proofs.FreshLemmas.{marks_none, mark_more}
-use Rattle.tcc_near.proofs.MarkLemmas.{each_alone}
+use Rattle.tcc_bits.specs.Bits.{is_marked}
+use Rattle.tcc_bits.proofs.BitLemmas.{none_marked}
+use Rattle.tcc_bits.proofs.MarkLemmas.{marks_none, mark_more, each_alone}
 use Rattle.tcc_derive.proofs.ClassLemmas.{ends_of, end_at, ends_long, marked_by}
 use Rattle.tcc_derive.proofs.by_class.marks_of.Goals as goal
 

@@ -1,6 +1,6 @@
 use Rattle.std.proofs.Common.{◌≡◌, ◌↔◌, ◌⊎◌, ℕ, true, length, map, take}
 use Rattle.std.specs.Prelude.{Contains}
-use Rattle.tcc_near.specs.Bits.{is_marked}
+use Rattle.tcc_bits.specs.Bits.{is_marked}
 use Rattle.tcc_derive.proofs.by_class.marks_of.Given as goal
 
 abbrev pub invariant-loop-link : goal.invariant-loop-link

@@ -3,7 +3,7 @@ use Rattle.std.specs.List.{Contains, list_any}
 use Rattle.tcc_reads.specs.History.{History}
 use Rattle.tcc_graph.specs.Keys.{readers, writers}
 use Rattle.tcc_graph.specs.Links.{MayContradict}
-use Rattle.tcc_derive.specs.Choices.{IsNearest, IsNearestReader}
+use Rattle.tcc_derive.specs.private.Choices.{IsNearest, IsNearestReader}
 use Rattle.tcc_derive.proofs.ChoiceLemmas.{readers_sorted, readers_below, reads_reader, writes_not, nearest_reader_of}
 use Rattle.tcc_derive.proofs.choices.nearest_reader.Goals.{then-b-a-via-then-b-a, then-b-a-via-else-b-a+then-not-contains}
 use Rattle.tcc_derive.proofs.choices.nearest_reader.Goals as goal

@@ -1,6 +1,6 @@
 use Rattle.std.proofs.Common.{◌≤◌, length, arith}
 use Rattle.tcc_reads.specs.History.{count}
-use Rattle.tcc_graph.specs.Levels.{Judged}
+use Rattle.tcc_graph.specs.Levels.{Judged, judged}
 use Rattle.tcc_txn.specs.declared.limits.TheConstants.{MAX_COUNT}
 use Rattle.tcc_derive.proofs.PricesLemmas.{prices_of, shaped, others_within, have_by_class}
 use Rattle.tcc_derive.proofs.TableLemmas.{all_sources, all_readers}
@@ -8,7 +8,7 @@ use Rattle.tcc_derive.proofs.derivation.derive.Goals as goal
 
 pub returns-clause-prices : goal.returns-clause-prices
 returns-clause-prices g c =
-    let j : Judged = record { history = c.args.graph.now; level = c.args.near.now.level } in
+    let j : Judged = judged c.args.graph.now c.args.near.now.level in
     rw (c.new.ensures, c.level.ensures)
     (prices_of j c.args.near.now c.in_ok-prices.prices.items c.in_ok-ends.ends.items c.in_ok-others.others.items c.cost_limit-limit.result c.requires
     c.in_ok-prices.ensures.rows
@@ -16,7 +16,7 @@ returns-clause-prices g c =
 
 pub new-requires-clause-shape : goal.new-requires-clause-shape
 new-requires-clause-shape g c =
-    let j : Judged = record { history = c.args.graph.now; level = c.args.near.now.level } in
+    let j : Judged = judged c.args.graph.now c.args.near.now.level in
     let rows = c.in_ok-prices.ensures.rows in
     let few : count c.args.graph.now ≤ MAX_COUNT = omega (arith, c.in_ok-prices.ensures.few, rows.long) in
     rw c.level.ensures
@@ -25,14 +25,14 @@ new-requires-clause-shape g c =
 
 pub cost_limit-limit-requires-clause-within : goal.cost_limit-limit-requires-clause-within
 cost_limit-limit-requires-clause-within g c =
-    let j : Judged = record { history = c.args.graph.now; level = c.args.near.now.level } in
+    let j : Judged = judged c.args.graph.now c.args.near.now.level in
     rw c.deref-7.ensures.value
     (others_within j c.args.near.now c.in_ok-prices.prices.items c.in_ok-ends.ends.items c.in_ok-others.others.items 0 c.requires c.in_ok-prices.ensures.rows
     c.in_ok-ends.ensures (rw c.deref-5.ensures.value at c.in_ok-others.ensures) (length c.args.near.now.rows) (omega (arith, c.requires.square.long)))
 
 pub by_class_rows-requires-clause-within : goal.by_class_rows-requires-clause-within
 by_class_rows-requires-clause-within g c κs inside =
-    let j : Judged = record { history = c.args.graph.now; level = c.args.near.now.level } in
+    let j : Judged = judged c.args.graph.now c.args.near.now.level in
     let rows = c.in_ok-prices.ensures.rows in
     rw c.deref-8.ensures.value
     (others_within j c.args.near.now c.in_ok-prices.prices.items c.in_ok-ends.ends.items c.in_ok-others.others.items c.cost_limit-limit.result c.requires rows
@@ -41,7 +41,7 @@ by_class_rows-requires-clause-within g c κs inside =
 
 pub new-requires-clause-by_class : goal.new-requires-clause-by_class
 new-requires-clause-by_class g c =
-    let j : Judged = record { history = c.args.graph.now; level = c.args.near.now.level } in
+    let j : Judged = judged c.args.graph.now c.args.near.now.level in
     rw c.level.ensures
     (have_by_class j c.args.near.now c.in_ok-prices.prices.items c.in_ok-ends.ends.items c.in_ok-others.others.items c.cost_limit-limit.result c.requires
     c.in_ok-prices.ensures.rows

@@ -2,10 +2,10 @@ use Rattle.std.proofs.Common.{rules, ◌≡◌, ◌<◌, ◌≤◌, ◌+◌, ◌
 use Rattle.std.specs.Prelude.{Contains}
 use Rattle.std.proofs.lemmas.Bool.{false≢true}
 use Rattle.std.proofs.lemmas.List.{length-replicate}
-use Rattle.tcc_near.specs.Bits.{is_marked}
+use Rattle.tcc_bits.specs.Bits.{is_marked}
 use Rattle.tcc_near.specs.declared.distances.TheConstants.{NONE}
-use Rattle.tcc_near.proofs.BitLemmas.{none_marked}
-use Rattle.tcc_derive.specs.Sources.{IsCovered, LowersUpTo}
+use Rattle.tcc_bits.proofs.BitLemmas.{none_marked}
+use Rattle.tcc_derive.specs.private.Sources.{IsCovered, LowersUpTo}
 use Rattle.tcc_derive.specs.declared.read.Read.{Read}
 use Rattle.tcc_derive.proofs.LevelLemmas.{upto_none, upto_next, upto_whole, covered_later}
 use Rattle.tcc_derive.proofs.SourceLemmas.{of_all}

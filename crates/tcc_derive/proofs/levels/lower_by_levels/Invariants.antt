@@ -1,7 +1,7 @@
 use Rattle.std.proofs.Common.{◌≡◌, ◌≤◌, ℕ, length, slice_index}
 use Rattle.tcc_near.specs.declared.distances.TheConstants.{NONE}
-use Rattle.tcc_near.specs.Bits.{words_for}
-use Rattle.tcc_derive.specs.Sources.{IsCovered, LowersUpTo}
+use Rattle.tcc_bits.specs.Bits.{words_for}
+use Rattle.tcc_derive.specs.private.Sources.{IsCovered, LowersUpTo}
 use Rattle.tcc_derive.proofs.levels.lower_by_levels.Given as goal
 
 abbrev pub invariant-loop-distance : goal.invariant-loop-distance

@@ -1,7 +1,7 @@
 use Rattle.std.proofs.Common.{◌≡◌, ◌<◌, ◌+◌, inl, inr, [], length, get_or, set, take, ap, arith}
 use Rattle.std.specs.Prelude.{Contains}
 use Rattle.std.proofs.lemmas.List.{take_all}
-use Rattle.tcc_near.proofs.FreshLemmas.{nothing_in, one_of_taken, still_taken, last_taken}
+use Rattle.tcc_bits.proofs.Lists.{nothing_in, one_of_taken, still_taken, last_taken}
 use Rattle.tcc_derive.proofs.LevelLemmas.{each_none, each_more}
 use Rattle.tcc_derive.proofs.levels.lower_each.Goals as goal
 

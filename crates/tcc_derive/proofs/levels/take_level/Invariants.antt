@@ -1,5 +1,5 @@
 use Rattle.std.proofs.Common.{◌≡◌, ℕ, List, length}
-use Rattle.tcc_derive.specs.Sources.{IsCovered, LowersUpTo}
+use Rattle.tcc_derive.specs.private.Sources.{IsCovered, LowersUpTo}
 use Rattle.tcc_derive.proofs.levels.take_level.Given as goal
 
 abbrev pub invariant-loop-reader : goal.invariant-loop-reader

@@ -1,5 +1,5 @@
 use Rattle.std.proofs.Common.{arith}
-use Rattle.tcc_derive.specs.Closings.{IsClosingOrNone}
+use Rattle.tcc_derive.specs.private.Closings.{IsClosingOrNone}
 use Rattle.tcc_derive.proofs.LimitLemmas.{lesser}
 use Rattle.tcc_derive.proofs.limits.cost_limit.Goals as goal
 

@@ -1,4 +1,4 @@
-use Rattle.tcc_derive.specs.Closings.{IsClosingOrNone}
+use Rattle.tcc_derive.specs.private.Closings.{IsClosingOrNone}
 use Rattle.tcc_derive.proofs.limits.cost_limit.Given as goal
 
 abbrev pub invariant-loop-block : goal.invariant-loop-block

@@ -1,6 +1,6 @@
 use Rattle.std.proofs.Common.{refl, slice_index, arith}
 use Rattle.tcc_graph.specs.Tables.{row_of}
-use Rattle.tcc_derive.specs.Closings.{IsBackOrNone}
+use Rattle.tcc_derive.specs.private.Closings.{IsBackOrNone}
 use Rattle.tcc_derive.proofs.LimitLemmas.{lesser, back_by}
 use Rattle.tcc_derive.proofs.limits.least_back.Goals as goal
 

@@ -1,4 +1,4 @@
-use Rattle.tcc_derive.specs.Closings.{IsBackOrNone}
+use Rattle.tcc_derive.specs.private.Closings.{IsBackOrNone}
 use Rattle.tcc_derive.proofs.limits.least_back.Given as goal
 
 abbrev pub invariant-loop-a : goal.invariant-loop-a

@@ -1,7 +1,7 @@
 use Rattle.std.proofs.Common.{[], ◌≡◌, ◌<◌, ◌∙◌, length, arith}
 use Rattle.std.proofs.lemmas.List.{get_or_read}
 use Rattle.tcc_graph.specs.Tables.{row_of}
-use Rattle.tcc_derive.specs.Closings.{IsClosingOrNone}
+use Rattle.tcc_derive.specs.private.Closings.{IsClosingOrNone}
 use Rattle.tcc_derive.proofs.LimitLemmas.{lesser, closing_back}
 use Rattle.tcc_derive.proofs.limits.least_from.Goals.{then-values-prices, else-values-prices}
 use Rattle.tcc_derive.proofs.limits.least_from.Goals as goal

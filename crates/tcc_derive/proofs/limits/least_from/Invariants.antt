@@ -1,4 +1,4 @@
-use Rattle.tcc_derive.specs.Closings.{IsClosingOrNone}
+use Rattle.tcc_derive.specs.private.Closings.{IsClosingOrNone}
 use Rattle.tcc_derive.proofs.limits.least_from.Given as goal
 
 abbrev pub invariant-loop-b : goal.invariant-loop-b

@@ -1,7 +1,7 @@
 use Rattle.std.proofs.Common.{[], ◌≡◌, ◌<◌, ◌∙◌, length, refl, slice_index, arith}
 use Rattle.std.proofs.lemmas.List.{get_or_read}
 use Rattle.tcc_graph.specs.Tables.{row_of}
-use Rattle.tcc_derive.specs.Closings.{IsClosingOrNone}
+use Rattle.tcc_derive.specs.private.Closings.{IsClosingOrNone}
 use Rattle.tcc_derive.proofs.LimitLemmas.{lesser, closing_alone, closing_back}
 use Rattle.tcc_derive.proofs.limits.least_of_few.Goals.{then-row-prices, else-row-prices}
 use Rattle.tcc_derive.proofs.limits.least_of_few.Goals as goal

@@ -6,7 +6,7 @@ use Rattle.tcc_txn.specs.declared.memory.NoMemory.{NoMemory}
 use Rattle.tcc_txn.proofs.Lists.{matched}
 use Rattle.tcc_graph.specs.Tables.{row_of}
 use Rattle.tcc_near.proofs.RowLemmas.{each_given, numbers_below}
-use Rattle.tcc_derive.specs.Others.{IsOtherRow}
+use Rattle.tcc_derive.specs.private.Others.{IsOtherRow}
 use Rattle.tcc_derive.proofs.others.other_rows.Goals as goal
 
 pub collect-requires-clause-ready : goal.collect-requires-clause-ready

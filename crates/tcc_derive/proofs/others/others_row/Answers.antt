@@ -1,6 +1,6 @@
 use Rattle.std.proofs.Common.{◌≡◌, ap, ◌∙◌, arith}
 use Rattle.tcc_reads.specs.History.{count}
-use Rattle.tcc_derive.specs.Others.{others_below}
+use Rattle.tcc_derive.specs.private.Others.{others_below}
 use Rattle.tcc_derive.proofs.others.others_row.Goals as goal
 
 pub returns : goal.returns

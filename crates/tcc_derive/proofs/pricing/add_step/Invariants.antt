@@ -1,5 +1,5 @@
 use Rattle.std.proofs.Common.{◌≡◌, ◌<◌, ◌≤◌, ℕ, length, slice_index}
-use Rattle.tcc_derive.specs.Lowering.{one_more}
+use Rattle.tcc_derive.specs.private.Lowering.{one_more}
 use Rattle.tcc_derive.proofs.pricing.add_step.Given as goal
 
 abbrev pub invariant-loop-cost : goal.invariant-loop-cost

@@ -1,5 +1,5 @@
 use Rattle.std.proofs.Common.{take}
-use Rattle.tcc_derive.specs.Lowering.{Lowers}
+use Rattle.tcc_derive.specs.private.Lowering.{Lowers}
 use Rattle.tcc_derive.proofs.pricing.lower.Given as goal
 
 abbrev pub invariant-loop-read : goal.invariant-loop-read

@@ -1,7 +1,7 @@
 use Rattle.std.proofs.Common.{◌+◌, ◌<◌, ◌≡◌, [], ◌∷◌, ◌++◌, length, get_or, take, flat_map, replicate, sym, ap, ◌∙◌, arith, take_at}
 use Rattle.std.proofs.lemmas.Grind.{flat_map-append}
 use Rattle.std.proofs.lemmas.List.{append-nil, get_or_default, get_or_read}
-use Rattle.tcc_derive.specs.Buckets.{bucket}
+use Rattle.tcc_derive.specs.private.Buckets.{bucket}
 use Rattle.tcc_derive.proofs.BucketLemmas.{taken}
 use Rattle.tcc_derive.proofs.LoweringLemmas.{lowers_then}
 use Rattle.tcc_derive.proofs.pricing.price_row.Goals as goal

@@ -1,6 +1,6 @@
 use Rattle.std.proofs.Common.{take, flat_map, replicate, length}
-use Rattle.tcc_derive.specs.Buckets.{bucket}
-use Rattle.tcc_derive.specs.Lowering.{Lowers}
+use Rattle.tcc_derive.specs.private.Buckets.{bucket}
+use Rattle.tcc_derive.specs.private.Lowering.{Lowers}
 use Rattle.tcc_derive.proofs.pricing.price_row.Given as goal
 use Rattle.tcc_near.specs.declared.distances.TheConstants.{NONE}
 

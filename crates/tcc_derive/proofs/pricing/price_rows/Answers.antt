@@ -1,11 +1,11 @@
 use Rattle.std.proofs.Common.{ℕ, ◌<◌, ◌≤◌, ◌≡◌, List, [], length, flat_map, subst, sym, ◌∙◌, arith}
 use Rattle.rayon.proofs.ToStd.{nat_range-All}
 use Rattle.tcc_reads.specs.History.{count}
-use Rattle.tcc_graph.specs.Levels.{Judged}
+use Rattle.tcc_graph.specs.Levels.{Judged, judged}
 use Rattle.tcc_txn.specs.declared.memory.NoMemory.{NoMemory}
-use Rattle.tcc_derive.specs.Buckets.{bucket}
-use Rattle.tcc_derive.specs.Lowering.{HaveReads, ArePricedBy}
-use Rattle.tcc_derive.specs.Sources.{HaveSources}
+use Rattle.tcc_derive.specs.private.Buckets.{bucket}
+use Rattle.tcc_derive.specs.private.Lowering.{HaveReads, ArePricedBy}
+use Rattle.tcc_derive.specs.private.Sources.{HaveSources}
 use Rattle.tcc_near.proofs.RowLemmas.{each_given, numbers_below}
 use Rattle.tcc_derive.proofs.PriceLemmas.{price_row_of}
 use Rattle.tcc_derive.proofs.TableLemmas.{have_reads}
@@ -39,7 +39,7 @@ pub returns : goal.returns
 returns g c =
     let h = c.args.graph.now in
     let near = c.args.near.now in
-    let j : Judged = record { history = h; level = near.level } in
+    let j : Judged = judged h near.level in
     let reads = c.args.reads.now in
     let written = c.args.written.now in
     let n = c.count.result in

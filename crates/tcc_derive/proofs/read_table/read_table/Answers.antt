@@ -1,7 +1,7 @@
 use Rattle.std.proofs.Common.{rules, ◌≡◌, [], ◌∷◌, ◌++◌, length, length-append, arith}
 use Rattle.tcc_graph.specs.Keys.{keys}
 use Rattle.tcc_near.proofs.RowLemmas.{each_pushed}
-use Rattle.tcc_derive.specs.KeyTables.{AreReadsAt}
+use Rattle.tcc_derive.specs.private.KeyTables.{AreReadsAt}
 use Rattle.tcc_derive.proofs.read_table.read_table.Goals as goal
 
 pub loop-place-preserved : goal.loop-place-preserved

@@ -1,5 +1,5 @@
 use Rattle.std.proofs.Common.{◌≡◌, ◌<◌, ℕ, List, length, get_or}
-use Rattle.tcc_derive.specs.KeyTables.{AreReadsAt}
+use Rattle.tcc_derive.specs.private.KeyTables.{AreReadsAt}
 use Rattle.tcc_derive.specs.declared.read.Read.{Read}
 use Rattle.tcc_derive.proofs.read_table.read_table.Given as goal
 

@@ -1,5 +1,5 @@
 use Rattle.std.proofs.Common.{take}
-use Rattle.tcc_derive.specs.Sources.{AreByReader}
+use Rattle.tcc_derive.specs.private.Sources.{AreByReader}
 use Rattle.tcc_derive.proofs.sources.by_reader.Given as goal
 
 abbrev pub invariant-loop-read : goal.invariant-loop-read

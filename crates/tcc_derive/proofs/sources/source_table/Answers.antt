@@ -1,8 +1,8 @@
 use Rattle.std.proofs.Common.{rules, ◌≡◌, ◌<◌, ◌+◌, ◌⊎◌, inl, inr, ℕ, List, [], ◌∷◌, ◌++◌, length, length-append, get_or, ◌∙◌, ap, arith}
 use Rattle.std.proofs.lemmas.List.{get_or_read}
 use Rattle.tcc_near.proofs.RowLemmas.{each_pushed}
-use Rattle.tcc_derive.specs.Buckets.{bucket}
-use Rattle.tcc_derive.specs.Sources.{AreSources}
+use Rattle.tcc_derive.specs.private.Buckets.{bucket}
+use Rattle.tcc_derive.specs.private.Sources.{AreSources}
 use Rattle.tcc_derive.proofs.sources.source_table.Goals as goal
 
 pub loop-bucket-preserved : goal.loop-bucket-preserved

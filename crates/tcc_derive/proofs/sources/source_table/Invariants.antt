@@ -1,6 +1,6 @@
 use Rattle.std.proofs.Common.{◌≡◌, ◌<◌, ◌⊎◌, ℕ, List, length, get_or}
-use Rattle.tcc_derive.specs.Buckets.{bucket}
-use Rattle.tcc_derive.specs.Sources.{AreSources}
+use Rattle.tcc_derive.specs.private.Buckets.{bucket}
+use Rattle.tcc_derive.specs.private.Sources.{AreSources}
 use Rattle.tcc_derive.proofs.sources.source_table.Given as goal
 
 abbrev pub invariant-loop-bucket : goal.invariant-loop-bucket

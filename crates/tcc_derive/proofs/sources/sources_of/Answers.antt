@@ -1,7 +1,7 @@
 use Rattle.std.proofs.Common.{rules, ◌≡◌, ◌<◌, ◌+◌, ℕ, List, [], ◌∷◌, ◌++◌, length, length-append, get_or, ◌∙◌, ap, arith}
 use Rattle.std.proofs.lemmas.List.{get_or_read}
 use Rattle.tcc_near.proofs.RowLemmas.{each_pushed}
-use Rattle.tcc_derive.specs.Buckets.{bucket}
+use Rattle.tcc_derive.specs.private.Buckets.{bucket}
 use Rattle.tcc_derive.proofs.SourceLemmas.{IsRowFor, by_reader_below, sources_from}
 use Rattle.tcc_derive.proofs.sources.sources_of.Goals as goal
 

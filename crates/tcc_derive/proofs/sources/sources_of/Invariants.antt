@@ -1,5 +1,5 @@
 use Rattle.std.proofs.Common.{◌≡◌, ◌<◌, ℕ, List, length, get_or}
-use Rattle.tcc_derive.specs.Buckets.{bucket}
+use Rattle.tcc_derive.specs.private.Buckets.{bucket}
 use Rattle.tcc_derive.proofs.SourceLemmas.{IsRowFor}
 use Rattle.tcc_derive.proofs.sources.sources_of.Given as goal
 

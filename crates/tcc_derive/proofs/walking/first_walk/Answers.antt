@@ -1,7 +1,7 @@
 use Rattle.std.proofs.Common.{ℕ, ◌+◌, ◌-◌, ◌<◌, ◌≤◌, ◌≡◌, [], ◌∷◌, length, length-append, get_or, sym, subst, arith}
 use Rattle.tcc_graph.specs.Walks.{step_from}
-use Rattle.tcc_graph.specs.Levels.{Judged}
-use Rattle.tcc_derive.specs.Backwards.{IsLeft, IsTakenBack}
+use Rattle.tcc_graph.specs.Levels.{Judged, judged}
+use Rattle.tcc_derive.specs.private.LeadingBack.{IsLeft, IsTakenBack}
 use Rattle.tcc_derive.proofs.BackLemmas.{never_stuck, taken_more, left_of, at_end, walk_of}
 use Rattle.tcc_graph.proofs.Pairs.{step_below}
 use Rattle.tcc_derive.proofs.walking.first_walk.Goals as goal
@@ -11,7 +11,7 @@ use Rattle.tcc_graph.specs.Tables.{row_of}
 pub unreachable-requires : goal.unreachable-requires
 unreachable-requires c =
     let near = c.args.near.now in
-    let j : Judged = record { history = c.args.graph.now; level = near.level } in
+    let j : Judged = judged c.args.graph.now near.level in
     let b = c.args.b in
     let total = get_or (row_of near.rows b) c.args.c 0 in
     let done = c.loop-done.done in
@@ -24,7 +24,7 @@ unreachable-requires c =
 pub loop-done-preserved : goal.loop-done-preserved
 loop-done-preserved c =
     let near = c.args.near.now in
-    let j : Judged = record { history = c.args.graph.now; level = near.level } in
+    let j : Judged = judged c.args.graph.now near.level in
     let b = c.args.b in
     let total = get_or (row_of near.rows b) c.args.c 0 in
     let done = c.loop-done.done in
@@ -49,7 +49,7 @@ loop-done-preserved c =
 pub returns : goal.returns
 returns c =
     let near = c.args.near.now in
-    let j : Judged = record { history = c.args.graph.now; level = near.level } in
+    let j : Judged = judged c.args.graph.now near.level in
     let b = c.args.b in
     let total = get_or (row_of near.rows b) c.args.c 0 in
     let inv = rw c.row-steps.ensures.value at c.loop-done.invariant in

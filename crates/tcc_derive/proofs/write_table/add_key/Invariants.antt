@@ -1,6 +1,6 @@
 use Rattle.std.proofs.Common.{take}
 use Rattle.std.specs.List.{Contains}
-use Rattle.tcc_derive.specs.Buckets.{Puts}
+use Rattle.tcc_derive.specs.private.Buckets.{Puts}
 use Rattle.tcc_derive.proofs.write_table.add_key.Given as goal
 
 abbrev pub invariant-loop-writer : goal.invariant-loop-writer

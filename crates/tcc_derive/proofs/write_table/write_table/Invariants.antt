@@ -1,4 +1,4 @@
-use Rattle.tcc_derive.specs.KeyTables.{HasWrites}
+use Rattle.tcc_derive.specs.private.KeyTables.{HasWrites}
 use Rattle.tcc_derive.proofs.write_table.write_table.Given as goal
 
 abbrev pub invariant-loop-place : goal.invariant-loop-place

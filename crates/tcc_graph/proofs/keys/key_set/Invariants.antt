@@ -1,6 +1,6 @@
 use Rattle.std.proofs.Common.{◌≡◌, take}
 use Rattle.tcc_graph.specs.Keys.{keys}
-use Rattle.tcc_graph.specs.ReadTables.{over}
+use Rattle.tcc_graph.specs.private.ReadTables.{over}
 use Rattle.tcc_graph.proofs.keys.key_set.Given as goal
 
 abbrev pub invariant-loop-transaction : goal.invariant-loop-transaction

@@ -1,5 +1,5 @@
 use Rattle.std.proofs.Common.{take}
-use Rattle.tcc_graph.specs.ReadTables.{ArePlaced}
+use Rattle.tcc_graph.specs.private.ReadTables.{ArePlaced}
 use Rattle.tcc_graph.proofs.placed.placed_by.Given as goal
 
 abbrev pub invariant-loop-transaction : goal.invariant-loop-transaction

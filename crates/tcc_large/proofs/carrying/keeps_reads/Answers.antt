@@ -1,7 +1,7 @@
 use Rattle.std.proofs.Common.{◌≡◌, [], get_or, arith}
 use Rattle.std.proofs.lemmas.List.{get_or_read}
 use Rattle.tcc_graph.specs.Relations.{IsReadsPair}
-use Rattle.tcc_large.specs.Carrying.{carry}
+use Rattle.tcc_large.specs.private.Carrying.{carry}
 use Rattle.tcc_large.proofs.Carried.{kept_all, kept_more}
 use Rattle.tcc_large.proofs.carrying.keeps_reads.Goals as goal
 

@@ -1,14 +1,14 @@
 use Rattle.std.proofs.Common.{ℕ, ◌≡◌, ◌-◌, List, drop, slice_index, sym, ap, subst, ◌∙◌, arith}
-use Rattle.tcc_graph.specs.Levels.{Judged}
+use Rattle.tcc_graph.specs.Levels.{Judged, judged}
 use Rattle.tcc_graph.specs.declared.link.Link.{Link}
 use Rattle.tcc_large.specs.Cycles.{AreCycle}
-use Rattle.tcc_large.specs.Ranked.{IsOnward}
+use Rattle.tcc_large.specs.private.Ranked.{IsOnward}
 use Rattle.tcc_large.proofs.Ranks.{trail_circle, trail_more, trail_room}
 use Rattle.tcc_large.proofs.following.follow.Goals as goal
 
 pub returns-then-before-gt0 : goal.returns-then-before-gt0
 returns-then-before-gt0 c =
-    let j : Judged = record { history = c.args.graph.now; level = c.args.level } in
+    let j : Judged = judged c.args.graph.now c.args.level in
     let l = c.loop-place in
     let tail : c.in_ok-split_off.field-0.items ≡ drop (slice_index l.places l.at - 1) l.trail.items
     = c.in_ok-split_off.ensures.tail ∙ ap (λ (z : ℕ). drop (z - 1) l.trail.items) c.get-before.ensures in
@@ -17,7 +17,7 @@ returns-then-before-gt0 c =
 
 pub loop-place-preserved : goal.loop-place-preserved
 loop-place-preserved c =
-    let j : Judged = record { history = c.args.graph.now; level = c.args.level } in
+    let j : Judged = judged c.args.graph.now c.args.level in
     let l = c.loop-place in
     let on : IsOnward j c.args.ranks.now l.at c.in-Some.link = rw c.in-Some.is at c.in_ok-link.ensures in
     let new : slice_index l.places l.at ≡ 0 = omega (arith, c.get-before.ensures, c.if-before-gt0.false) in
@@ -26,7 +26,7 @@ loop-place-preserved c =
 
 pub unreachable-requires : goal.unreachable-requires
 unreachable-requires c =
-    let j : Judged = record { history = c.args.graph.now; level = c.args.level } in
+    let j : Judged = judged c.args.graph.now c.args.level in
     let l = c.loop-place in
     omega (
       arith,

@@ -1,5 +1,5 @@
 use Rattle.std.proofs.Common.{ℕ, subst, arith}
-use Rattle.tcc_large.specs.Ranked.{AreReadsPast}
+use Rattle.tcc_large.specs.private.Ranked.{AreReadsPast}
 use Rattle.tcc_large.proofs.OnwardLemmas.{from_more, walks_past}
 use Rattle.tcc_large.proofs.onward.derived_by_walk.Goals as goal
 

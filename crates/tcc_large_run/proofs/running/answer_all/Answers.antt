@@ -2,7 +2,7 @@
 use Rattle.std.proofs.Common.{subst, Ok}
 use Rattle.tcc_rows.specs.Recordings.{TakesLargeMoment}
 use Rattle.tcc_large_run.specs.LargeRuns.{records_of}
-use Rattle.tcc_large_run.specs.Stages.{AllAnswered, EndsEarly}
+use Rattle.tcc_large_run.specs.private.Stages.{AllAnswered, EndsEarly}
 use Rattle.tcc_large_run.proofs.Runs.{all-finished, answered-seal, ended-end, ended-seal, stopped, wants_memory}
 use Rattle.tcc_large_run.proofs.Sent.{ended_by}
 use Rattle.tcc_large_run.proofs.running.answer_all.Goals as goal

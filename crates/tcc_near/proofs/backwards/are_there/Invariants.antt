@@ -1,5 +1,5 @@
 use Rattle.std.proofs.Common.{◌<◌, ℕ, slice_index}
-use Rattle.tcc_near.specs.Backwards.{IsThere}
+use Rattle.tcc_near.specs.private.Backwards.{IsThere}
 use Rattle.tcc_near.proofs.backwards.are_there.Given as goal
 
 abbrev pub invariant-loop-number : goal.invariant-loop-number

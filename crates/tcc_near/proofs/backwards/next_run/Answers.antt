@@ -1,6 +1,6 @@
 use Rattle.std.proofs.Common.{rules, ◌≡◌, ◌∙◌, length, sym, take_at, arith}
 use Rattle.tcc_graph.specs.Relations.{IsSessionPair}
-use Rattle.tcc_near.specs.Backwards.{IsLowered}
+use Rattle.tcc_near.specs.private.Backwards.{IsLowered}
 use Rattle.tcc_near.proofs.LeastFrom.{least_more}
 use Rattle.tcc_near.proofs.backwards.next_run.Goals as goal
 

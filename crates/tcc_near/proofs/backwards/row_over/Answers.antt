@@ -1,7 +1,7 @@
 use Rattle.std.proofs.Common.{rules, ◌≡◌, ◌<◌, ◌+◌, ◌∙◌, ℕ, length, slice_index, sym, take_at, arith}
 use Rattle.std.specs.Prelude.{min}
 use Rattle.tcc_reads.specs.History.{count}
-use Rattle.tcc_near.specs.Backwards.{IsLeastFrom, IsNextOrOne}
+use Rattle.tcc_near.specs.private.Backwards.{IsLeastFrom, IsNextOrOne}
 use Rattle.tcc_near.specs.declared.distances.TheConstants.{NONE}
 use Rattle.tcc_near.proofs.LeastFrom.{distances_over}
 use Rattle.tcc_near.proofs.backwards.row_over.Goals as goal

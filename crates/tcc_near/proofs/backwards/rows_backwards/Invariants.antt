@@ -2,8 +2,8 @@ use Rattle.std.proofs.Common.{◌<◌, ℕ}
 use Rattle.tcc_reads.specs.History.{count}
 use Rattle.tcc_graph.specs.Levels.{causally}
 use Rattle.tcc_graph.specs.Tables.{row_of}
-use Rattle.tcc_near.specs.Breadth.{HasDistances}
-use Rattle.tcc_near.specs.Backwards.{AreKnown}
+use Rattle.tcc_near.specs.private.Breadth.{HasDistances}
+use Rattle.tcc_near.specs.private.Backwards.{AreKnown}
 use Rattle.tcc_near.proofs.backwards.rows_backwards.Given as goal
 
 abbrev pub invariant-loop-source : goal.invariant-loop-source

@@ -3,8 +3,8 @@ use Rattle.std.proofs.lemmas.List.{get_or_default}
 use Rattle.tcc_reads.specs.History.{count}
 use Rattle.tcc_graph.specs.Relations.{IsSessionPair}
 use Rattle.tcc_graph.specs.Levels.{causally}
-use Rattle.tcc_near.specs.Breadth.{HasDistances}
-use Rattle.tcc_near.specs.Backwards.{IsLeastFrom, IsFromOn}
+use Rattle.tcc_near.specs.private.Breadth.{HasDistances}
+use Rattle.tcc_near.specs.private.Backwards.{IsLeastFrom, IsFromOn}
 use Rattle.tcc_near.proofs.LeastFrom.{known_more, heads_more, least_same, before_pairs}
 use Rattle.tcc_near.proofs.backwards.rows_of_sessions.Goals as goal
 

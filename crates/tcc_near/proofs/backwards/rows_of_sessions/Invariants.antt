@@ -1,4 +1,4 @@
-use Rattle.tcc_near.specs.Backwards.{AreKnown, AreHeads}
+use Rattle.tcc_near.specs.private.Backwards.{AreKnown, AreHeads}
 use Rattle.tcc_near.proofs.backwards.rows_of_sessions.Given as goal
 
 abbrev pub invariant-loop : goal.invariant-loop

@@ -3,7 +3,7 @@ use Rattle.std.proofs.lemmas.List.{get_or_read, take_all}
 use Rattle.tcc_reads.specs.History.{count}
 use Rattle.tcc_graph.specs.Relations.{IsSessionPair}
 use Rattle.tcc_graph.specs.Tables.{row_of}
-use Rattle.tcc_near.specs.Backwards.{IsNextOrOne, IsThere, IsLowered}
+use Rattle.tcc_near.specs.private.Backwards.{IsNextOrOne, IsThere, IsLowered}
 use Rattle.tcc_near.proofs.LeastFrom.{least_same, least_more, next_none, next_more, known_there}
 use Rattle.tcc_near.proofs.backwards.take_in_each.Goals as goal
 

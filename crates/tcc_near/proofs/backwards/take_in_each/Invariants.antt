@@ -1,5 +1,5 @@
 use Rattle.std.proofs.Common.{take}
-use Rattle.tcc_near.specs.Backwards.{IsLeastFrom, IsNextOrOne}
+use Rattle.tcc_near.specs.private.Backwards.{IsLeastFrom, IsNextOrOne}
 use Rattle.tcc_near.proofs.backwards.take_in_each.Given as goal
 
 abbrev pub invariant-loop-number : goal.invariant-loop-number

@@ -2,8 +2,8 @@ use Rattle.std.proofs.Common.{rules, ◌≡◌, ◌↔◌, ◌⊎◌, ℕ, true,
 use Rattle.std.proofs.lemmas.List.{get_or-replicate, length-replicate}
 use Rattle.tcc_reads.specs.History.{count}
 use Rattle.tcc_graph.specs.Relations.{causal_pair}
-use Rattle.tcc_near.specs.Bits.{is_marked, words_for}
-use Rattle.tcc_near.proofs.BitLemmas.{none_marked}
+use Rattle.tcc_bits.specs.Bits.{is_marked, words_for}
+use Rattle.tcc_bits.proofs.BitLemmas.{none_marked}
 use Rattle.tcc_near.proofs.BreadthLemmas.{marked_at_start}
 use Rattle.tcc_near.proofs.MarkLemmas.{pairs_alone, pairs_inside, suffixes_none}
 use Rattle.tcc_near.proofs.pairs.first_marks.Goals as goal

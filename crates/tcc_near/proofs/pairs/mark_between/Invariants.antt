@@ -1,5 +1,5 @@
 use Rattle.std.proofs.Common.{◌≡◌, ◌≤◌, length}
-use Rattle.tcc_near.proofs.MarkLemmas.{AddsBetween}
+use Rattle.tcc_bits.proofs.MarkLemmas.{AddsBetween}
 use Rattle.tcc_near.proofs.pairs.mark_between.Given as goal
 
 abbrev pub invariant-loop-number : goal.invariant-loop-number

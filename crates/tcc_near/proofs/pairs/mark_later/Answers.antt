@@ -1,6 +1,7 @@
 use Rattle.std.proofs.Common.{◌≡◌, ◌≤◌, ◌<◌, ◌-◌, ℕ, true, min, length-set, slice_index, refl, arith}
-use Rattle.tcc_near.specs.Bits.{is_marked}
-use Rattle.tcc_near.proofs.MarkLemmas.{AddsBetween, between_known, between_marked, suffixes_set}
+use Rattle.tcc_bits.specs.Bits.{is_marked}
+use Rattle.tcc_bits.proofs.MarkLemmas.{AddsBetween, between_known, between_marked}
+use Rattle.tcc_near.proofs.MarkLemmas.{suffixes_set}
 use Rattle.tcc_near.proofs.pairs.mark_later.Goals as goal
 
 pub returns-then-first-known : goal.returns-then-first-known

@@ -2,9 +2,10 @@ use Rattle.std.proofs.Common.{rules, ◌≡◌, ◌<◌, ◌≤◌, ◌+◌, ◌
 use Rattle.std.proofs.lemmas.List.{length-replicate}
 use Rattle.std.specs.List.{Contains}
 use Rattle.tcc_reads.specs.History.{count}
-use Rattle.tcc_near.specs.Bits.{is_marked, words_for, IsFresh}
-use Rattle.tcc_near.proofs.BitLemmas.{none_marked}
-use Rattle.tcc_near.proofs.MarkLemmas.{readings_fit, pairs_apart, between_alone, each_alone}
+use Rattle.tcc_bits.specs.Bits.{is_marked, words_for, IsFresh}
+use Rattle.tcc_bits.proofs.BitLemmas.{none_marked}
+use Rattle.tcc_near.proofs.MarkLemmas.{readings_fit, pairs_apart}
+use Rattle.tcc_bits.proofs.MarkLemmas.{between_alone, each_alone}
 use Rattle.tcc_near.proofs.pairs.other_readers.Goals as goal
 
 pub mark_between-requires-clause-wide : goal.mark_between-requires-clause-wide

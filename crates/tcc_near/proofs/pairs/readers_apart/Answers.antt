@@ -1,5 +1,5 @@
 use Rattle.std.proofs.Common.{rules, ◌≡◌, ℕ, [], ◌∷◌, ◌++◌, length, length-append, slice_index, ◌∙◌, arith}
-use Rattle.tcc_near.specs.Breadth.{IsPairsFrom}
+use Rattle.tcc_near.specs.private.Breadth.{IsPairsFrom}
 use Rattle.tcc_near.proofs.RowLemmas.{each_pushed}
 use Rattle.tcc_near.proofs.pairs.readers_apart.Goals as goal
 

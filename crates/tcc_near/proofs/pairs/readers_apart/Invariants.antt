@@ -1,5 +1,5 @@
 use Rattle.std.proofs.Common.{◌≡◌, ◌<◌, ℕ, List, length, get_or, slice_index}
-use Rattle.tcc_near.specs.Breadth.{IsPairsFrom}
+use Rattle.tcc_near.specs.private.Breadth.{IsPairsFrom}
 use Rattle.tcc_near.proofs.pairs.readers_apart.Given as goal
 
 abbrev pub invariant-loop-from : goal.invariant-loop-from

@@ -1,5 +1,5 @@
 use Rattle.std.proofs.Common.{[], ◌∷◌, length-append, arith}
-use Rattle.tcc_near.specs.Breadth.{IsSessionEnd}
+use Rattle.tcc_near.specs.private.Breadth.{IsSessionEnd}
 use Rattle.tcc_near.proofs.RowLemmas.{each_pushed}
 use Rattle.tcc_near.proofs.pairs.session_ends.Goals as goal
 

@@ -1,5 +1,5 @@
 use Rattle.std.proofs.Common.{◌≡◌, ◌<◌, ℕ, length, get_or}
-use Rattle.tcc_near.specs.Breadth.{IsSessionEnd}
+use Rattle.tcc_near.specs.private.Breadth.{IsSessionEnd}
 use Rattle.tcc_near.proofs.pairs.session_ends.Given as goal
 
 abbrev pub invariant-loop-from : goal.invariant-loop-from

@@ -1,6 +1,6 @@
 use Rattle.std.proofs.Common.{◌≡◌, ◌∙◌, [], inl, slice_index, arith}
 use Rattle.std.proofs.lemmas.List.{get_or_read}
-use Rattle.tcc_near.specs.Breadth.{marks_of, IsPairsFrom, IsSessionEnd}
+use Rattle.tcc_near.specs.private.Breadth.{marks_of, IsPairsFrom, IsSessionEnd}
 use Rattle.tcc_near.proofs.MarkLemmas.{readers_fit, pairs_taken, suffixes_kept}
 use Rattle.tcc_near.proofs.pairs.take_in.Goals as goal
 

@@ -2,9 +2,9 @@ use Rattle.std.proofs.Common.{rules, ◌≡◌, ◌≢◌, ◌<◌, ◌+◌, ◌
 use Rattle.std.proofs.lemmas.List.{get_or-replicate, length-replicate}
 use Rattle.std.specs.List.{Contains}
 use Rattle.tcc_reads.specs.History.{count}
-use Rattle.tcc_near.specs.Bits.{is_marked, IsFresh}
-use Rattle.tcc_near.specs.Breadth.{IsSearched, IsLedTo, unnumbered}
-use Rattle.tcc_near.proofs.BitLemmas.{none_marked}
+use Rattle.tcc_bits.specs.Bits.{is_marked, IsFresh}
+use Rattle.tcc_near.specs.private.Breadth.{IsSearched, IsLedTo, unnumbered}
+use Rattle.tcc_bits.proofs.BitLemmas.{none_marked}
 use Rattle.tcc_near.proofs.BreadthLemmas.{searched_at_start, unnumbered_at_start, searched_more, marked_more, row_at_end, row_full, all_numbered, known}
 use Rattle.tcc_near.proofs.FreshLemmas.{fresh_new, none_fresh, numbered_so, seen_so, fresh_at, led_row}
 use Rattle.tcc_near.proofs.search.distances_from.Goals as goal

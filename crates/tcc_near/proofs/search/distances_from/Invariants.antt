@@ -1,7 +1,6 @@
 use Rattle.std.proofs.Common.{◌≡◌, ◌≤◌, ◌+◌, length}
 use Rattle.tcc_reads.specs.History.{count}
-use Rattle.tcc_near.specs.Bits.{IsRowOf}
-use Rattle.tcc_near.specs.Breadth.{IsSearched, IsMarked, IsSeen, AreSuffixes, unnumbered}
+use Rattle.tcc_near.specs.private.Breadth.{IsRowOf, IsSearched, IsMarked, IsSeen, AreSuffixes, unnumbered}
 use Rattle.tcc_near.proofs.search.distances_from.Given as goal
 
 abbrev pub invariant-loop-before : goal.invariant-loop-before

@@ -3,7 +3,7 @@ use Rattle.rayon.proofs.ToStd.{nat_range-All}
 use Rattle.std.specs.declared.alloc.AllocError.{AllocError}
 use Rattle.tcc_reads.specs.History.{count}
 use Rattle.tcc_graph.specs.Levels.{atomically}
-use Rattle.tcc_near.specs.Breadth.{ArePairs, HasDistances}
+use Rattle.tcc_near.specs.private.Breadth.{ArePairs, HasDistances}
 use Rattle.tcc_near.proofs.RowLemmas.{each_given, numbers_below}
 use Rattle.tcc_near.proofs.search.rows_of_steps.Goals as goal
 use Rattle.tcc_txn.specs.declared.limits.TheConstants.{MAX_COUNT}

@@ -1,7 +1,7 @@
 use Rattle.std.proofs.Common.{◌≡◌, ◌↔◌, ℕ, true, length, take}
 use Rattle.std.specs.Prelude.{Contains}
-use Rattle.tcc_near.specs.Bits.{is_marked}
-use Rattle.tcc_near.specs.Breadth.{AreSuffixes, IsLedTo}
+use Rattle.tcc_bits.specs.Bits.{is_marked}
+use Rattle.tcc_near.specs.private.Breadth.{AreSuffixes, IsLedTo}
 use Rattle.tcc_near.proofs.search.spread.Given as goal
 
 abbrev pub invariant-loop-place : goal.invariant-loop-place

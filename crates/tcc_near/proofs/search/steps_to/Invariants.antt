@@ -1,6 +1,6 @@
 use Rattle.std.proofs.Common.{◌≡◌, ◌<◌, ℕ, length, slice_index}
-use Rattle.tcc_near.specs.Bits.{is_marked}
-use Rattle.tcc_near.specs.Breadth.{one_step}
+use Rattle.tcc_bits.specs.Bits.{is_marked}
+use Rattle.tcc_near.specs.private.Breadth.{one_step}
 use Rattle.tcc_near.proofs.search.steps_to.Given as goal
 
 abbrev pub invariant-loop-place : goal.invariant-loop-place

@@ -3,7 +3,7 @@ use Rattle.std.specs.Prelude.{max}
 use Rattle.std.proofs.lemmas.List.{get_or_read}
 use Rattle.tcc_reads.specs.History.{count}
 use Rattle.tcc_graph.specs.Tables.{row_of}
-use Rattle.tcc_order.specs.Lasts.{raised}
+use Rattle.tcc_order.specs.private.Lasts.{raised}
 use Rattle.tcc_order.proofs.LastLemmas.{lasts_more}
 use Rattle.tcc_order.proofs.clocking.clock_row.Goals as goal
 

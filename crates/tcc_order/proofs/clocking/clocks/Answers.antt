@@ -3,8 +3,8 @@ use Rattle.std.proofs.lemmas.List.{take_all}
 use Rattle.std.specs.Prelude.{Contains}
 use Rattle.tcc_reads.specs.History.{count}
 use Rattle.tcc_graph.proofs.Numberings.{below_in}
-use Rattle.tcc_order.specs.Parents.{parents}
-use Rattle.tcc_order.specs.Lasts.{AreLastsOf, IsBefore, IsUpTo}
+use Rattle.tcc_order.specs.private.Parents.{parents}
+use Rattle.tcc_order.specs.private.Lasts.{AreLastsOf, IsBefore, IsUpTo}
 use Rattle.tcc_order.proofs.LastLemmas.{all_below, all_done, lasts_same, up_to_parents, table_more, table_whole}
 use Rattle.tcc_order.proofs.clocking.clocks.Goals as goal
 

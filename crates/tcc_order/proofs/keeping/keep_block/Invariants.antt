@@ -1,5 +1,5 @@
 use Rattle.std.proofs.Common.{◌≡◌, length}
-use Rattle.tcc_order.specs.Latest.{AreDerived, AreEnough, Overwrites}
+use Rattle.tcc_order.specs.private.Latest.{AreDerived, AreEnough, Overwrites}
 use Rattle.tcc_order.specs.declared.latest.TheConstants.{WIDE}
 use Rattle.tcc_order.proofs.Needing.{IsUpTo}
 use Rattle.tcc_order.proofs.keeping.keep_block.Given as goal

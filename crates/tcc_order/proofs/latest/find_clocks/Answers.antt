@@ -3,9 +3,9 @@ use Rattle.std.proofs.lemmas.List.{take_all, get_or_read}
 use Rattle.std.specs.Prelude.{Contains}
 use Rattle.tcc_reads.specs.History.{count}
 use Rattle.tcc_graph.proofs.Numberings.{below_in}
-use Rattle.tcc_order.specs.Parents.{parents}
-use Rattle.tcc_order.specs.Lasts.{IsUpTo}
-use Rattle.tcc_order.specs.Latest.{AreLatestOf}
+use Rattle.tcc_order.specs.private.Parents.{parents}
+use Rattle.tcc_order.specs.private.Lasts.{IsUpTo}
+use Rattle.tcc_order.specs.private.Latest.{AreLatestOf}
 use Rattle.tcc_order.proofs.LatestLemmas.{all_below, all_done, row_done, table_more, table_whole}
 use Rattle.tcc_order.proofs.latest.find_clocks.Goals as goal
 

@@ -1,6 +1,6 @@
 use Rattle.std.proofs.Common.{take}
 use Rattle.std.specs.Prelude.{Contains}
-use Rattle.tcc_order.specs.Latest.{HasLatest}
+use Rattle.tcc_order.specs.private.Latest.{HasLatest}
 use Rattle.tcc_order.proofs.latest.find_clocks.Given as goal
 
 abbrev pub invariant-loop-place : goal.invariant-loop-place

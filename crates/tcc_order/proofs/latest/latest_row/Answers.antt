@@ -1,12 +1,12 @@
 use Rattle.std.proofs.Common.{◌≡◌, ◌<◌, ℕ, [], length, get_or, replicate, slice_index, refl, arith}
 use Rattle.std.specs.Prelude.{max, Contains}
 use Rattle.std.proofs.lemmas.List.{get_or-replicate, length-replicate}
-use Rattle.tcc_near.proofs.FreshLemmas.{nothing_in}
-use Rattle.tcc_order.specs.Lasts.{IsUpTo}
+use Rattle.tcc_bits.proofs.Lists.{nothing_in}
+use Rattle.tcc_order.specs.private.Lasts.{IsUpTo}
 use Rattle.tcc_order.specs.declared.latest.TheConstants.{WIDE}
 use Rattle.tcc_reads.specs.History.{count}
 use Rattle.tcc_graph.specs.Tables.{row_of}
-use Rattle.tcc_order.specs.Latest.{lifted}
+use Rattle.tcc_order.specs.private.Latest.{lifted}
 use Rattle.tcc_order.proofs.LatestLemmas.{latest_more, latest_none}
 use Rattle.tcc_order.proofs.latest.latest_row.Goals as goal
 

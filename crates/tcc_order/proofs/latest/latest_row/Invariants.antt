@@ -1,7 +1,7 @@
 use Rattle.std.proofs.Common.{take}
 use Rattle.std.specs.Prelude.{Contains}
-use Rattle.tcc_order.specs.Lasts.{IsUpTo}
-use Rattle.tcc_order.specs.Latest.{AreLatestOf}
+use Rattle.tcc_order.specs.private.Lasts.{IsUpTo}
+use Rattle.tcc_order.specs.private.Latest.{AreLatestOf}
 use Rattle.tcc_order.proofs.latest.latest_row.Given as goal
 
 abbrev pub invariant-loop-number : goal.invariant-loop-number

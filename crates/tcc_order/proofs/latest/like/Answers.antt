@@ -1,5 +1,5 @@
 use Rattle.std.proofs.Common.{arith}
-use Rattle.tcc_order.specs.Latest.{IsLike}
+use Rattle.tcc_order.specs.private.Latest.{IsLike}
 use Rattle.tcc_order.proofs.LatestLemmas.{each_more}
 use Rattle.tcc_order.proofs.latest.like.Goals as goal
 

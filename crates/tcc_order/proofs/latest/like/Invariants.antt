@@ -1,5 +1,5 @@
 use Rattle.std.proofs.Common.{◌<◌, ℕ, slice_index}
-use Rattle.tcc_order.specs.Latest.{IsLike}
+use Rattle.tcc_order.specs.private.Latest.{IsLike}
 use Rattle.tcc_order.proofs.latest.like.Given as goal
 
 abbrev pub invariant-loop-number : goal.invariant-loop-number

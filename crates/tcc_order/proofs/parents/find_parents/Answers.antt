@@ -1,6 +1,6 @@
 use Rattle.std.proofs.Common.{rules, ◌≡◌, ◌<◌, ◌∷◌, ◌++◌, [], take, slice_index, arith, ap, sym, ◌∙◌}
 use Rattle.std.proofs.lemmas.List.{take_all}
-use Rattle.tcc_order.specs.Parents.{session_parents}
+use Rattle.tcc_order.specs.private.Parents.{session_parents}
 use Rattle.tcc_order.proofs.LatestLemmas.{sources_of_reads, sources_inside, session_some, session_none}
 use Rattle.tcc_order.proofs.parents.find_parents.Goals as goal
 use Rattle.tcc_order.proofs.parents.find_parents.Goals.{then-c-gt0+in_ok-push, else-c-gt0}

@@ -1,5 +1,5 @@
 use Rattle.std.proofs.Common.{◌≡◌, ◌<◌, ℕ, length, slice_index}
-use Rattle.tcc_order.specs.Parents.{session_parent}
+use Rattle.tcc_order.specs.private.Parents.{session_parent}
 use Rattle.tcc_order.proofs.parents.session_parents.Given as goal
 
 abbrev pub invariant-loop-c : goal.invariant-loop-c

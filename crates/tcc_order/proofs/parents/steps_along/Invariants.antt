@@ -1,4 +1,4 @@
-use Rattle.tcc_order.specs.Parents.{AreSteps}
+use Rattle.tcc_order.specs.private.Parents.{AreSteps}
 use Rattle.tcc_order.proofs.parents.steps_along.Given as goal
 
 abbrev pub invariant-loop-number : goal.invariant-loop-number

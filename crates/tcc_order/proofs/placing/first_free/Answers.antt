@@ -2,7 +2,7 @@ use Rattle.std.proofs.Common.{◌≡◌, ◌∷◌, ◌++◌, ◌∙◌, [], get
 use Rattle.std.proofs.lemmas.List.{get_or_default, length-set}
 use Rattle.tcc_reads.specs.History.{count}
 use Rattle.tcc_graph.specs.Tables.{row_of}
-use Rattle.tcc_order.specs.Held.{holds}
+use Rattle.tcc_order.specs.private.Held.{holds}
 use Rattle.tcc_order.proofs.Fronts.{holds_parts, session_fronts}
 use Rattle.tcc_order.proofs.QueuedLemmas.{free_ready, queued_popped, queued_placed, queued_parked}
 use Rattle.tcc_order.proofs.placing.first_free.Goals as goal

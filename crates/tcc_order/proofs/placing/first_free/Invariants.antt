@@ -1,6 +1,6 @@
 use Rattle.std.proofs.Common.{◌≡◌, length}
-use Rattle.tcc_order.specs.Held.{holds}
-use Rattle.tcc_order.specs.Queued.{AreQueued, IsAny}
+use Rattle.tcc_order.specs.private.Held.{holds}
+use Rattle.tcc_order.specs.private.Queued.{AreQueued, IsAny}
 use Rattle.tcc_order.proofs.placing.first_free.Given as goal
 
 abbrev pub invariant-loop-number : goal.invariant-loop-number

@@ -3,10 +3,10 @@ use Rattle.std.specs.Prelude.{Contains}
 use Rattle.std.proofs.lemmas.List.{length-replicate, get_or_read}
 use Rattle.tcc_graph.specs.Tables.{row_of}
 use Rattle.tcc_reads.specs.History.{count}
-use Rattle.tcc_near.specs.Bits.{is_marked, words_for}
-use Rattle.tcc_near.proofs.BitLemmas.{none_marked}
-use Rattle.tcc_order.specs.Held.{holds, IsFreeBy, onward}
-use Rattle.tcc_order.specs.Queued.{AreQueued, IsNot}
+use Rattle.tcc_bits.specs.Bits.{is_marked, words_for}
+use Rattle.tcc_bits.proofs.BitLemmas.{none_marked}
+use Rattle.tcc_order.specs.private.Held.{holds, IsFreeBy, onward}
+use Rattle.tcc_order.specs.private.Queued.{AreQueued, IsNot}
 use Rattle.tcc_order.proofs.Greedy.{IsNext, Picks-push, Picks-first, Picks-order}
 use Rattle.tcc_order.proofs.Circle.{short_circle}
 use Rattle.tcc_order.proofs.Fronts.{holds_below, says_more, placed_free, free_placed, session_fronts}

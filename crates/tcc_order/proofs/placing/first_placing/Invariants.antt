@@ -1,9 +1,9 @@
 use Rattle.std.proofs.Common.{◌≡◌, [], length}
 use Rattle.tcc_reads.specs.History.{count}
-use Rattle.tcc_near.specs.Bits.{words_for}
+use Rattle.tcc_bits.specs.Bits.{words_for}
 use Rattle.tcc_order.proofs.Greedy.{Picks}
-use Rattle.tcc_order.specs.Held.{holds}
-use Rattle.tcc_order.specs.Queued.{AreQueued, IsAny}
+use Rattle.tcc_order.specs.private.Held.{holds}
+use Rattle.tcc_order.specs.private.Queued.{AreQueued, IsAny}
 use Rattle.tcc_order.proofs.Fronts.{Says}
 use Rattle.tcc_order.proofs.placing.first_placing.Given as goal
 

@@ -2,8 +2,8 @@ use Rattle.std.proofs.Common.{◌≡◌, ◌<◌, ◌∙◌, ℕ, [], length, ar
 use Rattle.std.proofs.lemmas.List.{get_or_read}
 use Rattle.std.specs.Prelude.{MatchOption, Contains, slice_index}
 use Rattle.tcc_graph.specs.Tables.{row_of}
-use Rattle.tcc_near.specs.Bits.{is_marked}
-use Rattle.tcc_order.specs.Held.{holds}
+use Rattle.tcc_bits.specs.Bits.{is_marked}
+use Rattle.tcc_order.specs.private.Held.{holds}
 use Rattle.tcc_order.proofs.Fronts.{none_missing, parent_missing, source_missing, link_missing, option_same}
 use Rattle.tcc_order.proofs.placing.missing.Goals as goal
 

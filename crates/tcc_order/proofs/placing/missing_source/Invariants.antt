@@ -1,5 +1,5 @@
 use Rattle.std.proofs.Common.{◌≡◌, ◌<◌, ℕ, true, get_or}
-use Rattle.tcc_near.specs.Bits.{is_marked}
+use Rattle.tcc_bits.specs.Bits.{is_marked}
 use Rattle.tcc_order.proofs.placing.missing_source.Given as goal
 
 abbrev pub invariant-loop-read : goal.invariant-loop-read

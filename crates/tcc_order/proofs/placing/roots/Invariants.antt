@@ -1,4 +1,4 @@
-use Rattle.tcc_order.specs.Held.{AreRoots}
+use Rattle.tcc_order.specs.private.Held.{AreRoots}
 use Rattle.tcc_order.proofs.placing.roots.Given as goal
 
 abbrev pub invariant-loop-number : goal.invariant-loop-number

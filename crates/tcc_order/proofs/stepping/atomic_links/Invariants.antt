@@ -1,5 +1,5 @@
 use Rattle.std.proofs.Common.{◌<◌}
-use Rattle.tcc_order.specs.Stepping.{AreStepped}
+use Rattle.tcc_order.specs.private.Stepping.{AreStepped}
 use Rattle.tcc_order.proofs.stepping.atomic_links.Given as goal
 
 abbrev pub invariant-loop-c : goal.invariant-loop-c

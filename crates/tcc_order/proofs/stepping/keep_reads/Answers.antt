@@ -3,7 +3,7 @@ use Rattle.std.proofs.lemmas.List.{get_or_default, length-set}
 use Rattle.tcc_reads.specs.History.{count}
 use Rattle.tcc_graph.specs.Keys.{key_at}
 use Rattle.tcc_graph.specs.Tables.{row_of}
-use Rattle.tcc_order.specs.Stepping.{KeepsRead, IsReadSoFar}
+use Rattle.tcc_order.specs.private.Stepping.{KeepsRead, IsReadSoFar}
 use Rattle.tcc_order.proofs.Stepped.{begin_reads, end_reads, stepped_more, next_pair, next_split, reads_long}
 use Rattle.tcc_order.proofs.stepping.keep_reads.Goals as goal
 

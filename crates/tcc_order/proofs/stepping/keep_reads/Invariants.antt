@@ -1,5 +1,5 @@
 use Rattle.std.proofs.Common.{◌≡◌, length}
-use Rattle.tcc_order.specs.Stepping.{AreStepped, IsReadSoFar}
+use Rattle.tcc_order.specs.private.Stepping.{AreStepped, IsReadSoFar}
 use Rattle.tcc_order.proofs.stepping.keep_reads.Given as goal
 
 abbrev pub invariant-loop-read : goal.invariant-loop-read

@@ -1,6 +1,6 @@
 -- the faults so far
 use Rattle.std.proofs.Common.{◌≡◌, ◌++◌, take, flat_map}
-use Rattle.tcc_print.specs.Pieces.{later_fault}
+use Rattle.tcc_print.specs.private.Pieces.{later_fault}
 use Rattle.tcc_print.proofs.json.push_later_faults.Given as goal
 
 abbrev pub invariant-loop-fault : goal.invariant-loop-fault

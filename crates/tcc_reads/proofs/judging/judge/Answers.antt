@@ -1,7 +1,7 @@
 use Rattle.std.proofs.Common.{ℕ, ◌+◌, List, take, drop, sym, arith}
 use Rattle.std.proofs.lemmas.Grind.{common_steps}
 use Rattle.tcc_txn.specs.declared.op.Op.{Op}
-use Rattle.tcc_reads.specs.Verdicts.{writers_in}
+use Rattle.tcc_reads.specs.private.Verdicts.{writers_in}
 use Rattle.tcc_reads.proofs.Ties.{IsReadAt, read_at}
 use Rattle.tcc_reads.proofs.Tables.{own_after}
 use Rattle.tcc_reads.proofs.judging.judge.Goals as goal

@@ -1,7 +1,7 @@
 use Rattle.std.proofs.Common.{◌≡◌, ◌++◌, true, List, take, drop}
 use Rattle.std.specs.Prelude.{filter_map}
 use Rattle.tcc_reads.specs.Sites.{Site, sites_from}
-use Rattle.tcc_reads.specs.Verdicts.{writers_in, AreOwnIn, AreVisibleWrites, fault_found, source_found, faults_found, sources_found}
+use Rattle.tcc_reads.specs.private.Verdicts.{writers_in, AreOwnIn, AreVisibleWrites, fault_found, source_found, faults_found, sources_found}
 use Rattle.tcc_reads.proofs.judging.judge.Given as goal
 
 abbrev pub invariant-loop-before : goal.invariant-loop-before

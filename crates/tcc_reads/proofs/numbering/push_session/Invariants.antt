@@ -1,6 +1,6 @@
 use Rattle.std.proofs.Common.{◌≡◌, ◌≤◌, ◌+◌, ◌++◌, List, drop}
 use Rattle.tcc_reads.specs.Sites.{Stand, stands_in}
-use Rattle.tcc_reads.specs.Numbers.{numbered_from}
+use Rattle.tcc_reads.specs.private.Numbers.{numbered_from}
 use Rattle.tcc_reads.proofs.numbering.push_session.Given as goal
 
 abbrev pub invariant-loop-before : goal.invariant-loop-before

@@ -5,7 +5,7 @@ use Rattle.tcc_txn.specs.Snapshots.{parts_of}
 use Rattle.tcc_txn.specs.Transactions.{Transaction}
 use Rattle.tcc_txn.proofs.Parts.{length-parts_of}
 use Rattle.tcc_reads.specs.Sites.{stands_from}
-use Rattle.tcc_reads.specs.Numbers.{numbered_from}
+use Rattle.tcc_reads.specs.private.Numbers.{numbered_from}
 use Rattle.tcc_reads.proofs.Counting.{drop_part}
 use Rattle.tcc_reads.proofs.numbering.standings.Goals as goal
 

@@ -2,7 +2,7 @@ use Rattle.std.proofs.Common.{◌≡◌, ◌≤◌, ◌+◌, ◌++◌, drop, len
 use Rattle.tcc_txn.specs.Snapshots.{parts_of}
 use Rattle.tcc_txn.specs.declared.limits.TheConstants.{LARGE_COUNT}
 use Rattle.tcc_reads.specs.Sites.{stands_from}
-use Rattle.tcc_reads.specs.Numbers.{numbered_from}
+use Rattle.tcc_reads.specs.private.Numbers.{numbered_from}
 use Rattle.tcc_reads.proofs.numbering.standings.Given as goal
 
 abbrev pub invariant-loop-session : goal.invariant-loop-session

@@ -1,7 +1,7 @@
 use Rattle.std.proofs.Common.{◌≡◌, true, ◌∷◌, ◌++◌, drop}
 use Rattle.std.specs.Prelude.{flat_map}
 use Rattle.tcc_reads.specs.History.{initial}
-use Rattle.tcc_reads.specs.Verdicts.{writers_in, AreOwn, faults_found, entries_found}
+use Rattle.tcc_reads.specs.private.Verdicts.{writers_in, AreOwn, faults_found, entries_found}
 use Rattle.tcc_reads.proofs.resolver.examine.Given as goal
 
 abbrev pub invariant-loop-standing : goal.invariant-loop-standing

@@ -1,7 +1,7 @@
 use Rattle.std.proofs.Common.{sym, ◌∙◌, arith}
 use Rattle.tcc_txn.specs.Snapshots.{parts_of}
 use Rattle.tcc_txn.proofs.Parts.{names_of-parts_of, length-parts_of}
-use Rattle.tcc_reads.specs.Verdicts.{writers_in}
+use Rattle.tcc_reads.specs.private.Verdicts.{writers_in}
 use Rattle.tcc_reads.proofs.Findings.{findings, none_left, some_left, history_of_findings, refusal_of_findings}
 use Rattle.tcc_reads.proofs.Findings.{few_findings, stored_findings}
 use Rattle.tcc_reads.proofs.resolver.resolve_parts.Goals as goal

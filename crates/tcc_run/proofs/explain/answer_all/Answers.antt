@@ -3,7 +3,7 @@ use Rattle.std.proofs.Common.{subst, sym, Ok}
 use Rattle.tcc_rows.specs.Answers.{records_of}
 use Rattle.tcc_txn.specs.Nested.{IsNested}
 use Rattle.tcc_rows.specs.Recordings.{TakesMoment}
-use Rattle.tcc_run.specs.Stages.{AllAnswered, EndsEarly, Follows}
+use Rattle.tcc_run.specs.private.Stages.{AllAnswered, EndsEarly, Follows}
 use Rattle.tcc_run.proofs.Earlier.{follows_on}
 use Rattle.tcc_run.proofs.Runs.{answered-seal, ended-end, ended-seal, still-seal, stopped, wants_memory}
 use Rattle.tcc_run.proofs.Sent.{ended_by}

@@ -7,7 +7,7 @@ use Rattle.tcc_rows.specs.Answers.{answers_of}
 use Rattle.tcc_rows.specs.Lines.{Record}
 use Rattle.tcc_rows.specs.Reached.{IsWithin}
 use Rattle.tcc_rows.specs.Recordings.{IsRecording}
-use Rattle.tcc_run.specs.Stages.{Follows}
+use Rattle.tcc_run.specs.private.Stages.{Follows}
 use Rattle.tcc_run.proofs.Runs.{HasAnswered}
 use Rattle.tcc_run.proofs.explain.answer_all.Given as goal
 

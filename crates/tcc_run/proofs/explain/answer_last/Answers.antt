@@ -2,7 +2,7 @@ use Rattle.std.proofs.Common.{◌≢◌, ap, subst, sym, ◌∙◌}
 use Rattle.std.specs.Prelude.{IfSome}
 use Rattle.std.specs.Io.KnownBytes.{Appends}
 use Rattle.std.proofs.lemmas.Option.{IfSome_then}
-use Rattle.tcc_run.specs.Stages.{outcome_text}
+use Rattle.tcc_run.specs.private.Stages.{outcome_text}
 use Rattle.tcc_run.proofs.Sent.{ended_by, ended_saying, given_again, kept_saying}
 use Rattle.tcc_run.proofs.explain.answer_last.Goals as goal
 use Rattle.tcc_run.proofs.explain.answer_last.Goals.{then-due+in_ok-send, else-due}

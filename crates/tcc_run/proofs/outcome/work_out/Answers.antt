@@ -2,7 +2,7 @@
 use Rattle.std.proofs.Common.{subst}
 use Rattle.std.specs.Prelude.{IfSome}
 use Rattle.tcc_explain.specs.Next.{IsNextRefusal}
-use Rattle.tcc_run.specs.Stages.{IsEarlier}
+use Rattle.tcc_run.specs.private.Stages.{IsEarlier}
 use Rattle.tcc_run.proofs.Earlier.{none_missed}
 use Rattle.tcc_run.proofs.outcome.work_out.Goals as goal
 

@@ -3,7 +3,7 @@ use lib.Seq.{take-append_seam}
 use Rattle.std.specs.Prelude.{Result, IfOk}
 use Rattle.std.proofs.lemmas.List.Elements.{All-pop}
 use Rattle.tcc_txn.specs.declared.memory.NoMemory.{NoMemory}
-use Rattle.tcc_steal.specs.Working.{IsShare}
+use Rattle.tcc_steal.specs.private.Working.{IsShare}
 use Rattle.tcc_steal.specs.declared.sharing.Share.{Share}
 use Rattle.tcc_steal.proofs.gathering.gather.Goals as goal
 

@@ -1,6 +1,6 @@
 -- the shares that are left, and the places of those that were taken in
 use Rattle.std.proofs.Common.{◌≡◌, length}
-use Rattle.tcc_steal.specs.Working.{IsSeat, AreShares, AreKept}
+use Rattle.tcc_steal.specs.private.Working.{IsSeat, AreShares, AreKept}
 use Rattle.tcc_steal.proofs.gathering.gather.Given as goal
 
 abbrev pub invariant-loop-share : goal.invariant-loop-share

@@ -1,6 +1,6 @@
 -- the searches of the starts so far, and the places that are left
 use Rattle.std.proofs.Common.{◌≡◌, length}
-use Rattle.tcc_steal.specs.Working.{IsWorker, AreKept, AreSearches}
+use Rattle.tcc_steal.specs.private.Working.{IsWorker, AreKept, AreSearches}
 use Rattle.tcc_steal.proofs.gathering.search_all.Given as goal
 
 abbrev pub invariant-loop-start : goal.invariant-loop-start

@@ -1,6 +1,6 @@
 use Rattle.std.proofs.Common.{Some, refl}
 use Rattle.std.proofs.lemmas.List.Elements.{All-pop}
-use Rattle.tcc_steal.specs.Working.{IsSearched}
+use Rattle.tcc_steal.specs.private.Working.{IsSearched}
 use Rattle.tcc_steal.proofs.Places.{all_more, kept_more, last_filled}
 use Rattle.tcc_steal.proofs.Seats.{joined}
 use Rattle.tcc_steal.proofs.gathering.take_in.Goals as goal

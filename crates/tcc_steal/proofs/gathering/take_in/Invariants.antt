@@ -1,6 +1,6 @@
 -- the searches that are left, and those that have their places
 use Rattle.std.proofs.Common.{◌≡◌, All, length}
-use Rattle.tcc_steal.specs.Working.{IsSearched, AreKept}
+use Rattle.tcc_steal.specs.private.Working.{IsSearched, AreKept}
 use Rattle.tcc_steal.proofs.gathering.take_in.Given as goal
 
 abbrev pub invariant-loop-searched : goal.invariant-loop-searched

@@ -3,7 +3,7 @@ use Rattle.std.proofs.lemmas.List.Elements.{All-push}
 use Rattle.std.specs.declared.alloc.Global.{Global}
 use Rattle.atomic_blocks.specs.Lent.{RowsId}
 use Rattle.crossbeam_deque.specs.Handles.{IsPassOf, worker_deque}
-use Rattle.tcc_steal.specs.Working.{IsSeat, IsJob}
+use Rattle.tcc_steal.specs.private.Working.{IsSeat, IsJob}
 use Rattle.tcc_steal.specs.declared.sharing.Job.{Job}
 use Rattle.tcc_steal.specs.declared.taken.Taken.{Taken}
 use Rattle.tcc_steal.proofs.Seats.{split}

@@ -1,8 +1,8 @@
 -- the jobs so far
 use Rattle.std.proofs.Common.{◌≡◌, length}
 use Rattle.crossbeam_deque.specs.Handles.{worker_deque, worker_flavor, worker_view}
-use Rattle.tcc_steal.specs.Dealing.{IsTaker}
-use Rattle.tcc_steal.specs.Working.{AreJobs}
+use Rattle.tcc_steal.specs.private.Dealing.{IsTaker}
+use Rattle.tcc_steal.specs.private.Working.{AreJobs}
 use Rattle.tcc_steal.proofs.many.jobs.Given as goal
 
 abbrev pub invariant-loop-number : goal.invariant-loop-number

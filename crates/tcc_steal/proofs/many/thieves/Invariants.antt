@@ -1,4 +1,4 @@
-use Rattle.tcc_steal.specs.Working.{AreThieves}
+use Rattle.tcc_steal.specs.private.Working.{AreThieves}
 use Rattle.tcc_steal.proofs.many.thieves.Given as goal
 
 abbrev pub invariant-loop-number : goal.invariant-loop-number

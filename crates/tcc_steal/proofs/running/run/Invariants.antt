@@ -2,7 +2,7 @@
 use Rattle.std.proofs.Common.{◌≡◌, length}
 use Rattle.tcc_graph.specs.Levels.{Judged}
 use Rattle.tcc_derive.specs.Prices.{IsPricesOf}
-use Rattle.tcc_steal.specs.Working.{IsSeat, KnowsMore}
+use Rattle.tcc_steal.specs.private.Working.{IsSeat, KnowsMore}
 use Rattle.tcc_steal.proofs.Rows.{IsOn}
 use Rattle.tcc_steal.proofs.running.run.Given as goal
 

@@ -3,7 +3,7 @@ use Rattle.tcc_graph.specs.Levels.{Judged}
 use Rattle.tcc_derive.specs.Prices.{IsPricesOf}
 use Rattle.tcc_bound.specs.Seated.{Seated}
 use Rattle.tcc_core.specs.Shares.{IsCycleCost}
-use Rattle.tcc_steal.specs.Working.{IsSeat}
+use Rattle.tcc_steal.specs.private.Working.{IsSeat}
 use Rattle.tcc_steal.proofs.Floor.{floor_small, floor_below}
 use Rattle.tcc_steal.proofs.Seats.{new_seat, offered}
 use Rattle.tcc_steal.proofs.searching.begin.Goals as goal

@@ -1,7 +1,7 @@
 use Rattle.std.proofs.Common.{◌≡◌, ◌<◌, ◌+◌, ◌⊎◌, inl, inr, ℕ, List, Option, Some, true≢false, sym, ◌∙◌, subst, arith}
 use Rattle.std.proofs.lemmas.Bool.{cases_order}
 use Rattle.tcc_core.specs.Rows.{in_row}
-use Rattle.tcc_steal.specs.Working.{CameBack}
+use Rattle.tcc_steal.specs.private.Working.{CameBack}
 use Rattle.tcc_steal.proofs.Settling.{row_here}
 use Rattle.tcc_steal.proofs.searching.first_back.Goals as goal
 

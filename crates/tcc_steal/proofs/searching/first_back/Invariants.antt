@@ -1,6 +1,6 @@
 -- none before came back at the cost
 use Rattle.std.proofs.Common.{◌<◌, ℕ}
-use Rattle.tcc_steal.specs.Working.{CameBack}
+use Rattle.tcc_steal.specs.private.Working.{CameBack}
 use Rattle.tcc_steal.proofs.searching.first_back.Given as goal
 
 abbrev pub invariant-loop-start : goal.invariant-loop-start

@@ -1,4 +1,4 @@
-use Rattle.tcc_steal.specs.Floors.{least_cost}
+use Rattle.tcc_steal.specs.private.Floors.{least_cost}
 use Rattle.tcc_steal.proofs.searching.search_with.Given as goal
 
 abbrev pub ghost-begin : goal.ghost-begin

@@ -1,6 +1,6 @@
 -- the searches so far have ended
 use Rattle.std.proofs.Common.{◌≡◌, All, length}
-use Rattle.tcc_steal.specs.Working.{IsHand, IsWorker, IsSearched, AreBy}
+use Rattle.tcc_steal.specs.private.Working.{IsHand, IsWorker, IsSearched, AreBy}
 use Rattle.tcc_steal.proofs.sharing.bring_back.Given as goal
 
 abbrev pub invariant-loop : goal.invariant-loop

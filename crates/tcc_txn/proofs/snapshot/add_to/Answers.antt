@@ -1,6 +1,6 @@
 use Rattle.std.proofs.Common.{ap, subst, ◌∙◌, inl, inr, arith}
 use Rattle.tcc_txn.specs.Snapshots.{parts_of}
-use Rattle.tcc_txn.specs.SnapshotStorage.{StandsAt, place_in}
+use Rattle.tcc_txn.specs.private.SnapshotStorage.{StandsAt, place_in}
 use Rattle.tcc_txn.proofs.Growing.{err-then, found-here, if-err-then, inserted, missing, ok-always, ok-then, place_in-within, unwritten, written}
 use Rattle.tcc_txn.proofs.Parts.{length-parts_of}
 use Rattle.tcc_txn.proofs.snapshot.add_to.Goals as goal

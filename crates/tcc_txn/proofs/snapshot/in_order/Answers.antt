@@ -5,7 +5,7 @@ use Rattle.std.specs.List.Sorted.{IsPermutation}
 use Rattle.std.specs.Global.{Vec}
 use Rattle.tcc_txn.specs.Transactions.{Transaction}
 use Rattle.tcc_txn.specs.Snapshots.{parts_of, snapshot_fault_within}
-use Rattle.tcc_txn.specs.SnapshotStorage.{IsStoredWithin, shown}
+use Rattle.tcc_txn.specs.private.SnapshotStorage.{IsStoredWithin, shown}
 use Rattle.tcc_txn.proofs.StoredSnapshot.{stored_sorted, shown_parts}
 use Rattle.tcc_txn.proofs.snapshot.in_order.Goals as goal
 

@@ -3,7 +3,7 @@ use Rattle.std.proofs.Common.{Ok, refl, subst, inr}
 use Rattle.tcc_rows.specs.Answers.{answers_of, records_of}
 use Rattle.tcc_rows.specs.Recordings.{TakesMomentWithin, held}
 use Rattle.tcc_txn.specs.declared.limits.Limits.TheVariants.{Small}
-use Rattle.tcc_verdict.specs.Stages.{IsStop}
+use Rattle.tcc_verdict.specs.private.Stages.{IsStop}
 use Rattle.tcc_verdict.proofs.Recorded.{ends, fails, matched-err, none-taken, passes_seal}
 use Rattle.tcc_verdict.proofs.check.read_on.Goals as goal
 

@@ -4,7 +4,7 @@ use Rattle.std.specs.FinMap.{from_entries}
 use Rattle.indexmap.specs.IndexMap.{keys}
 use Rattle.tcc_txn.specs.Snapshots.{parts_of, snapshot_fault}
 use Rattle.tcc_book.specs.Books.{list_of}
-use Rattle.tcc_book.specs.BookStorage.{part_at}
+use Rattle.tcc_book.specs.private.BookStorage.{part_at}
 use Rattle.tcc_book.proofs.Places.{is-book}
 use Rattle.tcc_book.proofs.Copied.{no-fault, parts-shown, within}
 use Rattle.tcc_book.proofs.state.BookState.copy.Goals as goal

@@ -1,7 +1,7 @@
 use Rattle.std.proofs.Common.{◌≡◌, ◌<◌, sym, ap, ◌∙◌, subst, length, arith, ◌++◌, ◌∷◌, [], List, Err}
 use Rattle.tcc_txn.specs.declared.limits.TheConstants.{MAX_TRANSACTIONS}
 use Rattle.tcc_book.specs.Books.{Book, Matches, Records}
-use Rattle.tcc_book.specs.BookStorage.{Relists}
+use Rattle.tcc_book.specs.private.BookStorage.{Relists}
 use Rattle.tcc_book.specs.declared.entry.Entry.{Entry}
 use Rattle.tcc_book.proofs.Places.{is-book}
 use Rattle.tcc_book.proofs.Recorded.{kept, matched, recorded, refusal-is, refusal-keeps, shown}

@@ -1,6 +1,6 @@
 -- the numbers so far are on their way, and each turn puts some
 use Rattle.std.proofs.Common.{◌≤◌, ◌-◌, ◌++◌, take, flat_map, codes, decimal, length}
-use Rattle.tcc_cert.specs.Writing.{Sends}
+use Rattle.tcc_cert.specs.Given.{Sends}
 use Rattle.tcc_cert.proofs.outgoing.Outgoing.put_numbers.Given as goal
 
 abbrev pub invariant-loop-kept : goal.invariant-loop-kept

@@ -2,8 +2,8 @@ use Rattle.std.proofs.Common.{◌≡◌, ◌<◌, ◌≤◌, ◌+◌, ◌-◌, �
 use Rattle.tcc_reads.specs.History.{count}
 use Rattle.tcc_txn.specs.declared.limits.TheConstants.{MAX_COUNT}
 use Rattle.tcc_derive.specs.Prices.{end_of}
-use Rattle.tcc_core.specs.Queues.{Queue}
-use Rattle.tcc_core.specs.Offers.{IsOffered, IsOfferedBy}
+use Rattle.tcc_core.specs.private.Queues.{Queue}
+use Rattle.tcc_core.specs.private.Offers.{IsOffered, IsOfferedBy}
 use Rattle.tcc_core.proofs.Marking.{IsLaterWay}
 use Rattle.tcc_core.proofs.LedOn.{led_nowhere, led_by_links, led_by_both}
 use Rattle.tcc_core.proofs.leading.Frontier.lead_on.Goals.{then-so_far-floor, else-so_far-floor}

@@ -1,5 +1,5 @@
 use Rattle.std.proofs.Common.{◌≤◌, slice_index, arith}
-use Rattle.tcc_core.specs.Queues.{IsNearest}
+use Rattle.tcc_core.specs.private.Queues.{IsNearest}
 use Rattle.tcc_core.proofs.Marking.{marked_settled}
 use Rattle.tcc_core.proofs.LevelWays.{levels_settled}
 use Rattle.tcc_core.proofs.leading.Frontier.settle.Goals as goal

@@ -1,5 +1,5 @@
 use Rattle.std.proofs.Common.{rules, ◌≡◌, ◌<◌, ◌∙◌, sym, ℕ, length, refl, take_at, arith}
-use Rattle.tcc_core.specs.Queues.{IsFar}
+use Rattle.tcc_core.specs.private.Queues.{IsFar}
 use Rattle.tcc_core.proofs.Filing.{taken_long, taken_below, taken_or_far, filed_none, listed_none}
 use Rattle.tcc_core.proofs.queue.Queue.clear.Goals.{After-shut}
 use Rattle.tcc_core.proofs.queue.Queue.clear.Goals as goal

@@ -1,6 +1,6 @@
 use Rattle.std.proofs.Common.{◌≡◌, slice_index, arith}
 use Rattle.std.proofs.lemmas.Grind.{common_steps}
-use Rattle.tcc_core.specs.Queues.{IsNearest, IsOpen}
+use Rattle.tcc_core.specs.private.Queues.{IsNearest, IsOpen}
 use Rattle.tcc_core.proofs.Filing.{one_set, open_stands, filed_settled, listed_kept}
 use Rattle.tcc_core.specs.declared.ring.TheConstants.{NOWHERE}
 use Rattle.tcc_core.proofs.queue.Queue.settle.Goals as goal

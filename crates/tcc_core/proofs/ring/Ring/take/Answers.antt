@@ -1,6 +1,6 @@
 use Rattle.std.proofs.Common.{rules, ◌≡◌, ◌<◌, ◌∙◌, sym, length, length-set, slice_index, arith}
 use Rattle.std.proofs.lemmas.List.{get_or_read}
-use Rattle.tcc_core.specs.RingLinks.{home}
+use Rattle.tcc_core.specs.private.RingLinks.{home}
 use Rattle.tcc_core.proofs.RingHomes.{home_number}
 use Rattle.tcc_core.proofs.RingCalls.{next_inside, prev_inside, ring_take}
 use Rattle.tcc_core.specs.declared.ring.TheConstants.{BUCKETS, NOWHERE}

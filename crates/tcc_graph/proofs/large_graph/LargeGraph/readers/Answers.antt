@@ -1,7 +1,7 @@
 use Rattle.std.proofs.Common.{◌<◌, length, sym, subst, ap, List, ℕ, ◌∙◌}
 use Rattle.tcc_reads.specs.History.{History}
 use Rattle.tcc_graph.specs.Keys.{readers}
-use Rattle.tcc_graph.specs.ReadTables.{over}
+use Rattle.tcc_graph.specs.private.ReadTables.{over}
 use Rattle.tcc_graph.specs.Places.{StandsAt}
 use Rattle.tcc_graph.proofs.GraphLemmas.{readers_placed, readers_absent}
 use Rattle.tcc_graph.proofs.large_graph.LargeGraph.readers.Goals as goal

@@ -1,6 +1,6 @@
 use Rattle.std.proofs.Common.{◌∙◌, ap, List, ℕ}
 use Rattle.tcc_graph.specs.Keys.{writers}
-use Rattle.tcc_graph.specs.ReadTables.{over}
+use Rattle.tcc_graph.specs.private.ReadTables.{over}
 use Rattle.tcc_graph.specs.Places.{StandsAt}
 use Rattle.tcc_graph.proofs.GraphLemmas.{writers_placed, writers_absent}
 use Rattle.tcc_graph.proofs.large_graph.LargeGraph.writers.Goals as goal

@@ -3,7 +3,7 @@ use Rattle.std.specs.Prelude.{slice_index_or}
 use Rattle.std.proofs.lemmas.List.{get_or_read}
 use Rattle.tcc_graph.specs.Relations.{IsCausalPair, causal_pair}
 use Rattle.tcc_graph.proofs.Pairs.{pair_kinds}
-use Rattle.tcc_large.specs.Reaching.{number_at}
+use Rattle.tcc_large.specs.private.Reaching.{number_at}
 use Rattle.tcc_large.proofs.Reached.{reach_room, reach_more}
 use Rattle.tcc_large.proofs.reaching.Reach.meet.Goals as goal
 

@@ -1,4 +1,4 @@
-use Rattle.tcc_large.specs.Reaching.{IsReach, IsMore, AreMet, number_at}
+use Rattle.tcc_large.specs.private.Reaching.{IsReach, IsMore, AreMet, number_at}
 use Rattle.tcc_large.proofs.reaching.Reach.meet_each.Given as goal
 
 abbrev pub invariant-loop-number : goal.invariant-loop-number

@@ -1,5 +1,5 @@
 use Rattle.std.proofs.Common.{◌≡◌}
-use Rattle.tcc_large.specs.Reaching.{IsReach, AreSpread, number_at}
+use Rattle.tcc_large.specs.private.Reaching.{IsReach, AreSpread, number_at}
 use Rattle.tcc_large.proofs.reaching.Reach.of.Given as goal
 
 abbrev pub invariant-loop-place : goal.invariant-loop-place

@@ -1,7 +1,7 @@
 use Rattle.std.proofs.Common.{ℕ, ◌≡◌, length, sym, ap, subst, ◌∙◌}
 use Rattle.std.proofs.lemmas.List.{get_or_read}
 use Rattle.tcc_graph.specs.Relations.{IsCausalPair}
-use Rattle.tcc_large.specs.Reaching.{AreMet, AreMetBetween, number_at}
+use Rattle.tcc_large.specs.private.Reaching.{AreMet, AreMetBetween, number_at}
 use Rattle.tcc_large.proofs.Reached.{readers_below, all_met, more_between}
 use Rattle.tcc_large.proofs.reaching.Reach.spread.Goals as goal
 

@@ -1,7 +1,7 @@
 use Rattle.std.proofs.Common.{ℕ, ◌≡◌, ◌<◌, length, ap, ◌∙◌, arith}
 use Rattle.std.specs.Prelude.{slice_index_or}
 use Rattle.std.proofs.lemmas.List.{get_or_read}
-use Rattle.tcc_large.specs.Reaching.{number_at, before_at}
+use Rattle.tcc_large.specs.private.Reaching.{number_at, before_at}
 use Rattle.tcc_large.proofs.Reached.{pair_moved}
 use Rattle.tcc_large.proofs.reaching.Reach.walk.Goals as goal
 

@@ -1,5 +1,5 @@
 use Rattle.std.proofs.Common.{refl}
-use Rattle.tcc_packed.specs.Places.{numbers_in}
+use Rattle.tcc_packed.specs.private.Places.{numbers_in}
 use Rattle.tcc_packed.proofs.RowLemmas.{capped_twice}
 use Rattle.tcc_packed.proofs.row.PackedRow.capped.Goals.{in-Some, in-None}
 use Rattle.tcc_packed.proofs.row.PackedRow.capped.Goals as goal

@@ -1,7 +1,6 @@
 use Rattle.std.proofs.Common.{Ok, ◌++◌, refl, sym, ap, subst, ◌∙◌, arith}
-use Rattle.tcc_rows.specs.Ahead.{TakesAnswer, fault_met}
+use Rattle.tcc_rows.specs.Ahead.{TakesAnswer, fault_met, phase_after}
 use Rattle.tcc_txn.specs.Nested.{IsNested}
-use Rattle.tcc_rows.specs.Phases.{phase_after}
 use Rattle.tcc_rows.specs.Reached.{IsWithin}
 use Rattle.tcc_rows.specs.Recordings.{TakesMomentWithin, large_held}
 use Rattle.tcc_rows.specs.declared.rows.Item.TheVariants as item

@@ -1,6 +1,6 @@
 use Rattle.std.proofs.Common.{◌≡◌, None}
 use Rattle.std.specs.Prelude.{fold}
-use Rattle.tcc_rows.specs.Standing.{lower}
+use Rattle.tcc_rows.specs.private.Passing.{lower}
 use Rattle.tcc_rows.proofs.rows.progress.least_begun.Given as goal
 
 abbrev pub invariant-loop-session : goal.invariant-loop-session

@@ -1,5 +1,5 @@
 use Rattle.std.proofs.Common.{ap, subst, ◌∙◌}
-use Rattle.tcc_run.specs.Stages.{HasEarlier}
+use Rattle.tcc_run.specs.private.Stages.{HasEarlier}
 use Rattle.tcc_run.specs.declared.outcome.Outcome.TheVariants as outcome
 use Rattle.tcc_run.proofs.Earlier.{without_tables}
 use Rattle.tcc_run.proofs.outcome.Outcome.into_anomaly.Goals as goal

@@ -1,5 +1,5 @@
 use Rattle.std.proofs.Common.{◌≡◌, ◌<◌, ℕ, List, length, drop, Option, sym, ◌∙◌, ap, subst, arith}
-use Rattle.tcc_steal.specs.Working.{HasEnded, whole_row}
+use Rattle.tcc_steal.specs.private.Working.{HasEnded, whole_row}
 use Rattle.tcc_steal.proofs.Rows.{ended_upward}
 use Rattle.tcc_steal.proofs.worker.Worker.search.Goals as goal
 

@@ -3,7 +3,7 @@ use Rattle.std.proofs.lemmas.List.{take_at}
 use Rattle.std.specs.Prelude.{replicate, Err}
 use Rattle.std.specs.Option.{option_map_or}
 use Rattle.tcc_txn.specs.Names.{name_fault}
-use Rattle.tcc_txn.specs.Stored.{stored_in_front}
+use Rattle.tcc_txn.specs.private.Stored.{stored_in_front}
 use Rattle.tcc_txn.proofs.name.Name.read.Goals as goal
 use Rattle.tcc_txn.specs.declared.limits.TheConstants.{MAX_NAME_BYTES}
 

@@ -1,6 +1,6 @@
 use Rattle.std.proofs.Common.{ap, sym, subst, ◌∙◌, arith, inl, inr}
 use Rattle.tcc_txn.specs.Finished.{IsWithinLimits, with_transaction}
-use Rattle.tcc_txn.specs.SnapshotStorage.{IsStoredWithin}
+use Rattle.tcc_txn.specs.private.SnapshotStorage.{IsStoredWithin}
 use Rattle.tcc_txn.specs.declared.limits.Limits.TheVariants.{Large}
 use Rattle.tcc_txn.proofs.GrownSnapshot.{counted-grown, counted-kept, crowded, full, shown-grown}
 use Rattle.tcc_txn.proofs.snapshot.LargeSnapshot.add.Goals as goal

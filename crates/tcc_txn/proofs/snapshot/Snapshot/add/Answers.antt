@@ -1,7 +1,7 @@
 use Rattle.std.proofs.Common.{◌≤◌, ◌<◌, length, sum_by, ap, sym, subst, ◌∙◌, inl, inr, arith}
 use Rattle.std.proofs.lemmas.Bool.Decides.{nat_tests}
 use Rattle.tcc_txn.specs.Finished.{KeepsLimits, with_transaction}
-use Rattle.tcc_txn.specs.SnapshotStorage.{IsStored}
+use Rattle.tcc_txn.specs.private.SnapshotStorage.{IsStored}
 use Rattle.tcc_txn.specs.declared.limits.Limits.TheVariants.{Small}
 use Rattle.tcc_txn.specs.declared.limits.TheConstants.{MAX_TRANSACTIONS}
 use Rattle.tcc_txn.proofs.Growing.{err-then, if-err-then, ok-then}

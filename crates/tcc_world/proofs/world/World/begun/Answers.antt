@@ -1,7 +1,7 @@
 use Rattle.std.proofs.Common.{◌≡◌, None, arith}
 use Rattle.std.proofs.lemmas.List.Elements.{All-weaker}
 use Rattle.std.proofs.lemmas.List.FromFn.{length-range_with_len}
-use Rattle.tcc_world.specs.Machines.{HasRow}
+use Rattle.tcc_world.specs.private.Fitting.{HasRow}
 use Rattle.tcc_world.specs.declared.desk.Desk.{Desk}
 use Rattle.tcc_world.proofs.Settling.{numbers}
 use Rattle.tcc_world.proofs.world.World.begun.Goals as goal

@@ -1,5 +1,6 @@
 use Rattle.std.proofs.Common.{rules, ℕ, ◌≡◌, ◌<◌, ◌∙◌, None, Contains, refl, sym, ap, subst, arith}
-use Rattle.tcc_world.specs.Machines.{Machine, worker_of, HasRow}
+use Rattle.tcc_world.specs.Machines.{Machine, worker_of}
+use Rattle.tcc_world.specs.private.Fitting.{HasRow}
 use Rattle.tcc_world.proofs.Machining.{machine_in, found, take_made, few_left, idle_search}
 use Rattle.tcc_world.proofs.world.World.take.Goals as goal
 use Rattle.std.proofs.lemmas.List.Elements.{All-filter, All-set}

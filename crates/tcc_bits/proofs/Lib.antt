@@ -1,0 +1,4 @@
+pub mod Lists
+pub mod BitLemmas
+pub mod Ascending
+pub mod MarkLemmas

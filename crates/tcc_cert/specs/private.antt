@@ -1,0 +1,6 @@
+-- What nobody has to believe: private functions say it to one another, or proofs to themselves.
+pub mod Writing
+pub mod Inputs
+pub mod Stages
+pub mod Collecting
+pub mod Showing

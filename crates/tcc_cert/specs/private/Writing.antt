@@ -1,0 +1,21 @@
+-- Bytes on their way out: some went out, some are gathered.
+use Rattle.std.specs.Prelude.{ℕ, List, Option, Result, MatchResult, [], ◌∷◌, codes}
+use Rattle.tcc_cert.specs.Given.{Sends}
+use Rattle.tcc_cert.specs.Texts.{line_text}
+use Rattle.tcc_cert.specs.declared.cycle_writer.Stage.TheVariants.{Near, Far, Failed}
+use Rattle.tcc_cert.specs.declared.cycle_writer.Stage.{Stage}
+
+-- the line that has to go out before a row of `far` or the end
+abbrev pub far_mark : Stage → List ℕ
+far_mark Near = line_text (codes "far" ∷ [])
+far_mark Far = []
+far_mark Failed = []
+
+-- a part of the bytes that were held and of the text went out, from the front
+abbrev pub Stops : Option (List ℕ) → List ℕ → Option (List ℕ) → List ℕ → Type 0
+Stops before held after text = (left : List ℕ) × Sends before held after left text
+
+-- the text is on its way as a whole, or only a part went out
+abbrev pub IsSent : {X E : Type 0} → Result X E → Option (List ℕ) → List ℕ → Option (List ℕ) → List ℕ → List ℕ → Type 0
+IsSent result before held after left text =
+    MatchResult result (λ _. Sends before held after left text) (λ _. Stops before held after text)

@@ -1,0 +1,108 @@
+-- What the rules say of the tables of a claim, one after the other.
+use Rattle.std.specs.Prelude.{ℕ, ◌≡◌, List, [], ◌∷◌, ◌++◌, length, map, All}
+use Rattle.tcc_reads.specs.History.{History, count}
+use Rattle.tcc_graph.specs.declared.level.Level.{Level}
+use Rattle.tcc_graph.specs.declared.link.Link.{Link}
+use Rattle.tcc_cert.specs.CycleRules.{CycleClaim, HasRightSizes, IsLinkBelow, BreaksNearPair, BreaksNearStep, BreaksFarLink, BreaksFarStep, BreaksReturn}
+use Rattle.tcc_cert.specs.Parts.{Parts}
+use Rattle.tcc_cert.specs.Rules.{IsRightCycle}
+use Rattle.tcc_cert.specs.Tables.{row_of}
+use Rattle.tcc_cert.specs.declared.part.Part.{Part}
+use Rattle.tcc_cert.specs.declared.part.Part.TheVariants as part
+use Rattle.tcc_cert.specs.declared.version.Version.{Version}
+use Rattle.tcc_check.specs.declared.judgement.Claim.TheVariants as claim
+use Rattle.tcc_check.specs.declared.judgement.Judgement.{Judgement}
+use Rattle.tcc_check.specs.declared.near_rows.NearJudged.{NearJudged}
+use Rattle.tcc_check.specs.declared.near_rows.NearRows.{NearRows}
+use Rattle.tcc_check.specs.declared.pairs.Pairs.{Pairs}
+use Rattle.tcc_check.specs.declared.streaming.CycleHead.{CycleHead}
+use Rattle.tcc_check.specs.declared.verdict.Rule.TheVariants.{Links, NearPairs, NearSteps, FarLinks, FarSteps, Returns}
+use Rattle.tcc_check.specs.declared.verdict.Verdict.{Verdict}
+use Rattle.tcc_check.specs.private.Coming.{IsFarRight, IsNearFoundTo, near_verdict}
+use Rattle.tcc_check.specs.private.Pairs.{AreOrderly}
+use Rattle.tcc_check.specs.private.Places.{order_claim}
+use Rattle.tcc_check.specs.private.Runs.{AreRuns}
+use Rattle.tcc_check.specs.Verdicts.{Asked, IsCycleFault, bounds_rules, by_places, cycle_rules, order_rules}
+use Rattle.tcc_check.specs.private.Searches.{IsAnswer}
+use Rattle.tcc_check.specs.private.WeightsFrom.{AreAllEnds, AreEndsTo, WeighsFrom}
+
+-- what is claimed of links and tables
+abbrev pub cycle_claim : Version → Level → List Link → ℕ → List (List ℕ) → List (List ℕ) → CycleClaim
+cycle_claim version level links least near far = record { version = version; level = level; links = links; least = least; near = near; far = far }
+
+-- the claim of what a text says before its links, and of these and the tables
+abbrev pub claim_with : CycleHead → List Link → List (List ℕ) → List (List ℕ) → CycleClaim
+claim_with head links near far = cycle_claim head.version head.level links head.least near far
+
+-- the rule on links
+abbrev pub links_rules : History → CycleClaim → List Asked
+links_rules h k = record { rule = Links; holds = IsRightCycle h k; broken = IsCycleFault h k } ∷ []
+
+-- the rules on lengths
+abbrev pub near_rules : History → Level → List (List ℕ) → List Asked
+near_rules h level near = by_places NearPairs (BreaksNearPair h near) ∷ by_places NearSteps (BreaksNearStep h level near) ∷ []
+
+-- those on costs
+abbrev pub far_rules : History → Version → ℕ → List (List ℕ) → List (List ℕ) → List Asked
+far_rules h version least near far =
+    by_places FarLinks (BreaksFarLink h version near far) ∷ by_places FarSteps (BreaksFarStep h version near far)
+    ∷ by_places Returns (BreaksReturn h version least far) ∷ []
+
+-- all but the rule on sizes
+abbrev pub claim_rules : History → CycleClaim → List Asked
+claim_rules h k =
+    record { rule = Links; holds = IsRightCycle h k; broken = IsCycleFault h k } ∷ bounds_rules h k.version k.level k.least k.near k.far
+
+-- what was found in the first rows of a table of lengths, and the links that they tell of
+pub record AreNearRowsTo (h : History) (level : Level) (least : ℕ) (near : List (List ℕ)) (n : ℕ) (rows : NearRows) : Type 0 where
+  pub found : IsNearFoundTo h level near n rows.faults
+  pub links : AreEndsTo n (λ u. WeighsFrom h (row_of near u) u) (count h) least rows.links.items
+
+-- what is kept of all of them
+abbrev pub judged : Pairs → NearRows → NearJudged
+judged pairs rows = record { verdict = near_verdict rows.faults.pair rows.faults.step; begins = pairs.begins; links = rows.links }
+
+-- the links that a table of lengths tells of
+abbrev pub AreLinksOf : History → ℕ → List (List ℕ) → NearJudged → Type 0
+AreLinksOf h least near judged = AreAllEnds (λ u. WeighsFrom h (row_of near u) u) (count h) least judged.links.items
+
+-- what the rules on lengths say, and those links
+pub record IsNearJudged (h : History) (level : Level) (least : ℕ) (near : List (List ℕ)) (judged : NearJudged) : Type 0 where
+  pub answer : IsAnswer (near_rules h level near) judged.verdict
+  pub links : AreLinksOf h least near judged
+
+-- whatever the table: where runs begin, and the ends of links from each transaction
+pub record IsOrderly (h : History) (judged : NearJudged) : Type 0 where
+  pub runs : AreRuns h judged.begins.items
+  pub long : length judged.links.items ≡ count h
+  pub links : AreOrderly (count h) judged.links.items
+
+-- the numbers of the links are below that of the transactions, the rule on links says so, and these parts come behind them
+pub record AreLinksJudged (h : History) (level : Level) (least : ℕ) (links : List Link) (rest : Parts) (tables : List Part) (verdict : Verdict) : Type 0 where
+  pub below : All (IsLinkBelow (count h)) links
+  pub answer : (version : Version) (near far : List (List ℕ)) → IsAnswer (links_rules h (cycle_claim version level links least near far)) verdict
+  pub behind : rest.parts ≡ tables
+
+-- where no part is left behind the rows of costs, they are the whole table, and the rules on them say so
+pub record IsFarJudged (h : History) (version : Version) (least : ℕ) (near : List (List ℕ)) (far : List (List ℕ)) (rest : Parts)
+    (verdict : Verdict) : Type 0 where
+  pub right : rest.parts ≡ [] → IsFarRight version (count h) least far × IsAnswer (far_rules h version least near far) verdict
+  pub more : IsFarRight version (count h) least far → rest.parts ≡ []
+
+-- so all rules behind that on sizes say
+pub record IsClaimJudged (h : History) (k : CycleClaim) (rest : Parts) (verdict : Verdict) : Type 0 where
+  pub right : rest.parts ≡ [] → HasRightSizes h k × IsAnswer (claim_rules h k) verdict
+  pub more : HasRightSizes h k → rest.parts ≡ []
+
+-- so all rules say, of a claim that a cycle is least, with the links and the tables that come
+pub record IsCycleJudged (h : History) (head : CycleHead) (ahead : Parts) (judgement : Judgement) : Type 0 where
+  pub same : judgement.claim ≡ claim.Cycle head.least
+  pub answer : (links : List Link) (near far : List (List ℕ)) → length links ≡ head.links → length near ≡ head.count
+      → ahead.parts ≡ map part.Link links ++ (map part.Near near ++ map part.Far far)
+      → IsAnswer (cycle_rules h (claim_with head links near far)) judgement.verdict
+
+-- and of a claim that a list is a commit order, with the clocks that come
+pub record IsOrderJudged (h : History) (level : Level) (order : List ℕ) (sessions : ℕ) (ahead : Parts) (judgement : Judgement) : Type 0 where
+  pub same : judgement.claim ≡ claim.Order
+  pub answer : (clocks : List (List ℕ)) → ahead.parts ≡ map part.Clocks clocks
+      → IsAnswer (order_rules h (order_claim level order sessions clocks)) judgement.verdict

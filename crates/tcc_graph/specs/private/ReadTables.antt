@@ -1,0 +1,73 @@
+-- The tables of reads, by names and by places, and how they are made.
+use Rattle.std.specs.Prelude.{ℕ, ◌<◌, ◌≤◌, ◌≡◌, ◌==◌, List, [], ◌++◌, length, map, filter, slice_index_or, All}
+use Rattle.tcc_txn.specs.declared.limits.TheConstants.{LARGE_COUNT}
+use Rattle.std.specs.List.Sorted.{IsStrictlySortedBy}
+use Rattle.tcc_reads.specs.History.{Entry, History, IsBySession, initial}
+use Rattle.tcc_reads.specs.Sources.{pair_cmp}
+use Rattle.tcc_graph.specs.private.Grouped.{as_group, groups}
+use Rattle.tcc_graph.specs.Places.{name_of}
+use Rattle.tcc_graph.specs.Tables.{row_of}
+
+-- what is read from a, of reads with their sources
+abbrev pub values_from : {X : Type 0} → List (X × ℕ) → ℕ → List X
+values_from reads a = map (λ read. read.0) (filter (λ read. read.1 == a) reads)
+
+-- each read of a transaction went to the end of the row of its source
+pub record AddsReads (X : Type 0) (old : List (List (ℕ × X))) (new : List (List (ℕ × X))) (reader : ℕ) (reads : List (X × ℕ)) : Type 0 where
+  pub long : length new ≡ length old
+  pub rows : (a : ℕ) → row_of new a ≡ row_of old a ++ as_group reader (values_from reads a)
+
+-- the row of each of `count` transactions has what the first n transactions read from it, each with its reader
+pub record IsSourceTable (X : Type 0) (count : ℕ) (reads : ℕ → List (X × ℕ)) (n : ℕ) (table : List (List (ℕ × X))) : Type 0 where
+  pub long : length table ≡ count
+  pub rows : (a : ℕ) → a < count → row_of table a ≡ groups (λ b. values_from (reads b) a) n
+
+-- the history of these transactions, with no sessions: the relations ask for none
+abbrev pub over : List Entry → History
+over entries = record { sessions = []; entries = entries }
+
+-- the row of each transaction has the keys that the first n transactions read from it, each with its reader
+abbrev pub IsReadTable : List Entry → ℕ → List (List (ℕ × List ℕ)) → Type 0
+IsReadTable entries n table = IsSourceTable (List ℕ) (length entries) (λ b. (slice_index_or entries b initial).reads) n table
+
+-- what a transaction writes and reads, by the places of the keys
+pub record Placed : Type 0 where
+  pub writes : List ℕ
+  pub reads : List (ℕ × ℕ)
+
+abbrev pub placed_of : List Placed → ℕ → Placed
+placed_of placed n = slice_index_or placed n (record { writes = []; reads = [] })
+
+-- the places are those of the transaction's keys among these names
+pub record IsPlaced (names : List (List ℕ)) (e : Entry) (p : Placed) : Type 0 where
+  pub writes : map (name_of names) p.writes ≡ e.writes
+  pub reads : map (λ read. (name_of names read.0, read.1)) p.reads ≡ e.reads
+  pub writes_within : All (λ k. k < length names) p.writes
+  pub reads_within : All (λ read. read.0 < length names) p.reads
+
+-- so for each transaction
+pub record ArePlaced (names : List (List ℕ)) (entries : List Entry) (placed : List Placed) : Type 0 where
+  pub long : length placed ≡ length entries
+  pub each : (n : ℕ) → n < length entries → IsPlaced names (slice_index_or entries n initial) (placed_of placed n)
+
+-- the row of each transaction has the places of the keys that the first n transactions read from it, each with its reader
+abbrev pub IsPlaceTable : ℕ → List Placed → ℕ → List (List (ℕ × ℕ)) → Type 0
+IsPlaceTable count placed n table = IsSourceTable ℕ count (λ b. (placed_of placed b).reads) n table
+
+-- each read of a transaction has its source among n transactions
+abbrev pub HasSources : ℕ → Entry → Type 0
+HasSources n e = All (λ read. read.1 < n) e.reads
+
+-- the reads of a transaction stand in order, each once
+abbrev pub HasReadsInOrder : Entry → Type 0
+HasReadsInOrder e = IsStrictlySortedBy pair_cmp e.reads
+
+-- the transactions of a history, which are few, have sessions and read from one another
+pub record IsListOf (h : History) (entries : List Entry) : Type 0 where
+  pub is : entries ≡ h.entries
+  pub some : 0 < length entries
+  pub few : length entries ≤ LARGE_COUNT
+  pub owners : (n : ℕ) → 0 < n → n < length entries → (slice_index_or entries n initial).owner < length h.sessions
+  pub ordered : IsBySession entries
+  pub sources : All (HasSources (length entries)) entries
+  pub reads_ordered : All HasReadsInOrder entries

@@ -1,0 +1,100 @@
+-- The search breadth first: what is known after walks of so many steps.
+use Rattle.std.specs.Prelude.{ℕ, ◌+◌, ◌<◌, ◌≤◌, ◌≡◌, ◌⊎◌, ◌↔◌, ◌==◌, ◌&&◌, Bool, true, false, if◌then◌else◌, List, length, Contains}
+use Rattle.std.specs.Prelude.{[], count_by, Option, None, Some, slice_index, slice_index_or}
+use Rattle.tcc_reads.specs.History.{History, count}
+use Rattle.tcc_graph.specs.Relations.{IsSessionPair, causal_pair}
+use Rattle.tcc_graph.specs.Levels.{Judged, causally}
+use Rattle.tcc_graph.specs.Walks.{IsWalk}
+use Rattle.tcc_graph.specs.Tables.{row_of}
+use Rattle.tcc_graph.specs.declared.step.Step.{Step}
+use Rattle.tcc_bits.specs.Bits.{is_marked, words_for}
+use Rattle.tcc_near.specs.Distances.{IsShortest, IsWalkDistance, least_in}
+use Rattle.tcc_near.specs.declared.distances.TheConstants.{NONE}
+
+-- a row with room for the numbers below n that marks no others
+pub record IsRowOf (n : ℕ) (words : List ℕ) : Type 0 where
+  pub wide : length words ≡ words_for n
+  pub inside : (b : ℕ) → is_marked words b ≡ true → b < n
+
+-- the marks of a number, and none past the table
+abbrev pub marks_of : List (List ℕ) → ℕ → List ℕ
+marks_of table a = slice_index_or table a []
+
+-- the numbers that session pairs lead to from u are those after it and below `end`
+pub record IsSessionEnd (h : History) (u : ℕ) (end : ℕ) : Type 0 where
+  pub order : u + 1 ≤ end
+  pub few : end ≤ count h
+  pub pairs : (v : ℕ) → IsSessionPair h u v ↔ ((u + 1 ≤ v) × (v < end))
+
+-- so for each transaction
+pub record AreEnds (h : History) (ends : List ℕ) : Type 0 where
+  pub long : length ends ≡ count h
+  pub each : (u : ℕ) → u < count h → IsSessionEnd h u (slice_index ends u)
+
+-- session pairs and these readers are the causal pairs from u
+abbrev pub IsPairsFrom : History → ℕ → ℕ → List ℕ → Type 0
+IsPairsFrom h u end readers = (b : ℕ) → (causal_pair h u b ≡ true) ↔ (((u + 1 ≤ b) × (b < end)) ⊎ Contains readers b)
+
+-- tables of the causal pairs from each transaction: where those of session pairs end, and the readers among the others
+pub record ArePairs (h : History) (ends : List ℕ) (readers : List (List ℕ)) : Type 0 where
+  pub ended : AreEnds h ends
+  pub long : length readers ≡ count h
+  pub each : (u : ℕ) → u < count h → IsPairsFrom h u (slice_index ends u) (marks_of readers u)
+
+-- a place for each number: from the number that stands there up to the number itself all are marked
+abbrev pub AreSuffixes : List ℕ → List ℕ → Type 0
+AreSuffixes suffixes words = (last : ℕ) (b : ℕ) → last < length suffixes → slice_index suffixes last ≤ b → b ≤ last → is_marked words b ≡ true
+
+-- a walk of at most n steps leads from a to b
+abbrev pub IsWithin : History → ℕ → ℕ → ℕ → Type 0
+IsWithin h a n b = (walk : List Step) × IsWalk h a b walk × (length walk ≤ n)
+
+-- marked are the transactions to which a walk of at most n steps leads
+pub record IsMarked (h : History) (a : ℕ) (n : ℕ) (marks : List ℕ) : Type 0 where
+  pub exact : (b : ℕ) → b < count h → (is_marked marks b ≡ true) ↔ IsWithin h a n b
+
+-- the distance where it is at most n, and none where it is more
+abbrev pub IsDistanceWithin : History → ℕ → ℕ → ℕ → Option ℕ → Type 0
+IsDistanceWithin h a n b None = IsWithin h a n b → ⊥
+IsDistanceWithin h a n b (Some d) = (d ≤ n) × IsShortest (causally h) a b d
+
+-- the row has each distance that is at most n
+pub record IsSearched (h : History) (a : ℕ) (n : ℕ) (row : List ℕ) : Type 0 where
+  pub long : length row ≡ count h
+  pub exact : (b : ℕ) → b < count h → IsDistanceWithin h a n b (least_in row b)
+
+-- the row has each distance
+pub record HasDistances (j : Judged) (a : ℕ) (row : List ℕ) : Type 0 where
+  pub long : length row ≡ count j.history
+  pub exact : (b : ℕ) → b < count j.history → IsWalkDistance j a b (least_in row b)
+  pub short : (b : ℕ) (n : ℕ) → b < count j.history → least_in row b ≡ Some n → n ≤ count j.history
+
+-- a row of distances for each transaction
+pub record HaveDistances (j : Judged) (rows : List (List ℕ)) : Type 0 where
+  pub long : length rows ≡ count j.history
+  pub each : (a : ℕ) → a < count j.history → HasDistances j a (row_of rows a)
+
+-- b is marked, or marked by one of these
+abbrev pub IsSpread : List ℕ → List (List ℕ) → (ℕ → Type 0) → ℕ → Type 0
+IsSpread marks table IsOne b = (is_marked marks b ≡ true) ⊎ ((u : ℕ) × IsOne u × (is_marked (marks_of table u) b ≡ true))
+
+-- b is marked, or a causal pair leads there from one of these
+abbrev pub IsLedTo : History → List ℕ → (ℕ → Type 0) → ℕ → Type 0
+IsLedTo h marks IsOne b = (is_marked marks b ≡ true) ⊎ ((u : ℕ) × IsOne u × (causal_pair h u b ≡ true))
+
+-- the distance of b once what is marked and had none got this one
+abbrev pub numbered : List ℕ → List ℕ → ℕ → ℕ → ℕ
+numbered row marks distance b =
+    if is_marked marks b && (slice_index row b == NONE) then distance else slice_index row b
+
+-- how many numbers have no distance
+abbrev pub unnumbered : List ℕ → ℕ
+unnumbered row = count_by (λ distance. distance == NONE) row
+
+-- the distance by walks of one step
+abbrev pub one_step : Bool → ℕ
+one_step mark = if mark then 1 else NONE
+
+-- seen is what has a distance
+abbrev pub IsSeen : List ℕ → List ℕ → Type 0
+IsSeen row seen = (b : ℕ) → b < length row → (is_marked seen b ≡ false) ↔ (slice_index row b ≡ NONE)

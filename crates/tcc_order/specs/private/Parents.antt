@@ -1,0 +1,48 @@
+-- The transactions right before each one: in its session, and those that it reads from.
+use Rattle.std.specs.Prelude.{ℕ, ◌<◌, ◌≤◌, ◌-◌, ◌≡◌, ◌==◌, if◌then◌else◌, List, [], ◌∷◌, ◌++◌, length, map, All, take, drop, slice_index, slice_index_or}
+use Rattle.tcc_reads.specs.History.{History, count, entry_at}
+use Rattle.tcc_graph.specs.Relations.{session_pair}
+use Rattle.tcc_graph.specs.Levels.{Judged, IsAllowedWalk}
+use Rattle.tcc_graph.specs.declared.step.Step.{Step}
+
+-- the transaction before c in its session, or else `init`
+abbrev pub session_parent : History → ℕ → ℕ
+session_parent h c = if session_pair h (c - 1) c then c - 1 else 0
+
+-- a list of them, 0 for `init`
+pub record AreSessionParents (h : History) (parents : List ℕ) : Type 0 where
+  pub long : length parents ≡ count h
+  pub init : slice_index parents 0 ≡ 0
+  pub each : (c : ℕ) → 0 < c → c < count h → slice_index parents c ≡ session_parent h c
+
+-- and where that is one: none for `init`
+abbrev pub session_parents : History → ℕ → List ℕ
+session_parents h c = if c == 0 then [] else session_parent h c ∷ []
+
+-- the transactions that c reads from
+abbrev pub sources : History → ℕ → List ℕ
+sources h c = map (λ read. read.1) (entry_at h c).reads
+
+-- they are transactions of the history
+abbrev pub HasSourcesAt : History → ℕ → Type 0
+HasSourcesAt h c = All (λ read. read.1 < count h) (entry_at h c).reads
+
+-- the transactions of causal pairs into c from which all others of them reach c
+abbrev pub parents : History → ℕ → List ℕ
+parents h c = session_parents h c ++ sources h c
+
+-- the transactions right before c are these numbers from the one place to before the other
+pub record IsStep (h : History) (c : ℕ) (numbers : List ℕ) (start : ℕ) (end : ℕ) : Type 0 where
+  pub order : start ≤ end
+  pub within : end ≤ length numbers
+  pub is : take (end - start) (drop start numbers) ≡ parents h c
+  pub sources : HasSourcesAt h c
+
+-- so for each place of an order before `n`
+pub record AreSteps (h : History) (order : List ℕ) (spans : List (ℕ × ℕ)) (numbers : List ℕ) (n : ℕ) : Type 0 where
+  pub long : length spans ≡ n
+  pub each : (k : ℕ) → k < n → IsStep h (slice_index order k) numbers (slice_index_or spans k (0, 0)).0 (slice_index_or spans k (0, 0)).1
+
+-- a walk that the level allows leads from b to c
+abbrev pub IsAllowedFrom : Judged → ℕ → ℕ → Type 0
+IsAllowedFrom j b c = (walk : List Step) × IsAllowedWalk j b c walk

@@ -1,0 +1,182 @@
+-- What the resolver finds out about the operations, in the terms of its
+-- table of first writes. That this is what Faults and Sources say is proved.
+use Rattle.std.specs.Prelude.{ℕ, ◌≡◌, Bool, ◌&&◌, ◌==◌, not, if◌then◌else◌, List, []}
+use Rattle.std.specs.Prelude.{◌∷◌, ◌++◌, map, filter, filter_map, flat_map, find, length, ◌+◌, Option, None, Some}
+use Rattle.std.specs.Prelude.{option_map}
+use Rattle.std.specs.List.{list_any, AllAdjacentBelow}
+use Rattle.std.specs.Ordering.{nat_cmp, ordering_then}
+use Rattle.std.specs.declared.cmp.Ordering.{Ordering}
+use Rattle.std.specs.declared.cmp.Ordering.TheVariants.{Less}
+use Rattle.std.specs.BTreeMap as tree
+use Rattle.std.specs.BTreeMap.{BTreeMap}
+use Rattle.std.specs.Str.{bytes_eq}
+use Rattle.tcc_txn.specs.declared.op.Op.{Op}
+use Rattle.tcc_txn.specs.declared.op.Op.TheVariants.{Get, Put}
+use Rattle.tcc_reads.specs.declared.fault.ReadFault.{ReadFault}
+use Rattle.tcc_reads.specs.declared.fault.ReadFaultKind.TheVariants.{Duplicate, BrokenInternal, ThinAir, Aborted, Intermediate, Future}
+use Rattle.tcc_reads.specs.declared.writers.Writer.{Writer}
+use Rattle.tcc_reads.specs.declared.writers.Write.{Write}
+use Rattle.tcc_reads.specs.declared.judging.Judgement.{Judgement}
+use Rattle.tcc_reads.specs.declared.judging.Judgement.TheVariants.{Faulty, ReadsFrom, Silent}
+use Rattle.tcc_reads.specs.History.{Entry}
+use Rattle.tcc_reads.specs.Sites.{Stand, Site, at, sites_of}
+use Rattle.tcc_reads.specs.private.Numbers.{Numbered}
+use Rattle.tcc_reads.specs.Sources.{puts_at, visible_write, name_cmp, pair_cmp, sorted_once, writes_of as keys_written}
+use Rattle.tcc_reads.specs.Faults.{puts}
+use Rattle.tcc_txn.specs.Transactions.{op_key, op_value}
+
+-- what the table keeps of a write at this place of its transaction
+abbrev pub write_at : Numbered → ℕ → Bool → Writer
+write_at n place last = record {
+  session = n.stand.session;
+  place = n.stand.place;
+  op = place;
+  number = if n.stand.txn.committed then Some n.number else None;
+  last = last;
+}
+
+-- and after these operations of its transaction and before those
+abbrev pub writer_at : Numbered → List Op → List ℕ → List Op → Writer
+writer_at n before key after = write_at n (length before + 1) (not (list_any (puts_at key) after))
+
+-- the first write of a value at a key among these operations, and else another one
+abbrev pub first_in : Numbered → List Op → List Op → List ℕ → ℕ → Option Writer → Option Writer
+first_in n before [] x v otherwise = otherwise
+first_in n before (op ∷ after) x v otherwise =
+    if puts x v op then Some (writer_at n before (op_key op) after) else first_in n (before ++ op ∷ []) after x v otherwise
+
+-- the first write of a value at a key in these transactions
+abbrev pub first_writer : List Numbered → List ℕ → ℕ → Option Writer
+first_writer [] x v = None
+first_writer (n ∷ later) x v = first_in n [] n.stand.txn.ops x v (first_writer later x v)
+
+-- a table of writes: what it has for a value at a key
+abbrev pub Writes : Type 0
+Writes = List ℕ → ℕ → Option Writer
+
+-- whether a write is of this value at this key
+abbrev pub is_of : List ℕ → ℕ → Write → Bool
+is_of x v write = bytes_eq write.key x && (write.value == v)
+
+-- the writers in a list of writes: of those of a value at a key the first
+abbrev pub writers_in : List Write → Writes
+writers_in table x v = option_map (λ write. write.writer) (find (is_of x v) table)
+
+-- a write and one of this value at this key, by value, then by key
+abbrev pub spot_cmp : Write → List ℕ → ℕ → Ordering
+spot_cmp write x v = ordering_then (nat_cmp write.value v) (name_cmp write.key x)
+
+abbrev pub write_cmp : Write → Write → Ordering
+write_cmp one other = spot_cmp one other.key other.value
+
+-- each write is below the next
+abbrev pub AreApart : List Write → Type 0
+AreApart writes = AllAdjacentBelow (λ one other. write_cmp one other ≡ Less) writes (length writes)
+
+-- the writes of a transaction among these operations, in order
+abbrev pub writes_from : Numbered → List Op → List Op → List Write
+writes_from n before [] = []
+writes_from n before (Get key value ∷ after) = writes_from n (before ++ Get key value ∷ []) after
+writes_from n before (Put key value ∷ after) =
+    record { value = value; key = key; writer = writer_at n before key after } ∷ writes_from n (before ++ Put key value ∷ []) after
+
+abbrev pub writes_of : Numbered → List Write
+writes_of n = writes_from n [] n.stand.txn.ops
+
+-- the writes of these transactions, in order
+abbrev pub all_writes : List Numbered → List Write
+all_writes ns = flat_map writes_of ns
+
+-- the table has the first writes of these transactions
+abbrev pub AreFirstWriters : Writes → List Numbered → Type 0
+AreFirstWriters table ns = (x : List ℕ) (v : ℕ) → table x v ≡ first_writer ns x v
+
+-- each of these writes is the one that the table has for its value at its key
+abbrev pub AreOwnIn : Writes → Numbered → List Op → List Op → Type 0
+AreOwnIn table n before [] = Unit {0}
+AreOwnIn table n before (Get key value ∷ after) = AreOwnIn table n (before ++ Get key value ∷ []) after
+AreOwnIn table n before (Put key value ∷ after) =
+    (table key value ≡ Some (writer_at n before key after)) × AreOwnIn table n (before ++ Put key value ∷ []) after
+
+-- no value is written twice at a key in these transactions
+abbrev pub AreOwn : Writes → List Numbered → Type 0
+AreOwn table [] = Unit {0}
+AreOwn table (n ∷ later) = AreOwnIn table n [] n.stand.txn.ops × AreOwn table later
+
+-- the map has the visible writes of these operations
+abbrev pub AreVisibleWrites : BTreeMap (List ℕ) ℕ → List Op → Type 0
+AreVisibleWrites own ops = (x : List ℕ) → tree.get name_cmp own x ≡ visible_write x ops
+
+abbrev pub is_in : Numbered → Writer → Bool
+is_in n first = (first.session == n.stand.session) && (first.place == n.stand.place)
+
+-- of a write at this place of its transaction
+abbrev pub write_judgement : Numbered → ℕ → Option Writer → Judgement
+write_judgement n place None = Faulty Duplicate
+write_judgement n place (Some first) = if is_in n first && (first.op == place) then Silent else Faulty Duplicate
+
+-- an operation at this place is no write, or the one that the table has for its value at its key
+abbrev pub IsOwn : Writes → Numbered → ℕ → Op → Type 0
+IsOwn table n place (Get key value) = Unit {0}
+IsOwn table n place (Put key value) = write_judgement n place (table key value) ≡ Silent
+
+abbrev pub judgement_from : Numbered → Writer → Option ℕ → Judgement
+judgement_from n first None = Faulty Aborted
+judgement_from n first (Some number) =
+    if is_in n first then Faulty Future else if first.last then ReadsFrom number else Faulty Intermediate
+
+-- of an external read of a value other than 0
+abbrev pub read_judgement : Numbered → Option Writer → Judgement
+read_judgement n None = Faulty ThinAir
+read_judgement n (Some first) = judgement_from n first first.number
+
+-- of a read, by the latest own write of its key and the first write of its value
+abbrev pub own_judgement : Numbered → ℕ → Option ℕ → Option Writer → Judgement
+own_judgement n value (Some own) first = if own == value then Silent else Faulty BrokenInternal
+own_judgement n value None first = if value == 0 then ReadsFrom 0 else read_judgement n first
+
+abbrev pub op_judgement : Writes → Numbered → ℕ → Op → Option ℕ → Judgement
+op_judgement table n place (Put key value) own = write_judgement n place (table key value)
+op_judgement table n place (Get key value) own =
+    if n.stand.txn.committed then own_judgement n value own (table key value) else Silent
+
+abbrev pub site_judgement : Writes → Numbered → Site → Judgement
+site_judgement table n site = op_judgement table n (at site) site.op (visible_write (op_key site.op) site.before)
+
+-- the fault of an operation at this place of a transaction
+abbrev pub fault_in : Stand → ℕ → Op → Judgement → Option ReadFault
+fault_in stand place op (Faulty kind) =
+    Some (record { session = stand.name; place = stand.place; op = place; key = op_key op; value = op_value op; kind = kind })
+fault_in stand place op (ReadsFrom number) = None
+fault_in stand place op Silent = None
+
+-- the key and the source of an external read
+abbrev pub source_in : Op → Judgement → Option (List ℕ × ℕ)
+source_in op (Faulty kind) = None
+source_in op (ReadsFrom number) = Some (op_key op, number)
+source_in op Silent = None
+
+abbrev pub fault_found : Writes → Numbered → Site → Option ReadFault
+fault_found table n site = fault_in n.stand (at site) site.op (site_judgement table n site)
+
+abbrev pub source_found : Writes → Numbered → Site → Option (List ℕ × ℕ)
+source_found table n site = source_in site.op (site_judgement table n site)
+
+-- the faults of a transaction
+abbrev pub faults_found : Writes → Numbered → List ReadFault
+faults_found table n = filter_map (fault_found table n) (sites_of n.stand)
+
+-- its external reads, as key and source
+abbrev pub sources_found : Writes → Numbered → List (List ℕ × ℕ)
+sources_found table n = filter_map (source_found table n) (sites_of n.stand)
+
+abbrev pub entry_found : Writes → Numbered → Entry
+entry_found table n = record {
+  owner = n.stand.session;
+  place = n.stand.place;
+  writes = keys_written n.stand;
+  reads = sorted_once pair_cmp (sources_found table n);
+}
+
+abbrev pub entries_found : Writes → List Numbered → List Entry
+entries_found table ns = map (entry_found table) (filter (λ n. n.stand.txn.committed) ns)

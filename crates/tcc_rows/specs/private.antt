@@ -1,0 +1,8 @@
+-- What nobody has to believe: private functions say it to one another, or proofs to themselves.
+pub mod Failing
+pub mod Drafts
+pub mod Phases
+pub mod Stages
+pub mod Limited
+pub mod Passing
+pub mod Words

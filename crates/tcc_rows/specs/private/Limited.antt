@@ -1,0 +1,14 @@
+-- Whether a reader has met its end.
+use Rattle.std.specs.Prelude.{Bool, true, false}
+use Rattle.tcc_rows.specs.declared.rows.limited.Limited.{Limited}
+use Rattle.tcc_rows.specs.declared.rows.limited.Stand.TheVariants.{Going, Ended, Over}
+use Rattle.tcc_rows.specs.declared.rows.limited.Stand.{Stand}
+
+abbrev pub is_end : Stand → Bool
+is_end Going = false
+is_end Ended = true
+is_end Over = false
+
+-- the reader inside has said that it has no more bytes
+abbrev pub met_end : {R : Type 0} → Limited R → Bool
+met_end s = is_end s.stand

@@ -1,0 +1,180 @@
+"""What has to be believed: whether the definitions that contracts cite stand in `specs/`, and all others in `specs/private/`.
+
+A contract counts where its call is public, or stands behind one that has no words for what it does; and so does what values of a
+public type are seen as. What these cite, and what that is defined by, has to be believed. Names are followed through the imports of
+each file. A definition that a document names may stand in `specs/` beside them.
+"""
+import collections
+import functools
+import pathlib
+import re
+from typing import Dict, FrozenSet, Iterator, List, NamedTuple, Optional, Set, Tuple
+
+from counted import Outcome
+
+TOP = pathlib.Path(__file__).resolve().parent.parent.parent
+CRATES = TOP / "crates"
+PRIVATE = "private"
+PUBLIC_MODULE = re.compile(r"^pub mod (\w+);", re.MULTILINE)
+PASSED_ON = re.compile(r"^pub use (?!tcc_)[\w:]+::(\{[^}]*\}|\w+);", re.MULTILINE)
+METHODS = re.compile(r"impl(?:<[^>]*>)? (?:Model for )?(\w+)")
+CALL = re.compile(r"( *)(pub )?(?:const )?fn (\w+)")
+VALUE = re.compile(r" *ghost Value = \{(.*)\};")
+OPENS_BODY = re.compile(r" *(?:\)|(?:pub )?(?:const )?fn ).*[{;]$")
+IMPORT = re.compile(r"^ *(?:pub |ghost )*use Rattle\.(tcc_\w+)\.specs\.((?:private\.)?[A-Z]\w*)(?:\.\{([^}]*)\}| as (\w+))", re.MULTILINE)
+HEAD = re.compile(r"(?:abbrev |unfoldable )?pub (?:record |data )?([\w'-]+)")
+WORD = re.compile(r"[^\W\d][\w'-]*(?:\.[^\W\d][\w'-]*)*|◌?[^\s\w()\[\]{},;.]+")
+# Modules whose calls stand behind public ones about the process's own words and files, of which no clause can speak.
+BEHIND = {"tcc_words": ("command_line", "checker"), "tcc_files": ("opening",)}
+QUOTED = re.compile(r"`([^`\n]+)`")
+
+
+class Definition(NamedTuple):
+    """A definition of a crate's specs, by the path of its module."""
+
+    crate: str
+    module: str
+    name: str
+
+    def is_private(self) -> bool:
+        return self.module.startswith(PRIVATE + ".")
+
+    def __str__(self) -> str:
+        return "%s of %s/specs/%s.antt" % (self.name, self.crate, self.module.replace(".", "/"))
+
+
+class Names:
+    """What the words of a file stand for, by its imports and its own definitions."""
+
+    def __init__(self, text: str, own: Optional[Tuple[str, str]] = None, defined: FrozenSet[str] = frozenset()):
+        self.of = {name: Definition(*own, name) for name in defined} if own else {}
+        self.modules: Dict[str, Tuple[str, str]] = {}
+        for crate, module, listed, alias in IMPORT.findall(text):
+            if alias:
+                self.modules[alias] = (crate, module)
+            for one in filter(None, (one.strip() for one in listed.split(","))):
+                name, _, renamed = one.partition(" as ")
+                self.of.setdefault(renamed or name, Definition(crate, module, name))
+
+    def cited(self, text: str) -> Iterator[Definition]:
+        """The definitions that a text cites."""
+        for word in set(WORD.findall(text)):
+            first, _, rest = word.partition(".")
+            if first in self.modules and rest:
+                yield Definition(*self.modules[first], rest.partition(".")[0])
+            for part in {word, *word.split(".")} & self.of.keys():
+                yield self.of[part]
+
+
+@functools.lru_cache(maxsize=None)
+def definitions() -> Dict[Definition, Set[Definition]]:
+    """The definitions of all specs, each with those that it cites itself."""
+    found = {}
+    for path in sorted(CRATES.glob("*/specs/**/*.antt")):
+        crate, _, *folders = path.relative_to(CRATES).parent.parts
+        if path.stem in ("Lib", PRIVATE):
+            continue
+        own = (crate, ".".join([*folders, path.stem]))
+        bodies = bodies_of(path.read_text())
+        names = Names(path.read_text(), own, frozenset(bodies))
+        for name, body in bodies.items():
+            found[Definition(*own, name)] = set(names.cited(body)) - {Definition(*own, name)}
+    return found
+
+
+def bodies_of(text: str) -> Dict[str, str]:
+    """The definitions of a file of specs, each with its text but for comments."""
+    bodies: Dict[str, str] = collections.OrderedDict()
+    name = None
+    for line in text.splitlines():
+        if line.startswith("--") or IMPORT.match(line):
+            continue
+        head = HEAD.match(line)
+        name = head.group(1) if head else name
+        if name:
+            bodies[name] = bodies.get(name, "") + line.partition(" --")[0] + "\n"
+    return bodies
+
+
+def contract(lines: List[str], place: int) -> str:
+    """What stands before the body of the function that begins there."""
+    indent = lines[place][:len(lines[place]) - len(lines[place].lstrip())]
+    taken = []
+    for line in lines[place:]:
+        if line.startswith((indent + "{", indent + "}")):
+            break
+        taken.append(line.partition("//")[0])
+        if OPENS_BODY.match(line) and line.startswith((indent + ")", indent + "pub", indent + "fn")):
+            break
+    return "\n".join(taken)
+
+
+class Said(NamedTuple):
+    """A function's contract, or what values of a type are seen as; and whether it is the crate's to give away."""
+
+    path: pathlib.Path
+    name: str
+    text: str
+    is_public: bool
+
+
+def all_said(crate: str) -> Iterator[Said]:
+    """The contracts of a crate's functions, and what values of its types are seen as."""
+    source = CRATES / crate / "src"
+    root = (source / "lib.rt").read_text() if (source / "lib.rt").exists() else ""
+    modules, names = set(PUBLIC_MODULE.findall(root)), set(re.findall(r"\w+", " ".join(PASSED_ON.findall(root))))
+    for path in sorted(source.rglob("*.rt")):
+        of, lines = "", path.read_text().splitlines()
+        for place, line in enumerate(lines):
+            methods, call, value = METHODS.match(line), CALL.match(line), VALUE.match(line)
+            of = methods.group(1) if methods else of
+            if value:
+                yield Said(path, of, value.group(1), path.stem in modules or of in names)
+            elif call:
+                indent, public, name = call.groups()
+                is_public = public is not None and (path.stem in modules or (of if indent else name) in names)
+                yield Said(path, name, contract(lines, place), is_public)
+
+
+def public_calls(crate: str) -> Iterator[str]:
+    """The functions that the root of a library makes public, and those of its public types."""
+    return (said.name for said in all_said(crate) if said.is_public and said.name[0].islower())
+
+
+@functools.lru_cache(maxsize=None)
+def believed() -> Dict[Definition, str]:
+    """The definitions that have to be believed, each with the way by which a contract leads there."""
+    found: Dict[Definition, str] = {}
+    ahead = []
+    for crate in sorted(path.parent.name for path in CRATES.glob("*/src")):
+        for said in () if crate.startswith(("tcc_tests_", "tcc_bench_")) else all_said(crate):
+            if said.is_public or said.path.stem in BEHIND.get(crate, ()):
+                way = "%s of %s" % (said.name, said.path.relative_to(CRATES))
+                ahead += [(one, way) for one in Names(said.path.read_text()).cited(said.text)]
+    while ahead:
+        one, way = ahead.pop()
+        if one in definitions() and one not in found:
+            found[one] = way
+            ahead += [(other, "%s, %s" % (way, one.name)) for other in definitions()[one]]
+    return found
+
+
+@functools.lru_cache(maxsize=None)
+def named() -> FrozenSet[str]:
+    """What stands in backquotes in the documents."""
+    texts = (path.read_text() for path in (TOP / "docs").glob("*.md"))
+    return frozenset(name for text in texts for name in QUOTED.findall(text))
+
+
+def faults_of_trust() -> Iterator[Outcome]:
+    """Whether what contracts cite stands in `specs/` and all else in `specs/private/`, of which the former imports nothing."""
+    for one in sorted(definitions()):
+        wrong = None
+        if one.is_private() and one in believed():
+            wrong = "it is private, but cited: " + believed()[one]
+        elif not one.is_private() and one not in believed() and one.name not in named() and not one.crate.startswith("tcc_bench_"):
+            wrong = "neither a contract nor a document names it: it belongs into specs/private"
+        yield str(one), wrong
+    for path in sorted(CRATES.glob("*/specs/*.antt")):
+        imported = [module for _, module, _, _ in IMPORT.findall(path.read_text()) if module.startswith(PRIVATE + ".")]
+        yield str(path.relative_to(TOP)), "it imports " + ", ".join(imported) if imported else None
