@@ -5,7 +5,7 @@ ghost use Rattle.tcc_rows.specs.Answers.{Answers, answers_after_within};
 ghost use Rattle.tcc_txn.specs.Finished.{transaction_count};
 ghost use Rattle.tcc_rows.specs.Lines.{Record};
 ghost use Rattle.tcc_rows.specs.Reached.{IsWithin};
-ghost use Rattle.tcc_rows.specs.Recordings.{FailsBehindWithin, IsLargeRecording, TakesLargeMoment, after_items};
+ghost use Rattle.tcc_rows.specs.Recordings.{FailsBehind, IsRecording, TakesMoment, after_items};
 ghost use Rattle.tcc_rows.specs.declared.rows.Item.{Item};
 ghost use Rattle.tcc_txn.specs.declared.limits.Limits.TheVariants.{Large};
 ghost use Rattle.tcc_print.specs.private.Halts.{by_row};
@@ -113,13 +113,13 @@ fn read_on<R: Read + Drop, G: Watcher>(
     recording: &mut LargeRecording<R>,
     watcher: &G,
 ) -> Result<Moment, RowFault>
-    ensures moment { (taken : List Item) (ahead : Answers) → IsLargeRecording R.remaining recording.old taken ahead
-        → TakesLargeMoment R.remaining taken ahead result recording.new }
+    ensures moment { (taken : List Item) (ahead : Answers) → IsRecording Large R.remaining recording.old taken ahead
+        → TakesMoment Large R.remaining taken ahead result recording.new }
     ensures within { (all : List Record) → IsWithin R.remaining recording.old.rows all → IsWithin R.remaining recording.new.rows all }
     ensures failed { IfErr result (λ fault. fault_met recording.old.rows ≡ None → fault.kind ≡ RowFaultKind.Read
         → (all : List Record) (taken : List Item) (ahead : Answers) → answers_after_within Large [] all ≡ after_items taken ahead
-        → IsWithin R.remaining recording.old.rows all → IsLargeRecording R.remaining recording.old taken ahead
-        → FailsBehindWithin Large taken fault.row all) }
+        → IsWithin R.remaining recording.old.rows all → IsRecording Large R.remaining recording.old taken ahead
+        → FailsBehind Large taken fault.row all) }
     ensures goes_on { OnOk result (fault_met recording.new.rows ≡ None) }
 {
     watcher.begin(Stage::Reading);
@@ -139,11 +139,11 @@ fn answer_all<R: Read + Drop, W: Write, N: Write, G: Watcher>(
     out: &mut W,
     notes: &mut N,
 ) -> Result<Last, u8>
-    ensures answers { (bytes : List ℕ) → IsLargeRecording R.remaining recording.old [] (answers_of bytes) → IsWithin R.remaining recording.old.rows (records_of bytes)
+    ensures answers { (bytes : List ℕ) → IsRecording Large R.remaining recording.old [] (answers_of bytes) → IsWithin R.remaining recording.old.rows (records_of bytes)
         → fault_met recording.old.rows ≡ None
         → MatchResult result (AllAnswered options bytes (W.contents out.old) (W.contents out.new))
         (EndsEarly options bytes (W.contents out.old) (W.contents out.new)) }
-    ensures finished { (bytes : List ℕ) → IsLargeRecording R.remaining recording.old [] (answers_of bytes)
+    ensures finished { (bytes : List ℕ) → IsRecording Large R.remaining recording.old [] (answers_of bytes)
         → IfOk result (λ _. recording.new.snapshot ≡ finished bytes) }
 {
     let mut last: Option<Last> = None;
@@ -273,7 +273,7 @@ fn run_recording<R: Read + Drop, W: Write, S: Write, N: Write, G: Watcher>(
     options: Options,
     watcher: &G,
 ) -> u8
-    ensures { (bytes : List ℕ) → IsLargeRecording R.remaining recording.old [] (answers_of bytes) → IsWithin R.remaining recording.old.rows (records_of bytes)
+    ensures { (bytes : List ℕ) → IsRecording Large R.remaining recording.old [] (answers_of bytes) → IsWithin R.remaining recording.old.rows (records_of bytes)
         → fault_met recording.old.rows ≡ None
         → IsLargeRun options bytes (W.contents out.old) (W.contents out.new) (option_map S.contents slice.old) (option_map S.contents slice.new) result }
 {

@@ -14,7 +14,7 @@ use Rattle.tcc_rows.specs.Interleaved.{AreInterleaved, is_by}
 use Rattle.tcc_txn.specs.Bytes.{same}
 use Rattle.tcc_rows.specs.Lines.{Record, in_session, is_cut, line_of, op_of}
 use Rattle.tcc_txn.specs.Names.{name_fault}
-use Rattle.tcc_rows.specs.Past.{fault_of, item_of, ops_since, fault_within}
+use Rattle.tcc_rows.specs.Past.{item_of, ops_since, fault_within}
 use Rattle.tcc_txn.specs.Transactions.{Transaction}
 use Rattle.tcc_txn.specs.declared.limits.Limits.{Limits}
 use Rattle.tcc_txn.specs.declared.limits.Limits.TheVariants.{Small}

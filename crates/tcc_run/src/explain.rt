@@ -6,6 +6,7 @@ ghost use Rattle.tcc_rows.specs.Answers.{answers_of, records_of};
 ghost use Rattle.tcc_txn.specs.Finished.{transaction_count};
 ghost use Rattle.tcc_rows.specs.Reached.{IsWithin};
 ghost use Rattle.tcc_rows.specs.Recordings.{IsRecording};
+ghost use Rattle.tcc_txn.specs.declared.limits.Limits.TheVariants.{Small};
 ghost use Rattle.tcc_cert.specs.Texts.{certificate_text};
 ghost use Rattle.tcc_answer.specs.Claims.{certificate_of};
 ghost use Rattle.tcc_print.specs.private.Halts.{by_row};
@@ -182,7 +183,7 @@ fn answer_all<R: Read + Drop, W: Write, N: Write, G: Gate>(
     out: &mut W,
     notes: &mut N,
 ) -> Result<Option<Answer>, u8>
-    ensures { (bytes : List ℕ) → IsRecording R.remaining recording.old [] (answers_of bytes) → IsWithin R.remaining recording.old.rows (records_of bytes)
+    ensures { (bytes : List ℕ) → IsRecording Small R.remaining recording.old [] (answers_of bytes) → IsWithin R.remaining recording.old.rows (records_of bytes)
         → fault_met recording.old.rows ≡ None
         → MatchResult result (AllAnswered options bytes (W.contents out.old) (W.contents out.new))
         (EndsEarly options bytes (W.contents out.old) (W.contents out.new)) }
