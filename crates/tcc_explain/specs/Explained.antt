@@ -1,8 +1,7 @@
 -- What is answered for a snapshot at a level.
-use Rattle.std.specs.Prelude.{ℕ, ◌≡◌, ◌≢◌, List, [], length}
+use Rattle.std.specs.Prelude.{ℕ, ◌≡◌, ◌≢◌, [], length}
 use Rattle.tcc_txn.specs.Snapshots.{Sessions}
 use Rattle.tcc_reads.specs.Faults.{read_faults}
-use Rattle.tcc_reads.specs.History.{History}
 use Rattle.tcc_reads.specs.Sources.{history}
 use Rattle.tcc_graph.specs.Levels.{Judged, judged}
 use Rattle.tcc_graph.specs.Links.{cost}
@@ -28,10 +27,6 @@ IsAnswerOf j (answer.Anomaly a) =
 -- the first answer for the history of a snapshot at the level, where all its reads have sources
 abbrev pub IsAnswerFor : Sessions → Level → Answer → Type 0
 IsAnswerFor s level a = (read_faults s ≡ []) × IsAnswerOf (judged (history s) level) a
-
--- the history of a snapshot, where all its reads have sources, and its labels
-abbrev pub IsLabelledHistory : Sessions → History → List (List ℕ) → Type 0
-IsLabelledHistory s h labels = (read_faults s ≡ []) × (h ≡ history s) × (labels ≡ labels_of h)
 
 -- the list has exactly the read faults of the snapshot, of which there is one at least; or memory is out
 abbrev pub IsRefusal : Sessions → ExplainFault → Type 0

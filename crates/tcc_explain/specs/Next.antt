@@ -13,7 +13,6 @@ use Rattle.tcc_answer.specs.declared.answer.Answer.{Answer}
 use Rattle.tcc_growth.specs.Growth.{IsFirstMissing}
 use Rattle.tcc_growth.specs.Moved.{link_by, moved}
 use Rattle.tcc_explain.specs.Explained.{IsAnswerFor, IsRefusal}
-use Rattle.tcc_explain.specs.declared.refusal.ExplainFault.{ExplainFault}
 use Rattle.tcc_explain.specs.declared.refusal.ExplainFault.TheVariants as whole
 use Rattle.tcc_explain.specs.declared.refusal.NextFault.{NextFault}
 use Rattle.tcc_explain.specs.declared.refusal.NextFault.TheVariants as refusal
@@ -31,11 +30,6 @@ abbrev pub IsNextRefusal : Sessions → LabelledCycle → NextFault → Type 0
 IsNextRefusal s e (refusal.Reads faults) = IsRefusal s (whole.Reads faults)
 IsNextRefusal s e refusal.NoMemory = Unit {0}
 IsNextRefusal s e (refusal.NotNested link) = (read_faults s ≡ []) × IsFirstMissing (judged (history s) e.level) (links_in e s) link
-
--- the refusal of an answer on its own, as one after an earlier anomaly
-abbrev pub next_fault : ExplainFault → NextFault
-next_fault (whole.Reads faults) = refusal.Reads faults
-next_fault whole.NoMemory = refusal.NoMemory
 
 -- what an anomaly says of a history at a level, its tables aside: the first of the least cycles, and the labels
 abbrev pub IsAnomalyOf : Judged → LabelledCycle → Type 0

@@ -5,7 +5,8 @@ ghost use Rattle.tcc_near.specs.Distances.{IsNearOf};
 ghost use Rattle.tcc_derive.specs.Prices.{IsPricesOf};
 ghost use Rattle.tcc_answer.specs.Labels.{labels_of};
 ghost use Rattle.tcc_answer.specs.declared.answer.Answer.TheVariants as answer;
-ghost use Rattle.tcc_explain.specs.Explained.{IsAnswerFor, IsAnswerOf, IsLabelledHistory, IsRefusal};
+ghost use Rattle.tcc_explain.specs.Explained.{IsAnswerFor, IsAnswerOf, IsRefusal};
+ghost use Rattle.tcc_explain.specs.private.Stages.{IsLabelledHistory};
 ghost use Rattle.tcc_graph.specs.Levels.{judged};
 
 use crate::offering::{lesser, offered};

@@ -2,7 +2,7 @@
 ghost use Rattle.std.specs.Prelude.{◌≡◌};
 ghost use Rattle.tcc_explain.specs.declared.refusal.ExplainFault.TheVariants as refusal;
 ghost use Rattle.tcc_explain.specs.declared.refusal.NextFault.TheVariants as next;
-ghost use Rattle.tcc_explain.specs.Next.{next_fault};
+ghost use Rattle.tcc_explain.specs.private.Stages.{next_fault};
 
 use tcc_reads::ReadFault;
 use tcc_txn::NoMemory;
