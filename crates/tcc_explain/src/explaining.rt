@@ -135,7 +135,7 @@ pub fn explain<G: Gate>(
 {
     match resolve(alloc, snapshot) {
         Ok(resolved) => {
-            let graph = Graph::build(alloc, &resolved)?;
+            let graph = Graph::build(alloc, resolved)?;
             let labels = Labels::of(alloc, &graph)?;
             let answer = history_answer(rt, alloc, &graph, level, labels, &[], workers, gate)?;
             Ok(answer)

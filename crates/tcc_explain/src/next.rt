@@ -30,7 +30,7 @@ pub fn explain_next<G: Gate>(
     let level = earlier.level();
     match resolve(alloc, snapshot) {
         Ok(resolved) => {
-            let graph = Graph::build(alloc, &resolved)?;
+            let graph = Graph::build(alloc, resolved)?;
             let labels = Labels::of(alloc, &graph)?;
             let links = carried(alloc, &graph, earlier.labels(), &labels, earlier.links())?;
             if let Some(link) = first_missing(&graph, level, &links) {
