@@ -13,10 +13,11 @@ In the documents, a link has to lead to a file, and what stands in backquotes ha
     a name before a file  `answer_text` (`tcc_answer/specs`): the files there have the name
 
 ARCHITECTURE has to name the modules of each crate, all of them and no others, and what a crate stands on as `crates.txt` has
-it; PROOFS each public call of a library, in the part of its crate. What has to be believed stands in `specs/`, and nothing else
-does (`trust.py`). CHANGELOG tells of the past, and is left out. No script may define a name twice at one level. The man page and
-the completion for bash have to name each command and option of the program's help, and the completion to complete them; and the
-stack that README names has to be enough. Each difference is one line; the last line is `N passed, M failed`.
+it; CONTRACTS has to be what the sources give (`contracts.py`), and so has what is told of statuses and limits (`told.py`). What
+has to be believed stands in `specs/`, and nothing else does (`trust.py`). CHANGELOG tells of the past, and is left out. No script
+may define a name twice at one level. The man page and the completion for bash have to name each command and option of the
+program's help, and the completion to complete them; and the stack that README names has to be enough. Each difference is one line;
+the last line is `N passed, M failed`.
 """
 import argparse
 import ast
@@ -34,9 +35,11 @@ from typing import Dict, Iterator, List, Optional, Tuple
 
 TOP = pathlib.Path(__file__).resolve().parent.parent.parent
 sys.path.insert(0, str(TOP / "tests"))
+import contracts  # noqa: E402
+import told  # noqa: E402
 from counted import Outcome, status_of  # noqa: E402
 from crates import stands_on  # noqa: E402
-from trust import faults_of_trust, public_calls  # noqa: E402
+from trust import faults_of_trust  # noqa: E402
 
 CODE = re.compile(r"```.*?```", re.DOTALL)
 QUOTED = re.compile(r"`([^`\n]+)`")
@@ -183,18 +186,6 @@ def faults_of_crates() -> Iterator[Outcome]:
         yield "crate %s" % crate, None if crate in told and not wrong else "; ".join(wrong) or "ARCHITECTURE has no row"
 
 
-def faults_of_calls() -> Iterator[Outcome]:
-    """Whether PROOFS names each public call of each library, in the part of its crate."""
-    parts = re.split(r"^## `?(\w+)`?.*$", (TOP / "docs/PROOFS.md").read_text(), flags=re.MULTILINE)
-    told = dict(zip(parts[1::2], parts[2::2]))
-    for crate in stands_on():
-        if crate.startswith("tcc_tests_") or not (TOP / "crates" / crate / "src/lib.rt").exists():
-            continue
-        quoted = set(re.findall(r"\w+", " ".join(QUOTED.findall(told.get(crate, "")))))
-        for call in sorted(set(public_calls(crate))):
-            yield "call %s of %s" % (call, crate), None if call in quoted else "PROOFS doesn't name it"
-
-
 def defined(level: ast.AST) -> Iterator[str]:
     """The names that a level of a script defines: functions, classes, and but for the level of a function constants."""
     for one in level.body:
@@ -261,7 +252,8 @@ def outcomes(tcc: List[str]) -> Iterator[Outcome]:
         yield from faults_of_document(document)
     yield from faults_of_modules()
     yield from faults_of_crates()
-    yield from faults_of_calls()
+    yield from contracts.outcomes()
+    yield from told.outcomes()
     yield from faults_of_trust()
     yield from faults_of_scripts()
     if not shutil.which(tcc[0]):

@@ -1,8 +1,8 @@
 """What has to be believed: whether the definitions that contracts cite stand in `specs/`, and all others in `specs/private/`.
 
-A contract counts where its call is public, or where docs/PROOFS.md names the call with its module, as `command_line::read_words`;
-and so does what values of a public type are seen as. What these cite, and what that is defined by, has to be believed. Names are
-followed through the imports of each file. A definition that a document names may stand in `specs/` beside them.
+A contract counts where its call is public, or stands behind one that has no words for what it does; and so does what values of a
+public type are seen as. What these cite, and what that is defined by, has to be believed. Names are followed through the imports of
+each file. A definition that a document names may stand in `specs/` beside them.
 """
 import collections
 import functools
@@ -24,6 +24,8 @@ OPENS_BODY = re.compile(r" *(?:\)|(?:pub )?(?:const )?fn ).*[{;]$")
 IMPORT = re.compile(r"^ *(?:pub |ghost )*use Rattle\.(tcc_\w+)\.specs\.((?:private\.)?[A-Z]\w*)(?:\.\{([^}]*)\}| as (\w+))", re.MULTILINE)
 HEAD = re.compile(r"(?:abbrev |unfoldable )?pub (?:record |data )?([\w'-]+)")
 WORD = re.compile(r"[^\W\d][\w'-]*(?:\.[^\W\d][\w'-]*)*|◌?[^\s\w()\[\]{},;.]+")
+# Modules whose calls stand behind public ones about the process's own words and files, of which no clause can speak.
+BEHIND = {"tcc_words": ("command_line", "checker"), "tcc_files": ("opening",)}
 QUOTED = re.compile(r"`([^`\n]+)`")
 
 
@@ -107,20 +109,6 @@ def contract(lines: List[str], place: int) -> str:
     return "\n".join(taken)
 
 
-@functools.lru_cache(maxsize=None)
-def told(crate: str) -> FrozenSet[Tuple[str, str]]:
-    """The calls that PROOFS names with their modules, in the part of the crate."""
-    parts = re.split(r"^## `?(\w+)`?.*$", (TOP / "docs/PROOFS.md").read_text(), flags=re.MULTILINE)
-    found = set()
-    for row in dict(zip(parts[1::2], parts[2::2])).get(crate, "").splitlines():
-        module = ""
-        for name in QUOTED.findall(row.split("|")[1] if row.startswith("|") else ""):
-            before, _, call = name.rpartition("::")
-            module = before.split("::")[0] or module
-            found.add((module, call))
-    return frozenset(found)
-
-
 class Said(NamedTuple):
     """A function's contract, or what values of a type are seen as; and whether it is the crate's to give away."""
 
@@ -160,7 +148,7 @@ def believed() -> Dict[Definition, str]:
     ahead = []
     for crate in sorted(path.parent.name for path in CRATES.glob("*/src")):
         for said in () if crate.startswith(("tcc_tests_", "tcc_bench_")) else all_said(crate):
-            if said.is_public or (said.path.stem, said.name) in told(crate):
+            if said.is_public or said.path.stem in BEHIND.get(crate, ()):
                 way = "%s of %s" % (said.name, said.path.relative_to(CRATES))
                 ahead += [(one, way) for one in Names(said.path.read_text()).cited(said.text)]
     while ahead:

@@ -4,8 +4,6 @@
 
 mod watch;
 
-ghost use Rattle.std.specs.Prelude.{◌<◌, ◌≤◌};
-
 use std::io::Write;
 use std::process::ExitCode;
 use std::sync::Wait;
@@ -27,9 +25,7 @@ fn explain<W: Write>(
     input: Telling<'_, Input>,
     certificate: &Option<String>,
     out: &mut W,
-) -> u8
-    requires workers { (0 < options.workers) × (options.workers ≤ 32) }
-{
+) -> u8 {
     match open_output(rt, certificate.as_deref(), input.stream()) {
         Ok(file) => {
             let mut file = file;
@@ -58,9 +54,7 @@ fn explain_large<W: Write>(
     input: Telling<'_, Input>,
     slice: &Option<String>,
     out: &mut W,
-) -> u8
-    requires workers { (0 < options.workers) × (options.workers ≤ 32) }
-{
+) -> u8 {
     match open_output(rt, slice.as_deref(), input.stream()) {
         Ok(file) => {
             let mut file = file;
@@ -68,29 +62,23 @@ fn explain_large<W: Write>(
             let is_shown = is_waited_for(rt, input.stream());
             let watch = Watch::new(threads, rt.stderr());
             let watch = &watch;
-            thread::scope(
-                thread::scope_env(),
-                threads,
-                move |scope| -> u8
-                    requires { (0 < options.workers) × (options.workers ≤ 32) }
-                {
-                    if is_shown {
-                        let _ = scope.spawn(move || watch.show());
-                    }
-                    let code = run_large(
-                        threads,
-                        rt.alloc(),
-                        input,
-                        out,
-                        &mut file,
-                        &mut notes,
-                        options,
-                        watch,
-                    );
-                    watch.finish();
-                    code
-                },
-            )
+            thread::scope(thread::scope_env(), threads, move |scope| -> u8 {
+                if is_shown {
+                    let _ = scope.spawn(move || watch.show());
+                }
+                let code = run_large(
+                    threads,
+                    rt.alloc(),
+                    input,
+                    out,
+                    &mut file,
+                    &mut notes,
+                    options,
+                    watch,
+                );
+                watch.finish();
+                code
+            })
         }
         Err(error) => print_unopened(error.kind(), options.json, out),
     }

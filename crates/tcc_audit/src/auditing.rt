@@ -1,5 +1,5 @@
 //! The answer for a book.
-ghost use Rattle.std.specs.Prelude.{◌<◌, ◌≤◌, IfOk};
+ghost use Rattle.std.specs.Prelude.{IfOk};
 ghost use Rattle.tcc_audit.specs.Audited.{IsAudit, IsReadBack};
 
 use crate::fault::AuditFault;
@@ -10,11 +10,11 @@ use std::thread::Threads;
 use tcc_answer::Answer;
 use tcc_book::{Book, Pass};
 use tcc_explain::laws::written;
-use tcc_explain::{Gate, explain};
+use tcc_explain::{Gate, Workers, explain};
 use tcc_graph::Level;
 
 /// The first answer, at a level, for exactly what the passes recorded, where they are those of all sessions of the book;
-/// it is the same in whatever order their recorders held the lock, and for every number of workers, 1 to 32. The gate is
+/// it is the same in whatever order their recorders held the lock, and for every number of workers. The gate is
 /// called before each start that they search. The answer's certificate has a text, which is read as this certificate. The
 /// book stays as it is.
 pub fn audit<G: Gate>(
@@ -23,10 +23,9 @@ pub fn audit<G: Gate>(
     book: &Book,
     passes: &[Pass],
     level: Level,
-    workers: u32,
+    workers: Workers,
     gate: &G,
 ) -> Result<Answer, AuditFault>
-    requires workers { (0 < workers) × (workers ≤ 32) }
     ensures audit { IsAudit passes.now level result }
     ensures read { IfOk result IsReadBack }
 {

@@ -2,12 +2,12 @@
 ghost use Rattle.std.specs.Prelude.{◌≡◌, ◌<◌, Contains, IfOk};
 ghost use denote.Param.Send.{IsSync};
 
-use std::alloc::{Alloc, Global};
+use std::alloc::{Alloc, AllocError, Global};
 use std::io::{Eprint, Print};
 use std::thread::{Threads, join};
 use std::time::{Clock, Instant};
 use std::{fmt, io};
-use tcc_bound::{Bound, NoMemory, Seat};
+use tcc_bound::{Bound, Seat};
 
 #[derive(Clone, Copy)]
 enum Call {
@@ -25,7 +25,7 @@ impl fmt::Display for Call {
 }
 
 // A bound whose floor is 0.
-fn open(alloc: Global) -> Result<(Bound, Seat), NoMemory>
+fn open(alloc: Global) -> Result<(Bound, Seat), AllocError>
     ensures { IfOk result (λ made. (made.1.bound ≡ made.0) × (made.1.known.floor ≡ 0)) }
 {
     let made = Bound::new(alloc)?;

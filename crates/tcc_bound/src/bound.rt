@@ -4,12 +4,11 @@ ghost use Rattle.tcc_bound.specs.Knowing.{newcomer, with_sight, with_offer, with
 ghost use Rattle.tcc_bound.specs.private.Rule.{own_of};
 ghost use Rattle.tcc_bound.specs.declared.known.View.TheVariants.{Unnamed};
 
-use crate::NoMemory;
 use crate::known::View;
 use crate::rule::{AtMostAll, Floor, Joining, Looking, Naming, Offering, Splitting};
 use crate::seat::Seat;
 use atomic_table::{Seat as Token, Shared, Table};
-use std::alloc::Global;
+use std::alloc::{AllocError, Global};
 use std::marker::{Brand, Model};
 
 /// The least cost that was offered, in one word that all threads share; `u64::MAX` where there is none.
@@ -46,10 +45,10 @@ fn name<F: Floor>(shared: &Shared<(), View, (), AtMostAll>, token: &mut Token<()
 }
 
 impl Bound {
-    /// A bound to which nothing was offered, and its first seat. Its one word takes memory, so it answers `NoMemory` where there is none.
+    /// A bound to which nothing was offered, and its first seat. Its one word takes memory, so it answers `AllocError` where there is none.
     ///
     /// The caller names the floor, a number that contracts alone see. No offer may be below it, and so the word never is.
-    pub fn new(alloc: Global) -> Result<(Bound, Seat), NoMemory>
+    pub fn new(alloc: Global) -> Result<(Bound, Seat), AllocError>
         ghost floor: { ℕ }
         requires { floor < 2 ^ 64 }
         ensures { IfOk result (λ made. made.1 ≡ record { bound = made.0; known = newcomer floor }) }

@@ -11,7 +11,3 @@ mod seat;
 
 pub use bound::Bound;
 pub use seat::Seat;
-use std::alloc::AllocError;
-
-/// There was no memory. It is std's own error, so `?` turns it into whatever error a caller has for that.
-pub type NoMemory = AllocError;

@@ -17,7 +17,7 @@ use Rattle.tcc_graph.specs.declared.link.Link.TheVariants as link
 use Rattle.tcc_graph.proofs.Linking.{some_cost, cost_cons, cost_append, one_cost, lead_append}
 use Rattle.tcc_graph.proofs.Pairs.{step_below}
 use Rattle.tcc_graph.proofs.Walking.{walk_below}
-use Rattle.tcc_near.specs.Distances.{NearTable, IsNearOf, IsWalkDistance, IsShortest, least}
+use Rattle.tcc_near.specs.Distances.{NearTable, IsNearOf, IsWalkLength, IsShortest, least}
 use Rattle.tcc_derive.specs.Prices.{Tables, IsPricesOf, IsPrice, IsLeastAmong, IsDerived, IsLinkOf, price_at}
 use Rattle.tcc_derive.proofs.CostLemmas.{link_of}
 use Rattle.tcc_core.specs.Shares.{IsCycleCost}
@@ -129,7 +129,7 @@ steps_some : (j : Judged) (near : NearTable) (a b : ℕ) → IsNearOf j near →
 steps_some j near a b is from to some = go (eqb_tells (steps_at near a b) NONE) (is.exact a b from to)
   where
     go : (((steps_at near a b == NONE) ≡ true) × (steps_at near a b ≡ NONE)) ⊎ (((steps_at near a b == NONE) ≡ false) × (steps_at near a b ≢ NONE))
-        → IsWalkDistance j a b (least near.rows a b) → IsShortest j a b (steps_at near a b)
+        → IsWalkLength j a b (least near.rows a b) → IsShortest j a b (steps_at near a b)
     go (inl (test, same)) w = absurd (some same)
     go (inr (test, other)) w = rw test at w
 
@@ -140,7 +140,7 @@ steps_of_walk j near a b walk is allowed =
     go (eqb_tells (steps_at near a b) NONE) (is.exact a b ends.0 ends.1)
   where
     go : (((steps_at near a b == NONE) ≡ true) × (steps_at near a b ≡ NONE)) ⊎ (((steps_at near a b == NONE) ≡ false) × (steps_at near a b ≢ NONE))
-        → IsWalkDistance j a b (least near.rows a b) → (steps_at near a b ≢ NONE) × (steps_at near a b ≤ length walk)
+        → IsWalkLength j a b (least near.rows a b) → (steps_at near a b ≢ NONE) × (steps_at near a b ≤ length walk)
     go (inl (test, same)) w = let none = rw test at w in absurd (none walk allowed)
     go (inr (test, other)) w = let some = rw test at w in (other, some.least walk allowed)
 

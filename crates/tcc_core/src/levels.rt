@@ -12,8 +12,8 @@ ghost use Rattle.tcc_txn.specs.declared.limits.TheConstants.{MAX_COUNT};
 use crate::marked::offer_marked;
 use crate::queue::Queue;
 use std::alloc::{AllocError, Global};
-use tcc_derive::Class;
 use tcc_bits::words_for;
+use tcc_derive::Class;
 
 /// So many costs have a row at a time: no link that stands in a row of marks costs more, so those that are offered from one
 /// floor have a row each.

@@ -12,7 +12,7 @@ use Rattle.tcc_graph.specs.Relations.{IsSessionPair, IsReadsPair, causal_pair}
 use Rattle.tcc_graph.specs.Links.{IsReason}
 use Rattle.tcc_graph.specs.declared.link.Link.{Link}
 use Rattle.tcc_graph.specs.declared.link.Link.TheVariants as link
-use Rattle.tcc_near.specs.Distances.{least_in, NearTable, IsNearOf, IsWalkDistance}
+use Rattle.tcc_near.specs.Distances.{least_in, NearTable, IsNearOf, IsWalkLength}
 use Rattle.tcc_near.specs.declared.distances.TheConstants.{NONE}
 use Rattle.tcc_near.proofs.Walks.{within_one, within_one_from}
 use Rattle.tcc_near.proofs.BreadthLemmas.{read}
@@ -68,7 +68,7 @@ one_step_pair j near u v is from to = go (causal_pair j.history u v) refl (read 
     row : List ℕ
     row = row_of near.rows u
 
-    there : (o : Option ℕ) → IsWalkDistance j u v o → causal_pair j.history u v ≡ true → o ≡ Some 1
+    there : (o : Option ℕ) → IsWalkLength j u v o → causal_pair j.history u v ≡ true → o ≡ Some 1
     there None away p =
         let w = within_one_from j.history u v p in
         let one : length w.0 ≡ 1 = omega (arith, w.1.0, w.2) in
@@ -80,7 +80,7 @@ one_step_pair j near u v is from to = go (causal_pair j.history u v) refl (read 
         let n_one : n ≡ 1 = omega (arith, few, one, short.attained.1.0.0, short.attained.2) in
         ap Some n_one
 
-    back : IsWalkDistance j u v (Some 1) → causal_pair j.history u v ≡ true
+    back : IsWalkLength j u v (Some 1) → causal_pair j.history u v ≡ true
     back short = within_one j.history u v (short.attained.0, short.attained.1.0, omega (arith, short.attained.2))
 
     go : (t : Bool) → causal_pair j.history u v ≡ t → ((slice_index row v ≡ NONE) × (least_in row v ≡ None))
@@ -97,7 +97,7 @@ one_step_pair j near u v is from to = go (causal_pair j.history u v) refl (read 
         far : slice_index row v ≢ 1
         far one =
             let d : least_in row v ≡ Some 1 = r.1 ∙ ap Some one in
-            false≢true (sym p ∙ back (subst (λ (o : Option ℕ). IsWalkDistance j u v o) d (is.exact u v from to)))
+            false≢true (sym p ∙ back (subst (λ (o : Option ℕ). IsWalkLength j u v o) d (is.exact u v from to)))
 
 pub cost_row_of : (j : Judged) (near : NearTable) (u : ℕ) (prices costs : List ℕ) → IsNearOf j near → u < count j.history → IsPriceRow j u prices
     → HasPairs (row_of near.rows u) prices costs → IsCostRow j u costs

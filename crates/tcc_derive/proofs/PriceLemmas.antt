@@ -6,13 +6,13 @@ use Rattle.std.specs.List.{Contains}
 use Rattle.std.proofs.lemmas.Bool.{eqb-true, eq-eqb, false≢true}
 use Rattle.tcc_reads.specs.History.{count}
 use Rattle.tcc_graph.specs.Keys.{keys}
-use Rattle.tcc_graph.specs.private.KeyRows.{name_of}
+use Rattle.tcc_graph.specs.Places.{name_of}
 use Rattle.tcc_graph.specs.Levels.{Judged, IsAllowedWalk}
 use Rattle.tcc_graph.specs.Links.{MayContradict, IsReason, link_cost}
 use Rattle.tcc_graph.specs.declared.step.Step.{Step}
 use Rattle.tcc_graph.specs.declared.link.Link.{Link}
 use Rattle.tcc_graph.specs.declared.link.Link.TheVariants as link
-use Rattle.tcc_near.specs.Distances.{NearTable, IsShortest, IsWalkDistance, IsNearOf, least_in}
+use Rattle.tcc_near.specs.Distances.{NearTable, IsShortest, IsWalkLength, IsNearOf, least_in}
 use Rattle.tcc_derive.specs.Prices.{IsDerived, IsPrice}
 use Rattle.tcc_derive.specs.private.Buckets.{bucket}
 use Rattle.tcc_derive.specs.private.KeyTables.{IsReadsOf, IsWritesOf}
@@ -39,7 +39,7 @@ pub distance_cases : (j : Judged) (near : NearTable) (b c : ℕ) → IsNearOf j 
     → IsOut j b c ⊎ IsNearby j b c (get_or (row_of near.rows b) c 0)
 distance_cases j near b c nears from to = go (get_or (row_of near.rows b) c 0 == NONE) (nears.exact b c from to) (λ n. nears.short b c n from to)
   where
-    go : (t : Bool) → IsWalkDistance j b c (if t then None else Some (get_or (row_of near.rows b) c 0))
+    go : (t : Bool) → IsWalkLength j b c (if t then None else Some (get_or (row_of near.rows b) c 0))
         → ((n : ℕ) → (if t then None else Some (get_or (row_of near.rows b) c 0)) ≡ Some n → n ≤ count j.history)
         → IsOut j b c ⊎ IsNearby j b c (get_or (row_of near.rows b) c 0)
     go true d s = inl d
@@ -49,7 +49,7 @@ pub no_distance : (j : Judged) (near : NearTable) (b c : ℕ) → IsNearOf j nea
     → get_or (row_of near.rows b) c 0 ≡ NONE
 no_distance j near b c nears from to none = go (get_or (row_of near.rows b) c 0 == NONE) refl (nears.exact b c from to)
   where
-    go : (t : Bool) → (get_or (row_of near.rows b) c 0 == NONE) ≡ t → IsWalkDistance j b c (if t then None else Some (get_or (row_of near.rows b) c 0))
+    go : (t : Bool) → (get_or (row_of near.rows b) c 0 == NONE) ≡ t → IsWalkLength j b c (if t then None else Some (get_or (row_of near.rows b) c 0))
         → get_or (row_of near.rows b) c 0 ≡ NONE
     go true e d = eqb-true (get_or (row_of near.rows b) c 0) NONE e
     go false e d = absurd (none d.attained.0 d.attained.1)
@@ -58,7 +58,7 @@ pub out_of_reach : (j : Judged) (near : NearTable) (b c : ℕ) → IsNearOf j ne
     → get_or (row_of near.rows b) c 0 ≡ NONE → IsOut j b c
 out_of_reach j near b c nears from to none = go (nears.exact b c from to)
   where
-    go : IsWalkDistance j b c (least_in (row_of near.rows b) c) → IsOut j b c
+    go : IsWalkLength j b c (least_in (row_of near.rows b) c) → IsOut j b c
     go d = rw none at d
 
 module _ (j : Judged) (near : NearTable) (reads : List (List Read)) (written : List (List ℕ)) (b : ℕ) (row : List ℕ)

@@ -9,8 +9,7 @@ use crate::by_cost::cost_buckets;
 use rayon::prelude::*;
 use std::alloc::Global;
 use std::thread::Threads;
-use tcc_bits::{mark, words_for};
-use tcc_bits::{ROWS_A_THREAD, Row};
+use tcc_bits::{ROWS_A_THREAD, Row, mark, words_for};
 use tcc_txn::NoMemory;
 
 /// Links that cost more have no row of marks.

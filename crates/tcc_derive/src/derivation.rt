@@ -19,7 +19,9 @@ use tcc_graph::Graph;
 use tcc_near::Near;
 use tcc_txn::NoMemory;
 
-/// The prices of a graph, by its distances and at their level.
+/// The prices of a graph, by its lengths and at their level.
+/// Between each two transactions they are the least cost of a derived link, over all its reasons, and that of a link of
+/// whatever kind; none where there is no such link.
 pub fn derive(
     rt: &(impl Threads + Sync),
     alloc: Global,

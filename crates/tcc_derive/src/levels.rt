@@ -1,5 +1,5 @@
 //! The fewest steps to the readers of each transaction by the reads of one key, level by level: those that are read by
-//! readers at a distance, and by none that is nearer, have this distance.
+//! readers at a length, and by none that is nearer, have this length.
 ghost use Rattle.std.specs.Prelude.{◌≡◌, ◌<◌, ◌≤◌, ◌+◌, ◌^◌, ◌⊎◌, ℕ, List, true, length, slice_index, All, Contains, OnOk};
 ghost use Rattle.tcc_bits.specs.Bits.{is_marked, words_for};
 ghost use Rattle.tcc_near.specs.declared.distances.TheConstants.{NONE};
@@ -8,8 +8,7 @@ ghost use Rattle.tcc_derive.specs.private.Sources.{AreSources, IsCovered, Lowers
 
 use crate::read::Read;
 use std::alloc::{AllocError, Global};
-use tcc_bits::{take_fresh, words_for};
-use tcc_bits::Row;
+use tcc_bits::{Row, take_fresh, words_for};
 use tcc_near::NONE;
 use tcc_txn::NoMemory;
 
@@ -26,7 +25,7 @@ pub(crate) fn levels_of(steps: &[u16]) -> u16
     levels
 }
 
-/// Lowers the fewest steps to these to a distance.
+/// Lowers the fewest steps to these to a length.
 fn lower_each(nearest: &mut [u16], sources: &[u32], distance: u16)
     requires { All (λ a. a < length nearest.old) sources.now }
     ensures { LowersEach (Contains sources.now) distance nearest.old nearest.new }
@@ -37,7 +36,7 @@ fn lower_each(nearest: &mut [u16], sources: &[u32], distance: u16)
     }
 }
 
-/// Takes in from whom a reader at a distance reads; what was seen has no more steps than that.
+/// Takes in from whom a reader at a length reads; what was seen has no more steps than that.
 fn take_reader(
     nearest: &mut [u16],
     seen: &mut [u64],
@@ -59,7 +58,7 @@ fn take_reader(
     Ok(())
 }
 
-/// Takes in the readers at a distance; those that are nearer were taken in before.
+/// Takes in the readers at a length; those that are nearer were taken in before.
 fn take_level(
     _reads: &[Read],
     nearest: &mut [u16],

@@ -12,8 +12,8 @@ use crate::costing::cost_row;
 use rayon::prelude::*;
 use std::alloc::Global;
 use std::thread::Threads;
-use tcc_graph::Graph;
 use tcc_bits::{ROWS_A_THREAD, Row};
+use tcc_graph::Graph;
 use tcc_near::{NONE, Near};
 use tcc_txn::NoMemory;
 

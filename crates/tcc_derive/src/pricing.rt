@@ -18,12 +18,12 @@ use crate::sources::Sources;
 use rayon::prelude::*;
 use std::alloc::Global;
 use std::thread::Threads;
-use tcc_graph::Graph;
 use tcc_bits::{ROWS_A_THREAD, Row};
+use tcc_graph::Graph;
 use tcc_near::{NONE, Near};
 use tcc_txn::NoMemory;
 
-/// With more levels of distances the reads of a key are gone through one by one.
+/// With more levels of lengths the reads of a key are gone through one by one.
 const FEW_LEVELS: u16 = 64;
 
 /// Lowers the fewest steps to the readers of each transaction by the reads of one key.
@@ -73,7 +73,7 @@ fn lower_by_key(
     lower_by_levels(alloc, nearest, reads, rows, steps, levels)
 }
 
-/// What derived links from `b` cost, by the keys that it writes and the distances from it: a step more than the way to the
+/// What derived links from `b` cost, by the keys that it writes and the lengths from it: a step more than the way to the
 /// nearest reader. None leads to `b` itself.
 fn price_row(
     alloc: Global,

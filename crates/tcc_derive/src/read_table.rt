@@ -7,17 +7,17 @@ ghost use Rattle.tcc_derive.specs.private.KeyTables.{AreReadsAt, IsReadsOf};
 
 use crate::read::Read;
 use std::alloc::Global;
-use tcc_graph::Graph;
 use tcc_bits::Row;
+use tcc_graph::Graph;
 use tcc_txn::NoMemory;
 
-/// The reads of the key at a place.
-fn reads_at(alloc: Global, graph: &Graph, place: u32) -> Result<Row<Read>, NoMemory>
-    requires place { place < length (keys graph.now) }
+/// The reads of the key at an index.
+fn reads_at(alloc: Global, graph: &Graph, key_index: u32) -> Result<Row<Read>, NoMemory>
+    requires key_index { key_index < length (keys graph.now) }
     requires few { count graph.now ≤ MAX_COUNT }
-    ensures { IfOk result (AreReadsAt graph.now place) }
+    ensures { IfOk result (AreReadsAt graph.now key_index) }
 {
-    let (sources, readers) = graph.readings_of(place);
+    let (sources, readers) = graph.readings_of(key_index);
     let mut reads = Vec::with_capacity(alloc, sources.len())?;
     for (number, source) in sources.iter().enumerate() {
         reads.push(Read {
@@ -34,11 +34,11 @@ pub(crate) fn read_table(alloc: Global, graph: &Graph) -> Result<Vec<Row<Read>>,
     ensures { IfOk result (λ reads. IsReadsOf graph.now reads.items) }
 {
     let mut reads = Vec::new(alloc);
-    for place in 0..graph.keys().len() {
-        let Ok(place) = u32::try_from(place) else {
+    for key_index in 0..graph.keys().len() {
+        let Ok(key_index) = u32::try_from(key_index) else {
             return Err(NoMemory);
         };
-        reads.push(reads_at(alloc, graph, place)?)?;
+        reads.push(reads_at(alloc, graph, key_index)?)?;
     }
     Ok(reads)
 }

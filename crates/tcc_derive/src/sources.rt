@@ -7,8 +7,7 @@ use crate::bucket::empty_buckets;
 use crate::read::Read;
 use std::alloc::Global;
 use std::marker::Model;
-use tcc_bits::Row;
-use tcc_bits::{mark_each, words_for};
+use tcc_bits::{Row, mark_each, words_for};
 use tcc_txn::NoMemory;
 
 /// A key's rows of marks, one for each transaction: from whom it reads the key; or none at all.

@@ -12,8 +12,8 @@ ghost use Rattle.tcc_graph.specs.Tables.{row_of};
 
 use crate::ByClass;
 use std::marker::Model;
-use tcc_graph::Level;
 use tcc_bits::Row;
+use tcc_graph::Level;
 use tcc_near::NONE;
 
 /// What derived links, and links of all kinds, cost at least between the transactions of a graph at a level.

@@ -7,29 +7,29 @@ ghost use Rattle.tcc_derive.specs.private.KeyTables.{IsWritesOf};
 
 use crate::bucket::empty_buckets;
 use std::alloc::Global;
-use tcc_graph::Graph;
 use tcc_bits::Row;
+use tcc_graph::Graph;
 use tcc_txn::NoMemory;
 
-/// Puts the place of a key into the buckets of its writers.
-fn add_key(written: &mut [Row<usize>], writers: &[u32], place: usize) -> Result<(), NoMemory>
+/// Puts the index of a key into the buckets of its writers.
+fn add_key(written: &mut [Row<usize>], writers: &[u32], key_index: usize) -> Result<(), NoMemory>
     requires { All (λ b. b < length written.old) writers.now }
-    ensures { OnOk result (Puts written.old written.new (Contains writers.now) place) }
+    ensures { OnOk result (Puts written.old written.new (Contains writers.now) key_index) }
 {
     for writer in writers {
-        written[*writer as usize].push(place)?;
+        written[*writer as usize].push(key_index)?;
     }
     Ok(())
 }
 
-/// The places, among the keys of a graph, of the keys that each transaction writes.
+/// The indices, among the keys of a graph, of the keys that each transaction writes.
 pub(crate) fn write_table(alloc: Global, graph: &Graph) -> Result<Vec<Row<usize>>, NoMemory>
     ensures writes { IfOk result (λ written. IsWritesOf graph.now written.items) }
     ensures few { count graph.now ≤ MAX_COUNT }
 {
     let mut written = empty_buckets(alloc, graph.count() as usize)?;
-    for (place, key) in graph.keys().iter().enumerate() {
-        add_key(&mut written, graph.writers(key), place)?;
+    for (key_index, key) in graph.keys().iter().enumerate() {
+        add_key(&mut written, graph.writers(key), key_index)?;
     }
     Ok(written)
 }

@@ -9,7 +9,7 @@ use Rattle.tcc_txn.specs.declared.limits.TheConstants.{MAX_COUNT}
 use Rattle.tcc_reads.specs.History.{History, count}
 use Rattle.tcc_graph.specs.Levels.{Judged, judged}
 use Rattle.tcc_graph.specs.declared.level.Level.{Level}
-use Rattle.tcc_near.specs.Distances.{IsNearOf, NearTable, IsWalkDistance, IsShortest}
+use Rattle.tcc_near.specs.Distances.{IsNearOf, NearTable, IsWalkLength, IsShortest}
 use Rattle.tcc_core.specs.Shares.{IsCappedDistance}
 use Rattle.tcc_packed.specs.Packed.{number_in, at_most}
 use Rattle.tcc_packed.specs.declared.row.TheConstants.{NO_NUMBER}
@@ -63,7 +63,7 @@ pub own_level : (h : History) (level : Level) (near : NearTable) → IsNearOf (j
     → IsNearOf (judged h near.level) near
 own_level h level near is = subst (λ (l : Level). IsNearOf (judged h l) near) (sym is.level) is
 
-near_entry : (j : Judged) (a c cap steps : ℕ) (none : Bool) → IsWalkDistance j a c (cond none None (Some steps))
+near_entry : (j : Judged) (a c cap steps : ℕ) (none : Bool) → IsWalkLength j a c (cond none None (Some steps))
     → IsCappedShortest j cap a c (at_most cap (cond none None (Some steps)))
 near_entry j a c cap steps true none = let same : min cap cap ≡ cap = omega arith in inr (same, λ walk is. absurd (none walk is))
 near_entry j a c cap steps false shortest = go (cases_lt steps cap)

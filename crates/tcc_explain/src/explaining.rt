@@ -1,11 +1,12 @@
 //! The answer for a snapshot.
-ghost use Rattle.std.specs.Prelude.{◌≡◌, ◌<◌, ◌≤◌, IfOk, MatchResult};
+ghost use Rattle.std.specs.Prelude.{◌≡◌, IfOk, MatchResult};
 ghost use Rattle.tcc_graph.specs.Routes.{HasCycle};
 ghost use Rattle.tcc_near.specs.Distances.{IsNearOf};
 ghost use Rattle.tcc_derive.specs.Prices.{IsPricesOf};
 ghost use Rattle.tcc_answer.specs.Labels.{labels_of};
 ghost use Rattle.tcc_answer.specs.declared.answer.Answer.TheVariants as answer;
 ghost use Rattle.tcc_explain.specs.Explained.{IsAnswerFor, IsAnswerOf, IsRefusal};
+ghost use Rattle.tcc_explain.specs.private.Stages.{IsLabelledHistory};
 ghost use Rattle.tcc_graph.specs.Levels.{judged};
 
 use crate::offering::{lesser, offered};
@@ -25,6 +26,7 @@ use tcc_order::order;
 use tcc_reads::{ResolveFault, resolve};
 use tcc_steal::{AllStart, Gate, search_with};
 use tcc_txn::{NoMemory, Snapshot};
+use tcc_workers::Workers;
 
 /// The distances of a graph at a level, which they name.
 fn distances(
@@ -50,14 +52,13 @@ fn anomaly<G: Gate>(
     prices: Prices,
     labels: Labels,
     earlier: &[Link],
-    workers: u32,
+    workers: Workers,
     gate: &G,
 ) -> Result<Anomaly, NoMemory>
     requires near { IsNearOf (judged graph.now near.level) near }
     requires prices { IsPricesOf (judged graph.now near.level) prices }
     requires cycle { HasCycle (judged graph.now near.level) }
     requires labels { labels ≡ labels_of graph.now }
-    requires workers { (0 < workers) × (workers ≤ 32) }
     ensures { IfOk result (λ anomaly. IsAnswerOf (judged graph.now near.level) (answer.Anomaly anomaly)) }
 {
     let seed = lesser(offered(&prices, earlier), seed(&near, &prices));
@@ -96,11 +97,10 @@ pub(crate) fn history_answer<G: Gate>(
     level: Level,
     labels: Labels,
     earlier: &[Link],
-    workers: u32,
+    workers: Workers,
     gate: &G,
 ) -> Result<Answer, NoMemory>
     requires labels { labels ≡ labels_of graph.now }
-    requires workers { (0 < workers) × (workers ≤ 32) }
     ensures { IfOk result (IsAnswerOf (judged graph.now level)) }
 {
     order_or_cycle();
@@ -118,29 +118,39 @@ pub(crate) fn history_answer<G: Gate>(
     Ok(Answer::Anomaly(anomaly))
 }
 
+/// The history of a snapshot whose reads all have sources, with its labels; or all its read faults.
+pub(crate) fn labelled_history(
+    alloc: Global,
+    snapshot: &Snapshot,
+) -> Result<(Graph, Labels), ExplainFault>
+    ensures { MatchResult result (λ found. IsLabelledHistory snapshot.now found.0 found.1) (IsRefusal snapshot.now) }
+{
+    match resolve(alloc, snapshot) {
+        Ok(resolved) => {
+            let graph = Graph::build(alloc, resolved)?;
+            let labels = Labels::of(alloc, &graph)?;
+            Ok((graph, labels))
+        }
+        Err(ResolveFault::Reads(faults)) => Err(ExplainFault::Reads(faults)),
+        Err(ResolveFault::NoMemory) => Err(ExplainFault::NoMemory),
+    }
+}
+
 /// The first answer for the history of a snapshot at a level: its first commit order, or the first of its least cycles
 /// where there is no commit order, with its certificate; or all its read faults, where there are some. The answer is the
-/// same for every number of workers, 1 to 32, and whatever the order in which they search. They search only where there is
+/// same for every number of workers, and whatever the order in which they search. They search only where there is
 /// a cycle, and the gate is called before each start that they take.
 pub fn explain<G: Gate>(
     rt: &(impl Threads + Sync),
     alloc: Global,
     snapshot: &Snapshot,
     level: Level,
-    workers: u32,
+    workers: Workers,
     gate: &G,
 ) -> Result<Answer, ExplainFault>
-    requires workers { (0 < workers) × (workers ≤ 32) }
     ensures { MatchResult result (IsAnswerFor snapshot.now level) (IsRefusal snapshot.now) }
 {
-    match resolve(alloc, snapshot) {
-        Ok(resolved) => {
-            let graph = Graph::build(alloc, resolved)?;
-            let labels = Labels::of(alloc, &graph)?;
-            let answer = history_answer(rt, alloc, &graph, level, labels, &[], workers, gate)?;
-            Ok(answer)
-        }
-        Err(ResolveFault::Reads(faults)) => Err(ExplainFault::Reads(faults)),
-        Err(ResolveFault::NoMemory) => Err(ExplainFault::NoMemory),
-    }
+    let (graph, labels) = labelled_history(alloc, snapshot)?;
+    let answer = history_answer(rt, alloc, &graph, level, labels, &[], workers, gate)?;
+    Ok(answer)
 }

@@ -13,3 +13,4 @@ pub use next::explain_next;
 pub use refusal::{ExplainFault, NextFault};
 pub use tcc_answer::{Anomaly, Answer, Commit, Shape, WriteFault, write_json, write_text};
 pub use tcc_steal::{Gate, OpenGate};
+pub use tcc_workers::Workers;

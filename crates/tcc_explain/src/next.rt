@@ -1,17 +1,16 @@
 //! The answer for a snapshot that may continue one that had an anomaly.
-ghost use Rattle.std.specs.Prelude.{◌<◌, ◌≤◌, MatchResult};
+ghost use Rattle.std.specs.Prelude.{MatchResult};
 ghost use Rattle.tcc_explain.specs.Next.{IsNextAnswer, IsNextRefusal};
 
-use crate::explaining::history_answer;
+use crate::explaining::{history_answer, labelled_history};
 use crate::refusal::NextFault;
 use std::alloc::Global;
 use std::thread::Threads;
-use tcc_answer::{Anomaly, Answer, Labels};
-use tcc_graph::Graph;
+use tcc_answer::{Anomaly, Answer};
 use tcc_growth::{carried, first_missing};
-use tcc_reads::{ResolveFault, resolve};
 use tcc_steal::Gate;
 use tcc_txn::Snapshot;
+use tcc_workers::Workers;
 
 /// The answer that `explain` gives for the history of a snapshot at the level of an earlier anomaly, where each link of that
 /// anomaly, found by the labels of its transactions, is a link of this history: the search begins with what such a cycle
@@ -21,25 +20,17 @@ pub fn explain_next<G: Gate>(
     alloc: Global,
     snapshot: &Snapshot,
     earlier: &Anomaly,
-    workers: u32,
+    workers: Workers,
     gate: &G,
 ) -> Result<Answer, NextFault>
-    requires workers { (0 < workers) × (workers ≤ 32) }
     ensures { MatchResult result (IsNextAnswer snapshot.now earlier.now) (IsNextRefusal snapshot.now earlier.now) }
 {
     let level = earlier.level();
-    match resolve(alloc, snapshot) {
-        Ok(resolved) => {
-            let graph = Graph::build(alloc, resolved)?;
-            let labels = Labels::of(alloc, &graph)?;
-            let links = carried(alloc, &graph, earlier.labels(), &labels, earlier.links())?;
-            if let Some(link) = first_missing(&graph, level, &links) {
-                return Err(NextFault::NotNested { link });
-            }
-            let answer = history_answer(rt, alloc, &graph, level, labels, &links, workers, gate)?;
-            Ok(answer)
-        }
-        Err(ResolveFault::Reads(faults)) => Err(NextFault::Reads(faults)),
-        Err(ResolveFault::NoMemory) => Err(NextFault::NoMemory),
+    let (graph, labels) = labelled_history(alloc, snapshot)?;
+    let links = carried(alloc, &graph, earlier.labels(), &labels, earlier.links())?;
+    if let Some(link) = first_missing(&graph, level, &links) {
+        return Err(NextFault::NotNested { link });
     }
+    let answer = history_answer(rt, alloc, &graph, level, labels, &links, workers, gate)?;
+    Ok(answer)
 }

@@ -9,9 +9,9 @@ ghost use Rattle.tcc_graph.specs.Levels.{judged};
 
 use std::alloc::Global;
 use tcc_answer::CappedRows;
+use tcc_bits::Row;
 use tcc_cert::{Numbers, Table};
 use tcc_graph::{Graph, Level};
-use tcc_bits::Row;
 use tcc_near::Near;
 use tcc_order::clocks;
 use tcc_packed::PackedRow;

@@ -2,6 +2,8 @@
 use Rattle.std.specs.Prelude.{ℕ, Bool, List, Option, None, Some, false}
 use Rattle.std.specs.declared.io.ErrorKind.{ErrorKind}
 use Rattle.std.specs.declared.io.ErrorKind.TheVariants.{OutOfMemory}
+use Rattle.tcc_files.specs.declared.input.Input.{Input}
+use Rattle.tcc_files.specs.declared.input.Input.TheVariants as input
 use Rattle.tcc_print.specs.declared.status.Status.{Status}
 use Rattle.tcc_print.specs.declared.status.Status.TheVariants.{Memory, Device}
 use Rattle.tcc_print.specs.Printed.{Prints, device_line, memory_line}
@@ -25,3 +27,9 @@ AreBothGiven None None = Unit {0}
 AreBothGiven (Some a) (Some b) = Unit {0}
 AreBothGiven None (Some b) = ⊥
 AreBothGiven (Some a) None = ⊥
+
+-- the input is the file that is named, or the standard input where none is
+abbrev pub IsInputOf : {A : Type 0} → Option A → Input → Type 0
+IsInputOf (Some path) (input.File file) = Unit {0}
+IsInputOf None (input.Standard stdin) = Unit {0}
+IsInputOf _ _ = ⊥

@@ -1,7 +1,7 @@
 //! The files that the command line names.
 ghost use Rattle.std.specs.Prelude.{IfOk, MatchResult, false};
 ghost use Rattle.std.specs.IoError.{error_kind};
-ghost use Rattle.tcc_files.specs.Files.{AreBothGiven, PrintsUnopened};
+ghost use Rattle.tcc_files.specs.Files.{AreBothGiven, IsInputOf, PrintsUnopened};
 ghost use Rattle.tcc_verdict.specs.Checks.{PrintsSome};
 
 use crate::input::Input;
@@ -27,7 +27,9 @@ fn open<'a>(rt: &HostRuntime, path: &'a str) -> io::Result<Telling<'a, File>> {
 }
 
 /// Opens the file of the records, if one is given; without it they are those of the standard input.
-pub fn open_input<'a>(rt: &HostRuntime, path: Option<&'a str>) -> io::Result<Telling<'a, Input>> {
+pub fn open_input<'a>(rt: &HostRuntime, path: Option<&'a str>) -> io::Result<Telling<'a, Input>>
+    ensures { IfOk result (λ telling. IsInputOf path.entry telling.stream) }
+{
     match path {
         Some(path) => {
             let file = told(rt, path, opening::open(rt, path))?;

@@ -4,7 +4,7 @@ ghost use Rattle.std.specs.Prelude.{◌≡◌, ◌↔◌, ◌⊎◌, ◌≤ℤ�
 ghost use Rattle.std.specs.Fd.{file_raw_fd};
 ghost use Rattle.std.specs.Fs.{metadata_mode};
 ghost use Rattle.std.specs.IoError.{error_kind};
-ghost use Rattle.tcc_files.specs.Places.{AreSame, FailsAs, IsPlaced, is_character_device, place_with};
+ghost use Rattle.tcc_files.specs.FileIds.{AreSame, FailsAs, HasId, is_character_device, id_with};
 
 use crate::input::Input;
 use std::fs::{self, File, Metadata, OpenOptions};
@@ -20,7 +20,7 @@ const OUTPUT: &str = "/proc/self/fd/1";
 
 /// Which of all files one is: its device, and its number there.
 #[derive(Clone, Copy, PartialEq, Eq)]
-pub struct Place {
+pub struct FileId {
     device: u64,
     number: u64,
 }
@@ -33,26 +33,26 @@ pub(crate) fn is_device(mode: u32) -> bool
     mode & 0o170000 == 0o020000
 }
 
-impl Place {
-    /// That of a file with this mode: none of a terminal, `/dev/null` and the like, which keep nothing that could be lost.
-    fn with(mode: u32, device: u64, number: u64) -> Option<Place>
-        ensures { result ≡ place_with mode device number }
+impl FileId {
+    /// The id of a file with this mode: none of a terminal, `/dev/null` and the like, which keep nothing that could be lost.
+    fn with(mode: u32, device: u64, number: u64) -> Option<FileId>
+        ensures { result ≡ id_with mode device number }
     {
         if is_device(mode) {
             return None;
         }
-        Some(Place { device, number })
+        Some(FileId { device, number })
     }
 
-    fn of(metadata: &Metadata) -> Option<Place>
-        ensures { IsPlaced (metadata_mode metadata.now) result }
+    fn of(metadata: &Metadata) -> Option<FileId>
+        ensures { HasId (metadata_mode metadata.now) result }
     {
-        Place::with(metadata.mode(), metadata.dev(), metadata.ino())
+        FileId::with(metadata.mode(), metadata.dev(), metadata.ino())
     }
 }
 
 /// Whether both are the same file.
-fn is_same(one: Option<Place>, other: Option<Place>) -> bool
+fn is_same(one: Option<FileId>, other: Option<FileId>) -> bool
     ensures { IsTrue result ↔ AreSame one other }
 {
     match (one, other) {
@@ -61,12 +61,12 @@ fn is_same(one: Option<Place>, other: Option<Place>) -> bool
     }
 }
 
-/// The place of the file that a standard stream is open on, by what the system tells of it.
-fn told_place(told: io::Result<Metadata>) -> io::Result<Option<Place>>
-    ensures { MatchResult told (λ metadata. IfOk result (IsPlaced (metadata_mode metadata))) (λ error. FailsAs (error_kind error) result) }
+/// The id of the file that a standard stream is open on, by what the system tells of it.
+fn told_id(told: io::Result<Metadata>) -> io::Result<Option<FileId>>
+    ensures { MatchResult told (λ metadata. IfOk result (HasId (metadata_mode metadata))) (λ error. FailsAs (error_kind error) result) }
 {
     match told {
-        Ok(metadata) => Ok(Place::of(&metadata)),
+        Ok(metadata) => Ok(FileId::of(&metadata)),
         Err(error) => {
             let message = "nothing tells what the input and the output are";
             Err(io::Error::new(error.kind(), message))
@@ -74,30 +74,30 @@ fn told_place(told: io::Result<Metadata>) -> io::Result<Option<Place>>
     }
 }
 
-/// The place of the file that a standard stream is open on.
-fn stream(rt: &HostRuntime, link: &str) -> io::Result<Option<Place>> {
-    told_place(fs::metadata(rt, link))
+/// The id of the file that a standard stream is open on.
+fn stream(rt: &HostRuntime, link: &str) -> io::Result<Option<FileId>> {
+    told_id(fs::metadata(rt, link))
 }
 
-/// The place of the file that the records come from.
-fn place_of(rt: &HostRuntime, input: &Input) -> io::Result<Option<Place>> {
+/// The id of the file that the records come from.
+fn input_id(rt: &HostRuntime, input: &Input) -> io::Result<Option<FileId>> {
     match input {
         Input::Standard(_) => stream(rt, INPUT),
-        Input::File(file) => Ok(Place::of(&file.metadata()?)),
+        Input::File(file) => Ok(FileId::of(&file.metadata()?)),
     }
 }
 
-/// Whether the file at the first place is the input or the output, which are at the other two.
-fn is_either(file: Option<Place>, input: Option<Place>, output: Option<Place>) -> bool
+/// Whether the first file is the input or the output, which are the other two.
+fn is_either(file: Option<FileId>, input: Option<FileId>, output: Option<FileId>) -> bool
     ensures { IsTrue result ↔ (AreSame file input ⊎ AreSame file output) }
 {
     is_same(file, input) || is_same(file, output)
 }
 
-/// Whether the file at this place is the input or the output; an error where a standard stream of these is closed, or the
+/// Whether this file is the input or the output; an error where a standard stream of these is closed, or the
 /// system doesn't tell.
-fn is_taken(rt: &HostRuntime, input: &Input, file: Option<Place>) -> io::Result<bool> {
-    let input = place_of(rt, input)?;
+fn is_taken(rt: &HostRuntime, input: &Input, file: Option<FileId>) -> io::Result<bool> {
+    let input = input_id(rt, input)?;
     let output = stream(rt, OUTPUT)?;
     Ok(is_either(file, input, output))
 }
@@ -130,7 +130,7 @@ pub fn make(rt: &HostRuntime, path: &str, input: &Input) -> io::Result<File>
     let opened = OpenOptions::new().write(true).create(true).open(rt, path)?;
     let file = aside(opened)?;
     let metadata = file.metadata()?;
-    if is_taken(rt, input, Place::of(&metadata))? {
+    if is_taken(rt, input, FileId::of(&metadata))? {
         let message = "it is the input or the output";
         return Err(io::Error::new(ErrorKind::ResourceBusy, message));
     }

@@ -1,4 +1,5 @@
 //! Readers and writers that tell why they fail.
+ghost use Rattle.std.specs.Prelude.{◌≡◌};
 
 use std::io::{self, Read, Write};
 
@@ -12,7 +13,10 @@ pub struct Telling<'a, S> {
 
 impl<'a, S> Telling<'a, S> {
     /// The stream by this name.
-    pub fn new(stream: S, name: &'a str, errors: io::Stderr) -> Telling<'a, S> {
+    pub fn new(stream: S, name: &'a str, errors: io::Stderr) -> Telling<'a, S>
+        ensures stream { result.stream ≡ stream }
+        ensures name { result.name ≡ name.now }
+    {
         Telling {
             stream,
             name,
@@ -21,7 +25,9 @@ impl<'a, S> Telling<'a, S> {
     }
 
     /// The stream itself.
-    pub fn stream(&self) -> &S {
+    pub fn stream(&self) -> &S
+        ensures { result.now ≡ self.now.stream }
+    {
         &self.stream
     }
 }

@@ -25,7 +25,7 @@ with_names sorted names = fold (insert_key (slice_cmp nat_cmp)) sorted names
 abbrev pub keys : History → List (List ℕ)
 keys h = with_names [] (flat_map keys_of h.entries)
 
--- the key at a place among them
+-- the key at an index among them
 abbrev pub key_at : History → ℕ → List ℕ
 key_at h k = name_of (keys h) k
 

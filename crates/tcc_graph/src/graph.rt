@@ -178,39 +178,39 @@ impl Graph {
         self.large.is_link(level, link)
     }
 
-    /// The transactions that write the key at a place visibly, ascending, `init` first.
-    pub fn writers_at(&self, place: u32) -> &[u32]
-        requires { place < length (keys self.now) }
-        ensures { result.now ≡ writers self.now (key_at self.now place) }
+    /// The transactions that write the key at an index visibly, ascending, `init` first.
+    pub fn writers_at(&self, key_index: u32) -> &[u32]
+        requires { key_index < length (keys self.now) }
+        ensures { result.now ≡ writers self.now (key_at self.now key_index) }
     {
-        self.large.writers_at(place)
+        self.large.writers_at(key_index)
     }
 
-    /// Who reads the key at a place: the sources by ascending number, and beside each a reader of the key from it: of one
+    /// Who reads the key at an index: the sources by ascending number, and beside each a reader of the key from it: of one
     /// source by ascending number, each once.
-    pub fn readings_of(&self, place: u32) -> (&[u32], &[u32])
-        requires { place < length (keys self.now) }
+    pub fn readings_of(&self, key_index: u32) -> (&[u32], &[u32])
+        requires { key_index < length (keys self.now) }
         ensures long { length result.0.now ≡ length result.1.now }
-        ensures each { (a c : ℕ) → Contains (zip result.0.now result.1.now) (a, c) ↔ IsReadsPair self.now a c (key_at self.now place) }
+        ensures each { (a c : ℕ) → Contains (zip result.0.now result.1.now) (a, c) ↔ IsReadsPair self.now a c (key_at self.now key_index) }
         ensures order { AreInOrder nat_cmp result.0.now result.1.now }
     {
-        self.large.readings_of(place)
+        self.large.readings_of(key_index)
     }
 
-    /// Who reads from `a`, by ascending number, and beside each the place of a key that it reads there: of one reader
+    /// Who reads from `a`, by ascending number, and beside each the index of a key that it reads there: of one reader
     /// ascending, each once.
     pub fn readings_at(&self, a: u32) -> (&[u32], &[u32])
         requires { a < count self.now }
         ensures long { length result.0.now ≡ length result.1.now }
-        ensures within { All (λ place. place < length (keys self.now)) result.1.now }
-        ensures each { (c place : ℕ) → Contains (zip result.0.now result.1.now) (c, place)
-            ↔ ((place < length (keys self.now)) × IsReadsPair self.now a c (key_at self.now place)) }
+        ensures within { All (λ key_index. key_index < length (keys self.now)) result.1.now }
+        ensures each { (c key_index : ℕ) → Contains (zip result.0.now result.1.now) (c, key_index)
+            ↔ ((key_index < length (keys self.now)) × IsReadsPair self.now a c (key_at self.now key_index)) }
         ensures order { AreInOrder nat_cmp result.0.now result.1.now }
     {
         self.large.readings_at(a)
     }
 
-    /// The places of the keys that a transaction reads, each with the transaction that it reads it from.
+    /// The indices of the keys that a transaction reads, each with the transaction that it reads it from.
     pub fn reads_at(&self, c: u32) -> &[(u32, u32)]
         requires { c < count self.now }
         ensures value { map (λ read. (key_at self.now read.0, read.1)) result.now ≡ (entry_at self.now c).reads }
@@ -219,11 +219,11 @@ impl Graph {
         self.large.reads_at(c)
     }
 
-    /// The places of the keys that a transaction writes visibly, ascending; none for `init`, which writes every key.
+    /// The indices of the keys that a transaction writes visibly, ascending; none for `init`, which writes every key.
     pub fn writes_at(&self, b: u32) -> &[u32]
         requires { b < count self.now }
         ensures value { map (key_at self.now) result.now ≡ (entry_at self.now b).writes }
-        ensures within { All (λ place. place < length (keys self.now)) result.now }
+        ensures within { All (λ key_index. key_index < length (keys self.now)) result.now }
     {
         self.large.writes_at(b)
     }

@@ -32,7 +32,7 @@ pub struct LargeGraph {
     reads: Vec<Grouped<Name>>,
     keys: Vec<Name>,
     placed: Vec<Placed>,
-    places: Vec<Grouped<u32>>,
+    key_indices: Vec<Grouped<u32>>,
     rows: Vec<KeyRow>,
 }
 
@@ -44,7 +44,7 @@ impl Model for LargeGraph {
 
     ghost view = { λ g. record { sessions = g.sessions.items; entries = g.transactions.items } };
 
-    ghost invariant = { λ g. IsGraph g.sessions.items g.transactions.items g.reads.items g.keys.items g.placed.items g.places.items g.rows.items };
+    ghost invariant = { λ g. IsGraph g.sessions.items g.transactions.items g.reads.items g.keys.items g.placed.items g.key_indices.items g.rows.items };
 }
 
 impl LargeGraph {
@@ -56,15 +56,15 @@ impl LargeGraph {
         let reads = read_table(alloc, &transactions)?;
         let keys = sorted_keys(alloc, &transactions)?;
         let placed = placed_by(alloc, &keys, &transactions)?;
-        let places = place_table(alloc, &placed)?;
-        let rows = key_table(alloc, keys.len(), &placed, &places)?;
+        let key_indices = place_table(alloc, &placed)?;
+        let rows = key_table(alloc, keys.len(), &placed, &key_indices)?;
         Ok(LargeGraph {
             sessions,
             transactions,
             reads,
             keys,
             placed,
-            places,
+            key_indices,
             rows,
         })
     }
@@ -193,7 +193,7 @@ impl LargeGraph {
         ensures { result.now ≡ writers self.now key.now }
     {
         match place_of(&self.keys, key) {
-            Some(place) => self.rows[place].writers(),
+            Some(key_index) => self.rows[key_index].writers(),
             None => &[],
         }
     }
@@ -204,7 +204,7 @@ impl LargeGraph {
         ensures { result.now ≡ readers self.now a key.now }
     {
         match place_of(&self.keys, key) {
-            Some(place) => self.rows[place].readers(a),
+            Some(key_index) => self.rows[key_index].readers(a),
             None => &[],
         }
     }
@@ -216,41 +216,41 @@ impl LargeGraph {
         is_link(self, level, link)
     }
 
-    /// The transactions that write the key at a place visibly, ascending, `init` first.
-    pub fn writers_at(&self, place: u32) -> &[u32]
-        requires { place < length (keys self.now) }
-        ensures { result.now ≡ writers self.now (key_at self.now place) }
+    /// The transactions that write the key at an index visibly, ascending, `init` first.
+    pub fn writers_at(&self, key_index: u32) -> &[u32]
+        requires { key_index < length (keys self.now) }
+        ensures { result.now ≡ writers self.now (key_at self.now key_index) }
     {
-        self.rows[place as usize].writers()
+        self.rows[key_index as usize].writers()
     }
 
-    /// Who reads the key at a place: the sources by ascending number, and beside each a reader of the key from it: of one
+    /// Who reads the key at an index: the sources by ascending number, and beside each a reader of the key from it: of one
     /// source by ascending number, each once.
-    pub fn readings_of(&self, place: u32) -> (&[u32], &[u32])
-        requires { place < length (keys self.now) }
+    pub fn readings_of(&self, key_index: u32) -> (&[u32], &[u32])
+        requires { key_index < length (keys self.now) }
         ensures long { length result.0.now ≡ length result.1.now }
-        ensures each { (a c : ℕ) → Contains (zip result.0.now result.1.now) (a, c) ↔ IsReadsPair self.now a c (key_at self.now place) }
+        ensures each { (a c : ℕ) → Contains (zip result.0.now result.1.now) (a, c) ↔ IsReadsPair self.now a c (key_at self.now key_index) }
         ensures order { AreInOrder nat_cmp result.0.now result.1.now }
     {
-        let readers = self.rows[place as usize].all_readers();
+        let readers = self.rows[key_index as usize].all_readers();
         (readers.groups(), readers.values())
     }
 
-    /// Who reads from `a`, by ascending number, and beside each the place of a key that it reads there: of one reader
+    /// Who reads from `a`, by ascending number, and beside each the index of a key that it reads there: of one reader
     /// ascending, each once.
     pub fn readings_at(&self, a: u32) -> (&[u32], &[u32])
         requires { a < count self.now }
         ensures long { length result.0.now ≡ length result.1.now }
-        ensures within { All (λ place. place < length (keys self.now)) result.1.now }
-        ensures each { (c place : ℕ) → Contains (zip result.0.now result.1.now) (c, place)
-            ↔ ((place < length (keys self.now)) × IsReadsPair self.now a c (key_at self.now place)) }
+        ensures within { All (λ key_index. key_index < length (keys self.now)) result.1.now }
+        ensures each { (c key_index : ℕ) → Contains (zip result.0.now result.1.now) (c, key_index)
+            ↔ ((key_index < length (keys self.now)) × IsReadsPair self.now a c (key_at self.now key_index)) }
         ensures order { AreInOrder nat_cmp result.0.now result.1.now }
     {
-        let places = &self.places[a as usize];
-        (places.groups(), places.values())
+        let key_indices = &self.key_indices[a as usize];
+        (key_indices.groups(), key_indices.values())
     }
 
-    /// The places of the keys that a transaction reads, each with the transaction that it reads it from.
+    /// The indices of the keys that a transaction reads, each with the transaction that it reads it from.
     pub fn reads_at(&self, c: u32) -> &[(u32, u32)]
         requires { c < count self.now }
         ensures value { map (λ read. (key_at self.now read.0, read.1)) result.now ≡ (entry_at self.now c).reads }
@@ -259,11 +259,11 @@ impl LargeGraph {
         self.placed[c as usize].reads()
     }
 
-    /// The places of the keys that a transaction writes visibly, ascending; none for `init`, which writes every key.
+    /// The indices of the keys that a transaction writes visibly, ascending; none for `init`, which writes every key.
     pub fn writes_at(&self, b: u32) -> &[u32]
         requires { b < count self.now }
         ensures value { map (key_at self.now) result.now ≡ (entry_at self.now b).writes }
-        ensures within { All (λ place. place < length (keys self.now)) result.now }
+        ensures within { All (λ key_index. key_index < length (keys self.now)) result.now }
     {
         self.placed[b as usize].writes()
     }

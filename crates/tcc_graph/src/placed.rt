@@ -1,4 +1,4 @@
-//! What transactions write and read, by the places of the keys.
+//! What transactions write and read, by the indices of the keys.
 ghost use Rattle.std.specs.Prelude.{◌≡◌, ◌<◌, ◌≤◌, true, map, length, All, IfOk};
 ghost use Rattle.std.specs.List.Sorted.{IsStrictlySortedBy};
 ghost use Rattle.std.specs.Ordering.{nat_cmp};
@@ -13,7 +13,7 @@ use std::marker::Model;
 use tcc_reads::Transaction;
 use tcc_txn::{Name, NoMemory};
 
-/// What a transaction writes and reads: places among the keys, those read each with its source.
+/// What a transaction writes and reads: indices among the keys, those read each with its source.
 #[derive(Drop)]
 pub(crate) struct Placed {
     writes: Vec<u32>,
@@ -28,7 +28,7 @@ impl Model for Placed {
     ghost view = { λ p. record { writes = p.writes.items; reads = p.reads.items } };
 }
 
-/// The place of a key that is among the sorted keys.
+/// The index of a key that is among the sorted keys.
 fn place_in(keys: &[Name], key: &Name) -> u32
     requires sorted { IsStrictlySortedBy (slice_cmp nat_cmp) keys.now }
     requires few { length keys.now ≤ u32.MAX }
@@ -39,22 +39,22 @@ fn place_in(keys: &[Name], key: &Name) -> u32
     place_of(keys, key).unwrap() as u32
 }
 
-/// The places of names that are all among the sorted keys.
+/// The indices of names that are all among the sorted keys.
 fn places_of(alloc: Global, keys: &[Name], names: &[Name]) -> Result<Vec<u32>, NoMemory>
     requires sorted { IsStrictlySortedBy (slice_cmp nat_cmp) keys.now }
     requires few { length keys.now ≤ u32.MAX }
     requires there { All (λ x. has_name keys.now x ≡ true) names.now }
-    ensures names { IfOk result (λ places. map (name_of keys.now) places.items ≡ names.now) }
-    ensures within { IfOk result (λ places. All (λ k. k < length keys.now) places.items) }
+    ensures names { IfOk result (λ key_indices. map (name_of keys.now) key_indices.items ≡ names.now) }
+    ensures within { IfOk result (λ key_indices. All (λ k. k < length keys.now) key_indices.items) }
 {
-    let mut places = Vec::new(alloc);
+    let mut key_indices = Vec::new(alloc);
     for name in names {
-        places.push(place_in(keys, name))?;
+        key_indices.push(place_in(keys, name))?;
     }
-    Ok(places)
+    Ok(key_indices)
 }
 
-/// The places of keys that are read, each with its source; all keys are among the sorted ones.
+/// The indices of keys that are read, each with its source; all keys are among the sorted ones.
 fn read_places(
     alloc: Global,
     keys: &[Name],
@@ -63,14 +63,14 @@ fn read_places(
     requires sorted { IsStrictlySortedBy (slice_cmp nat_cmp) keys.now }
     requires few { length keys.now ≤ u32.MAX }
     requires there { All (λ read. has_name keys.now read.0 ≡ true) reads.now }
-    ensures names { IfOk result (λ places. map (λ read. (name_of keys.now read.0, read.1)) places.items ≡ reads.now) }
-    ensures within { IfOk result (λ places. All (λ read. read.0 < length keys.now) places.items) }
+    ensures names { IfOk result (λ key_indices. map (λ read. (name_of keys.now read.0, read.1)) key_indices.items ≡ reads.now) }
+    ensures within { IfOk result (λ key_indices. All (λ read. read.0 < length keys.now) key_indices.items) }
 {
-    let mut places = Vec::new(alloc);
+    let mut key_indices = Vec::new(alloc);
     for (key, source) in reads {
-        places.push((place_in(keys, key), *source))?;
+        key_indices.push((place_in(keys, key), *source))?;
     }
-    Ok(places)
+    Ok(key_indices)
 }
 
 impl Placed {
@@ -87,14 +87,14 @@ impl Placed {
         })
     }
 
-    /// The places of the keys that it writes visibly.
+    /// The indices of the keys that it writes visibly.
     pub(crate) fn writes(&self) -> &[u32]
         ensures { result.now ≡ self.now.writes }
     {
         &self.writes
     }
 
-    /// Place and source of its external reads.
+    /// Index of the key and source of its external reads.
     pub(crate) fn reads(&self) -> &[(u32, u32)]
         ensures { result.now ≡ self.now.reads }
     {
@@ -102,7 +102,7 @@ impl Placed {
     }
 }
 
-/// What each transaction writes and reads, by the places of the keys.
+/// What each transaction writes and reads, by the indices of the keys.
 pub(crate) fn placed_by(
     alloc: Global,
     keys: &[Name],

@@ -13,10 +13,10 @@ use Rattle.tcc_rows.specs.Answers.{Answers, ending}
 use Rattle.tcc_rows.specs.Failing.{items_before_within}
 use Rattle.tcc_txn.specs.Finished.{transaction_count}
 use Rattle.tcc_rows.specs.Items.{finished_in}
-use Rattle.tcc_rows.specs.Recordings.{FailsBehindWithin, IsLargeRecording, TakesLargeMoment, after_items}
+use Rattle.tcc_rows.specs.Recordings.{FailsBehind, IsRecording, TakesMoment, after_items}
 use Rattle.tcc_txn.specs.Snapshots.{Sessions}
 use Rattle.tcc_txn.specs.declared.limits.Limits.TheVariants.{Large}
-use Rattle.tcc_rows.specs.declared.large_recording.LargeRecording.{LargeRecording}
+use Rattle.tcc_rows.specs.declared.recording.RecordingWithin.{RecordingWithin}
 use Rattle.tcc_rows.specs.declared.recording.Moment.TheVariants as moment
 use Rattle.tcc_rows.specs.declared.rows.Item.{Item}
 use Rattle.tcc_rows.specs.declared.rows.Item.TheVariants as item
@@ -112,13 +112,13 @@ IsLast options (Some last) taken said =
     × (last_or None said ≡ Some (outcome_said options last.outcome))
 
 -- some items of all were taken, and the snapshots at the seals among them were answered
-pub record HasAnswered {R : Type 0} (remaining : R → Option (List ℕ)) (options : Options) (text : List ℕ) (recording : LargeRecording R)
+pub record HasAnswered {R B : Type 0} (remaining : R → Option (List ℕ)) (options : Options) (text : List ℕ) (recording : RecordingWithin R B)
     (before now : Option (List ℕ)) (answered : Option Last) : Type 0 where
   pub taken : List Item
   pub ahead : Answers
   pub said : List Said
   pub whole : answers_of text ≡ after_items taken ahead
-  pub recorded : IsLargeRecording remaining recording taken ahead
+  pub recorded : IsRecording Large remaining recording taken ahead
   pub answers : AreAnswered options (sealed_in taken) said
   pub out : Appends before now (texts said)
   pub last : IsLast options answered taken said
@@ -128,8 +128,8 @@ Appends-none None = tt
 Appends-none (Some bytes) = sym (append-nil bytes)
 
 -- nothing is taken yet
-pub none-answered : {R : Type 0} (remaining : R → Option (List ℕ)) (options : Options) (text : List ℕ) (recording : LargeRecording R)
-    (before : Option (List ℕ)) → IsLargeRecording remaining recording [] (answers_of text)
+pub none-answered : {R B : Type 0} (remaining : R → Option (List ℕ)) (options : Options) (text : List ℕ) (recording : RecordingWithin R B)
+    (before : Option (List ℕ)) → IsRecording Large remaining recording [] (answers_of text)
     → HasAnswered remaining options text recording before before None
 none-answered remaining options text recording before is = record {
   taken = [];
@@ -142,7 +142,7 @@ none-answered remaining options text recording before is = record {
   last = refl;
 }
 
-module _ {R : Type 0} (remaining : R → Option (List ℕ)) (options : Options) (text : List ℕ) (old new : LargeRecording R)
+module _ {R B : Type 0} (remaining : R → Option (List ℕ)) (options : Options) (text : List ℕ) (old new : RecordingWithin R B)
     (before now : Option (List ℕ)) (answered : Option Last) (way : HasAnswered remaining options text old before now answered) where
   kept : take (length way.taken) (answers_of text).items ≡ way.taken
   kept = first-taken (answers_of text) way.taken way.ahead way.whole
@@ -160,7 +160,7 @@ module _ {R : Type 0} (remaining : R → Option (List ℕ)) (options : Options) 
 
   -- ---- at a seal
 
-  module _ (at : TakesLargeMoment remaining way.taken way.ahead (Ok moment.Seal) new) where
+  module _ (at : TakesMoment Large remaining way.taken way.ahead (Ok moment.Seal) new) where
     -- all that was taken then, with the seal
     abbrev pub sealed_past : List Item
     sealed_past = way.taken ++ (at.0 ++ item.Seal ∷ [])
@@ -206,7 +206,7 @@ module _ {R : Type 0} (remaining : R → Option (List ℕ)) (options : Options) 
 
   -- ---- at the end
 
-  module _ (at : TakesLargeMoment remaining way.taken way.ahead (Ok moment.End) new) where
+  module _ (at : TakesMoment Large remaining way.taken way.ahead (Ok moment.End) new) where
     -- all that was taken
     abbrev pub all_past : List Item
     all_past = way.taken ++ at.0
@@ -338,7 +338,7 @@ module _ {R : Type 0} (remaining : R → Option (List ℕ)) (options : Options) 
 
   -- ---- at a fault
 
-  module _ (fault : RowFault) (at : TakesLargeMoment remaining way.taken way.ahead (Err fault) new) where
+  module _ (fault : RowFault) (at : TakesMoment Large remaining way.taken way.ahead (Err fault) new) where
     no_memory : true ≡ false → ⊥
     no_memory h = cc
 
@@ -350,7 +350,7 @@ module _ {R : Type 0} (remaining : R → Option (List ℕ)) (options : Options) 
         (subst (λ snapshots. AreAnswered options snapshots way.said) (sym (ap sealed_in taken ∙ none)) way.answers) way.out prints
 
     -- the fault of the records, a reader that failed, or `NoMemory`
-    pub stopped : (after : Option (List ℕ)) (code : ℕ) → (fault.kind ≡ kind.Read → FailsBehindWithin Large way.taken fault.row (records_of text))
+    pub stopped : (after : Option (List ℕ)) (code : ℕ) → (fault.kind ≡ kind.Read → FailsBehind Large way.taken fault.row (records_of text))
         → PrintsOrMemory options.json now after (halted options.json (by_row fault)) (halt_status (by_row fault)) code
         → EndsEarly options text before after code
     stopped after code failed = by_test (is_memory fault.kind) refl

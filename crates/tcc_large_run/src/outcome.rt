@@ -1,5 +1,5 @@
 //! What is said of a snapshot: what is known of its history, or all its read faults.
-ghost use Rattle.std.specs.Prelude.{◌≡◌, ◌<◌, ◌≤◌, ℕ, IfErr, IfOk, IfSome, OnOk};
+ghost use Rattle.std.specs.Prelude.{◌≡◌, ℕ, IfErr, IfOk, IfSome, OnOk};
 ghost use Rattle.std.specs.Io.KnownBytes.{Appends};
 ghost use Rattle.tcc_txn.specs.Finished.{KeepsLimits};
 ghost use Rattle.tcc_answer.specs.declared.answer.Answer.TheVariants as answer;
@@ -60,7 +60,6 @@ impl Outcome {
         options: Options,
         gate: &G,
     ) -> Result<Outcome, NoMemory>
-        requires workers { (0 < options.workers) × (options.workers ≤ 32) }
         requires small { KeepsLimits snapshot.now }
         ensures { IfOk result (IsOutcome options.level snapshot.now) }
     {
@@ -95,7 +94,6 @@ impl Outcome {
         options: Options,
         gate: &G,
     ) -> Result<Outcome, NoMemory>
-        requires workers { (0 < options.workers) × (options.workers ≤ 32) }
         ensures { IfOk result (IsOutcome options.level snapshot.now) }
     {
         if let Some(small) = small_of(alloc, snapshot)? {

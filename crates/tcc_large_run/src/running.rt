@@ -1,11 +1,11 @@
 //! From the bytes of records to their answers: at each seal, and at the end.
-ghost use Rattle.std.specs.Prelude.{◌≡◌, ◌≢◌, ◌<◌, ◌≤◌, ℕ, List, [], true, false, None, Ok, IfErr, IfOk, IfSome, MatchResult, OnOk, option_map};
+ghost use Rattle.std.specs.Prelude.{◌≡◌, ◌≢◌, ℕ, List, [], true, false, None, Ok, IfErr, IfOk, IfSome, MatchResult, OnOk, option_map};
 ghost use Rattle.tcc_rows.specs.Ahead.{fault_met};
 ghost use Rattle.tcc_rows.specs.Answers.{Answers, answers_after_within};
 ghost use Rattle.tcc_txn.specs.Finished.{transaction_count};
 ghost use Rattle.tcc_rows.specs.Lines.{Record};
 ghost use Rattle.tcc_rows.specs.Reached.{IsWithin};
-ghost use Rattle.tcc_rows.specs.Recordings.{FailsBehindWithin, IsLargeRecording, TakesLargeMoment, after_items};
+ghost use Rattle.tcc_rows.specs.Recordings.{FailsBehind, IsRecording, TakesMoment, after_items};
 ghost use Rattle.tcc_rows.specs.declared.rows.Item.{Item};
 ghost use Rattle.tcc_txn.specs.declared.limits.Limits.TheVariants.{Large};
 ghost use Rattle.tcc_print.specs.private.Halts.{by_row};
@@ -48,7 +48,6 @@ fn say<W: Write, N: Write, G: Watcher>(
     out: &mut W,
     notes: &mut N,
 ) -> Result<Last, u8>
-    requires workers { (0 < options.workers) × (options.workers ≤ 32) }
     ensures { MatchResult result (SaysLast options snapshot.now (W.contents out.old) (W.contents out.new))
         (EndsAnswering options snapshot.now (W.contents out.old) (W.contents out.new)) }
 {
@@ -79,7 +78,6 @@ fn say_last<W: Write, N: Write, G: Watcher>(
     out: &mut W,
     notes: &mut N,
 ) -> Result<Last, u8>
-    requires workers { (0 < options.workers) × (options.workers ≤ 32) }
     ensures said { IfSome last (λ last. last.transactions ≡ transaction_count snapshot.now → (W.contents out.new ≡ W.contents out.old)
         × (result ≡ Ok last)) }
     ensures due { IfSome last (λ last. last.transactions ≢ transaction_count snapshot.now)
@@ -115,13 +113,13 @@ fn read_on<R: Read + Drop, G: Watcher>(
     recording: &mut LargeRecording<R>,
     watcher: &G,
 ) -> Result<Moment, RowFault>
-    ensures moment { (taken : List Item) (ahead : Answers) → IsLargeRecording R.remaining recording.old taken ahead
-        → TakesLargeMoment R.remaining taken ahead result recording.new }
+    ensures moment { (taken : List Item) (ahead : Answers) → IsRecording Large R.remaining recording.old taken ahead
+        → TakesMoment Large R.remaining taken ahead result recording.new }
     ensures within { (all : List Record) → IsWithin R.remaining recording.old.rows all → IsWithin R.remaining recording.new.rows all }
     ensures failed { IfErr result (λ fault. fault_met recording.old.rows ≡ None → fault.kind ≡ RowFaultKind.Read
         → (all : List Record) (taken : List Item) (ahead : Answers) → answers_after_within Large [] all ≡ after_items taken ahead
-        → IsWithin R.remaining recording.old.rows all → IsLargeRecording R.remaining recording.old taken ahead
-        → FailsBehindWithin Large taken fault.row all) }
+        → IsWithin R.remaining recording.old.rows all → IsRecording Large R.remaining recording.old taken ahead
+        → FailsBehind Large taken fault.row all) }
     ensures goes_on { OnOk result (fault_met recording.new.rows ≡ None) }
 {
     watcher.begin(Stage::Reading);
@@ -141,12 +139,11 @@ fn answer_all<R: Read + Drop, W: Write, N: Write, G: Watcher>(
     out: &mut W,
     notes: &mut N,
 ) -> Result<Last, u8>
-    requires workers { (0 < options.workers) × (options.workers ≤ 32) }
-    ensures answers { (bytes : List ℕ) → IsLargeRecording R.remaining recording.old [] (answers_of bytes) → IsWithin R.remaining recording.old.rows (records_of bytes)
+    ensures answers { (bytes : List ℕ) → IsRecording Large R.remaining recording.old [] (answers_of bytes) → IsWithin R.remaining recording.old.rows (records_of bytes)
         → fault_met recording.old.rows ≡ None
         → MatchResult result (AllAnswered options bytes (W.contents out.old) (W.contents out.new))
         (EndsEarly options bytes (W.contents out.old) (W.contents out.new)) }
-    ensures finished { (bytes : List ℕ) → IsLargeRecording R.remaining recording.old [] (answers_of bytes)
+    ensures finished { (bytes : List ℕ) → IsRecording Large R.remaining recording.old [] (answers_of bytes)
         → IfOk result (λ _. recording.new.snapshot ≡ finished bytes) }
 {
     let mut last: Option<Last> = None;
@@ -276,8 +273,7 @@ fn run_recording<R: Read + Drop, W: Write, S: Write, N: Write, G: Watcher>(
     options: Options,
     watcher: &G,
 ) -> u8
-    requires workers { (0 < options.workers) × (options.workers ≤ 32) }
-    ensures { (bytes : List ℕ) → IsLargeRecording R.remaining recording.old [] (answers_of bytes) → IsWithin R.remaining recording.old.rows (records_of bytes)
+    ensures { (bytes : List ℕ) → IsRecording Large R.remaining recording.old [] (answers_of bytes) → IsWithin R.remaining recording.old.rows (records_of bytes)
         → fault_met recording.old.rows ≡ None
         → IsLargeRun options bytes (W.contents out.old) (W.contents out.new) (option_map S.contents slice.old) (option_map S.contents slice.new) result }
 {
@@ -298,8 +294,8 @@ fn run_recording<R: Read + Drop, W: Write, S: Write, N: Write, G: Watcher>(
 
 /// Writes an answer at the level for what was finished before each seal of the bytes of the reader, and before their end, as
 /// text or as lines of JSON, and gives the number that the run ends with. Records are taken up to the large limits; where what
-/// was finished is within the small ones, the answer is the same as without them, and the same for every number of workers, 1 to
-/// 32; the watcher, which is told what the run does, is their gate. Where the last answer is an anomaly, the records of a slice go into
+/// was finished is within the small ones, the answer is the same as without them, and the same for every number of workers; the
+/// watcher, which is told what the run does, is their gate. Where the last answer is an anomaly, the records of a slice go into
 /// the file, if one is given: of a small history that is this one with transactions and operations left out, and has an anomaly of
 /// it; or nothing, where none is found within the small limits. What a person may want to know besides, who reads the standard
 /// error, goes to the notes.
@@ -315,7 +311,6 @@ pub fn run_large<R: Read + Drop, W: Write, S: Write, N: Write, G: Watcher>(
     options: Options,
     watcher: &G,
 ) -> u8
-    requires workers { (0 < options.workers) × (options.workers ≤ 32) }
     ensures { IfSome (R.remaining reader) (λ bytes. IsLargeRun options bytes (W.contents out.old) (W.contents out.new) (option_map S.contents slice.old)
         (option_map S.contents slice.new) result) }
 {

@@ -12,9 +12,9 @@ use Rattle.tcc_graph.specs.Relations.{causal_pair}
 use Rattle.tcc_graph.specs.Levels.{causally, atomically, judged}
 use Rattle.tcc_graph.specs.Walks.{IsReached}
 use Rattle.tcc_graph.specs.declared.level.Level.{Level}
-use Rattle.tcc_near.specs.Distances.{IsShortest, IsWalkDistance, IsNearOf, least_in}
+use Rattle.tcc_near.specs.Distances.{IsShortest, IsWalkLength, IsNearOf, least_in}
 use Rattle.tcc_bits.specs.Bits.{is_marked}
-use Rattle.tcc_near.specs.private.Breadth.{IsWithin, IsMarked, IsDistanceWithin, IsSearched, HasDistances, HaveDistances, IsLedTo, numbered, one_step, unnumbered}
+use Rattle.tcc_near.specs.private.Breadth.{IsWithin, IsMarked, IsLengthWithin, IsSearched, HasLengths, HaveLengths, IsLedTo, numbered, one_step, unnumbered}
 use Rattle.tcc_near.proofs.Walks.{within_more, within_one, within_one_from, within_pair, IsStepAfter, last_step, within_closed, within_below, shortest_at}
 use Rattle.tcc_near.specs.declared.distances.TheConstants.{NONE}
 
@@ -34,7 +34,7 @@ pub further : (h : History) (a n : ℕ) (row : List ℕ) (b : ℕ) → IsSearche
 further h a n row b searched below none = go (read row b)
   where
     go : Read row b → IsWithin h a n b → ⊥
-    go (inl r) = subst (λ (d : Option ℕ). IsDistanceWithin h a n b d) r.1 (searched.exact b below)
+    go (inl r) = subst (λ (d : Option ℕ). IsLengthWithin h a n b d) r.1 (searched.exact b below)
     go (inr r) = absurd (r.0 none)
 
 pub known : (h : History) (a n : ℕ) (row : List ℕ) (b : ℕ) → IsSearched h a n row → b < count h → slice_index row b ≢ NONE
@@ -43,21 +43,21 @@ known h a n row b searched below some = go (read row b)
   where
     go : Read row b → (slice_index row b ≤ n) × IsShortest (causally h) a b (slice_index row b)
     go (inl r) = absurd (some r.0)
-    go (inr r) = subst (λ (d : Option ℕ). IsDistanceWithin h a n b d) r.1 (searched.exact b below)
+    go (inr r) = subst (λ (d : Option ℕ). IsLengthWithin h a n b d) r.1 (searched.exact b below)
 
 -- a distance that stands in a row
 distance_is : (h : History) (a n : ℕ) (row : List ℕ) (b d : ℕ) → slice_index row b ≡ d → d < NONE → d ≤ n → IsShortest (causally h) a b d
-    → IsDistanceWithin h a n b (least_in row b)
+    → IsLengthWithin h a n b (least_in row b)
 distance_is h a n row b d is small few shortest = go (read row b)
   where
-    go : Read row b → IsDistanceWithin h a n b (least_in row b)
+    go : Read row b → IsLengthWithin h a n b (least_in row b)
     go (inl r) = absurd (omega (arith, r.0))
     go (inr r) = rw r.1 (omega arith, subst (λ (x : ℕ). IsShortest (causally h) a b x) (sym is) shortest)
 
-none_is : (h : History) (a n : ℕ) (row : List ℕ) (b : ℕ) → slice_index row b ≡ NONE → (IsWithin h a n b → ⊥) → IsDistanceWithin h a n b (least_in row b)
+none_is : (h : History) (a n : ℕ) (row : List ℕ) (b : ℕ) → slice_index row b ≡ NONE → (IsWithin h a n b → ⊥) → IsLengthWithin h a n b (least_in row b)
 none_is h a n row b is away = go (read row b)
   where
-    go : Read row b → IsDistanceWithin h a n b (least_in row b)
+    go : Read row b → IsLengthWithin h a n b (least_in row b)
     go (inl r) = rw r.1 away
     go (inr r) = absurd (r.0 is)
 
@@ -92,7 +92,7 @@ searched_more h a n row new marks searched marked small same each =
     record { long = same ∙ searched.long; exact = λ b below. go b below (cases_eq (slice_index row b) NONE) (is_marked marks b) refl }
   where
     go : (b : ℕ) → b < count h → (slice_index row b ≡ NONE) ⊎ (slice_index row b ≢ NONE) → (m : Bool) → is_marked marks b ≡ m
-        → IsDistanceWithin h a (n + 1) b (least_in new b)
+        → IsLengthWithin h a (n + 1) b (least_in new b)
     go b below (inr some) m e =
         let old = known h a n row b searched below some in
         let now : slice_index new b ≡ slice_index row b = each b ∙ numbered_kept row marks (n + 1) b some in
@@ -140,14 +140,14 @@ marked_more h a n row marks new IsLast searched marked some small lasts below_al
 
 -- a row of which nothing is further away than n is whole
 pub row_done : (h : History) (a n : ℕ) (row : List ℕ) → IsSearched h a n row → n ≤ count h → ((b : ℕ) → IsReached h a b → IsWithin h a n b)
-    → HasDistances (causally h) a row
+    → HasLengths (causally h) a row
 row_done h a n row searched few near = record {
   long = searched.long;
   exact = λ b below. go b below (read row b);
   short = λ b d below is. short b d below is (read row b);
 }
   where
-    go : (b : ℕ) → b < count h → Read row b → IsWalkDistance (causally h) a b (least_in row b)
+    go : (b : ℕ) → b < count h → Read row b → IsWalkLength (causally h) a b (least_in row b)
     go b below (inl r) = rw r.1 (λ walk is. further h a n row b searched below r.0 (near b (walk, is.0)))
     go b below (inr r) = rw r.1 ((known h a n row b searched below r.0).1)
 
@@ -160,7 +160,7 @@ row_done h a n row searched few near = record {
 
 -- where nothing that is marked wants a number, the search has ended
 pub row_at_end : (h : History) (a n : ℕ) (row new : List ℕ) (marks : List ℕ) → IsSearched h a n row → IsMarked h a (n + 1) marks → n + 1 ≤ count h
-    → ((b : ℕ) → is_marked marks b ≡ true → slice_index row b ≢ NONE) → IsSearched h a (n + 1) new → HasDistances (causally h) a new
+    → ((b : ℕ) → is_marked marks b ≡ true → slice_index row b ≢ NONE) → IsSearched h a (n + 1) new → HasLengths (causally h) a new
 row_at_end h a n row new marks searched marked few none round =
     row_done h a (n + 1) new round few (λ b reached. within_more h a n (n + 1) b (omega arith)
     (within_closed h a n closed (length reached.0) b (reached.0, reached.1, omega arith)))
@@ -174,7 +174,7 @@ row_at_end h a n row new marks searched marked few none round =
 
 -- where each has a number, the search has ended
 pub row_full : (h : History) (a n : ℕ) (row : List ℕ) → IsSearched h a n row → n ≤ count h → ((b : ℕ) → b < length row → slice_index row b ≢ NONE)
-    → HasDistances (causally h) a row
+    → HasLengths (causally h) a row
 row_full h a n row searched few all = row_done h a n row searched few near
   where
     near : (b : ℕ) → IsReached h a b → IsWithin h a n b
@@ -200,14 +200,14 @@ unnumbered_at_start n = sum_by-replicate without n NONE ∙ omega arith
 
 -- what is within one step of the source has its distances by walks of one step
 pub row_of_steps : (h : History) (a : ℕ) (marks row : List ℕ) → IsMarked h a 1 marks → length row ≡ count h
-    → ((b : ℕ) → b < count h → slice_index row b ≡ one_step (is_marked marks b)) → HasDistances (atomically h) a row
+    → ((b : ℕ) → b < count h → slice_index row b ≡ one_step (is_marked marks b)) → HasLengths (atomically h) a row
 row_of_steps h a marks row marked long each = record {
   long = long;
   exact = λ b to. exact b to (is_marked marks b) refl (read row b);
   short = λ b n to some. short b n to some (is_marked marks b) (each b to) (read row b);
 }
   where
-    exact : (b : ℕ) → b < count h → (m : Bool) → is_marked marks b ≡ m → Read row b → IsWalkDistance (atomically h) a b (least_in row b)
+    exact : (b : ℕ) → b < count h → (m : Bool) → is_marked marks b ≡ m → Read row b → IsWalkLength (atomically h) a b (least_in row b)
     exact b to true mark (inl r) = absurd (let one : slice_index row b ≡ 1 = each b to ∙ ap one_step mark in omega (arith, one, r.0))
     exact b to false mark (inr r) = absurd (r.0 (each b to ∙ ap one_step mark))
     exact b to false mark (inl r) = rw r.1 (λ walk step. false≢true (sym mark ∙ (marked.exact b to).1 (walk, step.0, omega (arith, step.1))))
@@ -226,7 +226,7 @@ row_of_steps h a marks row marked long each = record {
     short b n to some false at (inr r) = absurd (r.0 at)
 
 -- rows that are right one by one are the table
-pub near_from_rows : (h : History) (level : Level) (rows : List (List ℕ)) → HaveDistances (judged h level) rows
+pub near_from_rows : (h : History) (level : Level) (rows : List (List ℕ)) → HaveLengths (judged h level) rows
     → IsNearOf (judged h level) (record { level = level; rows = rows })
 near_from_rows h level rows have = record {
   level = refl;

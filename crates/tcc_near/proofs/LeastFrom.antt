@@ -12,8 +12,8 @@ use Rattle.tcc_graph.specs.Walks.{step_to, Leads, IsWalk}
 use Rattle.tcc_graph.specs.Tables.{row_of}
 use Rattle.tcc_graph.specs.declared.step.Step.{Step}
 use Rattle.tcc_graph.proofs.Pairs.{step_from_pair, pair_from_step}
-use Rattle.tcc_near.specs.Distances.{IsShortest, IsWalkDistance, least_in}
-use Rattle.tcc_near.specs.private.Breadth.{IsSessionEnd, AreEnds, IsPairsFrom, HasDistances}
+use Rattle.tcc_near.specs.Distances.{IsShortest, IsWalkLength, least_in}
+use Rattle.tcc_near.specs.private.Breadth.{IsSessionEnd, AreEnds, IsPairsFrom, HasLengths}
 use Rattle.tcc_near.specs.private.Backwards.{IsLedFrom, IsLeastFrom, IsLowered, IsNextOrOne, IsFromOn, AreOthers, AreKnown, AreHeads}
 use Rattle.tcc_near.specs.declared.distances.TheConstants.{NONE}
 use Rattle.tcc_near.proofs.BreadthLemmas.{Read, read}
@@ -21,18 +21,18 @@ use Rattle.tcc_bits.proofs.Lists.{one_of_taken, still_taken, last_taken, nothing
 use Rattle.tcc_near.proofs.ShortWalks.{few_steps}
 
 -- ---- a row of distances
-module _ (h : History) (few : count h < NONE) (a : ℕ) (row : List ℕ) (is : HasDistances (causally h) a row) where
+module _ (h : History) (few : count h < NONE) (a : ℕ) (row : List ℕ) (is : HasLengths (causally h) a row) where
   -- no walk is shorter than what stands there
   pub walk_no_less : (c : ℕ) (walk : List Step) → c < count h → IsWalk h a c walk → (slice_index row c < NONE) × (slice_index row c ≤ length walk)
   walk_no_less c walk to leads = go (read row c)
     where
       go : Read row c → (slice_index row c < NONE) × (slice_index row c ≤ length walk)
       go (inl r) =
-          let none : IsWalkDistance (causally h) a c None = subst (λ (d : Option ℕ). IsWalkDistance (causally h) a c d) r.1 (is.exact c to) in
+          let none : IsWalkLength (causally h) a c None = subst (λ (d : Option ℕ). IsWalkLength (causally h) a c d) r.1 (is.exact c to) in
           absurd (none walk (leads, tt))
       go (inr r) =
           let some : IsShortest (causally h) a c (slice_index row c) =
-          subst (λ (d : Option ℕ). IsWalkDistance (causally h) a c d) r.1 (is.exact c to) in
+          subst (λ (d : Option ℕ). IsWalkLength (causally h) a c d) r.1 (is.exact c to) in
           (omega (arith, is.short c (slice_index row c) to r.1), some.least walk (leads, tt))
 
   abbrev pub HasWalk : ℕ → Type 0
@@ -45,7 +45,7 @@ module _ (h : History) (few : count h < NONE) (a : ℕ) (row : List ℕ) (is : H
       go (inl r) = inl r.0
       go (inr r) =
           let some : IsShortest (causally h) a c (slice_index row c) =
-          subst (λ (d : Option ℕ). IsWalkDistance (causally h) a c d) r.1 (is.exact c to) in
+          subst (λ (d : Option ℕ). IsWalkLength (causally h) a c d) r.1 (is.exact c to) in
           inr (is.short c (slice_index row c) to r.1, some.attained.0, some.attained.1.0, some.attained.2)
 
 -- the same ones, said otherwise
@@ -72,7 +72,7 @@ least_none h IsOne n long none = record {
 
 -- from one more
 pub least_more : (h : History) (few : count h < NONE) (IsOne : ℕ → Type 0) (old other : List ℕ) (a : ℕ) (new : List ℕ) → a < count h
-    → IsLeastFrom h IsOne old → HasDistances (causally h) a other → IsLowered old other a new → IsLeastFrom h (λ b. IsOne b ⊎ (b ≡ a)) new
+    → IsLeastFrom h IsOne old → HasLengths (causally h) a other → IsLowered old other a new → IsLeastFrom h (λ b. IsOne b ⊎ (b ≡ a)) new
 least_more h few IsOne old other a new below is has low = record {
   long = low.long ∙ is.long;
   least = λ b c steps one to leads. least b c steps one to leads (cases_eq c a);
@@ -146,7 +146,7 @@ next_more h a numbers n inside b = (onward, back)
 -- one step more, from a transaction whose pairs lead to these: its distances
 pub distances_over : (h : History) (few : count h + 1 < NONE) (IsOne : ℕ → Type 0) (a : ℕ) (old new : List ℕ) → IsLeastFrom h IsOne old
     → ((b : ℕ) → (causal_pair h a b ≡ true) ↔ IsOne b) → length new ≡ length old
-    → ((c : ℕ) → c < length old → slice_index new c ≡ min (slice_index old c + 1) NONE) → HasDistances (causally h) a new
+    → ((c : ℕ) → c < length old → slice_index new c ≡ min (slice_index old c + 1) NONE) → HasLengths (causally h) a new
 distances_over h few IsOne a old new is pairs same each = record {
   long = same ∙ is.long;
   exact = λ c to. exact c to (read new c);
@@ -182,7 +182,7 @@ distances_over h few IsOne a old new is pairs same each = record {
         let w = walk_there c to (is.attained c to) some in
         record { attained = (w.0, (w.1, tt), w.2); least = λ walk leads. (no_less c walk to leads.0).1 }
 
-    exact : (c : ℕ) → c < count h → Read new c → IsWalkDistance (causally h) a c (least_in new c)
+    exact : (c : ℕ) → c < count h → Read new c → IsWalkLength (causally h) a c (least_in new c)
     exact c to (inl r) = rw r.1 (λ walk leads. absurd (omega (arith, (no_less c walk to leads.0).0, r.0)))
     exact c to (inr r) = rw r.1 (shortest c to r.0)
 
@@ -197,22 +197,22 @@ distances_over h few IsOne a old new is pairs same each = record {
 -- ---- tables
 -- a row that is there has the distances
 pub known_there : (h : History) (rows : List (List ℕ)) (u : ℕ) → u < count h → length (row_of rows u) ≡ count h → AreKnown h rows
-    → HasDistances (causally h) u (row_of rows u)
+    → HasLengths (causally h) u (row_of rows u)
 known_there h rows u below long known = go (known.each u below)
   where
-    go : (row_of rows u ≡ []) ⊎ HasDistances (causally h) u (row_of rows u) → HasDistances (causally h) u (row_of rows u)
+    go : (row_of rows u ≡ []) ⊎ HasLengths (causally h) u (row_of rows u) → HasLengths (causally h) u (row_of rows u)
     go (inl none) = absurd (let empty : length (row_of rows u) ≡ 0 = ap length none in omega arith)
     go (inr has) = has
 
 -- one row more
-pub known_more : (h : History) (rows : List (List ℕ)) (a : ℕ) (row : List ℕ) → a < count h → AreKnown h rows → HasDistances (causally h) a row
+pub known_more : (h : History) (rows : List (List ℕ)) (a : ℕ) (row : List ℕ) → a < count h → AreKnown h rows → HasLengths (causally h) a row
     → AreKnown h (set rows a row)
 known_more h rows a row below known has = record {
   long = length-set rows a row ∙ known.long;
   each = λ u to. each u to (cases_eq u a);
 }
   where
-    each : (u : ℕ) → u < count h → (u ≡ a) ⊎ (u ≢ a) → (row_of (set rows a row) u ≡ []) ⊎ HasDistances (causally h) u (row_of (set rows a row) u)
+    each : (u : ℕ) → u < count h → (u ≡ a) ⊎ (u ≢ a) → (row_of (set rows a row) u ≡ []) ⊎ HasLengths (causally h) u (row_of (set rows a row) u)
     each u to (inl same) = inr (rw (same, get_or-set_same rows a row [] (omega (arith, below, known.long))) has)
     each u to (inr far) = rw (get_or-set_other rows a u row [] far) (known.each u to)
 

@@ -9,7 +9,7 @@ use Rattle.tcc_graph.specs.Walks.{step_to, IsWalk, IsReached}
 use Rattle.tcc_graph.specs.declared.step.Step.{Step}
 use Rattle.tcc_graph.specs.declared.step.Step.TheVariants as step
 use Rattle.std.specs.Prelude.{None}
-use Rattle.tcc_near.specs.Distances.{IsShortest, IsWalkDistance}
+use Rattle.tcc_near.specs.Distances.{IsShortest, IsWalkLength}
 use Rattle.tcc_graph.proofs.Pairs.{first_pair, pair_kinds, pair_below}
 use Rattle.tcc_graph.proofs.Worked.{x, y, entry, stale_read}
 
@@ -67,7 +67,7 @@ chain-onwards = record {
     none_shorter (s ∷ t ∷ u ∷ steps) w = omega arith
 
 -- where a single pair is allowed, three steps lead nowhere
-chain-alone : IsWalkDistance (atomically chain) 1 4 None
+chain-alone : IsWalkLength (atomically chain) 1 4 None
 chain-alone [] is = absurd (omega (arith, is.1))
 chain-alone (s ∷ []) is = false≢true (subst (λ (u : ℕ). causal_pair chain 1 u ≡ true) is.0.1.2 (first_pair chain 1 4 s [] is.0.1))
 chain-alone (s ∷ t ∷ steps) is = absurd (omega (arith, is.1))

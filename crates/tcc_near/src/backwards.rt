@@ -1,20 +1,20 @@
-//! The distances from each transaction by those from the transactions that pairs lead to, from the ends of sessions
-//! backwards. Of each session stands a transaction at its head, behind which all have their distances; one whose readers
-//! have theirs too is next. Where none is, as pairs lead in a circle, the distances from one head are searched.
+//! The lengths from each transaction by those from the transactions that pairs lead to, from the ends of sessions
+//! backwards. Of each session stands a transaction at its head, behind which all have their lengths; one whose readers
+//! have theirs too is next. Where none is, as pairs lead in a circle, the lengths from one head are searched.
 ghost use Rattle.std.specs.Prelude.{◌≡◌, ◌<◌, ◌≤◌, ◌+◌, ℕ, true, min, length, slice_index, replicate, All, IfOk, IfSome, IsTrue};
 ghost use Rattle.tcc_reads.specs.History.{count};
 ghost use Rattle.tcc_graph.specs.Relations.{IsSessionPair};
 ghost use Rattle.tcc_graph.specs.Levels.{causally};
 ghost use Rattle.tcc_graph.specs.Tables.{row_of};
-ghost use Rattle.tcc_near.specs.private.Breadth.{AreEnds, ArePairs, HasDistances, HaveDistances};
+ghost use Rattle.tcc_near.specs.private.Breadth.{AreEnds, ArePairs, HasLengths, HaveLengths};
 ghost use Rattle.tcc_near.specs.private.Backwards.{IsLeastFrom, IsLowered, IsNextOrOne, IsFromOn, AreOthers, AreKnown, IsThere, AreHeads};
 ghost use Rattle.tcc_near.specs.declared.distances.TheConstants.{NONE};
 ghost use Rattle.tcc_txn.specs.declared.limits.TheConstants.{MAX_COUNT};
 
-use crate::search::distances_from;
-use tcc_bits::Row;
 use crate::NONE;
+use crate::search::lengths_from;
 use std::alloc::{AllocError, Global};
+use tcc_bits::Row;
 use tcc_graph::Graph;
 
 /// The lesser number of the two rows at each place.
@@ -28,7 +28,7 @@ fn lower(row: &mut [u16], other: &[u16])
     }
 }
 
-/// Takes in the steps from one more transaction, from which these are the distances.
+/// Takes in the steps from one more transaction, from which these are the lengths.
 fn take_in_one(row: &mut [u16], distances: &[u16], from: u32)
     requires same { length row.old ≡ length distances.now }
     requires inside { from < length row.old }
@@ -38,7 +38,7 @@ fn take_in_one(row: &mut [u16], distances: &[u16], from: u32)
     row[from as usize] = 0;
 }
 
-/// Takes in the steps from each of these, which have their distances, beside those from what session pairs lead to.
+/// Takes in the steps from each of these, which have their lengths, beside those from what session pairs lead to.
 fn take_in_each(_graph: &Graph, row: &mut [u16], rows: &[Row<u16>], numbers: &[u32], _from: u32)
     requires few { count _graph.now ≤ MAX_COUNT }
     requires known { AreKnown _graph.now rows.now }
@@ -61,7 +61,7 @@ fn lengthen(row: &mut [u16])
     }
 }
 
-/// The distances from a transaction whose readers have theirs, by the least numbers of steps from those behind it in its
+/// The lengths from a transaction whose readers have theirs, by the least numbers of steps from those behind it in its
 /// session.
 fn row_over(
     alloc: Global,
@@ -77,7 +77,7 @@ fn row_over(
     requires there { All (IsThere rows.now (count graph.now)) readers.now }
     requires run { IsLeastFrom graph.now (IsSessionPair graph.now from) run.now }
     requires pairs { AreOthers graph.now from readers.now }
-    ensures { IfOk result (HasDistances (causally graph.now) from) }
+    ensures { IfOk result (HasLengths (causally graph.now) from) }
 {
     let mut row = run.to_vec(alloc)?;
     take_in_each(graph, &mut row, rows, readers, from);
@@ -85,7 +85,7 @@ fn row_over(
     Ok(Row::new(row))
 }
 
-/// The least numbers of steps from a transaction, whose distances these are, and from those behind it in its session.
+/// The least numbers of steps from a transaction, whose lengths these are, and from those behind it in its session.
 fn next_run(
     alloc: Global,
     _graph: &Graph,
@@ -96,7 +96,7 @@ fn next_run(
     requires below { from < count _graph.now }
     requires few { count _graph.now ≤ MAX_COUNT }
     requires run { IsLeastFrom _graph.now (IsSessionPair _graph.now from) run.now }
-    requires distances { HasDistances (causally _graph.now) from distances.now }
+    requires distances { HasLengths (causally _graph.now) from distances.now }
     ensures { IfOk result (IsLeastFrom _graph.now (IsFromOn _graph.now from)) }
 {
     let mut row = run.to_vec(alloc)?;
@@ -117,7 +117,7 @@ fn are_there(rows: &[Row<u16>], numbers: &[u32], count: usize) -> bool
     true
 }
 
-/// The distances from the head of a session: by those of its readers where they have theirs, else by a search.
+/// The lengths from the head of a session: by those of its readers where they have theirs, else by a search.
 fn row_of_head(
     alloc: Global,
     graph: &Graph,
@@ -132,17 +132,17 @@ fn row_of_head(
     requires pairs { ArePairs graph.now ends.now readers.now }
     requires known { AreKnown graph.now rows.now }
     requires run { IsLeastFrom graph.now (IsSessionPair graph.now head) run.now }
-    ensures { IfOk result (HasDistances (causally graph.now) head) }
+    ensures { IfOk result (HasLengths (causally graph.now) head) }
 {
     let next = readers[head as usize].values();
     if are_there(rows, next, ends.len()) {
         row_over(alloc, graph, run, rows, next, head)
     } else {
-        distances_from(alloc, graph, ends, readers, head)
+        lengths_from(alloc, graph, ends, readers, head)
     }
 }
 
-/// The session to go on with: one whose head's readers have their distances, or else any that has a head.
+/// The session to go on with: one whose head's readers have their lengths, or else any that has a head.
 fn next_session(
     heads: &[u32],
     readers: &[Row<u32>],
@@ -206,7 +206,7 @@ fn blank_rows(alloc: Global, count: usize, width: usize) -> Result<Vec<Row<u16>>
     Ok(rows)
 }
 
-/// The distances from all transactions but `init`.
+/// The lengths from all transactions but `init`.
 fn rows_of_sessions(
     alloc: Global,
     graph: &Graph,
@@ -234,7 +234,7 @@ fn rows_of_sessions(
     Ok(rows)
 }
 
-/// The distances from each transaction: these, and the others by a search.
+/// The lengths from each transaction: these, and the others by a search.
 pub(crate) fn rows_backwards(
     alloc: Global,
     graph: &Graph,
@@ -243,14 +243,14 @@ pub(crate) fn rows_backwards(
 ) -> Result<Vec<Row<u16>>, AllocError>
     requires few { count graph.now ≤ MAX_COUNT }
     requires pairs { ArePairs graph.now ends.now readers.now }
-    ensures { IfOk result (λ rows. HaveDistances (causally graph.now) rows.items) }
+    ensures { IfOk result (λ rows. HaveLengths (causally graph.now) rows.items) }
 {
     let mut rows = rows_of_sessions(alloc, graph, ends, readers)?;
     for source in 0..ends.len() {
         if rows[source].values().len() == ends.len() {
             continue;
         }
-        rows[source] = distances_from(alloc, graph, ends, readers, source as u32)?;
+        rows[source] = lengths_from(alloc, graph, ends, readers, source as u32)?;
     }
     Ok(rows)
 }

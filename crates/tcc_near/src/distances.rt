@@ -3,8 +3,8 @@ ghost use Rattle.std.specs.Prelude.{◌≡◌, ◌<◌, length};
 ghost use Rattle.tcc_near.specs.Distances.{IsSquare, least};
 ghost use Rattle.tcc_graph.specs.Tables.{row_of};
 
-use tcc_bits::Row;
 use std::marker::Model;
+use tcc_bits::Row;
 use tcc_graph::Level;
 
 /// What a table has in place of a number where there is none: no walk leads there, or no link.
@@ -45,7 +45,7 @@ impl Near {
     }
 
     /// The least number of steps of a walk from `a` to `b`, of one step at least; none where no walk leads there. It is for
-    /// those who ask for one distance: whoever goes through many takes `row`.
+    /// those who ask for one length: whoever goes through many takes `row`.
     pub fn least(&self, a: u32, b: u32) -> Option<u32>
         requires from { a < length self.now.rows }
         requires to { b < length self.now.rows }

@@ -7,9 +7,8 @@ ghost use Rattle.tcc_bits.specs.Bits.{is_marked, words_for};
 ghost use Rattle.tcc_near.specs.private.Breadth.{IsRowOf, IsSessionEnd, AreEnds, IsPairsFrom, ArePairs, AreSuffixes, IsMarked};
 ghost use Rattle.tcc_txn.specs.declared.limits.TheConstants.{MAX_COUNT};
 
-use tcc_bits::Row;
-use tcc_bits::{mark, mark_each, take_fresh, words_for};
 use std::alloc::{AllocError, Global};
+use tcc_bits::{Row, mark, mark_each, take_fresh, words_for};
 use tcc_graph::Graph;
 
 /// Where the numbers end that session pairs lead to, for each transaction.

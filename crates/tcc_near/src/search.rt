@@ -1,25 +1,24 @@
-//! The search for all distances of a graph, from each transaction: breadth first, or by those that its pairs lead to.
+//! The search for all lengths of a graph, from each transaction: breadth first, or by those that its pairs lead to.
 ghost use Rattle.std.specs.Prelude.{◌≡◌, ◌<◌, ◌≤◌, ◌↔◌, ℕ, true, length, All, Contains, IfOk, slice_index};
 ghost use Rattle.tcc_reads.specs.History.{count};
 ghost use Rattle.tcc_graph.specs.Levels.{causally, atomically, judged};
 ghost use Rattle.tcc_near.specs.Distances.{IsNearOf};
 ghost use Rattle.tcc_bits.specs.Bits.{is_marked, words_for};
-ghost use Rattle.tcc_near.specs.private.Breadth.{ArePairs, AreSuffixes, HasDistances, HaveDistances, IsLedTo, one_step, unnumbered};
+ghost use Rattle.tcc_near.specs.private.Breadth.{ArePairs, AreSuffixes, HasLengths, HaveLengths, IsLedTo, one_step, unnumbered};
 ghost use Rattle.tcc_near.specs.declared.distances.TheConstants.{NONE};
 ghost use Rattle.tcc_txn.specs.declared.limits.TheConstants.{MAX_COUNT};
 
 use crate::backwards::rows_backwards;
-use tcc_bits::{is_marked, take_fresh};
 use crate::pairs::{first_marks, readers_apart, session_ends, take_in};
-use tcc_bits::{ROWS_A_THREAD, Row};
 use crate::{NONE, Near};
 use rayon::prelude::*;
 use std::alloc::{AllocError, Global};
 use std::thread::Threads;
+use tcc_bits::{ROWS_A_THREAD, Row, is_marked, take_fresh};
 use tcc_graph::{Graph, Level};
 use tcc_txn::NoMemory;
 
-/// Gives the distance to each of these, which have none.
+/// Gives the length to each of these, which have none.
 fn number(steps: &mut [u16], fresh: &[u32], distance: u16)
     requires new { All (λ place. (place < length steps.old) × (slice_index steps.old place ≡ NONE)) fresh.now }
     requires walk { distance < NONE }
@@ -56,9 +55,9 @@ fn spread(
     }
 }
 
-/// The distances from one transaction by causal walks. A round numbers what is marked for the first time, and marks what
+/// The lengths from one transaction by causal walks. A round numbers what is marked for the first time, and marks what
 /// the next step reaches from there; the search ends where there is nothing to number.
-pub(crate) fn distances_from(
+pub(crate) fn lengths_from(
     alloc: Global,
     graph: &Graph,
     ends: &[u32],
@@ -68,7 +67,7 @@ pub(crate) fn distances_from(
     requires source { source < count graph.now }
     requires few { count graph.now ≤ MAX_COUNT }
     requires pairs { ArePairs graph.now ends.now readers.now }
-    ensures { IfOk result (HasDistances (causally graph.now) source) }
+    ensures { IfOk result (HasLengths (causally graph.now) source) }
 {
     let (mut words, mut suffixes) = first_marks(alloc, graph, ends, readers, source)?;
     let mut steps = vec![in alloc; NONE; ends.len()]?;
@@ -85,7 +84,7 @@ pub(crate) fn distances_from(
     Ok(Row::new(steps))
 }
 
-/// The distances from one transaction to so many by walks of one step: 1 to what is marked.
+/// The lengths from one transaction to so many by walks of one step: 1 to what is marked.
 fn steps_to(alloc: Global, marks: &[u64], count: usize) -> Result<Row<u16>, AllocError>
     ensures { IfOk result (λ row. (length row ≡ count) × ((b : ℕ) → b < count → slice_index row b ≡ one_step (is_marked marks.now b))) }
 {
@@ -97,7 +96,7 @@ fn steps_to(alloc: Global, marks: &[u64], count: usize) -> Result<Row<u16>, Allo
     Ok(Row::new(steps))
 }
 
-/// The distances from one transaction by walks of one step.
+/// The lengths from one transaction by walks of one step.
 fn row_of_steps(
     alloc: Global,
     graph: &Graph,
@@ -108,7 +107,7 @@ fn row_of_steps(
     requires source { source < count graph.now }
     requires few { count graph.now ≤ MAX_COUNT }
     requires pairs { ArePairs graph.now ends.now readers.now }
-    ensures { IfOk result (HasDistances (atomically graph.now) source) }
+    ensures { IfOk result (HasLengths (atomically graph.now) source) }
 {
     let (words, _suffixes) = first_marks(alloc, graph, ends, readers, source)?;
     steps_to(alloc, &words, ends.len())
@@ -124,21 +123,21 @@ fn rows_of_steps(
 ) -> Result<Vec<Row<u16>>, AllocError>
     requires few { count graph.now ≤ MAX_COUNT }
     requires pairs { ArePairs graph.now ends.now readers.now }
-    ensures { IfOk result (λ rows. HaveDistances (atomically graph.now) rows.items) }
+    ensures { IfOk result (λ rows. HaveLengths (atomically graph.now) rows.items) }
 {
     (0..ends.len())
         .into_par_iter()
         .map(
             |source: usize| -> Result<Row<u16>, AllocError>
                 requires { (source < count graph.now) × (count graph.now ≤ MAX_COUNT) × ArePairs graph.now ends.now readers.now }
-                ensures { IfOk result (HasDistances (atomically graph.entry.now) source) }
+                ensures { IfOk result (HasLengths (atomically graph.entry.now) source) }
             { row_of_steps(alloc, graph, ends, readers, source as u32) },
         )
         .with_min_len(ROWS_A_THREAD)
         .collect::<Result<Vec<Row<u16>>, AllocError>>(rt, alloc)?
 }
 
-/// The distances from each transaction.
+/// The lengths from each transaction.
 fn all_distances(
     rt: &(impl Threads + Sync),
     alloc: Global,
@@ -157,7 +156,9 @@ fn all_distances(
     }
 }
 
-/// The distances of a graph at a level.
+/// The lengths of a graph at a level.
+/// From each transaction to each, itself among them, that is the least number of steps of a walk that the level allows;
+/// none where there is no such walk.
 pub fn near(
     rt: &(impl Threads + Sync),
     alloc: Global,

@@ -8,6 +8,10 @@ use Rattle.tcc_answer.specs.declared.answer.Answer.TheVariants as answer
 abbrev pub IsNoted : Option (List ℕ) → Option (List ℕ) → List ℕ → Type 0
 IsNoted before after text = (n : ℕ) × Appends before after (take n text)
 
+-- notes, or parts of them, went out behind what was there
+abbrev pub AddsNotes : Option (List ℕ) → Option (List ℕ) → Type 0
+AddsNotes before after = (bytes : List ℕ) × Appends before after bytes
+
 -- --require N: only M transactions
 abbrev pub too_few_text : ℕ → ℕ → List ℕ
 too_few_text required transactions =
@@ -19,3 +23,7 @@ last_note required None = []
 last_note required (Some (answer.Anomaly a)) = []
 last_note required (Some (answer.Commit c)) =
     if nat_lt (length c.order - 1) required then too_few_text required (length c.order - 1) else []
+
+-- no slice is within the small limits
+abbrev pub no_slice_note : List ℕ
+no_slice_note = codes "--slice: no history within the limits of one without --large has this anomaly\n"

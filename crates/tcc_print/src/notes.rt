@@ -1,7 +1,8 @@
 //! Notes: what standard error tells a person beside the answers, which is what to mend. Each is made as a whole before a byte of
 //! it goes out; where it can't be made or written it is left out, and nothing else changes.
 ghost use Rattle.std.specs.Prelude.{◌≡◌, ℕ, List, IfOk};
-ghost use Rattle.tcc_print.specs.Notes.{IsNoted, last_note, too_few_text};
+ghost use Rattle.tcc_print.specs.Notes.{IsNoted, AddsNotes, last_note, no_slice_note, too_few_text};
+ghost use Rattle.tcc_rows.specs.declared.rows.RowFaultKind.TheVariants as row_kind;
 
 mod mending;
 mod quoted;
@@ -156,7 +157,10 @@ fn row(
 
 /// Notes of the fault of a record, of which these are the fields, if they are known, what stands there instead. Of refused memory
 /// nothing is noted.
-pub fn note_row<N: Write>(alloc: Global, fault: &RowFault, fields: &[&[u8]], notes: &mut N) {
+pub fn note_row<N: Write>(alloc: Global, fault: &RowFault, fields: &[&[u8]], notes: &mut N)
+    ensures noted { AddsNotes (N.contents notes.old) (N.contents notes.new) }
+    ensures refused { fault.now.kind ≡ row_kind.NoMemory → N.contents notes.new ≡ N.contents notes.old }
+{
     note_row_within(alloc, Limits::Small, fault, fields, notes);
 }
 
@@ -167,7 +171,10 @@ pub fn note_row_within<N: Write>(
     fault: &RowFault,
     fields: &[&[u8]],
     notes: &mut N,
-) {
+)
+    ensures noted { AddsNotes (N.contents notes.old) (N.contents notes.new) }
+    ensures refused { fault.now.kind ≡ row_kind.NoMemory → N.contents notes.new ≡ N.contents notes.old }
+{
     if !matches!(fault.kind, RowFaultKind::NoMemory) {
         send_note(row(alloc, limits, fault, fields), notes);
     }
@@ -193,7 +200,9 @@ pub fn note_reads<N: Write>(
     snapshot: &Snapshot,
     faults: &[ReadFault],
     notes: &mut N,
-) {
+)
+    ensures { AddsNotes (N.contents notes.old) (N.contents notes.new) }
+{
     note_reads_among(alloc, snapshot.parts(), faults, notes);
 }
 
@@ -203,14 +212,18 @@ pub fn note_reads_among<N: Write>(
     sessions: &[(Name, Vec<Txn>)],
     faults: &[ReadFault],
     notes: &mut N,
-) {
+)
+    ensures { AddsNotes (N.contents notes.old) (N.contents notes.new) }
+{
     for fault in faults.iter().take(MOST_NOTED) {
         send_note(read(alloc, sessions, fault), notes);
     }
 }
 
 /// Notes that no slice is within the small limits.
-pub fn note_no_slice<N: Write>(alloc: Global, notes: &mut N) {
+pub fn note_no_slice<N: Write>(alloc: Global, notes: &mut N)
+    ensures { IsNoted (N.contents notes.old) (N.contents notes.new) no_slice_note }
+{
     let note: &[u8] =
         b"--slice: no history within the limits of one without --large has this anomaly\n";
     send_note(joined(alloc, &[note]), notes);

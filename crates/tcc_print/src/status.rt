@@ -9,30 +9,30 @@ use tcc_cert::CertFaultKind;
 use tcc_check::Verdict;
 use tcc_rows::RowFaultKind;
 
-/// How a run ended; the process passes it on as its status.
+/// How a run ended; the process passes it on as its status. README and the man page have these words.
 #[derive(Clone, Copy, Debug, PartialEq, Eq)]
 pub enum Status {
-    /// Consistent, accepted, or help was asked for.
+    /// Consistent; accepted; help or version asked for.
     Success,
-    /// The history is not causally consistent.
+    /// An anomaly.
     Anomaly,
-    /// Some operations read or write what no source explains.
+    /// Unresolved reads.
     ReadFaults,
-    /// A record breaks the rules, or the input ended inside a transaction.
+    /// A record that breaks a rule, or input that ended inside a transaction.
     RowFault,
-    /// Consistent, but with fewer transactions than are required.
+    /// Fewer transactions than `--require` wants.
     TooFew,
-    /// The input is past a limit.
+    /// A limit of the records is passed.
     Limit,
-    /// Memory was refused.
+    /// Out of memory.
     Memory,
-    /// The reader or the writer failed.
+    /// The input, the output or a file failed, or there are too many bytes.
     Device,
-    /// The certificate breaks a rule.
+    /// The certificate is rejected.
     Rejected,
-    /// The text of the certificate has a fault.
+    /// The certificate's text is wrong.
     CertificateFault,
-    /// The command line is wrong.
+    /// A wrong command line.
     Usage,
 }
 

@@ -22,7 +22,7 @@ use store::Store;
 use tcc_answer::write_text;
 use tcc_audit::audit;
 use tcc_book::{Book, Pass};
-use tcc_explain::{OpenGate, explain};
+use tcc_explain::{OpenGate, Workers, explain};
 use tcc_graph::Level;
 
 /// The clients, with their sessions open in the book.
@@ -91,7 +91,7 @@ fn answer_so_far<W: Write>(
 ) -> Result<(), Halt> {
     if let Some(client) = clients.first() {
         let sealed = book.seal(rt, alloc, &client.pass)?;
-        let answer = explain(rt, alloc, &sealed, Level::Causal, 1, &OpenGate)?;
+        let answer = explain(rt, alloc, &sealed, Level::Causal, Workers::ONE, &OpenGate)?;
         write_text(alloc, &answer, out)?;
     }
     Ok(())
@@ -128,13 +128,21 @@ fn play<W: Write>(
         }
     }
     let passes = passes_of(rt, alloc, clients)?;
-    let audited = audit(rt, alloc, &book, &passes, Level::Causal, 1, &OpenGate)?;
+    let audited = audit(
+        rt,
+        alloc,
+        &book,
+        &passes,
+        Level::Causal,
+        Workers::ONE,
+        &OpenGate,
+    )?;
     write_text(alloc, &audited, out)?;
     let whole = match book.close(rt, alloc, passes) {
         Ok(whole) => whole,
         Err(refused) => return Err(Halt::from(refused.0)),
     };
-    let atomic = explain(rt, alloc, &whole, Level::Atomic, 1, &OpenGate)?;
+    let atomic = explain(rt, alloc, &whole, Level::Atomic, Workers::ONE, &OpenGate)?;
     write_text(alloc, &atomic, out)?;
     Ok(())
 }

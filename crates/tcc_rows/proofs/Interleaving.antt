@@ -7,14 +7,14 @@ use Rattle.std.specs.Option.{option_map_or}
 use Rattle.std.specs.FinMap as finite
 use Rattle.std.specs.Cmp.Lexicographic.{nat_list_cmp_total}
 use Rattle.std.proofs.lemmas.Map.Lookups.{exact_bytes}
-use Rattle.tcc_rows.specs.Answers.{Answers, after_item, answers_after, answers_of, go_on, records_of, judged_within}
-use Rattle.tcc_rows.specs.private.Words.{judged}
+use Rattle.tcc_rows.specs.Answers.{Answers, after_item, answers_of, go_on, records_of, judged_within}
+use Rattle.tcc_rows.specs.private.Words.{answers_after, judged}
 use Rattle.tcc_rows.specs.Items.{finished_in}
 use Rattle.tcc_rows.specs.Interleaved.{AreInterleaved, is_by}
 use Rattle.tcc_txn.specs.Bytes.{same}
 use Rattle.tcc_rows.specs.Lines.{Record, in_session, is_cut, line_of, op_of}
 use Rattle.tcc_txn.specs.Names.{name_fault}
-use Rattle.tcc_rows.specs.Past.{fault_of, item_of, ops_since, fault_within}
+use Rattle.tcc_rows.specs.Past.{item_of, ops_since, fault_within}
 use Rattle.tcc_txn.specs.Transactions.{Transaction}
 use Rattle.tcc_txn.specs.declared.limits.Limits.{Limits}
 use Rattle.tcc_txn.specs.declared.limits.Limits.TheVariants.{Small}

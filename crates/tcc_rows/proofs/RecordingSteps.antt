@@ -13,10 +13,11 @@ use Rattle.tcc_txn.specs.Finished.{IsWithinLimits, with_transaction}
 use Rattle.tcc_rows.specs.Items.{finished_in, with_item}
 use Rattle.tcc_rows.specs.Lines.{Record}
 use Rattle.tcc_rows.specs.Reached.{IsWithin, StandsBy, row_in, row_reached}
-use Rattle.tcc_rows.specs.Recordings.{FailsBehindWithin, Held, IsRecordedWithin, IsRecordingWithin, Passes, TakesMomentWithin, after_items, has_seal, is_seal}
+use Rattle.tcc_rows.specs.Recordings.{FailsBehind, IsRecorded, IsRecording, Passes, TakesMoment, after_items, has_seal, is_seal}
 use Rattle.tcc_txn.specs.Transactions.{Transaction}
 use Rattle.tcc_txn.specs.declared.limits.Limits.{Limits}
 use Rattle.tcc_rows.specs.declared.recording.Moment.TheVariants as moment
+use Rattle.tcc_rows.specs.declared.recording.RecordingWithin.{RecordingWithin}
 use Rattle.tcc_rows.specs.declared.rows.Item.{Item}
 use Rattle.tcc_rows.specs.declared.rows.Item.TheVariants as item
 use Rattle.tcc_rows.specs.declared.rows.Phase.{Phase}
@@ -29,13 +30,13 @@ use Rattle.tcc_rows.proofs.FinishedFacts.{finished_in-push, limits-before}
 use Rattle.tcc_rows.specs.declared.rows.Rows.{Rows}
 
 -- some items were passed since these were taken, and others are still to come
-abbrev pub HasPassed : {R : Type 0} → Limits → (R → Option (List ℕ)) → Held R → List Item → Answers → Type 0
+abbrev pub HasPassed : {R B : Type 0} → Limits → (R → Option (List ℕ)) → RecordingWithin R B → List Item → Answers → Type 0
 HasPassed limits remaining recording taken ahead =
-    (passed : List Item) × (rest : Answers) × Passes ahead passed rest × IsRecordingWithin limits remaining recording (taken ++ passed) rest
+    (passed : List Item) × (rest : Answers) × Passes ahead passed rest × IsRecording limits remaining recording (taken ++ passed) rest
 
 -- some items of all were taken, and others are still to come
-abbrev pub HasTaken : {R : Type 0} → Limits → (R → Option (List ℕ)) → Held R → Answers → Type 0
-HasTaken limits remaining recording all = (taken : List Item) × (ahead : Answers) × (all ≡ after_items taken ahead) × IsRecordingWithin limits remaining recording taken ahead
+abbrev pub HasTaken : {R B : Type 0} → Limits → (R → Option (List ℕ)) → RecordingWithin R B → Answers → Type 0
+HasTaken limits remaining recording all = (taken : List Item) × (ahead : Answers) × (all ≡ after_items taken ahead) × IsRecording limits remaining recording taken ahead
 
 module _ (limits : Limits) where
   limits-of : (xs ys : List Item) → xs ≡ ys → IsWithinLimits limits (finished_in xs) → IsWithinLimits limits (finished_in ys)
@@ -43,14 +44,14 @@ module _ (limits : Limits) where
 
   module _ {R : Type 0} (remaining : R → Option (List ℕ)) where
     -- nothing is taken yet
-    pub begins : (recording : Held R) (all : Answers) → IsAhead limits remaining recording.rows all → recording.snapshot ≡ map.empty
-        → IsWithinLimits limits (finished_in all.items) → IsRecordingWithin limits remaining recording [] all
+    pub begins : {B : Type 0} (recording : RecordingWithin R B) (all : Answers) → IsAhead limits remaining recording.rows all → recording.snapshot ≡ map.empty
+        → IsWithinLimits limits (finished_in all.items) → IsRecording limits remaining recording [] all
     begins recording all ahead none kept = record { answers = ahead; snapshot = none; limits_kept = kept }
 
     -- one more item is taken
-    takes : (old new : Held R) (taken : List Item) (x : Item) (rest rest' : Answers) → IsRecordingWithin limits remaining old taken rest
+    takes : {B : Type 0} (old new : RecordingWithin R B) (taken : List Item) (x : Item) (rest rest' : Answers) → IsRecording limits remaining old taken rest
         → rest ≡ after_item (Some x) rest'
-        → IsAhead limits remaining new.rows rest' → new.snapshot ≡ with_item old.snapshot x → IsRecordingWithin limits remaining new (taken ++ x ∷ []) rest'
+        → IsAhead limits remaining new.rows rest' → new.snapshot ≡ with_item old.snapshot x → IsRecording limits remaining new (taken ++ x ∷ []) rest'
     takes old new taken x rest rest' recording is ahead grown = record {
       answers = ahead;
       snapshot = grown ∙ ap (λ s. with_item s x) recording.snapshot ∙ sym (finished_in-push taken x);
@@ -59,8 +60,8 @@ module _ (limits : Limits) where
     }
 
     -- nothing more is taken
-    stays : (old new : Held R) (taken : List Item) (rest : Answers) (fault : Option RowFault) → IsRecordingWithin limits remaining old taken rest
-        → IsAhead limits remaining new.rows (ending fault) → new.snapshot ≡ old.snapshot → IsRecordingWithin limits remaining new taken (ending fault)
+    stays : {B : Type 0} (old new : RecordingWithin R B) (taken : List Item) (rest : Answers) (fault : Option RowFault) → IsRecording limits remaining old taken rest
+        → IsAhead limits remaining new.rows (ending fault) → new.snapshot ≡ old.snapshot → IsRecording limits remaining new taken (ending fault)
     stays old new taken rest fault recording ahead same = record {
       answers = ahead;
       snapshot = same ∙ recording.snapshot;
@@ -80,13 +81,13 @@ module _ (limits : Limits) where
         none a b = rw (a, b) refl
 
   -- nothing is passed yet
-  pub not-begun : {R : Type 0} (remaining : R → Option (List ℕ)) (taken : List Item) (ahead : Answers) (recording : Held R)
-      → IsRecordingWithin limits remaining recording taken ahead
+  pub not-begun : {R B : Type 0} (remaining : R → Option (List ℕ)) (taken : List Item) (ahead : Answers) (recording : RecordingWithin R B)
+      → IsRecording limits remaining recording taken ahead
       → HasPassed limits remaining recording taken ahead
   not-begun remaining taken ahead recording is =
-      ([], ahead, (refl, refl), subst (λ items. IsRecordingWithin limits remaining recording items ahead) (sym (append-nil taken)) is)
+      ([], ahead, (refl, refl), subst (λ items. IsRecording limits remaining recording items ahead) (sym (append-nil taken)) is)
 
-  module _ {R : Type 0} (remaining : R → Option (List ℕ)) (taken : List Item) (ahead : Answers) (old new : Held R)
+  module _ {R B : Type 0} (remaining : R → Option (List ℕ)) (taken : List Item) (ahead : Answers) (old new : RecordingWithin R B)
       (way : HasPassed limits remaining old taken ahead) where
     -- the session has finished one more transaction
     pub goes_on : (session : List ℕ) (txn : Transaction) → TakesAnswer limits remaining way.1 (Ok (item.Finished session txn)) new.rows
@@ -95,7 +96,7 @@ module _ (limits : Limits) where
       way.0 ++ item.Finished session txn ∷ [],
       answer.0,
       passes remaining ahead way.0 (item.Finished session txn) way.1 answer.0 way.2 refl answer.1,
-      subst (λ items. IsRecordingWithin limits remaining new items answer.0) (append_assoc taken way.0 (item.Finished session txn ∷ []))
+      subst (λ items. IsRecording limits remaining new items answer.0) (append_assoc taken way.0 (item.Finished session txn ∷ []))
           (takes remaining old new (taken ++ way.0) (item.Finished session txn) way.1 answer.0 way.3 answer.1 answer.2 grown),
     )
 
@@ -109,21 +110,21 @@ module _ (limits : Limits) where
         subst (IsWithinLimits limits) (finished_in-push (taken ++ way.0) last ∙ ap (λ s. with_item s last) (sym way.3.snapshot))
         (limits-before limits ((taken ++ way.0) ++ last ∷ []) answer.0.items kept)
 
-    pub comes_to_seal : TakesAnswer limits remaining way.1 (Ok item.Seal) new.rows → new.snapshot ≡ old.snapshot → TakesMomentWithin limits remaining taken ahead (Ok moment.Seal) new
+    pub comes_to_seal : TakesAnswer limits remaining way.1 (Ok item.Seal) new.rows → new.snapshot ≡ old.snapshot → TakesMoment limits remaining taken ahead (Ok moment.Seal) new
     comes_to_seal answer same = (
       way.0,
       answer.0,
       (way.2.0, way.2.1 ∙ ap (after_items way.0) answer.1),
-      subst (λ items. IsRecordingWithin limits remaining new items answer.0) (append_assoc taken way.0 (item.Seal ∷ []))
+      subst (λ items. IsRecording limits remaining new items answer.0) (append_assoc taken way.0 (item.Seal ∷ []))
           (takes remaining old new (taken ++ way.0) item.Seal way.1 answer.0 way.3 answer.1 answer.2 same),
     )
 
-    pub comes_to_end : TakesAnswer limits remaining way.1 (Ok item.End) new.rows → new.snapshot ≡ old.snapshot → TakesMomentWithin limits remaining taken ahead (Ok moment.End) new
+    pub comes_to_end : TakesAnswer limits remaining way.1 (Ok item.End) new.rows → new.snapshot ≡ old.snapshot → TakesMoment limits remaining taken ahead (Ok moment.End) new
     comes_to_end answer same =
         (way.0, (way.2.0, way.2.1 ∙ ap (after_items way.0) answer.0), stays remaining old new (taken ++ way.0) way.1 None way.3 answer.1 same)
 
     pub stops : (fault : RowFault) → TakesAnswer limits remaining way.1 (Err fault) new.rows → new.snapshot ≡ old.snapshot
-        → TakesMomentWithin limits remaining taken ahead (Err fault) new
+        → TakesMoment limits remaining taken ahead (Err fault) new
     stops fault answer same = (
       way.0,
       way.1,
@@ -136,7 +137,7 @@ module _ (limits : Limits) where
 
     -- memory is refused
     pub gives_up : (fault : RowFault) → fault.kind ≡ kind.NoMemory → new.rows.phase ≡ phase.Stopped fault → new.snapshot ≡ old.snapshot
-        → TakesMomentWithin limits remaining taken ahead (Err fault) new
+        → TakesMoment limits remaining taken ahead (Err fault) new
     gives_up fault memory stopped same = (
       way.0,
       way.1,
@@ -153,7 +154,7 @@ module _ (limits : Limits) where
 
     -- memory is refused for one more transaction
     pub loses_one : (session : List ℕ) (txn : Transaction) (rows : Rows R) (fault : RowFault) → TakesAnswer limits remaining way.1 (Ok (item.Finished session txn)) rows
-        → fault.kind ≡ kind.NoMemory → new.rows.phase ≡ phase.Stopped fault → new.snapshot ≡ old.snapshot → TakesMomentWithin limits remaining taken ahead (Err fault) new
+        → fault.kind ≡ kind.NoMemory → new.rows.phase ≡ phase.Stopped fault → new.snapshot ≡ old.snapshot → TakesMoment limits remaining taken ahead (Err fault) new
     loses_one session txn rows fault answer memory stopped same = (
       way.0 ++ item.Finished session txn ∷ [],
       answer.0,
@@ -163,7 +164,7 @@ module _ (limits : Limits) where
 
     -- the reading of one more record fails
     pub fails-behind : (row : ℕ) (all : List Record) → answers_after_within limits [] all ≡ after_items taken ahead
-        → (answers_after_within limits [] all ≡ after_items (taken ++ way.0) way.1 → FailsAtWithin limits row all × (taken ++ way.0 ≡ items_before_within limits row all)) → FailsBehindWithin limits taken row all
+        → (answers_after_within limits [] all ≡ after_items (taken ++ way.0) way.1 → FailsAtWithin limits row all × (taken ++ way.0 ≡ items_before_within limits row all)) → FailsBehind limits taken row all
     fails-behind row all answers next =
         let whole : answers_after_within limits [] all ≡ after_items (taken ++ way.0) way.1
         = answers ∙ ap (after_items taken) way.2.1 ∙ ap (λ items. record { items = items; fault = way.1.fault }) (sym (append_assoc taken way.0 way.1.items)) in
@@ -226,9 +227,9 @@ module _ (limits : Limits) where
       apart : given ≡ item.End → ⊥
       apart e = cc
 
-  module _ {R : Type 0} (remaining : R → Option (List ℕ)) (text : List ℕ) (old new : Held R) (way : HasTaken limits remaining old (answers_within limits text)) where
+  module _ {R B : Type 0} (remaining : R → Option (List ℕ)) (text : List ℕ) (old new : RecordingWithin R B) (way : HasTaken limits remaining old (answers_within limits text)) where
     -- a seal is passed
-    pub passes_seal : TakesMomentWithin limits remaining way.0 way.1 (Ok moment.Seal) new → HasTaken limits remaining new (answers_within limits text)
+    pub passes_seal : TakesMoment limits remaining way.0 way.1 (Ok moment.Seal) new → HasTaken limits remaining new (answers_within limits text)
     passes_seal at = (
       way.0 ++ (at.0 ++ item.Seal ∷ []),
       at.1,
@@ -239,15 +240,15 @@ module _ (limits : Limits) where
     )
 
     -- all items are taken
-    pub ends : TakesMomentWithin limits remaining way.0 way.1 (Ok moment.End) new → IsRecordedWithin limits text (Ok new.snapshot)
+    pub ends : TakesMoment limits remaining way.0 way.1 (Ok moment.End) new → IsRecorded limits text (Ok new.snapshot)
     ends at =
         let whole = way.2 ∙ ap (after_items way.0) at.1.1 in (
           ap (λ (all : Answers). all.fault) whole,
           at.2.snapshot ∙ ap finished_in (sym (ap (λ (all : Answers). all.items) whole ∙ ap (λ items. way.0 ++ items) (append-nil at.0))),
         )
 
-    pub fails : (fault : RowFault) → TakesMomentWithin limits remaining way.0 way.1 (Err fault) new → fault.row ≤ length (records_within limits text) + 1
-        → (fault.kind ≡ kind.Read → FailsAtWithin limits fault.row (records_within limits text)) → IsRecordedWithin limits text (Err fault)
+    pub fails : (fault : RowFault) → TakesMoment limits remaining way.0 way.1 (Err fault) new → fault.row ≤ length (records_within limits text) + 1
+        → (fault.kind ≡ kind.Read → FailsAtWithin limits fault.row (records_within limits text)) → IsRecorded limits text (Err fault)
     fails fault at within failed =
         let whole = way.2 ∙ ap (after_items way.0) at.2.1 in
         elim at.3 [
@@ -259,7 +260,7 @@ module _ (limits : Limits) where
         ]
 
   -- nothing of a text is taken yet
-  pub none-taken : {R : Type 0} (remaining : R → Option (List ℕ)) (recording : Held R) (all : Answers) → IsRecordingWithin limits remaining recording [] all
+  pub none-taken : {R B : Type 0} (remaining : R → Option (List ℕ)) (recording : RecordingWithin R B) (all : Answers) → IsRecording limits remaining recording [] all
       → HasTaken limits remaining recording all
   none-taken remaining recording all is = ([], all, refl, is)
 

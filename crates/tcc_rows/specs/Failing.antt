@@ -35,4 +35,3 @@ items_before = items_before_within Small
 
 abbrev pub FailsAt : ℕ → List Record → Type 0
 FailsAt = FailsAtWithin Small
-

@@ -2,20 +2,23 @@
 ghost use Rattle.std.specs.Prelude.{◌≡◌, ◌≢◌, ℕ, List, [], true, IfErr, IfOk, IfSome, OnErr, OnOk, None, Some, Ok, MatchResult, option_map};
 ghost use Rattle.csv.specs.Records.{field_at};
 ghost use Rattle.tcc_rows.specs.Ahead.{fault_met, has_ended};
-ghost use Rattle.tcc_rows.specs.Answers.{Answers, answers_after, answers_of, records_of};
-ghost use Rattle.tcc_txn.specs.Finished.{KeepsLimits, with_transaction};
+ghost use Rattle.tcc_rows.specs.Answers.{Answers, answers_after_within, answers_within, records_within};
+ghost use Rattle.tcc_txn.specs.Finished.{IsWithinLimits, with_transaction};
 ghost use Rattle.tcc_rows.specs.Items.{finished_in};
 ghost use Rattle.tcc_rows.specs.Lines.{Record};
 ghost use Rattle.tcc_txn.specs.Nested.{IsNested};
 ghost use Rattle.tcc_rows.specs.Reached.{IsWithin, ReaderFailed, last_record, row_reached};
 ghost use Rattle.tcc_rows.specs.Recordings.{FailsBehind, IsRecorded, IsRecording, TakesMoment, after_items};
+ghost use Rattle.tcc_txn.specs.declared.limits.Limits.TheVariants.{Small, Large};
 ghost use Rattle.tcc_rows.specs.declared.rows.Item.{Item};
 ghost use Rattle.tcc_rows.specs.declared.rows.Phase.TheVariants as phase;
 
 use crate::{Item, RowFault, RowFaultKind, Rows};
 use std::alloc::Global;
 use std::io::Read;
-use tcc_txn::{Name, NoMemory, Snapshot, Txn};
+use tcc_txn::{
+    Bounds, LargeLimits, LargeSnapshot, Name, NoMemory, SmallLimits, Snapshot, SnapshotWithin, Txn,
+};
 
 /// Where a recording came to.
 #[derive(Clone, Copy, Debug, PartialEq, Eq)]
@@ -26,30 +29,36 @@ pub enum Moment {
     End,
 }
 
-/// The snapshot of what a reader's records have finished so far.
+/// The snapshot of what a reader's records have finished so far, within the limits that `B` stands for.
 #[derive(Drop)]
-pub struct Recording<R> {
+pub struct RecordingWithin<R, B: Bounds> {
     rows: Rows<R>,
-    snapshot: Snapshot,
+    snapshot: SnapshotWithin<B>,
 }
 
-impl<R: Read + Drop> Recording<R> {
+/// A recording within the small limits.
+pub type Recording<R> = RecordingWithin<R, SmallLimits>;
+
+/// A recording within the large limits.
+pub type LargeRecording<R> = RecordingWithin<R, LargeLimits>;
+
+impl<R: Read + Drop, B: Bounds> RecordingWithin<R, B> {
     /// Nothing is read yet; the reader is gone where memory is refused.
-    pub fn new(alloc: Global, reader: R) -> Result<Recording<R>, NoMemory>
-        ensures recording { IfOk result (λ recording. IfSome (R.remaining reader) (λ text. IsRecording R.remaining recording [] (answers_of text))) }
-        ensures within { IfOk result (λ recording. IfSome (R.remaining reader) (λ text. IsWithin R.remaining recording.rows (records_of text))) }
+    pub fn new(alloc: Global, reader: R) -> Result<RecordingWithin<R, B>, NoMemory>
+        ensures recording { IfOk result (λ recording. IfSome (R.remaining reader) (λ text. IsRecording B.limits R.remaining recording [] (answers_within B.limits text))) }
+        ensures within { IfOk result (λ recording. IfSome (R.remaining reader) (λ text. IsWithin R.remaining recording.rows (records_within B.limits text))) }
         ensures fresh { IfOk result (λ recording. fault_met recording.rows ≡ None) }
     {
-        Ok(Recording {
-            rows: Rows::new(alloc, reader)?,
-            snapshot: Snapshot::empty(alloc),
+        Ok(RecordingWithin {
+            rows: Rows::within(alloc, reader, B::limits())?,
+            snapshot: SnapshotWithin::empty(alloc),
         })
     }
 
     /// Reads on to the next seal or to the end; after the end there is the end, after a fault that fault.
     pub fn advance(&mut self, alloc: Global) -> Result<Moment, RowFault>
-        ensures moment { (taken : List Item) (ahead : Answers) → IsRecording R.remaining self.old taken ahead
-            → TakesMoment R.remaining taken ahead result self.new }
+        ensures moment { (taken : List Item) (ahead : Answers) → IsRecording B.limits R.remaining self.old taken ahead
+            → TakesMoment B.limits R.remaining taken ahead result self.new }
         ensures within { (all : List Record) → IsWithin R.remaining self.old.rows all → IsWithin R.remaining self.new.rows all }
 
         // Whatever is known of the bytes, what was finished stays, and each session only goes on.
@@ -63,8 +72,8 @@ impl<R: Read + Drop> Recording<R> {
         // Where a record can't be read, all before it are lawful, and the items so far are theirs: those that were taken, and
         // then some without a seal.
         ensures failed { IfErr result (λ fault. fault_met self.old.rows ≡ None → fault.kind ≡ RowFaultKind.Read
-            → (all : List Record) (taken : List Item) (ahead : Answers) → answers_after [] all ≡ after_items taken ahead
-            → IsWithin R.remaining self.old.rows all → IsRecording R.remaining self.old taken ahead → FailsBehind taken fault.row all) }
+            → (all : List Record) (taken : List Item) (ahead : Answers) → answers_after_within B.limits [] all ≡ after_items taken ahead
+            → IsWithin R.remaining self.old.rows all → IsRecording B.limits R.remaining self.old taken ahead → FailsBehind B.limits taken fault.row all) }
 
         // A fault stays, and so does the end.
         ensures stops { IfErr result (λ fault. fault_met self.new.rows ≡ Some fault) }
@@ -91,7 +100,7 @@ impl<R: Read + Drop> Recording<R> {
         ensures stopped { IfErr result (λ fault. (self.new.rows ≡ record self.old.rows { phase = phase.Stopped fault })
             × (fault.row ≡ row_reached self.old.rows)) }
         ensures known { IfErr result (λ fault. fault.kind ≢ RowFaultKind.Read) }
-        ensures memory { KeepsLimits (with_transaction self.old.snapshot session txn) → IfErr result (λ fault. fault.kind ≡ RowFaultKind.NoMemory) }
+        ensures memory { IsWithinLimits B.limits (with_transaction self.old.snapshot session txn) → IfErr result (λ fault. fault.kind ≡ RowFaultKind.NoMemory) }
     {
         match self.snapshot.add(alloc, session, txn) {
             Ok(()) => Ok(()),
@@ -100,10 +109,11 @@ impl<R: Read + Drop> Recording<R> {
     }
 
     /// Reads on to the end, whatever is sealed.
-    fn pass_seals(&mut self, alloc: Global) -> Result<(), RowFault>
-        ensures { (text : List ℕ) → IsRecording R.remaining self.old [] (answers_of text) → IsWithin R.remaining self.old.rows (records_of text)
+    pub fn pass_seals(&mut self, alloc: Global) -> Result<(), RowFault>
+        ensures { (text : List ℕ) → IsRecording B.limits R.remaining self.old [] (answers_within B.limits text)
+            → IsWithin R.remaining self.old.rows (records_within B.limits text)
             → fault_met self.old.rows ≡ None
-            → MatchResult result (λ done. IsRecorded text (Ok self.new.snapshot)) (λ fault. IsRecorded text (Err fault)) }
+            → MatchResult result (λ done. IsRecorded B.limits text (Ok self.new.snapshot)) (λ fault. IsRecorded B.limits text (Err fault)) }
     {
         'seals: for _turn in 0..u64::MAX {
             match self.advance(alloc)? {
@@ -124,19 +134,22 @@ impl<R: Read + Drop> Recording<R> {
     }
 
     /// What was finished so far.
-    pub fn snapshot(&self) -> &Snapshot
+    pub fn snapshot(&self) -> &SnapshotWithin<B>
         ensures value { result.now ≡ self.now.snapshot }
-        ensures finished { (taken : List Item) (ahead : Answers) → IsRecording R.remaining self.now taken ahead → result.now ≡ finished_in taken }
+        ensures finished { (taken : List Item) (ahead : Answers) → IsRecording B.limits R.remaining self.now taken ahead → result.now ≡ finished_in taken }
     {
         &self.snapshot
     }
 }
 
-/// All that the records of the reader finish, whatever they seal.
-pub fn snapshot_of<R: Read + Drop>(alloc: Global, reader: R) -> Result<Snapshot, RowFault>
-    ensures { IfSome (R.remaining reader) (λ text. IsRecorded text result) }
+/// All that the records of the reader finish within the limits that `B` stands for, whatever they seal.
+fn recorded<R: Read + Drop, B: Bounds>(
+    alloc: Global,
+    reader: R,
+) -> Result<SnapshotWithin<B>, RowFault>
+    ensures { IfSome (R.remaining reader) (λ text. IsRecorded B.limits text result) }
 {
-    let mut recording = match Recording::new(alloc, reader) {
+    let mut recording = match RecordingWithin::<R, B>::new(alloc, reader) {
         Ok(recording) => recording,
         Err(NoMemory) => {
             return Err(RowFault {
@@ -149,4 +162,21 @@ pub fn snapshot_of<R: Read + Drop>(alloc: Global, reader: R) -> Result<Snapshot,
         Ok(()) => Ok(recording.snapshot),
         Err(fault) => Err(fault),
     }
+}
+
+/// All that the records of the reader finish, whatever they seal.
+pub fn snapshot_of<R: Read + Drop>(alloc: Global, reader: R) -> Result<Snapshot, RowFault>
+    ensures { IfSome (R.remaining reader) (λ text. IsRecorded Small text result) }
+{
+    recorded(alloc, reader)
+}
+
+/// The same within the large limits.
+pub fn large_snapshot_of<R: Read + Drop>(
+    alloc: Global,
+    reader: R,
+) -> Result<LargeSnapshot, RowFault>
+    ensures { IfSome (R.remaining reader) (λ text. IsRecorded Large text result) }
+{
+    recorded(alloc, reader)
 }

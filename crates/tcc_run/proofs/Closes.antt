@@ -50,7 +50,7 @@ module _ (options : Options) (records text : List ℕ) (limits : KeepsLimits (fi
       absurd (nothing text (ap (λ (s : Said). s.certificate) halted ∙ has))
 
 -- what is printed for a device that failed has its status
-device_code : (before after : Option (List ℕ)) (text : List ℕ) (code : ℕ) → Prints before after text Device code → code ≡ code_of Device
+pub device_code : (before after : Option (List ℕ)) (text : List ℕ) (code : ℕ) → Prints before after text Device code → code ≡ code_of Device
 device_code before after text code (inl whole) = whole.1
 device_code before after text code (inr part) = part.1
 

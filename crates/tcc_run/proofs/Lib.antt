@@ -3,6 +3,7 @@ pub mod Counted
 pub mod Interleaving
 pub mod LastSnapshot
 pub mod Closes
+pub mod HeadlineRuns
 pub mod OneRun
 pub mod Runs
 pub mod Sent

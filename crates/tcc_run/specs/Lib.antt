@@ -1,4 +1,5 @@
 pub mod Headline
+pub mod HeadlineRuns
 pub mod Interleaved
 pub mod Runs
 pub mod Closing

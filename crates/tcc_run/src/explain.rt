@@ -1,11 +1,12 @@
 //! From the bytes of records to their answers: at each seal, and at the end.
-ghost use Rattle.std.specs.Prelude.{◌≡◌, ◌≢◌, ◌<◌, ◌≤◌, ℕ, List, [], true, false, None, Some, Ok, IfOk, IfSome, MatchResult, OnErr, OnOk, option_map};
+ghost use Rattle.std.specs.Prelude.{◌≡◌, ◌≢◌, ℕ, List, [], true, false, None, Some, Ok, IfOk, IfSome, MatchResult, OnErr, OnOk, option_map};
 ghost use Rattle.std.specs.FinMap as sessions;
 ghost use Rattle.tcc_rows.specs.Ahead.{fault_met};
 ghost use Rattle.tcc_rows.specs.Answers.{answers_of, records_of};
 ghost use Rattle.tcc_txn.specs.Finished.{transaction_count};
 ghost use Rattle.tcc_rows.specs.Reached.{IsWithin};
 ghost use Rattle.tcc_rows.specs.Recordings.{IsRecording};
+ghost use Rattle.tcc_txn.specs.declared.limits.Limits.TheVariants.{Small};
 ghost use Rattle.tcc_cert.specs.Texts.{certificate_text};
 ghost use Rattle.tcc_answer.specs.Claims.{certificate_of};
 ghost use Rattle.tcc_print.specs.private.Halts.{by_row};
@@ -79,7 +80,6 @@ fn renew<W: Write, G: Gate>(
     gate: &G,
     out: &mut W,
 ) -> Result<Last, u8>
-    requires workers { (0 < options.workers) × (options.workers ≤ 32) }
     requires earlier { IfSome last (Follows options.level snapshot.now) }
     ensures again { IfSome last (λ last. last.transactions ≡ transaction_count snapshot.now → (W.contents out.new ≡ W.contents out.old) × (result ≡ Ok last)) }
     ensures anew { IfSome last (λ last. last.transactions ≢ transaction_count snapshot.now)
@@ -117,7 +117,6 @@ fn answer_seal<W: Write, N: Write, G: Gate>(
     out: &mut W,
     notes: &mut N,
 ) -> Result<Last, u8>
-    requires workers { (0 < options.workers) × (options.workers ≤ 32) }
     requires earlier { IfSome last (Follows options.level snapshot.now) }
     ensures earlier { IfOk result (Follows options.level snapshot.now) }
     ensures said { IsStill options.level snapshot.now last
@@ -142,7 +141,6 @@ fn answer_last<W: Write, N: Write, G: Gate>(
     out: &mut W,
     notes: &mut N,
 ) -> Result<Option<Answer>, u8>
-    requires workers { (0 < options.workers) × (options.workers ≤ 32) }
     requires earlier { IfSome last (Follows options.level snapshot.now) }
     ensures said { IfSome last (λ last. last.transactions ≡ transaction_count snapshot.now → (W.contents out.new ≡ W.contents out.old)
         × (result ≡ Ok (answer_in last.outcome))) }
@@ -185,8 +183,7 @@ fn answer_all<R: Read + Drop, W: Write, N: Write, G: Gate>(
     out: &mut W,
     notes: &mut N,
 ) -> Result<Option<Answer>, u8>
-    requires workers { (0 < options.workers) × (options.workers ≤ 32) }
-    ensures { (bytes : List ℕ) → IsRecording R.remaining recording.old [] (answers_of bytes) → IsWithin R.remaining recording.old.rows (records_of bytes)
+    ensures { (bytes : List ℕ) → IsRecording Small R.remaining recording.old [] (answers_of bytes) → IsWithin R.remaining recording.old.rows (records_of bytes)
         → fault_met recording.old.rows ≡ None
         → MatchResult result (AllAnswered options bytes (W.contents out.old) (W.contents out.new))
         (EndsEarly options bytes (W.contents out.old) (W.contents out.new)) }
@@ -229,7 +226,6 @@ fn answer_records<R: Read + Drop, W: Write, N: Write, G: Gate>(
     out: &mut W,
     notes: &mut N,
 ) -> Result<Option<Answer>, u8>
-    requires workers { (0 < options.workers) × (options.workers ≤ 32) }
     ensures { IfSome (R.remaining reader) (λ bytes. MatchResult result (AllAnswered options bytes (W.contents out.old) (W.contents out.new))
         (EndsEarly options bytes (W.contents out.old) (W.contents out.new))) }
 {
@@ -276,7 +272,7 @@ fn conclude<W: Write, C: Write, N: Write>(
 
 /// Writes an answer at the level for what was finished before each seal of the bytes of the reader, and before their end,
 /// as text or as lines of JSON, and behind it, into the file if one is given, the certificate of the last. Gives the number
-/// that the run ends with. All of this is the same for every number of workers, 1 to 32, and the gate is called before each
+/// that the run ends with. All of this is the same for every number of workers, and the gate is called before each
 /// start that they search. What a person may want to know besides, who reads the standard error, goes to the notes.
 ///
 /// The file is empty before: nothing goes into it where the last answer is that reads have faults, or where the run ends
@@ -291,7 +287,6 @@ pub fn run_explain<R: Read + Drop, W: Write, C: Write, N: Write, G: Gate>(
     options: Options,
     gate: &G,
 ) -> u8
-    requires workers { (0 < options.workers) × (options.workers ≤ 32) }
     ensures { IfSome (R.remaining reader) (λ bytes. IsRun options bytes (W.contents out.old) (W.contents out.new) (option_map C.contents certificate.old)
         (option_map C.contents certificate.new) result) }
 {

@@ -1,20 +1,19 @@
 //! The main theorem, as the contract of one call, and of the same after an earlier anomaly.
-ghost use Rattle.std.specs.Prelude.{◌<◌, ◌≤◌, IfOk, MatchResult};
+ghost use Rattle.std.specs.Prelude.{IfOk, MatchResult};
 ghost use Rattle.tcc_explain.specs.Explained.{IsAnswerOf, IsRefusal};
 ghost use Rattle.tcc_explain.specs.Next.{IsNextRefusal};
 ghost use Rattle.tcc_graph.specs.Levels.{judged};
 ghost use Rattle.tcc_reads.specs.Sources.{history};
 ghost use Rattle.tcc_run.specs.Headline.{IsExplained};
 
+use crate::laws::explained;
 use std::alloc::Global;
 use std::thread::Threads;
-use tcc_check::laws::certified as certified_claim;
-use tcc_explain::laws::certified as certified_answer;
-use tcc_explain::{Anomaly, Answer, ExplainFault, Gate, NextFault, explain, explain_next};
+use tcc_explain::{Anomaly, Answer, ExplainFault, Gate, NextFault, Workers, explain, explain_next};
 use tcc_graph::Level;
 use tcc_txn::Snapshot;
 
-/// Explains a snapshot at a level by 1 to 32 workers. Whatever their number and the order in which they search, the answer
+/// Explains a snapshot at a level by so many workers. Whatever their number and the order in which they search, the answer
 /// is either a commit order that satisfies the axiom of the level, or a cycle, each derived link with its reason, and
 /// no cycle has fewer steps; and the certificate given with it is accepted by the checker, whose yes alone implies this. Or
 /// these are all read faults of the snapshot. `tcc_explain::laws::one_answer` says that there is one such first answer.
@@ -23,19 +22,14 @@ pub fn explain_snapshot<G: Gate>(
     alloc: Global,
     snapshot: &Snapshot,
     level: Level,
-    workers: u32,
+    workers: Workers,
     gate: &G,
 ) -> Result<Answer, ExplainFault>
-    requires workers { (0 < workers) × (workers ≤ 32) }
     ensures headline { MatchResult result (IsExplained snapshot.now level) (IsRefusal snapshot.now) }
     ensures first { IfOk result (IsAnswerOf (judged (history snapshot.now) level)) }
 {
-    certified_answer();
-    certified_claim();
-    match explain(rt, alloc, snapshot, level, workers, gate) {
-        Ok(answer) => Ok(answer),
-        Err(fault) => Err(fault),
-    }
+    explained();
+    explain(rt, alloc, snapshot, level, workers, gate)
 }
 
 /// Explains a snapshot after an earlier anomaly, at its level: what `explain_snapshot` says of an answer holds of this one,
@@ -47,17 +41,12 @@ pub fn explain_snapshot_next<G: Gate>(
     alloc: Global,
     snapshot: &Snapshot,
     earlier: &Anomaly,
-    workers: u32,
+    workers: Workers,
     gate: &G,
 ) -> Result<Answer, NextFault>
-    requires workers { (0 < workers) × (workers ≤ 32) }
     ensures headline { MatchResult result (IsExplained snapshot.now earlier.now.level) (IsNextRefusal snapshot.now earlier.now) }
     ensures first { IfOk result (IsAnswerOf (judged (history snapshot.now) earlier.now.level)) }
 {
-    certified_answer();
-    certified_claim();
-    match explain_next(rt, alloc, snapshot, earlier, workers, gate) {
-        Ok(answer) => Ok(answer),
-        Err(fault) => Err(fault),
-    }
+    explained();
+    explain_next(rt, alloc, snapshot, earlier, workers, gate)
 }

@@ -17,21 +17,46 @@ ghost use Rattle.tcc_check.specs.declared.verdict.Verdict.{Verdict};
 ghost use Rattle.tcc_check.specs.declared.verdict.Verdict.TheVariants.{Accepted};
 ghost use Rattle.tcc_answer.specs.Claims.{certificate_of};
 ghost use Rattle.tcc_answer.specs.declared.answer.Answer.{Answer};
-ghost use Rattle.tcc_explain.specs.Explained.{IsAnswerOf};
-ghost use Rattle.tcc_graph.specs.Levels.{judged};
+ghost use Rattle.tcc_explain.specs.Explained.{IsAnswerFor, IsAnswerOf};
 ghost use Rattle.tcc_verdict.specs.Checks.{IsCheck, MayBeCheck};
 ghost use Rattle.tcc_run.specs.Closing.{IsAcceptance, acceptance};
+ghost use Rattle.tcc_run.specs.Headline.{IsExplained};
+ghost use Rattle.tcc_run.specs.HeadlineRuns.{PrintsExplained, SaysExplained, finished_by};
 ghost use Rattle.tcc_run.specs.Interleaved.{AreInterleaved};
-ghost use Rattle.tcc_run.specs.Runs.{AreAnswersOf, AreFront, AskAlike, IsEnded, IsRun, IsStopped, IsWhole, Said};
+ghost use Rattle.tcc_run.specs.Runs.{AreAnswersOf, AreFront, AskAlike, Contents, IsAnswered, IsEnded, IsRun, IsStopped, IsWhole, Said};
 ghost use Rattle.tcc_print.specs.Statuses.{code_of};
 ghost use Rattle.tcc_print.specs.declared.options.Options.{Options};
-ghost use Rattle.tcc_print.specs.declared.status.Status.TheVariants.{Device};
+ghost use Rattle.tcc_print.specs.declared.status.Status.TheVariants.{Device, Memory};
 ghost use Rattle.tcc_print.specs.declared.halt.Halt.{Halt};
 
+use tcc_check::laws::certified as certified_claim;
 use tcc_explain::laws::{certified, one_answer};
 use tcc_rows::laws;
 use tcc_rows::laws::finished_is_snapshot;
 use tcc_txn::NoMemory;
+
+/// What `explain` answers for a snapshot at a level is what the main theorem says of it: a commit order, or a cycle than which
+/// no other has fewer steps, whose certificate the checker accepts; and that alone implies what the certificate claims.
+pub fn explained()
+    ensures { (s : Sessions) (level : Level) (a : Answer) → IsAnswerFor s level a → IsExplained s level a }
+{
+    certified();
+    certified_claim();
+}
+
+/// The main theorem in bytes. Whatever a run of `explain` says of a snapshot, it is an answer of which that theorem holds, or all
+/// read faults. And of records without a fault, whose reads all have sources, a run that doesn't end by a device that failed nor
+/// out of memory prints such an answer last, and its certificate, which the check of the same records accepts.
+pub fn headline()
+    ensures each { (options : Options) (s : Sessions) (said : Said) → IsAnswered options s said → SaysExplained options s said }
+    ensures last { (options : Options) (records : List ℕ) (before after : Option (List ℕ)) (file file' : Contents) (code : ℕ)
+        → (answers_of records).fault ≡ None → read_faults (finished_by records) ≡ []
+        → IsRun options records before after file file' code → code ≢ code_of Device → code ≢ code_of Memory
+        → PrintsExplained options records before after file file' code }
+{
+    explained();
+    finished_is_snapshot();
+}
 
 /// For records without a fault, whose reads all have sources: the text of the certificate of their answer is accepted by
 /// the check of the same records; and nothing else comes of that check, unless a reader fails or memory is refused.

@@ -1,5 +1,5 @@
 //! What is said of a snapshot: its answer, or all its read faults.
-ghost use Rattle.std.specs.Prelude.{◌≡◌, ◌<◌, ◌≤◌, IfErr, IfOk, IfSome, MatchResult, OnOk};
+ghost use Rattle.std.specs.Prelude.{◌≡◌, IfErr, IfOk, IfSome, MatchResult, OnOk};
 ghost use Rattle.std.specs.Io.KnownBytes.{Appends};
 ghost use Rattle.tcc_txn.specs.Finished.{KeepsLimits};
 ghost use Rattle.tcc_txn.specs.Snapshots.{Sessions};
@@ -47,7 +47,6 @@ fn work_out<G: Gate>(
     options: Options,
     gate: &G,
 ) -> Result<Answer, ExplainFault>
-    requires workers { (0 < options.workers) × (options.workers ≤ 32) }
     requires earlier { IfSome earlier.now (IsEarlier options.level snapshot.now) }
     ensures { MatchResult result (IsAnswerFor snapshot.now options.level) (IsRefusal snapshot.now) }
 {
@@ -75,7 +74,6 @@ impl Outcome {
         options: Options,
         gate: &G,
     ) -> Result<Outcome, NoMemory>
-        requires workers { (0 < options.workers) × (options.workers ≤ 32) }
         requires earlier { IfSome earlier (IsEarlier options.level snapshot.now) }
         ensures outcome { IfOk result (IsOutcome options.level snapshot.now) }
         ensures earlier { IfOk result (HasEarlier options.level snapshot.now) }

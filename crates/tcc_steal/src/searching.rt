@@ -1,5 +1,5 @@
 //! Searches from every start, and what they found.
-ghost use Rattle.std.specs.Prelude.{◌≡◌, ◌≢◌, ◌<◌, ◌≤◌, ◌^◌, ℕ, Some, length, map, min, unwrap_or, IfOk, IfSome};
+ghost use Rattle.std.specs.Prelude.{◌≡◌, ◌≢◌, ◌<◌, ◌^◌, ℕ, Some, length, map, min, unwrap_or, IfOk, IfSome};
 ghost use Rattle.tcc_graph.specs.Levels.{Judged};
 ghost use Rattle.tcc_derive.specs.Prices.{Tables, IsPricesOf};
 ghost use Rattle.tcc_bound.specs.declared.known.Known.{Known};
@@ -20,6 +20,7 @@ use tcc_bound::{Bound, Seat};
 use tcc_derive::Prices;
 use tcc_packed::PackedRow;
 use tcc_txn::NoMemory;
+use tcc_workers::Workers;
 
 /// The row with each of its places capped, where there is a cap.
 fn capped_row(row: PackedRow, cap: Option<u32>) -> PackedRow
@@ -101,17 +102,16 @@ fn begin(alloc: Global, _prices: &Prices, seed: Option<u32>) -> Result<(Bound, S
     }
 }
 
-/// Searches from every start by so many workers, 1 to 32, each in a thread of its own; by one worker in the caller's thread.
+/// Searches from every start by so many workers, each in a thread of its own; by one worker in the caller's thread.
 /// The gate is called before each start.
 pub fn search<R: Threads + Sync, G: Gate>(
     rt: &R,
     alloc: Global,
     prices: &Prices,
-    workers: u32,
+    workers: Workers,
     gate: &G,
 ) -> Result<Found, NoMemory>
     requires prices { HasJudged prices.now }
-    requires workers { (0 < workers) × (workers ≤ 32) }
     ensures { (j : Judged) → IsPricesOf j prices.now → IfOk result (IsFound j workers) }
 {
     search_with(rt, alloc, prices, None, workers, gate, &AllStart)
@@ -125,15 +125,15 @@ pub fn search_with<R: Threads + Sync, G: Gate, C: Crew>(
     alloc: Global,
     prices: &Prices,
     seed: Option<u32>,
-    workers: u32,
+    workers: Workers,
     gate: &G,
     crew: &C,
 ) -> Result<Found, NoMemory>
     requires prices { HasJudged prices.now }
     requires seed { (j : Judged) → IsPricesOf j prices.now → IfSome seed (IsCycleCost j) }
-    requires workers { (0 < workers) × (workers ≤ 32) }
     ensures { (j : Judged) → IsPricesOf j prices.now → IfOk result (IsFound j workers) }
 {
+    let workers = workers.count();
     let (bound, mut seat) = begin(alloc, prices, seed)?;
     let thieves = thieves(alloc, workers, crew)?;
     let shares = if thieves.is_empty() {

@@ -1,10 +1,9 @@
 //! Answers for records, and their texts.
-ghost use Rattle.std.specs.Prelude.{◌<◌, ◌≤◌};
-
 use std::alloc::Global;
+use std::process::Abort;
 use std::thread::Threads;
 use tcc_answer::{Answer, write_text};
-use tcc_explain::{OpenGate, explain};
+use tcc_explain::{OpenGate, Workers, explain};
 use tcc_graph::Level;
 use tcc_rows::snapshot_of;
 
@@ -22,16 +21,19 @@ pub const OWN_TEXT: &str = "anomaly: 3 steps, stale-initial-read\nsession init -
 pub const TORN: &str = "a,begin\na,w,x,1\na,commit\nb,begin\nb,w,x,2\nb,commit\n\
     c,begin\nc,r,x,1\nc,r,x,2\nc,commit\n";
 
+/// So many workers.
+pub fn workers_of(rt: &impl Abort, count: u32) -> Workers {
+    Workers::new(count).expect(rt, "1 to 32 workers")
+}
+
 /// Records that have an answer, by so many workers.
 pub fn answer_of(
     rt: &(impl Threads + Sync),
     alloc: Global,
     records: &str,
     level: Level,
-    workers: u32,
-) -> Option<Answer>
-    requires { (0 < workers) × (workers ≤ 32) }
-{
+    workers: Workers,
+) -> Option<Answer> {
     let snapshot = snapshot_of(alloc, records.as_bytes()).ok()?;
     explain(rt, alloc, &snapshot, level, workers, &OpenGate).ok()
 }

@@ -9,7 +9,7 @@ use std::thread::Threads;
 use tcc_answer::Answer;
 use tcc_audit::{AuditFault, audit};
 use tcc_book::{Book, Pass, WholeFault};
-use tcc_explain::{ExplainFault, OpenGate};
+use tcc_explain::{ExplainFault, OpenGate, Workers};
 use tcc_graph::Level;
 use tcc_txn::{MAX_SESSIONS, MAX_TRANSACTIONS, Name, Op, Txn};
 
@@ -59,8 +59,11 @@ fn gives(
     passes: &[Pass],
     text: &str,
 ) -> bool {
+    let Some(two) = Workers::new(2) else {
+        return false;
+    };
     for level in [Level::Causal, Level::Atomic] {
-        let Ok(answer) = audit(rt, alloc, book, passes, level, 2, &OpenGate) else {
+        let Ok(answer) = audit(rt, alloc, book, passes, level, two, &OpenGate) else {
             return false;
         };
         if !text_of(alloc, &answer).is_some_and(|out: Vec<u8>| out.as_slice() == text.as_bytes()) {
@@ -91,7 +94,15 @@ fn two_recorders(rt: HostRuntime) {
             let Some(pass) = end else {
                 panic!(rt; "a recorder was refused");
             };
-            let missed = audit(&rt, alloc, &book, &passes, Level::Causal, 1, &OpenGate);
+            let missed = audit(
+                &rt,
+                alloc,
+                &book,
+                &passes,
+                Level::Causal,
+                Workers::ONE,
+                &OpenGate,
+            );
             assert!(rt;
                 matches!(
                     missed,
@@ -122,7 +133,15 @@ fn unresolved(rt: HostRuntime) {
             let done = record(&rt, alloc, &book, pass, Op::Get { key, value });
             assert!(rt; done.is_some());
         }
-        match audit(&rt, alloc, &book, &passes, Level::Causal, 1, &OpenGate) {
+        match audit(
+            &rt,
+            alloc,
+            &book,
+            &passes,
+            Level::Causal,
+            Workers::ONE,
+            &OpenGate,
+        ) {
             Err(AuditFault::Explain(ExplainFault::Reads(faults))) => {
                 assert_eq!(rt; faults.len() as u64, value - 6);
             }
@@ -165,7 +184,15 @@ fn full_book(rt: HostRuntime) {
     assert_eq!(&rt; LETTERS.len(), MAX_SESSIONS);
     let book = Book::new(alloc).expect(&rt, "a book");
     let passes = full(&rt, alloc, &book).expect(&rt, "room");
-    match audit(&rt, alloc, &book, &passes, Level::Causal, 1, &OpenGate) {
+    match audit(
+        &rt,
+        alloc,
+        &book,
+        &passes,
+        Level::Causal,
+        Workers::ONE,
+        &OpenGate,
+    ) {
         Ok(Answer::Commit(commit)) => {
             assert_eq!(&rt; commit.sessions(), 64);
             assert_eq!(&rt; commit.order().len(), 4096);

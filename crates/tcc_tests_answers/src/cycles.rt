@@ -1,5 +1,5 @@
 //! First cycles of worked histories: where they start, what they cost and how many links they have.
-use crate::answers::{STALE, TORN, answer_of};
+use crate::answers::{STALE, TORN, answer_of, workers_of};
 use std::process::Abort;
 use std::thread::Threads;
 use tcc_answer::Answer;
@@ -42,7 +42,10 @@ fn first_cycles(rt: HostRuntime) {
         (STALE, Level::Atomic, None),
     ];
     for (records, level, wanted) in table {
-        let answer = answer_of(&rt, alloc, records, level, 2).expect(&rt, "an answer");
+        let answer = answer_of(&rt, alloc, records, level, workers_of(&rt, 2)).expect(
+            &rt,
+            "an answer",
+        );
         assert_eq!(&rt; measured(&answer), wanted, "for {records}");
     }
 }

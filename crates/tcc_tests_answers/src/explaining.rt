@@ -1,12 +1,12 @@
 //! Worked histories at a level with their answers as text and as a certificate, worked out by hand.
-use crate::answers::{OWN, OWN_TEXT, STALE, TORN, answer_of, text_of};
+use crate::answers::{OWN, OWN_TEXT, STALE, TORN, answer_of, text_of, workers_of};
 use std::alloc::Global;
 use std::process::Abort;
 use std::test::Fail;
 use std::thread::Threads;
 use tcc_answer::Answer;
 use tcc_explain::laws::{certificates, certified, one_answer};
-use tcc_explain::{ExplainFault, OpenGate, explain};
+use tcc_explain::{ExplainFault, OpenGate, Workers, explain};
 use tcc_graph::Level;
 use tcc_reads::ReadFaultKind;
 use tcc_rows::snapshot_of;
@@ -114,7 +114,7 @@ fn assert_said(
 ) {
     for (records, level, text) in rows {
         for workers in [1, 2, 32] {
-            assert!(rt; 0 < workers && workers <= 32);
+            let workers = workers_of(rt, workers);
             let answer = answer_of(rt, alloc, records, *level, workers).expect(rt, "an answer");
             let out = said(alloc, &answer, form).expect(rt, "what is said");
             assert_eq!(rt; out.as_slice(), text.as_bytes(), "for {records}");
@@ -141,7 +141,14 @@ fn read_faults(rt: HostRuntime) -> Result<(), Fail> {
     let alloc = rt.alloc();
     let records = "a,begin\na,w,x,1\na,abort\nb,begin\nb,r,x,1\nb,r,z,7\nb,commit\n";
     let snapshot = snapshot_of(alloc, records.as_bytes())?;
-    match explain(&rt, alloc, &snapshot, Level::Causal, 1, &OpenGate) {
+    match explain(
+        &rt,
+        alloc,
+        &snapshot,
+        Level::Causal,
+        Workers::ONE,
+        &OpenGate,
+    ) {
         Err(ExplainFault::Reads(faults)) => {
             assert_eq!(&rt; faults.len(), 2);
             assert!(&rt; faults[0].kind == ReadFaultKind::Aborted && faults[0].op == 1);

@@ -1,6 +1,6 @@
 //! Workers and gate reach the threads by every call that searches: a body fails that goes on with one worker, or with a gate
 //! of its own.
-use crate::answers::{OWN_TEXT, answer_of, text_of};
+use crate::answers::{OWN_TEXT, answer_of, text_of, workers_of};
 use std::alloc::Global;
 use std::process::Abort;
 use std::sync::Wait;
@@ -10,7 +10,7 @@ use std::{io, thread};
 use tcc_answer::Answer;
 use tcc_audit::audit;
 use tcc_book::{Book, Pass};
-use tcc_explain::{explain, explain_next};
+use tcc_explain::{Workers, explain, explain_next};
 use tcc_graph::Level;
 use tcc_rows::snapshot_of;
 use tcc_run::{Gate, Options, explain_snapshot, run_explain};
@@ -81,12 +81,13 @@ fn twice(rt: &impl Abort, alloc: Global) -> Snapshot {
 fn snapshots(rt: HostRuntime) {
     let alloc = rt.alloc();
     let snapshot = twice(&rt, alloc);
+    let two = workers_of(&rt, 2);
     for until in [2, STARTS] {
         let gate = Holding::new(until);
-        let answer = explain(&rt, alloc, &snapshot, Level::Causal, 2, &gate);
+        let answer = explain(&rt, alloc, &snapshot, Level::Causal, two, &gate);
         assert_answer(&rt, alloc, answer.ok(), &gate);
         let gate = Holding::new(until);
-        let answer = explain_snapshot(&rt, alloc, &snapshot, Level::Causal, 2, &gate);
+        let answer = explain_snapshot(&rt, alloc, &snapshot, Level::Causal, two, &gate);
         assert_answer(&rt, alloc, answer.ok(), &gate);
     }
 }
@@ -96,12 +97,13 @@ fn snapshots(rt: HostRuntime) {
 fn histories_that_go_on(rt: HostRuntime) {
     let alloc = rt.alloc();
     let snapshot = twice(&rt, alloc);
-    let Some(Answer::Anomaly(earlier)) = answer_of(&rt, alloc, TWICE, Level::Causal, 1) else {
+    let Some(Answer::Anomaly(earlier)) = answer_of(&rt, alloc, TWICE, Level::Causal, Workers::ONE)
+    else {
         panic!(&rt; "no anomaly");
     };
     for until in [2, STARTS] {
         let gate = Holding::new(until);
-        let answer = explain_next(&rt, alloc, &snapshot, &earlier, 2, &gate);
+        let answer = explain_next(&rt, alloc, &snapshot, &earlier, workers_of(&rt, 2), &gate);
         assert_answer(&rt, alloc, answer.ok(), &gate);
     }
 }
@@ -112,7 +114,7 @@ fn runs(rt: HostRuntime) {
     let alloc = rt.alloc();
     let options = Options {
         level: Level::Causal,
-        workers: 2,
+        workers: workers_of(&rt, 2),
         json: false,
         required: 0,
     };
@@ -160,7 +162,8 @@ fn audited(rt: &(impl Threads + Wait + Sync), alloc: Global, gate: &Holding) -> 
     let mut passes = Vec::new(alloc);
     passes.push(stale(rt, alloc, &book, b"a", b"x")?).ok()?;
     passes.push(stale(rt, alloc, &book, b"b", b"y")?).ok()?;
-    audit(rt, alloc, &book, &passes, Level::Causal, 2, gate).ok()
+    let two = Workers::new(2)?;
+    audit(rt, alloc, &book, &passes, Level::Causal, two, gate).ok()
 }
 
 /// And by an audit.

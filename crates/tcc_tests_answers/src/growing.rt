@@ -1,5 +1,5 @@
 //! Answers of histories that go on, and of others, after an anomaly: worked out by hand.
-use crate::answers::{OWN, OWN_TEXT, answer_of, text_of};
+use crate::answers::{OWN, OWN_TEXT, answer_of, text_of, workers_of};
 use std::alloc::Global;
 use std::process::Abort;
 use std::test::Fail;
@@ -7,7 +7,7 @@ use std::thread::Threads;
 use tcc_answer::{Anomaly, Answer, CappedRows, Labels};
 use tcc_cert::Links;
 use tcc_explain::laws::grown;
-use tcc_explain::{NextFault, OpenGate, explain_next};
+use tcc_explain::{NextFault, OpenGate, Workers, explain_next};
 use tcc_graph::{Graph, Level, Link};
 use tcc_reads::resolve;
 use tcc_rows::snapshot_of;
@@ -58,7 +58,7 @@ fn anomaly_of(
     records: &str,
     level: Level,
 ) -> Option<Anomaly> {
-    match answer_of(rt, alloc, records, level, 1)? {
+    match answer_of(rt, alloc, records, level, Workers::ONE)? {
         Answer::Anomaly(anomaly) => Some(anomaly.without_tables(alloc)),
         Answer::Commit(_) => None,
     }
@@ -69,13 +69,12 @@ fn assert_grown(
     rt: &(impl Threads + Sync + Abort),
     alloc: Global,
     row: &(&str, &str, Level, &str),
-    workers: u32,
+    workers: Workers,
 ) {
     let (records, more, level, text) = row;
     let earlier = anomaly_of(rt, alloc, records, *level).expect(rt, "an anomaly");
     let later = format!(in alloc; "{records}{more}").expect(rt, "records");
     let snapshot = snapshot_of(alloc, later.as_bytes()).expect(rt, "a snapshot");
-    assert!(rt; 0 < workers && workers <= 32);
     match explain_next(rt, alloc, &snapshot, &earlier, workers, &OpenGate) {
         Ok(answer) => {
             let out = text_of(alloc, &answer).expect(rt, "a text");
@@ -89,7 +88,7 @@ fn assert_grown(
 fn anomalies_stay(rt: HostRuntime) {
     for row in &GROWN {
         for workers in [1, 2, 32] {
-            assert_grown(&rt, rt.alloc(), row, workers);
+            assert_grown(&rt, rt.alloc(), row, workers_of(&rt, workers));
         }
     }
     grown();
@@ -102,12 +101,12 @@ fn missing_links(rt: HostRuntime) -> Result<(), Fail> {
     let fork = snapshot_of(alloc, FORK.as_bytes())?;
     for (records, missing) in [(OWN, 2), (CIRCLE, 1)] {
         let earlier = anomaly_of(&rt, alloc, records, Level::Causal).expect(&rt, "an anomaly");
-        match explain_next(&rt, alloc, &fork, &earlier, 1, &OpenGate) {
+        match explain_next(&rt, alloc, &fork, &earlier, Workers::ONE, &OpenGate) {
             Err(NextFault::NotNested { link }) => assert_eq!(&rt; link, missing),
             _ => panic!(&rt; "each link is one"),
         }
         let thin = snapshot_of(alloc, "b,begin\nb,r,z,7\nb,commit\n".as_bytes())?;
-        match explain_next(&rt, alloc, &thin, &earlier, 1, &OpenGate) {
+        match explain_next(&rt, alloc, &thin, &earlier, Workers::ONE, &OpenGate) {
             Err(NextFault::Reads(faults)) => assert_eq!(&rt; faults.len(), 1),
             _ => panic!(&rt; "no read faults"),
         }
@@ -132,7 +131,7 @@ fn order_after_no_cycle(rt: HostRuntime) -> Result<(), Fail> {
     let alloc = rt.alloc();
     let fork = snapshot_of(alloc, FORK.as_bytes())?;
     let earlier = made(alloc, &fork).expect(&rt, "links");
-    match explain_next(&rt, alloc, &fork, &earlier, 2, &OpenGate) {
+    match explain_next(&rt, alloc, &fork, &earlier, workers_of(&rt, 2), &OpenGate) {
         Ok(answer) => {
             let out = text_of(alloc, &answer).expect(&rt, "a text");
             let text = "consistent: 4 transactions, 4 sessions\norder: init a/1 b/1 c/1 d/1\n";

@@ -5,6 +5,7 @@ use std::io::{self, ErrorKind, Read, Write};
 use std::process::Abort;
 use std::test::Fail;
 use std::thread::Threads;
+use tcc_explain::Workers;
 use tcc_graph::Level;
 use tcc_run::{OpenGate, Options, run_check, run_explain};
 
@@ -67,7 +68,7 @@ fn explained(
 ) -> u8 {
     let options = Options {
         level: Level::Causal,
-        workers: 1,
+        workers: Workers::ONE,
         json,
         required: 0,
     };

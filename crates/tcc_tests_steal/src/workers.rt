@@ -1,5 +1,5 @@
 //! Searches over worked histories, by one worker and by many, with distances worked out by hand.
-ghost use Rattle.std.specs.Prelude.{◌<◌, ◌≤◌, IfOk, IfSome};
+ghost use Rattle.std.specs.Prelude.{IfOk, IfSome};
 ghost use Rattle.tcc_graph.specs.Levels.{Judged};
 ghost use Rattle.tcc_derive.specs.Prices.{IsPricesOf};
 ghost use Rattle.tcc_core.specs.Shares.{IsCycleCost};
@@ -20,6 +20,7 @@ use tcc_reads::resolve;
 use tcc_rows::snapshot_of;
 use tcc_steal::{AllStart, Crew, Found, Gate, OpenGate, search, search_with};
 use tcc_txn::NoMemory;
+use tcc_workers::Workers;
 
 /// a/1 writes x, but a/2 reads its initial value, and so in session b with y: two cycles of three steps, over a/1 and over
 /// b/1, each by way of `init`.
@@ -78,6 +79,11 @@ fn has_distances(row: &PackedRow, wanted: &[Option<u32>]) -> bool {
     true
 }
 
+/// So many workers.
+fn workers_of(rt: &impl Abort, count: u32) -> Workers {
+    Workers::new(count).expect(rt, "1 to 32 workers")
+}
+
 /// What is found has this least cost, this first start, these rows, and each start once, with a worker below `workers`.
 fn assert_found(
     rt: &impl Abort,
@@ -132,11 +138,10 @@ fn assert_stale_reads(
     workers: u32,
     gate: &impl Gate,
     crew: &impl Crew,
-) -> Result<Found, Fail>
-    requires { (0 < workers) × (workers ≤ 32) }
-{
+) -> Result<Found, Fail> {
     let prices = stale_prices(rt, alloc)?;
-    let found = search_with(rt, alloc, &prices, None, workers, gate, crew)?;
+    let count = workers_of(rt, workers);
+    let found = search_with(rt, alloc, &prices, None, count, gate, crew)?;
     assert_stale(rt, &found, workers);
     Ok(found)
 }
@@ -152,7 +157,7 @@ fn any_workers(rt: HostRuntime) -> Result<(), Fail> {
         panic!(rt; "no graph");
     };
     let prices = prices_of(&rt, alloc, &graph)?;
-    let found = search(&rt, alloc, &prices, 2, &OpenGate)?;
+    let found = search(&rt, alloc, &prices, workers_of(&rt, 2), &OpenGate)?;
     let rows: &[&[Option<u32>]] = &[&[None, Some(1), Some(1)], &[None, Some(1)], &[None]];
     assert_found(&rt, &found, 2, None, None, rows);
     Ok(())
@@ -171,7 +176,7 @@ fn seeds(rt: HostRuntime) -> Result<(), Fail> {
         let (prices, seed) = seeded(&rt, alloc, &graph)?;
         assert!(rt; seed == Some(wanted), "of {records}");
         for workers in [1, 2, 32] {
-            assert!(rt; 0 < workers && workers <= 32);
+            let workers = workers_of(&rt, workers);
             let found = search_with(&rt, alloc, &prices, seed, workers, &OpenGate, &AllStart)?;
             assert!(rt; found.least == Some(least) && found.first == Some(first));
         }
@@ -347,15 +352,14 @@ fn assert_meet(
     workers: u32,
     held: u64,
     until: u64,
-) -> Result<(), Fail>
-    requires { (0 < workers) × (workers ≤ 32) }
-{
+) -> Result<(), Fail> {
     let gate = Meeting::new(held, until);
     assert_stale_reads(rt, alloc, workers, &gate, &AllStart)?;
     gate.assert_met(rt);
     let gate = Meeting::new(held, until);
     let prices = stale_prices(rt, alloc)?;
-    let found = search(rt, alloc, &prices, workers, &gate)?;
+    let count = workers_of(rt, workers);
+    let found = search(rt, alloc, &prices, count, &gate)?;
     assert_stale(rt, &found, workers);
     gate.assert_met(rt);
     Ok(())

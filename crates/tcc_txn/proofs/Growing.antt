@@ -1,5 +1,5 @@
 -- One more transaction of a session among sorted parts.
-use Rattle.std.proofs.Common.{◌≡◌, ◌≢◌, ℕ, zero, suc, ◌+◌, ◌≤◌, ◌<◌, Bool, true, false, cond, ◌&&◌, T, List, [], ◌∷◌, ◌++◌, length}
+use Rattle.std.proofs.Common.{◌≡◌, ℕ, zero, suc, ◌+◌, ◌≤◌, ◌<◌, Bool, true, false, cond, ◌&&◌, T, List, [], ◌∷◌, ◌++◌, length}
 use Rattle.std.proofs.Common.{get_or, set, sum_by, refl, ap, sym, ◌∙◌, subst, arith, Option, None, Some, Result, Ok, Err}
 use Rattle.std.proofs.Common.{length-append, nat_eq}
 use Rattle.std.specs.Prelude.{is_some, unwrap_or, OnOk, OnErr, IfErr}

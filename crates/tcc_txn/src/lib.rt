@@ -9,12 +9,12 @@ mod snapshot;
 mod txn;
 
 pub use limits::{
-    LARGE_COUNT, LARGE_INPUT_BYTES, LARGE_KEYS, LARGE_SESSIONS, LARGE_TRANSACTIONS, Limits,
-    MAX_COUNT, MAX_INPUT_BYTES, MAX_KEYS, MAX_NAME_BYTES, MAX_OPERATIONS, MAX_SEALS, MAX_SESSIONS,
-    MAX_TRANSACTIONS,
+    Bounds, LARGE_COUNT, LARGE_INPUT_BYTES, LARGE_KEYS, LARGE_SESSIONS, LARGE_TRANSACTIONS,
+    LargeLimits, Limits, MAX_COUNT, MAX_INPUT_BYTES, MAX_KEYS, MAX_NAME_BYTES, MAX_OPERATIONS,
+    MAX_SEALS, MAX_SESSIONS, MAX_TRANSACTIONS, SmallLimits,
 };
 pub use memory::NoMemory;
 pub use name::{Name, NameFault};
 pub use op::Op;
-pub use snapshot::{GrowFault, LargeSnapshot, Snapshot, SnapshotFault};
+pub use snapshot::{GrowFault, LargeSnapshot, Snapshot, SnapshotFault, SnapshotWithin};
 pub use txn::{Txn, TxnFault};

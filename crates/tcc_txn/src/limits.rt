@@ -80,3 +80,40 @@ impl Limits {
         }
     }
 }
+
+/// A type that stands for limits, by which the type of a snapshot says which ones it keeps.
+pub trait Bounds {
+    ghost use Rattle.tcc_txn.specs.declared.limits.Limits.{Limits};
+
+    ghost limits: { Limits };
+
+    /// The limits that the type stands for.
+    fn limits() -> Limits
+        ensures { result ≡ limits };
+}
+
+/// Stands for `Limits::Small`.
+pub struct SmallLimits;
+
+impl Bounds for SmallLimits {
+    ghost use Rattle.tcc_txn.specs.declared.limits.Limits.TheVariants.{Small};
+
+    ghost limits = { Small };
+
+    fn limits() -> Limits {
+        Limits::Small
+    }
+}
+
+/// Stands for `Limits::Large`.
+pub struct LargeLimits;
+
+impl Bounds for LargeLimits {
+    ghost use Rattle.tcc_txn.specs.declared.limits.Limits.TheVariants.{Large};
+
+    ghost limits = { Large };
+
+    fn limits() -> Limits {
+        Limits::Large
+    }
+}

@@ -35,6 +35,7 @@ pub enum NameFault {
 }
 
 /// The name of a session or a key: 1 to `MAX_NAME_BYTES` bytes out of `A-Z`, `a-z`, `0-9`, `_`, `.` and `-`.
+/// Names are ordered by their bytes. Equality, order and hash agree, so a name is a key of maps and of sorted lists.
 pub struct Name {
     len: u8,
     buffer: [u8; MAX_NAME_BYTES],

@@ -7,18 +7,19 @@ ghost use Rattle.std.specs.FinMap.Entries.{find, is_sorted, put};
 ghost use Rattle.std.specs.List.{insert, list_any};
 ghost use Rattle.std.specs.List.Sorted.{IsPermutation, IsSortedByKey};
 ghost use Rattle.std.specs.Ordering.{nat_cmp};
-ghost use Rattle.tcc_txn.specs.Finished.{IsWithinLimits, KeepsLimits, with_transaction};
-ghost use Rattle.tcc_txn.specs.Limits.{most_sessions};
+ghost use Rattle.tcc_txn.specs.Finished.{IsWithinLimits, KeepsLimits, transaction_count, with_transaction};
+ghost use Rattle.tcc_txn.specs.Limits.{most_sessions, most_transactions};
 ghost use Rattle.std.specs.Cmp.Lexicographic.{pointwise, slice_cmp};
 ghost use Rattle.tcc_txn.specs.Snapshots.{parts_of, first_repeated, snapshot_fault, snapshot_fault_within};
 ghost use Rattle.tcc_txn.specs.private.SnapshotStorage.{IsStoredWithin, StandsAt, place_in, shown};
-ghost use Rattle.tcc_txn.specs.declared.limits.Limits.TheVariants as limits;
 ghost use Rattle.tcc_txn.specs.declared.limits.TheConstants.{LARGE_SESSIONS, LARGE_TRANSACTIONS, MAX_SESSIONS, MAX_TRANSACTIONS};
 
-use crate::{LARGE_TRANSACTIONS, Limits, MAX_SESSIONS, MAX_TRANSACTIONS, Name, NoMemory, Txn};
+use crate::{
+    Bounds, LargeLimits, Limits, MAX_SESSIONS, MAX_TRANSACTIONS, Name, NoMemory, SmallLimits, Txn,
+};
 use std::alloc::Global;
 use std::collections::BTreeSet;
-use std::marker::Model;
+use std::marker::{Model, PhantomData};
 use thiserror::Error;
 
 /// Why some lists of transactions make no snapshot.
@@ -53,49 +54,34 @@ pub enum GrowFault {
     NoMemory,
 }
 
-/// What the sessions had finished at one moment: up to `MAX_SESSIONS` sessions in byte order of their names,
-/// with up to `MAX_TRANSACTIONS` transactions in all.
+/// What the sessions had finished at one moment, within the limits that `B` stands for: the sessions
+/// in byte order of their names.
 #[derive(Drop)]
-pub struct Snapshot {
-    sessions: Vec<(Name, Vec<Txn>)>,
-}
-
-impl Model for Snapshot {
-    ghost use Rattle.tcc_txn.specs.Snapshots.{Sessions};
-
-    ghost Value = { Sessions };
-
-    ghost use Rattle.tcc_txn.specs.private.SnapshotStorage.{sessions_code, shown, IsStored};
-
-    ghost coded = { sessions_code };
-
-    ghost view = { λ s. shown s.sessions.items };
-
-    ghost invariant = { λ s. IsStored s.sessions.items };
-}
-
-/// The same within the large limits: up to `LARGE_SESSIONS` sessions in byte order of their names,
-/// with up to `LARGE_TRANSACTIONS` transactions in all.
-#[derive(Drop)]
-pub struct LargeSnapshot {
+pub struct SnapshotWithin<B: Bounds> {
     sessions: Vec<(Name, Vec<Txn>)>,
     /// How many there are in all.
     transactions: usize,
+    bounds: PhantomData<B>,
 }
 
-impl Model for LargeSnapshot {
+/// A snapshot of up to `MAX_SESSIONS` sessions with up to `MAX_TRANSACTIONS` transactions in all.
+pub type Snapshot = SnapshotWithin<SmallLimits>;
+
+/// A snapshot of up to `LARGE_SESSIONS` sessions with up to `LARGE_TRANSACTIONS` transactions in all.
+pub type LargeSnapshot = SnapshotWithin<LargeLimits>;
+
+impl<B: Bounds> Model for SnapshotWithin<B> {
     ghost use Rattle.tcc_txn.specs.Snapshots.{Sessions};
 
     ghost Value = { Sessions };
 
     ghost use Rattle.tcc_txn.specs.private.SnapshotStorage.{sessions_code, shown, IsCounted};
-    ghost use Rattle.tcc_txn.specs.declared.limits.Limits.TheVariants as limits;
 
     ghost coded = { sessions_code };
 
     ghost view = { λ s. shown s.sessions.items };
 
-    ghost invariant = { λ s. IsCounted limits.Large s.sessions.items s.transactions };
+    ghost invariant = { λ s. IsCounted B.limits s.sessions.items s.transactions };
 }
 
 fn is_among(parts: &[(Name, Vec<Txn>)], name: Name) -> bool
@@ -294,98 +280,30 @@ fn add_to(
     insert(parts, alloc, at, session, txn)
 }
 
-impl Snapshot {
+impl<B: Bounds> SnapshotWithin<B> {
     /// No session has finished anything.
-    pub fn empty(alloc: Global) -> Snapshot
+    pub fn empty(alloc: Global) -> SnapshotWithin<B>
         ensures { result ≡ sessions.empty }
     {
-        Snapshot {
-            sessions: Vec::new(alloc),
-        }
-    }
-
-    /// The session has finished one more transaction, where there is room.
-    pub fn add(&mut self, alloc: Global, session: Name, txn: Txn) -> Result<(), GrowFault>
-        ensures added { OnOk result (self.new ≡ with_transaction self.old session txn) }
-        ensures kept { OnErr result (self.new ≡ self.old) }
-        ensures refused { KeepsLimits (with_transaction self.old session txn) → IfErr result (λ k. k ≡ GrowFault.NoMemory) }
-    {
-        if has_too_many_transactions(&self.sessions, MAX_TRANSACTIONS - 1) {
-            return Err(GrowFault::TooManyTransactions);
-        }
-        add_to(&mut self.sessions, Limits::Small, alloc, session, txn)
-    }
-
-    /// The snapshot in which each named session has finished these transactions.
-    pub fn new(
-        parts: Vec<(Name, Vec<Txn>)>,
-    ) -> Result<Snapshot, (SnapshotFault, Vec<(Name, Vec<Txn>)>)>
-        ensures { MatchResult result
-            (λ s. (snapshot_fault (parts_of parts.items) ≡ None) × (s ≡ sessions.from_entries (parts_of parts.items)))
-            (λ e. (snapshot_fault (parts_of parts.items) ≡ Some e.0) × (e.1 ≡ parts)) }
-    {
-        let sessions = in_order(parts, Limits::Small)?;
-        Ok(Snapshot { sessions })
-    }
-
-    /// The number of sessions.
-    pub fn sessions(&self) -> u32
-        ensures value { result ≡ sessions.len self.now }
-        ensures few { result ≤ MAX_SESSIONS }
-        ensures few_transactions { sum_by (λ named. length named.1) (sessions.entries self.now) ≤ MAX_TRANSACTIONS }
-    {
-        self.sessions.len() as u32
-    }
-
-    /// The session at this place in byte order of the names, counted from 0, with its transactions.
-    pub fn session(&self, i: u32) -> Option<(&Name, &[Txn])>
-        ensures { option_map (λ s. (s.0.now, s.1.now)) result ≡ slice_get (sessions.entries self.now) i }
-    {
-        part_at(&self.sessions, i)
-    }
-
-    /// The sessions in byte order of their names, each with its transactions.
-    pub fn parts(&self) -> &[(Name, Vec<Txn>)]
-        ensures value { parts_of result.now ≡ sessions.entries self.now }
-        ensures few { length result.now ≤ MAX_SESSIONS }
-        ensures few_transactions { sum_by (λ named. length named.1) (sessions.entries self.now) ≤ MAX_TRANSACTIONS }
-    {
-        &self.sessions
-    }
-
-    /// The same as a large snapshot.
-    pub fn large(self) -> LargeSnapshot
-        ensures { result ≡ self }
-    {
-        let transactions = transactions_in(&self.sessions);
-        LargeSnapshot {
-            sessions: self.sessions,
-            transactions,
-        }
-    }
-}
-
-impl LargeSnapshot {
-    /// No session has finished anything.
-    pub fn empty(alloc: Global) -> LargeSnapshot
-        ensures { result ≡ sessions.empty }
-    {
-        LargeSnapshot {
+        SnapshotWithin {
             sessions: Vec::new(alloc),
             transactions: 0,
+            bounds: PhantomData,
         }
     }
 
     /// The session has finished one more transaction, where there is room.
+    /// Refused, the snapshot is as it was.
     pub fn add(&mut self, alloc: Global, session: Name, txn: Txn) -> Result<(), GrowFault>
         ensures added { OnOk result (self.new ≡ with_transaction self.old session txn) }
         ensures kept { OnErr result (self.new ≡ self.old) }
-        ensures refused { IsWithinLimits limits.Large (with_transaction self.old session txn) → IfErr result (λ k. k ≡ GrowFault.NoMemory) }
+        ensures refused { IsWithinLimits B.limits (with_transaction self.old session txn) → IfErr result (λ k. k ≡ GrowFault.NoMemory) }
     {
-        if self.transactions >= LARGE_TRANSACTIONS {
+        let limits = B::limits();
+        if self.transactions >= limits.transactions() {
             return Err(GrowFault::TooManyTransactions);
         }
-        match add_to(&mut self.sessions, Limits::Large, alloc, session, txn) {
+        match add_to(&mut self.sessions, limits, alloc, session, txn) {
             Ok(()) => {
                 self.transactions += 1;
                 Ok(())
@@ -395,28 +313,38 @@ impl LargeSnapshot {
     }
 
     /// The snapshot in which each named session has finished these transactions.
+    /// Where they make none, it says why, and they come back as they were.
     pub fn new(
         parts: Vec<(Name, Vec<Txn>)>,
-    ) -> Result<LargeSnapshot, (SnapshotFault, Vec<(Name, Vec<Txn>)>)>
+    ) -> Result<SnapshotWithin<B>, (SnapshotFault, Vec<(Name, Vec<Txn>)>)>
         ensures { MatchResult result
-            (λ s. (snapshot_fault_within limits.Large (parts_of parts.items) ≡ None) × (s ≡ sessions.from_entries (parts_of parts.items)))
-            (λ e. (snapshot_fault_within limits.Large (parts_of parts.items) ≡ Some e.0) × (e.1 ≡ parts)) }
+            (λ s. (snapshot_fault_within B.limits (parts_of parts.items) ≡ None) × (s ≡ sessions.from_entries (parts_of parts.items)))
+            (λ e. (snapshot_fault_within B.limits (parts_of parts.items) ≡ Some e.0) × (e.1 ≡ parts)) }
     {
-        let sessions = in_order(parts, Limits::Large)?;
+        let sessions = in_order(parts, B::limits())?;
         let transactions = transactions_in(&sessions);
-        Ok(LargeSnapshot {
+        Ok(SnapshotWithin {
             sessions,
             transactions,
+            bounds: PhantomData,
         })
     }
 
     /// The number of sessions.
     pub fn sessions(&self) -> u32
         ensures value { result ≡ sessions.len self.now }
-        ensures few { result ≤ LARGE_SESSIONS }
-        ensures few_transactions { sum_by (λ named. length named.1) (sessions.entries self.now) ≤ LARGE_TRANSACTIONS }
+        ensures few { result ≤ most_sessions B.limits }
+        ensures few_transactions { transaction_count self.now ≤ most_transactions B.limits }
     {
         self.sessions.len() as u32
+    }
+
+    /// How many transactions they have finished in all.
+    pub fn transactions(&self) -> usize
+        ensures value { result ≡ transaction_count self.now }
+        ensures few { result ≤ most_transactions B.limits }
+    {
+        self.transactions
     }
 
     /// The session at this place in byte order of the names, counted from 0, with its transactions.
@@ -429,12 +357,27 @@ impl LargeSnapshot {
     /// The sessions in byte order of their names, each with its transactions.
     pub fn parts(&self) -> &[(Name, Vec<Txn>)]
         ensures value { parts_of result.now ≡ sessions.entries self.now }
-        ensures few { length result.now ≤ LARGE_SESSIONS }
-        ensures few_transactions { sum_by (λ named. length named.1) (sessions.entries self.now) ≤ LARGE_TRANSACTIONS }
+        ensures few { length result.now ≤ most_sessions B.limits }
+        ensures few_transactions { transaction_count self.now ≤ most_transactions B.limits }
     {
         &self.sessions
     }
+}
 
+impl SnapshotWithin<SmallLimits> {
+    /// The same as a large snapshot.
+    pub fn large(self) -> LargeSnapshot
+        ensures { result ≡ self }
+    {
+        SnapshotWithin {
+            sessions: self.sessions,
+            transactions: self.transactions,
+            bounds: PhantomData,
+        }
+    }
+}
+
+impl SnapshotWithin<LargeLimits> {
     /// The same as a snapshot within the small limits, where it keeps them.
     pub fn small(self) -> Result<Snapshot, LargeSnapshot>
         ensures { MatchResult result
@@ -444,8 +387,10 @@ impl LargeSnapshot {
         if self.sessions.len() > MAX_SESSIONS || self.transactions > MAX_TRANSACTIONS {
             return Err(self);
         }
-        Ok(Snapshot {
+        Ok(SnapshotWithin {
             sessions: self.sessions,
+            transactions: self.transactions,
+            bounds: PhantomData,
         })
     }
 }

@@ -47,6 +47,7 @@ fn first_write_of_zero(ops: &[Op]) -> Option<usize>
 
 impl Txn {
     /// The transaction of these operations.
+    /// Where they make none, it says why, and they come back.
     pub fn new(ops: Vec<Op>, committed: bool) -> Result<Txn, (TxnFault, Vec<Op>)>
         ensures { MatchResult result
             (λ t. (txn_fault ops.items ≡ None) × (t.ops ≡ ops.items) × (t.committed ≡ committed))

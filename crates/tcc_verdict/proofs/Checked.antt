@@ -3,6 +3,8 @@ use Rattle.std.proofs.Common.{◌≡◌, ℕ, List, [], refl, sym, ap, subst, �
 use Rattle.std.specs.Prelude.{Result, IsErrAnd, IfSome}
 use Rattle.tcc_rows.specs.Answers.{answers_of}
 use Rattle.tcc_rows.specs.Items.{finished_in}
+use Rattle.tcc_rows.specs.Recordings.{IsRecorded}
+use Rattle.tcc_txn.specs.declared.limits.Limits.TheVariants.{Small}
 use Rattle.tcc_txn.specs.Snapshots.{Sessions}
 use Rattle.tcc_rows.specs.declared.rows.RowFault.{RowFault}
 use Rattle.tcc_reads.specs.Faults.{read_faults}
@@ -14,14 +16,14 @@ use Rattle.tcc_reads.specs.declared.fault.ResolveFault.TheVariants as refusal
 use Rattle.tcc_check.specs.declared.judgement.Judgement.{Judgement}
 use Rattle.tcc_print.specs.declared.halt.Halt.{Halt}
 use Rattle.tcc_print.specs.declared.halt.Halt.TheVariants.{Row, Reads, Text, NoMemory}
-use Rattle.tcc_verdict.specs.private.Stages.{MayBeTextCheck, IsResolution, IsHistoryOf, IsStop}
+use Rattle.tcc_verdict.specs.private.Stages.{MayBeTextCheck, IsResolution, IsHistoryOf}
 use Rattle.tcc_print.specs.private.Halts.{by_row, is_memory, unresolved_by}
 use Rattle.tcc_verdict.specs.Checks.{IsTextCheck, IsRecordsCheck, MayBeCheck}
 
 -- ---- the history
 
 -- the fault of the records, a reader that fails, or `NoMemory`
-pub unrecorded : (records : List ℕ) (fault : RowFault) (o : Result History Halt) → IsStop records fault
+pub unrecorded : (records : List ℕ) (fault : RowFault) (o : Result History Halt) → IsRecorded Small records (Err fault)
     → IsErrAnd o (λ why. why ≡ by_row fault) → IsHistoryOf records o
 unrecorded records fault (Ok h) stops is = absurd is
 unrecorded records fault (Err why) stops is = subst (λ u. IsHistoryOf records (Err u)) (sym is) (by_test (is_memory fault.kind) refl)
@@ -32,8 +34,11 @@ unrecorded records fault (Err why) stops is = subst (λ u. IsHistoryOf records (
     by_test : (b : Bool) → is_memory fault.kind ≡ b → IsHistoryOf records (Err (cond b NoMemory (Row fault)))
     by_test true e = tt
     by_test false e = elim stops [
-      | inl halt ↦ halt
-      | inr memory ↦ absurd (no_memory (sym (ap is_memory memory) ∙ e))
+      | inl faulty ↦ inl faulty
+      | inr failed ↦ elim failed [
+        | inl read ↦ inr read
+        | inr memory ↦ absurd (no_memory (sym (ap is_memory memory.0) ∙ e))
+      ]
     ]
 
 -- a refusal names all read faults

@@ -1,14 +1,12 @@
 //! From the bytes of a history and of a certificate to the verdict.
-ghost use Rattle.std.specs.Prelude.{◌≡◌, ℕ, List, [], None, Ok, IfSome, MatchResult};
-ghost use Rattle.tcc_rows.specs.Ahead.{fault_met};
-ghost use Rattle.tcc_rows.specs.Answers.{answers_of, records_of};
-ghost use Rattle.tcc_rows.specs.Reached.{IsWithin};
-ghost use Rattle.tcc_rows.specs.Recordings.{IsRecorded, IsRecording};
+ghost use Rattle.std.specs.Prelude.{◌≡◌, [], Ok, IfSome, MatchResult};
+ghost use Rattle.tcc_rows.specs.Recordings.{IsRecorded};
+ghost use Rattle.tcc_txn.specs.declared.limits.Limits.TheVariants.{Small};
 ghost use Rattle.tcc_reads.specs.Faults.{read_faults};
 ghost use Rattle.tcc_reads.specs.Refusals.{IsRefusal};
 ghost use Rattle.tcc_reads.specs.Sources.{history};
 ghost use Rattle.tcc_verdict.specs.Checks.{IsCheckRun, IsShown, MayBeCheck, PrintsSome};
-ghost use Rattle.tcc_verdict.specs.private.Stages.{IsHistoryOf, IsStop, MayBeTextCheck};
+ghost use Rattle.tcc_verdict.specs.private.Stages.{IsHistoryOf, MayBeTextCheck};
 
 use crate::stopping::note_stop;
 use std::alloc::Global;
@@ -20,27 +18,8 @@ use tcc_print::Halt;
 use tcc_print::notes::note_reads;
 use tcc_print::printing::print_check;
 use tcc_reads::{ResolveFault, Resolved, resolve};
-use tcc_rows::{Moment, Recording, RowFault, RowFaultKind};
+use tcc_rows::{Recording, RowFault, RowFaultKind};
 use tcc_txn::Snapshot;
-
-/// Reads on to the end of the records, whatever they seal.
-fn read_on<R: Read + Drop>(alloc: Global, recording: &mut Recording<R>) -> Result<(), RowFault>
-    ensures { (text : List ℕ) → IsRecording R.remaining recording.old [] (answers_of text) → IsWithin R.remaining recording.old.rows (records_of text)
-        → fault_met recording.old.rows ≡ None
-        → MatchResult result (λ done. IsRecorded text (Ok recording.new.snapshot)) (IsStop text) }
-{
-    'seals: for _turn in 0..u64::MAX {
-        match recording.advance(alloc)? {
-            Moment::Seal => {}
-            Moment::End => return Ok(()),
-        }
-    }
-    // There are not so many seals.
-    Err(RowFault {
-        row: 1,
-        kind: RowFaultKind::NoMemory,
-    })
-}
 
 /// The recording of all that the records finish; of a record's fault it is noted what to mend.
 fn recorded<R: Read + Drop, N: Write>(
@@ -49,7 +28,7 @@ fn recorded<R: Read + Drop, N: Write>(
     notes: &mut N,
 ) -> Result<Recording<R>, RowFault>
     ensures { IfSome (R.remaining reader) (λ text. MatchResult result
-        (λ recording. IsRecorded text (Ok recording.snapshot)) (IsStop text)) }
+        (λ recording. IsRecorded Small text (Ok recording.snapshot)) (λ fault. IsRecorded Small text (Err fault))) }
 {
     let Ok(recording) = Recording::new(alloc, reader) else {
         return Err(RowFault {
@@ -58,7 +37,7 @@ fn recorded<R: Read + Drop, N: Write>(
         });
     };
     let mut recording = recording;
-    match read_on(alloc, &mut recording) {
+    match recording.pass_seals(alloc) {
         Ok(()) => Ok(recording),
         Err(fault) => {
             note_stop(alloc, &recording, &fault, notes);

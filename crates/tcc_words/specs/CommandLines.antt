@@ -23,6 +23,7 @@ use Rattle.tcc_print.specs.declared.options.Options.{Options}
 use Rattle.tcc_print.specs.declared.status.Status.TheVariants.{Success, Memory, Usage}
 use Rattle.tcc_print.specs.Statuses.{code_of}
 use Rattle.tcc_print.specs.Printed.{Prints, memory_line}
+use Rattle.tcc_workers.specs.declared.workers.TheConstants.{MAX_WORKERS}
 
 abbrev pub with_subcommand_required : Shape → Shape
 with_subcommand_required s = record s { subcommand_required = true }
@@ -55,9 +56,9 @@ valued_option id parser word = record (new_rule id) { long = Some id; value_name
 abbrev pub level_option : Words → Rule
 level_option levels = valued_option (codes "level") (Names levels) (level_word Causal)
 
--- --workers N, a number from 1 to 32; without it, 1
+-- --workers N, a number from 1 to the most; without it, 1
 abbrev pub workers_option : Rule
-workers_option = valued_option (codes "workers") (Unsigned 1 32) (codes "1")
+workers_option = valued_option (codes "workers") (Unsigned 1 MAX_WORKERS) (codes "1")
 
 -- --certificate PATH
 abbrev pub certificate_option : Rule
@@ -117,9 +118,9 @@ IsLevel word level = unwrap_or word (level_word Causal) ≡ level_word level
 abbrev pub workers_text : Option (Text × List Row) → Option Text
 workers_text met = option_text (codes "workers") met
 
--- the word says the number, from 1 to 32, in decimal
+-- the word says the number, from 1 to the most, in decimal
 abbrev pub SaysWorkers : Text → ℕ → Type 0
-SaysWorkers word workers = IsUnsignedIn 1 32 word × (workers ≡ digits_value 10 (without_leading_plus word))
+SaysWorkers word workers = IsUnsignedIn 1 MAX_WORKERS word × (workers ≡ digits_value 10 (without_leading_plus word))
 
 -- the number is the one that the word says, 1 where there is none
 abbrev pub IsWorkers : Option Text → ℕ → Type 0
@@ -184,11 +185,6 @@ Asks app words request = AsksBy (subcommand_of app words) request
 abbrev pub GoesTogether : Request → Type 0
 GoesTogether (Explain options history certificate large slice) = (large ≡ true → certificate ≡ None) × (large ≡ false → slice ≡ None)
 GoesTogether (Check history certificate) = Unit {0}
-
--- where answers are asked for, it is by 1 to 32 workers
-abbrev pub HasWorkers : Request → Type 0
-HasWorkers (Explain options history certificate large slice) = (0 < options.workers) × (options.workers ≤ 32)
-HasWorkers (Check history certificate) = Unit {0}
 
 -- a text, or the line `memory` in its place, goes out with its status
 abbrev pub PrintsHelp : Option (List ℕ) → Option (List ℕ) → ℕ → Type 0

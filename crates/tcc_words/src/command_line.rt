@@ -4,7 +4,8 @@ ghost use Rattle.std.specs.String.{string_bytes};
 ghost use Rattle.clap.specs.Words.{FailsBy, IsUnsignedIn, app_of, fault_of, found_of, kind_of, rows_of, rule_of, subcommand_rows_of, with_rule};
 ghost use Rattle.clap.specs.declared.error.kind.ErrorKind.TheVariants.{OutOfMemory};
 ghost use Rattle.tcc_graph.specs.declared.level.Level.{Level};
-ghost use Rattle.tcc_words.specs.CommandLines.{Asks, AsksBy, AsksCheck, AsksExplain, EndsUnasked, GoesTogether, HasWorkers, IsAsked, IsFlag, IsInput, IsRequired};
+ghost use Rattle.tcc_workers.specs.declared.workers.TheConstants.{MAX_WORKERS};
+ghost use Rattle.tcc_words.specs.CommandLines.{Asks, AsksBy, AsksCheck, AsksExplain, EndsUnasked, GoesTogether, IsAsked, IsFlag, IsInput, IsRequired};
 ghost use Rattle.tcc_words.specs.CommandLines.{IsLevel, IsWorkers, PrintsHelp, SaysWorkers, certificate_option};
 ghost use Rattle.tcc_words.specs.CommandLines.{check_command, explain_command, flag, flag_text, level_option, level_text, level_word, option_text};
 ghost use Rattle.tcc_words.specs.CommandLines.{history_path, require_option, required_text, slice_option};
@@ -20,6 +21,7 @@ use std::io::{self, Write};
 use tcc_graph::Level;
 use tcc_print::printing::{print_memory, print_text};
 use tcc_print::{Options, Status};
+use tcc_workers::{MAX_WORKERS, Workers};
 
 /// What the program is asked to do.
 #[derive(Drop)]
@@ -78,7 +80,14 @@ fn workers_option<'a>(alloc: Global) -> Arg<'a>
     ensures rule { rule_of result ≡ workers_option }
     ensures own { result.global ≡ false }
 {
-    valued_option(alloc, "workers", "N", ValueParser::Unsigned(1, 32), "1").help(
+    valued_option(
+        alloc,
+        "workers",
+        "N",
+        ValueParser::Unsigned(1, MAX_WORKERS as u64),
+        "1",
+    )
+    .help(
         "Searches for a least anomaly with so many workers, 1 to 32; past the limits without --large there is no search",
     )
 }
@@ -266,23 +275,23 @@ fn level_of(matches: &ArgMatches) -> Option<Level>
 }
 
 /// The number of workers that the word says, in decimal; none exactly by another word.
-fn workers_named(word: &str) -> Option<u32>
-    ensures { MatchOption result (IsUnsignedIn 1 32 word.now → ⊥) (SaysWorkers word.now) }
+fn workers_named(word: &str) -> Option<Workers>
+    ensures { MatchOption result (IsUnsignedIn 1 MAX_WORKERS word.now → ⊥) (SaysWorkers word.now) }
 {
     match word.parse::<u32>() {
-        Ok(workers) if 1 <= workers && workers <= 32 => Some(workers),
-        _ => None,
+        Ok(count) => Workers::new(count),
+        Err(_) => None,
     }
 }
 
 /// The number of workers that the subcommand has a word for; none exactly by another word.
-fn workers_of(matches: &ArgMatches) -> Option<u32>
+fn workers_of(matches: &ArgMatches) -> Option<Workers>
     ensures { MatchOption result ((workers : ℕ) → IsWorkers (workers_text (subcommand_rows_of matches.now)) workers → ⊥)
         (IsWorkers (workers_text (subcommand_rows_of matches.now))) }
 {
     match word_for(matches, "workers") {
         Some(word) => workers_named(word),
-        None => Some(1),
+        None => Some(Workers::ONE),
     }
 }
 
@@ -487,7 +496,6 @@ pub(crate) fn words<W: Write>(rt: &HostRuntime, out: &mut W) -> Result<Vec<Strin
 
 /// What the process was asked for, as `read_words` has it; else the number that it ends with.
 pub fn read<W: Write>(rt: &HostRuntime, out: &mut W) -> Result<Request, u8>
-    ensures workers { IfOk result HasWorkers }
     ensures quiet { OnOk result (W.contents out.new ≡ W.contents out.old) }
     ensures ends { IfErr result (λ code. (kind : ErrorKind) × EndsUnasked kind (W.contents out.old) (W.contents out.new) code) }
 {

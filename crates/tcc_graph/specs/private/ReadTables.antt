@@ -30,7 +30,7 @@ over entries = record { sessions = []; entries = entries }
 abbrev pub IsReadTable : List Entry → ℕ → List (List (ℕ × List ℕ)) → Type 0
 IsReadTable entries n table = IsSourceTable (List ℕ) (length entries) (λ b. (slice_index_or entries b initial).reads) n table
 
--- what a transaction writes and reads, by the places of the keys
+-- what a transaction writes and reads, by the indices of the keys
 pub record Placed : Type 0 where
   pub writes : List ℕ
   pub reads : List (ℕ × ℕ)
@@ -50,7 +50,7 @@ pub record ArePlaced (names : List (List ℕ)) (entries : List Entry) (placed : 
   pub long : length placed ≡ length entries
   pub each : (n : ℕ) → n < length entries → IsPlaced names (slice_index_or entries n initial) (placed_of placed n)
 
--- the row of each transaction has the places of the keys that the first n transactions read from it, each with its reader
+-- the row of each transaction has the indices of the keys that the first n transactions read from it, each with its reader
 abbrev pub IsPlaceTable : ℕ → List Placed → ℕ → List (List (ℕ × ℕ)) → Type 0
 IsPlaceTable count placed n table = IsSourceTable ℕ count (λ b. (placed_of placed b).reads) n table
 

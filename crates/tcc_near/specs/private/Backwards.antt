@@ -6,7 +6,7 @@ use Rattle.tcc_graph.specs.Levels.{causally}
 use Rattle.tcc_graph.specs.Walks.{Leads}
 use Rattle.tcc_graph.specs.Tables.{row_of}
 use Rattle.tcc_graph.specs.declared.step.Step.{Step}
-use Rattle.tcc_near.specs.private.Breadth.{HasDistances}
+use Rattle.tcc_near.specs.private.Breadth.{HasLengths}
 use Rattle.tcc_near.specs.declared.distances.TheConstants.{NONE}
 
 -- some steps, of this number, lead from one of these to c; none of them lead from one of these to itself
@@ -40,7 +40,7 @@ AreOthers h a numbers = (b : ℕ) → (causal_pair h a b ≡ true) ↔ IsNextOrO
 -- a row for each transaction, with the distances from it or with nothing
 pub record AreKnown (h : History) (rows : List (List ℕ)) : Type 0 where
   pub long : length rows ≡ count h
-  pub each : (u : ℕ) → u < count h → (row_of rows u ≡ []) ⊎ HasDistances (causally h) u (row_of rows u)
+  pub each : (u : ℕ) → u < count h → (row_of rows u ≡ []) ⊎ HasLengths (causally h) u (row_of rows u)
 
 -- the row of b is there
 abbrev pub IsThere : List (List ℕ) → ℕ → ℕ → Type 0

@@ -8,7 +8,7 @@ use Rattle.tcc_graph.specs.Walks.{IsWalk}
 use Rattle.tcc_graph.specs.Tables.{row_of}
 use Rattle.tcc_graph.specs.declared.step.Step.{Step}
 use Rattle.tcc_bits.specs.Bits.{is_marked, words_for}
-use Rattle.tcc_near.specs.Distances.{IsShortest, IsWalkDistance, least_in}
+use Rattle.tcc_near.specs.Distances.{IsShortest, IsWalkLength, least_in}
 use Rattle.tcc_near.specs.declared.distances.TheConstants.{NONE}
 
 -- a row with room for the numbers below n that marks no others
@@ -54,25 +54,25 @@ pub record IsMarked (h : History) (a : ℕ) (n : ℕ) (marks : List ℕ) : Type 
   pub exact : (b : ℕ) → b < count h → (is_marked marks b ≡ true) ↔ IsWithin h a n b
 
 -- the distance where it is at most n, and none where it is more
-abbrev pub IsDistanceWithin : History → ℕ → ℕ → ℕ → Option ℕ → Type 0
-IsDistanceWithin h a n b None = IsWithin h a n b → ⊥
-IsDistanceWithin h a n b (Some d) = (d ≤ n) × IsShortest (causally h) a b d
+abbrev pub IsLengthWithin : History → ℕ → ℕ → ℕ → Option ℕ → Type 0
+IsLengthWithin h a n b None = IsWithin h a n b → ⊥
+IsLengthWithin h a n b (Some d) = (d ≤ n) × IsShortest (causally h) a b d
 
 -- the row has each distance that is at most n
 pub record IsSearched (h : History) (a : ℕ) (n : ℕ) (row : List ℕ) : Type 0 where
   pub long : length row ≡ count h
-  pub exact : (b : ℕ) → b < count h → IsDistanceWithin h a n b (least_in row b)
+  pub exact : (b : ℕ) → b < count h → IsLengthWithin h a n b (least_in row b)
 
 -- the row has each distance
-pub record HasDistances (j : Judged) (a : ℕ) (row : List ℕ) : Type 0 where
+pub record HasLengths (j : Judged) (a : ℕ) (row : List ℕ) : Type 0 where
   pub long : length row ≡ count j.history
-  pub exact : (b : ℕ) → b < count j.history → IsWalkDistance j a b (least_in row b)
+  pub exact : (b : ℕ) → b < count j.history → IsWalkLength j a b (least_in row b)
   pub short : (b : ℕ) (n : ℕ) → b < count j.history → least_in row b ≡ Some n → n ≤ count j.history
 
 -- a row of distances for each transaction
-pub record HaveDistances (j : Judged) (rows : List (List ℕ)) : Type 0 where
+pub record HaveLengths (j : Judged) (rows : List (List ℕ)) : Type 0 where
   pub long : length rows ≡ count j.history
-  pub each : (a : ℕ) → a < count j.history → HasDistances j a (row_of rows a)
+  pub each : (a : ℕ) → a < count j.history → HasLengths j a (row_of rows a)
 
 -- b is marked, or marked by one of these
 abbrev pub IsSpread : List ℕ → List (List ℕ) → (ℕ → Type 0) → ℕ → Type 0

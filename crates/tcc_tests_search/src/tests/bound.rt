@@ -2,13 +2,13 @@
 ghost use Rattle.std.specs.Prelude.{◌≡◌, IfOk};
 ghost use denote.Param.Send.{IsSync};
 
-use std::alloc::Global;
+use std::alloc::{AllocError, Global};
 use std::test::Fail;
 use std::thread::{Threads, join};
-use tcc_bound::{Bound, NoMemory, Seat};
+use tcc_bound::{Bound, Seat};
 
 // A bound whose floor is 0, so that every cost may be offered.
-fn open(alloc: Global) -> Result<(Bound, Seat), NoMemory>
+fn open(alloc: Global) -> Result<(Bound, Seat), AllocError>
     ensures { IfOk result (λ made. (made.1.bound ≡ made.0) × (made.1.known.floor ≡ 0)) }
 {
     let made = Bound::new(alloc)?;

@@ -6,8 +6,8 @@ use std::alloc::Global;
 use std::process::Abort;
 use std::test::Fail;
 use std::thread::Threads;
-use tcc_graph::Level;
 use tcc_bits::Row;
+use tcc_graph::Level;
 use tcc_near::NONE;
 use tcc_txn::MAX_TRANSACTIONS;
 

@@ -19,10 +19,6 @@ abbrev pub IsRowHalt : List ℕ → RowFault → Type 0
 IsRowHalt records fault = ((rows.answers_of records).fault ≡ Some fault)
     ⊎ ((fault.kind ≡ row_kind.Read) × FailsAt fault.row (rows.records_of records))
 
--- why records were not read to their end: a fault, or memory was refused
-abbrev pub IsStop : List ℕ → RowFault → Type 0
-IsStop records fault = IsRowHalt records fault ⊎ (fault.kind ≡ row_kind.NoMemory)
-
 -- the history of a snapshot whose reads have no faults, else all their faults
 abbrev pub IsResolution : Sessions → Result History Halt → Type 0
 IsResolution s (Ok h) = (read_faults s ≡ []) × (h ≡ history s)

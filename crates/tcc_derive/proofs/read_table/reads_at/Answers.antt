@@ -34,5 +34,5 @@ returns c =
     let sources = c.readings_of.result.0.now in
     let readers = c.readings_of.result.1.now in
     let all : c.loop-number.number ≡ length sources = search rules in
-    rw c.new.ensures (reads_listed c.args.graph.now c.args.place sources readers c.loop-number.reads.items c.readings_of.ensures.long
+    rw c.new.ensures (reads_listed c.args.graph.now c.args.key_index sources readers c.loop-number.reads.items c.readings_of.ensures.long
     c.readings_of.ensures.each (omega (arith, inv.0, all)) (λ i d l. inv.1 i d (omega (arith, l, all))))

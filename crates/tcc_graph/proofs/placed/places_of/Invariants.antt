@@ -4,4 +4,4 @@ use Rattle.tcc_graph.specs.Places.{name_of}
 use Rattle.tcc_graph.proofs.placed.places_of.Given as goal
 
 abbrev pub invariant-loop-name : goal.invariant-loop-name
-invariant-loop-name l = (map (name_of l.keys) l.places.items ≡ take l.name-index l.names) × All (λ k. k < length l.keys) l.places.items
+invariant-loop-name l = (map (name_of l.keys) l.key_indices.items ≡ take l.name-index l.names) × All (λ k. k < length l.keys) l.key_indices.items

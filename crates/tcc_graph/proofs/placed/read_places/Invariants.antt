@@ -5,4 +5,4 @@ use Rattle.tcc_graph.proofs.placed.read_places.Given as goal
 
 abbrev pub invariant-loop-key : goal.invariant-loop-key
 invariant-loop-key l =
-    (map (λ read. (name_of l.keys read.0, read.1)) l.places.items ≡ take l.key-index l.reads) × All (λ read. read.0 < length l.keys) l.places.items
+    (map (λ read. (name_of l.keys read.0, read.1)) l.key_indices.items ≡ take l.key-index l.reads) × All (λ read. read.0 < length l.keys) l.key_indices.items

@@ -1,6 +1,7 @@
 -- What comes of each moment of the recording.
 use Rattle.std.proofs.Common.{subst, Ok}
-use Rattle.tcc_rows.specs.Recordings.{TakesLargeMoment}
+use Rattle.tcc_rows.specs.Recordings.{TakesMoment}
+use Rattle.tcc_txn.specs.declared.limits.Limits.TheVariants.{Large}
 use Rattle.tcc_large_run.specs.LargeRuns.{records_of}
 use Rattle.tcc_large_run.specs.private.Stages.{AllAnswered, EndsEarly}
 use Rattle.tcc_large_run.proofs.Runs.{all-finished, answered-seal, ended-end, ended-seal, stopped, wants_memory}
@@ -11,7 +12,7 @@ pub moments-preserved : goal.moments-preserved
 moments-preserved g c = record {
   way = λ text recording.
       let way = c.moments.invariant.way text recording in
-      let at = subst (λ m. TakesLargeMoment g.R.Read.remaining way.taken way.ahead (Ok m) c.read_on.new.recording) c.in-Ok-Seal.field-0-is
+      let at = subst (λ m. TakesMoment Large g.R.Read.remaining way.taken way.ahead (Ok m) c.read_on.new.recording) c.in-Ok-Seal.field-0-is
       (c.in-Ok-Seal.ensures.moment way.taken way.ahead way.recorded) in
       let same = c.snapshot-snapshot.ensures.finished _ _ at.3 in
       answered-seal g.R.Read.remaining c.args.options text c.moments.recording c.read_on.new.recording _ _ c.moments.last way at
@@ -23,7 +24,7 @@ moments-preserved g c = record {
 pub returns-in_err-said-in-Ok-Seal-clause-answers : goal.returns-in_err-said-in-Ok-Seal-clause-answers
 returns-in_err-said-in-Ok-Seal-clause-answers g c text recording within fresh =
     let way = c.moments.invariant.way text recording in
-    let at = subst (λ m. TakesLargeMoment g.R.Read.remaining way.taken way.ahead (Ok m) c.read_on.new.recording) c.in-Ok-Seal.field-0-is
+    let at = subst (λ m. TakesMoment Large g.R.Read.remaining way.taken way.ahead (Ok m) c.read_on.new.recording) c.in-Ok-Seal.field-0-is
     (c.in-Ok-Seal.ensures.moment way.taken way.ahead way.recorded) in
     let same = c.snapshot-snapshot.ensures.finished _ _ at.3 in
     ended_by (AllAnswered c.args.options text _ _) (EndsEarly c.args.options text _ _) c.from_residual.result c.in_err-said-in-Ok-Seal.field-0.0
@@ -34,7 +35,7 @@ returns-in_err-said-in-Ok-Seal-clause-answers g c text recording within fresh =
 pub returns-in-Ok-End-clause-answers : goal.returns-in-Ok-End-clause-answers
 returns-in-Ok-End-clause-answers g c text recording within fresh =
     let way = c.moments.invariant.way text recording in
-    let at = subst (λ m. TakesLargeMoment g.R.Read.remaining way.taken way.ahead (Ok m) c.read_on.new.recording) c.in-Ok-End.field-0-is
+    let at = subst (λ m. TakesMoment Large g.R.Read.remaining way.taken way.ahead (Ok m) c.read_on.new.recording) c.in-Ok-End.field-0-is
     (c.in-Ok-End.ensures.moment way.taken way.ahead way.recorded) in
     ended-end g.R.Read.remaining c.args.options text c.moments.recording c.read_on.new.recording _ _ c.moments.last way at
     c.snapshot.result.now _ c.say_last.result (c.snapshot.ensures.finished _ _ at.2) c.say_last.ensures.said c.say_last.ensures.due
@@ -42,7 +43,7 @@ returns-in-Ok-End-clause-answers g c text recording within fresh =
 pub returns-in-Ok-End-clause-finished : goal.returns-in-Ok-End-clause-finished
 returns-in-Ok-End-clause-finished g c text recording =
     let way = c.moments.invariant.way text recording in
-    let at = subst (λ m. TakesLargeMoment g.R.Read.remaining way.taken way.ahead (Ok m) c.read_on.new.recording) c.in-Ok-End.field-0-is
+    let at = subst (λ m. TakesMoment Large g.R.Read.remaining way.taken way.ahead (Ok m) c.read_on.new.recording) c.in-Ok-End.field-0-is
     (c.in-Ok-End.ensures.moment way.taken way.ahead way.recorded) in
     all-finished g.R.Read.remaining c.args.options text c.moments.recording c.read_on.new.recording _ _ c.moments.last way at c.say_last.result
 

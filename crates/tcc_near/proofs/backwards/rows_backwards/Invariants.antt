@@ -2,11 +2,11 @@ use Rattle.std.proofs.Common.{◌<◌, ℕ}
 use Rattle.tcc_reads.specs.History.{count}
 use Rattle.tcc_graph.specs.Levels.{causally}
 use Rattle.tcc_graph.specs.Tables.{row_of}
-use Rattle.tcc_near.specs.private.Breadth.{HasDistances}
+use Rattle.tcc_near.specs.private.Breadth.{HasLengths}
 use Rattle.tcc_near.specs.private.Backwards.{AreKnown}
 use Rattle.tcc_near.proofs.backwards.rows_backwards.Given as goal
 
 abbrev pub invariant-loop-source : goal.invariant-loop-source
 invariant-loop-source l =
     AreKnown l.graph l.rows.items
-    × ((u : ℕ) → u < l.source → u < count l.graph → HasDistances (causally l.graph) u (row_of l.rows.items u))
+    × ((u : ℕ) → u < l.source → u < count l.graph → HasLengths (causally l.graph) u (row_of l.rows.items u))

@@ -3,7 +3,7 @@ use Rattle.std.proofs.lemmas.List.{get_or_default}
 use Rattle.tcc_reads.specs.History.{count}
 use Rattle.tcc_graph.specs.Relations.{IsSessionPair}
 use Rattle.tcc_graph.specs.Levels.{causally}
-use Rattle.tcc_near.specs.private.Breadth.{HasDistances}
+use Rattle.tcc_near.specs.private.Breadth.{HasLengths}
 use Rattle.tcc_near.specs.private.Backwards.{IsLeastFrom, IsFromOn}
 use Rattle.tcc_near.proofs.LeastFrom.{known_more, heads_more, least_same, before_pairs}
 use Rattle.tcc_near.proofs.backwards.rows_of_sessions.Goals as goal
@@ -22,7 +22,7 @@ loop-preserved c =
     let below : head < count h = omega (arith, at, c.loop.invariant.1.inside session inside) in
     let run = c.in_ok-runs-2.field-0 in
     let made : IsLeastFrom h (IsFromOn h head) run = c.in_ok-runs-2.ensures in
-    let has : HasDistances (causally h) head c.in_ok-row.row = c.in_ok-row.ensures in
+    let has : HasLengths (causally h) head c.in_ok-row.row = c.in_ok-row.ensures in
     let next : 0 < before → IsLeastFrom h (IsSessionPair h before) run =
     λ some. let on = c.previous.ensures.next some in
     least_same h (IsFromOn h head) (IsSessionPair h before) run (before_pairs h ends c.requires.pairs.ended before head below on.0 on.1) made in (

@@ -7,7 +7,7 @@ use Rattle.tcc_near.specs.private.Breadth.{IsSearched, IsLedTo, unnumbered}
 use Rattle.tcc_bits.proofs.BitLemmas.{none_marked}
 use Rattle.tcc_near.proofs.BreadthLemmas.{searched_at_start, unnumbered_at_start, searched_more, marked_more, row_at_end, row_full, all_numbered, known}
 use Rattle.tcc_near.proofs.FreshLemmas.{fresh_new, none_fresh, numbered_so, seen_so, fresh_at, led_row}
-use Rattle.tcc_near.proofs.search.distances_from.Goals as goal
+use Rattle.tcc_near.proofs.search.lengths_from.Goals as goal
 use Rattle.tcc_near.specs.declared.distances.TheConstants.{NONE}
 
 pub loop-before-init : goal.loop-before-init

@@ -1,7 +1,7 @@
 use Rattle.std.proofs.Common.{◌≡◌, ◌≤◌, ◌+◌, length}
 use Rattle.tcc_reads.specs.History.{count}
 use Rattle.tcc_near.specs.private.Breadth.{IsRowOf, IsSearched, IsMarked, IsSeen, AreSuffixes, unnumbered}
-use Rattle.tcc_near.proofs.search.distances_from.Given as goal
+use Rattle.tcc_near.proofs.search.lengths_from.Given as goal
 
 abbrev pub invariant-loop-before : goal.invariant-loop-before
 invariant-loop-before l =

@@ -3,7 +3,7 @@ use Rattle.rayon.proofs.ToStd.{nat_range-All}
 use Rattle.std.specs.declared.alloc.AllocError.{AllocError}
 use Rattle.tcc_reads.specs.History.{count}
 use Rattle.tcc_graph.specs.Levels.{atomically}
-use Rattle.tcc_near.specs.private.Breadth.{ArePairs, HasDistances}
+use Rattle.tcc_near.specs.private.Breadth.{ArePairs, HasLengths}
 use Rattle.tcc_near.proofs.RowLemmas.{each_given, numbers_below}
 use Rattle.tcc_near.proofs.search.rows_of_steps.Goals as goal
 use Rattle.tcc_txn.specs.declared.limits.TheConstants.{MAX_COUNT}
@@ -27,5 +27,5 @@ returns g c =
     let chain = rw (c.with_min_len.ensures.base, c.map.ensures.base, c.map.ensures.f) at gave.1 in
     let numbers = chain.1 ∙ numbers_below _ _ n c.into_par_iter.ensures.0 c.into_par_iter.ensures.1 in
     matched c.in_ok-collect.field-0 _ _ _ gave.2 (λ v made.
-    let each = each_given AllocError (HasDistances (atomically h)) n chain.0 gave.0 v.items numbers chain.2 made in
+    let each = each_given AllocError (HasLengths (atomically h)) n chain.0 gave.0 v.items numbers chain.2 made in
     record { long = each.0 ∙ c.requires.pairs.ended.long; each = λ a l. each.1 a [] (omega (arith, l, c.requires.pairs.ended.long)) })

@@ -3,6 +3,7 @@ use Rattle.std.proofs.Common.{subst, sym, Ok}
 use Rattle.tcc_rows.specs.Answers.{records_of}
 use Rattle.tcc_txn.specs.Nested.{IsNested}
 use Rattle.tcc_rows.specs.Recordings.{TakesMoment}
+use Rattle.tcc_txn.specs.declared.limits.Limits.TheVariants.{Small}
 use Rattle.tcc_run.specs.private.Stages.{AllAnswered, EndsEarly, Follows}
 use Rattle.tcc_run.proofs.Earlier.{follows_on}
 use Rattle.tcc_run.proofs.Runs.{answered-seal, ended-end, ended-seal, still-seal, stopped, wants_memory}
@@ -13,7 +14,7 @@ pub moments-preserved : goal.moments-preserved
 moments-preserved g c = record {
   way = λ text recording.
       let way = c.moments.invariant.way text recording in
-      let at = subst (λ m. TakesMoment g.R.Read.remaining way.taken way.ahead (Ok m) c.advance.new.self) c.in-Ok-Seal.field-0-is
+      let at = subst (λ m. TakesMoment Small g.R.Read.remaining way.taken way.ahead (Ok m) c.advance.new.self) c.in-Ok-Seal.field-0-is
       (c.in-Ok-Seal.ensures.moment way.taken way.ahead way.recorded) in
       let same = c.snapshot-snapshot.ensures.finished _ _ at.3 in
       answered-seal g.R.Read.remaining c.args.options text c.moments.recording c.advance.new.self _ _ c.moments.last way at
@@ -28,7 +29,7 @@ moments-preserved g c = record {
 pub returns-in_err-said-in-Ok-Seal : goal.returns-in_err-said-in-Ok-Seal
 returns-in_err-said-in-Ok-Seal g c text recording within fresh =
     let way = c.moments.invariant.way text recording in
-    let at = subst (λ m. TakesMoment g.R.Read.remaining way.taken way.ahead (Ok m) c.advance.new.self) c.in-Ok-Seal.field-0-is
+    let at = subst (λ m. TakesMoment Small g.R.Read.remaining way.taken way.ahead (Ok m) c.advance.new.self) c.in-Ok-Seal.field-0-is
     (c.in-Ok-Seal.ensures.moment way.taken way.ahead way.recorded) in
     let same = c.snapshot-snapshot.ensures.finished _ _ at.3 in
     ended_by (AllAnswered c.args.options text _ _) (EndsEarly c.args.options text _ _) c.from_residual.result c.in_err-said-in-Ok-Seal.field-0.0
@@ -41,7 +42,7 @@ returns-in_err-said-in-Ok-Seal g c text recording within fresh =
 pub returns-in-Ok-End : goal.returns-in-Ok-End
 returns-in-Ok-End g c text recording within fresh =
     let way = c.moments.invariant.way text recording in
-    let at = subst (λ m. TakesMoment g.R.Read.remaining way.taken way.ahead (Ok m) c.advance.new.self) c.in-Ok-End.field-0-is
+    let at = subst (λ m. TakesMoment Small g.R.Read.remaining way.taken way.ahead (Ok m) c.advance.new.self) c.in-Ok-End.field-0-is
     (c.in-Ok-End.ensures.moment way.taken way.ahead way.recorded) in
     ended-end g.R.Read.remaining c.args.options text c.moments.recording c.advance.new.self _ _ c.moments.last way at
     c.snapshot.result.now _ c.answer_last.result (c.snapshot.ensures.finished _ _ at.2) c.answer_last.ensures.said c.answer_last.ensures.due

@@ -5,7 +5,7 @@ pub returns-clause-each : goal.returns-clause-each
 returns-clause-each c = λ a r.
     rw (← c.self.view_is, c.groups.ensures, c.values.ensures, c.all_readers-readers.ensures, ← c.self.invariant.keyed)
     (key_readings c.self.inside.transactions.items c.self.inside.keys.items c.self.inside.placed.items c.self.invariant.sorted c.self.invariant.placed
-    c.self.inside.rows.items c.self.invariant.rowed c.args.place
+    c.self.inside.rows.items c.self.invariant.rowed c.args.key_index
     (rw (← c.self.view_is, ← c.self.invariant.keyed) at c.requires)
     c.index.result.now c.index.ensures a r)
 
@@ -13,6 +13,6 @@ pub returns-clause-order : goal.returns-clause-order
 returns-clause-order c =
     rw (c.groups.ensures, c.values.ensures, c.all_readers-readers.ensures)
     (key_order c.self.inside.transactions.items c.self.inside.keys.items c.self.inside.placed.items c.self.invariant.sorted c.self.invariant.placed
-    c.self.inside.rows.items c.self.invariant.rowed c.args.place
+    c.self.inside.rows.items c.self.invariant.rowed c.args.key_index
     (rw (← c.self.view_is, ← c.self.invariant.keyed) at c.requires)
     c.index.result.now c.index.ensures)

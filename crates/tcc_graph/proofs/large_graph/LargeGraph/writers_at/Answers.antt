@@ -7,5 +7,5 @@ returns c =
     rw (← c.self.view_is, ← c.self.invariant.keyed)
     (c.writers.ensures ∙ writers_placed c.self.inside.transactions.items c.self.inside.keys.items c.self.inside.placed.items c.self.invariant.sorted
     c.self.invariant.placed
-    c.self.inside.rows.items c.self.invariant.rowed c.args.place
+    c.self.inside.rows.items c.self.invariant.rowed c.args.key_index
     (rw (← c.self.view_is, ← c.self.invariant.keyed) at c.requires) c.index.result.now c.index.ensures c.self.invariant.keyed)

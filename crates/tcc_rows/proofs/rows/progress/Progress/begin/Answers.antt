@@ -1,7 +1,4 @@
-use Rattle.std.proofs.Common.{sym, refl, subst, arith}
-use Rattle.tcc_txn.specs.Limits.{most_transactions}
-use Rattle.tcc_rows.specs.Standing.{HoldsSeats}
-use Rattle.tcc_rows.specs.private.Passing.{MayBegin}
+use Rattle.std.proofs.Common.{refl, arith}
 use Rattle.tcc_rows.proofs.StandingFacts.{after-begin}
 use Rattle.tcc_rows.proofs.rows.progress.Progress.begin.Goals as goal
 

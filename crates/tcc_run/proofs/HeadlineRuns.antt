@@ -1,0 +1,95 @@
+-- A run that no device and no refused memory ends prints last the answer for all that the records finish.
+use Rattle.std.proofs.Common.{ℕ, ◌≡◌, ◌≢◌, List, [], ◌∷◌, ◌++◌, Option, None, Some, refl, sym, ap, subst, ◌∙◌, inl, inr, ◌⊎◌, append_assoc, append-nil}
+use Rattle.std.specs.Prelude.{unwrap_or}
+use Rattle.std.specs.Io.KnownBytes.{Appends}
+use Rattle.std.specs.List.{last_or}
+use Rattle.tcc_txn.specs.Finished.{KeepsLimits}
+use Rattle.tcc_txn.specs.Snapshots.{Sessions}
+use Rattle.tcc_rows.specs.Answers.{answers_of}
+use Rattle.tcc_reads.specs.Faults.{read_faults}
+use Rattle.tcc_graph.specs.declared.level.Level.{Level}
+use Rattle.tcc_answer.specs.declared.answer.Answer.{Answer}
+use Rattle.tcc_explain.specs.Explained.{IsAnswerFor, IsAnswerOf}
+use Rattle.tcc_print.specs.Printed.{Prints, answered, device_line}
+use Rattle.tcc_print.specs.Statuses.{code_of, halt_status, row_status}
+use Rattle.tcc_print.specs.declared.halt.Halt.{Halt}
+use Rattle.tcc_print.specs.declared.halt.Halt.TheVariants as halt
+use Rattle.tcc_print.specs.declared.options.Options.{Options}
+use Rattle.tcc_print.specs.declared.status.Status.TheVariants.{Device, Memory}
+use Rattle.tcc_run.specs.Headline.{IsExplained}
+use Rattle.tcc_run.specs.HeadlineRuns.{PrintsExplained, SaysExplained, finished_by}
+use Rattle.tcc_run.specs.Runs.{AllGoesOut, Contents, Gains, IsAnswered, IsEnded, IsRun, IsWhole, MayEnd, Said, answer_said, halt_said, texts}
+use Rattle.tcc_run.proofs.Closes.{device_code}
+use Rattle.tcc_run.proofs.Closing.{accepted, only}
+use Rattle.tcc_run.proofs.LastSnapshot.{last_said}
+use Rattle.tcc_print.proofs.Moments.{last-push}
+
+inside : {X : Type 0} (x y : X) → Some x ≡ Some y → x ≡ y
+inside x y e = cc e
+
+nothing : {X : Type 0} (x : X) → None ≡ Some x → ⊥
+nothing x e = cc e
+
+-- the text of the last is the end of all texts
+texts_from : (one : Said) (said : List Said) (last : Said) → last_or (Some one) said ≡ Some last
+    → (front : List ℕ) × (one.text ++ texts said ≡ front ++ last.text)
+texts_from one [] last e = ([], append-nil one.text ∙ ap (λ (s : Said). s.text) (inside one last e))
+texts_from one (next ∷ said) last e =
+    let (front, is) = texts_from next said last e in
+    (one.text ++ front, ap (λ rest. one.text ++ rest) is ∙ sym (append_assoc one.text front last.text))
+
+texts_end : (said : List Said) (last : Said) → last_or None said ≡ Some last → (front : List ℕ) × (texts said ≡ front ++ last.text)
+texts_end [] last e = absurd (nothing last e)
+texts_end (one ∷ said) last e = texts_from one said last e
+
+module _ (law : (s : Sessions) (level : Level) (a : Answer) → IsAnswerFor s level a → IsExplained s level a) (options : Options) where
+  -- what is said of a snapshot is what the main theorem says
+  pub says : (s : Sessions) (said : Said) → IsAnswered options s said → SaysExplained options s said
+  says s said (inl (resolved, a, is, same)) = inl (a, law s options.level a (resolved, is), same)
+  says s said (inr faults) = inr faults
+
+  module _ (records : List ℕ) (limits : KeepsLimits (finished_by records)) (unfaulted : (answers_of records).fault ≡ None)
+      (resolved : read_faults (finished_by records) ≡ []) (before after : Option (List ℕ)) (file file' : Contents) (code : ℕ) (fine : code ≢ code_of Device)
+      (space : code ≢ code_of Memory) where
+    Printed : Type 0
+    Printed = PrintsExplained options records before after file file' code
+
+    of_answer : (said : List Said) (last : Said) → last_or None said ≡ Some last → AllGoesOut before after file file' (texts said) last code
+        → IsAnswered options (finished_by records) last → Printed
+    of_answer said last end (out, gains, ends) (inl (none, a, is, same)) =
+        let (front, whole) = texts_end said last end in
+        let text : texts said ≡ front ++ answered options.json a = whole ∙ ap (λ (s : Said). front ++ s.text) same in
+        record {
+          answer = a;
+          explained = law (finished_by records) options.level a (resolved, is);
+          first = is;
+          front = front;
+          printed = subst (λ t. Appends before after t) text out;
+          written = subst (λ (s : Said). Gains file file' (unwrap_or s.certificate [])) same gains;
+          status = ends ∙ ap (λ (s : Said). code_of s.status) same;
+          accepted = accepted records limits options.level a unfaulted resolved is;
+          only = only records limits options.level a unfaulted resolved is;
+        }
+    of_answer said last end goes (inr (faulty, same)) = absurd (faulty resolved)
+
+    -- what ends a run early ends it by a device or by memory, since the records have no fault
+    early : (n : ℕ) (why : Halt) → MayEnd records n why → code ≡ code_of (halt_status why) → ⊥
+    early n (halt.Row fault) (inl (found, at)) ends = nothing fault (sym unfaulted ∙ found)
+    early n (halt.Row fault) (inr (read, at, count)) ends = fine (ends ∙ ap (λ kind. code_of (row_status kind)) read)
+    early n halt.NoMemory may ends = space ends
+    early n (halt.Reads faults) may ends = may
+    early n (halt.Text fault) may ends = may
+
+    of_ends : (said : List Said) (last : Said) → last_or None said ≡ Some last → AllGoesOut before after file file' (texts said) last code
+        → IsWhole options (answers_of records) said ⊎ IsEnded options records said → Printed
+    of_ends said last end goes (inl (none, answers)) =
+        of_answer said last end goes (last_said (IsAnswered options) (answers_of records).items said last answers end)
+    of_ends said last end goes (inr (n, why, answers, may, are, same)) =
+        let pushed : last_or None said ≡ Some (halt_said options why) = ap (last_or None) same ∙ last-push None answers (halt_said options why) in
+        let halted : last ≡ halt_said options why = inside last (halt_said options why) (sym end ∙ pushed) in
+        absurd (early n why may (goes.2 ∙ ap (λ (s : Said). code_of s.status) halted))
+
+    pub prints : IsRun options records before after file file' code → Printed
+    prints (said, last, ends, end, inl goes) = of_ends said last end goes ends
+    prints (said, last, ends, end, inr (inl failed)) = absurd (fine failed.2)
+    prints (said, last, ends, end, inr (inr failed)) = absurd (fine (device_code failed.1.0 after (device_line options.json) code failed.1.2))

@@ -1,0 +1,186 @@
+#!/usr/bin/env python3
+"""What the documents tell of statuses and limits, from the sources.
+
+    told.py [--write]
+
+The words of a status are those of its variant in `crates/tcc_print/src/status.rt`, its number is that of `code` there, the limits
+are the constants of `crates/tcc_txn/src/limits.rt`, and which status a fault has is in `crates/tcc_print/src/kinds.rt`. From these
+come the exit statuses and the limits of README and of the man page, which `--write` writes anew. What else tells a limit or a
+status is held against them: the row faults of docs/FORMATS.md, the kinds that the man page names, help, and some sentences; where
+a limit changes, each of them that is wrong is named, with what has to stand there. And README has no more words than it may have.
+Each difference is one line, as `run.py` has it, which asks this too; the last line is `N passed, M failed`.
+"""
+import argparse
+import pathlib
+import re
+import sys
+from typing import Dict, Iterator, List, Tuple
+
+TOP = pathlib.Path(__file__).resolve().parent.parent.parent
+sys.path.insert(0, str(TOP / "tests"))
+from counted import Outcome, status_of  # noqa: E402
+
+README, PAGE = TOP / "README.md", TOP / "docs/tcc.1"
+MOST_WORDS = 2000
+CONSTANT = re.compile(r"^pub const (\w+): \w+ = ([^;]+);", re.MULTILINE)
+VARIANT = re.compile(r"((?: *///.*\n)+) *(\w+),\n")
+CODE = re.compile(r"((?:Status::\w+[ |]*)+) => (\d+),")
+FAULT = re.compile(r"(Row|Cert)FaultKind::(\w+)[^=]*=> Told::new\(\"\w+\", Status::(\w+)\)")
+QUOTED = re.compile(r"`([^`]+)`")
+# In braces an expression over the limits: with a comma before each three digits, or plain behind an exclamation mark.
+TEMPLATE = re.compile(r"\{(!?)([A-Z_+1 ]+)\}")
+LIMITS = ("{MAX_SESSIONS} sessions, {MAX_TRANSACTIONS} transactions%s of {MAX_OPERATIONS} operations%s, {MAX_KEYS} keys, "
+          "{MAX_SEALS} seals%s {MAX_INPUT_BYTES} bytes")
+LARGE = "{LARGE_SESSIONS} sessions, {LARGE_TRANSACTIONS} transactions, {LARGE_KEYS} keys%s {LARGE_INPUT_BYTES} bytes"
+IN_README = "A history has at most " + LIMITS % (" (aborted ones counted)", "", " and") + "; with `--large` " + LARGE % " and" + "."
+IN_PAGE = (".SH LIMITS\n" + LIMITS % (", aborted ones counted,", " each", ",") + ".\n.PP\nWith \\fB\\-\\-large\\fR " + LARGE % ","
+           + "; as many operations and seals.\n")
+HELD = {
+    "README.md": (
+        "up to {MAX_TRANSACTIONS} transactions, or a million with `--large`",
+        "Names of sessions and keys have 1 to {MAX_NAME_BYTES} bytes"),
+    "recipes/README.md": (
+        "takes {MAX_SESSIONS} sessions and {MAX_TRANSACTIONS} transactions, aborted ones counted, and `tcc explain --large` "
+        "{LARGE_SESSIONS} and {LARGE_TRANSACTIONS}",),
+    "docs/RECORDING.md": (
+        "A history has at most {MAX_SESSIONS} sessions, or {LARGE_SESSIONS} with `--large`",
+        "at most {MAX_TRANSACTIONS} transactions, aborted ones counted, of {MAX_OPERATIONS} operations each, in {MAX_SESSIONS} "
+        "sessions on {MAX_KEYS} keys",
+        "up to {LARGE_TRANSACTIONS} transactions in {LARGE_SESSIONS} sessions on {LARGE_KEYS} keys, in {LARGE_INPUT_BYTES} bytes",
+        "**A full book**: {MAX_TRANSACTIONS} transactions"),
+    "docs/FORMATS.md": (
+        "names: 1 to {MAX_NAME_BYTES} bytes",
+        "| TooManyOps | operation {MAX_OPERATIONS+1} of a transaction |",
+        "| TooManySessions | `begin` of a {MAX_SESSIONS+1}th session |",
+        "| TooManyTransactions | `begin` of transaction {MAX_TRANSACTIONS+1},",
+        "| TooManyKeys | a {MAX_KEYS+1}th key,",
+        "| TooManySeals | `seal` number {MAX_SEALS+1} |",
+        "gave more than {MAX_INPUT_BYTES} bytes",
+        "TooManySessions at a {LARGE_SESSIONS+1}th session, TooManyTransactions at transaction {LARGE_TRANSACTIONS+1}, TooManyKeys "
+        "at a {LARGE_KEYS+1}th key, and Read behind {LARGE_INPUT_BYTES} bytes",
+        "up to {MAX_SESSIONS} sessions with up to {MAX_TRANSACTIONS} transactions"),
+    "docs/tcc.1": ("names: 1 to {MAX_NAME_BYTES} bytes",),
+    "crates/tcc_words/src/help.rt": (
+        "1 to {!MAX_NAME_BYTES} of A-Z",
+        "up to {!LARGE_TRANSACTIONS} transactions, {!LARGE_SESSIONS} sessions and {!LARGE_KEYS} keys, in place of\n"
+        "{!MAX_TRANSACTIONS}, {!MAX_SESSIONS} and {!MAX_KEYS}",
+        "more than {!MAX_INPUT_BYTES} bytes, with '--large' {!LARGE_INPUT_BYTES},",
+        "the history has more than {!MAX_INPUT_BYTES} bytes"),
+}
+
+
+def source(path: str) -> str:
+    return (TOP / "crates" / path).read_text()
+
+
+def limits() -> Dict[str, int]:
+    """The constants by name, each over those before it."""
+    known: Dict[str, int] = {}
+    for name, value in CONSTANT.findall(source("tcc_txn/src/limits.rt")):
+        known[name] = sum(known[part] if part in known else int(part.replace("_", "")) for part in value.split(" + "))
+    return known
+
+
+def filled(template: str) -> str:
+    """A sentence with its limits as numbers."""
+    known = limits()
+
+    def number(found: "re.Match[str]") -> str:
+        value = sum(known.get(part.strip()) or int(part) for part in found.group(2).split("+"))
+        return str(value) if found.group(1) else format(value, ",")
+
+    return TEMPLATE.sub(number, template)
+
+
+def codes() -> Dict[str, int]:
+    """The number of each status."""
+    return {name: int(code) for names, code in CODE.findall(source("tcc_print/src/status.rt"))
+            for name in re.findall(r"Status::(\w+)", names)}
+
+
+def statuses() -> List[Tuple[int, List[str]]]:
+    """Each number, with the words of its statuses without their full stops."""
+    enum = source("tcc_print/src/status.rt").partition("pub enum Status {\n")[2].partition("\n}")[0] + "\n"
+    words: Dict[int, List[str]] = {}
+    for comment, name in VARIANT.findall(enum):
+        text = " ".join(line.strip()[3:].strip() for line in comment.splitlines())
+        words.setdefault(codes()[name], []).append(text.rstrip("."))
+    return sorted(words.items())
+
+
+def lowered(words: List[str]) -> str:
+    return "; ".join(one[0].lower() + one[1:] for one in words)
+
+
+def statuses_of_readme() -> str:
+    return "## Exit statuses\n\n" + " ".join("%d: %s." % (code, lowered(words)) for code, words in statuses()) + "\n\n"
+
+
+def statuses_of_page() -> str:
+    """The statuses as the man page has them; what stands in backquotes is bold there."""
+    items = []
+    for code, words in statuses():
+        text = QUOTED.sub(lambda found: "\\fB%s\\fR" % found.group(1).replace("-", "\\-"), lowered(words))
+        items.append(".TP\n.B %d\n%s.\n" % (code, text[0].upper() + text[1:]))
+    return "of its last answer, or of the fault that ended the run.\n" + "".join(items)
+
+
+# A file, what stands before and behind a part of it, and how the part reads.
+WRITTEN = (
+    (README, r"## Exit statuses\n.*?(?=## )", statuses_of_readme),
+    (README, r"A history has at most (?=[0-9,]+ sessions).*?bytes;.*?bytes\.", lambda: filled(IN_README)),
+    (PAGE, r"of its last answer, or of the fault that ended the run\.\n.*?(?=\.SH )", statuses_of_page),
+    (PAGE, r"\.SH LIMITS\n.*?(?=\.SH )", lambda: filled(IN_PAGE)),
+)
+
+
+def write() -> None:
+    for path, pattern, wanted in WRITTEN:
+        path.write_text(re.sub(pattern, lambda _: wanted(), path.read_text(), flags=re.DOTALL))
+
+
+def faults_of_kinds() -> Iterator[Outcome]:
+    """Whether FORMATS has each row fault with its status, and the man page each kind that a line can name."""
+    formats, page = (TOP / "docs/FORMATS.md").read_text(), PAGE.read_text()
+    for of, kind, status in FAULT.findall(source("tcc_print/src/kinds.rt")):
+        if kind == "NoMemory" or of == "Cert":
+            continue
+        row = re.search(r"^\| %s(?: SESSION)? \|.*\| (\d+) \|$" % kind, formats, re.MULTILINE)
+        right = row is not None and int(row.group(1)) == codes()[status]
+        yield "FORMATS: %s" % kind, None if right else "no row has it with status %d" % codes()[status]
+        yield "man page: %s" % kind, None if re.search(r"\b%s\b" % kind, page) else "isn't named"
+
+
+def faults_of_help() -> Iterator[Outcome]:
+    """Whether help has each status that explain and check can end with, and no other."""
+    wanted = {code for code, _ in statuses()}
+    shown = re.findall(r"^  (\d+)  +\S", source("tcc_words/src/help.rt"), re.MULTILINE)
+    yield "statuses of help", None if {int(one) for one in shown} == wanted else "they aren't those of status.rt"
+
+
+def outcomes() -> Iterator[Outcome]:
+    for path, pattern, wanted in WRITTEN:
+        found = re.search(pattern, path.read_text(), re.DOTALL)
+        name = "%s: '%s..'" % (path.relative_to(TOP), wanted().strip()[:20].replace("\n", " "))
+        is_right = found is not None and found.group() == wanted()
+        yield name, None if is_right else "it isn't what the sources give: tests/docs/told.py --write"
+    for path, templates in HELD.items():
+        text = (TOP / path).read_text()
+        for template in templates:
+            yield "%s: '%s..'" % (path, template[:40]), None if filled(template) in text else "it has no '%s'" % filled(template)
+    yield from faults_of_kinds()
+    yield from faults_of_help()
+    count = len(README.read_text().split())
+    yield "words of README", None if count <= MOST_WORDS else "%d, and %d are allowed" % (count, MOST_WORDS)
+
+
+def main() -> int:
+    ask = argparse.ArgumentParser(description="What the documents tell of statuses and limits, from the sources.")
+    ask.add_argument("--write", action="store_true", help="writes what comes from the sources")
+    if ask.parse_args().write:
+        write()
+    return status_of(outcomes())
+
+
+if __name__ == "__main__":
+    sys.exit(main())
