@@ -60,7 +60,7 @@ pub fn run_large<R: Read + Drop>(
     if stage == Stage::LargeResolve {
         return u32::try_from(resolved.places().len()).ok();
     }
-    let graph = LargeGraph::build(alloc, &resolved).ok()?;
+    let graph = LargeGraph::build(alloc, resolved).ok()?;
     match stage {
         Stage::LargeGraph => Some(graph.count()),
         Stage::LargeOrder => ordered(alloc, &graph, level),

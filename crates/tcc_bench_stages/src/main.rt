@@ -112,7 +112,7 @@ fn run<R: Read + Drop>(
     if stage == Stage::Resolve {
         return u32::try_from(resolved.places().len()).ok();
     }
-    let graph = Graph::build(alloc, &resolved).ok()?;
+    let graph = Graph::build(alloc, resolved).ok()?;
     search(rt, alloc, &graph, stage)
 }
 

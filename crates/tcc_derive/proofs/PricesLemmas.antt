@@ -9,7 +9,7 @@ use Rattle.tcc_graph.specs.Levels.{Judged}
 use Rattle.tcc_graph.specs.Tables.{row_of}
 use Rattle.tcc_near.specs.Distances.{IsSquare, NearTable, IsNearOf}
 use Rattle.tcc_derive.specs.Prices.{Tables, IsCost, IsPricesOf, HasOthers, cost_at}
-use Rattle.tcc_derive.specs.private.Others.{HasOtherRows, HasEnds, IsShaped, others_below}
+use Rattle.tcc_derive.specs.private.Others.{HasOtherRows, HasEnds, IsShaped, others_below, tables_of}
 use Rattle.tcc_derive.specs.private.Classes.{HasClassRows, HaveByClass}
 use Rattle.tcc_derive.specs.declared.by_class.ByClass.{ByClass}
 use Rattle.tcc_derive.specs.private.Rows.{IsPriceRow, IsCostRow, HasRows}
@@ -24,7 +24,7 @@ module _ (j : Judged) (near : NearTable) (prices : List (List ℕ)) (ends : List
     (is : IsNearOf j near) (priced : HasRows j.history (IsPriceRow j) prices) (ended : HasEnds j.history ends)
     (other : HasOtherRows j.history near.rows prices others) where
   abbrev tables : Tables
-  tables = record { level = j.level; prices = prices; ends = ends; others = others; limit = limit }
+  tables = tables_of j.level prices ends others limit
 
   module _ (u : ℕ) (from : u < count j.history) where
     abbrev costs : List ℕ

@@ -4,7 +4,7 @@ ghost use Rattle.std.specs.List.{AllPairs};
 ghost use Rattle.tcc_near.specs.Distances.{least_in};
 ghost use Rattle.tcc_derive.specs.Limits.{AreWithin};
 ghost use Rattle.tcc_derive.specs.Prices.{price_at, cost_at, cost_among, end_of, others_at};
-ghost use Rattle.tcc_derive.specs.private.Others.{IsShaped};
+ghost use Rattle.tcc_derive.specs.private.Others.{IsShaped, tables_of};
 ghost use Rattle.tcc_derive.specs.ByClass.{IsByClass};
 ghost use Rattle.tcc_derive.specs.private.Classes.{HaveByClass};
 ghost use Rattle.tcc_txn.specs.declared.limits.TheConstants.{MAX_COUNT};
@@ -34,34 +34,16 @@ impl Model for Prices {
     ghost use Rattle.std.specs.Prelude.{◌≡◌, ◌↔◌, true, length};
     ghost use Rattle.tcc_derive.specs.Limits.{AreWithin};
     ghost use Rattle.tcc_derive.specs.Prices.{Tables};
-    ghost use Rattle.tcc_derive.specs.private.Others.{IsShaped};
+    ghost use Rattle.tcc_derive.specs.private.Others.{IsShaped, tables_of};
     ghost use Rattle.tcc_derive.specs.private.Classes.{HaveByClass};
 
     ghost Value = { Tables };
 
-    ghost view = { λ p. record {
-      level = p.level;
-      prices = p.prices.items;
-      ends = p.ends.items;
-      others = p.others.items;
-      limit = p.limit;
-    } };
+    ghost view = { λ p. tables_of p.level p.prices.items p.ends.items p.others.items p.limit };
 
     ghost invariant = { λ p. IsShaped (length p.prices.items)
-        (record {
-          level = p.level;
-          prices = p.prices.items;
-          ends = p.ends.items;
-          others = p.others.items;
-          limit = p.limit;
-        })
-        × HaveByClass (record {
-          level = p.level;
-          prices = p.prices.items;
-          ends = p.ends.items;
-          others = p.others.items;
-          limit = p.limit;
-        }) p.by_class.items
+        (tables_of p.level p.prices.items p.ends.items p.others.items p.limit)
+        × HaveByClass (tables_of p.level p.prices.items p.ends.items p.others.items p.limit) p.by_class.items
         × ((p.whole ≡ true) ↔ AreWithin p.limit p.others.items) };
 }
 
@@ -77,12 +59,10 @@ impl Prices {
         whole: bool,
     ) -> Prices
         requires shape { IsShaped (length prices.items)
-            (record { level = level; prices = prices.items; ends = ends.items; others = others.items; limit = limit }) }
-        requires by_class { HaveByClass
-            (record { level = level; prices = prices.items; ends = ends.items; others = others.items; limit = limit })
-            by_class.items }
+            (tables_of level prices.items ends.items others.items limit) }
+        requires by_class { HaveByClass (tables_of level prices.items ends.items others.items limit) by_class.items }
         requires whole { (whole ≡ true) ↔ AreWithin limit others.items }
-        ensures { result ≡ record { level = level; prices = prices.items; ends = ends.items; others = others.items; limit = limit } }
+        ensures { result ≡ tables_of level prices.items ends.items others.items limit }
     {
         Prices {
             level,

@@ -11,8 +11,8 @@ use Rattle.std.specs.Ordering.{nat_cmp, eq_by_cmp}
 use Rattle.std.specs.declared.cmp.Ordering.{Ordering}
 use Rattle.std.specs.declared.cmp.Ordering.TheVariants.{Less, Equal, Greater}
 use Rattle.std.proofs.lemmas.List.Elements.{All-nil, All-cons, All-head, All-tail, All-append, All-take}
-use Rattle.tcc_rows.specs.Answers.{Answers, after_item, answers_after, answers_of, go_on, records_of}
-use Rattle.tcc_rows.specs.private.Words.{judged}
+use Rattle.tcc_rows.specs.Answers.{Answers, after_item, answers_of, go_on, records_of}
+use Rattle.tcc_rows.specs.private.Words.{answers_after, judged}
 use Rattle.tcc_txn.specs.Finished.{with_transaction}
 use Rattle.tcc_rows.specs.Items.{finished_in, with_item}
 use Rattle.tcc_txn.specs.Bytes.{same}

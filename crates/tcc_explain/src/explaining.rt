@@ -127,7 +127,7 @@ pub(crate) fn labelled_history(
 {
     match resolve(alloc, snapshot) {
         Ok(resolved) => {
-            let graph = Graph::build(alloc, &resolved)?;
+            let graph = Graph::build(alloc, resolved)?;
             let labels = Labels::of(alloc, &graph)?;
             Ok((graph, labels))
         }

@@ -38,10 +38,10 @@ impl Model for Graph {
 
 impl Graph {
     /// The graph of a history.
-    pub fn build(alloc: Global, resolved: &Resolved) -> Result<Graph, NoMemory>
-        ensures { IfOk result (λ g. g ≡ resolved.now) }
+    pub fn build(alloc: Global, resolved: Resolved) -> Result<Graph, NoMemory>
+        ensures { IfOk result (λ g. g ≡ resolved) }
     {
-        let large = LargeGraph::build(alloc, resolved.large())?;
+        let large = LargeGraph::build(alloc, resolved.into_large())?;
         Ok(Graph { large })
     }
 

@@ -6,9 +6,9 @@ ghost use Rattle.std.specs.Cmp.Lexicographic.{slice_cmp};
 ghost use Rattle.tcc_graph.specs.Keys.{with_names, keys};
 ghost use Rattle.tcc_graph.specs.private.ReadTables.{over};
 
-use crate::transaction::Transaction;
 use std::alloc::Global;
 use std::collections::BTreeSet;
+use tcc_reads::Transaction;
 use tcc_txn::{Name, NoMemory};
 
 /// Puts names into the set.

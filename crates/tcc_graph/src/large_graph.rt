@@ -16,12 +16,11 @@ use crate::key_row::KeyRow;
 use crate::key_table::{key_table, place_of};
 use crate::keys::sorted_keys;
 use crate::placed::{Placed, placed_by};
-use crate::tables::{place_table, read_table, transactions_of};
-use crate::transaction::Transaction;
+use crate::tables::{parts_of, place_table, read_table};
 use crate::{Level, Link};
 use std::alloc::Global;
 use std::marker::Model;
-use tcc_reads::LargeResolved;
+use tcc_reads::{LargeResolved, Transaction};
 use tcc_txn::{Name, NoMemory};
 
 /// The session order and the reads-from pairs of a history whose reads are resolved, up to the large limits. Number 0 is the initial
@@ -50,16 +49,15 @@ impl Model for LargeGraph {
 
 impl LargeGraph {
     /// The graph of a history.
-    pub fn build(alloc: Global, resolved: &LargeResolved) -> Result<LargeGraph, NoMemory>
-        ensures { IfOk result (λ g. g ≡ resolved.now) }
+    pub fn build(alloc: Global, resolved: LargeResolved) -> Result<LargeGraph, NoMemory>
+        ensures { IfOk result (λ g. g ≡ resolved) }
     {
-        let transactions = transactions_of(alloc, resolved)?;
+        let (sessions, transactions) = parts_of(resolved);
         let reads = read_table(alloc, &transactions)?;
         let keys = sorted_keys(alloc, &transactions)?;
         let placed = placed_by(alloc, &keys, &transactions)?;
         let key_indices = place_table(alloc, &placed)?;
         let rows = key_table(alloc, keys.len(), &placed, &key_indices)?;
-        let sessions = resolved.sessions().iter().copied().collect(alloc)?;
         Ok(LargeGraph {
             sessions,
             transactions,

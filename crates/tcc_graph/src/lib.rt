@@ -15,7 +15,6 @@ mod link;
 mod placed;
 mod step;
 mod tables;
-mod transaction;
 mod walk;
 
 pub use graph::Graph;

@@ -8,9 +8,9 @@ ghost use Rattle.tcc_graph.specs.Places.{name_of};
 ghost use Rattle.tcc_graph.specs.private.ReadTables.{IsPlaced, ArePlaced};
 
 use crate::key_table::place_of;
-use crate::transaction::Transaction;
 use std::alloc::Global;
 use std::marker::Model;
+use tcc_reads::Transaction;
 use tcc_txn::{Name, NoMemory};
 
 /// What a transaction writes and reads: indices among the keys, those read each with its source.

@@ -20,7 +20,7 @@ pub fn explain_large(
     ensures { MatchResult result (IsLargeAnswer snapshot.now level) (IsRefusal snapshot.now) }
 {
     let resolved = resolve_large(alloc, snapshot)?;
-    let Ok(graph) = LargeGraph::build(alloc, &resolved) else {
+    let Ok(graph) = LargeGraph::build(alloc, resolved) else {
         return Err(ResolveFault::NoMemory);
     };
     match decide(alloc, &graph, level) {

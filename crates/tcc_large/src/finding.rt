@@ -104,13 +104,11 @@ fn against_sessions(
     graph: &LargeGraph,
     links: &[(u32, u32)],
 ) -> Result<Vec<(u32, u32)>, AllocError> {
-    let mut found = Vec::new(alloc);
-    for (from, to) in links {
-        if session(graph, *to, *from) {
-            found.push((*from, *to))?;
-        }
-    }
-    Ok(found)
+    let against = links
+        .iter()
+        .filter(|link| session(graph, link.1, link.0))
+        .copied();
+    against.collect(alloc)
 }
 
 /// Of these links those against a read.
@@ -119,13 +117,11 @@ fn against_reads(
     graph: &LargeGraph,
     links: &[(u32, u32)],
 ) -> Result<Vec<(u32, u32)>, AllocError> {
-    let mut found = Vec::new(alloc);
-    for (from, to) in links {
-        if !reads_from(graph, *to, *from).is_empty() {
-            found.push((*from, *to))?;
-        }
-    }
-    Ok(found)
+    let against = links
+        .iter()
+        .filter(|link| !reads_from(graph, link.1, link.0).is_empty())
+        .copied();
+    against.collect(alloc)
 }
 
 impl Finder {

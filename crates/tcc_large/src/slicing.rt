@@ -87,7 +87,7 @@ fn is_slice(
         Err(ResolveFault::NoMemory) => return Err(NoMemory),
         Err(ResolveFault::Reads(_)) => return Ok(false),
     };
-    let graph = Graph::build(alloc, &resolved)?;
+    let graph = Graph::build(alloc, resolved)?;
     let mut found = Vec::new(alloc);
     for link in links {
         found.push(moved_link(alloc, numbers, link)?)?;

@@ -31,7 +31,7 @@ fn graph_of(alloc: Global, snapshot: &LargeSnapshot) -> Result<Option<LargeGraph
         Err(ResolveFault::NoMemory) => return Err(NoMemory),
         Err(ResolveFault::Reads(_)) => return Ok(None),
     };
-    Ok(Some(LargeGraph::build(alloc, &resolved)?))
+    Ok(Some(LargeGraph::build(alloc, resolved)?))
 }
 
 /// The records of a slice of the snapshot, with the operations that the links of a cycle at the level need; none where it would

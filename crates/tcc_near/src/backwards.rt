@@ -166,7 +166,7 @@ fn next_session(
 }
 
 /// The transaction right before this one in its session, 0 where there is none.
-fn before_in_session(ends: &[u32], number: u32) -> u32
+fn previous(ends: &[u32], number: u32) -> u32
     requires some { 0 < number }
     requires below { number < length ends.now }
     ensures below { result < number }
@@ -228,7 +228,7 @@ fn rows_of_sessions(
         let run = runs[session].values();
         let row = row_of_head(alloc, graph, ends, readers, &rows, run, head)?;
         runs[session] = next_run(alloc, graph, run, row.values(), head)?;
-        heads[session] = before_in_session(ends, head);
+        heads[session] = previous(ends, head);
         rows[head as usize] = row;
     }
     Ok(rows)

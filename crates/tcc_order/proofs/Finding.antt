@@ -22,7 +22,7 @@ use Rattle.tcc_graph.specs.declared.link.Link.TheVariants as link
 use Rattle.tcc_graph.proofs.Pairs.{step_pair}
 use Rattle.tcc_graph.proofs.Linking.{link_route}
 use Rattle.tcc_graph.proofs.WriterLemmas.{writer_in, read_is_key}
-use Rattle.tcc_order.specs.private.Parents.{parents, session_parent, session_parents, sources}
+use Rattle.tcc_order.specs.private.Parents.{parents, previous, previous_one, sources}
 use Rattle.tcc_order.specs.private.Held.{holds}
 use Rattle.tcc_order.specs.private.Latest.{IsCovered, AreDerived, AreEnough, AreLinks, Derives, Overwrites, HasNone, LeadsOnward}
 use Rattle.tcc_order.specs.private.Numbering.{IsOrderOf, IsFirstOf, Joins, HasCircle}
@@ -37,14 +37,14 @@ holds_linked : (j : Judged) → IsBySession j.history.entries → (kept : List (
     → holds j.history kept b x ≡ true → IsLinked j b x
 holds_linked j numbered kept derived b x p = let w = holds_parts j.history kept b x p in go w.0 w.1 (Contains-append_cases (parents j.history x) (row_of kept x) b w.2)
   where
-    parent : b < count j.history → x < count j.history → Contains (session_parents j.history x) b ⊎ Contains (sources j.history x) b → IsLinked j b x
+    parent : b < count j.history → x < count j.history → Contains (previous_one j.history x) b ⊎ Contains (sources j.history x) b → IsLinked j b x
     parent from to (inl one) =
         let w = parent_one j.history x b one in
         has_link j (link.Session b x) (rw w.1 (parent_before j.history numbered x w.0 to))
     parent from to (inr one) = let w = source_reads j.history b x one in has_link j (link.Reads b x w.0) (from, to, w.1)
 
     go : b < count j.history → x < count j.history → Contains (parents j.history x) b ⊎ Contains (row_of kept x) b → IsLinked j b x
-    go from to (inl one) = parent from to (Contains-append_cases (session_parents j.history x) (sources j.history x) b one)
+    go from to (inl one) = parent from to (Contains-append_cases (previous_one j.history x) (sources j.history x) b one)
     go from to (inr one) = let w = derived x b one in (linked_by j b x).0 (inr w.2)
 
 route_of_joins : (j : Judged) (precedes : ℕ → ℕ → Bool) → ((a b : ℕ) → precedes a b ≡ true → IsLinked j a b) → (a b : ℕ) (between : List ℕ)
@@ -63,16 +63,16 @@ circle_cycle j numbered kept derived (a, between, p) =
 
 -- ---- an order by it keeps all pairs
 module _ (h : History) (numbered : IsBySession h.entries) (kept : List (List ℕ)) (order : List ℕ) (is : IsOrderOf (holds h kept) (count h) order) where
-  parent_first : (c : ℕ) → 0 < c → c < count h → Before order (session_parent h c) c
+  parent_first : (c : ℕ) → 0 < c → c < count h → Before order (previous h c) c
   parent_first c some low =
-      is.ordered (session_parent h c) c
-      (holds_there h kept (session_parent h c) c (omega (arith, low, parent_less h c some)) low
-      (Contains-append_left (parents h c) (row_of kept c) (session_parent h c)
-      (Contains-append_left (session_parents h c) (sources h c) (session_parent h c) (one_parent h c some))))
+      is.ordered (previous h c) c
+      (holds_there h kept (previous h c) c (omega (arith, low, parent_less h c some)) low
+      (Contains-append_left (parents h c) (row_of kept c) (previous h c)
+      (Contains-append_left (previous_one h c) (sources h c) (previous h c) (one_parent h c some))))
 
   session_first : (fuel a c : ℕ) → c < fuel → IsSessionPair h a c → Before order a c
   session_first zero a c less p = absurd (omega arith)
-  session_first (suc fuel) a c less p = go (λ up. session_first fuel a (session_parent h c) (omega (arith, less, parent_less h c some)) up) (nearest h numbered a c p)
+  session_first (suc fuel) a c less p = go (λ up. session_first fuel a (previous h c) (omega (arith, less, parent_less h c some)) up) (nearest h numbered a c p)
     where
       some : 0 < c
       some = omega (arith, session_rises h numbered a c p)
@@ -80,17 +80,17 @@ module _ (h : History) (numbered : IsBySession h.entries) (kept : List (List ℕ
       low : c < count h
       low = (session_ends h a c p).1
 
-      go : (IsSessionPair h a (session_parent h c) → Before order a (session_parent h c)) → (a ≡ session_parent h c) ⊎ IsSessionPair h a (session_parent h c)
+      go : (IsSessionPair h a (previous h c) → Before order a (previous h c)) → (a ≡ previous h c) ⊎ IsSessionPair h a (previous h c)
           → Before order a c
       go up (inl same) = rw same (parent_first c some low)
-      go up (inr before) = before_join (count h) order a (session_parent h c) c is.numbering (up before) (parent_first c some low)
+      go up (inr before) = before_join (count h) order a (previous h c) c is.numbering (up before) (parent_first c some low)
 
   pub pairs_first : LeadsOnward h order
   pairs_first a c (inl p) = session_first (suc c) a c (omega arith) p
   pairs_first a c (inr (x, p)) =
       is.ordered a c
       (holds_there h kept a c p.0 p.1
-      (Contains-append_left (parents h c) (row_of kept c) a (Contains-append_right (session_parents h c) (sources h c) a (reads_source h a c x p.2))))
+      (Contains-append_left (parents h c) (row_of kept c) a (Contains-append_right (previous_one h c) (sources h c) a (reads_source h a c x p.2))))
 
   walk_first : (a b : ℕ) (s : Step) (steps : List Step) → Leads h a b (s ∷ steps) → Before order a b
   walk_first a b s [] w = rw (← w.0, ← w.2) (pairs_first _ _ (step_pair h s w.1))

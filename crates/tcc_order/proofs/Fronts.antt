@@ -12,7 +12,7 @@ use Rattle.tcc_reads.specs.History.{History, count, entry_at}
 use Rattle.tcc_graph.specs.Keys.{keys, key_at}
 use Rattle.tcc_graph.specs.Tables.{row_of}
 use Rattle.tcc_bits.specs.Bits.{is_marked}
-use Rattle.tcc_order.specs.private.Parents.{AreSessionParents, parents, session_parent, session_parents, sources}
+use Rattle.tcc_order.specs.private.Parents.{ArePrevious, parents, previous, previous_one, sources}
 use Rattle.tcc_order.specs.private.Held.{befores, AreInside, holds, IsFreeBy}
 use Rattle.tcc_order.proofs.Greedy.{has, IsFree, IsBelow, place_of, has_at}
 use Rattle.tcc_order.proofs.Reaching.{parent_or_init, parent_less, one_parent, parent_one, in_map, from_map}
@@ -36,7 +36,7 @@ pub holds_below : (h : History) (kept : List (List ℕ)) → IsBelow (holds h ke
 holds_below h kept b x p = let w = holds_parts h kept b x p in (w.0, w.1)
 
 -- where nothing is missing, all that holds x back was placed
-module _ (h : History) (ps : List ℕ) (are : AreSessionParents h ps) (kept : List (List ℕ)) (placed : List ℕ) (x : ℕ) (low : x < count h) (reads : List (ℕ × ℕ))
+module _ (h : History) (ps : List ℕ) (are : ArePrevious h ps) (kept : List (List ℕ)) (placed : List ℕ) (x : ℕ) (low : x < count h) (reads : List (ℕ × ℕ))
     (read : map (λ read. (key_at h read.0, read.1)) reads ≡ (entry_at h x).reads) where
   read_source : (k : ℕ) → k < length reads → Contains (sources h x) (get_or reads k (0, 0)).1
   read_source k l =
@@ -55,12 +55,12 @@ module _ (h : History) (ps : List ℕ) (are : AreSessionParents h ps) (kept : Li
       → is_marked placed b ≡ true
   none_missing parent source link b p = go (Contains-append_cases (parents h x) (row_of kept x) b (holds_parts h kept b x p).2)
     where
-      before : Contains (session_parents h x) b ⊎ Contains (sources h x) b → is_marked placed b ≡ true
+      before : Contains (previous_one h x) b ⊎ Contains (sources h x) b → is_marked placed b ≡ true
       before (inl one) = let w = parent_one h x b one in rw (w.1, ← are.each x w.0 low) (parent w.0)
       before (inr one) = let w = source_read b one in rw (← w.2) (source w.0 w.1)
 
       go : Contains (parents h x) b ⊎ Contains (row_of kept x) b → is_marked placed b ≡ true
-      go (inl one) = before (Contains-append_cases (session_parents h x) (sources h x) b one)
+      go (inl one) = before (Contains-append_cases (previous_one h x) (sources h x) b one)
       go (inr (k, l, e)) = rw (← (get_or_default (row_of kept x) k 0 b l ∙ e)) (link k l)
 
   pub source_missing : All (λ read. (read.0 < length (keys h)) × (read.1 < count h)) reads → (b : ℕ) → Contains (map (λ read. read.1) reads) b
@@ -71,17 +71,17 @@ module _ (h : History) (ps : List ℕ) (are : AreSessionParents h ps) (kept : Li
       let bound : b < count h = subst (λ (z : ℕ). z < count h) at (within w.1.0 (0, 0) w.1.1).1 in
       holds_there h kept b x bound low
       (Contains-append_left (parents h x) (row_of kept x) b
-      (Contains-append_right (session_parents h x) (sources h x) b
+      (Contains-append_right (previous_one h x) (sources h x) b
       (subst (λ (z : ℕ). Contains (sources h x) z) at (read_source w.1.0 w.1.1))))
 
 -- and what is missing does hold it back
-module _ (h : History) (ps : List ℕ) (are : AreSessionParents h ps) (kept : List (List ℕ)) (x : ℕ) (low : x < count h) where
+module _ (h : History) (ps : List ℕ) (are : ArePrevious h ps) (kept : List (List ℕ)) (x : ℕ) (low : x < count h) where
   pub parent_missing : (b : ℕ) → 0 < x → b ≡ slice_index ps x → holds h kept b x ≡ true
   parent_missing b some is =
-      let at : b ≡ session_parent h x = is ∙ are.each x some low in
-      rw at (holds_there h kept (session_parent h x) x (omega (arith, low, some, parent_less h x some)) low
-      (Contains-append_left (parents h x) (row_of kept x) (session_parent h x)
-      (Contains-append_left (session_parents h x) (sources h x) (session_parent h x) (one_parent h x some))))
+      let at : b ≡ previous h x = is ∙ are.each x some low in
+      rw at (holds_there h kept (previous h x) x (omega (arith, low, some, parent_less h x some)) low
+      (Contains-append_left (parents h x) (row_of kept x) (previous h x)
+      (Contains-append_left (previous_one h x) (sources h x) (previous h x) (one_parent h x some))))
 
   pub link_missing : AreInside h kept → (b : ℕ) → Contains (row_of kept x) b → holds h kept b x ≡ true
   link_missing inside b there = holds_there h kept b x (inside x b there) low (Contains-append_right (parents h x) (row_of kept x) b there)
@@ -109,14 +109,14 @@ pub record AreParentsBy (precedes : ℕ → ℕ → Bool) (n : ℕ) (parents : L
   pub near : (x : ℕ) → x < n → (slice_index parents x ≡ 0) ⊎ (slice_index parents x + 1 ≡ x)
   pub held : (x : ℕ) → x < n → slice_index parents x ≢ 0 → precedes (slice_index parents x) x ≡ true
 
-pub session_fronts : (h : History) (kept : List (List ℕ)) (ps : List ℕ) → AreSessionParents h ps → AreParentsBy (holds h kept) (count h) ps
+pub session_fronts : (h : History) (kept : List (List ℕ)) (ps : List ℕ) → ArePrevious h ps → AreParentsBy (holds h kept) (count h) ps
 session_fronts h kept ps are = record {
   long = are.long;
-  near = λ x l. near x l (cases_eq x 0) (cases_eq (session_parent h x) 0);
+  near = λ x l. near x l (cases_eq x 0) (cases_eq (previous h x) 0);
   held = λ x l some. held x l some (cases_eq x 0);
 }
   where
-    near : (x : ℕ) → x < count h → (x ≡ 0) ⊎ (x ≢ 0) → (session_parent h x ≡ 0) ⊎ (session_parent h x ≢ 0) → (slice_index ps x ≡ 0) ⊎ (slice_index ps x + 1 ≡ x)
+    near : (x : ℕ) → x < count h → (x ≡ 0) ⊎ (x ≢ 0) → (previous h x ≡ 0) ⊎ (previous h x ≢ 0) → (slice_index ps x ≡ 0) ⊎ (slice_index ps x + 1 ≡ x)
     near x l (inl first) kind = inl (rw first are.init)
     near x l (inr other) (inl none) = inl (are.each x (omega arith) l ∙ none)
     near x l (inr other) (inr some) = inr (omega (arith, are.each x (omega arith) l, parent_or_init h x some))
@@ -124,11 +124,11 @@ session_fronts h kept ps are = record {
     held : (x : ℕ) → x < count h → slice_index ps x ≢ 0 → (x ≡ 0) ⊎ (x ≢ 0) → holds h kept (slice_index ps x) x ≡ true
     held x l some (inl first) = absurd (some (rw first are.init))
     held x l some (inr other) =
-        let is : slice_index ps x ≡ session_parent h x = are.each x (omega arith) l in
-        let apart : session_parent h x ≢ 0 = λ e. some (is ∙ e) in
-        rw is (holds_there h kept (session_parent h x) x (omega (arith, l, parent_or_init h x apart)) l
-        (Contains-append_left (parents h x) (row_of kept x) (session_parent h x)
-        (Contains-append_left (session_parents h x) (sources h x) (session_parent h x) (one_parent h x (omega arith)))))
+        let is : slice_index ps x ≡ previous h x = are.each x (omega arith) l in
+        let apart : previous h x ≢ 0 = λ e. some (is ∙ e) in
+        rw is (holds_there h kept (previous h x) x (omega (arith, l, parent_or_init h x apart)) l
+        (Contains-append_left (parents h x) (row_of kept x) (previous h x)
+        (Contains-append_left (previous_one h x) (sources h x) (previous h x) (one_parent h x (omega arith)))))
 
 -- ---- what is missing
 pub option_same : (found : Option ℕ) (A B : Type 0) (P Q : ℕ → Type 0) → (A → B) → ((b : ℕ) → P b → Q b) → MatchOption found A P → MatchOption found B Q

@@ -36,7 +36,7 @@ taken_before order k p is inside (i, j, less, within, at_p, at_c) =
 
 -- ---- one session
 -- others are meant, of which each is one of these and the other way round
-one_same : (h : History) (P Q : ℕ → Type 0) (session b : ℕ) → (P b → Q b) → IsOneOf h P session b → IsOneOf h Q session b
+pub one_same : (h : History) (P Q : ℕ → Type 0) (session b : ℕ) → (P b → Q b) → IsOneOf h P session b → IsOneOf h Q session b
 one_same h P Q session b to is = record { committed = is.committed; below = is.below; owned = is.owned; meant = to is.meant }
 
 last_same : (h : History) (P Q : ℕ → Type 0) (session last : ℕ) → ((b : ℕ) → P b ↔ Q b) → IsLastOf h P session last → IsLastOf h Q session last
@@ -113,6 +113,22 @@ lasts_none h row n numbers is long = rw is record {
   each = λ s of. record { attained = inl (get_or-replicate n s 0 0 (omega arith)); greatest = λ b one. absurd (nothing_in one.meant.0 one.meant.1) };
 }
 
+-- what one more transaction is, and what reaches it
+pub up_to_more : (h : History) (numbers : List ℕ) (k p : ℕ) → k < length numbers → get_or numbers k 0 ≡ p → (b : ℕ)
+    → ((IsUpTo h (Contains (take k numbers)) b ⊎ IsReached h b p) ⊎ (b ≡ p)) ↔ IsUpTo h (Contains (take (k + 1) numbers)) b
+up_to_more h numbers k p inside here b = (there, λ w. by w.0 w.2 (one_of_taken numbers k inside w.0 w.1))
+  where
+    there : (IsUpTo h (Contains (take k numbers)) b ⊎ IsReached h b p) ⊎ (b ≡ p) → IsUpTo h (Contains (take (k + 1) numbers)) b
+    there (inl (inl (q, taken, way))) = (q, still_taken numbers k inside q taken, way)
+    there (inl (inr reached)) = (p, rw (← here) (last_taken numbers k inside), inr reached)
+    there (inr same) = (p, rw (← here) (last_taken numbers k inside), inl same)
+
+    by : (q : ℕ) → (b ≡ q) ⊎ IsReached h b q → Contains (take k numbers) q ⊎ (get_or numbers k 0 ≡ q)
+        → (IsUpTo h (Contains (take k numbers)) b ⊎ IsReached h b p) ⊎ (b ≡ p)
+    by q way (inl taken) = inl (inl (q, taken, way))
+    by q (inl same) (inr is) = inr (same ∙ (sym is ∙ here))
+    by q (inr reached) (inr is) = let at : q ≡ p = sym is ∙ here in inl (inr (rw at at reached))
+
 -- one more transaction, and what reaches it
 pub lasts_more : (h : History) (numbers : List ℕ) (k p : ℕ) (old mid new other : List ℕ) → k < length numbers → get_or numbers k 0 ≡ p → p < count h
     → AreLastsOf h (IsUpTo h (Contains (take k numbers))) old → AreLastsOf h (IsBefore h p) other
@@ -122,7 +138,7 @@ pub lasts_more : (h : History) (numbers : List ℕ) (k p : ℕ) (old mid new oth
 lasts_more h numbers k p old mid new other inside here below are before long_mid each_mid long_new each_new = record {
   long = long_new ∙ (long_mid ∙ are.long);
   each = λ s of. last_same h (λ b. (IsUpTo h (Contains (take k numbers)) b ⊎ IsReached h b p) ⊎ (b ≡ p)) (IsUpTo h (Contains (take (k + 1) numbers))) s
-      (slice_index new s) both (step s of);
+      (slice_index new s) (up_to_more h numbers k p inside here) (step s of);
 }
   where
     step : (s : ℕ) → s < length h.sessions → IsLastOf h (λ b. (IsUpTo h (Contains (take k numbers)) b ⊎ IsReached h b p) ⊎ (b ≡ p)) s (slice_index new s)
@@ -130,20 +146,6 @@ lasts_more h numbers k p old mid new other inside here below are before long_mid
         rw (each_new s (omega (arith, are.long)), each_mid s (omega (arith, are.long)))
         (last_one h (λ b. IsUpTo h (Contains (take k numbers)) b ⊎ IsReached h b p) s p (max (slice_index other s) (slice_index old s)) below
         (last_both h (IsBefore h p) (IsUpTo h (Contains (take k numbers))) s (slice_index other s) (slice_index old s) (before.each s of) (are.each s of)))
-
-    there : (b : ℕ) → (IsUpTo h (Contains (take k numbers)) b ⊎ IsReached h b p) ⊎ (b ≡ p) → IsUpTo h (Contains (take (k + 1) numbers)) b
-    there b (inl (inl (q, taken, way))) = (q, still_taken numbers k inside q taken, way)
-    there b (inl (inr reached)) = (p, rw (← here) (last_taken numbers k inside), inr reached)
-    there b (inr same) = (p, rw (← here) (last_taken numbers k inside), inl same)
-
-    by : (b q : ℕ) → (b ≡ q) ⊎ IsReached h b q → Contains (take k numbers) q ⊎ (get_or numbers k 0 ≡ q)
-        → (IsUpTo h (Contains (take k numbers)) b ⊎ IsReached h b p) ⊎ (b ≡ p)
-    by b q way (inl taken) = inl (inl (q, taken, way))
-    by b q (inl same) (inr is) = inr (same ∙ (sym is ∙ here))
-    by b q (inr reached) (inr is) = let at : q ≡ p = sym is ∙ here in inl (inr (rw at at reached))
-
-    both : (b : ℕ) → ((IsUpTo h (Contains (take k numbers)) b ⊎ IsReached h b p) ⊎ (b ≡ p)) ↔ IsUpTo h (Contains (take (k + 1) numbers)) b
-    both b = (there b, λ w. by b w.0 w.2 (one_of_taken numbers k inside w.0 w.1))
 
 -- what reaches c is what its parents are, and what reaches them
 pub up_to_parents : (h : History) → IsBySession h.entries → (c : ℕ) → c < count h → HasSourcesAt h c → (b : ℕ)

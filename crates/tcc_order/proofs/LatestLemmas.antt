@@ -15,17 +15,14 @@ use Rattle.tcc_graph.specs.Tables.{row_of}
 use Rattle.tcc_graph.proofs.Numberings.{below_in}
 use Rattle.tcc_graph.proofs.Pairs.{pair_below}
 use Rattle.tcc_bits.proofs.Lists.{one_of_taken, still_taken, last_taken, nothing_in}
-use Rattle.tcc_order.specs.private.Parents.{HasSourcesAt, parents, sources, session_parent, session_parents}
+use Rattle.tcc_order.specs.private.Parents.{HasSourcesAt, parents, sources, previous, previous_one}
 use Rattle.tcc_order.specs.private.Lasts.{IsOneOf, IsBefore, IsUpTo}
 use Rattle.tcc_order.specs.private.Latest.{AreOwners, IsLatestOf, AreLatestOf, HasLatest, AreClocks, IsLike, LeadsOnward, lifted}
 use Rattle.tcc_order.specs.declared.latest.TheConstants.{WIDE}
 use Rattle.tcc_order.proofs.Reaching.{parent_pair}
-use Rattle.tcc_order.proofs.LastLemmas.{up_to_parents, taken_before}
+use Rattle.tcc_order.proofs.LastLemmas.{one_same, up_to_more, up_to_parents, taken_before}
 
 -- ---- one session
-one_same : (h : History) (P Q : ℕ → Type 0) (session b : ℕ) → (P b → Q b) → IsOneOf h P session b → IsOneOf h Q session b
-one_same h P Q session b to is = record { committed = is.committed; below = is.below; owned = is.owned; meant = to is.meant }
-
 -- others are meant, which in the session are the same
 pub latest_same : (h : History) (P Q : ℕ → Type 0) (session latest : ℕ) → ((b : ℕ) → 0 < b → b < count h → owner h b ≡ session → P b ↔ Q b)
     → IsLatestOf h P session latest → IsLatestOf h Q session latest
@@ -118,7 +115,7 @@ pub latest_more : (h : History) (owners : List ℕ) → AreOwners h owners → (
 latest_more h owners known from numbers i p old mid new other inside here below are before long_mid each_mid long_new each_new = record {
   wide = long_new ∙ (long_mid ∙ are.wide);
   each = λ k l. latest_same h (λ b. (IsUpTo h (Contains (take i numbers)) b ⊎ IsReached h b p) ⊎ (b ≡ p)) (IsUpTo h (Contains (take (i + 1) numbers))) (from + k)
-      (slice_index new k) (λ b some small owned. both b) (step k l);
+      (slice_index new k) (λ b some small owned. up_to_more h numbers i p inside here b) (step k l);
 }
   where
     step : (k : ℕ) → k < WIDE → IsLatestOf h (λ b. (IsUpTo h (Contains (take i numbers)) b ⊎ IsReached h b p) ⊎ (b ≡ p)) (from + k) (slice_index new k)
@@ -126,20 +123,6 @@ latest_more h owners known from numbers i p old mid new other inside here below 
         rw (each_new k (omega (arith, long_mid, are.wide)), each_mid k (omega (arith, are.wide)))
         (latest_one h owners known (λ b. IsUpTo h (Contains (take i numbers)) b ⊎ IsReached h b p) from k p (max (slice_index other k) (slice_index old k)) below
         (latest_both h (IsBefore h p) (IsUpTo h (Contains (take i numbers))) (from + k) (slice_index other k) (slice_index old k) (before.each k l) (are.each k l)))
-
-    there : (b : ℕ) → (IsUpTo h (Contains (take i numbers)) b ⊎ IsReached h b p) ⊎ (b ≡ p) → IsUpTo h (Contains (take (i + 1) numbers)) b
-    there b (inl (inl (q, taken, way))) = (q, still_taken numbers i inside q taken, way)
-    there b (inl (inr reached)) = (p, rw (← here) (last_taken numbers i inside), inr reached)
-    there b (inr same) = (p, rw (← here) (last_taken numbers i inside), inl same)
-
-    by : (b q : ℕ) → (b ≡ q) ⊎ IsReached h b q → Contains (take i numbers) q ⊎ (get_or numbers i 0 ≡ q)
-        → (IsUpTo h (Contains (take i numbers)) b ⊎ IsReached h b p) ⊎ (b ≡ p)
-    by b q way (inl taken) = inl (inl (q, taken, way))
-    by b q (inl same) (inr is) = inr (same ∙ (sym is ∙ here))
-    by b q (inr reached) (inr is) = let at : q ≡ p = sym is ∙ here in inl (inr (rw at at reached))
-
-    both : (b : ℕ) → ((IsUpTo h (Contains (take i numbers)) b ⊎ IsReached h b p) ⊎ (b ≡ p)) ↔ IsUpTo h (Contains (take (i + 1) numbers)) b
-    both b = (there b, λ w. by b w.0 w.2 (one_of_taken numbers i inside w.0 w.1))
 
 -- what holds of each number so far, and of one more
 pub each_more : (P : ℕ → Type 0) (xs : List ℕ) (n : ℕ) → ((k : ℕ) → k < n → P (slice_index xs k)) → P (slice_index xs n) → (k : ℕ) → k < n + 1
@@ -259,8 +242,8 @@ sources_inside h c reads value within =
     (All-map (λ (read : List ℕ × ℕ). read.1 < count h) (λ (read : ℕ × ℕ). (key_at h read.0, read.1)) reads
     (All-weaker (λ (read : ℕ × ℕ). (read.0 < length (keys h)) × (read.1 < count h)) (λ read. read.1 < count h) (λ read w. w.1) reads within))
 
-pub session_some : (h : History) (c : ℕ) → 0 < c → session_parents h c ≡ session_parent h c ∷ []
+pub session_some : (h : History) (c : ℕ) → 0 < c → previous_one h c ≡ previous h c ∷ []
 session_some h c some = let other : c ≢ 0 = omega arith in rw (ne_eqb c 0 other) refl
 
-pub session_none : (h : History) (c : ℕ) → c ≡ 0 → session_parents h c ≡ []
+pub session_none : (h : History) (c : ℕ) → c ≡ 0 → previous_one h c ≡ []
 session_none h c none = rw (eq-eqb c 0 none) refl

@@ -13,7 +13,7 @@ use Rattle.tcc_graph.specs.declared.step.Step.{Step}
 use Rattle.tcc_graph.proofs.Pairs.{step_pair}
 use Rattle.tcc_graph.proofs.Walking.{pair_walk, walk_on}
 use Rattle.tcc_reads.specs.History.{IsBySession}
-use Rattle.tcc_order.specs.private.Parents.{session_parent, session_parents, sources, HasSourcesAt, parents}
+use Rattle.tcc_order.specs.private.Parents.{previous, previous_one, sources, HasSourcesAt, parents}
 
 -- ---- session pairs
 -- of one session, and in their order there
@@ -85,7 +85,7 @@ module _ (h : History) (numbered : IsBySession h.entries) where
       ((w.0, some, one, (numbered a (c - 1) less (omega arith)).1 one), (some, w.1, two, (numbered (c - 1) c (omega (arith, w.1)) below).1 two))
 
   -- what stands before c in its session is the one right before it, or stands before that one
-  pub nearest : (a c : ℕ) → IsSessionPair h a c → (a ≡ session_parent h c) ⊎ IsSessionPair h a (session_parent h c)
+  pub nearest : (a c : ℕ) → IsSessionPair h a c → (a ≡ previous h c) ⊎ IsSessionPair h a (previous h c)
   nearest a c p = go (cases_Bool (session_pair h (c - 1) c)) (session_kinds h a c p)
     where
       below : c < count h
@@ -106,15 +106,15 @@ module _ (h : History) (numbered : IsBySession h.entries) where
       alone miss one (inr other) = false≢true (sym miss ∙ session_from h (c - 1) c (omega (arith, below)) below (between a c one (omega (arith, less)) below).1)
 
       go : (session_pair h (c - 1) c ≡ true) ⊎ (session_pair h (c - 1) c ≡ false) → ((a ≡ 0) × (0 < c)) ⊎ IsInSession h a c
-          → (a ≡ session_parent h c) ⊎ IsSessionPair h a (session_parent h c)
+          → (a ≡ previous h c) ⊎ IsSessionPair h a (previous h c)
       go (inl yes_pair) kind = rw yes_pair (after kind (cases_eq a (c - 1)))
       go (inr miss) (inl first) = rw miss (inl first.0)
       go (inr miss) (inr one) = absurd (alone miss one (cases_eq a (c - 1)))
 
-  pub parent_before : (c : ℕ) → 0 < c → c < count h → IsSessionPair h (session_parent h c) c
+  pub parent_before : (c : ℕ) → 0 < c → c < count h → IsSessionPair h (previous h c) c
   parent_before c some below = go (cases_Bool (session_pair h (c - 1) c))
     where
-      go : (session_pair h (c - 1) c ≡ true) ⊎ (session_pair h (c - 1) c ≡ false) → IsSessionPair h (session_parent h c) c
+      go : (session_pair h (c - 1) c ≡ true) ⊎ (session_pair h (c - 1) c ≡ false) → IsSessionPair h (previous h c) c
       go (inl pair) = rw pair pair
       go (inr not_pair) = rw not_pair (session_init h c some below)
 
@@ -133,35 +133,35 @@ module _ (h : History) (numbered : IsBySession h.entries) where
       go (inr one) (inr two) = session_from h a c from to (one.0, two.1, one.2 ∙ two.2, omega (arith, one.3, two.3))
 
   -- the session pairs into c, by those into the one right before it
-  pub session_more : (b c : ℕ) → 0 < c → c < count h → IsSessionPair h b c ↔ (IsSessionPair h b (session_parent h c) ⊎ (b ≡ session_parent h c))
+  pub session_more : (b c : ℕ) → 0 < c → c < count h → IsSessionPair h b c ↔ (IsSessionPair h b (previous h c) ⊎ (b ≡ previous h c))
   session_more b c some below = (there, back)
     where
-      swap : (b ≡ session_parent h c) ⊎ IsSessionPair h b (session_parent h c) → IsSessionPair h b (session_parent h c) ⊎ (b ≡ session_parent h c)
+      swap : (b ≡ previous h c) ⊎ IsSessionPair h b (previous h c) → IsSessionPair h b (previous h c) ⊎ (b ≡ previous h c)
       swap (inl x) = inr x
       swap (inr x) = inl x
 
-      there : IsSessionPair h b c → IsSessionPair h b (session_parent h c) ⊎ (b ≡ session_parent h c)
+      there : IsSessionPair h b c → IsSessionPair h b (previous h c) ⊎ (b ≡ previous h c)
       there p = swap (nearest b c p)
 
-      back : IsSessionPair h b (session_parent h c) ⊎ (b ≡ session_parent h c) → IsSessionPair h b c
-      back (inl p) = session_join b (session_parent h c) c p (parent_before c some below)
+      back : IsSessionPair h b (previous h c) ⊎ (b ≡ previous h c) → IsSessionPair h b c
+      back (inl p) = session_join b (previous h c) c p (parent_before c some below)
       back (inr same) = subst (λ (x : ℕ). IsSessionPair h x c) (sym same) (parent_before c some below)
 
 -- but for `init`, the parent is the number before
-pub parent_or_init : (h : History) (c : ℕ) → session_parent h c ≢ 0 → session_parent h c ≡ c - 1
+pub parent_or_init : (h : History) (c : ℕ) → previous h c ≢ 0 → previous h c ≡ c - 1
 parent_or_init h c other = go (cases_Bool (session_pair h (c - 1) c))
   where
-    init : session_pair h (c - 1) c ≡ false → session_parent h c ≡ 0
+    init : session_pair h (c - 1) c ≡ false → previous h c ≡ 0
     init miss = rw miss refl
 
-    go : (session_pair h (c - 1) c ≡ true) ⊎ (session_pair h (c - 1) c ≡ false) → session_parent h c ≡ c - 1
+    go : (session_pair h (c - 1) c ≡ true) ⊎ (session_pair h (c - 1) c ≡ false) → previous h c ≡ c - 1
     go (inl pair) = rw pair refl
     go (inr miss) = absurd (other (init miss))
 
-pub parent_less : (h : History) (c : ℕ) → 0 < c → session_parent h c < c
+pub parent_less : (h : History) (c : ℕ) → 0 < c → previous h c < c
 parent_less h c some = go (cases_Bool (session_pair h (c - 1) c))
   where
-    go : (session_pair h (c - 1) c ≡ true) ⊎ (session_pair h (c - 1) c ≡ false) → session_parent h c < c
+    go : (session_pair h (c - 1) c ≡ true) ⊎ (session_pair h (c - 1) c ≡ false) → previous h c < c
     go (inl pair) = rw pair (omega arith)
     go (inr miss) = rw miss (omega arith)
 
@@ -208,44 +208,44 @@ pairs_into h b c below all = (there, back)
     back (inr s) = let w = source_reads h b c s in inr (w.0, (source_below h b c all s, below, w.1))
 
 -- ---- parents
-pub parent_one : (h : History) (c p : ℕ) → Contains (session_parents h c) p → (0 < c) × (p ≡ session_parent h c)
+pub parent_one : (h : History) (c p : ℕ) → Contains (previous_one h c) p → (0 < c) × (p ≡ previous h c)
 parent_one h c p there = go (cases_eq c 0)
   where
-    alone : Contains (session_parent h c ∷ []) p → p ≡ session_parent h c
+    alone : Contains (previous h c ∷ []) p → p ≡ previous h c
     alone (zero, l, e) = sym e
     alone (suc k, l, e) = absurd (omega arith)
 
     nobody : Contains {X = ℕ} [] p → ⊥
     nobody (k, l, e) = omega arith
 
-    go : (c ≡ 0) ⊎ (c ≢ 0) → (0 < c) × (p ≡ session_parent h c)
+    go : (c ≡ 0) ⊎ (c ≢ 0) → (0 < c) × (p ≡ previous h c)
     go (inl same) = absurd (nobody (rw (eq-eqb c 0 same) at there))
     go (inr other) = (omega arith, alone (rw (ne_eqb c 0 other) at there))
 
-pub one_parent : (h : History) (c : ℕ) → 0 < c → Contains (session_parents h c) (session_parent h c)
+pub one_parent : (h : History) (c : ℕ) → 0 < c → Contains (previous_one h c) (previous h c)
 one_parent h c some =
     let other : c ≢ 0 = omega arith in
     rw (ne_eqb c 0 other) (0, omega arith, refl)
 
 module _ (h : History) (numbered : IsBySession h.entries) (c : ℕ) (below : c < count h) (all : HasSourcesAt h c) where
   pub parent_pair : (p : ℕ) → Contains (parents h c) p → IsCausalPair h p c
-  parent_pair p there = go (Contains-append_cases (session_parents h c) (sources h c) p there)
+  parent_pair p there = go (Contains-append_cases (previous_one h c) (sources h c) p there)
     where
-      go : Contains (session_parents h c) p ⊎ Contains (sources h c) p → IsCausalPair h p c
+      go : Contains (previous_one h c) p ⊎ Contains (sources h c) p → IsCausalPair h p c
       go (inl one) = let w = parent_one h c p one in inl (rw w.1 (parent_before h numbered c w.0 below))
       go (inr s) = (pairs_into h p c below all).1 (inr s)
 
   pub parents_all : (a : ℕ) → IsCausalPair h a c → Contains (parents h c) a ⊎ ((p : ℕ) × Contains (parents h c) p × IsCausalPair h a p)
-  parents_all a (inr (x, p)) = inl (Contains-append_right (session_parents h c) (sources h c) a (reads_source h a c x p.2))
+  parents_all a (inr (x, p)) = inl (Contains-append_right (previous_one h c) (sources h c) a (reads_source h a c x p.2))
   parents_all a (inl p) = go (nearest h numbered a c p)
     where
-      mine : Contains (parents h c) (session_parent h c)
-      mine = Contains-append_left (session_parents h c) (sources h c) (session_parent h c) (one_parent h c (omega (arith, session_rises h numbered a c p)))
+      mine : Contains (parents h c) (previous h c)
+      mine = Contains-append_left (previous_one h c) (sources h c) (previous h c) (one_parent h c (omega (arith, session_rises h numbered a c p)))
 
-      go : (a ≡ session_parent h c) ⊎ IsSessionPair h a (session_parent h c)
+      go : (a ≡ previous h c) ⊎ IsSessionPair h a (previous h c)
           → Contains (parents h c) a ⊎ ((p : ℕ) × Contains (parents h c) p × IsCausalPair h a p)
       go (inl same) = inl (rw same mine)
-      go (inr before) = inr (session_parent h c, mine, inl before)
+      go (inr before) = inr (previous h c, mine, inl before)
 
 -- ---- walks by their last pair
 pub last_pair : (h : History) (b c : ℕ) (walk : List Step) → IsWalk h b c walk → IsCausalPair h b c ⊎ ((u : ℕ) × IsReached h b u × IsCausalPair h u c)

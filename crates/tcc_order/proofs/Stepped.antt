@@ -19,7 +19,7 @@ use Rattle.tcc_graph.proofs.Pairs.{step_pair, pair_below, pair_parts}
 use Rattle.tcc_graph.proofs.Walking.{pair_walk}
 use Rattle.tcc_graph.proofs.WriterLemmas.{writer_writes, writer_in, writers_below}
 use Rattle.tcc_bits.proofs.Lists.{one_of_taken, still_taken, last_taken, nothing_in}
-use Rattle.tcc_order.specs.private.Parents.{HasSourcesAt, parents, session_parents, sources}
+use Rattle.tcc_order.specs.private.Parents.{HasSourcesAt, parents, previous_one, sources}
 use Rattle.tcc_order.specs.private.Latest.{AreOwners, IsLiftable, IsLifted, IsCovered, AreLinks, HasNone, Derives}
 use Rattle.tcc_order.specs.private.Stepping.{IsOther, StepsOver, KeepsRead, AreStepped, IsReadSoFar}
 use Rattle.tcc_order.proofs.Needing.{same_session, covered_wider}
@@ -105,7 +105,7 @@ module _ (h : History) (numbered : IsBySession h.entries) (c : ℕ) (low : c < c
         b,
         inl refl,
         (now b).1 (inr (
-          Contains-append_right (session_parents h c) (sources h c) b (reads_source h b c y p.2),
+          Contains-append_right (previous_one h c) (sources h c) b (reads_source h b c y p.2),
           (w.some, w.apart, writer_writes h (key_at h key) b w.writer),
         )),
       )

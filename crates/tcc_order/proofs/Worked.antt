@@ -9,7 +9,7 @@ use Rattle.tcc_graph.specs.Links.{IsReason}
 use Rattle.tcc_graph.specs.Orders.{IsCommitOrder}
 use Rattle.tcc_graph.specs.declared.step.Step.TheVariants as step
 use Rattle.tcc_order.specs.private.Numbering.{Joins, HasCircle}
-use Rattle.tcc_order.specs.private.Parents.{session_parent, parents}
+use Rattle.tcc_order.specs.private.Parents.{previous, parents}
 use Rattle.tcc_order.specs.private.Held.{holds}
 use Rattle.tcc_order.specs.private.Stepping.{StepsOver}
 use Rattle.tcc_order.proofs.Reached.{walks}
@@ -111,5 +111,5 @@ later_writer-parents : (parents later_writer 3 ≡ 0 ∷ 1 ∷ 2 ∷ []) × (par
 later_writer-parents = (refl, refl, refl)
 
 -- in one session the one right before: of a/2 that is a/1
-stale_read-parent : session_parent stale_read 2 ≡ 1
+stale_read-parent : previous stale_read 2 ≡ 1
 stale_read-parent = refl

@@ -8,7 +8,7 @@ ghost use Rattle.tcc_graph.specs.Levels.{causally};
 ghost use Rattle.tcc_graph.specs.Keys.{keys};
 ghost use Rattle.tcc_graph.specs.Tables.{row_of};
 ghost use Rattle.tcc_graph.specs.Orders.{IsNumbering};
-ghost use Rattle.tcc_order.specs.private.Parents.{AreSessionParents};
+ghost use Rattle.tcc_order.specs.private.Parents.{ArePrevious};
 ghost use Rattle.tcc_order.specs.private.Latest.{AreOrdered, IsClock, IsLastUpTo, IsLastBut, IsCountBelow, AreLatestPast, TellsNothing, IsSpan, AreSpans, AreBounds};
 ghost use Rattle.tcc_order.specs.declared.latest.TheConstants.{WIDE};
 ghost use Rattle.std.specs.List.Sorted.{IsNonDecreasing, IsPartitionPoint};
@@ -311,7 +311,7 @@ pub(crate) fn causal_links(
     parents: &[u32],
     order: &[u32],
 ) -> Result<Vec<Row<u32>>, NoMemory>
-    requires parents { AreSessionParents graph.now parents.now }
+    requires parents { ArePrevious graph.now parents.now }
     requires numbering { IsNumbering (count graph.now) order.now }
     requires onward { LeadsOnward graph.now order.now }
     ensures { IfOk result (λ kept. AreLinks (causally graph.now) kept.items) }

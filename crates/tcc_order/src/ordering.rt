@@ -5,11 +5,11 @@ ghost use Rattle.tcc_graph.specs.Orders.{IsFirstOrder};
 ghost use Rattle.tcc_graph.specs.Routes.{HasCycle};
 ghost use Rattle.tcc_graph.specs.Levels.{causally, judged};
 ghost use Rattle.tcc_graph.specs.declared.level.Level.{Level};
-ghost use Rattle.tcc_order.specs.private.Parents.{AreSessionParents};
+ghost use Rattle.tcc_order.specs.private.Parents.{ArePrevious};
 ghost use Rattle.tcc_order.specs.private.Latest.{AreLinks};
 
 use crate::keeping::{causal_links, no_links};
-use crate::parents::session_parents;
+use crate::parents::previous_of_each;
 use crate::placing::first_placing;
 use crate::stepping::atomic_links;
 use std::alloc::Global;
@@ -24,7 +24,7 @@ fn links_by_clocks(
     parents: &[u32],
 ) -> Result<Option<Vec<Row<u32>>>, NoMemory>
     requires numbered { IsBySession graph.now.entries }
-    requires parents { AreSessionParents graph.now parents.now }
+    requires parents { ArePrevious graph.now parents.now }
     ensures { IfOk result (λ found. MatchOption found (HasCycle (causally graph.now)) (λ kept. AreLinks (causally graph.now) kept.items)) }
 {
     let none = no_links(alloc, graph.count())?;
@@ -42,7 +42,7 @@ fn links_kept(
     parents: &[u32],
 ) -> Result<Option<Vec<Row<u32>>>, NoMemory>
     requires numbered { IsBySession graph.now.entries }
-    requires parents { AreSessionParents graph.now parents.now }
+    requires parents { ArePrevious graph.now parents.now }
     ensures { IfOk result (λ found. MatchOption found
         (HasCycle (judged graph.now level))
         (λ kept. AreLinks (judged graph.now level) kept.items)) }
@@ -61,7 +61,7 @@ pub fn order(alloc: Global, graph: &LargeGraph, level: Level) -> Result<Option<V
 {
     // transactions stand by session and by place, as this call says
     graph.sessions();
-    let parents = session_parents(alloc, graph)?;
+    let parents = previous_of_each(alloc, graph)?;
     let Some(kept) = links_kept(alloc, graph, level, &parents)? else {
         return Ok(None);
     };

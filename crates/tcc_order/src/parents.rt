@@ -1,29 +1,29 @@
 //! The transactions right before each one: in its session, and what it reads from.
 ghost use Rattle.std.specs.Prelude.{◌≡◌, ◌<◌, ◌≤◌, ◌-◌, ℕ, length, take, drop, slice_index, All, IfOk, OnOk};
 ghost use Rattle.tcc_reads.specs.History.{count};
-ghost use Rattle.tcc_order.specs.private.Parents.{AreSessionParents, AreSteps, HasSourcesAt, session_parent, parents};
+ghost use Rattle.tcc_order.specs.private.Parents.{ArePrevious, AreSteps, HasSourcesAt, previous, parents};
 
 use std::alloc::{AllocError, Global};
 use tcc_graph::LargeGraph;
 
 /// The transaction right before this one in its session, or else `init`.
-fn session_parent(graph: &LargeGraph, c: u32) -> u32
+fn previous(graph: &LargeGraph, c: u32) -> u32
     requires some { 0 < c }
     requires below { c < count graph.now }
-    ensures value { result ≡ session_parent graph.now c }
+    ensures value { result ≡ previous graph.now c }
     ensures before { result < c }
 {
     if graph.session(c - 1, c) { c - 1 } else { 0 }
 }
 
-/// The session parent of each transaction, 0 for `init`.
-pub(crate) fn session_parents(alloc: Global, graph: &LargeGraph) -> Result<Vec<u32>, AllocError>
-    ensures { IfOk result (λ parents. AreSessionParents graph.now parents.items) }
+/// The transaction right before each one in its session, 0 for `init`.
+pub(crate) fn previous_of_each(alloc: Global, graph: &LargeGraph) -> Result<Vec<u32>, AllocError>
+    ensures { IfOk result (λ parents. ArePrevious graph.now parents.items) }
 {
     let mut parents = Vec::new(alloc);
     parents.push(0)?;
     for c in 1..graph.count() {
-        parents.push(session_parent(graph, c))?;
+        parents.push(previous(graph, c))?;
     }
     Ok(parents)
 }
@@ -36,7 +36,7 @@ pub(crate) fn parents_of(alloc: Global, graph: &LargeGraph, c: u32) -> Result<Ve
 {
     let mut parents = Vec::new(alloc);
     if c > 0 {
-        parents.push(session_parent(graph, c))?;
+        parents.push(previous(graph, c))?;
     }
     for read in graph.reads(c) {
         parents.push(read.1)?;
@@ -44,7 +44,7 @@ pub(crate) fn parents_of(alloc: Global, graph: &LargeGraph, c: u32) -> Result<Ve
     Ok(parents)
 }
 
-/// The same, put into a list that is used again, by the session parent of each transaction.
+/// The same, put into a list that is used again, by what stands right before each transaction.
 pub(crate) fn find_parents(
     found: &mut Vec<u32>,
     graph: &LargeGraph,
@@ -52,7 +52,7 @@ pub(crate) fn find_parents(
     c: u32,
 ) -> Result<(), AllocError>
     requires below { c < count graph.now }
-    requires parents { AreSessionParents graph.now parent_of.now }
+    requires parents { ArePrevious graph.now parent_of.now }
     ensures found { OnOk result (found.new.items ≡ parents graph.now c) }
     ensures sources { OnOk result (HasSourcesAt graph.now c) }
 {
@@ -81,7 +81,7 @@ pub(crate) fn steps_along(
     order: &[u32],
 ) -> Result<Steps, AllocError>
     requires below { All (λ c. c < count graph.now) order.now }
-    requires parents { AreSessionParents graph.now parent_of.now }
+    requires parents { ArePrevious graph.now parent_of.now }
     ensures { IfOk result (λ steps. AreSteps graph.now order.now steps.spans.items steps.numbers.items (length order.now)) }
 {
     let mut spans = Vec::new(alloc);

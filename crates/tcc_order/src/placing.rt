@@ -4,7 +4,7 @@ ghost use Rattle.tcc_reads.specs.History.{IsBySession, count};
 ghost use Rattle.tcc_graph.specs.Tables.{row_of};
 ghost use Rattle.tcc_bits.specs.Bits.{is_marked, words_for};
 ghost use Rattle.tcc_order.specs.private.Numbering.{IsFirstOf, HasCircle};
-ghost use Rattle.tcc_order.specs.private.Parents.{AreSessionParents};
+ghost use Rattle.tcc_order.specs.private.Parents.{ArePrevious};
 ghost use Rattle.tcc_order.specs.private.Held.{holds, AreInside, IsFreeBy, AreRoots, onward};
 ghost use Rattle.tcc_order.specs.private.Queued.{AreQueued, IsAny, IsNot};
 
@@ -68,7 +68,7 @@ fn missing(
     x: u32,
 ) -> Option<u32>
     requires below { x < count graph.now }
-    requires parents { AreSessionParents graph.now parents.now }
+    requires parents { ArePrevious graph.now parents.now }
     requires long { length kept.now ≡ count graph.now }
     requires inside { AreInside graph.now kept.now }
     ensures { MatchOption result
@@ -93,7 +93,7 @@ fn first_free(
     ready: &mut Ready,
     waiting: &mut [Row<u32>],
 ) -> Result<Option<u32>, NoMemory>
-    requires parents { AreSessionParents graph.now parents.now }
+    requires parents { ArePrevious graph.now parents.now }
     requires long { length kept.now ≡ count graph.now }
     requires inside { AreInside graph.now kept.now }
     requires queued { AreQueued (holds graph.now kept.now) parents.now placed.now IsAny ready.old waiting.old }
@@ -160,7 +160,7 @@ pub(crate) fn first_placing(
     parents: &[u32],
     kept: &[Row<u32>],
 ) -> Result<Option<Vec<u32>>, NoMemory>
-    requires parents { AreSessionParents graph.now parents.now }
+    requires parents { ArePrevious graph.now parents.now }
     requires long { length kept.now ≡ count graph.now }
     requires inside { AreInside graph.now kept.now }
     ensures { IfOk result (λ found. MatchOption found

@@ -4,7 +4,7 @@ ghost use Rattle.std.specs.Prelude.{◌≡◌, ◌≢◌, ◌<◌, ◌≤◌, �
 ghost use Rattle.tcc_reads.specs.History.{IsBySession, count};
 ghost use Rattle.tcc_graph.specs.Keys.{keys, key_at, writers, IsWriter};
 ghost use Rattle.tcc_graph.specs.Levels.{atomically};
-ghost use Rattle.tcc_order.specs.private.Parents.{AreSessionParents, HasSourcesAt, parents};
+ghost use Rattle.tcc_order.specs.private.Parents.{ArePrevious, HasSourcesAt, parents};
 ghost use Rattle.tcc_order.specs.private.Latest.{AreOwners, IsLifted, AreLinks, lifted_by};
 ghost use Rattle.tcc_order.specs.private.Stepping.{IsOther, KeepsRead, AreStepped};
 
@@ -127,7 +127,7 @@ pub(crate) fn atomic_links(
     parents: &[u32],
 ) -> Result<Vec<Row<u32>>, NoMemory>
     requires numbered { IsBySession graph.now.entries }
-    requires parents { AreSessionParents graph.now parents.now }
+    requires parents { ArePrevious graph.now parents.now }
     ensures { IfOk result (λ kept. AreLinks (atomically graph.now) kept.items) }
 {
     let owners = owners(alloc, graph)?;

@@ -9,8 +9,10 @@ mod resolved;
 mod resolver;
 mod sorting;
 mod standing;
+mod transaction;
 mod writers;
 
 pub use fault::{ReadFault, ReadFaultKind, ResolveFault};
 pub use resolved::{LargeResolved, Resolved};
 pub use resolver::{resolve, resolve_large};
+pub use transaction::Transaction;

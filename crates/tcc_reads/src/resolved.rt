@@ -6,29 +6,9 @@ ghost use Rattle.tcc_reads.specs.History.{count, entry_at, initial};
 ghost use Rattle.tcc_reads.specs.History.{IsBySession, places_of};
 ghost use Rattle.tcc_reads.specs.Sources.{pair_cmp};
 
+use crate::Transaction;
 use std::marker::Model;
 use tcc_txn::Name;
-
-/// A committed transaction, or the initial one.
-#[derive(Drop)]
-pub(crate) struct Node {
-    /// The index of its session.
-    pub owner: u32,
-    /// Its place in the session, from 1.
-    pub place: u32,
-    /// The keys that it writes visibly, in byte order.
-    pub writes: Vec<Name>,
-    /// Key and source of its external reads, by key, then by number.
-    pub reads: Vec<(Name, u32)>,
-}
-
-impl Model for Node {
-    ghost use Rattle.tcc_reads.specs.History.{Entry};
-
-    ghost Value = { Entry };
-
-    ghost view = { λ n. record { owner = n.owner; place = n.place; writes = n.writes.items; reads = n.reads.items } };
-}
 
 /// A snapshot of the large limits, or of the small ones, of which each external read has its source. The committed
 /// transactions are numbered from 1 by session name in byte order and by place; number 0 is the initial transaction,
@@ -37,7 +17,7 @@ impl Model for Node {
 pub struct LargeResolved {
     pub(crate) sessions: Vec<Name>,
     pub(crate) places: Vec<(u32, u32)>,
-    pub(crate) nodes: Vec<Node>,
+    pub(crate) transactions: Vec<Transaction>,
 }
 
 impl Model for LargeResolved {
@@ -46,9 +26,9 @@ impl Model for LargeResolved {
 
     ghost Value = { History };
 
-    ghost view = { λ r. record { sessions = r.sessions.items; entries = r.nodes.items } };
+    ghost view = { λ r. record { sessions = r.sessions.items; entries = r.transactions.items } };
 
-    ghost invariant = { λ r. IsStored r.sessions.items r.places.items r.nodes.items };
+    ghost invariant = { λ r. IsStored r.sessions.items r.places.items r.transactions.items };
 }
 
 impl LargeResolved {
@@ -73,13 +53,29 @@ impl LargeResolved {
         &self.places
     }
 
+    /// The names of the sessions and the transactions, by number, given away.
+    pub fn into_parts(self) -> (Vec<Name>, Vec<Transaction>)
+        ensures sessions { result.0.items ≡ self.sessions }
+        ensures transactions { result.1.items ≡ self.entries }
+        ensures few_sessions { length self.sessions ≤ LARGE_SESSIONS }
+        ensures some { 0 < count self }
+        ensures few { count self ≤ LARGE_COUNT }
+        ensures initial { entry_at self 0 ≡ initial }
+        ensures owners { All (λ p. p.0 < length self.sessions) (places_of self.entries) }
+        ensures sources { All (λ e. All (λ r. r.1 < length self.entries) e.reads) self.entries }
+        ensures ordered { IsBySession self.entries }
+        ensures reads { All (λ e. IsStrictlySortedBy pair_cmp e.reads) self.entries }
+    {
+        (self.sessions, self.transactions)
+    }
+
     /// The keys that the transaction of this number writes visibly, in byte order; none for the initial one, which
     /// writes every key.
     pub fn writes(&self, t: u32) -> &[Name]
         requires { t < count self.now }
         ensures { result.now ≡ (entry_at self.now t).writes }
     {
-        &self.nodes[t as usize].writes
+        &self.transactions[t as usize].writes
     }
 
     /// Key and source of the external reads of this transaction, by key in byte order, then by number, each pair once.
@@ -89,7 +85,7 @@ impl LargeResolved {
         ensures sources { All (λ r. r.1 < count self.now) result.now }
         ensures order { IsStrictlySortedBy pair_cmp result.now }
     {
-        &self.nodes[t as usize].reads
+        &self.transactions[t as usize].reads
     }
 }
 
@@ -120,6 +116,15 @@ impl Resolved {
         ensures few_sessions { length result.now.sessions ≤ MAX_SESSIONS }
     {
         &self.large
+    }
+
+    /// The same, given away.
+    pub fn into_large(self) -> LargeResolved
+        ensures value { result ≡ self }
+        ensures few { count result ≤ MAX_COUNT }
+        ensures few_sessions { length result.sessions ≤ MAX_SESSIONS }
+    {
+        self.large
     }
 
     /// The names of all sessions in byte order, also of those without committed transactions.

@@ -12,7 +12,7 @@ ghost use Rattle.tcc_reads.specs.private.Verdicts.{writers_in, AreOwn, AreOwnIn,
 
 use crate::judging::judge;
 use crate::numbering::{session_names, standings};
-use crate::resolved::{LargeResolved, Node, Resolved};
+use crate::{LargeResolved, Resolved, Transaction};
 use crate::sorting::sorted_once;
 use crate::standing::Standing;
 use crate::writers::{FirstWrites, first_writes};
@@ -35,15 +35,19 @@ fn written_keys(alloc: Global, ops: &[Op]) -> Result<Vec<Name>, AllocError>
 }
 
 /// A committed transaction with its external reads.
-fn node(alloc: Global, standing: &Standing<'_>, reads: Vec<(Name, u32)>) -> Result<Node, AllocError>
-    ensures { IfOk result (λ node. node ≡ record {
+fn transaction(
+    alloc: Global,
+    standing: &Standing<'_>,
+    reads: Vec<(Name, u32)>,
+) -> Result<Transaction, AllocError>
+    ensures { IfOk result (λ transaction. transaction ≡ record {
       owner = standing.now.stand.session;
       place = standing.now.stand.place;
       writes = writes_of standing.now.stand;
       reads = sorted_once pair_cmp reads.items;
     }) }
 {
-    Ok(Node {
+    Ok(Transaction {
         owner: standing.session,
         place: standing.place,
         writes: written_keys(alloc, standing.txn.ops())?,
@@ -51,30 +55,30 @@ fn node(alloc: Global, standing: &Standing<'_>, reads: Vec<(Name, u32)>) -> Resu
     })
 }
 
-/// Adds a transaction's node, if it was committed, and its faults. What `own` held is forgotten.
+/// Adds a transaction, if it was committed, and its faults. What `own` held is forgotten.
 fn examine_one(
     alloc: Global,
     first: &FirstWrites,
     standing: &Standing<'_>,
     own: &mut BTreeMap<Name, u64>,
-    nodes: &mut Vec<Node>,
+    transactions: &mut Vec<Transaction>,
     faults: &mut Vec<ReadFault>,
 ) -> Result<(), AllocError>
     requires { first.now.distinct ≡ true → AreOwnIn (writers_in first.now.writers) standing.now [] standing.now.stand.txn.ops }
-    ensures nodes { OnOk result (nodes.new.items ≡ nodes.old.items ++ entries_found (writers_in first.now.writers) (standing.now ∷ [])) }
+    ensures transactions { OnOk result (transactions.new.items ≡ transactions.old.items ++ entries_found (writers_in first.now.writers) (standing.now ∷ [])) }
     ensures faults { OnOk result (faults.new.items ≡ faults.old.items ++ faults_found (writers_in first.now.writers) standing.now) }
 {
     let reads = judge(alloc, &first.writers, first.distinct, standing, own, faults)?;
     if standing.txn.committed() {
-        nodes.push(node(alloc, standing, reads)?)?;
+        transactions.push(transaction(alloc, standing, reads)?)?;
     }
     Ok(())
 }
 
-/// The nodes of the initial and of the committed transactions, and all faults.
+/// The initial and the committed transactions, and all faults.
 #[derive(Drop)]
 struct Findings {
-    nodes: Vec<Node>,
+    transactions: Vec<Transaction>,
     faults: Vec<ReadFault>,
 }
 
@@ -84,32 +88,32 @@ fn examine(
     standings: &[Standing<'_>],
 ) -> Result<Findings, AllocError>
     requires { first.now.distinct ≡ true → AreOwn (writers_in first.now.writers) standings.now }
-    ensures nodes { IfOk result (λ found. found.nodes.items ≡ initial ∷ entries_found (writers_in first.now.writers) standings.now) }
+    ensures transactions { IfOk result (λ found. found.transactions.items ≡ initial ∷ entries_found (writers_in first.now.writers) standings.now) }
     ensures faults { IfOk result (λ found. found.faults.items ≡ flat_map (faults_found (writers_in first.now.writers)) standings.now) }
 {
-    let mut nodes = Vec::new(alloc);
+    let mut transactions = Vec::new(alloc);
     let mut faults = Vec::new(alloc);
     let mut own = BTreeMap::new(alloc);
-    nodes.push(Node {
+    transactions.push(Transaction {
         owner: 0,
         place: 0,
         writes: Vec::new(alloc),
         reads: Vec::new(alloc),
     })?;
     for standing in standings {
-        examine_one(alloc, first, standing, &mut own, &mut nodes, &mut faults)?;
+        examine_one(alloc, first, standing, &mut own, &mut transactions, &mut faults)?;
     }
-    Ok(Findings { nodes, faults })
+    Ok(Findings { transactions, faults })
 }
 
 /// Session's index and place from number 1 on.
-fn places(alloc: Global, nodes: &[Node]) -> Result<Vec<(u32, u32)>, AllocError>
-    ensures { IfOk result (λ places. places.items ≡ places_of nodes.now) }
+fn places(alloc: Global, transactions: &[Transaction]) -> Result<Vec<(u32, u32)>, AllocError>
+    ensures { IfOk result (λ places. places.items ≡ places_of transactions.now) }
 {
-    nodes
+    transactions
         .iter()
         .skip(1)
-        .map(|node| (node.owner, node.place))
+        .map(|transaction| (transaction.owner, transaction.place))
         .collect(alloc)
 }
 
@@ -126,13 +130,13 @@ fn resolve_parts(alloc: Global, parts: &[(Name, Vec<Txn>)]) -> Result<LargeResol
     let sessions = session_names(alloc, parts)?;
     let standings = standings(alloc, parts)?;
     let first = first_writes(alloc, &standings)?;
-    let Findings { nodes, faults } = examine(alloc, &first, &standings)?;
+    let Findings { transactions, faults } = examine(alloc, &first, &standings)?;
     if faults.is_empty() {
-        let places = places(alloc, &nodes)?;
+        let places = places(alloc, &transactions)?;
         Ok(LargeResolved {
             sessions,
             places,
-            nodes,
+            transactions,
         })
     } else {
         Err(ResolveFault::Reads(faults))

@@ -10,8 +10,8 @@ use Rattle.std.proofs.lemmas.Bool.Decides.{nat_tests}
 use Rattle.std.proofs.lemmas.List.Elements.{filter-append}
 use Rattle.std.proofs.lemmas.Map.Keys.{IsDistinct-cons}
 use Rattle.std.proofs.lemmas.Map.Made.{length-le_from_is_member}
-use Rattle.tcc_rows.specs.Answers.{Answers, after_item, answers_after, answers_of, fault_at_end, go_on, records_of}
-use Rattle.tcc_rows.specs.private.Words.{judged}
+use Rattle.tcc_rows.specs.Answers.{Answers, after_item, answers_of, fault_at_end, go_on, records_of}
+use Rattle.tcc_rows.specs.private.Words.{answers_after, judged}
 use Rattle.tcc_rows.specs.Interleaved.{AreInterleaved, is_by, is_by_none, records_by_none}
 use Rattle.tcc_txn.specs.Bytes.{same}
 use Rattle.tcc_rows.specs.Lines.{Record, in_session, is_cut, line_of, op_of}

@@ -15,8 +15,8 @@ use Rattle.csv.specs.declared.parser.State.TheVariants as st
 use Rattle.csv.specs.declared.parser.Action.{Action}
 use Rattle.csv.specs.declared.parser.Action.TheVariants as act
 use Rattle.csv.specs.declared.parser.Terminator.TheVariants as term
-use Rattle.tcc_rows.specs.Answers.{Answers, after_item, answers_after, answers_of, go_on, records_of}
-use Rattle.tcc_rows.specs.private.Words.{judged}
+use Rattle.tcc_rows.specs.Answers.{Answers, after_item, answers_of, go_on, records_of}
+use Rattle.tcc_rows.specs.private.Words.{answers_after, judged}
 use Rattle.tcc_rows.specs.ByteLimit.{marked, past_limit}
 use Rattle.tcc_rows.specs.Failing.{AreLawful, records_before}
 use Rattle.tcc_rows.specs.Lines.{Record, is_cut}

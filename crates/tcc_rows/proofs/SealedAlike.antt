@@ -1,8 +1,8 @@
 -- What records finish before each seal depends on the records of each session before it alone.
 use Rattle.std.proofs.Common.{◌≡◌, ℕ, zero, suc, ◌+◌, ◌≤◌, Bool, true, false, List, [], ◌∷◌, ◌++◌, filter, length, refl, sym, ap, ◌∙◌, arith}
 use Rattle.std.proofs.Common.{Option, None, Some, Result, Ok, Err, append_assoc, append-nil}
-use Rattle.tcc_rows.specs.Answers.{Answers, after_item, answers_after, answers_of, go_on, records_of}
-use Rattle.tcc_rows.specs.private.Words.{judged}
+use Rattle.tcc_rows.specs.Answers.{Answers, after_item, answers_of, go_on, records_of}
+use Rattle.tcc_rows.specs.private.Words.{answers_after, judged}
 use Rattle.tcc_rows.specs.Items.{finished_in}
 use Rattle.tcc_rows.specs.Interleaved.{AreInterleaved, AreSealedAlike, is_by, is_by_none, records_by_none, records_until}
 use Rattle.tcc_rows.specs.Lines.{Record, line_of}

@@ -3,7 +3,8 @@ use Rattle.std.proofs.Common.{◌≡◌, ℕ, zero, suc, List, [], ◌∷◌, tr
 use Rattle.std.specs.Prelude.{codes, replicate}
 use Rattle.csv.specs.Machine.{next_record}
 use Rattle.csv.specs.Reading.{default_config, records, records_from, strip_bom}
-use Rattle.tcc_rows.specs.Answers.{Answers, answers_after, answers_of}
+use Rattle.tcc_rows.specs.Answers.{Answers, answers_of}
+use Rattle.tcc_rows.specs.private.Words.{answers_after}
 use Rattle.tcc_rows.specs.ByteLimit.{marked}
 use Rattle.tcc_rows.specs.Past.{fault_of}
 use Rattle.tcc_txn.specs.declared.op.Op.TheVariants.{Get, Put}

@@ -59,9 +59,6 @@ answers_within limits text = answers_after_within limits [] (records_within limi
 
 -- ---- the same within the small limits
 
-abbrev pub answers_after : List Line → List Record → Answers
-answers_after = answers_after_within Small
-
 abbrev pub records_of : List ℕ → List Record
 records_of = records_within Small
 

@@ -117,7 +117,7 @@ fn missing_links(rt: HostRuntime) -> Result<(), Fail> {
 /// An anomaly of one's own making: a link of a history that has none, and no cycle.
 fn made(alloc: Global, snapshot: &Snapshot) -> Option<Anomaly> {
     let resolved = resolve(alloc, snapshot).ok()?;
-    let graph = Graph::build(alloc, &resolved).ok()?;
+    let graph = Graph::build(alloc, resolved).ok()?;
     let labels = Labels::of(alloc, &graph).ok()?;
     let mut links = Vec::new(alloc);
     links.push(Link::Session { from: 0, to: 1 }).ok()?;

@@ -34,7 +34,7 @@ const STALE_READ: &str = "a,begin\na,w,x,1\na,commit\na,begin\na,r,x,0\na,commit
 fn labels(alloc: Global, records: &str) -> Option<Labels> {
     let snapshot = snapshot_of(alloc, records.as_bytes()).ok()?;
     let resolved = resolve(alloc, &snapshot).ok()?;
-    let graph = Graph::build(alloc, &resolved).ok()?;
+    let graph = Graph::build(alloc, resolved).ok()?;
     Labels::of(alloc, &graph).ok()
 }
 

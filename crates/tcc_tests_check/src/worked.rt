@@ -41,5 +41,5 @@ pub const ABORTED: &str = "a,begin\na,w,x,9\na,abort\na,begin\na,w,x,1\na,commit
 pub fn graph(alloc: Global, records: &str) -> Option<Graph> {
     let snapshot = snapshot_of(alloc, records.as_bytes()).ok()?;
     let resolved = resolve(alloc, &snapshot).ok()?;
-    Graph::build(alloc, &resolved).ok()
+    Graph::build(alloc, resolved).ok()
 }

@@ -63,7 +63,7 @@ fn prices_of(rt: &(impl Threads + Sync), alloc: Global, graph: &Graph) -> Result
 fn graph_of(alloc: Global, records: &str) -> Option<Graph> {
     let snapshot = snapshot_of(alloc, records.as_bytes()).ok()?;
     let resolved = resolve(alloc, &snapshot).ok()?;
-    Graph::build(alloc, &resolved).ok()
+    Graph::build(alloc, resolved).ok()
 }
 
 /// Whether the row has these distances.

@@ -73,7 +73,7 @@ fn history_of<R: Read + Drop, N: Write>(
 {
     let recording = recorded(alloc, reader, notes)?;
     let resolved = resolved(alloc, recording.snapshot(), notes)?;
-    let graph = Graph::build(alloc, &resolved)?;
+    let graph = Graph::build(alloc, resolved)?;
     Ok(graph)
 }
 

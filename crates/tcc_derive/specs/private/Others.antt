@@ -4,6 +4,7 @@ use Rattle.std.specs.List.{AllPairs}
 use Rattle.tcc_reads.specs.History.{History, count}
 use Rattle.tcc_graph.specs.Relations.{reads_from, has_items}
 use Rattle.tcc_graph.specs.Tables.{row_of}
+use Rattle.tcc_graph.specs.declared.level.Level.{Level}
 use Rattle.tcc_near.specs.Distances.{IsSquare}
 use Rattle.tcc_near.specs.declared.distances.TheConstants.{NONE}
 use Rattle.tcc_txn.specs.declared.limits.TheConstants.{MAX_COUNT}
@@ -32,6 +33,10 @@ pub record HasOtherRows (h : History) (near : List (List ℕ)) (prices : List (L
 pub record HasEnds (h : History) (ends : List ℕ) : Type 0 where
   pub long : length ends ≡ count h
   pub each : (u : ℕ) → u < count h → IsEnd h u (slice_index ends u)
+
+-- the tables of these rows, at a level
+abbrev pub tables_of : Level → List (List ℕ) → List ℕ → List (List (ℕ × ℕ)) → ℕ → Tables
+tables_of level prices ends others limit = record { level = level; prices = prices; ends = ends; others = others; limit = limit }
 
 -- tables for n transactions, which name no others
 pub record IsShaped (n : ℕ) (t : Tables) : Type 0 where

@@ -6,18 +6,18 @@ use Rattle.tcc_graph.specs.Levels.{Judged, IsAllowedWalk}
 use Rattle.tcc_graph.specs.declared.step.Step.{Step}
 
 -- the transaction before c in its session, or else `init`
-abbrev pub session_parent : History → ℕ → ℕ
-session_parent h c = if session_pair h (c - 1) c then c - 1 else 0
+abbrev pub previous : History → ℕ → ℕ
+previous h c = if session_pair h (c - 1) c then c - 1 else 0
 
 -- a list of them, 0 for `init`
-pub record AreSessionParents (h : History) (parents : List ℕ) : Type 0 where
+pub record ArePrevious (h : History) (parents : List ℕ) : Type 0 where
   pub long : length parents ≡ count h
   pub init : slice_index parents 0 ≡ 0
-  pub each : (c : ℕ) → 0 < c → c < count h → slice_index parents c ≡ session_parent h c
+  pub each : (c : ℕ) → 0 < c → c < count h → slice_index parents c ≡ previous h c
 
 -- and where that is one: none for `init`
-abbrev pub session_parents : History → ℕ → List ℕ
-session_parents h c = if c == 0 then [] else session_parent h c ∷ []
+abbrev pub previous_one : History → ℕ → List ℕ
+previous_one h c = if c == 0 then [] else previous h c ∷ []
 
 -- the transactions that c reads from
 abbrev pub sources : History → ℕ → List ℕ
@@ -29,7 +29,7 @@ HasSourcesAt h c = All (λ read. read.1 < count h) (entry_at h c).reads
 
 -- the transactions of causal pairs into c from which all others of them reach c
 abbrev pub parents : History → ℕ → List ℕ
-parents h c = session_parents h c ++ sources h c
+parents h c = previous_one h c ++ sources h c
 
 -- the transactions right before c are these numbers from the one place to before the other
 pub record IsStep (h : History) (c : ℕ) (numbers : List ℕ) (start : ℕ) (end : ℕ) : Type 0 where

@@ -6,10 +6,13 @@ use Rattle.tcc_rows.specs.Lines.{named, Record}
 use Rattle.tcc_rows.specs.declared.rows.line.Line.{Line}
 use Rattle.tcc_txn.specs.declared.limits.Limits.TheVariants.{Small}
 use Rattle.tcc_txn.specs.declared.snapshot.GrowFault.{GrowFault}
-use Rattle.tcc_rows.specs.Answers.{judged_within}
+use Rattle.tcc_rows.specs.Answers.{judged_within, Answers, answers_after_within}
 use Rattle.tcc_rows.specs.declared.rows.Rows.{Rows}
 use Rattle.csv.specs.Reading.{is_io}
 use Rattle.csv.specs.declared.error.ErrorKind.{ErrorKind}
+
+abbrev pub answers_after : List Line → List Record → Answers
+answers_after = answers_after_within Small
 
 -- how many records were read
 abbrev pub records_read : {R : Type 0} → Rows R → ℕ

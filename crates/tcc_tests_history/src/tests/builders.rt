@@ -35,7 +35,7 @@ pub fn resolved(rt: &impl Abort, alloc: Global, records: &str) -> Resolved {
 pub fn try_graph(alloc: Global, records: &str) -> Option<Graph> {
     let snapshot = snapshot_of(alloc, records.as_bytes()).ok()?;
     let resolved = resolve(alloc, &snapshot).ok()?;
-    Graph::build(alloc, &resolved).ok()
+    Graph::build(alloc, resolved).ok()
 }
 
 /// The graph of what these records finish.

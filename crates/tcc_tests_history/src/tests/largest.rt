@@ -75,7 +75,7 @@ fn resolves_as_many_reads_as_there_may_be(rt: HostRuntime) -> Result<(), Fail> {
         panic!(rt; "not resolved");
     };
     assert_eq!(rt; resolved.places().len(), 4_095);
-    let Ok(graph) = Graph::build(alloc, &resolved) else {
+    let Ok(graph) = Graph::build(alloc, resolved) else {
         panic!(rt; "no graph");
     };
     assert_eq!(rt; graph.count(), 4_096);
@@ -115,7 +115,7 @@ fn resolves_as_many_transactions_as_there_may_be(rt: HostRuntime) -> Result<(), 
         panic!(rt; "not resolved");
     };
     assert_eq!(rt; resolved.places().len(), 1_048_575);
-    let Ok(graph) = LargeGraph::build(alloc, &resolved) else {
+    let Ok(graph) = LargeGraph::build(alloc, resolved) else {
         panic!(rt; "no graph");
     };
     assert_eq!(rt; graph.count(), 1_048_576);

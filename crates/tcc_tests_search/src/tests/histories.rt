@@ -41,7 +41,7 @@ pub const MUTUAL: &str =
 pub fn graph_of(rt: &impl Abort, alloc: Global, records: &str) -> Graph {
     let snapshot = snapshot_of(alloc, records.as_bytes()).expect(rt, records);
     let resolved = resolve(alloc, &snapshot).expect(rt, records);
-    Graph::build(alloc, &resolved).expect(rt, records)
+    Graph::build(alloc, resolved).expect(rt, records)
 }
 
 /// The distances of a graph at a level.

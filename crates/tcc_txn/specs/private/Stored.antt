@@ -2,7 +2,7 @@
 use Rattle.std.proofs.Common.{◌≡◌, ℕ, ◌-◌, ◌≤◌, ◌<◌, ◌++◌, List, length, take, drop, ap, sym, ◌∙◌, refl, arith, length-append, None}
 use Rattle.std.proofs.lemmas.Bool.Decides.{nat_tests}
 use Rattle.std.proofs.lemmas.List.{length-take, length-replicate, drop-replicate, take_at}
-use Rattle.std.specs.Prelude.{replicate, ℕ, ◌+◌, ◌-◌, ◌≤◌, ◌≡◌, List, ◌++◌, length, take, None}
+use Rattle.std.specs.Prelude.{replicate}
 use Rattle.tcc_txn.specs.Names.{name_fault}
 use Rattle.tcc_txn.specs.declared.limits.TheConstants.{MAX_NAME_BYTES}
 use Rattle.tcc_txn.specs.declared.name.Name.TheInside.{Inside}

@@ -15,7 +15,7 @@ loop-preserved c =
     let heads = c.loop.heads.items in
     let session = c.in-Some.session in
     let head : ℕ = c.index-head.result.now in
-    let before : ℕ = c.before_in_session.result in
+    let before : ℕ = c.previous.result in
     let inside : session < length heads = search rules in
     let read : head ≡ get_or heads session head = search rules in
     let at : head ≡ slice_index heads session = read ∙ get_or_default heads session head 0 inside in
@@ -24,8 +24,8 @@ loop-preserved c =
     let made : IsLeastFrom h (IsFromOn h head) run = c.in_ok-runs-2.ensures in
     let has : HasLengths (causally h) head c.in_ok-row.row = c.in_ok-row.ensures in
     let next : 0 < before → IsLeastFrom h (IsSessionPair h before) run =
-    λ some. let on = c.before_in_session.ensures.next some in
+    λ some. let on = c.previous.ensures.next some in
     least_same h (IsFromOn h head) (IsSessionPair h before) run (before_pairs h ends c.requires.pairs.ended before head below on.0 on.1) made in (
       known_more h c.loop.rows.items head c.in_ok-row.row below c.loop.invariant.0 has,
-      heads_more h heads c.loop.runs.items session before run inside c.loop.invariant.1 (omega (arith, c.before_in_session.ensures.below, below)) next,
+      heads_more h heads c.loop.runs.items session before run inside c.loop.invariant.1 (omega (arith, c.previous.ensures.below, below)) next,
     )

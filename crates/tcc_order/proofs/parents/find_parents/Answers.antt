@@ -1,6 +1,6 @@
 use Rattle.std.proofs.Common.{rules, ◌≡◌, ◌<◌, ◌∷◌, ◌++◌, [], take, slice_index, arith, ap, sym, ◌∙◌}
 use Rattle.std.proofs.lemmas.List.{take_all}
-use Rattle.tcc_order.specs.private.Parents.{session_parents}
+use Rattle.tcc_order.specs.private.Parents.{previous_one}
 use Rattle.tcc_order.proofs.LatestLemmas.{sources_of_reads, sources_inside, session_some, session_none}
 use Rattle.tcc_order.proofs.parents.find_parents.Goals as goal
 use Rattle.tcc_order.proofs.parents.find_parents.Goals.{then-c-gt0+in_ok-push, else-c-gt0}
@@ -10,7 +10,7 @@ returns-clause-found c =
     let h = c.args.graph.now in
     let n = c.args.c in
     let reads = c.reads_at-read-items.result.now in
-    let first : c.if-c-gt0.found.items ≡ session_parents h n = elim c.if-c-gt0.branch [
+    let first : c.if-c-gt0.found.items ≡ previous_one h n = elim c.if-c-gt0.branch [
       | then-c-gt0+in_ok-push w ↦ (
           let some : 0 < n = omega (arith, w.if-c-gt0.true) in
           let pushed : w.push.new.self.items ≡ slice_index c.args.parent_of.now n ∷ [] = search rules in
@@ -22,7 +22,7 @@ returns-clause-found c =
           )
     ] in
     let all : take c.loop-read.read-index reads ≡ reads = take_all c.loop-read.read-index reads c.loop-read-test.false in
-    rw (c.loop-read.invariant, first, all) (ap (λ s. session_parents h n ++ s) (sources_of_reads h n reads c.reads_at-read-items.ensures.value))
+    rw (c.loop-read.invariant, first, all) (ap (λ s. previous_one h n ++ s) (sources_of_reads h n reads c.reads_at-read-items.ensures.value))
 
 pub returns-clause-sources : goal.returns-clause-sources
 returns-clause-sources c =

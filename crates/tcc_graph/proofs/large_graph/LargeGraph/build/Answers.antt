@@ -5,13 +5,13 @@ use Rattle.tcc_graph.proofs.large_graph.LargeGraph.build.Goals as goal
 pub placed_by-requires-clause-there : goal.placed_by-requires-clause-there
 placed_by-requires-clause-there c =
     rw (c.deref-3.ensures.value, c.in_ok-keys.ensures.value.0, c.deref-2.ensures.value, c.deref-4.ensures.value)
-    (all_keyed c.in_ok-transactions.transactions.items)
+    (all_keyed c.parts_of-sessions.result.1.items)
 
 pub place_table-requires-clause-sources : goal.place_table-requires-clause-sources
 place_table-requires-clause-sources c =
     rw c.deref-5.ensures.value
     (placed_sources c.deref-3.result.now c.deref-4.result.now c.in_ok-placed.placed.items c.in_ok-placed.ensures
-    (rw c.deref-4.ensures.value c.in_ok-transactions.ensures.sources))
+    (rw c.deref-4.ensures.value c.parts_of-sessions.ensures.transactions.sources))
 
 pub key_table-requires-clause-writes : goal.key_table-requires-clause-writes
 key_table-requires-clause-writes c =

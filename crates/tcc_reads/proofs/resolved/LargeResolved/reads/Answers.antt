@@ -6,7 +6,7 @@ use Rattle.tcc_reads.proofs.resolved.LargeResolved.reads.Goals as goal
 
 pub returns-clause-sources : goal.returns-clause-sources
 returns-clause-sources c k d within =
-    let entries : List Entry = c.self.inside.nodes.items in
+    let entries : List Entry = c.self.inside.transactions.items in
     let InRange : History → Type 0 = λ h. c.args.t < count h in
     let there : c.args.t < length entries = subst InRange (sym c.self.view_is) c.requires in
     let same : (slice_index_or entries c.args.t c.index.result.now).reads ≡ c.deref.result.now
@@ -18,7 +18,7 @@ returns-clause-sources c k d within =
 
 pub returns-clause-order : goal.returns-clause-order
 returns-clause-order c =
-    let entries : List Entry = c.self.inside.nodes.items in
+    let entries : List Entry = c.self.inside.transactions.items in
     let InRange : History → Type 0 = λ h. c.args.t < count h in
     let there : c.args.t < length entries = subst InRange (sym c.self.view_is) c.requires in
     let same : (slice_index_or entries c.args.t c.index.result.now).reads ≡ c.deref.result.now
