@@ -51,7 +51,7 @@ module _ (law : (s : Sessions) (level : Level) (a : Answer) → IsAnswerOfSnapsh
   module _ (records : List ℕ) (limits : KeepsLimits (finished_by records)) (unfaulted : (answers_of records).fault ≡ None)
       (resolved : read_faults (finished_by records) ≡ []) (before after : Option (List ℕ)) (file file' : Contents) (code : ℕ) (fine : code ≢ code_of Device)
       (space : code ≢ code_of Memory) where
-    Printed : Type 0
+    abbrev Printed : Type 0
     Printed = PrintsExplained options records before after file file' code
 
     of_answer : (said : List Said) (last : Said) → last_or None said ≡ Some last → AllGoesOut before after file file' (texts said) last code
