@@ -9,8 +9,8 @@ ghost use Rattle.tcc_order.specs.private.Lasts.{AreLastsOf, IsBefore, IsUpTo, ra
 
 use crate::parents::parents_of;
 use std::alloc::{AllocError, Global};
-use tcc_graph::LargeGraph;
 use tcc_bits::Row;
+use tcc_graph::LargeGraph;
 use tcc_txn::NoMemory;
 
 /// So many rows with no words.

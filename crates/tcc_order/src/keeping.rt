@@ -18,8 +18,8 @@ use crate::latest::{WIDE, find_clocks, owners};
 use crate::parents::{between, steps_along};
 use crate::sharing::SharedRows;
 use std::alloc::Global;
-use tcc_graph::LargeGraph;
 use tcc_bits::Row;
+use tcc_graph::LargeGraph;
 use tcc_txn::NoMemory;
 
 /// Up to so many writers of a key are looked at one by one.

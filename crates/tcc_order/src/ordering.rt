@@ -13,8 +13,8 @@ use crate::parents::previous_of_each;
 use crate::placing::first_placing;
 use crate::stepping::atomic_links;
 use std::alloc::Global;
-use tcc_graph::{LargeGraph, Level};
 use tcc_bits::Row;
+use tcc_graph::{LargeGraph, Level};
 use tcc_txn::NoMemory;
 
 /// The links at `Causal` that are kept, by the first order of causal pairs alone; none where these stand in a circle.

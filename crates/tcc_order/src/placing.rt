@@ -11,9 +11,8 @@ ghost use Rattle.tcc_order.specs.private.Queued.{AreQueued, IsAny, IsNot};
 use crate::keeping::no_links;
 use crate::ready::Ready;
 use std::alloc::{AllocError, Global};
+use tcc_bits::{Row, is_marked, mark, words_for};
 use tcc_graph::LargeGraph;
-use tcc_bits::Row;
-use tcc_bits::{is_marked, mark, words_for};
 use tcc_txn::NoMemory;
 
 /// Of the transactions that are read from, one that was not placed.

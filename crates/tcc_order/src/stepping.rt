@@ -12,8 +12,8 @@ use crate::keeping::no_links;
 use crate::latest::owners;
 use crate::parents::find_parents;
 use std::alloc::Global;
-use tcc_graph::LargeGraph;
 use tcc_bits::Row;
+use tcc_graph::LargeGraph;
 use tcc_txn::{Name, NoMemory};
 
 /// The later of a number and a writer, where this is another one than `a`, of the session of `c`, and before `c`.

@@ -195,12 +195,7 @@ fn read(
 }
 
 /// Notes of the first of the read faults of the snapshot which write each of them is about.
-pub fn note_reads<N: Write>(
-    alloc: Global,
-    snapshot: &Snapshot,
-    faults: &[ReadFault],
-    notes: &mut N,
-)
+pub fn note_reads<N: Write>(alloc: Global, snapshot: &Snapshot, faults: &[ReadFault], notes: &mut N)
     ensures { AddsNotes (N.contents notes.old) (N.contents notes.new) }
 {
     note_reads_among(alloc, snapshot.parts(), faults, notes);

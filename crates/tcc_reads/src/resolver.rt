@@ -12,11 +12,10 @@ ghost use Rattle.tcc_reads.specs.private.Verdicts.{writers_in, AreOwn, AreOwnIn,
 
 use crate::judging::judge;
 use crate::numbering::{session_names, standings};
-use crate::{LargeResolved, Resolved, Transaction};
 use crate::sorting::sorted_once;
 use crate::standing::Standing;
 use crate::writers::{FirstWrites, first_writes};
-use crate::{ReadFault, ResolveFault};
+use crate::{LargeResolved, ReadFault, ResolveFault, Resolved, Transaction};
 use std::alloc::{AllocError, Global};
 use std::collections::BTreeMap;
 use tcc_txn::{LargeSnapshot, Name, Op, Snapshot, Txn};
@@ -101,9 +100,19 @@ fn examine(
         reads: Vec::new(alloc),
     })?;
     for standing in standings {
-        examine_one(alloc, first, standing, &mut own, &mut transactions, &mut faults)?;
+        examine_one(
+            alloc,
+            first,
+            standing,
+            &mut own,
+            &mut transactions,
+            &mut faults,
+        )?;
     }
-    Ok(Findings { transactions, faults })
+    Ok(Findings {
+        transactions,
+        faults,
+    })
 }
 
 /// Session's index and place from number 1 on.
@@ -130,7 +139,10 @@ fn resolve_parts(alloc: Global, parts: &[(Name, Vec<Txn>)]) -> Result<LargeResol
     let sessions = session_names(alloc, parts)?;
     let standings = standings(alloc, parts)?;
     let first = first_writes(alloc, &standings)?;
-    let Findings { transactions, faults } = examine(alloc, &first, &standings)?;
+    let Findings {
+        transactions,
+        faults,
+    } = examine(alloc, &first, &standings)?;
     if faults.is_empty() {
         let places = places(alloc, &transactions)?;
         Ok(LargeResolved {
