@@ -1,5 +1,6 @@
 use Rattle.std.proofs.Common.{◌≡◌, map, take, string_bytes}
-use Rattle.tcc_growth.specs.Moved.{moved, link_by}
+use Rattle.tcc_growth.specs.Moved.{moved}
+use Rattle.tcc_graph.specs.Renumbered.{link_by}
 use Rattle.tcc_growth.proofs.carrying.carried.Given as goal
 
 abbrev pub invariant-loop-link : goal.invariant-loop-link
