@@ -5,7 +5,7 @@ use Rattle.tcc_graph.specs.declared.level.Level.{Level}
 use Rattle.tcc_cert.specs.Reading.{certificate_read}
 use Rattle.tcc_cert.specs.Texts.{HasText, certificate_text}
 use Rattle.tcc_answer.specs.Claims.{certificate_of}
-use Rattle.tcc_explain.specs.Explained.{IsAnswerFor, IsRefusal}
+use Rattle.tcc_explain.specs.Explained.{IsAnswerOfSnapshot, IsRefusal}
 use Rattle.tcc_answer.specs.declared.answer.Answer.{Answer}
 use Rattle.tcc_audit.specs.declared.fault.AuditFault.{AuditFault}
 use Rattle.tcc_audit.specs.declared.fault.AuditFault.TheVariants as fault
@@ -13,7 +13,7 @@ use Rattle.tcc_audit.specs.declared.fault.AuditFault.TheVariants as fault
 -- the first answer at the level for the map from the passes' names to what each recorded;
 -- or why the book has no snapshot of exactly that; or why that has no answer
 abbrev pub IsAudit : List Passed → Level → Result Answer AuditFault → Type 0
-IsAudit passes level (Ok answer) = IsAnswerFor (recorded_by passes) level answer
+IsAudit passes level (Ok answer) = IsAnswerOfSnapshot (recorded_by passes) level answer
 IsAudit passes level (Err (fault.Whole whole)) = IsWhole passes (Err whole)
 IsAudit passes level (Err (fault.Explain refusal)) = IsRefusal (recorded_by passes) refusal
 

@@ -12,7 +12,7 @@ use Rattle.tcc_growth.specs.Growth.{Grows, IsFirstMissing, link_in}
 use Rattle.tcc_growth.specs.Moved.{moved}
 use Rattle.tcc_graph.specs.Renumbered.{link_by}
 use Rattle.tcc_growth.proofs.Keeping.{keeps_anomalies, costs_no_more, none_missing}
-use Rattle.tcc_explain.specs.Explained.{IsAnswerOf}
+use Rattle.tcc_explain.specs.Explained.{IsAnswerOfHistory}
 use Rattle.tcc_explain.specs.Next.{IsAnomalyOf, IsNextRefusal}
 use Rattle.tcc_explain.specs.declared.refusal.NextFault.TheVariants as refusal
 use Rattle.tcc_graph.specs.Levels.{judged}
@@ -26,7 +26,7 @@ module _ (small large : Sessions) (level : Level) (a : LabelledCycle) (grows : G
       subst (λ (labels : List (List ℕ)). IsFirstMissing (judged (history large) level) (map (link_by (moved labels (labels_of (history large)))) a.links) n) is.2 here in
       none_missing small large grows level is.0.0 a.links n is.0.1.least.cycle there
 
-  pub steps : (b : Answer) → IsAnswerOf (judged (history small) level) (answer.Anomaly a) → IsAnswerOf (judged (history large) level) b
+  pub steps : (b : Answer) → IsAnswerOfHistory (judged (history small) level) (answer.Anomaly a) → IsAnswerOfHistory (judged (history large) level) b
       → (c : LabelledCycle) × (b ≡ answer.Anomaly c) × (cost c.links ≤ cost a.links)
   steps (answer.Commit o) here there = absurd (there.0.0 (keeps_anomalies small large grows level (here.0.0, a.links, here.0.1.least.cycle)))
   steps (answer.Anomaly c) here there = (c, refl, costs_no_more small large grows level here.0.0 a.links there.0.0 c.links here.0.1.least there.0.1.least)

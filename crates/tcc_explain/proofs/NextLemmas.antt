@@ -12,7 +12,7 @@ use Rattle.tcc_answer.specs.Labels.{labels_of}
 use Rattle.tcc_growth.specs.Growth.{IsFirstMissing}
 use Rattle.tcc_growth.specs.Moved.{moved}
 use Rattle.tcc_graph.specs.Renumbered.{link_by}
-use Rattle.tcc_explain.specs.Explained.{IsAnswerOf}
+use Rattle.tcc_explain.specs.Explained.{IsAnswerOfHistory}
 use Rattle.tcc_explain.specs.Next.{links_in}
 use Rattle.tcc_answer.specs.declared.answer.Answer.{Answer}
 
@@ -22,8 +22,8 @@ module _ (s : Sessions) (e : LabelledCycle) (h : History) (graph : h ≡ history
   there P is =
       subst (λ (k : History). P (judged k e.level)) graph (subst (λ (l : Level). P (judged h l)) of is)
 
-  pub answer_here : (a : Answer) → IsAnswerOf (judged h level) a → IsAnswerOf (judged (history s) e.level) a
-  answer_here a = there (λ (j : Judged). IsAnswerOf j a)
+  pub answer_here : (a : Answer) → IsAnswerOfHistory (judged h level) a → IsAnswerOfHistory (judged (history s) e.level) a
+  answer_here a = there (λ (j : Judged). IsAnswerOfHistory j a)
 
   module _ (old new : List (List ℕ)) (before found links : List Link) (labels : old ≡ e.labels) (lent : before ≡ e.links) (named : new ≡ labels_of h)
       (carried : found ≡ map (link_by (moved old new)) before) (given : links ≡ found) where

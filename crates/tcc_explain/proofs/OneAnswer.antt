@@ -15,7 +15,7 @@ use Rattle.tcc_answer.specs.declared.answer.Answer.{Answer}
 use Rattle.tcc_answer.specs.declared.answer.Answer.TheVariants as answer
 use Rattle.tcc_cycle.proofs.PickedLemmas.{one_first}
 use Rattle.tcc_explain.specs.Certificates.{IsCappedShortest, IsNearTable, IsFarTable, IsClocksAt}
-use Rattle.tcc_explain.specs.Explained.{IsAnswerOf}
+use Rattle.tcc_explain.specs.Explained.{IsAnswerOfHistory}
 use Rattle.tcc_explain.proofs.FirstAnswers.{one_order}
 
 -- ---- tables
@@ -119,7 +119,7 @@ anomaly_of : (level also : Level) (links others : List Link) (near rows far tabl
     ≡ answer.Anomaly (record { level = also; links = others; near = rows; far = table; labels = names })
 anomaly_of level also links others near rows far table labels names p q r s t = rw (p, q, r, s, t) refl
 
-pub one_whole : (j : Judged) (some other : Answer) → IsAnswerOf j some → IsAnswerOf j other → some ≡ other
+pub one_whole : (j : Judged) (some other : Answer) → IsAnswerOfHistory j some → IsAnswerOfHistory j other → some ≡ other
 one_whole j (answer.Commit c) (answer.Commit d) (first, level, sessions, labels, clocks) (again, also, as_many, names, rows) =
     commit_of c.level d.level c.order d.order c.sessions d.sessions c.clocks d.clocks c.labels d.labels
     (level ∙ sym also) (one_order j c.order d.order first.1 again.1) (sessions ∙ sym as_many)

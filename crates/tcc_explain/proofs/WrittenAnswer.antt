@@ -33,7 +33,7 @@ use Rattle.tcc_answer.specs.declared.answer.Answer.{Answer}
 use Rattle.tcc_answer.specs.declared.answer.Answer.TheVariants as answer
 use Rattle.tcc_cycle.proofs.BoundLemmas.{few_links, walks_few, cycle_bounded}
 use Rattle.tcc_explain.specs.Certificates.{IsNearTable, IsFarTable, IsClocksAt}
-use Rattle.tcc_explain.specs.Explained.{IsAnswerOf}
+use Rattle.tcc_explain.specs.Explained.{IsAnswerOfHistory}
 use Rattle.tcc_explain.specs.Keys.{HasNames}
 use Rattle.tcc_explain.proofs.CertifiedCycle as least_cycle
 use Rattle.tcc_explain.proofs.CertifiedOrder as commit_order
@@ -157,13 +157,13 @@ module _ (s : Sessions) (limits : KeepsLimits s) where
             };
           }
 
-  pub written : HasNames s → (level : Level) (a : Answer) → IsAnswerOf (judged (history s) level) a → HasText (certificate_of a)
+  pub written : HasNames s → (level : Level) (a : Answer) → IsAnswerOfHistory (judged (history s) level) a → HasText (certificate_of a)
   written named level (answer.Commit c) (first, at, sessions, labels, clocks) =
       rw (at, sessions) (order_text level c.order c.clocks first.1.commit clocks)
   written named level (answer.Anomaly a) ((start, first), at, labels, near, far) =
       rw at (cycle_text named level start a.links a.near a.far first.least near far)
 
   -- and the text is read as it
-  pub read_back : HasNames s → (level : Level) (a : Answer) → IsAnswerOf (judged (history s) level) a
+  pub read_back : HasNames s → (level : Level) (a : Answer) → IsAnswerOfHistory (judged (history s) level) a
       → certificate_read (certificate_text (certificate_of a)) ≡ Ok (certificate_of a)
   read_back named level a is = text-back (certificate_of a) (written named level a is)

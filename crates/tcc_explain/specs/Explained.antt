@@ -16,17 +16,17 @@ use Rattle.tcc_explain.specs.declared.refusal.ExplainFault.TheVariants as refusa
 
 -- the first answer for the history at the level, with its labels: without a cycle the first commit order, with the
 -- clocks; else the first least cycle, with the distances, each capped at what the cycle costs
-abbrev pub IsAnswerOf : Judged → Answer → Type 0
-IsAnswerOf j (answer.Commit c) =
+abbrev pub IsAnswerOfHistory : Judged → Answer → Type 0
+IsAnswerOfHistory j (answer.Commit c) =
     first.IsFirstAnswer j (first.Order c.order) × (c.level ≡ j.level) × (c.sessions ≡ length j.history.sessions)
     × (c.labels ≡ labels_of j.history) × IsClocksAt j.level j.history c.clocks
-IsAnswerOf j (answer.Anomaly a) =
+IsAnswerOfHistory j (answer.Anomaly a) =
     ((s : ℕ) × first.IsFirstAnswer j (first.Cycle s a.links)) × (a.level ≡ j.level) × (a.labels ≡ labels_of j.history)
     × IsNearTable j (cost a.links) a.near × IsFarTable j (cost a.links) a.far
 
 -- the first answer for the history of a snapshot at the level, where all its reads have sources
-abbrev pub IsAnswerFor : Sessions → Level → Answer → Type 0
-IsAnswerFor s level a = (read_faults s ≡ []) × IsAnswerOf (judged (history s) level) a
+abbrev pub IsAnswerOfSnapshot : Sessions → Level → Answer → Type 0
+IsAnswerOfSnapshot s level a = (read_faults s ≡ []) × IsAnswerOfHistory (judged (history s) level) a
 
 -- the list has exactly the read faults of the snapshot, of which there is one at least; or memory is out
 abbrev pub IsRefusal : Sessions → ExplainFault → Type 0

@@ -13,7 +13,7 @@ use Rattle.tcc_answer.specs.declared.answer.Answer.{Answer}
 use Rattle.tcc_growth.specs.Growth.{IsFirstMissing}
 use Rattle.tcc_growth.specs.Moved.{moved}
 use Rattle.tcc_graph.specs.Renumbered.{link_by}
-use Rattle.tcc_explain.specs.Explained.{IsAnswerFor, IsRefusal}
+use Rattle.tcc_explain.specs.Explained.{IsAnswerOfSnapshot, IsRefusal}
 use Rattle.tcc_explain.specs.declared.refusal.ExplainFault.TheVariants as whole
 use Rattle.tcc_explain.specs.declared.refusal.NextFault.{NextFault}
 use Rattle.tcc_explain.specs.declared.refusal.NextFault.TheVariants as refusal
@@ -24,7 +24,7 @@ links_in e s = map (link_by (moved e.labels (labels_of (history s)))) e.links
 
 -- the answer at the level of the earlier cycle, whose links are all links of the snapshot's history
 abbrev pub IsNextAnswer : Sessions → LabelledCycle → Answer → Type 0
-IsNextAnswer s e a = IsAnswerFor s e.level a × All (IsLink (judged (history s) e.level)) (links_in e s)
+IsNextAnswer s e a = IsAnswerOfSnapshot s e.level a × All (IsLink (judged (history s) e.level)) (links_in e s)
 
 -- as for an answer on its own; or a link of the earlier cycle, the first that is told, is none of the snapshot's
 abbrev pub IsNextRefusal : Sessions → LabelledCycle → NextFault → Type 0

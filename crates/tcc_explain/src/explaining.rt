@@ -5,7 +5,7 @@ ghost use Rattle.tcc_near.specs.Distances.{IsNearOf};
 ghost use Rattle.tcc_derive.specs.Prices.{IsPricesOf};
 ghost use Rattle.tcc_answer.specs.Labels.{labels_of};
 ghost use Rattle.tcc_answer.specs.declared.answer.Answer.TheVariants as answer;
-ghost use Rattle.tcc_explain.specs.Explained.{IsAnswerFor, IsAnswerOf, IsRefusal};
+ghost use Rattle.tcc_explain.specs.Explained.{IsAnswerOfSnapshot, IsAnswerOfHistory, IsRefusal};
 ghost use Rattle.tcc_explain.specs.private.Stages.{IsLabelledHistory};
 ghost use Rattle.tcc_graph.specs.Levels.{judged};
 
@@ -59,7 +59,7 @@ fn anomaly<G: Gate>(
     requires prices { IsPricesOf (judged graph.now near.level) prices }
     requires cycle { HasCycle (judged graph.now near.level) }
     requires labels { labels ≡ labels_of graph.now }
-    ensures { IfOk result (λ anomaly. IsAnswerOf (judged graph.now near.level) (answer.Anomaly anomaly)) }
+    ensures { IfOk result (λ anomaly. IsAnswerOfHistory (judged graph.now near.level) (answer.Anomaly anomaly)) }
 {
     let seed = lesser(offered(&prices, earlier), seed(&near, &prices));
     let found = search_with(rt, alloc, &prices, seed, workers, gate, &AllStart)?;
@@ -101,7 +101,7 @@ pub(crate) fn history_answer<G: Gate>(
     gate: &G,
 ) -> Result<Answer, NoMemory>
     requires labels { labels ≡ labels_of graph.now }
-    ensures { IfOk result (IsAnswerOf (judged graph.now level)) }
+    ensures { IfOk result (IsAnswerOfHistory (judged graph.now level)) }
 {
     order_or_cycle();
     if let Some(order) = order(alloc, graph.large(), level)? {
@@ -148,7 +148,7 @@ pub fn explain<G: Gate>(
     workers: Workers,
     gate: &G,
 ) -> Result<Answer, ExplainFault>
-    ensures { MatchResult result (IsAnswerFor snapshot.now level) (IsRefusal snapshot.now) }
+    ensures { MatchResult result (IsAnswerOfSnapshot snapshot.now level) (IsRefusal snapshot.now) }
 {
     let (graph, labels) = labelled_history(alloc, snapshot)?;
     let answer = history_answer(rt, alloc, &graph, level, labels, &[], workers, gate)?;

@@ -26,7 +26,7 @@ ghost use Rattle.tcc_answer.specs.declared.answer.Answer.{Answer};
 ghost use Rattle.tcc_answer.specs.declared.answer.Answer.TheVariants as answer;
 ghost use Rattle.tcc_growth.specs.Growth.{Grows};
 ghost use Rattle.tcc_explain.specs.Certificates.{IsNearTable, IsFarTable, IsClocksAt, IsNumbered};
-ghost use Rattle.tcc_explain.specs.Explained.{IsAnswerOf};
+ghost use Rattle.tcc_explain.specs.Explained.{IsAnswerOfHistory};
 ghost use Rattle.tcc_explain.specs.Keys.{HasNames};
 ghost use Rattle.tcc_explain.specs.Next.{IsAnomalyOf, IsNextRefusal};
 ghost use Rattle.tcc_explain.specs.declared.refusal.NextFault.TheVariants as refusal;
@@ -45,7 +45,7 @@ pub fn certificates()
 
 /// The certificate of the answer for a snapshot at a level keeps all rules.
 pub fn certified()
-    ensures { (s : Sessions) (level : Level) (a : Answer) → IsAnswerOf (judged (history s) level) a
+    ensures { (s : Sessions) (level : Level) (a : Answer) → IsAnswerOfHistory (judged (history s) level) a
         → Certifies (history s) (certificate_of a) }
 {}
 
@@ -53,9 +53,9 @@ pub fn certified()
 /// keeps the limits and its keys are names.
 pub fn written()
     ensures text { (s : Sessions) (level : Level) (a : Answer) → KeepsLimits s → HasNames s
-        → IsAnswerOf (judged (history s) level) a → HasText (certificate_of a) }
+        → IsAnswerOfHistory (judged (history s) level) a → HasText (certificate_of a) }
     ensures read { (s : Sessions) (level : Level) (a : Answer) → KeepsLimits s → HasNames s
-        → IsAnswerOf (judged (history s) level) a
+        → IsAnswerOfHistory (judged (history s) level) a
         → certificate_read (certificate_text (certificate_of a)) ≡ Ok (certificate_of a) }
 {}
 
@@ -71,10 +71,10 @@ pub fn recorded()
 pub fn one_answer()
     ensures order { (j : Judged) (order other : List ℕ) → IsFirstOrder j order → IsFirstOrder j other → order ≡ other }
     ensures answer { (j : Judged) (some other : first.Answer) → first.IsFirstAnswer j some → first.IsFirstAnswer j other → some ≡ other }
-    ensures whole { (j : Judged) (some other : Answer) → IsAnswerOf j some → IsAnswerOf j other → some ≡ other }
-    ensures text { (j : Judged) (some other : Answer) → IsAnswerOf j some → IsAnswerOf j other → answer_text some ≡ answer_text other }
-    ensures json { (j : Judged) (some other : Answer) → IsAnswerOf j some → IsAnswerOf j other → answer_json some ≡ answer_json other }
-    ensures certificate { (j : Judged) (some other : Answer) → IsAnswerOf j some → IsAnswerOf j other
+    ensures whole { (j : Judged) (some other : Answer) → IsAnswerOfHistory j some → IsAnswerOfHistory j other → some ≡ other }
+    ensures text { (j : Judged) (some other : Answer) → IsAnswerOfHistory j some → IsAnswerOfHistory j other → answer_text some ≡ answer_text other }
+    ensures json { (j : Judged) (some other : Answer) → IsAnswerOfHistory j some → IsAnswerOfHistory j other → answer_json some ≡ answer_json other }
+    ensures certificate { (j : Judged) (some other : Answer) → IsAnswerOfHistory j some → IsAnswerOfHistory j other
         → certificate_of some ≡ certificate_of other }
 {}
 
@@ -84,6 +84,6 @@ pub fn grown()
     ensures nested { (small large : Sessions) (level : Level) (a : LabelledCycle) (n : ℕ) → Grows small large
         → IsAnomalyOf (judged (history small) level) a → IsNextRefusal large a (refusal.NotNested n) → ⊥ }
     ensures steps { (small large : Sessions) (level : Level) (a : LabelledCycle) (b : Answer) → Grows small large
-        → IsAnswerOf (judged (history small) level) (answer.Anomaly a) → IsAnswerOf (judged (history large) level) b
+        → IsAnswerOfHistory (judged (history small) level) (answer.Anomaly a) → IsAnswerOfHistory (judged (history large) level) b
         → (c : LabelledCycle) × (b ≡ answer.Anomaly c) × (cost c.links ≤ cost a.links) }
 {}

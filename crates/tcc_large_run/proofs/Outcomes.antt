@@ -10,7 +10,7 @@ use Rattle.tcc_large.specs.declared.answer.LargeAnswer.{LargeAnswer}
 use Rattle.tcc_large.specs.declared.decision.Decision.{Decision}
 use Rattle.tcc_large.specs.declared.decision.Decision.TheVariants as decision
 use Rattle.tcc_print.specs.declared.options.Options.{Options}
-use Rattle.tcc_large_run.specs.LargeRuns.{IsAnswered, IsResolvedAs, decision_said, faults_said}
+use Rattle.tcc_large_run.specs.LargeRuns.{IsSaidOfSnapshot, IsResolvedAs, decision_said, faults_said}
 use Rattle.tcc_large_run.specs.private.Stages.{IsOutcome, IsResolved, outcome_of, outcome_said}
 use Rattle.tcc_large_run.specs.declared.outcome.Outcome.{Outcome}
 
@@ -22,7 +22,7 @@ resolved_as : (options : Options) (s : Sessions) (o : Outcome) → IsResolved op
 resolved_as options s o (inl (keeps, a, is, same)) = inl (keeps, a, is, ap (outcome_said options) same)
 resolved_as options s o (inr (past, d, is, same)) = inr (past, d, is, ap (outcome_said options) same ∙ decided options (history s) d)
 
-pub said_of : (options : Options) (s : Sessions) (o : Outcome) → IsOutcome options.level s o → IsAnswered options s (outcome_said options o)
+pub said_of : (options : Options) (s : Sessions) (o : Outcome) → IsOutcome options.level s o → IsSaidOfSnapshot options s (outcome_said options o)
 said_of options s o (inl (resolved, is)) = inl (resolved, resolved_as options s o is)
 said_of options s o (inr (faulty, faults, same, all)) = inr (faulty, ap (outcome_said options) same ∙ ap (faults_said options) all)
 

@@ -19,7 +19,7 @@ use Rattle.tcc_answer.specs.Answers.{LabelledOrder}
 use Rattle.tcc_answer.specs.Labels.{labels_of}
 use Rattle.tcc_answer.specs.declared.answer.Answer.{Answer}
 use Rattle.tcc_answer.specs.declared.answer.Answer.TheVariants as answer
-use Rattle.tcc_explain.specs.Explained.{IsAnswerOf}
+use Rattle.tcc_explain.specs.Explained.{IsAnswerOfHistory}
 use Rattle.tcc_large.specs.Decisions.{IsDecision}
 use Rattle.tcc_large.specs.Cuts.{IsCutOf}
 use Rattle.tcc_large.specs.Slices.{IsSliceOf}
@@ -67,18 +67,18 @@ decision_said options h (decision.Cycle links) = record { text = unproved option
 -- without --large; past them what is decided of its history
 abbrev pub IsResolvedAs : Options → Sessions → Said → Type 0
 IsResolvedAs options s said =
-    (KeepsLimits s × (a : Answer) × IsAnswerOf (judged (history s) options.level) a × (said ≡ answer_said options a))
+    (KeepsLimits s × (a : Answer) × IsAnswerOfHistory (judged (history s) options.level) a × (said ≡ answer_said options a))
     ⊎ ((KeepsLimits s → ⊥) × (d : Decision) × IsDecision (judged (history s) options.level) d × (said ≡ decision_said options (history s) d))
 
 -- what is said of a snapshot; all its read faults, where there are some
-abbrev pub IsAnswered : Options → Sessions → Said → Type 0
-IsAnswered options s said =
+abbrev pub IsSaidOfSnapshot : Options → Sessions → Said → Type 0
+IsSaidOfSnapshot options s said =
     ((read_faults s ≡ []) × IsResolvedAs options s said)
     ⊎ ((read_faults s ≢ []) × (said ≡ faults_said options (read_faults s)))
 
 -- each of the snapshots is answered, in turn
-abbrev pub AreAnswered : Options → List Sessions → List Said → Type 0
-AreAnswered options snapshots said = AllZip (IsAnswered options) snapshots said
+abbrev pub AreSaidOfSnapshots : Options → List Sessions → List Said → Type 0
+AreSaidOfSnapshots options snapshots said = AllZip (IsSaidOfSnapshot options) snapshots said
 
 -- ---- a run
 
@@ -91,7 +91,7 @@ records_of text = rows.records_within Large text
 
 -- the records have no fault, and there is an answer at each seal, and one at the end where it is due
 abbrev pub IsWhole : Options → rows.Answers → List Said → Type 0
-IsWhole options all said = (all.fault ≡ None) × AreAnswered options (sealed_in all.items ++ at_end all.items) said
+IsWhole options all said = (all.fault ≡ None) × AreSaidOfSnapshots options (sealed_in all.items ++ at_end all.items) said
 
 -- why a run may end after so many items: by the fault of the records, after all items; by the fault of a reader that failed
 -- at one of the records or behind the last, all before which are lawful, after the items of these; or out of memory
@@ -107,7 +107,7 @@ MayEnd text n _ = ⊥
 abbrev pub IsEnded : Options → List ℕ → List Said → Type 0
 IsEnded options text said =
     (n : ℕ) × (why : Halt) × (answers : List Said) × MayEnd text n why
-    × AreAnswered options (sealed_in (take n (answers_of text).items)) answers × (said ≡ answers ++ halt_said options why ∷ [])
+    × AreSaidOfSnapshots options (sealed_in (take n (answers_of text).items)) answers × (said ≡ answers ++ halt_said options why ∷ [])
 
 -- the texts, one after the other
 abbrev pub texts : List Said → List ℕ

@@ -11,8 +11,8 @@ use Rattle.tcc_reads.specs.declared.fault.ReadFault.{ReadFault}
 use Rattle.tcc_reads.specs.declared.writers.Writer.{Writer}
 use Rattle.tcc_reads.specs.declared.fault.ReadFaultKind.{ReadFaultKind}
 use Rattle.tcc_reads.specs.declared.fault.ReadFaultKind.TheVariants.{Duplicate, BrokenInternal, Intermediate, Future}
-use Rattle.tcc_reads.specs.declared.judging.Judgement.{Judgement}
-use Rattle.tcc_reads.specs.declared.judging.Judgement.TheVariants.{Faulty, ReadsFrom, Silent}
+use Rattle.tcc_reads.specs.declared.judging.OpJudgement.{OpJudgement}
+use Rattle.tcc_reads.specs.declared.judging.OpJudgement.TheVariants.{Faulty, ReadsFrom, Silent}
 use Rattle.tcc_reads.specs.Sites.{Stand, Site, at, sites_from, sites_of, sites}
 use Rattle.tcc_reads.specs.private.Numbers.{Numbered, next_number, numbered_from}
 use Rattle.tcc_reads.specs.Sources.{visible_write}
@@ -62,7 +62,7 @@ agree_on number (stand ∷ later) x v =
     (first_writer (numbered_from (next_number number stand) later) x v) (agree_on (next_number number stand) later x v)
 
 -- the kind of fault that a judgement names
-abbrev pub kind_in : Judgement → Option ReadFaultKind
+abbrev pub kind_in : OpJudgement → Option ReadFaultKind
 kind_in (Faulty kind) = Some kind
 kind_in (ReadsFrom number) = None
 kind_in Silent = None
@@ -71,7 +71,7 @@ report : Stand → ℕ → Op → ReadFaultKind → ReadFault
 report stand place op kind =
     record { session = stand.name; place = stand.place; op = place; key = op_key op; value = op_value op; kind = kind }
 
-fault_in-kind : (stand : Stand) (place : ℕ) (op : Op) (judgement : Judgement)
+fault_in-kind : (stand : Stand) (place : ℕ) (op : Op) (judgement : OpJudgement)
     → fault_in stand place op judgement ≡ option_map (report stand place op) (kind_in judgement)
 unfolding report
 fault_in-kind stand place op (Faulty kind) = refl

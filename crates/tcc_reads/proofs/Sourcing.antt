@@ -10,8 +10,8 @@ use Rattle.tcc_txn.specs.declared.op.Op.{Op}
 use Rattle.tcc_txn.specs.declared.op.Op.TheVariants.{Get, Put}
 use Rattle.tcc_reads.specs.declared.fault.ReadFaultKind.TheVariants.{Duplicate, BrokenInternal, Intermediate, Future}
 use Rattle.tcc_reads.specs.declared.writers.Writer.{Writer}
-use Rattle.tcc_reads.specs.declared.judging.Judgement.{Judgement}
-use Rattle.tcc_reads.specs.declared.judging.Judgement.TheVariants.{Faulty, ReadsFrom, Silent}
+use Rattle.tcc_reads.specs.declared.judging.OpJudgement.{OpJudgement}
+use Rattle.tcc_reads.specs.declared.judging.OpJudgement.TheVariants.{Faulty, ReadsFrom, Silent}
 use Rattle.tcc_reads.specs.Sites.{Stand, Site, at, sites_from, committed}
 use Rattle.tcc_reads.specs.private.Numbers.{Numbered, next_number, numbered_from}
 use Rattle.tcc_reads.specs.Sources.{puts_at, value_put, visible_write, shows, source, external_read, external_reads, sorted_once, pair_cmp, writes_of, entry_of}
@@ -164,7 +164,7 @@ no_append : {A : Type 0} (xs ys : List A) → xs ++ ys ≡ [] → (xs ≡ []) ×
 no_append [] ys e = (refl, e)
 no_append (x ∷ xs) ys e = cc
 
-no_kind : (stand : Stand) (place : ℕ) (op : Op) (judgement : Judgement) → fault_in stand place op judgement ≡ None → kind_in judgement ≡ None
+no_kind : (stand : Stand) (place : ℕ) (op : Op) (judgement : OpJudgement) → fault_in stand place op judgement ≡ None → kind_in judgement ≡ None
 no_kind stand place op (Faulty kind) e = cc
 no_kind stand place op (ReadsFrom number) e = refl
 no_kind stand place op Silent e = refl

@@ -9,7 +9,7 @@ use Rattle.std.specs.Ordering.{is_eq}
 use Rattle.tcc_txn.specs.declared.op.Op.{Op}
 use Rattle.tcc_txn.specs.declared.op.Op.TheVariants.{Get, Put}
 use Rattle.tcc_reads.specs.declared.fault.ReadFaultKind.TheVariants.{Duplicate}
-use Rattle.tcc_reads.specs.declared.judging.Judgement.TheVariants.{Faulty, Silent}
+use Rattle.tcc_reads.specs.declared.judging.OpJudgement.TheVariants.{Faulty, Silent}
 use Rattle.tcc_reads.specs.private.Numbers.{Numbered}
 use Rattle.tcc_reads.specs.Sources.{name_cmp, value_put, visible_write}
 use Rattle.tcc_reads.specs.private.Verdicts.{Writes, AreOwnIn, IsOwn, AreVisibleWrites, write_judgement}

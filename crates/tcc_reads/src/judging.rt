@@ -18,7 +18,7 @@ use tcc_txn::{Name, Op};
 
 /// What an operation is.
 #[derive(Clone, Copy)]
-enum Judgement {
+enum OpJudgement {
     /// It has a fault.
     Faulty(ReadFaultKind),
     /// It is an external read from the transaction of this number.
@@ -35,38 +35,38 @@ fn is_in(standing: &Standing<'_>, first: &Writer) -> bool
 }
 
 /// Of a write at a place of its transaction, from 1, by the first write of its value.
-fn write_judgement(standing: &Standing<'_>, place: u16, writer: Option<&Writer>) -> Judgement
+fn write_judgement(standing: &Standing<'_>, place: u16, writer: Option<&Writer>) -> OpJudgement
     ensures { result ≡ write_judgement standing.now place (option_copied writer.entry) }
 {
     match writer {
-        None => Judgement::Faulty(ReadFaultKind::Duplicate),
+        None => OpJudgement::Faulty(ReadFaultKind::Duplicate),
         Some(first) => {
             if is_in(standing, first) && first.op == place {
-                Judgement::Silent
+                OpJudgement::Silent
             } else {
-                Judgement::Faulty(ReadFaultKind::Duplicate)
+                OpJudgement::Faulty(ReadFaultKind::Duplicate)
             }
         }
     }
 }
 
 /// Of an external read of a value other than 0, by the first write of the value.
-fn read_judgement(standing: &Standing<'_>, writer: Option<&Writer>) -> Judgement
+fn read_judgement(standing: &Standing<'_>, writer: Option<&Writer>) -> OpJudgement
     ensures { result ≡ read_judgement standing.now (option_copied writer.entry) }
 {
     let Some(first) = writer else {
-        return Judgement::Faulty(ReadFaultKind::ThinAir);
+        return OpJudgement::Faulty(ReadFaultKind::ThinAir);
     };
     let Some(number) = first.number else {
-        return Judgement::Faulty(ReadFaultKind::Aborted);
+        return OpJudgement::Faulty(ReadFaultKind::Aborted);
     };
     if is_in(standing, first) {
-        return Judgement::Faulty(ReadFaultKind::Future);
+        return OpJudgement::Faulty(ReadFaultKind::Future);
     }
     if first.last {
-        Judgement::ReadsFrom(number)
+        OpJudgement::ReadsFrom(number)
     } else {
-        Judgement::Faulty(ReadFaultKind::Intermediate)
+        OpJudgement::Faulty(ReadFaultKind::Intermediate)
     }
 }
 
@@ -79,33 +79,33 @@ fn judgement_of(
     place: u16,
     op: Op,
     own: &BTreeMap<Name, u64>,
-) -> Judgement
+) -> OpJudgement
     requires { distinct ≡ true → IsOwn (writers_in writers.now) standing.now place op }
     ensures { result ≡ op_judgement (writers_in writers.now) standing.now place op (tree.get name_cmp own.now (op_key op)) }
 {
     match op {
         Op::Put { key, value } => {
             if distinct {
-                Judgement::Silent
+                OpJudgement::Silent
             } else {
                 write_judgement(standing, place, first_writer(writers, &key, value))
             }
         }
         Op::Get { key, value } => {
             if !standing.txn.committed() {
-                return Judgement::Silent;
+                return OpJudgement::Silent;
             }
             match own.get(&key) {
                 Some(written) => {
                     if *written == value {
-                        Judgement::Silent
+                        OpJudgement::Silent
                     } else {
-                        Judgement::Faulty(ReadFaultKind::BrokenInternal)
+                        OpJudgement::Faulty(ReadFaultKind::BrokenInternal)
                     }
                 }
                 None => {
                     if value == 0 {
-                        Judgement::ReadsFrom(0)
+                        OpJudgement::ReadsFrom(0)
                     } else {
                         read_judgement(standing, first_writer(writers, &key, value))
                     }
@@ -120,7 +120,7 @@ fn note(
     standing: &Standing<'_>,
     place: u16,
     op: &Op,
-    judgement: Judgement,
+    judgement: OpJudgement,
     faults: &mut Vec<ReadFault>,
     reads: &mut Vec<(Name, u32)>,
 ) -> Result<(), AllocError>
@@ -128,7 +128,7 @@ fn note(
     ensures read { OnOk result (reads.new.items ≡ reads.old.items ++ option_to_list (source_in op.now judgement)) }
 {
     match judgement {
-        Judgement::Faulty(kind) => {
+        OpJudgement::Faulty(kind) => {
             let fault = ReadFault {
                 session: standing.name,
                 place: standing.place,
@@ -140,11 +140,11 @@ fn note(
             faults.push(fault)?;
             Ok(())
         }
-        Judgement::ReadsFrom(source) => {
+        OpJudgement::ReadsFrom(source) => {
             reads.push((op.key(), source))?;
             Ok(())
         }
-        Judgement::Silent => Ok(()),
+        OpJudgement::Silent => Ok(()),
     }
 }
 

@@ -16,7 +16,7 @@ use Rattle.tcc_run.specs.Closing.{IsAcceptance, acceptance}
 use Rattle.tcc_print.specs.Printed.{Prints, device_line}
 use Rattle.tcc_print.specs.Statuses.{code_of}
 use Rattle.tcc_print.specs.declared.status.Status.TheVariants.{Device}
-use Rattle.tcc_run.specs.Runs.{IsAnswered, IsEnded, IsRun, IsWhole, Said, halt_said}
+use Rattle.tcc_run.specs.Runs.{IsSaidOfSnapshot, IsEnded, IsRun, IsWhole, Said, halt_said}
 use Rattle.tcc_run.proofs.Closing.{accepted, only}
 use Rattle.tcc_run.proofs.LastSnapshot.{last_said}
 use Rattle.tcc_print.proofs.Moments.{last-push}
@@ -33,7 +33,7 @@ nothing x e = cc e
 
 module _ (options : Options) (records text : List ℕ) (limits : KeepsLimits (finished_in (answers_of records).items)) (said : List Said) (last : Said)
     (end : last_or None said ≡ Some last) (has : last.certificate ≡ Some text) where
-  of_answer : (answers_of records).fault ≡ None → IsAnswered options (finished_in (answers_of records).items) last → Accepts records text
+  of_answer : (answers_of records).fault ≡ None → IsSaidOfSnapshot options (finished_in (answers_of records).items) last → Accepts records text
   of_answer unfaulted (inl (resolved, a, is, same)) =
       let at : certificate_text (certificate_of a) ≡ text = inside _ _ (sym (ap (λ (s : Said). s.certificate) same) ∙ has) in (
         certificate_of a,
@@ -43,7 +43,7 @@ module _ (options : Options) (records text : List ℕ) (limits : KeepsLimits (fi
   of_answer unfaulted (inr (faulty, same)) = absurd (nothing text (sym (ap (λ (s : Said). s.certificate) same) ∙ has))
 
   pub closes : IsWhole options (answers_of records) said ⊎ IsEnded options records said → Accepts records text
-  closes (inl (unfaulted, answered)) = of_answer unfaulted (last_said (IsAnswered options) (answers_of records).items said last answered end)
+  closes (inl (unfaulted, answered)) = of_answer unfaulted (last_said (IsSaidOfSnapshot options) (answers_of records).items said last answered end)
   closes (inr (n, why, before, may, are, same)) =
       let pushed : last_or None said ≡ Some (halt_said options why) = ap (last_or None) same ∙ last-push None before (halt_said options why) in
       let halted : halt_said options why ≡ last = inside _ _ (sym pushed ∙ end) in

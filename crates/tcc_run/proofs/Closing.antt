@@ -24,7 +24,7 @@ use Rattle.tcc_check.specs.declared.verdict.Verdict.TheVariants as verdict
 use Rattle.tcc_check.proofs.Claims.{rejected_false}
 use Rattle.tcc_answer.specs.Claims.{certificate_of}
 use Rattle.tcc_answer.specs.declared.answer.Answer.{Answer}
-use Rattle.tcc_explain.specs.Explained.{IsAnswerOf}
+use Rattle.tcc_explain.specs.Explained.{IsAnswerOfHistory}
 use Rattle.tcc_explain.specs.Keys.{HasNames}
 use Rattle.tcc_explain.proofs.CertifiedAnswer.{certified}
 use Rattle.tcc_explain.proofs.RecordedKeys.{recorded}
@@ -50,7 +50,7 @@ all_of records = finished_in (answers_of records).items
 
 module _ (records : List ℕ) (limits : KeepsLimits (all_of records)) (level : Level) (a : Answer) (unfaulted : (answers_of records).fault ≡ None)
     (resolved : read_faults (all_of records) ≡ [])
-    (is : IsAnswerOf (judged (history (all_of records)) level) a) where
+    (is : IsAnswerOfHistory (judged (history (all_of records)) level) a) where
   abbrev c : Certificate
   c = certificate_of a
 

@@ -9,7 +9,7 @@ use Rattle.tcc_graph.specs.declared.level.Level.{Level}
 use Rattle.tcc_answer.specs.Answers.{LabelledCycle}
 use Rattle.tcc_answer.specs.declared.answer.Answer.{Answer}
 use Rattle.tcc_answer.specs.declared.answer.Answer.TheVariants as answer
-use Rattle.tcc_explain.specs.Explained.{IsAnswerFor, IsAnswerOf}
+use Rattle.tcc_explain.specs.Explained.{IsAnswerOfSnapshot, IsAnswerOfHistory}
 use Rattle.tcc_explain.specs.Next.{IsAnomalyOf, IsNextRefusal}
 use Rattle.tcc_explain.specs.declared.refusal.NextFault.TheVariants as refusal
 use Rattle.tcc_graph.specs.Levels.{judged}
@@ -20,7 +20,7 @@ use Rattle.tcc_run.specs.declared.explain.Last.{Last}
 use Rattle.tcc_run.specs.declared.outcome.Outcome.TheVariants as outcome
 
 -- an answer's own anomaly is one of its snapshot
-pub own_earlier : (level : Level) (s : Sessions) (a : Answer) → read_faults s ≡ [] → IsAnswerOf (judged (history s) level) a → HasEarlier level s (outcome.Answered a)
+pub own_earlier : (level : Level) (s : Sessions) (a : Answer) → read_faults s ≡ [] → IsAnswerOfHistory (judged (history s) level) a → HasEarlier level s (outcome.Answered a)
 own_earlier level s (answer.Commit c) resolved is = tt
 own_earlier level s (answer.Anomaly a) resolved is = (s, nested_itself s, resolved, (is.0, is.1, is.2))
 
@@ -44,9 +44,9 @@ without_tables level s a b is (small, nested, resolved, anomaly) =
 
 -- what is answered at its level is answered at that of the run
 pub at_its_level : (level : Level) (s : Sessions) (e : LabelledCycle) (a : Answer) → IsEarlier level s e → IsExplained s e.level a
-    → IsAnswerOf (judged (history s) e.level) a → IsAnswerFor s level a
+    → IsAnswerOfHistory (judged (history s) e.level) a → IsAnswerOfSnapshot s level a
 at_its_level level s e a (small, nested, resolved, anomaly) explained is =
-    (explained.resolved, subst (λ (l : Level). IsAnswerOf (judged (history s) l) a) anomaly.1 is)
+    (explained.resolved, subst (λ (l : Level). IsAnswerOfHistory (judged (history s) l) a) anomaly.1 is)
 
 -- in a resolved snapshot no link of such an anomaly is missed, where none is missed of one of a snapshot that it continues
 pub none_missed : (level : Level) (s : Sessions) (a : LabelledCycle) (n : ℕ)

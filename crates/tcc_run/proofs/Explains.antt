@@ -8,10 +8,10 @@ use Rattle.tcc_check.specs.Verdicts.{IsTrueClaim}
 use Rattle.tcc_answer.specs.Claims.{certificate_of}
 use Rattle.tcc_answer.specs.declared.answer.Answer.{Answer}
 use Rattle.tcc_answer.specs.declared.answer.Answer.TheVariants as answer
-use Rattle.tcc_explain.specs.Explained.{IsAnswerFor}
+use Rattle.tcc_explain.specs.Explained.{IsAnswerOfSnapshot}
 use Rattle.tcc_run.specs.Headline.{IsExplained}
 
-pub explained : (s : Sessions) (level : Level) (a : Answer) → IsAnswerFor s level a
+pub explained : (s : Sessions) (level : Level) (a : Answer) → IsAnswerOfSnapshot s level a
     → Certifies (history s) (certificate_of a) → ((c : Certificate) → Certifies (history s) c → IsTrueClaim (history s) c) → IsExplained s level a
 explained s level (answer.Commit c) (resolved, is) keeps alone =
     record { resolved = resolved; explains = is.0.1.commit; level_is = is.1; accepted = keeps; alone = alone }

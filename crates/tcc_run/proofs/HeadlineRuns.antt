@@ -9,7 +9,7 @@ use Rattle.tcc_rows.specs.Answers.{answers_of}
 use Rattle.tcc_reads.specs.Faults.{read_faults}
 use Rattle.tcc_graph.specs.declared.level.Level.{Level}
 use Rattle.tcc_answer.specs.declared.answer.Answer.{Answer}
-use Rattle.tcc_explain.specs.Explained.{IsAnswerFor, IsAnswerOf}
+use Rattle.tcc_explain.specs.Explained.{IsAnswerOfSnapshot, IsAnswerOfHistory}
 use Rattle.tcc_print.specs.Printed.{Prints, answered, device_line}
 use Rattle.tcc_print.specs.Statuses.{code_of, halt_status, row_status}
 use Rattle.tcc_print.specs.declared.halt.Halt.{Halt}
@@ -18,7 +18,7 @@ use Rattle.tcc_print.specs.declared.options.Options.{Options}
 use Rattle.tcc_print.specs.declared.status.Status.TheVariants.{Device, Memory}
 use Rattle.tcc_run.specs.Headline.{IsExplained}
 use Rattle.tcc_run.specs.HeadlineRuns.{PrintsExplained, SaysExplained, finished_by}
-use Rattle.tcc_run.specs.Runs.{AllGoesOut, Contents, Gains, IsAnswered, IsEnded, IsRun, IsWhole, MayEnd, Said, answer_said, halt_said, texts}
+use Rattle.tcc_run.specs.Runs.{AllGoesOut, Contents, Gains, IsSaidOfSnapshot, IsEnded, IsRun, IsWhole, MayEnd, Said, answer_said, halt_said, texts}
 use Rattle.tcc_run.proofs.Closes.{device_code}
 use Rattle.tcc_run.proofs.Closing.{accepted, only}
 use Rattle.tcc_run.proofs.LastSnapshot.{last_said}
@@ -42,9 +42,9 @@ texts_end : (said : List Said) (last : Said) → last_or None said ≡ Some last
 texts_end [] last e = absurd (nothing last e)
 texts_end (one ∷ said) last e = texts_from one said last e
 
-module _ (law : (s : Sessions) (level : Level) (a : Answer) → IsAnswerFor s level a → IsExplained s level a) (options : Options) where
+module _ (law : (s : Sessions) (level : Level) (a : Answer) → IsAnswerOfSnapshot s level a → IsExplained s level a) (options : Options) where
   -- what is said of a snapshot is what the main theorem says
-  pub says : (s : Sessions) (said : Said) → IsAnswered options s said → SaysExplained options s said
+  pub says : (s : Sessions) (said : Said) → IsSaidOfSnapshot options s said → SaysExplained options s said
   says s said (inl (resolved, a, is, same)) = inl (a, law s options.level a (resolved, is), same)
   says s said (inr faults) = inr faults
 
@@ -55,7 +55,7 @@ module _ (law : (s : Sessions) (level : Level) (a : Answer) → IsAnswerFor s le
     Printed = PrintsExplained options records before after file file' code
 
     of_answer : (said : List Said) (last : Said) → last_or None said ≡ Some last → AllGoesOut before after file file' (texts said) last code
-        → IsAnswered options (finished_by records) last → Printed
+        → IsSaidOfSnapshot options (finished_by records) last → Printed
     of_answer said last end (out, gains, ends) (inl (none, a, is, same)) =
         let (front, whole) = texts_end said last end in
         let text : texts said ≡ front ++ answered options.json a = whole ∙ ap (λ (s : Said). front ++ s.text) same in
@@ -83,7 +83,7 @@ module _ (law : (s : Sessions) (level : Level) (a : Answer) → IsAnswerFor s le
     of_ends : (said : List Said) (last : Said) → last_or None said ≡ Some last → AllGoesOut before after file file' (texts said) last code
         → IsWhole options (answers_of records) said ⊎ IsEnded options records said → Printed
     of_ends said last end goes (inl (none, answers)) =
-        of_answer said last end goes (last_said (IsAnswered options) (answers_of records).items said last answers end)
+        of_answer said last end goes (last_said (IsSaidOfSnapshot options) (answers_of records).items said last answers end)
     of_ends said last end goes (inr (n, why, answers, may, are, same)) =
         let pushed : last_or None said ≡ Some (halt_said options why) = ap (last_or None) same ∙ last-push None answers (halt_said options why) in
         let halted : last ≡ halt_said options why = inside last (halt_said options why) (sym end ∙ pushed) in

@@ -10,10 +10,10 @@ use Rattle.tcc_rows.specs.declared.rows.RowFault.{RowFault}
 use Rattle.tcc_reads.specs.Sources.{history}
 use Rattle.tcc_graph.specs.Levels.{Judged, judged}
 use Rattle.tcc_answer.specs.declared.answer.Answer.{Answer}
-use Rattle.tcc_explain.specs.Explained.{IsAnswerOf}
+use Rattle.tcc_explain.specs.Explained.{IsAnswerOfHistory}
 use Rattle.tcc_print.specs.declared.options.Options.{Options}
 use Rattle.tcc_print.specs.declared.halt.Halt.TheVariants as halt
-use Rattle.tcc_run.specs.Runs.{AreAnswered, AreAnswersOf, AreFront, AskAlike, IsAnswered, IsStopped, IsWhole, Said, answer_said, halt_said}
+use Rattle.tcc_run.specs.Runs.{AreSaidOfSnapshots, AreAnswersOfRun, AreFront, AskAlike, IsSaidOfSnapshot, IsStopped, IsWhole, Said, answer_said, halt_said}
 use Rattle.tcc_print.specs.Moments.{at_end}
 use Rattle.tcc_print.specs.Moments.{sealed_after, sealed_in}
 
@@ -32,22 +32,22 @@ sealed-front before (item.End ∷ items) (suc n) = sealed-front (before ++ item.
 inside : (x y : RowFault) → Some x ≡ Some y → x ≡ y
 inside x y e = cc e
 
-module _ (one : (j : Judged) (some other : Answer) → IsAnswerOf j some → IsAnswerOf j other → some ≡ other) (options others : Options)
+module _ (one : (j : Judged) (some other : Answer) → IsAnswerOfHistory j some → IsAnswerOfHistory j other → some ≡ other) (options others : Options)
     (alike : AskAlike options others) where
   answer_again : (a b : Answer) → a ≡ b → answer_said options a ≡ answer_said others b
   answer_again a b same = rw (alike.form, alike.required) (ap (answer_said others) same)
 
-  said_again : (s : Sessions) (x y : Said) → IsAnswered options s x → IsAnswered others s y → x ≡ y
+  said_again : (s : Sessions) (x y : Said) → IsSaidOfSnapshot options s x → IsSaidOfSnapshot others s y → x ≡ y
   said_again s x y (inl (resolved, a, is, e)) (inl (again, b, too, f)) =
       let same : a ≡ b =
       one (judged (history s) options.level) a b is
-      (subst (λ l. IsAnswerOf (judged (history s) l) b) (sym alike.level) too) in
+      (subst (λ l. IsAnswerOfHistory (judged (history s) l) b) (sym alike.level) too) in
       e ∙ answer_again a b same ∙ sym f
   said_again s x y (inl (resolved, a, is, e)) (inr (faulty, f)) = absurd (faulty resolved)
   said_again s x y (inr (faulty, e)) (inl (resolved, b, is, f)) = absurd (faulty resolved)
   said_again s x y (inr (faulty, e)) (inr (again, f)) = e ∙ rw alike.form refl ∙ sym f
 
-  all_again : (snapshots : List Sessions) (xs ys : List Said) → AreAnswered options snapshots xs → AreAnswered others snapshots ys → xs ≡ ys
+  all_again : (snapshots : List Sessions) (xs ys : List Said) → AreSaidOfSnapshots options snapshots xs → AreSaidOfSnapshots others snapshots ys → xs ≡ ys
   all_again [] [] [] are too = refl
   all_again [] [] (y ∷ ys) are too = absurd too
   all_again [] (x ∷ xs) ys are too = absurd are
@@ -59,7 +59,7 @@ module _ (one : (j : Judged) (some other : Answer) → IsAnswerOf j some → IsA
       ap (λ z. z ∷ xs) first ∙ ap (λ zs. y ∷ zs) rest
 
   -- of two beginnings of one list of snapshots the answers of the one are the first of the other's
-  fronts : (P Q r q : List Sessions) (xs ys : List Said) → P ++ r ≡ Q ++ q → AreAnswered options P xs → AreAnswered others Q ys
+  fronts : (P Q r q : List Sessions) (xs ys : List Said) → P ++ r ≡ Q ++ q → AreSaidOfSnapshots options P xs → AreSaidOfSnapshots others Q ys
       → AreFront xs ys ⊎ AreFront ys xs
   fronts [] Q r q [] ys same are too = inl (ys, refl)
   fronts [] Q r q (x ∷ xs) ys same are too = absurd are
@@ -70,7 +70,7 @@ module _ (one : (j : Judged) (some other : Answer) → IsAnswerOf j some → IsA
   fronts (s ∷ P) (t ∷ Q) r q (x ∷ xs) (y ∷ ys) same are too =
       let at : s ≡ t = cc same in
       let behind : P ++ r ≡ Q ++ q = cc same in
-      let first : x ≡ y = said_again s x y are.0 (subst (λ u. IsAnswered others u y) (sym at) too.0) in
+      let first : x ≡ y = said_again s x y are.0 (subst (λ u. IsSaidOfSnapshot others u y) (sym at) too.0) in
       elim (fronts P Q r q xs ys behind are.1 too.1) [
         | inl more ↦ inl (more.0, ap (λ z. z ∷ ys) (sym first) ∙ ap (λ zs. x ∷ zs) more.1)
         | inr more ↦ inr (more.0, ap (λ z. z ∷ xs) first ∙ ap (λ zs. y ∷ zs) more.1)
@@ -80,15 +80,15 @@ module _ (one : (j : Judged) (some other : Answer) → IsAnswerOf j some → IsA
   record IsFront (asked : Options) (snapshots : List Sessions) (answers : List Said) : Type 0 where
     some : List Sessions
     rest : List Sessions
-    are : AreAnswered asked some answers
+    are : AreSaidOfSnapshots asked some answers
     all : snapshots ≡ some ++ rest
 
-  front_of : (asked : Options) (text : List ℕ) (said answers : List Said) → AreAnswersOf asked text said answers
+  front_of : (asked : Options) (text : List ℕ) (said answers : List Said) → AreAnswersOfRun asked text said answers
       → IsFront asked (sealed_in (rows.answers_of text).items ++ at_end (rows.answers_of text).items) answers
   front_of asked text said answers (inl (is, same)) = record {
     some = sealed_in (rows.answers_of text).items ++ at_end (rows.answers_of text).items;
     rest = [];
-    are = subst (AreAnswered asked (sealed_in (rows.answers_of text).items ++ at_end (rows.answers_of text).items)) (sym same) is.1;
+    are = subst (AreSaidOfSnapshots asked (sealed_in (rows.answers_of text).items ++ at_end (rows.answers_of text).items)) (sym same) is.1;
     all = sym (append-nil (sealed_in (rows.answers_of text).items ++ at_end (rows.answers_of text).items));
   }
   front_of asked text said answers (inr (n, why, may, are, same)) =
@@ -100,8 +100,8 @@ module _ (one : (j : Judged) (some other : Answer) → IsAnswerOf j some → IsA
             ∙ append_assoc (sealed_in (take n (rows.answers_of text).items)) cut.0 (at_end (rows.answers_of text).items);
       }
 
-  pub front_again : (text : List ℕ) (said again answers more : List Said) → AreAnswersOf options text said answers
-      → AreAnswersOf others text again more → AreFront answers more ⊎ AreFront more answers
+  pub front_again : (text : List ℕ) (said again answers more : List Said) → AreAnswersOfRun options text said answers
+      → AreAnswersOfRun others text again more → AreFront answers more ⊎ AreFront more answers
   front_again text said again answers more is too =
       let one = front_of options text said answers is in
       let other = front_of others text again more too in
@@ -118,4 +118,4 @@ module _ (one : (j : Judged) (some other : Answer) → IsAnswerOf j some → IsA
   pub whole_again : (all more : rows.Answers) (xs ys : List Said) → sealed_in all.items ++ at_end all.items ≡ sealed_in more.items ++ at_end more.items
       → IsWhole options all xs → IsWhole others more ys → xs ≡ ys
   whole_again all more xs ys same is too =
-      all_again (sealed_in all.items ++ at_end all.items) xs ys is.1 (subst (λ snapshots. AreAnswered others snapshots ys) (sym same) too.1)
+      all_again (sealed_in all.items ++ at_end all.items) xs ys is.1 (subst (λ snapshots. AreSaidOfSnapshots others snapshots ys) (sym same) too.1)

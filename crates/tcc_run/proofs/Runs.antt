@@ -33,7 +33,7 @@ use Rattle.tcc_run.specs.declared.outcome.Outcome.TheVariants as outcome
 use Rattle.tcc_answer.specs.declared.answer.Answer.{Answer}
 use Rattle.tcc_print.specs.Printed.{Prints, halted, memory_line}
 use Rattle.tcc_print.specs.Statuses.{code_of, halt_status}
-use Rattle.tcc_run.specs.Runs.{AreAnswered, Contents, Gains, IsAnswered, IsRun, IsWhole, MayEnd}
+use Rattle.tcc_run.specs.Runs.{AreSaidOfSnapshots, Contents, Gains, IsSaidOfSnapshot, IsRun, IsWhole, MayEnd}
 use Rattle.tcc_run.specs.Runs.{Said, faults_said, halt_said, texts}
 use Rattle.tcc_print.specs.Moments.{at_end, is_due_after, sealed_in}
 use Rattle.tcc_run.specs.private.Stages.{AllAnswered, AnswersKept, Concludes, EndsAnswering, EndsEarly}
@@ -55,7 +55,7 @@ Appends-part a b c x y n out part = subst (λ t. Appends a c t) (sym (take-appen
 module _ (options : Options) (text : List ℕ) (before : Option (List ℕ)) where
   -- the run is ended after some answers
   ended : (n : ℕ) (why : Halt) (said : List Said) (now after : Option (List ℕ)) (code : ℕ) → MayEnd text n why
-      → AreAnswered options (sealed_in (take n (answers_of text).items)) said → Appends before now (texts said)
+      → AreSaidOfSnapshots options (sealed_in (take n (answers_of text).items)) said → Appends before now (texts said)
       → Prints now after (halted options.json why) (halt_status why) code → EndsEarly options text before after code
   ended n why said now after code may answers out prints =
       let all = texts-push said (halt_said options why) in (
@@ -81,14 +81,14 @@ module _ (options : Options) (text : List ℕ) (before : Option (List ℕ)) wher
       )
 
   ended_or : (n : ℕ) (why : Halt) (said : List Said) (now after : Option (List ℕ)) (code : ℕ) → MayEnd text n why
-      → AreAnswered options (sealed_in (take n (answers_of text).items)) said → Appends before now (texts said)
+      → AreSaidOfSnapshots options (sealed_in (take n (answers_of text).items)) said → Appends before now (texts said)
       → PrintsOrMemory options.json now after (halted options.json why) (halt_status why) code → EndsEarly options text before after code
   ended_or n why said now after code may answers out (inl prints) = ended n why said now after code may answers out prints
   ended_or n why said now after code may answers out (inr memory) = ended n halt.NoMemory said now after code tt answers out memory
 
   -- a writer fails in an answer, after which memory might have been wanting
   cut : (n : ℕ) (said : List Said) (one : Said) (now after : Option (List ℕ)) (code : ℕ)
-      → AreAnswered options (sealed_in (take n (answers_of text).items)) (said ++ one ∷ []) → Appends before now (texts said)
+      → AreSaidOfSnapshots options (sealed_in (take n (answers_of text).items)) (said ++ one ∷ []) → Appends before now (texts said)
       → CutsOff now after one.text code → EndsEarly options text before after code
   cut n said one now after code answers out cuts =
       let memory = halt_said options halt.NoMemory in
@@ -112,7 +112,7 @@ module _ (options : Options) (text : List ℕ) (before : Option (List ℕ)) wher
       )
 
 -- what is to be said of a snapshot is what is answered for it
-pub said_of : (options : Options) (s : Sessions) (o : Outcome) → IsOutcome options.level s o → IsAnswered options s (outcome_said options o)
+pub said_of : (options : Options) (s : Sessions) (o : Outcome) → IsOutcome options.level s o → IsSaidOfSnapshot options s (outcome_said options o)
 said_of options s (outcome.Answered a) is = inl (is.0, a, is.1, refl)
 said_of options s (outcome.Unresolved faults earlier) is = inr (is.0, ap (faults_said options) is.1)
 
@@ -140,7 +140,7 @@ pub record HasAnswered {R B : Type 0} (remaining : R → Option (List ℕ)) (opt
   pub said : List Said
   pub whole : answers_of text ≡ after_items taken ahead
   pub recorded : IsRecording Small remaining recording taken ahead
-  pub answers : AreAnswered options (sealed_in taken) said
+  pub answers : AreSaidOfSnapshots options (sealed_in taken) said
   pub out : Appends before now (texts said)
   pub last : IsLast options answered taken said
 
@@ -172,7 +172,7 @@ module _ {R B : Type 0} (remaining : R → Option (List ℕ)) (options : Options
   pub wants_memory : (after : Option (List ℕ)) (code : ℕ) → Prints now after (memory_line options.json) Memory code → EndsEarly options text before after code
   wants_memory after code prints =
       ended options text before (length way.taken) halt.NoMemory way.said now after code tt
-      (subst (λ items. AreAnswered options (sealed_in items) way.said) (sym kept) way.answers) way.out prints
+      (subst (λ items. AreSaidOfSnapshots options (sealed_in items) way.said) (sym kept) way.answers) way.out prints
 
   -- the texts with one more
   pub one-more : (one : Said) (after : Option (List ℕ)) → Appends now after one.text → Appends before after (texts (way.said ++ one ∷ []))
@@ -193,12 +193,12 @@ module _ {R B : Type 0} (remaining : R → Option (List ℕ)) (options : Options
         (sym (append_assoc way.taken (at.0 ++ item.Seal ∷ []) at.1.items ∙ ap (λ items. way.taken ++ items) (append_assoc at.0 (item.Seal ∷ []) at.1.items)))
 
     -- the snapshots to answer, with the one at the seal
-    past-answered : (s : Sessions) (one : Said) → s ≡ finished_in sealed_past → IsAnswered options s one
-        → AreAnswered options (sealed_in sealed_past) (way.said ++ one ∷ [])
+    past-answered : (s : Sessions) (one : Said) → s ≡ finished_in sealed_past → IsSaidOfSnapshot options s one
+        → AreSaidOfSnapshots options (sealed_in sealed_past) (way.said ++ one ∷ [])
     past-answered s one same answer =
-        subst (λ snapshots. AreAnswered options snapshots (way.said ++ one ∷ [])) (sym (sealed-seal way.taken at.0 at.2.0))
-        (AllZip-append (IsAnswered options) (sealed_in way.taken) (finished_in (way.taken ++ at.0) ∷ []) way.said (one ∷ []) way.answers
-        (subst (λ s. IsAnswered options s one) (same ∙ finished-seal way.taken at.0) answer, tt))
+        subst (λ snapshots. AreSaidOfSnapshots options snapshots (way.said ++ one ∷ [])) (sym (sealed-seal way.taken at.0 at.2.0))
+        (AllZip-append (IsSaidOfSnapshot options) (sealed_in way.taken) (finished_in (way.taken ++ at.0) ∷ []) way.said (one ∷ []) way.answers
+        (subst (λ s. IsSaidOfSnapshot options s one) (same ∙ finished-seal way.taken at.0) answer, tt))
 
     -- where nothing was finished since, what was said last is said of this snapshot, too
     pub still-seal : (s : Sessions) → s ≡ finished_in sealed_past → IsStill options.level s answered
@@ -233,7 +233,7 @@ module _ {R B : Type 0} (remaining : R → Option (List ℕ)) (options : Options
     ended-seal s after code same (inr memory) = wants_memory after code memory
     ended-seal s after code same (inl (one, answer, cuts)) =
         cut options text before (length sealed_past) way.said one now after code
-        (subst (λ items. AreAnswered options (sealed_in items) (way.said ++ one ∷ []))
+        (subst (λ items. AreSaidOfSnapshots options (sealed_in items) (way.said ++ one ∷ []))
         (sym (first-taken (answers_of text) sealed_past at.1 past-whole)) (past-answered s one same answer)) way.out cuts
 
   -- ---- at the end
@@ -249,11 +249,11 @@ module _ {R B : Type 0} (remaining : R → Option (List ℕ)) (options : Options
     no_fault : (answers_of text).fault ≡ None
     no_fault = all-fault (answers_of text) way.taken at.0 (ending None) way.ahead way.whole at.1
 
-    whole-by : (said : List Said) → AreAnswered options (sealed_in way.taken ++ at_end all_past) said → IsWhole options (answers_of text) said
+    whole-by : (said : List Said) → AreSaidOfSnapshots options (sealed_in way.taken ++ at_end all_past) said → IsWhole options (answers_of text) said
     whole-by said answers = (
       no_fault,
-      subst (λ items. AreAnswered options (sealed_in items ++ at_end items) said) (sym all_taken)
-          (subst (λ snapshots. AreAnswered options (snapshots ++ at_end all_past) said) (sym (sealed-passed way.taken at.0 at.1.0)) answers),
+      subst (λ items. AreSaidOfSnapshots options (sealed_in items ++ at_end items) said) (sym all_taken)
+          (subst (λ snapshots. AreSaidOfSnapshots options (snapshots ++ at_end all_past) said) (sym (sealed-passed way.taken at.0 at.1.0)) answers),
     )
 
     -- nothing was finished since the last answer, which has said all
@@ -267,8 +267,8 @@ module _ {R B : Type 0} (remaining : R → Option (List ℕ)) (options : Options
         ] in (
           way.said,
           outcome_said options last.outcome,
-          whole-by way.said (subst (λ end. AreAnswered options (sealed_in way.taken ++ end) way.said) (sym (at_end-none all_past none))
-              (subst (λ snapshots. AreAnswered options snapshots way.said) (sym (append-nil (sealed_in way.taken))) way.answers)),
+          whole-by way.said (subst (λ end. AreSaidOfSnapshots options (sealed_in way.taken ++ end) way.said) (sym (at_end-none all_past none))
+              (subst (λ snapshots. AreSaidOfSnapshots options snapshots way.said) (sym (append-nil (sealed_in way.taken))) way.answers)),
           known.2,
           keeps_of options last.outcome,
           way.out,
@@ -287,12 +287,12 @@ module _ {R B : Type 0} (remaining : R → Option (List ℕ)) (options : Options
         ]
 
     module _ (s : Sessions) (same : s ≡ finished_in all_past) (due : is_due_after true all_past ≡ true) where
-      end-answered : (one : Said) → IsAnswered options s one → IsWhole options (answers_of text) (way.said ++ one ∷ [])
+      end-answered : (one : Said) → IsSaidOfSnapshot options s one → IsWhole options (answers_of text) (way.said ++ one ∷ [])
       end-answered one answer =
           whole-by (way.said ++ one ∷ [])
-          (subst (λ end. AreAnswered options (sealed_in way.taken ++ end) (way.said ++ one ∷ [])) (sym (at_end-due all_past due))
-          (AllZip-append (IsAnswered options) (sealed_in way.taken) (finished_in all_past ∷ []) way.said (one ∷ []) way.answers
-          (subst (λ s. IsAnswered options s one) same answer, tt)))
+          (subst (λ end. AreSaidOfSnapshots options (sealed_in way.taken ++ end) (way.said ++ one ∷ [])) (sym (at_end-due all_past due))
+          (AllZip-append (IsSaidOfSnapshot options) (sealed_in way.taken) (finished_in all_past ∷ []) way.said (one ∷ []) way.answers
+          (subst (λ s. IsSaidOfSnapshot options s one) same answer, tt)))
 
       -- the answer is the last text
       end-kept : (after : Option (List ℕ)) (kept : Option Answer) → AnswersKept options s now after kept → AllAnswered options text before after kept
@@ -375,7 +375,7 @@ module _ {R B : Type 0} (remaining : R → Option (List ℕ)) (options : Options
         → EndsEarly options text before after code
     by_halt n why items after code may taken none prints =
         ended_or options text before n why way.said now after code may
-        (subst (λ snapshots. AreAnswered options snapshots way.said) (sym (ap sealed_in taken ∙ none)) way.answers) way.out prints
+        (subst (λ snapshots. AreSaidOfSnapshots options snapshots way.said) (sym (ap sealed_in taken ∙ none)) way.answers) way.out prints
 
     -- the fault of the records, a reader that failed, or `NoMemory`
     pub stopped : (after : Option (List ℕ)) (code : ℕ) → (fault.kind ≡ kind.Read → FailsBehind Small way.taken fault.row (records_of text))

@@ -9,7 +9,7 @@ use Rattle.tcc_cert.specs.Texts.{certificate_text}
 use Rattle.tcc_check.specs.declared.judgement.Judgement.{Judgement}
 use Rattle.tcc_answer.specs.Claims.{certificate_of}
 use Rattle.tcc_answer.specs.declared.answer.Answer.{Answer}
-use Rattle.tcc_explain.specs.Explained.{IsAnswerOf}
+use Rattle.tcc_explain.specs.Explained.{IsAnswerOfHistory}
 use Rattle.tcc_graph.specs.Levels.{judged}
 use Rattle.tcc_print.specs.Printed.{answered}
 use Rattle.tcc_print.specs.Statuses.{answer_status, code_of}
@@ -38,7 +38,7 @@ pub record PrintsExplained (options : Options) (records : List ℕ) (before : Op
   -- level, or a cycle such that no other has fewer steps, and the checker accepts its certificate; and it is the first answer
   pub answer : Answer
   pub explained : IsExplained (finished_by records) options.level answer
-  pub first : IsAnswerOf (judged (history (finished_by records)) options.level) answer
+  pub first : IsAnswerOfHistory (judged (history (finished_by records)) options.level) answer
   -- its text is the end of what went out
   pub front : List ℕ
   pub printed : Appends before after (front ++ answered options.json answer)

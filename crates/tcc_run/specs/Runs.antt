@@ -11,7 +11,7 @@ use Rattle.tcc_reads.specs.Faults.{read_faults}
 use Rattle.tcc_reads.specs.Sources.{history}
 use Rattle.tcc_reads.specs.declared.fault.ReadFault.{ReadFault}
 use Rattle.tcc_cert.specs.Texts.{certificate_text}
-use Rattle.tcc_explain.specs.Explained.{IsAnswerOf}
+use Rattle.tcc_explain.specs.Explained.{IsAnswerOfHistory}
 use Rattle.tcc_answer.specs.Claims.{certificate_of}
 use Rattle.tcc_answer.specs.declared.answer.Answer.{Answer}
 use Rattle.tcc_graph.specs.Levels.{judged}
@@ -49,14 +49,14 @@ halt_said options why = record { text = halted options.json why; status = halt_s
 
 -- what is said of a snapshot: the first answer for its history at the level that is asked for, where all its reads have
 -- sources, else all its read faults
-abbrev pub IsAnswered : Options → Sessions → Said → Type 0
-IsAnswered options s said =
-    ((read_faults s ≡ []) × (a : Answer) × IsAnswerOf (judged (history s) options.level) a × (said ≡ answer_said options a))
+abbrev pub IsSaidOfSnapshot : Options → Sessions → Said → Type 0
+IsSaidOfSnapshot options s said =
+    ((read_faults s ≡ []) × (a : Answer) × IsAnswerOfHistory (judged (history s) options.level) a × (said ≡ answer_said options a))
     ⊎ ((read_faults s ≢ []) × (said ≡ faults_said options (read_faults s)))
 
 -- each of the snapshots is answered, in turn
-abbrev pub AreAnswered : Options → List Sessions → List Said → Type 0
-AreAnswered options snapshots said = AllZip (IsAnswered options) snapshots said
+abbrev pub AreSaidOfSnapshots : Options → List Sessions → List Said → Type 0
+AreSaidOfSnapshots options snapshots said = AllZip (IsSaidOfSnapshot options) snapshots said
 
 -- ---- a run
 
@@ -68,7 +68,7 @@ pub record AskAlike (some : Options) (other : Options) : Type 0 where
 
 -- the records have no fault, and there is an answer at each seal, and one at the end where it is due
 abbrev pub IsWhole : Options → rows.Answers → List Said → Type 0
-IsWhole options all said = (all.fault ≡ None) × AreAnswered options (sealed_in all.items ++ at_end all.items) said
+IsWhole options all said = (all.fault ≡ None) × AreSaidOfSnapshots options (sealed_in all.items ++ at_end all.items) said
 
 -- why a run may end after so many items: by the fault of the records, after all items; by the fault of a reader that failed
 -- at one of the records or behind the last, all before which are lawful, after the items of these; or out of memory
@@ -83,19 +83,19 @@ MayEnd text n _ = ⊥
 abbrev pub IsEnded : Options → List ℕ → List Said → Type 0
 IsEnded options text said =
     (n : ℕ) × (why : Halt) × (answers : List Said) × MayEnd text n why
-    × AreAnswered options (sealed_in (take n (rows.answers_of text).items)) answers × (said ≡ answers ++ halt_said options why ∷ [])
+    × AreSaidOfSnapshots options (sealed_in (take n (rows.answers_of text).items)) answers × (said ≡ answers ++ halt_said options why ∷ [])
 
 -- a run said these texts, of which these are its answers: all of them, or all but the line of what ended it
-abbrev pub AreAnswersOf : Options → List ℕ → List Said → List Said → Type 0
-AreAnswersOf options text said answers =
+abbrev pub AreAnswersOfRun : Options → List ℕ → List Said → List Said → Type 0
+AreAnswersOfRun options text said answers =
     (IsWhole options (rows.answers_of text) said × (answers ≡ said))
-    ⊎ ((n : ℕ) × (why : Halt) × MayEnd text n why × AreAnswered options (sealed_in (take n (rows.answers_of text).items)) answers
+    ⊎ ((n : ℕ) × (why : Halt) × MayEnd text n why × AreSaidOfSnapshots options (sealed_in (take n (rows.answers_of text).items)) answers
     × (said ≡ answers ++ halt_said options why ∷ []))
 
 -- the run was ended by the fault of the records: the answers at all seals before it stand, and then comes its line
 abbrev pub IsStopped : Options → rows.Answers → List Said → Type 0
 IsStopped options all said =
-    (fault : RowFault) × (answers : List Said) × (all.fault ≡ Some fault) × AreAnswered options (sealed_in all.items) answers
+    (fault : RowFault) × (answers : List Said) × (all.fault ≡ Some fault) × AreSaidOfSnapshots options (sealed_in all.items) answers
     × (said ≡ answers ++ halt_said options (halt.Row fault) ∷ [])
 
 -- the one list is the other's beginning

@@ -1,6 +1,6 @@
 //! The main theorem, as the contract of one call, and of the same after an earlier anomaly.
 ghost use Rattle.std.specs.Prelude.{IfOk, MatchResult};
-ghost use Rattle.tcc_explain.specs.Explained.{IsAnswerOf, IsRefusal};
+ghost use Rattle.tcc_explain.specs.Explained.{IsAnswerOfHistory, IsRefusal};
 ghost use Rattle.tcc_explain.specs.Next.{IsNextRefusal};
 ghost use Rattle.tcc_graph.specs.Levels.{judged};
 ghost use Rattle.tcc_reads.specs.Sources.{history};
@@ -26,7 +26,7 @@ pub fn explain_snapshot<G: Gate>(
     gate: &G,
 ) -> Result<Answer, ExplainFault>
     ensures headline { MatchResult result (IsExplained snapshot.now level) (IsRefusal snapshot.now) }
-    ensures first { IfOk result (IsAnswerOf (judged (history snapshot.now) level)) }
+    ensures first { IfOk result (IsAnswerOfHistory (judged (history snapshot.now) level)) }
 {
     explained();
     explain(rt, alloc, snapshot, level, workers, gate)
@@ -45,7 +45,7 @@ pub fn explain_snapshot_next<G: Gate>(
     gate: &G,
 ) -> Result<Answer, NextFault>
     ensures headline { MatchResult result (IsExplained snapshot.now earlier.now.level) (IsNextRefusal snapshot.now earlier.now) }
-    ensures first { IfOk result (IsAnswerOf (judged (history snapshot.now) earlier.now.level)) }
+    ensures first { IfOk result (IsAnswerOfHistory (judged (history snapshot.now) earlier.now.level)) }
 {
     explained();
     explain_next(rt, alloc, snapshot, earlier, workers, gate)

@@ -17,13 +17,13 @@ ghost use Rattle.tcc_check.specs.declared.verdict.Verdict.{Verdict};
 ghost use Rattle.tcc_check.specs.declared.verdict.Verdict.TheVariants.{Accepted};
 ghost use Rattle.tcc_answer.specs.Claims.{certificate_of};
 ghost use Rattle.tcc_answer.specs.declared.answer.Answer.{Answer};
-ghost use Rattle.tcc_explain.specs.Explained.{IsAnswerFor, IsAnswerOf};
+ghost use Rattle.tcc_explain.specs.Explained.{IsAnswerOfSnapshot, IsAnswerOfHistory};
 ghost use Rattle.tcc_verdict.specs.Checks.{IsCheck, MayBeCheck};
 ghost use Rattle.tcc_run.specs.Closing.{IsAcceptance, acceptance};
 ghost use Rattle.tcc_run.specs.Headline.{IsExplained};
 ghost use Rattle.tcc_run.specs.HeadlineRuns.{PrintsExplained, SaysExplained, finished_by};
 ghost use Rattle.tcc_run.specs.Interleaved.{AreInterleaved};
-ghost use Rattle.tcc_run.specs.Runs.{AreAnswersOf, AreFront, AskAlike, Contents, IsAnswered, IsEnded, IsRun, IsStopped, IsWhole, Said};
+ghost use Rattle.tcc_run.specs.Runs.{AreAnswersOfRun, AreFront, AskAlike, Contents, IsSaidOfSnapshot, IsEnded, IsRun, IsStopped, IsWhole, Said};
 ghost use Rattle.tcc_print.specs.Statuses.{code_of};
 ghost use Rattle.tcc_print.specs.declared.options.Options.{Options};
 ghost use Rattle.tcc_print.specs.declared.status.Status.TheVariants.{Device, Memory};
@@ -38,7 +38,7 @@ use tcc_txn::NoMemory;
 /// What `explain` answers for a snapshot at a level is what the main theorem says of it: a commit order, or a cycle than which
 /// no other has fewer steps, whose certificate the checker accepts; and that alone implies what the certificate claims.
 pub fn explained()
-    ensures { (s : Sessions) (level : Level) (a : Answer) → IsAnswerFor s level a → IsExplained s level a }
+    ensures { (s : Sessions) (level : Level) (a : Answer) → IsAnswerOfSnapshot s level a → IsExplained s level a }
 {
     certified();
     certified_claim();
@@ -48,7 +48,7 @@ pub fn explained()
 /// read faults. And of records without a fault, whose reads all have sources, a run that doesn't end by a device that failed nor
 /// out of memory prints such an answer last, and its certificate, which the check of the same records accepts.
 pub fn headline()
-    ensures each { (options : Options) (s : Sessions) (said : Said) → IsAnswered options s said → SaysExplained options s said }
+    ensures each { (options : Options) (s : Sessions) (said : Said) → IsSaidOfSnapshot options s said → SaysExplained options s said }
     ensures last { (options : Options) (records : List ℕ) (before after : Option (List ℕ)) (file file' : Contents) (code : ℕ)
         → (answers_of records).fault ≡ None → read_faults (finished_by records) ≡ []
         → IsRun options records before after file file' code → code ≢ code_of Device → code ≢ code_of Memory
@@ -63,11 +63,11 @@ pub fn headline()
 pub fn accepted()
     ensures accepted { (records : List ℕ) (level : Level) (a : Answer) → (answers_of records).fault ≡ None
         → read_faults (finished_in (answers_of records).items) ≡ []
-        → IsAnswerOf (judged (history (finished_in (answers_of records).items)) level) a
+        → IsAnswerOfHistory (judged (history (finished_in (answers_of records).items)) level) a
         → IsCheck records (certificate_text (certificate_of a)) (acceptance (certificate_of a)) }
     ensures only { (records : List ℕ) (level : Level) (a : Answer) → (answers_of records).fault ≡ None
         → read_faults (finished_in (answers_of records).items) ≡ []
-        → IsAnswerOf (judged (history (finished_in (answers_of records).items)) level) a
+        → IsAnswerOfHistory (judged (history (finished_in (answers_of records).items)) level) a
         → (o : Result Judgement Halt) → MayBeCheck records (certificate_text (certificate_of a)) o
         → IsAcceptance (certificate_of a) o }
 {
@@ -89,7 +89,7 @@ pub fn closes()
 /// The verdict on an answer's own certificate is `Accepted`; so what a check of it answers is that, or `NoMemory`.
 pub fn own_certificate()
     ensures { (s : Sessions) (level : Level) (a : Answer) (checked : Result Verdict NoMemory)
-        → IsAnswerOf (judged (history s) level) a
+        → IsAnswerOfHistory (judged (history s) level) a
         → IfOk checked (IsVerdict (history s) (certificate_of a)) → IfOk checked (λ verdict. verdict ≡ Accepted) }
 {
     certified();
@@ -117,7 +117,7 @@ pub fn one_run()
         → IsStopped options (answers_of records) said → IsStopped others (answers_of records) again
         → said ≡ again }
     ensures front { (options others : Options) (records : List ℕ) (said again answers more : List Said) → AskAlike options others
-        → AreAnswersOf options records said answers → AreAnswersOf others records again more
+        → AreAnswersOfRun options records said answers → AreAnswersOfRun others records again more
         → AreFront answers more ⊎ AreFront more answers }
 {
     one_answer();

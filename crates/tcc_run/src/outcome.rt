@@ -4,7 +4,7 @@ ghost use Rattle.std.specs.Io.KnownBytes.{Appends};
 ghost use Rattle.tcc_txn.specs.Finished.{KeepsLimits};
 ghost use Rattle.tcc_txn.specs.Snapshots.{Sessions};
 ghost use Rattle.tcc_graph.specs.declared.level.Level.{Level};
-ghost use Rattle.tcc_explain.specs.Explained.{IsAnswerFor, IsRefusal};
+ghost use Rattle.tcc_explain.specs.Explained.{IsAnswerOfSnapshot, IsRefusal};
 ghost use Rattle.tcc_print.specs.Printed.{EndsIn};
 ghost use Rattle.tcc_run.specs.private.Stages.{HasEarlier, IsEarlier, IsOutcome, answer_in, outcome_text};
 
@@ -48,7 +48,7 @@ fn work_out<G: Gate>(
     gate: &G,
 ) -> Result<Answer, ExplainFault>
     requires earlier { IfSome earlier.now (IsEarlier options.level snapshot.now) }
-    ensures { MatchResult result (IsAnswerFor snapshot.now options.level) (IsRefusal snapshot.now) }
+    ensures { MatchResult result (IsAnswerOfSnapshot snapshot.now options.level) (IsRefusal snapshot.now) }
 {
     let Some(anomaly) = earlier else {
         return explain_snapshot(rt, alloc, snapshot, options.level, options.workers, gate);

@@ -13,7 +13,7 @@ use Rattle.tcc_graph.specs.declared.level.Level.{Level}
 use Rattle.tcc_answer.specs.Labels.{labels_of}
 use Rattle.tcc_answer.specs.declared.answer.Answer.{Answer}
 use Rattle.tcc_answer.specs.declared.answer.Answer.TheVariants as answer
-use Rattle.tcc_explain.specs.Explained.{IsAnswerOf}
+use Rattle.tcc_explain.specs.Explained.{IsAnswerOfHistory}
 use Rattle.tcc_graph.specs.Levels.{judged}
 use Rattle.tcc_large.specs.Decisions.{IsDecision}
 use Rattle.tcc_large.specs.declared.decision.Decision.{Decision}
@@ -24,7 +24,7 @@ use Rattle.tcc_print.specs.Statuses.{answer_status, code_of}
 use Rattle.tcc_print.specs.declared.options.Options.{Options}
 use Rattle.tcc_print.specs.declared.status.Status.{Status}
 use Rattle.tcc_print.specs.declared.status.Status.TheVariants.{Anomaly, Device, Memory, ReadFaults}
-use Rattle.tcc_large_run.specs.LargeRuns.{Contents, Gains, IsAnswered, IsEnded, IsSliceText, IsSliced, IsWhole, Said, answers_of, bare_order, texts}
+use Rattle.tcc_large_run.specs.LargeRuns.{Contents, Gains, IsSaidOfSnapshot, IsEnded, IsSliceText, IsSliced, IsWhole, Said, answers_of, bare_order, texts}
 use Rattle.tcc_large_run.specs.declared.outcome.Outcome.{Outcome}
 use Rattle.tcc_large_run.specs.declared.outcome.Outcome.TheVariants as outcome
 use Rattle.tcc_large_run.specs.declared.running.Last.{Last}
@@ -39,7 +39,7 @@ outcome_of level h (decision.Cycle links) = outcome.Cycle (labels_of h) links
 -- the first answer of a small snapshot; what is decided of a larger one
 abbrev pub IsResolved : Level → Sessions → Outcome → Type 0
 IsResolved level s o =
-    (KeepsLimits s × (a : Answer) × IsAnswerOf (judged (history s) level) a × (o ≡ outcome.Answered a))
+    (KeepsLimits s × (a : Answer) × IsAnswerOfHistory (judged (history s) level) a × (o ≡ outcome.Answered a))
     ⊎ ((KeepsLimits s → ⊥) × (d : Decision) × IsDecision (judged (history s) level) d × (o ≡ outcome_of level (history s) d))
 
 -- what is to be said of a snapshot at a level
@@ -73,7 +73,7 @@ SaysLast options s before after last = IsFor options.level s last × Appends bef
 -- the run ended in what is said of a snapshot
 abbrev pub EndsAnswering : Options → Sessions → Option (List ℕ) → Option (List ℕ) → ℕ → Type 0
 EndsAnswering options s before after code =
-    ((said : Said) × IsAnswered options s said × CutsOff before after said.text code)
+    ((said : Said) × IsSaidOfSnapshot options s said × CutsOff before after said.text code)
     ⊎ Prints before after (memory_line options.json) Memory code
 
 -- ---- a run

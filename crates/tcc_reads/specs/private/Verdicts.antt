@@ -16,8 +16,8 @@ use Rattle.tcc_reads.specs.declared.fault.ReadFault.{ReadFault}
 use Rattle.tcc_reads.specs.declared.fault.ReadFaultKind.TheVariants.{Duplicate, BrokenInternal, ThinAir, Aborted, Intermediate, Future}
 use Rattle.tcc_reads.specs.declared.writers.Writer.{Writer}
 use Rattle.tcc_reads.specs.declared.writers.Write.{Write}
-use Rattle.tcc_reads.specs.declared.judging.Judgement.{Judgement}
-use Rattle.tcc_reads.specs.declared.judging.Judgement.TheVariants.{Faulty, ReadsFrom, Silent}
+use Rattle.tcc_reads.specs.declared.judging.OpJudgement.{OpJudgement}
+use Rattle.tcc_reads.specs.declared.judging.OpJudgement.TheVariants.{Faulty, ReadsFrom, Silent}
 use Rattle.tcc_reads.specs.History.{Entry}
 use Rattle.tcc_reads.specs.Sites.{Stand, Site, at, sites_of}
 use Rattle.tcc_reads.specs.private.Numbers.{Numbered}
@@ -111,7 +111,7 @@ abbrev pub is_in : Numbered → Writer → Bool
 is_in n first = (first.session == n.stand.session) && (first.place == n.stand.place)
 
 -- of a write at this place of its transaction
-abbrev pub write_judgement : Numbered → ℕ → Option Writer → Judgement
+abbrev pub write_judgement : Numbered → ℕ → Option Writer → OpJudgement
 write_judgement n place None = Faulty Duplicate
 write_judgement n place (Some first) = if is_in n first && (first.op == place) then Silent else Faulty Duplicate
 
@@ -120,38 +120,38 @@ abbrev pub IsOwn : Writes → Numbered → ℕ → Op → Type 0
 IsOwn table n place (Get key value) = Unit {0}
 IsOwn table n place (Put key value) = write_judgement n place (table key value) ≡ Silent
 
-abbrev pub judgement_from : Numbered → Writer → Option ℕ → Judgement
+abbrev pub judgement_from : Numbered → Writer → Option ℕ → OpJudgement
 judgement_from n first None = Faulty Aborted
 judgement_from n first (Some number) =
     if is_in n first then Faulty Future else if first.last then ReadsFrom number else Faulty Intermediate
 
 -- of an external read of a value other than 0
-abbrev pub read_judgement : Numbered → Option Writer → Judgement
+abbrev pub read_judgement : Numbered → Option Writer → OpJudgement
 read_judgement n None = Faulty ThinAir
 read_judgement n (Some first) = judgement_from n first first.number
 
 -- of a read, by the latest own write of its key and the first write of its value
-abbrev pub own_judgement : Numbered → ℕ → Option ℕ → Option Writer → Judgement
+abbrev pub own_judgement : Numbered → ℕ → Option ℕ → Option Writer → OpJudgement
 own_judgement n value (Some own) first = if own == value then Silent else Faulty BrokenInternal
 own_judgement n value None first = if value == 0 then ReadsFrom 0 else read_judgement n first
 
-abbrev pub op_judgement : Writes → Numbered → ℕ → Op → Option ℕ → Judgement
+abbrev pub op_judgement : Writes → Numbered → ℕ → Op → Option ℕ → OpJudgement
 op_judgement table n place (Put key value) own = write_judgement n place (table key value)
 op_judgement table n place (Get key value) own =
     if n.stand.txn.committed then own_judgement n value own (table key value) else Silent
 
-abbrev pub site_judgement : Writes → Numbered → Site → Judgement
+abbrev pub site_judgement : Writes → Numbered → Site → OpJudgement
 site_judgement table n site = op_judgement table n (at site) site.op (visible_write (op_key site.op) site.before)
 
 -- the fault of an operation at this place of a transaction
-abbrev pub fault_in : Stand → ℕ → Op → Judgement → Option ReadFault
+abbrev pub fault_in : Stand → ℕ → Op → OpJudgement → Option ReadFault
 fault_in stand place op (Faulty kind) =
     Some (record { session = stand.name; place = stand.place; op = place; key = op_key op; value = op_value op; kind = kind })
 fault_in stand place op (ReadsFrom number) = None
 fault_in stand place op Silent = None
 
 -- the key and the source of an external read
-abbrev pub source_in : Op → Judgement → Option (List ℕ × ℕ)
+abbrev pub source_in : Op → OpJudgement → Option (List ℕ × ℕ)
 source_in op (Faulty kind) = None
 source_in op (ReadsFrom number) = Some (op_key op, number)
 source_in op Silent = None

@@ -15,12 +15,12 @@ use Rattle.tcc_answer.specs.Claims.{certificate_of}
 use Rattle.tcc_answer.specs.Answers.{LabelledCycle}
 use Rattle.tcc_answer.specs.declared.answer.Answer.{Answer}
 use Rattle.tcc_answer.specs.declared.answer.Answer.TheVariants as answer
-use Rattle.tcc_explain.specs.Explained.{IsAnswerFor}
+use Rattle.tcc_explain.specs.Explained.{IsAnswerOfSnapshot}
 use Rattle.tcc_explain.specs.Next.{IsAnomalyOf}
 use Rattle.tcc_graph.specs.Levels.{judged}
 use Rattle.tcc_print.specs.declared.status.Status.TheVariants.{Device, Memory}
 use Rattle.tcc_print.specs.declared.options.Options.{Options}
-use Rattle.tcc_run.specs.Runs.{Contents, Gains, GainsPart, IsAnswered, IsEnded, IsWhole, Said, answer_said, faults_said, texts}
+use Rattle.tcc_run.specs.Runs.{Contents, Gains, GainsPart, IsSaidOfSnapshot, IsEnded, IsWhole, Said, answer_said, faults_said, texts}
 use Rattle.tcc_run.specs.declared.explain.Last.{Last}
 use Rattle.tcc_run.specs.declared.outcome.Outcome.{Outcome}
 use Rattle.tcc_run.specs.declared.outcome.Outcome.TheVariants as outcome
@@ -38,7 +38,7 @@ count_at entries i = option_map_or (λ named. length named.1) (slice_get entries
 
 -- what is to be said of a snapshot at a level: its first answer where all its reads have sources, else all its read faults
 abbrev pub IsOutcome : Level → Sessions → Outcome → Type 0
-IsOutcome level s (outcome.Answered a) = IsAnswerFor s level a
+IsOutcome level s (outcome.Answered a) = IsAnswerOfSnapshot s level a
 IsOutcome level s (outcome.Unresolved faults earlier) = (read_faults s ≢ []) × (faults.items ≡ read_faults s)
 
 -- the answer; none where there are read faults in its place
@@ -95,12 +95,12 @@ Keeps required said kept = (said.status ≡ last_status required kept) × (said.
 
 -- a snapshot was answered, and the answer is kept
 abbrev pub AnswersKept : Options → Sessions → Option (List ℕ) → Option (List ℕ) → Option Answer → Type 0
-AnswersKept options s before after kept = (said : Said) × IsAnswered options s said × Keeps options.required said kept × Appends before after said.text
+AnswersKept options s before after kept = (said : Said) × IsSaidOfSnapshot options s said × Keeps options.required said kept × Appends before after said.text
 
 -- the run ended in what is said of a snapshot
 abbrev pub EndsAnswering : Options → Sessions → Option (List ℕ) → Option (List ℕ) → ℕ → Type 0
 EndsAnswering options s before after code =
-    ((said : Said) × IsAnswered options s said × CutsOff before after said.text code)
+    ((said : Said) × IsSaidOfSnapshot options s said × CutsOff before after said.text code)
     ⊎ Prints before after (memory_line options.json) Memory code
 
 -- ---- a run

@@ -3,7 +3,7 @@ use Rattle.tcc_graph.specs.Levels.{Judged, judged}
 use Rattle.tcc_graph.specs.declared.level.Level.{Level}
 use Rattle.tcc_graph.specs.Routes.{HasCycle}
 use Rattle.tcc_answer.specs.declared.answer.Answer.TheVariants as answer
-use Rattle.tcc_explain.specs.Explained.{IsAnswerOf}
+use Rattle.tcc_explain.specs.Explained.{IsAnswerOfHistory}
 use Rattle.tcc_graph.specs.Orders.{IsFirstOrder}
 use Rattle.tcc_explain.proofs.explaining.history_answer.Goals as goal
 
@@ -26,5 +26,5 @@ anomaly-requires-clause-cycle g c =
 
 pub returns : goal.returns
 returns g c =
-    subst (λ (level : Level). IsAnswerOf (judged c.args.graph.now level) (answer.Anomaly c.in_ok-anomaly.anomaly))
+    subst (λ (level : Level). IsAnswerOfHistory (judged c.args.graph.now level) (answer.Anomaly c.in_ok-anomaly.anomaly))
     c.in_ok-near.ensures.level c.in_ok-anomaly.ensures

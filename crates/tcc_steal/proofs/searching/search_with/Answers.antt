@@ -1,4 +1,5 @@
-use Rattle.std.proofs.Common.{arith}
+use Rattle.std.proofs.Common.{ℕ, subst, arith}
+use Rattle.tcc_steal.specs.Findings.{IsFound}
 use Rattle.tcc_steal.proofs.Settling.{AreClosed, word_fits, found_at}
 use Rattle.tcc_steal.proofs.searching.search_with.Goals.{then-is_empty, else-is_empty+in_ok-shares}
 use Rattle.tcc_steal.proofs.searching.search_with.Goals as goal
@@ -23,7 +24,7 @@ cost_in-least-requires g c =
     let bound = c.in_ok-bound.bound in
     let ens = c.in_ok-searches.ensures in
     let close = c.close.ensures in
-    let closed : AreClosed j c.args.prices.now c.args.workers bound c.search_all.new.worker.seat c.in_ok-searches.searches.items c.close.result =
+    let closed : AreClosed j c.args.prices.now c.count-workers.result bound c.search_all.new.worker.seat c.in_ok-searches.searches.items c.close.result =
     record { priced = priced; at = ens.worker.seat; searches = ens.all; long = ens.long; most = close.least; floor = close.floor; small = omega arith } in
     word_fits closed
 
@@ -32,7 +33,8 @@ returns g c = λ j priced.
     let bound = c.in_ok-bound.bound in
     let ens = c.in_ok-searches.ensures in
     let close = c.close.ensures in
-    let closed : AreClosed j c.args.prices.now c.args.workers bound c.search_all.new.worker.seat c.in_ok-searches.searches.items c.close.result =
+    let closed : AreClosed j c.args.prices.now c.count-workers.result bound c.search_all.new.worker.seat c.in_ok-searches.searches.items c.close.result =
     record { priced = priced; at = ens.worker.seat; searches = ens.all; long = ens.long; most = close.least; floor = close.floor; small = omega arith } in
     let told = c.in_ok-found.ensures in
-    found_at closed c.cost_in-least.ensures (record { least_is = told.least; first = told.first; rows = told.rows; starts = told.starts })
+    subst (λ (n : ℕ). IsFound j n c.in_ok-found.found) c.count-workers.ensures.value
+    (found_at closed c.cost_in-least.ensures (record { least_is = told.least; first = told.first; rows = told.rows; starts = told.starts }))
