@@ -17,6 +17,19 @@ fn number_of(label: &str, later: &[String]) -> usize
     later.len()
 }
 
+/// The number that the transaction of a number has by its label; past the last where none has it.
+fn moved(earlier: &[String], later: &[String], number: u32) -> u32
+    requires { length later.now < 2 ^ 32 }
+    ensures { result ≡ moved (map string_bytes earlier.now) (map string_bytes later.now) number }
+{
+    let place = number as usize;
+    if place < earlier.len() {
+        number_of(earlier[place].as_str(), later) as u32
+    } else {
+        later.len() as u32
+    }
+}
+
 /// The numbers that the transactions of an earlier history have in a later one, by the labels of both.
 pub(crate) struct ByLabel<'a> {
     pub earlier: &'a [String],
@@ -27,13 +40,7 @@ pub(crate) struct ByLabel<'a> {
 impl Renumbering for ByLabel<'_> {
     ghost by = { λ labels. moved (map string_bytes labels.earlier.now) (map string_bytes labels.later.now) };
 
-    /// The number of the transaction with the label of a number; past the last where none has it.
     fn number(&self, number: u32) -> u32 {
-        let place = number as usize;
-        if place < self.earlier.len() {
-            number_of(self.earlier[place].as_str(), self.later) as u32
-        } else {
-            self.later.len() as u32
-        }
+        moved(self.earlier, self.later, number)
     }
 }
