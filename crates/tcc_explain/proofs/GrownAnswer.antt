@@ -9,7 +9,8 @@ use Rattle.tcc_answer.specs.Labels.{labels_of}
 use Rattle.tcc_answer.specs.declared.answer.Answer.{Answer}
 use Rattle.tcc_answer.specs.declared.answer.Answer.TheVariants as answer
 use Rattle.tcc_growth.specs.Growth.{Grows, IsFirstMissing, link_in}
-use Rattle.tcc_growth.specs.Moved.{link_by, moved}
+use Rattle.tcc_growth.specs.Moved.{moved}
+use Rattle.tcc_graph.specs.Renumbered.{link_by}
 use Rattle.tcc_growth.proofs.Keeping.{keeps_anomalies, costs_no_more, none_missing}
 use Rattle.tcc_explain.specs.Explained.{IsAnswerOfHistory}
 use Rattle.tcc_explain.specs.Next.{IsAnomalyOf, IsNextRefusal}

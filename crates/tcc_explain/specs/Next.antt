@@ -11,7 +11,8 @@ use Rattle.tcc_answer.specs.Answers.{LabelledCycle}
 use Rattle.tcc_answer.specs.Labels.{labels_of}
 use Rattle.tcc_answer.specs.declared.answer.Answer.{Answer}
 use Rattle.tcc_growth.specs.Growth.{IsFirstMissing}
-use Rattle.tcc_growth.specs.Moved.{link_by, moved}
+use Rattle.tcc_growth.specs.Moved.{moved}
+use Rattle.tcc_graph.specs.Renumbered.{link_by}
 use Rattle.tcc_explain.specs.Explained.{IsAnswerOfSnapshot, IsRefusal}
 use Rattle.tcc_explain.specs.declared.refusal.ExplainFault.TheVariants as whole
 use Rattle.tcc_explain.specs.declared.refusal.NextFault.{NextFault}

@@ -8,6 +8,7 @@
 --   Numberings   where numbers stand in an order
 --   NameLemmas   names in lists: found by a test, and by place in a sorted list
 --   KeysLemmas   which names are keys
+--   SortedKeys   the keys are in byte order
 --   WriterLemmas what is read is a key, and who its writers are
 --   Worked       small histories worked out by hand
 -- The others serve the proofs of this crate. Lemmas on lists, truth values and results alone: tcc_txn's proofs/Lists.
@@ -26,6 +27,7 @@ pub mod NameLemmas
 pub mod Numberings
 pub mod Pairs
 pub mod PlacedLemmas
+pub mod SortedKeys
 pub mod TableLemmas
 pub mod Tied
 pub mod Upward

@@ -10,4 +10,5 @@ pub mod Answers
 pub mod Numbers
 pub mod Tables
 pub mod Places
+pub mod Renumbered
 pub mod private

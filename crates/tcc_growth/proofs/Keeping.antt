@@ -12,7 +12,7 @@ use Rattle.tcc_graph.specs.declared.link.Link.{Link}
 use Rattle.tcc_growth.specs.Growth.{Grows}
 use Rattle.tcc_growth.specs.Growth.{number_in, link_in, CarriesLinks, CarriesCycles, KeepsLabels, KeepsLinks, KeepsCycles, KeepsAnomalies}
 use Rattle.tcc_growth.specs.Growth.{CostsNoMore, IsFirstMissing}
-use Rattle.tcc_growth.specs.Moved.{link_by}
+use Rattle.tcc_graph.specs.Renumbered.{link_by}
 use Rattle.tcc_growth.specs.Slices.{IsSlice}
 use Rattle.tcc_growth.proofs.Numbered.{of_number, number_below}
 use Rattle.tcc_growth.proofs.Meeting.{moves, moved_zero}

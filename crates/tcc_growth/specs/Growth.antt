@@ -13,7 +13,8 @@ use Rattle.tcc_graph.specs.Routes.{IsCycle, IsLeastCycle, HasCycle}
 use Rattle.tcc_graph.specs.declared.level.Level.{Level}
 use Rattle.tcc_graph.specs.declared.link.Link.{Link}
 use Rattle.tcc_answer.specs.Labels.{labels_of}
-use Rattle.tcc_growth.specs.Moved.{moved, link_by}
+use Rattle.tcc_growth.specs.Moved.{moved}
+use Rattle.tcc_graph.specs.Renumbered.{link_by}
 
 -- of two snapshots whose reads are resolved the second, which keeps the limits, continues the first
 pub record Grows (small : Sessions) (large : Sessions) : Type 0 where

@@ -4,9 +4,10 @@ ghost use Rattle.tcc_graph.specs.Links.{IsLink};
 ghost use Rattle.tcc_answer.specs.Labels.{labels_of};
 ghost use Rattle.tcc_graph.specs.Levels.{judged};
 ghost use Rattle.tcc_growth.specs.Growth.{IsFirstMissing};
-ghost use Rattle.tcc_growth.specs.Moved.{link_by, moved};
+ghost use Rattle.tcc_growth.specs.Moved.{moved};
+ghost use Rattle.tcc_graph.specs.Renumbered.{link_by};
 
-use crate::moving::moved_link;
+use crate::moving::ByLabel;
 use std::alloc::Global;
 use tcc_answer::Labels;
 use tcc_graph::{Graph, Level, Link};
@@ -25,11 +26,13 @@ pub fn carried(
     ensures { IfOk result (λ found. found.items ≡ map (link_by (moved earlier.now later.now)) links.now) }
 {
     let _count = graph.count();
-    let old = earlier.names();
-    let new = later.names();
+    let numbers = ByLabel {
+        earlier: earlier.names(),
+        later: later.names(),
+    };
     let mut found = Vec::new(alloc);
     for link in links {
-        found.push(moved_link(alloc, old, new, link)?)?;
+        found.push(link.renumbered(alloc, &numbers)?)?;
     }
     Ok(found)
 }

@@ -8,7 +8,7 @@ use Rattle.tcc_graph.specs.Links.{IsLink, link_cost}
 use Rattle.tcc_graph.specs.Routes.{HasCycle}
 use Rattle.tcc_graph.specs.declared.level.Level.{Level}
 use Rattle.tcc_graph.specs.declared.link.Link.{Link}
-use Rattle.tcc_growth.specs.Moved.{link_by}
+use Rattle.tcc_graph.specs.Renumbered.{link_by}
 use Rattle.tcc_graph.specs.Levels.{judged}
 
 -- its reads are resolved, and there is a cycle at the level

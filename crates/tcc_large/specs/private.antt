@@ -2,3 +2,4 @@
 pub mod Carrying
 pub mod Ranked
 pub mod Reaching
+pub mod Numbered

@@ -1,7 +1,7 @@
 use Rattle.std.proofs.Common.{ℕ, ◌<◌, ◌≤◌, ◌≡◌, length, get_or, arith, subst, ap, ◌∙◌}
 use Rattle.std.proofs.lemmas.List.{take_all}
 use Rattle.tcc_graph.specs.Keys.{keys}
-use Rattle.tcc_derive.proofs.KeyLemmas.{keys_sorted}
+use Rattle.tcc_graph.proofs.SortedKeys.{keys_sorted}
 use Rattle.tcc_derive.proofs.ChoiceLemmas.{IsBestChoice, choice_bound, nearer_key, no_nearer_key, choice_of}
 use Rattle.tcc_derive.proofs.choices.choice.Goals.{in-Some+then-distance-least, in-Some+else-distance-least, in_default}
 use Rattle.tcc_derive.proofs.choices.choice.Goals as goal

@@ -1,6 +1,7 @@
 use Rattle.std.proofs.Common.{◌≡◌, map, take, string_bytes}
-use Rattle.tcc_growth.specs.Moved.{moved, link_by}
+use Rattle.tcc_growth.specs.Moved.{moved}
+use Rattle.tcc_graph.specs.Renumbered.{link_by}
 use Rattle.tcc_growth.proofs.carrying.carried.Given as goal
 
 abbrev pub invariant-loop-link : goal.invariant-loop-link
-invariant-loop-link l = l.found.items ≡ map (link_by (moved (map string_bytes l.old) (map string_bytes l.new))) (take l.link-index l.links)
+invariant-loop-link l = l.found.items ≡ map (link_by (moved (map string_bytes l.numbers.earlier) (map string_bytes l.numbers.later))) (take l.link-index l.links)

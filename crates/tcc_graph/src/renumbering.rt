@@ -1,0 +1,85 @@
+//! Steps, walks and links in the numbers of another history.
+ghost use Rattle.std.specs.Prelude.{◌≡◌, ℕ, map, IfOk};
+ghost use Rattle.tcc_graph.specs.Renumbered.{link_by, step_by};
+
+use crate::{Link, Step, Walk};
+use std::alloc::Global;
+use tcc_txn::NoMemory;
+
+/// The numbers that the transactions of a history have in another one.
+pub trait Renumbering {
+    ghost use Rattle.std.specs.Prelude.{◌≡◌, ℕ};
+
+    ghost by: { Self → ℕ → ℕ };
+
+    /// The number there of the transaction of a number.
+    fn number(&self, number: u32) -> u32
+        ensures { result ≡ by self.now number };
+}
+
+impl Step {
+    /// The step in other numbers.
+    fn renumbered<N: Renumbering>(&self, numbers: &N) -> Step
+        ensures { result ≡ step_by (N.by numbers.now) self.now }
+    {
+        match self {
+            Step::Session { from, to } => Step::Session {
+                from: numbers.number(*from),
+                to: numbers.number(*to),
+            },
+            Step::Reads { from, to, key } => Step::Reads {
+                from: numbers.number(*from),
+                to: numbers.number(*to),
+                key: *key,
+            },
+        }
+    }
+}
+
+impl Walk {
+    /// The walk in other numbers.
+    fn renumbered<N: Renumbering>(&self, alloc: Global, numbers: &N) -> Result<Walk, NoMemory>
+        ensures { IfOk result (λ walk. walk ≡ map (step_by (N.by numbers.now)) self.now) }
+    {
+        let mut steps = Vec::new(alloc);
+        for step in self.steps() {
+            steps.push(step.renumbered(numbers))?;
+        }
+        Ok(Walk::new(steps))
+    }
+}
+
+impl Link {
+    /// The link in other numbers.
+    pub fn renumbered<N: Renumbering>(&self, alloc: Global, numbers: &N) -> Result<Link, NoMemory>
+        ensures { IfOk result (λ link. link ≡ link_by (N.by numbers.now) self.now) }
+    {
+        match self {
+            Link::Session { from, to } => Ok(Link::Session {
+                from: numbers.number(*from),
+                to: numbers.number(*to),
+            }),
+            Link::Reads { from, to, key } => Ok(Link::Reads {
+                from: numbers.number(*from),
+                to: numbers.number(*to),
+                key: *key,
+            }),
+            Link::Derived {
+                from,
+                to,
+                key,
+                reader,
+                walk,
+            } => {
+                let walk = walk.renumbered(alloc, numbers)?;
+                Ok(Link::Derived {
+                    from: numbers.number(*from),
+                    to: numbers.number(*to),
+                    key: *key,
+                    reader: numbers.number(*reader),
+                    walk,
+                })
+            }
+        }
+    }
+}
