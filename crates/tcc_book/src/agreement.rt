@@ -5,7 +5,6 @@ ghost use Rattle.std.specs.List.{list_any};
 ghost use Rattle.tcc_txn.specs.Bytes.{same};
 ghost use Rattle.tcc_book.specs.Passes.{Agrees, LeastTorn, first_missing, has_pass, lesser};
 
-use crate::alike::are_same;
 use crate::pass::Pass;
 use tcc_txn::{Name, Snapshot, Txn};
 

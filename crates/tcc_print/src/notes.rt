@@ -17,7 +17,7 @@ use tcc_answer::pieces::push;
 use tcc_cert::sending::send;
 use tcc_reads::ReadFault;
 use tcc_rows::{RowFault, RowFaultKind};
-use tcc_txn::{Limits, Name, NoMemory, Snapshot, Txn};
+use tcc_txn::{Bounds, Limits, Name, NoMemory, SnapshotWithin, Txn};
 use writers::push_writer;
 
 /// How many read faults have a note.
@@ -154,14 +154,9 @@ fn row(
     Ok(text)
 }
 
-/// Notes of the fault of a record, of which these are the fields, if they are known, what stands there instead. Of refused memory
-/// nothing is noted.
-pub fn note_row<N: Write>(alloc: Global, fault: &RowFault, fields: &[&[u8]], notes: &mut N) {
-    note_row_within(alloc, Limits::Small, fault, fields, notes);
-}
-
-/// The same of an input of these limits.
-pub fn note_row_within<N: Write>(
+/// Notes of the fault of a record in an input of these limits, whose fields are these, if they are known, what stands there
+/// instead. Of refused memory nothing is noted.
+pub fn note_row<N: Write>(
     alloc: Global,
     limits: Limits,
     fault: &RowFault,
@@ -188,24 +183,14 @@ fn read(
 }
 
 /// Notes of the first of the read faults of the snapshot which write each of them is about.
-pub fn note_reads<N: Write>(
+pub fn note_reads<B: Bounds, N: Write>(
     alloc: Global,
-    snapshot: &Snapshot,
-    faults: &[ReadFault],
-    notes: &mut N,
-) {
-    note_reads_among(alloc, snapshot.parts(), faults, notes);
-}
-
-/// The same in these sessions, by name.
-pub fn note_reads_among<N: Write>(
-    alloc: Global,
-    sessions: &[(Name, Vec<Txn>)],
+    snapshot: &SnapshotWithin<B>,
     faults: &[ReadFault],
     notes: &mut N,
 ) {
     for fault in faults.iter().take(MOST_NOTED) {
-        send_note(read(alloc, sessions, fault), notes);
+        send_note(read(alloc, snapshot.parts(), fault), notes);
     }
 }
 

@@ -5,6 +5,7 @@ pub mod ByteLimit
 pub mod Failing
 pub mod Interleaved
 pub mod Items
+pub mod Line
 pub mod Lines
 pub mod Past
 pub mod Reached
@@ -16,3 +17,4 @@ pub mod Phases
 pub mod RecordsLeft
 pub mod Stages
 pub mod Standing
+pub mod Turns
