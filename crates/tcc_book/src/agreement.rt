@@ -6,7 +6,6 @@ ghost use Rattle.tcc_txn.specs.Bytes.{same};
 ghost use Rattle.tcc_book.specs.Passes.{Agrees, LeastTorn, first_missing, has_pass};
 ghost use Rattle.tcc_book.specs.private.Lesser.{lesser};
 
-use crate::alike::are_same;
 use crate::pass::Pass;
 use tcc_txn::{Name, Snapshot, Txn};
 

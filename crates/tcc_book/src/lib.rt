@@ -2,7 +2,6 @@
 #![tactic(auto)]
 
 mod agreement;
-mod alike;
 mod book;
 mod entry;
 mod fault;

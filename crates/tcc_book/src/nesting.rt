@@ -3,7 +3,6 @@ ghost use Rattle.std.specs.Prelude.{◌≡◌, true, false, MatchResult};
 ghost use Rattle.tcc_txn.specs.Nested.{IsFirstCut, IsNested, IsPrefix, list_of};
 
 use crate::agreement::found;
-use crate::alike::are_same;
 use tcc_txn::{Name, Snapshot, Txn};
 
 /// Whether the list begins with these transactions.

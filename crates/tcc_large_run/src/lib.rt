@@ -2,12 +2,9 @@
 //! that the runs end with. Nothing here knows of command lines or files.
 #![tactic(auto)]
 
-mod alike;
-mod copying;
 mod outcome;
 mod running;
 mod slicing;
-mod stopping;
 mod watching;
 
 pub use running::run_large;

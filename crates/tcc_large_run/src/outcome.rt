@@ -8,7 +8,6 @@ ghost use Rattle.tcc_print.specs.declared.status.Status.TheVariants as status;
 ghost use Rattle.tcc_large_run.specs.LargeRuns.{bare_order};
 ghost use Rattle.tcc_large_run.specs.private.Stages.{IsOutcome, outcome_of, outcome_status, outcome_text};
 
-use crate::copying::small_of;
 use std::alloc::Global;
 use std::io::Write;
 use std::thread::Threads;
@@ -18,7 +17,7 @@ use tcc_explain::{ExplainFault, Gate, explain};
 use tcc_graph::{LargeGraph, Level, Link};
 use tcc_large::{Decision, LargeAnswer, explain_large};
 use tcc_print::large::send_unproved;
-use tcc_print::notes::note_reads_among;
+use tcc_print::notes::note_reads;
 use tcc_print::printing::{send_answer, send_unresolved};
 use tcc_print::status::answer_status;
 use tcc_print::{Options, Status};
@@ -96,7 +95,7 @@ impl Outcome {
     ) -> Result<Outcome, NoMemory>
         ensures { IfOk result (IsOutcome options.level snapshot.now) }
     {
-        if let Some(small) = small_of(alloc, snapshot)? {
+        if let Some(small) = snapshot.small_copy(alloc)? {
             return Outcome::of_small(rt, alloc, &small, options, gate);
         }
         match explain_large(alloc, snapshot, options.level) {
@@ -121,7 +120,7 @@ impl Outcome {
     /// Notes of the first read faults which write each of them is about.
     pub(crate) fn note<N: Write>(&self, alloc: Global, snapshot: &LargeSnapshot, notes: &mut N) {
         if let Outcome::Unresolved(faults) = self {
-            note_reads_among(alloc, snapshot.parts(), faults, notes);
+            note_reads(alloc, snapshot, faults, notes);
         }
     }
 

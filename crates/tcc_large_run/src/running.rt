@@ -8,27 +8,23 @@ ghost use Rattle.tcc_rows.specs.Reached.{IsWithin};
 ghost use Rattle.tcc_rows.specs.Recordings.{FailsBehind, IsRecording, TakesMoment, after_items};
 ghost use Rattle.tcc_rows.specs.declared.rows.Item.{Item};
 ghost use Rattle.tcc_txn.specs.declared.limits.Limits.TheVariants.{Large};
-ghost use Rattle.tcc_print.specs.private.Halts.{by_row};
-ghost use Rattle.tcc_print.specs.Printed.{PrintsOrMemory, halted};
-ghost use Rattle.tcc_print.specs.Statuses.{halt_status};
 ghost use Rattle.tcc_large_run.specs.LargeRuns.{IsLargeRun, answers_of, finished, records_of};
 ghost use Rattle.tcc_large_run.specs.private.Stages.{AllAnswered, Concludes, EndsAnswering, EndsEarly, SaysLast, SendsSlice, WritesSlice, outcome_said};
 
-use crate::copying::transaction_count;
 use crate::outcome::Outcome;
 use crate::slicing::slice_text;
-use crate::stopping::note_stop;
 use crate::watching::{Stage, Watcher};
 use std::alloc::Global;
 use std::io::{Read, Write};
 use std::thread::Threads;
 use tcc_cert::sending::send;
 use tcc_graph::Link;
+use tcc_print::Options;
 use tcc_print::notes::{note_last, note_no_slice};
-use tcc_print::printing::{print_device, print_halt, print_memory};
-use tcc_print::{Halt, Options};
+use tcc_print::printing::{print_device, print_memory};
 use tcc_rows::{LargeRecording, Moment, RowFault, RowFaultKind};
 use tcc_txn::{LargeSnapshot, NoMemory};
+use tcc_verdict::stop;
 
 /// What a run said last.
 #[derive(Drop)]
@@ -62,7 +58,7 @@ fn say<W: Write, N: Write, G: Watcher>(
     outcome.note(alloc, snapshot, notes);
     Ok(Last {
         outcome,
-        transactions: transaction_count(snapshot),
+        transactions: snapshot.transactions(),
     })
 }
 
@@ -85,26 +81,11 @@ fn say_last<W: Write, N: Write, G: Watcher>(
         (EndsAnswering options snapshot.now (W.contents out.old) (W.contents out.new)) }
 {
     if let Some(last) = last {
-        if last.transactions == transaction_count(snapshot) {
+        if last.transactions == snapshot.transactions() {
             return Ok(last);
         }
     }
     say(rt, alloc, snapshot, options, watcher, out, notes)
-}
-
-/// Writes why the run ends by the fault of a record, notes what to mend, and gives the number that the run ends with.
-fn stop<R: Read + Drop, W: Write, N: Write>(
-    alloc: Global,
-    recording: &LargeRecording<R>,
-    fault: RowFault,
-    json: bool,
-    out: &mut W,
-    notes: &mut N,
-) -> u8
-    ensures { PrintsOrMemory json (W.contents out.old) (W.contents out.new) (halted json (by_row fault)) (halt_status (by_row fault)) result }
-{
-    note_stop(alloc, recording, &fault, notes);
-    print_halt(alloc, &Halt::from(fault), json, out)
 }
 
 /// Reads on to the next seal or to the end, which the watcher is told.

@@ -3,7 +3,6 @@ ghost use Rattle.std.specs.Prelude.{◌≡◌, IfOk, IfSome, IsTrue};
 ghost use Rattle.tcc_reads.specs.Sources.{history};
 ghost use Rattle.tcc_large_run.specs.LargeRuns.{Finishes, IsSliceText};
 
-use crate::alike::is_same;
 use std::alloc::Global;
 use tcc_graph::{LargeGraph, Level, Link};
 use tcc_large::{records, slice};
@@ -16,7 +15,7 @@ fn is_read_back(alloc: Global, text: &[u8], snapshot: &Snapshot) -> Result<bool,
     ensures { IfOk result (λ found. IsTrue found → Finishes text.now snapshot.now) }
 {
     match snapshot_of(alloc, text) {
-        Ok(read) => Ok(is_same(&read, snapshot)),
+        Ok(read) => Ok(read.is_same(snapshot)),
         Err(fault) if matches!(fault.kind, RowFaultKind::NoMemory) => Err(NoMemory),
         Err(_) => Ok(false),
     }

@@ -1,7 +1,7 @@
 -- Worked texts agree with the definitions.
 use Rattle.std.proofs.Common.{◌≡◌, [], ◌∷◌, refl, codes, lit<}
 use Rattle.std.proofs.lemmas.Fmt.{decimal_digit}
-use Rattle.tcc_rows.specs.declared.rows.RowFaultKind.TheVariants.{Unfinished, BadValue}
+use Rattle.tcc_rows.specs.declared.fault.RowFaultKind.TheVariants.{Unfinished, BadValue}
 use Rattle.tcc_reads.specs.declared.fault.ReadFaultKind.TheVariants.{ThinAir, Aborted}
 use Rattle.tcc_print.specs.Texts.{row_fault_text, unresolved_text}
 

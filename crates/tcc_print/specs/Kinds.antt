@@ -1,7 +1,7 @@
 -- The kinds of faults that end a run: the word for each, and how the run ends.
 use Rattle.std.specs.Prelude.{ℕ, List, codes}
-use Rattle.tcc_rows.specs.declared.rows.RowFaultKind.{RowFaultKind}
-use Rattle.tcc_rows.specs.declared.rows.RowFaultKind.TheVariants as row_kind
+use Rattle.tcc_rows.specs.declared.fault.RowFaultKind.{RowFaultKind}
+use Rattle.tcc_rows.specs.declared.fault.RowFaultKind.TheVariants as row_kind
 use Rattle.tcc_cert.specs.declared.fault.CertFaultKind.{CertFaultKind}
 use Rattle.tcc_cert.specs.declared.fault.CertFaultKind.TheVariants as text_kind
 use Rattle.tcc_print.specs.declared.status.Status.{Status}

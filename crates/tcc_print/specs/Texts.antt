@@ -1,8 +1,8 @@
 -- The texts of faults and verdicts, as they go out: ASCII, each line ended by one line feed.
 use Rattle.std.specs.Prelude.{ℕ, List, [], ◌++◌, length, flat_map, codes, decimal}
-use Rattle.tcc_rows.specs.declared.rows.RowFault.{RowFault}
-use Rattle.tcc_rows.specs.declared.rows.RowFaultKind.{RowFaultKind}
-use Rattle.tcc_rows.specs.declared.rows.RowFaultKind.TheVariants.{Unfinished}
+use Rattle.tcc_rows.specs.declared.fault.RowFault.{RowFault}
+use Rattle.tcc_rows.specs.declared.fault.RowFaultKind.{RowFaultKind}
+use Rattle.tcc_rows.specs.declared.fault.RowFaultKind.TheVariants.{Unfinished}
 use Rattle.tcc_reads.specs.declared.fault.ReadFault.{ReadFault}
 use Rattle.tcc_reads.specs.declared.fault.ReadFaultKind.{ReadFaultKind}
 use Rattle.tcc_reads.specs.declared.fault.ReadFaultKind.TheVariants as read_kind

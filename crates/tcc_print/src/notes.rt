@@ -2,7 +2,7 @@
 //! it goes out; where it can't be made or written it is left out, and nothing else changes.
 ghost use Rattle.std.specs.Prelude.{◌≡◌, ℕ, List, IfOk};
 ghost use Rattle.tcc_print.specs.Notes.{IsNoted, AddsNotes, last_note, no_slice_note, too_few_text};
-ghost use Rattle.tcc_rows.specs.declared.rows.RowFaultKind.TheVariants as row_kind;
+ghost use Rattle.tcc_rows.specs.declared.fault.RowFaultKind.TheVariants as row_kind;
 
 mod mending;
 mod quoted;
@@ -18,7 +18,7 @@ use tcc_answer::pieces::push;
 use tcc_cert::sending::send;
 use tcc_reads::ReadFault;
 use tcc_rows::{RowFault, RowFaultKind};
-use tcc_txn::{Limits, Name, NoMemory, Snapshot, Txn};
+use tcc_txn::{Bounds, Limits, Name, NoMemory, SnapshotWithin, Txn};
 use writers::push_writer;
 
 /// How many read faults have a note.
@@ -155,17 +155,9 @@ fn row(
     Ok(text)
 }
 
-/// Notes of the fault of a record, of which these are the fields, if they are known, what stands there instead. Of refused memory
-/// nothing is noted.
-pub fn note_row<N: Write>(alloc: Global, fault: &RowFault, fields: &[&[u8]], notes: &mut N)
-    ensures noted { AddsNotes (N.contents notes.old) (N.contents notes.new) }
-    ensures refused { fault.now.kind ≡ row_kind.NoMemory → N.contents notes.new ≡ N.contents notes.old }
-{
-    note_row_within(alloc, Limits::Small, fault, fields, notes);
-}
-
-/// The same of an input of these limits.
-pub fn note_row_within<N: Write>(
+/// Notes of the fault of a record in an input of these limits, whose fields are these, if they are known, what stands there
+/// instead. Of refused memory nothing is noted.
+pub fn note_row<N: Write>(
     alloc: Global,
     limits: Limits,
     fault: &RowFault,
@@ -195,23 +187,16 @@ fn read(
 }
 
 /// Notes of the first of the read faults of the snapshot which write each of them is about.
-pub fn note_reads<N: Write>(alloc: Global, snapshot: &Snapshot, faults: &[ReadFault], notes: &mut N)
-    ensures { AddsNotes (N.contents notes.old) (N.contents notes.new) }
-{
-    note_reads_among(alloc, snapshot.parts(), faults, notes);
-}
-
-/// The same in these sessions, by name.
-pub fn note_reads_among<N: Write>(
+pub fn note_reads<B: Bounds, N: Write>(
     alloc: Global,
-    sessions: &[(Name, Vec<Txn>)],
+    snapshot: &SnapshotWithin<B>,
     faults: &[ReadFault],
     notes: &mut N,
 )
     ensures { AddsNotes (N.contents notes.old) (N.contents notes.new) }
 {
     for fault in faults.iter().take(MOST_NOTED) {
-        send_note(read(alloc, sessions, fault), notes);
+        send_note(read(alloc, snapshot.parts(), fault), notes);
     }
 }
 

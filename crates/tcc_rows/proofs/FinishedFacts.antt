@@ -26,10 +26,10 @@ use Rattle.tcc_txn.specs.Transactions.{Transaction}
 use Rattle.tcc_txn.specs.declared.limits.Limits.{Limits}
 use Rattle.tcc_rows.specs.declared.rows.Item.{Item}
 use Rattle.tcc_rows.specs.declared.rows.Item.TheVariants as item
-use Rattle.tcc_rows.specs.declared.rows.RowFaultKind.{RowFaultKind}
-use Rattle.tcc_rows.specs.declared.rows.RowFaultKind.TheVariants as kind
-use Rattle.tcc_rows.specs.declared.rows.line.Line.{Line}
-use Rattle.tcc_rows.specs.declared.rows.line.Line.TheVariants as line
+use Rattle.tcc_rows.specs.declared.fault.RowFaultKind.{RowFaultKind}
+use Rattle.tcc_rows.specs.declared.fault.RowFaultKind.TheVariants as kind
+use Rattle.tcc_rows.specs.Line.{Line}
+use Rattle.tcc_rows.specs.Line as line
 use Rattle.tcc_txn.proofs.Growing.{both-parts, less-if}
 use Rattle.tcc_txn.proofs.GrownSnapshot.{count-with_transaction, len-with_transaction}
 use Rattle.tcc_rows.proofs.PastFacts.{begun-seen, same-itself, same-name, same-swap, seen-noted, seen-other}

@@ -17,7 +17,7 @@ use Rattle.tcc_rows.specs.Standing.{HoldsSeats, Seats}
 use Rattle.tcc_rows.specs.private.Passing.{lower}
 use Rattle.tcc_txn.specs.declared.limits.Limits.{Limits}
 use Rattle.tcc_txn.specs.declared.op.Op.{Op}
-use Rattle.tcc_rows.specs.declared.rows.line.Line.{Line}
+use Rattle.tcc_rows.specs.Line.{Line}
 use Rattle.tcc_rows.proofs.PastFacts.{begun-seen, same-name, seat-taken}
 
 abbrev name_cmp : List ℕ → List ℕ → Ordering

@@ -2,7 +2,7 @@
 use Rattle.std.proofs.Common.{◌≡◌, ◌≢◌, ℕ, zero, suc, ◌<◌, ◌^◌, Bool, true, false, List, [], ◌∷◌}
 use Rattle.std.proofs.Common.{length, get_or, refl, sym, ap, rules, arith, cond, nat_lt, inl, inr}
 use Rattle.std.proofs.Common.{◌∙◌}
-use Rattle.std.specs.Prelude.{IsSome, option_map, Option, None, Some, Result, Ok, Err, IsUtf8, ◌&&◌, ◌==◌, is_some, codes}
+use Rattle.std.specs.Prelude.{IsSome, option_map, Option, None, Some, Result, Ok, Err, IsUtf8, ◌&&◌, is_some, codes}
 use Rattle.std.specs.Result.{result_ok, OkIff}
 use Rattle.std.specs.Str.{all_ascii_digits}
 use Rattle.std.specs.Str.Parse.{ParsesUnsigned, digits_value}
@@ -10,20 +10,17 @@ use Rattle.std.proofs.lemmas.Bool.Decides.{nat_tests}
 use Rattle.std.proofs.lemmas.Str.{IsUtf8-from_ascii}
 use Rattle.std.proofs.lemmas.Str.Parse.{numerals_by_value, parse_plain, tells_all_ascii_digits}
 use Rattle.csv.specs.Records.{field_at}
-use Rattle.std.specs.Option.{option_map_or}
 use Rattle.tcc_txn.specs.Bytes.{same}
-use Rattle.tcc_rows.specs.Lines.{Record, accessed, digits_of, in_session, line_of, op_of, value_of}
+use Rattle.tcc_rows.specs.Lines.{Record, digits_of, in_session, line_of, op_of}
 use Rattle.tcc_rows.specs.private.Words.{access_of, session_of}
 use Rattle.tcc_txn.specs.Names.{name_fault}
-use Rattle.tcc_rows.specs.private.Passing.{PassesLine, PassesOperation, writes_no_zero}
-use Rattle.tcc_txn.specs.Transactions.{writes_zero}
+use Rattle.tcc_rows.specs.private.Passing.{PassesLine, PassesOperation}
 use Rattle.tcc_txn.specs.declared.limits.Limits.{Limits}
 use Rattle.tcc_txn.specs.declared.op.Op.{Op}
-use Rattle.tcc_txn.specs.declared.op.Op.TheVariants.{Get, Put}
-use Rattle.tcc_rows.specs.declared.rows.RowFaultKind.{RowFaultKind}
-use Rattle.tcc_rows.specs.declared.rows.line.Line.{Line}
-use Rattle.tcc_rows.specs.declared.rows.line.Line.TheVariants as line
-use Rattle.tcc_rows.specs.declared.rows.RowFaultKind.TheVariants as kind
+use Rattle.tcc_rows.specs.declared.fault.RowFaultKind.{RowFaultKind}
+use Rattle.tcc_rows.specs.Line.{Line}
+use Rattle.tcc_rows.specs.Line as line
+use Rattle.tcc_rows.specs.declared.fault.RowFaultKind.TheVariants as kind
 use Rattle.tcc_rows.specs.declared.rows.progress.Progress.{Progress}
 
 -- digits are text
@@ -92,59 +89,6 @@ four-fields (f ∷ g ∷ []) a b c d count e0 e1 e2 e3 = absurd (omega arith)
 four-fields (f ∷ g ∷ h ∷ []) a b c d count e0 e1 e2 e3 = absurd (omega arith)
 four-fields (f ∷ g ∷ h ∷ i ∷ []) a b c d count e0 e1 e2 e3 = cc (e0, e1, e2, e3)
 four-fields (f ∷ g ∷ h ∷ i ∷ j ∷ more) a b c d count e0 e1 e2 e3 = absurd (omega arith)
-
--- no lawful operation writes 0
-accessed-no_zero : (writes : Bool) (key : List ℕ) (value : ℕ) (op : Op) → accessed writes key value ≡ Ok op → writes_zero op ≡ false
-accessed-no_zero false key value op e = let at : Get key value ≡ op = cc e in rw (← at) refl
-accessed-no_zero true key value op e = by (value == 0) refl e
-  where
-    by : (b : Bool) → (value == 0) ≡ b → cond b (Err kind.WriteOfZero) (Ok (Put key value)) ≡ Ok op → writes_zero op ≡ false
-    by true is_zero e = cc e
-    by false is_zero e = let at : Put key value ≡ op = cc e in rw (← at) is_zero
-
-op_of-no_zero : (writes : Bool) (key value : List ℕ) (op : Op) → op_of writes key value ≡ Ok op → writes_zero op ≡ false
-op_of-no_zero writes key value op e = by (is_some (name_fault key)) (value_of value) e
-  where
-    by : (b : Bool) (o : Option ℕ) → cond b (Err kind.BadKey) (option_map_or (accessed writes key) o (Err kind.BadValue)) ≡ Ok op → writes_zero op ≡ false
-    by true o e = cc e
-    by false None e = cc e
-    by false (Some v) e = accessed-no_zero writes key v op e
-
-in_session-no_zero : (session : List ℕ) (r : Result Op RowFaultKind) (l : Line) → ((op : Op) → r ≡ Ok op → writes_zero op ≡ false)
-    → in_session session r ≡ Ok l → writes_no_zero l
-in_session-no_zero session (Ok op) l sound e = let at : line.Operation session op ≡ l = cc e in rw (← at) (sound op refl)
-in_session-no_zero session (Err k) l sound e = cc e
-
-pub line_of-no_zero : (fields : Record) (l : Line) → line_of fields ≡ Ok l → writes_no_zero l
-line_of-no_zero [] l e = cc e
-line_of-no_zero (word ∷ []) l e = by (same word (codes "seal")) e
-  where
-    by : (b : Bool) → cond b (Ok line.Seal) (Err kind.UnknownWord) ≡ Ok l → writes_no_zero l
-    by true e = let at : line.Seal ≡ l = cc e in rw (← at) tt
-    by false e = cc e
-line_of-no_zero (session ∷ word ∷ []) l e =
-    by (is_some (name_fault session)) (same word (codes "begin")) (same word (codes "commit")) (same word (codes "abort")) e
-  where
-    by : (a b c d : Bool)
-        → cond a (Err kind.BadSession)
-        (cond b (Ok (line.Begin session)) (cond c (Ok (line.Finish session true)) (cond d (Ok (line.Finish session false)) (Err kind.UnknownWord)))) ≡ Ok l
-        → writes_no_zero l
-    by true b c d e = cc e
-    by false true c d e = let at : line.Begin session ≡ l = cc e in rw (← at) tt
-    by false false true d e = let at : line.Finish session true ≡ l = cc e in rw (← at) tt
-    by false false false true e = let at : line.Finish session false ≡ l = cc e in rw (← at) tt
-    by false false false false e = cc e
-line_of-no_zero (a ∷ b ∷ c ∷ []) l e = cc e
-line_of-no_zero (session ∷ word ∷ key ∷ value ∷ []) l e =
-    by (is_some (name_fault session)) (same word (codes "r")) (same word (codes "w")) e
-  where
-    by : (a b c : Bool) → cond a (Err kind.BadSession) (cond b (in_session session (op_of false key value))
-        (cond c (in_session session (op_of true key value)) (Err kind.UnknownWord))) ≡ Ok l → writes_no_zero l
-    by true b c e = cc e
-    by false true c e = in_session-no_zero session _ l (op_of-no_zero false key value) e
-    by false false true e = in_session-no_zero session _ l (op_of-no_zero true key value) e
-    by false false false e = cc e
-line_of-no_zero (a ∷ b ∷ c ∷ d ∷ f ∷ more) l e = cc e
 
 -- the line of four fields, by what each of them is read as
 pub refused-session : (a b c d : List ℕ) (k : RowFaultKind) → session_of a ≡ Err k → line_of (a ∷ b ∷ c ∷ d ∷ []) ≡ Err k

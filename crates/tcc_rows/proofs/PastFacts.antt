@@ -13,8 +13,8 @@ use Rattle.tcc_txn.specs.Bytes.{same}
 use Rattle.tcc_rows.specs.Past.{is_begun, ops_since, sessions, with_name}
 use Rattle.tcc_rows.specs.Standing.{seat, seat_of}
 use Rattle.tcc_txn.specs.declared.op.Op.{Op}
-use Rattle.tcc_rows.specs.declared.rows.line.Line.{Line}
-use Rattle.tcc_rows.specs.declared.rows.line.Line.TheVariants as line
+use Rattle.tcc_rows.specs.Line.{Line}
+use Rattle.tcc_rows.specs.Line as line
 
 -- the order of names ties where they are the same
 pub at-same : (a b : List ℕ) → is_at (slice_cmp nat_cmp a) b ≡ same a b

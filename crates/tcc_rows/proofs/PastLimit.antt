@@ -22,9 +22,9 @@ use Rattle.tcc_rows.specs.Failing.{AreLawful, records_before}
 use Rattle.tcc_rows.specs.Lines.{Record, is_cut}
 use Rattle.tcc_txn.specs.declared.limits.TheConstants.{MAX_INPUT_BYTES}
 use Rattle.tcc_rows.specs.declared.rows.Item.{Item}
-use Rattle.tcc_rows.specs.declared.rows.RowFaultKind.{RowFaultKind}
-use Rattle.tcc_rows.specs.declared.rows.RowFaultKind.TheVariants as kind
-use Rattle.tcc_rows.specs.declared.rows.line.Line.{Line}
+use Rattle.tcc_rows.specs.declared.fault.RowFaultKind.{RowFaultKind}
+use Rattle.tcc_rows.specs.declared.fault.RowFaultKind.TheVariants as kind
+use Rattle.tcc_rows.specs.Line.{Line}
 use Rattle.tcc_rows.specs.Past.{item_of}
 use Rattle.tcc_rows.proofs.LimitFacts.{marked-past}
 use Rattle.tcc_rows.proofs.RecordSteps.{next_record-leaves, next_record-shorter}

@@ -22,8 +22,8 @@ use Rattle.tcc_rows.specs.declared.rows.Item.{Item}
 use Rattle.tcc_rows.specs.declared.rows.Item.TheVariants as item
 use Rattle.tcc_rows.specs.declared.rows.Phase.{Phase}
 use Rattle.tcc_rows.specs.declared.rows.Phase.TheVariants as phase
-use Rattle.tcc_rows.specs.declared.rows.RowFault.{RowFault}
-use Rattle.tcc_rows.specs.declared.rows.RowFaultKind.TheVariants as kind
+use Rattle.tcc_rows.specs.declared.fault.RowFault.{RowFault}
+use Rattle.tcc_rows.specs.declared.fault.RowFaultKind.TheVariants as kind
 use Rattle.tcc_rows.specs.declared.rows.records.Course.{Course}
 use Rattle.tcc_rows.specs.declared.rows.records.Course.TheVariants as course
 use Rattle.tcc_rows.proofs.FinishedFacts.{finished_in-push, limits-before}

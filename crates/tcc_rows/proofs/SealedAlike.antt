@@ -11,9 +11,9 @@ use Rattle.tcc_rows.specs.Recordings.{items_until, seals_in}
 use Rattle.tcc_txn.specs.declared.limits.Limits.TheVariants.{Small}
 use Rattle.tcc_rows.specs.declared.rows.Item.{Item}
 use Rattle.tcc_rows.specs.declared.rows.Item.TheVariants as item
-use Rattle.tcc_rows.specs.declared.rows.RowFaultKind.{RowFaultKind}
-use Rattle.tcc_rows.specs.declared.rows.line.Line.{Line}
-use Rattle.tcc_rows.specs.declared.rows.line.Line.TheVariants as line
+use Rattle.tcc_rows.specs.declared.fault.RowFaultKind.{RowFaultKind}
+use Rattle.tcc_rows.specs.Line.{Line}
+use Rattle.tcc_rows.specs.Line as line
 use Rattle.tcc_rows.proofs.FinishedFacts.{items_in, pushed}
 use Rattle.tcc_rows.proofs.Interleaving.{finished-same, judged-line, lines_after, noted, same-lines}
 use Rattle.tcc_rows.proofs.InterleavedFaults.{interleaved-lawful, sealed-by}

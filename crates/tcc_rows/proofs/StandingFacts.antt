@@ -19,10 +19,10 @@ use Rattle.tcc_txn.specs.Transactions.{op_key}
 use Rattle.tcc_txn.specs.declared.limits.Limits.{Limits}
 use Rattle.tcc_txn.specs.declared.op.Op.{Op}
 use Rattle.tcc_rows.specs.private.Drafts.{AddsOp}
-use Rattle.tcc_rows.specs.declared.rows.RowFaultKind.{RowFaultKind}
-use Rattle.tcc_rows.specs.declared.rows.RowFaultKind.TheVariants as kind
-use Rattle.tcc_rows.specs.declared.rows.line.Line.{Line}
-use Rattle.tcc_rows.specs.declared.rows.line.Line.TheVariants as line
+use Rattle.tcc_rows.specs.declared.fault.RowFaultKind.{RowFaultKind}
+use Rattle.tcc_rows.specs.declared.fault.RowFaultKind.TheVariants as kind
+use Rattle.tcc_rows.specs.Line.{Line}
+use Rattle.tcc_rows.specs.Line as line
 use Rattle.tcc_rows.specs.declared.rows.progress.Progress.{Progress}
 use Rattle.tcc_rows.proofs.PastFacts.{seat-begun, seat-finished, seat-free, seat-none, seat-taken}
 use Rattle.tcc_rows.proofs.PastFacts.{same-itself, seat-operated, seen-noted, seen-other}

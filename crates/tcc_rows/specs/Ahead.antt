@@ -7,12 +7,12 @@ use Rattle.tcc_rows.specs.declared.rows.Item.{Item}
 use Rattle.tcc_rows.specs.declared.rows.Item.TheVariants as item
 use Rattle.tcc_rows.specs.declared.rows.Phase.{Phase}
 use Rattle.tcc_rows.specs.declared.rows.Phase.TheVariants as phase
-use Rattle.tcc_rows.specs.declared.rows.RowFault.{RowFault}
-use Rattle.tcc_rows.specs.declared.rows.RowFaultKind.{RowFaultKind}
-use Rattle.tcc_rows.specs.declared.rows.RowFaultKind.TheVariants as kind
+use Rattle.tcc_rows.specs.declared.fault.RowFault.{RowFault}
+use Rattle.tcc_rows.specs.declared.fault.RowFaultKind.{RowFaultKind}
+use Rattle.tcc_rows.specs.declared.fault.RowFaultKind.TheVariants as kind
 use Rattle.tcc_rows.specs.Midway.{IsMidway}
 use Rattle.tcc_rows.specs.declared.rows.Rows.{Rows}
-use Rattle.tcc_rows.specs.declared.rows.line.Line.{Line}
+use Rattle.tcc_rows.specs.Line.{Line}
 
 -- the phase after an item
 abbrev pub phase_after : Item → Phase

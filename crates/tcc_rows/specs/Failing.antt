@@ -5,7 +5,7 @@ use Rattle.tcc_rows.specs.Lines.{Record}
 use Rattle.tcc_txn.specs.declared.limits.Limits.{Limits}
 use Rattle.tcc_txn.specs.declared.limits.Limits.TheVariants.{Small}
 use Rattle.tcc_rows.specs.declared.rows.Item.{Item}
-use Rattle.tcc_rows.specs.declared.rows.line.Line.{Line}
+use Rattle.tcc_rows.specs.Line.{Line}
 
 -- each of the records is lawful after those before it and these lines
 abbrev pub AreLawfulWithin : Limits → List Line → List Record → Type 0

@@ -4,6 +4,7 @@ pub mod ByteLimit
 pub mod Failing
 pub mod Interleaved
 pub mod Items
+pub mod Line
 pub mod Lines
 pub mod Past
 pub mod Reached
@@ -11,4 +12,5 @@ pub mod Recordings
 pub mod Midway
 pub mod RecordsLeft
 pub mod Standing
+pub mod Turns
 pub mod private

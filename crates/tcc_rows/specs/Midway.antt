@@ -6,7 +6,7 @@ use Rattle.tcc_rows.specs.RecordsLeft.{HasLeft}
 use Rattle.tcc_rows.specs.Standing.{IsAfter}
 use Rattle.tcc_txn.specs.declared.limits.Limits.{Limits}
 use Rattle.tcc_rows.specs.declared.rows.Rows.{Rows}
-use Rattle.tcc_rows.specs.declared.rows.line.Line.{Line}
+use Rattle.tcc_rows.specs.Line.{Line}
 use Rattle.tcc_rows.specs.declared.rows.records.Course.TheVariants as course
 
 -- these are the answers to the records that are left, after the lawful lines so far

@@ -15,10 +15,10 @@ use Rattle.tcc_txn.specs.declared.limits.TheConstants.{MAX_OPERATIONS, MAX_SEALS
 use Rattle.tcc_txn.specs.declared.op.Op.{Op}
 use Rattle.tcc_rows.specs.declared.rows.Item.{Item}
 use Rattle.tcc_rows.specs.declared.rows.Item.TheVariants as item
-use Rattle.tcc_rows.specs.declared.rows.RowFaultKind.{RowFaultKind}
-use Rattle.tcc_rows.specs.declared.rows.RowFaultKind.TheVariants as kind
-use Rattle.tcc_rows.specs.declared.rows.line.Line.{Line}
-use Rattle.tcc_rows.specs.declared.rows.line.Line.TheVariants as line
+use Rattle.tcc_rows.specs.declared.fault.RowFaultKind.{RowFaultKind}
+use Rattle.tcc_rows.specs.declared.fault.RowFaultKind.TheVariants as kind
+use Rattle.tcc_rows.specs.Line.{Line}
+use Rattle.tcc_rows.specs.Line as line
 
 -- a begin, commit or abort of the session
 abbrev pub is_mark : List ℕ → Line → Bool

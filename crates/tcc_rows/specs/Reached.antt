@@ -5,7 +5,7 @@ use Rattle.tcc_rows.specs.Lines.{Record}
 use Rattle.tcc_rows.specs.RecordsLeft.{HasLeft, record_of}
 use Rattle.tcc_rows.specs.declared.rows.Phase.{Phase}
 use Rattle.tcc_rows.specs.declared.rows.Phase.TheVariants as phase
-use Rattle.tcc_rows.specs.declared.rows.RowFaultKind.TheVariants as kind
+use Rattle.tcc_rows.specs.declared.fault.RowFaultKind.TheVariants as kind
 use Rattle.tcc_rows.specs.declared.rows.Rows.{Rows}
 use Rattle.tcc_rows.specs.declared.rows.records.Course.{Course}
 use Rattle.tcc_rows.specs.declared.rows.records.Course.TheVariants as course

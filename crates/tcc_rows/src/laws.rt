@@ -12,7 +12,7 @@ ghost use Rattle.tcc_txn.specs.Nested.{IsNested};
 ghost use Rattle.tcc_txn.specs.Snapshots.{snapshot_fault};
 ghost use Rattle.tcc_rows.specs.declared.rows.Item.{Item};
 ghost use Rattle.tcc_txn.specs.declared.limits.TheConstants.{MAX_INPUT_BYTES};
-ghost use Rattle.tcc_rows.specs.declared.rows.RowFaultKind.TheVariants.{Read};
+ghost use Rattle.tcc_rows.specs.declared.fault.RowFaultKind.TheVariants.{Read};
 
 /// What the first items of a text finish, however many, is a snapshot: there are not too many sessions and transactions.
 pub fn finished_is_snapshot()

@@ -1,11 +1,13 @@
 //! Records of sessions to what they finish: rows one after the other, and recordings, which are snapshots that grow.
 #![tactic(auto)]
 
+mod fault;
 pub mod laws;
 mod recording;
 mod rows;
 
+pub use fault::{RowFault, RowFaultKind};
 pub use recording::{
     LargeRecording, Moment, Recording, RecordingWithin, large_snapshot_of, snapshot_of,
 };
-pub use rows::{Item, RowFault, RowFaultKind, Rows};
+pub use rows::{Item, Rows};

@@ -3,12 +3,11 @@ ghost use Rattle.std.specs.Prelude.{◌≡◌, ◌≢◌, ◌+◌, ◌^◌, ◌<
 ghost use Rattle.std.specs.Prelude.{None, Some, false, Ok, Err, option_map};
 ghost use Rattle.csv.specs.Records.{field_at};
 ghost use Rattle.tcc_rows.specs.Answers.{Answers, answers_after_within, answers_of, answers_within, fault_at_end, records_of, records_within};
-ghost use Rattle.tcc_rows.specs.private.Words.{kind_of};
 ghost use Rattle.tcc_rows.specs.Standing.{IsAfter};
-ghost use Rattle.tcc_rows.specs.private.Passing.{writes_no_zero};
+ghost use Rattle.tcc_rows.specs.Turns.{line_by};
 ghost use Rattle.tcc_txn.specs.declared.limits.Limits.{Limits};
 ghost use Rattle.tcc_txn.specs.declared.limits.Limits.TheVariants.{Small};
-ghost use Rattle.tcc_rows.specs.declared.rows.line.Line.{Line};
+ghost use Rattle.tcc_rows.specs.Line.{Line};
 
 mod draft;
 mod limited;
@@ -16,13 +15,13 @@ mod line;
 mod progress;
 mod records;
 
-use line::{Line, read_line};
+use crate::{RowFault, RowFaultKind};
+use line::{Turn, read_line};
 use progress::Progress;
 use records::Records;
 use std::alloc::Global;
 use std::io::Read;
-use tcc_txn::{GrowFault, Limits, Name, NoMemory, Txn};
-use thiserror::Error;
+use tcc_txn::{Limits, Name, NoMemory, Txn};
 
 /// What the records give, in the order of their last records.
 #[derive(Drop)]
@@ -33,82 +32,6 @@ pub enum Item {
     Seal,
     /// There are no more records.
     End,
-}
-
-/// What is wrong with a record, in the order of checking.
-#[derive(Clone, Copy, Debug, PartialEq, Eq, Error)]
-pub enum RowFaultKind {
-    /// A record has 1, 2 or 4 fields.
-    #[error("a record has 1, 2 or 4 fields")]
-    FieldCount,
-    /// Of 2 or 4 fields the first is a name.
-    #[error("the session is no name")]
-    BadSession,
-    /// The one field is `seal`; of two the second is `begin`, `commit` or `abort`; of four the
-    /// second is `r` or `w`.
-    #[error("the word is unknown")]
-    UnknownWord,
-    /// The key is a name.
-    #[error("the key is no name")]
-    BadKey,
-    /// The value is decimal digits without sign and without leading zeros, at most
-    /// 18446744073709551615.
-    #[error("the value is no number of 64 bits")]
-    BadValue,
-    /// The value 0 is never written.
-    #[error("0 is written")]
-    WriteOfZero,
-    /// No transaction of the session is begun.
-    #[error("no transaction of the session is begun")]
-    NotBegun,
-    /// A transaction of the session is begun already.
-    #[error("a transaction of the session is begun already")]
-    AlreadyBegun,
-    /// A transaction has at most `MAX_OPERATIONS` operations.
-    #[error("the transaction has too many operations")]
-    TooManyOps,
-    /// An input has at most `MAX_SESSIONS` sessions.
-    #[error("there are too many sessions")]
-    TooManySessions,
-    /// An input has at most `MAX_TRANSACTIONS` transactions, aborted ones among them.
-    #[error("there are too many transactions")]
-    TooManyTransactions,
-    /// An input has at most `MAX_KEYS` keys.
-    #[error("there are too many keys")]
-    TooManyKeys,
-    /// An input has at most `MAX_SEALS` seals.
-    #[error("there are too many seals")]
-    TooManySeals,
-    /// The input ended inside a transaction; of several sessions this is the least.
-    #[error("the transaction of {session} has no end")]
-    Unfinished { session: Name },
-    /// The reader failed, or gave more than `MAX_INPUT_BYTES` bytes.
-    #[error("the reader failed")]
-    Read,
-    /// Out of memory.
-    #[error("out of memory")]
-    NoMemory,
-}
-
-impl From<GrowFault> for RowFaultKind {
-    ghost from_gives = { λ fault kind. kind ≡ kind_of fault };
-
-    fn from(fault: GrowFault) -> RowFaultKind {
-        match fault {
-            GrowFault::TooManySessions => RowFaultKind::TooManySessions,
-            GrowFault::TooManyTransactions => RowFaultKind::TooManyTransactions,
-            GrowFault::NoMemory => RowFaultKind::NoMemory,
-        }
-    }
-}
-
-/// The record, counted from 1, and what is wrong with it. `Unfinished` stands at the last record;
-/// where the reading of a record failed, that is the one after the last that was read.
-#[derive(Clone, Copy, Debug, PartialEq, Eq, Error)]
-#[error("row {row}: {kind}")]
-pub struct RowFault {
-    pub row: u64,
-    pub kind: RowFaultKind,
 }
 
 /// How far the reading has come.
@@ -281,23 +204,22 @@ impl<R: Read + Drop> Rows<R> {
         ensures fits { result ≡ Ok None → self.new.records.count < 2 ^ 64 }
     {
         match self.next_line() {
-            Ok(Some(line)) => self.take_line(alloc, line),
+            Ok(Some(turn)) => self.take_line(alloc, turn),
             Ok(None) => self.finish(),
             Err(kind) => Err(self.fault(kind)),
         }
     }
 
-    /// Goes past operations, and gives the line after them, if there is one.
-    fn next_line(&mut self) -> Result<Option<Line>, RowFaultKind>
+    /// Goes past operations, and gives what the record after them says, if there is one.
+    fn next_line(&mut self) -> Result<Option<Turn>, RowFaultKind>
         ensures line { (limits : Limits) (ahead : Answers) → IsMidway limits R.remaining self.old ahead → MeetsLine limits R.remaining ahead result self.new }
         ensures phase { self.new.phase ≡ self.old.phase }
-        ensures no_zero { IfOk result (λ found. IfSome found writes_no_zero) }
         ensures read { IfErr result (λ kind. kind ≡ RowFaultKind.Read → HasGivenUp self.new.records) }
         ensures failed { IfErr result (λ kind. kind ≡ RowFaultKind.Read → (limits : Limits) (all : List Record) (ahead : Answers)
             → StandsIn R.remaining self.old.records all → IsMidway limits R.remaining self.old ahead → FailsIn limits all ahead (row_reached self.new)) }
         ensures within { (all : List Record) → StandsIn R.remaining self.old.records all → LeavesIn R.remaining all result self.new.records }
-        ensures more { IfOk result (λ found. IfSome found (λ line. self.old.records.count < self.new.records.count)) }
-        ensures fits { IfOk result (λ found. IfSome found (λ line. self.new.records.count < 2 ^ 64)) }
+        ensures more { IfOk result (λ found. IfSome found (λ turn. self.old.records.count < self.new.records.count)) }
+        ensures fits { IfOk result (λ found. IfSome found (λ turn. self.new.records.count < 2 ^ 64)) }
     {
         'records: loop {
             match self.records.read() {
@@ -308,7 +230,7 @@ impl<R: Read + Drop> Rows<R> {
             let record = self.records.record();
             if record.len() != 4 {
                 return match read_line(record) {
-                    Ok(line) => Ok(Some(line)),
+                    Ok(turn) => Ok(Some(turn)),
                     Err(kind) => Err(kind),
                 };
             }
@@ -318,19 +240,18 @@ impl<R: Read + Drop> Rows<R> {
         }
     }
 
-    /// Goes past the line that the record read last is.
-    fn take_line(&mut self, alloc: Global, line: Line) -> Result<Option<Item>, RowFault>
-        requires { writes_no_zero line }
+    /// Goes past the record read last, which says this.
+    fn take_line(&mut self, alloc: Global, turn: Turn) -> Result<Option<Item>, RowFault>
         ensures fields { (limits : Limits) (past : List Line) (fields : Record) → IsAfter limits past self.old.progress
             → row_reached self.old ≡ length past + 1
-            → is_cut fields ≡ false → line_of fields ≡ Ok line → TakesFields limits past fields result self.new }
+            → is_cut fields ≡ false → line_of fields ≡ Ok (line_by turn) → TakesFields limits past fields result self.new }
         ensures records { self.new.records ≡ self.old.records }
         ensures phase { self.old.phase ≡ Phase.Reading → IfOk result (λ given. self.new.phase ≡ phase_after_step given) }
         ensures row { IfErr result (λ fault. fault.row ≡ row_reached self.new) }
         ensures read { IfErr result (λ fault. fault.kind ≢ RowFaultKind.Read) }
         ensures going { self.old.phase ≡ Phase.Reading → OnOk result (self.new.phase ≡ Phase.Reading) }
     {
-        match self.progress.pass(alloc, line) {
+        match self.progress.pass(alloc, turn) {
             Ok(item) => Ok(item),
             Err(kind) => Err(self.fault(kind)),
         }

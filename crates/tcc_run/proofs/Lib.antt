@@ -1,5 +1,4 @@
 pub mod Closing
-pub mod Counted
 pub mod Interleaving
 pub mod LastSnapshot
 pub mod Closes

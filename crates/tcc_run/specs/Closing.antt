@@ -1,6 +1,6 @@
 -- What comes of the check of what was explained.
 use Rattle.std.specs.Prelude.{◌≡◌, Result, Ok, Err}
-use Rattle.tcc_rows.specs.declared.rows.RowFaultKind.TheVariants as row_kind
+use Rattle.tcc_rows.specs.declared.fault.RowFaultKind.TheVariants as row_kind
 use Rattle.tcc_cert.specs.declared.certificate.Certificate.{Certificate}
 use Rattle.tcc_cert.specs.declared.fault.CertFaultKind.TheVariants as text_kind
 use Rattle.tcc_check.specs.Streams.{claim_of}

@@ -5,8 +5,8 @@ use Rattle.std.specs.List.{AllZip, last_or}
 use Rattle.tcc_rows.specs.Answers as rows
 use Rattle.tcc_rows.specs.Failing.{FailsAt, items_before}
 use Rattle.tcc_txn.specs.Snapshots.{Sessions}
-use Rattle.tcc_rows.specs.declared.rows.RowFault.{RowFault}
-use Rattle.tcc_rows.specs.declared.rows.RowFaultKind.TheVariants as kind
+use Rattle.tcc_rows.specs.declared.fault.RowFault.{RowFault}
+use Rattle.tcc_rows.specs.declared.fault.RowFaultKind.TheVariants as kind
 use Rattle.tcc_reads.specs.Faults.{read_faults}
 use Rattle.tcc_reads.specs.Sources.{history}
 use Rattle.tcc_reads.specs.declared.fault.ReadFault.{ReadFault}

@@ -1,6 +1,5 @@
 //! From the bytes of records to their answers: at each seal, and at the end.
-ghost use Rattle.std.specs.Prelude.{◌≡◌, ◌≢◌, ℕ, List, [], true, false, None, Some, Ok, IfOk, IfSome, MatchResult, OnErr, OnOk, option_map};
-ghost use Rattle.std.specs.FinMap as sessions;
+ghost use Rattle.std.specs.Prelude.{◌≡◌, ◌≢◌, ◌<◌, ◌≤◌, ℕ, List, [], true, false, None, Some, Ok, IfOk, IfSome, MatchResult, OnErr, OnOk, option_map};
 ghost use Rattle.tcc_rows.specs.Ahead.{fault_met};
 ghost use Rattle.tcc_rows.specs.Answers.{answers_of, records_of};
 ghost use Rattle.tcc_txn.specs.Finished.{transaction_count};
@@ -9,11 +8,9 @@ ghost use Rattle.tcc_rows.specs.Recordings.{IsRecording};
 ghost use Rattle.tcc_txn.specs.declared.limits.Limits.TheVariants.{Small};
 ghost use Rattle.tcc_cert.specs.Texts.{certificate_text};
 ghost use Rattle.tcc_answer.specs.Claims.{certificate_of};
-ghost use Rattle.tcc_print.specs.private.Halts.{by_row};
-ghost use Rattle.tcc_print.specs.Printed.{Prints, PrintsOrMemory, halted, memory_line};
-ghost use Rattle.tcc_print.specs.Statuses.{halt_status};
+ghost use Rattle.tcc_print.specs.Printed.{Prints, memory_line};
 ghost use Rattle.tcc_run.specs.Runs.{Gains, GainsPart, IsRun};
-ghost use Rattle.tcc_run.specs.private.Stages.{AllAnswered, AnswersKept, Concludes, EndsAnswering, EndsEarly, Follows, IsFor, IsStill, SaysLast, answer_in, count_at};
+ghost use Rattle.tcc_run.specs.private.Stages.{AllAnswered, AnswersKept, Concludes, EndsAnswering, EndsEarly, Follows, IsFor, IsStill, SaysLast, answer_in};
 
 use crate::outcome::Outcome;
 use std::alloc::Global;
@@ -22,33 +19,12 @@ use std::thread::Threads;
 use tcc_cert::WriteFault;
 use tcc_explain::{Answer, Gate};
 use tcc_print::notes::note_last;
-use tcc_print::printing::{print_device, print_halt, print_memory};
+use tcc_print::printing::{print_device, print_memory};
 use tcc_print::status::last_status;
-use tcc_print::{Halt, Options, Status};
-use tcc_rows::{Moment, Recording, RowFault};
+use tcc_print::{Options, Status};
+use tcc_rows::{Moment, Recording};
 use tcc_txn::{NoMemory, Snapshot};
-use tcc_verdict::note_stop;
-
-/// How many transactions the session at this place has finished; past the last place, none.
-fn session_count(snapshot: &Snapshot, session: u32) -> usize
-    ensures { result ≡ count_at (sessions.entries snapshot.now) session }
-{
-    match snapshot.session(session) {
-        Some((_name, txns)) => txns.len(),
-        None => 0,
-    }
-}
-
-/// How many transactions the sessions have finished.
-fn transaction_count(snapshot: &Snapshot) -> usize
-    ensures { result ≡ transaction_count snapshot.now }
-{
-    let mut count = 0;
-    for session in 0..snapshot.sessions() {
-        count += session_count(snapshot, session);
-    }
-    count
-}
+use tcc_verdict::stop;
 
 /// What a run said last.
 #[derive(Drop)]
@@ -87,7 +63,7 @@ fn renew<W: Write, G: Gate>(
         (Prints (W.contents out.old) (W.contents out.new) (memory_line options.json) Status.Memory) }
     ensures earlier { IfOk result (Follows options.level snapshot.now) }
 {
-    let transactions = transaction_count(snapshot);
+    let transactions = snapshot.transactions();
     let mut earlier = None;
     if let Some(last) = last {
         if last.transactions == transactions {
@@ -148,28 +124,13 @@ fn answer_last<W: Write, N: Write, G: Gate>(
         → MatchResult result (AnswersKept options snapshot.now (W.contents out.old) (W.contents out.new))
         (EndsAnswering options snapshot.now (W.contents out.old) (W.contents out.new)) }
 {
-    let due = is_due(&last, transaction_count(snapshot));
+    let due = is_due(&last, snapshot.transactions());
     let last = renew(rt, alloc, snapshot, last, options, gate, out)?;
     if due {
         last.outcome.send(alloc, options.json, out)?;
         last.outcome.note(alloc, snapshot, notes);
     }
     Ok(last.outcome.into_answer())
-}
-
-/// Writes why the run ends by the fault of a record, notes what to mend, and gives the number that the run ends with.
-fn stop<R: Read + Drop, W: Write, N: Write>(
-    alloc: Global,
-    recording: &Recording<R>,
-    fault: RowFault,
-    json: bool,
-    out: &mut W,
-    notes: &mut N,
-) -> u8
-    ensures { PrintsOrMemory json (W.contents out.old) (W.contents out.new) (halted json (by_row fault)) (halt_status (by_row fault)) result }
-{
-    note_stop(alloc, recording, &fault, notes);
-    print_halt(alloc, &Halt::from(fault), json, out)
 }
 
 /// Writes the answers at the seals that are still to come and the one at the end, if it is due, and gives the last; or

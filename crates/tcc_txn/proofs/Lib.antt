@@ -1,4 +1,5 @@
 mod Repeated
+mod SameParts
 mod WordOrder
 pub mod Growing
 pub mod GrownSnapshot

@@ -14,7 +14,7 @@ use Rattle.tcc_txn.specs.Transactions.{Transaction}
 use Rattle.tcc_txn.specs.Finished.{IsWithinLimits, transaction_count}
 use Rattle.tcc_txn.specs.Limits.{most_sessions, most_transactions}
 use Rattle.tcc_txn.specs.Snapshots.{Sessions, first_repeated, parts_of, snapshot_fault_within}
-use Rattle.tcc_txn.specs.private.SnapshotStorage.{shown, IsStoredWithin}
+use Rattle.tcc_txn.specs.private.SnapshotStorage.{shown, IsCounted, IsStoredWithin}
 use Rattle.tcc_txn.proofs.Parts.{names_of, names_of-parts_of, length-parts_of}
 use Rattle.tcc_txn.proofs.SnapshotFaults.{snapshot_fault-parts_of, faultless}
 use Rattle.tcc_txn.proofs.SortedParts.{distinct_names, distinct_IsPermutation, rising_names, shown_sorted, same_name}
@@ -59,6 +59,20 @@ module _ {limits : Limits} (parts : List (List ℕ × Vec Transaction)) (s : Ses
 
   pub past-transactions : (other : Limits) → most_transactions other < sum_by (λ part. length part.1.items) parts → IsWithinLimits other s → ⊥
   past-transactions other many within = absurd (omega (arith, many, count-parts, within.1))
+
+  -- equal parts are stored within other limits, if it keeps these
+  pub counted-within : (other : Limits) (copy : List (List ℕ × Vec Transaction)) (n : ℕ) → parts_of copy ≡ parts_of parts
+      → n ≡ sum_by (λ part. length part.1.items) parts → IsWithinLimits other s → IsCounted other copy n
+  counted-within other copy n same counted within =
+      let as_many = ap (sum_by (λ part. length part.1)) same in
+      record {
+        stored = record {
+          sorted = subst (λ es. T (finite.is_sorted (slice_cmp nat_cmp) es)) (sym same) stored.sorted;
+          few = omega (arith, within.0, len-parts, ap length same, length-parts_of copy, length-parts_of parts);
+          short = omega (arith, within.1, count-parts, as_many, sum_by-parts_of copy, sum_by-parts_of parts);
+        };
+        counted = omega (arith, counted, as_many, sum_by-parts_of copy, sum_by-parts_of parts);
+      }
 
 below_all-parts_of : (name : List ℕ) (parts : List (List ℕ × Vec Transaction))
     → below_all (slice_cmp nat_cmp) name (parts_of parts) ≡ below_all (slice_cmp nat_cmp) name parts

@@ -1,6 +1,7 @@
 //! What sessions recorded: names, operations, transactions and snapshots.
 #![tactic(auto)]
 
+mod alike;
 mod limits;
 mod memory;
 mod name;
@@ -8,6 +9,7 @@ mod op;
 mod snapshot;
 mod txn;
 
+pub use alike::{Alike, are_same};
 pub use limits::{
     Bounds, LARGE_COUNT, LARGE_INPUT_BYTES, LARGE_KEYS, LARGE_SESSIONS, LARGE_TRANSACTIONS,
     LargeLimits, Limits, MAX_COUNT, MAX_INPUT_BYTES, MAX_KEYS, MAX_NAME_BYTES, MAX_OPERATIONS,

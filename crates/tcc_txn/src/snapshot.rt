@@ -1,6 +1,6 @@
 //! Snapshots: what the sessions had finished at one moment.
-ghost use Rattle.std.specs.Prelude.{◌≡◌, ◌≢◌, ◌≤◌, ◌<◌, ◌⊎◌, ◌++◌, ◌∷◌, [], T, true, false, nat_eq, nat_lt, map};
-ghost use Rattle.std.specs.Prelude.{length, sum_by, None, Some, IfErr, IfOk, MatchResult, OnErr, OnOk, option_map};
+ghost use Rattle.std.specs.Prelude.{◌≡◌, ◌↔◌, ◌≢◌, ◌≤◌, ◌<◌, ◌⊎◌, ◌++◌, ◌∷◌, [], T, true, false, nat_eq, nat_lt, map};
+ghost use Rattle.std.specs.Prelude.{length, sum_by, None, Some, IfErr, IfOk, IsTrue, MatchOption, MatchResult, OnErr, OnOk, option_map};
 ghost use Rattle.std.specs.Prelude.{slice_get, unwrap_or};
 ghost use Rattle.std.specs.FinMap as sessions;
 ghost use Rattle.std.specs.FinMap.Entries.{find, is_sorted, put};
@@ -14,6 +14,7 @@ ghost use Rattle.tcc_txn.specs.Snapshots.{parts_of, first_repeated, snapshot_fau
 ghost use Rattle.tcc_txn.specs.private.SnapshotStorage.{IsStoredWithin, StandsAt, place_in, shown};
 ghost use Rattle.tcc_txn.specs.declared.limits.TheConstants.{LARGE_SESSIONS, LARGE_TRANSACTIONS, MAX_SESSIONS, MAX_TRANSACTIONS};
 
+use crate::alike::are_same_parts;
 use crate::{
     Bounds, LargeLimits, Limits, MAX_SESSIONS, MAX_TRANSACTIONS, Name, NoMemory, SmallLimits, Txn,
 };
@@ -201,6 +202,31 @@ fn part_at(parts: &[(Name, Vec<Txn>)], i: u32) -> Option<(&Name, &[Txn])>
     }
 }
 
+/// Equal transactions.
+fn copied(alloc: Global, transactions: &[Txn]) -> Result<Vec<Txn>, NoMemory>
+    ensures { IfOk result (λ copy. copy.items ≡ transactions.now) }
+{
+    let mut copy = Vec::new(alloc);
+    for transaction in transactions {
+        copy.push(transaction.copy(alloc)?)?;
+    }
+    Ok(copy)
+}
+
+/// Equal parts.
+fn copied_parts(
+    alloc: Global,
+    parts: &[(Name, Vec<Txn>)],
+) -> Result<Vec<(Name, Vec<Txn>)>, NoMemory>
+    ensures { IfOk result (λ copy. parts_of copy.items ≡ parts_of parts.now) }
+{
+    let mut copy = Vec::new(alloc);
+    for part in parts {
+        copy.push((part.0, copied(alloc, &part.1)?))?;
+    }
+    Ok(copy)
+}
+
 /// How many parts stand before the session.
 fn place_of(parts: &[(Name, Vec<Txn>)], session: &Name) -> usize
     requires { T (is_sorted (slice_cmp nat_cmp) (parts_of parts.now)) }
@@ -362,6 +388,13 @@ impl<B: Bounds> SnapshotWithin<B> {
     {
         &self.sessions
     }
+
+    /// Whether the snapshots are equal.
+    pub fn is_same(&self, other: &SnapshotWithin<B>) -> bool
+        ensures { IsTrue result → self.now ≡ other.now }
+    {
+        are_same_parts(&self.sessions, &other.sessions)
+    }
 }
 
 impl SnapshotWithin<SmallLimits> {
@@ -378,13 +411,22 @@ impl SnapshotWithin<SmallLimits> {
 }
 
 impl SnapshotWithin<LargeLimits> {
+    /// Whether it keeps the small limits.
+    fn is_small(&self) -> bool
+        ensures { IsTrue result ↔ KeepsLimits self.now }
+    {
+        let sessions = self.sessions() as usize;
+        let transactions = self.transactions();
+        sessions <= MAX_SESSIONS && transactions <= MAX_TRANSACTIONS
+    }
+
     /// The same as a snapshot within the small limits, where it keeps them.
     pub fn small(self) -> Result<Snapshot, LargeSnapshot>
         ensures { MatchResult result
             (λ s. KeepsLimits self × (s ≡ self))
             (λ s. (KeepsLimits self → ⊥) × (s ≡ self)) }
     {
-        if self.sessions.len() > MAX_SESSIONS || self.transactions > MAX_TRANSACTIONS {
+        if !self.is_small() {
             return Err(self);
         }
         Ok(SnapshotWithin {
@@ -392,5 +434,19 @@ impl SnapshotWithin<LargeLimits> {
             transactions: self.transactions,
             bounds: PhantomData,
         })
+    }
+
+    /// A copy within the small limits, where it keeps them.
+    pub fn small_copy(&self, alloc: Global) -> Result<Option<Snapshot>, NoMemory>
+        ensures { IfOk result (λ found. MatchOption found (KeepsLimits self.now → ⊥) (λ small. KeepsLimits self.now × (small ≡ self.now))) }
+    {
+        if !self.is_small() {
+            return Ok(None);
+        }
+        Ok(Some(SnapshotWithin {
+            sessions: copied_parts(alloc, &self.sessions)?,
+            transactions: self.transactions,
+            bounds: PhantomData,
+        }))
     }
 }

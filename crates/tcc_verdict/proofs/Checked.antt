@@ -6,7 +6,7 @@ use Rattle.tcc_rows.specs.Items.{finished_in}
 use Rattle.tcc_rows.specs.Recordings.{IsRecorded}
 use Rattle.tcc_txn.specs.declared.limits.Limits.TheVariants.{Small}
 use Rattle.tcc_txn.specs.Snapshots.{Sessions}
-use Rattle.tcc_rows.specs.declared.rows.RowFault.{RowFault}
+use Rattle.tcc_rows.specs.declared.fault.RowFault.{RowFault}
 use Rattle.tcc_reads.specs.Faults.{read_faults}
 use Rattle.tcc_reads.specs.Refusals.{IsRefusal}
 use Rattle.tcc_reads.specs.History.{History}

@@ -5,8 +5,8 @@ use Rattle.tcc_rows.specs.Answers as rows
 use Rattle.tcc_rows.specs.Failing.{FailsAt}
 use Rattle.tcc_rows.specs.Items.{finished_in}
 use Rattle.tcc_rows.specs.declared.rows.Item.{Item}
-use Rattle.tcc_rows.specs.declared.rows.RowFault.{RowFault}
-use Rattle.tcc_rows.specs.declared.rows.RowFaultKind.TheVariants as row_kind
+use Rattle.tcc_rows.specs.declared.fault.RowFault.{RowFault}
+use Rattle.tcc_rows.specs.declared.fault.RowFaultKind.TheVariants as row_kind
 use Rattle.tcc_reads.specs.Faults.{read_faults}
 use Rattle.tcc_reads.specs.History.{History}
 use Rattle.tcc_reads.specs.Sources.{history}

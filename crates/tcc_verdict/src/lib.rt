@@ -5,4 +5,4 @@ mod check;
 mod stopping;
 
 pub use check::run_check;
-pub use stopping::note_stop;
+pub use stopping::stop;

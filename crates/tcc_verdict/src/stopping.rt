@@ -1,18 +1,23 @@
-//! What is noted of the fault that ended a recording, by the record that it stands at.
+//! How a run ends by the fault of a record, and what is noted of it, by the record that it stands at.
+ghost use Rattle.tcc_print.specs.private.Halts.{by_row};
+ghost use Rattle.tcc_print.specs.Printed.{PrintsOrMemory, halted};
+ghost use Rattle.tcc_print.specs.Statuses.{halt_status};
 
 use std::alloc::Global;
 use std::io::{Read, Write};
+use tcc_print::Halt;
 use tcc_print::notes::note_row;
-use tcc_rows::{Recording, RowFault, RowFaultKind};
-use tcc_txn::NoMemory;
+use tcc_print::printing::print_halt;
+use tcc_rows::{RecordingWithin, RowFault, RowFaultKind};
+use tcc_txn::{Bounds, NoMemory};
 
 /// So many fields of a record are looked at: the commas between as many are more than a note shows.
 const MOST_FIELDS: usize = 64;
 
 /// The first fields of the record that was read last.
-fn last_fields<R: Read + Drop>(
+fn last_fields<R: Read + Drop, B: Bounds>(
     alloc: Global,
-    recording: &Recording<R>,
+    recording: &RecordingWithin<R, B>,
 ) -> Result<Vec<&[u8]>, NoMemory> {
     let mut fields = Vec::new(alloc);
     for place in 0..MOST_FIELDS {
@@ -26,17 +31,33 @@ fn last_fields<R: Read + Drop>(
 
 /// Notes of the fault that ended the recording what stands where its record has something else. Where the reading failed, the
 /// record that was read last is not the one with the fault, and none is shown.
-pub fn note_stop<R: Read + Drop, N: Write>(
+pub(crate) fn note_stop<R: Read + Drop, B: Bounds, N: Write>(
     alloc: Global,
-    recording: &Recording<R>,
+    recording: &RecordingWithin<R, B>,
     fault: &RowFault,
     notes: &mut N,
 ) {
+    let limits = B::limits();
     if matches!(fault.kind, RowFaultKind::Read) {
-        return note_row(alloc, fault, &[], notes);
+        return note_row(alloc, limits, fault, &[], notes);
     }
     match last_fields(alloc, recording) {
-        Ok(fields) => note_row(alloc, fault, fields.as_slice(), notes),
-        Err(NoMemory) => note_row(alloc, fault, &[], notes),
+        Ok(fields) => note_row(alloc, limits, fault, fields.as_slice(), notes),
+        Err(NoMemory) => note_row(alloc, limits, fault, &[], notes),
     }
+}
+
+/// Writes why a run ends by the fault that ended its recording, notes what to mend, and gives the number that the run ends with.
+pub fn stop<R: Read + Drop, B: Bounds, W: Write, N: Write>(
+    alloc: Global,
+    recording: &RecordingWithin<R, B>,
+    fault: RowFault,
+    json: bool,
+    out: &mut W,
+    notes: &mut N,
+) -> u8
+    ensures { PrintsOrMemory json (W.contents out.old) (W.contents out.new) (halted json (by_row fault)) (halt_status (by_row fault)) result }
+{
+    note_stop(alloc, recording, &fault, notes);
+    print_halt(alloc, &Halt::from(fault), json, out)
 }

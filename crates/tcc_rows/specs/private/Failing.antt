@@ -2,7 +2,7 @@
 use Rattle.std.specs.Prelude.{ℕ, ◌+◌, ◌≡◌, List, ◌++◌, length}
 use Rattle.tcc_rows.specs.Answers.{Answers, answers_after_within}
 use Rattle.tcc_rows.specs.Lines.{Record}
-use Rattle.tcc_rows.specs.declared.rows.line.Line.{Line}
+use Rattle.tcc_rows.specs.Line.{Line}
 use Rattle.tcc_txn.specs.declared.limits.Limits.{Limits}
 
 pub record FailsIn (limits : Limits) (all : List Record) (ahead : Answers) (row : ℕ) : Type 0 where

@@ -6,10 +6,11 @@ use Rattle.tcc_rows.specs.Lines.{Record, line_of}
 use Rattle.tcc_rows.specs.Past.{fault_within, is_begun, item_of, lesser, sessions, with_name}
 use Rattle.tcc_rows.specs.Standing.{HoldsNames, IsAfter, NameSet}
 use Rattle.tcc_rows.specs.declared.rows.Item.{Item}
-use Rattle.tcc_rows.specs.declared.rows.RowFaultKind.{RowFaultKind}
-use Rattle.tcc_rows.specs.declared.rows.line.Line.{Line}
+use Rattle.tcc_rows.specs.declared.fault.RowFaultKind.{RowFaultKind}
+use Rattle.tcc_rows.specs.declared.fault.RowFaultKind.TheVariants as kind
+use Rattle.tcc_rows.specs.Line.{Line}
+use Rattle.tcc_rows.specs.Line as line
 use Rattle.tcc_rows.specs.declared.rows.progress.Progress.{Progress}
-use Rattle.tcc_txn.specs.Transactions.{writes_zero}
 use Rattle.tcc_txn.specs.declared.limits.Limits.{Limits}
 use Rattle.tcc_txn.specs.declared.op.Op.{Op}
 
@@ -47,10 +48,3 @@ PassesOperation limits past fields (Err k) new =
 abbrev pub TakesLine : Limits → List Line → Line → Result (Option Item) RowFaultKind → Progress → Type 0
 TakesLine limits past last (Ok given) new = (fault_within limits past last ≡ None) × (given ≡ item_of past last) × IsAfter limits (last ∷ past) new
 TakesLine limits past last (Err k) new = (fault_within limits past last ≡ Some k) ⊎ (k ≡ kind.NoMemory)
-
--- the line writes no 0
-abbrev pub writes_no_zero : Line → Type 0
-writes_no_zero line.Seal = Unit {0}
-writes_no_zero (line.Begin session) = Unit {0}
-writes_no_zero (line.Finish session committed) = Unit {0}
-writes_no_zero (line.Operation session op) = writes_zero op ≡ false

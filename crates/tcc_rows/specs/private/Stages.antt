@@ -11,11 +11,13 @@ use Rattle.tcc_rows.specs.Standing.{IsAfter}
 use Rattle.tcc_txn.specs.declared.limits.Limits.{Limits}
 use Rattle.tcc_rows.specs.declared.rows.Item.{Item}
 use Rattle.tcc_rows.specs.declared.rows.Item.TheVariants as item
-use Rattle.tcc_rows.specs.declared.rows.RowFault.{RowFault}
-use Rattle.tcc_rows.specs.declared.rows.RowFaultKind.{RowFaultKind}
-use Rattle.tcc_rows.specs.declared.rows.RowFaultKind.TheVariants as kind
+use Rattle.tcc_rows.specs.declared.fault.RowFault.{RowFault}
+use Rattle.tcc_rows.specs.declared.fault.RowFaultKind.{RowFaultKind}
+use Rattle.tcc_rows.specs.declared.fault.RowFaultKind.TheVariants as kind
 use Rattle.tcc_rows.specs.declared.rows.Rows.{Rows}
-use Rattle.tcc_rows.specs.declared.rows.line.Line.{Line}
+use Rattle.tcc_rows.specs.Line.{Line}
+use Rattle.tcc_rows.specs.Turns.{line_by}
+use Rattle.tcc_rows.specs.declared.rows.line.Turn.{Turn}
 use Rattle.tcc_rows.specs.declared.rows.records.Course.TheVariants as course
 use Rattle.tcc_rows.specs.declared.rows.records.Records.{Records}
 
@@ -37,8 +39,8 @@ ReadsIn remaining all (Ok false) new = new.count ≡ length all
 ReadsIn remaining all (Err e) new = new.count ≤ length all
 
 -- the same, for the line that is met
-abbrev pub LeavesIn : {R : Type 0} {E : Type 0} → (R → Option (List ℕ)) → List Record → Result (Option Line) E → Records R → Type 0
-LeavesIn remaining all (Ok (Some line)) new = StandsIn remaining new all
+abbrev pub LeavesIn : {R : Type 0} {E : Type 0} → (R → Option (List ℕ)) → List Record → Result (Option Turn) E → Records R → Type 0
+LeavesIn remaining all (Ok (Some turn)) new = StandsIn remaining new all
 LeavesIn remaining all (Ok None) new = new.count ≡ length all
 LeavesIn remaining all (Err e) new = new.count ≤ length all
 
@@ -69,8 +71,8 @@ pub record IsAtLine {R : Type 0} (limits : Limits) (remaining : R → Option (Li
   pub answers : ahead ≡ answers_after_within limits past (fields ∷ left)
 
 -- the operations before it were passed: a line, the end of the records, or a fault in place of the first answer
-abbrev pub MeetsLine : {R : Type 0} → Limits → (R → Option (List ℕ)) → Answers → Result (Option Line) RowFaultKind → Rows R → Type 0
-MeetsLine limits remaining ahead (Ok (Some line)) new = IsAtLine limits remaining new ahead line
+abbrev pub MeetsLine : {R : Type 0} → Limits → (R → Option (List ℕ)) → Answers → Result (Option Turn) RowFaultKind → Rows R → Type 0
+MeetsLine limits remaining ahead (Ok (Some turn)) new = IsAtLine limits remaining new ahead (line_by turn)
 MeetsLine limits remaining ahead (Ok None) new =
     (past : List Line) × IsAfter limits past new.progress × (row_reached new ≡ length past) × (ahead ≡ answers_after_within limits past [])
 MeetsLine limits remaining ahead (Err k) new = FaultsIn limits ahead (record { row = row_reached new; kind = k })

@@ -1,11 +1,13 @@
 -- Words of a record, one by one.
 use Rattle.std.specs.Prelude.{ℕ, Bool, true, false, if◌then◌else◌, List, Result, Ok, Err, codes, ◌-◌}
 use Rattle.tcc_txn.specs.Bytes.{same}
-use Rattle.tcc_rows.specs.declared.rows.RowFaultKind.{RowFaultKind}
+use Rattle.tcc_rows.specs.declared.fault.RowFaultKind.{RowFaultKind}
+use Rattle.tcc_rows.specs.declared.fault.RowFaultKind.TheVariants as kind
 use Rattle.tcc_rows.specs.Lines.{named, Record}
-use Rattle.tcc_rows.specs.declared.rows.line.Line.{Line}
+use Rattle.tcc_rows.specs.Line.{Line}
 use Rattle.tcc_txn.specs.declared.limits.Limits.TheVariants.{Small}
 use Rattle.tcc_txn.specs.declared.snapshot.GrowFault.{GrowFault}
+use Rattle.tcc_txn.specs.declared.snapshot.GrowFault.TheVariants as grow
 use Rattle.tcc_rows.specs.Answers.{judged_within, Answers, answers_after_within}
 use Rattle.tcc_rows.specs.declared.rows.Rows.{Rows}
 use Rattle.csv.specs.Reading.{is_io}

@@ -4,7 +4,7 @@ ghost use Rattle.tcc_rows.specs.private.Drafts.{AddsOp};
 ghost use Rattle.tcc_txn.specs.Transactions.{writes_zero};
 ghost use Rattle.tcc_txn.specs.declared.limits.TheConstants.{MAX_OPERATIONS};
 
-use super::RowFaultKind;
+use crate::RowFaultKind;
 use std::alloc::Global;
 use std::marker::Model;
 use tcc_txn::{MAX_OPERATIONS, Op, Txn};

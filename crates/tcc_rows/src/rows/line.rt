@@ -1,25 +1,24 @@
 //! What one record says by itself.
 ghost use Rattle.std.specs.Prelude.{◌≡◌, ◌≢◌, ◌<◌, ◌∷◌, [], length, slice_index, IfErr};
 ghost use Rattle.csv.specs.Records.{field_at, fields_of};
-ghost use Rattle.tcc_rows.specs.Lines.{digits_of, line_of, op_of, value_of};
 ghost use Rattle.tcc_rows.specs.private.Words.{access_of, session_of};
+ghost use Rattle.tcc_rows.specs.Lines.{digits_of, line_of, op_of, value_of};
+ghost use Rattle.tcc_rows.specs.Turns.{read_as};
 
-use super::RowFaultKind;
+use crate::RowFaultKind;
 use csv::ByteRecord;
 use std::str;
 use tcc_txn::{Name, Op};
 
-/// What a lawful record says.
+/// What a lawful record says that is no operation.
 #[derive(Clone, Copy)]
-pub(crate) enum Line {
+pub(crate) enum Turn {
     /// An answer is wanted for what was finished so far.
     Seal,
     /// A transaction of the session begins.
     Begin { session: Name },
     /// The session's transaction is finished.
     Finish { session: Name, committed: bool },
-    /// The session's transaction reads or writes.
-    Operation { session: Name, op: Op },
 }
 
 /// The number of 64 bits that the digits write.
@@ -44,34 +43,34 @@ fn read_value(digits: &[u8]) -> Option<u64>
 }
 
 /// A record of one field.
-fn read_seal(word: &[u8]) -> Result<Line, RowFaultKind>
-    ensures line { result ≡ line_of (word.now ∷ []) }
+fn read_seal(word: &[u8]) -> Result<Turn, RowFaultKind>
+    ensures line { read_as result ≡ line_of (word.now ∷ []) }
     ensures other { IfErr result (λ kind. kind ≢ RowFaultKind.Read) }
 {
     if word == b"seal".as_slice() {
-        Ok(Line::Seal)
+        Ok(Turn::Seal)
     } else {
         Err(RowFaultKind::UnknownWord)
     }
 }
 
 /// A record of two fields.
-fn read_turn(session: &[u8], word: &[u8]) -> Result<Line, RowFaultKind>
-    ensures line { result ≡ line_of (session.now ∷ word.now ∷ []) }
+fn read_turn(session: &[u8], word: &[u8]) -> Result<Turn, RowFaultKind>
+    ensures line { read_as result ≡ line_of (session.now ∷ word.now ∷ []) }
     ensures other { IfErr result (λ kind. kind ≢ RowFaultKind.Read) }
 {
     let Ok(session) = Name::read(session) else {
         return Err(RowFaultKind::BadSession);
     };
     if word == b"begin".as_slice() {
-        Ok(Line::Begin { session })
+        Ok(Turn::Begin { session })
     } else if word == b"commit".as_slice() {
-        Ok(Line::Finish {
+        Ok(Turn::Finish {
             session,
             committed: true,
         })
     } else if word == b"abort".as_slice() {
-        Ok(Line::Finish {
+        Ok(Turn::Finish {
             session,
             committed: false,
         })
@@ -132,22 +131,22 @@ pub(crate) fn read_access(word: &[u8]) -> Result<bool, RowFaultKind>
 }
 
 /// The field at the place.
-pub(crate) fn field(record: &ByteRecord, place: usize) -> &[u8]
-    requires { place < length (fields_of record.now) }
-    ensures { Some result.now ≡ field_at (fields_of record.now) place }
+pub(crate) fn field(fields: &ByteRecord, place: usize) -> &[u8]
+    requires { place < length (fields_of fields.now) }
+    ensures { Some result.now ≡ field_at (fields_of fields.now) place }
 {
-    record.get(place).unwrap()
+    fields.get(place).unwrap()
 }
 
-/// The line that a record of other than four fields is, or what is wrong with the record by itself.
-pub(crate) fn read_line(record: &ByteRecord) -> Result<Line, RowFaultKind>
-    requires { length (fields_of record.now) ≢ 4 }
-    ensures line { result ≡ line_of (fields_of record.now) }
+/// What a record of other than four fields says, or what is wrong with the record by itself.
+pub(crate) fn read_line(fields: &ByteRecord) -> Result<Turn, RowFaultKind>
+    requires { length (fields_of fields.now) ≢ 4 }
+    ensures line { read_as result ≡ line_of (fields_of fields.now) }
     ensures other { IfErr result (λ kind. kind ≢ RowFaultKind.Read) }
 {
-    match record.len() {
-        1 => read_seal(field(record, 0)),
-        2 => read_turn(field(record, 0), field(record, 1)),
+    match fields.len() {
+        1 => read_seal(field(fields, 0)),
+        2 => read_turn(field(fields, 0), field(fields, 1)),
         _ => Err(RowFaultKind::FieldCount),
     }
 }

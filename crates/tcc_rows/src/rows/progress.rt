@@ -8,17 +8,19 @@ ghost use Rattle.csv.specs.Records.{fields_of};
 ghost use Rattle.tcc_rows.specs.Lines.{line_of};
 ghost use Rattle.tcc_rows.specs.Past.{least, lesser, open_sessions, ops_since};
 ghost use Rattle.tcc_rows.specs.Standing.{HoldsNames, HoldsSeats, IsAfter};
-ghost use Rattle.tcc_rows.specs.private.Passing.{MayBegin, NotesName, PassesLine, PassesOperation, TakesLine, lower, writes_no_zero};
+ghost use Rattle.tcc_rows.specs.private.Passing.{MayBegin, NotesName, PassesLine, PassesOperation, TakesLine, lower};
+ghost use Rattle.tcc_rows.specs.Turns.{line_by};
 ghost use Rattle.tcc_txn.specs.Transactions.{writes_zero};
 ghost use Rattle.tcc_rows.specs.private.Phases.{phase_after_step};
 ghost use Rattle.tcc_txn.specs.declared.limits.Limits.{Limits};
 ghost use Rattle.tcc_rows.specs.declared.rows.Phase.TheVariants as phase;
-ghost use Rattle.tcc_rows.specs.declared.rows.line.Line.{Line};
-ghost use Rattle.tcc_rows.specs.declared.rows.line.Line.TheVariants as line;
+ghost use Rattle.tcc_rows.specs.Line.{Line};
+ghost use Rattle.tcc_rows.specs.Line as line;
 
+use super::Item;
 use super::draft::{Draft, add_operation};
-use super::line::{Line, field, read_access, read_op, read_session};
-use super::{Item, RowFaultKind};
+use super::line::{Turn, field, read_access, read_op, read_session};
+use crate::RowFaultKind;
 use csv::ByteRecord;
 use std::alloc::Global;
 use std::collections::{BTreeMap, BTreeSet};
@@ -209,44 +211,39 @@ impl Progress {
     pub(crate) fn pass_operation(
         &mut self,
         last: &mut Option<Name>,
-        record: &ByteRecord,
+        fields: &ByteRecord,
     ) -> Result<(), RowFaultKind>
-        requires { length (fields_of record.now) ≡ 4 }
+        requires { length (fields_of fields.now) ≡ 4 }
         ensures passed { (limits : Limits) (past : List Line) → IsAfter limits past self.old
-            → PassesOperation limits past (fields_of record.now) result self.new }
+            → PassesOperation limits past (fields_of fields.now) result self.new }
         ensures other { IfErr result (λ kind. kind ≢ RowFaultKind.Read) }
     {
         self.pass_fields(
             last,
-            field(record, 0),
-            field(record, 1),
-            field(record, 2),
-            field(record, 3),
+            field(fields, 0),
+            field(fields, 1),
+            field(fields, 2),
+            field(fields, 3),
         )
     }
 
-    /// Goes past the line, which may finish something.
-    pub(crate) fn pass(&mut self, alloc: Global, line: Line) -> Result<Option<Item>, RowFaultKind>
-        requires { writes_no_zero line }
-        ensures passed { (limits : Limits) (past : List Line) → IsAfter limits past self.old → TakesLine limits past line result self.new }
+    /// Goes past a record that is no operation, which may finish something.
+    pub(crate) fn pass(&mut self, alloc: Global, turn: Turn) -> Result<Option<Item>, RowFaultKind>
+        ensures passed { (limits : Limits) (past : List Line) → IsAfter limits past self.old → TakesLine limits past (line_by turn) result self.new }
         ensures going { IfOk result (λ given. phase_after_step given ≡ phase.Reading) }
         ensures other { IfErr result (λ kind. kind ≢ RowFaultKind.Read) }
     {
-        match line {
-            Line::Seal => match self.seal() {
+        match turn {
+            Turn::Seal => match self.seal() {
                 Ok(()) => Ok(Some(Item::Seal)),
                 Err(kind) => Err(kind),
             },
-            Line::Begin { session } => match self.begin(alloc, session) {
+            Turn::Begin { session } => match self.begin(alloc, session) {
                 Ok(()) => Ok(None),
                 Err(kind) => Err(kind),
             },
-            Line::Finish { session, committed } => match self.finish(session, committed) {
+            Turn::Finish { session, committed } => match self.finish(session, committed) {
                 Ok(txn) => Ok(Some(Item::Finished(session, txn))),
-                Err(kind) => Err(kind),
-            },
-            Line::Operation { session, op } => match self.operate(session, op) {
-                Ok(()) => Ok(None),
                 Err(kind) => Err(kind),
             },
         }

@@ -13,8 +13,8 @@ ghost use Rattle.tcc_rows.specs.RecordsLeft.{HasLeft, record_of};
 ghost use Rattle.tcc_rows.specs.private.Stages.{TakesRecord, Counts, ReadsIn};
 ghost use Rattle.tcc_rows.specs.declared.rows.records.Course.TheVariants as course;
 
-use super::RowFaultKind;
 use super::limited::Limited;
+use crate::RowFaultKind;
 use csv::{ByteRecord, Error, Reader, ReaderBuilder};
 use std::alloc::Global;
 use std::io::Read;

@@ -1,13 +1,11 @@
 -- How the stages of a run follow one another.
-use Rattle.std.specs.Prelude.{ℕ, ◌≡◌, ◌≢◌, ◌⊎◌, Bool, List, [], length, slice_get, option_map, unwrap_or, Option, None, Some, IfSome}
+use Rattle.std.specs.Prelude.{ℕ, ◌≡◌, ◌≢◌, ◌⊎◌, Bool, List, [], option_map, unwrap_or, Option, None, Some, IfSome}
 use Rattle.std.specs.Io.KnownBytes.{Appends}
 use Rattle.std.specs.List.{last_or}
-use Rattle.std.specs.Option.{option_map_or}
 use Rattle.tcc_rows.specs.Answers as rows
 use Rattle.tcc_txn.specs.Finished.{transaction_count}
 use Rattle.tcc_txn.specs.Nested.{IsNested}
 use Rattle.tcc_txn.specs.Snapshots.{Sessions}
-use Rattle.tcc_txn.specs.Transactions.{Transaction}
 use Rattle.tcc_reads.specs.Faults.{read_faults}
 use Rattle.tcc_graph.specs.declared.level.Level.{Level}
 use Rattle.tcc_cert.specs.Texts.{certificate_text}
@@ -27,12 +25,6 @@ use Rattle.tcc_run.specs.declared.outcome.Outcome.TheVariants as outcome
 use Rattle.tcc_print.specs.Statuses.{code_of, last_status}
 use Rattle.tcc_print.specs.Printed.{CutsOff, Prints, answered, device_line, memory_line, unresolved}
 use Rattle.tcc_reads.specs.Sources.{history}
-
--- ---- what is answered
-
--- how many transactions the session at this place has finished; past the last place, none
-abbrev pub count_at : List (List ℕ × List Transaction) → ℕ → ℕ
-count_at entries i = option_map_or (λ named. length named.1) (slice_get entries i) 0
 
 -- ---- one answer
 

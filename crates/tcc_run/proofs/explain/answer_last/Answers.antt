@@ -22,13 +22,13 @@ returns-clause-due g c other =
           (subst (λ o. Appends (g.W.Write.contents c.renew.new.out) (g.W.Write.contents o) (outcome_text c.args.options.json c.in_ok-last.last.outcome))
           (sym w.out-is) w.in_ok-send.ensures.whole)
       | else-due w ↦ absurd
-          (c.is_due-due.ensures.said w.if-due.false (subst (λ n. IfSome c.args.last (λ last. last.transactions ≢ n)) (sym c.transaction_count.ensures) other))
+          (c.is_due-due.ensures.said w.if-due.false (subst (λ n. IfSome c.args.last (λ last. last.transactions ≢ n)) (sym c.transactions.ensures.value) other))
     ]
 
 pub returns-clause-said : goal.returns-clause-said
 returns-clause-said g c = elim c.if-due.branch [
   | then-due+in_ok-send w ↦
-      IfSome_then c.args.last (c.is_due-due.ensures.due w.if-due.true) (λ last other same. absurd (other (same ∙ sym c.transaction_count.ensures)))
+      IfSome_then c.args.last (c.is_due-due.ensures.due w.if-due.true) (λ last other same. absurd (other (same ∙ sym c.transactions.ensures.value)))
   | else-due w ↦
       IfSome_then c.args.last c.in_ok-last.ensures.again
       (λ last again same. (

@@ -1,6 +1,7 @@
 use Rattle.std.proofs.Common.{refl, sym, ap, arith, inl, ◌∙◌}
 use Rattle.tcc_rows.specs.Answers.{answers_after_within}
 use Rattle.tcc_rows.specs.RecordsLeft.{record_of}
+use Rattle.tcc_rows.specs.Turns.{line_by}
 use Rattle.tcc_rows.proofs.AheadFacts.{failed-reading, judged-refused, judged-unlawful, line-met, operation-passed, reading-failed, record-refused, row-ended}
 use Rattle.tcc_rows.proofs.RecordSteps.{stands-within}
 use Rattle.tcc_rows.proofs.rows.Rows.next_line.Goals as goal
@@ -34,7 +35,7 @@ returns-in-Ok-clause-line g c limits ahead reading =
     let counts = rw c.in-Ok-true.field-0-test at c.in-Ok-true.ensures.counts in
     let whole = rw c.record-record.ensures.value at c.record-record.ensures.whole in
     let lawful = rw c.record-record.ensures.value at (sym c.in-Ok.ensures.line) in
-    line-met limits g.R.Read.remaining c.records.self _ c.read.new.self ahead now taken counts refl refl whole c.in-Ok.line lawful
+    line-met limits g.R.Read.remaining c.records.self _ c.read.new.self ahead now taken counts refl refl whole (line_by c.in-Ok.turn) lawful
 
 pub returns-in-Err-read_line-clause-line : goal.returns-in-Err-read_line-clause-line
 returns-in-Err-read_line-clause-line g c limits ahead reading =

@@ -1,4 +1,5 @@
 use Rattle.std.proofs.Common.{ap, sym, ◌∙◌}
+use Rattle.tcc_rows.specs.Turns.{line_by}
 use Rattle.tcc_rows.proofs.AheadFacts.{closed-after, end-taken, line-taken, row-at, unfinished-after}
 use Rattle.tcc_txn.proofs.Growing.{if-err-then}
 use Rattle.tcc_rows.proofs.RecordSteps.{all-read, line-stands}
@@ -7,9 +8,9 @@ use Rattle.tcc_rows.proofs.rows.Rows.step.Goals as goal
 pub returns-in-Ok-Some-clause-step : goal.returns-in-Ok-Some-clause-step
 returns-in-Ok-Some-clause-step g c limits ahead reading =
     let here = rw c.in-Ok-Some.field-0-is at (c.in-Ok-Some.ensures.line limits ahead reading) in
-    let row = row-at limits g.R.Read.remaining c.next_line.new.self ahead c.in-Ok-Some.line here in
+    let row = row-at limits g.R.Read.remaining c.next_line.new.self ahead (line_by c.in-Ok-Some.turn) here in
     let fields = c.take_line.ensures.fields limits here.past here.fields here.progress row here.whole here.lawful in
-    line-taken limits g.R.Read.remaining c.next_line.new.self c.take_line.new.self ahead c.in-Ok-Some.line here c.take_line.ensures.records c.take_line.result fields
+    line-taken limits g.R.Read.remaining c.next_line.new.self c.take_line.new.self ahead (line_by c.in-Ok-Some.turn) here c.take_line.ensures.records c.take_line.result fields
 
 pub returns-in-Ok-Some-clause-within : goal.returns-in-Ok-Some-clause-within
 returns-in-Ok-Some-clause-within g c all stands =

@@ -17,7 +17,3 @@ returns-in-Ok-finish-clause-passed c limits past is =
 
 pub returns-in-Err-finish-clause-passed : goal.returns-in-Err-finish-clause-passed
 returns-in-Err-finish-clause-passed c limits past is = rw c.in-Finish.is (c.in-Err-finish.ensures.passed limits past is)
-
-pub returns-in-Ok-operate-clause-passed : goal.returns-in-Ok-operate-clause-passed
-returns-in-Ok-operate-clause-passed c limits past is =
-    rw c.in-Operation.is (let passed = c.in-Ok-operate.ensures.passed limits past is in (passed.0, refl, passed.1))

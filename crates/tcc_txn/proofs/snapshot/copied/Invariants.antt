@@ -1,5 +1,5 @@
 use Rattle.std.proofs.Common.{◌≡◌, take}
-use Rattle.tcc_large_run.proofs.copying.copied.Given as goal
+use Rattle.tcc_txn.proofs.snapshot.copied.Given as goal
 
 -- the copies so far
 abbrev pub invariant-loop-transaction : goal.invariant-loop-transaction

@@ -1,6 +1,6 @@
 use Rattle.std.proofs.Common.{◌≡◌, take}
 use Rattle.tcc_txn.specs.Snapshots.{parts_of}
-use Rattle.tcc_large_run.proofs.copying.copied_parts.Given as goal
+use Rattle.tcc_txn.proofs.snapshot.copied_parts.Given as goal
 
 -- the copies so far
 abbrev pub invariant-loop-part : goal.invariant-loop-part

@@ -2,7 +2,7 @@
 use Rattle.std.proofs.Common.{subst}
 use Rattle.tcc_print.specs.Printed.{PrintsOrMemory, halted}
 use Rattle.tcc_print.specs.Statuses.{halt_status}
-use Rattle.tcc_run.proofs.explain.stop.Goals as goal
+use Rattle.tcc_verdict.proofs.stopping.stop.Goals as goal
 
 pub returns : goal.returns
 returns g c =

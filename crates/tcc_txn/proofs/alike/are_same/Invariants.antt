@@ -1,5 +1,5 @@
 use Rattle.std.proofs.Common.{◌≡◌, length, take}
-use Rattle.tcc_large_run.proofs.alike.are_same.Given as goal
+use Rattle.tcc_txn.proofs.alike.are_same.Given as goal
 
 -- the lists are as long, and equal so far
 abbrev pub invariant-loop-place : goal.invariant-loop-place

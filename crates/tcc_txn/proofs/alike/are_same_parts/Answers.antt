@@ -1,7 +1,7 @@
 use Rattle.std.proofs.Common.{◌≡◌, ◌<◌, length, sym, ◌∙◌, arith}
 use Rattle.std.proofs.lemmas.List.{get_or_read}
-use Rattle.tcc_large_run.proofs.SameParts.{both_more}
-use Rattle.tcc_large_run.proofs.alike.are_same_parts.Goals as goal
+use Rattle.tcc_txn.proofs.SameParts.{both_more}
+use Rattle.tcc_txn.proofs.alike.are_same_parts.Goals as goal
 
 pub loop-place-preserved : goal.loop-place-preserved
 loop-place-preserved c =

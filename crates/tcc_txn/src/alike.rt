@@ -1,14 +1,15 @@
-//! Whether two snapshots are equal.
-ghost use Rattle.std.specs.Prelude.{◌≡◌, IsTrue};
+//! Whether transactions and snapshots are equal.
+ghost use Rattle.std.specs.Prelude.{◌≡◌, true, false, IsTrue};
 ghost use Rattle.tcc_txn.specs.Snapshots.{parts_of};
 
-use tcc_txn::{Name, Op, Snapshot, Txn};
+use crate::{Name, Op, Txn};
 
 /// Values that can be compared.
-trait Alike {
+pub trait Alike {
     /// Whether the values are equal.
     fn is_same(&self, other: &Self) -> bool
-        ensures { IsTrue result → self.now ≡ other.now };
+        ensures same { result ≡ true → self.now ≡ other.now }
+        ensures other { result ≡ false → self.now ≡ other.now → ⊥ };
 }
 
 impl Alike for Op {
@@ -25,8 +26,9 @@ impl Alike for Txn {
 }
 
 /// Whether the lists are equal.
-fn are_same<T: Alike>(some: &[T], others: &[T]) -> bool
-    ensures { IsTrue result → some.now ≡ others.now }
+pub fn are_same<T: Alike>(some: &[T], others: &[T]) -> bool
+    ensures same { result ≡ true → some.now ≡ others.now }
+    ensures other { result ≡ false → some.now ≡ others.now → ⊥ }
 {
     if some.len() != others.len() {
         return false;
@@ -47,7 +49,7 @@ fn is_same_part(session: &Name, some: &[Txn], other: &Name, others: &[Txn]) -> b
 }
 
 /// Whether each session has the name and the transactions of the one at its place.
-fn are_same_parts(some: &[(Name, Vec<Txn>)], others: &[(Name, Vec<Txn>)]) -> bool
+pub(crate) fn are_same_parts(some: &[(Name, Vec<Txn>)], others: &[(Name, Vec<Txn>)]) -> bool
     ensures { IsTrue result → parts_of some.now ≡ parts_of others.now }
 {
     if some.len() != others.len() {
@@ -60,11 +62,4 @@ fn are_same_parts(some: &[(Name, Vec<Txn>)], others: &[(Name, Vec<Txn>)]) -> boo
         }
     }
     true
-}
-
-/// Whether the snapshots are equal.
-pub(crate) fn is_same(one: &Snapshot, other: &Snapshot) -> bool
-    ensures { IsTrue result → one.now ≡ other.now }
-{
-    are_same_parts(one.parts(), other.parts())
 }

@@ -1,0 +1,18 @@
+-- The lines that are no operations, by what is read of their records, for proofs: nobody has to believe it.
+use Rattle.std.specs.Prelude.{Result, Ok, Err}
+use Rattle.tcc_rows.specs.Line.{Line}
+use Rattle.tcc_rows.specs.Line as line
+use Rattle.tcc_rows.specs.declared.fault.RowFaultKind.{RowFaultKind}
+use Rattle.tcc_rows.specs.declared.rows.line.Turn.{Turn}
+use Rattle.tcc_rows.specs.declared.rows.line.Turn.TheVariants as turn
+
+-- the line that says so
+abbrev pub line_by : Turn → Line
+line_by turn.Seal = line.Seal
+line_by (turn.Begin session) = line.Begin session
+line_by (turn.Finish session committed) = line.Finish session committed
+
+-- the line of a record, or what is wrong with it
+abbrev pub read_as : Result Turn RowFaultKind → Result Line RowFaultKind
+read_as (Ok turn) = Ok (line_by turn)
+read_as (Err k) = Err k
