@@ -23,7 +23,7 @@ use Rattle.tcc_rows.specs.declared.rows.Item.TheVariants as item
 use Rattle.tcc_rows.specs.declared.fault.RowFault.{RowFault}
 use Rattle.tcc_rows.specs.declared.fault.RowFaultKind.TheVariants as kind
 use Rattle.tcc_rows.proofs.FailingFacts.{first-items}
-use Rattle.tcc_print.specs.private.Halts.{by_row, is_memory}
+use Rattle.tcc_print.specs.Halts.{by_row, is_memory}
 use Rattle.tcc_print.specs.Moments.{at_end, is_due_after, sealed_in}
 use Rattle.tcc_print.specs.Printed.{CutsOff, Prints, PrintsOrMemory, halted, memory_line}
 use Rattle.tcc_print.specs.Statuses.{halt_status}

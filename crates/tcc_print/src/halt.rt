@@ -1,6 +1,7 @@
 //! Why a run has no answer or no verdict.
 ghost use Rattle.std.specs.Prelude.{◌≡◌};
-ghost use Rattle.tcc_print.specs.private.Halts.{by_row, by_stream, unresolved_by};
+ghost use Rattle.tcc_print.specs.Halts.{by_row};
+ghost use Rattle.tcc_print.specs.private.Halts.{by_stream, unresolved_by};
 ghost use Rattle.tcc_print.specs.declared.halt.Halt.TheVariants as halt;
 
 use tcc_cert::CertFault;

@@ -7,7 +7,7 @@ use Rattle.std.specs.Option.{option_map_or}
 use Rattle.std.proofs.Math.Seq.{take-append_seam}
 use Rattle.std.proofs.lemmas.List.{take-append-drop}
 use Rattle.tcc_rows.specs.Answers.{Answers, after_item, answers_after_within, go_on, judged_within}
-use Rattle.tcc_rows.specs.Failing as failing
+use Rattle.tcc_rows.specs.private.Failing as failing
 use Rattle.tcc_rows.specs.Failing.{AreLawfulWithin, FailsAtWithin, items_before_within, records_before}
 use Rattle.tcc_txn.specs.Limits.{most_keys, most_sessions, most_transactions}
 use Rattle.tcc_txn.specs.Bytes.{same}

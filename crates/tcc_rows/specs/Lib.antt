@@ -12,5 +12,4 @@ pub mod Recordings
 pub mod Midway
 pub mod RecordsLeft
 pub mod Standing
-pub mod Turns
 pub mod private

@@ -6,3 +6,4 @@ pub mod Stages
 pub mod Limited
 pub mod Passing
 pub mod Words
+pub mod Turns

@@ -4,7 +4,7 @@ ghost use Rattle.std.specs.Prelude.{None, Some, false, Ok, Err, option_map};
 ghost use Rattle.csv.specs.Records.{field_at};
 ghost use Rattle.tcc_rows.specs.Answers.{Answers, answers_after_within, answers_of, answers_within, fault_at_end, records_of, records_within};
 ghost use Rattle.tcc_rows.specs.Standing.{IsAfter};
-ghost use Rattle.tcc_rows.specs.Turns.{line_by};
+ghost use Rattle.tcc_rows.specs.private.Turns.{line_by};
 ghost use Rattle.tcc_txn.specs.declared.limits.Limits.{Limits};
 ghost use Rattle.tcc_txn.specs.declared.limits.Limits.TheVariants.{Small};
 ghost use Rattle.tcc_rows.specs.Line.{Line};

@@ -40,7 +40,7 @@ use Rattle.tcc_run.specs.private.Stages.{AllAnswered, AnswersKept, Concludes, En
 use Rattle.tcc_run.specs.private.Stages.{IsFor, IsOutcome, IsStill, Keeps, SaysLast, answer_in, outcome_said}
 use Rattle.tcc_run.specs.private.Stages.{outcome_text}
 use Rattle.tcc_print.specs.Printed.{CutsOff, PrintsOrMemory}
-use Rattle.tcc_print.specs.private.Halts.{by_row, is_memory}
+use Rattle.tcc_print.specs.Halts.{by_row, is_memory}
 use Rattle.tcc_print.proofs.Moments.{AllZip-append, all-fault, all-items, at_end-due, at_end-none, due-passed, due-seal}
 use Rattle.tcc_print.proofs.Moments.{finished-seal, first-taken, last-push, part-of, same-passed, sealed-passed}
 use Rattle.tcc_print.proofs.Moments.{sealed-seal, still_due}

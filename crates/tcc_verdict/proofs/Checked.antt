@@ -17,7 +17,8 @@ use Rattle.tcc_check.specs.declared.judgement.Judgement.{Judgement}
 use Rattle.tcc_print.specs.declared.halt.Halt.{Halt}
 use Rattle.tcc_print.specs.declared.halt.Halt.TheVariants.{Row, Reads, Text, NoMemory}
 use Rattle.tcc_verdict.specs.private.Stages.{MayBeTextCheck, IsResolution, IsHistoryOf}
-use Rattle.tcc_print.specs.private.Halts.{by_row, is_memory, unresolved_by}
+use Rattle.tcc_print.specs.Halts.{by_row, is_memory}
+use Rattle.tcc_print.specs.private.Halts.{unresolved_by}
 use Rattle.tcc_verdict.specs.Checks.{IsTextCheck, IsRecordsCheck, MayBeCheck}
 
 -- ---- the history

@@ -1,5 +1,5 @@
 //! How a run ends by the fault of a record, and what is noted of it, by the record that it stands at.
-ghost use Rattle.tcc_print.specs.private.Halts.{by_row};
+ghost use Rattle.tcc_print.specs.Halts.{by_row};
 ghost use Rattle.tcc_print.specs.Printed.{PrintsOrMemory, halted};
 ghost use Rattle.tcc_print.specs.Statuses.{halt_status};
 

@@ -16,7 +16,7 @@ use Rattle.tcc_rows.specs.declared.fault.RowFaultKind.{RowFaultKind}
 use Rattle.tcc_rows.specs.declared.fault.RowFaultKind.TheVariants as kind
 use Rattle.tcc_rows.specs.declared.rows.Rows.{Rows}
 use Rattle.tcc_rows.specs.Line.{Line}
-use Rattle.tcc_rows.specs.Turns.{line_by}
+use Rattle.tcc_rows.specs.private.Turns.{line_by}
 use Rattle.tcc_rows.specs.declared.rows.line.Turn.{Turn}
 use Rattle.tcc_rows.specs.declared.rows.records.Course.TheVariants as course
 use Rattle.tcc_rows.specs.declared.rows.records.Records.{Records}

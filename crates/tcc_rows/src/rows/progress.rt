@@ -9,7 +9,7 @@ ghost use Rattle.tcc_rows.specs.Lines.{line_of};
 ghost use Rattle.tcc_rows.specs.Past.{least, lesser, open_sessions, ops_since};
 ghost use Rattle.tcc_rows.specs.Standing.{HoldsNames, HoldsSeats, IsAfter};
 ghost use Rattle.tcc_rows.specs.private.Passing.{MayBegin, NotesName, PassesLine, PassesOperation, TakesLine, lower};
-ghost use Rattle.tcc_rows.specs.Turns.{line_by};
+ghost use Rattle.tcc_rows.specs.private.Turns.{line_by};
 ghost use Rattle.tcc_txn.specs.Transactions.{writes_zero};
 ghost use Rattle.tcc_rows.specs.private.Phases.{phase_after_step};
 ghost use Rattle.tcc_txn.specs.declared.limits.Limits.{Limits};

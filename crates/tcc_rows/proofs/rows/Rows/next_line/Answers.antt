@@ -1,7 +1,7 @@
 use Rattle.std.proofs.Common.{refl, sym, ap, arith, inl, ◌∙◌}
 use Rattle.tcc_rows.specs.Answers.{answers_after_within}
 use Rattle.tcc_rows.specs.RecordsLeft.{record_of}
-use Rattle.tcc_rows.specs.Turns.{line_by}
+use Rattle.tcc_rows.specs.private.Turns.{line_by}
 use Rattle.tcc_rows.proofs.AheadFacts.{failed-reading, judged-refused, judged-unlawful, line-met, operation-passed, reading-failed, record-refused, row-ended}
 use Rattle.tcc_rows.proofs.RecordSteps.{stands-within}
 use Rattle.tcc_rows.proofs.rows.Rows.next_line.Goals as goal

@@ -1,5 +1,5 @@
 use Rattle.std.proofs.Common.{ap, sym, ◌∙◌}
-use Rattle.tcc_rows.specs.Turns.{line_by}
+use Rattle.tcc_rows.specs.private.Turns.{line_by}
 use Rattle.tcc_rows.proofs.AheadFacts.{closed-after, end-taken, line-taken, row-at, unfinished-after}
 use Rattle.tcc_txn.proofs.Growing.{if-err-then}
 use Rattle.tcc_rows.proofs.RecordSteps.{all-read, line-stands}

@@ -1,4 +1,4 @@
--- The lines that are no operations, by what is read of their records, for proofs: nobody has to believe it.
+-- The lines that are no operations, by what is read of their records.
 use Rattle.std.specs.Prelude.{Result, Ok, Err}
 use Rattle.tcc_rows.specs.Line.{Line}
 use Rattle.tcc_rows.specs.Line as line
