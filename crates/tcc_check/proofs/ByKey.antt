@@ -17,7 +17,7 @@ use Rattle.tcc_check.proofs.LinksFrom.{seconds-by, zip-at, zip-from}
 use Rattle.tcc_check.proofs.LinksFrom.{one-lowered}
 use Rattle.tcc_check.proofs.Lowering.{lowered_none, lowered_as, lowered_then, lowered_one}
 use Rattle.tcc_check.proofs.Overshot.{at_run, group_begins, group_weight, run_long}
-use Rattle.tcc_check.proofs.Sessions.{from_map, in_map}
+use Rattle.tcc_txn.proofs.Lists.{from_map, in_map}
 
 -- ---- the readings of a key
 

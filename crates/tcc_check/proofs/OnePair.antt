@@ -15,7 +15,8 @@ use Rattle.tcc_graph.proofs.WriterLemmas.{writer_listed}
 use Rattle.tcc_check.specs.private.Latest.{AreApart, AreReadsKept, KeepsSessions, StandBefore}
 use Rattle.tcc_check.specs.private.SinglePairs.{AreSourcePlaces, DoSessionsStand, DoSourcesStand, DoesSessionStand, DoesWriterStand}
 use Rattle.tcc_check.proofs.KeyOrder.{one_place}
-use Rattle.tcc_check.proofs.Sessions.{by_keys, from_map, initial_before, read_listed, strictly_before}
+use Rattle.tcc_check.proofs.Sessions.{by_keys, initial_before, read_listed, strictly_before}
+use Rattle.tcc_txn.proofs.Lists.{from_map}
 
 -- ---- whom each key is read from
 

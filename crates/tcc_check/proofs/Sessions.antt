@@ -1,6 +1,6 @@
 -- Session order: who stands right before a transaction, and the last that are no later than a place of a session.
-use Rattle.std.proofs.Common.{ℕ, zero, suc, ◌+◌, ◌-◌, ◌<◌, ◌≤◌, ◌≡◌, ◌≢◌, ◌==◌, ◌⊎◌, ◌&&◌, nat_lt, Bool, true, false, eqb}
-use Rattle.std.proofs.Common.{inl, inr, List, [], ◌∷◌, map, filter, length, get_or, cond, Some, None, refl, sym, ap, subst}
+use Rattle.std.proofs.Common.{ℕ, ◌+◌, ◌-◌, ◌<◌, ◌≤◌, ◌≡◌, ◌≢◌, ◌==◌, ◌⊎◌, ◌&&◌, nat_lt, Bool, true, false, eqb}
+use Rattle.std.proofs.Common.{inl, inr, List, [], map, filter, length, get_or, cond, Some, None, refl, sym, ap, subst}
 use Rattle.std.proofs.Common.{◌∙◌, arith}
 use Rattle.std.specs.Prelude.{All, nat_le}
 use Rattle.std.specs.List.{Contains, AllPairs}
@@ -11,7 +11,7 @@ use Rattle.std.proofs.lemmas.Bool.{cases_lt, cases_eq, cases_Bool, and_parts, an
 use Rattle.std.proofs.lemmas.Bool.{or_left, or_right, lt-ltb, ltb-true, eqb-true, eq-eqb, leb-true}
 use Rattle.std.proofs.lemmas.Bool.{le-leb, both_ways}
 use Rattle.std.proofs.lemmas.List.{get_or_default}
-use Rattle.tcc_txn.proofs.Lists.{in_filter, from_filter}
+use Rattle.tcc_txn.proofs.Lists.{in_filter, from_filter, in_map, from_map}
 use Rattle.tcc_reads.specs.History.{History, IsBySession, count, entry_at, owner, place}
 use Rattle.tcc_graph.specs.Numbers.{at}
 use Rattle.tcc_graph.specs.Relations.{IsSessionPair, session_pair, IsReadsPair}
@@ -268,16 +268,6 @@ writers_rise h x = go (is_key h x)
     go : (k : Bool) → IsNonDecreasing (cond k (filter (λ u. writes h u x) (numbers h)) [])
     go true = rises (filter (λ u. writes h u x) (numbers h)) (IsStrictlyIncreasing-filter (λ u. writes h u x) (numbers h) range)
     go false = λ i j d upto below. absurd (omega (arith, below))
-
-pub in_map : {X Y : Type 0} (f : X → Y) (xs : List X) (x : X) → Contains xs x → Contains (map f xs) (f x)
-in_map f [] x (k, l, e) = absurd (omega arith)
-in_map f (y ∷ xs) x (zero, l, e) = (0, omega arith, ap f e)
-in_map f (y ∷ xs) x (suc k, l, e) = let w = in_map f xs x (k, omega arith, e) in (suc w.0, omega (arith, w.1), w.2)
-
-pub from_map : {X Y : Type 0} (f : X → Y) (xs : List X) (y : Y) → Contains (map f xs) y → (x : X) × Contains xs x × (f x ≡ y)
-from_map f [] y (k, l, e) = absurd (omega arith)
-from_map f (x ∷ xs) y (zero, l, e) = (x, (0, omega arith, refl), e)
-from_map f (x ∷ xs) y (suc k, l, e) = let w = from_map f xs y (k, omega arith, e) in (w.0, (suc w.1.0, omega (arith, w.1.1), w.1.2), w.2)
 
 -- a read is one of those that the transaction has
 pub read_listed : (h : History) (a c : ℕ) (x : List ℕ) → IsReadsPair h a c x → Contains (entry_at h c).reads (x, a)

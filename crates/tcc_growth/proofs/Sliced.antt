@@ -4,7 +4,7 @@ use Rattle.std.specs.List.{Contains}
 use Rattle.std.specs.FinMap.{entries}
 use Rattle.std.proofs.lemmas.Bool.{cases_eq, cases_order, eqb-true, eq-eqb}
 use Rattle.tcc_txn.specs.Snapshots.{Sessions}
-use Rattle.tcc_txn.proofs.Lists.{in_filter, from_filter}
+use Rattle.tcc_txn.proofs.Lists.{in_filter, from_filter, in_map, from_map}
 use Rattle.tcc_reads.specs.History.{Entry, History, count, entry_at, owner}
 use Rattle.tcc_reads.specs.Sites.{Stand, stands}
 use Rattle.tcc_reads.specs.Sources.{external_reads, source, pair_cmp, history}
@@ -15,7 +15,7 @@ use Rattle.tcc_graph.specs.Relations.{IsSessionPair, IsReadsPair, reads_from}
 use Rattle.tcc_graph.specs.Keys.{has_name}
 use Rattle.tcc_graph.proofs.Pairs.{lower_first, pair_parts}
 use Rattle.tcc_growth.specs.Slices.{IsPart, IsSlice}
-use Rattle.tcc_growth.proofs.Elements.{in_map, from_map, once_in, once_from, reads_apart}
+use Rattle.tcc_growth.proofs.Elements.{once_in, once_from, reads_apart}
 use Rattle.tcc_growth.proofs.Placed.{session_named, same_session}
 use Rattle.tcc_growth.proofs.Numbered.{number_some, number_below, number_stands, of_number, entry_is, owner_is}
 use Rattle.tcc_growth.proofs.Written.{written_value, value_written, shown, shows_it}

@@ -15,7 +15,8 @@ use Rattle.tcc_bits.specs.Bits.{is_marked}
 use Rattle.tcc_order.specs.private.Parents.{ArePrevious, parents, previous, previous_one, sources}
 use Rattle.tcc_order.specs.private.Held.{befores, AreInside, holds, IsFreeBy}
 use Rattle.tcc_order.proofs.Greedy.{has, IsFree, IsBelow, place_of, has_at}
-use Rattle.tcc_order.proofs.Reaching.{parent_or_init, parent_less, one_parent, parent_one, in_map, from_map}
+use Rattle.tcc_order.proofs.Reaching.{parent_or_init, parent_less, one_parent, parent_one}
+use Rattle.tcc_txn.proofs.Lists.{in_map, from_map}
 
 -- ---- what holds a transaction back
 pub holds_there : (h : History) (kept : List (List ℕ)) (b x : ℕ) → b < count h → x < count h → Contains (befores h kept x) b → holds h kept b x ≡ true

@@ -17,7 +17,7 @@ use Rattle.tcc_bits.proofs.Lists.{one_of_taken, still_taken, last_taken, nothing
 use Rattle.tcc_order.specs.private.Held.{IsFreeBy, AreRoots, onward}
 use Rattle.tcc_order.specs.private.Queued.{IsPopped, IsQueued, AreQueued, IsAny, IsNot}
 use Rattle.tcc_order.proofs.Fronts.{AreParentsBy}
-use Rattle.tcc_order.proofs.Reaching.{in_map, from_map}
+use Rattle.tcc_txn.proofs.Lists.{in_map, from_map}
 
 -- ---- the least of a heap
 not_less : (a b : ℕ) → is_lt (nat_cmp a b) ≡ false → b ≤ a

@@ -1,11 +1,11 @@
 -- Who reaches whom in a numbered history: session pairs, parents, and walks by their last pair.
-use Rattle.std.proofs.Common.{◌≡◌, ◌≢◌, ◌<◌, ◌-◌, ◌==◌, ◌↔◌, ◌⊎◌, inl, inr, ℕ, zero, suc, Bool, true, false, ◌&&◌, ◌||◌, List, [], ◌∷◌, map, filter, nat_lt}
+use Rattle.std.proofs.Common.{◌≡◌, ◌≢◌, ◌<◌, ◌-◌, ◌==◌, ◌↔◌, ◌⊎◌, inl, inr, ℕ, zero, suc, Bool, true, false, ◌&&◌, ◌||◌, List, [], ◌∷◌, filter, nat_lt}
 use Rattle.std.proofs.Common.{refl, sym, ap, ◌∙◌, subst, arith}
 use Rattle.std.specs.List.{Contains}
 use Rattle.std.proofs.lemmas.Bool.{cases_Bool, cases_eq, cases_order, or_cases, or_left, or_right, and_parts, and_from, ltb-true, lt-ltb, eqb-true, eq-eqb}
 use Rattle.std.proofs.lemmas.Bool.{ne_eqb, false≢true}
 use Rattle.std.proofs.lemmas.List.Elements.{All-contains, Contains-append_left, Contains-append_right, Contains-append_cases}
-use Rattle.tcc_txn.proofs.Lists.{in_filter, from_filter}
+use Rattle.tcc_txn.proofs.Lists.{in_filter, from_filter, in_map, from_map}
 use Rattle.tcc_reads.specs.History.{History, count, entry_at, owner, place}
 use Rattle.tcc_graph.specs.Relations.{session_pair, IsSessionPair, reads_from, IsCausalPair}
 use Rattle.tcc_graph.specs.Walks.{step_to, IsWalk, IsReached}
@@ -166,15 +166,6 @@ parent_less h c some = go (cases_Bool (session_pair h (c - 1) c))
     go (inr miss) = rw miss (omega arith)
 
 -- ---- sources
-pub in_map : {X Y : Type 0} (f : X → Y) (xs : List X) (x : X) → Contains xs x → Contains (map f xs) (f x)
-in_map f [] x (k, l, e) = absurd (omega arith)
-in_map f (y ∷ xs) x (zero, l, e) = (0, omega arith, ap f e)
-in_map f (y ∷ xs) x (suc k, l, e) = let w = in_map f xs x (k, omega arith, e) in (suc w.0, omega (arith, w.1), w.2)
-
-pub from_map : {X Y : Type 0} (f : X → Y) (xs : List X) (y : Y) → Contains (map f xs) y → (x : X) × Contains xs x × (f x ≡ y)
-from_map f [] y (k, l, e) = absurd (omega arith)
-from_map f (x ∷ xs) y (zero, l, e) = (x, (0, omega arith, refl), e)
-from_map f (x ∷ xs) y (suc k, l, e) = let w = from_map f xs y (k, omega arith, e) in (w.0, (suc w.1.0, omega (arith, w.1.1), w.1.2), w.2)
 
 pub source_reads : (h : History) (a c : ℕ) → Contains (sources h c) a → (x : List ℕ) × Contains (reads_from h a c) x
 source_reads h a c there =

@@ -5,7 +5,7 @@ use Rattle.std.specs.List.{All, Contains}
 use Rattle.std.proofs.lemmas.Bool.{cases_eq, eq-eqb, eqb-true}
 use Rattle.std.proofs.lemmas.List.{take_all, take_more, get_or-set_same, get_or-set_other, get_or_default, length-set, length-map}
 use Rattle.std.proofs.lemmas.List.Elements.{Contains-append_left, Contains-append_right, Contains-push, Contains-push_cases, All-weaker, All-contains_itself}
-use Rattle.tcc_txn.proofs.Lists.{in_filter, from_filter}
+use Rattle.tcc_txn.proofs.Lists.{in_filter, from_filter, in_map, from_map}
 use Rattle.tcc_reads.specs.History.{History, IsBySession, count, entry_at, owner}
 use Rattle.tcc_graph.specs.Relations.{IsCausalPair, IsReadsPair, IsSessionPair}
 use Rattle.tcc_graph.specs.Keys.{keys, key_at, writers, is_key}
@@ -23,7 +23,7 @@ use Rattle.tcc_order.specs.private.Parents.{HasSourcesAt, parents, previous_one,
 use Rattle.tcc_order.specs.private.Latest.{AreOwners, IsLiftable, IsLifted, IsCovered, AreLinks, HasNone, Derives}
 use Rattle.tcc_order.specs.private.Stepping.{IsOther, StepsOver, KeepsRead, AreStepped, IsReadSoFar}
 use Rattle.tcc_order.proofs.Needing.{same_session, covered_wider}
-use Rattle.tcc_order.proofs.Reaching.{parent_pair, reads_source, session_rises, in_map, from_map}
+use Rattle.tcc_order.proofs.Reaching.{parent_pair, reads_source, session_rises}
 
 -- ---- the last own writer
 module _ (h : History) (numbered : IsBySession h.entries) (owners : List ℕ) (known : AreOwners h owners) (c : ℕ) (low : c < count h) (x : List ℕ) (a last : ℕ)

@@ -6,12 +6,14 @@
 --   number_found      a search finds each number of a list
 --   in_filter         an element that passes is kept
 --   from_filter       what is kept is an element, and passes
+--   in_map            the image of an element is one of the images
+--   from_map          each of these is one of an element
 --   in_flat_map       an element of a part is an element of the parts put together
 --   from_flat_map     an element of the parts put together is one of some part
 -- In std: `or-false` (Math.Bool), `not-true`, `not-false`, `and_parts`, `or_parts` (lemmas.Bool), `Equal-is` (specs.Cmp),
 -- `bytes_eq-Decides` (lemmas.Slice.Eq), `exact_bytes`, `exact_unsigned` (lemmas.Map.Lookups).
 use Rattle.std.proofs.Common.{◌≡◌, ◌==◌, ◌⊎◌, ℕ, zero, suc, Bool, true, false, ◌||◌, inl, inr, List, []}
-use Rattle.std.proofs.Common.{◌∷◌, ◌++◌, length, take, drop, filter, flat_map, cond, refl, sym, ap, ◌∙◌}
+use Rattle.std.proofs.Common.{◌∷◌, ◌++◌, length, take, drop, filter, map, flat_map, cond, refl, sym, ap, ◌∙◌}
 use Rattle.std.proofs.Common.{arith, subst}
 use Rattle.std.specs.Prelude.{Ok, Err, IfOk, MatchResult}
 use Rattle.std.specs.declared.result.Result.{Result}
@@ -67,6 +69,17 @@ module _ {X : Type 0} (p : X → Bool) where
       go true t (zero, l, e) rest = ((0, omega arith, e), ap p (sym e) ∙ t)
       go true t (suc k, l, e) rest = let w = rest (k, omega arith, e) in (later y x xs w.0, w.1)
       go false t c rest = let w = rest c in (later y x xs w.0, w.1)
+
+module _ {X Y : Type 0} (f : X → Y) where
+  pub in_map : (xs : List X) (x : X) → Contains xs x → Contains (map f xs) (f x)
+  in_map [] x (k, l, e) = absurd (omega arith)
+  in_map (y ∷ xs) x (zero, l, e) = (0, omega arith, ap f e)
+  in_map (y ∷ xs) x (suc k, l, e) = later (f y) (f x) (map f xs) (in_map xs x (k, omega arith, e))
+
+  pub from_map : (xs : List X) (y : Y) → Contains (map f xs) y → (x : X) × Contains xs x × (f x ≡ y)
+  from_map [] y (k, l, e) = absurd (omega arith)
+  from_map (x ∷ xs) y (zero, l, e) = (x, (0, omega arith, refl), e)
+  from_map (x ∷ xs) y (suc k, l, e) = let w = from_map xs y (k, omega arith, e) in (w.0, later x w.0 xs w.1, w.2)
 
 module _ {X Y : Type 0} (f : X → List Y) where
   pub in_flat_map : (xs : List X) (x : X) (y : Y) → Contains xs x → Contains (f x) y → Contains (flat_map f xs) y
