@@ -2,7 +2,6 @@
 use Rattle.std.specs.Prelude.{ℕ, List}
 use Rattle.tcc_graph.specs.declared.level.Level.{Level}
 use Rattle.tcc_graph.specs.declared.link.Link.{Link}
-use Rattle.tcc_cert.specs.declared.certificate.Certificate.TheVariants as claim
 
 -- an order of all transactions by number at a level, how many sessions the snapshot has, the clocks by which the order
 -- can be checked, and the names of the transactions

@@ -2,11 +2,10 @@
 ghost use Rattle.std.specs.Prelude.{◌≡◌, [], ℕ, OnErr, OnOk, take};
 ghost use Rattle.std.specs.Io.KnownBytes.{Appends};
 ghost use Rattle.tcc_graph.specs.Links.{cost};
-ghost use Rattle.tcc_cert.specs.declared.version.Version.TheVariants.{Two};
 ghost use Rattle.tcc_cert.specs.declared.certificate.Certificate.TheVariants as claim;
 ghost use Rattle.tcc_cert.specs.Texts.{certificate_text};
 ghost use Rattle.tcc_answer.specs.Shapes.{shape_of};
-ghost use Rattle.tcc_answer.specs.Claims.{certificate_of};
+ghost use Rattle.tcc_answer.specs.Claims.{certificate_of, cycle_claim, order_claim};
 
 use crate::CappedRows;
 use crate::labels::Labels;
@@ -15,7 +14,8 @@ use std::alloc::Global;
 use std::io::Write;
 use std::marker::Model;
 use tcc_cert::{
-    Certificate, CycleWriter, Links, Numbers, Table, Version, WriteFault, write, write_first_lines,
+    CertWriteFault, Certificate, CycleWriter, Links, Numbers, OrderClaim, Table, Version, write,
+    write_first_lines,
 };
 use tcc_graph::{Level, Link};
 
@@ -28,15 +28,15 @@ pub struct Commit {
 
 impl Model for Commit {
     ghost use Rattle.tcc_answer.specs.Answers.{LabelledOrder};
-    ghost use Rattle.tcc_answer.specs.private.Stored.{level_in, order_in, sessions_in, clocks_in, ClaimsOrder};
+    ghost use Rattle.tcc_answer.specs.private.Stored.{order_in, ClaimsOrder};
 
     ghost Value = { LabelledOrder };
 
     ghost view = { λ c. record {
-      level = level_in c.certificate;
-      order = order_in c.certificate;
-      sessions = sessions_in c.certificate;
-      clocks = clocks_in c.certificate;
+      level = (order_in c.certificate).level;
+      order = (order_in c.certificate).order;
+      sessions = (order_in c.certificate).sessions;
+      clocks = (order_in c.certificate).clocks;
       labels = c.labels;
     } };
 
@@ -49,20 +49,20 @@ impl Commit {
         ensures { result ≡ record { level = level; order = order; sessions = sessions; clocks = clocks; labels = labels } }
     {
         Commit {
-            certificate: Certificate::Order {
+            certificate: Certificate::Order(OrderClaim {
                 version: Version::Two,
                 level,
                 order,
                 sessions,
                 clocks,
-            },
+            }),
             labels,
         }
     }
 
     /// The certificate, with the answer's own level and order.
     pub fn certificate(&self) -> &Certificate
-        ensures { result.now ≡ claim.Order Two self.now.level self.now.order self.now.sessions self.now.clocks }
+        ensures { result.now ≡ claim.Order (order_claim self.now) }
     {
         &self.certificate
     }
@@ -72,8 +72,8 @@ impl Commit {
         ensures { result.now ≡ self.now.order }
     {
         match &self.certificate {
-            Certificate::Order { order, .. } => order.as_slice(),
-            Certificate::Cycle { .. } => &[],
+            Certificate::Order(claim) => claim.order.as_slice(),
+            Certificate::Cycle(_) => &[],
         }
     }
 
@@ -82,8 +82,8 @@ impl Commit {
         ensures { result ≡ self.now.sessions }
     {
         match &self.certificate {
-            Certificate::Order { sessions, .. } => *sessions,
-            Certificate::Cycle { .. } => 0,
+            Certificate::Order(claim) => claim.sessions,
+            Certificate::Cycle(_) => 0,
         }
     }
 
@@ -146,11 +146,11 @@ impl Anomaly {
     /// Writes the text of the certificate, with the answer's own level and links, row by row; no memory is taken. Where a
     /// write fails, a part of the text, from its front, went out; an interrupted write and one that takes no bytes are
     /// failures too.
-    pub fn write_certificate<W: Write>(&self, out: &mut W) -> Result<(), WriteFault>
+    pub fn write_certificate<W: Write>(&self, out: &mut W) -> Result<(), CertWriteFault>
         ensures whole { OnOk result (Appends (W.contents out.old) (W.contents out.new)
-            (certificate_text (claim.Cycle Two self.now.level self.now.links (cost self.now.links) self.now.near self.now.far))) }
+            (certificate_text (claim.Cycle (cycle_claim self.now)))) }
         ensures part { OnErr result ((n : ℕ) × Appends (W.contents out.old) (W.contents out.new)
-            (take n (certificate_text (claim.Cycle Two self.now.level self.now.links (cost self.now.links) self.now.near self.now.far)))) }
+            (take n (certificate_text (claim.Cycle (cycle_claim self.now))))) }
     {
         let count = self.near.len();
         let steps = self.steps;
@@ -221,7 +221,7 @@ pub enum Answer {
 impl Answer {
     /// Writes the text of the certificate, with the answer's own level, order or links; no memory is taken. Where a write
     /// fails, a part of the text, from its front, went out; an interrupted write and one that takes no bytes are failures too.
-    pub fn write_certificate<W: Write>(&self, out: &mut W) -> Result<(), WriteFault>
+    pub fn write_certificate<W: Write>(&self, out: &mut W) -> Result<(), CertWriteFault>
         ensures whole { OnOk result (Appends (W.contents out.old) (W.contents out.new) (certificate_text (certificate_of self.now))) }
         ensures part { OnErr result ((n : ℕ) × Appends (W.contents out.old) (W.contents out.new) (take n (certificate_text (certificate_of self.now)))) }
     {

@@ -3,7 +3,7 @@ ghost use Rattle.std.specs.Prelude.{◌≡◌, ◌≤◌, ℕ, List, [], Option,
 ghost use Rattle.std.specs.Io.KnownBytes.{Appends};
 ghost use Rattle.tcc_txn.specs.declared.limits.TheConstants.{MAX_COUNT};
 ghost use Rattle.tcc_packed.specs.Packed.{at_most};
-ghost use Rattle.tcc_cert.specs.CycleRules.{CycleClaim};
+ghost use Rattle.tcc_cert.specs.declared.certificate.CycleClaim.{CycleClaim};
 ghost use Rattle.tcc_cert.specs.Texts.{lines_text};
 ghost use Rattle.tcc_cert.specs.Begun.{given_lines, with_far, with_near};
 ghost use Rattle.tcc_cert.specs.Given.{HasTaken};
@@ -11,7 +11,7 @@ ghost use Rattle.tcc_cert.specs.Given.{HasTaken};
 use std::alloc::Global;
 use std::io::Write;
 use std::marker::Model;
-use tcc_cert::{CycleWriter, WriteFault};
+use tcc_cert::{CertWriteFault, CycleWriter};
 use tcc_packed::PackedRow;
 use tcc_txn::MAX_COUNT;
 
@@ -40,7 +40,7 @@ fn give_near<W: Write>(
     row: &PackedRow,
     cap: u32,
     places: &mut [u32],
-) -> Result<(), WriteFault>
+) -> Result<(), CertWriteFault>
     requires { length row.now ≤ length places.old }
     ensures long { length places.new ≡ length places.old }
     ensures same_reference { writer.new.out.ghost_name ≡ writer.old.out.ghost_name }
@@ -61,7 +61,7 @@ fn give_far<W: Write>(
     row: &PackedRow,
     cap: u32,
     places: &mut [u32],
-) -> Result<(), WriteFault>
+) -> Result<(), CertWriteFault>
     requires { length row.now ≤ length places.old }
     ensures long { length places.new ≡ length places.old }
     ensures same_reference { writer.new.out.ghost_name ≡ writer.old.out.ghost_name }
@@ -106,7 +106,7 @@ impl CappedRows {
     pub(crate) fn write_near<W: Write>(
         &self,
         writer: &mut CycleWriter<'_, W>,
-    ) -> Result<(), WriteFault>
+    ) -> Result<(), CertWriteFault>
         ensures same_reference { writer.new.out.ghost_name ≡ writer.old.out.ghost_name }
         ensures whole { (before : Option (List ℕ)) (count : ℕ) (k : CycleClaim) → HasTaken W.contents before count k writer.old → k.near ≡ [] → k.far ≡ []
             → OnOk result (HasTaken W.contents before count (record k { near = self.now }) writer.new) }
@@ -124,7 +124,7 @@ impl CappedRows {
     pub(crate) fn write_far<W: Write>(
         &self,
         writer: &mut CycleWriter<'_, W>,
-    ) -> Result<(), WriteFault>
+    ) -> Result<(), CertWriteFault>
         ensures same_reference { writer.new.out.ghost_name ≡ writer.old.out.ghost_name }
         ensures whole { (before : Option (List ℕ)) (count : ℕ) (k : CycleClaim) → HasTaken W.contents before count k writer.old → k.far ≡ []
             → OnOk result (HasTaken W.contents before count (record k { far = self.now }) writer.new) }

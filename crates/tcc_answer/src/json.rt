@@ -15,8 +15,8 @@ use crate::{Anomaly, Answer, Commit, WriteFault};
 use serde_json::{Value, json};
 use std::alloc::{AllocError, Global};
 use std::io::Write;
-use tcc_cert::sending::send;
 use tcc_graph::{Link, Step};
+use tcc_sending::send;
 use tcc_txn::{Name, NoMemory};
 
 /// The labels of these numbers.

@@ -11,8 +11,8 @@ use crate::pieces::push;
 use crate::{Anomaly, Answer, Commit, Shape, WriteFault};
 use std::alloc::Global;
 use std::io::Write;
-use tcc_cert::sending::send;
 use tcc_graph::{Link, Step};
+use tcc_sending::send;
 use tcc_txn::{Name, NoMemory};
 
 /// The labels, each after a space.

@@ -16,11 +16,11 @@ use Rattle.std.proofs.lemmas.Fmt.{decimal_nonempty, length-decimal-le}
 use Rattle.tcc_graph.specs.declared.link.Link.{Link}
 use Rattle.tcc_cert.specs.declared.certificate.Certificate.{Certificate}
 use Rattle.tcc_cert.specs.declared.certificate.Certificate.TheVariants as claim
+use Rattle.tcc_cert.specs.declared.certificate.CycleClaim.{CycleClaim}
+use Rattle.tcc_cert.specs.declared.certificate.OrderClaim.{OrderClaim}
 use Rattle.tcc_cert.specs.Tables.{lowest}
-use Rattle.tcc_cert.specs.CycleRules.{CycleClaim}
-use Rattle.tcc_cert.specs.OrderRules.{OrderClaim}
 use Rattle.tcc_cert.specs.Texts.{Words, line_text, lines_text, numbers_words, table_lines, link_lines, header_words, clocks_lines}
-use Rattle.tcc_cert.specs.Texts.{claim_lines, certificate_text, IsNumber, IsCount, HasTableText, HasClocksText, HasOrderText, HasCycleText}
+use Rattle.tcc_cert.specs.Texts.{order_lines, cycle_lines, certificate_text, IsNumber, IsCount, HasTableText, HasClocksText, HasOrderText, HasCycleText}
 use Rattle.tcc_cert.specs.Texts.{HasText, HasLinkText}
 use Rattle.tcc_cert.specs.Reading.{words, repeated, judged, next, header_line, ended, numbers_line, word_line}
 use Rattle.tcc_cert.specs.Reading.{sizes_line, link_at, table_at, clocks_at, order_at, cycle_at}
@@ -88,11 +88,12 @@ clocks-at v Causal n s clocks few h line rest =
     )
 clocks-at v Atomic n s clocks few h line rest = (line, rw h refl)
 
-order-back : (v : Version) (k : OrderClaim) → HasOrderText v k → (n : ℕ)
-    → (end : ℕ) × (order_at v k.level (length k.order) k.sessions
+order-back : (k : OrderClaim) → HasOrderText k → (n : ℕ)
+    → (end : ℕ) × (order_at k.version k.level (length k.order) k.sessions
     (at n (lines_text (numbers_words k.order ∷ (clocks_lines k.level k.clocks ++ (codes "end" ∷ []) ∷ []))))
-    ≡ Ok (claim.Order v k.level k.order k.sessions k.clocks, at end []))
-order-back v k h n =
+    ≡ Ok (claim.Order k, at end []))
+order-back k h n =
+    let v = k.version in
     let count = length k.order in
     let last = line_text (codes "end" ∷ []) ++ [] in
     let row = row-back v count (ranges_of v).number k.order (numbers_costs v) h.count.limit refl (recursion_from_All (IsNumber v) k.order h.numbers) in
@@ -105,7 +106,7 @@ order-back v k h n =
       ap (λ bytes. order_at v k.level count k.sessions (at n bytes)) (order_text k.level (numbers_words k.order) k.clocks)
           ∙ then_ok _ order
           ∙ then_ok _ clocks.1
-          ∙ then_ok (λ read. Ok (claim.Order v k.level k.order k.sessions k.clocks, read.1)) end,
+          ∙ then_ok (λ read. Ok (claim.Order k, read.1)) end,
     )
 
 -- ---- claims of cycles
@@ -132,7 +133,7 @@ cycle-back : (k : CycleClaim) → HasCycleText k → (n : ℕ)
     → (end : ℕ) × (cycle_at k.version k.level (length k.near) (length k.links) k.least
     (at n (lines_text
     (flat_map link_lines k.links ++ (codes "near" ∷ []) ∷ (table_lines k.near ++ (codes "far" ∷ []) ∷ (table_lines k.far ++ (codes "end" ∷ []) ∷ [])))))
-    ≡ Ok (claim.Cycle k.version k.level k.links k.least k.near k.far, at end []))
+    ≡ Ok (claim.Cycle k, at end []))
 cycle-back k h n =
     let v = k.version in
     let count = length k.near in
@@ -154,7 +155,7 @@ cycle-back k h n =
           ∙ then_ok _ near.1
           ∙ then_ok _ far_mark
           ∙ then_ok _ far.1
-          ∙ then_ok (λ read. Ok (claim.Cycle v k.level k.links k.least k.near k.far, read.1)) end,
+          ∙ then_ok (λ read. Ok (claim.Cycle k, read.1)) end,
     )
 
 -- ---- certificates
@@ -217,21 +218,15 @@ header-at Two Atomic rest = first-line (codes "tcc-certificate 2 atomic") rest r
 
 -- what has a text is read from it
 pub text-back : (c : Certificate) → HasText c → certificate_read (certificate_text c) ≡ Ok c
-text-back (claim.Order version level order sessions clocks) h =
-    let k : OrderClaim = record { level = level; order = order; sessions = sessions; clocks = clocks } in
-    let body = lines_text (numbers_words order ∷ (clocks_lines level clocks ++ (codes "end" ∷ []) ∷ [])) in
-    let sizes = order_sizes-at version (length order) sessions 2 body h.count h.sessions in
-    let claim_read = order-back version k h 3 in
+text-back (claim.Order k) h =
+    let body = lines_text (numbers_words k.order ∷ (clocks_lines k.level k.clocks ++ (codes "end" ∷ []) ∷ [])) in
+    let sizes = order_sizes-at k.version (length k.order) k.sessions 2 body h.count h.sessions in
     then_ok (λ read. ended read.0 read.1)
-    (then_ok behind_header (header-at version level (lines_text (claim_lines (claim.Order version level order sessions clocks)))) ∙ then_ok _ sizes
-    ∙ claim_read.1)
-text-back (claim.Cycle version level links least near far) h =
-    let k : CycleClaim = record { version = version; level = level; links = links; least = least; near = near; far = far } in
+    (then_ok behind_header (header-at k.version k.level (lines_text (order_lines k))) ∙ then_ok _ sizes ∙ (order-back k h 3).1)
+text-back (claim.Cycle k) h =
     let body =
-    lines_text (flat_map link_lines links ++ (codes "near" ∷ [])
-    ∷ (table_lines near ++ (codes "far" ∷ []) ∷ (table_lines far ++ (codes "end" ∷ []) ∷ []))) in
-    let sizes = cycle_sizes-at version (length near) (length links) least 2 body h.count h.steps h.least in
-    let claim_read = cycle-back k h 3 in
+    lines_text (flat_map link_lines k.links ++ (codes "near" ∷ [])
+    ∷ (table_lines k.near ++ (codes "far" ∷ []) ∷ (table_lines k.far ++ (codes "end" ∷ []) ∷ []))) in
+    let sizes = cycle_sizes-at k.version (length k.near) (length k.links) k.least 2 body h.count h.steps h.least in
     then_ok (λ read. ended read.0 read.1)
-    (then_ok behind_header (header-at version level (lines_text (claim_lines (claim.Cycle version level links least near far)))) ∙ then_ok _ sizes
-    ∙ claim_read.1)
+    (then_ok behind_header (header-at k.version k.level (lines_text (cycle_lines k))) ∙ then_ok _ sizes ∙ (cycle-back k h 3).1)

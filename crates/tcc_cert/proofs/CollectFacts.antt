@@ -2,28 +2,28 @@
 use Rattle.std.proofs.Common.{◌≡◌, ℕ, ◌<◌, ◌≤◌, ◌≢◌, false, List, [], ◌∷◌, ◌++◌, Option, None, Ok}
 use Rattle.std.proofs.Common.{Err, inl, inr, refl, sym, ap, ◌∙◌, arith, append_assoc, append-nil}
 use Rattle.std.specs.Prelude.{map}
-use Rattle.tcc_graph.specs.declared.level.Level.{Level}
 use Rattle.tcc_graph.specs.declared.link.Link.{Link}
-use Rattle.tcc_cert.specs.declared.version.Version.{Version}
 use Rattle.tcc_cert.specs.declared.certificate.Certificate.{Certificate}
 use Rattle.tcc_cert.specs.declared.certificate.Certificate.TheVariants as claim
 use Rattle.tcc_cert.specs.declared.fault.CertFault.{CertFault}
 use Rattle.tcc_cert.specs.declared.fault.CertFaultKind.{CertFaultKind}
 use Rattle.tcc_cert.specs.declared.fault.CertFaultKind.TheVariants.{NoMemory}
+use Rattle.tcc_cert.specs.declared.part.CycleHead.{CycleHead}
+use Rattle.tcc_cert.specs.declared.part.OrderHead.{OrderHead}
 use Rattle.tcc_cert.specs.declared.part.Part.{Part}
 use Rattle.tcc_cert.specs.declared.part.Part.TheVariants as part
 use Rattle.tcc_cert.specs.declared.reading.input.Input.{Input}
 use Rattle.tcc_cert.specs.declared.reading.parts.CertReader.{CertReader}
-use Rattle.tcc_cert.specs.declared.reading.stages.Phase.{Phase}
-use Rattle.tcc_cert.specs.declared.reading.stages.Phase.TheVariants as phase
+use Rattle.tcc_cert.specs.declared.reading.stages.Stage.{Stage}
+use Rattle.tcc_cert.specs.declared.reading.stages.Stage.TheVariants as stage
 use Rattle.tcc_cert.specs.declared.reading.Tables.{Tables}
 use Rattle.tcc_cert.specs.Ahead.{IsAhead, ended_in, fault_in, fault_met, has_ended, is_end, line_wanted, IsAheadIn}
 use Rattle.tcc_cert.specs.private.Collecting.{EndsIn, HasRow, HasRowsOf, clocks_in, far_in, links_in, near_in}
 use Rattle.tcc_cert.specs.Outcomes.{IsFailure, IsReading}
-use Rattle.tcc_cert.specs.Parts.{FaultsIn, IsFirst, Parts, after_part, ending, parts_of, parts_read}
+use Rattle.tcc_cert.specs.Parts.{FaultsIn, IsFirst, Parts, after_part, cycle_head, ending, order_head, parts_of, parts_read, with_clocks, with_tables}
 use Rattle.tcc_cert.specs.Reading.{certificate_read}
 use Rattle.tcc_cert.proofs.PartFacts.{line-reached, read-fault, read-whole}
-use Rattle.tcc_cert.proofs.StageFacts.{onward-stage}
+use Rattle.tcc_cert.proofs.StageFacts.{onward-coming}
 
 -- ---- links and rows so far, and those to come
 
@@ -47,8 +47,8 @@ HasRowsBefore given rest =
     × (far_in (given ∷ rest) ≡ far_in (given ∷ []) ++ far_in rest)
 
 rows-before : (given : Part) (rest : List Part) → HasRowsBefore given rest
-rows-before (part.Order v l o s) rest = (refl, refl, refl, refl)
-rows-before (part.Cycle v l n ls least) rest = (refl, refl, refl, refl)
+rows-before (part.Order head) rest = (refl, refl, refl, refl)
+rows-before (part.Cycle head) rest = (refl, refl, refl, refl)
 rows-before (part.Link one) rest = (refl, refl, refl, refl)
 rows-before (part.Clocks row) rest = (refl, refl, refl, refl)
 rows-before (part.Near row) rest = (refl, refl, refl, refl)
@@ -74,8 +74,8 @@ kept-more old new given ahead now rest kept is more =
     }
 
 pub goes-on : (given : Part) → given ≢ part.End → is_end given ≡ false
-goes-on (part.Order v l o s) goes = refl
-goes-on (part.Cycle v l n ls least) goes = refl
+goes-on (part.Order head) goes = refl
+goes-on (part.Cycle head) goes = refl
 goes-on (part.Link one) goes = refl
 goes-on (part.Clocks row) goes = refl
 goes-on (part.Near row) goes = refl
@@ -83,8 +83,8 @@ goes-on (part.Far row) goes = refl
 goes-on part.End goes = absurd (goes refl)
 
 pub first-rest : (given : Part) (ahead rest : Parts) → is_end given ≡ false → IsFirst given ahead rest → ahead ≡ after_part given rest
-first-rest (part.Order v l o s) ahead rest goes is = is
-first-rest (part.Cycle v l n ls least) ahead rest goes is = is
+first-rest (part.Order head) ahead rest goes is = is
+first-rest (part.Cycle head) ahead rest goes is = is
 first-rest (part.Link one) ahead rest goes is = is
 first-rest (part.Clocks row) ahead rest goes is = is
 first-rest (part.Near row) ahead rest goes is = is
@@ -113,18 +113,18 @@ faults-end ahead now wanted fault line same counted (inl is) = inl (sym same ∙
 faults-end {F} ahead now wanted fault line same counted (inr cut) =
     inr (record { failure = told F fault.kind cut.failure; counted = omega (arith, counted, cut.first); last = omega (arith, cut.last, line) })
 
-within-in : {R : Type 0} (remaining : R → Option (List ℕ)) (input : Input R) (at : Phase) (ahead : Parts) → IsAheadIn remaining input at ahead
+within-in : {R : Type 0} (remaining : R → Option (List ℕ)) (input : Input R) (at : Stage) (ahead : Parts) → IsAheadIn remaining input at ahead
     → ended_in at ≡ false → fault_in at ≡ None → input.number ≤ ahead.line
-within-in remaining input (phase.Going s) ahead is going well = omega (arith, is.1.number, onward-stage s is.0 ahead is.2)
-within-in remaining input phase.Ended ahead is going well = absurd cc
-within-in remaining input (phase.Stopped fault) ahead is going well = absurd cc
+within-in remaining input (stage.Going s) ahead is going well = omega (arith, is.1.number, onward-coming s is.0 ahead is.2)
+within-in remaining input stage.Ended ahead is going well = absurd cc
+within-in remaining input (stage.Stopped fault) ahead is going well = absurd cc
 
 -- memory was refused behind a part
 pub refused-end : {R : Type 0} (remaining : R → Option (List ℕ)) (reader : CertReader R) (ahead now : Parts) (fault : CertFault) → now.line ≡ ahead.line
     → IsAhead remaining reader now → has_ended reader ≡ false → fault_met reader ≡ None
     → 0 < fault.line → fault ≡ record { line = line_wanted reader; kind = NoMemory } → EndsIn ahead fault
 refused-end remaining reader ahead now fault line is going well counted refused =
-    let within = within-in remaining reader.input reader.phase now is going well in
+    let within = within-in remaining reader.input reader.stage now is going well in
     inr (record { failure = inr (ap (λ f. f.kind) refused); counted = counted; last = omega (arith, line, within, ap (λ f. f.line) refused) })
 
 -- ---- the whole text
@@ -176,41 +176,45 @@ far-of [] (row ∷ near) far = far-of [] near far
 far-of (one ∷ links) near far = far-of links near far
 
 -- a claim of an order by its parts
-pub order-is : (c : Certificate) (version : Version) (level : Level) (order : List ℕ) (sessions : ℕ) (rest : List Part) (clocks : List (List ℕ))
-    → part.Order version level order sessions ∷ rest ≡ parts_of c → clocks ≡ clocks_in rest
-    → c ≡ claim.Order version level order sessions clocks
-order-is (claim.Order v l o s cs) version level order sessions rest clocks is all =
-    let tail : rest ≡ map part.Clocks cs = cc in
-    let same : clocks ≡ cs = all ∙ ap clocks_in tail ∙ clocks-of cs in
-    cc
-order-is (claim.Cycle v l ls n ns fs) version level order sessions rest clocks is all = absurd cc
+pub order-is : (c : Certificate) (head : OrderHead) (rest : List Part) (clocks : List (List ℕ)) → part.Order head ∷ rest ≡ parts_of c
+    → clocks ≡ clocks_in rest → c ≡ claim.Order (with_clocks head clocks)
+order-is (claim.Order k) head rest clocks is all =
+    let tail : rest ≡ map part.Clocks k.clocks = cc in
+    let first : head ≡ order_head k = cc in
+    let same : clocks ≡ k.clocks = all ∙ ap clocks_in tail ∙ clocks-of k.clocks in
+    sym (ap (λ o. claim.Order (with_clocks o clocks)) first ∙ ap (λ rows. claim.Order (with_clocks (order_head k) rows)) same)
+order-is (claim.Cycle k) head rest clocks is all = absurd cc
 
 -- a claim of a cycle by its parts
-pub cycle-is : (c : Certificate) (version : Version) (level : Level) (count many least : ℕ) (rest : List Part) (links : List Link)
-    (near far : List (List ℕ)) → part.Cycle version level count many least ∷ rest ≡ parts_of c
-    → links ≡ links_in rest → near ≡ near_in rest → far ≡ far_in rest → c ≡ claim.Cycle version level links least near far
-cycle-is (claim.Order v l o s cs) version level count many least rest links near far is first second third = absurd cc
-cycle-is (claim.Cycle v l ls n ns fs) version level count many least rest links near far is first second third =
-    let tail : rest ≡ map part.Link ls ++ tables_of ns fs = cc in
-    let same : links ≡ ls = first ∙ ap links_in tail ∙ links-of ls ns fs in
-    let next : near ≡ ns = second ∙ ap near_in tail ∙ near-of ls ns fs in
-    let last : far ≡ fs = third ∙ ap far_in tail ∙ far-of ls ns fs in
-    cc
+pub cycle-is : (c : Certificate) (head : CycleHead) (rest : List Part) (links : List Link) (near far : List (List ℕ))
+    → part.Cycle head ∷ rest ≡ parts_of c → links ≡ links_in rest → near ≡ near_in rest → far ≡ far_in rest
+    → c ≡ claim.Cycle (with_tables head links near far)
+cycle-is (claim.Order k) head rest links near far is first second third = absurd cc
+cycle-is (claim.Cycle k) head rest links near far is first second third =
+    let tail : rest ≡ map part.Link k.links ++ tables_of k.near k.far = cc in
+    let begin : head ≡ cycle_head k = cc in
+    let same : links ≡ k.links = first ∙ ap links_in tail ∙ links-of k.links k.near k.far in
+    let next : near ≡ k.near = second ∙ ap near_in tail ∙ near-of k.links k.near k.far in
+    let last : far ≡ k.far = third ∙ ap far_in tail ∙ far-of k.links k.near k.far in
+    sym (ap (λ o. claim.Cycle (with_tables o links near far)) begin
+    ∙ ap (λ l. claim.Cycle (with_tables (cycle_head k) l near far)) same
+    ∙ ap (λ rows. claim.Cycle (with_tables (cycle_head k) k.links rows far)) next
+    ∙ ap (λ rows. claim.Cycle (with_tables (cycle_head k) k.links k.near rows)) last)
 
 -- all parts were collected
-pub order-read : (bytes : List ℕ) (version : Version) (level : Level) (order : List ℕ) (sessions : ℕ) (rest : Parts) (tables : Tables)
-    → parts_read bytes ≡ after_part (part.Order version level order sessions) rest → HasRowsOf rest tables
-    → certificate_read bytes ≡ Ok (claim.Order version level order sessions tables.clocks.items)
-order-read bytes version level order sessions rest tables is has =
+pub order-read : (bytes : List ℕ) (head : OrderHead) (rest : Parts) (tables : Tables) → parts_read bytes ≡ after_part (part.Order head) rest
+    → HasRowsOf rest tables
+    → certificate_read bytes ≡ Ok (claim.Order (with_clocks head tables.clocks.items))
+order-read bytes head rest tables is has =
     let whole = read-whole bytes (ap (λ p. p.fault) is ∙ has.ended) in
-    whole.1 ∙ ap Ok (order-is whole.0 version level order sessions rest.parts tables.clocks.items (sym (ap (λ p. p.parts) is) ∙ whole.2) has.clocks)
+    whole.1 ∙ ap Ok (order-is whole.0 head rest.parts tables.clocks.items (sym (ap (λ p. p.parts) is) ∙ whole.2) has.clocks)
 
-pub cycle-read : (bytes : List ℕ) (version : Version) (level : Level) (count many least : ℕ) (rest : Parts) (tables : Tables)
-    → parts_read bytes ≡ after_part (part.Cycle version level count many least) rest → HasRowsOf rest tables
-    → certificate_read bytes ≡ Ok (claim.Cycle version level tables.links.items least tables.near.items tables.far.items)
-cycle-read bytes version level count many least rest tables is has =
+pub cycle-read : (bytes : List ℕ) (head : CycleHead) (rest : Parts) (tables : Tables) → parts_read bytes ≡ after_part (part.Cycle head) rest
+    → HasRowsOf rest tables
+    → certificate_read bytes ≡ Ok (claim.Cycle (with_tables head tables.links.items tables.near.items tables.far.items))
+cycle-read bytes head rest tables is has =
     let whole = read-whole bytes (ap (λ p. p.fault) is ∙ has.ended) in
-    whole.1 ∙ ap Ok (cycle-is whole.0 version level count many least rest.parts tables.links.items tables.near.items tables.far.items
+    whole.1 ∙ ap Ok (cycle-is whole.0 head rest.parts tables.links.items tables.near.items tables.far.items
     (sym (ap (λ p. p.parts) is) ∙ whole.2) has.links has.near has.far)
 
 -- a fault behind the first part is one of the whole text

@@ -5,7 +5,7 @@ use Rattle.std.specs.Io.KnownBytes.{Appends}
 use Rattle.tcc_cert.specs.declared.cycle_writer.CycleWriter.{CycleWriter}
 use Rattle.tcc_cert.specs.declared.cycle_writer.Stage.{Stage}
 use Rattle.tcc_cert.specs.declared.cycle_writer.Stage.TheVariants.{Near, Far, Failed}
-use Rattle.tcc_cert.specs.CycleRules.{CycleClaim}
+use Rattle.tcc_cert.specs.declared.certificate.CycleClaim.{CycleClaim}
 use Rattle.tcc_cert.specs.Texts.{line_text, lines_text, numbers_words}
 use Rattle.tcc_cert.specs.Begun.{given_lines, with_near, with_far, stage_of}
 use Rattle.tcc_cert.specs.private.Writing.{far_mark, Stops, IsSent}

@@ -5,7 +5,7 @@ use Rattle.std.proofs.Common.{flat_map}
 use Rattle.std.proofs.lemmas.List.{map-append}
 use Rattle.std.proofs.lemmas.Grind.{take_at_read, flat_map-append}
 use Rattle.std.specs.Io.KnownBytes.{Appends}
-use Rattle.tcc_cert.specs.CycleRules.{CycleClaim}
+use Rattle.tcc_cert.specs.declared.certificate.CycleClaim.{CycleClaim}
 use Rattle.tcc_cert.specs.declared.certificate.Certificate.TheVariants as claim
 use Rattle.tcc_cert.specs.Texts.{Words, line_text, lines_text, numbers_words, table_lines, link_lines, header_words, certificate_text}
 use Rattle.tcc_cert.specs.Begun.{begun_lines, far_lines, given_lines, with_near, with_far, stage_of}
@@ -14,7 +14,7 @@ use Rattle.tcc_cert.proofs.SentFacts.{Stops-early, Appends-part}
 
 -- the whole text of a claim
 abbrev pub text_of : CycleClaim → List ℕ
-text_of k = certificate_text (claim.Cycle k.version k.level k.links k.least k.near k.far)
+text_of k = certificate_text (claim.Cycle k)
 
 -- its lines before the rows
 abbrev pub begun_of : ℕ → CycleClaim → List Words

@@ -15,6 +15,8 @@ use Rattle.tcc_txn.specs.Bytes.{same}
 use Rattle.tcc_graph.specs.declared.link.Link.{Link}
 use Rattle.tcc_cert.specs.declared.certificate.Certificate.{Certificate}
 use Rattle.tcc_cert.specs.declared.certificate.Certificate.TheVariants as claim
+use Rattle.tcc_cert.specs.declared.certificate.CycleClaim.{CycleClaim}
+use Rattle.tcc_cert.specs.declared.certificate.OrderClaim.{OrderClaim}
 use Rattle.tcc_cert.specs.declared.fault.CertFaultKind.{CertFaultKind}
 use Rattle.tcc_cert.specs.declared.fault.CertFaultKind.TheVariants.{Header, Trailing}
 use Rattle.tcc_cert.specs.declared.reading.forms.Sizes.{Sizes}
@@ -22,7 +24,7 @@ use Rattle.tcc_cert.specs.declared.reading.forms.Sizes.TheVariants.{Order, Cycle
 use Rattle.tcc_cert.specs.Tables.{lowest}
 use Rattle.tcc_cert.specs.Texts.{Words, line_text, lines_text, numbers_words, table_lines, link_lines, header_words, clocks_lines}
 use Rattle.tcc_cert.specs.Texts.{claim_lines, header_of, certificate_text, IsNumber, IsCount, HasTableText, HasClocksText, HasText}
-use Rattle.tcc_cert.specs.Texts.{HasLinkText}
+use Rattle.tcc_cert.specs.Texts.{HasCycleText, HasLinkText, HasOrderText, cycle_lines, order_lines}
 use Rattle.tcc_cert.specs.Reading.{count_of, number_of, word_line, numbers_line, two_words, three_words}
 use Rattle.tcc_cert.specs.Reading.{order_sizes, cycle_sizes, sizes_line, Place, next, words, repeated}
 use Rattle.tcc_cert.specs.Reading.{header_line, link_at, table_at, clocks_at, order_at, cycle_at, claim_at}
@@ -99,7 +101,7 @@ clocks-text v Atomic n s at after clocks e =
 pub record IsOrderText (v : Version) (level : Level) (n s : ℕ) (at : Place) (certificate : Certificate) : Type 0 where
   pub order : List ℕ
   pub clocks : List (List ℕ)
-  pub is : claim.Order v level order s clocks ≡ certificate
+  pub is : claim.Order (record { version = v; level = level; order = order; sessions = s; clocks = clocks }) ≡ certificate
   pub count : length order ≡ n
   pub numbers : All (IsNumber v) order
   pub table : HasClocksText v level n s clocks
@@ -138,7 +140,7 @@ pub record IsCycleText (v : Version) (level : Level) (n m l : ℕ) (at : Place) 
   pub links : List Link
   pub near : List (List ℕ)
   pub far : List (List ℕ)
-  pub is : claim.Cycle v level links l near far ≡ certificate
+  pub is : claim.Cycle (record { version = v; level = level; links = links; least = l; near = near; far = far }) ≡ certificate
   pub count : length links ≡ m
   pub each_link : All (HasLinkText v) links
   pub near_table : HasTableText n (λ a. n) (ranges_of v).cost near
@@ -266,13 +268,14 @@ order-whole : (v : Version) (level : Level) (n s : ℕ) (at : Place) (ws : Words
     → text ≡ line_text ws ++ at.bytes → IsOrderText v level n s at certificate
     → IsWhole v level text certificate
 order-whole v level n s at ws text certificate sizes is o =
-    let has : HasText (claim.Order v level o.order s o.clocks) = record {
+    let k : OrderClaim = record { version = v; level = level; order = o.order; sessions = s; clocks = o.clocks } in
+    let has : HasOrderText k = record {
       count = subst (IsCount v) (sym o.count) sizes.0;
       numbers = o.numbers;
       sessions = sizes.1;
       clocks = subst (λ m. HasClocksText v level m s o.clocks) (sym o.count) o.table;
     } in
-    let whole : text ≡ lines_text (claim_lines (claim.Order v level o.order s o.clocks)) =
+    let whole : text ≡ lines_text (order_lines k) =
     is ∙ ap (λ w. line_text w ++ at.bytes) sizes.2 ∙ rw o.count (ap (λ t. line_text (codes "order" ∷ decimal n ∷ decimal s ∷ []) ++ t) o.text) in
     subst (IsWhole v level text) o.is (has, refl, whole)
 
@@ -281,15 +284,16 @@ cycle-whole : (v : Version) (level : Level) (n m l : ℕ) (at : Place) (ws : Wor
     → IsWhole v level text certificate
 cycle-whole v level n m l at ws text certificate sizes is o =
     let rows : length o.near ≡ n = o.near_table.size.long in
-    let has : HasText (claim.Cycle v level o.links l o.near o.far) = record {
+    let k : CycleClaim = record { version = v; level = level; links = o.links; least = l; near = o.near; far = o.far } in
+    let has : HasCycleText k = record {
       count = subst (IsCount v) (sym rows) sizes.0;
       steps = subst (IsCount v) (sym o.count) sizes.1;
       links = o.each_link;
       least = sizes.2;
-      near = subst (λ k. HasTableText k (λ a. k) (ranges_of v).cost o.near) (sym rows) o.near_table;
-      far = subst (λ k. HasTableText k (λ s. k - lowest v s) (ranges_of v).cost o.far) (sym rows) o.far_table;
+      near = subst (λ many. HasTableText many (λ a. many) (ranges_of v).cost o.near) (sym rows) o.near_table;
+      far = subst (λ many. HasTableText many (λ s. many - lowest v s) (ranges_of v).cost o.far) (sym rows) o.far_table;
     } in
-    let whole : text ≡ lines_text (claim_lines (claim.Cycle v level o.links l o.near o.far)) =
+    let whole : text ≡ lines_text (cycle_lines k) =
     is ∙ ap (λ w. line_text w ++ at.bytes) sizes.3 ∙ rw (o.count, rows)
     (ap (λ t. line_text (codes "cycle" ∷ decimal n ∷ decimal m ∷ decimal l ∷ []) ++ t) o.text) in
     subst (IsWhole v level text) o.is (has, refl, whole)

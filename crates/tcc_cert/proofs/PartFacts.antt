@@ -13,6 +13,8 @@ use Rattle.tcc_cert.specs.declared.fault.CertFaultKind.{CertFaultKind}
 use Rattle.tcc_cert.specs.declared.fault.CertFaultKind.TheVariants.{Trailing}
 use Rattle.tcc_cert.specs.declared.certificate.Certificate.{Certificate}
 use Rattle.tcc_cert.specs.declared.certificate.Certificate.TheVariants as claim
+use Rattle.tcc_cert.specs.declared.part.CycleHead.{CycleHead}
+use Rattle.tcc_cert.specs.declared.part.OrderHead.{OrderHead}
 use Rattle.tcc_cert.specs.declared.part.Part.{Part}
 use Rattle.tcc_cert.specs.declared.part.Part.TheVariants as part
 use Rattle.tcc_cert.specs.declared.reading.forms.Sizes.{Sizes}
@@ -22,7 +24,7 @@ use Rattle.tcc_cert.specs.Tables.{lowest}
 use Rattle.tcc_cert.specs.Outcomes.{IsReading, reached}
 use Rattle.tcc_cert.specs.Parts.{◌>>>◌, Parts, after_part, claim_parts, cycle_parts, end_parts, far_parts, link_rows}
 use Rattle.tcc_cert.specs.Parts.{near_parts, order_parts, order_rest, parts_behind, parts_of, parts_read}
-use Rattle.tcc_cert.specs.Parts.{rows_then, whole_parts}
+use Rattle.tcc_cert.specs.Parts.{rows_then, whole_parts, with_clocks, with_tables}
 use Rattle.tcc_cert.specs.Reading.{◌>>=◌, Place, Reads, behind_header, certificate_at, certificate_read, claim_at, clocks_at, cycle_at}
 use Rattle.tcc_cert.specs.Reading.{ended, header_line, link_at, next, numbered, numbers_line, order_at, repeated, sizes_line, start_of}
 use Rattle.tcc_cert.specs.Reading.{word_line, words}
@@ -73,45 +75,53 @@ told-end : (front : List Part) (version : Version) (c : Certificate) (at : Place
     → IsTold front (words version (word_line (codes "end")) at >>= λ end. Ok (c, end.1)) (end_parts version at)
 told-end front version c at is = told-behind front (words version (word_line (codes "end")) at) _ _ (λ end. (is ∙ sym (append-nil front), refl, refl))
 
+-- what stands before the clocks
+abbrev head_of : Version → Level → ℕ → List ℕ → OrderHead
+head_of version level s order = record { version = version; level = level; order = order; sessions = s }
+
 told-clocks : (version : Version) (level : Level) (n s : ℕ) (order : List ℕ) (at : Place)
-    → IsTold (part.Order version level order s ∷ [])
+    → IsTold (part.Order (head_of version level s order) ∷ [])
     (clocks_at version level n s at >>= λ clocks. words version (word_line (codes "end")) clocks.1 >>= λ end. Ok
-    (claim.Order version level order s clocks.0, end.1)) (order_rest version level n s at)
+    (claim.Order (with_clocks (head_of version level s order) clocks.0), end.1)) (order_rest version level n s at)
 told-clocks version Causal n s order at =
-    let front = part.Order version Causal order s ∷ [] in
+    let head = head_of version Causal s order in
+    let front = part.Order head ∷ [] in
     let row : ℕ → Place → Reads (List ℕ) = λ t. words version (numbers_line s (ranges_of version).number) in
     let end : List (List ℕ) × Place → Reads Certificate =
-    λ clocks. words version (word_line (codes "end")) clocks.1 >>= λ end. Ok (claim.Order version Causal order s clocks.0, end.1) in
+    λ clocks. words version (word_line (codes "end")) clocks.1 >>= λ end. Ok (claim.Order (with_clocks head clocks.0), end.1) in
     subst (λ r. IsTold front r (order_rest version Causal n s at))
     (sym (bind-assoc (words version (word_line (codes "clocks")) at) (λ mark. numbered row 0 n mark.1) end))
     (told-behind front (words version (word_line (codes "clocks")) at) (λ mark. numbered row 0 n mark.1 >>= end)
     (λ mark. rows_then part.Clocks row (end_parts version) 0 n mark.1)
     (λ mark. told-rows part.Clocks row (end_parts version) n 0 mark.1 front end
-    (λ rows after long. told-end (front ++ map part.Clocks rows) version (claim.Order version Causal order s rows) after refl)))
-told-clocks version Atomic n s order at = told-end (part.Order version Atomic order s ∷ []) version (claim.Order version Atomic order s []) at refl
+    (λ rows after long. told-end (front ++ map part.Clocks rows) version (claim.Order (with_clocks head rows)) after refl)))
+told-clocks version Atomic n s order at =
+    let head = head_of version Atomic s order in
+    told-end (part.Order head ∷ []) version (claim.Order (with_clocks head [])) at refl
 
 told-order : (version : Version) (level : Level) (n s : ℕ) (at : Place) → IsTold [] (order_at version level n s at) (order_parts version level n s at)
 told-order version level n s at =
     let go : List ℕ × Place → Reads Certificate =
     λ order. clocks_at version level n s order.1 >>= λ clocks. words version (word_line (codes "end")) clocks.1 >>= λ end. Ok
-    (claim.Order version level order.0 s clocks.0, end.1) in
+    (claim.Order (with_clocks (head_of version level s order.0) clocks.0), end.1) in
     told-behind [] (words version (numbers_line n (ranges_of version).number) at) go
-    (λ order. after_part (part.Order version level order.0 s) (order_rest version level n s order.1))
-    (λ order. told-part [] (part.Order version level order.0 s) (go order) (order_rest version level n s order.1)
+    (λ order. after_part (part.Order (head_of version level s order.0)) (order_rest version level n s order.1))
+    (λ order. told-part [] (part.Order (head_of version level s order.0)) (go order) (order_rest version level n s order.1)
     (told-clocks version level n s order.0 order.1))
 
 told-cycle : (version : Version) (level : Level) (n count least : ℕ) (at : Place)
     → IsTold [] (cycle_at version level n count least at) (cycle_parts version level n count least at)
 told-cycle version level n count least at =
+    let head : CycleHead = record { version = version; level = level; count = n; links = count; least = least } in
     let near_row : ℕ → Place → Reads (List ℕ) = λ a. words version (numbers_line n (ranges_of version).cost) in
     let far_row : ℕ → Place → Reads (List ℕ) = λ s. words version (numbers_line (n - lowest version s) (ranges_of version).cost) in
     let end : List Link → List (List ℕ) → List (List ℕ) × Place → Reads Certificate =
-    λ links near far. words version (word_line (codes "end")) far.1 >>= λ end. Ok (claim.Cycle version level links least near far.0, end.1) in
+    λ links near far. words version (word_line (codes "end")) far.1 >>= λ end. Ok (claim.Cycle (with_tables head links near far.0), end.1) in
     let far : List Link → List (List ℕ) × Place → Reads Certificate =
     λ links near. words version (word_line (codes "far")) near.1 >>= λ mark. numbered far_row 0 n mark.1 >>= end links near.0 in
     let behind_links : List Link × Place → Reads Certificate =
     λ links. words version (word_line (codes "near")) links.1 >>= λ mark. numbered near_row 0 n mark.1 >>= far links.0 in
-    let claim_part = part.Cycle version level n count least in
+    let claim_part = part.Cycle head in
     told-part [] claim_part (repeated (link_at version) count at >>= behind_links) (link_rows version n 0 count at)
     (told-rows part.Link (λ i. link_at version) (near_parts version n) count 0 at (claim_part ∷ []) behind_links
     (λ links behind many.
@@ -124,9 +134,9 @@ told-cycle version level n count least at =
     told-behind front (words version (word_line (codes "far")) after) (λ mark. numbered far_row 0 n mark.1 >>= end links near)
     (λ mark. rows_then part.Far far_row (end_parts version) 0 n mark.1)
     (λ mark. told-rows part.Far far_row (end_parts version) n 0 mark.1 front (end links near)
-    (λ far last wide. told-end (front ++ map part.Far far) version (claim.Cycle version level links least near far) last
-    (ap (λ m. part.Cycle version level m (length links) least ∷ map part.Link links ++ (map part.Near near ++ map part.Far far)) long
-    ∙ ap (λ m. part.Cycle version level n m least ∷ map part.Link links ++ (map part.Near near ++ map part.Far far)) many
+    (λ far last wide. told-end (front ++ map part.Far far) version (claim.Cycle (with_tables head links near far)) last
+    (ap (λ m. part.Cycle (record head { count = m; links = length links }) ∷ map part.Link links ++ (map part.Near near ++ map part.Far far)) long
+    ∙ ap (λ m. part.Cycle (record head { links = m }) ∷ map part.Link links ++ (map part.Near near ++ map part.Far far)) many
     ∙ ap (λ t. claim_part ∷ t) (sym (append_assoc (map part.Link links) (map part.Near near) (map part.Far far))))))))))
 
 told-claim : (version : Version) (level : Level) (sizes : Sizes) (at : Place) → IsTold [] (claim_at version level sizes at) (claim_parts version level sizes at)

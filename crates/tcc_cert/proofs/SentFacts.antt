@@ -75,7 +75,3 @@ pub part_out : {X E : Type 0} (r : Result X E) (a b c : Option (List ℕ)) (g h 
     → OnErr r ((n : ℕ) × Appends a c (take n t))
 part_out (Ok x) a b c g h t p q = tt
 part_out (Err e) a b c g h t p q = Appends-part (Stops-out p q)
-
-pub on_err : {X E P : Type 0} (r : Result X E) → P → OnErr r P
-on_err (Ok x) p = tt
-on_err (Err e) p = p

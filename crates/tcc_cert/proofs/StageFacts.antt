@@ -15,12 +15,12 @@ use Rattle.tcc_cert.specs.declared.reading.forms.Sizes.TheVariants.{Order, Cycle
 use Rattle.tcc_cert.specs.declared.reading.input.Input.{Input}
 use Rattle.tcc_cert.specs.declared.reading.shape.TableShape.{TableShape}
 use Rattle.tcc_cert.specs.declared.reading.shape.TableShape.TheVariants as shape
-use Rattle.tcc_cert.specs.declared.reading.stages.Phase.{Phase}
 use Rattle.tcc_cert.specs.declared.reading.stages.Stage.{Stage}
-use Rattle.tcc_cert.specs.declared.reading.stages.Stage.TheVariants as stage
+use Rattle.tcc_cert.specs.declared.reading.stages.Coming.{Coming}
+use Rattle.tcc_cert.specs.declared.reading.stages.Coming.TheVariants as coming
 use Rattle.tcc_cert.specs.Ranges.{ranges_of}
 use Rattle.tcc_cert.specs.private.Inputs.{Ends}
-use Rattle.tcc_cert.specs.WindowBytes.{HasFailed}
+use Rattle.tcc_cert.specs.InputBytes.{HasFailed}
 use Rattle.tcc_cert.specs.private.Showing.{Faults}
 use Rattle.tcc_cert.specs.Parts.{◌>>>◌, FaultsIn, IsFirst, Parts, after_part, claim_parts, end_parts}
 use Rattle.tcc_cert.specs.Parts.{ending, far_parts, far_rows, link_rows, near_parts, order_rest, parts_behind, rows_then}
@@ -98,11 +98,11 @@ onward-behind header =
 onward-whole : (at : Place) → at.line ≤ (whole_parts at).line
 onward-whole at = onward-then at (next MAX_HEADER_BYTES header_line at) parts_behind (onward-next MAX_HEADER_BYTES header_line at) onward-behind
 
-pub onward-stage : (s : Stage) (at : Place) (ahead : Parts) → IsBehind s at ahead → at.line ≤ ahead.line
-onward-stage stage.Whole at ahead is = rw is (onward-whole at)
-onward-stage (stage.Links version n left) at ahead is = rw is.1 (onward-links version n is.0 left at)
-onward-stage (stage.Mark version table) at ahead is = rw is (onward-marked version table at)
-onward-stage (stage.Rows version table left) at ahead is = rw is.2 (onward-table version table is.0 left at)
+pub onward-coming : (s : Coming) (at : Place) (ahead : Parts) → IsBehind s at ahead → at.line ≤ ahead.line
+onward-coming coming.Whole at ahead is = rw is (onward-whole at)
+onward-coming (coming.Links left) at ahead is = rw is.1 (onward-links left.version left.transactions is.0 left.many at)
+onward-coming (coming.Mark version table) at ahead is = rw is (onward-marked version table at)
+onward-coming (coming.Rows left) at ahead is = rw is.2 (onward-table left.version left.table is.0 left.many at)
 
 -- ---- what comes of a part
 
@@ -120,7 +120,7 @@ wanted-earlier : {F : Type 0} (wanted earlier : ℕ) (ahead : Parts) (fault : Ce
 wanted-earlier wanted earlier ahead fault le (inl is) = inl is
 wanted-earlier wanted earlier ahead fault le (inr cut) = inr (record { failure = cut.failure; first = omega (arith, le, cut.first); last = cut.last })
 
-step-earlier : {R : Type 0} (remaining : R → Option (List ℕ)) (wanted earlier : ℕ) (ahead : Parts) (result : Result (Part × Phase) CertFault)
+step-earlier : {R : Type 0} (remaining : R → Option (List ℕ)) (wanted earlier : ℕ) (ahead : Parts) (result : Result (Part × Stage) CertFault)
     (new : Input R) → earlier ≤ wanted
     → TakesStep remaining wanted ahead result new → TakesStep remaining earlier ahead result new
 step-earlier remaining wanted earlier ahead (Ok given) new le taken = taken
@@ -128,7 +128,7 @@ step-earlier remaining wanted earlier ahead (Err fault) new le faults = wanted-e
 
 -- it was read, and what comes behind it is given
 pub part-then : {A R : Type 0} (remaining : R → Option (List ℕ)) (at : Place) {after : Place} {x : A} (read : Reads A) (behind : A × Place → Parts)
-    (result : Result (Part × Phase) CertFault) (new : Input R)
+    (result : Result (Part × Stage) CertFault) (new : Input R)
     → read ≡ Ok (x, after) → at.line ≤ after.line → TakesStep remaining after.line (behind (x, after)) result new
     → TakesStep remaining at.line (read >>> behind) result new
 part-then remaining at {after} {x} read behind result new is on taken =
@@ -137,7 +137,7 @@ part-then remaining at {after} {x} read behind result new is on taken =
 
 -- the sizes of a claim were read
 pub sizes-then : {R : Type 0} (remaining : R → Option (List ℕ)) (version : Version) (level : Level) (at : Place) {after : Place} {sizes : Sizes}
-    (result : Result (Part × Phase) CertFault) (new : Input R)
+    (result : Result (Part × Stage) CertFault) (new : Input R)
     → words version (sizes_line version) at ≡ Ok (sizes, after) → TakesStep remaining after.line (claim_parts version level sizes after) result new
     → TakesStep remaining at.line (parts_behind ((version, level), at)) result new
 sizes-then remaining version level at result new is taken =
@@ -152,7 +152,7 @@ mark-faults version word behind at fault later faults =
     part-faults (words version (word_line word) at) (λ mark. behind mark.1) fault (λ mark. later mark.1) faults
 
 pub mark-then : {R : Type 0} (remaining : R → Option (List ℕ)) (version : Version) (word : List ℕ) (behind : Place → Parts)
-    (at : Place) {after : Place} {done : Unit {0}} (result : Result (Part × Phase) CertFault) (new : Input R)
+    (at : Place) {after : Place} {done : Unit {0}} (result : Result (Part × Stage) CertFault) (new : Input R)
     → words version (word_line word) at ≡ Ok (done, after) → TakesStep remaining after.line (behind after) result new
     → TakesStep remaining at.line (words version (word_line word) at >>> λ mark. behind mark.1) result new
 mark-then remaining version word behind at result new is taken =

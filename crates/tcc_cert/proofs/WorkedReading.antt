@@ -12,11 +12,13 @@ use Rattle.tcc_cert.specs.declared.version.Version.TheVariants.{One, Two}
 use Rattle.tcc_cert.specs.Reading.{certificate_read}
 
 -- a history without transactions: one row of clocks without a number
-no_transactions : certificate_read (codes "tcc-certificate 1\norder 1 0\n0\nclocks\n\nend\n") ≡ Ok (claim.Order One Causal (0 ∷ []) 0 ([] ∷ []))
+no_transactions : certificate_read (codes "tcc-certificate 1\norder 1 0\n0\nclocks\n\nend\n")
+    ≡ Ok (claim.Order (record { version = One; level = Causal; order = 0 ∷ []; sessions = 0; clocks = [] ∷ [] }))
 no_transactions = refl
 
 -- the same at `Atomic`, with no clocks
-no_clocks : certificate_read (codes "tcc-certificate 2 atomic\norder 1 0\n0\nend\n") ≡ Ok (claim.Order Two Atomic (0 ∷ []) 0 [])
+no_clocks : certificate_read (codes "tcc-certificate 2 atomic\norder 1 0\n0\nend\n")
+    ≡ Ok (claim.Order (record { version = Two; level = Atomic; order = 0 ∷ []; sessions = 0; clocks = [] }))
 no_clocks = refl
 
 abbrev links_and_near : List ℕ
@@ -27,13 +29,14 @@ far = codes "far\n3 1 1\n2 3 1\n3 3 3\n"
 
 -- the claim of a read of 0 after an own write, with these rows of `far`
 abbrev stale : Version → List (List ℕ) → Certificate
-stale version rows = claim.Cycle
-    version
-    Causal
-    (link.Session 0 1 ∷ link.Derived 1 0 (codes "x") 2 (step.Session 1 2 ∷ []) ∷ [])
-    3
-    ((3 ∷ 1 ∷ 1 ∷ []) ∷ (3 ∷ 3 ∷ 1 ∷ []) ∷ (3 ∷ 3 ∷ 3 ∷ []) ∷ [])
-    rows
+stale version rows = claim.Cycle (record {
+  version = version;
+  level = Causal;
+  links = link.Session 0 1 ∷ link.Derived 1 0 (codes "x") 2 (step.Session 1 2 ∷ []) ∷ [];
+  least = 3;
+  near = (3 ∷ 1 ∷ 1 ∷ []) ∷ (3 ∷ 3 ∷ 1 ∷ []) ∷ (3 ∷ 3 ∷ 3 ∷ []) ∷ [];
+  far = rows;
+})
 
 -- its text in version 1
 stale_read : certificate_read (codes "tcc-certificate 1\ncycle 3 2 3\n" ++ (links_and_near ++ (far ++ codes "end\n")))

@@ -9,39 +9,42 @@ use Rattle.tcc_cert.specs.declared.version.Version.TheVariants.{One, Two}
 use Rattle.tcc_cert.specs.Texts.{certificate_text}
 
 -- a history without transactions: one row of clocks without a number
-no_transactions : certificate_text (claim.Order One Causal (0 ∷ []) 0 ([] ∷ []))
+no_transactions : certificate_text (claim.Order (record { version = One; level = Causal; order = 0 ∷ []; sessions = 0; clocks = [] ∷ [] }))
     ≡ codes "tcc-certificate 1\norder 1 0\n0\nclocks\n\nend\n"
 no_transactions = rw (decimal_digit 0 (lit< tt), decimal_digit 1 (lit< tt)) refl
 
 -- a read of 0 after an own write
-stale_read : certificate_text (claim.Cycle
-    One
-    Causal
-    (link.Session 0 1 ∷ link.Derived 1 0 (codes "x") 2 (step.Session 1 2 ∷ []) ∷ [])
-    3
-    ((3 ∷ 1 ∷ 1 ∷ []) ∷ (3 ∷ 3 ∷ 1 ∷ []) ∷ (3 ∷ 3 ∷ 3 ∷ []) ∷ [])
-    ((3 ∷ 1 ∷ 1 ∷ []) ∷ (2 ∷ 3 ∷ 1 ∷ []) ∷ (3 ∷ 3 ∷ 3 ∷ []) ∷ []))
+stale_read : certificate_text (claim.Cycle (record {
+  version = One;
+  level = Causal;
+  links = link.Session 0 1 ∷ link.Derived 1 0 (codes "x") 2 (step.Session 1 2 ∷ []) ∷ [];
+  least = 3;
+  near = (3 ∷ 1 ∷ 1 ∷ []) ∷ (3 ∷ 3 ∷ 1 ∷ []) ∷ (3 ∷ 3 ∷ 3 ∷ []) ∷ [];
+  far = (3 ∷ 1 ∷ 1 ∷ []) ∷ (2 ∷ 3 ∷ 1 ∷ []) ∷ (3 ∷ 3 ∷ 3 ∷ []) ∷ [];
+}))
     ≡ codes "tcc-certificate 1\ncycle 3 2 3\nS 0 1\nD 1 0 x 2 1\nS 1 2\nnear\n3 1 1\n3 3 1\n3 3 3\nfar\n3 1 1\n2 3 1\n3 3 3\nend\n"
 stale_read = rw (decimal_digit 0 (lit< tt), decimal_digit 1 (lit< tt), decimal_digit 2 (lit< tt), decimal_digit 3 (lit< tt)) refl
 
 -- two transactions that read from one another
-two_reads : certificate_text (claim.Cycle
-    One
-    Causal
-    (link.Reads 1 2 (codes "x") ∷ link.Reads 2 1 (codes "y") ∷ [])
-    2
-    ((2 ∷ 1 ∷ 1 ∷ []) ∷ (2 ∷ 2 ∷ 1 ∷ []) ∷ (2 ∷ 1 ∷ 2 ∷ []) ∷ [])
-    ((2 ∷ 1 ∷ 1 ∷ []) ∷ (2 ∷ 2 ∷ 1 ∷ []) ∷ (2 ∷ 1 ∷ 2 ∷ []) ∷ []))
+two_reads : certificate_text (claim.Cycle (record {
+  version = One;
+  level = Causal;
+  links = link.Reads 1 2 (codes "x") ∷ link.Reads 2 1 (codes "y") ∷ [];
+  least = 2;
+  near = (2 ∷ 1 ∷ 1 ∷ []) ∷ (2 ∷ 2 ∷ 1 ∷ []) ∷ (2 ∷ 1 ∷ 2 ∷ []) ∷ [];
+  far = (2 ∷ 1 ∷ 1 ∷ []) ∷ (2 ∷ 2 ∷ 1 ∷ []) ∷ (2 ∷ 1 ∷ 2 ∷ []) ∷ [];
+}))
     ≡ codes "tcc-certificate 1\ncycle 3 2 2\nR 1 2 x\nR 2 1 y\nnear\n2 1 1\n2 2 1\n2 1 2\nfar\n2 1 1\n2 2 1\n2 1 2\nend\n"
 two_reads = rw (decimal_digit 1 (lit< tt), decimal_digit 2 (lit< tt), decimal_digit 3 (lit< tt)) refl
 
 -- the long fork
-long_fork : certificate_text (claim.Order
-    One
-    Causal
-    (0 ∷ 1 ∷ 2 ∷ 3 ∷ 4 ∷ [])
-    4
-    ((0 ∷ 0 ∷ 0 ∷ 0 ∷ []) ∷ (0 ∷ 0 ∷ 0 ∷ 0 ∷ []) ∷ (0 ∷ 0 ∷ 0 ∷ 0 ∷ []) ∷ (1 ∷ 0 ∷ 0 ∷ 0 ∷ []) ∷ (0 ∷ 1 ∷ 0 ∷ 0 ∷ []) ∷ []))
+long_fork : certificate_text (claim.Order (record {
+  version = One;
+  level = Causal;
+  order = 0 ∷ 1 ∷ 2 ∷ 3 ∷ 4 ∷ [];
+  sessions = 4;
+  clocks = (0 ∷ 0 ∷ 0 ∷ 0 ∷ []) ∷ (0 ∷ 0 ∷ 0 ∷ 0 ∷ []) ∷ (0 ∷ 0 ∷ 0 ∷ 0 ∷ []) ∷ (1 ∷ 0 ∷ 0 ∷ 0 ∷ []) ∷ (0 ∷ 1 ∷ 0 ∷ 0 ∷ []) ∷ [];
+}))
     ≡ codes "tcc-certificate 1\norder 5 4\n0 1 2 3 4\nclocks\n0 0 0 0\n0 0 0 0\n0 0 0 0\n1 0 0 0\n0 1 0 0\nend\n"
 long_fork =
     rw (
@@ -54,16 +57,18 @@ long_fork =
     ) refl
 
 -- rows of version 2 begin at their own number
-two_reads_upward : certificate_text (claim.Cycle
-    Two
-    Causal
-    (link.Reads 1 2 (codes "x") ∷ link.Reads 2 1 (codes "y") ∷ [])
-    2
-    ((2 ∷ 1 ∷ 1 ∷ []) ∷ (2 ∷ 2 ∷ 1 ∷ []) ∷ (2 ∷ 1 ∷ 2 ∷ []) ∷ [])
-    ((2 ∷ 1 ∷ 1 ∷ []) ∷ (2 ∷ 1 ∷ []) ∷ (2 ∷ []) ∷ []))
+two_reads_upward : certificate_text (claim.Cycle (record {
+  version = Two;
+  level = Causal;
+  links = link.Reads 1 2 (codes "x") ∷ link.Reads 2 1 (codes "y") ∷ [];
+  least = 2;
+  near = (2 ∷ 1 ∷ 1 ∷ []) ∷ (2 ∷ 2 ∷ 1 ∷ []) ∷ (2 ∷ 1 ∷ 2 ∷ []) ∷ [];
+  far = (2 ∷ 1 ∷ 1 ∷ []) ∷ (2 ∷ 1 ∷ []) ∷ (2 ∷ []) ∷ [];
+}))
     ≡ codes "tcc-certificate 2 causal\ncycle 3 2 2\nR 1 2 x\nR 2 1 y\nnear\n2 1 1\n2 2 1\n2 1 2\nfar\n2 1 1\n2 1\n2\nend\n"
 two_reads_upward = rw (decimal_digit 1 (lit< tt), decimal_digit 2 (lit< tt), decimal_digit 3 (lit< tt)) refl
 
 -- at `Atomic` an order has no clocks
-no_clocks : certificate_text (claim.Order One Atomic (0 ∷ 1 ∷ 2 ∷ 3 ∷ []) 2 []) ≡ codes "tcc-certificate 1 atomic\norder 4 2\n0 1 2 3\nend\n"
+no_clocks : certificate_text (claim.Order (record { version = One; level = Atomic; order = 0 ∷ 1 ∷ 2 ∷ 3 ∷ []; sessions = 2; clocks = [] }))
+    ≡ codes "tcc-certificate 1 atomic\norder 4 2\n0 1 2 3\nend\n"
 no_clocks = rw (decimal_digit 0 (lit< tt), decimal_digit 1 (lit< tt), decimal_digit 2 (lit< tt), decimal_digit 3 (lit< tt), decimal_digit 4 (lit< tt)) refl

@@ -4,43 +4,44 @@ use Rattle.tcc_cert.specs.declared.fault.CertFault.{CertFault}
 use Rattle.tcc_cert.specs.declared.part.Part.{Part}
 use Rattle.tcc_cert.specs.declared.part.Part.TheVariants as part
 use Rattle.tcc_cert.specs.declared.reading.parts.CertReader.{CertReader}
-use Rattle.tcc_cert.specs.declared.reading.stages.Phase.{Phase}
-use Rattle.tcc_cert.specs.declared.reading.stages.Phase.TheVariants as phase
+use Rattle.tcc_cert.specs.declared.reading.stages.Stage.{Stage}
 use Rattle.tcc_cert.specs.declared.reading.stages.Stage.TheVariants as stage
-use Rattle.tcc_cert.specs.WindowBytes.{HasFailed, IsAt}
+use Rattle.tcc_cert.specs.declared.reading.stages.Coming.TheVariants as coming
+use Rattle.tcc_cert.specs.InputBytes.{HasFailed, IsAt}
 use Rattle.tcc_cert.specs.Parts.{Parts, FaultsIn, IsFirst, stopped, ending, link_rows, whole_parts}
 use Rattle.tcc_cert.specs.Reading.{Place}
 use Rattle.tcc_cert.specs.Shapes.{height, links_from, rows_from, table_parts, table_rows}
 use Rattle.tcc_cert.specs.declared.reading.input.Input.{Input}
-use Rattle.tcc_cert.specs.declared.reading.stages.Stage.{Stage}
+use Rattle.tcc_cert.specs.declared.reading.stages.Coming.{Coming}
 
 -- how many links and rows come before the end, behind the claim
-abbrev pub rows_at : Stage → ℕ
-rows_at stage.Whole = 0
-rows_at (stage.Links version transactions left) = links_from transactions left
-rows_at (stage.Mark version table) = rows_from table (height table)
-rows_at (stage.Rows version table left) = rows_from table left
+abbrev pub rows_at : Coming → ℕ
+rows_at coming.Whole = 0
+rows_at (coming.Links left) = links_from left.transactions left.many
+rows_at (coming.Mark version table) = rows_from table (height table)
+rows_at (coming.Rows left) = rows_from left.table left.many
 
-abbrev pub rows_in : Phase → ℕ
-rows_in (phase.Going at) = rows_at at
-rows_in phase.Ended = 0
-rows_in (phase.Stopped fault) = 0
+abbrev pub rows_in : Stage → ℕ
+rows_in (stage.Going at) = rows_at at
+rows_in stage.Ended = 0
+rows_in (stage.Stopped fault) = 0
 
--- the parts from the place on, at this stage
-abbrev pub IsBehind : Stage → Place → Parts → Type 0
-IsBehind stage.Whole at ahead = ahead ≡ whole_parts at
-IsBehind (stage.Links version transactions left) at ahead = (from : ℕ) × (ahead ≡ link_rows version transactions from left at)
-IsBehind (stage.Mark version table) at ahead = ahead ≡ table_parts version table at
-IsBehind (stage.Rows version table left) at ahead = (from : ℕ) × (from + left ≡ height table) × (ahead ≡ table_rows version table from left at)
+-- the parts from the place on, where this is to come
+abbrev pub IsBehind : Coming → Place → Parts → Type 0
+IsBehind coming.Whole at ahead = ahead ≡ whole_parts at
+IsBehind (coming.Links left) at ahead = (from : ℕ) × (ahead ≡ link_rows left.version left.transactions from left.many at)
+IsBehind (coming.Mark version table) at ahead = ahead ≡ table_parts version table at
+IsBehind (coming.Rows left) at ahead =
+    (from : ℕ) × (from + left.many ≡ height left.table) × (ahead ≡ table_rows left.version left.table from left.many at)
 
-abbrev pub IsAheadIn : {R : Type 0} → (R → Option (List ℕ)) → Input R → Phase → Parts → Type 0
-IsAheadIn remaining input (phase.Going stage) ahead = (at : Place) × IsAt remaining input at × IsBehind stage at ahead
-IsAheadIn remaining input phase.Ended ahead = ahead ≡ ending ahead.line None
-IsAheadIn remaining input (phase.Stopped fault) ahead = ahead ≡ stopped fault
+abbrev pub IsAheadIn : {R : Type 0} → (R → Option (List ℕ)) → Input R → Stage → Parts → Type 0
+IsAheadIn remaining input (stage.Going coming) ahead = (at : Place) × IsAt remaining input at × IsBehind coming at ahead
+IsAheadIn remaining input stage.Ended ahead = ahead ≡ ending ahead.line None
+IsAheadIn remaining input (stage.Stopped fault) ahead = ahead ≡ stopped fault
 
 -- these are the parts that are still to come, where the reader's bytes are known
 abbrev pub IsAhead : {R : Type 0} → (R → Option (List ℕ)) → CertReader R → Parts → Type 0
-IsAhead remaining reader ahead = IsAheadIn remaining reader.input reader.phase ahead
+IsAhead remaining reader ahead = IsAheadIn remaining reader.input reader.stage ahead
 
 -- the number of the line that is read next
 abbrev pub line_wanted : {R : Type 0} → CertReader R → ℕ
@@ -52,38 +53,38 @@ ReaderFailed reader = HasFailed reader.input
 
 -- how many links and rows come before the end, behind the claim
 abbrev pub rows_left : {R : Type 0} → CertReader R → ℕ
-rows_left reader = rows_in reader.phase
+rows_left reader = rows_in reader.stage
 
 -- nothing was asked for yet
-abbrev pub new_in : Phase → Bool
-new_in (phase.Going stage.Whole) = true
+abbrev pub new_in : Stage → Bool
+new_in (stage.Going coming.Whole) = true
 new_in _ = false
 
 abbrev pub is_new : {R : Type 0} → CertReader R → Bool
-is_new reader = new_in reader.phase
+is_new reader = new_in reader.stage
 
 -- the fault that was met, if there was one
-abbrev pub fault_in : Phase → Option CertFault
-fault_in (phase.Going at) = None
-fault_in phase.Ended = None
-fault_in (phase.Stopped fault) = Some fault
+abbrev pub fault_in : Stage → Option CertFault
+fault_in (stage.Going at) = None
+fault_in stage.Ended = None
+fault_in (stage.Stopped fault) = Some fault
 
 abbrev pub fault_met : {R : Type 0} → CertReader R → Option CertFault
-fault_met reader = fault_in reader.phase
+fault_met reader = fault_in reader.stage
 
 -- the end was met
-abbrev pub ended_in : Phase → Bool
-ended_in (phase.Going at) = false
-ended_in phase.Ended = true
-ended_in (phase.Stopped fault) = false
+abbrev pub ended_in : Stage → Bool
+ended_in (stage.Going at) = false
+ended_in stage.Ended = true
+ended_in (stage.Stopped fault) = false
 
 abbrev pub has_ended : {R : Type 0} → CertReader R → Bool
-has_ended reader = ended_in reader.phase
+has_ended reader = ended_in reader.stage
 
 -- a claim, without its links and tables
 abbrev pub is_claim : Part → Bool
-is_claim (part.Order version level order sessions) = true
-is_claim (part.Cycle version level count links least) = true
+is_claim (part.Order head) = true
+is_claim (part.Cycle head) = true
 is_claim _ = false
 
 abbrev pub is_end : Part → Bool

@@ -5,7 +5,7 @@ use Rattle.tcc_graph.specs.declared.level.Level.{Level}
 use Rattle.tcc_cert.specs.declared.version.Version.{Version}
 use Rattle.tcc_cert.specs.declared.cycle_writer.Stage.{Stage}
 use Rattle.tcc_cert.specs.declared.cycle_writer.Stage.TheVariants.{Near, Far}
-use Rattle.tcc_cert.specs.CycleRules.{CycleClaim}
+use Rattle.tcc_cert.specs.declared.certificate.CycleClaim.{CycleClaim}
 use Rattle.tcc_cert.specs.Texts.{Words, header_words, link_lines, table_lines}
 
 -- the lines before the rows

@@ -11,16 +11,8 @@ use Rattle.tcc_graph.specs.declared.step.Step.{Step}
 use Rattle.tcc_graph.specs.declared.link.Link.{Link}
 use Rattle.tcc_graph.specs.declared.link.Link.TheVariants as link
 use Rattle.tcc_cert.specs.declared.version.Version.{Version}
+use Rattle.tcc_cert.specs.declared.certificate.CycleClaim.{CycleClaim}
 use Rattle.tcc_cert.specs.Tables.{entry, lowest, far_entry, HasSize, HasFarSize, IsCapped}
-
--- what is claimed at a level: a cycle, its cost, and the two tables, `far` in the form of the version
-pub record CycleClaim : Type 0 where
-  pub version : Version
-  pub level : Level
-  pub links : List Link
-  pub least : ℕ
-  pub near : List (List ℕ)
-  pub far : List (List ℕ)
 
 -- both ends of a step are numbers below n
 abbrev pub IsStepBelow : ℕ → Step → Type 0

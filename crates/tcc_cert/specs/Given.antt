@@ -2,7 +2,7 @@
 use Rattle.std.specs.Prelude.{ℕ, ◌≡◌, List, [], Option, ◌++◌}
 use Rattle.tcc_cert.specs.declared.cycle_writer.CycleWriter.{CycleWriter}
 use Rattle.tcc_cert.specs.declared.cycle_writer.Stage.TheVariants.{Failed}
-use Rattle.tcc_cert.specs.CycleRules.{CycleClaim}
+use Rattle.tcc_cert.specs.declared.certificate.CycleClaim.{CycleClaim}
 use Rattle.tcc_cert.specs.Texts.{lines_text}
 use Rattle.tcc_cert.specs.Begun.{given_lines, stage_of}
 use Rattle.std.specs.Io.KnownBytes.{Appends}

@@ -11,5 +11,6 @@ pub mod Outcomes
 pub mod Parts
 pub mod Ahead
 pub mod WindowBytes
+pub mod InputBytes
 pub mod Shapes
 pub mod private

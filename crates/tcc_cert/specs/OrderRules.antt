@@ -6,14 +6,8 @@ use Rattle.tcc_graph.specs.Links.{MayContradict}
 use Rattle.tcc_graph.specs.Orders.{Before, IsNumbering}
 use Rattle.tcc_graph.specs.declared.level.Level.{Level}
 use Rattle.tcc_graph.specs.declared.level.Level.TheVariants.{Causal, Atomic}
+use Rattle.tcc_cert.specs.declared.certificate.OrderClaim.{OrderClaim}
 use Rattle.tcc_cert.specs.Tables.{entry, HasSize}
-
--- what is claimed at a level: an order, the number of sessions, and the clocks
-pub record OrderClaim : Type 0 where
-  pub level : Level
-  pub order : List ℕ
-  pub sessions : ℕ
-  pub clocks : List (List ℕ)
 
 -- at `Causal` the clocks have a row for each transaction, with a number for each session; at `Atomic` there are none
 abbrev pub HasClocks : Level → ℕ → ℕ → List (List ℕ) → Type 0

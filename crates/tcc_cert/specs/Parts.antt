@@ -1,6 +1,7 @@
 -- The parts of a certificate, and those that a text gives before its end or its first fault.
 use Rattle.std.specs.Prelude.{ℕ, zero, suc, ◌+◌, ◌-◌, ◌≡◌, ◌≤◌, ◌⊎◌, ◌==◌, if◌then◌else◌, List, [], ◌∷◌, ◌++◌, map, length, Option, None, Some, Ok, Err, codes}
 use Rattle.tcc_graph.specs.declared.level.Level.{Level}
+use Rattle.tcc_graph.specs.declared.link.Link.{Link}
 use Rattle.tcc_graph.specs.declared.level.Level.TheVariants.{Causal, Atomic}
 use Rattle.tcc_cert.specs.declared.version.Version.{Version}
 use Rattle.tcc_cert.specs.declared.ranges.TheConstants.{MAX_HEADER_BYTES}
@@ -9,6 +10,10 @@ use Rattle.tcc_cert.specs.declared.fault.CertFaultKind.{CertFaultKind}
 use Rattle.tcc_cert.specs.declared.fault.CertFaultKind.TheVariants.{Trailing}
 use Rattle.tcc_cert.specs.declared.certificate.Certificate.{Certificate}
 use Rattle.tcc_cert.specs.declared.certificate.Certificate.TheVariants as claim
+use Rattle.tcc_cert.specs.declared.certificate.CycleClaim.{CycleClaim}
+use Rattle.tcc_cert.specs.declared.certificate.OrderClaim.{OrderClaim}
+use Rattle.tcc_cert.specs.declared.part.CycleHead.{CycleHead}
+use Rattle.tcc_cert.specs.declared.part.OrderHead.{OrderHead}
 use Rattle.tcc_cert.specs.declared.part.Part.{Part}
 use Rattle.tcc_cert.specs.declared.part.Part.TheVariants as part
 use Rattle.tcc_cert.specs.declared.reading.forms.Sizes.{Sizes}
@@ -18,11 +23,25 @@ use Rattle.tcc_cert.specs.Tables.{lowest}
 use Rattle.tcc_cert.specs.Outcomes.{IsFailure}
 use Rattle.tcc_cert.specs.Reading.{Place, Reads, next, words, header_line, sizes_line, word_line, numbers_line, link_at, start_of}
 
+-- a claim of an order without its clocks, and with some
+abbrev pub order_head : OrderClaim → OrderHead
+order_head k = record { version = k.version; level = k.level; order = k.order; sessions = k.sessions }
+
+abbrev pub with_clocks : OrderHead → List (List ℕ) → OrderClaim
+with_clocks head clocks = record { version = head.version; level = head.level; order = head.order; sessions = head.sessions; clocks = clocks }
+
+-- a claim of a cycle without its links and tables, and with some
+abbrev pub cycle_head : CycleClaim → CycleHead
+cycle_head k = record { version = k.version; level = k.level; count = length k.near; links = length k.links; least = k.least }
+
+abbrev pub with_tables : CycleHead → List Link → List (List ℕ) → List (List ℕ) → CycleClaim
+with_tables head links near far =
+    record { version = head.version; level = head.level; links = links; least = head.least; near = near; far = far }
+
 -- the parts of a certificate, in the order of its text, without the end
 abbrev pub parts_of : Certificate → List Part
-parts_of (claim.Order version level order sessions clocks) = part.Order version level order sessions ∷ map part.Clocks clocks
-parts_of (claim.Cycle version level links least near far) =
-    part.Cycle version level (length near) (length links) least ∷ map part.Link links ++ (map part.Near near ++ map part.Far far)
+parts_of (claim.Order k) = part.Order (order_head k) ∷ map part.Clocks k.clocks
+parts_of (claim.Cycle k) = part.Cycle (cycle_head k) ∷ map part.Link k.links ++ (map part.Near k.near ++ map part.Far k.far)
 
 -- some parts, and then, at this line, the fault of this kind, or the end
 pub record Parts : Type 0 where
@@ -95,11 +114,13 @@ order_rest version Atomic transactions sessions at = end_parts version at
 abbrev pub order_parts : Version → Level → ℕ → ℕ → Place → Parts
 order_parts version level transactions sessions at =
     words version (numbers_line transactions (ranges_of version).number) at
-    >>> λ order. after_part (part.Order version level order.0 sessions) (order_rest version level transactions sessions order.1)
+    >>> λ order. after_part (part.Order (record { version = version; level = level; order = order.0; sessions = sessions }))
+    (order_rest version level transactions sessions order.1)
 
 abbrev pub cycle_parts : Version → Level → ℕ → ℕ → ℕ → Place → Parts
 cycle_parts version level transactions count least at =
-    after_part (part.Cycle version level transactions count least) (link_rows version transactions 0 count at)
+    after_part (part.Cycle (record { version = version; level = level; count = transactions; links = count; least = least }))
+    (link_rows version transactions 0 count at)
 
 abbrev pub claim_parts : Version → Level → Sizes → Place → Parts
 claim_parts version level (Order transactions sessions) at = order_parts version level transactions sessions at
@@ -121,8 +142,8 @@ parts_read bytes = whole_parts (start_of bytes)
 -- the first of them is this one, and these come behind it; behind the end comes the end
 abbrev pub IsFirst : Part → Parts → Parts → Type 0
 IsFirst part.End ahead rest = (ahead ≡ ending ahead.line None) × (rest ≡ ahead)
-IsFirst (part.Order version level order sessions) ahead rest = ahead ≡ after_part (part.Order version level order sessions) rest
-IsFirst (part.Cycle version level count links least) ahead rest = ahead ≡ after_part (part.Cycle version level count links least) rest
+IsFirst (part.Order head) ahead rest = ahead ≡ after_part (part.Order head) rest
+IsFirst (part.Cycle head) ahead rest = ahead ≡ after_part (part.Cycle head) rest
 IsFirst (part.Link one) ahead rest = ahead ≡ after_part (part.Link one) rest
 IsFirst (part.Clocks row) ahead rest = ahead ≡ after_part (part.Clocks row) rest
 IsFirst (part.Near row) ahead rest = ahead ≡ after_part (part.Near row) rest

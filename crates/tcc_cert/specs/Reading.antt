@@ -253,7 +253,7 @@ order_at version level transactions sessions at = do
   order ← words version (numbers_line transactions (ranges_of version).number) at
   clocks ← clocks_at version level transactions sessions order.1
   end ← words version (word_line (codes "end")) clocks.1
-  Ok (claim.Order version level order.0 sessions clocks.0, end.1)
+  Ok (claim.Order (record { version = version; level = level; order = order.0; sessions = sessions; clocks = clocks.0 }), end.1)
 
 abbrev pub cycle_at : Version → Level → ℕ → ℕ → ℕ → Place → Reads Certificate
 cycle_at version level transactions count least at = do
@@ -263,7 +263,7 @@ cycle_at version level transactions count least at = do
   far_mark ← words version (word_line (codes "far")) near.1
   far ← table_at version transactions (λ s. transactions - lowest version s) (ranges_of version).cost far_mark.1
   end ← words version (word_line (codes "end")) far.1
-  Ok (claim.Cycle version level links.0 least near.0 far.0, end.1)
+  Ok (claim.Cycle (record { version = version; level = level; links = links.0; least = least; near = near.0; far = far.0 }), end.1)
 
 abbrev pub claim_at : Version → Level → Sizes → Place → Reads Certificate
 claim_at version level (Order transactions sessions) at = order_at version level transactions sessions at

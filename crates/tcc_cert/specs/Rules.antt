@@ -2,12 +2,14 @@
 use Rattle.std.specs.Prelude.{ℕ, ◌<◌, ◌≡◌, length}
 use Rattle.tcc_reads.specs.History.{History}
 use Rattle.tcc_graph.specs.Links.{cost}
-use Rattle.tcc_cert.specs.CycleRules.{CycleClaim, HasRightSizes, IsLinkWrong}
+use Rattle.tcc_cert.specs.CycleRules.{HasRightSizes, IsLinkWrong}
 use Rattle.tcc_cert.specs.CycleRules.{BreaksNearPair, BreaksNearStep, BreaksFarLink, BreaksFarStep}
 use Rattle.tcc_cert.specs.CycleRules.{BreaksReturn}
-use Rattle.tcc_cert.specs.OrderRules.{OrderClaim, HasOrderSizes, KeepsPairs, BreaksAxiom}
+use Rattle.tcc_cert.specs.OrderRules.{HasOrderSizes, KeepsPairs, BreaksAxiom}
 use Rattle.tcc_cert.specs.declared.certificate.Certificate.{Certificate}
 use Rattle.tcc_cert.specs.declared.certificate.Certificate.TheVariants as claim
+use Rattle.tcc_cert.specs.declared.certificate.CycleClaim.{CycleClaim}
+use Rattle.tcc_cert.specs.declared.certificate.OrderClaim.{OrderClaim}
 use Rattle.tcc_graph.specs.Levels.{judged}
 
 -- nowhere is it broken
@@ -38,7 +40,5 @@ pub record CertifiesOrder (h : History) (k : OrderClaim) : Type 0 where
 
 -- the certificate certifies what it claims
 abbrev pub Certifies : History → Certificate → Type 0
-Certifies h (claim.Order version level order sessions clocks) =
-    CertifiesOrder h (record { level = level; order = order; sessions = sessions; clocks = clocks })
-Certifies h (claim.Cycle version level links least near far) =
-    CertifiesCycle h (record { version = version; level = level; links = links; least = least; near = near; far = far })
+Certifies h (claim.Order k) = CertifiesOrder h k
+Certifies h (claim.Cycle k) = CertifiesCycle h k

@@ -12,10 +12,10 @@ use Rattle.tcc_cert.specs.declared.version.Version.{Version}
 use Rattle.tcc_cert.specs.declared.version.Version.TheVariants.{One, Two}
 use Rattle.tcc_cert.specs.Ranges.{ranges_of}
 use Rattle.tcc_cert.specs.Tables.{lowest, HasRows, IsCapped}
-use Rattle.tcc_cert.specs.CycleRules.{CycleClaim}
-use Rattle.tcc_cert.specs.OrderRules.{OrderClaim}
 use Rattle.tcc_cert.specs.declared.certificate.Certificate.{Certificate}
 use Rattle.tcc_cert.specs.declared.certificate.Certificate.TheVariants as claim
+use Rattle.tcc_cert.specs.declared.certificate.CycleClaim.{CycleClaim}
+use Rattle.tcc_cert.specs.declared.certificate.OrderClaim.{OrderClaim}
 
 -- the words of a line
 abbrev pub Words : Type 0
@@ -59,31 +59,31 @@ clocks_lines Causal clocks = (codes "clocks" ∷ []) ∷ table_lines clocks
 clocks_lines Atomic clocks = []
 
 -- `order N S`, the order, and the clocks: N rows of S numbers
-abbrev pub order_lines : Level → List ℕ → ℕ → List (List ℕ) → List Words
-order_lines level order sessions clocks =
-    (codes "order" ∷ decimal (length order) ∷ decimal sessions ∷ [])
-    ∷ numbers_words order
-    ∷ (clocks_lines level clocks ++ (codes "end" ∷ []) ∷ [])
+abbrev pub order_lines : OrderClaim → List Words
+order_lines k =
+    (codes "order" ∷ decimal (length k.order) ∷ decimal k.sessions ∷ [])
+    ∷ numbers_words k.order
+    ∷ (clocks_lines k.level k.clocks ++ (codes "end" ∷ []) ∷ [])
 
 -- `cycle N M L`, the M links, and two tables of N rows
-abbrev pub cycle_lines : List Link → ℕ → List (List ℕ) → List (List ℕ) → List Words
-cycle_lines links least near far =
-    (codes "cycle" ∷ decimal (length near) ∷ decimal (length links) ∷ decimal least ∷ [])
-    ∷ (flat_map link_lines links
+abbrev pub cycle_lines : CycleClaim → List Words
+cycle_lines k =
+    (codes "cycle" ∷ decimal (length k.near) ∷ decimal (length k.links) ∷ decimal k.least ∷ [])
+    ∷ (flat_map link_lines k.links
     ++ (codes "near" ∷ [])
-    ∷ (table_lines near
+    ∷ (table_lines k.near
     ++ (codes "far" ∷ [])
-    ∷ (table_lines far
+    ∷ (table_lines k.far
     ++ (codes "end" ∷ []) ∷ [])))
 
 -- the first line, and those after it
 abbrev pub header_of : Certificate → Words
-header_of (claim.Order version level order sessions clocks) = header_words version level
-header_of (claim.Cycle version level links least near far) = header_words version level
+header_of (claim.Order k) = header_words k.version k.level
+header_of (claim.Cycle k) = header_words k.version k.level
 
 abbrev pub claim_lines : Certificate → List Words
-claim_lines (claim.Order version level order sessions clocks) = order_lines level order sessions clocks
-claim_lines (claim.Cycle version level links least near far) = cycle_lines links least near far
+claim_lines (claim.Order k) = order_lines k
+claim_lines (claim.Cycle k) = cycle_lines k
 
 abbrev pub lines_text : List Words → List ℕ
 lines_text lines = flat_map line_text lines
@@ -123,11 +123,11 @@ abbrev pub HasClocksText : Version → Level → ℕ → ℕ → List (List ℕ)
 HasClocksText version Causal transactions sessions clocks = HasTableText transactions (λ t. sessions) (ranges_of version).number clocks
 HasClocksText version Atomic transactions sessions clocks = clocks ≡ []
 
-pub record HasOrderText (version : Version) (k : OrderClaim) : Type 0 where
-  pub count : IsCount version (length k.order)
-  pub numbers : All (IsNumber version) k.order
-  pub sessions : k.sessions ≤ (ranges_of version).sessions
-  pub clocks : HasClocksText version k.level (length k.order) k.sessions k.clocks
+pub record HasOrderText (k : OrderClaim) : Type 0 where
+  pub count : IsCount k.version (length k.order)
+  pub numbers : All (IsNumber k.version) k.order
+  pub sessions : k.sessions ≤ (ranges_of k.version).sessions
+  pub clocks : HasClocksText k.version k.level (length k.order) k.sessions k.clocks
 
 pub record HasCycleText (k : CycleClaim) : Type 0 where
   pub count : IsCount k.version (length k.near)
@@ -139,7 +139,5 @@ pub record HasCycleText (k : CycleClaim) : Type 0 where
 
 -- the values that have a text
 abbrev pub HasText : Certificate → Type 0
-HasText (claim.Order version level order sessions clocks) =
-    HasOrderText version (record { level = level; order = order; sessions = sessions; clocks = clocks })
-HasText (claim.Cycle version level links least near far) =
-    HasCycleText (record { version = version; level = level; links = links; least = least; near = near; far = far })
+HasText (claim.Order k) = HasOrderText k
+HasText (claim.Cycle k) = HasCycleText k

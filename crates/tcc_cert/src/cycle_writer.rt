@@ -1,9 +1,9 @@
 //! A certificate of a cycle that goes out row by row, so that nobody has to hold its tables.
 ghost use Rattle.std.specs.Prelude.{◌≡◌, ◌≢◌, ℕ, List, [], ◌∷◌, ◌++◌, Option, Result, Err, IsErr, OnOk, OnErr, IfOk, IsOk, take, codes, length};
 ghost use Rattle.std.specs.Io.KnownBytes.{Appends, Keeps};
-ghost use Rattle.tcc_cert.specs.declared.certificate.Certificate.TheVariants as claim;
-ghost use Rattle.tcc_cert.specs.declared.fault.WriteFault.TheVariants.{Device};
-ghost use Rattle.tcc_cert.specs.CycleRules.{CycleClaim};
+ghost use Rattle.tcc_cert.specs.declared.certificate.Certificate.TheVariants.{Cycle};
+ghost use Rattle.tcc_cert.specs.declared.certificate.CycleClaim.{CycleClaim};
+ghost use Rattle.tcc_cert.specs.declared.fault.CertWriteFault.TheVariants.{Device};
 ghost use Rattle.tcc_cert.specs.Texts.{line_text, lines_text, numbers_words, certificate_text};
 ghost use Rattle.tcc_cert.specs.Begun.{begun_lines, given_lines, with_near, with_far};
 ghost use Rattle.tcc_cert.specs.private.Writing.{far_mark, IsSent};
@@ -11,12 +11,12 @@ ghost use Rattle.tcc_cert.specs.Given.{Sends};
 
 use crate::lines::{line, number_line};
 use crate::outgoing::Outgoing;
-use crate::writing::{cycle_sizes, header_line, links};
-use crate::{Links, Table, Version, WriteFault};
+use crate::writing::{cycle_sizes, header_line, link_lines};
+use crate::{CertWriteFault, CycleClaim, Links, Table, Version};
 use std::io::{self, Write};
 use tcc_graph::Level;
 
-/// Which row may come next.
+/// How far the writing has come: which row may come next.
 #[derive(Clone, Copy)]
 enum Stage {
     /// One of `near`, or the first of `far`.
@@ -45,37 +45,6 @@ impl<W: Write> Drop for CycleWriter<'_, W> {
             stage: _,
         } = self;
     }
-}
-
-/// What a claim of a cycle says beside its tables.
-#[derive(Drop)]
-pub(crate) struct CycleHead<'c> {
-    pub(crate) version: Version,
-    pub(crate) level: Level,
-    pub(crate) links: &'c Links,
-    pub(crate) least: u32,
-}
-
-/// The lines before the rows, of which each table has `count`.
-fn first_lines<W: Write>(
-    outgoing: &mut Outgoing,
-    out: &mut W,
-    head: &CycleHead,
-    count: usize,
-) -> io::Result<()>
-    ensures { IsSent result (W.contents out.old) outgoing.old (W.contents out.new) outgoing.new
-        (lines_text (begun_lines head.now.version head.now.level count head.now.links.now head.now.least)) }
-{
-    header_line(outgoing, out, head.version, head.level)?;
-    cycle_sizes(
-        outgoing,
-        out,
-        count,
-        head.links.as_slice().len(),
-        head.least,
-    )?;
-    links(outgoing, out, head.links)?;
-    line(outgoing, out, b"near", &[])
 }
 
 /// The line behind the rows, and all that still waits.
@@ -116,20 +85,18 @@ pub fn write_first_lines<W: Write>(
     count: usize,
     links: &Links,
     least: u32,
-) -> Result<Outgoing, WriteFault>
+) -> Result<Outgoing, CertWriteFault>
     ensures whole { IfOk result (λ waiting. Sends (W.contents out.old) [] (W.contents out.new) waiting
         (lines_text (begun_lines version level count links.now least))) }
     ensures part { OnErr result ((n : ℕ) × Appends (W.contents out.old) (W.contents out.new)
         (take n (lines_text (begun_lines version level count links.now least)))) }
 {
-    let head = CycleHead {
-        version,
-        level,
-        links,
-        least,
-    };
     let mut outgoing = Outgoing::new();
-    first_lines(&mut outgoing, out, &head, count)?;
+    header_line(&mut outgoing, out, version, level)?;
+    let many = links.as_slice().len();
+    cycle_sizes(&mut outgoing, out, count, many, least)?;
+    link_lines(&mut outgoing, out, links)?;
+    line(&mut outgoing, out, b"near", &[])?;
     Ok(outgoing)
 }
 
@@ -162,24 +129,17 @@ impl<'w, W: Write> CycleWriter<'w, W> {
         count: usize,
         links: &Links,
         least: u32,
-    ) -> Result<CycleWriter<'w, W>, WriteFault>
+    ) -> Result<CycleWriter<'w, W>, CertWriteFault>
         ensures same_reference { IfOk result (λ writer. writer.out.ghost_name ≡ out.entry.ghost_name) }
         ensures begun { IfOk result (HasTaken W.contents (W.contents out.old) count
             (record { version = version; level = level; links = links.now; least = least; near = []; far = [] })) }
     {
-        let head = CycleHead {
-            version,
-            level,
-            links,
-            least,
-        };
-        let mut outgoing = Outgoing::new();
-        first_lines(&mut outgoing, out, &head, count)?;
+        let outgoing = write_first_lines(out, version, level, count, links, least)?;
         Ok(CycleWriter::behind(out, outgoing))
     }
 
     /// Keeps in mind whether it was sent.
-    fn note(&mut self, sent: io::Result<()>) -> Result<(), WriteFault>
+    fn note(&mut self, sent: io::Result<()>) -> Result<(), CertWriteFault>
         ensures out { self.new.out ≡ self.old.out }
         ensures outgoing { self.new.outgoing ≡ self.old.outgoing }
         ensures ok { OnOk result (IsOk sent) }
@@ -191,13 +151,13 @@ impl<'w, W: Write> CycleWriter<'w, W> {
             Ok(()) => Ok(()),
             Err(_) => {
                 self.stage = Stage::Failed;
-                Err(WriteFault::Device)
+                Err(CertWriteFault::Device)
             }
         }
     }
 
     /// The next row of `near`: as many numbers as there are transactions.
-    pub fn near_row(&mut self, row: &[u32]) -> Result<(), WriteFault>
+    pub fn near_row(&mut self, row: &[u32]) -> Result<(), CertWriteFault>
         ensures same_reference { self.new.out.ghost_name ≡ self.old.out.ghost_name }
         ensures whole { (before : Option (List ℕ)) (count : ℕ) (k : CycleClaim) → HasTaken W.contents before count k self.old → k.far ≡ []
             → OnOk result (HasTaken W.contents before count (with_near k row.now) self.new) }
@@ -207,14 +167,14 @@ impl<'w, W: Write> CycleWriter<'w, W> {
         ensures stays_failed { HasFailed self.old → (result ≡ Err Device) × Keeps (W.contents self.old.out.now) (W.contents self.new.out.now) }
     {
         if let Stage::Failed = self.stage {
-            return Err(WriteFault::Device);
+            return Err(CertWriteFault::Device);
         }
         let sent = number_line(&mut self.outgoing, self.out, row);
         self.note(sent)
     }
 
     /// The line before the rows of `far`, if it did not go out yet.
-    fn mark_far(&mut self) -> Result<(), WriteFault>
+    fn mark_far(&mut self) -> Result<(), CertWriteFault>
         ensures same_reference { self.new.out.ghost_name ≡ self.old.out.ghost_name }
         ensures sent { self.old.stage ≢ Stage.Failed
             → IsSent result (W.contents self.old.out.now) self.old.outgoing (W.contents self.new.out.now) self.new.outgoing (far_mark self.old.stage) }
@@ -230,13 +190,13 @@ impl<'w, W: Write> CycleWriter<'w, W> {
                 Ok(())
             }
             Stage::Far => Ok(()),
-            Stage::Failed => Err(WriteFault::Device),
+            Stage::Failed => Err(CertWriteFault::Device),
         }
     }
 
     /// The next row of `far`: in version 1 as many numbers as there are transactions, in version 2 as many as from the
     /// row's own on.
-    pub fn far_row(&mut self, row: &[u32]) -> Result<(), WriteFault>
+    pub fn far_row(&mut self, row: &[u32]) -> Result<(), CertWriteFault>
         ensures same_reference { self.new.out.ghost_name ≡ self.old.out.ghost_name }
         ensures whole { (before : Option (List ℕ)) (count : ℕ) (k : CycleClaim) → HasTaken W.contents before count k self.old
             → OnOk result (HasTaken W.contents before count (with_far k row.now) self.new) }
@@ -255,12 +215,12 @@ impl<'w, W: Write> CycleWriter<'w, W> {
     }
 
     /// The end: where all rows came, the whole text went out.
-    pub fn end(self) -> Result<(), WriteFault>
+    pub fn end(self) -> Result<(), CertWriteFault>
         ensures whole { (before : Option (List ℕ)) (k : CycleClaim) → HasTaken W.contents before (length k.near) k self.entry
-            → OnOk result (Appends before (W.contents self.exit.0.now) (certificate_text (claim.Cycle k.version k.level k.links k.least k.near k.far))) }
+            → OnOk result (Appends before (W.contents self.exit.0.now) (certificate_text (Cycle k))) }
         ensures part { (before : Option (List ℕ)) (k : CycleClaim) → HasTaken W.contents before (length k.near) k self.entry
             → OnErr result ((n : ℕ) × Appends before (W.contents self.exit.0.now)
-            (take n (certificate_text (claim.Cycle k.version k.level k.links k.least k.near k.far)))) }
+            (take n (certificate_text (Cycle k)))) }
         ensures stays_failed { HasFailed self.entry → (result ≡ Err Device) × Keeps (W.contents self.entry.out.now) (W.contents self.exit.0.now) }
     {
         let CycleWriter {
@@ -269,14 +229,14 @@ impl<'w, W: Write> CycleWriter<'w, W> {
             stage,
         } = self;
         if let Stage::Failed = stage {
-            return Err(WriteFault::Device);
+            return Err(CertWriteFault::Device);
         }
         close(&mut outgoing, out, stage)?;
         Ok(())
     }
 
     /// All rows of `near`.
-    fn near_table(&mut self, table: &Table) -> Result<(), WriteFault>
+    fn near_table(&mut self, table: &Table) -> Result<(), CertWriteFault>
         ensures same_reference { self.new.out.ghost_name ≡ self.old.out.ghost_name }
         ensures whole { (before : Option (List ℕ)) (count : ℕ) (k : CycleClaim) → HasTaken W.contents before count k self.old → k.near ≡ [] → k.far ≡ []
             → OnOk result (HasTaken W.contents before count (record k { near = table.now }) self.new) }
@@ -290,7 +250,7 @@ impl<'w, W: Write> CycleWriter<'w, W> {
     }
 
     /// All rows of `far`.
-    fn far_table(&mut self, table: &Table) -> Result<(), WriteFault>
+    fn far_table(&mut self, table: &Table) -> Result<(), CertWriteFault>
         ensures same_reference { self.new.out.ghost_name ≡ self.old.out.ghost_name }
         ensures whole { (before : Option (List ℕ)) (count : ℕ) (k : CycleClaim) → HasTaken W.contents before count k self.old → k.far ≡ []
             → OnOk result (HasTaken W.contents before count (record k { far = table.now }) self.new) }
@@ -305,21 +265,21 @@ impl<'w, W: Write> CycleWriter<'w, W> {
 }
 
 /// Writes a claim of a cycle whose tables are there.
-pub(crate) fn write_cycle<W: Write>(
-    out: &mut W,
-    head: &CycleHead,
-    near: &Table,
-    far: &Table,
-) -> Result<(), WriteFault>
-    ensures whole { OnOk result (Appends (W.contents out.old) (W.contents out.new) (certificate_text
-        (claim.Cycle head.now.version head.now.level head.now.links.now head.now.least near.now far.now))) }
-    ensures part { OnErr result ((n : ℕ) × Appends (W.contents out.old) (W.contents out.new) (take n (certificate_text
-        (claim.Cycle head.now.version head.now.level head.now.links.now head.now.least near.now far.now)))) }
+pub(crate) fn write_cycle<W: Write>(out: &mut W, claim: &CycleClaim) -> Result<(), CertWriteFault>
+    ensures whole { OnOk result (Appends (W.contents out.old) (W.contents out.new) (certificate_text (Cycle claim.now))) }
+    ensures part { OnErr result ((n : ℕ) × Appends (W.contents out.old) (W.contents out.new) (take n (certificate_text (Cycle claim.now)))) }
 {
-    let mut outgoing = Outgoing::new();
-    first_lines(&mut outgoing, out, head, near.rows().len())?;
-    let mut writer = CycleWriter::behind(out, outgoing);
-    writer.near_table(near)?;
-    writer.far_table(far)?;
+    let count = claim.near.rows().len();
+    let begun = write_first_lines(
+        out,
+        claim.version,
+        claim.level,
+        count,
+        &claim.links,
+        claim.least,
+    )?;
+    let mut writer = CycleWriter::behind(out, begun);
+    writer.near_table(&claim.near)?;
+    writer.far_table(&claim.far)?;
     writer.end()
 }

@@ -5,9 +5,9 @@ ghost use Rattle.tcc_cert.specs.declared.digits.TheConstants.{NUMBER_BYTES};
 ghost use Rattle.tcc_cert.specs.declared.outgoing.TheConstants.{OUTGOING_BYTES};
 
 use crate::digits::{NUMBER_BYTES, set_numbers};
-use crate::sending::write_out;
 use std::io::{self, Write};
 use std::marker::Model;
+use tcc_sending::write_out;
 
 /// So many bytes are gathered before a write.
 const OUTGOING_BYTES: usize = 8192;

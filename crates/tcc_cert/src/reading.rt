@@ -3,7 +3,7 @@ ghost use Rattle.std.specs.Prelude.{◌≡◌, ◌<◌, ◌++◌, ◌∷◌, ℕ
 ghost use Rattle.tcc_cert.specs.Ahead.{IsAhead, is_new, line_wanted};
 ghost use Rattle.tcc_cert.specs.private.Collecting.{Collects, HasRow};
 ghost use Rattle.tcc_cert.specs.private.Inputs.{AsBefore, Gives};
-ghost use Rattle.tcc_cert.specs.WindowBytes.{IsAt};
+ghost use Rattle.tcc_cert.specs.InputBytes.{IsAt};
 ghost use Rattle.tcc_cert.specs.declared.ranges.TheConstants.{MAX_HEADER_BYTES};
 ghost use Rattle.tcc_cert.specs.Outcomes.{IsReading};
 ghost use Rattle.tcc_cert.specs.private.Showing.{Shows};
@@ -124,7 +124,7 @@ fn keep<R: Read>(parts: &CertReader<R>, tables: &mut Tables, part: Part) -> Resu
         Part::Clocks(row) => push(parts, &mut tables.clocks, row),
         Part::Near(row) => push(parts, &mut tables.near, row),
         Part::Far(row) => push(parts, &mut tables.far, row),
-        Part::Order { .. } | Part::Cycle { .. } | Part::End => Ok(()),
+        Part::Order(_) | Part::Cycle(_) | Part::End => Ok(()),
     }
 }
 
@@ -154,42 +154,16 @@ fn whole<R: Read>(alloc: Global, parts: &mut CertReader<R>) -> Result<Certificat
     ensures { (bytes : List ℕ) → IsAhead R.remaining parts.old (parts_read bytes) → IsReading bytes result }
 {
     match parts.next(alloc)? {
-        Part::Order {
-            version,
-            level,
-            order,
-            sessions,
-        } => {
-            let Tables { clocks, .. } = collect(alloc, parts)?;
-            Ok(Certificate::Order {
-                version,
-                level,
-                order,
-                sessions,
-                clocks: Table::new(clocks),
-            })
+        Part::Order(head) => {
+            let tables = collect(alloc, parts)?;
+            Ok(Certificate::Order(head.with_clocks(Table::new(tables.clocks))))
         }
-        Part::Cycle {
-            version,
-            level,
-            count: _,
-            links: _,
-            least,
-        } => {
-            let Tables {
-                links,
-                near,
-                far,
-                ..
-            } = collect(alloc, parts)?;
-            Ok(Certificate::Cycle {
-                version,
-                level,
-                links: Links::new(links),
-                least,
-                near: Table::new(near),
-                far: Table::new(far),
-            })
+        Part::Cycle(head) => {
+            let tables = collect(alloc, parts)?;
+            let links = Links::new(tables.links);
+            let near = Table::new(tables.near);
+            let far = Table::new(tables.far);
+            Ok(Certificate::Cycle(head.with_tables(links, near, far)))
         }
         Part::Link(_) | Part::Clocks(_) | Part::Near(_) | Part::Far(_) | Part::End => {
             unreachable!()

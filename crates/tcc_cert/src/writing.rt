@@ -3,14 +3,14 @@ ghost use Rattle.std.specs.Prelude.{◌≡◌, ℕ, List, [], ◌∷◌, ◌++�
 ghost use Rattle.std.specs.Io.KnownBytes.{Appends};
 ghost use Rattle.tcc_graph.specs.declared.step.Step.TheVariants as step;
 ghost use Rattle.tcc_graph.specs.declared.link.Link.TheVariants as link;
-ghost use Rattle.tcc_cert.specs.declared.certificate.Certificate.TheVariants as claim;
+ghost use Rattle.tcc_cert.specs.declared.certificate.Certificate.TheVariants.{Order};
 ghost use Rattle.tcc_cert.specs.private.Writing.{IsSent};
 ghost use Rattle.tcc_cert.specs.Texts.{line_text, lines_text, step_words, link_lines, header_words, clocks_lines, order_lines, certificate_text};
 
-use crate::cycle_writer::{CycleHead, write_cycle};
+use crate::cycle_writer::write_cycle;
 use crate::lines::{line, number_line, table};
 use crate::outgoing::Outgoing;
-use crate::{Certificate, Links, Numbers, Table, Version, WriteFault};
+use crate::{CertWriteFault, Certificate, Links, OrderClaim, Table, Version};
 use itoa::Buffer;
 use std::io::{self, Write};
 use tcc_graph::{Level, Link, Step};
@@ -112,7 +112,11 @@ fn link<W: Write>(outgoing: &mut Outgoing, out: &mut W, link: &Link) -> io::Resu
 }
 
 /// The lines of each link.
-pub(crate) fn links<W: Write>(outgoing: &mut Outgoing, out: &mut W, links: &Links) -> io::Result<()>
+pub(crate) fn link_lines<W: Write>(
+    outgoing: &mut Outgoing,
+    out: &mut W,
+    links: &Links,
+) -> io::Result<()>
     ensures { IsSent result (W.contents out.old) outgoing.old (W.contents out.new) outgoing.new (lines_text (flat_map link_lines links.now)) }
 {
     for one in links.as_slice() {
@@ -159,19 +163,13 @@ fn clocks<W: Write>(
 }
 
 /// What a claim of an order says after the first line.
-fn order<W: Write>(
-    outgoing: &mut Outgoing,
-    out: &mut W,
-    level: Level,
-    order: &Numbers,
-    sessions: u32,
-    rows: &Table,
-) -> io::Result<()>
-    ensures { IsSent result (W.contents out.old) outgoing.old (W.contents out.new) outgoing.new (lines_text (order_lines level order.now sessions rows.now)) }
+fn order<W: Write>(outgoing: &mut Outgoing, out: &mut W, claim: &OrderClaim) -> io::Result<()>
+    ensures { IsSent result (W.contents out.old) outgoing.old (W.contents out.new) outgoing.new (lines_text (order_lines claim.now)) }
 {
-    order_sizes(outgoing, out, order.as_slice().len(), sessions)?;
-    number_line(outgoing, out, order.as_slice())?;
-    clocks(outgoing, out, level, rows)?;
+    let order = claim.order.as_slice();
+    order_sizes(outgoing, out, order.len(), claim.sessions)?;
+    number_line(outgoing, out, order)?;
+    clocks(outgoing, out, claim.level, &claim.clocks)?;
     line(outgoing, out, b"end", &[])
 }
 
@@ -230,57 +228,27 @@ pub(crate) fn header_line<W: Write>(
 }
 
 /// Writes a claim of an order.
-fn write_order<W: Write>(
-    out: &mut W,
-    version: Version,
-    level: Level,
-    numbers: &Numbers,
-    sessions: u32,
-    clocks: &Table,
-) -> io::Result<()>
-    ensures whole { OnOk result
-        (Appends (W.contents out.old) (W.contents out.new) (certificate_text (claim.Order version level numbers.now sessions clocks.now))) }
-    ensures part { OnErr result ((n : ℕ) × Appends (W.contents out.old) (W.contents out.new)
-        (take n (certificate_text (claim.Order version level numbers.now sessions clocks.now)))) }
+fn write_order<W: Write>(out: &mut W, claim: &OrderClaim) -> io::Result<()>
+    ensures whole { OnOk result (Appends (W.contents out.old) (W.contents out.new) (certificate_text (Order claim.now))) }
+    ensures part { OnErr result ((n : ℕ) × Appends (W.contents out.old) (W.contents out.new) (take n (certificate_text (Order claim.now)))) }
 {
     let mut outgoing = Outgoing::new();
-    header_line(&mut outgoing, out, version, level)?;
-    order(&mut outgoing, out, level, numbers, sessions, clocks)?;
+    header_line(&mut outgoing, out, claim.version, claim.level)?;
+    order(&mut outgoing, out, claim)?;
     outgoing.finish(out)
 }
 
 /// Writes the text of the certificate. Where a write fails, a part of the text, from its front, went out; an
 /// interrupted write and one that takes no bytes are failures too.
-pub fn write<W: Write>(certificate: &Certificate, out: &mut W) -> Result<(), WriteFault>
+pub fn write<W: Write>(certificate: &Certificate, out: &mut W) -> Result<(), CertWriteFault>
     ensures whole { OnOk result (Appends (W.contents out.old) (W.contents out.new) (certificate_text certificate.now)) }
     ensures part { OnErr result ((n : ℕ) × Appends (W.contents out.old) (W.contents out.new) (take n (certificate_text certificate.now))) }
 {
     match certificate {
-        Certificate::Order {
-            version,
-            level,
-            order,
-            sessions,
-            clocks,
-        } => {
-            write_order(out, *version, *level, order, *sessions, clocks)?;
+        Certificate::Order(claim) => {
+            write_order(out, claim)?;
             Ok(())
         }
-        Certificate::Cycle {
-            version,
-            level,
-            links,
-            least,
-            near,
-            far,
-        } => {
-            let head = CycleHead {
-                version: *version,
-                level: *level,
-                links,
-                least: *least,
-            };
-            write_cycle(out, &head, near, far)
-        }
+        Certificate::Cycle(claim) => write_cycle(out, claim),
     }
 }

@@ -19,8 +19,9 @@ use Rattle.tcc_graph.specs.declared.link.Link.TheVariants as link
 use Rattle.tcc_cert.specs.declared.version.Version.{Version}
 use Rattle.tcc_cert.specs.declared.version.Version.TheVariants as version
 use Rattle.tcc_cert.specs.Tables.{entry, lowest, far_entry}
-use Rattle.tcc_cert.specs.CycleRules.{CycleClaim, IsLinkRight, ends_at}
+use Rattle.tcc_cert.specs.CycleRules.{IsLinkRight, ends_at}
 use Rattle.tcc_cert.specs.Rules.{CertifiesCycle}
+use Rattle.tcc_cert.specs.declared.certificate.CycleClaim.{CycleClaim}
 use Rattle.tcc_check.proofs.Decisions.{true_at_last, link_right}
 use Rattle.tcc_cert.proofs.Ends.{ends_at-push, ends_at_some}
 use Rattle.tcc_graph.proofs.Pairs.{step_pair, pair_below, link_below}

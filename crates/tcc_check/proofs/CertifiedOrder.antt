@@ -12,8 +12,9 @@ use Rattle.tcc_graph.specs.declared.level.Level.{Level}
 use Rattle.tcc_graph.specs.declared.level.Level.TheVariants as level
 use Rattle.tcc_graph.specs.declared.step.Step.{Step}
 use Rattle.tcc_cert.specs.Tables.{entry, HasSize}
-use Rattle.tcc_cert.specs.OrderRules.{OrderClaim, HasClocks, MayReach}
+use Rattle.tcc_cert.specs.OrderRules.{HasClocks, MayReach}
 use Rattle.tcc_cert.specs.Rules.{CertifiesOrder}
+use Rattle.tcc_cert.specs.declared.certificate.OrderClaim.{OrderClaim}
 use Rattle.tcc_graph.proofs.Pairs.{step_pair}
 use Rattle.tcc_check.proofs.Entries.{entry_past}
 use Rattle.tcc_graph.proofs.Numberings.{order_of_two}

@@ -1,10 +1,10 @@
 -- A certified claim is true, a certificate is certified exactly where all its rules hold, and a rejected one is not.
 use Rattle.std.proofs.Common.{ℕ, inl, inr, List, [], ◌∷◌}
 use Rattle.tcc_reads.specs.History.{History}
-use Rattle.tcc_cert.specs.CycleRules.{CycleClaim}
 use Rattle.tcc_cert.specs.Rules.{IsRightCycle, Certifies}
 use Rattle.tcc_cert.specs.declared.certificate.Certificate.{Certificate}
 use Rattle.tcc_cert.specs.declared.certificate.Certificate.TheVariants as claim
+use Rattle.tcc_cert.specs.declared.certificate.CycleClaim.{CycleClaim}
 use Rattle.tcc_check.specs.declared.verdict.Rule.{Rule}
 use Rattle.tcc_check.specs.declared.verdict.Verdict.{Verdict}
 use Rattle.tcc_check.specs.declared.verdict.Verdict.TheVariants as verdict
@@ -14,21 +14,19 @@ use Rattle.tcc_check.proofs.CertifiedCycle.{least_cycle}
 use Rattle.tcc_check.proofs.CertifiedOrder.{commit_order}
 
 pub true_claim : (h : History) (k : Certificate) → Certifies h k → IsTrueClaim h k
-true_claim h (claim.Order version level order sessions clocks) good =
-    commit_order h (record { level = level; order = order; sessions = sessions; clocks = clocks }) good
-true_claim h (claim.Cycle version level links least near far) good =
-    least_cycle h (record { version = version; level = level; links = links; least = least; near = near; far = far }) good
+true_claim h (claim.Order k) good = commit_order h k good
+true_claim h (claim.Cycle k) good = least_cycle h k good
 
 -- ---- the rules in a list, and as one record
 
 pub all_hold : (h : History) (k : Certificate) → Certifies h k → AllHold (rules_of h k)
-all_hold h (claim.Order version level order sessions clocks) good = (good.sizes, (good.pairs, (good.axiom_of, tt)))
-all_hold h (claim.Cycle version level links least near far) good =
+all_hold h (claim.Order k) good = (good.sizes, (good.pairs, (good.axiom_of, tt)))
+all_hold h (claim.Cycle k) good =
     (good.sizes, (good.cycle, (good.near_pairs, (good.near_steps, (good.far_links, (good.far_steps, (good.returns, tt)))))))
 
 pub certified_by : (h : History) (k : Certificate) → AllHold (rules_of h k) → Certifies h k
-certified_by h (claim.Order version level order sessions clocks) all = record { sizes = all.0; pairs = all.1.0; axiom_of = all.1.1.0 }
-certified_by h (claim.Cycle version level links least near far) all = record {
+certified_by h (claim.Order k) all = record { sizes = all.0; pairs = all.1.0; axiom_of = all.1.1.0 }
+certified_by h (claim.Cycle k) all = record {
   sizes = all.0;
   cycle = all.1.0;
   near_pairs = all.1.1.0;
@@ -60,11 +58,11 @@ fault_false h k at (inl f) right = right.right at.0 f.0
 fault_false h k at (inr f) right = f.1.1 right
 
 plain : (h : History) (k : Certificate) → ArePlain (rules_of h k)
-plain h (claim.Order version level order sessions clocks) = (λ at b. b.1, (λ at b. b.1, (λ at b holds. holds at b.here, tt)))
-plain h (claim.Cycle version level links least near far) = (
+plain h (claim.Order k) = (λ at b. b.1, (λ at b. b.1, (λ at b holds. holds at b.here, tt)))
+plain h (claim.Cycle k) = (
   λ at b. b.1,
   (
-    fault_false h (record { version = version; level = level; links = links; least = least; near = near; far = far }),
+    fault_false h k,
     (
       λ at b holds. holds at b.here,
       (λ at b holds. holds at b.here, (λ at b holds. holds at b.here, (λ at b holds. holds at b.here, (λ at b holds. holds at b.here, tt)))),

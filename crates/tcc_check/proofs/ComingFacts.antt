@@ -43,8 +43,8 @@ fails-back ahead rest (Text fault) line same (inr cut, kind) =
 -- it leaves the line of the end and the fault
 pub first-ends : (given : Part) (ahead rest : Parts) → IsFirst given ahead rest → (rest.line ≡ ahead.line) × (rest.fault ≡ ahead.fault)
 first-ends part.End ahead rest is = (ap (λ p. p.line) is.1, ap (λ p. p.fault) is.1)
-first-ends (part.Order v l o s) ahead rest is = (sym (ap (λ p. p.line) is), sym (ap (λ p. p.fault) is))
-first-ends (part.Cycle v l c ls n) ahead rest is = (sym (ap (λ p. p.line) is), sym (ap (λ p. p.fault) is))
+first-ends (part.Order head) ahead rest is = (sym (ap (λ p. p.line) is), sym (ap (λ p. p.fault) is))
+first-ends (part.Cycle head) ahead rest is = (sym (ap (λ p. p.line) is), sym (ap (λ p. p.fault) is))
 first-ends (part.Link one) ahead rest is = (sym (ap (λ p. p.line) is), sym (ap (λ p. p.fault) is))
 first-ends (part.Clocks row) ahead rest is = (sym (ap (λ p. p.line) is), sym (ap (λ p. p.fault) is))
 first-ends (part.Near row) ahead rest is = (sym (ap (λ p. p.line) is), sym (ap (λ p. p.fault) is))
@@ -60,8 +60,8 @@ first-fault given ahead rest is = (first-ends given ahead rest is).1
 pub first-parts : (given : Part) (ahead rest : Parts) → IsFirst given ahead rest
     → ((given ≡ part.End) × (ahead.parts ≡ []) × (ahead.fault ≡ None)) ⊎ (ahead.parts ≡ given ∷ rest.parts)
 first-parts part.End ahead rest is = inl (refl, ap (λ p. p.parts) is.0, ap (λ p. p.fault) is.0)
-first-parts (part.Order v l o s) ahead rest is = inr (ap (λ p. p.parts) is)
-first-parts (part.Cycle v l c ls n) ahead rest is = inr (ap (λ p. p.parts) is)
+first-parts (part.Order head) ahead rest is = inr (ap (λ p. p.parts) is)
+first-parts (part.Cycle head) ahead rest is = inr (ap (λ p. p.parts) is)
 first-parts (part.Link one) ahead rest is = inr (ap (λ p. p.parts) is)
 first-parts (part.Clocks row) ahead rest is = inr (ap (λ p. p.parts) is)
 first-parts (part.Near row) ahead rest is = inr (ap (λ p. p.parts) is)

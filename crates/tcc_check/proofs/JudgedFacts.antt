@@ -3,27 +3,27 @@ use Rattle.std.proofs.Common.{◌≡◌, ◌↔◌, ℕ, Bool, true, false, List
 use Rattle.std.specs.Prelude.{IsTrue, MatchOption, map}
 use Rattle.std.proofs.lemmas.Bool.{false≢true}
 use Rattle.tcc_reads.specs.History.{History}
-use Rattle.tcc_graph.specs.declared.level.Level.{Level}
-use Rattle.tcc_cert.specs.CycleRules.{CycleClaim, HasRightSizes}
-use Rattle.tcc_cert.specs.Parts.{Parts, after_part, parts_of, parts_read}
+use Rattle.tcc_cert.specs.CycleRules.{HasRightSizes}
+use Rattle.tcc_cert.specs.Parts.{Parts, after_part, cycle_head, order_head, parts_of, parts_read, with_clocks, with_tables}
 use Rattle.tcc_cert.specs.declared.certificate.Certificate.{Certificate}
 use Rattle.tcc_cert.specs.declared.certificate.Certificate.TheVariants as certificate
+use Rattle.tcc_cert.specs.declared.certificate.CycleClaim.{CycleClaim}
+use Rattle.tcc_cert.specs.declared.part.CycleHead.{CycleHead}
+use Rattle.tcc_cert.specs.declared.part.OrderHead.{OrderHead}
 use Rattle.tcc_cert.specs.declared.part.Part.{Part}
 use Rattle.tcc_cert.specs.declared.part.Part.TheVariants as part
-use Rattle.tcc_cert.specs.declared.version.Version.{Version}
 use Rattle.tcc_cert.proofs.CollectFacts.{ends-read}
 use Rattle.tcc_cert.proofs.PartFacts.{read-whole}
 use Rattle.tcc_check.specs.declared.judgement.Claim.TheVariants as claim
 use Rattle.tcc_check.specs.declared.judgement.Judgement.{Judgement}
 use Rattle.tcc_check.specs.declared.stream_fault.StreamFault.{StreamFault}
 use Rattle.tcc_check.specs.declared.stream_fault.StreamFault.TheVariants.{Text, NoMemory}
-use Rattle.tcc_check.specs.declared.streaming.CycleHead.{CycleHead}
 use Rattle.tcc_check.specs.declared.verdict.Rule.TheVariants.{Sizes}
 use Rattle.tcc_check.specs.declared.verdict.Verdict.{Verdict}
 use Rattle.tcc_check.specs.private.Coming.{FailsAs, Finishes, sized}
 use Rattle.tcc_check.specs.private.Judged.{IsClaimJudged, IsCycleJudged, IsOrderJudged, claim_rules}
 use Rattle.tcc_check.specs.Streams.{IsJudged, IsStreamFault, claim_of}
-use Rattle.tcc_check.specs.Verdicts.{IsVerdict, as_whole, cycle_rules}
+use Rattle.tcc_check.specs.Verdicts.{IsVerdict, as_whole, cycle_rules, order_rules}
 use Rattle.tcc_check.specs.private.Searches.{IsAnswer}
 use Rattle.tcc_check.proofs.Asked.{answer_later}
 use Rattle.tcc_check.proofs.Claims.{verdict_of}
@@ -61,29 +61,28 @@ sized-answer h k rest (Some answer) false judged end = inl (refl, (refl, λ righ
 sized-answer h k rest None at_once wrong end = inl (refl, (refl, wrong))
 
 -- the verdict on the parts of a certificate is that on the certificate
-pub order-judged : (h : History) (c : Certificate) (version : Version) (level : Level) (order : List ℕ) (sessions : ℕ) (rest : Parts) (judgement : Judgement)
-    → part.Order version level order sessions ∷ rest.parts ≡ parts_of c → IsOrderJudged h level order sessions rest judgement
+pub order-judged : (h : History) (c : Certificate) (head : OrderHead) (rest : Parts) (judgement : Judgement)
+    → part.Order head ∷ rest.parts ≡ parts_of c → IsOrderJudged h head rest judgement
     → (judgement.claim ≡ claim_of c) × IsVerdict h c judgement.verdict
-order-judged h (certificate.Order v l o s cs) version level order sessions rest judgement is said =
-    let tail : rest.parts ≡ map part.Clocks cs = cc in
-    let whole : certificate.Order v l o s cs ≡ certificate.Order version level order sessions cs = cc in (
+order-judged h (certificate.Order k) head rest judgement is said =
+    let tail : rest.parts ≡ map part.Clocks k.clocks = cc in
+    let same : head ≡ order_head k = cc in (
       said.same,
-      subst (λ c. IsVerdict h c judgement.verdict) (sym whole)
-          (verdict_of h (certificate.Order version level order sessions cs) judgement.verdict (said.answer cs tail)),
+      verdict_of h (certificate.Order k) judgement.verdict
+          (subst (λ (o : OrderHead). IsAnswer (order_rules h (with_clocks o k.clocks)) judgement.verdict) same (said.answer k.clocks tail)),
     )
-order-judged h (certificate.Cycle v l ls n ns fs) version level order sessions rest judgement is said = absurd cc
+order-judged h (certificate.Cycle k) head rest judgement is said = absurd cc
 
 pub cycle-judged : (h : History) (c : Certificate) (head : CycleHead) (rest : Parts) (judgement : Judgement)
-    → part.Cycle head.version head.level head.count head.links head.least ∷ rest.parts ≡ parts_of c → IsCycleJudged h head rest judgement
+    → part.Cycle head ∷ rest.parts ≡ parts_of c → IsCycleJudged h head rest judgement
     → (judgement.claim ≡ claim_of c) × IsVerdict h c judgement.verdict
-cycle-judged h (certificate.Order v l o s cs) head rest judgement is said = absurd cc
-cycle-judged h (certificate.Cycle v l ls n ns fs) head rest judgement is said =
-    let tail : rest.parts ≡ map part.Link ls ++ (map part.Near ns ++ map part.Far fs) = cc in
-    let long : length ns ≡ head.count = cc in
-    let many : length ls ≡ head.links = cc in
-    let whole : certificate.Cycle v l ls n ns fs ≡ certificate.Cycle head.version head.level ls head.least ns fs = cc in
-    let same : claim.Cycle head.least ≡ claim.Cycle n = cc in (
-      said.same ∙ same,
-      subst (λ c. IsVerdict h c judgement.verdict) (sym whole)
-          (verdict_of h (certificate.Cycle head.version head.level ls head.least ns fs) judgement.verdict (said.answer ls ns fs many long tail)),
+cycle-judged h (certificate.Order k) head rest judgement is said = absurd cc
+cycle-judged h (certificate.Cycle k) head rest judgement is said =
+    let tail : rest.parts ≡ map part.Link k.links ++ (map part.Near k.near ++ map part.Far k.far) = cc in
+    let same : head ≡ cycle_head k = cc in
+    let answer =
+    said.answer k.links k.near k.far (sym (ap (λ (o : CycleHead). o.links) same)) (sym (ap (λ (o : CycleHead). o.count) same)) tail in (
+      said.same ∙ ap (λ (o : CycleHead). claim.Cycle o.least) same,
+      verdict_of h (certificate.Cycle k) judgement.verdict
+          (subst (λ (o : CycleHead). IsAnswer (cycle_rules h (with_tables o k.links k.near k.far)) judgement.verdict) same answer),
     )

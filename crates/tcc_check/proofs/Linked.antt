@@ -10,8 +10,9 @@ use Rattle.tcc_graph.specs.Levels.{Judged, judged}
 use Rattle.tcc_graph.specs.Links.{cost, link_cost, link_from, link_to}
 use Rattle.tcc_graph.specs.declared.link.Link.{Link}
 use Rattle.tcc_graph.proofs.Linking.{cost_append, one_cost}
-use Rattle.tcc_cert.specs.CycleRules.{CycleClaim, IsLinkRight, IsLinkWrong, ends_at}
+use Rattle.tcc_cert.specs.CycleRules.{IsLinkRight, IsLinkWrong, ends_at}
 use Rattle.tcc_cert.specs.Rules.{IsRightCycle}
+use Rattle.tcc_cert.specs.declared.certificate.CycleClaim.{CycleClaim}
 use Rattle.tcc_cert.proofs.Ends.{ends_at-push, ends_at_some}
 use Rattle.tcc_check.specs.declared.links.LinksSeen.{LinksSeen}
 use Rattle.tcc_check.specs.private.Links.{AreSeenTo, IsFirstWrongFrom, IsWrongFrom, begins_at, ends_or, first_wrong, left_behind}

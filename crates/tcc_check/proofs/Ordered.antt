@@ -9,10 +9,11 @@ use Rattle.tcc_graph.specs.declared.level.Level.{Level}
 use Rattle.tcc_graph.specs.declared.level.Level.TheVariants.{Causal}
 use Rattle.tcc_cert.specs.OrderRules.{HasClocks, HasInClock, MayReach, KeepsPairs, BreaksAxiom}
 use Rattle.tcc_cert.specs.Rules.{HoldsEverywhere}
+use Rattle.tcc_cert.specs.declared.certificate.OrderClaim.{OrderClaim}
 use Rattle.tcc_check.specs.private.Searches.{IsFoundBelow}
 use Rattle.tcc_check.specs.private.Weights.{unlinked, IsLeastRow}
 use Rattle.tcc_check.specs.private.WeightsFrom.{ContradictsBy}
-use Rattle.tcc_check.specs.private.Places.{ArePlaces, IsKept, IsBehind, order_claim}
+use Rattle.tcc_check.specs.private.Places.{ArePlaces, IsKept, IsBehind}
 use Rattle.tcc_graph.proofs.Numberings.{one_place}
 use Rattle.tcc_graph.proofs.Pairs.{session_below, pair_below}
 use Rattle.tcc_check.specs.private.Latest.{AreSessionsKept, AreApart, AreReadsKept}
@@ -29,57 +30,56 @@ module _ (order places : List ℕ) (are : ArePlaces order places) where
   pub places_before : (a b : ℕ) → a < length order → b < length order → get_or places a 0 < get_or places b 0 → Before order a b
   places_before a b l m low = (get_or places a 0, get_or places b 0, low, are.within b m, are.here a l, are.here b m)
 
-module _ (h : History) (level : Level) (order places : List ℕ) (sessions : ℕ) (clocks : List (List ℕ)) (are : ArePlaces order places)
-    (long : length order ≡ count h) where
-  pub pairs_kept : ((b c : ℕ) → IsCausalPair h b c → IsKept h level places clocks b c)
-      → KeepsPairs h (order_claim level order sessions clocks)
+module _ (h : History) (k : OrderClaim) (places : List ℕ) (are : ArePlaces k.order places) (long : length k.order ≡ count h) where
+  pub pairs_kept : ((b c : ℕ) → IsCausalPair h b c → IsKept h k.level places k.clocks b c)
+      → KeepsPairs h k
   pairs_kept kept = record {
-    numbering = subst (λ n. IsNumbering n order) long are.numbering;
-    ordered = λ a b p. let bounds = pair_below h a b p in places_before order places are a b (omega (arith, bounds.0)) (omega (arith, bounds.1)) (kept a b p).0;
+    numbering = subst (λ n. IsNumbering n k.order) long are.numbering;
+    ordered = λ a b p. let bounds = pair_below h a b p in places_before k.order places are a b (omega (arith, bounds.0)) (omega (arith, bounds.1)) (kept a b p).0;
     clocks = λ causal b c p. (kept b c p).1 causal;
   }
 
-  pub kept_pairs : KeepsPairs h (order_claim level order sessions clocks) → (b c : ℕ) → IsCausalPair h b c
-      → IsKept h level places clocks b c
-  kept_pairs k b c p = let bounds =
-      pair_below h b c p in (
-        before_places order places are b c (omega (arith, bounds.0)) (omega (arith, bounds.1)) (k.ordered b c p),
-        λ causal. k.clocks causal b c p,
+  pub kept_pairs : KeepsPairs h k → (b c : ℕ) → IsCausalPair h b c
+      → IsKept h k.level places k.clocks b c
+  kept_pairs kept b c p =
+      let bounds = pair_below h b c p in (
+        before_places k.order places are b c (omega (arith, bounds.0)) (omega (arith, bounds.1)) (kept.ordered b c p),
+        λ causal. kept.clocks causal b c p,
       )
 
-  module _ (b : ℕ) (gaps weights : List ℕ) (none : (c : ℕ) → c < count h → (get_or gaps c 0 ≡ 0) ↔ MayReach h level clocks b c)
+  module _ (b : ℕ) (gaps weights : List ℕ) (none : (c : ℕ) → c < count h → (get_or gaps c 0 ≡ 0) ↔ MayReach h k.level k.clocks b c)
       (wide : length weights ≡ count h) (least : IsLeastRow (ContradictsBy h gaps b) weights) (inside : b < count h) where
-    behind_breaks : (a : ℕ) → IsBehind weights places b a → BreaksAxiom h (order_claim level order sessions clocks) (b, a)
+    behind_breaks : (a : ℕ) → IsBehind weights places b a → BreaksAxiom h k (b, a)
     behind_breaks a (l, is_none, low) = go (least.from a (omega (arith, l, are.long, long, wide)))
       where
         go : (get_or weights a 0 ≡ unlinked) ⊎ ContradictsBy h gaps b a (get_or weights a 0)
-            → BreaksAxiom h (order_claim level order sessions clocks) (b, a)
+            → BreaksAxiom h k (b, a)
         go (inl e) = absurd (omega (arith, e, is_none))
         go (inr (x, c, may, is)) = (
           x,
           c,
           may,
           (none c may.1.1).0 (sym is ∙ is_none),
-          λ before. absurd (omega (arith, low, before_places order places are b a (omega (arith, inside, long)) (omega (arith, l, are.long)) before)),
+          λ before. absurd (omega (arith, low, before_places k.order places are b a (omega (arith, inside, long)) (omega (arith, l, are.long)) before)),
         )
 
-    breaks_behind : (a : ℕ) → BreaksAxiom h (order_claim level order sessions clocks) (b, a) → IsBehind weights places b a
+    breaks_behind : (a : ℕ) → BreaksAxiom h k (b, a) → IsBehind weights places b a
     breaks_behind a (x, c, may, reach, not) =
         let gap = (none c may.1.1).1 reach in
         let low = least.low a (get_or gaps c 0) (omega (arith, may.1.0, wide)) (x, c, may, refl) in
         (omega (arith, are.long, long, may.1.0), omega (arith, gap, low), go (cases_lt (get_or places b 0) (get_or places a 0)))
       where
         go : (get_or places b 0 < get_or places a 0) ⊎ (get_or places a 0 ≤ get_or places b 0) → get_or places a 0 ≤ get_or places b 0
-        go (inl first) = absurd (not (places_before order places are b a (omega (arith, inside, long)) (omega (arith, may.1.0, long)) first))
+        go (inl first) = absurd (not (places_before k.order places are b a (omega (arith, inside, long)) (omega (arith, may.1.0, long)) first))
         go (inr le) = le
 
     pub axiom_asked : (found : Option ℕ) → IsFoundBelow (length places) (IsBehind weights places b) found
-        → IsFoundBelow (count h) (λ a. BreaksAxiom h (order_claim level order sessions clocks) (b, a)) found
+        → IsFoundBelow (count h) (λ a. BreaksAxiom h k (b, a)) found
     axiom_asked found is =
-        subst (λ (n : ℕ). IsFoundBelow n (λ a. BreaksAxiom h (order_claim level order sessions clocks) (b, a)) found)
+        subst (λ (n : ℕ). IsFoundBelow n (λ a. BreaksAxiom h k (b, a)) found)
         (are.long ∙ long)
         (found_as (length places) (IsBehind weights places b)
-        (λ a. BreaksAxiom h (order_claim level order sessions clocks) (b, a)) behind_breaks breaks_behind found is)
+        (λ a. BreaksAxiom h k (b, a)) behind_breaks breaks_behind found is)
 
 -- ---- what is kept by the pair before and by the next is kept by both
 
@@ -117,16 +117,15 @@ module _ (h : History) (level : Level) (places : List ℕ) (clocks : List (List 
 
 -- ---- what the pass over last writers says
 
-module _ (h : History) (level : Level) (order places : List ℕ) (sessions : ℕ) (clocks : List (List ℕ)) (are : ArePlaces order places)
-    (long : length order ≡ count h) where
-  pub sessions_kept : KeepsPairs h (order_claim level order sessions clocks) → AreSessionsKept h places
+module _ (h : History) (k : OrderClaim) (places : List ℕ) (are : ArePlaces k.order places) (long : length k.order ≡ count h) where
+  pub sessions_kept : KeepsPairs h k → AreSessionsKept h places
   sessions_kept kept b c p = let bounds =
-      session_below h b c p in before_places order places are b c (omega (arith, bounds.0, long)) (omega (arith, bounds.1, long)) (kept.ordered b c (inl p))
+      session_below h b c p in before_places k.order places are b c (omega (arith, bounds.0, long)) (omega (arith, bounds.1, long)) (kept.ordered b c (inl p))
 
-  pub axiom_kept : ((c : ℕ) → c < count h → AreReadsKept h level places clocks c)
-      → HoldsEverywhere (BreaksAxiom h (order_claim level order sessions clocks))
+  pub axiom_kept : ((c : ℕ) → c < count h → AreReadsKept h k.level places k.clocks c)
+      → HoldsEverywhere (BreaksAxiom h k)
   axiom_kept all at (x, c, may, reach, not) =
-      not (places_before order places are at.0 at.1 (omega (arith, may.2.0, long)) (omega (arith, may.1.0, long)) (all c may.1.1 x at.1 may.1 at.0 may reach))
+      not (places_before k.order places are at.0 at.1 (omega (arith, may.2.0, long)) (omega (arith, may.1.0, long)) (all c may.1.1 x at.1 may.1 at.0 may reach))
 
 pub places_apart : (order places : List ℕ) → ArePlaces order places → AreApart places
 places_apart order places are a b one two same =

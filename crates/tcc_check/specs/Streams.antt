@@ -16,8 +16,8 @@ use Rattle.tcc_check.specs.Verdicts.{IsVerdict}
 
 -- what a certificate claims, without all by which the claim is judged
 abbrev pub claim_of : Certificate → Claim
-claim_of (certificate.Order version level order sessions clocks) = claim.Order
-claim_of (certificate.Cycle version level links least near far) = claim.Cycle least
+claim_of (certificate.Order k) = claim.Order
+claim_of (certificate.Cycle k) = claim.Cycle k.least
 
 -- the first fault of the bytes, or that of a reader that failed before; or memory was refused
 abbrev pub IsStreamFault : List ℕ → StreamFault → Type 0

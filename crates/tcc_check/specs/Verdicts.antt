@@ -1,19 +1,19 @@
 -- What is answered of a certificate: it is accepted, or the first rule that is broken and the first place where it is.
 use Rattle.std.specs.Prelude.{ℕ, ◌<◌, ◌≡◌, ◌⊎◌, List, [], ◌∷◌}
 use Rattle.tcc_reads.specs.History.{History}
-use Rattle.tcc_graph.specs.declared.level.Level.{Level}
-use Rattle.tcc_cert.specs.declared.version.Version.{Version}
 use Rattle.tcc_cert.specs.Tables.{IsFirstPlace}
-use Rattle.tcc_cert.specs.CycleRules.{CycleClaim, HasRightSizes, IsLinkWrong}
+use Rattle.tcc_cert.specs.CycleRules.{HasRightSizes, IsLinkWrong}
 use Rattle.tcc_cert.specs.CycleRules.{BreaksNearPair, BreaksNearStep, BreaksFarLink, BreaksFarStep}
 use Rattle.tcc_cert.specs.CycleRules.{BreaksReturn}
-use Rattle.tcc_cert.specs.OrderRules.{OrderClaim, HasOrderSizes, KeepsPairs, BreaksAxiom}
+use Rattle.tcc_cert.specs.OrderRules.{HasOrderSizes, KeepsPairs, BreaksAxiom}
 use Rattle.tcc_cert.specs.Rules.{HoldsEverywhere, IsRightCycle, Certifies}
 use Rattle.tcc_graph.specs.Links.{cost}
 use Rattle.tcc_graph.specs.Routes.{IsLeastCycle}
 use Rattle.tcc_graph.specs.Orders.{IsCommitOrder}
 use Rattle.tcc_cert.specs.declared.certificate.Certificate.{Certificate}
 use Rattle.tcc_cert.specs.declared.certificate.Certificate.TheVariants as claim
+use Rattle.tcc_cert.specs.declared.certificate.CycleClaim.{CycleClaim}
+use Rattle.tcc_cert.specs.declared.certificate.OrderClaim.{OrderClaim}
 use Rattle.tcc_check.specs.declared.verdict.Rule.{Rule}
 use Rattle.tcc_check.specs.declared.verdict.Rule.TheVariants.{Sizes, Links, NearPairs, NearSteps, FarLinks, FarSteps, Returns, Pairs, Axiom}
 use Rattle.tcc_check.specs.declared.verdict.Verdict.{Verdict}
@@ -52,13 +52,13 @@ IsCycleFault h k at =
     ⊎ ((at ≡ (0, 0)) × (((i : ℕ) → IsLinkWrong (judged h k.level) k.links i → ⊥) × (IsRightCycle h k → ⊥)))
 
 -- the rules on the tables of a claim that a cycle is least, in order
-abbrev pub bounds_rules : History → Version → Level → ℕ → List (List ℕ) → List (List ℕ) → List Asked
-bounds_rules h version level least near far =
-    by_places NearPairs (BreaksNearPair h near)
-    ∷ by_places NearSteps (BreaksNearStep h level near)
-    ∷ by_places FarLinks (BreaksFarLink h version near far)
-    ∷ by_places FarSteps (BreaksFarStep h version near far)
-    ∷ by_places Returns (BreaksReturn h version least far)
+abbrev pub bounds_rules : History → CycleClaim → List Asked
+bounds_rules h k =
+    by_places NearPairs (BreaksNearPair h k.near)
+    ∷ by_places NearSteps (BreaksNearStep h k.level k.near)
+    ∷ by_places FarLinks (BreaksFarLink h k.version k.near k.far)
+    ∷ by_places FarSteps (BreaksFarStep h k.version k.near k.far)
+    ∷ by_places Returns (BreaksReturn h k.version k.least k.far)
     ∷ []
 
 -- all rules for a claim that a cycle is least, in order
@@ -66,7 +66,7 @@ abbrev pub cycle_rules : History → CycleClaim → List Asked
 cycle_rules h k =
     as_whole Sizes (HasRightSizes h k)
     ∷ record { rule = Links; holds = IsRightCycle h k; broken = IsCycleFault h k }
-    ∷ bounds_rules h k.version k.level k.least k.near k.far
+    ∷ bounds_rules h k
 
 -- all rules for a claim that a list is a commit order, in order
 abbrev pub order_rules : History → OrderClaim → List Asked
@@ -78,10 +78,8 @@ order_rules h k =
 
 -- those for the claim of a certificate, at its level
 abbrev pub rules_of : History → Certificate → List Asked
-rules_of h (claim.Order version level order sessions clocks) =
-    order_rules h (record { level = level; order = order; sessions = sessions; clocks = clocks })
-rules_of h (claim.Cycle version level links least near far) =
-    cycle_rules h (record { version = version; level = level; links = links; least = least; near = near; far = far })
+rules_of h (claim.Order k) = order_rules h k
+rules_of h (claim.Cycle k) = cycle_rules h k
 
 -- all of them hold
 abbrev pub AllHold : List Asked → Type 0
@@ -104,7 +102,5 @@ IsRejected h k rule at = IsVerdict h k (verdict.Rejected rule at)
 
 -- what the certificate claims is true at its level
 abbrev pub IsTrueClaim : History → Certificate → Type 0
-IsTrueClaim h (claim.Order version level order sessions clocks) =
-    IsCommitOrder (judged h level) order
-IsTrueClaim h (claim.Cycle version level links least near far) =
-    ((s : ℕ) × IsLeastCycle (judged h level) s links) × (cost links ≡ least)
+IsTrueClaim h (claim.Order k) = IsCommitOrder (judged h k.level) k.order
+IsTrueClaim h (claim.Cycle k) = ((s : ℕ) × IsLeastCycle (judged h k.level) s k.links) × (cost k.links ≡ k.least)

@@ -17,32 +17,7 @@ pub fn check(alloc: Global, graph: &Graph, certificate: &Certificate) -> Result<
     ensures { IfOk result (IsVerdict graph.now certificate.now) }
 {
     match certificate {
-        Certificate::Order {
-            level,
-            order,
-            sessions,
-            clocks,
-            ..
-        } => {
-            let order = order.as_slice();
-            order_verdict(alloc, graph, *level, order, *sessions, clocks.rows())
-        }
-        Certificate::Cycle {
-            version,
-            level,
-            links,
-            least,
-            near,
-            far,
-        } => cycle_verdict(
-            alloc,
-            graph,
-            *version,
-            *level,
-            links.as_slice(),
-            *least,
-            near.rows(),
-            far.rows(),
-        ),
+        Certificate::Order(claim) => order_verdict(alloc, graph, claim),
+        Certificate::Cycle(claim) => cycle_verdict(alloc, graph, claim),
     }
 }

@@ -5,10 +5,10 @@ ghost use Rattle.tcc_graph.specs.Levels.{Judged, judged};
 ghost use Rattle.tcc_graph.specs.Links.{cost};
 ghost use Rattle.tcc_graph.specs.Routes.{IsLeastCycle};
 ghost use Rattle.tcc_graph.specs.Orders.{IsCommitOrder};
-ghost use Rattle.tcc_cert.specs.CycleRules.{CycleClaim};
-ghost use Rattle.tcc_cert.specs.OrderRules.{OrderClaim};
 ghost use Rattle.tcc_cert.specs.Rules.{CertifiesCycle, CertifiesOrder, Certifies};
 ghost use Rattle.tcc_cert.specs.declared.certificate.Certificate.{Certificate};
+ghost use Rattle.tcc_cert.specs.declared.certificate.CycleClaim.{CycleClaim};
+ghost use Rattle.tcc_cert.specs.declared.certificate.OrderClaim.{OrderClaim};
 ghost use Rattle.tcc_check.specs.declared.verdict.Rule.{Rule};
 ghost use Rattle.tcc_check.specs.Verdicts.{AllHold, IsRejected, IsTrueClaim, rules_of};
 

@@ -3,16 +3,15 @@ ghost use Rattle.std.specs.Prelude.{◌≡◌, ◌+◌, ◌<◌, ◌++◌, ◌�
 ghost use Rattle.tcc_reads.specs.History.{History, count};
 ghost use Rattle.tcc_graph.specs.Levels.{Judged, judged};
 ghost use Rattle.tcc_graph.specs.Links.{link_from, link_to, link_cost};
-ghost use Rattle.tcc_graph.specs.declared.level.Level.{Level};
 ghost use Rattle.tcc_graph.specs.declared.link.Link.{Link};
 ghost use Rattle.tcc_cert.specs.Ahead.{IsAhead};
 ghost use Rattle.tcc_cert.specs.CycleRules.{IsLinkBelow, IsLinkRight};
 ghost use Rattle.tcc_cert.specs.Parts.{Parts};
+ghost use Rattle.tcc_cert.specs.declared.certificate.CycleClaim.{CycleClaim};
 ghost use Rattle.tcc_cert.specs.declared.part.Part.{Part};
 ghost use Rattle.tcc_cert.specs.declared.part.Part.TheVariants as part;
-ghost use Rattle.tcc_cert.specs.declared.version.Version.{Version};
 ghost use Rattle.tcc_check.specs.private.Coming.{Leaves};
-ghost use Rattle.tcc_check.specs.private.Judged.{AreLinksJudged, cycle_claim, links_rules};
+ghost use Rattle.tcc_check.specs.private.Judged.{AreLinksJudged, links_rules};
 ghost use Rattle.tcc_check.specs.private.Links.{AreSeenTo, IsBrokenAt, ends_or, first_wrong, left_behind};
 ghost use Rattle.tcc_check.specs.private.Searches.{IsAnswer};
 
@@ -22,7 +21,7 @@ use crate::sizes::is_link_below;
 use crate::verdict::{Rule, Verdict, rejected};
 use std::alloc::Global;
 use std::io::Read;
-use tcc_cert::{CertReader, Part};
+use tcc_cert::{CertReader, CycleClaim, CycleHead, Part};
 use tcc_graph::{Graph, Level, Link};
 use tcc_txn::NoMemory;
 
@@ -143,9 +142,7 @@ fn is_used_up(left: Option<usize>) -> bool
 /// last ends, or is none of the history; 0 where all are, but there are none, or they cost another sum; none where the
 /// rule holds.
 fn broken_at(seen: LinksSeen) -> Option<usize>
-    ensures { (h : History) (version : Version) (level : Level) (least : ℕ) (links : List Link) (near far : List (List ℕ))
-        → AreSeenTo (judged h level) least links (length links) seen
-        → IsBrokenAt h (cycle_claim version level links least near far) result }
+    ensures { (h : History) (k : CycleClaim) → AreSeenTo (judged h k.level) k.least k.links (length k.links) seen → IsBrokenAt h k result }
 {
     let Some((begin, end)) = seen.ends else {
         return Some(0);
@@ -161,9 +158,8 @@ fn broken_at(seen: LinksSeen) -> Option<usize>
 
 /// The verdict of the rule, where all links came.
 fn seen_verdict(seen: LinksSeen) -> Result<Verdict, NoMemory>
-    ensures { (h : History) (version : Version) (level : Level) (least : ℕ) (links : List Link) (near far : List (List ℕ))
-        → AreSeenTo (judged h level) least links (length links) seen
-        → IfOk result (IsAnswer (links_rules h (cycle_claim version level links least near far))) }
+    ensures { (h : History) (k : CycleClaim) → AreSeenTo (judged h k.level) k.least k.links (length k.links) seen
+        → IfOk result (IsAnswer (links_rules h k)) }
 {
     let Some(place) = broken_at(seen) else {
         return Ok(Verdict::Accepted);
@@ -175,47 +171,40 @@ fn seen_verdict(seen: LinksSeen) -> Result<Verdict, NoMemory>
 }
 
 /// Judges the links of a claim.
-pub(crate) fn links_verdict(
-    graph: &Graph,
-    level: Level,
-    links: &[Link],
-    least: u32,
-) -> Result<Verdict, NoMemory>
-    ensures { (version : Version) (near far : List (List ℕ))
-        → IfOk result (IsAnswer (links_rules graph.now (cycle_claim version level links.now least near far))) }
+pub(crate) fn links_verdict(graph: &Graph, claim: &CycleClaim) -> Result<Verdict, NoMemory>
+    ensures { IfOk result (IsAnswer (links_rules graph.now claim.now)) }
 {
-    let mut seen = no_links(least);
+    let links = claim.links.as_slice();
+    let mut seen = no_links(claim.least);
     for (before, link) in links.iter().enumerate() {
-        seen = with_link(seen, graph, level, before + 1, link);
+        seen = with_link(seen, graph, claim.level, before + 1, link);
     }
     seen_verdict(seen)
 }
 
-/// Judges so many links that come, none where one of their numbers is not below that of the transactions. One of them is
+/// Judges the links that come, none where one of their numbers is not below that of the transactions. One of them is
 /// held at a time.
 pub(crate) fn judge_links<R: Read>(
     alloc: Global,
     graph: &Graph,
     parts: &mut CertReader<R>,
-    level: Level,
-    many: u32,
-    least: u32,
+    head: CycleHead,
 ) -> Result<Option<Verdict>, StreamFault>
     ensures { (ahead : Parts) → IsAhead R.remaining parts.old ahead
-        → Leaves R.remaining ahead parts.new (λ found rest. (links : List Link) (tables : List Part) → length links ≡ many
+        → Leaves R.remaining ahead parts.new (λ found rest. (links : List Link) (tables : List Part) → length links ≡ head.links
         → ahead.parts ≡ map part.Link links ++ tables
         → MatchOption found (All (IsLinkBelow (count graph.now)) links → ⊥)
-        (AreLinksJudged graph.now level least links rest tables)) result }
+        (AreLinksJudged graph.now head links rest tables)) result }
 {
-    let mut seen = no_links(least);
-    for before in 0..many {
+    let mut seen = no_links(head.least);
+    for before in 0..head.links {
         let Part::Link(link) = next_part(alloc, parts)? else {
             return Ok(None);
         };
         if !is_link_below(&link, graph.count()) {
             return Ok(None);
         }
-        seen = with_link(seen, graph, level, before as usize + 1, &link);
+        seen = with_link(seen, graph, head.level, before as usize + 1, &link);
     }
     let verdict = seen_verdict(seen)?;
     Ok(Some(verdict))

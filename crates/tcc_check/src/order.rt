@@ -8,7 +8,7 @@ ghost use Rattle.tcc_cert.specs.Tables.{entry, HasSize, IsFirstPlace};
 ghost use Rattle.tcc_cert.specs.OrderRules.{HasClocks, HasInClock, MayReach, HasOrderSizes, KeepsPairs, BreaksAxiom};
 ghost use Rattle.tcc_cert.specs.Rules.{HoldsEverywhere};
 ghost use Rattle.tcc_check.specs.private.Searches.{IsFoundBelow, IsAnswer};
-ghost use Rattle.tcc_check.specs.private.Places.{ArePlaces, IsKept, IsBehind, order_claim};
+ghost use Rattle.tcc_check.specs.private.Places.{ArePlaces, IsKept, IsBehind};
 ghost use Rattle.tcc_check.specs.private.Readings.{AreReadings};
 ghost use Rattle.tcc_check.specs.Verdicts.{order_rules};
 
@@ -21,7 +21,7 @@ use crate::readings::readings_of;
 use crate::sizes::has_size;
 use crate::verdict::{Rule, Verdict, rejected};
 use std::alloc::Global;
-use tcc_cert::Numbers;
+use tcc_cert::{Numbers, OrderClaim};
 use tcc_graph::{Graph, Level};
 use tcc_txn::NoMemory;
 
@@ -191,21 +191,19 @@ fn first_behind(places: &[u32], weights: &[u32], b: u32) -> Option<u32>
 fn broken_by(
     alloc: Global,
     graph: &Graph,
-    level: Level,
+    claim: &OrderClaim,
     readings: &[Option<Groups>],
     places: &[u32],
-    clocks: &[Numbers],
     b: u32,
 ) -> Result<Option<u32>, NoMemory>
     requires few { count graph.now ≤ MAX_COUNT }
     requires readings { AreReadings graph.now readings.now }
-    requires places { length places.now ≡ count graph.now }
-    requires clocks { HasClocks level (count graph.now) (length graph.now.sessions) clocks.now }
+    requires sizes { HasOrderSizes graph.now claim.now }
+    requires places { ArePlaces claim.now.order places.now }
     requires b { b < count graph.now }
-    ensures { (order : List ℕ) (sessions : ℕ) → length order ≡ count graph.now → ArePlaces order places.now
-        → IfOk result (IsFoundBelow (count graph.now) (λ a. BreaksAxiom graph.now (order_claim level order sessions clocks.now) (b, a))) }
+    ensures { IfOk result (IsFoundBelow (count graph.now) (λ a. BreaksAxiom graph.now claim.now (b, a))) }
 {
-    let row = gaps(alloc, graph, level, clocks, b)?;
+    let row = gaps(alloc, graph, claim.level, claim.clocks.rows(), b)?;
     let weights = contradicted_weights(alloc, graph, readings, &row, b)?;
     Ok(first_behind(places, &weights, b))
 }
@@ -214,21 +212,18 @@ fn broken_by(
 fn broken_axiom(
     alloc: Global,
     graph: &Graph,
-    level: Level,
+    claim: &OrderClaim,
     places: &[u32],
-    clocks: &[Numbers],
 ) -> Result<Option<(u32, u32)>, NoMemory>
     requires few { count graph.now ≤ MAX_COUNT }
-    requires places { length places.now ≡ count graph.now }
-    requires clocks { HasClocks level (count graph.now) (length graph.now.sessions) clocks.now }
-    ensures { (order : List ℕ) (sessions : ℕ) → length order ≡ count graph.now → ArePlaces order places.now
-        → IfOk result (λ found. MatchOption found
-        (HoldsEverywhere (BreaksAxiom graph.now (order_claim level order sessions clocks.now)))
-        (IsFirstPlace (BreaksAxiom graph.now (order_claim level order sessions clocks.now)))) }
+    requires sizes { HasOrderSizes graph.now claim.now }
+    requires places { ArePlaces claim.now.order places.now }
+    ensures { IfOk result (λ found. MatchOption found
+        (HoldsEverywhere (BreaksAxiom graph.now claim.now)) (IsFirstPlace (BreaksAxiom graph.now claim.now))) }
 {
     let readings = readings_of(alloc, graph)?;
     for b in 0..graph.count() {
-        if let Some(a) = broken_by(alloc, graph, level, &readings, places, clocks, b)? {
+        if let Some(a) = broken_by(alloc, graph, claim, &readings, places, b)? {
             return Ok(Some((b, a)));
         }
     }
@@ -246,43 +241,35 @@ fn has_clocks(level: Level, clocks: &[Numbers], count: usize, sessions: usize) -
 }
 
 /// Whether the order, the number of sessions and the clocks are those of the history.
-fn has_order_sizes(
-    graph: &Graph,
-    level: Level,
-    order: &[u32],
-    sessions: u32,
-    clocks: &[Numbers],
-) -> bool
+fn has_order_sizes(graph: &Graph, claim: &OrderClaim) -> bool
     ensures few { count graph.now ≤ MAX_COUNT }
     ensures few_sessions { length graph.now.sessions ≤ MAX_SESSIONS }
     ensures numbered { IsBySession graph.now.entries }
-    ensures sizes { IsTrue result ↔ HasOrderSizes graph.now (order_claim level order.now sessions clocks.now) }
+    ensures sizes { IsTrue result ↔ HasOrderSizes graph.now claim.now }
 {
     let count = graph.count() as usize;
     let all = graph.sessions().len();
-    order.len() == count && sessions as usize == all && has_clocks(level, clocks, count, all)
+    claim.order.as_slice().len() == count
+        && claim.sessions as usize == all
+        && has_clocks(claim.level, claim.clocks.rows(), count, all)
 }
 
 /// The place of each number, none where a number is there twice or a causal pair is not kept.
 fn kept_places(
     alloc: Global,
     graph: &Graph,
-    level: Level,
-    order: &[u32],
-    clocks: &[Numbers],
+    claim: &OrderClaim,
 ) -> Result<Option<Vec<u32>>, NoMemory>
     requires numbered { IsBySession graph.now.entries }
     requires few { count graph.now ≤ MAX_COUNT }
-    requires order { length order.now ≡ count graph.now }
-    requires clocks { HasClocks level (count graph.now) (length graph.now.sessions) clocks.now }
-    ensures { (sessions : ℕ) → IfOk result (λ found. MatchOption found
-        (KeepsPairs graph.now (order_claim level order.now sessions clocks.now) → ⊥)
-        (λ places. ArePlaces order.now places.items × KeepsPairs graph.now (order_claim level order.now sessions clocks.now))) }
+    requires sizes { HasOrderSizes graph.now claim.now }
+    ensures { IfOk result (λ found. MatchOption found
+        (KeepsPairs graph.now claim.now → ⊥) (λ places. ArePlaces claim.now.order places.items × KeepsPairs graph.now claim.now)) }
 {
-    let Some(places) = places_of(alloc, order)? else {
+    let Some(places) = places_of(alloc, claim.order.as_slice())? else {
         return Ok(None);
     };
-    if !keeps_pairs(graph, level, &places, clocks) {
+    if !keeps_pairs(graph, claim.level, &places, claim.clocks.rows()) {
         return Ok(None);
     }
     Ok(Some(places))
@@ -292,24 +279,21 @@ fn kept_places(
 pub(crate) fn order_verdict(
     alloc: Global,
     graph: &Graph,
-    level: Level,
-    order: &[u32],
-    sessions: u32,
-    clocks: &[Numbers],
+    claim: &OrderClaim,
 ) -> Result<Verdict, NoMemory>
-    ensures { IfOk result (IsAnswer (order_rules graph.now (order_claim level order.now sessions clocks.now))) }
+    ensures { IfOk result (IsAnswer (order_rules graph.now claim.now)) }
 {
-    if !has_order_sizes(graph, level, order, sessions, clocks) {
+    if !has_order_sizes(graph, claim) {
         return Ok(rejected(Rule::Sizes, 0));
     }
-    let Some(places) = kept_places(alloc, graph, level, order, clocks)? else {
+    let Some(places) = kept_places(alloc, graph, claim)? else {
         return Ok(rejected(Rule::Pairs, 0));
     };
-    let kept = keeps_axiom(alloc, graph, level, &places, clocks)?;
+    let kept = keeps_axiom(alloc, graph, claim.level, &places, claim.clocks.rows())?;
     if kept {
         return Ok(Verdict::Accepted);
     }
-    match broken_axiom(alloc, graph, level, &places, clocks)? {
+    match broken_axiom(alloc, graph, claim, &places)? {
         Some(at) => Ok(Verdict::Rejected {
             rule: Rule::Axiom,
             at,

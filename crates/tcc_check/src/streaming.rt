@@ -2,11 +2,11 @@
 ghost use Rattle.std.specs.Prelude.{◌≡◌, ◌++◌, IfSome, List, MatchOption, false, true, length, map, ℕ};
 ghost use Rattle.tcc_cert.specs.Ahead.{IsAhead, is_new};
 ghost use Rattle.tcc_cert.specs.CycleRules.{HasRightSizes};
-ghost use Rattle.tcc_cert.specs.Parts.{Parts, parts_read};
+ghost use Rattle.tcc_cert.specs.Parts.{Parts, parts_read, with_tables};
 ghost use Rattle.tcc_cert.specs.declared.part.Part.TheVariants as part;
 ghost use Rattle.tcc_graph.specs.declared.link.Link.{Link};
 ghost use Rattle.tcc_check.specs.private.Coming.{Finishes, Leaves, sized};
-ghost use Rattle.tcc_check.specs.private.Judged.{IsClaimJudged, IsCycleJudged, IsOrderJudged, claim_with};
+ghost use Rattle.tcc_check.specs.private.Judged.{IsClaimJudged, IsCycleJudged, IsOrderJudged};
 ghost use Rattle.tcc_check.specs.Streams.{IsJudged, IsStreamed};
 
 use crate::coming::{clock_rows, ends, next_part};
@@ -18,19 +18,8 @@ use crate::verdict::{Rule, first_rejected, rejected};
 use crate::{Claim, Judgement, StreamFault, Verdict};
 use std::alloc::Global;
 use std::io::Read;
-use tcc_cert::{CertReader, Part, Version};
-use tcc_graph::{Graph, Level};
-
-/// What a text says of a claim that a cycle is least, before its links: there are to be `links` of them, and each table
-/// is to have `count` rows.
-#[derive(Clone, Copy)]
-struct CycleHead {
-    version: Version,
-    level: Level,
-    count: u32,
-    links: u32,
-    least: u32,
-}
+use tcc_cert::{CertReader, CycleHead, OrderHead, Part};
+use tcc_graph::Graph;
 
 /// What the rules behind that on sizes say of a claim that a cycle is least, whose links and tables come; none where the
 /// rule on sizes is broken.
@@ -43,14 +32,13 @@ fn judge_tables<R: Read>(
     ensures { (ahead : Parts) → IsAhead R.remaining parts.old ahead
         → Leaves R.remaining ahead parts.new (λ found rest. (links : List Link) (near far : List (List ℕ)) → length links ≡ head.links
         → length near ≡ head.count → ahead.parts ≡ map part.Link links ++ (map part.Near near ++ map part.Far far)
-        → MatchOption found (HasRightSizes graph.now (claim_with head links near far) → ⊥)
-        (IsClaimJudged graph.now (claim_with head links near far) rest)) result }
+        → MatchOption found (HasRightSizes graph.now (with_tables head links near far) → ⊥)
+        (IsClaimJudged graph.now (with_tables head links near far) rest)) result }
 {
     if head.count != graph.count() {
         return Ok(None);
     }
-    let Some(of_links) = judge_links(alloc, graph, parts, head.level, head.links, head.least)?
-    else {
+    let Some(of_links) = judge_links(alloc, graph, parts, head)? else {
         return Ok(None);
     };
     let Some(near) = judge_near(alloc, graph, parts, head.level, head.least)? else {
@@ -100,15 +88,13 @@ fn judge_order<R: Read>(
     alloc: Global,
     graph: &Graph,
     parts: &mut CertReader<R>,
-    level: Level,
-    order: &[u32],
-    sessions: u32,
+    head: OrderHead,
 ) -> Result<Judgement, StreamFault>
     requires { is_new parts.old ≡ false }
-    ensures { (ahead : Parts) → IsAhead R.remaining parts.old ahead → Finishes ahead (IsOrderJudged graph.now level order.now sessions ahead) result }
+    ensures { (ahead : Parts) → IsAhead R.remaining parts.old ahead → Finishes ahead (IsOrderJudged graph.now head ahead) result }
 {
     let clocks = clock_rows(alloc, parts)?;
-    let verdict = order_verdict(alloc, graph, level, order, sessions, clocks.rows())?;
+    let verdict = order_verdict(alloc, graph, &head.with_clocks(clocks))?;
     let claim = Claim::Order;
     Ok(Judgement { claim, verdict })
 }
@@ -123,31 +109,8 @@ fn judge_parts<R: Read>(
     ensures { (bytes : List ℕ) → IsAhead R.remaining parts.old (parts_read bytes) → IsJudged graph.now bytes result }
 {
     match next_part(alloc, parts)? {
-        Part::Order {
-            level,
-            order,
-            sessions,
-            ..
-        } => {
-            let order = order.as_slice();
-            judge_order(alloc, graph, parts, level, order, sessions)
-        }
-        Part::Cycle {
-            version,
-            level,
-            count,
-            links,
-            least,
-        } => {
-            let head = CycleHead {
-                version,
-                level,
-                count,
-                links,
-                least,
-            };
-            judge_cycle(alloc, graph, parts, head)
-        }
+        Part::Order(head) => judge_order(alloc, graph, parts, head),
+        Part::Cycle(head) => judge_cycle(alloc, graph, parts, head),
         Part::Link(_) | Part::Clocks(_) | Part::Near(_) | Part::Far(_) | Part::End => {
             unreachable!()
         }

@@ -21,8 +21,10 @@ use Rattle.tcc_graph.proofs.Pairs.{pair_below}
 use Rattle.tcc_graph.proofs.Walking.{leads_append, pair_walk, walk_on}
 use Rattle.tcc_order.specs.Clocks.{IsBehind, IsLast, IsClocksOf}
 use Rattle.tcc_cert.specs.Tables.{entry}
-use Rattle.tcc_cert.specs.OrderRules.{OrderClaim, HasClocks, HasInClock, KeepsPairs, MayReach, BreaksAxiom}
+use Rattle.tcc_cert.specs.OrderRules.{HasClocks, HasInClock, KeepsPairs, MayReach, BreaksAxiom}
 use Rattle.tcc_cert.specs.Rules.{HoldsEverywhere, CertifiesOrder}
+use Rattle.tcc_cert.specs.declared.certificate.OrderClaim.{OrderClaim}
+use Rattle.tcc_cert.specs.declared.version.Version.TheVariants.{Two}
 use Rattle.tcc_explain.specs.Certificates.{IsClocksAt, IsNumbered}
 
 -- ---- session pairs
@@ -125,7 +127,7 @@ module _ (j : Judged) (order : List ℕ) (clocks : List (List ℕ)) (numbered : 
   h = j.history
 
   abbrev claimed : OrderClaim
-  claimed = record { level = j.level; order = order; sessions = length h.sessions; clocks = clocks }
+  claimed = record { version = Two; level = j.level; order = order; sessions = length h.sessions; clocks = clocks }
 
   pair_before : (a b : ℕ) → IsCausalPair h a b → Before order a b
   pair_before a b (inl session) = commit.sessions a b session

@@ -85,7 +85,7 @@ module _ (s : Sessions) (limits : KeepsLimits s) where
 
   order_text : (level : Level) (order : List ℕ) (clocks : List (List ℕ)) → IsCommitOrder (judged (history s) level) order
       → IsClocksAt level (history s) clocks
-      → HasOrderText Two (record { level = level; order = order; sessions = length (history s).sessions; clocks = clocks })
+      → HasOrderText (record { version = Two; level = level; order = order; sessions = length (history s).sessions; clocks = clocks })
   order_text level order clocks commit are =
       let long : length order ≡ count (history s) = commit_order.numbering_long (count (history s)) order commit.numbering in
       record {

@@ -13,11 +13,10 @@ ghost use Rattle.tcc_graph.specs.Orders.{IsCommitOrder, IsFirstOrder};
 ghost use Rattle.tcc_graph.specs.Answers as first;
 ghost use Rattle.tcc_graph.specs.declared.level.Level.{Level};
 ghost use Rattle.tcc_graph.specs.declared.link.Link.{Link};
-ghost use Rattle.tcc_cert.specs.Rules.{Certifies};
+ghost use Rattle.tcc_cert.specs.Rules.{Certifies, CertifiesCycle, CertifiesOrder};
 ghost use Rattle.tcc_cert.specs.Texts.{HasText, certificate_text};
 ghost use Rattle.tcc_cert.specs.Reading.{certificate_read};
 ghost use Rattle.tcc_cert.specs.declared.version.Version.TheVariants.{Two};
-ghost use Rattle.tcc_cert.specs.declared.certificate.Certificate.TheVariants as claim;
 ghost use Rattle.tcc_answer.specs.Answers.{LabelledCycle};
 ghost use Rattle.tcc_answer.specs.Claims.{certificate_of};
 ghost use Rattle.tcc_answer.specs.Texts.{answer_text};
@@ -36,10 +35,10 @@ ghost use Rattle.tcc_explain.specs.declared.refusal.NextFault.TheVariants as ref
 pub fn certificates()
     ensures cycle { (j : Judged) (s : ℕ) (links : List Link) (near far : List (List ℕ)) → IsLeastCycle j s links
         → IsNearTable j (cost links) near → IsFarTable j (cost links) far
-        → Certifies j.history (claim.Cycle Two j.level links (cost links) near far) }
+        → CertifiesCycle j.history (record { version = Two; level = j.level; links = links; least = cost links; near = near; far = far }) }
     ensures order { (j : Judged) (order : List ℕ) (clocks : List (List ℕ)) → IsNumbered j.history → IsCommitOrder j order
         → IsClocksAt j.level j.history clocks
-        → Certifies j.history (claim.Order Two j.level order (length j.history.sessions) clocks) }
+        → CertifiesOrder j.history (record { version = Two; level = j.level; order = order; sessions = length j.history.sessions; clocks = clocks }) }
     ensures numbered { (s : Sessions) → IsNumbered (history s) }
 {}
 

@@ -17,12 +17,12 @@ use crate::watching::{Stage, Watcher};
 use std::alloc::Global;
 use std::io::{Read, Write};
 use std::thread::Threads;
-use tcc_cert::sending::send;
 use tcc_graph::Link;
 use tcc_print::Options;
 use tcc_print::notes::{note_last, note_no_slice};
 use tcc_print::printing::{print_device, print_memory};
 use tcc_rows::{LargeRecording, Moment, RowFault, RowFaultKind};
+use tcc_sending::send;
 use tcc_txn::{LargeSnapshot, NoMemory};
 use tcc_verdict::stop;
 

@@ -15,9 +15,9 @@ use std::alloc::Global;
 use std::io::Write;
 use tcc_answer::Answer;
 use tcc_answer::pieces::push;
-use tcc_cert::sending::send;
 use tcc_reads::ReadFault;
 use tcc_rows::{RowFault, RowFaultKind};
+use tcc_sending::send;
 use tcc_txn::{Bounds, Limits, Name, NoMemory, SnapshotWithin, Txn};
 use writers::push_writer;
 

@@ -13,9 +13,9 @@ use crate::verdicts::verdict_text;
 use std::alloc::Global;
 use std::io::Write;
 use tcc_answer::{Answer, WriteFault, write_json, write_text};
-use tcc_cert::sending::send;
 use tcc_check::Judgement;
 use tcc_reads::ReadFault;
+use tcc_sending::send;
 use tcc_txn::NoMemory;
 
 /// The one line or the other, by whether JSON is asked for.

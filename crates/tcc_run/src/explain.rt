@@ -16,7 +16,7 @@ use crate::outcome::Outcome;
 use std::alloc::Global;
 use std::io::{Read, Write};
 use std::thread::Threads;
-use tcc_cert::WriteFault;
+use tcc_cert::CertWriteFault;
 use tcc_explain::{Answer, Gate};
 use tcc_print::notes::note_last;
 use tcc_print::printing::{print_device, print_memory};
@@ -200,7 +200,7 @@ fn answer_records<R: Read + Drop, W: Write, N: Write, G: Gate>(
 }
 
 /// Writes the certificate, if a file is given for it.
-fn send_certificate<C: Write>(answer: &Answer, file: &mut Option<C>) -> Result<(), WriteFault>
+fn send_certificate<C: Write>(answer: &Answer, file: &mut Option<C>) -> Result<(), CertWriteFault>
     ensures whole { OnOk result (Gains (option_map C.contents file.old) (option_map C.contents file.new) (certificate_text (certificate_of answer.now))) }
     ensures part { OnErr result (GainsPart (option_map C.contents file.old) (option_map C.contents file.new) (certificate_text (certificate_of answer.now))) }
 {

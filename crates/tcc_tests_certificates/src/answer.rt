@@ -10,7 +10,7 @@ use tcc_answer::pieces::push;
 use tcc_answer::{
     Anomaly, Answer, CappedRows, Commit, Labels, Shape, WriteFault, write_json, write_text,
 };
-use tcc_cert::{Certificate, Links, Numbers, Table, Version};
+use tcc_cert::{Certificate, Links, Numbers, OrderClaim, Table, Version};
 use tcc_graph::{Graph, Level, Link, Step, Walk};
 use tcc_reads::resolve;
 use tcc_rows::snapshot_of;
@@ -81,12 +81,12 @@ fn parts_of_an_order(rt: HostRuntime) -> Result<(), Fail> {
     assert!(&rt;
         matches!(
             commit.certificate(),
-            Certificate::Order {
+            Certificate::Order(OrderClaim {
                 version: Version::Two,
                 level: Level::Causal,
                 sessions: 2,
                 ..
-            }
+            })
         )
     );
     Ok(())

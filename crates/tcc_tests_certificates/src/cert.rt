@@ -9,8 +9,8 @@ use std::io::{ErrorKind, Read};
 use std::process::Abort;
 use std::test::Fail;
 use streams::{Failing, Fault, Faulty, gives_twice, nothing_held};
-use tcc_cert::sending::send;
-use tcc_cert::{CertFaultKind, Certificate, WriteFault, read, write};
+use tcc_cert::{CertFaultKind, CertWriteFault, Certificate, read, write};
+use tcc_sending::send;
 use texts::{STALE_READ, STALE_READ_UPWARD, TEXTS, altered};
 
 /// What a writer with room for this many bytes takes of a stale read's text.
@@ -20,7 +20,7 @@ fn assert_part(
     certificate: &Certificate,
     room: usize,
     fault: Fault,
-    wanted: Result<(), WriteFault>,
+    wanted: Result<(), CertWriteFault>,
 ) {
     let text = STALE_READ.as_bytes();
     let part = text.get(..room).unwrap_or(text);
@@ -55,7 +55,7 @@ fn writer_fails(rt: HostRuntime) -> Result<(), Fail> {
     let Ok(certificate) = read(alloc, STALE_READ.as_bytes()) else {
         panic!(&rt; "a certificate is read");
     };
-    let failed = Err(WriteFault::Device);
+    let failed = Err(CertWriteFault::Device);
     for fault in [
         Fault::Fails(ErrorKind::Other),
         Fault::TakesNone,

@@ -3,7 +3,7 @@ use crate::worked::{ABORTED, CROSSED, DISTANT, FORKED, LONGER, RELAYED, STALE, T
 use std::alloc::{AllocError, Global};
 use std::process::Abort;
 use std::test::Fail;
-use tcc_cert::{Certificate, Links, Numbers, Table, Version, read};
+use tcc_cert::{Certificate, CycleClaim, Links, Numbers, OrderClaim, Table, Version, read};
 use tcc_check::{Rule, Verdict, check, check_stream};
 use tcc_graph::Level;
 use tcc_txn::NoMemory;
@@ -265,14 +265,14 @@ fn no_such_text(rt: HostRuntime) -> Result<(), Fail> {
             near.push(Numbers::new(row.to_vec(alloc)?))?;
             far.push(Numbers::new(row.to_vec(alloc)?))?;
         }
-        let certificate = Certificate::Cycle {
+        let certificate = Certificate::Cycle(CycleClaim {
             version,
             level: Level::Causal,
             links: Links::new(Vec::new(alloc)),
             least: 2,
             near: Table::new(near),
             far: Table::new(far),
-        };
+        });
         let rejected = Verdict::Rejected { rule, at: (0, 0) };
         assert_eq!(&rt; verdict(&rt, alloc, CROSSED, &certificate), rejected);
     }
@@ -280,13 +280,13 @@ fn no_such_text(rt: HostRuntime) -> Result<(), Fail> {
     for row in [[0], [0], [1]] {
         clocks.push(Numbers::new(row.to_vec(alloc)?))?;
     }
-    let certificate = Certificate::Order {
+    let certificate = Certificate::Order(OrderClaim {
         version: Version::One,
         level: Level::Atomic,
         order: Numbers::new([0, 1, 2].to_vec(alloc)?),
         sessions: 1,
         clocks: Table::new(clocks),
-    };
+    });
     let rejected = Verdict::Rejected {
         rule: Rule::Sizes,
         at: (0, 0),

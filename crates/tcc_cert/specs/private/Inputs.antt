@@ -4,7 +4,8 @@ use Rattle.tcc_cert.specs.declared.fault.CertFault.{CertFault}
 use Rattle.tcc_cert.specs.declared.fault.CertFaultKind.{CertFaultKind}
 use Rattle.tcc_cert.specs.declared.fault.CertFaultKind.TheVariants.{Read, Trailing}
 use Rattle.tcc_cert.specs.declared.reading.input.Input.{Input}
-use Rattle.tcc_cert.specs.WindowBytes.{window_bytes, HasFailed, IsAt}
+use Rattle.tcc_cert.specs.WindowBytes.{window_bytes}
+use Rattle.tcc_cert.specs.InputBytes.{HasFailed, IsAt}
 use Rattle.tcc_cert.specs.Outcomes.{IsFailure}
 use Rattle.tcc_cert.specs.private.Showing.{Faults}
 use Rattle.tcc_cert.specs.Reading.{Place, Reads, behind, line_of}

@@ -54,7 +54,7 @@ fn line_length(bytes: &[u8], searched: usize) -> usize
 
 impl<R: Read> Input<R> {
     ghost use Rattle.tcc_cert.specs.private.Inputs.{Ends, FindsLine, AsBefore, TakesLine, line_in};
-    ghost use Rattle.tcc_cert.specs.WindowBytes.{HasFailed, IsAt};
+    ghost use Rattle.tcc_cert.specs.InputBytes.{HasFailed, IsAt};
     ghost use Rattle.tcc_cert.specs.Reading.{Place};
     ghost use Rattle.tcc_cert.specs.Ranges.{ranges_of};
 

@@ -1,7 +1,7 @@
 //! The lines of links and of the steps of their walks.
 ghost use Rattle.std.specs.Prelude.{◌≡◌, OnOk};
 ghost use Rattle.tcc_cert.specs.private.Inputs.{AsBefore, Gives};
-ghost use Rattle.tcc_cert.specs.WindowBytes.{IsAt};
+ghost use Rattle.tcc_cert.specs.InputBytes.{IsAt};
 ghost use Rattle.tcc_cert.specs.Reading.{Place, link_at, repeated, step_line, with_walk, words};
 
 use super::forms::Head;

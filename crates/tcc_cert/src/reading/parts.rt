@@ -4,7 +4,7 @@ ghost use Rattle.tcc_cert.specs.declared.part.Part.TheVariants as part;
 ghost use Rattle.tcc_cert.specs.Parts.{Parts, parts_read};
 
 use super::input::Input;
-use super::stages::{Phase, Stage, step};
+use super::stages::{Coming, Stage, step};
 use crate::{CertFault, CertFaultKind, Part};
 use std::alloc::Global;
 use std::io::Read;
@@ -15,7 +15,7 @@ use std::io::Read;
 #[derive(Drop)]
 pub struct CertReader<R> {
     input: Input<R>,
-    phase: Phase,
+    stage: Stage,
 }
 
 impl<R: Read> CertReader<R> {
@@ -29,7 +29,7 @@ impl<R: Read> CertReader<R> {
     {
         CertReader {
             input: Input::new(reader),
-            phase: Phase::Going(Stage::Whole),
+            stage: Stage::Going(Coming::Whole),
         }
     }
 
@@ -55,18 +55,18 @@ impl<R: Read> CertReader<R> {
         ensures begun { is_new self.new ≡ false }
         ensures left { IfOk result (λ given. (is_new self.old ≡ true) ⊎ ((given ≡ part.End) ⊎ (rows_left self.new < rows_left self.old))) }
     {
-        let stage = match self.phase {
-            Phase::Going(stage) => stage,
-            Phase::Ended => return Ok(Part::End),
-            Phase::Stopped(fault) => return Err(fault),
+        let coming = match self.stage {
+            Stage::Going(coming) => coming,
+            Stage::Ended => return Ok(Part::End),
+            Stage::Stopped(fault) => return Err(fault),
         };
-        match step(alloc, &mut self.input, stage) {
-            Ok((part, phase)) => {
-                self.phase = phase;
+        match step(alloc, &mut self.input, coming) {
+            Ok((part, stage)) => {
+                self.stage = stage;
                 Ok(part)
             }
             Err(fault) => {
-                self.phase = Phase::Stopped(fault);
+                self.stage = Stage::Stopped(fault);
                 Err(fault)
             }
         }

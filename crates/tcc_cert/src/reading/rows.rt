@@ -1,7 +1,7 @@
 //! Lines of numbers.
 ghost use Rattle.std.specs.Prelude.{◌≡◌, ◌<◌, ◌≤◌, ◌+◌, All, IfOk, IfSome, OnOk, length};
 ghost use Rattle.tcc_cert.specs.private.Inputs.{AsBefore, Gives};
-ghost use Rattle.tcc_cert.specs.WindowBytes.{IsAt};
+ghost use Rattle.tcc_cert.specs.InputBytes.{IsAt};
 ghost use Rattle.tcc_cert.specs.private.Showing.{Shows, ShowsItems};
 ghost use Rattle.tcc_cert.specs.Reading.{Place, numbers_line, numbers_of, parted, words, words_of};
 ghost use Rattle.tcc_cert.specs.Texts.{numbers_words, words_text};

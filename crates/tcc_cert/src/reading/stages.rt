@@ -1,7 +1,7 @@
 //! The parts of a certificate's text, each with what stands behind it.
 ghost use Rattle.std.specs.Prelude.{◌≡◌, ◌<◌, ◌+◌, ℕ, IfOk, OnOk};
 ghost use Rattle.tcc_cert.specs.private.Inputs.{AsBefore};
-ghost use Rattle.tcc_cert.specs.WindowBytes.{IsAt};
+ghost use Rattle.tcc_cert.specs.InputBytes.{IsAt};
 ghost use Rattle.tcc_cert.specs.Parts.{Parts, end_parts, far_parts, link_rows, order_parts, order_rest, parts_behind, whole_parts};
 ghost use Rattle.tcc_cert.specs.Reading.{Place};
 ghost use Rattle.tcc_cert.specs.Shapes.{behind_table, height, links_from, rows_from, table_parts, table_rows};
@@ -16,40 +16,45 @@ use super::shape::TableShape;
 use super::words::next_line;
 use super::{header, mark};
 use crate::ranges::ranges_of;
-use crate::{CertFault, Part, Version};
+use crate::{CertFault, CycleHead, OrderHead, Part, Version};
 use std::alloc::Global;
 use std::io::Read;
 use tcc_graph::Level;
 
-/// What stands behind the parts that were given.
+/// So many links of a cycle over so many transactions.
 #[derive(Clone, Copy)]
-pub(crate) enum Stage {
+pub(crate) struct LinksLeft {
+    version: Version,
+    transactions: u32,
+    many: u32,
+}
+
+/// So many rows of a table.
+#[derive(Clone, Copy)]
+pub(crate) struct RowsLeft {
+    version: Version,
+    table: TableShape,
+    many: u32,
+}
+
+/// What comes behind the parts that were given.
+#[derive(Clone, Copy)]
+pub(crate) enum Coming {
     /// The whole text.
     Whole,
-    /// So many links of a cycle, and what stands behind them.
-    Links {
-        version: Version,
-        transactions: u32,
-        left: u32,
-    },
+    /// Links of a cycle, and what stands behind them.
+    Links(LinksLeft),
     /// The line before the rows of a table, these, and what stands behind them.
-    Mark {
-        version: Version,
-        table: TableShape,
-    },
-    /// So many rows of a table, and what stands behind them.
-    Rows {
-        version: Version,
-        table: TableShape,
-        left: u32,
-    },
+    Mark { version: Version, table: TableShape },
+    /// Rows of a table, and what stands behind them.
+    Rows(RowsLeft),
 }
 
 /// How far the reading has come.
 #[derive(Clone, Copy)]
-pub(crate) enum Phase {
+pub(crate) enum Stage {
     /// Something is still to be read.
-    Going(Stage),
+    Going(Coming),
     /// There are no more parts.
     Ended,
     /// A fault was met.
@@ -57,7 +62,7 @@ pub(crate) enum Phase {
 }
 
 /// A part, and what stands behind it, or the first fault.
-pub(crate) type NextPart = Result<(Part, Phase), CertFault>;
+pub(crate) type NextPart = Result<(Part, Stage), CertFault>;
 
 /// The last line, and nothing behind it.
 fn end<R: Read>(alloc: Global, input: &mut Input<R>, version: Version) -> NextPart
@@ -67,31 +72,29 @@ fn end<R: Read>(alloc: Global, input: &mut Input<R>, version: Version) -> NextPa
 {
     mark(alloc, input, version, b"end")?;
     input.end()?;
-    Ok((Part::End, Phase::Ended))
+    Ok((Part::End, Stage::Ended))
 }
 
 /// The next row of a table that has one.
-fn table_row<R: Read>(
-    alloc: Global,
-    input: &mut Input<R>,
-    version: Version,
-    table: TableShape,
-    left: u32,
-) -> NextPart
-    requires { 0 < left }
+fn table_row<R: Read>(alloc: Global, input: &mut Input<R>, left: RowsLeft) -> NextPart
+    requires { 0 < left.many }
     ensures works { OnOk result (AsBefore input.old input.new) }
-    ensures step { (at : Place) (from : ℕ) → from + left ≡ height table → IsAt R.remaining input.old at
-        → TakesStep R.remaining at.line (table_rows version table from left at) result input.new }
-    ensures row { IfOk result (λ given. IsRowStep (rows_from table left) given) }
+    ensures step { (at : Place) (from : ℕ) → from + left.many ≡ height left.table → IsAt R.remaining input.old at
+        → TakesStep R.remaining at.line (table_rows left.version left.table from left.many at) result input.new }
+    ensures row { IfOk result (λ given. IsRowStep (rows_from left.table left.many) given) }
 {
-    let columns = table.columns(version, left) as usize;
-    let numbers = row(alloc, input, version, columns, table.most(version))?;
-    let stage = Stage::Rows {
+    let RowsLeft {
         version,
         table,
-        left: left - 1,
-    };
-    Ok((table.part(numbers), Phase::Going(stage)))
+        many,
+    } = left;
+    let columns = table.columns(version, many) as usize;
+    let numbers = row(alloc, input, version, columns, table.most(version))?;
+    let coming = Coming::Rows(RowsLeft {
+        many: many - 1,
+        ..left
+    });
+    Ok((table.part(numbers), Stage::Going(coming)))
 }
 
 /// The line `far`, and its first row.
@@ -108,7 +111,12 @@ fn far<R: Read>(
     let table = TableShape::Far { transactions };
     mark(alloc, input, version, b"far")?;
     if transactions > 0 {
-        table_row(alloc, input, version, table, transactions)
+        let left = RowsLeft {
+            version,
+            table,
+            many: transactions,
+        };
+        table_row(alloc, input, left)
     } else {
         end(alloc, input, version)
     }
@@ -132,22 +140,16 @@ fn behind_table<R: Read>(
 }
 
 /// The next row of a table, or what comes behind it where none is left.
-fn rows<R: Read>(
-    alloc: Global,
-    input: &mut Input<R>,
-    version: Version,
-    table: TableShape,
-    left: u32,
-) -> NextPart
+fn rows<R: Read>(alloc: Global, input: &mut Input<R>, left: RowsLeft) -> NextPart
     ensures works { OnOk result (AsBefore input.old input.new) }
-    ensures step { (at : Place) (from : ℕ) → from + left ≡ height table → IsAt R.remaining input.old at
-        → TakesStep R.remaining at.line (table_rows version table from left at) result input.new }
-    ensures row { IfOk result (λ given. IsRowStep (rows_from table left) given) }
+    ensures step { (at : Place) (from : ℕ) → from + left.many ≡ height left.table → IsAt R.remaining input.old at
+        → TakesStep R.remaining at.line (table_rows left.version left.table from left.many at) result input.new }
+    ensures row { IfOk result (λ given. IsRowStep (rows_from left.table left.many) given) }
 {
-    if left > 0 {
-        table_row(alloc, input, version, table, left)
+    if left.many > 0 {
+        table_row(alloc, input, left)
     } else {
-        behind_table(alloc, input, version, table)
+        behind_table(alloc, input, left.version, left.table)
     }
 }
 
@@ -163,25 +165,30 @@ fn marked<R: Read>(
     ensures row { IfOk result (λ given. IsRowStep (rows_from table (height table)) given) }
 {
     mark(alloc, input, version, table.word())?;
-    rows(alloc, input, version, table, table.height())
+    let left = RowsLeft {
+        version,
+        table,
+        many: table.height(),
+    };
+    rows(alloc, input, left)
 }
 
 /// What stands behind the order of a claim.
-fn behind_order(version: Version, level: Level, transactions: u32, sessions: u32) -> Stage
+fn behind_order(version: Version, level: Level, transactions: u32, sessions: u32) -> Coming
     ensures behind { (at : Place) → IsBehind result at (order_rest version level transactions sessions at) }
-    ensures begun { IsBegun (Phase.Going result) }
+    ensures begun { IsBegun (Stage.Going result) }
 {
     let table = TableShape::Clocks {
         transactions,
         sessions,
     };
     match level {
-        Level::Causal => Stage::Mark { version, table },
-        Level::Atomic => Stage::Rows {
+        Level::Causal => Coming::Mark { version, table },
+        Level::Atomic => Coming::Rows(RowsLeft {
             version,
             table,
-            left: 0,
-        },
+            many: 0,
+        }),
     }
 }
 
@@ -206,56 +213,45 @@ fn order<R: Read>(
         transactions as usize,
         ranges_of(version).number,
     )?;
-    let stage = behind_order(version, level, transactions, sessions);
-    let claim = Part::Order {
+    let coming = behind_order(version, level, transactions, sessions);
+    let head = OrderHead {
         version,
         level,
         order,
         sessions,
     };
-    Ok((claim, Phase::Going(stage)))
+    Ok((Part::Order(head), Stage::Going(coming)))
 }
 
 /// The next link of a cycle that has one.
-fn next_link<R: Read>(
-    alloc: Global,
-    input: &mut Input<R>,
-    version: Version,
-    transactions: u32,
-    left: u32,
-) -> NextPart
-    requires { 0 < left }
+fn next_link<R: Read>(alloc: Global, input: &mut Input<R>, left: LinksLeft) -> NextPart
+    requires { 0 < left.many }
     ensures works { OnOk result (AsBefore input.old input.new) }
     ensures step { (at : Place) (from : ℕ) → IsAt R.remaining input.old at
-        → TakesStep R.remaining at.line (link_rows version transactions from left at) result input.new }
-    ensures row { IfOk result (λ given. IsRowStep (links_from transactions left) given) }
+        → TakesStep R.remaining at.line (link_rows left.version left.transactions from left.many at) result input.new }
+    ensures row { IfOk result (λ given. IsRowStep (links_from left.transactions left.many) given) }
 {
-    let one = link(alloc, input, version)?;
-    let stage = Stage::Links {
-        version,
-        transactions,
-        left: left - 1,
-    };
-    Ok((Part::Link(one), Phase::Going(stage)))
+    let one = link(alloc, input, left.version)?;
+    let coming = Coming::Links(LinksLeft {
+        many: left.many - 1,
+        ..left
+    });
+    Ok((Part::Link(one), Stage::Going(coming)))
 }
 
 /// The next link of a cycle, or what comes behind the last.
-fn links<R: Read>(
-    alloc: Global,
-    input: &mut Input<R>,
-    version: Version,
-    transactions: u32,
-    left: u32,
-) -> NextPart
+fn links<R: Read>(alloc: Global, input: &mut Input<R>, left: LinksLeft) -> NextPart
     ensures works { OnOk result (AsBefore input.old input.new) }
     ensures step { (at : Place) (from : ℕ) → IsAt R.remaining input.old at
-        → TakesStep R.remaining at.line (link_rows version transactions from left at) result input.new }
-    ensures row { IfOk result (λ given. IsRowStep (links_from transactions left) given) }
+        → TakesStep R.remaining at.line (link_rows left.version left.transactions from left.many at) result input.new }
+    ensures row { IfOk result (λ given. IsRowStep (links_from left.transactions left.many) given) }
 {
-    if left > 0 {
-        next_link(alloc, input, version, transactions, left)
+    if left.many > 0 {
+        next_link(alloc, input, left)
     } else {
-        marked(alloc, input, version, TableShape::Near { transactions })
+        let transactions = left.transactions;
+        let table = TableShape::Near { transactions };
+        marked(alloc, input, left.version, table)
     }
 }
 
@@ -275,19 +271,19 @@ fn claim<R: Read>(alloc: Global, input: &mut Input<R>, version: Version, level: 
             links,
             least,
         } => {
-            let claim = Part::Cycle {
+            let head = CycleHead {
                 version,
                 level,
                 count: transactions,
                 links,
                 least,
             };
-            let stage = Stage::Links {
+            let left = LinksLeft {
                 version,
                 transactions,
-                left: links,
+                many: links,
             };
-            Ok((claim, Phase::Going(stage)))
+            Ok((Part::Cycle(head), Stage::Going(Coming::Links(left))))
         }
     }
 }
@@ -303,24 +299,16 @@ fn whole<R: Read>(alloc: Global, input: &mut Input<R>) -> NextPart
 }
 
 /// The next part, and what stands behind it.
-pub(crate) fn step<R: Read>(alloc: Global, input: &mut Input<R>, stage: Stage) -> NextPart
+pub(crate) fn step<R: Read>(alloc: Global, input: &mut Input<R>, coming: Coming) -> NextPart
     ensures works { OnOk result (AsBefore input.old input.new) }
-    ensures step { (at : Place) (ahead : Parts) → IsAt R.remaining input.old at → IsBehind stage at ahead
+    ensures step { (at : Place) (ahead : Parts) → IsAt R.remaining input.old at → IsBehind coming at ahead
         → TakesStep R.remaining at.line ahead result input.new }
-    ensures follows { IfOk result (λ given. IsStepAt stage given) }
+    ensures follows { IfOk result (λ given. IsStepAt coming given) }
 {
-    match stage {
-        Stage::Whole => whole(alloc, input),
-        Stage::Links {
-            version,
-            transactions,
-            left,
-        } => links(alloc, input, version, transactions, left),
-        Stage::Mark { version, table } => marked(alloc, input, version, table),
-        Stage::Rows {
-            version,
-            table,
-            left,
-        } => rows(alloc, input, version, table, left),
+    match coming {
+        Coming::Whole => whole(alloc, input),
+        Coming::Links(left) => links(alloc, input, left),
+        Coming::Mark { version, table } => marked(alloc, input, version, table),
+        Coming::Rows(left) => rows(alloc, input, left),
     }
 }

@@ -1,7 +1,7 @@
 //! The lines of words, each judged by the form of what it has to say.
 ghost use Rattle.std.specs.Prelude.{◌≡◌, map, IfOk, OnOk, Result};
 ghost use Rattle.tcc_cert.specs.private.Inputs.{AsBefore, Gives};
-ghost use Rattle.tcc_cert.specs.WindowBytes.{IsAt};
+ghost use Rattle.tcc_cert.specs.InputBytes.{IsAt};
 ghost use Rattle.tcc_cert.specs.private.Showing.{Shows};
 ghost use Rattle.tcc_cert.specs.Reading.{Place, words, words_of};
 

@@ -3,10 +3,13 @@ use Rattle.std.specs.Prelude.{ℕ, ◌≡◌, List, [], ◌∷◌, ◌++◌, len
 use Rattle.tcc_reads.specs.History.{History, count}
 use Rattle.tcc_graph.specs.declared.level.Level.{Level}
 use Rattle.tcc_graph.specs.declared.link.Link.{Link}
-use Rattle.tcc_cert.specs.CycleRules.{CycleClaim, HasRightSizes, IsLinkBelow, BreaksNearPair, BreaksNearStep, BreaksFarLink, BreaksFarStep, BreaksReturn}
-use Rattle.tcc_cert.specs.Parts.{Parts}
+use Rattle.tcc_cert.specs.CycleRules.{HasRightSizes, IsLinkBelow, BreaksNearPair, BreaksNearStep, BreaksFarLink, BreaksFarStep, BreaksReturn}
+use Rattle.tcc_cert.specs.Parts.{Parts, with_clocks, with_tables}
 use Rattle.tcc_cert.specs.Rules.{IsRightCycle}
 use Rattle.tcc_cert.specs.Tables.{row_of}
+use Rattle.tcc_cert.specs.declared.certificate.CycleClaim.{CycleClaim}
+use Rattle.tcc_cert.specs.declared.part.CycleHead.{CycleHead}
+use Rattle.tcc_cert.specs.declared.part.OrderHead.{OrderHead}
 use Rattle.tcc_cert.specs.declared.part.Part.{Part}
 use Rattle.tcc_cert.specs.declared.part.Part.TheVariants as part
 use Rattle.tcc_cert.specs.declared.version.Version.{Version}
@@ -15,24 +18,14 @@ use Rattle.tcc_check.specs.declared.judgement.Judgement.{Judgement}
 use Rattle.tcc_check.specs.declared.near_rows.NearJudged.{NearJudged}
 use Rattle.tcc_check.specs.declared.near_rows.NearRows.{NearRows}
 use Rattle.tcc_check.specs.declared.pairs.Pairs.{Pairs}
-use Rattle.tcc_check.specs.declared.streaming.CycleHead.{CycleHead}
 use Rattle.tcc_check.specs.declared.verdict.Rule.TheVariants.{Links, NearPairs, NearSteps, FarLinks, FarSteps, Returns}
 use Rattle.tcc_check.specs.declared.verdict.Verdict.{Verdict}
 use Rattle.tcc_check.specs.private.Coming.{IsFarRight, IsNearFoundTo, near_verdict}
 use Rattle.tcc_check.specs.private.Pairs.{AreOrderly}
-use Rattle.tcc_check.specs.private.Places.{order_claim}
 use Rattle.tcc_check.specs.private.Runs.{AreRuns}
 use Rattle.tcc_check.specs.Verdicts.{Asked, IsCycleFault, bounds_rules, by_places, cycle_rules, order_rules}
 use Rattle.tcc_check.specs.private.Searches.{IsAnswer}
 use Rattle.tcc_check.specs.private.WeightsFrom.{AreAllEnds, AreEndsTo, WeighsFrom}
-
--- what is claimed of links and tables
-abbrev pub cycle_claim : Version → Level → List Link → ℕ → List (List ℕ) → List (List ℕ) → CycleClaim
-cycle_claim version level links least near far = record { version = version; level = level; links = links; least = least; near = near; far = far }
-
--- the claim of what a text says before its links, and of these and the tables
-abbrev pub claim_with : CycleHead → List Link → List (List ℕ) → List (List ℕ) → CycleClaim
-claim_with head links near far = cycle_claim head.version head.level links head.least near far
 
 -- the rule on links
 abbrev pub links_rules : History → CycleClaim → List Asked
@@ -51,7 +44,7 @@ far_rules h version least near far =
 -- all but the rule on sizes
 abbrev pub claim_rules : History → CycleClaim → List Asked
 claim_rules h k =
-    record { rule = Links; holds = IsRightCycle h k; broken = IsCycleFault h k } ∷ bounds_rules h k.version k.level k.least k.near k.far
+    record { rule = Links; holds = IsRightCycle h k; broken = IsCycleFault h k } ∷ bounds_rules h k
 
 -- what was found in the first rows of a table of lengths, and the links that they tell of
 pub record AreNearRowsTo (h : History) (level : Level) (least : ℕ) (near : List (List ℕ)) (n : ℕ) (rows : NearRows) : Type 0 where
@@ -78,9 +71,9 @@ pub record IsOrderly (h : History) (judged : NearJudged) : Type 0 where
   pub links : AreOrderly (count h) judged.links.items
 
 -- the numbers of the links are below that of the transactions, the rule on links says so, and these parts come behind them
-pub record AreLinksJudged (h : History) (level : Level) (least : ℕ) (links : List Link) (rest : Parts) (tables : List Part) (verdict : Verdict) : Type 0 where
+pub record AreLinksJudged (h : History) (head : CycleHead) (links : List Link) (rest : Parts) (tables : List Part) (verdict : Verdict) : Type 0 where
   pub below : All (IsLinkBelow (count h)) links
-  pub answer : (version : Version) (near far : List (List ℕ)) → IsAnswer (links_rules h (cycle_claim version level links least near far)) verdict
+  pub answer : (near far : List (List ℕ)) → IsAnswer (links_rules h (with_tables head links near far)) verdict
   pub behind : rest.parts ≡ tables
 
 -- where no part is left behind the rows of costs, they are the whole table, and the rules on them say so
@@ -99,10 +92,9 @@ pub record IsCycleJudged (h : History) (head : CycleHead) (ahead : Parts) (judge
   pub same : judgement.claim ≡ claim.Cycle head.least
   pub answer : (links : List Link) (near far : List (List ℕ)) → length links ≡ head.links → length near ≡ head.count
       → ahead.parts ≡ map part.Link links ++ (map part.Near near ++ map part.Far far)
-      → IsAnswer (cycle_rules h (claim_with head links near far)) judgement.verdict
+      → IsAnswer (cycle_rules h (with_tables head links near far)) judgement.verdict
 
 -- and of a claim that a list is a commit order, with the clocks that come
-pub record IsOrderJudged (h : History) (level : Level) (order : List ℕ) (sessions : ℕ) (ahead : Parts) (judgement : Judgement) : Type 0 where
+pub record IsOrderJudged (h : History) (head : OrderHead) (ahead : Parts) (judgement : Judgement) : Type 0 where
   pub same : judgement.claim ≡ claim.Order
-  pub answer : (clocks : List (List ℕ)) → ahead.parts ≡ map part.Clocks clocks
-      → IsAnswer (order_rules h (order_claim level order sessions clocks)) judgement.verdict
+  pub answer : (clocks : List (List ℕ)) → ahead.parts ≡ map part.Clocks clocks → IsAnswer (order_rules h (with_clocks head clocks)) judgement.verdict

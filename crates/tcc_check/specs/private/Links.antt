@@ -5,8 +5,9 @@ use Rattle.tcc_reads.specs.History.{History}
 use Rattle.tcc_graph.specs.Levels.{Judged}
 use Rattle.tcc_graph.specs.Links.{cost, link_from}
 use Rattle.tcc_graph.specs.declared.link.Link.{Link}
-use Rattle.tcc_cert.specs.CycleRules.{CycleClaim, IsLinkRight, ends_at}
+use Rattle.tcc_cert.specs.CycleRules.{IsLinkRight, ends_at}
 use Rattle.tcc_cert.specs.Rules.{IsRightCycle}
+use Rattle.tcc_cert.specs.declared.certificate.CycleClaim.{CycleClaim}
 use Rattle.tcc_check.specs.declared.links.LinksSeen.{LinksSeen}
 use Rattle.tcc_check.specs.Verdicts.{IsCycleFault}
 

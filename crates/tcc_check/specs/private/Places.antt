@@ -4,11 +4,7 @@ use Rattle.tcc_reads.specs.History.{History}
 use Rattle.tcc_graph.specs.Orders.{IsNumbering}
 use Rattle.tcc_graph.specs.declared.level.Level.{Level}
 use Rattle.tcc_graph.specs.declared.level.Level.TheVariants.{Causal}
-use Rattle.tcc_cert.specs.OrderRules.{HasInClock, OrderClaim}
-
--- what is claimed of a list
-abbrev pub order_claim : Level → List ℕ → ℕ → List (List ℕ) → OrderClaim
-order_claim level order sessions clocks = record { level = level; order = order; sessions = sessions; clocks = clocks }
+use Rattle.tcc_cert.specs.OrderRules.{HasInClock}
 
 -- the order has each number once, at its place
 pub record ArePlaces (order : List ℕ) (places : List ℕ) : Type 0 where

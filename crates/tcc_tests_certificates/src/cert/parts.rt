@@ -27,8 +27,8 @@ fn told(alloc: Global, part: &Part) -> Result<String, AllocError> {
         _ => [0, 0],
     };
     let (word, numbers): (&str, &[u32]) = match part {
-        Part::Order { order, .. } => ("order", order.as_slice()),
-        Part::Cycle { .. } => ("cycle", &[]),
+        Part::Order(head) => ("order", head.order.as_slice()),
+        Part::Cycle(_) => ("cycle", &[]),
         Part::Link(_) => ("link", &link),
         Part::Clocks(row) => ("clocks", row.as_slice()),
         Part::Near(row) => ("near", row.as_slice()),

@@ -3,7 +3,7 @@ use super::streams::{Breaking, nothing_held};
 use std::alloc::{AllocError, Global};
 use std::process::Abort;
 use std::test::Fail;
-use tcc_cert::{CycleWriter, Links, Numbers, Table, Version, WriteFault};
+use tcc_cert::{CertWriteFault, CycleWriter, Links, Numbers, Table, Version};
 use tcc_graph::{Level, Link};
 
 fn one_link(alloc: Global) -> Result<Links, AllocError> {
@@ -54,9 +54,9 @@ fn the_end_is_flushed(rt: HostRuntime) -> Result<(), Fail> {
 }
 
 /// Once a call has answered that a write failed, each later one does.
-fn note(rt: &impl Abort, has_failed: &mut bool, answer: Result<(), WriteFault>) {
+fn note(rt: &impl Abort, has_failed: &mut bool, answer: Result<(), CertWriteFault>) {
     if *has_failed {
-        assert_eq!(rt; answer, Err(WriteFault::Device));
+        assert_eq!(rt; answer, Err(CertWriteFault::Device));
     }
     *has_failed = answer.is_err();
 }

@@ -8,25 +8,25 @@ use Rattle.tcc_cert.proofs.writing.order.Goals as goal
 pub returns-in_err-order_sizes : goal.returns-in_err-order_sizes
 returns-in_err-order_sizes g c =
     failed c.from_residual.result _ _ _ _ _ c.from_residual.ensures.0
-    (Stops-early _ (rw c.as_slice.ensures at c.in_err-order_sizes.ensures))
+    (Stops-early _ (rw c.as_slice-order.ensures at c.in_err-order_sizes.ensures))
 
 pub returns-in_err-number_line : goal.returns-in_err-number_line
 returns-in_err-number_line g c =
     failed c.from_residual-in_err-number_line.result _ _ _ _ _ c.from_residual-in_err-number_line.ensures.0
-    (Stops-then (rw c.as_slice.ensures at c.in_ok-order_sizes.ensures)
-    (Stops-early _ (rw c.as_slice-2.ensures at c.in_err-number_line.ensures)))
+    (Stops-then (rw c.as_slice-order.ensures at c.in_ok-order_sizes.ensures)
+    (Stops-early _ (rw c.as_slice-order.ensures at c.in_err-number_line.ensures)))
 
 pub returns-in_err-clocks : goal.returns-in_err-clocks
 returns-in_err-clocks g c =
-    rw (flat_map-append line_text (clocks_lines c.args.level c.args.rows.now) ((codes "end" ∷ []) ∷ []))
+    rw (flat_map-append line_text (clocks_lines c.args.claim.now.level c.args.claim.now.clocks) ((codes "end" ∷ []) ∷ []))
     (failed c.from_residual-in_err-clocks.result _ _ _ _ _ c.from_residual-in_err-clocks.ensures.0
-    (Stops-then (rw c.as_slice.ensures at c.in_ok-order_sizes.ensures)
-    (Stops-then (rw c.as_slice-2.ensures at c.in_ok-number_line.ensures)
+    (Stops-then (rw c.as_slice-order.ensures at c.in_ok-order_sizes.ensures)
+    (Stops-then (rw c.as_slice-order.ensures at c.in_ok-number_line.ensures)
     (Stops-early _ c.in_err-clocks.ensures))))
 
 pub returns : goal.returns
 returns g c =
-    rw (flat_map-append line_text (clocks_lines c.args.level c.args.rows.now) ((codes "end" ∷ []) ∷ []))
-    (IsSent-then c.line.result _ _ _ _ _ _ _ _ (rw c.as_slice.ensures at c.in_ok-order_sizes.ensures)
-    (IsSent-then c.line.result _ _ _ _ _ _ _ _ (rw c.as_slice-2.ensures at c.in_ok-number_line.ensures)
+    rw (flat_map-append line_text (clocks_lines c.args.claim.now.level c.args.claim.now.clocks) ((codes "end" ∷ []) ∷ []))
+    (IsSent-then c.line.result _ _ _ _ _ _ _ _ (rw c.as_slice-order.ensures at c.in_ok-order_sizes.ensures)
+    (IsSent-then c.line.result _ _ _ _ _ _ _ _ (rw c.as_slice-order.ensures at c.in_ok-number_line.ensures)
     (IsSent-then c.line.result _ _ _ _ _ _ _ _ c.in_ok-clocks.ensures c.line.ensures)))

@@ -1,5 +1,6 @@
 -- The first line goes out, then the claim, and last what is still outgoing.
-use Rattle.tcc_cert.proofs.SentFacts.{on_err, part_out, Sends-then, Stops-early, Stops-then, Appends-part}
+use Rattle.tcc_sending.proofs.Failing.{on_err}
+use Rattle.tcc_cert.proofs.SentFacts.{part_out, Sends-then, Stops-early, Stops-then, Appends-part}
 use Rattle.tcc_cert.proofs.writing.write_order.Goals as goal
 
 pub returns-in_err-header_line-clause-part : goal.returns-in_err-header_line-clause-part

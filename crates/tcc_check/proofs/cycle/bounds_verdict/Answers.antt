@@ -6,7 +6,7 @@ use Rattle.tcc_check.proofs.cycle.bounds_verdict.Goals as goal
 pub returns : goal.returns
 returns c =
     let h = c.args.graph.now in
-    let near = c.args.near.now in
-    let judged = c.in_ok-of_near.ensures.judged in
-    rw c.first_rejected.ensures (answer_first (near_rules h c.args.level near) (far_rules h c.args.version c.args.least near c.args.far.now)
-    c.in_ok-of_near.of_near.verdict c.far_table-of_far.result judged.answer (c.far_table-of_far.ensures near judged.links))
+    let k = c.args.claim.now in
+    let judged = rw c.rows.ensures at c.in_ok-near.ensures.judged in
+    rw c.first_rejected.ensures (answer_first (near_rules h k.level k.near) (far_rules h k.version k.least k.near k.far)
+    c.in_ok-near.near.verdict c.far_table-of_far.result judged.answer (rw (← c.rows-2.ensures) (c.far_table-of_far.ensures k.near judged.links)))

@@ -3,6 +3,7 @@ use Rattle.std.proofs.Common.{Result, Ok, Err}
 use Rattle.std.specs.Prelude.{IfOk}
 use Rattle.tcc_reads.specs.History.{History}
 use Rattle.tcc_cert.specs.declared.certificate.Certificate.{Certificate}
+use Rattle.tcc_cert.specs.declared.certificate.Certificate.TheVariants as claim
 use Rattle.tcc_check.specs.declared.verdict.Verdict.{Verdict}
 use Rattle.tcc_check.specs.Verdicts.{IsVerdict, rules_of}
 use Rattle.tcc_check.specs.private.Searches.{IsAnswer}
@@ -15,12 +16,8 @@ judged h k (Err e) said = said
 
 pub returns-in-Order : goal.returns-in-Order
 returns-in-Order c =
-    let said : IfOk c.order_verdict.result (IsAnswer (rules_of c.args.graph.now c.args.certificate.now)) =
-    rw (c.in-Order.is, ← c.as_slice-order.ensures, ← c.rows.ensures) c.order_verdict.ensures in
-    judged c.args.graph.now c.args.certificate.now c.order_verdict.result said
+    rw c.in-Order.is (judged c.args.graph.now (claim.Order c.in-Order.claim) c.order_verdict.result c.order_verdict.ensures)
 
 pub returns-in-Cycle : goal.returns-in-Cycle
 returns-in-Cycle c =
-    let said : IfOk c.cycle_verdict.result (IsAnswer (rules_of c.args.graph.now c.args.certificate.now)) =
-    rw (c.in-Cycle.is, ← c.as_slice.ensures, ← c.rows-in-Cycle.ensures, ← c.rows-in-Cycle-2.ensures) c.cycle_verdict.ensures in
-    judged c.args.graph.now c.args.certificate.now c.cycle_verdict.result said
+    rw c.in-Cycle.is (judged c.args.graph.now (claim.Cycle c.in-Cycle.claim) c.cycle_verdict.result c.cycle_verdict.ensures)

@@ -13,6 +13,6 @@ use Rattle.tcc_graph.specs.Levels.{judged}
 abbrev pub invariant-loop-before : goal.invariant-loop-before
 invariant-loop-before g l =
     (ahead : Parts) → IsAhead g.R.Read.remaining l.initial.parts ahead
-    → (rest : Parts) × (links : List Link) × AreLinksBehind l.many (IsLinkBelow (count l.graph))
-    (λ all i seen. AreSeenTo (judged l.graph l.level) l.least all i seen) l.before l.seen links ahead rest
+    → (rest : Parts) × (links : List Link) × AreLinksBehind l.head.links (IsLinkBelow (count l.graph))
+    (λ all i seen. AreSeenTo (judged l.graph l.head.level) l.head.least all i seen) l.before l.seen links ahead rest
     × IsAhead g.R.Read.remaining l.parts rest

@@ -4,4 +4,4 @@ use Rattle.tcc_check.proofs.links.links_verdict.Given as goal
 use Rattle.tcc_graph.specs.Levels.{judged}
 
 abbrev pub invariant-loop-before : goal.invariant-loop-before
-invariant-loop-before l = AreSeenTo (judged l.graph l.level) l.least l.links l.before l.seen
+invariant-loop-before l = AreSeenTo (judged l.graph l.claim.level) l.claim.least l.links l.before l.seen

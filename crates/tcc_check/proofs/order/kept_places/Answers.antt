@@ -6,16 +6,17 @@ use Rattle.tcc_check.proofs.order.kept_places.Goals as goal
 
 pub returns-then-not-keeps_pairs : goal.returns-then-not-keeps_pairs
 returns-then-not-keeps_pairs c =
-    let are : ArePlaces c.args.order.now c.deref.result.now = rw c.deref.ensures.value (rw c.in-Some.is at c.in_ok-places.ensures) in
-    λ sessions kept. iff_false c.keeps_pairs.ensures c.if-not-keeps_pairs.true
-    (kept_pairs c.args.graph.now c.args.level c.args.order.now c.deref.result.now sessions c.args.clocks.now are c.requires.order kept)
+    let k = c.args.claim.now in
+    let are : ArePlaces k.order c.deref.result.now = rw (c.deref.ensures.value, ← c.as_slice.ensures) (rw c.in-Some.is at c.in_ok-places.ensures) in
+    λ kept. iff_false c.keeps_pairs.ensures c.if-not-keeps_pairs.true
+    (rw c.rows.ensures (kept_pairs c.args.graph.now k c.deref.result.now are c.requires.sizes.order kept))
 
 pub returns : goal.returns
 returns c =
-    let places : ArePlaces c.args.order.now c.in-Some.places.items = rw c.in-Some.is at c.in_ok-places.ensures in
-    let are : ArePlaces c.args.order.now c.deref.result.now = rw c.deref.ensures.value places in
-    λ sessions. (
+    let k = c.args.claim.now in
+    let places : ArePlaces k.order c.in-Some.places.items = rw (← c.as_slice.ensures) (rw c.in-Some.is at c.in_ok-places.ensures) in
+    let are : ArePlaces k.order c.deref.result.now = rw c.deref.ensures.value places in (
       places,
-      pairs_kept c.args.graph.now c.args.level c.args.order.now c.deref.result.now sessions c.args.clocks.now are c.requires.order
-          (c.keeps_pairs.ensures.0 c.if-not-keeps_pairs.false),
+      pairs_kept c.args.graph.now k c.deref.result.now are c.requires.sizes.order
+          (rw (← c.rows.ensures) (c.keeps_pairs.ensures.0 c.if-not-keeps_pairs.false)),
     )

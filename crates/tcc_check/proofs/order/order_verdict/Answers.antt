@@ -3,36 +3,33 @@ use Rattle.tcc_check.specs.private.Places.{ArePlaces}
 use Rattle.tcc_check.proofs.Ordered.{sessions_kept, axiom_kept, places_apart}
 use Rattle.tcc_check.proofs.order.order_verdict.Goals as goal
 
-pub returns-in_default : goal.returns-in_default
-returns-in_default c = let kept = c.in_ok-places.ensures c.args.sessions in search rules
-
 pub keeps_axiom-requires : goal.keeps_axiom-requires
 keeps_axiom-requires c =
-    let kept = rw c.in-Some.is at c.in_ok-places.ensures c.args.sessions in
-    let are : ArePlaces c.args.order.now c.deref.result.now = rw c.deref.ensures.value kept.0 in
+    let kept = rw c.in-Some.is at c.in_ok-places.ensures in
+    let are : ArePlaces c.args.claim.now.order c.deref.result.now = rw c.deref.ensures.value kept.0 in
     let sizes = c.has_order_sizes.ensures.sizes.0 c.if-not-has_order_sizes.false in
     record {
       sessions = record {
         numbered = c.has_order_sizes.ensures.numbered;
         long = omega (arith, are.long, sizes.order);
-        kept = sessions_kept c.args.graph.now c.args.level c.args.order.now c.deref.result.now c.args.sessions c.args.clocks.now are sizes.order kept.1;
+        kept = sessions_kept c.args.graph.now c.args.claim.now c.deref.result.now are sizes.order kept.1;
       };
-      apart = places_apart c.args.order.now c.deref.result.now are;
+      apart = places_apart c.args.claim.now.order c.deref.result.now are;
       few = c.has_order_sizes.ensures.few_sessions;
-      sized = sizes.clocks;
+      sized = rw c.rows.ensures sizes.clocks;
     }
 
 pub returns-then-kept : goal.returns-then-kept
 returns-then-kept c =
-    let kept = rw c.in-Some.is at c.in_ok-places.ensures c.args.sessions in
-    let are : ArePlaces c.args.order.now c.deref.result.now = rw c.deref.ensures.value kept.0 in
+    let kept = rw c.in-Some.is at c.in_ok-places.ensures in
+    let are : ArePlaces c.args.claim.now.order c.deref.result.now = rw c.deref.ensures.value kept.0 in
     let sizes = c.has_order_sizes.ensures.sizes.0 c.if-not-has_order_sizes.false in (
       sizes,
       (
         kept.1,
         (
-          axiom_kept c.args.graph.now c.args.level c.args.order.now c.deref.result.now c.args.sessions c.args.clocks.now are sizes.order
-              (c.in_ok-kept.ensures c.if-kept.true),
+          axiom_kept c.args.graph.now c.args.claim.now c.deref.result.now are sizes.order
+              (rw (← c.rows.ensures) (c.in_ok-kept.ensures c.if-kept.true)),
           tt,
         ),
       ),
@@ -40,23 +37,19 @@ returns-then-kept c =
 
 pub broken_axiom-requires-clause-places : goal.broken_axiom-requires-clause-places
 broken_axiom-requires-clause-places c =
-    let kept = rw c.in-Some.is at c.in_ok-places.ensures c.args.sessions in
-    let are : ArePlaces c.args.order.now c.deref-2.result.now = rw c.deref-2.ensures.value kept.0 in
-    let sizes = c.has_order_sizes.ensures.sizes.0 c.if-not-has_order_sizes.false in
-    omega (arith, are.long, sizes.order)
+    let kept = rw c.in-Some.is at c.in_ok-places.ensures in
+    rw c.deref-2.ensures.value kept.0
 
 pub returns-in-Some-2 : goal.returns-in-Some-2
 returns-in-Some-2 c =
     let sizes = c.has_order_sizes.ensures.sizes.0 c.if-not-has_order_sizes.false in
-    let kept = rw c.in-Some.is at c.in_ok-places.ensures c.args.sessions in
-    let are : ArePlaces c.args.order.now c.deref-2.result.now = rw c.deref-2.ensures.value kept.0 in
-    let first = rw c.in-Some-2.is at (c.in_ok-at.ensures c.args.order.now c.args.sessions sizes.order are) in
+    let kept = rw c.in-Some.is at c.in_ok-places.ensures in
+    let first = rw c.in-Some-2.is at c.in_ok-at.ensures in
     inr (sizes, inr (kept.1, inl (refl, first)))
 
 pub returns : goal.returns
 returns c =
     let sizes = c.has_order_sizes.ensures.sizes.0 c.if-not-has_order_sizes.false in
-    let kept = rw c.in-Some.is at c.in_ok-places.ensures c.args.sessions in
-    let are : ArePlaces c.args.order.now c.deref-2.result.now = rw c.deref-2.ensures.value kept.0 in
-    let none = rw c.in-None.is at (c.in_ok-at.ensures c.args.order.now c.args.sessions sizes.order are) in
+    let kept = rw c.in-Some.is at c.in_ok-places.ensures in
+    let none = rw c.in-None.is at c.in_ok-at.ensures in
     (sizes, (kept.1, (none, tt)))

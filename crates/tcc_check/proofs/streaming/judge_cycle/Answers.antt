@@ -1,6 +1,6 @@
 -- What was found in the links and tables is the verdict, where nothing came behind them.
 use Rattle.std.proofs.Common.{refl, sym, ◌∙◌}
-use Rattle.tcc_check.specs.private.Judged.{claim_with}
+use Rattle.tcc_cert.specs.Parts.{with_tables}
 use Rattle.tcc_check.proofs.JudgedFacts.{sized-answer}
 use Rattle.tcc_check.proofs.streaming.judge_cycle.Goals as goal
 
@@ -13,7 +13,7 @@ returns g c ahead is =
         same = refl;
         answer = λ links near far many long split.
             rw c.sized-verdict.ensures
-            (sized-answer c.args.graph.now (claim_with c.args.head links near far) left.0 c.in_ok-found.found c.in_ok-at_once.at_once
+            (sized-answer c.args.graph.now (with_tables c.args.head links near far) left.0 c.in_ok-found.found c.in_ok-at_once.at_once
             (left.4 links near far many long split) end.1);
       },
     )

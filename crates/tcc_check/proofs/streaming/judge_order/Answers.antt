@@ -1,6 +1,7 @@
 -- The clocks that came are those of the claim.
-use Rattle.std.proofs.Common.{List, ℕ, refl, subst, ◌∙◌}
-use Rattle.tcc_check.specs.private.Places.{order_claim}
+use Rattle.std.proofs.Common.{ap, refl, subst, ◌∙◌}
+use Rattle.tcc_cert.specs.declared.certificate.OrderClaim.{OrderClaim}
+use Rattle.tcc_cert.specs.Parts.{with_clocks}
 use Rattle.tcc_check.specs.Verdicts.{order_rules}
 use Rattle.tcc_check.specs.private.Searches.{IsAnswer}
 use Rattle.tcc_check.proofs.streaming.judge_order.Goals as goal
@@ -12,7 +13,7 @@ returns g c ahead is =
       record {
         same = refl;
         answer = λ clocks same.
-            subst (λ (t : List (List ℕ)). IsAnswer (order_rules c.args.graph.now (order_claim c.args.level c.args.order.now c.args.sessions t))
-            c.in_ok-verdict.verdict) (c.rows.ensures ∙ said.1 clocks same) c.in_ok-verdict.ensures;
+            subst (λ (k : OrderClaim). IsAnswer (order_rules c.args.graph.now k) c.in_ok-verdict.verdict)
+            (c.with_clocks.ensures ∙ ap (with_clocks c.args.head) (said.1 clocks same)) c.in_ok-verdict.ensures;
       },
     )

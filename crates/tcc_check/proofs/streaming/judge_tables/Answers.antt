@@ -3,7 +3,8 @@ use Rattle.std.proofs.Common.{◌++◌, ◌∙◌}
 use Rattle.std.specs.Prelude.{map}
 use Rattle.tcc_cert.specs.declared.part.Part.TheVariants as part
 use Rattle.tcc_check.specs.private.Coming.{first_rejected}
-use Rattle.tcc_check.specs.private.Judged.{claim_with, far_rules, links_rules, near_rules}
+use Rattle.tcc_cert.specs.Parts.{with_tables}
+use Rattle.tcc_check.specs.private.Judged.{far_rules, links_rules, near_rules}
 use Rattle.tcc_check.proofs.Asked.{answer_first}
 use Rattle.tcc_check.proofs.streaming.judge_tables.Goals as goal
 
@@ -60,7 +61,7 @@ returns g c ahead is =
       of_far.2 ∙ of_near.2 ∙ of_links.2,
       of_far.3,
       λ links near far many long split.
-          let k = claim_with head links near far in
+          let k = with_tables head links near far in
           let first = of_links.4 links (map part.Near near ++ map part.Far far) many split in
           let one = of_near.4 near far (long ∙ c.if-head-count.false ∙ c.count.ensures.value) first.behind in
           let two = of_far.4 near far one.1.links one.2 in
@@ -71,7 +72,7 @@ returns g c ahead is =
                   rw (c.first_rejected.ensures, c.first_rejected-of_tables.ensures)
                       (answer_first (links_rules h k) (near_rules h head.level near ++ far_rules h head.version head.least near far)
                       c.in-Some.of_links (first_rejected c.in-Some-2.near.verdict c.in-Some-3.of_far)
-                      (first.answer head.version near far)
+                      (first.answer near far)
                       (answer_first (near_rules h head.level near)
                       (far_rules h head.version head.least near far) c.in-Some-2.near.verdict c.in-Some-3.of_far one.1.answer last.1)),
                 );

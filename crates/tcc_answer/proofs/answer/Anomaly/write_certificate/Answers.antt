@@ -3,9 +3,9 @@ use Rattle.std.proofs.Common.{rules, ◌≡◌, [], refl, length, ℕ, List}
 use Rattle.tcc_graph.specs.Links.{cost}
 use Rattle.tcc_graph.specs.declared.level.Level.{Level}
 use Rattle.tcc_graph.specs.declared.link.Link.{Link}
-use Rattle.tcc_cert.specs.CycleRules.{CycleClaim}
+use Rattle.tcc_cert.specs.declared.certificate.CycleClaim.{CycleClaim}
 use Rattle.tcc_cert.specs.declared.version.Version.TheVariants.{Two}
-use Rattle.tcc_cert.proofs.SentFacts.{on_err}
+use Rattle.tcc_sending.proofs.Failing.{on_err}
 use Rattle.tcc_cert.proofs.GivenTexts.{part_begun, part_given, part_before_far}
 use Rattle.tcc_answer.proofs.answer.Anomaly.write_certificate.Goals as goal
 
@@ -40,8 +40,8 @@ returns-in_err-write_far-clause-part g c =
     rw (← c.self.view_is) (on_err c.from_residual-in_err-write_far.result
     (rw (← same) (part_given _ _ k (c.in_err-write_far.ensures.part before count (record k { far = [] }) near refl))))
 
-pub returns-clause-whole : goal.returns-clause-whole
-returns-clause-whole g c =
+pub returns : goal.returns
+returns g c =
     let before = g.W.Write.contents c.args.out.now in
     let count = length c.self.inside.near in
     let k = claimed c.self.inside.level c.self.inside.links c.self.inside.near c.self.inside.far in
@@ -49,15 +49,4 @@ returns-clause-whole g c =
     let begun = c.behind-writer.ensures.begun before count k (rw (c.len-count.ensures, c.self.invariant) at c.in_ok-begun.ensures.whole) in
     let near = c.in_ok-write_near.ensures.whole before count (record k { near = []; far = [] }) begun refl refl in
     let far = c.in_ok-write_far.ensures.whole before count (record k { far = [] }) near refl in
-    rw (← c.self.view_is, ← same) (c.end.ensures.whole before k far)
-
-pub returns-clause-part : goal.returns-clause-part
-returns-clause-part g c =
-    let before = g.W.Write.contents c.args.out.now in
-    let count = length c.self.inside.near in
-    let k = claimed c.self.inside.level c.self.inside.links c.self.inside.near c.self.inside.far in
-    let same : c.end.new.self.0 ≡ c.out-2-1.given.0 = search rules in
-    let begun = c.behind-writer.ensures.begun before count k (rw (c.len-count.ensures, c.self.invariant) at c.in_ok-begun.ensures.whole) in
-    let near = c.in_ok-write_near.ensures.whole before count (record k { near = []; far = [] }) begun refl refl in
-    let far = c.in_ok-write_far.ensures.whole before count (record k { far = [] }) near refl in
-    rw (← c.self.view_is, ← same) (c.end.ensures.part before k far)
+    record { whole = rw (← c.self.view_is, ← same) (c.end.ensures.whole before k far); part = rw (← c.self.view_is, ← same) (c.end.ensures.part before k far) }

@@ -4,7 +4,7 @@ use Rattle.std.proofs.lemmas.List.{length-map, take_all}
 use Rattle.tcc_txn.specs.declared.limits.TheConstants.{MAX_COUNT}
 use Rattle.tcc_packed.specs.Packed.{at_most}
 use Rattle.tcc_cert.specs.Given.{HasTaken}
-use Rattle.tcc_cert.proofs.SentFacts.{on_err}
+use Rattle.tcc_sending.proofs.Failing.{on_err}
 use Rattle.tcc_cert.proofs.GivenTexts.{part_near_row}
 use Rattle.tcc_cert.proofs.GivenFacts.{near_next}
 use Rattle.tcc_answer.proofs.CappedFacts.{capped_next}

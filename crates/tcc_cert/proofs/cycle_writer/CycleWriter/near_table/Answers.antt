@@ -2,7 +2,7 @@
 use Rattle.std.proofs.Common.{◌∙◌, subst, take}
 use Rattle.std.proofs.lemmas.List.{take_all}
 use Rattle.tcc_cert.specs.Given.{HasTaken}
-use Rattle.tcc_cert.proofs.SentFacts.{on_err}
+use Rattle.tcc_sending.proofs.Failing.{on_err}
 use Rattle.tcc_cert.proofs.GivenTexts.{IsNearPart, rows_next, part_near_row}
 use Rattle.tcc_cert.proofs.GivenFacts.{near_next}
 use Rattle.tcc_cert.proofs.cycle_writer.CycleWriter.near_table.Goals as goal

@@ -1,6 +1,6 @@
 -- the rows so far were given
 use Rattle.std.proofs.Common.{◌≡◌, ℕ, List, [], Option, take}
-use Rattle.tcc_cert.specs.CycleRules.{CycleClaim}
+use Rattle.tcc_cert.specs.declared.certificate.CycleClaim.{CycleClaim}
 use Rattle.tcc_cert.specs.Given.{HasTaken}
 use Rattle.tcc_cert.proofs.cycle_writer.CycleWriter.near_table.Given as goal
 

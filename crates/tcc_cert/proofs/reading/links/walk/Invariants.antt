@@ -1,6 +1,6 @@
 -- the steps so far were read
 use Rattle.std.proofs.Common.{◌≡◌}
-use Rattle.tcc_cert.specs.WindowBytes.{IsAt}
+use Rattle.tcc_cert.specs.InputBytes.{IsAt}
 use Rattle.tcc_cert.specs.Reading.{Place, step_line, words}
 use Rattle.tcc_cert.proofs.StepFacts.{IsPart}
 use Rattle.tcc_cert.proofs.reading.links.walk.Given as goal

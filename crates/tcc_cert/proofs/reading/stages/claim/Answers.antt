@@ -1,8 +1,9 @@
 -- The sizes were read, and then what they are of.
 use Rattle.std.proofs.Common.{Ok, refl}
+use Rattle.tcc_cert.specs.declared.part.CycleHead.{CycleHead}
 use Rattle.tcc_cert.specs.declared.part.Part.TheVariants as part
-use Rattle.tcc_cert.specs.declared.reading.stages.Phase.TheVariants as phase
 use Rattle.tcc_cert.specs.declared.reading.stages.Stage.TheVariants as stage
+use Rattle.tcc_cert.specs.declared.reading.stages.Coming.TheVariants as coming
 use Rattle.std.proofs.lemmas.Result.{err_from_is_err_and}
 use Rattle.tcc_cert.specs.Parts.{link_rows}
 use Rattle.tcc_cert.specs.Reading.{sizes_line, words}
@@ -26,6 +27,8 @@ returns-in-Cycle-clause-step g c at before =
     let sizes = c.in_ok-transactions.ensures.gives at before in
     let cycle = c.in-Cycle in
     let v = c.args.version in
-    let given = Ok (part.Cycle v c.args.level cycle.transactions cycle.links cycle.least, phase.Going (stage.Links v cycle.transactions cycle.links)) in
+    let head : CycleHead =
+    record { version = v; level = c.args.level; count = cycle.transactions; links = cycle.links; least = cycle.least } in
+    let given = Ok (part.Cycle head, stage.Going (coming.Links (record { version = v; transactions = cycle.transactions; many = cycle.links }))) in
     sizes-then g.R.Read.remaining v c.args.level at given c.next_line.new.input sizes.1
     (rw cycle.is (link_rows c.args.version cycle.transactions 0 cycle.links sizes.0, refl, (sizes.0, sizes.2, (0, refl))))

@@ -20,5 +20,5 @@ returns-clause-step g c at before =
     let order = rw c.ranges_of.ensures.value at (c.in_ok-order.ensures.gives at before) in (
       order_rest c.args.version c.args.level c.args.transactions c.args.sessions order.0,
       rw order.1 refl,
-      (order.0, order.2, c.behind_order-stage.ensures.behind order.0),
+      (order.0, order.2, c.behind_order-coming.ensures.behind order.0),
     )

@@ -1,7 +1,8 @@
 -- no line feed stands among the bytes that were searched, and each turn that goes on adds some
 use Rattle.std.proofs.Common.{◌≡◌, ◌≤◌, ◌-◌, length, take}
 use Rattle.tcc_cert.specs.declared.reading.window.TheConstants.{WINDOW_BYTES}
-use Rattle.tcc_cert.specs.WindowBytes.{window_bytes, IsAt}
+use Rattle.tcc_cert.specs.WindowBytes.{window_bytes}
+use Rattle.tcc_cert.specs.InputBytes.{IsAt}
 use Rattle.tcc_cert.specs.Reading.{Place, line_length}
 use Rattle.tcc_cert.proofs.reading.input.Input.find_line.Given as goal
 

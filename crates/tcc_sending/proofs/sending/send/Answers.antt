@@ -3,8 +3,8 @@ use Rattle.std.proofs.Common.{length, sym, subst}
 use Rattle.std.proofs.Math.Seq.{take-length}
 use Rattle.std.specs.Io.KnownBytes.{Appends}
 use Rattle.std.proofs.KnownBytes.{Appends-kept}
-use Rattle.tcc_cert.proofs.SentFacts.{on_err}
-use Rattle.tcc_cert.proofs.sending.send.Goals as goal
+use Rattle.tcc_sending.proofs.Failing.{on_err}
+use Rattle.tcc_sending.proofs.sending.send.Goals as goal
 
 pub returns-clause-part : goal.returns-clause-part
 returns-clause-part g c =

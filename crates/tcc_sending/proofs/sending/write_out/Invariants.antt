@@ -1,7 +1,7 @@
 -- `write_out` ends, since each turn sends some bytes, and what is sent is in the writer.
 use Rattle.std.proofs.Common.{length, ◌-◌, ◌≤◌, take}
 use Rattle.std.specs.Io.KnownBytes.{Appends}
-use Rattle.tcc_cert.proofs.sending.write_out.Given as goal
+use Rattle.tcc_sending.proofs.sending.write_out.Given as goal
 
 abbrev pub invariant-loop-sent : goal.invariant-loop-sent
 invariant-loop-sent g l =

@@ -2,7 +2,7 @@
 use Rattle.std.proofs.Common.{take, flat_map}
 use Rattle.tcc_cert.specs.Given.{Sends}
 use Rattle.tcc_cert.specs.Texts.{lines_text, link_lines}
-use Rattle.tcc_cert.proofs.writing.links.Given as goal
+use Rattle.tcc_cert.proofs.writing.link_lines.Given as goal
 
 abbrev pub invariant-loop-one : goal.invariant-loop-one
 invariant-loop-one g l =

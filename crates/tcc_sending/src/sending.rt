@@ -5,7 +5,7 @@ ghost use Rattle.std.specs.Io.KnownBytes.{Appends};
 use std::io::{self, ErrorKind, Write};
 
 /// Writes all the bytes, and leaves the flush to the caller. Failures are those of `send`.
-pub(crate) fn write_out<W: Write>(out: &mut W, text: &[u8]) -> io::Result<()>
+pub fn write_out<W: Write>(out: &mut W, text: &[u8]) -> io::Result<()>
     ensures whole { OnOk result (Appends (W.contents out.old) (W.contents out.new) text.now) }
     ensures part { OnErr result ((n : ℕ) × Appends (W.contents out.old) (W.contents out.new) (take n text.now)) }
 {

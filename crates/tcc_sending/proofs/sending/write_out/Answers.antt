@@ -3,7 +3,7 @@ use Rattle.std.proofs.Common.{◌-◌, ◌++◌, length, take, drop, sym, ap, su
 use lib.Seq.{take-add, take-take}
 use Rattle.std.specs.Io.KnownBytes.{Appends}
 use Rattle.std.proofs.KnownBytes.{Appends-trans}
-use Rattle.tcc_cert.proofs.sending.write_out.Goals as goal
+use Rattle.tcc_sending.proofs.sending.write_out.Goals as goal
 
 pub loop-sent-preserved : goal.loop-sent-preserved
 loop-sent-preserved g c =

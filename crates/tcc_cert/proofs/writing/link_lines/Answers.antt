@@ -2,7 +2,7 @@
 use Rattle.tcc_cert.specs.Texts.{line_text, lines_text, link_lines}
 use Rattle.tcc_cert.proofs.SentFacts.{failed}
 use Rattle.tcc_cert.proofs.Items.{Sends-read, Stops-read, Sends-all, flat_map-flat_map}
-use Rattle.tcc_cert.proofs.writing.links.Goals as goal
+use Rattle.tcc_cert.proofs.writing.link_lines.Goals as goal
 
 pub returns-in_err-link : goal.returns-in_err-link
 returns-in_err-link g c =
