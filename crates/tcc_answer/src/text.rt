@@ -193,6 +193,12 @@ fn text_of(alloc: Global, answer: &Answer) -> Result<Vec<u8>, NoMemory>
 
 /// Writes the answer as text. All memory for it is had before a byte goes out. An interrupted write and one that takes
 /// no bytes are failures too; then a part of the text, from its front, went out.
+///
+/// ```rust
+/// let mut text = Vec::new(alloc);
+/// write_text(alloc, answer, &mut text)?;
+/// Ok(text)
+/// ```
 pub fn write_text<W: Write>(alloc: Global, answer: &Answer, out: &mut W) -> Result<(), WriteFault>
     ensures whole { OnOk result (Appends (W.contents out.old) (W.contents out.new) (answer_text answer.now)) }
     ensures part { OnErr result ((n : ℕ) × Appends (W.contents out.old) (W.contents out.new) (take n (answer_text answer.now))) }

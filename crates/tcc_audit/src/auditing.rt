@@ -17,6 +17,12 @@ use tcc_graph::Level;
 /// it is the same in whatever order their recorders held the lock, and for every number of workers. The gate is
 /// called before each start that they search. The answer's certificate has a text, which is read as this certificate. The
 /// book stays as it is.
+///
+/// ```rust
+/// let answer = audit(rt, alloc, book, passes, Level::Causal, workers, &OpenGate)?;
+/// write_json(alloc, &answer, out)?;
+/// Ok(())
+/// ```
 pub fn audit<G: Gate>(
     rt: &(impl Threads + Wait + Sync),
     alloc: Global,

@@ -11,6 +11,16 @@ use std::sync::{Mutex, Wait};
 use tcc_txn::{Name, NoMemory, Snapshot, Txn};
 
 /// What sessions record, each by its pass; threads share it by reference.
+///
+/// ```rust
+/// let book = Book::new(alloc)?;
+/// let mut pass = book.open(rt, alloc, Name::read(b"a")?)?;
+/// if let Err((fault, _txn)) = book.record(rt, alloc, &mut pass, txn) {
+///     return Err(fault.into());
+/// }
+/// let passes = vec![in alloc; pass]?;
+/// Ok((book, passes))
+/// ```
 #[derive(Drop)]
 pub struct Book {
     state: Mutex<BookState>,

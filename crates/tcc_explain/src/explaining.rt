@@ -140,6 +140,15 @@ pub(crate) fn labelled_history(
 /// where there is no commit order, with its certificate; or all its read faults, where there are some. The answer is the
 /// same for every number of workers, and whatever the order in which they search. They search only where there is
 /// a cycle, and the gate is called before each start that they take.
+///
+/// ```rust
+/// let answer = explain(rt, alloc, snapshot, Level::Causal, workers, &OpenGate)?;
+/// match &answer {
+///     Answer::Commit(commit) => writeln!(out, "{} in order", commit.order().len())?,
+///     Answer::Anomaly(anomaly) => writeln!(out, "a cycle of {} steps", anomaly.cost())?,
+/// }
+/// Ok(answer)
+/// ```
 pub fn explain<G: Gate>(
     rt: &(impl Threads + Sync),
     alloc: Global,

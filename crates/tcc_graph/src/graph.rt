@@ -38,6 +38,18 @@ impl Model for Graph {
 
 impl Graph {
     /// The graph of a history.
+    ///
+    /// ```rust
+    /// let resolved = resolve(alloc, snapshot)?;
+    /// let graph = Graph::build(alloc, resolved)?;
+    /// let mut readers = Vec::new(alloc);
+    /// for n in 0..graph.count() {
+    ///     if !graph.reads(n).is_empty() {
+    ///         readers.push(graph.label(alloc, n)?)?;
+    ///     }
+    /// }
+    /// Ok(readers)
+    /// ```
     pub fn build(alloc: Global, resolved: Resolved) -> Result<Graph, NoMemory>
         ensures { IfOk result (λ g. g ≡ resolved) }
     {

@@ -156,6 +156,14 @@ fn resolve_parts(alloc: Global, parts: &[(Name, Vec<Txn>)]) -> Result<LargeResol
 }
 
 /// Finds the source of each external read of the snapshot's committed transactions, or else all faults.
+///
+/// ```rust
+/// match resolve(alloc, snapshot) {
+///     Ok(_resolved) => Ok(0),
+///     Err(ResolveFault::Reads(faults)) => Ok(faults.len()),
+///     Err(ResolveFault::NoMemory) => Err(NoMemory.into()),
+/// }
+/// ```
 pub fn resolve(alloc: Global, snapshot: &Snapshot) -> Result<Resolved, ResolveFault>
     ensures { MatchResult result
         (λ resolved. (read_faults snapshot.now ≡ []) × (resolved ≡ history snapshot.now))

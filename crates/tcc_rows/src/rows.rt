@@ -46,6 +46,19 @@ enum Phase {
 }
 
 /// The transactions and seals of a reader's records.
+///
+/// ```rust
+/// let mut rows = Rows::new(alloc, records)?;
+/// let mut finished = Vec::new(alloc);
+/// for _ in 0..u64::MAX {
+///     match rows.next(alloc)? {
+///         Item::Finished(session, txn) => finished.push((session, txn))?,
+///         Item::Seal => {}
+///         Item::End => break,
+///     }
+/// }
+/// Ok(finished)
+/// ```
 #[derive(Drop)]
 pub struct Rows<R> {
     records: Records<R>,

@@ -238,6 +238,19 @@ fn conclude<W: Write, C: Write, N: Write>(
 ///
 /// The file is empty before: nothing goes into it where the last answer is that reads have faults, or where the run ends
 /// by a fault.
+///
+/// ```rust
+/// let mut notes = io::sink();
+/// let options = Options {
+///     level: Level::Causal,
+///     workers,
+///     json: false,
+///     required: 1,
+/// };
+/// run_explain(
+///     rt, alloc, records, out, file, &mut notes, options, &OpenGate,
+/// )
+/// ```
 pub fn run_explain<R: Read + Drop, W: Write, C: Write, N: Write, G: Gate>(
     rt: &(impl Threads + Sync),
     alloc: Global,

@@ -66,6 +66,15 @@ pub struct SnapshotWithin<B: Bounds> {
 }
 
 /// A snapshot of up to `MAX_SESSIONS` sessions with up to `MAX_TRANSACTIONS` transactions in all.
+///
+/// ```rust
+/// let (session, key) = (Name::read(b"a")?, Name::read(b"x")?);
+/// let ops = vec![in alloc; Op::Put { key, value: 1 }, Op::Get { key, value: 1 }]?;
+/// let txn = Txn::new(ops, true).map_err(|refused| refused.0)?;
+/// let parts = vec![in alloc; (session, vec![in alloc; txn]?)]?;
+/// let snapshot = Snapshot::new(parts).map_err(|refused| refused.0)?;
+/// Ok(snapshot)
+/// ```
 pub type Snapshot = SnapshotWithin<SmallLimits>;
 
 /// A snapshot of up to `LARGE_SESSIONS` sessions with up to `LARGE_TRANSACTIONS` transactions in all.
