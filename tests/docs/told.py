@@ -3,12 +3,13 @@
 
     told.py [--write]
 
-The words of a status are those of its variant in `crates/tcc_print/src/status.rt`, its number is that of `code` there, the limits
-are the constants of `crates/tcc_txn/src/limits.rt`, and which status a fault has is in `crates/tcc_print/src/kinds.rt`. From these
-come the exit statuses and the limits of README and of the man page, which `--write` writes anew. What else tells a limit or a
-status is held against them: the row faults of docs/FORMATS.md, the kinds that the man page names, help, and some sentences; where
-a limit changes, each of them that is wrong is named, with what has to stand there. And README has no more words than it may have.
-Each difference is one line, as `run.py` has it, which asks this too; the last line is `N passed, M failed`.
+The words of a status are those of its variant in `crates/tcc_print/src/status.rt`, its number is that of `code` there, the
+limits are the constants of `crates/tcc_txn/src/limits.rt` and of `crates/tcc_workers/src/workers.rt`, and which status a
+fault has is in `crates/tcc_print/src/kinds.rt`. From these come the exit statuses and the limits of README and of the man
+page, which `--write` writes anew. What else tells a limit or a status is held against them: the row faults of
+docs/FORMATS.md, the kinds that the man page names, help, and some sentences; where a limit changes, each of them that is
+wrong is named, with what has to stand there. And README has no more words than it may have. Each difference is one line, as
+`run.py` has it, which asks this too; the last line is `N passed, M failed`.
 """
 import argparse
 import pathlib
@@ -38,7 +39,8 @@ IN_PAGE = (".SH LIMITS\n" + LIMITS % (", aborted ones counted,", " each", ",") +
 HELD = {
     "README.md": (
         "up to {MAX_TRANSACTIONS} transactions, or a million with `--large`",
-        "Names of sessions and keys have 1 to {MAX_NAME_BYTES} bytes"),
+        "Names of sessions and keys have 1 to {MAX_NAME_BYTES} bytes",
+        "lets N threads search for an anomaly, 1 to {MAX_WORKERS}."),
     "recipes/README.md": (
         "takes {MAX_SESSIONS} sessions and {MAX_TRANSACTIONS} transactions, aborted ones counted, and `tcc explain --large` "
         "{LARGE_SESSIONS} and {LARGE_TRANSACTIONS}",),
@@ -59,7 +61,9 @@ HELD = {
         "TooManySessions at a {LARGE_SESSIONS+1}th session, TooManyTransactions at transaction {LARGE_TRANSACTIONS+1}, TooManyKeys "
         "at a {LARGE_KEYS+1}th key, and Read behind {LARGE_INPUT_BYTES} bytes",
         "up to {MAX_SESSIONS} sessions with up to {MAX_TRANSACTIONS} transactions"),
-    "docs/tcc.1": ("names: 1 to {MAX_NAME_BYTES} bytes",),
+    "docs/tcc.1": ("names: 1 to {MAX_NAME_BYTES} bytes", "So many threads, 1 to {MAX_WORKERS}, search"),
+    "docs/HEADLINE.md": ("`Workers`, a type of 1 to {MAX_WORKERS}",),
+    "crates/tcc_words/src/command_line.rt": ("so many workers, 1 to {!MAX_WORKERS};",),
     "crates/tcc_words/src/help.rt": (
         "1 to {!MAX_NAME_BYTES} of A-Z",
         "up to {!LARGE_TRANSACTIONS} transactions, {!LARGE_SESSIONS} sessions and {!LARGE_KEYS} keys, in place of\n"
@@ -76,7 +80,7 @@ def source(path: str) -> str:
 def limits() -> Dict[str, int]:
     """The constants by name, each over those before it."""
     known: Dict[str, int] = {}
-    for name, value in CONSTANT.findall(source("tcc_txn/src/limits.rt")):
+    for name, value in CONSTANT.findall(source("tcc_txn/src/limits.rt") + source("tcc_workers/src/workers.rt")):
         known[name] = sum(known[part] if part in known else int(part.replace("_", "")) for part in value.split(" + "))
     return known
 
