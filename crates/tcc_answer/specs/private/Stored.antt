@@ -3,6 +3,7 @@ use Rattle.std.specs.Prelude.{ℕ, ◌≡◌, List, []}
 use Rattle.tcc_graph.specs.declared.level.Level.{Level}
 use Rattle.tcc_cert.specs.declared.version.Version.TheVariants.{Two}
 use Rattle.tcc_cert.specs.declared.certificate.Certificate.{Certificate}
+use Rattle.tcc_cert.specs.declared.certificate.Certificate.TheVariants as claim
 
 -- the level of a claim
 abbrev pub level_in : Certificate → Level

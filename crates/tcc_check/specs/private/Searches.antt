@@ -6,6 +6,7 @@ use Rattle.tcc_check.specs.private.Coming.{first_of}
 use Rattle.tcc_check.specs.private.Runs.{IsInRun}
 use Rattle.tcc_check.specs.private.WeightsFrom.{ends_of}
 use Rattle.tcc_check.specs.declared.verdict.Verdict.{Verdict}
+use Rattle.tcc_check.specs.declared.verdict.Verdict.TheVariants as verdict
 use Rattle.tcc_check.specs.Verdicts.{AllHold, Asked, IsFirstBroken}
 
 -- what these rules say
