@@ -31,6 +31,7 @@ fn moved(earlier: &[String], later: &[String], number: u32) -> u32
 }
 
 /// The numbers that the transactions of an earlier history have in a later one, by the labels of both.
+#[derive(Drop)]
 pub(crate) struct ByLabel<'a> {
     pub earlier: &'a [String],
     pub later: &'a [String],

@@ -15,6 +15,7 @@ use tcc_reads::{ResolveFault, resolve};
 use tcc_txn::{LargeSnapshot, NoMemory, Snapshot};
 
 /// The numbers of a cut, each with that of the whole at its place.
+#[derive(Drop)]
 struct InCut<'a> {
     numbers: &'a [u32],
 }
