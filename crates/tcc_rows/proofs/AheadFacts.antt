@@ -32,7 +32,7 @@ use Rattle.tcc_rows.specs.declared.rows.Rows.{Rows}
 use Rattle.tcc_rows.specs.Line.{Line}
 use Rattle.tcc_rows.specs.Line as line
 use Rattle.tcc_rows.specs.declared.rows.progress.Progress.{Progress}
-use Rattle.tcc_rows.specs.declared.rows.records.Course.TheVariants as course
+use Rattle.tcc_rows.specs.declared.rows.records.RecordsStage.TheVariants as records_stage
 use Rattle.tcc_rows.specs.declared.rows.records.Records.{Records}
 use Rattle.tcc_rows.proofs.LimitFacts.{marked-past, marked-within}
 use Rattle.tcc_txn.specs.declared.limits.Limits.{Limits}
@@ -88,7 +88,7 @@ module _ (limits : Limits) where
   -- at first all answers to the text are to come
   pub all-ahead : {R : Type 0} (remaining : R → Option (List ℕ)) (reader : R) (rows : Rows R)
       → IfSome (remaining reader) (λ text. HasLeft remaining rows.records (records_within limits text)) → IsAfter limits [] rows.progress
-      → rows.records.count ≡ 0 → rows.records.course ≡ course.Going
+      → rows.records.count ≡ 0 → rows.records.stage ≡ records_stage.Going
       → IfSome (remaining reader) (λ text. IsMidway limits remaining rows (answers_within limits text))
   all-ahead remaining reader rows has progress none going =
       if-some (remaining reader) (λ text left. record {
@@ -104,7 +104,7 @@ module _ (limits : Limits) where
 
   -- and all its records are left
   pub all-left : {R : Type 0} (remaining : R → Option (List ℕ)) (reader : R) (records : Records R)
-      → IfSome (remaining reader) (λ text. HasLeft remaining records (records_within limits text)) → records.count ≡ 0 → records.course ≡ course.Going
+      → IfSome (remaining reader) (λ text. HasLeft remaining records (records_within limits text)) → records.count ≡ 0 → records.stage ≡ records_stage.Going
       → IfSome (remaining reader) (λ text. StandsIn remaining records (records_within limits text))
   all-left remaining reader records has none going =
       if-some (remaining reader) (λ text left. record { first = []; left = records_within limits text; whole = refl; counted = none; rest = left; going = going }) has
@@ -126,7 +126,7 @@ module _ (limits : Limits) where
 
   -- one more lawful record
   going-on : {R : Type 0} (remaining : R → Option (List ℕ)) (new : Rows R) (past : List Line) (left : List Record) (last : Line)
-      → HasLeft remaining new.records left → IsAfter limits (last ∷ past) new.progress → new.records.count ≡ length past + 1 → new.records.course ≡ course.Going
+      → HasLeft remaining new.records left → IsAfter limits (last ∷ past) new.progress → new.records.count ≡ length past + 1 → new.records.stage ≡ records_stage.Going
       → length past + length left + 2 < 2 ^ 64 → IsMidway limits remaining new (answers_after_within limits (last ∷ past) left)
   going-on remaining new past left last has progress counted going fits =
       record {
@@ -178,14 +178,14 @@ module _ (limits : Limits) where
       let answers : ahead ≡ answers_after_within limits (last ∷ reading.past) taken.0 =
       answers-read remaining old records ahead reading taken ∙ lawful reading.past (record_of records) taken.0 last judgement in
       let counted : new.records.count ≡ length reading.past + 1 = rw kept (counts.0 ∙ ap (λ n. n + 1) reading.counted) in
-      let going : new.records.course ≡ course.Going = rw kept (counts.2 ∙ reading.going) in
+      let going : new.records.stage ≡ records_stage.Going = rw kept (counts.2 ∙ reading.going) in
       rw answers (going-on remaining new reading.past taken.0 last (rw kept taken.2) progress counted going (omega (arith, reading.fits, ap length taken.1)))
 
   -- the row after a record was read
   row-read : {R : Type 0} (remaining : R → Option (List ℕ)) (old : Rows R) (records : Records R) (ahead : Answers) (reading : IsMidway limits remaining old ahead)
-      → Counts {E = RowFaultKind} old.records (Ok true) records → row_in records.course records.count ≡ length reading.past + 1
+      → Counts {E = RowFaultKind} old.records (Ok true) records → row_in records.stage records.count ≡ length reading.past + 1
   row-read remaining old records ahead reading counts =
-      let going : records.course ≡ course.Going = counts.2 ∙ reading.going in
+      let going : records.stage ≡ records_stage.Going = counts.2 ∙ reading.going in
       rw going (counts.0 ∙ ap (λ n. n + 1) reading.counted)
 
   -- a record was met that has a fault, or memory was refused
@@ -193,7 +193,7 @@ module _ (limits : Limits) where
       (reading : IsMidway limits remaining old ahead)
       → TakesRecord remaining reading.left true records → Counts {E = RowFaultKind} old.records (Ok true) records
       → (k : RowFaultKind) → (judged_within limits reading.past (record_of records) ≡ Err k) ⊎ (k ≡ kind.NoMemory)
-      → FaultsIn limits ahead (record { row = row_in records.course records.count; kind = k })
+      → FaultsIn limits ahead (record { row = row_in records.stage records.count; kind = k })
   record-refused remaining old records ahead reading taken counts k (inl wrong) =
       rw (row-read remaining old records ahead reading counts)
       (inl (answers-read remaining old records ahead reading taken ∙ faulty reading.past (record_of records) taken.0 k wrong))
@@ -204,9 +204,9 @@ module _ (limits : Limits) where
   pub reading-failed : {R : Type 0} (remaining : R → Option (List ℕ)) (old : Rows R) (records : Records R) (ahead : Answers)
       (reading : IsMidway limits remaining old ahead)
       → (k : RowFaultKind) → Counts old.records (Err k) records → IsFailure k
-      → FaultsIn limits ahead (record { row = row_in records.course records.count; kind = k })
+      → FaultsIn limits ahead (record { row = row_in records.stage records.count; kind = k })
   reading-failed remaining old records ahead reading k counts failure =
-      let row : row_in records.course records.count ≡ length reading.past + 1 = rw counts.1 (omega (arith, counts.0, reading.counted, reading.fits)) in
+      let row : row_in records.stage records.count ≡ length reading.past + 1 = rw counts.1 (omega (arith, counts.0, reading.counted, reading.fits)) in
       inr (failure, reading.past, reading.left, reading.answers, row)
 
   -- two lists of the records that a reader has left are one
@@ -217,7 +217,7 @@ module _ (limits : Limits) where
   -- which records were judged before it failed
   pub failed-reading : {R : Type 0} (remaining : R → Option (List ℕ)) (old : Rows R) (records : Records R) (all : List Record) (ahead : Answers)
       → IsMidway limits remaining old ahead → StandsIn remaining old.records all → (k : RowFaultKind) → Counts old.records (Err k) records
-      → FailsIn limits all ahead (row_in records.course records.count)
+      → FailsIn limits all ahead (row_in records.stage records.count)
   failed-reading remaining old records all ahead reading stands k counts = record {
     first = stands.first;
     left = stands.left;
@@ -230,7 +230,7 @@ module _ (limits : Limits) where
 
   -- the row where the records end
   pub row-ended : {R : Type 0} (remaining : R → Option (List ℕ)) (old : Rows R) (records : Records R) (ahead : Answers) (reading : IsMidway limits remaining old ahead)
-      → Counts {E = RowFaultKind} old.records (Ok false) records → row_in records.course records.count ≡ length reading.past
+      → Counts {E = RowFaultKind} old.records (Ok false) records → row_in records.stage records.count ≡ length reading.past
   row-ended remaining old records ahead reading counts = rw counts.1 (counts.0 ∙ reading.counted)
 
   -- the line was met of the record that was read
@@ -271,7 +271,7 @@ module _ (limits : Limits) where
       counted : new.records.count ≡ length here.past + 1
       counted = rw kept here.counted
 
-      going : new.records.course ≡ course.Going
+      going : new.records.stage ≡ records_stage.Going
       going = rw kept here.going
 
       by : (result : Result (Option Item) RowFault) → TakesFields limits here.past here.fields result new → TakesStep limits remaining ahead result new

@@ -18,7 +18,7 @@ use Rattle.tcc_rows.specs.ByteLimit.{limited_remaining}
 use Rattle.tcc_rows.specs.Reached.{StandsBy, StandsIn}
 use Rattle.tcc_rows.specs.RecordsLeft.{HasLeft, IsPlain, record_of, records_after}
 use Rattle.tcc_rows.specs.private.Stages.{TakesRecord}
-use Rattle.tcc_rows.specs.declared.rows.Phase.TheVariants as phase
+use Rattle.tcc_rows.specs.declared.rows.Stage.TheVariants as stage
 use Rattle.tcc_rows.specs.declared.rows.Rows.{Rows}
 use Rattle.tcc_rows.specs.declared.rows.records.Records.{Records}
 
@@ -207,8 +207,8 @@ takes-record remaining old new left false has read plain =
 
 -- one more record of a text was read
 pub stands-on : {R : Type 0} (remaining : R → Option (List ℕ)) (old new : Records R) (all : List Record) (stands : StandsIn remaining old all)
-    → TakesRecord remaining stands.left true new → new.count ≡ old.count + 1 → new.course ≡ old.course → StandsIn remaining new all
-stands-on remaining old new all stands taken count course =
+    → TakesRecord remaining stands.left true new → new.count ≡ old.count + 1 → new.stage ≡ old.stage → StandsIn remaining new all
+stands-on remaining old new all stands taken count kept =
     let last : List Record = record_of new ∷ [] in
     record {
       first = stands.first ++ last;
@@ -216,7 +216,7 @@ stands-on remaining old new all stands taken count course =
       whole = stands.whole ∙ ap (λ rest. stands.first ++ rest) taken.1 ∙ sym (append_assoc stands.first last taken.0);
       counted = omega (arith, count, stands.counted, length-append stands.first last);
       rest = taken.2;
-      going = course ∙ stands.going;
+      going = kept ∙ stands.going;
     }
 
 -- all records of a text were read
@@ -233,13 +233,13 @@ stands-within remaining records all stands =
 
 -- what comes of a line, or of the end, leaves the records where they are
 pub line-stands : {R T E : Type 0} (remaining : R → Option (List ℕ)) (old new : Rows R) (all : List Record) (result : Result T E)
-    → StandsIn remaining old.records all → new.records ≡ old.records → OnOk result (new.phase ≡ phase.Reading)
-    → MatchResult result (λ _. StandsBy new.phase remaining new.records all) (λ _. new.records.count ≤ length all)
+    → StandsIn remaining old.records all → new.records ≡ old.records → OnOk result (new.stage ≡ stage.Reading)
+    → MatchResult result (λ _. StandsBy new.stage remaining new.records all) (λ _. new.records.count ≤ length all)
 line-stands remaining old new all (Ok given) stands kept reading = rw (reading, kept) stands
 line-stands remaining old new all (Err e) stands kept reading = rw kept (stands-within remaining old.records all stands)
 
 pub all-read : {R T E : Type 0} (remaining : R → Option (List ℕ)) (old new : Rows R) (all : List Record) (result : Result T E)
-    → old.records.count ≡ length all → new.records ≡ old.records → OnOk result (new.phase ≡ phase.Ended)
-    → MatchResult result (λ _. StandsBy new.phase remaining new.records all) (λ _. new.records.count ≤ length all)
+    → old.records.count ≡ length all → new.records ≡ old.records → OnOk result (new.stage ≡ stage.Ended)
+    → MatchResult result (λ _. StandsBy new.stage remaining new.records all) (λ _. new.records.count ≤ length all)
 all-read remaining old new all (Ok given) counted kept ended = rw (ended, kept) counted
 all-read remaining old new all (Err e) counted kept ended = rw kept (omega (arith, counted))

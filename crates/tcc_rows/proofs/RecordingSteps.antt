@@ -20,12 +20,12 @@ use Rattle.tcc_rows.specs.declared.recording.Moment.TheVariants as moment
 use Rattle.tcc_rows.specs.declared.recording.RecordingWithin.{RecordingWithin}
 use Rattle.tcc_rows.specs.declared.rows.Item.{Item}
 use Rattle.tcc_rows.specs.declared.rows.Item.TheVariants as item
-use Rattle.tcc_rows.specs.declared.rows.Phase.{Phase}
-use Rattle.tcc_rows.specs.declared.rows.Phase.TheVariants as phase
+use Rattle.tcc_rows.specs.declared.rows.Stage.{Stage}
+use Rattle.tcc_rows.specs.declared.rows.Stage.TheVariants as stage
 use Rattle.tcc_rows.specs.declared.fault.RowFault.{RowFault}
 use Rattle.tcc_rows.specs.declared.fault.RowFaultKind.TheVariants as kind
-use Rattle.tcc_rows.specs.declared.rows.records.Course.{Course}
-use Rattle.tcc_rows.specs.declared.rows.records.Course.TheVariants as course
+use Rattle.tcc_rows.specs.declared.rows.records.RecordsStage.{RecordsStage}
+use Rattle.tcc_rows.specs.declared.rows.records.RecordsStage.TheVariants as records_stage
 use Rattle.tcc_rows.proofs.FinishedFacts.{finished_in-push, limits-before}
 use Rattle.tcc_rows.specs.declared.rows.Rows.{Rows}
 
@@ -136,7 +136,7 @@ module _ (limits : Limits) where
     )
 
     -- memory is refused
-    pub gives_up : (fault : RowFault) → fault.kind ≡ kind.NoMemory → new.rows.phase ≡ phase.Stopped fault → new.snapshot ≡ old.snapshot
+    pub gives_up : (fault : RowFault) → fault.kind ≡ kind.NoMemory → new.rows.stage ≡ stage.Stopped fault → new.snapshot ≡ old.snapshot
         → TakesMoment limits remaining taken ahead (Err fault) new
     gives_up fault memory stopped same = (
       way.0,
@@ -154,7 +154,7 @@ module _ (limits : Limits) where
 
     -- memory is refused for one more transaction
     pub loses_one : (session : List ℕ) (txn : Transaction) (rows : Rows R) (fault : RowFault) → TakesAnswer limits remaining way.1 (Ok (item.Finished session txn)) rows
-        → fault.kind ≡ kind.NoMemory → new.rows.phase ≡ phase.Stopped fault → new.snapshot ≡ old.snapshot → TakesMoment limits remaining taken ahead (Err fault) new
+        → fault.kind ≡ kind.NoMemory → new.rows.stage ≡ stage.Stopped fault → new.snapshot ≡ old.snapshot → TakesMoment limits remaining taken ahead (Err fault) new
     loses_one session txn rows fault answer memory stopped same = (
       way.0 ++ item.Finished session txn ∷ [],
       answer.0,
@@ -179,21 +179,21 @@ module _ (limits : Limits) where
   -- the records that were read are some of all
   pub count-within : {R : Type 0} (remaining : R → Option (List ℕ)) (rows : Rows R) (all : List Record) → IsWithin remaining rows all
       → rows.records.count ≤ length all
-  count-within remaining rows all within = by rows.phase within
+  count-within remaining rows all within = by rows.stage within
     where
-      by : (p : Phase) → StandsBy p remaining rows.records all → rows.records.count ≤ length all
-      by phase.Reading stands = omega (arith, stands.counted, ap length stands.whole, length-append stands.first stands.left)
-      by phase.Ended stands = omega (arith, stands)
-      by (phase.Stopped fault) stands = stands
+      by : (p : Stage) → StandsBy p remaining rows.records all → rows.records.count ≤ length all
+      by stage.Reading stands = omega (arith, stands.counted, ap length stands.whole, length-append stands.first stands.left)
+      by stage.Ended stands = omega (arith, stands)
+      by (stage.Stopped fault) stands = stands
 
   pub row-within : {R : Type 0} (remaining : R → Option (List ℕ)) (rows : Rows R) (all : List Record) → IsWithin remaining rows all
       → row_reached rows ≤ length all + 1
-  row-within remaining rows all within = by rows.records.course
+  row-within remaining rows all within = by rows.records.stage
     where
-      by : (c : Course) → row_in c rows.records.count ≤ length all + 1
-      by course.Going = omega (arith, count-within remaining rows all within)
-      by course.Ended = omega (arith, count-within remaining rows all within)
-      by course.Failed = omega (arith, count-within remaining rows all within)
+      by : (c : RecordsStage) → row_in c rows.records.count ≤ length all + 1
+      by records_stage.Going = omega (arith, count-within remaining rows all within)
+      by records_stage.Ended = omega (arith, count-within remaining rows all within)
+      by records_stage.Failed = omega (arith, count-within remaining rows all within)
 
   -- a fault that is passed on
   pub err-of : {A : Type 0} (r : Result A RowFault) (fault : RowFault) → IsErrAnd r (λ why. why ≡ fault) → r ≡ Err fault
@@ -202,7 +202,7 @@ module _ (limits : Limits) where
 
   -- what a recording that was given up says of the records
   pub within-stopped : {R : Type 0} (remaining : R → Option (List ℕ)) (old new : Rows R) (fault : RowFault) (all : List Record)
-      → new ≡ record old { phase = phase.Stopped fault }
+      → new ≡ record old { stage = stage.Stopped fault }
       → IsWithin remaining old all → IsWithin remaining new all
   within-stopped remaining old new fault all stopped within = rw stopped (count-within remaining old all within)
 

@@ -5,8 +5,8 @@ use Rattle.tcc_rows.specs.Lines.{Record}
 use Rattle.tcc_txn.specs.declared.limits.Limits.{Limits}
 use Rattle.tcc_rows.specs.declared.rows.Item.{Item}
 use Rattle.tcc_rows.specs.declared.rows.Item.TheVariants as item
-use Rattle.tcc_rows.specs.declared.rows.Phase.{Phase}
-use Rattle.tcc_rows.specs.declared.rows.Phase.TheVariants as phase
+use Rattle.tcc_rows.specs.declared.rows.Stage.{Stage}
+use Rattle.tcc_rows.specs.declared.rows.Stage.TheVariants as stage
 use Rattle.tcc_rows.specs.declared.fault.RowFault.{RowFault}
 use Rattle.tcc_rows.specs.declared.fault.RowFaultKind.{RowFaultKind}
 use Rattle.tcc_rows.specs.declared.fault.RowFaultKind.TheVariants as kind
@@ -14,38 +14,38 @@ use Rattle.tcc_rows.specs.Midway.{IsMidway}
 use Rattle.tcc_rows.specs.declared.rows.Rows.{Rows}
 use Rattle.tcc_rows.specs.Line.{Line}
 
--- the phase after an item
-abbrev pub phase_after : Item → Phase
-phase_after item.End = phase.Ended
-phase_after item.Seal = phase.Reading
-phase_after (item.Finished name txn) = phase.Reading
+-- the stage after an item
+abbrev pub stage_after : Item → Stage
+stage_after item.End = stage.Ended
+stage_after item.Seal = stage.Reading
+stage_after (item.Finished name txn) = stage.Reading
 
-abbrev pub IsAheadIn : {R : Type 0} → Limits → Phase → (R → Option (List ℕ)) → Rows R → Answers → Type 0
-IsAheadIn limits phase.Reading remaining rows ahead = IsMidway limits remaining rows ahead
-IsAheadIn limits phase.Ended remaining rows ahead = ahead ≡ ending None
-IsAheadIn limits (phase.Stopped fault) remaining rows ahead = ahead ≡ ending (Some fault)
+abbrev pub IsAheadIn : {R : Type 0} → Limits → Stage → (R → Option (List ℕ)) → Rows R → Answers → Type 0
+IsAheadIn limits stage.Reading remaining rows ahead = IsMidway limits remaining rows ahead
+IsAheadIn limits stage.Ended remaining rows ahead = ahead ≡ ending None
+IsAheadIn limits (stage.Stopped fault) remaining rows ahead = ahead ≡ ending (Some fault)
 
 -- these are the answers that are still to come, where the reader's bytes are known
 abbrev pub IsAhead : {R : Type 0} → Limits → (R → Option (List ℕ)) → Rows R → Answers → Type 0
-IsAhead limits remaining rows ahead = IsAheadIn limits rows.phase remaining rows ahead
+IsAhead limits remaining rows ahead = IsAheadIn limits rows.stage remaining rows ahead
 
 -- the fault that was met, if there was one
-abbrev pub fault_in : Phase → Option RowFault
-fault_in phase.Reading = None
-fault_in phase.Ended = None
-fault_in (phase.Stopped fault) = Some fault
+abbrev pub fault_in : Stage → Option RowFault
+fault_in stage.Reading = None
+fault_in stage.Ended = None
+fault_in (stage.Stopped fault) = Some fault
 
 abbrev pub fault_met : {R : Type 0} → Rows R → Option RowFault
-fault_met rows = fault_in rows.phase
+fault_met rows = fault_in rows.stage
 
 -- the end was met
-abbrev pub ended_in : Phase → Bool
-ended_in phase.Reading = false
-ended_in phase.Ended = true
-ended_in (phase.Stopped fault) = false
+abbrev pub ended_in : Stage → Bool
+ended_in stage.Reading = false
+ended_in stage.Ended = true
+ended_in (stage.Stopped fault) = false
 
 abbrev pub has_ended : {R : Type 0} → Rows R → Bool
-has_ended rows = ended_in rows.phase
+has_ended rows = ended_in rows.stage
 
 -- what comes of a reader that fails, and where memory is out
 abbrev pub IsFailure : RowFaultKind → Type 0

@@ -7,7 +7,7 @@ use Rattle.tcc_rows.specs.Standing.{IsAfter}
 use Rattle.tcc_txn.specs.declared.limits.Limits.{Limits}
 use Rattle.tcc_rows.specs.declared.rows.Rows.{Rows}
 use Rattle.tcc_rows.specs.Line.{Line}
-use Rattle.tcc_rows.specs.declared.rows.records.Course.TheVariants as course
+use Rattle.tcc_rows.specs.declared.rows.records.RecordsStage.TheVariants as records_stage
 
 -- these are the answers to the records that are left, after the lawful lines so far
 pub record IsMidway {R : Type 0} (limits : Limits) (remaining : R → Option (List ℕ)) (rows : Rows R) (ahead : Answers) : Type 0 where
@@ -16,6 +16,6 @@ pub record IsMidway {R : Type 0} (limits : Limits) (remaining : R → Option (Li
   pub records : HasLeft remaining rows.records left
   pub progress : IsAfter limits past rows.progress
   pub counted : rows.records.count ≡ length past
-  pub going : rows.records.course ≡ course.Going
+  pub going : rows.records.stage ≡ records_stage.Going
   pub fits : length past + length left + 1 < 2 ^ 64
   pub answers : ahead ≡ answers_after_within limits past left

@@ -3,12 +3,12 @@ use Rattle.std.specs.Prelude.{ℕ, ◌+◌, ◌-◌, ◌^◌, ◌≡◌, ◌≤�
 use Rattle.csv.specs.Reading.{has_failed}
 use Rattle.tcc_rows.specs.Lines.{Record}
 use Rattle.tcc_rows.specs.RecordsLeft.{HasLeft, record_of}
-use Rattle.tcc_rows.specs.declared.rows.Phase.{Phase}
-use Rattle.tcc_rows.specs.declared.rows.Phase.TheVariants as phase
+use Rattle.tcc_rows.specs.declared.rows.Stage.{Stage}
+use Rattle.tcc_rows.specs.declared.rows.Stage.TheVariants as stage
 use Rattle.tcc_rows.specs.declared.fault.RowFaultKind.TheVariants as kind
 use Rattle.tcc_rows.specs.declared.rows.Rows.{Rows}
-use Rattle.tcc_rows.specs.declared.rows.records.Course.{Course}
-use Rattle.tcc_rows.specs.declared.rows.records.Course.TheVariants as course
+use Rattle.tcc_rows.specs.declared.rows.records.RecordsStage.{RecordsStage}
+use Rattle.tcc_rows.specs.declared.rows.records.RecordsStage.TheVariants as records_stage
 use Rattle.tcc_rows.specs.declared.rows.records.Records.{Records}
 
 -- the fields of the record that was read last
@@ -16,14 +16,14 @@ abbrev pub last_record : {R : Type 0} → Rows R → Record
 last_record rows = record_of rows.records
 
 -- after so many records: the row of the last, or, where the reading of one more failed, the row after it, as far as 64 bits go
-abbrev pub row_in : Course → ℕ → ℕ
-row_in course.Going count = count
-row_in course.Ended count = count
-row_in course.Failed count = min (count + 1) (2 ^ 64 - 1)
+abbrev pub row_in : RecordsStage → ℕ → ℕ
+row_in records_stage.Going count = count
+row_in records_stage.Ended count = count
+row_in records_stage.Failed count = min (count + 1) (2 ^ 64 - 1)
 
 -- the row at which a fault stands
 abbrev pub row_reached : {R : Type 0} → Rows R → ℕ
-row_reached rows = row_in rows.records.course rows.records.count
+row_reached rows = row_in rows.records.stage rows.records.count
 
 -- `csv` has given up: an error of its reader or of memory came; or there are as many records as 64 bits count
 abbrev pub HasGivenUp : {R : Type 0} → Records R → Type 0
@@ -39,13 +39,13 @@ pub record StandsIn {R : Type 0} (remaining : R → Option (List ℕ)) (records 
   pub whole : all ≡ first ++ left
   pub counted : records.count ≡ length first
   pub rest : HasLeft remaining records left
-  pub going : records.course ≡ course.Going
+  pub going : records.stage ≡ records_stage.Going
 
-abbrev pub StandsBy : {R : Type 0} → Phase → (R → Option (List ℕ)) → Records R → List Record → Type 0
-StandsBy phase.Reading remaining records all = StandsIn remaining records all
-StandsBy phase.Ended remaining records all = records.count ≡ length all
-StandsBy (phase.Stopped fault) remaining records all = records.count ≤ length all
+abbrev pub StandsBy : {R : Type 0} → Stage → (R → Option (List ℕ)) → Records R → List Record → Type 0
+StandsBy stage.Reading remaining records all = StandsIn remaining records all
+StandsBy stage.Ended remaining records all = records.count ≡ length all
+StandsBy (stage.Stopped fault) remaining records all = records.count ≤ length all
 
 -- the records of a text are read in turn: the first so many were read, and at the end all
 abbrev pub IsWithin : {R : Type 0} → (R → Option (List ℕ)) → Rows R → List Record → Type 0
-IsWithin remaining rows all = StandsBy rows.phase remaining rows.records all
+IsWithin remaining rows all = StandsBy rows.stage remaining rows.records all

@@ -1,7 +1,7 @@
 -- What nobody has to believe: private functions say it to one another, or proofs to themselves.
 pub mod Failing
 pub mod Drafts
-pub mod Phases
+pub mod StagesAfter
 pub mod Stages
 pub mod Limited
 pub mod Passing

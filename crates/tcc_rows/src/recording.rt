@@ -11,7 +11,7 @@ ghost use Rattle.tcc_rows.specs.Reached.{IsWithin, ReaderFailed, last_record, ro
 ghost use Rattle.tcc_rows.specs.Recordings.{FailsBehind, IsRecorded, IsRecording, TakesMoment, after_items};
 ghost use Rattle.tcc_txn.specs.declared.limits.Limits.TheVariants.{Small, Large};
 ghost use Rattle.tcc_rows.specs.declared.rows.Item.{Item};
-ghost use Rattle.tcc_rows.specs.declared.rows.Phase.TheVariants as phase;
+ghost use Rattle.tcc_rows.specs.declared.rows.Stage.TheVariants as stage;
 
 use crate::{Item, RowFault, RowFaultKind, Rows};
 use std::alloc::Global;
@@ -97,7 +97,7 @@ impl<R: Read + Drop, B: Bounds> RecordingWithin<R, B> {
     fn take(&mut self, alloc: Global, session: Name, txn: Txn) -> Result<(), RowFault>
         ensures taken { OnOk result ((self.new.snapshot ≡ with_transaction self.old.snapshot session txn) × (self.new.rows ≡ self.old.rows)) }
         ensures kept { OnErr result (self.new.snapshot ≡ self.old.snapshot) }
-        ensures stopped { IfErr result (λ fault. (self.new.rows ≡ record self.old.rows { phase = phase.Stopped fault })
+        ensures stopped { IfErr result (λ fault. (self.new.rows ≡ record self.old.rows { stage = stage.Stopped fault })
             × (fault.row ≡ row_reached self.old.rows)) }
         ensures known { IfErr result (λ fault. fault.kind ≢ RowFaultKind.Read) }
         ensures memory { IsWithinLimits B.limits (with_transaction self.old.snapshot session txn) → IfErr result (λ fault. fault.kind ≡ RowFaultKind.NoMemory) }

@@ -36,7 +36,7 @@ pub enum Item {
 
 /// How far the reading has come.
 #[derive(Clone, Copy)]
-enum Phase {
+enum Stage {
     /// There may be more records.
     Reading,
     /// There are none.
@@ -65,21 +65,21 @@ pub struct Rows<R> {
     progress: Progress,
     /// The session of the last operation.
     session: Option<Name>,
-    phase: Phase,
+    stage: Stage,
 }
 
 impl<R: Read + Drop> Rows<R> {
-    ghost use Rattle.tcc_rows.specs.Ahead.{FaultsIn, IsAhead, TakesAnswer, fault_met, has_ended, phase_after};
+    ghost use Rattle.tcc_rows.specs.Ahead.{FaultsIn, IsAhead, TakesAnswer, fault_met, has_ended, stage_after};
     ghost use Rattle.tcc_rows.specs.Failing.{FailsAtWithin, items_before_within};
     ghost use Rattle.tcc_rows.specs.private.Failing.{FailsIn};
     ghost use Rattle.tcc_rows.specs.Midway.{IsMidway};
     ghost use Rattle.tcc_rows.specs.Lines.{Record, is_cut, line_of};
-    ghost use Rattle.tcc_rows.specs.private.Phases.{phase_after_step};
+    ghost use Rattle.tcc_rows.specs.private.StagesAfter.{stage_after_step};
     ghost use Rattle.tcc_rows.specs.Reached.{HasGivenUp, IsWithin, ReaderFailed, StandsBy, StandsIn, last_record, row_reached};
     ghost use Rattle.tcc_rows.specs.Recordings.{after_items};
     ghost use Rattle.tcc_rows.specs.declared.rows.Item.{Item};
     ghost use Rattle.tcc_rows.specs.private.Stages.{LeavesIn, MeetsLine, TakesFields, TakesItem, TakesStep};
-    ghost use Rattle.tcc_rows.specs.declared.rows.records.Course.TheVariants as course;
+    ghost use Rattle.tcc_rows.specs.declared.rows.records.RecordsStage.TheVariants as records_stage;
 
     /// The rows of what the reader gives; it is gone where memory is refused.
     pub fn new(alloc: Global, reader: R) -> Result<Rows<R>, NoMemory>
@@ -100,7 +100,7 @@ impl<R: Read + Drop> Rows<R> {
             records: Records::new(alloc, reader, limits),
             progress: Progress::new(alloc, limits),
             session: None,
-            phase: Phase::Reading,
+            stage: Stage::Reading,
         })
     }
 
@@ -129,12 +129,12 @@ impl<R: Read + Drop> Rows<R> {
         ensures goes_on { OnOk result (fault_met self.new ≡ None) }
         ensures ends { result ≡ Ok Item.End → has_ended self.new ≡ true }
         ensures stays_ended { has_ended self.old ≡ true → result ≡ Ok Item.End }
-        ensures phase { IfOk result (λ given. self.new.phase ≡ phase_after given) }
+        ensures stage { IfOk result (λ given. self.new.stage ≡ stage_after given) }
     {
-        match self.phase {
-            Phase::Reading => {}
-            Phase::Ended => return Ok(Item::End),
-            Phase::Stopped(fault) => return Err(fault),
+        match self.stage {
+            Stage::Reading => {}
+            Stage::Ended => return Ok(Item::End),
+            Stage::Stopped(fault) => return Err(fault),
         }
         match self.advance(alloc) {
             Ok(item) => Ok(item),
@@ -154,9 +154,9 @@ impl<R: Read + Drop> Rows<R> {
 
     /// Keeps the fault for all later answers.
     fn stop(&mut self, fault: &RowFault)
-        ensures { self.new ≡ record self.old { phase = Phase.Stopped fault.now } }
+        ensures { self.new ≡ record self.old { stage = Stage.Stopped fault.now } }
     {
-        self.phase = Phase::Stopped(*fault);
+        self.stage = Stage::Stopped(*fault);
     }
 
     /// A fault at the row that was reached.
@@ -172,7 +172,7 @@ impl<R: Read + Drop> Rows<R> {
     /// Gives up at the row that was reached.
     pub(crate) fn give_up(&mut self, kind: RowFaultKind) -> RowFault
         ensures fault { result ≡ record { row = row_reached self.old; kind = kind } }
-        ensures stopped { self.new ≡ record self.old { phase = Phase.Stopped result } }
+        ensures stopped { self.new ≡ record self.old { stage = Stage.Stopped result } }
     {
         let fault = self.fault(kind);
         self.stop(&fault);
@@ -181,17 +181,17 @@ impl<R: Read + Drop> Rows<R> {
 
     /// Goes past records up to the next item.
     fn advance(&mut self, alloc: Global) -> Result<Item, RowFault>
-        requires { self.old.phase ≡ Phase.Reading }
+        requires { self.old.stage ≡ Stage.Reading }
         ensures item { IfOk result (λ given. (limits : Limits) (ahead : Answers) → IsMidway limits R.remaining self.old ahead
             → TakesItem limits R.remaining ahead given self.new) }
-        ensures phase { IfOk result (λ given. self.new.phase ≡ phase_after given) }
+        ensures stage { IfOk result (λ given. self.new.stage ≡ stage_after given) }
         ensures fault { IfErr result (λ fault. (limits : Limits) (ahead : Answers) → IsMidway limits R.remaining self.old ahead → FaultsIn limits ahead fault) }
         ensures failed { IfErr result (λ fault. fault.kind ≡ RowFaultKind.Read → (limits : Limits) (all : List Record) (ahead : Answers)
             → StandsIn R.remaining self.old.records all → IsMidway limits R.remaining self.old ahead → FailsIn limits all ahead fault.row) }
         ensures row { IfErr result (λ fault. fault.row ≡ row_reached self.new) }
         ensures read { IfErr result (λ fault. fault.kind ≡ RowFaultKind.Read → ReaderFailed self.new) }
         ensures within { (all : List Record) → StandsIn R.remaining self.old.records all
-            → MatchResult result (λ given. StandsBy self.new.phase R.remaining self.new.records all) (λ fault. self.new.records.count ≤ length all) }
+            → MatchResult result (λ given. StandsBy self.new.stage R.remaining self.new.records all) (λ fault. self.new.records.count ≤ length all) }
     {
         'records: loop {
             match self.step(alloc) {
@@ -204,15 +204,15 @@ impl<R: Read + Drop> Rows<R> {
 
     /// Goes past one line that is no operation, or to the end.
     fn step(&mut self, alloc: Global) -> Result<Option<Item>, RowFault>
-        requires { self.old.phase ≡ Phase.Reading }
+        requires { self.old.stage ≡ Stage.Reading }
         ensures step { (limits : Limits) (ahead : Answers) → IsMidway limits R.remaining self.old ahead → TakesStep limits R.remaining ahead result self.new }
-        ensures phase { IfOk result (λ given. self.new.phase ≡ phase_after_step given) }
+        ensures stage { IfOk result (λ given. self.new.stage ≡ stage_after_step given) }
         ensures row { IfErr result (λ fault. fault.row ≡ row_reached self.new) }
         ensures read { IfErr result (λ fault. fault.kind ≡ RowFaultKind.Read → ReaderFailed self.new) }
         ensures failed { IfErr result (λ fault. fault.kind ≡ RowFaultKind.Read → (limits : Limits) (all : List Record) (ahead : Answers)
             → StandsIn R.remaining self.old.records all → IsMidway limits R.remaining self.old ahead → FailsIn limits all ahead fault.row) }
         ensures within { (all : List Record) → StandsIn R.remaining self.old.records all
-            → MatchResult result (λ given. StandsBy self.new.phase R.remaining self.new.records all) (λ fault. self.new.records.count ≤ length all) }
+            → MatchResult result (λ given. StandsBy self.new.stage R.remaining self.new.records all) (λ fault. self.new.records.count ≤ length all) }
         ensures more { result ≡ Ok None → self.old.records.count < self.new.records.count }
         ensures fits { result ≡ Ok None → self.new.records.count < 2 ^ 64 }
     {
@@ -226,7 +226,7 @@ impl<R: Read + Drop> Rows<R> {
     /// Goes past operations, and gives what the record after them says, if there is one.
     fn next_line(&mut self) -> Result<Option<Turn>, RowFaultKind>
         ensures line { (limits : Limits) (ahead : Answers) → IsMidway limits R.remaining self.old ahead → MeetsLine limits R.remaining ahead result self.new }
-        ensures phase { self.new.phase ≡ self.old.phase }
+        ensures stage { self.new.stage ≡ self.old.stage }
         ensures read { IfErr result (λ kind. kind ≡ RowFaultKind.Read → HasGivenUp self.new.records) }
         ensures failed { IfErr result (λ kind. kind ≡ RowFaultKind.Read → (limits : Limits) (all : List Record) (ahead : Answers)
             → StandsIn R.remaining self.old.records all → IsMidway limits R.remaining self.old ahead → FailsIn limits all ahead (row_reached self.new)) }
@@ -259,10 +259,10 @@ impl<R: Read + Drop> Rows<R> {
             → row_reached self.old ≡ length past + 1
             → is_cut fields ≡ false → line_of fields ≡ Ok (line_by turn) → TakesFields limits past fields result self.new }
         ensures records { self.new.records ≡ self.old.records }
-        ensures phase { self.old.phase ≡ Phase.Reading → IfOk result (λ given. self.new.phase ≡ phase_after_step given) }
+        ensures stage { self.old.stage ≡ Stage.Reading → IfOk result (λ given. self.new.stage ≡ stage_after_step given) }
         ensures row { IfErr result (λ fault. fault.row ≡ row_reached self.new) }
         ensures read { IfErr result (λ fault. fault.kind ≢ RowFaultKind.Read) }
-        ensures going { self.old.phase ≡ Phase.Reading → OnOk result (self.new.phase ≡ Phase.Reading) }
+        ensures going { self.old.stage ≡ Stage.Reading → OnOk result (self.new.stage ≡ Stage.Reading) }
     {
         match self.progress.pass(alloc, turn) {
             Ok(item) => Ok(item),
@@ -277,7 +277,7 @@ impl<R: Read + Drop> Rows<R> {
             → fault_at_end past ≡ Some fault) }
         ensures closed { OnOk result ((limits : Limits) (past : List Line) → IsAfter limits past self.old.progress → fault_at_end past ≡ None) }
         ensures end { IfOk result (λ given. given ≡ Some Item.End) }
-        ensures phase { OnOk result (self.new.phase ≡ Phase.Ended) }
+        ensures stage { OnOk result (self.new.stage ≡ Stage.Ended) }
         ensures records { self.new.records ≡ self.old.records }
         ensures row { IfErr result (λ fault. fault.row ≡ row_reached self.new) }
         ensures read { IfErr result (λ fault. fault.kind ≢ RowFaultKind.Read) }
@@ -285,7 +285,7 @@ impl<R: Read + Drop> Rows<R> {
         match self.progress.unfinished() {
             Some(session) => Err(self.fault(RowFaultKind::Unfinished { session })),
             None => {
-                self.phase = Phase::Ended;
+                self.stage = Stage::Ended;
                 Ok(Some(Item::End))
             }
         }

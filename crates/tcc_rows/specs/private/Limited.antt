@@ -1,14 +1,14 @@
 -- Whether a reader has met its end.
 use Rattle.std.specs.Prelude.{Bool, true, false}
 use Rattle.tcc_rows.specs.declared.rows.limited.Limited.{Limited}
-use Rattle.tcc_rows.specs.declared.rows.limited.Stand.TheVariants.{Going, Ended, Over}
-use Rattle.tcc_rows.specs.declared.rows.limited.Stand.{Stand}
+use Rattle.tcc_rows.specs.declared.rows.limited.BytesStage.TheVariants.{Going, Ended, Over}
+use Rattle.tcc_rows.specs.declared.rows.limited.BytesStage.{BytesStage}
 
-abbrev pub is_end : Stand → Bool
+abbrev pub is_end : BytesStage → Bool
 is_end Going = false
 is_end Ended = true
 is_end Over = false
 
 -- the reader inside has said that it has no more bytes
 abbrev pub met_end : {R : Type 0} → Limited R → Bool
-met_end s = is_end s.stand
+met_end s = is_end s.stage

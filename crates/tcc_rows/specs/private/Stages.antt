@@ -18,7 +18,7 @@ use Rattle.tcc_rows.specs.declared.rows.Rows.{Rows}
 use Rattle.tcc_rows.specs.Line.{Line}
 use Rattle.tcc_rows.specs.private.Turns.{line_by}
 use Rattle.tcc_rows.specs.declared.rows.line.Turn.{Turn}
-use Rattle.tcc_rows.specs.declared.rows.records.Course.TheVariants as course
+use Rattle.tcc_rows.specs.declared.rows.records.RecordsStage.TheVariants as records_stage
 use Rattle.tcc_rows.specs.declared.rows.records.Records.{Records}
 
 -- a record was read, the first of those that were left, or there was none
@@ -28,9 +28,9 @@ TakesRecord remaining left false new = left ≡ []
 
 -- one record more is counted where one was read
 abbrev pub Counts : {R : Type 0} {E : Type 0} → Records R → Result Bool E → Records R → Type 0
-Counts old (Ok true) new = (new.count ≡ old.count + 1) × (new.count < 2 ^ 64) × (new.course ≡ old.course)
-Counts old (Ok false) new = (new.count ≡ old.count) × (new.course ≡ course.Ended)
-Counts old (Err e) new = (new.count ≡ old.count) × (new.course ≡ course.Failed)
+Counts old (Ok true) new = (new.count ≡ old.count + 1) × (new.count < 2 ^ 64) × (new.stage ≡ old.stage)
+Counts old (Ok false) new = (new.count ≡ old.count) × (new.stage ≡ records_stage.Ended)
+Counts old (Err e) new = (new.count ≡ old.count) × (new.stage ≡ records_stage.Failed)
 
 -- one more record of a text was read, or there was none, or the reading failed
 abbrev pub ReadsIn : {R : Type 0} {E : Type 0} → (R → Option (List ℕ)) → List Record → Result Bool E → Records R → Type 0
@@ -64,7 +64,7 @@ pub record IsAtLine {R : Type 0} (limits : Limits) (remaining : R → Option (Li
   pub records : HasLeft remaining rows.records left
   pub progress : IsAfter limits past rows.progress
   pub counted : rows.records.count ≡ length past + 1
-  pub going : rows.records.course ≡ course.Going
+  pub going : rows.records.stage ≡ records_stage.Going
   pub fits : length past + length left + 2 < 2 ^ 64
   pub whole : is_cut fields ≡ false
   pub lawful : line_of fields ≡ Ok line

@@ -4,14 +4,14 @@ ghost use Rattle.std.specs.Io.{ReadsAtMost};
 ghost use Rattle.std.specs.Io.KnownBytes.{Consumes, IsAtEnd, Keeps, ReadConsumes};
 ghost use Rattle.tcc_rows.specs.ByteLimit.{limited_remaining, marked};
 ghost use Rattle.tcc_rows.specs.private.Limited.{met_end};
-ghost use Rattle.tcc_rows.specs.declared.rows.limited.Stand.TheVariants as stand;
+ghost use Rattle.tcc_rows.specs.declared.rows.limited.BytesStage.TheVariants as stage;
 
 use std::io;
 use std::io::{ErrorKind, Read};
 
 /// What the reader inside has shown so far.
 #[derive(Clone, Copy)]
-enum Stand {
+enum BytesStage {
     /// There may be more bytes.
     Going,
     /// There are no more bytes. That is final: a terminal gives more after an end.
@@ -25,7 +25,7 @@ enum Stand {
 pub(crate) struct Limited<R> {
     inner: R,
     left: usize,
-    stand: Stand,
+    stage: BytesStage,
 }
 
 impl<R: Read> Limited<R> {
@@ -35,13 +35,13 @@ impl<R: Read> Limited<R> {
         Limited {
             inner,
             left: limit,
-            stand: Stand::Going,
+            stage: BytesStage::Going,
         }
     }
 
     /// Tells the end of the bytes, where none may follow, from a reader that has more.
     fn expect_end(&mut self) -> io::Result<()>
-        requires going { self.old.stand ≡ stand.Going }
+        requires going { self.old.stage ≡ stage.Going }
         requires none_left { self.old.left ≡ 0 }
         ensures end { OnOk result (Consumes (limited_remaining R.remaining self.old) (limited_remaining R.remaining self.new) []) }
         ensures none { OnOk result (IsAtEnd (limited_remaining R.remaining self.new)) }
@@ -50,16 +50,16 @@ impl<R: Read> Limited<R> {
     {
         let mut next = [0; 1];
         if self.inner.read(&mut next)? == 0 {
-            self.stand = Stand::Ended;
+            self.stage = BytesStage::Ended;
             return Ok(());
         }
-        self.stand = Stand::Over;
+        self.stage = BytesStage::Over;
         Err(io::Error::from(ErrorKind::Other))
     }
 
     /// Reads where the limit lets bytes through and there is room for them.
     fn read_within(&mut self, buf: &mut [u8]) -> io::Result<usize>
-        requires going { self.old.stand ≡ stand.Going }
+        requires going { self.old.stage ≡ stage.Going }
         requires some_left { 0 < self.old.left }
         requires room { 0 < length buf.old }
         ensures bound { ReadsAtMost result buf.new }
@@ -69,7 +69,7 @@ impl<R: Read> Limited<R> {
         let most = buf.len().min(self.left);
         let count = self.inner.read(&mut buf[..most])?;
         if count == 0 {
-            self.stand = Stand::Ended;
+            self.stage = BytesStage::Ended;
         } else {
             self.left -= count;
         }
@@ -91,10 +91,10 @@ impl<R: Read> Read for Limited<R> {
         if buf.is_empty() {
             return Ok(0);
         }
-        match self.stand {
-            Stand::Going => {}
-            Stand::Ended => return Ok(0),
-            Stand::Over => return Err(io::Error::from(ErrorKind::Other)),
+        match self.stage {
+            BytesStage::Going => {}
+            BytesStage::Ended => return Ok(0),
+            BytesStage::Over => return Err(io::Error::from(ErrorKind::Other)),
         }
         if self.left == 0 {
             self.expect_end()?;

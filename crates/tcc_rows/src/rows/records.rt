@@ -11,7 +11,7 @@ ghost use Rattle.tcc_rows.specs.Reached.{HasGivenUp, StandsIn, row_in};
 ghost use Rattle.tcc_rows.specs.private.Words.{failure_of};
 ghost use Rattle.tcc_rows.specs.RecordsLeft.{HasLeft, record_of};
 ghost use Rattle.tcc_rows.specs.private.Stages.{TakesRecord, Counts, ReadsIn};
-ghost use Rattle.tcc_rows.specs.declared.rows.records.Course.TheVariants as course;
+ghost use Rattle.tcc_rows.specs.declared.rows.records.RecordsStage.TheVariants as records_stage;
 
 use super::limited::Limited;
 use crate::RowFaultKind;
@@ -22,7 +22,7 @@ use tcc_txn::Limits;
 
 /// How the reading goes.
 #[derive(Clone, Copy)]
-enum Course {
+enum RecordsStage {
     /// There may be more records.
     Going,
     /// There are no more.
@@ -37,7 +37,7 @@ pub(crate) struct Records<R> {
     reader: Reader<Limited<R>>,
     record: ByteRecord,
     count: u64,
-    course: Course,
+    stage: RecordsStage,
 }
 
 /// How many bytes there are, of which none is the mark of the limit.
@@ -63,7 +63,7 @@ impl<R: Read> Records<R> {
     pub(crate) fn new(alloc: Global, reader: R, limits: Limits) -> Records<R>
         ensures left { IfSome (R.remaining reader) (λ text. HasLeft R.remaining result (records_within limits text)) }
         ensures none { result.count ≡ 0 }
-        ensures going { result.course ≡ course.Going }
+        ensures going { result.stage ≡ records_stage.Going }
     {
         Records {
             reader: ReaderBuilder::new()
@@ -72,7 +72,7 @@ impl<R: Read> Records<R> {
                 .from_reader(alloc, Limited::new(reader, limits.bytes() as usize)),
             record: ByteRecord::new(alloc),
             count: 0,
-            course: Course::Going,
+            stage: RecordsStage::Going,
         }
     }
 
@@ -85,7 +85,7 @@ impl<R: Read> Records<R> {
         ensures stands { (all : List Record) → StandsIn R.remaining self.old all → ReadsIn R.remaining all result self.new }
     {
         let Some(count) = self.count.checked_add(1) else {
-            self.course = Course::Failed;
+            self.stage = RecordsStage::Failed;
             return Err(RowFaultKind::Read);
         };
         match self.reader.read_byte_record(&mut self.record) {
@@ -94,11 +94,11 @@ impl<R: Read> Records<R> {
                 Ok(true)
             }
             Ok(false) => {
-                self.course = Course::Ended;
+                self.stage = RecordsStage::Ended;
                 Ok(false)
             }
             Err(error) => {
-                self.course = Course::Failed;
+                self.stage = RecordsStage::Failed;
                 Err(failure(&error))
             }
         }
@@ -122,12 +122,12 @@ impl<R: Read> Records<R> {
 
     /// The row of the record that was read last, or of the one that could not be read after it.
     pub(crate) fn row(&self) -> u64
-        ensures { result ≡ row_in self.now.course self.now.count }
+        ensures { result ≡ row_in self.now.stage self.now.count }
     {
-        match self.course {
-            Course::Going => self.count,
-            Course::Ended => self.count,
-            Course::Failed => self.count.saturating_add(1),
+        match self.stage {
+            RecordsStage::Going => self.count,
+            RecordsStage::Ended => self.count,
+            RecordsStage::Failed => self.count.saturating_add(1),
         }
     }
 }

@@ -1,5 +1,5 @@
 use Rattle.std.proofs.Common.{Ok, ◌++◌, refl, sym, ap, subst, ◌∙◌, arith}
-use Rattle.tcc_rows.specs.Ahead.{TakesAnswer, fault_met, phase_after}
+use Rattle.tcc_rows.specs.Ahead.{TakesAnswer, fault_met, stage_after}
 use Rattle.tcc_txn.specs.Nested.{IsNested}
 use Rattle.tcc_rows.specs.Reached.{IsWithin}
 use Rattle.tcc_rows.specs.Recordings.{TakesMoment}
@@ -50,7 +50,7 @@ returns-in_err-take-in-Finished-clause-moment g c taken ahead recording =
     subst (λ r. TakesMoment g.B.Bounds.limits g.R.Read.remaining taken ahead r c.take.new.self)
     (sym (err-of g.B.Bounds.limits c.from_residual-in_err-take-in-Finished.result fault c.from_residual-in_err-take-in-Finished.ensures.1))
     (loses_one g.B.Bounds.limits g.R.Read.remaining taken ahead c.items.self c.take.new.self way c.in-Finished.session c.in-Finished.txn c.next.new.self fault answer
-    (c.in_err-take-in-Finished.ensures.memory room) (ap (λ rows. rows.phase) c.in_err-take-in-Finished.ensures.stopped.0)
+    (c.in_err-take-in-Finished.ensures.memory room) (ap (λ rows. rows.stage) c.in_err-take-in-Finished.ensures.stopped.0)
     c.in_err-take-in-Finished.ensures.kept)
 
 pub returns-in_err-take-in-Finished-clause-within : goal.returns-in_err-take-in-Finished-clause-within
@@ -83,14 +83,14 @@ items-preserved g c = record {
   ended =
       λ ended. absurd (not-end g.B.Bounds.limits c.in_ok-session.field-0 c.in-Finished.session c.in-Finished.txn
       (c.in_ok-session.ensures.stays_ended (c.items.invariant.ended ended)) c.in-Finished.is);
-  reading = λ some. ap (λ rows. rows.phase) c.in_ok-take-in-Finished.ensures.taken.1 ∙ c.in_ok-session.ensures.phase ∙ ap phase_after c.in-Finished.is;
+  reading = λ some. ap (λ rows. rows.stage) c.in_ok-take-in-Finished.ensures.taken.1 ∙ c.in_ok-session.ensures.stage ∙ ap stage_after c.in-Finished.is;
 }
 
 pub returns-clause-moment : goal.returns-clause-moment
 returns-clause-moment g c taken ahead recording =
     let way = c.items.invariant.way taken ahead recording in
     gives_up g.B.Bounds.limits g.R.Read.remaining taken ahead c.items.self (record c.items.self { rows = c.give_up.new.self }) way c.give_up.result
-    (ap (λ fault. fault.kind) c.give_up.ensures.fault) (ap (λ rows. rows.phase) c.give_up.ensures.stopped) refl
+    (ap (λ fault. fault.kind) c.give_up.ensures.fault) (ap (λ rows. rows.stage) c.give_up.ensures.stopped) refl
 
 pub returns-in_err-take-in-Finished-clause-continues : goal.returns-in_err-take-in-Finished-clause-continues
 returns-in_err-take-in-Finished-clause-continues g c =

@@ -8,7 +8,7 @@ use Rattle.tcc_txn.specs.Nested.{IsNested}
 use Rattle.tcc_rows.specs.Reached.{IsWithin}
 use Rattle.tcc_rows.specs.Recordings.{IsRecording}
 use Rattle.tcc_rows.specs.declared.rows.Item.{Item}
-use Rattle.tcc_rows.specs.declared.rows.Phase.TheVariants as phase
+use Rattle.tcc_rows.specs.declared.rows.Stage.TheVariants as stage
 use Rattle.tcc_rows.proofs.RecordingSteps.{HasPassed}
 use Rattle.tcc_rows.proofs.recording.RecordingWithin.advance.Given as goal
 
@@ -21,5 +21,5 @@ invariant-items g l =
       stopped : IfSome (fault_met l.initial.self.rows) (λ fault. fault_met l.self.rows ≡ Some fault);
       going : fault_met l.initial.self.rows ≡ None → fault_met l.self.rows ≡ None;
       ended : has_ended l.initial.self.rows ≡ true → has_ended l.self.rows ≡ true;
-      reading : 0 < l._turn → l.self.rows.phase ≡ phase.Reading;
+      reading : 0 < l._turn → l.self.rows.stage ≡ stage.Reading;
     }

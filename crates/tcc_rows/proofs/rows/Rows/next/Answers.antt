@@ -7,6 +7,6 @@ use Rattle.tcc_rows.proofs.rows.Rows.next.Goals as goal
 pub returns-in-Err-clause-failed : goal.returns-in-Err-clause-failed
 returns-in-Err-clause-failed g c fresh read limits all taken ahead answers within coming =
     let self = c.args.self.now in
-    let stands = subst (λ phase. StandsBy phase g.R.Read.remaining self.records all) c.in-Reading.is within in
-    let reading = subst (λ phase. IsAheadIn limits phase g.R.Read.remaining self ahead) c.in-Reading.is coming in
+    let stands = subst (λ stage. StandsBy stage g.R.Read.remaining self.records all) c.in-Reading.is within in
+    let reading = subst (λ stage. IsAheadIn limits stage g.R.Read.remaining self ahead) c.in-Reading.is coming in
     fails-at limits all taken ahead c.in-Err.fault.row answers (c.in-Err.ensures.failed read limits all ahead stands reading)

@@ -70,7 +70,7 @@ pub records-preserved : goal.records-preserved
 records-preserved g c =
     let counts = rw c.in-Ok-true.field-0-test at c.in-Ok-true.ensures.counts in
     record {
-      phase = c.records.invariant.phase;
+      stage = c.records.invariant.stage;
       reading = λ limits ahead reading.
           let now = c.records.invariant.reading limits ahead reading in
           let taken = rw c.in-Ok-true.field-0-test at (c.in-Ok-true.ensures.taken now.left now.records) in

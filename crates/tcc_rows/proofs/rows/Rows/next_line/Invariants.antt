@@ -9,7 +9,7 @@ use Rattle.tcc_rows.proofs.rows.Rows.next_line.Given as goal
 abbrev pub invariant-records : goal.invariant-records
 invariant-records g l =
     record {
-      phase : l.self.phase ≡ l.initial.self.phase;
+      stage : l.self.stage ≡ l.initial.self.stage;
       reading : (limits : Limits) (ahead : Answers) → IsMidway limits g.R.Read.remaining l.initial.self ahead → IsMidway limits g.R.Read.remaining l.self ahead;
       stands : (all : List Record) → StandsIn g.R.Read.remaining l.initial.self.records all → StandsIn g.R.Read.remaining l.self.records all;
       more : l.initial.self.records.count ≤ l.self.records.count;

@@ -16,7 +16,7 @@ pub returns-in-Ok-Some-clause-within : goal.returns-in-Ok-Some-clause-within
 returns-in-Ok-Some-clause-within g c all stands =
     let now = rw c.in-Ok-Some.field-0-is at (c.in-Ok-Some.ensures.within all stands) in
     line-stands g.R.Read.remaining c.next_line.new.self c.take_line.new.self all c.take_line.result now c.take_line.ensures.records
-    (c.take_line.ensures.going (c.in-Ok-Some.ensures.phase ∙ c.requires))
+    (c.take_line.ensures.going (c.in-Ok-Some.ensures.stage ∙ c.requires))
 
 pub returns-in-Ok-None-clause-step : goal.returns-in-Ok-None-clause-step
 returns-in-Ok-None-clause-step g c limits ahead reading =
@@ -30,7 +30,7 @@ returns-in-Ok-None-clause-step g c limits ahead reading =
 pub returns-in-Ok-None-clause-within : goal.returns-in-Ok-None-clause-within
 returns-in-Ok-None-clause-within g c all stands =
     let now = rw c.in-Ok-None.field-0-is at (c.in-Ok-None.ensures.within all stands) in
-    all-read g.R.Read.remaining c.next_line.new.self c.finish.new.self all c.finish.result now c.finish.ensures.records c.finish.ensures.phase
+    all-read g.R.Read.remaining c.next_line.new.self c.finish.new.self all c.finish.result now c.finish.ensures.records c.finish.ensures.stage
 
 pub returns-in-Err-clause-step : goal.returns-in-Err-clause-step
 returns-in-Err-clause-step g c limits ahead reading = rw c.fault.ensures (c.in-Err.ensures.line limits ahead reading)

@@ -27,7 +27,7 @@ returns-in-Ok-true-clause-taken g c left has =
       reader = c.read_byte_record.new.self;
       «record» = c.read_byte_record.new.row;
       count = c.in-Some.count;
-      course = c.args.self.now.course;
+      stage = c.args.self.now.stage;
     }) left c.in-Ok-true.field-0 has read plain)
 
 pub returns-in-Ok-true-clause-stands : goal.returns-in-Ok-true-clause-stands
@@ -45,7 +45,7 @@ returns-in-Ok-false-clause-taken g c left has =
       reader = c.read_byte_record.new.self;
       «record» = c.read_byte_record.new.row;
       count = c.args.self.now.count;
-      course = c.args.self.now.course;
+      stage = c.args.self.now.stage;
     }) left c.in-Ok-false.field-0 has read plain)
 
 pub returns-in-Ok-false-clause-stands : goal.returns-in-Ok-false-clause-stands
