@@ -7,7 +7,7 @@ ghost use Rattle.tcc_book.specs.Passes.{Agrees, LeastTorn, first_missing, has_pa
 ghost use Rattle.tcc_book.specs.private.Lesser.{lesser};
 
 use crate::pass::Pass;
-use tcc_txn::{Name, Snapshot, Txn};
+use tcc_txn::{Name, Snapshot, Txn, are_same};
 
 /// What the session has in the snapshot.
 pub(crate) fn found<'a>(copy: &'a Snapshot, session: &Name) -> Option<&'a [Txn]>

@@ -3,7 +3,7 @@ ghost use Rattle.std.specs.Prelude.{◌≡◌, true, false, MatchResult};
 ghost use Rattle.tcc_txn.specs.Nested.{IsFirstCut, IsNested, IsPrefix, list_of};
 
 use crate::agreement::found;
-use tcc_txn::{Name, Snapshot, Txn};
+use tcc_txn::{Name, Snapshot, Txn, are_same};
 
 /// Whether the list begins with these transactions.
 fn begins_with(all: &[Txn], front: &[Txn]) -> bool
