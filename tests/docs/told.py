@@ -41,6 +41,10 @@ HELD = {
         "up to {MAX_TRANSACTIONS} transactions, or a million with `--large`",
         "Names of sessions and keys have 1 to {MAX_NAME_BYTES} bytes",
         "lets N threads search for an anomaly, 1 to {MAX_WORKERS}."),
+    "recipes/noted.py": ("MOST_TRANSACTIONS = {!MAX_TRANSACTIONS}", "MOST_KEYS = {!MAX_KEYS}"),
+    "recipes/jepsen.py": (
+        'LIMITS = {"sessions": {!MAX_SESSIONS}, "transactions": {!MAX_TRANSACTIONS}, "keys": {!MAX_KEYS}, '
+        '"operations in a transaction": {!MAX_OPERATIONS}}',),
     "recipes/README.md": (
         "takes {MAX_SESSIONS} sessions and {MAX_TRANSACTIONS} transactions, aborted ones counted, and `tcc explain --large` "
         "{LARGE_SESSIONS} and {LARGE_TRANSACTIONS}",),
