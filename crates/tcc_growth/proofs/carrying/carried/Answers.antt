@@ -5,13 +5,13 @@ use Rattle.tcc_reads.specs.History.{count}
 use Rattle.tcc_graph.specs.Numbers.{label}
 use Rattle.tcc_growth.proofs.carrying.carried.Goals as goal
 
-pub moved_link-requires : goal.moved_link-requires
-moved_link-requires c =
+pub invariant_of-numbers : goal.invariant_of-numbers
+invariant_of-numbers c =
     omega (
       arith,
-      ap length c.names-new.ensures,
+      ap length c.names-2.ensures,
       ap length c.requires,
-      length-map c.names-new.result.now string_bytes,
+      length-map c.names-2.result.now string_bytes,
       length-map-range_with_len (label c.args.graph.now) 0 (count c.args.graph.now),
       c.count-count.ensures.value,
       c.count-count.type_inv,

@@ -4,4 +4,4 @@ use Rattle.tcc_graph.specs.Renumbered.{link_by}
 use Rattle.tcc_growth.proofs.carrying.carried.Given as goal
 
 abbrev pub invariant-loop-link : goal.invariant-loop-link
-invariant-loop-link l = l.found.items ≡ map (link_by (moved (map string_bytes l.numbers.earlier) (map string_bytes l.numbers.later))) (take l.link-index l.links)
+invariant-loop-link l = l.found.items ≡ map (link_by (moved (map string_bytes l.numbers.0.now) (map string_bytes l.numbers.1.0.now))) (take l.link-index l.links)
